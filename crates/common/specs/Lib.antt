@@ -1,0 +1,4 @@
+pub mod Refusal
+pub mod Lent
+pub mod Deviation
+pub mod RangeVector
