@@ -1,0 +1,3 @@
+// The preprocessor of a stream of readings: its settings, the transform of a reading, and the shingles it keeps.
+pub mod transformer;
+pub mod types;
