@@ -1,3 +1,6 @@
 pub mod Lists
 pub mod Types
 pub mod Transformer
+pub mod Settings
+pub mod Calls
+pub mod Preprocessor
