@@ -1,3 +1,4 @@
 pub mod Lists
+pub mod Fit
 pub mod Types
 pub mod Transformer
