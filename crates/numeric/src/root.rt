@@ -184,10 +184,13 @@ fn fast_halves(n: u64) -> u64
     q * 2 + rest - over
 }
 
-// The square root of x, from a guess.
+// The square root of x.
 pub fn sqrt(x: f64) -> f64
     ensures { λ r. ⌜ r ≡ rootOf x ⌝ }
 {
+    if x == 0.0 {
+        return x;
+    }
     if x > 0.0 {
         if x < 1.0 / 0.0 {
             let s = scale(x);
@@ -196,8 +199,6 @@ pub fn sqrt(x: f64) -> f64
         } else {
             x
         }
-    } else if x == 0.0 {
-        x
     } else {
         0.0 / 0.0
     }
