@@ -1,5 +1,5 @@
 -- The preprocessor as the program holds it, settings and counters by value and six lent lists, and what each call makes of both.
-use Prim.Native.Nat.{ℕ, zero, suc, _+_, _-_, _*_}
+use Prim.Native.Nat.{ℕ, zero, suc, _+_, _-_, _*_, _≤_, _<_}
 use mathlib.Core.Bool.{Bool, true, false, cond, not, _&&_, _||_}
 use mathlib.Core.List.{List, [], _∷_, _++_}
 use mathlib.Core.Option.{Option, none, some}
@@ -19,6 +19,7 @@ use Rattle.trcf.specs.declared.types.TransformMethod.the-variants.{NONE}
 use Rattle.trcf.specs.declared.types.ForestMode.the-variants.{STANDARD}
 use Rattle.trcf.specs.declared.transformer.WeightedTransformer.{WeightedTransformer}
 use Rattle.trcf.specs.declared.preprocessor.Preprocessor.{Preprocessor}
+use Rattle.trcf.specs.declared.preprocessor.PreprocessorBuilder.{PreprocessorBuilder}
 
 -- ---- what is lent
 
@@ -130,16 +131,60 @@ misfit h =
     ltb (h .«start_normalization») (h .«initial_len»)
     || (waiting (settingsOf h) (h .«values_seen») && not (eqb (h .«initial_len») (h .«values_seen»)))
 
+unfoldable pub shortRow : Settings → Lent → ℕ
+shortRow s l = firstOf ((lentShort s l, 20) ∷ [])
+
 unfoldable pub lentRow : Preprocessor → Lent → ℕ
-lentRow h l = firstOf ((misfit h, 20) ∷ (lentShort (settingsOf h) l, 20) ∷ [])
+lentRow h l = cond (misfit h) 20 (shortRow (settingsOf h) l)
 
 -- the second only where the first is 0
 abbrev pub orElse : ℕ → ℕ → ℕ
 orElse zero m = m
 orElse (suc n) m = suc n
 
+-- what a row 0 says of each
+pub record Bounded (s : Settings) : Type 0 where
+  pub d-pos : 0 < s .d
+  pub d-few : s .d ≤ 16
+  pub k-pos : 0 < s .k
+  pub k-few : s .k ≤ 64
+  pub start-few : s .start < 2000
+
+pub record Roomy (s : Settings) (l : Lent) : Type 0 where
+  pub in-statistics : statisticsLength s ≤ length (l .statistics)
+  pub in-input : s .d * s .k ≤ length (l .lastShingledInput)
+  pub in-point : dimension s ≤ length (l .lastShingledPoint)
+  pub in-times : s .k ≤ length (l .previousTimestamps)
+  pub in-values : s .start * s .d ≤ length (l .initialValues)
+  pub in-initial : s .start ≤ length (l .initialTimestamps)
+
+pub record Fitted (h : Preprocessor) (l : Lent) : Type 0 where
+  pub roomy : Roomy (settingsOf h) l
+  pub few : h .«initial_len» ≤ h .«start_normalization»
+  pub counted : waiting (settingsOf h) (h .«values_seen») ≡ true → h .«initial_len» ≡ h .«values_seen»
+
 unfoldable pub rowOf : Preprocessor → Lent → Call → ℕ
 rowOf h l c = orElse (headRow (settingsOf h)) (orElse (rows (settingsOf h) (facts (view h l)) c) (lentRow h l))
+
+-- ---- `build`
+
+unfoldable pub settingsFrom : PreprocessorBuilder → List Float → Settings
+settingsFrom b weights =
+    record {
+      mode = b .«forest_mode»;
+      method = b .«transform_method»;
+      d = b .«input_dimensions»;
+      k = b .«shingle_size»;
+      start = b .«start_normalization»;
+      stop = b .«stop_normalization»;
+      decay = b .«transform_decay»;
+      weightTime = b .«weight_time»;
+      weights = weights;
+    }
+
+pub record Accepted (s : Settings) : Type 0 where
+  pub bounded : Bounded s
+  pub weighted : length (s .weights) ≡ s .d
 
 -- ---- a call on what is held
 

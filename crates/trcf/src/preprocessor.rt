@@ -16,6 +16,18 @@ pub struct Preprocessor {
     pub initial_len: usize,
 }
 
+// The settings of a new preprocessor; its weights are handed beside it.
+pub struct PreprocessorBuilder {
+    pub forest_mode: ForestMode,
+    pub transform_method: TransformMethod,
+    pub input_dimensions: usize,
+    pub shingle_size: usize,
+    pub start_normalization: usize,
+    pub stop_normalization: usize,
+    pub transform_decay: f64,
+    pub weight_time: f32,
+}
+
 pub fn values_seen(head: Preprocessor) -> usize
     ensures { λ r. ⌜ r ≡ head .«values_seen» ⌝ }
 {

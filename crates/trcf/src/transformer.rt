@@ -1,6 +1,21 @@
 // The transform of a reading, channel by channel (the source's trcf/transformer.rs). The statistics lie in a lent list, three numbers each.
 use crate::types::TransformMethod;
 use common::deviation::Deviation;
+use common::deviation::DeviationResult;
+ghost use mathlib.Core.Path.{_≡_};
+ghost use Prim.Native.Nat.{_+_, _*_, _≤_, _<_};
+ghost use lib.ListN.{length};
+ghost use Rattle.common.specs.Deviation.{countLimit, stepOf};
+ghost use Rattle.trcf.specs.Transformer.{statisticAt, putStatistic, deviationsAt, putDeviations, fed, fedAt};
+
+// The settings of a transform and how many readings the statistics were fed; the first `input_length` weights count.
+pub struct WeightedTransformer {
+    pub transform_method: TransformMethod,
+    pub input_length: usize,
+    pub transform_decay: f64,
+    pub weights: [f32; 16],
+    pub count: u64,
+}
 
 // The five statistics of one channel, or of the time.
 pub struct Deviations {
@@ -11,11 +26,108 @@ pub struct Deviations {
     pub difference_deviation: Deviation,
 }
 
-// The settings of the transform, and how many readings its statistics were fed.
-pub struct WeightedTransformer {
-    pub transform_method: TransformMethod,
-    pub input_length: usize,
-    pub transform_decay: f64,
-    pub weights: [f32; 16],
-    pub count: u64,
+// ---- statistics in the lent list, by their place
+
+fn statistic_at(s: &[f64], n: usize, discount: f64, count: u64) -> Deviation
+    requires { ⌜ 3 * n + 3 ≤ length (now s) ⌝ }
+    ensures { λ r. ⌜ r ≡ statisticAt (now (s .entry)) n discount count ⌝ }
+{
+    let at = 3 * n;
+    Deviation {
+        discount: discount,
+        weight: s[at],
+        sum_squared: s[at + 2],
+        sum: s[at + 1],
+        count: count,
+    }
+}
+
+fn put_statistic(s: &mut [f64], n: usize, t: Deviation)
+    requires { ⌜ 3 * n + 3 ≤ length (now s) ⌝ }
+    ensures { λ _. ⌜ now (s .exit) ≡ putStatistic (now (s .entry)) n t ⌝ }
+{
+    let at = 3 * n;
+    s[at] = t.weight;
+    s[at + 1] = t.sum;
+    s[at + 2] = t.sum_squared;
+}
+
+// The five at the places b, b + w and so on; the last three have a tenth of the decay.
+fn deviations_at(s: &[f64], b: usize, w: usize, decay: f64, count: u64) -> Deviations
+    requires { ⌜ 3 * (b + 4 * w) + 3 ≤ length (now s) ⌝ }
+    ensures { λ r. ⌜ r ≡ deviationsAt (now (s .entry)) b w decay count ⌝ }
+{
+    let slow = 0.1 * decay;
+    let value = statistic_at(s, b, decay, count);
+    let difference = statistic_at(s, b + w, decay, count);
+    let deviation = statistic_at(s, b + 2 * w, slow, count);
+    let difference_mean = statistic_at(s, b + 3 * w, slow, count);
+    let difference_deviation = statistic_at(s, b + 4 * w, slow, count);
+    Deviations {
+        value: value,
+        difference: difference,
+        deviation: deviation,
+        difference_mean: difference_mean,
+        difference_deviation: difference_deviation,
+    }
+}
+
+fn put_deviations(s: &mut [f64], b: usize, w: usize, t: Deviations)
+    requires { ⌜ 3 * (b + 4 * w) + 3 ≤ length (now s) ⌝ }
+    ensures { λ _. ⌜ now (s .exit) ≡ putDeviations (now (s .entry)) b w t ⌝ }
+{
+    let value = t.value;
+    let difference = t.difference;
+    let deviation = t.deviation;
+    let difference_mean = t.difference_mean;
+    let difference_deviation = t.difference_deviation;
+    put_statistic(s, b, value);
+    put_statistic(s, b + w, difference);
+    put_statistic(s, b + 2 * w, deviation);
+    put_statistic(s, b + 3 * w, difference_mean);
+    put_statistic(s, b + 4 * w, difference_deviation);
+}
+
+// ---- feeding
+
+// An update that the count does not refuse.
+fn step(t: Deviation, x: f64) -> Deviation
+    requires { ⌜ t .count < countLimit ⌝ }
+    ensures { λ r. ⌜ r ≡ stepOf t x ⌝ }
+{
+    let r = t.update(x);
+    match r {
+        DeviationResult::Ok(next) => next,
+        DeviationResult::Err(_) => t,
+    }
+}
+
+fn feed(t: Deviations, x: f64, dx: f64) -> Deviations
+    requires { ⌜ (t .value .count < countLimit) × (t .difference .count < countLimit) × (t .deviation .count < countLimit)
+        × (t .«difference_mean» .count < countLimit) × (t .«difference_deviation» .count < countLimit) ⌝ }
+    ensures { λ r. ⌜ r ≡ fed t x dx ⌝ }
+{
+    let value = step(t.value, x);
+    let difference = step(t.difference, dx);
+    let deviation = step(t.deviation, value.deviation());
+    let difference_mean = step(t.difference_mean, difference.mean());
+    let difference_deviation = step(t.difference_deviation, difference.deviation());
+    Deviations {
+        value: value,
+        difference: difference,
+        deviation: deviation,
+        difference_mean: difference_mean,
+        difference_deviation: difference_deviation,
+    }
+}
+
+// Feeds the five statistics at the places b, b + w and so on.
+pub(crate) fn feed_at(s: &mut [f64], b: usize, w: usize, decay: f64, count: u64, x: f64, dx: f64)
+    requires { ⌜ 3 * (b + 4 * w) + 3 ≤ length (now s) ⌝ }
+    requires { ⌜ count < countLimit ⌝ }
+    ensures { λ _. ⌜ now (s .exit) ≡ fedAt (now (s .entry)) b w decay count x dx ⌝ }
+{
+    let t = deviations_at(s, b, w, decay, count);
+    let u = feed(t, x, dx);
+    put_deviations(s, b, w, u);
 }
