@@ -2,3 +2,4 @@ pub mod Lists
 pub mod Fit
 pub mod Types
 pub mod Transformer
+pub mod TransformerCalls
