@@ -1,0 +1,2 @@
+pub mod RangeSteps
+pub mod RangeLaws
