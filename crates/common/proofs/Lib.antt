@@ -1,2 +1,3 @@
-pub mod RangeSteps
+pub mod RangeExamples
 pub mod RangeLaws
+pub mod RangeSteps
