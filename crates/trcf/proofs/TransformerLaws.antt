@@ -16,6 +16,9 @@ use Rattle.common.specs.Deviation.{countLimit, updateOf, stepOf}
 use borrow.Author.Tests.{lt-leb}
 use Rattle.trcf.specs.Fit.{All, Fits}
 use Rattle.trcf.specs.Transformer.{Transformer, putStatistic, putDeviations, fed, fedAt, channelsFed, updated, transformBy, transformed, unweighted, invertBy, inverted, weightAt, basicShift, normalizedScale, scales, shifts, differenceDeviations, zero32}
+use Rattle.trcf.specs.TransformerCalls.{view}
+use Rattle.trcf.specs.declared.transformer.WeightedTransformer.{WeightedTransformer}
+use lib.Seq.{getD-take}
 use Rattle.trcf.specs.Types.{normalizes, centres}
 use Rattle.trcf.specs.declared.types.TransformMethod.{TransformMethod}
 use Rattle.trcf.specs.declared.types.TransformMethod.the-variants.{NONE, WEIGHTED, DIFFERENCE, «SUBTRACT_MA», NORMALIZE, «NORMALIZE_DIFFERENCE»}
@@ -32,6 +35,11 @@ update-step s x h = rw (lt-leb _ _ h)
 
 pub taken-step : (s : Deviation) (x : Float) (r : DeviationResult) (next : Deviation) → s .count < countLimit → r ≡ updateOf s x → r ≡ Ok next → next ≡ stepOf s x
 taken-step s x r next h p q = let k = update-step s x h in cc
+
+-- the weight that a head holds for channel i
+pub weightAt-view : (t : WeightedTransformer) (l : List Float) (i : ℕ) → i < t .«input_length» → weightAt (view t l) i ≡ getD (t .weights) i nan
+unfolding weightAt
+weightAt-view t l i h = getD-take (t .«input_length») (t .weights) i nan h
 
 -- ---- feeding keeps the length
 

@@ -1,0 +1,3 @@
+pub mod RangeExamples
+pub mod RangeLaws
+pub mod RangeSteps
