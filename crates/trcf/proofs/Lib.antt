@@ -6,3 +6,4 @@ pub mod RefusalLaws
 pub mod OutputLaws
 pub mod CallLaws
 pub mod DrainLaws
+pub mod StateLaws

@@ -378,3 +378,28 @@ statusAfter h l out = statusRead h out (answerOf h l (status out))
 
 unfoldable pub drainOf : Preprocessor → Lent → Outcome
 drainOf h l = outcome (rowOf h l drain) (headAfter h l drain) (lentAfter h l drain)
+
+-- `shingled_point`: the row, whether a point is given, the head, what is lent, and the output
+pub record PointOutcome : Type 0 where
+  pub row : ℕ
+  pub given : Bool
+  pub head : Preprocessor
+  pub lent : Lent
+  pub out : List Float
+
+abbrev pub pointed : ℕ → Bool → Preprocessor → Lent → List Float → PointOutcome
+pointed n b h l out = record { row = n; given = b; head = h; lent = l; out = out }
+
+abbrev pub pointRead : Preprocessor → Lent → List Float → Answer → PointOutcome
+pointRead h l out (refused n) = pointed n false h l out
+pointRead h l out absent = pointed 0 false h l out
+pointRead h l out done = pointed 0 false h l out
+pointRead h l out (wrote v) = pointed 0 true h l v
+pointRead h l out (learnt a) = pointed 0 false h l out
+pointRead h l out (turned a) = pointed 0 false h l out
+pointRead h l out (told a) = pointed 0 false h l out
+
+unfoldable pub pointAfter : Preprocessor → Lent → List Float → ℕ → List Float → PointOutcome
+pointAfter h l x t out =
+    let c = shingledPoint x t out in
+    pointRead (headAfter h l c) (lentAfter h l c) out (answerOf h l c)

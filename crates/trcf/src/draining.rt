@@ -2,6 +2,8 @@
 use crate::output::write_transform;
 use crate::preprocessor::Preprocessor;
 use crate::refusal::block_of;
+use crate::refusal::dimension_of;
+use crate::refusal::is_due;
 use crate::shingle::copy_in;
 use crate::shingle::shift_time;
 use crate::shingle::shift_vector;
@@ -9,14 +11,16 @@ use crate::transformer::WeightedTransformer;
 use crate::transformer::feed_at;
 use crate::transformer::update_channels;
 ghost use mathlib.Core.Path.{_≡_};
+ghost use mathlib.Core.Bool.{false, _&&_};
 ghost use mathlib.Core.List.{[], _∷_};
 ghost use Prim.Native.Nat.{_+_, _-_, _*_, _≤_, _<_};
 ghost use lib.ListN.{length, getD};
 ghost use Rattle.common.specs.Deviation.{countLimit};
 ghost use Rattle.trcf.specs.Lists.{shiftIn};
 ghost use Rattle.trcf.specs.Settings.{dimension};
-ghost use Rattle.trcf.specs.Preprocessor.{statisticsLength, reading, feed, feedAll, blocks, previous, transformedAfter, drainEach, drainAll};
-ghost use Rattle.trcf.specs.View.{settingsOf, holding, shingling, readingAt, Bounded, Exact};
+ghost use Rattle.trcf.specs.Calls.{due, drainFull};
+ghost use Rattle.trcf.specs.Preprocessor.{statisticsLength, reading, feed, feedAll, blocks, previous, transformedAfter, drainEach, drainAll, drained, facts};
+ghost use Rattle.trcf.specs.View.{settingsOf, holding, shingling, readingAt, view, counted, laid, lent, outcome, Bounded, Exact, Ready};
 
 // t − p, 0 where the lent times fall.
 fn since(t: u64, p: u64) -> u64
@@ -46,11 +50,12 @@ pub(crate) fn feed_reading(
     let method = t.transform_method;
     let d = t.input_length;
     let decay = t.transform_decay;
+    let weights = t.weights;
     let u = WeightedTransformer {
         transform_method: method,
         input_length: d,
         transform_decay: decay,
-        weights: t.weights,
+        weights: weights,
         count: count,
     };
     update_channels(u, s, input, before);
@@ -195,4 +200,60 @@ pub(crate) fn drain_all(
     copy_in(inputs, n - d, &values[..d]);
     times[k - 1] = stamps[0];
     drain_each(head, s, inputs, points, times, values, stamps);
+}
+
+// ---- on the lent lists
+
+// Drains where there is something to do; answers the head that is left.
+pub(crate) fn drain_due(
+    head: Preprocessor,
+    statistics: &mut [f64],
+    last_shingled_input: &mut [f32],
+    last_shingled_point: &mut [f32],
+    previous_timestamps: &mut [u64],
+    initial_values: &[f32],
+    initial_timestamps: &[u64],
+) -> Preprocessor
+    requires { ⌜ Ready head (lent (now statistics) (now «last_shingled_input») (now «last_shingled_point») (now «previous_timestamps») (now «initial_values») (now «initial_timestamps»)) ⌝ }
+    requires { ⌜ (due (settingsOf head) (facts (view head (lent (now statistics) (now «last_shingled_input») (now «last_shingled_point») (now «previous_timestamps») (now «initial_values») (now «initial_timestamps»)))) && drainFull (settingsOf head) (facts (view head (lent (now statistics) (now «last_shingled_input») (now «last_shingled_point») (now «previous_timestamps») (now «initial_values») (now «initial_timestamps»))))) ≡ false ⌝ }
+    ensures { λ r. ⌜ outcome 0 r (lent (now (statistics .exit)) (now («last_shingled_input» .exit)) (now («last_shingled_point» .exit)) (now («previous_timestamps» .exit)) (now («initial_values» .entry)) (now («initial_timestamps» .entry))) ≡ outcome 0 (counted head (drained (view head (lent (now (statistics .entry)) (now («last_shingled_input» .entry)) (now («last_shingled_point» .entry)) (now («previous_timestamps» .entry)) (now («initial_values» .entry)) (now («initial_timestamps» .entry)))))) (laid (drained (view head (lent (now (statistics .entry)) (now («last_shingled_input» .entry)) (now («last_shingled_point» .entry)) (now («previous_timestamps» .entry)) (now («initial_values» .entry)) (now («initial_timestamps» .entry))))) (lent (now (statistics .entry)) (now («last_shingled_input» .entry)) (now («last_shingled_point» .entry)) (now («previous_timestamps» .entry)) (now («initial_values» .entry)) (now («initial_timestamps» .entry)))) ⌝ }
+    ensures { λ r. ⌜ view r (lent (now (statistics .exit)) (now («last_shingled_input» .exit)) (now («last_shingled_point» .exit)) (now («previous_timestamps» .exit)) (now («initial_values» .entry)) (now («initial_timestamps» .entry))) ≡ drained (view head (lent (now (statistics .entry)) (now («last_shingled_input» .entry)) (now («last_shingled_point» .entry)) (now («previous_timestamps» .entry)) (now («initial_values» .entry)) (now («initial_timestamps» .entry)))) ⌝ }
+{
+    if !is_due(head, initial_timestamps) {
+        return head;
+    }
+    let t = head.transformer;
+    let mode = head.forest_mode;
+    let method = t.transform_method;
+    let d = t.input_length;
+    let k = head.shingle_size;
+    let n = head.initial_len;
+    let weights = t.weights;
+    let m = dimension_of(head);
+    drain_all(
+        head,
+        &mut statistics[..3 * (5 * d + 5)],
+        &mut last_shingled_input[..d * k],
+        &mut last_shingled_point[..m],
+        &mut previous_timestamps[..k],
+        &initial_values[..n * d],
+        &initial_timestamps[..n],
+    );
+    Preprocessor {
+        transformer: WeightedTransformer {
+            transform_method: method,
+            input_length: d,
+            transform_decay: t.transform_decay,
+            weights: weights,
+            count: t.count + n as u64,
+        },
+        forest_mode: mode,
+        shingle_size: k,
+        start_normalization: head.start_normalization,
+        stop_normalization: head.stop_normalization,
+        weight_time: head.weight_time,
+        values_seen: head.values_seen,
+        internal_timestamp: head.internal_timestamp + n,
+        initial_len: 0,
+    }
 }

@@ -1,6 +1,10 @@
 // What the calls write to lent output: the channels' numbers and, in TIME_AUGMENTED, the time's behind them.
 use crate::preprocessor::Preprocessor;
+use crate::refusal::block_of;
+use crate::refusal::dimension_of;
 use crate::refusal::is_augmented;
+use crate::shingle::copy_in;
+use crate::shingle::shift_vector;
 use crate::time::last_time;
 use crate::time::previous_time;
 use crate::time::time_deviation;
@@ -13,12 +17,12 @@ use crate::transformer::shift_into;
 use crate::transformer::transform_into;
 ghost use mathlib.Core.Path.{_≡_};
 ghost use mathlib.Core.List.{[]};
-ghost use Prim.Native.Nat.{_≤_};
+ghost use Prim.Native.Nat.{_*_, _≤_};
 ghost use lib.ListN.{length};
 ghost use Rattle.common.specs.Lent.{over};
-ghost use Rattle.trcf.specs.Settings.{block};
-ghost use Rattle.trcf.specs.Preprocessor.{statisticsLength, previous, reading, transformedAfter, scaleOf, shiftOf, deviations};
-ghost use Rattle.trcf.specs.View.{settingsOf, holding, Bounded, Exact};
+ghost use Rattle.trcf.specs.Settings.{block, dimension};
+ghost use Rattle.trcf.specs.Preprocessor.{statisticsLength, previous, reading, transformedAfter, scaleOf, shiftOf, deviations, pointOf};
+ghost use Rattle.trcf.specs.View.{settingsOf, holding, view, lent, Bounded, Exact};
 
 pub(crate) fn write_transform(
     head: Preprocessor,
@@ -90,4 +94,44 @@ pub(crate) fn write_deviations(head: Preprocessor, s: &[f64], output: &mut [f32]
     if is_augmented(mode) {
         output[d] = time_deviation(head, s);
     }
+}
+
+// The point with the transformed reading behind it.
+pub(crate) fn write_point(
+    head: Preprocessor,
+    statistics: &[f64],
+    last_shingled_input: &[f32],
+    last_shingled_point: &[f32],
+    previous_timestamps: &[u64],
+    input: &[f32],
+    timestamp: u64,
+    output: &mut [f32],
+)
+    requires { ⌜ Bounded (settingsOf head) ⌝ }
+    requires { ⌜ statisticsLength (settingsOf head) ≤ length (now statistics) ⌝ }
+    requires { ⌜ head .transformer .«input_length» * head .«shingle_size» ≤ length (now «last_shingled_input») ⌝ }
+    requires { ⌜ dimension (settingsOf head) ≤ length (now «last_shingled_point») ⌝ }
+    requires { ⌜ head .«shingle_size» ≤ length (now «previous_timestamps») ⌝ }
+    requires { ⌜ length (now input) ≡ head .transformer .«input_length» ⌝ }
+    requires { ⌜ dimension (settingsOf head) ≤ length (now output) ⌝ }
+    ensures { λ _. ⌜ now (output .exit) ≡ over (now (output .entry)) (pointOf (view head (lent (now (statistics .entry)) (now («last_shingled_input» .entry)) (now («last_shingled_point» .entry)) (now («previous_timestamps» .entry)) [] [])) (reading (now (input .entry)) timestamp)) ⌝ }
+{
+    let t = head.transformer;
+    let mode = head.forest_mode;
+    let d = t.input_length;
+    let k = head.shingle_size;
+    let b = block_of(mode, d);
+    let m = dimension_of(head);
+    let mut z = [0.0f32; 17];
+    write_transform(
+        head,
+        &statistics[..3 * (5 * d + 5)],
+        &last_shingled_input[..d * k],
+        &previous_timestamps[..k],
+        input,
+        timestamp,
+        &mut z,
+    );
+    copy_in(output, 0, &last_shingled_point[..m]);
+    shift_vector(&mut output[..m], &z[..b]);
 }

@@ -1,12 +1,17 @@
 // The preprocessor (the source's trcf/preprocessor.rs): settings and counters by value, and six lent lists beside them.
+use crate::draining::drain_due;
 use crate::output::write_deviations;
+use crate::output::write_point;
 use crate::output::write_scale;
 use crate::output::write_shift;
 use crate::output::write_transform;
 use crate::refusal::dimension_of;
+use crate::refusal::drain_row;
 use crate::refusal::head_row;
+use crate::refusal::is_waiting;
 use crate::refusal::lent_row;
 use crate::refusal::settings_row;
+use crate::refusal::shingled_point_row;
 use crate::refusal::transform_row;
 use crate::refusal::write_row;
 use crate::shingle::copy_in;
@@ -25,7 +30,7 @@ ghost use Rattle.trcf.specs.Transformer.{zero32};
 ghost use Rattle.trcf.specs.Settings.{dimension};
 ghost use Rattle.trcf.specs.Calls.{transform, scale, shift, status};
 ghost use Rattle.trcf.specs.Preprocessor.{accepted};
-ghost use Rattle.trcf.specs.View.{lent, settingsFrom, settingsOf, headRow, headFrom, noHead, outcome, buildOf, written, writeOf, statusGiven, statusAfter};
+ghost use Rattle.trcf.specs.View.{lent, settingsFrom, settingsOf, headRow, headFrom, noHead, outcome, buildOf, written, writeOf, statusGiven, statusAfter, drainOf, pointed, pointAfter};
 
 pub struct Preprocessor {
     pub transformer: WeightedTransformer,
@@ -49,6 +54,13 @@ pub struct PreprocessorBuilder {
     pub stop_normalization: usize,
     pub transform_decay: f64,
     pub weight_time: f32,
+}
+
+// What shingled_point answers: whether a point stands in the output.
+pub struct Pointed {
+    pub row: u64,
+    pub given: bool,
+    pub head: Preprocessor,
 }
 
 // The row of a call, 0 for none, and the head that it leaves.
@@ -321,6 +333,111 @@ pub fn difference_deviations(
     let d = t.input_length;
     write_deviations(head, &statistics[..3 * (5 * d + 5)], output);
     0
+}
+
+// ---- drain and shingled_point
+
+pub fn drain(
+    head: Preprocessor,
+    statistics: &mut [f64],
+    last_shingled_input: &mut [f32],
+    last_shingled_point: &mut [f32],
+    previous_timestamps: &mut [u64],
+    initial_values: &[f32],
+    initial_timestamps: &[u64],
+) -> Changed
+    ensures { λ r. ⌜ outcome (r .row) (r .head) (lent (now (statistics .exit)) (now («last_shingled_input» .exit)) (now («last_shingled_point» .exit)) (now («previous_timestamps» .exit)) (now («initial_values» .entry)) (now («initial_timestamps» .entry))) ≡ drainOf head (lent (now (statistics .entry)) (now («last_shingled_input» .entry)) (now («last_shingled_point» .entry)) (now («previous_timestamps» .entry)) (now («initial_values» .entry)) (now («initial_timestamps» .entry))) ⌝ }
+{
+    let row = drain_row(
+        head,
+        statistics,
+        last_shingled_input,
+        last_shingled_point,
+        previous_timestamps,
+        initial_values,
+        initial_timestamps,
+    );
+    if row != 0 {
+        return Changed {
+            row: row,
+            head: head,
+        };
+    }
+    let next = drain_due(
+        head,
+        statistics,
+        last_shingled_input,
+        last_shingled_point,
+        previous_timestamps,
+        initial_values,
+        initial_timestamps,
+    );
+    Changed { row: 0, head: next }
+}
+
+pub fn shingled_point(
+    head: Preprocessor,
+    statistics: &mut [f64],
+    last_shingled_input: &mut [f32],
+    last_shingled_point: &mut [f32],
+    previous_timestamps: &mut [u64],
+    initial_values: &[f32],
+    initial_timestamps: &[u64],
+    input: &[f32],
+    timestamp: u64,
+    output: &mut [f32],
+) -> Pointed
+    ensures { λ r. ⌜ pointed (r .row) (r .given) (r .head) (lent (now (statistics .exit)) (now («last_shingled_input» .exit)) (now («last_shingled_point» .exit)) (now («previous_timestamps» .exit)) (now («initial_values» .entry)) (now («initial_timestamps» .entry))) (now (output .exit)) ≡ pointAfter head (lent (now (statistics .entry)) (now («last_shingled_input» .entry)) (now («last_shingled_point» .entry)) (now («previous_timestamps» .entry)) (now («initial_values» .entry)) (now («initial_timestamps» .entry))) (now (input .entry)) timestamp (now (output .entry)) ⌝ }
+{
+    let row = shingled_point_row(
+        head,
+        statistics,
+        last_shingled_input,
+        last_shingled_point,
+        previous_timestamps,
+        initial_values,
+        initial_timestamps,
+        input,
+        output,
+    );
+    if row != 0 {
+        return Pointed {
+            row: row,
+            given: false,
+            head: head,
+        };
+    }
+    if is_waiting(head) {
+        return Pointed {
+            row: 0,
+            given: false,
+            head: head,
+        };
+    }
+    let next = drain_due(
+        head,
+        statistics,
+        last_shingled_input,
+        last_shingled_point,
+        previous_timestamps,
+        initial_values,
+        initial_timestamps,
+    );
+    write_point(
+        next,
+        statistics,
+        last_shingled_input,
+        last_shingled_point,
+        previous_timestamps,
+        input,
+        timestamp,
+        output,
+    );
+    Pointed {
+        row: 0,
+        given: true,
+        head: next,
+    }
 }
 
 // ---- getters
