@@ -72,17 +72,17 @@ module _ {A : Type 0} where
 pub build-done : (s : Settings) (l : Lent) → settingsRow s ≡ 0 → lentRow (headFrom s) l ≡ 0
     → statisticsLength s ≤ length (l .statistics) → s .d * s .k ≤ length (l .lastShingledInput) → dimension s ≤ length (l .lastShingledPoint) → s .k ≤ length (l .previousTimestamps)
     → outcome 0 (headFrom s)
-        (lent (replicate (length (take (statisticsLength s) (l .statistics))) zero64 ++ drop (statisticsLength s) (l .statistics))
-        (replicate (length (take (s .d * s .k) (l .lastShingledInput))) zero32 ++ drop (s .d * s .k) (l .lastShingledInput))
-        (replicate (length (take (dimension s) (l .lastShingledPoint))) zero32 ++ drop (dimension s) (l .lastShingledPoint))
-        (replicate (length (take (s .k) (l .previousTimestamps))) 0 ++ drop (s .k) (l .previousTimestamps)) (l .initialValues) (l .initialTimestamps))
+    (lent (replicate (length (take (statisticsLength s) (l .statistics))) zero64 ++ drop (statisticsLength s) (l .statistics))
+    (replicate (length (take (s .d * s .k) (l .lastShingledInput))) zero32 ++ drop (s .d * s .k) (l .lastShingledInput))
+    (replicate (length (take (dimension s) (l .lastShingledPoint))) zero32 ++ drop (dimension s) (l .lastShingledPoint))
+    (replicate (length (take (s .k) (l .previousTimestamps))) 0 ++ drop (s .k) (l .previousTimestamps)) (l .initialValues) (l .initialTimestamps))
     ≡ buildOf s l
 unfolding laid fresh
 build-done s l e n a b c d =
     (λ j. outcome 0 (headFrom s)
-      (lent (filled-over (l .statistics) zero64 (statisticsLength s) a j) (filled-over (l .lastShingledInput) zero32 (s .d * s .k) b j)
-      (filled-over (l .lastShingledPoint) zero32 (dimension s) c j) (filled-over (l .previousTimestamps) 0 (s .k) d j)
-      (over-none (l .initialValues) j) (over-none (l .initialTimestamps) j)))
+    (lent (filled-over (l .statistics) zero64 (statisticsLength s) a j) (filled-over (l .lastShingledInput) zero32 (s .d * s .k) b j)
+    (filled-over (l .lastShingledPoint) zero32 (dimension s) c j) (filled-over (l .previousTimestamps) 0 (s .k) d j)
+    (over-none (l .initialValues) j) (over-none (l .initialTimestamps) j)))
     ∙ build-accepted s l e n
 
 -- the weights in an array leave the rest of the settings as they were

@@ -50,11 +50,11 @@ module _ (h : Preprocessor) (l : Lent) (f : Fitted h l) where
   same-lent =
       let r = f .roomy in
       λ j. lent (sym (over-take (l .statistics) (statisticsLength (settingsOf h)) (r .in-statistics)) j)
-        (sym (over-take (l .lastShingledInput) (h .transformer .«input_length» * h .«shingle_size») (r .in-input)) j)
-        (sym (over-take (l .lastShingledPoint) (dimension (settingsOf h)) (r .in-point)) j)
-        (sym (over-take (l .previousTimestamps) (h .«shingle_size») (r .in-times)) j)
-        (sym (over-take (l .initialValues) (h .«initial_len» * h .transformer .«input_length») held-values) j)
-        (sym (over-take (l .initialTimestamps) (h .«initial_len») held-initial) j)
+      (sym (over-take (l .lastShingledInput) (h .transformer .«input_length» * h .«shingle_size») (r .in-input)) j)
+      (sym (over-take (l .lastShingledPoint) (dimension (settingsOf h)) (r .in-point)) j)
+      (sym (over-take (l .previousTimestamps) (h .«shingle_size») (r .in-times)) j)
+      (sym (over-take (l .initialValues) (h .«initial_len» * h .transformer .«input_length») held-values) j)
+      (sym (over-take (l .initialTimestamps) (h .«initial_len») held-initial) j)
 
   -- nothing to drain
   undrained-view : due (settingsOf h) (facts (view h l)) ≡ false → view h l ≡ drained (view h l)
@@ -134,8 +134,8 @@ module _ (h : Preprocessor) (l : Lent) (f : Fitted h l) (d-pos : 0 < h .«initia
     unfolding laid over
     drained-out =
         (λ j. outcome 0 (drainedHead h (h .«initial_len»))
-          (lent (over-part (l .statistics) s _ ls j) (over-part (l .lastShingledInput) x _ lx j) (over-part (l .lastShingledPoint) p _ lp j)
-          (over-part (l .previousTimestamps) ts _ lt j) (l .initialValues) (l .initialTimestamps)))
+        (lent (over-part (l .statistics) s _ ls j) (over-part (l .lastShingledInput) x _ lx j) (over-part (l .lastShingledPoint) p _ lp j)
+        (over-part (l .previousTimestamps) ts _ lt j) (l .initialValues) (l .initialTimestamps)))
         ∙ ap (λ (w : State). outcome 0 (counted h w) (laid w l)) counted-drain
 
     pub drained-view : view (drainedHead h (h .«initial_len»)) back ≡ drained (view h l)
@@ -262,7 +262,7 @@ module _ (h : Preprocessor) (l : Lent) (x : List Float) (t : ℕ) (out : List Fl
   point-waits e w f =
       (λ j. pointed 0 false (same-head h l f j) (same-lent h l f j) out)
       ∙ (λ j. pointRead (counted h (cond (sym w j) (view h l) (drained (view h l)))) (laid (cond (sym w j) (view h l) (drained (view h l))) l) out
-        (cond (sym w j) absent (wrote (over out (pointOf (drained (view h l)) (reading x t))))))
+      (cond (sym w j) absent (wrote (over out (pointOf (drained (view h l)) (reading x t))))))
       ∙ point-answered e
 
   pub point-done : (a : Preprocessor) (b : Lent) (o : List Float) → rowOf h l (shingledPoint x t out) ≡ 0 → waiting (settingsOf h) (h .«values_seen») ≡ false
@@ -273,7 +273,7 @@ module _ (h : Preprocessor) (l : Lent) (x : List Float) (t : ℕ) (out : List Fl
   point-done a b o e w p q =
       (λ j. pointed 0 true (p j .head) (p j .lent) (q j))
       ∙ (λ j. pointRead (counted h (cond (sym w j) (view h l) (drained (view h l)))) (laid (cond (sym w j) (view h l) (drained (view h l))) l) out
-        (cond (sym w j) absent (wrote (over out (pointOf (drained (view h l)) (reading x t))))))
+      (cond (sym w j) absent (wrote (over out (pointOf (drained (view h l)) (reading x t))))))
       ∙ point-answered e
 
 firstOf-none : (a b : Bool) → firstOf ((a, 18) ∷ (b, 20) ∷ []) ≡ 0 → (a ≡ false) × (b ≡ false)

@@ -174,7 +174,7 @@ pastRow h ts n =
     let past = not (waiting (settingsOf h) (h .«values_seen»)) in
     let due = eqb (h .«values_seen») (h .«start_normalization») && not (null (take (h .«initial_len») ts)) in
     let full = ltb countLimit (h .transformer .count + h .«start_normalization»)
-        || ltb seenLimit (h .«internal_timestamp» + h .«start_normalization») in
+    || ltb seenLimit (h .«internal_timestamp» + h .«start_normalization») in
     firstOf ((past && (due && full), 18) ∷ (past && ltb n (dimension (settingsOf h)), 20) ∷ [])
 
 -- what the row 0 of a call says

@@ -135,15 +135,7 @@ fn drain_turn(
     let b = block_of(mode, d);
     let y = stamps[i];
     let mut z = [0.0f32; 17];
-    write_transform(
-        head,
-        s,
-        inputs,
-        times,
-        &values[i * d..i * d + d],
-        y,
-        &mut z,
-    );
+    write_transform(head, s, inputs, times, &values[i * d..i * d + d], y, &mut z);
     shift_vector(inputs, &values[i * d..i * d + d]);
     shift_vector(points, &z[..b]);
     shift_time(times, y);

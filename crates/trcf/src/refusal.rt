@@ -126,7 +126,11 @@ pub(crate) fn is_waiting(head: Preprocessor) -> bool
     let method = t.transform_method;
     let seen = head.values_seen;
     let start = head.start_normalization;
-    if is_normalizing(method) { seen < start } else { false }
+    if is_normalizing(method) {
+        seen < start
+    } else {
+        false
+    }
 }
 
 // The numbers in one transformed reading.

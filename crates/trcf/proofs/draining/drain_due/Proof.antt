@@ -21,7 +21,7 @@ is-due-requires c κs = search needs
 
 returns : tie.Need-returns
 unfolding due facts view
-returns c = 
+returns c =
     let a = c .before .before .before .before .before .before .before .before .args in
     let h = a .head in
     let l = lent (a .statistics .now) (a .last-shingled-input .now) (a .last-shingled-point .now) (a .previous-timestamps .now) (a .initial-values .now) (a .initial-timestamps .now) in
@@ -34,7 +34,7 @@ dimension-of-requires : tie.Need-dimension-of-requires
 dimension-of-requires c κs = search needs
 
 mul-drain-all : tie.Need-mul-drain-all
-mul-drain-all c = 
+mul-drain-all c =
     let a = c .before .before .before .before .before .before .before .before .before .before .before .args in
     let h = a .head in
     let l = lent (a .statistics .now) (a .last-shingled-input .now) (a .last-shingled-point .now) (a .previous-timestamps .now) (a .initial-values .now) (a .initial-timestamps .now) in
@@ -49,7 +49,7 @@ add-drain-all : tie.Need-add-drain-all
 add-drain-all c = search needs
 
 mul-drain-all-2 : tie.Need-mul-drain-all-2
-mul-drain-all-2 c = 
+mul-drain-all-2 c =
     let a = c .before .before .before .before .before .before .before .before .before .before .before .args in
     let h = a .head in
     let l = lent (a .statistics .now) (a .last-shingled-input .now) (a .last-shingled-point .now) (a .previous-timestamps .now) (a .initial-values .now) (a .initial-timestamps .now) in
@@ -61,7 +61,7 @@ mul-drain-all-2 c =
     omega (arith, f .few, c .before .before .before .before .before .before .before .before .before .before .before .pre .0 .bounded)
 
 slice-relend-prefix-drain-all : tie.Need-slice-relend-prefix-drain-all
-slice-relend-prefix-drain-all c = 
+slice-relend-prefix-drain-all c =
     let a = c .before .before .before .before .before .before .before .before .before .before .before .args in
     let h = a .head in
     let l = lent (a .statistics .now) (a .last-shingled-input .now) (a .last-shingled-point .now) (a .previous-timestamps .now) (a .initial-values .now) (a .initial-timestamps .now) in
@@ -70,7 +70,7 @@ slice-relend-prefix-drain-all c =
     omega (arith, r)
 
 slice-aggregate-drain-all : tie.Need-slice-aggregate-drain-all
-slice-aggregate-drain-all c = 
+slice-aggregate-drain-all c =
     let a = c .before .before .before .before .before .before .before .before .before .before .before .before .args in
     let h = a .head in
     let l = lent (a .statistics .now) (a .last-shingled-input .now) (a .last-shingled-point .now) (a .previous-timestamps .now) (a .initial-values .now) (a .initial-timestamps .now) in
@@ -81,7 +81,7 @@ slice-aggregate-drain-all c =
     simp length-take (omega (arith, r, f .few, c .before .before .before .before .before .before .before .before .before .before .before .before .pre .0 .bounded))
 
 mul-drain-all-3 : tie.Need-mul-drain-all-3
-mul-drain-all-3 c = 
+mul-drain-all-3 c =
     let a = c .before .before .before .before .before .before .before .before .before .before .before .before .args in
     let h = a .head in
     let l = lent (a .statistics .now) (a .last-shingled-input .now) (a .last-shingled-point .now) (a .previous-timestamps .now) (a .initial-values .now) (a .initial-timestamps .now) in
@@ -93,7 +93,7 @@ mul-drain-all-3 c =
     omega (arith, f .few, c .before .before .before .before .before .before .before .before .before .before .before .before .pre .0 .bounded)
 
 slice-relend-prefix-drain-all-2 : tie.Need-slice-relend-prefix-drain-all-2
-slice-relend-prefix-drain-all-2 c = 
+slice-relend-prefix-drain-all-2 c =
     let a = c .before .before .before .before .before .before .before .before .before .before .before .before .args in
     let h = a .head in
     let l = lent (a .statistics .now) (a .last-shingled-input .now) (a .last-shingled-point .now) (a .previous-timestamps .now) (a .initial-values .now) (a .initial-timestamps .now) in
@@ -102,7 +102,7 @@ slice-relend-prefix-drain-all-2 c =
     omega (arith, r)
 
 slice-aggregate-drain-all-2 : tie.Need-slice-aggregate-drain-all-2
-slice-aggregate-drain-all-2 c = 
+slice-aggregate-drain-all-2 c =
     let a = c .before .before .before .before .before .before .before .before .before .before .before .before .before .args in
     let h = a .head in
     let l = lent (a .statistics .now) (a .last-shingled-input .now) (a .last-shingled-point .now) (a .previous-timestamps .now) (a .initial-values .now) (a .initial-timestamps .now) in
@@ -113,7 +113,7 @@ slice-aggregate-drain-all-2 c =
     simp length-take (omega (arith, r, f .few, c .before .before .before .before .before .before .before .before .before .before .before .before .before .pre .0 .bounded))
 
 slice-relend-prefix-drain-all-3 : tie.Need-slice-relend-prefix-drain-all-3
-slice-relend-prefix-drain-all-3 c = 
+slice-relend-prefix-drain-all-3 c =
     let a = c .before .before .before .before .before .before .before .before .before .before .before .before .before .args in
     let h = a .head in
     let l = lent (a .statistics .now) (a .last-shingled-input .now) (a .last-shingled-point .now) (a .previous-timestamps .now) (a .initial-values .now) (a .initial-timestamps .now) in
@@ -122,7 +122,7 @@ slice-relend-prefix-drain-all-3 c =
     omega (arith, r, c .before .before .dimension-of .ensures)
 
 slice-aggregate-drain-all-3 : tie.Need-slice-aggregate-drain-all-3
-slice-aggregate-drain-all-3 c = 
+slice-aggregate-drain-all-3 c =
     let a = c .before .before .before .before .before .before .before .before .before .before .before .before .before .before .args in
     let h = a .head in
     let l = lent (a .statistics .now) (a .last-shingled-input .now) (a .last-shingled-point .now) (a .previous-timestamps .now) (a .initial-values .now) (a .initial-timestamps .now) in
@@ -133,7 +133,7 @@ slice-aggregate-drain-all-3 c =
     simp length-take (omega (arith, r, f .few, c .before .before .before .before .before .before .before .before .before .before .before .before .before .before .pre .0 .bounded, c .before .before .before .dimension-of .ensures))
 
 slice-relend-prefix-drain-all-4 : tie.Need-slice-relend-prefix-drain-all-4
-slice-relend-prefix-drain-all-4 c = 
+slice-relend-prefix-drain-all-4 c =
     let a = c .before .before .before .before .before .before .before .before .before .before .before .before .before .before .args in
     let h = a .head in
     let l = lent (a .statistics .now) (a .last-shingled-input .now) (a .last-shingled-point .now) (a .previous-timestamps .now) (a .initial-values .now) (a .initial-timestamps .now) in
@@ -142,7 +142,7 @@ slice-relend-prefix-drain-all-4 c =
     omega (arith, r)
 
 slice-aggregate-drain-all-4 : tie.Need-slice-aggregate-drain-all-4
-slice-aggregate-drain-all-4 c = 
+slice-aggregate-drain-all-4 c =
     let a = c .before .before .before .before .before .before .before .before .before .before .before .before .before .before .before .args in
     let h = a .head in
     let l = lent (a .statistics .now) (a .last-shingled-input .now) (a .last-shingled-point .now) (a .previous-timestamps .now) (a .initial-values .now) (a .initial-timestamps .now) in
@@ -153,7 +153,7 @@ slice-aggregate-drain-all-4 c =
     simp length-take (omega (arith, r, f .few, c .before .before .before .before .before .before .before .before .before .before .before .before .before .before .before .pre .0 .bounded, c .before .before .before .before .dimension-of .ensures))
 
 mul-drain-all-4 : tie.Need-mul-drain-all-4
-mul-drain-all-4 c = 
+mul-drain-all-4 c =
     let a = c .before .before .before .before .before .before .before .before .before .before .before .before .before .before .before .args in
     let h = a .head in
     let l = lent (a .statistics .now) (a .last-shingled-input .now) (a .last-shingled-point .now) (a .previous-timestamps .now) (a .initial-values .now) (a .initial-timestamps .now) in
@@ -165,7 +165,7 @@ mul-drain-all-4 c =
     omega (arith, f .few, c .before .before .before .before .before .before .before .before .before .before .before .before .before .before .before .pre .0 .bounded)
 
 slice-aggregate-drain-all-5 : tie.Need-slice-aggregate-drain-all-5
-slice-aggregate-drain-all-5 c = 
+slice-aggregate-drain-all-5 c =
     let a = c .before .before .before .before .before .before .before .before .before .before .before .before .before .before .before .before .args in
     let h = a .head in
     let l = lent (a .statistics .now) (a .last-shingled-input .now) (a .last-shingled-point .now) (a .previous-timestamps .now) (a .initial-values .now) (a .initial-timestamps .now) in
@@ -176,7 +176,7 @@ slice-aggregate-drain-all-5 c =
     simp length-take (omega (arith, r, f .few, c .before .before .before .before .before .before .before .before .before .before .before .before .before .before .before .before .pre .0 .bounded, c .before .before .before .before .before .dimension-of .ensures))
 
 slice-aggregate-drain-all-6 : tie.Need-slice-aggregate-drain-all-6
-slice-aggregate-drain-all-6 c = 
+slice-aggregate-drain-all-6 c =
     let a = c .before .before .before .before .before .before .before .before .before .before .before .before .before .before .before .before .before .args in
     let h = a .head in
     let l = lent (a .statistics .now) (a .last-shingled-input .now) (a .last-shingled-point .now) (a .previous-timestamps .now) (a .initial-values .now) (a .initial-timestamps .now) in
@@ -188,7 +188,7 @@ slice-aggregate-drain-all-6 c =
 
 drain-all-requires : tie.Need-drain-all-requires
 unfolding due facts view
-drain-all-requires c κs = 
+drain-all-requires c κs =
     let a = c .before .before .before .before .before .before .before .before .before .before .before .before .before .before .before .before .before .args in
     let h = a .head in
     let l = lent (a .statistics .now) (a .last-shingled-input .now) (a .last-shingled-point .now) (a .previous-timestamps .now) (a .initial-values .now) (a .initial-timestamps .now) in
@@ -204,7 +204,7 @@ drain-all-requires c κs =
 
 add-t37 : tie.Need-add-t37
 unfolding due facts view
-add-t37 c = 
+add-t37 c =
     let a = c .before .before .before .before .before .before .before .before .before .before .before .before .before .before .before .before .before .before .before .before .before .before .before .before .before .before .before .args in
     let h = a .head in
     let l = lent (a .statistics .now) (a .last-shingled-input .now) (a .last-shingled-point .now) (a .previous-timestamps .now) (a .initial-values .now) (a .initial-timestamps .now) in
@@ -217,7 +217,7 @@ add-t37 c =
 
 add-t19 : tie.Need-add-t19
 unfolding due facts view
-add-t19 c = 
+add-t19 c =
     let a = c .before .before .before .before .before .before .before .before .before .before .before .before .before .before .before .before .before .before .before .before .before .before .before .before .before .before .before .before .args in
     let h = a .head in
     let l = lent (a .statistics .now) (a .last-shingled-input .now) (a .last-shingled-point .now) (a .previous-timestamps .now) (a .initial-values .now) (a .initial-timestamps .now) in
@@ -242,7 +242,7 @@ same-length-4 c = search needs
 
 returns-2 : tie.Need-returns-2
 unfolding due facts view
-returns-2 c = 
+returns-2 c =
     let a = c .before .before .before .before .before .before .before .before .before .before .before .before .before .before .before .before .before .before .before .before .before .before .before .before .before .before .before .before .args in
     let h = a .head in
     let l = lent (a .statistics .now) (a .last-shingled-input .now) (a .last-shingled-point .now) (a .previous-timestamps .now) (a .initial-values .now) (a .initial-timestamps .now) in

@@ -49,7 +49,7 @@ same-length c = search needs
 
 returns : tie.Need-returns
 unfolding shiftOf
-returns c = 
+returns c =
     let a = c .before .before .before .before .before .before .before .before .before .before .before .before .before .before .args in
     let g = sym (c .before .before .before .before .before .is-augmented .ensures) ∙ c .before .before .before .before .if1 .taken in
     let b = block-augmented (settingsOf (a .head)) g in
@@ -61,7 +61,7 @@ same-length-2 c = search needs
 
 returns-2 : tie.Need-returns-2
 unfolding shiftOf
-returns-2 c = 
+returns-2 c =
     let a = c .before .before .before .before .before .before .before .before .before .before .args in
     rw (c .before .before .before .before .shift-into .ensures) (untimed (settingsOf (a .head)) (a .output .now) _ _ _ (shifts-free (a .head) (a .s .now)) (sym (c .before .is-augmented .ensures) ∙ c .if1 .left))
 

@@ -58,7 +58,7 @@ same-length c = search needs
 
 returns : tie.Need-returns
 unfolding transformedAfter previous
-returns c = 
+returns c =
     let a = c .before .before .before .before .before .before .before .before .before .before .before .before .before .before .before .args in
     let m = le-mul-of-pos-right (a .head .transformer .«input_length») (c .before .before .before .before .before .before .before .before .before .before .before .before .before .before .before .pre .0 .k-pos) in
     let k : a .head .transformer .«input_length» ≤ length (a .inputs .now) = omega (arith, c .before .before .before .before .before .before .before .before .before .before .before .before .before .before .before .pre) in
@@ -72,7 +72,7 @@ same-length-2 c = search needs
 
 returns-2 : tie.Need-returns-2
 unfolding transformedAfter previous
-returns-2 c = 
+returns-2 c =
     let a = c .before .before .before .before .before .before .before .before .before .before .before .before .before .args in
     let m = le-mul-of-pos-right (a .head .transformer .«input_length») (c .before .before .before .before .before .before .before .before .before .before .before .before .before .pre .0 .k-pos) in
     let k : a .head .transformer .«input_length» ≤ length (a .inputs .now) = omega (arith, c .before .before .before .before .before .before .before .before .before .before .before .before .before .pre) in

@@ -20,7 +20,7 @@ no-head-requires : tie.Need-no-head-requires
 no-head-requires c κs = search needs
 
 returns : tie.Need-returns
-returns c = 
+returns c =
     let a = c .before .before .before .before .before .before .before .before .before .before .args in
     let s = settingsFrom (a .builder) (a .weights .now) in
     let l = lent (a .statistics .now) (a .last-shingled-input .now) (a .last-shingled-point .now) (a .previous-timestamps .now) (a .initial-values .now) (a .initial-timestamps .now) in
@@ -31,7 +31,7 @@ head-from-requires : tie.Need-head-from-requires
 head-from-requires c κs = let r = c .before .settings-row .ensures .1 (c .if1 .left) in omega (arith, r .bounded, r .weighted)
 
 lent-row-requires : tie.Need-lent-row-requires
-lent-row-requires c κs = 
+lent-row-requires c κs =
     let a = c .before .before .before .before .before .before .before .before .before .before .before .before .before .before .args in
     let s = settingsFrom (a .builder) (a .weights .now) in
     let l = lent (a .statistics .now) (a .last-shingled-input .now) (a .last-shingled-point .now) (a .previous-timestamps .now) (a .initial-values .now) (a .initial-timestamps .now) in
@@ -53,7 +53,7 @@ same-length-4 : tie.Need-same-length-4
 same-length-4 c = search needs
 
 returns-2 : tie.Need-returns-2
-returns-2 c = 
+returns-2 c =
     let a = c .before .before .before .before .before .before .before .before .before .before .before .before .before .before .before .before .before .args in
     let s = settingsFrom (a .builder) (a .weights .now) in
     let l = lent (a .statistics .now) (a .last-shingled-input .now) (a .last-shingled-point .now) (a .previous-timestamps .now) (a .initial-values .now) (a .initial-timestamps .now) in
@@ -62,7 +62,7 @@ returns-2 c =
     rw (c .no-head2 .ensures, f) (build-short s l (sym e ∙ c .before .before .before .before .before .before .before .before .if1 .left) (λ z. c .before .if2 .taken (f ∙ z)))
 
 dimension-of-requires : tie.Need-dimension-of-requires
-dimension-of-requires c κs = 
+dimension-of-requires c κs =
     let a = c .before .before .before .before .before .before .before .before .before .before .before .before .before .before .before .before .args in
     let s = settingsFrom (a .builder) (a .weights .now) in
     let l = lent (a .statistics .now) (a .last-shingled-input .now) (a .last-shingled-point .now) (a .previous-timestamps .now) (a .initial-values .now) (a .initial-timestamps .now) in
@@ -129,7 +129,7 @@ same-length-8 : tie.Need-same-length-8
 same-length-8 c = search needs
 
 returns-3 : tie.Need-returns-3
-returns-3 c = 
+returns-3 c =
     let a = c .before .before .before .before .before .before .before .before .before .before .before .before .before .before .before .before .before .before .before .before .before .before .before .before .before .before .before .before .before .before .before .before .before .args in
     let s = settingsFrom (a .builder) (a .weights .now) in
     let l = lent (a .statistics .now) (a .last-shingled-input .now) (a .last-shingled-point .now) (a .previous-timestamps .now) (a .initial-values .now) (a .initial-timestamps .now) in

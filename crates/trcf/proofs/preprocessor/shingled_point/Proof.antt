@@ -30,7 +30,7 @@ same-length-5 : tie.Need-same-length-5
 same-length-5 c = search needs
 
 returns : tie.Need-returns
-returns c = 
+returns c =
     let a = c .before .before .before .before .before .before .before .before .before .before .before .before .before .before .before .args in
     let h = a .head in
     let l = lent (a .statistics .now) (a .last-shingled-input .now) (a .last-shingled-point .now) (a .previous-timestamps .now) (a .initial-values .now) (a .initial-timestamps .now) in
@@ -58,7 +58,7 @@ same-length-10 : tie.Need-same-length-10
 same-length-10 c = search needs
 
 returns-2 : tie.Need-returns-2
-returns-2 c = 
+returns-2 c =
     let a = c .before .before .before .before .before .before .before .before .before .before .before .before .before .before .before .before .before .args in
     let h = a .head in
     let l = lent (a .statistics .now) (a .last-shingled-input .now) (a .last-shingled-point .now) (a .previous-timestamps .now) (a .initial-values .now) (a .initial-timestamps .now) in
@@ -68,7 +68,7 @@ returns-2 c =
     point-waits h l x (a .timestamp) o (sym e ∙ c .before .before .if1 .left) (sym (c .before .is-waiting .ensures) ∙ c .if2 .taken) (c .before .before .before .shingled-point-row .ensures .1 .0 (c .before .before .if1 .left) .fitted)
 
 drain-due-requires : tie.Need-drain-due-requires
-drain-due-requires c κs = 
+drain-due-requires c κs =
     let a = c .before .before .before .before .before .before .before .before .before .before .before .before .before .before .before .before .before .before .before .before .before .args in
     let h = a .head in
     let l = lent (a .statistics .now) (a .last-shingled-input .now) (a .last-shingled-point .now) (a .previous-timestamps .now) (a .initial-values .now) (a .initial-timestamps .now) in
@@ -78,7 +78,7 @@ drain-due-requires c κs =
     (c .before .before .before .before .before .before .before .shingled-point-row .ensures .1 .0 (c .before .before .before .before .before .before .if1 .left), past-room h l (length o) (c .before .before .before .before .before .before .before .shingled-point-row .ensures .1 .1 (c .before .before .before .before .before .before .if1 .left) .past) (sym (c .before .before .before .before .before .is-waiting .ensures) ∙ c .before .before .before .before .if2 .left))
 
 write-point-requires : tie.Need-write-point-requires
-write-point-requires c κs = 
+write-point-requires c κs =
     let a = c .before .before .before .before .before .before .before .before .before .before .before .before .before .before .before .before .before .before .before .before .before .before .before .before .before .before .before .before .before .before .before .before .before .before .before .args in
     let h = a .head in
     let l = lent (a .statistics .now) (a .last-shingled-input .now) (a .last-shingled-point .now) (a .previous-timestamps .now) (a .initial-values .now) (a .initial-timestamps .now) in
@@ -108,7 +108,7 @@ same-length-15 c = search needs
 
 returns-3 : tie.Need-returns-3
 unfolding pointOf view previous
-returns-3 c = 
+returns-3 c =
     let a = c .before .before .before .before .before .before .before .before .before .before .before .before .before .before .before .before .before .before .before .before .before .before .before .before .before .before .before .before .before .before .before .before .before .before .before .before .before .before .args in
     let h = a .head in
     let l = lent (a .statistics .now) (a .last-shingled-input .now) (a .last-shingled-point .now) (a .previous-timestamps .now) (a .initial-values .now) (a .initial-timestamps .now) in

@@ -22,7 +22,7 @@ short-row-requires c κs = search needs
 
 returns-2 : tie.Need-returns-2
 unfolding lentRow
-returns-2 c = 
+returns-2 c =
     let m = sym (c .before .before .is-misfit .ensures) ∙ c .before .if1 .left in
     (rw (m, c .short-row .ensures .0), λ e. record { roomy = c .short-row .ensures .1 e; few = misfit-few _ m; counted = misfit-counted _ m })
 
