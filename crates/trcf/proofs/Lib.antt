@@ -7,3 +7,4 @@ pub mod OutputLaws
 pub mod CallLaws
 pub mod DrainLaws
 pub mod StateLaws
+pub mod LearnLaws
