@@ -6,22 +6,24 @@ use mathlib.Core.List.{List, [], _∷_, _++_}
 use mathlib.Core.Option.{Option, none, some}
 use native.Mathlib.Omega.{arith}
 use native.Mathlib.Nat.{mul-le-mul, le-refl}
-use borrow.Author.Tests.{ltb-false, leb-false, eqb-true, lt-ltb, le-leb, lt-leb, ne-eqb}
+use borrow.Author.Tests.{ltb-false, ltb-true, leb-false, eqb-true, lt-ltb, le-leb, lt-leb, ne-eqb}
 use lib.Dec.{ltb, leb, eqb}
 use lib.IntN.{ℤ, pos, negsuc}
 use lib.ListN.{length, take, drop, getD, length-append}
 use lib.Seq.{length-take-le}
-use lib.Ieee.{Float, lt}
+use lib.Ieee.{Float, binary64, lt, ofInt}
 use Rattle.common.specs.Lent.{over}
 use Rattle.common.specs.Deviation.{countLimit}
 use Rattle.common.specs.Refusal.{firstOf}
 use Rattle.trcf.specs.Lists.{lastOr, shiftIn}
-use Rattle.trcf.specs.Transformer.{zero32, one32, inverted}
+use Rattle.trcf.specs.Transformer.{zero32, one32, inverted, updated}
 use Rattle.trcf.specs.Settings.{Settings, transformer, dimension, block, waiting}
 use Rattle.trcf.specs.Calls.{Learn, Call, postProcess, seenLimit, rows, table, finite, given, wrongLength, newest, outside, learnFull, learnShort, waitingShort}
-use Rattle.trcf.specs.Preprocessor.{State, Answer, refused, learnt, Reading, reading, facts, statisticsLength, previous, feed, held, learned, learnedWith, change, reply, accepted, deviations, learnedNothing, heldAnswer, learnedAnswer, learnAnswer, anomalyOf, pastValues, expectedValues, blockAt, isZero, blockFrom}
-use Rattle.trcf.specs.View.{Lent, lent, settingsOf, view, counted, counting, laid, holding, Fitted, rowOf, headAfter, lentAfter, answerOf, optional, learnCall, backOf, inputRow, waitingRow, learnRow, learningRow, Learnable, LearnOutcome, learnOutcome, learnNothing, learnRead, learnAfter, orElse}
+use Rattle.trcf.specs.Preprocessor.{State, Answer, refused, learnt, timeFed, Reading, reading, facts, statisticsLength, previous, feed, held, learned, learnedWith, change, reply, accepted, deviations, learnedNothing, heldAnswer, learnedAnswer, learnAnswer, anomalyOf, pastValues, expectedValues, blockAt, isZero, blockFrom}
+use Rattle.trcf.specs.View.{Lent, lent, settingsOf, view, counted, counting, laid, holding, Fitted, rowOf, headAfter, lentAfter, answerOf, optional, learnCall, backOf, inputRow, waitingRow, learnRow, learningRow, Learnable, LearnOutcome, learnOutcome, LearnParts, learnedParts, learnedStatistics, learnNothing, learnRead, learnAfter, orElse}
 use Rattle.trcf.specs.declared.preprocessor.Preprocessor.{Preprocessor}
+use Rattle.trcf.specs.Types.{normalizes}
+use Rattle.trcf.proofs.TransformerLaws.{fedAt-length, updated-length}
 use Rattle.trcf.proofs.ShingleLaws.{over-take}
 use Rattle.trcf.proofs.StateLaws.{same-head, same-lent, held-initial, held-values}
 
@@ -267,3 +269,92 @@ place-is k (negsuc n) h f = refl
 pub wide : (s : Settings) → s .d * s .k ≤ dimension s
 unfolding dimension block
 wide s = mul-le-mul (omega arith) (le-refl (s .k))
+
+-- ---- the program's parts make up the whole
+
+module _ {A : Type 0} where
+  cond-when : (b : Bool) (x x′ y : A) → (b ≡ true → x ≡ x′) → cond b x y ≡ cond b x′ y
+  cond-when true x x′ y f = f refl
+  cond-when false x x′ y f = refl
+
+abbrev pub outcomeOf : LearnParts → List Float → List ℕ → LearnOutcome
+outcomeOf p v vt =
+    let a = p .answer in
+    learnOutcome (a .row) (a .written) (a .«has_anomaly») (a .«past_timestamp») (a .likelihood) (a .head)
+    (lent (p .statistics) (p .lastShingledInput) (p .lastShingledPoint) (p .previousTimestamps) v vt) (p .deviationsOut) (p .pastOut) (p .expectedOut)
+
+module _ (h : Preprocessor) (l : Lent) (x : List Float) (t : ℕ) (hasY : Bool) (y : List Float) (expects : Bool) (e : List Float) (grade : Float) (i : ℤ)
+    (deviationsOut pastOut expectedOut : List Float) (k-few : h .«shingle_size» ≤ 64) (f : Fitted h l) (g : hasY ≡ true)
+    (inside : (lt zero32 grade && expects) ≡ true → backOf i < h .«shingle_size») where
+  abbrev call : Learn
+  call = learnCall x t hasY y expects e grade i deviationsOut pastOut expectedOut
+
+  abbrev parts : LearnParts
+  parts =
+      learnedParts h (l .statistics) (l .lastShingledInput) (l .lastShingledPoint) (l .previousTimestamps) x t y e (lt zero32 grade && expects) (backOf i) deviationsOut
+      pastOut expectedOut
+
+  module _ (z : backOf i < h .«shingle_size») where
+    placed : blockAt (h .«shingle_size») i ≡ h .«shingle_size» - 1 - backOf i
+    placed = place-is (h .«shingle_size») i z k-few
+
+    past-same : over pastOut (cond (eqb (backOf i) 0) x (blockFrom (h .transformer .«input_length») (h .«shingle_size» - backOf i) (take (h .transformer .«input_length» * h .«shingle_size») (l .lastShingledInput))))
+        ≡ over pastOut (pastValues (view h l) call)
+    unfolding pastValues view
+    past-same =
+        let d = h .transformer .«input_length» in
+        let v = take (d * h .«shingle_size») (l .lastShingledInput) in
+        let q : h .«shingle_size» - backOf i ≡ suc (blockAt (h .«shingle_size») i) = omega (arith, placed, z) in
+        λ j. over pastOut (cond (sym (zero-is i) j) x (blockFrom d (q j) v))
+
+    expected-same : over expectedOut
+        (inverted (transformer (settingsOf h) 0 (take (statisticsLength (settingsOf h)) (l .statistics))) (blockFrom (h .transformer .«input_length») (h .«shingle_size» - 1 - backOf i) e)
+        (blockFrom (h .transformer .«input_length») (h .«shingle_size» - 1 - backOf i) (take (h .transformer .«input_length» * h .«shingle_size») (l .lastShingledInput))))
+        ≡ over expectedOut (expectedValues (view h l) call e)
+    unfolding expectedValues view
+    expected-same =
+        let d = h .transformer .«input_length» in
+        ap (λ (n : ℕ). over expectedOut (inverted (transformer (settingsOf h) 0 (take (statisticsLength (settingsOf h)) (l .statistics))) (blockFrom d n e) (blockFrom d n (take (d * h .«shingle_size») (l .lastShingledInput))))) (sym placed)
+
+    time-same : getD (take (h .«shingle_size») (l .previousTimestamps)) (h .«shingle_size» - 1 - backOf i) 0 ≡ anomalyOf (view h l) call .pastTimestamp
+    unfolding anomalyOf view
+    time-same = ap (λ (n : ℕ). getD (take (h .«shingle_size») (l .previousTimestamps)) n 0) (sym placed)
+
+  pub learn-whole : rowOf h l (postProcess call) ≡ 0 → waiting (settingsOf h) (h .«values_seen») ≡ false
+      → outcomeOf parts (l .initialValues) (l .initialTimestamps) ≡ learnAfter h l call
+  unfolding view laid learned deviations previous
+  learn-whole r w =
+      let a = lt zero32 grade && expects in
+      let d = h .transformer .«input_length» in
+      let p = parts in
+      (λ j. learnOutcome 0 true a
+        (cond-when a (getD (take (h .«shingle_size») (l .previousTimestamps)) (h .«shingle_size» - 1 - backOf i) 0) (anomalyOf (view h l) call .pastTimestamp) 0 (λ z. time-same (inside z)) j)
+        (cond a one32 zero32)
+        (counting h (cond (ltb (h .«values_seen») (h .«stop_normalization»)) (suc (h .transformer .count)) (h .transformer .count)) (suc (h .«values_seen»)) (suc (h .«internal_timestamp»))
+        (sym (length-take-le (h .«initial_len») (l .initialTimestamps) (held-initial h l f)) j))
+        (lent (p .statistics) (p .lastShingledInput) (p .lastShingledPoint) (p .previousTimestamps)
+        (sym (over-take (l .initialValues) (h .«initial_len» * d) (held-values h l f)) j) (sym (over-take (l .initialTimestamps) (h .«initial_len») (held-initial h l f)) j))
+        (p .deviationsOut)
+        (cond-when a (over pastOut (cond (eqb (backOf i) 0) x (blockFrom d (h .«shingle_size» - backOf i) (take (d * h .«shingle_size») (l .lastShingledInput))))) (over pastOut (pastValues (view h l) call)) pastOut (λ z. past-same (inside z)) j)
+        (cond-when a (over expectedOut (inverted (transformer (settingsOf h) 0 (take (statisticsLength (settingsOf h)) (l .statistics))) (blockFrom d (h .«shingle_size» - 1 - backOf i) e) (blockFrom d (h .«shingle_size» - 1 - backOf i) (take (d * h .«shingle_size») (l .lastShingledInput))))) (over expectedOut (expectedValues (view h l) call e)) expectedOut (λ z. expected-same (inside z)) j))
+      ∙ learn-done h l call y expects e r w (ap (λ (b : Bool). optional b y) g) refl
+
+pub waiting-below : (s : Settings) (seen : ℕ) → waiting s seen ≡ true → seen < s .start
+unfolding waiting
+waiting-below s seen w = ltb-true seen (s .start) (and-second (normalizes (s .method)) (ltb seen (s .start)) w)
+
+-- feeding keeps the length
+feed-length : (s : Settings) (n : ℕ) (st : List Float) (p r : Reading) → length (feed s n st p r) ≡ length st
+unfolding feed timeFed
+feed-length s n st p r =
+    fedAt-length (updated (transformer s n st) (r .value) (p .value)) (5 * s .d) 1 (s .decay) n (ofInt binary64 (pos (r .time))) (ofInt binary64 (pos (r .time - p .time)))
+    ∙ updated-length (transformer s n st) (r .value) (p .value)
+
+either-length : (b : Bool) (x y : List Float) → length x ≡ length y → length (cond b x y) ≡ length y
+either-length true x y e = e
+either-length false x y e = refl
+
+pub learned-length : (h : Preprocessor) (st x : List Float) (ts : List ℕ) (input : List Float) (t : ℕ) → length (learnedStatistics h st x ts input t) ≡ length st
+learned-length h st x ts input t =
+    either-length (ltb (h .«values_seen») (h .«stop_normalization»)) (feed (settingsOf h) (h .transformer .count) st (previous (holding h st x ts)) (reading input t)) st
+    (feed-length (settingsOf h) (h .transformer .count) st (previous (holding h st x ts)) (reading input t))

@@ -8,3 +8,4 @@ pub mod CallLaws
 pub mod DrainLaws
 pub mod StateLaws
 pub mod LearnLaws
+pub mod ViewLaws

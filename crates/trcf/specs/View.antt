@@ -9,18 +9,19 @@ use lib.IntN.{ℤ, pos, negsuc}
 use lib.ListN.{length, take, drop, getD, replicate}
 use lib.Ieee.{Float, lt}
 use Rattle.common.specs.Deviation.{zero64, countLimit}
-use Rattle.trcf.specs.Lists.{null, lastOr}
+use Rattle.trcf.specs.Lists.{null, lastOr, shiftIn}
 use Rattle.common.specs.Refusal.{firstOf}
 use Rattle.common.specs.Lent.{over}
-use Rattle.trcf.specs.Transformer.{zero32}
-use Rattle.trcf.specs.Settings.{Settings, settingsRow, block, dimension, waiting}
+use Rattle.trcf.specs.Transformer.{zero32, one32, inverted}
+use Rattle.trcf.specs.Settings.{Settings, transformer, settingsRow, block, dimension, waiting}
 use Rattle.trcf.specs.Calls.{Learn, Call, shingledPoint, postProcess, drain, transform, invertExtrapolation, scale, shift, status, Forecast, rows, seenLimit, finite, given}
-use Rattle.trcf.specs.Preprocessor.{State, Answer, refused, absent, done, wrote, learnt, turned, told, Learned, Status, Anomaly, Reading, reading, statisticsLength, fresh, facts, change, reply, accepted}
+use Rattle.trcf.specs.Preprocessor.{State, Answer, refused, absent, done, wrote, learnt, turned, told, Learned, Status, Anomaly, Reading, reading, feed, previous, deviations, blockFrom, statisticsLength, fresh, facts, change, reply, accepted}
 use Rattle.trcf.specs.declared.types.TransformMethod.the-variants.{NONE}
 use Rattle.trcf.specs.declared.types.ForestMode.the-variants.{STANDARD}
 use Rattle.trcf.specs.declared.transformer.WeightedTransformer.{WeightedTransformer}
 use Rattle.trcf.specs.declared.preprocessor.Preprocessor.{Preprocessor}
 use Rattle.trcf.specs.declared.preprocessor.PreprocessorBuilder.{PreprocessorBuilder}
+use Rattle.trcf.specs.declared.preprocessor.PostProcessed.{PostProcessed}
 use Rattle.trcf.specs.declared.preprocessor.StatusAnswer.{StatusAnswer}
 
 -- ---- what is lent
@@ -542,3 +543,55 @@ unfoldable pub learnAfter : Preprocessor → Lent → Learn → LearnOutcome
 learnAfter h l c =
     let q = postProcess c in
     learnRead (headAfter h l q) (lentAfter h l q) c (answerOf h l q)
+
+-- ---- the program's own parts of `post_process`
+
+abbrev pub answeringRow : ℕ → Preprocessor → Bool → Bool → ℕ → Float → PostProcessed
+answeringRow n h w b t p = record { row = n; head = h; written = w; «has_anomaly» = b; «past_timestamp» = t; likelihood = p }
+
+abbrev pub answering : Preprocessor → Bool → Bool → ℕ → Float → PostProcessed
+answering h w b t p = answeringRow 0 h w b t p
+
+-- an answer and four of the lent lists, the initial ones left out
+pub record LearnParts : Type 0 where
+  pub answer : PostProcessed
+  pub statistics : List Float
+  pub lastShingledInput : List Float
+  pub lastShingledPoint : List Float
+  pub previousTimestamps : List ℕ
+  pub deviationsOut : List Float
+  pub pastOut : List Float
+  pub expectedOut : List Float
+
+abbrev pub learnParts : ℕ → Bool → Bool → ℕ → Float → Preprocessor → List Float → List Float → List Float → List ℕ → List Float → List Float → List Float → LearnParts
+learnParts n w b t p h st x y ts deviations past expected =
+    record {
+      answer = answeringRow n h w b t p;
+      statistics = st;
+      lastShingledInput = x;
+      lastShingledPoint = y;
+      previousTimestamps = ts;
+      deviationsOut = deviations;
+      pastOut = past;
+      expectedOut = expected;
+    }
+
+-- the statistics after a learn
+abbrev pub learnedStatistics : Preprocessor → List Float → List Float → List ℕ → List Float → ℕ → List Float
+learnedStatistics h st x ts input t =
+    cond (ltb (h .«values_seen») (h .«stop_normalization»)) (feed (settingsOf h) (h .transformer .count) st (previous (holding h st x ts)) (reading input t)) st
+
+abbrev pub learnedParts : Preprocessor → List Float → List Float → List Float → List ℕ → List Float → ℕ → List Float → List Float → Bool → ℕ → List Float → List Float → List Float → LearnParts
+learnedParts h st x p ts input t y e found back deviationsOut pastOut expectedOut =
+    let s = settingsOf h in
+    let d = s .d in
+    let st₁ = take (statisticsLength s) st in
+    let x₁ = take (d * s .k) x in
+    let ts₁ = take (s .k) ts in
+    let b = s .k - 1 - back in
+    learnParts 0 true found (cond found (getD ts₁ b 0) 0) (cond found one32 zero32)
+    (counting h (cond (ltb (h .«values_seen») (h .«stop_normalization»)) (suc (h .transformer .count)) (h .transformer .count)) (suc (h .«values_seen»)) (suc (h .«internal_timestamp»)) (h .«initial_len»))
+    (over st (learnedStatistics h st₁ x₁ ts₁ input t)) (over x (shiftIn x₁ input)) (over p y) (over ts (shiftIn ts₁ (t ∷ [])))
+    (over deviationsOut (deviations (holding h (learnedStatistics h st₁ x₁ ts₁ input t) [] [])))
+    (cond found (over pastOut (cond (eqb back 0) input (blockFrom d (s .k - back) x₁))) pastOut)
+    (cond found (over expectedOut (inverted (transformer s 0 st₁) (blockFrom d b e) (blockFrom d b x₁))) expectedOut)
