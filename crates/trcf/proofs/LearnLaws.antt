@@ -146,13 +146,13 @@ module _ (h : Preprocessor) (y : ℕ) (hasY : Bool) (ee : ℕ) (expects : Bool) 
         internal-room = leb-false seenLimit (h .«internal_timestamp») (uv .1);
         deviations-room = ltb-false dev (block s) (iq .0);
         found = λ z.
-          let r = or-falls (ltb past d) (ltb exp d) (and-falls (p && expects) q (iq .1) z) in
-          record {
-            all-expected = eqb-true ee n (not-falls (eqb ee n) (and-falls expects (not (eqb ee n)) (ab .1) (and-second p expects z)));
-            inside = leb-false (h .«shingle_size») back (and-falls p o (f .1) (and-first p expects z));
-            past-room = ltb-false past d (r .0);
-            expected-room = ltb-false exp d (r .1);
-          };
+            let r = or-falls (ltb past d) (ltb exp d) (and-falls (p && expects) q (iq .1) z) in
+            record {
+              all-expected = eqb-true ee n (not-falls (eqb ee n) (and-falls expects (not (eqb ee n)) (ab .1) (and-second p expects z)));
+              inside = leb-false (h .«shingle_size») back (and-falls p o (f .1) (and-first p expects z));
+              past-room = ltb-false past d (r .0);
+              expected-room = ltb-false exp d (r .1);
+            };
       }
 
 -- ---- outcomes
@@ -180,7 +180,7 @@ module _ (h : Preprocessor) (l : Lent) (c : Learn) where
   learn-none e w p f =
       (λ j. learnNothing 0 (same-head h l f j) (same-lent h l f j) c)
       ∙ (λ j. let s = cond (sym w j) (held (view h l) c) (learnedWith (view h l) (reading (c .input) (c .timestamp)) (sym p j)) in
-        learnRead (counted h s) (laid s l) c (learnt (cond (sym w j) (heldAnswer (view h l) c) (learnAnswer (view h l) c (sym p j)))))
+      learnRead (counted h s) (laid s l) c (learnt (cond (sym w j) (heldAnswer (view h l) c) (learnAnswer (view h l) c (sym p j)))))
       ∙ learn-answered e
 
   -- while waiting
@@ -193,12 +193,12 @@ module _ (h : Preprocessor) (l : Lent) (c : Learn) where
 
   pub learn-held : rowOf h l (postProcess c) ≡ 0 → waiting (settingsOf h) (h .«values_seen») ≡ true → Fitted h l
       → learnOutcome 0 (eqb (suc (h .«values_seen»)) (h .«start_normalization»)) false 0 zero32
-        (counting h (h .transformer .count) (suc (h .«values_seen»)) (h .«internal_timestamp») (suc (h .«initial_len»)))
-        (lent (l .statistics) (l .lastShingledInput) (l .lastShingledPoint) (l .previousTimestamps)
-        (over (l .initialValues) (take (h .«initial_len» * h .transformer .«input_length») (l .initialValues) ++ c .input))
-        (over (l .initialTimestamps) (take (h .«initial_len») (l .initialTimestamps) ++ (c .timestamp ∷ []))))
-        (cond (eqb (suc (h .«values_seen»)) (h .«start_normalization»)) (over (c .deviationsOut) (deviations (holding h (take (statisticsLength (settingsOf h)) (l .statistics)) [] []))) (c .deviationsOut))
-        (c .pastOut) (c .expectedOut)
+      (counting h (h .transformer .count) (suc (h .«values_seen»)) (h .«internal_timestamp») (suc (h .«initial_len»)))
+      (lent (l .statistics) (l .lastShingledInput) (l .lastShingledPoint) (l .previousTimestamps)
+      (over (l .initialValues) (take (h .«initial_len» * h .transformer .«input_length») (l .initialValues) ++ c .input))
+      (over (l .initialTimestamps) (take (h .«initial_len») (l .initialTimestamps) ++ (c .timestamp ∷ []))))
+      (cond (eqb (suc (h .«values_seen»)) (h .«start_normalization»)) (over (c .deviationsOut) (deviations (holding h (take (statisticsLength (settingsOf h)) (l .statistics)) [] []))) (c .deviationsOut))
+      (c .pastOut) (c .expectedOut)
       ≡ learnAfter h l c
   unfolding change reply view held heldAnswer deviations laid
   learn-held e w f =
@@ -206,24 +206,24 @@ module _ (h : Preprocessor) (l : Lent) (c : Learn) where
       let n : suc (h .«initial_len») ≡ length (take (h .«initial_len») (l .initialTimestamps) ++ (c .timestamp ∷ [])) =
       omega (arith, length-append (take (h .«initial_len») (l .initialTimestamps)) (c .timestamp ∷ []), length-take-le (h .«initial_len») (l .initialTimestamps) (held-initial h l f)) in
       (λ j. learnOutcome 0 (eqb (suc (h .«values_seen»)) (h .«start_normalization»)) false 0 zero32
-        (counting h (h .transformer .count) (suc (h .«values_seen»)) (h .«internal_timestamp») (n j))
-        (lent (sym (over-take (l .statistics) (statisticsLength (settingsOf h)) (r .in-statistics)) j)
-        (sym (over-take (l .lastShingledInput) (h .transformer .«input_length» * h .«shingle_size») (r .in-input)) j)
-        (sym (over-take (l .lastShingledPoint) (dimension (settingsOf h)) (r .in-point)) j)
-        (sym (over-take (l .previousTimestamps) (h .«shingle_size») (r .in-times)) j)
-        (over (l .initialValues) (take (h .«initial_len» * h .transformer .«input_length») (l .initialValues) ++ c .input))
-        (over (l .initialTimestamps) (take (h .«initial_len») (l .initialTimestamps) ++ (c .timestamp ∷ []))))
-        (cond (eqb (suc (h .«values_seen»)) (h .«start_normalization»)) (over (c .deviationsOut) (deviations (view h l))) (c .deviationsOut)) (c .pastOut) (c .expectedOut))
+      (counting h (h .transformer .count) (suc (h .«values_seen»)) (h .«internal_timestamp») (n j))
+      (lent (sym (over-take (l .statistics) (statisticsLength (settingsOf h)) (r .in-statistics)) j)
+      (sym (over-take (l .lastShingledInput) (h .transformer .«input_length» * h .«shingle_size») (r .in-input)) j)
+      (sym (over-take (l .lastShingledPoint) (dimension (settingsOf h)) (r .in-point)) j)
+      (sym (over-take (l .previousTimestamps) (h .«shingle_size») (r .in-times)) j)
+      (over (l .initialValues) (take (h .«initial_len» * h .transformer .«input_length») (l .initialValues) ++ c .input))
+      (over (l .initialTimestamps) (take (h .«initial_len») (l .initialTimestamps) ++ (c .timestamp ∷ []))))
+      (cond (eqb (suc (h .«values_seen»)) (h .«start_normalization»)) (over (c .deviationsOut) (deviations (view h l))) (c .deviationsOut)) (c .pastOut) (c .expectedOut))
       ∙ held-read (eqb (suc (h .«values_seen»)) (h .«start_normalization»)) (counted h (held (view h l) c)) (laid (held (view h l) c) l) (deviations (view h l))
       ∙ (λ j. let s = cond (sym w j) (held (view h l) c) (learnedWith (view h l) (reading (c .input) (c .timestamp)) (c .rcfPoint)) in
-        learnRead (counted h s) (laid s l) c (learnt (cond (sym w j) (heldAnswer (view h l) c) (learnAnswer (view h l) c (c .rcfPoint)))))
+      learnRead (counted h s) (laid s l) c (learnt (cond (sym w j) (heldAnswer (view h l) c) (learnAnswer (view h l) c (c .rcfPoint)))))
       ∙ learn-answered e
 
   -- past waiting, with a point y
   learned-read : (w : State) (y : List Float) (b expects : Bool) (x : List Float) (a : Preprocessor) (m : Lent)
       → learnOutcome 0 true (b && expects) (cond (b && expects) (anomalyOf w c .pastTimestamp) 0) (cond (b && expects) one32 zero32) a m
-        (over (c .deviationsOut) (deviations (learned w (reading (c .input) (c .timestamp)) y)))
-        (cond (b && expects) (over (c .pastOut) (pastValues w c)) (c .pastOut)) (cond (b && expects) (over (c .expectedOut) (expectedValues w c x)) (c .expectedOut))
+      (over (c .deviationsOut) (deviations (learned w (reading (c .input) (c .timestamp)) y)))
+      (cond (b && expects) (over (c .pastOut) (pastValues w c)) (c .pastOut)) (cond (b && expects) (over (c .expectedOut) (expectedValues w c x)) (c .expectedOut))
       ≡ learnRead a m c (learnt (learnedAnswer w c y b (optional expects x)))
   unfolding learnedAnswer anomalyOf
   learned-read w y true true x a m = refl
@@ -233,11 +233,11 @@ module _ (h : Preprocessor) (l : Lent) (c : Learn) where
   pub learn-done : (y : List Float) (expects : Bool) (x : List Float) → rowOf h l (postProcess c) ≡ 0 → waiting (settingsOf h) (h .«values_seen») ≡ false
       → c .rcfPoint ≡ some y → c .expectedPoint ≡ optional expects x
       → learnOutcome 0 true (lt zero32 (c .grade) && expects) (cond (lt zero32 (c .grade) && expects) (anomalyOf (view h l) c .pastTimestamp) 0)
-        (cond (lt zero32 (c .grade) && expects) one32 zero32)
-        (counted h (learned (view h l) (reading (c .input) (c .timestamp)) y)) (laid (learned (view h l) (reading (c .input) (c .timestamp)) y) l)
-        (over (c .deviationsOut) (deviations (learned (view h l) (reading (c .input) (c .timestamp)) y)))
-        (cond (lt zero32 (c .grade) && expects) (over (c .pastOut) (pastValues (view h l) c)) (c .pastOut))
-        (cond (lt zero32 (c .grade) && expects) (over (c .expectedOut) (expectedValues (view h l) c x)) (c .expectedOut))
+      (cond (lt zero32 (c .grade) && expects) one32 zero32)
+      (counted h (learned (view h l) (reading (c .input) (c .timestamp)) y)) (laid (learned (view h l) (reading (c .input) (c .timestamp)) y) l)
+      (over (c .deviationsOut) (deviations (learned (view h l) (reading (c .input) (c .timestamp)) y)))
+      (cond (lt zero32 (c .grade) && expects) (over (c .pastOut) (pastValues (view h l) c)) (c .pastOut))
+      (cond (lt zero32 (c .grade) && expects) (over (c .expectedOut) (expectedValues (view h l) c x)) (c .expectedOut))
       ≡ learnAfter h l c
   unfolding change reply learnedWith learnAnswer view
   learn-done y expects x e w p q =
@@ -246,7 +246,7 @@ module _ (h : Preprocessor) (l : Lent) (c : Learn) where
       learned-read v y (lt zero32 (c .grade)) expects x (counted h g) (laid g l)
       ∙ (λ j. learnRead (counted h g) (laid g l) c (learnt (learnedAnswer v c y (lt zero32 (c .grade)) (sym q j))))
       ∙ (λ j. let s = cond (sym w j) (held v c) (learnedWith v (reading (c .input) (c .timestamp)) (sym p j)) in
-        learnRead (counted h s) (laid s l) c (learnt (cond (sym w j) (heldAnswer v c) (learnAnswer v c (sym p j)))))
+      learnRead (counted h s) (laid s l) c (learnt (cond (sym w j) (heldAnswer v c) (learnAnswer v c (sym p j)))))
       ∙ learn-answered e
 
 pub or-twice : (r m n : ℕ) → (r ≡ 0 → ⊥) → r ≡ orElse (orElse r m) n
@@ -328,15 +328,15 @@ module _ (h : Preprocessor) (l : Lent) (x : List Float) (t : ℕ) (hasY : Bool) 
       let d = h .transformer .«input_length» in
       let p = parts in
       (λ j. learnOutcome 0 true a
-        (cond-when a (getD (take (h .«shingle_size») (l .previousTimestamps)) (h .«shingle_size» - 1 - backOf i) 0) (anomalyOf (view h l) call .pastTimestamp) 0 (λ z. time-same (inside z)) j)
-        (cond a one32 zero32)
-        (counting h (cond (ltb (h .«values_seen») (h .«stop_normalization»)) (suc (h .transformer .count)) (h .transformer .count)) (suc (h .«values_seen»)) (suc (h .«internal_timestamp»))
-        (sym (length-take-le (h .«initial_len») (l .initialTimestamps) (held-initial h l f)) j))
-        (lent (p .statistics) (p .lastShingledInput) (p .lastShingledPoint) (p .previousTimestamps)
-        (sym (over-take (l .initialValues) (h .«initial_len» * d) (held-values h l f)) j) (sym (over-take (l .initialTimestamps) (h .«initial_len») (held-initial h l f)) j))
-        (p .deviationsOut)
-        (cond-when a (over pastOut (cond (eqb (backOf i) 0) x (blockFrom d (h .«shingle_size» - backOf i) (take (d * h .«shingle_size») (l .lastShingledInput))))) (over pastOut (pastValues (view h l) call)) pastOut (λ z. past-same (inside z)) j)
-        (cond-when a (over expectedOut (inverted (transformer (settingsOf h) 0 (take (statisticsLength (settingsOf h)) (l .statistics))) (blockFrom d (h .«shingle_size» - 1 - backOf i) e) (blockFrom d (h .«shingle_size» - 1 - backOf i) (take (d * h .«shingle_size») (l .lastShingledInput))))) (over expectedOut (expectedValues (view h l) call e)) expectedOut (λ z. expected-same (inside z)) j))
+      (cond-when a (getD (take (h .«shingle_size») (l .previousTimestamps)) (h .«shingle_size» - 1 - backOf i) 0) (anomalyOf (view h l) call .pastTimestamp) 0 (λ z. time-same (inside z)) j)
+      (cond a one32 zero32)
+      (counting h (cond (ltb (h .«values_seen») (h .«stop_normalization»)) (suc (h .transformer .count)) (h .transformer .count)) (suc (h .«values_seen»)) (suc (h .«internal_timestamp»))
+      (sym (length-take-le (h .«initial_len») (l .initialTimestamps) (held-initial h l f)) j))
+      (lent (p .statistics) (p .lastShingledInput) (p .lastShingledPoint) (p .previousTimestamps)
+      (sym (over-take (l .initialValues) (h .«initial_len» * d) (held-values h l f)) j) (sym (over-take (l .initialTimestamps) (h .«initial_len») (held-initial h l f)) j))
+      (p .deviationsOut)
+      (cond-when a (over pastOut (cond (eqb (backOf i) 0) x (blockFrom d (h .«shingle_size» - backOf i) (take (d * h .«shingle_size») (l .lastShingledInput))))) (over pastOut (pastValues (view h l) call)) pastOut (λ z. past-same (inside z)) j)
+      (cond-when a (over expectedOut (inverted (transformer (settingsOf h) 0 (take (statisticsLength (settingsOf h)) (l .statistics))) (blockFrom d (h .«shingle_size» - 1 - backOf i) e) (blockFrom d (h .«shingle_size» - 1 - backOf i) (take (d * h .«shingle_size») (l .lastShingledInput))))) (over expectedOut (expectedValues (view h l) call e)) expectedOut (λ z. expected-same (inside z)) j))
       ∙ learn-done h l call y expects e r w (ap (λ (b : Bool). optional b y) g) refl
 
 pub waiting-below : (s : Settings) (seen : ℕ) → waiting s seen ≡ true → seen < s .start

@@ -91,7 +91,11 @@ fn is_count_full(head: Preprocessor) -> bool
     let count = t.count;
     let seen = head.values_seen;
     let stop = head.stop_normalization;
-    if seen < stop { COUNT_LIMIT <= count } else { false }
+    if seen < stop {
+        COUNT_LIMIT <= count
+    } else {
+        false
+    }
 }
 
 // Whether a learn would pass a limit.
@@ -256,7 +260,13 @@ pub(crate) fn post_process_row(
     if row != 0 {
         return row;
     }
-    let row = input_row(head, previous_timestamps, initial_timestamps, input, timestamp);
+    let row = input_row(
+        head,
+        previous_timestamps,
+        initial_timestamps,
+        input,
+        timestamp,
+    );
     if row != 0 {
         return row;
     }

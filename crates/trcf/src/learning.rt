@@ -122,15 +122,7 @@ pub(crate) fn feed_newest(
         let d = t.input_length;
         let n = inputs.len();
         let p = last_time(times);
-        feed_reading(
-            head,
-            t.count,
-            s,
-            &inputs[n - d..n],
-            p,
-            input,
-            timestamp,
-        );
+        feed_reading(head, t.count, s, &inputs[n - d..n], p, input, timestamp);
     }
 }
 

@@ -26,7 +26,7 @@ input-row-requires c κs = search needs
 
 returns-2 : tie.Need-returns-2
 unfolding rowOf
-returns-2 c = 
+returns-2 c =
     let a = c .before .before .before .before .before .before .before .before .before .before .before .before .before .before .before .before .args in
     let h = a .head in
     let l = lent (a .statistics .now) (a .last-shingled-input .now) (a .last-shingled-point .now) (a .previous-timestamps .now) (a .initial-values .now) (a .initial-timestamps .now) in
@@ -42,7 +42,7 @@ learning-row-requires c κs = c .before .before .before .before .head-row .ensur
 
 returns-3 : tie.Need-returns-3
 unfolding rowOf
-returns-3 c = 
+returns-3 c =
     let a = c .before .before .before .before .before .before .before .before .before .before .before .before .before .before .before .before .before .before .before .args in
     let h = a .head in
     let l = lent (a .statistics .now) (a .last-shingled-input .now) (a .last-shingled-point .now) (a .previous-timestamps .now) (a .initial-values .now) (a .initial-timestamps .now) in
@@ -56,7 +56,7 @@ lent-row-requires c κs = c .before .before .before .before .before .before .hea
 
 returns-4 : tie.Need-returns-4
 unfolding rowOf
-returns-4 c = 
+returns-4 c =
     let a = c .before .before .before .before .before .before .before .before .before .before .before .before .before .before .before .before .before .before .before .before .args in
     let h = a .head in
     let l = lent (a .statistics .now) (a .last-shingled-input .now) (a .last-shingled-point .now) (a .previous-timestamps .now) (a .initial-values .now) (a .initial-timestamps .now) in
