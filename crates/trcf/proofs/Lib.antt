@@ -1,3 +1,4 @@
 pub mod FitLaws
 pub mod LentLaws
 pub mod TransformerLaws
+pub mod ForecastLaws

@@ -3,3 +3,4 @@ pub mod Fit
 pub mod Types
 pub mod Transformer
 pub mod TransformerCalls
+pub mod Forecast

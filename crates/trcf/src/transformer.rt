@@ -357,3 +357,16 @@ pub(crate) fn difference_deviations_into(t: WeightedTransformer, s: &[f64], outp
         i += 1;
     }
 }
+
+// ---- invert_forecast
+
+// What a channel of a forecast is scaled and shifted by, the same in every block.
+struct Inversion {
+    weighs: bool,
+    factor: f32,
+    normalizes: bool,
+    scale: f32,
+    drift: f32,
+    centres: bool,
+    shift: f32,
+}
