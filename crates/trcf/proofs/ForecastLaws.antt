@@ -1,19 +1,23 @@
 -- A forecast inverted channel by channel is the forecast inverted index by index: after either, each index holds the same of what stood there.
 use Prim.Native.Nat.{ℕ, zero, suc, _+_, _*_, _/_, _%_, _≤_, _<_}
-use mathlib.Core.Bool.{Bool, true, false}
+use mathlib.Core.Bool.{Bool, true, false, cond, not, _&&_}
 use mathlib.Core.Logic.{_⊎_, inl, inr, ⊎-elim}
 use mathlib.Core.Path.{_≡_, refl, sym, ap, _∙_}
 use mathlib.Core.List.{List}
 use native.Mathlib.Omega.{arith}
 use native.Mathlib.Nat.{mod-lt, mod-eq-of-lt, div-eq-of-lt, mul-add-mod-self-right, mul-add-div-right, div-add-mod', div-lt-iff-lt-mul, mul-le-mul-right, eq-or-lt-of-le}
-use borrow.Author.Tests.{eqb-true, eqb-false}
+use native.Mathlib.Numerals.{add-one}
+use borrow.Author.Tests.{eqb-true, eqb-false, eq-eqb}
 use lib.Dec.{eqb}
 use lib.ListN.{length, getD, set}
 use lib.Seq.{ext-getD, getD-set-same}
-use lib.Ieee.{Float, nan}
-use Rattle.common.specs.RangeVector.{Range, Ranges, range, ranges, rangeAt, putAt}
+use lib.IntN.{pos}
+use lib.Ieee.{Float, nan, binary32, mul, ofInt}
+use Rattle.common.specs.RangeVector.{Range, Ranges, range, ranges, rangeAt, putAt, shifted, cascadeTo, Outcome, outcome, unequal, unblocked, cascadedAddOf}
 use Rattle.common.proofs.RangeLaws.{SameLengths, putAt-lengths, rangeAt-other}
-use Rattle.trcf.specs.Transformer.{Transformer, forecastAt, forecastTo}
+use Rattle.trcf.specs.Types.{isNone, normalizes, differences, centres}
+use Rattle.trcf.specs.Transformer.{Transformer, reciprocal, weightAt, normalizedScale, basicDrift, basicShift, scaledIf, shiftedIf, forecastAt, forecastTo, invertedForecast}
+use Rattle.trcf.specs.declared.transformer.Inversion.{Inversion}
 use Rattle.trcf.specs.Forecast.{inversionOf, forecastBy, channelTo, channelsTo}
 
 same-or : (k i : ℕ) → (k ≡ i) ⊎ (k ≡ i → ⊥)
@@ -60,7 +64,7 @@ module _ (g : ℕ → Range → Range) (v : Ranges) (even : Even v) (P Q : ℕ �
       let old : rangeAt w i ≡ rangeAt v i = ⊎-elim (λ e. absurd (new (e .0))) (λ e. e .1) (h .at i l) in
       let m = h .same in
       let now : rangeAt (putAt w i (g i (rangeAt w i))) i ≡ g i (rangeAt v i) =
-          rangeAt-same w i (g i (rangeAt w i)) (omega (arith, m .values)) (omega (arith, m .upper, even .upper)) (omega (arith, m .lower, even .lower)) ∙ ap (g i) old in
+      rangeAt-same w i (g i (rangeAt w i)) (omega (arith, m .values)) (omega (arith, m .upper, even .upper)) (omega (arith, m .lower, even .lower)) ∙ ap (g i) old in
       record {
         same = record { values = n .values ∙ m .values; upper = n .upper ∙ m .upper; lower = n .lower ∙ m .lower };
         at = λ k lk. ⊎-elim (λ (e : k ≡ i). inl (at-i k e here now)) (λ (ne : k ≡ i → ⊥).
@@ -76,9 +80,9 @@ module _ (g : ℕ → Range → Range) (v : Ranges) (even : Even v) (P Q : ℕ �
   unfolding rangeAt
   done-unique w z h h' s =
       let a : (k : ℕ) → k < length (v .values) → rangeAt w k ≡ rangeAt z k =
-          λ k l. ⊎-elim
-          (λ e. ⊎-elim (λ e'. e .1 ∙ sym (e' .1)) (λ e'. absurd (e' .0 (s k l .0 (e .0)))) (h' .at k l))
-          (λ e. ⊎-elim (λ e'. absurd (e .0 (s k l .1 (e' .0)))) (λ e'. e .1 ∙ sym (e' .1)) (h' .at k l)) (h .at k l) in
+      λ k l. ⊎-elim
+      (λ e. ⊎-elim (λ e'. e .1 ∙ sym (e' .1)) (λ e'. absurd (e' .0 (s k l .0 (e .0)))) (h' .at k l))
+      (λ e. ⊎-elim (λ e'. absurd (e .0 (s k l .1 (e' .0)))) (λ e'. e .1 ∙ sym (e' .1)) (h' .at k l)) (h .at k l) in
       let m = h .same in
       let n = h' .same in
       let p = ext-getD nan (w .values) (z .values) (m .values ∙ sym (n .values)) (λ k l. ap (λ (r : Range). r .value) (a k (omega (arith, m .values)))) in
@@ -107,6 +111,44 @@ forecastBy-at : (t : Transformer) (j i : ℕ) (r : Range) → forecastBy (invers
 unfolding forecastBy inversionOf forecastAt
 forecastBy-at t j i r = refl
 
+pub forecast-steps : (k : Inversion) (i : ℕ) (r a b c q : Range) (x : Float) → a ≡ scaledIf (k .weighs) r (k .factor) → b ≡ scaledIf (k .normalizes) a (k .scale)
+    → x ≡ ofInt binary32 (pos i) → c ≡ shifted binary32 b (mul binary32 x (k .drift)) → q ≡ shiftedIf (k .centres) c (k .shift) → q ≡ forecastBy k i r
+unfolding forecastBy
+forecast-steps k i r a b c q x ea eb ex ec eq = cc
+
+pub inversion-made : (t : Transformer) (j : ℕ) (w n z : Bool) (f s d h : Float) → w ≡ isNone (t .method) → f ≡ reciprocal (weightAt t j)
+    → n ≡ normalizes (t .method) → s ≡ normalizedScale t j → d ≡ basicDrift t j → z ≡ centres (t .method) → h ≡ basicShift t j
+    → _≡_ {A = Inversion} (record { weighs = not w; factor = f; normalizes = n; scale = s; drift = d; centres = z; shift = h }) (inversionOf t j)
+unfolding inversionOf
+inversion-made t j w n z f s d h ew ef en es ed ez eh = λ i.
+    record { weighs = not (ew i); factor = ef i; normalizes = en i; scale = es i; drift = ed i; centres = ez i; shift = eh i }
+
+-- a turn over the blocks of a channel
+pub channel-more : (k : Inversion) (d j i : ℕ) (v w : Ranges) (q : Range) → w ≡ channelTo k d j i v → q ≡ forecastBy k i (rangeAt w (i * d + j))
+    → putAt w (i * d + j) q ≡ channelTo k d j (i + 1) v
+unfolding channelTo
+channel-more k d j i v w q so-far by =
+    ap (putAt w (i * d + j)) by
+    ∙ ap (λ (u : Ranges). putAt u (i * d + j) (forecastBy k i (rangeAt u (i * d + j)))) so-far
+    ∙ ap (λ (m : ℕ). channelTo k d j m v) (sym (add-one i))
+
+-- a turn over the channels
+pub channels-more : (t : Transformer) (n j : ℕ) (v w z : Ranges) (k : Inversion) → w ≡ channelsTo t n j v → k ≡ inversionOf t j → z ≡ channelTo k (t .d) j n w
+    → z ≡ channelsTo t n (j + 1) v
+unfolding channelsTo
+channels-more t n j v w z k so-far by turn =
+    turn
+    ∙ ap (λ (q : Inversion). channelTo q (t .d) j n w) by
+    ∙ ap (channelTo (inversionOf t j) (t .d) j n) so-far
+    ∙ ap (λ (m : ℕ). channelsTo t n m v) (sym (add-one j))
+
+-- the cascade where nothing refuses it
+pub cascade-taken : (base : List Float) (v w : Ranges) (row : ℕ) → Even v → unblocked (length base) (length (v .values)) ≡ false
+    → outcome row w ≡ cascadedAddOf binary32 base v → w ≡ cascadeTo binary32 base (length (v .values)) v
+unfolding cascadedAddOf unequal
+cascade-taken base v w row even blocks e =
+    ap (λ (o : Outcome). o .left) (rw (eq-eqb _ _ (sym (even .upper)), eq-eqb _ _ (sym (even .lower)), blocks) at e)
+
 -- the index is one of the first n blocks and of the first j channels
 abbrev Before : Transformer → ℕ → ℕ → ℕ → Type 0
 Before t n j k = (k % t .d < j) × (k / t .d < n)
@@ -125,7 +167,7 @@ module _ (d j m : ℕ) (some : 0 < d) (low : j < d) where
   place-only : (k : ℕ) → k % d ≡ j → k / d ≡ m → k ≡ m * d + j
   place-only k a b = let e = div-add-mod' k d in rw (b, a) at (sym e)
 
-  place-low : (n size : ℕ) → m < n → n * d ≤ size → m * d + j < size
+  pub place-low : (n size : ℕ) → m < n → n * d ≤ size → m * d + j < size
   place-low n size h r = omega (arith, mul-le-mul-right d h, suc-times)
     where
       suc-times : suc m * d ≡ m * d + d
@@ -171,3 +213,18 @@ module _ (t : Transformer) (v : Ranges) (even : Even v) (n : ℕ) (some : 0 < t 
       done-unique (atIndex t) v even (Before t n (t .d)) (λ k. k < n * t .d) (channelsTo t n (t .d) v) (forecastTo t (n * t .d) v)
       (channelsTo-done (t .d) (omega arith)) (forecastTo-done t v even (n * t .d) room)
       (λ k l. ((λ x. div-lt-iff-lt-mul some .0 (x .1)), λ x. (mod-lt k some, div-lt-iff-lt-mul some .1 x)))
+
+-- ---- the cascade after it
+
+pub blocked-still : (b x : Bool) (base n m : ℕ) → b ≡ x → n ≡ m → x && unblocked base m ≡ false → b && unblocked base n ≡ false
+blocked-still b x base n m p q h = rw (p, q) h
+
+pub forecast-done : (t : Transformer) (previous : List Float) (v w z : Ranges) (b : Bool) → b ≡ differences (t .method)
+    → w ≡ forecastTo t (length (v .values) / t .d * t .d) v → length (w .values) ≡ length (v .values)
+    → z ≡ cond b (cascadeTo binary32 previous (length (w .values)) w) w → z ≡ invertedForecast t previous v
+unfolding invertedForecast
+forecast-done t previous v w z b eb ew el ez =
+    ez
+    ∙ ap (λ (n : ℕ). cond b (cascadeTo binary32 previous n w) w) el
+    ∙ ap (λ (a : Bool). cond a (cascadeTo binary32 previous (length (v .values)) w) w) eb
+    ∙ ap (λ (u : Ranges). cond (differences (t .method)) (cascadeTo binary32 previous (length (v .values)) u) u) ew
