@@ -1,0 +1,4 @@
+-- Laws on plain numbers and floats, for the functions' proofs and for the crates above.
+pub mod WholeFloats
+pub mod DeviationLaws
+pub mod DeviationSamples
