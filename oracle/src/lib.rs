@@ -1,0 +1,7 @@
+//! The oracle: the unchanged Rust of docs/src behind document 01's rows, an independent history of the calls, and generators.
+#![allow(dead_code)]
+
+mod standins;
+use standins::{rcf, samplerplustree};
+
+include!(concat!(env!("OUT_DIR"), "/source.rs"));
