@@ -5,3 +5,10 @@ mod standins;
 use standins::{rcf, samplerplustree};
 
 include!(concat!(env!("OUT_DIR"), "/source.rs"));
+
+pub mod bits;
+pub mod calls;
+pub mod history;
+pub mod random;
+pub mod reference;
+pub mod snapshot;
