@@ -12,3 +12,4 @@ pub mod history;
 pub mod random;
 pub mod reference;
 pub mod snapshot;
+pub mod texts;
