@@ -2,10 +2,12 @@
 #![allow(dead_code)]
 
 mod standins;
-use standins::{rcf, samplerplustree};
+pub use standins::rcf;
+use standins::samplerplustree;
 
 include!(concat!(env!("OUT_DIR"), "/source.rs"));
 
+pub mod bench;
 pub mod bits;
 pub mod calls;
 pub mod history;
