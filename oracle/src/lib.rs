@@ -15,3 +15,4 @@ pub mod random;
 pub mod reference;
 pub mod snapshot;
 pub mod texts;
+pub mod vectors;

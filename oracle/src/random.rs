@@ -118,15 +118,16 @@ impl Random {
     }
 }
 
-/// How large settings may get.
+/// How large settings may get, or with `exact` how many channels and how long a shingle they have.
 #[derive(Clone, Copy)]
 pub struct Sizes {
     pub d: u64,
     pub k: u64,
     pub start: u64,
+    pub exact: bool,
 }
 
-pub const FULL: Sizes = Sizes { d: 16, k: 64, start: 12 };
+pub const FULL: Sizes = Sizes { d: 16, k: 64, start: 12, exact: false };
 
 /// Settings that no row refuses.
 pub fn settings(r: &mut Random, sizes: Sizes) -> Settings {
@@ -138,6 +139,7 @@ pub fn settings(r: &mut Random, sizes: Sizes) -> Settings {
         2..=6 => 1,
         _ => r.from(1, sizes.k.min(6)),
     };
+    let (d, k) = if sizes.exact { (sizes.d, sizes.k) } else { (d, k) };
     let start = if r.once_in(8) { r.from(0, sizes.start) } else { r.from(0, sizes.start.min(4)) };
     let stop = match r.below(4) {
         0 => start,
@@ -285,7 +287,7 @@ impl Calls {
         let expected = if r.once_in(2) { None } else { Some(self.forest_point(r)) };
         let grade = r.pick(&[0.0, 0.0, 0.5, 1.0, f32::NAN, -1.0, -0.0, f32::INFINITY, 1.0e-45]);
         let relative_index = match r.below(8) {
-            0 if self.faulty(r) => r.pick(&[1, -k as i32, i32::MAX, i32::MIN, 2]),
+            _ if self.faulty(r) => r.pick(&[1, -k as i32, i32::MAX, i32::MIN, 2]),
             0..=2 => 0,
             3 => (1 - k) as i32,
             _ => -(r.below(k as u64) as i32),
@@ -328,7 +330,7 @@ impl Calls {
         let numbers = blocks * (s.d * s.k) as usize;
         let mut outs = [numbers, numbers, numbers, blocks, blocks, blocks];
         for o in outs.iter_mut() {
-            if r.once_in(8) {
+            if r.once_in(3) {
                 *o = self.out(r, *o);
             }
         }

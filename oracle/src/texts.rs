@@ -1,5 +1,5 @@
 //! Texts of document 01's form that need not be reachable by calls, and damaged ones with the line at which each is bad.
-use crate::calls::{COUNT_LIMIT, NORMALIZE, SEEN_LIMIT};
+use crate::calls::{COUNT_LIMIT, NONE, NORMALIZE, SEEN_LIMIT};
 use crate::random::{settings, Random, Sizes};
 use crate::snapshot::Snapshot;
 
@@ -50,6 +50,25 @@ pub fn snapshot(r: &mut Random, sizes: Sizes) -> Snapshot {
         initial: initial_times.into_iter().map(|t| (t, r.list32(d, Random::value32))).collect(),
         settings: s,
     }
+}
+
+/// As `snapshot`, with initial values that a drain would feed, and a count near its limit.
+pub fn undrained(r: &mut Random, sizes: Sizes) -> Snapshot {
+    let mut w = snapshot(r, sizes);
+    let s = &mut w.settings;
+    if s.method == NONE {
+        s.weights.iter_mut().for_each(|x| *x = 2.0);
+    }
+    s.method = r.from(4, 5) as u8;
+    s.start = r.from(1, 5);
+    s.stop = s.stop.max(s.start);
+    w.values_seen = s.start;
+    w.internal = 0;
+    w.times.iter_mut().for_each(|t| *t = 0);
+    w.count = COUNT_LIMIT - r.below(8);
+    let (d, times) = (s.d as usize, rising_times(r, s.start as usize));
+    w.initial = times.into_iter().map(|t| (t, r.list32(d, Random::value32))).collect();
+    w
 }
 
 /// The lines of a text, each with its LF.
@@ -130,7 +149,7 @@ pub fn damaged(r: &mut Random, good: &Snapshot) -> (Vec<u8>, usize) {
         9 => {
             let again = all[at].clone();
             all.insert(at, again);
-            let bad = second_copy(good, at, head, last);
+            let bad = second_copy(at, head, last);
             (all.concat(), bad)
         }
         // settings and counters that a row or the form refuses
@@ -158,7 +177,7 @@ pub fn damaged(r: &mut Random, good: &Snapshot) -> (Vec<u8>, usize) {
 }
 
 /// The bad line where line `at` (from 0) stands twice.
-fn second_copy(good: &Snapshot, at: usize, head: usize, last: usize) -> usize {
+fn second_copy(at: usize, head: usize, last: usize) -> usize {
     let first_statistic = 3;
     let after_statistics = head - 3;
     if (first_statistic..after_statistics).contains(&at) {
@@ -169,7 +188,6 @@ fn second_copy(good: &Snapshot, at: usize, head: usize, last: usize) -> usize {
         // One `buf` line too many: the line behind the last that may stand.
         return last + 1;
     }
-    let _ = good;
     at + 2
 }
 

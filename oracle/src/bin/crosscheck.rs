@@ -1,8 +1,10 @@
 //! Compares the Rust behind document 01's rows with the history sheet, on random lists of calls: refusals and text at every place.
 //! Usage: crosscheck SEED LISTS
-use oracle::calls::{Answer, Call, Settings, NORMALIZE};
+use oracle::calls::{Answer, Call, Settings, DIFFERENCE, NORMALIZE, NORMALIZE_DIFFERENCE};
+use oracle::common::rangevector::RangeVector;
 use oracle::history::History;
 use oracle::random::{bad_settings, settings, Calls, Random, FULL};
+use oracle::rcf::RCFLarge;
 use oracle::reference::{rust_build, Reference};
 use oracle::snapshot::Snapshot;
 
@@ -50,6 +52,26 @@ fn check_build(s: &Settings, met: &mut Met) {
     }
 }
 
+/// Where a row is the Rust's own check, the Rust must refuse too: a point by rows 10 and 11, a broken forecast by row 16.
+fn rust_refuses(reference: &Reference, call: &Call) -> bool {
+    let s = &reference.settings;
+    match call {
+        Call::Point { input, timestamp, .. } => {
+            let short_or_infinite = input.len() as u64 != s.d || !input.iter().all(|x| x.is_finite());
+            let mut rust = reference.rust.clone();
+            !short_or_infinite || rust.shingled_point(None as Option<&RCFLarge<u64, u64>>, input, *timestamp).is_err()
+        }
+        Call::TurnBack { values, upper, lower, .. } => {
+            let equal = values.len() == upper.len() && upper.len() == lower.len();
+            let broken = !s.timed() && equal && values.len() % s.d as usize != 0;
+            let cascades = s.method == DIFFERENCE || s.method == NORMALIZE_DIFFERENCE;
+            let range = RangeVector { values: values.clone(), upper: upper.clone(), lower: lower.clone() };
+            !(broken && cascades) || reference.rust.invert_extrapolation(range).is_err()
+        }
+        _ => true,
+    }
+}
+
 fn difference(met: &mut Met, list: u64, place: usize, what: &str, settings: &Settings, calls: &[Call]) {
     met.differences += 1;
     if met.differences <= 5 {
@@ -84,6 +106,10 @@ fn run_list(seed: u64, list: u64, met: &mut Met) {
         let waiting = !reference.rust.initial().0.is_empty();
         let answer = reference.call(&call);
         let row = history.call(&call);
+        if row != 0 && !rust_refuses(&reference, &call) {
+            difference(met, list, place, &format!("row {row}, which the Rust does not refuse"), &s, &calls);
+            return;
+        }
         met.rows[row as usize] += 1;
         if answer.row() != row {
             difference(met, list, place, &format!("refusal {} and {row}", answer.row()), &s, &calls);

@@ -4,7 +4,7 @@ use oracle::calls::{Answer, Call};
 use oracle::random::{settings, Calls, Random, FULL};
 use oracle::reference::Reference;
 use oracle::snapshot::{read, Snapshot};
-use oracle::texts::{damaged, lines, scratched, snapshot};
+use oracle::texts::{damaged, lines, scratched, snapshot, undrained};
 
 fn text(reference: &Reference) -> String {
     Snapshot::of(reference).text()
@@ -120,7 +120,11 @@ fn main() {
     for list in 0..lists {
         let mut r = Random::new(seed.wrapping_mul(0x1_0000_0003).wrapping_add(list));
         // Every fifth list starts from a text that calls need not reach.
-        let first = if list % 5 == 4 { snapshot(&mut r, FULL).restore() } else { Reference::build(&settings(&mut r, FULL)).unwrap() };
+        let first = match list % 10 {
+            4 => snapshot(&mut r, FULL).restore(),
+            9 => undrained(&mut r, FULL).restore(),
+            _ => Reference::build(&settings(&mut r, FULL)).unwrap(),
+        };
         let length = r.from(0, 18);
         let (calls, answers, all) = run(&mut r, first, length);
         answers.iter().for_each(|a| rows[a.row() as usize] += 1);
