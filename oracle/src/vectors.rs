@@ -154,7 +154,7 @@ fn deviation(r: &mut Random, lines: u64) -> String {
                 deviation_line(Line::new("k").whole(c), row18(c), &s, &mut out);
             }
             5 => {
-                let d = r.decay();
+                let d = discount(r);
                 s.set_discount(d);
                 deviation_line(Line::new("d").double(d), 0, &s, &mut out);
             }
@@ -270,11 +270,7 @@ fn range_create<T: Width>(r: &mut Random, out: &mut String) {
             }
         }
     }
-    let mut outs = lists.each_ref().map(Vec::len);
-    if r.once_in(6) {
-        let which = r.below(3) as usize;
-        outs[which] = if r.once_in(2) { outs[which].saturating_sub(1) } else { outs[which] + 2 };
-    }
+    let outs = three_lent(r, lists[0].len());
     let made = RangeVector::create(&lists[0], &lists[1], &lists[2]);
     let row = match &made {
         Err(_) if lists.iter().any(|l| l.len() != lists[0].len()) => 16,
@@ -282,8 +278,32 @@ fn range_create<T: Width>(r: &mut Random, out: &mut String) {
         Ok(_) if outs.iter().any(|&o| o < lists[0].len()) => 20,
         Ok(_) => 0,
     };
-    let line = given(Line::new("c"), &lists).whole(outs[0] as u64).whole(outs[1] as u64).whole(outs[2] as u64);
-    line.whole(row as u64).end(out);
+    let line = outs.iter().fold(given(Line::new("c"), &lists), |line, &o| line.whole(o as u64));
+    finish(line, row, made.ok().filter(|_| row == 0), out);
+}
+
+/// Lengths of three lent lists that need `n`.
+fn three_lent(r: &mut Random, n: usize) -> [usize; 3] {
+    let mut outs = [n + r.below(2) as usize; 3];
+    if n > 0 && r.once_in(4) {
+        outs[r.below(3) as usize] = r.pick(&[0, n - 1]);
+    }
+    outs
+}
+
+/// `new` (zeros) and `from` (one list as values, upper and lower).
+fn range_filled<T: Width>(r: &mut Random, zeros: impl Fn(usize) -> RangeVector<T>, out: &mut String) {
+    let n = r.from(0, 9) as usize;
+    let outs = three_lent(r, n);
+    let row = if outs.iter().any(|&o| o < n) { 20 } else { 0 };
+    let (line, made) = if r.once_in(2) {
+        (Line::new("z").whole(n as u64), zeros(n))
+    } else {
+        let list: Vec<T> = (0..n).map(|_| T::random(r)).collect();
+        (Line::new("f").list(&list), RangeVector::from(list))
+    };
+    let line = outs.iter().fold(line, |line, &o| line.whole(o as u64));
+    finish(line, row, (row == 0).then_some(made), out);
 }
 
 /// `shift` or `scale` at one index.
@@ -330,10 +350,11 @@ fn range_cascade<T: Width>(r: &mut Random, out: &mut String) {
     finish(given(Line::new("a"), &lists).list(&base), row, answer, out);
 }
 
-fn range<T: Width>(r: &mut Random, lines: u64) -> String {
+fn range<T: Width>(r: &mut Random, lines: u64, zeros: fn(usize) -> RangeVector<T>) -> String {
     let mut out = String::new();
     for _ in 0..lines {
-        match r.below(10) {
+        match r.below(11) {
+            10 => range_filled(r, zeros, &mut out),
             0..=2 => range_create::<T>(r, &mut out),
             3 | 4 => range_at::<T>(r, "s", RangeVector::shift, &mut out),
             5 | 6 => range_at::<T>(r, "m", RangeVector::scale, &mut out),
@@ -687,8 +708,8 @@ pub fn file(kind: &str, seed: u64, count: u64) -> Option<String> {
     let r = &mut Random::new(seed);
     Some(match kind {
         "deviation" => deviation(r, count),
-        "range32" => range::<f32>(r, count),
-        "range64" => range::<f64>(r, count),
+        "range32" => range(r, count, RangeVector::<f32>::new),
+        "range64" => range(r, count, RangeVector::<f64>::new),
         "transformer" => transformer(r, count),
         "preprocessor" => preprocessor(r, count),
         "snapshot" => snapshot(r, count),
