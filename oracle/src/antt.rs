@@ -1,4 +1,6 @@
 //! Short lists of calls as theorems of the proof language: what the definitions compute must be what the Rust gave.
+use std::path::Path;
+
 use crate::bits::{bits32, bits64};
 use crate::calls::{Answer, Call, Learn, Mode, Settings};
 use crate::random::{settings, Calls, Random, Sizes};
@@ -149,9 +151,64 @@ fn theorems(n: u64, s: &Settings, calls: &[Call], answers: &[Answer], text: &str
     )
 }
 
-/// `count` short lists as theorems, to stand behind a head that brings in the definitions and says what to unfold.
-pub fn file(seed: u64, count: u64) -> String {
-    let mut out = String::new();
+const USES: &str = "\
+-- Lists of calls whose texts and answers the unchanged Rust gave (oracle: traces SEED COUNT antt), computed by the definitions.
+use Prim.Native.Nat.{ℕ}
+use mathlib.Core.Path.{_≡_, refl}
+use mathlib.Core.Bool.{true, false}
+use mathlib.Core.List.{List, [], _∷_}
+use mathlib.Core.Option.{none, some}
+use lib.IntN.{pos, negsuc}
+use lib.ListN.{replicate}
+use lib.Ieee.{Float, nan, binary32, binary64, ofBits}
+use lib.Ieee as Ieee
+use Rattle.numeric.specs.Narrow as Narrow
+use Rattle.numeric.specs.Root as Root
+use Rattle.common.specs.Deviation as Deviation
+use Rattle.common.specs.Lent as Lent
+use Rattle.common.specs.RangeVector as RangeVector
+use Rattle.common.specs.RangeVector.{ranges}
+use Rattle.trcf.specs.Lists as Lists
+use Rattle.trcf.specs.Settings as Settings
+use Rattle.trcf.specs.Calls as Calls
+use Rattle.trcf.specs.Transformer as Transformer
+use Rattle.trcf.specs.Preprocessor as Preprocessor
+use Rattle.trcf.specs.Settings.{Settings}
+use Rattle.trcf.specs.Calls.{Learn, Forecast, Call, shingledPoint, postProcess, drain, transform, invertExtrapolation, scale, shift, status}
+use Rattle.trcf.specs.Preprocessor.{fresh, run, answers, Answer, refused, absent, done, wrote, learnt, turned, told, Anomaly, Learned, Status}
+use Rattle.trcf.specs.declared.types.TransformMethod.the-variants.{NONE, WEIGHTED, DIFFERENCE, «SUBTRACT_MA», NORMALIZE, «NORMALIZE_DIFFERENCE»}
+use Rattle.trcf.specs.declared.types.ForestMode.the-variants.{STANDARD, «TIME_AUGMENTED»}
+use Rattle.snapshot.specs.Text as Text
+use Rattle.snapshot.specs.Text.{render}
+use Rattle.restart.specs.History as History
+use Rattle.restart.specs.History.{historyText}
+";
+
+/// The specs whose definitions the theorems compute with.
+const SPECS: [&str; 12] = [
+    "numeric/specs/Narrow", "numeric/specs/Root", "common/specs/Deviation", "common/specs/Lent", "common/specs/RangeVector", "trcf/specs/Lists",
+    "trcf/specs/Settings", "trcf/specs/Calls", "trcf/specs/Transformer", "trcf/specs/Preprocessor", "snapshot/specs/Text", "restart/specs/History",
+];
+
+/// The float operations of the proof library that must be unfolded.
+const IEEE: &str = "span climb size odd units round neg sum add sub mul div lt eq le ne ofInt ofFields ofBits toBits";
+
+/// Brings in the definitions, and names all that are to be unfolded, as the repository's specs have them.
+fn head(crates: &Path) -> String {
+    let mut names: Vec<String> = IEEE.split(' ').map(|n| format!("Ieee.{n}")).collect();
+    for spec in SPECS {
+        let path = crates.join(spec).with_extension("antt");
+        let text = std::fs::read_to_string(&path).unwrap_or_else(|e| panic!("{}: {e}", path.display()));
+        let module = spec.rsplit('/').next().unwrap();
+        let marked = text.lines().filter_map(|l| l.trim_start().strip_prefix("unfoldable pub "));
+        names.extend(marked.map(|l| format!("{module}.{}", l.split(' ').next().unwrap())));
+    }
+    format!("{USES}\n-- to unfold this is to unfold whatever its line names\ntrace·all : Unit {{0}}\nunfolding {}\ntrace·all = tt\n", names.join(" "))
+}
+
+/// `count` short lists as theorems over the definitions of the repository whose `crates` folder is given.
+pub fn file(seed: u64, count: u64, crates: &Path) -> String {
+    let mut out = head(crates);
     for n in 0..count {
         let mut r = Random::new(seed.wrapping_mul(0x1_0000_0007).wrapping_add(n));
         let s = settings(&mut r, Sizes { d: 2, k: 3, start: 3, exact: false });
