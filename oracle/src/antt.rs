@@ -10,15 +10,27 @@ use crate::snapshot::Snapshot;
 const METHODS: [&str; 6] = ["NONE", "WEIGHTED", "DIFFERENCE", "«SUBTRACT_MA»", "NORMALIZE", "«NORMALIZE_DIFFERENCE»"];
 
 fn mode(s: &Settings) -> &'static str {
-    if s.mode == Mode::Standard { "STANDARD" } else { "«TIME_AUGMENTED»" }
+    if s.mode == Mode::Standard {
+        "STANDARD"
+    } else {
+        "«TIME_AUGMENTED»"
+    }
 }
 
 fn single(x: f32) -> String {
-    if x.is_nan() { "nan".to_string() } else { format!("(ofBits binary32 {:#x})", bits32(x)) }
+    if x.is_nan() {
+        "nan".to_string()
+    } else {
+        format!("(ofBits binary32 {:#x})", bits32(x))
+    }
 }
 
 fn double(x: f64) -> String {
-    if x.is_nan() { "nan".to_string() } else { format!("(ofBits binary64 {:#x})", bits64(x)) }
+    if x.is_nan() {
+        "nan".to_string()
+    } else {
+        format!("(ofBits binary64 {:#x})", bits64(x))
+    }
 }
 
 fn list(items: impl Iterator<Item = String>) -> String {
@@ -51,13 +63,25 @@ fn option(l: &Option<Vec<f32>>) -> String {
 }
 
 fn integer(n: i32) -> String {
-    if n >= 0 { format!("(pos {n})") } else { format!("(negsuc {})", -(n as i64) - 1) }
+    if n >= 0 {
+        format!("(pos {n})")
+    } else {
+        format!("(negsuc {})", -(n as i64) - 1)
+    }
 }
 
 fn settings_term(s: &Settings) -> String {
     format!(
         "record {{ mode = {}; method = {}; d = {}; k = {}; start = {}; stop = {}; decay = {}; weightTime = {}; weights = {} }}",
-        mode(s), METHODS[s.method as usize], s.d, s.k, s.start, s.stop, double(s.decay), single(s.weight_time), singles(&s.weights)
+        mode(s),
+        METHODS[s.method as usize],
+        s.d,
+        s.k,
+        s.start,
+        s.stop,
+        double(s.decay),
+        single(s.weight_time),
+        singles(&s.weights)
     )
 }
 
@@ -81,7 +105,11 @@ fn call_term(call: &Call) -> String {
         Call::Transform { input, timestamp, out } => format!("transform {} {timestamp} {}", singles(input), lent(*out)),
         Call::TurnBack { values, upper, lower, outs } => format!(
             "invertExtrapolation (record {{ forecast = ranges {} {} {}; valuesOut = {}; timesOut = {} }})",
-            singles(values), singles(upper), singles(lower), lent_ranges(&outs[..3]), lent_ranges(&outs[3..])
+            singles(values),
+            singles(upper),
+            singles(lower),
+            lent_ranges(&outs[..3]),
+            lent_ranges(&outs[3..])
         ),
         Call::Scale { out } => format!("scale {}", lent(*out)),
         Call::Shift { out } => format!("shift {}", lent(*out)),
@@ -186,8 +214,18 @@ use Rattle.restart.specs.History.{historyText}
 
 /// The specs whose definitions the theorems compute with.
 const SPECS: [&str; 12] = [
-    "numeric/specs/Narrow", "numeric/specs/Root", "common/specs/Deviation", "common/specs/Lent", "common/specs/RangeVector", "trcf/specs/Lists",
-    "trcf/specs/Settings", "trcf/specs/Calls", "trcf/specs/Transformer", "trcf/specs/Preprocessor", "snapshot/specs/Text", "restart/specs/History",
+    "numeric/specs/Narrow",
+    "numeric/specs/Root",
+    "common/specs/Deviation",
+    "common/specs/Lent",
+    "common/specs/RangeVector",
+    "trcf/specs/Lists",
+    "trcf/specs/Settings",
+    "trcf/specs/Calls",
+    "trcf/specs/Transformer",
+    "trcf/specs/Preprocessor",
+    "snapshot/specs/Text",
+    "restart/specs/History",
 ];
 
 /// The float operations of the proof library that must be unfolded.

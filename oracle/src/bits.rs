@@ -1,11 +1,19 @@
 //! Floats as bits, every not-a-number as the one canonical pattern.
 
 pub fn bits32(x: f32) -> u32 {
-    if x.is_nan() { 0x7fc0_0000 } else { x.to_bits() }
+    if x.is_nan() {
+        0x7fc0_0000
+    } else {
+        x.to_bits()
+    }
 }
 
 pub fn bits64(x: f64) -> u64 {
-    if x.is_nan() { 0x7ff8_0000_0000_0000 } else { x.to_bits() }
+    if x.is_nan() {
+        0x7ff8_0000_0000_0000
+    } else {
+        x.to_bits()
+    }
 }
 
 pub fn hex32(x: f32) -> String {

@@ -75,15 +75,34 @@ impl Settings {
 #[derive(Clone, Debug)]
 pub enum Call {
     /// `shingled_point`; `out` is the length of the lent output.
-    Point { input: Vec<f32>, timestamp: u64, out: usize },
+    Point {
+        input: Vec<f32>,
+        timestamp: u64,
+        out: usize,
+    },
     Learn(Learn),
     Drain,
-    Transform { input: Vec<f32>, timestamp: u64, out: usize },
+    Transform {
+        input: Vec<f32>,
+        timestamp: u64,
+        out: usize,
+    },
     /// `invert_extrapolation`; the outputs (values, upper, lower of the numbers, then of the times) are lent in TIME_AUGMENTED only.
-    TurnBack { values: Vec<f32>, upper: Vec<f32>, lower: Vec<f32>, outs: [usize; 6] },
-    Scale { out: usize },
-    Shift { out: usize },
-    Status { out: usize },
+    TurnBack {
+        values: Vec<f32>,
+        upper: Vec<f32>,
+        lower: Vec<f32>,
+        outs: [usize; 6],
+    },
+    Scale {
+        out: usize,
+    },
+    Shift {
+        out: usize,
+    },
+    Status {
+        out: usize,
+    },
 }
 
 /// `post_process`: the fields of the descriptor that it reads, and the lengths of its three outputs.
@@ -107,10 +126,25 @@ pub enum Answer {
     /// A point while waiting.
     None,
     Done,
-    Learned { deviations: Option<Vec<u32>>, anomaly: Option<Anomaly> },
+    Learned {
+        deviations: Option<Vec<u32>>,
+        anomaly: Option<Anomaly>,
+    },
     Numbers(Vec<u32>),
-    Ranges { numbers: [Vec<u32>; 3], times: Option<[Vec<u64>; 3]> },
-    Status { values_seen: u64, internal: u64, ready: bool, d: u64, k: u64, dimension: u64, start: u64, deviations: Vec<u32> },
+    Ranges {
+        numbers: [Vec<u32>; 3],
+        times: Option<[Vec<u64>; 3]>,
+    },
+    Status {
+        values_seen: u64,
+        internal: u64,
+        ready: bool,
+        d: u64,
+        k: u64,
+        dimension: u64,
+        start: u64,
+        deviations: Vec<u32>,
+    },
 }
 
 #[derive(Clone, Debug, PartialEq)]

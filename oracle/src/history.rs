@@ -46,7 +46,11 @@ impl Statistic {
     }
 
     fn mean(&self) -> f64 {
-        if self.weight <= 0.0 { 0.0 } else { self.sum / self.weight }
+        if self.weight <= 0.0 {
+            0.0
+        } else {
+            self.sum / self.weight
+        }
     }
 
     fn deviation(&self) -> f64 {
@@ -55,7 +59,11 @@ impl Statistic {
         }
         let mean = self.mean();
         let variance = self.squares / self.weight - mean * mean;
-        if variance > 0.0 { variance.sqrt() } else { 0.0 }
+        if variance > 0.0 {
+            variance.sqrt()
+        } else {
+            0.0
+        }
     }
 }
 
@@ -127,7 +135,11 @@ impl History {
 
     /// "W's without F wait. An L before F strands them": both are the `buf` lines.
     fn undrained(&self) -> Vec<(&[f32], u64)> {
-        if self.drained() { Vec::new() } else { self.initial() }
+        if self.drained() {
+            Vec::new()
+        } else {
+            self.initial()
+        }
     }
 
     /// "The watch waits while the method is NORMALIZE or NORMALIZE_DIFFERENCE and values_seen < start."

@@ -320,11 +320,19 @@ impl Calls {
         let values = r.list32(n, Random::wild32);
         let tame = r.once_in(2);
         let mut bound = |sign: f32| -> Vec<f32> {
-            if tame { values.iter().map(|v| v + sign * r.from(0, 5) as f32).collect() } else { r.list32(n, Random::wild32) }
+            if tame {
+                values.iter().map(|v| v + sign * r.from(0, 5) as f32).collect()
+            } else {
+                r.list32(n, Random::wild32)
+            }
         };
         let (mut upper, mut lower) = (bound(1.0), bound(-1.0));
         if self.faulty(r) {
-            if r.once_in(2) { upper.push(1.0) } else { lower.truncate(n.saturating_sub(1)) }
+            if r.once_in(2) {
+                upper.push(1.0)
+            } else {
+                lower.truncate(n.saturating_sub(1))
+            }
         }
         let blocks = n / dimension;
         let numbers = blocks * (s.d * s.k) as usize;

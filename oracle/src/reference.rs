@@ -97,7 +97,11 @@ impl Reference {
     /// Row 18 of a drain that feeds the initial values.
     fn row_of_feeding(&self) -> u8 {
         let start = self.settings.start;
-        if self.count() + start > COUNT_LIMIT || self.internal() + start > SEEN_LIMIT { 18 } else { 0 }
+        if self.count() + start > COUNT_LIMIT || self.internal() + start > SEEN_LIMIT {
+            18
+        } else {
+            0
+        }
     }
 
     fn row_of_point(&self, input: &[f32], out: usize) -> u8 {
@@ -179,7 +183,11 @@ impl Reference {
         } else {
             let cascades = s.method == DIFFERENCE || s.method == NORMALIZE_DIFFERENCE;
             let whole = !values.is_empty() && values.len() % s.d as usize == 0;
-            if cascades && !whole { 16 } else { 0 }
+            if cascades && !whole {
+                16
+            } else {
+                0
+            }
         }
     }
 
@@ -191,7 +199,11 @@ impl Reference {
             Call::Learn(c) => self.row_of_learn(c),
             Call::Drain => self.row_of_drain(),
             Call::Transform { input, out, .. } => {
-                if input.len() as u64 != self.settings.d { 10 } else { short(*out) }
+                if input.len() as u64 != self.settings.d {
+                    10
+                } else {
+                    short(*out)
+                }
             }
             Call::TurnBack { values, upper, lower, outs } => self.row_of_turn_back(values, upper, lower, outs),
             Call::Scale { out } | Call::Shift { out } | Call::Status { out } => short(*out),

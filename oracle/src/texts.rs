@@ -88,7 +88,8 @@ fn join(fields: &[Vec<u8>]) -> Vec<u8> {
 
 /// A field that is bad in every place.
 fn bad_field(r: &mut Random) -> &'static [u8] {
-    let never: [&[u8]; 12] = [b"", b"zz", b"01", b"-1", b"+1", b" 1", b"7FC00000", b"0x000000", b"ffffffff", b"7fc00001", b"18446744073709551616", b"fff8000000000000"];
+    let never: [&[u8]; 12] =
+        [b"", b"zz", b"01", b"-1", b"+1", b" 1", b"7FC00000", b"0x000000", b"ffffffff", b"7fc00001", b"18446744073709551616", b"fff8000000000000"];
     r.pick(&never)
 }
 

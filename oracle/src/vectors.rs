@@ -103,7 +103,11 @@ const BAD_DISCOUNTS: [f64; 8] = [1.0, -0.001, -5.0e-324, f64::NAN, f64::INFINITY
 const BAD_COUNTS: [u64; 5] = [COUNT_LIMIT + 1, COUNT_LIMIT + 2, 3_000_000_000, u32::MAX as u64, COUNT_LIMIT + 3];
 
 fn discount(r: &mut Random) -> f64 {
-    if r.once_in(6) { r.pick(&BAD_DISCOUNTS) } else { r.decay() }
+    if r.once_in(6) {
+        r.pick(&BAD_DISCOUNTS)
+    } else {
+        r.decay()
+    }
 }
 
 fn count(r: &mut Random) -> u64 {
@@ -116,11 +120,19 @@ fn count(r: &mut Random) -> u64 {
 }
 
 fn row6(discount: f64) -> u8 {
-    if discount >= 0.0 && discount < 1.0 { 0 } else { 6 }
+    if discount >= 0.0 && discount < 1.0 {
+        0
+    } else {
+        6
+    }
 }
 
 fn row18(count: u64) -> u8 {
-    if count > COUNT_LIMIT { 18 } else { 0 }
+    if count > COUNT_LIMIT {
+        18
+    } else {
+        0
+    }
 }
 
 fn deviation(r: &mut Random, lines: u64) -> String {
@@ -388,7 +400,11 @@ impl Transformer {
     }
 
     fn row10(&self, lists: &[Vec<f32>]) -> u8 {
-        if lists.iter().any(|l| l.len() != self.d) { 10 } else { 0 }
+        if lists.iter().any(|l| l.len() != self.d) {
+            10
+        } else {
+            0
+        }
     }
 }
 
@@ -447,13 +463,21 @@ fn transformer_forecast(t: &Transformer, r: &mut Random, out: &mut String) {
 }
 
 fn lent(r: &mut Random, n: usize) -> usize {
-    if r.once_in(10) { r.pick(&[0, n - 1]) } else { n + if r.once_in(3) { r.below(4) as usize } else { 0 } }
+    if r.once_in(10) {
+        r.pick(&[0, n - 1])
+    } else {
+        n + if r.once_in(3) { r.below(4) as usize } else { 0 }
+    }
 }
 
 fn transformer_line(t: &mut Transformer, r: &mut Random, out: &mut String) {
     let listed = |line: Line, row: u8, answer: Vec<f32>, out: &mut String| {
         let line = line.whole(row as u64);
-        if row == 0 { line.list(&answer).end(out) } else { line.end(out) }
+        if row == 0 {
+            line.list(&answer).end(out)
+        } else {
+            line.end(out)
+        }
     };
     match r.below(24) {
         0..=9 => {
@@ -692,7 +716,9 @@ fn bench(r: &mut Random, count: u64) -> String {
             10..=22 => format!("l\t{t}{values}"),
             23 | 24 => "d".to_string(),
             25..=27 => "s".to_string(),
-            _ => r.pick(&["", "x", "d\t", "s\t1", "p", "l\t", "P\t1", "p\t01\t3f800000", "l\t1\t7fc00001", "p\t18446744073709551616", "d ", "s\r"]).to_string(),
+            _ => r
+                .pick(&["", "x", "d\t", "s\t1", "p", "l\t", "P\t1", "p\t01\t3f800000", "l\t1\t7fc00001", "p\t18446744073709551616", "d ", "s\r"])
+                .to_string(),
         };
         out += &line;
         out += "\n";

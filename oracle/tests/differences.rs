@@ -138,12 +138,7 @@ fn row_18_panics() {
 #[test]
 fn an_old_anomaly_stays() {
     let mut p = built(Mode::Standard, NONE, 1, 1, 0, 9);
-    let mut result = Descriptor {
-        rcf_point: Some(vec![0.0]),
-        anomaly_grade: 1.0,
-        expected_rcf_point: Some(vec![0.0]),
-        ..Default::default()
-    };
+    let mut result = Descriptor { rcf_point: Some(vec![0.0]), anomaly_grade: 1.0, expected_rcf_point: Some(vec![0.0]), ..Default::default() };
     p.post_process(&mut result, &[1.0], 1, &Descriptor::default()).unwrap();
     assert_eq!(result.last_anomaly.as_ref().unwrap().likelihood_of_values, [1.0]);
     result.anomaly_grade = 0.0;

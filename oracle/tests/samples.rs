@@ -49,7 +49,17 @@ fn weighted() {
 
 fn learn(value: f32, timestamp: u64) -> Call {
     let (point, expected) = (None, None);
-    Call::Learn(Learn { input: vec![value], timestamp, point, grade: 0.0, relative_index: 0, expected, deviations_out: 9, past_out: 9, expected_out: 9 })
+    Call::Learn(Learn {
+        input: vec![value],
+        timestamp,
+        point,
+        grade: 0.0,
+        relative_index: 0,
+        expected,
+        deviations_out: 9,
+        past_out: 9,
+        expected_out: 9,
+    })
 }
 
 #[test]
