@@ -238,8 +238,12 @@ fn head(crates: &Path) -> String {
         let path = crates.join(spec).with_extension("antt");
         let text = std::fs::read_to_string(&path).unwrap_or_else(|e| panic!("{}: {e}", path.display()));
         let module = spec.rsplit('/').next().unwrap();
-        let marked = text.lines().filter_map(|l| l.trim_start().strip_prefix("unfoldable pub "));
-        names.extend(marked.map(|l| format!("{module}.{}", l.split(' ').next().unwrap())));
+        for line in text.lines().filter_map(|l| l.trim_start().strip_prefix("unfoldable pub ")) {
+            // A definition, and not a `use` that hands one on.
+            if let Some((name, _)) = line.split_once(" : ") {
+                names.push(format!("{module}.{name}"));
+            }
+        }
     }
     format!("{USES}\n-- to unfold this is to unfold whatever its line names\ntrace·all : Unit {{0}}\nunfolding {}\ntrace·all = tt\n", names.join(" "))
 }
