@@ -5,7 +5,8 @@ use crate::bits::{bits32, bits64};
 use crate::calls::{Answer, Call, Learn, Mode, Settings};
 use crate::random::{settings, Calls, Random, Sizes};
 use crate::reference::Reference;
-use crate::snapshot::Snapshot;
+use crate::snapshot::{read, Snapshot};
+use crate::texts;
 
 const METHODS: [&str; 6] = ["NONE", "WEIGHTED", "DIFFERENCE", "«SUBTRACT_MA»", "NORMALIZE", "«NORMALIZE_DIFFERENCE»"];
 
@@ -229,12 +230,12 @@ const SPECS: [&str; 12] = [
 ];
 
 /// The float operations of the proof library that must be unfolded.
-const IEEE: &str = "span climb size odd units round neg sum add sub mul div lt eq le ne ofInt ofFields ofBits toBits";
+const IEEE: &str = "span climb size odd units round neg sum add sub mul div lt eq le ne ofInt fits ofFields ofBits toBits";
 
 /// Brings in the definitions, and names all that are to be unfolded, as the repository's specs have them.
-fn head(crates: &Path) -> String {
+fn head(crates: &Path, uses: &str, more: &[&str]) -> String {
     let mut names: Vec<String> = IEEE.split(' ').map(|n| format!("Ieee.{n}")).collect();
-    for spec in SPECS {
+    for spec in SPECS.iter().chain(more) {
         let path = crates.join(spec).with_extension("antt");
         let text = std::fs::read_to_string(&path).unwrap_or_else(|e| panic!("{}: {e}", path.display()));
         let module = spec.rsplit('/').next().unwrap();
@@ -245,12 +246,54 @@ fn head(crates: &Path) -> String {
             }
         }
     }
-    format!("{USES}\n-- to unfold this is to unfold whatever its line names\ntrace·all : Unit {{0}}\nunfolding {}\ntrace·all = tt\n", names.join(" "))
+    format!(
+        "{USES}{uses}\n-- to unfold this is to unfold whatever its line names\ntrace·all : Unit {{0}}\nunfolding {}\ntrace·all = tt\n",
+        names.join(" ")
+    )
+}
+
+const READ_USES: &str = "\
+use Rattle.snapshot.specs.Read as Read
+use Rattle.snapshot.specs.Read.{Read, taken, bad, read}
+
+-- the first bad line, 0 for none
+abbrev lineOf : Read → ℕ
+lineOf (taken w) = 0
+lineOf (bad n) = n
+
+-- what was read, written again
+abbrev again : Read → List ℕ
+again (taken w) = render w
+again (bad n) = []
+";
+
+/// `count` texts as theorems over the reader's definition: the first bad line; a text of the form is written again as it was.
+pub fn read_file(seed: u64, count: u64, crates: &Path) -> String {
+    let mut out = head(crates, READ_USES, &["snapshot/specs/Read", "snapshot/specs/Form"]);
+    for n in 0..count {
+        let mut r = Random::new(seed.wrapping_mul(0x1_0000_0009).wrapping_add(n));
+        let good = texts::snapshot(&mut r, Sizes { d: 2, k: 2, start: 3, exact: false });
+        let (text, line) = match n % 4 {
+            0 => (good.text().into_bytes(), 0),
+            1 => {
+                let text = texts::scratched(&mut r, &good);
+                let line = read(&text).err().unwrap_or(0);
+                (text, line)
+            }
+            _ => texts::damaged(&mut r, &good),
+        };
+        let bytes = list(text.iter().map(|b| b.to_string()));
+        out += &format!("\nabbrev t{n} : List ℕ\nt{n} = {bytes}\n\nline{n} : lineOf (read t{n}) ≡ {line}\nunfolding trace·all\nline{n} = refl\n");
+        if line == 0 {
+            out += &format!("\nagain{n} : again (read t{n}) ≡ t{n}\nunfolding trace·all\nagain{n} = refl\n");
+        }
+    }
+    out
 }
 
 /// `count` short lists as theorems over the definitions of the repository whose `crates` folder is given.
 pub fn file(seed: u64, count: u64, crates: &Path) -> String {
-    let mut out = head(crates);
+    let mut out = head(crates, "", &[]);
     for n in 0..count {
         let mut r = Random::new(seed.wrapping_mul(0x1_0000_0007).wrapping_add(n));
         let s = settings(&mut r, Sizes { d: 2, k: 3, start: 3, exact: false });
