@@ -1,0 +1,115 @@
+-- The snapshot (document 01: trace text), byte for byte: 'Trace text'.
+use Prim.Native.Nat.{ℕ, zero, suc, _+_, _/_, _%_}
+use mathlib.Core.Bool.{Bool, true, false, cond}
+use mathlib.Core.List.{List, [], _∷_, _++_, map}
+use lib.ListN.{take, drop}
+use lib.Dec.{ltb}
+use lib.Ieee.{Float, Format, binary32, binary64, toBits}
+use Rattle.trcf.specs.Types.{methodNumber, modeLetter}
+use Rattle.trcf.specs.Settings.{Settings}
+use Rattle.trcf.specs.Preprocessor.{State}
+
+-- ---- fields
+
+-- "Whole numbers are decimal without leading zeros": `fuel` is above n
+abbrev pub decimal : ℕ → ℕ → List ℕ
+decimal zero n = []
+decimal (suc fuel) n = elim (ltb n 10) [ true ↦ (48 + n) ∷ [] | false ↦ decimal fuel (n / 10) ++ ((48 + n % 10) ∷ []) ]
+
+unfoldable pub whole : ℕ → List ℕ
+whole n = decimal (suc n) n
+
+-- "floats are bits in 8 (f32) or 16 (f64) lower-case hexadecimal digits"
+abbrev pub digit : ℕ → ℕ
+digit n = cond (ltb n 10) (48 + n) (87 + n)
+
+abbrev pub hex : ℕ → ℕ → List ℕ
+hex zero n = []
+hex (suc w) n = hex w (n / 16) ++ (digit (n % 16) ∷ [])
+
+abbrev pub width : Format → ℕ
+width binary32 = 8
+width binary64 = 16
+
+-- "every not-a-number as 7fc00000 or 7ff8000000000000": that is what `toBits` writes for the one `nan`
+unfoldable pub float : Format → Float → List ℕ
+float f x = hex (width f) (toBits f x)
+
+-- ---- lines: a name, and the fields behind it
+
+pub record Line : Type 0 where
+  pub name : List ℕ
+  pub fields : List (List ℕ)
+
+abbrev pub named : List ℕ → List (List ℕ) → Line
+named n fs = record { name = n; fields = fs }
+
+-- "`set` mode, method, d, k, start, stop, decay (f64), weight_time (f32)"
+unfoldable pub setLine : Settings → Line
+setLine s =
+    named (115 ∷ 101 ∷ 116 ∷ [])
+    ((modeLetter (s .mode) ∷ []) ∷ whole (methodNumber (s .method)) ∷ whole (s .d) ∷ whole (s .k) ∷ whole (s .start) ∷ whole (s .stop)
+    ∷ float binary64 (s .decay) ∷ float binary32 (s .weightTime) ∷ [])
+
+-- "`wgt` d f32", "`inp` d × k f32", "`pnt` `get_dimension` f32"
+abbrev pub wgt : List ℕ
+wgt = 119 ∷ 103 ∷ 116 ∷ []
+
+abbrev pub inp : List ℕ
+inp = 105 ∷ 110 ∷ 112 ∷ []
+
+abbrev pub pnt : List ℕ
+pnt = 112 ∷ 110 ∷ 116 ∷ []
+
+unfoldable pub singles : List ℕ → List Float → Line
+singles name v = named name (map (float binary32) v)
+
+-- "`cnt` values_seen, internal, count"
+unfoldable pub cntLine : ℕ → ℕ → ℕ → Line
+cntLine v i c = named (99 ∷ 110 ∷ 116 ∷ []) (whole v ∷ whole i ∷ whole c ∷ [])
+
+-- "`dev` weight, sum, squares (f64)"
+unfoldable pub devLine : Float → Float → Float → Line
+devLine a b c = named (100 ∷ 101 ∷ 118 ∷ []) (float binary64 a ∷ float binary64 b ∷ float binary64 c ∷ [])
+
+abbrev pub devLines : List Float → List Line
+devLines [] = []
+devLines (a ∷ []) = []
+devLines (a ∷ b ∷ []) = []
+devLines (a ∷ b ∷ c ∷ l) = devLine a b c ∷ devLines l
+
+-- "`tim` k times"
+unfoldable pub timLine : List ℕ → Line
+timLine ts = named (116 ∷ 105 ∷ 109 ∷ []) (map whole ts)
+
+-- "`buf` time, d finite f32"
+unfoldable pub bufLine : ℕ → List Float → Line
+bufLine t x = named (98 ∷ 117 ∷ 102 ∷ []) (whole t ∷ map (float binary32) x)
+
+abbrev pub bufLines : ℕ → List Float → List ℕ → List Line
+bufLines n v [] = []
+bufLines n v (t ∷ ts) = bufLine t (take n v) ∷ bufLines n (drop n v) ts
+
+unfoldable pub linesOf : State → List Line
+linesOf w =
+    setLine (w .settings)
+    ∷ singles wgt (w .settings .weights)
+    ∷ cntLine (w .valuesSeen) (w .internalTimestamp) (w .count)
+    ∷ (devLines (w .statistics)
+    ++ (singles inp (w .lastShingledInput)
+    ∷ singles pnt (w .lastShingledPoint)
+    ∷ timLine (w .previousTimestamps)
+    ∷ bufLines (w .settings .d) (w .initialValues) (w .initialTimestamps)))
+
+-- "Lines end in LF, fields are parted by tabs."
+abbrev pub behind : List (List ℕ) → List ℕ
+behind [] = 10 ∷ []
+behind (f ∷ fs) = 9 ∷ (f ++ behind fs)
+
+abbrev pub bytesOf : List Line → List ℕ
+bytesOf [] = []
+bytesOf (l ∷ ls) = l .name ++ behind (l .fields) ++ bytesOf ls
+
+-- the text of a state
+unfoldable pub render : State → List ℕ
+render w = bytesOf (linesOf w)
