@@ -219,6 +219,10 @@ module _ (t : Transformer) (v : Ranges) (even : Even v) (n : ℕ) (some : 0 < t 
 pub blocked-still : (b x : Bool) (base n m : ℕ) → b ≡ x → n ≡ m → x && unblocked base m ≡ false → b && unblocked base n ≡ false
 blocked-still b x base n m p q h = rw (p, q) h
 
+-- the base is one block
+pub blocked-base : (b : Bool) (base d n : ℕ) → base ≡ d → b && unblocked d n ≡ false → b && unblocked base n ≡ false
+blocked-base b base d n e h = rw e h
+
 pub forecast-done : (t : Transformer) (previous : List Float) (v w z : Ranges) (b : Bool) → b ≡ differences (t .method)
     → w ≡ forecastTo t (length (v .values) / t .d * t .d) v → length (w .values) ≡ length (v .values)
     → z ≡ cond b (cascadeTo binary32 previous (length (w .values)) w) w → z ≡ invertedForecast t previous v

@@ -1,3 +1,9 @@
+use Rattle.common.specs.Deviation.{outsideUnit}
+use Rattle.trcf.proofs.CallLaws.{row-taken, row-left}
+use Rattle.trcf.specs.TransformerCalls.{newRow}
+use mathlib.Core.Path.{sym, _∙_}
+use native.Mathlib.Omega.{arith}
+use borrow.Author.Tests.{lt-ltb, le-ltb, le-leb, lt-leb, eq-eqb, ne-eqb}
 use borrow.Author.Needs.{needs}
 use Rattle.trcf.proofs.transformer.new_row.Statement.{statement}
 use Rattle.trcf.proofs.transformer.new_row.Tie as tie
@@ -6,45 +12,42 @@ use Rattle.trcf.proofs.transformer.new_row.Lts as lts
 use Rattle.trcf.proofs.transformer.decay_row.Reads as decay-row-reads
 use Rattle.trcf.proofs.transformer.weights_refused.Reads as weights-refused-reads
 
--- src/transformer.rt:587:9
 returns : tie.Need-returns
-returns c = ?
+unfolding newRow
+returns c = (rw (eq-eqb _ _ (c .if1 .taken)), λ e. absurd (omega arith))
 
--- src/transformer.rt:590:9
 returns-2 : tie.Need-returns-2
-returns-2 c = ?
+unfolding newRow
+returns-2 c = (rw (ne-eqb _ _ (c .before .if1 .left), lt-ltb _ _ (c .if2 .taken)), λ e. absurd (omega arith))
 
--- src/transformer.rt:593:9
 returns-3 : tie.Need-returns-3
-returns-3 c = ?
+unfolding newRow
+returns-3 c = (rw (ne-eqb _ _ (c .before .before .if1 .left), le-ltb _ _ (c .before .if2 .left), ne-eqb _ _ (c .if3 .taken)), λ e. absurd (omega arith))
 
--- src/transformer.rt:595:8
 decay-row-requires : tie.Need-decay-row-requires
 decay-row-requires c κs = search needs
 
--- src/transformer.rt:596:9
 returns-4 : tie.Need-returns-4
-returns-4 c = ?
+unfolding newRow
+returns-4 c = (rw (ne-eqb _ _ (c .before .before .before .before .if1 .left), le-ltb _ _ (c .before .before .before .if2 .left), eq-eqb _ _ (c .before .before .if3 .left), row-taken (outsideUnit (c .before .before .before .before .before .before .args .decay)) (c .before .decay-row .result) (c .before .decay-row .ensures) (c .if4 .taken)), λ e. absurd (omega arith))
 
--- src/transformer.rt:598:8
 weights-refused-requires : tie.Need-weights-refused-requires
 weights-refused-requires c κs = search needs
 
--- src/transformer.rt:599:9
 returns-5 : tie.Need-returns-5
-returns-5 c = ?
+unfolding newRow
+returns-5 c = (rw (ne-eqb _ _ (c .before .before .before .before .before .before .if1 .left), le-ltb _ _ (c .before .before .before .before .before .if2 .left), eq-eqb _ _ (c .before .before .before .before .if3 .left), row-left (outsideUnit (c .before .before .before .before .before .before .before .before .args .decay)) (c .before .before .before .decay-row .result) (c .before .before .before .decay-row .ensures) (c .before .before .if4 .left), sym (c .before .weights-refused .ensures) ∙ c .if5 .taken), λ e. absurd (omega arith))
 
--- src/transformer.rt:601:12
 mul-if6 : tie.Need-mul-if6
 mul-if6 c = search needs
 
--- src/transformer.rt:602:9
 returns-6 : tie.Need-returns-6
-returns-6 c = ?
+unfolding newRow
+returns-6 c = (rw (ne-eqb _ _ (c .before .before .before .before .before .before .before .if1 .left), le-ltb _ _ (c .before .before .before .before .before .before .if2 .left), eq-eqb _ _ (c .before .before .before .before .before .if3 .left), row-left (outsideUnit (c .before .before .before .before .before .before .before .before .before .args .decay)) (c .before .before .before .before .decay-row .result) (c .before .before .before .before .decay-row .ensures) (c .before .before .before .if4 .left), sym (c .before .before .weights-refused .ensures) ∙ c .before .if5 .left, lt-ltb _ _ (c .if6 .taken)), λ e. absurd (omega arith))
 
--- src/transformer.rt:582:1
 returns-7 : tie.Need-returns-7
-returns-7 c = ?
+unfolding newRow
+returns-7 c = (rw (ne-eqb _ _ (c .before .before .before .before .before .before .before .if1 .left), le-ltb _ _ (c .before .before .before .before .before .before .if2 .left), eq-eqb _ _ (c .before .before .before .before .before .if3 .left), row-left (outsideUnit (c .before .before .before .before .before .before .before .before .before .args .decay)) (c .before .before .before .before .decay-row .result) (c .before .before .before .before .decay-row .ensures) (c .before .before .before .if4 .left), sym (c .before .before .weights-refused .ensures) ∙ c .before .if5 .left, le-ltb _ _ (c .if6 .left)), λ e. omega arith)
 
 pub new-row-spec : {M : Type 1} → statement M
 new-row-spec =

@@ -1,7 +1,9 @@
+use mathlib.Core.Path.{_≡_, refl, ap, _∙_}
+use lib.Ieee.{nan}
+use lib.Seq.{take-length}
 use native.Mathlib.Omega.{arith}
 use Prim.Native.Nat.{_≤_, _<_, _-_}
 use lib.ListN.{length, replicate, take, length-set}
-use mathlib.Core.Path.{_≡_, refl}
 use Rattle.trcf.proofs.LentLaws.{over-none}
 use Rattle.trcf.specs.Transformer.{zero32}
 use Rattle.common.specs.Lent.{over}
@@ -18,7 +20,7 @@ abbrev μ-loop : tie.MeasureT-loop
 μ-loop w a₀ i₀ a i = length w - i
 
 loop-holds : tie.Need-loop-holds Inv-loop μ-loop
-loop-holds c = ?
+loop-holds c = (omega arith, over-none _, refl)
 
 mul-a : tie.Need-mul-a Inv-loop μ-loop
 mul-a c = omega arith
@@ -39,10 +41,17 @@ loop-less : tie.Need-loop-less Inv-loop μ-loop
 loop-less c = omega arith
 
 loop-again : tie.Need-loop-again Inv-loop μ-loop
-loop-again c = ?
+loop-again c = let L = c .before .before .loop in
+    let w = c .before .before .before .args .w .now in
+    let h : L .i < length w = omega arith in
+    (omega arith, rw (L .inv .1) (over-copy (replicate 16 zero32) w (L .i) nan h (c .before .before .before .pre)), simp length-set (omega arith))
 
 returns : tie.Need-returns Inv-loop μ-loop
-returns c = ?
+returns c = let L = c .before .loop in
+    let w = c .before .before .args .w .now in
+    let e : L .i ≡ length w = omega arith in
+    let p = rw e at (L .inv .1) in
+    p ∙ ap (over (replicate 16 zero32)) (take-length w)
 
 pub padded-spec : {M : Type 1} → statement M
 padded-spec =

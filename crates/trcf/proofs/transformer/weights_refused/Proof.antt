@@ -1,3 +1,4 @@
+use mathlib.Core.Path.{sym, _∙_}
 use borrow.Author.Needs.{needs}
 use Rattle.trcf.proofs.transformer.weights_refused.Statement.{statement}
 use Rattle.trcf.proofs.transformer.weights_refused.Tie as tie
@@ -6,19 +7,15 @@ use Rattle.trcf.proofs.transformer.weights_refused.Lts as lts
 use Rattle.trcf.proofs.transformer.all_one.Reads as all-one-reads
 use Rattle.trcf.proofs.types.is_none.Reads as is-none-reads
 
--- src/transformer.rt:579:8
 is-none-requires : tie.Need-is-none-requires
 is-none-requires c κs = search needs
 
--- src/transformer.rt:579:22
 all-one-requires : tie.Need-all-one-requires
 all-one-requires c κs = search needs
 
--- src/transformer.rt:576:1
 returns : tie.Need-returns
-returns c = ?
+returns c = rw (sym (c .before .before .is-none .ensures) ∙ c .before .if1 .taken, ← c .all-one .ensures)
 
--- src/transformer.rt:576:1
 returns-2 : tie.Need-returns-2
 returns-2 c = search needs
 

@@ -1,3 +1,14 @@
+use lib.ListN.{length}
+use Prim.Native.Nat.{_*_}
+use lib.Seq.{length-take-le}
+use native.Mathlib.Omega.{arith}
+use Rattle.trcf.specs.Transformer.{invertedForecast}
+use Rattle.trcf.specs.TransformerCalls.{invertForecastOf, own}
+use Rattle.trcf.specs.Types.{differences}
+use Rattle.common.specs.RangeVector.{ranges}
+use Rattle.common.proofs.RangeSteps.{refused, done}
+use Rattle.trcf.proofs.ForecastLaws.{blocked-base}
+use Rattle.trcf.proofs.CallLaws.{sound-part}
 use borrow.Author.Needs.{needs}
 use Rattle.trcf.proofs.transformer.WeightedTransformer.invert_forecast.Statement.{
   statement,
@@ -8,41 +19,43 @@ use Rattle.trcf.proofs.transformer.WeightedTransformer.invert_forecast.
 use Rattle.trcf.proofs.transformer.forecast_row.Reads as forecast-row-reads
 use Rattle.trcf.proofs.transformer.invert_forecast_in_place.Reads as invert-forecast-in-place-reads
 
--- src/transformer.rt:897:13
 forecast-row-requires : tie.Need-forecast-row-requires
 forecast-row-requires c κs = search needs
 
--- src/transformer.rt:907:13
 returns : tie.Need-returns
-returns c = ?
+unfolding invertForecastOf
+returns c = let a = c .before .before .before .before .before .before .before .args in
+    refused (c .before .forecast-row .result) _ (ranges (a .values .now) (a .upper .now) (a .lower .now)) _ (c .before .forecast-row .ensures .0) (c .if1 .taken)
 
--- src/transformer.rt:909:17
 mul-n : tie.Need-mul-n
-mul-n c = ?
+mul-n c = let R = c .before .forecast-row .ensures .1 (c .if1 .left) in
+    let a = c .before .before .before .before .before .before .before .args in
+    omega (arith, R .1)
 
--- src/transformer.rt:910:40
 slice-aggregate-invert-forecast-in-place : tie.Need-slice-aggregate-invert-forecast-in-place
-slice-aggregate-invert-forecast-in-place c = ?
+slice-aggregate-invert-forecast-in-place c = let R = c .before .before .forecast-row .ensures .1 (c .before .if1 .left) in
+    let a = c .before .before .before .before .before .before .before .before .args in
+    omega (arith, length-take-le (15 * a .self .«input_length») (a .statistics .now) (R .6))
 
--- src/transformer.rt:910:9
 invert-forecast-in-place-requires : tie.Need-invert-forecast-in-place-requires
-invert-forecast-in-place-requires c κs = ?
+invert-forecast-in-place-requires c κs = let R = c .before .before .before .before .before .forecast-row .ensures .1 (c .before .before .before .before .if1 .left) in
+    let a = c .before .before .before .before .before .before .before .before .before .before .before .args in
+    (sound-part (a .self) (a .statistics .now) (R .0) (R .1) (R .6), ((R .3, R .4), blocked-base (differences (a .self .«transform_method»)) _ _ _ (R .2) (R .5)))
 
--- src/transformer.rt:884:5
 same-length : tie.Need-same-length
 same-length c = search needs
 
--- src/transformer.rt:884:5
 same-length-2 : tie.Need-same-length-2
 same-length-2 c = search needs
 
--- src/transformer.rt:884:5
 same-length-3 : tie.Need-same-length-3
 same-length-3 c = search needs
 
--- src/transformer.rt:884:5
 returns-2 : tie.Need-returns-2
-returns-2 c = ?
+unfolding invertForecastOf
+returns-2 c = let R = c .before .before .before .before .before .before .before .before .before .before .before .before .forecast-row in
+    let a = c .before .before .before .before .before .before .before .before .before .before .before .before .before .before .before .before .before .before .args in
+    done (R .result) _ (ranges (a .values .now) (a .upper .now) (a .lower .now)) (invertedForecast (own (a .self) (a .statistics .now)) (a .previous .now) (ranges (a .values .now) (a .upper .now) (a .lower .now))) _ (R .ensures .0) (c .before .before .before .before .before .before .before .before .before .before .before .if1 .left) (c .before .before .before .before .before .before .invert-forecast-in-place .ensures)
 
 pub invert-forecast-spec : {M : Type 1} → statement M
 invert-forecast-spec =

@@ -1,3 +1,14 @@
+use lib.Ieee.{Float}
+use mathlib.Core.List.{List}
+use mathlib.Core.Path.{ap, _∙_}
+use Rattle.trcf.specs.Transformer.{zero32}
+use Rattle.trcf.specs.TransformerCalls.{made}
+use Rattle.common.specs.Deviation.{zero64}
+use lib.ListN.{length, replicate}
+use native.Mathlib.Omega.{arith}
+use Rattle.common.specs.Lent.{over}
+use Rattle.trcf.specs.TransformerCalls.{newOf, noHead, headOf}
+use Rattle.trcf.proofs.CallLaws.{made-refused, made-done}
 use borrow.Author.Needs.{needs}
 use Rattle.trcf.proofs.transformer.WeightedTransformer.new.Statement.{statement}
 use Rattle.trcf.proofs.transformer.WeightedTransformer.new.Tie as tie
@@ -7,33 +18,38 @@ use Rattle.trcf.proofs.transformer.clear.Reads as clear-reads
 use Rattle.trcf.proofs.transformer.new_row.Reads as new-row-reads
 use Rattle.trcf.proofs.transformer.padded.Reads as padded-reads
 
--- src/transformer.rt:765:13
 new-row-requires : tie.Need-new-row-requires
 new-row-requires c κs = search needs
 
--- src/transformer.rt:773:13
 returns : tie.Need-returns
-returns c = ?
+unfolding newOf
+returns c = let a = c .before .before .before .before .args in
+    made-refused (c .before .new-row .result) _ noHead (a .statistics .now) _ (c .before .new-row .ensures .0) (c .if1 .taken)
 
--- src/transformer.rt:784:13
 padded-requires : tie.Need-padded-requires
-padded-requires c κs = ?
+padded-requires c κs = let R = c .before .new-row .ensures .1 (c .if1 .left) in
+    let a = c .before .before .before .before .args in
+    omega (arith, R .1, R .2)
 
--- src/transformer.rt:785:27
 mul-clear : tie.Need-mul-clear
-mul-clear c = ?
+mul-clear c = let R = c .before .before .before .new-row .ensures .1 (c .before .before .if1 .left) in
+    let a = c .before .before .before .before .before .before .args in
+    omega (arith, R .1)
 
--- src/transformer.rt:785:9
 clear-requires : tie.Need-clear-requires
-clear-requires c κs = ?
+clear-requires c κs = let R = c .before .before .before .new-row .ensures .1 (c .before .before .if1 .left) in
+    let a = c .before .before .before .before .before .before .args in
+    R .3
 
--- src/transformer.rt:755:5
 same-length : tie.Need-same-length
 same-length c = search needs
 
--- src/transformer.rt:755:5
 returns-2 : tie.Need-returns-2
-returns-2 c = ?
+unfolding newOf
+returns-2 c = let R = c .before .before .before .before .before .before .new-row in
+    let a = c .before .before .before .before .before .before .before .before .before .args in
+    ap (λ (w : List Float). made 0 (headOf (a .transform-method) (a .input-length) (a .transform-decay) w 0) (c .before .before .clear .last .0)) (c .before .before .before .before .padded .ensures)
+    ∙ made-done (R .result) _ _ (headOf (a .transform-method) (a .input-length) (a .transform-decay) (over (replicate 16 zero32) (a .weights .now)) 0) _ _ (R .ensures .0) (c .before .before .before .before .before .if1 .left) (c .before .before .clear .ensures)
 
 pub new-spec : {M : Type 1} → statement M
 new-spec =
