@@ -1,5 +1,6 @@
 -- How far the transform's definitions reach into the list of statistics: the first 15 · d numbers. What lies past them is neither read nor changed.
-use Prim.Native.Nat.{ℕ, zero, suc, _+_, _*_, _≤_, _<_}
+use Prim.Native.Nat.{ℕ, zero, suc, _+_, _*_, _/_, _%_, _≤_, _<_}
+use native.Mathlib.Nat.{mod-lt}
 use mathlib.Core.Bool.{cond}
 use mathlib.Core.Path.{_≡_, refl, sym, ap, _∙_}
 use mathlib.Core.List.{List, [], _∷_, _++_}
@@ -11,9 +12,11 @@ use Rattle.numeric.specs.Narrow.{narrowed}
 use Rattle.common.specs.declared.deviation.Deviation.{Deviation}
 use Rattle.common.specs.Deviation.{one64, statistic, meanOf}
 use Rattle.trcf.specs.Lists.{tabulate}
-use Rattle.trcf.specs.Types.{normalizes, centres}
+use Rattle.common.specs.RangeVector.{Range, Ranges, rangeAt, putAt, cascadeTo}
+use Rattle.trcf.specs.Types.{normalizes, differences, centres}
 use Rattle.trcf.specs.Transformer.{Transformer, statisticAt, putStatistic, deviationsAt, putDeviations, fed, fedAt, channelsFed, updated, slowDecay, meanAt}
 use Rattle.trcf.specs.Transformer.{normalizedScale, basicShift, weightAt, transformBy, transformed, unweighted, invertBy, inverted, scales, shifts, differenceDeviations, zero32}
+use Rattle.trcf.specs.Transformer.{basicDrift, forecastAt, forecastTo, invertedForecast}
 use Rattle.trcf.specs.declared.types.TransformMethod.{TransformMethod}
 use Rattle.trcf.specs.declared.types.TransformMethod.the-variants.{NONE, WEIGHTED, DIFFERENCE, «SUBTRACT_MA», NORMALIZE, «NORMALIZE_DIFFERENCE»}
 use Rattle.trcf.specs.declared.transformer.Deviations.{Deviations}
@@ -183,3 +186,28 @@ module _ (t : Transformer) (l r : List Float) (room : 15 * t .d ≤ length l) wh
   pub differenceDeviations-append : differenceDeviations (over-statistics t (l ++ r)) ≡ differenceDeviations (over-statistics t l)
   unfolding differenceDeviations
   differenceDeviations-append = tabulate-same (t .d) _ _ (λ i h. ap narrowed (mean-same (i + 4 * t .d) (omega arith)))
+
+  -- ---- the forecast
+
+  drift-same : (i : ℕ) → i < t .d → basicDrift (over-statistics t (l ++ r)) i ≡ basicDrift (over-statistics t l) i
+  unfolding basicDrift
+  drift-same i h = ap narrowed (mean-same (i + 3 * t .d) (omega arith))
+
+  forecast-same : (i j : ℕ) (v : Range) → j < t .d → forecastAt (over-statistics t (l ++ r)) i j v ≡ forecastAt (over-statistics t l) i j v
+  unfolding forecastAt weightAt
+  forecast-same i j v h = rw (scale-same j h, drift-same j h, shift-same j h)
+
+  forecastTo-append : 0 < t .d → (n : ℕ) (v : Ranges) → forecastTo (over-statistics t (l ++ r)) n v ≡ forecastTo (over-statistics t l) n v
+  unfolding forecastTo
+  forecastTo-append some zero v = refl
+  forecastTo-append some (suc n) v =
+      ap (λ (w : Ranges). putAt w n (forecastAt (over-statistics t (l ++ r)) (n / t .d) (n % t .d) (rangeAt w n))) (forecastTo-append some n v)
+      ∙ ap (putAt (forecastTo (over-statistics t l) n v) n)
+      (forecast-same (n / t .d) (n % t .d) (rangeAt (forecastTo (over-statistics t l) n v) n) (mod-lt n some))
+
+  pub invertedForecast-append : 0 < t .d → (previous : List Float) (v : Ranges)
+      → invertedForecast (over-statistics t (l ++ r)) previous v ≡ invertedForecast (over-statistics t l) previous v
+  unfolding invertedForecast
+  invertedForecast-append some previous v =
+      ap (λ (w : Ranges). cond (differences (t .method)) (cascadeTo binary32 previous (length (v .values)) w) w)
+      (forecastTo-append some (length (v .values) / t .d * t .d) v)
