@@ -4,3 +4,4 @@ pub mod TransformerLaws
 pub mod ReachLaws
 pub mod ForecastLaws
 pub mod CallLaws
+pub mod TransformerExamples

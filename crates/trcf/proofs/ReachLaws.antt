@@ -70,10 +70,13 @@ module _ (l r : List Float) (b w : ℕ) (room : 3 * (b + 4 * w) + 3 ≤ length l
       let n2 : length l2 ≡ length l = putStatistic-length l1 (b + w) (s .difference) ∙ n1 in
       let n3 : length l3 ≡ length l = putStatistic-length l2 (b + 2 * w) (s .deviation) ∙ n2 in
       let n4 : length l4 ≡ length l = putStatistic-length l3 (b + 3 * w) (s .«difference_mean») ∙ n3 in
-      rw
-      (putStatistic-append l r b (s .value) (omega arith), putStatistic-append l1 r (b + w) (s .difference) (omega arith),
-      putStatistic-append l2 r (b + 2 * w) (s .deviation) (omega arith), putStatistic-append l3 r (b + 3 * w) (s .«difference_mean») (omega arith),
-      putStatistic-append l4 r (b + 4 * w) (s .«difference_deviation») (omega arith))
+      rw (
+        putStatistic-append l r b (s .value) (omega arith),
+        putStatistic-append l1 r (b + w) (s .difference) (omega arith),
+        putStatistic-append l2 r (b + 2 * w) (s .deviation) (omega arith),
+        putStatistic-append l3 r (b + 3 * w) (s .«difference_mean») (omega arith),
+        putStatistic-append l4 r (b + 4 * w) (s .«difference_deviation») (omega arith),
+      )
 
   pub fedAt-append : (decay : Float) (count : ℕ) (x dx : Float) → fedAt (l ++ r) b w decay count x dx ≡ fedAt l b w decay count x dx ++ r
   unfolding fedAt
