@@ -9,17 +9,28 @@ struct Random(u64);
 
 impl Random {
     fn next(&mut self) -> u64 {
-        self.0 = self.0.wrapping_mul(6364136223846793005).wrapping_add(1442695040888963407);
+        self.0 = self
+            .0
+            .wrapping_mul(6364136223846793005)
+            .wrapping_add(1442695040888963407);
         self.0 ^ (self.0 >> 32)
     }
 }
 
 fn bits64(x: f64) -> u64 {
-    if x.is_nan() { 0x7ff8_0000_0000_0000 } else { x.to_bits() }
+    if x.is_nan() {
+        0x7ff8_0000_0000_0000
+    } else {
+        x.to_bits()
+    }
 }
 
 fn bits32(x: f32) -> u64 {
-    if x.is_nan() { 0x7fc0_0000 } else { x.to_bits() as u64 }
+    if x.is_nan() {
+        0x7fc0_0000
+    } else {
+        x.to_bits() as u64
+    }
 }
 
 // black_box: the answer is the machine's at run time, and not the compiler's.
@@ -40,7 +51,12 @@ struct Out {
 
 impl Out {
     fn put(&mut self, letter: char, given: u64) {
-        writeln!(self.text, "{letter}\t{given:016x}\t{:016x}", answer(letter, given)).unwrap();
+        writeln!(
+            self.text,
+            "{letter}\t{given:016x}\t{:016x}",
+            answer(letter, given)
+        )
+        .unwrap();
     }
 
     // with both signs
@@ -61,7 +77,14 @@ fn every_f64(out: &mut Out, letter: char, random: &mut Random) {
         }
         out.put(letter, SIGN64 | field << 52 | random.next() >> 12);
     }
-    for b in [SIGN64, SIGN64 | 1, SIGN64 | 0x7ff << 52, 0x7ff8 << 48, SIGN64 | 0x7ff8 << 48, SIGN64 | 0x3ff << 52] {
+    for b in [
+        SIGN64,
+        SIGN64 | 1,
+        SIGN64 | 0x7ff << 52,
+        0x7ff8 << 48,
+        SIGN64 | 0x7ff8 << 48,
+        SIGN64 | 0x3ff << 52,
+    ] {
         out.put(letter, b);
     }
 }
@@ -85,11 +108,19 @@ fn roots(out: &mut Out, random: &mut Random) {
 fn halfway_f32(out: &mut Out, random: &mut Random) {
     for field in 0..255u64 {
         for _ in 0..3 {
-            let low = if field == 0 { (random.next() >> 41) >> (random.next() % 23) } else { random.next() >> 41 };
+            let low = if field == 0 {
+                (random.next() >> 41) >> (random.next() % 23)
+            } else {
+                random.next() >> 41
+            };
             let f = f32::from_bits((field << 23 | low) as u32) as f64;
             let g = f32::from_bits((field << 23 | low) as u32 + 1);
             // above the largest f32 the next would be 2^128
-            let g = if g.is_infinite() { 2f64.powi(128) } else { g as f64 };
+            let g = if g.is_infinite() {
+                2f64.powi(128)
+            } else {
+                g as f64
+            };
             let b = ((f + g) / 2.0).to_bits();
             for near in [b - 1, b, b + 1] {
                 out.signs('n', near, SIGN64);
@@ -104,7 +135,11 @@ fn halfway_f32(out: &mut Out, random: &mut Random) {
         }
     }
     // the largest f32, the midpoint above it, from which on all is infinite, and 2^128
-    for b in [0x47ef_ffff_e000_0000u64, 0x47ef_ffff_f000_0000, 0x47f0_0000_0000_0000] {
+    for b in [
+        0x47ef_ffff_e000_0000u64,
+        0x47ef_ffff_f000_0000,
+        0x47f0_0000_0000_0000,
+    ] {
         for near in [b - 1, b, b + 1] {
             out.signs('n', near, SIGN64);
         }
