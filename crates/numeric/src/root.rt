@@ -155,19 +155,37 @@ fn guess(n: u64) -> u64
     }
 }
 
+// s, or the next number below it whose square is not above n.
+fn lowered(n: u64, s: u64) -> u64
+    requires { ⌜ s < 2 ^ 27 ⌝ }
+    ensures { λ r. ⌜ r * r ≤ n ⌝ }
+{
+    let mut r = s;
+    while n < r * r {
+        r -= 1;
+    }
+    r
+}
+
+// The largest number from s on whose square is not above n.
+fn raised(n: u64, s: u64) -> u64
+    requires { ⌜ n < 2 ^ 54 ⌝ }
+    requires { ⌜ s * s ≤ n ⌝ }
+    ensures { λ r. ⌜ (r * r ≤ n) × (n < (r + 1) * (r + 1)) ⌝ }
+{
+    let mut r = s;
+    while (r + 1) * (r + 1) <= n {
+        r += 1;
+    }
+    r
+}
+
 // √n without its fraction: the guess, moved down or up until it is that.
 fn small_root(n: u64) -> u64
     requires { ⌜ n < 2 ^ 54 ⌝ }
     ensures { λ r. ⌜ (r * r ≤ n) × (n < (r + 1) * (r + 1)) ⌝ }
 {
-    let mut s = guess(n);
-    while n < s * s {
-        s -= 1;
-    }
-    while (s + 1) * (s + 1) <= n {
-        s += 1;
-    }
-    s
+    raised(n, lowered(n, guess(n)))
 }
 
 // √(n * 2^54) in halves: its 27 upper digits are those of √n, and one division gives the 27 lower, one too many at most.
