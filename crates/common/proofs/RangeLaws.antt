@@ -1,19 +1,18 @@
 -- Laws of the range for callers, over the width: which bound follows which, what depends on what, lengths, and the format.
 -- Assumes nothing.
-use Prim.Native.Nat.{ℕ, zero, suc, _+_, _*_, _≤_, _<_}
+use Prim.Native.Nat.{ℕ, zero, suc, _*_, _≤_, _<_}
 use mathlib.Core.Path.{_≡_, refl, sym, ap, _∙_, subst}
 use mathlib.Core.Logic.{_≢_}
-use mathlib.Core.Bool.{Bool, true, false, not, _&&_, cond}
+use mathlib.Core.Bool.{Bool, true, false, not, cond}
 use mathlib.Core.List.{List, [], _∷_, _++_}
 use native.Mathlib.Omega.{arith}
 use borrow.Author.Tests.{le-ltb, eqb-true, eqb-false}
 use lib.Dec.{T, eqb}
 use lib.ListN.{length, getD, set, length-set}
-use lib.Seq.{getD-set-same, getD-set-other}
-use lib.IntN.{pos, negsuc}
+use lib.Seq.{getD-set-other}
 use lib.Ieee.{Float, nan, inf, fin, Format, add, mul, lt, fits, below, up, down}
 use lib.Ieee.Fits.{add-fits, mul-fits, cond-fits}
-use Rattle.common.specs.RangeVector.{Range, Ranges, range, ranges, rangeAt, putAt, settled, shifted, scaled, cascadeTo}
+use Rattle.common.specs.RangeVector.{Range, Ranges, range, rangeAt, putAt, settled, shifted, scaled, cascadeTo}
 
 -- ---- one index
 
