@@ -1,4 +1,5 @@
 pub mod Lists
+pub mod Fit
 pub mod Types
 pub mod Transformer
 pub mod Settings
