@@ -86,12 +86,12 @@ shingled es = cond (isDrained es) (firstAndAll (initials es)) [] ++ learns es
 unfoldable pub inputsOf : Settings → List Entry → List Float
 inputsOf s es = lastN (s .d * s .k) (replicate (s .d * s .k) zero32 ++ values (shingled es))
 
-unfoldable pub timesOf : Settings → List Entry → List ℕ
-timesOf s es = lastN (s .k) (replicate (s .k) 0 ++ timestamps (shingled es))
+unfoldable pub timestampsOf : Settings → List Entry → List ℕ
+timestampsOf s es = lastN (s .k) (replicate (s .k) 0 ++ timestamps (shingled es))
 
 -- "newest input and newest time as the next line has them, so 0 for a first L without F"
 unfoldable pub newestOf : Settings → List Entry → Reading
-newestOf s es = reading (lastN (s .d) (inputsOf s es)) (lastOr 0 (timesOf s es))
+newestOf s es = reading (lastN (s .d) (inputsOf s es)) (lastOr 0 (timestampsOf s es))
 
 -- ---- statistics and points
 
@@ -108,16 +108,16 @@ abbrev pub after : Reading → List Reading → List Fed
 after p [] = []
 after p (r ∷ rs) = fedAfter p r ∷ after r rs
 
-abbrev pub inOrder : List Reading → List Fed
-inOrder [] = []
-inOrder (r ∷ rs) = after r (r ∷ rs)
+abbrev pub pairs : List Reading → List Fed
+pairs [] = []
+pairs (r ∷ rs) = after r (r ∷ rs)
 
 -- "An L feeds them if values_seen before it is below stop"
 abbrev pub fedOf : Settings → List Entry → List Fed
 fedOf s [] = []
 fedOf s (initial x t ∷ es) = fedOf s es
 fedOf s (learned x t y ∷ es) = fedOf s es ++ cond (ltb (seenOf es) (s .stop)) (fedAfter (newestOf s es) (reading x t) ∷ []) []
-fedOf s (drained ∷ es) = fedOf s es ++ inOrder (initials es)
+fedOf s (drained ∷ es) = fedOf s es ++ pairs (initials es)
 
 -- fed one after the other; c were fed before
 abbrev pub feedEach : Settings → ℕ → List Float → List Fed → List Float
@@ -141,7 +141,7 @@ pointsOf s [] = replicate (dimension s) zero32
 pointsOf s (initial x t ∷ es) = pointsOf s es
 pointsOf s (learned x t y ∷ es) = y
 pointsOf s (drained ∷ es) =
-    lastN (dimension s) (pointsOf s es ++ transforms s (statisticsOf s (drained ∷ es)) (seenOf es) (inOrder (initials es)))
+    lastN (dimension s) (pointsOf s es ++ transforms s (statisticsOf s (drained ∷ es)) (seenOf es) (pairs (initials es)))
 
 -- ---- the text
 
@@ -156,7 +156,7 @@ historyState s es =
       statistics = statisticsOf s es;
       lastShingledInput = inputsOf s es;
       lastShingledPoint = pointsOf s es;
-      previousTimestamps = timesOf s es;
+      previousTimestamps = timestampsOf s es;
       initialValues = values (bufferOf es);
       initialTimestamps = timestamps (bufferOf es);
     }
@@ -170,7 +170,7 @@ historyFacts s es =
       valuesSeen = seenOf es;
       internalTimestamp = internalOf es;
       count = countOf s es;
-      previousTimestamps = timesOf s es;
+      previousTimestamps = timestampsOf s es;
       initialTimestamps = timestamps (bufferOf es);
     }
 
