@@ -1,0 +1,4 @@
+pub mod Lists
+pub mod Accepted
+pub mod Fields
+pub mod Injective
