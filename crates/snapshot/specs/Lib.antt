@@ -1,2 +1,3 @@
 pub mod Text
 pub mod Form
+pub mod Read
