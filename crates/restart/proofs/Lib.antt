@@ -5,3 +5,4 @@ pub mod Entries
 pub mod Step
 pub mod Reachable
 pub mod SameHistory
+pub mod Restart
