@@ -70,10 +70,6 @@ module _ {A : Type 0} where
   unfolding lastN
   all-lastN P n l h = all-drop P (length l - n) l h
 
-  pub all-replicate : (P : A → Type 0) (n : ℕ) (a : A) → P a → All P (replicate n a)
-  all-replicate P zero a h = tt
-  all-replicate P (suc n) a h = (h, all-replicate P n a h)
-
 -- ---- readings
 
 abbrev pub Each : ℕ → List Reading → Type 0

@@ -3,13 +3,13 @@ use Prim.Native.Nat.{ℕ, zero, suc, _+_, _-_, _*_, _≤_, _<_}
 use native.Mathlib.Nat.{suc-mul, zero-mul}
 use native.Mathlib.Omega.{arith}
 use mathlib.Core.Path.{_≡_, refl, sym, ap, _∙_}
-use mathlib.Core.Bool.{Bool, true, false, _&&_, _||_, cond, true≢false, false≢true}
+use mathlib.Core.Bool.{Bool, true, false, _&&_, _||_, cond, true≢false}
 use mathlib.Core.List.{List, [], _∷_, _++_, append-assoc, append-nil}
 use mathlib.Core.Option.{Option, none, some}
 use mathlib.Core.Logic.{_⊎_, inl, inr}
 use lib.Dec.{leb, ltb, eqb}
 use lib.ListN.{length, drop, replicate, length-append, length-replicate}
-use lib.Ieee.{Float, nan, inf, fin, binary32, binary64}
+use lib.Ieee.{Float, binary32, binary64}
 use lib.Ieee.Bits.{ofBits-fits}
 use borrow.Author.Tests.{ltb-false, leb-false, eqb-true, eqb-false, not-false}
 use Rattle.restart.specs.History.{Entry, initial, learned, drained, initials, learns, isDrained, onlyInitials, values, timestamps, seenOf, internalOf, bufferOf, firstAndAll, shingled, inputsOf, timestampsOf, Fed, after, pairs, fedOf, feedEach, countOf, statisticsOf, transforms, pointsOf, historyState, historyFacts, historyRefusal, complete, adds, enter, entriesFrom, entries}
@@ -22,11 +22,14 @@ use Rattle.trcf.specs.Settings.{Settings, dimension, waiting, settingsTable, se
 use Rattle.trcf.specs.Calls.{Learn, Call, shingledPoint, postProcess, drain, transform, invertExtrapolation, scale, shift, status, Facts, seenLimit, finite, due, newest, wrongLength, drainFull, learnFull, table, rows, Machine}
 use Rattle.trcf.specs.Preprocessor.{statisticsLength, fresh, Reading, feed, transformedAfter, accepted, run}
 use Rattle.snapshot.specs.Form.{Climbs, Form}
+
 use Rattle.trcf.proofs.FitLaws.{all-append}
+use Rattle.snapshot.proofs.Accepted.{clear}
+use Rattle.snapshot.proofs.Lists.{nil, all-replicate, finite-append}
 use Rattle.restart.proofs.FeedLaws.{feed-length, feed-fits, transformedAfter-fits}
-use Rattle.restart.proofs.Lists.{lastN-length, lastN-all, all-lastN, all-replicate, Each, timestamps-append, values-snoc, length-timestamps, length-pairs}
+use Rattle.restart.proofs.Lists.{lastN-length, lastN-all, all-lastN, Each, timestamps-append, values-snoc, length-timestamps, length-pairs}
 use Rattle.restart.proofs.Entries.{Unmixed, unmixed}
-use Rattle.restart.proofs.Step.{clear, Phase, filling, drainedBy, plainly, stranded, Inv, still, is-false, nil-of-length, due-full, isFull, step, begins, run-history}
+use Rattle.restart.proofs.Step.{Phase, filling, drainedBy, plainly, stranded, Inv, still, is-false, due-full, isFull, step, begins, run-history}
 
 -- ---- times
 
@@ -80,13 +83,6 @@ climbs-first [] c = tt
 climbs-first (r ∷ rs) c = (omega arith, (omega arith, c .1))
 
 -- ---- lengths, finite values
-
-pub finite-append : (a b : List Float) → finite a ≡ true → finite b ≡ true → finite (a ++ b) ≡ true
-unfolding finite
-finite-append [] b h k = k
-finite-append (nan ∷ xs) b h k = absurd (false≢true h)
-finite-append (inf s ∷ xs) b h k = absurd (false≢true h)
-finite-append (fin s m e ∷ xs) b h k = finite-append xs b h k
 
 feedEach-length : (s : Settings) (c : ℕ) (st : List Float) (ps : List Fed) → length (feedEach s c st ps) ≡ length st
 feedEach-length s c st [] = refl
@@ -334,13 +330,13 @@ module _ (s : Settings) (ok : Valid s) (es : List Entry) (v : Inv s es) (g : Goo
       q = unmixed s es o
 
       go : (b : Bool) → normalizes (s .method) ≡ b → (timestamps (bufferOf es) ≡ []) ⊎ ((normalizes (s .method) ≡ true) × (length (timestamps (bufferOf es)) ≡ s .start) × (seenOf es ≡ s .start → internalOf es ≡ 0))
-      go false e = inl (rw (q .noF, nil-of-length (initials es) (z e)))
+      go false e = inl (rw (q .noF, nil (initials es) (z e)))
       go true e =
           let h : ltb (length (initials es) + length (learns es)) (s .start) ≡ false = rw e at w in
           let l : length (learns es) ≡ 0 = ap length (q .noL) in
           inr (e, rw (q .noF, length-timestamps) (omega (arith, ltb-false)), λ _. rw (q .noF) (omega arith))
   later-lines (drainedBy f m n p) w = inl (rw f)
-  later-lines (plainly f m n p) w = inl (rw (f, nil-of-length (initials es) n))
+  later-lines (plainly f m n p) w = inl (rw (f, nil (initials es) n))
   later-lines (stranded f m n p) w = inr (m, rw (f, length-timestamps) n, λ e. absurd (omega arith))
 
   saneLine : (b : Bool) → isDrained es ≡ b → All Sane (shingled es)

@@ -9,7 +9,7 @@ use Rattle.trcf.specs.Settings.{Settings, Valid}
 use Rattle.trcf.specs.Calls.{Call, Machine}
 use Rattle.trcf.specs.Preprocessor.{State, fresh, next, run, Answer, answer, answers}
 use Rattle.snapshot.specs.Text.{render}
-use Rattle.snapshot.specs.Read.{every, Read, taken, read}
+use Rattle.snapshot.specs.Read.{Read, taken, read}
 use Rattle.trcf.proofs.FitLaws.{all-append}
 use Rattle.snapshot.proofs.Injective.{render-injective}
 use Rattle.snapshot.proofs.ReadText.{read-complete}

@@ -1,6 +1,6 @@
--- Theorem A: the state after any list of calls is the one that the history works out, and refuses what the history refuses.
+-- The state after any list of calls is the one that the history works out, and refuses what the history refuses.
 use Prim.Native.Nat.{ℕ, zero, suc, _+_, _*_, _≤_, _<_}
-use native.Mathlib.Nat.{add-zero, suc-ne-zero}
+use native.Mathlib.Nat.{add-zero}
 use native.Mathlib.Omega.{arith}
 use mathlib.Core.Path.{_≡_, refl, sym, ap, _∙_}
 use mathlib.Core.Bool.{Bool, true, false, not, _&&_, cond, true≢false, false≢true, and-false}
@@ -12,7 +12,6 @@ use lib.Ieee.{Float}
 use borrow.Author.Tests.{ltb-true, ltb-false, eqb-true, ne-eqb, not-false}
 use Rattle.restart.specs.History.{Entry, initial, learned, drained, initials, learns, isDrained, onlyInitials, values, timestamps, seenOf, internalOf, bufferOf, shingled, inputsOf, timestampsOf, countOf, statisticsOf, historyState, historyFacts, historyRefusal, complete, adds, enter, entriesFrom, entries, historyAnswer, historyAnswers}
 use Rattle.common.specs.Deviation.{zero64}
-use Rattle.common.specs.Refusal.{firstOf}
 use Rattle.trcf.specs.Lists.{lastN, null}
 use Rattle.trcf.specs.Types.{normalizes}
 use Rattle.trcf.specs.Transformer.{zero32}
@@ -20,37 +19,10 @@ use Rattle.trcf.specs.Settings.{Settings, dimension, waiting}
 use Rattle.trcf.specs.Calls.{Learn, Call, shingledPoint, postProcess, drain, transform, invertExtrapolation, scale, shift, status, due, table, rows}
 use Rattle.trcf.specs.Preprocessor.{State, statisticsLength, fresh, facts, refusal, Reading, reading, blocks, drainAll, drained as drainedState, held, learnedWith, change, accepted, next, run, answer, answers}
 use Rattle.trcf.proofs.FitLaws.{all-append}
+use Rattle.snapshot.proofs.Accepted.{clear}
+use Rattle.snapshot.proofs.Lists.{and-left, and-right, nil}
 use Rattle.restart.proofs.Lists.{lastN-all, Each, null-timestamps, blocks-values}
 use Rattle.restart.proofs.Entries.{Unmixed, unmixed, drained-state, initial-state, learned-state}
-
--- ---- tests
-
-pub and-left : (a b : Bool) → a && b ≡ true → a ≡ true
-and-left true b h = refl
-and-left false b h = h
-
-pub and-right : (a b : Bool) → a && b ≡ true → b ≡ true
-and-right true b h = h
-and-right false b h = absurd (false≢true h)
-
--- an accepted call: every row's test fails
-abbrev pub Clear : List (Bool × ℕ) → Type 0
-Clear [] = Unit {0}
-Clear (r ∷ rs) = (r .0 ≡ false) × Clear rs
-
-abbrev pub numbered : List (Bool × ℕ) → Bool
-numbered [] = true
-numbered (r ∷ rs) = ltb 0 (r .1) && numbered rs
-
-clear-one : (b : Bool) (n m : ℕ) → 0 < n → cond b n m ≡ 0 → (b ≡ false) × (m ≡ 0)
-clear-one true n m h e = absurd (omega arith)
-clear-one false n m h e = (refl, e)
-
-pub clear : (rs : List (Bool × ℕ)) → numbered rs ≡ true → firstOf rs ≡ 0 → Clear rs
-clear [] p e = tt
-clear (r ∷ rs) p e =
-    let q : (r .0 ≡ false) × (firstOf rs ≡ 0) = clear-one (r .0) (r .1) (firstOf rs) (ltb-true _ _ (and-left (ltb 0 (r .1)) _ p)) e in
-    (q .0, clear rs (and-right (ltb 0 (r .1)) _ p) (q .1))
 
 -- ---- the shape of the entries
 
@@ -90,10 +62,6 @@ count-test [] (suc n) = rw (eqb·zero-suc n)
 count-test (r ∷ rs) zero = rw (eqb·suc-zero (length rs))
 count-test (r ∷ rs) (suc n) = rw (leb·suc-suc 0 n, leb·zero n)
 
-pub nil-of-length : (rs : List Reading) → length rs ≡ 0 → rs ≡ []
-nil-of-length [] h = refl
-nil-of-length (r ∷ rs) h = absurd (native.Mathlib.Nat.suc-ne-zero _ h)
-
 mixed : (s : Settings) (es : List Entry) → (Unmixed s es → ⊥) → complete s es ≡ false
 unfolding complete
 mixed s es h = rw (is-false (onlyInitials es) (λ o. h (unmixed s es o)))
@@ -108,7 +76,7 @@ due-full s es (filling o u z) =
     rw (q .noF, q .noL, o, q .long, null-timestamps (initials es), add-zero (length (initials es))) (count-test (initials es) (s .start))
 due-full s es (drainedBy f m n p) = rw (f, and-false) (sym (mixed s es (λ q. true≢false (sym f ∙ q .noF))))
 due-full s es (plainly f m n p) =
-    rw (f, nil-of-length (initials es) n, and-false) (sym (mixed s es (λ q. no-learns s es q p)))
+    rw (f, nil (initials es) n, and-false) (sym (mixed s es (λ q. no-learns s es q p)))
 due-full s es (stranded f m n p) =
     rw (ne-eqb (length (initials es) + length (learns es)) (s .start) (λ h. omega arith)) (sym (mixed s es (λ q. no-learns s es q p)))
 
@@ -228,7 +196,7 @@ module _ (s : Settings) (k>0 : 0 < s .k) where
   unfolding next enter refusal historyRefusal facts historyFacts historyState
   step es v c = step-at es v c (historyRefusal s es c) refl
 
-  -- ---- Theorem A
+  -- ---- any list of calls
 
   pub begins : Inv s []
   begins = record { phase = filling refl (omega arith) (λ z. refl); wide = tt }
