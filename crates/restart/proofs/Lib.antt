@@ -6,3 +6,5 @@ pub mod Step
 pub mod Reachable
 pub mod SameHistory
 pub mod Restart
+pub mod Samples
+pub mod RowSamples
