@@ -22,7 +22,6 @@ use Rattle.trcf.specs.Settings.{Settings, dimension, waiting, settingsTable, se
 use Rattle.trcf.specs.Calls.{Learn, Call, shingledPoint, postProcess, drain, transform, invertExtrapolation, scale, shift, status, Facts, seenLimit, finite, due, newest, wrongLength, drainFull, learnFull, table, rows, Machine}
 use Rattle.trcf.specs.Preprocessor.{statisticsLength, fresh, Reading, feed, transformedAfter, accepted, run}
 use Rattle.snapshot.specs.Form.{Climbs, Form}
-
 use Rattle.trcf.proofs.FitLaws.{all-append}
 use Rattle.snapshot.proofs.Accepted.{clear}
 use Rattle.snapshot.proofs.Lists.{nil, all-replicate, finite-append}

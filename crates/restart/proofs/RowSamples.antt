@@ -83,19 +83,19 @@ points : List Case
 points =
     case N past (point [] 2) 10
     ∷ case N past (point (one ∷ one ∷ []) 2) 10
-    ∷ case N past (point (Inf ∷ Inf ∷ []) 2) 10 -- before 11
+    ∷ case N past (point (Inf ∷ Inf ∷ []) 2) 10  -- before 11
     ∷ case N past (point (Inf ∷ []) 2) 11
     ∷ case N past (point (nan ∷ []) 2) 11
-    ∷ case N (ready 2147483645 0) (point (Inf ∷ []) 2) 11 -- before 18
+    ∷ case N (ready 2147483645 0) (point (Inf ∷ []) 2) 11  -- before 18
     ∷ case N (ready 2147483645 0) (point (one ∷ []) 2) 18
     ∷ case N (ready 2147483644 0) (point (one ∷ []) 2) 0
     ∷ case N (ready 0 9223372036854775806) (point (one ∷ []) 2) 18
     ∷ case N (ready 0 9223372036854775805) (point (one ∷ []) 2) 0
-    ∷ case N (ready 2147483645 0) (point (one ∷ []) 0) 18 -- before 20
+    ∷ case N (ready 2147483645 0) (point (one ∷ []) 0) 18  -- before 20
     ∷ case N past (point (one ∷ []) 1) 20
     ∷ case N past (point (one ∷ []) 2) 0
     ∷ case A past (point (one ∷ []) 3) 20
-    ∷ case N waits (point (one ∷ []) 0) 0 -- while waiting it writes nothing
+    ∷ case N waits (point (one ∷ []) 0) 0  -- while waiting it writes nothing
     ∷ []
 
 -- a learn: input, time, y, expected point, grade, index; room of the deviations, and of past and expected values
@@ -124,21 +124,21 @@ odd i y = learning (one ∷ []) 9 y none one i 1 1 1
 learnings : List Case
 learnings =
     case N past (plain [] 9 none) 10
-    ∷ case N past (plain (Inf ∷ Inf ∷ []) 9 none) 10 -- before 11
+    ∷ case N past (plain (Inf ∷ Inf ∷ []) 9 none) 10  -- before 11
     ∷ case N past (plain (Inf ∷ []) 9 none) 11
-    ∷ case N past (plain (nan ∷ []) 0 none) 11 -- before 12
+    ∷ case N past (plain (nan ∷ []) 0 none) 11  -- before 12
     ∷ case N waits (plain (one ∷ []) 4 none) 12
     ∷ case N waits (plain (one ∷ []) 5 none) 0
-    ∷ case N (ready 0 0) (plain (one ∷ []) 6 none) 12 -- internal 0: the last `buf`
+    ∷ case N (ready 0 0) (plain (one ∷ []) 6 none) 12  -- internal 0: the last `buf`
     ∷ case N (ready 0 0) (plain (one ∷ []) 7 none) 0
     ∷ case N past (plain (one ∷ []) 8 none) 12
     ∷ case N past (plain (one ∷ []) 9 none) 0
     ∷ case N empty (plain (one ∷ []) 0 none) 0
-    ∷ case N past (plain (one ∷ []) 8 (some [])) 12 -- before 13
+    ∷ case N past (plain (one ∷ []) 8 (some [])) 12  -- before 13
     ∷ case N past (plain (one ∷ []) 9 (some [])) 13
     ∷ case N past (learning (one ∷ []) 9 none (some (room 3)) zero32 (pos 0) 1 1 1) 13
     ∷ case N waits (plain (one ∷ []) 9 (some [])) 0
-    ∷ case N past (odd (pos 1) (some [])) 13 -- before 14
+    ∷ case N past (odd (pos 1) (some [])) 13  -- before 14
     ∷ case N past (odd (pos 1) (some (room 2))) 14
     ∷ case N past (odd (negsuc 1) (some (room 2))) 14
     ∷ case N past (odd (negsuc 0) (some (room 2))) 0
@@ -146,24 +146,24 @@ learnings =
     ∷ case N waits (odd (pos 1) (some (room 2))) 0
     ∷ case N past (learning (one ∷ []) 9 (some (room 2)) none zero32 (pos 1) 1 1 1) 0
     ∷ case N past (learning (one ∷ []) 9 (some (room 2)) none nan (pos 1) 1 1 1) 0
-    ∷ case N (know 3 3 2147483646 (7 ∷ 9 ∷ []) []) (odd (pos 1) (some (room 2))) 14 -- before 18
+    ∷ case N (know 3 3 2147483646 (7 ∷ 9 ∷ []) []) (odd (pos 1) (some (room 2))) 14  -- before 18
     ∷ case N (know 3 3 2147483646 (7 ∷ 9 ∷ []) []) (plain (one ∷ []) 9 (some (room 2))) 18
     ∷ case N (know 3 3 2147483645 (7 ∷ 9 ∷ []) []) (plain (one ∷ []) 9 (some (room 2))) 0
-    ∷ case N (know 9 3 2147483646 (7 ∷ 9 ∷ []) []) (plain (one ∷ []) 9 (some (room 2))) 0 -- at stop nothing is fed
+    ∷ case N (know 9 3 2147483646 (7 ∷ 9 ∷ []) []) (plain (one ∷ []) 9 (some (room 2))) 0  -- at stop nothing is fed
     ∷ case N (know 3 3 2147483646 (7 ∷ 9 ∷ []) []) (plain (one ∷ []) 9 none) 0
     ∷ case N (know 9223372036854775807 3 3 (7 ∷ 9 ∷ []) []) (plain (one ∷ []) 9 (some (room 2))) 18
     ∷ case N (know 9223372036854775806 3 3 (7 ∷ 9 ∷ []) []) (plain (one ∷ []) 9 (some (room 2))) 0
     ∷ case N (know 3 9223372036854775807 3 (7 ∷ 9 ∷ []) []) (plain (one ∷ []) 9 (some (room 2))) 18
     ∷ case (starting 9223372036854775808) (know 9223372036854775807 0 0 (0 ∷ 0 ∷ []) []) (plain (one ∷ []) 9 none) 18
-    ∷ case N (know 3 3 2147483646 (7 ∷ 9 ∷ []) []) (learning (one ∷ []) 9 (some (room 2)) none zero32 (pos 0) 0 0 0) 18 -- before 20
+    ∷ case N (know 3 3 2147483646 (7 ∷ 9 ∷ []) []) (learning (one ∷ []) 9 (some (room 2)) none zero32 (pos 0) 0 0 0) 18  -- before 20
     ∷ case N past (learning (one ∷ []) 9 (some (room 2)) none zero32 (pos 0) 0 0 0) 20
     ∷ case A past (learning (one ∷ []) 9 (some (room 4)) none zero32 (pos 0) 1 0 0) 20
     ∷ case N past (learning (one ∷ []) 9 none none zero32 (pos 0) 0 0 0) 0
-    ∷ case N past (learning (one ∷ []) 9 (some (room 2)) none one (pos 0) 1 0 0) 0 -- no expected point, no anomaly
+    ∷ case N past (learning (one ∷ []) 9 (some (room 2)) none one (pos 0) 1 0 0) 0  -- no expected point, no anomaly
     ∷ case N past (learning (one ∷ []) 9 (some (room 2)) (some (room 2)) one (pos 0) 1 0 1) 20
     ∷ case N past (learning (one ∷ []) 9 (some (room 2)) (some (room 2)) one (pos 0) 1 1 0) 20
     ∷ case N past (learning (one ∷ []) 9 (some (room 2)) (some (room 2)) one (pos 0) 1 1 1) 0
-    ∷ case N waits (learning (one ∷ []) 9 none none zero32 (pos 0) 0 0 0) 20 -- the reading that completes start
+    ∷ case N waits (learning (one ∷ []) 9 none none zero32 (pos 0) 0 0 0) 20  -- the reading that completes start
     ∷ case N empty (learning (one ∷ []) 9 none none zero32 (pos 0) 0 0 0) 0
     ∷ case N waits (learning (one ∷ []) 4 none none zero32 (pos 0) 0 0 0) 12
     ∷ []
@@ -182,16 +182,16 @@ others =
     ∷ case N (ready 2147483645 0) drain 18
     ∷ case N (ready 2147483644 0) drain 0
     ∷ case N (ready 0 9223372036854775806) drain 18
-    ∷ case N past (transform [] 0 (room 0)) 10 -- before 20
+    ∷ case N past (transform [] 0 (room 0)) 10  -- before 20
     ∷ case N past (transform (one ∷ []) 0 (room 0)) 20
     ∷ case A past (transform (one ∷ []) 0 (room 1)) 20
-    ∷ case N past (transform (Inf ∷ []) 0 (room 1)) 0 -- infinities go through
+    ∷ case N past (transform (Inf ∷ []) 0 (room 1)) 0  -- infinities go through
     ∷ case P past (turning (room 1) (room 2) 0 0) 16
     ∷ case P past (turning [] [] 0 0) 0
     ∷ case D past (turning [] [] 0 0) 16
     ∷ case D past (turning (room 3) (room 3) 0 0) 16
     ∷ case D past (turning (room 4) (room 4) 0 0) 0
-    ∷ case A past (turning (room 3) (room 3) 0 0) 16 -- before 20
+    ∷ case A past (turning (room 3) (room 3) 0 0) 16  -- before 20
     ∷ case A past (turning (room 4) (room 4) 1 1) 20
     ∷ case A past (turning (room 4) (room 4) 2 0) 20
     ∷ case A past (turning (room 7) (room 7) 2 1) 0

@@ -5,9 +5,9 @@ use mathlib.Core.Bool.{Bool, true}
 use mathlib.Core.List.{List, [], _∷_, _++_, map}
 use mathlib.Core.Option.{Option, none, some}
 use lib.IntN.{pos, negsuc}
-use lib.ListN.{take, replicate}
+use lib.ListN.{replicate}
 use lib.Ieee.{Float, binary32, toBits, ofBits, size, round, le, lt, eq, add, sub, mul, div, ofInt}
-use Rattle.restart.specs.History.{initial, learned, drained, seenOf, internalOf, bufferOf, shingled, inputsOf, timestampsOf, newestOf, countOf, statisticsOf, historyState, historyFacts, historyRefusal, complete, adds, enter, entries, historyText, historyAnswer, historyAnswers}
+use Rattle.restart.specs.History.{Entry, initial, learned, drained, seenOf, internalOf, bufferOf, shingled, inputsOf, timestampsOf, newestOf, countOf, statisticsOf, historyState, historyFacts, historyRefusal, complete, adds, enter, entries, historyText, historyAnswer, historyAnswers}
 use Rattle.trcf.specs.declared.types.TransformMethod.{TransformMethod}
 use Rattle.trcf.specs.declared.types.TransformMethod.the-variants.{NONE, NORMALIZE}
 use Rattle.trcf.specs.declared.types.ForestMode.{ForestMode}
@@ -21,7 +21,7 @@ use Rattle.trcf.specs.Lists.{lastN, shiftIn, overwrite}
 use Rattle.trcf.specs.Transformer.{zero32, statisticAt, putStatistic, fed, deviationsAt, putDeviations, fedAt, channelsFed, updated, normalizedScale, basicShift, basicDrift, weightAt, transformed, unweighted, inverted, reciprocal, forecastAt, forecastTo, invertedForecast, scales, shifts, differenceDeviations}
 use Rattle.trcf.specs.Settings.{Settings, block, dimension, waiting}
 use Rattle.trcf.specs.Calls.{Call, shingledPoint, postProcess, drain, transform, invertExtrapolation, scale, shift, status, finite, due, newest, wrongLength, outside, drainFull, learnFull, lookahead, unturnable, turnShort, waitingShort, learnShort, table, rows}
-use Rattle.trcf.specs.Preprocessor.{fresh, facts, refusal, timeFed, feed, timescale, timedrift, timeElement, transformedAfter, previous, primed, drainOne, drainAll, drained as drainedState, held, learned as learnedState, learnedWith, change, next, run, deviations, scaleOf, shiftOf, pointOf, invertTime, numbersOf, timesOf, blockFrom, pastValues, expectedValues, anomalyOf, Answer, refused, absent, done, wrote, learnt, turned, told, learnedNothing, heldAnswer, learnedAnswer, learnAnswer, turnedBack, statusOf, reply, answer, answers}
+use Rattle.trcf.specs.Preprocessor.{State, fresh, facts, refusal, timeFed, feed, timescale, timedrift, timeElement, transformedAfter, previous, primed, drainOne, drainAll, drained as drainedState, held, learned as learnedState, learnedWith, change, next, run, deviations, scaleOf, shiftOf, pointOf, invertTime, numbersOf, timesOf, blockFrom, pastValues, expectedValues, anomalyOf, Answer, refused, absent, done, wrote, learnt, turned, told, learnedNothing, heldAnswer, learnedAnswer, learnAnswer, turnedBack, statusOf, reply, answer, answers}
 use Rattle.snapshot.specs.Text.{whole, float, setLine, singles, cntLine, devLine, timLine, bufLine, linesOf, render}
 use Rattle.snapshot.specs.Read.{same}
 
@@ -125,13 +125,13 @@ devZeros = 100 ∷ 101 ∷ 118 ∷ 9 ∷ (zeros 16 ++ 9 ∷ (zeros 16 ++ 9 ∷ (
 
 abbrev benchText : List ℕ
 benchText =
-    115 ∷ 101 ∷ 116 ∷ 9 ∷ 83 ∷ 9 ∷ 48 ∷ 9 ∷ 49 ∷ 9 ∷ 49 ∷ 9 ∷ 49 ∷ 48 ∷ 9 ∷ 50 ∷ 48 ∷ 9 ∷ (zeros 16 ++ 9 ∷ 51 ∷ 102 ∷ 56 ∷ (zeros 5 ++ 10 -- set S 0 1 1 10 20 0000000000000000 3f800000
-    ∷ 119 ∷ 103 ∷ 116 ∷ 9 ∷ 51 ∷ 102 ∷ 56 ∷ (zeros 5 ++ 10 -- wgt 3f800000
-    ∷ 99 ∷ 110 ∷ 116 ∷ 9 ∷ 48 ∷ 9 ∷ 48 ∷ 9 ∷ 48 ∷ 10 -- cnt 0 0 0
+    115 ∷ 101 ∷ 116 ∷ 9 ∷ 83 ∷ 9 ∷ 48 ∷ 9 ∷ 49 ∷ 9 ∷ 49 ∷ 9 ∷ 49 ∷ 48 ∷ 9 ∷ 50 ∷ 48 ∷ 9 ∷ (zeros 16 ++ 9 ∷ 51 ∷ 102 ∷ 56 ∷ (zeros 5 ++ 10  -- set S 0 1 1 10 20 0000000000000000 3f800000
+    ∷ 119 ∷ 103 ∷ 116 ∷ 9 ∷ 51 ∷ 102 ∷ 56 ∷ (zeros 5 ++ 10  -- wgt 3f800000
+    ∷ 99 ∷ 110 ∷ 116 ∷ 9 ∷ 48 ∷ 9 ∷ 48 ∷ 9 ∷ 48 ∷ 10  -- cnt 0 0 0
     ∷ (devZeros ++ devZeros ++ devZeros ++ devZeros ++ devZeros ++ devZeros ++ devZeros ++ devZeros ++ devZeros ++ devZeros
-    ++ 105 ∷ 110 ∷ 112 ∷ 9 ∷ (zeros 8 ++ 10 -- inp 00000000
-    ∷ 112 ∷ 110 ∷ 116 ∷ 9 ∷ (zeros 8 ++ 10 -- pnt 00000000
-    ∷ 116 ∷ 105 ∷ 109 ∷ 9 ∷ 48 ∷ 10 ∷ [])))))) -- tim 0
+    ++ 105 ∷ 110 ∷ 112 ∷ 9 ∷ (zeros 8 ++ 10  -- inp 00000000
+    ∷ 112 ∷ 110 ∷ 116 ∷ 9 ∷ (zeros 8 ++ 10  -- pnt 00000000
+    ∷ 116 ∷ 105 ∷ 109 ∷ 9 ∷ 48 ∷ 10 ∷ []))))))  -- tim 0
 
 pub bench-text : historyText bench [] ≡ benchText
 unfolding recording writing
@@ -219,37 +219,23 @@ pub every-answer : answers (fresh augmented) every ≡ historyAnswers augmented 
 unfolding answering recording
 every-answer = refl
 
--- at each of the 17 places the text is the history's, byte for byte; a few places to a fact
-abbrev agree : ℕ → Bool
-agree n = same (render (run (fresh augmented) (take n every))) (historyText augmented (take n every))
+-- the text at each place of a list of calls: of the state, and of the history
+abbrev texts : State → List Call → List (List ℕ)
+texts w [] = render w ∷ []
+texts w (c ∷ cs) = render w ∷ texts (next w c) cs
 
-pub places-0 : map agree (0 ∷ 1 ∷ 2 ∷ 3 ∷ 4 ∷ []) ≡ replicate 5 true
-unfolding running recording writing
-places-0 = refl
+abbrev historyTexts : Settings → List Entry → List Call → List (List ℕ)
+historyTexts s es [] = render (historyState s es) ∷ []
+historyTexts s es (c ∷ cs) = render (historyState s es) ∷ historyTexts s (enter s es c) cs
 
-pub places-5 : map agree (5 ∷ 6 ∷ 7 ∷ []) ≡ replicate 3 true
-unfolding running recording writing
-places-5 = refl
+abbrev agree : List (List ℕ) → List (List ℕ) → List Bool
+agree [] ts = []
+agree (t ∷ ts) [] = []
+agree (t ∷ ts) (u ∷ us) = same t u ∷ agree ts us
 
-pub places-8 : map agree (8 ∷ 9 ∷ []) ≡ replicate 2 true
+pub every-place : agree (texts (fresh augmented) every) (historyTexts augmented [] every) ≡ replicate 17 true
 unfolding running recording writing
-places-8 = refl
-
-pub places-10 : map agree (10 ∷ 11 ∷ []) ≡ replicate 2 true
-unfolding running recording writing
-places-10 = refl
-
-pub places-12 : map agree (12 ∷ 13 ∷ []) ≡ replicate 2 true
-unfolding running recording writing
-places-12 = refl
-
-pub places-14 : map agree (14 ∷ 15 ∷ []) ≡ replicate 2 true
-unfolding running recording writing
-places-14 = refl
-
-pub places-16 : map agree (16 ∷ []) ≡ replicate 1 true
-unfolding running recording writing
-places-16 = refl
+every-place = refl
 
 -- values_seen, internal and count at the end: two W's and two L's, of which the last came at stop
 pub every-count : historyState augmented (entries augmented every) .valuesSeen ∷ historyState augmented (entries augmented every) .internalTimestamp ∷ historyState augmented (entries augmented every) .count ∷ []
