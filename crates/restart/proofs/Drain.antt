@@ -1,4 +1,4 @@
--- Drain's second pass in closed form, and so the entry drained.
+-- Drain's second pass in closed form, from which the entry F follows.
 use Prim.Native.Nat.{ℕ, suc, _+_, _*_, _≤_, _<_}
 use native.Mathlib.Nat.{add-zero, suc-add, add-suc, le-mul-of-pos-right}
 use native.Mathlib.Omega.{arith}

@@ -19,7 +19,7 @@ use Rattle.trcf.specs.Preprocessor.{State, statisticsLength, Reading, reading, 
 use Rattle.restart.proofs.Lists.{lastN-shift, lastN-all, lastN-newest, lastOr-newest, Each, timestamps-append, values-snoc, length-after, feedAll-after, feedEach-append, overwrite-fresh}
 use Rattle.restart.proofs.Drain.{mid, pass}
 
--- ---- nothing but initial's
+-- ---- nothing but W's
 
 pub record Unmixed (s : Settings) (es : List Entry) : Type 0 where
   pub noF : isDrained es ≡ false
@@ -36,7 +36,7 @@ unmixed s (initial x t ∷ es) h =
 unmixed s (learned x t y ∷ es) h = absurd (false≢true h)
 unmixed s (drained ∷ es) h = absurd (false≢true h)
 
--- ---- drained
+-- ---- F
 
 module _ (s : Settings) (k>0 : 0 < s .k) (es : List Entry) (r : Reading) (rs : List Reading) (ew : initials es ≡ r ∷ rs) (q : Unmixed s es) (e : Each (s .d) (r ∷ rs)) where
   ready : primed (historyState s es) r (r ∷ rs)
@@ -56,7 +56,7 @@ module _ (s : Settings) (k>0 : 0 < s .k) (es : List Entry) (r : Reading) (rs : L
     initialTimestamps = [];
   })
 
-  -- drain makes drained of the history
+  -- drain makes the state of the history with F
   pub drained-state : drainAll (historyState s es) (r ∷ rs) ≡ historyState s (drained ∷ es)
   unfolding drainAll historyState internalOf countOf statisticsOf inputsOf timestampsOf shingled seenOf bufferOf
   drained-state = ap (λ (w : State). drainEach w (r ∷ rs)) ready
@@ -71,7 +71,7 @@ module _ (s : Settings) (k>0 : 0 < s .k) (es : List Entry) (r : Reading) (rs : L
         append-assoc (replicate (s .k) 0) (r .time ∷ []) (r .time ∷ timestamps rs),
       ))
 
--- ---- initial, while there is no drained
+-- ---- W, while there is no F
 
 module _ (s : Settings) (es : List Entry) (noF : isDrained es ≡ false) where
   pub initial-state : (l : Learn) → held (historyState s es) l ≡ historyState s (initial (l .input) (l .timestamp) ∷ es)
@@ -92,7 +92,7 @@ module _ (s : Settings) (es : List Entry) (noF : isDrained es ≡ false) where
       e : suc (length (initials es) + length (learns es)) ≡ length (initials es ++ (reading (l .input) (l .timestamp) ∷ [])) + length (learns es)
       e = simp length-append (omega arith)
 
--- ---- learned
+-- ---- L
 
 -- a reading that is fed or not
 fed-length : (b : Bool) (ps : List Fed) (p : Fed) → cond b (suc (length ps)) (length ps) ≡ length (ps ++ cond b (p ∷ []) [])

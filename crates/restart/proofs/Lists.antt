@@ -1,4 +1,4 @@
--- Laws of the last n of a list, of shifting in, and of values lists of readings.
+-- Laws of the last n of a list, of shifting in, and of the flat lists of readings.
 use Prim.Native.Nat.{ℕ, zero, suc, _+_, _-_, _≤_}
 use native.Mathlib.Nat.{add-zero, zero-add, suc-add, add-suc}
 use native.Mathlib.Omega.{arith}
@@ -47,7 +47,6 @@ module _ {A : Type 0} where
   lastOr-snoc a [] x = refl
   lastOr-snoc a (y ∷ ys) x = lastOr-snoc y ys x
 
-  -- the last of the last n, where n > 0
   pub take-replicate : (m n : ℕ) (a : A) → take m (replicate (m + n) a) ≡ replicate m a
   take-replicate zero n a = refl
   take-replicate (suc m) n a = rw suc-add (ap (λ (l : List A). a ∷ l) (take-replicate m n a))
@@ -94,7 +93,7 @@ pub null-timestamps : (a : List Reading) → null (timestamps a) ≡ null a
 null-timestamps [] = refl
 null-timestamps (r ∷ rs) = refl
 
--- the values memory read back
+-- the flat lists read back
 pub blocks-values : (n : ℕ) (rs : List Reading) → Each n rs → blocks n (values rs) (timestamps rs) ≡ rs
 blocks-values n [] h = refl
 blocks-values n (r ∷ rs) h =

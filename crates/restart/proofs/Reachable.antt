@@ -49,7 +49,7 @@ lastOr-drop a zero l h = refl
 lastOr-drop a (suc n) [] h = absurd (omega arith)
 lastOr-drop a (suc n) (x ∷ xs) h = lastOr-drop a n xs (omega arith) ∙ lastOr-any a x xs (omega arith)
 
--- the newest of `tim` is the newest of the shingled
+-- the newest of `tim` is the newest of what stands behind the zeros
 newest-time : (k : ℕ) (l : List ℕ) → 0 < k → lastOr 0 (lastN k (replicate k 0 ++ l)) ≡ lastOr 0 l
 unfolding lastN
 newest-time k l h =
@@ -150,7 +150,7 @@ or-right : (a b : Bool) → a || b ≡ false → b ≡ false
 or-right true b h = absurd (true≢false h)
 or-right false b h = h
 
--- ---- what the rows say of an accepted postProcess
+-- ---- what the rows say of an accepted learn
 
 pub record Passed (s : Settings) (f : Facts) (l : Learn) : Type 0 where
   pub asWide : length (l .input) ≡ s .d
@@ -182,7 +182,7 @@ passed s f l e =
           );
     }
 
--- the statistics are fedOf, or not
+-- the statistics are fed, or not
 count-one : (b : Bool) (ps : List Fed) (p : Fed) → (b ≡ true → length ps < countLimit) → length ps ≤ countLimit → length (ps ++ cond b (p ∷ []) []) ≤ countLimit
 count-one true ps p h k = simp length-append (omega (arith, h refl))
 count-one false ps p h k = simp append-nil k
@@ -200,7 +200,7 @@ unfolding internalOf shingled
 empty-line es h = empty (isDrained es) (initials es) (learns es) h
 
 module _ (s : Settings) (k>0 : 0 < s .k) (es : List Entry) (v : Inv s es) (g : Good s es) where
-  -- row 12 for initial and for learned
+  -- row 12 for W and for L
   after-buf : internalOf es ≡ 0 → (t : ℕ) → newest (historyFacts s es) ≤ t → lastOr 0 (timestamps (bufferOf es)) ≤ t
   unfolding newest historyFacts
   after-buf z t h = rw z at h

@@ -4,11 +4,13 @@ use mathlib.Core.Bool.{Bool, true, false, cond}
 use mathlib.Core.List.{List, [], _∷_, _++_, append-assoc, append-nil, reverse, reverse-cons}
 use lib.ListN.{replicate}
 use lib.Ieee.{Float}
-use Rattle.restart.specs.History.{Entry, initial, learned, drained, initials, learns, isDrained, seenOf, internalOf, bufferOf, shingled, inputsOf, timestampsOf, newestOf, Fed, fedOf, countOf, statisticsOf, pointsOf, historyState}
+use Rattle.restart.specs.History.{Entry, initial, learned, drained, initials, learns, isDrained, seenOf, internalOf, bufferOf, shingled, inputsOf, timestampsOf, newestOf, Fed, fedOf, countOf, statisticsOf, pointsOf, historyState, entries, historyText}
 use Rattle.restart.specs.Chronicle.{Ws, Ls, stands, fedBy, fedFrom, pointsBy, pointsFrom, chronicle}
 use Rattle.trcf.specs.Transformer.{zero32}
 use Rattle.trcf.specs.Settings.{Settings, dimension}
+use Rattle.trcf.specs.Calls.{Call}
 use Rattle.trcf.specs.Preprocessor.{Reading, reading}
+use Rattle.snapshot.specs.Text.{render}
 
 Ws-append : (a b : List Entry) → Ws (a ++ b) ≡ Ws a ++ Ws b
 Ws-append [] b = refl
@@ -90,3 +92,8 @@ same-points s (e ∷ es) =
 pub same-history : (s : Settings) (es : List Entry) → chronicle s (reverse es) ≡ historyState s es
 unfolding chronicle historyState seenOf internalOf countOf statisticsOf inputsOf timestampsOf shingled bufferOf
 same-history s es = rw (same-W es, same-L es, same-F es, same-fed s es, same-points s es)
+
+-- so the text may be read off either
+pub chronicle-text : (s : Settings) (cs : List Call) → historyText s cs ≡ render (chronicle s (reverse (entries s cs)))
+unfolding historyText
+chronicle-text s cs = ap render (sym (same-history s (entries s cs)))

@@ -50,7 +50,7 @@ still s es (stranded f m n p) h =
     let g : ltb (length (initials es) + length (learns es)) (s .start) ≡ true = and-right (normalizes (s .method)) _ h in
     absurd (omega (arith, ltb-true))
 
--- ---- drain is due exactly when the entries are start initial's
+-- ---- drain is due exactly when the entries are start W's
 
 pub is-false : (b : Bool) → (b ≡ true → ⊥) → b ≡ false
 is-false true h = absurd (h refl)
@@ -91,7 +91,7 @@ module _ (s : Settings) (es : List Entry) where
         wide = all-append _ (initials es) _ (v .wide) (e, tt);
       }
 
-  -- complete: only initial's, as many as start
+  -- complete: only W's, as many as start
   pub isFull : complete s es ≡ true → (onlyInitials es ≡ true) × (length (initials es) ≡ s .start) × (0 < s .start)
   unfolding complete
   isFull h =
@@ -158,7 +158,7 @@ module _ (s : Settings) (k>0 : 0 < s .k) where
   unfolding drainedState historyState facts historyFacts
   drain-step es v = rw (due-full s es (v .phase)) (drain-at es v (complete s es) refl)
 
-  -- waiting: a shingledPoint does nothing
+  -- waiting: a point does nothing
   point-at : (es : List Entry) → Inv s es → (b : Bool) → waiting s (seenOf es) ≡ b → Kept (cond b (historyState s es) (drainedState (historyState s es))) (cond (complete s es) (drained ∷ es) es)
   point-at es v true e =
       let h : (onlyInitials es ≡ true) × (length (initials es) < s .start) × (normalizes (s .method) ≡ true) = still s es (v .phase) e in
