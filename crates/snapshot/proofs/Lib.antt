@@ -6,3 +6,5 @@ pub mod ReadLine
 pub mod ReadPlan
 pub mod ReadKinds
 pub mod ReadText
+pub mod ReadBytes
+pub mod ReadExamples
