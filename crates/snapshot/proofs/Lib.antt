@@ -8,3 +8,8 @@ pub mod ReadKinds
 pub mod ReadText
 pub mod ReadBytes
 pub mod ReadExamples
+pub mod ScanLaws
+pub mod HexLaws
+pub mod ByKind
+pub mod ByField
+pub mod LineLaws
