@@ -118,7 +118,7 @@ hex-hscan (suc w) n h k =
     let d : hexOf (digit (n % 16)) ≡ n % 16 = digit-hex (n % 16) q in
     hscan-snoc 0 (hex w (n / 16)) (digit (n % 16)) (n / 16) (omega arith) (omega arith) (hex-hscan w (n / 16) (omega arith) (omega arith)) ∙ ap some (omega arith)
 
-hex-length : (w n : ℕ) → length (hex w n) ≡ w
+pub hex-length : (w n : ℕ) → length (hex w n) ≡ w
 hex-length zero n = refl
 hex-length (suc w) n = length-append (hex w (n / 16)) _ ∙ omega (arith, hex-length w (n / 16))
 

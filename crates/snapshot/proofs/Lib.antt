@@ -13,3 +13,4 @@ pub mod HexLaws
 pub mod ByKind
 pub mod ByField
 pub mod LineLaws
+pub mod WriteLaws

@@ -47,11 +47,11 @@ fuel (suc f) (suc g) n h k = go (ltb n 10) refl (λ p q. fuel f g (n / 10) p q)
     go true e ih = rw (e, decimal)
     go false e ih = let m : 10 ≤ n = ltb-false _ _ e in rw (e, decimal, ih (omega arith) (omega arith))
 
-whole-digit : (d : ℕ) → d < 10 → whole d ≡ (48 + d) ∷ []
+pub whole-digit : (d : ℕ) → d < 10 → whole d ≡ (48 + d) ∷ []
 unfolding whole
 whole-digit d h = rw (lt-ltb d 10 h, decimal)
 
-whole-snoc : (m d : ℕ) → 0 < m → d < 10 → whole (10 * m + d) ≡ whole m ++ ((48 + d) ∷ [])
+pub whole-snoc : (m d : ℕ) → 0 < m → d < 10 → whole (10 * m + d) ≡ whole m ++ ((48 + d) ∷ [])
 unfolding whole
 whole-snoc m d h k =
     let q : (10 * m + d) / 10 ≡ m = omega arith in

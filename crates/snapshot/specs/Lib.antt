@@ -4,3 +4,4 @@ pub mod Read
 pub mod Scan
 pub mod Parts
 pub mod LineLength
+pub mod Write
