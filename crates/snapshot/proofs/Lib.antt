@@ -14,3 +14,4 @@ pub mod ByKind
 pub mod ByField
 pub mod LineLaws
 pub mod WriteLaws
+pub mod LineBytes

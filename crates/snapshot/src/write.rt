@@ -155,3 +155,58 @@ fn tab_wholes(out: &mut [u8], at: usize, v: &[u64]) -> usize
     }
     p
 }
+
+// A line of f32: `wgt`, `inp`, `pnt`.
+fn singles_line(out: &mut [u8], at: usize, a: u8, b: u8, c: u8, v: &[f32]) -> usize
+    requires { ⌜ at + length (bytesOfLine (singles (a ∷ b ∷ c ∷ []) (now v))) ≤ length (now out) ⌝ }
+    ensures { λ r. ⌜ Wrote at (bytesOfLine (singles (a ∷ b ∷ c ∷ []) (now (v .entry)))) (now (out .entry)) r (now (out .exit)) ⌝ }
+{
+    let p = write_name(out, at, a, b, c);
+    let q = tab_singles(out, p, v);
+    write_byte(out, q, 10)
+}
+
+// The line of the last times.
+fn tim_line(out: &mut [u8], at: usize, v: &[u64]) -> usize
+    requires { ⌜ at + length (bytesOfLine (timLine (now v))) ≤ length (now out) ⌝ }
+    ensures { λ r. ⌜ Wrote at (bytesOfLine (timLine (now (v .entry)))) (now (out .entry)) r (now (out .exit)) ⌝ }
+{
+    let p = write_name(out, at, 116, 105, 109);
+    let q = tab_wholes(out, p, v);
+    write_byte(out, q, 10)
+}
+
+// The line of the counters.
+fn cnt_line(out: &mut [u8], at: usize, seen: u64, internal: u64, count: u64) -> usize
+    requires { ⌜ at + length (bytesOfLine (cntLine seen internal count)) ≤ length (now out) ⌝ }
+    ensures { λ r. ⌜ Wrote at (bytesOfLine (cntLine seen internal count)) (now (out .entry)) r (now (out .exit)) ⌝ }
+{
+    let p = write_name(out, at, 99, 110, 116);
+    let q = tab_whole(out, p, seen);
+    let s = tab_whole(out, q, internal);
+    let t = tab_whole(out, s, count);
+    write_byte(out, t, 10)
+}
+
+// The line of one statistic.
+fn dev_line(out: &mut [u8], at: usize, weight: f64, sum: f64, squares: f64) -> usize
+    requires { ⌜ at + 55 ≤ length (now out) ⌝ }
+    ensures { λ r. ⌜ Wrote at (bytesOfLine (devLine weight sum squares)) (now (out .entry)) r (now (out .exit)) ⌝ }
+{
+    let p = write_name(out, at, 100, 101, 118);
+    let q = tab_double(out, p, weight);
+    let s = tab_double(out, q, sum);
+    let t = tab_double(out, s, squares);
+    write_byte(out, t, 10)
+}
+
+// A line of one initial value and its time.
+fn buf_line(out: &mut [u8], at: usize, time: u64, v: &[f32]) -> usize
+    requires { ⌜ at + length (bytesOfLine (bufLine time (now v))) ≤ length (now out) ⌝ }
+    ensures { λ r. ⌜ Wrote at (bytesOfLine (bufLine time (now (v .entry)))) (now (out .entry)) r (now (out .exit)) ⌝ }
+{
+    let p = write_name(out, at, 98, 117, 102);
+    let q = tab_whole(out, p, time);
+    let s = tab_singles(out, q, v);
+    write_byte(out, s, 10)
+}
