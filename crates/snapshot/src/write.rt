@@ -2,12 +2,12 @@
 // and returns the place behind them.
 ghost use mathlib.Core.Path.{_≡_};
 ghost use mathlib.Core.List.{[], _∷_, _++_, map};
-ghost use Prim.Native.Nat.{_+_, _≤_, _<_};
+ghost use Prim.Native.Nat.{_+_, _*_, _≤_, _<_};
 ghost use lib.ListN.{length};
 ghost use lib.Ieee.{binary32, binary64, toBits};
 ghost use Rattle.snapshot.specs.Text.{whole, digit, hex, float, bytesOf, singles, cntLine, devLine, devLines, timLine, bufLine, bufLines};
 ghost use Rattle.snapshot.specs.Read.{bytesOfLine};
-ghost use Rattle.snapshot.specs.Write.{Wrote, tabbed};
+ghost use Rattle.snapshot.specs.Write.{Wrote, tabbed, setBytes};
 
 // A lower-case hexadecimal digit.
 fn hex_digit(n: u64) -> u8
@@ -209,4 +209,50 @@ fn buf_line(out: &mut [u8], at: usize, time: u64, v: &[f32]) -> usize
     let q = tab_whole(out, p, time);
     let s = tab_singles(out, q, v);
     write_byte(out, s, 10)
+}
+
+// The line of the settings, from the letter of the mode and the number of the method.
+fn set_line(out: &mut [u8], at: usize, letter: u8, method: u64, d: u64, k: u64, start: u64, stop: u64, decay: f64, weight_time: f32) -> usize
+    requires { ⌜ at + length (setBytes letter method d k start stop decay «weight_time») ≤ length (now out) ⌝ }
+    ensures { λ r. ⌜ Wrote at (setBytes letter method d k start stop decay «weight_time») (now (out .entry)) r (now (out .exit)) ⌝ }
+{
+    let wholes = [method, d, k, start, stop];
+    let p = write_name(out, at, 115, 101, 116);
+    let q = write_byte(out, p, 9);
+    let s = write_byte(out, q, letter);
+    let t = tab_wholes(out, s, &wholes[..]);
+    let u = tab_double(out, t, decay);
+    let v = tab_single(out, u, weight_time);
+    write_byte(out, v, 10)
+}
+
+// The lines of the statistics, three numbers each.
+fn dev_lines(out: &mut [u8], at: usize, v: &[f64]) -> usize
+    requires { ⌜ at + length (bytesOf (devLines (now v))) ≤ length (now out) ⌝ }
+    ensures { λ r. ⌜ Wrote at (bytesOf (devLines (now (v .entry)))) (now (out .entry)) r (now (out .exit)) ⌝ }
+{
+    let mut p = at;
+    let mut i = 0;
+    while i + 2 < v.len() {
+        p = dev_line(out, p, v[i], v[i + 1], v[i + 2]);
+        i += 3;
+    }
+    p
+}
+
+// The lines of the initial values, d numbers each.
+fn buf_lines(out: &mut [u8], at: usize, d: usize, v: &[f32], times: &[u64]) -> usize
+    requires { ⌜ length (now times) * d ≤ length (now v) ⌝ }
+    requires { ⌜ at + length (bytesOf (bufLines d (now v) (now times))) ≤ length (now out) ⌝ }
+    ensures { λ r. ⌜ Wrote at (bytesOf (bufLines d (now (v .entry)) (now (times .entry)))) (now (out .entry)) r (now (out .exit)) ⌝ }
+{
+    let mut p = at;
+    let mut i = 0;
+    let mut k = 0;
+    while i < times.len() {
+        p = buf_line(out, p, times[i], &v[k..k + d]);
+        i += 1;
+        k += d;
+    }
+    p
 }
