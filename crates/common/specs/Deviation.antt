@@ -53,6 +53,10 @@ newOf d = answered (firstOf ((outsideUnit d, 6) ∷ [])) (emptyWith d)
 unfoldable pub createOf : Float → Float → Float → Float → ℕ → DeviationResult
 createOf d w s q n = answered (firstOf ((outsideUnit d, 6) ∷ (ltb countLimit n, 18) ∷ [])) (statistic d w s q n)
 
+-- the source's `reset`: all but the discount begins anew
+abbrev pub resetOf : Deviation → Deviation
+resetOf s = emptyWith (s .discount)
+
 -- "The factor is 1.0 when discount is 0, otherwise the smaller of 1 − discount and 1 − 1/(count + 2)."
 unfoldable pub factorOf : Float → ℕ → Float
 factorOf d n =
@@ -87,3 +91,12 @@ unfoldable pub deviationOf : Deviation → Float
 deviationOf s =
     let m = div binary64 (s .sum) (s .weight) in
     cond (isEmpty s) zero64 (rootAbove (sub binary64 (div binary64 (s .«sum_squared») (s .weight)) (mul binary64 m m)))
+
+-- ---- the setters
+
+abbrev pub setDiscountOf : Deviation → Float → Deviation
+setDiscountOf s d = statistic d (s .weight) (s .sum) (s .«sum_squared») (s .count)
+
+-- row 18 beyond the limit, as `create` has it
+unfoldable pub setCountOf : Deviation → ℕ → DeviationResult
+setCountOf s n = answered (firstOf ((ltb countLimit n, 18) ∷ [])) (statistic (s .discount) (s .weight) (s .sum) (s .«sum_squared») n)

@@ -1,0 +1,31 @@
+-- `common::deviation::factor` meets its contract: each return is the case of `factorOf` that its tests pick. Assumes nothing.
+use Prim.Native.Nat.{_+_, _^_}
+use native.Mathlib.Omega.{arith}
+use borrow.Author.Needs.{needs}
+use lib.Dec.{le→leb}
+use lib.Ieee.{inFloat}
+use Rattle.common.specs.Deviation.{factorOf}
+use Rattle.common.proofs.deviation.factor.Statement.{statement}
+use Rattle.common.proofs.deviation.factor.Tie as tie
+
+returns : tie.Need-returns
+unfolding factorOf
+returns c = rw (c .if1 .taken)
+
+add-b : tie.Need-add-b
+add-b c = search needs
+
+int-to-float-b : tie.Need-int-to-float-b
+unfolding inFloat
+int-to-float-b c = le→leb (c .before .before .args .count + 2) (2 ^ 53) (omega arith)
+
+returns-2 : tie.Need-returns-2
+unfolding factorOf
+returns-2 c = rw (c .before .before .if1 .left, c .if2 .taken)
+
+returns-3 : tie.Need-returns-3
+unfolding factorOf
+returns-3 c = rw (c .before .before .if1 .left, c .if2 .left)
+
+pub factor-spec : {M : Type 1} → statement M
+factor-spec = tie.close (tie.spec returns add-b int-to-float-b returns-2 returns-3)

@@ -1,0 +1,205 @@
+// The square root of an f64, in whole numbers.
+ghost use mathlib.Core.Path.{_≡_};
+ghost use Prim.Native.Nat.{_+_, _*_, _%_, _^_, _≤_, _<_};
+ghost use lib.Dec.{T};
+ghost use Rattle.numeric.specs.Root.{positive, IsScaled, halves, rooted, rootOf, digitsTried, triedOf};
+use crate::rounding::nearest;
+
+struct Part {
+    value: u64,
+    tried: u64,
+}
+
+// √(n * 2^54) in halves, and how many of the root's 54 binary digits were tried. Each turn takes two
+// more digits of the radicand, of which `rest` has the next 64: r is what q's square leaves of those
+// taken. Where nothing is left, the digits to come are zeros.
+fn digits(n: u64) -> Part
+    requires { ⌜ 2 ^ 52 ≤ n ⌝ }
+    requires { ⌜ n < 2 ^ 54 ⌝ }
+    ensures { λ p. ⌜ p .value ≡ halves (n * 2 ^ 54) ⌝ }
+    ensures { λ p. ⌜ p .tried ≡ digitsTried (n * 2 ^ 54) ⌝ }
+{
+    let mut q = 0u64;
+    let mut r = 0u64;
+    let mut rest = n * 1024;
+    let mut left = 54u64;
+    while left > 0 {
+        if r == 0 {
+            if rest == 0 {
+                return Part {
+                    value: (q << left) * 2,
+                    tried: 54 - left,
+                };
+            }
+        }
+        let next = r * 4 + rest / 0x4000_0000_0000_0000;
+        let trial = q * 4 + 1;
+        rest = rest % 0x4000_0000_0000_0000 * 4;
+        left -= 1;
+        // a product, and no branch, since each digit is as likely to be 0 as 1
+        let digit = if next < trial { 0u64 } else { 1u64 };
+        r = next - trial * digit;
+        q = q * 2 + digit;
+    }
+    if r == 0 {
+        Part {
+            value: q * 2,
+            tried: 54,
+        }
+    } else {
+        Part {
+            value: q * 2 + 1,
+            tried: 54,
+        }
+    }
+}
+
+struct Scaled {
+    m: u64,
+    e: u64,
+}
+
+// x as m * 2^(e - 1126), with an m of 53 binary digits.
+fn scale(x: f64) -> Scaled
+    requires { ⌜ T (positive x) ⌝ }
+    ensures { λ s. ⌜ IsScaled x (s .m) (s .e) ⌝ }
+{
+    let b = f64::to_bits(x);
+    let field = b / 0x10_0000_0000_0000;
+    let t = b % 0x10_0000_0000_0000;
+    if field == 0 {
+        let z = u64::leading_zeros(t) as u64;
+        Scaled {
+            m: t << (z - 11),
+            e: 63 - z,
+        }
+    } else {
+        Scaled {
+            m: t + 0x10_0000_0000_0000,
+            e: field + 51,
+        }
+    }
+}
+
+// The f64 nearest to the root of m * 2^(e - 1126), from its 55 leading digits.
+fn assembled(m: u64, e: u64, digits: u64) -> f64
+    requires { ⌜ 2 ^ 52 ≤ m ⌝ }
+    requires { ⌜ m < 2 ^ 53 ⌝ }
+    requires { ⌜ e < 2098 ⌝ }
+    requires { ⌜ digits ≡ halves (m * (1 + e % 2) * 2 ^ 54) ⌝ }
+    ensures { λ r. ⌜ r ≡ rooted (m * 2 ^ (e + 1022)) ⌝ }
+{
+    let low = nearest(digits, 2);
+    f64::from_bits((e / 2 + 485) * 0x10_0000_0000_0000 + low)
+}
+
+struct Root {
+    root: f64,
+    tried: u64,
+}
+
+// The square root of x, and how many of its binary digits were tried.
+fn root_counted(x: f64) -> Root
+    ensures { λ r. ⌜ r .root ≡ rootOf x ⌝ }
+    ensures { λ r. ⌜ r .tried ≡ triedOf x ⌝ }
+{
+    if x > 0.0 {
+        if x < 1.0 / 0.0 {
+            let s = scale(x);
+            let p = digits(s.m * (1 + s.e % 2));
+            let root = assembled(s.m, s.e, p.value);
+            Root {
+                root: root,
+                tried: p.tried,
+            }
+        } else {
+            Root { root: x, tried: 0 }
+        }
+    } else if x == 0.0 {
+        Root { root: x, tried: 0 }
+    } else {
+        Root {
+            root: 0.0 / 0.0,
+            tried: 0,
+        }
+    }
+}
+
+// From a number near 1 / √(2 * h) to a nearer one.
+fn newton(h: f64, y: f64) -> f64 {
+    y * (1.5 - h * y * y)
+}
+
+// A number near √n, by Newton's iteration for 1 / √x from a guess by x's bits. Nothing is said of how near.
+fn guess(n: u64) -> u64
+    requires { ⌜ n < 2 ^ 54 ⌝ }
+    ensures { λ r. ⌜ r < 2 ^ 27 ⌝ }
+{
+    let x = (n / 2) as f64;
+    let h = x * 0.5;
+    let mut y = f64::from_bits(0x5fe6_eb50_c7b5_37a9 - f64::to_bits(x) % 0x8000_0000_0000_0000 / 2);
+    y = newton(h, y);
+    y = newton(h, y);
+    y = newton(h, y);
+    // from 2^52 on an f64 is a whole number, so this rounds, and half less is cut off
+    let t = x * y * 1.4142135623730951 + 4503599627370495.5;
+    if t > 0.0 {
+        let s = f64::to_bits(t) % 0x10_0000_0000_0000;
+        if s < 0x800_0000 { s } else { 0x7ff_ffff }
+    } else {
+        0
+    }
+}
+
+// √n without its fraction: the guess, moved down or up until it is that.
+fn small_root(n: u64) -> u64
+    requires { ⌜ n < 2 ^ 54 ⌝ }
+    ensures { λ r. ⌜ (r * r ≤ n) × (n < (r + 1) * (r + 1)) ⌝ }
+{
+    let mut s = guess(n);
+    while n < s * s {
+        s -= 1;
+    }
+    while (s + 1) * (s + 1) <= n {
+        s += 1;
+    }
+    s
+}
+
+// √(n * 2^54) in halves: its 27 upper digits are those of √n, and one division gives the 27 lower, one too many at most.
+fn fast_halves(n: u64) -> u64
+    requires { ⌜ 2 ^ 52 ≤ n ⌝ }
+    requires { ⌜ n < 2 ^ 54 ⌝ }
+    ensures { λ r. ⌜ r ≡ halves (n * 2 ^ 54) ⌝ }
+{
+    let s = small_root(n);
+    let d = (n - s * s) * 0x800_0000;
+    let low = d / (s * 2);
+    let left = d % (s * 2) * 0x800_0000;
+    let square = low * low;
+    let q = s * 0x800_0000 + low;
+    // no branches, since each answer is as likely
+    let over = if left < square { 2u64 } else { 0u64 };
+    let rest = if left == square { 0u64 } else { 1u64 };
+    q * 2 + rest - over
+}
+
+// The square root of x.
+pub fn sqrt(x: f64) -> f64
+    ensures { λ r. ⌜ r ≡ rootOf x ⌝ }
+{
+    if x == 0.0 {
+        return x;
+    }
+    if x > 0.0 {
+        if x < 1.0 / 0.0 {
+            let s = scale(x);
+            let d = fast_halves(s.m * (1 + s.e % 2));
+            assembled(s.m, s.e, d)
+        } else {
+            x
+        }
+    } else {
+        0.0 / 0.0
+    }
+}

@@ -1,0 +1,18 @@
+// The one rounding that everything here is made of: a quotient by a power of two, to nearest, ties to even.
+ghost use mathlib.Core.Path.{_≡_};
+ghost use Prim.Native.Nat.{_^_, _<_};
+ghost use lib.Ieee.Nearest.{closest};
+
+// The whole number nearest to m / 2^d, at a tie the even one.
+pub(crate) fn nearest(m: u64, d: u64) -> u64
+    requires { ⌜ 0 < d ⌝ }
+    requires { ⌜ d < 64 ⌝ }
+    ensures { λ r. ⌜ r ≡ closest m (2 ^ d) ⌝ }
+{
+    let u = 1u64 << d;
+    let q = m / u;
+    let t = m % u * 2;
+    // one comparison settles the tie too, and no branch, since either answer is as likely
+    let up = if u < t + q % 2 { 1u64 } else { 0u64 };
+    q + up
+}
