@@ -153,7 +153,7 @@ letter-clean STANDARD = omega arith
 letter-clean «TIME_AUGMENTED» = omega arith
 letter-clean «STREAMING_IMPUTE» = omega arith
 
--- ---- the bytesOf tell the lines
+-- ---- the bytes tell the lines
 
 abbrev pub Stops : List ℕ → Type 0
 Stops [] = ⊥

@@ -1,4 +1,4 @@
--- A text is the text of one watch of the form: its bytesOf tell all of it.
+-- A text is the text of one state of the form: its bytes tell all of it.
 use Prim.Native.Nat.{ℕ, zero, suc, _+_, _*_, _≤_, _<_}
 use native.Mathlib.Nat.{suc-mul, zero-mul}
 use native.Mathlib.Omega.{arith}
@@ -70,7 +70,7 @@ bufs-inj d (t ∷ ts) (u ∷ us) v w h k f g e =
     let b : take d v ≡ take d w = floats-inj binary32 (take d v) (take d w) (all-take _ d v f) (all-take _ d w g) (tail-eq-of-cons-eq j) in
     (λ x. whole-inj t u (head-eq-of-cons-eq j) x ∷ i .0 x, sym (take-append-drop d v) ∙ (λ x. b x ++ i .1 x) ∙ take-append-drop d w)
 
--- two watches of the form with the same lines are one
+-- two states of the form with the same lines are one
 one-state : (w u : State) → Form w → Form u → linesOf w ≡ linesOf u → w ≡ u
 unfolding linesOf singles cntLine timLine
 one-state w u f g e =
@@ -126,7 +126,7 @@ lines-clean w = (
   ),
 )
 
--- two watches of the form with the same text are one
+-- two states of the form with the same text are one
 pub render-injective : (w u : State) → Form w → Form u → render w ≡ render u → w ≡ u
 unfolding render
 render-injective w u f g e = one-state w u f g (bytes-inj (linesOf w) (linesOf u) (lines-clean w) (lines-clean u) e)

@@ -37,7 +37,7 @@ pub hold-every : (bs : List Bool) → Hold bs → every bs ≡ true
 hold-every [] h = refl
 hold-every (b ∷ bs) h = rw (h .0) (hold-every bs (h .1))
 
--- ---- the bytesOf of lines
+-- ---- the bytes of lines
 
 abbrev pub join : List (List ℕ) → List ℕ
 join [] = []

@@ -1,4 +1,4 @@
--- Theorems S, K and L: what is taken is of the form and is that text; a text of the form is taken; the bad line.
+-- The theorems of the reader: what is taken is of the form and is that text, a text of the form is taken, and where it refuses, its line is the first bad one.
 use Prim.Native.Nat.{ℕ, zero, suc, _+_, _-_, _*_, _≤_, _<_}
 use native.Mathlib.Nat.{suc-mul, zero-mul}
 use native.Mathlib.Omega.{arith}
@@ -420,22 +420,28 @@ plan-live = (
   ),
 )
 
--- ---- Theorems S, K, L
+-- ---- the theorems
 
 lines-text : (w : State) → lines (render w) ≡ shown (linesOf w)
 unfolding render
 lines-text w = lines-bytes (linesOf w) (lines-clean w)
 
+-- a text that is taken is that of a state of the form
 pub read-sound : (t : List ℕ) (w : State) → read t ≡ taken w → Form w × (render w ≡ t)
 unfolding read render
 read-sound t w e =
     let r : Form w × (shown (linesOf w) ≡ lines t) = whole-form w (lines t) (whole-took w (lines t) e) in
     (r .0, bytes-join (linesOf w) ∙ ap join (r .1) ∙ join-lines t)
 
+-- the text of a state of the form is taken as this state
 pub read-complete : (w : State) → Form w → read (render w) ≡ taken w
 unfolding read
 read-complete w g = rw (lines-text w) (complete w g)
 
+pub read-exactly : (t : List ℕ) (w : State) → Form w → render w ≡ t → read t ≡ taken w
+read-exactly t w g e = ap read (sym e) ∙ read-complete w g
+
+-- where it refuses, its line is the first after which no text of the form begins with what was read
 pub read-first-bad : (t : List ℕ) (n : ℕ) → read t ≡ bad n → FirstBad n t
 unfolding read
 read-first-bad t n e = record {
@@ -446,7 +452,7 @@ read-first-bad t n e = record {
       (r .0, f .0, ap (take m) (lines-text (r .0) ∙ f .1) ∙ r .3);
 }
 
--- the other way round: the first bad line of a text that is no text of the form is what is answered
+-- the other way round: the first bad line is what is answered
 pub first-bad-read : (t : List ℕ) (n : ℕ) → FirstBad n t → read t ≡ bad n
 unfolding read
 first-bad-read t n h = go (read t) refl

@@ -5,3 +5,4 @@ pub mod Transformer
 pub mod Settings
 pub mod Calls
 pub mod Preprocessor
+pub mod View
