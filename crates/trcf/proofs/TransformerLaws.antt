@@ -1,0 +1,152 @@
+-- Laws of the transform's definitions: feeding keeps lengths and gives numbers that fit; the answers have d numbers, which fit.
+use Prim.Native.Nat.{ℕ, zero, suc, _+_, _*_, _≤_}
+use lib.Dec.{T}
+use mathlib.Core.Bool.{Bool, true, false, cond}
+use mathlib.Core.Path.{_≡_, refl, sym, ap, _∙_}
+use mathlib.Core.List.{List, [], _∷_, _++_}
+use native.Mathlib.Omega.{arith}
+use lib.ListN.{length, getD, set, length-set}
+use lib.Ieee.{Float, nan, Format, binary32, binary64, fits, add, sub, mul, div, eq}
+use lib.Ieee.Fits.{add-fits, sub-fits, mul-fits, div-fits, cond-fits, nan-fits}
+use lib.Ieee.Bits.{ofBits-fits}
+use Rattle.common.specs.declared.deviation.Deviation.{Deviation}
+use Rattle.common.specs.Deviation.{stepOf}
+use Rattle.trcf.specs.Fit.{All, Fits}
+use Rattle.trcf.specs.Transformer.{Transformer, putStatistic, putDeviations, fed, fedAt, channelsFed, updated, transformBy, transformed, unweighted, invertBy, inverted, weightAt, basicShift, normalizedScale, scales, shifts, differenceDeviations, zero32}
+use Rattle.trcf.specs.Types.{normalizes, centres}
+use Rattle.trcf.specs.declared.types.TransformMethod.{TransformMethod}
+use Rattle.trcf.specs.declared.types.TransformMethod.the-variants.{NONE, WEIGHTED, DIFFERENCE, «SUBTRACT_MA», NORMALIZE, «NORMALIZE_DIFFERENCE»}
+use Rattle.trcf.specs.declared.transformer.Deviations.{Deviations}
+use Rattle.trcf.proofs.FitLaws.{all-set, all-getD, all-tabulate, tabulate-length, narrowed-fits}
+
+abbrev fit : Format → Float → Type 0
+fit f x = T (fits f x)
+
+-- ---- feeding keeps the length
+
+pub putStatistic-length : (l : List Float) (n : ℕ) (s : Deviation) → length (putStatistic l n s) ≡ length l
+unfolding putStatistic
+putStatistic-length l n s = simp length-set
+
+pub putDeviations-length : (l : List Float) (b w : ℕ) (s : Deviations) → length (putDeviations l b w s) ≡ length l
+unfolding putDeviations
+putDeviations-length l b w s = simp putStatistic-length
+
+pub fedAt-length : (l : List Float) (b w : ℕ) (decay : Float) (count : ℕ) (x dx : Float) → length (fedAt l b w decay count x dx) ≡ length l
+unfolding fedAt
+fedAt-length l b w decay count x dx = putDeviations-length l b w _
+
+pub channelsFed-length : (n : ℕ) (l : List Float) (d : ℕ) (decay : Float) (count : ℕ) (x previous : List Float) → length (channelsFed n l d decay count x previous) ≡ length l
+unfolding channelsFed
+channelsFed-length zero l d decay count x previous = refl
+channelsFed-length (suc n) l d decay count x previous = fedAt-length _ n d decay count _ _ ∙ channelsFed-length n l d decay count x previous
+
+pub updated-length : (t : Transformer) (x previous : List Float) → length (updated t x previous) ≡ length (t .statistics)
+unfolding updated
+updated-length t x previous = channelsFed-length (t .d) (t .statistics) (t .d) (t .decay) (t .count) x previous
+
+-- ---- what feeding writes fits
+
+-- the three numbers of a statistic fit
+pub record Fitting (s : Deviation) : Type 0 where
+  pub in-weight : fit binary64 (s .weight)
+  pub in-sum : fit binary64 (s .sum)
+  pub in-squares : fit binary64 (s .«sum_squared»)
+
+pub stepOf-fits : (s : Deviation) (x : Float) → Fitting (stepOf s x)
+unfolding stepOf
+stepOf-fits s x = record { in-weight = add-fits binary64 _ _; in-sum = add-fits binary64 _ _; in-squares = add-fits binary64 _ _ }
+
+pub putStatistic-fits : (l : List Float) (n : ℕ) (s : Deviation) → Fitting s → Fits binary64 l → Fits binary64 (putStatistic l n s)
+unfolding putStatistic
+putStatistic-fits l n s k h =
+    let a = set l (3 * n) (s .weight) in
+    let b = set a (3 * n + 1) (s .sum) in
+    all-set (fit binary64) b (3 * n + 2) (s .«sum_squared») (k .in-squares)
+    (all-set (fit binary64) a (3 * n + 1) (s .sum) (k .in-sum) (all-set (fit binary64) l (3 * n) (s .weight) (k .in-weight) h))
+
+pub fedAt-fits : (l : List Float) (b w : ℕ) (decay : Float) (count : ℕ) (x dx : Float) → Fits binary64 l → Fits binary64 (fedAt l b w decay count x dx)
+unfolding fedAt putDeviations fed
+fedAt-fits l b w decay count x dx h =
+    putStatistic-fits _ _ _ (stepOf-fits _ _)
+    (putStatistic-fits _ _ _ (stepOf-fits _ _)
+    (putStatistic-fits _ _ _ (stepOf-fits _ _)
+    (putStatistic-fits _ _ _ (stepOf-fits _ _)
+    (putStatistic-fits _ _ _ (stepOf-fits _ _) h))))
+
+pub channelsFed-fits : (n : ℕ) (l : List Float) (d : ℕ) (decay : Float) (count : ℕ) (x previous : List Float) → Fits binary64 l → Fits binary64 (channelsFed n l d decay count x previous)
+unfolding channelsFed
+channelsFed-fits zero l d decay count x previous h = h
+channelsFed-fits (suc n) l d decay count x previous h = fedAt-fits _ n d decay count _ _ (channelsFed-fits n l d decay count x previous h)
+
+pub updated-fits : (t : Transformer) (x previous : List Float) → Fits binary64 (t .statistics) → Fits binary64 (updated t x previous)
+unfolding updated
+updated-fits t x previous h = channelsFed-fits (t .d) (t .statistics) (t .d) (t .decay) (t .count) x previous h
+
+-- ---- the answers: d numbers, which fit
+
+pub transformed-length : (t : Transformer) (x previous : List Float) → length (transformed t x previous) ≡ t .d
+unfolding transformed
+transformed-length t x previous = tabulate-length (t .d) _
+
+pub inverted-length : (t : Transformer) (x previous : List Float) → length (inverted t x previous) ≡ t .d
+unfolding inverted
+inverted-length t x previous = tabulate-length (t .d) _
+
+pub scales-length : (t : Transformer) → length (scales t) ≡ t .d
+unfolding scales
+scales-length t = tabulate-length (t .d) _
+
+pub shifts-length : (t : Transformer) → length (shifts t) ≡ t .d
+unfolding shifts
+shifts-length t = tabulate-length (t .d) _
+
+pub differenceDeviations-length : (t : Transformer) → length (differenceDeviations t) ≡ t .d
+unfolding differenceDeviations
+differenceDeviations-length t = tabulate-length (t .d) _
+
+pub transformBy-fits : (m : TransformMethod) (t : Transformer) (i : ℕ) (x p : Float) → fit binary32 x → fit binary32 (transformBy m t i x p)
+transformBy-fits NONE t i x p h = h
+transformBy-fits WEIGHTED t i x p h = mul-fits binary32 _ _
+transformBy-fits DIFFERENCE t i x p h = sub-fits binary32 _ _
+transformBy-fits «SUBTRACT_MA» t i x p h = sub-fits binary32 _ _
+transformBy-fits NORMALIZE t i x p h = div-fits binary32 _ _
+transformBy-fits «NORMALIZE_DIFFERENCE» t i x p h = div-fits binary32 _ _
+
+pub transformed-fits : (t : Transformer) (x previous : List Float) → Fits binary32 x → Fits binary32 (transformed t x previous)
+unfolding transformed
+transformed-fits t x previous h =
+    all-tabulate (fit binary32) (t .d) _ (λ i. transformBy-fits (t .method) t i _ _ (all-getD (fit binary32) x i nan (nan-fits binary32) h))
+
+pub unweighted-fits : (w x : Float) → fit binary32 (unweighted w x)
+unfolding unweighted
+unweighted-fits w x = cond-fits binary32 (eq w zero32) zero32 (div binary32 x w) (ofBits-fits binary32 0) (div-fits binary32 x w)
+
+pub invertBy-fits : (m : TransformMethod) (t : Transformer) (i : ℕ) (x p : Float) → fit binary32 x → fit binary32 (invertBy m t i x p)
+invertBy-fits NONE t i x p h = h
+invertBy-fits WEIGHTED t i x p h = unweighted-fits _ _
+invertBy-fits DIFFERENCE t i x p h = add-fits binary32 _ _
+invertBy-fits «SUBTRACT_MA» t i x p h = add-fits binary32 _ _
+invertBy-fits NORMALIZE t i x p h = add-fits binary32 _ _
+invertBy-fits «NORMALIZE_DIFFERENCE» t i x p h = add-fits binary32 _ _
+
+pub inverted-fits : (t : Transformer) (x previous : List Float) → Fits binary32 (inverted t x previous)
+unfolding inverted
+inverted-fits t x previous = all-tabulate (fit binary32) (t .d) _ (λ i. invertBy-fits (t .method) t i _ _ (unweighted-fits _ _))
+
+pub scales-fits : (t : Transformer) → Fits binary32 (t .weights) → Fits binary32 (scales t)
+unfolding scales weightAt
+scales-fits t h =
+    all-tabulate (fit binary32) (t .d) _
+    (λ i. cond-fits binary32 (normalizes (t .method)) (mul binary32 (weightAt t i) (normalizedScale t i)) (weightAt t i) (mul-fits binary32 _ _)
+    (all-getD (fit binary32) (t .weights) i nan (nan-fits binary32) h))
+
+pub shifts-fits : (t : Transformer) → Fits binary32 (shifts t)
+unfolding shifts
+shifts-fits t =
+    all-tabulate (fit binary32) (t .d) _
+    (λ i. cond-fits binary32 (centres (t .method)) (add binary32 zero32 (basicShift t i)) zero32 (add-fits binary32 _ _) (ofBits-fits binary32 0))
+
+pub differenceDeviations-fits : (t : Transformer) → Fits binary32 (differenceDeviations t)
+unfolding differenceDeviations
+differenceDeviations-fits t = all-tabulate (fit binary32) (t .d) _ (λ i. narrowed-fits _)
