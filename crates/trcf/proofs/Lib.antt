@@ -5,3 +5,4 @@ pub mod ReachLaws
 pub mod ForecastLaws
 pub mod CallLaws
 pub mod TransformerExamples
+pub mod ShingleLaws

@@ -1,4 +1,5 @@
 pub mod Lists
+pub mod Fit
 pub mod Types
 pub mod Transformer
 pub mod Settings
@@ -6,3 +7,4 @@ pub mod Calls
 pub mod Preprocessor
 pub mod TransformerCalls
 pub mod Forecast
+pub mod View

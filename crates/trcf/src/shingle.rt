@@ -1,0 +1,119 @@
+// What the calls do to whole lists: tests, copies, zeros, and a block that comes into a shingle.
+ghost use mathlib.Core.Path.{_≡_};
+ghost use mathlib.Core.List.{[], _∷_};
+ghost use Prim.Native.Nat.{_+_, _≤_, _<_};
+ghost use lib.ListN.{length, take, replicate};
+ghost use lib.Seq.{paste};
+ghost use Rattle.common.specs.Deviation.{zero64};
+ghost use Rattle.common.specs.Lent.{over};
+ghost use Rattle.trcf.specs.Lists.{lastOr, shiftIn, overwrite};
+ghost use Rattle.trcf.specs.Transformer.{zero32};
+ghost use Rattle.trcf.specs.Calls.{finite};
+
+fn is_finite(v: f32) -> bool
+    ensures { λ r. ⌜ r ≡ finite (v ∷ []) ⌝ }
+{
+    let top = 1.0f32 / 0.0f32;
+    if v < top { -top < v } else { false }
+}
+
+pub(crate) fn all_finite(x: &[f32]) -> bool
+    ensures { λ r. ⌜ r ≡ finite (now (x .entry)) ⌝ }
+{
+    let mut i = 0;
+    while i < x.len() {
+        if !is_finite(x[i]) {
+            return false;
+        }
+        i += 1;
+    }
+    true
+}
+
+// The last of the first n times, 0 where there is none.
+pub(crate) fn last_of(l: &[u64], n: usize) -> u64
+    ensures { λ r. ⌜ r ≡ lastOr 0 (take n (now (l .entry))) ⌝ }
+{
+    if n == 0 {
+        return 0;
+    }
+    if n <= l.len() {
+        return l[n - 1];
+    }
+    let m = l.len();
+    if m == 0 {
+        return 0;
+    }
+    l[m - 1]
+}
+
+// All of src stands in dst from at on.
+pub(crate) fn copy_in(dst: &mut [f32], at: usize, src: &[f32])
+    requires { ⌜ at + length (now src) ≤ length (now dst) ⌝ }
+    ensures { λ _. ⌜ now (dst .exit) ≡ paste (now (dst .entry)) at (now (src .entry)) (length (now (src .entry))) ⌝ }
+{
+    let mut i = 0;
+    while i < src.len() {
+        dst[at + i] = src[i];
+        i += 1;
+    }
+}
+
+// The front block drops out, and p comes in behind.
+pub(crate) fn shift_vector(s: &mut [f32], p: &[f32])
+    requires { ⌜ length (now p) ≤ length (now s) ⌝ }
+    ensures { λ _. ⌜ now (s .exit) ≡ shiftIn (now (s .entry)) (now (p .entry)) ⌝ }
+{
+    let w = p.len();
+    let m = s.len() - w;
+    let mut i = 0;
+    while i < m {
+        s[i] = s[i + w];
+        i += 1;
+    }
+    copy_in(s, m, p);
+}
+
+// The oldest time drops out, and t comes in behind.
+pub(crate) fn shift_time(s: &mut [u64], t: u64)
+    requires { ⌜ 0 < length (now s) ⌝ }
+    ensures { λ _. ⌜ now (s .exit) ≡ shiftIn (now (s .entry)) (t ∷ []) ⌝ }
+{
+    let m = s.len() - 1;
+    let mut i = 0;
+    while i < m {
+        s[i] = s[i + 1];
+        i += 1;
+    }
+    s[m] = t;
+}
+
+pub(crate) fn zero_f32(s: &mut [f32])
+    ensures { λ _. ⌜ now (s .exit) ≡ replicate (length (now (s .entry))) zero32 ⌝ }
+{
+    let mut i = 0;
+    while i < s.len() {
+        s[i] = 0.0;
+        i += 1;
+    }
+}
+
+pub(crate) fn zero_f64(s: &mut [f64])
+    ensures { λ _. ⌜ now (s .exit) ≡ replicate (length (now (s .entry))) zero64 ⌝ }
+{
+    let mut i = 0;
+    while i < s.len() {
+        s[i] = 0.0;
+        i += 1;
+    }
+}
+
+pub(crate) fn zero_u64(s: &mut [u64])
+    ensures { λ _. ⌜ now (s .exit) ≡ replicate (length (now (s .entry))) 0 ⌝ }
+{
+    let mut i = 0;
+    while i < s.len() {
+        s[i] = 0;
+        i += 1;
+    }
+}
