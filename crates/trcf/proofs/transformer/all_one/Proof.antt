@@ -1,3 +1,4 @@
+-- `trcf::transformer::all_one` meets its contract: the invariant is that the answer is that of what is left. Assumes nothing.
 use native.Mathlib.Omega.{arith}
 use native.Mathlib.Numerals.{add-one}
 use borrow.Author.Tests.{not-true, not-false}
@@ -10,8 +11,6 @@ use Rattle.trcf.proofs.CallLaws.{allOne-at}
 use Rattle.trcf.specs.Settings.{allOne}
 use Rattle.trcf.proofs.transformer.all_one.Statement.{statement}
 use Rattle.trcf.proofs.transformer.all_one.Tie as tie
-use Rattle.trcf.proofs.transformer.all_one.Reads as reads
-use Rattle.trcf.proofs.transformer.all_one.Lts as lts
 
 abbrev Inv-loop : tie.InvT-loop
 Inv-loop w i₀ i = (i ≤ length w) × (allOne w ≡ allOne (drop i w))

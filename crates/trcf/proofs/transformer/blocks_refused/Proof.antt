@@ -1,3 +1,4 @@
+-- `trcf::transformer::blocks_refused` meets its contract: each return is the case that its tests pick. Assumes nothing.
 use Rattle.trcf.proofs.CallLaws.{ne-of}
 use mathlib.Core.Path.{sym, _∙_}
 use borrow.Author.Tests.{eq-eqb, ne-eqb, not-true, not-false}
@@ -5,9 +6,6 @@ use Rattle.common.specs.RangeVector.{unblocked}
 use borrow.Author.Needs.{needs}
 use Rattle.trcf.proofs.transformer.blocks_refused.Statement.{statement}
 use Rattle.trcf.proofs.transformer.blocks_refused.Tie as tie
-use Rattle.trcf.proofs.transformer.blocks_refused.Reads as reads
-use Rattle.trcf.proofs.transformer.blocks_refused.Lts as lts
-use Rattle.trcf.proofs.types.is_differencing.Reads as is-differencing-reads
 
 is-differencing-requires : tie.Need-is-differencing-requires
 is-differencing-requires c κs = search needs

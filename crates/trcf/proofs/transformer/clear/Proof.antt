@@ -1,3 +1,4 @@
+-- `trcf::transformer::clear` meets its contract: the invariant is that i zeros stand over the list. Assumes nothing.
 use native.Mathlib.Omega.{arith}
 use Prim.Native.Nat.{_≤_, _<_, _-_}
 use lib.ListN.{length, replicate, length-set}
@@ -8,8 +9,6 @@ use Rattle.common.specs.Lent.{over}
 use Rattle.common.proofs.RangeSteps.{over-fill}
 use Rattle.trcf.proofs.transformer.clear.Statement.{statement}
 use Rattle.trcf.proofs.transformer.clear.Tie as tie
-use Rattle.trcf.proofs.transformer.clear.Reads as reads
-use Rattle.trcf.proofs.transformer.clear.Lts as lts
 
 abbrev Inv-loop : tie.InvT-loop
 Inv-loop s₀ n i₀ s i = (i ≤ n) × (s ≡ over s₀ (replicate i zero64)) × (length s ≡ length s₀)

@@ -1,12 +1,10 @@
+-- `trcf::transformer::decay_row` meets its contract: the row that a new statistic's answer holds. Assumes nothing.
 use mathlib.Core.Path.{sym, ap, _∙_}
 use Rattle.trcf.proofs.CallLaws.{rowOf-answered}
 use Rattle.common.specs.Deviation.{rowOf, newOf}
 use borrow.Author.Needs.{needs}
 use Rattle.trcf.proofs.transformer.decay_row.Statement.{statement}
 use Rattle.trcf.proofs.transformer.decay_row.Tie as tie
-use Rattle.trcf.proofs.transformer.decay_row.Reads as reads
-use Rattle.trcf.proofs.transformer.decay_row.Lts as lts
-use Rattle.common.proofs.deviation.Deviation.new.Reads as new-reads
 
 new-requires : tie.Need-new-requires
 new-requires c κs = search needs

@@ -1,13 +1,11 @@
+-- `trcf::transformer::forecast_row` meets its contract: each return is the row that its tests pick. Assumes nothing.
 use Rattle.trcf.specs.TransformerCalls.{forecastRow}
 use mathlib.Core.Path.{sym, _∙_}
 use native.Mathlib.Omega.{arith}
-use borrow.Author.Tests.{lt-ltb, le-ltb, le-leb, lt-leb, eq-eqb, ne-eqb}
+use borrow.Author.Tests.{lt-ltb, le-ltb, eq-eqb, ne-eqb}
 use borrow.Author.Needs.{needs}
 use Rattle.trcf.proofs.transformer.forecast_row.Statement.{statement}
 use Rattle.trcf.proofs.transformer.forecast_row.Tie as tie
-use Rattle.trcf.proofs.transformer.forecast_row.Reads as reads
-use Rattle.trcf.proofs.transformer.forecast_row.Lts as lts
-use Rattle.trcf.proofs.transformer.blocks_refused.Reads as blocks-refused-reads
 
 returns : tie.Need-returns
 unfolding forecastRow

@@ -1,16 +1,13 @@
+-- `trcf::transformer::new_row` meets its contract: each return is the row that its tests pick. Assumes nothing.
 use Rattle.common.specs.Deviation.{outsideUnit}
 use Rattle.trcf.proofs.CallLaws.{row-taken, row-left}
 use Rattle.trcf.specs.TransformerCalls.{newRow}
 use mathlib.Core.Path.{sym, _∙_}
 use native.Mathlib.Omega.{arith}
-use borrow.Author.Tests.{lt-ltb, le-ltb, le-leb, lt-leb, eq-eqb, ne-eqb}
+use borrow.Author.Tests.{lt-ltb, le-ltb, eq-eqb, ne-eqb}
 use borrow.Author.Needs.{needs}
 use Rattle.trcf.proofs.transformer.new_row.Statement.{statement}
 use Rattle.trcf.proofs.transformer.new_row.Tie as tie
-use Rattle.trcf.proofs.transformer.new_row.Reads as reads
-use Rattle.trcf.proofs.transformer.new_row.Lts as lts
-use Rattle.trcf.proofs.transformer.decay_row.Reads as decay-row-reads
-use Rattle.trcf.proofs.transformer.weights_refused.Reads as weights-refused-reads
 
 returns : tie.Need-returns
 unfolding newRow

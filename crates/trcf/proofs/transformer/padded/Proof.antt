@@ -1,3 +1,4 @@
+-- `trcf::transformer::padded` meets its contract: the invariant is that the first i weights stand over zeros. Assumes nothing.
 use mathlib.Core.Path.{_≡_, refl, ap, _∙_}
 use lib.Ieee.{nan}
 use lib.Seq.{take-length}
@@ -10,8 +11,6 @@ use Rattle.common.specs.Lent.{over}
 use Rattle.common.proofs.RangeSteps.{over-copy}
 use Rattle.trcf.proofs.transformer.padded.Statement.{statement}
 use Rattle.trcf.proofs.transformer.padded.Tie as tie
-use Rattle.trcf.proofs.transformer.padded.Reads as reads
-use Rattle.trcf.proofs.transformer.padded.Lts as lts
 
 abbrev Inv-loop : tie.InvT-loop
 Inv-loop w a₀ i₀ a i = (i ≤ length w) × (a ≡ over (replicate 16 zero32) (take i w)) × (length a ≡ 16)

@@ -1,3 +1,4 @@
+-- `trcf::transformer::step` meets its contract: below the limit the update is not refused, so the other arm is never taken. Assumes nothing.
 use Rattle.trcf.proofs.TransformerLaws.{taken-step}
 use native.Mathlib.Omega.{arith}
 use Prim.Native.Nat.{ℕ}
@@ -6,9 +7,6 @@ use Rattle.common.proofs.DeviationLaws.{update-accepted}
 use borrow.Author.Needs.{needs}
 use Rattle.trcf.proofs.transformer.step.Statement.{statement}
 use Rattle.trcf.proofs.transformer.step.Tie as tie
-use Rattle.trcf.proofs.transformer.step.Reads as reads
-use Rattle.trcf.proofs.transformer.step.Lts as lts
-use Rattle.common.proofs.deviation.Deviation.update.Reads as update-reads
 
 update-requires : tie.Need-update-requires
 update-requires c κs = search needs

@@ -1,12 +1,10 @@
+-- `trcf::transformer::update_row` meets its contract: each return is the row that its tests pick. Assumes nothing.
 use Rattle.trcf.specs.TransformerCalls.{updateRow, notLong}
-use mathlib.Core.Path.{sym, _∙_}
 use native.Mathlib.Omega.{arith}
 use borrow.Author.Tests.{lt-ltb, le-ltb, le-leb, lt-leb, eq-eqb, ne-eqb}
 use borrow.Author.Needs.{needs}
 use Rattle.trcf.proofs.transformer.update_row.Statement.{statement}
 use Rattle.trcf.proofs.transformer.update_row.Tie as tie
-use Rattle.trcf.proofs.transformer.update_row.Reads as reads
-use Rattle.trcf.proofs.transformer.update_row.Lts as lts
 
 returns : tie.Need-returns
 unfolding updateRow notLong

@@ -1,11 +1,8 @@
+-- `trcf::transformer::weights_refused` meets its contract: each arm is the definition's case. Assumes nothing.
 use mathlib.Core.Path.{sym, _∙_}
 use borrow.Author.Needs.{needs}
 use Rattle.trcf.proofs.transformer.weights_refused.Statement.{statement}
 use Rattle.trcf.proofs.transformer.weights_refused.Tie as tie
-use Rattle.trcf.proofs.transformer.weights_refused.Reads as reads
-use Rattle.trcf.proofs.transformer.weights_refused.Lts as lts
-use Rattle.trcf.proofs.transformer.all_one.Reads as all-one-reads
-use Rattle.trcf.proofs.types.is_none.Reads as is-none-reads
 
 is-none-requires : tie.Need-is-none-requires
 is-none-requires c κs = search needs

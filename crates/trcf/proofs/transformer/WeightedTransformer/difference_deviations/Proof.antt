@@ -1,8 +1,8 @@
+-- `trcf::transformer::WeightedTransformer::difference_deviations` meets its contract: refused by its row, or the worker's answer. Assumes nothing.
 use Rattle.trcf.specs.Transformer.{differenceDeviations}
 use Prim.Native.Nat.{_*_}
 use Rattle.trcf.specs.TransformerCalls.{differenceDeviationsOf, own}
 use lib.Seq.{length-take-le}
-use lib.ListN.{length}
 use native.Mathlib.Omega.{arith}
 use Rattle.trcf.proofs.CallLaws.{sound-part, written-refused, written-done}
 use borrow.Author.Needs.{needs}
@@ -10,10 +10,6 @@ use Rattle.trcf.proofs.transformer.WeightedTransformer.difference_devia
   statement,
 }
 use Rattle.trcf.proofs.transformer.WeightedTransformer.difference_deviations.Tie as tie
-use Rattle.trcf.proofs.transformer.WeightedTransformer.difference_deviations.Reads as reads
-use Rattle.trcf.proofs.transformer.WeightedTransformer.difference_deviations.Lts as lts
-use Rattle.trcf.proofs.transformer.difference_deviations_into.Reads as difference-deviations-into-reads
-use Rattle.trcf.proofs.transformer.output_row.Reads as output-row-reads
 
 output-row-requires : tie.Need-output-row-requires
 output-row-requires c κs = search needs

@@ -1,4 +1,4 @@
-use lib.ListN.{length}
+-- `trcf::transformer::WeightedTransformer::invert_forecast` meets its contract: refused by its row, or the worker's answer. Assumes nothing.
 use Prim.Native.Nat.{_*_}
 use lib.Seq.{length-take-le}
 use native.Mathlib.Omega.{arith}
@@ -14,10 +14,6 @@ use Rattle.trcf.proofs.transformer.WeightedTransformer.invert_forecast.
   statement,
 }
 use Rattle.trcf.proofs.transformer.WeightedTransformer.invert_forecast.Tie as tie
-use Rattle.trcf.proofs.transformer.WeightedTransformer.invert_forecast.Reads as reads
-use Rattle.trcf.proofs.transformer.WeightedTransformer.invert_forecast.Lts as lts
-use Rattle.trcf.proofs.transformer.forecast_row.Reads as forecast-row-reads
-use Rattle.trcf.proofs.transformer.invert_forecast_in_place.Reads as invert-forecast-in-place-reads
 
 forecast-row-requires : tie.Need-forecast-row-requires
 forecast-row-requires c κs = search needs

@@ -1,10 +1,10 @@
+-- `trcf::transformer::WeightedTransformer::new` meets its contract: refused by its row, or a head and cleared statistics. Assumes nothing.
 use lib.Ieee.{Float}
 use mathlib.Core.List.{List}
 use mathlib.Core.Path.{ap, _∙_}
 use Rattle.trcf.specs.Transformer.{zero32}
 use Rattle.trcf.specs.TransformerCalls.{made}
-use Rattle.common.specs.Deviation.{zero64}
-use lib.ListN.{length, replicate}
+use lib.ListN.{replicate}
 use native.Mathlib.Omega.{arith}
 use Rattle.common.specs.Lent.{over}
 use Rattle.trcf.specs.TransformerCalls.{newOf, noHead, headOf}
@@ -12,11 +12,6 @@ use Rattle.trcf.proofs.CallLaws.{made-refused, made-done}
 use borrow.Author.Needs.{needs}
 use Rattle.trcf.proofs.transformer.WeightedTransformer.new.Statement.{statement}
 use Rattle.trcf.proofs.transformer.WeightedTransformer.new.Tie as tie
-use Rattle.trcf.proofs.transformer.WeightedTransformer.new.Reads as reads
-use Rattle.trcf.proofs.transformer.WeightedTransformer.new.Lts as lts
-use Rattle.trcf.proofs.transformer.clear.Reads as clear-reads
-use Rattle.trcf.proofs.transformer.new_row.Reads as new-row-reads
-use Rattle.trcf.proofs.transformer.padded.Reads as padded-reads
 
 new-row-requires : tie.Need-new-row-requires
 new-row-requires c κs = search needs

@@ -1,17 +1,13 @@
+-- `trcf::transformer::WeightedTransformer::shift` meets its contract: refused by its row, or the worker's answer. Assumes nothing.
 use Rattle.trcf.specs.Transformer.{shifts}
 use Prim.Native.Nat.{_*_}
 use Rattle.trcf.specs.TransformerCalls.{shiftOf, own}
 use lib.Seq.{length-take-le}
-use lib.ListN.{length}
 use native.Mathlib.Omega.{arith}
 use Rattle.trcf.proofs.CallLaws.{sound-part, written-refused, written-done}
 use borrow.Author.Needs.{needs}
 use Rattle.trcf.proofs.transformer.WeightedTransformer.shift.Statement.{statement}
 use Rattle.trcf.proofs.transformer.WeightedTransformer.shift.Tie as tie
-use Rattle.trcf.proofs.transformer.WeightedTransformer.shift.Reads as reads
-use Rattle.trcf.proofs.transformer.WeightedTransformer.shift.Lts as lts
-use Rattle.trcf.proofs.transformer.output_row.Reads as output-row-reads
-use Rattle.trcf.proofs.transformer.shift_into.Reads as shift-into-reads
 
 output-row-requires : tie.Need-output-row-requires
 output-row-requires c κs = search needs

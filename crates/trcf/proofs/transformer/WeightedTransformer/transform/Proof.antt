@@ -1,17 +1,13 @@
+-- `trcf::transformer::WeightedTransformer::transform` meets its contract: refused by its row, or the worker's answer. Assumes nothing.
 use Rattle.trcf.specs.Transformer.{transformed}
 use Prim.Native.Nat.{_*_}
 use Rattle.trcf.specs.TransformerCalls.{transformOf, own}
 use lib.Seq.{length-take-le}
-use lib.ListN.{length}
 use native.Mathlib.Omega.{arith}
 use Rattle.trcf.proofs.CallLaws.{sound-part, written-refused, written-done}
 use borrow.Author.Needs.{needs}
 use Rattle.trcf.proofs.transformer.WeightedTransformer.transform.Statement.{statement}
 use Rattle.trcf.proofs.transformer.WeightedTransformer.transform.Tie as tie
-use Rattle.trcf.proofs.transformer.WeightedTransformer.transform.Reads as reads
-use Rattle.trcf.proofs.transformer.WeightedTransformer.transform.Lts as lts
-use Rattle.trcf.proofs.transformer.transform_into.Reads as transform-into-reads
-use Rattle.trcf.proofs.transformer.transform_row.Reads as transform-row-reads
 
 transform-row-requires : tie.Need-transform-row-requires
 transform-row-requires c κs = search needs

@@ -1,4 +1,4 @@
-use lib.ListN.{length}
+-- `trcf::transformer::WeightedTransformer::update` meets its contract: refused by its row, or the channels fed in the front of the list. Assumes nothing.
 use Prim.Native.Nat.{_*_}
 use lib.Seq.{length-take-le}
 use native.Mathlib.Omega.{arith}
@@ -9,10 +9,6 @@ use Rattle.trcf.proofs.CallLaws.{sound-part, made-refused, made-done, u
 use borrow.Author.Needs.{needs}
 use Rattle.trcf.proofs.transformer.WeightedTransformer.update.Statement.{statement}
 use Rattle.trcf.proofs.transformer.WeightedTransformer.update.Tie as tie
-use Rattle.trcf.proofs.transformer.WeightedTransformer.update.Reads as reads
-use Rattle.trcf.proofs.transformer.WeightedTransformer.update.Lts as lts
-use Rattle.trcf.proofs.transformer.update_channels.Reads as update-channels-reads
-use Rattle.trcf.proofs.transformer.update_row.Reads as update-row-reads
 
 update-row-requires : tie.Need-update-row-requires
 update-row-requires c κs = search needs
