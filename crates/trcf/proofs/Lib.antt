@@ -13,3 +13,4 @@ pub mod DrainLaws
 pub mod StateLaws
 pub mod LearnLaws
 pub mod ViewLaws
+pub mod ViewExamples
