@@ -1,3 +1,7 @@
+-- Laws on plain numbers and floats, for the functions' proofs and for the crates above.
+pub mod WholeFloats
+pub mod DeviationLaws
+pub mod DeviationSamples
 pub mod RangeExamples
 pub mod RangeLaws
 pub mod RangeSteps

@@ -199,7 +199,7 @@ impl Deviation {
     pub fn set_count(self, count: u64) -> DeviationResult
         ensures { λ r. ⌜ r ≡ setCountOf self count ⌝ }
     {
-        if COUNT_LIMIT < count {
+        if count > COUNT_LIMIT {
             return DeviationResult::Err(18);
         }
         DeviationResult::Ok(Deviation {

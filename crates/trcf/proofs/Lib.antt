@@ -2,3 +2,4 @@ pub mod FitLaws
 pub mod LentLaws
 pub mod TransformerLaws
 pub mod ShingleLaws
+pub mod ForecastLaws

@@ -14,7 +14,7 @@ use Rattle.common.specs.declared.deviation.DeviationResult.{DeviationResult}
 use Rattle.common.specs.declared.deviation.DeviationResult.the-variants.{Ok}
 use Rattle.common.specs.Deviation.{countLimit, updateOf, stepOf}
 use borrow.Author.Tests.{lt-leb}
-use Rattle.trcf.specs.Fit.{All, Fits}
+use Rattle.trcf.specs.Settings.{All, Fits}
 use Rattle.trcf.specs.Transformer.{Transformer, putStatistic, putDeviations, fed, fedAt, channelsFed, updated, transformBy, transformed, unweighted, invertBy, inverted, weightAt, basicShift, normalizedScale, scales, shifts, differenceDeviations, zero32}
 use Rattle.trcf.specs.TransformerCalls.{view}
 use Rattle.trcf.specs.declared.transformer.WeightedTransformer.{WeightedTransformer}

@@ -1,0 +1,18 @@
+use borrow.Author.Needs.{needs}
+use Rattle.trcf.proofs.transformer.scaled_if.Statement.{statement}
+use Rattle.trcf.proofs.transformer.scaled_if.Tie as tie
+use Rattle.trcf.proofs.transformer.scaled_if.Reads as reads
+use Rattle.trcf.proofs.transformer.scaled_if.Lts as lts
+use Rattle.common.proofs.rangevector.Range32.scale.Reads as scale-reads
+
+scale-requires : tie.Need-scale-requires
+scale-requires c κs = search needs
+
+returns : tie.Need-returns
+returns c = rw (c .before .if1 .taken) (c .scale .ensures)
+
+returns-2 : tie.Need-returns-2
+returns-2 c = rw (c .if1 .left)
+
+pub scaled-if-spec : {M : Type 1} → statement M
+scaled-if-spec = tie.close (tie.spec scale-requires returns returns-2)
