@@ -3,3 +3,8 @@ pub mod LentLaws
 pub mod TransformerLaws
 pub mod ShingleLaws
 pub mod ForecastLaws
+pub mod RefusalLaws
+pub mod OutputLaws
+pub mod CallLaws
+pub mod DrainLaws
+pub mod StateLaws

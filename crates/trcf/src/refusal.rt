@@ -7,14 +7,22 @@ use crate::types::ForestMode;
 use crate::types::TransformMethod;
 use crate::types::is_none;
 use crate::types::is_normalizing;
+use common::deviation::COUNT_LIMIT;
 ghost use mathlib.Core.Path.{_≡_};
-ghost use mathlib.Core.Bool.{cond, not, _&&_};
-ghost use Prim.Native.Nat.{_+_, _≤_};
-ghost use lib.ListN.{drop};
-ghost use Rattle.common.specs.Deviation.{outsideUnit};
+ghost use mathlib.Core.Bool.{cond, not, false, _&&_, _||_};
+ghost use Prim.Native.Nat.{ℕ, _+_, _≤_};
+ghost use lib.Dec.{ltb, eqb};
+ghost use lib.ListN.{length, take};
+ghost use Rattle.common.specs.Deviation.{outsideUnit, countLimit};
+ghost use Rattle.trcf.specs.Lists.{null};
 ghost use Rattle.trcf.specs.Types.{augments, isNone};
-ghost use Rattle.trcf.specs.Settings.{imputes, allOne, waiting, settingsRow, dimension};
-ghost use Rattle.trcf.specs.View.{settingsOf, settingsFrom, misfit, headRow, lentRow, shortRow, lent, Bounded, Accepted, Roomy, Fitted};
+ghost use Rattle.trcf.specs.Settings.{imputes, allOne, waiting, settingsRow, dimension, block};
+ghost use Rattle.trcf.specs.Calls.{seenLimit, due, drainFull, scale, transform, drain, shingledPoint};
+ghost use Rattle.trcf.specs.Preprocessor.{facts};
+ghost use Rattle.trcf.specs.View.{settingsOf, settingsFrom, view, misfit, headRow, lentRow, shortRow, rowOf, pastRow, lent, Bounded, Accepted, Roomy, Fitted, Ready, Pointing};
+
+// The largest values_seen and internal_timestamp.
+pub(crate) const SEEN_LIMIT: usize = 9_223_372_036_854_775_807;
 
 // ---- the settings
 
@@ -49,7 +57,8 @@ fn all_one(weights: &[f32]) -> bool
 {
     let mut i = 0;
     while i < weights.len() {
-        if weights[i] != 1.0 {
+        let one = weights[i] == 1.0;
+        if !one {
             return false;
         }
         i += 1;
@@ -117,7 +126,11 @@ pub(crate) fn is_waiting(head: Preprocessor) -> bool
     let method = t.transform_method;
     let seen = head.values_seen;
     let start = head.start_normalization;
-    if is_normalizing(method) { seen < start } else { false }
+    if is_normalizing(method) {
+        seen < start
+    } else {
+        false
+    }
 }
 
 // The numbers in one transformed reading.
@@ -246,4 +259,248 @@ pub(crate) fn lent_row(
         initial_values,
         initial_timestamps,
     )
+}
+
+// ---- calls that only write a list
+
+// The rows of a call that hands nothing but its output.
+pub(crate) fn write_row(
+    head: Preprocessor,
+    statistics: &[f64],
+    last_shingled_input: &[f32],
+    last_shingled_point: &[f32],
+    previous_timestamps: &[u64],
+    initial_values: &[f32],
+    initial_timestamps: &[u64],
+    output: &[f32],
+) -> u64
+    ensures { λ r. ⌜ r ≡ rowOf head (lent (now (statistics .entry)) (now («last_shingled_input» .entry)) (now («last_shingled_point» .entry)) (now («previous_timestamps» .entry)) (now («initial_values» .entry)) (now («initial_timestamps» .entry))) (scale (now (output .entry))) ⌝ }
+    ensures { λ r. ⌜ (r ≡ 0 → Ready head (lent (now (statistics .entry)) (now («last_shingled_input» .entry)) (now («last_shingled_point» .entry)) (now («previous_timestamps» .entry)) (now («initial_values» .entry)) (now («initial_timestamps» .entry)))) ⌝ }
+    ensures { λ r. ⌜ (r ≡ 0 → block (settingsOf head) ≤ length (now (output .entry))) ⌝ }
+{
+    let row = head_row(head);
+    if row != 0 {
+        return row;
+    }
+    let t = head.transformer;
+    let mode = head.forest_mode;
+    let n = block_of(mode, t.input_length);
+    if output.len() < n {
+        return 20;
+    }
+    lent_row(
+        head,
+        statistics,
+        last_shingled_input,
+        last_shingled_point,
+        previous_timestamps,
+        initial_values,
+        initial_timestamps,
+    )
+}
+
+pub(crate) fn transform_row(
+    head: Preprocessor,
+    statistics: &[f64],
+    last_shingled_input: &[f32],
+    last_shingled_point: &[f32],
+    previous_timestamps: &[u64],
+    initial_values: &[f32],
+    initial_timestamps: &[u64],
+    input: &[f32],
+    output: &[f32],
+) -> u64
+    ensures { λ r. ⌜ ((t : ℕ) → r ≡ rowOf head (lent (now (statistics .entry)) (now («last_shingled_input» .entry)) (now («last_shingled_point» .entry)) (now («previous_timestamps» .entry)) (now («initial_values» .entry)) (now («initial_timestamps» .entry))) (transform (now (input .entry)) t (now (output .entry)))) ⌝ }
+    ensures { λ r. ⌜ (r ≡ 0 → Ready head (lent (now (statistics .entry)) (now («last_shingled_input» .entry)) (now («last_shingled_point» .entry)) (now («previous_timestamps» .entry)) (now («initial_values» .entry)) (now («initial_timestamps» .entry)))) ⌝ }
+    ensures { λ r. ⌜ (r ≡ 0 → length (now (input .entry)) ≡ head .transformer .«input_length») ⌝ }
+    ensures { λ r. ⌜ (r ≡ 0 → block (settingsOf head) ≤ length (now (output .entry))) ⌝ }
+{
+    let row = head_row(head);
+    if row != 0 {
+        return row;
+    }
+    let t = head.transformer;
+    let d = t.input_length;
+    if input.len() != d {
+        return 10;
+    }
+    let mode = head.forest_mode;
+    let n = block_of(mode, d);
+    if output.len() < n {
+        return 20;
+    }
+    lent_row(
+        head,
+        statistics,
+        last_shingled_input,
+        last_shingled_point,
+        previous_timestamps,
+        initial_values,
+        initial_timestamps,
+    )
+}
+
+// ---- draining
+
+// Whether any of the first n times is lent.
+fn has_initial(initial_timestamps: &[u64], n: usize) -> bool
+    ensures { λ r. ⌜ r ≡ not (null (take n (now («initial_timestamps» .entry)))) ⌝ }
+{
+    if n == 0 {
+        return false;
+    }
+    0 < initial_timestamps.len()
+}
+
+// Whether a drain comes when nothing waits any more.
+fn is_spent(head: Preprocessor, initial_timestamps: &[u64]) -> bool
+    ensures { λ r. ⌜ r ≡ eqb (head .«values_seen») (head .«start_normalization») && null (take (head .«initial_len») (now («initial_timestamps» .entry))) ⌝ }
+{
+    let seen = head.values_seen;
+    let start = head.start_normalization;
+    let n = head.initial_len;
+    if seen == start {
+        return !has_initial(initial_timestamps, n);
+    }
+    false
+}
+
+// Whether a drain has something to do.
+pub(crate) fn is_due(head: Preprocessor, initial_timestamps: &[u64]) -> bool
+    ensures { λ r. ⌜ r ≡ eqb (head .«values_seen») (head .«start_normalization») && not (null (take (head .«initial_len») (now («initial_timestamps» .entry)))) ⌝ }
+{
+    let seen = head.values_seen;
+    let start = head.start_normalization;
+    let n = head.initial_len;
+    if seen == start {
+        return has_initial(initial_timestamps, n);
+    }
+    false
+}
+
+// Whether a drain would pass a limit.
+fn is_full(head: Preprocessor) -> bool
+    requires { ⌜ Bounded (settingsOf head) ⌝ }
+    ensures { λ r. ⌜ r ≡ ltb countLimit (head .transformer .count + head .«start_normalization») || ltb seenLimit (head .«internal_timestamp» + head .«start_normalization») ⌝ }
+{
+    let t = head.transformer;
+    let count = t.count;
+    let internal = head.internal_timestamp;
+    let start = head.start_normalization;
+    if COUNT_LIMIT < count {
+        return true;
+    }
+    if COUNT_LIMIT < count + start as u64 {
+        return true;
+    }
+    if SEEN_LIMIT < internal {
+        return true;
+    }
+    SEEN_LIMIT < internal + start
+}
+
+// Whether a drain that has something to do would pass a limit.
+fn is_overdue(head: Preprocessor, initial_timestamps: &[u64]) -> bool
+    requires { ⌜ Bounded (settingsOf head) ⌝ }
+    ensures { λ r. ⌜ r ≡ (eqb (head .«values_seen») (head .«start_normalization») && not (null (take (head .«initial_len») (now («initial_timestamps» .entry)))))
+        && (ltb countLimit (head .transformer .count + head .«start_normalization») || ltb seenLimit (head .«internal_timestamp» + head .«start_normalization»)) ⌝ }
+{
+    if is_due(head, initial_timestamps) {
+        return is_full(head);
+    }
+    false
+}
+
+pub(crate) fn drain_row(
+    head: Preprocessor,
+    statistics: &[f64],
+    last_shingled_input: &[f32],
+    last_shingled_point: &[f32],
+    previous_timestamps: &[u64],
+    initial_values: &[f32],
+    initial_timestamps: &[u64],
+) -> u64
+    ensures { λ r. ⌜ r ≡ rowOf head (lent (now (statistics .entry)) (now («last_shingled_input» .entry)) (now («last_shingled_point» .entry)) (now («previous_timestamps» .entry)) (now («initial_values» .entry)) (now («initial_timestamps» .entry))) drain ⌝ }
+    ensures { λ r. ⌜ (r ≡ 0 → Ready head (lent (now (statistics .entry)) (now («last_shingled_input» .entry)) (now («last_shingled_point» .entry)) (now («previous_timestamps» .entry)) (now («initial_values» .entry)) (now («initial_timestamps» .entry)))) ⌝ }
+    ensures { λ r. ⌜ (r ≡ 0 → (due (settingsOf head) (facts (view head (lent (now (statistics .entry)) (now («last_shingled_input» .entry)) (now («last_shingled_point» .entry)) (now («previous_timestamps» .entry)) (now («initial_values» .entry)) (now («initial_timestamps» .entry))))) && drainFull (settingsOf head) (facts (view head (lent (now (statistics .entry)) (now («last_shingled_input» .entry)) (now («last_shingled_point» .entry)) (now («previous_timestamps» .entry)) (now («initial_values» .entry)) (now («initial_timestamps» .entry)))))) ≡ false) ⌝ }
+{
+    let row = head_row(head);
+    if row != 0 {
+        return row;
+    }
+    if is_spent(head, initial_timestamps) {
+        return 15;
+    }
+    if is_overdue(head, initial_timestamps) {
+        return 18;
+    }
+    lent_row(
+        head,
+        statistics,
+        last_shingled_input,
+        last_shingled_point,
+        previous_timestamps,
+        initial_values,
+        initial_timestamps,
+    )
+}
+
+// ---- shingled_point
+
+pub(crate) fn shingled_point_row(
+    head: Preprocessor,
+    statistics: &[f64],
+    last_shingled_input: &[f32],
+    last_shingled_point: &[f32],
+    previous_timestamps: &[u64],
+    initial_values: &[f32],
+    initial_timestamps: &[u64],
+    input: &[f32],
+    output: &[f32],
+) -> u64
+    ensures { λ r. ⌜ ((t : ℕ) → r ≡ rowOf head (lent (now (statistics .entry)) (now («last_shingled_input» .entry)) (now («last_shingled_point» .entry)) (now («previous_timestamps» .entry)) (now («initial_values» .entry)) (now («initial_timestamps» .entry))) (shingledPoint (now (input .entry)) t (now (output .entry)))) ⌝ }
+    ensures { λ r. ⌜ (r ≡ 0 → Ready head (lent (now (statistics .entry)) (now («last_shingled_input» .entry)) (now («last_shingled_point» .entry)) (now («previous_timestamps» .entry)) (now («initial_values» .entry)) (now («initial_timestamps» .entry)))) ⌝ }
+    ensures { λ r. ⌜ (r ≡ 0 → Pointing head (lent (now (statistics .entry)) (now («last_shingled_input» .entry)) (now («last_shingled_point» .entry)) (now («previous_timestamps» .entry)) (now («initial_values» .entry)) (now («initial_timestamps» .entry))) (length (now (input .entry))) (length (now (output .entry)))) ⌝ }
+{
+    let row = head_row(head);
+    if row != 0 {
+        return row;
+    }
+    let t = head.transformer;
+    if input.len() != t.input_length {
+        return 10;
+    }
+    if !all_finite(input) {
+        return 11;
+    }
+    let row = past_row(head, initial_timestamps, output.len());
+    if row != 0 {
+        return row;
+    }
+    lent_row(
+        head,
+        statistics,
+        last_shingled_input,
+        last_shingled_point,
+        previous_timestamps,
+        initial_values,
+        initial_timestamps,
+    )
+}
+
+// Rows 18 and 20 of a point, past waiting.
+fn past_row(head: Preprocessor, initial_timestamps: &[u64], n: usize) -> u64
+    requires { ⌜ Bounded (settingsOf head) ⌝ }
+    ensures { λ r. ⌜ r ≡ pastRow head (now («initial_timestamps» .entry)) n ⌝ }
+{
+    if is_waiting(head) {
+        return 0;
+    }
+    if is_overdue(head, initial_timestamps) {
+        return 18;
+    }
+    if n < dimension_of(head) {
+        return 20;
+    }
+    0
 }

@@ -50,7 +50,7 @@ pub struct Deviations {
 
 // ---- statistics in the lent list, by their place
 
-fn statistic_at(s: &[f64], n: usize, discount: f64, count: u64) -> Deviation
+pub(crate) fn statistic_at(s: &[f64], n: usize, discount: f64, count: u64) -> Deviation
     requires { ⌜ 3 * n + 3 ≤ length (now s) ⌝ }
     ensures { λ r. ⌜ r ≡ statisticAt (now (s .entry)) n discount count ⌝ }
 {
@@ -189,7 +189,7 @@ pub(crate) fn update_channels(
 
 // ---- what the statistics of a channel say
 
-fn mean_at(s: &[f64], n: usize) -> f64
+pub(crate) fn mean_at(s: &[f64], n: usize) -> f64
     requires { ⌜ 3 * n + 3 ≤ length (now s) ⌝ }
     ensures { λ r. ⌜ r ≡ meanAt (now (s .entry)) n ⌝ }
 {

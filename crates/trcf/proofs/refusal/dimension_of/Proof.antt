@@ -1,3 +1,8 @@
+use native.Mathlib.Omega.{arith}
+use mathlib.Core.Path.{_≡_, refl, sym, ap, _∙_}
+use native.Mathlib.Nat.{mul-le-mul}
+use Prim.Native.Nat.{_≤_}
+use Rattle.trcf.specs.Settings.{dimension, block}
 use borrow.Author.Needs.{needs}
 use Rattle.trcf.proofs.refusal.dimension_of.Statement.{statement}
 use Rattle.trcf.proofs.refusal.dimension_of.Tie as tie
@@ -5,17 +10,15 @@ use Rattle.trcf.proofs.refusal.dimension_of.Reads as reads
 use Rattle.trcf.proofs.refusal.dimension_of.Lts as lts
 use Rattle.trcf.proofs.refusal.block_of.Reads as block-of-reads
 
--- src/refusal.rt:166:9
 block-of-requires : tie.Need-block-of-requires
 block-of-requires c κs = search needs
 
--- src/refusal.rt:167:5
 mul-result : tie.Need-mul-result
-mul-result c = ?
+mul-result c = let p : c .before .block-of .result ≤ 17 = omega arith in let q : c .before .before .before .args .head .«shingle_size» ≤ 64 = omega arith in omega (arith, mul-le-mul p q)
 
--- src/refusal.rt:159:1
 returns : tie.Need-returns
-returns c = ?
+unfolding dimension block
+returns c = let p : c .before .block-of .result ≤ 17 = omega arith in let q : c .before .before .before .args .head .«shingle_size» ≤ 64 = omega arith in (rw (c .before .block-of .ensures .0), omega (arith, mul-le-mul p q))
 
 pub dimension-of-spec : {M : Type 1} → statement M
 dimension-of-spec = tie.close (tie.spec block-of-requires mul-result returns)

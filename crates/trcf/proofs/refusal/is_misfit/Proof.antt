@@ -1,3 +1,6 @@
+use mathlib.Core.Path.{_≡_, refl, sym, ap, _∙_}
+use borrow.Author.Tests.{not-true, not-false, lt-ltb, le-ltb, eq-eqb, ne-eqb, le-leb, lt-leb}
+use Rattle.trcf.specs.View.{misfit}
 use borrow.Author.Needs.{needs}
 use Rattle.trcf.proofs.refusal.is_misfit.Statement.{statement}
 use Rattle.trcf.proofs.refusal.is_misfit.Tie as tie
@@ -5,21 +8,20 @@ use Rattle.trcf.proofs.refusal.is_misfit.Reads as reads
 use Rattle.trcf.proofs.refusal.is_misfit.Lts as lts
 use Rattle.trcf.proofs.refusal.is_waiting.Reads as is-waiting-reads
 
--- src/refusal.rt:178:9
 returns : tie.Need-returns
-returns c = ?
+unfolding misfit
+returns c = rw (lt-ltb _ _ (c .if1 .taken))
 
--- src/refusal.rt:180:8
 is-waiting-requires : tie.Need-is-waiting-requires
 is-waiting-requires c κs = search needs
 
--- src/refusal.rt:171:1
 returns-2 : tie.Need-returns-2
-returns-2 c = ?
+unfolding misfit
+returns-2 c = rw (le-ltb _ _ (c .before .before .if1 .left), sym (c .before .is-waiting .ensures) ∙ c .if2 .taken)
 
--- src/refusal.rt:171:1
 returns-3 : tie.Need-returns-3
-returns-3 c = ?
+unfolding misfit
+returns-3 c = rw (le-ltb _ _ (c .before .before .if1 .left), sym (c .before .is-waiting .ensures) ∙ c .if2 .left)
 
 pub is-misfit-spec : {M : Type 1} → statement M
 is-misfit-spec = tie.close (tie.spec returns is-waiting-requires returns-2 returns-3)
