@@ -8,3 +8,5 @@ pub mod OutputLaws
 pub mod CallLaws
 pub mod DrainLaws
 pub mod StateLaws
+pub mod ExtrapolationLaws
+pub mod ExtrapolationExamples

@@ -7,3 +7,4 @@ pub mod Calls
 pub mod Preprocessor
 pub mod Forecast
 pub mod View
+pub mod Extrapolation
