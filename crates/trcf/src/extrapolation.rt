@@ -321,9 +321,9 @@ fn write_times(
     ensures { λ _. ⌜ ranges (now («values_out» .exit)) (now («upper_out» .exit)) (now («lower_out» .exit))
         ≡ timesBy factor scale drift a m (ranges (now (values .entry)) (now (upper .entry)) (now (lower .entry))) (length (now («values_out» .entry))) ⌝ }
 {
-    let h = values_out.len();
+    let n = values_out.len();
     let mut i = 0;
-    while i < h {
+    while i < n {
         let at = i * a + m;
         let r = invert_time(factor, scale, drift, values[at], upper[at], lower[at]);
         values_out[i] = r.value;
