@@ -2,6 +2,7 @@
 pub mod WholeFloats
 pub mod DeviationLaws
 pub mod DeviationSamples
+-- Laws on ranges for the functions' proofs and for the crates above.
 pub mod RangeExamples
 pub mod RangeLaws
 pub mod RangeSteps

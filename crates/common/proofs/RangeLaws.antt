@@ -3,17 +3,16 @@
 use Prim.Native.Nat.{ℕ, zero, suc, _+_, _*_, _≤_, _<_}
 use mathlib.Core.Path.{_≡_, refl, sym, ap, _∙_, subst}
 use mathlib.Core.Logic.{_≢_}
-use mathlib.Core.Bool.{Bool, true, false, not, _&&_, cond}
+use mathlib.Core.Bool.{Bool, true, false, cond}
 use mathlib.Core.List.{List, [], _∷_, _++_}
 use native.Mathlib.Omega.{arith}
 use borrow.Author.Tests.{le-ltb, eqb-true, eqb-false}
 use lib.Dec.{T, eqb}
 use lib.ListN.{length, getD, set, length-set}
 use lib.Seq.{getD-set-same, getD-set-other}
-use lib.IntN.{pos, negsuc}
-use lib.Ieee.{Float, nan, inf, fin, Format, add, mul, lt, fits, below, up, down}
+use lib.Ieee.{Float, nan, inf, fin, Format, add, mul, lt, fits, up, down}
 use lib.Ieee.Fits.{add-fits, mul-fits, cond-fits}
-use Rattle.common.specs.RangeVector.{Range, Ranges, range, ranges, rangeAt, putAt, settled, shifted, scaled, cascadeTo}
+use Rattle.common.specs.RangeVector.{Range, Ranges, range, rangeAt, putAt, settled, shifted, scaled, cascadeTo}
 
 -- ---- one index
 
@@ -223,3 +222,53 @@ cascadeTo-ordered f base = cascadeTo-made f base Ordered (λ w i r x. putAt-orde
 pub cascadeTo-fits : (f : Format) (base : List Float) (n : ℕ) (v : Ranges) (i : ℕ) → i < n
     → Fit f (rangeAt (cascadeTo f base n v) i)
 cascadeTo-fits f base = cascadeTo-made f base (Fit f) (λ w i r x. putAt-fits f w i (shifted f r x) (shifted-fits f r x))
+
+-- ---- the cascade, said of what it leaves: "each later block by the finished values before it"
+
+-- a store at index n of the list behind the base is not seen before place (length base) + n
+getD-before : (base l : List Float) (n i : ℕ) (a : Float) → i < length base + n → getD (base ++ set l n a) i nan ≡ getD (base ++ l) i nan
+getD-before [] l n i a h = getD-set-other l n i a nan (λ e. omega arith)
+getD-before (x ∷ base) l n zero a h = refl
+getD-before (x ∷ base) l n (suc i) a h = getD-before base l n i a (omega arith)
+
+rangeAt-same : (v : Ranges) (i : ℕ) (r : Range) → i < length (v .values) → i < length (v .upper) → i < length (v .lower)
+    → rangeAt (putAt v i r) i ≡ r
+unfolding putAt rangeAt
+rangeAt-same v i r a b c = λ k.
+    range (getD-set-same (v .values) i (r .value) nan a k) (getD-set-same (v .upper) i (r .upper) nan b k)
+    (getD-set-same (v .lower) i (r .lower) nan c k)
+
+-- with a base, index i is what it was, shifted by what stands in the end at place i behind the base
+pub cascadeTo-at : (f : Format) (base : List Float) (n : ℕ) (v : Ranges) (i : ℕ) → 0 < length base
+    → n ≤ length (v .values) → n ≤ length (v .upper) → n ≤ length (v .lower) → i < n
+    → rangeAt (cascadeTo f base n v) i ≡ shifted f (rangeAt v i) (getD (base ++ cascadeTo f base n v .values) i nan)
+unfolding cascadeTo putAt
+cascadeTo-at f base zero v i b hv hu hl h = absurd (omega arith)
+cascadeTo-at f base (suc n) v i b hv hu hl h =
+    at (eqb i n) refl (λ k. cascadeTo-at f base n v i b (omega arith) (omega arith) (omega arith) k)
+  where
+    w : Ranges
+    w = cascadeTo f base n v
+
+    r : Range
+    r = shifted f (rangeAt w n) (getD (base ++ w .values) n nan)
+
+    -- what place i holds is finished
+    finished : getD (base ++ w .values) i nan ≡ getD (base ++ putAt w n r .values) i nan
+    finished = sym (getD-before base (w .values) n i (r .value) (omega arith))
+
+    at : (t : Bool) → eqb i n ≡ t
+        → (i < n → rangeAt w i ≡ shifted f (rangeAt v i) (getD (base ++ w .values) i nan))
+        → rangeAt (putAt w n r) i ≡ shifted f (rangeAt v i) (getD (base ++ putAt w n r .values) i nan)
+    at true e before =
+        let q = cascadeTo-lengths f base n v in
+        let same : rangeAt (putAt w n r) n ≡ shifted f (rangeAt v n) (getD (base ++ w .values) n nan) =
+        rangeAt-same w n r (omega arith) (omega arith) (omega arith)
+        ∙ ap (λ (y : Range). shifted f y (getD (base ++ w .values) n nan)) (cascadeTo-later f base n v n (omega arith)) in
+        let k : n ≡ i = sym (eqb-true i n e) in
+        subst (λ (j : ℕ). rangeAt (putAt w n r) j ≡ shifted f (rangeAt v j) (getD (base ++ w .values) j nan)) k same
+        ∙ ap (shifted f (rangeAt v i)) finished
+    at false e before =
+        rangeAt-other w n i r (eqb-false i n e)
+        ∙ before (omega (arith, eqb-false i n e))
+        ∙ ap (shifted f (rangeAt v i)) finished

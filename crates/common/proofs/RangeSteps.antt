@@ -8,11 +8,11 @@ use native.Mathlib.Numerals.{add-one}
 use native.Mathlib.Omega.{arith}
 use borrow.Author.Tests.{eqb-true, not-false}
 use lib.Dec.{eqb}
-use lib.ListN.{length, getD, set, take, drop, replicate, length-append, length-replicate, replicate-append-replicate, List·getD-append, drop-of-length-le}
+use lib.ListN.{length, getD, set, take, drop, replicate, length-append, length-replicate, replicate-append-replicate, drop-of-length-le}
 use lib.Seq.{drop-cons, set-at, append-snoc, take-suc, length-take-le, getD-append-add}
 use lib.Ieee.{Float, nan, Format, le}
 use Rattle.common.specs.Lent.{over}
-use Rattle.common.specs.RangeVector.{Range, Ranges, range, ranges, rangeAt, putAt, shifted, cascadeTo, outcome, answered, inOrder}
+use Rattle.common.specs.RangeVector.{Range, Ranges, ranges, rangeAt, putAt, shifted, cascadeTo, outcome, answered, inOrder}
 
 -- ---- how a call answers: by the number of its refusal, 0 for none
 

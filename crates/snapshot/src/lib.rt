@@ -1,1 +1,3 @@
-// The snapshot (document 01: trace text): its definitions are in specs/, and what holds of them in proofs/.
+// The snapshot (document 01: trace text): its fields, and what writes it. Its definitions are in specs/, and what holds of them in proofs/.
+pub mod field;
+mod write;

@@ -10,7 +10,7 @@ use lib.Ieee.{Float, nan, inf, fin, binary32, up, down, fits}
 use lib.Ieee.Fits.{round-fits, nan-fits, inf-fits}
 use Rattle.numeric.specs.Narrow.{narrowed}
 use Rattle.trcf.specs.Lists.{tabulate}
-use Rattle.trcf.specs.Settings.{All, Fits}
+use Rattle.trcf.specs.Fit.{All, Fits}
 
 module _ {A : Type 0} where
   pub all-append : (P : A → Type 0) (a b : List A) → All P a → All P b → All P (a ++ b)

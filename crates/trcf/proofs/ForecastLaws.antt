@@ -14,7 +14,7 @@ use lib.Seq.{ext-getD, getD-set-same}
 use lib.IntN.{pos}
 use lib.Ieee.{Float, nan, binary32, mul, ofInt}
 use Rattle.common.specs.RangeVector.{Range, Ranges, range, ranges, rangeAt, putAt, shifted, cascadeTo, Outcome, outcome, unequal, unblocked, cascadedAddOf}
-use Rattle.common.proofs.RangeLaws.{SameLengths, putAt-lengths, rangeAt-other}
+use Rattle.common.proofs.RangeLaws.{SameLengths, putAt-lengths, rangeAt-other, cascadeTo-lengths}
 use Rattle.trcf.specs.Types.{isNone, normalizes, differences, centres}
 use Rattle.trcf.specs.Transformer.{Transformer, reciprocal, weightAt, normalizedScale, basicDrift, basicShift, scaledIf, shiftedIf, forecastAt, forecastTo, invertedForecast}
 use Rattle.trcf.specs.declared.transformer.Inversion.{Inversion}
@@ -219,6 +219,10 @@ module _ (t : Transformer) (v : Ranges) (even : Even v) (n : ℕ) (some : 0 < t 
 pub blocked-still : (b x : Bool) (base n m : ℕ) → b ≡ x → n ≡ m → x && unblocked base m ≡ false → b && unblocked base n ≡ false
 blocked-still b x base n m p q h = rw (p, q) h
 
+-- the base is one block
+pub blocked-base : (b : Bool) (base d n : ℕ) → base ≡ d → b && unblocked d n ≡ false → b && unblocked base n ≡ false
+blocked-base b base d n e h = rw e h
+
 pub forecast-done : (t : Transformer) (previous : List Float) (v w z : Ranges) (b : Bool) → b ≡ differences (t .method)
     → w ≡ forecastTo t (length (v .values) / t .d * t .d) v → length (w .values) ≡ length (v .values)
     → z ≡ cond b (cascadeTo binary32 previous (length (w .values)) w) w → z ≡ invertedForecast t previous v
@@ -228,3 +232,22 @@ forecast-done t previous v w z b eb ew el ez =
     ∙ ap (λ (n : ℕ). cond b (cascadeTo binary32 previous n w) w) el
     ∙ ap (λ (a : Bool). cond a (cascadeTo binary32 previous (length (v .values)) w) w) eb
     ∙ ap (λ (u : Ranges). cond (differences (t .method)) (cascadeTo binary32 previous (length (v .values)) u) u) ew
+
+-- ---- the lengths
+
+lengths-of : {v w z : Ranges} → SameLengths v w → SameLengths w z → SameLengths v z
+lengths-of a b = record { values = a .values ∙ b .values; upper = a .upper ∙ b .upper; lower = a .lower ∙ b .lower }
+
+forecastTo-lengths : (t : Transformer) (n : ℕ) (v : Ranges) → SameLengths (forecastTo t n v) v
+unfolding forecastTo
+forecastTo-lengths t zero v = record { values = refl; upper = refl; lower = refl }
+forecastTo-lengths t (suc n) v = lengths-of (putAt-lengths (forecastTo t n v) n _) (forecastTo-lengths t n v)
+
+pub invertedForecast-lengths : (t : Transformer) (previous : List Float) (v : Ranges) → SameLengths (invertedForecast t previous v) v
+unfolding invertedForecast
+invertedForecast-lengths t previous v = go (differences (t .method))
+  where
+    go : (b : Bool) → SameLengths
+        (cond b (cascadeTo binary32 previous (length (v .values)) (forecastTo t (length (v .values) / t .d * t .d) v)) (forecastTo t (length (v .values) / t .d * t .d) v)) v
+    go true = lengths-of (cascadeTo-lengths binary32 previous (length (v .values)) _) (forecastTo-lengths t (length (v .values) / t .d * t .d) v)
+    go false = forecastTo-lengths t (length (v .values) / t .d * t .d) v

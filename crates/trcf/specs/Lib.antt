@@ -1,10 +1,11 @@
 pub mod Lists
+pub mod Fit
 pub mod Types
 pub mod Transformer
 pub mod TransformerCalls
+pub mod Forecast
 pub mod Settings
 pub mod Calls
 pub mod Preprocessor
-pub mod Forecast
 pub mod View
 pub mod Extrapolation

@@ -8,6 +8,7 @@ use lib.ListN.{length}
 use lib.Ieee.{Float, Format, binary32, binary64, eq, fits}
 use Rattle.common.specs.Refusal.{firstOf}
 use Rattle.common.specs.Deviation.{outsideUnit}
+unfoldable pub use Rattle.trcf.specs.Fit.{All, Fits}
 use Rattle.trcf.specs.Types.{isNone, normalizes, augments}
 use Rattle.trcf.specs.Transformer.{Transformer, one32}
 use Rattle.trcf.specs.declared.types.TransformMethod.{TransformMethod}
@@ -73,14 +74,6 @@ settingsRow s = firstOf (settingsTable s)
 
 abbrev pub wholeMax : ℕ
 wholeMax = 18446744073709551615
-
-module _ {A : Type 0} where
-  abbrev pub All : (A → Type 0) → List A → Type 0
-  All P [] = Unit {0}
-  All P (x ∷ xs) = P x × All P xs
-
-abbrev pub Fits : Format → List Float → Type 0
-Fits f l = All (λ x. T (fits f x)) l
 
 abbrev pub Whole : List ℕ → Type 0
 Whole l = All (λ t. t ≤ wholeMax) l

@@ -1,4 +1,4 @@
--- The three reads. Assumes nothing.
+-- `rangevector::at_f32` meets its contract. The three reads. Assumes nothing.
 use mathlib.Core.Path.{refl}
 use Rattle.common.specs.RangeVector.{rangeAt}
 use borrow.Author.Needs.{needs}

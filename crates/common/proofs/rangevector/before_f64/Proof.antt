@@ -1,4 +1,4 @@
--- In the base, or one block before. Assumes nothing.
+-- `rangevector::before_f64` meets its contract. In the base, or one block before. Assumes nothing.
 use mathlib.Core.Path.{sym}
 use lib.ListN.{List·getD-append}
 use lib.Ieee.{nan}

@@ -1,4 +1,4 @@
--- The tests in their order. Assumes nothing.
+-- `rangevector::broken_blocks` meets its contract. The tests in their order. Assumes nothing.
 use borrow.Author.Tests.{eq-eqb, ne-eqb}
 use Rattle.common.specs.RangeVector.{unblocked}
 use borrow.Author.Needs.{needs}

@@ -1,4 +1,4 @@
--- Before the turn at i the first i indices are done. Assumes nothing.
+-- `rangevector::cascade_f64` meets its contract. Before the turn at i the first i indices are done. Assumes nothing.
 use Prim.Native.Nat.{_≤_, _-_}
 use mathlib.Core.Path.{_≡_, refl}
 use lib.ListN.{length}

@@ -1,4 +1,4 @@
--- The rows in their order. Assumes nothing.
+-- `rangevector::cascade_row` meets its contract. The rows in their order. Assumes nothing.
 use mathlib.Core.Path.{sym, _∙_}
 use Rattle.common.proofs.RangeSteps.{equal-lengths}
 use borrow.Author.Needs.{needs}

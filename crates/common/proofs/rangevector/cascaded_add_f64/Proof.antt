@@ -1,4 +1,4 @@
--- Refused by row 16, or the whole cascade. Assumes nothing.
+-- `rangevector::cascaded_add_f64` meets its contract. Refused by row 16, or the whole cascade. Assumes nothing.
 use Rattle.common.specs.RangeVector.{cascadedAddOf, unequal}
 use Rattle.common.proofs.RangeSteps.{refused, done}
 use borrow.Author.Needs.{needs}

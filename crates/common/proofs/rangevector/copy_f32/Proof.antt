@@ -1,4 +1,4 @@
--- Before the turn at i the first i are copied. Assumes nothing.
+-- `rangevector::copy_f32` meets its contract. Before the turn at i the first i are copied. Assumes nothing.
 use Prim.Native.Nat.{ℕ, _≤_, _<_, _-_}
 use mathlib.Core.Path.{_≡_, refl, ap, _∙_}
 use lib.ListN.{length, take, length-set}

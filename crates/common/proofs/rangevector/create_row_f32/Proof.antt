@@ -1,4 +1,4 @@
--- The rows in their order. Assumes nothing.
+-- `rangevector::create_row_f32` meets its contract. The rows in their order. Assumes nothing.
 use mathlib.Core.Path.{sym, _∙_}
 use borrow.Author.Tests.{not-true, not-false}
 use lib.ListN.{length}

@@ -1,4 +1,4 @@
--- Before the turn at i what is left decides. Assumes nothing.
+-- `rangevector::in_order_f64` meets its contract. Before the turn at i what is left decides. Assumes nothing.
 use Prim.Native.Nat.{_≤_, _<_, _-_}
 use mathlib.Core.Path.{_≡_, refl, sym, _∙_}
 use mathlib.Core.Bool.{true, false}

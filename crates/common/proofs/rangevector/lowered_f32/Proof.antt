@@ -1,4 +1,4 @@
--- Each arm is the case of `cond` that its test picks. Assumes nothing.
+-- `rangevector::lowered_f32` meets its contract. Each arm is the case of `cond` that its test picks. Assumes nothing.
 
 use Rattle.common.proofs.rangevector.lowered_f32.Statement.{statement}
 use Rattle.common.proofs.rangevector.lowered_f32.Tie as tie

@@ -1,4 +1,4 @@
--- Refused by its row, or written to the front of each list. Assumes nothing.
+-- `rangevector::new_f64` meets its contract. Refused by its row, or written to the front of each list. Assumes nothing.
 use Rattle.common.specs.RangeVector.{newOf, shorter}
 use Rattle.common.proofs.RangeSteps.{refused, done, all-three}
 use borrow.Author.Needs.{needs}

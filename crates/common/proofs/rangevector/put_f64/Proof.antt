@@ -1,4 +1,4 @@
--- The three stores. Assumes nothing.
+-- `rangevector::put_f64` meets its contract. The three stores. Assumes nothing.
 use mathlib.Core.Path.{refl}
 use Rattle.common.specs.RangeVector.{putAt}
 use borrow.Author.Needs.{needs}

@@ -1,4 +1,4 @@
--- Each arm is the case of `cond` that its test picks. Assumes nothing.
+-- `rangevector::raised_f64` meets its contract. Each arm is the case of `cond` that its test picks. Assumes nothing.
 
 use Rattle.common.proofs.rangevector.raised_f64.Statement.{statement}
 use Rattle.common.proofs.rangevector.raised_f64.Tie as tie

@@ -1,8 +1,9 @@
--- Refused by the row of the index, or scaled there. Assumes nothing.
+-- `rangevector::scale_f64` meets its contract. Refused by the row of the index, or scaled there. Assumes nothing.
 use lib.Ieee.{binary64}
 use Rattle.common.specs.RangeVector.{Range, scaled, scaleOf, pastAny}
 use Rattle.common.proofs.RangeSteps.{refused, done, stepped}
 use borrow.Author.Needs.{needs}
+use native.Mathlib.Omega.{arith}
 use Rattle.common.proofs.rangevector.scale_f64.Statement.{statement}
 use Rattle.common.proofs.rangevector.scale_f64.Tie as tie
 
@@ -14,7 +15,7 @@ unfolding scaleOf pastAny
 returns c = refused _ _ _ _ (c .before .index-row .ensures .0) (c .if1 .taken)
 
 at-f64-requires : tie.Need-at-f64-requires
-at-f64-requires c κs = c .before .before .before .before .index-row .ensures .1 (c .before .before .before .if1 .left)
+at-f64-requires c κs = let r = c .before .before .before .before .index-row .ensures .1 (c .before .before .before .if1 .left) in (omega arith, omega arith, omega arith)
 
 scale-requires : tie.Need-scale-requires
 scale-requires c κs = search needs

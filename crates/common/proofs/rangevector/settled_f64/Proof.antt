@@ -1,4 +1,4 @@
--- Both bounds are what their functions give. Assumes nothing.
+-- `rangevector::settled_f64` meets its contract. Both bounds are what their functions give. Assumes nothing.
 use Rattle.common.specs.RangeVector.{settled}
 use borrow.Author.Needs.{needs}
 use Rattle.common.proofs.rangevector.settled_f64.Statement.{statement}

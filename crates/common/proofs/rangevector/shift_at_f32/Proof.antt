@@ -1,4 +1,4 @@
--- A read, a shift by value and a store. Assumes nothing.
+-- `rangevector::shift_at_f32` meets its contract. A read, a shift by value and a store. Assumes nothing.
 use lib.Ieee.{binary32}
 use Rattle.common.specs.RangeVector.{Range, shifted}
 use Rattle.common.proofs.RangeSteps.{stepped}

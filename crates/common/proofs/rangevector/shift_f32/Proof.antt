@@ -1,4 +1,4 @@
--- Refused by the row of the index, or shifted there. Assumes nothing.
+-- `rangevector::shift_f32` meets its contract. Refused by the row of the index, or shifted there. Assumes nothing.
 use Rattle.common.specs.RangeVector.{shiftOf, pastAny}
 use Rattle.common.proofs.RangeSteps.{refused, done}
 use borrow.Author.Needs.{needs}

@@ -1,4 +1,4 @@
--- The tests in their order. Assumes nothing.
+-- `rangevector::unequal_lengths` meets its contract. The tests in their order. Assumes nothing.
 use borrow.Author.Tests.{eq-eqb, ne-eqb}
 use Rattle.common.proofs.rangevector.unequal_lengths.Statement.{statement}
 use Rattle.common.proofs.rangevector.unequal_lengths.Tie as tie

@@ -1,4 +1,4 @@
--- Before the turn at i the first i are zeros. Assumes nothing.
+-- `rangevector::zero_f32` meets its contract. Before the turn at i the first i are zeros. Assumes nothing.
 use Prim.Native.Nat.{_≤_, _<_, _-_}
 use mathlib.Core.Path.{_≡_, refl}
 use lib.ListN.{length, replicate, length-set}

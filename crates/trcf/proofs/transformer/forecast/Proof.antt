@@ -1,14 +1,9 @@
+-- `trcf::transformer::forecast` meets its contract: four steps in the definition's order. Assumes nothing.
 use Rattle.trcf.specs.Forecast.{plain}
 use Rattle.trcf.proofs.ForecastLaws.{forecast-steps}
 use borrow.Author.Needs.{needs}
 use Rattle.trcf.proofs.transformer.forecast.Statement.{statement}
 use Rattle.trcf.proofs.transformer.forecast.Tie as tie
-use Rattle.trcf.proofs.transformer.forecast.Reads as reads
-use Rattle.trcf.proofs.transformer.forecast.Lts as lts
-use Rattle.common.proofs.rangevector.Range32.shift.Reads as shift-reads
-use Rattle.trcf.proofs.transformer.block_number.Reads as block-number-reads
-use Rattle.trcf.proofs.transformer.scaled_if.Reads as scaled-if-reads
-use Rattle.trcf.proofs.transformer.shifted_if.Reads as shifted-if-reads
 
 scaled-if-requires : tie.Need-scaled-if-requires
 scaled-if-requires c κs = search needs

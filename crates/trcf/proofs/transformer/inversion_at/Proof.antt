@@ -1,3 +1,4 @@
+-- `trcf::transformer::inversion_at` meets its contract: field by field. Assumes nothing.
 use mathlib.Core.Path.{sym, ap, _∙_}
 use Rattle.trcf.specs.TransformerCalls.{view}
 use Rattle.trcf.proofs.TransformerLaws.{weightAt-view}
@@ -6,14 +7,6 @@ use Rattle.trcf.proofs.ForecastLaws.{inversion-made}
 use borrow.Author.Needs.{needs}
 use Rattle.trcf.proofs.transformer.inversion_at.Statement.{statement}
 use Rattle.trcf.proofs.transformer.inversion_at.Tie as tie
-use Rattle.trcf.proofs.transformer.inversion_at.Reads as reads
-use Rattle.trcf.proofs.transformer.inversion_at.Lts as lts
-use Rattle.trcf.proofs.transformer.narrow_mean_at.Reads as narrow-mean-at-reads
-use Rattle.trcf.proofs.transformer.normalized_scale.Reads as normalized-scale-reads
-use Rattle.trcf.proofs.transformer.reciprocal_of.Reads as reciprocal-of-reads
-use Rattle.trcf.proofs.types.is_centring.Reads as is-centring-reads
-use Rattle.trcf.proofs.types.is_none.Reads as is-none-reads
-use Rattle.trcf.proofs.types.is_normalizing.Reads as is-normalizing-reads
 
 mul-reciprocal-of : tie.Need-mul-reciprocal-of
 mul-reciprocal-of c = search needs

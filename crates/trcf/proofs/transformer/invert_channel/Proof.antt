@@ -1,3 +1,4 @@
+-- `trcf::transformer::invert_channel` meets its contract: the invariant is that the channel's first i blocks are inverted. Assumes nothing.
 use borrow.Author.Needs.{needs}
 use lib.ListN.{length, length-set}
 use Prim.Native.Nat.{_≤_, _-_}
@@ -8,9 +9,6 @@ use Rattle.common.specs.RangeVector.{ranges, putAt, rangeAt}
 use Rattle.trcf.specs.Forecast.{plain, channelTo}
 use Rattle.trcf.proofs.transformer.invert_channel.Statement.{statement}
 use Rattle.trcf.proofs.transformer.invert_channel.Tie as tie
-use Rattle.trcf.proofs.transformer.invert_channel.Reads as reads
-use Rattle.trcf.proofs.transformer.invert_channel.Lts as lts
-use Rattle.trcf.proofs.transformer.forecast.Reads as forecast-reads
 
 abbrev Inv-loop : tie.InvT-loop
 Inv-loop k j d n values₀ upper₀ lower₀ i₀ values upper lower i = (i ≤ n) × (ranges values upper lower ≡ channelTo k d j i (ranges values₀ upper₀ lower₀)) × (length values ≡ length values₀) × (length upper ≡ length values₀) × (length lower ≡ length values₀)

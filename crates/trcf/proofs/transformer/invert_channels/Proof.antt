@@ -1,18 +1,15 @@
+-- `trcf::transformer::invert_channels` meets its contract: the invariant is that the first j channels are inverted; together that is every index (`channels-all`). Assumes nothing.
 use lib.ListN.{length}
 use Prim.Native.Nat.{_≤_, _-_, _/_}
 use native.Mathlib.Nat.{div-mul-le-self}
 use native.Mathlib.Omega.{arith}
 use mathlib.Core.Path.{_≡_, refl, _∙_}
-use Rattle.trcf.proofs.ForecastLaws.{Even, channels-more, channels-all}
+use Rattle.trcf.proofs.ForecastLaws.{channels-more, channels-all}
 use Rattle.common.specs.RangeVector.{ranges}
 use Rattle.trcf.specs.TransformerCalls.{view}
 use Rattle.trcf.specs.Forecast.{channelsTo}
 use Rattle.trcf.proofs.transformer.invert_channels.Statement.{statement}
 use Rattle.trcf.proofs.transformer.invert_channels.Tie as tie
-use Rattle.trcf.proofs.transformer.invert_channels.Reads as reads
-use Rattle.trcf.proofs.transformer.invert_channels.Lts as lts
-use Rattle.trcf.proofs.transformer.inversion_at.Reads as inversion-at-reads
-use Rattle.trcf.proofs.transformer.invert_channel.Reads as invert-channel-reads
 
 abbrev Inv-loop : tie.InvT-loop
 Inv-loop t s values₀ upper₀ lower₀ d n j₀ values upper lower j = (j ≤ d) × (ranges values upper lower ≡ channelsTo (view t s) n j (ranges values₀ upper₀ lower₀)) × (length values ≡ length values₀) × (length upper ≡ length values₀) × (length lower ≡ length values₀)

@@ -1,3 +1,4 @@
+-- `trcf::transformer::invert_forecast_in_place` meets its contract: the inverted channels, then the cascade. Assumes nothing.
 use lib.ListN.{length}
 use native.Mathlib.Omega.{arith}
 use Rattle.common.specs.RangeVector.{ranges}
@@ -6,11 +7,6 @@ use Rattle.trcf.proofs.ForecastLaws.{blocked-still, forecast-done}
 use borrow.Author.Needs.{needs}
 use Rattle.trcf.proofs.transformer.invert_forecast_in_place.Statement.{statement}
 use Rattle.trcf.proofs.transformer.invert_forecast_in_place.Tie as tie
-use Rattle.trcf.proofs.transformer.invert_forecast_in_place.Reads as reads
-use Rattle.trcf.proofs.transformer.invert_forecast_in_place.Lts as lts
-use Rattle.trcf.proofs.transformer.cascade_if.Reads as cascade-if-reads
-use Rattle.trcf.proofs.transformer.invert_channels.Reads as invert-channels-reads
-use Rattle.trcf.proofs.types.is_differencing.Reads as is-differencing-reads
 
 is-differencing-requires : tie.Need-is-differencing-requires
 is-differencing-requires c κs = search needs

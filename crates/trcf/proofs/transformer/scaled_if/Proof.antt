@@ -1,9 +1,7 @@
+-- `trcf::transformer::scaled_if` meets its contract: each arm is the definition's case. Assumes nothing.
 use borrow.Author.Needs.{needs}
 use Rattle.trcf.proofs.transformer.scaled_if.Statement.{statement}
 use Rattle.trcf.proofs.transformer.scaled_if.Tie as tie
-use Rattle.trcf.proofs.transformer.scaled_if.Reads as reads
-use Rattle.trcf.proofs.transformer.scaled_if.Lts as lts
-use Rattle.common.proofs.rangevector.Range32.scale.Reads as scale-reads
 
 scale-requires : tie.Need-scale-requires
 scale-requires c κs = search needs

@@ -1,9 +1,7 @@
+-- `trcf::transformer::shifted_if` meets its contract: each arm is the definition's case. Assumes nothing.
 use borrow.Author.Needs.{needs}
 use Rattle.trcf.proofs.transformer.shifted_if.Statement.{statement}
 use Rattle.trcf.proofs.transformer.shifted_if.Tie as tie
-use Rattle.trcf.proofs.transformer.shifted_if.Reads as reads
-use Rattle.trcf.proofs.transformer.shifted_if.Lts as lts
-use Rattle.common.proofs.rangevector.Range32.shift.Reads as shift-reads
 
 shift-requires : tie.Need-shift-requires
 shift-requires c κs = search needs

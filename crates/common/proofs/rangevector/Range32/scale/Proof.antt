@@ -1,4 +1,4 @@
--- The products, settled. Assumes nothing.
+-- `rangevector::Range32::scale` meets its contract. The products, settled. Assumes nothing.
 use Rattle.common.specs.RangeVector.{scaled}
 use borrow.Author.Needs.{needs}
 use Rattle.common.proofs.rangevector.Range32.scale.Statement.{statement}

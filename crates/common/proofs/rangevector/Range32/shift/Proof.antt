@@ -1,4 +1,4 @@
--- The sums, settled. Assumes nothing.
+-- `rangevector::Range32::shift` meets its contract. The sums, settled. Assumes nothing.
 use Rattle.common.specs.RangeVector.{shifted}
 use borrow.Author.Needs.{needs}
 use Rattle.common.proofs.rangevector.Range32.shift.Statement.{statement}

@@ -1,0 +1,17 @@
+pub mod Lists
+pub mod Accepted
+pub mod Fields
+pub mod Injective
+pub mod ReadLine
+pub mod ReadPlan
+pub mod ReadKinds
+pub mod ReadText
+pub mod ReadBytes
+pub mod ReadExamples
+pub mod ScanLaws
+pub mod HexLaws
+pub mod ByKind
+pub mod ByField
+pub mod LineLaws
+pub mod WriteLaws
+pub mod LineBytes

@@ -1,0 +1,196 @@
+// The fields of a snapshot: "a single, a double, a whole number or bad, by the kind its place calls for" (document 01, 'Trace text').
+ghost use mathlib.Core.Path.{_≡_};
+ghost use Prim.Native.Nat.{_+_, _-_, _*_, _≤_, _<_};
+ghost use lib.ListN.{length, take, drop};
+ghost use lib.Ieee.{binary32, binary64};
+ghost use Rattle.snapshot.specs.LineLength.{lineLength};
+ghost use Rattle.snapshot.specs.Scan.{lead, numberOf, hexOf, hscan, singleOf, doubleOf, fieldOf};
+ghost use Rattle.snapshot.specs.Read.{asWhole, asFloat};
+
+fn wide(x: u8) -> u64
+    ensures { λ r. ⌜ r ≡ x ⌝ }
+{
+    x as u64
+}
+
+// A whole number, or none.
+pub enum Number {
+    Is(u64),
+    No,
+}
+
+// Not empty, and no zero before another digit.
+fn leads(c: &[u8]) -> bool
+    ensures { λ r. ⌜ r ≡ lead (now (c .entry)) ⌝ }
+{
+    if c.len() == 0 {
+        return false;
+    }
+    if c.len() == 1 {
+        return true;
+    }
+    wide(c[0]) != 48
+}
+
+// A whole number: decimal, without leading zeros, at most 2^64 - 1.
+pub fn whole(c: &[u8]) -> Number
+    ensures { λ r. ⌜ r ≡ numberOf (asWhole (now (c .entry))) ⌝ }
+{
+    if !leads(c) {
+        return Number::No;
+    }
+    let mut n: u64 = 0;
+    let mut i = 0;
+    while i < c.len() {
+        let b = wide(c[i]);
+        if b < 48 {
+            return Number::No;
+        }
+        if 57 < b {
+            return Number::No;
+        }
+        let d = b - 48;
+        if 1844674407370955161 < n {
+            return Number::No;
+        }
+        let m = n * 10;
+        if 18446744073709551615 - m < d {
+            return Number::No;
+        }
+        n = m + d;
+        i += 1;
+    }
+    Number::Is(n)
+}
+
+// A lower-case hexadecimal digit, 16 for no digit.
+fn digit(b: u64) -> u64
+    ensures { λ r. ⌜ r ≡ hexOf b ⌝ }
+{
+    if b < 48 {
+        return 16;
+    }
+    if b <= 57 {
+        return b - 48;
+    }
+    if b < 97 {
+        return 16;
+    }
+    if b <= 102 {
+        return b - 87;
+    }
+    16
+}
+
+// The number that lower-case hexadecimal digits write.
+fn hex(c: &[u8]) -> Number
+    ensures { λ r. ⌜ r ≡ numberOf (hscan 0 (now (c .entry))) ⌝ }
+{
+    let mut n: u64 = 0;
+    let mut i = 0;
+    while i < c.len() {
+        let b = wide(c[i]);
+        let d = digit(b);
+        if 15 < d {
+            return Number::No;
+        }
+        if 1152921504606846975 < n {
+            return Number::No;
+        }
+        n = n * 16 + d;
+        i += 1;
+    }
+    Number::Is(n)
+}
+
+// A field by the kind that its place calls for.
+pub enum Field {
+    Single(f32),
+    Double(f64),
+    Whole(u64),
+    Bad,
+}
+
+// An f32 in 8 digits; of the not-a-numbers the one pattern.
+pub fn single(c: &[u8]) -> Field
+    ensures { λ r. ⌜ r ≡ singleOf (asFloat binary32 (now (c .entry))) ⌝ }
+{
+    if c.len() != 8 {
+        return Field::Bad;
+    }
+    let h = hex(c);
+    match h {
+        Number::No => Field::Bad,
+        Number::Is(n) => {
+            if 0xffff_ffff < n {
+                return Field::Bad;
+            }
+            if 0x7f80_0000 < n % 0x8000_0000 {
+                if n == 0x7fc0_0000 {
+                    let z = 0.0f32;
+                    return Field::Single(z / z);
+                }
+                return Field::Bad;
+            }
+            Field::Single(f32::from_bits(n as u32))
+        }
+    }
+}
+
+// An f64 in 16 digits.
+pub fn double(c: &[u8]) -> Field
+    ensures { λ r. ⌜ r ≡ doubleOf (asFloat binary64 (now (c .entry))) ⌝ }
+{
+    if c.len() != 16 {
+        return Field::Bad;
+    }
+    let h = hex(c);
+    match h {
+        Number::No => Field::Bad,
+        Number::Is(n) => {
+            if 0x7ff0_0000_0000_0000 < n % 0x8000_0000_0000_0000 {
+                if n == 0x7ff8_0000_0000_0000 {
+                    let z = 0.0f64;
+                    return Field::Double(z / z);
+                }
+                return Field::Bad;
+            }
+            Field::Double(f64::from_bits(n))
+        }
+    }
+}
+
+// The field from..to of the text, by the kind that its place calls for: 0 a single, 1 a double, else a whole number.
+pub(crate) fn parse(text: &[u8], from: usize, to: usize, kind: u64) -> Field
+    requires { ⌜ from ≤ to ⌝ }
+    requires { ⌜ to ≤ length (now text) ⌝ }
+    ensures { λ r. ⌜ r ≡ fieldOf kind (take (to - from) (drop from (now (text .entry)))) ⌝ }
+{
+    let c = &text[from..to];
+    if kind == 0 {
+        return single(c);
+    }
+    if kind == 1 {
+        return double(c);
+    }
+    let w = whole(c);
+    match w {
+        Number::No => Field::Bad,
+        Number::Is(n) => Field::Whole(n),
+    }
+}
+
+// Past the line that starts at from: behind its LF, or at the end of the text where it has none.
+pub(crate) fn line_end(text: &[u8], from: usize) -> usize
+    requires { ⌜ from ≤ length (now text) ⌝ }
+    ensures { λ r. ⌜ r ≡ from + lineLength (drop from (now (text .entry))) ⌝ }
+{
+    let mut i = from;
+    while i < text.len() {
+        if wide(text[i]) == 10 {
+            return i + 1;
+        }
+        i += 1;
+    }
+    i
+}
