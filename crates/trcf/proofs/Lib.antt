@@ -14,3 +14,5 @@ pub mod StateLaws
 pub mod LearnLaws
 pub mod ViewLaws
 pub mod ViewExamples
+pub mod ExtrapolationLaws
+pub mod ExtrapolationExamples
