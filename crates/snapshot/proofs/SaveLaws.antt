@@ -9,14 +9,15 @@ use lib.Dec.{ltb}
 use lib.ListN.{length, take, drop, length-append, length-drop, length-take}
 use lib.Seq.{length-take-le}
 use lib.Ieee.{Float}
-use borrow.Author.Tests.{ltb-false}
+use borrow.Author.Tests.{ltb-false, lt-ltb, le-ltb}
 use Rattle.trcf.specs.Types.{methodNumber, modeLetter}
 use Rattle.trcf.specs.Settings.{Settings}
 use Rattle.trcf.specs.Preprocessor.{State}
 use Rattle.snapshot.specs.Text.{Line, whole, wgt, inp, pnt, setLine, singles, cntLine, devLine, devLines, timLine, bufLine, bufLines, bytesOf, linesOf, render}
 use Rattle.snapshot.specs.Read.{bytesOfLine}
-use Rattle.snapshot.specs.Write.{tabbed, setBytes}
-use Rattle.snapshot.specs.Save.{past, headBytes, listBytes}
+use Rattle.snapshot.specs.Write.{Wrote, tabbed, setBytes}
+use Rattle.snapshot.specs.Save.{past, outcome, fitted, headBytes, listBytes}
+use Rattle.snapshot.proofs.WriteLaws.{stored-over}
 use Rattle.snapshot.proofs.LineBytes.{singles-size, tim-size, cnt-size, dev-size, buf-size, set-size}
 
 -- ---- the two parts
@@ -192,3 +193,15 @@ sixteen w h = sym (same w) ∙ h
     same : (l : List Float) → length (map (λ v. v) l) ≡ length l
     same [] = refl
     same (x ∷ xs) = ap suc (same xs)
+
+-- ---- what is answered
+
+pub fitted-not : (t out : List ℕ) (n : ℕ) → n ≡ length t → length out < n → outcome 20 0 out ≡ fitted t out
+unfolding fitted
+fitted-not t out n e h = rw (lt-ltb (length out) (length t) (omega arith))
+
+pub fitted-is : (t out new : List ℕ) (n r : ℕ) → n ≡ length t → n ≤ length out → Wrote 0 t out r new → outcome 0 n new ≡ fitted t out
+unfolding fitted
+fitted-is t out new n r e h w =
+    let g : length t ≤ length out = omega arith in
+    rw (le-ltb (length out) (length t) g) (λ i. outcome 0 (e i) ((w .bytes ∙ stored-over out t g) i))

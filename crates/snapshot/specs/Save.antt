@@ -39,11 +39,13 @@ pub record Outcome : Type 0 where
 abbrev pub outcome : ℕ → ℕ → List ℕ → Outcome
 outcome row n bytes = record { row = row; length = n; bytes = bytes }
 
--- row 20: "lent output shorter than the answer to be written", or a lent part shorter than what is in use
+-- row 20: "lent output shorter than the answer to be written"; what lies past the text keeps its contents
+unfoldable pub fitted : List ℕ → List ℕ → Outcome
+fitted t out = cond (ltb (length out) (length t)) (outcome 20 0 out) (outcome 0 (length t) (over out t))
+
+-- row 20 too where a lent part is shorter than what is in use of it
 unfoldable pub saveOf : Preprocessor → Lent → List ℕ → Outcome
-saveOf h l out =
-    let t = render (view h l) in
-    cond (unheld h l || ltb (length out) (length t)) (outcome 20 0 out) (outcome 0 (length t) (over out t))
+saveOf h l out = cond (unheld h l) (outcome 20 0 out) (fitted (render (view h l)) out)
 
 -- ---- the text in two parts, as it is written
 

@@ -11,14 +11,14 @@ use trcf::types::ForestMode;
 use trcf::types::TransformMethod;
 ghost use mathlib.Core.Path.{_≡_};
 ghost use mathlib.Core.Bool.{cond};
-ghost use mathlib.Core.List.{map};
+ghost use mathlib.Core.List.{map, _++_};
 ghost use Prim.Native.Nat.{_+_, _*_, _≤_, _<_};
 ghost use lib.ListN.{length};
 ghost use Rattle.trcf.specs.Types.{methodNumber, modeLetter, augments};
 ghost use Rattle.trcf.specs.View.{lent, settingsOf};
 ghost use Rattle.snapshot.specs.Text.{whole};
 ghost use Rattle.snapshot.specs.Write.{Wrote, tabbed};
-ghost use Rattle.snapshot.specs.Save.{past, outcome, saveOf, headBytes, listBytes};
+ghost use Rattle.snapshot.specs.Save.{past, outcome, fitted, saveOf, headBytes, listBytes};
 
 // The row, 0 for none, and the length of the text.
 pub struct Saved {
@@ -111,6 +111,7 @@ fn wholes_length(v: &[u64]) -> usize
 fn head_length(head: Preprocessor) -> usize
     requires { ⌜ head .transformer .«input_length» ≤ 16 ⌝ }
     ensures { λ r. ⌜ r ≡ length (headBytes (settingsOf head) (head .«values_seen») (head .«internal_timestamp») (head .transformer .count)) ⌝ }
+    ensures { λ r. ⌜ r ≤ 400 ⌝ }
 {
     let t = head.transformer;
     let d = t.input_length;
@@ -131,6 +132,7 @@ fn lists_length(d: usize, statistics: &[f64], input: &[f32], point: &[f32], time
     requires { ⌜ length (now initial) ≤ 2000 ⌝ }
     requires { ⌜ length (now initial) * d ≤ length (now values) ⌝ }
     ensures { λ r. ⌜ r ≡ length (listBytes d (now (statistics .entry)) (now (input .entry)) (now (point .entry)) (now (times .entry)) (now (values .entry)) (now (initial .entry))) ⌝ }
+    ensures { λ r. ⌜ r ≤ 500000 ⌝ }
 {
     let a = 55 * (statistics.len() / 3) + 9 * input.len() + 9 * point.len() + 12;
     let b = wholes_length(times) + wholes_length(initial);
@@ -168,4 +170,49 @@ fn write_lists(out: &mut [u8], at: usize, d: usize, statistics: &[f64], input: &
     let r = singles_line(out, q, 112, 110, 116, point);
     let s = tim_line(out, r, times);
     buf_lines(out, s, d, values, initial)
+}
+
+// The text of a head and of lent lists of which all is in use, where it fits.
+fn save_parts(head: Preprocessor, statistics: &[f64], input: &[f32], point: &[f32], times: &[u64], values: &[f32], initial: &[u64], out: &mut [u8]) -> Saved
+    requires { ⌜ head .transformer .«input_length» ≤ 16 ⌝ }
+    requires { ⌜ length (now statistics) ≤ 2000 ⌝ }
+    requires { ⌜ length (now input) ≤ 2000 ⌝ }
+    requires { ⌜ length (now point) ≤ 2000 ⌝ }
+    requires { ⌜ length (now times) ≤ 2000 ⌝ }
+    requires { ⌜ length (now initial) ≤ 2000 ⌝ }
+    requires { ⌜ length (now initial) * head .transformer .«input_length» ≤ length (now values) ⌝ }
+    ensures { λ r. ⌜ outcome (r .row) (r .length) (now (out .exit)) ≡ fitted (headBytes (settingsOf head) (head .«values_seen») (head .«internal_timestamp») (head .transformer .count) ++ listBytes (head .transformer .«input_length») (now (statistics .entry)) (now (input .entry)) (now (point .entry)) (now (times .entry)) (now (values .entry)) (now (initial .entry))) (now (out .entry)) ⌝ }
+{
+    let t = head.transformer;
+    let d = t.input_length;
+    let l = head_length(head) + lists_length(d, statistics, input, point, times, values, initial);
+    if out.len() < l {
+        return Saved { row: 20, length: 0 };
+    }
+    let p = write_head(out, head);
+    write_lists(out, p, d, statistics, input, point, times, values, initial);
+    Saved { row: 0, length: l }
+}
+
+// The snapshot of what head and the lent lists hold, and its length; or row 20 with nothing written, where out is shorter than the text,
+// or a lent list shorter than what is in use of it, or a number of the head past the limits.
+pub fn save(head: Preprocessor, statistics: &[f64], last_shingled_input: &[f32], last_shingled_point: &[f32], previous_timestamps: &[u64], initial_values: &[f32], initial_timestamps: &[u64], out: &mut [u8]) -> Saved
+    ensures { λ r. ⌜ outcome (r .row) (r .length) (now (out .exit)) ≡ saveOf head (lent (now (statistics .entry)) (now («last_shingled_input» .entry)) (now («last_shingled_point» .entry)) (now («previous_timestamps» .entry)) (now («initial_values» .entry)) (now («initial_timestamps» .entry))) (now (out .entry)) ⌝ }
+{
+    let t = head.transformer;
+    let mode = head.forest_mode;
+    let d = t.input_length;
+    let k = head.shingle_size;
+    let n = head.initial_len;
+    let w = time_width(mode);
+    if is_past(d, k, w, n, statistics.len(), last_shingled_input.len(), last_shingled_point.len(), previous_timestamps.len(), initial_values.len(), initial_timestamps.len()) {
+        return Saved { row: 20, length: 0 };
+    }
+    let st = &statistics[..3 * (5 * d + 5)];
+    let x = &last_shingled_input[..d * k];
+    let y = &last_shingled_point[..(d + w) * k];
+    let ts = &previous_timestamps[..k];
+    let v = &initial_values[..n * d];
+    let us = &initial_timestamps[..n];
+    save_parts(head, st, x, y, ts, v, us, out)
 }

@@ -50,7 +50,7 @@ add-result-3 : tie.Need-add-result-3
 add-result-3 c = let a = c .before .before .before .before .before .before .before .before .args in omega (arith, few-lines (length (a .initial .now)) (a .d) (omega arith) (omega arith))
 
 returns : tie.Need-returns
-returns c = let a = c .before .before .before .before .before .before .before .before .args in omega (arith, list-size (a .d) (a .statistics .now) (a .input .now) (a .point .now) (a .times .now) (a .values .now) (a .initial .now) (omega arith))
+returns c = let a = c .before .before .before .before .before .before .before .before .args in omega (arith, list-size (a .d) (a .statistics .now) (a .input .now) (a .point .now) (a .times .now) (a .values .now) (a .initial .now) (omega arith), few-lines (length (a .initial .now)) (a .d) (omega arith) (omega arith))
 
 pub lists-length-spec : {M : Type 1} → statement M
 lists-length-spec =
