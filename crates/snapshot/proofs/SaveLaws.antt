@@ -10,13 +10,15 @@ use lib.ListN.{length, take, drop, length-append, length-drop, length-take}
 use lib.Seq.{length-take-le}
 use lib.Ieee.{Float}
 use borrow.Author.Tests.{ltb-false, lt-ltb, le-ltb}
-use Rattle.trcf.specs.Types.{methodNumber, modeLetter}
-use Rattle.trcf.specs.Settings.{Settings}
+use Rattle.trcf.specs.declared.preprocessor.Preprocessor.{Preprocessor}
+use Rattle.trcf.specs.Types.{methodNumber, modeLetter, augments}
+use Rattle.trcf.specs.Settings.{Settings, block, dimension}
+use Rattle.trcf.specs.View.{Lent, settingsOf, view}
 use Rattle.trcf.specs.Preprocessor.{State}
 use Rattle.snapshot.specs.Text.{Line, whole, wgt, inp, pnt, setLine, singles, cntLine, devLine, devLines, timLine, bufLine, bufLines, bytesOf, linesOf, render}
 use Rattle.snapshot.specs.Read.{bytesOfLine}
 use Rattle.snapshot.specs.Write.{Wrote, tabbed, setBytes}
-use Rattle.snapshot.specs.Save.{past, outcome, fitted, headBytes, listBytes}
+use Rattle.snapshot.specs.Save.{past, unheld, Outcome, outcome, fitted, saveOf, headBytes, listBytes}
 use Rattle.snapshot.proofs.WriteLaws.{stored-over}
 use Rattle.snapshot.proofs.LineBytes.{singles-size, tim-size, cnt-size, dev-size, buf-size, set-size}
 
@@ -43,9 +45,9 @@ unfolding render linesOf headBytes listBytes
 render-parts w =
     append-assoc (bytesOfLine (setLine (w .settings))) _ _
     ∙ ap (λ (t : List ℕ). bytesOfLine (setLine (w .settings)) ++ t)
-        (append-assoc (bytesOfLine (singles wgt (w .settings .weights))) _ _
-        ∙ ap (λ (t : List ℕ). bytesOfLine (singles wgt (w .settings .weights)) ++ (bytesOfLine (cntLine (w .valuesSeen) (w .internalTimestamp) (w .count)) ++ t))
-            (sym (bytes-append (devLines (w .statistics)) _)))
+    (append-assoc (bytesOfLine (singles wgt (w .settings .weights))) _ _
+    ∙ ap (λ (t : List ℕ). bytesOfLine (singles wgt (w .settings .weights)) ++ (bytesOfLine (cntLine (w .valuesSeen) (w .internalTimestamp) (w .count)) ++ t))
+    (sym (bytes-append (devLines (w .statistics)) _)))
 
 -- ---- how many bytes
 
@@ -78,7 +80,7 @@ head-size s v i c =
       ap length (set-is s),
       set-size (modeLetter (s .mode)) (methodNumber (s .method)) (s .d) (s .k) (s .start) (s .stop) (s .decay) (s .weightTime),
       singles-size 119 103 116 (s .weights),
-      cnt-size v i c
+      cnt-size v i c,
     )
 
 pub list-size : (d : ℕ) (st x y : List Float) (ts : List ℕ) (v : List Float) (us : List ℕ) → length us * d ≤ length v
@@ -99,7 +101,7 @@ list-size d st x y ts v us h =
       singles-size 105 110 112 x,
       singles-size 112 110 116 y,
       tim-size ts,
-      bufs-size d v us h
+      bufs-size d v us h,
     )
 
 -- ---- what a test that did not hold says
@@ -166,7 +168,7 @@ head-split s v i c =
     omega (
       arith,
       length-append (bytesOfLine (setLine s)) (bytesOfLine (singles wgt (s .weights)) ++ bytesOfLine (cntLine v i c)),
-      length-append (bytesOfLine (singles wgt (s .weights))) (bytesOfLine (cntLine v i c))
+      length-append (bytesOfLine (singles wgt (s .weights))) (bytesOfLine (cntLine v i c)),
     )
 
 pub list-split : (d : ℕ) (st x y : List Float) (ts : List ℕ) (v : List Float) (us : List ℕ)
@@ -183,7 +185,7 @@ list-split d st x y ts v us =
       length-append (bytesOf (devLines st)) (bytesOfLine (singles inp x) ++ p),
       length-append (bytesOfLine (singles inp x)) p,
       length-append (bytesOfLine (singles pnt y)) t,
-      length-append (bytesOfLine (timLine ts)) e
+      length-append (bytesOfLine (timLine ts)) e,
     )
 
 -- what owning a head tells of its weights
@@ -205,3 +207,39 @@ unfolding fitted
 fitted-is t out new n r e h w =
     let g : length t ≤ length out = omega arith in
     rw (le-ltb (length out) (length t) g) (λ i. outcome 0 (e i) ((w .bytes ∙ stored-over out t g) i))
+
+pub wide-of : (b : Bool) (w : ℕ) → w ≡ cond b 1 0 → w ≤ 1
+wide-of true w e = omega arith
+wide-of false w e = omega arith
+
+-- w: the numbers of a time
+module _ (h : Preprocessor) (l : Lent) (w : ℕ) (e : w ≡ cond (augments (h .«forest_mode»)) 1 0) where
+  abbrev pub pastBy : ℕ → Bool
+  pastBy x =
+      past (h .transformer .«input_length») (h .«shingle_size») x (h .«initial_len») (length (l .statistics)) (length (l .lastShingledInput))
+      (length (l .lastShingledPoint)) (length (l .previousTimestamps)) (length (l .initialValues)) (length (l .initialTimestamps))
+
+  pub saved-not : (out : List ℕ) → pastBy w ≡ true → outcome 20 0 out ≡ saveOf h l out
+  unfolding saveOf unheld
+  saved-not out g = let k : pastBy (cond (augments (h .«forest_mode»)) 1 0) ≡ true = ap pastBy (sym e) ∙ g in rw k
+
+  -- the text of what is in use of the lent lists
+  pub saved-is : (out : List ℕ) (o : Outcome) → pastBy w ≡ false
+      → o ≡ fitted
+      (headBytes (settingsOf h) (h .«values_seen») (h .«internal_timestamp») (h .transformer .count)
+      ++ listBytes (h .transformer .«input_length») (take (3 * (5 * h .transformer .«input_length» + 5)) (l .statistics))
+      (take (h .transformer .«input_length» * h .«shingle_size») (l .lastShingledInput))
+      (take ((h .transformer .«input_length» + w) * h .«shingle_size») (l .lastShingledPoint)) (take (h .«shingle_size») (l .previousTimestamps))
+      (take (h .«initial_len» * h .transformer .«input_length») (l .initialValues)) (take (h .«initial_len») (l .initialTimestamps))) out
+      → o ≡ saveOf h l out
+  unfolding saveOf unheld view dimension block
+  saved-is out o g q =
+      let k : pastBy (cond (augments (h .«forest_mode»)) 1 0) ≡ false = ap pastBy (sym e) ∙ g in
+      q
+      ∙ ap (λ (x : ℕ). fitted
+      (headBytes (settingsOf h) (h .«values_seen») (h .«internal_timestamp») (h .transformer .count)
+      ++ listBytes (h .transformer .«input_length») (take (3 * (5 * h .transformer .«input_length» + 5)) (l .statistics))
+      (take (h .transformer .«input_length» * h .«shingle_size») (l .lastShingledInput))
+      (take ((h .transformer .«input_length» + x) * h .«shingle_size») (l .lastShingledPoint)) (take (h .«shingle_size») (l .previousTimestamps))
+      (take (h .«initial_len» * h .transformer .«input_length») (l .initialValues)) (take (h .«initial_len») (l .initialTimestamps))) out) e
+      ∙ ap (λ (t : List ℕ). fitted t out) (render-parts (view h l)) ∙ rw k

@@ -61,7 +61,18 @@ fn time_width(m: ForestMode) -> usize
 }
 
 // Whether a number is past the limits, or a lent list is shorter than what is in use of it.
-fn is_past(d: usize, k: usize, wide: usize, n: usize, statistics: usize, input: usize, point: usize, times: usize, values: usize, initial: usize) -> bool
+fn is_past(
+    d: usize,
+    k: usize,
+    wide: usize,
+    n: usize,
+    statistics: usize,
+    input: usize,
+    point: usize,
+    times: usize,
+    values: usize,
+    initial: usize,
+) -> bool
     requires { ⌜ wide ≤ 1 ⌝ }
     ensures { λ r. ⌜ r ≡ past d k wide n statistics input point times values initial ⌝ }
 {
@@ -116,14 +127,27 @@ fn head_length(head: Preprocessor) -> usize
     let t = head.transformer;
     let d = t.input_length;
     let method = t.transform_method;
-    let a = whole_length(method_number(method)) + whole_length(d as u64) + whole_length(head.shingle_size as u64);
-    let b = whole_length(head.start_normalization as u64) + whole_length(head.stop_normalization as u64);
-    let c = whole_length(head.values_seen as u64) + whole_length(head.internal_timestamp as u64) + whole_length(t.count);
+    let a = whole_length(method_number(method))
+        + whole_length(d as u64)
+        + whole_length(head.shingle_size as u64);
+    let b = whole_length(head.start_normalization as u64)
+        + whole_length(head.stop_normalization as u64);
+    let c = whole_length(head.values_seen as u64)
+        + whole_length(head.internal_timestamp as u64)
+        + whole_length(t.count);
     a + b + c + 48 + 9 * d
 }
 
 // How many bytes the lines of the lent lists take.
-fn lists_length(d: usize, statistics: &[f64], input: &[f32], point: &[f32], times: &[u64], values: &[f32], initial: &[u64]) -> usize
+fn lists_length(
+    d: usize,
+    statistics: &[f64],
+    input: &[f32],
+    point: &[f32],
+    times: &[u64],
+    values: &[f32],
+    initial: &[u64],
+) -> usize
     requires { ⌜ d ≤ 16 ⌝ }
     requires { ⌜ length (now statistics) ≤ 2000 ⌝ }
     requires { ⌜ length (now input) ≤ 2000 ⌝ }
@@ -154,13 +178,40 @@ fn write_head(out: &mut [u8], head: Preprocessor) -> usize
     let method = method_number(kind);
     let start = head.start_normalization as u64;
     let stop = head.stop_normalization as u64;
-    let p = set_line(out, 0, letter, method, d as u64, head.shingle_size as u64, start, stop, t.transform_decay, head.weight_time);
+    let p = set_line(
+        out,
+        0,
+        letter,
+        method,
+        d as u64,
+        head.shingle_size as u64,
+        start,
+        stop,
+        t.transform_decay,
+        head.weight_time,
+    );
     let q = singles_line(out, p, 119, 103, 116, &weights[..d]);
-    cnt_line(out, q, head.values_seen as u64, head.internal_timestamp as u64, t.count)
+    cnt_line(
+        out,
+        q,
+        head.values_seen as u64,
+        head.internal_timestamp as u64,
+        t.count,
+    )
 }
 
 // The lines of the lent lists, of which all is in use.
-fn write_lists(out: &mut [u8], at: usize, d: usize, statistics: &[f64], input: &[f32], point: &[f32], times: &[u64], values: &[f32], initial: &[u64]) -> usize
+fn write_lists(
+    out: &mut [u8],
+    at: usize,
+    d: usize,
+    statistics: &[f64],
+    input: &[f32],
+    point: &[f32],
+    times: &[u64],
+    values: &[f32],
+    initial: &[u64],
+) -> usize
     requires { ⌜ length (now initial) * d ≤ length (now values) ⌝ }
     requires { ⌜ at + length (listBytes d (now statistics) (now input) (now point) (now times) (now values) (now initial)) ≤ length (now out) ⌝ }
     ensures { λ r. ⌜ Wrote at (listBytes d (now (statistics .entry)) (now (input .entry)) (now (point .entry)) (now (times .entry)) (now (values .entry)) (now (initial .entry))) (now (out .entry)) r (now (out .exit)) ⌝ }
@@ -173,7 +224,16 @@ fn write_lists(out: &mut [u8], at: usize, d: usize, statistics: &[f64], input: &
 }
 
 // The text of a head and of lent lists of which all is in use, where it fits.
-fn save_parts(head: Preprocessor, statistics: &[f64], input: &[f32], point: &[f32], times: &[u64], values: &[f32], initial: &[u64], out: &mut [u8]) -> Saved
+fn save_parts(
+    head: Preprocessor,
+    statistics: &[f64],
+    input: &[f32],
+    point: &[f32],
+    times: &[u64],
+    values: &[f32],
+    initial: &[u64],
+    out: &mut [u8],
+) -> Saved
     requires { ⌜ head .transformer .«input_length» ≤ 16 ⌝ }
     requires { ⌜ length (now statistics) ≤ 2000 ⌝ }
     requires { ⌜ length (now input) ≤ 2000 ⌝ }
@@ -196,7 +256,16 @@ fn save_parts(head: Preprocessor, statistics: &[f64], input: &[f32], point: &[f3
 
 // The snapshot of what head and the lent lists hold, and its length; or row 20 with nothing written, where out is shorter than the text,
 // or a lent list shorter than what is in use of it, or a number of the head past the limits.
-pub fn save(head: Preprocessor, statistics: &[f64], last_shingled_input: &[f32], last_shingled_point: &[f32], previous_timestamps: &[u64], initial_values: &[f32], initial_timestamps: &[u64], out: &mut [u8]) -> Saved
+pub fn save(
+    head: Preprocessor,
+    statistics: &[f64],
+    last_shingled_input: &[f32],
+    last_shingled_point: &[f32],
+    previous_timestamps: &[u64],
+    initial_values: &[f32],
+    initial_timestamps: &[u64],
+    out: &mut [u8],
+) -> Saved
     ensures { λ r. ⌜ outcome (r .row) (r .length) (now (out .exit)) ≡ saveOf head (lent (now (statistics .entry)) (now («last_shingled_input» .entry)) (now («last_shingled_point» .entry)) (now («previous_timestamps» .entry)) (now («initial_values» .entry)) (now («initial_timestamps» .entry))) (now (out .entry)) ⌝ }
 {
     let t = head.transformer;
@@ -205,7 +274,18 @@ pub fn save(head: Preprocessor, statistics: &[f64], last_shingled_input: &[f32],
     let k = head.shingle_size;
     let n = head.initial_len;
     let w = time_width(mode);
-    if is_past(d, k, w, n, statistics.len(), last_shingled_input.len(), last_shingled_point.len(), previous_timestamps.len(), initial_values.len(), initial_timestamps.len()) {
+    if is_past(
+        d,
+        k,
+        w,
+        n,
+        statistics.len(),
+        last_shingled_input.len(),
+        last_shingled_point.len(),
+        previous_timestamps.len(),
+        initial_values.len(),
+        initial_timestamps.len(),
+    ) {
         return Saved { row: 20, length: 0 };
     }
     let st = &statistics[..3 * (5 * d + 5)];

@@ -213,7 +213,18 @@ fn buf_line(out: &mut [u8], at: usize, time: u64, v: &[f32]) -> usize
 }
 
 // The line of the settings, from the letter of the mode and the number of the method.
-pub(crate) fn set_line(out: &mut [u8], at: usize, letter: u8, method: u64, d: u64, k: u64, start: u64, stop: u64, decay: f64, weight_time: f32) -> usize
+pub(crate) fn set_line(
+    out: &mut [u8],
+    at: usize,
+    letter: u8,
+    method: u64,
+    d: u64,
+    k: u64,
+    start: u64,
+    stop: u64,
+    decay: f64,
+    weight_time: f32,
+) -> usize
     requires { ⌜ at + length (setBytes letter method d k start stop decay «weight_time») ≤ length (now out) ⌝ }
     ensures { λ r. ⌜ Wrote at (setBytes letter method d k start stop decay «weight_time») (now (out .entry)) r (now (out .exit)) ⌝ }
 {

@@ -69,7 +69,7 @@ add-result-4 : tie.Need-add-result-4
 add-result-4 c = search needs
 
 returns : tie.Need-returns
-returns c = 
+returns c =
     let h = c .before .before .before .before .before .before .before .before .before .before .args .head in
     let w = h .transformer .weights in
     let d = h .transformer .«input_length» in
@@ -78,7 +78,7 @@ returns c =
       arith,
       head-size (settingsOf h) (h .«values_seen») (h .«internal_timestamp») (h .transformer .count),
       length-take-le d w (omega arith),
-      ap (λ (n : ℕ). length (whole n)) (c .before .before .before .before .before .before .before .before .method-number .ensures)
+      ap (λ (n : ℕ). length (whole n)) (c .before .before .before .before .before .before .before .before .method-number .ensures),
     )
 
 pub head-length-spec : {M : Type 1} → statement M

@@ -22,7 +22,7 @@ add-l : tie.Need-add-l
 add-l c = omega (arith, c .lists-length .ensures .1, c .before .head-length .ensures .1)
 
 returns : tie.Need-returns
-returns c = 
+returns c =
     let a = c .before .before .before .before .before .before .before .before .before .before .before .args in
     let h = a .head in
     let p = headBytes (settingsOf h) (h .«values_seen») (h .«internal_timestamp») (h .transformer .count) in
@@ -34,14 +34,14 @@ write-head-requires : tie.Need-write-head-requires
 write-head-requires c κs = omega (arith, c .before .before .lists-length .ensures .0, c .before .before .before .head-length .ensures .0, c .before .if1 .left)
 
 write-lists-requires : tie.Need-write-lists-requires
-write-lists-requires c κs = 
+write-lists-requires c κs =
     (c .before .before .before .before .before .before .before .before .before .before .before .before .before .before .before .before .pre .1 .1 .1 .1 .1 .1, omega (arith, c .before .before .before .before .before .before .lists-length .ensures .0, c .before .before .before .before .before .before .before .head-length .ensures .0, c .before .before .before .before .before .if1 .left, c .before .before .before .write-head .ensures .place, c .before .before .before .write-head .ensures .kept))
 
 same-length : tie.Need-same-length
 same-length c = search needs
 
 returns-2 : tie.Need-returns-2
-returns-2 c = 
+returns-2 c =
     let a = c .before .before .before .before .before .before .before .before .before .before .before .before .before .before .before .before .before .before .before .args in
     let h = a .head in
     let p = headBytes (settingsOf h) (h .«values_seen») (h .«internal_timestamp») (h .transformer .count) in

@@ -44,7 +44,7 @@ loop-less : tie.Need-loop-less Inv-loop μ-loop
 loop-less c = search needs
 
 loop-again : tie.Need-loop-again Inv-loop μ-loop
-loop-again c = 
+loop-again c =
     let L = c .before .before .before .loop in
     let v = c .before .before .before .before .before .args .v .now in
     let h : L .i < length v = c .before .before .loop-test .taken in

@@ -19,7 +19,7 @@ method-number-requires : tie.Need-method-number-requires
 method-number-requires c κs = search needs
 
 set-line-requires : tie.Need-set-line-requires
-set-line-requires c κs = 
+set-line-requires c κs =
     let h = c .before .before .before .before .before .before .args .head in
     let w = h .transformer .weights in
     let d = h .transformer .«input_length» in
@@ -28,7 +28,7 @@ set-line-requires c κs =
     omega (arith, head-split (settingsOf h) (h .«values_seen») (h .«internal_timestamp») (h .transformer .count), ap length e, c .before .before .before .before .before .before .pre .1)
 
 array-share-prefix-weights : tie.Need-array-share-prefix-weights
-array-share-prefix-weights c = 
+array-share-prefix-weights c =
     let h = c .before .before .before .before .before .before .before .before .before .before .args .head in
     let w = h .transformer .weights in
     let d = h .transformer .«input_length» in
@@ -36,7 +36,7 @@ array-share-prefix-weights c =
     omega (arith, z)
 
 slice-aggregate-singles-line : tie.Need-slice-aggregate-singles-line
-slice-aggregate-singles-line c = 
+slice-aggregate-singles-line c =
     let h = c .before .before .before .before .before .before .before .before .before .before .before .args .head in
     let w = h .transformer .weights in
     let d = h .transformer .«input_length» in
@@ -44,7 +44,7 @@ slice-aggregate-singles-line c =
     sym (length-take-le d w (omega (arith, z)))
 
 singles-line-requires : tie.Need-singles-line-requires
-singles-line-requires c κs = 
+singles-line-requires c κs =
     let h = c .before .before .before .before .before .before .before .before .before .before .before .args .head in
     let w = h .transformer .weights in
     let d = h .transformer .«input_length» in
@@ -53,7 +53,7 @@ singles-line-requires c κs =
     omega (arith, head-split (settingsOf h) (h .«values_seen») (h .«internal_timestamp») (h .transformer .count), ap length e, c .before .before .before .before .before .before .before .before .before .before .before .pre .1, c .before .before .before .before .set-line .ensures .place, c .before .before .before .before .set-line .ensures .kept)
 
 cnt-line-requires : tie.Need-cnt-line-requires
-cnt-line-requires c κs = 
+cnt-line-requires c κs =
     let h = c .before .before .before .before .before .before .before .before .before .before .before .before .before .before .before .args .head in
     let w = h .transformer .weights in
     let d = h .transformer .«input_length» in
@@ -66,7 +66,7 @@ same-length c = search needs
 
 returns : tie.Need-returns
 unfolding headBytes
-returns c = 
+returns c =
     let h = c .before .before .before .before .before .before .before .before .before .before .before .before .before .before .before .before .before .before .args .head in
     let w = h .transformer .weights in
     let d = h .transformer .«input_length» in

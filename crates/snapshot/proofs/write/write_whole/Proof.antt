@@ -41,11 +41,10 @@ loop-less : tie.Need-loop-less Inv-loop μ-loop
 loop-less c = omega arith
 
 loop-again : tie.Need-loop-again Inv-loop μ-loop
-loop-again c = 
+loop-again c =
     let L = c .before .loop in
     let a = c .before .before .before .before .args in
-    let h : 10 ≤ L .m = c .loop-test .taken in
-    (
+    let h : 10 ≤ L .m = c .loop-test .taken in (
       omega (arith, whole-more-length (L .m) h),
       omega arith,
       L .inv .2 ∙ whole-back (L .m) (L .out) (a .at) h ∙ ap (λ (k : ℕ). stored (set (L .out) (a .at + (k - 1)) (48 + L .m % 10)) (a .at) (whole (L .m / 10))) (sym (L .inv .0)),
@@ -68,7 +67,7 @@ same-length : tie.Need-same-length Inv-loop μ-loop
 same-length c = simp length-set (omega arith)
 
 returns : tie.Need-returns Inv-loop μ-loop
-returns c = 
+returns c =
     let L = c .before .loop in
     let a = c .before .before .before .before .args in
     record {
