@@ -17,3 +17,4 @@ pub mod WriteLaws
 pub mod LineBytes
 pub mod SaveLaws
 pub mod SaveRead
+pub mod FrontLaws

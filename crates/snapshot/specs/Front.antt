@@ -1,0 +1,61 @@
+-- What stands at the front of the bytes that are left to read, and the bytes behind it. The code reads a text so, from place to place.
+use Prim.Native.Nat.{ℕ, zero, suc, _+_}
+use mathlib.Core.Bool.{Bool, true, false, cond, _&&_, not, _||_}
+use mathlib.Core.List.{List, [], _∷_, _++_}
+use mathlib.Core.Option.{Option, none, some}
+use lib.Dec.{leb, eqb}
+use lib.ListN.{length, take, drop}
+use lib.Ieee.{Float, Format, binary32, binary64}
+use Rattle.trcf.specs.Calls.{finite}
+use Rattle.snapshot.specs.Text.{width}
+use Rattle.snapshot.specs.Read.{asWhole, asFloat}
+
+-- the bytes before the first tab or LF
+abbrev pub cellOf : List ℕ → List ℕ
+cellOf [] = []
+cellOf (b ∷ t) = let r = cellOf t in cond (leb b 10) [] (b ∷ r)
+
+module _ {A : Type 0} where
+  abbrev pub withRest : Option A → List ℕ → Option (A × List ℕ)
+  withRest none r = none
+  withRest (some a) r = some (a, r)
+
+-- a whole number behind its tab
+unfoldable pub tabWhole : List ℕ → Option (ℕ × List ℕ)
+tabWhole [] = none
+tabWhole (b ∷ t) = let c = cellOf t in cond (eqb b 9) (withRest (asWhole c) (drop (length c) t)) none
+
+-- a float behind its tab
+unfoldable pub tabFloat : Format → List ℕ → Option (Float × List ℕ)
+tabFloat f [] = none
+tabFloat f (b ∷ t) = cond (eqb b 9) (withRest (asFloat f (take (width f) t)) (drop (width f) t)) none
+
+-- the byte b
+unfoldable pub byteIs : ℕ → List ℕ → Option (List ℕ)
+byteIs x [] = none
+byteIs x (b ∷ t) = cond (eqb b x) (some t) none
+
+-- the first bad field ends the reading
+module _ {A B : Type 0} where
+  abbrev pub then : Option A → (A → Option B) → Option B
+  then none g = none
+  then (some a) g = g a
+
+-- n f32, each behind its tab; all of them finite where `whole` says so
+abbrev pub oneSingle : Bool → List ℕ → Option (List ℕ)
+oneSingle fin t = then (tabFloat binary32 t) (λ p. cond (not fin || finite (p .0 ∷ [])) (some (p .1)) none)
+
+abbrev pub tabSingles : Bool → ℕ → List ℕ → Option (List ℕ)
+tabSingles fin zero t = some t
+tabSingles fin (suc n) t = then (oneSingle fin t) (tabSingles fin n)
+
+-- ---- as a place: 0 for none, else where the rest begins
+
+unfoldable pub restAt : List ℕ → ℕ → Option (List ℕ)
+restAt t zero = none
+restAt t (suc p) = some (drop (suc p) t)
+
+module _ {A : Type 0} where
+  unfoldable pub foundAt : List ℕ → ℕ → A → Option (A × List ℕ)
+  foundAt t zero a = none
+  foundAt t (suc p) a = some (a, drop (suc p) t)
