@@ -10,17 +10,17 @@ use lib.Seq.{take-at, drop-at}
 use lib.Dec.{T, leb, eqb}
 use lib.Ieee.{Float, nan, inf, fin, Format, binary32, binary64, fits}
 use borrow.Author.Tests.{eqb-true, leb-true, lt-leb, le-leb, eq-eqb}
-use Rattle.trcf.specs.Settings.{Fits, wholeMax}
-use Rattle.trcf.specs.Calls.{finite}
+use Rattle.trcf.specs.Settings.{All, Fits, Whole, wholeMax}
+use Rattle.snapshot.specs.Form.{Climbs}
 use Rattle.snapshot.specs.Text.{Line, whole, float, width, behind}
 use Rattle.snapshot.specs.Read.{asWhole, asFloat, bytesOfLine, lines, Kind, judge, Plan, line, Read, bad, later, ended, next, follow}
 use Rattle.snapshot.specs.Write.{tabbed}
-use Rattle.snapshot.specs.Front.{cellOf, withRest, tabWhole, tabFloat, byteIs, then, oneSingle, tabSingles}
+use Rattle.snapshot.specs.Front.{cellOf, withRest, tabWhole, tabFloat, byteIs, then, passes, oneSingle, tabSingles, oneWhole, tabWholes}
 use Rattle.snapshot.proofs.Fields.{Clean, Stops, whole-clean, CleanLine}
 use Rattle.snapshot.proofs.ScanLaws.{whole-of, of-whole}
 use Rattle.snapshot.proofs.HexLaws.{float-of, of-float}
 use Rattle.snapshot.proofs.WriteLaws.{float-length}
-use Rattle.snapshot.proofs.Lists.{if-of, to-if}
+use Rattle.snapshot.proofs.Lists.{and-left, and-right}
 use Rattle.snapshot.proofs.ReadLine.{Hold, Writes, judge-back, judged, join, join-lines, line-front}
 use Rattle.trcf.specs.Preprocessor.{State}
 
@@ -83,71 +83,122 @@ find-float f x r h =
 
 -- ---- many singles
 
-finite-cons : (x : Float) (v : List Float) → finite (x ∷ []) ≡ true → finite v ≡ true → finite (x ∷ v) ≡ true
-unfolding finite
-finite-cons nan v h g = absurd (false≢true h)
-finite-cons (inf s) v h g = absurd (false≢true h)
-finite-cons (fin s m e) v h g = g
+abbrev pub Pass : ℕ → List Float → Type 0
+Pass m v = All (λ x. passes m x ≡ true) v
 
-finite-one : (x : Float) (v : List Float) → finite (x ∷ v) ≡ true → (finite (x ∷ []) ≡ true) × (finite v ≡ true)
-unfolding finite
-finite-one nan v h = absurd (false≢true h)
-finite-one (inf s) v h = absurd (false≢true h)
-finite-one (fin s m e) v h = (refl, h)
-
-single-found : (b : Bool) (t r : List ℕ) → oneSingle b t ≡ some r
-    → (x : Float) × (t ≡ (9 ∷ float binary32 x) ++ r) × T (fits binary32 x) × (b ≡ true → finite (x ∷ []) ≡ true)
-single-found b t r e = go (tabFloat binary32 t) refl
+single-found : (m : ℕ) (t r : List ℕ) → oneSingle m t ≡ some r
+    → (x : Float) × (t ≡ (9 ∷ float binary32 x) ++ r) × T (fits binary32 x) × (passes m x ≡ true)
+single-found m t r e = go (tabFloat binary32 t) refl
   where
     go : (o : Option (Float × List ℕ)) → tabFloat binary32 t ≡ o
-        → (x : Float) × (t ≡ (9 ∷ float binary32 x) ++ r) × T (fits binary32 x) × (b ≡ true → finite (x ∷ []) ≡ true)
+        → (x : Float) × (t ≡ (9 ∷ float binary32 x) ++ r) × T (fits binary32 x) × (passes m x ≡ true)
     go none h = absurd (Option·none-ne-some r (rw h at e))
-    go (some p) h = at (not b || finite (p .0 ∷ [])) refl
+    go (some p) h = at (passes m (p .0)) refl
       where
-        at : (c : Bool) → not b || finite (p .0 ∷ []) ≡ c
-            → (x : Float) × (t ≡ (9 ∷ float binary32 x) ++ r) × T (fits binary32 x) × (b ≡ true → finite (x ∷ []) ≡ true)
+        at : (c : Bool) → passes m (p .0) ≡ c → (x : Float) × (t ≡ (9 ∷ float binary32 x) ++ r) × T (fits binary32 x) × (passes m x ≡ true)
         at false g = absurd (Option·none-ne-some r (rw (h, g) at e))
         at true g =
             let q : p .1 ≡ r = Option·some-injective (p .1) r (rw (h, g) at e) in
             let w = float-found binary32 t (p .0) (p .1) h in
-            (p .0, w .0 ∙ ap (λ (l : List ℕ). (9 ∷ float binary32 (p .0)) ++ l) q, w .1, if-of b (finite (p .0 ∷ [])) g)
+            (p .0, w .0 ∙ ap (λ (l : List ℕ). (9 ∷ float binary32 (p .0)) ++ l) q, w .1, g)
 
-find-single : (b : Bool) (x : Float) (r : List ℕ) → T (fits binary32 x) → (b ≡ true → finite (x ∷ []) ≡ true) → oneSingle b ((9 ∷ float binary32 x) ++ r) ≡ some r
-find-single b x r h g = rw (find-float binary32 x r h, to-if b (finite (x ∷ [])) g)
+find-single : (m : ℕ) (x : Float) (r : List ℕ) → T (fits binary32 x) → passes m x ≡ true → oneSingle m ((9 ∷ float binary32 x) ++ r) ≡ some r
+find-single m x r h g = rw (find-float binary32 x r h, g)
 
-pub record Singles (b : Bool) (n : ℕ) (t r : List ℕ) : Type 0 where
+pub record Singles (m n : ℕ) (t r : List ℕ) : Type 0 where
   pub v : List Float
   pub is : t ≡ tabbed (map (float binary32) v) ++ r
   pub long : length v ≡ n
   pub fit : Fits binary32 v
-  pub real : b ≡ true → finite v ≡ true
+  pub pass : Pass m v
 
-pub singles-found : (b : Bool) (n : ℕ) (t r : List ℕ) → tabSingles b n t ≡ some r → Singles b n t r
-unfolding finite
-singles-found b zero t r e = record { v = []; is = Option·some-injective t r e; long = refl; fit = tt; real = λ _. refl }
-singles-found b (suc n) t r e = go (oneSingle b t) refl (λ u. singles-found b n u r)
+pub singles-found : (m n : ℕ) (t r : List ℕ) → tabSingles m n t ≡ some r → Singles m n t r
+singles-found m zero t r e = record { v = []; is = Option·some-injective t r e; long = refl; fit = tt; pass = tt }
+singles-found m (suc n) t r e = go (oneSingle m t) refl (λ u. singles-found m n u r)
   where
-    go : (o : Option (List ℕ)) → oneSingle b t ≡ o → ((u : List ℕ) → tabSingles b n u ≡ some r → Singles b n u r) → Singles b (suc n) t r
+    go : (o : Option (List ℕ)) → oneSingle m t ≡ o → ((u : List ℕ) → tabSingles m n u ≡ some r → Singles m n u r) → Singles m (suc n) t r
     go none h ih = absurd (Option·none-ne-some r (rw h at e))
     go (some u) h ih =
-        let x = single-found b t u h in
+        let x = single-found m t u h in
         let i = ih u (rw h at e) in
         record {
           v = x .0 ∷ i .v;
           is = x .1 ∙ ap (λ (l : List ℕ). 9 ∷ l) (ap (λ (l : List ℕ). float binary32 (x .0) ++ l) (i .is) ∙ sym (append-assoc (float binary32 (x .0)) (tabbed (map (float binary32) (i .v))) r));
           long = ap suc (i .long);
           fit = (x .2, i .fit);
-          real = λ q. finite-cons (x .0) (i .v) (x .3 q) (i .real q);
+          pass = (x .3, i .pass);
         }
 
-pub find-singles : (b : Bool) (v : List Float) (r : List ℕ) → Fits binary32 v → (b ≡ true → finite v ≡ true)
-    → tabSingles b (length v) (tabbed (map (float binary32) v) ++ r) ≡ some r
-find-singles b [] r h g = refl
-find-singles b (x ∷ v) r h g =
+pub find-singles : (m : ℕ) (v : List Float) (r : List ℕ) → Fits binary32 v → Pass m v
+    → tabSingles m (length v) (tabbed (map (float binary32) v) ++ r) ≡ some r
+find-singles m [] r h g = refl
+find-singles m (x ∷ v) r h g =
     let e : float binary32 x ++ tabbed (map (float binary32) v) ++ r ≡ float binary32 x ++ (tabbed (map (float binary32) v) ++ r) =
     append-assoc (float binary32 x) (tabbed (map (float binary32) v)) r in
-    rw (e, find-single b x (tabbed (map (float binary32) v) ++ r) (h .0) (λ q. finite-one x v (g q) .0))
-    (find-singles b v r (h .1) (λ q. finite-one x v (g q) .1))
+    rw (e, find-single m x (tabbed (map (float binary32) v) ++ r) (h .0) (g .0)) (find-singles m v r (h .1) (g .1))
+
+-- ---- many whole numbers
+
+abbrev pub Under : ℕ → List ℕ → Type 0
+Under top v = All (λ x. x ≤ top) v
+
+one-found : (p top : ℕ) (t : List ℕ) (n : ℕ) (r : List ℕ) → oneWhole p top t ≡ some (n, r)
+    → (t ≡ (9 ∷ whole n) ++ r) × (n ≤ wholeMax) × (p ≤ n) × (n ≤ top)
+one-found p top t n r e = go (tabWhole t) refl
+  where
+    go : (o : Option (ℕ × List ℕ)) → tabWhole t ≡ o → (t ≡ (9 ∷ whole n) ++ r) × (n ≤ wholeMax) × (p ≤ n) × (n ≤ top)
+    go none h = absurd (Option·none-ne-some (n, r) (rw h at e))
+    go (some q) h = at (leb p (q .0) && leb (q .0) top) refl
+      where
+        at : (c : Bool) → leb p (q .0) && leb (q .0) top ≡ c → (t ≡ (9 ∷ whole n) ++ r) × (n ≤ wholeMax) × (p ≤ n) × (n ≤ top)
+        at false g = absurd (Option·none-ne-some (n, r) (rw (h, g) at e))
+        at true g =
+            let z : _≡_ {A = ℕ × List ℕ} q (n, r) = Option·some-injective q (n, r) (rw (h, g) at e) in
+            let w = whole-found t (q .0) (q .1) h in
+            subst (λ (u : ℕ × List ℕ). (t ≡ (9 ∷ whole (u .0)) ++ u .1) × (u .0 ≤ wholeMax) × (p ≤ u .0) × (u .0 ≤ top)) z
+            (w .0, w .1, leb-true _ _ (and-left _ _ g), leb-true _ _ (and-right (leb p (q .0)) _ g))
+
+find-one : (p top n : ℕ) (r : List ℕ) → n ≤ wholeMax → p ≤ n → n ≤ top → Stops r → oneWhole p top ((9 ∷ whole n) ++ r) ≡ some (n, r)
+find-one p top n r h a b s = rw (find-whole n r h s, le-leb p n a, le-leb n top b)
+
+pub record Wholes (p top n : ℕ) (t r : List ℕ) : Type 0 where
+  pub v : List ℕ
+  pub is : t ≡ tabbed (map whole v) ++ r
+  pub long : length v ≡ n
+  pub fit : Whole v
+  pub climb : Climbs p v
+  pub under : Under top v
+
+pub wholes-found : (p top n : ℕ) (t r : List ℕ) → tabWholes p top n t ≡ some r → Wholes p top n t r
+wholes-found p top zero t r e = record { v = []; is = Option·some-injective t r e; long = refl; fit = tt; climb = tt; under = tt }
+wholes-found p top (suc n) t r e = go (oneWhole p top t) refl (λ q. wholes-found (q .0) top n (q .1) r)
+  where
+    go : (o : Option (ℕ × List ℕ)) → oneWhole p top t ≡ o → ((q : ℕ × List ℕ) → tabWholes (q .0) top n (q .1) ≡ some r → Wholes (q .0) top n (q .1) r)
+        → Wholes p top (suc n) t r
+    go none h ih = absurd (Option·none-ne-some r (rw h at e))
+    go (some q) h ih =
+        let x = one-found p top t (q .0) (q .1) h in
+        let i = ih q (rw h at e) in
+        record {
+          v = q .0 ∷ i .v;
+          is = x .0 ∙ ap (λ (l : List ℕ). 9 ∷ l) (ap (λ (l : List ℕ). whole (q .0) ++ l) (i .is) ∙ sym (append-assoc (whole (q .0)) (tabbed (map whole (i .v))) r));
+          long = ap suc (i .long);
+          fit = (x .1, i .fit);
+          climb = (x .2, i .climb);
+          under = (x .3, i .under);
+        }
+
+tabbed-stops : (fs : List (List ℕ)) (r : List ℕ) → Stops r → Stops (tabbed fs ++ r)
+tabbed-stops [] r s = s
+tabbed-stops (f ∷ fs) r s = omega arith
+
+pub find-wholes : (p top : ℕ) (v r : List ℕ) → Whole v → Climbs p v → Under top v → Stops r
+    → tabWholes p top (length v) (tabbed (map whole v) ++ r) ≡ some r
+find-wholes p top [] r h c u s = refl
+find-wholes p top (x ∷ v) r h c u s =
+    let e : whole x ++ tabbed (map whole v) ++ r ≡ whole x ++ (tabbed (map whole v) ++ r) = append-assoc (whole x) (tabbed (map whole v)) r in
+    rw (e, find-one p top x (tabbed (map whole v) ++ r) (h .0) (c .0) (u .0) (tabbed-stops (map whole v) r s))
+    (find-wholes x top v r (h .1) (c .1) (u .1) s)
 
 -- ---- a line at the front
 

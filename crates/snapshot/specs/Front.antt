@@ -5,7 +5,8 @@ use mathlib.Core.List.{List, [], _∷_, _++_}
 use mathlib.Core.Option.{Option, none, some}
 use lib.Dec.{leb, eqb}
 use lib.ListN.{length, take, drop}
-use lib.Ieee.{Float, Format, binary32, binary64}
+use lib.Ieee.{Float, Format, binary32, eq}
+use Rattle.trcf.specs.Transformer.{one32}
 use Rattle.trcf.specs.Calls.{finite}
 use Rattle.snapshot.specs.Text.{width}
 use Rattle.snapshot.specs.Read.{asWhole, asFloat}
@@ -41,13 +42,27 @@ module _ {A B : Type 0} where
   then none g = none
   then (some a) g = g a
 
--- n f32, each behind its tab; all of them finite where `whole` says so
-abbrev pub oneSingle : Bool → List ℕ → Option (List ℕ)
-oneSingle fin t = then (tabFloat binary32 t) (λ p. cond (not fin || finite (p .0 ∷ [])) (some (p .1)) none)
+-- what an f32 has to be at its place: 0 anything, 1 finite, else 1.0
+abbrev pub passes : ℕ → Float → Bool
+passes zero x = true
+passes (suc zero) x = finite (x ∷ [])
+passes (suc (suc m)) x = eq x one32
 
-abbrev pub tabSingles : Bool → ℕ → List ℕ → Option (List ℕ)
-tabSingles fin zero t = some t
-tabSingles fin (suc n) t = then (oneSingle fin t) (tabSingles fin n)
+-- n f32, each behind its tab
+abbrev pub oneSingle : ℕ → List ℕ → Option (List ℕ)
+oneSingle m t = then (tabFloat binary32 t) (λ p. cond (passes m (p .0)) (some (p .1)) none)
+
+abbrev pub tabSingles : ℕ → ℕ → List ℕ → Option (List ℕ)
+tabSingles m zero t = some t
+tabSingles m (suc n) t = then (oneSingle m t) (tabSingles m n)
+
+-- n whole numbers, each behind its tab and none below the one before it, the first not below p; all of them 0 where `top` is 0
+abbrev pub oneWhole : ℕ → ℕ → List ℕ → Option (ℕ × List ℕ)
+oneWhole p top t = then (tabWhole t) (λ q. cond (leb p (q .0) && leb (q .0) top) (some q) none)
+
+abbrev pub tabWholes : ℕ → ℕ → ℕ → List ℕ → Option (List ℕ)
+tabWholes p top zero t = some t
+tabWholes p top (suc n) t = then (oneWhole p top t) (λ q. tabWholes (q .0) top n (q .1))
 
 -- ---- as a place: 0 for none, else where the rest begins
 
