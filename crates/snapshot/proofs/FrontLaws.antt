@@ -26,7 +26,7 @@ use Rattle.trcf.specs.Preprocessor.{State}
 
 -- ---- cells
 
-cell-front : (t : List ℕ) → cellOf t ++ drop (length (cellOf t)) t ≡ t
+pub cell-front : (t : List ℕ) → cellOf t ++ drop (length (cellOf t)) t ≡ t
 cell-front [] = refl
 cell-front (b ∷ t) = go (leb b 10) refl (cell-front t)
   where

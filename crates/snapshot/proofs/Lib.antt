@@ -18,3 +18,4 @@ pub mod LineBytes
 pub mod SaveLaws
 pub mod SaveRead
 pub mod FrontLaws
+pub mod PlaceLaws

@@ -5,7 +5,7 @@ use mathlib.Core.List.{List, [], _∷_, _++_}
 use mathlib.Core.Option.{Option, none, some}
 use lib.Dec.{leb, eqb}
 use lib.ListN.{length, take, drop}
-use lib.Ieee.{Float, Format, binary32, eq}
+use lib.Ieee.{Float, Format, binary32, binary64, eq}
 use Rattle.trcf.specs.Transformer.{one32}
 use Rattle.trcf.specs.Calls.{finite}
 use Rattle.snapshot.specs.Text.{width}
@@ -64,13 +64,20 @@ abbrev pub tabWholes : ℕ → ℕ → ℕ → List ℕ → Option (List ℕ)
 tabWholes p top zero t = some t
 tabWholes p top (suc n) t = then (oneWhole p top t) (λ q. tabWholes (q .0) top n (q .1))
 
--- ---- as a place: 0 for none, else where the rest begins
+-- three bytes: the name of a line
+abbrev pub nameIs : ℕ → ℕ → ℕ → List ℕ → Option (List ℕ)
+nameIs a b c t = then (byteIs a t) (λ u. then (byteIs b u) (byteIs c))
+
+abbrev pub oneDouble : List ℕ → Option (List ℕ)
+oneDouble t = then (tabFloat binary64 t) (λ p. some (p .1))
+
+-- ---- as a number: 0 for none, else one more than the place where the rest begins
 
 unfoldable pub restAt : List ℕ → ℕ → Option (List ℕ)
 restAt t zero = none
-restAt t (suc p) = some (drop (suc p) t)
+restAt t (suc p) = some (drop p t)
 
 module _ {A : Type 0} where
   unfoldable pub foundAt : List ℕ → ℕ → A → Option (A × List ℕ)
   foundAt t zero a = none
-  foundAt t (suc p) a = some (a, drop (suc p) t)
+  foundAt t (suc p) a = some (a, drop p t)
