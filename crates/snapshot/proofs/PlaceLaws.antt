@@ -4,12 +4,12 @@ use native.Mathlib.Nat.{add-zero}
 use native.Mathlib.Numerals.{add-one}
 use native.Mathlib.Omega.{arith}
 use mathlib.Core.Path.{_≡_, refl, sym, ap, _∙_}
-use mathlib.Core.Bool.{Bool, true, false, cond, true≢false}
+use mathlib.Core.Bool.{Bool, true, false, cond, _&&_, true≢false}
 use mathlib.Core.List.{List, [], _∷_}
 use mathlib.Core.Option.{Option, none, some}
 use lib.ListN.{length, take, drop, getD, drop-of-length-le, length-take, length-drop, length-append}
 use lib.Seq.{drop-cons, drop-drop, take-at}
-use lib.Dec.{eqb}
+use lib.Dec.{eqb, leb}
 use lib.Ieee.{Float, nan, inf, fin, Format, lt}
 use borrow.Author.Tests.{ne-eqb, eq-eqb, le-leb, lt-leb}
 use Rattle.trcf.specs.Calls.{finite}
@@ -18,7 +18,7 @@ use Rattle.snapshot.specs.declared.field.Field.the-variants.{Single, Dou
 use Rattle.snapshot.specs.Scan.{singleOf, doubleOf}
 use Rattle.snapshot.specs.Text.{width}
 use Rattle.snapshot.specs.Read.{asWhole, asFloat}
-use Rattle.snapshot.specs.Front.{cellOf, withRest, then, passes, tabWhole, tabFloat, byteIs, nameIs, restAt, foundAt}
+use Rattle.snapshot.specs.Front.{cellOf, withRest, then, passes, tabWhole, tabFloat, byteIs, nameIs, oneSingle, tabSingles, oneWhole, tabWholes, restAt, foundAt}
 use Rattle.snapshot.proofs.HexLaws.{bad-length}
 use Rattle.snapshot.proofs.FrontLaws.{cell-front}
 
@@ -26,6 +26,11 @@ module _ {A B C : Type 0} where
   pub then-then : (o : Option A) (f : A → Option B) (g : B → Option C) → then (then o f) g ≡ then o (λ a. then (f a) g)
   then-then none f g = refl
   then-then (some a) f g = refl
+
+-- one step behind another
+pub on : (o : Option (List ℕ)) (F G : List ℕ → Option (List ℕ)) {m x : Option (List ℕ)} → m ≡ then o F → x ≡ then m G
+    → x ≡ then o (λ a. then (F a) G)
+on o F G e f = f ∙ ap (λ (z : Option (List ℕ)). then z G) e ∙ then-then o F G
 
 pub rest-none : (t : List ℕ) (at : ℕ) → at ≡ 0 → restAt t at ≡ none
 unfolding restAt
@@ -200,3 +205,53 @@ found-some t p a = rw (add-one p)
 pub rest-next : (t : List ℕ) (p : ℕ) → restAt t (p + 1) ≡ some (drop p t)
 unfolding restAt
 rest-next t p = rw (add-one p)
+
+-- ---- one turn of the loops over fields
+
+pub singles-turn : (t : List ℕ) (m p q k : ℕ) → restAt t q ≡ then (restAt t p) (oneSingle m)
+    → then (restAt t p) (tabSingles m (suc k)) ≡ then (restAt t q) (tabSingles m k)
+singles-turn t m p q k e =
+    sym (then-then (restAt t p) (oneSingle m) (tabSingles m k)) ∙ ap (λ (o : Option (List ℕ)). then o (tabSingles m k)) (sym e)
+
+pub singles-end : (t : List ℕ) (m p k : ℕ) → k ≡ 0 → then (restAt t p) (tabSingles m k) ≡ restAt t p
+singles-end t m p k e = rw e (whole-option (restAt t p))
+  where
+    whole-option : (o : Option (List ℕ)) → then o (λ u. some u) ≡ o
+    whole-option none = refl
+    whole-option (some u) = refl
+
+pub wholes-end : (t : List ℕ) (f top p k : ℕ) → k ≡ 0 → then (restAt t p) (tabWholes f top k) ≡ restAt t p
+wholes-end t f top p k e = rw e (whole-option (restAt t p))
+  where
+    whole-option : (o : Option (List ℕ)) → then o (λ u. some u) ≡ o
+    whole-option none = refl
+    whole-option (some u) = refl
+
+-- e and v are what a whole number at p gave
+module _ (t : List ℕ) (f top p e v k : ℕ) (g : foundAt t e v ≡ then (restAt t p) tabWhole) where
+  abbrev tested : ℕ × List ℕ → Option (ℕ × List ℕ)
+  tested q = cond (leb f (q .0) && leb (q .0) top) (some q) none
+
+  abbrev onward : ℕ × List ℕ → Option (List ℕ)
+  onward q = tabWholes (q .0) top k (q .1)
+
+  turned : then (restAt t p) (tabWholes f top (suc k)) ≡ then (then (foundAt t e v) tested) onward
+  turned =
+      sym (then-then (restAt t p) (oneWhole f top) onward)
+      ∙ ap (λ (o : Option (ℕ × List ℕ)). then o onward) (sym (then-then (restAt t p) tabWhole tested) ∙ ap (λ (o : Option (ℕ × List ℕ)). then o tested) (sym g))
+
+  found-pos : 0 < e → foundAt t e v ≡ some (v, drop (e - 1) t)
+  unfolding foundAt
+  found-pos h = let z : e - 1 + 1 ≡ e = omega arith in ap (λ (n : ℕ). foundAt t n v) (sym z) ∙ found-some t (e - 1) v
+
+  pub whole-none : e ≡ 0 → then (restAt t p) (tabWholes f top (suc k)) ≡ none
+  whole-none z = turned ∙ ap (λ (n : ℕ). then (then (foundAt t n v) tested) onward) z ∙ rw (found-none t v)
+
+  pub whole-falls : 0 < e → v < f → then (restAt t p) (tabWholes f top (suc k)) ≡ none
+  whole-falls h l = turned ∙ rw (found-pos h, lt-leb f v l)
+
+  pub whole-above : 0 < e → f ≤ v → top < v → then (restAt t p) (tabWholes f top (suc k)) ≡ none
+  whole-above h l u = turned ∙ rw (found-pos h, le-leb f v l, lt-leb v top u)
+
+  pub whole-turn : 0 < e → f ≤ v → v ≤ top → then (restAt t p) (tabWholes f top (suc k)) ≡ then (restAt t e) (tabWholes v top k)
+  whole-turn h l u = turned ∙ rw (found-pos h, le-leb f v l, le-leb v top u, rest-some t e h)

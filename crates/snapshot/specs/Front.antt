@@ -71,6 +71,17 @@ nameIs a b c t = then (byteIs a t) (λ u. then (byteIs b u) (byteIs c))
 abbrev pub oneDouble : List ℕ → Option (List ℕ)
 oneDouble t = then (tabFloat binary64 t) (λ p. some (p .1))
 
+-- ---- lines, up to what stands behind their LF
+
+abbrev pub singlesFront : ℕ → ℕ → ℕ → ℕ → ℕ → List ℕ → Option (List ℕ)
+singlesFront a b c m n t = then (nameIs a b c t) (λ u. then (tabSingles m n u) (byteIs 10))
+
+abbrev pub timFront : ℕ → ℕ → List ℕ → Option (List ℕ)
+timFront top n t = then (nameIs 116 105 109 t) (λ u. then (tabWholes 0 top n u) (byteIs 10))
+
+abbrev pub devFront : List ℕ → Option (List ℕ)
+devFront t = then (nameIs 100 101 118 t) (λ u. then (oneDouble u) (λ v. then (oneDouble v) (λ w. then (oneDouble w) (byteIs 10))))
+
 -- ---- as a number: 0 for none, else one more than the place where the rest begins
 
 unfoldable pub restAt : List ℕ → ℕ → Option (List ℕ)

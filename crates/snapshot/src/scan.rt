@@ -8,7 +8,7 @@ use crate::field::whole;
 ghost use mathlib.Core.Path.{_≡_};
 ghost use Prim.Native.Nat.{_+_, _≤_};
 ghost use lib.ListN.{length, drop};
-ghost use Rattle.snapshot.specs.Front.{cellOf, then, passes, byteIs, nameIs, tabWhole, oneSingle, oneDouble, tabSingles, tabWholes, restAt, foundAt};
+ghost use Rattle.snapshot.specs.Front.{cellOf, then, passes, byteIs, nameIs, tabWhole, oneSingle, oneDouble, tabSingles, tabWholes, singlesFront, timFront, devFront, restAt, foundAt};
 
 // Past the byte b.
 fn byte_at(text: &[u8], at: usize, b: u8) -> usize
@@ -127,4 +127,75 @@ fn double_at(text: &[u8], at: usize) -> usize
         Field::Whole(n) => 0,
         Field::Bad => 0,
     }
+}
+
+// Past n f32, each behind its tab.
+fn singles_at(text: &[u8], at: usize, n: usize, kind: u64) -> usize
+    ensures { λ r. ⌜ restAt (now (text .entry)) r ≡ then (restAt (now (text .entry)) at) (tabSingles kind n) ⌝ }
+{
+    let mut p = at;
+    let mut i = 0;
+    while i < n {
+        p = single_at(text, p, kind);
+        if p == 0 {
+            return 0;
+        }
+        i += 1;
+    }
+    p
+}
+
+// Past n whole numbers up to top, each behind its tab, none falling.
+fn wholes_at(text: &[u8], at: usize, n: usize, top: u64) -> usize
+    ensures { λ r. ⌜ restAt (now (text .entry)) r ≡ then (restAt (now (text .entry)) at) (tabWholes 0 top n) ⌝ }
+{
+    let mut p = at;
+    let mut floor: u64 = 0;
+    let mut i = 0;
+    while i < n {
+        let w = whole_at(text, p);
+        let v = w.value;
+        p = w.end;
+        if p == 0 {
+            return 0;
+        }
+        if v < floor {
+            return 0;
+        }
+        if top < v {
+            return 0;
+        }
+        floor = v;
+        i += 1;
+    }
+    p
+}
+
+// Past a line of n f32.
+fn singles_line_at(text: &[u8], at: usize, a: u8, b: u8, c: u8, n: usize, kind: u64) -> usize
+    ensures { λ r. ⌜ restAt (now (text .entry)) r ≡ then (restAt (now (text .entry)) at) (singlesFront a b c kind n) ⌝ }
+{
+    let p = name_at(text, at, a, b, c);
+    let q = singles_at(text, p, n, kind);
+    byte_at(text, q, 10)
+}
+
+// Past the line of the last times: n of them, all 0 where top is 0.
+fn tim_line_at(text: &[u8], at: usize, n: usize, top: u64) -> usize
+    ensures { λ r. ⌜ restAt (now (text .entry)) r ≡ then (restAt (now (text .entry)) at) (timFront top n) ⌝ }
+{
+    let p = name_at(text, at, 116, 105, 109);
+    let q = wholes_at(text, p, n, top);
+    byte_at(text, q, 10)
+}
+
+// Past the line of one statistic.
+fn dev_line_at(text: &[u8], at: usize) -> usize
+    ensures { λ r. ⌜ restAt (now (text .entry)) r ≡ then (restAt (now (text .entry)) at) devFront ⌝ }
+{
+    let p = name_at(text, at, 100, 101, 118);
+    let q = double_at(text, p);
+    let s = double_at(text, q);
+    let t = double_at(text, s);
+    byte_at(text, t, 10)
 }
