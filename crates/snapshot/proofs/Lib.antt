@@ -19,3 +19,4 @@ pub mod SaveLaws
 pub mod SaveRead
 pub mod FrontLaws
 pub mod PlaceLaws
+pub mod LineFronts
