@@ -17,6 +17,3 @@ pub mod WriteLaws
 pub mod LineBytes
 pub mod SaveLaws
 pub mod SaveRead
-pub mod FrontLaws
-pub mod PlaceLaws
-pub mod LineFronts

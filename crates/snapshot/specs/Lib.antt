@@ -6,4 +6,3 @@ pub mod Parts
 pub mod LineLength
 pub mod Write
 pub mod Save
-pub mod Front
