@@ -1,4 +1,5 @@
 pub mod Refusal
 pub mod Lent
 pub mod Deviation
+pub mod WholeScores
 pub mod RangeVector

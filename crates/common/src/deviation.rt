@@ -69,7 +69,13 @@ impl Deviation {
         }
     }
 
-    pub fn create(discount: f64, weight: f64, sum: f64, sum_squared: f64, count: u64) -> DeviationResult
+    pub fn create(
+        discount: f64,
+        weight: f64,
+        sum: f64,
+        sum_squared: f64,
+        count: u64,
+    ) -> DeviationResult
         ensures { λ r. ⌜ r ≡ createOf discount weight sum «sum_squared» count ⌝ }
     {
         if outside_unit(discount) {
@@ -193,7 +199,7 @@ impl Deviation {
     pub fn set_count(self, count: u64) -> DeviationResult
         ensures { λ r. ⌜ r ≡ setCountOf self count ⌝ }
     {
-        if COUNT_LIMIT < count {
+        if count > COUNT_LIMIT {
             return DeviationResult::Err(18);
         }
         DeviationResult::Ok(Deviation {

@@ -2,11 +2,11 @@
 use mathlib.Core.Path.{_≡_, refl, sym, ap, _∙_, subst}
 use mathlib.Core.Logic.{inl, inr}
 use Prim.Native.Nat.{ℕ, suc, _+_, _-_, _*_, _/_, _%_, _^_, _≤_, _<_}
-use native.Mathlib.Nat.{zero-mul, mul-assoc, add-comm, div-eq-of-lt, mod-eq-of-lt}
+use native.Mathlib.Nat.{zero-mul, add-comm, div-eq-of-lt, mod-eq-of-lt}
 use native.Mathlib.Omega.{arith}
 use mathlib.Core.Bool.{Bool, true, false, not, _&&_, cond}
 use lib.Dec.{T, leb, eqb, eqb→eq, leb→le, nleb→lt, not-T, lit<, lit≤}
-use lib.Pow.{pow-add, pow-pos, pow-mono}
+use lib.Pow.{pow-pos, pow-mono}
 use lib.Ieee.{Float, nan, inf, fin, Format, binary32, binary64, prec, low, up, down, odd, round, isNan, fits, hid, ones, top, ofFields, ofBits, nanBits, toBits}
 use lib.Ieee.Bits.{cond-no, ofBits-toBits, toBits-lt, nanBits-is}
 use lib.Ieee.Fits.{down-pos, eq→eqb, nan-fits, inf-fits, round-fits}

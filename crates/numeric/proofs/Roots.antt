@@ -2,7 +2,7 @@
 use mathlib.Core.Path.{_≡_, refl, sym, ap, _∙_, subst}
 use mathlib.Core.Logic.{inr}
 use Prim.Native.Nat.{ℕ, zero, suc, _+_, _-_, _*_, _/_, _%_, _^_, _≤_, _<_, zero-le}
-use native.Mathlib.Nat.{le-trans, le-of-eq, lt-of-lt-of-le, lt-of-le-of-lt, lt-of-not-le, not-le-of-lt, lt-irrefl, zero-lt-suc, zero-add, zero-mul, mul-one, mul-comm, mul-assoc, mul-left-comm, mul-right-comm, mul-pos, mul-le-mul-right, mul-lt-mul-of-pos-right, eq-of-mul-eq-mul-right, mul-div-cancel, mod-eq-of-lt}
+use native.Mathlib.Nat.{le-trans, le-of-eq, lt-of-lt-of-le, lt-of-le-of-lt, lt-of-not-le, not-le-of-lt, lt-irrefl, zero-lt-suc, zero-add, zero-mul, mul-one, mul-assoc, mul-right-comm, mul-pos, mul-le-mul-right, mul-lt-mul-of-pos-right, eq-of-mul-eq-mul-right, mul-div-cancel, mod-eq-of-lt}
 use native.Mathlib.Decide.{ℕ-discrete}
 use native.Mathlib.Omega.{arith}
 use mathlib.Core.Bool.{Bool, true, false, not, _&&_, _||_, Bool·beq, cond, true≢false, false≢true}
@@ -36,7 +36,7 @@ small-pow (suc (suc p)) h = absurd (no p h)
 abbrev pub part : ℕ → ℕ → ℕ
 part m e = m * (1 + e % 2) * 2 ^ 54
 
-abbrev unit : ℕ → ℕ
+abbrev pub unit : ℕ → ℕ
 unit e = 2 ^ (e / 2 + 484)
 
 module _ (m e : ℕ) (lo : 2 ^ 52 ≤ m) (hi : m < 2 ^ 53) (E : e < 2098) where
@@ -57,7 +57,7 @@ module _ (m e : ℕ) (lo : 2 ^ 52 ≤ m) (hi : m < 2 ^ 53) (E : e < 2098) where
       one-le : 1 ≤ 1 + e % 2
       one-le = omega arith
 
-  whole : m * 2 ^ (e + 1022) ≡ (part m e) * ((unit e) * (unit e))
+  pub whole : m * 2 ^ (e + 1022) ≡ (part m e) * ((unit e) * (unit e))
   whole =
       let t = e / 2 + 484 in
       let x : e + 1022 ≡ e % 2 + 54 + (t + t) = omega arith in
@@ -66,7 +66,7 @@ module _ (m e : ℕ) (lo : 2 ^ 52 ≤ m) (hi : m < 2 ^ 53) (E : e < 2098) where
       ∙ sym (mul-assoc m (2 ^ (e % 2) * 2 ^ 54) (2 ^ t * 2 ^ t))
       ∙ ap (λ (y : ℕ). y * (2 ^ t * 2 ^ t)) (sym (mul-assoc m (2 ^ (e % 2)) (2 ^ 54)) ∙ ap (λ (y : ℕ). m * y * 2 ^ 54) (sym (small-pow (e % 2) (omega arith))))
 
-  unit-pos : 0 < (unit e)
+  pub unit-pos : 0 < (unit e)
   unit-pos = pow-pos (e / 2 + 484)
 
   four-units : 2 ^ (e / 2 + 486) ≡ 4 * (unit e)
@@ -74,7 +74,7 @@ module _ (m e : ℕ) (lo : 2 ^ 52 ≤ m) (hi : m < 2 ^ 53) (E : e < 2098) where
       let x : e / 2 + 486 ≡ 2 + (e / 2 + 484) = omega arith in
       ap (λ (y : ℕ). 2 ^ y) x ∙ pow-add 2 2 (e / 2 + 484)
 
-  n-lo : 2 ^ 53 * (unit e) * (2 ^ 53 * (unit e)) ≤ (m * 2 ^ (e + 1022))
+  pub n-lo : 2 ^ 53 * (unit e) * (2 ^ 53 * (unit e)) ≤ (m * 2 ^ (e + 1022))
   n-lo =
       let h = twice-le in
       let g : 2 ^ 106 ≤ (part m e) = omega arith in

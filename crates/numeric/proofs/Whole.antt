@@ -9,7 +9,7 @@ use lib.IntN.{pos}
 use lib.Dec.{lit<, lit≤}
 use lib.Pow.{pow-add, shl-exact, shl-lt}
 use lib.Count.{leadingZeros, leading-top}
-use lib.Ieee.{Format, binary32, binary64, prec, emax, low, hid, ones, ofInt, round}
+use lib.Ieee.{Format, binary32, binary64, prec, low, hid, ones, ofInt}
 use lib.Ieee.Nearest.{closest}
 use Rattle.numeric.proofs.Near.{two-powers}
 use Rattle.numeric.proofs.Pack.{Pattern, round-bits, round-pattern}

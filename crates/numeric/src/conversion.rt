@@ -7,7 +7,8 @@ ghost use lib.Ieee.{ofInt, binary32, binary64, top, ofFields, toBits};
 ghost use Rattle.numeric.specs.Narrow.{narrowed};
 use crate::rounding::nearest;
 
-// The bits below the sign of the f32 nearest to the f64 with the exponent's field x and the digits t.
+// The bits below the sign of the f32 nearest to the f64 with the exponent's field x and the digits t: settled by the exponent's field
+// (document 01: zero, subnormal, normal, too large, infinite).
 fn narrow_fields(x: u64, t: u64) -> u64
     requires { ⌜ x < 2048 ⌝ }
     requires { ⌜ t < 2 ^ 52 ⌝ }
@@ -15,16 +16,22 @@ fn narrow_fields(x: u64, t: u64) -> u64
     ensures { λ r. ⌜ ((s : Bool) → cond s (top binary32) 0 + r ≡ toBits binary32 (narrowed (ofFields binary64 s x t))) ⌝ }
 {
     match x {
+        // zero, and the subnormals of f64
         0 => 0,
+        // less than half of the smallest f32, 2^-149
         1..=872 => 0,
+        // subnormal: a multiple of 2^-149
         873..=896 => nearest(t + 0x10_0000_0000_0000, 926 - x),
+        // normal: 24 digits, and a carry out of them goes into the exponent, from the largest f32 to infinity
         897..=1150 => (x - 897) * 0x80_0000 + nearest(t + 0x10_0000_0000_0000, 29),
+        // too large
         1151..=2046 => 0x7f80_0000,
+        // infinite
         _ => 0x7f80_0000,
     }
 }
 
-// The f32 nearest to x.
+// The f32 nearest to x. A not-a-number is tested first, because its bits are undefined.
 pub fn to_f32(x: f64) -> f32
     ensures { λ r. ⌜ r ≡ narrowed x ⌝ }
 {

@@ -1,10 +1,12 @@
-// The square root of an f64, in whole numbers.
+// The square root of an f64, in whole numbers. x is m * 2^(e - 1126), and its root comes from that of m * 2^54 or 2 m * 2^54, a number of 54 binary digits, with one digit more
+// that says whether anything is left (`halves`). `sqrt` finds it from a guess by float arithmetic, on which nothing relies. `root_counted` finds it digit by digit, and counts.
 ghost use mathlib.Core.Path.{_≡_};
 ghost use Prim.Native.Nat.{_+_, _*_, _%_, _^_, _≤_, _<_};
 ghost use lib.Dec.{T};
 ghost use Rattle.numeric.specs.Root.{positive, IsScaled, halves, rooted, rootOf, digitsTried, triedOf};
 use crate::rounding::nearest;
 
+// A root in halves, and how many of its digits were tried.
 struct Part {
     value: u64,
     tried: u64,
@@ -54,6 +56,7 @@ fn digits(n: u64) -> Part
     }
 }
 
+// m and e of x = m * 2^(e - 1126).
 struct Scaled {
     m: u64,
     e: u64,
@@ -93,12 +96,13 @@ fn assembled(m: u64, e: u64, digits: u64) -> f64
     f64::from_bits((e / 2 + 485) * 0x10_0000_0000_0000 + low)
 }
 
+// A root, and how many of its digits were tried.
 struct Root {
     root: f64,
     tried: u64,
 }
 
-// The square root of x, and how many of its binary digits were tried.
+// The square root of x by trying one binary digit after the other, and how many were tried. Nothing calls it yet: the count is kept for a later request.
 fn root_counted(x: f64) -> Root
     ensures { λ r. ⌜ r .root ≡ rootOf x ⌝ }
     ensures { λ r. ⌜ r .tried ≡ triedOf x ⌝ }
@@ -151,19 +155,37 @@ fn guess(n: u64) -> u64
     }
 }
 
+// s, or the next number below it whose square is not above n.
+fn lowered(n: u64, s: u64) -> u64
+    requires { ⌜ s < 2 ^ 27 ⌝ }
+    ensures { λ r. ⌜ r * r ≤ n ⌝ }
+{
+    let mut r = s;
+    while n < r * r {
+        r -= 1;
+    }
+    r
+}
+
+// The largest number from s on whose square is not above n.
+fn raised(n: u64, s: u64) -> u64
+    requires { ⌜ n < 2 ^ 54 ⌝ }
+    requires { ⌜ s * s ≤ n ⌝ }
+    ensures { λ r. ⌜ (r * r ≤ n) × (n < (r + 1) * (r + 1)) ⌝ }
+{
+    let mut r = s;
+    while (r + 1) * (r + 1) <= n {
+        r += 1;
+    }
+    r
+}
+
 // √n without its fraction: the guess, moved down or up until it is that.
 fn small_root(n: u64) -> u64
     requires { ⌜ n < 2 ^ 54 ⌝ }
     ensures { λ r. ⌜ (r * r ≤ n) × (n < (r + 1) * (r + 1)) ⌝ }
 {
-    let mut s = guess(n);
-    while n < s * s {
-        s -= 1;
-    }
-    while (s + 1) * (s + 1) <= n {
-        s += 1;
-    }
-    s
+    raised(n, lowered(n, guess(n)))
 }
 
 // √(n * 2^54) in halves: its 27 upper digits are those of √n, and one division gives the 27 lower, one too many at most.
@@ -184,7 +206,7 @@ fn fast_halves(n: u64) -> u64
     q * 2 + rest - over
 }
 
-// The square root of x.
+// The square root of x, correctly rounded.
 pub fn sqrt(x: f64) -> f64
     ensures { λ r. ⌜ r ≡ rootOf x ⌝ }
 {

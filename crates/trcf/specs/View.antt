@@ -1,24 +1,28 @@
 -- The preprocessor as the program holds it, settings and counters by value and six lent lists, and what each call makes of both.
-use Prim.Native.Nat.{ℕ, zero, suc, _+_, _-_, _*_}
+use Prim.Native.Nat.{ℕ, zero, suc, _+_, _-_, _*_, _≤_, _<_}
 use mathlib.Core.Bool.{Bool, true, false, cond, not, _&&_, _||_}
 use mathlib.Core.List.{List, [], _∷_, _++_}
 use mathlib.Core.Option.{Option, none, some}
 use mathlib.Core.Path.{_≡_, refl}
 use lib.Dec.{ltb, leb, eqb}
 use lib.IntN.{ℤ, pos, negsuc}
-use lib.ListN.{length, take, replicate}
-use lib.Ieee.{Float}
-use Rattle.common.specs.Deviation.{zero64}
+use lib.ListN.{length, take, drop, getD, replicate}
+use lib.Ieee.{Float, lt}
+use Rattle.common.specs.Deviation.{zero64, countLimit}
+use Rattle.trcf.specs.Lists.{null, lastOr, shiftIn}
 use Rattle.common.specs.Refusal.{firstOf}
 use Rattle.common.specs.Lent.{over}
-use Rattle.trcf.specs.Transformer.{zero32}
-use Rattle.trcf.specs.Settings.{Settings, settingsRow, dimension, waiting}
-use Rattle.trcf.specs.Calls.{Learn, Call, shingledPoint, postProcess, drain, transform, invertExtrapolation, scale, shift, status, Forecast, rows}
-use Rattle.trcf.specs.Preprocessor.{State, Answer, refused, absent, done, wrote, learnt, turned, told, Learned, Status, Anomaly, statisticsLength, fresh, facts, change, reply, accepted}
+use Rattle.trcf.specs.Transformer.{zero32, one32, inverted}
+use Rattle.trcf.specs.Settings.{Settings, transformer, settingsRow, block, dimension, waiting}
+use Rattle.trcf.specs.Calls.{Learn, Call, shingledPoint, postProcess, drain, transform, invertExtrapolation, scale, shift, status, Forecast, rows, seenLimit, finite, given}
+use Rattle.trcf.specs.Preprocessor.{State, Answer, refused, absent, done, wrote, learnt, turned, told, Learned, Status, Anomaly, Reading, reading, feed, previous, deviations, blockFrom, statisticsLength, fresh, facts, change, reply, accepted}
 use Rattle.trcf.specs.declared.types.TransformMethod.the-variants.{NONE}
 use Rattle.trcf.specs.declared.types.ForestMode.the-variants.{STANDARD}
 use Rattle.trcf.specs.declared.transformer.WeightedTransformer.{WeightedTransformer}
 use Rattle.trcf.specs.declared.preprocessor.Preprocessor.{Preprocessor}
+use Rattle.trcf.specs.declared.preprocessor.PreprocessorBuilder.{PreprocessorBuilder}
+use Rattle.trcf.specs.declared.preprocessor.PostProcessed.{PostProcessed}
+use Rattle.trcf.specs.declared.preprocessor.StatusAnswer.{StatusAnswer}
 
 -- ---- what is lent
 
@@ -75,25 +79,28 @@ view h l =
 
 -- ---- a state laid back: its counters into the head, its lists over the lent ones, of which what lies behind stays
 
-abbrev pub counted : Preprocessor → State → Preprocessor
-counted h w =
+abbrev pub counting : Preprocessor → ℕ → ℕ → ℕ → ℕ → Preprocessor
+counting h count seen internal n =
     record {
       transformer = record {
         «transform_method» = h .transformer .«transform_method»;
         «input_length» = h .transformer .«input_length»;
         «transform_decay» = h .transformer .«transform_decay»;
         weights = h .transformer .weights;
-        count = w .count;
+        count = count;
       };
       «forest_mode» = h .«forest_mode»;
       «shingle_size» = h .«shingle_size»;
       «start_normalization» = h .«start_normalization»;
       «stop_normalization» = h .«stop_normalization»;
       «weight_time» = h .«weight_time»;
-      «values_seen» = w .valuesSeen;
-      «internal_timestamp» = w .internalTimestamp;
-      «initial_len» = length (w .initialTimestamps);
+      «values_seen» = seen;
+      «internal_timestamp» = internal;
+      «initial_len» = n;
     }
+
+abbrev pub counted : Preprocessor → State → Preprocessor
+counted h w = counting h (w .count) (w .valuesSeen) (w .internalTimestamp) (length (w .initialTimestamps))
 
 unfoldable pub laid : State → Lent → Lent
 laid w l =
@@ -130,16 +137,180 @@ misfit h =
     ltb (h .«start_normalization») (h .«initial_len»)
     || (waiting (settingsOf h) (h .«values_seen») && not (eqb (h .«initial_len») (h .«values_seen»)))
 
+unfoldable pub shortRow : Settings → Lent → ℕ
+shortRow s l = firstOf ((lentShort s l, 20) ∷ [])
+
 unfoldable pub lentRow : Preprocessor → Lent → ℕ
-lentRow h l = firstOf ((misfit h, 20) ∷ (lentShort (settingsOf h) l, 20) ∷ [])
+lentRow h l = cond (misfit h) 20 (shortRow (settingsOf h) l)
 
 -- the second only where the first is 0
 abbrev pub orElse : ℕ → ℕ → ℕ
 orElse zero m = m
 orElse (suc n) m = suc n
 
+-- what a row 0 says of each
+pub record Bounded (s : Settings) : Type 0 where
+  pub d-pos : 0 < s .d
+  pub d-few : s .d ≤ 16
+  pub k-pos : 0 < s .k
+  pub k-few : s .k ≤ 64
+  pub start-few : s .start < 2000
+
+pub record Roomy (s : Settings) (l : Lent) : Type 0 where
+  pub in-statistics : statisticsLength s ≤ length (l .statistics)
+  pub in-input : s .d * s .k ≤ length (l .lastShingledInput)
+  pub in-point : dimension s ≤ length (l .lastShingledPoint)
+  pub in-times : s .k ≤ length (l .previousTimestamps)
+  pub in-values : s .start * s .d ≤ length (l .initialValues)
+  pub in-initial : s .start ≤ length (l .initialTimestamps)
+
+pub record Fitted (h : Preprocessor) (l : Lent) : Type 0 where
+  pub roomy : Roomy (settingsOf h) l
+  pub few : h .«initial_len» ≤ h .«start_normalization»
+  pub counted : waiting (settingsOf h) (h .«values_seen») ≡ true → h .«initial_len» ≡ h .«values_seen»
+
 unfoldable pub rowOf : Preprocessor → Lent → Call → ℕ
 rowOf h l c = orElse (headRow (settingsOf h)) (orElse (rows (settingsOf h) (facts (view h l)) c) (lentRow h l))
+
+-- rows 18 and 20 of a point: past waiting, a drain inside it that would pass a limit, and an output that is too short
+unfoldable pub pastRow : Preprocessor → List ℕ → ℕ → ℕ
+pastRow h ts n =
+    let past = not (waiting (settingsOf h) (h .«values_seen»)) in
+    let due = eqb (h .«values_seen») (h .«start_normalization») && not (null (take (h .«initial_len») ts)) in
+    let full = ltb countLimit (h .transformer .count + h .«start_normalization»)
+    || ltb seenLimit (h .«internal_timestamp» + h .«start_normalization») in
+    firstOf ((past && (due && full), 18) ∷ (past && ltb n (dimension (settingsOf h)), 20) ∷ [])
+
+-- what the row 0 of a call says
+pub record Ready (h : Preprocessor) (l : Lent) : Type 0 where
+  pub bounded : Bounded (settingsOf h)
+  pub fitted : Fitted h l
+
+pub record Pointing (h : Preprocessor) (l : Lent) (x n : ℕ) : Type 0 where
+  pub whole : x ≡ h .transformer .«input_length»
+  pub past : pastRow h (l .initialTimestamps) n ≡ 0
+
+-- ---- what the program's parts see
+
+-- a state of which only these lists are looked at
+abbrev pub holding : Preprocessor → List Float → List Float → List ℕ → State
+holding h st x ts =
+    record {
+      settings = settingsOf h;
+      valuesSeen = h .«values_seen»;
+      internalTimestamp = h .«internal_timestamp»;
+      count = h .transformer .count;
+      statistics = st;
+      lastShingledInput = x;
+      lastShingledPoint = [];
+      previousTimestamps = ts;
+      initialValues = [];
+      initialTimestamps = [];
+    }
+
+-- the i-th waiting reading, out of the flat lists
+abbrev pub readingAt : ℕ → List Float → List ℕ → ℕ → Reading
+readingAt d v ts i = reading (take d (drop (i * d) v)) (getD ts i 0)
+
+-- the state in a drain: the waiting readings are handed beside it
+abbrev pub shingling : Preprocessor → ℕ → List Float → List Float → List Float → List ℕ → ℕ → State
+shingling h count st x p ts internal =
+    record {
+      settings = settingsOf h;
+      valuesSeen = h .«values_seen»;
+      internalTimestamp = internal;
+      count = count;
+      statistics = st;
+      lastShingledInput = x;
+      lastShingledPoint = p;
+      previousTimestamps = ts;
+      initialValues = [];
+      initialTimestamps = [];
+    }
+
+-- lists of just the length in use
+pub record Exact (s : Settings) (st x ts : ℕ) : Type 0 where
+  pub all-statistics : st ≡ statisticsLength s
+  pub all-input : x ≡ s .d * s .k
+  pub all-times : ts ≡ s .k
+
+-- what an anomaly that is written needs of the lengths
+pub record Findable (s : Settings) (e back past expected : ℕ) : Type 0 where
+  pub all-expected : e ≡ dimension s
+  pub inside : back < s .k
+  pub past-room : s .d ≤ past
+  pub expected-room : s .d ≤ expected
+
+-- what the row 0 of a learn with y says
+pub record Learnable (h : Preprocessor) (y e : ℕ) (expects : Bool) (grade : Float) (back deviations past expected : ℕ) : Type 0 where
+  pub all-y : y ≡ dimension (settingsOf h)
+  pub count-room : h .«values_seen» < h .«stop_normalization» → h .transformer .count < countLimit
+  pub seen-room : h .«values_seen» < seenLimit
+  pub internal-room : h .«internal_timestamp» < seenLimit
+  pub deviations-room : block (settingsOf h) ≤ deviations
+  pub found : (lt zero32 grade && expects) ≡ true → Findable (settingsOf h) e back past expected
+
+-- ---- `build`
+
+abbrev pub settingsFrom : PreprocessorBuilder → List Float → Settings
+settingsFrom b weights =
+    record {
+      mode = b .«forest_mode»;
+      method = b .«transform_method»;
+      d = b .«input_dimensions»;
+      k = b .«shingle_size»;
+      start = b .«start_normalization»;
+      stop = b .«stop_normalization»;
+      decay = b .«transform_decay»;
+      weightTime = b .«weight_time»;
+      weights = weights;
+    }
+
+pub record Accepted (s : Settings) : Type 0 where
+  pub bounded : Bounded s
+  pub weighted : length (s .weights) ≡ s .d
+
+-- "a fresh watch is what `build` gives"; an array holds the weights, zeros behind them
+abbrev pub headFrom : Settings → Preprocessor
+headFrom s =
+    record {
+      transformer = record {
+        «transform_method» = s .method;
+        «input_length» = s .d;
+        «transform_decay» = s .decay;
+        weights = over (replicate 16 zero32) (s .weights);
+        count = 0;
+      };
+      «forest_mode» = s .mode;
+      «shingle_size» = s .k;
+      «start_normalization» = s .start;
+      «stop_normalization» = s .stop;
+      «weight_time» = s .weightTime;
+      «values_seen» = 0;
+      «internal_timestamp» = 0;
+      «initial_len» = 0;
+    }
+
+-- what a refused `build` hands back: every call refuses it
+abbrev pub noHead : Preprocessor
+noHead =
+    headFrom
+    (record { mode = STANDARD; method = NONE; d = 0; k = 0; start = 0; stop = 0; decay = zero64; weightTime = zero32; weights = [] })
+
+-- the row, the head and the final contents of what is lent
+pub record Outcome : Type 0 where
+  pub row : ℕ
+  pub head : Preprocessor
+  pub lent : Lent
+
+abbrev pub outcome : ℕ → Preprocessor → Lent → Outcome
+outcome n h l = record { row = n; head = h; lent = l }
+
+unfoldable pub buildRow : Settings → Lent → ℕ
+buildRow s l = orElse (settingsRow s) (lentRow (headFrom s) l)
+
+unfoldable pub buildOf : Settings → Lent → Outcome
+buildOf s l = accepted (buildRow s l) (outcome 0 (headFrom s) (laid (fresh s) l)) (outcome (buildRow s l) noHead l)
 
 -- ---- a call on what is held
 
@@ -151,3 +322,276 @@ headAfter h l c = accepted (rowOf h l c) (counted h (change (view h l) c)) h
 
 unfoldable pub lentAfter : Preprocessor → Lent → Call → Lent
 lentAfter h l c = accepted (rowOf h l c) (laid (change (view h l) c) l) l
+
+-- a call that writes one list, read as its row and that list
+pub record Written : Type 0 where
+  pub row : ℕ
+  pub out : List Float
+
+abbrev pub written : ℕ → List Float → Written
+written n out = record { row = n; out = out }
+
+abbrev pub writtenOf : List Float → Answer → Written
+writtenOf out (refused n) = written n out
+writtenOf out absent = written 0 out
+writtenOf out done = written 0 out
+writtenOf out (wrote v) = written 0 v
+writtenOf out (learnt a) = written 0 out
+writtenOf out (turned a) = written 0 out
+writtenOf out (told s) = written 0 (s .deviationsOut)
+
+unfoldable pub writeOf : Preprocessor → Lent → Call → List Float → Written
+writeOf h l c out = writtenOf out (answerOf h l c)
+
+-- `status`: the row, and the numbers, of which the dimension is 0 for a head that no build made
+pub record StatusOutcome : Type 0 where
+  pub row : ℕ
+  pub numbers : Status
+
+abbrev pub statusGiven : StatusAnswer → List Float → StatusOutcome
+statusGiven r out =
+    record {
+      row = r .row;
+      numbers = record {
+        valuesSeen = r .«values_seen»;
+        internalTimestamp = r .«internal_timestamp»;
+        ready = r .ready;
+        inputDimensions = r .«input_dimensions»;
+        shingleSize = r .«shingle_size»;
+        dimensions = r .dimensions;
+        method = r .«transform_method»;
+        mode = r .«forest_mode»;
+        start = r .«start_normalization»;
+        panel = r .panel;
+        deviationsOut = out;
+      };
+    }
+
+-- refused, it tells what the head holds and leaves the output
+abbrev pub untold : Preprocessor → List Float → Status
+untold h out =
+    record {
+      valuesSeen = h .«values_seen»;
+      internalTimestamp = h .«internal_timestamp»;
+      ready = leb (h .«shingle_size») (h .«internal_timestamp»);
+      inputDimensions = h .transformer .«input_length»;
+      shingleSize = h .«shingle_size»;
+      dimensions = accepted (headRow (settingsOf h)) (dimension (settingsOf h)) 0;
+      method = h .transformer .«transform_method»;
+      mode = h .«forest_mode»;
+      start = h .«start_normalization»;
+      panel = h .«values_seen»;
+      deviationsOut = out;
+    }
+
+abbrev pub statusRead : Preprocessor → List Float → Answer → StatusOutcome
+statusRead h out (refused n) = record { row = n; numbers = untold h out }
+statusRead h out absent = record { row = 0; numbers = untold h out }
+statusRead h out done = record { row = 0; numbers = untold h out }
+statusRead h out (wrote v) = record { row = 0; numbers = untold h out }
+statusRead h out (learnt a) = record { row = 0; numbers = untold h out }
+statusRead h out (turned a) = record { row = 0; numbers = untold h out }
+statusRead h out (told s) = record { row = 0; numbers = s }
+
+unfoldable pub statusAfter : Preprocessor → Lent → List Float → StatusOutcome
+statusAfter h l out = statusRead h out (answerOf h l (status out))
+
+unfoldable pub drainOf : Preprocessor → Lent → Outcome
+drainOf h l = outcome (rowOf h l drain) (headAfter h l drain) (lentAfter h l drain)
+
+-- `shingled_point`: the row, whether a point is given, the head, what is lent, and the output
+pub record PointOutcome : Type 0 where
+  pub row : ℕ
+  pub given : Bool
+  pub head : Preprocessor
+  pub lent : Lent
+  pub out : List Float
+
+abbrev pub pointed : ℕ → Bool → Preprocessor → Lent → List Float → PointOutcome
+pointed n b h l out = record { row = n; given = b; head = h; lent = l; out = out }
+
+abbrev pub pointRead : Preprocessor → Lent → List Float → Answer → PointOutcome
+pointRead h l out (refused n) = pointed n false h l out
+pointRead h l out absent = pointed 0 false h l out
+pointRead h l out done = pointed 0 false h l out
+pointRead h l out (wrote v) = pointed 0 true h l v
+pointRead h l out (learnt a) = pointed 0 false h l out
+pointRead h l out (turned a) = pointed 0 false h l out
+pointRead h l out (told a) = pointed 0 false h l out
+
+unfoldable pub pointAfter : Preprocessor → Lent → List Float → ℕ → List Float → PointOutcome
+pointAfter h l x t out =
+    let c = shingledPoint x t out in
+    pointRead (headAfter h l c) (lentAfter h l c) out (answerOf h l c)
+
+-- ---- `post_process`
+
+-- a list that may be given
+abbrev pub optional : Bool → List Float → Option (List Float)
+optional true v = some v
+optional false v = none
+
+abbrev pub learnCall : List Float → ℕ → Bool → List Float → Bool → List Float → Float → ℤ → List Float → List Float → List Float → Learn
+learnCall x t hasY y expects e grade index deviations past expected =
+    record {
+      input = x;
+      timestamp = t;
+      rcfPoint = optional hasY y;
+      expectedPoint = optional expects e;
+      grade = grade;
+      relativeIndex = index;
+      deviationsOut = deviations;
+      pastOut = past;
+      expectedOut = expected;
+    }
+
+-- how many readings before the newest; 64, which lies outside every shingle, for one that is to come
+abbrev pub backOf : ℤ → ℕ
+backOf (pos zero) = 0
+backOf (pos (suc n)) = 64
+backOf (negsuc n) = suc n
+
+-- rows 10 to 12
+unfoldable pub inputRow : Preprocessor → List ℕ → List ℕ → List Float → ℕ → ℕ
+inputRow h ts vt x t =
+    firstOf
+    ((not (eqb (length x) (h .transformer .«input_length»)), 10)
+    ∷ (not (finite x), 11)
+    ∷ (ltb t (cond (eqb (h .«internal_timestamp») 0) (lastOr 0 (take (h .«initial_len») vt)) (lastOr 0 (take (h .«shingle_size») ts))), 12)
+    ∷ [])
+
+-- rows 18 and 20 while waiting
+unfoldable pub waitingRow : Preprocessor → ℕ → ℕ
+waitingRow h deviations =
+    firstOf
+    ((leb seenLimit (h .«values_seen»), 18)
+    ∷ (eqb (suc (h .«values_seen»)) (h .«start_normalization») && ltb deviations (block (settingsOf h)), 20)
+    ∷ [])
+
+-- rows 13, 14, 18 and 20 past waiting, over the lengths
+unfoldable pub learnRow : Preprocessor → ℕ → Bool → ℕ → Bool → Float → ℕ → ℕ → ℕ → ℕ → ℕ
+learnRow h y hasY e expects grade back deviations past expected =
+    let n = dimension (settingsOf h) in
+    let d = h .transformer .«input_length» in
+    let full =
+    (ltb (h .«values_seen») (h .«stop_normalization») && leb countLimit (h .transformer .count))
+    || (leb seenLimit (h .«values_seen») || leb seenLimit (h .«internal_timestamp»)) in
+    let short =
+    ltb deviations (block (settingsOf h)) || ((lt zero32 grade && expects) && (ltb past d || ltb expected d)) in
+    firstOf
+    (((hasY && not (eqb y n)) || (expects && not (eqb e n)), 13)
+    ∷ (hasY && (lt zero32 grade && leb (h .«shingle_size») back), 14)
+    ∷ (hasY && full, 18)
+    ∷ (hasY && short, 20)
+    ∷ [])
+
+unfoldable pub learningRow : Preprocessor → ℕ → Bool → ℕ → Bool → Float → ℕ → ℕ → ℕ → ℕ → ℕ
+learningRow h y hasY e expects grade back deviations past expected =
+    cond (waiting (settingsOf h) (h .«values_seen»)) (waitingRow h deviations) (learnRow h y hasY e expects grade back deviations past expected)
+
+-- the row; whether the deviations are written; the anomaly, 0 where there is none; the head; what is lent; the outputs
+pub record LearnOutcome : Type 0 where
+  pub row : ℕ
+  pub written : Bool
+  pub hasAnomaly : Bool
+  pub pastTimestamp : ℕ
+  pub likelihood : Float
+  pub head : Preprocessor
+  pub lent : Lent
+  pub deviationsOut : List Float
+  pub pastOut : List Float
+  pub expectedOut : List Float
+
+abbrev pub anomalyTime : Option Anomaly → ℕ
+anomalyTime none = 0
+anomalyTime (some a) = a .pastTimestamp
+
+abbrev pub anomalyLikelihood : Option Anomaly → Float
+anomalyLikelihood none = zero32
+anomalyLikelihood (some a) = a .likelihood
+
+abbrev pub learnOutcome : ℕ → Bool → Bool → ℕ → Float → Preprocessor → Lent → List Float → List Float → List Float → LearnOutcome
+learnOutcome n w b t p h l deviations past expected =
+    record {
+      row = n;
+      written = w;
+      hasAnomaly = b;
+      pastTimestamp = t;
+      likelihood = p;
+      head = h;
+      lent = l;
+      deviationsOut = deviations;
+      pastOut = past;
+      expectedOut = expected;
+    }
+
+abbrev pub learnNothing : ℕ → Preprocessor → Lent → Learn → LearnOutcome
+learnNothing n h l c = learnOutcome n false false 0 zero32 h l (c .deviationsOut) (c .pastOut) (c .expectedOut)
+
+abbrev pub learnRead : Preprocessor → Lent → Learn → Answer → LearnOutcome
+learnRead h l c (refused n) = learnNothing n h l c
+learnRead h l c absent = learnNothing 0 h l c
+learnRead h l c done = learnNothing 0 h l c
+learnRead h l c (wrote v) = learnNothing 0 h l c
+learnRead h l c (learnt a) =
+    learnOutcome 0 (a .written) (given (a .anomaly)) (anomalyTime (a .anomaly)) (anomalyLikelihood (a .anomaly)) h l (a .deviationsOut) (a .pastOut)
+    (a .expectedOut)
+learnRead h l c (turned a) = learnNothing 0 h l c
+learnRead h l c (told a) = learnNothing 0 h l c
+
+unfoldable pub learnAfter : Preprocessor → Lent → Learn → LearnOutcome
+learnAfter h l c =
+    let q = postProcess c in
+    learnRead (headAfter h l q) (lentAfter h l q) c (answerOf h l q)
+
+-- ---- the program's own parts of `post_process`
+
+abbrev pub answeringRow : ℕ → Preprocessor → Bool → Bool → ℕ → Float → PostProcessed
+answeringRow n h w b t p = record { row = n; head = h; written = w; «has_anomaly» = b; «past_timestamp» = t; likelihood = p }
+
+abbrev pub answering : Preprocessor → Bool → Bool → ℕ → Float → PostProcessed
+answering h w b t p = answeringRow 0 h w b t p
+
+-- an answer and four of the lent lists, the initial ones left out
+pub record LearnParts : Type 0 where
+  pub answer : PostProcessed
+  pub statistics : List Float
+  pub lastShingledInput : List Float
+  pub lastShingledPoint : List Float
+  pub previousTimestamps : List ℕ
+  pub deviationsOut : List Float
+  pub pastOut : List Float
+  pub expectedOut : List Float
+
+abbrev pub learnParts : ℕ → Bool → Bool → ℕ → Float → Preprocessor → List Float → List Float → List Float → List ℕ → List Float → List Float → List Float → LearnParts
+learnParts n w b t p h st x y ts deviations past expected =
+    record {
+      answer = answeringRow n h w b t p;
+      statistics = st;
+      lastShingledInput = x;
+      lastShingledPoint = y;
+      previousTimestamps = ts;
+      deviationsOut = deviations;
+      pastOut = past;
+      expectedOut = expected;
+    }
+
+-- the statistics after a learn
+abbrev pub learnedStatistics : Preprocessor → List Float → List Float → List ℕ → List Float → ℕ → List Float
+learnedStatistics h st x ts input t =
+    cond (ltb (h .«values_seen») (h .«stop_normalization»)) (feed (settingsOf h) (h .transformer .count) st (previous (holding h st x ts)) (reading input t)) st
+
+abbrev pub learnedParts : Preprocessor → List Float → List Float → List Float → List ℕ → List Float → ℕ → List Float → List Float → Bool → ℕ → List Float → List Float → List Float → LearnParts
+learnedParts h st x p ts input t y e found back deviationsOut pastOut expectedOut =
+    let s = settingsOf h in
+    let d = s .d in
+    let st₁ = take (statisticsLength s) st in
+    let x₁ = take (d * s .k) x in
+    let ts₁ = take (s .k) ts in
+    let b = s .k - 1 - back in
+    learnParts 0 true found (cond found (getD ts₁ b 0) 0) (cond found one32 zero32)
+    (counting h (cond (ltb (h .«values_seen») (h .«stop_normalization»)) (suc (h .transformer .count)) (h .transformer .count)) (suc (h .«values_seen»)) (suc (h .«internal_timestamp»)) (h .«initial_len»))
+    (over st (learnedStatistics h st₁ x₁ ts₁ input t)) (over x (shiftIn x₁ input)) (over p y) (over ts (shiftIn ts₁ (t ∷ [])))
+    (over deviationsOut (deviations (holding h (learnedStatistics h st₁ x₁ ts₁ input t) [] [])))
+    (cond found (over pastOut (cond (eqb back 0) input (blockFrom d (s .k - back) x₁))) pastOut)
+    (cond found (over expectedOut (inverted (transformer s 0 st₁) (blockFrom d b e) (blockFrom d b x₁))) expectedOut)

@@ -1,9 +1,10 @@
 -- `common::deviation::factor` meets its contract: each return is the case of `factorOf` that its tests pick. Assumes nothing.
-use Prim.Native.Nat.{_+_, _^_}
+use Prim.Native.Nat.{ℕ, _^_, _≤_}
 use native.Mathlib.Omega.{arith}
 use borrow.Author.Needs.{needs}
-use lib.Dec.{le→leb}
-use lib.Ieee.{inFloat}
+use lib.Dec.{T, le→leb}
+use lib.IntN.{pos}
+use lib.Ieee.{binary64, inFloat}
 use Rattle.common.specs.Deviation.{factorOf}
 use Rattle.common.proofs.deviation.factor.Statement.{statement}
 use Rattle.common.proofs.deviation.factor.Tie as tie
@@ -15,9 +16,13 @@ returns c = rw (c .if1 .taken)
 add-b : tie.Need-add-b
 add-b c = search needs
 
-int-to-float-b : tie.Need-int-to-float-b
+-- every whole number up to 2 ^ 53 is an f64
+counts : (n : ℕ) → n ≤ 2 ^ 53 → T (inFloat binary64 (pos n))
 unfolding inFloat
-int-to-float-b c = le→leb (c .before .before .args .count + 2) (2 ^ 53) (omega arith)
+counts n h = le→leb n (2 ^ 53) h
+
+int-to-float-b : tie.Need-int-to-float-b
+int-to-float-b c = counts _ (omega arith)
 
 returns-2 : tie.Need-returns-2
 unfolding factorOf

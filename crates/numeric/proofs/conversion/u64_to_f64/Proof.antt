@@ -1,5 +1,5 @@
 -- `numeric::conversion::u64_to_f64` meets its contract: `made` of `Whole.antt` at binary64. Assumes nothing.
-use Prim.Native.Nat.{_+_, _-_, _*_, _^_}
+use Prim.Native.Nat.{_+_, _-_, _*_}
 use native.Mathlib.Omega.{arith}
 use lib.IntN.{pos}
 use lib.Count.{leadingZeros, leading-le}

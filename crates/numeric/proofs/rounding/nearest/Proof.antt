@@ -1,5 +1,5 @@
 -- `numeric::rounding::nearest` meets its contract: `1 << d` is 2 ^ d, and the one test settles `closest`'s three cases. Assumes nothing.
-use mathlib.Core.Path.{_≡_, sym, ap, subst, _∙_}
+use mathlib.Core.Path.{_≡_, ap, subst, _∙_}
 use mathlib.Core.Logic.{⊎-elim}
 use Prim.Native.Nat.{ℕ, _+_, _*_, _/_, _%_, _^_, _<_}
 use native.Mathlib.Omega.{arith}

@@ -1,0 +1,169 @@
+-- Laws of the running statistic for the crates above: what an update does to discount and count and when it is refused, the empty statistic,
+-- that every number fits binary64, and `exact-sums`: with discount 0, whole-number scores are summed exactly. Assumes nothing.
+use mathlib.Core.Path.{_≡_, refl, sym, ap, _∙_, subst}
+use mathlib.Core.Bool.{Bool, true, false, cond}
+use mathlib.Core.List.{List, [], _∷_, map}
+use Prim.Native.Nat.{ℕ, zero, suc, _+_, _*_, _^_, _≤_, _<_}
+use native.Mathlib.Nat.{add-zero, zero-add, le-trans, mul-le-mul}
+use native.Mathlib.Omega.{arith}
+use borrow.Author.Tests.{le-leb, lt-leb}
+use lib.Dec.{T, lit≤}
+use lib.ListN.{length}
+use lib.IntN.{ℤ, pos, negsuc, natAbs, _+ℤ_, _*ℤ_, +ℤ-assoc, +ℤ-idr, +ℤ-idl}
+use lib.Ieee.{Float, nan, inf, fin, binary64, add, sub, mul, div, lt, le, eq, ofInt, ofBits, round, fits}
+use lib.Ieee.Fits.{add-fits, sub-fits, div-fits, cond-fits, round-fits, nan-fits, inf-fits}
+use lib.Ieee.Bits.{ofBits-fits}
+use Rattle.numeric.specs.Root.{rootOf, rooted}
+use Rattle.common.specs.declared.deviation.Deviation.{Deviation}
+use Rattle.common.specs.declared.deviation.DeviationResult.the-variants.{Ok, Err}
+use Rattle.common.specs.Deviation.{zero64, one64, countLimit, statistic, emptyWith, factorOf, stepOf, updateOf, isEmpty, meanOf, rootAbove, deviationOf}
+use Rattle.common.specs.WholeScores.{wholeFloat, fed, total, totalOfSquares, AllWithin}
+use Rattle.common.proofs.WholeFloats.{add-whole, mul-whole-one, square-whole, size-sum, size-square}
+
+-- ---- update
+
+pub step-discount : (s : Deviation) (x : Float) → stepOf s x .discount ≡ s .discount
+unfolding stepOf
+step-discount s x = refl
+
+pub step-count : (s : Deviation) (x : Float) → stepOf s x .count ≡ s .count + 1
+unfolding stepOf
+step-count s x = refl
+
+pub update-accepted : (s : Deviation) (x : Float) → s .count < countLimit → updateOf s x ≡ Ok (stepOf s x)
+unfolding updateOf
+update-accepted s x h = rw (lt-leb countLimit (s .count) h)
+
+pub update-refused : (s : Deviation) (x : Float) → countLimit ≤ s .count → updateOf s x ≡ Err 18
+unfolding updateOf
+update-refused s x h = rw (le-leb countLimit (s .count) h)
+
+pub fed-discount : (s : Deviation) (xs : List Float) → fed s xs .discount ≡ s .discount
+unfolding fed
+fed-discount s [] = refl
+fed-discount s (x ∷ xs) = fed-discount (stepOf s x) xs ∙ step-discount s x
+
+pub fed-count : (s : Deviation) (xs : List Float) → fed s xs .count ≡ s .count + length xs
+unfolding fed
+fed-count s [] = sym (add-zero (s .count))
+fed-count s (x ∷ xs) = omega (arith, fed-count (stepOf s x) xs, step-count s x)
+
+-- ---- the empty statistic
+
+pub empty-is-empty : (d : Float) → isEmpty (emptyWith d) ≡ true
+unfolding isEmpty le ofBits
+empty-is-empty d = refl
+
+pub mean-empty : (d : Float) → meanOf (emptyWith d) ≡ zero64
+unfolding meanOf
+mean-empty d = rw (empty-is-empty d)
+
+pub deviation-empty : (d : Float) → deviationOf (emptyWith d) ≡ zero64
+unfolding deviationOf
+deviation-empty d = rw (empty-is-empty d)
+
+-- ---- every number is an f64
+
+pub record Fits (s : Deviation) : Type 0 where
+  pub weight : T (fits binary64 (s .weight))
+  pub sum : T (fits binary64 (s .sum))
+  pub squares : T (fits binary64 (s .«sum_squared»))
+
+zero-fits : T (fits binary64 zero64)
+zero-fits = ofBits-fits binary64 0
+
+pub empty-fits : (d : Float) → Fits (emptyWith d)
+empty-fits d = record { weight = zero-fits; sum = zero-fits; squares = zero-fits }
+
+pub step-fits : (s : Deviation) (x : Float) → Fits (stepOf s x)
+unfolding stepOf
+step-fits s x = record { weight = add-fits binary64 _ _; sum = add-fits binary64 _ _; squares = add-fits binary64 _ _ }
+
+pub mean-fits : (s : Deviation) → T (fits binary64 (meanOf s))
+unfolding meanOf
+mean-fits s = cond-fits binary64 (isEmpty s) _ _ zero-fits (div-fits binary64 (s .sum) (s .weight))
+
+pub root-fits : (x : Float) → T (fits binary64 x) → T (fits binary64 (rootOf x))
+unfolding rootOf rooted
+root-fits nan h = nan-fits binary64
+root-fits (inf s) h = cond-fits binary64 s nan (inf false) (nan-fits binary64) (inf-fits binary64 false)
+root-fits (fin s zero e) h = h
+root-fits (fin true (suc m) e) h = nan-fits binary64
+root-fits (fin false (suc m) e) h = round-fits binary64 false _ _
+
+above-fits : (v : Float) → T (fits binary64 v) → T (fits binary64 (rootAbove v))
+unfolding rootAbove
+above-fits v h = cond-fits binary64 (lt zero64 v) (rootOf v) zero64 (root-fits v h) zero-fits
+
+pub deviation-fits : (s : Deviation) → T (fits binary64 (deviationOf s))
+unfolding deviationOf
+deviation-fits s =
+    let m = div binary64 (s .sum) (s .weight) in
+    let q = div binary64 (s .«sum_squared») (s .weight) in
+    let v = sub binary64 q (mul binary64 m m) in
+    cond-fits binary64 (isEmpty s) zero64 (rootAbove v) zero-fits (above-fits v (sub-fits binary64 q (mul binary64 m m)))
+
+-- ---- exact sums: discount 0 (either zero), scores of size at most 65,536, at most 2 ^ 20 of them
+
+-- with discount 0 the factor is 1
+pub factor-none : (d : Float) (n : ℕ) → eq d zero64 ≡ true → factorOf d n ≡ one64
+unfolding factorOf
+factor-none d n e = rw e
+
+one-is : one64 ≡ wholeFloat (pos 1)
+unfolding ofBits ofInt round
+one-is = refl
+
+zero-is : zero64 ≡ wholeFloat (pos 0)
+unfolding ofBits ofInt round
+zero-is = refl
+
+-- one update of an accumulated whole number
+accumulated : (a b : ℤ) → natAbs a ≤ 2 ^ 53 → natAbs b ≤ 2 ^ 53 → add binary64 (mul binary64 (wholeFloat a) one64) (wholeFloat b) ≡ wholeFloat (a +ℤ b)
+accumulated a b A B =
+    ap (λ (x : Float). add binary64 (mul binary64 (wholeFloat a) x) (wholeFloat b)) one-is
+    ∙ ap (λ (x : Float). add binary64 x (wholeFloat b)) (mul-whole-one binary64 a A (lit≤ tt))
+    ∙ add-whole binary64 a b A B
+
+-- the statistic that holds n scores with the sum a and the sum of squares q
+abbrev holding : Float → ℕ → ℤ → ℤ → Deviation
+holding d n a q = statistic d (wholeFloat (pos n)) (wholeFloat a) (wholeFloat q) n
+
+step-whole : (d : Float) (n : ℕ) (a q z : ℤ) → eq d zero64 ≡ true → n ≤ 2 ^ 53 → natAbs a ≤ 2 ^ 53 → natAbs q ≤ 2 ^ 53 → natAbs z ≤ 65536
+    → stepOf (holding d n a q) (wholeFloat z) ≡ holding d (n + 1) (a +ℤ z) (q +ℤ z *ℤ z)
+unfolding stepOf
+step-whole d n a q z e N A Q Z =
+    let f = factor-none d n e in
+    let small : natAbs z ≤ 2 ^ 53 = omega arith in
+    let square : natAbs (z *ℤ z) ≤ 2 ^ 53 = subst (λ (k : ℕ). k ≤ 2 ^ 53) (sym (size-square z)) (le-trans (mul-le-mul Z Z) (lit≤ tt)) in
+    let w : add binary64 (mul binary64 (wholeFloat (pos n)) (factorOf d n)) one64 ≡ wholeFloat (pos (n + 1)) =
+    (λ i. add binary64 (mul binary64 (wholeFloat (pos n)) (f i)) (one-is i)) ∙ accumulated (pos n) (pos 1) N (lit≤ tt) in
+    let s : add binary64 (mul binary64 (wholeFloat a) (factorOf d n)) (wholeFloat z) ≡ wholeFloat (a +ℤ z) =
+    (λ i. add binary64 (mul binary64 (wholeFloat a) (f i)) (wholeFloat z)) ∙ accumulated a z A small in
+    let r : add binary64 (mul binary64 (wholeFloat q) (factorOf d n)) (mul binary64 (wholeFloat z) (wholeFloat z)) ≡ wholeFloat (q +ℤ z *ℤ z) =
+    (λ i. add binary64 (mul binary64 (wholeFloat q) (f i)) (square-whole binary64 z small i)) ∙ accumulated q (z *ℤ z) Q square in
+    λ i. statistic d (w i) (s i) (r i) (n + 1)
+
+more-exact : (d : Float) (zs : List ℤ) (n : ℕ) (a q : ℤ) → eq d zero64 ≡ true → n + length zs ≤ 1048576 → natAbs a ≤ 65536 * n → natAbs q ≤ 4294967296 * n → AllWithin 65536 zs
+    → fed (holding d n a q) (map wholeFloat zs) ≡ holding d (n + length zs) (a +ℤ total zs) (q +ℤ totalOfSquares zs)
+unfolding fed total totalOfSquares
+more-exact d [] n a q e N A Q h = λ i. holding d (sym (add-zero n) i) (sym (+ℤ-idr a) i) (sym (+ℤ-idr q) i)
+more-exact d (z ∷ zs) n a q e N A Q h =
+    let Z = h .0 in
+    let square : natAbs (z *ℤ z) ≤ 4294967296 = subst (λ (k : ℕ). k ≤ 4294967296) (sym (size-square z)) (mul-le-mul Z Z) in
+    let A' : natAbs (a +ℤ z) ≤ 65536 * (n + 1) = omega (arith, size-sum a z) in
+    let Q' : natAbs (q +ℤ z *ℤ z) ≤ 4294967296 * (n + 1) = omega (arith, size-sum q (z *ℤ z)) in
+    ap (λ (s : Deviation). fed s (map wholeFloat zs)) (step-whole d n a q z e (omega arith) (omega arith) (omega arith) Z)
+    ∙ more-exact d zs (n + 1) (a +ℤ z) (q +ℤ z *ℤ z) e (omega arith) A' Q' (h .1)
+    ∙ λ i. holding d (count n (length zs) i) (+ℤ-assoc a z (total zs) i) (+ℤ-assoc q (z *ℤ z) (totalOfSquares zs) i)
+  where
+    count : (n k : ℕ) → n + 1 + k ≡ n + suc k
+    count n k = omega arith
+
+-- The weight is the number of the scores, the sum their sum and the squares the sum of their squares, each as the f64 that is exactly it, a zero being +0.
+pub exact-sums : (d : Float) (zs : List ℤ) → eq d zero64 ≡ true → length zs ≤ 1048576 → AllWithin 65536 zs
+    → fed (emptyWith d) (map wholeFloat zs) ≡ statistic d (wholeFloat (pos (length zs))) (wholeFloat (total zs)) (wholeFloat (totalOfSquares zs)) (length zs)
+exact-sums d zs e N h =
+    ap (λ (x : Float). fed (statistic d x x x 0) (map wholeFloat zs)) zero-is
+    ∙ more-exact d zs 0 (pos 0) (pos 0) e (omega arith) (lit≤ tt) (lit≤ tt) h
+    ∙ λ i. holding d (zero-add (length zs) i) (+ℤ-idl (total zs) i) (+ℤ-idl (totalOfSquares zs) i)

@@ -1,0 +1,117 @@
+-- Demand 3: a preprocessor outlives any restart, at any place, any number of times.
+use Prim.Native.Nat.{_<_}
+use mathlib.Core.Path.{_≡_, refl, sym, ap, _∙_}
+use mathlib.Core.List.{List, [], _∷_, _++_}
+use Rattle.restart.specs.History.{after, entries, historyText}
+use Rattle.restart.specs.Statement.{Restores, Outlives, Restart, Event, called, restarted, callsOf, runEvents, answersEvents, Restarts, Reaches, built, calling, restoring, Demand3}
+use Rattle.trcf.specs.Fit.{All}
+use Rattle.trcf.specs.Settings.{Settings, Valid}
+use Rattle.trcf.specs.Calls.{Call, Machine}
+use Rattle.trcf.specs.Preprocessor.{State, fresh, next, run, Answer, answer, answers}
+use Rattle.snapshot.specs.Text.{render}
+use Rattle.snapshot.specs.Read.{Read, taken, read}
+use Rattle.trcf.proofs.FitLaws.{all-append}
+use Rattle.snapshot.proofs.Injective.{render-injective}
+use Rattle.snapshot.proofs.ReadText.{read-complete}
+use Rattle.restart.proofs.Step.{begins, runs, run-history, answers-from, answers-history}
+use Rattle.restart.proofs.Reachable.{k>0-of, run-form}
+
+pub run-append : (w : State) (a b : List Call) → run w (a ++ b) ≡ run (run w a) b
+run-append w [] b = refl
+run-append w (c ∷ a) b = run-append (next w c) a b
+
+-- ---- the text of a state that calls lead to
+
+module _ (s : Settings) (ok : Valid s) (before : List Call) (m : All Machine before) where
+  -- it is the history's
+  pub text-history : render (run (fresh s) before) ≡ historyText s before
+  unfolding historyText
+  text-history = ap render (run-history s (k>0-of s ok) before)
+
+  -- it is restored
+  pub restorable : Restores (render (run (fresh s) before)) (run (fresh s) before)
+  restorable = record { form = run-form s ok before m; text = refl }
+
+  pub restored : read (render (run (fresh s) before)) ≡ taken (run (fresh s) before)
+  restored = read-complete (run (fresh s) before) (run-form s ok before m)
+
+  -- as that state and as no other
+  pub only : (w : State) → Restores (render (run (fresh s) before)) w → w ≡ run (fresh s) before
+  only w u = render-injective w (run (fresh s) before) (u .form) (run-form s ok before m) (u .text)
+
+-- ---- one restart
+
+module _ (s : Settings) (ok : Valid s) (before after : List Call) where
+  goes-on : Outlives s before after (run (fresh s) before)
+  unfolding entries historyText
+  goes-on = record {
+    sameAnswers = refl;
+    ruledAnswers = ap (λ (w : State). answers w after) (run-history s k>0 before) ∙ answers-from s k>0 (entries s before) (runs s k>0 [] (begins s k>0) before .1) after;
+    sameText = ap render (sym (run-append (fresh s) before after));
+    historyEnds = ap render (sym (run-append (fresh s) before after) ∙ run-history s k>0 (before ++ after));
+  }
+    where
+      k>0 : 0 < s .k
+      k>0 = k>0-of s ok
+
+  pub restart : All Machine before → Restart s before after
+  restart m = record {
+    text = text-history s ok before m;
+    second = run (fresh s) before;
+    taking = restored s ok before m;
+    outlives = goes-on;
+    every = λ w u. rw (only s ok before m w u) goes-on;
+  }
+
+-- ---- any number of restarts
+
+module _ (s : Settings) (ok : Valid s) where
+  -- w stands after the calls cs
+  module _ (cs : List Call) (m : All Machine cs) (w : State) (e : w ≡ run (fresh s) cs) where
+    taken-up : read (render w) ≡ taken w
+    taken-up = read-complete w (rw e (run-form s ok cs m))
+
+    one-more : (c : Call) → next w c ≡ run (fresh s) (cs ++ (c ∷ []))
+    one-more c = ap (λ (v : State). next v c) e ∙ sym (run-append (fresh s) cs (c ∷ []))
+
+    all-more : (c : Call) → Machine c → All Machine (cs ++ (c ∷ []))
+    all-more c k = all-append _ cs (c ∷ []) m (k, tt)
+
+  ends-from : (cs : List Call) → All Machine cs → (w : State) → w ≡ run (fresh s) cs → (es : List Event) → All Machine (callsOf es)
+      → runEvents (taken w) es ≡ taken (run w (callsOf es))
+  ends-from cs m w e [] n = refl
+  ends-from cs m w e (called c ∷ es) n = ends-from (cs ++ (c ∷ [])) (all-more cs m w e c (n .0)) (next w c) (one-more cs m w e c) es (n .1)
+  ends-from cs m w e (restarted ∷ es) n = ap (λ (r : Read). runEvents r es) (taken-up cs m w e) ∙ ends-from cs m w e es n
+
+  answers-on : (cs : List Call) → All Machine cs → (w : State) → w ≡ run (fresh s) cs → (es : List Event) → All Machine (callsOf es)
+      → answersEvents (taken w) es ≡ answers w (callsOf es)
+  answers-on cs m w e [] n = refl
+  answers-on cs m w e (called c ∷ es) n =
+      ap (λ (l : List Answer). answer w c ∷ l) (answers-on (cs ++ (c ∷ [])) (all-more cs m w e c (n .0)) (next w c) (one-more cs m w e c) es (n .1))
+  answers-on cs m w e (restarted ∷ es) n = ap (λ (r : Read). answersEvents r es) (taken-up cs m w e) ∙ answers-on cs m w e es n
+
+  pub restarts : (es : List Event) → All Machine (callsOf es) → Restarts s es
+  restarts es m = record {
+    ends = ends-from [] tt (fresh s) refl es m;
+    sameAnswers = answers-on [] tt (fresh s) refl es m;
+    ruledAnswers = answers-on [] tt (fresh s) refl es m ∙ answers-history s (k>0-of s ok) (callsOf es);
+    text = text-history s ok (callsOf es) m;
+  }
+
+  reaches : {cs : List Call} {w : State} → Reaches s cs w → (w ≡ run (fresh s) cs) × All Machine cs
+  reaches built = (refl, tt)
+  reaches (calling {cs = cs} {w = w} c m t) =
+      let h : (w ≡ run (fresh s) cs) × All Machine cs = reaches t in
+      (ap (λ (v : State). next v c) (h .0) ∙ sym (run-append (fresh s) cs (c ∷ [])), all-append _ cs (c ∷ []) (h .1) (m, tt))
+  reaches (restoring {cs = cs} {w = w} u k t) =
+      let h : (w ≡ run (fresh s) cs) × All Machine cs = reaches t in
+      (only s ok cs (h .1) u (record { form = k .form; text = k .text ∙ ap render (h .0) }), h .1)
+
+-- ---- the statement
+
+pub demand-3 : Demand3
+demand-3 = record {
+  once = λ s ok before after m. restart s ok before after m;
+  often = λ s ok es m. restarts s ok es m;
+  reached = λ s ok t. reaches s ok t .0;
+}

@@ -1,0 +1,3 @@
+pub mod History
+pub mod Chronicle
+pub mod Statement

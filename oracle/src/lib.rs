@@ -1,0 +1,19 @@
+//! The oracle: the unchanged Rust of docs/src behind document 01's rows, an independent history of the calls, and generators.
+#![allow(dead_code)]
+
+mod standins;
+pub use standins::rcf;
+use standins::samplerplustree;
+
+include!(concat!(env!("OUT_DIR"), "/source.rs"));
+
+pub mod antt;
+pub mod bench;
+pub mod bits;
+pub mod calls;
+pub mod history;
+pub mod random;
+pub mod reference;
+pub mod snapshot;
+pub mod texts;
+pub mod vectors;

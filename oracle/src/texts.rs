@@ -1,0 +1,291 @@
+//! Texts of document 01's form that need not be reachable by calls, and damaged ones with the line at which each is bad.
+use crate::calls::{COUNT_LIMIT, NONE, NORMALIZE, SEEN_LIMIT};
+use crate::random::{settings, Random, Sizes};
+use crate::snapshot::Snapshot;
+
+fn rising_times(r: &mut Random, n: usize) -> Vec<u64> {
+    let mut times: Vec<u64> = (0..n).map(|_| if r.once_in(4) { r.next() } else { r.from(0, 50) }).collect();
+    times.sort();
+    times
+}
+
+fn counter(r: &mut Random, limit: u64) -> u64 {
+    match r.below(6) {
+        0 => limit - r.below(4),
+        1 => r.next() % (limit + 1),
+        _ => r.from(0, 12),
+    }
+}
+
+/// A snapshot that has the form: "nothing ties the counts but what document 01 says".
+pub fn snapshot(r: &mut Random, sizes: Sizes) -> Snapshot {
+    let s = settings(r, sizes);
+    let (d, k) = (s.d as usize, s.k as usize);
+    let normalizes = s.method >= NORMALIZE;
+    let values_seen = match r.below(4) {
+        0 => s.start,
+        1 => r.from(0, s.start),
+        2 => s.start + r.from(0, 3),
+        _ => counter(r, SEEN_LIMIT),
+    };
+    let waits = normalizes && values_seen < s.start;
+    let internal = if waits || r.once_in(3) { 0 } else { counter(r, SEEN_LIMIT) };
+    let may_hold = normalizes && !(values_seen == s.start && internal > 0);
+    let lines = if waits {
+        values_seen
+    } else if may_hold && r.once_in(2) {
+        s.start
+    } else {
+        0
+    };
+    let initial_times = rising_times(r, lines as usize);
+    Snapshot {
+        values_seen,
+        internal,
+        count: counter(r, COUNT_LIMIT),
+        statistics: (0..5 * d + 5).map(|_| [r.wild64(), r.wild64(), r.wild64()]).collect(),
+        inputs: r.list32(d * k, Random::wild32),
+        point: r.list32(s.dimension(), Random::wild32),
+        times: if internal == 0 { vec![0; k] } else { rising_times(r, k) },
+        initial: initial_times.into_iter().map(|t| (t, r.list32(d, Random::value32))).collect(),
+        settings: s,
+    }
+}
+
+/// As `snapshot`, with initial values that a drain would feed, and a count near its limit.
+pub fn undrained(r: &mut Random, sizes: Sizes) -> Snapshot {
+    let mut w = snapshot(r, sizes);
+    let s = &mut w.settings;
+    if s.method == NONE {
+        s.weights.iter_mut().for_each(|x| *x = 2.0);
+    }
+    s.method = r.from(4, 5) as u8;
+    s.start = r.from(1, 5);
+    s.stop = s.stop.max(s.start);
+    w.values_seen = s.start;
+    w.internal = 0;
+    w.times.iter_mut().for_each(|t| *t = 0);
+    w.count = COUNT_LIMIT - r.below(8);
+    let (d, times) = (s.d as usize, rising_times(r, s.start as usize));
+    w.initial = times.into_iter().map(|t| (t, r.list32(d, Random::value32))).collect();
+    w
+}
+
+/// The lines of a text, each with its LF.
+pub fn lines(text: &[u8]) -> Vec<Vec<u8>> {
+    text.split_inclusive(|&b| b == b'\n').map(|l| l.to_vec()).collect()
+}
+
+fn split(line: &[u8]) -> Vec<Vec<u8>> {
+    line[..line.len() - 1].split(|&b| b == b'\t').map(|f| f.to_vec()).collect()
+}
+
+fn join(fields: &[Vec<u8>]) -> Vec<u8> {
+    let mut line = fields.join(&b'\t');
+    line.push(b'\n');
+    line
+}
+
+/// A field that is bad in every place.
+fn bad_field(r: &mut Random) -> &'static [u8] {
+    let never: [&[u8]; 12] =
+        [b"", b"zz", b"01", b"-1", b"+1", b" 1", b"7FC00000", b"0x000000", b"ffffffff", b"7fc00001", b"18446744073709551616", b"fff8000000000000"];
+    r.pick(&never)
+}
+
+/// A damaged text and its bad line (0: the damage left a text of the form). The line is known from how the damage was made, not from the reader.
+pub fn damaged(r: &mut Random, good: &Snapshot) -> (Vec<u8>, usize) {
+    let s = &good.settings;
+    let text = good.text().into_bytes();
+    let mut all = lines(&text);
+    let last = all.len();
+    let head = 3 + 5 * s.d as usize + 5 + 3;
+    let at = r.below(last as u64) as usize;
+    match r.below(16) {
+        // a field of no form
+        0..=2 => {
+            let mut fields = split(&all[at]);
+            let place = r.below(fields.len() as u64) as usize;
+            fields[place] = bad_field(r).to_vec();
+            all[at] = join(&fields);
+            (all.concat(), at + 1)
+        }
+        // one field more or less
+        3 => {
+            let mut fields = split(&all[at]);
+            fields.push(if r.once_in(2) { Vec::new() } else { fields[fields.len() - 1].clone() });
+            all[at] = join(&fields);
+            (all.concat(), at + 1)
+        }
+        4 => {
+            let mut fields = split(&all[at]);
+            fields.pop();
+            all[at] = join(&fields);
+            (all.concat(), at + 1)
+        }
+        // the end cut off, inside a line or behind its LF
+        5 => {
+            let keep = r.below(text.len() as u64) as usize;
+            let whole = lines(&text[..keep]).iter().filter(|l| l.last() == Some(&b'\n')).count();
+            let complete = keep > 0 && text[keep - 1] == b'\n' && whole == head && !(s.method >= NORMALIZE && good.values_seen < s.start);
+            (text[..keep].to_vec(), if complete { 0 } else { whole + 1 })
+        }
+        // something behind the text; a further line is never allowed where the initial values are complete
+        6 => {
+            let mut longer = text.clone();
+            longer.extend_from_slice(r.pick(&[&b"\n"[..], b"x", b"tim\t0\n", b"set", b"\0"]));
+            (longer, last + 1)
+        }
+        // a CR before the LF
+        7 => {
+            let end = all[at].len() - 1;
+            all[at].insert(end, b'\r');
+            (all.concat(), at + 1)
+        }
+        // an empty line before a line, and a line twice
+        8 => {
+            all.insert(at, b"\n".to_vec());
+            (all.concat(), at + 1)
+        }
+        9 => {
+            let again = all[at].clone();
+            all.insert(at, again);
+            let bad = second_copy(at, head, last);
+            (all.concat(), bad)
+        }
+        // settings and counters that a row or the form refuses
+        10..=12 => spoiled_head(r, good),
+        // times that fall, times with internal 0
+        13 => spoiled_times(r, good, head),
+        // an initial value that is not finite
+        14 if last > head => {
+            let at = head + r.below((last - head) as u64) as usize;
+            let mut fields = split(&all[at]);
+            let end = fields.len() - 1;
+            fields[end] = r.pick(&[&b"7f800000"[..], b"ff800000", b"7fc00000"]).to_vec();
+            all[at] = join(&fields);
+            (all.concat(), at + 1)
+        }
+        15 if last > head => {
+            let at = head + r.below((last - head) as u64) as usize;
+            all.remove(at);
+            // One line too few: with none left past waiting, the text has the form again.
+            let complete = last - head == 1 && good.values_seen >= s.start;
+            (all.concat(), if complete { 0 } else { last })
+        }
+        _ => (text, 0),
+    }
+}
+
+/// The bad line where line `at` (from 0) stands twice.
+fn second_copy(at: usize, head: usize, last: usize) -> usize {
+    let first_statistic = 3;
+    let after_statistics = head - 3;
+    if (first_statistic..after_statistics).contains(&at) {
+        // One `dev` line too many: the line where `inp` must stand.
+        return after_statistics + 1;
+    }
+    if at >= head {
+        // One `buf` line too many: the line behind the last that may stand.
+        return last + 1;
+    }
+    at + 2
+}
+
+fn spoiled_head(r: &mut Random, good: &Snapshot) -> (Vec<u8>, usize) {
+    let mut w = good.clone();
+    let mut all = lines(w.text().as_bytes());
+    let mut set = split(&all[0]);
+    let waits = w.settings.method >= NORMALIZE && w.values_seen < w.settings.start;
+    let change = |set: &mut Vec<Vec<u8>>, place: usize, to: &str| set[place] = to.as_bytes().to_vec();
+    match r.below(12) {
+        0 => change(&mut set, 1, r.pick(&["G", "s", "ST", "0"])),
+        1 => change(&mut set, 2, r.pick(&["6", "00", "9"])),
+        2 => change(&mut set, 3, r.pick(&["0", "17", "18446744073709551615"])),
+        3 => change(&mut set, 4, r.pick(&["0", "65"])),
+        4 => {
+            change(&mut set, 5, "7");
+            change(&mut set, 6, "6");
+        }
+        5 => {
+            change(&mut set, 5, "2000");
+            change(&mut set, 6, "2000");
+        }
+        6 => change(&mut set, 7, r.pick(&["3ff0000000000000", "bfb999999999999a", "7ff8000000000000", "8000000000000001"])),
+        7 => {
+            // NONE with a weight that is not 1.0
+            change(&mut set, 2, "0");
+            all[0] = join(&set);
+            let mut weights = vec![b"wgt".to_vec()];
+            weights.extend((0..w.settings.d).map(|_| b"3f800000".to_vec()));
+            let end = weights.len() - 1;
+            weights[end] = r.pick(&[&b"3f800001"[..], b"7fc00000", b"bf800000"]).to_vec();
+            all[1] = join(&weights);
+            return (all.concat(), 2);
+        }
+        8 => {
+            w.values_seen = SEEN_LIMIT + 1 + r.below(3);
+            return (w.text().into_bytes(), 3);
+        }
+        9 => {
+            w.internal = SEEN_LIMIT + 1;
+            return (w.text().into_bytes(), 3);
+        }
+        10 => {
+            w.count = COUNT_LIMIT + 1 + r.below(3);
+            return (w.text().into_bytes(), 3);
+        }
+        _ => {
+            if !waits {
+                return (w.text().into_bytes(), 0);
+            }
+            w.internal = 1 + r.below(5);
+            return (w.text().into_bytes(), 3);
+        }
+    }
+    all[0] = join(&set);
+    (all.concat(), 1)
+}
+
+fn spoiled_times(r: &mut Random, good: &Snapshot, head: usize) -> (Vec<u8>, usize) {
+    let mut w = good.clone();
+    let k = w.times.len();
+    if w.internal == 0 {
+        let at = r.below(k as u64) as usize;
+        w.times[at..].iter_mut().for_each(|t| *t = 3);
+        return (w.text().into_bytes(), head);
+    }
+    if k > 1 && r.once_in(2) {
+        let at = r.from(1, k as u64 - 1) as usize;
+        w.times[at - 1] = w.times[at - 1].max(1);
+        w.times[at] = w.times[at - 1] - 1;
+        return (w.text().into_bytes(), head);
+    }
+    let n = w.initial.len();
+    if n > 1 {
+        let at = r.from(1, n as u64 - 1) as usize;
+        w.initial[at - 1].0 = w.initial[at - 1].0.max(1);
+        w.initial[at].0 = w.initial[at - 1].0 - 1;
+        return (w.text().into_bytes(), head + at + 1);
+    }
+    (w.text().into_bytes(), 0)
+}
+
+/// A good text with a few bytes changed, dropped or added: the reader decides.
+pub fn scratched(r: &mut Random, good: &Snapshot) -> Vec<u8> {
+    let mut text = good.text().into_bytes();
+    for _ in 0..r.from(1, 3) {
+        let at = r.below(text.len() as u64) as usize;
+        match r.below(4) {
+            0 => {
+                text.remove(at);
+            }
+            1 => text.insert(at, r.pick(b"0129afS\t\n x")),
+            _ => text[at] = r.pick(b"0123456789abcdefST\t\n -"),
+        }
+        if text.is_empty() {
+            break;
+        }
+    }
+    text
+}
