@@ -8,3 +8,4 @@ pub mod SameHistory
 pub mod Restart
 pub mod Samples
 pub mod RowSamples
+pub mod Traces
