@@ -16,3 +16,4 @@ pub mod LineLaws
 pub mod WriteLaws
 pub mod LineBytes
 pub mod SaveLaws
+pub mod JudgeLaws

@@ -1,0 +1,85 @@
+-- A line as the code reads it: piece by piece from a place of the text on, and none where a piece is bad.
+use Prim.Native.Nat.{ℕ, zero, suc, _+_}
+use mathlib.Core.Bool.{Bool, true, false, _&&_, cond}
+use mathlib.Core.Path.{_≡_}
+use mathlib.Core.List.{List, [], _∷_, _++_}
+use mathlib.Core.Option.{Option, none, some}
+use lib.ListN.{length, take, drop}
+use lib.Dec.{leb, eqb}
+use lib.Ieee.{Float, Format, binary32, binary64}
+use Rattle.snapshot.specs.Read.{asWhole, asFloat}
+use Rattle.snapshot.specs.Scan.{fieldOf}
+use Rattle.snapshot.specs.declared.field.Field.{Field}
+use Rattle.snapshot.specs.declared.field.Field.the-variants.{Bad}
+use Rattle.snapshot.specs.declared.judge.Place.{Place}
+use Rattle.snapshot.specs.declared.judge.Place.the-variants.{At, Nowhere}
+use Rattle.snapshot.specs.declared.judge.Next.{Next}
+
+-- ---- places: what is left of the text from there on
+
+abbrev pub placed : Place → List ℕ → Option (List ℕ)
+placed (At n) t = some (drop n t)
+placed Nowhere t = none
+
+abbrev pub onto : {A B : Type 0} → Option A → (A → Option B) → Option B
+onto none g = none
+onto (some a) g = g a
+
+-- a value, and what is left behind it
+abbrev pub held : {A : Type 0} → A → Option (List ℕ) → Option (A × List ℕ)
+held a none = none
+held a (some z) = some (a, z)
+
+-- ---- pieces
+
+abbrev pub byte : ℕ → List ℕ → Option (List ℕ)
+byte b [] = none
+byte b (x ∷ l) = cond (eqb x b) (some l) none
+
+abbrev pub name : ℕ → ℕ → ℕ → List ℕ → Option (List ℕ)
+name a b c l = onto (onto (byte a l) (byte b)) (byte c)
+
+-- how many bytes stand before the next tab or LF
+abbrev pub fieldLength : List ℕ → ℕ
+fieldLength [] = 0
+fieldLength (b ∷ l) = let r = fieldLength l in cond (leb b 10) 0 (suc r)
+
+-- the field behind the tab at the place p, and the place behind it
+abbrev pub fieldIn : ℕ → List ℕ → Field
+fieldIn k [] = Bad
+fieldIn k (x ∷ l) = cond (eqb x 9) (fieldOf k (take (fieldLength l) l)) Bad
+
+abbrev pub endIn : ℕ → List ℕ → ℕ
+endIn p [] = p
+endIn p (x ∷ l) = cond (eqb x 9) (suc p + fieldLength l) p
+
+abbrev pub nextOf : ℕ → ℕ → List ℕ → Next
+nextOf k p t = record { field = fieldIn k (drop p t); end = endIn p (drop p t) }
+
+module _ {A : Type 0} (p : List ℕ → Option A) where
+  abbrev pub one : List ℕ → Option (A × List ℕ)
+  one [] = none
+  one (x ∷ l) = cond (eqb x 9) (onto (p (take (fieldLength l) l)) (λ a. some (a, drop (fieldLength l) l))) none
+
+abbrev pub before : {A : Type 0} → List A → Option (List A × List ℕ) → Option (List A × List ℕ)
+before u none = none
+before u (some r) = some (u ++ r .0, r .1)
+
+-- n fields, each behind its tab
+abbrev pub fields : {A : Type 0} → (List ℕ → Option A) → ℕ → List ℕ → Option (List A × List ℕ)
+fields p zero l = some ([], l)
+fields p (suc n) l = onto (one p l) (λ r. before (r .0 ∷ []) (fields p n (r .1)))
+
+-- what stands behind the last field
+abbrev pub closing : {A : Type 0} → Option (A × List ℕ) → Option (A × List ℕ)
+closing none = none
+closing (some r) = held (r .0) (byte 10 (r .1))
+
+-- a line of a name and n fields of one kind
+unfoldable pub listLine : {A : Type 0} → (List ℕ → Option A) → ℕ → ℕ → ℕ → ℕ → List ℕ → Option (List A × List ℕ)
+listLine p a b c n l = closing (onto (name a b c l) (fields p n))
+
+-- what n fields leave in lent memory of that length
+pub record Filled {A : Type 0} (o : Option (List A × List ℕ)) (t : List ℕ) (old : List A) (r : Place) (new : List A) : Type 0 where
+  pub told : held new (placed r t) ≡ o
+  pub kept : length new ≡ length old
