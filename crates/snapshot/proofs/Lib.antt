@@ -17,3 +17,4 @@ pub mod WriteLaws
 pub mod LineBytes
 pub mod SaveLaws
 pub mod JudgeLaws
+pub mod JudgeLines

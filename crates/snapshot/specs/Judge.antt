@@ -7,7 +7,7 @@ use mathlib.Core.Option.{Option, none, some}
 use lib.ListN.{length, take, drop}
 use lib.Dec.{leb, eqb}
 use lib.Ieee.{Float, Format, binary32, binary64}
-use Rattle.snapshot.specs.Read.{asWhole, asFloat}
+use Rattle.snapshot.specs.Read.{asWhole, asFloat, Read, bad}
 use Rattle.snapshot.specs.Scan.{fieldOf}
 use Rattle.snapshot.specs.declared.field.Field.{Field}
 use Rattle.snapshot.specs.declared.field.Field.the-variants.{Bad}
@@ -83,3 +83,14 @@ listLine p a b c n l = closing (onto (name a b c l) (fields p n))
 pub record Filled {A : Type 0} (o : Option (List A × List ℕ)) (t : List ℕ) (old : List A) (r : Place) (new : List A) : Type 0 where
   pub told : held new (placed r t) ≡ o
   pub kept : length new ≡ length old
+
+-- ---- what is read of a line, where it passes the tests of its kind
+
+abbrev pub checked : {A : Type 0} → (A → Bool) → Option (A × List ℕ) → Option (A × List ℕ)
+checked q none = none
+checked q (some r) = cond (q (r .0)) (some r) none
+
+-- the reading goes on with what was read, or this line is the bad one
+abbrev pub via : {A : Type 0} → Option (A × List ℕ) → (A → List ℕ → Read) → Read
+via none g = bad 1
+via (some r) g = g (r .0) (r .1)
