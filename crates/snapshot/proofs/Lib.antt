@@ -18,3 +18,5 @@ pub mod LineBytes
 pub mod SaveLaws
 pub mod JudgeLaws
 pub mod JudgeLines
+pub mod ValueLaws
+pub mod LineTests

@@ -1,13 +1,19 @@
 -- A line as the code reads it: piece by piece from a place of the text on, and none where a piece is bad.
 use Prim.Native.Nat.{ℕ, zero, suc, _+_}
-use mathlib.Core.Bool.{Bool, true, false, _&&_, cond}
+use mathlib.Core.Bool.{Bool, true, false, not, _&&_, _||_, cond}
 use mathlib.Core.Path.{_≡_}
 use mathlib.Core.List.{List, [], _∷_, _++_}
 use mathlib.Core.Option.{Option, none, some}
-use lib.ListN.{length, take, drop}
-use lib.Dec.{leb, eqb}
+use lib.ListN.{length, take, drop, getD}
+use lib.Dec.{leb, ltb, eqb}
 use lib.Ieee.{Float, Format, binary32, binary64}
-use Rattle.snapshot.specs.Read.{asWhole, asFloat, Read, bad}
+use Rattle.common.specs.Deviation.{countLimit, outsideUnit}
+use Rattle.trcf.specs.Types.{isNone, normalizes}
+use Rattle.trcf.specs.Settings.{Settings, allOne}
+use Rattle.trcf.specs.Calls.{finite, seenLimit}
+use Rattle.trcf.specs.Preprocessor.{Reading, reading}
+use Rattle.trcf.specs.declared.types.TransformMethod.{TransformMethod}
+use Rattle.snapshot.specs.Read.{asWhole, asFloat, every, climbs, zeros, Counts, Read, bad}
 use Rattle.snapshot.specs.Scan.{fieldOf}
 use Rattle.snapshot.specs.declared.field.Field.{Field}
 use Rattle.snapshot.specs.declared.field.Field.the-variants.{Bad}
@@ -94,3 +100,58 @@ checked q (some r) = cond (q (r .0)) (some r) none
 abbrev pub via : {A : Type 0} → Option (A × List ℕ) → (A → List ℕ → Read) → Read
 via none g = bad 1
 via (some r) g = g (r .0) (r .1)
+
+-- ---- the lines
+
+-- `wgt`: "weights against NONE: line 2"
+unfoldable pub wgtTest : TransformMethod → List Float → Bool
+wgtTest m v = every (not (isNone m && not (allOne v)) ∷ [])
+
+unfoldable pub wgtBy : TransformMethod → ℕ → List ℕ → Option (List Float × List ℕ)
+wgtBy m d l = checked (wgtTest m) (listLine (asFloat binary32) 119 103 116 d l)
+
+-- `cnt`: "While waiting … internal is 0"
+abbrev pub countsOf : List ℕ → Counts
+countsOf w = record { valuesSeen = getD w 0 0; internalTimestamp = getD w 1 0; count = getD w 2 0 }
+
+abbrev pub counted : Option (List ℕ × List ℕ) → Option (Counts × List ℕ)
+counted none = none
+counted (some r) = some (countsOf (r .0), r .1)
+
+unfoldable pub cntTest : TransformMethod → ℕ → Counts → Bool
+cntTest m start c =
+    leb (c .valuesSeen) seenLimit
+    && (leb (c .internalTimestamp) seenLimit
+    && (leb (c .count) countLimit && (not (normalizes m && ltb (c .valuesSeen) start) || eqb (c .internalTimestamp) 0)))
+
+unfoldable pub cntBy : TransformMethod → ℕ → List ℕ → Option (Counts × List ℕ)
+cntBy m start l = checked (cntTest m start) (counted (listLine asWhole 99 110 116 3 l))
+
+-- `tim`: "none falling"; "With internal 0 all `tim` are 0."
+unfoldable pub timTest : ℕ → List ℕ → Bool
+timTest internal ts = climbs 0 ts && (not (eqb internal 0) || zeros ts)
+
+unfoldable pub timBy : ℕ → ℕ → List ℕ → Option (List ℕ × List ℕ)
+timBy internal k l = checked (timTest internal) (listLine asWhole 116 105 109 k l)
+
+-- `buf`: a time that does not fall, d finite numbers
+abbrev pub timed : ℕ → Option (List Float × List ℕ) → Option (Reading × List ℕ)
+timed t none = none
+timed t (some r) = some (reading (r .0) t, r .1)
+
+unfoldable pub bufTest : ℕ → Reading → Bool
+bufTest p r = leb p (r .time) && finite (r .value)
+
+unfoldable pub bufRaw : ℕ → List ℕ → Option (Reading × List ℕ)
+bufRaw d l = onto (name 98 117 102 l) (λ z. onto (one asWhole z) (λ t. closing (timed (t .0) (fields (asFloat binary32) d (t .1)))))
+
+unfoldable pub bufBy : ℕ → ℕ → List ℕ → Option (Reading × List ℕ)
+bufBy d p l = checked (bufTest p) (bufRaw d l)
+
+abbrev pub countsRead : ℕ → ℕ → ℕ → Counts
+countsRead a b c = record { valuesSeen = a; internalTimestamp = b; count = c }
+
+-- what one `buf` line leaves: its numbers in lent memory, and its time
+pub record FilledWith (o : Option (Reading × List ℕ)) (t : List ℕ) (old : List Float) (p : Place) (r : Reading) : Type 0 where
+  pub told : held r (placed p t) ≡ o
+  pub kept : length (r .value) ≡ length old

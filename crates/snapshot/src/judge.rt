@@ -22,7 +22,7 @@ pub(crate) enum Place {
 }
 
 // Behind the byte b.
-fn byte(text: &[u8], at: usize, b: u64) -> Place
+pub(crate) fn byte(text: &[u8], at: usize, b: u64) -> Place
     ensures { λ r. ⌜ placed r (now (text .entry)) ≡ byte b (drop at (now (text .entry))) ⌝ }
 {
     if at < text.len() {
@@ -34,7 +34,7 @@ fn byte(text: &[u8], at: usize, b: u64) -> Place
 }
 
 // Behind the name of a line.
-fn name(text: &[u8], at: usize, a: u64, b: u64, c: u64) -> Place
+pub(crate) fn name(text: &[u8], at: usize, a: u64, b: u64, c: u64) -> Place
     ensures { λ r. ⌜ placed r (now (text .entry)) ≡ name a b c (drop at (now (text .entry))) ⌝ }
 {
     let Place::At(p) = byte(text, at, a) else {
@@ -68,7 +68,7 @@ pub(crate) struct Next {
 }
 
 // The field behind the tab at a place, by the kind that its place calls for.
-fn next_field(text: &[u8], at: usize, kind: u64) -> Next
+pub(crate) fn next_field(text: &[u8], at: usize, kind: u64) -> Next
     ensures { λ r. ⌜ r ≡ nextOf kind at (now (text .entry)) ⌝ }
 {
     if at < text.len() {
@@ -83,7 +83,7 @@ fn next_field(text: &[u8], at: usize, kind: u64) -> Next
 }
 
 // As many f32 fields as `out` is long.
-fn singles(text: &[u8], at: usize, out: &mut [f32]) -> Place
+pub(crate) fn singles(text: &[u8], at: usize, out: &mut [f32]) -> Place
     ensures { λ r. ⌜ Filled (fields (asFloat binary32) (length (now (out .entry))) (drop at (now (text .entry)))) (now (text .entry)) (now (out .entry)) r (now (out .exit)) ⌝ }
 {
     let mut p = at;
@@ -125,7 +125,7 @@ fn doubles(text: &[u8], at: usize, out: &mut [f64]) -> Place
 }
 
 // As many whole numbers as `out` is long.
-fn wholes(text: &[u8], at: usize, out: &mut [u64]) -> Place
+pub(crate) fn wholes(text: &[u8], at: usize, out: &mut [u64]) -> Place
     ensures { λ r. ⌜ Filled (fields asWhole (length (now (out .entry))) (drop at (now (text .entry)))) (now (text .entry)) (now (out .entry)) r (now (out .exit)) ⌝ }
 {
     let mut p = at;
@@ -146,7 +146,7 @@ fn wholes(text: &[u8], at: usize, out: &mut [u64]) -> Place
 }
 
 // A line of f32 fields.
-fn singles_line(text: &[u8], at: usize, a: u64, b: u64, c: u64, out: &mut [f32]) -> Place
+pub(crate) fn singles_line(text: &[u8], at: usize, a: u64, b: u64, c: u64, out: &mut [f32]) -> Place
     ensures { λ r. ⌜ Filled (listLine (asFloat binary32) a b c (length (now (out .entry))) (drop at (now (text .entry)))) (now (text .entry)) (now (out .entry)) r (now (out .exit)) ⌝ }
 {
     let Place::At(p) = name(text, at, a, b, c) else {
@@ -159,7 +159,7 @@ fn singles_line(text: &[u8], at: usize, a: u64, b: u64, c: u64, out: &mut [f32])
 }
 
 // A line of f64 fields.
-fn doubles_line(text: &[u8], at: usize, a: u64, b: u64, c: u64, out: &mut [f64]) -> Place
+pub(crate) fn doubles_line(text: &[u8], at: usize, a: u64, b: u64, c: u64, out: &mut [f64]) -> Place
     ensures { λ r. ⌜ Filled (listLine (asFloat binary64) a b c (length (now (out .entry))) (drop at (now (text .entry)))) (now (text .entry)) (now (out .entry)) r (now (out .exit)) ⌝ }
 {
     let Place::At(p) = name(text, at, a, b, c) else {
@@ -172,7 +172,7 @@ fn doubles_line(text: &[u8], at: usize, a: u64, b: u64, c: u64, out: &mut [f64])
 }
 
 // A line of whole numbers.
-fn wholes_line(text: &[u8], at: usize, a: u64, b: u64, c: u64, out: &mut [u64]) -> Place
+pub(crate) fn wholes_line(text: &[u8], at: usize, a: u64, b: u64, c: u64, out: &mut [u64]) -> Place
     ensures { λ r. ⌜ Filled (listLine asWhole a b c (length (now (out .entry))) (drop at (now (text .entry)))) (now (text .entry)) (now (out .entry)) r (now (out .exit)) ⌝ }
 {
     let Place::At(p) = name(text, at, a, b, c) else {

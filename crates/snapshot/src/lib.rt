@@ -2,4 +2,6 @@
 pub mod field;
 pub mod save;
 mod judge;
+mod restore;
+mod values;
 mod write;
