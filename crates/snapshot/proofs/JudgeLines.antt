@@ -34,7 +34,7 @@ byte-is b (x ∷ l) z e = go (eqb x b) refl
 pub byte-back : (b : ℕ) (z : List ℕ) → byte b (b ∷ z) ≡ some z
 byte-back b z = rw (eq-eqb b b refl)
 
-onto-some : {A B : Type 0} (o : Option A) (g : A → Option B) (y : B) → onto o g ≡ some y → (a : A) × (o ≡ some a) × (g a ≡ some y)
+pub onto-some : {A B : Type 0} (o : Option A) (g : A → Option B) (y : B) → onto o g ≡ some y → (a : A) × (o ≡ some a) × (g a ≡ some y)
 onto-some none g y e = absurd (Option·none-ne-some y e)
 onto-some (some a) g y e = (a, refl, e)
 
@@ -64,7 +64,7 @@ module _ {A : Type 0} (p : List ℕ → Option A) (w : A → List ℕ) (P : A �
     pub clean : (x : A) → Clean (w x)
 
   module _ (C : Codec) where
-    one-is : (l : List ℕ) (r : A × List ℕ) → one p l ≡ some r → (l ≡ 9 ∷ (w (r .0) ++ r .1)) × P (r .0)
+    pub one-is : (l : List ℕ) (r : A × List ℕ) → one p l ≡ some r → (l ≡ 9 ∷ (w (r .0) ++ r .1)) × P (r .0)
     one-is [] r e = absurd (Option·none-ne-some r e)
     one-is (x ∷ l) r e = go (eqb x 9) refl (p (take (fieldLength l) l)) refl
       where
@@ -77,7 +77,7 @@ module _ {A : Type 0} (p : List ℕ → Option A) (w : A → List ℕ) (P : A �
             let m : l ≡ w a ++ drop (fieldLength l) l = sym (take-append-drop (fieldLength l) l) ∙ ap (λ (t : List ℕ). t ++ drop (fieldLength l) l) (sym (h .0)) in
             subst (λ (q : A × List ℕ). (x ∷ l ≡ 9 ∷ (w (q .0) ++ q .1)) × P (q .0)) k ((λ i. eqb-true x 9 u i ∷ m i), h .1)
 
-    one-back : (x : A) (y : List ℕ) → P x → Stop y → one p (9 ∷ (w x ++ y)) ≡ some (x, y)
+    pub one-back : (x : A) (y : List ℕ) → P x → Stop y → one p (9 ∷ (w x ++ y)) ≡ some (x, y)
     one-back x y h s =
         rw (field-stop (w x) y (C .clean x) s, take-at (w x) y (length (w x)) refl, drop-at (w x) y (length (w x)) refl, C .back x h)
 

@@ -20,3 +20,4 @@ pub mod JudgeLaws
 pub mod JudgeLines
 pub mod ValueLaws
 pub mod LineTests
+pub mod JudgeKinds

@@ -6,14 +6,14 @@ use mathlib.Core.List.{List, [], _∷_, _++_}
 use mathlib.Core.Option.{Option, none, some}
 use lib.ListN.{length, take, drop, getD}
 use lib.Dec.{leb, ltb, eqb}
-use lib.Ieee.{Float, Format, binary32, binary64}
+use lib.Ieee.{Float, nan, Format, binary32, binary64}
 use Rattle.common.specs.Deviation.{countLimit, outsideUnit}
 use Rattle.trcf.specs.Types.{isNone, normalizes}
 use Rattle.trcf.specs.Settings.{Settings, allOne}
 use Rattle.trcf.specs.Calls.{finite, seenLimit}
 use Rattle.trcf.specs.Preprocessor.{Reading, reading}
 use Rattle.trcf.specs.declared.types.TransformMethod.{TransformMethod}
-use Rattle.snapshot.specs.Read.{asWhole, asFloat, every, climbs, zeros, Counts, Read, bad}
+use Rattle.snapshot.specs.Read.{asWhole, asFloat, every, climbs, zeros, Counts, Three, Read, bad}
 use Rattle.snapshot.specs.Scan.{fieldOf}
 use Rattle.snapshot.specs.declared.field.Field.{Field}
 use Rattle.snapshot.specs.declared.field.Field.the-variants.{Bad}
@@ -155,3 +155,14 @@ countsRead a b c = record { valuesSeen = a; internalTimestamp = b; count = c }
 pub record FilledWith (o : Option (Reading × List ℕ)) (t : List ℕ) (old : List Float) (p : Place) (r : Reading) : Type 0 where
   pub told : held r (placed p t) ≡ o
   pub kept : length (r .value) ≡ length old
+
+-- `dev`
+abbrev pub threeOf : List Float → Three
+threeOf v = record { weight = getD v 0 nan; sum = getD v 1 nan; squares = getD v 2 nan }
+
+abbrev pub threed : Option (List Float × List ℕ) → Option (Three × List ℕ)
+threed none = none
+threed (some r) = some (threeOf (r .0), r .1)
+
+unfoldable pub devBy : List ℕ → Option (Three × List ℕ)
+devBy l = threed (listLine (asFloat binary64) 100 101 118 3 l)
