@@ -21,3 +21,4 @@ pub mod JudgeLines
 pub mod ValueLaws
 pub mod LineTests
 pub mod JudgeKinds
+pub mod SettingsLaws

@@ -13,6 +13,14 @@ use Rattle.trcf.specs.Settings.{Settings, allOne}
 use Rattle.trcf.specs.Calls.{finite, seenLimit}
 use Rattle.trcf.specs.Preprocessor.{Reading, reading}
 use Rattle.trcf.specs.declared.types.TransformMethod.{TransformMethod}
+use Rattle.trcf.specs.declared.types.TransformMethod.the-variants.{NONE, WEIGHTED, DIFFERENCE, «SUBTRACT_MA», NORMALIZE, «NORMALIZE_DIFFERENCE»}
+use Rattle.trcf.specs.declared.types.ForestMode.{ForestMode}
+use Rattle.trcf.specs.declared.types.ForestMode.the-variants.{STANDARD, «TIME_AUGMENTED»}
+use Rattle.snapshot.specs.declared.settings.Mode.{Mode}
+use Rattle.snapshot.specs.declared.settings.Mode.the-variants.{OfMode, NoMode}
+use Rattle.snapshot.specs.declared.settings.Method.{Method}
+use Rattle.snapshot.specs.declared.settings.Method.the-variants.{OfMethod, NoMethod}
+use Rattle.snapshot.specs.declared.settings.Set.{Set}
 use Rattle.snapshot.specs.Read.{asWhole, asFloat, every, climbs, zeros, Counts, Three, Read, bad}
 use Rattle.snapshot.specs.Scan.{fieldOf}
 use Rattle.snapshot.specs.declared.field.Field.{Field}
@@ -166,3 +174,71 @@ threed (some r) = some (threeOf (r .0), r .1)
 
 unfoldable pub devBy : List ℕ → Option (Three × List ℕ)
 devBy l = threed (listLine (asFloat binary64) 100 101 118 3 l)
+
+-- `set`: the letter of the mode, five whole numbers, decay and weight_time
+abbrev pub modeIn : List ℕ → Option ForestMode
+modeIn [] = none
+modeIn (x ∷ l) = cond (eqb x 83) (some STANDARD) (cond (eqb x 84) (some «TIME_AUGMENTED») none)
+
+abbrev pub modeTold : Mode → Option ForestMode
+modeTold (OfMode m) = some m
+modeTold NoMode = none
+
+abbrev pub methodIn : ℕ → Option TransformMethod
+methodIn zero = some NONE
+methodIn (suc zero) = some WEIGHTED
+methodIn (suc (suc zero)) = some DIFFERENCE
+methodIn (suc (suc (suc zero))) = some «SUBTRACT_MA»
+methodIn (suc (suc (suc (suc zero)))) = some NORMALIZE
+methodIn (suc (suc (suc (suc (suc zero))))) = some «NORMALIZE_DIFFERENCE»
+methodIn (suc (suc (suc (suc (suc (suc n)))))) = none
+
+abbrev pub methodTold : Method → Option TransformMethod
+methodTold (OfMethod m) = some m
+methodTold NoMethod = none
+
+-- rows 2, 3, 4, 6, 7 and 8
+unfoldable pub setTest : ℕ → ℕ → ℕ → ℕ → Float → Bool
+setTest d k start stop decay =
+    not (eqb d 0)
+    && (not (eqb k 0) && (not (ltb 16 d || ltb 64 k) && (not (outsideUnit decay) && (not (ltb stop start) && not (leb 2000 start)))))
+
+unfoldable pub tailBy : List ℕ → Option ((Float × Float) × List ℕ)
+tailBy l = onto (one (asFloat binary64) l) (λ y. onto (one (asFloat binary32) (y .1)) (λ x. held (y .0, x .0) (byte 10 (x .1))))
+
+abbrev pub settingsWith : ForestMode → TransformMethod → List ℕ → Float → Float → Settings
+settingsWith m t w y x =
+    record {
+      mode = m;
+      method = t;
+      d = getD w 1 0;
+      k = getD w 2 0;
+      start = getD w 3 0;
+      stop = getD w 4 0;
+      decay = y;
+      weightTime = x;
+      weights = [];
+    }
+
+abbrev pub settled : ForestMode → TransformMethod → List ℕ → Option ((Float × Float) × List ℕ) → Option (Settings × List ℕ)
+settled m t w none = none
+settled m t w (some r) = cond (setTest (getD w 1 0) (getD w 2 0) (getD w 3 0) (getD w 4 0) (r .0 .0)) (some (settingsWith m t w (r .0 .0) (r .0 .1), r .1)) none
+
+unfoldable pub setBy : List ℕ → Option (Settings × List ℕ)
+setBy l =
+    onto (onto (name 115 101 116 l) (byte 9))
+    (λ z. onto (modeIn z) (λ m. onto (fields asWhole 5 (drop 1 z)) (λ w. onto (methodIn (getD (w .0) 0 0)) (λ t. settled m t (w .0) (tailBy (w .1))))))
+
+abbrev pub settingsTold : Set → Settings
+settingsTold r =
+    record {
+      mode = r .mode;
+      method = r .method;
+      d = r .d;
+      k = r .k;
+      start = r .start;
+      stop = r .stop;
+      decay = r .decay;
+      weightTime = r .«weight_time»;
+      weights = [];
+    }

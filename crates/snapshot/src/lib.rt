@@ -3,5 +3,6 @@ pub mod field;
 pub mod save;
 mod judge;
 mod restore;
+mod settings;
 mod values;
 mod write;
