@@ -22,3 +22,4 @@ pub mod ValueLaws
 pub mod LineTests
 pub mod JudgeKinds
 pub mod SettingsLaws
+pub mod JudgeSettings

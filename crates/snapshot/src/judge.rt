@@ -76,10 +76,16 @@ pub(crate) fn next_field(text: &[u8], at: usize, kind: u64) -> Next
             let from = at + 1;
             let end = field_end(text, from);
             let field = parse(text, from, end, kind);
-            return Next { field: field, end: end };
+            return Next {
+                field: field,
+                end: end,
+            };
         }
     }
-    Next { field: Field::Bad, end: at }
+    Next {
+        field: Field::Bad,
+        end: at,
+    }
 }
 
 // As many f32 fields as `out` is long.

@@ -93,15 +93,27 @@ fn set_tail(text: &[u8], at: usize) -> Tail
     let first = next_field(text, at, 1);
     let f = first.field;
     let Field::Double(decay) = f else {
-        return Tail { place: Place::Nowhere, decay: 0.0, weight_time: 0.0 };
+        return Tail {
+            place: Place::Nowhere,
+            decay: 0.0,
+            weight_time: 0.0,
+        };
     };
     let end = first.end;
     let second = next_field(text, end, 0);
     let g = second.field;
     let Field::Single(weight_time) = g else {
-        return Tail { place: Place::Nowhere, decay: decay, weight_time: 0.0 };
+        return Tail {
+            place: Place::Nowhere,
+            decay: decay,
+            weight_time: 0.0,
+        };
     };
-    Tail { place: byte(text, second.end, 10), decay: decay, weight_time: weight_time }
+    Tail {
+        place: byte(text, second.end, 10),
+        decay: decay,
+        weight_time: weight_time,
+    }
 }
 
 // The settings but for the weights, and the place behind their line.
@@ -161,5 +173,15 @@ pub(crate) fn set_line(text: &[u8]) -> Set
         return no_set();
     }
     let place = tail.place;
-    Set { place: place, mode: mode, method: method, d: n[1], k: n[2], start: n[3], stop: n[4], decay: tail.decay, weight_time: tail.weight_time }
+    Set {
+        place: place,
+        mode: mode,
+        method: method,
+        d: n[1],
+        k: n[2],
+        start: n[3],
+        stop: n[4],
+        decay: tail.decay,
+        weight_time: tail.weight_time,
+    }
 }
