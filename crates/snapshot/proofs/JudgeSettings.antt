@@ -9,7 +9,7 @@ use lib.ListN.{length, drop, replicate, getD, length-replicate}
 use lib.Dec.{T, eqb, leb, ltb}
 use lib.Ieee.{Float, Format, binary32, binary64, fits}
 use lib.Ieee.Bits.{is-true}
-use borrow.Author.Tests.{eqb-true, eq-eqb, leb-true, le-leb}
+use borrow.Author.Tests.{eqb-true, eq-eqb, leb-true, le-leb, ltb-false}
 use Rattle.common.specs.Deviation.{outsideUnit}
 use Rattle.trcf.specs.Types.{isNone, methodNumber, modeLetter}
 use Rattle.trcf.specs.Transformer.{one32}
@@ -129,3 +129,138 @@ writes-of s e h =
     let v = replicate (s .d) one32 in
     let g = valid-of s v h (eq-eqb _ _ (length-replicate (s .d) one32), (to-fits binary32 v (ones-fit (s .d)), (ones-pass (isNone (s .method)) (s .d), tt))) in
     subst (Writes setKind) (ap (withWeights s) (sym e)) (set-writes (withWeights s v) g)
+
+last-small : (w : List ℕ) → length w ≡ 5 → All small w → getD w 4 0 ≤ wholeMax
+last-small [] e h = absurd (omega arith)
+last-small (a ∷ []) e h = absurd (omega arith)
+last-small (a ∷ b ∷ []) e h = absurd (omega arith)
+last-small (a ∷ b ∷ c ∷ []) e h = absurd (omega arith)
+last-small (a ∷ b ∷ c ∷ d ∷ []) e h = absurd (omega arith)
+last-small (a ∷ b ∷ c ∷ d ∷ f ∷ []) e h = h .1 .1 .1 .1 .0
+last-small (a ∷ b ∷ c ∷ d ∷ f ∷ g ∷ w) e h = absurd (omega arith)
+
+holds-of : (s : Settings) → imputes (s .mode) ≡ false → setTest (s .d) (s .k) (s .start) (s .stop) (s .decay) ≡ true → s .stop ≤ wholeMax → double (s .decay) → single (s .weightTime)
+    → Hold (setKind .tests s)
+unfolding setTest
+holds-of s m h a b c =
+    let h1 = and-right (not (eqb (s .d) 0)) _ h in
+    let h2 = and-right (not (eqb (s .k) 0)) _ h1 in
+    let h3 = and-right (not (ltb 16 (s .d) || ltb 64 (s .k))) _ h2 in
+    let h4 = and-right (not (outsideUnit (s .decay))) _ h3 in
+    let h5 = and-right (not (ltb (s .stop) (s .start))) _ h4 in
+    (
+      ap not m,
+      (
+        and-left (not (eqb (s .d) 0)) _ h,
+        (
+          and-left (not (eqb (s .k) 0)) _ h1,
+          (
+            and-left (not (ltb 16 (s .d) || ltb 64 (s .k))) _ h2,
+            (
+              and-left (not (outsideUnit (s .decay))) _ h3,
+              (and-left (not (ltb (s .stop) (s .start))) _ h4, (h5, (le-leb _ _ a, (is-true _ b, (is-true _ c, tt))))),
+            ),
+          ),
+        ),
+      ),
+    )
+
+test-of : (s : Settings) → Hold (setKind .tests s) → setTest (s .d) (s .k) (s .start) (s .stop) (s .decay) ≡ true
+unfolding setTest
+test-of s h = rw (h .1 .0, h .1 .1 .0, h .1 .1 .1 .0, h .1 .1 .1 .1 .0, h .1 .1 .1 .1 .1 .0, h .1 .1 .1 .1 .1 .1 .0)
+
+mode-not : (m : ForestMode) → not (imputes m) ≡ true → imputes m ≡ false
+mode-not STANDARD h = refl
+mode-not «TIME_AUGMENTED» h = refl
+mode-not «STREAMING_IMPUTE» h = sym h
+
+abbrev Read : List ℕ → Settings × List ℕ → Type 0
+Read l r = (l ≡ bytesOfLine (setLine (r .0)) ++ r .1) × Writes setKind (r .0)
+
+set-tested : (l : List ℕ) (m : ForestMode) (t : TransformMethod) (w : List ℕ) (q : (Float × Float) × List ℕ) (r : Settings × List ℕ)
+    → imputes m ≡ false → length w ≡ 5 → All small w → double (q .0 .0) → single (q .0 .1) → methodNumber t ≡ getD w 0 0
+    → l ≡ 115 ∷ 101 ∷ 116 ∷ 9 ∷ modeLetter m ∷ (tabbed (map whole w) ++ ending (q .0 .0) (q .0 .1) (q .1))
+    → settled m t w (some q) ≡ some r → Read l r
+set-tested l m t w q r i n a b c j e f = go (setTest (getD w 1 0) (getD w 2 0) (getD w 3 0) (getD w 4 0) (q .0 .0)) refl
+  where
+    s : Settings
+    s = settingsWith m t w (q .0 .0) (q .0 .1)
+
+    ws : w ≡ methodNumber t ∷ s .d ∷ s .k ∷ s .start ∷ s .stop ∷ []
+    ws = five w n ∙ ap (λ (x : ℕ). x ∷ s .d ∷ s .k ∷ s .start ∷ s .stop ∷ []) (sym j)
+
+    go : (x : Bool) → setTest (getD w 1 0) (getD w 2 0) (getD w 3 0) (getD w 4 0) (q .0 .0) ≡ x → Read l r
+    go false h = absurd (Option·none-ne-some r (rw h at f))
+    go true h =
+        subst (Read l) (Option·some-injective (s, q .1) r (rw h at f))
+        (e ∙ ap (λ (x : List ℕ). 115 ∷ 101 ∷ 116 ∷ 9 ∷ modeLetter m ∷ (tabbed (map whole x) ++ ending (q .0 .0) (q .0 .1) (q .1))) ws ∙ sym (set-split s (q .1)),
+        writes-of s refl (holds-of s i h (last-small w n a) b c))
+
+set-good : (l : List ℕ) (r : Settings × List ℕ) → setBy l ≡ some r → Read l r
+unfolding setBy
+set-good l r e =
+    let a = onto-some (onto (name 115 101 116 l) (byte 9))
+    (λ z. onto (modeIn z) (λ m. onto (fields asWhole 5 (drop 1 z)) (λ w. onto (methodIn (getD (w .0) 0 0)) (λ t. settled m t (w .0) (tailBy (w .1)))))) r e in
+    let n = onto-some (name 115 101 116 l) (byte 9) (a .0) (a .1) in
+    let b = onto-some (modeIn (a .0)) (λ m. onto (fields asWhole 5 (drop 1 (a .0))) (λ w. onto (methodIn (getD (w .0) 0 0)) (λ t. settled m t (w .0) (tailBy (w .1))))) r (a .2) in
+    let c = onto-some (fields asWhole 5 (drop 1 (a .0))) (λ w. onto (methodIn (getD (w .0) 0 0)) (λ t. settled (b .0) t (w .0) (tailBy (w .1)))) r (b .2) in
+    let d = onto-some (methodIn (getD (c .0 .0) 0 0)) (λ t. settled (b .0) t (c .0 .0) (tailBy (c .0 .1))) r (c .2) in
+    let m = mode-of (a .0) (b .0) (b .1) in
+    let f = fields-are asWhole whole small whole-codec 5 (drop 1 (a .0)) (c .0) (c .1) in
+    let z : l ≡ 115 ∷ 101 ∷ 116 ∷ 9 ∷ modeLetter (b .0) ∷ (tabbed (map whole (c .0 .0)) ++ c .0 .1) =
+    name-is 115 101 116 l (n .0) (n .1)
+    ∙ ap (λ (x : List ℕ). 115 ∷ 101 ∷ 116 ∷ x) (byte-is 9 (n .0) (a .0) (n .2) ∙ ap (λ (x : List ℕ). 9 ∷ x) (m .0 ∙ ap (λ (x : List ℕ). modeLetter (b .0) ∷ x) (f .0))) in
+    go (b .0) (d .0) (c .0) (m .1) (f .1) (f .2) (method-of _ (d .0) (d .1)) z (tailBy (c .0 .1)) refl (d .2)
+  where
+    go : (m : ForestMode) (t : TransformMethod) (w : List ℕ × List ℕ) → imputes m ≡ false → length (w .0) ≡ 5 → All small (w .0) → methodNumber t ≡ getD (w .0) 0 0
+        → l ≡ 115 ∷ 101 ∷ 116 ∷ 9 ∷ modeLetter m ∷ (tabbed (map whole (w .0)) ++ w .1)
+        → (o : Option ((Float × Float) × List ℕ)) → tailBy (w .1) ≡ o → settled m t (w .0) o ≡ some r → Read l r
+    go m t w i n a j z none u k = absurd (Option·none-ne-some r k)
+    go m t w i n a j z (some q) u k =
+        let h = tail-is (w .1) q u in
+        set-tested l m t (w .0) q r i n a (h .1) (h .2) j (z ∙ ap (λ (x : List ℕ). 115 ∷ 101 ∷ 116 ∷ 9 ∷ modeLetter m ∷ (tabbed (map whole (w .0)) ++ x)) (h .0)) k
+
+not-of : (b : Bool) → not b ≡ true → b ≡ false
+not-of true h = sym h
+not-of false h = refl
+
+or-of : (a b : Bool) → a || b ≡ false → (a ≡ false) × (b ≡ false)
+or-of true b h = absurd (false≢true (sym h))
+or-of false b h = (refl, h)
+
+number-small : (t : TransformMethod) → methodNumber t ≤ wholeMax
+number-small NONE = omega arith
+number-small WEIGHTED = omega arith
+number-small DIFFERENCE = omega arith
+number-small «SUBTRACT_MA» = omega arith
+number-small NORMALIZE = omega arith
+number-small «NORMALIZE_DIFFERENCE» = omega arith
+
+all-small : (s : Settings) → Hold (setKind .tests s) → All small (methodNumber (s .method) ∷ s .d ∷ s .k ∷ s .start ∷ s .stop ∷ [])
+all-small s h =
+    let l = or-of (ltb 16 (s .d)) (ltb 64 (s .k)) (not-of _ (h .1 .1 .1 .0)) in
+    let d : s .d ≤ 16 = ltb-false _ _ (l .0) in
+    let k : s .k ≤ 64 = ltb-false _ _ (l .1) in
+    let a : s .start ≤ s .stop = ltb-false _ _ (not-of _ (h .1 .1 .1 .1 .1 .0)) in
+    let b : s .stop ≤ wholeMax = leb-true _ _ (h .1 .1 .1 .1 .1 .1 .1 .0) in
+    (number-small (s .method), (omega (arith, d), (omega (arith, k), (omega (arith, a, b), (b, tt)))))
+
+set-back : (s : Settings) (z : List ℕ) → Hold (setKind .tests s) → setBy (bytesOfLine (setLine s) ++ z) ≡ some (withWeights s [], z)
+unfolding setBy
+set-back s z h =
+    let v = methodNumber (s .method) ∷ s .d ∷ s .k ∷ s .start ∷ s .stop ∷ [] in
+    let y = ending (s .decay) (s .weightTime) z in
+    let l = tabbed (map whole v) ++ y in
+    let e : tailBy y ≡ some ((s .decay, s .weightTime), z) = tail-back (s .decay) (s .weightTime) z (fit-of binary64 (s .decay) (h .1 .1 .1 .1 .1 .1 .1 .1 .0)) (fit-of binary32 (s .weightTime) (h .1 .1 .1 .1 .1 .1 .1 .1 .1 .0)) in
+    let t : settled (s .mode) (s .method) v (some ((s .decay, s .weightTime), z)) ≡ some (withWeights s [], z) = rw (test-of s h) in
+    ap setBy (set-split s z)
+    ∙ ap (λ (o : Option ForestMode). onto o (λ m. onto (fields asWhole 5 l) (λ w. onto (methodIn (getD (w .0) 0 0)) (λ t. settled m t (w .0) (tailBy (w .1))))))
+    (mode-back (s .mode) l (mode-not (s .mode) (h .0)))
+    ∙ ap (λ (o : Option (List ℕ × List ℕ)). onto o (λ w. onto (methodIn (getD (w .0) 0 0)) (λ t. settled (s .mode) t (w .0) (tailBy (w .1)))))
+    (fields-back asWhole whole small whole-codec v y (all-small s h) refl)
+    ∙ ap (λ (o : Option TransformMethod). onto o (λ t. settled (s .mode) t v (tailBy y))) (method-back (s .method))
+    ∙ ap (settled (s .mode) (s .method) v) e
+    ∙ t
+
+pub set-reads : Reads setKind setBy
+set-reads = record { good = set-good; back = λ s z h. (withWeights s [], set-back s z h) }
