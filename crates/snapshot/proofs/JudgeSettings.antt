@@ -106,8 +106,10 @@ tail-is l r e =
 tail-back : (y u : Float) (z : List ℕ) → double y → single u → tailBy (ending y u z) ≡ some ((y, u), z)
 unfolding tailBy
 tail-back y u z f g =
-    rw (one-back (asFloat binary64) (float binary64) double (float-codec binary64) y (9 ∷ (float binary32 u ++ (10 ∷ z))) f refl,
-      one-back (asFloat binary32) (float binary32) single (float-codec binary32) u (10 ∷ z) g refl)
+    rw (
+      one-back (asFloat binary64) (float binary64) double (float-codec binary64) y (9 ∷ (float binary32 u ++ (10 ∷ z))) f refl,
+      one-back (asFloat binary32) (float binary32) single (float-codec binary32) u (10 ∷ z) g refl,
+    )
 
 -- ---- the line
 
@@ -147,8 +149,7 @@ holds-of s m h a b c =
     let h2 = and-right (not (eqb (s .k) 0)) _ h1 in
     let h3 = and-right (not (ltb 16 (s .d) || ltb 64 (s .k))) _ h2 in
     let h4 = and-right (not (outsideUnit (s .decay))) _ h3 in
-    let h5 = and-right (not (ltb (s .stop) (s .start))) _ h4 in
-    (
+    let h5 = and-right (not (ltb (s .stop) (s .start))) _ h4 in (
       ap not m,
       (
         and-left (not (eqb (s .d) 0)) _ h,
@@ -192,9 +193,10 @@ set-tested l m t w q r i n a b c j e f = go (setTest (getD w 1 0) (getD w 2 0) (
     go : (x : Bool) → setTest (getD w 1 0) (getD w 2 0) (getD w 3 0) (getD w 4 0) (q .0 .0) ≡ x → Read l r
     go false h = absurd (Option·none-ne-some r (rw h at f))
     go true h =
-        subst (Read l) (Option·some-injective (s, q .1) r (rw h at f))
-        (e ∙ ap (λ (x : List ℕ). 115 ∷ 101 ∷ 116 ∷ 9 ∷ modeLetter m ∷ (tabbed (map whole x) ++ ending (q .0 .0) (q .0 .1) (q .1))) ws ∙ sym (set-split s (q .1)),
-        writes-of s refl (holds-of s i h (last-small w n a) b c))
+        subst (Read l) (Option·some-injective (s, q .1) r (rw h at f)) (
+          e ∙ ap (λ (x : List ℕ). 115 ∷ 101 ∷ 116 ∷ 9 ∷ modeLetter m ∷ (tabbed (map whole x) ++ ending (q .0 .0) (q .0 .1) (q .1))) ws ∙ sym (set-split s (q .1)),
+          writes-of s refl (holds-of s i h (last-small w n a) b c),
+        )
 
 set-good : (l : List ℕ) (r : Settings × List ℕ) → setBy l ≡ some r → Read l r
 unfolding setBy

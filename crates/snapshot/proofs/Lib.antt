@@ -23,3 +23,4 @@ pub mod LineTests
 pub mod JudgeKinds
 pub mod SettingsLaws
 pub mod JudgeSettings
+pub mod JudgeSteps
