@@ -353,11 +353,11 @@ unfolding allOne eq ofBits ofFields odd
 ones-one zero = refl
 ones-one (suc n) = ones-one n
 
-ones-pass : (b : Bool) (n : ℕ) → not (b && not (allOne (replicate n one32))) ≡ true
+pub ones-pass : (b : Bool) (n : ℕ) → not (b && not (allOne (replicate n one32))) ≡ true
 ones-pass true n = rw (ones-one n) refl
 ones-pass false n = refl
 
-ones-fit : (n : ℕ) → Fits binary32 (replicate n one32)
+pub ones-fit : (n : ℕ) → Fits binary32 (replicate n one32)
 unfolding fits ofBits ofFields odd
 ones-fit n = all-replicate _ n one32 tt
 

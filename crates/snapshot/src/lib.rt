@@ -1,4 +1,8 @@
 // The snapshot (document 01: trace text): its fields, and what writes it. Its definitions are in specs/, and what holds of them in proofs/.
 pub mod field;
+mod judge;
+mod restore;
 pub mod save;
+mod settings;
+mod values;
 mod write;
