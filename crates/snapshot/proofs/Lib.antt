@@ -15,3 +15,5 @@ pub mod ByField
 pub mod LineLaws
 pub mod WriteLaws
 pub mod LineBytes
+pub mod SaveLaws
+pub mod SaveRead

@@ -5,3 +5,4 @@ pub mod Scan
 pub mod Parts
 pub mod LineLength
 pub mod Write
+pub mod Save

@@ -36,8 +36,9 @@ fn write_hex(out: &mut [u8], at: usize, w: usize, n: u64) -> usize
 }
 
 // How many decimal digits n has.
-fn whole_length(n: u64) -> usize
+pub(crate) fn whole_length(n: u64) -> usize
     ensures { λ r. ⌜ r ≡ length (whole n) ⌝ }
+    ensures { λ r. ⌜ r ≤ 20 ⌝ }
 {
     let mut l: usize = 1;
     let mut m = n;
@@ -157,7 +158,7 @@ fn tab_wholes(out: &mut [u8], at: usize, v: &[u64]) -> usize
 }
 
 // A line of f32: `wgt`, `inp`, `pnt`.
-fn singles_line(out: &mut [u8], at: usize, a: u8, b: u8, c: u8, v: &[f32]) -> usize
+pub(crate) fn singles_line(out: &mut [u8], at: usize, a: u8, b: u8, c: u8, v: &[f32]) -> usize
     requires { ⌜ at + length (bytesOfLine (singles (a ∷ b ∷ c ∷ []) (now v))) ≤ length (now out) ⌝ }
     ensures { λ r. ⌜ Wrote at (bytesOfLine (singles (a ∷ b ∷ c ∷ []) (now (v .entry)))) (now (out .entry)) r (now (out .exit)) ⌝ }
 {
@@ -167,7 +168,7 @@ fn singles_line(out: &mut [u8], at: usize, a: u8, b: u8, c: u8, v: &[f32]) -> us
 }
 
 // The line of the last times.
-fn tim_line(out: &mut [u8], at: usize, v: &[u64]) -> usize
+pub(crate) fn tim_line(out: &mut [u8], at: usize, v: &[u64]) -> usize
     requires { ⌜ at + length (bytesOfLine (timLine (now v))) ≤ length (now out) ⌝ }
     ensures { λ r. ⌜ Wrote at (bytesOfLine (timLine (now (v .entry)))) (now (out .entry)) r (now (out .exit)) ⌝ }
 {
@@ -177,7 +178,7 @@ fn tim_line(out: &mut [u8], at: usize, v: &[u64]) -> usize
 }
 
 // The line of the counters.
-fn cnt_line(out: &mut [u8], at: usize, seen: u64, internal: u64, count: u64) -> usize
+pub(crate) fn cnt_line(out: &mut [u8], at: usize, seen: u64, internal: u64, count: u64) -> usize
     requires { ⌜ at + length (bytesOfLine (cntLine seen internal count)) ≤ length (now out) ⌝ }
     ensures { λ r. ⌜ Wrote at (bytesOfLine (cntLine seen internal count)) (now (out .entry)) r (now (out .exit)) ⌝ }
 {
@@ -212,7 +213,18 @@ fn buf_line(out: &mut [u8], at: usize, time: u64, v: &[f32]) -> usize
 }
 
 // The line of the settings, from the letter of the mode and the number of the method.
-fn set_line(out: &mut [u8], at: usize, letter: u8, method: u64, d: u64, k: u64, start: u64, stop: u64, decay: f64, weight_time: f32) -> usize
+pub(crate) fn set_line(
+    out: &mut [u8],
+    at: usize,
+    letter: u8,
+    method: u64,
+    d: u64,
+    k: u64,
+    start: u64,
+    stop: u64,
+    decay: f64,
+    weight_time: f32,
+) -> usize
     requires { ⌜ at + length (setBytes letter method d k start stop decay «weight_time») ≤ length (now out) ⌝ }
     ensures { λ r. ⌜ Wrote at (setBytes letter method d k start stop decay «weight_time») (now (out .entry)) r (now (out .exit)) ⌝ }
 {
@@ -227,7 +239,7 @@ fn set_line(out: &mut [u8], at: usize, letter: u8, method: u64, d: u64, k: u64, 
 }
 
 // The lines of the statistics, three numbers each.
-fn dev_lines(out: &mut [u8], at: usize, v: &[f64]) -> usize
+pub(crate) fn dev_lines(out: &mut [u8], at: usize, v: &[f64]) -> usize
     requires { ⌜ at + length (bytesOf (devLines (now v))) ≤ length (now out) ⌝ }
     ensures { λ r. ⌜ Wrote at (bytesOf (devLines (now (v .entry)))) (now (out .entry)) r (now (out .exit)) ⌝ }
 {
@@ -241,7 +253,7 @@ fn dev_lines(out: &mut [u8], at: usize, v: &[f64]) -> usize
 }
 
 // The lines of the initial values, d numbers each.
-fn buf_lines(out: &mut [u8], at: usize, d: usize, v: &[f32], times: &[u64]) -> usize
+pub(crate) fn buf_lines(out: &mut [u8], at: usize, d: usize, v: &[f32], times: &[u64]) -> usize
     requires { ⌜ length (now times) * d ≤ length (now v) ⌝ }
     requires { ⌜ at + length (bytesOf (bufLines d (now v) (now times))) ≤ length (now out) ⌝ }
     ensures { λ r. ⌜ Wrote at (bytesOf (bufLines d (now (v .entry)) (now (times .entry)))) (now (out .entry)) r (now (out .exit)) ⌝ }

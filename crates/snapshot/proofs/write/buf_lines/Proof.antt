@@ -31,7 +31,7 @@ shared-slice-read-buf-line : tie.Need-shared-slice-read-buf-line Inv-loop μ-loo
 shared-slice-read-buf-line c = search needs
 
 add-buf-line : tie.Need-add-buf-line Inv-loop μ-loop
-add-buf-line c = 
+add-buf-line c =
     let L = c .before .before .before .loop in
     let a = c .before .before .before .before .before .before .before .args in
     let h : L .i < length (a .times .now) = c .before .before .loop-test .taken in
@@ -47,14 +47,14 @@ part-buf-line-start : tie.Need-part-buf-line-start Inv-loop μ-loop
 part-buf-line-start c = search needs
 
 part-buf-line-end : tie.Need-part-buf-line-end Inv-loop μ-loop
-part-buf-line-end c = 
+part-buf-line-end c =
     let L = c .before .before .before .loop in
     let a = c .before .before .before .before .before .before .before .args in
     let h : L .i < length (a .times .now) = c .before .before .loop-test .taken in
     omega (arith, next-room (a .d) (L .k) (L .i) (length (a .v .now)) (a .times .now) h (L .inv .1))
 
 buf-line-requires : tie.Need-buf-line-requires Inv-loop μ-loop
-buf-line-requires c κs = 
+buf-line-requires c κs =
     let L = c .before .before .before .before .loop in
     let a = c .before .before .before .before .before .before .before .before .args in
     let h : L .i < length (a .times .now) = c .before .before .before .loop-test .taken in
@@ -67,7 +67,7 @@ add-i : tie.Need-add-i Inv-loop μ-loop
 add-i c = search needs
 
 add-k : tie.Need-add-k Inv-loop μ-loop
-add-k c = 
+add-k c =
     let L = c .before .before .before .before .before .before .before .loop in
     let a = c .before .before .before .before .before .before .before .before .before .before .before .args in
     let h : L .i < length (a .times .now) = c .before .before .before .before .before .before .loop-test .taken in
@@ -77,24 +77,23 @@ loop-less : tie.Need-loop-less Inv-loop μ-loop
 loop-less c = search needs
 
 loop-again : tie.Need-loop-again Inv-loop μ-loop
-loop-again c = 
+loop-again c =
     let L = c .before .before .before .before .before .before .before .loop in
     let a = c .before .before .before .before .before .before .before .before .before .before .before .args in
     let h : L .i < length (a .times .now) = c .before .before .before .before .before .before .loop-test .taken in
-    let e : L .k + a .d - L .k ≡ a .d = omega arith in
-    (
+    let e : L .k + a .d - L .k ≡ a .d = omega arith in (
       omega arith,
       next-room (a .d) (L .k) (L .i) (length (a .v .now)) (a .times .now) h (L .inv .1),
       left-step (bytesOfLine (bufLine (getD (a .times .now) (L .i) 0) (take (L .k + a .d - L .k) (drop (L .k) (a .v .now)))))
-      (bytesOf (bufLines (a .d) (drop (L .k + a .d) (a .v .now)) (drop (L .i + 1) (a .times .now)))) (L .inv .2)
-      (rw e (ap bytesOf (bufs-step (a .d) (L .k) (L .i) (a .v .now) (a .times .now) h))) (c .before .before .buf-line .ensures),
+          (bytesOf (bufLines (a .d) (drop (L .k + a .d) (a .v .now)) (drop (L .i + 1) (a .times .now)))) (L .inv .2)
+          (rw e (ap bytesOf (bufs-step (a .d) (L .k) (L .i) (a .v .now) (a .times .now) h))) (c .before .before .buf-line .ensures),
     )
 
 same-length : tie.Need-same-length Inv-loop μ-loop
 same-length c = search needs
 
 returns : tie.Need-returns Inv-loop μ-loop
-returns c = 
+returns c =
     let L = c .before .loop in
     let a = c .before .before .before .before .before .args in
     left-done (L .inv .2) (ap (λ (l : List ℕ). bytesOf (bufLines (a .d) (drop (L .k) (a .v .now)) l)) (drop-of-length-le (a .times .now) (c .loop-test .left)))

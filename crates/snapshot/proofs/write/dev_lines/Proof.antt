@@ -50,7 +50,7 @@ shared-slice-read-dev-line-3 : tie.Need-shared-slice-read-dev-line-3 Inv-loop μ
 shared-slice-read-dev-line-3 c = search needs
 
 dev-line-requires : tie.Need-dev-line-requires Inv-loop μ-loop
-dev-line-requires c κs = 
+dev-line-requires c κs =
     let L = c .before .before .before .before .before .loop in
     let v = c .before .before .before .before .before .before .before .before .args .v .now in
     let h : L .i + 2 < length v = c .before .before .before .before .loop-test .taken in
@@ -64,7 +64,7 @@ loop-less : tie.Need-loop-less Inv-loop μ-loop
 loop-less c = search needs
 
 loop-again : tie.Need-loop-again Inv-loop μ-loop
-loop-again c = 
+loop-again c =
     let L = c .before .before .before .before .before .before .before .before .loop in
     let v = c .before .before .before .before .before .before .before .before .before .before .before .args .v .now in
     let h : L .i + 2 < length v = c .before .before .before .before .before .before .before .loop-test .taken in
@@ -74,7 +74,7 @@ same-length : tie.Need-same-length Inv-loop μ-loop
 same-length c = search needs
 
 returns : tie.Need-returns Inv-loop μ-loop
-returns c = 
+returns c =
     let L = c .before .loop in
     let v = c .before .before .before .before .args .v .now in
     left-done (L .inv .1) (ap bytesOf (devs-end (drop (L .i) v) (simp length-drop (omega arith))))

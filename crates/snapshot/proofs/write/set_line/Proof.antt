@@ -22,22 +22,22 @@ slice-aggregate-tab-wholes : tie.Need-slice-aggregate-tab-wholes
 slice-aggregate-tab-wholes c = search needs
 
 tab-wholes-requires : tie.Need-tab-wholes-requires
-tab-wholes-requires c κs = 
+tab-wholes-requires c κs =
     let a = c .before .before .before .before .before .before .before .before .before .before .before .before .before .before .before .args in
     omega (arith, set-size (a .letter) (a .method) (a .d) (a .k) (a .start) (a .stop) (a .decay) (a .weight-time), five-size (a .method) (a .d) (a .k) (a .start) (a .stop), float-length binary64 (a .decay), float-length binary32 (a .weight-time))
 
 tab-double-requires : tie.Need-tab-double-requires
-tab-double-requires c κs = 
+tab-double-requires c κs =
     let a = c .before .before .before .before .before .before .before .before .before .before .before .before .before .before .before .before .before .before .before .args in
     omega (arith, set-size (a .letter) (a .method) (a .d) (a .k) (a .start) (a .stop) (a .decay) (a .weight-time), five-size (a .method) (a .d) (a .k) (a .start) (a .stop), float-length binary64 (a .decay), float-length binary32 (a .weight-time))
 
 tab-single-requires : tie.Need-tab-single-requires
-tab-single-requires c κs = 
+tab-single-requires c κs =
     let a = c .before .before .before .before .before .before .before .before .before .before .before .before .before .before .before .before .before .before .before .before .before .before .before .args in
     omega (arith, set-size (a .letter) (a .method) (a .d) (a .k) (a .start) (a .stop) (a .decay) (a .weight-time), five-size (a .method) (a .d) (a .k) (a .start) (a .stop), float-length binary64 (a .decay), float-length binary32 (a .weight-time))
 
 write-byte-requires-3 : tie.Need-write-byte-requires-3
-write-byte-requires-3 c κs = 
+write-byte-requires-3 c κs =
     let a = c .before .before .before .before .before .before .before .before .before .before .before .before .before .before .before .before .before .before .before .before .before .before .before .before .before .before .before .args in
     omega (arith, set-size (a .letter) (a .method) (a .d) (a .k) (a .start) (a .stop) (a .decay) (a .weight-time), five-size (a .method) (a .d) (a .k) (a .start) (a .stop), float-length binary64 (a .decay), float-length binary32 (a .weight-time))
 
@@ -45,7 +45,7 @@ same-length : tie.Need-same-length
 same-length c = search needs
 
 returns : tie.Need-returns
-returns c = 
+returns c =
     let a = c .before .before .before .before .before .before .before .before .before .before .before .before .before .before .before .before .before .before .before .before .before .before .before .before .before .before .before .before .before .before .args in
     wrote-is (set-bytes (a .letter) (a .method) (a .d) (a .k) (a .start) (a .stop) (a .decay) (a .weight-time)) (wrote-then (c .before .before .before .before .before .before .before .before .before .before .before .before .before .before .before .before .before .before .before .before .before .before .before .before .before .before .before .write-name .ensures) (wrote-then (c .before .before .before .before .before .before .before .before .before .before .before .before .before .before .before .before .before .before .before .before .before .before .before .write-byte .ensures) (wrote-then (c .before .before .before .before .before .before .before .before .before .before .before .before .before .before .before .before .before .before .before .write-byte2 .ensures) (wrote-then (c .before .before .before .before .before .before .before .before .before .before .before .before .before .before .tab-wholes .ensures) (wrote-then (c .before .before .before .before .before .before .before .before .before .before .tab-double .ensures) (wrote-then (c .before .before .before .before .before .before .tab-single .ensures) (c .before .before .write-byte3 .ensures)))))))
 

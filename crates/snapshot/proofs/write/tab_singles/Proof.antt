@@ -30,7 +30,7 @@ shared-slice-read-tab-single : tie.Need-shared-slice-read-tab-single Inv-loop μ
 shared-slice-read-tab-single c = search needs
 
 tab-single-requires : tie.Need-tab-single-requires Inv-loop μ-loop
-tab-single-requires c κs = 
+tab-single-requires c κs =
     let L = c .before .before .before .loop in
     let v = c .before .before .before .before .before .before .args .v .now in
     omega (arith, ap (λ (l : List Float). length (tabbed (map (float binary32) l))) (drop-cons v (L .i) nan (omega arith)), length-append (float binary32 (getD v (L .i) nan)) (tabbed (map (float binary32) (drop (suc (L .i)) v))), float-length binary32 (getD v (L .i) nan))
@@ -42,7 +42,7 @@ loop-less : tie.Need-loop-less Inv-loop μ-loop
 loop-less c = search needs
 
 loop-again : tie.Need-loop-again Inv-loop μ-loop
-loop-again c = 
+loop-again c =
     let L = c .before .before .before .before .before .before .loop in
     let v = c .before .before .before .before .before .before .before .before .before .args .v .now in
     let e : drop (L .i) v ≡ getD v (L .i) nan ∷ drop (L .i + 1) v = drop-cons v (L .i) nan (omega arith) ∙ ap (λ (k : ℕ). getD v (L .i) nan ∷ drop k v) (sym (add-one (L .i))) in
@@ -52,7 +52,7 @@ same-length : tie.Need-same-length Inv-loop μ-loop
 same-length c = search needs
 
 returns : tie.Need-returns Inv-loop μ-loop
-returns c = 
+returns c =
     let L = c .before .loop in
     let v = c .before .before .before .before .args .v .now in
     left-done (L .inv .1) (ap (λ (l : List Float). tabbed (map (float binary32) l)) (drop-of-length-le v (c .loop-test .left)))

@@ -29,7 +29,7 @@ shared-slice-read-tab-whole : tie.Need-shared-slice-read-tab-whole Inv-loop μ-l
 shared-slice-read-tab-whole c = search needs
 
 tab-whole-requires : tie.Need-tab-whole-requires Inv-loop μ-loop
-tab-whole-requires c κs = 
+tab-whole-requires c κs =
     let L = c .before .before .before .loop in
     let v = c .before .before .before .before .before .before .args .v .now in
     omega (arith, ap (λ (l : List ℕ). length (tabbed (map (whole) l))) (drop-cons v (L .i) 0 (omega arith)), length-append (whole (getD v (L .i) 0)) (tabbed (map (whole) (drop (suc (L .i)) v))))
@@ -41,7 +41,7 @@ loop-less : tie.Need-loop-less Inv-loop μ-loop
 loop-less c = search needs
 
 loop-again : tie.Need-loop-again Inv-loop μ-loop
-loop-again c = 
+loop-again c =
     let L = c .before .before .before .before .before .before .loop in
     let v = c .before .before .before .before .before .before .before .before .before .args .v .now in
     let e : drop (L .i) v ≡ getD v (L .i) 0 ∷ drop (L .i + 1) v = drop-cons v (L .i) 0 (omega arith) ∙ ap (λ (k : ℕ). getD v (L .i) 0 ∷ drop k v) (sym (add-one (L .i))) in
@@ -51,7 +51,7 @@ same-length : tie.Need-same-length Inv-loop μ-loop
 same-length c = search needs
 
 returns : tie.Need-returns Inv-loop μ-loop
-returns c = 
+returns c =
     let L = c .before .loop in
     let v = c .before .before .before .before .args .v .now in
     left-done (L .inv .1) (ap (λ (l : List ℕ). tabbed (map (whole) l)) (drop-of-length-le v (c .loop-test .left)))

@@ -27,7 +27,7 @@ loop-again : tie.Need-loop-again Inv-loop μ-loop
 loop-again c = omega (arith, whole-more-length (c .before .loop .m) (c .loop-test .taken))
 
 returns : tie.Need-returns Inv-loop μ-loop
-returns c = omega (arith, ap length (whole-less (c .before .loop .m) (omega (arith, c .loop-test .left))))
+returns c = omega (arith, ap length (whole-less (c .before .loop .m) (omega (arith, c .loop-test .left))), whole-short (c .before .before .args .n) (omega arith))
 
 pub whole-length-spec : {M : Type 1} → statement M
 whole-length-spec =

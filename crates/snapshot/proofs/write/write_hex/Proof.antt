@@ -38,10 +38,9 @@ loop-less : tie.Need-loop-less Inv-loop μ-loop
 loop-less c = search needs
 
 loop-again : tie.Need-loop-again Inv-loop μ-loop
-loop-again c = 
+loop-again c =
     let L = c .before .before .loop in
-    let a = c .before .before .before .before .args in
-    (
+    let a = c .before .before .before .before .args in (
       omega arith,
       L .inv .1 ∙ hex-back (L .i) (L .m) (L .out) (a .at) (omega arith)
           ∙ ap (λ (d : ℕ). stored (set (L .out) (a .at + (L .i - 1)) d) (a .at) (hex (L .i - 1) (L .m / 16))) (sym (c .hex-digit .ensures)),
@@ -55,7 +54,7 @@ same-length : tie.Need-same-length Inv-loop μ-loop
 same-length c = search needs
 
 returns : tie.Need-returns Inv-loop μ-loop
-returns c = 
+returns c =
     let L = c .before .loop in
     let a = c .before .before .before .args in
     let z : L .i ≡ 0 = omega arith in

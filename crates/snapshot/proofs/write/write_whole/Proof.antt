@@ -20,7 +20,7 @@ whole-length-requires : tie.Need-whole-length-requires Inv-loop μ-loop
 whole-length-requires c κs = search needs
 
 loop-holds : tie.Need-loop-holds Inv-loop μ-loop
-loop-holds c = (c .whole-length .ensures, omega arith, refl, refl)
+loop-holds c = (c .whole-length .ensures .0, omega arith, refl, refl)
 
 sub-i : tie.Need-sub-i Inv-loop μ-loop
 sub-i c = omega (arith, whole-pos (c .before .loop .m))
@@ -41,11 +41,10 @@ loop-less : tie.Need-loop-less Inv-loop μ-loop
 loop-less c = omega arith
 
 loop-again : tie.Need-loop-again Inv-loop μ-loop
-loop-again c = 
+loop-again c =
     let L = c .before .loop in
     let a = c .before .before .before .before .args in
-    let h : 10 ≤ L .m = c .loop-test .taken in
-    (
+    let h : 10 ≤ L .m = c .loop-test .taken in (
       omega (arith, whole-more-length (L .m) h),
       omega arith,
       L .inv .2 ∙ whole-back (L .m) (L .out) (a .at) h ∙ ap (λ (k : ℕ). stored (set (L .out) (a .at + (k - 1)) (48 + L .m % 10)) (a .at) (whole (L .m / 10))) (sym (L .inv .0)),
@@ -62,17 +61,17 @@ slice-write-out-2 : tie.Need-slice-write-out-2 Inv-loop μ-loop
 slice-write-out-2 c = omega (arith, whole-pos (c .before .loop .m))
 
 add-result : tie.Need-add-result Inv-loop μ-loop
-add-result c = omega (arith, c .before .before .whole-length .ensures)
+add-result c = omega (arith, c .before .before .whole-length .ensures .0)
 
 same-length : tie.Need-same-length Inv-loop μ-loop
 same-length c = simp length-set (omega arith)
 
 returns : tie.Need-returns Inv-loop μ-loop
-returns c = 
+returns c =
     let L = c .before .loop in
     let a = c .before .before .before .before .args in
     record {
-      place = ap (λ (k : ℕ). a .at + k) (c .before .before .whole-length .ensures);
+      place = ap (λ (k : ℕ). a .at + k) (c .before .before .whole-length .ensures .0);
       bytes = sym (L .inv .2 ∙ ap (stored (L .out) (a .at)) (whole-less (L .m) (omega (arith, c .loop-test .left))) ∙ stored-one (L .out) (a .at) (48 + L .m));
       kept = simp length-set (omega arith);
     }

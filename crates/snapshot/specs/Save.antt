@@ -1,0 +1,60 @@
+-- `save` (document 01: put away): "the bytes are the rendered text", or row 20 with nothing written.
+use Prim.Native.Nat.{ℕ, _+_, _*_, _≤_}
+use mathlib.Core.Bool.{Bool, cond, _||_}
+use mathlib.Core.List.{List, [], _∷_, _++_}
+use lib.Dec.{ltb}
+use lib.ListN.{length}
+use lib.Ieee.{Float}
+use Rattle.common.specs.Lent.{over}
+use Rattle.trcf.specs.declared.preprocessor.Preprocessor.{Preprocessor}
+use Rattle.trcf.specs.Types.{augments}
+use Rattle.trcf.specs.Settings.{Settings}
+use Rattle.trcf.specs.View.{Lent, settingsOf, view}
+use Rattle.snapshot.specs.Text.{wgt, inp, pnt, setLine, singles, cntLine, devLines, timLine, bufLines, bytesOf, render}
+use Rattle.snapshot.specs.Read.{bytesOfLine}
+
+-- a number is past document 01's limits, or a lent list is shorter than what is in use of it: d, k, the numbers of a time (0 or 1) and the initial
+-- values, then the lengths of the lent lists
+abbrev pub past : ℕ → ℕ → ℕ → ℕ → ℕ → ℕ → ℕ → ℕ → ℕ → ℕ → Bool
+past d k wide n statistics input point times values initial =
+    ltb 16 d
+    || (ltb 64 k
+    || (ltb 1999 n
+    || (ltb statistics (3 * (5 * d + 5))
+    || (ltb input (d * k)
+    || (ltb point ((d + wide) * k) || (ltb times k || (ltb values (n * d) || ltb initial n)))))))
+
+unfoldable pub unheld : Preprocessor → Lent → Bool
+unheld h l =
+    past (h .transformer .«input_length») (h .«shingle_size») (cond (augments (h .«forest_mode»)) 1 0) (h .«initial_len»)
+    (length (l .statistics)) (length (l .lastShingledInput)) (length (l .lastShingledPoint)) (length (l .previousTimestamps))
+    (length (l .initialValues)) (length (l .initialTimestamps))
+
+-- the row, the length of the text, and the lent bytes afterwards
+pub record Outcome : Type 0 where
+  pub row : ℕ
+  pub length : ℕ
+  pub bytes : List ℕ
+
+abbrev pub outcome : ℕ → ℕ → List ℕ → Outcome
+outcome row n bytes = record { row = row; length = n; bytes = bytes }
+
+-- row 20: "lent output shorter than the answer to be written"; what lies past the text keeps its contents
+unfoldable pub fitted : List ℕ → List ℕ → Outcome
+fitted t out = cond (ltb (length out) (length t)) (outcome 20 0 out) (outcome 0 (length t) (over out t))
+
+-- row 20 too where a lent part is shorter than what is in use of it
+unfoldable pub saveOf : Preprocessor → Lent → List ℕ → Outcome
+saveOf h l out = cond (unheld h l) (outcome 20 0 out) (fitted (render (view h l)) out)
+
+-- ---- the text in two parts, as it is written
+
+unfoldable pub headBytes : Settings → ℕ → ℕ → ℕ → List ℕ
+headBytes s seen internal count =
+    bytesOfLine (setLine s) ++ (bytesOfLine (singles wgt (s .weights)) ++ bytesOfLine (cntLine seen internal count))
+
+unfoldable pub listBytes : ℕ → List Float → List Float → List Float → List ℕ → List Float → List ℕ → List ℕ
+listBytes d statistics input point times values initial =
+    bytesOf (devLines statistics)
+    ++ (bytesOfLine (singles inp input)
+    ++ (bytesOfLine (singles pnt point) ++ (bytesOfLine (timLine times) ++ bytesOf (bufLines d values initial))))
