@@ -78,8 +78,8 @@ module _ {A : Type 0} where
       let le : m + length x ≤ length l = omega arith in
       paste-end (slid (length x) l m) x m (e ∙ sym (length-slid (length x) l m le))
       ∙ ap (λ (q : List A). q ++ x)
-          (take-at (take m (drop (length x) l)) (drop m l) m (length-moved (length x) l m le)
-          ∙ take-all m (drop (length x) l) (omega (arith, length-drop (length x) l)))
+      (take-at (take m (drop (length x) l)) (drop m l) m (length-moved (length x) l m le)
+      ∙ take-all m (drop (length x) l) (omega (arith, length-drop (length x) l)))
 
   -- the end, where the block is one element
   pub slid-put : (d : A) (l : List A) (t : A) (m : ℕ) → suc m ≡ length l → set (slid 1 l m) m t ≡ shiftIn l (t ∷ [])

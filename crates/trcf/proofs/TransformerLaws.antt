@@ -1,5 +1,5 @@
 -- Laws of the transform's definitions: feeding keeps lengths and gives numbers that fit; the answers have d numbers, which fit.
-use Prim.Native.Nat.{ℕ, zero, suc, _+_, _*_, _≤_}
+use Prim.Native.Nat.{ℕ, zero, suc, _+_, _*_, _≤_, _<_}
 use lib.Dec.{T}
 use mathlib.Core.Bool.{Bool, true, false, cond}
 use mathlib.Core.Path.{_≡_, refl, sym, ap, _∙_}
@@ -10,9 +10,15 @@ use lib.Ieee.{Float, nan, Format, binary32, binary64, fits, add, sub, mul, div, 
 use lib.Ieee.Fits.{add-fits, sub-fits, mul-fits, div-fits, cond-fits, nan-fits}
 use lib.Ieee.Bits.{ofBits-fits}
 use Rattle.common.specs.declared.deviation.Deviation.{Deviation}
-use Rattle.common.specs.Deviation.{stepOf}
+use Rattle.common.specs.declared.deviation.DeviationResult.{DeviationResult}
+use Rattle.common.specs.declared.deviation.DeviationResult.the-variants.{Ok}
+use Rattle.common.specs.Deviation.{countLimit, updateOf, stepOf}
+use borrow.Author.Tests.{lt-leb}
 use Rattle.trcf.specs.Fit.{All, Fits}
 use Rattle.trcf.specs.Transformer.{Transformer, putStatistic, putDeviations, fed, fedAt, channelsFed, updated, transformBy, transformed, unweighted, invertBy, inverted, weightAt, basicShift, normalizedScale, scales, shifts, differenceDeviations, zero32}
+use Rattle.trcf.specs.TransformerCalls.{view}
+use Rattle.trcf.specs.declared.transformer.WeightedTransformer.{WeightedTransformer}
+use lib.Seq.{getD-take}
 use Rattle.trcf.specs.Types.{normalizes, centres}
 use Rattle.trcf.specs.declared.types.TransformMethod.{TransformMethod}
 use Rattle.trcf.specs.declared.types.TransformMethod.the-variants.{NONE, WEIGHTED, DIFFERENCE, «SUBTRACT_MA», NORMALIZE, «NORMALIZE_DIFFERENCE»}
@@ -21,6 +27,19 @@ use Rattle.trcf.proofs.FitLaws.{all-set, all-getD, all-tabulate, tabula
 
 abbrev fit : Format → Float → Type 0
 fit f x = T (fits f x)
+
+-- below the limit no update is refused
+pub update-step : (s : Deviation) (x : Float) → s .count < countLimit → updateOf s x ≡ Ok (stepOf s x)
+unfolding updateOf
+update-step s x h = rw (lt-leb _ _ h)
+
+pub taken-step : (s : Deviation) (x : Float) (r : DeviationResult) (next : Deviation) → s .count < countLimit → r ≡ updateOf s x → r ≡ Ok next → next ≡ stepOf s x
+taken-step s x r next h p q = let k = update-step s x h in cc
+
+-- the weight that a head holds for channel i
+pub weightAt-view : (t : WeightedTransformer) (l : List Float) (i : ℕ) → i < t .«input_length» → weightAt (view t l) i ≡ getD (t .weights) i nan
+unfolding weightAt
+weightAt-view t l i h = getD-take (t .«input_length») (t .weights) i nan h
 
 -- ---- feeding keeps the length
 

@@ -21,7 +21,7 @@ use Rattle.trcf.specs.Settings.{Settings, block, dimension, waiting, All
 pub record Learn : Type 0 where
   pub input : List Float
   pub timestamp : ℕ
-  pub rcfPoint : Option (List Float) -- y
+  pub rcfPoint : Option (List Float)  -- y
   pub expectedPoint : Option (List Float)
   pub grade : Float
   pub relativeIndex : ℤ
@@ -52,8 +52,8 @@ pub record Facts : Type 0 where
   pub valuesSeen : ℕ
   pub internalTimestamp : ℕ
   pub count : ℕ
-  pub previousTimestamps : List ℕ -- the `tim` line
-  pub initialTimestamps : List ℕ -- the times of the `buf` lines
+  pub previousTimestamps : List ℕ  -- the `tim` line
+  pub initialTimestamps : List ℕ  -- the times of the `buf` lines
 
 -- row 18: "values_seen or internal 2^63 − 1"
 abbrev pub seenLimit : ℕ

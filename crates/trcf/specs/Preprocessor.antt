@@ -25,8 +25,8 @@ pub record State : Type 0 where
   pub settings : Settings
   pub valuesSeen : ℕ
   pub internalTimestamp : ℕ
-  pub count : ℕ -- readings fed to the statistics
-  pub statistics : List Float -- three numbers to each of 5d + 5
+  pub count : ℕ  -- readings fed to the statistics
+  pub statistics : List Float  -- three numbers to each of 5d + 5
   pub lastShingledInput : List Float
   pub lastShingledPoint : List Float
   pub previousTimestamps : List ℕ
@@ -332,7 +332,7 @@ anomalyOf w l = record { pastTimestamp = getD (w .previousTimestamps) (blockAt (
 -- ---- an answer: the return, and the final contents of the output lent to the call
 
 pub record Learned : Type 0 where
-  pub written : Bool -- whether `deviations_post` is given
+  pub written : Bool  -- whether `deviations_post` is given
   pub anomaly : Option Anomaly
   pub deviationsOut : List Float
   pub pastOut : List Float
@@ -352,8 +352,8 @@ pub record Status : Type 0 where
   pub deviationsOut : List Float
 
 pub data Answer : Type 0 where
-  refused : ℕ → Answer -- everything lent is as it was
-  absent : Answer -- point while waiting: none, and the output is as it was
+  refused : ℕ → Answer  -- everything lent is as it was
+  absent : Answer  -- point while waiting: none, and the output is as it was
   done : Answer
   wrote : List Float → Answer
   learnt : Learned → Answer

@@ -18,11 +18,11 @@ use Rattle.trcf.specs.declared.types.ForestMode.the-variants.{STANDARD, 
 pub record Settings : Type 0 where
   pub mode : ForestMode
   pub method : TransformMethod
-  pub d : ℕ -- input_dimensions
-  pub k : ℕ -- shingle_size
-  pub start : ℕ -- start_normalization
-  pub stop : ℕ -- stop_normalization
-  pub decay : Float -- transform_decay
+  pub d : ℕ  -- input_dimensions
+  pub k : ℕ  -- shingle_size
+  pub start : ℕ  -- start_normalization
+  pub stop : ℕ  -- stop_normalization
+  pub decay : Float  -- transform_decay
   pub weightTime : Float
   pub weights : List Float
 
@@ -56,15 +56,15 @@ allOne (x ∷ xs) = eq x one32 && allOne xs
 
 abbrev pub settingsTable : Settings → List (Bool × ℕ)
 settingsTable s =
-    (imputes (s .mode), 1) -- STREAMING_IMPUTE
-    ∷ (eqb (s .d) 0, 2) -- d = 0
-    ∷ (eqb (s .k) 0, 3) -- k = 0
-    ∷ (ltb 16 (s .d) || ltb 64 (s .k), 4) -- d or k over limit
-    ∷ (not (eqb (length (s .weights)) (s .d)), 5) -- weights not d long
-    ∷ (outsideUnit (s .decay), 6) -- decay outside 0 ≤ it < 1
-    ∷ (ltb (s .stop) (s .start), 7) -- start > stop
-    ∷ (leb 2000 (s .start), 8) -- start ≥ 2000
-    ∷ (isNone (s .method) && not (allOne (s .weights)), 9) -- NONE, a weight not 1.0
+    (imputes (s .mode), 1)  -- STREAMING_IMPUTE
+    ∷ (eqb (s .d) 0, 2)  -- d = 0
+    ∷ (eqb (s .k) 0, 3)  -- k = 0
+    ∷ (ltb 16 (s .d) || ltb 64 (s .k), 4)  -- d or k over limit
+    ∷ (not (eqb (length (s .weights)) (s .d)), 5)  -- weights not d long
+    ∷ (outsideUnit (s .decay), 6)  -- decay outside 0 ≤ it < 1
+    ∷ (ltb (s .stop) (s .start), 7)  -- start > stop
+    ∷ (leb 2000 (s .start), 8)  -- start ≥ 2000
+    ∷ (isNone (s .method) && not (allOne (s .weights)), 9)  -- NONE, a weight not 1.0
     ∷ []
 
 unfoldable pub settingsRow : Settings → ℕ

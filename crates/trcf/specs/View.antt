@@ -1,24 +1,27 @@
 -- The preprocessor as the program holds it, settings and counters by value and six lent lists, and what each call makes of both.
-use Prim.Native.Nat.{ℕ, zero, suc, _+_, _-_, _*_}
+use Prim.Native.Nat.{ℕ, zero, suc, _+_, _-_, _*_, _≤_, _<_}
 use mathlib.Core.Bool.{Bool, true, false, cond, not, _&&_, _||_}
 use mathlib.Core.List.{List, [], _∷_, _++_}
 use mathlib.Core.Option.{Option, none, some}
 use mathlib.Core.Path.{_≡_, refl}
 use lib.Dec.{ltb, leb, eqb}
 use lib.IntN.{ℤ, pos, negsuc}
-use lib.ListN.{length, take, replicate}
+use lib.ListN.{length, take, drop, getD, replicate}
 use lib.Ieee.{Float}
-use Rattle.common.specs.Deviation.{zero64}
+use Rattle.common.specs.Deviation.{zero64, countLimit}
+use Rattle.trcf.specs.Lists.{null}
 use Rattle.common.specs.Refusal.{firstOf}
 use Rattle.common.specs.Lent.{over}
 use Rattle.trcf.specs.Transformer.{zero32}
 use Rattle.trcf.specs.Settings.{Settings, settingsRow, dimension, waiting}
-use Rattle.trcf.specs.Calls.{Learn, Call, shingledPoint, postProcess, drain, transform, invertExtrapolation, scale, shift, status, Forecast, rows}
-use Rattle.trcf.specs.Preprocessor.{State, Answer, refused, absent, done, wrote, learnt, turned, told, Learned, Status, Anomaly, statisticsLength, fresh, facts, change, reply, accepted}
+use Rattle.trcf.specs.Calls.{Learn, Call, shingledPoint, postProcess, drain, transform, invertExtrapolation, scale, shift, status, Forecast, rows, seenLimit}
+use Rattle.trcf.specs.Preprocessor.{State, Answer, refused, absent, done, wrote, learnt, turned, told, Learned, Status, Anomaly, Reading, reading, statisticsLength, fresh, facts, change, reply, accepted}
 use Rattle.trcf.specs.declared.types.TransformMethod.the-variants.{NONE}
 use Rattle.trcf.specs.declared.types.ForestMode.the-variants.{STANDARD}
 use Rattle.trcf.specs.declared.transformer.WeightedTransformer.{WeightedTransformer}
 use Rattle.trcf.specs.declared.preprocessor.Preprocessor.{Preprocessor}
+use Rattle.trcf.specs.declared.preprocessor.PreprocessorBuilder.{PreprocessorBuilder}
+use Rattle.trcf.specs.declared.preprocessor.StatusAnswer.{StatusAnswer}
 
 -- ---- what is lent
 
@@ -130,16 +133,164 @@ misfit h =
     ltb (h .«start_normalization») (h .«initial_len»)
     || (waiting (settingsOf h) (h .«values_seen») && not (eqb (h .«initial_len») (h .«values_seen»)))
 
+unfoldable pub shortRow : Settings → Lent → ℕ
+shortRow s l = firstOf ((lentShort s l, 20) ∷ [])
+
 unfoldable pub lentRow : Preprocessor → Lent → ℕ
-lentRow h l = firstOf ((misfit h, 20) ∷ (lentShort (settingsOf h) l, 20) ∷ [])
+lentRow h l = cond (misfit h) 20 (shortRow (settingsOf h) l)
 
 -- the second only where the first is 0
 abbrev pub orElse : ℕ → ℕ → ℕ
 orElse zero m = m
 orElse (suc n) m = suc n
 
+-- what a row 0 says of each
+pub record Bounded (s : Settings) : Type 0 where
+  pub d-pos : 0 < s .d
+  pub d-few : s .d ≤ 16
+  pub k-pos : 0 < s .k
+  pub k-few : s .k ≤ 64
+  pub start-few : s .start < 2000
+
+pub record Roomy (s : Settings) (l : Lent) : Type 0 where
+  pub in-statistics : statisticsLength s ≤ length (l .statistics)
+  pub in-input : s .d * s .k ≤ length (l .lastShingledInput)
+  pub in-point : dimension s ≤ length (l .lastShingledPoint)
+  pub in-times : s .k ≤ length (l .previousTimestamps)
+  pub in-values : s .start * s .d ≤ length (l .initialValues)
+  pub in-initial : s .start ≤ length (l .initialTimestamps)
+
+pub record Fitted (h : Preprocessor) (l : Lent) : Type 0 where
+  pub roomy : Roomy (settingsOf h) l
+  pub few : h .«initial_len» ≤ h .«start_normalization»
+  pub counted : waiting (settingsOf h) (h .«values_seen») ≡ true → h .«initial_len» ≡ h .«values_seen»
+
 unfoldable pub rowOf : Preprocessor → Lent → Call → ℕ
 rowOf h l c = orElse (headRow (settingsOf h)) (orElse (rows (settingsOf h) (facts (view h l)) c) (lentRow h l))
+
+-- rows 18 and 20 of a point: past waiting, a drain inside it that would pass a limit, and an output that is too short
+unfoldable pub pastRow : Preprocessor → List ℕ → ℕ → ℕ
+pastRow h ts n =
+    let past = not (waiting (settingsOf h) (h .«values_seen»)) in
+    let due = eqb (h .«values_seen») (h .«start_normalization») && not (null (take (h .«initial_len») ts)) in
+    let full = ltb countLimit (h .transformer .count + h .«start_normalization»)
+    || ltb seenLimit (h .«internal_timestamp» + h .«start_normalization») in
+    firstOf ((past && (due && full), 18) ∷ (past && ltb n (dimension (settingsOf h)), 20) ∷ [])
+
+-- what the row 0 of a call says
+pub record Ready (h : Preprocessor) (l : Lent) : Type 0 where
+  pub bounded : Bounded (settingsOf h)
+  pub fitted : Fitted h l
+
+pub record Pointing (h : Preprocessor) (l : Lent) (x n : ℕ) : Type 0 where
+  pub whole : x ≡ h .transformer .«input_length»
+  pub past : pastRow h (l .initialTimestamps) n ≡ 0
+
+-- ---- what the program's parts see
+
+-- a state of which only these lists are looked at
+abbrev pub holding : Preprocessor → List Float → List Float → List ℕ → State
+holding h st x ts =
+    record {
+      settings = settingsOf h;
+      valuesSeen = h .«values_seen»;
+      internalTimestamp = h .«internal_timestamp»;
+      count = h .transformer .count;
+      statistics = st;
+      lastShingledInput = x;
+      lastShingledPoint = [];
+      previousTimestamps = ts;
+      initialValues = [];
+      initialTimestamps = [];
+    }
+
+-- the i-th waiting reading, out of the flat lists
+abbrev pub readingAt : ℕ → List Float → List ℕ → ℕ → Reading
+readingAt d v ts i = reading (take d (drop (i * d) v)) (getD ts i 0)
+
+-- the state in a drain: the waiting readings are handed beside it
+abbrev pub shingling : Preprocessor → ℕ → List Float → List Float → List Float → List ℕ → ℕ → State
+shingling h count st x p ts internal =
+    record {
+      settings = settingsOf h;
+      valuesSeen = h .«values_seen»;
+      internalTimestamp = internal;
+      count = count;
+      statistics = st;
+      lastShingledInput = x;
+      lastShingledPoint = p;
+      previousTimestamps = ts;
+      initialValues = [];
+      initialTimestamps = [];
+    }
+
+-- lists of just the length in use
+pub record Exact (s : Settings) (st x ts : ℕ) : Type 0 where
+  pub all-statistics : st ≡ statisticsLength s
+  pub all-input : x ≡ s .d * s .k
+  pub all-times : ts ≡ s .k
+
+-- ---- `build`
+
+abbrev pub settingsFrom : PreprocessorBuilder → List Float → Settings
+settingsFrom b weights =
+    record {
+      mode = b .«forest_mode»;
+      method = b .«transform_method»;
+      d = b .«input_dimensions»;
+      k = b .«shingle_size»;
+      start = b .«start_normalization»;
+      stop = b .«stop_normalization»;
+      decay = b .«transform_decay»;
+      weightTime = b .«weight_time»;
+      weights = weights;
+    }
+
+pub record Accepted (s : Settings) : Type 0 where
+  pub bounded : Bounded s
+  pub weighted : length (s .weights) ≡ s .d
+
+-- "a fresh watch is what `build` gives"; an array holds the weights, zeros behind them
+abbrev pub headFrom : Settings → Preprocessor
+headFrom s =
+    record {
+      transformer = record {
+        «transform_method» = s .method;
+        «input_length» = s .d;
+        «transform_decay» = s .decay;
+        weights = over (replicate 16 zero32) (s .weights);
+        count = 0;
+      };
+      «forest_mode» = s .mode;
+      «shingle_size» = s .k;
+      «start_normalization» = s .start;
+      «stop_normalization» = s .stop;
+      «weight_time» = s .weightTime;
+      «values_seen» = 0;
+      «internal_timestamp» = 0;
+      «initial_len» = 0;
+    }
+
+-- what a refused `build` hands back: every call refuses it
+abbrev pub noHead : Preprocessor
+noHead =
+    headFrom
+    (record { mode = STANDARD; method = NONE; d = 0; k = 0; start = 0; stop = 0; decay = zero64; weightTime = zero32; weights = [] })
+
+-- the row, the head and the final contents of what is lent
+pub record Outcome : Type 0 where
+  pub row : ℕ
+  pub head : Preprocessor
+  pub lent : Lent
+
+abbrev pub outcome : ℕ → Preprocessor → Lent → Outcome
+outcome n h l = record { row = n; head = h; lent = l }
+
+unfoldable pub buildRow : Settings → Lent → ℕ
+buildRow s l = orElse (settingsRow s) (lentRow (headFrom s) l)
+
+unfoldable pub buildOf : Settings → Lent → Outcome
+buildOf s l = accepted (buildRow s l) (outcome 0 (headFrom s) (laid (fresh s) l)) (outcome (buildRow s l) noHead l)
 
 -- ---- a call on what is held
 
@@ -151,3 +302,104 @@ headAfter h l c = accepted (rowOf h l c) (counted h (change (view h l) c)) h
 
 unfoldable pub lentAfter : Preprocessor → Lent → Call → Lent
 lentAfter h l c = accepted (rowOf h l c) (laid (change (view h l) c) l) l
+
+-- a call that writes one list, read as its row and that list
+pub record Written : Type 0 where
+  pub row : ℕ
+  pub out : List Float
+
+abbrev pub written : ℕ → List Float → Written
+written n out = record { row = n; out = out }
+
+abbrev pub writtenOf : List Float → Answer → Written
+writtenOf out (refused n) = written n out
+writtenOf out absent = written 0 out
+writtenOf out done = written 0 out
+writtenOf out (wrote v) = written 0 v
+writtenOf out (learnt a) = written 0 out
+writtenOf out (turned a) = written 0 out
+writtenOf out (told s) = written 0 (s .deviationsOut)
+
+unfoldable pub writeOf : Preprocessor → Lent → Call → List Float → Written
+writeOf h l c out = writtenOf out (answerOf h l c)
+
+-- `status`: the row, and the numbers, of which the dimension is 0 for a head that no build made
+pub record StatusOutcome : Type 0 where
+  pub row : ℕ
+  pub numbers : Status
+
+abbrev pub statusGiven : StatusAnswer → List Float → StatusOutcome
+statusGiven r out =
+    record {
+      row = r .row;
+      numbers = record {
+        valuesSeen = r .«values_seen»;
+        internalTimestamp = r .«internal_timestamp»;
+        ready = r .ready;
+        inputDimensions = r .«input_dimensions»;
+        shingleSize = r .«shingle_size»;
+        dimensions = r .dimensions;
+        method = r .«transform_method»;
+        mode = r .«forest_mode»;
+        start = r .«start_normalization»;
+        panel = r .panel;
+        deviationsOut = out;
+      };
+    }
+
+-- refused, it tells what the head holds and leaves the output
+abbrev pub untold : Preprocessor → List Float → Status
+untold h out =
+    record {
+      valuesSeen = h .«values_seen»;
+      internalTimestamp = h .«internal_timestamp»;
+      ready = leb (h .«shingle_size») (h .«internal_timestamp»);
+      inputDimensions = h .transformer .«input_length»;
+      shingleSize = h .«shingle_size»;
+      dimensions = accepted (headRow (settingsOf h)) (dimension (settingsOf h)) 0;
+      method = h .transformer .«transform_method»;
+      mode = h .«forest_mode»;
+      start = h .«start_normalization»;
+      panel = h .«values_seen»;
+      deviationsOut = out;
+    }
+
+abbrev pub statusRead : Preprocessor → List Float → Answer → StatusOutcome
+statusRead h out (refused n) = record { row = n; numbers = untold h out }
+statusRead h out absent = record { row = 0; numbers = untold h out }
+statusRead h out done = record { row = 0; numbers = untold h out }
+statusRead h out (wrote v) = record { row = 0; numbers = untold h out }
+statusRead h out (learnt a) = record { row = 0; numbers = untold h out }
+statusRead h out (turned a) = record { row = 0; numbers = untold h out }
+statusRead h out (told s) = record { row = 0; numbers = s }
+
+unfoldable pub statusAfter : Preprocessor → Lent → List Float → StatusOutcome
+statusAfter h l out = statusRead h out (answerOf h l (status out))
+
+unfoldable pub drainOf : Preprocessor → Lent → Outcome
+drainOf h l = outcome (rowOf h l drain) (headAfter h l drain) (lentAfter h l drain)
+
+-- `shingled_point`: the row, whether a point is given, the head, what is lent, and the output
+pub record PointOutcome : Type 0 where
+  pub row : ℕ
+  pub given : Bool
+  pub head : Preprocessor
+  pub lent : Lent
+  pub out : List Float
+
+abbrev pub pointed : ℕ → Bool → Preprocessor → Lent → List Float → PointOutcome
+pointed n b h l out = record { row = n; given = b; head = h; lent = l; out = out }
+
+abbrev pub pointRead : Preprocessor → Lent → List Float → Answer → PointOutcome
+pointRead h l out (refused n) = pointed n false h l out
+pointRead h l out absent = pointed 0 false h l out
+pointRead h l out done = pointed 0 false h l out
+pointRead h l out (wrote v) = pointed 0 true h l v
+pointRead h l out (learnt a) = pointed 0 false h l out
+pointRead h l out (turned a) = pointed 0 false h l out
+pointRead h l out (told a) = pointed 0 false h l out
+
+unfoldable pub pointAfter : Preprocessor → Lent → List Float → ℕ → List Float → PointOutcome
+pointAfter h l x t out =
+    let c = shingledPoint x t out in
+    pointRead (headAfter h l c) (lentAfter h l c) out (answerOf h l c)

@@ -1,5 +1,9 @@
 // The preprocessor of a stream of readings: its settings, the transform of a reading, and the shingles it keeps.
+mod draining;
+mod output;
 pub mod preprocessor;
+mod refusal;
 mod shingle;
+mod time;
 pub mod transformer;
 pub mod types;

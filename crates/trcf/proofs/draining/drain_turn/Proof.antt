@@ -1,0 +1,134 @@
+use native.Mathlib.Omega.{arith}
+use mathlib.Core.Path.{_≡_, refl, sym, ap, _∙_}
+use Prim.Native.Nat.{ℕ, _+_, _-_, _*_, _≤_, _<_}
+use native.Mathlib.Nat.{mul-le-mul, le-refl, le-mul-of-pos-right, add-zero}
+use lib.ListN.{length, length-take, length-drop, take, drop, getD}
+use Rattle.trcf.proofs.DrainLaws.{block-in, block-cut, point-cut, block-is, block-fits}
+use Rattle.trcf.specs.View.{settingsOf}
+use Rattle.trcf.specs.Lists.{shiftIn}
+use borrow.Author.Needs.{needs}
+use Rattle.trcf.proofs.draining.drain_turn.Statement.{statement}
+use Rattle.trcf.proofs.draining.drain_turn.Tie as tie
+use Rattle.trcf.proofs.draining.drain_turn.Reads as reads
+use Rattle.trcf.proofs.draining.drain_turn.Lts as lts
+use Rattle.trcf.proofs.output.write_transform.Reads as write-transform-reads
+use Rattle.trcf.proofs.refusal.block_of.Reads as block-of-reads
+use Rattle.trcf.proofs.shingle.shift_time.Reads as shift-time-reads
+use Rattle.trcf.proofs.shingle.shift_vector.Reads as shift-vector-reads
+
+block-of-requires : tie.Need-block-of-requires
+block-of-requires c κs = search needs
+
+mul-y : tie.Need-mul-y
+mul-y c = let a = c .before .before .before .before .before .before .before .before .args in let d = a .head .transformer .«input_length» in let n = length (a .stamps .now) in let b = block-in (a .i) n d (omega (arith, c .before .before .before .before .before .before .before .before .pre)) in let m = mul-le-mul (le-refl n) (c .before .before .before .before .before .before .before .before .pre .0 .d-few) in omega (arith, c .before .before .before .before .before .before .before .before .pre, c .before .before .before .before .before .before .before .before .good)
+
+shared-slice-read-y : tie.Need-shared-slice-read-y
+shared-slice-read-y c = search needs
+
+mul-write-transform : tie.Need-mul-write-transform
+mul-write-transform c = let a = c .before .before .before .before .before .before .before .before .before .before .before .args in let d = a .head .transformer .«input_length» in let n = length (a .stamps .now) in let b = block-in (a .i) n d (omega (arith, c .before .before .before .before .before .before .before .before .before .before .before .pre)) in let m = mul-le-mul (le-refl n) (c .before .before .before .before .before .before .before .before .before .before .before .pre .0 .d-few) in omega (arith, c .before .before .before .before .before .before .before .before .before .before .before .pre, c .before .before .before .before .before .before .before .before .before .before .before .good)
+
+mul-write-transform-2 : tie.Need-mul-write-transform-2
+mul-write-transform-2 c = let a = c .before .before .before .before .before .before .before .before .before .before .before .args in let d = a .head .transformer .«input_length» in let n = length (a .stamps .now) in let b = block-in (a .i) n d (omega (arith, c .before .before .before .before .before .before .before .before .before .before .before .pre)) in let m = mul-le-mul (le-refl n) (c .before .before .before .before .before .before .before .before .before .before .before .pre .0 .d-few) in omega (arith, c .before .before .before .before .before .before .before .before .before .before .before .pre, c .before .before .before .before .before .before .before .before .before .before .before .good)
+
+add-write-transform : tie.Need-add-write-transform
+add-write-transform c = let a = c .before .before .before .before .before .before .before .before .before .before .before .args in let d = a .head .transformer .«input_length» in let n = length (a .stamps .now) in let b = block-in (a .i) n d (omega (arith, c .before .before .before .before .before .before .before .before .before .before .before .pre)) in let m = mul-le-mul (le-refl n) (c .before .before .before .before .before .before .before .before .before .before .before .pre .0 .d-few) in omega (arith, c .before .before .before .before .before .before .before .before .before .before .before .pre, c .before .before .before .before .before .before .before .before .before .before .before .good)
+
+mul-write-transform-3 : tie.Need-mul-write-transform-3
+mul-write-transform-3 c = let a = c .before .before .before .before .before .before .before .before .before .before .before .args in let d = a .head .transformer .«input_length» in let n = length (a .stamps .now) in let b = block-in (a .i) n d (omega (arith, c .before .before .before .before .before .before .before .before .before .before .before .pre)) in let m = mul-le-mul (le-refl n) (c .before .before .before .before .before .before .before .before .before .before .before .pre .0 .d-few) in omega (arith, c .before .before .before .before .before .before .before .before .before .before .before .pre, c .before .before .before .before .before .before .before .before .before .before .before .good)
+
+sub-write-transform : tie.Need-sub-write-transform
+sub-write-transform c = search needs
+
+part-write-transform-start : tie.Need-part-write-transform-start
+part-write-transform-start c = let a = c .before .before .before .before .before .before .before .before .before .before .before .args in let d = a .head .transformer .«input_length» in let n = length (a .stamps .now) in let b = block-in (a .i) n d (omega (arith, c .before .before .before .before .before .before .before .before .before .before .before .pre)) in let m = mul-le-mul (le-refl n) (c .before .before .before .before .before .before .before .before .before .before .before .pre .0 .d-few) in omega (arith, c .before .before .before .before .before .before .before .before .before .before .before .pre, c .before .before .before .before .before .before .before .before .before .before .before .good)
+
+part-write-transform-end : tie.Need-part-write-transform-end
+part-write-transform-end c = let a = c .before .before .before .before .before .before .before .before .before .before .before .args in let d = a .head .transformer .«input_length» in let n = length (a .stamps .now) in let b = block-in (a .i) n d (omega (arith, c .before .before .before .before .before .before .before .before .before .before .before .pre)) in let m = mul-le-mul (le-refl n) (c .before .before .before .before .before .before .before .before .before .before .before .pre .0 .d-few) in omega (arith, c .before .before .before .before .before .before .before .before .before .before .before .pre, c .before .before .before .before .before .before .before .before .before .before .before .good)
+
+slice-aggregate-write-transform : tie.Need-slice-aggregate-write-transform
+slice-aggregate-write-transform c = search needs
+
+write-transform-requires : tie.Need-write-transform-requires
+write-transform-requires c κs = let a = c .before .before .before .before .before .before .before .before .before .before .before .before .before .args in let d = a .head .transformer .«input_length» in let n = length (a .stamps .now) in let b = block-in (a .i) n d (omega (arith, c .before .before .before .before .before .before .before .before .before .before .before .before .before .pre)) in (c .before .before .before .before .before .before .before .before .before .before .before .before .before .pre .0, (c .before .before .before .before .before .before .before .before .before .before .before .before .before .pre .1 .0, (simp (length-drop, length-take) (omega (arith, c .before .before .before .before .before .before .before .before .before .before .before .before .before .pre)), omega (arith, c .before .before .before .before .before .block-of .ensures, block-is (settingsOf (a .head))))))
+
+mul-shift-vector : tie.Need-mul-shift-vector
+mul-shift-vector c = let a = c .before .before .before .before .before .before .before .before .before .before .before .before .before .before .before .before .args in let d = a .head .transformer .«input_length» in let n = length (a .stamps .now) in let b = block-in (a .i) n d (omega (arith, c .before .before .before .before .before .before .before .before .before .before .before .before .before .before .before .before .pre)) in let m = mul-le-mul (le-refl n) (c .before .before .before .before .before .before .before .before .before .before .before .before .before .before .before .before .pre .0 .d-few) in omega (arith, c .before .before .before .before .before .before .before .before .before .before .before .before .before .before .before .before .pre, c .before .before .before .before .before .before .before .before .before .before .before .before .before .before .before .before .good)
+
+mul-shift-vector-2 : tie.Need-mul-shift-vector-2
+mul-shift-vector-2 c = let a = c .before .before .before .before .before .before .before .before .before .before .before .before .before .before .before .before .args in let d = a .head .transformer .«input_length» in let n = length (a .stamps .now) in let b = block-in (a .i) n d (omega (arith, c .before .before .before .before .before .before .before .before .before .before .before .before .before .before .before .before .pre)) in let m = mul-le-mul (le-refl n) (c .before .before .before .before .before .before .before .before .before .before .before .before .before .before .before .before .pre .0 .d-few) in omega (arith, c .before .before .before .before .before .before .before .before .before .before .before .before .before .before .before .before .pre, c .before .before .before .before .before .before .before .before .before .before .before .before .before .before .before .before .good)
+
+add-shift-vector : tie.Need-add-shift-vector
+add-shift-vector c = let a = c .before .before .before .before .before .before .before .before .before .before .before .before .before .before .before .before .args in let d = a .head .transformer .«input_length» in let n = length (a .stamps .now) in let b = block-in (a .i) n d (omega (arith, c .before .before .before .before .before .before .before .before .before .before .before .before .before .before .before .before .pre)) in let m = mul-le-mul (le-refl n) (c .before .before .before .before .before .before .before .before .before .before .before .before .before .before .before .before .pre .0 .d-few) in omega (arith, c .before .before .before .before .before .before .before .before .before .before .before .before .before .before .before .before .pre, c .before .before .before .before .before .before .before .before .before .before .before .before .before .before .before .before .good)
+
+mul-shift-vector-3 : tie.Need-mul-shift-vector-3
+mul-shift-vector-3 c = let a = c .before .before .before .before .before .before .before .before .before .before .before .before .before .before .before .before .args in let d = a .head .transformer .«input_length» in let n = length (a .stamps .now) in let b = block-in (a .i) n d (omega (arith, c .before .before .before .before .before .before .before .before .before .before .before .before .before .before .before .before .pre)) in let m = mul-le-mul (le-refl n) (c .before .before .before .before .before .before .before .before .before .before .before .before .before .before .before .before .pre .0 .d-few) in omega (arith, c .before .before .before .before .before .before .before .before .before .before .before .before .before .before .before .before .pre, c .before .before .before .before .before .before .before .before .before .before .before .before .before .before .before .before .good)
+
+sub-shift-vector : tie.Need-sub-shift-vector
+sub-shift-vector c = search needs
+
+part-shift-vector-start : tie.Need-part-shift-vector-start
+part-shift-vector-start c = let a = c .before .before .before .before .before .before .before .before .before .before .before .before .before .before .before .before .args in let d = a .head .transformer .«input_length» in let n = length (a .stamps .now) in let b = block-in (a .i) n d (omega (arith, c .before .before .before .before .before .before .before .before .before .before .before .before .before .before .before .before .pre)) in let m = mul-le-mul (le-refl n) (c .before .before .before .before .before .before .before .before .before .before .before .before .before .before .before .before .pre .0 .d-few) in omega (arith, c .before .before .before .before .before .before .before .before .before .before .before .before .before .before .before .before .pre, c .before .before .before .before .before .before .before .before .before .before .before .before .before .before .before .before .good)
+
+part-shift-vector-end : tie.Need-part-shift-vector-end
+part-shift-vector-end c = let a = c .before .before .before .before .before .before .before .before .before .before .before .before .before .before .before .before .args in let d = a .head .transformer .«input_length» in let n = length (a .stamps .now) in let b = block-in (a .i) n d (omega (arith, c .before .before .before .before .before .before .before .before .before .before .before .before .before .before .before .before .pre)) in let m = mul-le-mul (le-refl n) (c .before .before .before .before .before .before .before .before .before .before .before .before .before .before .before .before .pre .0 .d-few) in omega (arith, c .before .before .before .before .before .before .before .before .before .before .before .before .before .before .before .before .pre, c .before .before .before .before .before .before .before .before .before .before .before .before .before .before .before .before .good)
+
+shift-vector-requires : tie.Need-shift-vector-requires
+shift-vector-requires c κs = let a = c .before .before .before .before .before .before .before .before .before .before .before .before .before .before .before .before .before .args in let d = a .head .transformer .«input_length» in let n = length (a .stamps .now) in let b = block-in (a .i) n d (omega (arith, c .before .before .before .before .before .before .before .before .before .before .before .before .before .before .before .before .before .pre)) in let m = le-mul-of-pos-right d (c .before .before .before .before .before .before .before .before .before .before .before .before .before .before .before .before .before .pre .0 .k-pos) in simp (length-drop, length-take) (omega (arith, c .before .before .before .before .before .before .before .before .before .before .before .before .before .before .before .before .before .pre))
+
+array-share-prefix-z : tie.Need-array-share-prefix-z
+array-share-prefix-z c = search needs
+
+slice-aggregate-shift-vector : tie.Need-slice-aggregate-shift-vector
+slice-aggregate-shift-vector c = simp length-take (omega (arith, c .before .before .before .before .before .before .before .before .write-transform .kept, c .before .before .before .before .before .before .before .before .before .before .before .before .before .before .block-of .ensures))
+
+shift-vector-requires-2 : tie.Need-shift-vector-requires-2
+shift-vector-requires-2 c κs = let a = c .before .before .before .before .before .before .before .before .before .before .before .before .before .before .before .before .before .before .before .before .before .before .args in let d = a .head .transformer .«input_length» in let n = length (a .stamps .now) in let m = block-fits (settingsOf (a .head)) (c .before .before .before .before .before .before .before .before .before .before .before .before .before .before .before .before .before .before .before .before .before .before .pre .0 .k-pos) in simp length-take (omega (arith, c .before .before .before .before .before .before .before .before .write-transform .kept, c .before .before .before .before .before .before .before .before .before .before .before .before .before .before .block-of .ensures, block-is (settingsOf (a .head)), c .before .before .before .before .before .before .before .before .before .before .before .before .before .before .before .before .before .before .before .before .before .before .pre))
+
+shift-time-requires : tie.Need-shift-time-requires
+shift-time-requires c κs = search needs
+
+same-length : tie.Need-same-length
+same-length c = search needs
+
+same-length-2 : tie.Need-same-length-2
+same-length-2 c = search needs
+
+same-length-3 : tie.Need-same-length-3
+same-length-3 c = search needs
+
+returns : tie.Need-returns
+returns c = let a = c .before .before .before .before .before .before .before .before .before .before .before .before .before .before .before .before .before .before .before .before .before .before .before .before .before .before .before .before .before .args in let d = a .head .transformer .«input_length» in let n = length (a .stamps .now) in let e = c .before .before .before .before .before .before .before .before .before .before .before .before .before .before .before .before .before .before .before .before .before .block-of .ensures .0 ∙ sym (block-is (settingsOf (a .head))) in (c .before .before .before .before .before .before .before .before .before .before .before .shift-vector .ensures ∙ ap (shiftIn (a .inputs .now)) (block-cut (a .i) d (a .values .now)), (c .before .before .before .before .before .before .shift-vector2 .ensures ∙ point-cut (settingsOf (a .head)) (a .s .now) (a .head .«values_seen») _ d (a .values .now) (a .i) _ _ _ (a .points .now) (c .before .before .before .before .before .before .before .before .before .before .before .before .before .before .before .before .before .before .before .before .before .block-of .result) e (c .before .before .before .before .before .before .before .before .before .before .before .before .before .before .before .write-transform .ensures), c .before .before .shift-time .ensures))
+
+pub drain-turn-spec : {M : Type 1} → statement M
+drain-turn-spec =
+    tie.close
+    (tie.spec
+    block-of-requires
+    mul-y
+    shared-slice-read-y
+    mul-write-transform
+    mul-write-transform-2
+    add-write-transform
+    mul-write-transform-3
+    sub-write-transform
+    part-write-transform-start
+    part-write-transform-end
+    slice-aggregate-write-transform
+    write-transform-requires
+    mul-shift-vector
+    mul-shift-vector-2
+    add-shift-vector
+    mul-shift-vector-3
+    sub-shift-vector
+    part-shift-vector-start
+    part-shift-vector-end
+    shift-vector-requires
+    array-share-prefix-z
+    slice-aggregate-shift-vector
+    shift-vector-requires-2
+    shift-time-requires
+    same-length
+    same-length-2
+    same-length-3
+    returns)

@@ -1,0 +1,111 @@
+use native.Mathlib.Omega.{arith}
+use mathlib.Core.Path.{_≡_, refl, sym, ap, _∙_}
+use Prim.Native.Nat.{ℕ, _+_, _-_, _*_, _≤_, _<_}
+use native.Mathlib.Nat.{mul-le-mul, le-refl, le-mul-of-pos-right, add-zero}
+use lib.ListN.{length, length-take, length-drop, take, drop, getD}
+use Rattle.trcf.proofs.DrainLaws.{block-in, feed-cut}
+use Rattle.trcf.specs.View.{settingsOf}
+use borrow.Author.Needs.{needs}
+use Rattle.trcf.proofs.draining.feed_turn.Statement.{statement}
+use Rattle.trcf.proofs.draining.feed_turn.Tie as tie
+use Rattle.trcf.proofs.draining.feed_turn.Reads as reads
+use Rattle.trcf.proofs.draining.feed_turn.Lts as lts
+use Rattle.trcf.proofs.draining.feed_reading.Reads as feed-reading-reads
+use Rattle.trcf.proofs.draining.place_before.Reads as place-before-reads
+
+place-before-requires : tie.Need-place-before-requires
+place-before-requires c κs = search needs
+
+add-feed-reading : tie.Need-add-feed-reading
+add-feed-reading c = search needs
+
+mul-feed-reading : tie.Need-mul-feed-reading
+mul-feed-reading c = let a = c .before .before .before .before .before .before .args in let d = a .head .transformer .«input_length» in let n = length (a .stamps .now) in let q = c .before .place-before .result in let b = block-in (a .i) n d (omega (arith, c .before .before .before .before .before .before .pre)) in let g = block-in q n d (omega (arith, c .before .place-before .ensures, c .before .before .before .before .before .before .pre)) in let m = mul-le-mul (le-refl n) (c .before .before .before .before .before .before .pre .0 .d-few) in omega (arith, c .before .before .before .before .before .before .pre)
+
+mul-feed-reading-2 : tie.Need-mul-feed-reading-2
+mul-feed-reading-2 c = let a = c .before .before .before .before .before .before .args in let d = a .head .transformer .«input_length» in let n = length (a .stamps .now) in let q = c .before .place-before .result in let b = block-in (a .i) n d (omega (arith, c .before .before .before .before .before .before .pre)) in let g = block-in q n d (omega (arith, c .before .place-before .ensures, c .before .before .before .before .before .before .pre)) in let m = mul-le-mul (le-refl n) (c .before .before .before .before .before .before .pre .0 .d-few) in omega (arith, c .before .before .before .before .before .before .pre)
+
+add-feed-reading-2 : tie.Need-add-feed-reading-2
+add-feed-reading-2 c = let a = c .before .before .before .before .before .before .args in let d = a .head .transformer .«input_length» in let n = length (a .stamps .now) in let q = c .before .place-before .result in let b = block-in (a .i) n d (omega (arith, c .before .before .before .before .before .before .pre)) in let g = block-in q n d (omega (arith, c .before .place-before .ensures, c .before .before .before .before .before .before .pre)) in let m = mul-le-mul (le-refl n) (c .before .before .before .before .before .before .pre .0 .d-few) in omega (arith, c .before .before .before .before .before .before .pre)
+
+mul-feed-reading-3 : tie.Need-mul-feed-reading-3
+mul-feed-reading-3 c = let a = c .before .before .before .before .before .before .args in let d = a .head .transformer .«input_length» in let n = length (a .stamps .now) in let q = c .before .place-before .result in let b = block-in (a .i) n d (omega (arith, c .before .before .before .before .before .before .pre)) in let g = block-in q n d (omega (arith, c .before .place-before .ensures, c .before .before .before .before .before .before .pre)) in let m = mul-le-mul (le-refl n) (c .before .before .before .before .before .before .pre .0 .d-few) in omega (arith, c .before .before .before .before .before .before .pre)
+
+sub-feed-reading : tie.Need-sub-feed-reading
+sub-feed-reading c = search needs
+
+part-feed-reading-start : tie.Need-part-feed-reading-start
+part-feed-reading-start c = search needs
+
+part-feed-reading-end : tie.Need-part-feed-reading-end
+part-feed-reading-end c = let a = c .before .before .before .before .before .before .args in let d = a .head .transformer .«input_length» in let n = length (a .stamps .now) in let q = c .before .place-before .result in let b = block-in (a .i) n d (omega (arith, c .before .before .before .before .before .before .pre)) in let g = block-in q n d (omega (arith, c .before .place-before .ensures, c .before .before .before .before .before .before .pre)) in let m = mul-le-mul (le-refl n) (c .before .before .before .before .before .before .pre .0 .d-few) in omega (arith, c .before .before .before .before .before .before .pre)
+
+mul-feed-reading-4 : tie.Need-mul-feed-reading-4
+mul-feed-reading-4 c = search needs
+
+shared-slice-read-feed-reading : tie.Need-shared-slice-read-feed-reading
+shared-slice-read-feed-reading c = search needs
+
+mul-feed-reading-5 : tie.Need-mul-feed-reading-5
+mul-feed-reading-5 c = let a = c .before .before .before .before .before .before .before .before .args in let d = a .head .transformer .«input_length» in let n = length (a .stamps .now) in let q = c .before .before .before .place-before .result in let b = block-in (a .i) n d (omega (arith, c .before .before .before .before .before .before .before .before .pre)) in let g = block-in q n d (omega (arith, c .before .before .before .place-before .ensures, c .before .before .before .before .before .before .before .before .pre)) in let m = mul-le-mul (le-refl n) (c .before .before .before .before .before .before .before .before .pre .0 .d-few) in omega (arith, c .before .before .before .before .before .before .before .before .pre)
+
+mul-feed-reading-6 : tie.Need-mul-feed-reading-6
+mul-feed-reading-6 c = let a = c .before .before .before .before .before .before .before .before .args in let d = a .head .transformer .«input_length» in let n = length (a .stamps .now) in let q = c .before .before .before .place-before .result in let b = block-in (a .i) n d (omega (arith, c .before .before .before .before .before .before .before .before .pre)) in let g = block-in q n d (omega (arith, c .before .before .before .place-before .ensures, c .before .before .before .before .before .before .before .before .pre)) in let m = mul-le-mul (le-refl n) (c .before .before .before .before .before .before .before .before .pre .0 .d-few) in omega (arith, c .before .before .before .before .before .before .before .before .pre)
+
+add-feed-reading-3 : tie.Need-add-feed-reading-3
+add-feed-reading-3 c = let a = c .before .before .before .before .before .before .before .before .args in let d = a .head .transformer .«input_length» in let n = length (a .stamps .now) in let q = c .before .before .before .place-before .result in let b = block-in (a .i) n d (omega (arith, c .before .before .before .before .before .before .before .before .pre)) in let g = block-in q n d (omega (arith, c .before .before .before .place-before .ensures, c .before .before .before .before .before .before .before .before .pre)) in let m = mul-le-mul (le-refl n) (c .before .before .before .before .before .before .before .before .pre .0 .d-few) in omega (arith, c .before .before .before .before .before .before .before .before .pre)
+
+mul-feed-reading-7 : tie.Need-mul-feed-reading-7
+mul-feed-reading-7 c = let a = c .before .before .before .before .before .before .before .before .args in let d = a .head .transformer .«input_length» in let n = length (a .stamps .now) in let q = c .before .before .before .place-before .result in let b = block-in (a .i) n d (omega (arith, c .before .before .before .before .before .before .before .before .pre)) in let g = block-in q n d (omega (arith, c .before .before .before .place-before .ensures, c .before .before .before .before .before .before .before .before .pre)) in let m = mul-le-mul (le-refl n) (c .before .before .before .before .before .before .before .before .pre .0 .d-few) in omega (arith, c .before .before .before .before .before .before .before .before .pre)
+
+sub-feed-reading-2 : tie.Need-sub-feed-reading-2
+sub-feed-reading-2 c = search needs
+
+part-feed-reading-start-2 : tie.Need-part-feed-reading-start-2
+part-feed-reading-start-2 c = search needs
+
+part-feed-reading-end-2 : tie.Need-part-feed-reading-end-2
+part-feed-reading-end-2 c = let a = c .before .before .before .before .before .before .before .before .args in let d = a .head .transformer .«input_length» in let n = length (a .stamps .now) in let q = c .before .before .before .place-before .result in let b = block-in (a .i) n d (omega (arith, c .before .before .before .before .before .before .before .before .pre)) in let g = block-in q n d (omega (arith, c .before .before .before .place-before .ensures, c .before .before .before .before .before .before .before .before .pre)) in let m = mul-le-mul (le-refl n) (c .before .before .before .before .before .before .before .before .pre .0 .d-few) in omega (arith, c .before .before .before .before .before .before .before .before .pre)
+
+mul-feed-reading-8 : tie.Need-mul-feed-reading-8
+mul-feed-reading-8 c = search needs
+
+shared-slice-read-feed-reading-2 : tie.Need-shared-slice-read-feed-reading-2
+shared-slice-read-feed-reading-2 c = search needs
+
+feed-reading-requires : tie.Need-feed-reading-requires
+feed-reading-requires c κs = search needs
+
+same-length : tie.Need-same-length
+same-length c = search needs
+
+returns : tie.Need-returns
+returns c = let a = c .before .before .before .before .before .before .before .before .before .before .before .before .before .args in let d = a .head .transformer .«input_length» in let n = length (a .stamps .now) in c .before .before .feed-reading .ensures ∙ feed-cut (settingsOf (a .head)) (a .head .transformer .count + a .i) (a .s .now) d (a .values .now) (a .stamps .now) (c .before .before .before .before .before .before .before .before .place-before .result) (a .i) (c .before .before .before .before .before .before .before .before .place-before .ensures)
+
+pub feed-turn-spec : {M : Type 1} → statement M
+feed-turn-spec =
+    tie.close
+    (tie.spec
+    place-before-requires
+    add-feed-reading
+    mul-feed-reading
+    mul-feed-reading-2
+    add-feed-reading-2
+    mul-feed-reading-3
+    sub-feed-reading
+    part-feed-reading-start
+    part-feed-reading-end
+    mul-feed-reading-4
+    shared-slice-read-feed-reading
+    mul-feed-reading-5
+    mul-feed-reading-6
+    add-feed-reading-3
+    mul-feed-reading-7
+    sub-feed-reading-2
+    part-feed-reading-start-2
+    part-feed-reading-end-2
+    mul-feed-reading-8
+    shared-slice-read-feed-reading-2
+    feed-reading-requires
+    same-length
+    returns)

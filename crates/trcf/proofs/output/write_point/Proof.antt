@@ -1,0 +1,103 @@
+use native.Mathlib.Omega.{arith}
+use mathlib.Core.Path.{_≡_, refl, sym, ap, _∙_}
+use Prim.Native.Nat.{ℕ, _+_, _-_, _*_, _≤_, _<_}
+use lib.ListN.{length, length-take, length-drop, take, drop}
+use lib.Seq.{length-take-le}
+use Rattle.common.specs.Lent.{over}
+use Rattle.trcf.specs.Lists.{shiftIn}
+use Rattle.trcf.specs.Preprocessor.{pointOf, previous, transformedAfter, reading, statisticsLength}
+use Rattle.trcf.specs.View.{settingsOf, view, holding}
+use Rattle.trcf.proofs.DrainLaws.{block-is, block-fits, transformedAfter-length}
+use Rattle.trcf.proofs.ShingleLaws.{paste-over}
+use Rattle.trcf.proofs.StateLaws.{point-written}
+use borrow.Author.Needs.{needs}
+use Rattle.trcf.proofs.output.write_point.Statement.{statement}
+use Rattle.trcf.proofs.output.write_point.Tie as tie
+use Rattle.trcf.proofs.output.write_point.Reads as reads
+use Rattle.trcf.proofs.output.write_point.Lts as lts
+
+block-of-requires : tie.Need-block-of-requires
+block-of-requires c κs = search needs
+
+dimension-of-requires : tie.Need-dimension-of-requires
+dimension-of-requires c κs = search needs
+
+mul-write-transform : tie.Need-mul-write-transform
+mul-write-transform c = search needs
+
+add-write-transform : tie.Need-add-write-transform
+add-write-transform c = search needs
+
+mul-write-transform-2 : tie.Need-mul-write-transform-2
+mul-write-transform-2 c = search needs
+
+slice-aggregate-write-transform : tie.Need-slice-aggregate-write-transform
+slice-aggregate-write-transform c = let a = c .before .before .before .before .before .before .before .before .before .before .args in let q = c .before .before .before .before .before .before .before .before .before .before .pre in simp length-take (omega (arith, q))
+
+mul-write-transform-3 : tie.Need-mul-write-transform-3
+mul-write-transform-3 c = search needs
+
+slice-aggregate-write-transform-2 : tie.Need-slice-aggregate-write-transform-2
+slice-aggregate-write-transform-2 c = let a = c .before .before .before .before .before .before .before .before .before .before .before .args in let q = c .before .before .before .before .before .before .before .before .before .before .before .pre in simp length-take (omega (arith, q))
+
+slice-aggregate-write-transform-3 : tie.Need-slice-aggregate-write-transform-3
+slice-aggregate-write-transform-3 c = let a = c .before .before .before .before .before .before .before .before .before .before .before .before .args in let q = c .before .before .before .before .before .before .before .before .before .before .before .before .pre in simp length-take (omega (arith, q))
+
+slice-aggregate-write-transform-4 : tie.Need-slice-aggregate-write-transform-4
+slice-aggregate-write-transform-4 c = search needs
+
+write-transform-requires : tie.Need-write-transform-requires
+write-transform-requires c κs = let a = c .before .before .before .before .before .before .before .before .before .before .before .before .before .args in let q = c .before .before .before .before .before .before .before .before .before .before .before .before .before .pre in (q .0, (record { all-statistics = length-take-le _ _ (q .1 .0); all-input = length-take-le _ _ (q .1 .1 .0); all-times = length-take-le _ _ (q .1 .1 .1 .1 .0) }, (q .1 .1 .1 .1 .1 .0, omega (arith, c .before .before .before .before .before .block-of .ensures, block-is (settingsOf (a .head))))))
+
+slice-aggregate-copy-in : tie.Need-slice-aggregate-copy-in
+slice-aggregate-copy-in c = let a = c .before .before .before .before .before .before .before .before .before .before .before .before .before .before .before .before .before .args in let q = c .before .before .before .before .before .before .before .before .before .before .before .before .before .before .before .before .before .pre in simp length-take (omega (arith, q, c .before .before .before .before .before .before .before .before .dimension-of .ensures))
+
+copy-in-requires : tie.Need-copy-in-requires
+copy-in-requires c κs = let a = c .before .before .before .before .before .before .before .before .before .before .before .before .before .before .before .before .before .args in let q = c .before .before .before .before .before .before .before .before .before .before .before .before .before .before .before .before .before .pre in simp length-take (omega (arith, q, c .before .before .before .before .before .before .before .before .dimension-of .ensures))
+
+slice-relend-prefix-shift-vector : tie.Need-slice-relend-prefix-shift-vector
+slice-relend-prefix-shift-vector c = let a = c .before .before .before .before .before .before .before .before .before .before .before .before .before .before .before .before .before .before .before .before .args in let q = c .before .before .before .before .before .before .before .before .before .before .before .before .before .before .before .before .before .before .before .before .pre in omega (arith, q, c .before .before .before .before .before .before .before .before .before .before .before .dimension-of .ensures, c .before .before .copy-in .kept)
+
+slice-aggregate-shift-vector : tie.Need-slice-aggregate-shift-vector
+slice-aggregate-shift-vector c = let a = c .before .before .before .before .before .before .before .before .before .before .before .before .before .before .before .before .before .before .before .before .before .args in let q = c .before .before .before .before .before .before .before .before .before .before .before .before .before .before .before .before .before .before .before .before .before .pre in simp length-take (omega (arith, q, c .before .before .before .before .before .before .before .before .before .before .before .before .dimension-of .ensures, c .before .before .before .copy-in .kept))
+
+array-share-prefix-z : tie.Need-array-share-prefix-z
+array-share-prefix-z c = search needs
+
+slice-aggregate-shift-vector-2 : tie.Need-slice-aggregate-shift-vector-2
+slice-aggregate-shift-vector-2 c = let a = c .before .before .before .before .before .before .before .before .before .before .before .before .before .before .before .before .before .before .before .before .before .before .args in let q = c .before .before .before .before .before .before .before .before .before .before .before .before .before .before .before .before .before .before .before .before .before .before .pre in simp length-take (omega (arith, c .before .before .before .before .before .before .before .before .before .before .before .before .before .before .block-of .ensures, c .before .before .before .before .before .before .before .before .write-transform .kept))
+
+shift-vector-requires : tie.Need-shift-vector-requires
+shift-vector-requires c κs = let a = c .before .before .before .before .before .before .before .before .before .before .before .before .before .before .before .before .before .before .before .before .before .before .args in let q = c .before .before .before .before .before .before .before .before .before .before .before .before .before .before .before .before .before .before .before .before .before .before .pre in let m = block-fits (settingsOf (a .head)) (q .0 .k-pos) in simp length-take (omega (arith, q, c .before .before .before .before .before .before .before .before .before .before .before .before .before .before .block-of .ensures, block-is (settingsOf (a .head)), c .before .before .before .before .before .before .before .before .before .before .before .before .before .dimension-of .ensures, c .before .before .before .before .copy-in .kept, c .before .before .before .before .before .before .before .before .write-transform .kept))
+
+same-length : tie.Need-same-length
+same-length c = search needs
+
+returns : tie.Need-returns
+unfolding pointOf view previous
+returns c = let a = c .before .before .before .before .before .before .before .before .before .before .before .before .before .before .before .before .before .before .before .before .before .before .before .before .before .args in let q = c .before .before .before .before .before .before .before .before .before .before .before .before .before .before .before .before .before .before .before .before .before .before .before .before .before .pre in let m = block-fits (settingsOf (a .head)) (q .0 .k-pos) in let e = c .before .before .before .before .before .before .before .before .before .before .before .before .before .before .before .before .before .block-of .ensures .0 ∙ sym (block-is (settingsOf (a .head))) in point-written (a .output .now) (take (c .before .before .before .before .before .before .before .before .before .before .before .before .before .before .before .before .dimension-of .result) (a .last-shingled-point .now)) _ _ _ _ _ (c .before .before .before .before .before .before .before .before .before .before .before .before .before .before .before .before .before .block-of .result) (c .before .before .before .before .before .before .before .before .before .before .before .before .before .before .before .before .dimension-of .result) (c .before .before .before .before .before .before .before .copy-in .ensures ∙ paste-over _ _) (length-take-le _ _ (omega (arith, q, c .before .before .before .before .before .before .before .before .before .before .before .before .before .before .before .before .dimension-of .ensures))) (c .before .before .before .before .before .before .before .before .before .before .before .write-transform .ensures) (transformedAfter-length _ _ _ _ _ ∙ sym e) (omega (arith, e, c .before .before .before .before .before .before .before .before .before .before .before .before .before .before .before .before .dimension-of .ensures, m)) (c .before .before .shift-vector .ensures) ∙ ap (λ (k : ℕ). over (a .output .now) (shiftIn (take k (a .last-shingled-point .now)) (transformedAfter (settingsOf (a .head)) (take (statisticsLength (settingsOf (a .head))) (a .statistics .now)) (a .head .«values_seen») (previous (holding (a .head) (take (statisticsLength (settingsOf (a .head))) (a .statistics .now)) (take (a .head .transformer .«input_length» * a .head .«shingle_size») (a .last-shingled-input .now)) (take (a .head .«shingle_size») (a .previous-timestamps .now)))) (reading (a .input .now) (a .timestamp))))) (c .before .before .before .before .before .before .before .before .before .before .before .before .before .before .before .before .dimension-of .ensures .0)
+
+pub write-point-spec : {M : Type 1} → statement M
+write-point-spec =
+    tie.close
+    (tie.spec
+    block-of-requires
+    dimension-of-requires
+    mul-write-transform
+    add-write-transform
+    mul-write-transform-2
+    slice-aggregate-write-transform
+    mul-write-transform-3
+    slice-aggregate-write-transform-2
+    slice-aggregate-write-transform-3
+    slice-aggregate-write-transform-4
+    write-transform-requires
+    slice-aggregate-copy-in
+    copy-in-requires
+    slice-relend-prefix-shift-vector
+    slice-aggregate-shift-vector
+    array-share-prefix-z
+    slice-aggregate-shift-vector-2
+    shift-vector-requires
+    same-length
+    returns)

@@ -1,0 +1,14 @@
+use mathlib.Core.Path.{_≡_, refl, sym, ap, _∙_}
+use Rattle.common.specs.Lent.{over}
+use borrow.Author.Needs.{needs}
+use Rattle.trcf.proofs.preprocessor.no_head.Statement.{statement}
+use Rattle.trcf.proofs.preprocessor.no_head.Tie as tie
+use Rattle.trcf.proofs.preprocessor.no_head.Reads as reads
+use Rattle.trcf.proofs.preprocessor.no_head.Lts as lts
+
+returns : tie.Need-returns
+unfolding over
+returns c = refl
+
+pub no-head-spec : {M : Type 1} → statement M
+no-head-spec = tie.close (tie.spec returns)

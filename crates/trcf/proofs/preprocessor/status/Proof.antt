@@ -1,0 +1,35 @@
+use Rattle.trcf.proofs.CallLaws.{status-told}
+use borrow.Author.Needs.{needs}
+use Rattle.trcf.proofs.preprocessor.status.Statement.{statement}
+use Rattle.trcf.proofs.preprocessor.status.Tie as tie
+use Rattle.trcf.proofs.preprocessor.status.Reads as reads
+use Rattle.trcf.proofs.preprocessor.status.Lts as lts
+
+difference-deviations-requires : tie.Need-difference-deviations-requires
+difference-deviations-requires c κs = search needs
+
+is-ready-requires : tie.Need-is-ready-requires
+is-ready-requires c κs = search needs
+
+get-dimension-requires : tie.Need-get-dimension-requires
+get-dimension-requires c κs = search needs
+
+panel-requires : tie.Need-panel-requires
+panel-requires c κs = search needs
+
+same-length : tie.Need-same-length
+same-length c = search needs
+
+returns : tie.Need-returns
+returns c = rw (c .panel .ensures, c .before .get-dimension .ensures, c .before .before .is-ready .ensures) (status-told _ _ _ _ (c .before .before .before .before .before .before .difference-deviations .ensures))
+
+pub status-spec : {M : Type 1} → statement M
+status-spec =
+    tie.close
+    (tie.spec
+    difference-deviations-requires
+    is-ready-requires
+    get-dimension-requires
+    panel-requires
+    same-length
+    returns)

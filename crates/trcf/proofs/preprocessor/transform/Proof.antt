@@ -1,0 +1,71 @@
+use Rattle.trcf.proofs.CallLaws.{write-refused, write-done}
+use Rattle.trcf.specs.Preprocessor.{reply, previous}
+use Rattle.trcf.specs.View.{view}
+use native.Mathlib.Omega.{arith}
+use mathlib.Core.Path.{_≡_, refl, sym, ap, _∙_}
+use native.Mathlib.Nat.{mul-le-mul}
+use lib.ListN.{length, length-take}
+use lib.Seq.{length-take-le}
+use borrow.Author.Needs.{needs}
+use Rattle.trcf.proofs.preprocessor.transform.Statement.{statement}
+use Rattle.trcf.proofs.preprocessor.transform.Tie as tie
+use Rattle.trcf.proofs.preprocessor.transform.Reads as reads
+use Rattle.trcf.proofs.preprocessor.transform.Lts as lts
+
+transform-row-requires : tie.Need-transform-row-requires
+transform-row-requires c κs = search needs
+
+same-length : tie.Need-same-length
+same-length c = search needs
+
+returns : tie.Need-returns
+returns c = let e = c .before .transform-row .ensures .0 (c .before .before .before .before .before .before .before .before .before .before .before .args .timestamp) in rw e (write-refused _ _ _ _ (λ z. c .if1 .taken (e ∙ z)))
+
+mul-write-transform : tie.Need-mul-write-transform
+mul-write-transform c = let r = c .before .before .transform-row .ensures .1 .0 (c .before .if1 .left) in let p = mul-le-mul (r .bounded .d-few) (r .bounded .k-few) in omega (arith, r .bounded)
+
+add-write-transform : tie.Need-add-write-transform
+add-write-transform c = let r = c .before .before .transform-row .ensures .1 .0 (c .before .if1 .left) in let p = mul-le-mul (r .bounded .d-few) (r .bounded .k-few) in omega (arith, r .bounded)
+
+mul-write-transform-2 : tie.Need-mul-write-transform-2
+mul-write-transform-2 c = let r = c .before .before .transform-row .ensures .1 .0 (c .before .if1 .left) in let p = mul-le-mul (r .bounded .d-few) (r .bounded .k-few) in omega (arith, r .bounded)
+
+slice-aggregate-write-transform : tie.Need-slice-aggregate-write-transform
+slice-aggregate-write-transform c = let r = c .before .before .before .transform-row .ensures .1 .0 (c .before .before .if1 .left) in simp length-take (omega (arith, r .fitted .roomy))
+
+mul-write-transform-3 : tie.Need-mul-write-transform-3
+mul-write-transform-3 c = let r = c .before .before .before .transform-row .ensures .1 .0 (c .before .before .if1 .left) in let p = mul-le-mul (r .bounded .d-few) (r .bounded .k-few) in omega (arith, r .bounded)
+
+slice-aggregate-write-transform-2 : tie.Need-slice-aggregate-write-transform-2
+slice-aggregate-write-transform-2 c = let r = c .before .before .before .before .transform-row .ensures .1 .0 (c .before .before .before .if1 .left) in simp length-take (omega (arith, r .fitted .roomy))
+
+slice-aggregate-write-transform-3 : tie.Need-slice-aggregate-write-transform-3
+slice-aggregate-write-transform-3 c = let r = c .before .before .before .before .before .transform-row .ensures .1 .0 (c .before .before .before .before .if1 .left) in simp length-take (omega (arith, r .fitted .roomy))
+
+write-transform-requires : tie.Need-write-transform-requires
+write-transform-requires c κs = let r = c .before .before .before .before .before .before .transform-row .ensures .1 .0 (c .before .before .before .before .before .if1 .left) in let f = r .fitted .roomy in (r .bounded, (record { all-statistics = length-take-le _ _ (f .in-statistics); all-input = length-take-le _ _ (f .in-input); all-times = length-take-le _ _ (f .in-times) }, (c .before .before .before .before .before .before .transform-row .ensures .1 .1 .0 (c .before .before .before .before .before .if1 .left), c .before .before .before .before .before .before .transform-row .ensures .1 .1 .1 (c .before .before .before .before .before .if1 .left))))
+
+same-length-2 : tie.Need-same-length-2
+same-length-2 c = search needs
+
+returns-2 : tie.Need-returns-2
+unfolding reply view previous
+returns-2 c = let e = c .before .before .before .before .before .before .before .before .before .transform-row .ensures .0 (c .before .before .before .before .before .before .before .before .before .before .before .before .before .before .before .before .before .before .before .args .timestamp) in rw (c .before .before .write-transform .ensures) (write-done _ _ _ _ (sym e ∙ c .before .before .before .before .before .before .before .before .if1 .left))
+
+pub transform-spec : {M : Type 1} → statement M
+transform-spec =
+    tie.close
+    (tie.spec
+    transform-row-requires
+    same-length
+    returns
+    mul-write-transform
+    add-write-transform
+    mul-write-transform-2
+    slice-aggregate-write-transform
+    mul-write-transform-3
+    slice-aggregate-write-transform-2
+    slice-aggregate-write-transform-3
+    write-transform-requires
+    same-length-2
+    returns-2)

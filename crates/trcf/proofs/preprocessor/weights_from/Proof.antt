@@ -1,0 +1,19 @@
+use mathlib.Core.Path.{_≡_, refl, sym, ap, _∙_}
+use Rattle.trcf.proofs.ShingleLaws.{paste-over}
+use borrow.Author.Needs.{needs}
+use Rattle.trcf.proofs.preprocessor.weights_from.Statement.{statement}
+use Rattle.trcf.proofs.preprocessor.weights_from.Tie as tie
+use Rattle.trcf.proofs.preprocessor.weights_from.Reads as reads
+use Rattle.trcf.proofs.preprocessor.weights_from.Lts as lts
+
+slice-aggregate-copy-in : tie.Need-slice-aggregate-copy-in
+slice-aggregate-copy-in c = search needs
+
+copy-in-requires : tie.Need-copy-in-requires
+copy-in-requires c κs = search needs
+
+returns : tie.Need-returns
+returns c = c .before .copy-in .ensures ∙ paste-over _ _
+
+pub weights-from-spec : {M : Type 1} → statement M
+weights-from-spec = tie.close (tie.spec slice-aggregate-copy-in copy-in-requires returns)

@@ -1,0 +1,15 @@
+use Rattle.trcf.proofs.RefusalLaws.{any-initial}
+use borrow.Author.Needs.{needs}
+use Rattle.trcf.proofs.refusal.has_initial.Statement.{statement}
+use Rattle.trcf.proofs.refusal.has_initial.Tie as tie
+use Rattle.trcf.proofs.refusal.has_initial.Reads as reads
+use Rattle.trcf.proofs.refusal.has_initial.Lts as lts
+
+returns : tie.Need-returns
+returns c = rw (c .if1 .taken)
+
+returns-2 : tie.Need-returns-2
+returns-2 c = any-initial (c .before .args .initial-timestamps .now) (c .before .args .n) (c .if1 .left)
+
+pub has-initial-spec : {M : Type 1} → statement M
+has-initial-spec = tie.close (tie.spec returns returns-2)

@@ -1,0 +1,18 @@
+use borrow.Author.Tests.{not-true, not-false, lt-ltb, le-ltb, eq-eqb, ne-eqb, le-leb, lt-leb}
+use borrow.Author.Needs.{needs}
+use Rattle.trcf.proofs.refusal.is_due.Statement.{statement}
+use Rattle.trcf.proofs.refusal.is_due.Tie as tie
+use Rattle.trcf.proofs.refusal.is_due.Reads as reads
+use Rattle.trcf.proofs.refusal.is_due.Lts as lts
+
+has-initial-requires : tie.Need-has-initial-requires
+has-initial-requires c κs = search needs
+
+returns : tie.Need-returns
+returns c = rw (eq-eqb _ _ (c .before .if1 .taken), c .has-initial .ensures)
+
+returns-2 : tie.Need-returns-2
+returns-2 c = rw (ne-eqb _ _ (c .if1 .left))
+
+pub is-due-spec : {M : Type 1} → statement M
+is-due-spec = tie.close (tie.spec has-initial-requires returns returns-2)

@@ -1,0 +1,23 @@
+use mathlib.Core.Path.{_≡_, refl, sym, ap, _∙_}
+use borrow.Author.Needs.{needs}
+use Rattle.trcf.proofs.refusal.is_unused.Statement.{statement}
+use Rattle.trcf.proofs.refusal.is_unused.Tie as tie
+use Rattle.trcf.proofs.refusal.is_unused.Reads as reads
+use Rattle.trcf.proofs.refusal.is_unused.Lts as lts
+use Rattle.trcf.proofs.refusal.all_one.Reads as all-one-reads
+use Rattle.trcf.proofs.types.is_none.Reads as is-none-reads
+
+is-none-requires : tie.Need-is-none-requires
+is-none-requires c κs = search needs
+
+all-one-requires : tie.Need-all-one-requires
+all-one-requires c κs = search needs
+
+returns : tie.Need-returns
+returns c = rw (sym (c .before .before .is-none .ensures) ∙ c .before .if1 .taken, c .all-one .ensures)
+
+returns-2 : tie.Need-returns-2
+returns-2 c = rw (sym (c .before .is-none .ensures) ∙ c .if1 .left)
+
+pub is-unused-spec : {M : Type 1} → statement M
+is-unused-spec = tie.close (tie.spec is-none-requires all-one-requires returns returns-2)

@@ -1,0 +1,22 @@
+use mathlib.Core.Path.{_≡_, refl, sym, ap, _∙_}
+use Rattle.trcf.specs.Settings.{waiting}
+use borrow.Author.Needs.{needs}
+use Rattle.trcf.proofs.refusal.is_waiting.Statement.{statement}
+use Rattle.trcf.proofs.refusal.is_waiting.Tie as tie
+use Rattle.trcf.proofs.refusal.is_waiting.Reads as reads
+use Rattle.trcf.proofs.refusal.is_waiting.Lts as lts
+use Rattle.trcf.proofs.types.is_normalizing.Reads as is-normalizing-reads
+
+is-normalizing-requires : tie.Need-is-normalizing-requires
+is-normalizing-requires c κs = search needs
+
+returns : tie.Need-returns
+unfolding waiting
+returns c = rw (sym (c .before .is-normalizing .ensures) ∙ c .if1 .taken)
+
+returns-2 : tie.Need-returns-2
+unfolding waiting
+returns-2 c = rw (sym (c .before .is-normalizing .ensures) ∙ c .if1 .left)
+
+pub is-waiting-spec : {M : Type 1} → statement M
+is-waiting-spec = tie.close (tie.spec is-normalizing-requires returns returns-2)

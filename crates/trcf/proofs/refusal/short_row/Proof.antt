@@ -1,0 +1,76 @@
+use mathlib.Core.Path.{_≡_, refl, sym, ap, _∙_}
+use native.Mathlib.Omega.{arith}
+use borrow.Author.Tests.{not-true, not-false, lt-ltb, le-ltb, eq-eqb, ne-eqb, le-leb, lt-leb}
+use native.Mathlib.Nat.{mul-le-mul}
+use Prim.Native.Nat.{_≤_}
+use Rattle.trcf.specs.View.{shortRow, lentShort}
+use borrow.Author.Needs.{needs}
+use Rattle.trcf.proofs.refusal.short_row.Statement.{statement}
+use Rattle.trcf.proofs.refusal.short_row.Tie as tie
+use Rattle.trcf.proofs.refusal.short_row.Reads as reads
+use Rattle.trcf.proofs.refusal.short_row.Lts as lts
+use Rattle.trcf.proofs.refusal.dimension_of.Reads as dimension-of-reads
+
+dimension-of-requires : tie.Need-dimension-of-requires
+dimension-of-requires c κs = search needs
+
+mul-if1 : tie.Need-mul-if1
+mul-if1 c = search needs
+
+add-if1 : tie.Need-add-if1
+add-if1 c = search needs
+
+mul-if1-2 : tie.Need-mul-if1-2
+mul-if1-2 c = search needs
+
+returns : tie.Need-returns
+unfolding shortRow lentShort
+returns c = (rw (← c .before .dimension-of .ensures .0, lt-ltb _ _ (c .if1 .taken)), λ e. absurd (omega (arith, e)))
+
+mul-if2 : tie.Need-mul-if2
+mul-if2 c = let a : c .before .before .before .before .before .before .before .before .before .args .head .transformer .«input_length» ≤ 16 = omega arith in let b : c .before .before .before .before .before .before .before .before .before .args .head .«shingle_size» ≤ 64 = omega arith in omega (arith, mul-le-mul a b)
+
+returns-2 : tie.Need-returns-2
+unfolding shortRow lentShort
+returns-2 c = (rw (← c .before .before .dimension-of .ensures .0, le-ltb _ _ (c .before .if1 .left), lt-ltb _ _ (c .if2 .taken)), λ e. absurd (omega (arith, e)))
+
+returns-3 : tie.Need-returns-3
+unfolding shortRow lentShort
+returns-3 c = (rw (← c .before .before .before .dimension-of .ensures .0, le-ltb _ _ (c .before .before .if1 .left), le-ltb _ _ (c .before .if2 .left), lt-ltb _ _ (c .if3 .taken)), λ e. absurd (omega (arith, e)))
+
+returns-4 : tie.Need-returns-4
+unfolding shortRow lentShort
+returns-4 c = (rw (← c .before .before .before .before .dimension-of .ensures .0, le-ltb _ _ (c .before .before .before .if1 .left), le-ltb _ _ (c .before .before .if2 .left), le-ltb _ _ (c .before .if3 .left), lt-ltb _ _ (c .if4 .taken)), λ e. absurd (omega (arith, e)))
+
+mul-if5 : tie.Need-mul-if5
+mul-if5 c = let a : c .before .before .before .before .before .before .before .before .before .before .before .before .args .head .«start_normalization» ≤ 2000 = omega arith in let b : c .before .before .before .before .before .before .before .before .before .before .before .before .args .head .transformer .«input_length» ≤ 16 = omega arith in omega (arith, mul-le-mul a b)
+
+returns-5 : tie.Need-returns-5
+unfolding shortRow lentShort
+returns-5 c = (rw (← c .before .before .before .before .before .dimension-of .ensures .0, le-ltb _ _ (c .before .before .before .before .if1 .left), le-ltb _ _ (c .before .before .before .if2 .left), le-ltb _ _ (c .before .before .if3 .left), le-ltb _ _ (c .before .if4 .left), lt-ltb _ _ (c .if5 .taken)), λ e. absurd (omega (arith, e)))
+
+returns-6 : tie.Need-returns-6
+unfolding shortRow lentShort
+returns-6 c = (rw (← c .before .before .before .before .before .before .dimension-of .ensures .0, le-ltb _ _ (c .before .before .before .before .before .if1 .left), le-ltb _ _ (c .before .before .before .before .if2 .left), le-ltb _ _ (c .before .before .before .if3 .left), le-ltb _ _ (c .before .before .if4 .left), le-ltb _ _ (c .before .if5 .left), lt-ltb _ _ (c .if6 .taken)), λ e. absurd (omega (arith, e)))
+
+returns-7 : tie.Need-returns-7
+unfolding shortRow lentShort
+returns-7 c = (rw (← c .before .before .before .before .before .before .dimension-of .ensures .0, le-ltb _ _ (c .before .before .before .before .before .if1 .left), le-ltb _ _ (c .before .before .before .before .if2 .left), le-ltb _ _ (c .before .before .before .if3 .left), le-ltb _ _ (c .before .before .if4 .left), le-ltb _ _ (c .before .if5 .left), le-ltb _ _ (c .if6 .left)), λ e. record { in-statistics = omega arith; in-input = omega arith; in-point = rw (← c .before .before .before .before .before .before .dimension-of .ensures .0) (omega arith); in-times = omega arith; in-values = omega arith; in-initial = omega arith })
+
+pub short-row-spec : {M : Type 1} → statement M
+short-row-spec =
+    tie.close
+    (tie.spec
+    dimension-of-requires
+    mul-if1
+    add-if1
+    mul-if1-2
+    returns
+    mul-if2
+    returns-2
+    returns-3
+    returns-4
+    mul-if5
+    returns-5
+    returns-6
+    returns-7)

@@ -1,0 +1,37 @@
+use borrow.Author.Needs.{needs}
+use Rattle.trcf.proofs.time.time_deviation.Statement.{statement}
+use Rattle.trcf.proofs.time.time_deviation.Tie as tie
+use Rattle.trcf.proofs.time.time_deviation.Reads as reads
+use Rattle.trcf.proofs.time.time_deviation.Lts as lts
+use Rattle.common.proofs.deviation.Deviation.deviation.Reads as deviation-reads
+use Rattle.numeric.proofs.to_f32.Reads as to-f32-reads
+use Rattle.trcf.proofs.transformer.statistic_at.Reads as statistic-at-reads
+
+mul-statistic-at : tie.Need-mul-statistic-at
+mul-statistic-at c = search needs
+
+add-statistic-at : tie.Need-add-statistic-at
+add-statistic-at c = search needs
+
+statistic-at-requires : tie.Need-statistic-at-requires
+statistic-at-requires c κs = search needs
+
+deviation-requires : tie.Need-deviation-requires
+deviation-requires c κs = search needs
+
+to-f32-requires : tie.Need-to-f32-requires
+to-f32-requires c κs = search needs
+
+returns : tie.Need-returns
+returns c = rw (c .to-f32 .ensures, c .before .deviation .ensures, c .before .before .statistic-at .ensures)
+
+pub time-deviation-spec : {M : Type 1} → statement M
+time-deviation-spec =
+    tie.close
+    (tie.spec
+    mul-statistic-at
+    add-statistic-at
+    statistic-at-requires
+    deviation-requires
+    to-f32-requires
+    returns)

@@ -1,0 +1,40 @@
+use Rattle.trcf.specs.Preprocessor.{timeElement}
+use borrow.Author.Needs.{needs}
+use Rattle.trcf.proofs.time.time_element.Statement.{statement}
+use Rattle.trcf.proofs.time.time_element.Tie as tie
+use Rattle.trcf.proofs.time.time_element.Reads as reads
+use Rattle.trcf.proofs.time.time_element.Lts as lts
+use Rattle.numeric.proofs.to_f32.Reads as to-f32-reads
+use Rattle.numeric.proofs.to_f64.Reads as to-f64-reads
+use Rattle.numeric.proofs.u64_to_f64.Reads as u64-to-f64-reads
+use Rattle.trcf.proofs.time.timescale_of.Reads as timescale-of-reads
+
+to-f64-requires : tie.Need-to-f64-requires
+to-f64-requires c κs = search needs
+
+timescale-of-requires : tie.Need-timescale-of-requires
+timescale-of-requires c κs = search needs
+
+u64-to-f64-requires : tie.Need-u64-to-f64-requires
+u64-to-f64-requires c κs = search needs
+
+u64-to-f64-requires-2 : tie.Need-u64-to-f64-requires-2
+u64-to-f64-requires-2 c κs = search needs
+
+to-f32-requires : tie.Need-to-f32-requires
+to-f32-requires c κs = search needs
+
+returns : tie.Need-returns
+unfolding timeElement
+returns c = rw (c .to-f32 .ensures, c .before .before .u64-to-f64 .ensures, c .before .u64-to-f642 .ensures, c .before .before .before .before .to-f64 .ensures, c .before .before .before .timescale-of .ensures)
+
+pub time-element-spec : {M : Type 1} → statement M
+time-element-spec =
+    tie.close
+    (tie.spec
+    to-f64-requires
+    timescale-of-requires
+    u64-to-f64-requires
+    u64-to-f64-requires-2
+    to-f32-requires
+    returns)

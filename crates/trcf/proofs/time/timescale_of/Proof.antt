@@ -1,0 +1,23 @@
+use Rattle.trcf.specs.Preprocessor.{timescale}
+use borrow.Author.Needs.{needs}
+use Rattle.trcf.proofs.time.timescale_of.Statement.{statement}
+use Rattle.trcf.proofs.time.timescale_of.Tie as tie
+use Rattle.trcf.proofs.time.timescale_of.Reads as reads
+use Rattle.trcf.proofs.time.timescale_of.Lts as lts
+use Rattle.trcf.proofs.transformer.mean_at.Reads as mean-at-reads
+
+mul-mean-at : tie.Need-mul-mean-at
+mul-mean-at c = search needs
+
+add-mean-at : tie.Need-add-mean-at
+add-mean-at c = search needs
+
+mean-at-requires : tie.Need-mean-at-requires
+mean-at-requires c κs = search needs
+
+returns : tie.Need-returns
+unfolding timescale
+returns c = rw (c .mean-at .ensures)
+
+pub timescale-of-spec : {M : Type 1} → statement M
+timescale-of-spec = tie.close (tie.spec mul-mean-at add-mean-at mean-at-requires returns)

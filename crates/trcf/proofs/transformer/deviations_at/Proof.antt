@@ -1,0 +1,65 @@
+use Rattle.trcf.specs.Transformer.{deviationsAt}
+use borrow.Author.Needs.{needs}
+use Rattle.trcf.proofs.transformer.deviations_at.Statement.{statement}
+use Rattle.trcf.proofs.transformer.deviations_at.Tie as tie
+use Rattle.trcf.proofs.transformer.deviations_at.Reads as reads
+use Rattle.trcf.proofs.transformer.deviations_at.Lts as lts
+use Rattle.trcf.proofs.transformer.statistic_at.Reads as statistic-at-reads
+
+statistic-at-requires : tie.Need-statistic-at-requires
+statistic-at-requires c κs = search needs
+
+add-statistic-at : tie.Need-add-statistic-at
+add-statistic-at c = search needs
+
+statistic-at-requires-2 : tie.Need-statistic-at-requires-2
+statistic-at-requires-2 c κs = search needs
+
+mul-statistic-at : tie.Need-mul-statistic-at
+mul-statistic-at c = search needs
+
+add-statistic-at-2 : tie.Need-add-statistic-at-2
+add-statistic-at-2 c = search needs
+
+statistic-at-requires-3 : tie.Need-statistic-at-requires-3
+statistic-at-requires-3 c κs = search needs
+
+mul-statistic-at-2 : tie.Need-mul-statistic-at-2
+mul-statistic-at-2 c = search needs
+
+add-statistic-at-3 : tie.Need-add-statistic-at-3
+add-statistic-at-3 c = search needs
+
+statistic-at-requires-4 : tie.Need-statistic-at-requires-4
+statistic-at-requires-4 c κs = search needs
+
+mul-statistic-at-3 : tie.Need-mul-statistic-at-3
+mul-statistic-at-3 c = search needs
+
+add-statistic-at-4 : tie.Need-add-statistic-at-4
+add-statistic-at-4 c = search needs
+
+statistic-at-requires-5 : tie.Need-statistic-at-requires-5
+statistic-at-requires-5 c κs = search needs
+
+returns : tie.Need-returns
+unfolding deviationsAt
+returns c = cc
+
+pub deviations-at-spec : {M : Type 1} → statement M
+deviations-at-spec =
+    tie.close
+    (tie.spec
+    statistic-at-requires
+    add-statistic-at
+    statistic-at-requires-2
+    mul-statistic-at
+    add-statistic-at-2
+    statistic-at-requires-3
+    mul-statistic-at-2
+    add-statistic-at-3
+    statistic-at-requires-4
+    mul-statistic-at-3
+    add-statistic-at-4
+    statistic-at-requires-5
+    returns)

@@ -1,0 +1,51 @@
+use Rattle.trcf.specs.Transformer.{fed}
+use borrow.Author.Needs.{needs}
+use Rattle.trcf.proofs.transformer.feed.Statement.{statement}
+use Rattle.trcf.proofs.transformer.feed.Tie as tie
+use Rattle.trcf.proofs.transformer.feed.Reads as reads
+use Rattle.trcf.proofs.transformer.feed.Lts as lts
+use Rattle.common.proofs.deviation.Deviation.deviation.Reads as deviation-reads
+use Rattle.common.proofs.deviation.Deviation.mean.Reads as mean-reads
+use Rattle.trcf.proofs.transformer.step.Reads as step-reads
+
+step-requires : tie.Need-step-requires
+step-requires c κs = search needs
+
+step-requires-2 : tie.Need-step-requires-2
+step-requires-2 c κs = search needs
+
+deviation-requires : tie.Need-deviation-requires
+deviation-requires c κs = search needs
+
+step-requires-3 : tie.Need-step-requires-3
+step-requires-3 c κs = search needs
+
+mean-requires : tie.Need-mean-requires
+mean-requires c κs = search needs
+
+step-requires-4 : tie.Need-step-requires-4
+step-requires-4 c κs = search needs
+
+deviation-requires-2 : tie.Need-deviation-requires-2
+deviation-requires-2 c κs = search needs
+
+step-requires-5 : tie.Need-step-requires-5
+step-requires-5 c κs = search needs
+
+returns : tie.Need-returns
+unfolding fed
+returns c = cc
+
+pub feed-spec : {M : Type 1} → statement M
+feed-spec =
+    tie.close
+    (tie.spec
+    step-requires
+    step-requires-2
+    deviation-requires
+    step-requires-3
+    mean-requires
+    step-requires-4
+    deviation-requires-2
+    step-requires-5
+    returns)

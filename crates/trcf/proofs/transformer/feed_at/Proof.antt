@@ -1,0 +1,31 @@
+use Rattle.trcf.specs.Transformer.{fedAt, deviationsAt, statisticAt}
+use borrow.Author.Needs.{needs}
+use Rattle.trcf.proofs.transformer.feed_at.Statement.{statement}
+use Rattle.trcf.proofs.transformer.feed_at.Tie as tie
+use Rattle.trcf.proofs.transformer.feed_at.Reads as reads
+use Rattle.trcf.proofs.transformer.feed_at.Lts as lts
+use Rattle.trcf.proofs.transformer.deviations_at.Reads as deviations-at-reads
+use Rattle.trcf.proofs.transformer.feed.Reads as feed-reads
+use Rattle.trcf.proofs.transformer.put_deviations.Reads as put-deviations-reads
+
+deviations-at-requires : tie.Need-deviations-at-requires
+deviations-at-requires c κs = search needs
+
+feed-requires : tie.Need-feed-requires
+unfolding deviationsAt statisticAt
+feed-requires c κs = rw (c .deviations-at .ensures) (c .before .before .before .pre .1, c .before .before .before .pre .1, c .before .before .before .pre .1, c .before .before .before .pre .1, c .before .before .before .pre .1)
+
+put-deviations-requires : tie.Need-put-deviations-requires
+put-deviations-requires c κs = search needs
+
+same-length : tie.Need-same-length
+same-length c = search needs
+
+returns : tie.Need-returns
+unfolding fedAt
+returns c = rw (c .before .before .put-deviations .ensures, c .before .before .before .before .feed .ensures, c .before .before .before .before .before .deviations-at .ensures)
+
+pub feed-at-spec : {M : Type 1} → statement M
+feed-at-spec =
+    tie.close
+    (tie.spec deviations-at-requires feed-requires put-deviations-requires same-length returns)

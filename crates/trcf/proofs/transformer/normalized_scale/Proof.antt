@@ -1,0 +1,26 @@
+use borrow.Author.Needs.{needs}
+use Rattle.trcf.proofs.transformer.normalized_scale.Statement.{statement}
+use Rattle.trcf.proofs.transformer.normalized_scale.Tie as tie
+use Rattle.trcf.proofs.transformer.normalized_scale.Reads as reads
+use Rattle.trcf.proofs.transformer.normalized_scale.Lts as lts
+use Rattle.numeric.proofs.to_f32.Reads as to-f32-reads
+use Rattle.trcf.proofs.transformer.mean_at.Reads as mean-at-reads
+
+mul-mean-at : tie.Need-mul-mean-at
+mul-mean-at c = search needs
+
+add-mean-at : tie.Need-add-mean-at
+add-mean-at c = search needs
+
+mean-at-requires : tie.Need-mean-at-requires
+mean-at-requires c κs = search needs
+
+to-f32-requires : tie.Need-to-f32-requires
+to-f32-requires c κs = search needs
+
+returns : tie.Need-returns
+returns c = rw (← c .before .mean-at .ensures) (c .to-f32 .ensures)
+
+pub normalized-scale-spec : {M : Type 1} → statement M
+normalized-scale-spec =
+    tie.close (tie.spec mul-mean-at add-mean-at mean-at-requires to-f32-requires returns)

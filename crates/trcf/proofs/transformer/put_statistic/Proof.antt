@@ -1,0 +1,59 @@
+use native.Mathlib.Omega.{arith}
+use lib.ListN.{length-set}
+use mathlib.Core.Path.{refl}
+use Rattle.trcf.specs.Transformer.{putStatistic}
+use borrow.Author.Needs.{needs}
+use Rattle.trcf.proofs.transformer.put_statistic.Statement.{statement}
+use Rattle.trcf.proofs.transformer.put_statistic.Tie as tie
+use Rattle.trcf.proofs.transformer.put_statistic.Reads as reads
+use Rattle.trcf.proofs.transformer.put_statistic.Lts as lts
+
+mul-at : tie.Need-mul-at
+mul-at c = search needs
+
+mul-s : tie.Need-mul-s
+mul-s c = search needs
+
+slice-write-s : tie.Need-slice-write-s
+slice-write-s c = search needs
+
+add-s : tie.Need-add-s
+add-s c = search needs
+
+mul-s-2 : tie.Need-mul-s-2
+mul-s-2 c = search needs
+
+slice-write-s-2 : tie.Need-slice-write-s-2
+slice-write-s-2 c = simp length-set (omega arith)
+
+add-s-2 : tie.Need-add-s-2
+add-s-2 c = search needs
+
+mul-s-3 : tie.Need-mul-s-3
+mul-s-3 c = search needs
+
+slice-write-s-3 : tie.Need-slice-write-s-3
+slice-write-s-3 c = simp length-set (omega arith)
+
+same-length : tie.Need-same-length
+same-length c = search needs
+
+returns : tie.Need-returns
+unfolding putStatistic
+returns c = refl
+
+pub put-statistic-spec : {M : Type 1} → statement M
+put-statistic-spec =
+    tie.close
+    (tie.spec
+    mul-at
+    mul-s
+    slice-write-s
+    add-s
+    mul-s-2
+    slice-write-s-2
+    add-s-2
+    mul-s-3
+    slice-write-s-3
+    same-length
+    returns)

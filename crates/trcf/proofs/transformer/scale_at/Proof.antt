@@ -1,0 +1,40 @@
+use mathlib.Core.Path.{sym, _∙_}
+use Rattle.trcf.proofs.TransformerLaws.{weightAt-view}
+use Rattle.trcf.specs.Transformer.{normalizedScale}
+use borrow.Author.Needs.{needs}
+use Rattle.trcf.proofs.transformer.scale_at.Statement.{statement}
+use Rattle.trcf.proofs.transformer.scale_at.Tie as tie
+use Rattle.trcf.proofs.transformer.scale_at.Reads as reads
+use Rattle.trcf.proofs.transformer.scale_at.Lts as lts
+use Rattle.trcf.proofs.transformer.normalized_scale.Reads as normalized-scale-reads
+use Rattle.trcf.proofs.types.is_normalizing.Reads as is-normalizing-reads
+
+mul-w : tie.Need-mul-w
+mul-w c = search needs
+
+element-copy-out-w : tie.Need-element-copy-out-w
+element-copy-out-w c = search needs
+
+is-normalizing-requires : tie.Need-is-normalizing-requires
+is-normalizing-requires c κs = search needs
+
+normalized-scale-requires : tie.Need-normalized-scale-requires
+normalized-scale-requires c κs = search needs
+
+returns : tie.Need-returns
+unfolding normalizedScale
+returns c = rw (sym (c .before .before .is-normalizing .ensures) ∙ c .before .if1 .taken, weightAt-view (c .before .before .before .before .before .args .t1) (c .before .before .before .before .before .args .s .now) (c .before .before .before .before .before .args .i) (c .before .before .before .before .before .pre .1)) (rw (c .normalized-scale .ensures))
+
+returns-2 : tie.Need-returns-2
+returns-2 c = rw (sym (c .before .is-normalizing .ensures) ∙ c .if1 .left, weightAt-view (c .before .before .before .before .args .t1) (c .before .before .before .before .args .s .now) (c .before .before .before .before .args .i) (c .before .before .before .before .pre .1))
+
+pub scale-at-spec : {M : Type 1} → statement M
+scale-at-spec =
+    tie.close
+    (tie.spec
+    mul-w
+    element-copy-out-w
+    is-normalizing-requires
+    normalized-scale-requires
+    returns
+    returns-2)

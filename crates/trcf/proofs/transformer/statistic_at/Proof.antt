@@ -1,0 +1,53 @@
+use mathlib.Core.Path.{refl}
+use Rattle.trcf.specs.Transformer.{statisticAt}
+use borrow.Author.Needs.{needs}
+use Rattle.trcf.proofs.transformer.statistic_at.Statement.{statement}
+use Rattle.trcf.proofs.transformer.statistic_at.Tie as tie
+use Rattle.trcf.proofs.transformer.statistic_at.Reads as reads
+use Rattle.trcf.proofs.transformer.statistic_at.Lts as lts
+
+mul-at : tie.Need-mul-at
+mul-at c = search needs
+
+mul-t6 : tie.Need-mul-t6
+mul-t6 c = search needs
+
+shared-slice-read-t8 : tie.Need-shared-slice-read-t8
+shared-slice-read-t8 c = search needs
+
+add-t9 : tie.Need-add-t9
+add-t9 c = search needs
+
+mul-t10 : tie.Need-mul-t10
+mul-t10 c = search needs
+
+shared-slice-read-t12 : tie.Need-shared-slice-read-t12
+shared-slice-read-t12 c = search needs
+
+add-t13 : tie.Need-add-t13
+add-t13 c = search needs
+
+mul-t14 : tie.Need-mul-t14
+mul-t14 c = search needs
+
+shared-slice-read-t16 : tie.Need-shared-slice-read-t16
+shared-slice-read-t16 c = search needs
+
+returns : tie.Need-returns
+unfolding statisticAt
+returns c = refl
+
+pub statistic-at-spec : {M : Type 1} → statement M
+statistic-at-spec =
+    tie.close
+    (tie.spec
+    mul-at
+    mul-t6
+    shared-slice-read-t8
+    add-t9
+    mul-t10
+    shared-slice-read-t12
+    add-t13
+    mul-t14
+    shared-slice-read-t16
+    returns)

@@ -1,0 +1,32 @@
+use Rattle.trcf.proofs.TransformerLaws.{taken-step}
+use native.Mathlib.Omega.{arith}
+use Prim.Native.Nat.{ℕ}
+use mathlib.Core.Path.{_≡_}
+use Rattle.trcf.proofs.TransformerLaws.{update-step}
+use borrow.Author.Needs.{needs}
+use Rattle.trcf.proofs.transformer.step.Statement.{statement}
+use Rattle.trcf.proofs.transformer.step.Tie as tie
+use Rattle.trcf.proofs.transformer.step.Reads as reads
+use Rattle.trcf.proofs.transformer.step.Lts as lts
+use Rattle.common.proofs.deviation.Deviation.update.Reads as update-reads
+
+update-requires : tie.Need-update-requires
+update-requires c κs = search needs
+
+enum-known-r : tie.Need-enum-known-r
+enum-known-r c = search needs
+
+enum-told : tie.Need-enum-told
+enum-told c = search needs
+
+returns : tie.Need-returns
+returns c = taken-step (c .before .before .before .before .args .t) (c .before .before .before .before .args .x) (c .before .before .before .update .result) (c .before .r .given .0 .0) (c .before .before .before .before .pre) (c .before .before .before .update .ensures) (c .before .r .given .1)
+
+returns-2 : tie.Need-returns-2
+returns-2 c = let a = c .before .before .before .args in
+    let k = update-step (a .t) (a .x) (c .before .before .before .pre) in
+    let z : _≡_ {A = ℕ} 0 1 = cc (c .enum-told .given .1) in
+    absurd (omega arith)
+
+pub step-spec : {M : Type 1} → statement M
+step-spec = tie.close (tie.spec update-requires enum-known-r enum-told returns returns-2)

@@ -1,0 +1,91 @@
+use lib.Ieee.{nan}
+use lib.Seq.{getD-take}
+use Rattle.trcf.specs.Transformer.{weightAt, basicShift, normalizedScale}
+use borrow.Author.Needs.{needs}
+use Rattle.trcf.proofs.transformer.transform_at.Statement.{statement}
+use Rattle.trcf.proofs.transformer.transform_at.Tie as tie
+use Rattle.trcf.proofs.transformer.transform_at.Reads as reads
+use Rattle.trcf.proofs.transformer.transform_at.Lts as lts
+use Rattle.trcf.proofs.transformer.narrow_mean_at.Reads as narrow-mean-at-reads
+use Rattle.trcf.proofs.transformer.normalized_scale.Reads as normalized-scale-reads
+
+enum-told : tie.Need-enum-told
+enum-told c = search needs
+
+enum-told-2 : tie.Need-enum-told-2
+enum-told-2 c = search needs
+
+mul-result : tie.Need-mul-result
+mul-result c = search needs
+
+element-copy-out-result : tie.Need-element-copy-out-result
+element-copy-out-result c = search needs
+
+enum-told-3 : tie.Need-enum-told-3
+enum-told-3 c = search needs
+
+enum-told-4 : tie.Need-enum-told-4
+enum-told-4 c = search needs
+
+narrow-mean-at-requires : tie.Need-narrow-mean-at-requires
+narrow-mean-at-requires c κs = search needs
+
+enum-told-5 : tie.Need-enum-told-5
+enum-told-5 c = search needs
+
+narrow-mean-at-requires-2 : tie.Need-narrow-mean-at-requires-2
+narrow-mean-at-requires-2 c κs = search needs
+
+normalized-scale-requires : tie.Need-normalized-scale-requires
+normalized-scale-requires c κs = search needs
+
+enum-told-6 : tie.Need-enum-told-6
+enum-told-6 c = search needs
+
+normalized-scale-requires-2 : tie.Need-normalized-scale-requires-2
+normalized-scale-requires-2 c κs = search needs
+
+returns : tie.Need-returns
+returns c = search needs
+
+returns-2 : tie.Need-returns-2
+unfolding weightAt
+returns-2 c = rw (c .before .enum-told2 .given .1, getD-take (c .before .before .before .before .args .t1 .«input_length») (c .before .before .before .before .args .t1 .weights) (c .before .before .before .before .args .i) nan (c .before .before .before .before .pre .1))
+
+returns-3 : tie.Need-returns-3
+returns-3 c = rw (c .enum-told3 .given .1)
+
+returns-4 : tie.Need-returns-4
+unfolding basicShift
+returns-4 c = rw (c .before .enum-told4 .given .1, c .narrow-mean-at .ensures)
+
+returns-5 : tie.Need-returns-5
+unfolding basicShift normalizedScale
+returns-5 c = rw (c .before .before .enum-told5 .given .1, c .before .narrow-mean-at2 .ensures, c .normalized-scale .ensures)
+
+returns-6 : tie.Need-returns-6
+unfolding normalizedScale
+returns-6 c = rw (c .before .enum-told6 .given .1, c .normalized-scale2 .ensures)
+
+pub transform-at-spec : {M : Type 1} → statement M
+transform-at-spec =
+    tie.close
+    (tie.spec
+    enum-told
+    enum-told-2
+    mul-result
+    element-copy-out-result
+    enum-told-3
+    enum-told-4
+    narrow-mean-at-requires
+    enum-told-5
+    narrow-mean-at-requires-2
+    normalized-scale-requires
+    enum-told-6
+    normalized-scale-requires-2
+    returns
+    returns-2
+    returns-3
+    returns-4
+    returns-5
+    returns-6)
