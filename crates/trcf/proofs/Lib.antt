@@ -1,9 +1,15 @@
 pub mod FitLaws
 pub mod LentLaws
 pub mod TransformerLaws
+pub mod ReachLaws
+pub mod ForecastLaws
+pub mod CallLaws
+pub mod TransformerExamples
 pub mod ShingleLaws
 pub mod RefusalLaws
 pub mod OutputLaws
-pub mod CallLaws
+pub mod OutcomeLaws
 pub mod DrainLaws
 pub mod StateLaws
+pub mod LearnLaws
+pub mod ViewLaws

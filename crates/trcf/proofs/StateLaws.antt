@@ -21,13 +21,13 @@ use Rattle.trcf.specs.View.{Lent, lent, settingsOf, view, counted, laid,
 use Rattle.trcf.specs.declared.preprocessor.Preprocessor.{Preprocessor}
 use Rattle.trcf.proofs.ShingleLaws.{over-take, over-part, length-shiftIn}
 use Rattle.trcf.proofs.DrainLaws.{first-of, left, front-over}
-use Rattle.trcf.proofs.CallLaws.{accepted-not}
+use Rattle.trcf.proofs.OutcomeLaws.{accepted-not}
 
 module _ (h : Preprocessor) (l : Lent) (f : Fitted h l) where
-  held-initial : h .«initial_len» ≤ length (l .initialTimestamps)
+  pub held-initial : h .«initial_len» ≤ length (l .initialTimestamps)
   held-initial = omega (arith, f .few, f .roomy .in-initial)
 
-  held-values : h .«initial_len» * h .transformer .«input_length» ≤ length (l .initialValues)
+  pub held-values : h .«initial_len» * h .transformer .«input_length» ≤ length (l .initialValues)
   held-values = omega (arith, mul-le-mul (f .few) (le-refl (h .transformer .«input_length»)), f .roomy .in-values)
 
   pub same-head : h ≡ counted h (view h l)

@@ -6,7 +6,7 @@ use lib.Seq.{length-take-le}
 use Rattle.trcf.specs.Settings.{dimension}
 use Rattle.trcf.specs.View.{settingsFrom, lent, lentRow, headFrom}
 use Rattle.trcf.specs.declared.preprocessor.Preprocessor.{Preprocessor}
-use Rattle.trcf.proofs.CallLaws.{build-refused, build-short, build-done, bounded-from, dimension-from}
+use Rattle.trcf.proofs.OutcomeLaws.{build-refused, build-short, build-done, bounded-from, dimension-from}
 use borrow.Author.Needs.{needs}
 use Rattle.trcf.proofs.preprocessor.build.Statement.{statement}
 use Rattle.trcf.proofs.preprocessor.build.Tie as tie

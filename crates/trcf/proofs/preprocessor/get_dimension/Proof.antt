@@ -1,5 +1,5 @@
 use mathlib.Core.Path.{_≡_, refl, sym, ap, _∙_}
-use Rattle.trcf.proofs.CallLaws.{accepted-not}
+use Rattle.trcf.proofs.OutcomeLaws.{accepted-not}
 use borrow.Author.Needs.{needs}
 use Rattle.trcf.proofs.preprocessor.get_dimension.Statement.{statement}
 use Rattle.trcf.proofs.preprocessor.get_dimension.Tie as tie

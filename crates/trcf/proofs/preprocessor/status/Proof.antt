@@ -1,4 +1,4 @@
-use Rattle.trcf.proofs.CallLaws.{status-told}
+use Rattle.trcf.proofs.OutcomeLaws.{status-told}
 use borrow.Author.Needs.{needs}
 use Rattle.trcf.proofs.preprocessor.status.Statement.{statement}
 use Rattle.trcf.proofs.preprocessor.status.Tie as tie

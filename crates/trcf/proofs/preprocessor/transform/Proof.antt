@@ -1,4 +1,4 @@
-use Rattle.trcf.proofs.CallLaws.{write-refused, write-done}
+use Rattle.trcf.proofs.OutcomeLaws.{write-refused, write-done}
 use Rattle.trcf.specs.Preprocessor.{reply, previous}
 use Rattle.trcf.specs.View.{view}
 use native.Mathlib.Omega.{arith}
