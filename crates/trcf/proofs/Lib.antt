@@ -13,3 +13,5 @@ pub mod DrainLaws
 pub mod StateLaws
 pub mod LearnLaws
 pub mod ViewLaws
+pub mod ExtrapolationLaws
+pub mod ExtrapolationExamples

@@ -8,3 +8,4 @@ pub mod Settings
 pub mod Calls
 pub mod Preprocessor
 pub mod View
+pub mod Extrapolation

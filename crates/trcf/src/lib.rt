@@ -2,6 +2,7 @@
 mod draining;
 mod learn_refusal;
 mod learning;
+pub mod extrapolation;
 mod output;
 pub mod preprocessor;
 mod refusal;
