@@ -272,7 +272,7 @@ fn state_line(line: &[u8], t: WeightedTransformer, statistics: &[f64]) -> bool {
     done(line, expect_doubles(line, c, statistics))
 }
 
-fn step(line: &[u8], t: WeightedTransformer, statistics: &mut [f64]) -> Step {
+fn line_step(line: &[u8], t: WeightedTransformer, statistics: &mut [f64]) -> Step {
     let letter = name(line);
     match letter {
         b'n' => new_line(line, statistics),
@@ -296,7 +296,7 @@ pub fn replay(text: &[u8], statistics: &mut [f64]) -> Tally {
     let mut at = 0usize;
     while at < text.len() {
         let next = line_end(text, at);
-        let s = step(&text[at..next], t, statistics);
+        let s = line_step(&text[at..next], t, statistics);
         t = s.transformer;
         tally = counted(tally, s.good, text[at]);
         at = next;

@@ -167,3 +167,42 @@ pub fn read_letter(line: &[u8], c: Cursor) -> Letter {
         cursor: cursor,
     }
 }
+
+// A whole number within i32, with `-` in front where it is negative.
+pub struct Signed {
+    pub value: i32,
+    pub cursor: Cursor,
+}
+
+// -n is the complement of n - 1.
+fn signed_of(negative: bool, n: u64) -> i32 {
+    if !negative {
+        return (n % 0x8000_0000) as i32;
+    }
+    if n == 0 {
+        return 0;
+    }
+    !(((n - 1) % 0x8000_0000) as i32)
+}
+
+pub fn read_signed(line: &[u8], c: Cursor) -> Signed {
+    let s = span_of(line, c);
+    let from = s.from;
+    let to = s.to;
+    if from < to {
+        if line[from] == b'-' {
+            let d = decimal(&line[from + 1..to]);
+            let cursor = also(s.cursor, d.good && d.value <= 0x8000_0000);
+            return Signed {
+                value: signed_of(true, d.value),
+                cursor: cursor,
+            };
+        }
+    }
+    let d = decimal(&line[from..to]);
+    let cursor = also(s.cursor, d.good && d.value < 0x8000_0000);
+    Signed {
+        value: signed_of(false, d.value),
+        cursor: cursor,
+    }
+}

@@ -106,3 +106,31 @@ pub fn read_wholes(line: &[u8], c: Cursor, out: &mut [u64]) -> List
         cursor: cursor,
     }
 }
+
+// A list that may be given: flag 0, or flag 1 and the list.
+pub struct Optional {
+    pub given: bool,
+    pub len: usize,
+    pub cursor: Cursor,
+}
+
+pub fn read_optional(line: &[u8], c: Cursor, out: &mut [f32]) -> Optional
+    ensures { λ r. ⌜ r .len ≤ length (now (out .exit)) ⌝ }
+{
+    let flag = read_whole(line, c);
+    let cursor = flag.cursor;
+    if flag.value != 1 {
+        return Optional {
+            given: false,
+            len: 0,
+            cursor: also(cursor, flag.value == 0),
+        };
+    }
+    let l = read_singles(line, cursor, out);
+    let behind = l.cursor;
+    Optional {
+        given: true,
+        len: l.len,
+        cursor: behind,
+    }
+}

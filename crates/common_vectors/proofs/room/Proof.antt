@@ -5,7 +5,7 @@ use Rattle.common_vectors.proofs.room.Statement.{statement}
 use Rattle.common_vectors.proofs.room.Tie as tie
 
 returns : tie.Need-returns
-returns c = sym (length-replicate 1048576 0)
+returns c = sym (length-replicate {0} 1048576 0)
 
 pub room-spec : {M : Type 1} → statement M
 room-spec = tie.close (tie.spec returns)

@@ -1,6 +1,6 @@
 -- `common_vectors::range32::cascade` is safe. Assumes nothing.
 use native.Mathlib.Omega.{arith}
-use lib.ListN.{length-take, length-replicate}
+use lib.ListN.{length-take}
 use borrow.Author.Needs.{needs}
 use Rattle.common_vectors.proofs.range32.cascade.Statement.{statement}
 use Rattle.common_vectors.proofs.range32.cascade.Tie as tie
@@ -15,7 +15,7 @@ array-share-prefix-base : tie.Need-array-share-prefix-base
 array-share-prefix-base c = search needs
 
 slice-aggregate-cascaded-add-f32 : tie.Need-slice-aggregate-cascaded-add-f32
-slice-aggregate-cascaded-add-f32 c = simp (length-take, length-replicate) (omega arith)
+slice-aggregate-cascaded-add-f32 c = simp length-take (omega arith)
 
 cascaded-add-f32-requires : tie.Need-cascaded-add-f32-requires
 cascaded-add-f32-requires c κs = search needs

@@ -27,7 +27,7 @@ array-share-prefix-v : tie.Need-array-share-prefix-v
 array-share-prefix-v c = search needs
 
 slice-aggregate-from : tie.Need-slice-aggregate-from
-slice-aggregate-from c = simp (length-take, length-replicate) (omega arith)
+slice-aggregate-from c = simp length-take (omega arith)
 
 array-borrow-prefix-values : tie.Need-array-borrow-prefix-values
 array-borrow-prefix-values c = search needs

@@ -1,6 +1,6 @@
 -- `common_vectors::range64::cascade` is safe. Assumes nothing.
 use native.Mathlib.Omega.{arith}
-use lib.ListN.{length-take, length-replicate}
+use lib.ListN.{length-take}
 use borrow.Author.Needs.{needs}
 use Rattle.common_vectors.proofs.range64.cascade.Statement.{statement}
 use Rattle.common_vectors.proofs.range64.cascade.Tie as tie
@@ -15,7 +15,7 @@ array-share-prefix-base : tie.Need-array-share-prefix-base
 array-share-prefix-base c = search needs
 
 slice-aggregate-cascaded-add-f64 : tie.Need-slice-aggregate-cascaded-add-f64
-slice-aggregate-cascaded-add-f64 c = simp (length-take, length-replicate) (omega arith)
+slice-aggregate-cascaded-add-f64 c = simp length-take (omega arith)
 
 cascaded-add-f64-requires : tie.Need-cascaded-add-f64-requires
 cascaded-add-f64-requires c κs = search needs

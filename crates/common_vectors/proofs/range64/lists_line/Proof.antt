@@ -1,6 +1,6 @@
 -- `common_vectors::range64::lists_line` is safe. Assumes nothing.
 use native.Mathlib.Omega.{arith}
-use lib.ListN.{length-take, length-replicate}
+use lib.ListN.{length-take}
 use borrow.Author.Needs.{needs}
 use Rattle.common_vectors.proofs.range64.lists_line.Statement.{statement}
 use Rattle.common_vectors.proofs.range64.lists_line.Tie as tie
@@ -30,19 +30,19 @@ array-borrow-prefix-values : tie.Need-array-borrow-prefix-values
 array-borrow-prefix-values c = search needs
 
 slice-aggregate-called : tie.Need-slice-aggregate-called
-slice-aggregate-called c = simp (length-take, length-replicate) (omega arith)
+slice-aggregate-called c = simp length-take (omega arith)
 
 array-borrow-prefix-upper : tie.Need-array-borrow-prefix-upper
 array-borrow-prefix-upper c = search needs
 
 slice-aggregate-called-2 : tie.Need-slice-aggregate-called-2
-slice-aggregate-called-2 c = simp (length-take, length-replicate) (omega arith)
+slice-aggregate-called-2 c = simp length-take (omega arith)
 
 array-borrow-prefix-lower : tie.Need-array-borrow-prefix-lower
 array-borrow-prefix-lower c = search needs
 
 slice-aggregate-called-3 : tie.Need-slice-aggregate-called-3
-slice-aggregate-called-3 c = simp (length-take, length-replicate) (omega arith)
+slice-aggregate-called-3 c = simp length-take (omega arith)
 
 called-requires : tie.Need-called-requires
 called-requires c κs = search needs
