@@ -13,5 +13,6 @@ pub mod DrainLaws
 pub mod StateLaws
 pub mod LearnLaws
 pub mod ViewLaws
+pub mod ViewExamples
 pub mod ExtrapolationLaws
 pub mod ExtrapolationExamples

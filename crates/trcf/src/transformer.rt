@@ -549,7 +549,7 @@ fn decay_row(decay: f64) -> u64
     }
 }
 
-fn all_one(w: &[f32]) -> bool
+pub(crate) fn all_one(w: &[f32]) -> bool
     ensures { λ r. ⌜ r ≡ allOne (now (w .entry)) ⌝ }
 {
     let mut i = 0;
