@@ -89,13 +89,7 @@ fn call(line: &[u8], s: Deviation) -> Called {
         b'k' => set_count(line, c, s),
         b'r' => taken(s.reset(), c),
         b'e' => taken(Deviation::default(), c),
-        _ => taken(
-            s,
-            Cursor {
-                at: 0,
-                good: false,
-            },
-        ),
+        _ => taken(s, Cursor { at: 0, good: false }),
     }
 }
 

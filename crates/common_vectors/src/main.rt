@@ -1,20 +1,11 @@
 // Replays answers of the Rust (docs/VECTORS.md) on `common`, and prints how many lines agree and how many differ.
-ghost use mathlib.Core.Path.{_≡_};
-ghost use lib.ListN.{length};
-
 mod deviation;
 mod range32;
 mod range64;
 
 use vector_text::lines::read_file;
 use vector_text::lines::report;
-
-// Room for a file.
-fn room() -> [u8; 1048576]
-    ensures { λ r. ⌜ 1048576 ≡ length r ⌝ }
-{
-    [0; 1048576]
-}
+use vector_text::lines::room;
 
 fn replay_deviation() {
     let mut text = room();

@@ -26,27 +26,14 @@ use vector_text::list::read_singles;
 // ---- answers
 
 // Whether the fields are these three lists, with what lies past them untouched.
-fn expect_three(
-    line: &[u8],
-    c: Cursor,
-    values: &[f32],
-    upper: &[f32],
-    lower: &[f32],
-) -> Cursor {
+fn expect_three(line: &[u8], c: Cursor, values: &[f32], upper: &[f32], lower: &[f32]) -> Cursor {
     let c1 = expect_singles(line, c, values);
     let c2 = expect_singles(line, c1, upper);
     expect_singles(line, c2, lower)
 }
 
 // Of a call that writes to lent lists.
-fn written(
-    line: &[u8],
-    c: Cursor,
-    row: u64,
-    values: &[f32],
-    upper: &[f32],
-    lower: &[f32],
-) -> bool {
+fn written(line: &[u8], c: Cursor, row: u64, values: &[f32], upper: &[f32], lower: &[f32]) -> bool {
     let c1 = expect_whole(line, c, row);
     if row != 0 {
         let old = untouched_f32(values) && untouched_f32(upper) && untouched_f32(lower);
@@ -56,14 +43,7 @@ fn written(
 }
 
 // Of a call that changes its lists, which a refused one leaves as the line gives them.
-fn changed(
-    line: &[u8],
-    c: Cursor,
-    row: u64,
-    values: &[f32],
-    upper: &[f32],
-    lower: &[f32],
-) -> bool {
+fn changed(line: &[u8], c: Cursor, row: u64, values: &[f32], upper: &[f32], lower: &[f32]) -> bool {
     let c1 = expect_whole(line, c, row);
     if row != 0 {
         let old = expect_three(line, begin(line), values, upper, lower);

@@ -44,7 +44,13 @@ pub fn written(line: &[u8], c: Cursor, row: u64, out: &[f32]) -> bool {
     done(line, expect_singles(line, c1, out))
 }
 
-pub fn expect_three(line: &[u8], c: Cursor, values: &[f32], upper: &[f32], lower: &[f32]) -> Cursor {
+pub fn expect_three(
+    line: &[u8],
+    c: Cursor,
+    values: &[f32],
+    upper: &[f32],
+    lower: &[f32],
+) -> Cursor {
     let c1 = expect_singles(line, c, values);
     let c2 = expect_singles(line, c1, upper);
     expect_singles(line, c2, lower)

@@ -11,9 +11,10 @@ mod transformer;
 
 use vector_text::lines::read_file;
 use vector_text::lines::report;
+use vector_text::lines::room;
 
 fn replay_transformer() {
-    let mut text = [0u8; 524288];
+    let mut text = room();
     let mut statistics = [0.0f64; 260];
     let n = read_file(b"transformer", &mut text);
     report(
@@ -22,15 +23,15 @@ fn replay_transformer() {
     );
 }
 
-fn replay_preprocessor() {
-    let mut text = [0u8; 2097152];
+fn replay_preprocessor(path: &[u8]) {
+    let mut text = room();
     let mut statistics = [0.0f64; 260];
     let mut inputs = [0.0f32; 1030];
     let mut point = [0.0f32; 1100];
     let mut times = [0u64; 70];
     let mut initial_values = [0.0f32; 32000];
     let mut initial_timestamps = [0u64; 2000];
-    let n = read_file(b"preprocessor", &mut text);
+    let n = read_file(path, &mut text);
     let tally = preprocessor::replay(
         &text[..n],
         &mut statistics,
@@ -40,10 +41,11 @@ fn replay_preprocessor() {
         &mut initial_values,
         &mut initial_timestamps,
     );
-    report(b"preprocessor", tally);
+    report(path, tally);
 }
 
 fn main() {
     replay_transformer();
-    replay_preprocessor();
+    replay_preprocessor(b"preprocessor_1");
+    replay_preprocessor(b"preprocessor_6");
 }

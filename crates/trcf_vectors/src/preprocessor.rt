@@ -32,6 +32,8 @@ use vector_text::lines::line_end;
 use vector_text::lines::no_lines;
 use vector_text::list::length_within;
 use vector_text::list::read_singles;
+ghost use Prim.Native.Nat.{_<_, _≤_};
+ghost use lib.ListN.{length};
 
 // Before the first `b`.
 fn no_head() -> Preprocessor {
@@ -298,6 +300,48 @@ fn line_step(
     }
 }
 
+// What a turn leaves: the head, the tally, and the place of the next line.
+struct Turn {
+    head: Preprocessor,
+    tally: Tally,
+    at: usize,
+}
+
+fn turn_at(
+    text: &[u8],
+    at: usize,
+    tally: Tally,
+    head: Preprocessor,
+    statistics: &mut [f64],
+    inputs: &mut [f32],
+    point: &mut [f32],
+    times: &mut [u64],
+    initial_values: &mut [f32],
+    initial_timestamps: &mut [u64],
+) -> Turn
+    requires { ⌜ at < length (now text) ⌝ }
+    ensures { λ r. ⌜ (at < r .at) × (r .at ≤ length (now (text .entry))) ⌝ }
+{
+    let next = line_end(text, at);
+    let s = line_step(
+        &text[at..next],
+        head,
+        statistics,
+        inputs,
+        point,
+        times,
+        initial_values,
+        initial_timestamps,
+    );
+    let after = s.head;
+    let total = counted(tally, s.good, text[at]);
+    Turn {
+        head: after,
+        tally: total,
+        at: next,
+    }
+}
+
 // Every line of the text, in order.
 pub fn replay(
     text: &[u8],
@@ -312,9 +356,10 @@ pub fn replay(
     let mut tally = no_lines();
     let mut at = 0usize;
     while at < text.len() {
-        let next = line_end(text, at);
-        let s = line_step(
-            &text[at..next],
+        let t = turn_at(
+            text,
+            at,
+            tally,
             head,
             statistics,
             inputs,
@@ -323,9 +368,9 @@ pub fn replay(
             initial_values,
             initial_timestamps,
         );
-        head = s.head;
-        tally = counted(tally, s.good, text[at]);
-        at = next;
+        head = t.head;
+        tally = t.tally;
+        at = t.at;
     }
     tally
 }

@@ -67,20 +67,11 @@ fn read_settings(line: &[u8]) -> Settings {
     }
 }
 
-fn forget(
-    statistics: &mut [f64],
-    inputs: &mut [f32],
-    point: &mut [f32],
-    times: &mut [u64],
-    initial_values: &mut [f32],
-    initial_timestamps: &mut [u64],
-) {
+fn forget(statistics: &mut [f64], inputs: &mut [f32], point: &mut [f32], times: &mut [u64]) {
     forget_f64(statistics);
     forget_f32(inputs);
     forget_f32(point);
     forget_u64(times);
-    forget_f32(initial_values);
-    forget_u64(initial_timestamps);
 }
 
 fn untouched(statistics: &[f64], inputs: &[f32], point: &[f32], times: &[u64]) -> bool {
@@ -122,32 +113,45 @@ fn built(
     }
 }
 
-pub fn build_line(
+fn read_and_build(
     line: &[u8],
     statistics: &mut [f64],
     inputs: &mut [f32],
     point: &mut [f32],
     times: &mut [u64],
-    initial_values: &mut [f32],
-    initial_timestamps: &mut [u64],
+    initial_values: &[f32],
+    initial_timestamps: &[u64],
 ) -> Step {
     let mut weights = [0.0f32; 40];
     let s = read_settings(line);
     let w = read_singles(line, s.cursor, &mut weights);
     let n = w.len;
-    forget(
+    built(
+        line,
+        w.cursor,
+        s.builder,
+        &weights[..n],
         statistics,
         inputs,
         point,
         times,
         initial_values,
         initial_timestamps,
-    );
-    built(
+    )
+}
+
+pub fn build_line(
+    line: &[u8],
+    statistics: &mut [f64],
+    inputs: &mut [f32],
+    point: &mut [f32],
+    times: &mut [u64],
+    initial_values: &[f32],
+    initial_timestamps: &[u64],
+) -> Step {
+    forget(statistics, inputs, point, times);
+    read_and_build(
         line,
-        w.cursor,
-        s.builder,
-        &weights[..n],
         statistics,
         inputs,
         point,

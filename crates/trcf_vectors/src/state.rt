@@ -11,13 +11,12 @@ use vector_text::field::also;
 use vector_text::field::begin;
 use vector_text::field::done;
 use vector_text::field::read_whole;
+use vector_text::list::List;
 use vector_text::list::length_within;
 use vector_text::list::read_all_singles;
 use vector_text::list::read_doubles;
 use vector_text::list::read_singles;
 use vector_text::list::read_wholes;
-ghost use Prim.Native.Nat.{_≤_};
-ghost use lib.ListN.{length};
 
 // A cursor, and the place of the next initial value.
 struct Initial {
@@ -44,13 +43,7 @@ fn expect_initial(line: &[u8], c: Cursor, d: usize, values: &[f32], at: usize) -
 }
 
 // For each initial value its time and its d numbers.
-fn expect_all_initial(
-    line: &[u8],
-    c: Cursor,
-    d: usize,
-    values: &[f32],
-    times: &[u64],
-) -> Cursor {
+fn expect_all_initial(line: &[u8], c: Cursor, d: usize, values: &[f32], times: &[u64]) -> Cursor {
     let mut cursor = c;
     let mut at = 0usize;
     let mut i = 0usize;
@@ -137,21 +130,63 @@ fn read_all_initial(
     cursor
 }
 
-fn with_counts(
-    head: Preprocessor,
+// The counters of a state, and the cursor behind them.
+struct Counts {
     values_seen: u64,
     internal: u64,
     count: u64,
-    initial_len: usize,
-) -> Preprocessor {
+    cursor: Cursor,
+}
+
+fn read_counts(line: &[u8]) -> Counts {
+    let seen = read_whole(line, begin(line));
+    let internal = read_whole(line, seen.cursor);
+    let count = read_whole(line, internal.cursor);
+    let behind = count.cursor;
+    Counts {
+        values_seen: seen.value,
+        internal: internal.value,
+        count: count.value,
+        cursor: behind,
+    }
+}
+
+fn with_counts(head: Preprocessor, n: Counts, initial_len: usize) -> Preprocessor {
     let mut t = head.transformer;
-    t.count = count;
+    t.count = n.count;
     let mut next = head;
     next.transformer = t;
-    next.values_seen = values_seen as usize;
-    next.internal_timestamp = internal as usize;
+    next.values_seen = n.values_seen as usize;
+    next.internal_timestamp = n.internal as usize;
     next.initial_len = initial_len;
     next
+}
+
+fn read_lists(
+    line: &[u8],
+    c: Cursor,
+    statistics: &mut [f64],
+    inputs: &mut [f32],
+    point: &mut [f32],
+    times: &mut [u64],
+) -> Cursor {
+    let a = read_doubles(line, c, statistics);
+    let b = read_singles(line, a.cursor, inputs);
+    let d = read_singles(line, b.cursor, point);
+    let e = read_wholes(line, d.cursor, times);
+    let behind = e.cursor;
+    behind
+}
+
+// How many there are, to the front of both lists.
+fn read_waiting(line: &[u8], c: Cursor, d: usize, values: &mut [f32], times: &mut [u64]) -> List {
+    let l = length_within(line, c, times.len());
+    let n = l.len;
+    let behind = read_all_initial(line, l.cursor, d, values, &mut times[..n]);
+    List {
+        len: n,
+        cursor: behind,
+    }
 }
 
 pub fn set_line(
@@ -165,25 +200,12 @@ pub fn set_line(
     initial_timestamps: &mut [u64],
 ) -> Step {
     let t = head.transformer;
-    let seen = read_whole(line, begin(line));
-    let internal = read_whole(line, seen.cursor);
-    let count = read_whole(line, internal.cursor);
-    let c1 = read_doubles(line, count.cursor, statistics);
-    let c2 = read_singles(line, c1.cursor, inputs);
-    let c3 = read_singles(line, c2.cursor, point);
-    let c4 = read_wholes(line, c3.cursor, times);
-    let initial = length_within(line, c4.cursor, initial_timestamps.len());
-    let n = initial.len;
-    let c5 = read_all_initial(
-        line,
-        initial.cursor,
-        t.input_length,
-        initial_values,
-        &mut initial_timestamps[..n],
-    );
-    let next = with_counts(head, seen.value, internal.value, count.value, n);
+    let counts = read_counts(line);
+    let c = read_lists(line, counts.cursor, statistics, inputs, point, times);
+    let w = read_waiting(line, c, t.input_length, initial_values, initial_timestamps);
+    let next = with_counts(head, counts, w.len);
     Step {
-        good: done(line, c5),
+        good: done(line, w.cursor),
         head: next,
     }
 }

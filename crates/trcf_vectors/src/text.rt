@@ -4,8 +4,11 @@ use trcf::preprocessor::Preprocessor;
 use vector_text::expect::expect_whole;
 use vector_text::field::begin;
 use vector_text::field::done;
+ghost use Prim.Native.Nat.{_<_};
 
-fn wide(b: u8) -> u64 {
+fn wide(b: u8) -> u64
+    ensures { λ r. ⌜ r < 256 ⌝ }
+{
     b as u64
 }
 

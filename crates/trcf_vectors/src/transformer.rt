@@ -1,7 +1,7 @@
 // Replays the lines of the kind transformer on one transformer, which is carried from line to line beside its statistics.
 use crate::answer::changed;
-use crate::answer::written;
 use crate::answer::forget_f64;
+use crate::answer::written;
 use crate::kinds::method_of;
 use trcf::transformer::WeightedTransformer;
 use trcf::types::TransformMethod;

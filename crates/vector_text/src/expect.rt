@@ -9,7 +9,9 @@ use crate::list::length_within;
 
 // What lent memory holds before a call.
 pub const OLD_F32: f32 = 12345.678;
+
 pub const OLD_F64: f64 = 12345.678;
+
 pub const OLD_U64: u64 = 12345678;
 
 pub fn expect_whole(line: &[u8], c: Cursor, value: u64) -> Cursor {

@@ -1,7 +1,15 @@
 // The lines of a file: where each ends, how many agree, and the report.
 use libc::STDOUT_FILENO;
+ghost use mathlib.Core.Path.{_≡_};
 ghost use Prim.Native.Nat.{_<_, _≤_};
 ghost use lib.ListN.{length};
+
+// Room for a file.
+pub fn room() -> [u8; 524288]
+    ensures { λ r. ⌜ 524288 ≡ length r ⌝ }
+{
+    [0; 524288]
+}
 
 // The place behind the line from `from` on.
 pub fn line_end(text: &[u8], from: usize) -> usize
