@@ -1,146 +1,124 @@
 // Replays the lines of the kind deviation on one statistic, which is carried from line to line.
-ghost use Prim.Native.Nat.{_≤_};
-use crate::text::Line;
 use common::deviation::Deviation;
 use common::deviation::DeviationResult;
+use vector_text::expect::expect_double;
+use vector_text::expect::expect_flag;
+use vector_text::expect::expect_whole;
+use vector_text::field::Cursor;
+use vector_text::field::begin;
+use vector_text::field::done;
+use vector_text::field::name;
+use vector_text::field::read_double;
+use vector_text::field::read_whole;
+use vector_text::lines::Tally;
+use vector_text::lines::counted;
+use vector_text::lines::line_end;
+use vector_text::lines::no_lines;
 
-// How many lines agree with the Rust and how many do not.
-pub struct Tally {
-    pub agree: u64,
-    pub differ: u64,
-}
-
-// The row of a call, and the statistic after it.
+// The row of a call, the statistic after it, and the cursor behind the call's arguments.
 struct Called {
     row: u64,
     statistic: Deviation,
+    cursor: Cursor,
 }
 
-// A pattern as a float. `from_bits` is undefined at a not-a-number's.
-fn value(b: u64) -> f64 {
-    if b % 0x8000_0000_0000_0000 > 0x7ff0_0000_0000_0000 {
-        0.0 / 0.0
-    } else {
-        f64::from_bits(b)
-    }
-}
-
-// A float's pattern, with every not-a-number as the one that the vectors have.
-fn bits(x: f64) -> u64 {
-    if x != x {
-        0x7ff8_0000_0000_0000
-    } else {
-        f64::to_bits(x)
-    }
-}
-
-// How many arguments the call of a letter has; 6 for any other letter.
-fn arguments(letter: u8) -> usize
-    ensures { λ r. ⌜ r ≤ 6 ⌝ }
-{
-    match letter {
-        b'r' => 0,
-        b'e' => 0,
-        b'n' => 1,
-        b'u' => 1,
-        b'k' => 1,
-        b'd' => 1,
-        b'c' => 5,
-        _ => 6,
-    }
-}
-
-fn taken(statistic: Deviation) -> Called {
+fn taken(statistic: Deviation, cursor: Cursor) -> Called {
     Called {
         row: 0,
         statistic: statistic,
+        cursor: cursor,
     }
 }
 
 // A refused call leaves the statistic as it was.
-fn answered(result: DeviationResult, before: Deviation) -> Called {
+fn answered(result: DeviationResult, before: Deviation, cursor: Cursor) -> Called {
     match result {
         DeviationResult::Ok(after) => Called {
             row: 0,
             statistic: after,
+            cursor: cursor,
         },
         DeviationResult::Err(row) => Called {
             row: row,
             statistic: before,
+            cursor: cursor,
         },
     }
 }
 
-fn create(l: Line) -> DeviationResult {
-    Deviation::create(
-        value(l.hex[1]),
-        value(l.hex[2]),
-        value(l.hex[3]),
-        value(l.hex[4]),
-        l.dec[5],
-    )
+fn create(line: &[u8], c: Cursor, s: Deviation) -> Called {
+    let discount = read_double(line, c);
+    let weight = read_double(line, discount.cursor);
+    let sum = read_double(line, weight.cursor);
+    let sum_squared = read_double(line, sum.cursor);
+    let count = read_whole(line, sum_squared.cursor);
+    let result = Deviation::create(
+        discount.value,
+        weight.value,
+        sum.value,
+        sum_squared.value,
+        count.value,
+    );
+    answered(result, s, count.cursor)
 }
 
-fn call(letter: u8, l: Line, s: Deviation) -> Called {
+// The calls with one float.
+fn call_double(letter: u8, line: &[u8], c: Cursor, s: Deviation) -> Called {
+    let x = read_double(line, c);
     match letter {
-        b'n' => answered(Deviation::new(value(l.hex[1])), s),
-        b'c' => answered(create(l), s),
-        b'u' => answered(s.update(value(l.hex[1])), s),
-        b'k' => answered(s.set_count(l.dec[1]), s),
-        b'd' => taken(s.set_discount(value(l.hex[1]))),
-        b'r' => taken(s.reset()),
-        _ => taken(Deviation::default()),
+        b'n' => answered(Deviation::new(x.value), s, x.cursor),
+        b'u' => answered(s.update(x.value), s, x.cursor),
+        _ => taken(s.set_discount(x.value), x.cursor),
     }
 }
 
-// Whether the fields from `from` on are the row and the statistic.
-fn agrees(l: Line, from: usize, row: u64, s: Deviation) -> bool
-    requires { ⌜ from ≤ 7 ⌝ }
-{
-    let hex = l.hex;
-    let dec = l.dec;
-    let state = hex[from + 1] == bits(s.discount())
-        && hex[from + 2] == bits(s.weight())
-        && hex[from + 3] == bits(s.sum())
-        && hex[from + 4] == bits(s.sum_squared())
-        && dec[from + 5] == s.count();
-    let empty = if s.is_empty() { 1u64 } else { 0u64 };
-    let answers = hex[from + 6] == bits(s.mean())
-        && hex[from + 7] == bits(s.deviation())
-        && dec[from + 8] == empty;
-    dec[from] == row && state && answers
+fn set_count(line: &[u8], c: Cursor, s: Deviation) -> Called {
+    let n = read_whole(line, c);
+    answered(s.set_count(n.value), s, n.cursor)
+}
+
+// No letter that the kind lacks: its line differs.
+fn call(line: &[u8], s: Deviation) -> Called {
+    let letter = name(line);
+    let c = begin(line);
+    match letter {
+        b'n' => call_double(letter, line, c, s),
+        b'u' => call_double(letter, line, c, s),
+        b'd' => call_double(letter, line, c, s),
+        b'c' => create(line, c, s),
+        b'k' => set_count(line, c, s),
+        b'r' => taken(s.reset(), c),
+        b'e' => taken(Deviation::default(), c),
+        _ => taken(s, Cursor { at: 0, good: false }),
+    }
+}
+
+// Whether the fields behind the arguments are the row and the statistic.
+fn agrees(line: &[u8], c: Cursor, row: u64, s: Deviation) -> bool {
+    let c1 = expect_whole(line, c, row);
+    let c2 = expect_double(line, c1, s.discount());
+    let c3 = expect_double(line, c2, s.weight());
+    let c4 = expect_double(line, c3, s.sum());
+    let c5 = expect_double(line, c4, s.sum_squared());
+    let c6 = expect_whole(line, c5, s.count());
+    let c7 = expect_double(line, c6, s.mean());
+    let c8 = expect_double(line, c7, s.deviation());
+    let c9 = expect_flag(line, c8, s.is_empty());
+    done(line, c9)
 }
 
 // Every line of the text, in order.
 pub fn replay(text: &[u8]) -> Tally {
     let mut s = Deviation::default();
-    let mut agree = 0u64;
-    let mut differ = 0u64;
+    let mut t = no_lines();
     let mut at = 0usize;
     while at < text.len() {
-        let letter = text[at];
-        let l = crate::text::line_from(text, at);
-        let next = l.next;
-        let count = l.count;
-        if next <= at {
-            return Tally {
-                agree: agree,
-                differ: differ + 1,
-            };
-        }
-        let n = arguments(letter);
-        let called = call(letter, l, s);
-        let good = agrees(l, n + 1, called.row, called.statistic) && count == n + 10;
+        let next = line_end(text, at);
+        let called = call(&text[at..next], s);
         s = called.statistic;
-        if good {
-            agree += 1;
-        } else {
-            differ += 1;
-        }
+        let good = agrees(&text[at..next], called.cursor, called.row, s);
+        t = counted(t, good, text[at]);
         at = next;
     }
-    Tally {
-        agree: agree,
-        differ: differ,
-    }
+    t
 }

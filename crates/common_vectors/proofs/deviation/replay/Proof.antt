@@ -1,54 +1,57 @@
--- `common_vectors::deviation::replay` is safe and ends: neither count passes the place in the text, and the measure is what is left of it. Assumes nothing.
-use Prim.Native.Nat.{_-_, _≤_}
+-- `common_vectors::deviation::replay` is safe and ends. Assumes nothing.
+use Prim.Native.Nat.{_-_}
 use borrow.Author.Needs.{needs}
 use lib.ListN.{length}
 use Rattle.common_vectors.proofs.deviation.replay.Statement.{statement}
 use Rattle.common_vectors.proofs.deviation.replay.Tie as tie
 
 abbrev Inv-loop : tie.InvT-loop
-Inv-loop text s₀ agree₀ differ₀ at₀ s agree differ at = (agree ≤ at) × (differ ≤ at)
+Inv-loop text s₀ t₀ at₀ s t at = Unit {0}
 
 abbrev μ-loop : tie.MeasureT-loop
-μ-loop text s₀ agree₀ differ₀ at₀ s agree differ at = length text - at
+μ-loop text s₀ t₀ at₀ s t at = length text - at
 
 default-requires : tie.Need-default-requires Inv-loop μ-loop
 default-requires c κs = search needs
 
+no-lines-requires : tie.Need-no-lines-requires Inv-loop μ-loop
+no-lines-requires c κs = search needs
+
 loop-holds : tie.Need-loop-holds Inv-loop μ-loop
 loop-holds c = search needs
 
-shared-slice-read-letter : tie.Need-shared-slice-read-letter Inv-loop μ-loop
-shared-slice-read-letter c = search needs
+line-end-requires : tie.Need-line-end-requires Inv-loop μ-loop
+line-end-requires c κs = search needs
 
-line-from-requires : tie.Need-line-from-requires Inv-loop μ-loop
-line-from-requires c κs = search needs
+sub-call : tie.Need-sub-call Inv-loop μ-loop
+sub-call c = search needs
 
-add-t17 : tie.Need-add-t17 Inv-loop μ-loop
-add-t17 c = search needs
+part-call-start : tie.Need-part-call-start Inv-loop μ-loop
+part-call-start c = search needs
 
-returns : tie.Need-returns Inv-loop μ-loop
-returns c = search needs
-
-arguments-requires : tie.Need-arguments-requires Inv-loop μ-loop
-arguments-requires c κs = search needs
+part-call-end : tie.Need-part-call-end Inv-loop μ-loop
+part-call-end c = search needs
 
 call-requires : tie.Need-call-requires Inv-loop μ-loop
 call-requires c κs = search needs
 
-add-agrees : tie.Need-add-agrees Inv-loop μ-loop
-add-agrees c = search needs
+sub-agrees : tie.Need-sub-agrees Inv-loop μ-loop
+sub-agrees c = search needs
+
+part-agrees-start : tie.Need-part-agrees-start Inv-loop μ-loop
+part-agrees-start c = search needs
+
+part-agrees-end : tie.Need-part-agrees-end Inv-loop μ-loop
+part-agrees-end c = search needs
 
 agrees-requires : tie.Need-agrees-requires Inv-loop μ-loop
 agrees-requires c κs = search needs
 
-add-good : tie.Need-add-good Inv-loop μ-loop
-add-good c = search needs
+shared-slice-read-counted : tie.Need-shared-slice-read-counted Inv-loop μ-loop
+shared-slice-read-counted c = search needs
 
-add-agree : tie.Need-add-agree Inv-loop μ-loop
-add-agree c = search needs
-
-add-differ : tie.Need-add-differ Inv-loop μ-loop
-add-differ c = search needs
+counted-requires : tie.Need-counted-requires Inv-loop μ-loop
+counted-requires c κs = search needs
 
 loop-less : tie.Need-loop-less Inv-loop μ-loop
 loop-less c = search needs
@@ -56,14 +59,8 @@ loop-less c = search needs
 loop-again : tie.Need-loop-again Inv-loop μ-loop
 loop-again c = search needs
 
-loop-less-2 : tie.Need-loop-less-2 Inv-loop μ-loop
-loop-less-2 c = search needs
-
-loop-again-2 : tie.Need-loop-again-2 Inv-loop μ-loop
-loop-again-2 c = search needs
-
-returns-2 : tie.Need-returns-2 Inv-loop μ-loop
-returns-2 c = search needs
+returns : tie.Need-returns Inv-loop μ-loop
+returns c = search needs
 
 pub replay-spec : {M : Type 1} → statement M
 replay-spec =
@@ -72,20 +69,19 @@ replay-spec =
     Inv-loop
     μ-loop
     default-requires
+    no-lines-requires
     loop-holds
-    shared-slice-read-letter
-    line-from-requires
-    add-t17
-    returns
-    arguments-requires
+    line-end-requires
+    sub-call
+    part-call-start
+    part-call-end
     call-requires
-    add-agrees
+    sub-agrees
+    part-agrees-start
+    part-agrees-end
     agrees-requires
-    add-good
-    add-agree
-    add-differ
+    shared-slice-read-counted
+    counted-requires
     loop-less
     loop-again
-    loop-less-2
-    loop-again-2
-    returns-2)
+    returns)
