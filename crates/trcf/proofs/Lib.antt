@@ -7,3 +7,5 @@ pub mod OutputLaws
 pub mod CallLaws
 pub mod DrainLaws
 pub mod StateLaws
+pub mod LearnLaws
+pub mod ViewLaws

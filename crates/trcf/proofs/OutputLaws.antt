@@ -11,7 +11,7 @@ use lib.Ieee.{Float, nan}
 use Rattle.common.specs.Lent.{over}
 use Rattle.trcf.specs.Lists.{tabulate, lastN}
 use Rattle.trcf.specs.Types.{augments}
-use Rattle.trcf.specs.Transformer.{Transformer, transformBy, transformed, invertBy, inverted, scales, shifts, differenceDeviations, weightAt, basicShift, normalizedScale}
+use Rattle.trcf.specs.Transformer.{Transformer, transformBy, transformed, invertBy, inverted, scales, shifts, differenceDeviations, unweighted, weightAt, basicShift, normalizedScale}
 use Rattle.trcf.specs.TransformerCalls.{view as viewTransformer}
 use Rattle.trcf.specs.Settings.{Settings, transformer, block}
 use Rattle.trcf.specs.Preprocessor.{withTime}
@@ -88,6 +88,12 @@ module _ (h : Preprocessor) (st : List Float) where
   transformed-free x p =
       let t = h .transformer in
       λ j. tabulate (t .«input_length») (λ i. transformBy-free (t .«transform_method») (t .«input_length») (t .«transform_decay») (take (t .«input_length») (t .weights)) st (t .count) 0 i (t .«transform_method») (getD x i nan) (getD p i nan) j)
+
+  pub inverted-free : (x p : List Float) → inverted (viewTransformer (h .transformer) st) x p ≡ inverted (transformer (settingsOf h) 0 st) x p
+  unfolding inverted weightAt
+  inverted-free x p =
+      let t = h .transformer in
+      λ j. tabulate (t .«input_length») (λ i. invertBy-free (t .«transform_method») (t .«input_length») (t .«transform_decay») (take (t .«input_length») (t .weights)) st (t .count) 0 i (t .«transform_method») (unweighted (getD (take (t .«input_length») (t .weights)) i nan) (getD x i nan)) (getD p i nan) j)
 
 -- ---- the newest input
 

@@ -211,3 +211,22 @@ last-past l n p h =
 pub last-none : (l : List ℕ) (n : ℕ) → length l ≡ 0 → 0 ≡ lastOr 0 (take n l)
 last-none [] n e = ap (lastOr 0) (sym (take-nil n))
 last-none (x ∷ l) n e = absurd (omega arith)
+
+module _ {A : Type 0} where
+  -- what is put behind the first m
+  pub paste-behind : (l x : List A) (m : ℕ) → m + length x ≤ length l → paste l m x (length x) ≡ over l (take m l ++ x)
+  unfolding over
+  paste-behind l x m h =
+      let k : length (take m l ++ x) ≡ m + length x =
+      omega (arith, length-append (take m l) x, length-take-le m l (omega arith)) in
+      ap (λ (q : List A). take m l ++ q ++ drop (m + length x) l) (take-length x)
+      ∙ ap (λ (n : ℕ). (take m l ++ x) ++ drop n l) (sym k)
+
+  pub set-behind : (l : List A) (t : A) (m : ℕ) → m < length l → set l m t ≡ over l (take m l ++ (t ∷ []))
+  unfolding over
+  set-behind l t m h =
+      let k : length (take m l ++ (t ∷ [])) ≡ suc m =
+      omega (arith, length-append (take m l) (t ∷ []), length-take-le m l (omega arith)) in
+      set-split l m t h
+      ∙ sym (append-snoc (take m l) t (drop (suc m) l))
+      ∙ ap (λ (n : ℕ). (take m l ++ (t ∷ [])) ++ drop n l) (sym k)

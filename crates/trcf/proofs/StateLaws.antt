@@ -24,10 +24,10 @@ use Rattle.trcf.proofs.DrainLaws.{first-of, left, front-over}
 use Rattle.trcf.proofs.CallLaws.{accepted-not}
 
 module _ (h : Preprocessor) (l : Lent) (f : Fitted h l) where
-  held-initial : h .«initial_len» ≤ length (l .initialTimestamps)
+  pub held-initial : h .«initial_len» ≤ length (l .initialTimestamps)
   held-initial = omega (arith, f .few, f .roomy .in-initial)
 
-  held-values : h .«initial_len» * h .transformer .«input_length» ≤ length (l .initialValues)
+  pub held-values : h .«initial_len» * h .transformer .«input_length» ≤ length (l .initialValues)
   held-values = omega (arith, mul-le-mul (f .few) (le-refl (h .transformer .«input_length»)), f .roomy .in-values)
 
   pub same-head : h ≡ counted h (view h l)

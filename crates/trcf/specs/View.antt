@@ -7,20 +7,21 @@ use mathlib.Core.Path.{_≡_, refl}
 use lib.Dec.{ltb, leb, eqb}
 use lib.IntN.{ℤ, pos, negsuc}
 use lib.ListN.{length, take, drop, getD, replicate}
-use lib.Ieee.{Float}
+use lib.Ieee.{Float, lt}
 use Rattle.common.specs.Deviation.{zero64, countLimit}
-use Rattle.trcf.specs.Lists.{null}
+use Rattle.trcf.specs.Lists.{null, lastOr, shiftIn}
 use Rattle.common.specs.Refusal.{firstOf}
 use Rattle.common.specs.Lent.{over}
-use Rattle.trcf.specs.Transformer.{zero32}
-use Rattle.trcf.specs.Settings.{Settings, settingsRow, dimension, waiting}
-use Rattle.trcf.specs.Calls.{Learn, Call, shingledPoint, postProcess, drain, transform, invertExtrapolation, scale, shift, status, Forecast, rows, seenLimit}
-use Rattle.trcf.specs.Preprocessor.{State, Answer, refused, absent, done, wrote, learnt, turned, told, Learned, Status, Anomaly, Reading, reading, statisticsLength, fresh, facts, change, reply, accepted}
+use Rattle.trcf.specs.Transformer.{zero32, one32, inverted}
+use Rattle.trcf.specs.Settings.{Settings, transformer, settingsRow, block, dimension, waiting}
+use Rattle.trcf.specs.Calls.{Learn, Call, shingledPoint, postProcess, drain, transform, invertExtrapolation, scale, shift, status, Forecast, rows, seenLimit, finite, given}
+use Rattle.trcf.specs.Preprocessor.{State, Answer, refused, absent, done, wrote, learnt, turned, told, Learned, Status, Anomaly, Reading, reading, feed, previous, deviations, blockFrom, statisticsLength, fresh, facts, change, reply, accepted}
 use Rattle.trcf.specs.declared.types.TransformMethod.the-variants.{NONE}
 use Rattle.trcf.specs.declared.types.ForestMode.the-variants.{STANDARD}
 use Rattle.trcf.specs.declared.transformer.WeightedTransformer.{WeightedTransformer}
 use Rattle.trcf.specs.declared.preprocessor.Preprocessor.{Preprocessor}
 use Rattle.trcf.specs.declared.preprocessor.PreprocessorBuilder.{PreprocessorBuilder}
+use Rattle.trcf.specs.declared.preprocessor.PostProcessed.{PostProcessed}
 use Rattle.trcf.specs.declared.preprocessor.StatusAnswer.{StatusAnswer}
 
 -- ---- what is lent
@@ -78,25 +79,28 @@ view h l =
 
 -- ---- a state laid back: its counters into the head, its lists over the lent ones, of which what lies behind stays
 
-abbrev pub counted : Preprocessor → State → Preprocessor
-counted h w =
+abbrev pub counting : Preprocessor → ℕ → ℕ → ℕ → ℕ → Preprocessor
+counting h count seen internal n =
     record {
       transformer = record {
         «transform_method» = h .transformer .«transform_method»;
         «input_length» = h .transformer .«input_length»;
         «transform_decay» = h .transformer .«transform_decay»;
         weights = h .transformer .weights;
-        count = w .count;
+        count = count;
       };
       «forest_mode» = h .«forest_mode»;
       «shingle_size» = h .«shingle_size»;
       «start_normalization» = h .«start_normalization»;
       «stop_normalization» = h .«stop_normalization»;
       «weight_time» = h .«weight_time»;
-      «values_seen» = w .valuesSeen;
-      «internal_timestamp» = w .internalTimestamp;
-      «initial_len» = length (w .initialTimestamps);
+      «values_seen» = seen;
+      «internal_timestamp» = internal;
+      «initial_len» = n;
     }
+
+abbrev pub counted : Preprocessor → State → Preprocessor
+counted h w = counting h (w .count) (w .valuesSeen) (w .internalTimestamp) (length (w .initialTimestamps))
 
 unfoldable pub laid : State → Lent → Lent
 laid w l =
@@ -229,6 +233,22 @@ pub record Exact (s : Settings) (st x ts : ℕ) : Type 0 where
   pub all-statistics : st ≡ statisticsLength s
   pub all-input : x ≡ s .d * s .k
   pub all-times : ts ≡ s .k
+
+-- what an anomaly that is written needs of the lengths
+pub record Findable (s : Settings) (e back past expected : ℕ) : Type 0 where
+  pub all-expected : e ≡ dimension s
+  pub inside : back < s .k
+  pub past-room : s .d ≤ past
+  pub expected-room : s .d ≤ expected
+
+-- what the row 0 of a learn with y says
+pub record Learnable (h : Preprocessor) (y e : ℕ) (expects : Bool) (grade : Float) (back deviations past expected : ℕ) : Type 0 where
+  pub all-y : y ≡ dimension (settingsOf h)
+  pub count-room : h .«values_seen» < h .«stop_normalization» → h .transformer .count < countLimit
+  pub seen-room : h .«values_seen» < seenLimit
+  pub internal-room : h .«internal_timestamp» < seenLimit
+  pub deviations-room : block (settingsOf h) ≤ deviations
+  pub found : (lt zero32 grade && expects) ≡ true → Findable (settingsOf h) e back past expected
 
 -- ---- `build`
 
@@ -403,3 +423,175 @@ unfoldable pub pointAfter : Preprocessor → Lent → List Float → ℕ → Lis
 pointAfter h l x t out =
     let c = shingledPoint x t out in
     pointRead (headAfter h l c) (lentAfter h l c) out (answerOf h l c)
+
+-- ---- `post_process`
+
+-- a list that may be given
+abbrev pub optional : Bool → List Float → Option (List Float)
+optional true v = some v
+optional false v = none
+
+abbrev pub learnCall : List Float → ℕ → Bool → List Float → Bool → List Float → Float → ℤ → List Float → List Float → List Float → Learn
+learnCall x t hasY y expects e grade index deviations past expected =
+    record {
+      input = x;
+      timestamp = t;
+      rcfPoint = optional hasY y;
+      expectedPoint = optional expects e;
+      grade = grade;
+      relativeIndex = index;
+      deviationsOut = deviations;
+      pastOut = past;
+      expectedOut = expected;
+    }
+
+-- how many readings before the newest; 64, which lies outside every shingle, for one that is to come
+abbrev pub backOf : ℤ → ℕ
+backOf (pos zero) = 0
+backOf (pos (suc n)) = 64
+backOf (negsuc n) = suc n
+
+-- rows 10 to 12
+unfoldable pub inputRow : Preprocessor → List ℕ → List ℕ → List Float → ℕ → ℕ
+inputRow h ts vt x t =
+    firstOf
+    ((not (eqb (length x) (h .transformer .«input_length»)), 10)
+    ∷ (not (finite x), 11)
+    ∷ (ltb t (cond (eqb (h .«internal_timestamp») 0) (lastOr 0 (take (h .«initial_len») vt)) (lastOr 0 (take (h .«shingle_size») ts))), 12)
+    ∷ [])
+
+-- rows 18 and 20 while waiting
+unfoldable pub waitingRow : Preprocessor → ℕ → ℕ
+waitingRow h deviations =
+    firstOf
+    ((leb seenLimit (h .«values_seen»), 18)
+    ∷ (eqb (suc (h .«values_seen»)) (h .«start_normalization») && ltb deviations (block (settingsOf h)), 20)
+    ∷ [])
+
+-- rows 13, 14, 18 and 20 past waiting, over the lengths
+unfoldable pub learnRow : Preprocessor → ℕ → Bool → ℕ → Bool → Float → ℕ → ℕ → ℕ → ℕ → ℕ
+learnRow h y hasY e expects grade back deviations past expected =
+    let n = dimension (settingsOf h) in
+    let d = h .transformer .«input_length» in
+    let full =
+    (ltb (h .«values_seen») (h .«stop_normalization») && leb countLimit (h .transformer .count))
+    || (leb seenLimit (h .«values_seen») || leb seenLimit (h .«internal_timestamp»)) in
+    let short =
+    ltb deviations (block (settingsOf h)) || ((lt zero32 grade && expects) && (ltb past d || ltb expected d)) in
+    firstOf
+    (((hasY && not (eqb y n)) || (expects && not (eqb e n)), 13)
+    ∷ (hasY && (lt zero32 grade && leb (h .«shingle_size») back), 14)
+    ∷ (hasY && full, 18)
+    ∷ (hasY && short, 20)
+    ∷ [])
+
+unfoldable pub learningRow : Preprocessor → ℕ → Bool → ℕ → Bool → Float → ℕ → ℕ → ℕ → ℕ → ℕ
+learningRow h y hasY e expects grade back deviations past expected =
+    cond (waiting (settingsOf h) (h .«values_seen»)) (waitingRow h deviations) (learnRow h y hasY e expects grade back deviations past expected)
+
+-- the row; whether the deviations are written; the anomaly, 0 where there is none; the head; what is lent; the outputs
+pub record LearnOutcome : Type 0 where
+  pub row : ℕ
+  pub written : Bool
+  pub hasAnomaly : Bool
+  pub pastTimestamp : ℕ
+  pub likelihood : Float
+  pub head : Preprocessor
+  pub lent : Lent
+  pub deviationsOut : List Float
+  pub pastOut : List Float
+  pub expectedOut : List Float
+
+abbrev pub anomalyTime : Option Anomaly → ℕ
+anomalyTime none = 0
+anomalyTime (some a) = a .pastTimestamp
+
+abbrev pub anomalyLikelihood : Option Anomaly → Float
+anomalyLikelihood none = zero32
+anomalyLikelihood (some a) = a .likelihood
+
+abbrev pub learnOutcome : ℕ → Bool → Bool → ℕ → Float → Preprocessor → Lent → List Float → List Float → List Float → LearnOutcome
+learnOutcome n w b t p h l deviations past expected =
+    record {
+      row = n;
+      written = w;
+      hasAnomaly = b;
+      pastTimestamp = t;
+      likelihood = p;
+      head = h;
+      lent = l;
+      deviationsOut = deviations;
+      pastOut = past;
+      expectedOut = expected;
+    }
+
+abbrev pub learnNothing : ℕ → Preprocessor → Lent → Learn → LearnOutcome
+learnNothing n h l c = learnOutcome n false false 0 zero32 h l (c .deviationsOut) (c .pastOut) (c .expectedOut)
+
+abbrev pub learnRead : Preprocessor → Lent → Learn → Answer → LearnOutcome
+learnRead h l c (refused n) = learnNothing n h l c
+learnRead h l c absent = learnNothing 0 h l c
+learnRead h l c done = learnNothing 0 h l c
+learnRead h l c (wrote v) = learnNothing 0 h l c
+learnRead h l c (learnt a) =
+    learnOutcome 0 (a .written) (given (a .anomaly)) (anomalyTime (a .anomaly)) (anomalyLikelihood (a .anomaly)) h l (a .deviationsOut) (a .pastOut)
+    (a .expectedOut)
+learnRead h l c (turned a) = learnNothing 0 h l c
+learnRead h l c (told a) = learnNothing 0 h l c
+
+unfoldable pub learnAfter : Preprocessor → Lent → Learn → LearnOutcome
+learnAfter h l c =
+    let q = postProcess c in
+    learnRead (headAfter h l q) (lentAfter h l q) c (answerOf h l q)
+
+-- ---- the program's own parts of `post_process`
+
+abbrev pub answeringRow : ℕ → Preprocessor → Bool → Bool → ℕ → Float → PostProcessed
+answeringRow n h w b t p = record { row = n; head = h; written = w; «has_anomaly» = b; «past_timestamp» = t; likelihood = p }
+
+abbrev pub answering : Preprocessor → Bool → Bool → ℕ → Float → PostProcessed
+answering h w b t p = answeringRow 0 h w b t p
+
+-- an answer and four of the lent lists, the initial ones left out
+pub record LearnParts : Type 0 where
+  pub answer : PostProcessed
+  pub statistics : List Float
+  pub lastShingledInput : List Float
+  pub lastShingledPoint : List Float
+  pub previousTimestamps : List ℕ
+  pub deviationsOut : List Float
+  pub pastOut : List Float
+  pub expectedOut : List Float
+
+abbrev pub learnParts : ℕ → Bool → Bool → ℕ → Float → Preprocessor → List Float → List Float → List Float → List ℕ → List Float → List Float → List Float → LearnParts
+learnParts n w b t p h st x y ts deviations past expected =
+    record {
+      answer = answeringRow n h w b t p;
+      statistics = st;
+      lastShingledInput = x;
+      lastShingledPoint = y;
+      previousTimestamps = ts;
+      deviationsOut = deviations;
+      pastOut = past;
+      expectedOut = expected;
+    }
+
+-- the statistics after a learn
+abbrev pub learnedStatistics : Preprocessor → List Float → List Float → List ℕ → List Float → ℕ → List Float
+learnedStatistics h st x ts input t =
+    cond (ltb (h .«values_seen») (h .«stop_normalization»)) (feed (settingsOf h) (h .transformer .count) st (previous (holding h st x ts)) (reading input t)) st
+
+abbrev pub learnedParts : Preprocessor → List Float → List Float → List Float → List ℕ → List Float → ℕ → List Float → List Float → Bool → ℕ → List Float → List Float → List Float → LearnParts
+learnedParts h st x p ts input t y e found back deviationsOut pastOut expectedOut =
+    let s = settingsOf h in
+    let d = s .d in
+    let st₁ = take (statisticsLength s) st in
+    let x₁ = take (d * s .k) x in
+    let ts₁ = take (s .k) ts in
+    let b = s .k - 1 - back in
+    learnParts 0 true found (cond found (getD ts₁ b 0) 0) (cond found one32 zero32)
+    (counting h (cond (ltb (h .«values_seen») (h .«stop_normalization»)) (suc (h .transformer .count)) (h .transformer .count)) (suc (h .«values_seen»)) (suc (h .«internal_timestamp»)) (h .«initial_len»))
+    (over st (learnedStatistics h st₁ x₁ ts₁ input t)) (over x (shiftIn x₁ input)) (over p y) (over ts (shiftIn ts₁ (t ∷ [])))
+    (over deviationsOut (deviations (holding h (learnedStatistics h st₁ x₁ ts₁ input t) [] [])))
+    (cond found (over pastOut (cond (eqb back 0) input (blockFrom d (s .k - back) x₁))) pastOut)
+    (cond found (over expectedOut (inverted (transformer s 0 st₁) (blockFrom d b e) (blockFrom d b x₁))) expectedOut)

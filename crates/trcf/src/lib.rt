@@ -1,5 +1,7 @@
 // The preprocessor of a stream of readings: its settings, the transform of a reading, and the shingles it keeps.
 mod draining;
+mod learn_refusal;
+mod learning;
 mod output;
 pub mod preprocessor;
 mod refusal;

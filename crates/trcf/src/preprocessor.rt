@@ -1,5 +1,12 @@
 // The preprocessor (the source's trcf/preprocessor.rs): settings and counters by value, and six lent lists beside them.
 use crate::draining::drain_due;
+use crate::learn_refusal::places_back;
+use crate::learn_refusal::post_process_row;
+use crate::learning::hold;
+use crate::learning::update_shingles;
+use crate::learning::with_counts;
+use crate::learning::write_completing;
+use crate::learning::write_found;
 use crate::output::write_deviations;
 use crate::output::write_point;
 use crate::output::write_scale;
@@ -22,15 +29,20 @@ use crate::transformer::WeightedTransformer;
 use crate::types::ForestMode;
 use crate::types::TransformMethod;
 ghost use mathlib.Core.Path.{_≡_};
-ghost use Prim.Native.Nat.{_≤_};
-ghost use lib.Dec.{leb};
-ghost use lib.ListN.{length, replicate};
+ghost use mathlib.Core.Bool.{true, false, cond, _&&_};
+ghost use mathlib.Core.List.{[], _∷_, _++_};
+ghost use Prim.Native.Nat.{suc, _*_, _≤_, _<_};
+ghost use lib.Dec.{ltb, leb, eqb};
+ghost use lib.ListN.{length, take, replicate};
+ghost use lib.Ieee.{lt};
+ghost use Rattle.common.specs.Deviation.{countLimit};
 ghost use Rattle.common.specs.Lent.{over};
-ghost use Rattle.trcf.specs.Transformer.{zero32};
-ghost use Rattle.trcf.specs.Settings.{dimension};
+ghost use Rattle.trcf.specs.Transformer.{zero32, one32};
+ghost use Rattle.trcf.specs.Settings.{block, dimension};
 ghost use Rattle.trcf.specs.Calls.{transform, scale, shift, status};
-ghost use Rattle.trcf.specs.Preprocessor.{accepted};
+ghost use Rattle.trcf.specs.Preprocessor.{accepted, statisticsLength, deviations};
 ghost use Rattle.trcf.specs.View.{lent, settingsFrom, settingsOf, headRow, headFrom, noHead, outcome, buildOf, written, writeOf, statusGiven, statusAfter, drainOf, pointed, pointAfter};
+ghost use Rattle.trcf.specs.View.{holding, counting, learnCall, learnOutcome, learnAfter, learnParts, learnedParts, answering, answeringRow, Bounded, Learnable};
 
 pub struct Preprocessor {
     pub transformer: WeightedTransformer,
@@ -61,6 +73,16 @@ pub struct Pointed {
     pub row: u64,
     pub given: bool,
     pub head: Preprocessor,
+}
+
+// What post_process answers: whether the deviations stand in their output; whether there is an anomaly, its time and its likelihood.
+pub struct PostProcessed {
+    pub row: u64,
+    pub head: Preprocessor,
+    pub written: bool,
+    pub has_anomaly: bool,
+    pub past_timestamp: u64,
+    pub likelihood: f32,
 }
 
 // The row of a call, 0 for none, and the head that it leaves.
@@ -437,6 +459,230 @@ pub fn shingled_point(
         row: 0,
         given: true,
         head: next,
+    }
+}
+
+// ---- post_process
+
+// The reading waits; the deviations are written where it completes start.
+fn post_process_waiting(
+    head: Preprocessor,
+    statistics: &[f64],
+    initial_values: &mut [f32],
+    initial_timestamps: &mut [u64],
+    input: &[f32],
+    timestamp: u64,
+    deviations_out: &mut [f32],
+) -> PostProcessed
+    requires { ⌜ Bounded (settingsOf head) ⌝ }
+    requires { ⌜ statisticsLength (settingsOf head) ≤ length (now statistics) ⌝ }
+    requires { ⌜ length (now input) ≡ head .transformer .«input_length» ⌝ }
+    requires { ⌜ head .«initial_len» ≡ head .«values_seen» ⌝ }
+    requires { ⌜ head .«values_seen» < head .«start_normalization» ⌝ }
+    requires { ⌜ head .«start_normalization» * head .transformer .«input_length» ≤ length (now «initial_values») ⌝ }
+    requires { ⌜ head .«start_normalization» ≤ length (now «initial_timestamps») ⌝ }
+    requires { ⌜ (eqb (suc (head .«values_seen»)) (head .«start_normalization») ≡ true → block (settingsOf head) ≤ length (now «deviations_out»)) ⌝ }
+    ensures { λ r. ⌜ r ≡ answering (counting head (head .transformer .count) (suc (head .«values_seen»)) (head .«internal_timestamp») (suc (head .«initial_len»))) (eqb (suc (head .«values_seen»)) (head .«start_normalization»)) false 0 zero32 ⌝ }
+    ensures { λ r. ⌜ now («initial_values» .exit) ≡ over (now («initial_values» .entry)) (take (head .«initial_len» * head .transformer .«input_length») (now («initial_values» .entry)) ++ now (input .entry)) ⌝ }
+    ensures { λ r. ⌜ now («initial_timestamps» .exit) ≡ over (now («initial_timestamps» .entry)) (take (head .«initial_len») (now («initial_timestamps» .entry)) ++ (timestamp ∷ [])) ⌝ }
+    ensures { λ r. ⌜ now («deviations_out» .exit) ≡ cond (eqb (suc (head .«values_seen»)) (head .«start_normalization»)) (over (now («deviations_out» .entry)) (deviations (holding head (take (statisticsLength (settingsOf head)) (now (statistics .entry))) [] []))) (now («deviations_out» .entry)) ⌝ }
+{
+    let t = head.transformer;
+    let d = t.input_length;
+    let seen = head.values_seen;
+    let n = head.initial_len;
+    hold(head, initial_values, initial_timestamps, input, timestamp);
+    let written = write_completing(head, &statistics[..3 * (5 * d + 5)], deviations_out);
+    let next = with_counts(head, t.count, seen + 1, head.internal_timestamp, n + 1);
+    PostProcessed {
+        row: 0,
+        head: next,
+        written: written,
+        has_anomaly: false,
+        past_timestamp: 0,
+        likelihood: 0.0,
+    }
+}
+
+// The count of readings fed, after a learn.
+fn next_count(head: Preprocessor) -> u64
+    requires { ⌜ (head .«values_seen» < head .«stop_normalization» → head .transformer .count < countLimit) ⌝ }
+    ensures { λ r. ⌜ r ≡ cond (ltb (head .«values_seen») (head .«stop_normalization»)) (suc (head .transformer .count)) (head .transformer .count) ⌝ }
+{
+    let t = head.transformer;
+    let count = t.count;
+    let seen = head.values_seen;
+    let stop = head.stop_normalization;
+    if seen < stop { count + 1 } else { count }
+}
+
+fn likelihood_of(given: bool) -> f32
+    ensures { λ r. ⌜ r ≡ cond given one32 zero32 ⌝ }
+{
+    if given { 1.0 } else { 0.0 }
+}
+
+// The anomaly from before the update, the update, and the deviations after it.
+fn post_process_learning(
+    head: Preprocessor,
+    statistics: &mut [f64],
+    last_shingled_input: &mut [f32],
+    last_shingled_point: &mut [f32],
+    previous_timestamps: &mut [u64],
+    input: &[f32],
+    timestamp: u64,
+    y: &[f32],
+    expected: &[f32],
+    expects: bool,
+    grade: f32,
+    back: usize,
+    deviations_out: &mut [f32],
+    past_out: &mut [f32],
+    expected_out: &mut [f32],
+) -> PostProcessed
+    requires { ⌜ Bounded (settingsOf head) ⌝ }
+    requires { ⌜ statisticsLength (settingsOf head) ≤ length (now statistics) ⌝ }
+    requires { ⌜ head .transformer .«input_length» * head .«shingle_size» ≤ length (now «last_shingled_input») ⌝ }
+    requires { ⌜ dimension (settingsOf head) ≤ length (now «last_shingled_point») ⌝ }
+    requires { ⌜ head .«shingle_size» ≤ length (now «previous_timestamps») ⌝ }
+    requires { ⌜ length (now input) ≡ head .transformer .«input_length» ⌝ }
+    requires { ⌜ Learnable head (length (now y)) (length (now expected)) expects grade back (length (now «deviations_out»)) (length (now «past_out»)) (length (now «expected_out»)) ⌝ }
+    ensures { λ r. ⌜ learnParts (r .row) (r .written) (r .«has_anomaly») (r .«past_timestamp») (r .likelihood) (r .head) (now (statistics .exit)) (now («last_shingled_input» .exit)) (now («last_shingled_point» .exit)) (now («previous_timestamps» .exit)) (now («deviations_out» .exit)) (now («past_out» .exit)) (now («expected_out» .exit))
+        ≡ learnedParts head (now (statistics .entry)) (now («last_shingled_input» .entry)) (now («last_shingled_point» .entry)) (now («previous_timestamps» .entry)) (now (input .entry)) timestamp (now (y .entry)) (now (expected .entry)) (lt zero32 grade && expects) back (now («deviations_out» .entry)) (now («past_out» .entry)) (now («expected_out» .entry)) ⌝ }
+{
+    let t = head.transformer;
+    let d = t.input_length;
+    let k = head.shingle_size;
+    let seen = head.values_seen;
+    let internal = head.internal_timestamp;
+    let found = write_found(
+        head,
+        &statistics[..3 * (5 * d + 5)],
+        &last_shingled_input[..d * k],
+        &previous_timestamps[..k],
+        input,
+        expected,
+        expects,
+        grade,
+        back,
+        past_out,
+        expected_out,
+    );
+    let given = found.given;
+    update_shingles(
+        head,
+        statistics,
+        last_shingled_input,
+        last_shingled_point,
+        previous_timestamps,
+        input,
+        timestamp,
+        y,
+    );
+    write_deviations(head, &statistics[..3 * (5 * d + 5)], deviations_out);
+    let count = next_count(head);
+    let next = with_counts(head, count, seen + 1, internal + 1, head.initial_len);
+    PostProcessed {
+        row: 0,
+        head: next,
+        written: true,
+        has_anomaly: given,
+        past_timestamp: found.past_timestamp,
+        likelihood: likelihood_of(given),
+    }
+}
+
+pub fn post_process(
+    head: Preprocessor,
+    statistics: &mut [f64],
+    last_shingled_input: &mut [f32],
+    last_shingled_point: &mut [f32],
+    previous_timestamps: &mut [u64],
+    initial_values: &mut [f32],
+    initial_timestamps: &mut [u64],
+    input: &[f32],
+    timestamp: u64,
+    y: &[f32],
+    has_y: bool,
+    expected: &[f32],
+    expects: bool,
+    grade: f32,
+    relative_index: i32,
+    deviations_out: &mut [f32],
+    past_out: &mut [f32],
+    expected_out: &mut [f32],
+) -> PostProcessed
+    ensures { λ r. ⌜ learnOutcome (r .row) (r .written) (r .«has_anomaly») (r .«past_timestamp») (r .likelihood) (r .head) (lent (now (statistics .exit)) (now («last_shingled_input» .exit)) (now («last_shingled_point» .exit)) (now («previous_timestamps» .exit)) (now («initial_values» .exit)) (now («initial_timestamps» .exit))) (now («deviations_out» .exit)) (now («past_out» .exit)) (now («expected_out» .exit))
+        ≡ learnAfter head (lent (now (statistics .entry)) (now («last_shingled_input» .entry)) (now («last_shingled_point» .entry)) (now («previous_timestamps» .entry)) (now («initial_values» .entry)) (now («initial_timestamps» .entry))) (learnCall (now (input .entry)) timestamp «has_y» (now (y .entry)) expects (now (expected .entry)) grade «relative_index» (now («deviations_out» .entry)) (now («past_out» .entry)) (now («expected_out» .entry))) ⌝ }
+{
+    let row = post_process_row(
+        head,
+        statistics,
+        last_shingled_input,
+        last_shingled_point,
+        previous_timestamps,
+        initial_values,
+        initial_timestamps,
+        input,
+        timestamp,
+        y,
+        has_y,
+        expected,
+        expects,
+        grade,
+        relative_index,
+        deviations_out,
+        past_out,
+        expected_out,
+    );
+    if row != 0 {
+        return unlearned(row, head);
+    }
+    if is_waiting(head) {
+        return post_process_waiting(
+            head,
+            statistics,
+            initial_values,
+            initial_timestamps,
+            input,
+            timestamp,
+            deviations_out,
+        );
+    }
+    if !has_y {
+        return unlearned(0, head);
+    }
+    let back = places_back(relative_index);
+    post_process_learning(
+        head,
+        statistics,
+        last_shingled_input,
+        last_shingled_point,
+        previous_timestamps,
+        input,
+        timestamp,
+        y,
+        expected,
+        expects,
+        grade,
+        back,
+        deviations_out,
+        past_out,
+        expected_out,
+    )
+}
+
+// The answer of a call that learnt nothing.
+fn unlearned(row: u64, head: Preprocessor) -> PostProcessed
+    ensures { λ r. ⌜ r ≡ answeringRow row head false false 0 zero32 ⌝ }
+{
+    PostProcessed {
+        row: row,
+        head: head,
+        written: false,
+        has_anomaly: false,
+        past_timestamp: 0,
+        likelihood: 0.0,
     }
 }
 

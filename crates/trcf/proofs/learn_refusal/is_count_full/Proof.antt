@@ -1,0 +1,15 @@
+use borrow.Author.Tests.{not-true, not-false, lt-ltb, le-ltb, eq-eqb, ne-eqb, le-leb, lt-leb}
+use borrow.Author.Needs.{needs}
+use Rattle.trcf.proofs.learn_refusal.is_count_full.Statement.{statement}
+use Rattle.trcf.proofs.learn_refusal.is_count_full.Tie as tie
+use Rattle.trcf.proofs.learn_refusal.is_count_full.Reads as reads
+use Rattle.trcf.proofs.learn_refusal.is_count_full.Lts as lts
+
+returns : tie.Need-returns
+returns c = rw (lt-ltb _ _ (c .if1 .taken))
+
+returns-2 : tie.Need-returns-2
+returns-2 c = rw (le-ltb _ _ (c .if1 .left))
+
+pub is-count-full-spec : {M : Type 1} → statement M
+is-count-full-spec = tie.close (tie.spec returns returns-2)

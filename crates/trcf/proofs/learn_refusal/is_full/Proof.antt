@@ -1,0 +1,22 @@
+use borrow.Author.Tests.{not-true, not-false, lt-ltb, le-ltb, eq-eqb, ne-eqb, le-leb, lt-leb}
+use mathlib.Core.Path.{_≡_, refl, sym, ap, _∙_}
+use borrow.Author.Needs.{needs}
+use Rattle.trcf.proofs.learn_refusal.is_full.Statement.{statement}
+use Rattle.trcf.proofs.learn_refusal.is_full.Tie as tie
+use Rattle.trcf.proofs.learn_refusal.is_full.Reads as reads
+use Rattle.trcf.proofs.learn_refusal.is_full.Lts as lts
+
+is-count-full-requires : tie.Need-is-count-full-requires
+is-count-full-requires c κs = search needs
+
+returns : tie.Need-returns
+returns c = rw (sym (c .before .is-count-full .ensures) ∙ c .if1 .taken)
+
+returns-2 : tie.Need-returns-2
+returns-2 c = rw (sym (c .before .before .is-count-full .ensures) ∙ c .before .if1 .left, le-leb _ _ (c .if2 .taken))
+
+returns-3 : tie.Need-returns-3
+returns-3 c = rw (sym (c .before .before .is-count-full .ensures) ∙ c .before .if1 .left, lt-leb _ _ (c .if2 .left))
+
+pub is-full-spec : {M : Type 1} → statement M
+is-full-spec = tie.close (tie.spec is-count-full-requires returns returns-2 returns-3)

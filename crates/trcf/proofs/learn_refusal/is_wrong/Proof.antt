@@ -1,0 +1,14 @@
+use borrow.Author.Needs.{needs}
+use Rattle.trcf.proofs.learn_refusal.is_wrong.Statement.{statement}
+use Rattle.trcf.proofs.learn_refusal.is_wrong.Tie as tie
+use Rattle.trcf.proofs.learn_refusal.is_wrong.Reads as reads
+use Rattle.trcf.proofs.learn_refusal.is_wrong.Lts as lts
+
+returns : tie.Need-returns
+returns c = rw (c .if1 .taken)
+
+returns-2 : tie.Need-returns-2
+returns-2 c = rw (c .if1 .left)
+
+pub is-wrong-spec : {M : Type 1} → statement M
+is-wrong-spec = tie.close (tie.spec returns returns-2)

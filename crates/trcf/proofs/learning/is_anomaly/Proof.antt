@@ -1,0 +1,14 @@
+use borrow.Author.Needs.{needs}
+use Rattle.trcf.proofs.learning.is_anomaly.Statement.{statement}
+use Rattle.trcf.proofs.learning.is_anomaly.Tie as tie
+use Rattle.trcf.proofs.learning.is_anomaly.Reads as reads
+use Rattle.trcf.proofs.learning.is_anomaly.Lts as lts
+
+returns : tie.Need-returns
+returns c = rw (c .if1 .taken)
+
+returns-2 : tie.Need-returns-2
+returns-2 c = rw (c .if1 .left)
+
+pub is-anomaly-spec : {M : Type 1} → statement M
+is-anomaly-spec = tie.close (tie.spec returns returns-2)

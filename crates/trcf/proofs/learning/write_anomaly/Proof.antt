@@ -1,0 +1,116 @@
+use native.Mathlib.Omega.{arith}
+use mathlib.Core.Path.{_≡_, refl, sym, ap, _∙_}
+use Prim.Native.Nat.{ℕ, suc, _+_, _-_, _*_, _≤_, _<_}
+use native.Mathlib.Nat.{mul-le-mul, le-refl, le-mul-of-pos-right, mul-comm}
+use lib.ListN.{length, length-take, length-drop, take, drop}
+use Rattle.common.specs.Lent.{over}
+use Rattle.trcf.specs.Transformer.{inverted}
+use Rattle.trcf.specs.Settings.{transformer}
+use Rattle.trcf.specs.Preprocessor.{blockFrom}
+use Rattle.trcf.specs.View.{settingsOf}
+use Rattle.trcf.proofs.DrainLaws.{block-in, block-cut}
+use Rattle.trcf.proofs.OutputLaws.{inverted-free}
+use Rattle.trcf.proofs.LearnLaws.{wide}
+use borrow.Author.Needs.{needs}
+use Rattle.trcf.proofs.learning.write_anomaly.Statement.{statement}
+use Rattle.trcf.proofs.learning.write_anomaly.Tie as tie
+use Rattle.trcf.proofs.learning.write_anomaly.Reads as reads
+use Rattle.trcf.proofs.learning.write_anomaly.Lts as lts
+
+sub-b : tie.Need-sub-b
+sub-b c = search needs
+
+sub-b-2 : tie.Need-sub-b-2
+sub-b-2 c = search needs
+
+write-past-requires : tie.Need-write-past-requires
+write-past-requires c κs = search needs
+
+mul-invert-into : tie.Need-mul-invert-into
+mul-invert-into c = let a = c .before .before .before .before .before .before .before .before .before .before .before .before .before .args in let h = a .head in let q = c .before .before .before .before .before .before .before .before .before .before .before .before .before .pre in let d = h .transformer .«input_length» in let k = h .«shingle_size» in let c2 = mul-comm d k in let m = mul-le-mul (q .0 .d-few) (q .0 .k-few) in let b = block-in (k - 1 - a .back) k d (omega (arith, q)) in let w = wide (settingsOf h) in omega (arith, q, q .1 .0)
+
+mul-invert-into-2 : tie.Need-mul-invert-into-2
+mul-invert-into-2 c = let a = c .before .before .before .before .before .before .before .before .before .before .before .before .before .args in let h = a .head in let q = c .before .before .before .before .before .before .before .before .before .before .before .before .before .pre in let d = h .transformer .«input_length» in let k = h .«shingle_size» in let c2 = mul-comm d k in let m = mul-le-mul (q .0 .d-few) (q .0 .k-few) in let b = block-in (k - 1 - a .back) k d (omega (arith, q)) in let w = wide (settingsOf h) in omega (arith, q, q .1 .0)
+
+add-invert-into : tie.Need-add-invert-into
+add-invert-into c = let a = c .before .before .before .before .before .before .before .before .before .before .before .before .before .args in let h = a .head in let q = c .before .before .before .before .before .before .before .before .before .before .before .before .before .pre in let d = h .transformer .«input_length» in let k = h .«shingle_size» in let c2 = mul-comm d k in let m = mul-le-mul (q .0 .d-few) (q .0 .k-few) in let b = block-in (k - 1 - a .back) k d (omega (arith, q)) in let w = wide (settingsOf h) in omega (arith, q, q .1 .0)
+
+mul-invert-into-3 : tie.Need-mul-invert-into-3
+mul-invert-into-3 c = let a = c .before .before .before .before .before .before .before .before .before .before .before .before .before .args in let h = a .head in let q = c .before .before .before .before .before .before .before .before .before .before .before .before .before .pre in let d = h .transformer .«input_length» in let k = h .«shingle_size» in let c2 = mul-comm d k in let m = mul-le-mul (q .0 .d-few) (q .0 .k-few) in let b = block-in (k - 1 - a .back) k d (omega (arith, q)) in let w = wide (settingsOf h) in omega (arith, q, q .1 .0)
+
+sub-invert-into : tie.Need-sub-invert-into
+sub-invert-into c = search needs
+
+part-invert-into-start : tie.Need-part-invert-into-start
+part-invert-into-start c = let a = c .before .before .before .before .before .before .before .before .before .before .before .before .before .args in let h = a .head in let q = c .before .before .before .before .before .before .before .before .before .before .before .before .before .pre in let d = h .transformer .«input_length» in let k = h .«shingle_size» in let c2 = mul-comm d k in let m = mul-le-mul (q .0 .d-few) (q .0 .k-few) in let b = block-in (k - 1 - a .back) k d (omega (arith, q)) in let w = wide (settingsOf h) in omega (arith, q, q .1 .0)
+
+part-invert-into-end : tie.Need-part-invert-into-end
+part-invert-into-end c = let a = c .before .before .before .before .before .before .before .before .before .before .before .before .before .args in let h = a .head in let q = c .before .before .before .before .before .before .before .before .before .before .before .before .before .pre in let d = h .transformer .«input_length» in let k = h .«shingle_size» in let c2 = mul-comm d k in let m = mul-le-mul (q .0 .d-few) (q .0 .k-few) in let b = block-in (k - 1 - a .back) k d (omega (arith, q)) in let w = wide (settingsOf h) in omega (arith, q, q .1 .0)
+
+mul-invert-into-4 : tie.Need-mul-invert-into-4
+mul-invert-into-4 c = let a = c .before .before .before .before .before .before .before .before .before .before .before .before .before .before .args in let h = a .head in let q = c .before .before .before .before .before .before .before .before .before .before .before .before .before .before .pre in let d = h .transformer .«input_length» in let k = h .«shingle_size» in let c2 = mul-comm d k in let m = mul-le-mul (q .0 .d-few) (q .0 .k-few) in let b = block-in (k - 1 - a .back) k d (omega (arith, q)) in let w = wide (settingsOf h) in omega (arith, q, q .1 .0)
+
+mul-invert-into-5 : tie.Need-mul-invert-into-5
+mul-invert-into-5 c = let a = c .before .before .before .before .before .before .before .before .before .before .before .before .before .before .args in let h = a .head in let q = c .before .before .before .before .before .before .before .before .before .before .before .before .before .before .pre in let d = h .transformer .«input_length» in let k = h .«shingle_size» in let c2 = mul-comm d k in let m = mul-le-mul (q .0 .d-few) (q .0 .k-few) in let b = block-in (k - 1 - a .back) k d (omega (arith, q)) in let w = wide (settingsOf h) in omega (arith, q, q .1 .0)
+
+add-invert-into-2 : tie.Need-add-invert-into-2
+add-invert-into-2 c = let a = c .before .before .before .before .before .before .before .before .before .before .before .before .before .before .args in let h = a .head in let q = c .before .before .before .before .before .before .before .before .before .before .before .before .before .before .pre in let d = h .transformer .«input_length» in let k = h .«shingle_size» in let c2 = mul-comm d k in let m = mul-le-mul (q .0 .d-few) (q .0 .k-few) in let b = block-in (k - 1 - a .back) k d (omega (arith, q)) in let w = wide (settingsOf h) in omega (arith, q, q .1 .0)
+
+mul-invert-into-6 : tie.Need-mul-invert-into-6
+mul-invert-into-6 c = let a = c .before .before .before .before .before .before .before .before .before .before .before .before .before .before .args in let h = a .head in let q = c .before .before .before .before .before .before .before .before .before .before .before .before .before .before .pre in let d = h .transformer .«input_length» in let k = h .«shingle_size» in let c2 = mul-comm d k in let m = mul-le-mul (q .0 .d-few) (q .0 .k-few) in let b = block-in (k - 1 - a .back) k d (omega (arith, q)) in let w = wide (settingsOf h) in omega (arith, q, q .1 .0)
+
+sub-invert-into-2 : tie.Need-sub-invert-into-2
+sub-invert-into-2 c = search needs
+
+part-invert-into-start-2 : tie.Need-part-invert-into-start-2
+part-invert-into-start-2 c = let a = c .before .before .before .before .before .before .before .before .before .before .before .before .before .before .args in let h = a .head in let q = c .before .before .before .before .before .before .before .before .before .before .before .before .before .before .pre in let d = h .transformer .«input_length» in let k = h .«shingle_size» in let c2 = mul-comm d k in let m = mul-le-mul (q .0 .d-few) (q .0 .k-few) in let b = block-in (k - 1 - a .back) k d (omega (arith, q)) in let w = wide (settingsOf h) in omega (arith, q, q .1 .0)
+
+part-invert-into-end-2 : tie.Need-part-invert-into-end-2
+part-invert-into-end-2 c = let a = c .before .before .before .before .before .before .before .before .before .before .before .before .before .before .args in let h = a .head in let q = c .before .before .before .before .before .before .before .before .before .before .before .before .before .before .pre in let d = h .transformer .«input_length» in let k = h .«shingle_size» in let c2 = mul-comm d k in let m = mul-le-mul (q .0 .d-few) (q .0 .k-few) in let b = block-in (k - 1 - a .back) k d (omega (arith, q)) in let w = wide (settingsOf h) in omega (arith, q, q .1 .0)
+
+invert-into-requires : tie.Need-invert-into-requires
+invert-into-requires c κs = let a = c .before .before .before .before .before .before .before .before .before .before .before .before .before .before .before .before .args in let h = a .head in let q = c .before .before .before .before .before .before .before .before .before .before .before .before .before .before .before .before .pre in let d = h .transformer .«input_length» in let k = h .«shingle_size» in let c2 = mul-comm d k in let m = mul-le-mul (q .0 .d-few) (q .0 .k-few) in let b = block-in (k - 1 - a .back) k d (omega (arith, q)) in let w = wide (settingsOf h) in (record { some = omega (arith, q); few = omega (arith, q); room = omega (arith, q .1 .0) }, (simp (length-drop, length-take) (omega (arith, q, q .1 .0)), (simp (length-drop, length-take) (omega (arith, q, q .1 .0)), omega (arith, q))))
+
+mul-result : tie.Need-mul-result
+mul-result c = let a = c .before .before .before .before .before .before .before .before .before .before .before .before .before .before .before .before .before .before .before .args in let h = a .head in let q = c .before .before .before .before .before .before .before .before .before .before .before .before .before .before .before .before .before .before .before .pre in let d = h .transformer .«input_length» in let k = h .«shingle_size» in let c2 = mul-comm d k in let m = mul-le-mul (q .0 .d-few) (q .0 .k-few) in let b = block-in (k - 1 - a .back) k d (omega (arith, q)) in let w = wide (settingsOf h) in omega (arith, q, q .1 .0)
+
+shared-slice-read-result : tie.Need-shared-slice-read-result
+shared-slice-read-result c = let a = c .before .before .before .before .before .before .before .before .before .before .before .before .before .before .before .before .before .before .before .before .args in let h = a .head in let q = c .before .before .before .before .before .before .before .before .before .before .before .before .before .before .before .before .before .before .before .before .pre in let d = h .transformer .«input_length» in omega (arith, q, q .1 .0)
+
+same-length : tie.Need-same-length
+same-length c = search needs
+
+same-length-2 : tie.Need-same-length-2
+same-length-2 c = search needs
+
+returns : tie.Need-returns
+unfolding blockFrom
+returns c = let a = c .before .before .before .before .before .before .before .before .before .before .before .before .before .before .before .before .before .before .before .before .args in let h = a .head in let q = c .before .before .before .before .before .before .before .before .before .before .before .before .before .before .before .before .before .before .before .before .pre in let d = h .transformer .«input_length» in let n = h .«shingle_size» - 1 - a .back in (refl, (c .before .before .before .before .before .before .before .before .before .write-past .ensures, c .before .before .before .invert-into .ensures ∙ ap (over (a .expected-out .now)) (inverted-free h (a .s .now) _ _ ∙ (λ j. inverted (transformer (settingsOf h) 0 (a .s .now)) (block-cut n d (a .expected .now) j) (block-cut n d (a .inputs .now) j)))))
+
+pub write-anomaly-spec : {M : Type 1} → statement M
+write-anomaly-spec =
+    tie.close
+    (tie.spec
+    sub-b
+    sub-b-2
+    write-past-requires
+    mul-invert-into
+    mul-invert-into-2
+    add-invert-into
+    mul-invert-into-3
+    sub-invert-into
+    part-invert-into-start
+    part-invert-into-end
+    mul-invert-into-4
+    mul-invert-into-5
+    add-invert-into-2
+    mul-invert-into-6
+    sub-invert-into-2
+    part-invert-into-start-2
+    part-invert-into-end-2
+    invert-into-requires
+    mul-result
+    shared-slice-read-result
+    same-length
+    same-length-2
+    returns)

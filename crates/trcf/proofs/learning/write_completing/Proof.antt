@@ -1,0 +1,28 @@
+use native.Mathlib.Omega.{arith}
+use mathlib.Core.Path.{_≡_, refl, sym, ap, _∙_}
+use borrow.Author.Tests.{not-true, not-false, lt-ltb, le-ltb, eq-eqb, ne-eqb, le-leb, lt-leb}
+use Prim.Native.Nat.{ℕ, suc, _+_, _-_, _*_, _≤_, _<_}
+use borrow.Author.Needs.{needs}
+use Rattle.trcf.proofs.learning.write_completing.Statement.{statement}
+use Rattle.trcf.proofs.learning.write_completing.Tie as tie
+use Rattle.trcf.proofs.learning.write_completing.Reads as reads
+use Rattle.trcf.proofs.learning.write_completing.Lts as lts
+
+add-if1 : tie.Need-add-if1
+add-if1 c = search needs
+
+write-deviations-requires : tie.Need-write-deviations-requires
+write-deviations-requires c κs = let a = c .before .before .before .before .args in let h = a .head in let q = c .before .before .before .before .pre in let d = h .transformer .«input_length» in (q .0, (q .1 .0, q .1 .1 .1 (eq-eqb (suc (h .«values_seen»)) (h .«start_normalization») (omega arith))))
+
+same-length : tie.Need-same-length
+same-length c = search needs
+
+returns : tie.Need-returns
+returns c = let a = c .before .before .before .before .before .before .before .args in let h = a .head in let q = c .before .before .before .before .before .before .before .pre in let d = h .transformer .«input_length» in let e = eq-eqb (suc (h .«values_seen»)) (h .«start_normalization») (omega arith) in (sym e, rw e (c .before .before .write-deviations .ensures))
+
+returns-2 : tie.Need-returns-2
+returns-2 c = let a = c .before .before .before .args in let h = a .head in let q = c .before .before .before .pre in let d = h .transformer .«input_length» in let e = ne-eqb (suc (h .«values_seen»)) (h .«start_normalization») (λ z. c .if1 .left (omega (arith, z))) in (sym e, rw e)
+
+pub write-completing-spec : {M : Type 1} → statement M
+write-completing-spec =
+    tie.close (tie.spec add-if1 write-deviations-requires same-length returns returns-2)

@@ -1,0 +1,77 @@
+use native.Mathlib.Omega.{arith}
+use mathlib.Core.Path.{_≡_, refl, sym, ap, _∙_}
+use borrow.Author.Tests.{not-true, not-false, lt-ltb, le-ltb, eq-eqb, ne-eqb, le-leb, lt-leb}
+use Prim.Native.Nat.{ℕ, suc, _+_, _-_, _*_, _≤_, _<_}
+use native.Mathlib.Nat.{mul-le-mul, le-refl, le-mul-of-pos-right, mul-comm}
+use lib.ListN.{length, length-take, length-drop, take, drop}
+use Rattle.common.specs.Lent.{over}
+use Rattle.trcf.specs.Preprocessor.{blockFrom}
+use Rattle.trcf.proofs.DrainLaws.{block-in, block-cut}
+use Rattle.trcf.proofs.ShingleLaws.{paste-over}
+use borrow.Author.Needs.{needs}
+use Rattle.trcf.proofs.learning.write_past.Statement.{statement}
+use Rattle.trcf.proofs.learning.write_past.Tie as tie
+use Rattle.trcf.proofs.learning.write_past.Reads as reads
+use Rattle.trcf.proofs.learning.write_past.Lts as lts
+
+copy-in-requires : tie.Need-copy-in-requires
+copy-in-requires c κs = search needs
+
+sub-at : tie.Need-sub-at
+sub-at c = search needs
+
+mul-copy-in : tie.Need-mul-copy-in
+mul-copy-in c = let a = c .before .before .before .before .before .before .args in let h = a .head in let q = c .before .before .before .before .before .before .pre in let d = h .transformer .«input_length» in let k = h .«shingle_size» in let c2 = mul-comm d k in let m = mul-le-mul (q .0 .d-few) (q .0 .k-few) in let b = block-in (k - a .back) k d (omega (arith, q, c .before .if1 .left)) in omega (arith, q)
+
+mul-copy-in-2 : tie.Need-mul-copy-in-2
+mul-copy-in-2 c = let a = c .before .before .before .before .before .before .args in let h = a .head in let q = c .before .before .before .before .before .before .pre in let d = h .transformer .«input_length» in let k = h .«shingle_size» in let c2 = mul-comm d k in let m = mul-le-mul (q .0 .d-few) (q .0 .k-few) in let b = block-in (k - a .back) k d (omega (arith, q, c .before .if1 .left)) in omega (arith, q)
+
+add-copy-in : tie.Need-add-copy-in
+add-copy-in c = let a = c .before .before .before .before .before .before .args in let h = a .head in let q = c .before .before .before .before .before .before .pre in let d = h .transformer .«input_length» in let k = h .«shingle_size» in let c2 = mul-comm d k in let m = mul-le-mul (q .0 .d-few) (q .0 .k-few) in let b = block-in (k - a .back) k d (omega (arith, q, c .before .if1 .left)) in omega (arith, q)
+
+mul-copy-in-3 : tie.Need-mul-copy-in-3
+mul-copy-in-3 c = let a = c .before .before .before .before .before .before .args in let h = a .head in let q = c .before .before .before .before .before .before .pre in let d = h .transformer .«input_length» in let k = h .«shingle_size» in let c2 = mul-comm d k in let m = mul-le-mul (q .0 .d-few) (q .0 .k-few) in let b = block-in (k - a .back) k d (omega (arith, q, c .before .if1 .left)) in omega (arith, q)
+
+sub-copy-in : tie.Need-sub-copy-in
+sub-copy-in c = search needs
+
+part-copy-in-start : tie.Need-part-copy-in-start
+part-copy-in-start c = let a = c .before .before .before .before .before .before .args in let h = a .head in let q = c .before .before .before .before .before .before .pre in let d = h .transformer .«input_length» in let k = h .«shingle_size» in let c2 = mul-comm d k in let m = mul-le-mul (q .0 .d-few) (q .0 .k-few) in let b = block-in (k - a .back) k d (omega (arith, q, c .before .if1 .left)) in omega (arith, q)
+
+part-copy-in-end : tie.Need-part-copy-in-end
+part-copy-in-end c = let a = c .before .before .before .before .before .before .args in let h = a .head in let q = c .before .before .before .before .before .before .pre in let d = h .transformer .«input_length» in let k = h .«shingle_size» in let c2 = mul-comm d k in let m = mul-le-mul (q .0 .d-few) (q .0 .k-few) in let b = block-in (k - a .back) k d (omega (arith, q, c .before .if1 .left)) in omega (arith, q)
+
+copy-in-requires-2 : tie.Need-copy-in-requires-2
+copy-in-requires-2 c κs = search needs
+
+same-length : tie.Need-same-length
+same-length c = search needs
+
+returns : tie.Need-returns
+returns c = rw (eq-eqb _ _ (c .before .before .before .before .if1 .taken)) (c .before .before .copy-in .ensures ∙ paste-over _ _)
+
+same-length-2 : tie.Need-same-length-2
+same-length-2 c = search needs
+
+returns-2 : tie.Need-returns-2
+unfolding blockFrom
+returns-2 c = let a = c .before .before .before .before .before .before .before .before .before .before .args in let h = a .head in let q = c .before .before .before .before .before .before .before .before .before .before .pre in let d = h .transformer .«input_length» in rw (ne-eqb _ _ (c .before .before .before .before .before .if1 .left)) (c .before .before .copy-in2 .ensures ∙ paste-over _ _ ∙ ap (over (a .output .now)) (block-cut (h .«shingle_size» - a .back) d (a .inputs .now)))
+
+pub write-past-spec : {M : Type 1} → statement M
+write-past-spec =
+    tie.close
+    (tie.spec
+    copy-in-requires
+    sub-at
+    mul-copy-in
+    mul-copy-in-2
+    add-copy-in
+    mul-copy-in-3
+    sub-copy-in
+    part-copy-in-start
+    part-copy-in-end
+    copy-in-requires-2
+    same-length
+    returns
+    same-length-2
+    returns-2)
