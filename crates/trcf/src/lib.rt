@@ -7,5 +7,6 @@ pub mod preprocessor;
 mod refusal;
 mod shingle;
 mod time;
+mod timestamps;
 pub mod transformer;
 pub mod types;
