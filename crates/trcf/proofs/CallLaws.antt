@@ -1,127 +1,68 @@
--- Calls by their row: what a refused call and an accepted one give, and states laid back over lent lists. Assumes nothing.
-use Prim.Native.Nat.{ℕ, zero, suc, _+_, _-_, _*_, _≤_, _<_}
+-- How the transformer's calls answer, by the number of the row that refuses them.
+use Prim.Native.Nat.{ℕ, zero, suc, _+_, _*_, _≤_, _<_}
+use mathlib.Core.Bool.{Bool, true, false, cond, _&&_}
 use mathlib.Core.Path.{_≡_, refl, sym, ap, _∙_}
-use mathlib.Core.Bool.{Bool, true, false, cond}
 use mathlib.Core.List.{List, [], _∷_, _++_}
 use native.Mathlib.Omega.{arith}
-use lib.ListN.{length, take, drop, replicate, length-replicate}
-use lib.Seq.{length-take-le, take-at}
-use lib.Ieee.{Float}
+use lib.ListN.{length, getD, take, drop}
+use lib.Seq.{drop-cons, length-take-le}
+use lib.Ieee.{Float, nan, eq}
 use Rattle.common.specs.Lent.{over}
-use Rattle.common.specs.Deviation.{zero64}
-use Rattle.trcf.specs.Transformer.{zero32}
-use Rattle.trcf.specs.Settings.{Settings, settingsRow, dimension, block}
-use Rattle.trcf.specs.Calls.{Call, scale, shift, status, rows, table}
-use Rattle.trcf.specs.Preprocessor.{Answer, refused, reply, accepted, change, statisticsLength, fresh, statusOf}
-use Rattle.trcf.specs.View.{Lent, lent, view, laid, counted, rowOf, lentRow, orElse, answerOf, headAfter, lentAfter, Written, written, writtenOf, writeOf, Outcome, outcome, headFrom, noHead, buildRow, buildOf, settingsOf, headRow, Bounded, StatusOutcome, untold, statusRead, statusAfter}
-use Rattle.trcf.specs.declared.preprocessor.Preprocessor.{Preprocessor}
-use Rattle.trcf.proofs.ShingleLaws.{over-part}
+use Rattle.common.specs.Deviation.{rowOf, answered}
+use Rattle.common.specs.declared.deviation.Deviation.{Deviation}
+use Rattle.trcf.specs.Settings.{allOne}
+use Rattle.trcf.specs.Transformer.{one32, updated}
+use Rattle.trcf.specs.TransformerCalls.{Sound, Made, made, madeBy, Written, written, writtenBy, own}
+use Rattle.trcf.specs.declared.transformer.WeightedTransformer.{WeightedTransformer}
+use Rattle.trcf.proofs.TransformerLaws.{updated-length}
 
-module _ {A : Type 0} where
-  pub accepted-not : (r : ℕ) (a b : A) → (r ≡ 0 → ⊥) → accepted r a b ≡ b
-  accepted-not zero a b n = absurd (n refl)
-  accepted-not (suc r) a b n = refl
+pub written-refused : (r n : ℕ) (l a : List Float) → r ≡ n → (r ≡ 0 → ⊥) → written r l ≡ writtenBy n l a
+written-refused r zero l a e taken = absurd (taken e)
+written-refused r (suc n) l a e taken = ap (λ (k : ℕ). written k l) e
 
-pub orElse-is : (r m : ℕ) → (r ≡ 0 → ⊥) → orElse r m ≡ r
-orElse-is zero m n = absurd (n refl)
-orElse-is (suc r) m n = refl
+pub written-done : (r n : ℕ) (l a o : List Float) → r ≡ n → r ≡ 0 → o ≡ over l a → written 0 o ≡ writtenBy n l a
+written-done r zero l a o e z h = ap (written 0) h
+written-done r (suc n) l a o e z h = absurd (omega arith)
 
--- ---- a call that writes one list
+pub made-refused : (r n : ℕ) (h : WeightedTransformer) (l : List Float) (done : Made) → r ≡ n → (r ≡ 0 → ⊥) → made r h l ≡ madeBy n (made n h l) done
+made-refused r zero h l done e taken = absurd (taken e)
+made-refused r (suc n) h l done e taken = ap (λ (k : ℕ). made k h l) e
 
-module _ (h : Preprocessor) (l : Lent) (c : Call) (out : List Float) where
-  pub write-refused : (rowOf h l c ≡ 0 → ⊥) → written (rowOf h l c) out ≡ writeOf h l c out
-  unfolding writeOf answerOf
-  write-refused n = sym (ap (writtenOf out) (accepted-not (rowOf h l c) (reply (view h l) c) (refused (rowOf h l c)) n))
+pub made-done : (r n : ℕ) (refused : Made) (h : WeightedTransformer) (l m : List Float) → r ≡ n → r ≡ 0 → l ≡ m → made 0 h l ≡ madeBy n refused (made 0 h m)
+made-done r zero refused h l m e z p = ap (made 0 h) p
+made-done r (suc n) refused h l m e z p = absurd (omega arith)
 
-  pub write-done : rowOf h l c ≡ 0 → writtenOf out (reply (view h l) c) ≡ writeOf h l c out
-  unfolding writeOf answerOf
-  write-done e = ap (λ (r : ℕ). writtenOf out (accepted r (reply (view h l) c) (refused r))) (sym e)
+-- the statistics of the channels, cut out of a longer list
+pub sound-part : (h : WeightedTransformer) (l : List Float) → 0 < h .«input_length» → h .«input_length» ≤ 16 → 15 * h .«input_length» ≤ length l
+    → Sound h (length (take (15 * h .«input_length») l))
+sound-part h l some few room =
+    record { some = some; few = few; room = omega (arith, length-take-le (15 * h .«input_length») l room) }
 
--- ---- `build`
+-- and put back
+pub updated-over : (h : WeightedTransformer) (l x p new : List Float) → 15 * h .«input_length» ≤ length l → new ≡ updated (own h l) x p
+    → new ++ drop (15 * h .«input_length») l ≡ over l (updated (own h l) x p)
+unfolding over
+updated-over h l x p new room e =
+    let n : length (updated (own h l) x p) ≡ 15 * h .«input_length» = updated-length (own h l) x p ∙ length-take-le (15 * h .«input_length») l room in
+    rw (e, n)
 
-module _ (s : Settings) (l : Lent) where
-  build-row : (r : ℕ) → buildRow s l ≡ r → (r ≡ 0 → ⊥) → outcome r noHead l ≡ buildOf s l
-  unfolding buildOf
-  build-row r e n =
-      sym (accepted-not r (outcome 0 (headFrom s) (laid (fresh s) l)) (outcome r noHead l) n)
-      ∙ ap (λ (q : ℕ). accepted q (outcome 0 (headFrom s) (laid (fresh s) l)) (outcome q noHead l)) (sym e)
+-- ---- rows
 
-  pub build-refused : (settingsRow s ≡ 0 → ⊥) → outcome (settingsRow s) noHead l ≡ buildOf s l
-  unfolding buildRow
-  build-refused n = build-row (settingsRow s) (orElse-is (settingsRow s) (lentRow (headFrom s) l) n) n
+pub rowOf-answered : (n : ℕ) (s : Deviation) → rowOf (answered n s) ≡ n
+rowOf-answered zero s = refl
+rowOf-answered (suc n) s = refl
 
-  pub build-short : settingsRow s ≡ 0 → (lentRow (headFrom s) l ≡ 0 → ⊥) → outcome (lentRow (headFrom s) l) noHead l ≡ buildOf s l
-  unfolding buildRow
-  build-short e n = build-row (lentRow (headFrom s) l) (ap (λ (r : ℕ). orElse r (lentRow (headFrom s) l)) e) n
+pub row-taken : (b : Bool) (r : ℕ) → r ≡ cond b 6 0 → (r ≡ 0 → ⊥) → b ≡ true
+row-taken true r e h = refl
+row-taken false r e h = absurd (h e)
 
-  build-accepted : settingsRow s ≡ 0 → lentRow (headFrom s) l ≡ 0 → outcome 0 (headFrom s) (laid (fresh s) l) ≡ buildOf s l
-  unfolding buildOf buildRow
-  build-accepted e n =
-      ap (λ (r : ℕ). accepted r (outcome 0 (headFrom s) (laid (fresh s) l)) (outcome r noHead l)) (sym (ap (λ (r : ℕ). orElse r (lentRow (headFrom s) l)) e ∙ n))
+pub row-left : (b : Bool) (r : ℕ) → r ≡ cond b 6 0 → r ≡ 0 → b ≡ false
+row-left true r e h = absurd (omega arith)
+row-left false r e h = refl
 
-module _ {A : Type 0} where
-  pub over-none : (l : List A) → l ≡ over l []
-  unfolding over
-  over-none l = refl
+pub allOne-at : (w : List Float) (i : ℕ) (b : Bool) → i < length w → eq (getD w i nan) one32 ≡ b → allOne (drop i w) ≡ b && allOne (drop (suc i) w)
+unfolding allOne
+allOne-at w i b h e = ap allOne (drop-cons w i nan h) ∙ ap (λ (c : Bool). c && allOne (drop (suc i) w)) e
 
-  -- a part of n that was filled
-  pub filled-over : (l : List A) (v : A) (n : ℕ) → n ≤ length l → replicate (length (take n l)) v ++ drop n l ≡ over l (replicate n v)
-  filled-over l v n h =
-      ap (λ (k : ℕ). replicate k v ++ drop n l) (length-take-le n l h) ∙ over-part l (replicate n v) n (length-replicate n v)
-
-pub build-done : (s : Settings) (l : Lent) → settingsRow s ≡ 0 → lentRow (headFrom s) l ≡ 0
-    → statisticsLength s ≤ length (l .statistics) → s .d * s .k ≤ length (l .lastShingledInput) → dimension s ≤ length (l .lastShingledPoint) → s .k ≤ length (l .previousTimestamps)
-    → outcome 0 (headFrom s)
-    (lent (replicate (length (take (statisticsLength s) (l .statistics))) zero64 ++ drop (statisticsLength s) (l .statistics))
-    (replicate (length (take (s .d * s .k) (l .lastShingledInput))) zero32 ++ drop (s .d * s .k) (l .lastShingledInput))
-    (replicate (length (take (dimension s) (l .lastShingledPoint))) zero32 ++ drop (dimension s) (l .lastShingledPoint))
-    (replicate (length (take (s .k) (l .previousTimestamps))) 0 ++ drop (s .k) (l .previousTimestamps)) (l .initialValues) (l .initialTimestamps))
-    ≡ buildOf s l
-unfolding laid fresh
-build-done s l e n a b c d =
-    (λ j. outcome 0 (headFrom s)
-    (lent (filled-over (l .statistics) zero64 (statisticsLength s) a j) (filled-over (l .lastShingledInput) zero32 (s .d * s .k) b j)
-    (filled-over (l .lastShingledPoint) zero32 (dimension s) c j) (filled-over (l .previousTimestamps) 0 (s .k) d j)
-    (over-none (l .initialValues) j) (over-none (l .initialTimestamps) j)))
-    ∙ build-accepted s l e n
-
--- the weights in an array leave the rest of the settings as they were
-pub dimension-from : (s : Settings) → dimension (settingsOf (headFrom s)) ≡ dimension s
-unfolding dimension block
-dimension-from s = refl
-
-pub bounded-from : (s : Settings) → Bounded s → Bounded (settingsOf (headFrom s))
-bounded-from s b = record { d-pos = b .d-pos; d-few = b .d-few; k-pos = b .k-pos; k-few = b .k-few; start-few = b .start-few }
-
--- ---- calls with the same rows
-
-module _ (h : Preprocessor) (l : Lent) (out : List Float) where
-  pub shift-row : rowOf h l (scale out) ≡ rowOf h l (shift out)
-  unfolding rowOf rows table
-  shift-row = refl
-
-  pub status-row : rowOf h l (scale out) ≡ rowOf h l (status out)
-  unfolding rowOf rows table
-  status-row = refl
-
--- ---- `status`
-
-abbrev given : Preprocessor → Written → StatusOutcome
-given h w = record { row = w .row; numbers = untold h (w .out) }
-
-orElse-first : (r m : ℕ) → orElse r m ≡ 0 → r ≡ 0
-orElse-first zero m e = refl
-orElse-first (suc r) m e = e
-
-module _ (h : Preprocessor) (l : Lent) (out : List Float) where
-  status-at : (r : ℕ) → rowOf h l (status out) ≡ r
-      → given h (writtenOf out (accepted r (reply (view h l) (status out)) (refused r))) ≡ statusRead h out (accepted r (reply (view h l) (status out)) (refused r))
-  unfolding rowOf reply statusOf view
-  status-at zero e =
-      let z : headRow (settingsOf h) ≡ 0 = orElse-first (headRow (settingsOf h)) _ e in
-      rw z
-  status-at (suc r) e = refl
-
-  pub status-told : (w : Written) → w ≡ writeOf h l (status out) out → given h w ≡ statusAfter h l out
-  unfolding writeOf statusAfter answerOf
-  status-told w e = ap (given h) e ∙ status-at (rowOf h l (status out)) refl
+pub ne-of : {n : ℕ} → 0 < n → n ≡ 0 → ⊥
+ne-of h e = omega arith

@@ -15,11 +15,6 @@ use Rattle.trcf.specs.Settings.{allOne, waiting}
 use Rattle.trcf.specs.View.{settingsOf, misfit, orElse}
 use Rattle.trcf.specs.declared.preprocessor.Preprocessor.{Preprocessor}
 
--- a turn of the loop over the weights
-pub allOne-at : (x : List Float) (i : ℕ) (b : Bool) → i < length x → eq (getD x i nan) one32 ≡ b → allOne (drop i x) ≡ b && allOne (drop (suc i) x)
-unfolding allOne
-allOne-at x i b h e = ap allOne (drop-cons x i nan h) ∙ ap (λ (c : Bool). c && allOne (drop (suc i) x)) e
-
 pub orElse-not : (r m : ℕ) → (r ≡ 0 → ⊥) → r ≡ orElse r m
 orElse-not zero m n = absurd (n refl)
 orElse-not (suc r) m n = refl

@@ -21,7 +21,7 @@ use Rattle.trcf.specs.View.{Lent, lent, settingsOf, view, counted, laid,
 use Rattle.trcf.specs.declared.preprocessor.Preprocessor.{Preprocessor}
 use Rattle.trcf.proofs.ShingleLaws.{over-take, over-part, length-shiftIn}
 use Rattle.trcf.proofs.DrainLaws.{first-of, left, front-over}
-use Rattle.trcf.proofs.CallLaws.{accepted-not}
+use Rattle.trcf.proofs.OutcomeLaws.{accepted-not}
 
 module _ (h : Preprocessor) (l : Lent) (f : Fitted h l) where
   pub held-initial : h .«initial_len» ≤ length (l .initialTimestamps)

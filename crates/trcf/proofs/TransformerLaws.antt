@@ -13,7 +13,8 @@ use Rattle.common.specs.declared.deviation.Deviation.{Deviation}
 use Rattle.common.specs.declared.deviation.DeviationResult.{DeviationResult}
 use Rattle.common.specs.declared.deviation.DeviationResult.the-variants.{Ok}
 use Rattle.common.specs.Deviation.{countLimit, updateOf, stepOf}
-use borrow.Author.Tests.{lt-leb}
+use Rattle.common.proofs.DeviationLaws.{update-accepted, step-fits}
+use Rattle.common.proofs.DeviationLaws as deviation
 use Rattle.trcf.specs.Fit.{All, Fits}
 use Rattle.trcf.specs.Transformer.{Transformer, putStatistic, putDeviations, fed, fedAt, channelsFed, updated, transformBy, transformed, unweighted, invertBy, inverted, weightAt, basicShift, normalizedScale, scales, shifts, differenceDeviations, zero32}
 use Rattle.trcf.specs.TransformerCalls.{view}
@@ -28,13 +29,8 @@ use Rattle.trcf.proofs.FitLaws.{all-set, all-getD, all-tabulate, tabula
 abbrev fit : Format → Float → Type 0
 fit f x = T (fits f x)
 
--- below the limit no update is refused
-pub update-step : (s : Deviation) (x : Float) → s .count < countLimit → updateOf s x ≡ Ok (stepOf s x)
-unfolding updateOf
-update-step s x h = rw (lt-leb _ _ h)
-
 pub taken-step : (s : Deviation) (x : Float) (r : DeviationResult) (next : Deviation) → s .count < countLimit → r ≡ updateOf s x → r ≡ Ok next → next ≡ stepOf s x
-taken-step s x r next h p q = let k = update-step s x h in cc
+taken-step s x r next h p q = let k = update-accepted s x h in cc
 
 -- the weight that a head holds for channel i
 pub weightAt-view : (t : WeightedTransformer) (l : List Float) (i : ℕ) → i < t .«input_length» → weightAt (view t l) i ≡ getD (t .weights) i nan
@@ -66,32 +62,22 @@ updated-length t x previous = channelsFed-length (t .d) (t .statistics) (t .d) (
 
 -- ---- what feeding writes fits
 
--- the three numbers of a statistic fit
-pub record Fitting (s : Deviation) : Type 0 where
-  pub in-weight : fit binary64 (s .weight)
-  pub in-sum : fit binary64 (s .sum)
-  pub in-squares : fit binary64 (s .«sum_squared»)
-
-pub stepOf-fits : (s : Deviation) (x : Float) → Fitting (stepOf s x)
-unfolding stepOf
-stepOf-fits s x = record { in-weight = add-fits binary64 _ _; in-sum = add-fits binary64 _ _; in-squares = add-fits binary64 _ _ }
-
-pub putStatistic-fits : (l : List Float) (n : ℕ) (s : Deviation) → Fitting s → Fits binary64 l → Fits binary64 (putStatistic l n s)
+pub putStatistic-fits : (l : List Float) (n : ℕ) (s : Deviation) → deviation.Fits s → Fits binary64 l → Fits binary64 (putStatistic l n s)
 unfolding putStatistic
 putStatistic-fits l n s k h =
     let a = set l (3 * n) (s .weight) in
     let b = set a (3 * n + 1) (s .sum) in
-    all-set (fit binary64) b (3 * n + 2) (s .«sum_squared») (k .in-squares)
-    (all-set (fit binary64) a (3 * n + 1) (s .sum) (k .in-sum) (all-set (fit binary64) l (3 * n) (s .weight) (k .in-weight) h))
+    all-set (fit binary64) b (3 * n + 2) (s .«sum_squared») (k .squares)
+    (all-set (fit binary64) a (3 * n + 1) (s .sum) (k .sum) (all-set (fit binary64) l (3 * n) (s .weight) (k .weight) h))
 
 pub fedAt-fits : (l : List Float) (b w : ℕ) (decay : Float) (count : ℕ) (x dx : Float) → Fits binary64 l → Fits binary64 (fedAt l b w decay count x dx)
 unfolding fedAt putDeviations fed
 fedAt-fits l b w decay count x dx h =
-    putStatistic-fits _ _ _ (stepOf-fits _ _)
-    (putStatistic-fits _ _ _ (stepOf-fits _ _)
-    (putStatistic-fits _ _ _ (stepOf-fits _ _)
-    (putStatistic-fits _ _ _ (stepOf-fits _ _)
-    (putStatistic-fits _ _ _ (stepOf-fits _ _) h))))
+    putStatistic-fits _ _ _ (step-fits _ _)
+    (putStatistic-fits _ _ _ (step-fits _ _)
+    (putStatistic-fits _ _ _ (step-fits _ _)
+    (putStatistic-fits _ _ _ (step-fits _ _)
+    (putStatistic-fits _ _ _ (step-fits _ _) h))))
 
 pub channelsFed-fits : (n : ℕ) (l : List Float) (d : ℕ) (decay : Float) (count : ℕ) (x previous : List Float) → Fits binary64 l → Fits binary64 (channelsFed n l d decay count x previous)
 unfolding channelsFed

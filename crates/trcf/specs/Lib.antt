@@ -4,7 +4,9 @@ pub mod Types
 pub mod Transformer
 pub mod Timestamps
 pub mod TransformerCalls
+pub mod Forecast
 pub mod Settings
 pub mod Calls
 pub mod Preprocessor
 pub mod View
+pub mod Extrapolation

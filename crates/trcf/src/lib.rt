@@ -1,5 +1,6 @@
 // The preprocessor of a stream of readings: its settings, the transform of a reading, and the shingles it keeps.
 mod draining;
+pub mod extrapolation;
 mod learn_refusal;
 mod learning;
 mod output;

@@ -2,7 +2,7 @@
 use crate::preprocessor::Preprocessor;
 use crate::preprocessor::PreprocessorBuilder;
 use crate::shingle::all_finite;
-use crate::shingle::last_of;
+use crate::transformer::all_one;
 use crate::types::ForestMode;
 use crate::types::TransformMethod;
 use crate::types::is_none;
@@ -50,20 +50,6 @@ fn outside_unit(decay: f64) -> bool
     ensures { λ r. ⌜ r ≡ outsideUnit decay ⌝ }
 {
     !(decay >= 0.0 && decay < 1.0)
-}
-
-fn all_one(weights: &[f32]) -> bool
-    ensures { λ r. ⌜ r ≡ allOne (now (weights .entry)) ⌝ }
-{
-    let mut i = 0;
-    while i < weights.len() {
-        let one = weights[i] == 1.0;
-        if !one {
-            return false;
-        }
-        i += 1;
-    }
-    true
 }
 
 // Whether weights are given where none are used.

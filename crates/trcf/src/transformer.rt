@@ -4,22 +4,31 @@ use crate::types::is_centring;
 use crate::types::is_differencing;
 use crate::types::is_none;
 use crate::types::is_normalizing;
+use common::deviation::COUNT_LIMIT;
 use common::deviation::Deviation;
 use common::deviation::DeviationResult;
+use common::rangevector::Range32;
+use common::rangevector::cascaded_add_f32;
 ghost use mathlib.Core.Path.{_≡_};
-ghost use Prim.Native.Nat.{_+_, _*_, _≤_, _<_};
-ghost use lib.ListN.{length};
-ghost use Rattle.common.specs.Deviation.{countLimit, stepOf};
-ghost use mathlib.Core.Bool.{cond};
-ghost use lib.Ieee.{binary32, binary64, add, mul};
-ghost use Rattle.trcf.specs.Types.{normalizes, centres};
+ghost use mathlib.Core.Bool.{false, cond, not, _&&_};
+ghost use mathlib.Core.List.{[], _∷_};
+ghost use Prim.Native.Nat.{_+_, _*_, _/_, _≤_, _<_};
+ghost use lib.IntN.{pos};
+ghost use lib.ListN.{length, replicate};
+ghost use lib.Ieee.{binary32, binary64, add, mul, ofInt};
 ghost use Rattle.numeric.specs.Narrow.{narrowed};
-ghost use Rattle.common.specs.Deviation.{one64};
+ghost use Rattle.common.specs.Refusal.{firstOf};
 ghost use Rattle.common.specs.Lent.{over};
-ghost use Rattle.trcf.specs.Transformer.{statisticAt, putStatistic, deviationsAt, putDeviations, fed, fedAt, updated};
-ghost use Rattle.trcf.specs.Transformer.{meanAt, unweighted, transformBy, transformed, invertBy, inverted, scales, shifts, differenceDeviations};
-ghost use Rattle.trcf.specs.Transformer.{zero32, weightAt, normalizedScale, basicShift};
-ghost use Rattle.trcf.specs.TransformerCalls.{view, Sound};
+ghost use Rattle.common.specs.Deviation.{zero64, one64, countLimit, outsideUnit, stepOf};
+ghost use Rattle.common.specs.RangeVector.{ranges, outcome, unblocked, cascadeTo};
+ghost use Rattle.trcf.specs.Types.{isNone, normalizes, differences, centres};
+ghost use Rattle.trcf.specs.Settings.{allOne};
+ghost use Rattle.trcf.specs.Transformer.{zero32, statisticAt, putStatistic, deviationsAt, putDeviations, fed, fedAt, updated};
+ghost use Rattle.trcf.specs.Transformer.{meanAt, weightAt, normalizedScale, transformBy, transformed, unweighted, invertBy, inverted};
+ghost use Rattle.trcf.specs.Transformer.{reciprocal, scaledIf, shiftedIf, forecastTo, invertedForecast, scales, shifts, differenceDeviations};
+ghost use Rattle.trcf.specs.Forecast.{plain, inversionOf, forecastBy, channelTo};
+ghost use Rattle.trcf.specs.TransformerCalls.{view, Sound, made, written, newRow, updateRow, transformRow, outputRow, forecastRow};
+ghost use Rattle.trcf.specs.TransformerCalls.{newOf, updateOf, transformOf, invertOf, invertForecastOf, scaleOf, shiftOf, differenceDeviationsOf};
 
 // The settings of a transform and how many readings the statistics were fed; the first `input_length` weights count.
 pub struct WeightedTransformer {
@@ -37,6 +46,12 @@ pub struct Deviations {
     pub deviation: Deviation,
     pub difference_mean: Deviation,
     pub difference_deviation: Deviation,
+}
+
+// The number of the refusal, 0 for none, and a transformer.
+pub struct TransformerResult {
+    pub row: u64,
+    pub transformer: WeightedTransformer,
 }
 
 // ---- statistics in the lent list, by their place
@@ -355,5 +370,573 @@ pub(crate) fn difference_deviations_into(t: WeightedTransformer, s: &[f64], outp
     while i < d {
         output[i] = narrow_mean_at(s, i + 4 * d);
         i += 1;
+    }
+}
+
+// ---- invert_forecast
+
+// What a channel of a forecast is scaled and shifted by, the same in every block.
+struct Inversion {
+    weighs: bool,
+    factor: f32,
+    normalizes: bool,
+    scale: f32,
+    drift: f32,
+    centres: bool,
+    shift: f32,
+}
+
+// 1 / weight, 0 for weight 0.
+fn reciprocal_of(w: f32) -> f32
+    ensures { λ r. ⌜ r ≡ reciprocal w ⌝ }
+{
+    if w == 0.0 { 0.0 } else { 1.0 / w }
+}
+
+fn inversion_at(t: WeightedTransformer, s: &[f64], j: usize) -> Inversion
+    requires { ⌜ Sound t (length (now s)) ⌝ }
+    requires { ⌜ j < t .«input_length» ⌝ }
+    ensures { λ r. ⌜ r ≡ inversionOf (view t (now (s .entry))) j ⌝ }
+{
+    let d = t.input_length;
+    let m = t.transform_method;
+    let factor = reciprocal_of(t.weights[j]);
+    let none = is_none(m);
+    let normalizes = is_normalizing(m);
+    let centres = is_centring(m);
+    let scale = normalized_scale(s, d, j);
+    let drift = narrow_mean_at(s, j + 3 * d);
+    let shift = narrow_mean_at(s, j);
+    Inversion {
+        weighs: !none,
+        factor: factor,
+        normalizes: normalizes,
+        scale: scale,
+        drift: drift,
+        centres: centres,
+        shift: shift,
+    }
+}
+
+fn scaled_if(b: bool, r: Range32, x: f32) -> Range32
+    ensures { λ q. ⌜ plain q ≡ scaledIf b (plain r) x ⌝ }
+{
+    if b { r.scale(x) } else { r }
+}
+
+fn shifted_if(b: bool, r: Range32, x: f32) -> Range32
+    ensures { λ q. ⌜ plain q ≡ shiftedIf b (plain r) x ⌝ }
+{
+    if b { r.shift(x) } else { r }
+}
+
+// The nearest f32; the machine's own conversion is exact up to 2^24.
+fn block_number(i: usize) -> f32
+    ensures { λ r. ⌜ r ≡ ofInt binary32 (pos i) ⌝ }
+{
+    if i <= 16_777_216 {
+        i as f32
+    } else {
+        numeric::u64_to_f32(i as u64)
+    }
+}
+
+// What stands for the channel in block i.
+fn forecast(k: Inversion, i: usize, r: Range32) -> Range32
+    ensures { λ q. ⌜ plain q ≡ forecastBy k i (plain r) ⌝ }
+{
+    let a = scaled_if(k.weighs, r, k.factor);
+    let b = scaled_if(k.normalizes, a, k.scale);
+    let c = b.shift(block_number(i) * k.drift);
+    shifted_if(k.centres, c, k.shift)
+}
+
+// The n blocks of channel j.
+fn invert_channel(
+    k: Inversion,
+    j: usize,
+    d: usize,
+    n: usize,
+    values: &mut [f32],
+    upper: &mut [f32],
+    lower: &mut [f32],
+)
+    requires { ⌜ (j < d) × (n * d ≤ length (now values)) ⌝ }
+    requires { ⌜ (length (now upper) ≡ length (now values)) × (length (now lower) ≡ length (now values)) ⌝ }
+    ensures { λ _. ⌜ ranges (now (values .exit)) (now (upper .exit)) (now (lower .exit))
+        ≡ channelTo k d j n (ranges (now (values .entry)) (now (upper .entry)) (now (lower .entry))) ⌝ }
+{
+    let mut i = 0;
+    while i < n {
+        let at = i * d + j;
+        let r = Range32 {
+            value: values[at],
+            upper: upper[at],
+            lower: lower[at],
+        };
+        let q = forecast(k, i, r);
+        values[at] = q.value;
+        upper[at] = q.upper;
+        lower[at] = q.lower;
+        i += 1;
+    }
+}
+
+// Every whole block; each index on its own.
+fn invert_channels(
+    t: WeightedTransformer,
+    s: &[f64],
+    values: &mut [f32],
+    upper: &mut [f32],
+    lower: &mut [f32],
+)
+    requires { ⌜ Sound t (length (now s)) ⌝ }
+    requires { ⌜ (length (now upper) ≡ length (now values)) × (length (now lower) ≡ length (now values)) ⌝ }
+    ensures { λ _. ⌜ ranges (now (values .exit)) (now (upper .exit)) (now (lower .exit))
+        ≡ forecastTo (view t (now (s .entry))) (length (now (values .entry)) / t .«input_length» * t .«input_length») (ranges (now (values .entry)) (now (upper .entry)) (now (lower .entry))) ⌝ }
+{
+    let d = t.input_length;
+    let n = values.len() / d;
+    let mut j = 0;
+    while j < d {
+        let k = inversion_at(t, s, j);
+        invert_channel(k, j, d, n, values, upper, lower);
+        j += 1;
+    }
+}
+
+fn cascade_if(b: bool, values: &mut [f32], upper: &mut [f32], lower: &mut [f32], base: &[f32])
+    requires { ⌜ (length (now upper) ≡ length (now values)) × (length (now lower) ≡ length (now values)) ⌝ }
+    requires { ⌜ (b && unblocked (length (now base)) (length (now values))) ≡ false ⌝ }
+    ensures { λ _. ⌜ ranges (now (values .exit)) (now (upper .exit)) (now (lower .exit))
+        ≡ cond b (cascadeTo binary32 (now (base .entry)) (length (now (values .entry))) (ranges (now (values .entry)) (now (upper .entry)) (now (lower .entry)))) (ranges (now (values .entry)) (now (upper .entry)) (now (lower .entry))) ⌝ }
+{
+    if b {
+        cascaded_add_f32(values, upper, lower, base);
+    }
+}
+
+pub(crate) fn invert_forecast_in_place(
+    t: WeightedTransformer,
+    s: &[f64],
+    previous: &[f32],
+    values: &mut [f32],
+    upper: &mut [f32],
+    lower: &mut [f32],
+)
+    requires { ⌜ Sound t (length (now s)) ⌝ }
+    requires { ⌜ (length (now upper) ≡ length (now values)) × (length (now lower) ≡ length (now values)) ⌝ }
+    requires { ⌜ (differences (t .«transform_method») && unblocked (length (now previous)) (length (now values))) ≡ false ⌝ }
+    ensures { λ _. ⌜ ranges (now (values .exit)) (now (upper .exit)) (now (lower .exit))
+        ≡ invertedForecast (view t (now (s .entry))) (now (previous .entry)) (ranges (now (values .entry)) (now (upper .entry)) (now (lower .entry))) ⌝ }
+{
+    let m = t.transform_method;
+    let b = is_differencing(m);
+    invert_channels(t, s, values, upper, lower);
+    cascade_if(b, values, upper, lower, previous);
+}
+
+// ---- what refuses a call
+
+// Row 6 as the source has it: what makes a statistic with this discount refuses it.
+fn decay_row(decay: f64) -> u64
+    ensures { λ r. ⌜ r ≡ firstOf ((outsideUnit decay, 6) ∷ []) ⌝ }
+{
+    let r = Deviation::new(decay);
+    match r {
+        DeviationResult::Ok(_) => 0,
+        DeviationResult::Err(row) => row,
+    }
+}
+
+pub(crate) fn all_one(w: &[f32]) -> bool
+    ensures { λ r. ⌜ r ≡ allOne (now (w .entry)) ⌝ }
+{
+    let mut i = 0;
+    while i < w.len() {
+        if w[i] != 1.0 {
+            return false;
+        }
+        i += 1;
+    }
+    true
+}
+
+// Row 9: NONE takes no weight but 1.
+fn weights_refused(m: TransformMethod, w: &[f32]) -> bool
+    ensures { λ r. ⌜ r ≡ (isNone m && not (allOne (now (w .entry)))) ⌝ }
+{
+    if is_none(m) { !all_one(w) } else { false }
+}
+
+fn new_row(m: TransformMethod, d: usize, decay: f64, w: &[f32], s: usize) -> u64
+    ensures { λ r. ⌜ r ≡ newRow m d decay (now (w .entry)) s ⌝ }
+    ensures { λ r. ⌜ (r ≡ 0 → (0 < d) × (d ≤ 16) × (length (now (w .entry)) ≡ d) × (15 * d ≤ s)) ⌝ }
+{
+    if d == 0 {
+        return 2;
+    }
+    if 16 < d {
+        return 4;
+    }
+    if w.len() != d {
+        return 5;
+    }
+    if decay_row(decay) != 0 {
+        return 6;
+    }
+    if weights_refused(m, w) {
+        return 9;
+    }
+    if s < 15 * d {
+        return 20;
+    }
+    0
+}
+
+fn update_row(d: usize, x: usize, p: usize, count: u64, s: usize) -> u64
+    ensures { λ r. ⌜ r ≡ updateRow d x p count s ⌝ }
+    ensures { λ r. ⌜ (r ≡ 0 → (0 < d) × (d ≤ 16) × (x ≡ d) × (p ≡ d) × (count < countLimit) × (15 * d ≤ s)) ⌝ }
+{
+    if d == 0 {
+        return 2;
+    }
+    if 16 < d {
+        return 4;
+    }
+    if x != d {
+        return 10;
+    }
+    if p != d {
+        return 10;
+    }
+    if COUNT_LIMIT <= count {
+        return 18;
+    }
+    if s < 15 * d {
+        return 20;
+    }
+    0
+}
+
+fn transform_row(d: usize, x: usize, p: usize, s: usize, o: usize) -> u64
+    ensures { λ r. ⌜ r ≡ transformRow d x p s o ⌝ }
+    ensures { λ r. ⌜ (r ≡ 0 → (0 < d) × (d ≤ 16) × (x ≡ d) × (p ≡ d) × (15 * d ≤ s) × (d ≤ o)) ⌝ }
+{
+    if d == 0 {
+        return 2;
+    }
+    if 16 < d {
+        return 4;
+    }
+    if x != d {
+        return 10;
+    }
+    if p != d {
+        return 10;
+    }
+    if s < 15 * d {
+        return 20;
+    }
+    if o < d {
+        return 20;
+    }
+    0
+}
+
+fn output_row(d: usize, s: usize, o: usize) -> u64
+    ensures { λ r. ⌜ r ≡ outputRow d s o ⌝ }
+    ensures { λ r. ⌜ (r ≡ 0 → (0 < d) × (d ≤ 16) × (15 * d ≤ s) × (d ≤ o)) ⌝ }
+{
+    if d == 0 {
+        return 2;
+    }
+    if 16 < d {
+        return 4;
+    }
+    if s < 15 * d {
+        return 20;
+    }
+    if o < d {
+        return 20;
+    }
+    0
+}
+
+// Row 16 of the cascade: no block, or a broken one.
+fn blocks_refused(m: TransformMethod, d: usize, n: usize) -> bool
+    requires { ⌜ 0 < d ⌝ }
+    ensures { λ r. ⌜ r ≡ (differences m && unblocked d n) ⌝ }
+{
+    if !is_differencing(m) {
+        return false;
+    }
+    if n == 0 {
+        return true;
+    }
+    n % d != 0
+}
+
+fn forecast_row(
+    m: TransformMethod,
+    d: usize,
+    p: usize,
+    v: usize,
+    u: usize,
+    l: usize,
+    s: usize,
+) -> u64
+    ensures { λ r. ⌜ r ≡ forecastRow m d p v u l s ⌝ }
+    ensures { λ r. ⌜ (r ≡ 0 → (0 < d) × (d ≤ 16) × (p ≡ d) × (u ≡ v) × (l ≡ v) × ((differences m && unblocked d v) ≡ false) × (15 * d ≤ s)) ⌝ }
+{
+    if d == 0 {
+        return 2;
+    }
+    if 16 < d {
+        return 4;
+    }
+    if p != d {
+        return 10;
+    }
+    if v != u {
+        return 16;
+    }
+    if v != l {
+        return 16;
+    }
+    if blocks_refused(m, d, v) {
+        return 16;
+    }
+    if s < 15 * d {
+        return 20;
+    }
+    0
+}
+
+// ---- the calls
+
+// The weights, and zeros behind them.
+fn padded(w: &[f32]) -> [f32; 16]
+    requires { ⌜ length (now w) ≤ 16 ⌝ }
+    ensures { λ r. ⌜ r ≡ over (replicate 16 zero32) (now (w .entry)) ⌝ }
+{
+    let mut a = [0.0f32; 16];
+    let mut i = 0;
+    while i < w.len() {
+        a[i] = w[i];
+        i += 1;
+    }
+    a
+}
+
+fn clear(s: &mut [f64], n: usize)
+    requires { ⌜ n ≤ length (now s) ⌝ }
+    ensures { λ _. ⌜ now (s .exit) ≡ over (now (s .entry)) (replicate n zero64) ⌝ }
+{
+    let mut i = 0;
+    while i < n {
+        s[i] = 0.0;
+        i += 1;
+    }
+}
+
+impl WeightedTransformer {
+    // Settings, with no reading fed: the front of the lent statistics is cleared.
+    pub fn new(
+        transform_method: TransformMethod,
+        input_length: usize,
+        transform_decay: f64,
+        weights: &[f32],
+        statistics: &mut [f64],
+    ) -> TransformerResult
+        ensures { λ r. ⌜ made (r .row) (r .transformer) (now (statistics .exit))
+            ≡ newOf «transform_method» «input_length» «transform_decay» (now (weights .entry)) (now (statistics .entry)) ⌝ }
+    {
+        let row = new_row(
+            transform_method,
+            input_length,
+            transform_decay,
+            weights,
+            statistics.len(),
+        );
+        if row != 0 {
+            return TransformerResult {
+                row: row,
+                transformer: WeightedTransformer {
+                    transform_method: TransformMethod::NONE,
+                    input_length: 0,
+                    transform_decay: 0.0,
+                    weights: [0.0f32; 16],
+                    count: 0,
+                },
+            };
+        }
+        let own = padded(weights);
+        clear(statistics, 15 * input_length);
+        TransformerResult {
+            row: 0,
+            transformer: WeightedTransformer {
+                transform_method: transform_method,
+                input_length: input_length,
+                transform_decay: transform_decay,
+                weights: own,
+                count: 0,
+            },
+        }
+    }
+
+    pub fn update(
+        self,
+        statistics: &mut [f64],
+        input: &[f32],
+        previous: &[f32],
+    ) -> TransformerResult
+        ensures { λ r. ⌜ made (r .row) (r .transformer) (now (statistics .exit))
+            ≡ updateOf self (now (statistics .entry)) (now (input .entry)) (now (previous .entry)) ⌝ }
+    {
+        let d = self.input_length;
+        let count = self.count;
+        let row = update_row(d, input.len(), previous.len(), count, statistics.len());
+        if row != 0 {
+            return TransformerResult {
+                row: row,
+                transformer: self,
+            };
+        }
+        let n = 15 * d;
+        update_channels(self, &mut statistics[..n], input, previous);
+        let m = self.transform_method;
+        let w = self.weights;
+        TransformerResult {
+            row: 0,
+            transformer: WeightedTransformer {
+                transform_method: m,
+                input_length: d,
+                transform_decay: self.transform_decay,
+                weights: w,
+                count: count + 1,
+            },
+        }
+    }
+
+    pub fn transform(
+        self,
+        statistics: &[f64],
+        input: &[f32],
+        previous: &[f32],
+        output: &mut [f32],
+    ) -> u64
+        ensures { λ r. ⌜ written r (now (output .exit))
+            ≡ transformOf self (now (statistics .entry)) (now (input .entry)) (now (previous .entry)) (now (output .entry)) ⌝ }
+    {
+        let d = self.input_length;
+        let row = transform_row(
+            d,
+            input.len(),
+            previous.len(),
+            statistics.len(),
+            output.len(),
+        );
+        if row != 0 {
+            return row;
+        }
+        let n = 15 * d;
+        transform_into(self, &statistics[..n], input, previous, output);
+        0
+    }
+
+    pub fn invert(
+        self,
+        statistics: &[f64],
+        input: &[f32],
+        previous: &[f32],
+        output: &mut [f32],
+    ) -> u64
+        ensures { λ r. ⌜ written r (now (output .exit))
+            ≡ invertOf self (now (statistics .entry)) (now (input .entry)) (now (previous .entry)) (now (output .entry)) ⌝ }
+    {
+        let d = self.input_length;
+        let row = transform_row(
+            d,
+            input.len(),
+            previous.len(),
+            statistics.len(),
+            output.len(),
+        );
+        if row != 0 {
+            return row;
+        }
+        let n = 15 * d;
+        invert_into(self, &statistics[..n], input, previous, output);
+        0
+    }
+
+    pub fn invert_forecast(
+        self,
+        statistics: &[f64],
+        previous: &[f32],
+        values: &mut [f32],
+        upper: &mut [f32],
+        lower: &mut [f32],
+    ) -> u64
+        ensures { λ r. ⌜ outcome r (ranges (now (values .exit)) (now (upper .exit)) (now (lower .exit)))
+            ≡ invertForecastOf self (now (statistics .entry)) (now (previous .entry)) (ranges (now (values .entry)) (now (upper .entry)) (now (lower .entry))) ⌝ }
+    {
+        let d = self.input_length;
+        let m = self.transform_method;
+        let row = forecast_row(
+            m,
+            d,
+            previous.len(),
+            values.len(),
+            upper.len(),
+            lower.len(),
+            statistics.len(),
+        );
+        if row != 0 {
+            return row;
+        }
+        let n = 15 * d;
+        invert_forecast_in_place(self, &statistics[..n], previous, values, upper, lower);
+        0
+    }
+
+    pub fn scale(self, statistics: &[f64], output: &mut [f32]) -> u64
+        ensures { λ r. ⌜ written r (now (output .exit)) ≡ scaleOf self (now (statistics .entry)) (now (output .entry)) ⌝ }
+    {
+        let d = self.input_length;
+        let row = output_row(d, statistics.len(), output.len());
+        if row != 0 {
+            return row;
+        }
+        let n = 15 * d;
+        scale_into(self, &statistics[..n], output);
+        0
+    }
+
+    pub fn shift(self, statistics: &[f64], output: &mut [f32]) -> u64
+        ensures { λ r. ⌜ written r (now (output .exit)) ≡ shiftOf self (now (statistics .entry)) (now (output .entry)) ⌝ }
+    {
+        let d = self.input_length;
+        let row = output_row(d, statistics.len(), output.len());
+        if row != 0 {
+            return row;
+        }
+        let n = 15 * d;
+        shift_into(self, &statistics[..n], output);
+        0
+    }
+
+    pub fn difference_deviations(self, statistics: &[f64], output: &mut [f32]) -> u64
+        ensures { λ r. ⌜ written r (now (output .exit)) ≡ differenceDeviationsOf self (now (statistics .entry)) (now (output .entry)) ⌝ }
+    {
+        let d = self.input_length;
+        let row = output_row(d, statistics.len(), output.len());
+        if row != 0 {
+            return row;
+        }
+        let n = 15 * d;
+        difference_deviations_into(self, &statistics[..n], output);
+        0
     }
 }

@@ -1,3 +1,4 @@
+-- `trcf::draining::drain_all` meets its contract: by its callees' promises and the laws of lists. Assumes nothing.
 use native.Mathlib.Omega.{arith}
 use mathlib.Core.Path.{_≡_, refl, sym, ap, _∙_}
 use Prim.Native.Nat.{ℕ, suc, _+_, _-_, _*_, _≤_, _<_}
@@ -10,11 +11,6 @@ use Rattle.trcf.proofs.ShingleLaws.{paste-overwrite, set-overwrite}
 use borrow.Author.Needs.{needs}
 use Rattle.trcf.proofs.draining.drain_all.Statement.{statement}
 use Rattle.trcf.proofs.draining.drain_all.Tie as tie
-use Rattle.trcf.proofs.draining.drain_all.Reads as reads
-use Rattle.trcf.proofs.draining.drain_all.Lts as lts
-use Rattle.trcf.proofs.draining.drain_each.Reads as drain-each-reads
-use Rattle.trcf.proofs.draining.feed_initial.Reads as feed-initial-reads
-use Rattle.trcf.proofs.shingle.copy_in.Reads as copy-in-reads
 
 feed-initial-requires : tie.Need-feed-initial-requires
 feed-initial-requires c κs = search needs

@@ -1,3 +1,4 @@
+-- `trcf::draining::drain_due` meets its contract: by its callees' promises and the laws of lists. Assumes nothing.
 use native.Mathlib.Omega.{arith}
 use mathlib.Core.Path.{_≡_, refl, sym, ap, _∙_}
 use Prim.Native.Nat.{ℕ, _+_, _-_, _*_, _≤_, _<_}
@@ -13,8 +14,6 @@ use Rattle.trcf.proofs.StateLaws.{undrained, undrained-is, count-room, 
 use borrow.Author.Needs.{needs}
 use Rattle.trcf.proofs.draining.drain_due.Statement.{statement}
 use Rattle.trcf.proofs.draining.drain_due.Tie as tie
-use Rattle.trcf.proofs.draining.drain_due.Reads as reads
-use Rattle.trcf.proofs.draining.drain_due.Lts as lts
 
 is-due-requires : tie.Need-is-due-requires
 is-due-requires c κs = search needs

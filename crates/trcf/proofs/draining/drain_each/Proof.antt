@@ -1,3 +1,4 @@
+-- `trcf::draining::drain_each` meets its contract: by its loop's invariant. Assumes nothing.
 use native.Mathlib.Nat.{mul-le-mul, le-refl, le-mul-of-pos-right, add-zero}
 use Prim.Native.Nat.{ℕ, _+_, _-_, _*_, _≤_, _<_}
 use mathlib.Core.Path.{_≡_, refl, sym, ap, _∙_}
@@ -8,9 +9,6 @@ use Rattle.trcf.specs.View.{settingsOf, readingAt, shingling}
 use Rattle.trcf.proofs.DrainLaws.{left, left-all, left-none, feed-again, drain-again}
 use Rattle.trcf.proofs.draining.drain_each.Statement.{statement}
 use Rattle.trcf.proofs.draining.drain_each.Tie as tie
-use Rattle.trcf.proofs.draining.drain_each.Reads as reads
-use Rattle.trcf.proofs.draining.drain_each.Lts as lts
-use Rattle.trcf.proofs.draining.drain_turn.Reads as drain-turn-reads
 
 abbrev Inv-loop : tie.InvT-loop
 Inv-loop head s inputs₀ points₀ times₀ values stamps i₀ inputs points times i =

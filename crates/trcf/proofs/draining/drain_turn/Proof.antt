@@ -1,3 +1,4 @@
+-- `trcf::draining::drain_turn` meets its contract: by its callees' promises and the laws of lists. Assumes nothing.
 use native.Mathlib.Omega.{arith}
 use mathlib.Core.Path.{_≡_, refl, sym, ap, _∙_}
 use Prim.Native.Nat.{ℕ, _+_, _-_, _*_, _≤_, _<_}
@@ -9,12 +10,6 @@ use Rattle.trcf.specs.Lists.{shiftIn}
 use borrow.Author.Needs.{needs}
 use Rattle.trcf.proofs.draining.drain_turn.Statement.{statement}
 use Rattle.trcf.proofs.draining.drain_turn.Tie as tie
-use Rattle.trcf.proofs.draining.drain_turn.Reads as reads
-use Rattle.trcf.proofs.draining.drain_turn.Lts as lts
-use Rattle.trcf.proofs.output.write_transform.Reads as write-transform-reads
-use Rattle.trcf.proofs.refusal.block_of.Reads as block-of-reads
-use Rattle.trcf.proofs.shingle.shift_time.Reads as shift-time-reads
-use Rattle.trcf.proofs.shingle.shift_vector.Reads as shift-vector-reads
 
 block-of-requires : tie.Need-block-of-requires
 block-of-requires c κs = search needs

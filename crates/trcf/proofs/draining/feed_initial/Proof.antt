@@ -1,3 +1,4 @@
+-- `trcf::draining::feed_initial` meets its contract: by its loop's invariant. Assumes nothing.
 use native.Mathlib.Nat.{mul-le-mul, le-refl, le-mul-of-pos-right, add-zero}
 use Prim.Native.Nat.{ℕ, _+_, _-_, _*_, _≤_, _<_}
 use mathlib.Core.Path.{_≡_, refl, sym, ap, _∙_}
@@ -8,9 +9,6 @@ use Rattle.trcf.specs.View.{settingsOf, readingAt, shingling}
 use Rattle.trcf.proofs.DrainLaws.{left, left-all, left-none, feed-again, drain-again}
 use Rattle.trcf.proofs.draining.feed_initial.Statement.{statement}
 use Rattle.trcf.proofs.draining.feed_initial.Tie as tie
-use Rattle.trcf.proofs.draining.feed_initial.Reads as reads
-use Rattle.trcf.proofs.draining.feed_initial.Lts as lts
-use Rattle.trcf.proofs.draining.feed_turn.Reads as feed-turn-reads
 
 abbrev Inv-loop : tie.InvT-loop
 Inv-loop head s₀ values stamps i₀ s i =

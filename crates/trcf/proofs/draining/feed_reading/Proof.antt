@@ -1,13 +1,8 @@
+-- `trcf::draining::feed_reading` meets its contract: by its callees' promises and the laws of lists. Assumes nothing.
 use Rattle.trcf.specs.Preprocessor.{feed, timeFed}
 use borrow.Author.Needs.{needs}
 use Rattle.trcf.proofs.draining.feed_reading.Statement.{statement}
 use Rattle.trcf.proofs.draining.feed_reading.Tie as tie
-use Rattle.trcf.proofs.draining.feed_reading.Reads as reads
-use Rattle.trcf.proofs.draining.feed_reading.Lts as lts
-use Rattle.numeric.proofs.u64_to_f64.Reads as u64-to-f64-reads
-use Rattle.trcf.proofs.draining.since.Reads as since-reads
-use Rattle.trcf.proofs.timestamps.feed_at.Reads as feed-at-reads
-use Rattle.trcf.proofs.transformer.update_channels.Reads as update-channels-reads
 
 update-channels-requires : tie.Need-update-channels-requires
 update-channels-requires c κs = search needs

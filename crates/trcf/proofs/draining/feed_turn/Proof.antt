@@ -1,3 +1,4 @@
+-- `trcf::draining::feed_turn` meets its contract: by its callees' promises and the laws of lists. Assumes nothing.
 use native.Mathlib.Omega.{arith}
 use mathlib.Core.Path.{_≡_, refl, sym, ap, _∙_}
 use Prim.Native.Nat.{ℕ, _+_, _-_, _*_, _≤_, _<_}
@@ -8,10 +9,6 @@ use Rattle.trcf.specs.View.{settingsOf}
 use borrow.Author.Needs.{needs}
 use Rattle.trcf.proofs.draining.feed_turn.Statement.{statement}
 use Rattle.trcf.proofs.draining.feed_turn.Tie as tie
-use Rattle.trcf.proofs.draining.feed_turn.Reads as reads
-use Rattle.trcf.proofs.draining.feed_turn.Lts as lts
-use Rattle.trcf.proofs.draining.feed_reading.Reads as feed-reading-reads
-use Rattle.trcf.proofs.draining.place_before.Reads as place-before-reads
 
 place-before-requires : tie.Need-place-before-requires
 place-before-requires c κs = search needs

@@ -1,3 +1,4 @@
+-- `trcf::learn_refusal::input_row` meets its contract: each return by the tests on the way to it. Assumes nothing.
 use native.Mathlib.Omega.{arith}
 use borrow.Author.Tests.{not-true, not-false, lt-ltb, le-ltb, eq-eqb, ne-eqb, le-leb, lt-leb}
 use mathlib.Core.Path.{_≡_, refl, sym, ap, _∙_}
@@ -5,8 +6,6 @@ use Rattle.trcf.specs.View.{inputRow}
 use borrow.Author.Needs.{needs}
 use Rattle.trcf.proofs.learn_refusal.input_row.Statement.{statement}
 use Rattle.trcf.proofs.learn_refusal.input_row.Tie as tie
-use Rattle.trcf.proofs.learn_refusal.input_row.Reads as reads
-use Rattle.trcf.proofs.learn_refusal.input_row.Lts as lts
 
 returns : tie.Need-returns
 unfolding inputRow

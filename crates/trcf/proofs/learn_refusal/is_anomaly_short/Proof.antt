@@ -1,9 +1,8 @@
+-- `trcf::learn_refusal::is_anomaly_short` meets its contract: each return by the tests on the way to it. Assumes nothing.
 use borrow.Author.Tests.{not-true, not-false, lt-ltb, le-ltb, eq-eqb, ne-eqb, le-leb, lt-leb}
 use borrow.Author.Needs.{needs}
 use Rattle.trcf.proofs.learn_refusal.is_anomaly_short.Statement.{statement}
 use Rattle.trcf.proofs.learn_refusal.is_anomaly_short.Tie as tie
-use Rattle.trcf.proofs.learn_refusal.is_anomaly_short.Reads as reads
-use Rattle.trcf.proofs.learn_refusal.is_anomaly_short.Lts as lts
 
 returns : tie.Need-returns
 returns c = rw (c .before .if1 .taken, not-true (c .before .before .args .expects) (c .if2 .taken))

@@ -1,9 +1,8 @@
+-- `trcf::learn_refusal::is_count_full` meets its contract: each return by the tests on the way to it. Assumes nothing.
 use borrow.Author.Tests.{not-true, not-false, lt-ltb, le-ltb, eq-eqb, ne-eqb, le-leb, lt-leb}
 use borrow.Author.Needs.{needs}
 use Rattle.trcf.proofs.learn_refusal.is_count_full.Statement.{statement}
 use Rattle.trcf.proofs.learn_refusal.is_count_full.Tie as tie
-use Rattle.trcf.proofs.learn_refusal.is_count_full.Reads as reads
-use Rattle.trcf.proofs.learn_refusal.is_count_full.Lts as lts
 
 returns : tie.Need-returns
 returns c = rw (lt-ltb _ _ (c .if1 .taken))

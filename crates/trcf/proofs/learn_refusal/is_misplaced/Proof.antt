@@ -1,8 +1,7 @@
+-- `trcf::learn_refusal::is_misplaced` meets its contract: each return by the tests on the way to it. Assumes nothing.
 use borrow.Author.Needs.{needs}
 use Rattle.trcf.proofs.learn_refusal.is_misplaced.Statement.{statement}
 use Rattle.trcf.proofs.learn_refusal.is_misplaced.Tie as tie
-use Rattle.trcf.proofs.learn_refusal.is_misplaced.Reads as reads
-use Rattle.trcf.proofs.learn_refusal.is_misplaced.Lts as lts
 
 returns : tie.Need-returns
 returns c = rw (c .if1 .taken)

@@ -1,3 +1,4 @@
+-- `trcf::learn_refusal::learn_row` meets its contract: each return by the tests on the way to it. Assumes nothing.
 use borrow.Author.Tests.{not-true, not-false, lt-ltb, le-ltb, eq-eqb, ne-eqb, le-leb, lt-leb}
 use mathlib.Core.Path.{_≡_, refl, sym, ap, _∙_}
 use Rattle.trcf.specs.Settings.{block}
@@ -5,8 +6,6 @@ use Rattle.trcf.specs.View.{learnRow}
 use borrow.Author.Needs.{needs}
 use Rattle.trcf.proofs.learn_refusal.learn_row.Statement.{statement}
 use Rattle.trcf.proofs.learn_refusal.learn_row.Tie as tie
-use Rattle.trcf.proofs.learn_refusal.learn_row.Reads as reads
-use Rattle.trcf.proofs.learn_refusal.learn_row.Lts as lts
 
 dimension-of-requires : tie.Need-dimension-of-requires
 dimension-of-requires c κs = search needs

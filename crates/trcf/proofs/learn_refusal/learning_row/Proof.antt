@@ -1,10 +1,9 @@
+-- `trcf::learn_refusal::learning_row` meets its contract: each return by the tests on the way to it. Assumes nothing.
 use mathlib.Core.Path.{_≡_, refl, sym, ap, _∙_}
 use Rattle.trcf.specs.View.{learningRow}
 use borrow.Author.Needs.{needs}
 use Rattle.trcf.proofs.learn_refusal.learning_row.Statement.{statement}
 use Rattle.trcf.proofs.learn_refusal.learning_row.Tie as tie
-use Rattle.trcf.proofs.learn_refusal.learning_row.Reads as reads
-use Rattle.trcf.proofs.learn_refusal.learning_row.Lts as lts
 
 is-waiting-requires : tie.Need-is-waiting-requires
 is-waiting-requires c κs = search needs

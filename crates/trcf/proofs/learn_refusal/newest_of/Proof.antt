@@ -1,9 +1,8 @@
+-- `trcf::learn_refusal::newest_of` meets its contract: each return by the tests on the way to it. Assumes nothing.
 use borrow.Author.Tests.{not-true, not-false, lt-ltb, le-ltb, eq-eqb, ne-eqb, le-leb, lt-leb}
 use borrow.Author.Needs.{needs}
 use Rattle.trcf.proofs.learn_refusal.newest_of.Statement.{statement}
 use Rattle.trcf.proofs.learn_refusal.newest_of.Tie as tie
-use Rattle.trcf.proofs.learn_refusal.newest_of.Reads as reads
-use Rattle.trcf.proofs.learn_refusal.newest_of.Lts as lts
 
 last-of-requires : tie.Need-last-of-requires
 last-of-requires c κs = search needs

@@ -14,8 +14,6 @@ use mir.ValLaws.{toZ-ofZ}
 use Rattle.trcf.specs.View.{backOf}
 use Rattle.trcf.proofs.learn_refusal.places_back.Statement.{statement}
 use Rattle.trcf.proofs.learn_refusal.places_back.Tie as tie
-use Rattle.trcf.proofs.learn_refusal.places_back.Reads as reads
-use Rattle.trcf.proofs.learn_refusal.places_back.Lts as lts
 
 less-is : (z : ℤ) → ltZ (pos 0) z ≡ false → pos 0 -ℤ z ≡ pos (backOf z)
 less-is (pos zero) e = refl

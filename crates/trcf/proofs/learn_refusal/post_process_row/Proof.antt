@@ -1,3 +1,4 @@
+-- `trcf::learn_refusal::post_process_row` meets its contract: each return by the tests on the way to it. Assumes nothing.
 use mir.Syntax.{w32}
 use mir.ValLaws.{toZ-ofZ}
 use Prim.Native.Nat.{ℕ, suc, _+_, _-_, _*_, _≤_, _<_}
@@ -11,8 +12,6 @@ use Rattle.trcf.proofs.LearnLaws.{post-rows, or-twice}
 use borrow.Author.Needs.{needs}
 use Rattle.trcf.proofs.learn_refusal.post_process_row.Statement.{statement}
 use Rattle.trcf.proofs.learn_refusal.post_process_row.Tie as tie
-use Rattle.trcf.proofs.learn_refusal.post_process_row.Reads as reads
-use Rattle.trcf.proofs.learn_refusal.post_process_row.Lts as lts
 
 head-row-requires : tie.Need-head-row-requires
 head-row-requires c κs = search needs

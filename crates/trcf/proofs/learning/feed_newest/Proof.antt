@@ -1,3 +1,4 @@
+-- `trcf::learning::feed_newest` meets its contract: by its callees' promises and the laws of lists. Assumes nothing.
 use native.Mathlib.Omega.{arith}
 use mathlib.Core.Path.{_≡_, refl, sym, ap, _∙_}
 use borrow.Author.Tests.{not-true, not-false, lt-ltb, le-ltb, eq-eqb, ne-eqb, le-leb, lt-leb}
@@ -10,8 +11,6 @@ use Rattle.trcf.proofs.OutputLaws.{newest-part}
 use borrow.Author.Needs.{needs}
 use Rattle.trcf.proofs.learning.feed_newest.Statement.{statement}
 use Rattle.trcf.proofs.learning.feed_newest.Tie as tie
-use Rattle.trcf.proofs.learning.feed_newest.Reads as reads
-use Rattle.trcf.proofs.learning.feed_newest.Lts as lts
 
 last-time-requires : tie.Need-last-time-requires
 last-time-requires c κs = search needs

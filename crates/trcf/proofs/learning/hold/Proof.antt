@@ -1,3 +1,4 @@
+-- `trcf::learning::hold` meets its contract: by its callees' promises and the laws of lists. Assumes nothing.
 use native.Mathlib.Omega.{arith}
 use mathlib.Core.Path.{_≡_, refl, sym, ap, _∙_}
 use Prim.Native.Nat.{ℕ, suc, _+_, _-_, _*_, _≤_, _<_}
@@ -7,8 +8,6 @@ use Rattle.trcf.proofs.ShingleLaws.{paste-behind, set-behind}
 use borrow.Author.Needs.{needs}
 use Rattle.trcf.proofs.learning.hold.Statement.{statement}
 use Rattle.trcf.proofs.learning.hold.Tie as tie
-use Rattle.trcf.proofs.learning.hold.Reads as reads
-use Rattle.trcf.proofs.learning.hold.Lts as lts
 
 mul-copy-in : tie.Need-mul-copy-in
 mul-copy-in c = let a = c .before .before .before .before .before .before .args in let h = a .head in let q = c .before .before .before .before .before .before .pre in let d = h .transformer .«input_length» in let b = block-in (h .«initial_len») (h .«start_normalization») d (q .1 .1 .0) in let m = mul-le-mul (le-refl (h .«start_normalization»)) (q .0 .d-few) in omega (arith, q .0)

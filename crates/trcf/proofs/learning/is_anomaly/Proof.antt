@@ -1,8 +1,7 @@
+-- `trcf::learning::is_anomaly` meets its contract: by its callees' promises and the laws of lists. Assumes nothing.
 use borrow.Author.Needs.{needs}
 use Rattle.trcf.proofs.learning.is_anomaly.Statement.{statement}
 use Rattle.trcf.proofs.learning.is_anomaly.Tie as tie
-use Rattle.trcf.proofs.learning.is_anomaly.Reads as reads
-use Rattle.trcf.proofs.learning.is_anomaly.Lts as lts
 
 returns : tie.Need-returns
 returns c = rw (c .if1 .taken)

@@ -1,3 +1,4 @@
+-- `trcf::learning::update_shingles` meets its contract: by its callees' promises and the laws of lists. Assumes nothing.
 use native.Mathlib.Omega.{arith}
 use mathlib.Core.Path.{_≡_, refl, sym, ap, _∙_}
 use Prim.Native.Nat.{ℕ, suc, _+_, _-_, _*_, _≤_, _<_}
@@ -9,8 +10,6 @@ use Rattle.trcf.proofs.ShingleLaws.{over-part, paste-over}
 use borrow.Author.Needs.{needs}
 use Rattle.trcf.proofs.learning.update_shingles.Statement.{statement}
 use Rattle.trcf.proofs.learning.update_shingles.Tie as tie
-use Rattle.trcf.proofs.learning.update_shingles.Reads as reads
-use Rattle.trcf.proofs.learning.update_shingles.Lts as lts
 
 mul-feed-newest : tie.Need-mul-feed-newest
 mul-feed-newest c = search needs

@@ -1,3 +1,4 @@
+-- `trcf::learning::write_anomaly` meets its contract: by its callees' promises and the laws of lists. Assumes nothing.
 use native.Mathlib.Omega.{arith}
 use mathlib.Core.Path.{_≡_, refl, sym, ap, _∙_}
 use Prim.Native.Nat.{ℕ, suc, _+_, _-_, _*_, _≤_, _<_}
@@ -14,8 +15,6 @@ use Rattle.trcf.proofs.LearnLaws.{wide}
 use borrow.Author.Needs.{needs}
 use Rattle.trcf.proofs.learning.write_anomaly.Statement.{statement}
 use Rattle.trcf.proofs.learning.write_anomaly.Tie as tie
-use Rattle.trcf.proofs.learning.write_anomaly.Reads as reads
-use Rattle.trcf.proofs.learning.write_anomaly.Lts as lts
 
 sub-b : tie.Need-sub-b
 sub-b c = search needs

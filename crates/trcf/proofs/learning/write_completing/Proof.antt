@@ -1,3 +1,4 @@
+-- `trcf::learning::write_completing` meets its contract: by its callees' promises and the laws of lists. Assumes nothing.
 use native.Mathlib.Omega.{arith}
 use mathlib.Core.Path.{_≡_, refl, sym, ap, _∙_}
 use borrow.Author.Tests.{not-true, not-false, lt-ltb, le-ltb, eq-eqb, ne-eqb, le-leb, lt-leb}
@@ -5,8 +6,6 @@ use Prim.Native.Nat.{ℕ, suc, _+_, _-_, _*_, _≤_, _<_}
 use borrow.Author.Needs.{needs}
 use Rattle.trcf.proofs.learning.write_completing.Statement.{statement}
 use Rattle.trcf.proofs.learning.write_completing.Tie as tie
-use Rattle.trcf.proofs.learning.write_completing.Reads as reads
-use Rattle.trcf.proofs.learning.write_completing.Lts as lts
 
 add-if1 : tie.Need-add-if1
 add-if1 c = search needs

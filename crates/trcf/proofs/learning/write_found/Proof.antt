@@ -1,10 +1,9 @@
+-- `trcf::learning::write_found` meets its contract: by its callees' promises and the laws of lists. Assumes nothing.
 use borrow.Author.Tests.{not-true, not-false, lt-ltb, le-ltb, eq-eqb, ne-eqb, le-leb, lt-leb}
 use mathlib.Core.Path.{_≡_, refl, sym, ap, _∙_}
 use borrow.Author.Needs.{needs}
 use Rattle.trcf.proofs.learning.write_found.Statement.{statement}
 use Rattle.trcf.proofs.learning.write_found.Tie as tie
-use Rattle.trcf.proofs.learning.write_found.Reads as reads
-use Rattle.trcf.proofs.learning.write_found.Lts as lts
 
 is-anomaly-requires : tie.Need-is-anomaly-requires
 is-anomaly-requires c κs = search needs

@@ -1,3 +1,4 @@
+-- `trcf::learning::write_past` meets its contract: by its callees' promises and the laws of lists. Assumes nothing.
 use native.Mathlib.Omega.{arith}
 use mathlib.Core.Path.{_≡_, refl, sym, ap, _∙_}
 use borrow.Author.Tests.{not-true, not-false, lt-ltb, le-ltb, eq-eqb, ne-eqb, le-leb, lt-leb}
@@ -11,8 +12,6 @@ use Rattle.trcf.proofs.ShingleLaws.{paste-over}
 use borrow.Author.Needs.{needs}
 use Rattle.trcf.proofs.learning.write_past.Statement.{statement}
 use Rattle.trcf.proofs.learning.write_past.Tie as tie
-use Rattle.trcf.proofs.learning.write_past.Reads as reads
-use Rattle.trcf.proofs.learning.write_past.Lts as lts
 
 copy-in-requires : tie.Need-copy-in-requires
 copy-in-requires c κs = search needs

@@ -1,3 +1,4 @@
+-- `trcf::output::write_deviations` meets its contract: by its callees' promises, the time's number behind the channels'. Assumes nothing.
 use native.Mathlib.Omega.{arith}
 use mathlib.Core.Path.{_≡_, refl, sym, ap, _∙_}
 use Prim.Native.Nat.{ℕ, _+_, _-_, _*_, _≤_, _<_}
@@ -10,11 +11,6 @@ use Rattle.trcf.proofs.TransformerLaws.{differenceDeviations-length}
 use borrow.Author.Needs.{needs}
 use Rattle.trcf.proofs.output.write_deviations.Statement.{statement}
 use Rattle.trcf.proofs.output.write_deviations.Tie as tie
-use Rattle.trcf.proofs.output.write_deviations.Reads as reads
-use Rattle.trcf.proofs.output.write_deviations.Lts as lts
-use Rattle.trcf.proofs.refusal.is_augmented.Reads as is-augmented-reads
-use Rattle.trcf.proofs.time.time_deviation.Reads as time-deviation-reads
-use Rattle.trcf.proofs.transformer.difference_deviations_into.Reads as difference-deviations-into-reads
 
 difference-deviations-into-requires : tie.Need-difference-deviations-into-requires
 unfolding block

@@ -1,3 +1,4 @@
+-- `trcf::output::write_point` meets its contract: by its callees' promises, the time's number behind the channels'. Assumes nothing.
 use native.Mathlib.Omega.{arith}
 use mathlib.Core.Path.{_≡_, refl, sym, ap, _∙_}
 use Prim.Native.Nat.{ℕ, _+_, _-_, _*_, _≤_, _<_}
@@ -13,8 +14,6 @@ use Rattle.trcf.proofs.StateLaws.{point-written}
 use borrow.Author.Needs.{needs}
 use Rattle.trcf.proofs.output.write_point.Statement.{statement}
 use Rattle.trcf.proofs.output.write_point.Tie as tie
-use Rattle.trcf.proofs.output.write_point.Reads as reads
-use Rattle.trcf.proofs.output.write_point.Lts as lts
 
 block-of-requires : tie.Need-block-of-requires
 block-of-requires c κs = search needs

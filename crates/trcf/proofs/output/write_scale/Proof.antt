@@ -1,3 +1,4 @@
+-- `trcf::output::write_scale` meets its contract: by its callees' promises, the time's number behind the channels'. Assumes nothing.
 use native.Mathlib.Omega.{arith}
 use mathlib.Core.Path.{_≡_, refl, sym, ap, _∙_}
 use Prim.Native.Nat.{ℕ, _+_, _-_, _*_, _≤_, _<_}
@@ -10,11 +11,6 @@ use Rattle.trcf.proofs.TransformerLaws.{scales-length}
 use borrow.Author.Needs.{needs}
 use Rattle.trcf.proofs.output.write_scale.Statement.{statement}
 use Rattle.trcf.proofs.output.write_scale.Tie as tie
-use Rattle.trcf.proofs.output.write_scale.Reads as reads
-use Rattle.trcf.proofs.output.write_scale.Lts as lts
-use Rattle.trcf.proofs.refusal.is_augmented.Reads as is-augmented-reads
-use Rattle.trcf.proofs.time.time_scale.Reads as time-scale-reads
-use Rattle.trcf.proofs.transformer.scale_into.Reads as scale-into-reads
 
 scale-into-requires : tie.Need-scale-into-requires
 unfolding block

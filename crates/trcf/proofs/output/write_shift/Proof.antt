@@ -1,3 +1,4 @@
+-- `trcf::output::write_shift` meets its contract: by its callees' promises, the time's number behind the channels'. Assumes nothing.
 use native.Mathlib.Omega.{arith}
 use mathlib.Core.Path.{_≡_, refl, sym, ap, _∙_}
 use Prim.Native.Nat.{ℕ, _+_, _-_, _*_, _≤_, _<_}
@@ -10,14 +11,6 @@ use Rattle.trcf.proofs.TransformerLaws.{shifts-length}
 use borrow.Author.Needs.{needs}
 use Rattle.trcf.proofs.output.write_shift.Statement.{statement}
 use Rattle.trcf.proofs.output.write_shift.Tie as tie
-use Rattle.trcf.proofs.output.write_shift.Reads as reads
-use Rattle.trcf.proofs.output.write_shift.Lts as lts
-use Rattle.numeric.proofs.to_f32.Reads as to-f32-reads
-use Rattle.numeric.proofs.u64_to_f32.Reads as u64-to-f32-reads
-use Rattle.trcf.proofs.refusal.is_augmented.Reads as is-augmented-reads
-use Rattle.trcf.proofs.time.last_time.Reads as last-time-reads
-use Rattle.trcf.proofs.time.timedrift_of.Reads as timedrift-of-reads
-use Rattle.trcf.proofs.transformer.shift_into.Reads as shift-into-reads
 
 shift-into-requires : tie.Need-shift-into-requires
 unfolding block

@@ -1,3 +1,4 @@
+-- `trcf::output::write_transform` meets its contract: by its callees' promises, the time's number behind the channels'. Assumes nothing.
 use native.Mathlib.Omega.{arith}
 use mathlib.Core.Path.{_≡_, refl, sym, ap, _∙_}
 use Prim.Native.Nat.{ℕ, _+_, _-_, _*_, _≤_, _<_}
@@ -12,12 +13,6 @@ use Rattle.trcf.proofs.TransformerLaws.{transformed-length}
 use borrow.Author.Needs.{needs}
 use Rattle.trcf.proofs.output.write_transform.Statement.{statement}
 use Rattle.trcf.proofs.output.write_transform.Tie as tie
-use Rattle.trcf.proofs.output.write_transform.Reads as reads
-use Rattle.trcf.proofs.output.write_transform.Lts as lts
-use Rattle.trcf.proofs.refusal.is_augmented.Reads as is-augmented-reads
-use Rattle.trcf.proofs.time.previous_time.Reads as previous-time-reads
-use Rattle.trcf.proofs.time.time_element.Reads as time-element-reads
-use Rattle.trcf.proofs.transformer.transform_into.Reads as transform-into-reads
 
 sub-transform-into : tie.Need-sub-transform-into
 sub-transform-into c = let m = le-mul-of-pos-right (c .before .before .before .before .before .before .args .head .transformer .«input_length») (c .before .before .before .before .before .before .pre .0 .k-pos) in omega (arith, c .before .before .before .before .before .before .pre)

@@ -1,3 +1,4 @@
+-- `trcf::preprocessor::build` meets its contract: by its callees' promises and the laws of outcomes. Assumes nothing.
 use native.Mathlib.Omega.{arith}
 use mathlib.Core.Path.{_≡_, refl, sym, ap, _∙_}
 use native.Mathlib.Nat.{mul-le-mul}
@@ -6,12 +7,10 @@ use lib.Seq.{length-take-le}
 use Rattle.trcf.specs.Settings.{dimension}
 use Rattle.trcf.specs.View.{settingsFrom, lent, lentRow, headFrom}
 use Rattle.trcf.specs.declared.preprocessor.Preprocessor.{Preprocessor}
-use Rattle.trcf.proofs.CallLaws.{build-refused, build-short, build-done, bounded-from, dimension-from}
+use Rattle.trcf.proofs.OutcomeLaws.{build-refused, build-short, build-done, bounded-from, dimension-from}
 use borrow.Author.Needs.{needs}
 use Rattle.trcf.proofs.preprocessor.build.Statement.{statement}
 use Rattle.trcf.proofs.preprocessor.build.Tie as tie
-use Rattle.trcf.proofs.preprocessor.build.Reads as reads
-use Rattle.trcf.proofs.preprocessor.build.Lts as lts
 
 settings-row-requires : tie.Need-settings-row-requires
 settings-row-requires c κs = search needs

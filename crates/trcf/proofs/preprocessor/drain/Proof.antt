@@ -1,11 +1,10 @@
+-- `trcf::preprocessor::drain` meets its contract: by its callees' promises and the laws of outcomes. Assumes nothing.
 use mathlib.Core.Path.{_≡_, refl, sym, ap, _∙_}
 use Rattle.trcf.specs.View.{lent}
 use Rattle.trcf.proofs.StateLaws.{drain-refused, drain-done}
 use borrow.Author.Needs.{needs}
 use Rattle.trcf.proofs.preprocessor.drain.Statement.{statement}
 use Rattle.trcf.proofs.preprocessor.drain.Tie as tie
-use Rattle.trcf.proofs.preprocessor.drain.Reads as reads
-use Rattle.trcf.proofs.preprocessor.drain.Lts as lts
 
 drain-row-requires : tie.Need-drain-row-requires
 drain-row-requires c κs = search needs

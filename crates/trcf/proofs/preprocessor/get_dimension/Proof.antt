@@ -1,10 +1,9 @@
+-- `trcf::preprocessor::get_dimension` meets its contract: by its callees' promises and the laws of outcomes. Assumes nothing.
 use mathlib.Core.Path.{_≡_, refl, sym, ap, _∙_}
-use Rattle.trcf.proofs.CallLaws.{accepted-not}
+use Rattle.trcf.proofs.OutcomeLaws.{accepted-not}
 use borrow.Author.Needs.{needs}
 use Rattle.trcf.proofs.preprocessor.get_dimension.Statement.{statement}
 use Rattle.trcf.proofs.preprocessor.get_dimension.Tie as tie
-use Rattle.trcf.proofs.preprocessor.get_dimension.Reads as reads
-use Rattle.trcf.proofs.preprocessor.get_dimension.Lts as lts
 
 head-row-requires : tie.Need-head-row-requires
 head-row-requires c κs = search needs

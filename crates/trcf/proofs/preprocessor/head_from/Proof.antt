@@ -1,8 +1,7 @@
+-- `trcf::preprocessor::head_from` meets its contract: by its callees' promises and the laws of outcomes. Assumes nothing.
 use borrow.Author.Needs.{needs}
 use Rattle.trcf.proofs.preprocessor.head_from.Statement.{statement}
 use Rattle.trcf.proofs.preprocessor.head_from.Tie as tie
-use Rattle.trcf.proofs.preprocessor.head_from.Reads as reads
-use Rattle.trcf.proofs.preprocessor.head_from.Lts as lts
 
 weights-from-requires : tie.Need-weights-from-requires
 weights-from-requires c κs = search needs

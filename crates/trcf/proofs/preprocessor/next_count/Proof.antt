@@ -1,11 +1,10 @@
+-- `trcf::preprocessor::next_count` meets its contract: by its callees' promises and the laws of outcomes. Assumes nothing.
 use native.Mathlib.Omega.{arith}
 use borrow.Author.Tests.{not-true, not-false, lt-ltb, le-ltb, eq-eqb, ne-eqb, le-leb, lt-leb}
 use native.Mathlib.Numerals.{add-one}
 use borrow.Author.Needs.{needs}
 use Rattle.trcf.proofs.preprocessor.next_count.Statement.{statement}
 use Rattle.trcf.proofs.preprocessor.next_count.Tie as tie
-use Rattle.trcf.proofs.preprocessor.next_count.Reads as reads
-use Rattle.trcf.proofs.preprocessor.next_count.Lts as lts
 
 add-result : tie.Need-add-result
 add-result c = omega (arith, c .before .before .pre (c .if1 .taken))

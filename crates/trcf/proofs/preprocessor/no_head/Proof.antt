@@ -1,10 +1,9 @@
+-- `trcf::preprocessor::no_head` meets its contract: by its callees' promises and the laws of outcomes. Assumes nothing.
 use mathlib.Core.Path.{_≡_, refl, sym, ap, _∙_}
 use Rattle.common.specs.Lent.{over}
 use borrow.Author.Needs.{needs}
 use Rattle.trcf.proofs.preprocessor.no_head.Statement.{statement}
 use Rattle.trcf.proofs.preprocessor.no_head.Tie as tie
-use Rattle.trcf.proofs.preprocessor.no_head.Reads as reads
-use Rattle.trcf.proofs.preprocessor.no_head.Lts as lts
 
 returns : tie.Need-returns
 unfolding over

@@ -1,3 +1,4 @@
+-- `trcf::preprocessor::post_process` meets its contract: by its callees' promises and the laws of outcomes. Assumes nothing.
 use lib.IntN.{ℤ}
 use Rattle.trcf.specs.Calls.{postProcess}
 use Rattle.trcf.specs.View.{settingsOf, lent, rowOf, learningRow, optional, learnCall, backOf, learnOutcome, LearnParts, learnedParts}
@@ -15,8 +16,6 @@ use Rattle.trcf.proofs.LearnLaws.{learn-refused, learn-held, learn-none
 use borrow.Author.Needs.{needs}
 use Rattle.trcf.proofs.preprocessor.post_process.Statement.{statement}
 use Rattle.trcf.proofs.preprocessor.post_process.Tie as tie
-use Rattle.trcf.proofs.preprocessor.post_process.Reads as reads
-use Rattle.trcf.proofs.preprocessor.post_process.Lts as lts
 
 post-process-row-requires : tie.Need-post-process-row-requires
 post-process-row-requires c κs = search needs

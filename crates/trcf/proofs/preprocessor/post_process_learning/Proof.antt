@@ -1,3 +1,4 @@
+-- `trcf::preprocessor::post_process_learning` meets its contract: by its callees' promises and the laws of outcomes. Assumes nothing.
 use native.Mathlib.Omega.{arith}
 use mathlib.Core.Path.{_≡_, refl, sym, ap, _∙_}
 use Prim.Native.Nat.{ℕ, suc, _+_, _-_, _*_, _≤_, _<_}
@@ -16,8 +17,6 @@ use Rattle.trcf.proofs.LearnLaws.{learned-length}
 use borrow.Author.Needs.{needs}
 use Rattle.trcf.proofs.preprocessor.post_process_learning.Statement.{statement}
 use Rattle.trcf.proofs.preprocessor.post_process_learning.Tie as tie
-use Rattle.trcf.proofs.preprocessor.post_process_learning.Reads as reads
-use Rattle.trcf.proofs.preprocessor.post_process_learning.Lts as lts
 
 mul-write-found : tie.Need-mul-write-found
 mul-write-found c = search needs

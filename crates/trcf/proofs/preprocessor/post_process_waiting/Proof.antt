@@ -1,3 +1,4 @@
+-- `trcf::preprocessor::post_process_waiting` meets its contract: by its callees' promises and the laws of outcomes. Assumes nothing.
 use native.Mathlib.Omega.{arith}
 use mathlib.Core.Path.{_≡_, refl, sym, ap, _∙_}
 use Prim.Native.Nat.{ℕ, suc, _+_, _-_, _*_, _≤_, _<_}
@@ -11,8 +12,6 @@ use Rattle.trcf.specs.View.{answering, counting}
 use borrow.Author.Needs.{needs}
 use Rattle.trcf.proofs.preprocessor.post_process_waiting.Statement.{statement}
 use Rattle.trcf.proofs.preprocessor.post_process_waiting.Tie as tie
-use Rattle.trcf.proofs.preprocessor.post_process_waiting.Reads as reads
-use Rattle.trcf.proofs.preprocessor.post_process_waiting.Lts as lts
 
 hold-requires : tie.Need-hold-requires
 hold-requires c κs = search needs

@@ -1,4 +1,5 @@
-use Rattle.trcf.proofs.CallLaws.{write-refused, write-done}
+-- `trcf::preprocessor::scale` meets its contract: by its callees' promises and the laws of outcomes. Assumes nothing.
+use Rattle.trcf.proofs.OutcomeLaws.{write-refused, write-done}
 use Rattle.trcf.specs.Preprocessor.{reply, scaleOf}
 use Rattle.trcf.specs.View.{view}
 use native.Mathlib.Omega.{arith}
@@ -9,8 +10,6 @@ use lib.Seq.{length-take-le}
 use borrow.Author.Needs.{needs}
 use Rattle.trcf.proofs.preprocessor.scale.Statement.{statement}
 use Rattle.trcf.proofs.preprocessor.scale.Tie as tie
-use Rattle.trcf.proofs.preprocessor.scale.Reads as reads
-use Rattle.trcf.proofs.preprocessor.scale.Lts as lts
 
 write-row-requires : tie.Need-write-row-requires
 write-row-requires c κs = search needs

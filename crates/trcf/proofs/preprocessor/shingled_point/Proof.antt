@@ -1,3 +1,4 @@
+-- `trcf::preprocessor::shingled_point` meets its contract: by its callees' promises and the laws of outcomes. Assumes nothing.
 use native.Mathlib.Omega.{arith}
 use mathlib.Core.Path.{_≡_, refl, sym, ap, _∙_}
 use lib.ListN.{length}
@@ -8,8 +9,6 @@ use Rattle.trcf.proofs.StateLaws.{point-refused, point-waits, point-don
 use borrow.Author.Needs.{needs}
 use Rattle.trcf.proofs.preprocessor.shingled_point.Statement.{statement}
 use Rattle.trcf.proofs.preprocessor.shingled_point.Tie as tie
-use Rattle.trcf.proofs.preprocessor.shingled_point.Reads as reads
-use Rattle.trcf.proofs.preprocessor.shingled_point.Lts as lts
 
 shingled-point-row-requires : tie.Need-shingled-point-row-requires
 shingled-point-row-requires c κs = search needs

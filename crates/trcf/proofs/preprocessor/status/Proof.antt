@@ -1,9 +1,8 @@
-use Rattle.trcf.proofs.CallLaws.{status-told}
+-- `trcf::preprocessor::status` meets its contract: by its callees' promises and the laws of outcomes. Assumes nothing.
+use Rattle.trcf.proofs.OutcomeLaws.{status-told}
 use borrow.Author.Needs.{needs}
 use Rattle.trcf.proofs.preprocessor.status.Statement.{statement}
 use Rattle.trcf.proofs.preprocessor.status.Tie as tie
-use Rattle.trcf.proofs.preprocessor.status.Reads as reads
-use Rattle.trcf.proofs.preprocessor.status.Lts as lts
 
 difference-deviations-requires : tie.Need-difference-deviations-requires
 difference-deviations-requires c κs = search needs

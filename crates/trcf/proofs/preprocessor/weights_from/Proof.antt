@@ -1,10 +1,9 @@
+-- `trcf::preprocessor::weights_from` meets its contract: by its callees' promises and the laws of outcomes. Assumes nothing.
 use mathlib.Core.Path.{_≡_, refl, sym, ap, _∙_}
 use Rattle.trcf.proofs.ShingleLaws.{paste-over}
 use borrow.Author.Needs.{needs}
 use Rattle.trcf.proofs.preprocessor.weights_from.Statement.{statement}
 use Rattle.trcf.proofs.preprocessor.weights_from.Tie as tie
-use Rattle.trcf.proofs.preprocessor.weights_from.Reads as reads
-use Rattle.trcf.proofs.preprocessor.weights_from.Lts as lts
 
 slice-aggregate-copy-in : tie.Need-slice-aggregate-copy-in
 slice-aggregate-copy-in c = search needs

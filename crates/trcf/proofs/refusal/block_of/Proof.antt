@@ -1,12 +1,10 @@
+-- `trcf::refusal::block_of` meets its contract: each return by the tests on the way to it. Assumes nothing.
 use native.Mathlib.Omega.{arith}
 use mathlib.Core.Path.{sym, _∙_}
 use native.Mathlib.Nat.{add-zero}
 use borrow.Author.Needs.{needs}
 use Rattle.trcf.proofs.refusal.block_of.Statement.{statement}
 use Rattle.trcf.proofs.refusal.block_of.Tie as tie
-use Rattle.trcf.proofs.refusal.block_of.Reads as reads
-use Rattle.trcf.proofs.refusal.block_of.Lts as lts
-use Rattle.trcf.proofs.refusal.is_augmented.Reads as is-augmented-reads
 
 is-augmented-requires : tie.Need-is-augmented-requires
 is-augmented-requires c κs = search needs

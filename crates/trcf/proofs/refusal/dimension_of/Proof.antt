@@ -1,3 +1,4 @@
+-- `trcf::refusal::dimension_of` meets its contract: each return by the tests on the way to it. Assumes nothing.
 use native.Mathlib.Omega.{arith}
 use mathlib.Core.Path.{_≡_, refl, sym, ap, _∙_}
 use native.Mathlib.Nat.{mul-le-mul}
@@ -6,9 +7,6 @@ use Rattle.trcf.specs.Settings.{dimension, block}
 use borrow.Author.Needs.{needs}
 use Rattle.trcf.proofs.refusal.dimension_of.Statement.{statement}
 use Rattle.trcf.proofs.refusal.dimension_of.Tie as tie
-use Rattle.trcf.proofs.refusal.dimension_of.Reads as reads
-use Rattle.trcf.proofs.refusal.dimension_of.Lts as lts
-use Rattle.trcf.proofs.refusal.block_of.Reads as block-of-reads
 
 block-of-requires : tie.Need-block-of-requires
 block-of-requires c κs = search needs

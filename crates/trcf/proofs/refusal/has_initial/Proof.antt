@@ -1,9 +1,8 @@
+-- `trcf::refusal::has_initial` meets its contract: each return by the tests on the way to it. Assumes nothing.
 use Rattle.trcf.proofs.RefusalLaws.{any-initial}
 use borrow.Author.Needs.{needs}
 use Rattle.trcf.proofs.refusal.has_initial.Statement.{statement}
 use Rattle.trcf.proofs.refusal.has_initial.Tie as tie
-use Rattle.trcf.proofs.refusal.has_initial.Reads as reads
-use Rattle.trcf.proofs.refusal.has_initial.Lts as lts
 
 returns : tie.Need-returns
 returns c = rw (c .if1 .taken)

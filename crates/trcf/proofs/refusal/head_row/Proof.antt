@@ -1,10 +1,9 @@
+-- `trcf::refusal::head_row` meets its contract: each return by the tests on the way to it. Assumes nothing.
 use native.Mathlib.Omega.{arith}
 use borrow.Author.Tests.{not-true, not-false, lt-ltb, le-ltb, eq-eqb, ne-eqb, le-leb, lt-leb}
 use Rattle.trcf.specs.View.{headRow}
 use Rattle.trcf.proofs.refusal.head_row.Statement.{statement}
 use Rattle.trcf.proofs.refusal.head_row.Tie as tie
-use Rattle.trcf.proofs.refusal.head_row.Reads as reads
-use Rattle.trcf.proofs.refusal.head_row.Lts as lts
 
 returns : tie.Need-returns
 unfolding headRow

@@ -1,9 +1,8 @@
+-- `trcf::refusal::is_due` meets its contract: each return by the tests on the way to it. Assumes nothing.
 use borrow.Author.Tests.{not-true, not-false, lt-ltb, le-ltb, eq-eqb, ne-eqb, le-leb, lt-leb}
 use borrow.Author.Needs.{needs}
 use Rattle.trcf.proofs.refusal.is_due.Statement.{statement}
 use Rattle.trcf.proofs.refusal.is_due.Tie as tie
-use Rattle.trcf.proofs.refusal.is_due.Reads as reads
-use Rattle.trcf.proofs.refusal.is_due.Lts as lts
 
 has-initial-requires : tie.Need-has-initial-requires
 has-initial-requires c κs = search needs

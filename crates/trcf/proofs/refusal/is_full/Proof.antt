@@ -1,11 +1,10 @@
+-- `trcf::refusal::is_full` meets its contract: each return by the tests on the way to it. Assumes nothing.
 use native.Mathlib.Omega.{arith}
 use borrow.Author.Tests.{not-true, not-false, lt-ltb, le-ltb, eq-eqb, ne-eqb, le-leb, lt-leb}
 use Prim.Native.Nat.{_+_}
 use borrow.Author.Needs.{needs}
 use Rattle.trcf.proofs.refusal.is_full.Statement.{statement}
 use Rattle.trcf.proofs.refusal.is_full.Tie as tie
-use Rattle.trcf.proofs.refusal.is_full.Reads as reads
-use Rattle.trcf.proofs.refusal.is_full.Lts as lts
 
 returns : tie.Need-returns
 returns c = let a = c .before .before .args .head in rw (lt-ltb 2147483646 (a .transformer .count + a .«start_normalization») (omega arith))

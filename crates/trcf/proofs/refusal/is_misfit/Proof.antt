@@ -1,12 +1,10 @@
+-- `trcf::refusal::is_misfit` meets its contract: each return by the tests on the way to it. Assumes nothing.
 use mathlib.Core.Path.{_≡_, refl, sym, ap, _∙_}
 use borrow.Author.Tests.{not-true, not-false, lt-ltb, le-ltb, eq-eqb, ne-eqb, le-leb, lt-leb}
 use Rattle.trcf.specs.View.{misfit}
 use borrow.Author.Needs.{needs}
 use Rattle.trcf.proofs.refusal.is_misfit.Statement.{statement}
 use Rattle.trcf.proofs.refusal.is_misfit.Tie as tie
-use Rattle.trcf.proofs.refusal.is_misfit.Reads as reads
-use Rattle.trcf.proofs.refusal.is_misfit.Lts as lts
-use Rattle.trcf.proofs.refusal.is_waiting.Reads as is-waiting-reads
 
 returns : tie.Need-returns
 unfolding misfit

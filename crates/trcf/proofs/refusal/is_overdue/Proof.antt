@@ -1,9 +1,8 @@
+-- `trcf::refusal::is_overdue` meets its contract: each return by the tests on the way to it. Assumes nothing.
 use mathlib.Core.Path.{_≡_, refl, sym, ap, _∙_}
 use borrow.Author.Needs.{needs}
 use Rattle.trcf.proofs.refusal.is_overdue.Statement.{statement}
 use Rattle.trcf.proofs.refusal.is_overdue.Tie as tie
-use Rattle.trcf.proofs.refusal.is_overdue.Reads as reads
-use Rattle.trcf.proofs.refusal.is_overdue.Lts as lts
 
 is-due-requires : tie.Need-is-due-requires
 is-due-requires c κs = search needs

@@ -1,10 +1,9 @@
+-- `trcf::refusal::is_spent` meets its contract: each return by the tests on the way to it. Assumes nothing.
 use borrow.Author.Tests.{not-true, not-false, lt-ltb, le-ltb, eq-eqb, ne-eqb, le-leb, lt-leb}
 use mathlib.Core.Bool.{Bool·not-not}
 use borrow.Author.Needs.{needs}
 use Rattle.trcf.proofs.refusal.is_spent.Statement.{statement}
 use Rattle.trcf.proofs.refusal.is_spent.Tie as tie
-use Rattle.trcf.proofs.refusal.is_spent.Reads as reads
-use Rattle.trcf.proofs.refusal.is_spent.Lts as lts
 
 has-initial-requires : tie.Need-has-initial-requires
 has-initial-requires c κs = search needs

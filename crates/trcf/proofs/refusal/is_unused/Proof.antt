@@ -1,11 +1,8 @@
+-- `trcf::refusal::is_unused` meets its contract: each return by the tests on the way to it. Assumes nothing.
 use mathlib.Core.Path.{_≡_, refl, sym, ap, _∙_}
 use borrow.Author.Needs.{needs}
 use Rattle.trcf.proofs.refusal.is_unused.Statement.{statement}
 use Rattle.trcf.proofs.refusal.is_unused.Tie as tie
-use Rattle.trcf.proofs.refusal.is_unused.Reads as reads
-use Rattle.trcf.proofs.refusal.is_unused.Lts as lts
-use Rattle.trcf.proofs.refusal.all_one.Reads as all-one-reads
-use Rattle.trcf.proofs.types.is_none.Reads as is-none-reads
 
 is-none-requires : tie.Need-is-none-requires
 is-none-requires c κs = search needs

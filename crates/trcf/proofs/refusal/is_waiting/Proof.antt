@@ -1,11 +1,9 @@
+-- `trcf::refusal::is_waiting` meets its contract: each return by the tests on the way to it. Assumes nothing.
 use mathlib.Core.Path.{_≡_, refl, sym, ap, _∙_}
 use Rattle.trcf.specs.Settings.{waiting}
 use borrow.Author.Needs.{needs}
 use Rattle.trcf.proofs.refusal.is_waiting.Statement.{statement}
 use Rattle.trcf.proofs.refusal.is_waiting.Tie as tie
-use Rattle.trcf.proofs.refusal.is_waiting.Reads as reads
-use Rattle.trcf.proofs.refusal.is_waiting.Lts as lts
-use Rattle.trcf.proofs.types.is_normalizing.Reads as is-normalizing-reads
 
 is-normalizing-requires : tie.Need-is-normalizing-requires
 is-normalizing-requires c κs = search needs

@@ -1,3 +1,4 @@
+-- `trcf::refusal::lent_row` meets its contract: each return by the tests on the way to it. Assumes nothing.
 use mathlib.Core.Path.{_≡_, refl, sym, ap, _∙_}
 use native.Mathlib.Omega.{arith}
 use Rattle.trcf.specs.View.{lentRow}
@@ -5,10 +6,6 @@ use Rattle.trcf.proofs.RefusalLaws.{misfit-few, misfit-counted}
 use borrow.Author.Needs.{needs}
 use Rattle.trcf.proofs.refusal.lent_row.Statement.{statement}
 use Rattle.trcf.proofs.refusal.lent_row.Tie as tie
-use Rattle.trcf.proofs.refusal.lent_row.Reads as reads
-use Rattle.trcf.proofs.refusal.lent_row.Lts as lts
-use Rattle.trcf.proofs.refusal.is_misfit.Reads as is-misfit-reads
-use Rattle.trcf.proofs.refusal.short_row.Reads as short-row-reads
 
 is-misfit-requires : tie.Need-is-misfit-requires
 is-misfit-requires c κs = search needs

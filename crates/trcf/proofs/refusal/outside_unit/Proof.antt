@@ -1,9 +1,8 @@
+-- `trcf::refusal::outside_unit` meets its contract: each return by the tests on the way to it. Assumes nothing.
 use mathlib.Core.Logic.{⊎-elim}
 use Rattle.common.specs.Deviation.{outsideUnit}
 use Rattle.trcf.proofs.refusal.outside_unit.Statement.{statement}
 use Rattle.trcf.proofs.refusal.outside_unit.Tie as tie
-use Rattle.trcf.proofs.refusal.outside_unit.Reads as reads
-use Rattle.trcf.proofs.refusal.outside_unit.Lts as lts
 
 returns : tie.Need-returns
 unfolding outsideUnit

@@ -1,3 +1,4 @@
+-- `trcf::refusal::settings_row` meets its contract: each return by the tests on the way to it. Assumes nothing.
 use mathlib.Core.Path.{_≡_, refl, sym, ap, _∙_}
 use native.Mathlib.Omega.{arith}
 use borrow.Author.Tests.{not-true, not-false, lt-ltb, le-ltb, eq-eqb, ne-eqb, le-leb, lt-leb}
@@ -5,11 +6,6 @@ use Rattle.trcf.specs.Settings.{settingsRow}
 use borrow.Author.Needs.{needs}
 use Rattle.trcf.proofs.refusal.settings_row.Statement.{statement}
 use Rattle.trcf.proofs.refusal.settings_row.Tie as tie
-use Rattle.trcf.proofs.refusal.settings_row.Reads as reads
-use Rattle.trcf.proofs.refusal.settings_row.Lts as lts
-use Rattle.trcf.proofs.refusal.is_imputing.Reads as is-imputing-reads
-use Rattle.trcf.proofs.refusal.is_unused.Reads as is-unused-reads
-use Rattle.trcf.proofs.refusal.outside_unit.Reads as outside-unit-reads
 
 is-imputing-requires : tie.Need-is-imputing-requires
 is-imputing-requires c κs = search needs

@@ -1,3 +1,4 @@
+-- `trcf::refusal::shingled_point_row` meets its contract: each return by the tests on the way to it. Assumes nothing.
 use native.Mathlib.Omega.{arith}
 use borrow.Author.Tests.{not-true, not-false, lt-ltb, le-ltb, eq-eqb, ne-eqb, le-leb, lt-leb}
 use mathlib.Core.Path.{_≡_, refl, sym, ap, _∙_}
@@ -10,8 +11,6 @@ use Rattle.trcf.proofs.RefusalLaws.{orElse-not}
 use borrow.Author.Needs.{needs}
 use Rattle.trcf.proofs.refusal.shingled_point_row.Statement.{statement}
 use Rattle.trcf.proofs.refusal.shingled_point_row.Tie as tie
-use Rattle.trcf.proofs.refusal.shingled_point_row.Reads as reads
-use Rattle.trcf.proofs.refusal.shingled_point_row.Lts as lts
 
 head-row-requires : tie.Need-head-row-requires
 head-row-requires c κs = search needs

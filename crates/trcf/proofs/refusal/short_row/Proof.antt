@@ -1,3 +1,4 @@
+-- `trcf::refusal::short_row` meets its contract: each return by the tests on the way to it. Assumes nothing.
 use mathlib.Core.Path.{_≡_, refl, sym, ap, _∙_}
 use native.Mathlib.Omega.{arith}
 use borrow.Author.Tests.{not-true, not-false, lt-ltb, le-ltb, eq-eqb, ne-eqb, le-leb, lt-leb}
@@ -7,9 +8,6 @@ use Rattle.trcf.specs.View.{shortRow, lentShort}
 use borrow.Author.Needs.{needs}
 use Rattle.trcf.proofs.refusal.short_row.Statement.{statement}
 use Rattle.trcf.proofs.refusal.short_row.Tie as tie
-use Rattle.trcf.proofs.refusal.short_row.Reads as reads
-use Rattle.trcf.proofs.refusal.short_row.Lts as lts
-use Rattle.trcf.proofs.refusal.dimension_of.Reads as dimension-of-reads
 
 dimension-of-requires : tie.Need-dimension-of-requires
 dimension-of-requires c κs = search needs

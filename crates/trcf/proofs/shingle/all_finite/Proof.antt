@@ -1,3 +1,4 @@
+-- `trcf::shingle::all_finite` meets its contract: by its loop's invariant. Assumes nothing.
 use Rattle.trcf.specs.Calls.{finite}
 use Rattle.trcf.proofs.ShingleLaws.{finite-at}
 use mathlib.Core.Bool.{true, false}
@@ -10,9 +11,6 @@ use native.Mathlib.Numerals.{add-one}
 use native.Mathlib.Omega.{arith}
 use Rattle.trcf.proofs.shingle.all_finite.Statement.{statement}
 use Rattle.trcf.proofs.shingle.all_finite.Tie as tie
-use Rattle.trcf.proofs.shingle.all_finite.Reads as reads
-use Rattle.trcf.proofs.shingle.all_finite.Lts as lts
-use Rattle.trcf.proofs.shingle.is_finite.Reads as is-finite-reads
 
 abbrev Inv-loop : tie.InvT-loop
 Inv-loop x i₀ i = (i ≤ length x) × (finite x ≡ finite (drop i x))

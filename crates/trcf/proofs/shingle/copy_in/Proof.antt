@@ -1,3 +1,4 @@
+-- `trcf::shingle::copy_in` meets its contract: by its loop's invariant. Assumes nothing.
 use mathlib.Core.Path.{_≡_, refl}
 use lib.Seq.{paste, paste-zero, paste-suc}
 use lib.ListN.{length, length-set}
@@ -6,8 +7,6 @@ use native.Mathlib.Numerals.{add-one}
 use native.Mathlib.Omega.{arith}
 use Rattle.trcf.proofs.shingle.copy_in.Statement.{statement}
 use Rattle.trcf.proofs.shingle.copy_in.Tie as tie
-use Rattle.trcf.proofs.shingle.copy_in.Reads as reads
-use Rattle.trcf.proofs.shingle.copy_in.Lts as lts
 
 abbrev Inv-loop : tie.InvT-loop
 Inv-loop dst₀ at src i₀ dst i = (i ≤ length src) × (dst ≡ paste dst₀ at src i) × (length dst ≡ length dst₀)

@@ -1,3 +1,4 @@
+-- `trcf::shingle::last_of` meets its contract: by its callees' promises and the laws of lists. Assumes nothing.
 use Rattle.trcf.proofs.ShingleLaws.{last-within, last-past, last-none}
 use Prim.Native.Nat.{_≤_, _<_}
 use lib.ListN.{length}
@@ -5,8 +6,6 @@ use native.Mathlib.Omega.{arith}
 use borrow.Author.Needs.{needs}
 use Rattle.trcf.proofs.shingle.last_of.Statement.{statement}
 use Rattle.trcf.proofs.shingle.last_of.Tie as tie
-use Rattle.trcf.proofs.shingle.last_of.Reads as reads
-use Rattle.trcf.proofs.shingle.last_of.Lts as lts
 
 returns : tie.Need-returns
 returns c = search needs

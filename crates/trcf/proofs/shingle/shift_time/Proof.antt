@@ -1,3 +1,4 @@
+-- `trcf::shingle::shift_time` meets its contract: by its loop's invariant. Assumes nothing.
 use Rattle.trcf.proofs.ShingleLaws.{slid, slid-more, slid-put}
 use mathlib.Core.Path.{_≡_, refl, sym, ap, _∙_}
 use mathlib.Core.List.{List}
@@ -7,8 +8,6 @@ use native.Mathlib.Numerals.{add-one}
 use native.Mathlib.Omega.{arith}
 use Rattle.trcf.proofs.shingle.shift_time.Statement.{statement}
 use Rattle.trcf.proofs.shingle.shift_time.Tie as tie
-use Rattle.trcf.proofs.shingle.shift_time.Reads as reads
-use Rattle.trcf.proofs.shingle.shift_time.Lts as lts
 
 abbrev Inv-loop : tie.InvT-loop
 Inv-loop s₀ t m i₀ s i = (i ≤ m) × (s ≡ slid 1 s₀ i) × (length s ≡ length s₀) × (m + 1 ≡ length s₀)

@@ -1,3 +1,4 @@
+-- `trcf::shingle::shift_vector` meets its contract: by its loop's invariant. Assumes nothing.
 use Rattle.trcf.proofs.ShingleLaws.{slid, slid-more, slid-paste}
 use mathlib.Core.Path.{_≡_, refl, sym, ap, _∙_}
 use mathlib.Core.List.{List}
@@ -9,9 +10,6 @@ use native.Mathlib.Numerals.{add-one}
 use native.Mathlib.Omega.{arith}
 use Rattle.trcf.proofs.shingle.shift_vector.Statement.{statement}
 use Rattle.trcf.proofs.shingle.shift_vector.Tie as tie
-use Rattle.trcf.proofs.shingle.shift_vector.Reads as reads
-use Rattle.trcf.proofs.shingle.shift_vector.Lts as lts
-use Rattle.trcf.proofs.shingle.copy_in.Reads as copy-in-reads
 
 abbrev Inv-loop : tie.InvT-loop
 Inv-loop s₀ x w m i₀ s i = (i ≤ m) × (s ≡ slid (length x) s₀ i) × (length s ≡ length s₀) × (w ≡ length x) × (m + w ≡ length s₀)

@@ -8,8 +8,6 @@ use Prim.Native.Nat.{ℕ, _≤_, _<_, _-_}
 use native.Mathlib.Omega.{arith}
 use Rattle.trcf.proofs.shingle.zero_u64.Statement.{statement}
 use Rattle.trcf.proofs.shingle.zero_u64.Tie as tie
-use Rattle.trcf.proofs.shingle.zero_u64.Reads as reads
-use Rattle.trcf.proofs.shingle.zero_u64.Lts as lts
 
 abbrev Inv-loop : tie.InvT-loop
 Inv-loop s₀ i₀ s i = (i ≤ length s₀) × (s ≡ replicate i 0 ++ drop i s₀) × (length s ≡ length s₀)

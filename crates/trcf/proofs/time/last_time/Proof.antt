@@ -1,12 +1,10 @@
+-- `trcf::time::last_time` meets its contract: by its callees' promises. Assumes nothing.
 use mathlib.Core.Path.{_≡_, refl, sym, ap, _∙_}
 use lib.Seq.{take-length}
 use Rattle.trcf.specs.Lists.{lastOr}
 use borrow.Author.Needs.{needs}
 use Rattle.trcf.proofs.time.last_time.Statement.{statement}
 use Rattle.trcf.proofs.time.last_time.Tie as tie
-use Rattle.trcf.proofs.time.last_time.Reads as reads
-use Rattle.trcf.proofs.time.last_time.Lts as lts
-use Rattle.trcf.proofs.shingle.last_of.Reads as last-of-reads
 
 last-of-requires : tie.Need-last-of-requires
 last-of-requires c κs = search needs

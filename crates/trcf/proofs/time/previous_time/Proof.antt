@@ -1,10 +1,8 @@
+-- `trcf::time::previous_time` meets its contract: by its callees' promises. Assumes nothing.
 use borrow.Author.Tests.{not-true, not-false, lt-ltb, le-ltb, eq-eqb, ne-eqb, le-leb, lt-leb}
 use borrow.Author.Needs.{needs}
 use Rattle.trcf.proofs.time.previous_time.Statement.{statement}
 use Rattle.trcf.proofs.time.previous_time.Tie as tie
-use Rattle.trcf.proofs.time.previous_time.Reads as reads
-use Rattle.trcf.proofs.time.previous_time.Lts as lts
-use Rattle.trcf.proofs.time.last_time.Reads as last-time-reads
 
 last-time-requires : tie.Need-last-time-requires
 last-time-requires c κs = search needs

@@ -1,11 +1,7 @@
+-- `trcf::time::time_deviation` meets its contract: by its callees' promises. Assumes nothing.
 use borrow.Author.Needs.{needs}
 use Rattle.trcf.proofs.time.time_deviation.Statement.{statement}
 use Rattle.trcf.proofs.time.time_deviation.Tie as tie
-use Rattle.trcf.proofs.time.time_deviation.Reads as reads
-use Rattle.trcf.proofs.time.time_deviation.Lts as lts
-use Rattle.common.proofs.deviation.Deviation.deviation.Reads as deviation-reads
-use Rattle.numeric.proofs.to_f32.Reads as to-f32-reads
-use Rattle.trcf.proofs.transformer.statistic_at.Reads as statistic-at-reads
 
 mul-statistic-at : tie.Need-mul-statistic-at
 mul-statistic-at c = search needs

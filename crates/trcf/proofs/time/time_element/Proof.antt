@@ -1,13 +1,8 @@
+-- `trcf::time::time_element` meets its contract: by its callees' promises. Assumes nothing.
 use Rattle.trcf.specs.Preprocessor.{timeElement}
 use borrow.Author.Needs.{needs}
 use Rattle.trcf.proofs.time.time_element.Statement.{statement}
 use Rattle.trcf.proofs.time.time_element.Tie as tie
-use Rattle.trcf.proofs.time.time_element.Reads as reads
-use Rattle.trcf.proofs.time.time_element.Lts as lts
-use Rattle.numeric.proofs.to_f32.Reads as to-f32-reads
-use Rattle.numeric.proofs.to_f64.Reads as to-f64-reads
-use Rattle.numeric.proofs.u64_to_f64.Reads as u64-to-f64-reads
-use Rattle.trcf.proofs.time.timescale_of.Reads as timescale-of-reads
 
 to-f64-requires : tie.Need-to-f64-requires
 to-f64-requires c κs = search needs

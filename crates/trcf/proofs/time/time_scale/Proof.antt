@@ -1,10 +1,7 @@
+-- `trcf::time::time_scale` meets its contract: by its callees' promises. Assumes nothing.
 use borrow.Author.Needs.{needs}
 use Rattle.trcf.proofs.time.time_scale.Statement.{statement}
 use Rattle.trcf.proofs.time.time_scale.Tie as tie
-use Rattle.trcf.proofs.time.time_scale.Reads as reads
-use Rattle.trcf.proofs.time.time_scale.Lts as lts
-use Rattle.numeric.proofs.to_f32.Reads as to-f32-reads
-use Rattle.trcf.proofs.time.timescale_of.Reads as timescale-of-reads
 
 timescale-of-requires : tie.Need-timescale-of-requires
 timescale-of-requires c κs = search needs

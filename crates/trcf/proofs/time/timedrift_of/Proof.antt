@@ -1,10 +1,8 @@
+-- `trcf::time::timedrift_of` meets its contract: by its callees' promises. Assumes nothing.
 use Rattle.trcf.specs.Preprocessor.{timedrift}
 use borrow.Author.Needs.{needs}
 use Rattle.trcf.proofs.time.timedrift_of.Statement.{statement}
 use Rattle.trcf.proofs.time.timedrift_of.Tie as tie
-use Rattle.trcf.proofs.time.timedrift_of.Reads as reads
-use Rattle.trcf.proofs.time.timedrift_of.Lts as lts
-use Rattle.trcf.proofs.transformer.mean_at.Reads as mean-at-reads
 
 mul-mean-at : tie.Need-mul-mean-at
 mul-mean-at c = search needs

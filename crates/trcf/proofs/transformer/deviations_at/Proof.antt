@@ -1,10 +1,8 @@
+-- `trcf::transformer::deviations_at` meets its contract: five statistics, each by `statistic_at`. Assumes nothing.
 use Rattle.trcf.specs.Transformer.{deviationsAt}
 use borrow.Author.Needs.{needs}
 use Rattle.trcf.proofs.transformer.deviations_at.Statement.{statement}
 use Rattle.trcf.proofs.transformer.deviations_at.Tie as tie
-use Rattle.trcf.proofs.transformer.deviations_at.Reads as reads
-use Rattle.trcf.proofs.transformer.deviations_at.Lts as lts
-use Rattle.trcf.proofs.transformer.statistic_at.Reads as statistic-at-reads
 
 statistic-at-requires : tie.Need-statistic-at-requires
 statistic-at-requires c κs = search needs

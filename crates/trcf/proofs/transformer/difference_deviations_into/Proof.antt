@@ -1,21 +1,16 @@
+-- `trcf::transformer::difference_deviations_into` meets its contract: the invariant is that the answer's first i numbers stand over the output. Assumes nothing.
 use Rattle.numeric.specs.Narrow.{narrowed}
 use Rattle.trcf.specs.Transformer.{differenceDeviations, meanAt}
-use mathlib.Core.Bool.{cond}
-use lib.Ieee.{nan, binary32, add, mul}
-use lib.ListN.{length, getD, length-set}
+use lib.ListN.{length, length-set}
 use Prim.Native.Nat.{_+_, _*_, _≤_, _<_, _-_}
 use native.Mathlib.Omega.{arith}
 use native.Mathlib.Numerals.{add-one}
-use mathlib.Core.Path.{_≡_, refl, sym, ap, _∙_}
+use mathlib.Core.Path.{_≡_, refl}
 use Rattle.trcf.proofs.LentLaws.{over-none, over-more}
 use Rattle.common.specs.Lent.{over}
 use Rattle.trcf.specs.Lists.{tabulate}
-use Rattle.trcf.specs.TransformerCalls.{view}
 use Rattle.trcf.proofs.transformer.difference_deviations_into.Statement.{statement}
 use Rattle.trcf.proofs.transformer.difference_deviations_into.Tie as tie
-use Rattle.trcf.proofs.transformer.difference_deviations_into.Reads as reads
-use Rattle.trcf.proofs.transformer.difference_deviations_into.Lts as lts
-use Rattle.trcf.proofs.transformer.narrow_mean_at.Reads as narrow-mean-at-reads
 
 abbrev Inv-loop : tie.InvT-loop
 Inv-loop s output₀ d i₀ output i = (i ≤ d) × (output ≡ over output₀ (tabulate i (λ k. narrowed (meanAt s (k + 4 * d))))) × (length output ≡ length output₀)

@@ -1,12 +1,8 @@
+-- `trcf::transformer::feed` meets its contract: five steps in the definition's order. Assumes nothing.
 use Rattle.trcf.specs.Transformer.{fed}
 use borrow.Author.Needs.{needs}
 use Rattle.trcf.proofs.transformer.feed.Statement.{statement}
 use Rattle.trcf.proofs.transformer.feed.Tie as tie
-use Rattle.trcf.proofs.transformer.feed.Reads as reads
-use Rattle.trcf.proofs.transformer.feed.Lts as lts
-use Rattle.common.proofs.deviation.Deviation.deviation.Reads as deviation-reads
-use Rattle.common.proofs.deviation.Deviation.mean.Reads as mean-reads
-use Rattle.trcf.proofs.transformer.step.Reads as step-reads
 
 step-requires : tie.Need-step-requires
 step-requires c κs = search needs

@@ -1,12 +1,8 @@
+-- `trcf::transformer::feed_at` meets its contract: loaded, fed, stored. Assumes nothing.
 use Rattle.trcf.specs.Transformer.{fedAt, deviationsAt, statisticAt}
 use borrow.Author.Needs.{needs}
 use Rattle.trcf.proofs.transformer.feed_at.Statement.{statement}
 use Rattle.trcf.proofs.transformer.feed_at.Tie as tie
-use Rattle.trcf.proofs.transformer.feed_at.Reads as reads
-use Rattle.trcf.proofs.transformer.feed_at.Lts as lts
-use Rattle.trcf.proofs.transformer.deviations_at.Reads as deviations-at-reads
-use Rattle.trcf.proofs.transformer.feed.Reads as feed-reads
-use Rattle.trcf.proofs.transformer.put_deviations.Reads as put-deviations-reads
 
 deviations-at-requires : tie.Need-deviations-at-requires
 deviations-at-requires c κs = search needs

@@ -1,11 +1,11 @@
+-- `trcf::transformer::invert_into` meets its contract: the invariant is that the answer's first i numbers stand over the output. Assumes nothing.
 use lib.Ieee.{Float}
 use borrow.Author.Needs.{needs}
 use Rattle.trcf.proofs.TransformerLaws.{weightAt-view}
 use Rattle.trcf.specs.Transformer.{inverted, invertBy, unweighted, weightAt}
-use mathlib.Core.Bool.{cond}
-use lib.Ieee.{nan, binary32, add, mul}
+use lib.Ieee.{nan}
 use lib.ListN.{length, getD, length-set}
-use Prim.Native.Nat.{_+_, _*_, _≤_, _<_, _-_}
+use Prim.Native.Nat.{_≤_, _<_, _-_}
 use native.Mathlib.Omega.{arith}
 use native.Mathlib.Numerals.{add-one}
 use mathlib.Core.Path.{_≡_, refl, sym, ap, _∙_}
@@ -15,10 +15,6 @@ use Rattle.trcf.specs.Lists.{tabulate}
 use Rattle.trcf.specs.TransformerCalls.{view}
 use Rattle.trcf.proofs.transformer.invert_into.Statement.{statement}
 use Rattle.trcf.proofs.transformer.invert_into.Tie as tie
-use Rattle.trcf.proofs.transformer.invert_into.Reads as reads
-use Rattle.trcf.proofs.transformer.invert_into.Lts as lts
-use Rattle.trcf.proofs.transformer.invert_at.Reads as invert-at-reads
-use Rattle.trcf.proofs.transformer.unweigh.Reads as unweigh-reads
 
 abbrev Inv-loop : tie.InvT-loop
 Inv-loop s input previous output₀ t d i₀ output i = (i ≤ d) × (output ≡ over output₀ (tabulate i (λ k. invertBy (t .«transform_method») (view t s) k (unweighted (weightAt (view t s) k) (getD input k nan)) (getD previous k nan)))) × (length output ≡ length output₀)

@@ -1,12 +1,9 @@
+-- `trcf::transformer::mean_at` meets its contract: the mean of the statistic that was read. Assumes nothing.
 use Rattle.common.specs.Deviation.{meanOf}
 use mathlib.Core.Path.{ap, _∙_}
 use borrow.Author.Needs.{needs}
 use Rattle.trcf.proofs.transformer.mean_at.Statement.{statement}
 use Rattle.trcf.proofs.transformer.mean_at.Tie as tie
-use Rattle.trcf.proofs.transformer.mean_at.Reads as reads
-use Rattle.trcf.proofs.transformer.mean_at.Lts as lts
-use Rattle.common.proofs.deviation.Deviation.mean.Reads as mean-reads
-use Rattle.trcf.proofs.transformer.statistic_at.Reads as statistic-at-reads
 
 statistic-at-requires : tie.Need-statistic-at-requires
 statistic-at-requires c κs = search needs

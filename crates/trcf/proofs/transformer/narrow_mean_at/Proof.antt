@@ -1,12 +1,9 @@
+-- `trcf::transformer::narrow_mean_at` meets its contract: the mean, narrowed. Assumes nothing.
 use Rattle.numeric.specs.Narrow.{narrowed}
 use mathlib.Core.Path.{ap, _∙_}
 use borrow.Author.Needs.{needs}
 use Rattle.trcf.proofs.transformer.narrow_mean_at.Statement.{statement}
 use Rattle.trcf.proofs.transformer.narrow_mean_at.Tie as tie
-use Rattle.trcf.proofs.transformer.narrow_mean_at.Reads as reads
-use Rattle.trcf.proofs.transformer.narrow_mean_at.Lts as lts
-use Rattle.numeric.proofs.to_f32.Reads as to-f32-reads
-use Rattle.trcf.proofs.transformer.mean_at.Reads as mean-at-reads
 
 mean-at-requires : tie.Need-mean-at-requires
 mean-at-requires c κs = search needs

@@ -1,10 +1,7 @@
+-- `trcf::transformer::normalized_scale` meets its contract: the mean plus 1, narrowed. Assumes nothing.
 use borrow.Author.Needs.{needs}
 use Rattle.trcf.proofs.transformer.normalized_scale.Statement.{statement}
 use Rattle.trcf.proofs.transformer.normalized_scale.Tie as tie
-use Rattle.trcf.proofs.transformer.normalized_scale.Reads as reads
-use Rattle.trcf.proofs.transformer.normalized_scale.Lts as lts
-use Rattle.numeric.proofs.to_f32.Reads as to-f32-reads
-use Rattle.trcf.proofs.transformer.mean_at.Reads as mean-at-reads
 
 mul-mean-at : tie.Need-mul-mean-at
 mul-mean-at c = search needs

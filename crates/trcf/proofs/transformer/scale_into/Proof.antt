@@ -1,21 +1,19 @@
+-- `trcf::transformer::scale_into` meets its contract: the invariant is that the answer's first i numbers stand over the output. Assumes nothing.
 use Rattle.trcf.specs.Types.{normalizes}
 use Rattle.trcf.specs.Transformer.{scales, weightAt, normalizedScale}
 use mathlib.Core.Bool.{cond}
-use lib.Ieee.{nan, binary32, add, mul}
-use lib.ListN.{length, getD, length-set}
-use Prim.Native.Nat.{_+_, _*_, _≤_, _<_, _-_}
+use lib.Ieee.{binary32, mul}
+use lib.ListN.{length, length-set}
+use Prim.Native.Nat.{_≤_, _<_, _-_}
 use native.Mathlib.Omega.{arith}
 use native.Mathlib.Numerals.{add-one}
-use mathlib.Core.Path.{_≡_, refl, sym, ap, _∙_}
+use mathlib.Core.Path.{_≡_, refl}
 use Rattle.trcf.proofs.LentLaws.{over-none, over-more}
 use Rattle.common.specs.Lent.{over}
 use Rattle.trcf.specs.Lists.{tabulate}
 use Rattle.trcf.specs.TransformerCalls.{view}
 use Rattle.trcf.proofs.transformer.scale_into.Statement.{statement}
 use Rattle.trcf.proofs.transformer.scale_into.Tie as tie
-use Rattle.trcf.proofs.transformer.scale_into.Reads as reads
-use Rattle.trcf.proofs.transformer.scale_into.Lts as lts
-use Rattle.trcf.proofs.transformer.scale_at.Reads as scale-at-reads
 
 abbrev Inv-loop : tie.InvT-loop
 Inv-loop t s output₀ d i₀ output i = (i ≤ d) × (output ≡ over output₀ (tabulate i (λ k. cond (normalizes (t .«transform_method»)) (mul binary32 (weightAt (view t s) k) (normalizedScale (view t s) k)) (weightAt (view t s) k)))) × (length output ≡ length output₀)

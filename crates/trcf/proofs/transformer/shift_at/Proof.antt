@@ -1,11 +1,8 @@
+-- `trcf::transformer::shift_at` meets its contract: each arm is the definition's case. Assumes nothing.
 use mathlib.Core.Path.{sym, _∙_}
 use borrow.Author.Needs.{needs}
 use Rattle.trcf.proofs.transformer.shift_at.Statement.{statement}
 use Rattle.trcf.proofs.transformer.shift_at.Tie as tie
-use Rattle.trcf.proofs.transformer.shift_at.Reads as reads
-use Rattle.trcf.proofs.transformer.shift_at.Lts as lts
-use Rattle.trcf.proofs.transformer.narrow_mean_at.Reads as narrow-mean-at-reads
-use Rattle.trcf.proofs.types.is_centring.Reads as is-centring-reads
 
 is-centring-requires : tie.Need-is-centring-requires
 is-centring-requires c κs = search needs

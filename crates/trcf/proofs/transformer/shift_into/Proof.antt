@@ -1,22 +1,19 @@
+-- `trcf::transformer::shift_into` meets its contract: the invariant is that the answer's first i numbers stand over the output. Assumes nothing.
 use Rattle.numeric.specs.Narrow.{narrowed}
 use Rattle.trcf.specs.Types.{centres}
 use Rattle.trcf.specs.Transformer.{shifts, basicShift, zero32, meanAt}
 use mathlib.Core.Bool.{cond}
-use lib.Ieee.{nan, binary32, add, mul}
-use lib.ListN.{length, getD, length-set}
-use Prim.Native.Nat.{_+_, _*_, _≤_, _<_, _-_}
+use lib.Ieee.{binary32, add}
+use lib.ListN.{length, length-set}
+use Prim.Native.Nat.{_≤_, _<_, _-_}
 use native.Mathlib.Omega.{arith}
 use native.Mathlib.Numerals.{add-one}
-use mathlib.Core.Path.{_≡_, refl, sym, ap, _∙_}
+use mathlib.Core.Path.{_≡_, refl}
 use Rattle.trcf.proofs.LentLaws.{over-none, over-more}
 use Rattle.common.specs.Lent.{over}
 use Rattle.trcf.specs.Lists.{tabulate}
-use Rattle.trcf.specs.TransformerCalls.{view}
 use Rattle.trcf.proofs.transformer.shift_into.Statement.{statement}
 use Rattle.trcf.proofs.transformer.shift_into.Tie as tie
-use Rattle.trcf.proofs.transformer.shift_into.Reads as reads
-use Rattle.trcf.proofs.transformer.shift_into.Lts as lts
-use Rattle.trcf.proofs.transformer.shift_at.Reads as shift-at-reads
 
 abbrev Inv-loop : tie.InvT-loop
 Inv-loop s output₀ d m i₀ output i = (i ≤ d) × (output ≡ over output₀ (tabulate i (λ k. cond (centres m) (add binary32 zero32 (narrowed (meanAt s k))) zero32))) × (length output ≡ length output₀)

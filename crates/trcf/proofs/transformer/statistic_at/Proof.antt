@@ -1,10 +1,9 @@
+-- `trcf::transformer::statistic_at` meets its contract: three reads. Assumes nothing.
 use mathlib.Core.Path.{refl}
 use Rattle.trcf.specs.Transformer.{statisticAt}
 use borrow.Author.Needs.{needs}
 use Rattle.trcf.proofs.transformer.statistic_at.Statement.{statement}
 use Rattle.trcf.proofs.transformer.statistic_at.Tie as tie
-use Rattle.trcf.proofs.transformer.statistic_at.Reads as reads
-use Rattle.trcf.proofs.transformer.statistic_at.Lts as lts
 
 mul-at : tie.Need-mul-at
 mul-at c = search needs

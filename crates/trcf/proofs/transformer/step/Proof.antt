@@ -1,14 +1,12 @@
+-- `trcf::transformer::step` meets its contract: below the limit the update is not refused, so the other arm is never taken. Assumes nothing.
 use Rattle.trcf.proofs.TransformerLaws.{taken-step}
 use native.Mathlib.Omega.{arith}
 use Prim.Native.Nat.{ℕ}
 use mathlib.Core.Path.{_≡_}
-use Rattle.trcf.proofs.TransformerLaws.{update-step}
+use Rattle.common.proofs.DeviationLaws.{update-accepted}
 use borrow.Author.Needs.{needs}
 use Rattle.trcf.proofs.transformer.step.Statement.{statement}
 use Rattle.trcf.proofs.transformer.step.Tie as tie
-use Rattle.trcf.proofs.transformer.step.Reads as reads
-use Rattle.trcf.proofs.transformer.step.Lts as lts
-use Rattle.common.proofs.deviation.Deviation.update.Reads as update-reads
 
 update-requires : tie.Need-update-requires
 update-requires c κs = search needs
@@ -24,7 +22,7 @@ returns c = taken-step (c .before .before .before .before .args .t) (c .before .
 
 returns-2 : tie.Need-returns-2
 returns-2 c = let a = c .before .before .before .args in
-    let k = update-step (a .t) (a .x) (c .before .before .before .pre) in
+    let k = update-accepted (a .t) (a .x) (c .before .before .before .pre) in
     let z : _≡_ {A = ℕ} 0 1 = cc (c .enum-told .given .1) in
     absurd (omega arith)
 

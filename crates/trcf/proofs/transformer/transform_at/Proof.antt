@@ -1,13 +1,10 @@
+-- `trcf::transformer::transform_at` meets its contract: each arm is the definition's case. Assumes nothing.
 use lib.Ieee.{nan}
 use lib.Seq.{getD-take}
 use Rattle.trcf.specs.Transformer.{weightAt, basicShift, normalizedScale}
 use borrow.Author.Needs.{needs}
 use Rattle.trcf.proofs.transformer.transform_at.Statement.{statement}
 use Rattle.trcf.proofs.transformer.transform_at.Tie as tie
-use Rattle.trcf.proofs.transformer.transform_at.Reads as reads
-use Rattle.trcf.proofs.transformer.transform_at.Lts as lts
-use Rattle.trcf.proofs.transformer.narrow_mean_at.Reads as narrow-mean-at-reads
-use Rattle.trcf.proofs.transformer.normalized_scale.Reads as normalized-scale-reads
 
 enum-told : tie.Need-enum-told
 enum-told c = search needs

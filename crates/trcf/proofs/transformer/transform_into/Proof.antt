@@ -1,3 +1,4 @@
+-- `trcf::transformer::transform_into` meets its contract: the invariant is that the answer's first i numbers stand over the output. Assumes nothing.
 use lib.Ieee.{nan}
 use lib.ListN.{length, getD, length-set}
 use Prim.Native.Nat.{_≤_, _<_, _-_}
@@ -11,9 +12,6 @@ use Rattle.trcf.specs.TransformerCalls.{view}
 use Rattle.trcf.specs.Transformer.{transformBy, transformed}
 use Rattle.trcf.proofs.transformer.transform_into.Statement.{statement}
 use Rattle.trcf.proofs.transformer.transform_into.Tie as tie
-use Rattle.trcf.proofs.transformer.transform_into.Reads as reads
-use Rattle.trcf.proofs.transformer.transform_into.Lts as lts
-use Rattle.trcf.proofs.transformer.transform_at.Reads as transform-at-reads
 
 abbrev Inv-loop : tie.InvT-loop
 Inv-loop t s input previous output₀ d i₀ output i = (i ≤ d) × (output ≡ over output₀ (tabulate i (λ k. transformBy (t .«transform_method») (view t s) k (getD input k nan) (getD previous k nan)))) × (length output ≡ length output₀)

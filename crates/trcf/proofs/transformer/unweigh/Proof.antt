@@ -1,8 +1,7 @@
+-- `trcf::transformer::unweigh` meets its contract: each arm is the definition's case. Assumes nothing.
 use Rattle.trcf.specs.Transformer.{unweighted}
 use Rattle.trcf.proofs.transformer.unweigh.Statement.{statement}
 use Rattle.trcf.proofs.transformer.unweigh.Tie as tie
-use Rattle.trcf.proofs.transformer.unweigh.Reads as reads
-use Rattle.trcf.proofs.transformer.unweigh.Lts as lts
 
 returns : tie.Need-returns
 unfolding unweighted

@@ -1,3 +1,4 @@
+-- `trcf::transformer::update_channels` meets its contract: the invariant is that the first i channels have been fed. Assumes nothing.
 use borrow.Author.Needs.{needs}
 use lib.ListN.{length}
 use Prim.Native.Nat.{_≤_, _-_}
@@ -7,10 +8,6 @@ use mathlib.Core.Path.{_≡_, refl}
 use Rattle.trcf.specs.Transformer.{channelsFed, updated}
 use Rattle.trcf.proofs.transformer.update_channels.Statement.{statement}
 use Rattle.trcf.proofs.transformer.update_channels.Tie as tie
-use Rattle.trcf.proofs.transformer.update_channels.Reads as reads
-use Rattle.trcf.proofs.transformer.update_channels.Lts as lts
-use Rattle.numeric.proofs.to_f64.Reads as to-f64-reads
-use Rattle.trcf.proofs.transformer.feed_at.Reads as feed-at-reads
 
 abbrev Inv-loop : tie.InvT-loop
 Inv-loop s₀ input previous d decay count i₀ s i = (i ≤ d) × (s ≡ channelsFed i s₀ d decay count input previous) × (length s ≡ length s₀)

@@ -1,0 +1,127 @@
+-- Calls by their row: what a refused call and an accepted one give, and states laid back over lent lists. Assumes nothing.
+use Prim.Native.Nat.{ℕ, zero, suc, _+_, _-_, _*_, _≤_, _<_}
+use mathlib.Core.Path.{_≡_, refl, sym, ap, _∙_}
+use mathlib.Core.Bool.{Bool, true, false, cond}
+use mathlib.Core.List.{List, [], _∷_, _++_}
+use native.Mathlib.Omega.{arith}
+use lib.ListN.{length, take, drop, replicate, length-replicate}
+use lib.Seq.{length-take-le, take-at}
+use lib.Ieee.{Float}
+use Rattle.common.specs.Lent.{over}
+use Rattle.common.specs.Deviation.{zero64}
+use Rattle.trcf.specs.Transformer.{zero32}
+use Rattle.trcf.specs.Settings.{Settings, settingsRow, dimension, block}
+use Rattle.trcf.specs.Calls.{Call, scale, shift, status, rows, table}
+use Rattle.trcf.specs.Preprocessor.{Answer, refused, reply, accepted, change, statisticsLength, fresh, statusOf}
+use Rattle.trcf.specs.View.{Lent, lent, view, laid, counted, rowOf, lentRow, orElse, answerOf, headAfter, lentAfter, Written, written, writtenOf, writeOf, Outcome, outcome, headFrom, noHead, buildRow, buildOf, settingsOf, headRow, Bounded, StatusOutcome, untold, statusRead, statusAfter}
+use Rattle.trcf.specs.declared.preprocessor.Preprocessor.{Preprocessor}
+use Rattle.trcf.proofs.ShingleLaws.{over-part}
+
+module _ {A : Type 0} where
+  pub accepted-not : (r : ℕ) (a b : A) → (r ≡ 0 → ⊥) → accepted r a b ≡ b
+  accepted-not zero a b n = absurd (n refl)
+  accepted-not (suc r) a b n = refl
+
+pub orElse-is : (r m : ℕ) → (r ≡ 0 → ⊥) → orElse r m ≡ r
+orElse-is zero m n = absurd (n refl)
+orElse-is (suc r) m n = refl
+
+-- ---- a call that writes one list
+
+module _ (h : Preprocessor) (l : Lent) (c : Call) (out : List Float) where
+  pub write-refused : (rowOf h l c ≡ 0 → ⊥) → written (rowOf h l c) out ≡ writeOf h l c out
+  unfolding writeOf answerOf
+  write-refused n = sym (ap (writtenOf out) (accepted-not (rowOf h l c) (reply (view h l) c) (refused (rowOf h l c)) n))
+
+  pub write-done : rowOf h l c ≡ 0 → writtenOf out (reply (view h l) c) ≡ writeOf h l c out
+  unfolding writeOf answerOf
+  write-done e = ap (λ (r : ℕ). writtenOf out (accepted r (reply (view h l) c) (refused r))) (sym e)
+
+-- ---- `build`
+
+module _ (s : Settings) (l : Lent) where
+  build-row : (r : ℕ) → buildRow s l ≡ r → (r ≡ 0 → ⊥) → outcome r noHead l ≡ buildOf s l
+  unfolding buildOf
+  build-row r e n =
+      sym (accepted-not r (outcome 0 (headFrom s) (laid (fresh s) l)) (outcome r noHead l) n)
+      ∙ ap (λ (q : ℕ). accepted q (outcome 0 (headFrom s) (laid (fresh s) l)) (outcome q noHead l)) (sym e)
+
+  pub build-refused : (settingsRow s ≡ 0 → ⊥) → outcome (settingsRow s) noHead l ≡ buildOf s l
+  unfolding buildRow
+  build-refused n = build-row (settingsRow s) (orElse-is (settingsRow s) (lentRow (headFrom s) l) n) n
+
+  pub build-short : settingsRow s ≡ 0 → (lentRow (headFrom s) l ≡ 0 → ⊥) → outcome (lentRow (headFrom s) l) noHead l ≡ buildOf s l
+  unfolding buildRow
+  build-short e n = build-row (lentRow (headFrom s) l) (ap (λ (r : ℕ). orElse r (lentRow (headFrom s) l)) e) n
+
+  build-accepted : settingsRow s ≡ 0 → lentRow (headFrom s) l ≡ 0 → outcome 0 (headFrom s) (laid (fresh s) l) ≡ buildOf s l
+  unfolding buildOf buildRow
+  build-accepted e n =
+      ap (λ (r : ℕ). accepted r (outcome 0 (headFrom s) (laid (fresh s) l)) (outcome r noHead l)) (sym (ap (λ (r : ℕ). orElse r (lentRow (headFrom s) l)) e ∙ n))
+
+module _ {A : Type 0} where
+  pub over-none : (l : List A) → l ≡ over l []
+  unfolding over
+  over-none l = refl
+
+  -- a part of n that was filled
+  pub filled-over : (l : List A) (v : A) (n : ℕ) → n ≤ length l → replicate (length (take n l)) v ++ drop n l ≡ over l (replicate n v)
+  filled-over l v n h =
+      ap (λ (k : ℕ). replicate k v ++ drop n l) (length-take-le n l h) ∙ over-part l (replicate n v) n (length-replicate n v)
+
+pub build-done : (s : Settings) (l : Lent) → settingsRow s ≡ 0 → lentRow (headFrom s) l ≡ 0
+    → statisticsLength s ≤ length (l .statistics) → s .d * s .k ≤ length (l .lastShingledInput) → dimension s ≤ length (l .lastShingledPoint) → s .k ≤ length (l .previousTimestamps)
+    → outcome 0 (headFrom s)
+    (lent (replicate (length (take (statisticsLength s) (l .statistics))) zero64 ++ drop (statisticsLength s) (l .statistics))
+    (replicate (length (take (s .d * s .k) (l .lastShingledInput))) zero32 ++ drop (s .d * s .k) (l .lastShingledInput))
+    (replicate (length (take (dimension s) (l .lastShingledPoint))) zero32 ++ drop (dimension s) (l .lastShingledPoint))
+    (replicate (length (take (s .k) (l .previousTimestamps))) 0 ++ drop (s .k) (l .previousTimestamps)) (l .initialValues) (l .initialTimestamps))
+    ≡ buildOf s l
+unfolding laid fresh
+build-done s l e n a b c d =
+    (λ j. outcome 0 (headFrom s)
+    (lent (filled-over (l .statistics) zero64 (statisticsLength s) a j) (filled-over (l .lastShingledInput) zero32 (s .d * s .k) b j)
+    (filled-over (l .lastShingledPoint) zero32 (dimension s) c j) (filled-over (l .previousTimestamps) 0 (s .k) d j)
+    (over-none (l .initialValues) j) (over-none (l .initialTimestamps) j)))
+    ∙ build-accepted s l e n
+
+-- the weights in an array leave the rest of the settings as they were
+pub dimension-from : (s : Settings) → dimension (settingsOf (headFrom s)) ≡ dimension s
+unfolding dimension block
+dimension-from s = refl
+
+pub bounded-from : (s : Settings) → Bounded s → Bounded (settingsOf (headFrom s))
+bounded-from s b = record { d-pos = b .d-pos; d-few = b .d-few; k-pos = b .k-pos; k-few = b .k-few; start-few = b .start-few }
+
+-- ---- calls with the same rows
+
+module _ (h : Preprocessor) (l : Lent) (out : List Float) where
+  pub shift-row : rowOf h l (scale out) ≡ rowOf h l (shift out)
+  unfolding rowOf rows table
+  shift-row = refl
+
+  pub status-row : rowOf h l (scale out) ≡ rowOf h l (status out)
+  unfolding rowOf rows table
+  status-row = refl
+
+-- ---- `status`
+
+abbrev given : Preprocessor → Written → StatusOutcome
+given h w = record { row = w .row; numbers = untold h (w .out) }
+
+orElse-first : (r m : ℕ) → orElse r m ≡ 0 → r ≡ 0
+orElse-first zero m e = refl
+orElse-first (suc r) m e = e
+
+module _ (h : Preprocessor) (l : Lent) (out : List Float) where
+  status-at : (r : ℕ) → rowOf h l (status out) ≡ r
+      → given h (writtenOf out (accepted r (reply (view h l) (status out)) (refused r))) ≡ statusRead h out (accepted r (reply (view h l) (status out)) (refused r))
+  unfolding rowOf reply statusOf view
+  status-at zero e =
+      let z : headRow (settingsOf h) ≡ 0 = orElse-first (headRow (settingsOf h)) _ e in
+      rw z
+  status-at (suc r) e = refl
+
+  pub status-told : (w : Written) → w ≡ writeOf h l (status out) out → given h w ≡ statusAfter h l out
+  unfolding writeOf statusAfter answerOf
+  status-told w e = ap (given h) e ∙ status-at (rowOf h l (status out)) refl

@@ -1,0 +1,68 @@
+-- `trcf::transformer::WeightedTransformer::invert_forecast` meets its contract: refused by its row, or the worker's answer. Assumes nothing.
+use Prim.Native.Nat.{_*_}
+use lib.Seq.{length-take-le}
+use native.Mathlib.Omega.{arith}
+use Rattle.trcf.specs.Transformer.{invertedForecast}
+use Rattle.trcf.specs.TransformerCalls.{invertForecastOf, own}
+use Rattle.trcf.specs.Types.{differences}
+use Rattle.common.specs.RangeVector.{ranges}
+use Rattle.common.proofs.RangeSteps.{refused, done}
+use Rattle.trcf.proofs.ForecastLaws.{blocked-base}
+use Rattle.trcf.proofs.CallLaws.{sound-part}
+use borrow.Author.Needs.{needs}
+use Rattle.trcf.proofs.transformer.WeightedTransformer.invert_forecast.Statement.{
+  statement,
+}
+use Rattle.trcf.proofs.transformer.WeightedTransformer.invert_forecast.Tie as tie
+
+forecast-row-requires : tie.Need-forecast-row-requires
+forecast-row-requires c κs = search needs
+
+returns : tie.Need-returns
+unfolding invertForecastOf
+returns c = let a = c .before .before .before .before .before .before .before .args in
+    refused (c .before .forecast-row .result) _ (ranges (a .values .now) (a .upper .now) (a .lower .now)) _ (c .before .forecast-row .ensures .0) (c .if1 .taken)
+
+mul-n : tie.Need-mul-n
+mul-n c = let R = c .before .forecast-row .ensures .1 (c .if1 .left) in
+    let a = c .before .before .before .before .before .before .before .args in
+    omega (arith, R .1)
+
+slice-aggregate-invert-forecast-in-place : tie.Need-slice-aggregate-invert-forecast-in-place
+slice-aggregate-invert-forecast-in-place c = let R = c .before .before .forecast-row .ensures .1 (c .before .if1 .left) in
+    let a = c .before .before .before .before .before .before .before .before .args in
+    omega (arith, length-take-le (15 * a .self .«input_length») (a .statistics .now) (R .6))
+
+invert-forecast-in-place-requires : tie.Need-invert-forecast-in-place-requires
+invert-forecast-in-place-requires c κs = let R = c .before .before .before .before .before .forecast-row .ensures .1 (c .before .before .before .before .if1 .left) in
+    let a = c .before .before .before .before .before .before .before .before .before .before .before .args in
+    (sound-part (a .self) (a .statistics .now) (R .0) (R .1) (R .6), ((R .3, R .4), blocked-base (differences (a .self .«transform_method»)) _ _ _ (R .2) (R .5)))
+
+same-length : tie.Need-same-length
+same-length c = search needs
+
+same-length-2 : tie.Need-same-length-2
+same-length-2 c = search needs
+
+same-length-3 : tie.Need-same-length-3
+same-length-3 c = search needs
+
+returns-2 : tie.Need-returns-2
+unfolding invertForecastOf
+returns-2 c = let R = c .before .before .before .before .before .before .before .before .before .before .before .before .forecast-row in
+    let a = c .before .before .before .before .before .before .before .before .before .before .before .before .before .before .before .before .before .before .args in
+    done (R .result) _ (ranges (a .values .now) (a .upper .now) (a .lower .now)) (invertedForecast (own (a .self) (a .statistics .now)) (a .previous .now) (ranges (a .values .now) (a .upper .now) (a .lower .now))) _ (R .ensures .0) (c .before .before .before .before .before .before .before .before .before .before .before .if1 .left) (c .before .before .before .before .before .before .invert-forecast-in-place .ensures)
+
+pub invert-forecast-spec : {M : Type 1} → statement M
+invert-forecast-spec =
+    tie.close
+    (tie.spec
+    forecast-row-requires
+    returns
+    mul-n
+    slice-aggregate-invert-forecast-in-place
+    invert-forecast-in-place-requires
+    same-length
+    same-length-2
+    same-length-3
+    returns-2)

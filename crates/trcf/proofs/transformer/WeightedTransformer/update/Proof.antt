@@ -1,0 +1,68 @@
+-- `trcf::transformer::WeightedTransformer::update` meets its contract: refused by its row, or the channels fed in the front of the list. Assumes nothing.
+use Prim.Native.Nat.{_*_}
+use lib.Seq.{length-take-le}
+use native.Mathlib.Omega.{arith}
+use Rattle.common.specs.Lent.{over}
+use Rattle.trcf.specs.Transformer.{updated}
+use Rattle.trcf.specs.TransformerCalls.{updateOf, own, counted}
+use Rattle.trcf.proofs.CallLaws.{sound-part, made-refused, made-done, updated-over}
+use borrow.Author.Needs.{needs}
+use Rattle.trcf.proofs.transformer.WeightedTransformer.update.Statement.{statement}
+use Rattle.trcf.proofs.transformer.WeightedTransformer.update.Tie as tie
+
+update-row-requires : tie.Need-update-row-requires
+update-row-requires c κs = search needs
+
+returns : tie.Need-returns
+unfolding updateOf
+returns c = let a = c .before .before .before .before .before .args in
+    made-refused (c .before .update-row .result) _ (a .self) (a .statistics .now) _ (c .before .update-row .ensures .0) (c .if1 .taken)
+
+mul-n : tie.Need-mul-n
+mul-n c = let R = c .before .update-row .ensures .1 (c .if1 .left) in
+    let a = c .before .before .before .before .before .args in
+    omega (arith, R .1)
+
+slice-relend-prefix-update-channels : tie.Need-slice-relend-prefix-update-channels
+slice-relend-prefix-update-channels c = let R = c .before .update-row .ensures .1 (c .if1 .left) in
+    let a = c .before .before .before .before .before .args in
+    R .5
+
+slice-aggregate-update-channels : tie.Need-slice-aggregate-update-channels
+slice-aggregate-update-channels c = let R = c .before .before .update-row .ensures .1 (c .before .if1 .left) in
+    let a = c .before .before .before .before .before .before .args in
+    omega (arith, length-take-le (15 * a .self .«input_length») (a .statistics .now) (R .5))
+
+update-channels-requires : tie.Need-update-channels-requires
+update-channels-requires c κs = let R = c .before .before .update-row .ensures .1 (c .before .if1 .left) in
+    let a = c .before .before .before .before .before .before .args in
+    (sound-part (a .self) (a .statistics .now) (R .0) (R .1) (R .5), (R .4, (R .2, R .3)))
+
+add-t18 : tie.Need-add-t18
+add-t18 c = let R = c .before .before .before .before .before .before .update-row .ensures .1 (c .before .before .before .before .before .if1 .left) in
+    let a = c .before .before .before .before .before .before .before .before .before .before .args in
+    omega (arith, R .4)
+
+same-length : tie.Need-same-length
+same-length c = search needs
+
+returns-2 : tie.Need-returns-2
+unfolding updateOf
+returns-2 c = let R = c .before .before .before .before .before .before .update-row in
+    let a = c .before .before .before .before .before .before .before .before .before .before .args in
+    made-done (R .result) _ _ (counted (a .self)) _ (over (a .statistics .now) (updated (own (a .self) (a .statistics .now)) (a .input .now) (a .previous .now))) (R .ensures .0) (c .before .before .before .before .before .if1 .left)
+    (updated-over (a .self) (a .statistics .now) (a .input .now) (a .previous .now) _ (R .ensures .1 (c .before .before .before .before .before .if1 .left) .5) (c .before .before .before .update-channels .ensures))
+
+pub update-spec : {M : Type 1} → statement M
+update-spec =
+    tie.close
+    (tie.spec
+    update-row-requires
+    returns
+    mul-n
+    slice-relend-prefix-update-channels
+    slice-aggregate-update-channels
+    update-channels-requires
+    add-t18
+    same-length
+    returns-2)
