@@ -17,3 +17,8 @@ pub mod WriteLaws
 pub mod LineBytes
 pub mod SaveLaws
 pub mod SaveRead
+pub mod JudgeLaws
+pub mod JudgeLines
+pub mod ValueLaws
+pub mod LineTests
+pub mod JudgeKinds

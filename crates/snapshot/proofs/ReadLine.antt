@@ -60,7 +60,7 @@ bytes-join [] = refl
 bytes-join (l ∷ ls) = ap (λ (t : List ℕ). bytesOfLine l ++ t) (bytes-join ls)
 
 -- a clean beginning belongs to the line, and to the cell, behind it
-lines-clean : (f y z : List ℕ) (zs : List (List ℕ)) → Clean f → lines y ≡ z ∷ zs → lines (f ++ y) ≡ (f ++ z) ∷ zs
+pub lines-clean : (f y z : List ℕ) (zs : List (List ℕ)) → Clean f → lines y ≡ z ∷ zs → lines (f ++ y) ≡ (f ++ z) ∷ zs
 lines-clean [] y z zs c e = e
 lines-clean (b ∷ f) y z zs c e = rw (ne-eqb b 10 (λ q. omega (arith, c .0)), lines-clean f y z zs (c .1) e)
 
@@ -68,7 +68,7 @@ cells-clean : (f y : List ℕ) (zs : List (List ℕ)) → Clean f → cells y �
 cells-clean [] y zs c e = e
 cells-clean (b ∷ f) y zs c e = rw (lt-leb b 10 (c .0), cells-clean f y zs (c .1) e)
 
-lines-tail : (fs : List (List ℕ)) (x : List ℕ) → All Clean fs → lines (behind fs ++ x) ≡ behind fs ∷ lines x
+pub lines-tail : (fs : List (List ℕ)) (x : List ℕ) → All Clean fs → lines (behind fs ++ x) ≡ behind fs ∷ lines x
 lines-tail [] x c = refl
 lines-tail (f ∷ fs) x c = rw (append-assoc f (behind fs) x, lines-clean f (behind fs ++ x) (behind fs) (lines x) (c .0) (lines-tail fs x (c .1)))
 

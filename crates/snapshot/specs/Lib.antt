@@ -6,3 +6,4 @@ pub mod Parts
 pub mod LineLength
 pub mod Write
 pub mod Save
+pub mod Judge

@@ -1,0 +1,31 @@
+-- `snapshot::judge::byte` meets its contract. Assumes nothing.
+use Rattle.snapshot.proofs.JudgeLaws.{byte-yes, byte-no, byte-end}
+use mathlib.Core.Path.{_≡_, sym, _∙_}
+use borrow.Author.Needs.{needs}
+use Rattle.snapshot.proofs.judge.byte.Statement.{statement}
+use Rattle.snapshot.proofs.judge.byte.Tie as tie
+use Rattle.snapshot.proofs.judge.byte.Reads as reads
+use Rattle.snapshot.proofs.judge.byte.Lts as lts
+use Rattle.snapshot.proofs.judge.wide.Reads as wide-reads
+
+shared-slice-read-wide : tie.Need-shared-slice-read-wide
+shared-slice-read-wide c = search needs
+
+wide-requires : tie.Need-wide-requires
+wide-requires c κs = search needs
+
+add-t10 : tie.Need-add-t10
+add-t10 c = search needs
+
+returns : tie.Need-returns
+returns c = byte-yes (c .before .before .before .before .before .args .b) (c .before .before .before .before .before .args .text .now) (c .before .before .before .before .before .args .at) (c .before .before .before .if1 .taken) (sym (c .before .wide .ensures) ∙ c .if2 .taken)
+
+returns-2 : tie.Need-returns-2
+returns-2 c = byte-no (c .before .before .before .before .before .args .b) (c .before .before .before .before .before .args .text .now) (c .before .before .before .before .before .args .at) (c .before .before .before .if1 .taken) (λ q. c .if2 .left (c .before .wide .ensures ∙ q))
+
+returns-3 : tie.Need-returns-3
+returns-3 c = byte-end (c .before .before .args .b) (c .before .before .args .text .now) (c .before .before .args .at) (c .if1 .left)
+
+pub byte-spec : {M : Type 1} → statement M
+byte-spec =
+    tie.close (tie.spec shared-slice-read-wide wide-requires add-t10 returns returns-2 returns-3)

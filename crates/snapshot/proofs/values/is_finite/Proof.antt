@@ -1,0 +1,18 @@
+-- `snapshot::values::is_finite` meets its contract. Assumes nothing.
+use Rattle.trcf.proofs.ShingleLaws.{below-top, not-below-top}
+use lib.Ieee.{div, neg, ofBits}
+use Rattle.snapshot.proofs.values.is_finite.Statement.{statement}
+use Rattle.snapshot.proofs.values.is_finite.Tie as tie
+use Rattle.snapshot.proofs.values.is_finite.Reads as reads
+use Rattle.snapshot.proofs.values.is_finite.Lts as lts
+
+returns : tie.Need-returns
+unfolding div neg ofBits
+returns c = below-top (c .before .args .v) (c .if1 .taken)
+
+returns-2 : tie.Need-returns-2
+unfolding div ofBits
+returns-2 c = not-below-top (c .before .args .v) (c .if1 .left)
+
+pub is-finite-spec : {M : Type 1} → statement M
+is-finite-spec = tie.close (tie.spec returns returns-2)

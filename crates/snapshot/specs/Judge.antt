@@ -1,0 +1,168 @@
+-- A line as the code reads it: piece by piece from a place of the text on, and none where a piece is bad.
+use Prim.Native.Nat.{ℕ, zero, suc, _+_}
+use mathlib.Core.Bool.{Bool, true, false, not, _&&_, _||_, cond}
+use mathlib.Core.Path.{_≡_}
+use mathlib.Core.List.{List, [], _∷_, _++_}
+use mathlib.Core.Option.{Option, none, some}
+use lib.ListN.{length, take, drop, getD}
+use lib.Dec.{leb, ltb, eqb}
+use lib.Ieee.{Float, nan, Format, binary32, binary64}
+use Rattle.common.specs.Deviation.{countLimit, outsideUnit}
+use Rattle.trcf.specs.Types.{isNone, normalizes}
+use Rattle.trcf.specs.Settings.{Settings, allOne}
+use Rattle.trcf.specs.Calls.{finite, seenLimit}
+use Rattle.trcf.specs.Preprocessor.{Reading, reading}
+use Rattle.trcf.specs.declared.types.TransformMethod.{TransformMethod}
+use Rattle.snapshot.specs.Read.{asWhole, asFloat, every, climbs, zeros, Counts, Three, Read, bad}
+use Rattle.snapshot.specs.Scan.{fieldOf}
+use Rattle.snapshot.specs.declared.field.Field.{Field}
+use Rattle.snapshot.specs.declared.field.Field.the-variants.{Bad}
+use Rattle.snapshot.specs.declared.judge.Place.{Place}
+use Rattle.snapshot.specs.declared.judge.Place.the-variants.{At, Nowhere}
+use Rattle.snapshot.specs.declared.judge.Next.{Next}
+
+-- ---- places: what is left of the text from there on
+
+abbrev pub placed : Place → List ℕ → Option (List ℕ)
+placed (At n) t = some (drop n t)
+placed Nowhere t = none
+
+abbrev pub onto : {A B : Type 0} → Option A → (A → Option B) → Option B
+onto none g = none
+onto (some a) g = g a
+
+-- a value, and what is left behind it
+abbrev pub held : {A : Type 0} → A → Option (List ℕ) → Option (A × List ℕ)
+held a none = none
+held a (some z) = some (a, z)
+
+-- ---- pieces
+
+abbrev pub byte : ℕ → List ℕ → Option (List ℕ)
+byte b [] = none
+byte b (x ∷ l) = cond (eqb x b) (some l) none
+
+abbrev pub name : ℕ → ℕ → ℕ → List ℕ → Option (List ℕ)
+name a b c l = onto (onto (byte a l) (byte b)) (byte c)
+
+-- how many bytes stand before the next tab or LF
+abbrev pub fieldLength : List ℕ → ℕ
+fieldLength [] = 0
+fieldLength (b ∷ l) = let r = fieldLength l in cond (leb b 10) 0 (suc r)
+
+-- the field behind the tab at the place p, and the place behind it
+abbrev pub fieldIn : ℕ → List ℕ → Field
+fieldIn k [] = Bad
+fieldIn k (x ∷ l) = cond (eqb x 9) (fieldOf k (take (fieldLength l) l)) Bad
+
+abbrev pub endIn : ℕ → List ℕ → ℕ
+endIn p [] = p
+endIn p (x ∷ l) = cond (eqb x 9) (suc p + fieldLength l) p
+
+abbrev pub nextOf : ℕ → ℕ → List ℕ → Next
+nextOf k p t = record { field = fieldIn k (drop p t); end = endIn p (drop p t) }
+
+module _ {A : Type 0} (p : List ℕ → Option A) where
+  abbrev pub one : List ℕ → Option (A × List ℕ)
+  one [] = none
+  one (x ∷ l) = cond (eqb x 9) (onto (p (take (fieldLength l) l)) (λ a. some (a, drop (fieldLength l) l))) none
+
+abbrev pub before : {A : Type 0} → List A → Option (List A × List ℕ) → Option (List A × List ℕ)
+before u none = none
+before u (some r) = some (u ++ r .0, r .1)
+
+-- n fields, each behind its tab
+abbrev pub fields : {A : Type 0} → (List ℕ → Option A) → ℕ → List ℕ → Option (List A × List ℕ)
+fields p zero l = some ([], l)
+fields p (suc n) l = onto (one p l) (λ r. before (r .0 ∷ []) (fields p n (r .1)))
+
+-- what stands behind the last field
+abbrev pub closing : {A : Type 0} → Option (A × List ℕ) → Option (A × List ℕ)
+closing none = none
+closing (some r) = held (r .0) (byte 10 (r .1))
+
+-- a line of a name and n fields of one kind
+unfoldable pub listLine : {A : Type 0} → (List ℕ → Option A) → ℕ → ℕ → ℕ → ℕ → List ℕ → Option (List A × List ℕ)
+listLine p a b c n l = closing (onto (name a b c l) (fields p n))
+
+-- what n fields leave in lent memory of that length
+pub record Filled {A : Type 0} (o : Option (List A × List ℕ)) (t : List ℕ) (old : List A) (r : Place) (new : List A) : Type 0 where
+  pub told : held new (placed r t) ≡ o
+  pub kept : length new ≡ length old
+
+-- ---- what is read of a line, where it passes the tests of its kind
+
+abbrev pub checked : {A : Type 0} → (A → Bool) → Option (A × List ℕ) → Option (A × List ℕ)
+checked q none = none
+checked q (some r) = cond (q (r .0)) (some r) none
+
+-- the reading goes on with what was read, or this line is the bad one
+abbrev pub via : {A : Type 0} → Option (A × List ℕ) → (A → List ℕ → Read) → Read
+via none g = bad 1
+via (some r) g = g (r .0) (r .1)
+
+-- ---- the lines
+
+-- `wgt`: "weights against NONE: line 2"
+unfoldable pub wgtTest : TransformMethod → List Float → Bool
+wgtTest m v = every (not (isNone m && not (allOne v)) ∷ [])
+
+unfoldable pub wgtBy : TransformMethod → ℕ → List ℕ → Option (List Float × List ℕ)
+wgtBy m d l = checked (wgtTest m) (listLine (asFloat binary32) 119 103 116 d l)
+
+-- `cnt`: "While waiting … internal is 0"
+abbrev pub countsOf : List ℕ → Counts
+countsOf w = record { valuesSeen = getD w 0 0; internalTimestamp = getD w 1 0; count = getD w 2 0 }
+
+abbrev pub counted : Option (List ℕ × List ℕ) → Option (Counts × List ℕ)
+counted none = none
+counted (some r) = some (countsOf (r .0), r .1)
+
+unfoldable pub cntTest : TransformMethod → ℕ → Counts → Bool
+cntTest m start c =
+    leb (c .valuesSeen) seenLimit
+    && (leb (c .internalTimestamp) seenLimit
+    && (leb (c .count) countLimit && (not (normalizes m && ltb (c .valuesSeen) start) || eqb (c .internalTimestamp) 0)))
+
+unfoldable pub cntBy : TransformMethod → ℕ → List ℕ → Option (Counts × List ℕ)
+cntBy m start l = checked (cntTest m start) (counted (listLine asWhole 99 110 116 3 l))
+
+-- `tim`: "none falling"; "With internal 0 all `tim` are 0."
+unfoldable pub timTest : ℕ → List ℕ → Bool
+timTest internal ts = climbs 0 ts && (not (eqb internal 0) || zeros ts)
+
+unfoldable pub timBy : ℕ → ℕ → List ℕ → Option (List ℕ × List ℕ)
+timBy internal k l = checked (timTest internal) (listLine asWhole 116 105 109 k l)
+
+-- `buf`: a time that does not fall, d finite numbers
+abbrev pub timed : ℕ → Option (List Float × List ℕ) → Option (Reading × List ℕ)
+timed t none = none
+timed t (some r) = some (reading (r .0) t, r .1)
+
+unfoldable pub bufTest : ℕ → Reading → Bool
+bufTest p r = leb p (r .time) && finite (r .value)
+
+unfoldable pub bufRaw : ℕ → List ℕ → Option (Reading × List ℕ)
+bufRaw d l = onto (name 98 117 102 l) (λ z. onto (one asWhole z) (λ t. closing (timed (t .0) (fields (asFloat binary32) d (t .1)))))
+
+unfoldable pub bufBy : ℕ → ℕ → List ℕ → Option (Reading × List ℕ)
+bufBy d p l = checked (bufTest p) (bufRaw d l)
+
+abbrev pub countsRead : ℕ → ℕ → ℕ → Counts
+countsRead a b c = record { valuesSeen = a; internalTimestamp = b; count = c }
+
+-- what one `buf` line leaves: its numbers in lent memory, and its time
+pub record FilledWith (o : Option (Reading × List ℕ)) (t : List ℕ) (old : List Float) (p : Place) (r : Reading) : Type 0 where
+  pub told : held r (placed p t) ≡ o
+  pub kept : length (r .value) ≡ length old
+
+-- `dev`
+abbrev pub threeOf : List Float → Three
+threeOf v = record { weight = getD v 0 nan; sum = getD v 1 nan; squares = getD v 2 nan }
+
+abbrev pub threed : Option (List Float × List ℕ) → Option (Three × List ℕ)
+threed none = none
+threed (some r) = some (threeOf (r .0), r .1)
+
+unfoldable pub devBy : List ℕ → Option (Three × List ℕ)
+devBy l = threed (listLine (asFloat binary64) 100 101 118 3 l)
