@@ -82,9 +82,11 @@ unfolding timBy timTest timLine
 tim-reads s c = record {
   good = λ l r e.
       let k = checked-some (timTest (c .internalTimestamp)) (listLine asWhole 116 105 109 (s .k) l) r e in
-      let h = line-is asWhole whole (λ n. n ≤ wholeMax) whole-codec 116 105 109 (s .k) l r (k .0) in
-      (h .0, tim-writes s c (r .0) (h .1) (h .2) (climbs-of 0 (r .0) (and-left _ _ (k .1)))
-      (λ z. zeros-of (r .0) (if-of (eqb (c .internalTimestamp) 0) (zeros (r .0)) (and-right (climbs 0 (r .0)) _ (k .1)) (eq-eqb (c .internalTimestamp) 0 z)) ∙ ap (λ (n : ℕ). replicate n 0) (h .1)));
+      let h = line-is asWhole whole (λ n. n ≤ wholeMax) whole-codec 116 105 109 (s .k) l r (k .0) in (
+        h .0,
+        tim-writes s c (r .0) (h .1) (h .2) (climbs-of 0 (r .0) (and-left _ _ (k .1)))
+            (λ z. zeros-of (r .0) (if-of (eqb (c .internalTimestamp) 0) (zeros (r .0)) (and-right (climbs 0 (r .0)) _ (k .1)) (eq-eqb (c .internalTimestamp) 0 z)) ∙ ap (λ (n : ℕ). replicate n 0) (h .1)),
+      );
   back = λ ts z h.
       let m : length ts ≡ s .k = eqb-true _ _ (h .0) in
       let e = line-back asWhole whole (λ n. n ≤ wholeMax) whole-codec 116 105 109 ts z (whole-of ts (h .1 .0)) in
@@ -114,7 +116,7 @@ dev-reads = record {
   back = λ a z h.
       let v = a .weight ∷ a .sum ∷ a .squares ∷ [] in
       let e = line-back (asFloat binary64) (float binary64) (λ x. T (fits binary64 x)) (float-codec binary64) 100 101 118 v z
-          (fit-of binary64 (a .weight) (h .0), (fit-of binary64 (a .sum) (h .1 .0), (fit-of binary64 (a .squares) (h .1 .1 .0), tt))) in
+      (fit-of binary64 (a .weight) (h .0), (fit-of binary64 (a .sum) (h .1 .0), (fit-of binary64 (a .squares) (h .1 .1 .0), tt))) in
       (a, ap threed e);
 }
   where
@@ -173,7 +175,7 @@ module _ (s : Settings) where
         let b : c .internalTimestamp ≤ seenLimit = leb-true _ _ (h .1 .0) in
         let d : c .count ≤ countLimit = leb-true _ _ (h .1 .1 .0) in
         let e = line-back asWhole whole (λ n. n ≤ wholeMax) whole-codec 99 110 116 (c .valuesSeen ∷ c .internalTimestamp ∷ c .count ∷ []) z
-            (omega (arith, a), (omega (arith, b), (omega (arith, d), tt))) in
+        (omega (arith, a), (omega (arith, b), (omega (arith, d), tt))) in
         (c, ap (λ (o : Option (List ℕ × List ℕ)). checked (cntTest (s .method) (s .start)) (counted o)) e ∙ rw (to-cnt c h));
   }
 

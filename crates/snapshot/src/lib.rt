@@ -1,7 +1,8 @@
 // The snapshot (document 01: trace text): its fields, and what writes it. Its definitions are in specs/, and what holds of them in proofs/.
 pub mod field;
-pub mod save;
 mod judge;
+mod reader;
 mod restore;
+pub mod save;
 mod values;
 mod write;

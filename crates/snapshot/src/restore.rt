@@ -55,7 +55,11 @@ fn tim_line(text: &[u8], at: usize, internal: usize, out: &mut [u64]) -> Place
 fn is_waiting(method: TransformMethod, start: usize, seen: u64) -> bool
     ensures { λ r. ⌜ r ≡ normalizes method && ltb seen start ⌝ }
 {
-    if is_normalizing(method) { seen < start as u64 } else { false }
+    if is_normalizing(method) {
+        seen < start as u64
+    } else {
+        false
+    }
 }
 
 // Whether the counters are within their limits, and internal_timestamp 0 while waiting.
@@ -71,7 +75,11 @@ fn counts_fit(method: TransformMethod, start: usize, seen: u64, internal: u64, c
     if 2_147_483_646 < count {
         return false;
     }
-    if is_waiting(method, start, seen) { internal == 0 } else { true }
+    if is_waiting(method, start, seen) {
+        internal == 0
+    } else {
+        true
+    }
 }
 
 // The place behind the line of the counters, and what it says.
@@ -92,9 +100,19 @@ fn cnt_line(text: &[u8], at: usize, method: TransformMethod, start: usize) -> Co
     let internal = n[1];
     let count = n[2];
     if !counts_fit(method, start, seen, internal, count) {
-        return Counters { place: Place::Nowhere, seen: seen, internal: internal, count: count };
+        return Counters {
+            place: Place::Nowhere,
+            seen: seen,
+            internal: internal,
+            count: count,
+        };
     }
-    Counters { place: place, seen: seen, internal: internal, count: count }
+    Counters {
+        place: place,
+        seen: seen,
+        internal: internal,
+        count: count,
+    }
 }
 
 // The place behind a line of one initial value, and its time.
@@ -108,22 +126,40 @@ fn buf_line(text: &[u8], at: usize, past: u64, out: &mut [f32]) -> Timed
     ensures { λ r. ⌜ FilledWith (bufBy (length (now (out .entry))) past (drop at (now (text .entry)))) (now (text .entry)) (now (out .entry)) (r .place) (reading (now (out .exit)) (r .time)) ⌝ }
 {
     let Place::At(p) = name(text, at, 98, 117, 102) else {
-        return Timed { place: Place::Nowhere, time: 0 };
+        return Timed {
+            place: Place::Nowhere,
+            time: 0,
+        };
     };
     let next = next_field(text, p, 2);
     let f = next.field;
     let Field::Whole(time) = f else {
-        return Timed { place: Place::Nowhere, time: 0 };
+        return Timed {
+            place: Place::Nowhere,
+            time: 0,
+        };
     };
     let end = next.end;
     let Place::At(q) = singles(text, end, out) else {
-        return Timed { place: Place::Nowhere, time: time };
+        return Timed {
+            place: Place::Nowhere,
+            time: time,
+        };
     };
     if time < past {
-        return Timed { place: Place::Nowhere, time: time };
+        return Timed {
+            place: Place::Nowhere,
+            time: time,
+        };
     }
     if !all_finite(out) {
-        return Timed { place: Place::Nowhere, time: time };
+        return Timed {
+            place: Place::Nowhere,
+            time: time,
+        };
     }
-    Timed { place: byte(text, q, 10), time: time }
+    Timed {
+        place: byte(text, q, 10),
+        time: time,
+    }
 }
