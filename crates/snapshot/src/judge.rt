@@ -2,6 +2,8 @@
 // the whole reading."
 use crate::field::Field;
 use crate::field::parse;
+use crate::reader::new;
+use crate::reader::next;
 ghost use mathlib.Core.Path.{_≡_};
 ghost use Prim.Native.Nat.{_+_, _*_, _≤_, _<_};
 ghost use lib.ListN.{length, take, drop};
@@ -68,7 +70,7 @@ pub(crate) struct Next {
 }
 
 // The field behind the tab at a place, by the kind that its place calls for.
-pub(crate) fn next_field(text: &[u8], at: usize, kind: u64) -> Next
+pub(crate) fn field_at(text: &[u8], at: usize, kind: u64) -> Next
     ensures { λ r. ⌜ r ≡ nextOf kind at (now (text .entry)) ⌝ }
 {
     if at < text.len() {
@@ -86,6 +88,13 @@ pub(crate) fn next_field(text: &[u8], at: usize, kind: u64) -> Next
         field: Field::Bad,
         end: at,
     }
+}
+
+// The same by a field reader, which holds the text and the place: what reads a field calls this.
+pub(crate) fn next_field(text: &[u8], at: usize, kind: u64) -> Next
+    ensures { λ r. ⌜ r ≡ nextOf kind at (now (text .entry)) ⌝ }
+{
+    next(new(text, at), kind)
 }
 
 // As many f32 fields as `out` is long.

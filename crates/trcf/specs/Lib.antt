@@ -2,6 +2,7 @@ pub mod Lists
 pub mod Fit
 pub mod Types
 pub mod Transformer
+pub mod Timestamps
 pub mod TransformerCalls
 pub mod Forecast
 pub mod Settings

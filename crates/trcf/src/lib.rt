@@ -8,5 +8,6 @@ pub mod preprocessor;
 mod refusal;
 mod shingle;
 mod time;
+mod timestamps;
 pub mod transformer;
 pub mod types;

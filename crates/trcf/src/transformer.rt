@@ -81,7 +81,7 @@ fn put_statistic(s: &mut [f64], n: usize, t: Deviation)
 }
 
 // The five at the places b, b + w and so on; the last three have a tenth of the decay.
-fn deviations_at(s: &[f64], b: usize, w: usize, decay: f64, count: u64) -> Deviations
+pub(crate) fn deviations_at(s: &[f64], b: usize, w: usize, decay: f64, count: u64) -> Deviations
     requires { ⌜ 3 * (b + 4 * w) + 3 ≤ length (now s) ⌝ }
     ensures { λ r. ⌜ r ≡ deviationsAt (now (s .entry)) b w decay count ⌝ }
 {
@@ -100,7 +100,7 @@ fn deviations_at(s: &[f64], b: usize, w: usize, decay: f64, count: u64) -> Devia
     }
 }
 
-fn put_deviations(s: &mut [f64], b: usize, w: usize, t: Deviations)
+pub(crate) fn put_deviations(s: &mut [f64], b: usize, w: usize, t: Deviations)
     requires { ⌜ 3 * (b + 4 * w) + 3 ≤ length (now s) ⌝ }
     ensures { λ _. ⌜ now (s .exit) ≡ putDeviations (now (s .entry)) b w t ⌝ }
 {
@@ -130,7 +130,7 @@ fn step(t: Deviation, x: f64) -> Deviation
     }
 }
 
-fn feed(t: Deviations, x: f64, dx: f64) -> Deviations
+pub(crate) fn feed(t: Deviations, x: f64, dx: f64) -> Deviations
     requires { ⌜ (t .value .count < countLimit) × (t .difference .count < countLimit) × (t .deviation .count < countLimit)
         × (t .«difference_mean» .count < countLimit) × (t .«difference_deviation» .count < countLimit) ⌝ }
     ensures { λ r. ⌜ r ≡ fed t x dx ⌝ }
@@ -150,7 +150,7 @@ fn feed(t: Deviations, x: f64, dx: f64) -> Deviations
 }
 
 // Feeds the five statistics at the places b, b + w and so on.
-pub(crate) fn feed_at(s: &mut [f64], b: usize, w: usize, decay: f64, count: u64, x: f64, dx: f64)
+fn feed_at(s: &mut [f64], b: usize, w: usize, decay: f64, count: u64, x: f64, dx: f64)
     requires { ⌜ 3 * (b + 4 * w) + 3 ≤ length (now s) ⌝ }
     requires { ⌜ count < countLimit ⌝ }
     ensures { λ _. ⌜ now (s .exit) ≡ fedAt (now (s .entry)) b w decay count x dx ⌝ }
