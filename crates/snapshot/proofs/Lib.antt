@@ -25,3 +25,4 @@ pub mod JudgeKinds
 pub mod SettingsLaws
 pub mod JudgeSettings
 pub mod JudgeSteps
+pub mod PairLines

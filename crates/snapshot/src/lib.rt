@@ -1,6 +1,7 @@
 // The snapshot (document 01: trace text): its fields, and what writes it. Its definitions are in specs/, and what holds of them in proofs/.
 pub mod field;
 mod judge;
+pub mod line;
 mod reader;
 mod restore;
 pub mod save;

@@ -86,7 +86,7 @@ fn double_bits(x: f64) -> u64
 }
 
 // One byte.
-fn write_byte(out: &mut [u8], at: usize, b: u8) -> usize
+pub(crate) fn write_byte(out: &mut [u8], at: usize, b: u8) -> usize
     requires { ⌜ at + 1 ≤ length (now out) ⌝ }
     ensures { λ r. ⌜ Wrote at (b ∷ []) (now (out .entry)) r (now (out .exit)) ⌝ }
 {
@@ -95,7 +95,7 @@ fn write_byte(out: &mut [u8], at: usize, b: u8) -> usize
 }
 
 // A field behind its tab: a whole number, an f32, an f64.
-fn tab_whole(out: &mut [u8], at: usize, n: u64) -> usize
+pub(crate) fn tab_whole(out: &mut [u8], at: usize, n: u64) -> usize
     requires { ⌜ at + length (9 ∷ whole n) ≤ length (now out) ⌝ }
     ensures { λ r. ⌜ Wrote at (9 ∷ whole n) (now (out .entry)) r (now (out .exit)) ⌝ }
 {
@@ -130,7 +130,7 @@ fn write_name(out: &mut [u8], at: usize, a: u8, b: u8, c: u8) -> usize
 }
 
 // Fields of f32, each behind its tab.
-fn tab_singles(out: &mut [u8], at: usize, v: &[f32]) -> usize
+pub(crate) fn tab_singles(out: &mut [u8], at: usize, v: &[f32]) -> usize
     requires { ⌜ at + length (tabbed (map (float binary32) (now v))) ≤ length (now out) ⌝ }
     ensures { λ r. ⌜ Wrote at (tabbed (map (float binary32) (now (v .entry)))) (now (out .entry)) r (now (out .exit)) ⌝ }
 {

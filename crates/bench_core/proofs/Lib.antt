@@ -1,0 +1,5 @@
+pub mod LineLaws
+pub mod PrintLaws
+pub mod TurnLaws
+pub mod StepLaws
+pub mod CellLaws

@@ -1,0 +1,157 @@
+-- What each line leaves, from what its parts promise. Assumes nothing.
+use Prim.Native.Nat.{ℕ, zero, suc, _+_, _≤_, _<_}
+use native.Mathlib.Omega.{arith}
+use mathlib.Core.Path.{_≡_, refl, sym, ap, _∙_}
+use mathlib.Core.Bool.{Bool, true, false, cond}
+use mathlib.Core.List.{List, [], _∷_, map}
+use borrow.Author.Tests.{lt-ltb, le-ltb, eq-eqb, ne-eqb}
+use lib.ListN.{length, take, drop, getD}
+use lib.Ieee.{Float}
+use Rattle.trcf.specs.Preprocessor.{accepted}
+use Rattle.trcf.proofs.CallLaws.{accepted-not}
+use Rattle.trcf.specs.View.{Lent, Outcome, outcome, buildOf, settingsFrom}
+use Rattle.trcf.specs.declared.preprocessor.Preprocessor.{Preprocessor}
+use Rattle.trcf.specs.declared.preprocessor.PreprocessorBuilder.{PreprocessorBuilder}
+use Rattle.bench_core.specs.Line.{cellOf, requestOf, keptCount, keptOf}
+use Rattle.bench_core.specs.declared.line.Line.{Line}
+use Rattle.bench_core.specs.declared.line.Name.{Name}
+use Rattle.bench_core.specs.declared.line.Name.the-variants.{Set}
+use Rattle.bench_core.specs.declared.step.Phase.{Phase}
+use Rattle.bench_core.specs.declared.step.Phase.the-variants.{WantsWeights, Running}
+use Rattle.bench_core.specs.declared.step.Bench.{Bench}
+use Rattle.bench_core.specs.Bench.{Output, output, prints, noText, readyFor, goingOn, endOf, builderFrom, Told, told, Heard, heard, refusedBy, setHeard, limitRow, builtHeard, weightsTurn, weightsHeard, callTold, callHeard, lineBy, lineHeard, begun, Said, said, finishBy, finished, finishOf, cellLength, cellKept, stepped, withLine, cellStep, stepOf}
+
+pub kept-of : (l : Line) (n : ℕ) → n ≡ keptCount (l .count) → take n (l .singles) ≡ keptOf l
+unfolding keptOf
+kept-of l n e = ap (λ (m : ℕ). take m (l .singles)) e
+
+-- a line that ends the run
+pub refused-heard : (b : Bench) (out : List ℕ) (row : ℕ) (lists : Lent) (y : List Float) {b' : Bench} {o : Output}
+    → said b' o ≡ said (endOf b) (prints (noText row) out) → heard b' lists y o ≡ refusedBy row b lists y out
+refused-heard b out row lists y e = ap (λ (s : Said). heard (s .bench) lists y (s .out)) e
+
+module _ (b : Bench) (out : List ℕ) (l : Line) (lists : Lent) (y : List Float) {l' : Lent} {row : ℕ} {h' : Preprocessor} {v : List Float}
+    (k : v ≡ keptOf l) (e : outcome row h' l' ≡ buildOf (settingsFrom (b .builder) v) lists) where
+  built : outcome row h' l' ≡ buildOf (settingsFrom (b .builder) (keptOf l)) lists
+  built = e ∙ ap (λ (u : List Float). buildOf (settingsFrom (b .builder) u) lists) k
+
+  pub weights-refused : {b' : Bench} {o : Output} → (row ≡ 0 → ⊥) → said b' o ≡ said (endOf b) (prints (noText row) out)
+      → heard b' l' y o ≡ weightsTurn b l lists y out
+  unfolding weightsTurn
+  weights-refused n p =
+      refused-heard b out row l' y p ∙ sym (accepted-not row _ (refusedBy row b l' y out) n) ∙ ap (λ (q : Outcome). builtHeard b q y out) built
+
+  pub weights-over : {b' : Bench} {o : Output} (m : ℕ) → row ≡ 0 → m ≡ limitRow (b .builder) → (m ≡ 0 → ⊥)
+      → said b' o ≡ said (endOf b) (prints (noText m) out) → heard b' l' y o ≡ weightsTurn b l lists y out
+  unfolding weightsTurn
+  weights-over m z q n p =
+      refused-heard b out m l' y p
+      ∙ sym (accepted-not m (heard (readyFor Running (b .builder) h' (b .given)) l' y (output 0 out)) (refusedBy m b l' y out) n)
+      ∙ ap (λ (i : ℕ). accepted i (heard (readyFor Running (b .builder) h' (b .given)) l' y (output 0 out)) (refusedBy i b l' y out)) q
+      ∙ ap (λ (u : Outcome). builtHeard b u y out) ((λ j. outcome (sym z j) h' l') ∙ built)
+
+  pub weights-built : {b' : Bench} (m : ℕ) → row ≡ 0 → m ≡ limitRow (b .builder) → m ≡ 0
+      → b' ≡ readyFor Running (b .builder) h' (b .given) → heard b' l' y (output 0 out) ≡ weightsTurn b l lists y out
+  unfolding weightsTurn
+  weights-built m z q n p =
+      (λ j. heard (p j) l' y (output 0 out))
+      ∙ ap (λ (i : ℕ). accepted i (heard (readyFor Running (b .builder) h' (b .given)) l' y (output 0 out)) (refusedBy i b l' y out)) (sym n ∙ q)
+      ∙ ap (λ (u : Outcome). builtHeard b u y out) ((λ j. outcome (sym z j) h' l') ∙ built)
+
+-- ---- by the name of the line, and by what the bench waits for
+
+module _ (b : Bench) (l : Line) (lists : Lent) (y : List Float) (out : List ℕ) where
+  pub set-read : {b' : Bench} {q : PreprocessorBuilder} → b' ≡ readyFor WantsWeights q (b .head) (b .given) → q ≡ builderFrom l
+      → heard b' lists y (output 0 out) ≡ setHeard Set b l lists y out
+  set-read p q = (λ j. heard (p j) lists y (output 0 out)) ∙ (λ j. heard (readyFor WantsWeights (q j) (b .head) (b .given)) lists y (output 0 out))
+
+  module _ (n m : Name) (r : n ≡ requestOf l) (e : n ≡ m) where
+    pub set-by : setHeard m b l lists y out ≡ setHeard (requestOf l) b l lists y out
+    set-by = ap (λ (q : Name). setHeard q b l lists y out) (sym e ∙ r)
+
+    pub weights-by : weightsHeard m b l lists y out ≡ weightsHeard (requestOf l) b l lists y out
+    weights-by = ap (λ (q : Name). weightsHeard q b l lists y out) (sym e ∙ r)
+
+    pub call-by : callHeard m b l lists y out ≡ callHeard (requestOf l) b l lists y out
+    call-by = ap (λ (q : Name). callHeard q b l lists y out) (sym e ∙ r)
+
+  pub line-by : (p : Phase) → b .phase ≡ p → lineBy p b l lists y out ≡ lineHeard b l lists y out
+  unfolding lineHeard
+  line-by p e = ap (λ (q : Phase). lineBy q b l lists y out) (sym e)
+
+-- a line after which the bench goes on as it was
+pub going : (b : Bench) (lists : Lent) (y : List Float) {b' : Bench} {n m : ℕ} {out' : List ℕ} {q : Output}
+    → b' ≡ goingOn b → m ≡ n → output n out' ≡ q → heard b' lists y (output m out') ≡ heard (goingOn b) lists y q
+going b lists y {b'} {n} {m} {out'} p e o = (λ j. heard (p j) lists y (output (e j) out')) ∙ (λ j. heard (goingOn b) lists y (o j))
+
+-- a call that was answered
+pub call-told : (b : Bench) {b' : Bench} {h' : Preprocessor} {g' : Bool} {l' : Lent} {y' : List Float} {n m : ℕ} {out' : List ℕ} {t : Told}
+    → told h' g' l' y' (output n out') ≡ t → b' ≡ readyFor Running (b .builder) h' g' → m ≡ n → heard b' l' y' (output m out') ≡ callTold b t
+call-told b {b'} {h'} {g'} {l'} {y'} {n} {m} {out'} {t} e p q = (λ j. heard (p j) l' y' (output (q j) out')) ∙ ap (callTold b) e
+
+-- ---- the end of the input
+
+pub begun-more : (n : Name) (rest : List ℕ) → (length rest ≡ 0 → ⊥) → true ≡ begun n rest
+begun-more n [] h = absurd (h refl)
+begun-more n (x ∷ rest) h = refl
+
+pub begun-by : (name n : Name) (rest : List ℕ) → length rest ≡ 0 → name ≡ n → begun n [] ≡ begun name rest
+begun-by name n [] h e = ap (λ (m : Name). begun m []) (sym e)
+begun-by name n (x ∷ rest) h e = absurd (omega arith)
+
+module _ (b : Bench) (rest out : List ℕ) where
+  pub finish-by : (p : Phase) → b .phase ≡ p → finishBy p b rest out ≡ finishBy (b .phase) b rest out
+  finish-by p e = ap (λ (q : Phase). finishBy q b rest out) (sym e)
+
+  pub ends-begun : begun (b .line .name) rest ≡ true → said (endOf b) (prints (noText 19) out) ≡ finishBy Running b rest out
+  ends-begun e = ap (λ (t : Bool). cond t (said (endOf b) (prints (noText 19) out)) (said (endOf b) (output 0 out))) (sym e)
+
+  pub ends-well : {b' : Bench} {m : ℕ} → b' ≡ endOf b → m ≡ 0 → said b' (output m out) ≡ said (endOf b) (output 0 out)
+  ends-well p q = λ j. said (p j) (output (q j) out)
+
+  pub ends-there : begun (b .line .name) rest ≡ false → said (endOf b) (output 0 out) ≡ finishBy Running b rest out
+  ends-there e = ap (λ (t : Bool). cond t (said (endOf b) (prints (noText 19) out)) (said (endOf b) (output 0 out))) (sym e)
+
+  pub finish-short : length out < 65536 → finished 20 0 (said b (output 0 out)) ≡ finishOf b rest out
+  unfolding finishOf
+  finish-short h = rw (lt-ltb (length out) 65536 h)
+
+  pub finish-done : {s : Said} → 65536 ≤ length out → s ≡ finishBy (b .phase) b rest out → finished 0 0 s ≡ finishOf b rest out
+  unfolding finishOf
+  finish-done h e = rw (le-ltb (length out) 65536 h) (ap (finished 0 0) e)
+
+-- ---- a step
+
+module _ (b : Bench) (lists : Lent) (y : List Float) (text out : List ℕ) where
+  pub step-short : length out < 65536 → stepped 20 0 (heard b lists y (output 0 out)) ≡ stepOf b lists y text out
+  unfolding stepOf
+  step-short h = rw (lt-ltb (length out) 65536 h)
+
+  module _ (h : 65536 ≤ length out) (n : ℕ) (e : n ≡ cellLength text) where
+    pub step-none : n ≡ length text → stepped 0 0 (heard b lists y (output 0 out)) ≡ stepOf b lists y text out
+    unfolding stepOf
+    step-none z = rw (le-ltb (length out) 65536 h, eq-eqb (cellLength text) (length text) (sym e ∙ z))
+
+    module _ (z : n ≡ length text → ⊥) (k : ℕ) (q : k ≡ cellKept n) {l : Line} (m : l ≡ cellOf (b .line) (take k text)) where
+      stepping : cellStep b lists y text out n l ≡ stepOf b lists y text out
+      unfolding stepOf
+      stepping =
+          (λ j. cellStep b lists y text out n (m j))
+          ∙ ap (λ (i : ℕ). cellStep b lists y text out n (cellOf (b .line) (take i text))) q
+          ∙ ap (λ (i : ℕ). cellStep b lists y text out i (cellOf (b .line) (take (cellKept i) text))) e
+          ∙ sym (rw (le-ltb (length out) 65536 h, ne-eqb (cellLength text) (length text) (λ p. z (e ∙ p))))
+
+      pub step-tab : {b' : Bench} → getD text n 0 ≡ 9 → b' ≡ withLine b l → stepped 0 (n + 1) (heard b' lists y (output 0 out)) ≡ stepOf b lists y text out
+      step-tab g p =
+          (λ j. stepped 0 (n + 1) (heard (p j) lists y (output 0 out))) ∙ rw (eq-eqb (getD text n 0) 9 g) at stepping
+
+      pub step-line : {r : Heard} → (getD text n 0 ≡ 9 → ⊥) → r ≡ lineHeard b l lists y out → stepped 0 (n + 1) r ≡ stepOf b lists y text out
+      step-line g p = (λ j. stepped 0 (n + 1) (p j)) ∙ rw (ne-eqb (getD text n 0) 9 g) at stepping
+
+-- what owning a line tells of its f32 fields
+pub seventeen : (w : List Float) → length (map (λ v. v) w) ≡ 17 → length w ≡ 17
+seventeen w h = sym (same w) ∙ h
+  where
+    same : (l : List Float) → length (map (λ v. v) l) ≡ length l
+    same [] = refl
+    same (x ∷ xs) = ap suc (same xs)

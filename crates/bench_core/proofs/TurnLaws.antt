@@ -1,0 +1,73 @@
+-- What each call line leaves, from what the call promises. Assumes nothing.
+use Prim.Native.Nat.{ℕ, zero, suc}
+use mathlib.Core.Path.{_≡_, refl, sym, ap, _∙_}
+use mathlib.Core.Bool.{Bool, true, false}
+use mathlib.Core.List.{List, [], _∷_}
+use lib.IntN.{pos}
+use lib.ListN.{length, take, replicate}
+use lib.Ieee.{Float}
+use Rattle.trcf.specs.Transformer.{zero32}
+use Rattle.trcf.specs.Preprocessor.{accepted}
+use Rattle.trcf.proofs.CallLaws.{accepted-not}
+use Rattle.trcf.specs.View.{Lent, Outcome, outcome, drainOf, PointOutcome, pointed, pointAfter, LearnOutcome, learnOutcome, learnAfter, learnCall}
+use Rattle.trcf.specs.declared.preprocessor.Preprocessor.{Preprocessor}
+use Rattle.snapshot.specs.Save.{saveOf, Outcome as Saved, outcome as saved}
+use Rattle.bench_core.specs.Bench.{Output, output, prints, noText, okText, noneText, doneText, pointText, dimensionOf, Turn, turn, told, tells, pointTold, pointTurn, learnTurn, drainTurn, saveTold, savePrints}
+
+pub done-refused : (row : ℕ) (out : List ℕ) → (row ≡ 0 → ⊥) → prints (noText row) out ≡ prints (doneText row) out
+unfolding doneText
+done-refused row out n = ap (λ (t : List ℕ). prints t out) (sym (accepted-not row okText (noText row) n))
+
+pub done-ok : (row : ℕ) (out : List ℕ) → row ≡ 0 → prints okText out ≡ prints (doneText row) out
+unfolding doneText
+done-ok row out e = ap (λ (r : ℕ). prints (accepted r okText (noText r)) out) (sym e)
+
+module _ (h : Preprocessor) (g : Bool) (l : Lent) (out : List ℕ) {row : ℕ} {h' : Preprocessor} {l' : Lent} {o : Output} where
+  pub drain-turn : (y : List Float) → outcome row h' l' ≡ drainOf h l → o ≡ prints (doneText row) out → told h' g l' y o ≡ tells (drainTurn h g l y) out
+  unfolding drainTurn
+  drain-turn y e p = (λ j. told h' g l' y (p j)) ∙ ap (λ (q : Outcome). told (q .head) g (q .lent) y (prints (doneText (q .row)) out)) e
+
+  module _ (x : List Float) (t : ℕ) (y : List Float) {y' : List Float} {g' : Bool} where
+    pub point-refused : pointed row g' h' l' y' ≡ pointAfter h l x t y → (row ≡ 0 → ⊥) → o ≡ prints (noText row) out
+        → told h' g l' y' o ≡ tells (pointTurn h g l y x t) out
+    unfolding pointTurn
+    point-refused e n p =
+        let q = sym (accepted-not row _ (turn h' g l' y' (noText row)) n) ∙ ap (pointTold g) e in
+        (λ j. told h' g l' y' (p j)) ∙ ap (λ (v : Turn). tells v out) q
+
+    pub point-absent : pointed row g' h' l' y' ≡ pointAfter h l x t y → row ≡ 0 → g' ≡ false → o ≡ prints noneText out
+        → told h' g l' y' o ≡ tells (pointTurn h g l y x t) out
+    unfolding pointTurn
+    point-absent e z f p =
+        let q = ap (pointTold g) ((λ j. pointed (sym z j) (sym f j) h' l' y') ∙ e) in
+        (λ j. told h' g l' y' (p j)) ∙ ap (λ (v : Turn). tells v out) q
+
+    pub point-given : pointed row g' h' l' y' ≡ pointAfter h l x t y → row ≡ 0 → g' ≡ true → o ≡ prints (pointText (take (dimensionOf h') y')) out
+        → told h' true l' y' o ≡ tells (pointTurn h g l y x t) out
+    unfolding pointTurn
+    point-given e z f p =
+        let q = ap (pointTold g) ((λ j. pointed (sym z j) (sym f j) h' l' y') ∙ e) in
+        (λ j. told h' true l' y' (p j)) ∙ ap (λ (v : Turn). tells v out) q
+
+  module _ (x : List Float) (t : ℕ) (y : List Float) {v : List Float} {w a : Bool} {pt : ℕ} {lk : Float} {dv ps ex : List Float} where
+    pub learn-turn : v ≡ take (dimensionOf h) y
+        → learnOutcome row w a pt lk h' l' dv ps ex
+        ≡ learnAfter h l (learnCall x t g v false [] zero32 (pos 0) (replicate 17 zero32) (replicate 1 zero32) (replicate 1 zero32))
+        → o ≡ prints (doneText row) out
+        → told h' g l' y o ≡ tells (learnTurn h g l y x t) out
+    unfolding learnTurn
+    learn-turn s e p =
+        (λ j. told h' g l' y (p j))
+        ∙ ap (λ (q : LearnOutcome). told (q .head) g (q .lent) y (prints (doneText (q .row)) out))
+        (e ∙ ap (λ (u : List Float). learnAfter h l (learnCall x t g u false [] zero32 (pos 0) (replicate 17 zero32) (replicate 1 zero32) (replicate 1 zero32))) s)
+
+pub save-refused : (h : Preprocessor) (l : Lent) (out : List ℕ) {new : List ℕ} {row n : ℕ} {o : Output}
+    → saved row n new ≡ saveOf h l out → (row ≡ 0 → ⊥) → o ≡ prints (noText row) new → o ≡ savePrints h l out
+unfolding savePrints
+save-refused h l out {new} {row} {n} e z p =
+    p ∙ sym (accepted-not row (output n new) (prints (noText row) new) z) ∙ ap saveTold e
+
+pub save-done : (h : Preprocessor) (l : Lent) (out : List ℕ) {new : List ℕ} {row n : ℕ}
+    → saved row n new ≡ saveOf h l out → row ≡ 0 → output n new ≡ savePrints h l out
+unfolding savePrints
+save-done h l out {new} {row} {n} e z = ap saveTold ((λ j. saved (sym z j) n new) ∙ e)

@@ -1,0 +1,20 @@
+-- `bench_core::step::finish` meets its contract. Assumes nothing.
+use Rattle.bench_core.proofs.StepLaws.{finish-short, finish-done}
+use borrow.Author.Needs.{needs}
+use Rattle.bench_core.proofs.step.finish.Statement.{statement}
+use Rattle.bench_core.proofs.step.finish.Tie as tie
+
+returns : tie.Need-returns
+returns c = finish-short (c .before .before .before .args .b) (c .before .before .before .args .rest .now) (c .before .before .before .args .out .now) (c .if1 .taken)
+
+finished-by-requires : tie.Need-finished-by-requires
+finished-by-requires c κs = search needs
+
+same-length : tie.Need-same-length
+same-length c = search needs
+
+returns-2 : tie.Need-returns-2
+returns-2 c = finish-done (c .before .before .before .before .before .before .before .before .args .b) (c .before .before .before .before .before .before .before .before .args .rest .now) (c .before .before .before .before .before .before .before .before .args .out .now) (c .before .before .before .before .before .if1 .left) (c .before .before .before .finished-by .ensures)
+
+pub finish-spec : {M : Type 1} → statement M
+finish-spec = tie.close (tie.spec returns finished-by-requires same-length returns-2)

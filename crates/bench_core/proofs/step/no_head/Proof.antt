@@ -1,0 +1,12 @@
+-- `bench_core::step::no_head` meets its contract. Assumes nothing.
+use mathlib.Core.Path.{_≡_, refl, sym, ap, _∙_}
+use Rattle.common.specs.Lent.{over}
+use Rattle.bench_core.proofs.step.no_head.Statement.{statement}
+use Rattle.bench_core.proofs.step.no_head.Tie as tie
+
+returns : tie.Need-returns
+unfolding over
+returns c = refl
+
+pub no-head-spec : {M : Type 1} → statement M
+no-head-spec = tie.close (tie.spec returns)

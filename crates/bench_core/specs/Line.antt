@@ -1,0 +1,159 @@
+-- A line of the bench, cell by cell: document 01, 'The bench …', with fields as in 'Trace text'. "A `wgt`, `p` or `l` line may hold any number of
+-- f32 fields": those past the ones that are needed are checked, and neither kept nor counted.
+use Prim.Native.Nat.{ℕ, zero, suc, _+_}
+use mathlib.Core.Bool.{Bool, true, false, cond}
+use mathlib.Core.List.{List, [], _∷_}
+use mathlib.Core.Option.{Option, none, some}
+use lib.Dec.{leb, ltb, eqb}
+use lib.ListN.{set, take, replicate}
+use lib.Ieee.{Float, binary32, binary64}
+use Rattle.common.specs.Deviation.{zero64}
+use Rattle.trcf.specs.Transformer.{zero32}
+use Rattle.snapshot.specs.Read.{asWhole, asFloat}
+use Rattle.snapshot.specs.Scan.{numberOf, singleOf, doubleOf}
+use Rattle.snapshot.specs.declared.field.Number.{Number}
+use Rattle.snapshot.specs.declared.field.Number.the-variants.{Is, No}
+use Rattle.snapshot.specs.declared.field.Field.{Field}
+use Rattle.snapshot.specs.declared.field.Field.the-variants.{Single, Double, Whole, Bad}
+use Rattle.bench_core.specs.declared.line.Name.{Name}
+use Rattle.bench_core.specs.declared.line.Name.the-variants.{Unread, Set, Weights, Point, Learn, Drain, Save, Other}
+use Rattle.bench_core.specs.declared.line.Place.{Place}
+use Rattle.bench_core.specs.declared.line.Place.the-variants.{AsLetter, AsMethod, AsWhole, AsDouble, AsSingle, Nowhere}
+use Rattle.bench_core.specs.declared.line.Line.{Line}
+
+-- ---- names: `set`, `wgt`, `p`, `l`, `d`, `s`
+
+abbrev pub shortName : ℕ → Name
+shortName a = cond (eqb a 112) Point (cond (eqb a 108) Learn (cond (eqb a 100) Drain (cond (eqb a 115) Save Other)))
+
+abbrev pub longName : ℕ → ℕ → ℕ → Name
+longName a b c =
+    cond (eqb c 116) (cond (eqb a 115) (cond (eqb b 101) Set Other) (cond (eqb a 119) (cond (eqb b 103) Weights Other) Other)) Other
+
+abbrev pub nameOf : List ℕ → Name
+nameOf [] = Other
+nameOf (a ∷ []) = shortName a
+nameOf (a ∷ b ∷ []) = Other
+nameOf (a ∷ b ∷ c ∷ []) = longName a b c
+nameOf (a ∷ b ∷ c ∷ d ∷ r) = Other
+
+-- ---- places
+
+-- "`set` mode, method, d, k, start, stop, decay (f64), weight_time (f32)"
+abbrev pub setPlace : ℕ → Place
+setPlace i =
+    cond (eqb i 0) AsLetter (cond (eqb i 1) AsMethod (cond (ltb i 6) AsWhole (cond (eqb i 6) AsDouble (cond (eqb i 7) AsSingle Nowhere))))
+
+-- "`p` time values; `l` time values"
+abbrev pub callPlace : ℕ → Place
+callPlace i = cond (eqb i 0) AsWhole AsSingle
+
+abbrev pub placeOf : Name → ℕ → Place
+placeOf Unread i = Nowhere
+placeOf Set i = setPlace i
+placeOf Weights i = AsSingle
+placeOf Point i = callPlace i
+placeOf Learn i = callPlace i
+placeOf Drain i = Nowhere
+placeOf Save i = Nowhere
+placeOf Other i = Nowhere
+
+-- ---- fields
+
+-- "mode (S STANDARD, T TIME_AUGMENTED)"
+abbrev pub letterOf : List ℕ → Number
+letterOf [] = No
+letterOf (a ∷ []) = cond (eqb a 83) (Is 83) (cond (eqb a 84) (Is 84) No)
+letterOf (a ∷ b ∷ r) = No
+
+-- "method (0 NONE, … 5 NORMALIZE_DIFFERENCE)"
+abbrev pub methodOf : Number → Number
+methodOf No = No
+methodOf (Is n) = cond (leb n 5) (Is n) No
+
+-- ---- a line with a field more
+
+abbrev pub line : Name → ℕ → List ℕ → Float → ℕ → List Float → Line
+line name fields wholes double count singles =
+    record { name = name; fields = fields; wholes = wholes; double = double; count = count; singles = singles }
+
+unfoldable pub blankLine : Line
+blankLine = line Unread 0 (replicate 6 0) zero64 0 (replicate 17 zero32)
+
+abbrev pub namedLine : Line → Name → Line
+namedLine l n = line n (l .fields) (l .wholes) (l .double) (l .count) (l .singles)
+
+-- a line of another form stays one
+abbrev pub otherLine : Line → Line
+otherLine l = namedLine l Other
+
+-- fields are counted to 9, one more than any line asks for
+abbrev pub afterField : ℕ → ℕ
+afterField i = cond (ltb i 9) (i + 1) i
+
+abbrev pub withWhole : Line → Number → Line
+withWhole l No = otherLine l
+withWhole l (Is n) =
+    cond (leb 6 (l .fields)) (otherLine l)
+    (line (l .name) (l .fields + 1) (set (l .wholes) (l .fields) n) (l .double) (l .count) (l .singles))
+
+abbrev pub withDouble : Line → Field → Line
+withDouble l (Single x) = otherLine l
+withDouble l (Double x) = line (l .name) (afterField (l .fields)) (l .wholes) x (l .count) (l .singles)
+withDouble l (Whole n) = otherLine l
+withDouble l Bad = otherLine l
+
+-- 17 are kept: one more than any row asks for
+abbrev pub withSingle : Line → Field → Line
+withSingle l (Single x) =
+    cond (leb 17 (l .count)) (line (l .name) (afterField (l .fields)) (l .wholes) (l .double) (l .count) (l .singles))
+    (line (l .name) (afterField (l .fields)) (l .wholes) (l .double) (l .count + 1) (set (l .singles) (l .count) x))
+withSingle l (Double x) = otherLine l
+withSingle l (Whole n) = otherLine l
+withSingle l Bad = otherLine l
+
+abbrev pub fieldAt : Place → Line → List ℕ → Line
+fieldAt AsLetter l c = withWhole l (letterOf c)
+fieldAt AsMethod l c = withWhole l (methodOf (numberOf (asWhole c)))
+fieldAt AsWhole l c = withWhole l (numberOf (asWhole c))
+fieldAt AsDouble l c = withDouble l (doubleOf (asFloat binary64 c))
+fieldAt AsSingle l c = withSingle l (singleOf (asFloat binary32 c))
+fieldAt Nowhere l c = otherLine l
+
+unfoldable pub fieldOf : Line → List ℕ → Line
+fieldOf l c = fieldAt (placeOf (l .name) (l .fields)) l c
+
+abbrev pub cellBy : Name → Line → List ℕ → Line
+cellBy Unread l c = namedLine l (nameOf c)
+cellBy Set l c = fieldOf l c
+cellBy Weights l c = fieldOf l c
+cellBy Point l c = fieldOf l c
+cellBy Learn l c = fieldOf l c
+cellBy Drain l c = fieldOf l c
+cellBy Save l c = fieldOf l c
+cellBy Other l c = fieldOf l c
+
+-- the line with one cell more: its name, and then its fields
+unfoldable pub cellOf : Line → List ℕ → Line
+cellOf l c = cellBy (l .name) l c
+
+-- what a line that is ended asks for: `set` has 8 fields, `p` and `l` at least a time
+abbrev pub requestBy : Name → ℕ → Name
+requestBy Unread n = Other
+requestBy Set n = cond (eqb n 8) Set Other
+requestBy Weights n = Weights
+requestBy Point n = cond (eqb n 0) Other Point
+requestBy Learn n = cond (eqb n 0) Other Learn
+requestBy Drain n = Drain
+requestBy Save n = Save
+requestBy Other n = Other
+
+unfoldable pub requestOf : Line → Name
+requestOf l = requestBy (l .name) (l .fields)
+
+-- the f32 fields that are kept
+abbrev pub keptCount : ℕ → ℕ
+keptCount n = cond (ltb 17 n) 17 n
+
+unfoldable pub keptOf : Line → List Float
+keptOf l = take (keptCount (l .count)) (l .singles)

@@ -1,0 +1,663 @@
+// The bench, cell by cell: a step reads one cell of the input, and prints what the line asks for where the cell ends it.
+use crate::call::Answered;
+use crate::call::call_drain;
+use crate::call::call_learn;
+use crate::call::call_point;
+use crate::call::call_save;
+use crate::call::print_no;
+use crate::line::Line;
+use crate::line::Name;
+use crate::line::blank;
+use crate::line::cell;
+use crate::line::request;
+use trcf::preprocessor::Preprocessor;
+use trcf::preprocessor::PreprocessorBuilder;
+use trcf::preprocessor::build;
+use trcf::transformer::WeightedTransformer;
+use trcf::types::ForestMode;
+use trcf::types::TransformMethod;
+ghost use mathlib.Core.Path.{_≡_};
+ghost use mathlib.Core.List.{List};
+ghost use lib.Ieee.{Float};
+ghost use Prim.Native.Nat.{_≤_};
+ghost use lib.ListN.{length, take};
+ghost use Rattle.trcf.specs.View.{Lent, lent, noHead};
+ghost use Rattle.bench_core.specs.Line.{requestOf, keptCount};
+ghost use Rattle.bench_core.specs.Bench.{output, prints, noText, readyFor, goingOn, endOf, modeFrom, methodFrom, builderFrom, noBuilder, fresh, heard, setHeard, limitRow, weightsTurn, weightsHeard, callHeard, lineHeard, cellLength, cellKept, stepped, withLine, stepOf, begun, said, finishBy, finished, finishOf};
+
+// The bytes that the output of a step has to have.
+pub const ROOM: usize = 65536;
+
+// What the next line has to be: `set`, `wgt`, a call; or the run is over.
+pub enum Phase {
+    WantsSet,
+    WantsWeights,
+    Running,
+    Ended,
+}
+
+pub struct Bench {
+    pub phase: Phase,
+    // the line that is being read
+    pub line: Line,
+    // the settings, from `set` on
+    pub builder: PreprocessorBuilder,
+    // the preprocessor, from `wgt` on
+    pub head: Preprocessor,
+    // whether a `p` gave a point
+    pub given: bool,
+}
+
+// What a step leaves: the row, 20 where nothing was done; how many bytes are read and written; and the bench.
+pub struct StepResult {
+    pub row: u64,
+    pub next: usize,
+    pub length: usize,
+    pub bench: Bench,
+}
+
+// A bench that no line has reached.
+pub fn start() -> Bench
+    ensures { λ r. ⌜ r ≡ fresh ⌝ }
+{
+    Bench {
+        phase: Phase::WantsSet,
+        line: blank(),
+        builder: no_builder(),
+        head: no_head(),
+        given: false,
+    }
+}
+
+fn no_builder() -> PreprocessorBuilder
+    ensures { λ r. ⌜ r ≡ noBuilder ⌝ }
+{
+    PreprocessorBuilder {
+        forest_mode: ForestMode::STANDARD,
+        transform_method: TransformMethod::NONE,
+        input_dimensions: 0,
+        shingle_size: 0,
+        start_normalization: 0,
+        stop_normalization: 0,
+        transform_decay: 0.0,
+        weight_time: 0.0,
+    }
+}
+
+fn no_head() -> Preprocessor
+    ensures { λ r. ⌜ r ≡ noHead ⌝ }
+{
+    Preprocessor {
+        transformer: WeightedTransformer {
+            transform_method: TransformMethod::NONE,
+            input_length: 0,
+            transform_decay: 0.0,
+            weights: [0.0; 16],
+            count: 0,
+        },
+        forest_mode: ForestMode::STANDARD,
+        shingle_size: 0,
+        start_normalization: 0,
+        stop_normalization: 0,
+        weight_time: 0.0,
+        values_seen: 0,
+        internal_timestamp: 0,
+        initial_len: 0,
+    }
+}
+
+fn mode_from(letter: u64) -> ForestMode
+    ensures { λ r. ⌜ r ≡ modeFrom letter ⌝ }
+{
+    if letter == 84 {
+        return ForestMode::TIME_AUGMENTED;
+    }
+    ForestMode::STANDARD
+}
+
+fn method_from(n: u64) -> TransformMethod
+    ensures { λ r. ⌜ r ≡ methodFrom n ⌝ }
+{
+    if n == 0 {
+        return TransformMethod::NONE;
+    }
+    if n == 1 {
+        return TransformMethod::WEIGHTED;
+    }
+    if n == 2 {
+        return TransformMethod::DIFFERENCE;
+    }
+    if n == 3 {
+        return TransformMethod::SUBTRACT_MA;
+    }
+    if n == 4 {
+        return TransformMethod::NORMALIZE;
+    }
+    TransformMethod::NORMALIZE_DIFFERENCE
+}
+
+// The settings of a `set` line.
+fn builder_from(l: Line) -> PreprocessorBuilder
+    ensures { λ r. ⌜ r ≡ builderFrom l ⌝ }
+{
+    let wholes = l.wholes;
+    let singles = l.singles;
+    PreprocessorBuilder {
+        forest_mode: mode_from(wholes[0]),
+        transform_method: method_from(wholes[1]),
+        input_dimensions: wholes[2] as usize,
+        shingle_size: wholes[3] as usize,
+        start_normalization: wholes[4] as usize,
+        stop_normalization: wholes[5] as usize,
+        transform_decay: l.double,
+        weight_time: singles[0],
+    }
+}
+
+// A bench of a phase, ready for the next line.
+fn bench_of(phase: Phase, builder: PreprocessorBuilder, head: Preprocessor, given: bool) -> Bench
+    ensures { λ r. ⌜ r ≡ readyFor phase builder head given ⌝ }
+{
+    Bench {
+        phase: phase,
+        line: blank(),
+        builder: builder,
+        head: head,
+        given: given,
+    }
+}
+
+// What a line leaves and how many bytes it printed.
+struct Printed {
+    bench: Bench,
+    length: usize,
+}
+
+fn ended(b: Bench, row: u64, out: &mut [u8]) -> Printed
+    requires { ⌜ 65536 ≤ length (now out) ⌝ }
+    ensures { λ r. ⌜ said (r .bench) (output (r .length) (now (out .exit))) ≡ said (endOf b) (prints (noText row) (now (out .entry))) ⌝ }
+{
+    let builder = b.builder;
+    let head = b.head;
+    Printed {
+        bench: bench_of(Phase::Ended, builder, head, b.given),
+        length: print_no(out, row),
+    }
+}
+
+// The first line.
+fn read_set(b: Bench, l: Line, out: &mut [u8]) -> Printed
+    requires { ⌜ 65536 ≤ length (now out) ⌝ }
+    ensures { λ r. ⌜ ((lists : Lent) (y : List Float) → heard (r .bench) lists y (output (r .length) (now (out .exit))) ≡ setHeard (requestOf l) b l lists y (now (out .entry))) ⌝ }
+{
+    let name = request(l);
+    let head = b.head;
+    match name {
+        Name::Set => Printed {
+            bench: bench_of(Phase::WantsWeights, builder_from(l), head, b.given),
+            length: 0,
+        },
+        Name::Unread => ended(b, 19, out),
+        Name::Weights => ended(b, 19, out),
+        Name::Point => ended(b, 19, out),
+        Name::Learn => ended(b, 19, out),
+        Name::Drain => ended(b, 19, out),
+        Name::Save => ended(b, 19, out),
+        Name::Other => ended(b, 19, out),
+    }
+}
+
+// Row 20 past the limits of the bench.
+fn limit_row(b: PreprocessorBuilder) -> u64
+    ensures { λ r. ⌜ r ≡ limitRow b ⌝ }
+{
+    if 4 < b.input_dimensions {
+        return 20;
+    }
+    if 500 < b.start_normalization {
+        return 20;
+    }
+    0
+}
+
+// The second line, of the form: rows 1 to 9, and then the limits.
+fn read_weights(
+    b: Bench,
+    l: Line,
+    statistics: &mut [f64],
+    last_shingled_input: &mut [f32],
+    last_shingled_point: &mut [f32],
+    previous_timestamps: &mut [u64],
+    initial_values: &[f32],
+    initial_timestamps: &[u64],
+    out: &mut [u8],
+) -> Printed
+    requires { ⌜ 65536 ≤ length (now out) ⌝ }
+    ensures { λ r. ⌜ ((y : List Float) → heard (r .bench) (lent (now (statistics .exit)) (now («last_shingled_input» .exit)) (now («last_shingled_point» .exit)) (now («previous_timestamps» .exit)) (now («initial_values» .entry)) (now («initial_timestamps» .entry))) y (output (r .length) (now (out .exit))) ≡ weightsTurn b l (lent (now (statistics .entry)) (now («last_shingled_input» .entry)) (now («last_shingled_point» .entry)) (now («previous_timestamps» .entry)) (now («initial_values» .entry)) (now («initial_timestamps» .entry))) y (now (out .entry))) ⌝ }
+{
+    let builder = b.builder;
+    let n = kept(l);
+    let singles = l.singles;
+    let r = build(
+        builder,
+        &singles[..n],
+        statistics,
+        last_shingled_input,
+        last_shingled_point,
+        previous_timestamps,
+        initial_values,
+        initial_timestamps,
+    );
+    let row = r.row;
+    if row != 0 {
+        return ended(b, row, out);
+    }
+    let over = limit_row(builder);
+    if over != 0 {
+        return ended(b, over, out);
+    }
+    let head = r.head;
+    Printed {
+        bench: bench_of(Phase::Running, builder, head, b.given),
+        length: 0,
+    }
+}
+
+// How many f32 fields are kept.
+fn kept(l: Line) -> usize
+    ensures { λ r. ⌜ r ≡ keptCount (l .count) ⌝ }
+    ensures { λ r. ⌜ r ≤ 17 ⌝ }
+{
+    let n = l.count;
+    if 17 < n {
+        return 17;
+    }
+    n
+}
+
+fn answered(b: Bench, a: Answered) -> Printed
+    ensures { λ r. ⌜ r .bench ≡ readyFor Phase.Running (b .builder) (a .head) (a .given) ⌝ }
+    ensures { λ r. ⌜ r .length ≡ a .length ⌝ }
+{
+    let builder = b.builder;
+    let head = a.head;
+    Printed {
+        bench: bench_of(Phase::Running, builder, head, a.given),
+        length: a.length,
+    }
+}
+
+// A line that changes nothing.
+fn unchanged(b: Bench, n: usize) -> Printed
+    ensures { λ r. ⌜ r .bench ≡ goingOn b ⌝ }
+    ensures { λ r. ⌜ r .length ≡ n ⌝ }
+{
+    let builder = b.builder;
+    let head = b.head;
+    Printed {
+        bench: bench_of(Phase::Running, builder, head, b.given),
+        length: n,
+    }
+}
+
+// A call line.
+fn read_call(
+    b: Bench,
+    l: Line,
+    statistics: &mut [f64],
+    last_shingled_input: &mut [f32],
+    last_shingled_point: &mut [f32],
+    previous_timestamps: &mut [u64],
+    initial_values: &mut [f32],
+    initial_timestamps: &mut [u64],
+    point: &mut [f32],
+    out: &mut [u8],
+) -> Printed
+    requires { ⌜ 65536 ≤ length (now out) ⌝ }
+    ensures { λ r. ⌜ heard (r .bench) (lent (now (statistics .exit)) (now («last_shingled_input» .exit)) (now («last_shingled_point» .exit)) (now («previous_timestamps» .exit)) (now («initial_values» .exit)) (now («initial_timestamps» .exit))) (now (point .exit)) (output (r .length) (now (out .exit))) ≡ callHeard (requestOf l) b l (lent (now (statistics .entry)) (now («last_shingled_input» .entry)) (now («last_shingled_point» .entry)) (now («previous_timestamps» .entry)) (now («initial_values» .entry)) (now («initial_timestamps» .entry))) (now (point .entry)) (now (out .entry)) ⌝ }
+{
+    let head = b.head;
+    let given = b.given;
+    let n = kept(l);
+    let singles = l.singles;
+    let wholes = l.wholes;
+    let time = wholes[0];
+    let name = request(l);
+    match name {
+        Name::Point => {
+            let a = call_point(
+                head,
+                given,
+                statistics,
+                last_shingled_input,
+                last_shingled_point,
+                previous_timestamps,
+                initial_values,
+                initial_timestamps,
+                &singles[..n],
+                time,
+                point,
+                out,
+            );
+            answered(b, a)
+        }
+        Name::Learn => {
+            let a = call_learn(
+                head,
+                given,
+                statistics,
+                last_shingled_input,
+                last_shingled_point,
+                previous_timestamps,
+                initial_values,
+                initial_timestamps,
+                &singles[..n],
+                time,
+                point,
+                out,
+            );
+            answered(b, a)
+        }
+        Name::Drain => {
+            let a = call_drain(
+                head,
+                given,
+                statistics,
+                last_shingled_input,
+                last_shingled_point,
+                previous_timestamps,
+                initial_values,
+                initial_timestamps,
+                out,
+            );
+            answered(b, a)
+        }
+        Name::Save => {
+            let k = call_save(
+                head,
+                statistics,
+                last_shingled_input,
+                last_shingled_point,
+                previous_timestamps,
+                initial_values,
+                initial_timestamps,
+                out,
+            );
+            unchanged(b, k)
+        }
+        Name::Unread => unchanged(b, print_no(out, 19)),
+        Name::Set => unchanged(b, print_no(out, 19)),
+        Name::Weights => unchanged(b, print_no(out, 19)),
+        Name::Other => unchanged(b, print_no(out, 19)),
+    }
+}
+
+// The second line.
+fn read_second(
+    b: Bench,
+    l: Line,
+    statistics: &mut [f64],
+    last_shingled_input: &mut [f32],
+    last_shingled_point: &mut [f32],
+    previous_timestamps: &mut [u64],
+    initial_values: &[f32],
+    initial_timestamps: &[u64],
+    out: &mut [u8],
+) -> Printed
+    requires { ⌜ 65536 ≤ length (now out) ⌝ }
+    ensures { λ r. ⌜ ((y : List Float) → heard (r .bench) (lent (now (statistics .exit)) (now («last_shingled_input» .exit)) (now («last_shingled_point» .exit)) (now («previous_timestamps» .exit)) (now («initial_values» .entry)) (now («initial_timestamps» .entry))) y (output (r .length) (now (out .exit))) ≡ weightsHeard (requestOf l) b l (lent (now (statistics .entry)) (now («last_shingled_input» .entry)) (now («last_shingled_point» .entry)) (now («previous_timestamps» .entry)) (now («initial_values» .entry)) (now («initial_timestamps» .entry))) y (now (out .entry))) ⌝ }
+{
+    let name = request(l);
+    match name {
+        Name::Weights => read_weights(
+            b,
+            l,
+            statistics,
+            last_shingled_input,
+            last_shingled_point,
+            previous_timestamps,
+            initial_values,
+            initial_timestamps,
+            out,
+        ),
+        Name::Unread => ended(b, 19, out),
+        Name::Set => ended(b, 19, out),
+        Name::Point => ended(b, 19, out),
+        Name::Learn => ended(b, 19, out),
+        Name::Drain => ended(b, 19, out),
+        Name::Save => ended(b, 19, out),
+        Name::Other => ended(b, 19, out),
+    }
+}
+
+// A line that is ended, by the phase.
+fn read_line(
+    b: Bench,
+    l: Line,
+    statistics: &mut [f64],
+    last_shingled_input: &mut [f32],
+    last_shingled_point: &mut [f32],
+    previous_timestamps: &mut [u64],
+    initial_values: &mut [f32],
+    initial_timestamps: &mut [u64],
+    point: &mut [f32],
+    out: &mut [u8],
+) -> Printed
+    requires { ⌜ 65536 ≤ length (now out) ⌝ }
+    ensures { λ r. ⌜ heard (r .bench) (lent (now (statistics .exit)) (now («last_shingled_input» .exit)) (now («last_shingled_point» .exit)) (now («previous_timestamps» .exit)) (now («initial_values» .exit)) (now («initial_timestamps» .exit))) (now (point .exit)) (output (r .length) (now (out .exit))) ≡ lineHeard b l (lent (now (statistics .entry)) (now («last_shingled_input» .entry)) (now («last_shingled_point» .entry)) (now («previous_timestamps» .entry)) (now («initial_values» .entry)) (now («initial_timestamps» .entry))) (now (point .entry)) (now (out .entry)) ⌝ }
+{
+    let phase = b.phase;
+    match phase {
+        Phase::WantsSet => read_set(b, l, out),
+        Phase::WantsWeights => read_second(
+            b,
+            l,
+            statistics,
+            last_shingled_input,
+            last_shingled_point,
+            previous_timestamps,
+            initial_values,
+            initial_timestamps,
+            out,
+        ),
+        Phase::Running => read_call(
+            b,
+            l,
+            statistics,
+            last_shingled_input,
+            last_shingled_point,
+            previous_timestamps,
+            initial_values,
+            initial_timestamps,
+            point,
+            out,
+        ),
+        Phase::Ended => Printed {
+            bench: b,
+            length: 0,
+        },
+    }
+}
+
+// Where the first cell ends: at a tab or an LF, or with the text.
+fn cell_end(text: &[u8]) -> usize
+    ensures { λ r. ⌜ r ≡ cellLength (now (text .entry)) ⌝ }
+    ensures { λ r. ⌜ r ≤ length (now (text .entry)) ⌝ }
+    ensures { λ r. ⌜ length (now (text .entry)) ≤ 18446744073709551615 ⌝ }
+{
+    let mut i = 0;
+    while i < text.len() {
+        if text[i] == 9 {
+            return i;
+        }
+        if text[i] == 10 {
+            return i;
+        }
+        i += 1;
+    }
+    i
+}
+
+// A cell longer than 24 bytes is no name and no field, and neither is its start.
+fn cell_of(n: usize) -> usize
+    ensures { λ r. ⌜ r ≡ cellKept n ⌝ }
+    ensures { λ r. ⌜ r ≤ n ⌝ }
+{
+    if 24 < n {
+        return 24;
+    }
+    n
+}
+
+fn with_line(b: Bench, l: Line) -> Bench
+    ensures { λ r. ⌜ r ≡ withLine b l ⌝ }
+{
+    let phase = b.phase;
+    let builder = b.builder;
+    let head = b.head;
+    Bench {
+        phase: phase,
+        line: l,
+        builder: builder,
+        head: head,
+        given: b.given,
+    }
+}
+
+// Reads the first cell of the text, with the tab or LF that ends it, and at an LF does what the line asks for. Nothing is read of a text
+// in which no cell ends. Row 20, and nothing done, where out is shorter than ROOM.
+pub fn step(
+    b: Bench,
+    statistics: &mut [f64],
+    last_shingled_input: &mut [f32],
+    last_shingled_point: &mut [f32],
+    previous_timestamps: &mut [u64],
+    initial_values: &mut [f32],
+    initial_timestamps: &mut [u64],
+    point: &mut [f32],
+    text: &[u8],
+    out: &mut [u8],
+) -> StepResult
+    ensures { λ r. ⌜ stepped (r .row) (r .next) (heard (r .bench) (lent (now (statistics .exit)) (now («last_shingled_input» .exit)) (now («last_shingled_point» .exit)) (now («previous_timestamps» .exit)) (now («initial_values» .exit)) (now («initial_timestamps» .exit))) (now (point .exit)) (output (r .length) (now (out .exit)))) ≡ stepOf b (lent (now (statistics .entry)) (now («last_shingled_input» .entry)) (now («last_shingled_point» .entry)) (now («previous_timestamps» .entry)) (now («initial_values» .entry)) (now («initial_timestamps» .entry))) (now (point .entry)) (now (text .entry)) (now (out .entry)) ⌝ }
+{
+    if out.len() < ROOM {
+        return StepResult {
+            row: 20,
+            next: 0,
+            length: 0,
+            bench: b,
+        };
+    }
+    let n = cell_end(text);
+    if n == text.len() {
+        return StepResult {
+            row: 0,
+            next: 0,
+            length: 0,
+            bench: b,
+        };
+    }
+    let k = cell_of(n);
+    let before = b.line;
+    let l = cell(before, &text[..k]);
+    if text[n] == 9 {
+        return StepResult {
+            row: 0,
+            next: n + 1,
+            length: 0,
+            bench: with_line(b, l),
+        };
+    }
+    let p = read_line(
+        b,
+        l,
+        statistics,
+        last_shingled_input,
+        last_shingled_point,
+        previous_timestamps,
+        initial_values,
+        initial_timestamps,
+        point,
+        out,
+    );
+    let after = p.bench;
+    StepResult {
+        row: 0,
+        next: n + 1,
+        length: p.length,
+        bench: after,
+    }
+}
+
+// Whether bytes stand behind the last LF.
+fn is_begun(name: Name, rest: &[u8]) -> bool
+    ensures { λ r. ⌜ r ≡ begun name (now (rest .entry)) ⌝ }
+{
+    if rest.len() != 0 {
+        return true;
+    }
+    match name {
+        Name::Unread => false,
+        Name::Set => true,
+        Name::Weights => true,
+        Name::Point => true,
+        Name::Learn => true,
+        Name::Drain => true,
+        Name::Save => true,
+        Name::Other => true,
+    }
+}
+
+// The end of the input, behind the bytes of rest, in which no cell ends: a line without its LF, or a missing `set` or `wgt`, is of another form.
+pub fn finish(b: Bench, rest: &[u8], out: &mut [u8]) -> StepResult
+    ensures { λ r. ⌜ finished (r .row) (r .next) (said (r .bench) (output (r .length) (now (out .exit)))) ≡ finishOf b (now (rest .entry)) (now (out .entry)) ⌝ }
+{
+    if out.len() < ROOM {
+        return StepResult {
+            row: 20,
+            next: 0,
+            length: 0,
+            bench: b,
+        };
+    }
+    let p = finished_by(b, rest, out);
+    let after = p.bench;
+    StepResult {
+        row: 0,
+        next: 0,
+        length: p.length,
+        bench: after,
+    }
+}
+
+fn finished_by(b: Bench, rest: &[u8], out: &mut [u8]) -> Printed
+    requires { ⌜ 65536 ≤ length (now out) ⌝ }
+    ensures { λ r. ⌜ said (r .bench) (output (r .length) (now (out .exit))) ≡ finishBy (b .phase) b (now (rest .entry)) (now (out .entry)) ⌝ }
+{
+    let phase = b.phase;
+    let l = b.line;
+    let name = l.name;
+    match phase {
+        Phase::WantsSet => ended(b, 19, out),
+        Phase::WantsWeights => ended(b, 19, out),
+        Phase::Running => {
+            if is_begun(name, rest) {
+                return ended(b, 19, out);
+            }
+            ended_well(b)
+        }
+        Phase::Ended => ended_well(b),
+    }
+}
+
+fn ended_well(b: Bench) -> Printed
+    ensures { λ r. ⌜ r .bench ≡ endOf b ⌝ }
+    ensures { λ r. ⌜ r .length ≡ 0 ⌝ }
+{
+    let builder = b.builder;
+    let head = b.head;
+    Printed {
+        bench: bench_of(Phase::Ended, builder, head, b.given),
+        length: 0,
+    }
+}
