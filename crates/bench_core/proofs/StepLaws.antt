@@ -8,7 +8,7 @@ use borrow.Author.Tests.{lt-ltb, le-ltb, eq-eqb, ne-eqb}
 use lib.ListN.{length, take, drop, getD}
 use lib.Ieee.{Float}
 use Rattle.trcf.specs.Preprocessor.{accepted}
-use Rattle.trcf.proofs.CallLaws.{accepted-not}
+use Rattle.trcf.proofs.OutcomeLaws.{accepted-not}
 use Rattle.trcf.specs.View.{Lent, Outcome, outcome, buildOf, settingsFrom}
 use Rattle.trcf.specs.declared.preprocessor.Preprocessor.{Preprocessor}
 use Rattle.trcf.specs.declared.preprocessor.PreprocessorBuilder.{PreprocessorBuilder}

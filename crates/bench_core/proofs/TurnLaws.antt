@@ -8,7 +8,7 @@ use lib.ListN.{length, take, replicate}
 use lib.Ieee.{Float}
 use Rattle.trcf.specs.Transformer.{zero32}
 use Rattle.trcf.specs.Preprocessor.{accepted}
-use Rattle.trcf.proofs.CallLaws.{accepted-not}
+use Rattle.trcf.proofs.OutcomeLaws.{accepted-not}
 use Rattle.trcf.specs.View.{Lent, Outcome, outcome, drainOf, PointOutcome, pointed, pointAfter, LearnOutcome, learnOutcome, learnAfter, learnCall}
 use Rattle.trcf.specs.declared.preprocessor.Preprocessor.{Preprocessor}
 use Rattle.snapshot.specs.Save.{saveOf, Outcome as Saved, outcome as saved}
