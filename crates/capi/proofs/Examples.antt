@@ -1,0 +1,89 @@
+-- Heads in words, computed. Assumes nothing.
+use Prim.Native.Nat.{ℕ}
+use mathlib.Core.Bool.{true, false}
+use mathlib.Core.List.{List, [], _∷_}
+use mathlib.Core.Path.{_≡_, refl}
+use lib.ListN.{take, set}
+use lib.Ieee.{nan, binary32, binary64, ofBits, toBits, le, lt}
+use Rattle.common.specs.Deviation.{outsideUnit}
+use Rattle.trcf.specs.Transformer.{one32}
+use Rattle.trcf.specs.Settings.{settingsRow, allOne}
+use Rattle.trcf.specs.View.{headFrom}
+use Rattle.trcf.specs.declared.types.TransformMethod.the-variants.{NORMALIZE}
+use Rattle.trcf.specs.declared.types.ForestMode.the-variants.{«TIME_AUGMENTED»}
+use Rattle.trcf.specs.declared.preprocessor.Preprocessor.{Preprocessor}
+use Rattle.common.specs.Lent.{over}
+use Rattle.capi.specs.Head.{headOf, numbersOf, wordsOf, wordsRow, single}
+
+all : Unit {0}
+unfolding wordsOf numbersOf headOf wordsRow settingsRow allOne outsideUnit over toBits ofBits le
+all = tt
+
+abbrev sample : Preprocessor
+sample =
+    headFrom
+    (record {
+      mode = «TIME_AUGMENTED»;
+      method = NORMALIZE;
+      d = 2;
+      k = 4;
+      start = 10;
+      stop = 20;
+      decay = ofBits binary64 0x3fb9_9999_9999_999a;
+      weightTime = one32;
+      weights = one32 ∷ one32 ∷ [];
+    })
+
+abbrev words : List ℕ
+words =
+    1 ∷ 4 ∷ 2 ∷ 4 ∷ 10 ∷ 20 ∷ 0x3fb9_9999_9999_999a ∷ 0x3f80_0000 ∷ 0 ∷ 0 ∷ 0 ∷ 0 ∷ 0x3f80_0000 ∷ 0x3f80_0000 ∷ 0 ∷ 0 ∷ 0 ∷ 0 ∷ 0 ∷ 0 ∷ 0 ∷ 0 ∷ 0 ∷ 0 ∷ 0 ∷ 0 ∷ 0 ∷ 0 ∷ []
+
+example-words : wordsOf sample ≡ words
+unfolding all
+example-words = refl
+
+example-row : wordsRow words ≡ 0
+unfolding all
+example-row = refl
+
+-- one word too few; a mode and a method that there is not; STREAMING_IMPUTE; d 0, k 65; a decay of 1.0; start above stop
+example-few : wordsRow (take 27 words) ≡ 20
+unfolding all
+example-few = refl
+
+example-mode : wordsRow (set words 0 3) ≡ 19
+unfolding all
+example-mode = refl
+
+example-method : wordsRow (set words 1 6) ≡ 19
+unfolding all
+example-method = refl
+
+example-impute : wordsRow (set words 0 2) ≡ 1
+unfolding all
+example-impute = refl
+
+example-none : wordsRow (set words 2 0) ≡ 2
+unfolding all
+example-none = refl
+
+example-long : wordsRow (set words 3 65) ≡ 4
+unfolding all
+example-long = refl
+
+example-decay : wordsRow (set words 6 0x3ff0_0000_0000_0000) ≡ 6
+unfolding all
+example-decay = refl
+
+example-start : wordsRow (set words 4 21) ≡ 7
+unfolding all
+example-start = refl
+
+-- every pattern of a not-a-number, and bits above the 32
+example-nan : single 0xffff_ffff ≡ nan
+unfolding all
+example-nan = refl
+
+example-high : single 0x7_3f80_0000 ≡ one32
+unfolding all
+example-high = refl

@@ -1,0 +1,4 @@
+pub mod WordLaws
+pub mod HeadLaws
+pub mod CallLaws
+pub mod Examples

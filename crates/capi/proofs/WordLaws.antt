@@ -1,0 +1,74 @@
+-- Bits and kinds, and lists filled from the front. Assumes nothing.
+use Prim.Native.Nat.{ℕ, zero, suc, _+_, _%_, _≤_, _<_}
+use mathlib.Core.Bool.{Bool, true, false}
+use mathlib.Core.List.{List, [], _∷_, _++_, map}
+use mathlib.Core.Path.{_≡_, refl, sym, ap, _∙_, subst}
+use native.Mathlib.Omega.{arith}
+use native.Mathlib.Numerals.{add-one}
+use native.Mathlib.Nat.{mod-eq-of-lt}
+use lib.Dec.{T}
+use lib.ListN.{length, take, drop, getD, set}
+use lib.Seq.{take-suc, take-suc-set, take-all}
+use lib.Ieee.{Float, nan, inf, fin, Format, binary32, binary64, fits, div, isNan, nanBits, ofBits, toBits}
+use lib.Ieee.Bits.{nanBits-is, ofBits-toBits, toBits-lt}
+use Rattle.trcf.specs.Fit.{Fits}
+use Rattle.trcf.specs.Types.{methodNumber}
+use Rattle.trcf.specs.declared.types.TransformMethod.{TransformMethod}
+use Rattle.trcf.specs.declared.types.TransformMethod.the-variants.{NONE, WEIGHTED, DIFFERENCE, «SUBTRACT_MA», NORMALIZE, «NORMALIZE_DIFFERENCE»}
+use Rattle.trcf.specs.declared.types.ForestMode.{ForestMode}
+use Rattle.trcf.specs.declared.types.ForestMode.the-variants.{STANDARD, «TIME_AUGMENTED», «STREAMING_IMPUTE»}
+use Rattle.snapshot.proofs.HexLaws.{zero-by-zero}
+use Rattle.capi.specs.Head.{modeNumber, modeOf, methodOf, single}
+
+-- ---- every pattern of a not-a-number is read as the one
+
+the-nan : (x : Float) → isNan x ≡ true → x ≡ nan
+unfolding isNan
+the-nan nan h = refl
+the-nan (inf s) h = absurd (subst T (sym h) tt)
+the-nan (fin s m e) h = absurd (subst T (sym h) tt)
+
+pub read-nan : (f : Format) (n : ℕ) → nanBits f n ≡ true → div f (ofBits f 0) (ofBits f 0) ≡ ofBits f n
+read-nan f n h = zero-by-zero f ∙ sym (the-nan (ofBits f n) (sym (nanBits-is f n) ∙ h))
+
+-- ---- what is written is read back
+
+pub mode-back : (m : ForestMode) → modeOf (modeNumber m) ≡ m
+mode-back STANDARD = refl
+mode-back «TIME_AUGMENTED» = refl
+mode-back «STREAMING_IMPUTE» = refl
+
+pub method-back : (m : TransformMethod) → methodOf (methodNumber m) ≡ m
+method-back NONE = refl
+method-back WEIGHTED = refl
+method-back DIFFERENCE = refl
+method-back «SUBTRACT_MA» = refl
+method-back NORMALIZE = refl
+method-back «NORMALIZE_DIFFERENCE» = refl
+
+pub single-back : (x : Float) → T (fits binary32 x) → single (toBits binary32 x) ≡ x
+single-back x h = ap (ofBits binary32) (mod-eq-of-lt (toBits-lt binary32 x h)) ∙ ofBits-toBits binary32 x h
+
+pub singles-back : (l : List Float) → Fits binary32 l → map single (map (toBits binary32) l) ≡ l
+singles-back [] h = refl
+singles-back (x ∷ l) h = λ j. single-back x (h .0) j ∷ singles-back l (h .1) j
+
+-- ---- a list filled from the front by a function of another's elements
+
+module _ {A B : Type 0} (f : B → A) where
+  map-one : (i : ℕ) (l : List B) (d : B) → i < length l → map f (take (suc i) l) ≡ map f (take i l) ++ (f (getD l i d) ∷ [])
+  map-one zero (x ∷ l) d h = refl
+  map-one (suc i) (x ∷ l) d h = ap (λ (r : List A). f x ∷ r) (map-one i l d (omega arith))
+  map-one i [] d h = absurd (omega arith)
+
+  pub filled-more : (i : ℕ) (a : List A) (l : List B) (v : A) (d : B)
+      → take i a ≡ map f (take i l) → i < length a → i < length l → v ≡ f (getD l i d) → take (i + 1) (set a i v) ≡ map f (take (i + 1) l)
+  filled-more i a l v d e h k p =
+      ap (λ (n : ℕ). take n (set a i v)) (add-one i)
+      ∙ take-suc-set a i v h
+      ∙ (λ j. e j ++ (p j ∷ []))
+      ∙ sym (map-one i l d k)
+      ∙ ap (λ (n : ℕ). map f (take n l)) (sym (add-one i))
+
+  pub filled-whole : (i : ℕ) (a : List A) (l : List B) → take i a ≡ map f (take i l) → length a ≡ i → length l ≡ i → a ≡ map f l
+  filled-whole i a l e h k = sym (take-all i a (omega arith)) ∙ e ∙ ap (map f) (take-all i l (omega arith))

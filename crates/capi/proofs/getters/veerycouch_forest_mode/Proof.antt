@@ -1,0 +1,31 @@
+-- `capi::getters::veerycouch_forest_mode` meets its contract: by the promises of the words and of the call. Assumes nothing.
+use mathlib.Core.Path.{_≡_, refl, sym, ap, _∙_}
+use Rattle.trcf.specs.declared.preprocessor.Preprocessor.{Preprocessor}
+use Rattle.capi.specs.Head.{modeNumber}
+use Rattle.capi.proofs.CallLaws.{get-refused, get-done}
+use borrow.Author.Needs.{needs}
+use Rattle.capi.proofs.getters.veerycouch_forest_mode.Statement.{statement}
+use Rattle.capi.proofs.getters.veerycouch_forest_mode.Tie as tie
+
+read-head-requires : tie.Need-read-head-requires
+read-head-requires c κs = search needs
+
+returns : tie.Need-returns
+returns c =
+    let a = c .before .before .before .args in
+    get-refused (a .head .now) (c .before .read-head .ensures .0) (a .answer .now) (λ (h : Preprocessor). modeNumber (h .«forest_mode»)) (c .if1 .taken)
+
+forest-mode-requires : tie.Need-forest-mode-requires
+forest-mode-requires c κs = search needs
+
+mode-number-requires : tie.Need-mode-number-requires
+mode-number-requires c κs = search needs
+
+returns-2 : tie.Need-returns-2
+returns-2 c =
+    let a = c .before .before .before .before .before .before .args in
+    let h = c .before .before .before .before .read-head in
+    get-done (a .head .now) (h .ensures .0) (c .before .before .before .if1 .left) (h .ensures .1) (a .answer .now) (λ (h : Preprocessor). modeNumber (h .«forest_mode»)) (c .mode-number .ensures ∙ ap modeNumber (c .before .forest-mode .ensures))
+
+pub veerycouch-forest-mode-spec : {M : Type 1} → statement M
+veerycouch-forest-mode-spec = tie.close (tie.spec read-head-requires returns forest-mode-requires mode-number-requires returns-2)

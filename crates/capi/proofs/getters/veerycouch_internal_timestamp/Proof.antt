@@ -1,0 +1,26 @@
+-- `capi::getters::veerycouch_internal_timestamp` meets its contract: by the promises of the words and of the call. Assumes nothing.
+use Rattle.trcf.specs.declared.preprocessor.Preprocessor.{Preprocessor}
+use Rattle.capi.proofs.CallLaws.{get-refused, get-done}
+use borrow.Author.Needs.{needs}
+use Rattle.capi.proofs.getters.veerycouch_internal_timestamp.Statement.{statement}
+use Rattle.capi.proofs.getters.veerycouch_internal_timestamp.Tie as tie
+
+read-head-requires : tie.Need-read-head-requires
+read-head-requires c κs = search needs
+
+returns : tie.Need-returns
+returns c =
+    let a = c .before .before .before .args in
+    get-refused (a .head .now) (c .before .read-head .ensures .0) (a .answer .now) (λ (h : Preprocessor). h .«internal_timestamp») (c .if1 .taken)
+
+internal-timestamp-requires : tie.Need-internal-timestamp-requires
+internal-timestamp-requires c κs = search needs
+
+returns-2 : tie.Need-returns-2
+returns-2 c =
+    let a = c .before .before .before .before .before .args in
+    let h = c .before .before .before .read-head in
+    get-done (a .head .now) (h .ensures .0) (c .before .before .if1 .left) (h .ensures .1) (a .answer .now) (λ (h : Preprocessor). h .«internal_timestamp») (c .internal-timestamp .ensures)
+
+pub veerycouch-internal-timestamp-spec : {M : Type 1} → statement M
+veerycouch-internal-timestamp-spec = tie.close (tie.spec read-head-requires returns internal-timestamp-requires returns-2)

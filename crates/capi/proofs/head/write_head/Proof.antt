@@ -1,0 +1,58 @@
+-- `capi::head::write_head` meets its contract: the numbers, and the weights behind them. Assumes nothing.
+use mathlib.Core.Path.{_≡_, refl, sym, ap, _∙_}
+use native.Mathlib.Omega.{arith}
+use Prim.Native.Nat.{_≤_}
+use lib.ListN.{length, drop, length-drop, length-map}
+use lib.Seq.{length-take-le}
+use lib.Ieee.{binary32, toBits}
+use borrow.Rule.Slice.PartMut.{same-len-mid}
+use Rattle.snapshot.proofs.SaveLaws.{sixteen}
+use Rattle.capi.proofs.HeadLaws.{numbers-length, weights-stored}
+use Rattle.capi.proofs.CallLaws.{kept, given}
+use borrow.Author.Needs.{needs}
+use Rattle.capi.proofs.head.write_head.Statement.{statement}
+use Rattle.capi.proofs.head.write_head.Tie as tie
+
+returns : tie.Need-returns
+returns c =
+    let a = c .before .before .args in
+    kept (a .row) _ (a .words .now) (c .if1 .taken)
+
+write-numbers-requires : tie.Need-write-numbers-requires
+write-numbers-requires c κs = search needs
+
+sub-write-weights : tie.Need-sub-write-weights
+sub-write-weights c = search needs
+
+part-write-weights-start : tie.Need-part-write-weights-start
+part-write-weights-start c = search needs
+
+part-write-weights-end : tie.Need-part-write-weights-end
+part-write-weights-end c =
+    let a = c .before .before .before .before .before .before .before .before .args in
+    omega (arith, numbers-length (a .words .now) _ (a .head) (c .before .before .write-numbers .ensures) (c .before .before .before .before .before .before .before .before .pre), c .before .before .before .before .before .before .before .before .pre)
+
+slice-aggregate-write-weights : tie.Need-slice-aggregate-write-weights
+slice-aggregate-write-weights c = let w = c .before .before .before .before .before .before .before .before .before .before .args .head .transformer .weights in let z : length w ≡ 16 = sixteen w (c .before .before .before .before .before .before .before .before .before .before .good .1 .1 .0 .1 .1 .0 .1 .1 .1 .1 .1 .0 .1 .0 .1) in sym z
+
+write-weights-requires : tie.Need-write-weights-requires
+write-weights-requires c κs =
+    let a = c .before .before .before .before .before .before .before .before .before .before .args in
+    let n = c .before .before .before .before .write-numbers in
+    let w = a .head .transformer .weights in let z : length w ≡ 16 = sixteen w (c .before .before .before .before .before .before .before .before .before .before .good .1 .1 .0 .1 .1 .0 .1 .1 .1 .1 .1 .0 .1 .0 .1) in (length-take-le 16 (drop 12 (n .last .0)) (omega (arith, length-drop 12 (n .last .0), numbers-length (a .words .now) _ (a .head) (n .ensures) (c .before .before .before .before .before .before .before .before .before .before .pre), c .before .before .before .before .before .before .before .before .before .before .pre)), z)
+
+same-length : tie.Need-same-length
+same-length c =
+    let a = c .before .before .before .before .before .before .before .before .before .before .before .before .before .args in
+    let n = c .before .before .before .before .before .before .before .write-numbers in
+    let v = c .before .before .write-weights in
+    let w = a .head .transformer .weights in let z : length w ≡ 16 = sixteen w (c .before .before .before .before .before .before .before .before .before .before .before .before .before .good .1 .1 .0 .1 .1 .0 .1 .1 .1 .1 .1 .0 .1 .0 .1) in let xs = n .last .0 in same-len-mid 12 16 xs (v .last .0) (ap length (v .ensures) ∙ length-map w (toBits binary32) ∙ z ∙ sym (length-take-le 16 (drop 12 xs) (omega (arith, length-drop 12 xs, numbers-length (a .words .now) _ (a .head) (n .ensures) (c .before .before .before .before .before .before .before .before .before .before .before .before .before .pre), c .before .before .before .before .before .before .before .before .before .before .before .before .before .pre)))) ∙ numbers-length (a .words .now) _ (a .head) (n .ensures) (c .before .before .before .before .before .before .before .before .before .before .before .before .before .pre)
+
+returns-2 : tie.Need-returns-2
+returns-2 c =
+    let a = c .before .before .before .before .before .before .before .before .before .before .before .before .before .args in
+    let v = c .before .before .write-weights in
+    let w = a .head .transformer .weights in let z : length w ≡ 16 = sixteen w (c .before .before .before .before .before .before .before .before .before .before .before .before .before .good .1 .1 .0 .1 .1 .0 .1 .1 .1 .1 .1 .0 .1 .0 .1) in weights-stored (a .words .now) _ (a .head) _ (c .before .before .before .before .before .before .before .write-numbers .ensures) (v .ensures) (ap length (v .ensures) ∙ length-map w (toBits binary32) ∙ z) ∙ given (a .row) _ (a .words .now) (c .before .before .before .before .before .before .before .before .before .before .before .if1 .left)
+
+pub write-head-spec : {M : Type 1} → statement M
+write-head-spec = tie.close (tie.spec returns write-numbers-requires sub-write-weights part-write-weights-start part-write-weights-end slice-aggregate-write-weights write-weights-requires same-length returns-2)

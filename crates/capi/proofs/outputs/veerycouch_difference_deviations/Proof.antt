@@ -1,0 +1,30 @@
+-- `capi::outputs::veerycouch_difference_deviations` meets its contract: by the promises of the words and of the call. Assumes nothing.
+use Rattle.trcf.specs.View.{lent}
+use Rattle.trcf.specs.Calls.{status}
+use Rattle.capi.proofs.CallLaws.{write-refused, write-done}
+use borrow.Author.Needs.{needs}
+use Rattle.capi.proofs.outputs.veerycouch_difference_deviations.Statement.{statement}
+use Rattle.capi.proofs.outputs.veerycouch_difference_deviations.Tie as tie
+
+read-head-requires : tie.Need-read-head-requires
+read-head-requires c κs = search needs
+
+returns : tie.Need-returns
+returns c =
+    let a = c .before .before .before .before .before .before .before .before .before .before .args in
+    write-refused (a .head .now) (c .before .read-head .ensures .0) (lent (a .statistics .now) (a .last-shingled-input .now) (a .last-shingled-point .now) (a .previous-timestamps .now) (a .initial-values .now) (a .initial-timestamps .now)) (status (a .output .now)) (a .output .now) (c .if1 .taken)
+
+difference-deviations-requires : tie.Need-difference-deviations-requires
+difference-deviations-requires c κs = search needs
+
+same-length : tie.Need-same-length
+same-length c = search needs
+
+returns-2 : tie.Need-returns-2
+returns-2 c =
+    let a = c .before .before .before .before .before .before .before .before .before .before .before .before .before .before .before .args in
+    let h = c .before .before .before .before .before .before .read-head in
+    write-done (a .head .now) (h .ensures .0) (c .before .before .before .before .before .if1 .left) (h .ensures .1) (lent (a .statistics .now) (a .last-shingled-input .now) (a .last-shingled-point .now) (a .previous-timestamps .now) (a .initial-values .now) (a .initial-timestamps .now)) (status (a .output .now)) (a .output .now) (c .before .before .difference-deviations .ensures)
+
+pub veerycouch-difference-deviations-spec : {M : Type 1} → statement M
+veerycouch-difference-deviations-spec = tie.close (tie.spec read-head-requires returns difference-deviations-requires same-length returns-2)

@@ -1,0 +1,252 @@
+// The head in lent words: read, tested, and written.
+use crate::words::double_bits;
+use crate::words::double_of;
+use crate::words::kind_row;
+use crate::words::method_number;
+use crate::words::method_of;
+use crate::words::mode_number;
+use crate::words::mode_of;
+use crate::words::single_bits;
+use crate::words::single_of;
+use trcf::preprocessor::Preprocessor;
+use trcf::preprocessor::PreprocessorBuilder;
+use trcf::preprocessor::build;
+use trcf::transformer::WeightedTransformer;
+use trcf::types::ForestMode;
+use trcf::types::TransformMethod;
+ghost use mathlib.Core.Path.{_≡_};
+ghost use mathlib.Core.List.{map};
+ghost use mathlib.Core.List.{List};
+ghost use Prim.Native.Nat.{_≤_};
+ghost use lib.ListN.{length, take};
+ghost use lib.Ieee.{Float, binary32, toBits};
+ghost use Rattle.common.specs.Lent.{over};
+ghost use Rattle.trcf.specs.Settings.{settingsRow};
+ghost use Rattle.trcf.specs.Preprocessor.{accepted};
+ghost use Rattle.trcf.specs.View.{settingsFrom, settingsOf};
+ghost use Rattle.capi.specs.Head.{single, headOf, numbersOf, wordsOf, countsOver, wordsRow, Read};
+
+fn weights_of(words: &[u64]) -> [f32; 16]
+    requires { ⌜ length (now words) ≡ 16 ⌝ }
+    ensures { λ r. ⌜ r ≡ map single (now (words .entry)) ⌝ }
+{
+    let mut a = [0.0f32; 16];
+    let mut i = 0;
+    while i < 16 {
+        a[i] = single_of(words[i]);
+        i += 1;
+    }
+    a
+}
+
+fn head_of(words: &[u64]) -> Preprocessor
+    requires { ⌜ 28 ≤ length (now words) ⌝ }
+    ensures { λ r. ⌜ r ≡ headOf (now (words .entry)) ⌝ }
+{
+    let mode = mode_of(words[0]);
+    let method = method_of(words[1]);
+    let d = words[2] as usize;
+    let k = words[3] as usize;
+    let start = words[4] as usize;
+    let stop = words[5] as usize;
+    let decay = double_of(words[6]);
+    let weight_time = single_of(words[7]);
+    let weights = weights_of(&words[12..28]);
+    let t = WeightedTransformer {
+        transform_method: method,
+        input_length: d,
+        transform_decay: decay,
+        weights: weights,
+        count: words[10],
+    };
+    Preprocessor {
+        transformer: t,
+        forest_mode: mode,
+        shingle_size: k,
+        start_normalization: start,
+        stop_normalization: stop,
+        weight_time: weight_time,
+        values_seen: words[8] as usize,
+        internal_timestamp: words[9] as usize,
+        initial_len: words[11] as usize,
+    }
+}
+
+// ---- the row of words
+
+// The row that `build` gives for settings. It is asked with too little memory, so that row 20 is what it gives for settings that no row refuses.
+pub(crate) fn settings_row(builder: PreprocessorBuilder, weights: &[f32]) -> u64
+    ensures { λ r. ⌜ r ≡ settingsRow (settingsFrom builder (now (weights .entry))) ⌝ }
+{
+    let mut statistics = [0.0f64; 1];
+    let mut input = [0.0f32; 1];
+    let mut point = [0.0f32; 1];
+    let mut times = [0u64; 1];
+    let values = [0.0f32; 1];
+    let initial = [0u64; 1];
+    let r = build(
+        builder,
+        weights,
+        &mut statistics,
+        &mut input,
+        &mut point,
+        &mut times,
+        &values,
+        &initial,
+    );
+    let row = r.row;
+    if row == 20 {
+        return 0;
+    }
+    row
+}
+
+// How many of 16 weights are in use.
+fn used(d: usize) -> usize
+    ensures { λ r. ⌜ r ≤ 16 ⌝ }
+    ensures { λ r. ⌜ ((w : List Float) → length w ≡ 16 → take r w ≡ take d w) ⌝ }
+{
+    if d <= 16 {
+        return d;
+    }
+    16
+}
+
+fn head_row(head: Preprocessor) -> u64
+    ensures { λ r. ⌜ r ≡ settingsRow (settingsOf head) ⌝ }
+{
+    let t = head.transformer;
+    let mode = head.forest_mode;
+    let method = t.transform_method;
+    let weights = t.weights;
+    let d = t.input_length;
+    let n = used(d);
+    let builder = PreprocessorBuilder {
+        forest_mode: mode,
+        transform_method: method,
+        input_dimensions: d,
+        shingle_size: head.shingle_size,
+        start_normalization: head.start_normalization,
+        stop_normalization: head.stop_normalization,
+        transform_decay: t.transform_decay,
+        weight_time: head.weight_time,
+    };
+    settings_row(builder, &weights[..n])
+}
+
+// What stands for a head where there are too few words for one.
+fn no_head() -> Preprocessor {
+    Preprocessor {
+        transformer: WeightedTransformer {
+            transform_method: TransformMethod::NONE,
+            input_length: 0,
+            transform_decay: 0.0,
+            weights: [0.0; 16],
+            count: 0,
+        },
+        forest_mode: ForestMode::STANDARD,
+        shingle_size: 0,
+        start_normalization: 0,
+        stop_normalization: 0,
+        weight_time: 0.0,
+        values_seen: 0,
+        internal_timestamp: 0,
+        initial_len: 0,
+    }
+}
+
+// The row of the words, 0 for none, and the head that they hold.
+pub(crate) struct Reading {
+    pub row: u64,
+    pub head: Preprocessor,
+}
+
+pub(crate) fn read_head(words: &[u64]) -> Reading
+    ensures { λ r. ⌜ r .row ≡ wordsRow (now (words .entry)) ⌝ }
+    ensures { λ r. ⌜ (r .row ≡ 0 → Read (now (words .entry)) (r .head)) ⌝ }
+{
+    if words.len() < 28 {
+        return Reading {
+            row: 20,
+            head: no_head(),
+        };
+    }
+    let head = head_of(words);
+    let kind = kind_row(words[0], words[1]);
+    if kind != 0 {
+        return Reading {
+            row: kind,
+            head: head,
+        };
+    }
+    let row = head_row(head);
+    Reading {
+        row: row,
+        head: head,
+    }
+}
+
+// ---- a head written
+
+// The counters of a head, where its call was not refused.
+pub(crate) fn write_counts(words: &mut [u64], row: u64, head: Preprocessor)
+    requires { ⌜ 28 ≤ length (now words) ⌝ }
+    ensures { λ _. ⌜ now (words .exit) ≡ accepted row (countsOver (now (words .entry)) head) (now (words .entry)) ⌝ }
+{
+    if row != 0 {
+        return;
+    }
+    let t = head.transformer;
+    words[8] = head.values_seen as u64;
+    words[9] = head.internal_timestamp as u64;
+    words[10] = t.count;
+    words[11] = head.initial_len as u64;
+}
+
+fn write_weights(words: &mut [u64], weights: &[f32])
+    requires { ⌜ length (now words) ≡ 16 ⌝ }
+    requires { ⌜ length (now weights) ≡ 16 ⌝ }
+    ensures { λ _. ⌜ now (words .exit) ≡ map (toBits binary32) (now (weights .entry)) ⌝ }
+{
+    let mut i = 0;
+    while i < 16 {
+        words[i] = single_bits(weights[i]);
+        i += 1;
+    }
+}
+
+// The words before the weights.
+fn write_numbers(words: &mut [u64], head: Preprocessor)
+    requires { ⌜ 28 ≤ length (now words) ⌝ }
+    ensures { λ _. ⌜ now (words .exit) ≡ over (now (words .entry)) (numbersOf head) ⌝ }
+{
+    let t = head.transformer;
+    let mode = head.forest_mode;
+    let method = t.transform_method;
+    words[0] = mode_number(mode);
+    words[1] = method_number(method);
+    words[2] = t.input_length as u64;
+    words[3] = head.shingle_size as u64;
+    words[4] = head.start_normalization as u64;
+    words[5] = head.stop_normalization as u64;
+    words[6] = double_bits(t.transform_decay);
+    words[7] = single_bits(head.weight_time);
+    words[8] = head.values_seen as u64;
+    words[9] = head.internal_timestamp as u64;
+    words[10] = t.count;
+    words[11] = head.initial_len as u64;
+}
+
+// All of a head, where its call was not refused.
+pub(crate) fn write_head(words: &mut [u64], row: u64, head: Preprocessor)
+    requires { ⌜ 28 ≤ length (now words) ⌝ }
+    ensures { λ _. ⌜ now (words .exit) ≡ accepted row (over (now (words .entry)) (wordsOf head)) (now (words .entry)) ⌝ }
+{
+    if row != 0 {
+        return;
+    }
+    let t = head.transformer;
+    let weights = t.weights;
+    write_numbers(words, head);
+    write_weights(&mut words[12..28], &weights);
+}

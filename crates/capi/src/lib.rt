@@ -1,0 +1,9 @@
+// The static library: the calls of the preprocessor and of its text with C's calling convention, on numbers and lent parts (pointer, then length).
+// include/veerycouch.h describes it for C.
+mod answer;
+pub mod calls;
+pub mod getters;
+mod head;
+pub mod numbers;
+pub mod outputs;
+mod words;

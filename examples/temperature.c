@@ -1,0 +1,47 @@
+/* One sensor, NORMALIZE, 4 readings a point: learns 20 readings, prints the last point and the text's first line.
+ *   gcc -std=c99 -Wall -Wextra -Iinclude examples/temperature.c target/staticlib/libcapi.a -o temperature && ./temperature */
+#include "veerycouch.h"
+#include <stdio.h>
+#include <string.h>
+
+#define D 1
+#define K 4
+#define START 10
+
+static uint64_t head[VEERYCOUCH_HEAD_WORDS];
+static double statistics[VEERYCOUCH_STATISTICS(D)];
+static float inputs[D * K], point[D * K];
+static uint64_t times[K], initial_times[START];
+static float initial[START * D];
+static uint8_t text[4096];
+
+#define PARTS statistics, VEERYCOUCH_STATISTICS(D), inputs, D *K, point, D *K, times, K, initial, START *D, initial_times, START
+
+int main(void) {
+    const float weight = 1.0f;
+    float output[D * K], deviations[D], past[D], expected[D], likelihood;
+    uint64_t given = 0, written, anomaly, past_time, length;
+    uint64_t row = veerycouch_build(VEERYCOUCH_STANDARD, VEERYCOUCH_NORMALIZE, D, K, START, 1000, 0.01, 1.0f, &weight, D, head,
+                                    VEERYCOUCH_HEAD_WORDS, PARTS);
+    for (uint64_t t = 0; row == 0 && t < 20; t++) {
+        const float reading = 20.0f + (float)(t % 5);
+        row = veerycouch_shingled_point(head, VEERYCOUCH_HEAD_WORDS, PARTS, &reading, D, t, &given, output, D * K);
+        if (row == 0) /* a forest would look at the point here; this one hands it straight back */
+            row = veerycouch_post_process(head, VEERYCOUCH_HEAD_WORDS, PARTS, &reading, D, t, given, output, given ? D * K : 0, 0, output, 0, 0.0f, 0,
+                                          deviations, D, past, D, expected, D, &written, &anomaly, &past_time, &likelihood);
+    }
+    if (row == 0)
+        row = veerycouch_save(head, VEERYCOUCH_HEAD_WORDS, PARTS, &length, text, sizeof text);
+    if (row != 0) {
+        printf("refused by row %llu\n", (unsigned long long)row);
+        return 1;
+    }
+    printf("point");
+    for (size_t i = 0; i < D * K; i++)
+        printf(" %.6f", (double)output[i]);
+    printf("\n%llu bytes, the first line: %.*s", (unsigned long long)length, (int)((uint8_t *)memchr(text, '\n', length) - text + 1), (char *)text);
+    head[3] = 65; /* a damaged head is refused as build would */
+    row = veerycouch_drain(head, VEERYCOUCH_HEAD_WORDS, PARTS);
+    printf("k 65: refused by row %llu\n", (unsigned long long)row);
+    return row != 4;
+}

@@ -1,0 +1,142 @@
+/* veerycouch.h: the proved preprocessor of a streaming anomaly detector, for C.
+ *
+ * Link with libcapi.a (`rt staticlib capi` proves it and writes target/staticlib/libcapi.a; x86-64, System V calling convention). The library has no
+ * state, allocates nothing, calls nothing but memcpy, memmove and memset, and every call returns. What each call computes is proved for every contents of what it
+ * is lent; what C's own rules ask of a caller is listed under "The caller".
+ *
+ * THE ROW. Every call returns a row: 0 where it was done, else the number of the refusal below. A refused call has changed nothing: no lent
+ * memory, no answer.
+ *    1  the mode is STREAMING_IMPUTE                     2  input_dimensions (d) is 0          3  shingle_size (k) is 0
+ *    4  d above 16 or k above 64                         5  not d weights                      6  not 0 <= transform_decay < 1
+ *    7  start_normalization above stop_normalization     8  start_normalization above 1999     9  method NONE and a weight other than 1
+ *   10  not d numbers in the input                      11  a number of the input is not finite
+ *   12  a timestamp below the newest                    13  y or expected, where given, not get_dimension long
+ *   14  relative_index outside 1 - k to 0               15  drain with nothing to drain
+ *   16  a forecast of unequal lists or broken blocks    18  a counter would pass its limit
+ *   19  a number that names no mode or no method        20  a lent part is too short
+ * They are asked in this order, but for two: a head of fewer than VEERYCOUCH_HEAD_WORDS words is refused by 20 before all else (by build:
+ * after rows 1 to 9), and a number that names no mode or no method by 19 before rows 1 to 9.
+ *
+ * THE PARTS. The caller owns all memory. A part is a pointer and the number of its elements. A part may be longer than it must be: what lies
+ * behind keeps its contents. With d, k and start as given to build, w = d in STANDARD and d + 1 in TIME_AUGMENTED:
+ *   head                  VEERYCOUCH_HEAD_WORDS words      statistics            3 * (5 * d + 5) doubles
+ *   last_shingled_input   d * k floats                     last_shingled_point   w * k floats (get_dimension)
+ *   previous_timestamps   k                                initial_values        start * d floats
+ *   initial_timestamps    start
+ * These seven belong together from build on: between two calls nobody else may write them, and they may be copied, and moved, as bytes.
+ *
+ * THE HEAD. 28 words of 64 bits, so that a firmware can look at it, or keep it:
+ *   0 mode   1 method   2 d   3 k   4 start   5 stop   6 decay, as the bits of a double   7 weight_time, as the bits of a float
+ *   8 values_seen   9 internal_timestamp   10 readings fed to the statistics   11 initial values held   12 to 27 weights, as the bits of a float
+ * In a word that holds a float the low 32 bits count. Every bit pattern of a not-a-number is read as not-a-number, and written as 7fc00000 (float) or
+ * 7ff8000000000000 (double). A damaged head is refused as `build` refuses its settings (rows 1 to 9, 19); counters that do not fit the
+ * settings, by 20. A call writes words 8 to 11 alone; build writes all 28.
+ *
+ * THE CALLER. Each pointer must be aligned for its element and valid for as many elements as its length says; with length 0 it must still not be
+ * NULL. A pointer to a single number must be valid. What a call writes may not overlap anything else that it is handed. Two calls may run at the
+ * same time on parts that are apart.
+ *
+ * Floats are IEEE 754, in the default rounding (to nearest, ties to even). */
+#ifndef VEERYCOUCH_H
+#define VEERYCOUCH_H
+
+#include <stddef.h>
+#include <stdint.h>
+
+#ifdef __cplusplus
+extern "C" {
+#endif
+
+#define VEERYCOUCH_HEAD_WORDS 28
+#define VEERYCOUCH_STATISTICS(d) (3 * (5 * (d) + 5))
+
+/* No text is longer. */
+#define VEERYCOUCH_TEXT_MAX 500400
+
+enum { VEERYCOUCH_STANDARD = 0, VEERYCOUCH_TIME_AUGMENTED = 1, VEERYCOUCH_STREAMING_IMPUTE = 2 };
+enum {
+    VEERYCOUCH_NONE = 0,
+    VEERYCOUCH_WEIGHTED = 1,
+    VEERYCOUCH_DIFFERENCE = 2,
+    VEERYCOUCH_SUBTRACT_MA = 3,
+    VEERYCOUCH_NORMALIZE = 4,
+    VEERYCOUCH_NORMALIZE_DIFFERENCE = 5
+};
+
+/* The parts of a preprocessor beside its head, as every call takes them. */
+#define VEERYCOUCH_PARTS(CHANGED, INITIAL)                                                                                                          \
+    CHANGED double *statistics, size_t statistics_len, CHANGED float *last_shingled_input, size_t last_shingled_input_len,                          \
+        CHANGED float *last_shingled_point, size_t last_shingled_point_len, CHANGED uint64_t *previous_timestamps, size_t previous_timestamps_len,  \
+        INITIAL float *initial_values, size_t initial_values_len, INITIAL uint64_t *initial_timestamps, size_t initial_timestamps_len
+#define VEERYCOUCH_WRITTEN
+
+/* A preprocessor from its settings: writes the head and zeros into statistics, last_shingled_input, last_shingled_point and
+ * previous_timestamps. initial_values and initial_timestamps are only measured. Rows 1 to 9, 19, 20. */
+uint64_t veerycouch_build(uint64_t forest_mode, uint64_t transform_method, size_t input_dimensions, size_t shingle_size, size_t start_normalization,
+                          size_t stop_normalization, double transform_decay, float weight_time, const float *weights, size_t weights_len,
+                          uint64_t *head, size_t head_len, VEERYCOUCH_PARTS(VEERYCOUCH_WRITTEN, const));
+
+/* The shingled point of a reading (d numbers). *given becomes 1 and the point stands in the first get_dimension numbers of output; or 0 while
+ * initial values are awaited, and output is left. Feeds the initial values first where that is due. Rows 10, 11, 18, 20. */
+uint64_t veerycouch_shingled_point(uint64_t *head, size_t head_len, VEERYCOUCH_PARTS(VEERYCOUCH_WRITTEN, const), const float *input,
+                                   size_t input_len, uint64_t timestamp, uint64_t *given, float *output, size_t output_len);
+
+/* Learns a reading, or keeps it while initial values are awaited. y is the forest's point and counts where has_y is not 0; expected is the forest's
+ * expected point and counts where expects is not 0 (get_dimension numbers each). Past waiting and without y nothing is learnt.
+ * *written becomes 1 where the w deviations stand in deviations_out (they do after a learn, and with the last awaited value), else 0.
+ * *has_anomaly becomes 1 where grade > 0 and y and expected are given: d past values then stand in past_out, d expected ones in expected_out,
+ * *past_timestamp is the past reading's and *likelihood is 1; else 0, 0 and 0. Rows 10 to 14, 18, 20. */
+uint64_t veerycouch_post_process(uint64_t *head, size_t head_len, VEERYCOUCH_PARTS(VEERYCOUCH_WRITTEN, VEERYCOUCH_WRITTEN), const float *input,
+                                 size_t input_len, uint64_t timestamp, uint64_t has_y, const float *y, size_t y_len, uint64_t expects,
+                                 const float *expected, size_t expected_len, float grade, int32_t relative_index, float *deviations_out,
+                                 size_t deviations_out_len, float *past_out, size_t past_out_len, float *expected_out, size_t expected_out_len,
+                                 uint64_t *written, uint64_t *has_anomaly, uint64_t *past_timestamp, float *likelihood);
+
+/* Feeds the initial values where they are complete; past that, or before, it does nothing. Rows 15, 18, 20. */
+uint64_t veerycouch_drain(uint64_t *head, size_t head_len, VEERYCOUCH_PARTS(VEERYCOUCH_WRITTEN, const));
+
+/* A reading, transformed: w numbers into output. Rows 10, 20. */
+uint64_t veerycouch_transform(const uint64_t *head, size_t head_len, VEERYCOUCH_PARTS(const, const), const float *input, size_t input_len,
+                              uint64_t timestamp, float *output, size_t output_len);
+
+/* The scale, the shift, and the deviation of the differences of each channel: w numbers into output. Row 20. */
+uint64_t veerycouch_scale(const uint64_t *head, size_t head_len, VEERYCOUCH_PARTS(const, const), float *output, size_t output_len);
+uint64_t veerycouch_shift(const uint64_t *head, size_t head_len, VEERYCOUCH_PARTS(const, const), float *output, size_t output_len);
+uint64_t veerycouch_difference_deviations(const uint64_t *head, size_t head_len, VEERYCOUCH_PARTS(const, const), float *output, size_t output_len);
+
+/* A forecast turned back into readings. values, upper and lower are equally long. In STANDARD they are turned back in their own place (blocks of d
+ * numbers, where the method is DIFFERENCE or NORMALIZE_DIFFERENCE; the outputs are left and may be empty). In TIME_AUGMENTED they are blocks of
+ * get_dimension numbers, h of them whole: h * d * k numbers go into values_out, upper_out and lower_out, h times into times_out, times_upper_out and
+ * times_lower_out; values, upper and lower serve as working memory and are changed. Rows 16, 20. */
+uint64_t veerycouch_invert_extrapolation(const uint64_t *head, size_t head_len, const double *statistics, size_t statistics_len,
+                                         const float *last_shingled_input, size_t last_shingled_input_len, const uint64_t *previous_timestamps,
+                                         size_t previous_timestamps_len, float *values, size_t values_len, float *upper, size_t upper_len,
+                                         float *lower, size_t lower_len, float *values_out, size_t values_out_len, float *upper_out,
+                                         size_t upper_out_len, float *lower_out, size_t lower_out_len, double *times_out, size_t times_out_len,
+                                         double *times_upper_out, size_t times_upper_out_len, double *times_lower_out, size_t times_lower_out_len);
+
+/* The text of the preprocessor: *length bytes at the start of output, never more than VEERYCOUCH_TEXT_MAX, without a closing 0. Row 20. */
+uint64_t veerycouch_save(const uint64_t *head, size_t head_len, VEERYCOUCH_PARTS(const, const), uint64_t *length, uint8_t *output,
+                         size_t output_len);
+
+/* Each writes one number: readings learnt or awaiting; the number on the panel; readings learnt; 1 where the shingle is full, else 0;
+ * w * k; d; k; start; the numbers of the method and of the mode. Rows 1 to 9, 19, 20, of a damaged head. */
+uint64_t veerycouch_values_seen(const uint64_t *head, size_t head_len, uint64_t *answer);
+uint64_t veerycouch_panel(const uint64_t *head, size_t head_len, uint64_t *answer);
+uint64_t veerycouch_internal_timestamp(const uint64_t *head, size_t head_len, uint64_t *answer);
+uint64_t veerycouch_is_ready(const uint64_t *head, size_t head_len, uint64_t *answer);
+uint64_t veerycouch_get_dimension(const uint64_t *head, size_t head_len, uint64_t *answer);
+uint64_t veerycouch_input_dimensions(const uint64_t *head, size_t head_len, uint64_t *answer);
+uint64_t veerycouch_shingle_size(const uint64_t *head, size_t head_len, uint64_t *answer);
+uint64_t veerycouch_start_normalization(const uint64_t *head, size_t head_len, uint64_t *answer);
+uint64_t veerycouch_transformation_method(const uint64_t *head, size_t head_len, uint64_t *answer);
+uint64_t veerycouch_forest_mode(const uint64_t *head, size_t head_len, uint64_t *answer);
+
+/* The square root of a double, and the float nearest to a double, as the calls compute them: rounded once, on any machine. */
+double veerycouch_sqrt(double x);
+float veerycouch_to_f32(double x);
+
+#ifdef __cplusplus
+}
+#endif
+#endif

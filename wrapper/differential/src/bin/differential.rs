@@ -1,0 +1,346 @@
+//! Random lists of calls on the static library and on the unchanged Rust: every answer, refusal and text, what lies past the answers, and
+//! heads that were damaged. Usage: differential SEED LISTS [TEXTS]; TEXTS with the feature `restore`.
+use differential::{call, same, settings};
+use oracle::calls::{Answer, Call, Mode, Settings};
+use oracle::random::{bad_settings, settings as random_settings, Calls, Random, FULL};
+use oracle::reference::Reference;
+use oracle::snapshot::Snapshot;
+use veerycouch::{Memory, Preprocessor, HEAD_WORDS};
+
+#[derive(Default)]
+struct Met {
+    calls: u64,
+    texts: u64,
+    rows: [u64; 21],
+    builds: [u64; 21],
+    damaged: [u64; 21],
+    stranded: u64,
+    drained: u64,
+    restarts: u64,
+    answers: u64,
+    read: u64,
+    bad: u64,
+    differences: u64,
+}
+
+fn difference(met: &mut Met, list: u64, what: &str, s: &Settings, calls: &[Call]) {
+    met.differences += 1;
+    if met.differences <= 5 {
+        println!("list {list}: {what}\n  {s:?}");
+        calls.iter().for_each(|c| println!("  {c:?}"));
+    }
+}
+
+/// Memory of the settings' lengths and up to three more of each part, with rubbish in it.
+fn rubbish(r: &mut Random, d: u64, k: u64, start: u64) -> Memory {
+    let mut m = Memory::sized(d as usize, k as usize, start as usize);
+    let mut more = || r.from(0, 3) as usize;
+    let lengths = [
+        HEAD_WORDS + more(),
+        m.statistics.len() + more(),
+        m.last_shingled_input.len() + more(),
+        m.last_shingled_point.len() + more(),
+        m.previous_timestamps.len() + more(),
+        m.initial_values.len() + more(),
+        m.initial_timestamps.len() + more(),
+    ];
+    m.head = (0..lengths[0]).map(|_| r.next()).collect();
+    m.statistics = (0..lengths[1]).map(|_| f64::from_bits(r.next())).collect();
+    m.last_shingled_input = (0..lengths[2]).map(|_| f32::from_bits(r.next() as u32)).collect();
+    m.last_shingled_point = (0..lengths[3]).map(|_| f32::from_bits(r.next() as u32)).collect();
+    m.previous_timestamps = (0..lengths[4]).map(|_| r.next()).collect();
+    m.initial_values = (0..lengths[5]).map(|_| f32::from_bits(r.next() as u32)).collect();
+    m.initial_timestamps = (0..lengths[6]).map(|_| r.next()).collect();
+    m
+}
+
+/// One part, that is needed, one element too short.
+fn cut(r: &mut Random, m: &mut Memory, s: &Settings) -> bool {
+    let (d, k, start) = (s.d as usize, s.k as usize, s.start as usize);
+    match r.below(7) {
+        0 => m.head.truncate(HEAD_WORDS - 1),
+        1 => m.statistics.truncate(3 * (5 * d + 5) - 1),
+        2 => m.last_shingled_input.truncate(d * k - 1),
+        3 => m.last_shingled_point.truncate(s.dimension() - 1),
+        4 => m.previous_timestamps.truncate(k - 1),
+        5 if start > 0 => m.initial_values.truncate(start * d - 1),
+        6 if start > 0 => m.initial_timestamps.truncate(start - 1),
+        _ => return false,
+    }
+    true
+}
+
+/// What lies past the parts in use is as it was.
+fn past_kept(old: &Memory, new: &Memory, s: &Settings) -> bool {
+    let (d, k, start) = (s.d as usize, s.k as usize, s.start as usize);
+    let single = |x: &[f32], y: &[f32], n: usize| x.len() == y.len() && x[n..].iter().zip(&y[n..]).all(|(p, q)| p.to_bits() == q.to_bits());
+    let n = 3 * (5 * d + 5);
+    old.head[HEAD_WORDS..] == new.head[HEAD_WORDS..]
+        && old.statistics[n..].iter().zip(&new.statistics[n..]).all(|(p, q)| p.to_bits() == q.to_bits())
+        && single(&old.last_shingled_input, &new.last_shingled_input, d * k)
+        && single(&old.last_shingled_point, &new.last_shingled_point, s.dimension())
+        && old.previous_timestamps[k..] == new.previous_timestamps[k..]
+        && single(&old.initial_values, &new.initial_values, start * d)
+        && old.initial_timestamps[start..] == new.initial_timestamps[start..]
+}
+
+/// A build that must be refused by `row`, with nothing changed.
+fn refused_build(met: &mut Met, list: u64, numbers: (u64, u64), s: &Settings, memory: Memory, row: u64) {
+    met.builds[row as usize] += 1;
+    let old = memory.clone();
+    match Preprocessor::build_by_numbers(numbers.0, numbers.1, &settings(s), memory) {
+        Err((refusal, memory)) if refusal.0 == row && same(&memory, &old) => {}
+        Err((refusal, _)) => difference(met, list, &format!("build: row {} for {row}, or memory changed", refusal.0), s, &[]),
+        Ok(_) => difference(met, list, &format!("build accepted what row {row} refuses"), s, &[]),
+    }
+}
+
+fn builds(r: &mut Random, met: &mut Met, list: u64, s: &Settings) {
+    let bad = bad_settings(r, FULL);
+    let memory = rubbish(r, bad.d.min(16), bad.k.min(64), bad.start.min(1999));
+    let numbers = (settings(&bad).forest_mode as u64, bad.method as u64);
+    if bad.row() != 0 {
+        refused_build(met, list, numbers, &bad, memory, bad.row() as u64);
+    }
+    let good = (settings(s).forest_mode as u64, s.method as u64);
+    match r.below(4) {
+        0 => {
+            let wild = if r.once_in(2) { (r.from(3, u64::MAX - 4), good.1) } else { (good.0, r.from(6, u64::MAX - 7)) };
+            let memory = rubbish(r, s.d, s.k, s.start);
+            refused_build(met, list, wild, s, memory, 19);
+        }
+        1 => {
+            let mut memory = rubbish(r, s.d, s.k, s.start);
+            if cut(r, &mut memory, s) {
+                refused_build(met, list, good, s, memory, 20);
+            }
+        }
+        _ => {}
+    }
+}
+
+/// The settings that words hold, where they name a mode and a method.
+fn decoded(w: &[u64]) -> Settings {
+    let d = w[2];
+    Settings {
+        mode: [Mode::Standard, Mode::TimeAugmented, Mode::StreamingImpute][w[0] as usize],
+        method: w[1] as u8,
+        d,
+        k: w[3],
+        start: w[4],
+        stop: w[5],
+        decay: f64::from_bits(w[6]),
+        weight_time: f32::from_bits(w[7] as u32),
+        weights: w[12..28].iter().take(d.min(16) as usize).map(|&b| f32::from_bits(b as u32)).collect(),
+    }
+}
+
+fn row_of_words(w: &[u64]) -> u64 {
+    if w.len() < HEAD_WORDS {
+        20
+    } else if w[0] > 2 || w[1] > 5 {
+        19
+    } else {
+        decoded(w).row() as u64
+    }
+}
+
+/// A head with one word damaged: refused by the row of its settings, where there is one; else some answer, and nothing undefined.
+fn damage(r: &mut Random, met: &mut Met, list: u64, p: &Preprocessor, s: &Settings, c: &Call) {
+    let mut memory = p.memory().clone();
+    if r.once_in(8) {
+        memory.head.truncate(r.below(HEAD_WORDS as u64) as usize);
+    } else {
+        let at = r.below(HEAD_WORDS as u64) as usize;
+        memory.head[at] = match r.below(3) {
+            0 => r.next(),
+            1 => r.below(70),
+            _ => memory.head[at] ^ (1 << r.below(64)),
+        };
+    }
+    let row = row_of_words(&memory.head);
+    met.damaged[row as usize] += 1;
+    let old = memory.clone();
+    let mut other = Preprocessor::from_memory(memory);
+    if row == 0 {
+        let mut output = vec![0.0; 32];
+        let _ = (other.drain(), other.scale(&mut output), other.shift(&mut output), other.difference_deviations(&mut output), other.save());
+        return;
+    }
+    let first = call(&mut other, c, s);
+    let mut text = vec![0; 64];
+    let rows = [other.panel().err(), other.is_ready().err().or(None), other.save_into(&mut text).err().map(|r| r), other.drain().err()];
+    let kept = same(other.memory(), &old) && text.iter().all(|&b| b == 0);
+    if first != Ok(Answer::No(row as u8)) || rows.iter().any(|x| x.map(|x| x.0) != Some(row)) || !kept {
+        difference(met, list, &format!("damaged head: row {row}, got {first:?} and {rows:?}, kept {kept}: {:x?}", old.head), s, std::slice::from_ref(c));
+    }
+}
+
+fn text_of(p: &Preprocessor, buffer: &mut Vec<u8>, expected: &str) -> Result<(), String> {
+    let n = expected.len();
+    buffer.clear();
+    buffer.resize(n + 2, 0xa5);
+    if p.save_into(&mut buffer[..n - 1]).map_err(|r| r.0) != Err(20) || buffer.iter().any(|&b| b != 0xa5) {
+        return Err("a text one byte longer than its output".to_string());
+    }
+    match p.save_into(buffer) {
+        Ok(length) if length == n && &buffer[..n] == expected.as_bytes() && buffer[n..] == [0xa5, 0xa5] => Ok(()),
+        other => Err(format!("text: {other:?}\n{}\n---\n{expected}", String::from_utf8_lossy(buffer))),
+    }
+}
+
+/// What happened in a list, for restarts.
+struct Record {
+    calls: Vec<Call>,
+    answers: Vec<Answer>,
+    texts: Vec<String>,
+}
+
+fn run_list(r: &mut Random, list: u64, met: &mut Met, s: &Settings, mut reference: Reference, p: &mut Preprocessor) -> Option<Record> {
+    let mut maker = Calls::new(r, s);
+    let mut buffer = Vec::new();
+    let mut record = Record { calls: Vec::new(), answers: Vec::new(), texts: Vec::new() };
+    let length = r.from(0, 30) as usize;
+    let hurt = r.below(length as u64 + 1) as usize;
+    let mut was_stranded = false;
+    for place in 0..=length {
+        let text = Snapshot::of(&reference).text();
+        met.texts += 1;
+        if let Err(what) = text_of(p, &mut buffer, &text) {
+            difference(met, list, &format!("place {place}: {what}"), s, &record.calls);
+            return None;
+        }
+        record.texts.push(text);
+        if place == length {
+            break;
+        }
+        let c = maker.next(r);
+        if place == hurt {
+            damage(r, met, list, p, s, &c);
+        }
+        met.calls += 1;
+        let waiting = !reference.rust.initial().0.is_empty();
+        let answer = reference.call(&c);
+        let before = (answer.row() != 0).then(|| p.memory().clone());
+        let given = call(p, &c, s);
+        record.calls.push(c);
+        met.rows[answer.row() as usize] += 1;
+        if given.as_ref() != Ok(&answer) || before.is_some_and(|m| !same(&m, p.memory())) {
+            difference(met, list, &format!("place {place}: {given:?} for {answer:?}, or a refusal changed memory"), s, &record.calls);
+            return None;
+        }
+        if let (Some(Call::Point { .. }), Answer::Numbers(point)) = (record.calls.last(), &answer) {
+            maker.last_point = Some(point.iter().map(|&b| f32::from_bits(b)).collect());
+        }
+        record.answers.push(answer);
+        met.drained += (waiting && reference.rust.initial().0.is_empty()) as u64;
+        let stranded = waiting && reference.internal() > 0 && !reference.rust.initial().0.is_empty();
+        met.stranded += (stranded && !was_stranded) as u64;
+        was_stranded |= stranded;
+    }
+    Some(record)
+}
+
+/// From every place: taken up in memory of rubbish, the same later answers and the same last text.
+#[cfg(feature = "restore")]
+fn restarts(r: &mut Random, list: u64, met: &mut Met, s: &Settings, record: &Record) {
+    let mut buffer = Vec::new();
+    for place in 0..record.texts.len() {
+        let memory = rubbish(r, s.d, s.k, s.start);
+        let old = memory.clone();
+        met.restarts += 1;
+        let mut p = match Preprocessor::restore_in(record.texts[place].as_bytes(), memory) {
+            Ok(p) => p,
+            Err((refusal, line, _)) => return difference(met, list, &format!("place {place}: {refusal}, line {line}"), s, &record.calls),
+        };
+        for (c, answer) in record.calls[place..].iter().zip(&record.answers[place..]) {
+            met.answers += 1;
+            let given = call(&mut p, c, s);
+            if given.as_ref() != Ok(answer) {
+                return difference(met, list, &format!("restart at {place}: {given:?} for {answer:?}"), s, &record.calls);
+            }
+        }
+        if let Err(what) = text_of(&p, &mut buffer, record.texts.last().unwrap()) {
+            return difference(met, list, &format!("restart at {place}: {what}"), s, &record.calls);
+        }
+        if !past_kept(&old, p.memory(), s) {
+            return difference(met, list, &format!("restart at {place}: memory past the need was written"), s, &record.calls);
+        }
+    }
+}
+
+/// A text of the form, or damaged, by the library and by the oracle's reader: taken up and written again, or 19 with the first bad line.
+#[cfg(feature = "restore")]
+fn texts(r: &mut Random, number: u64, met: &mut Met) {
+    use oracle::snapshot::read;
+    use oracle::texts::{damaged, scratched, snapshot, undrained};
+    let good = if r.once_in(4) { undrained(r, FULL) } else { snapshot(r, FULL) };
+    let s = &good.settings;
+    let text = match r.below(3) {
+        0 => good.text().into_bytes(),
+        1 => damaged(r, &good).0,
+        _ => scratched(r, &good),
+    };
+    let expected = read(&text);
+    let memory = rubbish(r, 16, 64, 1999);
+    let old = memory.clone();
+    met.read += 1;
+    met.bad += expected.is_err() as u64;
+    let what = match (Preprocessor::restore_in(&text, memory), expected) {
+        (Ok(p), Ok(snapshot)) => {
+            let mut buffer = Vec::new();
+            match text_of(&p, &mut buffer, &snapshot.text()) {
+                Ok(()) => return,
+                Err(what) => what,
+            }
+        }
+        (Err((refusal, line, memory)), Err(bad)) if refusal.0 == 19 && line == bad as u64 && same(&memory, &old) => return,
+        (Err((refusal, line, _)), Err(bad)) => format!("{refusal}, line {line} for {bad}, or memory changed"),
+        (Ok(_), Err(bad)) => format!("taken up, but line {bad} is bad"),
+        (Err((refusal, line, _)), Ok(_)) => format!("{refusal}, line {line}, for a text of the form"),
+    };
+    difference(met, number, &format!("text: {what}\n{}", String::from_utf8_lossy(&text)), s, &[]);
+}
+
+fn one(seed: u64, list: u64, met: &mut Met) {
+    let mut r = Random::new(seed.wrapping_mul(0x1_0000_0001).wrapping_add(list));
+    let s = random_settings(&mut r, FULL);
+    builds(&mut r, met, list, &s);
+    met.builds[0] += 1;
+    let memory = rubbish(&mut r, s.d, s.k, s.start);
+    let old = memory.clone();
+    let mut p = match Preprocessor::build_in(&settings(&s), memory) {
+        Ok(p) => p,
+        Err((refusal, _)) => return difference(met, list, &format!("build: {refusal}"), &s, &[]),
+    };
+    let reference = Reference::build(&s).unwrap();
+    let Some(record) = run_list(&mut r, list, met, &s, reference, &mut p) else { return };
+    if !past_kept(&old, p.memory(), &s) {
+        difference(met, list, "memory past the need was written", &s, &record.calls);
+    }
+    #[cfg(feature = "restore")]
+    restarts(&mut r, list, met, &s, &record);
+}
+
+fn main() {
+    let given: Vec<u64> = std::env::args().skip(1).map(|a| a.parse().expect("SEED LISTS [TEXTS]")).collect();
+    let (seed, lists) = (given[0], given[1]);
+    let mut met = Met::default();
+    for list in 0..lists {
+        one(seed, list, &mut met);
+    }
+    #[cfg(feature = "restore")]
+    for number in 0..given.get(2).copied().unwrap_or(0) {
+        let mut r = Random::new((seed ^ 0x7e87).wrapping_mul(0x1_0000_0001).wrapping_add(number));
+        texts(&mut r, number, &mut met);
+    }
+    let rows = |list: &[u64; 21]| list.iter().enumerate().filter(|(_, &n)| n > 0).map(|(i, n)| format!("{i}: {n}")).collect::<Vec<_>>().join(", ");
+    println!("lists {lists}, calls {}, texts {} (each also with an output one byte short)", met.calls, met.texts);
+    println!("calls by row {}", rows(&met.rows));
+    println!("builds by row {}", rows(&met.builds));
+    println!("damaged heads by row {}", rows(&met.damaged));
+    println!("drained {}, lists stranded {}", met.drained, met.stranded);
+    println!("restarts {}, answers after one {}; texts read {}, of them bad {}", met.restarts, met.answers, met.read, met.bad);
+    println!("differences {}", met.differences);
+    std::process::exit((met.differences > 0) as i32);
+}

@@ -1,0 +1,367 @@
+//! The preprocessor of a streaming anomaly detector, over the proved static library: safe, and with memory of its own.
+//!
+//! A call that is refused returns `Err(Refusal(row))`, with document 01's row, and has changed nothing.
+mod raw;
+
+/// The row of a refused call, 1 to 20.
+#[derive(Clone, Copy, Debug, PartialEq, Eq)]
+pub struct Refusal(pub u64);
+
+impl std::fmt::Display for Refusal {
+    fn fmt(&self, f: &mut std::fmt::Formatter) -> std::fmt::Result {
+        write!(f, "refused by row {}", self.0)
+    }
+}
+
+impl std::error::Error for Refusal {}
+
+fn checked(row: u64) -> Result<(), Refusal> {
+    if row == 0 {
+        Ok(())
+    } else {
+        Err(Refusal(row))
+    }
+}
+
+/// Their numbers are those of the head's words.
+#[derive(Clone, Copy, Debug, PartialEq, Eq)]
+#[repr(u64)]
+pub enum ForestMode {
+    Standard = 0,
+    TimeAugmented = 1,
+    StreamingImpute = 2,
+}
+
+#[derive(Clone, Copy, Debug, PartialEq, Eq)]
+#[repr(u64)]
+pub enum TransformMethod {
+    None = 0,
+    Weighted = 1,
+    Difference = 2,
+    SubtractMa = 3,
+    Normalize = 4,
+    NormalizeDifference = 5,
+}
+
+#[derive(Clone, Debug)]
+pub struct Settings {
+    pub forest_mode: ForestMode,
+    pub transform_method: TransformMethod,
+    pub input_dimensions: usize,
+    pub shingle_size: usize,
+    pub start_normalization: usize,
+    pub stop_normalization: usize,
+    pub transform_decay: f64,
+    pub weight_time: f32,
+    pub weights: Vec<f32>,
+}
+
+/// What the library asks to be lent: see include/veerycouch.h for the lengths. The fields are open so that memory of any length and any
+/// contents can be handed in; the library refuses what it cannot use.
+#[derive(Clone, Debug)]
+pub struct Memory {
+    pub head: Vec<u64>,
+    pub statistics: Vec<f64>,
+    pub last_shingled_input: Vec<f32>,
+    pub last_shingled_point: Vec<f32>,
+    pub previous_timestamps: Vec<u64>,
+    pub initial_values: Vec<f32>,
+    pub initial_timestamps: Vec<u64>,
+}
+
+pub const HEAD_WORDS: usize = 28;
+
+impl Memory {
+    /// Enough for these settings; settings past the limits get memory as of the limits, and `build` refuses them.
+    pub fn sized(d: usize, k: usize, start: usize) -> Memory {
+        let (d, k, start) = (d.min(16), k.min(64), start.min(1999));
+        Memory {
+            head: vec![0; HEAD_WORDS],
+            statistics: vec![0.0; 3 * (5 * d + 5)],
+            last_shingled_input: vec![0.0; d * k],
+            last_shingled_point: vec![0.0; (d + 1) * k],
+            previous_timestamps: vec![0; k],
+            initial_values: vec![0.0; start * d],
+            initial_timestamps: vec![0; start],
+        }
+    }
+}
+
+/// What `post_process` is given beside the reading.
+#[derive(Clone, Copy, Debug, Default)]
+pub struct Learn<'a> {
+    /// The point of a forest, if any.
+    pub y: Option<&'a [f32]>,
+    pub expected: Option<&'a [f32]>,
+    pub grade: f32,
+    pub relative_index: i32,
+}
+
+/// The numbers that `post_process` answers beside its lists.
+#[derive(Clone, Copy, Debug, Default, PartialEq)]
+pub struct Learned {
+    pub written: bool,
+    pub has_anomaly: bool,
+    pub past_timestamp: u64,
+    pub likelihood: f32,
+}
+
+/// A forecast's values and bounds, or times and bounds.
+pub struct Ranges<'a, T> {
+    pub values: &'a mut [T],
+    pub upper: &'a mut [T],
+    pub lower: &'a mut [T],
+}
+
+macro_rules! lent {
+    (&mut $m:expr) => {
+        (
+            $m.statistics.as_mut_ptr(), $m.statistics.len(), $m.last_shingled_input.as_mut_ptr(), $m.last_shingled_input.len(),
+            $m.last_shingled_point.as_mut_ptr(), $m.last_shingled_point.len(), $m.previous_timestamps.as_mut_ptr(), $m.previous_timestamps.len(),
+        )
+    };
+    (& $m:expr) => {
+        (
+            $m.statistics.as_ptr(), $m.statistics.len(), $m.last_shingled_input.as_ptr(), $m.last_shingled_input.len(),
+            $m.last_shingled_point.as_ptr(), $m.last_shingled_point.len(), $m.previous_timestamps.as_ptr(), $m.previous_timestamps.len(),
+        )
+    };
+}
+
+macro_rules! getter {
+    ($doc:literal, $name:ident, $raw:ident) => {
+        #[doc = $doc]
+        pub fn $name(&self) -> Result<u64, Refusal> {
+            let mut answer = 0;
+            // SAFETY: the words and the number are ours, and do not overlap.
+            checked(unsafe { raw::$raw(self.memory.head.as_ptr(), self.memory.head.len(), &mut answer) })?;
+            Ok(answer)
+        }
+    };
+}
+
+macro_rules! list {
+    ($doc:literal, $name:ident, $raw:ident) => {
+        #[doc = $doc]
+        pub fn $name(&self, output: &mut [f32]) -> Result<(), Refusal> {
+            let m = &self.memory;
+            let (a, an, b, bn, c, cn, d, dn) = lent!(&m);
+            // SAFETY: every part is a slice that lives through the call; the output is apart from the memory, which is borrowed shared.
+            checked(unsafe {
+                raw::$raw(
+                    m.head.as_ptr(), m.head.len(), a, an, b, bn, c, cn, d, dn, m.initial_values.as_ptr(), m.initial_values.len(),
+                    m.initial_timestamps.as_ptr(), m.initial_timestamps.len(), output.as_mut_ptr(), output.len(),
+                )
+            })
+        }
+    };
+}
+
+/// A preprocessor with its memory.
+#[derive(Clone, Debug)]
+pub struct Preprocessor {
+    memory: Memory,
+}
+
+impl Preprocessor {
+    pub fn build(settings: &Settings) -> Result<Preprocessor, Refusal> {
+        let memory = Memory::sized(settings.input_dimensions, settings.shingle_size, settings.start_normalization);
+        Preprocessor::build_in(settings, memory).map_err(|(refusal, _)| refusal)
+    }
+
+    /// In memory of any length and contents, which a refusal hands back as it was.
+    pub fn build_in(settings: &Settings, memory: Memory) -> Result<Preprocessor, (Refusal, Memory)> {
+        Preprocessor::build_by_numbers(settings.forest_mode as u64, settings.transform_method as u64, settings, memory)
+    }
+
+    /// With the mode and the method as any numbers.
+    pub fn build_by_numbers(mode: u64, method: u64, settings: &Settings, mut memory: Memory) -> Result<Preprocessor, (Refusal, Memory)> {
+        let m = &mut memory;
+        let (a, an, b, bn, c, cn, d, dn) = lent!(&mut m);
+        // SAFETY: every part is a slice of its own that lives through the call.
+        let row = unsafe {
+            raw::veerycouch_build(
+                mode, method, settings.input_dimensions, settings.shingle_size, settings.start_normalization, settings.stop_normalization,
+                settings.transform_decay, settings.weight_time, settings.weights.as_ptr(), settings.weights.len(), m.head.as_mut_ptr(), m.head.len(),
+                a, an, b, bn, c, cn, d, dn, m.initial_values.as_ptr(), m.initial_values.len(), m.initial_timestamps.as_ptr(), m.initial_timestamps.len(),
+            )
+        };
+        match checked(row) {
+            Ok(()) => Ok(Preprocessor { memory }),
+            Err(refusal) => Err((refusal, memory)),
+        }
+    }
+
+    /// Memory that some other library, or an older run, has filled: the calls refuse what no `build` made.
+    pub fn from_memory(memory: Memory) -> Preprocessor {
+        Preprocessor { memory }
+    }
+
+    pub fn memory(&self) -> &Memory {
+        &self.memory
+    }
+
+    pub fn into_memory(self) -> Memory {
+        self.memory
+    }
+
+    /// Feeds the initial values, once they are complete.
+    pub fn drain(&mut self) -> Result<(), Refusal> {
+        let m = &mut self.memory;
+        let (a, an, b, bn, c, cn, d, dn) = lent!(&mut m);
+        // SAFETY: every part is a slice of its own that lives through the call.
+        checked(unsafe {
+            raw::veerycouch_drain(
+                m.head.as_mut_ptr(), m.head.len(), a, an, b, bn, c, cn, d, dn, m.initial_values.as_ptr(), m.initial_values.len(),
+                m.initial_timestamps.as_ptr(), m.initial_timestamps.len(),
+            )
+        })
+    }
+
+    /// The shingled point of a reading, or none while waiting.
+    pub fn shingled_point(&mut self, input: &[f32], timestamp: u64) -> Result<Option<Vec<f32>>, Refusal> {
+        let mut output = vec![0.0; self.get_dimension()? as usize];
+        Ok(self.shingled_point_into(input, timestamp, &mut output)?.then_some(output))
+    }
+
+    /// Whether a point was given; it then stands in the first `get_dimension` numbers of the output.
+    pub fn shingled_point_into(&mut self, input: &[f32], timestamp: u64, output: &mut [f32]) -> Result<bool, Refusal> {
+        let m = &mut self.memory;
+        let mut given = 0;
+        let (a, an, b, bn, c, cn, d, dn) = lent!(&mut m);
+        // SAFETY: every part is a slice of its own that lives through the call.
+        checked(unsafe {
+            raw::veerycouch_shingled_point(
+                m.head.as_mut_ptr(), m.head.len(), a, an, b, bn, c, cn, d, dn, m.initial_values.as_ptr(), m.initial_values.len(),
+                m.initial_timestamps.as_ptr(), m.initial_timestamps.len(), input.as_ptr(), input.len(), timestamp, &mut given, output.as_mut_ptr(),
+                output.len(),
+            )
+        })?;
+        Ok(given != 0)
+    }
+
+    /// Learns a reading, or keeps it while waiting. The deviations, the past values and the expected values go into the lists.
+    pub fn post_process(
+        &mut self, input: &[f32], timestamp: u64, learn: Learn, deviations: &mut [f32], past: &mut [f32], expected: &mut [f32],
+    ) -> Result<Learned, Refusal> {
+        let m = &mut self.memory;
+        let (y, e) = (learn.y.unwrap_or(&[]), learn.expected.unwrap_or(&[]));
+        let (mut written, mut has_anomaly, mut past_timestamp, mut likelihood) = (0, 0, 0, 0.0);
+        let (a, an, b, bn, c, cn, d, dn) = lent!(&mut m);
+        // SAFETY: every part is a slice of its own that lives through the call.
+        checked(unsafe {
+            raw::veerycouch_post_process(
+                m.head.as_mut_ptr(), m.head.len(), a, an, b, bn, c, cn, d, dn, m.initial_values.as_mut_ptr(), m.initial_values.len(),
+                m.initial_timestamps.as_mut_ptr(), m.initial_timestamps.len(), input.as_ptr(), input.len(), timestamp, learn.y.is_some() as u64,
+                y.as_ptr(), y.len(), learn.expected.is_some() as u64, e.as_ptr(), e.len(), learn.grade, learn.relative_index,
+                deviations.as_mut_ptr(), deviations.len(), past.as_mut_ptr(), past.len(), expected.as_mut_ptr(), expected.len(),
+                &mut written, &mut has_anomaly, &mut past_timestamp, &mut likelihood,
+            )
+        })?;
+        Ok(Learned { written: written != 0, has_anomaly: has_anomaly != 0, past_timestamp, likelihood })
+    }
+
+    /// A reading, transformed, into the first numbers of the output.
+    pub fn transform(&self, input: &[f32], timestamp: u64, output: &mut [f32]) -> Result<(), Refusal> {
+        let m = &self.memory;
+        let (a, an, b, bn, c, cn, d, dn) = lent!(&m);
+        // SAFETY: every part is a slice that lives through the call; the output is apart from the rest.
+        checked(unsafe {
+            raw::veerycouch_transform(
+                m.head.as_ptr(), m.head.len(), a, an, b, bn, c, cn, d, dn, m.initial_values.as_ptr(), m.initial_values.len(),
+                m.initial_timestamps.as_ptr(), m.initial_timestamps.len(), input.as_ptr(), input.len(), timestamp, output.as_mut_ptr(), output.len(),
+            )
+        })
+    }
+
+    list!("The scale of each channel.", scale, veerycouch_scale);
+    list!("The shift of each channel.", shift, veerycouch_shift);
+    list!("The deviation of the differences of each channel.", difference_deviations, veerycouch_difference_deviations);
+
+    /// A forecast turned back: in STANDARD in its own place, in TIME_AUGMENTED into the outputs.
+    pub fn invert_extrapolation(&self, forecast: Ranges<f32>, numbers: Ranges<f32>, times: Ranges<f64>) -> Result<(), Refusal> {
+        let m = &self.memory;
+        // SAFETY: nine slices, each borrowed alone, apart from the memory, which is borrowed shared.
+        checked(unsafe {
+            raw::veerycouch_invert_extrapolation(
+                m.head.as_ptr(), m.head.len(), m.statistics.as_ptr(), m.statistics.len(), m.last_shingled_input.as_ptr(), m.last_shingled_input.len(),
+                m.previous_timestamps.as_ptr(), m.previous_timestamps.len(), forecast.values.as_mut_ptr(), forecast.values.len(),
+                forecast.upper.as_mut_ptr(), forecast.upper.len(), forecast.lower.as_mut_ptr(), forecast.lower.len(), numbers.values.as_mut_ptr(),
+                numbers.values.len(), numbers.upper.as_mut_ptr(), numbers.upper.len(), numbers.lower.as_mut_ptr(), numbers.lower.len(),
+                times.values.as_mut_ptr(), times.values.len(), times.upper.as_mut_ptr(), times.upper.len(), times.lower.as_mut_ptr(), times.lower.len(),
+            )
+        })
+    }
+
+    /// The text, into the first bytes of the output; its length.
+    pub fn save_into(&self, output: &mut [u8]) -> Result<usize, Refusal> {
+        let m = &self.memory;
+        let mut length = 0;
+        let (a, an, b, bn, c, cn, d, dn) = lent!(&m);
+        // SAFETY: every part is a slice that lives through the call; the output is apart from the rest.
+        checked(unsafe {
+            raw::veerycouch_save(
+                m.head.as_ptr(), m.head.len(), a, an, b, bn, c, cn, d, dn, m.initial_values.as_ptr(), m.initial_values.len(),
+                m.initial_timestamps.as_ptr(), m.initial_timestamps.len(), &mut length, output.as_mut_ptr(), output.len(),
+            )
+        })?;
+        Ok(length as usize)
+    }
+
+    /// The text. No text is longer than 500,400 bytes.
+    pub fn save(&self) -> Result<Vec<u8>, Refusal> {
+        let mut text = vec![0; 500_400];
+        let length = self.save_into(&mut text)?;
+        text.truncate(length);
+        Ok(text)
+    }
+
+    /// The text taken up in memory of any contents; a text not of the form gives row 19 and its first bad line.
+    #[cfg(feature = "restore")]
+    pub fn restore_in(text: &[u8], mut memory: Memory) -> Result<Preprocessor, (Refusal, u64, Memory)> {
+        let m = &mut memory;
+        let mut line = 0;
+        let (a, an, b, bn, c, cn, d, dn) = lent!(&mut m);
+        // SAFETY: every part is a slice of its own that lives through the call.
+        let row = unsafe {
+            raw::veerycouch_restore(
+                text.as_ptr(), text.len(), m.head.as_mut_ptr(), m.head.len(), a, an, b, bn, c, cn, d, dn, m.initial_values.as_mut_ptr(),
+                m.initial_values.len(), m.initial_timestamps.as_mut_ptr(), m.initial_timestamps.len(), &mut line,
+            )
+        };
+        match checked(row) {
+            Ok(()) => Ok(Preprocessor { memory }),
+            Err(refusal) => Err((refusal, line, memory)),
+        }
+    }
+
+    getter!("How many readings were learnt or wait.", values_seen, veerycouch_values_seen);
+    getter!("The number on the panel.", panel, veerycouch_panel);
+    getter!("How many readings were learnt.", internal_timestamp, veerycouch_internal_timestamp);
+    getter!("How many numbers a shingled point has.", get_dimension, veerycouch_get_dimension);
+    getter!("How many channels a reading has.", input_dimensions, veerycouch_input_dimensions);
+    getter!("How many readings a shingled point has.", shingle_size, veerycouch_shingle_size);
+    getter!("How many readings wait until the statistics begin.", start_normalization, veerycouch_start_normalization);
+    getter!("The number of the method.", transformation_method, veerycouch_transformation_method);
+    getter!("The number of the mode.", forest_mode, veerycouch_forest_mode);
+
+    /// Whether the shingle is full.
+    pub fn is_ready(&self) -> Result<bool, Refusal> {
+        let mut answer = 0;
+        // SAFETY: the words and the number are ours, and do not overlap.
+        checked(unsafe { raw::veerycouch_is_ready(self.memory.head.as_ptr(), self.memory.head.len(), &mut answer) })?;
+        Ok(answer != 0)
+    }
+}
+
+/// The square root, rounded once.
+pub fn sqrt(x: f64) -> f64 {
+    // SAFETY: numbers alone.
+    unsafe { raw::veerycouch_sqrt(x) }
+}
+
+/// The nearest f32.
+pub fn to_f32(x: f64) -> f32 {
+    // SAFETY: numbers alone.
+    unsafe { raw::veerycouch_to_f32(x) }
+}
