@@ -1,0 +1,164 @@
+//! The wrapper's own tests: samples of document 01, refusals, the head's words, and memory past the need.
+use veerycouch::{sqrt, to_f32, ForestMode, Learn, Memory, Preprocessor, Ranges, Refusal, Settings, TransformMethod, HEAD_WORDS};
+
+fn settings(method: TransformMethod, d: usize, k: usize, start: usize) -> Settings {
+    Settings {
+        forest_mode: ForestMode::Standard,
+        transform_method: method,
+        input_dimensions: d,
+        shingle_size: k,
+        start_normalization: start,
+        stop_normalization: start + 100,
+        transform_decay: 0.1,
+        weight_time: 1.0,
+        weights: vec![1.0; d],
+    }
+}
+
+fn learn(p: &mut Preprocessor, x: f32, t: u64) -> bool {
+    let mut deviations = [0.0; 17];
+    p.post_process(&[x], t, Learn::default(), &mut deviations, &mut [], &mut []).unwrap().written
+}
+
+/// "Start 2, k 4, W's 4, 6, then drain: inputs 0, 4, 4, 6"
+#[test]
+fn drained_inputs() {
+    let mut p = Preprocessor::build(&settings(TransformMethod::Normalize, 1, 4, 2)).unwrap();
+    assert_eq!(p.shingled_point(&[4.0], 1), Ok(None));
+    assert!(!learn(&mut p, 4.0, 1));
+    assert!(learn(&mut p, 6.0, 2));
+    assert_eq!(p.drain(), Ok(()));
+    assert_eq!(p.memory().last_shingled_input, [0.0, 4.0, 4.0, 6.0]);
+    assert_eq!(p.drain(), Err(Refusal(15)));
+    assert_eq!((p.values_seen(), p.internal_timestamp(), p.panel()), (Ok(2), Ok(2), Ok(2)));
+}
+
+/// "WEIGHTED 2: 3 becomes 6"
+#[test]
+fn weighted() {
+    let mut s = settings(TransformMethod::Weighted, 1, 1, 0);
+    s.weights = vec![2.0];
+    let mut p = Preprocessor::build(&s).unwrap();
+    assert_eq!(p.shingled_point(&[3.0], 5), Ok(Some(vec![6.0])));
+    let mut output = [7.0; 2];
+    p.transform(&[3.0], 5, &mut output).unwrap();
+    assert_eq!(output, [6.0, 7.0]);
+    assert_eq!(p.transform(&[3.0], 5, &mut []), Err(Refusal(20)));
+    assert_eq!(p.transform(&[3.0, 1.0], 5, &mut output), Err(Refusal(10)));
+    assert_eq!(p.shingled_point(&[f32::INFINITY], 5), Err(Refusal(11)));
+}
+
+#[test]
+fn every_row_of_build() {
+    let good = settings(TransformMethod::None, 2, 3, 4);
+    type Change = fn(&mut Settings);
+    let rows: [(Change, u64); 9] = [
+        (|s| s.forest_mode = ForestMode::StreamingImpute, 1),
+        (|s| s.input_dimensions = 0, 2),
+        (|s| s.shingle_size = 0, 3),
+        (|s| s.shingle_size = 65, 4),
+        (|s| s.weights = vec![1.0], 5),
+        (|s| s.transform_decay = 1.0, 6),
+        (|s| s.stop_normalization = 3, 7),
+        (|s| (s.start_normalization, s.stop_normalization) = (2000, 2000), 8),
+        (|s| s.weights[1] = 2.0, 9),
+    ];
+    for (change, row) in rows {
+        let mut s = good.clone();
+        change(&mut s);
+        assert_eq!(Preprocessor::build(&s).err(), Some(Refusal(row)));
+    }
+    assert!(Preprocessor::build(&good).is_ok());
+    let memory = || Memory::sized(2, 3, 4);
+    assert_eq!(Preprocessor::build_by_numbers(3, 0, &good, memory()).unwrap_err().0, Refusal(19));
+    assert_eq!(Preprocessor::build_by_numbers(0, 6, &good, memory()).unwrap_err().0, Refusal(19));
+    let mut short = memory();
+    short.head.pop();
+    assert_eq!(Preprocessor::build_in(&good, short).unwrap_err().0, Refusal(20));
+}
+
+#[test]
+fn the_words_of_a_head() {
+    let p = Preprocessor::build(&settings(TransformMethod::NormalizeDifference, 2, 4, 10)).unwrap();
+    let mut words = vec![0, 5, 2, 4, 10, 110, 0.1f64.to_bits(), 0x3f80_0000, 0, 0, 0, 0, 0x3f80_0000, 0x3f80_0000];
+    words.resize(HEAD_WORDS, 0);
+    assert_eq!(p.memory().head, words);
+    assert_eq!((p.get_dimension(), p.input_dimensions(), p.shingle_size(), p.start_normalization()), (Ok(8), Ok(2), Ok(4), Ok(10)));
+    assert_eq!((p.is_ready(), p.transformation_method(), p.forest_mode()), (Ok(false), Ok(5), Ok(0)));
+}
+
+#[test]
+fn damaged_heads() {
+    let p = Preprocessor::build(&settings(TransformMethod::Normalize, 2, 4, 10)).unwrap();
+    for (at, word, row) in [(0, 2, 1), (0, 3, 19), (1, 6, 19), (2, 0, 2), (3, 0, 3), (2, 17, 4), (3, 65, 4), (6, 0x7ff8_0000_0000_0000, 6), (4, 200, 7)] {
+        let mut memory = p.clone().into_memory();
+        memory.head[at] = word;
+        let mut other = Preprocessor::from_memory(memory);
+        let rows = [other.drain().err(), other.panel().err(), other.save().err(), other.shift(&mut [0.0; 4]).err(), other.shingled_point(&[1.0, 2.0], 1).err()];
+        assert_eq!(rows, [Some(Refusal(row)); 5], "word {at} is {word}");
+    }
+}
+
+/// Every pattern of a not-a-number is read as one, and a weight's high bits do not count.
+#[test]
+fn patterns() {
+    let mut s = settings(TransformMethod::Weighted, 1, 1, 0);
+    s.weights = vec![f32::from_bits(0xffc0_1234)];
+    let p = Preprocessor::build(&s).unwrap();
+    assert_eq!(p.memory().head[12], 0x7fc0_0000);
+    let mut memory = p.into_memory();
+    let mut output = [0.0];
+    for (word, nan) in [(0x7f80_0001, true), (0xffff_ffff, true), (0x1_7f80_0000, false), (0xdead_beef_3f80_0000, false)] {
+        memory.head[12] = word;
+        let p = Preprocessor::from_memory(memory.clone());
+        p.transform(&[3.0], 0, &mut output).unwrap();
+        assert_eq!(output[0].is_nan(), nan, "{word:x}");
+    }
+    assert_eq!(output, [3.0]);
+}
+
+#[test]
+fn text_and_its_length() {
+    let p = Preprocessor::build(&settings(TransformMethod::None, 1, 1, 10)).unwrap();
+    let text = p.save().unwrap();
+    assert!(text.starts_with(b"set\tS\t0\t1\t1\t10\t110\t3fb999999999999a\t3f800000\nwgt\t3f800000\ncnt\t0\t0\t0\ndev\t"));
+    let mut output = vec![9; text.len() + 1];
+    assert_eq!(p.save_into(&mut output[..text.len() - 1]), Err(Refusal(20)));
+    assert!(output.iter().all(|&b| b == 9));
+    assert_eq!(p.save_into(&mut output), Ok(text.len()));
+    assert_eq!((&output[..text.len()], output[text.len()]), (&text[..], 9));
+}
+
+#[test]
+fn turned_back() {
+    let mut s = settings(TransformMethod::Difference, 1, 2, 0);
+    let p = Preprocessor::build(&s).unwrap();
+    let (mut values, mut upper, mut lower) = ([1.0, 2.0, 3.0], [1.0, 2.0, 3.0], [1.0, 2.0, 3.0]);
+    let none = || Ranges { values: &mut [], upper: &mut [], lower: &mut [] };
+    let times = || Ranges { values: &mut [], upper: &mut [], lower: &mut [] };
+    p.invert_extrapolation(Ranges { values: &mut values, upper: &mut upper, lower: &mut lower }, none(), times()).unwrap();
+    assert_eq!((values, upper, lower), ([1.0, 3.0, 6.0], [1.0, 3.0, 6.0], [1.0, 3.0, 6.0]));
+    assert_eq!(p.invert_extrapolation(none(), none(), times()), Err(Refusal(16)));
+    s.forest_mode = ForestMode::TimeAugmented;
+    let p = Preprocessor::build(&s).unwrap();
+    let (mut values, mut upper, mut lower) = ([1.0; 4], [1.0; 4], [1.0; 4]);
+    let forecast = Ranges { values: &mut values, upper: &mut upper, lower: &mut lower };
+    assert_eq!(p.invert_extrapolation(forecast, none(), times()), Err(Refusal(20)));
+    let (mut a, mut b, mut c) = ([9.0; 3], [9.0; 3], [9.0; 3]);
+    let (mut x, mut y, mut z) = ([9.0; 2], [9.0; 2], [9.0; 2]);
+    p.invert_extrapolation(
+        Ranges { values: &mut values, upper: &mut upper, lower: &mut lower },
+        Ranges { values: &mut a, upper: &mut b, lower: &mut c },
+        Ranges { values: &mut x, upper: &mut y, lower: &mut z },
+    )
+    .unwrap();
+    assert_eq!((a[2], x[1]), (9.0, 9.0));
+    assert!(a[0] != 9.0 && x[0] != 9.0);
+}
+
+#[test]
+fn numbers() {
+    assert_eq!(sqrt(f64::from_bits(1)).to_bits(), 0x1e60_0000_0000_0000);
+    assert!(sqrt(-1.0).is_nan());
+    assert_eq!((to_f32(16777217.0), to_f32(16777219.0)), (16777216.0, 16777220.0));
+}
