@@ -26,3 +26,5 @@ pub mod SettingsLaws
 pub mod JudgeSettings
 pub mod JudgeSteps
 pub mod PairLines
+pub mod RunLaws
+pub mod PartLaws

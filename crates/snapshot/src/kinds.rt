@@ -1,4 +1,4 @@
-// Reading the lines of a snapshot (document 01: taking up).
+// Each kind of line of a snapshot, as it is read (document 01: taking up).
 use crate::field::Field;
 use crate::judge::Place;
 use crate::judge::byte;
@@ -24,7 +24,7 @@ ghost use Rattle.trcf.specs.Preprocessor.{reading};
 ghost use Rattle.snapshot.specs.Judge.{placed, held, Filled, wgtBy, cntTest, cntBy, timBy, bufBy, countsRead, FilledWith};
 
 // The weights, as many as `out` is long.
-fn wgt_line(text: &[u8], at: usize, method: TransformMethod, out: &mut [f32]) -> Place
+pub(crate) fn wgt_line(text: &[u8], at: usize, method: TransformMethod, out: &mut [f32]) -> Place
     ensures { λ r. ⌜ Filled (wgtBy method (length (now (out .entry))) (drop at (now (text .entry)))) (now (text .entry)) (now (out .entry)) r (now (out .exit)) ⌝ }
 {
     let place = singles_line(text, at, 119, 103, 116, out);
@@ -37,7 +37,7 @@ fn wgt_line(text: &[u8], at: usize, method: TransformMethod, out: &mut [f32]) ->
 }
 
 // The last times, as many as `out` is long.
-fn tim_line(text: &[u8], at: usize, internal: usize, out: &mut [u64]) -> Place
+pub(crate) fn tim_line(text: &[u8], at: usize, internal: usize, out: &mut [u64]) -> Place
     ensures { λ r. ⌜ Filled (timBy internal (length (now (out .entry))) (drop at (now (text .entry)))) (now (text .entry)) (now (out .entry)) r (now (out .exit)) ⌝ }
 {
     let place = wholes_line(text, at, 116, 105, 109, out);
@@ -52,7 +52,7 @@ fn tim_line(text: &[u8], at: usize, internal: usize, out: &mut [u64]) -> Place
     place
 }
 
-fn is_waiting(method: TransformMethod, start: usize, seen: u64) -> bool
+pub(crate) fn is_waiting(method: TransformMethod, start: usize, seen: u64) -> bool
     ensures { λ r. ⌜ r ≡ normalizes method && ltb seen start ⌝ }
 {
     if is_normalizing(method) {
@@ -91,7 +91,7 @@ pub(crate) struct Counters {
 }
 
 // The line of the counters.
-fn cnt_line(text: &[u8], at: usize, method: TransformMethod, start: usize) -> Counters
+pub(crate) fn cnt_line(text: &[u8], at: usize, method: TransformMethod, start: usize) -> Counters
     ensures { λ r. ⌜ held (countsRead (r .seen) (r .internal) (r .count)) (placed (r .place) (now (text .entry))) ≡ cntBy method start (drop at (now (text .entry))) ⌝ }
 {
     let mut n = [0u64; 3];
@@ -122,7 +122,7 @@ pub(crate) struct Timed {
 }
 
 // One initial value, as many numbers as `out` is long, not before the time `past`.
-fn buf_line(text: &[u8], at: usize, past: u64, out: &mut [f32]) -> Timed
+pub(crate) fn buf_line(text: &[u8], at: usize, past: u64, out: &mut [f32]) -> Timed
     ensures { λ r. ⌜ FilledWith (bufBy (length (now (out .entry))) past (drop at (now (text .entry)))) (now (text .entry)) (now (out .entry)) (r .place) (reading (now (out .exit)) (r .time)) ⌝ }
 {
     let Place::At(p) = name(text, at, 98, 117, 102) else {

@@ -1,0 +1,197 @@
+-- `restore` (document 01: taken up), and the lines of a text one after the other, as the code reads them.
+use Prim.Native.Nat.{ℕ, zero, suc, _+_, _*_}
+use mathlib.Core.Bool.{Bool, true, false, not, _&&_, cond}
+use mathlib.Core.Path.{_≡_}
+use mathlib.Core.List.{List, [], _∷_, _++_}
+use mathlib.Core.Option.{Option, none, some}
+use lib.ListN.{length, drop}
+use lib.Ieee.{Float, binary32, binary64}
+use Rattle.trcf.specs.Lists.{null}
+use Rattle.trcf.specs.Settings.{Settings, dimension, waiting}
+use Rattle.trcf.specs.Preprocessor.{State, Reading}
+use Rattle.trcf.specs.View.{Lent, lentShort, headFrom, noHead, counting, counted, laid}
+use Rattle.trcf.specs.declared.preprocessor.Preprocessor.{Preprocessor}
+use Rattle.snapshot.specs.Read.{asFloat, Counts, Read, taken, bad, read, mayStand, stateOf, withWeights}
+use Rattle.snapshot.specs.Judge.{listLine, setBy, wgtBy, cntBy, timBy, bufBy}
+use Rattle.snapshot.specs.declared.lines.Lines.{Lines}
+
+-- ---- what `restore` gives: row, bad line, head and the lent lists afterwards
+
+pub record Outcome : Type 0 where
+  pub row : ℕ
+  pub line : ℕ
+  pub head : Preprocessor
+  pub lent : Lent
+
+abbrev pub outcome : ℕ → ℕ → Preprocessor → Lent → Outcome
+outcome row line h l = record { row = row; line = line; head = h; lent = l }
+
+-- 19 with the bad line; 20 where a lent list is too short; both leave all as it was. Else the state that was read, "whatever they held before".
+unfoldable pub restored : Read → Lent → Outcome
+restored (bad n) l = outcome 19 n noHead l
+restored (taken w) l =
+    cond (lentShort (w .settings) l) (outcome 20 0 noHead l) (outcome 0 0 (counted (headFrom (w .settings)) w) (laid w l))
+
+unfoldable pub restoreOf : List ℕ → Lent → Outcome
+restoreOf t l = restored (read t) l
+
+-- ---- some lines: a value and what is left of the text, or which of them is the first bad one, from 1
+
+pub data Ran (A : Type 0) : Type 0 where
+  ran : A → List ℕ → Ran A
+  broke : ℕ → Ran A
+
+-- one line
+abbrev pub oneLine : {A : Type 0} → Option (A × List ℕ) → Ran A
+oneLine none = broke 1
+oneLine (some r) = ran (r .0) (r .1)
+
+-- lines behind n others
+abbrev pub behindLines : {A : Type 0} → ℕ → Ran A → Ran A
+behindLines n (ran a z) = ran a z
+behindLines n (broke m) = broke (n + m)
+
+-- n lines, then others
+abbrev pub after : {A B : Type 0} → ℕ → Ran A → (A → List ℕ → Ran B) → Ran B
+after n (ran a z) g = behindLines n (g a z)
+after n (broke m) g = broke m
+
+-- as the code tells it: the bad line or 0, and the place behind
+abbrev pub told : {A : Type 0} → ℕ → A → List ℕ → Ran A
+told zero a z = ran a z
+told (suc m) a z = broke (suc m)
+
+abbrev pub lined : {A : Type 0} → Lines → A → List ℕ → Ran A
+lined r a t = told (r .bad) a (drop (r .at) t)
+
+-- ---- lines of one kind, each read with what the one before it says
+
+abbrev pub front : {A : Type 0} → A → Ran (List A) → Ran (List A)
+front a (ran l z) = ran (a ∷ l) z
+front a (broke m) = broke m
+
+module _ {A : Type 0} (p : ℕ → List ℕ → Option (A × List ℕ)) (f : A → ℕ) where
+  abbrev pub many : ℕ → ℕ → List ℕ → Ran (List A)
+  many q zero l = ran [] l
+  many q (suc n) l = after 1 (oneLine (p q l)) (λ a z. front a (many (f a) n z))
+
+-- the `dev` lines, three numbers each
+abbrev pub devLine : ℕ → List ℕ → Option (List Float × List ℕ)
+devLine q l = listLine (asFloat binary64) 100 101 118 3 l
+
+abbrev pub unread : List Float → ℕ
+unread v = 0
+
+abbrev pub flat : List (List Float) → List Float
+flat [] = []
+flat (v ∷ l) = v ++ flat l
+
+abbrev pub mapRan : {A B : Type 0} → (A → B) → Ran A → Ran B
+mapRan f (ran a z) = ran (f a) z
+mapRan f (broke m) = broke m
+
+unfoldable pub devs : ℕ → List ℕ → Ran (List Float)
+devs n l = mapRan flat (many devLine unread 0 n l)
+
+-- the `buf` lines: "times not falling"
+abbrev pub timeOf : Reading → ℕ
+timeOf r = r .time
+
+abbrev pub valuesOf : List Reading → List Float
+valuesOf [] = []
+valuesOf (r ∷ l) = r .value ++ valuesOf l
+
+abbrev pub timesOf : List Reading → List ℕ
+timesOf [] = []
+timesOf (r ∷ l) = r .time ∷ timesOf l
+
+pub record Initial : Type 0 where
+  pub values : List Float
+  pub times : List ℕ
+
+abbrev pub initial : List Float → List ℕ → Initial
+initial v ts = record { values = v; times = ts }
+
+abbrev pub initialOf : List Reading → Initial
+initialOf l = initial (valuesOf l) (timesOf l)
+
+-- what is judged and not kept
+abbrev pub unkept : Initial → Unit {0}
+unkept i = tt
+
+unfoldable pub bufs : ℕ → ℕ → List ℕ → Ran Initial
+bufs d n l = mapRan initialOf (many (bufBy d) timeOf 0 n l)
+
+-- ---- the lines from `dev` to `tim`
+
+pub record Parts : Type 0 where
+  pub statistics : List Float
+  pub input : List Float
+  pub point : List Float
+  pub times : List ℕ
+
+abbrev pub parts : List Float → List Float → List Float → List ℕ → Parts
+parts st x y ts = record { statistics = st; input = x; point = y; times = ts }
+
+unfoldable pub partsBy : ℕ → ℕ → ℕ → ℕ → ℕ → List ℕ → Ran Parts
+partsBy internal n x y k l =
+    after n (devs n l)
+    (λ st l₁.
+    after 1 (oneLine (listLine (asFloat binary32) 105 110 112 x l₁))
+    (λ v l₂.
+    after 1 (oneLine (listLine (asFloat binary32) 112 110 116 y l₂))
+    (λ u l₃. after 1 (oneLine (timBy internal k l₃)) (λ ts l₄. ran (parts st v u ts) l₄))))
+
+-- ---- `set`, `wgt` and `cnt`
+
+pub record Head : Type 0 where
+  pub settings : Settings
+  pub counts : Counts
+
+abbrev pub headRead : Settings → Counts → Head
+headRead s c = record { settings = s; counts = c }
+
+unfoldable pub headBy : List ℕ → Ran Head
+headBy l =
+    after 1 (oneLine (setBy l))
+    (λ s l₁.
+    after 1 (oneLine (wgtBy (s .method) (s .d) l₁))
+    (λ v l₂. after 1 (oneLine (cntBy (s .method) (s .start) l₂)) (λ c l₃. ran (headRead (withWeights s v) c) l₃)))
+
+-- with no initial values yet
+abbrev pub headOf : Head → Preprocessor
+headOf h = counting (headFrom (h .settings)) (h .counts .count) (h .counts .valuesSeen) (h .counts .internalTimestamp) 0
+
+-- ---- the whole text
+
+-- "While waiting, `buf` lines = values_seen …; later none, or start lines"
+unfoldable pub expected : Settings → Counts → List ℕ → ℕ
+expected s c l = cond (waiting s (c .valuesSeen)) (c .valuesSeen) (cond (mayStand s c && not (null l)) (s .start) 0)
+
+-- nothing may follow
+abbrev pub ending : {A : Type 0} → A → List ℕ → Ran A
+ending a [] = ran a []
+ending a (x ∷ l) = broke 1
+
+pub record Body : Type 0 where
+  pub parts : Parts
+  pub initial : Initial
+
+abbrev pub body : Parts → Initial → Body
+body p i = record { parts = p; initial = i }
+
+unfoldable pub bodyBy : Settings → Counts → List ℕ → Ran Body
+bodyBy s c l =
+    after (5 * s .d + 8) (partsBy (c .internalTimestamp) (5 * s .d + 5) (s .d * s .k) (dimension s) (s .k) l)
+    (λ p l₁. after (expected s c l₁) (bufs (s .d) (expected s c l₁) l₁) (λ i l₂. ending (body p i) l₂))
+
+abbrev pub stateFrom : Settings → Counts → Body → State
+stateFrom s c b =
+    stateOf s c (b .parts .statistics) (b .parts .input) (b .parts .point) (b .parts .times) (b .initial .values) (b .initial .times)
+
+unfoldable pub readBy : List ℕ → Ran State
+readBy t = after 3 (headBy t) (λ h l. mapRan (stateFrom (h .settings) (h .counts)) (bodyBy (h .settings) (h .counts) l))
+
+abbrev pub asRead : Ran State → Read
+asRead (ran w z) = taken w
+asRead (broke m) = bad m
