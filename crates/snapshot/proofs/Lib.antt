@@ -28,3 +28,4 @@ pub mod JudgeSteps
 pub mod PairLines
 pub mod RunLaws
 pub mod PartLaws
+pub mod HeadLaws

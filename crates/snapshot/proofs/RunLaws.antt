@@ -88,6 +88,9 @@ pub told-broke : {A : Type 0} (m : ℕ) (a : A) (z : List ℕ) → 0 < m → tol
 told-broke zero a z h = absurd (omega (arith, h))
 told-broke (suc m) a z h = refl
 
+pub told-bad : {A : Type 0} (m n : ℕ) (a : A) (z : List ℕ) → m ≡ n → 0 < n → told m a z ≡ broke n
+told-bad m n a z e h = ap (λ (k : ℕ). told k a z) e ∙ told-broke n a z h
+
 pub told-ran : {A : Type 0} (m : ℕ) (a : A) (z : List ℕ) (r : Ran A) → m ≡ 0 → told m a z ≡ r → ran a z ≡ r
 told-ran zero a z r h e = e
 told-ran (suc m) a z r h e = absurd (omega (arith, h))

@@ -162,6 +162,27 @@ headBy l =
 abbrev pub headOf : Head → Preprocessor
 headOf h = counting (headFrom (h .settings)) (h .counts .count) (h .counts .valuesSeen) (h .counts .internalTimestamp) 0
 
+-- the same with an array of which the first d count
+abbrev pub headWith : Settings → List Float → Counts → Preprocessor
+headWith s a c =
+    record {
+      transformer = record {
+        «transform_method» = s .method;
+        «input_length» = s .d;
+        «transform_decay» = s .decay;
+        weights = a;
+        count = c .count;
+      };
+      «forest_mode» = s .mode;
+      «shingle_size» = s .k;
+      «start_normalization» = s .start;
+      «stop_normalization» = s .stop;
+      «weight_time» = s .weightTime;
+      «values_seen» = c .valuesSeen;
+      «internal_timestamp» = c .internalTimestamp;
+      «initial_len» = 0;
+    }
+
 -- ---- the whole text
 
 -- "While waiting, `buf` lines = values_seen …; later none, or start lines"

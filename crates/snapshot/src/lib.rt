@@ -5,6 +5,7 @@ mod kinds;
 pub mod line;
 mod lines;
 mod reader;
+pub mod restore;
 pub mod save;
 mod settings;
 mod values;

@@ -1,0 +1,120 @@
+// `restore` (document 01: taking up): the whole text is judged first, and then the lent lists are filled.
+use crate::judge::Place;
+use crate::kinds::cnt_line;
+use crate::kinds::is_waiting;
+use crate::kinds::wgt_line;
+use crate::lines::Lines;
+use crate::lines::buf_lines;
+use crate::lines::buf_lines_unkept;
+use crate::lines::part_lines;
+use crate::save::is_past;
+use crate::save::time_width;
+use crate::settings::Set;
+use crate::settings::set_line;
+use crate::values::is_normalizing;
+use trcf::preprocessor::Preprocessor;
+use trcf::transformer::WeightedTransformer;
+use trcf::types::ForestMode;
+use trcf::types::TransformMethod;
+ghost use mathlib.Core.Path.{_≡_};
+ghost use mathlib.Core.Bool.{_&&_, _||_, not, cond};
+ghost use Prim.Native.Nat.{_+_, _*_, _≤_, _<_};
+ghost use lib.Dec.{eqb};
+ghost use lib.ListN.{length, take, drop};
+ghost use Rattle.trcf.specs.Types.{normalizes};
+ghost use Rattle.trcf.specs.View.{lent, settingsOf, noHead, counting};
+ghost use Rattle.snapshot.specs.Read.{mayStand, withWeights};
+ghost use Rattle.snapshot.specs.Judge.{countsRead, settingsTold};
+ghost use Rattle.snapshot.specs.Restore.{told, mapRan, headRead, headOf, headWith, headBy};
+
+// The first bad line of the first three or 0, the place behind them, and the head that they give, with no initial values yet.
+pub(crate) struct Header {
+    pub bad: usize,
+    pub at: usize,
+    pub head: Preprocessor,
+}
+
+// What a refused text gives: every call refuses it.
+fn no_head() -> Preprocessor
+    ensures { λ r. ⌜ r ≡ noHead ⌝ }
+{
+    Preprocessor {
+        transformer: WeightedTransformer {
+            transform_method: TransformMethod::NONE,
+            input_length: 0,
+            transform_decay: 0.0,
+            weights: [0.0; 16],
+            count: 0,
+        },
+        forest_mode: ForestMode::STANDARD,
+        shingle_size: 0,
+        start_normalization: 0,
+        stop_normalization: 0,
+        weight_time: 0.0,
+        values_seen: 0,
+        internal_timestamp: 0,
+        initial_len: 0,
+    }
+}
+
+// The head of the settings, the weights and the counters.
+fn head_with(set: Set, weights: [f32; 16], seen: u64, internal: u64, count: u64) -> Preprocessor
+    ensures { λ r. ⌜ r ≡ headWith (settingsTold set) weights (countsRead seen internal count) ⌝ }
+{
+    let method = set.method;
+    let mode = set.mode;
+    Preprocessor {
+        transformer: WeightedTransformer {
+            transform_method: method,
+            input_length: set.d as usize,
+            transform_decay: set.decay,
+            weights: weights,
+            count: count,
+        },
+        forest_mode: mode,
+        shingle_size: set.k as usize,
+        start_normalization: set.start as usize,
+        stop_normalization: set.stop as usize,
+        weight_time: set.weight_time,
+        values_seen: seen as usize,
+        internal_timestamp: internal as usize,
+        initial_len: 0,
+    }
+}
+
+fn no_header(bad: usize) -> Header
+    ensures { λ r. ⌜ r .bad ≡ bad ⌝ }
+{
+    Header {
+        bad: bad,
+        at: 0,
+        head: no_head(),
+    }
+}
+
+// The lines of the settings, the weights and the counters.
+fn head_lines(text: &[u8]) -> Header
+    ensures { λ r. ⌜ told (r .bad) (r .head) (drop (r .at) (now (text .entry))) ≡ mapRan headOf (headBy (now (text .entry))) ⌝ }
+{
+    let set = set_line(text);
+    let first = set.place;
+    let Place::At(p) = first else {
+        return no_header(1);
+    };
+    let d = set.d as usize;
+    let method = set.method;
+    let mut weights = [0.0f32; 16];
+    let Place::At(q) = wgt_line(text, p, method, &mut weights[..d]) else {
+        return no_header(2);
+    };
+    let counters = cnt_line(text, q, method, set.start as usize);
+    let third = counters.place;
+    let Place::At(r) = third else {
+        return no_header(3);
+    };
+    Header {
+        bad: 0,
+        at: r,
+        head: head_with(set, weights, counters.seen, counters.internal, counters.count),
+    }
+}
