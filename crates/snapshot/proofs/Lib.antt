@@ -29,3 +29,4 @@ pub mod PairLines
 pub mod RunLaws
 pub mod PartLaws
 pub mod HeadLaws
+pub mod BodyLaws

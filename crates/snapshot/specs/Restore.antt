@@ -14,6 +14,7 @@ use Rattle.trcf.specs.declared.preprocessor.Preprocessor.{Preprocessor}
 use Rattle.snapshot.specs.Read.{asFloat, Counts, Read, taken, bad, read, mayStand, stateOf, withWeights}
 use Rattle.snapshot.specs.Judge.{listLine, setBy, wgtBy, cntBy, timBy, bufBy}
 use Rattle.snapshot.specs.declared.lines.Lines.{Lines}
+use Rattle.snapshot.specs.declared.restore.Judged.{Judged}
 
 -- ---- what `restore` gives: row, bad line, head and the lent lists afterwards
 
@@ -63,6 +64,11 @@ told (suc m) a z = broke (suc m)
 
 abbrev pub lined : {A : Type 0} → Lines → A → List ℕ → Ran A
 lined r a t = told (r .bad) a (drop (r .at) t)
+
+-- what is judged and not kept
+abbrev pub unkept : {A : Type 0} → Ran A → Ran (Unit {0})
+unkept (ran a z) = ran tt z
+unkept (broke m) = broke m
 
 -- ---- lines of one kind, each read with what the one before it says
 
@@ -114,10 +120,6 @@ initial v ts = record { values = v; times = ts }
 
 abbrev pub initialOf : List Reading → Initial
 initialOf l = initial (valuesOf l) (timesOf l)
-
--- what is judged and not kept
-abbrev pub unkept : Initial → Unit {0}
-unkept i = tt
 
 unfoldable pub bufs : ℕ → ℕ → List ℕ → Ran Initial
 bufs d n l = mapRan initialOf (many (bufBy d) timeOf 0 n l)
@@ -183,6 +185,10 @@ headWith s a c =
       «initial_len» = 0;
     }
 
+abbrev pub countsIn : Preprocessor → Counts
+countsIn h =
+    record { valuesSeen = h .«values_seen»; internalTimestamp = h .«internal_timestamp»; count = h .transformer .count }
+
 -- ---- the whole text
 
 -- "While waiting, `buf` lines = values_seen …; later none, or start lines"
@@ -201,10 +207,18 @@ pub record Body : Type 0 where
 abbrev pub body : Parts → Initial → Body
 body p i = record { parts = p; initial = i }
 
+unfoldable pub partsOf : Settings → Counts → List ℕ → Ran Parts
+partsOf s c l = partsBy (c .internalTimestamp) (5 * s .d + 5) (s .d * s .k) (dimension s) (s .k) l
+
 unfoldable pub bodyBy : Settings → Counts → List ℕ → Ran Body
 bodyBy s c l =
-    after (5 * s .d + 8) (partsBy (c .internalTimestamp) (5 * s .d + 5) (s .d * s .k) (dimension s) (s .k) l)
+    after (5 * s .d + 8) (partsOf s c l)
     (λ p l₁. after (expected s c l₁) (bufs (s .d) (expected s c l₁) l₁) (λ i l₂. ending (body p i) l₂))
+
+-- what a judged text says of these lines: the bad one or 0, and how many initial values there are
+abbrev pub summed : Ran Body → Judged
+summed (ran b z) = record { bad = 0; count = length (b .initial .times) }
+summed (broke m) = record { bad = m; count = 0 }
 
 abbrev pub stateFrom : Settings → Counts → Body → State
 stateFrom s c b =

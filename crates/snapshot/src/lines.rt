@@ -7,7 +7,7 @@ use crate::kinds::tim_line;
 ghost use mathlib.Core.Path.{_≡_};
 ghost use Prim.Native.Nat.{_+_, _*_, _≤_, _<_};
 ghost use lib.ListN.{length, drop};
-ghost use Rattle.snapshot.specs.Restore.{lined, mapRan, devs, bufs, initial, unkept, parts, partsBy};
+ghost use Rattle.snapshot.specs.Restore.{lined, devs, bufs, initial, unkept, parts, partsBy};
 
 // The first bad line among some, from 1, or 0 for none; and the place behind them.
 pub(crate) struct Lines {
@@ -20,6 +20,7 @@ fn dev_lines(text: &[u8], at: usize, n: usize, statistics: &mut [f64]) -> Lines
     requires { ⌜ length (now statistics) ≡ n * 3 ⌝ }
     requires { ⌜ n ≤ 2000 ⌝ }
     ensures { λ r. ⌜ lined r (now (statistics .exit)) (now (text .entry)) ≡ devs n (drop at (now (text .entry))) ⌝ }
+    ensures { λ r. ⌜ r .bad ≤ n ⌝ }
 {
     let mut p = at;
     let mut i = 0;
@@ -50,6 +51,7 @@ pub(crate) fn part_lines(
     requires { ⌜ length (now statistics) ≡ n * 3 ⌝ }
     requires { ⌜ n ≤ 2000 ⌝ }
     ensures { λ r. ⌜ lined r (parts (now (statistics .exit)) (now (input .exit)) (now (point .exit)) (now (times .exit))) (now (text .entry)) ≡ partsBy internal n (length (now (input .entry))) (length (now (point .entry))) (length (now (times .entry))) (drop at (now (text .entry))) ⌝ }
+    ensures { λ r. ⌜ r .bad ≤ n + 3 ⌝ }
 {
     let a = dev_lines(text, at, n, statistics);
     if a.bad != 0 {
@@ -108,7 +110,8 @@ pub(crate) fn buf_lines(text: &[u8], at: usize, d: usize, n: usize, values: &mut
 pub(crate) fn buf_lines_unkept(text: &[u8], at: usize, d: usize, n: usize) -> Lines
     requires { ⌜ d ≤ 16 ⌝ }
     requires { ⌜ n ≤ 2000 ⌝ }
-    ensures { λ r. ⌜ lined r tt (now (text .entry)) ≡ mapRan unkept (bufs d n (drop at (now (text .entry)))) ⌝ }
+    ensures { λ r. ⌜ lined r tt (now (text .entry)) ≡ unkept (bufs d n (drop at (now (text .entry)))) ⌝ }
+    ensures { λ r. ⌜ r .bad ≤ n ⌝ }
 {
     let mut values = [0.0f32; 16];
     let mut p = at;

@@ -25,7 +25,7 @@ ghost use Rattle.trcf.specs.Types.{normalizes};
 ghost use Rattle.trcf.specs.View.{lent, settingsOf, noHead, counting};
 ghost use Rattle.snapshot.specs.Read.{mayStand, withWeights};
 ghost use Rattle.snapshot.specs.Judge.{countsRead, settingsTold};
-ghost use Rattle.snapshot.specs.Restore.{told, mapRan, headRead, headOf, headWith, headBy};
+ghost use Rattle.snapshot.specs.Restore.{told, mapRan, headRead, headOf, headWith, headBy, countsIn, expected, lined, unkept, partsOf, bodyBy, summed};
 
 // The first bad line of the first three or 0, the place behind them, and the head that they give, with no initial values yet.
 pub(crate) struct Header {
@@ -117,4 +117,100 @@ fn head_lines(text: &[u8]) -> Header
         at: r,
         head: head_with(set, weights, counters.seen, counters.internal, counters.count),
     }
+}
+
+// How many `buf` lines are to come, from the place behind `tim` on.
+fn initial_count(head: Preprocessor, text: &[u8], at: usize) -> usize
+    ensures { λ r. ⌜ r ≡ expected (settingsOf head) (countsIn head) (drop at (now (text .entry))) ⌝ }
+{
+    let t = head.transformer;
+    let method = t.transform_method;
+    let start = head.start_normalization;
+    let seen = head.values_seen;
+    if is_waiting(method, start, seen as u64) {
+        return seen;
+    }
+    if !is_normalizing(method) {
+        return 0;
+    }
+    if text.len() <= at {
+        return 0;
+    }
+    if seen != start {
+        return start;
+    }
+    if head.internal_timestamp == 0 {
+        return start;
+    }
+    0
+}
+
+// The first bad line behind `cnt` or 0, and how many initial values there are.
+pub(crate) struct Judged {
+    pub bad: usize,
+    pub count: usize,
+}
+
+// The lines from `dev` to `tim`, of which nothing is kept.
+fn part_lines_unkept(text: &[u8], at: usize, head: Preprocessor) -> Lines
+    requires { ⌜ head .transformer .«input_length» ≤ 16 ⌝ }
+    requires { ⌜ head .«shingle_size» ≤ 64 ⌝ }
+    ensures { λ r. ⌜ lined r tt (now (text .entry)) ≡ unkept (partsOf (settingsOf head) (countsIn head) (drop at (now (text .entry)))) ⌝ }
+    ensures { λ r. ⌜ r .bad ≤ 88 ⌝ }
+{
+    let t = head.transformer;
+    let d = t.input_length;
+    let k = head.shingle_size;
+    let mode = head.forest_mode;
+    let lines = 5 * d + 5;
+    let w = d + time_width(mode);
+    let mut statistics = [0.0f64; 255];
+    let mut input = [0.0f32; 1024];
+    let mut point = [0.0f32; 1088];
+    let mut times = [0u64; 64];
+    part_lines(
+        text,
+        at,
+        head.internal_timestamp,
+        lines,
+        &mut statistics[..lines * 3],
+        &mut input[..d * k],
+        &mut point[..w * k],
+        &mut times[..k],
+    )
+}
+
+// Judges the lines behind `cnt`.
+fn judge_body(text: &[u8], at: usize, head: Preprocessor) -> Judged
+    requires { ⌜ head .transformer .«input_length» ≤ 16 ⌝ }
+    requires { ⌜ head .«shingle_size» ≤ 64 ⌝ }
+    requires { ⌜ head .«start_normalization» < 2000 ⌝ }
+    ensures { λ r. ⌜ r ≡ summed (bodyBy (settingsOf head) (countsIn head) (drop at (now (text .entry)))) ⌝ }
+    ensures { λ r. ⌜ r .bad ≤ 3000 ⌝ }
+{
+    let a = part_lines_unkept(text, at, head);
+    if a.bad != 0 {
+        return Judged {
+            bad: a.bad,
+            count: 0,
+        };
+    }
+    let t = head.transformer;
+    let d = t.input_length;
+    let before = 5 * d + 8;
+    let n = initial_count(head, text, a.at);
+    let b = buf_lines_unkept(text, a.at, d, n);
+    if b.bad != 0 {
+        return Judged {
+            bad: before + b.bad,
+            count: 0,
+        };
+    }
+    if b.at < text.len() {
+        return Judged {
+            bad: before + n + 1,
+            count: 0,
+        };
+    }
+    Judged { bad: 0, count: n }
 }

@@ -6,7 +6,7 @@ use mathlib.Core.Path.{_≡_, refl, sym, ap, _∙_}
 use lib.ListN.{length, drop}
 use Rattle.snapshot.proofs.JudgeLaws.{got-one, lost-one}
 use lib.Seq.{length-take-le, length-front}
-use Rattle.snapshot.specs.Restore.{Ran, Initial, mapRan, unkept}
+use Rattle.snapshot.specs.Restore.{Ran, Initial, unkept}
 use Rattle.trcf.specs.Preprocessor.{Reading, reading}
 use Rattle.snapshot.proofs.RunLaws.{told-broke, block-room, block-long, Unkept, unkept-none, unkept-step, unkept-stop, unkept-done, Bufs, bufs-none, bufs-step, bufs-stop, bufs-done}
 use Rattle.snapshot.proofs.lines.buf_lines_unkept.Statement.{statement}
@@ -76,7 +76,7 @@ returns : tie.Need-returns Inv-lines μ-lines
 returns c =
     let a = c .before .before .before .args in
     let L = c .before .lines in
-    ap (λ (r : Ran Initial). mapRan unkept r) (unkept-done (a .d) (a .n) (drop (a .at) (a .text .now)) (L .i) (L .past) (drop (L .p) (a .text .now)) (L .inv .1) (omega (arith, c .if1 .taken)))
+    (ap (λ (r : Ran Initial). unkept r) (unkept-done (a .d) (a .n) (drop (a .at) (a .text .now)) (L .i) (L .past) (drop (L .p) (a .text .now)) (L .inv .1) (omega (arith, c .if1 .taken))), omega arith)
 
 -- src/lines.rt:108:1
 returns-2 : tie.Need-returns-2 Inv-lines μ-lines
@@ -84,9 +84,9 @@ returns-2 c =
     let a = c .before .before .before .before .before .before .before .before .args in
     let L = c .before .before .before .before .before .before .lines in
     let b = c .before .before .before .buf-line in
-    told-broke (L .i + 1) _ (drop (L .p) (a .text .now)) (omega arith)
-    ∙ ap (λ (r : Ran Initial). mapRan unkept r) (unkept-stop (a .d) (a .n) (drop (a .at) (a .text .now)) (L .i) (L .past) (drop (L .p) (a .text .now)) (L .inv .1) (omega (arith, L .inv .1 .ahead .some-left)) _ (length-take-le (a .d) (L .values) (omega (arith, L .inv .1 .narrow, L .inv .0)))
-    (lost-one (b .result .place) (a .text .now) (reading (b .last .1 .1 .1 .0) (b .result .time)) _ (c .enum-told .given .1) (b .ensures .told)))
+    (told-broke (L .i + 1) _ (drop (L .p) (a .text .now)) (omega arith)
+    ∙ ap (λ (r : Ran Initial). unkept r) (unkept-stop (a .d) (a .n) (drop (a .at) (a .text .now)) (L .i) (L .past) (drop (L .p) (a .text .now)) (L .inv .1) (omega (arith, L .inv .1 .ahead .some-left)) _ (length-take-le (a .d) (L .values) (omega (arith, L .inv .1 .narrow, L .inv .0)))
+    (lost-one (b .result .place) (a .text .now) (reading (b .last .1 .1 .1 .0) (b .result .time)) _ (c .enum-told .given .1) (b .ensures .told))), omega (arith, L .inv .1 .ahead .some-left))
 
 pub buf-lines-unkept-spec : {M : Type 1} → statement M
 buf-lines-unkept-spec =

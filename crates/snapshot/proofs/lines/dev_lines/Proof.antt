@@ -90,7 +90,7 @@ returns : tie.Need-returns Inv-lines μ-lines
 returns c =
     let a = c .before .before .before .before .args in
     let L = c .before .lines in
-    devs-done (a .n) (drop (a .at) (a .text .now)) (L .statistics) (L .i) (drop (L .p) (a .text .now)) (L .inv) (omega (arith, c .if1 .taken))
+    (devs-done (a .n) (drop (a .at) (a .text .now)) (L .statistics) (L .i) (drop (L .p) (a .text .now)) (L .inv) (omega (arith, c .if1 .taken)), omega arith)
 
 -- src/lines.rt:19:1
 same-length-2 : tie.Need-same-length-2 Inv-lines μ-lines
@@ -106,9 +106,9 @@ returns-2 c =
     let a = c .before .before .before .before .before .before .before .before .before .before .args in
     let L = c .before .before .before .before .before .before .before .lines in
     let d = c .before .before .before .before .doubles-line in
-    told-broke (L .i + 1) _ (drop (L .p) (a .text .now)) (omega arith)
+    (told-broke (L .i + 1) _ (drop (L .p) (a .text .now)) (omega arith)
     ∙ devs-stop (a .n) (drop (a .at) (a .text .now)) (L .statistics) (L .i) (drop (L .p) (a .text .now)) (L .inv) (omega (arith, L .inv .ahead .some-left))
-    (lost-list (d .result) (a .text .now) _ _ (c .enum-told .given .1) (d .ensures .told))
+    (lost-list (d .result) (a .text .now) _ _ (c .enum-told .given .1) (d .ensures .told)), omega (arith, L .inv .ahead .some-left))
 
 pub dev-lines-spec : {M : Type 1} → statement M
 dev-lines-spec =
