@@ -3,18 +3,25 @@ use Prim.Native.Nat.{ℕ, zero, suc, _+_, _*_, _≤_, _<_}
 use native.Mathlib.Omega.{arith}
 use mathlib.Core.Path.{_≡_, refl, sym, ap, _∙_}
 use mathlib.Core.Bool.{Bool, true, false, not, _&&_, _||_, cond}
-use mathlib.Core.List.{List, [], _∷_}
+use mathlib.Core.List.{List, [], _∷_, _++_}
 use mathlib.Core.Option.{Option, none, some}
-use lib.ListN.{length, drop, length-drop}
+use lib.ListN.{length, take, drop, length-drop}
+use lib.Seq.{length-take-le}
+use lib.Ieee.{Float}
 use lib.Dec.{ltb, eqb}
-use borrow.Author.Tests.{ltb-true, eq-eqb, ne-eqb}
+use borrow.Author.Tests.{ltb-true, le-ltb, eq-eqb, ne-eqb}
 use Rattle.trcf.specs.Types.{normalizes, augments}
 use Rattle.trcf.specs.Lists.{null}
 use Rattle.trcf.specs.Settings.{Settings, waiting, block, dimension}
 use Rattle.trcf.specs.Preprocessor.{Reading}
 use Rattle.snapshot.specs.Judge.{bufBy}
 use Rattle.snapshot.specs.Read.{Counts, mayStand}
-use Rattle.snapshot.specs.Restore.{Ran, ran, broke, told, after, behindLines, mapRan, unkept, front, many, bufs, Initial, initialOf, timesOf, timeOf, Parts, expected, ending, Body, body, partsBy, partsOf, bodyBy, summed}
+use Rattle.snapshot.specs.Restore.{Ran, ran, broke, told, after, behindLines, mapRan, unkept, front, many, bufs, Initial, initialOf, timesOf, timeOf, Parts, expected, ending, Body, body, partsBy, partsOf, bodyBy, filledBy, Fills, HeadFew, stateFrom, summed}
+use Rattle.common.specs.Lent.{over}
+use Rattle.trcf.specs.View.{Lent, lent, settingsOf, laid, lentShort}
+use Rattle.trcf.specs.declared.preprocessor.Preprocessor.{Preprocessor}
+use Rattle.trcf.proofs.ShingleLaws.{over-part}
+use Rattle.snapshot.specs.Save.{past}
 use Rattle.snapshot.specs.declared.restore.Judged.{Judged}
 use Rattle.snapshot.proofs.Lists.{and-right}
 
@@ -226,3 +233,44 @@ parts-of s c l x y k r e f g h =
     ∙ ap (λ (v : ℕ). partsBy (c .internalTimestamp) (5 * s .d + 5) v y k l) e
     ∙ ap (λ (v : ℕ). partsBy (c .internalTimestamp) (5 * s .d + 5) (s .d * s .k) v k l) f
     ∙ ap (λ (v : ℕ). partsBy (c .internalTimestamp) (5 * s .d + 5) (s .d * s .k) (dimension s) v l) g
+
+-- ---- filled
+
+held : {A : Type 0} → A → Ran A → A
+held x (ran a z) = a
+held x (broke m) = x
+
+pub ran-value : {A : Type 0} (a b : A) (y z : List ℕ) → ran a y ≡ ran b z → a ≡ b
+unfolding held
+ran-value a b y z e = ap (held a) e
+
+module _ (s : Settings) (c : Counts) (n : ℕ) (l : List ℕ) (p : Parts) (i : Initial) where
+  pub fills-of : (m k : ℕ) (y z : List ℕ) → told m p y ≡ partsOf s c l → told k i z ≡ bufs (s .d) n y → Fills (filledBy s c n l) (body p i)
+  unfolding filledBy
+  fills-of (suc m) k y z e f b x h = absurd (ran-not-broke b x (suc m) (rw (sym e) at h))
+  fills-of zero (suc k) y z e f b x h = absurd (ran-not-broke b x (5 * s .d + 8 + suc k) (rw (sym e, sym f) at h))
+  fills-of zero zero y z e f b x h = sym (ran-value b (body p i) x z (rw (sym e, sym f) at h))
+
+-- a part that came back
+pub over-back : {A : Type 0} (l v : List A) (n : ℕ) → n ≤ length l → length v ≡ length (take n l) → v ++ drop n l ≡ over l v
+over-back l v n h e = over-part l v n (e ∙ length-take-le n l h)
+
+pub laid-is : (s : Settings) (c : Counts) (b : Body) (l : Lent) (st x y : List Float) (ts : List ℕ) (v : List Float) (us : List ℕ)
+    → st ≡ over (l .statistics) (b .parts .statistics) → x ≡ over (l .lastShingledInput) (b .parts .input) → y ≡ over (l .lastShingledPoint) (b .parts .point)
+    → ts ≡ over (l .previousTimestamps) (b .parts .times) → v ≡ over (l .initialValues) (b .initial .values) → us ≡ over (l .initialTimestamps) (b .initial .times)
+    → lent st x y ts v us ≡ laid (stateFrom s c b) l
+unfolding laid
+laid-is s c b l st x y ts v us e₁ e₂ e₃ e₄ e₅ e₆ = λ i. lent (e₁ i) (e₂ i) (e₃ i) (e₄ i) (e₅ i) (e₆ i)
+
+-- ---- lent lists that are long enough
+
+module _ (h : Preprocessor) (l : Lent) (w : ℕ) (f : HeadFew h) (e : w ≡ cond (augments (h .«forest_mode»)) 1 0) where
+  pub short-is : past (h .transformer .«input_length») (h .«shingle_size») w (h .«start_normalization») (length (l .statistics)) (length (l .lastShingledInput))
+      (length (l .lastShingledPoint)) (length (l .previousTimestamps)) (length (l .initialValues)) (length (l .initialTimestamps))
+      ≡ lentShort (settingsOf h) l
+  unfolding lentShort
+  short-is =
+      rw (le-ltb 16 (h .transformer .«input_length») (f .d-few), le-ltb 64 (h .«shingle_size») (f .k-few), le-ltb 1999 (h .«start_normalization») (few-le (h .«start_normalization») (f .start-few)), dimension-is (settingsOf h) w e)
+    where
+      few-le : (n : ℕ) → n < 2000 → n ≤ 1999
+      few-le n k = omega (arith, k)

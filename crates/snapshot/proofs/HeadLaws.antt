@@ -19,7 +19,7 @@ use Rattle.snapshot.specs.Read.{asWhole, Counts, withWeights}
 use Rattle.snapshot.specs.Judge.{onto, byte, name, fields, modeIn, methodIn, setTest, settingsWith, settled, tailBy, setBy, wgtBy, cntBy}
 use Rattle.snapshot.proofs.Lists.{and-left, and-right}
 use Rattle.snapshot.proofs.JudgeLines.{onto-some}
-use Rattle.snapshot.specs.Restore.{Ran, ran, broke, after, oneLine, headRead, headBy, headOf, headWith}
+use Rattle.snapshot.specs.Restore.{Ran, ran, broke, after, oneLine, headRead, headBy, headOf, headWith, Few}
 
 module _ (t : List ℕ) where
   pub head-set : none ≡ setBy t → broke 1 ≡ headBy t
@@ -48,11 +48,6 @@ pub head-is : (s : Settings) (v : List Float) (c : Counts) → length v ≡ s .d
 head-is s v c e = ap (λ (w : List Float). headWith s w c) (over-part (replicate 16 zero32) v (s .d) e)
 
 -- ---- what settings that are read keep to
-
-pub record Few (d k start : ℕ) : Type 0 where
-  pub d-few : d ≤ 16
-  pub k-few : k ≤ 64
-  pub start-few : start < 2000
 
 neither : (a b : Bool) → not (a || b) ≡ true → (a ≡ false) × (b ≡ false)
 neither true b e = absurd (false≢true e)

@@ -1,5 +1,5 @@
 -- `restore` (document 01: taken up), and the lines of a text one after the other, as the code reads them.
-use Prim.Native.Nat.{ℕ, zero, suc, _+_, _*_}
+use Prim.Native.Nat.{ℕ, zero, suc, _+_, _*_, _≤_, _<_}
 use mathlib.Core.Bool.{Bool, true, false, not, _&&_, cond}
 use mathlib.Core.Path.{_≡_}
 use mathlib.Core.List.{List, [], _∷_, _++_}
@@ -8,8 +8,8 @@ use lib.ListN.{length, drop}
 use lib.Ieee.{Float, binary32, binary64}
 use Rattle.trcf.specs.Lists.{null}
 use Rattle.trcf.specs.Settings.{Settings, dimension, waiting}
-use Rattle.trcf.specs.Preprocessor.{State, Reading}
-use Rattle.trcf.specs.View.{Lent, lentShort, headFrom, noHead, counting, counted, laid}
+use Rattle.trcf.specs.Preprocessor.{State, Reading, statisticsLength}
+use Rattle.trcf.specs.View.{Lent, settingsOf, lentShort, headFrom, noHead, counting, counted, laid}
 use Rattle.trcf.specs.declared.preprocessor.Preprocessor.{Preprocessor}
 use Rattle.snapshot.specs.Read.{asFloat, Counts, Read, taken, bad, read, mayStand, stateOf, withWeights}
 use Rattle.snapshot.specs.Judge.{listLine, setBy, wgtBy, cntBy, timBy, bufBy}
@@ -164,6 +164,15 @@ headBy l =
 abbrev pub headOf : Head → Preprocessor
 headOf h = counting (headFrom (h .settings)) (h .counts .count) (h .counts .valuesSeen) (h .counts .internalTimestamp) 0
 
+-- within the limits of rows 4 and 8
+pub record Few (d k start : ℕ) : Type 0 where
+  pub d-few : d ≤ 16
+  pub k-few : k ≤ 64
+  pub start-few : start < 2000
+
+abbrev pub HeadFew : Preprocessor → Type 0
+HeadFew h = Few (h .transformer .«input_length») (h .«shingle_size») (h .«start_normalization»)
+
 -- the same with an array of which the first d count
 abbrev pub headWith : Settings → List Float → Counts → Preprocessor
 headWith s a c =
@@ -215,14 +224,38 @@ bodyBy s c l =
     after (5 * s .d + 8) (partsOf s c l)
     (λ p l₁. after (expected s c l₁) (bufs (s .d) (expected s c l₁) l₁) (λ i l₂. ending (body p i) l₂))
 
+abbrev pub stateFrom : Settings → Counts → Body → State
+stateFrom s c b =
+    stateOf s c (b .parts .statistics) (b .parts .input) (b .parts .point) (b .parts .times) (b .initial .values) (b .initial .times)
+
+-- the same lines where n `buf` lines are known to stand and nothing behind them
+unfoldable pub filledBy : Settings → Counts → ℕ → List ℕ → Ran Body
+filledBy s c n l = after (5 * s .d + 8) (partsOf s c l) (λ p l₁. after n (bufs (s .d) n l₁) (λ i l₂. ran (body p i) l₂))
+
+-- what lent lists hold afterwards, where the lines are good
+abbrev pub Fills : Ran Body → Body → Type 0
+Fills r held = (b : Body) (z : List ℕ) → ran b z ≡ r → held ≡ b
+
+-- the same of lists that may be longer
+abbrev pub FillsOver : Settings → Counts → Ran Body → Lent → Lent → Type 0
+FillsOver s c r old new = (b : Body) (z : List ℕ) → ran b z ≡ r → new ≡ laid (stateFrom s c b) old
+
+-- what is in use fits the lent lists
+pub record Room (h : Preprocessor) (n statistics input point times values initial : ℕ) : Type 0 where
+  pub d-few : h .transformer .«input_length» ≤ 16
+  pub k-few : h .«shingle_size» ≤ 64
+  pub n-few : n ≤ 2000
+  pub in-statistics : statisticsLength (settingsOf h) ≤ statistics
+  pub in-input : h .transformer .«input_length» * h .«shingle_size» ≤ input
+  pub in-point : dimension (settingsOf h) ≤ point
+  pub in-times : h .«shingle_size» ≤ times
+  pub in-values : n * h .transformer .«input_length» ≤ values
+  pub in-initial : n ≤ initial
+
 -- what a judged text says of these lines: the bad one or 0, and how many initial values there are
 abbrev pub summed : Ran Body → Judged
 summed (ran b z) = record { bad = 0; count = length (b .initial .times) }
 summed (broke m) = record { bad = m; count = 0 }
-
-abbrev pub stateFrom : Settings → Counts → Body → State
-stateFrom s c b =
-    stateOf s c (b .parts .statistics) (b .parts .input) (b .parts .point) (b .parts .times) (b .initial .values) (b .initial .times)
 
 unfoldable pub readBy : List ℕ → Ran State
 readBy t = after 3 (headBy t) (λ h l. mapRan (stateFrom (h .settings) (h .counts)) (bodyBy (h .settings) (h .counts) l))

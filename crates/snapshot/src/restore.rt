@@ -22,10 +22,11 @@ ghost use Prim.Native.Nat.{_+_, _*_, _≤_, _<_};
 ghost use lib.Dec.{eqb};
 ghost use lib.ListN.{length, take, drop};
 ghost use Rattle.trcf.specs.Types.{normalizes};
-ghost use Rattle.trcf.specs.View.{lent, settingsOf, noHead, counting};
+ghost use Rattle.trcf.specs.View.{lent, settingsOf, noHead, counting, laid, lentShort};
+ghost use Rattle.trcf.specs.Settings.{dimension};
 ghost use Rattle.snapshot.specs.Read.{mayStand, withWeights};
 ghost use Rattle.snapshot.specs.Judge.{countsRead, settingsTold};
-ghost use Rattle.snapshot.specs.Restore.{told, mapRan, headRead, headOf, headWith, headBy, countsIn, expected, lined, unkept, partsOf, bodyBy, summed};
+ghost use Rattle.snapshot.specs.Restore.{Fills, Room, FillsOver, told, mapRan, headRead, headOf, headWith, headBy, HeadFew, countsIn, expected, lined, unkept, parts, initial, body, partsOf, bodyBy, filledBy, stateFrom, summed, outcome, restoreOf};
 
 // The first bad line of the first three or 0, the place behind them, and the head that they give, with no initial values yet.
 pub(crate) struct Header {
@@ -95,6 +96,7 @@ fn no_header(bad: usize) -> Header
 // The lines of the settings, the weights and the counters.
 fn head_lines(text: &[u8]) -> Header
     ensures { λ r. ⌜ told (r .bad) (r .head) (drop (r .at) (now (text .entry))) ≡ mapRan headOf (headBy (now (text .entry))) ⌝ }
+    ensures { λ r. ⌜ (r .bad ≡ 0 → HeadFew (r .head)) ⌝ }
 {
     let set = set_line(text);
     let first = set.place;
@@ -182,9 +184,7 @@ fn part_lines_unkept(text: &[u8], at: usize, head: Preprocessor) -> Lines
 
 // Judges the lines behind `cnt`.
 fn judge_body(text: &[u8], at: usize, head: Preprocessor) -> Judged
-    requires { ⌜ head .transformer .«input_length» ≤ 16 ⌝ }
-    requires { ⌜ head .«shingle_size» ≤ 64 ⌝ }
-    requires { ⌜ head .«start_normalization» < 2000 ⌝ }
+    requires { ⌜ HeadFew head ⌝ }
     ensures { λ r. ⌜ r ≡ summed (bodyBy (settingsOf head) (countsIn head) (drop at (now (text .entry)))) ⌝ }
     ensures { λ r. ⌜ r .bad ≤ 3000 ⌝ }
 {
@@ -213,4 +213,195 @@ fn judge_body(text: &[u8], at: usize, head: Preprocessor) -> Judged
         };
     }
     Judged { bad: 0, count: n }
+}
+
+// The lines behind `cnt` of a text that was judged, into lists of which all is in use.
+fn fill_body(
+    text: &[u8],
+    at: usize,
+    head: Preprocessor,
+    n: usize,
+    statistics: &mut [f64],
+    input: &mut [f32],
+    point: &mut [f32],
+    times: &mut [u64],
+    values: &mut [f32],
+    initial_times: &mut [u64],
+)
+    requires { ⌜ head .transformer .«input_length» ≤ 16 ⌝ }
+    requires { ⌜ n ≤ 2000 ⌝ }
+    requires { ⌜ length (now statistics) ≡ (5 * head .transformer .«input_length» + 5) * 3 ⌝ }
+    requires { ⌜ length (now input) ≡ head .transformer .«input_length» * head .«shingle_size» ⌝ }
+    requires { ⌜ length (now point) ≡ dimension (settingsOf head) ⌝ }
+    requires { ⌜ length (now times) ≡ head .«shingle_size» ⌝ }
+    requires { ⌜ length (now values) ≡ n * head .transformer .«input_length» ⌝ }
+    requires { ⌜ length (now «initial_times») ≡ n ⌝ }
+    ensures { λ _. ⌜ Fills (filledBy (settingsOf head) (countsIn head) n (drop at (now (text .entry)))) (body (parts (now (statistics .exit)) (now (input .exit)) (now (point .exit)) (now (times .exit))) (initial (now (values .exit)) (now («initial_times» .exit)))) ⌝ }
+{
+    let t = head.transformer;
+    let d = t.input_length;
+    let a = part_lines(
+        text,
+        at,
+        head.internal_timestamp,
+        5 * d + 5,
+        statistics,
+        input,
+        point,
+        times,
+    );
+    buf_lines(text, a.at, d, n, values, initial_times);
+}
+
+// The same into lent lists, of which what lies behind the part in use stays.
+fn fill(
+    text: &[u8],
+    at: usize,
+    head: Preprocessor,
+    n: usize,
+    statistics: &mut [f64],
+    last_shingled_input: &mut [f32],
+    last_shingled_point: &mut [f32],
+    previous_timestamps: &mut [u64],
+    initial_values: &mut [f32],
+    initial_timestamps: &mut [u64],
+)
+    requires { ⌜ Room head n (length (now statistics)) (length (now «last_shingled_input»)) (length (now «last_shingled_point»)) (length (now «previous_timestamps»)) (length (now «initial_values»)) (length (now «initial_timestamps»)) ⌝ }
+    ensures { λ _. ⌜ FillsOver (settingsOf head) (countsIn head) (filledBy (settingsOf head) (countsIn head) n (drop at (now (text .entry)))) (lent (now (statistics .entry)) (now («last_shingled_input» .entry)) (now («last_shingled_point» .entry)) (now («previous_timestamps» .entry)) (now («initial_values» .entry)) (now («initial_timestamps» .entry))) (lent (now (statistics .exit)) (now («last_shingled_input» .exit)) (now («last_shingled_point» .exit)) (now («previous_timestamps» .exit)) (now («initial_values» .exit)) (now («initial_timestamps» .exit))) ⌝ }
+{
+    let t = head.transformer;
+    let d = t.input_length;
+    let k = head.shingle_size;
+    let mode = head.forest_mode;
+    let w = d + time_width(mode);
+    fill_body(
+        text,
+        at,
+        head,
+        n,
+        &mut statistics[..3 * (5 * d + 5)],
+        &mut last_shingled_input[..d * k],
+        &mut last_shingled_point[..w * k],
+        &mut previous_timestamps[..k],
+        &mut initial_values[..n * d],
+        &mut initial_timestamps[..n],
+    );
+}
+
+// A head with its number of initial values.
+fn with_initial(head: Preprocessor, n: usize) -> Preprocessor
+    ensures { λ r. ⌜ r ≡ counting head (head .transformer .count) (head .«values_seen») (head .«internal_timestamp») n ⌝ }
+{
+    let mode = head.forest_mode;
+    let t = head.transformer;
+    Preprocessor {
+        transformer: t,
+        forest_mode: mode,
+        shingle_size: head.shingle_size,
+        start_normalization: head.start_normalization,
+        stop_normalization: head.stop_normalization,
+        weight_time: head.weight_time,
+        values_seen: head.values_seen,
+        internal_timestamp: head.internal_timestamp,
+        initial_len: n,
+    }
+}
+
+// Whether a lent list is too short for the state that a head is of.
+fn is_short(
+    head: Preprocessor,
+    statistics: &[f64],
+    last_shingled_input: &[f32],
+    last_shingled_point: &[f32],
+    previous_timestamps: &[u64],
+    initial_values: &[f32],
+    initial_timestamps: &[u64],
+) -> bool
+    requires { ⌜ HeadFew head ⌝ }
+    ensures { λ r. ⌜ r ≡ lentShort (settingsOf head) (lent (now (statistics .entry)) (now («last_shingled_input» .entry)) (now («last_shingled_point» .entry)) (now («previous_timestamps» .entry)) (now («initial_values» .entry)) (now («initial_timestamps» .entry))) ⌝ }
+{
+    let t = head.transformer;
+    let mode = head.forest_mode;
+    let wide = time_width(mode);
+    let start = head.start_normalization;
+    is_past(
+        t.input_length,
+        head.shingle_size,
+        wide,
+        start,
+        statistics.len(),
+        last_shingled_input.len(),
+        last_shingled_point.len(),
+        previous_timestamps.len(),
+        initial_values.len(),
+        initial_timestamps.len(),
+    )
+}
+
+// What taking up gives: 0 and the head; 19 and the bad line; or 20.
+pub struct Restored {
+    pub row: u64,
+    pub line: usize,
+    pub head: Preprocessor,
+}
+
+fn refused(row: u64, line: usize) -> Restored
+    ensures { λ r. ⌜ r ≡ record { row = row; line = line; head = noHead } ⌝ }
+{
+    Restored {
+        row: row,
+        line: line,
+        head: no_head(),
+    }
+}
+
+// Takes up a text: the head and the filled lists; or 19 with the bad line, or 20 where a lent list is too short, with everything lent unchanged.
+pub fn restore(
+    text: &[u8],
+    statistics: &mut [f64],
+    last_shingled_input: &mut [f32],
+    last_shingled_point: &mut [f32],
+    previous_timestamps: &mut [u64],
+    initial_values: &mut [f32],
+    initial_timestamps: &mut [u64],
+) -> Restored
+    ensures { λ r. ⌜ outcome (r .row) (r .line) (r .head) (lent (now (statistics .exit)) (now («last_shingled_input» .exit)) (now («last_shingled_point» .exit)) (now («previous_timestamps» .exit)) (now («initial_values» .exit)) (now («initial_timestamps» .exit))) ≡ restoreOf (now (text .entry)) (lent (now (statistics .entry)) (now («last_shingled_input» .entry)) (now («last_shingled_point» .entry)) (now («previous_timestamps» .entry)) (now («initial_values» .entry)) (now («initial_timestamps» .entry))) ⌝ }
+{
+    let h = head_lines(text);
+    if h.bad != 0 {
+        return refused(19, h.bad);
+    }
+    let head = h.head;
+    let judged = judge_body(text, h.at, head);
+    if judged.bad != 0 {
+        return refused(19, 3 + judged.bad);
+    }
+    if is_short(
+        head,
+        statistics,
+        last_shingled_input,
+        last_shingled_point,
+        previous_timestamps,
+        initial_values,
+        initial_timestamps,
+    ) {
+        return refused(20, 0);
+    }
+    fill(
+        text,
+        h.at,
+        head,
+        judged.count,
+        statistics,
+        last_shingled_input,
+        last_shingled_point,
+        previous_timestamps,
+        initial_values,
+        initial_timestamps,
+    );
+    Restored {
+        row: 0,
+        line: 0,
+        head: with_initial(head, judged.count),
+    }
 }

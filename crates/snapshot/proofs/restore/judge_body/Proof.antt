@@ -47,8 +47,8 @@ buf-lines-unkept-requires c κs =
     let l = drop (a .at) t in
     let P = c .before .before .before .before .part-lines-unkept in
     let N = c .initial-count in
-    let n = expected-few s k (drop (P .result .at) t) (c .before .before .before .before .before .before .pre .1 .1) in
-    (c .before .before .before .before .before .before .pre .0, omega (arith, n, N .ensures, c .before .before .before .before .before .before .pre .1 .1))
+    let n = expected-few s k (drop (P .result .at) t) (c .before .before .before .before .before .before .pre .start-few) in
+    (c .before .before .before .before .before .before .pre .d-few, omega (arith, n, N .ensures, c .before .before .before .before .before .before .pre .start-few))
 
 add-t12 : tie.Need-add-t12
 add-t12 c =
@@ -59,9 +59,9 @@ add-t12 c =
     let l = drop (a .at) t in
     let P = c .before .before .before .before .before .before .before .before .part-lines-unkept in
     let N = c .before .before .before .before .initial-count in
-    let n = expected-few s k (drop (P .result .at) t) (c .before .before .before .before .before .before .before .before .before .before .pre .1 .1) in
+    let n = expected-few s k (drop (P .result .at) t) (c .before .before .before .before .before .before .before .before .before .before .pre .start-few) in
     let U = c .before .before .before .buf-lines-unkept in
-    omega (arith, n, N .ensures, U .ensures .1, c .before .before .before .before .before .before .before .before .before .before .pre .0, c .before .before .before .before .before .before .before .before .before .before .pre .1 .1)
+    omega (arith, n, N .ensures, U .ensures .1, c .before .before .before .before .before .before .before .before .before .before .pre .d-few, c .before .before .before .before .before .before .before .before .before .before .pre .start-few)
 
 returns-2 : tie.Need-returns-2
 returns-2 c =
@@ -72,10 +72,10 @@ returns-2 c =
     let l = drop (a .at) t in
     let P = c .before .before .before .before .before .before .before .before .part-lines-unkept in
     let N = c .before .before .before .before .initial-count in
-    let n = expected-few s k (drop (P .result .at) t) (c .before .before .before .before .before .before .before .before .before .before .pre .1 .1) in
+    let n = expected-few s k (drop (P .result .at) t) (c .before .before .before .before .before .before .before .before .before .before .pre .start-few) in
     let e = told-ran (P .result .bad) tt (drop (P .result .at) t) _ (omega (arith, c .before .before .before .before .before .before .if1 .left)) (P .ensures .0) in
     let U = c .before .before .before .buf-lines-unkept in
-    (judged-bufs s k l (drop (P .result .at) t) e (N .result) (N .ensures) (U .result .bad) (drop (U .result .at) t) (c .before .if2 .taken) (U .ensures .0), omega (arith, n, N .ensures, U .ensures .1, c .before .before .before .before .before .before .before .before .before .before .pre .0, c .before .before .before .before .before .before .before .before .before .before .pre .1 .1))
+    (judged-bufs s k l (drop (P .result .at) t) e (N .result) (N .ensures) (U .result .bad) (drop (U .result .at) t) (c .before .if2 .taken) (U .ensures .0), omega (arith, n, N .ensures, U .ensures .1, c .before .before .before .before .before .before .before .before .before .before .pre .d-few, c .before .before .before .before .before .before .before .before .before .before .pre .start-few))
 
 add-t13 : tie.Need-add-t13
 add-t13 c =
@@ -86,8 +86,8 @@ add-t13 c =
     let l = drop (a .at) t in
     let P = c .before .before .before .before .before .before .before .before .before .part-lines-unkept in
     let N = c .before .before .before .before .before .initial-count in
-    let n = expected-few s k (drop (P .result .at) t) (c .before .before .before .before .before .before .before .before .before .before .before .pre .1 .1) in
-    omega (arith, n, N .ensures, c .before .before .before .before .before .before .before .before .before .before .before .pre .0, c .before .before .before .before .before .before .before .before .before .before .before .pre .1 .1)
+    let n = expected-few s k (drop (P .result .at) t) (c .before .before .before .before .before .before .before .before .before .before .before .pre .start-few) in
+    omega (arith, n, N .ensures, c .before .before .before .before .before .before .before .before .before .before .before .pre .d-few, c .before .before .before .before .before .before .before .before .before .before .before .pre .start-few)
 
 add-t14 : tie.Need-add-t14
 add-t14 c =
@@ -98,8 +98,8 @@ add-t14 c =
     let l = drop (a .at) t in
     let P = c .before .before .before .before .before .before .before .before .before .part-lines-unkept in
     let N = c .before .before .before .before .before .initial-count in
-    let n = expected-few s k (drop (P .result .at) t) (c .before .before .before .before .before .before .before .before .before .before .before .pre .1 .1) in
-    omega (arith, n, N .ensures, c .before .before .before .before .before .before .before .before .before .before .before .pre .0, c .before .before .before .before .before .before .before .before .before .before .before .pre .1 .1)
+    let n = expected-few s k (drop (P .result .at) t) (c .before .before .before .before .before .before .before .before .before .before .before .pre .start-few) in
+    omega (arith, n, N .ensures, c .before .before .before .before .before .before .before .before .before .before .before .pre .d-few, c .before .before .before .before .before .before .before .before .before .before .before .pre .start-few)
 
 returns-3 : tie.Need-returns-3
 returns-3 c =
@@ -110,11 +110,11 @@ returns-3 c =
     let l = drop (a .at) t in
     let P = c .before .before .before .before .before .before .before .before .before .part-lines-unkept in
     let N = c .before .before .before .before .before .initial-count in
-    let n = expected-few s k (drop (P .result .at) t) (c .before .before .before .before .before .before .before .before .before .before .before .pre .1 .1) in
+    let n = expected-few s k (drop (P .result .at) t) (c .before .before .before .before .before .before .before .before .before .before .before .pre .start-few) in
     let e = told-ran (P .result .bad) tt (drop (P .result .at) t) _ (omega (arith, c .before .before .before .before .before .before .before .if1 .left)) (P .ensures .0) in
     let U = c .before .before .before .before .buf-lines-unkept in
     let f = told-ran (U .result .bad) tt (drop (U .result .at) t) _ (omega (arith, c .before .before .if2 .left)) (U .ensures .0) in
-    (judged-behind s k l (drop (P .result .at) t) e (N .result) (N .ensures) (drop (U .result .at) t) f (omega (arith, length-drop (U .result .at) t, c .if3 .taken)), omega (arith, n, N .ensures, c .before .before .before .before .before .before .before .before .before .before .before .pre .0, c .before .before .before .before .before .before .before .before .before .before .before .pre .1 .1))
+    (judged-behind s k l (drop (P .result .at) t) e (N .result) (N .ensures) (drop (U .result .at) t) f (omega (arith, length-drop (U .result .at) t, c .if3 .taken)), omega (arith, n, N .ensures, c .before .before .before .before .before .before .before .before .before .before .before .pre .d-few, c .before .before .before .before .before .before .before .before .before .before .before .pre .start-few))
 
 returns-4 : tie.Need-returns-4
 returns-4 c =
@@ -125,7 +125,7 @@ returns-4 c =
     let l = drop (a .at) t in
     let P = c .before .before .before .before .before .before .before .before .before .part-lines-unkept in
     let N = c .before .before .before .before .before .initial-count in
-    let n = expected-few s k (drop (P .result .at) t) (c .before .before .before .before .before .before .before .before .before .before .before .pre .1 .1) in
+    let n = expected-few s k (drop (P .result .at) t) (c .before .before .before .before .before .before .before .before .before .before .before .pre .start-few) in
     let e = told-ran (P .result .bad) tt (drop (P .result .at) t) _ (omega (arith, c .before .before .before .before .before .before .before .if1 .left)) (P .ensures .0) in
     let U = c .before .before .before .before .buf-lines-unkept in
     let f = told-ran (U .result .bad) tt (drop (U .result .at) t) _ (omega (arith, c .before .before .if2 .left)) (U .ensures .0) in
