@@ -30,3 +30,4 @@ pub mod RunLaws
 pub mod PartLaws
 pub mod HeadLaws
 pub mod BodyLaws
+pub mod ReadRuns
