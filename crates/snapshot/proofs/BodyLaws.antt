@@ -1,7 +1,7 @@
 -- The lines behind `cnt`: how many `buf` lines are to come, where the text breaks off, and what it gives.
 use Prim.Native.Nat.{ℕ, zero, suc, _+_, _*_, _≤_, _<_}
 use native.Mathlib.Omega.{arith}
-use mathlib.Core.Path.{_≡_, refl, sym, ap, _∙_}
+use mathlib.Core.Path.{_≡_, refl, sym, ap, _∙_, subst}
 use mathlib.Core.Bool.{Bool, true, false, not, _&&_, _||_, cond}
 use mathlib.Core.List.{List, [], _∷_, _++_}
 use mathlib.Core.Option.{Option, none, some}
@@ -16,7 +16,7 @@ use Rattle.trcf.specs.Settings.{Settings, waiting, block, dimension}
 use Rattle.trcf.specs.Preprocessor.{Reading}
 use Rattle.snapshot.specs.Judge.{bufBy}
 use Rattle.snapshot.specs.Read.{Counts, mayStand}
-use Rattle.snapshot.specs.Restore.{Ran, ran, broke, told, after, behindLines, mapRan, unkept, front, many, bufs, Initial, initialOf, timesOf, timeOf, Parts, expected, ending, Body, body, partsBy, partsOf, bodyBy, filledBy, Fills, HeadFew, stateFrom, summed}
+use Rattle.snapshot.specs.Restore.{Ran, ran, broke, told, after, behindLines, mapRan, unkept, front, many, bufs, Initial, initialOf, timesOf, timeOf, Parts, expected, ending, Body, body, partsBy, partsOf, bodyBy, filledBy, Fills, HeadFew, stateFrom, Good, summed}
 use Rattle.common.specs.Lent.{over}
 use Rattle.trcf.specs.View.{Lent, lent, settingsOf, laid, lentShort}
 use Rattle.trcf.specs.declared.preprocessor.Preprocessor.{Preprocessor}
@@ -214,6 +214,12 @@ module _ (s : Settings) (c : Counts) (l : List ℕ) where
           let i = kept-of (bufs (s .d) n l₁) l₂ f in
           ap (judged 0) (sym (bufs-length (s .d) n l₁ (i .0) l₂ (i .1)))
           ∙ ap summed (body-all s c l (p .0) l₁ (p .1) (i .0) l₂ (i .1 ∙ ap (λ (x : ℕ). bufs (s .d) x l₁) h) k)
+
+      pub judged-good : length l₂ ≡ 0 → Good (bodyBy s c l)
+      judged-good k =
+          let p = kept-of (partsOf s c l) l₁ e in
+          let i = kept-of (bufs (s .d) n l₁) l₂ f in
+          subst Good (body-all s c l (p .0) l₁ (p .1) (i .0) l₂ (i .1 ∙ ap (λ (x : ℕ). bufs (s .d) x l₁) h) k) tt
 
 -- ---- by the places that are lent
 

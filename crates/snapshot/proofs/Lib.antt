@@ -31,3 +31,4 @@ pub mod PartLaws
 pub mod HeadLaws
 pub mod BodyLaws
 pub mod ReadRuns
+pub mod RestoreLaws

@@ -228,6 +228,10 @@ abbrev pub stateFrom : Settings → Counts → Body → State
 stateFrom s c b =
     stateOf s c (b .parts .statistics) (b .parts .input) (b .parts .point) (b .parts .times) (b .initial .values) (b .initial .times)
 
+abbrev pub Good : {A : Type 0} → Ran A → Type 0
+Good (ran a z) = Unit {0}
+Good (broke m) = ⊥
+
 -- the same lines where n `buf` lines are known to stand and nothing behind them
 unfoldable pub filledBy : Settings → Counts → ℕ → List ℕ → Ran Body
 filledBy s c n l = after (5 * s .d + 8) (partsOf s c l) (λ p l₁. after n (bufs (s .d) n l₁) (λ i l₂. ran (body p i) l₂))

@@ -26,7 +26,7 @@ ghost use Rattle.trcf.specs.View.{lent, settingsOf, noHead, counting, laid, len
 ghost use Rattle.trcf.specs.Settings.{dimension};
 ghost use Rattle.snapshot.specs.Read.{mayStand, withWeights};
 ghost use Rattle.snapshot.specs.Judge.{countsRead, settingsTold};
-ghost use Rattle.snapshot.specs.Restore.{Fills, Room, FillsOver, told, mapRan, headRead, headOf, headWith, headBy, HeadFew, countsIn, expected, lined, unkept, parts, initial, body, partsOf, bodyBy, filledBy, stateFrom, summed, outcome, restoreOf};
+ghost use Rattle.snapshot.specs.Restore.{Fills, Room, FillsOver, told, mapRan, headRead, headOf, headWith, headBy, HeadFew, countsIn, expected, lined, unkept, parts, initial, body, partsOf, bodyBy, Good, filledBy, stateFrom, summed, outcome, restoreOf};
 
 // The first bad line of the first three or 0, the place behind them, and the head that they give, with no initial values yet.
 pub(crate) struct Header {
@@ -187,6 +187,7 @@ fn judge_body(text: &[u8], at: usize, head: Preprocessor) -> Judged
     requires { ⌜ HeadFew head ⌝ }
     ensures { λ r. ⌜ r ≡ summed (bodyBy (settingsOf head) (countsIn head) (drop at (now (text .entry)))) ⌝ }
     ensures { λ r. ⌜ r .bad ≤ 3000 ⌝ }
+    ensures { λ r. ⌜ (r .bad ≡ 0 → Good (bodyBy (settingsOf head) (countsIn head) (drop at (now (text .entry))))) ⌝ }
 {
     let a = part_lines_unkept(text, at, head);
     if a.bad != 0 {
