@@ -88,6 +88,10 @@ pub told-broke : {A : Type 0} (m : ℕ) (a : A) (z : List ℕ) → 0 < m → tol
 told-broke zero a z h = absurd (omega (arith, h))
 told-broke (suc m) a z h = refl
 
+pub not-zero : (m : ℕ) → (m ≡ 0 → ⊥) → 0 < m
+not-zero zero h = absurd (h refl)
+not-zero (suc m) h = omega arith
+
 pub told-bad : {A : Type 0} (m n : ℕ) (a : A) (z : List ℕ) → m ≡ n → 0 < n → told m a z ≡ broke n
 told-bad m n a z e h = ap (λ (k : ℕ). told k a z) e ∙ told-broke n a z h
 

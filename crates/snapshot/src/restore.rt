@@ -187,6 +187,7 @@ fn judge_body(text: &[u8], at: usize, head: Preprocessor) -> Judged
     requires { ⌜ HeadFew head ⌝ }
     ensures { λ r. ⌜ r ≡ summed (bodyBy (settingsOf head) (countsIn head) (drop at (now (text .entry)))) ⌝ }
     ensures { λ r. ⌜ r .bad ≤ 3000 ⌝ }
+    ensures { λ r. ⌜ r .count ≤ head .«start_normalization» ⌝ }
     ensures { λ r. ⌜ (r .bad ≡ 0 → Good (bodyBy (settingsOf head) (countsIn head) (drop at (now (text .entry))))) ⌝ }
 {
     let a = part_lines_unkept(text, at, head);

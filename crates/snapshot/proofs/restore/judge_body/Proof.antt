@@ -27,7 +27,7 @@ returns c =
     let t = a .text .now in
     let l = drop (a .at) t in
     let P = c .before .before .part-lines-unkept in
-    (judged-parts s k l (P .result .bad) (drop (P .result .at) t) (c .if1 .taken) (P .ensures .0), (omega (arith, P .ensures .1), λ e. absurd (c .if1 .taken e)))
+    (judged-parts s k l (P .result .bad) (drop (P .result .at) t) (c .if1 .taken) (P .ensures .0), (omega (arith, P .ensures .1), (omega arith, λ e. absurd (c .if1 .taken e))))
 
 mul-before : tie.Need-mul-before
 mul-before c = search needs
@@ -75,7 +75,7 @@ returns-2 c =
     let n = expected-few s k (drop (P .result .at) t) (c .before .before .before .before .before .before .before .before .before .before .pre .start-few) in
     let e = told-ran (P .result .bad) tt (drop (P .result .at) t) _ (omega (arith, c .before .before .before .before .before .before .if1 .left)) (P .ensures .0) in
     let U = c .before .before .before .buf-lines-unkept in
-    (judged-bufs s k l (drop (P .result .at) t) e (N .result) (N .ensures) (U .result .bad) (drop (U .result .at) t) (c .before .if2 .taken) (U .ensures .0), (omega (arith, n, N .ensures, U .ensures .1, c .before .before .before .before .before .before .before .before .before .before .pre .d-few, c .before .before .before .before .before .before .before .before .before .before .pre .start-few), λ e. absurd (c .before .if2 .taken (omega (arith, e)))))
+    (judged-bufs s k l (drop (P .result .at) t) e (N .result) (N .ensures) (U .result .bad) (drop (U .result .at) t) (c .before .if2 .taken) (U .ensures .0), (omega (arith, n, N .ensures, U .ensures .1, c .before .before .before .before .before .before .before .before .before .before .pre .d-few, c .before .before .before .before .before .before .before .before .before .before .pre .start-few), (omega arith, λ e. absurd (c .before .if2 .taken (omega (arith, e))))))
 
 add-t13 : tie.Need-add-t13
 add-t13 c =
@@ -114,7 +114,7 @@ returns-3 c =
     let e = told-ran (P .result .bad) tt (drop (P .result .at) t) _ (omega (arith, c .before .before .before .before .before .before .before .if1 .left)) (P .ensures .0) in
     let U = c .before .before .before .before .buf-lines-unkept in
     let f = told-ran (U .result .bad) tt (drop (U .result .at) t) _ (omega (arith, c .before .before .if2 .left)) (U .ensures .0) in
-    (judged-behind s k l (drop (P .result .at) t) e (N .result) (N .ensures) (drop (U .result .at) t) f (omega (arith, length-drop (U .result .at) t, c .if3 .taken)), (omega (arith, n, N .ensures, c .before .before .before .before .before .before .before .before .before .before .before .pre .d-few, c .before .before .before .before .before .before .before .before .before .before .before .pre .start-few), λ e. absurd (omega (arith, e))))
+    (judged-behind s k l (drop (P .result .at) t) e (N .result) (N .ensures) (drop (U .result .at) t) f (omega (arith, length-drop (U .result .at) t, c .if3 .taken)), (omega (arith, n, N .ensures, c .before .before .before .before .before .before .before .before .before .before .before .pre .d-few, c .before .before .before .before .before .before .before .before .before .before .before .pre .start-few), (omega arith, λ e. absurd (omega (arith, e)))))
 
 returns-4 : tie.Need-returns-4
 returns-4 c =
@@ -129,7 +129,7 @@ returns-4 c =
     let e = told-ran (P .result .bad) tt (drop (P .result .at) t) _ (omega (arith, c .before .before .before .before .before .before .before .if1 .left)) (P .ensures .0) in
     let U = c .before .before .before .before .buf-lines-unkept in
     let f = told-ran (U .result .bad) tt (drop (U .result .at) t) _ (omega (arith, c .before .before .if2 .left)) (U .ensures .0) in
-    (judged-all s k l (drop (P .result .at) t) e (N .result) (N .ensures) (drop (U .result .at) t) f (omega (arith, length-drop (U .result .at) t, c .if3 .left)), (omega arith, λ i. judged-good s k l (drop (P .result .at) t) e (N .result) (N .ensures) (drop (U .result .at) t) f (omega (arith, length-drop (U .result .at) t, c .if3 .left))))
+    (judged-all s k l (drop (P .result .at) t) e (N .result) (N .ensures) (drop (U .result .at) t) f (omega (arith, length-drop (U .result .at) t, c .if3 .left)), (omega arith, (omega (arith, n, N .ensures), λ i. judged-good s k l (drop (P .result .at) t) e (N .result) (N .ensures) (drop (U .result .at) t) f (omega (arith, length-drop (U .result .at) t, c .if3 .left)))))
 
 pub judge-body-spec : {M : Type 1} → statement M
 judge-body-spec =
