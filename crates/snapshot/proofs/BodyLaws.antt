@@ -3,18 +3,18 @@ use Prim.Native.Nat.{ℕ, zero, suc, _+_, _*_, _≤_, _<_}
 use native.Mathlib.Omega.{arith}
 use native.Mathlib.Nat.{mul-le-mul-right}
 use mathlib.Core.Path.{_≡_, refl, sym, ap, _∙_, subst}
-use mathlib.Core.Bool.{Bool, true, false, not, _&&_, _||_, cond, false≢true}
+use mathlib.Core.Bool.{Bool, true, false, not, _&&_, _||_, cond}
 use mathlib.Core.List.{List, [], _∷_, _++_}
 use mathlib.Core.Option.{Option, none, some}
 use lib.ListN.{length, take, drop, length-drop}
 use lib.Seq.{length-take-le}
 use lib.Ieee.{Float}
 use lib.Dec.{ltb, eqb}
-use borrow.Author.Tests.{ltb-true, ltb-false, le-ltb, eq-eqb, ne-eqb}
+use borrow.Author.Tests.{ltb-true, le-ltb, eq-eqb, ne-eqb}
 use Rattle.trcf.specs.Types.{normalizes, augments}
 use Rattle.trcf.specs.Lists.{null}
 use Rattle.trcf.specs.Settings.{Settings, waiting, block, dimension}
-use Rattle.trcf.specs.Preprocessor.{Reading, statisticsLength}
+use Rattle.trcf.specs.Preprocessor.{Reading}
 use Rattle.snapshot.specs.Judge.{bufBy}
 use Rattle.snapshot.specs.Read.{Counts, mayStand}
 use Rattle.snapshot.specs.Restore.{Ran, ran, broke, told, after, behindLines, mapRan, unkept, front, many, bufs, Initial, initialOf, timesOf, timeOf, Parts, expected, ending, Body, body, partsBy, partsOf, bodyBy, filledBy, Fills, HeadFew, Room, stateFrom, Good, summed}
@@ -25,6 +25,7 @@ use Rattle.trcf.proofs.ShingleLaws.{over-part}
 use Rattle.snapshot.specs.Save.{past}
 use Rattle.snapshot.specs.declared.restore.Judged.{Judged}
 use Rattle.snapshot.proofs.Lists.{and-right}
+use Rattle.snapshot.proofs.SaveLaws.{held-of}
 
 -- ---- a run that breaks off is no other
 
@@ -282,30 +283,21 @@ module _ (h : Preprocessor) (l : Lent) (w : ℕ) (f : HeadFew h) (e : w ≡ cond
       few-le : (n : ℕ) → n < 2000 → n ≤ 1999
       few-le n k = omega (arith, k)
 
-or-false : (a b : Bool) → a || b ≡ false → (a ≡ false) × (b ≡ false)
-or-false true b e = absurd (false≢true (sym e))
-or-false false b e = (refl, e)
-
 pub room-of : (h : Preprocessor) (l : Lent) (n : ℕ) → HeadFew h → lentShort (settingsOf h) l ≡ false → n ≤ h .«start_normalization»
     → Room h n (length (l .statistics)) (length (l .lastShingledInput)) (length (l .lastShingledPoint)) (length (l .previousTimestamps)) (length (l .initialValues)) (length (l .initialTimestamps))
-unfolding lentShort
 room-of h l n f e k =
-    let a = or-false (ltb (length (l .statistics)) (statisticsLength (settingsOf h))) _ e in
-    let b = or-false (ltb (length (l .lastShingledInput)) (h .transformer .«input_length» * h .«shingle_size»)) _ (a .1) in
-    let c = or-false (ltb (length (l .lastShingledPoint)) (dimension (settingsOf h))) _ (b .1) in
-    let d = or-false (ltb (length (l .previousTimestamps)) (h .«shingle_size»)) _ (c .1) in
-    let g = or-false (ltb (length (l .initialValues)) (h .«start_normalization» * h .transformer .«input_length»)) _ (d .1) in
-    let v = ltb-false (length (l .initialValues)) (h .«start_normalization» * h .transformer .«input_length») (g .0) in
-    let i = ltb-false (length (l .initialTimestamps)) (h .«start_normalization») (g .1) in
+    let w : ℕ = cond (augments (h .«forest_mode»)) 1 0 in
+    let r = held-of (h .transformer .«input_length») (h .«shingle_size») w (h .«start_normalization») (length (l .statistics)) (length (l .lastShingledInput))
+    (length (l .lastShingledPoint)) (length (l .previousTimestamps)) (length (l .initialValues)) (length (l .initialTimestamps)) (short-is h l w f refl ∙ e) in
     let m = mul-le-mul-right (h .transformer .«input_length») k in
     record {
       d-few = f .d-few;
       k-few = f .k-few;
       n-few = omega (arith, k, f .start-few);
-      in-statistics = ltb-false (length (l .statistics)) (statisticsLength (settingsOf h)) (a .0);
-      in-input = ltb-false (length (l .lastShingledInput)) (h .transformer .«input_length» * h .«shingle_size») (b .0);
-      in-point = ltb-false (length (l .lastShingledPoint)) (dimension (settingsOf h)) (c .0);
-      in-times = ltb-false (length (l .previousTimestamps)) (h .«shingle_size») (d .0);
-      in-values = omega (arith, m, v);
-      in-initial = omega (arith, k, i);
+      in-statistics = r .in-statistics;
+      in-input = r .in-input;
+      in-point = subst (λ (x : ℕ). x ≤ length (l .lastShingledPoint)) (dimension-is (settingsOf h) w refl) (r .in-point);
+      in-times = r .in-times;
+      in-values = omega (arith, m, r .in-values);
+      in-initial = omega (arith, k, r .in-initial);
     }

@@ -32,3 +32,4 @@ pub mod HeadLaws
 pub mod BodyLaws
 pub mod ReadRuns
 pub mod RestoreLaws
+pub mod RoundTrip
