@@ -10,7 +10,7 @@ use lib.Dec.{ltb, leb, eqb}
 use lib.Ieee.{Float}
 use borrow.Author.Tests.{eqb-true, ltb-true, ltb-false, le-ltb, leb-false}
 use Rattle.trcf.specs.Settings.{Settings, Valid, settingsTable, waiting, dimension}
-use Rattle.trcf.specs.Preprocessor.{State}
+use Rattle.trcf.specs.Preprocessor.{State, statisticsLength}
 use Rattle.trcf.specs.Types.{augments, normalizes}
 use Rattle.trcf.specs.View.{Lent, settingsOf, view, headFrom, noHead, counted, laid, lentShort}
 use Rattle.trcf.specs.declared.preprocessor.Preprocessor.{Preprocessor}
@@ -121,7 +121,7 @@ module _ (h : Preprocessor) (l : Lent) (out : List ℕ) (held : unheld h l ≡ f
 
 -- ---- saving what was restored gives the same bytes
 
-few-of : (s : Settings) → Valid s → Few (s .d) (s .k) (s .start)
+pub few-of : (s : Settings) → Valid s → Few (s .d) (s .k) (s .start)
 few-of s v =
     let c = rows-of s (v .accepted) in
     let w = neither (ltb 16 (s .d)) (ltb 64 (s .k)) (c .1 .1 .1 .0) in
@@ -136,7 +136,7 @@ few-of s v =
     neither false b e = (refl, e)
 
 -- never more than start
-initial-few : (w : State) → Form w → length (w .initialTimestamps) ≤ w .settings .start
+pub initial-few : (w : State) → Form w → length (w .initialTimestamps) ≤ w .settings .start
 unfolding waiting
 initial-few w f = go (waiting (w .settings) (w .valuesSeen)) refl
   where
@@ -150,7 +150,7 @@ initial-few w f = go (waiting (w .settings) (w .valuesSeen)) refl
         omega (arith, f .whileWaiting e .0, k)
     go false e = some-few (f .later e)
 
-past-not : (d k wide n a b c e f g : ℕ) → Held d k wide n a b c e f g → past d k wide n a b c e f g ≡ false
+pub past-not : (d k wide n a b c e f g : ℕ) → Held d k wide n a b c e f g → past d k wide n a b c e f g ≡ false
 past-not d k wide n a b c e f g h =
     rw (le-ltb 16 d (h .d-few), le-ltb 64 k (h .k-few), le-ltb 1999 n (h .n-few), le-ltb a (3 * (5 * d + 5)) (h .in-statistics), le-ltb b (d * k) (h .in-input), le-ltb c ((d + wide) * k) (h .in-point), le-ltb e k (h .in-times), le-ltb f (n * d) (h .in-values), le-ltb g n (h .in-initial))
 
@@ -161,7 +161,26 @@ module _ (w : State) (f : Form w) (l : Lent) (room : lentShort (w .settings) l �
       room-of (headFrom (w .settings)) l (length (w .initialTimestamps)) (few-of (w .settings) (f .valid))
       (ap (λ (s : Settings). lentShort s l) (settings-are (w .settings) (f .valid)) ∙ room) (initial-few w f)
 
-  laid-held : unheld (counted (headFrom (w .settings)) w) (laid w l) ≡ false
+  -- no list is shorter afterwards
+  pub laid-short : lentShort (w .settings) (laid w l) ≡ false
+  unfolding laid lentShort
+  laid-short =
+      let r = laid-room in
+      let s = w .settings in
+      let p = subst (λ (t : Settings). dimension t ≤ length (l .lastShingledPoint)) (settings-are s (f .valid)) (r .in-point) in
+      (λ i.
+        ltb (length-over (l .statistics) (w .statistics) (omega (arith, f .statisticsLong, r .in-statistics)) i) (statisticsLength s)
+        || (ltb (length-over (l .lastShingledInput) (w .lastShingledInput) (fits (f .inputLong) (r .in-input)) i) (s .d * s .k)
+        || (ltb (length-over (l .lastShingledPoint) (w .lastShingledPoint) (fits (f .pointLong) p) i) (dimension s)
+        || (ltb (length-over (l .previousTimestamps) (w .previousTimestamps) (fits (f .timesLong) (r .in-times)) i) (s .k)
+        || (ltb (length-over (l .initialValues) (w .initialValues) (fits (f .initialLong) (r .in-values)) i) (s .start * s .d)
+        || ltb (length-over (l .initialTimestamps) (w .initialTimestamps) (r .in-initial) i) (s .start))))))
+      ∙ room
+    where
+      fits : {a n m : ℕ} → a ≡ n → n ≤ m → a ≤ m
+      fits e h = omega (arith, e, h)
+
+  pub laid-held : unheld (counted (headFrom (w .settings)) w) (laid w l) ≡ false
   unfolding unheld laid
   laid-held =
       let r = laid-room in
