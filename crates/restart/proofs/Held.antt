@@ -64,6 +64,7 @@ module _ (s : Settings) (ok : Valid s) where
             let a = initial-few w f in
             let b : w .settings .start ≡ m .head .«start_normalization» = ap (λ (x : Settings). x .start) (e ∙ sym (k .settled)) in
             omega (arith, a, b, k .counts)
+
         go : (b : Bool) → waiting (settingsOf (m .head)) (m .head .«values_seen») ≡ b
             → ltb (m .head .«start_normalization») (m .head .«initial_len») || (waiting (settingsOf (m .head)) (m .head .«values_seen») && not (eqb (m .head .«initial_len») (m .head .«values_seen»))) ≡ false
         go false h = rw (le-ltb (m .head .«start_normalization») (m .head .«initial_len») few, h)

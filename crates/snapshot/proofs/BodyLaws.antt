@@ -68,10 +68,12 @@ module _ {A : Type 0} (p : ℕ → List ℕ → Option (A × List ℕ)) (f : A �
       values : Ran (List A) → List A
       values (ran v y) = v
       values (broke m) = []
+
       by-rest : (a : A) (r : Ran (List A)) (y : List ℕ) → ((v : List A) (x : List ℕ) → many p f (f a) n y ≡ ran v x → length v ≡ n) → many p f (f a) n y ≡ r
           → behindLines 1 (front a r) ≡ ran u z → length u ≡ suc n
       by-rest a (ran v x) y g h k = ap (λ (r : Ran (List A)). length (values r)) (sym k) ∙ ap suc (g v x h)
       by-rest a (broke m) y g h k = absurd (ran-not-broke u z (1 + m) (sym k))
+
       by-line : ((a : A) (y : List ℕ) (v : List A) (x : List ℕ) → many p f (f a) n y ≡ ran v x → length v ≡ n) → (o : Option (A × List ℕ)) → p q l ≡ o → length u ≡ suc n
       by-line g none h = absurd (ran-not-broke u z 1 (sym (rw h at e)))
       by-line g (some r) h = by-rest (r .0) (many p f (f (r .0)) n (r .1)) (r .1) (g (r .0) (r .1)) refl (rw h at e)
@@ -87,6 +89,7 @@ bufs-length d n l i z e = go (many (bufBy d) timeOf 0 n l) refl e
     kept : Ran Initial → List ℕ
     kept (ran a y) = a .times
     kept (broke m) = []
+
     go : (r : Ran (List Reading)) → many (bufBy d) timeOf 0 n l ≡ r → ran i z ≡ mapRan initialOf r → length (i .times) ≡ n
     go (ran u y) h k = ap (λ (w : Ran Initial). length (kept w)) k ∙ times-length u ∙ many-length (bufBy d) timeOf 0 n l u y h
     go (broke m) h k = absurd (ran-not-broke i z m k)
@@ -114,6 +117,7 @@ module _ (s : Settings) (c : Counts) (l : List ℕ) where
         off : (b : Bool) → 0 ≡ cond (b && false) (s .start) 0
         off true = refl
         off false = refl
+
         go : (x : List ℕ) → length x ≡ 0 → 0 ≡ cond (waiting s (c .valuesSeen)) (c .valuesSeen) (cond (mayStand s c && not (null x)) (s .start) 0)
         go [] e = rw h (off (mayStand s c))
         go (b ∷ x) e = absurd (omega (arith, e))
@@ -142,6 +146,7 @@ module _ (s : Settings) (c : Counts) (l : List ℕ) where
           or-true : (b : Bool) → b || true ≡ true
           or-true true = refl
           or-true false = refl
+
           may : mayStand s c ≡ true
           may = rw (k, eq-eqb (c .internalTimestamp) 0 f) (or-true (not (eqb (c .valuesSeen) (s .start))))
 

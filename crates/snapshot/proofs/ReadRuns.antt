@@ -157,6 +157,7 @@ some-line x l = go (eqb x 10) refl (lines l) refl
     pushed : (r : List (List ℕ)) → (a : List ℕ) × (b : List (List ℕ)) × (push x r ≡ a ∷ b)
     pushed [] = (x ∷ [], [], refl)
     pushed (m ∷ r) = (x ∷ m, r, refl)
+
     go : (b : Bool) → eqb x 10 ≡ b → (r : List (List ℕ)) → lines l ≡ r → (a : List ℕ) × (b : List (List ℕ)) × (lines (x ∷ l) ≡ a ∷ b)
     go true e r h = (10 ∷ [], lines l, rw e)
     go false e r h = let p = pushed (lines l) in (p .0, p .1, rw e (p .2))
@@ -255,9 +256,9 @@ unfolding readBy headBy Next
 read-runs t =
     step-set t ∙ one-line (setBy t) (λ s z. follow (afterSet s) (lines z))
     ∙ goOn-same 1 (oneLine (setBy t)) _ _ (λ s l₁. step-wgt s l₁ ∙ one-line (wgtBy (s .method) (s .d) l₁) (λ v z. follow (afterWgt (withWeights s v)) (lines z))
-        ∙ goOn-same 1 (oneLine (wgtBy (s .method) (s .d) l₁)) _ _ (λ v l₂. step-cnt (withWeights s v) l₂ ∙ one-line (cntBy (s .method) (s .start) l₂) (λ c z. follow (afterCnt (withWeights s v) c) (lines z))
-            ∙ goOn-one (oneLine (cntBy (s .method) (s .start) l₂)) (λ c. headRead (withWeights s v) c) Next)
-        ∙ goOn-after 1 1 (oneLine (wgtBy (s .method) (s .d) l₁)) (λ v l₂. after 1 (oneLine (cntBy (s .method) (s .start) l₂)) (λ c l₃. ran (headRead (withWeights s v) c) l₃)) Next)
+    ∙ goOn-same 1 (oneLine (wgtBy (s .method) (s .d) l₁)) _ _ (λ v l₂. step-cnt (withWeights s v) l₂ ∙ one-line (cntBy (s .method) (s .start) l₂) (λ c z. follow (afterCnt (withWeights s v) c) (lines z))
+    ∙ goOn-one (oneLine (cntBy (s .method) (s .start) l₂)) (λ c. headRead (withWeights s v) c) Next)
+    ∙ goOn-after 1 1 (oneLine (wgtBy (s .method) (s .d) l₁)) (λ v l₂. after 1 (oneLine (cntBy (s .method) (s .start) l₂)) (λ c l₃. ran (headRead (withWeights s v) c) l₃)) Next)
     ∙ goOn-after 1 2 (oneLine (setBy t)) (λ s l₁. after 1 (oneLine (wgtBy (s .method) (s .d) l₁)) (λ v l₂. after 1 (oneLine (cntBy (s .method) (s .start) l₂)) (λ c l₃. ran (headRead (withWeights s v) c) l₃))) Next
     ∙ goOn-same 3 (headBy t) Next _ (λ h z. body-follow (h .settings) (h .counts) z)
     ∙ goOn-read 3 (headBy t) (λ h l. mapRan (stateFrom (h .settings) (h .counts)) (bodyBy (h .settings) (h .counts) l))

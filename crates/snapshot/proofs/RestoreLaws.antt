@@ -52,18 +52,22 @@ weights-long t k z e = by-set (setBy t) e
   where
     Long : Ran Head → Type 0
     Long r = ran k z ≡ r → length (k .settings .weights) ≡ k .settings .d
+
     by-cnt : (s : Settings) (v : List Float) → length v ≡ s .d → (o : Option (Counts × List ℕ)) → Long (after 1 (oneLine o) (λ c l₃. ran (headRead (withWeights s v) c) l₃))
     by-cnt s v h none f = absurd (ran-not-broke k z 1 f)
     by-cnt s v h (some r) f = subst (λ (x : Head). length (x .settings .weights) ≡ x .settings .d) (sym (ran-value k (headRead (withWeights s v) (r .0)) z (r .1) f)) h
+
     behind : (r : Ran Head) → Long r → Long (behindLines 1 r)
     behind (ran a y) g f = g f
     behind (broke m) g f = absurd (ran-not-broke k z (1 + m) f)
+
     by-wgt : (s : Settings) (l₁ : List ℕ) (o : Option (List Float × List ℕ)) → wgtBy (s .method) (s .d) l₁ ≡ o
         → Long (after 1 (oneLine o) (λ v l₂. after 1 (oneLine (cntBy (s .method) (s .start) l₂)) (λ c l₃. ran (headRead (withWeights s v) c) l₃)))
     by-wgt s l₁ none h f = absurd (ran-not-broke k z 1 f)
     by-wgt s l₁ (some r) h f =
         behind (after 1 (oneLine (cntBy (s .method) (s .start) (r .1))) (λ c l₃. ran (headRead (withWeights s (r .0)) c) l₃))
         (by-cnt s (r .0) (wgt-long (s .d) l₁ (r .0) (r .1) s h) (cntBy (s .method) (s .start) (r .1))) f
+
     by-set : (o : Option (Settings × List ℕ))
         → Long (after 1 (oneLine o) (λ s l₁. after 1 (oneLine (wgtBy (s .method) (s .d) l₁)) (λ v l₂. after 1 (oneLine (cntBy (s .method) (s .start) l₂)) (λ c l₃. ran (headRead (withWeights s v) c) l₃))))
     by-set none f = absurd (ran-not-broke k z 1 f)
@@ -88,9 +92,11 @@ filled-of s c l b y n e h = by-parts (partsOf s c l) refl
         let q : b ≡ body p i = ran-value b (body p i) y [] (sym (rw (f, g) at e)) in
         let m : n ≡ expected s c l₁ = h ∙ ap (λ (w : Body). length (w .initial .times)) q ∙ bufs-length (s .d) (expected s c l₁) l₁ i [] (sym g) in
         ([], ap (λ (w : Body). ran w []) q ∙ rw (f, m, g))
+
     by-bufs : (p : Parts) (l₁ : List ℕ) → partsOf s c l ≡ ran p l₁ → (r : Ran Initial) → bufs (s .d) (expected s c l₁) l₁ ≡ r → (x : List ℕ) × (ran b x ≡ filledBy s c n l)
     by-bufs p l₁ f (ran i l₂) g = by-end p l₁ f i l₂ g
     by-bufs p l₁ f (broke m) g = absurd (ran-not-broke b y (5 * s .d + 8 + m) (sym (rw (f, g) at e)))
+
     by-parts : (r : Ran Parts) → partsOf s c l ≡ r → (x : List ℕ) × (ran b x ≡ filledBy s c n l)
     by-parts (ran p l₁) f = by-bufs p l₁ f (bufs (s .d) (expected s c l₁) l₁) refl
     by-parts (broke m) f = absurd (ran-not-broke b y m (sym (rw f at e)))
@@ -158,9 +164,9 @@ module _ (t : List ℕ) (l : Lent) where
           let w = filled-of (settingsOf h) (countsIn h) z b (good .1) (r .count) (good .2) count-is in
           let k = head-of (headBy t) h z e in
           let a : counting h (h .transformer .count) (h .«values_seen») (h .«internal_timestamp») (r .count)
-              ≡ counting (headFrom (settingsOf h)) (h .transformer .count) (h .«values_seen») (h .«internal_timestamp») (r .count) =
-              subst (λ (x : Preprocessor). counting x (h .transformer .count) (h .«values_seen») (h .«internal_timestamp») (r .count) ≡ counting (headFrom (settingsOf x)) (h .transformer .count) (h .«values_seen») (h .«internal_timestamp») (r .count))
-              (sym (k .2)) (head-again (k .0) (weights-long t (k .0) z (k .1)) (h .transformer .count) (h .«values_seen») (h .«internal_timestamp») (r .count)) in
+          ≡ counting (headFrom (settingsOf h)) (h .transformer .count) (h .«values_seen») (h .«internal_timestamp») (r .count) =
+          subst (λ (x : Preprocessor). counting x (h .transformer .count) (h .«values_seen») (h .«internal_timestamp») (r .count) ≡ counting (headFrom (settingsOf x)) (h .transformer .count) (h .«values_seen») (h .«internal_timestamp») (r .count))
+          (sym (k .2)) (head-again (k .0) (weights-long t (k .0) z (k .1)) (h .transformer .count) (h .«values_seen») (h .«internal_timestamp») (r .count)) in
           ap (λ (x : Preprocessor). outcome 0 0 x new) a
           ∙ ap (λ (n : ℕ). outcome 0 0 (counting (headFrom (settingsOf h)) (h .transformer .count) (h .«values_seen») (h .«internal_timestamp») n) new) count-is
           ∙ ap (λ (x : Lent). outcome 0 0 (counting (headFrom (settingsOf h)) (h .transformer .count) (h .«values_seen») (h .«internal_timestamp») (length (b .initial .times))) x) (o b (w .0) (w .1))

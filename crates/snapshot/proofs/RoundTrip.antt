@@ -144,6 +144,7 @@ initial-few w f = go (waiting (w .settings) (w .valuesSeen)) refl
         → length (w .initialTimestamps) ≤ w .settings .start
     some-few (inl e) = rw e (omega arith)
     some-few (inr e) = omega (arith, e .1)
+
     go : (b : Bool) → waiting (w .settings) (w .valuesSeen) ≡ b → length (w .initialTimestamps) ≤ w .settings .start
     go true e =
         let k = ltb-true (w .valuesSeen) (w .settings .start) (and-right (normalizes (w .settings .method)) _ e) in
@@ -169,12 +170,12 @@ module _ (w : State) (f : Form w) (l : Lent) (room : lentShort (w .settings) l �
       let s = w .settings in
       let p = subst (λ (t : Settings). dimension t ≤ length (l .lastShingledPoint)) (settings-are s (f .valid)) (r .in-point) in
       (λ i.
-        ltb (length-over (l .statistics) (w .statistics) (omega (arith, f .statisticsLong, r .in-statistics)) i) (statisticsLength s)
-        || (ltb (length-over (l .lastShingledInput) (w .lastShingledInput) (fits (f .inputLong) (r .in-input)) i) (s .d * s .k)
-        || (ltb (length-over (l .lastShingledPoint) (w .lastShingledPoint) (fits (f .pointLong) p) i) (dimension s)
-        || (ltb (length-over (l .previousTimestamps) (w .previousTimestamps) (fits (f .timesLong) (r .in-times)) i) (s .k)
-        || (ltb (length-over (l .initialValues) (w .initialValues) (fits (f .initialLong) (r .in-values)) i) (s .start * s .d)
-        || ltb (length-over (l .initialTimestamps) (w .initialTimestamps) (r .in-initial) i) (s .start))))))
+      ltb (length-over (l .statistics) (w .statistics) (omega (arith, f .statisticsLong, r .in-statistics)) i) (statisticsLength s)
+      || (ltb (length-over (l .lastShingledInput) (w .lastShingledInput) (fits (f .inputLong) (r .in-input)) i) (s .d * s .k)
+      || (ltb (length-over (l .lastShingledPoint) (w .lastShingledPoint) (fits (f .pointLong) p) i) (dimension s)
+      || (ltb (length-over (l .previousTimestamps) (w .previousTimestamps) (fits (f .timesLong) (r .in-times)) i) (s .k)
+      || (ltb (length-over (l .initialValues) (w .initialValues) (fits (f .initialLong) (r .in-values)) i) (s .start * s .d)
+      || ltb (length-over (l .initialTimestamps) (w .initialTimestamps) (r .in-initial) i) (s .start))))))
       ∙ room
     where
       fits : {a n m : ℕ} → a ≡ n → n ≤ m → a ≤ m

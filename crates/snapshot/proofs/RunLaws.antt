@@ -50,7 +50,7 @@ module _ {A : Type 0} where
       pub ahead-step : i < n → (a : A) (y : List ℕ) → some (a, y) ≡ p q z → Ahead n l (u ++ (a ∷ [])) (i + 1) (f a) y
       ahead-step h a y e =
           let r : many p f q (n - i) z ≡ behindLines 1 (front a (many p f (f a) (n - (i + 1)) y)) =
-              turn h ∙ ap (λ (o : Option (A × List ℕ)). after 1 (oneLine o) (λ b x. front b (many p f (f b) (n - (i + 1)) x))) (sym e) in
+          turn h ∙ ap (λ (o : Option (A × List ℕ)). after 1 (oneLine o) (λ b x. front b (many p f (f b) (n - (i + 1)) x))) (sym e) in
           record {
             some-left = omega (arith, h);
             so = s .so ∙ ap (λ (w : Ran (List A)). behindLines i (fronts u w)) r ∙ fronts-one u a i (many p f (f a) (n - (i + 1)) y);
@@ -59,7 +59,7 @@ module _ {A : Type 0} where
       pub ahead-stop : i < n → none ≡ p q z → many p f 0 n l ≡ broke (i + 1)
       ahead-stop h e =
           let r : many p f q (n - i) z ≡ broke 1 =
-              turn h ∙ ap (λ (o : Option (A × List ℕ)). after 1 (oneLine o) (λ b x. front b (many p f (f b) (n - (i + 1)) x))) (sym e) in
+          turn h ∙ ap (λ (o : Option (A × List ℕ)). after 1 (oneLine o) (λ b x. front b (many p f (f b) (n - (i + 1)) x))) (sym e) in
           s .so ∙ ap (λ (w : Ran (List A)). behindLines i (fronts u w)) r
 
       pub ahead-done : i ≡ n → many p f 0 n l ≡ ran u z

@@ -29,7 +29,8 @@ fn dev_lines(text: &[u8], at: usize, n: usize, statistics: &mut [f64]) -> Lines
             break 'lines Lines { bad: 0, at: p };
         }
         let from = i * 3;
-        let Place::At(q) = doubles_line(text, p, 100, 101, 118, &mut statistics[from..from + 3]) else {
+        let Place::At(q) = doubles_line(text, p, 100, 101, 118, &mut statistics[from..from + 3])
+        else {
             break 'lines Lines { bad: i + 1, at: p };
         };
         p = q;
@@ -58,28 +59,26 @@ pub(crate) fn part_lines(
         return a;
     }
     let Place::At(p) = singles_line(text, a.at, 105, 110, 112, input) else {
-        return Lines {
-            bad: n + 1,
-            at: at,
-        };
+        return Lines { bad: n + 1, at: at };
     };
     let Place::At(q) = singles_line(text, p, 112, 110, 116, point) else {
-        return Lines {
-            bad: n + 2,
-            at: at,
-        };
+        return Lines { bad: n + 2, at: at };
     };
     let Place::At(r) = tim_line(text, q, internal, times) else {
-        return Lines {
-            bad: n + 3,
-            at: at,
-        };
+        return Lines { bad: n + 3, at: at };
     };
     Lines { bad: 0, at: r }
 }
 
 // n `buf` lines, d numbers each, into lists of that length.
-pub(crate) fn buf_lines(text: &[u8], at: usize, d: usize, n: usize, values: &mut [f32], times: &mut [u64]) -> Lines
+pub(crate) fn buf_lines(
+    text: &[u8],
+    at: usize,
+    d: usize,
+    n: usize,
+    values: &mut [f32],
+    times: &mut [u64],
+) -> Lines
     requires { ⌜ length (now values) ≡ n * d ⌝ }
     requires { ⌜ length (now times) ≡ n ⌝ }
     requires { ⌜ d ≤ 16 ⌝ }

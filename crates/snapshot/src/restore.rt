@@ -117,7 +117,13 @@ fn head_lines(text: &[u8]) -> Header
     Header {
         bad: 0,
         at: r,
-        head: head_with(set, weights, counters.seen, counters.internal, counters.count),
+        head: head_with(
+            set,
+            weights,
+            counters.seen,
+            counters.internal,
+            counters.count,
+        ),
     }
 }
 

@@ -66,10 +66,12 @@ lines-again : tie.Need-lines-again Inv-lines μ-lines
 lines-again c =
     let a = c .before .before .before .before .before .before .before .before .before .args in
     let L = c .before .before .before .before .before .before .before .lines in
-    let b = c .before .before .before .before .buf-line in
-    (length-front (L .values) (b .last .1 .1 .1 .0) (a .d) (b .ensures .kept) ∙ L .inv .0, unkept-step (a .d) (a .n) (drop (a .at) (a .text .now)) (L .i) (L .past) (drop (L .p) (a .text .now)) (L .inv .1) (omega (arith, L .inv .1 .ahead .some-left)) _
-    (reading (b .last .1 .1 .1 .0) (b .result .time)) (drop (c .before .place .given .0 .0) (a .text .now)) (length-take-le (a .d) (L .values) (omega (arith, L .inv .1 .narrow, L .inv .0)))
-    (got-one (b .result .place) (a .text .now) (reading (b .last .1 .1 .1 .0) (b .result .time)) _ (c .before .place .given .0 .0) (c .before .place .given .1) (b .ensures .told)))
+    let b = c .before .before .before .before .buf-line in (
+      length-front (L .values) (b .last .1 .1 .1 .0) (a .d) (b .ensures .kept) ∙ L .inv .0,
+      unkept-step (a .d) (a .n) (drop (a .at) (a .text .now)) (L .i) (L .past) (drop (L .p) (a .text .now)) (L .inv .1) (omega (arith, L .inv .1 .ahead .some-left)) _
+          (reading (b .last .1 .1 .1 .0) (b .result .time)) (drop (c .before .place .given .0 .0) (a .text .now)) (length-take-le (a .d) (L .values) (omega (arith, L .inv .1 .narrow, L .inv .0)))
+          (got-one (b .result .place) (a .text .now) (reading (b .last .1 .1 .1 .0) (b .result .time)) _ (c .before .place .given .0 .0) (c .before .place .given .1) (b .ensures .told)),
+    )
 
 -- src/lines.rt:108:1
 returns : tie.Need-returns Inv-lines μ-lines
@@ -83,10 +85,12 @@ returns-2 : tie.Need-returns-2 Inv-lines μ-lines
 returns-2 c =
     let a = c .before .before .before .before .before .before .before .before .args in
     let L = c .before .before .before .before .before .before .lines in
-    let b = c .before .before .before .buf-line in
-    (told-broke (L .i + 1) _ (drop (L .p) (a .text .now)) (omega arith)
-    ∙ ap (λ (r : Ran Initial). unkept r) (unkept-stop (a .d) (a .n) (drop (a .at) (a .text .now)) (L .i) (L .past) (drop (L .p) (a .text .now)) (L .inv .1) (omega (arith, L .inv .1 .ahead .some-left)) _ (length-take-le (a .d) (L .values) (omega (arith, L .inv .1 .narrow, L .inv .0)))
-    (lost-one (b .result .place) (a .text .now) (reading (b .last .1 .1 .1 .0) (b .result .time)) _ (c .enum-told .given .1) (b .ensures .told))), omega (arith, L .inv .1 .ahead .some-left))
+    let b = c .before .before .before .buf-line in (
+      told-broke (L .i + 1) _ (drop (L .p) (a .text .now)) (omega arith)
+          ∙ ap (λ (r : Ran Initial). unkept r) (unkept-stop (a .d) (a .n) (drop (a .at) (a .text .now)) (L .i) (L .past) (drop (L .p) (a .text .now)) (L .inv .1) (omega (arith, L .inv .1 .ahead .some-left)) _ (length-take-le (a .d) (L .values) (omega (arith, L .inv .1 .narrow, L .inv .0)))
+          (lost-one (b .result .place) (a .text .now) (reading (b .last .1 .1 .1 .0) (b .result .time)) _ (c .enum-told .given .1) (b .ensures .told))),
+      omega (arith, L .inv .1 .ahead .some-left),
+    )
 
 pub buf-lines-unkept-spec : {M : Type 1} → statement M
 buf-lines-unkept-spec =

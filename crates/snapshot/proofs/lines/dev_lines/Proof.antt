@@ -105,10 +105,12 @@ returns-2 : tie.Need-returns-2 Inv-lines μ-lines
 returns-2 c =
     let a = c .before .before .before .before .before .before .before .before .before .before .args in
     let L = c .before .before .before .before .before .before .before .lines in
-    let d = c .before .before .before .before .doubles-line in
-    (told-broke (L .i + 1) _ (drop (L .p) (a .text .now)) (omega arith)
-    ∙ devs-stop (a .n) (drop (a .at) (a .text .now)) (L .statistics) (L .i) (drop (L .p) (a .text .now)) (L .inv) (omega (arith, L .inv .ahead .some-left))
-    (lost-list (d .result) (a .text .now) _ _ (c .enum-told .given .1) (d .ensures .told)), omega (arith, L .inv .ahead .some-left))
+    let d = c .before .before .before .before .doubles-line in (
+      told-broke (L .i + 1) _ (drop (L .p) (a .text .now)) (omega arith)
+          ∙ devs-stop (a .n) (drop (a .at) (a .text .now)) (L .statistics) (L .i) (drop (L .p) (a .text .now)) (L .inv) (omega (arith, L .inv .ahead .some-left))
+          (lost-list (d .result) (a .text .now) _ _ (c .enum-told .given .1) (d .ensures .told)),
+      omega (arith, L .inv .ahead .some-left),
+    )
 
 pub dev-lines-spec : {M : Type 1} → statement M
 dev-lines-spec =

@@ -61,9 +61,11 @@ returns-2 c =
     let a = c .before .before .before .before .before .before .before .before .before .before .before .before .before .before .before .before .before .args in
     let t = a .text .now in
     let D = c .before .before .before .before .before .before .before .before .before .before .dev-lines in
-    let e = told-ran (D .result .bad) (D .last .1 .1 .1 .0) (drop (D .result .at) t) _ (omega (arith, c .before .before .before .before .before .before .if1 .left)) (D .ensures .0) in
-    (told-broke (a .n + 1) _ (drop (a .at) t) (omega arith)
-    ∙ parts-inp (a .internal) (a .n) (length (a .input .now)) (length (a .point .now)) (length (a .times .now)) (drop (a .at) t) (D .last .1 .1 .1 .0) (drop (D .result .at) t) e (lost-list (c .before .before .before .before .singles-line .result) t (c .before .before .before .before .singles-line .last .1 .1 .1 .1 .1 .0) _ (c .enum-told .given .1) (c .before .before .before .before .singles-line .ensures .told)), omega arith)
+    let e = told-ran (D .result .bad) (D .last .1 .1 .1 .0) (drop (D .result .at) t) _ (omega (arith, c .before .before .before .before .before .before .if1 .left)) (D .ensures .0) in (
+      told-broke (a .n + 1) _ (drop (a .at) t) (omega arith)
+          ∙ parts-inp (a .internal) (a .n) (length (a .input .now)) (length (a .point .now)) (length (a .times .now)) (drop (a .at) t) (D .last .1 .1 .1 .0) (drop (D .result .at) t) e (lost-list (c .before .before .before .before .singles-line .result) t (c .before .before .before .before .singles-line .last .1 .1 .1 .1 .1 .0) _ (c .enum-told .given .1) (c .before .before .before .before .singles-line .ensures .told)),
+      omega arith,
+    )
 
 -- src/lines.rt:64:24
 singles-line-requires-2 : tie.Need-singles-line-requires-2
@@ -100,9 +102,11 @@ returns-3 c =
     let t = a .text .now in
     let D = c .before .before .before .before .before .before .before .before .before .before .before .before .before .before .before .before .before .dev-lines in
     let e = told-ran (D .result .bad) (D .last .1 .1 .1 .0) (drop (D .result .at) t) _ (omega (arith, c .before .before .before .before .before .before .before .before .before .before .before .before .before .if1 .left)) (D .ensures .0) in
-    let g = got-list (c .before .before .before .before .before .before .before .before .before .before .before .singles-line .result) t (c .before .before .before .before .before .before .before .before .before .before .before .singles-line .last .1 .1 .1 .1 .1 .0) _ (c .before .before .before .before .before .before .before .p .given .0 .0) (c .before .before .before .before .before .before .before .p .given .1) (c .before .before .before .before .before .before .before .before .before .before .before .singles-line .ensures .told) in
-    (told-broke (a .n + 2) _ (drop (a .at) t) (omega arith)
-    ∙ parts-pnt (a .internal) (a .n) (length (a .input .now)) (length (a .point .now)) (length (a .times .now)) (drop (a .at) t) (D .last .1 .1 .1 .0) (drop (D .result .at) t) e _ _ g (lost-list (c .before .before .before .before .singles-line2 .result) t (c .before .before .before .before .singles-line2 .last .1 .1 .1 .1 .1 .0) _ (c .enum-told2 .given .1) (c .before .before .before .before .singles-line2 .ensures .told)), omega arith)
+    let g = got-list (c .before .before .before .before .before .before .before .before .before .before .before .singles-line .result) t (c .before .before .before .before .before .before .before .before .before .before .before .singles-line .last .1 .1 .1 .1 .1 .0) _ (c .before .before .before .before .before .before .before .p .given .0 .0) (c .before .before .before .before .before .before .before .p .given .1) (c .before .before .before .before .before .before .before .before .before .before .before .singles-line .ensures .told) in (
+      told-broke (a .n + 2) _ (drop (a .at) t) (omega arith)
+          ∙ parts-pnt (a .internal) (a .n) (length (a .input .now)) (length (a .point .now)) (length (a .times .now)) (drop (a .at) t) (D .last .1 .1 .1 .0) (drop (D .result .at) t) e _ _ g (lost-list (c .before .before .before .before .singles-line2 .result) t (c .before .before .before .before .singles-line2 .last .1 .1 .1 .1 .1 .0) _ (c .enum-told2 .given .1) (c .before .before .before .before .singles-line2 .ensures .told)),
+      omega arith,
+    )
 
 -- src/lines.rt:70:24
 tim-line-requires : tie.Need-tim-line-requires
@@ -144,9 +148,11 @@ returns-4 c =
     let D = c .before .before .before .before .before .before .before .before .before .before .before .before .before .before .before .before .before .before .before .before .before .before .before .before .dev-lines in
     let e = told-ran (D .result .bad) (D .last .1 .1 .1 .0) (drop (D .result .at) t) _ (omega (arith, c .before .before .before .before .before .before .before .before .before .before .before .before .before .before .before .before .before .before .before .before .if1 .left)) (D .ensures .0) in
     let g = got-list (c .before .before .before .before .before .before .before .before .before .before .before .before .before .before .before .before .before .before .singles-line .result) t (c .before .before .before .before .before .before .before .before .before .before .before .before .before .before .before .before .before .before .singles-line .last .1 .1 .1 .1 .1 .0) _ (c .before .before .before .before .before .before .before .before .before .before .before .before .before .before .p .given .0 .0) (c .before .before .before .before .before .before .before .before .before .before .before .before .before .before .p .given .1) (c .before .before .before .before .before .before .before .before .before .before .before .before .before .before .before .before .before .before .singles-line .ensures .told) in
-    let h = got-list (c .before .before .before .before .before .before .before .before .before .before .before .singles-line2 .result) t (c .before .before .before .before .before .before .before .before .before .before .before .singles-line2 .last .1 .1 .1 .1 .1 .0) _ (c .before .before .before .before .before .before .before .q .given .0 .0) (c .before .before .before .before .before .before .before .q .given .1) (c .before .before .before .before .before .before .before .before .before .before .before .singles-line2 .ensures .told) in
-    (told-broke (a .n + 3) _ (drop (a .at) t) (omega arith)
-    ∙ parts-tim (a .internal) (a .n) (length (a .input .now)) (length (a .point .now)) (length (a .times .now)) (drop (a .at) t) (D .last .1 .1 .1 .0) (drop (D .result .at) t) e _ _ g _ _ h (lost-list (c .before .before .before .before .tim-line .result) t (c .before .before .before .before .tim-line .last .1 .1 .1 .0) _ (c .enum-told3 .given .1) (c .before .before .before .before .tim-line .ensures .told)), omega arith)
+    let h = got-list (c .before .before .before .before .before .before .before .before .before .before .before .singles-line2 .result) t (c .before .before .before .before .before .before .before .before .before .before .before .singles-line2 .last .1 .1 .1 .1 .1 .0) _ (c .before .before .before .before .before .before .before .q .given .0 .0) (c .before .before .before .before .before .before .before .q .given .1) (c .before .before .before .before .before .before .before .before .before .before .before .singles-line2 .ensures .told) in (
+      told-broke (a .n + 3) _ (drop (a .at) t) (omega arith)
+          ∙ parts-tim (a .internal) (a .n) (length (a .input .now)) (length (a .point .now)) (length (a .times .now)) (drop (a .at) t) (D .last .1 .1 .1 .0) (drop (D .result .at) t) e _ _ g _ _ h (lost-list (c .before .before .before .before .tim-line .result) t (c .before .before .before .before .tim-line .last .1 .1 .1 .0) _ (c .enum-told3 .given .1) (c .before .before .before .before .tim-line .ensures .told)),
+      omega arith,
+    )
 
 -- src/lines.rt:40:1
 same-length-11 : tie.Need-same-length-11

@@ -86,12 +86,25 @@ fill-body-requires : tie.Need-fill-body-requires
 fill-body-requires c κs =
     let a = c .before .before .before .before .before .before .before .before .before .before .before .before .before .before .before .args in
     let q = c .before .before .before .before .before .before .before .before .before .before .before .before .before .before .before .pre in
-    let d = a .head .transformer .«input_length» in
-    (q .d-few, (q .n-few, (length-take-le (3 * (5 * d + 5)) (a .statistics .now) (q .in-statistics) ∙ omega arith,
-    (length-take-le (d * a .head .«shingle_size») (a .last-shingled-input .now) (q .in-input),
-    (length-take-le ((d + c .before .before .before .before .before .before .time-width .result) * a .head .«shingle_size») (a .last-shingled-point .now) (subst (λ (m : ℕ). m ≤ length (c .before .before .before .before .before .before .before .before .before .before .before .before .before .before .before .args .last-shingled-point .now)) (sym (dimension-is (settingsOf (c .before .before .before .before .before .before .before .before .before .before .before .before .before .before .before .args .head)) (c .before .before .before .before .before .before .time-width .result) (c .before .before .before .before .before .before .time-width .ensures))) (c .before .before .before .before .before .before .before .before .before .before .before .before .before .before .before .pre .in-point)) ∙ dimension-is (settingsOf (a .head)) (c .before .before .before .before .before .before .time-width .result) (c .before .before .before .before .before .before .time-width .ensures),
-    (length-take-le (a .head .«shingle_size») (a .previous-timestamps .now) (q .in-times),
-    (length-take-le (a .n * d) (a .initial-values .now) (q .in-values), length-take-le (a .n) (a .initial-timestamps .now) (q .in-initial))))))))
+    let d = a .head .transformer .«input_length» in (
+      q .d-few,
+      (
+        q .n-few,
+        (
+          length-take-le (3 * (5 * d + 5)) (a .statistics .now) (q .in-statistics) ∙ omega arith,
+          (
+            length-take-le (d * a .head .«shingle_size») (a .last-shingled-input .now) (q .in-input),
+            (
+              length-take-le ((d + c .before .before .before .before .before .before .time-width .result) * a .head .«shingle_size») (a .last-shingled-point .now) (subst (λ (m : ℕ). m ≤ length (c .before .before .before .before .before .before .before .before .before .before .before .before .before .before .before .args .last-shingled-point .now)) (sym (dimension-is (settingsOf (c .before .before .before .before .before .before .before .before .before .before .before .before .before .before .before .args .head)) (c .before .before .before .before .before .before .time-width .result) (c .before .before .before .before .before .before .time-width .ensures))) (c .before .before .before .before .before .before .before .before .before .before .before .before .before .before .before .pre .in-point)) ∙ dimension-is (settingsOf (a .head)) (c .before .before .before .before .before .before .time-width .result) (c .before .before .before .before .before .before .time-width .ensures),
+              (
+                length-take-le (a .head .«shingle_size») (a .previous-timestamps .now) (q .in-times),
+                (length-take-le (a .n * d) (a .initial-values .now) (q .in-values), length-take-le (a .n) (a .initial-timestamps .now) (q .in-initial)),
+              ),
+            ),
+          ),
+        ),
+      ),
+    )
 
 same-length : tie.Need-same-length
 same-length c = search needs

@@ -36,9 +36,11 @@ no-header-requires c κs = search needs
 returns : tie.Need-returns
 returns c =
     let t = c .before .before .before .before .before .args .text .now in
-    let S = c .before .before .before .set-line in
-    (told-bad (c .no-header .result .bad) 1 (c .no-header .result .head) (drop (c .no-header .result .at) t) (c .no-header .ensures) (omega arith) ∙ ap (λ (r : Ran Head). mapRan headOf r)
-    (head-set t (lost-one (S .result .place) t (settingsTold (S .result)) _ (c .before .enum-told .given .1) (S .ensures))), λ e. absurd (omega (arith, e, c .no-header .ensures)))
+    let S = c .before .before .before .set-line in (
+      told-bad (c .no-header .result .bad) 1 (c .no-header .result .head) (drop (c .no-header .result .at) t) (c .no-header .ensures) (omega arith) ∙ ap (λ (r : Ran Head). mapRan headOf r)
+          (head-set t (lost-one (S .result .place) t (settingsTold (S .result)) _ (c .before .enum-told .given .1) (S .ensures))),
+      λ e. absurd (omega (arith, e, c .no-header .ensures)),
+    )
 
 array-borrow-prefix-weights : tie.Need-array-borrow-prefix-weights
 array-borrow-prefix-weights c =
@@ -71,9 +73,11 @@ returns-2 c =
     let t = c .before .before .before .before .before .before .before .before .before .before .before .args .text .now in
     let S = c .before .before .before .before .before .before .before .before .before .set-line in
     let e = got-one (S .result .place) t (settingsTold (S .result)) _ (c .before .before .before .before .before .before .before .first .given .0 .0) (c .before .before .before .before .before .before .before .first .given .1) (S .ensures) in
-    let W = c .before .before .before .before .wgt-line in
-    (told-bad (c .no-header2 .result .bad) 2 (c .no-header2 .result .head) (drop (c .no-header2 .result .at) t) (c .no-header2 .ensures) (omega arith) ∙ ap (λ (r : Ran Head). mapRan headOf r)
-    (head-wgt t (settingsTold (S .result)) _ e _ (lost-one (W .result) t (W .last .1 .1 .1 .0) _ (c .before .enum-told2 .given .1) (W .ensures .told)) (length-take-le (S .result .d) _ (set-few t (settingsTold (S .result)) _ e .d-few))), λ e. absurd (omega (arith, e, c .no-header2 .ensures)))
+    let W = c .before .before .before .before .wgt-line in (
+      told-bad (c .no-header2 .result .bad) 2 (c .no-header2 .result .head) (drop (c .no-header2 .result .at) t) (c .no-header2 .ensures) (omega arith) ∙ ap (λ (r : Ran Head). mapRan headOf r)
+          (head-wgt t (settingsTold (S .result)) _ e _ (lost-one (W .result) t (W .last .1 .1 .1 .0) _ (c .before .enum-told2 .given .1) (W .ensures .told)) (length-take-le (S .result .d) _ (set-few t (settingsTold (S .result)) _ e .d-few))),
+      λ e. absurd (omega (arith, e, c .no-header2 .ensures)),
+    )
 
 cnt-line-requires : tie.Need-cnt-line-requires
 cnt-line-requires c κs = search needs
@@ -94,9 +98,11 @@ returns-3 c =
     let e = got-one (S .result .place) t (settingsTold (S .result)) _ (c .before .before .before .before .before .before .before .before .before .before .before .first .given .0 .0) (c .before .before .before .before .before .before .before .before .before .before .before .first .given .1) (S .ensures) in
     let W = c .before .before .before .before .before .before .before .before .wgt-line in
     let f = got-one (W .result) t (W .last .1 .1 .1 .0) _ (c .before .before .before .before .before .q .given .0 .0) (c .before .before .before .before .before .q .given .1) (W .ensures .told) in
-    let K = c .before .before .before .cnt-line in
-    (told-bad (c .no-header3 .result .bad) 3 (c .no-header3 .result .head) (drop (c .no-header3 .result .at) t) (c .no-header3 .ensures) (omega arith) ∙ ap (λ (r : Ran Head). mapRan headOf r)
-    (head-cnt t (settingsTold (S .result)) _ e _ _ _ f (length-take-le (S .result .d) _ (set-few t (settingsTold (S .result)) _ e .d-few)) (lost-one (K .result .place) t (countsRead (K .result .seen) (K .result .internal) (K .result .count)) _ (c .before .enum-told3 .given .1) (K .ensures))), λ e. absurd (omega (arith, e, c .no-header3 .ensures)))
+    let K = c .before .before .before .cnt-line in (
+      told-bad (c .no-header3 .result .bad) 3 (c .no-header3 .result .head) (drop (c .no-header3 .result .at) t) (c .no-header3 .ensures) (omega arith) ∙ ap (λ (r : Ran Head). mapRan headOf r)
+          (head-cnt t (settingsTold (S .result)) _ e _ _ _ f (length-take-le (S .result .d) _ (set-few t (settingsTold (S .result)) _ e .d-few)) (lost-one (K .result .place) t (countsRead (K .result .seen) (K .result .internal) (K .result .count)) _ (c .before .enum-told3 .given .1) (K .ensures))),
+      λ e. absurd (omega (arith, e, c .no-header3 .ensures)),
+    )
 
 head-with-requires : tie.Need-head-with-requires
 head-with-requires c κs = search needs
@@ -110,10 +116,11 @@ returns-4 c =
     let f = got-one (W .result) t (W .last .1 .1 .1 .0) _ (c .before .before .before .before .before .before .q .given .0 .0) (c .before .before .before .before .before .before .q .given .1) (W .ensures .told) in
     let K = c .before .before .before .before .cnt-line in
     let g = got-one (K .result .place) t (countsRead (K .result .seen) (K .result .internal) (K .result .count)) _ (c .before .before .third .given .0 .0) (c .before .before .third .given .1) (K .ensures) in
-    let h = c .head-with .ensures ∙ head-is (settingsTold (S .result)) (W .last .1 .1 .1 .0) (countsRead (K .result .seen) (K .result .internal) (K .result .count)) (W .ensures .kept ∙ length-take-le (S .result .d) _ (set-few t (settingsTold (S .result)) _ e .d-few)) in
-    (ap (λ (p : Preprocessor). ran p (drop (c .before .before .third .given .0 .0) t)) h
-    ∙ ap (λ (r : Ran Head). mapRan headOf r) (head-all t (settingsTold (S .result)) _ e _ _ _ f (length-take-le (S .result .d) _ (set-few t (settingsTold (S .result)) _ e .d-few)) _ _ g),
-    λ i. subst HeadFew (sym (c .head-with .ensures)) (set-few t (settingsTold (S .result)) _ e))
+    let h = c .head-with .ensures ∙ head-is (settingsTold (S .result)) (W .last .1 .1 .1 .0) (countsRead (K .result .seen) (K .result .internal) (K .result .count)) (W .ensures .kept ∙ length-take-le (S .result .d) _ (set-few t (settingsTold (S .result)) _ e .d-few)) in (
+      ap (λ (p : Preprocessor). ran p (drop (c .before .before .third .given .0 .0) t)) h
+          ∙ ap (λ (r : Ran Head). mapRan headOf r) (head-all t (settingsTold (S .result)) _ e _ _ _ f (length-take-le (S .result .d) _ (set-few t (settingsTold (S .result)) _ e .d-few)) _ _ g),
+      λ i. subst HeadFew (sym (c .head-with .ensures)) (set-few t (settingsTold (S .result)) _ e),
+    )
 
 pub head-lines-spec : {M : Type 1} → statement M
 head-lines-spec =

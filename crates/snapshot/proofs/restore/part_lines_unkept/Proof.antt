@@ -81,13 +81,15 @@ returns c =
     let a = c .before .before .before .before .before .before .before .before .before .before .before .before .args in
     let s = settingsOf (a .head) in
     let P = c .before .before .before .before .part-lines in
-    let w = wide-of (augments (c .before .before .before .before .before .before .before .before .before .before .before .before .args .head .«forest_mode»)) (c .before .before .before .before .before .before .before .before .before .time-width .result) (c .before .before .before .before .before .before .before .before .before .time-width .ensures) in
-    (unkept-of (P .result .bad) _ (drop (P .result .at) (a .text .now)) _
-    (parts-of s (countsIn (a .head)) (drop (a .at) (a .text .now)) _ _ _ _
-    (length-take-le (s .d * s .k) _ (few (s .d) (s .k) (c .before .before .before .before .before .before .before .before .before .before .before .before .pre .0) (c .before .before .before .before .before .before .before .before .before .before .before .before .pre .1)))
-    (length-take-le ((s .d + c .before .before .before .before .before .before .before .before .before .time-width .result) * s .k) _ (few-wide (s .d + c .before .before .before .before .before .before .before .before .before .time-width .result) (s .k) (omega (arith, w, c .before .before .before .before .before .before .before .before .before .before .before .before .pre .0)) (c .before .before .before .before .before .before .before .before .before .before .before .before .pre .1)) ∙ dimension-is s (c .before .before .before .before .before .before .before .before .before .time-width .result) (c .before .before .before .before .before .before .before .before .before .time-width .ensures))
-    (length-take-le (s .k) _ (c .before .before .before .before .before .before .before .before .before .before .before .before .pre .1))
-    (P .ensures .0)), omega (arith, P .ensures .1, c .before .before .before .before .before .before .before .before .before .before .before .before .pre .0))
+    let w = wide-of (augments (c .before .before .before .before .before .before .before .before .before .before .before .before .args .head .«forest_mode»)) (c .before .before .before .before .before .before .before .before .before .time-width .result) (c .before .before .before .before .before .before .before .before .before .time-width .ensures) in (
+      unkept-of (P .result .bad) _ (drop (P .result .at) (a .text .now)) _
+          (parts-of s (countsIn (a .head)) (drop (a .at) (a .text .now)) _ _ _ _
+          (length-take-le (s .d * s .k) _ (few (s .d) (s .k) (c .before .before .before .before .before .before .before .before .before .before .before .before .pre .0) (c .before .before .before .before .before .before .before .before .before .before .before .before .pre .1)))
+          (length-take-le ((s .d + c .before .before .before .before .before .before .before .before .before .time-width .result) * s .k) _ (few-wide (s .d + c .before .before .before .before .before .before .before .before .before .time-width .result) (s .k) (omega (arith, w, c .before .before .before .before .before .before .before .before .before .before .before .before .pre .0)) (c .before .before .before .before .before .before .before .before .before .before .before .before .pre .1)) ∙ dimension-is s (c .before .before .before .before .before .before .before .before .before .time-width .result) (c .before .before .before .before .before .before .before .before .before .time-width .ensures))
+          (length-take-le (s .k) _ (c .before .before .before .before .before .before .before .before .before .before .before .before .pre .1))
+          (P .ensures .0)),
+      omega (arith, P .ensures .1, c .before .before .before .before .before .before .before .before .before .before .before .before .pre .0),
+    )
 
 pub part-lines-unkept-spec : {M : Type 1} → statement M
 part-lines-unkept-spec =
