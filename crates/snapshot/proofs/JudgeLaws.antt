@@ -232,6 +232,12 @@ module _ {A : Type 0} where
   pub got-list : (r : Place) (t : List ℕ) (v : List A) (o : Option (List A × List ℕ)) (n : ℕ) → r ≡ At n → held v (placed r t) ≡ o → some (v, drop n t) ≡ o
   got-list r t v o n e h = rw e at h
 
+  pub got-one : (r : Place) (t : List ℕ) (v : A) (o : Option (A × List ℕ)) (n : ℕ) → r ≡ At n → held v (placed r t) ≡ o → some (v, drop n t) ≡ o
+  got-one r t v o n e h = rw e at h
+
+  pub lost-one : (r : Place) (t : List ℕ) (v : A) (o : Option (A × List ℕ)) → r ≡ Nowhere → held v (placed r t) ≡ o → none ≡ o
+  lost-one r t v o e h = rw e at h
+
   pub lost-list : (r : Place) (t : List ℕ) (v : List A) (o : Option (List A × List ℕ)) → r ≡ Nowhere → held v (placed r t) ≡ o → none ≡ o
   lost-list r t v o e h = rw e at h
 

@@ -7,3 +7,4 @@ pub mod LineLength
 pub mod Write
 pub mod Save
 pub mod Judge
+pub mod Restore

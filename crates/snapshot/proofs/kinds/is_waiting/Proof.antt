@@ -1,10 +1,10 @@
--- `snapshot::restore::is_waiting` meets its contract. Assumes nothing.
+-- `snapshot::kinds::is_waiting` meets its contract. Assumes nothing.
 use mathlib.Core.Path.{_≡_, refl, sym, _∙_}
 use borrow.Author.Needs.{needs}
-use Rattle.snapshot.proofs.restore.is_waiting.Statement.{statement}
-use Rattle.snapshot.proofs.restore.is_waiting.Tie as tie
-use Rattle.snapshot.proofs.restore.is_waiting.Reads as reads
-use Rattle.snapshot.proofs.restore.is_waiting.Lts as lts
+use Rattle.snapshot.proofs.kinds.is_waiting.Statement.{statement}
+use Rattle.snapshot.proofs.kinds.is_waiting.Tie as tie
+use Rattle.snapshot.proofs.kinds.is_waiting.Reads as reads
+use Rattle.snapshot.proofs.kinds.is_waiting.Lts as lts
 use Rattle.snapshot.proofs.values.is_normalizing.Reads as is-normalizing-reads
 
 is-normalizing-requires : tie.Need-is-normalizing-requires

@@ -1,13 +1,13 @@
--- `snapshot::restore::wgt_line` meets its contract. Assumes nothing.
+-- `snapshot::kinds::wgt_line` meets its contract. Assumes nothing.
 use mathlib.Core.Path.{_≡_, refl, sym, _∙_}
 use borrow.Author.Tests.{not-true, not-false}
 use Rattle.snapshot.specs.Judge.{wgtBy, wgtTest}
 use Rattle.snapshot.proofs.LineTests.{check-yes, check-no, wgt-no, wgt-one, wgt-other}
 use borrow.Author.Needs.{needs}
-use Rattle.snapshot.proofs.restore.wgt_line.Statement.{statement}
-use Rattle.snapshot.proofs.restore.wgt_line.Tie as tie
-use Rattle.snapshot.proofs.restore.wgt_line.Reads as reads
-use Rattle.snapshot.proofs.restore.wgt_line.Lts as lts
+use Rattle.snapshot.proofs.kinds.wgt_line.Statement.{statement}
+use Rattle.snapshot.proofs.kinds.wgt_line.Tie as tie
+use Rattle.snapshot.proofs.kinds.wgt_line.Reads as reads
+use Rattle.snapshot.proofs.kinds.wgt_line.Lts as lts
 use Rattle.snapshot.proofs.judge.singles_line.Reads as singles-line-reads
 use Rattle.snapshot.proofs.values.all_one.Reads as all-one-reads
 use Rattle.snapshot.proofs.values.is_none.Reads as is-none-reads

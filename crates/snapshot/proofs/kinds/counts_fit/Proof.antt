@@ -1,12 +1,12 @@
--- `snapshot::restore::counts_fit` meets its contract. Assumes nothing.
+-- `snapshot::kinds::counts_fit` meets its contract. Assumes nothing.
 use mathlib.Core.Path.{_≡_, refl, sym, _∙_}
 use Rattle.snapshot.proofs.LineTests.{cnt-seen, cnt-internal, cnt-count, cnt-waits, cnt-past}
 use borrow.Author.Needs.{needs}
-use Rattle.snapshot.proofs.restore.counts_fit.Statement.{statement}
-use Rattle.snapshot.proofs.restore.counts_fit.Tie as tie
-use Rattle.snapshot.proofs.restore.counts_fit.Reads as reads
-use Rattle.snapshot.proofs.restore.counts_fit.Lts as lts
-use Rattle.snapshot.proofs.restore.is_waiting.Reads as is-waiting-reads
+use Rattle.snapshot.proofs.kinds.counts_fit.Statement.{statement}
+use Rattle.snapshot.proofs.kinds.counts_fit.Tie as tie
+use Rattle.snapshot.proofs.kinds.counts_fit.Reads as reads
+use Rattle.snapshot.proofs.kinds.counts_fit.Lts as lts
+use Rattle.snapshot.proofs.kinds.is_waiting.Reads as is-waiting-reads
 
 returns : tie.Need-returns
 returns c = cnt-seen (c .before .args .method) (c .before .args .start) (c .before .args .seen) (c .before .args .internal) (c .before .args .count) (c .if1 .taken)

@@ -1,15 +1,15 @@
--- `snapshot::restore::cnt_line` meets its contract. Assumes nothing.
+-- `snapshot::kinds::cnt_line` meets its contract. Assumes nothing.
 use mathlib.Core.Path.{_≡_, refl, sym, _∙_}
 use lib.ListN.{drop}
 use borrow.Author.Tests.{not-true, not-false}
 use Rattle.snapshot.proofs.LineTests.{cnt-good, cnt-bad}
 use borrow.Author.Needs.{needs}
-use Rattle.snapshot.proofs.restore.cnt_line.Statement.{statement}
-use Rattle.snapshot.proofs.restore.cnt_line.Tie as tie
-use Rattle.snapshot.proofs.restore.cnt_line.Reads as reads
-use Rattle.snapshot.proofs.restore.cnt_line.Lts as lts
+use Rattle.snapshot.proofs.kinds.cnt_line.Statement.{statement}
+use Rattle.snapshot.proofs.kinds.cnt_line.Tie as tie
+use Rattle.snapshot.proofs.kinds.cnt_line.Reads as reads
+use Rattle.snapshot.proofs.kinds.cnt_line.Lts as lts
 use Rattle.snapshot.proofs.judge.wholes_line.Reads as wholes-line-reads
-use Rattle.snapshot.proofs.restore.counts_fit.Reads as counts-fit-reads
+use Rattle.snapshot.proofs.kinds.counts_fit.Reads as counts-fit-reads
 
 slice-aggregate-wholes-line : tie.Need-slice-aggregate-wholes-line
 slice-aggregate-wholes-line c = search needs

@@ -1,13 +1,13 @@
--- `snapshot::restore::tim_line` meets its contract. Assumes nothing.
+-- `snapshot::kinds::tim_line` meets its contract. Assumes nothing.
 use mathlib.Core.Path.{_≡_, refl, sym, _∙_}
 use borrow.Author.Tests.{not-true, not-false}
 use Rattle.snapshot.specs.Judge.{timBy, timTest}
 use Rattle.snapshot.proofs.LineTests.{check-yes, check-no, tim-falls, tim-not, tim-zero, tim-other}
 use borrow.Author.Needs.{needs}
-use Rattle.snapshot.proofs.restore.tim_line.Statement.{statement}
-use Rattle.snapshot.proofs.restore.tim_line.Tie as tie
-use Rattle.snapshot.proofs.restore.tim_line.Reads as reads
-use Rattle.snapshot.proofs.restore.tim_line.Lts as lts
+use Rattle.snapshot.proofs.kinds.tim_line.Statement.{statement}
+use Rattle.snapshot.proofs.kinds.tim_line.Tie as tie
+use Rattle.snapshot.proofs.kinds.tim_line.Reads as reads
+use Rattle.snapshot.proofs.kinds.tim_line.Lts as lts
 use Rattle.snapshot.proofs.judge.wholes_line.Reads as wholes-line-reads
 use Rattle.snapshot.proofs.values.all_zero.Reads as all-zero-reads
 use Rattle.snapshot.proofs.values.none_falls.Reads as none-falls-reads

@@ -1,4 +1,4 @@
--- `snapshot::restore::buf_line` meets its contract. Assumes nothing.
+-- `snapshot::kinds::buf_line` meets its contract. Assumes nothing.
 use mathlib.Core.Path.{_≡_, refl, sym, _∙_}
 use lib.ListN.{drop, length}
 use borrow.Author.Tests.{not-true, not-false}
@@ -6,10 +6,10 @@ use Rattle.snapshot.specs.Judge.{placed}
 use Rattle.snapshot.proofs.JudgeLaws.{got, lost, got-list, lost-list, whole-is, whole-not}
 use Rattle.snapshot.proofs.LineTests.{buf-nameless, buf-timeless, buf-bad, buf-early, buf-infinite, buf-good}
 use borrow.Author.Needs.{needs}
-use Rattle.snapshot.proofs.restore.buf_line.Statement.{statement}
-use Rattle.snapshot.proofs.restore.buf_line.Tie as tie
-use Rattle.snapshot.proofs.restore.buf_line.Reads as reads
-use Rattle.snapshot.proofs.restore.buf_line.Lts as lts
+use Rattle.snapshot.proofs.kinds.buf_line.Statement.{statement}
+use Rattle.snapshot.proofs.kinds.buf_line.Tie as tie
+use Rattle.snapshot.proofs.kinds.buf_line.Reads as reads
+use Rattle.snapshot.proofs.kinds.buf_line.Lts as lts
 use Rattle.snapshot.proofs.judge.byte.Reads as byte-reads
 use Rattle.snapshot.proofs.judge.name.Reads as name-reads
 use Rattle.snapshot.proofs.judge.next_field.Reads as next-field-reads
