@@ -6,4 +6,5 @@ pub mod getters;
 mod head;
 pub mod numbers;
 pub mod outputs;
+pub mod restore;
 mod words;

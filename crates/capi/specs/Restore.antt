@@ -1,0 +1,35 @@
+-- `restore` over lent words: the head into its words, the bad line into its place. Row 20 of too few words stands with row 20 of the lists, behind row 19.
+use Prim.Native.Nat.{ℕ}
+use mathlib.Core.Bool.{cond}
+use mathlib.Core.List.{List, []}
+use lib.ListN.{length}
+use lib.Dec.{ltb, eqb}
+use Rattle.common.specs.Lent.{over}
+use Rattle.trcf.specs.Preprocessor.{accepted}
+use Rattle.trcf.specs.View.{Lent, lent}
+use Rattle.snapshot.specs.Restore.{Outcome, restoreOf}
+use Rattle.capi.specs.Head.{wordsOf}
+use Rattle.capi.specs.Calls.{Called, called}
+
+pub record RestoreCalled : Type 0 where
+  pub called : Called
+  pub line : ℕ
+
+-- the place of the line is written with row 19 only
+abbrev pub restoreCalled : ℕ → List ℕ → Lent → ℕ → RestoreCalled
+restoreCalled n w l line = record { called = called n w l; line = line }
+
+abbrev pub lineTold : Outcome → ℕ → ℕ
+lineTold o line = cond (eqb (o .row) 19) (o .line) line
+
+-- lists that are too short for every text
+abbrev pub nothing : Lent
+nothing = lent [] [] [] [] [] []
+
+unfoldable pub restoreAt : List ℕ → List ℕ → Lent → ℕ → RestoreCalled
+restoreAt t w l line =
+    let o = restoreOf t l in
+    let few = restoreOf t nothing in
+    cond (ltb (length w) 28)
+    (restoreCalled (few .row) w l (lineTold few line))
+    (restoreCalled (o .row) (accepted (o .row) (over w (wordsOf (o .head))) w) (o .lent) (lineTold o line))
