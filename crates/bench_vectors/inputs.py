@@ -112,11 +112,17 @@ def random_head(r):
     stop = start + r.choice([0, 1, 3, 10, 1000])
     method = r.randrange(6)
     decay = r.choice([0, 0x3FB999999999999A, 0x3F50624DD2F1A9FC, 0x3FE0000000000000, 0x3FEFFFFFFFFFFFFF, 0x8000000000000000])
-    weights = [b"3f800000"] * d if method == 0 else [r.choice([b"3f800000", b"40000000", b"3e99999a", b"bf800000", f32(r)]) for _ in range(d)]
-    if r.random() < 0.08:
-        d, k, start = r.choice([(0, k, start), (d, 0, start), (17, k, start), (5, k, start), (d, 65, start), (d, k, 501), (d, k, 2000), (d + 1, k, start)])
-    line = set_line(r.choice([b"S", b"T"]), b"%d" % method, b"%d" % d, b"%d" % k, b"%d" % start, b"%d" % stop, b"%016x" % decay, r.choice([b"3f800000", b"40000000", b"3dcccccd", f32(r)]))
-    return d, line + b"wgt" + b"".join(b"\t" + w for w in weights) + b"\n"
+    weights = d
+    if r.random() < 0.1:
+        d, weights = r.choice([(0, 0), (0, 1), (17, 17), (5, 5), (16, 16), (d + 1, d), (d, d + 1), (d, d)])
+        k = r.choice([k, k, 0, 65])
+        start, stop = r.choice([(start, stop), (500, 500), (501, 900), (1999, 2000), (2000, 2000), (9, 8), (2**64 - 1, 2**64 - 1)])
+        decay = r.choice([decay, decay, 0x3FF0000000000000, 0xBFB999999999999A, 0x7FF8000000000000, 0x7FF0000000000000])
+    plain = method == 0 and r.random() < 0.95
+    words = [b"3f800000" if plain else r.choice([b"3f800000", b"40000000", b"3e99999a", b"bf800000", f32(r)]) for _ in range(weights)]
+    time = r.choice([b"3f800000", b"40000000", b"3dcccccd", f32(r)])
+    line = set_line(r.choice([b"S", b"T"]), b"%d" % method, b"%d" % d, b"%d" % k, b"%d" % start, b"%d" % stop, b"%016x" % decay, time)
+    return d, line + b"wgt" + b"".join(b"\t" + w for w in words) + b"\n"
 
 
 def random_calls(r, d, count):
