@@ -1,5 +1,6 @@
 // One block of the input: read behind the bytes that are kept of the block before, handed on cell by cell, and what it prints written.
 use bench_core::step::Bench;
+use bench_core::step::LONGEST;
 use bench_core::step::Phase;
 use bench_core::step::ROOM;
 use bench_core::step::step;
@@ -7,9 +8,6 @@ use libc::STDIN_FILENO;
 use libc::STDOUT_FILENO;
 ghost use Prim.Native.Nat.{_≤_, _<_};
 ghost use lib.ListN.{length};
-
-// A cell that a block cuts is kept to this length: a longer one is no name and no field, whatever follows.
-const LONGEST: usize = 24;
 
 // The bench behind a cell, the place behind it in the text, and the place in the output.
 struct Place {
@@ -157,7 +155,7 @@ fn cells(
     }
 }
 
-// Moves what stands from `from` to `to`, as far as LONGEST, to the front; answers how many bytes that is.
+// Moves the start of a cell that the block cuts, from..to, to the front; answers how many bytes that is. More than LONGEST are not needed.
 fn carried(text: &mut [u8], from: usize, to: usize) -> usize
     requires { ⌜ from ≤ to ⌝ }
     requires { ⌜ to ≤ length (now text) ⌝ }

@@ -28,6 +28,9 @@ ghost use Rattle.bench_core.specs.Bench.{output, prints, noText, readyFo
 // The bytes that the output of a step has to have.
 pub const ROOM: usize = 65536;
 
+// The bytes that are looked at of a cell: a longer one is no name and no field, and neither is its start (proofs/BlockLaws).
+pub const LONGEST: usize = 24;
+
 // What the next line has to be: `set`, `wgt`, a call; or the run is over.
 pub enum Phase {
     WantsSet,
@@ -592,13 +595,13 @@ fn cell_end(text: &[u8]) -> usize
     i
 }
 
-// A cell longer than 24 bytes is no name and no field, and neither is its start.
+// The part of a cell that is looked at.
 fn cell_of(n: usize) -> usize
     ensures { λ r. ⌜ r ≡ cellKept n ⌝ }
     ensures { λ r. ⌜ r ≤ n ⌝ }
 {
-    if 24 < n {
-        return 24;
+    if LONGEST < n {
+        return LONGEST;
     }
     n
 }
