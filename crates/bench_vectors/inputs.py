@@ -3,14 +3,17 @@
 
     crates/bench_vectors/inputs.py make                      data/inputs, data/long, and stdout with their counts
     crates/bench_vectors/inputs.py compare SEED COUNT BENCH  random inputs through BENCH too, byte for byte
+    crates/bench_vectors/inputs.py speed REPEATS BENCH       lines a second of both on large inputs, medians
 
 An input is made by hand, by `vectors bench SEED COUNT`, or at random from a seed: settings of every kind, calls, damage and rubbish. In
 a file of data it stands behind a line with its length and the length of its output, and in front of its output.
 """
 import os
 import random
+import statistics
 import subprocess
 import sys
+import tempfile
 
 HERE = os.path.dirname(os.path.abspath(__file__))
 TOOLS = os.path.join(HERE, "..", "..", "oracle", "target", "release")
@@ -198,10 +201,42 @@ def compare(seed, count, bench):
     print(f"seeds {seed} to {seed + count - 1}: {count} inputs, {lines} lines, {differ} differ; rows met: {dict(sorted(rows.items()))}")
 
 
+def large(d, k, method, count):
+    """`p` and `l` in turn, of the same reading."""
+    r = random.Random(1)
+    parts = [set_line(method=b"%d" % method, d=b"%d" % d, k=b"%d" % k, start=b"10", stop=b"1000000", decay=b"3f847ae147ae147b"), b"wgt" + singles(d) + b"\n"]
+    for i in range(count):
+        reading = b"\t%d" % i + b"".join(b"\t%08x" % r.randrange(0x3F000000, 0x43000000) for _ in range(d)) + b"\n"
+        parts += [b"p" + reading, b"l" + reading]
+    return b"".join(parts)
+
+
+def seconds(bench, path):
+    """Processor time of one run."""
+    with open(path, "rb") as given:
+        child = subprocess.Popen([bench], stdin=given, stdout=subprocess.DEVNULL)
+        used = os.wait4(child.pid, 0)[2]
+    return used.ru_utime + used.ru_stime
+
+
+def speed(repeats, bench):
+    benches = {"bench": bench, "oracle_bench": os.path.join(TOOLS, "oracle_bench")}
+    for name, text in [("vectors bench 7 300000", vectors(7, 300000)), ("p and l, d 1, k 8, method 0", large(1, 8, 0, 500000)), ("p and l, d 4, k 8, method 5", large(4, 8, 5, 500000))]:
+        with tempfile.NamedTemporaryFile() as f:
+            f.write(text)
+            f.flush()
+            runs = [{b: seconds(exe, f.name) for b, exe in benches.items()} for _ in range(repeats)]
+        for b in benches:
+            median = statistics.median(run[b] for run in runs)
+            print(f"{name}: {b}: {text.count(10)} lines in {median:.3f} s of processor time, {text.count(10) / median / 1e6:.2f} million a second")
+
+
 if __name__ == "__main__":
     if sys.argv[1:] == ["make"]:
         make()
     elif len(sys.argv) == 5 and sys.argv[1] == "compare":
         compare(int(sys.argv[2]), int(sys.argv[3]), sys.argv[4])
+    elif len(sys.argv) == 4 and sys.argv[1] == "speed":
+        speed(int(sys.argv[2]), sys.argv[3])
     else:
         sys.exit(__doc__)
