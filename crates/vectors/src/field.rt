@@ -185,24 +185,34 @@ fn signed_of(negative: bool, n: u64) -> i32 {
     !(((n - 1) % 0x8000_0000) as i32)
 }
 
-pub(crate) fn read_signed(line: &[u8], c: Cursor) -> Signed {
-    let s = span_of(line, c);
-    let from = s.from;
-    let to = s.to;
+// The place behind a `-` at `from`, or `from`.
+fn behind_minus(line: &[u8], from: usize, to: usize) -> usize
+    requires { ⌜ from ≤ to ⌝ }
+    requires { ⌜ to ≤ length (now line) ⌝ }
+    ensures { λ r. ⌜ r ≤ to ⌝ }
+{
     if from < to {
         if line[from] == b'-' {
-            let d = decimal(&line[from + 1..to]);
-            let cursor = also(s.cursor, d.good && d.value <= 0x8000_0000);
-            return Signed {
-                value: signed_of(true, d.value),
-                cursor: cursor,
-            };
+            return from + 1;
         }
     }
-    let d = decimal(&line[from..to]);
-    let cursor = also(s.cursor, d.good && d.value < 0x8000_0000);
+    from
+}
+
+pub(crate) fn read_signed(line: &[u8], c: Cursor) -> Signed {
+    let s = span_of(line, c);
+    let to = s.to;
+    let first = behind_minus(line, s.from, to);
+    let negative = first != s.from;
+    let d = decimal(&line[first..to]);
+    let most = if negative {
+        0x8000_0000u64
+    } else {
+        0x7fff_ffffu64
+    };
+    let cursor = also(s.cursor, d.good && d.value <= most);
     Signed {
-        value: signed_of(false, d.value),
+        value: signed_of(negative, d.value),
         cursor: cursor,
     }
 }

@@ -18,6 +18,46 @@ use crate::settings::Step;
 use trcf::preprocessor::PostProcessed;
 use trcf::preprocessor::Preprocessor;
 use trcf::preprocessor::post_process;
+ghost use Prim.Native.Nat.{_≤_};
+ghost use lib.ListN.{length};
+
+// The arguments beside the lists, the lists' lengths, and the cursor behind all of them.
+struct Given {
+    time: u64,
+    has_y: bool,
+    expects: bool,
+    grade: f32,
+    index: i32,
+    input_len: usize,
+    y_len: usize,
+    expected_len: usize,
+    cursor: Cursor,
+}
+
+fn read_given(line: &[u8], input: &mut [f32], y: &mut [f32], expected: &mut [f32]) -> Given
+    ensures { λ r. ⌜ r .«input_len» ≤ length (now (input .exit)) ⌝ }
+    ensures { λ r. ⌜ r .«y_len» ≤ length (now (y .exit)) ⌝ }
+    ensures { λ r. ⌜ r .«expected_len» ≤ length (now (expected .exit)) ⌝ }
+{
+    let time = read_whole(line, begin(line));
+    let x = read_singles(line, time.cursor, input);
+    let p = read_optional(line, x.cursor, y);
+    let grade = read_single(line, p.cursor);
+    let index = read_signed(line, grade.cursor);
+    let e = read_optional(line, index.cursor, expected);
+    let cursor = e.cursor;
+    Given {
+        time: time.value,
+        has_y: p.given,
+        expects: e.given,
+        grade: grade.value,
+        index: index.value,
+        input_len: x.len,
+        y_len: p.len,
+        expected_len: e.len,
+        cursor: cursor,
+    }
+}
 
 fn expect_deviations(line: &[u8], c: Cursor, given: bool, deviations: &[f32]) -> Cursor {
     let c1 = expect_flag(line, c, given);
@@ -77,6 +117,7 @@ fn answered(
 fn learned(
     line: &[u8],
     c: Cursor,
+    given: Given,
     head: Preprocessor,
     statistics: &mut [f64],
     inputs: &mut [f32],
@@ -85,13 +126,8 @@ fn learned(
     initial_values: &mut [f32],
     initial_timestamps: &mut [u64],
     input: &[f32],
-    time: u64,
     y: &[f32],
-    has_y: bool,
     expected: &[f32],
-    expects: bool,
-    grade: f32,
-    index: i32,
     deviations_out: &mut [f32],
     past_out: &mut [f32],
     expected_out: &mut [f32],
@@ -105,13 +141,13 @@ fn learned(
         initial_values,
         initial_timestamps,
         input,
-        time,
+        given.time,
         y,
-        has_y,
+        given.has_y,
         expected,
-        expects,
-        grade,
-        index,
+        given.expects,
+        given.grade,
+        given.index,
         deviations_out,
         past_out,
         expected_out,
@@ -126,7 +162,7 @@ fn learned(
 // The three outputs.
 fn outs(
     line: &[u8],
-    c: Cursor,
+    given: Given,
     head: Preprocessor,
     statistics: &mut [f64],
     inputs: &mut [f32],
@@ -135,18 +171,13 @@ fn outs(
     initial_values: &mut [f32],
     initial_timestamps: &mut [u64],
     input: &[f32],
-    time: u64,
     y: &[f32],
-    has_y: bool,
     expected: &[f32],
-    expects: bool,
-    grade: f32,
-    index: i32,
 ) -> Step {
     let mut deviations_out = [OLD_F32; 40];
     let mut past_out = [OLD_F32; 40];
     let mut expected_out = [OLD_F32; 40];
-    let o1 = length_within(line, c, 40);
+    let o1 = length_within(line, given.cursor, 40);
     let o2 = length_within(line, o1.cursor, 40);
     let o3 = length_within(line, o2.cursor, 40);
     let n1 = o1.len;
@@ -155,6 +186,7 @@ fn outs(
     learned(
         line,
         o3.cursor,
+        given,
         head,
         statistics,
         inputs,
@@ -163,13 +195,8 @@ fn outs(
         initial_values,
         initial_timestamps,
         input,
-        time,
         y,
-        has_y,
         expected,
-        expects,
-        grade,
-        index,
         &mut deviations_out[..n1],
         &mut past_out[..n2],
         &mut expected_out[..n3],
@@ -189,18 +216,13 @@ pub(crate) fn learn_line(
     let mut input = [0.0f32; 40];
     let mut y = [0.0f32; 1200];
     let mut expected = [0.0f32; 1200];
-    let time = read_whole(line, begin(line));
-    let x = read_singles(line, time.cursor, &mut input);
-    let p = read_optional(line, x.cursor, &mut y);
-    let grade = read_single(line, p.cursor);
-    let index = read_signed(line, grade.cursor);
-    let e = read_optional(line, index.cursor, &mut expected);
-    let n1 = x.len;
-    let n2 = p.len;
-    let n3 = e.len;
+    let given = read_given(line, &mut input, &mut y, &mut expected);
+    let n1 = given.input_len;
+    let n2 = given.y_len;
+    let n3 = given.expected_len;
     outs(
         line,
-        e.cursor,
+        given,
         head,
         statistics,
         inputs,
@@ -209,12 +231,7 @@ pub(crate) fn learn_line(
         initial_values,
         initial_timestamps,
         &input[..n1],
-        time.value,
         &y[..n2],
-        p.given,
         &expected[..n3],
-        e.given,
-        grade.value,
-        index.value,
     )
 }

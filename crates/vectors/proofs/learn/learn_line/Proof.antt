@@ -5,35 +5,17 @@ use borrow.Author.Needs.{needs}
 use Rattle.vectors.proofs.learn.learn_line.Statement.{statement}
 use Rattle.vectors.proofs.learn.learn_line.Tie as tie
 
-begin-requires : tie.Need-begin-requires
-begin-requires c κs = search needs
+slice-aggregate-read-given : tie.Need-slice-aggregate-read-given
+slice-aggregate-read-given c = search needs
 
-read-whole-requires : tie.Need-read-whole-requires
-read-whole-requires c κs = search needs
+slice-aggregate-read-given-2 : tie.Need-slice-aggregate-read-given-2
+slice-aggregate-read-given-2 c = search needs
 
-slice-aggregate-read-singles : tie.Need-slice-aggregate-read-singles
-slice-aggregate-read-singles c = search needs
+slice-aggregate-read-given-3 : tie.Need-slice-aggregate-read-given-3
+slice-aggregate-read-given-3 c = search needs
 
-read-singles-requires : tie.Need-read-singles-requires
-read-singles-requires c κs = search needs
-
-slice-aggregate-read-optional : tie.Need-slice-aggregate-read-optional
-slice-aggregate-read-optional c = search needs
-
-read-optional-requires : tie.Need-read-optional-requires
-read-optional-requires c κs = search needs
-
-read-single-requires : tie.Need-read-single-requires
-read-single-requires c κs = search needs
-
-read-signed-requires : tie.Need-read-signed-requires
-read-signed-requires c κs = search needs
-
-slice-aggregate-read-optional-2 : tie.Need-slice-aggregate-read-optional-2
-slice-aggregate-read-optional-2 c = search needs
-
-read-optional-requires-2 : tie.Need-read-optional-requires-2
-read-optional-requires-2 c κs = search needs
+read-given-requires : tie.Need-read-given-requires
+read-given-requires c κs = search needs
 
 array-share-prefix-input : tie.Need-array-share-prefix-input
 array-share-prefix-input c = search needs
@@ -81,16 +63,10 @@ pub learn-line-spec : {M : Type 1} → statement M
 learn-line-spec =
     tie.close
     (tie.spec
-    begin-requires
-    read-whole-requires
-    slice-aggregate-read-singles
-    read-singles-requires
-    slice-aggregate-read-optional
-    read-optional-requires
-    read-single-requires
-    read-signed-requires
-    slice-aggregate-read-optional-2
-    read-optional-requires-2
+    slice-aggregate-read-given
+    slice-aggregate-read-given-2
+    slice-aggregate-read-given-3
+    read-given-requires
     array-share-prefix-input
     slice-aggregate-outs
     array-share-prefix-y
