@@ -67,14 +67,19 @@ fn read_settings(line: &[u8]) -> Settings {
     }
 }
 
-fn forget(statistics: &mut [f64], inputs: &mut [f32], point: &mut [f32], times: &mut [u64]) {
+pub(crate) fn forget(
+    statistics: &mut [f64],
+    inputs: &mut [f32],
+    point: &mut [f32],
+    times: &mut [u64],
+) {
     forget_f64(statistics);
     forget_f32(inputs);
     forget_f32(point);
     forget_u64(times);
 }
 
-fn untouched(statistics: &[f64], inputs: &[f32], point: &[f32], times: &[u64]) -> bool {
+pub(crate) fn untouched(statistics: &[f64], inputs: &[f32], point: &[f32], times: &[u64]) -> bool {
     untouched_f64(statistics)
         && untouched_f32(inputs)
         && untouched_f32(point)
