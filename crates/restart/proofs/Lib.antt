@@ -9,3 +9,4 @@ pub mod Restart
 pub mod Samples
 pub mod RowSamples
 pub mod Traces
+pub mod Held

@@ -1,3 +1,4 @@
 pub mod History
 pub mod Chronicle
 pub mod Statement
+pub mod Held

@@ -25,7 +25,7 @@ use Rattle.snapshot.proofs.ReadKinds.{fit-of, fits-of, whole-of, climbs
 use Rattle.snapshot.proofs.LineBytes.{buf-bytes}
 use Rattle.snapshot.proofs.JudgeLines.{Reads, Codec, float-codec, whole-codec, line-is, line-back, byte-is, byte-back, name-is, name-back, onto-some, one-is, one-back, tabbed-stop, fields-are, fields-back}
 
-checked-some : {A : Type 0} (q : A → Bool) (o : Option (A × List ℕ)) (r : A × List ℕ) → checked q o ≡ some r → (o ≡ some r) × (q (r .0) ≡ true)
+pub checked-some : {A : Type 0} (q : A → Bool) (o : Option (A × List ℕ)) (r : A × List ℕ) → checked q o ≡ some r → (o ≡ some r) × (q (r .0) ≡ true)
 checked-some q none r e = absurd (Option·none-ne-some r e)
 checked-some {A} q (some s) r e = go (q (s .0)) refl
   where

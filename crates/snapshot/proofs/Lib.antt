@@ -26,3 +26,10 @@ pub mod SettingsLaws
 pub mod JudgeSettings
 pub mod JudgeSteps
 pub mod PairLines
+pub mod RunLaws
+pub mod PartLaws
+pub mod HeadLaws
+pub mod BodyLaws
+pub mod ReadRuns
+pub mod RestoreLaws
+pub mod RoundTrip

@@ -7,3 +7,5 @@ pub mod LineLength
 pub mod Write
 pub mod Save
 pub mod Judge
+pub mod Restore
+pub mod Runs

@@ -1,9 +1,12 @@
 // The snapshot (document 01: trace text): its fields, and what writes it. Its definitions are in specs/, and what holds of them in proofs/.
+pub mod cells;
 pub mod field;
 mod judge;
+mod kinds;
 pub mod line;
+mod lines;
 mod reader;
-mod restore;
+pub mod restore;
 pub mod save;
 mod settings;
 mod values;

@@ -50,7 +50,7 @@ fn method_number(m: TransformMethod) -> u64
 }
 
 // The numbers of a time in a transformed reading: one in TIME_AUGMENTED.
-fn time_width(m: ForestMode) -> usize
+pub(crate) fn time_width(m: ForestMode) -> usize
     ensures { λ r. ⌜ r ≡ cond (augments m) 1 0 ⌝ }
 {
     match m {
@@ -61,7 +61,7 @@ fn time_width(m: ForestMode) -> usize
 }
 
 // Whether a number is past the limits, or a lent list is shorter than what is in use of it.
-fn is_past(
+pub(crate) fn is_past(
     d: usize,
     k: usize,
     wide: usize,

@@ -1,0 +1,243 @@
+-- What the program holds is the state that the definitions speak of, after every call and every restart.
+use Prim.Native.Nat.{ℕ, zero, suc, _+_, _*_, _≤_, _<_}
+use native.Mathlib.Omega.{arith}
+use mathlib.Core.Path.{_≡_, refl, sym, ap, _∙_, subst}
+use mathlib.Core.Bool.{Bool, true, false, not, _&&_, _||_, cond}
+use mathlib.Core.List.{List, [], _∷_, _++_}
+use lib.ListN.{length, take, drop}
+use lib.Seq.{take-append-seam}
+use Rattle.common.specs.Lent.{over}
+use lib.Dec.{ltb, eqb}
+use lib.Ieee.{Float}
+use borrow.Author.Tests.{le-ltb, eq-eqb}
+use Rattle.common.specs.Refusal.{firstOf}
+use Rattle.trcf.specs.Fit.{All}
+use Rattle.trcf.proofs.FitLaws.{all-append}
+use Rattle.trcf.specs.Types.{augments}
+use Rattle.trcf.specs.Settings.{Settings, Valid, waiting, dimension}
+use Rattle.trcf.specs.Calls.{Call, Machine}
+use Rattle.trcf.specs.Preprocessor.{State, statisticsLength, fresh, refusal, change, next, run, Answer, answer, answers, accepted}
+use Rattle.trcf.specs.View.{Lent, lent, settingsOf, view, laid, counted, headFrom, headTable, headRow, lentShort, misfit, shortRow, lentRow, rowOf, answerOf, headAfter, lentAfter, buildRow, buildOf, Outcome, outcome}
+use Rattle.trcf.specs.declared.preprocessor.Preprocessor.{Preprocessor}
+use Rattle.trcf.proofs.ViewLaws.{row-is, answer-is, Shaped, view-laid}
+use Rattle.snapshot.specs.Text.{render}
+use Rattle.snapshot.specs.Form.{Form}
+use Rattle.snapshot.proofs.Accepted.{rows-of, none-refuses}
+use Rattle.snapshot.specs.Save.{unheld, fitted, saveOf}
+use Rattle.snapshot.specs.Save as save
+use Rattle.snapshot.specs.Restore as restore
+use Rattle.snapshot.specs.Runs.{Few, HeadFew}
+use Rattle.snapshot.proofs.BodyLaws.{room-of, dimension-is}
+use Rattle.snapshot.proofs.RoundTrip.{settings-are, shaped-of, few-of, initial-few, past-not, laid-short, restored-as, restored-view}
+use Rattle.restart.specs.History.{historyState, entries, historyText, historyAnswers}
+use Rattle.restart.specs.Held.{Held, held, builtOn, heldNext, heldRun, heldAnswers, savedTo, textIn, restoredOn, HeldRestart, HeldDemand3}
+use Rattle.restart.proofs.Step.{run-history}
+use Rattle.restart.proofs.Restart.{run-append, text-history, restorable, restart}
+use Rattle.restart.proofs.Reachable.{k>0-of, run-form}
+
+-- ---- what holds a state of the form
+
+pub record Holds (s : Settings) (m : Held) (w : State) : Type 0 where
+  pub viewed : view (m .head) (m .lent) ≡ w
+  pub settled : settingsOf (m .head) ≡ s
+  pub room : lentShort s (m .lent) ≡ false
+  pub counts : m .head .«initial_len» ≡ length (w .initialTimestamps)
+
+module _ (s : Settings) (ok : Valid s) where
+  sane : (m : Held) (w : State) → Holds s m w → headRow (settingsOf (m .head)) ≡ 0
+  unfolding headRow
+  sane m w k =
+      let c = rows-of s (ok .accepted) in
+      ap (λ (x : Settings). headRow x) (k .settled) ∙ none-refuses (headTable s) (c .1 .0, (c .1 .1 .0, (c .1 .1 .1 .0, (c .1 .1 .1 .1 .1 .1 .1 .0, tt))))
+
+  module _ (m : Held) (w : State) (k : Holds s m w) (f : Form w) (e : w .settings ≡ s) where
+    seen-is : m .head .«values_seen» ≡ w .valuesSeen
+    unfolding view
+    seen-is = ap (λ (x : State). x .valuesSeen) (k .viewed)
+
+    no-misfit : misfit (m .head) ≡ false
+    unfolding misfit
+    no-misfit = go (waiting (settingsOf (m .head)) (m .head .«values_seen»)) refl
+      where
+        few : m .head .«initial_len» ≤ m .head .«start_normalization»
+        few =
+            let a = initial-few w f in
+            let b : w .settings .start ≡ m .head .«start_normalization» = ap (λ (x : Settings). x .start) (e ∙ sym (k .settled)) in
+            omega (arith, a, b, k .counts)
+
+        go : (b : Bool) → waiting (settingsOf (m .head)) (m .head .«values_seen») ≡ b
+            → ltb (m .head .«start_normalization») (m .head .«initial_len») || (waiting (settingsOf (m .head)) (m .head .«values_seen») && not (eqb (m .head .«initial_len») (m .head .«values_seen»))) ≡ false
+        go false h = rw (le-ltb (m .head .«start_normalization») (m .head .«initial_len») few, h)
+        go true h =
+            let i : waiting (w .settings) (w .valuesSeen) ≡ true = (λ j. waiting ((e ∙ sym (k .settled)) j) (sym seen-is j)) ∙ h in
+            rw (le-ltb (m .head .«start_normalization») (m .head .«initial_len») few, h, eq-eqb (m .head .«initial_len») (m .head .«values_seen») (k .counts ∙ f .whileWaiting i .0 ∙ sym seen-is))
+
+    long : lentRow (m .head) (m .lent) ≡ 0
+    unfolding lentRow shortRow
+    long = rw no-misfit (ap (λ (b : Bool). firstOf ((b, 20) ∷ [])) (ap (λ (x : Settings). lentShort x (m .lent)) (k .settled) ∙ k .room))
+
+    held-answer : (c : Call) → answerOf (m .head) (m .lent) c ≡ answer w c
+    held-answer c = answer-is (m .head) (m .lent) c (sane m w k) long ∙ ap (λ (x : State). answer x c) (k .viewed)
+
+    -- the state that an accepted call leaves is laid back
+    laid-back : (v : State) → Form v → v .settings ≡ s → Holds s (held (counted (m .head) v) (laid v (m .lent))) v
+    laid-back v g d =
+        let q : v .settings ≡ settingsOf (m .head) = d ∙ sym (k .settled) in
+        let S : Shaped (m .head) v = record {
+          settled = q;
+          statistics-length = g .statisticsLong ∙ ap statisticsLength q;
+          input-length = g .inputLong ∙ ap (λ (x : Settings). x .d * x .k) q;
+          point-length = g .pointLong ∙ ap dimension q;
+          times-length = g .timesLong ∙ ap (λ (x : Settings). x .k) q;
+          values-length = g .initialLong ∙ ap (λ (x : Settings). length (v .initialTimestamps) * x .d) q;
+        } in
+        record {
+          viewed = view-laid (m .head) (m .lent) v S;
+          settled = k .settled;
+          room = subst (λ (x : Settings). lentShort x (laid v (m .lent)) ≡ false) d (laid-short v g (m .lent) (subst (λ (x : Settings). lentShort x (m .lent) ≡ false) (sym d) (k .room)));
+          counts = refl;
+        }
+
+    held-row : (c : Call) → rowOf (m .head) (m .lent) c ≡ refusal w c
+    held-row c = row-is (m .head) (m .lent) c (sane m w k) long ∙ ap (λ (x : State). refusal x c) (k .viewed)
+
+    held-next : (c : Call) → Form (next w c) → next w c .settings ≡ s → Holds s (heldNext m c) (next w c)
+    unfolding next headAfter lentAfter
+    held-next c g d = go (refusal w c) refl
+      where
+        go : (r : ℕ) → refusal w c ≡ r → Holds s (heldNext m c) (next w c)
+        go zero q =
+            let p : rowOf (m .head) (m .lent) c ≡ 0 = held-row c ∙ q in
+            let n : next w c ≡ change (view (m .head) (m .lent)) c = rw q (ap (λ (x : State). change x c) (sym (k .viewed))) in
+            subst (λ (x : Held). Holds s x (next w c)) (ap (λ (v : State). held (counted (m .head) v) (laid v (m .lent))) n ∙ sym (rw p)) (laid-back (next w c) g d)
+        go (suc r) q =
+            let p : rowOf (m .head) (m .lent) c ≡ suc r = held-row c ∙ q in
+            let n : w ≡ next w c = rw q in
+            subst (λ (x : Held). Holds s x (next w c)) (sym (rw p)) (subst (λ (v : State). Holds s m v) n k)
+
+    unheld-not : unheld (m .head) (m .lent) ≡ false
+    unfolding unheld
+    unheld-not =
+        let h = m .head in
+        let n : h .«initial_len» ≤ h .«start_normalization» = (let a = initial-few w f in let b : w .settings .start ≡ h .«start_normalization» = ap (λ (x : Settings). x .start) (e ∙ sym (k .settled)) in omega (arith, a, b, k .counts)) in
+        let F : HeadFew h = subst (λ (x : Settings). Few (x .d) (x .k) (x .start)) (sym (k .settled)) (few-of s ok) in
+        let r = room-of h (m .lent) (h .«initial_len») F (subst (λ (x : Settings). lentShort x (m .lent) ≡ false) (sym (k .settled)) (k .room)) n in
+        let wide : ℕ = cond (augments (h .«forest_mode»)) 1 0 in
+        past-not (h .transformer .«input_length») (h .«shingle_size») wide (h .«initial_len») _ _ _ _ _ _
+        (record {
+          d-few = r .d-few;
+          k-few = r .k-few;
+          n-few = omega (arith, n, F .start-few);
+          in-statistics = r .in-statistics;
+          in-input = r .in-input;
+          in-point = subst (λ (x : ℕ). x ≤ length (m .lent .lastShingledPoint)) (sym (dimension-is (settingsOf h) wide refl)) (r .in-point);
+          in-times = r .in-times;
+          in-values = r .in-values;
+          in-initial = r .in-initial;
+        })
+
+    saved-by : (out : List ℕ) → savedTo m out ≡ fitted (render w) out
+    unfolding saveOf
+    saved-by out = rw unheld-not (ap (λ (x : State). fitted (render x) out) (k .viewed))
+
+  -- ---- any list of calls
+
+  settings-kept : (cs : List Call) → run (fresh s) cs .settings ≡ s
+  unfolding historyState
+  settings-kept cs = ap (λ (w : State). w .settings) (run-history s (k>0-of s ok) cs)
+
+  pub record Runs (m : Held) (w : State) (cs : List Call) : Type 0 where
+    pub holds : Holds s (heldRun m cs) (run w cs)
+    pub says : heldAnswers m cs ≡ answers w cs
+
+  runs-held : (m : Held) (done cs : List Call) → All Machine done → All Machine cs → Holds s m (run (fresh s) done) → Runs m (run (fresh s) done) cs
+  runs-held m done [] md mc k = record { holds = k; says = refl }
+  runs-held m done (c ∷ cs) md mc k =
+      let w = run (fresh s) done in
+      let n : run (fresh s) (done ++ (c ∷ [])) ≡ next w c = run-append (fresh s) done (c ∷ []) in
+      let ma : All Machine (done ++ (c ∷ [])) = all-append _ done (c ∷ []) md (mc .0, tt) in
+      let g : Form (next w c) = subst Form n (run-form s ok (done ++ (c ∷ [])) ma) in
+      let d : next w c .settings ≡ s = ap (λ (x : State). x .settings) (sym n) ∙ settings-kept (done ++ (c ∷ [])) in
+      let j : Holds s (heldNext m c) (next w c) = held-next m w k (run-form s ok done md) (settings-kept done) c g d in
+      let r : Runs (heldNext m c) (run (fresh s) (done ++ (c ∷ []))) cs = runs-held (heldNext m c) (done ++ (c ∷ [])) cs ma (mc .1) (subst (λ (x : State). Holds s (heldNext m c) x) (sym n) j) in
+      record {
+        holds = subst (λ (x : State). Holds s (heldRun (heldNext m c) cs) (run x cs)) n (r .holds);
+        says = λ i. held-answer m w k (run-form s ok done md) (settings-kept done) c i ∷ (r .says ∙ ap (λ (x : State). answers x cs) n) i;
+      }
+
+  -- ---- built, and taken up
+
+  module _ (l : Lent) (room : lentShort s l ≡ false) where
+    new-row : lentRow (headFrom s) l ≡ 0
+    unfolding lentRow shortRow misfit
+    new-row = rw (le-ltb (s .start) 0 (omega arith), off (waiting (settingsOf (headFrom s)) 0)) (ap (λ (b : Bool). firstOf ((b, 20) ∷ [])) (ap (λ (x : Settings). lentShort x l) (settings-are s ok) ∙ room))
+      where
+        off : (b : Bool) → b && false ≡ false
+        off true = refl
+        off false = refl
+
+    built-as : buildOf s l ≡ outcome 0 (headFrom s) (laid (fresh s) l)
+    unfolding buildOf buildRow
+    built-as = rw (ok .accepted, new-row)
+
+    pub built-holds : Holds s (builtOn s l) (fresh s)
+    unfolding fresh
+    built-holds =
+        let f : Form (fresh s) = run-form s ok [] tt in
+        subst (λ (x : Outcome). Holds s (held (x .head) (x .lent)) (fresh s)) (sym built-as)
+        (record { viewed = restored-view [] l (fresh s) f; settled = settings-are s ok; room = laid-short (fresh s) f l room; counts = refl })
+
+    pub restored-holds : (w : State) → Form w → w .settings ≡ s → (t : List ℕ) → render w ≡ t → Holds s (restoredOn t l) w
+    restored-holds w f e t h =
+        let room' : lentShort (w .settings) l ≡ false = subst (λ (x : Settings). lentShort x l ≡ false) (sym e) room in
+        let o = restored-as t l w f h room' in
+        subst (λ (x : restore.Outcome). Holds s (held (x .head) (x .lent)) w) (sym o)
+        (record {
+          viewed = restored-view t l w f;
+          settled = settings-are (w .settings) (f .valid) ∙ e;
+          room = subst (λ (x : Settings). lentShort x (laid w l) ≡ false) e (laid-short w f l room');
+          counts = refl;
+        })
+
+-- ---- the statement
+
+held-append : (m : Held) (a b : List Call) → heldRun m (a ++ b) ≡ heldRun (heldRun m a) b
+held-append m [] b = refl
+held-append m (c ∷ a) b = held-append (heldNext m c) a b
+
+fits-in : (t out : List ℕ) → length t ≤ length out → fitted t out ≡ save.outcome 0 (length t) (over out t)
+unfolding fitted
+fits-in t out h = rw (le-ltb (length out) (length t) h)
+
+text-over : (t out : List ℕ) → take (length t) (over out t) ≡ t
+unfolding over
+text-over t out = take-append-seam t (drop (length t) out)
+
+pub held-demand-3 : HeldDemand3
+held-demand-3 s ok before after mb ma first second r₁ r₂ out last long =
+    let w : State = run (fresh s) before in
+    let f : Form w = run-form s ok before mb in
+    let e : w .settings ≡ s = settings-kept s ok before in
+    let M : Held = heldRun (builtOn s first) before in
+    let k : Holds s M w = runs-held s ok (builtOn s first) [] before tt mb (built-holds s ok first r₁) .holds in
+    let v : savedTo M out ≡ fitted (render w) out = saved-by s ok M w k f e out in
+    let x : render w ≡ historyText s before = text-history s ok before mb in
+    let o : fitted (render w) out ≡ save.outcome 0 (length (render w)) (over out (render w)) = fits-in (render w) out (subst (λ (t : List ℕ). length t ≤ length out) (sym x) long) in
+    let t : textIn M out ≡ render w = ap (λ (y : save.Outcome). take (y .length) (y .bytes)) (v ∙ o) ∙ text-over (render w) out in
+    let N : Held = restoredOn (textIn M out) second in
+    let j : Holds s N w = restored-holds s ok second r₂ w f e (textIn M out) (sym t) in
+    let p : Runs s ok M w after = runs-held s ok M before after mb ma k in
+    let q : Runs s ok N w after = runs-held s ok N before after mb ma j in
+    let all : All Machine (before ++ after) = all-append _ before after mb ma in
+    let g : Form (run w after) = subst Form (run-append (fresh s) before after) (run-form s ok (before ++ after) all) in
+    let d : run w after .settings ≡ s = ap (λ (y : State). y .settings) (sym (run-append (fresh s) before after)) ∙ settings-kept s ok (before ++ after) in
+    record {
+      builds = ap (λ (y : Outcome). y .row) (built-as s ok first r₁);
+      saves = ap (λ (y : save.Outcome). y .row) (v ∙ o);
+      text = t ∙ x;
+      restores = ap (λ (y : restore.Outcome). y .row) (restored-as (textIn M out) second w f (sym t) (subst (λ (y : Settings). lentShort y second ≡ false) (sym e) r₂));
+      sameAnswers = q .says ∙ sym (p .says);
+      ruledAnswers = q .says ∙ restart s ok before after mb .every w (restorable s ok before mb) .ruledAnswers;
+      sameText = saved-by s ok (heldRun N after) (run w after) (q .holds) g d last
+          ∙ sym (ap (λ (y : Held). savedTo y last) (held-append (builtOn s first) before after) ∙ saved-by s ok (heldRun M after) (run w after) (p .holds) g d last);
+    }

@@ -1,0 +1,220 @@
+-- What the promises of `save` and `restore` say together: demand 2's "exactly when", and both ways round.
+use Prim.Native.Nat.{ℕ, zero, suc, _+_, _*_, _≤_, _<_}
+use native.Mathlib.Omega.{arith}
+use mathlib.Core.Path.{_≡_, refl, sym, ap, _∙_, subst}
+use mathlib.Core.Bool.{Bool, true, false, not, _&&_, _||_, cond, false≢true}
+use mathlib.Core.List.{List, [], _∷_, _++_}
+use mathlib.Core.Logic.{_⊎_, inl, inr}
+use lib.ListN.{length, take}
+use lib.Dec.{ltb, leb, eqb}
+use lib.Ieee.{Float}
+use borrow.Author.Tests.{eqb-true, ltb-true, ltb-false, le-ltb, leb-false}
+use Rattle.trcf.specs.Settings.{Settings, Valid, settingsTable, waiting, dimension}
+use Rattle.trcf.specs.Preprocessor.{State, statisticsLength}
+use Rattle.trcf.specs.Types.{augments, normalizes}
+use Rattle.trcf.specs.View.{Lent, settingsOf, view, headFrom, noHead, counted, laid, lentShort}
+use Rattle.trcf.specs.declared.preprocessor.Preprocessor.{Preprocessor}
+use Rattle.trcf.proofs.DrainLaws.{front-over}
+use Rattle.trcf.proofs.ShingleLaws.{length-over}
+use Rattle.trcf.proofs.ViewLaws.{Shaped, view-laid}
+use Rattle.common.specs.Lent.{over}
+use Rattle.snapshot.specs.Text.{render}
+use Rattle.snapshot.specs.Form.{Form}
+use Rattle.snapshot.specs.Read.{Read, taken, bad, withWeights, read, FirstBad}
+use Rattle.snapshot.specs.Save.{past, unheld, saveOf}
+use Rattle.snapshot.specs.Save as saving
+use Rattle.snapshot.specs.Restore.{Outcome, outcome, restored, restoreOf}
+use Rattle.snapshot.specs.Runs.{Few, Room}
+use Rattle.snapshot.proofs.Lists.{and-left, and-right}
+use Rattle.snapshot.proofs.Accepted.{rows-of}
+use Rattle.snapshot.proofs.ReadText.{read-sound, read-complete, read-exactly, read-first-bad}
+use Rattle.snapshot.proofs.SaveLaws.{Held}
+use Rattle.snapshot.proofs.BodyLaws.{dimension-is, room-of}
+use Rattle.snapshot.proofs.SaveRead.{saved, saved-read}
+
+-- ---- a state of the form, and a head for it
+
+not-true : (b : Bool) → not b ≡ false → b ≡ true
+not-true true e = refl
+not-true false e = absurd (false≢true (sym e))
+
+pub weights-are : (s : Settings) → Valid s → length (s .weights) ≡ s .d
+weights-are s v = eqb-true (length (s .weights)) (s .d) (not-true _ (rows-of s (v .accepted) .1 .1 .1 .1 .0))
+
+pub settings-are : (s : Settings) → Valid s → settingsOf (headFrom s) ≡ s
+settings-are s v = ap (λ (w : List Float). withWeights s w) (front-over _ (s .weights) (s .d) (weights-are s v))
+
+pub shaped-of : (w : State) → Form w → Shaped (headFrom (w .settings)) w
+shaped-of w f =
+    record {
+      settled = sym (settings-are (w .settings) (f .valid));
+      statistics-length = f .statisticsLong;
+      input-length = f .inputLong;
+      point-length = f .pointLong ∙ ap dimension (sym (settings-are (w .settings) (f .valid)));
+      times-length = f .timesLong;
+      values-length = f .initialLong;
+    }
+
+-- ---- taking up
+
+module _ (t : List ℕ) (l : Lent) where
+  -- "taken up with w exactly when the text is that of w", and the lent lists are long enough
+  pub restored-as : (w : State) → Form w → render w ≡ t → lentShort (w .settings) l ≡ false → restoreOf t l ≡ outcome 0 0 (counted (headFrom (w .settings)) w) (laid w l)
+  unfolding restoreOf restored
+  restored-as w f e h = rw (read-exactly t w f e, h)
+
+  pub restored-view : (w : State) → Form w → view (counted (headFrom (w .settings)) w) (laid w l) ≡ w
+  restored-view w f = view-laid (headFrom (w .settings)) l w (shaped-of w f)
+
+  pub record Taken (o : Outcome) : Type 0 where
+    pub state : State
+    pub form : Form state
+    pub text : render state ≡ t
+    pub room : lentShort (state .settings) l ≡ false
+    pub held : view (o .head) (o .lent) ≡ state
+
+  pub restored-only : restoreOf t l .row ≡ 0 → Taken (restoreOf t l)
+  unfolding restoreOf restored
+  restored-only h = go (read t) refl h
+    where
+      go : (r : Read) → read t ≡ r → restored r l .row ≡ 0 → Taken (restored (read t) l)
+      go (bad n) e k = absurd (omega (arith, k))
+      go (taken w) e k = fit (lentShort (w .settings) l) refl
+        where
+          fit : (b : Bool) → lentShort (w .settings) l ≡ b → Taken (restored (read t) l)
+          fit true i = absurd (let q : _≡_ {A = ℕ} 20 0 = (rw i at k) in omega (arith, q))
+          fit false i =
+              let f = read-sound t w e in
+              record {
+                state = w;
+                form = f .0;
+                text = f .1;
+                room = i;
+                held = rw (e, i) (restored-view w (f .0));
+              }
+
+  -- 19 tells the first line after which no text of the form could begin with what was read, and leaves all as it was
+  pub refused-line : restoreOf t l .row ≡ 19 → FirstBad (restoreOf t l .line) t × (restoreOf t l .lent ≡ l)
+  unfolding restoreOf restored
+  refused-line h = go (read t) refl h
+    where
+      go : (r : Read) → read t ≡ r → restored r l .row ≡ 19 → FirstBad (restored (read t) l .line) t × (restored (read t) l .lent ≡ l)
+      go (bad n) e k = rw e (read-first-bad t n e, refl)
+      go (taken w) e k = fit (lentShort (w .settings) l) refl
+        where
+          fit : (b : Bool) → lentShort (w .settings) l ≡ b → FirstBad (restored (read t) l .line) t × (restored (read t) l .lent ≡ l)
+          fit true i = absurd (let q : _≡_ {A = ℕ} 20 19 = (rw i at k) in omega (arith, q))
+          fit false i = absurd (let q : _≡_ {A = ℕ} 0 19 = (rw i at k) in omega (arith, q))
+
+-- ---- restoring what was saved gives the same state, whatever the second memory held
+
+module _ (h : Preprocessor) (l : Lent) (out : List ℕ) (held : unheld h l ≡ false) (room : length (render (view h l)) ≤ length out) (f : Form (view h l)) (l₂ : Lent)
+    (room₂ : lentShort (view h l .settings) l₂ ≡ false) where
+  abbrev pub Again : Outcome
+  Again = restoreOf (take (saveOf h l out .length) (saveOf h l out .bytes)) l₂
+
+  again-is : Again ≡ outcome 0 0 (counted (headFrom (view h l .settings)) (view h l)) (laid (view h l) l₂)
+  unfolding restoreOf restored
+  again-is = rw (saved-read h l out held room f, room₂)
+
+  pub saved-restored : (Again .row ≡ 0) × (view (Again .head) (Again .lent) ≡ view h l)
+  saved-restored = rw again-is (refl, restored-view (render (view h l)) l₂ (view h l) f)
+
+-- ---- saving what was restored gives the same bytes
+
+pub few-of : (s : Settings) → Valid s → Few (s .d) (s .k) (s .start)
+few-of s v =
+    let c = rows-of s (v .accepted) in
+    let w = neither (ltb 16 (s .d)) (ltb 64 (s .k)) (c .1 .1 .1 .0) in
+    record {
+      d-few = ltb-false 16 (s .d) (w .0);
+      k-few = ltb-false 64 (s .k) (w .1);
+      start-few = leb-false 2000 (s .start) (c .1 .1 .1 .1 .1 .1 .1 .0);
+    }
+  where
+    neither : (a b : Bool) → a || b ≡ false → (a ≡ false) × (b ≡ false)
+    neither true b e = absurd (false≢true (sym e))
+    neither false b e = (refl, e)
+
+-- never more than start
+pub initial-few : (w : State) → Form w → length (w .initialTimestamps) ≤ w .settings .start
+unfolding waiting
+initial-few w f = go (waiting (w .settings) (w .valuesSeen)) refl
+  where
+    some-few : (w .initialTimestamps ≡ []) ⊎ ((normalizes (w .settings .method) ≡ true) × (length (w .initialTimestamps) ≡ w .settings .start) × (w .valuesSeen ≡ w .settings .start → w .internalTimestamp ≡ 0))
+        → length (w .initialTimestamps) ≤ w .settings .start
+    some-few (inl e) = rw e (omega arith)
+    some-few (inr e) = omega (arith, e .1)
+
+    go : (b : Bool) → waiting (w .settings) (w .valuesSeen) ≡ b → length (w .initialTimestamps) ≤ w .settings .start
+    go true e =
+        let k = ltb-true (w .valuesSeen) (w .settings .start) (and-right (normalizes (w .settings .method)) _ e) in
+        omega (arith, f .whileWaiting e .0, k)
+    go false e = some-few (f .later e)
+
+pub past-not : (d k wide n a b c e f g : ℕ) → Held d k wide n a b c e f g → past d k wide n a b c e f g ≡ false
+past-not d k wide n a b c e f g h =
+    rw (le-ltb 16 d (h .d-few), le-ltb 64 k (h .k-few), le-ltb 1999 n (h .n-few), le-ltb a (3 * (5 * d + 5)) (h .in-statistics), le-ltb b (d * k) (h .in-input), le-ltb c ((d + wide) * k) (h .in-point), le-ltb e k (h .in-times), le-ltb f (n * d) (h .in-values), le-ltb g n (h .in-initial))
+
+module _ (w : State) (f : Form w) (l : Lent) (room : lentShort (w .settings) l ≡ false) where
+  laid-room : Room (headFrom (w .settings)) (length (w .initialTimestamps)) (length (l .statistics)) (length (l .lastShingledInput)) (length (l .lastShingledPoint)) (length (l .previousTimestamps))
+      (length (l .initialValues)) (length (l .initialTimestamps))
+  laid-room =
+      room-of (headFrom (w .settings)) l (length (w .initialTimestamps)) (few-of (w .settings) (f .valid))
+      (ap (λ (s : Settings). lentShort s l) (settings-are (w .settings) (f .valid)) ∙ room) (initial-few w f)
+
+  -- no list is shorter afterwards
+  pub laid-short : lentShort (w .settings) (laid w l) ≡ false
+  unfolding laid lentShort
+  laid-short =
+      let r = laid-room in
+      let s = w .settings in
+      let p = subst (λ (t : Settings). dimension t ≤ length (l .lastShingledPoint)) (settings-are s (f .valid)) (r .in-point) in
+      (λ i.
+      ltb (length-over (l .statistics) (w .statistics) (omega (arith, f .statisticsLong, r .in-statistics)) i) (statisticsLength s)
+      || (ltb (length-over (l .lastShingledInput) (w .lastShingledInput) (fits (f .inputLong) (r .in-input)) i) (s .d * s .k)
+      || (ltb (length-over (l .lastShingledPoint) (w .lastShingledPoint) (fits (f .pointLong) p) i) (dimension s)
+      || (ltb (length-over (l .previousTimestamps) (w .previousTimestamps) (fits (f .timesLong) (r .in-times)) i) (s .k)
+      || (ltb (length-over (l .initialValues) (w .initialValues) (fits (f .initialLong) (r .in-values)) i) (s .start * s .d)
+      || ltb (length-over (l .initialTimestamps) (w .initialTimestamps) (r .in-initial) i) (s .start))))))
+      ∙ room
+    where
+      fits : {a n m : ℕ} → a ≡ n → n ≤ m → a ≤ m
+      fits e h = omega (arith, e, h)
+
+  pub laid-held : unheld (counted (headFrom (w .settings)) w) (laid w l) ≡ false
+  unfolding unheld laid
+  laid-held =
+      let r = laid-room in
+      let s = w .settings in
+      let d = s .d in
+      let wide : ℕ = cond (augments (s .mode)) 1 0 in
+      let p = subst (λ (x : ℕ). x ≤ length (l .lastShingledPoint)) (sym (dimension-is (settingsOf (headFrom s)) wide refl)) (r .in-point) in
+      let q = subst (λ (x : ℕ). x ≤ length (l .initialValues)) (sym (f .initialLong)) (r .in-values) in
+      let y = f .pointLong ∙ ap dimension (sym (settings-are s (f .valid))) ∙ sym (dimension-is (settingsOf (headFrom s)) wide refl) in
+      past-not d (s .k) wide (length (w .initialTimestamps)) _ _ _ _ _ _
+      (record {
+        d-few = r .d-few;
+        k-few = r .k-few;
+        n-few = omega (arith, initial-few w f, few-of s (f .valid) .start-few);
+        in-statistics = stays (l .statistics) (w .statistics) (3 * (5 * d + 5)) (f .statisticsLong) (r .in-statistics);
+        in-input = stays (l .lastShingledInput) (w .lastShingledInput) (d * s .k) (f .inputLong) (r .in-input);
+        in-point = stays (l .lastShingledPoint) (w .lastShingledPoint) ((d + wide) * s .k) y p;
+        in-times = stays (l .previousTimestamps) (w .previousTimestamps) (s .k) (f .timesLong) (r .in-times);
+        in-values = stays (l .initialValues) (w .initialValues) (length (w .initialTimestamps) * d) (f .initialLong) (r .in-values);
+        in-initial = stays (l .initialTimestamps) (w .initialTimestamps) (length (w .initialTimestamps)) refl (r .in-initial);
+      })
+    where
+      stays : {A : Type 0} (l v : List A) (n : ℕ) → length v ≡ n → n ≤ length l → n ≤ length (over l v)
+      stays l v n e h = subst (λ (m : ℕ). n ≤ m) (sym (length-over l v (omega (arith, e, h)))) h
+
+module _ (t : List ℕ) (l : Lent) (h : restoreOf t l .row ≡ 0) (out : List ℕ) (long : length t ≤ length out) where
+  pub restored-saved : saveOf (restoreOf t l .head) (restoreOf t l .lent) out ≡ saving.outcome 0 (length t) (over out t)
+  restored-saved =
+      let k = restored-only t l h in
+      let w = k .state in
+      let o : restoreOf t l ≡ outcome 0 0 (counted (headFrom (w .settings)) w) (laid w l) = restored-as t l w (k .form) (k .text) (k .room) in
+      let u : unheld (restoreOf t l .head) (restoreOf t l .lent) ≡ false = ap (λ (x : Outcome). unheld (x .head) (x .lent)) o ∙ laid-held w (k .form) l (k .room) in
+      let e : render (view (restoreOf t l .head) (restoreOf t l .lent)) ≡ t = ap render (k .held) ∙ k .text in
+      saved (restoreOf t l .head) (restoreOf t l .lent) out u (subst (λ (x : List ℕ). length x ≤ length out) (sym e) long)
+      ∙ ap (λ (x : List ℕ). saving.outcome 0 (length x) (over out x)) e
