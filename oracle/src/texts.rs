@@ -289,3 +289,71 @@ pub fn scratched(r: &mut Random, good: &Snapshot) -> Vec<u8> {
     }
     text
 }
+
+/// The places (line, field) of the whole numbers of a text, or of its floats.
+fn places(all: &[Vec<u8>], whole: bool) -> Vec<(usize, usize)> {
+    let is_whole = |name: &[u8], field: usize| match name {
+        b"set" => (2..7).contains(&field),
+        b"cnt" | b"tim" => true,
+        b"buf" => field == 1,
+        _ => false,
+    };
+    let mut found = Vec::new();
+    for (at, line) in all.iter().enumerate() {
+        let fields = split(line);
+        let named = fields[0].as_slice();
+        found.extend(
+            (1..fields.len()).filter(|&f| fields[f].len() > 1 || is_whole(named, f)).filter(|&f| is_whole(named, f) == whole).map(|f| (at, f)),
+        );
+    }
+    found
+}
+
+/// A text that misses the form by little, in one of ten ways: the reader decides, since fewer `buf` lines may leave a text of the form.
+pub fn near(r: &mut Random, good: &Snapshot, way: u64) -> Vec<u8> {
+    let mut all = lines(good.text().as_bytes());
+    let at = r.below(all.len() as u64) as usize;
+    let (wholes, floats) = (places(&all, true), places(&all, false));
+    let letters = |line: &[u8], field: usize| split(line)[field].iter().any(u8::is_ascii_alphabetic);
+    let lettered: Vec<_> = floats.iter().copied().filter(|&(line, field)| letters(&all[line], field)).collect();
+    let mut change = |(line, field): (usize, usize), to: &dyn Fn(&[u8]) -> Vec<u8>| {
+        let mut fields = split(&all[line]);
+        fields[field] = to(&fields[field]);
+        all[line] = join(&fields);
+    };
+    match way {
+        0 => {
+            all.remove(at);
+        }
+        1 => all.truncate(all.len() - r.from(1, 4) as usize),
+        2 => {
+            let at = at.min(all.len() - 2);
+            all.swap(at, at + 1);
+        }
+        3 => {
+            all.last_mut().unwrap().pop();
+        }
+        4 => change(r.pick(&lettered), &|f| f.to_ascii_uppercase()),
+        5 => change(r.pick(&wholes), &|f| [b"0", f].concat()),
+        6 => {
+            let nan = r.pick(&[&b"ffc00000"[..], b"7fc00001", b"7f800001", b"ffffffff"]);
+            let wide = r.pick(&[&b"fff8000000000000"[..], b"7ff8000000000001", b"7ff0000000000001", b"ffffffffffffffff"]);
+            change(r.pick(&floats), &|f| if f.len() == 8 { nan.to_vec() } else { wide.to_vec() });
+        }
+        7 => {
+            let place = r.pick(&floats);
+            let blank = r.pick(&[&b" "[..], b"\t\t", b"\x0b", b""]);
+            change(place, &|f| [blank, f].concat());
+        }
+        8 => {
+            let more = all[at].clone();
+            all.push(r.pick(&[&more[..], &all.concat(), b"buf\t0\n", b"\t", b"\n\n"]).to_vec());
+        }
+        _ => {
+            let limit = r.pick(&[(1, SEEN_LIMIT), (2, SEEN_LIMIT), (3, COUNT_LIMIT)]);
+            let over = r.below(3);
+            change((2, limit.0), &|_| (limit.1 - 1 + over).to_string().into_bytes());
+        }
+    }
+    all.concat()
+}

@@ -680,7 +680,14 @@ fn preprocessor(r: &mut Random, lines: u64) -> String {
 
 // snapshot and bench
 
-/// Texts, each behind a line with its length in bytes and its bad line (0: of the form), and followed by an LF.
+/// A text behind a line with its length in bytes and its bad line (0: of the form), and followed by an LF.
+fn text_line(out: &mut String, text: &[u8]) {
+    let line = read(text).err().unwrap_or(0);
+    Line::new("t").whole(text.len() as u64).whole(line as u64).end(out);
+    *out += std::str::from_utf8(text).expect("the damage is plain");
+    *out += "\n";
+}
+
 fn snapshot(r: &mut Random, count: u64) -> String {
     let mut out = String::new();
     for n in 0..count {
@@ -691,10 +698,16 @@ fn snapshot(r: &mut Random, count: u64) -> String {
             1 => texts::scratched(r, &good),
             _ => texts::damaged(r, &good).0,
         };
-        let line = read(&text).err().unwrap_or(0);
-        Line::new("t").whole(text.len() as u64).whole(line as u64).end(&mut out);
-        out += std::str::from_utf8(&text).expect("the damage is plain");
-        out += "\n";
+        text_line(&mut out, &text);
+    }
+    out
+}
+
+fn near(r: &mut Random, count: u64) -> String {
+    let mut out = String::new();
+    for n in 0..count {
+        let good = texts::snapshot(r, Sizes { d: 2, k: 3, start: 4, exact: false });
+        text_line(&mut out, &texts::near(r, &good, n % 10));
     }
     out
 }
@@ -729,7 +742,7 @@ fn bench(r: &mut Random, count: u64) -> String {
     out
 }
 
-/// The file of a kind: `count` lines, and for `snapshot` as many texts.
+/// The file of a kind: `count` lines, and for `snapshot` and `near` as many texts.
 pub fn file(kind: &str, seed: u64, count: u64) -> Option<String> {
     let r = &mut Random::new(seed);
     Some(match kind {
@@ -739,6 +752,7 @@ pub fn file(kind: &str, seed: u64, count: u64) -> Option<String> {
         "transformer" => transformer(r, count),
         "preprocessor" => preprocessor(r, count),
         "snapshot" => snapshot(r, count),
+        "near" => near(r, count),
         "bench" => bench(r, count),
         _ => return None,
     })

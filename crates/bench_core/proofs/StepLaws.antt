@@ -1,10 +1,11 @@
 -- What each line leaves, from what its parts promise. Assumes nothing.
 use Prim.Native.Nat.{ℕ, zero, suc, _+_, _≤_, _<_}
 use native.Mathlib.Omega.{arith}
-use mathlib.Core.Path.{_≡_, refl, sym, ap, _∙_}
+use mathlib.Core.Path.{_≡_, refl, sym, ap, subst, _∙_}
 use mathlib.Core.Bool.{Bool, true, false, cond}
 use mathlib.Core.List.{List, [], _∷_, map}
 use borrow.Author.Tests.{lt-ltb, le-ltb, eq-eqb, ne-eqb}
+use lib.Dec.{T}
 use lib.ListN.{length, take, drop, getD}
 use lib.Ieee.{Float}
 use Rattle.trcf.specs.Preprocessor.{accepted}
@@ -15,11 +16,11 @@ use Rattle.trcf.specs.declared.preprocessor.PreprocessorBuilder.{PreprocessorBu
 use Rattle.bench_core.specs.Line.{cellOf, requestOf, keptCount, keptOf}
 use Rattle.bench_core.specs.declared.line.Line.{Line}
 use Rattle.bench_core.specs.declared.line.Name.{Name}
-use Rattle.bench_core.specs.declared.line.Name.the-variants.{Set}
+use Rattle.bench_core.specs.declared.line.Name.the-variants.{Unread, Set, Weights, Point, Learn, Drain, Save, Other}
 use Rattle.bench_core.specs.declared.step.Phase.{Phase}
 use Rattle.bench_core.specs.declared.step.Phase.the-variants.{WantsWeights, Running}
 use Rattle.bench_core.specs.declared.step.Bench.{Bench}
-use Rattle.bench_core.specs.Bench.{Output, output, prints, noText, readyFor, goingOn, endOf, builderFrom, Told, told, Heard, heard, refusedBy, setHeard, limitRow, builtHeard, weightsTurn, weightsHeard, callTold, callHeard, lineBy, lineHeard, begun, Said, said, finishBy, finished, finishOf, cellLength, cellKept, stepped, withLine, cellStep, stepOf}
+use Rattle.bench_core.specs.Bench.{Output, output, prints, noText, readyFor, goingOn, endOf, builderFrom, Told, told, Heard, heard, refusedBy, setHeard, limitRow, builtHeard, weightsTurn, weightsHeard, callTold, isReading, isPoint, readingName, plainHeard, callHeard, tells, pointTurn, learnTurn, lineBy, lineHeard, begun, Said, said, finishBy, finished, finishOf, cellLength, cellKept, stepped, withLine, cellStep, stepOf}
 
 pub kept-of : (l : Line) (n : ℕ) → n ≡ keptCount (l .count) → take n (l .singles) ≡ keptOf l
 unfolding keptOf
@@ -72,9 +73,6 @@ module _ (b : Bench) (l : Line) (lists : Lent) (y : List Float) (out : List ℕ)
     pub weights-by : weightsHeard m b l lists y out ≡ weightsHeard (requestOf l) b l lists y out
     weights-by = ap (λ (q : Name). weightsHeard q b l lists y out) (sym e ∙ r)
 
-    pub call-by : callHeard m b l lists y out ≡ callHeard (requestOf l) b l lists y out
-    call-by = ap (λ (q : Name). callHeard q b l lists y out) (sym e ∙ r)
-
   pub line-by : (p : Phase) → b .phase ≡ p → lineBy p b l lists y out ≡ lineHeard b l lists y out
   unfolding lineHeard
   line-by p e = ap (λ (q : Phase). lineBy q b l lists y out) (sym e)
@@ -88,6 +86,55 @@ going b lists y {b'} {n} {m} {out'} p e o = (λ j. heard (p j) lists y (output (
 pub call-told : (b : Bench) {b' : Bench} {h' : Preprocessor} {g' : Bool} {l' : Lent} {y' : List Float} {n m : ℕ} {out' : List ℕ} {t : Told}
     → told h' g' l' y' (output n out') ≡ t → b' ≡ readyFor Running (b .builder) h' g' → m ≡ n → heard b' l' y' (output m out') ≡ callTold b t
 call-told b {b'} {h'} {g'} {l'} {y'} {n} {m} {out'} {t} e p q = (λ j. heard (p j) l' y' (output (q j) out')) ∙ ap (callTold b) e
+
+-- ---- a call line, by what it brings
+
+module _ (b : Bench) (l : Line) (lists : Lent) (y : List Float) (out : List ℕ) (asks : Bool) {v : List Float} (k : v ≡ keptOf l)
+    {b' : Bench} {h' : Preprocessor} {g' : Bool} {l' : Lent} {y' : List Float} {n m : ℕ} {out' : List ℕ} where
+  pub point-read : asks ≡ true → told h' g' l' y' (output n out') ≡ tells (pointTurn (b .head) (b .given) lists y v (getD (l .wholes) 0 0)) out
+      → b' ≡ readyFor Running (b .builder) h' g' → m ≡ n → heard b' l' y' (output m out') ≡ callHeard (readingName asks) b l lists y out
+  point-read w e p q =
+      call-told b (e ∙ ap (λ (u : List Float). tells (pointTurn (b .head) (b .given) lists y u (getD (l .wholes) 0 0)) out) k) p q
+      ∙ ap (λ (i : Bool). callHeard (readingName i) b l lists y out) (sym w)
+
+  pub learn-read : asks ≡ false → told h' g' l' y' (output n out') ≡ tells (learnTurn (b .head) (b .given) lists y v (getD (l .wholes) 0 0)) out
+      → b' ≡ readyFor Running (b .builder) h' g' → m ≡ n → heard b' l' y' (output m out') ≡ callHeard (readingName asks) b l lists y out
+  learn-read w e p q =
+      call-told b (e ∙ ap (λ (u : List Float). tells (learnTurn (b .head) (b .given) lists y u (getD (l .wholes) 0 0)) out) k) p q
+      ∙ ap (λ (i : Bool). callHeard (readingName i) b l lists y out) (sym w)
+
+reading-name : (n : Name) → isReading n ≡ true → readingName (isPoint n) ≡ n
+reading-name Unread h = absurd (subst T (sym h) tt)
+reading-name Set h = absurd (subst T (sym h) tt)
+reading-name Weights h = absurd (subst T (sym h) tt)
+reading-name Point h = refl
+reading-name Learn h = refl
+reading-name Drain h = absurd (subst T (sym h) tt)
+reading-name Save h = absurd (subst T (sym h) tt)
+reading-name Other h = absurd (subst T (sym h) tt)
+
+pub plain-by : (b : Bench) (lists : Lent) (y : List Float) (out : List ℕ) (name n : Name) → name ≡ n → plainHeard n b lists y out ≡ plainHeard name b lists y out
+plain-by b lists y out name n e = ap (λ (q : Name). plainHeard q b lists y out) (sym e)
+
+module _ (b : Bench) (l : Line) (lists : Lent) (y : List Float) (out : List ℕ) where
+  plain-call : (n : Name) → isReading n ≡ false → plainHeard n b lists y out ≡ callHeard n b l lists y out
+  plain-call Unread h = refl
+  plain-call Set h = refl
+  plain-call Weights h = refl
+  plain-call Point h = absurd (subst T h tt)
+  plain-call Learn h = absurd (subst T h tt)
+  plain-call Drain h = refl
+  plain-call Save h = refl
+  plain-call Other h = refl
+
+  module _ (n : Name) (e : n ≡ requestOf l) (q : Bool) (r : q ≡ isReading n) where
+    pub reading-by : (p : Bool) → p ≡ isPoint n → q ≡ true → callHeard (readingName p) b l lists y out ≡ callHeard (requestOf l) b l lists y out
+    reading-by p s t =
+        ap (λ (i : Bool). callHeard (readingName i) b l lists y out) s
+        ∙ ap (λ (m : Name). callHeard m b l lists y out) (reading-name n (sym r ∙ t) ∙ e)
+
+    pub plain-read : q ≡ false → plainHeard n b lists y out ≡ callHeard (requestOf l) b l lists y out
+    plain-read t = plain-call n (sym r ∙ t) ∙ ap (λ (m : Name). callHeard m b l lists y out) e
 
 -- ---- the end of the input
 

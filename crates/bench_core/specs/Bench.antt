@@ -229,16 +229,51 @@ callTold b t = heard (readyFor Running (b .builder) (t .head) (t .given)) (t .le
 abbrev pub unread : Bench → Lent → List Float → List ℕ → Heard
 unread b lists y out = heard (goingOn b) lists y (prints (noText 19) out)
 
+-- `d` and `s`; any other line without a reading is of another form
+abbrev pub plainHeard : Name → Bench → Lent → List Float → List ℕ → Heard
+plainHeard Unread b lists y out = unread b lists y out
+plainHeard Set b lists y out = unread b lists y out
+plainHeard Weights b lists y out = unread b lists y out
+plainHeard Point b lists y out = unread b lists y out
+plainHeard Learn b lists y out = unread b lists y out
+plainHeard Drain b lists y out = callTold b (tells (drainTurn (b .head) (b .given) lists y) out)
+plainHeard Save b lists y out = heard (goingOn b) lists y (savePrints (b .head) lists out)
+plainHeard Other b lists y out = unread b lists y out
+
 -- every later line; the time stands first among the whole numbers
 abbrev pub callHeard : Name → Bench → Line → Lent → List Float → List ℕ → Heard
-callHeard Unread b l lists y out = unread b lists y out
-callHeard Set b l lists y out = unread b lists y out
-callHeard Weights b l lists y out = unread b lists y out
+callHeard Unread b l lists y out = plainHeard Unread b lists y out
+callHeard Set b l lists y out = plainHeard Set b lists y out
+callHeard Weights b l lists y out = plainHeard Weights b lists y out
 callHeard Point b l lists y out = callTold b (tells (pointTurn (b .head) (b .given) lists y (keptOf l) (getD (l .wholes) 0 0)) out)
 callHeard Learn b l lists y out = callTold b (tells (learnTurn (b .head) (b .given) lists y (keptOf l) (getD (l .wholes) 0 0)) out)
-callHeard Drain b l lists y out = callTold b (tells (drainTurn (b .head) (b .given) lists y) out)
-callHeard Save b l lists y out = heard (goingOn b) lists y (savePrints (b .head) lists out)
-callHeard Other b l lists y out = unread b lists y out
+callHeard Drain b l lists y out = plainHeard Drain b lists y out
+callHeard Save b l lists y out = plainHeard Save b lists y out
+callHeard Other b l lists y out = plainHeard Other b lists y out
+
+-- `p` and `l` bring a reading
+abbrev pub isReading : Name → Bool
+isReading Unread = false
+isReading Set = false
+isReading Weights = false
+isReading Point = true
+isReading Learn = true
+isReading Drain = false
+isReading Save = false
+isReading Other = false
+
+abbrev pub isPoint : Name → Bool
+isPoint Unread = false
+isPoint Set = false
+isPoint Weights = false
+isPoint Point = true
+isPoint Learn = false
+isPoint Drain = false
+isPoint Save = false
+isPoint Other = false
+
+abbrev pub readingName : Bool → Name
+readingName asks = cond asks Point Learn
 
 abbrev pub lineBy : Phase → Bench → Line → Lent → List Float → List ℕ → Heard
 lineBy WantsSet b l lists y out = setHeard (requestOf l) b l lists y out

@@ -1,9 +1,9 @@
 // A line of the bench, read cell by cell: what is kept of it is its name, its first fields and how many there are.
+use snapshot::cells::double;
+use snapshot::cells::single;
+use snapshot::cells::whole;
 use snapshot::field::Field;
 use snapshot::field::Number;
-use snapshot::field::double;
-use snapshot::field::single;
-use snapshot::field::whole;
 ghost use mathlib.Core.Path.{_≡_};
 ghost use Rattle.snapshot.specs.Read.{asWhole};
 ghost use Rattle.snapshot.specs.Scan.{numberOf};

@@ -23,10 +23,13 @@ ghost use Prim.Native.Nat.{_≤_};
 ghost use lib.ListN.{length, take};
 ghost use Rattle.trcf.specs.View.{Lent, lent, noHead};
 ghost use Rattle.bench_core.specs.Line.{requestOf, keptCount};
-ghost use Rattle.bench_core.specs.Bench.{output, prints, noText, readyFor, goingOn, endOf, modeFrom, methodFrom, builderFrom, noBuilder, fresh, heard, setHeard, limitRow, weightsTurn, weightsHeard, callHeard, lineHeard, cellLength, cellKept, stepped, withLine, stepOf, begun, said, finishBy, finished, finishOf};
+ghost use Rattle.bench_core.specs.Bench.{output, prints, noText, readyFor, goingOn, endOf, modeFrom, methodFrom, builderFrom, noBuilder, fresh, heard, setHeard, limitRow, weightsTurn, weightsHeard, isReading, isPoint, readingName, plainHeard, callHeard, lineHeard, cellLength, cellKept, stepped, withLine, stepOf, begun, said, finishBy, finished, finishOf};
 
 // The bytes that the output of a step has to have.
 pub const ROOM: usize = 65536;
+
+// The bytes that are looked at of a cell: a longer one is no name and no field, and neither is its start (proofs/BlockLaws).
+pub const LONGEST: usize = 24;
 
 // What the next line has to be: `set`, `wgt`, a call; or the run is over.
 pub enum Phase {
@@ -300,6 +303,147 @@ fn unchanged(b: Bench, n: usize) -> Printed
     }
 }
 
+// Whether a line brings a reading.
+fn is_reading(name: Name) -> bool
+    ensures { λ r. ⌜ r ≡ isReading name ⌝ }
+{
+    match name {
+        Name::Point => true,
+        Name::Learn => true,
+        Name::Unread => false,
+        Name::Set => false,
+        Name::Weights => false,
+        Name::Drain => false,
+        Name::Save => false,
+        Name::Other => false,
+    }
+}
+
+fn is_point(name: Name) -> bool
+    ensures { λ r. ⌜ r ≡ isPoint name ⌝ }
+{
+    match name {
+        Name::Point => true,
+        Name::Learn => false,
+        Name::Unread => false,
+        Name::Set => false,
+        Name::Weights => false,
+        Name::Drain => false,
+        Name::Save => false,
+        Name::Other => false,
+    }
+}
+
+// A line with a reading: `p`, or else `l`.
+fn read_reading(
+    b: Bench,
+    l: Line,
+    asks: bool,
+    statistics: &mut [f64],
+    last_shingled_input: &mut [f32],
+    last_shingled_point: &mut [f32],
+    previous_timestamps: &mut [u64],
+    initial_values: &mut [f32],
+    initial_timestamps: &mut [u64],
+    point: &mut [f32],
+    out: &mut [u8],
+) -> Printed
+    requires { ⌜ 65536 ≤ length (now out) ⌝ }
+    ensures { λ r. ⌜ heard (r .bench) (lent (now (statistics .exit)) (now («last_shingled_input» .exit)) (now («last_shingled_point» .exit)) (now («previous_timestamps» .exit)) (now («initial_values» .exit)) (now («initial_timestamps» .exit))) (now (point .exit)) (output (r .length) (now (out .exit))) ≡ callHeard (readingName asks) b l (lent (now (statistics .entry)) (now («last_shingled_input» .entry)) (now («last_shingled_point» .entry)) (now («previous_timestamps» .entry)) (now («initial_values» .entry)) (now («initial_timestamps» .entry))) (now (point .entry)) (now (out .entry)) ⌝ }
+{
+    let head = b.head;
+    let given = b.given;
+    let n = kept(l);
+    let singles = l.singles;
+    let wholes = l.wholes;
+    let time = wholes[0];
+    if asks {
+        let a = call_point(
+            head,
+            given,
+            statistics,
+            last_shingled_input,
+            last_shingled_point,
+            previous_timestamps,
+            initial_values,
+            initial_timestamps,
+            &singles[..n],
+            time,
+            point,
+            out,
+        );
+        return answered(b, a);
+    }
+    let a = call_learn(
+        head,
+        given,
+        statistics,
+        last_shingled_input,
+        last_shingled_point,
+        previous_timestamps,
+        initial_values,
+        initial_timestamps,
+        &singles[..n],
+        time,
+        point,
+        out,
+    );
+    answered(b, a)
+}
+
+// A line without a reading: `d`, `s`, or one of another form.
+fn read_plain(
+    b: Bench,
+    name: Name,
+    statistics: &mut [f64],
+    last_shingled_input: &mut [f32],
+    last_shingled_point: &mut [f32],
+    previous_timestamps: &mut [u64],
+    initial_values: &[f32],
+    initial_timestamps: &[u64],
+    out: &mut [u8],
+) -> Printed
+    requires { ⌜ 65536 ≤ length (now out) ⌝ }
+    ensures { λ r. ⌜ ((y : List Float) → heard (r .bench) (lent (now (statistics .exit)) (now («last_shingled_input» .exit)) (now («last_shingled_point» .exit)) (now («previous_timestamps» .exit)) (now («initial_values» .entry)) (now («initial_timestamps» .entry))) y (output (r .length) (now (out .exit))) ≡ plainHeard name b (lent (now (statistics .entry)) (now («last_shingled_input» .entry)) (now («last_shingled_point» .entry)) (now («previous_timestamps» .entry)) (now («initial_values» .entry)) (now («initial_timestamps» .entry))) y (now (out .entry))) ⌝ }
+{
+    let head = b.head;
+    match name {
+        Name::Drain => {
+            let a = call_drain(
+                head,
+                b.given,
+                statistics,
+                last_shingled_input,
+                last_shingled_point,
+                previous_timestamps,
+                initial_values,
+                initial_timestamps,
+                out,
+            );
+            answered(b, a)
+        }
+        Name::Save => {
+            let n = call_save(
+                head,
+                statistics,
+                last_shingled_input,
+                last_shingled_point,
+                previous_timestamps,
+                initial_values,
+                initial_timestamps,
+                out,
+            );
+            unchanged(b, n)
+        }
+        Name::Unread => unchanged(b, print_no(out, 19)),
+        Name::Set => unchanged(b, print_no(out, 19)),
+        Name::Weights => unchanged(b, print_no(out, 19)),
+        Name::Point => unchanged(b, print_no(out, 19)),
+        Name::Learn => unchanged(b, print_no(out, 19)),
+        Name::Other => unchanged(b, print_no(out, 19)),
+    }
+}
+
 // A call line.
 fn read_call(
     b: Bench,
@@ -316,80 +460,33 @@ fn read_call(
     requires { ⌜ 65536 ≤ length (now out) ⌝ }
     ensures { λ r. ⌜ heard (r .bench) (lent (now (statistics .exit)) (now («last_shingled_input» .exit)) (now («last_shingled_point» .exit)) (now («previous_timestamps» .exit)) (now («initial_values» .exit)) (now («initial_timestamps» .exit))) (now (point .exit)) (output (r .length) (now (out .exit))) ≡ callHeard (requestOf l) b l (lent (now (statistics .entry)) (now («last_shingled_input» .entry)) (now («last_shingled_point» .entry)) (now («previous_timestamps» .entry)) (now («initial_values» .entry)) (now («initial_timestamps» .entry))) (now (point .entry)) (now (out .entry)) ⌝ }
 {
-    let head = b.head;
-    let given = b.given;
-    let n = kept(l);
-    let singles = l.singles;
-    let wholes = l.wholes;
-    let time = wholes[0];
     let name = request(l);
-    match name {
-        Name::Point => {
-            let a = call_point(
-                head,
-                given,
-                statistics,
-                last_shingled_input,
-                last_shingled_point,
-                previous_timestamps,
-                initial_values,
-                initial_timestamps,
-                &singles[..n],
-                time,
-                point,
-                out,
-            );
-            answered(b, a)
-        }
-        Name::Learn => {
-            let a = call_learn(
-                head,
-                given,
-                statistics,
-                last_shingled_input,
-                last_shingled_point,
-                previous_timestamps,
-                initial_values,
-                initial_timestamps,
-                &singles[..n],
-                time,
-                point,
-                out,
-            );
-            answered(b, a)
-        }
-        Name::Drain => {
-            let a = call_drain(
-                head,
-                given,
-                statistics,
-                last_shingled_input,
-                last_shingled_point,
-                previous_timestamps,
-                initial_values,
-                initial_timestamps,
-                out,
-            );
-            answered(b, a)
-        }
-        Name::Save => {
-            let k = call_save(
-                head,
-                statistics,
-                last_shingled_input,
-                last_shingled_point,
-                previous_timestamps,
-                initial_values,
-                initial_timestamps,
-                out,
-            );
-            unchanged(b, k)
-        }
-        Name::Unread => unchanged(b, print_no(out, 19)),
-        Name::Set => unchanged(b, print_no(out, 19)),
-        Name::Weights => unchanged(b, print_no(out, 19)),
-        Name::Other => unchanged(b, print_no(out, 19)),
+    if is_reading(name) {
+        return read_reading(
+            b,
+            l,
+            is_point(name),
+            statistics,
+            last_shingled_input,
+            last_shingled_point,
+            previous_timestamps,
+            initial_values,
+            initial_timestamps,
+            point,
+            out,
+        );
     }
+    read_plain(
+        b,
+        name,
+        statistics,
+        last_shingled_input,
+        last_shingled_point,
+        previous_timestamps,
+        initial_values,
+        initial_timestamps,
+        out,
+    )
 }
 
 // The second line.
@@ -498,13 +595,13 @@ fn cell_end(text: &[u8]) -> usize
     i
 }
 
-// A cell longer than 24 bytes is no name and no field, and neither is its start.
+// The part of a cell that is looked at.
 fn cell_of(n: usize) -> usize
     ensures { λ r. ⌜ r ≡ cellKept n ⌝ }
     ensures { λ r. ⌜ r ≤ n ⌝ }
 {
-    if 24 < n {
-        return 24;
+    if LONGEST < n {
+        return LONGEST;
     }
     n
 }
@@ -521,6 +618,18 @@ fn with_line(b: Bench, l: Line) -> Bench
         builder: builder,
         head: head,
         given: b.given,
+    }
+}
+
+// Nothing read and nothing written.
+fn idle(b: Bench, row: u64) -> StepResult
+    ensures { λ r. ⌜ (r .row ≡ row) × (r .next ≡ 0) × (r .length ≡ 0) × (r .bench ≡ b) ⌝ }
+{
+    StepResult {
+        row: row,
+        next: 0,
+        length: 0,
+        bench: b,
     }
 }
 
@@ -541,21 +650,11 @@ pub fn step(
     ensures { λ r. ⌜ stepped (r .row) (r .next) (heard (r .bench) (lent (now (statistics .exit)) (now («last_shingled_input» .exit)) (now («last_shingled_point» .exit)) (now («previous_timestamps» .exit)) (now («initial_values» .exit)) (now («initial_timestamps» .exit))) (now (point .exit)) (output (r .length) (now (out .exit)))) ≡ stepOf b (lent (now (statistics .entry)) (now («last_shingled_input» .entry)) (now («last_shingled_point» .entry)) (now («previous_timestamps» .entry)) (now («initial_values» .entry)) (now («initial_timestamps» .entry))) (now (point .entry)) (now (text .entry)) (now (out .entry)) ⌝ }
 {
     if out.len() < ROOM {
-        return StepResult {
-            row: 20,
-            next: 0,
-            length: 0,
-            bench: b,
-        };
+        return idle(b, 20);
     }
     let n = cell_end(text);
     if n == text.len() {
-        return StepResult {
-            row: 0,
-            next: 0,
-            length: 0,
-            bench: b,
-        };
+        return idle(b, 0);
     }
     let k = cell_of(n);
     let before = b.line;
@@ -613,12 +712,7 @@ pub fn finish(b: Bench, rest: &[u8], out: &mut [u8]) -> StepResult
     ensures { λ r. ⌜ finished (r .row) (r .next) (said (r .bench) (output (r .length) (now (out .exit)))) ≡ finishOf b (now (rest .entry)) (now (out .entry)) ⌝ }
 {
     if out.len() < ROOM {
-        return StepResult {
-            row: 20,
-            next: 0,
-            length: 0,
-            bench: b,
-        };
+        return idle(b, 20);
     }
     let p = finished_by(b, rest, out);
     let after = p.bench;

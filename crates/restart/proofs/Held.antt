@@ -26,7 +26,7 @@ use Rattle.snapshot.proofs.Accepted.{rows-of, none-refuses}
 use Rattle.snapshot.specs.Save.{unheld, fitted, saveOf}
 use Rattle.snapshot.specs.Save as save
 use Rattle.snapshot.specs.Restore as restore
-use Rattle.snapshot.specs.Restore.{Few, HeadFew}
+use Rattle.snapshot.specs.Runs.{Few, HeadFew}
 use Rattle.snapshot.proofs.BodyLaws.{room-of, dimension-is}
 use Rattle.snapshot.proofs.RoundTrip.{settings-are, shaped-of, few-of, initial-few, past-not, laid-short, restored-as, restored-view}
 use Rattle.restart.specs.History.{historyState, entries, historyText, historyAnswers}

@@ -19,7 +19,7 @@ use Rattle.snapshot.specs.Read.{asWhole, Counts, withWeights}
 use Rattle.snapshot.specs.Judge.{onto, byte, name, fields, modeIn, methodIn, setTest, settingsWith, settled, tailBy, setBy, wgtBy, cntBy}
 use Rattle.snapshot.proofs.Lists.{and-left, and-right}
 use Rattle.snapshot.proofs.JudgeLines.{onto-some}
-use Rattle.snapshot.specs.Restore.{Ran, ran, broke, after, oneLine, headRead, headBy, headOf, headWith, Few}
+use Rattle.snapshot.specs.Runs.{Ran, ran, broke, after, oneLine, headRead, headBy, headOf, headWith, Few}
 
 module _ (t : List ℕ) where
   pub head-set : none ≡ setBy t → broke 1 ≡ headBy t

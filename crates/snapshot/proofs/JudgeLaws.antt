@@ -15,8 +15,9 @@ use Rattle.snapshot.proofs.field.Field.{the-type}
 use lib.Ieee.{Float, binary32, binary64}
 use borrow.Author.Tests.{eqb-true, eq-eqb, ne-eqb, le-leb, lt-leb}
 use Rattle.snapshot.specs.Read.{asWhole, asFloat}
-use Rattle.snapshot.specs.Scan.{fieldOf, singleOf, doubleOf, wholeOf}
-use Rattle.snapshot.specs.Judge.{placed, onto, held, byte, name, fieldLength, fieldIn, endIn, nextOf, one, before, fields, closing, listLine, Filled}
+use Rattle.snapshot.specs.Scan.{fieldOf, singleOf, doubleOf, wholeOf, numberOf}
+use Rattle.snapshot.specs.declared.field.Number.the-variants.{No, Is}
+use Rattle.snapshot.specs.Judge.{placed, onto, held, byte, name, fieldLength, fieldIn, endIn, restOf, tabbedOf, nextOf, one, before, fields, closing, listLine, Filled}
 use Rattle.snapshot.specs.declared.field.Field.{Field}
 use Rattle.snapshot.specs.declared.field.Field.the-variants.{Single, Double, Whole, Bad}
 use Rattle.snapshot.specs.declared.judge.Place.{Place}
@@ -67,18 +68,30 @@ field-short (b ∷ l) = go (leb b 10) refl (field-short l)
 
 module _ (k : ℕ) (t : List ℕ) (i : ℕ) where
   pub next-yes : i < length t → getD t i 0 ≡ 9 → (f : Field) (e : ℕ) → e ≡ i + 1 + fieldLength (drop (i + 1) t)
-      → f ≡ fieldOf k (take (e - (i + 1)) (drop (i + 1) t)) → record { field = f; end = e } ≡ nextOf k i t
+      → f ≡ fieldOf k (take (e - (i + 1)) (drop (i + 1) t)) → record { field = f; end = e } ≡ tabbedOf k i t
   next-yes h q f e p g =
       let n : e - (i + 1) ≡ fieldLength (drop (i + 1) t) = omega arith in
       let a : f ≡ fieldIn k (drop i t) = g ∙ rw (n, drop-cons t i 0 h, eq-eqb (getD t i 0) 9 q, add-one i) in
       let b : e ≡ endIn i (drop i t) = p ∙ rw (drop-cons t i 0 h, eq-eqb (getD t i 0) 9 q, add-one i) in
       λ j. record { field = a j; end = b j }
 
-  pub next-no : i < length t → (getD t i 0 ≡ 9 → ⊥) → record { field = Bad; end = i } ≡ nextOf k i t
+  pub next-no : i < length t → (getD t i 0 ≡ 9 → ⊥) → record { field = Bad; end = i } ≡ tabbedOf k i t
   next-no h q = rw (drop-cons t i 0 h, ne-eqb (getD t i 0) 9 q)
 
-  pub next-end : length t ≤ i → record { field = Bad; end = i } ≡ nextOf k i t
+  pub next-end : length t ≤ i → record { field = Bad; end = i } ≡ tabbedOf k i t
   next-end h = rw (drop-of-length-le t h)
+
+  pub next-tabbed : k < 4 → tabbedOf k i t ≡ nextOf k i t
+  next-tabbed h = rw (lt-leb 4 k h)
+
+  pub next-rest : 4 ≤ k → restOf (k - 4) i t ≡ nextOf k i t
+  next-rest h = rw (le-leb 4 k h)
+
+  -- what lies from there on, or nothing
+  pub rest-is : (from : ℕ) (f : Field) → drop from t ≡ drop i t → from ≤ length t → f ≡ fieldOf k (take (length t - from) (drop from t)) → record { field = f; end = length t } ≡ restOf k i t
+  rest-is from f e h g =
+      let a : take (length t - from) (drop from t) ≡ drop i t = take-all (length t - from) (drop from t) (omega (arith, length-drop from t)) ∙ e in
+      λ j. record { field = (g ∙ ap (fieldOf k) a) j; end = length t }
 
 -- ---- one field, and the fields of a line one after another
 
@@ -225,6 +238,22 @@ module _ (t : List ℕ) (i : ℕ) (r : Next) where
         go : (o : Option ℕ) → r .field ≡ wholeOf o → o ≡ none
         go none q = refl
         go (some x) q = absurd (miss (0 ∷ 1 ∷ 3 ∷ []) 2 tt (subst (λ (f : Field). OneOf (0 ∷ 1 ∷ 3 ∷ []) (tagOf the-type f)) q e))
+
+-- a whole number, or none
+module _ (o : Option ℕ) (f : Field) (h : f ≡ wholeOf o) where
+  pub number-is : (n : ℕ) → f ≡ Whole n → Is n ≡ numberOf o
+  number-is n e = go o (sym e ∙ h)
+    where
+      go : (q : Option ℕ) → Whole n ≡ wholeOf q → Is n ≡ numberOf q
+      go none k = let z : _≡_ {A = ℕ} 0 1 = cc in absurd (omega arith)
+      go (some y) k = let e : n ≡ y = cc in ap Is e
+
+  pub number-not : OneOf (0 ∷ 1 ∷ 3 ∷ []) (tagOf the-type f) → No ≡ numberOf o
+  number-not e = go o h
+    where
+      go : (q : Option ℕ) → f ≡ wholeOf q → No ≡ numberOf q
+      go none k = refl
+      go (some y) k = absurd (miss (0 ∷ 1 ∷ 3 ∷ []) 2 tt (subst (λ (x : Field). OneOf (0 ∷ 1 ∷ 3 ∷ []) (tagOf the-type x)) k e))
 
 -- ---- a line of fields of one kind
 

@@ -10,6 +10,10 @@ use Rattle.trcf.specs.Calls.{finite}
 use Rattle.trcf.specs.Preprocessor.{State, fresh}
 use Rattle.snapshot.specs.Text.{render, linesOf, setLine, singles, cntLine, devLine, timLine, bufLine, whole, float}
 use Rattle.snapshot.specs.Read.{Read, taken, bad, read, judge, floatFrom, mayStand, asWhole}
+use lib.ListN.{replicate}
+use Rattle.common.specs.Lent.{over}
+use Rattle.trcf.specs.View.{Lent, lent, lentShort, laid, noHead}
+use Rattle.snapshot.specs.Restore.{outcome, restored, restoreOf}
 use Rattle.snapshot.proofs.ReadText.{sample}
 
 -- to unfold this is to unfold whatever its line names
@@ -524,3 +528,31 @@ f-more = refl
 f-empty : asWhole [] ≡ none
 unfolding asWhole read·all
 f-empty = refl
+
+-- ---- `restore` over memory that held something else
+
+-- set S 4 1 1 2 20 …, with one waiting reading at time 5
+abbrev waitingText : List ℕ
+waitingText = set4L ++ (wgtL ++ (cnt1L ++ (ten devL ++ (inpL ++ (pntL ++ (timL ++ buf5L))))))
+
+-- a list longer than the need, and one of the initial times that is just long enough
+abbrev memory : List ℕ → Lent
+memory initial = lent (replicate 31 nan) (nan ∷ nan ∷ []) (nan ∷ []) (7 ∷ 8 ∷ []) (nan ∷ nan ∷ nan ∷ []) initial
+
+pub restored-waiting : (restoreOf waitingText (memory (4 ∷ 6 ∷ [])) .row ≡ 0)
+    × (restoreOf waitingText (memory (4 ∷ 6 ∷ [])) .head .«initial_len» ≡ 1)
+    × (restoreOf waitingText (memory (4 ∷ 6 ∷ [])) .lent .initialTimestamps ≡ 5 ∷ 6 ∷ [])
+    × (restoreOf waitingText (memory (4 ∷ 6 ∷ [])) .lent .previousTimestamps ≡ 0 ∷ 8 ∷ [])
+unfolding read·all restoreOf restored lentShort laid over
+restored-waiting = (refl, refl, refl, refl)
+
+-- row 20: start initial times do not fit
+pub restored-short : restoreOf waitingText (memory (4 ∷ [])) ≡ outcome 20 0 noHead (memory (4 ∷ []))
+unfolding read·all restoreOf restored lentShort
+restored-short = refl
+
+-- row 19: the `buf` line is missing, the line after the last; and a bad third line
+pub restored-bad : (restoreOf (set4L ++ (wgtL ++ (cnt1L ++ (ten devL ++ (inpL ++ (pntL ++ timL)))))) (memory []) ≡ outcome 19 17 noHead (memory []))
+    × (restoreOf (set4L ++ (wgtL ++ inpL)) (memory []) ≡ outcome 19 3 noHead (memory []))
+unfolding read·all restoreOf restored
+restored-bad = (refl, refl)

@@ -15,7 +15,8 @@ use Rattle.trcf.proofs.DrainLaws.{front-over}
 use Rattle.snapshot.specs.Text.{float}
 use Rattle.snapshot.specs.Read.{asFloat, Counts, withWeights, Read, taken, bad, read}
 use Rattle.snapshot.specs.Judge.{listLine, checked, wgtTest, setBy, wgtBy, cntBy}
-use Rattle.snapshot.specs.Restore.{Ran, ran, broke, oneLine, behindLines, after, mapRan, Head, headRead, headBy, headOf, HeadFew, countsIn, Parts, Initial, Body, bodyBy, expected, partsOf, bufs, ending, body, filledBy, FillsOver, stateFrom, Good, summed, readBy, asRead, outcome, restored, restoreOf}
+use Rattle.snapshot.specs.Restore.{outcome, restored, restoreOf}
+use Rattle.snapshot.specs.Runs.{Ran, ran, broke, oneLine, behindLines, after, mapRan, Head, headRead, headBy, headOf, HeadFew, countsIn, Parts, Initial, Body, bodyBy, expected, partsOf, bufs, ending, body, filledBy, FillsOver, stateFrom, Good, summed, readBy, asRead}
 use Rattle.snapshot.specs.declared.restore.Judged.{Judged}
 use Rattle.snapshot.proofs.JudgeLines.{float-codec, line-is}
 use Rattle.snapshot.proofs.JudgeKinds.{checked-some}

@@ -23,7 +23,8 @@ use Rattle.snapshot.specs.Form.{Form}
 use Rattle.snapshot.specs.Read.{Read, taken, bad, withWeights, read, FirstBad}
 use Rattle.snapshot.specs.Save.{past, unheld, saveOf}
 use Rattle.snapshot.specs.Save as saving
-use Rattle.snapshot.specs.Restore.{Few, Room, Outcome, outcome, restored, restoreOf}
+use Rattle.snapshot.specs.Restore.{Outcome, outcome, restored, restoreOf}
+use Rattle.snapshot.specs.Runs.{Few, Room}
 use Rattle.snapshot.proofs.Lists.{and-left, and-right}
 use Rattle.snapshot.proofs.Accepted.{rows-of}
 use Rattle.snapshot.proofs.ReadText.{read-sound, read-complete, read-exactly, read-first-bad}

@@ -1,5 +1,5 @@
 -- A line as the code reads it: piece by piece from a place of the text on, and none where a piece is bad.
-use Prim.Native.Nat.{ℕ, zero, suc, _+_}
+use Prim.Native.Nat.{ℕ, zero, suc, _+_, _-_}
 use mathlib.Core.Bool.{Bool, true, false, not, _&&_, _||_, cond}
 use mathlib.Core.Path.{_≡_}
 use mathlib.Core.List.{List, [], _∷_, _++_}
@@ -67,8 +67,16 @@ abbrev pub endIn : ℕ → List ℕ → ℕ
 endIn p [] = p
 endIn p (x ∷ l) = cond (eqb x 9) (suc p + fieldLength l) p
 
+-- the rest of the text as one field: its tab was read before, as the bench does, which reads its input in pieces
+abbrev pub restOf : ℕ → ℕ → List ℕ → Next
+restOf k p t = record { field = fieldOf k (drop p t); end = length t }
+
+abbrev pub tabbedOf : ℕ → ℕ → List ℕ → Next
+tabbedOf k p t = record { field = fieldIn k (drop p t); end = endIn p (drop p t) }
+
+-- by the kind, 0 to 2; the same with 4 more for the rest of the text
 abbrev pub nextOf : ℕ → ℕ → List ℕ → Next
-nextOf k p t = record { field = fieldIn k (drop p t); end = endIn p (drop p t) }
+nextOf k p t = cond (leb 4 k) (restOf (k - 4) p t) (tabbedOf k p t)
 
 module _ {A : Type 0} (p : List ℕ → Option A) where
   abbrev pub one : List ℕ → Option (A × List ℕ)

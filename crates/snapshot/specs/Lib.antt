@@ -8,3 +8,4 @@ pub mod Write
 pub mod Save
 pub mod Judge
 pub mod Restore
+pub mod Runs

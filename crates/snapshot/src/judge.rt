@@ -9,7 +9,7 @@ ghost use Prim.Native.Nat.{_+_, _*_, _≤_, _<_};
 ghost use lib.ListN.{length, take, drop};
 ghost use lib.Ieee.{binary32, binary64};
 ghost use Rattle.snapshot.specs.Read.{asWhole, asFloat};
-ghost use Rattle.snapshot.specs.Judge.{placed, held, byte, name, fieldLength, nextOf, fields, listLine, Filled};
+ghost use Rattle.snapshot.specs.Judge.{placed, held, byte, name, fieldLength, restOf, tabbedOf, nextOf, fields, listLine, Filled};
 
 fn wide(x: u8) -> u64
     ensures { λ r. ⌜ r ≡ x ⌝ }
@@ -69,9 +69,28 @@ pub(crate) struct Next {
     pub end: usize,
 }
 
+// The rest of the text as one field.
+fn rest_at(text: &[u8], at: usize, kind: u64) -> Next
+    ensures { λ r. ⌜ r ≡ restOf kind at (now (text .entry)) ⌝ }
+{
+    let end = text.len();
+    if at < end {
+        let field = parse(text, at, end, kind);
+        return Next {
+            field: field,
+            end: end,
+        };
+    }
+    let field = parse(text, end, end, kind);
+    Next {
+        field: field,
+        end: end,
+    }
+}
+
 // The field behind the tab at a place, by the kind that its place calls for.
-pub(crate) fn field_at(text: &[u8], at: usize, kind: u64) -> Next
-    ensures { λ r. ⌜ r ≡ nextOf kind at (now (text .entry)) ⌝ }
+fn tabbed_at(text: &[u8], at: usize, kind: u64) -> Next
+    ensures { λ r. ⌜ r ≡ tabbedOf kind at (now (text .entry)) ⌝ }
 {
     if at < text.len() {
         if wide(text[at]) == 9 {
@@ -88,6 +107,16 @@ pub(crate) fn field_at(text: &[u8], at: usize, kind: u64) -> Next
         field: Field::Bad,
         end: at,
     }
+}
+
+// By the kind: below 4 the field behind a tab, from 4 on the rest of the text.
+pub(crate) fn field_at(text: &[u8], at: usize, kind: u64) -> Next
+    ensures { λ r. ⌜ r ≡ nextOf kind at (now (text .entry)) ⌝ }
+{
+    if kind < 4 {
+        return tabbed_at(text, at, kind);
+    }
+    rest_at(text, at, kind - 4)
 }
 
 // The same by a field reader, which holds the text and the place: what reads a field calls this.

@@ -26,7 +26,8 @@ ghost use Rattle.trcf.specs.View.{lent, settingsOf, noHead, counting, laid, len
 ghost use Rattle.trcf.specs.Settings.{dimension};
 ghost use Rattle.snapshot.specs.Read.{mayStand, withWeights};
 ghost use Rattle.snapshot.specs.Judge.{countsRead, settingsTold};
-ghost use Rattle.snapshot.specs.Restore.{Fills, Room, FillsOver, told, mapRan, headRead, headOf, headWith, headBy, HeadFew, countsIn, expected, lined, unkept, parts, initial, body, partsOf, bodyBy, Good, filledBy, stateFrom, summed, outcome, restoreOf};
+ghost use Rattle.snapshot.specs.Restore.{outcome, restoreOf};
+ghost use Rattle.snapshot.specs.Runs.{Fills, Room, FillsOver, told, mapRan, headRead, headOf, headWith, headBy, HeadFew, countsIn, expected, lined, unkept, parts, initial, body, partsOf, bodyBy, Good, filledBy, stateFrom, summed};
 
 // The first bad line of the first three or 0, the place behind them, and the head that they give, with no initial values yet.
 pub(crate) struct Header {

@@ -5,7 +5,7 @@ use Rattle.bench_core.proofs.line.method.Statement.{statement}
 use Rattle.bench_core.proofs.line.method.Tie as tie
 use Rattle.bench_core.proofs.line.method.Reads as reads
 use Rattle.bench_core.proofs.line.method.Lts as lts
-use Rattle.snapshot.proofs.field.whole.Reads as whole-reads
+use Rattle.snapshot.proofs.cells.whole.Reads as whole-reads
 
 whole-requires : tie.Need-whole-requires
 whole-requires c κs = search needs

@@ -13,9 +13,9 @@ use Rattle.bench_core.proofs.line.place_of.Reads as place-of-reads
 use Rattle.bench_core.proofs.line.with_double.Reads as with-double-reads
 use Rattle.bench_core.proofs.line.with_single.Reads as with-single-reads
 use Rattle.bench_core.proofs.line.with_whole.Reads as with-whole-reads
-use Rattle.snapshot.proofs.field.double.Reads as double-reads
-use Rattle.snapshot.proofs.field.single.Reads as single-reads
-use Rattle.snapshot.proofs.field.whole.Reads as whole-reads
+use Rattle.snapshot.proofs.cells.double.Reads as double-reads
+use Rattle.snapshot.proofs.cells.single.Reads as single-reads
+use Rattle.snapshot.proofs.cells.whole.Reads as whole-reads
 
 place-of-requires : tie.Need-place-of-requires
 place-of-requires c κs = search needs

@@ -1,20 +1,36 @@
 -- `bench_core::step::step` meets its contract. Assumes nothing.
 use Rattle.bench_core.proofs.StepLaws.{step-short, step-none, step-tab, step-line}
 use Rattle.trcf.specs.View.{lent}
+use Rattle.bench_core.specs.Bench.{stepped, heard, output}
+use mathlib.Core.Path.{_∙_}
 use lib.ListN.{length-take}
 use native.Mathlib.Omega.{arith}
 use borrow.Author.Needs.{needs}
 use Rattle.bench_core.proofs.step.step.Statement.{statement}
 use Rattle.bench_core.proofs.step.step.Tie as tie
 
+idle-requires : tie.Need-idle-requires
+idle-requires c κs = search needs
+
 returns : tie.Need-returns
-returns c = step-short (c .before .before .before .before .before .before .before .before .before .before .args .b) (lent (c .before .before .before .before .before .before .before .before .before .before .args .statistics .now) (c .before .before .before .before .before .before .before .before .before .before .args .last-shingled-input .now) (c .before .before .before .before .before .before .before .before .before .before .args .last-shingled-point .now) (c .before .before .before .before .before .before .before .before .before .before .args .previous-timestamps .now) (c .before .before .before .before .before .before .before .before .before .before .args .initial-values .now) (c .before .before .before .before .before .before .before .before .before .before .args .initial-timestamps .now)) (c .before .before .before .before .before .before .before .before .before .before .args .point .now) (c .before .before .before .before .before .before .before .before .before .before .args .text .now) (c .before .before .before .before .before .before .before .before .before .before .args .out .now) (c .if1 .taken)
+returns c =
+    let a = c .before .before .before .before .before .before .before .before .before .before .before .args in
+    let e = c .idle .ensures in
+    (λ j. stepped (e .0 j) (e .1 j) (heard (e .3 j) (lent (a .statistics .now) (a .last-shingled-input .now) (a .last-shingled-point .now) (a .previous-timestamps .now) (a .initial-values .now) (a .initial-timestamps .now)) (a .point .now) (output (e .2 j) (a .out .now))))
+    ∙ step-short (a .b) (lent (a .statistics .now) (a .last-shingled-input .now) (a .last-shingled-point .now) (a .previous-timestamps .now) (a .initial-values .now) (a .initial-timestamps .now)) (a .point .now) (a .text .now) (a .out .now) (c .before .if1 .taken)
 
 cell-end-requires : tie.Need-cell-end-requires
 cell-end-requires c κs = search needs
 
+idle-requires-2 : tie.Need-idle-requires-2
+idle-requires-2 c κs = search needs
+
 returns-2 : tie.Need-returns-2
-returns-2 c = step-none (c .before .before .before .before .before .before .before .before .before .before .before .before .args .b) (lent (c .before .before .before .before .before .before .before .before .before .before .before .before .args .statistics .now) (c .before .before .before .before .before .before .before .before .before .before .before .before .args .last-shingled-input .now) (c .before .before .before .before .before .before .before .before .before .before .before .before .args .last-shingled-point .now) (c .before .before .before .before .before .before .before .before .before .before .before .before .args .previous-timestamps .now) (c .before .before .before .before .before .before .before .before .before .before .before .before .args .initial-values .now) (c .before .before .before .before .before .before .before .before .before .before .before .before .args .initial-timestamps .now)) (c .before .before .before .before .before .before .before .before .before .before .before .before .args .point .now) (c .before .before .before .before .before .before .before .before .before .before .before .before .args .text .now) (c .before .before .before .before .before .before .before .before .before .before .before .before .args .out .now) (c .before .before .if1 .left) (c .before .cell-end .result) (c .before .cell-end .ensures .0) (c .if2 .taken)
+returns-2 c =
+    let a = c .before .before .before .before .before .before .before .before .before .before .before .before .before .args in
+    let e = c .idle2 .ensures in
+    (λ j. stepped (e .0 j) (e .1 j) (heard (e .3 j) (lent (a .statistics .now) (a .last-shingled-input .now) (a .last-shingled-point .now) (a .previous-timestamps .now) (a .initial-values .now) (a .initial-timestamps .now)) (a .point .now) (output (e .2 j) (a .out .now))))
+    ∙ step-none (a .b) (lent (a .statistics .now) (a .last-shingled-input .now) (a .last-shingled-point .now) (a .previous-timestamps .now) (a .initial-values .now) (a .initial-timestamps .now)) (a .point .now) (a .text .now) (a .out .now) (c .before .before .before .if1 .left) (c .before .before .cell-end .result) (c .before .before .cell-end .ensures .0) (c .before .if2 .taken)
 
 cell-of-requires : tie.Need-cell-of-requires
 cell-of-requires c κs = search needs
@@ -74,8 +90,10 @@ pub step-spec : {M : Type 1} → statement M
 step-spec =
     tie.close
     (tie.spec
+    idle-requires
     returns
     cell-end-requires
+    idle-requires-2
     returns-2
     cell-of-requires
     slice-aggregate-cell

@@ -1,56 +1,25 @@
 -- `snapshot::judge::field_at` meets its contract. Assumes nothing.
 use borrow.Author.Needs.{needs}
-use Prim.Native.Nat.{ℕ, suc, _+_, _-_, _≤_, _<_}
-use native.Mathlib.Omega.{arith}
-use mathlib.Core.Path.{_≡_, refl, sym, ap, _∙_}
-use lib.ListN.{length, drop, getD, length-drop}
-use Rattle.snapshot.specs.Judge.{fieldLength}
-use Rattle.snapshot.proofs.JudgeLaws.{next-yes, next-no, next-end, field-short}
+use mathlib.Core.Path.{_≡_, _∙_}
+use Rattle.snapshot.proofs.JudgeLaws.{next-tabbed, next-rest}
 use Rattle.snapshot.proofs.judge.field_at.Statement.{statement}
 use Rattle.snapshot.proofs.judge.field_at.Tie as tie
 use Rattle.snapshot.proofs.judge.field_at.Reads as reads
 use Rattle.snapshot.proofs.judge.field_at.Lts as lts
-use Rattle.snapshot.proofs.field.parse.Reads as parse-reads
-use Rattle.snapshot.proofs.judge.field_end.Reads as field-end-reads
-use Rattle.snapshot.proofs.judge.wide.Reads as wide-reads
+use Rattle.snapshot.proofs.judge.rest_at.Reads as rest-at-reads
+use Rattle.snapshot.proofs.judge.tabbed_at.Reads as tabbed-at-reads
 
-shared-slice-read-wide : tie.Need-shared-slice-read-wide
-shared-slice-read-wide c = search needs
-
-wide-requires : tie.Need-wide-requires
-wide-requires c κs = search needs
-
-add-from : tie.Need-add-from
-add-from c = search needs
-
-field-end-requires : tie.Need-field-end-requires
-field-end-requires c κs = search needs
-
-parse-requires : tie.Need-parse-requires
-parse-requires c κs =
-    let t = c .before .before .before .before .before .before .args .text .now in
-    let i = c .before .before .before .before .before .before .args .at in
-    let e : c .field-end .result ≡ i + 1 + fieldLength (drop (i + 1) t) = c .field-end .ensures in
-    (omega arith, omega (arith, field-short (drop (i + 1) t), length-drop (i + 1) t))
+tabbed-at-requires : tie.Need-tabbed-at-requires
+tabbed-at-requires c κs = search needs
 
 returns : tie.Need-returns
-returns c = next-yes (c .before .before .before .before .before .before .before .args .kind) (c .before .before .before .before .before .before .before .args .text .now) (c .before .before .before .before .before .before .before .args .at) (c .before .before .before .before .before .if1 .taken) (sym (c .before .before .before .wide .ensures) ∙ c .before .before .if2 .taken) (c .parse .result) (c .before .field-end .result) (c .before .field-end .ensures) (c .parse .ensures)
+returns c = c .tabbed-at .ensures ∙ next-tabbed (c .before .before .before .args .kind) (c .before .before .before .args .text .now) (c .before .before .before .args .at) (c .before .if1 .taken)
+
+rest-at-requires : tie.Need-rest-at-requires
+rest-at-requires c κs = search needs
 
 returns-2 : tie.Need-returns-2
-returns-2 c = next-no (c .before .before .before .before .before .args .kind) (c .before .before .before .before .before .args .text .now) (c .before .before .before .before .before .args .at) (c .before .before .before .if1 .taken) (λ q. c .if2 .left (c .before .wide .ensures ∙ q))
-
-returns-3 : tie.Need-returns-3
-returns-3 c = next-end (c .before .before .args .kind) (c .before .before .args .text .now) (c .before .before .args .at) (c .if1 .left)
+returns-2 c = c .rest-at .ensures ∙ next-rest (c .before .before .before .args .kind) (c .before .before .before .args .text .now) (c .before .before .before .args .at) (c .before .if1 .left)
 
 pub field-at-spec : {M : Type 1} → statement M
-field-at-spec =
-    tie.close
-    (tie.spec
-    shared-slice-read-wide
-    wide-requires
-    add-from
-    field-end-requires
-    parse-requires
-    returns
-    returns-2
-    returns-3)
+field-at-spec = tie.close (tie.spec tabbed-at-requires returns rest-at-requires returns-2)

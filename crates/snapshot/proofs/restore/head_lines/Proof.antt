@@ -7,7 +7,7 @@ use lib.ListN.{length, drop}
 use lib.Seq.{length-take-le}
 use Rattle.trcf.specs.declared.preprocessor.Preprocessor.{Preprocessor}
 use Rattle.snapshot.specs.Judge.{settingsTold, countsRead}
-use Rattle.snapshot.specs.Restore.{Ran, ran, broke, Head, headRead, headOf, HeadFew, mapRan}
+use Rattle.snapshot.specs.Runs.{Ran, ran, broke, Head, headRead, headOf, HeadFew, mapRan}
 use Rattle.snapshot.proofs.JudgeLaws.{got-one, lost-one}
 use Rattle.snapshot.proofs.RunLaws.{told-bad}
 use Rattle.snapshot.proofs.HeadLaws.{head-set, head-wgt, head-cnt, head-all, head-is, set-few}

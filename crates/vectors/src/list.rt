@@ -1,0 +1,136 @@
+// Lists of a line, read into lent memory.
+use crate::field::Cursor;
+use crate::field::also;
+use crate::field::read_double;
+use crate::field::read_single;
+use crate::field::read_whole;
+ghost use mathlib.Core.Path.{_≡_};
+ghost use Prim.Native.Nat.{_≤_};
+ghost use lib.ListN.{length};
+
+// How many were read, and the cursor behind them.
+pub(crate) struct List {
+    pub len: usize,
+    pub cursor: Cursor,
+}
+
+// A length of at most `most`; a longer one is no good, and read as 0.
+pub(crate) fn length_within(line: &[u8], c: Cursor, most: usize) -> List
+    ensures { λ r. ⌜ r .len ≤ most ⌝ }
+{
+    let n = read_whole(line, c);
+    let value = n.value;
+    let cursor = n.cursor;
+    if value > most as u64 {
+        return List {
+            len: 0,
+            cursor: also(cursor, false),
+        };
+    }
+    List {
+        len: value as usize,
+        cursor: cursor,
+    }
+}
+
+// As many numbers as `out` is long.
+pub(crate) fn read_all_singles(line: &[u8], c: Cursor, out: &mut [f32]) -> Cursor {
+    let mut cursor = c;
+    let mut i = 0usize;
+    while i < out.len() {
+        let f = read_single(line, cursor);
+        out[i] = f.value;
+        cursor = f.cursor;
+        i += 1;
+    }
+    cursor
+}
+
+pub(crate) fn read_all_doubles(line: &[u8], c: Cursor, out: &mut [f64]) -> Cursor {
+    let mut cursor = c;
+    let mut i = 0usize;
+    while i < out.len() {
+        let f = read_double(line, cursor);
+        out[i] = f.value;
+        cursor = f.cursor;
+        i += 1;
+    }
+    cursor
+}
+
+pub(crate) fn read_all_wholes(line: &[u8], c: Cursor, out: &mut [u64]) -> Cursor {
+    let mut cursor = c;
+    let mut i = 0usize;
+    while i < out.len() {
+        let f = read_whole(line, cursor);
+        out[i] = f.value;
+        cursor = f.cursor;
+        i += 1;
+    }
+    cursor
+}
+
+// A list, to the front of `out`.
+pub(crate) fn read_singles(line: &[u8], c: Cursor, out: &mut [f32]) -> List
+    ensures { λ r. ⌜ r .len ≤ length (now (out .exit)) ⌝ }
+{
+    let l = length_within(line, c, out.len());
+    let n = l.len;
+    let cursor = read_all_singles(line, l.cursor, &mut out[..n]);
+    List {
+        len: n,
+        cursor: cursor,
+    }
+}
+
+pub(crate) fn read_doubles(line: &[u8], c: Cursor, out: &mut [f64]) -> List
+    ensures { λ r. ⌜ r .len ≤ length (now (out .exit)) ⌝ }
+{
+    let l = length_within(line, c, out.len());
+    let n = l.len;
+    let cursor = read_all_doubles(line, l.cursor, &mut out[..n]);
+    List {
+        len: n,
+        cursor: cursor,
+    }
+}
+
+pub(crate) fn read_wholes(line: &[u8], c: Cursor, out: &mut [u64]) -> List
+    ensures { λ r. ⌜ r .len ≤ length (now (out .exit)) ⌝ }
+{
+    let l = length_within(line, c, out.len());
+    let n = l.len;
+    let cursor = read_all_wholes(line, l.cursor, &mut out[..n]);
+    List {
+        len: n,
+        cursor: cursor,
+    }
+}
+
+// A list that may be given: flag 0, or flag 1 and the list.
+pub(crate) struct Optional {
+    pub given: bool,
+    pub len: usize,
+    pub cursor: Cursor,
+}
+
+pub(crate) fn read_optional(line: &[u8], c: Cursor, out: &mut [f32]) -> Optional
+    ensures { λ r. ⌜ r .len ≤ length (now (out .exit)) ⌝ }
+{
+    let flag = read_whole(line, c);
+    let cursor = flag.cursor;
+    if flag.value != 1 {
+        return Optional {
+            given: false,
+            len: 0,
+            cursor: also(cursor, flag.value == 0),
+        };
+    }
+    let l = read_singles(line, cursor, out);
+    let behind = l.cursor;
+    Optional {
+        given: true,
+        len: l.len,
+        cursor: behind,
+    }
+}

@@ -1,0 +1,167 @@
+// The line that begins a list of the kind preprocessor: `build`.
+use crate::answer::forget_f32;
+use crate::answer::forget_f64;
+use crate::answer::forget_u64;
+use crate::expect::expect_whole;
+use crate::expect::untouched_f32;
+use crate::expect::untouched_f64;
+use crate::expect::untouched_u64;
+use crate::field::Cursor;
+use crate::field::also;
+use crate::field::begin;
+use crate::field::done;
+use crate::field::read_double;
+use crate::field::read_letter;
+use crate::field::read_single;
+use crate::field::read_whole;
+use crate::kinds::method_of;
+use crate::kinds::mode_of;
+use crate::list::read_singles;
+use trcf::preprocessor::Preprocessor;
+use trcf::preprocessor::PreprocessorBuilder;
+use trcf::preprocessor::build;
+
+// Whether a line agrees, and the head after it.
+pub(crate) struct Step {
+    pub good: bool,
+    pub head: Preprocessor,
+}
+
+pub(crate) fn kept(head: Preprocessor, good: bool) -> Step {
+    Step {
+        good: good,
+        head: head,
+    }
+}
+
+// The settings of a line but for the weights.
+struct Settings {
+    builder: PreprocessorBuilder,
+    cursor: Cursor,
+}
+
+fn read_settings(line: &[u8]) -> Settings {
+    let mode = read_letter(line, begin(line));
+    let method = read_whole(line, mode.cursor);
+    let d = read_whole(line, method.cursor);
+    let k = read_whole(line, d.cursor);
+    let start = read_whole(line, k.cursor);
+    let stop = read_whole(line, start.cursor);
+    let decay = read_double(line, stop.cursor);
+    let weight_time = read_single(line, decay.cursor);
+    let cursor = weight_time.cursor;
+    let forest_mode = mode_of(mode.value);
+    let transform_method = method_of(method.value);
+    Settings {
+        builder: PreprocessorBuilder {
+            forest_mode: forest_mode,
+            transform_method: transform_method,
+            input_dimensions: d.value as usize,
+            shingle_size: k.value as usize,
+            start_normalization: start.value as usize,
+            stop_normalization: stop.value as usize,
+            transform_decay: decay.value,
+            weight_time: weight_time.value,
+        },
+        cursor: cursor,
+    }
+}
+
+pub(crate) fn forget(
+    statistics: &mut [f64],
+    inputs: &mut [f32],
+    point: &mut [f32],
+    times: &mut [u64],
+) {
+    forget_f64(statistics);
+    forget_f32(inputs);
+    forget_f32(point);
+    forget_u64(times);
+}
+
+pub(crate) fn untouched(statistics: &[f64], inputs: &[f32], point: &[f32], times: &[u64]) -> bool {
+    untouched_f64(statistics)
+        && untouched_f32(inputs)
+        && untouched_f32(point)
+        && untouched_u64(times)
+}
+
+fn built(
+    line: &[u8],
+    c: Cursor,
+    builder: PreprocessorBuilder,
+    weights: &[f32],
+    statistics: &mut [f64],
+    inputs: &mut [f32],
+    point: &mut [f32],
+    times: &mut [u64],
+    initial_values: &[f32],
+    initial_timestamps: &[u64],
+) -> Step {
+    let made = build(
+        builder,
+        weights,
+        statistics,
+        inputs,
+        point,
+        times,
+        initial_values,
+        initial_timestamps,
+    );
+    let row = made.row;
+    let head = made.head;
+    let old = row == 0 || untouched(statistics, inputs, point, times);
+    let c1 = expect_whole(line, c, row);
+    Step {
+        good: done(line, also(c1, old)),
+        head: head,
+    }
+}
+
+fn read_and_build(
+    line: &[u8],
+    statistics: &mut [f64],
+    inputs: &mut [f32],
+    point: &mut [f32],
+    times: &mut [u64],
+    initial_values: &[f32],
+    initial_timestamps: &[u64],
+) -> Step {
+    let mut weights = [0.0f32; 40];
+    let s = read_settings(line);
+    let w = read_singles(line, s.cursor, &mut weights);
+    let n = w.len;
+    built(
+        line,
+        w.cursor,
+        s.builder,
+        &weights[..n],
+        statistics,
+        inputs,
+        point,
+        times,
+        initial_values,
+        initial_timestamps,
+    )
+}
+
+pub(crate) fn build_line(
+    line: &[u8],
+    statistics: &mut [f64],
+    inputs: &mut [f32],
+    point: &mut [f32],
+    times: &mut [u64],
+    initial_values: &[f32],
+    initial_timestamps: &[u64],
+) -> Step {
+    forget(statistics, inputs, point, times);
+    read_and_build(
+        line,
+        statistics,
+        inputs,
+        point,
+        times,
+        initial_values,
+        initial_timestamps,
+    )
+}
