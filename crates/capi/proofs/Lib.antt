@@ -1,4 +1,5 @@
 pub mod WordLaws
 pub mod HeadLaws
 pub mod CallLaws
+pub mod InUse
 pub mod Examples
