@@ -283,7 +283,8 @@ fn texts(r: &mut Random, number: u64, met: &mut Met) {
         _ => scratched(r, &good),
     };
     let expected = read(&text);
-    let memory = rubbish(r, 16, 64, 1999);
+    let sized = expected.as_ref().map_or(s, |w| &w.settings);
+    let memory = rubbish(r, sized.d, sized.k, sized.start);
     let old = memory.clone();
     met.read += 1;
     met.bad += expected.is_err() as u64;
