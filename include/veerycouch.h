@@ -107,7 +107,7 @@ uint64_t veerycouch_difference_deviations(const uint64_t *head, size_t head_len,
 /* A forecast turned back into readings. values, upper and lower are equally long. In STANDARD they are turned back in their own place (blocks of d
  * numbers, where the method is DIFFERENCE or NORMALIZE_DIFFERENCE; the outputs are left and may be empty). In TIME_AUGMENTED they are blocks of
  * get_dimension numbers, h of them whole: h * d * k numbers go into values_out, upper_out and lower_out, h times into times_out, times_upper_out and
- * times_lower_out; values, upper and lower serve as working memory and are changed. Rows 16, 20. */
+ * times_lower_out; values, upper and lower keep their contents. Rows 16, 20. */
 uint64_t veerycouch_invert_extrapolation(const uint64_t *head, size_t head_len, const double *statistics, size_t statistics_len,
                                          const float *last_shingled_input, size_t last_shingled_input_len, const uint64_t *previous_timestamps,
                                          size_t previous_timestamps_len, float *values, size_t values_len, float *upper, size_t upper_len,
@@ -119,8 +119,8 @@ uint64_t veerycouch_invert_extrapolation(const uint64_t *head, size_t head_len, 
 uint64_t veerycouch_save(const uint64_t *head, size_t head_len, VEERYCOUCH_PARTS(const, const), uint64_t *length, uint8_t *output,
                          size_t output_len);
 
-/* Taking a text up: not in this library yet. Of the parts' contents nothing is read. A text not of the form gives 19 with its first bad line, from 1, in
- * *line. */
+/* Taking a text up: not in this library yet. Of what the parts and the head held nothing is read. A text not of the form gives row 19, with its first
+ * bad line, from 1, in *line; parts or a head too short for it give row 20. */
 #ifdef VEERYCOUCH_WITH_RESTORE
 uint64_t veerycouch_restore(const uint8_t *text, size_t text_len, uint64_t *head, size_t head_len,
                             VEERYCOUCH_PARTS(VEERYCOUCH_WRITTEN, VEERYCOUCH_WRITTEN), uint64_t *line);

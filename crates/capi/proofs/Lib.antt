@@ -1,5 +1,6 @@
 pub mod WordLaws
 pub mod HeadLaws
 pub mod CallLaws
+pub mod InUse
 pub mod Examples
 pub mod RestoreLaws

@@ -91,12 +91,14 @@ abbrev pub learnCalled : ℕ → List ℕ → Lent → Anomaly → List Float �
 learnCalled n w l a deviations past expected =
     record { called = called n w l; anomaly = a; deviationsOut = deviations; pastOut = past; expectedOut = expected }
 
+abbrev pub anomalyTold : Anomaly → LearnOutcome → Anomaly
+anomalyTold a o =
+    anomaly (accepted (o .row) (flag (o .written)) (a .written)) (accepted (o .row) (flag (o .hasAnomaly)) (a .hasAnomaly))
+    (accepted (o .row) (o .pastTimestamp) (a .pastTimestamp)) (accepted (o .row) (o .likelihood) (a .likelihood))
+
 abbrev pub learnTold : List ℕ → Anomaly → LearnOutcome → LearnCalled
 learnTold w a o =
-    learnCalled (o .row) (accepted (o .row) (countsOver w (o .head)) w) (o .lent)
-    (anomaly (accepted (o .row) (flag (o .written)) (a .written)) (accepted (o .row) (flag (o .hasAnomaly)) (a .hasAnomaly))
-    (accepted (o .row) (o .pastTimestamp) (a .pastTimestamp)) (accepted (o .row) (o .likelihood) (a .likelihood)))
-    (o .deviationsOut) (o .pastOut) (o .expectedOut)
+    learnCalled (o .row) (accepted (o .row) (countsOver w (o .head)) w) (o .lent) (anomalyTold a o) (o .deviationsOut) (o .pastOut) (o .expectedOut)
 
 unfoldable pub learnAt : List ℕ → Lent → Anomaly → Learn → LearnCalled
 learnAt w l a c =

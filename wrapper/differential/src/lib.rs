@@ -122,6 +122,9 @@ fn turn_back(p: &Preprocessor, lists: [&[f32]; 3], outs: &[usize; 6], s: &Given)
         }
         return Ok(Answer::Ranges { numbers: [all32(&work[0]), all32(&work[1]), all32(&work[2])], times: None });
     }
+    if work.iter().zip(lists).any(|(w, l)| all32(w) != all32(l)) {
+        return Err("a turn-back with times changed the forecast".to_string());
+    }
     let blocks = lists[0].len() / s.dimension();
     let n = blocks * (s.d * s.k) as usize;
     Ok(Answer::Ranges {

@@ -5,6 +5,7 @@ use oracle::calls::{Answer, Call, Mode, Settings};
 use oracle::random::{bad_settings, settings as random_settings, Calls, Random, FULL};
 use oracle::reference::Reference;
 use oracle::snapshot::Snapshot;
+use oracle::texts::{snapshot, undrained};
 use veerycouch::{Memory, Preprocessor, HEAD_WORDS};
 
 #[derive(Default)]
@@ -273,7 +274,7 @@ fn restarts(r: &mut Random, list: u64, met: &mut Met, s: &Settings, record: &Rec
 #[cfg(feature = "restore")]
 fn texts(r: &mut Random, number: u64, met: &mut Met) {
     use oracle::snapshot::read;
-    use oracle::texts::{damaged, scratched, snapshot, undrained};
+    use oracle::texts::{damaged, scratched};
     let good = if r.once_in(4) { undrained(r, FULL) } else { snapshot(r, FULL) };
     let s = &good.settings;
     let text = match r.below(3) {
@@ -282,7 +283,8 @@ fn texts(r: &mut Random, number: u64, met: &mut Met) {
         _ => scratched(r, &good),
     };
     let expected = read(&text);
-    let memory = rubbish(r, 16, 64, 1999);
+    let sized = expected.as_ref().map_or(s, |w| &w.settings);
+    let memory = rubbish(r, sized.d, sized.k, sized.start);
     let old = memory.clone();
     met.read += 1;
     met.bad += expected.is_err() as u64;
@@ -302,9 +304,30 @@ fn texts(r: &mut Random, number: u64, met: &mut Met) {
     difference(met, number, &format!("text: {what}\n{}", String::from_utf8_lossy(&text)), s, &[]);
 }
 
+/// A state that calls need not reach, laid into the library's memory by hand.
+fn laid(p: Preprocessor, w: &Snapshot) -> Preprocessor {
+    let mut m = p.into_memory();
+    m.head[8..12].copy_from_slice(&[w.values_seen, w.internal, w.count, w.initial.len() as u64]);
+    w.statistics.iter().flatten().zip(&mut m.statistics).for_each(|(x, place)| *place = *x);
+    m.last_shingled_input[..w.inputs.len()].copy_from_slice(&w.inputs);
+    m.last_shingled_point[..w.point.len()].copy_from_slice(&w.point);
+    m.previous_timestamps[..w.times.len()].copy_from_slice(&w.times);
+    for (i, (time, values)) in w.initial.iter().enumerate() {
+        m.initial_timestamps[i] = *time;
+        m.initial_values[i * values.len()..(i + 1) * values.len()].copy_from_slice(values);
+    }
+    Preprocessor::from_memory(m)
+}
+
 fn one(seed: u64, list: u64, met: &mut Met) {
     let mut r = Random::new(seed.wrapping_mul(0x1_0000_0001).wrapping_add(list));
-    let s = random_settings(&mut r, FULL);
+    // Every fifth list starts from a state that calls need not reach.
+    let given = match list % 10 {
+        4 => Some(snapshot(&mut r, FULL)),
+        9 => Some(undrained(&mut r, FULL)),
+        _ => None,
+    };
+    let s = given.as_ref().map_or_else(|| random_settings(&mut r, FULL), |w| w.settings.clone());
     builds(&mut r, met, list, &s);
     met.builds[0] += 1;
     let memory = rubbish(&mut r, s.d, s.k, s.start);
@@ -313,7 +336,11 @@ fn one(seed: u64, list: u64, met: &mut Met) {
         Ok(p) => p,
         Err((refusal, _)) => return difference(met, list, &format!("build: {refusal}"), &s, &[]),
     };
-    let reference = Reference::build(&s).unwrap();
+    let mut reference = Reference::build(&s).unwrap();
+    if let Some(w) = &given {
+        p = laid(p, w);
+        reference = w.restore();
+    }
     let Some(record) = run_list(&mut r, list, met, &s, reference, &mut p) else { return };
     if !past_kept(&old, p.memory(), &s) {
         difference(met, list, "memory past the need was written", &s, &record.calls);
