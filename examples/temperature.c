@@ -1,4 +1,5 @@
-/* One sensor, NORMALIZE, 4 readings a point: learns 20 readings, prints the last point and the text's first line.
+/* One sensor, NORMALIZE, 4 readings a point: learns 20 readings, prints the last point and the text's first line, and takes the text up again in memory
+ * that held something else.
  *   gcc -std=c99 -Wall -Wextra -Iinclude examples/temperature.c target/staticlib/libcapi.a -o temperature && ./temperature */
 #include "veerycouch.h"
 #include <stdio.h>
@@ -40,6 +41,20 @@ int main(void) {
     for (size_t i = 0; i < D * K; i++)
         printf(" %.6f", (double)output[i]);
     printf("\n%llu bytes, the first line: %.*s", (unsigned long long)length, (int)((uint8_t *)memchr(text, '\n', length) - text + 1), (char *)text);
+    memset(statistics, 0xff, sizeof statistics); /* the key was turned off, and on */
+    memset(inputs, 0xff, sizeof inputs);
+    uint64_t line = 0, seen = 0, again = 0;
+    static uint8_t second[sizeof text];
+    row = veerycouch_restore(text, length, head, VEERYCOUCH_HEAD_WORDS, PARTS, &line);
+    if (row == 0)
+        row = veerycouch_values_seen(head, VEERYCOUCH_HEAD_WORDS, &seen);
+    if (row == 0)
+        row = veerycouch_save(head, VEERYCOUCH_HEAD_WORDS, PARTS, &again, second, sizeof second);
+    printf("taken up: row %llu, %llu readings seen, the same text: %s\n", (unsigned long long)row, (unsigned long long)seen,
+           again == length && memcmp(text, second, length) == 0 ? "yes" : "no");
+    text[length - 2] = 'x'; /* a digit of the last line */
+    row = veerycouch_restore(text, length, head, VEERYCOUCH_HEAD_WORDS, PARTS, &line);
+    printf("a damaged text: refused by row %llu, line %llu\n", (unsigned long long)row, (unsigned long long)line);
     head[3] = 65; /* a damaged head is refused as build would */
     row = veerycouch_drain(head, VEERYCOUCH_HEAD_WORDS, PARTS);
     printf("k 65: refused by row %llu\n", (unsigned long long)row);

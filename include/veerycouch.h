@@ -119,12 +119,10 @@ uint64_t veerycouch_invert_extrapolation(const uint64_t *head, size_t head_len, 
 uint64_t veerycouch_save(const uint64_t *head, size_t head_len, VEERYCOUCH_PARTS(const, const), uint64_t *length, uint8_t *output,
                          size_t output_len);
 
-/* Taking a text up: not in this library yet. Of what the parts and the head held nothing is read. A text not of the form gives row 19, with its first
- * bad line, from 1, in *line; parts or a head too short for it give row 20. */
-#ifdef VEERYCOUCH_WITH_RESTORE
+/* Taking a text up: the head into its words, the parts filled; of the parts' contents nothing is read. A text not of the form gives 19 with its first
+ * bad line, from 1, in *line; a part that is too short gives 20. Refused, it has written nothing but that line. */
 uint64_t veerycouch_restore(const uint8_t *text, size_t text_len, uint64_t *head, size_t head_len,
                             VEERYCOUCH_PARTS(VEERYCOUCH_WRITTEN, VEERYCOUCH_WRITTEN), uint64_t *line);
-#endif
 
 /* Each writes one number: readings learnt or awaiting; the number on the panel; readings learnt; 1 where the shingle is full, else 0;
  * w * k; d; k; start; the numbers of the method and of the mode. Rows 1 to 9, 19, 20, of a damaged head. */

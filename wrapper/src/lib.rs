@@ -316,8 +316,12 @@ impl Preprocessor {
         Ok(text)
     }
 
+    /// The text taken up; a text not of the form gives row 19 and its first bad line.
+    pub fn restore(text: &[u8]) -> Result<Preprocessor, (Refusal, u64)> {
+        Preprocessor::restore_in(text, Memory::sized(16, 64, 1999)).map_err(|(refusal, line, _)| (refusal, line))
+    }
+
     /// The text taken up in memory of any contents; a text not of the form gives row 19 and its first bad line.
-    #[cfg(feature = "restore")]
     pub fn restore_in(text: &[u8], mut memory: Memory) -> Result<Preprocessor, (Refusal, u64, Memory)> {
         let m = &mut memory;
         let mut line = 0;

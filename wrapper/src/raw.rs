@@ -66,7 +66,6 @@ extern "C" {
         initial_values: *const f32, initial_values_len: usize, initial_timestamps: *const u64, initial_timestamps_len: usize,
         length: *mut u64, output: *mut u8, output_len: usize,
     ) -> u64;
-    #[cfg(feature = "restore")]
     pub fn veerycouch_restore(
         text: *const u8, text_len: usize, head: *mut u64, head_len: usize, statistics: *mut f64, statistics_len: usize,
         last_shingled_input: *mut f32, last_shingled_input_len: usize, last_shingled_point: *mut f32, last_shingled_point_len: usize,

@@ -130,6 +130,34 @@ fn text_and_its_length() {
 }
 
 #[test]
+fn taken_up() {
+    let s = settings(TransformMethod::Normalize, 1, 2, 3);
+    let mut p = Preprocessor::build(&s).unwrap();
+    for t in 0..2 {
+        learn(&mut p, t as f32, t);
+    }
+    let text = p.save().unwrap();
+    // memory of rubbish, longer than the need
+    let mut memory = Memory::sized(2, 3, 5);
+    memory.statistics.fill(7.0);
+    memory.initial_timestamps.fill(9);
+    let mut q = Preprocessor::restore_in(&text, memory).unwrap();
+    assert_eq!((q.save().unwrap(), q.values_seen()), (text.clone(), Ok(2)));
+    assert_eq!(q.memory().initial_timestamps, [0, 1, 9, 9, 9]);
+    for r in [&mut p, &mut q] {
+        learn(r, 2.0, 2);
+    }
+    assert_eq!((q.shingled_point(&[3.0], 3), q.save()), (p.shingled_point(&[3.0], 3), p.save()));
+    // the waiting readings are missing: the line after the last
+    let cut = text.iter().rposition(|&b| b == b'b').unwrap();
+    let lines = text[..cut].iter().filter(|&&b| b == b'\n').count() as u64;
+    assert_eq!(Preprocessor::restore(&text[..cut]).unwrap_err(), (Refusal(19), lines + 1));
+    let (refusal, _, memory) = Preprocessor::restore_in(&text, Memory::sized(1, 2, 2)).unwrap_err();
+    assert_eq!((refusal, memory.head), (Refusal(20), vec![0; 28]));
+    assert_eq!(Preprocessor::restore(&text).unwrap().save().unwrap(), text);
+}
+
+#[test]
 fn turned_back() {
     let mut s = settings(TransformMethod::Difference, 1, 2, 0);
     let p = Preprocessor::build(&s).unwrap();

@@ -1,5 +1,5 @@
 //! Random lists of calls on the static library and on the unchanged Rust: every answer, refusal and text, what lies past the answers, and
-//! heads that were damaged. Usage: differential SEED LISTS [TEXTS]; TEXTS with the feature `restore`.
+//! heads that were damaged. Usage: differential SEED LISTS [TEXTS].
 use differential::{call, same, settings};
 use oracle::calls::{Answer, Call, Mode, Settings};
 use oracle::random::{bad_settings, settings as random_settings, Calls, Random, FULL};
@@ -243,7 +243,6 @@ fn run_list(r: &mut Random, list: u64, met: &mut Met, s: &Settings, mut referenc
 }
 
 /// From every place: taken up in memory of rubbish, the same later answers and the same last text.
-#[cfg(feature = "restore")]
 fn restarts(r: &mut Random, list: u64, met: &mut Met, s: &Settings, record: &Record) {
     let mut buffer = Vec::new();
     for place in 0..record.texts.len() {
@@ -271,7 +270,6 @@ fn restarts(r: &mut Random, list: u64, met: &mut Met, s: &Settings, record: &Rec
 }
 
 /// A text of the form, or damaged, by the library and by the oracle's reader: taken up and written again, or 19 with the first bad line.
-#[cfg(feature = "restore")]
 fn texts(r: &mut Random, number: u64, met: &mut Met) {
     use oracle::snapshot::read;
     use oracle::texts::{damaged, scratched};
@@ -345,7 +343,6 @@ fn one(seed: u64, list: u64, met: &mut Met) {
     if !past_kept(&old, p.memory(), &s) {
         difference(met, list, "memory past the need was written", &s, &record.calls);
     }
-    #[cfg(feature = "restore")]
     restarts(&mut r, list, met, &s, &record);
 }
 
@@ -356,7 +353,6 @@ fn main() {
     for list in 0..lists {
         one(seed, list, &mut met);
     }
-    #[cfg(feature = "restore")]
     for number in 0..given.get(2).copied().unwrap_or(0) {
         let mut r = Random::new((seed ^ 0x7e87).wrapping_mul(0x1_0000_0001).wrapping_add(number));
         texts(&mut r, number, &mut met);

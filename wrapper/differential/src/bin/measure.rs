@@ -173,6 +173,32 @@ fn save(repeats: usize, start: u64) -> (f64, usize) {
     (median(times), length)
 }
 
+/// Taking up what `save` wrote, in memory of just its size.
+fn restore(repeats: usize, ours: &Preprocessor) -> (f64, f64, usize) {
+    let text = ours.save().unwrap();
+    let mut memory = ours.memory().clone();
+    let mut times = Vec::new();
+    for _ in 0..repeats {
+        let mut taken = None;
+        let lent = memory;
+        times.push(timed(|| taken = Some(Preprocessor::restore_in(black_box(&text), lent).unwrap())));
+        memory = taken.unwrap().into_memory();
+    }
+    let mut output = vec![0; text.len()];
+    let saves = (0..repeats).map(|_| timed(|| black_box(ours).save_into(&mut output).unwrap())).collect();
+    (median(saves), median(times), text.len())
+}
+
+/// A full one: d 16, k 64, start 1,999, all its initial values there.
+fn full() -> Preprocessor {
+    let mut r = Random::new(6);
+    let mut ours = Preprocessor::build(&settings(&given(NORMALIZE, 16, 64, 1999))).unwrap();
+    for t in 0..1999 {
+        ours.post_process(&input(&mut r, 16), t * 10, Learn::default(), &mut [0.0; 16], &mut [], &mut []).unwrap();
+    }
+    ours
+}
+
 /// Both behind a call. Independent: the calls may overlap; dependent: each argument waits for the answer before it.
 fn numbers<T: Copy>(what: &str, repeats: usize, list: &[f64], ours: fn(f64) -> T, machine: fn(f64) -> T, wide: fn(T) -> f64) {
     let independent = |f: fn(f64) -> T| {
@@ -213,6 +239,15 @@ fn main() {
     }
     for start in [1, 10, 100, 500, 1000, 1999] {
         told(&format!("drain, d 1, k 8, start {start}"), drain(repeats, start));
+    }
+    for start in [1, 10, 100, 500, 1000, 1999] {
+        let (_, time, length) = restore(repeats, &awaited(start).1);
+        println!("{:<64} {time:>12.1} {:>12} ({:.2} ns a byte)", format!("restore, d 1, k 8, start {start}, {length} bytes"), "-", time / length as f64);
+    }
+    let (save_time, restore_time, length) = restore(repeats, &full());
+    for (what, time) in [("save", save_time), ("restore", restore_time)] {
+        let speed = length as f64 / time * 1000.0;
+        println!("{:<64} {time:>12.1} {:>12} ({speed:.0} MB/s)", format!("{what}, d 16, k 64, 1,999 initial values, {length} bytes"), "-");
     }
     for start in [1, 10, 100, 500, 1000, 1999] {
         let (time, length) = save(repeats, start);
