@@ -1,23 +1,23 @@
 -- The calls, from what trcf's and snapshot's promise. Assumes nothing.
-use Prim.Native.Nat.{ℕ, zero, suc}
+use Prim.Native.Nat.{ℕ}
 use mathlib.Core.Bool.{Bool}
 use mathlib.Core.List.{List}
-use mathlib.Core.Path.{_≡_, refl, sym, ap, _∙_}
+use mathlib.Core.Path.{_≡_, sym, ap, _∙_}
 use native.Mathlib.Omega.{arith}
 use lib.Ieee.{Float}
 use Rattle.common.specs.Lent.{over}
 use Rattle.trcf.specs.Settings.{Settings, settingsRow}
 use Rattle.trcf.specs.Calls.{Call, Learn, Forecast}
 use Rattle.trcf.specs.Preprocessor.{accepted}
-use Rattle.trcf.specs.View.{Lent, Outcome, outcome, orElse, buildOf, drainOf, PointOutcome, pointed, pointAfter, LearnOutcome, learnOutcome, learnAfter, Written, written, writeOf}
+use Rattle.trcf.specs.View.{Lent, Outcome, outcome, orElse, buildOf, drainOf, pointed, pointAfter, learnOutcome, learnAfter, Written, written, writeOf}
 use Rattle.trcf.specs.Extrapolation.{Extrapolation, extrapolation, extrapolationOf}
 use Rattle.trcf.specs.declared.types.TransformMethod.{TransformMethod}
 use Rattle.trcf.specs.declared.types.ForestMode.{ForestMode}
 use Rattle.trcf.specs.declared.preprocessor.Preprocessor.{Preprocessor}
 use Rattle.trcf.proofs.OutcomeLaws.{accepted-not, orElse-is}
-use Rattle.snapshot.specs.Save.{saveOf, Outcome as Saved, outcome as saved}
+use Rattle.snapshot.specs.Save.{saveOf, outcome as saved}
 use Rattle.capi.specs.Head.{headOf, wordsOf, countsOver, kindRow, shortRow, wordsRow, Read}
-use Rattle.capi.specs.Calls.{onHead, flag, Called, called, drainTold, drainAt, buildTold, buildAt, PointCalled, pointCalled, pointTold, pointAt, Anomaly, anomaly, LearnCalled, learnCalled, learnTold, learnAt, writeAt, extrapolationAt, saveTold, saveAt, Got, got, getAt}
+use Rattle.capi.specs.Calls.{onHead, flag, Called, called, drainTold, drainAt, buildTold, buildAt, pointCalled, pointTold, pointAt, Anomaly, anomaly, learnCalled, learnTold, learnAt, writeAt, extrapolationAt, saveTold, saveAt, got, getAt}
 
 module _ {A : Type 0} where
   -- an answer where a call was not refused

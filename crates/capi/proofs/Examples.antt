@@ -1,10 +1,9 @@
 -- Heads in words, computed. Assumes nothing.
 use Prim.Native.Nat.{ℕ}
-use mathlib.Core.Bool.{true, false}
 use mathlib.Core.List.{List, [], _∷_}
 use mathlib.Core.Path.{_≡_, refl}
 use lib.ListN.{take, set}
-use lib.Ieee.{nan, binary32, binary64, ofBits, toBits, le, lt}
+use lib.Ieee.{nan, binary64, ofBits, toBits, le}
 use Rattle.common.specs.Deviation.{outsideUnit}
 use Rattle.trcf.specs.Transformer.{one32}
 use Rattle.trcf.specs.Settings.{settingsRow, allOne}

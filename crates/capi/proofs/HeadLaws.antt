@@ -16,15 +16,15 @@ use Rattle.common.specs.Deviation.{outsideUnit}
 use Rattle.common.specs.Refusal.{firstOf}
 use Rattle.trcf.specs.Types.{methodNumber, isNone}
 use Rattle.trcf.specs.Settings.{Settings, settingsRow, imputes, allOne}
-use Rattle.trcf.specs.Preprocessor.{accepted, statisticsLength, fresh}
+use Rattle.trcf.specs.Preprocessor.{accepted, fresh}
 use Rattle.trcf.specs.View.{Lent, Outcome, outcome, settingsOf, headFrom, noHead, laid, misfit, shortRow, lentShort, lentRow, orElse, buildRow, buildOf, counting}
 use Rattle.trcf.specs.declared.types.TransformMethod.{TransformMethod}
 use Rattle.trcf.specs.declared.types.TransformMethod.the-variants.{NONE, WEIGHTED, DIFFERENCE, «SUBTRACT_MA», NORMALIZE, «NORMALIZE_DIFFERENCE»}
 use Rattle.trcf.specs.declared.types.ForestMode.{ForestMode}
 use Rattle.trcf.specs.declared.types.ForestMode.the-variants.{STANDARD, «TIME_AUGMENTED», «STREAMING_IMPUTE»}
 use Rattle.trcf.specs.declared.preprocessor.Preprocessor.{Preprocessor}
-use Rattle.trcf.proofs.OutcomeLaws.{accepted-not, orElse-is}
-use Rattle.capi.specs.Head.{modeNumber, modeOf, methodOf, kindRow, single, headOf, numbersOf, wordsOf, countsOver, shortRow as fewRow, wordsRow, Read, Held}
+use Rattle.trcf.proofs.OutcomeLaws.{orElse-is}
+use Rattle.capi.specs.Head.{modeNumber, modeOf, methodOf, kindRow, single, headOf, numbersOf, wordsOf, countsOver, shortRow as fewRow, wordsRow, Held}
 use Rattle.capi.proofs.WordLaws.{mode-back, method-back, single-back, singles-back}
 
 -- ---- reading
@@ -209,10 +209,6 @@ twelve (x₀ ∷ x₁ ∷ x₂ ∷ x₃ ∷ x₄ ∷ x₅ ∷ x₆ ∷ x₇ ∷ 
 twelve (x₀ ∷ x₁ ∷ x₂ ∷ x₃ ∷ x₄ ∷ x₅ ∷ x₆ ∷ x₇ ∷ x₈ ∷ []) a b c d e f g h i j k l n = absurd (omega arith)
 twelve (x₀ ∷ x₁ ∷ x₂ ∷ x₃ ∷ x₄ ∷ x₅ ∷ x₆ ∷ x₇ ∷ x₈ ∷ x₉ ∷ []) a b c d e f g h i j k l n = absurd (omega arith)
 twelve (x₀ ∷ x₁ ∷ x₂ ∷ x₃ ∷ x₄ ∷ x₅ ∷ x₆ ∷ x₇ ∷ x₈ ∷ x₉ ∷ x₁₀ ∷ []) a b c d e f g h i j k l n = absurd (omega arith)
-
-numbers-over : (w : List ℕ) (h : Preprocessor) → over w (numbersOf h) ≡ numbersOf h ++ drop 12 w
-unfolding over numbersOf
-numbers-over w h = refl
 
 pub numbers-stored : (w : List ℕ) (h : Preprocessor) {a b g i : ℕ} → 12 ≤ length w
     → a ≡ modeNumber (h .«forest_mode») → b ≡ methodNumber (h .transformer .«transform_method») → g ≡ toBits binary64 (h .transformer .«transform_decay») → i ≡ toBits binary32 (h .«weight_time»)

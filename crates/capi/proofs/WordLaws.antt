@@ -1,15 +1,15 @@
 -- Bits and kinds, and lists filled from the front. Assumes nothing.
-use Prim.Native.Nat.{ℕ, zero, suc, _+_, _%_, _≤_, _<_}
-use mathlib.Core.Bool.{Bool, true, false}
+use Prim.Native.Nat.{ℕ, zero, suc, _+_, _<_}
+use mathlib.Core.Bool.{true}
 use mathlib.Core.List.{List, [], _∷_, _++_, map}
 use mathlib.Core.Path.{_≡_, refl, sym, ap, _∙_, subst}
 use native.Mathlib.Omega.{arith}
 use native.Mathlib.Numerals.{add-one}
 use native.Mathlib.Nat.{mod-eq-of-lt}
 use lib.Dec.{T}
-use lib.ListN.{length, take, drop, getD, set}
+use lib.ListN.{length, take, getD, set}
 use lib.Seq.{take-suc, take-suc-set, take-all}
-use lib.Ieee.{Float, nan, inf, fin, Format, binary32, binary64, fits, div, isNan, nanBits, ofBits, toBits}
+use lib.Ieee.{Float, nan, inf, fin, Format, binary32, fits, div, isNan, nanBits, ofBits, toBits}
 use lib.Ieee.Bits.{nanBits-is, ofBits-toBits, toBits-lt}
 use Rattle.trcf.specs.Fit.{Fits}
 use Rattle.trcf.specs.Types.{methodNumber}

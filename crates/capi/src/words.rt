@@ -2,13 +2,12 @@
 use trcf::types::ForestMode;
 use trcf::types::TransformMethod;
 ghost use mathlib.Core.Path.{_≡_};
-ghost use mathlib.Core.List.{map};
-ghost use lib.ListN.{length};
 ghost use lib.Ieee.{binary32, binary64, ofBits, toBits};
 ghost use Rattle.trcf.specs.Types.{methodNumber};
 ghost use Rattle.capi.specs.Head.{modeNumber, modeOf, methodOf, kindRow, single};
 
-// Both are undefined at a not-a-number: every pattern of one is read as the same, and the text's pattern is written.
+// `from_bits` and `to_bits` are undefined at a not-a-number, so it is tested for first: every pattern of one is read as the same, and the text's
+// pattern is written.
 pub(crate) fn single_of(n: u64) -> f32
     ensures { λ r. ⌜ r ≡ single n ⌝ }
 {
