@@ -12,6 +12,7 @@ pub mod OutcomeLaws
 pub mod DrainLaws
 pub mod StateLaws
 pub mod LearnLaws
+pub mod WayLaws
 pub mod ViewLaws
 pub mod ViewExamples
 pub mod ExtrapolationLaws

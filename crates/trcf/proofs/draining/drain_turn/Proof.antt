@@ -84,13 +84,13 @@ shift-time-requires : tie.Need-shift-time-requires
 shift-time-requires c κs = search needs
 
 same-length : tie.Need-same-length
-same-length c = search needs
+same-length c = c .before .before .before .before .before .before .before .before .before .before .before .shift-vector .kept .0
 
 same-length-2 : tie.Need-same-length-2
-same-length-2 c = search needs
+same-length-2 c = c .before .before .before .before .before .before .shift-vector2 .kept .0
 
 same-length-3 : tie.Need-same-length-3
-same-length-3 c = search needs
+same-length-3 c = c .before .before .shift-time .kept .0
 
 returns : tie.Need-returns
 returns c = let a = c .before .before .before .before .before .before .before .before .before .before .before .before .before .before .before .before .before .before .before .before .before .before .before .before .before .before .before .before .before .args in let d = a .head .transformer .«input_length» in let n = length (a .stamps .now) in let e = c .before .before .before .before .before .before .before .before .before .before .before .before .before .before .before .before .before .before .before .before .before .block-of .ensures .0 ∙ sym (block-is (settingsOf (a .head))) in (c .before .before .before .before .before .before .before .before .before .before .before .shift-vector .ensures ∙ ap (shiftIn (a .inputs .now)) (block-cut (a .i) d (a .values .now)), (c .before .before .before .before .before .before .shift-vector2 .ensures ∙ point-cut (settingsOf (a .head)) (a .s .now) (a .head .«values_seen») _ d (a .values .now) (a .i) _ _ _ (a .points .now) (c .before .before .before .before .before .before .before .before .before .before .before .before .before .before .before .before .before .before .before .before .before .block-of .result) e (c .before .before .before .before .before .before .before .before .before .before .before .before .before .before .before .write-transform .ensures), c .before .before .shift-time .ensures))

@@ -74,7 +74,7 @@ feed-reading-requires : tie.Need-feed-reading-requires
 feed-reading-requires c κs = search needs
 
 same-length : tie.Need-same-length
-same-length c = search needs
+same-length c = c .before .before .feed-reading .kept .1 .1 .0
 
 returns : tie.Need-returns
 returns c = let a = c .before .before .before .before .before .before .before .before .before .before .before .before .before .args in let d = a .head .transformer .«input_length» in let n = length (a .stamps .now) in c .before .before .feed-reading .ensures ∙ feed-cut (settingsOf (a .head)) (a .head .transformer .count + a .i) (a .s .now) d (a .values .now) (a .stamps .now) (c .before .before .before .before .before .before .before .before .place-before .result) (a .i) (c .before .before .before .before .before .before .before .before .place-before .ensures)

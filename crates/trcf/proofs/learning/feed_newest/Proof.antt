@@ -34,7 +34,7 @@ feed-reading-requires : tie.Need-feed-reading-requires
 feed-reading-requires c κs = let a = c .before .before .before .before .before .before .before .before .before .args in let h = a .head in let q = c .before .before .before .before .before .before .before .before .before .pre in let d = h .transformer .«input_length» in let m = le-mul-of-pos-right d (q .0 .k-pos) in (q .0, (q .1 .0 .all-statistics, (q .1 .1 .1 (c .before .before .before .before .if1 .taken), (simp (length-drop, length-take) (omega (arith, q .1 .0)), q .1 .1 .0))))
 
 same-length : tie.Need-same-length
-same-length c = search needs
+same-length c = c .before .before .feed-reading .kept .1 .1 .0
 
 returns : tie.Need-returns
 unfolding previous

@@ -22,7 +22,7 @@ slice-write-initial-timestamps : tie.Need-slice-write-initial-timestamps
 slice-write-initial-timestamps c = search needs
 
 same-length : tie.Need-same-length
-same-length c = search needs
+same-length c = c .before .before .copy-in .kept .0
 
 same-length-2 : tie.Need-same-length-2
 same-length-2 c = search needs

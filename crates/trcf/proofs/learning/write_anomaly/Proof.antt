@@ -77,10 +77,10 @@ shared-slice-read-result : tie.Need-shared-slice-read-result
 shared-slice-read-result c = let a = c .before .before .before .before .before .before .before .before .before .before .before .before .before .before .before .before .before .before .before .before .args in let h = a .head in let q = c .before .before .before .before .before .before .before .before .before .before .before .before .before .before .before .before .before .before .before .before .pre in let d = h .transformer .«input_length» in omega (arith, q, q .1 .0)
 
 same-length : tie.Need-same-length
-same-length c = search needs
+same-length c = c .before .before .before .before .before .before .before .before .before .write-past .kept .1 .1 .1 .1 .0
 
 same-length-2 : tie.Need-same-length-2
-same-length-2 c = search needs
+same-length-2 c = c .before .before .before .invert-into .kept .1 .1 .1 .1 .0
 
 returns : tie.Need-returns
 unfolding blockFrom

@@ -14,7 +14,7 @@ write-deviations-requires : tie.Need-write-deviations-requires
 write-deviations-requires c κs = let a = c .before .before .before .before .args in let h = a .head in let q = c .before .before .before .before .pre in let d = h .transformer .«input_length» in (q .0, (q .1 .0, q .1 .1 .1 (eq-eqb (suc (h .«values_seen»)) (h .«start_normalization») (omega arith))))
 
 same-length : tie.Need-same-length
-same-length c = search needs
+same-length c = c .before .before .write-deviations .kept .1 .1 .0
 
 returns : tie.Need-returns
 returns c = let a = c .before .before .before .before .before .before .before .args in let h = a .head in let q = c .before .before .before .before .before .before .before .pre in let d = h .transformer .«input_length» in let e = eq-eqb (suc (h .«values_seen»)) (h .«start_normalization») (omega arith) in (sym e, rw e (c .before .before .write-deviations .ensures))

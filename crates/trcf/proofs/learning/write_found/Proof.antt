@@ -15,10 +15,10 @@ write-anomaly-requires : tie.Need-write-anomaly-requires
 write-anomaly-requires c κs = let q = c .before .before .before .before .before .before .before .before .before .before .before .pre in let f = q .1 .1 .1 (sym (c .before .before .before .is-anomaly .ensures) ∙ not-false _ (c .before .before .if1 .left)) in (q .0, (q .1 .0, (q .1 .1 .0, (f .all-expected, (f .inside, (f .past-room, f .expected-room))))))
 
 same-length : tie.Need-same-length
-same-length c = search needs
+same-length c = c .before .before .before .before .write-anomaly .kept .1 .1 .1 .1 .1 .1 .1 .0
 
 same-length-2 : tie.Need-same-length-2
-same-length-2 c = search needs
+same-length-2 c = c .before .before .before .before .write-anomaly .kept .1 .1 .1 .1 .1 .1 .1 .1 .0
 
 returns-2 : tie.Need-returns-2
 returns-2 c = let e = sym (c .before .before .before .before .before .before .before .before .is-anomaly .ensures) ∙ not-false _ (c .before .before .before .before .before .before .before .if1 .left) in let r = c .before .before .before .before .write-anomaly .ensures in (sym e, (rw e (r .0), (rw e (r .1 .0), rw e (r .1 .1))))

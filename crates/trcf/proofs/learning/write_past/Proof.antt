@@ -44,13 +44,13 @@ copy-in-requires-2 : tie.Need-copy-in-requires-2
 copy-in-requires-2 c κs = search needs
 
 same-length : tie.Need-same-length
-same-length c = search needs
+same-length c = c .before .before .copy-in .kept .0
 
 returns : tie.Need-returns
 returns c = rw (eq-eqb _ _ (c .before .before .before .before .if1 .taken)) (c .before .before .copy-in .ensures ∙ paste-over _ _)
 
 same-length-2 : tie.Need-same-length-2
-same-length-2 c = search needs
+same-length-2 c = c .before .before .copy-in2 .kept .0
 
 returns-2 : tie.Need-returns-2
 unfolding blockFrom

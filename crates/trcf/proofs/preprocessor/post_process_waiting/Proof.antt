@@ -41,13 +41,13 @@ with-counts-requires : tie.Need-with-counts-requires
 with-counts-requires c κs = search needs
 
 same-length : tie.Need-same-length
-same-length c = search needs
+same-length c = c .before .before .before .before .before .before .before .before .before .before .hold .kept .1 .0
 
 same-length-2 : tie.Need-same-length-2
-same-length-2 c = search needs
+same-length-2 c = c .before .before .before .before .before .before .before .before .before .before .hold .kept .1 .1 .0
 
 same-length-3 : tie.Need-same-length-3
-same-length-3 c = search needs
+same-length-3 c = c .before .before .before .write-completing .kept .1 .1 .0
 
 returns : tie.Need-returns
 returns c = let a = c .before .before .before .before .before .before .before .before .before .before .before .before .before .before .before .before .before .before .before .args in let h = a .head in let q = c .before .before .before .before .before .before .before .before .before .before .before .before .before .before .before .before .before .before .before .pre in let W = c .before .before .before .write-completing .ensures in let H = c .before .before .before .before .before .before .before .before .before .before .hold .ensures in ((rw (c .with-counts .ensures, W .0) (λ j. answering (counting h (h .transformer .count) (add-one (h .«values_seen») j) (h .«internal_timestamp») (add-one (h .«initial_len») j)) (eqb (suc (h .«values_seen»)) (h .«start_normalization»)) false 0 zero32)), (H .0, (H .1, W .1)))

@@ -15,7 +15,7 @@ write-row-requires : tie.Need-write-row-requires
 write-row-requires c κs = search needs
 
 same-length : tie.Need-same-length
-same-length c = search needs
+same-length c = refl
 
 returns : tie.Need-returns
 returns c = let e = (c .before .write-row .ensures .0 ∙ shift-row _ _ _) in rw e (write-refused _ _ _ _ (λ z. c .if1 .taken (e ∙ z)))
@@ -39,7 +39,7 @@ write-shift-requires : tie.Need-write-shift-requires
 write-shift-requires c κs = let r = c .before .before .before .before .before .write-row .ensures .1 .0 (c .before .before .before .before .if1 .left) in (r .bounded, (length-take-le _ _ (r .fitted .roomy .in-statistics), c .before .before .before .before .before .write-row .ensures .1 .1 (c .before .before .before .before .if1 .left)))
 
 same-length-2 : tie.Need-same-length-2
-same-length-2 c = search needs
+same-length-2 c = c .before .before .write-shift .kept .1 .1 .1 .0
 
 returns-2 : tie.Need-returns-2
 unfolding reply view shiftOf

@@ -17,7 +17,7 @@ panel-requires : tie.Need-panel-requires
 panel-requires c κs = search needs
 
 same-length : tie.Need-same-length
-same-length c = search needs
+same-length c = c .before .before .before .before .before .before .difference-deviations .kept .1 .1 .1 .1 .1 .1 .1 .0
 
 returns : tie.Need-returns
 returns c = rw (c .panel .ensures, c .before .get-dimension .ensures, c .before .before .is-ready .ensures) (status-told _ _ _ _ (c .before .before .before .before .before .before .difference-deviations .ensures))

@@ -1,4 +1,5 @@
 -- `trcf::transformer::put_deviations` meets its contract: five statistics put, one after the other. Assumes nothing.
+use mathlib.Core.Path.{_∙_}
 use Rattle.trcf.specs.Transformer.{putDeviations}
 use borrow.Author.Needs.{needs}
 use Rattle.trcf.proofs.transformer.put_deviations.Statement.{statement}
@@ -41,7 +42,7 @@ put-statistic-requires-5 : tie.Need-put-statistic-requires-5
 put-statistic-requires-5 c κs = search needs
 
 same-length : tie.Need-same-length
-same-length c = search needs
+same-length c = c .before .before .put-statistic5 .kept .0 ∙ c .before .before .before .before .before .before .put-statistic4 .kept .0 ∙ c .before .before .before .before .before .before .before .before .before .before .put-statistic3 .kept .0 ∙ c .before .before .before .before .before .before .before .before .before .before .before .before .before .before .put-statistic2 .kept .0 ∙ c .before .before .before .before .before .before .before .before .before .before .before .before .before .before .before .before .before .before .put-statistic .kept .0
 
 returns : tie.Need-returns
 unfolding putDeviations
