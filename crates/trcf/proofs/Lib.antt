@@ -10,6 +10,7 @@ pub mod RefusalLaws
 pub mod OutputLaws
 pub mod OutcomeLaws
 pub mod DrainLaws
+pub mod BoundLaws
 pub mod StateLaws
 pub mod LearnLaws
 pub mod WayLaws

@@ -25,13 +25,13 @@ copy-in-requires : tie.Need-copy-in-requires
 copy-in-requires c κs = let a = c .before .before .before .before .before .before .before .before .before .before .before .before .before .args in let d = a .head .transformer .«input_length» in let q = c .before .before .before .before .before .before .before .before .before .before .before .before .before .pre in let m = le-mul-of-pos-right d (q .0 .k-pos) in let f = block-in 0 (length (a .stamps .now)) d (omega (arith, q)) in simp length-take (omega (arith, q))
 
 shared-slice-read-times : tie.Need-shared-slice-read-times
-shared-slice-read-times c = search needs
+shared-slice-read-times c = omega arith
 
 sub-times : tie.Need-sub-times
-sub-times c = search needs
+sub-times c = omega arith
 
 mul-times : tie.Need-mul-times
-mul-times c = search needs
+mul-times c = omega arith
 
 slice-write-times : tie.Need-slice-write-times
 slice-write-times c = search needs

@@ -7,24 +7,23 @@ use Rattle.trcf.specs.Preprocessor.{previous, numbersOf, timesOf}
 use Rattle.trcf.specs.View.{view}
 use Rattle.trcf.specs.Extrapolation.{forecast, viewed}
 use Rattle.trcf.proofs.ExtrapolationLaws.{augmented-is, standard-is}
-use borrow.Author.Needs.{needs}
 use Rattle.trcf.proofs.extrapolation.invert_accepted.Statement.{statement}
 use Rattle.trcf.proofs.extrapolation.invert_accepted.Tie as tie
 
 mul-m : tie.Need-mul-m
-mul-m c = search needs
+mul-m c = omega arith
 
 add-m : tie.Need-add-m
-add-m c = search needs
+add-m c = omega arith
 
 mul-m-2 : tie.Need-mul-m-2
-mul-m-2 c = search needs
+mul-m-2 c = omega arith
 
 mul-n : tie.Need-mul-n
-mul-n c = search needs
+mul-n c = omega arith
 
 is-augmented-requires : tie.Need-is-augmented-requires
-is-augmented-requires c κs = search needs
+is-augmented-requires c κs = tt
 
 slice-aggregate-invert-augmented : tie.Need-slice-aggregate-invert-augmented
 slice-aggregate-invert-augmented c =

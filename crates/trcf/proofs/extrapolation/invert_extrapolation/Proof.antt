@@ -2,12 +2,11 @@
 use Rattle.common.specs.RangeVector.{ranges}
 use Rattle.trcf.specs.Extrapolation.{forecast}
 use Rattle.trcf.proofs.ExtrapolationLaws.{refused-is, done-is}
-use borrow.Author.Needs.{needs}
 use Rattle.trcf.proofs.extrapolation.invert_extrapolation.Statement.{statement}
 use Rattle.trcf.proofs.extrapolation.invert_extrapolation.Tie as tie
 
 extrapolation-row-requires : tie.Need-extrapolation-row-requires
-extrapolation-row-requires c κs = search needs
+extrapolation-row-requires c κs = tt
 
 returns : tie.Need-returns
 returns c =

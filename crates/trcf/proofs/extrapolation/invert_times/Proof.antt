@@ -21,7 +21,7 @@ dimension-of-requires : tie.Need-dimension-of-requires
 dimension-of-requires c κs = search needs
 
 time-factor-requires : tie.Need-time-factor-requires
-time-factor-requires c κs = search needs
+time-factor-requires c κs = tt
 
 timescale-of-requires : tie.Need-timescale-of-requires
 timescale-of-requires c κs = search needs

@@ -3,7 +3,6 @@ use native.Mathlib.Omega.{arith}
 use borrow.Author.Tests.{not-true, not-false, lt-ltb, le-ltb, eq-eqb, ne-eqb, le-leb, lt-leb}
 use mathlib.Core.Path.{_≡_, refl, sym, ap, _∙_}
 use Rattle.trcf.specs.View.{inputRow}
-use borrow.Author.Needs.{needs}
 use Rattle.trcf.proofs.learn_refusal.input_row.Statement.{statement}
 use Rattle.trcf.proofs.learn_refusal.input_row.Tie as tie
 
@@ -12,10 +11,10 @@ unfolding inputRow
 returns c = (rw (ne-eqb _ _ (c .if1 .taken)), λ e. absurd (omega (arith, e)))
 
 all-finite-requires : tie.Need-all-finite-requires
-all-finite-requires c κs = search needs
+all-finite-requires c κs = tt
 
 newest-of-requires : tie.Need-newest-of-requires
-newest-of-requires c κs = search needs
+newest-of-requires c κs = tt
 
 returns-2 : tie.Need-returns-2
 unfolding inputRow

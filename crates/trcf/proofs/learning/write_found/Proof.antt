@@ -1,12 +1,11 @@
 -- `trcf::learning::write_found` meets its contract: by its callees' promises and the laws of lists. Assumes nothing.
 use borrow.Author.Tests.{not-true, not-false, lt-ltb, le-ltb, eq-eqb, ne-eqb, le-leb, lt-leb}
 use mathlib.Core.Path.{_≡_, refl, sym, ap, _∙_}
-use borrow.Author.Needs.{needs}
 use Rattle.trcf.proofs.learning.write_found.Statement.{statement}
 use Rattle.trcf.proofs.learning.write_found.Tie as tie
 
 is-anomaly-requires : tie.Need-is-anomaly-requires
-is-anomaly-requires c κs = search needs
+is-anomaly-requires c κs = tt
 
 returns : tie.Need-returns
 returns c = let e = sym (c .before .is-anomaly .ensures) ∙ not-true _ (c .if1 .taken) in (sym e, (rw e, (rw e, rw e)))

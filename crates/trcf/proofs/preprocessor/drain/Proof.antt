@@ -2,12 +2,11 @@
 use mathlib.Core.Path.{_≡_, refl, sym, ap, _∙_}
 use Rattle.trcf.specs.View.{lent}
 use Rattle.trcf.proofs.StateLaws.{drain-refused, drain-done}
-use borrow.Author.Needs.{needs}
 use Rattle.trcf.proofs.preprocessor.drain.Statement.{statement}
 use Rattle.trcf.proofs.preprocessor.drain.Tie as tie
 
 drain-row-requires : tie.Need-drain-row-requires
-drain-row-requires c κs = search needs
+drain-row-requires c κs = tt
 
 same-length : tie.Need-same-length
 same-length c = refl

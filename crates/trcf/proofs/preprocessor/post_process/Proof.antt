@@ -5,15 +5,14 @@ use mathlib.Core.Path.{refl}
 use mir.Syntax.{w32}
 use mir.ValLaws.{toZ-ofZ}
 use Rattle.trcf.proofs.WayLaws.{way-refused, way-held, way-none, way-learnt, room-held, room-learnt}
-use borrow.Author.Needs.{needs}
 use Rattle.trcf.proofs.preprocessor.post_process.Statement.{statement}
 use Rattle.trcf.proofs.preprocessor.post_process.Tie as tie
 
 post-process-row-requires : tie.Need-post-process-row-requires
-post-process-row-requires c κs = search needs
+post-process-row-requires c κs = tt
 
 unlearned-requires : tie.Need-unlearned-requires
-unlearned-requires c κs = search needs
+unlearned-requires c κs = tt
 
 same-length : tie.Need-same-length
 same-length c = refl
@@ -50,7 +49,7 @@ returns c =
     way-refused (a .head) (a .statistics .now) (a .last-shingled-input .now) (a .last-shingled-point .now) (a .previous-timestamps .now) (a .initial-values .now) (a .initial-timestamps .now) (a .input .now) (a .timestamp) (a .has-y) (a .y .now) (a .expects) (a .expected .now) (a .grade) (a .relative-index) (toZ w32 (ofZ w32 (a .relative-index))) (a .deviations-out .now) (a .past-out .now) (a .expected-out .now) u (o .result) (o .ensures .0) (c .before .if1 .taken) (c .unlearned .result) (c .unlearned .ensures)
 
 is-waiting-requires : tie.Need-is-waiting-requires
-is-waiting-requires c κs = search needs
+is-waiting-requires c κs = tt
 
 post-process-waiting-requires : tie.Need-post-process-waiting-requires
 post-process-waiting-requires c κs =
@@ -95,7 +94,7 @@ returns-2 c =
     way-held (a .head) (a .statistics .now) (a .last-shingled-input .now) (a .last-shingled-point .now) (a .previous-timestamps .now) (a .initial-values .now) (a .initial-timestamps .now) (a .input .now) (a .timestamp) (a .has-y) (a .y .now) (a .expects) (a .expected .now) (a .grade) (a .relative-index) (toZ w32 (ofZ w32 (a .relative-index))) (a .deviations-out .now) (a .past-out .now) (a .expected-out .now) u (o .result) (o .ensures .0) (o .ensures .1 .0) (c .before .before .before .before .before .before .before .before .before .before .before .before .before .if1 .left) (c .before .before .before .before .before .before .before .before .before .before .before .before .is-waiting .result) (c .before .before .before .before .before .before .before .before .before .before .before .before .is-waiting .ensures) (c .before .before .before .before .before .before .before .before .before .before .before .if2 .taken) (w .result) _ _ _ (w .ensures .0) (w .ensures .1 .0) (w .ensures .1 .1 .0) (w .ensures .1 .1 .1)
 
 unlearned-requires-2 : tie.Need-unlearned-requires-2
-unlearned-requires-2 c κs = search needs
+unlearned-requires-2 c κs = tt
 
 same-length-19 : tie.Need-same-length-19
 same-length-19 c = refl
@@ -132,7 +131,7 @@ returns-3 c =
     way-none (a .head) (a .statistics .now) (a .last-shingled-input .now) (a .last-shingled-point .now) (a .previous-timestamps .now) (a .initial-values .now) (a .initial-timestamps .now) (a .input .now) (a .timestamp) (a .has-y) (a .y .now) (a .expects) (a .expected .now) (a .grade) (a .relative-index) (toZ w32 (ofZ w32 (a .relative-index))) (a .deviations-out .now) (a .past-out .now) (a .expected-out .now) u (o .result) (o .ensures .0) (o .ensures .1 .0) (c .before .before .before .before .if1 .left) (c .before .before .before .is-waiting .result) (c .before .before .before .is-waiting .ensures) (c .before .before .if2 .left) (not-true (a .has-y) (c .before .if3 .taken)) (c .unlearned2 .result) (c .unlearned2 .ensures)
 
 places-back-requires : tie.Need-places-back-requires
-places-back-requires c κs = search needs
+places-back-requires c κs = tt
 
 post-process-learning-requires : tie.Need-post-process-learning-requires
 post-process-learning-requires c κs =

@@ -6,12 +6,11 @@ use Rattle.common.specs.Lent.{over}
 use Rattle.trcf.specs.Preprocessor.{State, pointOf, reading, drained, previous}
 use Rattle.trcf.specs.View.{lent, view, counted, Outcome}
 use Rattle.trcf.proofs.StateLaws.{point-refused, point-waits, point-done, past-room, past-long}
-use borrow.Author.Needs.{needs}
 use Rattle.trcf.proofs.preprocessor.shingled_point.Statement.{statement}
 use Rattle.trcf.proofs.preprocessor.shingled_point.Tie as tie
 
 shingled-point-row-requires : tie.Need-shingled-point-row-requires
-shingled-point-row-requires c κs = search needs
+shingled-point-row-requires c κs = tt
 
 same-length : tie.Need-same-length
 same-length c = refl
@@ -39,7 +38,7 @@ returns c =
     rw e (point-refused h l x (a .timestamp) o (λ z. c .if1 .taken (e ∙ z)))
 
 is-waiting-requires : tie.Need-is-waiting-requires
-is-waiting-requires c κs = search needs
+is-waiting-requires c κs = tt
 
 same-length-6 : tie.Need-same-length-6
 same-length-6 c = refl

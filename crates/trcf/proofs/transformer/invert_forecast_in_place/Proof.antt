@@ -10,7 +10,7 @@ use Rattle.trcf.proofs.transformer.invert_forecast_in_place.Statement.{
 use Rattle.trcf.proofs.transformer.invert_forecast_in_place.Tie as tie
 
 is-differencing-requires : tie.Need-is-differencing-requires
-is-differencing-requires c κs = search needs
+is-differencing-requires c κs = tt
 
 invert-channels-requires : tie.Need-invert-channels-requires
 invert-channels-requires c κs = search needs
