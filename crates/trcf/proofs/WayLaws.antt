@@ -1,4 +1,4 @@
--- The ways out of `post_process`, from the promises of what it calls, over plain lists: its proof then only names them. Assumes nothing.
+-- The ways out of `drain`, `shingled_point` and `post_process`, from the promises of what they call, over plain lists: their proofs then only name them. Assumes nothing.
 use Prim.Native.Nat.{ℕ, suc, _*_, _≤_, _<_}
 use mathlib.Core.Path.{_≡_, sym, ap, subst, _∙_}
 use mathlib.Core.Bool.{Bool, true, false, cond, _&&_}
@@ -10,12 +10,55 @@ use lib.ListN.{length, take}
 use Rattle.common.specs.Lent.{over}
 use Rattle.trcf.specs.Transformer.{zero32}
 use Rattle.trcf.specs.Settings.{waiting, block, dimension}
-use Rattle.trcf.specs.Calls.{postProcess}
-use Rattle.trcf.specs.Preprocessor.{statisticsLength, deviations}
-use Rattle.trcf.specs.View.{Lent, lent, settingsOf, rowOf, learningRow, optional, learnCall, backOf, learnOutcome, LearnParts, learnedParts, learnNothing, learnAfter, answering, answeringRow, counting, holding, Bounded, Ready, Learnable}
+use Rattle.trcf.specs.Calls.{drain, shingledPoint, postProcess}
+use Rattle.trcf.specs.Preprocessor.{State, statisticsLength, deviations, drained, reading, pointOf}
+use Rattle.trcf.specs.View.{Lent, lent, settingsOf, rowOf, learningRow, optional, learnCall, backOf, learnOutcome, LearnParts, learnedParts, learnNothing, learnAfter, answering, answeringRow, counting, holding, Bounded, Ready, Learnable, Fitted, Outcome, outcome, drainOf, pointed, pointAfter, counted, laid, view}
 use Rattle.trcf.specs.declared.preprocessor.Preprocessor.{Preprocessor}
 use Rattle.trcf.specs.declared.preprocessor.PostProcessed.{PostProcessed}
+use Rattle.trcf.proofs.BoundLaws.{kept-room}
+use Rattle.trcf.proofs.StateLaws.{drain-refused, drain-done, point-refused, point-waits, point-done}
 use Rattle.trcf.proofs.LearnLaws.{learn-refused, learn-held, learn-none, learn-whole, learnable, waiting-below, waiting-completes, outcomeOf}
+
+-- ---- `drain`
+
+module _ (h : Preprocessor) (l : Lent) (n : ℕ) (row : n ≡ rowOf h l drain) where
+  pub drain-stays : (n ≡ 0 → ⊥) → outcome n h l ≡ drainOf h l
+  drain-stays z = ap (λ (r : ℕ). outcome r h l) row ∙ drain-refused h l (λ w. z (row ∙ w))
+
+  pub drain-goes : n ≡ 0 → (o : Outcome) → o ≡ outcome 0 (counted h (drained (view h l))) (laid (drained (view h l)) l) → o ≡ drainOf h l
+  drain-goes z o e = e ∙ drain-done h l (sym row ∙ z)
+
+-- ---- `shingled_point`
+
+module _ (h : Preprocessor) (l : Lent) (x : List Float) (t : ℕ) (out : List Float) (n : ℕ) (row : n ≡ rowOf h l (shingledPoint x t out)) where
+  pub point-stays : (n ≡ 0 → ⊥) → pointed n false h l out ≡ pointAfter h l x t out
+  point-stays z = ap (λ (r : ℕ). pointed r false h l out) row ∙ point-refused h l x t out (λ w. z (row ∙ w))
+
+  module _ (zero : n ≡ 0) (b : Bool) (w : b ≡ waiting (settingsOf h) (h .«values_seen»)) where
+    pub point-holds : b ≡ true → Fitted h l → pointed 0 false h l out ≡ pointAfter h l x t out
+    point-holds g f = point-waits h l x t out (sym row ∙ zero) (sym w ∙ g) f
+
+    pub point-goes : b ≡ false → (a : Preprocessor) (m : Lent) (o : List Float) (s : State) → outcome 0 a m ≡ outcome 0 (counted h (drained (view h l))) (laid (drained (view h l)) l)
+        → s ≡ drained (view h l) → o ≡ over out (pointOf s (reading x t)) → pointed 0 true a m o ≡ pointAfter h l x t out
+    point-goes g a m o s p q e =
+        point-done h l x t out a m o (sym row ∙ zero) (sym w ∙ g) p (e ∙ ap (λ (v : State). over out (pointOf v (reading x t))) q)
+
+-- the drained head asks no more room than the one before it
+module _ (h : Preprocessor) (l : Lent) (x out : ℕ) where
+  abbrev Room : ℕ → ℕ → ℕ → ℕ → Preprocessor → Type 0
+  Room st xs ps ts a =
+      Bounded (settingsOf a) × ((statisticsLength (settingsOf a) ≤ st) × ((a .transformer .«input_length» * a .«shingle_size» ≤ xs) × ((dimension (settingsOf a) ≤ ps) × ((a .«shingle_size» ≤ ts)
+      × ((x ≡ a .transformer .«input_length») × (dimension (settingsOf a) ≤ out))))))
+
+  pub room-point : (st xs ps ts : ℕ) (s : State) (a : Preprocessor) → a ≡ counted h s → Ready h l → st ≡ length (l .statistics) → xs ≡ length (l .lastShingledInput)
+      → ps ≡ length (l .lastShingledPoint) → ts ≡ length (l .previousTimestamps) → x ≡ h .transformer .«input_length» → dimension (settingsOf h) ≤ out
+      → Room st xs ps ts a
+  room-point st xs ps ts s a e r k₁ k₂ k₃ k₄ q g =
+      let f = r .fitted .roomy in
+      subst (Room st xs ps ts) (sym e)
+      (r .bounded, (kept-room k₁ (f .in-statistics), (kept-room k₂ (f .in-input), (kept-room k₃ (f .in-point), (kept-room k₄ (f .in-times), (q, g))))))
+
+-- ---- `post_process`
 
 module _ (h : Preprocessor) (st xs ps : List Float) (ts : List ℕ) (vs : List Float) (vt : List ℕ) (x : List Float) (t : ℕ) (hasY : Bool) (y : List Float) (expects : Bool) (e : List Float) (grade : Float) (i i′ : ℤ)
     (deviationsOut pastOut expectedOut : List Float) (u : i′ ≡ i) (n : ℕ)

@@ -1,7 +1,7 @@
 -- `trcf::preprocessor::drain` meets its contract: by its callees' promises and the laws of outcomes. Assumes nothing.
 use mathlib.Core.Path.{_≡_, refl, sym, ap, _∙_}
 use Rattle.trcf.specs.View.{lent}
-use Rattle.trcf.proofs.StateLaws.{drain-refused, drain-done}
+use Rattle.trcf.proofs.WayLaws.{drain-stays, drain-goes}
 use Rattle.trcf.proofs.preprocessor.drain.Statement.{statement}
 use Rattle.trcf.proofs.preprocessor.drain.Tie as tie
 
@@ -23,10 +23,7 @@ same-length-4 c = refl
 returns : tie.Need-returns
 returns c =
     let a = c .before .before .before .before .before .before .before .before .before .before .before .before .args in
-    let h = a .head in
-    let l = lent (a .statistics .now) (a .last-shingled-input .now) (a .last-shingled-point .now) (a .previous-timestamps .now) (a .initial-values .now) (a .initial-timestamps .now) in
-    let e = c .before .drain-row .ensures .0 in
-    rw e (drain-refused h l (λ z. c .if1 .taken (e ∙ z)))
+    drain-stays (a .head) (lent (a .statistics .now) (a .last-shingled-input .now) (a .last-shingled-point .now) (a .previous-timestamps .now) (a .initial-values .now) (a .initial-timestamps .now)) (c .before .drain-row .result) (c .before .drain-row .ensures .0) (c .if1 .taken)
 
 drain-due-requires : tie.Need-drain-due-requires
 drain-due-requires c κs = (c .before .before .before .before .before .drain-row .ensures .1 .0 (c .before .before .before .before .if1 .left), c .before .before .before .before .before .drain-row .ensures .1 .1 (c .before .before .before .before .if1 .left))
@@ -46,9 +43,7 @@ same-length-8 c = c .before .before .before .before .before .before .before .bef
 returns-2 : tie.Need-returns-2
 returns-2 c =
     let a = c .before .before .before .before .before .before .before .before .before .before .before .before .before .before .before .before .before .before .before .before .before .before .before .before .before .args in
-    let h = a .head in
-    let l = lent (a .statistics .now) (a .last-shingled-input .now) (a .last-shingled-point .now) (a .previous-timestamps .now) (a .initial-values .now) (a .initial-timestamps .now) in
-    c .before .before .before .before .before .before .before .before .drain-due .ensures .0 ∙ drain-done h l (sym (c .before .before .before .before .before .before .before .before .before .before .before .before .before .before .drain-row .ensures .0) ∙ c .before .before .before .before .before .before .before .before .before .before .before .before .before .if1 .left)
+    drain-goes (a .head) (lent (a .statistics .now) (a .last-shingled-input .now) (a .last-shingled-point .now) (a .previous-timestamps .now) (a .initial-values .now) (a .initial-timestamps .now)) (c .before .before .before .before .before .before .before .before .before .before .before .before .before .before .drain-row .result) (c .before .before .before .before .before .before .before .before .before .before .before .before .before .before .drain-row .ensures .0) (c .before .before .before .before .before .before .before .before .before .before .before .before .before .if1 .left) _ (c .before .before .before .before .before .before .before .before .drain-due .ensures .0)
 
 pub drain-spec : {M : Type 1} → statement M
 drain-spec =
