@@ -10,8 +10,10 @@ pub mod RefusalLaws
 pub mod OutputLaws
 pub mod OutcomeLaws
 pub mod DrainLaws
+pub mod BoundLaws
 pub mod StateLaws
 pub mod LearnLaws
+pub mod WayLaws
 pub mod ViewLaws
 pub mod ViewExamples
 pub mod ExtrapolationLaws

@@ -37,6 +37,14 @@ module _ (h : Preprocessor) (l : Lent) (c : Call) (out : List Float) where
   unfolding writeOf answerOf
   write-done e = ap (λ (r : ℕ). writtenOf out (accepted r (reply (view h l) c) (refused r))) (sym e)
 
+  -- the same from the row and the output that the program has
+  module _ (r : ℕ) (e : r ≡ rowOf h l c) where
+    pub write-stays : (r ≡ 0 → ⊥) → written r out ≡ writeOf h l c out
+    write-stays n = ap (λ (q : ℕ). written q out) e ∙ write-refused (λ z. n (e ∙ z))
+
+    pub write-goes : r ≡ 0 → (v w : List Float) → v ≡ w → written 0 w ≡ writtenOf out (reply (view h l) c) → written 0 v ≡ writeOf h l c out
+    write-goes z v w p q = ap (written 0) p ∙ q ∙ write-done (sym e ∙ z)
+
 -- ---- `build`
 
 module _ (s : Settings) (l : Lent) where

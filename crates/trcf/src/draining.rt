@@ -102,10 +102,10 @@ fn feed_initial(head: Preprocessor, s: &mut [f64], values: &[f32], stamps: &[u64
     requires { ⌜ length (now values) ≡ length (now stamps) * head .transformer .«input_length» ⌝ }
     ensures { λ _. ⌜ now (s .exit) ≡ feedAll (settingsOf head) (head .transformer .count) (now (s .entry)) (readingAt (head .transformer .«input_length») (now (values .entry)) (now (stamps .entry)) 0) (blocks (head .transformer .«input_length») (now (values .entry)) (now (stamps .entry))) ⌝ }
 {
-    let mut i = 0;
-    while i < stamps.len() {
-        feed_turn(head, s, values, stamps, i);
-        i += 1;
+    let mut fed = 0;
+    while fed < stamps.len() {
+        feed_turn(head, s, values, stamps, fed);
+        fed += 1;
     }
 }
 

@@ -60,10 +60,11 @@ fn input_row(
     if input.len() != d {
         return 10;
     }
-    if !all_finite(input) {
+    let finite = all_finite(input);
+    let newest = newest_of(head, previous_timestamps, initial_timestamps);
+    if !finite {
         return 11;
     }
-    let newest = newest_of(head, previous_timestamps, initial_timestamps);
     if timestamp < newest {
         return 12;
     }

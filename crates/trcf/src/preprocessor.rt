@@ -436,13 +436,15 @@ pub fn shingled_point(
             head: head,
         };
     }
+    // what waits is fed, and never the reading that a point is asked for
+    let fed = initial_values;
     let next = drain_due(
         head,
         statistics,
         last_shingled_input,
         last_shingled_point,
         previous_timestamps,
-        initial_values,
+        fed,
         initial_timestamps,
     );
     write_point(
@@ -673,12 +675,12 @@ pub fn post_process(
 }
 
 // The answer of a call that learnt nothing.
-fn unlearned(row: u64, head: Preprocessor) -> PostProcessed
-    ensures { λ r. ⌜ r ≡ answeringRow row head false false 0 zero32 ⌝ }
+fn unlearned(row: u64, same: Preprocessor) -> PostProcessed
+    ensures { λ r. ⌜ r ≡ answeringRow row same false false 0 zero32 ⌝ }
 {
     PostProcessed {
         row: row,
-        head: head,
+        head: same,
         written: false,
         has_anomaly: false,
         past_timestamp: 0,

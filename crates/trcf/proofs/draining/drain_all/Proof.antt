@@ -25,13 +25,13 @@ copy-in-requires : tie.Need-copy-in-requires
 copy-in-requires c κs = let a = c .before .before .before .before .before .before .before .before .before .before .before .before .before .args in let d = a .head .transformer .«input_length» in let q = c .before .before .before .before .before .before .before .before .before .before .before .before .before .pre in let m = le-mul-of-pos-right d (q .0 .k-pos) in let f = block-in 0 (length (a .stamps .now)) d (omega (arith, q)) in simp length-take (omega (arith, q))
 
 shared-slice-read-times : tie.Need-shared-slice-read-times
-shared-slice-read-times c = search needs
+shared-slice-read-times c = omega arith
 
 sub-times : tie.Need-sub-times
-sub-times c = search needs
+sub-times c = omega arith
 
 mul-times : tie.Need-mul-times
-mul-times c = search needs
+mul-times c = omega arith
 
 slice-write-times : tie.Need-slice-write-times
 slice-write-times c = search needs
@@ -40,13 +40,13 @@ drain-each-requires : tie.Need-drain-each-requires
 drain-each-requires c κs = let a = c .before .before .before .before .before .before .before .before .before .before .before .before .before .before .before .before .before .before .before .before .before .args in let d = a .head .transformer .«input_length» in let q = c .before .before .before .before .before .before .before .before .before .before .before .before .before .before .before .before .before .before .before .before .before .pre in let m = le-mul-of-pos-right d (q .0 .k-pos) in let f = block-in 0 (length (a .stamps .now)) d (omega (arith, q)) in (q .0, (record { all-statistics = omega (arith, c .before .before .before .before .before .before .before .before .before .before .before .before .feed-initial .kept, q .1 .0); all-input = omega (arith, c .before .before .before .before .before .before .before .copy-in .kept, q .1 .0); all-times = simp length-set (omega (arith, q .1 .0)) }, (q .1 .1 .0, q .1 .1 .1 .0)))
 
 same-length : tie.Need-same-length
-same-length c = search needs
+same-length c = c .before .before .before .before .before .before .before .before .before .before .before .before .before .before .before .before .before .before .before .feed-initial .kept .1 .0
 
 same-length-2 : tie.Need-same-length-2
-same-length-2 c = search needs
+same-length-2 c = c .before .before .before .before .before .before .drain-each .kept .1 .1 .0 ∙ c .before .before .before .before .before .before .before .before .before .before .before .before .before .before .copy-in .kept .0
 
 same-length-3 : tie.Need-same-length-3
-same-length-3 c = search needs
+same-length-3 c = c .before .before .before .before .before .before .drain-each .kept .1 .1 .1 .0
 
 same-length-4 : tie.Need-same-length-4
 same-length-4 c = c .before .before .before .before .before .before .drain-each .kept .1 .1 .1 .1 .0 ∙ simp length-set

@@ -1,4 +1,5 @@
 -- `trcf::draining::drain_due` meets its contract: by its callees' promises and the laws of lists. Assumes nothing.
+use Rattle.trcf.proofs.BoundLaws.{five, five-more, all-statistics, all-inputs}
 use native.Mathlib.Omega.{arith}
 use mathlib.Core.Path.{_≡_, refl, sym, ap, _∙_}
 use Prim.Native.Nat.{ℕ, _+_, _-_, _*_, _≤_, _<_}
@@ -16,7 +17,7 @@ use Rattle.trcf.proofs.draining.drain_due.Statement.{statement}
 use Rattle.trcf.proofs.draining.drain_due.Tie as tie
 
 is-due-requires : tie.Need-is-due-requires
-is-due-requires c κs = search needs
+is-due-requires c κs = tt
 
 returns : tie.Need-returns
 unfolding due facts view
@@ -33,83 +34,28 @@ dimension-of-requires : tie.Need-dimension-of-requires
 dimension-of-requires c κs = search needs
 
 mul-drain-all : tie.Need-mul-drain-all
-mul-drain-all c =
-    let a = c .before .before .before .before .before .before .before .before .before .before .before .args in
-    let h = a .head in
-    let l = lent (a .statistics .now) (a .last-shingled-input .now) (a .last-shingled-point .now) (a .previous-timestamps .now) (a .initial-values .now) (a .initial-timestamps .now) in
-    let f = c .before .before .before .before .before .before .before .before .before .before .before .pre .0 .fitted in
-    let r = f .roomy in
-    let m = mul-le-mul (f .few) (le-refl (h .transformer .«input_length»)) in
-    let b = mul-le-mul (f .few) (c .before .before .before .before .before .before .before .before .before .before .before .pre .0 .bounded .d-few) in
-    let k = mul-le-mul (c .before .before .before .before .before .before .before .before .before .before .before .pre .0 .bounded .d-few) (c .before .before .before .before .before .before .before .before .before .before .before .pre .0 .bounded .k-few) in
-    omega (arith, f .few, c .before .before .before .before .before .before .before .before .before .before .before .pre .0 .bounded)
+mul-drain-all c = five (c .before .before .before .before .before .before .before .before .before .before .before .pre .0 .bounded .d-few)
 
 add-drain-all : tie.Need-add-drain-all
-add-drain-all c = search needs
+add-drain-all c = five-more (c .before .before .before .before .before .before .before .before .before .before .before .pre .0 .bounded .d-few)
 
 mul-drain-all-2 : tie.Need-mul-drain-all-2
-mul-drain-all-2 c =
-    let a = c .before .before .before .before .before .before .before .before .before .before .before .args in
-    let h = a .head in
-    let l = lent (a .statistics .now) (a .last-shingled-input .now) (a .last-shingled-point .now) (a .previous-timestamps .now) (a .initial-values .now) (a .initial-timestamps .now) in
-    let f = c .before .before .before .before .before .before .before .before .before .before .before .pre .0 .fitted in
-    let r = f .roomy in
-    let m = mul-le-mul (f .few) (le-refl (h .transformer .«input_length»)) in
-    let b = mul-le-mul (f .few) (c .before .before .before .before .before .before .before .before .before .before .before .pre .0 .bounded .d-few) in
-    let k = mul-le-mul (c .before .before .before .before .before .before .before .before .before .before .before .pre .0 .bounded .d-few) (c .before .before .before .before .before .before .before .before .before .before .before .pre .0 .bounded .k-few) in
-    omega (arith, f .few, c .before .before .before .before .before .before .before .before .before .before .before .pre .0 .bounded)
+mul-drain-all-2 c = all-statistics (c .before .before .before .before .before .before .before .before .before .before .before .pre .0 .bounded .d-few)
 
 slice-relend-prefix-drain-all : tie.Need-slice-relend-prefix-drain-all
-slice-relend-prefix-drain-all c =
-    let a = c .before .before .before .before .before .before .before .before .before .before .before .args in
-    let h = a .head in
-    let l = lent (a .statistics .now) (a .last-shingled-input .now) (a .last-shingled-point .now) (a .previous-timestamps .now) (a .initial-values .now) (a .initial-timestamps .now) in
-    let f = c .before .before .before .before .before .before .before .before .before .before .before .pre .0 .fitted in
-    let r = f .roomy in
-    omega (arith, r)
+slice-relend-prefix-drain-all c = c .before .before .before .before .before .before .before .before .before .before .before .pre .0 .fitted .roomy .in-statistics
 
 slice-aggregate-drain-all : tie.Need-slice-aggregate-drain-all
-slice-aggregate-drain-all c =
-    let a = c .before .before .before .before .before .before .before .before .before .before .before .before .args in
-    let h = a .head in
-    let l = lent (a .statistics .now) (a .last-shingled-input .now) (a .last-shingled-point .now) (a .previous-timestamps .now) (a .initial-values .now) (a .initial-timestamps .now) in
-    let f = c .before .before .before .before .before .before .before .before .before .before .before .before .pre .0 .fitted in
-    let r = f .roomy in
-    let m = mul-le-mul (f .few) (le-refl (h .transformer .«input_length»)) in
-    let b = mul-le-mul (f .few) (c .before .before .before .before .before .before .before .before .before .before .before .before .pre .0 .bounded .d-few) in
-    simp length-take (omega (arith, r, f .few, c .before .before .before .before .before .before .before .before .before .before .before .before .pre .0 .bounded))
+slice-aggregate-drain-all c = sym (length-take-le _ _ (c .before .before .before .before .before .before .before .before .before .before .before .before .pre .0 .fitted .roomy .in-statistics))
 
 mul-drain-all-3 : tie.Need-mul-drain-all-3
-mul-drain-all-3 c =
-    let a = c .before .before .before .before .before .before .before .before .before .before .before .before .args in
-    let h = a .head in
-    let l = lent (a .statistics .now) (a .last-shingled-input .now) (a .last-shingled-point .now) (a .previous-timestamps .now) (a .initial-values .now) (a .initial-timestamps .now) in
-    let f = c .before .before .before .before .before .before .before .before .before .before .before .before .pre .0 .fitted in
-    let r = f .roomy in
-    let m = mul-le-mul (f .few) (le-refl (h .transformer .«input_length»)) in
-    let b = mul-le-mul (f .few) (c .before .before .before .before .before .before .before .before .before .before .before .before .pre .0 .bounded .d-few) in
-    let k = mul-le-mul (c .before .before .before .before .before .before .before .before .before .before .before .before .pre .0 .bounded .d-few) (c .before .before .before .before .before .before .before .before .before .before .before .before .pre .0 .bounded .k-few) in
-    omega (arith, f .few, c .before .before .before .before .before .before .before .before .before .before .before .before .pre .0 .bounded)
+mul-drain-all-3 c = let b = c .before .before .before .before .before .before .before .before .before .before .before .before .pre .0 .bounded in all-inputs (b .d-few) (b .k-few)
 
 slice-relend-prefix-drain-all-2 : tie.Need-slice-relend-prefix-drain-all-2
-slice-relend-prefix-drain-all-2 c =
-    let a = c .before .before .before .before .before .before .before .before .before .before .before .before .args in
-    let h = a .head in
-    let l = lent (a .statistics .now) (a .last-shingled-input .now) (a .last-shingled-point .now) (a .previous-timestamps .now) (a .initial-values .now) (a .initial-timestamps .now) in
-    let f = c .before .before .before .before .before .before .before .before .before .before .before .before .pre .0 .fitted in
-    let r = f .roomy in
-    omega (arith, r)
+slice-relend-prefix-drain-all-2 c = c .before .before .before .before .before .before .before .before .before .before .before .before .pre .0 .fitted .roomy .in-input
 
 slice-aggregate-drain-all-2 : tie.Need-slice-aggregate-drain-all-2
-slice-aggregate-drain-all-2 c =
-    let a = c .before .before .before .before .before .before .before .before .before .before .before .before .before .args in
-    let h = a .head in
-    let l = lent (a .statistics .now) (a .last-shingled-input .now) (a .last-shingled-point .now) (a .previous-timestamps .now) (a .initial-values .now) (a .initial-timestamps .now) in
-    let f = c .before .before .before .before .before .before .before .before .before .before .before .before .before .pre .0 .fitted in
-    let r = f .roomy in
-    let m = mul-le-mul (f .few) (le-refl (h .transformer .«input_length»)) in
-    let b = mul-le-mul (f .few) (c .before .before .before .before .before .before .before .before .before .before .before .before .before .pre .0 .bounded .d-few) in
-    simp length-take (omega (arith, r, f .few, c .before .before .before .before .before .before .before .before .before .before .before .before .before .pre .0 .bounded))
+slice-aggregate-drain-all-2 c = sym (length-take-le _ _ (c .before .before .before .before .before .before .before .before .before .before .before .before .before .pre .0 .fitted .roomy .in-input))
 
 slice-relend-prefix-drain-all-3 : tie.Need-slice-relend-prefix-drain-all-3
 slice-relend-prefix-drain-all-3 c =
@@ -132,24 +78,10 @@ slice-aggregate-drain-all-3 c =
     simp length-take (omega (arith, r, f .few, c .before .before .before .before .before .before .before .before .before .before .before .before .before .before .pre .0 .bounded, c .before .before .before .dimension-of .ensures))
 
 slice-relend-prefix-drain-all-4 : tie.Need-slice-relend-prefix-drain-all-4
-slice-relend-prefix-drain-all-4 c =
-    let a = c .before .before .before .before .before .before .before .before .before .before .before .before .before .before .args in
-    let h = a .head in
-    let l = lent (a .statistics .now) (a .last-shingled-input .now) (a .last-shingled-point .now) (a .previous-timestamps .now) (a .initial-values .now) (a .initial-timestamps .now) in
-    let f = c .before .before .before .before .before .before .before .before .before .before .before .before .before .before .pre .0 .fitted in
-    let r = f .roomy in
-    omega (arith, r)
+slice-relend-prefix-drain-all-4 c = c .before .before .before .before .before .before .before .before .before .before .before .before .before .before .pre .0 .fitted .roomy .in-times
 
 slice-aggregate-drain-all-4 : tie.Need-slice-aggregate-drain-all-4
-slice-aggregate-drain-all-4 c =
-    let a = c .before .before .before .before .before .before .before .before .before .before .before .before .before .before .before .args in
-    let h = a .head in
-    let l = lent (a .statistics .now) (a .last-shingled-input .now) (a .last-shingled-point .now) (a .previous-timestamps .now) (a .initial-values .now) (a .initial-timestamps .now) in
-    let f = c .before .before .before .before .before .before .before .before .before .before .before .before .before .before .before .pre .0 .fitted in
-    let r = f .roomy in
-    let m = mul-le-mul (f .few) (le-refl (h .transformer .«input_length»)) in
-    let b = mul-le-mul (f .few) (c .before .before .before .before .before .before .before .before .before .before .before .before .before .before .before .pre .0 .bounded .d-few) in
-    simp length-take (omega (arith, r, f .few, c .before .before .before .before .before .before .before .before .before .before .before .before .before .before .before .pre .0 .bounded, c .before .before .before .before .dimension-of .ensures))
+slice-aggregate-drain-all-4 c = sym (length-take-le _ _ (c .before .before .before .before .before .before .before .before .before .before .before .before .before .before .before .pre .0 .fitted .roomy .in-times))
 
 mul-drain-all-4 : tie.Need-mul-drain-all-4
 mul-drain-all-4 c =

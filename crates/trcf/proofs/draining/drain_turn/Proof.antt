@@ -1,4 +1,5 @@
 -- `trcf::draining::drain_turn` meets its contract: by its callees' promises and the laws of lists. Assumes nothing.
+use Rattle.trcf.proofs.BoundLaws.{block-start, block-end, block-at, block-to, block-bytes, flat-of}
 use native.Mathlib.Omega.{arith}
 use mathlib.Core.Path.{_≡_, refl, sym, ap, _∙_}
 use Prim.Native.Nat.{ℕ, _+_, _-_, _*_, _≤_, _<_}
@@ -7,7 +8,7 @@ use lib.ListN.{length, length-take, length-drop, take, drop, getD}
 use Rattle.trcf.proofs.DrainLaws.{block-in, block-cut, point-cut, block-is, block-fits}
 use Rattle.trcf.specs.View.{settingsOf}
 use Rattle.trcf.specs.Lists.{shiftIn}
-use borrow.Author.Needs.{needs}
+use borrow.Author.Needs.{needs, scaled-fits}
 use Rattle.trcf.proofs.draining.drain_turn.Statement.{statement}
 use Rattle.trcf.proofs.draining.drain_turn.Tie as tie
 
@@ -15,31 +16,31 @@ block-of-requires : tie.Need-block-of-requires
 block-of-requires c κs = search needs
 
 mul-y : tie.Need-mul-y
-mul-y c = let a = c .before .before .before .before .before .before .before .before .args in let d = a .head .transformer .«input_length» in let n = length (a .stamps .now) in let b = block-in (a .i) n d (omega (arith, c .before .before .before .before .before .before .before .before .pre)) in let m = mul-le-mul (le-refl n) (c .before .before .before .before .before .before .before .before .pre .0 .d-few) in omega (arith, c .before .before .before .before .before .before .before .before .pre, c .before .before .before .before .before .before .before .before .good)
+mul-y c = let a = c .before .before .before .before .before .before .before .before .args in scaled-fits (a .i) (length (a .stamps .now)) 8 (c .before .before .before .before .before .before .before .before .pre .1 .1 .1 .1) (c .before .before .before .before .before .before .before .before .good .1 .1 .1 .1 .1 .1 .0 .1)
 
 shared-slice-read-y : tie.Need-shared-slice-read-y
-shared-slice-read-y c = search needs
+shared-slice-read-y c = omega arith
 
 mul-write-transform : tie.Need-mul-write-transform
-mul-write-transform c = let a = c .before .before .before .before .before .before .before .before .before .before .before .args in let d = a .head .transformer .«input_length» in let n = length (a .stamps .now) in let b = block-in (a .i) n d (omega (arith, c .before .before .before .before .before .before .before .before .before .before .before .pre)) in let m = mul-le-mul (le-refl n) (c .before .before .before .before .before .before .before .before .before .before .before .pre .0 .d-few) in omega (arith, c .before .before .before .before .before .before .before .before .before .before .before .pre, c .before .before .before .before .before .before .before .before .before .before .before .good)
+mul-write-transform c = let a = c .before .before .before .before .before .before .before .before .before .before .before .args in let d = a .head .transformer .«input_length» in let n = length (a .stamps .now) in let m = length (a .values .now) in block-at (a .i) n d m (c .before .before .before .before .before .before .before .before .before .before .before .pre .1 .1 .1 .1) (flat-of n d m (c .before .before .before .before .before .before .before .before .before .before .before .pre .1 .1 .1 .0)) (c .before .before .before .before .before .before .before .before .before .before .before .good .1 .1 .1 .1 .1 .0 .1)
 
 mul-write-transform-2 : tie.Need-mul-write-transform-2
-mul-write-transform-2 c = let a = c .before .before .before .before .before .before .before .before .before .before .before .args in let d = a .head .transformer .«input_length» in let n = length (a .stamps .now) in let b = block-in (a .i) n d (omega (arith, c .before .before .before .before .before .before .before .before .before .before .before .pre)) in let m = mul-le-mul (le-refl n) (c .before .before .before .before .before .before .before .before .before .before .before .pre .0 .d-few) in omega (arith, c .before .before .before .before .before .before .before .before .before .before .before .pre, c .before .before .before .before .before .before .before .before .before .before .before .good)
+mul-write-transform-2 c = let a = c .before .before .before .before .before .before .before .before .before .before .before .args in let d = a .head .transformer .«input_length» in let n = length (a .stamps .now) in let m = length (a .values .now) in block-at (a .i) n d m (c .before .before .before .before .before .before .before .before .before .before .before .pre .1 .1 .1 .1) (flat-of n d m (c .before .before .before .before .before .before .before .before .before .before .before .pre .1 .1 .1 .0)) (c .before .before .before .before .before .before .before .before .before .before .before .good .1 .1 .1 .1 .1 .0 .1)
 
 add-write-transform : tie.Need-add-write-transform
-add-write-transform c = let a = c .before .before .before .before .before .before .before .before .before .before .before .args in let d = a .head .transformer .«input_length» in let n = length (a .stamps .now) in let b = block-in (a .i) n d (omega (arith, c .before .before .before .before .before .before .before .before .before .before .before .pre)) in let m = mul-le-mul (le-refl n) (c .before .before .before .before .before .before .before .before .before .before .before .pre .0 .d-few) in omega (arith, c .before .before .before .before .before .before .before .before .before .before .before .pre, c .before .before .before .before .before .before .before .before .before .before .before .good)
+add-write-transform c = let a = c .before .before .before .before .before .before .before .before .before .before .before .args in let d = a .head .transformer .«input_length» in let n = length (a .stamps .now) in let m = length (a .values .now) in block-to (a .i) n d m (c .before .before .before .before .before .before .before .before .before .before .before .pre .1 .1 .1 .1) (flat-of n d m (c .before .before .before .before .before .before .before .before .before .before .before .pre .1 .1 .1 .0)) (c .before .before .before .before .before .before .before .before .before .before .before .good .1 .1 .1 .1 .1 .0 .1)
 
 mul-write-transform-3 : tie.Need-mul-write-transform-3
-mul-write-transform-3 c = let a = c .before .before .before .before .before .before .before .before .before .before .before .args in let d = a .head .transformer .«input_length» in let n = length (a .stamps .now) in let b = block-in (a .i) n d (omega (arith, c .before .before .before .before .before .before .before .before .before .before .before .pre)) in let m = mul-le-mul (le-refl n) (c .before .before .before .before .before .before .before .before .before .before .before .pre .0 .d-few) in omega (arith, c .before .before .before .before .before .before .before .before .before .before .before .pre, c .before .before .before .before .before .before .before .before .before .before .before .good)
+mul-write-transform-3 c = let a = c .before .before .before .before .before .before .before .before .before .before .before .args in let d = a .head .transformer .«input_length» in let n = length (a .stamps .now) in let m = length (a .values .now) in block-bytes (a .i) n d m (c .before .before .before .before .before .before .before .before .before .before .before .pre .1 .1 .1 .1) (flat-of n d m (c .before .before .before .before .before .before .before .before .before .before .before .pre .1 .1 .1 .0)) (c .before .before .before .before .before .before .before .before .before .before .before .good .1 .1 .1 .1 .1 .0 .1)
 
 sub-write-transform : tie.Need-sub-write-transform
-sub-write-transform c = search needs
+sub-write-transform c = omega arith
 
 part-write-transform-start : tie.Need-part-write-transform-start
-part-write-transform-start c = let a = c .before .before .before .before .before .before .before .before .before .before .before .args in let d = a .head .transformer .«input_length» in let n = length (a .stamps .now) in let b = block-in (a .i) n d (omega (arith, c .before .before .before .before .before .before .before .before .before .before .before .pre)) in let m = mul-le-mul (le-refl n) (c .before .before .before .before .before .before .before .before .before .before .before .pre .0 .d-few) in omega (arith, c .before .before .before .before .before .before .before .before .before .before .before .pre, c .before .before .before .before .before .before .before .before .before .before .before .good)
+part-write-transform-start c = let a = c .before .before .before .before .before .before .before .before .before .before .before .args in block-start (a .i) (a .head .transformer .«input_length»)
 
 part-write-transform-end : tie.Need-part-write-transform-end
-part-write-transform-end c = let a = c .before .before .before .before .before .before .before .before .before .before .before .args in let d = a .head .transformer .«input_length» in let n = length (a .stamps .now) in let b = block-in (a .i) n d (omega (arith, c .before .before .before .before .before .before .before .before .before .before .before .pre)) in let m = mul-le-mul (le-refl n) (c .before .before .before .before .before .before .before .before .before .before .before .pre .0 .d-few) in omega (arith, c .before .before .before .before .before .before .before .before .before .before .before .pre, c .before .before .before .before .before .before .before .before .before .before .before .good)
+part-write-transform-end c = let a = c .before .before .before .before .before .before .before .before .before .before .before .args in let d = a .head .transformer .«input_length» in let n = length (a .stamps .now) in let m = length (a .values .now) in block-end (a .i) n d m (c .before .before .before .before .before .before .before .before .before .before .before .pre .1 .1 .1 .1) (flat-of n d m (c .before .before .before .before .before .before .before .before .before .before .before .pre .1 .1 .1 .0)) (c .before .before .before .before .before .before .before .before .before .before .before .good .1 .1 .1 .1 .1 .0 .1)
 
 slice-aggregate-write-transform : tie.Need-slice-aggregate-write-transform
 slice-aggregate-write-transform c = search needs
@@ -48,25 +49,25 @@ write-transform-requires : tie.Need-write-transform-requires
 write-transform-requires c κs = let a = c .before .before .before .before .before .before .before .before .before .before .before .before .before .args in let d = a .head .transformer .«input_length» in let n = length (a .stamps .now) in let b = block-in (a .i) n d (omega (arith, c .before .before .before .before .before .before .before .before .before .before .before .before .before .pre)) in (c .before .before .before .before .before .before .before .before .before .before .before .before .before .pre .0, (c .before .before .before .before .before .before .before .before .before .before .before .before .before .pre .1 .0, (simp (length-drop, length-take) (omega (arith, c .before .before .before .before .before .before .before .before .before .before .before .before .before .pre)), omega (arith, c .before .before .before .before .before .block-of .ensures, block-is (settingsOf (a .head))))))
 
 mul-shift-vector : tie.Need-mul-shift-vector
-mul-shift-vector c = let a = c .before .before .before .before .before .before .before .before .before .before .before .before .before .before .before .before .args in let d = a .head .transformer .«input_length» in let n = length (a .stamps .now) in let b = block-in (a .i) n d (omega (arith, c .before .before .before .before .before .before .before .before .before .before .before .before .before .before .before .before .pre)) in let m = mul-le-mul (le-refl n) (c .before .before .before .before .before .before .before .before .before .before .before .before .before .before .before .before .pre .0 .d-few) in omega (arith, c .before .before .before .before .before .before .before .before .before .before .before .before .before .before .before .before .pre, c .before .before .before .before .before .before .before .before .before .before .before .before .before .before .before .before .good)
+mul-shift-vector c = let a = c .before .before .before .before .before .before .before .before .before .before .before .before .before .before .before .before .args in let d = a .head .transformer .«input_length» in let n = length (a .stamps .now) in let m = length (a .values .now) in block-at (a .i) n d m (c .before .before .before .before .before .before .before .before .before .before .before .before .before .before .before .before .pre .1 .1 .1 .1) (flat-of n d m (c .before .before .before .before .before .before .before .before .before .before .before .before .before .before .before .before .pre .1 .1 .1 .0)) (c .before .before .before .before .before .before .before .before .before .before .before .before .before .before .before .before .good .1 .1 .1 .1 .1 .0 .1)
 
 mul-shift-vector-2 : tie.Need-mul-shift-vector-2
-mul-shift-vector-2 c = let a = c .before .before .before .before .before .before .before .before .before .before .before .before .before .before .before .before .args in let d = a .head .transformer .«input_length» in let n = length (a .stamps .now) in let b = block-in (a .i) n d (omega (arith, c .before .before .before .before .before .before .before .before .before .before .before .before .before .before .before .before .pre)) in let m = mul-le-mul (le-refl n) (c .before .before .before .before .before .before .before .before .before .before .before .before .before .before .before .before .pre .0 .d-few) in omega (arith, c .before .before .before .before .before .before .before .before .before .before .before .before .before .before .before .before .pre, c .before .before .before .before .before .before .before .before .before .before .before .before .before .before .before .before .good)
+mul-shift-vector-2 c = let a = c .before .before .before .before .before .before .before .before .before .before .before .before .before .before .before .before .args in let d = a .head .transformer .«input_length» in let n = length (a .stamps .now) in let m = length (a .values .now) in block-at (a .i) n d m (c .before .before .before .before .before .before .before .before .before .before .before .before .before .before .before .before .pre .1 .1 .1 .1) (flat-of n d m (c .before .before .before .before .before .before .before .before .before .before .before .before .before .before .before .before .pre .1 .1 .1 .0)) (c .before .before .before .before .before .before .before .before .before .before .before .before .before .before .before .before .good .1 .1 .1 .1 .1 .0 .1)
 
 add-shift-vector : tie.Need-add-shift-vector
-add-shift-vector c = let a = c .before .before .before .before .before .before .before .before .before .before .before .before .before .before .before .before .args in let d = a .head .transformer .«input_length» in let n = length (a .stamps .now) in let b = block-in (a .i) n d (omega (arith, c .before .before .before .before .before .before .before .before .before .before .before .before .before .before .before .before .pre)) in let m = mul-le-mul (le-refl n) (c .before .before .before .before .before .before .before .before .before .before .before .before .before .before .before .before .pre .0 .d-few) in omega (arith, c .before .before .before .before .before .before .before .before .before .before .before .before .before .before .before .before .pre, c .before .before .before .before .before .before .before .before .before .before .before .before .before .before .before .before .good)
+add-shift-vector c = let a = c .before .before .before .before .before .before .before .before .before .before .before .before .before .before .before .before .args in let d = a .head .transformer .«input_length» in let n = length (a .stamps .now) in let m = length (a .values .now) in block-to (a .i) n d m (c .before .before .before .before .before .before .before .before .before .before .before .before .before .before .before .before .pre .1 .1 .1 .1) (flat-of n d m (c .before .before .before .before .before .before .before .before .before .before .before .before .before .before .before .before .pre .1 .1 .1 .0)) (c .before .before .before .before .before .before .before .before .before .before .before .before .before .before .before .before .good .1 .1 .1 .1 .1 .0 .1)
 
 mul-shift-vector-3 : tie.Need-mul-shift-vector-3
-mul-shift-vector-3 c = let a = c .before .before .before .before .before .before .before .before .before .before .before .before .before .before .before .before .args in let d = a .head .transformer .«input_length» in let n = length (a .stamps .now) in let b = block-in (a .i) n d (omega (arith, c .before .before .before .before .before .before .before .before .before .before .before .before .before .before .before .before .pre)) in let m = mul-le-mul (le-refl n) (c .before .before .before .before .before .before .before .before .before .before .before .before .before .before .before .before .pre .0 .d-few) in omega (arith, c .before .before .before .before .before .before .before .before .before .before .before .before .before .before .before .before .pre, c .before .before .before .before .before .before .before .before .before .before .before .before .before .before .before .before .good)
+mul-shift-vector-3 c = let a = c .before .before .before .before .before .before .before .before .before .before .before .before .before .before .before .before .args in let d = a .head .transformer .«input_length» in let n = length (a .stamps .now) in let m = length (a .values .now) in block-bytes (a .i) n d m (c .before .before .before .before .before .before .before .before .before .before .before .before .before .before .before .before .pre .1 .1 .1 .1) (flat-of n d m (c .before .before .before .before .before .before .before .before .before .before .before .before .before .before .before .before .pre .1 .1 .1 .0)) (c .before .before .before .before .before .before .before .before .before .before .before .before .before .before .before .before .good .1 .1 .1 .1 .1 .0 .1)
 
 sub-shift-vector : tie.Need-sub-shift-vector
-sub-shift-vector c = search needs
+sub-shift-vector c = omega arith
 
 part-shift-vector-start : tie.Need-part-shift-vector-start
-part-shift-vector-start c = let a = c .before .before .before .before .before .before .before .before .before .before .before .before .before .before .before .before .args in let d = a .head .transformer .«input_length» in let n = length (a .stamps .now) in let b = block-in (a .i) n d (omega (arith, c .before .before .before .before .before .before .before .before .before .before .before .before .before .before .before .before .pre)) in let m = mul-le-mul (le-refl n) (c .before .before .before .before .before .before .before .before .before .before .before .before .before .before .before .before .pre .0 .d-few) in omega (arith, c .before .before .before .before .before .before .before .before .before .before .before .before .before .before .before .before .pre, c .before .before .before .before .before .before .before .before .before .before .before .before .before .before .before .before .good)
+part-shift-vector-start c = let a = c .before .before .before .before .before .before .before .before .before .before .before .before .before .before .before .before .args in block-start (a .i) (a .head .transformer .«input_length»)
 
 part-shift-vector-end : tie.Need-part-shift-vector-end
-part-shift-vector-end c = let a = c .before .before .before .before .before .before .before .before .before .before .before .before .before .before .before .before .args in let d = a .head .transformer .«input_length» in let n = length (a .stamps .now) in let b = block-in (a .i) n d (omega (arith, c .before .before .before .before .before .before .before .before .before .before .before .before .before .before .before .before .pre)) in let m = mul-le-mul (le-refl n) (c .before .before .before .before .before .before .before .before .before .before .before .before .before .before .before .before .pre .0 .d-few) in omega (arith, c .before .before .before .before .before .before .before .before .before .before .before .before .before .before .before .before .pre, c .before .before .before .before .before .before .before .before .before .before .before .before .before .before .before .before .good)
+part-shift-vector-end c = let a = c .before .before .before .before .before .before .before .before .before .before .before .before .before .before .before .before .args in let d = a .head .transformer .«input_length» in let n = length (a .stamps .now) in let m = length (a .values .now) in block-end (a .i) n d m (c .before .before .before .before .before .before .before .before .before .before .before .before .before .before .before .before .pre .1 .1 .1 .1) (flat-of n d m (c .before .before .before .before .before .before .before .before .before .before .before .before .before .before .before .before .pre .1 .1 .1 .0)) (c .before .before .before .before .before .before .before .before .before .before .before .before .before .before .before .before .good .1 .1 .1 .1 .1 .0 .1)
 
 shift-vector-requires : tie.Need-shift-vector-requires
 shift-vector-requires c κs = let a = c .before .before .before .before .before .before .before .before .before .before .before .before .before .before .before .before .before .args in let d = a .head .transformer .«input_length» in let n = length (a .stamps .now) in let b = block-in (a .i) n d (omega (arith, c .before .before .before .before .before .before .before .before .before .before .before .before .before .before .before .before .before .pre)) in let m = le-mul-of-pos-right d (c .before .before .before .before .before .before .before .before .before .before .before .before .before .before .before .before .before .pre .0 .k-pos) in simp (length-drop, length-take) (omega (arith, c .before .before .before .before .before .before .before .before .before .before .before .before .before .before .before .before .before .pre))
@@ -84,13 +85,13 @@ shift-time-requires : tie.Need-shift-time-requires
 shift-time-requires c κs = search needs
 
 same-length : tie.Need-same-length
-same-length c = search needs
+same-length c = c .before .before .before .before .before .before .before .before .before .before .before .shift-vector .kept .0
 
 same-length-2 : tie.Need-same-length-2
-same-length-2 c = search needs
+same-length-2 c = c .before .before .before .before .before .before .shift-vector2 .kept .0
 
 same-length-3 : tie.Need-same-length-3
-same-length-3 c = search needs
+same-length-3 c = c .before .before .shift-time .kept .0
 
 returns : tie.Need-returns
 returns c = let a = c .before .before .before .before .before .before .before .before .before .before .before .before .before .before .before .before .before .before .before .before .before .before .before .before .before .before .before .before .before .args in let d = a .head .transformer .«input_length» in let n = length (a .stamps .now) in let e = c .before .before .before .before .before .before .before .before .before .before .before .before .before .before .before .before .before .before .before .before .before .block-of .ensures .0 ∙ sym (block-is (settingsOf (a .head))) in (c .before .before .before .before .before .before .before .before .before .before .before .shift-vector .ensures ∙ ap (shiftIn (a .inputs .now)) (block-cut (a .i) d (a .values .now)), (c .before .before .before .before .before .before .shift-vector2 .ensures ∙ point-cut (settingsOf (a .head)) (a .s .now) (a .head .«values_seen») _ d (a .values .now) (a .i) _ _ _ (a .points .now) (c .before .before .before .before .before .before .before .before .before .before .before .before .before .before .before .before .before .before .before .before .before .block-of .result) e (c .before .before .before .before .before .before .before .before .before .before .before .before .before .before .before .write-transform .ensures), c .before .before .shift-time .ensures))

@@ -23,20 +23,20 @@ loop-holds c = let a = c .before .before .before .args in let d = a .head .trans
 feed-turn-requires : tie.Need-feed-turn-requires Inv-loop μ-loop
 feed-turn-requires c κs = let q = c .before .before .before .before .before .before .pre in (q .0, (omega (arith, q), (q .1 .1 .0, (q .1 .1 .1, omega arith))))
 
-add-i : tie.Need-add-i Inv-loop μ-loop
-add-i c = omega arith
+add-fed : tie.Need-add-fed Inv-loop μ-loop
+add-fed c = omega arith
 
 loop-less : tie.Need-loop-less Inv-loop μ-loop
 loop-less c = omega arith
 
 loop-again : tie.Need-loop-again Inv-loop μ-loop
-loop-again c = let a = c .before .before .before .before .before .before .before .before .before .args in let d = a .head .transformer .«input_length» in let v = a .values .now in let ts = a .stamps .now in let L = c .before .before .before .before .before .loop in let h : L .i < length ts = omega arith in (omega arith, omega (arith, c .before .before .feed-turn .kept, L .inv), L .inv .2 ∙ feed-again (settingsOf (a .head)) d v ts (L .i) (a .head .transformer .count) (L .s) _ h (c .before .before .feed-turn .ensures))
+loop-again c = let a = c .before .before .before .before .before .before .before .before .before .args in let d = a .head .transformer .«input_length» in let v = a .values .now in let ts = a .stamps .now in let L = c .before .before .before .before .before .loop in let h : L .fed < length ts = omega arith in (omega arith, omega (arith, c .before .before .feed-turn .kept, L .inv), L .inv .2 ∙ feed-again (settingsOf (a .head)) d v ts (L .fed) (a .head .transformer .count) (L .s) _ h (c .before .before .feed-turn .ensures))
 
 same-length : tie.Need-same-length Inv-loop μ-loop
 same-length c = omega arith
 
 returns : tie.Need-returns Inv-loop μ-loop
-returns c = let a = c .before .before .before .before .before .args in let d = a .head .transformer .«input_length» in let v = a .values .now in let ts = a .stamps .now in let L = c .before .loop in let h : length ts ≤ L .i = omega arith in sym (L .inv .2 ∙ ap (feedAll (settingsOf (a .head)) (a .head .transformer .count + L .i) (L .s) (readingAt d v ts (L .i - 1))) (left-none d v ts (L .i) h))
+returns c = let a = c .before .before .before .before .before .args in let d = a .head .transformer .«input_length» in let v = a .values .now in let ts = a .stamps .now in let L = c .before .loop in let h : length ts ≤ L .fed = omega arith in sym (L .inv .2 ∙ ap (feedAll (settingsOf (a .head)) (a .head .transformer .count + L .fed) (L .s) (readingAt d v ts (L .fed - 1))) (left-none d v ts (L .fed) h))
 
 pub feed-initial-spec : {M : Type 1} → statement M
-feed-initial-spec = tie.close (tie.spec Inv-loop μ-loop loop-holds feed-turn-requires add-i loop-less loop-again same-length returns)
+feed-initial-spec = tie.close (tie.spec Inv-loop μ-loop loop-holds feed-turn-requires add-fed loop-less loop-again same-length returns)

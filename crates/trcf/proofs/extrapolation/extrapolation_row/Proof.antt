@@ -2,12 +2,11 @@
 use mathlib.Core.Path.{sym, _∙_}
 use Rattle.trcf.specs.Extrapolation.{shortAt}
 use Rattle.trcf.proofs.ExtrapolationLaws.{row-head, row-broken, row-short, row-unread}
-use borrow.Author.Needs.{needs}
 use Rattle.trcf.proofs.extrapolation.extrapolation_row.Statement.{statement}
 use Rattle.trcf.proofs.extrapolation.extrapolation_row.Tie as tie
 
 head-row-requires : tie.Need-head-row-requires
-head-row-requires c κs = search needs
+head-row-requires c κs = tt
 
 returns : tie.Need-returns
 returns c =

@@ -1,30 +1,29 @@
 -- By the mode, over the parts in use. Assumes nothing.
 use native.Mathlib.Omega.{arith}
-use mathlib.Core.Path.{sym, _∙_}
+use mathlib.Core.Path.{sym, _∙_, refl}
 use lib.Seq.{length-take-le}
 use Rattle.common.specs.RangeVector.{ranges}
 use Rattle.trcf.specs.Preprocessor.{previous, numbersOf, timesOf}
 use Rattle.trcf.specs.View.{view}
 use Rattle.trcf.specs.Extrapolation.{forecast, viewed}
 use Rattle.trcf.proofs.ExtrapolationLaws.{augmented-is, standard-is}
-use borrow.Author.Needs.{needs}
 use Rattle.trcf.proofs.extrapolation.invert_accepted.Statement.{statement}
 use Rattle.trcf.proofs.extrapolation.invert_accepted.Tie as tie
 
 mul-m : tie.Need-mul-m
-mul-m c = search needs
+mul-m c = omega arith
 
 add-m : tie.Need-add-m
-add-m c = search needs
+add-m c = omega arith
 
 mul-m-2 : tie.Need-mul-m-2
-mul-m-2 c = search needs
+mul-m-2 c = omega arith
 
 mul-n : tie.Need-mul-n
-mul-n c = search needs
+mul-n c = omega arith
 
 is-augmented-requires : tie.Need-is-augmented-requires
-is-augmented-requires c κs = search needs
+is-augmented-requires c κs = tt
 
 slice-aggregate-invert-augmented : tie.Need-slice-aggregate-invert-augmented
 slice-aggregate-invert-augmented c =
@@ -73,31 +72,31 @@ invert-in-place-requires c κs =
     )
 
 same-length : tie.Need-same-length
-same-length c = search needs
+same-length c = refl
 
 same-length-2 : tie.Need-same-length-2
-same-length-2 c = search needs
+same-length-2 c = refl
 
 same-length-3 : tie.Need-same-length-3
-same-length-3 c = search needs
+same-length-3 c = refl
 
 same-length-4 : tie.Need-same-length-4
-same-length-4 c = search needs
+same-length-4 c = c .before .before .before .before .before .before .before .before .before .before .before .before .invert-augmented .kept .1 .1 .1 .1 .1 .1 .1 .0
 
 same-length-5 : tie.Need-same-length-5
-same-length-5 c = search needs
+same-length-5 c = c .before .before .before .before .before .before .before .before .before .before .before .before .invert-augmented .kept .1 .1 .1 .1 .1 .1 .1 .1 .0
 
 same-length-6 : tie.Need-same-length-6
-same-length-6 c = search needs
+same-length-6 c = c .before .before .before .before .before .before .before .before .before .before .before .before .invert-augmented .kept .1 .1 .1 .1 .1 .1 .1 .1 .1 .0
 
 same-length-7 : tie.Need-same-length-7
-same-length-7 c = search needs
+same-length-7 c = c .before .before .before .before .before .before .before .before .before .before .before .before .invert-augmented .kept .1 .1 .1 .1 .1 .1 .1 .1 .1 .1 .0
 
 same-length-8 : tie.Need-same-length-8
-same-length-8 c = search needs
+same-length-8 c = c .before .before .before .before .before .before .before .before .before .before .before .before .invert-augmented .kept .1 .1 .1 .1 .1 .1 .1 .1 .1 .1 .1 .0
 
 same-length-9 : tie.Need-same-length-9
-same-length-9 c = search needs
+same-length-9 c = c .before .before .before .before .before .before .before .before .before .before .before .before .invert-augmented .kept .1 .1 .1 .1 .1 .1 .1 .1 .1 .1 .1 .1 .0
 
 returns : tie.Need-returns
 unfolding numbersOf timesOf previous viewed view
@@ -109,13 +108,13 @@ returns c =
     _ _ (sym (c .before .before .before .before .before .before .before .before .before .before .before .before .before .before .before .before .before .before .before .before .before .before .before .before .before .before .is-augmented .ensures) ∙ c .before .before .before .before .before .before .before .before .before .before .before .before .before .before .before .before .before .before .before .before .before .before .before .before .before .if1 .taken) (I .0) (I .1)
 
 same-length-10 : tie.Need-same-length-10
-same-length-10 c = search needs
+same-length-10 c = c .before .before .before .before .before .before .invert-in-place .kept .1 .1 .1 .0
 
 same-length-11 : tie.Need-same-length-11
-same-length-11 c = search needs
+same-length-11 c = c .before .before .before .before .before .before .invert-in-place .kept .1 .1 .1 .1 .0
 
 same-length-12 : tie.Need-same-length-12
-same-length-12 c = search needs
+same-length-12 c = c .before .before .before .before .before .before .invert-in-place .kept .1 .1 .1 .1 .1 .0
 
 returns-2 : tie.Need-returns-2
 unfolding previous viewed view

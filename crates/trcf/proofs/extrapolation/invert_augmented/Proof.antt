@@ -33,7 +33,7 @@ mul-n c =
     omega arith
 
 last-time-requires : tie.Need-last-time-requires
-last-time-requires c κs = search needs
+last-time-requires c κs = tt
 
 slice-relend-prefix-invert-numbers : tie.Need-slice-relend-prefix-invert-numbers
 slice-relend-prefix-invert-numbers c =

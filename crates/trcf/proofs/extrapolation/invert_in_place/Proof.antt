@@ -12,7 +12,6 @@ use Rattle.trcf.specs.Settings.{transformer}
 use Rattle.trcf.specs.Transformer.{invertedForecast}
 use Rattle.trcf.specs.View.{settingsOf}
 use Rattle.trcf.proofs.ExtrapolationLaws.{input-within, newest-is, newest-length, inverted-free}
-use borrow.Author.Needs.{needs}
 use Rattle.trcf.proofs.extrapolation.invert_in_place.Statement.{statement}
 use Rattle.trcf.proofs.extrapolation.invert_in_place.Tie as tie
 
@@ -23,16 +22,16 @@ sub-b c =
     omega (arith, c .before .before .before .before .before .before .pre .1 .0 .1)
 
 mul-invert-forecast-in-place : tie.Need-mul-invert-forecast-in-place
-mul-invert-forecast-in-place c = search needs
+mul-invert-forecast-in-place c = omega arith
 
 sub-invert-forecast-in-place : tie.Need-sub-invert-forecast-in-place
-sub-invert-forecast-in-place c = search needs
+sub-invert-forecast-in-place c = omega arith
 
 part-invert-forecast-in-place-start : tie.Need-part-invert-forecast-in-place-start
-part-invert-forecast-in-place-start c = search needs
+part-invert-forecast-in-place-start c = omega arith
 
 part-invert-forecast-in-place-end : tie.Need-part-invert-forecast-in-place-end
-part-invert-forecast-in-place-end c = search needs
+part-invert-forecast-in-place-end c = omega arith
 
 invert-forecast-in-place-requires : tie.Need-invert-forecast-in-place-requires
 invert-forecast-in-place-requires c κs =
@@ -46,13 +45,13 @@ invert-forecast-in-place-requires c κs =
     )
 
 same-length : tie.Need-same-length
-same-length c = search needs
+same-length c = c .before .before .before .before .before .before .invert-forecast-in-place .kept .1 .1 .1 .0
 
 same-length-2 : tie.Need-same-length-2
-same-length-2 c = search needs
+same-length-2 c = c .before .before .before .before .before .before .invert-forecast-in-place .kept .1 .1 .1 .1 .0
 
 same-length-3 : tie.Need-same-length-3
-same-length-3 c = search needs
+same-length-3 c = c .before .before .before .before .before .before .invert-forecast-in-place .kept .1 .1 .1 .1 .1 .0
 
 returns : tie.Need-returns
 returns c =

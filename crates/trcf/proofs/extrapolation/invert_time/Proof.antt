@@ -3,21 +3,20 @@ use mathlib.Core.Path.{_∙_}
 use lib.Ieee.{binary64}
 use Rattle.common.specs.RangeVector.{range, shifted}
 use Rattle.trcf.specs.Extrapolation.{timeBy}
-use borrow.Author.Needs.{needs}
 use Rattle.trcf.proofs.extrapolation.invert_time.Statement.{statement}
 use Rattle.trcf.proofs.extrapolation.invert_time.Tie as tie
 
 stretch-requires : tie.Need-stretch-requires
-stretch-requires c κs = search needs
+stretch-requires c κs = tt
 
 stretch-requires-2 : tie.Need-stretch-requires-2
-stretch-requires-2 c κs = search needs
+stretch-requires-2 c κs = tt
 
 stretch-requires-3 : tie.Need-stretch-requires-3
-stretch-requires-3 c κs = search needs
+stretch-requires-3 c κs = tt
 
 shift-requires : tie.Need-shift-requires
-shift-requires c κs = search needs
+shift-requires c κs = tt
 
 returns : tie.Need-returns
 unfolding timeBy

@@ -21,7 +21,7 @@ dimension-of-requires : tie.Need-dimension-of-requires
 dimension-of-requires c κs = search needs
 
 time-factor-requires : tie.Need-time-factor-requires
-time-factor-requires c κs = search needs
+time-factor-requires c κs = tt
 
 timescale-of-requires : tie.Need-timescale-of-requires
 timescale-of-requires c κs = search needs
@@ -49,13 +49,13 @@ cascaded-add-f64-requires : tie.Need-cascaded-add-f64-requires
 cascaded-add-f64-requires c κs = search needs
 
 same-length : tie.Need-same-length
-same-length c = search needs
+same-length c = c .before .before .before .before .before .before .cascaded-add-f64 .kept .0 ∙ c .before .before .before .before .before .before .before .before .before .before .before .before .before .before .before .before .before .before .write-times .kept .1 .1 .1 .1 .1 .1 .1 .1 .0
 
 same-length-2 : tie.Need-same-length-2
-same-length-2 c = search needs
+same-length-2 c = c .before .before .before .before .before .before .cascaded-add-f64 .kept .1 .0 ∙ c .before .before .before .before .before .before .before .before .before .before .before .before .before .before .before .before .before .before .write-times .kept .1 .1 .1 .1 .1 .1 .1 .1 .1 .0
 
 same-length-3 : tie.Need-same-length-3
-same-length-3 c = search needs
+same-length-3 c = c .before .before .before .before .before .before .cascaded-add-f64 .kept .1 .1 .0 ∙ c .before .before .before .before .before .before .before .before .before .before .before .before .before .before .before .before .before .before .write-times .kept .1 .1 .1 .1 .1 .1 .1 .1 .1 .1 .0
 
 returns : tie.Need-returns
 returns c =

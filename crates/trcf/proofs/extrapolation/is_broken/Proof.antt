@@ -5,10 +5,10 @@ use Rattle.trcf.proofs.extrapolation.is_broken.Statement.{statement}
 use Rattle.trcf.proofs.extrapolation.is_broken.Tie as tie
 
 is-differencing-requires : tie.Need-is-differencing-requires
-is-differencing-requires c κs = search needs
+is-differencing-requires c κs = tt
 
 is-unblocked-requires : tie.Need-is-unblocked-requires
-is-unblocked-requires c κs = search needs
+is-unblocked-requires c κs = tt
 
 returns : tie.Need-returns
 returns c =

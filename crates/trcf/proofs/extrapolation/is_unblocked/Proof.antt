@@ -1,7 +1,7 @@
 -- Each test in turn. Assumes nothing.
+use native.Mathlib.Omega.{arith}
 use borrow.Author.Tests.{eq-eqb, ne-eqb}
 use Rattle.common.specs.RangeVector.{unblocked}
-use borrow.Author.Needs.{needs}
 use Rattle.trcf.proofs.extrapolation.is_unblocked.Statement.{statement}
 use Rattle.trcf.proofs.extrapolation.is_unblocked.Tie as tie
 
@@ -16,7 +16,7 @@ returns-2 c =
     rw (ne-eqb _ _ (c .before .if1 .left), eq-eqb _ _ (c .if2 .taken))
 
 rem-result : tie.Need-rem-result
-rem-result c = search needs
+rem-result c = omega arith
 
 returns-3 : tie.Need-returns-3
 unfolding unblocked

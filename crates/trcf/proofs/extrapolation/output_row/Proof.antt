@@ -15,7 +15,7 @@ dimension-of-requires : tie.Need-dimension-of-requires
 dimension-of-requires c κs = search needs
 
 is-augmented-requires : tie.Need-is-augmented-requires
-is-augmented-requires c κs = search needs
+is-augmented-requires c κs = tt
 
 div-h : tie.Need-div-h
 div-h c =
@@ -36,7 +36,7 @@ mul-is-shorter-2 c =
     omega (arith, c .before .before .before .before .fits .values)
 
 is-shorter-requires : tie.Need-is-shorter-requires
-is-shorter-requires c κs = search needs
+is-shorter-requires c κs = tt
 
 returns : tie.Need-returns
 unfolding shortAt lookahead
@@ -46,7 +46,7 @@ returns c = (
 )
 
 is-shorter-requires-2 : tie.Need-is-shorter-requires-2
-is-shorter-requires-2 c κs = search needs
+is-shorter-requires-2 c κs = tt
 
 returns-2 : tie.Need-returns-2
 unfolding shortAt lookahead

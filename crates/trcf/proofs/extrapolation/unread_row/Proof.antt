@@ -1,21 +1,21 @@
 -- Each test in turn. Assumes nothing.
+use Rattle.trcf.proofs.BoundLaws.{five, five-more, all-statistics}
 use borrow.Author.Tests.{lt-ltb, le-ltb}
 use native.Mathlib.Omega.{arith}
 use Prim.Native.Nat.{_≤_}
 use native.Mathlib.Nat.{mul-le-mul}
 use Rattle.trcf.specs.Extrapolation.{unread}
-use borrow.Author.Needs.{needs}
 use Rattle.trcf.proofs.extrapolation.unread_row.Statement.{statement}
 use Rattle.trcf.proofs.extrapolation.unread_row.Tie as tie
 
 mul-if1 : tie.Need-mul-if1
-mul-if1 c = search needs
+mul-if1 c = five (c .before .pre .d-few)
 
 add-if1 : tie.Need-add-if1
-add-if1 c = search needs
+add-if1 c = five-more (c .before .pre .d-few)
 
 mul-if1-2 : tie.Need-mul-if1-2
-mul-if1-2 c = search needs
+mul-if1-2 c = all-statistics (c .before .pre .d-few)
 
 returns : tie.Need-returns
 unfolding unread

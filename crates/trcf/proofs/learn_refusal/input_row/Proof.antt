@@ -3,7 +3,6 @@ use native.Mathlib.Omega.{arith}
 use borrow.Author.Tests.{not-true, not-false, lt-ltb, le-ltb, eq-eqb, ne-eqb, le-leb, lt-leb}
 use mathlib.Core.Path.{_≡_, refl, sym, ap, _∙_}
 use Rattle.trcf.specs.View.{inputRow}
-use borrow.Author.Needs.{needs}
 use Rattle.trcf.proofs.learn_refusal.input_row.Statement.{statement}
 use Rattle.trcf.proofs.learn_refusal.input_row.Tie as tie
 
@@ -12,24 +11,24 @@ unfolding inputRow
 returns c = (rw (ne-eqb _ _ (c .if1 .taken)), λ e. absurd (omega (arith, e)))
 
 all-finite-requires : tie.Need-all-finite-requires
-all-finite-requires c κs = search needs
+all-finite-requires c κs = tt
+
+newest-of-requires : tie.Need-newest-of-requires
+newest-of-requires c κs = tt
 
 returns-2 : tie.Need-returns-2
 unfolding inputRow
-returns-2 c = (rw (eq-eqb _ _ (c .before .before .if1 .left), sym (c .before .all-finite .ensures) ∙ not-true _ (c .if2 .taken)), λ e. absurd (omega (arith, e)))
-
-newest-of-requires : tie.Need-newest-of-requires
-newest-of-requires c κs = search needs
+returns-2 c = (rw (eq-eqb _ _ (c .before .before .before .if1 .left), sym (c .before .before .all-finite .ensures) ∙ not-true _ (c .if2 .taken)), λ e. absurd (omega (arith, e)))
 
 returns-3 : tie.Need-returns-3
 unfolding inputRow
-returns-3 c = (rw (eq-eqb _ _ (c .before .before .before .before .if1 .left), sym (c .before .before .before .all-finite .ensures) ∙ not-false _ (c .before .before .if2 .left), ← c .before .newest-of .ensures, lt-ltb _ _ (c .if3 .taken)), λ e. absurd (omega (arith, e)))
+returns-3 c = (rw (eq-eqb _ _ (c .before .before .before .before .if1 .left), sym (c .before .before .before .all-finite .ensures) ∙ not-false _ (c .before .if2 .left), ← c .before .before .newest-of .ensures, lt-ltb _ _ (c .if3 .taken)), λ e. absurd (omega (arith, e)))
 
 returns-4 : tie.Need-returns-4
 unfolding inputRow
-returns-4 c = (rw (eq-eqb _ _ (c .before .before .before .before .if1 .left), sym (c .before .before .before .all-finite .ensures) ∙ not-false _ (c .before .before .if2 .left), ← c .before .newest-of .ensures, le-ltb _ _ (c .if3 .left)), λ e. c .before .before .before .before .if1 .left)
+returns-4 c = (rw (eq-eqb _ _ (c .before .before .before .before .if1 .left), sym (c .before .before .before .all-finite .ensures) ∙ not-false _ (c .before .if2 .left), ← c .before .before .newest-of .ensures, le-ltb _ _ (c .if3 .left)), λ e. c .before .before .before .before .if1 .left)
 
 pub input-row-spec : {M : Type 1} → statement M
 input-row-spec =
     tie.close
-    (tie.spec returns all-finite-requires returns-2 newest-of-requires returns-3 returns-4)
+    (tie.spec returns all-finite-requires newest-of-requires returns-2 returns-3 returns-4)

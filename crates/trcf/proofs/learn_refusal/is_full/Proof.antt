@@ -1,12 +1,11 @@
 -- `trcf::learn_refusal::is_full` meets its contract: each return by the tests on the way to it. Assumes nothing.
 use borrow.Author.Tests.{not-true, not-false, lt-ltb, le-ltb, eq-eqb, ne-eqb, le-leb, lt-leb}
 use mathlib.Core.Path.{_≡_, refl, sym, ap, _∙_}
-use borrow.Author.Needs.{needs}
 use Rattle.trcf.proofs.learn_refusal.is_full.Statement.{statement}
 use Rattle.trcf.proofs.learn_refusal.is_full.Tie as tie
 
 is-count-full-requires : tie.Need-is-count-full-requires
-is-count-full-requires c κs = search needs
+is-count-full-requires c κs = tt
 
 returns : tie.Need-returns
 returns c = rw (sym (c .before .is-count-full .ensures) ∙ c .if1 .taken)

@@ -14,14 +14,14 @@ block-of-requires : tie.Need-block-of-requires
 block-of-requires c κs = search needs
 
 is-wrong-requires : tie.Need-is-wrong-requires
-is-wrong-requires c κs = search needs
+is-wrong-requires c κs = tt
 
 returns : tie.Need-returns
 unfolding learnRow block
 returns c = rw (← c .before .before .before .dimension-of .ensures .0, ← c .before .before .block-of .ensures .0, sym (c .before .is-wrong .ensures) ∙ c .if1 .taken)
 
 is-wrong-requires-2 : tie.Need-is-wrong-requires-2
-is-wrong-requires-2 c κs = search needs
+is-wrong-requires-2 c κs = tt
 
 returns-2 : tie.Need-returns-2
 unfolding learnRow block
@@ -32,7 +32,7 @@ unfolding learnRow block
 returns-3 c = rw (← c .before .before .before .before .before .before .dimension-of .ensures .0, ← c .before .before .before .before .before .block-of .ensures .0, sym (c .before .before .before .before .is-wrong .ensures) ∙ c .before .before .before .if1 .left, sym (c .before .before .is-wrong2 .ensures) ∙ c .before .if2 .left, not-true (c .before .before .before .before .before .before .before .before .args .has-y) (c .if3 .taken))
 
 is-misplaced-requires : tie.Need-is-misplaced-requires
-is-misplaced-requires c κs = search needs
+is-misplaced-requires c κs = tt
 
 returns-4 : tie.Need-returns-4
 unfolding learnRow block
@@ -50,7 +50,7 @@ unfolding learnRow block
 returns-6 c = rw (← c .before .before .before .before .before .before .before .before .before .before .before .dimension-of .ensures .0, ← c .before .before .before .before .before .before .before .before .before .before .block-of .ensures .0, sym (c .before .before .before .before .before .before .before .before .before .is-wrong .ensures) ∙ c .before .before .before .before .before .before .before .before .if1 .left, sym (c .before .before .before .before .before .before .before .is-wrong2 .ensures) ∙ c .before .before .before .before .before .before .if2 .left, not-false (c .before .before .before .before .before .before .before .before .before .before .before .before .before .args .has-y) (c .before .before .before .before .before .if3 .left), sym (c .before .before .before .before .is-misplaced .ensures) ∙ c .before .before .before .if4 .left, sym (c .before .before .is-full .ensures) ∙ c .before .if5 .left, lt-ltb _ _ (c .if6 .taken))
 
 is-anomaly-short-requires : tie.Need-is-anomaly-short-requires
-is-anomaly-short-requires c κs = search needs
+is-anomaly-short-requires c κs = tt
 
 returns-7 : tie.Need-returns-7
 unfolding learnRow block

@@ -6,7 +6,7 @@ use Rattle.trcf.proofs.learn_refusal.learning_row.Statement.{statement}
 use Rattle.trcf.proofs.learn_refusal.learning_row.Tie as tie
 
 is-waiting-requires : tie.Need-is-waiting-requires
-is-waiting-requires c κs = search needs
+is-waiting-requires c κs = tt
 
 waiting-row-requires : tie.Need-waiting-row-requires
 waiting-row-requires c κs = search needs

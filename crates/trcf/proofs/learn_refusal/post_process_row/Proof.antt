@@ -9,19 +9,18 @@ use mathlib.Core.Path.{_≡_, refl, sym, ap, _∙_}
 use Rattle.trcf.specs.View.{rowOf, lent}
 use Rattle.trcf.proofs.RefusalLaws.{orElse-not}
 use Rattle.trcf.proofs.LearnLaws.{post-rows, or-twice}
-use borrow.Author.Needs.{needs}
 use Rattle.trcf.proofs.learn_refusal.post_process_row.Statement.{statement}
 use Rattle.trcf.proofs.learn_refusal.post_process_row.Tie as tie
 
 head-row-requires : tie.Need-head-row-requires
-head-row-requires c κs = search needs
+head-row-requires c κs = tt
 
 returns : tie.Need-returns
 unfolding rowOf
 returns c = (rw (← c .before .head-row .ensures .0) (orElse-not (c .before .head-row .result) _ (c .if1 .taken)), (λ e. absurd (c .if1 .taken e), (λ e. absurd (c .if1 .taken e), λ e. absurd (c .if1 .taken e))))
 
 input-row-requires : tie.Need-input-row-requires
-input-row-requires c κs = search needs
+input-row-requires c κs = tt
 
 returns-2 : tie.Need-returns-2
 unfolding rowOf
@@ -34,7 +33,7 @@ returns-2 c =
     (rw (sym (c .before .before .before .head-row .ensures .0) ∙ c .before .before .if1 .left, ← q, ← c .before .input-row .ensures .0) (or-twice (c .before .input-row .result) _ _ (c .if2 .taken)), (λ e. absurd (c .if2 .taken e), (λ e. absurd (c .if2 .taken e), λ e. absurd (c .if2 .taken e))))
 
 places-back-requires : tie.Need-places-back-requires
-places-back-requires c κs = search needs
+places-back-requires c κs = tt
 
 learning-row-requires : tie.Need-learning-row-requires
 learning-row-requires c κs = c .before .before .before .before .head-row .ensures .1 (c .before .before .before .if1 .left)

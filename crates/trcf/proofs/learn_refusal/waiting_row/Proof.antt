@@ -16,7 +16,7 @@ block-of-requires : tie.Need-block-of-requires
 block-of-requires c κs = search needs
 
 add-if2 : tie.Need-add-if2
-add-if2 c = search needs
+add-if2 c = omega arith
 
 returns-2 : tie.Need-returns-2
 unfolding waitingRow block

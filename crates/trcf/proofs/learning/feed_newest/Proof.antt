@@ -8,33 +8,32 @@ use lib.ListN.{length, length-take, length-drop, take, drop}
 use Rattle.trcf.specs.Preprocessor.{feed, reading, previous}
 use Rattle.trcf.specs.View.{settingsOf}
 use Rattle.trcf.proofs.OutputLaws.{newest-part}
-use borrow.Author.Needs.{needs}
 use Rattle.trcf.proofs.learning.feed_newest.Statement.{statement}
 use Rattle.trcf.proofs.learning.feed_newest.Tie as tie
 
 last-time-requires : tie.Need-last-time-requires
-last-time-requires c κs = search needs
+last-time-requires c κs = tt
 
 sub-feed-reading : tie.Need-sub-feed-reading
 sub-feed-reading c = let a = c .before .before .before .before .before .before .before .before .args in let h = a .head in let q = c .before .before .before .before .before .before .before .before .pre in let d = h .transformer .«input_length» in let m = le-mul-of-pos-right d (q .0 .k-pos) in omega (arith, q .1 .0)
 
 mul-feed-reading : tie.Need-mul-feed-reading
-mul-feed-reading c = search needs
+mul-feed-reading c = omega arith
 
 sub-feed-reading-2 : tie.Need-sub-feed-reading-2
-sub-feed-reading-2 c = search needs
+sub-feed-reading-2 c = omega arith
 
 part-feed-reading-start : tie.Need-part-feed-reading-start
-part-feed-reading-start c = search needs
+part-feed-reading-start c = omega arith
 
 part-feed-reading-end : tie.Need-part-feed-reading-end
-part-feed-reading-end c = search needs
+part-feed-reading-end c = omega arith
 
 feed-reading-requires : tie.Need-feed-reading-requires
 feed-reading-requires c κs = let a = c .before .before .before .before .before .before .before .before .before .args in let h = a .head in let q = c .before .before .before .before .before .before .before .before .before .pre in let d = h .transformer .«input_length» in let m = le-mul-of-pos-right d (q .0 .k-pos) in (q .0, (q .1 .0 .all-statistics, (q .1 .1 .1 (c .before .before .before .before .if1 .taken), (simp (length-drop, length-take) (omega (arith, q .1 .0)), q .1 .1 .0))))
 
 same-length : tie.Need-same-length
-same-length c = search needs
+same-length c = c .before .before .feed-reading .kept .1 .1 .0
 
 returns : tie.Need-returns
 unfolding previous

@@ -16,13 +16,13 @@ copy-in-requires : tie.Need-copy-in-requires
 copy-in-requires c κs = let a = c .before .before .before .before .before .before .args in let h = a .head in let q = c .before .before .before .before .before .before .pre in let d = h .transformer .«input_length» in let b = block-in (h .«initial_len») (h .«start_normalization») d (q .1 .1 .0) in omega (arith, q)
 
 mul-initial-timestamps : tie.Need-mul-initial-timestamps
-mul-initial-timestamps c = search needs
+mul-initial-timestamps c = omega arith
 
 slice-write-initial-timestamps : tie.Need-slice-write-initial-timestamps
 slice-write-initial-timestamps c = search needs
 
 same-length : tie.Need-same-length
-same-length c = search needs
+same-length c = c .before .before .copy-in .kept .0
 
 same-length-2 : tie.Need-same-length-2
 same-length-2 c = search needs

@@ -1,4 +1,5 @@
 -- `trcf::learning::update_shingles` meets its contract: by its callees' promises and the laws of lists. Assumes nothing.
+use Rattle.trcf.proofs.BoundLaws.{five, five-more, all-statistics, all-inputs}
 use native.Mathlib.Omega.{arith}
 use mathlib.Core.Path.{_≡_, refl, sym, ap, _∙_}
 use Prim.Native.Nat.{ℕ, suc, _+_, _-_, _*_, _≤_, _<_}
@@ -12,13 +13,13 @@ use Rattle.trcf.proofs.learning.update_shingles.Statement.{statement}
 use Rattle.trcf.proofs.learning.update_shingles.Tie as tie
 
 mul-feed-newest : tie.Need-mul-feed-newest
-mul-feed-newest c = search needs
+mul-feed-newest c = five (c .before .before .before .before .before .before .before .pre .0 .d-few)
 
 add-feed-newest : tie.Need-add-feed-newest
-add-feed-newest c = search needs
+add-feed-newest c = five-more (c .before .before .before .before .before .before .before .pre .0 .d-few)
 
 mul-feed-newest-2 : tie.Need-mul-feed-newest-2
-mul-feed-newest-2 c = search needs
+mul-feed-newest-2 c = all-statistics (c .before .before .before .before .before .before .before .pre .0 .d-few)
 
 slice-relend-prefix-feed-newest : tie.Need-slice-relend-prefix-feed-newest
 slice-relend-prefix-feed-newest c = search needs
@@ -27,7 +28,7 @@ slice-aggregate-feed-newest : tie.Need-slice-aggregate-feed-newest
 slice-aggregate-feed-newest c = let a = c .before .before .before .before .before .before .before .before .args in let h = a .head in let q = c .before .before .before .before .before .before .before .before .pre in let d = h .transformer .«input_length» in simp length-take (omega (arith, q))
 
 mul-feed-newest-3 : tie.Need-mul-feed-newest-3
-mul-feed-newest-3 c = search needs
+mul-feed-newest-3 c = let b = c .before .before .before .before .before .before .before .before .pre .0 in all-inputs (b .d-few) (b .k-few)
 
 slice-reshare-prefix-feed-newest : tie.Need-slice-reshare-prefix-feed-newest
 slice-reshare-prefix-feed-newest c = search needs
@@ -45,7 +46,7 @@ feed-newest-requires : tie.Need-feed-newest-requires
 feed-newest-requires c κs = let a = c .before .before .before .before .before .before .before .before .before .before .args in let h = a .head in let q = c .before .before .before .before .before .before .before .before .before .before .pre in let d = h .transformer .«input_length» in (q .0, (record { all-statistics = length-take-le _ _ (q .1 .0); all-input = length-take-le _ _ (q .1 .1 .0); all-times = length-take-le _ _ (q .1 .1 .1 .1 .0) }, (q .1 .1 .1 .1 .1 .0, q .1 .1 .1 .1 .1 .1 .1)))
 
 mul-shift-vector : tie.Need-mul-shift-vector
-mul-shift-vector c = search needs
+mul-shift-vector c = let b = c .before .before .before .before .before .before .before .before .before .before .before .before .before .pre .0 in all-inputs (b .d-few) (b .k-few)
 
 slice-relend-prefix-shift-vector : tie.Need-slice-relend-prefix-shift-vector
 slice-relend-prefix-shift-vector c = search needs
@@ -75,7 +76,7 @@ same-length-2 : tie.Need-same-length-2
 same-length-2 c = search needs
 
 same-length-3 : tie.Need-same-length-3
-same-length-3 c = search needs
+same-length-3 c = c .before .before .before .before .before .before .copy-in .kept .0
 
 same-length-4 : tie.Need-same-length-4
 same-length-4 c = search needs

@@ -3,18 +3,17 @@ use native.Mathlib.Omega.{arith}
 use mathlib.Core.Path.{_≡_, refl, sym, ap, _∙_}
 use borrow.Author.Tests.{not-true, not-false, lt-ltb, le-ltb, eq-eqb, ne-eqb, le-leb, lt-leb}
 use Prim.Native.Nat.{ℕ, suc, _+_, _-_, _*_, _≤_, _<_}
-use borrow.Author.Needs.{needs}
 use Rattle.trcf.proofs.learning.write_completing.Statement.{statement}
 use Rattle.trcf.proofs.learning.write_completing.Tie as tie
 
 add-if1 : tie.Need-add-if1
-add-if1 c = search needs
+add-if1 c = omega arith
 
 write-deviations-requires : tie.Need-write-deviations-requires
 write-deviations-requires c κs = let a = c .before .before .before .before .args in let h = a .head in let q = c .before .before .before .before .pre in let d = h .transformer .«input_length» in (q .0, (q .1 .0, q .1 .1 .1 (eq-eqb (suc (h .«values_seen»)) (h .«start_normalization») (omega arith))))
 
 same-length : tie.Need-same-length
-same-length c = search needs
+same-length c = c .before .before .write-deviations .kept .1 .1 .0
 
 returns : tie.Need-returns
 returns c = let a = c .before .before .before .before .before .before .before .args in let h = a .head in let q = c .before .before .before .before .before .before .before .pre in let d = h .transformer .«input_length» in let e = eq-eqb (suc (h .«values_seen»)) (h .«start_normalization») (omega arith) in (sym e, rw e (c .before .before .write-deviations .ensures))

@@ -1,12 +1,11 @@
 -- `trcf::learning::write_found` meets its contract: by its callees' promises and the laws of lists. Assumes nothing.
 use borrow.Author.Tests.{not-true, not-false, lt-ltb, le-ltb, eq-eqb, ne-eqb, le-leb, lt-leb}
 use mathlib.Core.Path.{_≡_, refl, sym, ap, _∙_}
-use borrow.Author.Needs.{needs}
 use Rattle.trcf.proofs.learning.write_found.Statement.{statement}
 use Rattle.trcf.proofs.learning.write_found.Tie as tie
 
 is-anomaly-requires : tie.Need-is-anomaly-requires
-is-anomaly-requires c κs = search needs
+is-anomaly-requires c κs = tt
 
 returns : tie.Need-returns
 returns c = let e = sym (c .before .is-anomaly .ensures) ∙ not-true _ (c .if1 .taken) in (sym e, (rw e, (rw e, rw e)))
@@ -15,10 +14,10 @@ write-anomaly-requires : tie.Need-write-anomaly-requires
 write-anomaly-requires c κs = let q = c .before .before .before .before .before .before .before .before .before .before .before .pre in let f = q .1 .1 .1 (sym (c .before .before .before .is-anomaly .ensures) ∙ not-false _ (c .before .before .if1 .left)) in (q .0, (q .1 .0, (q .1 .1 .0, (f .all-expected, (f .inside, (f .past-room, f .expected-room))))))
 
 same-length : tie.Need-same-length
-same-length c = search needs
+same-length c = c .before .before .before .before .write-anomaly .kept .1 .1 .1 .1 .1 .1 .1 .0
 
 same-length-2 : tie.Need-same-length-2
-same-length-2 c = search needs
+same-length-2 c = c .before .before .before .before .write-anomaly .kept .1 .1 .1 .1 .1 .1 .1 .1 .0
 
 returns-2 : tie.Need-returns-2
 returns-2 c = let e = sym (c .before .before .before .before .before .before .before .before .is-anomaly .ensures) ∙ not-false _ (c .before .before .before .before .before .before .before .if1 .left) in let r = c .before .before .before .before .write-anomaly .ensures in (sym e, (rw e (r .0), (rw e (r .1 .0), rw e (r .1 .1))))

@@ -17,13 +17,13 @@ unfolding block
 difference-deviations-into-requires c κs = (record { some = omega arith; few = omega arith; room = omega arith }, omega arith)
 
 is-augmented-requires : tie.Need-is-augmented-requires
-is-augmented-requires c κs = search needs
+is-augmented-requires c κs = tt
 
 time-deviation-requires : tie.Need-time-deviation-requires
 time-deviation-requires c κs = search needs
 
 mul-output : tie.Need-mul-output
-mul-output c = search needs
+mul-output c = omega arith
 
 slice-write-output : tie.Need-slice-write-output
 slice-write-output c = let b = block-augmented (settingsOf (c .before .before .before .before .before .before .before .before .before .before .args .head)) (sym (c .before .before .is-augmented .ensures) ∙ c .before .if1 .taken) in omega (arith, c .before .before .before .before .before .difference-deviations-into .kept, c .before .before .before .before .before .before .before .before .before .before .pre)

@@ -1,4 +1,5 @@
 -- `trcf::output::write_point` meets its contract: by its callees' promises, the time's number behind the channels'. Assumes nothing.
+use Rattle.trcf.proofs.BoundLaws.{five, five-more, all-statistics, all-inputs}
 use native.Mathlib.Omega.{arith}
 use mathlib.Core.Path.{_≡_, refl, sym, ap, _∙_}
 use Prim.Native.Nat.{ℕ, _+_, _-_, _*_, _≤_, _<_}
@@ -22,25 +23,25 @@ dimension-of-requires : tie.Need-dimension-of-requires
 dimension-of-requires c κs = search needs
 
 mul-write-transform : tie.Need-mul-write-transform
-mul-write-transform c = search needs
+mul-write-transform c = five (c .before .before .before .before .before .before .before .before .before .pre .0 .d-few)
 
 add-write-transform : tie.Need-add-write-transform
-add-write-transform c = search needs
+add-write-transform c = five-more (c .before .before .before .before .before .before .before .before .before .pre .0 .d-few)
 
 mul-write-transform-2 : tie.Need-mul-write-transform-2
-mul-write-transform-2 c = search needs
+mul-write-transform-2 c = all-statistics (c .before .before .before .before .before .before .before .before .before .pre .0 .d-few)
 
 slice-aggregate-write-transform : tie.Need-slice-aggregate-write-transform
-slice-aggregate-write-transform c = let a = c .before .before .before .before .before .before .before .before .before .before .args in let q = c .before .before .before .before .before .before .before .before .before .before .pre in simp length-take (omega (arith, q))
+slice-aggregate-write-transform c = sym (length-take-le _ _ (c .before .before .before .before .before .before .before .before .before .before .pre .1 .0))
 
 mul-write-transform-3 : tie.Need-mul-write-transform-3
-mul-write-transform-3 c = search needs
+mul-write-transform-3 c = let b = c .before .before .before .before .before .before .before .before .before .before .pre .0 in all-inputs (b .d-few) (b .k-few)
 
 slice-aggregate-write-transform-2 : tie.Need-slice-aggregate-write-transform-2
-slice-aggregate-write-transform-2 c = let a = c .before .before .before .before .before .before .before .before .before .before .before .args in let q = c .before .before .before .before .before .before .before .before .before .before .before .pre in simp length-take (omega (arith, q))
+slice-aggregate-write-transform-2 c = sym (length-take-le _ _ (c .before .before .before .before .before .before .before .before .before .before .before .pre .1 .1 .0))
 
 slice-aggregate-write-transform-3 : tie.Need-slice-aggregate-write-transform-3
-slice-aggregate-write-transform-3 c = let a = c .before .before .before .before .before .before .before .before .before .before .before .before .args in let q = c .before .before .before .before .before .before .before .before .before .before .before .before .pre in simp length-take (omega (arith, q))
+slice-aggregate-write-transform-3 c = sym (length-take-le _ _ (c .before .before .before .before .before .before .before .before .before .before .before .before .pre .1 .1 .1 .1 .0))
 
 slice-aggregate-write-transform-4 : tie.Need-slice-aggregate-write-transform-4
 slice-aggregate-write-transform-4 c = search needs

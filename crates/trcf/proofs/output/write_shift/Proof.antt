@@ -17,10 +17,10 @@ unfolding block
 shift-into-requires c κs = (record { some = omega arith; few = omega arith; room = omega arith }, omega arith)
 
 is-augmented-requires : tie.Need-is-augmented-requires
-is-augmented-requires c κs = search needs
+is-augmented-requires c κs = tt
 
 last-time-requires : tie.Need-last-time-requires
-last-time-requires c κs = search needs
+last-time-requires c κs = tt
 
 u64-to-f32-requires : tie.Need-u64-to-f32-requires
 u64-to-f32-requires c κs = search needs
@@ -32,7 +32,7 @@ to-f32-requires : tie.Need-to-f32-requires
 to-f32-requires c κs = search needs
 
 mul-output : tie.Need-mul-output
-mul-output c = search needs
+mul-output c = omega arith
 
 slice-write-output : tie.Need-slice-write-output
 slice-write-output c = let b = block-augmented (settingsOf (c .before .before .before .before .before .before .before .before .before .before .before .before .before .before .args .head)) (sym (c .before .before .before .before .before .is-augmented .ensures) ∙ c .before .before .before .before .if1 .taken) in omega (arith, c .before .before .before .before .before .before .before .before .shift-into .kept, c .before .before .before .before .before .before .before .before .before .before .before .before .before .before .pre)

@@ -18,32 +18,32 @@ sub-transform-into : tie.Need-sub-transform-into
 sub-transform-into c = let m = le-mul-of-pos-right (c .before .before .before .before .before .before .args .head .transformer .«input_length») (c .before .before .before .before .before .before .pre .0 .k-pos) in omega (arith, c .before .before .before .before .before .before .pre)
 
 mul-transform-into : tie.Need-mul-transform-into
-mul-transform-into c = search needs
+mul-transform-into c = omega arith
 
 sub-transform-into-2 : tie.Need-sub-transform-into-2
-sub-transform-into-2 c = search needs
+sub-transform-into-2 c = omega arith
 
 part-transform-into-start : tie.Need-part-transform-into-start
-part-transform-into-start c = search needs
+part-transform-into-start c = omega arith
 
 part-transform-into-end : tie.Need-part-transform-into-end
-part-transform-into-end c = search needs
+part-transform-into-end c = omega arith
 
 transform-into-requires : tie.Need-transform-into-requires
 unfolding block
 transform-into-requires c κs = let m = le-mul-of-pos-right (c .before .before .before .before .before .before .before .before .args .head .transformer .«input_length») (c .before .before .before .before .before .before .before .before .pre .0 .k-pos) in (record { some = omega (arith, c .before .before .before .before .before .before .before .before .pre); few = omega (arith, c .before .before .before .before .before .before .before .before .pre); room = omega (arith, c .before .before .before .before .before .before .before .before .pre) }, (omega (arith, c .before .before .before .before .before .before .before .before .pre), (simp (length-drop, length-take) (omega (arith, c .before .before .before .before .before .before .before .before .pre)), omega (arith, c .before .before .before .before .before .before .before .before .pre))))
 
 is-augmented-requires : tie.Need-is-augmented-requires
-is-augmented-requires c κs = search needs
+is-augmented-requires c κs = tt
 
 previous-time-requires : tie.Need-previous-time-requires
-previous-time-requires c κs = search needs
+previous-time-requires c κs = tt
 
 time-element-requires : tie.Need-time-element-requires
 time-element-requires c κs = search needs
 
 mul-output : tie.Need-mul-output
-mul-output c = search needs
+mul-output c = omega arith
 
 slice-write-output : tie.Need-slice-write-output
 slice-write-output c = let b = block-augmented (settingsOf (c .before .before .before .before .before .before .before .before .before .before .before .before .before .before .before .args .head)) (sym (c .before .before .before .is-augmented .ensures) ∙ c .before .before .if1 .taken) in omega (arith, c .before .before .before .before .before .before .transform-into .kept, c .before .before .before .before .before .before .before .before .before .before .before .before .before .before .before .pre)

@@ -1,4 +1,5 @@
 -- `trcf::preprocessor::build` meets its contract: by its callees' promises and the laws of outcomes. Assumes nothing.
+use Rattle.trcf.proofs.BoundLaws.{five, five-more, all-statistics, all-inputs}
 use native.Mathlib.Omega.{arith}
 use mathlib.Core.Path.{_≡_, refl, sym, ap, _∙_}
 use native.Mathlib.Nat.{mul-le-mul}
@@ -13,10 +14,10 @@ use Rattle.trcf.proofs.preprocessor.build.Statement.{statement}
 use Rattle.trcf.proofs.preprocessor.build.Tie as tie
 
 settings-row-requires : tie.Need-settings-row-requires
-settings-row-requires c κs = search needs
+settings-row-requires c κs = tt
 
 no-head-requires : tie.Need-no-head-requires
-no-head-requires c κs = search needs
+no-head-requires c κs = tt
 
 returns : tie.Need-returns
 returns c =
@@ -37,19 +38,19 @@ lent-row-requires c κs =
     rw (c .before .before .before .before .head-from .ensures) (bounded-from s (c .before .before .before .before .before .before .settings-row .ensures .1 (c .before .before .before .before .before .if1 .left) .bounded))
 
 no-head-requires-2 : tie.Need-no-head-requires-2
-no-head-requires-2 c κs = search needs
+no-head-requires-2 c κs = tt
 
 same-length : tie.Need-same-length
-same-length c = search needs
+same-length c = refl
 
 same-length-2 : tie.Need-same-length-2
-same-length-2 c = search needs
+same-length-2 c = refl
 
 same-length-3 : tie.Need-same-length-3
-same-length-3 c = search needs
+same-length-3 c = refl
 
 same-length-4 : tie.Need-same-length-4
-same-length-4 c = search needs
+same-length-4 c = refl
 
 returns-2 : tie.Need-returns-2
 returns-2 c =
@@ -68,13 +69,13 @@ dimension-of-requires c κs =
     rw (c .before .before .before .before .before .before .head-from .ensures) (bounded-from s (c .before .before .before .before .before .before .before .before .settings-row .ensures .1 (c .before .before .before .before .before .before .before .if1 .left) .bounded))
 
 mul-zero-f64 : tie.Need-mul-zero-f64
-mul-zero-f64 c = let r = c .before .before .before .before .before .before .before .before .before .settings-row .ensures .1 (c .before .before .before .before .before .before .before .before .if1 .left) in let p = mul-le-mul (r .bounded .d-few) (r .bounded .k-few) in omega (arith, r .bounded)
+mul-zero-f64 c = five (c .before .before .before .before .before .before .before .before .before .settings-row .ensures .1 (c .before .before .before .before .before .before .before .before .if1 .left) .bounded .d-few)
 
 add-zero-f64 : tie.Need-add-zero-f64
-add-zero-f64 c = let r = c .before .before .before .before .before .before .before .before .before .settings-row .ensures .1 (c .before .before .before .before .before .before .before .before .if1 .left) in let p = mul-le-mul (r .bounded .d-few) (r .bounded .k-few) in omega (arith, r .bounded)
+add-zero-f64 c = five-more (c .before .before .before .before .before .before .before .before .before .settings-row .ensures .1 (c .before .before .before .before .before .before .before .before .if1 .left) .bounded .d-few)
 
 mul-zero-f64-2 : tie.Need-mul-zero-f64-2
-mul-zero-f64-2 c = let r = c .before .before .before .before .before .before .before .before .before .settings-row .ensures .1 (c .before .before .before .before .before .before .before .before .if1 .left) in let p = mul-le-mul (r .bounded .d-few) (r .bounded .k-few) in omega (arith, r .bounded)
+mul-zero-f64-2 c = all-statistics (c .before .before .before .before .before .before .before .before .before .settings-row .ensures .1 (c .before .before .before .before .before .before .before .before .if1 .left) .bounded .d-few)
 
 slice-relend-prefix-zero-f64 : tie.Need-slice-relend-prefix-zero-f64
 slice-relend-prefix-zero-f64 c = let r = (rw (c .before .before .before .before .before .before .before .head-from .ensures) at (c .before .before .lent-row .ensures .1 (c .before .if2 .left))) in omega (arith, r .roomy)
@@ -83,10 +84,10 @@ slice-aggregate-zero-f64 : tie.Need-slice-aggregate-zero-f64
 slice-aggregate-zero-f64 c = let r = (rw (c .before .before .before .before .before .before .before .before .head-from .ensures) at (c .before .before .before .lent-row .ensures .1 (c .before .before .if2 .left))) in simp length-take (omega (arith, r .roomy))
 
 zero-f64-requires : tie.Need-zero-f64-requires
-zero-f64-requires c κs = search needs
+zero-f64-requires c κs = tt
 
 mul-zero-f32 : tie.Need-mul-zero-f32
-mul-zero-f32 c = let r = c .before .before .before .before .before .before .before .before .before .before .before .before .before .settings-row .ensures .1 (c .before .before .before .before .before .before .before .before .before .before .before .before .if1 .left) in let p = mul-le-mul (r .bounded .d-few) (r .bounded .k-few) in omega (arith, r .bounded)
+mul-zero-f32 c = let r = c .before .before .before .before .before .before .before .before .before .before .before .before .before .settings-row .ensures .1 (c .before .before .before .before .before .before .before .before .before .before .before .before .if1 .left) in all-inputs (r .bounded .d-few) (r .bounded .k-few)
 
 slice-relend-prefix-zero-f32 : tie.Need-slice-relend-prefix-zero-f32
 slice-relend-prefix-zero-f32 c = let r = (rw (c .before .before .before .before .before .before .before .before .before .before .before .head-from .ensures) at (c .before .before .before .before .before .before .lent-row .ensures .1 (c .before .before .before .before .before .if2 .left))) in omega (arith, r .roomy)
@@ -95,7 +96,7 @@ slice-aggregate-zero-f32 : tie.Need-slice-aggregate-zero-f32
 slice-aggregate-zero-f32 c = let r = (rw (c .before .before .before .before .before .before .before .before .before .before .before .before .head-from .ensures) at (c .before .before .before .before .before .before .before .lent-row .ensures .1 (c .before .before .before .before .before .before .if2 .left))) in simp length-take (omega (arith, r .roomy))
 
 zero-f32-requires : tie.Need-zero-f32-requires
-zero-f32-requires c κs = search needs
+zero-f32-requires c κs = tt
 
 slice-relend-prefix-zero-f32-2 : tie.Need-slice-relend-prefix-zero-f32-2
 slice-relend-prefix-zero-f32-2 c = let r = (rw (c .before .before .before .before .before .before .before .before .before .before .before .before .before .before .before .head-from .ensures) at (c .before .before .before .before .before .before .before .before .before .before .lent-row .ensures .1 (c .before .before .before .before .before .before .before .before .before .if2 .left))) in omega (arith, r .roomy, (rw (c .before .before .before .before .before .before .before .before .before .before .before .before .before .before .before .head-from .ensures) at (c .before .before .before .before .before .before .before .before .dimension-of .ensures .0)))
@@ -104,7 +105,7 @@ slice-aggregate-zero-f32-2 : tie.Need-slice-aggregate-zero-f32-2
 slice-aggregate-zero-f32-2 c = let r = (rw (c .before .before .before .before .before .before .before .before .before .before .before .before .before .before .before .before .head-from .ensures) at (c .before .before .before .before .before .before .before .before .before .before .before .lent-row .ensures .1 (c .before .before .before .before .before .before .before .before .before .before .if2 .left))) in simp length-take (omega (arith, r .roomy, (rw (c .before .before .before .before .before .before .before .before .before .before .before .before .before .before .before .before .head-from .ensures) at (c .before .before .before .before .before .before .before .before .before .dimension-of .ensures .0))))
 
 zero-f32-requires-2 : tie.Need-zero-f32-requires-2
-zero-f32-requires-2 c κs = search needs
+zero-f32-requires-2 c κs = tt
 
 slice-relend-prefix-zero-u64 : tie.Need-slice-relend-prefix-zero-u64
 slice-relend-prefix-zero-u64 c = let r = (rw (c .before .before .before .before .before .before .before .before .before .before .before .before .before .before .before .before .before .before .before .head-from .ensures) at (c .before .before .before .before .before .before .before .before .before .before .before .before .before .before .lent-row .ensures .1 (c .before .before .before .before .before .before .before .before .before .before .before .before .before .if2 .left))) in omega (arith, r .roomy)
@@ -113,7 +114,7 @@ slice-aggregate-zero-u64 : tie.Need-slice-aggregate-zero-u64
 slice-aggregate-zero-u64 c = let r = (rw (c .before .before .before .before .before .before .before .before .before .before .before .before .before .before .before .before .before .before .before .before .head-from .ensures) at (c .before .before .before .before .before .before .before .before .before .before .before .before .before .before .before .lent-row .ensures .1 (c .before .before .before .before .before .before .before .before .before .before .before .before .before .before .if2 .left))) in simp length-take (omega (arith, r .roomy))
 
 zero-u64-requires : tie.Need-zero-u64-requires
-zero-u64-requires c κs = search needs
+zero-u64-requires c κs = tt
 
 same-length-5 : tie.Need-same-length-5
 same-length-5 c = search needs

@@ -1,46 +1,53 @@
 -- `trcf::preprocessor::difference_deviations` meets its contract: by its callees' promises and the laws of outcomes. Assumes nothing.
-use Rattle.trcf.proofs.OutcomeLaws.{write-refused, write-done, status-row}
+use Rattle.trcf.proofs.BoundLaws.{five, five-more, all-statistics}
+use Rattle.trcf.proofs.OutcomeLaws.{write-stays, write-goes, status-row}
 use Rattle.trcf.specs.Preprocessor.{reply, deviations, statusOf}
-use Rattle.trcf.specs.View.{view}
+use Rattle.trcf.specs.View.{view, lent}
+use Rattle.trcf.specs.Calls.{status}
 use native.Mathlib.Omega.{arith}
 use mathlib.Core.Path.{_≡_, refl, sym, ap, _∙_}
 use native.Mathlib.Nat.{mul-le-mul}
 use lib.ListN.{length, length-take}
 use lib.Seq.{length-take-le}
-use borrow.Author.Needs.{needs}
 use Rattle.trcf.proofs.preprocessor.difference_deviations.Statement.{statement}
 use Rattle.trcf.proofs.preprocessor.difference_deviations.Tie as tie
 
 write-row-requires : tie.Need-write-row-requires
-write-row-requires c κs = search needs
+write-row-requires c κs = tt
 
 same-length : tie.Need-same-length
-same-length c = search needs
+same-length c = refl
 
 returns : tie.Need-returns
-returns c = let e = (c .before .write-row .ensures .0 ∙ status-row _ _ _) in rw e (write-refused _ _ _ _ (λ z. c .if1 .taken (e ∙ z)))
+returns c =
+    let a = c .before .before .before .before .before .before .before .before .before .before .args in
+    let l = lent (a .statistics .now) (a .last-shingled-input .now) (a .last-shingled-point .now) (a .previous-timestamps .now) (a .initial-values .now) (a .initial-timestamps .now) in
+    write-stays (a .head) l (status (a .output .now)) (a .output .now) (c .before .write-row .result) (c .before .write-row .ensures .0 ∙ status-row (a .head) l (a .output .now)) (c .if1 .taken)
 
 mul-write-deviations : tie.Need-mul-write-deviations
-mul-write-deviations c = let r = c .before .before .write-row .ensures .1 .0 (c .before .if1 .left) in let p = mul-le-mul (r .bounded .d-few) (r .bounded .k-few) in omega (arith, r .bounded)
+mul-write-deviations c = five (c .before .before .write-row .ensures .1 .0 (c .before .if1 .left) .bounded .d-few)
 
 add-write-deviations : tie.Need-add-write-deviations
-add-write-deviations c = let r = c .before .before .write-row .ensures .1 .0 (c .before .if1 .left) in let p = mul-le-mul (r .bounded .d-few) (r .bounded .k-few) in omega (arith, r .bounded)
+add-write-deviations c = five-more (c .before .before .write-row .ensures .1 .0 (c .before .if1 .left) .bounded .d-few)
 
 mul-write-deviations-2 : tie.Need-mul-write-deviations-2
-mul-write-deviations-2 c = let r = c .before .before .write-row .ensures .1 .0 (c .before .if1 .left) in let p = mul-le-mul (r .bounded .d-few) (r .bounded .k-few) in omega (arith, r .bounded)
+mul-write-deviations-2 c = all-statistics (c .before .before .write-row .ensures .1 .0 (c .before .if1 .left) .bounded .d-few)
 
 slice-aggregate-write-deviations : tie.Need-slice-aggregate-write-deviations
-slice-aggregate-write-deviations c = let r = c .before .before .before .write-row .ensures .1 .0 (c .before .before .if1 .left) in simp length-take (omega (arith, r .fitted .roomy))
+slice-aggregate-write-deviations c = sym (length-take-le _ _ (c .before .before .before .write-row .ensures .1 .0 (c .before .before .if1 .left) .fitted .roomy .in-statistics))
 
 write-deviations-requires : tie.Need-write-deviations-requires
 write-deviations-requires c κs = let r = c .before .before .before .before .write-row .ensures .1 .0 (c .before .before .before .if1 .left) in (r .bounded, (length-take-le _ _ (r .fitted .roomy .in-statistics), c .before .before .before .before .write-row .ensures .1 .1 (c .before .before .before .if1 .left)))
 
 same-length-2 : tie.Need-same-length-2
-same-length-2 c = search needs
+same-length-2 c = c .before .before .write-deviations .kept .1 .1 .0
 
 returns-2 : tie.Need-returns-2
 unfolding reply view deviations statusOf
-returns-2 c = let e = (c .before .before .before .before .before .before .before .write-row .ensures .0 ∙ status-row _ _ _) in rw (c .before .before .write-deviations .ensures) (write-done _ _ _ _ (sym e ∙ c .before .before .before .before .before .before .if1 .left))
+returns-2 c =
+    let a = c .before .before .before .before .before .before .before .before .before .before .before .before .before .before .before .before .args in
+    let l = lent (a .statistics .now) (a .last-shingled-input .now) (a .last-shingled-point .now) (a .previous-timestamps .now) (a .initial-values .now) (a .initial-timestamps .now) in
+    write-goes (a .head) l (status (a .output .now)) (a .output .now) (c .before .before .before .before .before .before .before .write-row .result) (c .before .before .before .before .before .before .before .write-row .ensures .0 ∙ status-row (a .head) l (a .output .now)) (c .before .before .before .before .before .before .if1 .left) _ _ (c .before .before .write-deviations .ensures) refl
 
 pub difference-deviations-spec : {M : Type 1} → statement M
 difference-deviations-spec =

@@ -1,12 +1,11 @@
 -- `trcf::preprocessor::get_dimension` meets its contract: by its callees' promises and the laws of outcomes. Assumes nothing.
 use mathlib.Core.Path.{_≡_, refl, sym, ap, _∙_}
 use Rattle.trcf.proofs.OutcomeLaws.{accepted-not}
-use borrow.Author.Needs.{needs}
 use Rattle.trcf.proofs.preprocessor.get_dimension.Statement.{statement}
 use Rattle.trcf.proofs.preprocessor.get_dimension.Tie as tie
 
 head-row-requires : tie.Need-head-row-requires
-head-row-requires c κs = search needs
+head-row-requires c κs = tt
 
 returns : tie.Need-returns
 returns c = sym (accepted-not _ _ _ (λ e. c .if1 .taken (c .before .head-row .ensures .0 ∙ e)))

@@ -1,4 +1,5 @@
 -- `trcf::preprocessor::post_process_learning` meets its contract: by its callees' promises and the laws of outcomes. Assumes nothing.
+use Rattle.trcf.proofs.BoundLaws.{five, five-more, all-statistics, all-inputs}
 use native.Mathlib.Omega.{arith}
 use mathlib.Core.Path.{_≡_, refl, sym, ap, _∙_}
 use Prim.Native.Nat.{ℕ, suc, _+_, _-_, _*_, _≤_, _<_}
@@ -19,34 +20,34 @@ use Rattle.trcf.proofs.preprocessor.post_process_learning.Statement.{st
 use Rattle.trcf.proofs.preprocessor.post_process_learning.Tie as tie
 
 mul-write-found : tie.Need-mul-write-found
-mul-write-found c = search needs
+mul-write-found c = five (c .before .before .before .before .before .before .before .before .before .before .before .pre .0 .d-few)
 
 add-write-found : tie.Need-add-write-found
-add-write-found c = search needs
+add-write-found c = five-more (c .before .before .before .before .before .before .before .before .before .before .before .pre .0 .d-few)
 
 mul-write-found-2 : tie.Need-mul-write-found-2
-mul-write-found-2 c = search needs
+mul-write-found-2 c = all-statistics (c .before .before .before .before .before .before .before .before .before .before .before .pre .0 .d-few)
 
 slice-reshare-prefix-write-found : tie.Need-slice-reshare-prefix-write-found
 slice-reshare-prefix-write-found c = search needs
 
 slice-aggregate-write-found : tie.Need-slice-aggregate-write-found
-slice-aggregate-write-found c = let a = c .before .before .before .before .before .before .before .before .before .before .before .before .args in let h = a .head in let q = c .before .before .before .before .before .before .before .before .before .before .before .before .pre in simp length-take (omega (arith, q))
+slice-aggregate-write-found c = sym (length-take-le _ _ (c .before .before .before .before .before .before .before .before .before .before .before .before .pre .1 .0))
 
 mul-write-found-3 : tie.Need-mul-write-found-3
-mul-write-found-3 c = search needs
+mul-write-found-3 c = let b = c .before .before .before .before .before .before .before .before .before .before .before .before .pre .0 in all-inputs (b .d-few) (b .k-few)
 
 slice-reshare-prefix-write-found-2 : tie.Need-slice-reshare-prefix-write-found-2
 slice-reshare-prefix-write-found-2 c = search needs
 
 slice-aggregate-write-found-2 : tie.Need-slice-aggregate-write-found-2
-slice-aggregate-write-found-2 c = let a = c .before .before .before .before .before .before .before .before .before .before .before .before .before .args in let h = a .head in let q = c .before .before .before .before .before .before .before .before .before .before .before .before .before .pre in simp length-take (omega (arith, q))
+slice-aggregate-write-found-2 c = sym (length-take-le _ _ (c .before .before .before .before .before .before .before .before .before .before .before .before .before .pre .1 .1 .0))
 
 slice-reshare-prefix-write-found-3 : tie.Need-slice-reshare-prefix-write-found-3
 slice-reshare-prefix-write-found-3 c = search needs
 
 slice-aggregate-write-found-3 : tie.Need-slice-aggregate-write-found-3
-slice-aggregate-write-found-3 c = let a = c .before .before .before .before .before .before .before .before .before .before .before .before .before .before .args in let h = a .head in let q = c .before .before .before .before .before .before .before .before .before .before .before .before .before .before .pre in simp length-take (omega (arith, q))
+slice-aggregate-write-found-3 c = sym (length-take-le _ _ (c .before .before .before .before .before .before .before .before .before .before .before .before .before .before .pre .1 .1 .1 .1 .0))
 
 write-found-requires : tie.Need-write-found-requires
 write-found-requires c κs = let a = c .before .before .before .before .before .before .before .before .before .before .before .before .before .before .before .before .args in let h = a .head in let q = c .before .before .before .before .before .before .before .before .before .before .before .before .before .before .before .before .pre in (q .0, (record { all-statistics = length-take-le _ _ (q .1 .0); all-input = length-take-le _ _ (q .1 .1 .0); all-times = length-take-le _ _ (q .1 .1 .1 .1 .0) }, (q .1 .1 .1 .1 .1 .0, q .1 .1 .1 .1 .1 .1 .found)))
@@ -55,13 +56,13 @@ update-shingles-requires : tie.Need-update-shingles-requires
 update-shingles-requires c κs = let a = c .before .before .before .before .before .before .before .before .before .before .before .before .before .before .before .before .before .before .before .before .before .before .before .before .before .args in let h = a .head in let q = c .before .before .before .before .before .before .before .before .before .before .before .before .before .before .before .before .before .before .before .before .before .before .before .before .before .pre in (q .0, (q .1 .0, (q .1 .1 .0, (q .1 .1 .1 .0, (q .1 .1 .1 .1 .0, (q .1 .1 .1 .1 .1 .0, (q .1 .1 .1 .1 .1 .1 .all-y, q .1 .1 .1 .1 .1 .1 .count-room)))))))
 
 mul-write-deviations : tie.Need-mul-write-deviations
-mul-write-deviations c = let a = c .before .before .before .before .before .before .before .before .before .before .before .before .before .before .before .before .before .before .before .before .before .before .before .before .before .before .before .before .before .before .before .before .before .before .args in let h = a .head in let q = c .before .before .before .before .before .before .before .before .before .before .before .before .before .before .before .before .before .before .before .before .before .before .before .before .before .before .before .before .before .before .before .before .before .before .pre in omega (arith, q .0)
+mul-write-deviations c = five (c .before .before .before .before .before .before .before .before .before .before .before .before .before .before .before .before .before .before .before .before .before .before .before .before .before .before .before .before .before .before .before .before .before .before .pre .0 .d-few)
 
 add-write-deviations : tie.Need-add-write-deviations
-add-write-deviations c = let a = c .before .before .before .before .before .before .before .before .before .before .before .before .before .before .before .before .before .before .before .before .before .before .before .before .before .before .before .before .before .before .before .before .before .before .args in let h = a .head in let q = c .before .before .before .before .before .before .before .before .before .before .before .before .before .before .before .before .before .before .before .before .before .before .before .before .before .before .before .before .before .before .before .before .before .before .pre in omega (arith, q .0)
+add-write-deviations c = five-more (c .before .before .before .before .before .before .before .before .before .before .before .before .before .before .before .before .before .before .before .before .before .before .before .before .before .before .before .before .before .before .before .before .before .before .pre .0 .d-few)
 
 mul-write-deviations-2 : tie.Need-mul-write-deviations-2
-mul-write-deviations-2 c = let a = c .before .before .before .before .before .before .before .before .before .before .before .before .before .before .before .before .before .before .before .before .before .before .before .before .before .before .before .before .before .before .before .before .before .before .args in let h = a .head in let q = c .before .before .before .before .before .before .before .before .before .before .before .before .before .before .before .before .before .before .before .before .before .before .before .before .before .before .before .before .before .before .before .before .before .before .pre in omega (arith, q .0)
+mul-write-deviations-2 c = all-statistics (c .before .before .before .before .before .before .before .before .before .before .before .before .before .before .before .before .before .before .before .before .before .before .before .before .before .before .before .before .before .before .before .before .before .before .pre .0 .d-few)
 
 slice-reshare-prefix-write-deviations : tie.Need-slice-reshare-prefix-write-deviations
 slice-reshare-prefix-write-deviations c = let a = c .before .before .before .before .before .before .before .before .before .before .before .before .before .before .before .before .before .before .before .before .before .before .before .before .before .before .before .before .before .before .before .before .before .before .args in let h = a .head in let q = c .before .before .before .before .before .before .before .before .before .before .before .before .before .before .before .before .before .before .before .before .before .before .before .before .before .before .before .before .before .before .before .before .before .before .pre in omega (arith, c .before .before .before .before .before .before .before .before .update-shingles .kept, q .1 .0)
@@ -82,25 +83,25 @@ add-with-counts-2 : tie.Need-add-with-counts-2
 add-with-counts-2 c = let a = c .before .before .before .before .before .before .before .before .before .before .before .before .before .before .before .before .before .before .before .before .before .before .before .before .before .before .before .before .before .before .before .before .before .before .before .before .before .before .before .before .args in let h = a .head in let q = c .before .before .before .before .before .before .before .before .before .before .before .before .before .before .before .before .before .before .before .before .before .before .before .before .before .before .before .before .before .before .before .before .before .before .before .before .before .before .before .before .pre in omega (arith, q .1 .1 .1 .1 .1 .1 .internal-room)
 
 with-counts-requires : tie.Need-with-counts-requires
-with-counts-requires c κs = search needs
+with-counts-requires c κs = tt
 
 likelihood-of-requires : tie.Need-likelihood-of-requires
-likelihood-of-requires c κs = search needs
+likelihood-of-requires c κs = tt
 
 same-length : tie.Need-same-length
-same-length c = search needs
+same-length c = c .before .before .before .before .before .before .before .before .before .before .before .before .before .before .before .before .update-shingles .kept .1 .0
 
 same-length-2 : tie.Need-same-length-2
-same-length-2 c = search needs
+same-length-2 c = c .before .before .before .before .before .before .before .before .before .before .before .before .before .before .before .before .update-shingles .kept .1 .1 .0
 
 same-length-3 : tie.Need-same-length-3
-same-length-3 c = search needs
+same-length-3 c = c .before .before .before .before .before .before .before .before .before .before .before .before .before .before .before .before .update-shingles .kept .1 .1 .1 .0
 
 same-length-4 : tie.Need-same-length-4
-same-length-4 c = search needs
+same-length-4 c = c .before .before .before .before .before .before .before .before .before .before .before .before .before .before .before .before .update-shingles .kept .1 .1 .1 .1 .0
 
 same-length-5 : tie.Need-same-length-5
-same-length-5 c = search needs
+same-length-5 c = c .before .before .before .before .before .write-deviations .kept .1 .1 .0
 
 same-length-6 : tie.Need-same-length-6
 same-length-6 c = omega (arith, c .before .before .before .before .before .before .before .before .before .before .before .before .before .before .before .before .before .before .before .before .before .before .before .before .before .write-found .kept)

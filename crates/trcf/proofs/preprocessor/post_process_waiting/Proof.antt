@@ -1,4 +1,5 @@
 -- `trcf::preprocessor::post_process_waiting` meets its contract: by its callees' promises and the laws of outcomes. Assumes nothing.
+use Rattle.trcf.proofs.BoundLaws.{five, five-more, all-statistics}
 use native.Mathlib.Omega.{arith}
 use mathlib.Core.Path.{_≡_, refl, sym, ap, _∙_}
 use Prim.Native.Nat.{ℕ, suc, _+_, _-_, _*_, _≤_, _<_}
@@ -17,37 +18,37 @@ hold-requires : tie.Need-hold-requires
 hold-requires c κs = search needs
 
 mul-write-completing : tie.Need-mul-write-completing
-mul-write-completing c = search needs
+mul-write-completing c = five (c .before .before .before .before .before .before .before .before .before .before .before .before .before .pre .0 .d-few)
 
 add-write-completing : tie.Need-add-write-completing
-add-write-completing c = search needs
+add-write-completing c = five-more (c .before .before .before .before .before .before .before .before .before .before .before .before .before .pre .0 .d-few)
 
 mul-write-completing-2 : tie.Need-mul-write-completing-2
-mul-write-completing-2 c = search needs
+mul-write-completing-2 c = all-statistics (c .before .before .before .before .before .before .before .before .before .before .before .before .before .pre .0 .d-few)
 
 slice-aggregate-write-completing : tie.Need-slice-aggregate-write-completing
-slice-aggregate-write-completing c = let a = c .before .before .before .before .before .before .before .before .before .before .before .before .before .before .args in let h = a .head in let q = c .before .before .before .before .before .before .before .before .before .before .before .before .before .before .pre in simp length-take (omega (arith, q))
+slice-aggregate-write-completing c = sym (length-take-le _ _ (c .before .before .before .before .before .before .before .before .before .before .before .before .before .before .pre .1 .0))
 
 write-completing-requires : tie.Need-write-completing-requires
 write-completing-requires c κs = let a = c .before .before .before .before .before .before .before .before .before .before .before .before .before .before .before .args in let h = a .head in let q = c .before .before .before .before .before .before .before .before .before .before .before .before .before .before .before .pre in (q .0, (length-take-le _ _ (q .1 .0), (q .1 .1 .1 .1 .0, q .1 .1 .1 .1 .1 .1 .1)))
 
 add-with-counts : tie.Need-add-with-counts
-add-with-counts c = search needs
+add-with-counts c = omega arith
 
 add-with-counts-2 : tie.Need-add-with-counts-2
-add-with-counts-2 c = search needs
+add-with-counts-2 c = omega arith
 
 with-counts-requires : tie.Need-with-counts-requires
-with-counts-requires c κs = search needs
+with-counts-requires c κs = tt
 
 same-length : tie.Need-same-length
-same-length c = search needs
+same-length c = c .before .before .before .before .before .before .before .before .before .before .hold .kept .1 .0
 
 same-length-2 : tie.Need-same-length-2
-same-length-2 c = search needs
+same-length-2 c = c .before .before .before .before .before .before .before .before .before .before .hold .kept .1 .1 .0
 
 same-length-3 : tie.Need-same-length-3
-same-length-3 c = search needs
+same-length-3 c = c .before .before .before .write-completing .kept .1 .1 .0
 
 returns : tie.Need-returns
 returns c = let a = c .before .before .before .before .before .before .before .before .before .before .before .before .before .before .before .before .before .before .before .args in let h = a .head in let q = c .before .before .before .before .before .before .before .before .before .before .before .before .before .before .before .before .before .before .before .pre in let W = c .before .before .before .write-completing .ensures in let H = c .before .before .before .before .before .before .before .before .before .before .hold .ensures in ((rw (c .with-counts .ensures, W .0) (λ j. answering (counting h (h .transformer .count) (add-one (h .«values_seen») j) (h .«internal_timestamp») (add-one (h .«initial_len») j)) (eqb (suc (h .«values_seen»)) (h .«start_normalization»)) false 0 zero32)), (H .0, (H .1, W .1)))

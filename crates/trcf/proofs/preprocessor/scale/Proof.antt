@@ -1,46 +1,53 @@
 -- `trcf::preprocessor::scale` meets its contract: by its callees' promises and the laws of outcomes. Assumes nothing.
-use Rattle.trcf.proofs.OutcomeLaws.{write-refused, write-done}
+use Rattle.trcf.proofs.BoundLaws.{five, five-more, all-statistics}
+use Rattle.trcf.proofs.OutcomeLaws.{write-stays, write-goes}
 use Rattle.trcf.specs.Preprocessor.{reply, scaleOf}
-use Rattle.trcf.specs.View.{view}
+use Rattle.trcf.specs.View.{view, lent}
+use Rattle.trcf.specs.Calls.{scale}
 use native.Mathlib.Omega.{arith}
 use mathlib.Core.Path.{_≡_, refl, sym, ap, _∙_}
 use native.Mathlib.Nat.{mul-le-mul}
 use lib.ListN.{length, length-take}
 use lib.Seq.{length-take-le}
-use borrow.Author.Needs.{needs}
 use Rattle.trcf.proofs.preprocessor.scale.Statement.{statement}
 use Rattle.trcf.proofs.preprocessor.scale.Tie as tie
 
 write-row-requires : tie.Need-write-row-requires
-write-row-requires c κs = search needs
+write-row-requires c κs = tt
 
 same-length : tie.Need-same-length
-same-length c = search needs
+same-length c = refl
 
 returns : tie.Need-returns
-returns c = let e = c .before .write-row .ensures .0 in rw e (write-refused _ _ _ _ (λ z. c .if1 .taken (e ∙ z)))
+returns c =
+    let a = c .before .before .before .before .before .before .before .before .before .before .args in
+    let l = lent (a .statistics .now) (a .last-shingled-input .now) (a .last-shingled-point .now) (a .previous-timestamps .now) (a .initial-values .now) (a .initial-timestamps .now) in
+    write-stays (a .head) l (scale (a .output .now)) (a .output .now) (c .before .write-row .result) (c .before .write-row .ensures .0) (c .if1 .taken)
 
 mul-write-scale : tie.Need-mul-write-scale
-mul-write-scale c = let r = c .before .before .write-row .ensures .1 .0 (c .before .if1 .left) in let p = mul-le-mul (r .bounded .d-few) (r .bounded .k-few) in omega (arith, r .bounded)
+mul-write-scale c = five (c .before .before .write-row .ensures .1 .0 (c .before .if1 .left) .bounded .d-few)
 
 add-write-scale : tie.Need-add-write-scale
-add-write-scale c = let r = c .before .before .write-row .ensures .1 .0 (c .before .if1 .left) in let p = mul-le-mul (r .bounded .d-few) (r .bounded .k-few) in omega (arith, r .bounded)
+add-write-scale c = five-more (c .before .before .write-row .ensures .1 .0 (c .before .if1 .left) .bounded .d-few)
 
 mul-write-scale-2 : tie.Need-mul-write-scale-2
-mul-write-scale-2 c = let r = c .before .before .write-row .ensures .1 .0 (c .before .if1 .left) in let p = mul-le-mul (r .bounded .d-few) (r .bounded .k-few) in omega (arith, r .bounded)
+mul-write-scale-2 c = all-statistics (c .before .before .write-row .ensures .1 .0 (c .before .if1 .left) .bounded .d-few)
 
 slice-aggregate-write-scale : tie.Need-slice-aggregate-write-scale
-slice-aggregate-write-scale c = let r = c .before .before .before .write-row .ensures .1 .0 (c .before .before .if1 .left) in simp length-take (omega (arith, r .fitted .roomy))
+slice-aggregate-write-scale c = sym (length-take-le _ _ (c .before .before .before .write-row .ensures .1 .0 (c .before .before .if1 .left) .fitted .roomy .in-statistics))
 
 write-scale-requires : tie.Need-write-scale-requires
 write-scale-requires c κs = let r = c .before .before .before .before .write-row .ensures .1 .0 (c .before .before .before .if1 .left) in (r .bounded, (length-take-le _ _ (r .fitted .roomy .in-statistics), c .before .before .before .before .write-row .ensures .1 .1 (c .before .before .before .if1 .left)))
 
 same-length-2 : tie.Need-same-length-2
-same-length-2 c = search needs
+same-length-2 c = c .before .before .write-scale .kept .1 .1 .0
 
 returns-2 : tie.Need-returns-2
 unfolding reply view scaleOf
-returns-2 c = let e = c .before .before .before .before .before .before .before .write-row .ensures .0 in rw (c .before .before .write-scale .ensures) (write-done _ _ _ _ (sym e ∙ c .before .before .before .before .before .before .if1 .left))
+returns-2 c =
+    let a = c .before .before .before .before .before .before .before .before .before .before .before .before .before .before .before .before .args in
+    let l = lent (a .statistics .now) (a .last-shingled-input .now) (a .last-shingled-point .now) (a .previous-timestamps .now) (a .initial-values .now) (a .initial-timestamps .now) in
+    write-goes (a .head) l (scale (a .output .now)) (a .output .now) (c .before .before .before .before .before .before .before .write-row .result) (c .before .before .before .before .before .before .before .write-row .ensures .0) (c .before .before .before .before .before .before .if1 .left) _ _ (c .before .before .write-scale .ensures) refl
 
 pub scale-spec : {M : Type 1} → statement M
 scale-spec =

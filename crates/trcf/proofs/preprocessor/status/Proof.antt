@@ -1,23 +1,22 @@
 -- `trcf::preprocessor::status` meets its contract: by its callees' promises and the laws of outcomes. Assumes nothing.
 use Rattle.trcf.proofs.OutcomeLaws.{status-told}
-use borrow.Author.Needs.{needs}
 use Rattle.trcf.proofs.preprocessor.status.Statement.{statement}
 use Rattle.trcf.proofs.preprocessor.status.Tie as tie
 
 difference-deviations-requires : tie.Need-difference-deviations-requires
-difference-deviations-requires c κs = search needs
+difference-deviations-requires c κs = tt
 
 is-ready-requires : tie.Need-is-ready-requires
-is-ready-requires c κs = search needs
+is-ready-requires c κs = tt
 
 get-dimension-requires : tie.Need-get-dimension-requires
-get-dimension-requires c κs = search needs
+get-dimension-requires c κs = tt
 
 panel-requires : tie.Need-panel-requires
-panel-requires c κs = search needs
+panel-requires c κs = tt
 
 same-length : tie.Need-same-length
-same-length c = search needs
+same-length c = c .before .before .before .before .before .before .difference-deviations .kept .1 .1 .1 .1 .1 .1 .1 .0
 
 returns : tie.Need-returns
 returns c = rw (c .panel .ensures, c .before .get-dimension .ensures, c .before .before .is-ready .ensures) (status-told _ _ _ _ (c .before .before .before .before .before .before .difference-deviations .ensures))

@@ -2,15 +2,14 @@
 use native.Mathlib.Omega.{arith}
 use mathlib.Core.Path.{sym, _∙_}
 use native.Mathlib.Nat.{add-zero}
-use borrow.Author.Needs.{needs}
 use Rattle.trcf.proofs.refusal.block_of.Statement.{statement}
 use Rattle.trcf.proofs.refusal.block_of.Tie as tie
 
 is-augmented-requires : tie.Need-is-augmented-requires
-is-augmented-requires c κs = search needs
+is-augmented-requires c κs = tt
 
 add-result : tie.Need-add-result
-add-result c = search needs
+add-result c = omega arith
 
 returns : tie.Need-returns
 returns c = (rw (sym (c .before .is-augmented .ensures) ∙ c .if1 .taken), omega arith)

@@ -8,19 +8,18 @@ use Rattle.trcf.specs.Calls.{rows, table, due, drainFull}
 use Rattle.trcf.specs.Preprocessor.{facts}
 use Rattle.trcf.specs.View.{rowOf, view, pastRow}
 use Rattle.trcf.proofs.RefusalLaws.{orElse-not}
-use borrow.Author.Needs.{needs}
 use Rattle.trcf.proofs.refusal.drain_row.Statement.{statement}
 use Rattle.trcf.proofs.refusal.drain_row.Tie as tie
 
 head-row-requires : tie.Need-head-row-requires
-head-row-requires c κs = search needs
+head-row-requires c κs = tt
 
 returns : tie.Need-returns
 unfolding rowOf rows table due drainFull facts view
 returns c = (rw (← c .before .head-row .ensures .0) (orElse-not (c .before .head-row .result) _ (c .if1 .taken)), (λ e. absurd (c .if1 .taken e), λ e. absurd (c .if1 .taken e)))
 
 is-spent-requires : tie.Need-is-spent-requires
-is-spent-requires c κs = search needs
+is-spent-requires c κs = tt
 
 returns-2 : tie.Need-returns-2
 unfolding rowOf rows table due drainFull facts view

@@ -2,7 +2,6 @@
 use native.Mathlib.Omega.{arith}
 use borrow.Author.Tests.{not-true, not-false, lt-ltb, le-ltb, eq-eqb, ne-eqb, le-leb, lt-leb}
 use Prim.Native.Nat.{_+_}
-use borrow.Author.Needs.{needs}
 use Rattle.trcf.proofs.refusal.is_full.Statement.{statement}
 use Rattle.trcf.proofs.refusal.is_full.Tie as tie
 
@@ -10,7 +9,7 @@ returns : tie.Need-returns
 returns c = let a = c .before .before .args .head in rw (lt-ltb 2147483646 (a .transformer .count + a .«start_normalization») (omega arith))
 
 add-if2 : tie.Need-add-if2
-add-if2 c = search needs
+add-if2 c = omega arith
 
 returns-2 : tie.Need-returns-2
 returns-2 c = let a = c .before .before .before .args .head in rw (lt-ltb 2147483646 (a .transformer .count + a .«start_normalization») (omega arith))
@@ -19,7 +18,7 @@ returns-3 : tie.Need-returns-3
 returns-3 c = let a = c .before .before .before .before .args .head in rw (le-ltb 2147483646 (a .transformer .count + a .«start_normalization») (omega arith), lt-ltb 9223372036854775807 (a .«internal_timestamp» + a .«start_normalization») (omega arith))
 
 add-result : tie.Need-add-result
-add-result c = search needs
+add-result c = omega arith
 
 returns-4 : tie.Need-returns-4
 returns-4 c = let a = c .before .before .before .before .args .head in rw (le-ltb 2147483646 (a .transformer .count + a .«start_normalization») (omega arith))

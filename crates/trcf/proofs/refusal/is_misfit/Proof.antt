@@ -2,7 +2,6 @@
 use mathlib.Core.Path.{_≡_, refl, sym, ap, _∙_}
 use borrow.Author.Tests.{not-true, not-false, lt-ltb, le-ltb, eq-eqb, ne-eqb, le-leb, lt-leb}
 use Rattle.trcf.specs.View.{misfit}
-use borrow.Author.Needs.{needs}
 use Rattle.trcf.proofs.refusal.is_misfit.Statement.{statement}
 use Rattle.trcf.proofs.refusal.is_misfit.Tie as tie
 
@@ -11,7 +10,7 @@ unfolding misfit
 returns c = rw (lt-ltb _ _ (c .if1 .taken))
 
 is-waiting-requires : tie.Need-is-waiting-requires
-is-waiting-requires c κs = search needs
+is-waiting-requires c κs = tt
 
 returns-2 : tie.Need-returns-2
 unfolding misfit

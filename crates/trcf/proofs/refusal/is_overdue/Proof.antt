@@ -5,7 +5,7 @@ use Rattle.trcf.proofs.refusal.is_overdue.Statement.{statement}
 use Rattle.trcf.proofs.refusal.is_overdue.Tie as tie
 
 is-due-requires : tie.Need-is-due-requires
-is-due-requires c κs = search needs
+is-due-requires c κs = tt
 
 is-full-requires : tie.Need-is-full-requires
 is-full-requires c κs = search needs

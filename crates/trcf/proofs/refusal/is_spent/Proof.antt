@@ -1,12 +1,11 @@
 -- `trcf::refusal::is_spent` meets its contract: each return by the tests on the way to it. Assumes nothing.
 use borrow.Author.Tests.{not-true, not-false, lt-ltb, le-ltb, eq-eqb, ne-eqb, le-leb, lt-leb}
 use mathlib.Core.Bool.{Bool·not-not}
-use borrow.Author.Needs.{needs}
 use Rattle.trcf.proofs.refusal.is_spent.Statement.{statement}
 use Rattle.trcf.proofs.refusal.is_spent.Tie as tie
 
 has-initial-requires : tie.Need-has-initial-requires
-has-initial-requires c κs = search needs
+has-initial-requires c κs = tt
 
 returns : tie.Need-returns
 returns c = rw (eq-eqb _ _ (c .before .if1 .taken), c .has-initial .ensures) (Bool·not-not _)

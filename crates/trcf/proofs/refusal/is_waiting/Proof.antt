@@ -1,12 +1,11 @@
 -- `trcf::refusal::is_waiting` meets its contract: each return by the tests on the way to it. Assumes nothing.
 use mathlib.Core.Path.{_≡_, refl, sym, ap, _∙_}
 use Rattle.trcf.specs.Settings.{waiting}
-use borrow.Author.Needs.{needs}
 use Rattle.trcf.proofs.refusal.is_waiting.Statement.{statement}
 use Rattle.trcf.proofs.refusal.is_waiting.Tie as tie
 
 is-normalizing-requires : tie.Need-is-normalizing-requires
-is-normalizing-requires c κs = search needs
+is-normalizing-requires c κs = tt
 
 returns : tie.Need-returns
 unfolding waiting

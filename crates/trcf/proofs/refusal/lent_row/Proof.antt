@@ -8,7 +8,7 @@ use Rattle.trcf.proofs.refusal.lent_row.Statement.{statement}
 use Rattle.trcf.proofs.refusal.lent_row.Tie as tie
 
 is-misfit-requires : tie.Need-is-misfit-requires
-is-misfit-requires c κs = search needs
+is-misfit-requires c κs = tt
 
 returns : tie.Need-returns
 unfolding lentRow

@@ -13,7 +13,7 @@ use Rattle.trcf.proofs.refusal.past_row.Statement.{statement}
 use Rattle.trcf.proofs.refusal.past_row.Tie as tie
 
 is-waiting-requires : tie.Need-is-waiting-requires
-is-waiting-requires c κs = search needs
+is-waiting-requires c κs = tt
 
 returns : tie.Need-returns
 unfolding pastRow

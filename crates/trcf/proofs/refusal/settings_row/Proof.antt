@@ -3,12 +3,11 @@ use mathlib.Core.Path.{_≡_, refl, sym, ap, _∙_}
 use native.Mathlib.Omega.{arith}
 use borrow.Author.Tests.{not-true, not-false, lt-ltb, le-ltb, eq-eqb, ne-eqb, le-leb, lt-leb}
 use Rattle.trcf.specs.Settings.{settingsRow}
-use borrow.Author.Needs.{needs}
 use Rattle.trcf.proofs.refusal.settings_row.Statement.{statement}
 use Rattle.trcf.proofs.refusal.settings_row.Tie as tie
 
 is-imputing-requires : tie.Need-is-imputing-requires
-is-imputing-requires c κs = search needs
+is-imputing-requires c κs = tt
 
 returns : tie.Need-returns
 unfolding settingsRow
@@ -35,7 +34,7 @@ unfolding settingsRow
 returns-6 c = (rw (sym (c .before .before .before .before .before .before .is-imputing .ensures) ∙ c .before .before .before .before .before .if1 .left, ne-eqb _ _ (c .before .before .before .before .if2 .left), ne-eqb _ _ (c .before .before .before .if3 .left), le-ltb _ _ (c .before .before .if4 .left), le-ltb _ _ (c .before .if5 .left), ne-eqb _ _ (c .if6 .taken)), λ e. absurd (omega (arith, e)))
 
 outside-unit-requires : tie.Need-outside-unit-requires
-outside-unit-requires c κs = search needs
+outside-unit-requires c κs = tt
 
 returns-7 : tie.Need-returns-7
 unfolding settingsRow
@@ -50,7 +49,7 @@ unfolding settingsRow
 returns-9 c = (rw (sym (c .before .before .before .before .before .before .before .before .before .before .before .is-imputing .ensures) ∙ c .before .before .before .before .before .before .before .before .before .before .if1 .left, ne-eqb _ _ (c .before .before .before .before .before .before .before .before .before .if2 .left), ne-eqb _ _ (c .before .before .before .before .before .before .before .before .if3 .left), le-ltb _ _ (c .before .before .before .before .before .before .before .if4 .left), le-ltb _ _ (c .before .before .before .before .before .before .if5 .left), eq-eqb _ _ (c .before .before .before .before .before .if6 .left), sym (c .before .before .before .before .outside-unit .ensures) ∙ c .before .before .before .if7 .left, le-ltb _ _ (c .before .if8 .left), le-leb _ _ (c .if9 .taken)), λ e. absurd (omega (arith, e)))
 
 is-unused-requires : tie.Need-is-unused-requires
-is-unused-requires c κs = search needs
+is-unused-requires c κs = tt
 
 returns-10 : tie.Need-returns-10
 unfolding settingsRow

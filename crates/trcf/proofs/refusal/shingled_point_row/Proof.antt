@@ -8,12 +8,11 @@ use Rattle.trcf.specs.Calls.{rows, table, due, drainFull}
 use Rattle.trcf.specs.Preprocessor.{facts}
 use Rattle.trcf.specs.View.{rowOf, view, pastRow}
 use Rattle.trcf.proofs.RefusalLaws.{orElse-not}
-use borrow.Author.Needs.{needs}
 use Rattle.trcf.proofs.refusal.shingled_point_row.Statement.{statement}
 use Rattle.trcf.proofs.refusal.shingled_point_row.Tie as tie
 
 head-row-requires : tie.Need-head-row-requires
-head-row-requires c κs = search needs
+head-row-requires c κs = tt
 
 returns : tie.Need-returns
 unfolding rowOf rows table due drainFull facts view pastRow
@@ -24,7 +23,7 @@ unfolding rowOf rows table due drainFull facts view pastRow
 returns-2 c = ((λ t. rw (sym (c .before .before .before .before .head-row .ensures .0) ∙ c .before .before .before .if1 .left, ne-eqb _ _ (c .if2 .taken))), (λ e. absurd (omega (arith, e)), λ e. absurd (omega (arith, e))))
 
 all-finite-requires : tie.Need-all-finite-requires
-all-finite-requires c κs = search needs
+all-finite-requires c κs = tt
 
 returns-3 : tie.Need-returns-3
 unfolding rowOf rows table due drainFull facts view pastRow

@@ -1,4 +1,5 @@
 -- `trcf::refusal::short_row` meets its contract: each return by the tests on the way to it. Assumes nothing.
+use Rattle.trcf.proofs.BoundLaws.{five, five-more, all-statistics, all-inputs}
 use mathlib.Core.Path.{_≡_, refl, sym, ap, _∙_}
 use native.Mathlib.Omega.{arith}
 use borrow.Author.Tests.{not-true, not-false, lt-ltb, le-ltb, eq-eqb, ne-eqb, le-leb, lt-leb}
@@ -13,20 +14,20 @@ dimension-of-requires : tie.Need-dimension-of-requires
 dimension-of-requires c κs = search needs
 
 mul-if1 : tie.Need-mul-if1
-mul-if1 c = search needs
+mul-if1 c = five (c .before .before .before .before .before .before .before .before .pre .d-few)
 
 add-if1 : tie.Need-add-if1
-add-if1 c = search needs
+add-if1 c = five-more (c .before .before .before .before .before .before .before .before .pre .d-few)
 
 mul-if1-2 : tie.Need-mul-if1-2
-mul-if1-2 c = search needs
+mul-if1-2 c = all-statistics (c .before .before .before .before .before .before .before .before .pre .d-few)
 
 returns : tie.Need-returns
 unfolding shortRow lentShort
 returns c = (rw (← c .before .dimension-of .ensures .0, lt-ltb _ _ (c .if1 .taken)), λ e. absurd (omega (arith, e)))
 
 mul-if2 : tie.Need-mul-if2
-mul-if2 c = let a : c .before .before .before .before .before .before .before .before .before .args .head .transformer .«input_length» ≤ 16 = omega arith in let b : c .before .before .before .before .before .before .before .before .before .args .head .«shingle_size» ≤ 64 = omega arith in omega (arith, mul-le-mul a b)
+mul-if2 c = let b = c .before .before .before .before .before .before .before .before .before .pre in all-inputs (b .d-few) (b .k-few)
 
 returns-2 : tie.Need-returns-2
 unfolding shortRow lentShort

@@ -8,12 +8,11 @@ use Rattle.trcf.specs.Calls.{rows, table, due, drainFull}
 use Rattle.trcf.specs.Preprocessor.{facts}
 use Rattle.trcf.specs.View.{rowOf, view, pastRow}
 use Rattle.trcf.proofs.RefusalLaws.{orElse-not}
-use borrow.Author.Needs.{needs}
 use Rattle.trcf.proofs.refusal.transform_row.Statement.{statement}
 use Rattle.trcf.proofs.refusal.transform_row.Tie as tie
 
 head-row-requires : tie.Need-head-row-requires
-head-row-requires c κs = search needs
+head-row-requires c κs = tt
 
 returns : tie.Need-returns
 unfolding rowOf rows table block

@@ -6,7 +6,6 @@ use mathlib.Core.Path.{_≡_, refl, sym, ap, _∙_}
 use lib.ListN.{length, drop, drop-of-length-le}
 use Prim.Native.Nat.{ℕ, _≤_, _<_, _-_}
 use borrow.Author.Tests.{not-true, not-false}
-use borrow.Author.Needs.{needs}
 use native.Mathlib.Numerals.{add-one}
 use native.Mathlib.Omega.{arith}
 use Rattle.trcf.proofs.shingle.all_finite.Statement.{statement}
@@ -28,7 +27,7 @@ shared-slice-read-is-finite : tie.Need-shared-slice-read-is-finite Inv-loop μ-l
 shared-slice-read-is-finite c = omega arith
 
 is-finite-requires : tie.Need-is-finite-requires Inv-loop μ-loop
-is-finite-requires c κs = search needs
+is-finite-requires c κs = tt
 
 returns : tie.Need-returns Inv-loop μ-loop
 returns c =

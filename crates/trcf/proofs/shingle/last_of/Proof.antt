@@ -11,13 +11,13 @@ returns : tie.Need-returns
 returns c = search needs
 
 sub-result : tie.Need-sub-result
-sub-result c = search needs
+sub-result c = omega arith
 
 mul-result : tie.Need-mul-result
-mul-result c = search needs
+mul-result c = omega arith
 
 shared-slice-read-result : tie.Need-shared-slice-read-result
-shared-slice-read-result c = search needs
+shared-slice-read-result c = omega arith
 
 returns-2 : tie.Need-returns-2
 returns-2 c =
@@ -30,13 +30,13 @@ returns-3 c =
     last-none (a .l .now) (a .n) (omega arith)
 
 sub-result-2 : tie.Need-sub-result-2
-sub-result-2 c = search needs
+sub-result-2 c = omega arith
 
 mul-result-2 : tie.Need-mul-result-2
-mul-result-2 c = search needs
+mul-result-2 c = omega arith
 
 shared-slice-read-result-2 : tie.Need-shared-slice-read-result-2
-shared-slice-read-result-2 c = search needs
+shared-slice-read-result-2 c = omega arith
 
 returns-4 : tie.Need-returns-4
 returns-4 c =

@@ -2,12 +2,11 @@
 use mathlib.Core.Path.{_≡_, refl, sym, ap, _∙_}
 use lib.Seq.{take-length}
 use Rattle.trcf.specs.Lists.{lastOr}
-use borrow.Author.Needs.{needs}
 use Rattle.trcf.proofs.time.last_time.Statement.{statement}
 use Rattle.trcf.proofs.time.last_time.Tie as tie
 
 last-of-requires : tie.Need-last-of-requires
-last-of-requires c κs = search needs
+last-of-requires c κs = tt
 
 returns : tie.Need-returns
 returns c = c .last-of .ensures ∙ ap (lastOr 0) (take-length (c .before .before .args .times .now))

@@ -1,11 +1,10 @@
 -- `trcf::time::previous_time` meets its contract: by its callees' promises. Assumes nothing.
 use borrow.Author.Tests.{not-true, not-false, lt-ltb, le-ltb, eq-eqb, ne-eqb, le-leb, lt-leb}
-use borrow.Author.Needs.{needs}
 use Rattle.trcf.proofs.time.previous_time.Statement.{statement}
 use Rattle.trcf.proofs.time.previous_time.Tie as tie
 
 last-time-requires : tie.Need-last-time-requires
-last-time-requires c κs = search needs
+last-time-requires c κs = tt
 
 returns : tie.Need-returns
 returns c = rw (eq-eqb _ _ (c .if1 .taken))

@@ -1,13 +1,14 @@
 -- `trcf::time::time_deviation` meets its contract: by its callees' promises. Assumes nothing.
+use native.Mathlib.Omega.{arith}
 use borrow.Author.Needs.{needs}
 use Rattle.trcf.proofs.time.time_deviation.Statement.{statement}
 use Rattle.trcf.proofs.time.time_deviation.Tie as tie
 
 mul-statistic-at : tie.Need-mul-statistic-at
-mul-statistic-at c = search needs
+mul-statistic-at c = omega arith
 
 add-statistic-at : tie.Need-add-statistic-at
-add-statistic-at c = search needs
+add-statistic-at c = omega arith
 
 statistic-at-requires : tie.Need-statistic-at-requires
 statistic-at-requires c κs = search needs

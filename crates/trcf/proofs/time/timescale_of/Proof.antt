@@ -1,14 +1,15 @@
 -- `trcf::time::timescale_of` meets its contract: by its callees' promises. Assumes nothing.
+use native.Mathlib.Omega.{arith}
 use Rattle.trcf.specs.Preprocessor.{timescale}
 use borrow.Author.Needs.{needs}
 use Rattle.trcf.proofs.time.timescale_of.Statement.{statement}
 use Rattle.trcf.proofs.time.timescale_of.Tie as tie
 
 mul-mean-at : tie.Need-mul-mean-at
-mul-mean-at c = search needs
+mul-mean-at c = omega arith
 
 add-mean-at : tie.Need-add-mean-at
-add-mean-at c = search needs
+add-mean-at c = omega arith
 
 mean-at-requires : tie.Need-mean-at-requires
 mean-at-requires c κs = search needs

@@ -14,20 +14,20 @@ deviations-at-requires : tie.Need-deviations-at-requires
 deviations-at-requires c κs = search needs
 
 list-requires : tie.Need-list-requires
-list-requires c κs = search needs
+list-requires c κs = tt
 
 feed-timestamps-requires : tie.Need-feed-timestamps-requires
 unfolding deviationsAt statisticAt
 feed-timestamps-requires c κs = rw (c .list .ensures, c .before .deviations-at .ensures) (c .before .before .before .before .pre .1, c .before .before .before .before .pre .1, c .before .before .before .before .pre .1, c .before .before .before .before .pre .1, c .before .before .before .before .pre .1)
 
 gather-requires : tie.Need-gather-requires
-gather-requires c κs = search needs
+gather-requires c κs = tt
 
 put-deviations-requires : tie.Need-put-deviations-requires
 put-deviations-requires c κs = search needs
 
 same-length : tie.Need-same-length
-same-length c = search needs
+same-length c = c .before .before .put-deviations .kept .0
 
 returns : tie.Need-returns
 unfolding fedAt

@@ -7,7 +7,7 @@ use Rattle.trcf.proofs.transformer.decay_row.Statement.{statement}
 use Rattle.trcf.proofs.transformer.decay_row.Tie as tie
 
 new-requires : tie.Need-new-requires
-new-requires c κs = search needs
+new-requires c κs = tt
 
 enum-told : tie.Need-enum-told
 enum-told c = search needs

@@ -15,7 +15,7 @@ put-deviations-requires : tie.Need-put-deviations-requires
 put-deviations-requires c κs = search needs
 
 same-length : tie.Need-same-length
-same-length c = search needs
+same-length c = c .before .before .put-deviations .kept .0
 
 returns : tie.Need-returns
 unfolding fedAt

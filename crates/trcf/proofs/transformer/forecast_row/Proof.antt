@@ -35,7 +35,7 @@ unfolding forecastRow
 returns-6 c = (rw (ne-eqb _ _ (c .before .before .before .before .before .before .if1 .left), le-ltb _ _ (c .before .before .before .before .before .if2 .left), eq-eqb _ _ (c .before .before .before .before .if3 .left), eq-eqb _ _ (c .before .before .before .if4 .left), eq-eqb _ _ (c .before .before .if5 .left), sym (c .before .blocks-refused .ensures) ∙ c .if6 .taken), λ e. absurd (omega arith))
 
 mul-if7 : tie.Need-mul-if7
-mul-if7 c = search needs
+mul-if7 c = omega arith
 
 returns-7 : tie.Need-returns-7
 unfolding forecastRow

@@ -1,4 +1,5 @@
 -- `trcf::transformer::inversion_at` meets its contract: field by field. Assumes nothing.
+use native.Mathlib.Omega.{arith}
 use mathlib.Core.Path.{sym, ap, _∙_}
 use Rattle.trcf.specs.TransformerCalls.{view}
 use Rattle.trcf.proofs.TransformerLaws.{weightAt-view}
@@ -9,31 +10,31 @@ use Rattle.trcf.proofs.transformer.inversion_at.Statement.{statement}
 use Rattle.trcf.proofs.transformer.inversion_at.Tie as tie
 
 mul-reciprocal-of : tie.Need-mul-reciprocal-of
-mul-reciprocal-of c = search needs
+mul-reciprocal-of c = omega arith
 
 element-copy-out-reciprocal-of : tie.Need-element-copy-out-reciprocal-of
 element-copy-out-reciprocal-of c = search needs
 
 reciprocal-of-requires : tie.Need-reciprocal-of-requires
-reciprocal-of-requires c κs = search needs
+reciprocal-of-requires c κs = tt
 
 is-none-requires : tie.Need-is-none-requires
-is-none-requires c κs = search needs
+is-none-requires c κs = tt
 
 is-normalizing-requires : tie.Need-is-normalizing-requires
-is-normalizing-requires c κs = search needs
+is-normalizing-requires c κs = tt
 
 is-centring-requires : tie.Need-is-centring-requires
-is-centring-requires c κs = search needs
+is-centring-requires c κs = tt
 
 normalized-scale-requires : tie.Need-normalized-scale-requires
 normalized-scale-requires c κs = search needs
 
 mul-narrow-mean-at : tie.Need-mul-narrow-mean-at
-mul-narrow-mean-at c = search needs
+mul-narrow-mean-at c = omega arith
 
 add-narrow-mean-at : tie.Need-add-narrow-mean-at
-add-narrow-mean-at c = search needs
+add-narrow-mean-at c = omega arith
 
 narrow-mean-at-requires : tie.Need-narrow-mean-at-requires
 narrow-mean-at-requires c κs = search needs

@@ -1,4 +1,5 @@
 -- `trcf::transformer::invert_at` meets its contract: each arm is the definition's case. Assumes nothing.
+use native.Mathlib.Omega.{arith}
 use lib.Ieee.{nan}
 use lib.Seq.{getD-take}
 use Rattle.trcf.specs.Transformer.{weightAt, basicShift, normalizedScale}
@@ -13,13 +14,13 @@ enum-told-2 : tie.Need-enum-told-2
 enum-told-2 c = search needs
 
 mul-unweigh : tie.Need-mul-unweigh
-mul-unweigh c = search needs
+mul-unweigh c = omega arith
 
 element-copy-out-unweigh : tie.Need-element-copy-out-unweigh
 element-copy-out-unweigh c = search needs
 
 unweigh-requires : tie.Need-unweigh-requires
-unweigh-requires c κs = search needs
+unweigh-requires c κs = tt
 
 enum-told-3 : tie.Need-enum-told-3
 enum-told-3 c = search needs

@@ -1,5 +1,4 @@
 -- `trcf::transformer::invert_channel` meets its contract: the invariant is that the channel's first i blocks are inverted. Assumes nothing.
-use borrow.Author.Needs.{needs}
 use lib.ListN.{length, length-set}
 use Prim.Native.Nat.{_≤_, _-_}
 use native.Mathlib.Omega.{arith}
@@ -69,7 +68,7 @@ slice-read-t21 c = let L = c .before .before .before .before .loop in
     omega arith
 
 forecast-requires : tie.Need-forecast-requires Inv-loop μ-loop
-forecast-requires c κs = search needs
+forecast-requires c κs = tt
 
 mul-values : tie.Need-mul-values Inv-loop μ-loop
 mul-values c = let L = c .before .before .before .before .before .loop in

@@ -1,4 +1,5 @@
 -- `trcf::transformer::invert_forecast_in_place` meets its contract: the inverted channels, then the cascade. Assumes nothing.
+use mathlib.Core.Path.{_∙_}
 use lib.ListN.{length}
 use native.Mathlib.Omega.{arith}
 use Rattle.common.specs.RangeVector.{ranges}
@@ -9,7 +10,7 @@ use Rattle.trcf.proofs.transformer.invert_forecast_in_place.Statement.{
 use Rattle.trcf.proofs.transformer.invert_forecast_in_place.Tie as tie
 
 is-differencing-requires : tie.Need-is-differencing-requires
-is-differencing-requires c κs = search needs
+is-differencing-requires c κs = tt
 
 invert-channels-requires : tie.Need-invert-channels-requires
 invert-channels-requires c κs = search needs
@@ -20,13 +21,13 @@ cascade-if-requires c κs = let a = c .before .before .before .before .before .b
     ((omega arith, omega arith), blocked-still (c .before .before .before .before .before .before .before .before .before .before .before .before .before .is-differencing .result) _ (length (a .previous .now)) (length (I .last .1 .1 .0)) (length (a .values .now)) (c .before .before .before .before .before .before .before .before .before .before .before .before .before .is-differencing .ensures) (omega arith) (c .before .before .before .before .before .before .before .before .before .before .before .before .before .before .before .before .before .before .before .pre .1 .1))
 
 same-length : tie.Need-same-length
-same-length c = search needs
+same-length c = c .before .before .before .before .before .before .cascade-if .kept .1 .0 ∙ c .before .before .before .before .before .before .before .before .before .before .before .before .before .before .before .before .invert-channels .kept .1 .1 .0
 
 same-length-2 : tie.Need-same-length-2
-same-length-2 c = search needs
+same-length-2 c = c .before .before .before .before .before .before .cascade-if .kept .1 .1 .0 ∙ c .before .before .before .before .before .before .before .before .before .before .before .before .before .before .before .before .invert-channels .kept .1 .1 .1 .0
 
 same-length-3 : tie.Need-same-length-3
-same-length-3 c = search needs
+same-length-3 c = c .before .before .before .before .before .before .cascade-if .kept .1 .1 .1 .0 ∙ c .before .before .before .before .before .before .before .before .before .before .before .before .before .before .before .before .invert-channels .kept .1 .1 .1 .1 .0
 
 returns : tie.Need-returns
 returns c = let a = c .before .before .before .before .before .before .before .before .before .before .before .before .before .before .before .before .before .before .before .before .before .before .before .before .before .before .args in

@@ -1,6 +1,5 @@
 -- `trcf::transformer::invert_into` meets its contract: the invariant is that the answer's first i numbers stand over the output. Assumes nothing.
 use lib.Ieee.{Float}
-use borrow.Author.Needs.{needs}
 use Rattle.trcf.proofs.TransformerLaws.{weightAt-view}
 use Rattle.trcf.specs.Transformer.{inverted, invertBy, unweighted, weightAt}
 use lib.Ieee.{nan}
@@ -38,7 +37,7 @@ shared-slice-read-unweigh : tie.Need-shared-slice-read-unweigh Inv-loop μ-loop
 shared-slice-read-unweigh c = omega arith
 
 unweigh-requires : tie.Need-unweigh-requires Inv-loop μ-loop
-unweigh-requires c κs = search needs
+unweigh-requires c κs = tt
 
 mul-invert-at : tie.Need-mul-invert-at Inv-loop μ-loop
 mul-invert-at c = omega arith

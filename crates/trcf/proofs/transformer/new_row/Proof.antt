@@ -5,7 +5,6 @@ use Rattle.trcf.specs.TransformerCalls.{newRow}
 use mathlib.Core.Path.{sym, _∙_}
 use native.Mathlib.Omega.{arith}
 use borrow.Author.Tests.{lt-ltb, le-ltb, eq-eqb, ne-eqb}
-use borrow.Author.Needs.{needs}
 use Rattle.trcf.proofs.transformer.new_row.Statement.{statement}
 use Rattle.trcf.proofs.transformer.new_row.Tie as tie
 
@@ -22,21 +21,21 @@ unfolding newRow
 returns-3 c = (rw (ne-eqb _ _ (c .before .before .if1 .left), le-ltb _ _ (c .before .if2 .left), ne-eqb _ _ (c .if3 .taken)), λ e. absurd (omega arith))
 
 decay-row-requires : tie.Need-decay-row-requires
-decay-row-requires c κs = search needs
+decay-row-requires c κs = tt
 
 returns-4 : tie.Need-returns-4
 unfolding newRow
 returns-4 c = (rw (ne-eqb _ _ (c .before .before .before .before .if1 .left), le-ltb _ _ (c .before .before .before .if2 .left), eq-eqb _ _ (c .before .before .if3 .left), row-taken (outsideUnit (c .before .before .before .before .before .before .args .decay)) (c .before .decay-row .result) (c .before .decay-row .ensures) (c .if4 .taken)), λ e. absurd (omega arith))
 
 weights-refused-requires : tie.Need-weights-refused-requires
-weights-refused-requires c κs = search needs
+weights-refused-requires c κs = tt
 
 returns-5 : tie.Need-returns-5
 unfolding newRow
 returns-5 c = (rw (ne-eqb _ _ (c .before .before .before .before .before .before .if1 .left), le-ltb _ _ (c .before .before .before .before .before .if2 .left), eq-eqb _ _ (c .before .before .before .before .if3 .left), row-left (outsideUnit (c .before .before .before .before .before .before .before .before .args .decay)) (c .before .before .before .decay-row .result) (c .before .before .before .decay-row .ensures) (c .before .before .if4 .left), sym (c .before .weights-refused .ensures) ∙ c .if5 .taken), λ e. absurd (omega arith))
 
 mul-if6 : tie.Need-mul-if6
-mul-if6 c = search needs
+mul-if6 c = omega arith
 
 returns-6 : tie.Need-returns-6
 unfolding newRow

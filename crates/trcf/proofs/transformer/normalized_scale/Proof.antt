@@ -1,13 +1,14 @@
 -- `trcf::transformer::normalized_scale` meets its contract: the mean plus 1, narrowed. Assumes nothing.
+use native.Mathlib.Omega.{arith}
 use borrow.Author.Needs.{needs}
 use Rattle.trcf.proofs.transformer.normalized_scale.Statement.{statement}
 use Rattle.trcf.proofs.transformer.normalized_scale.Tie as tie
 
 mul-mean-at : tie.Need-mul-mean-at
-mul-mean-at c = search needs
+mul-mean-at c = omega arith
 
 add-mean-at : tie.Need-add-mean-at
-add-mean-at c = search needs
+add-mean-at c = omega arith
 
 mean-at-requires : tie.Need-mean-at-requires
 mean-at-requires c κs = search needs

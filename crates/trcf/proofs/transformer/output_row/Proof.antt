@@ -2,7 +2,6 @@
 use Rattle.trcf.specs.TransformerCalls.{outputRow}
 use native.Mathlib.Omega.{arith}
 use borrow.Author.Tests.{lt-ltb, le-ltb, eq-eqb, ne-eqb}
-use borrow.Author.Needs.{needs}
 use Rattle.trcf.proofs.transformer.output_row.Statement.{statement}
 use Rattle.trcf.proofs.transformer.output_row.Tie as tie
 
@@ -15,7 +14,7 @@ unfolding outputRow
 returns-2 c = (rw (ne-eqb _ _ (c .before .if1 .left), lt-ltb _ _ (c .if2 .taken)), λ e. absurd (omega arith))
 
 mul-if3 : tie.Need-mul-if3
-mul-if3 c = search needs
+mul-if3 c = omega arith
 
 returns-3 : tie.Need-returns-3
 unfolding outputRow

@@ -8,28 +8,28 @@ use Rattle.trcf.proofs.transformer.put_statistic.Statement.{statement}
 use Rattle.trcf.proofs.transformer.put_statistic.Tie as tie
 
 mul-at : tie.Need-mul-at
-mul-at c = search needs
+mul-at c = omega arith
 
 mul-s : tie.Need-mul-s
-mul-s c = search needs
+mul-s c = omega arith
 
 slice-write-s : tie.Need-slice-write-s
 slice-write-s c = search needs
 
 add-s : tie.Need-add-s
-add-s c = search needs
+add-s c = omega arith
 
 mul-s-2 : tie.Need-mul-s-2
-mul-s-2 c = search needs
+mul-s-2 c = omega arith
 
 slice-write-s-2 : tie.Need-slice-write-s-2
 slice-write-s-2 c = simp length-set (omega arith)
 
 add-s-2 : tie.Need-add-s-2
-add-s-2 c = search needs
+add-s-2 c = omega arith
 
 mul-s-3 : tie.Need-mul-s-3
-mul-s-3 c = search needs
+mul-s-3 c = omega arith
 
 slice-write-s-3 : tie.Need-slice-write-s-3
 slice-write-s-3 c = simp length-set (omega arith)

@@ -1,4 +1,5 @@
 -- `trcf::transformer::scale_at` meets its contract: each arm is the definition's case. Assumes nothing.
+use native.Mathlib.Omega.{arith}
 use mathlib.Core.Path.{sym, _∙_}
 use Rattle.trcf.proofs.TransformerLaws.{weightAt-view}
 use Rattle.trcf.specs.Transformer.{normalizedScale}
@@ -7,13 +8,13 @@ use Rattle.trcf.proofs.transformer.scale_at.Statement.{statement}
 use Rattle.trcf.proofs.transformer.scale_at.Tie as tie
 
 mul-w : tie.Need-mul-w
-mul-w c = search needs
+mul-w c = omega arith
 
 element-copy-out-w : tie.Need-element-copy-out-w
 element-copy-out-w c = search needs
 
 is-normalizing-requires : tie.Need-is-normalizing-requires
-is-normalizing-requires c κs = search needs
+is-normalizing-requires c κs = tt
 
 normalized-scale-requires : tie.Need-normalized-scale-requires
 normalized-scale-requires c κs = search needs

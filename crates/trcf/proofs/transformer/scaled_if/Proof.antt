@@ -1,10 +1,9 @@
 -- `trcf::transformer::scaled_if` meets its contract: each arm is the definition's case. Assumes nothing.
-use borrow.Author.Needs.{needs}
 use Rattle.trcf.proofs.transformer.scaled_if.Statement.{statement}
 use Rattle.trcf.proofs.transformer.scaled_if.Tie as tie
 
 scale-requires : tie.Need-scale-requires
-scale-requires c κs = search needs
+scale-requires c κs = tt
 
 returns : tie.Need-returns
 returns c = rw (c .before .if1 .taken) (c .scale .ensures)

@@ -5,7 +5,7 @@ use Rattle.trcf.proofs.transformer.shift_at.Statement.{statement}
 use Rattle.trcf.proofs.transformer.shift_at.Tie as tie
 
 is-centring-requires : tie.Need-is-centring-requires
-is-centring-requires c κs = search needs
+is-centring-requires c κs = tt
 
 narrow-mean-at-requires : tie.Need-narrow-mean-at-requires
 narrow-mean-at-requires c κs = search needs

@@ -1,10 +1,9 @@
 -- `trcf::transformer::shifted_if` meets its contract: each arm is the definition's case. Assumes nothing.
-use borrow.Author.Needs.{needs}
 use Rattle.trcf.proofs.transformer.shifted_if.Statement.{statement}
 use Rattle.trcf.proofs.transformer.shifted_if.Tie as tie
 
 shift-requires : tie.Need-shift-requires
-shift-requires c κs = search needs
+shift-requires c κs = tt
 
 returns : tie.Need-returns
 returns c = rw (c .before .if1 .taken) (c .shift .ensures)

@@ -1,36 +1,36 @@
 -- `trcf::transformer::statistic_at` meets its contract: three reads. Assumes nothing.
+use native.Mathlib.Omega.{arith}
 use mathlib.Core.Path.{refl}
 use Rattle.trcf.specs.Transformer.{statisticAt}
-use borrow.Author.Needs.{needs}
 use Rattle.trcf.proofs.transformer.statistic_at.Statement.{statement}
 use Rattle.trcf.proofs.transformer.statistic_at.Tie as tie
 
 mul-at : tie.Need-mul-at
-mul-at c = search needs
+mul-at c = omega arith
 
 mul-t6 : tie.Need-mul-t6
-mul-t6 c = search needs
+mul-t6 c = omega arith
 
 shared-slice-read-t8 : tie.Need-shared-slice-read-t8
-shared-slice-read-t8 c = search needs
+shared-slice-read-t8 c = omega arith
 
 add-t9 : tie.Need-add-t9
-add-t9 c = search needs
+add-t9 c = omega arith
 
 mul-t10 : tie.Need-mul-t10
-mul-t10 c = search needs
+mul-t10 c = omega arith
 
 shared-slice-read-t12 : tie.Need-shared-slice-read-t12
-shared-slice-read-t12 c = search needs
+shared-slice-read-t12 c = omega arith
 
 add-t13 : tie.Need-add-t13
-add-t13 c = search needs
+add-t13 c = omega arith
 
 mul-t14 : tie.Need-mul-t14
-mul-t14 c = search needs
+mul-t14 c = omega arith
 
 shared-slice-read-t16 : tie.Need-shared-slice-read-t16
-shared-slice-read-t16 c = search needs
+shared-slice-read-t16 c = omega arith
 
 returns : tie.Need-returns
 unfolding statisticAt

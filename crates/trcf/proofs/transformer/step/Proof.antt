@@ -9,7 +9,7 @@ use Rattle.trcf.proofs.transformer.step.Statement.{statement}
 use Rattle.trcf.proofs.transformer.step.Tie as tie
 
 update-requires : tie.Need-update-requires
-update-requires c κs = search needs
+update-requires c κs = tt
 
 enum-known-r : tie.Need-enum-known-r
 enum-known-r c = search needs

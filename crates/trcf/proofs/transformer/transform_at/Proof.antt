@@ -1,4 +1,5 @@
 -- `trcf::transformer::transform_at` meets its contract: each arm is the definition's case. Assumes nothing.
+use native.Mathlib.Omega.{arith}
 use lib.Ieee.{nan}
 use lib.Seq.{getD-take}
 use Rattle.trcf.specs.Transformer.{weightAt, basicShift, normalizedScale}
@@ -13,7 +14,7 @@ enum-told-2 : tie.Need-enum-told-2
 enum-told-2 c = search needs
 
 mul-result : tie.Need-mul-result
-mul-result c = search needs
+mul-result c = omega arith
 
 element-copy-out-result : tie.Need-element-copy-out-result
 element-copy-out-result c = search needs

@@ -2,7 +2,6 @@
 use Rattle.trcf.specs.TransformerCalls.{transformRow, notLong}
 use native.Mathlib.Omega.{arith}
 use borrow.Author.Tests.{lt-ltb, le-ltb, eq-eqb, ne-eqb}
-use borrow.Author.Needs.{needs}
 use Rattle.trcf.proofs.transformer.transform_row.Statement.{statement}
 use Rattle.trcf.proofs.transformer.transform_row.Tie as tie
 
@@ -23,7 +22,7 @@ unfolding transformRow notLong
 returns-4 c = (rw (ne-eqb _ _ (c .before .before .before .if1 .left), le-ltb _ _ (c .before .before .if2 .left), eq-eqb _ _ (c .before .if3 .left), ne-eqb _ _ (c .if4 .taken)), λ e. absurd (omega arith))
 
 mul-if5 : tie.Need-mul-if5
-mul-if5 c = search needs
+mul-if5 c = omega arith
 
 returns-5 : tie.Need-returns-5
 unfolding transformRow notLong

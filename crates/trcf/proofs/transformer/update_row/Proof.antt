@@ -2,7 +2,6 @@
 use Rattle.trcf.specs.TransformerCalls.{updateRow, notLong}
 use native.Mathlib.Omega.{arith}
 use borrow.Author.Tests.{lt-ltb, le-ltb, le-leb, lt-leb, eq-eqb, ne-eqb}
-use borrow.Author.Needs.{needs}
 use Rattle.trcf.proofs.transformer.update_row.Statement.{statement}
 use Rattle.trcf.proofs.transformer.update_row.Tie as tie
 
@@ -27,7 +26,7 @@ unfolding updateRow notLong
 returns-5 c = (rw (ne-eqb _ _ (c .before .before .before .before .if1 .left), le-ltb _ _ (c .before .before .before .if2 .left), eq-eqb _ _ (c .before .before .if3 .left), eq-eqb _ _ (c .before .if4 .left), le-leb _ _ (c .if5 .taken)), λ e. absurd (omega arith))
 
 mul-if6 : tie.Need-mul-if6
-mul-if6 c = search needs
+mul-if6 c = omega arith
 
 returns-6 : tie.Need-returns-6
 unfolding updateRow notLong

@@ -5,10 +5,10 @@ use Rattle.trcf.proofs.transformer.weights_refused.Statement.{statement
 use Rattle.trcf.proofs.transformer.weights_refused.Tie as tie
 
 is-none-requires : tie.Need-is-none-requires
-is-none-requires c κs = search needs
+is-none-requires c κs = tt
 
 all-one-requires : tie.Need-all-one-requires
-all-one-requires c κs = search needs
+all-one-requires c κs = tt
 
 returns : tie.Need-returns
 returns c = rw (sym (c .before .before .is-none .ensures) ∙ c .before .if1 .taken, ← c .all-one .ensures)

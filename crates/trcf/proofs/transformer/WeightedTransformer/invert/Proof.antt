@@ -10,7 +10,7 @@ use Rattle.trcf.proofs.transformer.WeightedTransformer.invert.Statement
 use Rattle.trcf.proofs.transformer.WeightedTransformer.invert.Tie as tie
 
 transform-row-requires : tie.Need-transform-row-requires
-transform-row-requires c κs = search needs
+transform-row-requires c κs = tt
 
 returns : tie.Need-returns
 unfolding invertOf

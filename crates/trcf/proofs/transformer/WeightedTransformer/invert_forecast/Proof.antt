@@ -16,7 +16,7 @@ use Rattle.trcf.proofs.transformer.WeightedTransformer.invert_forecast.
 use Rattle.trcf.proofs.transformer.WeightedTransformer.invert_forecast.Tie as tie
 
 forecast-row-requires : tie.Need-forecast-row-requires
-forecast-row-requires c κs = search needs
+forecast-row-requires c κs = tt
 
 returns : tie.Need-returns
 unfolding invertForecastOf

@@ -14,7 +14,7 @@ use Rattle.trcf.proofs.transformer.WeightedTransformer.new.Statement.{s
 use Rattle.trcf.proofs.transformer.WeightedTransformer.new.Tie as tie
 
 new-row-requires : tie.Need-new-row-requires
-new-row-requires c κs = search needs
+new-row-requires c κs = tt
 
 returns : tie.Need-returns
 unfolding newOf

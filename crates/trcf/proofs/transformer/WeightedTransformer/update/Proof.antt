@@ -11,7 +11,7 @@ use Rattle.trcf.proofs.transformer.WeightedTransformer.update.Statement
 use Rattle.trcf.proofs.transformer.WeightedTransformer.update.Tie as tie
 
 update-row-requires : tie.Need-update-row-requires
-update-row-requires c κs = search needs
+update-row-requires c κs = tt
 
 returns : tie.Need-returns
 unfolding updateOf
