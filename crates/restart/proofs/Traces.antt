@@ -39,15 +39,15 @@ s0 = record { mode = STANDARD; method = NONE; d = 1; k = 1; start = 2; stop = 92
 
 abbrev c0 : List Call
 c0 = (
-    postProcess (record { input = ((ofBits binary32 0x42c40000) ∷ []); timestamp = 1731408313920514; rcfPoint = (some ((ofBits binary32 0x40000000) ∷ [])); expectedPoint = (some ((ofBits binary32 0x116c2) ∷ [])); grade = (ofBits binary32 0x3f000000); relativeIndex = (pos 0); deviationsOut = (replicate 1 (ofBits binary32 0)); pastOut = (replicate 1 (ofBits binary32 0)); expectedOut = (replicate 1 (ofBits binary32 0)) }) ∷ 
-    postProcess (record { input = ((ofBits binary32 0x429d0000) ∷ []); timestamp = 1731408313920514; rcfPoint = (some ((ofBits binary32 0x80000001) ∷ [])); expectedPoint = (some ((ofBits binary32 0x42aa4000) ∷ [])); grade = (ofBits binary32 0x3f000000); relativeIndex = (pos 0); deviationsOut = (replicate 1 (ofBits binary32 0)); pastOut = (replicate 1 (ofBits binary32 0)); expectedOut = (replicate 4 (ofBits binary32 0)) }) ∷ 
-    postProcess (record { input = ((ofBits binary32 0x3e800000) ∷ []); timestamp = 1731408313920519; rcfPoint = (some ((ofBits binary32 0xfa2cb9a9) ∷ [])); expectedPoint = none; grade = (ofBits binary32 0x3f000000); relativeIndex = (negsuc 2147483647); deviationsOut = (replicate 1 (ofBits binary32 0)); pastOut = (replicate 1 (ofBits binary32 0)); expectedOut = (replicate 1 (ofBits binary32 0)) }) ∷ 
-    postProcess (record { input = ((ofBits binary32 0x41a60000) ∷ []); timestamp = 1731408313920536; rcfPoint = (some ((ofBits binary32 0x40800000) ∷ [])); expectedPoint = none; grade = (ofBits binary32 0x3f000000); relativeIndex = (pos 0); deviationsOut = (replicate 3 (ofBits binary32 0)); pastOut = (replicate 1 (ofBits binary32 0)); expectedOut = (replicate 1 (ofBits binary32 0)) }) ∷ 
-    shift (replicate 1 (ofBits binary32 0)) ∷ 
-    postProcess (record { input = ((ofBits binary32 0x42c38000) ∷ []); timestamp = 1731408313920543; rcfPoint = (some ((ofBits binary32 0x41a98000) ∷ [])); expectedPoint = none; grade = (ofBits binary32 0xbf800000); relativeIndex = (negsuc 0); deviationsOut = (replicate 1 (ofBits binary32 0)); pastOut = (replicate 1 (ofBits binary32 0)); expectedOut = (replicate 3 (ofBits binary32 0)) }) ∷ 
-    postProcess (record { input = ((ofBits binary32 0x42100000) ∷ []); timestamp = 1731408313920559; rcfPoint = (some ((ofBits binary32 0xff800000) ∷ [])); expectedPoint = (some ((ofBits binary32 0xb5c8a539) ∷ [])); grade = (ofBits binary32 0x7f800000); relativeIndex = (pos 0); deviationsOut = (replicate 1 (ofBits binary32 0)); pastOut = (replicate 2 (ofBits binary32 0)); expectedOut = (replicate 1 (ofBits binary32 0)) }) ∷ 
-    invertExtrapolation (record { forecast = ranges ((ofBits binary32 0xff800000) ∷ (ofBits binary32 0xc0a00000) ∷ (ofBits binary32 0xc2218000) ∷ (ofBits binary32 0x98116c91) ∷ []) ((ofBits binary32 0xff800000) ∷ (ofBits binary32 0xc0a00000) ∷ (ofBits binary32 0xc21d8000) ∷ (ofBits binary32 0x40000000) ∷ []) ((ofBits binary32 0xff800000) ∷ (ofBits binary32 0xc1100000) ∷ (ofBits binary32 0xc2258000) ∷ (ofBits binary32 0xbf800000) ∷ []); valuesOut = (ranges (replicate 4 (ofBits binary32 0)) (replicate 4 (ofBits binary32 0)) (replicate 4 (ofBits binary32 0))); timesOut = (ranges (replicate 4 (ofBits binary32 0)) (replicate 4 (ofBits binary32 0)) (replicate 4 (ofBits binary32 0))) }) ∷ 
-    status (replicate 1 (ofBits binary32 0)) ∷ 
+    postProcess (record { input = ((ofBits binary32 0x42c40000) ∷ []); timestamp = 1731408313920514; rcfPoint = (some ((ofBits binary32 0x40000000) ∷ [])); expectedPoint = (some ((ofBits binary32 0x116c2) ∷ [])); grade = (ofBits binary32 0x3f000000); relativeIndex = (pos 0); deviationsOut = (replicate 1 (ofBits binary32 0)); pastOut = (replicate 1 (ofBits binary32 0)); expectedOut = (replicate 1 (ofBits binary32 0)) }) ∷
+    postProcess (record { input = ((ofBits binary32 0x429d0000) ∷ []); timestamp = 1731408313920514; rcfPoint = (some ((ofBits binary32 0x80000001) ∷ [])); expectedPoint = (some ((ofBits binary32 0x42aa4000) ∷ [])); grade = (ofBits binary32 0x3f000000); relativeIndex = (pos 0); deviationsOut = (replicate 1 (ofBits binary32 0)); pastOut = (replicate 1 (ofBits binary32 0)); expectedOut = (replicate 4 (ofBits binary32 0)) }) ∷
+    postProcess (record { input = ((ofBits binary32 0x3e800000) ∷ []); timestamp = 1731408313920519; rcfPoint = (some ((ofBits binary32 0xfa2cb9a9) ∷ [])); expectedPoint = none; grade = (ofBits binary32 0x3f000000); relativeIndex = (negsuc 2147483647); deviationsOut = (replicate 1 (ofBits binary32 0)); pastOut = (replicate 1 (ofBits binary32 0)); expectedOut = (replicate 1 (ofBits binary32 0)) }) ∷
+    postProcess (record { input = ((ofBits binary32 0x41a60000) ∷ []); timestamp = 1731408313920536; rcfPoint = (some ((ofBits binary32 0x40800000) ∷ [])); expectedPoint = none; grade = (ofBits binary32 0x3f000000); relativeIndex = (pos 0); deviationsOut = (replicate 3 (ofBits binary32 0)); pastOut = (replicate 1 (ofBits binary32 0)); expectedOut = (replicate 1 (ofBits binary32 0)) }) ∷
+    shift (replicate 1 (ofBits binary32 0)) ∷
+    postProcess (record { input = ((ofBits binary32 0x42c38000) ∷ []); timestamp = 1731408313920543; rcfPoint = (some ((ofBits binary32 0x41a98000) ∷ [])); expectedPoint = none; grade = (ofBits binary32 0xbf800000); relativeIndex = (negsuc 0); deviationsOut = (replicate 1 (ofBits binary32 0)); pastOut = (replicate 1 (ofBits binary32 0)); expectedOut = (replicate 3 (ofBits binary32 0)) }) ∷
+    postProcess (record { input = ((ofBits binary32 0x42100000) ∷ []); timestamp = 1731408313920559; rcfPoint = (some ((ofBits binary32 0xff800000) ∷ [])); expectedPoint = (some ((ofBits binary32 0xb5c8a539) ∷ [])); grade = (ofBits binary32 0x7f800000); relativeIndex = (pos 0); deviationsOut = (replicate 1 (ofBits binary32 0)); pastOut = (replicate 2 (ofBits binary32 0)); expectedOut = (replicate 1 (ofBits binary32 0)) }) ∷
+    invertExtrapolation (record { forecast = ranges ((ofBits binary32 0xff800000) ∷ (ofBits binary32 0xc0a00000) ∷ (ofBits binary32 0xc2218000) ∷ (ofBits binary32 0x98116c91) ∷ []) ((ofBits binary32 0xff800000) ∷ (ofBits binary32 0xc0a00000) ∷ (ofBits binary32 0xc21d8000) ∷ (ofBits binary32 0x40000000) ∷ []) ((ofBits binary32 0xff800000) ∷ (ofBits binary32 0xc1100000) ∷ (ofBits binary32 0xc2258000) ∷ (ofBits binary32 0xbf800000) ∷ []); valuesOut = (ranges (replicate 4 (ofBits binary32 0)) (replicate 4 (ofBits binary32 0)) (replicate 4 (ofBits binary32 0))); timesOut = (ranges (replicate 4 (ofBits binary32 0)) (replicate 4 (ofBits binary32 0)) (replicate 4 (ofBits binary32 0))) }) ∷
+    status (replicate 1 (ofBits binary32 0)) ∷
     scale (replicate 1 (ofBits binary32 0)) ∷ [])
 
 abbrev t0 : List ℕ
@@ -62,15 +62,15 @@ unfolding trace·all
 history0 = refl
 
 answers0 : answers (fresh s0) c0 ≡ (
-    learnt (record { written = true; anomaly = some (record { pastTimestamp = 0; likelihood = (ofBits binary32 0x3f800000) }); deviationsOut = ((ofBits binary32 0x0) ∷ []); pastOut = ((ofBits binary32 0x42c40000) ∷ []); expectedOut = ((ofBits binary32 0x116c2) ∷ []) }) ∷ 
-    learnt (record { written = true; anomaly = some (record { pastTimestamp = 1731408313920514; likelihood = (ofBits binary32 0x3f800000) }); deviationsOut = ((ofBits binary32 0x41e64085) ∷ []); pastOut = ((ofBits binary32 0x429d0000) ∷ []); expectedOut = ((ofBits binary32 0x42aa4000) ∷ (ofBits binary32 0x0) ∷ (ofBits binary32 0x0) ∷ (ofBits binary32 0x0) ∷ []) }) ∷ 
-    refused 14 ∷ 
-    learnt (record { written = true; anomaly = none; deviationsOut = ((ofBits binary32 0x421d2452) ∷ (ofBits binary32 0x0) ∷ (ofBits binary32 0x0) ∷ []); pastOut = ((ofBits binary32 0x0) ∷ []); expectedOut = ((ofBits binary32 0x0) ∷ []) }) ∷ 
-    wrote ((ofBits binary32 0x0) ∷ []) ∷ 
-    learnt (record { written = true; anomaly = none; deviationsOut = ((ofBits binary32 0x4235cfe3) ∷ []); pastOut = ((ofBits binary32 0x0) ∷ []); expectedOut = ((ofBits binary32 0x0) ∷ (ofBits binary32 0x0) ∷ (ofBits binary32 0x0) ∷ []) }) ∷ 
-    learnt (record { written = true; anomaly = some (record { pastTimestamp = 1731408313920543; likelihood = (ofBits binary32 0x3f800000) }); deviationsOut = ((ofBits binary32 0x4245e0f5) ∷ []); pastOut = ((ofBits binary32 0x42100000) ∷ (ofBits binary32 0x0) ∷ []); expectedOut = ((ofBits binary32 0xb5c8a539) ∷ []) }) ∷ 
-    turned (record { forecast = (ranges ((ofBits binary32 0xff800000) ∷ (ofBits binary32 0x41ab2c0c) ∷ (ofBits binary32 0x4146b030) ∷ (ofBits binary32 0x429e6109) ∷ []) ((ofBits binary32 0xff800000) ∷ (ofBits binary32 0x41ab2c0c) ∷ (ofBits binary32 0x4156b030) ∷ (ofBits binary32 0x42a26109) ∷ []) ((ofBits binary32 0xff800000) ∷ (ofBits binary32 0x418b2c0c) ∷ (ofBits binary32 0x4136b030) ∷ (ofBits binary32 0x429c6109) ∷ [])); valuesOut = (ranges (replicate 4 (ofBits binary32 0)) (replicate 4 (ofBits binary32 0)) (replicate 4 (ofBits binary32 0))); timesOut = (ranges (replicate 4 (ofBits binary32 0)) (replicate 4 (ofBits binary32 0)) (replicate 4 (ofBits binary32 0))) }) ∷ 
-    told (record { valuesSeen = 5; internalTimestamp = 5; ready = true; inputDimensions = 1; shingleSize = 1; dimensions = 1; method = NONE; mode = STANDARD; start = 2; panel = 5; deviationsOut = ((ofBits binary32 0x4245e0f5) ∷ []) }) ∷ 
+    learnt (record { written = true; anomaly = some (record { pastTimestamp = 0; likelihood = (ofBits binary32 0x3f800000) }); deviationsOut = ((ofBits binary32 0x0) ∷ []); pastOut = ((ofBits binary32 0x42c40000) ∷ []); expectedOut = ((ofBits binary32 0x116c2) ∷ []) }) ∷
+    learnt (record { written = true; anomaly = some (record { pastTimestamp = 1731408313920514; likelihood = (ofBits binary32 0x3f800000) }); deviationsOut = ((ofBits binary32 0x41e64085) ∷ []); pastOut = ((ofBits binary32 0x429d0000) ∷ []); expectedOut = ((ofBits binary32 0x42aa4000) ∷ (ofBits binary32 0x0) ∷ (ofBits binary32 0x0) ∷ (ofBits binary32 0x0) ∷ []) }) ∷
+    refused 14 ∷
+    learnt (record { written = true; anomaly = none; deviationsOut = ((ofBits binary32 0x421d2452) ∷ (ofBits binary32 0x0) ∷ (ofBits binary32 0x0) ∷ []); pastOut = ((ofBits binary32 0x0) ∷ []); expectedOut = ((ofBits binary32 0x0) ∷ []) }) ∷
+    wrote ((ofBits binary32 0x0) ∷ []) ∷
+    learnt (record { written = true; anomaly = none; deviationsOut = ((ofBits binary32 0x4235cfe3) ∷ []); pastOut = ((ofBits binary32 0x0) ∷ []); expectedOut = ((ofBits binary32 0x0) ∷ (ofBits binary32 0x0) ∷ (ofBits binary32 0x0) ∷ []) }) ∷
+    learnt (record { written = true; anomaly = some (record { pastTimestamp = 1731408313920543; likelihood = (ofBits binary32 0x3f800000) }); deviationsOut = ((ofBits binary32 0x4245e0f5) ∷ []); pastOut = ((ofBits binary32 0x42100000) ∷ (ofBits binary32 0x0) ∷ []); expectedOut = ((ofBits binary32 0xb5c8a539) ∷ []) }) ∷
+    turned (record { forecast = (ranges ((ofBits binary32 0xff800000) ∷ (ofBits binary32 0x41ab2c0c) ∷ (ofBits binary32 0x4146b030) ∷ (ofBits binary32 0x429e6109) ∷ []) ((ofBits binary32 0xff800000) ∷ (ofBits binary32 0x41ab2c0c) ∷ (ofBits binary32 0x4156b030) ∷ (ofBits binary32 0x42a26109) ∷ []) ((ofBits binary32 0xff800000) ∷ (ofBits binary32 0x418b2c0c) ∷ (ofBits binary32 0x4136b030) ∷ (ofBits binary32 0x429c6109) ∷ [])); valuesOut = (ranges (replicate 4 (ofBits binary32 0)) (replicate 4 (ofBits binary32 0)) (replicate 4 (ofBits binary32 0))); timesOut = (ranges (replicate 4 (ofBits binary32 0)) (replicate 4 (ofBits binary32 0)) (replicate 4 (ofBits binary32 0))) }) ∷
+    told (record { valuesSeen = 5; internalTimestamp = 5; ready = true; inputDimensions = 1; shingleSize = 1; dimensions = 1; method = NONE; mode = STANDARD; start = 2; panel = 5; deviationsOut = ((ofBits binary32 0x4245e0f5) ∷ []) }) ∷
     wrote ((ofBits binary32 0x3f800000) ∷ []) ∷ [])
 unfolding trace·all
 answers0 = refl
@@ -103,14 +103,14 @@ s2 = record { mode = «TIME_AUGMENTED»; method = WEIGHTED; d = 2; k = 3; start 
 
 abbrev c2 : List Call
 c2 = (
-    invertExtrapolation (record { forecast = ranges ((ofBits binary32 0xff800000) ∷ (ofBits binary32 0x41988000) ∷ (ofBits binary32 0xc289a000) ∷ (ofBits binary32 0x50816c5f) ∷ (ofBits binary32 0xdc5151e0) ∷ (ofBits binary32 0x4201c000) ∷ (ofBits binary32 0xc0400000) ∷ (ofBits binary32 0xff800000) ∷ (ofBits binary32 0x40c00000) ∷ (ofBits binary32 0x42d08000) ∷ (ofBits binary32 0xbf800000) ∷ (ofBits binary32 0x45dce1b3) ∷ (ofBits binary32 0xc1cc8000) ∷ (ofBits binary32 0x1) ∷ (ofBits binary32 0x41200000) ∷ (ofBits binary32 0x80000001) ∷ (ofBits binary32 0x40e00000) ∷ []) ((ofBits binary32 0xff800000) ∷ (ofBits binary32 0x41b88000) ∷ (ofBits binary32 0xc285a000) ∷ (ofBits binary32 0x50816c5f) ∷ (ofBits binary32 0xdc5151e0) ∷ (ofBits binary32 0x4215c000) ∷ (ofBits binary32 0xc0400000) ∷ (ofBits binary32 0xff800000) ∷ (ofBits binary32 0x41000000) ∷ (ofBits binary32 0x42d68000) ∷ (ofBits binary32 0x3f800000) ∷ (ofBits binary32 0x45dce1b3) ∷ (ofBits binary32 0xc1bc8000) ∷ (ofBits binary32 0x1) ∷ (ofBits binary32 0x41300000) ∷ (ofBits binary32 0x40400000) ∷ (ofBits binary32 0x41000000) ∷ []) ((ofBits binary32 0xff800000) ∷ (ofBits binary32 0x41610000) ∷ (ofBits binary32 0xc291a000) ∷ (ofBits binary32 0x50816c5f) ∷ (ofBits binary32 0xdc5151e0) ∷ (ofBits binary32 0x41fb8000) ∷ (ofBits binary32 0xc0e00000) ∷ (ofBits binary32 0xff800000) ∷ (ofBits binary32 0x40a00000) ∷ (ofBits binary32 0x42ca8000) ∷ (ofBits binary32 0xbf800000) ∷ (ofBits binary32 0x45dcd1b3) ∷ (ofBits binary32 0xc1f48000) ∷ (ofBits binary32 0xc0000000) ∷ (ofBits binary32 0x40c00000) ∷ (ofBits binary32 0xc0400000) ∷ (ofBits binary32 0x40c00000) ∷ []); valuesOut = (ranges (replicate 6 (ofBits binary32 0)) (replicate 6 (ofBits binary32 0)) (replicate 6 (ofBits binary32 0))); timesOut = (ranges (replicate 1 (ofBits binary32 0)) (replicate 1 (ofBits binary32 0)) (replicate 1 (ofBits binary32 0))) }) ∷ 
-    postProcess (record { input = ((ofBits binary32 0x116c2) ∷ (ofBits binary32 0x80000001) ∷ []); timestamp = 145; rcfPoint = (some ((ofBits binary32 0x42fc6000) ∷ (ofBits binary32 0xf17b4ce4) ∷ (ofBits binary32 0x45c7fc11) ∷ (ofBits binary32 0x12d95a78) ∷ (ofBits binary32 0xc1200000) ∷ (ofBits binary32 0x461af03a) ∷ (ofBits binary32 0xc1200000) ∷ (ofBits binary32 0xbf800000) ∷ (ofBits binary32 0xc1100000) ∷ [])); expectedPoint = none; grade = (ofBits binary32 0x7f800000); relativeIndex = (negsuc 2); deviationsOut = (replicate 3 (ofBits binary32 0)); pastOut = (replicate 2 (ofBits binary32 0)); expectedOut = (replicate 2 (ofBits binary32 0)) }) ∷ 
-    shingledPoint ((ofBits binary32 0x464d161a) ∷ (ofBits binary32 0x421c4000) ∷ []) 153 (replicate 9 (ofBits binary32 0)) ∷ 
-    postProcess (record { input = ((ofBits binary32 0xff7fffff) ∷ (ofBits binary32 0x4252c000) ∷ []); timestamp = 153; rcfPoint = (some ((ofBits binary32 0x0) ∷ (ofBits binary32 0x0) ∷ (ofBits binary32 0x0) ∷ (ofBits binary32 0x0) ∷ (ofBits binary32 0x0) ∷ (ofBits binary32 0x0) ∷ (ofBits binary32 0x46cd161a) ∷ (ofBits binary32 0x42ea6000) ∷ (ofBits binary32 0x0) ∷ [])); expectedPoint = (some ((ofBits binary32 0x7f7fffff) ∷ (ofBits binary32 0x46827bf3) ∷ (ofBits binary32 0x7f7fffff) ∷ (ofBits binary32 0x450264bd) ∷ (ofBits binary32 0xff61b1e6) ∷ (ofBits binary32 0x2da46684) ∷ (ofBits binary32 0x40a00000) ∷ (ofBits binary32 0x42f18000) ∷ (ofBits binary32 0x40a00000) ∷ [])); grade = (ofBits binary32 0x7f800000); relativeIndex = (negsuc 1); deviationsOut = (replicate 3 (ofBits binary32 0)); pastOut = (replicate 2 (ofBits binary32 0)); expectedOut = (replicate 2 (ofBits binary32 0)) }) ∷ 
-    shift (replicate 2 (ofBits binary32 0)) ∷ 
-    postProcess (record { input = ((ofBits binary32 0xc264c000) ∷ (ofBits binary32 0x3f800000) ∷ []); timestamp = 157; rcfPoint = none; expectedPoint = none; grade = (ofBits binary32 0x7f800000); relativeIndex = (negsuc 0); deviationsOut = (replicate 3 (ofBits binary32 0)); pastOut = (replicate 2 (ofBits binary32 0)); expectedOut = (replicate 3 (ofBits binary32 0)) }) ∷ 
-    postProcess (record { input = ((ofBits binary32 0xc0000000) ∷ (ofBits binary32 0x430e8000) ∷ []); timestamp = 175; rcfPoint = (some ((ofBits binary32 0x0) ∷ (ofBits binary32 0x0) ∷ (ofBits binary32 0x0) ∷ (ofBits binary32 0x0) ∷ (ofBits binary32 0x0) ∷ (ofBits binary32 0x0) ∷ (ofBits binary32 0x46cd161a) ∷ (ofBits binary32 0x42ea6000) ∷ (ofBits binary32 0x0) ∷ [])); expectedPoint = (some ((ofBits binary32 0xc2990000) ∷ (ofBits binary32 0x41100000) ∷ (ofBits binary32 0xc1100000) ∷ (ofBits binary32 0x40800000) ∷ (ofBits binary32 0x45046ce6) ∷ (ofBits binary32 0x43152000) ∷ (ofBits binary32 0xff61b1e6) ∷ (ofBits binary32 0xbf800000) ∷ (ofBits binary32 0xff7fffff) ∷ (ofBits binary32 0x40a00000) ∷ [])); grade = (ofBits binary32 0xbf800000); relativeIndex = (negsuc 1); deviationsOut = (replicate 3 (ofBits binary32 0)); pastOut = (replicate 2 (ofBits binary32 0)); expectedOut = (replicate 2 (ofBits binary32 0)) }) ∷ 
-    postProcess (record { input = ((ofBits binary32 0x41200000) ∷ (ofBits binary32 0x116c2) ∷ []); timestamp = 177; rcfPoint = none; expectedPoint = none; grade = (ofBits binary32 0x3f800000); relativeIndex = (negsuc 1); deviationsOut = (replicate 5 (ofBits binary32 0)); pastOut = (replicate 2 (ofBits binary32 0)); expectedOut = (replicate 2 (ofBits binary32 0)) }) ∷ 
+    invertExtrapolation (record { forecast = ranges ((ofBits binary32 0xff800000) ∷ (ofBits binary32 0x41988000) ∷ (ofBits binary32 0xc289a000) ∷ (ofBits binary32 0x50816c5f) ∷ (ofBits binary32 0xdc5151e0) ∷ (ofBits binary32 0x4201c000) ∷ (ofBits binary32 0xc0400000) ∷ (ofBits binary32 0xff800000) ∷ (ofBits binary32 0x40c00000) ∷ (ofBits binary32 0x42d08000) ∷ (ofBits binary32 0xbf800000) ∷ (ofBits binary32 0x45dce1b3) ∷ (ofBits binary32 0xc1cc8000) ∷ (ofBits binary32 0x1) ∷ (ofBits binary32 0x41200000) ∷ (ofBits binary32 0x80000001) ∷ (ofBits binary32 0x40e00000) ∷ []) ((ofBits binary32 0xff800000) ∷ (ofBits binary32 0x41b88000) ∷ (ofBits binary32 0xc285a000) ∷ (ofBits binary32 0x50816c5f) ∷ (ofBits binary32 0xdc5151e0) ∷ (ofBits binary32 0x4215c000) ∷ (ofBits binary32 0xc0400000) ∷ (ofBits binary32 0xff800000) ∷ (ofBits binary32 0x41000000) ∷ (ofBits binary32 0x42d68000) ∷ (ofBits binary32 0x3f800000) ∷ (ofBits binary32 0x45dce1b3) ∷ (ofBits binary32 0xc1bc8000) ∷ (ofBits binary32 0x1) ∷ (ofBits binary32 0x41300000) ∷ (ofBits binary32 0x40400000) ∷ (ofBits binary32 0x41000000) ∷ []) ((ofBits binary32 0xff800000) ∷ (ofBits binary32 0x41610000) ∷ (ofBits binary32 0xc291a000) ∷ (ofBits binary32 0x50816c5f) ∷ (ofBits binary32 0xdc5151e0) ∷ (ofBits binary32 0x41fb8000) ∷ (ofBits binary32 0xc0e00000) ∷ (ofBits binary32 0xff800000) ∷ (ofBits binary32 0x40a00000) ∷ (ofBits binary32 0x42ca8000) ∷ (ofBits binary32 0xbf800000) ∷ (ofBits binary32 0x45dcd1b3) ∷ (ofBits binary32 0xc1f48000) ∷ (ofBits binary32 0xc0000000) ∷ (ofBits binary32 0x40c00000) ∷ (ofBits binary32 0xc0400000) ∷ (ofBits binary32 0x40c00000) ∷ []); valuesOut = (ranges (replicate 6 (ofBits binary32 0)) (replicate 6 (ofBits binary32 0)) (replicate 6 (ofBits binary32 0))); timesOut = (ranges (replicate 1 (ofBits binary32 0)) (replicate 1 (ofBits binary32 0)) (replicate 1 (ofBits binary32 0))) }) ∷
+    postProcess (record { input = ((ofBits binary32 0x116c2) ∷ (ofBits binary32 0x80000001) ∷ []); timestamp = 145; rcfPoint = (some ((ofBits binary32 0x42fc6000) ∷ (ofBits binary32 0xf17b4ce4) ∷ (ofBits binary32 0x45c7fc11) ∷ (ofBits binary32 0x12d95a78) ∷ (ofBits binary32 0xc1200000) ∷ (ofBits binary32 0x461af03a) ∷ (ofBits binary32 0xc1200000) ∷ (ofBits binary32 0xbf800000) ∷ (ofBits binary32 0xc1100000) ∷ [])); expectedPoint = none; grade = (ofBits binary32 0x7f800000); relativeIndex = (negsuc 2); deviationsOut = (replicate 3 (ofBits binary32 0)); pastOut = (replicate 2 (ofBits binary32 0)); expectedOut = (replicate 2 (ofBits binary32 0)) }) ∷
+    shingledPoint ((ofBits binary32 0x464d161a) ∷ (ofBits binary32 0x421c4000) ∷ []) 153 (replicate 9 (ofBits binary32 0)) ∷
+    postProcess (record { input = ((ofBits binary32 0xff7fffff) ∷ (ofBits binary32 0x4252c000) ∷ []); timestamp = 153; rcfPoint = (some ((ofBits binary32 0x0) ∷ (ofBits binary32 0x0) ∷ (ofBits binary32 0x0) ∷ (ofBits binary32 0x0) ∷ (ofBits binary32 0x0) ∷ (ofBits binary32 0x0) ∷ (ofBits binary32 0x46cd161a) ∷ (ofBits binary32 0x42ea6000) ∷ (ofBits binary32 0x0) ∷ [])); expectedPoint = (some ((ofBits binary32 0x7f7fffff) ∷ (ofBits binary32 0x46827bf3) ∷ (ofBits binary32 0x7f7fffff) ∷ (ofBits binary32 0x450264bd) ∷ (ofBits binary32 0xff61b1e6) ∷ (ofBits binary32 0x2da46684) ∷ (ofBits binary32 0x40a00000) ∷ (ofBits binary32 0x42f18000) ∷ (ofBits binary32 0x40a00000) ∷ [])); grade = (ofBits binary32 0x7f800000); relativeIndex = (negsuc 1); deviationsOut = (replicate 3 (ofBits binary32 0)); pastOut = (replicate 2 (ofBits binary32 0)); expectedOut = (replicate 2 (ofBits binary32 0)) }) ∷
+    shift (replicate 2 (ofBits binary32 0)) ∷
+    postProcess (record { input = ((ofBits binary32 0xc264c000) ∷ (ofBits binary32 0x3f800000) ∷ []); timestamp = 157; rcfPoint = none; expectedPoint = none; grade = (ofBits binary32 0x7f800000); relativeIndex = (negsuc 0); deviationsOut = (replicate 3 (ofBits binary32 0)); pastOut = (replicate 2 (ofBits binary32 0)); expectedOut = (replicate 3 (ofBits binary32 0)) }) ∷
+    postProcess (record { input = ((ofBits binary32 0xc0000000) ∷ (ofBits binary32 0x430e8000) ∷ []); timestamp = 175; rcfPoint = (some ((ofBits binary32 0x0) ∷ (ofBits binary32 0x0) ∷ (ofBits binary32 0x0) ∷ (ofBits binary32 0x0) ∷ (ofBits binary32 0x0) ∷ (ofBits binary32 0x0) ∷ (ofBits binary32 0x46cd161a) ∷ (ofBits binary32 0x42ea6000) ∷ (ofBits binary32 0x0) ∷ [])); expectedPoint = (some ((ofBits binary32 0xc2990000) ∷ (ofBits binary32 0x41100000) ∷ (ofBits binary32 0xc1100000) ∷ (ofBits binary32 0x40800000) ∷ (ofBits binary32 0x45046ce6) ∷ (ofBits binary32 0x43152000) ∷ (ofBits binary32 0xff61b1e6) ∷ (ofBits binary32 0xbf800000) ∷ (ofBits binary32 0xff7fffff) ∷ (ofBits binary32 0x40a00000) ∷ [])); grade = (ofBits binary32 0xbf800000); relativeIndex = (negsuc 1); deviationsOut = (replicate 3 (ofBits binary32 0)); pastOut = (replicate 2 (ofBits binary32 0)); expectedOut = (replicate 2 (ofBits binary32 0)) }) ∷
+    postProcess (record { input = ((ofBits binary32 0x41200000) ∷ (ofBits binary32 0x116c2) ∷ []); timestamp = 177; rcfPoint = none; expectedPoint = none; grade = (ofBits binary32 0x3f800000); relativeIndex = (negsuc 1); deviationsOut = (replicate 5 (ofBits binary32 0)); pastOut = (replicate 2 (ofBits binary32 0)); expectedOut = (replicate 2 (ofBits binary32 0)) }) ∷
     invertExtrapolation (record { forecast = ranges ((ofBits binary32 0xea8cdefa) ∷ (ofBits binary32 0xff800000) ∷ (ofBits binary32 0x467cf7b4) ∷ (ofBits binary32 0x7f800000) ∷ (ofBits binary32 0x1) ∷ (ofBits binary32 0x80000000) ∷ (ofBits binary32 0xc1000000) ∷ (ofBits binary32 0x4304e000) ∷ []) ((ofBits binary32 0xea8cdefa) ∷ (ofBits binary32 0xff800000) ∷ (ofBits binary32 0x467d07b4) ∷ (ofBits binary32 0x7f800000) ∷ (ofBits binary32 0x40a00000) ∷ (ofBits binary32 0x40400000) ∷ (ofBits binary32 0xc0a00000) ∷ (ofBits binary32 0x4305e000) ∷ []) ((ofBits binary32 0xea8cdefa) ∷ (ofBits binary32 0xff800000) ∷ (ofBits binary32 0x467cf7b4) ∷ (ofBits binary32 0x7f800000) ∷ (ofBits binary32 0xc0400000) ∷ (ofBits binary32 0xbf800000) ∷ (ofBits binary32 0xc1400000) ∷ (ofBits binary32 0x4302e000) ∷ []); valuesOut = (ranges (replicate 0 (ofBits binary32 0)) (replicate 0 (ofBits binary32 0)) (replicate 0 (ofBits binary32 0))); timesOut = (ranges (replicate 0 (ofBits binary32 0)) (replicate 0 (ofBits binary32 0)) (replicate 0 (ofBits binary32 0))) }) ∷ [])
 
 abbrev t2 : List ℕ
@@ -125,14 +125,14 @@ unfolding trace·all
 history2 = refl
 
 answers2 : answers (fresh s2) c2 ≡ (
-    turned (record { forecast = (ranges ((ofBits binary32 0xff800000) ∷ (ofBits binary32 0x41988000) ∷ (ofBits binary32 0xc289a000) ∷ (ofBits binary32 0x50816c5f) ∷ (ofBits binary32 0xdc5151e0) ∷ (ofBits binary32 0x4201c000) ∷ (ofBits binary32 0xc0400000) ∷ (ofBits binary32 0xff800000) ∷ (ofBits binary32 0x40c00000) ∷ (ofBits binary32 0x42d08000) ∷ (ofBits binary32 0xbf800000) ∷ (ofBits binary32 0x45dce1b3) ∷ (ofBits binary32 0xc1cc8000) ∷ (ofBits binary32 0x1) ∷ (ofBits binary32 0x41200000) ∷ (ofBits binary32 0x80000001) ∷ (ofBits binary32 0x40e00000) ∷ []) ((ofBits binary32 0xff800000) ∷ (ofBits binary32 0x41b88000) ∷ (ofBits binary32 0xc285a000) ∷ (ofBits binary32 0x50816c5f) ∷ (ofBits binary32 0xdc5151e0) ∷ (ofBits binary32 0x4215c000) ∷ (ofBits binary32 0xc0400000) ∷ (ofBits binary32 0xff800000) ∷ (ofBits binary32 0x41000000) ∷ (ofBits binary32 0x42d68000) ∷ (ofBits binary32 0x3f800000) ∷ (ofBits binary32 0x45dce1b3) ∷ (ofBits binary32 0xc1bc8000) ∷ (ofBits binary32 0x1) ∷ (ofBits binary32 0x41300000) ∷ (ofBits binary32 0x40400000) ∷ (ofBits binary32 0x41000000) ∷ []) ((ofBits binary32 0xff800000) ∷ (ofBits binary32 0x41610000) ∷ (ofBits binary32 0xc291a000) ∷ (ofBits binary32 0x50816c5f) ∷ (ofBits binary32 0xdc5151e0) ∷ (ofBits binary32 0x41fb8000) ∷ (ofBits binary32 0xc0e00000) ∷ (ofBits binary32 0xff800000) ∷ (ofBits binary32 0x40a00000) ∷ (ofBits binary32 0x42ca8000) ∷ (ofBits binary32 0xbf800000) ∷ (ofBits binary32 0x45dcd1b3) ∷ (ofBits binary32 0xc1f48000) ∷ (ofBits binary32 0xc0000000) ∷ (ofBits binary32 0x40c00000) ∷ (ofBits binary32 0xc0400000) ∷ (ofBits binary32 0x40c00000) ∷ [])); valuesOut = (ranges ((ofBits binary32 0xff800000) ∷ (ofBits binary32 0x40cb5556) ∷ (ofBits binary32 0xc209a000) ∷ (ofBits binary32 0x4fac907f) ∷ (ofBits binary32 0xdbd151e0) ∷ (ofBits binary32 0x412d0000) ∷ []) ((ofBits binary32 0xff800000) ∷ (ofBits binary32 0x40f60000) ∷ (ofBits binary32 0xc205a000) ∷ (ofBits binary32 0x4fac907f) ∷ (ofBits binary32 0xdbd151e0) ∷ (ofBits binary32 0x4147aaab) ∷ []) ((ofBits binary32 0xff800000) ∷ (ofBits binary32 0x40960000) ∷ (ofBits binary32 0xc211a000) ∷ (ofBits binary32 0x4fac907f) ∷ (ofBits binary32 0xdbd151e0) ∷ (ofBits binary32 0x4127aaab) ∷ [])); timesOut = (ranges ((ofBits binary64 0xc008000000000000) ∷ []) ((ofBits binary64 0xc008000000000000) ∷ []) ((ofBits binary64 0xc01c000000000000) ∷ [])) }) ∷ 
-    refused 14 ∷ 
-    wrote ((ofBits binary32 0x0) ∷ (ofBits binary32 0x0) ∷ (ofBits binary32 0x0) ∷ (ofBits binary32 0x0) ∷ (ofBits binary32 0x0) ∷ (ofBits binary32 0x0) ∷ (ofBits binary32 0x46cd161a) ∷ (ofBits binary32 0x42ea6000) ∷ (ofBits binary32 0x0) ∷ []) ∷ 
-    learnt (record { written = true; anomaly = some (record { pastTimestamp = 0; likelihood = (ofBits binary32 0x3f800000) }); deviationsOut = ((ofBits binary32 0x0) ∷ (ofBits binary32 0x0) ∷ (ofBits binary32 0x0) ∷ []); pastOut = ((ofBits binary32 0x0) ∷ (ofBits binary32 0x0) ∷ []); expectedOut = ((ofBits binary32 0x7e7fffff) ∷ (ofBits binary32 0x44e7f8cc) ∷ []) }) ∷ 
-    refused 20 ∷ 
-    learnt (record { written = false; anomaly = none; deviationsOut = ((ofBits binary32 0x0) ∷ (ofBits binary32 0x0) ∷ (ofBits binary32 0x0) ∷ []); pastOut = ((ofBits binary32 0x0) ∷ (ofBits binary32 0x0) ∷ []); expectedOut = ((ofBits binary32 0x0) ∷ (ofBits binary32 0x0) ∷ (ofBits binary32 0x0) ∷ []) }) ∷ 
-    refused 13 ∷ 
-    learnt (record { written = false; anomaly = none; deviationsOut = ((ofBits binary32 0x0) ∷ (ofBits binary32 0x0) ∷ (ofBits binary32 0x0) ∷ (ofBits binary32 0x0) ∷ (ofBits binary32 0x0) ∷ []); pastOut = ((ofBits binary32 0x0) ∷ (ofBits binary32 0x0) ∷ []); expectedOut = ((ofBits binary32 0x0) ∷ (ofBits binary32 0x0) ∷ []) }) ∷ 
+    turned (record { forecast = (ranges ((ofBits binary32 0xff800000) ∷ (ofBits binary32 0x41988000) ∷ (ofBits binary32 0xc289a000) ∷ (ofBits binary32 0x50816c5f) ∷ (ofBits binary32 0xdc5151e0) ∷ (ofBits binary32 0x4201c000) ∷ (ofBits binary32 0xc0400000) ∷ (ofBits binary32 0xff800000) ∷ (ofBits binary32 0x40c00000) ∷ (ofBits binary32 0x42d08000) ∷ (ofBits binary32 0xbf800000) ∷ (ofBits binary32 0x45dce1b3) ∷ (ofBits binary32 0xc1cc8000) ∷ (ofBits binary32 0x1) ∷ (ofBits binary32 0x41200000) ∷ (ofBits binary32 0x80000001) ∷ (ofBits binary32 0x40e00000) ∷ []) ((ofBits binary32 0xff800000) ∷ (ofBits binary32 0x41b88000) ∷ (ofBits binary32 0xc285a000) ∷ (ofBits binary32 0x50816c5f) ∷ (ofBits binary32 0xdc5151e0) ∷ (ofBits binary32 0x4215c000) ∷ (ofBits binary32 0xc0400000) ∷ (ofBits binary32 0xff800000) ∷ (ofBits binary32 0x41000000) ∷ (ofBits binary32 0x42d68000) ∷ (ofBits binary32 0x3f800000) ∷ (ofBits binary32 0x45dce1b3) ∷ (ofBits binary32 0xc1bc8000) ∷ (ofBits binary32 0x1) ∷ (ofBits binary32 0x41300000) ∷ (ofBits binary32 0x40400000) ∷ (ofBits binary32 0x41000000) ∷ []) ((ofBits binary32 0xff800000) ∷ (ofBits binary32 0x41610000) ∷ (ofBits binary32 0xc291a000) ∷ (ofBits binary32 0x50816c5f) ∷ (ofBits binary32 0xdc5151e0) ∷ (ofBits binary32 0x41fb8000) ∷ (ofBits binary32 0xc0e00000) ∷ (ofBits binary32 0xff800000) ∷ (ofBits binary32 0x40a00000) ∷ (ofBits binary32 0x42ca8000) ∷ (ofBits binary32 0xbf800000) ∷ (ofBits binary32 0x45dcd1b3) ∷ (ofBits binary32 0xc1f48000) ∷ (ofBits binary32 0xc0000000) ∷ (ofBits binary32 0x40c00000) ∷ (ofBits binary32 0xc0400000) ∷ (ofBits binary32 0x40c00000) ∷ [])); valuesOut = (ranges ((ofBits binary32 0xff800000) ∷ (ofBits binary32 0x40cb5556) ∷ (ofBits binary32 0xc209a000) ∷ (ofBits binary32 0x4fac907f) ∷ (ofBits binary32 0xdbd151e0) ∷ (ofBits binary32 0x412d0000) ∷ []) ((ofBits binary32 0xff800000) ∷ (ofBits binary32 0x40f60000) ∷ (ofBits binary32 0xc205a000) ∷ (ofBits binary32 0x4fac907f) ∷ (ofBits binary32 0xdbd151e0) ∷ (ofBits binary32 0x4147aaab) ∷ []) ((ofBits binary32 0xff800000) ∷ (ofBits binary32 0x40960000) ∷ (ofBits binary32 0xc211a000) ∷ (ofBits binary32 0x4fac907f) ∷ (ofBits binary32 0xdbd151e0) ∷ (ofBits binary32 0x4127aaab) ∷ [])); timesOut = (ranges ((ofBits binary64 0xc008000000000000) ∷ []) ((ofBits binary64 0xc008000000000000) ∷ []) ((ofBits binary64 0xc01c000000000000) ∷ [])) }) ∷
+    refused 14 ∷
+    wrote ((ofBits binary32 0x0) ∷ (ofBits binary32 0x0) ∷ (ofBits binary32 0x0) ∷ (ofBits binary32 0x0) ∷ (ofBits binary32 0x0) ∷ (ofBits binary32 0x0) ∷ (ofBits binary32 0x46cd161a) ∷ (ofBits binary32 0x42ea6000) ∷ (ofBits binary32 0x0) ∷ []) ∷
+    learnt (record { written = true; anomaly = some (record { pastTimestamp = 0; likelihood = (ofBits binary32 0x3f800000) }); deviationsOut = ((ofBits binary32 0x0) ∷ (ofBits binary32 0x0) ∷ (ofBits binary32 0x0) ∷ []); pastOut = ((ofBits binary32 0x0) ∷ (ofBits binary32 0x0) ∷ []); expectedOut = ((ofBits binary32 0x7e7fffff) ∷ (ofBits binary32 0x44e7f8cc) ∷ []) }) ∷
+    refused 20 ∷
+    learnt (record { written = false; anomaly = none; deviationsOut = ((ofBits binary32 0x0) ∷ (ofBits binary32 0x0) ∷ (ofBits binary32 0x0) ∷ []); pastOut = ((ofBits binary32 0x0) ∷ (ofBits binary32 0x0) ∷ []); expectedOut = ((ofBits binary32 0x0) ∷ (ofBits binary32 0x0) ∷ (ofBits binary32 0x0) ∷ []) }) ∷
+    refused 13 ∷
+    learnt (record { written = false; anomaly = none; deviationsOut = ((ofBits binary32 0x0) ∷ (ofBits binary32 0x0) ∷ (ofBits binary32 0x0) ∷ (ofBits binary32 0x0) ∷ (ofBits binary32 0x0) ∷ []); pastOut = ((ofBits binary32 0x0) ∷ (ofBits binary32 0x0) ∷ []); expectedOut = ((ofBits binary32 0x0) ∷ (ofBits binary32 0x0) ∷ []) }) ∷
     refused 16 ∷ [])
 unfolding trace·all
 answers2 = refl
@@ -142,11 +142,11 @@ s3 = record { mode = STANDARD; method = DIFFERENCE; d = 1; k = 1; start = 1; sto
 
 abbrev c3 : List Call
 c3 = (
-    invertExtrapolation (record { forecast = ranges ([]) ([]) ([]); valuesOut = (ranges (replicate 0 (ofBits binary32 0)) (replicate 0 (ofBits binary32 0)) (replicate 0 (ofBits binary32 0))); timesOut = (ranges (replicate 0 (ofBits binary32 0)) (replicate 0 (ofBits binary32 0)) (replicate 0 (ofBits binary32 0))) }) ∷ 
-    status (replicate 1 (ofBits binary32 0)) ∷ 
-    postProcess (record { input = ((ofBits binary32 0x41600000) ∷ []); timestamp = 183; rcfPoint = (some ((ofBits binary32 0x45fd4a80) ∷ [])); expectedPoint = none; grade = (ofBits binary32 0x3f000000); relativeIndex = (pos 1); deviationsOut = (replicate 1 (ofBits binary32 0)); pastOut = (replicate 0 (ofBits binary32 0)); expectedOut = (replicate 4 (ofBits binary32 0)) }) ∷ 
-    shingledPoint ((ofBits binary32 0xc1000000) ∷ (ofBits binary32 0x0) ∷ []) 186 (replicate 1 (ofBits binary32 0)) ∷ 
-    scale (replicate 1 (ofBits binary32 0)) ∷ 
+    invertExtrapolation (record { forecast = ranges ([]) ([]) ([]); valuesOut = (ranges (replicate 0 (ofBits binary32 0)) (replicate 0 (ofBits binary32 0)) (replicate 0 (ofBits binary32 0))); timesOut = (ranges (replicate 0 (ofBits binary32 0)) (replicate 0 (ofBits binary32 0)) (replicate 0 (ofBits binary32 0))) }) ∷
+    status (replicate 1 (ofBits binary32 0)) ∷
+    postProcess (record { input = ((ofBits binary32 0x41600000) ∷ []); timestamp = 183; rcfPoint = (some ((ofBits binary32 0x45fd4a80) ∷ [])); expectedPoint = none; grade = (ofBits binary32 0x3f000000); relativeIndex = (pos 1); deviationsOut = (replicate 1 (ofBits binary32 0)); pastOut = (replicate 0 (ofBits binary32 0)); expectedOut = (replicate 4 (ofBits binary32 0)) }) ∷
+    shingledPoint ((ofBits binary32 0xc1000000) ∷ (ofBits binary32 0x0) ∷ []) 186 (replicate 1 (ofBits binary32 0)) ∷
+    scale (replicate 1 (ofBits binary32 0)) ∷
     scale (replicate 1 (ofBits binary32 0)) ∷ [])
 
 abbrev t3 : List ℕ
@@ -161,11 +161,11 @@ unfolding trace·all
 history3 = refl
 
 answers3 : answers (fresh s3) c3 ≡ (
-    refused 16 ∷ 
-    told (record { valuesSeen = 0; internalTimestamp = 0; ready = false; inputDimensions = 1; shingleSize = 1; dimensions = 1; method = DIFFERENCE; mode = STANDARD; start = 1; panel = 0; deviationsOut = ((ofBits binary32 0x0) ∷ []) }) ∷ 
-    refused 14 ∷ 
-    refused 10 ∷ 
-    wrote ((ofBits binary32 0x7f800000) ∷ []) ∷ 
+    refused 16 ∷
+    told (record { valuesSeen = 0; internalTimestamp = 0; ready = false; inputDimensions = 1; shingleSize = 1; dimensions = 1; method = DIFFERENCE; mode = STANDARD; start = 1; panel = 0; deviationsOut = ((ofBits binary32 0x0) ∷ []) }) ∷
+    refused 14 ∷
+    refused 10 ∷
+    wrote ((ofBits binary32 0x7f800000) ∷ []) ∷
     wrote ((ofBits binary32 0x7f800000) ∷ []) ∷ [])
 unfolding trace·all
 answers3 = refl
@@ -175,16 +175,16 @@ s4 = record { mode = «TIME_AUGMENTED»; method = NORMALIZE; d = 2; k = 1; start
 
 abbrev c4 : List Call
 c4 = (
-    shingledPoint ([]) 170 (replicate 0 (ofBits binary32 0)) ∷ 
-    shift (replicate 5 (ofBits binary32 0)) ∷ 
-    invertExtrapolation (record { forecast = ranges ((ofBits binary32 0x7f800000) ∷ (ofBits binary32 0xff800000) ∷ []) ((ofBits binary32 0x7f800000) ∷ (ofBits binary32 0xff800000) ∷ []) ((ofBits binary32 0x7f800000) ∷ (ofBits binary32 0xff800000) ∷ []); valuesOut = (ranges (replicate 3 (ofBits binary32 0)) (replicate 0 (ofBits binary32 0)) (replicate 1 (ofBits binary32 0))); timesOut = (ranges (replicate 0 (ofBits binary32 0)) (replicate 0 (ofBits binary32 0)) (replicate 0 (ofBits binary32 0))) }) ∷ 
-    drain ∷ 
-    postProcess (record { input = ((ofBits binary32 0x428f0000) ∷ (ofBits binary32 0x42290000) ∷ []); timestamp = 182; rcfPoint = (some ((ofBits binary32 0x4609725e) ∷ (ofBits binary32 0x4588d7fc) ∷ (ofBits binary32 0xc0800000) ∷ [])); expectedPoint = none; grade = (ofBits binary32 0xbf800000); relativeIndex = (pos 0); deviationsOut = (replicate 3 (ofBits binary32 0)); pastOut = (replicate 2 (ofBits binary32 0)); expectedOut = (replicate 2 (ofBits binary32 0)) }) ∷ 
-    postProcess (record { input = ((ofBits binary32 0x42aa8000) ∷ (ofBits binary32 0x42140000) ∷ []); timestamp = 189; rcfPoint = (some ((ofBits binary32 0xbf800000) ∷ (ofBits binary32 0x1) ∷ [])); expectedPoint = (some ((ofBits binary32 0x6766d64c) ∷ (ofBits binary32 0xd70ad0c3) ∷ (ofBits binary32 0xbfb00000) ∷ [])); grade = (ofBits binary32 0x80000000); relativeIndex = (pos 0); deviationsOut = (replicate 3 (ofBits binary32 0)); pastOut = (replicate 2 (ofBits binary32 0)); expectedOut = (replicate 2 (ofBits binary32 0)) }) ∷ 
-    postProcess (record { input = ((ofBits binary32 0x42a08000) ∷ (ofBits binary32 0x3fa00000) ∷ []); timestamp = 189; rcfPoint = none; expectedPoint = none; grade = (ofBits binary32 0xbf800000); relativeIndex = (negsuc 0); deviationsOut = (replicate 3 (ofBits binary32 0)); pastOut = (replicate 2 (ofBits binary32 0)); expectedOut = (replicate 2 (ofBits binary32 0)) }) ∷ 
-    shingledPoint ((ofBits binary32 0x428c8000) ∷ (ofBits binary32 0x42500000) ∷ []) 198 (replicate 0 (ofBits binary32 0)) ∷ 
-    postProcess (record { input = ((ofBits binary32 0x0) ∷ (ofBits binary32 0x41200000) ∷ (ofBits binary32 0x46131973) ∷ []); timestamp = 734504505092; rcfPoint = (some ((ofBits binary32 0xc1200000) ∷ (ofBits binary32 0x463a7f41) ∷ (ofBits binary32 0x40000000) ∷ [])); expectedPoint = none; grade = (ofBits binary32 0x7f800000); relativeIndex = (negsuc 0); deviationsOut = (replicate 3 (ofBits binary32 0)); pastOut = (replicate 2 (ofBits binary32 0)); expectedOut = (replicate 2 (ofBits binary32 0)) }) ∷ 
-    postProcess (record { input = ((ofBits binary32 0x42a20000) ∷ (ofBits binary32 0x42780000) ∷ []); timestamp = 734504505104; rcfPoint = (some ((ofBits binary32 0x7f7fffff) ∷ (ofBits binary32 0xe62835fc) ∷ (ofBits binary32 0xe0ad78ec) ∷ [])); expectedPoint = (some ((ofBits binary32 0x40400000) ∷ (ofBits binary32 0xc0400000) ∷ (ofBits binary32 0xc2c32000) ∷ [])); grade = (ofBits binary32 0x80000000); relativeIndex = (pos 0); deviationsOut = (replicate 3 (ofBits binary32 0)); pastOut = (replicate 3 (ofBits binary32 0)); expectedOut = (replicate 2 (ofBits binary32 0)) }) ∷ 
+    shingledPoint ([]) 170 (replicate 0 (ofBits binary32 0)) ∷
+    shift (replicate 5 (ofBits binary32 0)) ∷
+    invertExtrapolation (record { forecast = ranges ((ofBits binary32 0x7f800000) ∷ (ofBits binary32 0xff800000) ∷ []) ((ofBits binary32 0x7f800000) ∷ (ofBits binary32 0xff800000) ∷ []) ((ofBits binary32 0x7f800000) ∷ (ofBits binary32 0xff800000) ∷ []); valuesOut = (ranges (replicate 3 (ofBits binary32 0)) (replicate 0 (ofBits binary32 0)) (replicate 1 (ofBits binary32 0))); timesOut = (ranges (replicate 0 (ofBits binary32 0)) (replicate 0 (ofBits binary32 0)) (replicate 0 (ofBits binary32 0))) }) ∷
+    drain ∷
+    postProcess (record { input = ((ofBits binary32 0x428f0000) ∷ (ofBits binary32 0x42290000) ∷ []); timestamp = 182; rcfPoint = (some ((ofBits binary32 0x4609725e) ∷ (ofBits binary32 0x4588d7fc) ∷ (ofBits binary32 0xc0800000) ∷ [])); expectedPoint = none; grade = (ofBits binary32 0xbf800000); relativeIndex = (pos 0); deviationsOut = (replicate 3 (ofBits binary32 0)); pastOut = (replicate 2 (ofBits binary32 0)); expectedOut = (replicate 2 (ofBits binary32 0)) }) ∷
+    postProcess (record { input = ((ofBits binary32 0x42aa8000) ∷ (ofBits binary32 0x42140000) ∷ []); timestamp = 189; rcfPoint = (some ((ofBits binary32 0xbf800000) ∷ (ofBits binary32 0x1) ∷ [])); expectedPoint = (some ((ofBits binary32 0x6766d64c) ∷ (ofBits binary32 0xd70ad0c3) ∷ (ofBits binary32 0xbfb00000) ∷ [])); grade = (ofBits binary32 0x80000000); relativeIndex = (pos 0); deviationsOut = (replicate 3 (ofBits binary32 0)); pastOut = (replicate 2 (ofBits binary32 0)); expectedOut = (replicate 2 (ofBits binary32 0)) }) ∷
+    postProcess (record { input = ((ofBits binary32 0x42a08000) ∷ (ofBits binary32 0x3fa00000) ∷ []); timestamp = 189; rcfPoint = none; expectedPoint = none; grade = (ofBits binary32 0xbf800000); relativeIndex = (negsuc 0); deviationsOut = (replicate 3 (ofBits binary32 0)); pastOut = (replicate 2 (ofBits binary32 0)); expectedOut = (replicate 2 (ofBits binary32 0)) }) ∷
+    shingledPoint ((ofBits binary32 0x428c8000) ∷ (ofBits binary32 0x42500000) ∷ []) 198 (replicate 0 (ofBits binary32 0)) ∷
+    postProcess (record { input = ((ofBits binary32 0x0) ∷ (ofBits binary32 0x41200000) ∷ (ofBits binary32 0x46131973) ∷ []); timestamp = 734504505092; rcfPoint = (some ((ofBits binary32 0xc1200000) ∷ (ofBits binary32 0x463a7f41) ∷ (ofBits binary32 0x40000000) ∷ [])); expectedPoint = none; grade = (ofBits binary32 0x7f800000); relativeIndex = (negsuc 0); deviationsOut = (replicate 3 (ofBits binary32 0)); pastOut = (replicate 2 (ofBits binary32 0)); expectedOut = (replicate 2 (ofBits binary32 0)) }) ∷
+    postProcess (record { input = ((ofBits binary32 0x42a20000) ∷ (ofBits binary32 0x42780000) ∷ []); timestamp = 734504505104; rcfPoint = (some ((ofBits binary32 0x7f7fffff) ∷ (ofBits binary32 0xe62835fc) ∷ (ofBits binary32 0xe0ad78ec) ∷ [])); expectedPoint = (some ((ofBits binary32 0x40400000) ∷ (ofBits binary32 0xc0400000) ∷ (ofBits binary32 0xc2c32000) ∷ [])); grade = (ofBits binary32 0x80000000); relativeIndex = (pos 0); deviationsOut = (replicate 3 (ofBits binary32 0)); pastOut = (replicate 3 (ofBits binary32 0)); expectedOut = (replicate 2 (ofBits binary32 0)) }) ∷
     postProcess (record { input = ((ofBits binary32 0x42b08000) ∷ (ofBits binary32 0x428b0000) ∷ []); timestamp = 734504505117; rcfPoint = none; expectedPoint = none; grade = (ofBits binary32 0x3f800000); relativeIndex = (negsuc 2147483647); deviationsOut = (replicate 4 (ofBits binary32 0)); pastOut = (replicate 2 (ofBits binary32 0)); expectedOut = (replicate 3 (ofBits binary32 0)) }) ∷ [])
 
 abbrev t4 : List ℕ
@@ -199,16 +199,16 @@ unfolding trace·all
 history4 = refl
 
 answers4 : answers (fresh s4) c4 ≡ (
-    refused 10 ∷ 
-    wrote ((ofBits binary32 0x0) ∷ (ofBits binary32 0x0) ∷ (ofBits binary32 0x0) ∷ (ofBits binary32 0x0) ∷ (ofBits binary32 0x0) ∷ []) ∷ 
-    refused 16 ∷ 
-    refused 15 ∷ 
-    learnt (record { written = true; anomaly = none; deviationsOut = ((ofBits binary32 0x0) ∷ (ofBits binary32 0x0) ∷ (ofBits binary32 0x0) ∷ []); pastOut = ((ofBits binary32 0x0) ∷ (ofBits binary32 0x0) ∷ []); expectedOut = ((ofBits binary32 0x0) ∷ (ofBits binary32 0x0) ∷ []) }) ∷ 
-    refused 13 ∷ 
-    learnt (record { written = false; anomaly = none; deviationsOut = ((ofBits binary32 0x0) ∷ (ofBits binary32 0x0) ∷ (ofBits binary32 0x0) ∷ []); pastOut = ((ofBits binary32 0x0) ∷ (ofBits binary32 0x0) ∷ []); expectedOut = ((ofBits binary32 0x0) ∷ (ofBits binary32 0x0) ∷ []) }) ∷ 
-    refused 20 ∷ 
-    refused 10 ∷ 
-    learnt (record { written = true; anomaly = none; deviationsOut = ((ofBits binary32 0x0) ∷ (ofBits binary32 0x0) ∷ (ofBits binary32 0x0) ∷ []); pastOut = ((ofBits binary32 0x0) ∷ (ofBits binary32 0x0) ∷ (ofBits binary32 0x0) ∷ []); expectedOut = ((ofBits binary32 0x0) ∷ (ofBits binary32 0x0) ∷ []) }) ∷ 
+    refused 10 ∷
+    wrote ((ofBits binary32 0x0) ∷ (ofBits binary32 0x0) ∷ (ofBits binary32 0x0) ∷ (ofBits binary32 0x0) ∷ (ofBits binary32 0x0) ∷ []) ∷
+    refused 16 ∷
+    refused 15 ∷
+    learnt (record { written = true; anomaly = none; deviationsOut = ((ofBits binary32 0x0) ∷ (ofBits binary32 0x0) ∷ (ofBits binary32 0x0) ∷ []); pastOut = ((ofBits binary32 0x0) ∷ (ofBits binary32 0x0) ∷ []); expectedOut = ((ofBits binary32 0x0) ∷ (ofBits binary32 0x0) ∷ []) }) ∷
+    refused 13 ∷
+    learnt (record { written = false; anomaly = none; deviationsOut = ((ofBits binary32 0x0) ∷ (ofBits binary32 0x0) ∷ (ofBits binary32 0x0) ∷ []); pastOut = ((ofBits binary32 0x0) ∷ (ofBits binary32 0x0) ∷ []); expectedOut = ((ofBits binary32 0x0) ∷ (ofBits binary32 0x0) ∷ []) }) ∷
+    refused 20 ∷
+    refused 10 ∷
+    learnt (record { written = true; anomaly = none; deviationsOut = ((ofBits binary32 0x0) ∷ (ofBits binary32 0x0) ∷ (ofBits binary32 0x0) ∷ []); pastOut = ((ofBits binary32 0x0) ∷ (ofBits binary32 0x0) ∷ (ofBits binary32 0x0) ∷ []); expectedOut = ((ofBits binary32 0x0) ∷ (ofBits binary32 0x0) ∷ []) }) ∷
     learnt (record { written = false; anomaly = none; deviationsOut = ((ofBits binary32 0x0) ∷ (ofBits binary32 0x0) ∷ (ofBits binary32 0x0) ∷ (ofBits binary32 0x0) ∷ []); pastOut = ((ofBits binary32 0x0) ∷ (ofBits binary32 0x0) ∷ []); expectedOut = ((ofBits binary32 0x0) ∷ (ofBits binary32 0x0) ∷ (ofBits binary32 0x0) ∷ []) }) ∷ [])
 unfolding trace·all
 answers4 = refl
@@ -218,11 +218,11 @@ s5 = record { mode = STANDARD; method = NONE; d = 2; k = 1; start = 2; stop = 6;
 
 abbrev c5 : List Call
 c5 = (
-    invertExtrapolation (record { forecast = ranges ((ofBits binary32 0xc1ef8000) ∷ []) ((ofBits binary32 0xc1ef8000) ∷ []) ((ofBits binary32 0xc1ef8000) ∷ []); valuesOut = (ranges (replicate 1 (ofBits binary32 0)) (replicate 0 (ofBits binary32 0)) (replicate 0 (ofBits binary32 0))); timesOut = (ranges (replicate 0 (ofBits binary32 0)) (replicate 0 (ofBits binary32 0)) (replicate 0 (ofBits binary32 0))) }) ∷ 
-    scale (replicate 2 (ofBits binary32 0)) ∷ 
-    transform ((ofBits binary32 0x4629a652) ∷ (ofBits binary32 0x42df6000) ∷ (ofBits binary32 0x0) ∷ []) 56 (replicate 4 (ofBits binary32 0)) ∷ 
-    postProcess (record { input = ((ofBits binary32 0x420d0000) ∷ (ofBits binary32 0x420d0000) ∷ []); timestamp = 56; rcfPoint = (some ((ofBits binary32 0x1) ∷ (ofBits binary32 0x80000001) ∷ [])); expectedPoint = none; grade = (ofBits binary32 0x7f800000); relativeIndex = (pos 0); deviationsOut = (replicate 2 (ofBits binary32 0)); pastOut = (replicate 2 (ofBits binary32 0)); expectedOut = (replicate 4 (ofBits binary32 0)) }) ∷ 
-    scale (replicate 3 (ofBits binary32 0)) ∷ 
+    invertExtrapolation (record { forecast = ranges ((ofBits binary32 0xc1ef8000) ∷ []) ((ofBits binary32 0xc1ef8000) ∷ []) ((ofBits binary32 0xc1ef8000) ∷ []); valuesOut = (ranges (replicate 1 (ofBits binary32 0)) (replicate 0 (ofBits binary32 0)) (replicate 0 (ofBits binary32 0))); timesOut = (ranges (replicate 0 (ofBits binary32 0)) (replicate 0 (ofBits binary32 0)) (replicate 0 (ofBits binary32 0))) }) ∷
+    scale (replicate 2 (ofBits binary32 0)) ∷
+    transform ((ofBits binary32 0x4629a652) ∷ (ofBits binary32 0x42df6000) ∷ (ofBits binary32 0x0) ∷ []) 56 (replicate 4 (ofBits binary32 0)) ∷
+    postProcess (record { input = ((ofBits binary32 0x420d0000) ∷ (ofBits binary32 0x420d0000) ∷ []); timestamp = 56; rcfPoint = (some ((ofBits binary32 0x1) ∷ (ofBits binary32 0x80000001) ∷ [])); expectedPoint = none; grade = (ofBits binary32 0x7f800000); relativeIndex = (pos 0); deviationsOut = (replicate 2 (ofBits binary32 0)); pastOut = (replicate 2 (ofBits binary32 0)); expectedOut = (replicate 4 (ofBits binary32 0)) }) ∷
+    scale (replicate 3 (ofBits binary32 0)) ∷
     shingledPoint ((ofBits binary32 0x42c08000) ∷ (ofBits binary32 0x42bc8000) ∷ []) 76 (replicate 0 (ofBits binary32 0)) ∷ [])
 
 abbrev t5 : List ℕ
@@ -237,11 +237,11 @@ unfolding trace·all
 history5 = refl
 
 answers5 : answers (fresh s5) c5 ≡ (
-    turned (record { forecast = (ranges ((ofBits binary32 0xc1ef8000) ∷ []) ((ofBits binary32 0xc1ef8000) ∷ []) ((ofBits binary32 0xc1ef8000) ∷ [])); valuesOut = (ranges (replicate 1 (ofBits binary32 0)) (replicate 0 (ofBits binary32 0)) (replicate 0 (ofBits binary32 0))); timesOut = (ranges (replicate 0 (ofBits binary32 0)) (replicate 0 (ofBits binary32 0)) (replicate 0 (ofBits binary32 0))) }) ∷ 
-    wrote ((ofBits binary32 0x3f800000) ∷ (ofBits binary32 0x3f800000) ∷ []) ∷ 
-    refused 10 ∷ 
-    learnt (record { written = true; anomaly = none; deviationsOut = ((ofBits binary32 0x0) ∷ (ofBits binary32 0x0) ∷ []); pastOut = ((ofBits binary32 0x0) ∷ (ofBits binary32 0x0) ∷ []); expectedOut = ((ofBits binary32 0x0) ∷ (ofBits binary32 0x0) ∷ (ofBits binary32 0x0) ∷ (ofBits binary32 0x0) ∷ []) }) ∷ 
-    wrote ((ofBits binary32 0x3f800000) ∷ (ofBits binary32 0x3f800000) ∷ (ofBits binary32 0x0) ∷ []) ∷ 
+    turned (record { forecast = (ranges ((ofBits binary32 0xc1ef8000) ∷ []) ((ofBits binary32 0xc1ef8000) ∷ []) ((ofBits binary32 0xc1ef8000) ∷ [])); valuesOut = (ranges (replicate 1 (ofBits binary32 0)) (replicate 0 (ofBits binary32 0)) (replicate 0 (ofBits binary32 0))); timesOut = (ranges (replicate 0 (ofBits binary32 0)) (replicate 0 (ofBits binary32 0)) (replicate 0 (ofBits binary32 0))) }) ∷
+    wrote ((ofBits binary32 0x3f800000) ∷ (ofBits binary32 0x3f800000) ∷ []) ∷
+    refused 10 ∷
+    learnt (record { written = true; anomaly = none; deviationsOut = ((ofBits binary32 0x0) ∷ (ofBits binary32 0x0) ∷ []); pastOut = ((ofBits binary32 0x0) ∷ (ofBits binary32 0x0) ∷ []); expectedOut = ((ofBits binary32 0x0) ∷ (ofBits binary32 0x0) ∷ (ofBits binary32 0x0) ∷ (ofBits binary32 0x0) ∷ []) }) ∷
+    wrote ((ofBits binary32 0x3f800000) ∷ (ofBits binary32 0x3f800000) ∷ (ofBits binary32 0x0) ∷ []) ∷
     refused 20 ∷ [])
 unfolding trace·all
 answers5 = refl
@@ -251,12 +251,12 @@ s6 = record { mode = STANDARD; method = «SUBTRACT_MA»; d = 2; k = 2; start = 2
 
 abbrev c6 : List Call
 c6 = (
-    postProcess (record { input = ((ofBits binary32 0x40000000) ∷ (ofBits binary32 0x42a98000) ∷ []); timestamp = 9223372036854775806; rcfPoint = (some ((ofBits binary32 0x3da82e7c) ∷ (ofBits binary32 0x6ac0b802) ∷ (ofBits binary32 0xbf800000) ∷ (ofBits binary32 0x4657b46f) ∷ [])); expectedPoint = (some ((ofBits binary32 0xff800000) ∷ (ofBits binary32 0x1e3ce508) ∷ (ofBits binary32 0xc255c000) ∷ (ofBits binary32 0x80000000) ∷ [])); grade = (ofBits binary32 0x7f800000); relativeIndex = (pos 0); deviationsOut = (replicate 2 (ofBits binary32 0)); pastOut = (replicate 2 (ofBits binary32 0)); expectedOut = (replicate 2 (ofBits binary32 0)) }) ∷ 
-    scale (replicate 2 (ofBits binary32 0)) ∷ 
-    invertExtrapolation (record { forecast = ranges ((ofBits binary32 0x80000001) ∷ (ofBits binary32 0xc1100000) ∷ (ofBits binary32 0x42dd0000) ∷ (ofBits binary32 0x40400000) ∷ (ofBits binary32 0x7701b084) ∷ (ofBits binary32 0x7f800000) ∷ (ofBits binary32 0xc0d20000) ∷ (ofBits binary32 0xbfc00000) ∷ (ofBits binary32 0xc1100000) ∷ (ofBits binary32 0x3dcccccd) ∷ []) ((ofBits binary32 0xc0000000) ∷ (ofBits binary32 0xff800000) ∷ (ofBits binary32 0x42fbc000) ∷ (ofBits binary32 0xe3b37d17) ∷ (ofBits binary32 0x3dcccccd) ∷ (ofBits binary32 0xe0ad78ec) ∷ (ofBits binary32 0xc2bf8000) ∷ (ofBits binary32 0x7234002f) ∷ (ofBits binary32 0x800000) ∷ (ofBits binary32 0xff800000) ∷ []) ((ofBits binary32 0x40c00000) ∷ (ofBits binary32 0xf2674c7c) ∷ (ofBits binary32 0xc0a00000) ∷ nan ∷ nan ∷ (ofBits binary32 0x40e00000) ∷ (ofBits binary32 0x0) ∷ (ofBits binary32 0x3dcccccd) ∷ (ofBits binary32 0xc2684000) ∷ (ofBits binary32 0x7f800000) ∷ []); valuesOut = (ranges (replicate 8 (ofBits binary32 0)) (replicate 8 (ofBits binary32 0)) (replicate 8 (ofBits binary32 0))); timesOut = (ranges (replicate 2 (ofBits binary32 0)) (replicate 1 (ofBits binary32 0)) (replicate 2 (ofBits binary32 0))) }) ∷ 
-    status (replicate 2 (ofBits binary32 0)) ∷ 
-    transform ((ofBits binary32 0x7f800000) ∷ (ofBits binary32 0x60ad78ec) ∷ []) 9223372036854775819 (replicate 2 (ofBits binary32 0)) ∷ 
-    drain ∷ 
+    postProcess (record { input = ((ofBits binary32 0x40000000) ∷ (ofBits binary32 0x42a98000) ∷ []); timestamp = 9223372036854775806; rcfPoint = (some ((ofBits binary32 0x3da82e7c) ∷ (ofBits binary32 0x6ac0b802) ∷ (ofBits binary32 0xbf800000) ∷ (ofBits binary32 0x4657b46f) ∷ [])); expectedPoint = (some ((ofBits binary32 0xff800000) ∷ (ofBits binary32 0x1e3ce508) ∷ (ofBits binary32 0xc255c000) ∷ (ofBits binary32 0x80000000) ∷ [])); grade = (ofBits binary32 0x7f800000); relativeIndex = (pos 0); deviationsOut = (replicate 2 (ofBits binary32 0)); pastOut = (replicate 2 (ofBits binary32 0)); expectedOut = (replicate 2 (ofBits binary32 0)) }) ∷
+    scale (replicate 2 (ofBits binary32 0)) ∷
+    invertExtrapolation (record { forecast = ranges ((ofBits binary32 0x80000001) ∷ (ofBits binary32 0xc1100000) ∷ (ofBits binary32 0x42dd0000) ∷ (ofBits binary32 0x40400000) ∷ (ofBits binary32 0x7701b084) ∷ (ofBits binary32 0x7f800000) ∷ (ofBits binary32 0xc0d20000) ∷ (ofBits binary32 0xbfc00000) ∷ (ofBits binary32 0xc1100000) ∷ (ofBits binary32 0x3dcccccd) ∷ []) ((ofBits binary32 0xc0000000) ∷ (ofBits binary32 0xff800000) ∷ (ofBits binary32 0x42fbc000) ∷ (ofBits binary32 0xe3b37d17) ∷ (ofBits binary32 0x3dcccccd) ∷ (ofBits binary32 0xe0ad78ec) ∷ (ofBits binary32 0xc2bf8000) ∷ (ofBits binary32 0x7234002f) ∷ (ofBits binary32 0x800000) ∷ (ofBits binary32 0xff800000) ∷ []) ((ofBits binary32 0x40c00000) ∷ (ofBits binary32 0xf2674c7c) ∷ (ofBits binary32 0xc0a00000) ∷ nan ∷ nan ∷ (ofBits binary32 0x40e00000) ∷ (ofBits binary32 0x0) ∷ (ofBits binary32 0x3dcccccd) ∷ (ofBits binary32 0xc2684000) ∷ (ofBits binary32 0x7f800000) ∷ []); valuesOut = (ranges (replicate 8 (ofBits binary32 0)) (replicate 8 (ofBits binary32 0)) (replicate 8 (ofBits binary32 0))); timesOut = (ranges (replicate 2 (ofBits binary32 0)) (replicate 1 (ofBits binary32 0)) (replicate 2 (ofBits binary32 0))) }) ∷
+    status (replicate 2 (ofBits binary32 0)) ∷
+    transform ((ofBits binary32 0x7f800000) ∷ (ofBits binary32 0x60ad78ec) ∷ []) 9223372036854775819 (replicate 2 (ofBits binary32 0)) ∷
+    drain ∷
     postProcess (record { input = ((ofBits binary32 0x42968000) ∷ (ofBits binary32 0x42868000) ∷ []); timestamp = 9223372036854775830; rcfPoint = (some ((ofBits binary32 0x42c00000) ∷ (ofBits binary32 0x80000000) ∷ (ofBits binary32 0x80000001) ∷ (ofBits binary32 0x42d62000) ∷ [])); expectedPoint = none; grade = nan; relativeIndex = (negsuc 0); deviationsOut = (replicate 4 (ofBits binary32 0)); pastOut = (replicate 0 (ofBits binary32 0)); expectedOut = (replicate 1 (ofBits binary32 0)) }) ∷ [])
 
 abbrev t6 : List ℕ
@@ -271,12 +271,12 @@ unfolding trace·all
 history6 = refl
 
 answers6 : answers (fresh s6) c6 ≡ (
-    learnt (record { written = true; anomaly = some (record { pastTimestamp = 0; likelihood = (ofBits binary32 0x3f800000) }); deviationsOut = ((ofBits binary32 0x0) ∷ (ofBits binary32 0x0) ∷ []); pastOut = ((ofBits binary32 0x40000000) ∷ (ofBits binary32 0x42a98000) ∷ []); expectedOut = (nan ∷ (ofBits binary32 0x0) ∷ []) }) ∷ 
-    wrote (nan ∷ (ofBits binary32 0xbf000000) ∷ []) ∷ 
-    turned (record { forecast = (ranges (nan ∷ (ofBits binary32 0x42cd8000) ∷ nan ∷ (ofBits binary32 0x43238000) ∷ nan ∷ (ofBits binary32 0xff800000) ∷ nan ∷ (ofBits binary32 0x43ab0000) ∷ nan ∷ (ofBits binary32 0x43d3c666) ∷ []) (nan ∷ (ofBits binary32 0x7f800000) ∷ nan ∷ (ofBits binary32 0x64337d17) ∷ nan ∷ (ofBits binary32 0x612d78ec) ∷ nan ∷ (ofBits binary32 0x43ab0000) ∷ nan ∷ (ofBits binary32 0x7f800000) ∷ []) (nan ∷ (ofBits binary32 0x42cd8000) ∷ nan ∷ nan ∷ nan ∷ (ofBits binary32 0xff800000) ∷ nan ∷ (ofBits binary32 0x43a96666) ∷ nan ∷ (ofBits binary32 0xff800000) ∷ [])); valuesOut = (ranges (replicate 8 (ofBits binary32 0)) (replicate 8 (ofBits binary32 0)) (replicate 8 (ofBits binary32 0))); timesOut = (ranges (replicate 2 (ofBits binary32 0)) (replicate 1 (ofBits binary32 0)) (replicate 2 (ofBits binary32 0))) }) ∷ 
-    told (record { valuesSeen = 1; internalTimestamp = 1; ready = false; inputDimensions = 2; shingleSize = 2; dimensions = 4; method = «SUBTRACT_MA»; mode = STANDARD; start = 2; panel = 1; deviationsOut = ((ofBits binary32 0x0) ∷ (ofBits binary32 0x0) ∷ []) }) ∷ 
-    wrote ((ofBits binary32 0x7f800000) ∷ (ofBits binary32 0x60ad78ec) ∷ []) ∷ 
-    done ∷ 
+    learnt (record { written = true; anomaly = some (record { pastTimestamp = 0; likelihood = (ofBits binary32 0x3f800000) }); deviationsOut = ((ofBits binary32 0x0) ∷ (ofBits binary32 0x0) ∷ []); pastOut = ((ofBits binary32 0x40000000) ∷ (ofBits binary32 0x42a98000) ∷ []); expectedOut = (nan ∷ (ofBits binary32 0x0) ∷ []) }) ∷
+    wrote (nan ∷ (ofBits binary32 0xbf000000) ∷ []) ∷
+    turned (record { forecast = (ranges (nan ∷ (ofBits binary32 0x42cd8000) ∷ nan ∷ (ofBits binary32 0x43238000) ∷ nan ∷ (ofBits binary32 0xff800000) ∷ nan ∷ (ofBits binary32 0x43ab0000) ∷ nan ∷ (ofBits binary32 0x43d3c666) ∷ []) (nan ∷ (ofBits binary32 0x7f800000) ∷ nan ∷ (ofBits binary32 0x64337d17) ∷ nan ∷ (ofBits binary32 0x612d78ec) ∷ nan ∷ (ofBits binary32 0x43ab0000) ∷ nan ∷ (ofBits binary32 0x7f800000) ∷ []) (nan ∷ (ofBits binary32 0x42cd8000) ∷ nan ∷ nan ∷ nan ∷ (ofBits binary32 0xff800000) ∷ nan ∷ (ofBits binary32 0x43a96666) ∷ nan ∷ (ofBits binary32 0xff800000) ∷ [])); valuesOut = (ranges (replicate 8 (ofBits binary32 0)) (replicate 8 (ofBits binary32 0)) (replicate 8 (ofBits binary32 0))); timesOut = (ranges (replicate 2 (ofBits binary32 0)) (replicate 1 (ofBits binary32 0)) (replicate 2 (ofBits binary32 0))) }) ∷
+    told (record { valuesSeen = 1; internalTimestamp = 1; ready = false; inputDimensions = 2; shingleSize = 2; dimensions = 4; method = «SUBTRACT_MA»; mode = STANDARD; start = 2; panel = 1; deviationsOut = ((ofBits binary32 0x0) ∷ (ofBits binary32 0x0) ∷ []) }) ∷
+    wrote ((ofBits binary32 0x7f800000) ∷ (ofBits binary32 0x60ad78ec) ∷ []) ∷
+    done ∷
     learnt (record { written = true; anomaly = none; deviationsOut = ((ofBits binary32 0x41a13869) ∷ (ofBits binary32 0x41e75d87) ∷ (ofBits binary32 0x0) ∷ (ofBits binary32 0x0) ∷ []); pastOut = ([]); expectedOut = ((ofBits binary32 0x0) ∷ []) }) ∷ [])
 unfolding trace·all
 answers6 = refl
@@ -286,15 +286,15 @@ s7 = record { mode = «TIME_AUGMENTED»; method = «NORMALIZE_DIFFERENCE»; d = 
 
 abbrev c7 : List Call
 c7 = (
-    transform ((ofBits binary32 0x42a58000) ∷ []) 82 (replicate 2 (ofBits binary32 0)) ∷ 
-    invertExtrapolation (record { forecast = ranges ((ofBits binary32 0x7f800000) ∷ (ofBits binary32 0xc0c00000) ∷ nan ∷ nan ∷ (ofBits binary32 0xc4ad55fb) ∷ (ofBits binary32 0xf0ba7f67) ∷ (ofBits binary32 0xad877126) ∷ []) ((ofBits binary32 0x7f800000) ∷ (ofBits binary32 0xc0000000) ∷ nan ∷ nan ∷ (ofBits binary32 0xc4ad15fb) ∷ (ofBits binary32 0xf0ba7f67) ∷ (ofBits binary32 0x3f800000) ∷ []) ((ofBits binary32 0x7f800000) ∷ (ofBits binary32 0xc1200000) ∷ nan ∷ nan ∷ (ofBits binary32 0xc4ad75fb) ∷ (ofBits binary32 0xf0ba7f67) ∷ []); valuesOut = (ranges (replicate 0 (ofBits binary32 0)) (replicate 2 (ofBits binary32 0)) (replicate 2 (ofBits binary32 0))); timesOut = (ranges (replicate 1 (ofBits binary32 0)) (replicate 1 (ofBits binary32 0)) (replicate 1 (ofBits binary32 0))) }) ∷ 
-    postProcess (record { input = ([]); timestamp = 82; rcfPoint = none; expectedPoint = (some ((ofBits binary32 0xc0c00000) ∷ (ofBits binary32 0x7f800000) ∷ nan ∷ (ofBits binary32 0xfbb90f67) ∷ [])); grade = (ofBits binary32 0x0); relativeIndex = (pos 2); deviationsOut = (replicate 2 (ofBits binary32 0)); pastOut = (replicate 3 (ofBits binary32 0)); expectedOut = (replicate 0 (ofBits binary32 0)) }) ∷ 
-    shift (replicate 5 (ofBits binary32 0)) ∷ 
-    postProcess (record { input = ((ofBits binary32 0x41400000) ∷ []); timestamp = 96; rcfPoint = (some ((ofBits binary32 0x420e4000) ∷ (ofBits binary32 0xc1780000) ∷ (ofBits binary32 0xc0e00000) ∷ (ofBits binary32 0xbf800000) ∷ [])); expectedPoint = (some ((ofBits binary32 0x0) ∷ (ofBits binary32 0x441820a4) ∷ (ofBits binary32 0xbf800000) ∷ (ofBits binary32 0xc0400000) ∷ [])); grade = (ofBits binary32 0x7f800000); relativeIndex = (negsuc 0); deviationsOut = (replicate 2 (ofBits binary32 0)); pastOut = (replicate 1 (ofBits binary32 0)); expectedOut = (replicate 1 (ofBits binary32 0)) }) ∷ 
-    postProcess (record { input = ((ofBits binary32 0x42640000) ∷ []); timestamp = 104; rcfPoint = (some ((ofBits binary32 0x4307d000) ∷ (ofBits binary32 0x41100000) ∷ (ofBits binary32 0x4a0d1500) ∷ (ofBits binary32 0x1e3ce508) ∷ [])); expectedPoint = none; grade = (ofBits binary32 0x0); relativeIndex = (pos 2147483647); deviationsOut = (replicate 0 (ofBits binary32 0)); pastOut = (replicate 1 (ofBits binary32 0)); expectedOut = (replicate 1 (ofBits binary32 0)) }) ∷ 
-    postProcess (record { input = ((ofBits binary32 0x429a8000) ∷ []); timestamp = 112; rcfPoint = none; expectedPoint = (some ((ofBits binary32 0xc0400000) ∷ (ofBits binary32 0x41000000) ∷ (ofBits binary32 0x7f61b1e6) ∷ (ofBits binary32 0x3f800000) ∷ [])); grade = (ofBits binary32 0x0); relativeIndex = (negsuc 0); deviationsOut = (replicate 2 (ofBits binary32 0)); pastOut = (replicate 1 (ofBits binary32 0)); expectedOut = (replicate 4 (ofBits binary32 0)) }) ∷ 
-    status (replicate 2 (ofBits binary32 0)) ∷ 
-    postProcess (record { input = ((ofBits binary32 0x42060000) ∷ []); timestamp = 114; rcfPoint = (some ((ofBits binary32 0x42eba000) ∷ (ofBits binary32 0xc0e00000) ∷ (ofBits binary32 0xe43a8225) ∷ (ofBits binary32 0x116c2) ∷ [])); expectedPoint = none; grade = (ofBits binary32 0x7f800000); relativeIndex = (pos 0); deviationsOut = (replicate 0 (ofBits binary32 0)); pastOut = (replicate 0 (ofBits binary32 0)); expectedOut = (replicate 1 (ofBits binary32 0)) }) ∷ 
+    transform ((ofBits binary32 0x42a58000) ∷ []) 82 (replicate 2 (ofBits binary32 0)) ∷
+    invertExtrapolation (record { forecast = ranges ((ofBits binary32 0x7f800000) ∷ (ofBits binary32 0xc0c00000) ∷ nan ∷ nan ∷ (ofBits binary32 0xc4ad55fb) ∷ (ofBits binary32 0xf0ba7f67) ∷ (ofBits binary32 0xad877126) ∷ []) ((ofBits binary32 0x7f800000) ∷ (ofBits binary32 0xc0000000) ∷ nan ∷ nan ∷ (ofBits binary32 0xc4ad15fb) ∷ (ofBits binary32 0xf0ba7f67) ∷ (ofBits binary32 0x3f800000) ∷ []) ((ofBits binary32 0x7f800000) ∷ (ofBits binary32 0xc1200000) ∷ nan ∷ nan ∷ (ofBits binary32 0xc4ad75fb) ∷ (ofBits binary32 0xf0ba7f67) ∷ []); valuesOut = (ranges (replicate 0 (ofBits binary32 0)) (replicate 2 (ofBits binary32 0)) (replicate 2 (ofBits binary32 0))); timesOut = (ranges (replicate 1 (ofBits binary32 0)) (replicate 1 (ofBits binary32 0)) (replicate 1 (ofBits binary32 0))) }) ∷
+    postProcess (record { input = ([]); timestamp = 82; rcfPoint = none; expectedPoint = (some ((ofBits binary32 0xc0c00000) ∷ (ofBits binary32 0x7f800000) ∷ nan ∷ (ofBits binary32 0xfbb90f67) ∷ [])); grade = (ofBits binary32 0x0); relativeIndex = (pos 2); deviationsOut = (replicate 2 (ofBits binary32 0)); pastOut = (replicate 3 (ofBits binary32 0)); expectedOut = (replicate 0 (ofBits binary32 0)) }) ∷
+    shift (replicate 5 (ofBits binary32 0)) ∷
+    postProcess (record { input = ((ofBits binary32 0x41400000) ∷ []); timestamp = 96; rcfPoint = (some ((ofBits binary32 0x420e4000) ∷ (ofBits binary32 0xc1780000) ∷ (ofBits binary32 0xc0e00000) ∷ (ofBits binary32 0xbf800000) ∷ [])); expectedPoint = (some ((ofBits binary32 0x0) ∷ (ofBits binary32 0x441820a4) ∷ (ofBits binary32 0xbf800000) ∷ (ofBits binary32 0xc0400000) ∷ [])); grade = (ofBits binary32 0x7f800000); relativeIndex = (negsuc 0); deviationsOut = (replicate 2 (ofBits binary32 0)); pastOut = (replicate 1 (ofBits binary32 0)); expectedOut = (replicate 1 (ofBits binary32 0)) }) ∷
+    postProcess (record { input = ((ofBits binary32 0x42640000) ∷ []); timestamp = 104; rcfPoint = (some ((ofBits binary32 0x4307d000) ∷ (ofBits binary32 0x41100000) ∷ (ofBits binary32 0x4a0d1500) ∷ (ofBits binary32 0x1e3ce508) ∷ [])); expectedPoint = none; grade = (ofBits binary32 0x0); relativeIndex = (pos 2147483647); deviationsOut = (replicate 0 (ofBits binary32 0)); pastOut = (replicate 1 (ofBits binary32 0)); expectedOut = (replicate 1 (ofBits binary32 0)) }) ∷
+    postProcess (record { input = ((ofBits binary32 0x429a8000) ∷ []); timestamp = 112; rcfPoint = none; expectedPoint = (some ((ofBits binary32 0xc0400000) ∷ (ofBits binary32 0x41000000) ∷ (ofBits binary32 0x7f61b1e6) ∷ (ofBits binary32 0x3f800000) ∷ [])); grade = (ofBits binary32 0x0); relativeIndex = (negsuc 0); deviationsOut = (replicate 2 (ofBits binary32 0)); pastOut = (replicate 1 (ofBits binary32 0)); expectedOut = (replicate 4 (ofBits binary32 0)) }) ∷
+    status (replicate 2 (ofBits binary32 0)) ∷
+    postProcess (record { input = ((ofBits binary32 0x42060000) ∷ []); timestamp = 114; rcfPoint = (some ((ofBits binary32 0x42eba000) ∷ (ofBits binary32 0xc0e00000) ∷ (ofBits binary32 0xe43a8225) ∷ (ofBits binary32 0x116c2) ∷ [])); expectedPoint = none; grade = (ofBits binary32 0x7f800000); relativeIndex = (pos 0); deviationsOut = (replicate 0 (ofBits binary32 0)); pastOut = (replicate 0 (ofBits binary32 0)); expectedOut = (replicate 1 (ofBits binary32 0)) }) ∷
     postProcess (record { input = ((ofBits binary32 0x7f800000) ∷ []); timestamp = 808758014146; rcfPoint = (some ((ofBits binary32 0xc2664000) ∷ (ofBits binary32 0xc1200000) ∷ (ofBits binary32 0x42f44000) ∷ (ofBits binary32 0x3f800000) ∷ [])); expectedPoint = none; grade = (ofBits binary32 0x0); relativeIndex = (negsuc 0); deviationsOut = (replicate 2 (ofBits binary32 0)); pastOut = (replicate 1 (ofBits binary32 0)); expectedOut = (replicate 0 (ofBits binary32 0)) }) ∷ [])
 
 abbrev t7 : List ℕ
@@ -309,15 +309,15 @@ unfolding trace·all
 history7 = refl
 
 answers7 : answers (fresh s7) c7 ≡ (
-    wrote ((ofBits binary32 0x42a58000) ∷ (ofBits binary32 0x42a40000) ∷ []) ∷ 
-    refused 16 ∷ 
-    refused 10 ∷ 
-    wrote ((ofBits binary32 0x0) ∷ (ofBits binary32 0x0) ∷ (ofBits binary32 0x0) ∷ (ofBits binary32 0x0) ∷ (ofBits binary32 0x0) ∷ []) ∷ 
-    learnt (record { written = false; anomaly = none; deviationsOut = ((ofBits binary32 0x0) ∷ (ofBits binary32 0x0) ∷ []); pastOut = ((ofBits binary32 0x0) ∷ []); expectedOut = ((ofBits binary32 0x0) ∷ []) }) ∷ 
-    refused 20 ∷ 
-    learnt (record { written = true; anomaly = none; deviationsOut = ((ofBits binary32 0x0) ∷ (ofBits binary32 0x80000000) ∷ []); pastOut = ((ofBits binary32 0x0) ∷ []); expectedOut = ((ofBits binary32 0x0) ∷ (ofBits binary32 0x0) ∷ (ofBits binary32 0x0) ∷ (ofBits binary32 0x0) ∷ []) }) ∷ 
-    told (record { valuesSeen = 2; internalTimestamp = 0; ready = false; inputDimensions = 1; shingleSize = 2; dimensions = 4; method = «NORMALIZE_DIFFERENCE»; mode = «TIME_AUGMENTED»; start = 2; panel = 2; deviationsOut = ((ofBits binary32 0x0) ∷ (ofBits binary32 0x80000000) ∷ []) }) ∷ 
-    refused 20 ∷ 
+    wrote ((ofBits binary32 0x42a58000) ∷ (ofBits binary32 0x42a40000) ∷ []) ∷
+    refused 16 ∷
+    refused 10 ∷
+    wrote ((ofBits binary32 0x0) ∷ (ofBits binary32 0x0) ∷ (ofBits binary32 0x0) ∷ (ofBits binary32 0x0) ∷ (ofBits binary32 0x0) ∷ []) ∷
+    learnt (record { written = false; anomaly = none; deviationsOut = ((ofBits binary32 0x0) ∷ (ofBits binary32 0x0) ∷ []); pastOut = ((ofBits binary32 0x0) ∷ []); expectedOut = ((ofBits binary32 0x0) ∷ []) }) ∷
+    refused 20 ∷
+    learnt (record { written = true; anomaly = none; deviationsOut = ((ofBits binary32 0x0) ∷ (ofBits binary32 0x80000000) ∷ []); pastOut = ((ofBits binary32 0x0) ∷ []); expectedOut = ((ofBits binary32 0x0) ∷ (ofBits binary32 0x0) ∷ (ofBits binary32 0x0) ∷ (ofBits binary32 0x0) ∷ []) }) ∷
+    told (record { valuesSeen = 2; internalTimestamp = 0; ready = false; inputDimensions = 1; shingleSize = 2; dimensions = 4; method = «NORMALIZE_DIFFERENCE»; mode = «TIME_AUGMENTED»; start = 2; panel = 2; deviationsOut = ((ofBits binary32 0x0) ∷ (ofBits binary32 0x80000000) ∷ []) }) ∷
+    refused 20 ∷
     refused 11 ∷ [])
 unfolding trace·all
 answers7 = refl
@@ -327,10 +327,10 @@ s8 = record { mode = STANDARD; method = NORMALIZE; d = 2; k = 1; start = 2; stop
 
 abbrev c8 : List Call
 c8 = (
-    postProcess (record { input = ((ofBits binary32 0x42800000) ∷ (ofBits binary32 0x42b38000) ∷ []); timestamp = 303152044603; rcfPoint = (some ((ofBits binary32 0x9af036b4) ∷ (ofBits binary32 0xff800000) ∷ [])); expectedPoint = none; grade = (ofBits binary32 0x0); relativeIndex = (pos 0); deviationsOut = (replicate 2 (ofBits binary32 0)); pastOut = (replicate 2 (ofBits binary32 0)); expectedOut = (replicate 2 (ofBits binary32 0)) }) ∷ 
-    status (replicate 3 (ofBits binary32 0)) ∷ 
-    postProcess (record { input = ((ofBits binary32 0x42510000) ∷ (ofBits binary32 0x42bb0000) ∷ []); timestamp = 303152044622; rcfPoint = (some ((ofBits binary32 0x467eb3b1) ∷ (ofBits binary32 0xc0800000) ∷ [])); expectedPoint = (some ((ofBits binary32 0xe06aafb9) ∷ (ofBits binary32 0x42b66000) ∷ [])); grade = (ofBits binary32 0xbf800000); relativeIndex = (pos 0); deviationsOut = (replicate 2 (ofBits binary32 0)); pastOut = (replicate 2 (ofBits binary32 0)); expectedOut = (replicate 2 (ofBits binary32 0)) }) ∷ 
-    postProcess (record { input = ((ofBits binary32 0x3e800000) ∷ (ofBits binary32 0x423d0000) ∷ []); timestamp = 303152044638; rcfPoint = (some ((ofBits binary32 0x40a00000) ∷ (ofBits binary32 0x42634000) ∷ [])); expectedPoint = (some ((ofBits binary32 0xc0a00000) ∷ (ofBits binary32 0xc0a00000) ∷ [])); grade = (ofBits binary32 0x0); relativeIndex = (pos 0); deviationsOut = (replicate 2 (ofBits binary32 0)); pastOut = (replicate 5 (ofBits binary32 0)); expectedOut = (replicate 4 (ofBits binary32 0)) }) ∷ 
+    postProcess (record { input = ((ofBits binary32 0x42800000) ∷ (ofBits binary32 0x42b38000) ∷ []); timestamp = 303152044603; rcfPoint = (some ((ofBits binary32 0x9af036b4) ∷ (ofBits binary32 0xff800000) ∷ [])); expectedPoint = none; grade = (ofBits binary32 0x0); relativeIndex = (pos 0); deviationsOut = (replicate 2 (ofBits binary32 0)); pastOut = (replicate 2 (ofBits binary32 0)); expectedOut = (replicate 2 (ofBits binary32 0)) }) ∷
+    status (replicate 3 (ofBits binary32 0)) ∷
+    postProcess (record { input = ((ofBits binary32 0x42510000) ∷ (ofBits binary32 0x42bb0000) ∷ []); timestamp = 303152044622; rcfPoint = (some ((ofBits binary32 0x467eb3b1) ∷ (ofBits binary32 0xc0800000) ∷ [])); expectedPoint = (some ((ofBits binary32 0xe06aafb9) ∷ (ofBits binary32 0x42b66000) ∷ [])); grade = (ofBits binary32 0xbf800000); relativeIndex = (pos 0); deviationsOut = (replicate 2 (ofBits binary32 0)); pastOut = (replicate 2 (ofBits binary32 0)); expectedOut = (replicate 2 (ofBits binary32 0)) }) ∷
+    postProcess (record { input = ((ofBits binary32 0x3e800000) ∷ (ofBits binary32 0x423d0000) ∷ []); timestamp = 303152044638; rcfPoint = (some ((ofBits binary32 0x40a00000) ∷ (ofBits binary32 0x42634000) ∷ [])); expectedPoint = (some ((ofBits binary32 0xc0a00000) ∷ (ofBits binary32 0xc0a00000) ∷ [])); grade = (ofBits binary32 0x0); relativeIndex = (pos 0); deviationsOut = (replicate 2 (ofBits binary32 0)); pastOut = (replicate 5 (ofBits binary32 0)); expectedOut = (replicate 4 (ofBits binary32 0)) }) ∷
     invertExtrapolation (record { forecast = ranges ((ofBits binary32 0x41100000) ∷ (ofBits binary32 0x40800000) ∷ []) ((ofBits binary32 0x41500000) ∷ (ofBits binary32 0x40c00000) ∷ []) ((ofBits binary32 0x40c00000) ∷ (ofBits binary32 0x0) ∷ []); valuesOut = (ranges (replicate 2 (ofBits binary32 0)) (replicate 2 (ofBits binary32 0)) (replicate 2 (ofBits binary32 0))); timesOut = (ranges (replicate 1 (ofBits binary32 0)) (replicate 1 (ofBits binary32 0)) (replicate 1 (ofBits binary32 0))) }) ∷ [])
 
 abbrev t8 : List ℕ
@@ -345,10 +345,10 @@ unfolding trace·all
 history8 = refl
 
 answers8 : answers (fresh s8) c8 ≡ (
-    learnt (record { written = false; anomaly = none; deviationsOut = ((ofBits binary32 0x0) ∷ (ofBits binary32 0x0) ∷ []); pastOut = ((ofBits binary32 0x0) ∷ (ofBits binary32 0x0) ∷ []); expectedOut = ((ofBits binary32 0x0) ∷ (ofBits binary32 0x0) ∷ []) }) ∷ 
-    told (record { valuesSeen = 1; internalTimestamp = 0; ready = false; inputDimensions = 2; shingleSize = 1; dimensions = 2; method = NORMALIZE; mode = STANDARD; start = 2; panel = 1; deviationsOut = ((ofBits binary32 0x0) ∷ (ofBits binary32 0x0) ∷ (ofBits binary32 0x0) ∷ []) }) ∷ 
-    learnt (record { written = true; anomaly = none; deviationsOut = ((ofBits binary32 0x0) ∷ (ofBits binary32 0x0) ∷ []); pastOut = ((ofBits binary32 0x0) ∷ (ofBits binary32 0x0) ∷ []); expectedOut = ((ofBits binary32 0x0) ∷ (ofBits binary32 0x0) ∷ []) }) ∷ 
-    learnt (record { written = true; anomaly = none; deviationsOut = ((ofBits binary32 0x0) ∷ (ofBits binary32 0x0) ∷ []); pastOut = ((ofBits binary32 0x0) ∷ (ofBits binary32 0x0) ∷ (ofBits binary32 0x0) ∷ (ofBits binary32 0x0) ∷ (ofBits binary32 0x0) ∷ []); expectedOut = ((ofBits binary32 0x0) ∷ (ofBits binary32 0x0) ∷ (ofBits binary32 0x0) ∷ (ofBits binary32 0x0) ∷ []) }) ∷ 
+    learnt (record { written = false; anomaly = none; deviationsOut = ((ofBits binary32 0x0) ∷ (ofBits binary32 0x0) ∷ []); pastOut = ((ofBits binary32 0x0) ∷ (ofBits binary32 0x0) ∷ []); expectedOut = ((ofBits binary32 0x0) ∷ (ofBits binary32 0x0) ∷ []) }) ∷
+    told (record { valuesSeen = 1; internalTimestamp = 0; ready = false; inputDimensions = 2; shingleSize = 1; dimensions = 2; method = NORMALIZE; mode = STANDARD; start = 2; panel = 1; deviationsOut = ((ofBits binary32 0x0) ∷ (ofBits binary32 0x0) ∷ (ofBits binary32 0x0) ∷ []) }) ∷
+    learnt (record { written = true; anomaly = none; deviationsOut = ((ofBits binary32 0x0) ∷ (ofBits binary32 0x0) ∷ []); pastOut = ((ofBits binary32 0x0) ∷ (ofBits binary32 0x0) ∷ []); expectedOut = ((ofBits binary32 0x0) ∷ (ofBits binary32 0x0) ∷ []) }) ∷
+    learnt (record { written = true; anomaly = none; deviationsOut = ((ofBits binary32 0x0) ∷ (ofBits binary32 0x0) ∷ []); pastOut = ((ofBits binary32 0x0) ∷ (ofBits binary32 0x0) ∷ (ofBits binary32 0x0) ∷ (ofBits binary32 0x0) ∷ (ofBits binary32 0x0) ∷ []); expectedOut = ((ofBits binary32 0x0) ∷ (ofBits binary32 0x0) ∷ (ofBits binary32 0x0) ∷ (ofBits binary32 0x0) ∷ []) }) ∷
     turned (record { forecast = (ranges ((ofBits binary32 0x7f800000) ∷ (ofBits binary32 0x424d0000) ∷ []) ((ofBits binary32 0x7f800000) ∷ (ofBits binary32 0x42550000) ∷ []) ((ofBits binary32 0x7f800000) ∷ (ofBits binary32 0x423d0000) ∷ [])); valuesOut = (ranges (replicate 2 (ofBits binary32 0)) (replicate 2 (ofBits binary32 0)) (replicate 2 (ofBits binary32 0))); timesOut = (ranges (replicate 1 (ofBits binary32 0)) (replicate 1 (ofBits binary32 0)) (replicate 1 (ofBits binary32 0))) }) ∷ [])
 unfolding trace·all
 answers8 = refl
@@ -358,12 +358,12 @@ s9 = record { mode = STANDARD; method = «NORMALIZE_DIFFERENCE»; d = 2; k = 1; 
 
 abbrev c9 : List Call
 c9 = (
-    postProcess (record { input = ((ofBits binary32 0x42360000) ∷ (ofBits binary32 0x42b98000) ∷ []); timestamp = 151; rcfPoint = none; expectedPoint = (some ((ofBits binary32 0x0) ∷ (ofBits binary32 0xc1000000) ∷ [])); grade = (ofBits binary32 0x3f800000); relativeIndex = (pos 2147483647); deviationsOut = (replicate 2 (ofBits binary32 0)); pastOut = (replicate 2 (ofBits binary32 0)); expectedOut = (replicate 2 (ofBits binary32 0)) }) ∷ 
-    postProcess (record { input = ((ofBits binary32 0x41aa0000) ∷ (ofBits binary32 0x41900000) ∷ []); timestamp = 167; rcfPoint = (some ((ofBits binary32 0xc0400000) ∷ (ofBits binary32 0xc2940000) ∷ [])); expectedPoint = none; grade = (ofBits binary32 0x0); relativeIndex = (pos 0); deviationsOut = (replicate 4 (ofBits binary32 0)); pastOut = (replicate 2 (ofBits binary32 0)); expectedOut = (replicate 2 (ofBits binary32 0)) }) ∷ 
-    postProcess (record { input = ((ofBits binary32 0x40d00000) ∷ (ofBits binary32 0x42250000) ∷ []); timestamp = 175; rcfPoint = (some ((ofBits binary32 0x80000001) ∷ (ofBits binary32 0x3f800000) ∷ [])); expectedPoint = none; grade = nan; relativeIndex = (pos 0); deviationsOut = (replicate 5 (ofBits binary32 0)); pastOut = (replicate 2 (ofBits binary32 0)); expectedOut = (replicate 2 (ofBits binary32 0)) }) ∷ 
-    scale (replicate 4 (ofBits binary32 0)) ∷ 
-    postProcess (record { input = ((ofBits binary32 0x41f00000) ∷ (ofBits binary32 0x42580000) ∷ []); timestamp = 182; rcfPoint = (some ((ofBits binary32 0xf0ad211d) ∷ (ofBits binary32 0x41000000) ∷ [])); expectedPoint = none; grade = (ofBits binary32 0x7f800000); relativeIndex = (pos 0); deviationsOut = (replicate 2 (ofBits binary32 0)); pastOut = (replicate 2 (ofBits binary32 0)); expectedOut = (replicate 2 (ofBits binary32 0)) }) ∷ 
-    postProcess (record { input = ((ofBits binary32 0x42a90000) ∷ (ofBits binary32 0x425b0000) ∷ []); timestamp = 201; rcfPoint = (some ((ofBits binary32 0x40400000) ∷ (ofBits binary32 0xc0e00000) ∷ [])); expectedPoint = none; grade = (ofBits binary32 0x0); relativeIndex = (pos 0); deviationsOut = (replicate 4 (ofBits binary32 0)); pastOut = (replicate 3 (ofBits binary32 0)); expectedOut = (replicate 5 (ofBits binary32 0)) }) ∷ 
+    postProcess (record { input = ((ofBits binary32 0x42360000) ∷ (ofBits binary32 0x42b98000) ∷ []); timestamp = 151; rcfPoint = none; expectedPoint = (some ((ofBits binary32 0x0) ∷ (ofBits binary32 0xc1000000) ∷ [])); grade = (ofBits binary32 0x3f800000); relativeIndex = (pos 2147483647); deviationsOut = (replicate 2 (ofBits binary32 0)); pastOut = (replicate 2 (ofBits binary32 0)); expectedOut = (replicate 2 (ofBits binary32 0)) }) ∷
+    postProcess (record { input = ((ofBits binary32 0x41aa0000) ∷ (ofBits binary32 0x41900000) ∷ []); timestamp = 167; rcfPoint = (some ((ofBits binary32 0xc0400000) ∷ (ofBits binary32 0xc2940000) ∷ [])); expectedPoint = none; grade = (ofBits binary32 0x0); relativeIndex = (pos 0); deviationsOut = (replicate 4 (ofBits binary32 0)); pastOut = (replicate 2 (ofBits binary32 0)); expectedOut = (replicate 2 (ofBits binary32 0)) }) ∷
+    postProcess (record { input = ((ofBits binary32 0x40d00000) ∷ (ofBits binary32 0x42250000) ∷ []); timestamp = 175; rcfPoint = (some ((ofBits binary32 0x80000001) ∷ (ofBits binary32 0x3f800000) ∷ [])); expectedPoint = none; grade = nan; relativeIndex = (pos 0); deviationsOut = (replicate 5 (ofBits binary32 0)); pastOut = (replicate 2 (ofBits binary32 0)); expectedOut = (replicate 2 (ofBits binary32 0)) }) ∷
+    scale (replicate 4 (ofBits binary32 0)) ∷
+    postProcess (record { input = ((ofBits binary32 0x41f00000) ∷ (ofBits binary32 0x42580000) ∷ []); timestamp = 182; rcfPoint = (some ((ofBits binary32 0xf0ad211d) ∷ (ofBits binary32 0x41000000) ∷ [])); expectedPoint = none; grade = (ofBits binary32 0x7f800000); relativeIndex = (pos 0); deviationsOut = (replicate 2 (ofBits binary32 0)); pastOut = (replicate 2 (ofBits binary32 0)); expectedOut = (replicate 2 (ofBits binary32 0)) }) ∷
+    postProcess (record { input = ((ofBits binary32 0x42a90000) ∷ (ofBits binary32 0x425b0000) ∷ []); timestamp = 201; rcfPoint = (some ((ofBits binary32 0x40400000) ∷ (ofBits binary32 0xc0e00000) ∷ [])); expectedPoint = none; grade = (ofBits binary32 0x0); relativeIndex = (pos 0); deviationsOut = (replicate 4 (ofBits binary32 0)); pastOut = (replicate 3 (ofBits binary32 0)); expectedOut = (replicate 5 (ofBits binary32 0)) }) ∷
     shingledPoint ((ofBits binary32 0x41040000) ∷ (ofBits binary32 0x40500000) ∷ []) 208 (replicate 2 (ofBits binary32 0)) ∷ [])
 
 abbrev t9 : List ℕ
@@ -378,12 +378,12 @@ unfolding trace·all
 history9 = refl
 
 answers9 : answers (fresh s9) c9 ≡ (
-    learnt (record { written = true; anomaly = none; deviationsOut = ((ofBits binary32 0x0) ∷ (ofBits binary32 0x0) ∷ []); pastOut = ((ofBits binary32 0x0) ∷ (ofBits binary32 0x0) ∷ []); expectedOut = ((ofBits binary32 0x0) ∷ (ofBits binary32 0x0) ∷ []) }) ∷ 
-    learnt (record { written = true; anomaly = none; deviationsOut = ((ofBits binary32 0x0) ∷ (ofBits binary32 0x0) ∷ (ofBits binary32 0x0) ∷ (ofBits binary32 0x0) ∷ []); pastOut = ((ofBits binary32 0x0) ∷ (ofBits binary32 0x0) ∷ []); expectedOut = ((ofBits binary32 0x0) ∷ (ofBits binary32 0x0) ∷ []) }) ∷ 
-    learnt (record { written = true; anomaly = none; deviationsOut = ((ofBits binary32 0x40c6b4be) ∷ (ofBits binary32 0x3f67d2de) ∷ (ofBits binary32 0x0) ∷ (ofBits binary32 0x0) ∷ (ofBits binary32 0x0) ∷ []); pastOut = ((ofBits binary32 0x0) ∷ (ofBits binary32 0x0) ∷ []); expectedOut = ((ofBits binary32 0x0) ∷ (ofBits binary32 0x0) ∷ []) }) ∷ 
-    wrote ((ofBits binary32 0xf89a21e3) ∷ (ofBits binary32 0x4b9048e6) ∷ (ofBits binary32 0x0) ∷ (ofBits binary32 0x0) ∷ []) ∷ 
-    learnt (record { written = true; anomaly = none; deviationsOut = ((ofBits binary32 0x41050abe) ∷ (ofBits binary32 0x3fece4cb) ∷ []); pastOut = ((ofBits binary32 0x0) ∷ (ofBits binary32 0x0) ∷ []); expectedOut = ((ofBits binary32 0x0) ∷ (ofBits binary32 0x0) ∷ []) }) ∷ 
-    learnt (record { written = true; anomaly = none; deviationsOut = ((ofBits binary32 0x4113cf66) ∷ (ofBits binary32 0x4027dc2c) ∷ (ofBits binary32 0x0) ∷ (ofBits binary32 0x0) ∷ []); pastOut = ((ofBits binary32 0x0) ∷ (ofBits binary32 0x0) ∷ (ofBits binary32 0x0) ∷ []); expectedOut = ((ofBits binary32 0x0) ∷ (ofBits binary32 0x0) ∷ (ofBits binary32 0x0) ∷ (ofBits binary32 0x0) ∷ (ofBits binary32 0x0) ∷ []) }) ∷ 
+    learnt (record { written = true; anomaly = none; deviationsOut = ((ofBits binary32 0x0) ∷ (ofBits binary32 0x0) ∷ []); pastOut = ((ofBits binary32 0x0) ∷ (ofBits binary32 0x0) ∷ []); expectedOut = ((ofBits binary32 0x0) ∷ (ofBits binary32 0x0) ∷ []) }) ∷
+    learnt (record { written = true; anomaly = none; deviationsOut = ((ofBits binary32 0x0) ∷ (ofBits binary32 0x0) ∷ (ofBits binary32 0x0) ∷ (ofBits binary32 0x0) ∷ []); pastOut = ((ofBits binary32 0x0) ∷ (ofBits binary32 0x0) ∷ []); expectedOut = ((ofBits binary32 0x0) ∷ (ofBits binary32 0x0) ∷ []) }) ∷
+    learnt (record { written = true; anomaly = none; deviationsOut = ((ofBits binary32 0x40c6b4be) ∷ (ofBits binary32 0x3f67d2de) ∷ (ofBits binary32 0x0) ∷ (ofBits binary32 0x0) ∷ (ofBits binary32 0x0) ∷ []); pastOut = ((ofBits binary32 0x0) ∷ (ofBits binary32 0x0) ∷ []); expectedOut = ((ofBits binary32 0x0) ∷ (ofBits binary32 0x0) ∷ []) }) ∷
+    wrote ((ofBits binary32 0xf89a21e3) ∷ (ofBits binary32 0x4b9048e6) ∷ (ofBits binary32 0x0) ∷ (ofBits binary32 0x0) ∷ []) ∷
+    learnt (record { written = true; anomaly = none; deviationsOut = ((ofBits binary32 0x41050abe) ∷ (ofBits binary32 0x3fece4cb) ∷ []); pastOut = ((ofBits binary32 0x0) ∷ (ofBits binary32 0x0) ∷ []); expectedOut = ((ofBits binary32 0x0) ∷ (ofBits binary32 0x0) ∷ []) }) ∷
+    learnt (record { written = true; anomaly = none; deviationsOut = ((ofBits binary32 0x4113cf66) ∷ (ofBits binary32 0x4027dc2c) ∷ (ofBits binary32 0x0) ∷ (ofBits binary32 0x0) ∷ []); pastOut = ((ofBits binary32 0x0) ∷ (ofBits binary32 0x0) ∷ (ofBits binary32 0x0) ∷ []); expectedOut = ((ofBits binary32 0x0) ∷ (ofBits binary32 0x0) ∷ (ofBits binary32 0x0) ∷ (ofBits binary32 0x0) ∷ (ofBits binary32 0x0) ∷ []) }) ∷
     wrote ((ofBits binary32 0xc0f505eb) ∷ (ofBits binary32 0xc1399509) ∷ []) ∷ [])
 unfolding trace·all
 answers9 = refl
@@ -393,17 +393,17 @@ s10 = record { mode = STANDARD; method = DIFFERENCE; d = 1; k = 1; start = 1; st
 
 abbrev c10 : List Call
 c10 = (
-    shift (replicate 0 (ofBits binary32 0)) ∷ 
-    drain ∷ 
-    postProcess (record { input = ((ofBits binary32 0x41e60000) ∷ []); timestamp = 194; rcfPoint = (some ((ofBits binary32 0x60ad78ec) ∷ [])); expectedPoint = none; grade = (ofBits binary32 0x3f000000); relativeIndex = (negsuc 0); deviationsOut = (replicate 1 (ofBits binary32 0)); pastOut = (replicate 1 (ofBits binary32 0)); expectedOut = (replicate 1 (ofBits binary32 0)) }) ∷ 
-    postProcess (record { input = ((ofBits binary32 0x42338000) ∷ (ofBits binary32 0x421bc000) ∷ []); timestamp = 195; rcfPoint = (some ((ofBits binary32 0x80cbdfcd) ∷ [])); expectedPoint = (some ((ofBits binary32 0x1) ∷ [])); grade = (ofBits binary32 0x3f800000); relativeIndex = (pos 0); deviationsOut = (replicate 1 (ofBits binary32 0)); pastOut = (replicate 0 (ofBits binary32 0)); expectedOut = (replicate 1 (ofBits binary32 0)) }) ∷ 
-    postProcess (record { input = ((ofBits binary32 0x40980000) ∷ []); timestamp = 210; rcfPoint = (some ([])); expectedPoint = none; grade = (ofBits binary32 0x0); relativeIndex = (pos 0); deviationsOut = (replicate 1 (ofBits binary32 0)); pastOut = (replicate 1 (ofBits binary32 0)); expectedOut = (replicate 4 (ofBits binary32 0)) }) ∷ 
-    shift (replicate 0 (ofBits binary32 0)) ∷ 
-    postProcess (record { input = ((ofBits binary32 0x40e80000) ∷ []); timestamp = 230; rcfPoint = (some ((ofBits binary32 0xc0b20000) ∷ [])); expectedPoint = none; grade = (ofBits binary32 0x0); relativeIndex = (pos 2); deviationsOut = (replicate 4 (ofBits binary32 0)); pastOut = (replicate 1 (ofBits binary32 0)); expectedOut = (replicate 1 (ofBits binary32 0)) }) ∷ 
-    status (replicate 0 (ofBits binary32 0)) ∷ 
-    postProcess (record { input = ((ofBits binary32 0x40c80000) ∷ []); timestamp = 250; rcfPoint = (some ((ofBits binary32 0x4270c000) ∷ [])); expectedPoint = none; grade = (ofBits binary32 0x0); relativeIndex = (pos 0); deviationsOut = (replicate 1 (ofBits binary32 0)); pastOut = (replicate 0 (ofBits binary32 0)); expectedOut = (replicate 1 (ofBits binary32 0)) }) ∷ 
-    invertExtrapolation (record { forecast = ranges ((ofBits binary32 0xc1000000) ∷ []) ((ofBits binary32 0xc1000000) ∷ (ofBits binary32 0x3f800000) ∷ []) ((ofBits binary32 0xc1500000) ∷ []); valuesOut = (ranges (replicate 1 (ofBits binary32 0)) (replicate 1 (ofBits binary32 0)) (replicate 1 (ofBits binary32 0))); timesOut = (ranges (replicate 1 (ofBits binary32 0)) (replicate 1 (ofBits binary32 0)) (replicate 1 (ofBits binary32 0))) }) ∷ 
-    shift (replicate 1 (ofBits binary32 0)) ∷ 
+    shift (replicate 0 (ofBits binary32 0)) ∷
+    drain ∷
+    postProcess (record { input = ((ofBits binary32 0x41e60000) ∷ []); timestamp = 194; rcfPoint = (some ((ofBits binary32 0x60ad78ec) ∷ [])); expectedPoint = none; grade = (ofBits binary32 0x3f000000); relativeIndex = (negsuc 0); deviationsOut = (replicate 1 (ofBits binary32 0)); pastOut = (replicate 1 (ofBits binary32 0)); expectedOut = (replicate 1 (ofBits binary32 0)) }) ∷
+    postProcess (record { input = ((ofBits binary32 0x42338000) ∷ (ofBits binary32 0x421bc000) ∷ []); timestamp = 195; rcfPoint = (some ((ofBits binary32 0x80cbdfcd) ∷ [])); expectedPoint = (some ((ofBits binary32 0x1) ∷ [])); grade = (ofBits binary32 0x3f800000); relativeIndex = (pos 0); deviationsOut = (replicate 1 (ofBits binary32 0)); pastOut = (replicate 0 (ofBits binary32 0)); expectedOut = (replicate 1 (ofBits binary32 0)) }) ∷
+    postProcess (record { input = ((ofBits binary32 0x40980000) ∷ []); timestamp = 210; rcfPoint = (some ([])); expectedPoint = none; grade = (ofBits binary32 0x0); relativeIndex = (pos 0); deviationsOut = (replicate 1 (ofBits binary32 0)); pastOut = (replicate 1 (ofBits binary32 0)); expectedOut = (replicate 4 (ofBits binary32 0)) }) ∷
+    shift (replicate 0 (ofBits binary32 0)) ∷
+    postProcess (record { input = ((ofBits binary32 0x40e80000) ∷ []); timestamp = 230; rcfPoint = (some ((ofBits binary32 0xc0b20000) ∷ [])); expectedPoint = none; grade = (ofBits binary32 0x0); relativeIndex = (pos 2); deviationsOut = (replicate 4 (ofBits binary32 0)); pastOut = (replicate 1 (ofBits binary32 0)); expectedOut = (replicate 1 (ofBits binary32 0)) }) ∷
+    status (replicate 0 (ofBits binary32 0)) ∷
+    postProcess (record { input = ((ofBits binary32 0x40c80000) ∷ []); timestamp = 250; rcfPoint = (some ((ofBits binary32 0x4270c000) ∷ [])); expectedPoint = none; grade = (ofBits binary32 0x0); relativeIndex = (pos 0); deviationsOut = (replicate 1 (ofBits binary32 0)); pastOut = (replicate 0 (ofBits binary32 0)); expectedOut = (replicate 1 (ofBits binary32 0)) }) ∷
+    invertExtrapolation (record { forecast = ranges ((ofBits binary32 0xc1000000) ∷ []) ((ofBits binary32 0xc1000000) ∷ (ofBits binary32 0x3f800000) ∷ []) ((ofBits binary32 0xc1500000) ∷ []); valuesOut = (ranges (replicate 1 (ofBits binary32 0)) (replicate 1 (ofBits binary32 0)) (replicate 1 (ofBits binary32 0))); timesOut = (ranges (replicate 1 (ofBits binary32 0)) (replicate 1 (ofBits binary32 0)) (replicate 1 (ofBits binary32 0))) }) ∷
+    shift (replicate 1 (ofBits binary32 0)) ∷
     transform ((ofBits binary32 0x41100000) ∷ []) 270 (replicate 0 (ofBits binary32 0)) ∷ [])
 
 abbrev t10 : List ℕ
@@ -418,17 +418,17 @@ unfolding trace·all
 history10 = refl
 
 answers10 : answers (fresh s10) c10 ≡ (
-    refused 20 ∷ 
-    done ∷ 
-    refused 14 ∷ 
-    refused 10 ∷ 
-    refused 13 ∷ 
-    refused 20 ∷ 
-    learnt (record { written = true; anomaly = none; deviationsOut = ((ofBits binary32 0x0) ∷ (ofBits binary32 0x0) ∷ (ofBits binary32 0x0) ∷ (ofBits binary32 0x0) ∷ []); pastOut = ((ofBits binary32 0x0) ∷ []); expectedOut = ((ofBits binary32 0x0) ∷ []) }) ∷ 
-    refused 20 ∷ 
-    learnt (record { written = true; anomaly = none; deviationsOut = ((ofBits binary32 0x40040000) ∷ []); pastOut = ([]); expectedOut = ((ofBits binary32 0x0) ∷ []) }) ∷ 
-    refused 16 ∷ 
-    wrote ((ofBits binary32 0x0) ∷ []) ∷ 
+    refused 20 ∷
+    done ∷
+    refused 14 ∷
+    refused 10 ∷
+    refused 13 ∷
+    refused 20 ∷
+    learnt (record { written = true; anomaly = none; deviationsOut = ((ofBits binary32 0x0) ∷ (ofBits binary32 0x0) ∷ (ofBits binary32 0x0) ∷ (ofBits binary32 0x0) ∷ []); pastOut = ((ofBits binary32 0x0) ∷ []); expectedOut = ((ofBits binary32 0x0) ∷ []) }) ∷
+    refused 20 ∷
+    learnt (record { written = true; anomaly = none; deviationsOut = ((ofBits binary32 0x40040000) ∷ []); pastOut = ([]); expectedOut = ((ofBits binary32 0x0) ∷ []) }) ∷
+    refused 16 ∷
+    wrote ((ofBits binary32 0x0) ∷ []) ∷
     refused 20 ∷ [])
 unfolding trace·all
 answers10 = refl
@@ -438,13 +438,13 @@ s11 = record { mode = «TIME_AUGMENTED»; method = «NORMALIZE_DIFFERENCE»; d =
 
 abbrev c11 : List Call
 c11 = (
-    drain ∷ 
-    shingledPoint ((ofBits binary32 0x42910000) ∷ (ofBits binary32 0x42650000) ∷ []) 207 (replicate 3 (ofBits binary32 0)) ∷ 
-    postProcess (record { input = ((ofBits binary32 0x0) ∷ (ofBits binary32 0x41200000) ∷ (ofBits binary32 0x42a4a000) ∷ []); timestamp = 227; rcfPoint = (some ((ofBits binary32 0x44d99fbf) ∷ (ofBits binary32 0x42368000) ∷ (ofBits binary32 0xe9292795) ∷ [])); expectedPoint = none; grade = (ofBits binary32 0x3f000000); relativeIndex = (pos 2); deviationsOut = (replicate 3 (ofBits binary32 0)); pastOut = (replicate 2 (ofBits binary32 0)); expectedOut = (replicate 5 (ofBits binary32 0)) }) ∷ 
-    invertExtrapolation (record { forecast = ranges ((ofBits binary32 0xd338e484) ∷ (ofBits binary32 0x41580000) ∷ []) ((ofBits binary32 0xd338e484) ∷ (ofBits binary32 0x41940000) ∷ []) ((ofBits binary32 0xd338e484) ∷ (ofBits binary32 0x41380000) ∷ []); valuesOut = (ranges (replicate 0 (ofBits binary32 0)) (replicate 0 (ofBits binary32 0)) (replicate 0 (ofBits binary32 0))); timesOut = (ranges (replicate 0 (ofBits binary32 0)) (replicate 0 (ofBits binary32 0)) (replicate 0 (ofBits binary32 0))) }) ∷ 
-    drain ∷ 
-    status (replicate 3 (ofBits binary32 0)) ∷ 
-    shingledPoint ((ofBits binary32 0x41a40000) ∷ (ofBits binary32 0x42c38000) ∷ []) 232 (replicate 3 (ofBits binary32 0)) ∷ 
+    drain ∷
+    shingledPoint ((ofBits binary32 0x42910000) ∷ (ofBits binary32 0x42650000) ∷ []) 207 (replicate 3 (ofBits binary32 0)) ∷
+    postProcess (record { input = ((ofBits binary32 0x0) ∷ (ofBits binary32 0x41200000) ∷ (ofBits binary32 0x42a4a000) ∷ []); timestamp = 227; rcfPoint = (some ((ofBits binary32 0x44d99fbf) ∷ (ofBits binary32 0x42368000) ∷ (ofBits binary32 0xe9292795) ∷ [])); expectedPoint = none; grade = (ofBits binary32 0x3f000000); relativeIndex = (pos 2); deviationsOut = (replicate 3 (ofBits binary32 0)); pastOut = (replicate 2 (ofBits binary32 0)); expectedOut = (replicate 5 (ofBits binary32 0)) }) ∷
+    invertExtrapolation (record { forecast = ranges ((ofBits binary32 0xd338e484) ∷ (ofBits binary32 0x41580000) ∷ []) ((ofBits binary32 0xd338e484) ∷ (ofBits binary32 0x41940000) ∷ []) ((ofBits binary32 0xd338e484) ∷ (ofBits binary32 0x41380000) ∷ []); valuesOut = (ranges (replicate 0 (ofBits binary32 0)) (replicate 0 (ofBits binary32 0)) (replicate 0 (ofBits binary32 0))); timesOut = (ranges (replicate 0 (ofBits binary32 0)) (replicate 0 (ofBits binary32 0)) (replicate 0 (ofBits binary32 0))) }) ∷
+    drain ∷
+    status (replicate 3 (ofBits binary32 0)) ∷
+    shingledPoint ((ofBits binary32 0x41a40000) ∷ (ofBits binary32 0x42c38000) ∷ []) 232 (replicate 3 (ofBits binary32 0)) ∷
     status (replicate 3 (ofBits binary32 0)) ∷ [])
 
 abbrev t11 : List ℕ
@@ -459,13 +459,13 @@ unfolding trace·all
 history11 = refl
 
 answers11 : answers (fresh s11) c11 ≡ (
-    done ∷ 
-    absent ∷ 
-    refused 10 ∷ 
-    refused 16 ∷ 
-    done ∷ 
-    told (record { valuesSeen = 0; internalTimestamp = 0; ready = false; inputDimensions = 2; shingleSize = 1; dimensions = 3; method = «NORMALIZE_DIFFERENCE»; mode = «TIME_AUGMENTED»; start = 1; panel = 0; deviationsOut = ((ofBits binary32 0x0) ∷ (ofBits binary32 0x0) ∷ (ofBits binary32 0x0) ∷ []) }) ∷ 
-    absent ∷ 
+    done ∷
+    absent ∷
+    refused 10 ∷
+    refused 16 ∷
+    done ∷
+    told (record { valuesSeen = 0; internalTimestamp = 0; ready = false; inputDimensions = 2; shingleSize = 1; dimensions = 3; method = «NORMALIZE_DIFFERENCE»; mode = «TIME_AUGMENTED»; start = 1; panel = 0; deviationsOut = ((ofBits binary32 0x0) ∷ (ofBits binary32 0x0) ∷ (ofBits binary32 0x0) ∷ []) }) ∷
+    absent ∷
     told (record { valuesSeen = 0; internalTimestamp = 0; ready = false; inputDimensions = 2; shingleSize = 1; dimensions = 3; method = «NORMALIZE_DIFFERENCE»; mode = «TIME_AUGMENTED»; start = 1; panel = 0; deviationsOut = ((ofBits binary32 0x0) ∷ (ofBits binary32 0x0) ∷ (ofBits binary32 0x0) ∷ []) }) ∷ [])
 unfolding trace·all
 answers11 = refl
@@ -475,16 +475,16 @@ s12 = record { mode = «TIME_AUGMENTED»; method = «NORMALIZE_DIFFERENCE»; d =
 
 abbrev c12 : List Call
 c12 = (
-    postProcess (record { input = ((ofBits binary32 0x42270000) ∷ []); timestamp = 47; rcfPoint = none; expectedPoint = (some ((ofBits binary32 0x3f800000) ∷ (ofBits binary32 0x3dcccccd) ∷ (ofBits binary32 0xc1100000) ∷ (ofBits binary32 0x116c2) ∷ (ofBits binary32 0x40000000) ∷ (ofBits binary32 0xc0a00000) ∷ [])); grade = (ofBits binary32 0x3f800000); relativeIndex = (negsuc 1); deviationsOut = (replicate 1 (ofBits binary32 0)); pastOut = (replicate 2 (ofBits binary32 0)); expectedOut = (replicate 1 (ofBits binary32 0)) }) ∷ 
-    postProcess (record { input = ((ofBits binary32 0x42560000) ∷ []); timestamp = 57; rcfPoint = (some ((ofBits binary32 0x1e3ce508) ∷ (ofBits binary32 0x7f61b1e6) ∷ (ofBits binary32 0x461a2327) ∷ (ofBits binary32 0x41100000) ∷ (ofBits binary32 0x80000001) ∷ [])); expectedPoint = (some ((ofBits binary32 0xc280e000) ∷ (ofBits binary32 0xc1828000) ∷ (ofBits binary32 0x0) ∷ (ofBits binary32 0x3f800000) ∷ (ofBits binary32 0x116c2) ∷ (ofBits binary32 0xff7fffff) ∷ [])); grade = (ofBits binary32 0x0); relativeIndex = (pos 0); deviationsOut = (replicate 0 (ofBits binary32 0)); pastOut = (replicate 1 (ofBits binary32 0)); expectedOut = (replicate 1 (ofBits binary32 0)) }) ∷ 
-    invertExtrapolation (record { forecast = ranges ((ofBits binary32 0x40a00000) ∷ (ofBits binary32 0xc0c00000) ∷ (ofBits binary32 0x116c2) ∷ (ofBits binary32 0x7f61b1e6) ∷ (ofBits binary32 0x3dcccccd) ∷ (ofBits binary32 0x459c8238) ∷ []) ((ofBits binary32 0xff800000) ∷ (ofBits binary32 0x4620d021) ∷ (ofBits binary32 0xc2a9a000) ∷ (ofBits binary32 0x40400000) ∷ (ofBits binary32 0x40400000) ∷ (ofBits binary32 0xff61b1e6) ∷ []) ((ofBits binary32 0x42dbc000) ∷ (ofBits binary32 0xc2004000) ∷ (ofBits binary32 0x80000000) ∷ (ofBits binary32 0x7f800000) ∷ (ofBits binary32 0x45ee5b7e) ∷ (ofBits binary32 0x3dcccccd) ∷ []); valuesOut = (ranges (replicate 3 (ofBits binary32 0)) (replicate 3 (ofBits binary32 0)) (replicate 3 (ofBits binary32 0))); timesOut = (ranges (replicate 0 (ofBits binary32 0)) (replicate 1 (ofBits binary32 0)) (replicate 1 (ofBits binary32 0))) }) ∷ 
-    postProcess (record { input = ((ofBits binary32 0x42030000) ∷ []); timestamp = 57; rcfPoint = (some ((ofBits binary32 0x80000000) ∷ (ofBits binary32 0x80000001) ∷ (ofBits binary32 0x40a00000) ∷ (ofBits binary32 0x46282e84) ∷ (ofBits binary32 0xbf800000) ∷ (ofBits binary32 0xc2974000) ∷ [])); expectedPoint = (some ((ofBits binary32 0xc1000000) ∷ (ofBits binary32 0x800000) ∷ (ofBits binary32 0xc1000000) ∷ (ofBits binary32 0x3f800000) ∷ (ofBits binary32 0x429d2000) ∷ [])); grade = (ofBits binary32 0x0); relativeIndex = (negsuc 2147483647); deviationsOut = (replicate 4 (ofBits binary32 0)); pastOut = (replicate 0 (ofBits binary32 0)); expectedOut = (replicate 0 (ofBits binary32 0)) }) ∷ 
-    postProcess (record { input = ((ofBits binary32 0x7f800000) ∷ []); timestamp = 60; rcfPoint = (some ((ofBits binary32 0x467a282b) ∷ (ofBits binary32 0xc0400000) ∷ (ofBits binary32 0x116c2) ∷ (ofBits binary32 0x42564000) ∷ (ofBits binary32 0x46360eff) ∷ (ofBits binary32 0x40800000) ∷ [])); expectedPoint = none; grade = (ofBits binary32 0xbf800000); relativeIndex = (pos 2147483647); deviationsOut = (replicate 2 (ofBits binary32 0)); pastOut = (replicate 0 (ofBits binary32 0)); expectedOut = (replicate 0 (ofBits binary32 0)) }) ∷ 
-    postProcess (record { input = ((ofBits binary32 0x80000001) ∷ (ofBits binary32 0x3f800000) ∷ []); timestamp = 60; rcfPoint = (some ((ofBits binary32 0x42a86000) ∷ (ofBits binary32 0x41580000) ∷ (ofBits binary32 0x1e3ce508) ∷ (ofBits binary32 0x42f04000) ∷ (ofBits binary32 0xc0c00000) ∷ (ofBits binary32 0x4671abff) ∷ [])); expectedPoint = (some ((ofBits binary32 0xfa8521c) ∷ (ofBits binary32 0x60ad78ec) ∷ (ofBits binary32 0xc1100000) ∷ (ofBits binary32 0xd6baaf8a) ∷ (ofBits binary32 0x42ea4000) ∷ (ofBits binary32 0x43056000) ∷ [])); grade = (ofBits binary32 0x80000000); relativeIndex = (pos 0); deviationsOut = (replicate 2 (ofBits binary32 0)); pastOut = (replicate 1 (ofBits binary32 0)); expectedOut = (replicate 4 (ofBits binary32 0)) }) ∷ 
-    shift (replicate 5 (ofBits binary32 0)) ∷ 
-    shift (replicate 2 (ofBits binary32 0)) ∷ 
-    status (replicate 3 (ofBits binary32 0)) ∷ 
-    postProcess (record { input = ((ofBits binary32 0x420b0000) ∷ []); timestamp = 63; rcfPoint = (some ((ofBits binary32 0xc20c4000) ∷ (ofBits binary32 0x45f0b834) ∷ (ofBits binary32 0x41000000) ∷ (ofBits binary32 0x40e00000) ∷ (ofBits binary32 0xbf800000) ∷ [])); expectedPoint = (some ((ofBits binary32 0x45484657) ∷ (ofBits binary32 0x4577f3f0) ∷ (ofBits binary32 0xbf800000) ∷ (ofBits binary32 0x40400000) ∷ (ofBits binary32 0x7c713dc5) ∷ (ofBits binary32 0x7f61b1e6) ∷ [])); grade = (ofBits binary32 0x7f800000); relativeIndex = (negsuc 2147483647); deviationsOut = (replicate 4 (ofBits binary32 0)); pastOut = (replicate 1 (ofBits binary32 0)); expectedOut = (replicate 0 (ofBits binary32 0)) }) ∷ 
+    postProcess (record { input = ((ofBits binary32 0x42270000) ∷ []); timestamp = 47; rcfPoint = none; expectedPoint = (some ((ofBits binary32 0x3f800000) ∷ (ofBits binary32 0x3dcccccd) ∷ (ofBits binary32 0xc1100000) ∷ (ofBits binary32 0x116c2) ∷ (ofBits binary32 0x40000000) ∷ (ofBits binary32 0xc0a00000) ∷ [])); grade = (ofBits binary32 0x3f800000); relativeIndex = (negsuc 1); deviationsOut = (replicate 1 (ofBits binary32 0)); pastOut = (replicate 2 (ofBits binary32 0)); expectedOut = (replicate 1 (ofBits binary32 0)) }) ∷
+    postProcess (record { input = ((ofBits binary32 0x42560000) ∷ []); timestamp = 57; rcfPoint = (some ((ofBits binary32 0x1e3ce508) ∷ (ofBits binary32 0x7f61b1e6) ∷ (ofBits binary32 0x461a2327) ∷ (ofBits binary32 0x41100000) ∷ (ofBits binary32 0x80000001) ∷ [])); expectedPoint = (some ((ofBits binary32 0xc280e000) ∷ (ofBits binary32 0xc1828000) ∷ (ofBits binary32 0x0) ∷ (ofBits binary32 0x3f800000) ∷ (ofBits binary32 0x116c2) ∷ (ofBits binary32 0xff7fffff) ∷ [])); grade = (ofBits binary32 0x0); relativeIndex = (pos 0); deviationsOut = (replicate 0 (ofBits binary32 0)); pastOut = (replicate 1 (ofBits binary32 0)); expectedOut = (replicate 1 (ofBits binary32 0)) }) ∷
+    invertExtrapolation (record { forecast = ranges ((ofBits binary32 0x40a00000) ∷ (ofBits binary32 0xc0c00000) ∷ (ofBits binary32 0x116c2) ∷ (ofBits binary32 0x7f61b1e6) ∷ (ofBits binary32 0x3dcccccd) ∷ (ofBits binary32 0x459c8238) ∷ []) ((ofBits binary32 0xff800000) ∷ (ofBits binary32 0x4620d021) ∷ (ofBits binary32 0xc2a9a000) ∷ (ofBits binary32 0x40400000) ∷ (ofBits binary32 0x40400000) ∷ (ofBits binary32 0xff61b1e6) ∷ []) ((ofBits binary32 0x42dbc000) ∷ (ofBits binary32 0xc2004000) ∷ (ofBits binary32 0x80000000) ∷ (ofBits binary32 0x7f800000) ∷ (ofBits binary32 0x45ee5b7e) ∷ (ofBits binary32 0x3dcccccd) ∷ []); valuesOut = (ranges (replicate 3 (ofBits binary32 0)) (replicate 3 (ofBits binary32 0)) (replicate 3 (ofBits binary32 0))); timesOut = (ranges (replicate 0 (ofBits binary32 0)) (replicate 1 (ofBits binary32 0)) (replicate 1 (ofBits binary32 0))) }) ∷
+    postProcess (record { input = ((ofBits binary32 0x42030000) ∷ []); timestamp = 57; rcfPoint = (some ((ofBits binary32 0x80000000) ∷ (ofBits binary32 0x80000001) ∷ (ofBits binary32 0x40a00000) ∷ (ofBits binary32 0x46282e84) ∷ (ofBits binary32 0xbf800000) ∷ (ofBits binary32 0xc2974000) ∷ [])); expectedPoint = (some ((ofBits binary32 0xc1000000) ∷ (ofBits binary32 0x800000) ∷ (ofBits binary32 0xc1000000) ∷ (ofBits binary32 0x3f800000) ∷ (ofBits binary32 0x429d2000) ∷ [])); grade = (ofBits binary32 0x0); relativeIndex = (negsuc 2147483647); deviationsOut = (replicate 4 (ofBits binary32 0)); pastOut = (replicate 0 (ofBits binary32 0)); expectedOut = (replicate 0 (ofBits binary32 0)) }) ∷
+    postProcess (record { input = ((ofBits binary32 0x7f800000) ∷ []); timestamp = 60; rcfPoint = (some ((ofBits binary32 0x467a282b) ∷ (ofBits binary32 0xc0400000) ∷ (ofBits binary32 0x116c2) ∷ (ofBits binary32 0x42564000) ∷ (ofBits binary32 0x46360eff) ∷ (ofBits binary32 0x40800000) ∷ [])); expectedPoint = none; grade = (ofBits binary32 0xbf800000); relativeIndex = (pos 2147483647); deviationsOut = (replicate 2 (ofBits binary32 0)); pastOut = (replicate 0 (ofBits binary32 0)); expectedOut = (replicate 0 (ofBits binary32 0)) }) ∷
+    postProcess (record { input = ((ofBits binary32 0x80000001) ∷ (ofBits binary32 0x3f800000) ∷ []); timestamp = 60; rcfPoint = (some ((ofBits binary32 0x42a86000) ∷ (ofBits binary32 0x41580000) ∷ (ofBits binary32 0x1e3ce508) ∷ (ofBits binary32 0x42f04000) ∷ (ofBits binary32 0xc0c00000) ∷ (ofBits binary32 0x4671abff) ∷ [])); expectedPoint = (some ((ofBits binary32 0xfa8521c) ∷ (ofBits binary32 0x60ad78ec) ∷ (ofBits binary32 0xc1100000) ∷ (ofBits binary32 0xd6baaf8a) ∷ (ofBits binary32 0x42ea4000) ∷ (ofBits binary32 0x43056000) ∷ [])); grade = (ofBits binary32 0x80000000); relativeIndex = (pos 0); deviationsOut = (replicate 2 (ofBits binary32 0)); pastOut = (replicate 1 (ofBits binary32 0)); expectedOut = (replicate 4 (ofBits binary32 0)) }) ∷
+    shift (replicate 5 (ofBits binary32 0)) ∷
+    shift (replicate 2 (ofBits binary32 0)) ∷
+    status (replicate 3 (ofBits binary32 0)) ∷
+    postProcess (record { input = ((ofBits binary32 0x420b0000) ∷ []); timestamp = 63; rcfPoint = (some ((ofBits binary32 0xc20c4000) ∷ (ofBits binary32 0x45f0b834) ∷ (ofBits binary32 0x41000000) ∷ (ofBits binary32 0x40e00000) ∷ (ofBits binary32 0xbf800000) ∷ [])); expectedPoint = (some ((ofBits binary32 0x45484657) ∷ (ofBits binary32 0x4577f3f0) ∷ (ofBits binary32 0xbf800000) ∷ (ofBits binary32 0x40400000) ∷ (ofBits binary32 0x7c713dc5) ∷ (ofBits binary32 0x7f61b1e6) ∷ [])); grade = (ofBits binary32 0x7f800000); relativeIndex = (negsuc 2147483647); deviationsOut = (replicate 4 (ofBits binary32 0)); pastOut = (replicate 1 (ofBits binary32 0)); expectedOut = (replicate 0 (ofBits binary32 0)) }) ∷
     postProcess (record { input = ((ofBits binary32 0x42920000) ∷ []); timestamp = 45882082369; rcfPoint = (some ((ofBits binary32 0x41000000) ∷ (ofBits binary32 0x42820000) ∷ (ofBits binary32 0xc27a8000) ∷ (ofBits binary32 0xff61b1e6) ∷ (ofBits binary32 0x3f800000) ∷ [])); expectedPoint = none; grade = (ofBits binary32 0x0); relativeIndex = (pos 0); deviationsOut = (replicate 2 (ofBits binary32 0)); pastOut = (replicate 1 (ofBits binary32 0)); expectedOut = (replicate 0 (ofBits binary32 0)) }) ∷ [])
 
 abbrev t12 : List ℕ
@@ -499,16 +499,16 @@ unfolding trace·all
 history12 = refl
 
 answers12 : answers (fresh s12) c12 ≡ (
-    learnt (record { written = false; anomaly = none; deviationsOut = ((ofBits binary32 0x0) ∷ []); pastOut = ((ofBits binary32 0x0) ∷ (ofBits binary32 0x0) ∷ []); expectedOut = ((ofBits binary32 0x0) ∷ []) }) ∷ 
-    refused 20 ∷ 
-    refused 20 ∷ 
-    learnt (record { written = true; anomaly = none; deviationsOut = ((ofBits binary32 0x0) ∷ (ofBits binary32 0x80000000) ∷ (ofBits binary32 0x0) ∷ (ofBits binary32 0x0) ∷ []); pastOut = ([]); expectedOut = ([]) }) ∷ 
-    refused 11 ∷ 
-    refused 10 ∷ 
-    wrote ((ofBits binary32 0x0) ∷ (ofBits binary32 0x0) ∷ (ofBits binary32 0x0) ∷ (ofBits binary32 0x0) ∷ (ofBits binary32 0x0) ∷ []) ∷ 
-    wrote ((ofBits binary32 0x0) ∷ (ofBits binary32 0x0) ∷ []) ∷ 
-    told (record { valuesSeen = 2; internalTimestamp = 0; ready = false; inputDimensions = 1; shingleSize = 3; dimensions = 6; method = «NORMALIZE_DIFFERENCE»; mode = «TIME_AUGMENTED»; start = 2; panel = 2; deviationsOut = ((ofBits binary32 0x0) ∷ (ofBits binary32 0x80000000) ∷ (ofBits binary32 0x0) ∷ []) }) ∷ 
-    refused 13 ∷ 
+    learnt (record { written = false; anomaly = none; deviationsOut = ((ofBits binary32 0x0) ∷ []); pastOut = ((ofBits binary32 0x0) ∷ (ofBits binary32 0x0) ∷ []); expectedOut = ((ofBits binary32 0x0) ∷ []) }) ∷
+    refused 20 ∷
+    refused 20 ∷
+    learnt (record { written = true; anomaly = none; deviationsOut = ((ofBits binary32 0x0) ∷ (ofBits binary32 0x80000000) ∷ (ofBits binary32 0x0) ∷ (ofBits binary32 0x0) ∷ []); pastOut = ([]); expectedOut = ([]) }) ∷
+    refused 11 ∷
+    refused 10 ∷
+    wrote ((ofBits binary32 0x0) ∷ (ofBits binary32 0x0) ∷ (ofBits binary32 0x0) ∷ (ofBits binary32 0x0) ∷ (ofBits binary32 0x0) ∷ []) ∷
+    wrote ((ofBits binary32 0x0) ∷ (ofBits binary32 0x0) ∷ []) ∷
+    told (record { valuesSeen = 2; internalTimestamp = 0; ready = false; inputDimensions = 1; shingleSize = 3; dimensions = 6; method = «NORMALIZE_DIFFERENCE»; mode = «TIME_AUGMENTED»; start = 2; panel = 2; deviationsOut = ((ofBits binary32 0x0) ∷ (ofBits binary32 0x80000000) ∷ (ofBits binary32 0x0) ∷ []) }) ∷
+    refused 13 ∷
     refused 13 ∷ [])
 unfolding trace·all
 answers12 = refl
@@ -539,11 +539,11 @@ s14 = record { mode = «TIME_AUGMENTED»; method = NORMALIZE; d = 2; k = 3; star
 
 abbrev c14 : List Call
 c14 = (
-    shift (replicate 3 (ofBits binary32 0)) ∷ 
-    postProcess (record { input = ([]); timestamp = 190; rcfPoint = (some ((ofBits binary32 0x7f61b1e6) ∷ (ofBits binary32 0x42390000) ∷ (ofBits binary32 0xc21f8000) ∷ (ofBits binary32 0x3fb80000) ∷ (ofBits binary32 0x40400000) ∷ (ofBits binary32 0x800000) ∷ (ofBits binary32 0x45bb3332) ∷ (ofBits binary32 0x40800000) ∷ (ofBits binary32 0x40000000) ∷ [])); expectedPoint = none; grade = (ofBits binary32 0x3f800000); relativeIndex = (negsuc 0); deviationsOut = (replicate 2 (ofBits binary32 0)); pastOut = (replicate 2 (ofBits binary32 0)); expectedOut = (replicate 2 (ofBits binary32 0)) }) ∷ 
-    invertExtrapolation (record { forecast = ranges ((ofBits binary32 0xb89b621c) ∷ nan ∷ (ofBits binary32 0x80000001) ∷ (ofBits binary32 0x3f500000) ∷ (ofBits binary32 0x7f61b1e6) ∷ (ofBits binary32 0xc0a00000) ∷ (ofBits binary32 0xc2c78000) ∷ (ofBits binary32 0x42ba0000) ∷ []) ((ofBits binary32 0x4677e9b5) ∷ (ofBits binary32 0x45dae690) ∷ (ofBits binary32 0x42c5a000) ∷ (ofBits binary32 0xc1100000) ∷ (ofBits binary32 0x40c00000) ∷ (ofBits binary32 0xc2b68000) ∷ (ofBits binary32 0x42c4a000) ∷ (ofBits binary32 0xff7fffff) ∷ []) ((ofBits binary32 0x80000001) ∷ (ofBits binary32 0x6ad32bd7) ∷ (ofBits binary32 0xc29b4000) ∷ (ofBits binary32 0xbfe80000) ∷ (ofBits binary32 0x41100000) ∷ (ofBits binary32 0xc1720000) ∷ (ofBits binary32 0x60ad78ec) ∷ (ofBits binary32 0x7f7fffff) ∷ []); valuesOut = (ranges (replicate 0 (ofBits binary32 0)) (replicate 0 (ofBits binary32 0)) (replicate 0 (ofBits binary32 0))); timesOut = (ranges (replicate 0 (ofBits binary32 0)) (replicate 0 (ofBits binary32 0)) (replicate 0 (ofBits binary32 0))) }) ∷ 
-    postProcess (record { input = ((ofBits binary32 0x42c38000) ∷ (ofBits binary32 0x40400000) ∷ []); timestamp = 526285218751; rcfPoint = none; expectedPoint = (some ((ofBits binary32 0x3f800000) ∷ (ofBits binary32 0xc1000000) ∷ (ofBits binary32 0x44ae8fc7) ∷ (ofBits binary32 0xc0e00000) ∷ (ofBits binary32 0xc1100000) ∷ (ofBits binary32 0x42a06000) ∷ (ofBits binary32 0xc1820000) ∷ (ofBits binary32 0x468191e2) ∷ (ofBits binary32 0xbf800000) ∷ [])); grade = (ofBits binary32 0xbf800000); relativeIndex = (negsuc 2); deviationsOut = (replicate 3 (ofBits binary32 0)); pastOut = (replicate 2 (ofBits binary32 0)); expectedOut = (replicate 0 (ofBits binary32 0)) }) ∷ 
-    postProcess (record { input = ((ofBits binary32 0x429f8000) ∷ (ofBits binary32 0x42360000) ∷ []); timestamp = 526285218770; rcfPoint = (some ((ofBits binary32 0xbf800000) ∷ (ofBits binary32 0xc1865e05) ∷ (ofBits binary32 0x464ac88d) ∷ (ofBits binary32 0x40c00000) ∷ (ofBits binary32 0xc0800000) ∷ (ofBits binary32 0xc1200000) ∷ (ofBits binary32 0x4628b95c) ∷ (ofBits binary32 0xc1c20000) ∷ (ofBits binary32 0x40a00000) ∷ [])); expectedPoint = (some ((ofBits binary32 0x45c51cf4) ∷ (ofBits binary32 0xc2886000) ∷ (ofBits binary32 0x5d25e9ba) ∷ (ofBits binary32 0x7f7fffff) ∷ (ofBits binary32 0xff61b1e6) ∷ (ofBits binary32 0x42cfc000) ∷ (ofBits binary32 0xb902b401) ∷ (ofBits binary32 0x80000000) ∷ [])); grade = (ofBits binary32 0x3f000000); relativeIndex = (pos 0); deviationsOut = (replicate 2 (ofBits binary32 0)); pastOut = (replicate 2 (ofBits binary32 0)); expectedOut = (replicate 4 (ofBits binary32 0)) }) ∷ 
+    shift (replicate 3 (ofBits binary32 0)) ∷
+    postProcess (record { input = ([]); timestamp = 190; rcfPoint = (some ((ofBits binary32 0x7f61b1e6) ∷ (ofBits binary32 0x42390000) ∷ (ofBits binary32 0xc21f8000) ∷ (ofBits binary32 0x3fb80000) ∷ (ofBits binary32 0x40400000) ∷ (ofBits binary32 0x800000) ∷ (ofBits binary32 0x45bb3332) ∷ (ofBits binary32 0x40800000) ∷ (ofBits binary32 0x40000000) ∷ [])); expectedPoint = none; grade = (ofBits binary32 0x3f800000); relativeIndex = (negsuc 0); deviationsOut = (replicate 2 (ofBits binary32 0)); pastOut = (replicate 2 (ofBits binary32 0)); expectedOut = (replicate 2 (ofBits binary32 0)) }) ∷
+    invertExtrapolation (record { forecast = ranges ((ofBits binary32 0xb89b621c) ∷ nan ∷ (ofBits binary32 0x80000001) ∷ (ofBits binary32 0x3f500000) ∷ (ofBits binary32 0x7f61b1e6) ∷ (ofBits binary32 0xc0a00000) ∷ (ofBits binary32 0xc2c78000) ∷ (ofBits binary32 0x42ba0000) ∷ []) ((ofBits binary32 0x4677e9b5) ∷ (ofBits binary32 0x45dae690) ∷ (ofBits binary32 0x42c5a000) ∷ (ofBits binary32 0xc1100000) ∷ (ofBits binary32 0x40c00000) ∷ (ofBits binary32 0xc2b68000) ∷ (ofBits binary32 0x42c4a000) ∷ (ofBits binary32 0xff7fffff) ∷ []) ((ofBits binary32 0x80000001) ∷ (ofBits binary32 0x6ad32bd7) ∷ (ofBits binary32 0xc29b4000) ∷ (ofBits binary32 0xbfe80000) ∷ (ofBits binary32 0x41100000) ∷ (ofBits binary32 0xc1720000) ∷ (ofBits binary32 0x60ad78ec) ∷ (ofBits binary32 0x7f7fffff) ∷ []); valuesOut = (ranges (replicate 0 (ofBits binary32 0)) (replicate 0 (ofBits binary32 0)) (replicate 0 (ofBits binary32 0))); timesOut = (ranges (replicate 0 (ofBits binary32 0)) (replicate 0 (ofBits binary32 0)) (replicate 0 (ofBits binary32 0))) }) ∷
+    postProcess (record { input = ((ofBits binary32 0x42c38000) ∷ (ofBits binary32 0x40400000) ∷ []); timestamp = 526285218751; rcfPoint = none; expectedPoint = (some ((ofBits binary32 0x3f800000) ∷ (ofBits binary32 0xc1000000) ∷ (ofBits binary32 0x44ae8fc7) ∷ (ofBits binary32 0xc0e00000) ∷ (ofBits binary32 0xc1100000) ∷ (ofBits binary32 0x42a06000) ∷ (ofBits binary32 0xc1820000) ∷ (ofBits binary32 0x468191e2) ∷ (ofBits binary32 0xbf800000) ∷ [])); grade = (ofBits binary32 0xbf800000); relativeIndex = (negsuc 2); deviationsOut = (replicate 3 (ofBits binary32 0)); pastOut = (replicate 2 (ofBits binary32 0)); expectedOut = (replicate 0 (ofBits binary32 0)) }) ∷
+    postProcess (record { input = ((ofBits binary32 0x429f8000) ∷ (ofBits binary32 0x42360000) ∷ []); timestamp = 526285218770; rcfPoint = (some ((ofBits binary32 0xbf800000) ∷ (ofBits binary32 0xc1865e05) ∷ (ofBits binary32 0x464ac88d) ∷ (ofBits binary32 0x40c00000) ∷ (ofBits binary32 0xc0800000) ∷ (ofBits binary32 0xc1200000) ∷ (ofBits binary32 0x4628b95c) ∷ (ofBits binary32 0xc1c20000) ∷ (ofBits binary32 0x40a00000) ∷ [])); expectedPoint = (some ((ofBits binary32 0x45c51cf4) ∷ (ofBits binary32 0xc2886000) ∷ (ofBits binary32 0x5d25e9ba) ∷ (ofBits binary32 0x7f7fffff) ∷ (ofBits binary32 0xff61b1e6) ∷ (ofBits binary32 0x42cfc000) ∷ (ofBits binary32 0xb902b401) ∷ (ofBits binary32 0x80000000) ∷ [])); grade = (ofBits binary32 0x3f000000); relativeIndex = (pos 0); deviationsOut = (replicate 2 (ofBits binary32 0)); pastOut = (replicate 2 (ofBits binary32 0)); expectedOut = (replicate 4 (ofBits binary32 0)) }) ∷
     postProcess (record { input = ((ofBits binary32 0x42866000) ∷ (ofBits binary32 0xc283e000) ∷ (ofBits binary32 0x40400000) ∷ []); timestamp = 526285218771; rcfPoint = (some ((ofBits binary32 0x40c00000) ∷ (ofBits binary32 0xc1be8000) ∷ (ofBits binary32 0x430ad000) ∷ (ofBits binary32 0xeacd156e) ∷ (ofBits binary32 0x1) ∷ (ofBits binary32 0xc2862000) ∷ (ofBits binary32 0x41150000) ∷ (ofBits binary32 0x46276514) ∷ [])); expectedPoint = none; grade = (ofBits binary32 0x3f800000); relativeIndex = (pos 0); deviationsOut = (replicate 6 (ofBits binary32 0)); pastOut = (replicate 2 (ofBits binary32 0)); expectedOut = (replicate 2 (ofBits binary32 0)) }) ∷ [])
 
 abbrev t14 : List ℕ
@@ -558,11 +558,11 @@ unfolding trace·all
 history14 = refl
 
 answers14 : answers (fresh s14) c14 ≡ (
-    wrote ((ofBits binary32 0x0) ∷ (ofBits binary32 0x0) ∷ (ofBits binary32 0x0) ∷ []) ∷ 
-    refused 10 ∷ 
-    refused 16 ∷ 
-    learnt (record { written = false; anomaly = none; deviationsOut = ((ofBits binary32 0x0) ∷ (ofBits binary32 0x0) ∷ (ofBits binary32 0x0) ∷ []); pastOut = ((ofBits binary32 0x0) ∷ (ofBits binary32 0x0) ∷ []); expectedOut = ([]) }) ∷ 
-    refused 13 ∷ 
+    wrote ((ofBits binary32 0x0) ∷ (ofBits binary32 0x0) ∷ (ofBits binary32 0x0) ∷ []) ∷
+    refused 10 ∷
+    refused 16 ∷
+    learnt (record { written = false; anomaly = none; deviationsOut = ((ofBits binary32 0x0) ∷ (ofBits binary32 0x0) ∷ (ofBits binary32 0x0) ∷ []); pastOut = ((ofBits binary32 0x0) ∷ (ofBits binary32 0x0) ∷ []); expectedOut = ([]) }) ∷
+    refused 13 ∷
     refused 10 ∷ [])
 unfolding trace·all
 answers14 = refl
@@ -593,14 +593,14 @@ s16 = record { mode = «TIME_AUGMENTED»; method = «NORMALIZE_DIFFERENCE»; d =
 
 abbrev c16 : List Call
 c16 = (
-    transform ((ofBits binary32 0x42560000) ∷ (ofBits binary32 0x41a60000) ∷ []) 156 (replicate 0 (ofBits binary32 0)) ∷ 
-    shift (replicate 3 (ofBits binary32 0)) ∷ 
-    postProcess (record { input = ((ofBits binary32 0x421a0000) ∷ (ofBits binary32 0x42030000) ∷ []); timestamp = 147; rcfPoint = (some ((ofBits binary32 0x40000000) ∷ (ofBits binary32 0xc1200000) ∷ (ofBits binary32 0x1) ∷ (ofBits binary32 0xc2850000) ∷ (ofBits binary32 0x4a070b) ∷ (ofBits binary32 0x41100000) ∷ (ofBits binary32 0x41200000) ∷ (ofBits binary32 0xc2734000) ∷ (ofBits binary32 0x3f800000) ∷ [])); expectedPoint = none; grade = (ofBits binary32 0x3f800000); relativeIndex = (negsuc 2147483647); deviationsOut = (replicate 5 (ofBits binary32 0)); pastOut = (replicate 2 (ofBits binary32 0)); expectedOut = (replicate 3 (ofBits binary32 0)) }) ∷ 
-    status (replicate 3 (ofBits binary32 0)) ∷ 
-    postProcess (record { input = ((ofBits binary32 0x411c0000) ∷ (ofBits binary32 0x42a00000) ∷ []); timestamp = 164; rcfPoint = (some ((ofBits binary32 0x9dcd4d0c) ∷ (ofBits binary32 0x486f1ee9) ∷ (ofBits binary32 0x40800000) ∷ (ofBits binary32 0xbf800000) ∷ (ofBits binary32 0x41920000) ∷ (ofBits binary32 0x331db745) ∷ (ofBits binary32 0x3dcccccd) ∷ (ofBits binary32 0xbf800000) ∷ (ofBits binary32 0xe7d3374f) ∷ [])); expectedPoint = (some ((ofBits binary32 0x41100000) ∷ (ofBits binary32 0x1) ∷ (ofBits binary32 0x41000000) ∷ (ofBits binary32 0x4266c000) ∷ (ofBits binary32 0x40c00000) ∷ (ofBits binary32 0xc1100000) ∷ (ofBits binary32 0x430c4000) ∷ (ofBits binary32 0x424d8000) ∷ (ofBits binary32 0x3dcccccd) ∷ [])); grade = (ofBits binary32 0x3f000000); relativeIndex = (pos 2147483647); deviationsOut = (replicate 3 (ofBits binary32 0)); pastOut = (replicate 2 (ofBits binary32 0)); expectedOut = (replicate 0 (ofBits binary32 0)) }) ∷ 
-    postProcess (record { input = ((ofBits binary32 0x42b38000) ∷ (ofBits binary32 0x42700000) ∷ []); timestamp = 167; rcfPoint = (some ((ofBits binary32 0x1) ∷ (ofBits binary32 0xc2944000) ∷ (ofBits binary32 0xc0400000) ∷ (ofBits binary32 0xc0800000) ∷ (ofBits binary32 0x456dbc5f) ∷ (ofBits binary32 0x455665f8) ∷ (ofBits binary32 0x40800000) ∷ (ofBits binary32 0xc2af0000) ∷ (ofBits binary32 0x457e8cb9) ∷ [])); expectedPoint = (some ((ofBits binary32 0x40000000) ∷ (ofBits binary32 0x0) ∷ (ofBits binary32 0xc0400000) ∷ (ofBits binary32 0x43027000) ∷ (ofBits binary32 0x1e3ce508) ∷ (ofBits binary32 0xc278c000) ∷ (ofBits binary32 0x4653c20b) ∷ (ofBits binary32 0x41200000) ∷ (ofBits binary32 0x80000001) ∷ [])); grade = nan; relativeIndex = (pos 0); deviationsOut = (replicate 3 (ofBits binary32 0)); pastOut = (replicate 2 (ofBits binary32 0)); expectedOut = (replicate 2 (ofBits binary32 0)) }) ∷ 
-    scale (replicate 3 (ofBits binary32 0)) ∷ 
-    postProcess (record { input = ((ofBits binary32 0x424c0000) ∷ (ofBits binary32 0x41aa0000) ∷ []); timestamp = 167; rcfPoint = (some ((ofBits binary32 0x3e400000) ∷ (ofBits binary32 0xc1000000) ∷ (ofBits binary32 0x40e00000) ∷ (ofBits binary32 0x4305d000) ∷ (ofBits binary32 0xc1200000) ∷ (ofBits binary32 0xc0680000) ∷ (ofBits binary32 0x7f7fffff) ∷ (ofBits binary32 0x116c2) ∷ (ofBits binary32 0x462bd205) ∷ [])); expectedPoint = none; grade = (ofBits binary32 0x7f800000); relativeIndex = (negsuc 1); deviationsOut = (replicate 3 (ofBits binary32 0)); pastOut = (replicate 2 (ofBits binary32 0)); expectedOut = (replicate 0 (ofBits binary32 0)) }) ∷ 
+    transform ((ofBits binary32 0x42560000) ∷ (ofBits binary32 0x41a60000) ∷ []) 156 (replicate 0 (ofBits binary32 0)) ∷
+    shift (replicate 3 (ofBits binary32 0)) ∷
+    postProcess (record { input = ((ofBits binary32 0x421a0000) ∷ (ofBits binary32 0x42030000) ∷ []); timestamp = 147; rcfPoint = (some ((ofBits binary32 0x40000000) ∷ (ofBits binary32 0xc1200000) ∷ (ofBits binary32 0x1) ∷ (ofBits binary32 0xc2850000) ∷ (ofBits binary32 0x4a070b) ∷ (ofBits binary32 0x41100000) ∷ (ofBits binary32 0x41200000) ∷ (ofBits binary32 0xc2734000) ∷ (ofBits binary32 0x3f800000) ∷ [])); expectedPoint = none; grade = (ofBits binary32 0x3f800000); relativeIndex = (negsuc 2147483647); deviationsOut = (replicate 5 (ofBits binary32 0)); pastOut = (replicate 2 (ofBits binary32 0)); expectedOut = (replicate 3 (ofBits binary32 0)) }) ∷
+    status (replicate 3 (ofBits binary32 0)) ∷
+    postProcess (record { input = ((ofBits binary32 0x411c0000) ∷ (ofBits binary32 0x42a00000) ∷ []); timestamp = 164; rcfPoint = (some ((ofBits binary32 0x9dcd4d0c) ∷ (ofBits binary32 0x486f1ee9) ∷ (ofBits binary32 0x40800000) ∷ (ofBits binary32 0xbf800000) ∷ (ofBits binary32 0x41920000) ∷ (ofBits binary32 0x331db745) ∷ (ofBits binary32 0x3dcccccd) ∷ (ofBits binary32 0xbf800000) ∷ (ofBits binary32 0xe7d3374f) ∷ [])); expectedPoint = (some ((ofBits binary32 0x41100000) ∷ (ofBits binary32 0x1) ∷ (ofBits binary32 0x41000000) ∷ (ofBits binary32 0x4266c000) ∷ (ofBits binary32 0x40c00000) ∷ (ofBits binary32 0xc1100000) ∷ (ofBits binary32 0x430c4000) ∷ (ofBits binary32 0x424d8000) ∷ (ofBits binary32 0x3dcccccd) ∷ [])); grade = (ofBits binary32 0x3f000000); relativeIndex = (pos 2147483647); deviationsOut = (replicate 3 (ofBits binary32 0)); pastOut = (replicate 2 (ofBits binary32 0)); expectedOut = (replicate 0 (ofBits binary32 0)) }) ∷
+    postProcess (record { input = ((ofBits binary32 0x42b38000) ∷ (ofBits binary32 0x42700000) ∷ []); timestamp = 167; rcfPoint = (some ((ofBits binary32 0x1) ∷ (ofBits binary32 0xc2944000) ∷ (ofBits binary32 0xc0400000) ∷ (ofBits binary32 0xc0800000) ∷ (ofBits binary32 0x456dbc5f) ∷ (ofBits binary32 0x455665f8) ∷ (ofBits binary32 0x40800000) ∷ (ofBits binary32 0xc2af0000) ∷ (ofBits binary32 0x457e8cb9) ∷ [])); expectedPoint = (some ((ofBits binary32 0x40000000) ∷ (ofBits binary32 0x0) ∷ (ofBits binary32 0xc0400000) ∷ (ofBits binary32 0x43027000) ∷ (ofBits binary32 0x1e3ce508) ∷ (ofBits binary32 0xc278c000) ∷ (ofBits binary32 0x4653c20b) ∷ (ofBits binary32 0x41200000) ∷ (ofBits binary32 0x80000001) ∷ [])); grade = nan; relativeIndex = (pos 0); deviationsOut = (replicate 3 (ofBits binary32 0)); pastOut = (replicate 2 (ofBits binary32 0)); expectedOut = (replicate 2 (ofBits binary32 0)) }) ∷
+    scale (replicate 3 (ofBits binary32 0)) ∷
+    postProcess (record { input = ((ofBits binary32 0x424c0000) ∷ (ofBits binary32 0x41aa0000) ∷ []); timestamp = 167; rcfPoint = (some ((ofBits binary32 0x3e400000) ∷ (ofBits binary32 0xc1000000) ∷ (ofBits binary32 0x40e00000) ∷ (ofBits binary32 0x4305d000) ∷ (ofBits binary32 0xc1200000) ∷ (ofBits binary32 0xc0680000) ∷ (ofBits binary32 0x7f7fffff) ∷ (ofBits binary32 0x116c2) ∷ (ofBits binary32 0x462bd205) ∷ [])); expectedPoint = none; grade = (ofBits binary32 0x7f800000); relativeIndex = (negsuc 1); deviationsOut = (replicate 3 (ofBits binary32 0)); pastOut = (replicate 2 (ofBits binary32 0)); expectedOut = (replicate 0 (ofBits binary32 0)) }) ∷
     postProcess (record { input = ((ofBits binary32 0x42980000) ∷ (ofBits binary32 0x40d00000) ∷ []); timestamp = 174; rcfPoint = (some ((ofBits binary32 0x40e00000) ∷ (ofBits binary32 0x41d08000) ∷ (ofBits binary32 0x4307f000) ∷ (ofBits binary32 0x40400000) ∷ (ofBits binary32 0x0) ∷ (ofBits binary32 0xc23c8000) ∷ (ofBits binary32 0xc2820000) ∷ (ofBits binary32 0xc0800000) ∷ (ofBits binary32 0x41200000) ∷ [])); expectedPoint = none; grade = (ofBits binary32 0xbf800000); relativeIndex = (pos 0); deviationsOut = (replicate 3 (ofBits binary32 0)); pastOut = (replicate 0 (ofBits binary32 0)); expectedOut = (replicate 2 (ofBits binary32 0)) }) ∷ [])
 
 abbrev t16 : List ℕ
@@ -615,14 +615,14 @@ unfolding trace·all
 history16 = refl
 
 answers16 : answers (fresh s16) c16 ≡ (
-    refused 20 ∷ 
-    wrote ((ofBits binary32 0x0) ∷ (ofBits binary32 0x0) ∷ (ofBits binary32 0x0) ∷ []) ∷ 
-    learnt (record { written = false; anomaly = none; deviationsOut = ((ofBits binary32 0x0) ∷ (ofBits binary32 0x0) ∷ (ofBits binary32 0x0) ∷ (ofBits binary32 0x0) ∷ (ofBits binary32 0x0) ∷ []); pastOut = ((ofBits binary32 0x0) ∷ (ofBits binary32 0x0) ∷ []); expectedOut = ((ofBits binary32 0x0) ∷ (ofBits binary32 0x0) ∷ (ofBits binary32 0x0) ∷ []) }) ∷ 
-    told (record { valuesSeen = 1; internalTimestamp = 0; ready = false; inputDimensions = 2; shingleSize = 3; dimensions = 9; method = «NORMALIZE_DIFFERENCE»; mode = «TIME_AUGMENTED»; start = 2; panel = 1; deviationsOut = ((ofBits binary32 0x0) ∷ (ofBits binary32 0x0) ∷ (ofBits binary32 0x80000000) ∷ []) }) ∷ 
-    learnt (record { written = true; anomaly = none; deviationsOut = ((ofBits binary32 0x0) ∷ (ofBits binary32 0x0) ∷ (ofBits binary32 0x80000000) ∷ []); pastOut = ((ofBits binary32 0x0) ∷ (ofBits binary32 0x0) ∷ []); expectedOut = ([]) }) ∷ 
-    learnt (record { written = true; anomaly = none; deviationsOut = ((ofBits binary32 0x0) ∷ (ofBits binary32 0x0) ∷ (ofBits binary32 0x80000000) ∷ []); pastOut = ((ofBits binary32 0x0) ∷ (ofBits binary32 0x0) ∷ []); expectedOut = ((ofBits binary32 0x0) ∷ (ofBits binary32 0x0) ∷ []) }) ∷ 
-    wrote ((ofBits binary32 0x0) ∷ (ofBits binary32 0x3dcccccd) ∷ (ofBits binary32 0xbf000000) ∷ []) ∷ 
-    learnt (record { written = true; anomaly = none; deviationsOut = ((ofBits binary32 0x40f446f8) ∷ (ofBits binary32 0x40bbb908) ∷ (ofBits binary32 0xc20446f8) ∷ []); pastOut = ((ofBits binary32 0x0) ∷ (ofBits binary32 0x0) ∷ []); expectedOut = ([]) }) ∷ 
+    refused 20 ∷
+    wrote ((ofBits binary32 0x0) ∷ (ofBits binary32 0x0) ∷ (ofBits binary32 0x0) ∷ []) ∷
+    learnt (record { written = false; anomaly = none; deviationsOut = ((ofBits binary32 0x0) ∷ (ofBits binary32 0x0) ∷ (ofBits binary32 0x0) ∷ (ofBits binary32 0x0) ∷ (ofBits binary32 0x0) ∷ []); pastOut = ((ofBits binary32 0x0) ∷ (ofBits binary32 0x0) ∷ []); expectedOut = ((ofBits binary32 0x0) ∷ (ofBits binary32 0x0) ∷ (ofBits binary32 0x0) ∷ []) }) ∷
+    told (record { valuesSeen = 1; internalTimestamp = 0; ready = false; inputDimensions = 2; shingleSize = 3; dimensions = 9; method = «NORMALIZE_DIFFERENCE»; mode = «TIME_AUGMENTED»; start = 2; panel = 1; deviationsOut = ((ofBits binary32 0x0) ∷ (ofBits binary32 0x0) ∷ (ofBits binary32 0x80000000) ∷ []) }) ∷
+    learnt (record { written = true; anomaly = none; deviationsOut = ((ofBits binary32 0x0) ∷ (ofBits binary32 0x0) ∷ (ofBits binary32 0x80000000) ∷ []); pastOut = ((ofBits binary32 0x0) ∷ (ofBits binary32 0x0) ∷ []); expectedOut = ([]) }) ∷
+    learnt (record { written = true; anomaly = none; deviationsOut = ((ofBits binary32 0x0) ∷ (ofBits binary32 0x0) ∷ (ofBits binary32 0x80000000) ∷ []); pastOut = ((ofBits binary32 0x0) ∷ (ofBits binary32 0x0) ∷ []); expectedOut = ((ofBits binary32 0x0) ∷ (ofBits binary32 0x0) ∷ []) }) ∷
+    wrote ((ofBits binary32 0x0) ∷ (ofBits binary32 0x3dcccccd) ∷ (ofBits binary32 0xbf000000) ∷ []) ∷
+    learnt (record { written = true; anomaly = none; deviationsOut = ((ofBits binary32 0x40f446f8) ∷ (ofBits binary32 0x40bbb908) ∷ (ofBits binary32 0xc20446f8) ∷ []); pastOut = ((ofBits binary32 0x0) ∷ (ofBits binary32 0x0) ∷ []); expectedOut = ([]) }) ∷
     learnt (record { written = true; anomaly = none; deviationsOut = ((ofBits binary32 0x40e1f319) ∷ (ofBits binary32 0x408bb5fa) ∷ (ofBits binary32 0xc05e5113) ∷ []); pastOut = ([]); expectedOut = ((ofBits binary32 0x0) ∷ (ofBits binary32 0x0) ∷ []) }) ∷ [])
 unfolding trace·all
 answers16 = refl
@@ -632,16 +632,16 @@ s17 = record { mode = «TIME_AUGMENTED»; method = «NORMALIZE_DIFFERENCE»; d =
 
 abbrev c17 : List Call
 c17 = (
-    postProcess (record { input = ((ofBits binary32 0x41da0000) ∷ (ofBits binary32 0x40b80000) ∷ []); timestamp = 58; rcfPoint = (some ((ofBits binary32 0x0) ∷ (ofBits binary32 0xc0000000) ∷ (ofBits binary32 0xc0a00000) ∷ [])); expectedPoint = none; grade = (ofBits binary32 0x0); relativeIndex = (pos 0); deviationsOut = (replicate 3 (ofBits binary32 0)); pastOut = (replicate 3 (ofBits binary32 0)); expectedOut = (replicate 2 (ofBits binary32 0)) }) ∷ 
-    shift (replicate 0 (ofBits binary32 0)) ∷ 
-    drain ∷ 
-    shingledPoint ((ofBits binary32 0x41a80000) ∷ (ofBits binary32 0x420b0000) ∷ []) 78 (replicate 3 (ofBits binary32 0)) ∷ 
-    status (replicate 6 (ofBits binary32 0)) ∷ 
-    postProcess (record { input = ((ofBits binary32 0x415c0000) ∷ (ofBits binary32 0x428e0000) ∷ []); timestamp = 90; rcfPoint = (some ((ofBits binary32 0xc0800000) ∷ (ofBits binary32 0x80000001) ∷ (ofBits binary32 0x7d4c21c5) ∷ (ofBits binary32 0x42808000) ∷ [])); expectedPoint = (some ((ofBits binary32 0xc11b0000) ∷ (ofBits binary32 0x40400000) ∷ (ofBits binary32 0xc0000000) ∷ [])); grade = (ofBits binary32 0x1); relativeIndex = (pos 0); deviationsOut = (replicate 5 (ofBits binary32 0)); pastOut = (replicate 1 (ofBits binary32 0)); expectedOut = (replicate 1 (ofBits binary32 0)) }) ∷ 
-    status (replicate 3 (ofBits binary32 0)) ∷ 
-    postProcess (record { input = ((ofBits binary32 0x41ae0000) ∷ (ofBits binary32 0x42030000) ∷ []); timestamp = 87; rcfPoint = (some ((ofBits binary32 0xc0c80000) ∷ (ofBits binary32 0x41e80000) ∷ (ofBits binary32 0x41a00000) ∷ [])); expectedPoint = (some ((ofBits binary32 0x41000000) ∷ (ofBits binary32 0x0) ∷ (ofBits binary32 0x4634d83c) ∷ [])); grade = (ofBits binary32 0x3f800000); relativeIndex = (pos 0); deviationsOut = (replicate 5 (ofBits binary32 0)); pastOut = (replicate 2 (ofBits binary32 0)); expectedOut = (replicate 3 (ofBits binary32 0)) }) ∷ 
-    status (replicate 3 (ofBits binary32 0)) ∷ 
-    postProcess (record { input = ((ofBits binary32 0x428f8000) ∷ (ofBits binary32 0x428a0000) ∷ []); timestamp = 104; rcfPoint = (some ((ofBits binary32 0xc0c80000) ∷ (ofBits binary32 0x41e80000) ∷ (ofBits binary32 0x41a00000) ∷ [])); expectedPoint = (some ((ofBits binary32 0xb843317d) ∷ (ofBits binary32 0xef9a48c) ∷ (ofBits binary32 0x8790b0f6) ∷ [])); grade = (ofBits binary32 0x0); relativeIndex = (pos 0); deviationsOut = (replicate 3 (ofBits binary32 0)); pastOut = (replicate 0 (ofBits binary32 0)); expectedOut = (replicate 2 (ofBits binary32 0)) }) ∷ 
+    postProcess (record { input = ((ofBits binary32 0x41da0000) ∷ (ofBits binary32 0x40b80000) ∷ []); timestamp = 58; rcfPoint = (some ((ofBits binary32 0x0) ∷ (ofBits binary32 0xc0000000) ∷ (ofBits binary32 0xc0a00000) ∷ [])); expectedPoint = none; grade = (ofBits binary32 0x0); relativeIndex = (pos 0); deviationsOut = (replicate 3 (ofBits binary32 0)); pastOut = (replicate 3 (ofBits binary32 0)); expectedOut = (replicate 2 (ofBits binary32 0)) }) ∷
+    shift (replicate 0 (ofBits binary32 0)) ∷
+    drain ∷
+    shingledPoint ((ofBits binary32 0x41a80000) ∷ (ofBits binary32 0x420b0000) ∷ []) 78 (replicate 3 (ofBits binary32 0)) ∷
+    status (replicate 6 (ofBits binary32 0)) ∷
+    postProcess (record { input = ((ofBits binary32 0x415c0000) ∷ (ofBits binary32 0x428e0000) ∷ []); timestamp = 90; rcfPoint = (some ((ofBits binary32 0xc0800000) ∷ (ofBits binary32 0x80000001) ∷ (ofBits binary32 0x7d4c21c5) ∷ (ofBits binary32 0x42808000) ∷ [])); expectedPoint = (some ((ofBits binary32 0xc11b0000) ∷ (ofBits binary32 0x40400000) ∷ (ofBits binary32 0xc0000000) ∷ [])); grade = (ofBits binary32 0x1); relativeIndex = (pos 0); deviationsOut = (replicate 5 (ofBits binary32 0)); pastOut = (replicate 1 (ofBits binary32 0)); expectedOut = (replicate 1 (ofBits binary32 0)) }) ∷
+    status (replicate 3 (ofBits binary32 0)) ∷
+    postProcess (record { input = ((ofBits binary32 0x41ae0000) ∷ (ofBits binary32 0x42030000) ∷ []); timestamp = 87; rcfPoint = (some ((ofBits binary32 0xc0c80000) ∷ (ofBits binary32 0x41e80000) ∷ (ofBits binary32 0x41a00000) ∷ [])); expectedPoint = (some ((ofBits binary32 0x41000000) ∷ (ofBits binary32 0x0) ∷ (ofBits binary32 0x4634d83c) ∷ [])); grade = (ofBits binary32 0x3f800000); relativeIndex = (pos 0); deviationsOut = (replicate 5 (ofBits binary32 0)); pastOut = (replicate 2 (ofBits binary32 0)); expectedOut = (replicate 3 (ofBits binary32 0)) }) ∷
+    status (replicate 3 (ofBits binary32 0)) ∷
+    postProcess (record { input = ((ofBits binary32 0x428f8000) ∷ (ofBits binary32 0x428a0000) ∷ []); timestamp = 104; rcfPoint = (some ((ofBits binary32 0xc0c80000) ∷ (ofBits binary32 0x41e80000) ∷ (ofBits binary32 0x41a00000) ∷ [])); expectedPoint = (some ((ofBits binary32 0xb843317d) ∷ (ofBits binary32 0xef9a48c) ∷ (ofBits binary32 0x8790b0f6) ∷ [])); grade = (ofBits binary32 0x0); relativeIndex = (pos 0); deviationsOut = (replicate 3 (ofBits binary32 0)); pastOut = (replicate 0 (ofBits binary32 0)); expectedOut = (replicate 2 (ofBits binary32 0)) }) ∷
     shingledPoint ((ofBits binary32 0x937df489) ∷ (ofBits binary32 0xff800000) ∷ []) 115 (replicate 3 (ofBits binary32 0)) ∷ [])
 
 abbrev t17 : List ℕ
@@ -656,16 +656,16 @@ unfolding trace·all
 history17 = refl
 
 answers17 : answers (fresh s17) c17 ≡ (
-    learnt (record { written = true; anomaly = none; deviationsOut = ((ofBits binary32 0x0) ∷ (ofBits binary32 0x0) ∷ (ofBits binary32 0x0) ∷ []); pastOut = ((ofBits binary32 0x0) ∷ (ofBits binary32 0x0) ∷ (ofBits binary32 0x0) ∷ []); expectedOut = ((ofBits binary32 0x0) ∷ (ofBits binary32 0x0) ∷ []) }) ∷ 
-    refused 20 ∷ 
-    done ∷ 
-    wrote ((ofBits binary32 0xc0c80000) ∷ (ofBits binary32 0x41e80000) ∷ (ofBits binary32 0x41a00000) ∷ []) ∷ 
-    told (record { valuesSeen = 1; internalTimestamp = 1; ready = true; inputDimensions = 2; shingleSize = 1; dimensions = 3; method = «NORMALIZE_DIFFERENCE»; mode = «TIME_AUGMENTED»; start = 0; panel = 1; deviationsOut = ((ofBits binary32 0x0) ∷ (ofBits binary32 0x0) ∷ (ofBits binary32 0x0) ∷ (ofBits binary32 0x0) ∷ (ofBits binary32 0x0) ∷ (ofBits binary32 0x0) ∷ []) }) ∷ 
-    refused 13 ∷ 
-    told (record { valuesSeen = 1; internalTimestamp = 1; ready = true; inputDimensions = 2; shingleSize = 1; dimensions = 3; method = «NORMALIZE_DIFFERENCE»; mode = «TIME_AUGMENTED»; start = 0; panel = 1; deviationsOut = ((ofBits binary32 0x0) ∷ (ofBits binary32 0x0) ∷ (ofBits binary32 0x0) ∷ []) }) ∷ 
-    learnt (record { written = true; anomaly = some (record { pastTimestamp = 58; likelihood = (ofBits binary32 0x3f800000) }); deviationsOut = ((ofBits binary32 0x0) ∷ (ofBits binary32 0x0) ∷ (ofBits binary32 0x0) ∷ (ofBits binary32 0x0) ∷ (ofBits binary32 0x0) ∷ []); pastOut = ((ofBits binary32 0x41ae0000) ∷ (ofBits binary32 0x42030000) ∷ []); expectedOut = ((ofBits binary32 0x420d0000) ∷ (ofBits binary32 0x40b80000) ∷ (ofBits binary32 0x0) ∷ []) }) ∷ 
-    told (record { valuesSeen = 2; internalTimestamp = 2; ready = true; inputDimensions = 2; shingleSize = 1; dimensions = 3; method = «NORMALIZE_DIFFERENCE»; mode = «TIME_AUGMENTED»; start = 0; panel = 2; deviationsOut = ((ofBits binary32 0x0) ∷ (ofBits binary32 0x0) ∷ (ofBits binary32 0x0) ∷ []) }) ∷ 
-    learnt (record { written = true; anomaly = none; deviationsOut = ((ofBits binary32 0x0) ∷ (ofBits binary32 0x0) ∷ (ofBits binary32 0x0) ∷ []); pastOut = ([]); expectedOut = ((ofBits binary32 0x0) ∷ (ofBits binary32 0x0) ∷ []) }) ∷ 
+    learnt (record { written = true; anomaly = none; deviationsOut = ((ofBits binary32 0x0) ∷ (ofBits binary32 0x0) ∷ (ofBits binary32 0x0) ∷ []); pastOut = ((ofBits binary32 0x0) ∷ (ofBits binary32 0x0) ∷ (ofBits binary32 0x0) ∷ []); expectedOut = ((ofBits binary32 0x0) ∷ (ofBits binary32 0x0) ∷ []) }) ∷
+    refused 20 ∷
+    done ∷
+    wrote ((ofBits binary32 0xc0c80000) ∷ (ofBits binary32 0x41e80000) ∷ (ofBits binary32 0x41a00000) ∷ []) ∷
+    told (record { valuesSeen = 1; internalTimestamp = 1; ready = true; inputDimensions = 2; shingleSize = 1; dimensions = 3; method = «NORMALIZE_DIFFERENCE»; mode = «TIME_AUGMENTED»; start = 0; panel = 1; deviationsOut = ((ofBits binary32 0x0) ∷ (ofBits binary32 0x0) ∷ (ofBits binary32 0x0) ∷ (ofBits binary32 0x0) ∷ (ofBits binary32 0x0) ∷ (ofBits binary32 0x0) ∷ []) }) ∷
+    refused 13 ∷
+    told (record { valuesSeen = 1; internalTimestamp = 1; ready = true; inputDimensions = 2; shingleSize = 1; dimensions = 3; method = «NORMALIZE_DIFFERENCE»; mode = «TIME_AUGMENTED»; start = 0; panel = 1; deviationsOut = ((ofBits binary32 0x0) ∷ (ofBits binary32 0x0) ∷ (ofBits binary32 0x0) ∷ []) }) ∷
+    learnt (record { written = true; anomaly = some (record { pastTimestamp = 58; likelihood = (ofBits binary32 0x3f800000) }); deviationsOut = ((ofBits binary32 0x0) ∷ (ofBits binary32 0x0) ∷ (ofBits binary32 0x0) ∷ (ofBits binary32 0x0) ∷ (ofBits binary32 0x0) ∷ []); pastOut = ((ofBits binary32 0x41ae0000) ∷ (ofBits binary32 0x42030000) ∷ []); expectedOut = ((ofBits binary32 0x420d0000) ∷ (ofBits binary32 0x40b80000) ∷ (ofBits binary32 0x0) ∷ []) }) ∷
+    told (record { valuesSeen = 2; internalTimestamp = 2; ready = true; inputDimensions = 2; shingleSize = 1; dimensions = 3; method = «NORMALIZE_DIFFERENCE»; mode = «TIME_AUGMENTED»; start = 0; panel = 2; deviationsOut = ((ofBits binary32 0x0) ∷ (ofBits binary32 0x0) ∷ (ofBits binary32 0x0) ∷ []) }) ∷
+    learnt (record { written = true; anomaly = none; deviationsOut = ((ofBits binary32 0x0) ∷ (ofBits binary32 0x0) ∷ (ofBits binary32 0x0) ∷ []); pastOut = ([]); expectedOut = ((ofBits binary32 0x0) ∷ (ofBits binary32 0x0) ∷ []) }) ∷
     refused 11 ∷ [])
 unfolding trace·all
 answers17 = refl
@@ -675,7 +675,7 @@ s18 = record { mode = STANDARD; method = NORMALIZE; d = 2; k = 1; start = 0; sto
 
 abbrev c18 : List Call
 c18 = (
-    shift (replicate 2 (ofBits binary32 0)) ∷ 
+    shift (replicate 2 (ofBits binary32 0)) ∷
     invertExtrapolation (record { forecast = ranges ((ofBits binary32 0x0) ∷ (ofBits binary32 0x428be000) ∷ (ofBits binary32 0x1) ∷ (ofBits binary32 0x41200000) ∷ []) ((ofBits binary32 0x40a00000) ∷ (ofBits binary32 0x428de000) ∷ (ofBits binary32 0x40800000) ∷ (ofBits binary32 0x41700000) ∷ []) ((ofBits binary32 0xc0000000) ∷ (ofBits binary32 0x4289e000) ∷ (ofBits binary32 0xbf800000) ∷ (ofBits binary32 0x40a00000) ∷ []); valuesOut = (ranges (replicate 4 (ofBits binary32 0)) (replicate 4 (ofBits binary32 0)) (replicate 4 (ofBits binary32 0))); timesOut = (ranges (replicate 2 (ofBits binary32 0)) (replicate 2 (ofBits binary32 0)) (replicate 2 (ofBits binary32 0))) }) ∷ [])
 
 abbrev t18 : List ℕ
@@ -690,7 +690,7 @@ unfolding trace·all
 history18 = refl
 
 answers18 : answers (fresh s18) c18 ≡ (
-    wrote ((ofBits binary32 0x0) ∷ (ofBits binary32 0x0) ∷ []) ∷ 
+    wrote ((ofBits binary32 0x0) ∷ (ofBits binary32 0x0) ∷ []) ∷
     turned (record { forecast = (ranges ((ofBits binary32 0x0) ∷ (ofBits binary32 0x41ba8000) ∷ (ofBits binary32 0x0) ∷ (ofBits binary32 0x40555556) ∷ []) ((ofBits binary32 0x0) ∷ (ofBits binary32 0x41bd2aab) ∷ (ofBits binary32 0x0) ∷ (ofBits binary32 0x40a00000) ∷ []) ((ofBits binary32 0x0) ∷ (ofBits binary32 0x41b7d556) ∷ (ofBits binary32 0x0) ∷ (ofBits binary32 0x3fd55556) ∷ [])); valuesOut = (ranges (replicate 4 (ofBits binary32 0)) (replicate 4 (ofBits binary32 0)) (replicate 4 (ofBits binary32 0))); timesOut = (ranges (replicate 2 (ofBits binary32 0)) (replicate 2 (ofBits binary32 0)) (replicate 2 (ofBits binary32 0))) }) ∷ [])
 unfolding trace·all
 answers18 = refl
@@ -700,7 +700,7 @@ s19 = record { mode = «TIME_AUGMENTED»; method = «NORMALIZE_DIFFERENCE»; d =
 
 abbrev c19 : List Call
 c19 = (
-    postProcess (record { input = ((ofBits binary32 0x420d0000) ∷ (ofBits binary32 0x42990000) ∷ []); timestamp = 8; rcfPoint = (some ((ofBits binary32 0x42c98000) ∷ (ofBits binary32 0xc0400000) ∷ (ofBits binary32 0x464a25c1) ∷ (ofBits binary32 0xc0a00000) ∷ (ofBits binary32 0x3f800000) ∷ (ofBits binary32 0xc0800000) ∷ (ofBits binary32 0x40000000) ∷ (ofBits binary32 0x42922000) ∷ (ofBits binary32 0xc1000000) ∷ [])); expectedPoint = (some ((ofBits binary32 0x26068564) ∷ (ofBits binary32 0xc28a4000) ∷ (ofBits binary32 0xc11d0000) ∷ (ofBits binary32 0x790e54d0) ∷ (ofBits binary32 0x41000000) ∷ (ofBits binary32 0x7f61b1e6) ∷ (ofBits binary32 0xc3ec1e7e) ∷ (ofBits binary32 0xff61b1e6) ∷ (ofBits binary32 0x116c2) ∷ [])); grade = (ofBits binary32 0x0); relativeIndex = (pos 0); deviationsOut = (replicate 5 (ofBits binary32 0)); pastOut = (replicate 5 (ofBits binary32 0)); expectedOut = (replicate 2 (ofBits binary32 0)) }) ∷ 
+    postProcess (record { input = ((ofBits binary32 0x420d0000) ∷ (ofBits binary32 0x42990000) ∷ []); timestamp = 8; rcfPoint = (some ((ofBits binary32 0x42c98000) ∷ (ofBits binary32 0xc0400000) ∷ (ofBits binary32 0x464a25c1) ∷ (ofBits binary32 0xc0a00000) ∷ (ofBits binary32 0x3f800000) ∷ (ofBits binary32 0xc0800000) ∷ (ofBits binary32 0x40000000) ∷ (ofBits binary32 0x42922000) ∷ (ofBits binary32 0xc1000000) ∷ [])); expectedPoint = (some ((ofBits binary32 0x26068564) ∷ (ofBits binary32 0xc28a4000) ∷ (ofBits binary32 0xc11d0000) ∷ (ofBits binary32 0x790e54d0) ∷ (ofBits binary32 0x41000000) ∷ (ofBits binary32 0x7f61b1e6) ∷ (ofBits binary32 0xc3ec1e7e) ∷ (ofBits binary32 0xff61b1e6) ∷ (ofBits binary32 0x116c2) ∷ [])); grade = (ofBits binary32 0x0); relativeIndex = (pos 0); deviationsOut = (replicate 5 (ofBits binary32 0)); pastOut = (replicate 5 (ofBits binary32 0)); expectedOut = (replicate 2 (ofBits binary32 0)) }) ∷
     postProcess (record { input = ((ofBits binary32 0x42850000) ∷ (ofBits binary32 0x42ac0000) ∷ []); timestamp = 22; rcfPoint = (some ((ofBits binary32 0x463e3709) ∷ (ofBits binary32 0xc0e00000) ∷ (ofBits binary32 0xbf800000) ∷ (ofBits binary32 0x1) ∷ nan ∷ (ofBits binary32 0x40c00000) ∷ (ofBits binary32 0x3f800000) ∷ (ofBits binary32 0x60ad78ec) ∷ (ofBits binary32 0xc0c00000) ∷ [])); expectedPoint = (some ((ofBits binary32 0xc2ad6000) ∷ (ofBits binary32 0x42f40000) ∷ (ofBits binary32 0x0) ∷ (ofBits binary32 0x40e00000) ∷ (ofBits binary32 0xc0c00000) ∷ (ofBits binary32 0x46026172) ∷ (ofBits binary32 0x45c02ef6) ∷ (ofBits binary32 0x42922000) ∷ (ofBits binary32 0x460af68b) ∷ [])); grade = (ofBits binary32 0x0); relativeIndex = (pos 0); deviationsOut = (replicate 3 (ofBits binary32 0)); pastOut = (replicate 2 (ofBits binary32 0)); expectedOut = (replicate 3 (ofBits binary32 0)) }) ∷ [])
 
 abbrev t19 : List ℕ
@@ -715,7 +715,7 @@ unfolding trace·all
 history19 = refl
 
 answers19 : answers (fresh s19) c19 ≡ (
-    learnt (record { written = true; anomaly = none; deviationsOut = ((ofBits binary32 0x0) ∷ (ofBits binary32 0x0) ∷ (ofBits binary32 0x0) ∷ (ofBits binary32 0x0) ∷ (ofBits binary32 0x0) ∷ []); pastOut = ((ofBits binary32 0x0) ∷ (ofBits binary32 0x0) ∷ (ofBits binary32 0x0) ∷ (ofBits binary32 0x0) ∷ (ofBits binary32 0x0) ∷ []); expectedOut = ((ofBits binary32 0x0) ∷ (ofBits binary32 0x0) ∷ []) }) ∷ 
+    learnt (record { written = true; anomaly = none; deviationsOut = ((ofBits binary32 0x0) ∷ (ofBits binary32 0x0) ∷ (ofBits binary32 0x0) ∷ (ofBits binary32 0x0) ∷ (ofBits binary32 0x0) ∷ []); pastOut = ((ofBits binary32 0x0) ∷ (ofBits binary32 0x0) ∷ (ofBits binary32 0x0) ∷ (ofBits binary32 0x0) ∷ (ofBits binary32 0x0) ∷ []); expectedOut = ((ofBits binary32 0x0) ∷ (ofBits binary32 0x0) ∷ []) }) ∷
     learnt (record { written = true; anomaly = none; deviationsOut = ((ofBits binary32 0x0) ∷ (ofBits binary32 0x34dfe897) ∷ (ofBits binary32 0x0) ∷ []); pastOut = ((ofBits binary32 0x0) ∷ (ofBits binary32 0x0) ∷ []); expectedOut = ((ofBits binary32 0x0) ∷ (ofBits binary32 0x0) ∷ (ofBits binary32 0x0) ∷ []) }) ∷ [])
 unfolding trace·all
 answers19 = refl
