@@ -61,7 +61,7 @@ pub(crate) fn feed_reading(
     update_channels(u, s, input, before);
     let x = numeric::u64_to_f64(timestamp);
     let dx = numeric::u64_to_f64(since(timestamp, previous));
-    feed_at(s, 5 * d, decay, count, x, dx);
+    feed_at(s, 5 * d, 1, decay, count, x, dx);
 }
 
 // The place of the reading before the one at i; the first stands before itself.

@@ -1,5 +1,5 @@
-// The five time statistics, a lent list of records that is updated in one pass (the source's update_timestamps). The borrow checker covers no
-// function over a lent list of records: the two that hold one are proved by hand, and callers use `feed_at`, whose parameters are plain.
+// The five time statistics, a lent list of records that is updated in one pass (the source's update_timestamps); a channel's five go the same way. The borrow
+// checker covers no function over a lent list of records: the two that hold one are proved by hand, and callers use `feed_at`, whose parameters are plain.
 use crate::transformer::Deviations;
 use crate::transformer::deviations_at;
 use crate::transformer::feed;
@@ -75,15 +75,15 @@ fn gather(deviations: [Deviation; 5]) -> Deviations
     }
 }
 
-// Feeds the five at the places b to b + 4 of the lent numbers: what every path that feeds time calls.
-pub(crate) fn feed_at(s: &mut [f64], b: usize, decay: f64, count: u64, x: f64, dx: f64)
-    requires { ⌜ 3 * (b + 4) + 3 ≤ length (now s) ⌝ }
+// Feeds the five at the places b, b + w and so on of the lent numbers: what every path that feeds statistics calls.
+pub(crate) fn feed_at(s: &mut [f64], b: usize, w: usize, decay: f64, count: u64, x: f64, dx: f64)
+    requires { ⌜ 3 * (b + 4 * w) + 3 ≤ length (now s) ⌝ }
     requires { ⌜ count < countLimit ⌝ }
-    ensures { λ _. ⌜ now (s .exit) ≡ fedAt (now (s .entry)) b 1 decay count x dx ⌝ }
+    ensures { λ _. ⌜ now (s .exit) ≡ fedAt (now (s .entry)) b w decay count x dx ⌝ }
 {
-    let t = deviations_at(s, b, 1, decay, count);
+    let t = deviations_at(s, b, w, decay, count);
     let l = list(t);
     let u = feed_timestamps(l, x, dx);
     let v = gather(u);
-    put_deviations(s, b, 1, v);
+    put_deviations(s, b, w, v);
 }

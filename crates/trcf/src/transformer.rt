@@ -1,4 +1,5 @@
 // The transform of a reading, channel by channel (the source's trcf/transformer.rs). The statistics lie in a lent list, three numbers each.
+use crate::timestamps::feed_at;
 use crate::types::TransformMethod;
 use crate::types::is_centring;
 use crate::types::is_differencing;
@@ -23,7 +24,7 @@ ghost use Rattle.common.specs.Deviation.{zero64, one64, countLimit, outsideUnit
 ghost use Rattle.common.specs.RangeVector.{ranges, outcome, unblocked, cascadeTo};
 ghost use Rattle.trcf.specs.Types.{isNone, normalizes, differences, centres};
 ghost use Rattle.trcf.specs.Settings.{allOne};
-ghost use Rattle.trcf.specs.Transformer.{zero32, statisticAt, putStatistic, deviationsAt, putDeviations, fed, fedAt, updated};
+ghost use Rattle.trcf.specs.Transformer.{zero32, statisticAt, putStatistic, deviationsAt, putDeviations, fed, updated};
 ghost use Rattle.trcf.specs.Transformer.{meanAt, weightAt, normalizedScale, transformBy, transformed, unweighted, invertBy, inverted};
 ghost use Rattle.trcf.specs.Transformer.{reciprocal, scaledIf, shiftedIf, forecastTo, invertedForecast, scales, shifts, differenceDeviations};
 ghost use Rattle.trcf.specs.Forecast.{plain, inversionOf, forecastBy, channelTo};
@@ -147,17 +148,6 @@ pub(crate) fn feed(t: Deviations, x: f64, dx: f64) -> Deviations
         difference_mean: difference_mean,
         difference_deviation: difference_deviation,
     }
-}
-
-// Feeds the five statistics at the places b, b + w and so on.
-fn feed_at(s: &mut [f64], b: usize, w: usize, decay: f64, count: u64, x: f64, dx: f64)
-    requires { ⌜ 3 * (b + 4 * w) + 3 ≤ length (now s) ⌝ }
-    requires { ⌜ count < countLimit ⌝ }
-    ensures { λ _. ⌜ now (s .exit) ≡ fedAt (now (s .entry)) b w decay count x dx ⌝ }
-{
-    let t = deviations_at(s, b, w, decay, count);
-    let u = feed(t, x, dx);
-    put_deviations(s, b, w, u);
 }
 
 // Each channel's five statistics are fed its reading and its difference from the one before.
