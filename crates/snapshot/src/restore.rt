@@ -17,17 +17,13 @@ use trcf::transformer::WeightedTransformer;
 use trcf::types::ForestMode;
 use trcf::types::TransformMethod;
 ghost use mathlib.Core.Path.{_≡_};
-ghost use mathlib.Core.Bool.{_&&_, _||_, not, cond};
-ghost use Prim.Native.Nat.{_+_, _*_, _≤_, _<_};
-ghost use lib.Dec.{eqb};
-ghost use lib.ListN.{length, take, drop};
-ghost use Rattle.trcf.specs.Types.{normalizes};
-ghost use Rattle.trcf.specs.View.{lent, settingsOf, noHead, counting, laid, lentShort};
+ghost use Prim.Native.Nat.{_+_, _*_, _≤_};
+ghost use lib.ListN.{length, drop};
+ghost use Rattle.trcf.specs.View.{lent, settingsOf, noHead, counting, lentShort};
 ghost use Rattle.trcf.specs.Settings.{dimension};
-ghost use Rattle.snapshot.specs.Read.{mayStand, withWeights};
 ghost use Rattle.snapshot.specs.Judge.{countsRead, settingsTold};
 ghost use Rattle.snapshot.specs.Restore.{outcome, restoreOf};
-ghost use Rattle.snapshot.specs.Runs.{Fills, Room, FillsOver, told, mapRan, headRead, headOf, headWith, headBy, HeadFew, countsIn, expected, lined, unkept, parts, initial, body, partsOf, bodyBy, Good, filledBy, stateFrom, summed};
+ghost use Rattle.snapshot.specs.Runs.{Fills, Room, FillsOver, told, mapRan, headOf, headWith, headBy, HeadFew, countsIn, expected, lined, unkept, parts, initial, body, partsOf, bodyBy, Good, filledBy, summed};
 
 // The first bad line of the first three or 0, the place behind them, and the head that they give, with no initial values yet.
 pub(crate) struct Header {

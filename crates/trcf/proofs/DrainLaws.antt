@@ -67,44 +67,58 @@ feed-again s d v ts i c st st′ h e =
     ∙ ap (λ (n : ℕ). feedAll s (c + (i + 1)) st′ (readingAt d v ts n) (left d v ts (suc i))) b
     ∙ ap (λ (n : ℕ). feedAll s (c + (i + 1)) st′ (readingAt d v ts (i + 1 - 1)) (left d v ts n)) k
 
+-- a pass over the first k ends with what was to be fed, wherever it began, where these are all of them
+pub feed-rest : (s : Settings) (d : ℕ) (v : List Float) (ts : List ℕ) (k i c : ℕ) (st st′ f : List Float)
+    → feedAll s (c + i) st (readingAt d v ts (i - 1)) (left d v ts i) ≡ f
+    → st′ ≡ feedAll s (c + i) st (readingAt d v (take k ts) (i - 1)) (left d v (take k ts) i)
+    → take k ts ≡ ts
+    → st′ ≡ f
+feed-rest s d v ts k i c st st′ f e h all = h ∙ ap (λ (q : List ℕ). feedAll s (c + i) st (readingAt d v q (i - 1)) (left d v q i)) all ∙ e
+
+-- with all of them fed nothing is left to feed
+pub feed-none : (s : Settings) (d : ℕ) (v : List Float) (ts : List ℕ) (c : ℕ) (st : List Float)
+    → feedAll s (c + length ts) st (readingAt d v ts (length ts - 1)) (left d v ts (length ts)) ≡ st
+feed-none s d v ts c st = ap (feedAll s (c + length ts) st (readingAt d v ts (length ts - 1))) (left-none d v ts (length ts) (le-refl (length ts)))
+
 drained-turn : (h : Preprocessor) (n : ℕ) (s x p : List Float) (ts : List ℕ) (m : ℕ) (r : Reading)
     → drainOne (shingling h n s x p ts m) r
     ≡ shingling h n s (shiftIn x (r .value)) (shiftIn p (transformedAfter (settingsOf h) s (h .«values_seen») (previous (holding h s x ts)) r)) (shiftIn ts (r .time ∷ [])) (suc m)
 unfolding drainOne previous
 drained-turn h n s x p ts m r = refl
 
-pub drain-again : (h : Preprocessor) (n : ℕ) (s x p : List Float) (ts : List ℕ) (x′ p′ : List Float) (ts′ : List ℕ) (d : ℕ) (v : List Float) (us : List ℕ) (i m : ℕ) → i < length us
+pub drain-again : (h : Preprocessor) (n : ℕ) (s x p : List Float) (ts : List ℕ) (s′ x′ p′ : List Float) (ts′ : List ℕ) (d : ℕ) (v : List Float) (us : List ℕ) (i m : ℕ) → i < length us
+    → s′ ≡ s
     → x′ ≡ shiftIn x (readingAt d v us i .value)
-    → p′ ≡ shiftIn p (transformedAfter (settingsOf h) s (h .«values_seen») (previous (holding h s x ts)) (readingAt d v us i))
+    → p′ ≡ shiftIn p (transformedAfter (settingsOf h) s′ (h .«values_seen») (previous (holding h s′ x ts)) (readingAt d v us i))
     → ts′ ≡ shiftIn ts (getD us i 0 ∷ [])
     → drainEach (shingling h n s x p ts (m + i)) (left d v us i) ≡ drainEach (shingling h n s x′ p′ ts′ (m + (i + 1))) (left d v us (i + 1))
-drain-again h n s x p ts x′ p′ ts′ d v us i m k ex ep et =
+drain-again h n s x p ts s′ x′ p′ ts′ d v us i m k es ex ep et =
     let a : suc (m + i) ≡ m + (i + 1) = omega arith in
     let b : suc i ≡ i + 1 = omega arith in
+    let f : p′ ≡ shiftIn p (transformedAfter (settingsOf h) s (h .«values_seen») (previous (holding h s x ts)) (readingAt d v us i)) = ep ∙ ap (λ (q : List Float). shiftIn p (transformedAfter (settingsOf h) q (h .«values_seen») (previous (holding h q x ts)) (readingAt d v us i))) es in
     drain-more (settingsOf h) d v us i k (shingling h n s x p ts (m + i))
     ∙ ap (λ (w : State). drainEach w (left d v us (suc i))) (drained-turn h n s x p ts (m + i) (readingAt d v us i))
-    ∙ (λ j. drainEach (shingling h n s (sym ex j) (sym ep j) (sym et j) (a j)) (left d v us (b j)))
+    ∙ (λ j. drainEach (shingling h n s (sym ex j) (sym f j) (sym et j) (a j)) (left d v us (b j)))
 
 -- ---- both passes
 
 first-value : (d : ℕ) (v : List Float) → take d v ≡ take d (drop (0 * d) v)
 first-value d v = ap (λ (k : ℕ). take d (drop k v)) (sym (zero-mul d))
 
-pub drain-both : (h : Preprocessor) (s x p : List Float) (ts : List ℕ) (m : ℕ) (s′ x′ : List Float) (ts′ : List ℕ) (v : List Float) (us : List ℕ) → 0 < length us
-    → s′ ≡ feedAll (settingsOf h) (h .transformer .count) s (readingAt (h .transformer .«input_length») v us 0) (blocks (h .transformer .«input_length») v us)
+pub drain-both : (h : Preprocessor) (s x p : List Float) (ts : List ℕ) (m : ℕ) (x′ : List Float) (ts′ : List ℕ) (v : List Float) (us : List ℕ) → 0 < length us
     → x′ ≡ overwrite x (take (h .transformer .«input_length») v)
     → ts′ ≡ overwrite ts (getD us 0 0 ∷ [])
-    → drainEach (shingling h (h .transformer .count + length us) s′ x′ p ts′ m) (blocks (h .transformer .«input_length») v us)
+    → drainEach (shingling h (h .transformer .count + length us) (feedAll (settingsOf h) (h .transformer .count) s (readingAt (h .transformer .«input_length») v us 0) (blocks (h .transformer .«input_length») v us)) x′ p ts′ m) (blocks (h .transformer .«input_length») v us)
     ≡ drainAll (shingling h (h .transformer .count) s x p ts m) (blocks (h .transformer .«input_length») v us)
 unfolding primed drainAll
-drain-both h s x p ts m s′ x′ ts′ v us k es ex et =
+drain-both h s x p ts m x′ ts′ v us k ex et =
     let d = h .transformer .«input_length» in
     let c = h .transformer .count in
     let w = shingling h c s x p ts m in
     let b = first-of d v us k in
     let r = readingAt d v us 0 in
     let e : c + length us ≡ c + length (blocks d v us) = omega (arith, blocks-length d v us) in
-    (λ j. drainEach (shingling h (e j) (es j) ((ex ∙ ap (overwrite x) (first-value d v)) j) p (et j) m) (blocks d v us))
+    (λ j. drainEach (shingling h (e j) (feedAll (settingsOf h) c s r (blocks d v us)) ((ex ∙ ap (overwrite x) (first-value d v)) j) p (et j) m) (blocks d v us))
     ∙ ap (λ (q : List Reading). drainEach (primed w r q) q) b
     ∙ ap (drainAll w) (sym b)
 
@@ -129,6 +143,12 @@ transformedAfter-length s st seen p r =
 
 pub block-in : (i n d : ℕ) → i < n → i * d + d ≤ n * d
 block-in i n d h = rw (← suc-mul i d) (mul-le-mul h (le-refl d))
+
+-- the first j of the readings lie in the flat list
+pub flat-part : (j n d m : ℕ) → m ≡ n * d → j ≤ n → j * d ≤ m
+flat-part j n d m e h =
+    let p : j * d ≤ n * d = mul-le-mul h (le-refl d) in
+    omega (arith, e)
 
 -- a block of the flat list, as the program cuts it
 pub block-cut : (i d : ℕ) (v : List Float) → take (i * d + d - i * d) (drop (i * d) v) ≡ take d (drop (i * d) v)

@@ -14,7 +14,7 @@ ghost use mathlib.Core.Path.{_≡_};
 ghost use mathlib.Core.Bool.{false, _&&_};
 ghost use mathlib.Core.List.{[], _∷_};
 ghost use Prim.Native.Nat.{_+_, _-_, _*_, _≤_, _<_};
-ghost use lib.ListN.{length, getD};
+ghost use lib.ListN.{length, getD, drop};
 ghost use Rattle.common.specs.Deviation.{countLimit};
 ghost use Rattle.trcf.specs.Lists.{shiftIn};
 ghost use Rattle.trcf.specs.Settings.{dimension};
@@ -75,7 +75,7 @@ fn feed_turn(head: Preprocessor, s: &mut [f64], values: &[f32], stamps: &[u64], 
     requires { ⌜ Bounded (settingsOf head) ⌝ }
     requires { ⌜ length (now s) ≡ statisticsLength (settingsOf head) ⌝ }
     requires { ⌜ head .transformer .count + length (now stamps) ≤ countLimit ⌝ }
-    requires { ⌜ length (now values) ≡ length (now stamps) * head .transformer .«input_length» ⌝ }
+    requires { ⌜ length (now stamps) * head .transformer .«input_length» ≤ length (now values) ⌝ }
     requires { ⌜ i < length (now stamps) ⌝ }
     ensures { λ _. ⌜ now (s .exit) ≡ feed (settingsOf head) (head .transformer .count + i) (now (s .entry)) (readingAt (head .transformer .«input_length») (now (values .entry)) (now (stamps .entry)) (i - 1)) (readingAt (head .transformer .«input_length») (now (values .entry)) (now (stamps .entry)) i) ⌝ }
 {
@@ -94,15 +94,15 @@ fn feed_turn(head: Preprocessor, s: &mut [f64], values: &[f32], stamps: &[u64], 
     );
 }
 
-// The first pass: each is fed after the one before it.
-fn feed_initial(head: Preprocessor, s: &mut [f64], values: &[f32], stamps: &[u64])
+// The first pass, from a place on: each is fed after the one before it.
+fn feed_initial(head: Preprocessor, s: &mut [f64], values: &[f32], stamps: &[u64], from: usize)
     requires { ⌜ Bounded (settingsOf head) ⌝ }
     requires { ⌜ length (now s) ≡ statisticsLength (settingsOf head) ⌝ }
     requires { ⌜ head .transformer .count + length (now stamps) ≤ countLimit ⌝ }
-    requires { ⌜ length (now values) ≡ length (now stamps) * head .transformer .«input_length» ⌝ }
-    ensures { λ _. ⌜ now (s .exit) ≡ feedAll (settingsOf head) (head .transformer .count) (now (s .entry)) (readingAt (head .transformer .«input_length») (now (values .entry)) (now (stamps .entry)) 0) (blocks (head .transformer .«input_length») (now (values .entry)) (now (stamps .entry))) ⌝ }
+    requires { ⌜ length (now stamps) * head .transformer .«input_length» ≤ length (now values) ⌝ }
+    ensures { λ _. ⌜ now (s .exit) ≡ feedAll (settingsOf head) (head .transformer .count + from) (now (s .entry)) (readingAt (head .transformer .«input_length») (now (values .entry)) (now (stamps .entry)) (from - 1)) (blocks (head .transformer .«input_length») (drop (from * head .transformer .«input_length») (now (values .entry))) (drop from (now (stamps .entry)))) ⌝ }
 {
-    let mut fed = 0;
+    let mut fed = from;
     while fed < stamps.len() {
         feed_turn(head, s, values, stamps, fed);
         fed += 1;
@@ -141,10 +141,10 @@ fn drain_turn(
     shift_time(times, y);
 }
 
-// The second pass, with all of them fed.
+// Both passes; the second begins when all of them are fed.
 fn drain_each(
     head: Preprocessor,
-    s: &[f64],
+    s: &mut [f64],
     inputs: &mut [f32],
     points: &mut [f32],
     times: &mut [u64],
@@ -155,17 +155,25 @@ fn drain_each(
     requires { ⌜ Exact (settingsOf head) (length (now s)) (length (now inputs)) (length (now times)) ⌝ }
     requires { ⌜ length (now points) ≡ dimension (settingsOf head) ⌝ }
     requires { ⌜ length (now values) ≡ length (now stamps) * head .transformer .«input_length» ⌝ }
-    ensures { λ _. ⌜ shingling head (head .transformer .count + length (now (stamps .entry))) (now (s .entry)) (now (inputs .exit)) (now (points .exit)) (now (times .exit)) (head .«internal_timestamp» + length (now (stamps .entry)))
-        ≡ drainEach (shingling head (head .transformer .count + length (now (stamps .entry))) (now (s .entry)) (now (inputs .entry)) (now (points .entry)) (now (times .entry)) (head .«internal_timestamp»)) (blocks (head .transformer .«input_length») (now (values .entry)) (now (stamps .entry))) ⌝ }
+    requires { ⌜ head .transformer .count + length (now stamps) ≤ countLimit ⌝ }
+    requires { ⌜ 0 < length (now stamps) ⌝ }
+    ensures { λ _. ⌜ shingling head (head .transformer .count + length (now (stamps .entry))) (now (s .exit)) (now (inputs .exit)) (now (points .exit)) (now (times .exit)) (head .«internal_timestamp» + length (now (stamps .entry)))
+        ≡ drainEach (shingling head (head .transformer .count + length (now (stamps .entry))) (feedAll (settingsOf head) (head .transformer .count) (now (s .entry)) (readingAt (head .transformer .«input_length») (now (values .entry)) (now (stamps .entry)) 0) (blocks (head .transformer .«input_length») (now (values .entry)) (now (stamps .entry)))) (now (inputs .entry)) (now (points .entry)) (now (times .entry)) (head .«internal_timestamp»)) (blocks (head .transformer .«input_length») (now (values .entry)) (now (stamps .entry))) ⌝ }
 {
+    let n = stamps.len();
+    let mut fed = 0;
     let mut i = 0;
-    while i < stamps.len() {
+    while i < n {
+        let next = i + 1;
+        // The first turn feeds all of them, before any comes into the shingles; the later ones find none left.
+        feed_initial(head, s, values, &stamps[..n], fed);
+        fed = n;
         drain_turn(head, s, inputs, points, times, values, stamps, i);
-        i += 1;
+        i = next;
     }
 }
 
-// Both passes.
+// The first stands before itself, and then both passes.
 pub(crate) fn drain_all(
     head: Preprocessor,
     s: &mut [f64],
@@ -188,7 +196,6 @@ pub(crate) fn drain_all(
     let d = t.input_length;
     let n = inputs.len();
     let k = times.len();
-    feed_initial(head, s, values, stamps);
     copy_in(inputs, n - d, &values[..d]);
     times[k - 1] = stamps[0];
     drain_each(head, s, inputs, points, times, values, stamps);

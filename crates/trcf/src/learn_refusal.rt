@@ -11,10 +11,12 @@ use crate::shingle::last_of;
 use common::deviation::COUNT_LIMIT;
 ghost use mathlib.Core.Path.{_≡_};
 ghost use mathlib.Core.Bool.{cond, not, _&&_, _||_};
+ghost use mathlib.Core.List.{[], _∷_};
 ghost use lib.Dec.{ltb, leb, eqb};
 ghost use lib.Ieee.{lt};
 ghost use lib.ListN.{length, take};
 ghost use Rattle.common.specs.Deviation.{countLimit};
+ghost use Rattle.common.specs.Refusal.{firstOf};
 ghost use Rattle.trcf.specs.Lists.{lastOr};
 ghost use Rattle.trcf.specs.Transformer.{zero32};
 ghost use Rattle.trcf.specs.Calls.{seenLimit, postProcess};
@@ -44,6 +46,19 @@ fn newest_of(head: Preprocessor, previous_timestamps: &[u64], initial_timestamps
     last_of(previous_timestamps, k)
 }
 
+// The first of two rows whose test holds, 0 where neither does.
+fn first_row(a: bool, row_a: u64, b: bool, row_b: u64) -> u64
+    ensures { λ r. ⌜ r ≡ firstOf ((a, «row_a») ∷ (b, «row_b») ∷ []) ⌝ }
+{
+    if a {
+        return row_a;
+    }
+    if b {
+        return row_b;
+    }
+    0
+}
+
 // Rows 10 to 12.
 fn input_row(
     head: Preprocessor,
@@ -60,15 +75,10 @@ fn input_row(
     if input.len() != d {
         return 10;
     }
-    let finite = all_finite(input);
+    let unfit = !all_finite(input);
     let newest = newest_of(head, previous_timestamps, initial_timestamps);
-    if !finite {
-        return 11;
-    }
-    if timestamp < newest {
-        return 12;
-    }
-    0
+    let falling = timestamp < newest;
+    first_row(unfit, 11, falling, 12)
 }
 
 // Whether a list is given and not n long.

@@ -16,19 +16,14 @@ all-finite-requires c κs = tt
 newest-of-requires : tie.Need-newest-of-requires
 newest-of-requires c κs = tt
 
+first-row-requires : tie.Need-first-row-requires
+first-row-requires c κs = tt
+
 returns-2 : tie.Need-returns-2
 unfolding inputRow
-returns-2 c = (rw (eq-eqb _ _ (c .before .before .before .if1 .left), sym (c .before .before .all-finite .ensures) ∙ not-true _ (c .if2 .taken)), λ e. absurd (omega (arith, e)))
-
-returns-3 : tie.Need-returns-3
-unfolding inputRow
-returns-3 c = (rw (eq-eqb _ _ (c .before .before .before .before .if1 .left), sym (c .before .before .before .all-finite .ensures) ∙ not-false _ (c .before .if2 .left), ← c .before .before .newest-of .ensures, lt-ltb _ _ (c .if3 .taken)), λ e. absurd (omega (arith, e)))
-
-returns-4 : tie.Need-returns-4
-unfolding inputRow
-returns-4 c = (rw (eq-eqb _ _ (c .before .before .before .before .if1 .left), sym (c .before .before .before .all-finite .ensures) ∙ not-false _ (c .before .if2 .left), ← c .before .before .newest-of .ensures, le-ltb _ _ (c .if3 .left)), λ e. c .before .before .before .before .if1 .left)
+returns-2 c =
+    let e = c .before .before .before .if1 .left in
+    (rw (eq-eqb _ _ e, ← c .before .before .all-finite .ensures, ← c .before .newest-of .ensures) (c .first-row .ensures), λ _. e)
 
 pub input-row-spec : {M : Type 1} → statement M
-input-row-spec =
-    tie.close
-    (tie.spec returns all-finite-requires newest-of-requires returns-2 returns-3 returns-4)
+input-row-spec = tie.close (tie.spec returns all-finite-requires newest-of-requires first-row-requires returns-2)
