@@ -1,10 +1,10 @@
--- The head in words: what is written is read back, the row of words, and the settings' row from `build`. Assumes nothing.
-use Prim.Native.Nat.{ℕ, zero, suc, _+_, _*_, _≤_, _<_}
-use mathlib.Core.Bool.{Bool, true, false, cond, not, _&&_, _||_}
+-- The head in words: what is written is read back, the row of words, and the settings' row. Assumes nothing.
+use Prim.Native.Nat.{ℕ, suc, _+_, _≤_, _<_}
+use mathlib.Core.Bool.{Bool, false, cond, not, _||_}
 use mathlib.Core.List.{List, [], _∷_, _++_, map}
 use mathlib.Core.Path.{_≡_, refl, sym, ap, _∙_}
 use native.Mathlib.Omega.{arith}
-use lib.Dec.{ltb, leb, eqb}
+use lib.Dec.{ltb}
 use lib.ListN.{length, take, drop, getD, set, length-drop, length-append, length-map}
 use lib.Seq.{take-all, take-at, drop-drop}
 use lib.Ieee.{Float, binary32, binary64, ofBits, toBits}
@@ -12,12 +12,9 @@ use lib.Ieee.Bits.{ofBits-toBits}
 use borrow.Author.Tests.{lt-ltb, le-ltb}
 use borrow.Rule.Slice.PartMut.{putMid}
 use Rattle.common.specs.Lent.{over}
-use Rattle.common.specs.Deviation.{outsideUnit}
-use Rattle.common.specs.Refusal.{firstOf}
-use Rattle.trcf.specs.Types.{methodNumber, isNone}
-use Rattle.trcf.specs.Settings.{Settings, settingsRow, imputes, allOne}
-use Rattle.trcf.specs.Preprocessor.{accepted, fresh}
-use Rattle.trcf.specs.View.{Lent, Outcome, outcome, settingsOf, headFrom, noHead, laid, misfit, shortRow, lentShort, lentRow, orElse, buildRow, buildOf, counting}
+use Rattle.trcf.specs.Types.{methodNumber}
+use Rattle.trcf.specs.Settings.{Settings, settingsRow}
+use Rattle.trcf.specs.View.{settingsOf, orElse, counting}
 use Rattle.trcf.specs.declared.types.TransformMethod.{TransformMethod}
 use Rattle.trcf.specs.declared.types.TransformMethod.the-variants.{NONE, WEIGHTED, DIFFERENCE, «SUBTRACT_MA», NORMALIZE, «NORMALIZE_DIFFERENCE»}
 use Rattle.trcf.specs.declared.types.ForestMode.{ForestMode}
@@ -115,59 +112,7 @@ row-settings w k row h e z p q =
     ∙ sym (ap (λ (m : ℕ). orElse m r) (sym e ∙ z))
     ∙ sym (ap (λ (m : ℕ). orElse m (orElse (kindRow (getD w 0 0) (getD w 1 0)) r)) (long w h))
 
--- ---- the settings' row, from a `build` with too little memory
-
-same : (b : Bool) → _≡_ {A = ℕ} (cond b 20 20) 20
-same true = refl
-same false = refl
-
-short-20 : (s : Settings) (l : Lent) → length (l .statistics) ≡ 1 → lentRow (headFrom s) l ≡ 20
-unfolding lentRow shortRow lentShort
-short-20 s l e = rw (e, lt-ltb 1 (3 * (5 * s .d + 5)) (omega arith)) (same (misfit (headFrom s)))
-
-row-of : (n : ℕ) (a : Preprocessor) (m : Lent) (b : Preprocessor) (l : Lent) → accepted n (outcome 0 a m) (outcome n b l) .row ≡ n
-row-of zero a m b l = refl
-row-of (suc n) a m b l = refl
-
-pub asked : (s : Settings) (l : Lent) {row : ℕ} {h : Preprocessor} {m : Lent} → outcome row h m ≡ buildOf s l → length (l .statistics) ≡ 1 → row ≡ orElse (settingsRow s) 20
-unfolding buildOf buildRow
-asked s l e k =
-    ap (λ (o : Outcome). o .row) e
-    ∙ row-of (orElse (settingsRow s) (lentRow (headFrom s) l)) (headFrom s) (laid (fresh s) l) noHead l
-    ∙ ap (orElse (settingsRow s)) (short-20 s l k)
-
-below : (b : Bool) (a r n : ℕ) → a ≤ n → r ≤ n → cond b a r ≤ n
-below true a r n h k = h
-below false a r n h k = k
-
-few-of : (a b c d e f g h i : Bool) → firstOf ((a, 1) ∷ (b, 2) ∷ (c, 3) ∷ (d, 4) ∷ (e, 5) ∷ (f, 6) ∷ (g, 7) ∷ (h, 8) ∷ (i, 9) ∷ []) ≤ 9
-few-of a b c d e f g h i =
-    below a 1 _ 9 (omega arith)
-    (below b 2 _ 9 (omega arith)
-    (below c 3 _ 9 (omega arith)
-    (below d 4 _ 9 (omega arith)
-    (below e 5 _ 9 (omega arith)
-    (below f 6 _ 9 (omega arith) (below g 7 _ 9 (omega arith) (below h 8 _ 9 (omega arith) (below i 9 0 9 (omega arith) (omega arith)))))))))
-
-few : (s : Settings) → settingsRow s ≤ 9
-unfolding settingsRow
-few s =
-    few-of (imputes (s .mode)) (eqb (s .d) 0) (eqb (s .k) 0) (ltb 16 (s .d) || ltb 64 (s .k)) (not (eqb (length (s .weights)) (s .d))) (outsideUnit (s .decay))
-    (ltb (s .stop) (s .start)) (leb 2000 (s .start)) (isNone (s .method) && not (allOne (s .weights)))
-
-no-row : (m row : ℕ) → m ≤ 9 → row ≡ orElse m 20 → row ≡ 20 → 0 ≡ m
-no-row zero row h e z = refl
-no-row (suc m) row h e z = absurd (omega (arith, h, sym e ∙ z))
-
-pub asked-none : (s : Settings) (row : ℕ) → row ≡ orElse (settingsRow s) 20 → row ≡ 20 → 0 ≡ settingsRow s
-asked-none s row e z = no-row (settingsRow s) row (few s) e z
-
-a-row : (m row : ℕ) → row ≡ orElse m 20 → (row ≡ 20 → ⊥) → row ≡ m
-a-row zero row e n = absurd (n e)
-a-row (suc m) row e n = e
-
-pub asked-row : (s : Settings) (row : ℕ) → row ≡ orElse (settingsRow s) 20 → (row ≡ 20 → ⊥) → row ≡ settingsRow s
-asked-row s row e n = a-row (settingsRow s) row e n
+-- ---- the settings' row
 
 -- the settings of a head with its weights handed beside it
 abbrev pub settingsBy : Preprocessor → List Float → Settings

@@ -10,7 +10,7 @@ use crate::words::single_bits;
 use crate::words::single_of;
 use trcf::preprocessor::Preprocessor;
 use trcf::preprocessor::PreprocessorBuilder;
-use trcf::preprocessor::build;
+use trcf::refusal::settings_row;
 use trcf::transformer::WeightedTransformer;
 use trcf::types::ForestMode;
 use trcf::types::TransformMethod;
@@ -23,7 +23,7 @@ ghost use lib.Ieee.{Float, binary32, toBits};
 ghost use Rattle.common.specs.Lent.{over};
 ghost use Rattle.trcf.specs.Settings.{settingsRow};
 ghost use Rattle.trcf.specs.Preprocessor.{accepted};
-ghost use Rattle.trcf.specs.View.{settingsFrom, settingsOf};
+ghost use Rattle.trcf.specs.View.{settingsOf};
 ghost use Rattle.capi.specs.Head.{single, headOf, numbersOf, wordsOf, countsOver, wordsRow, Read};
 
 fn weights_of(words: &[u64]) -> [f32; 16]
@@ -73,33 +73,6 @@ fn head_of(words: &[u64]) -> Preprocessor
 }
 
 // ---- the row of words
-
-// The row that `build` gives for settings. It is asked with too little memory, so that row 20 is what it gives for settings that no row refuses.
-pub(crate) fn settings_row(builder: PreprocessorBuilder, weights: &[f32]) -> u64
-    ensures { λ r. ⌜ r ≡ settingsRow (settingsFrom builder (now (weights .entry))) ⌝ }
-{
-    let mut statistics = [0.0f64; 1];
-    let mut input = [0.0f32; 1];
-    let mut point = [0.0f32; 1];
-    let mut times = [0u64; 1];
-    let values = [0.0f32; 1];
-    let initial = [0u64; 1];
-    let r = build(
-        builder,
-        weights,
-        &mut statistics,
-        &mut input,
-        &mut point,
-        &mut times,
-        &values,
-        &initial,
-    );
-    let row = r.row;
-    if row == 20 {
-        return 0;
-    }
-    row
-}
 
 // How many of 16 weights are in use.
 fn used(d: usize) -> usize

@@ -5,7 +5,7 @@ mod learn_refusal;
 mod learning;
 mod output;
 pub mod preprocessor;
-mod refusal;
+pub mod refusal;
 mod shingle;
 mod time;
 mod timestamps;

@@ -59,8 +59,8 @@ fn is_unused(m: TransformMethod, weights: &[f32]) -> bool
     if is_none(m) { !all_one(weights) } else { false }
 }
 
-// Rows 1 to 9.
-pub(crate) fn settings_row(b: PreprocessorBuilder, weights: &[f32]) -> u64
+// Rows 1 to 9, also of a head that comes from outside.
+pub fn settings_row(b: PreprocessorBuilder, weights: &[f32]) -> u64
     ensures { λ r. ⌜ r ≡ settingsRow (settingsFrom b (now (weights .entry))) ⌝ }
     ensures { λ r. ⌜ (r ≡ 0 → Accepted (settingsFrom b (now (weights .entry)))) ⌝ }
 {

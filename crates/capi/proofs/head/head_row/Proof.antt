@@ -25,7 +25,7 @@ settings-row-requires c κs = search needs
 returns : tie.Need-returns
 returns c =
     let a = c .before .before .before .before .before .args in
-    let w = a .head .transformer .weights in let z : length w ≡ 16 = sixteen w (c .before .before .before .before .before .good .0 .1 .1 .0 .1 .1 .1 .1 .1 .0 .1 .0 .1) in c .settings-row .ensures ∙ settings-by (a .head) (take (c .before .before .used .result) w) (c .before .before .used .ensures .1 w z)
+    let w = a .head .transformer .weights in let z : length w ≡ 16 = sixteen w (c .before .before .before .before .before .good .0 .1 .1 .0 .1 .1 .1 .1 .1 .0 .1 .0 .1) in c .settings-row .ensures .0 ∙ settings-by (a .head) (take (c .before .before .used .result) w) (c .before .before .used .ensures .1 w z)
 
 pub head-row-spec : {M : Type 1} → statement M
 head-row-spec = tie.close (tie.spec used-requires array-share-prefix-weights slice-aggregate-settings-row settings-row-requires returns)
