@@ -33,11 +33,12 @@ fn factor(discount: f64, count: u64) -> f64
     requires { ⌜ count ≤ countLimit ⌝ }
     ensures { λ r. ⌜ r ≡ factorOf discount count ⌝ }
 {
+    // both are found before the test, so that the five statistics of one count share the division
+    let a = 1.0 - discount;
+    let b = 1.0 - 1.0 / (count + 2) as f64;
     if discount == 0.0 {
         return 1.0;
     }
-    let a = 1.0 - discount;
-    let b = 1.0 - 1.0 / (count + 2) as f64;
     if a < b { a } else { b }
 }
 

@@ -9,10 +9,6 @@ use Rattle.common.specs.Deviation.{factorOf}
 use Rattle.common.proofs.deviation.factor.Statement.{statement}
 use Rattle.common.proofs.deviation.factor.Tie as tie
 
-returns : tie.Need-returns
-unfolding factorOf
-returns c = rw (c .if1 .taken)
-
 add-b : tie.Need-add-b
 add-b c = search needs
 
@@ -24,13 +20,17 @@ counts n h = le→leb n (2 ^ 53) h
 int-to-float-b : tie.Need-int-to-float-b
 int-to-float-b c = counts _ (omega arith)
 
+returns : tie.Need-returns
+unfolding factorOf
+returns c = rw (c .if1 .taken)
+
 returns-2 : tie.Need-returns-2
 unfolding factorOf
-returns-2 c = rw (c .before .before .if1 .left, c .if2 .taken)
+returns-2 c = rw (c .before .if1 .left, c .if2 .taken)
 
 returns-3 : tie.Need-returns-3
 unfolding factorOf
-returns-3 c = rw (c .before .before .if1 .left, c .if2 .left)
+returns-3 c = rw (c .before .if1 .left, c .if2 .left)
 
 pub factor-spec : {M : Type 1} → statement M
-factor-spec = tie.close (tie.spec returns add-b int-to-float-b returns-2 returns-3)
+factor-spec = tie.close (tie.spec add-b int-to-float-b returns returns-2 returns-3)
