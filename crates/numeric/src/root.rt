@@ -131,9 +131,9 @@ fn root_counted(x: f64) -> Root
     }
 }
 
-// From a number near 1 / √(2 * h) to a nearer one.
+// From a number near 1 / √(2 * h) to a nearer one. The three products do not wait for each other, as they would in y * (1.5 - h * y * y).
 fn newton(h: f64, y: f64) -> f64 {
-    y * (1.5 - h * y * y)
+    y * 1.5 - h * y * (y * y)
 }
 
 // A number near √(m * (1 + e % 2) * 2^52), by Newton's iteration for 1 / √x from a guess by x's bits, x of 1 to 4. Nothing is said of how near.
@@ -157,17 +157,19 @@ fn guess(m: u64, e: u64) -> u64
     }
 }
 
-// What c * c leaves of n * 2^52, and 2^60 more, so that it is above zero also where c is too large; 0 where c is so far off that it would not fit. With c = a * 2^26 + l the
+// What c * c leaves of n * 2^52, and 2^60 more, so that it is above zero also where c is too large; 0 where c may not be one of the two next to the root. With c = a * 2^26 + l the
 // difference is ((n - a * a) * 2^26 - 2 * a * l) * 2^26 - l * l, and each bracket is small where c is near.
 fn remainder(n: u64, c: u64) -> u64
     requires { ⌜ n < 2 ^ 54 ⌝ }
+    requires { ⌜ 2 ^ 52 ≤ c ⌝ }
     requires { ⌜ c < 2 ^ 53 ⌝ }
-    ensures { λ r. ⌜ r < 2 ^ 62 ⌝ }
     ensures { λ r. ⌜ (0 < r → r + c * c ≡ n * 2 ^ 52 + 2 ^ 60) ⌝ }
+    ensures { λ r. ⌜ (0 < r → 2 ^ 60 + 2 < r + c * 3) ⌝ }
+    ensures { λ r. ⌜ r ≤ 2 ^ 60 + c * 3 + 2 ⌝ }
 {
     let a = c / 0x400_0000;
     let l = c % 0x400_0000;
-    // 2^30 more, which goes again with `cross`, and 2^8 more for the 2^60
+    // 2^30 more, which `cross` takes away again, and 2^8 more, which are the 2^60
     let top = n + 0x4000_0100;
     let square = a * a;
     if top < square {
@@ -183,16 +185,16 @@ fn remainder(n: u64, c: u64) -> u64
         return 0;
     }
     let v = high - cross;
-    if v < 0x400_0000 {
+    if v > 0x4_0000_0000 + a * 3 {
         return 0;
     }
-    if v >= 0x8_0000_0000 {
+    if v + a * 2 <= 0x4_0000_0000 {
         return 0;
     }
     v * 0x400_0000 - l * l
 }
 
-// The whole number nearest to √(n * 2^52), where that is c or the next to c; else 0. A number r is nearest where r * r - r < n * 2^52 <= r * r + r.
+// The whole number nearest to √(n * 2^52), which is the r with r * r - r < n * 2^52 <= r * r + r, where it is c or next to c; else 0, or that number.
 fn mended(n: u64, c: u64) -> u64
     requires { ⌜ n < 2 ^ 54 ⌝ }
     requires { ⌜ 2 ^ 52 ≤ c ⌝ }
@@ -200,7 +202,10 @@ fn mended(n: u64, c: u64) -> u64
     ensures { λ r. ⌜ (0 < r → r ≡ closest (halves (n * 2 ^ 54)) 4) ⌝ }
 {
     let w = remainder(n, c);
-    // products, and no branches, since a guess is often off by one
+    if w == 0 {
+        return 0;
+    }
+    // no branches, since a guess is often off by one
     let up = if 0x1000_0000_0000_0000 + c < w {
         1u64
     } else {
@@ -211,14 +216,7 @@ fn mended(n: u64, c: u64) -> u64
     } else {
         0u64
     };
-    let r = c + up - down;
-    let left = w + down * (c * 2 - 1) - up * (c * 2 + 1);
-    if left <= 0x1000_0000_0000_0000 + r {
-        if 0x1000_0000_0000_0000 < left + r {
-            return r;
-        }
-    }
-    0
+    c + up - down
 }
 
 // s, or the next number below it whose square is not above n.
@@ -295,9 +293,6 @@ fn rounded(m: u64, e: u64) -> u64
 pub fn sqrt(x: f64) -> f64
     ensures { λ r. ⌜ r ≡ rootOf x ⌝ }
 {
-    if x == 0.0 {
-        return x;
-    }
     if x > 0.0 {
         if x < 1.0 / 0.0 {
             let s = scale(x);
@@ -307,6 +302,9 @@ pub fn sqrt(x: f64) -> f64
             x
         }
     } else {
+        if x == 0.0 {
+            return x;
+        }
         0.0 / 0.0
     }
 }

@@ -37,7 +37,7 @@ add-top : tie.Need-add-top
 add-top c = search needs
 
 mul-square : tie.Need-mul-square
-mul-square c = let h = high-le (c .args .c) (c .pre .1) in omega arith
+mul-square c = let h = high-le (c .args .c) (c .pre .1 .1) in omega arith
 
 returns : tie.Need-returns
 returns c = search needs
@@ -49,19 +49,31 @@ mul-high : tie.Need-mul-high
 mul-high c = search needs
 
 mul-cross : tie.Need-mul-cross
-mul-cross c = let s = c .before .before in let h = cross-le (s .args .c) (s .pre .1) in omega arith
+mul-cross c = let s = c .before .before in let h = cross-le (s .args .c) (s .pre .1 .1) in omega arith
 
 mul-cross-2 : tie.Need-mul-cross-2
-mul-cross-2 c = let s = c .before .before in let h = cross-le (s .args .c) (s .pre .1) in omega arith
+mul-cross-2 c = let s = c .before .before in let h = cross-le (s .args .c) (s .pre .1 .1) in omega arith
 
 add-cross : tie.Need-add-cross
-add-cross c = let s = c .before .before in let h = cross-le (s .args .c) (s .pre .1) in omega arith
+add-cross c = let s = c .before .before in let h = cross-le (s .args .c) (s .pre .1 .1) in omega arith
 
 returns-3 : tie.Need-returns-3
 returns-3 c = search needs
 
+mul-if4 : tie.Need-mul-if4
+mul-if4 c = search needs
+
+add-if4 : tie.Need-add-if4
+add-if4 c = search needs
+
 returns-4 : tie.Need-returns-4
 returns-4 c = search needs
+
+mul-if5 : tie.Need-mul-if5
+mul-if5 c = search needs
+
+add-if5 : tie.Need-add-if5
+add-if5 c = search needs
 
 returns-5 : tie.Need-returns-5
 returns-5 c = search needs
@@ -70,21 +82,22 @@ mul-result : tie.Need-mul-result
 mul-result c = search needs
 
 mul-result-2 : tie.Need-mul-result-2
-mul-result-2 c = let s = c .before .before .before .before .before in let h = low-le (s .args .c) (s .pre .1) in omega arith
+mul-result-2 c = let s = c .before .before .before .before .before in let h = low-le (s .args .c) (s .pre .1 .1) in omega arith
 
 sub-result : tie.Need-sub-result
-sub-result c = let s = c .before .before .before .before .before in let h = low-le (s .args .c) (s .pre .1) in omega arith
+sub-result c = let s = c .before .before .before .before .before in let h = low-le (s .args .c) (s .pre .1 .1) in omega arith
 
 returns-6 : tie.Need-returns-6
 returns-6 c =
     let s = c .before .before .before .before .before in
     let n = s .args .n in
     let k = s .args .c in
-    let h = low-le k (s .pre .1) in
+    let h = low-le k (s .pre .1 .1) in
     let d = n + 0x4000_0100 - k / 2 ^ 26 * (k / 2 ^ 26) in
     let v = d * 2 ^ 26 - (k / 2 ^ 26 * (k % 2 ^ 26) * 2 + 2 ^ 56) in
-    (omega arith, λ p. identity n k (k / 2 ^ 26) (k % 2 ^ 26) d v (v * 2 ^ 26 - k % 2 ^ 26 * (k % 2 ^ 26)) (omega arith) (omega arith) (omega arith) (omega arith))
+    (λ p. identity n k (k / 2 ^ 26) (k % 2 ^ 26) d v (v * 2 ^ 26 - k % 2 ^ 26 * (k % 2 ^ 26)) (omega arith) (omega arith) (omega arith) (omega arith), (λ p. omega arith, omega arith))
 
 pub remainder-spec : {M : Type 1} → statement M
 remainder-spec =
-    tie.close (tie.spec add-top mul-square returns returns-2 mul-high mul-cross mul-cross-2 add-cross returns-3 returns-4 returns-5 mul-result mul-result-2 sub-result returns-6)
+    tie.close
+    (tie.spec add-top mul-square returns returns-2 mul-high mul-cross mul-cross-2 add-cross returns-3 mul-if4 add-if4 returns-4 mul-if5 add-if5 returns-5 mul-result mul-result-2 sub-result returns-6)

@@ -7,7 +7,7 @@ use Rattle.numeric.proofs.root.sqrt.Statement.{statement}
 use Rattle.numeric.proofs.root.sqrt.Tie as tie
 
 scale-requires : tie.Need-scale-requires
-scale-requires c κs = positive-by (c .before .before .before .args .x) (c .before .if2 .taken) (c .if3 .taken)
+scale-requires c κs = positive-by (c .before .before .args .x) (c .before .if1 .taken) (c .if2 .taken)
 
 rounded-requires : tie.Need-rounded-requires
 rounded-requires c κs = search needs
@@ -16,19 +16,17 @@ assembled-requires : tie.Need-assembled-requires
 assembled-requires c κs = search needs
 
 returns : tie.Need-returns
-returns c = root-zero (c .before .args .x) (c .if1 .taken) .0
+returns c = root-zero (c .before .before .args .x) (c .if3 .taken) .0
 
 returns-2 : tie.Need-returns-2
-returns-2 c =
-    let s = c .before .before .scale in
-    c .assembled .ensures ∙ sym (rootOf-scaled (c .before .before .before .before .before .before .args .x) (s .result .m) (s .result .e) (s .ensures))
+returns-2 c = let s = c .before .before .scale in c .assembled .ensures ∙ sym (rootOf-scaled (c .before .before .before .before .before .args .x) (s .result .m) (s .result .e) (s .ensures))
 
 returns-3 : tie.Need-returns-3
-returns-3 c = root-infinite (c .before .before .before .args .x) (c .before .if2 .taken) (c .if3 .left) .0
+returns-3 c = root-infinite (c .before .before .args .x) (c .before .if1 .taken) (c .if2 .left) .0
 
 returns-4 : tie.Need-returns-4
 unfolding div ofBits
-returns-4 c = root-none (c .before .before .args .x) (c .if2 .left) (c .before .if1 .left) .0
+returns-4 c = root-none (c .before .before .args .x) (c .before .if1 .left) (c .if3 .left) .0
 
 pub sqrt-spec : {M : Type 1} → statement M
-sqrt-spec = tie.close (tie.spec returns scale-requires rounded-requires assembled-requires returns-2 returns-3 returns-4)
+sqrt-spec = tie.close (tie.spec scale-requires rounded-requires assembled-requires returns returns-2 returns-3 returns-4)
