@@ -2,9 +2,10 @@
 use mathlib.Core.Path.{_≡_, refl, sym, ap, _∙_, subst}
 use mathlib.Core.Logic.{inl, inr}
 use Prim.Native.Nat.{ℕ, zero, suc, _+_, _-_, _*_, _/_, _%_, _^_, _≤_, _<_}
-use native.Mathlib.Nat.{add-zero, add-suc, le-trans, mul-one, mul-le-mul-right, pow-succ', le-of-eq, le-of-lt, le-antisymm, le-of-suc-le-suc, lt-of-lt-of-le, lt-of-le-of-lt, lt-of-not-le, not-le-of-lt, eq-or-lt-of-le, zero-lt-suc, mul-comm, mul-assoc, mul-left-comm, mul-pos, mul-le-mul, mul-lt-mul-of-pos-right, suc-mul, mul-suc}
+use native.Mathlib.Nat.{add-zero, add-suc, le-trans, mul-one, mul-le-mul-right, pow-succ', le-of-eq, le-of-lt, le-antisymm, le-of-suc-le-suc, lt-of-lt-of-le, lt-of-le-of-lt, lt-of-not-le, not-le-of-lt, eq-or-lt-of-le, zero-lt-suc, mul-comm, mul-assoc, mul-left-comm, mul-add, add-mul, mul-pos, mul-le-mul, mul-lt-mul-of-pos-right, suc-mul, mul-suc}
 use native.Mathlib.Numerals.{add-one}
 use native.Mathlib.Omega.{arith}
+use native.Mathlib.Decide.{decLt}
 use mathlib.Core.Bool.{Bool, true, false, not, cond}
 use lib.Dec.{T, leb, eqb, leb→le, nleb→lt, eqb→eq, not-T}
 use lib.Arith.{digits-div, digits-mod}
@@ -26,6 +27,22 @@ square-double p = let e : 2 * p * (2 * p) ≡ 2 * (2 * (p * p)) = simp (mul-asso
 
 pub square-suc : (q : ℕ) → suc q * suc q ≡ q * q + 2 * q + 1
 square-suc q = let e : suc q * suc q ≡ q * q + q + suc q = suc-mul q (suc q) ∙ ap (λ (x : ℕ). x + suc q) (mul-suc q q) in omega arith
+
+pub square-sum : (a b : ℕ) → (a + b) * (a + b) ≡ a * a + 2 * (a * b) + b * b
+square-sum a b =
+    let e : (a + b) * (a + b) ≡ a * a + a * b + (a * b + b * b) = add-mul a b (a + b) ∙ ap (λ (x : ℕ). x + b * (a + b)) (mul-add a a b) ∙ ap (λ (x : ℕ). a * a + a * b + x) (mul-add b a b ∙ ap (λ (x : ℕ). x + b * b) (mul-comm b a)) in
+    omega arith
+
+-- a number moved by one, and what its square leaves
+pub square-up : (c w k : ℕ) → w + c * c ≡ k → c * 2 + 1 ≤ w → w - (c * 2 + 1) + (c + 1) * (c + 1) ≡ k
+square-up c w k e h = let s = square-suc c in let i : (c + 1) * (c + 1) ≡ suc c * suc c = ap (λ (x : ℕ). x * x) (add-one c) in omega arith
+
+pub square-down-one : (c w k : ℕ) → w + c * c ≡ k → 0 < c → w + (c * 2 - 1) + (c - 1) * (c - 1) ≡ k
+square-down-one c w k e h =
+    let s = square-suc (c - 1) in
+    let x : c ≡ suc (c - 1) = omega arith in
+    let i : c * c ≡ suc (c - 1) * suc (c - 1) = ap (λ (y : ℕ). y * y) x in
+    omega arith
 
 pub square-back : (a b : ℕ) → a * a < b * b → a < b
 square-back a b h = lt-of-not-le (λ (g : b ≤ a). not-le-of-lt h (mul-le-mul g g))
@@ -95,6 +112,49 @@ halves-between n q l h =
 -- a root and its remainder
 pub halves-rest : (n q r : ℕ) → q * q + r ≡ n → 0 < r → r ≤ 2 * q → halves n ≡ 2 * q + 1
 halves-rest n q r e p h = let s = square-suc q in halves-between n q (omega arith) (omega arith)
+
+-- ---- the whole number nearest to √n: c * c - c < n ≤ c * c + c, since no square of a half is a whole number
+quarter-at : (x c : ℕ) → 4 * c ≤ x → x < 4 * c + 2 → closest x 4 ≡ c
+quarter-at x c l h = closest-lt x 4 (omega arith) ∙ is
+  where
+    is : x / 4 ≡ c
+    is = omega arith
+
+quarter-under : (x c : ℕ) → x + 1 ≡ 4 * c → closest x 4 ≡ c
+quarter-under x c e = closest-gt x 4 (omega arith) ∙ is
+  where
+    is : x / 4 + 1 ≡ c
+    is = omega arith
+
+pub closest-root : (n c : ℕ) → c * c < n + c → n ≤ c * c + c → closest (halves (4 * n)) 4 ≡ c
+closest-root n c a b = go (decLt n (c * c))
+  where
+    above : c * c ≤ n → closest (halves (4 * n)) 4 ≡ c
+    above l =
+        let f = square-double c in
+        elim (eq-or-lt-of-le l) [
+          | inl e ↦ let x : halves (4 * n) ≡ 2 * (2 * c) = halves-exact (4 * n) (2 * c) (f ∙ ap (λ (y : ℕ). 4 * y) e) in quarter-at (halves (4 * n)) c (omega arith) (omega arith)
+          | inr g ↦
+              let s = square-suc (2 * c) in
+              let x : halves (4 * n) ≡ 2 * (2 * c) + 1 = halves-between (4 * n) (2 * c) (omega arith) (omega arith) in
+              quarter-at (halves (4 * n)) c (omega arith) (omega arith)
+        ]
+
+    under : (p : ℕ) → c ≡ suc p → n < c * c → closest (halves (4 * n)) 4 ≡ c
+    under p e h =
+        let s = square-suc p in
+        let t = square-suc (2 * p) in
+        let d = square-double p in
+        let f = square-double c in
+        let i : c * c ≡ suc p * suc p = ap (λ (x : ℕ). x * x) e in
+        let k : suc (suc (2 * p)) ≡ 2 * c = omega arith in
+        let j : suc (suc (2 * p)) * suc (suc (2 * p)) ≡ 2 * c * (2 * c) = ap (λ (x : ℕ). x * x) k in
+        let x : halves (4 * n) ≡ 2 * suc (2 * p) + 1 = halves-between (4 * n) (suc (2 * p)) (omega arith) (omega arith) in
+        quarter-under (halves (4 * n)) c (omega arith)
+
+    go : Dec (n < c * c) → closest (halves (4 * n)) 4 ≡ c
+    go (yes h) = let p : 0 < c = square-back 0 c (omega arith) in under (c - 1) (omega arith) h
+    go (no h) = above (omega arith)
 
 -- ---- halves of n * 4 ^ t, with u for 2 ^ t
 pub square-times : (q u : ℕ) → q * u * (q * u) ≡ q * q * (u * u)

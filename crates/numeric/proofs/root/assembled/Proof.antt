@@ -1,9 +1,7 @@
--- `numeric::root::assembled` meets its contract: `rooted-pattern` at the digits that it is handed. Assumes nothing.
-use mathlib.Core.Path.{ap, _∙_}
-use Prim.Native.Nat.{ℕ, _+_, _*_, _/_, _^_}
+-- `numeric::root::assembled` meets its contract: `rooted-pattern` at the rounded digits that it is handed. Assumes nothing.
+use Prim.Native.Nat.{_+_, _*_, _/_, _^_}
 use native.Mathlib.Omega.{arith}
 use lib.Ieee.{binary64}
-use lib.Ieee.Nearest.{closest}
 use borrow.Author.Needs.{needs}
 use Rattle.numeric.specs.Root.{rooted}
 use Rattle.numeric.proofs.Pack.{Pattern}
@@ -11,13 +9,8 @@ use Rattle.numeric.proofs.Roots.{rooted-pattern}
 use Rattle.numeric.proofs.root.assembled.Statement.{statement}
 use Rattle.numeric.proofs.root.assembled.Tie as tie
 
-pattern : (c : tie.After-nearest) → Pattern binary64 (rooted (c .before .args .m * 2 ^ (c .before .args .e + 1022))) ((c .before .args .e / 2 + 485) * 2 ^ 52 + c .nearest .result)
-pattern c =
-    let a = c .before in
-    rooted-pattern (a .args .m) (a .args .e) (a .pre .0) (a .pre .1 .0) (a .pre .1 .1 .0) (c .nearest .result) (c .nearest .ensures ∙ ap (λ (x : ℕ). closest x 4) (a .pre .1 .1 .1))
-
-nearest-requires : tie.Need-nearest-requires
-nearest-requires c κs = search needs
+pattern : (c : tie.Start) → Pattern binary64 (rooted (c .args .m * 2 ^ (c .args .e + 1022))) ((c .args .e / 2 + 485) * 2 ^ 52 + c .args .low)
+pattern c = rooted-pattern (c .args .m) (c .args .e) (c .pre .0) (c .pre .1 .0) (c .pre .1 .1 .0) (c .args .low) (c .pre .1 .1 .1)
 
 add-result : tie.Need-add-result
 add-result c = search needs
@@ -35,4 +28,4 @@ returns : tie.Need-returns
 returns c = pattern c .reads
 
 pub assembled-spec : {M : Type 1} → statement M
-assembled-spec = tie.close (tie.spec nearest-requires add-result mul-result add-result-2 float-from-bits-result returns)
+assembled-spec = tie.close (tie.spec add-result mul-result add-result-2 float-from-bits-result returns)

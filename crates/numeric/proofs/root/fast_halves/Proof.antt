@@ -3,20 +3,15 @@
 use mathlib.Core.Path.{_≡_, sym, ap, subst, _∙_}
 use mathlib.Core.Logic.{_⊎_, inl, inr, ⊎-elim}
 use Prim.Native.Nat.{ℕ, suc, _+_, _-_, _*_, _/_, _%_, _^_, _≤_, _<_}
-use native.Mathlib.Nat.{lt-of-le-of-lt, le-of-suc-le-suc, mul-comm, mul-assoc, mul-left-comm, mul-right-comm, mul-add, add-mul, mul-le-mul, div-add-mod', mod-lt, div-lt-iff-lt-mul}
+use native.Mathlib.Nat.{lt-of-le-of-lt, le-of-suc-le-suc, mul-comm, mul-assoc, mul-left-comm, mul-right-comm, mul-le-mul, div-add-mod', mod-lt, div-lt-iff-lt-mul}
 use native.Mathlib.Numerals.{add-one}
 use native.Mathlib.Omega.{arith}
 use lib.Arith.{lt-of-le-ne}
 use borrow.Author.Needs.{needs}
 use Rattle.numeric.specs.Root.{halves}
-use Rattle.numeric.proofs.Squares.{square-suc, square-back, halves-exact, halves-between, halves-rest}
+use Rattle.numeric.proofs.Squares.{square-suc, square-sum, square-back, halves-exact, halves-between, halves-rest}
 use Rattle.numeric.proofs.root.fast_halves.Statement.{statement}
 use Rattle.numeric.proofs.root.fast_halves.Tie as tie
-
-expand : (a b : ℕ) → (a + b) * (a + b) ≡ a * a + 2 * (a * b) + b * b
-expand a b =
-    let e : (a + b) * (a + b) ≡ a * a + a * b + (a * b + b * b) = add-mul a b (a + b) ∙ ap (λ (x : ℕ). x + b * (a + b)) (mul-add a a b) ∙ ap (λ (x : ℕ). a * a + a * b + x) (mul-add b a b ∙ ap (λ (x : ℕ). x + b * b) (mul-comm b a)) in
-    omega arith
 
 square-shift : (s : ℕ) → s * 2 ^ 27 * (s * 2 ^ 27) ≡ s * s * 2 ^ 54
 square-shift s = mul-assoc s (2 ^ 27) (s * 2 ^ 27) ∙ ap (λ (x : ℕ). s * x) (mul-left-comm (2 ^ 27) s (2 ^ 27)) ∙ sym (mul-assoc s s (2 ^ 54))
@@ -77,7 +72,7 @@ module _ (n s : ℕ) (N : 2 ^ 52 ≤ n) (M : n < 2 ^ 54) (R : (s * s ≤ n) × (
     where
       go : (l u : ℕ) → l * (s * 2) + u ≡ shifted n s → (s * 2 ^ 27 + l) * (s * 2 ^ 27 + l) + u * 2 ^ 27 ≡ n * 2 ^ 54 + l * l
       go l u e =
-          let a = expand (s * 2 ^ 27) l in
+          let a = square-sum (s * 2 ^ 27) l in
           let b = square-shift s in
           let c : s * 2 ^ 27 * l ≡ s * l * 2 ^ 27 = mul-right-comm s (2 ^ 27) l in
           let d : l * (s * 2) ≡ s * l * 2 = sym (mul-assoc l s 2) ∙ ap (λ (x : ℕ). x * 2) (mul-comm l s) in
@@ -130,16 +125,16 @@ module _ (n s : ℕ) (N : 2 ^ 52 ≤ n) (M : n < 2 ^ 54) (R : (s * s ≤ n) × (
 -- the facts at the place after the call
 module _ (c : tie.After-small-root) where
   root-lo : 2 ^ 26 ≤ c .small-root .result
-  root-lo = s-lo (c .before .args .n) (c .small-root .result) (c .before .pre .0) (c .before .pre .1) (c .small-root .ensures)
+  root-lo = s-lo (c .before .args .n) (c .small-root .result) (c .before .pre .0) (c .before .pre .1 .0) (c .small-root .ensures)
 
   root-hi : c .small-root .result < 2 ^ 27
-  root-hi = s-hi (c .before .args .n) (c .small-root .result) (c .before .pre .0) (c .before .pre .1) (c .small-root .ensures)
+  root-hi = s-hi (c .before .args .n) (c .small-root .result) (c .before .pre .0) (c .before .pre .1 .0) (c .small-root .ensures)
 
   rest : c .before .args .n - c .small-root .result * c .small-root .result ≤ 2 * c .small-root .result
-  rest = rest-le (c .before .args .n) (c .small-root .result) (c .before .pre .0) (c .before .pre .1) (c .small-root .ensures)
+  rest = rest-le (c .before .args .n) (c .small-root .result) (c .before .pre .0) (c .before .pre .1 .0) (c .small-root .ensures)
 
   low-hi : shifted (c .before .args .n) (c .small-root .result) / (c .small-root .result * 2) ≤ 2 ^ 27
-  low-hi = low-le (c .before .args .n) (c .small-root .result) (c .before .pre .0) (c .before .pre .1) (c .small-root .ensures)
+  low-hi = low-le (c .before .args .n) (c .small-root .result) (c .before .pre .0) (c .before .pre .1 .0) (c .small-root .ensures)
 
 small-root-requires : tie.Need-small-root-requires
 small-root-requires c κs = search needs
@@ -166,10 +161,10 @@ rem-left : tie.Need-rem-left
 rem-left c = let b = root-lo c in omega arith
 
 mul-left-2 : tie.Need-mul-left-2
-mul-left-2 c = let b = root-hi c in let u = u-lt (c .before .args .n) (c .small-root .result) (c .before .pre .0) (c .before .pre .1) (c .small-root .ensures) in omega arith
+mul-left-2 c = let b = root-hi c in let u = u-lt (c .before .args .n) (c .small-root .result) (c .before .pre .0) (c .before .pre .1 .0) (c .small-root .ensures) in omega arith
 
 mul-square : tie.Need-mul-square
-mul-square c = let b = square-le (c .before .args .n) (c .small-root .result) (c .before .pre .0) (c .before .pre .1) (c .small-root .ensures) in omega arith
+mul-square c = let b = square-le (c .before .args .n) (c .small-root .result) (c .before .pre .0) (c .before .pre .1 .0) (c .small-root .ensures) in omega arith
 
 mul-q : tie.Need-mul-q
 mul-q c = let b = root-hi c in omega arith
@@ -199,7 +194,7 @@ returns : tie.Need-returns
 returns c =
     let j = c .before .before in
     let a = j .before .before in
-    answer (a .before .args .n) (a .small-root .result) (a .before .pre .0) (a .before .pre .1) (a .small-root .ensures) (j .before .if1 .over) (j .if2 .rest) (how j)
+    answer (a .before .args .n) (a .small-root .result) (a .before .pre .0) (a .before .pre .1 .0) (a .small-root .ensures) (j .before .if1 .over) (j .if2 .rest) (how j)
 
 pub fast-halves-spec : {M : Type 1} → statement M
 fast-halves-spec =

@@ -1,46 +1,32 @@
 -- `numeric::root::sqrt` meets its contract: each way is a law of `Roots.antt`. Assumes nothing.
 use mathlib.Core.Path.{sym, _∙_}
-use native.Mathlib.Omega.{arith}
 use lib.Ieee.{div, ofBits}
 use borrow.Author.Needs.{needs}
-use Rattle.numeric.proofs.Roots.{twice-lt, twice-le, rootOf-scaled, positive-by, root-infinite, root-zero, root-none}
+use Rattle.numeric.proofs.Roots.{rootOf-scaled, positive-by, root-infinite, root-zero, root-none}
 use Rattle.numeric.proofs.root.sqrt.Statement.{statement}
 use Rattle.numeric.proofs.root.sqrt.Tie as tie
 
 scale-requires : tie.Need-scale-requires
-scale-requires c κs = positive-by (c .before .before .before .args .x) (c .before .if2 .taken) (c .if3 .taken)
+scale-requires c κs = positive-by (c .before .before .args .x) (c .before .if1 .taken) (c .if2 .taken)
 
-add-fast-halves : tie.Need-add-fast-halves
-add-fast-halves c = search needs
-
-mul-fast-halves : tie.Need-mul-fast-halves
-mul-fast-halves c =
-    let s = c .before .before .scale in
-    let h = twice-lt (s .result .m) (s .result .e) (s .ensures .low) (s .ensures .high) (s .ensures .room) in
-    omega arith
-
-fast-halves-requires : tie.Need-fast-halves-requires
-fast-halves-requires c κs =
-    let s = c .before .before .scale in
-    (twice-le (s .result .m) (s .result .e) (s .ensures .low) (s .ensures .high) (s .ensures .room), twice-lt (s .result .m) (s .result .e) (s .ensures .low) (s .ensures .high) (s .ensures .room))
+rounded-requires : tie.Need-rounded-requires
+rounded-requires c κs = search needs
 
 assembled-requires : tie.Need-assembled-requires
 assembled-requires c κs = search needs
 
 returns : tie.Need-returns
-returns c = root-zero (c .before .args .x) (c .if1 .taken) .0
+returns c = root-zero (c .before .before .args .x) (c .if3 .taken) .0
 
 returns-2 : tie.Need-returns-2
-returns-2 c =
-    let s = c .before .before .before .before .scale in
-    c .assembled .ensures ∙ sym (rootOf-scaled (c .before .before .before .before .before .before .before .before .args .x) (s .result .m) (s .result .e) (s .ensures))
+returns-2 c = let s = c .before .before .scale in c .assembled .ensures ∙ sym (rootOf-scaled (c .before .before .before .before .before .args .x) (s .result .m) (s .result .e) (s .ensures))
 
 returns-3 : tie.Need-returns-3
-returns-3 c = root-infinite (c .before .before .before .args .x) (c .before .if2 .taken) (c .if3 .left) .0
+returns-3 c = root-infinite (c .before .before .args .x) (c .before .if1 .taken) (c .if2 .left) .0
 
 returns-4 : tie.Need-returns-4
 unfolding div ofBits
-returns-4 c = root-none (c .before .before .args .x) (c .if2 .left) (c .before .if1 .left) .0
+returns-4 c = root-none (c .before .before .args .x) (c .before .if1 .left) (c .if3 .left) .0
 
 pub sqrt-spec : {M : Type 1} → statement M
-sqrt-spec = tie.close (tie.spec returns scale-requires add-fast-halves mul-fast-halves fast-halves-requires assembled-requires returns-2 returns-3 returns-4)
+sqrt-spec = tie.close (tie.spec scale-requires rounded-requires assembled-requires returns returns-2 returns-3 returns-4)
