@@ -148,7 +148,7 @@ fn guess(m: u64, e: u64) -> u64
     y = newton(h, y);
     y = newton(h, y);
     let s = x * y;
-    // the last step is made on the root and not on 1 / √x, so that its error is that of one rounding
+    // the last step is made on the root itself, since a product by 1 / √x would add a rounding
     let t = s + y * 0.5 * (x - s * s);
     if t > 0.0 {
         f64::to_bits(t) % 0x10_0000_0000_0000 + 0x10_0000_0000_0000
@@ -157,8 +157,8 @@ fn guess(m: u64, e: u64) -> u64
     }
 }
 
-// What c * c leaves of n * 2^52, and 2^60 more, so that it is above zero also where c is too large; 0 where c may not be one of the two next to the root. With c = a * 2^26 + l the
-// difference is ((n - a * a) * 2^26 - 2 * a * l) * 2^26 - l * l, and each bracket is small where c is near.
+// What c * c leaves of n * 2^52, and 2^60 more, so that it is above zero also where c is too large; 0 where a step of one may not mend c. With c = a * 2^26 + l it is
+// ((n - a * a) * 2^26 - 2 * a * l) * 2^26 - l * l, and each bracket is small where c is near, so that the words hold it.
 fn remainder(n: u64, c: u64) -> u64
     requires { ⌜ n < 2 ^ 54 ⌝ }
     requires { ⌜ 2 ^ 52 ≤ c ⌝ }
@@ -194,7 +194,7 @@ fn remainder(n: u64, c: u64) -> u64
     v * 0x400_0000 - l * l
 }
 
-// The whole number nearest to √(n * 2^52), which is the r with r * r - r < n * 2^52 <= r * r + r, where it is c or next to c; else 0, or that number.
+// The whole number nearest to √(n * 2^52), if c is so near that it is c or next to c; else 0. It is the r with r * r - r < n * 2^52 <= r * r + r.
 fn mended(n: u64, c: u64) -> u64
     requires { ⌜ n < 2 ^ 54 ⌝ }
     requires { ⌜ 2 ^ 52 ≤ c ⌝ }
@@ -272,7 +272,7 @@ fn fast_halves(n: u64, near: u64) -> u64
     q * 2 + rest - over
 }
 
-// The root of m * 2^(e - 1126) to 53 digits.
+// The root of m * 2^(e - 1126) to 53 digits: the guess, mended, and the division only for a guess too far off, of which none is known.
 fn rounded(m: u64, e: u64) -> u64
     requires { ⌜ 2 ^ 52 ≤ m ⌝ }
     requires { ⌜ m < 2 ^ 53 ⌝ }
