@@ -13,7 +13,7 @@ use crate::line::request;
 use trcf::preprocessor::Preprocessor;
 use trcf::preprocessor::PreprocessorBuilder;
 use trcf::preprocessor::build;
-use trcf::transformer::WeightedTransformer;
+use trcf::preprocessor::no_head;
 use trcf::types::ForestMode;
 use trcf::types::TransformMethod;
 ghost use mathlib.Core.Path.{_≡_};
@@ -21,7 +21,7 @@ ghost use mathlib.Core.List.{List};
 ghost use lib.Ieee.{Float};
 ghost use Prim.Native.Nat.{_≤_};
 ghost use lib.ListN.{length, take};
-ghost use Rattle.trcf.specs.View.{Lent, lent, noHead};
+ghost use Rattle.trcf.specs.View.{Lent, lent};
 ghost use Rattle.bench_core.specs.Line.{requestOf, keptCount};
 ghost use Rattle.bench_core.specs.Bench.{output, prints, noText, readyFor, goingOn, endOf, modeFrom, methodFrom, builderFrom, noBuilder, fresh, heard, setHeard, limitRow, weightsTurn, weightsHeard, isReading, isPoint, readingName, plainHeard, callHeard, lineHeard, cellLength, cellKept, stepped, withLine, stepOf, begun, said, finishBy, finished, finishOf};
 
@@ -84,28 +84,6 @@ fn no_builder() -> PreprocessorBuilder
         stop_normalization: 0,
         transform_decay: 0.0,
         weight_time: 0.0,
-    }
-}
-
-fn no_head() -> Preprocessor
-    ensures { λ r. ⌜ r ≡ noHead ⌝ }
-{
-    Preprocessor {
-        transformer: WeightedTransformer {
-            transform_method: TransformMethod::NONE,
-            input_length: 0,
-            transform_decay: 0.0,
-            weights: [0.0; 16],
-            count: 0,
-        },
-        forest_mode: ForestMode::STANDARD,
-        shingle_size: 0,
-        start_normalization: 0,
-        stop_normalization: 0,
-        weight_time: 0.0,
-        values_seen: 0,
-        internal_timestamp: 0,
-        initial_len: 0,
     }
 }
 

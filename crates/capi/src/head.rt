@@ -10,10 +10,9 @@ use crate::words::single_bits;
 use crate::words::single_of;
 use trcf::preprocessor::Preprocessor;
 use trcf::preprocessor::PreprocessorBuilder;
+use trcf::preprocessor::no_head;
 use trcf::refusal::settings_row;
 use trcf::transformer::WeightedTransformer;
-use trcf::types::ForestMode;
-use trcf::types::TransformMethod;
 ghost use mathlib.Core.Path.{_≡_};
 ghost use mathlib.Core.List.{map};
 ghost use mathlib.Core.List.{List};
@@ -105,27 +104,6 @@ fn head_row(head: Preprocessor) -> u64
         weight_time: head.weight_time,
     };
     settings_row(builder, &weights[..n])
-}
-
-// What stands for a head where there are too few words for one.
-fn no_head() -> Preprocessor {
-    Preprocessor {
-        transformer: WeightedTransformer {
-            transform_method: TransformMethod::NONE,
-            input_length: 0,
-            transform_decay: 0.0,
-            weights: [0.0; 16],
-            count: 0,
-        },
-        forest_mode: ForestMode::STANDARD,
-        shingle_size: 0,
-        start_normalization: 0,
-        stop_normalization: 0,
-        weight_time: 0.0,
-        values_seen: 0,
-        internal_timestamp: 0,
-        initial_len: 0,
-    }
 }
 
 // The row of the words, 0 for none, and the head that they hold.

@@ -22,7 +22,7 @@ pub enum DeviationResult {
 }
 
 // Whether a discount is refused; a not-a-number is.
-fn outside_unit(discount: f64) -> bool
+pub fn outside_unit(discount: f64) -> bool
     ensures { λ r. ⌜ r ≡ outsideUnit discount ⌝ }
 {
     !(discount >= 0.0 && discount < 1.0)

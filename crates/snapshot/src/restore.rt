@@ -11,11 +11,10 @@ use crate::save::is_past;
 use crate::save::time_width;
 use crate::settings::Set;
 use crate::settings::set_line;
-use crate::values::is_normalizing;
 use trcf::preprocessor::Preprocessor;
+use trcf::preprocessor::no_head;
 use trcf::transformer::WeightedTransformer;
-use trcf::types::ForestMode;
-use trcf::types::TransformMethod;
+use trcf::types::is_normalizing;
 ghost use mathlib.Core.Path.{_≡_};
 ghost use Prim.Native.Nat.{_+_, _*_, _≤_};
 ghost use lib.ListN.{length, drop};
@@ -30,29 +29,6 @@ pub(crate) struct Header {
     pub bad: usize,
     pub at: usize,
     pub head: Preprocessor,
-}
-
-// What a refused text gives: every call refuses it.
-fn no_head() -> Preprocessor
-    ensures { λ r. ⌜ r ≡ noHead ⌝ }
-{
-    Preprocessor {
-        transformer: WeightedTransformer {
-            transform_method: TransformMethod::NONE,
-            input_length: 0,
-            transform_decay: 0.0,
-            weights: [0.0; 16],
-            count: 0,
-        },
-        forest_mode: ForestMode::STANDARD,
-        shingle_size: 0,
-        start_normalization: 0,
-        stop_normalization: 0,
-        weight_time: 0.0,
-        values_seen: 0,
-        internal_timestamp: 0,
-        initial_len: 0,
-    }
 }
 
 // The head of the settings, the weights and the counters.

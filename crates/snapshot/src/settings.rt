@@ -5,7 +5,7 @@ use crate::judge::byte;
 use crate::judge::name;
 use crate::judge::next_field;
 use crate::judge::wholes;
-use crate::values::outside_unit;
+use common::deviation::outside_unit;
 use trcf::types::ForestMode;
 use trcf::types::TransformMethod;
 ghost use mathlib.Core.Path.{_≡_};

@@ -1,12 +1,12 @@
 // Which row refuses a post_process, 0 for none. Nothing here writes.
 use crate::preprocessor::Preprocessor;
 use crate::refusal::SEEN_LIMIT;
+use crate::refusal::all_finite;
 use crate::refusal::block_of;
 use crate::refusal::dimension_of;
 use crate::refusal::head_row;
 use crate::refusal::is_waiting;
 use crate::refusal::lent_row;
-use crate::shingle::all_finite;
 use crate::shingle::last_of;
 use common::deviation::COUNT_LIMIT;
 ghost use mathlib.Core.Path.{_≡_};

@@ -144,8 +144,8 @@ fn head_from(b: PreprocessorBuilder, weights: &[f32]) -> Preprocessor
     }
 }
 
-// What a refused build hands back: every call refuses it.
-fn no_head() -> Preprocessor
+// What a refused build hands back, and whatever else has no head to hand back: every call refuses it.
+pub fn no_head() -> Preprocessor
     ensures { λ r. ⌜ r ≡ noHead ⌝ }
 {
     Preprocessor {

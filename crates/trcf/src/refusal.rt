@@ -1,23 +1,23 @@
 // Which row refuses a call, 0 for none. Nothing here writes.
 use crate::preprocessor::Preprocessor;
 use crate::preprocessor::PreprocessorBuilder;
-use crate::shingle::all_finite;
-use crate::transformer::all_one;
+use crate::transformer::weights_refused;
 use crate::types::ForestMode;
 use crate::types::TransformMethod;
-use crate::types::is_none;
 use crate::types::is_normalizing;
 use common::deviation::COUNT_LIMIT;
+use common::deviation::outside_unit;
 ghost use mathlib.Core.Path.{_≡_};
 ghost use mathlib.Core.Bool.{cond, not, false, _&&_, _||_};
+ghost use mathlib.Core.List.{[], _∷_};
 ghost use Prim.Native.Nat.{ℕ, _+_, _≤_};
 ghost use lib.Dec.{ltb, eqb};
 ghost use lib.ListN.{length, take};
-ghost use Rattle.common.specs.Deviation.{outsideUnit, countLimit};
+ghost use Rattle.common.specs.Deviation.{countLimit};
 ghost use Rattle.trcf.specs.Lists.{null};
-ghost use Rattle.trcf.specs.Types.{augments, isNone};
-ghost use Rattle.trcf.specs.Settings.{imputes, allOne, waiting, settingsRow, dimension, block};
-ghost use Rattle.trcf.specs.Calls.{seenLimit, due, drainFull, scale, transform, drain, shingledPoint};
+ghost use Rattle.trcf.specs.Types.{augments};
+ghost use Rattle.trcf.specs.Settings.{imputes, waiting, settingsRow, dimension, block};
+ghost use Rattle.trcf.specs.Calls.{seenLimit, finite, due, drainFull, scale, transform, drain, shingledPoint};
 ghost use Rattle.trcf.specs.Preprocessor.{facts};
 ghost use Rattle.trcf.specs.View.{settingsOf, settingsFrom, view, misfit, headRow, lentRow, shortRow, rowOf, pastRow, lent, Bounded, Accepted, Roomy, Fitted, Ready, Pointing};
 
@@ -26,7 +26,7 @@ pub(crate) const SEEN_LIMIT: usize = 9_223_372_036_854_775_807;
 
 // ---- the settings
 
-pub(crate) fn is_augmented(m: ForestMode) -> bool
+pub fn is_augmented(m: ForestMode) -> bool
     ensures { λ r. ⌜ r ≡ augments m ⌝ }
 {
     match m {
@@ -44,19 +44,6 @@ fn is_imputing(m: ForestMode) -> bool
         ForestMode::TIME_AUGMENTED => false,
         ForestMode::STREAMING_IMPUTE => true,
     }
-}
-
-fn outside_unit(decay: f64) -> bool
-    ensures { λ r. ⌜ r ≡ outsideUnit decay ⌝ }
-{
-    !(decay >= 0.0 && decay < 1.0)
-}
-
-// Whether weights are given where none are used.
-fn is_unused(m: TransformMethod, weights: &[f32]) -> bool
-    ensures { λ r. ⌜ r ≡ isNone m && not (allOne (now (weights .entry))) ⌝ }
-{
-    if is_none(m) { !all_one(weights) } else { false }
 }
 
 // Rows 1 to 9, also of a head that comes from outside.
@@ -96,10 +83,33 @@ pub fn settings_row(b: PreprocessorBuilder, weights: &[f32]) -> u64
     if 2000 <= start {
         return 8;
     }
-    if is_unused(method, weights) {
+    if weights_refused(method, weights) {
         return 9;
     }
     0
+}
+
+// ---- a reading
+
+fn is_finite(v: f32) -> bool
+    ensures { λ r. ⌜ r ≡ finite (v ∷ []) ⌝ }
+{
+    let top = 1.0f32 / 0.0f32;
+    if v < top { -top < v } else { false }
+}
+
+// Whether every number is finite.
+pub fn all_finite(x: &[f32]) -> bool
+    ensures { λ r. ⌜ r ≡ finite (now (x .entry)) ⌝ }
+{
+    let mut i = 0;
+    while i < x.len() {
+        if !is_finite(x[i]) {
+            return false;
+        }
+        i += 1;
+    }
+    true
 }
 
 // ---- a head, and what is lent with it

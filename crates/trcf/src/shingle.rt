@@ -1,4 +1,4 @@
-// What the calls do to whole lists: tests, copies, zeros, and a block that comes into a shingle.
+// What the calls do to whole lists: copies, zeros, and a block that comes into a shingle.
 ghost use mathlib.Core.Path.{_≡_};
 ghost use mathlib.Core.List.{[], _∷_};
 ghost use Prim.Native.Nat.{_+_, _≤_, _<_};
@@ -8,27 +8,6 @@ ghost use Rattle.common.specs.Deviation.{zero64};
 ghost use Rattle.common.specs.Lent.{over};
 ghost use Rattle.trcf.specs.Lists.{lastOr, shiftIn, overwrite};
 ghost use Rattle.trcf.specs.Transformer.{zero32};
-ghost use Rattle.trcf.specs.Calls.{finite};
-
-fn is_finite(v: f32) -> bool
-    ensures { λ r. ⌜ r ≡ finite (v ∷ []) ⌝ }
-{
-    let top = 1.0f32 / 0.0f32;
-    if v < top { -top < v } else { false }
-}
-
-pub(crate) fn all_finite(x: &[f32]) -> bool
-    ensures { λ r. ⌜ r ≡ finite (now (x .entry)) ⌝ }
-{
-    let mut i = 0;
-    while i < x.len() {
-        if !is_finite(x[i]) {
-            return false;
-        }
-        i += 1;
-    }
-    true
-}
 
 // The last of the first n times, 0 where there is none.
 pub(crate) fn last_of(l: &[u64], n: usize) -> u64

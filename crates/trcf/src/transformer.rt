@@ -539,7 +539,8 @@ fn decay_row(decay: f64) -> u64
     }
 }
 
-pub(crate) fn all_one(w: &[f32]) -> bool
+// Whether every weight is 1.0.
+pub fn all_one(w: &[f32]) -> bool
     ensures { λ r. ⌜ r ≡ allOne (now (w .entry)) ⌝ }
 {
     let mut i = 0;
@@ -553,7 +554,7 @@ pub(crate) fn all_one(w: &[f32]) -> bool
 }
 
 // Row 9: NONE takes no weight but 1.
-fn weights_refused(m: TransformMethod, w: &[f32]) -> bool
+pub(crate) fn weights_refused(m: TransformMethod, w: &[f32]) -> bool
     ensures { λ r. ⌜ r ≡ (isNone m && not (allOne (now (w .entry)))) ⌝ }
 {
     if is_none(m) { !all_one(w) } else { false }

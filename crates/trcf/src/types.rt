@@ -17,7 +17,7 @@ pub enum ForestMode {
     STREAMING_IMPUTE,
 }
 
-pub(crate) fn is_none(m: TransformMethod) -> bool
+pub fn is_none(m: TransformMethod) -> bool
     ensures { λ r. ⌜ r ≡ isNone m ⌝ }
 {
     match m {
@@ -31,7 +31,7 @@ pub(crate) fn is_none(m: TransformMethod) -> bool
 }
 
 // NORMALIZE or NORMALIZE_DIFFERENCE.
-pub(crate) fn is_normalizing(m: TransformMethod) -> bool
+pub fn is_normalizing(m: TransformMethod) -> bool
     ensures { λ r. ⌜ r ≡ normalizes m ⌝ }
 {
     match m {

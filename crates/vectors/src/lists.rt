@@ -21,7 +21,7 @@ use crate::list::read_singles;
 use trcf::extrapolation::invert_extrapolation;
 use trcf::preprocessor::Preprocessor;
 use trcf::preprocessor::StatusAnswer;
-use trcf::types::ForestMode;
+use trcf::refusal::is_augmented;
 
 // ---- transform
 
@@ -335,14 +335,6 @@ fn turned(
         times_upper_out,
         times_lower_out,
     )
-}
-
-fn is_augmented(mode: ForestMode) -> bool {
-    match mode {
-        ForestMode::STANDARD => false,
-        ForestMode::TIME_AUGMENTED => true,
-        ForestMode::STREAMING_IMPUTE => false,
-    }
 }
 
 fn extrapolation(

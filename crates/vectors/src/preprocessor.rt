@@ -28,33 +28,10 @@ use crate::state::state_line;
 use crate::text::text_line;
 use trcf::preprocessor::Preprocessor;
 use trcf::preprocessor::drain;
+use trcf::preprocessor::no_head;
 use trcf::preprocessor::shingled_point;
-use trcf::transformer::WeightedTransformer;
-use trcf::types::ForestMode;
-use trcf::types::TransformMethod;
 ghost use Prim.Native.Nat.{_<_, _≤_};
 ghost use lib.ListN.{length};
-
-// Before the first `b`.
-fn no_head() -> Preprocessor {
-    Preprocessor {
-        transformer: WeightedTransformer {
-            transform_method: TransformMethod::NONE,
-            input_length: 0,
-            transform_decay: 0.0,
-            weights: [0.0; 16],
-            count: 0,
-        },
-        forest_mode: ForestMode::STANDARD,
-        shingle_size: 0,
-        start_normalization: 0,
-        stop_normalization: 0,
-        weight_time: 0.0,
-        values_seen: 0,
-        internal_timestamp: 0,
-        initial_len: 0,
-    }
-}
 
 // ---- shingled_point and drain
 

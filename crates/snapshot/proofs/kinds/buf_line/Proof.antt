@@ -14,7 +14,6 @@ use Rattle.snapshot.proofs.judge.byte.Reads as byte-reads
 use Rattle.snapshot.proofs.judge.name.Reads as name-reads
 use Rattle.snapshot.proofs.judge.next_field.Reads as next-field-reads
 use Rattle.snapshot.proofs.judge.singles.Reads as singles-reads
-use Rattle.snapshot.proofs.values.all_finite.Reads as all-finite-reads
 
 name-requires : tie.Need-name-requires
 name-requires c κs = search needs

@@ -5,7 +5,6 @@ use Rattle.snapshot.proofs.kinds.is_waiting.Statement.{statement}
 use Rattle.snapshot.proofs.kinds.is_waiting.Tie as tie
 use Rattle.snapshot.proofs.kinds.is_waiting.Reads as reads
 use Rattle.snapshot.proofs.kinds.is_waiting.Lts as lts
-use Rattle.snapshot.proofs.values.is_normalizing.Reads as is-normalizing-reads
 
 is-normalizing-requires : tie.Need-is-normalizing-requires
 is-normalizing-requires c κs = search needs

@@ -9,8 +9,6 @@ use Rattle.snapshot.proofs.kinds.wgt_line.Tie as tie
 use Rattle.snapshot.proofs.kinds.wgt_line.Reads as reads
 use Rattle.snapshot.proofs.kinds.wgt_line.Lts as lts
 use Rattle.snapshot.proofs.judge.singles_line.Reads as singles-line-reads
-use Rattle.snapshot.proofs.values.all_one.Reads as all-one-reads
-use Rattle.snapshot.proofs.values.is_none.Reads as is-none-reads
 
 singles-line-requires : tie.Need-singles-line-requires
 singles-line-requires c κs = search needs

@@ -14,7 +14,6 @@ use Rattle.snapshot.proofs.restore.initial_count.Tie as tie
 use Rattle.snapshot.proofs.restore.initial_count.Reads as reads
 use Rattle.snapshot.proofs.restore.initial_count.Lts as lts
 use Rattle.snapshot.proofs.kinds.is_waiting.Reads as is-waiting-reads
-use Rattle.snapshot.proofs.values.is_normalizing.Reads as is-normalizing-reads
 
 is-waiting-requires : tie.Need-is-waiting-requires
 is-waiting-requires c κs = search needs

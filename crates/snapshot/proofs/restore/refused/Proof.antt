@@ -6,7 +6,6 @@ use Rattle.snapshot.proofs.restore.refused.Statement.{statement}
 use Rattle.snapshot.proofs.restore.refused.Tie as tie
 use Rattle.snapshot.proofs.restore.refused.Reads as reads
 use Rattle.snapshot.proofs.restore.refused.Lts as lts
-use Rattle.snapshot.proofs.restore.no_head.Reads as no-head-reads
 
 no-head-requires : tie.Need-no-head-requires
 no-head-requires c κs = search needs

@@ -6,7 +6,6 @@ use Rattle.snapshot.proofs.settings.settings_fit.Statement.{statement}
 use Rattle.snapshot.proofs.settings.settings_fit.Tie as tie
 use Rattle.snapshot.proofs.settings.settings_fit.Reads as reads
 use Rattle.snapshot.proofs.settings.settings_fit.Lts as lts
-use Rattle.snapshot.proofs.values.outside_unit.Reads as outside-unit-reads
 
 returns : tie.Need-returns
 returns c = fit-d (c .before .args .d) (c .before .args .k) (c .before .args .start) (c .before .args .stop) (c .before .args .decay) (c .if1 .taken)

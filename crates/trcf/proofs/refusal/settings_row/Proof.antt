@@ -48,16 +48,16 @@ returns-9 : tie.Need-returns-9
 unfolding settingsRow
 returns-9 c = (rw (sym (c .before .before .before .before .before .before .before .before .before .before .before .is-imputing .ensures) ∙ c .before .before .before .before .before .before .before .before .before .before .if1 .left, ne-eqb _ _ (c .before .before .before .before .before .before .before .before .before .if2 .left), ne-eqb _ _ (c .before .before .before .before .before .before .before .before .if3 .left), le-ltb _ _ (c .before .before .before .before .before .before .before .if4 .left), le-ltb _ _ (c .before .before .before .before .before .before .if5 .left), eq-eqb _ _ (c .before .before .before .before .before .if6 .left), sym (c .before .before .before .before .outside-unit .ensures) ∙ c .before .before .before .if7 .left, le-ltb _ _ (c .before .if8 .left), le-leb _ _ (c .if9 .taken)), λ e. absurd (omega (arith, e)))
 
-is-unused-requires : tie.Need-is-unused-requires
-is-unused-requires c κs = tt
+weights-refused-requires : tie.Need-weights-refused-requires
+weights-refused-requires c κs = tt
 
 returns-10 : tie.Need-returns-10
 unfolding settingsRow
-returns-10 c = (rw (sym (c .before .before .before .before .before .before .before .before .before .before .before .before .before .is-imputing .ensures) ∙ c .before .before .before .before .before .before .before .before .before .before .before .before .if1 .left, ne-eqb _ _ (c .before .before .before .before .before .before .before .before .before .before .before .if2 .left), ne-eqb _ _ (c .before .before .before .before .before .before .before .before .before .before .if3 .left), le-ltb _ _ (c .before .before .before .before .before .before .before .before .before .if4 .left), le-ltb _ _ (c .before .before .before .before .before .before .before .before .if5 .left), eq-eqb _ _ (c .before .before .before .before .before .before .before .if6 .left), sym (c .before .before .before .before .before .before .outside-unit .ensures) ∙ c .before .before .before .before .before .if7 .left, le-ltb _ _ (c .before .before .before .if8 .left), lt-leb _ _ (c .before .before .if9 .left), sym (c .before .is-unused .ensures) ∙ c .if10 .taken), λ e. absurd (omega (arith, e)))
+returns-10 c = (rw (sym (c .before .before .before .before .before .before .before .before .before .before .before .before .before .is-imputing .ensures) ∙ c .before .before .before .before .before .before .before .before .before .before .before .before .if1 .left, ne-eqb _ _ (c .before .before .before .before .before .before .before .before .before .before .before .if2 .left), ne-eqb _ _ (c .before .before .before .before .before .before .before .before .before .before .if3 .left), le-ltb _ _ (c .before .before .before .before .before .before .before .before .before .if4 .left), le-ltb _ _ (c .before .before .before .before .before .before .before .before .if5 .left), eq-eqb _ _ (c .before .before .before .before .before .before .before .if6 .left), sym (c .before .before .before .before .before .before .outside-unit .ensures) ∙ c .before .before .before .before .before .if7 .left, le-ltb _ _ (c .before .before .before .if8 .left), lt-leb _ _ (c .before .before .if9 .left), sym (c .before .weights-refused .ensures) ∙ c .if10 .taken), λ e. absurd (omega (arith, e)))
 
 returns-11 : tie.Need-returns-11
 unfolding settingsRow
-returns-11 c = (rw (sym (c .before .before .before .before .before .before .before .before .before .before .before .before .before .is-imputing .ensures) ∙ c .before .before .before .before .before .before .before .before .before .before .before .before .if1 .left, ne-eqb _ _ (c .before .before .before .before .before .before .before .before .before .before .before .if2 .left), ne-eqb _ _ (c .before .before .before .before .before .before .before .before .before .before .if3 .left), le-ltb _ _ (c .before .before .before .before .before .before .before .before .before .if4 .left), le-ltb _ _ (c .before .before .before .before .before .before .before .before .if5 .left), eq-eqb _ _ (c .before .before .before .before .before .before .before .if6 .left), sym (c .before .before .before .before .before .before .outside-unit .ensures) ∙ c .before .before .before .before .before .if7 .left, le-ltb _ _ (c .before .before .before .if8 .left), lt-leb _ _ (c .before .before .if9 .left), sym (c .before .is-unused .ensures) ∙ c .if10 .left), λ e. record { bounded = record { d-pos = omega arith; d-few = omega arith; k-pos = omega arith; k-few = omega arith; start-few = omega arith }; weighted = omega arith })
+returns-11 c = (rw (sym (c .before .before .before .before .before .before .before .before .before .before .before .before .before .is-imputing .ensures) ∙ c .before .before .before .before .before .before .before .before .before .before .before .before .if1 .left, ne-eqb _ _ (c .before .before .before .before .before .before .before .before .before .before .before .if2 .left), ne-eqb _ _ (c .before .before .before .before .before .before .before .before .before .before .if3 .left), le-ltb _ _ (c .before .before .before .before .before .before .before .before .before .if4 .left), le-ltb _ _ (c .before .before .before .before .before .before .before .before .if5 .left), eq-eqb _ _ (c .before .before .before .before .before .before .before .if6 .left), sym (c .before .before .before .before .before .before .outside-unit .ensures) ∙ c .before .before .before .before .before .if7 .left, le-ltb _ _ (c .before .before .before .if8 .left), lt-leb _ _ (c .before .before .if9 .left), sym (c .before .weights-refused .ensures) ∙ c .if10 .left), λ e. record { bounded = record { d-pos = omega arith; d-few = omega arith; k-pos = omega arith; k-few = omega arith; start-few = omega arith }; weighted = omega arith })
 
 pub settings-row-spec : {M : Type 1} → statement M
 settings-row-spec =
@@ -74,6 +74,6 @@ settings-row-spec =
     returns-7
     returns-8
     returns-9
-    is-unused-requires
+    weights-refused-requires
     returns-10
     returns-11)

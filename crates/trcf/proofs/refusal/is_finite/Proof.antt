@@ -1,8 +1,8 @@
--- `trcf::shingle::is_finite` meets its contract: by its callees' promises and the laws of lists. Assumes nothing.
+-- `trcf::refusal::is_finite` meets its contract: by its callees' promises and the laws of lists. Assumes nothing.
 use Rattle.trcf.proofs.ShingleLaws.{below-top, not-below-top}
 use lib.Ieee.{div, neg, ofBits}
-use Rattle.trcf.proofs.shingle.is_finite.Statement.{statement}
-use Rattle.trcf.proofs.shingle.is_finite.Tie as tie
+use Rattle.trcf.proofs.refusal.is_finite.Statement.{statement}
+use Rattle.trcf.proofs.refusal.is_finite.Tie as tie
 
 returns : tie.Need-returns
 unfolding div neg ofBits

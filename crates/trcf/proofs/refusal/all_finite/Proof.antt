@@ -1,4 +1,4 @@
--- `trcf::shingle::all_finite` meets its contract: by its loop's invariant. Assumes nothing.
+-- `trcf::refusal::all_finite` meets its contract: by its loop's invariant. Assumes nothing.
 use Rattle.trcf.specs.Calls.{finite}
 use Rattle.trcf.proofs.ShingleLaws.{finite-at}
 use mathlib.Core.Bool.{true, false}
@@ -8,8 +8,8 @@ use Prim.Native.Nat.{ℕ, _≤_, _<_, _-_}
 use borrow.Author.Tests.{not-true, not-false}
 use native.Mathlib.Numerals.{add-one}
 use native.Mathlib.Omega.{arith}
-use Rattle.trcf.proofs.shingle.all_finite.Statement.{statement}
-use Rattle.trcf.proofs.shingle.all_finite.Tie as tie
+use Rattle.trcf.proofs.refusal.all_finite.Statement.{statement}
+use Rattle.trcf.proofs.refusal.all_finite.Tie as tie
 
 abbrev Inv-loop : tie.InvT-loop
 Inv-loop x i₀ i = (i ≤ length x) × (finite x ≡ finite (drop i x))
