@@ -4,3 +4,4 @@ pub mod TurnLaws
 pub mod StepLaws
 pub mod CellLaws
 pub mod BlockLaws
+pub mod Examples
