@@ -170,9 +170,9 @@ fn answer_term(s: &Settings, call: &Call, answer: &Answer) -> String {
 fn theorems(n: u64, s: &Settings, calls: &[Call], answers: &[Answer], text: &str) -> String {
     let calls_term = list(calls.iter().map(|c| format!("\n    {}", call_term(c))));
     let answers_term = list(calls.iter().zip(answers).map(|(c, a)| format!("\n    {}", answer_term(s, c, a))));
-    let bytes = list(text.bytes().map(|b| b.to_string()));
+    let lines = list(text.lines().map(|l| format!("\n    \"{}\"", l.replace('\t', "\\t"))));
     format!(
-        "\nabbrev s{n} : Settings\ns{n} = {}\n\nabbrev c{n} : List Call\nc{n} = {calls_term}\n\nabbrev t{n} : List ℕ\nt{n} = {bytes}\n\n\
+        "\nabbrev s{n} : Settings\ns{n} = {}\n\nabbrev c{n} : List Call\nc{n} = {calls_term}\n\nabbrev t{n} : List ℕ\nt{n} = text {lines}\n\n\
          run{n} : render (run (fresh s{n}) c{n}) ≡ t{n}\nunfolding trace·all\nrun{n} = refl\n\n\
          history{n} : historyText s{n} c{n} ≡ t{n}\nunfolding trace·all\nhistory{n} = refl\n\n\
          answers{n} : answers (fresh s{n}) c{n} ≡ {answers_term}\nunfolding trace·all\nanswers{n} = refl\n",
@@ -209,6 +209,7 @@ use Rattle.trcf.specs.declared.types.TransformMethod.the-variants.{NONE, WEIGHT
 use Rattle.trcf.specs.declared.types.ForestMode.the-variants.{STANDARD, «TIME_AUGMENTED»}
 use Rattle.snapshot.specs.Text as Text
 use Rattle.snapshot.specs.Text.{render}
+use Rattle.snapshot.specs.Ascii.{text}
 use Rattle.restart.specs.History as History
 use Rattle.restart.specs.History.{historyText}
 ";

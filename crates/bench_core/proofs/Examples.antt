@@ -1,8 +1,7 @@
 -- Inputs of the bench and what it prints, worked out by computation: document 01's sample, and the points that it leaves open, by their number in docs/DECISIONS.md.
 -- What each prints is the answer of the oracle's bench (docs/ORACLE.md).
 use Prim.Native.Nat.{ℕ}
-use Prim.Native.Char.{code}
-use Prim.Native.String.{String, [] as end, _∷_ as _then_, _++_}
+use Prim.Native.String.{String, _++_}
 use mathlib.Core.Path.{_≡_, refl}
 use mathlib.Core.List.{List, [], _∷_}
 use lib.Ieee.{toBits, ofBits, ofFields, odd, fits, size, round, le, lt, eq, add, sub, mul, div, ofInt}
@@ -19,6 +18,7 @@ use Rattle.trcf.specs.View.{view, laid, headRow, lentShort, misfit, shortRow, l
 use Rattle.snapshot.specs.Text.{whole, float, setLine, singles, cntLine, devLine, timLine, bufLine, linesOf, render}
 use Rattle.snapshot.specs.Read.{judge, floatFrom, asWhole, asFloat}
 use Rattle.snapshot.specs.Save.{unheld, fitted, saveOf}
+use Rattle.snapshot.specs.Ascii.{bytes}
 use Rattle.bench_core.specs.Line.{blankLine, fieldOf, cellOf, requestOf, keptOf}
 use Rattle.bench_core.specs.Bench.{noText, pointText, doneText, prints, dimensionOf, pointTurn, learnTurn, drainTurn, savePrints, builderFrom, fresh, weightsTurn, lineHeard, stepOf, finishOf}
 use Rattle.bench_core.specs.Run.{printed}
@@ -27,11 +27,6 @@ use Rattle.bench_core.specs.Run.{printed}
 running : Unit {0}
 unfolding toBits ofBits ofFields odd fits size round le lt eq add sub mul div ofInt narrowed rootWithin halves rooted rootOf outsideUnit factorOf fedStep isEmpty meanOf rootAbove deviationOf over lastN shiftIn overwrite statisticAt putStatistic fed deviationsAt putDeviations fedAt channelsFed updated normalizedScale basicShift basicDrift weightAt transformed unweighted inverted scales shifts differenceDeviations block dimension waiting allOne settingsRow finite due newest wrongLength outside drainFull learnFull waitingShort learnShort table rows freshState facts timeFed feed timescale timedrift timeElement transformedAfter previous primed drainOne drainAll drained held learned learnedWith change deviations pointOf blockFrom pastValues expectedValues anomalyOf learnedNothing heldAnswer learnedAnswer learnAnswer reply view laid headRow lentShort misfit shortRow lentRow rowOf buildRow buildOf answerOf headAfter lentAfter drainOf pointAfter learnAfter whole float setLine singles cntLine devLine timLine bufLine linesOf render judge floatFrom asWhole asFloat unheld fitted saveOf blankLine fieldOf cellOf requestOf keptOf noText pointText doneText prints dimensionOf pointTurn learnTurn drainTurn savePrints builderFrom fresh weightsTurn lineHeard stepOf finishOf printed
 running = tt
-
--- the bytes of a text of ASCII
-abbrev bytes : String → List ℕ
-bytes end = []
-bytes (c then s) = code c ∷ bytes s
 
 -- inputs with their outputs
 abbrev Cases : Type 0

@@ -9,3 +9,4 @@ pub mod Save
 pub mod Judge
 pub mod Restore
 pub mod Runs
+pub mod Ascii
