@@ -16,21 +16,21 @@ use Rattle.snapshot.proofs.RoundTrip.{restored-only}
 use Rattle.capi.specs.Head.{wordsOf}
 use Rattle.capi.specs.Restore.{restoreCalled, nothing, restoreAt}
 
-module _ (t w : List ℕ) (l : Lent) (line : ℕ) {row bad : ℕ} {h : Preprocessor} {l' : Lent} {n : ℕ} where
-  pub restore-few : length w < 28 → outcome row bad h l' ≡ restoreOf t nothing → n ≡ cond (eqb row 19) bad line → restoreCalled row w l n ≡ restoreAt t w l line
+module _ (t cs w : List ℕ) (l : Lent) (line : ℕ) {row bad : ℕ} {h : Preprocessor} {l' : Lent} {n : ℕ} where
+  pub restore-few : length w < 44 → outcome row bad h l' ≡ restoreOf t cs nothing → n ≡ cond (eqb row 19) bad line → restoreCalled row w l n ≡ restoreAt t cs w l line
   unfolding restoreAt
-  restore-few e p q = rw (lt-ltb (length w) 28 e, sym p) (ap (restoreCalled row w l) q)
+  restore-few e p q = rw (lt-ltb (length w) 44 e, sym p) (ap (restoreCalled row w l) q)
 
-  pub restore-done : {w' : List ℕ} → 28 ≤ length w → outcome row bad h l' ≡ restoreOf t l → w' ≡ accepted row (over w (wordsOf h)) w → n ≡ cond (eqb row 19) bad line
-      → restoreCalled row w' l' n ≡ restoreAt t w l line
+  pub restore-done : {w' : List ℕ} → 44 ≤ length w → outcome row bad h l' ≡ restoreOf t cs l → w' ≡ accepted row (over w (wordsOf h)) w → n ≡ cond (eqb row 19) bad line
+      → restoreCalled row w' l' n ≡ restoreAt t cs w l line
   unfolding restoreAt
-  restore-done e p r q = rw (le-ltb (length w) 28 e, sym p) (λ j. restoreCalled row (r j) l' (q j))
+  restore-done e p r q = rw (le-ltb (length w) 44 e, sym p) (λ j. restoreCalled row (r j) l' (q j))
 
 -- with too few words no text is taken up
-pub few-refuses : (t : List ℕ) → restoreOf t nothing .row ≡ 0 → ⊥
+pub few-refuses : (t cs : List ℕ) → restoreOf t cs nothing .row ≡ 0 → ⊥
 unfolding lentShort
-few-refuses t e =
-    let k = restored-only t nothing e in
+few-refuses t cs e =
+    let k = restored-only t cs nothing e in
     let s = k .state .settings in
     let h = ltb-false 0 (statisticsLength s) (or-left (ltb 0 (statisticsLength s)) _ (k .room)) in
     absurd (omega (arith, h))
