@@ -6,7 +6,7 @@ use mathlib.Core.Path.{_≡_, refl, sym, ap, _∙_}
 use native.Mathlib.Omega.{arith}
 use lib.Dec.{ltb}
 use lib.ListN.{length, take, drop, getD, set, length-drop, length-append, length-map}
-use lib.Seq.{take-all, take-at, drop-at, drop-drop}
+use lib.Seq.{length-take-le, take-all, take-at, drop-at, drop-drop}
 use lib.Ieee.{Float, binary32, binary64, ofBits, toBits}
 use lib.Ieee.Bits.{ofBits-toBits}
 use borrow.Author.Tests.{lt-ltb, le-ltb}
@@ -23,7 +23,7 @@ use Rattle.trcf.specs.declared.types.ForestMode.{ForestMode}
 use Rattle.trcf.specs.declared.types.ForestMode.the-variants.{STANDARD, «TIME_AUGMENTED», «STREAMING_IMPUTE»}
 use Rattle.trcf.specs.declared.preprocessor.Preprocessor.{Preprocessor}
 use Rattle.trcf.proofs.OutcomeLaws.{orElse-is}
-use Rattle.capi.specs.Head.{modeNumber, modeOf, methodOf, kindRow, codesRow, single, codesIn, headOf, numbersOf, frontOf, wordsOf, countsOver, shortRow as fewRow, wordsRow, Held}
+use Rattle.capi.specs.Head.{modeNumber, modeOf, methodOf, kindRow, codesRow, single, codesIn, headOf, numbersOf, frontOf, wordsOf, countsOver, shortRow as fewRow, wordsRow, Read, Held}
 use Rattle.capi.proofs.WordLaws.{mode-back, method-back, single-back, singles-back}
 
 -- ---- reading
@@ -144,6 +144,11 @@ all-codes v {c} p z = go (allCodes v) (sym p ∙ z)
     go : (b : Bool) → _≡_ {A = ℕ} (cond b 0 19) 0 → b ≡ true
     go true e = refl
     go false e = absurd (omega (arith, e))
+
+-- a head that was read has sixteen codes
+pub read-codes : {w : List ℕ} {h : Preprocessor} → Read w h → length (h .codes) ≡ 16
+unfolding headOf
+read-codes {w} {h} r = ap (λ (x : Preprocessor). length (x .codes)) (r .is) ∙ length-take-le 16 (drop 28 w) (omega (arith, length-drop 28 w, r .whole))
 
 -- ---- the settings' row
 

@@ -34,10 +34,9 @@ pub(crate) fn codes_of(words: &[u64]) -> [u16; 16]
     a
 }
 
-pub(crate) fn write_codes(words: &mut [u64], codes: &[u16])
+pub(crate) fn write_codes(words: &mut [u64], codes: [u16; 16])
     requires { ⌜ length (now words) ≡ 16 ⌝ }
-    requires { ⌜ length (now codes) ≡ 16 ⌝ }
-    ensures { λ _. ⌜ now (words .exit) ≡ now (codes .entry) ⌝ }
+    ensures { λ _. ⌜ now (words .exit) ≡ codes ⌝ }
 {
     let mut i = 0;
     while i < 16 {

@@ -56,6 +56,10 @@ fn head_of(words: &[u64]) -> Preprocessor
     let stop = words[5] as usize;
     let decay = double_of(words[6]);
     let weight_time = single_of(words[7]);
+    let seen = words[8] as usize;
+    let internal = words[9] as usize;
+    let count = words[10];
+    let initial = words[11] as usize;
     let weights = weights_of(&words[12..28]);
     let codes = codes_of(&words[28..44]);
     let t = WeightedTransformer {
@@ -63,7 +67,7 @@ fn head_of(words: &[u64]) -> Preprocessor
         input_length: d,
         transform_decay: decay,
         weights: weights,
-        count: words[10],
+        count: count,
     };
     Preprocessor {
         transformer: t,
@@ -72,9 +76,9 @@ fn head_of(words: &[u64]) -> Preprocessor
         start_normalization: start,
         stop_normalization: stop,
         weight_time: weight_time,
-        values_seen: words[8] as usize,
-        internal_timestamp: words[9] as usize,
-        initial_len: words[11] as usize,
+        values_seen: seen,
+        internal_timestamp: internal,
+        initial_len: initial,
         codes: codes,
     }
 }
@@ -226,5 +230,5 @@ pub(crate) fn write_head(words: &mut [u64], row: u64, head: Preprocessor)
     }
     let codes = head.codes;
     write_front(words, head);
-    write_codes(&mut words[28..44], &codes);
+    write_codes(&mut words[28..44], codes);
 }

@@ -21,7 +21,7 @@ abbrev μ-loop : tie.MeasureT-loop
 μ-loop codes output₀ i₀ output i = length codes - i
 
 returns : tie.Need-returns Inv-loop μ-loop
-returns c = codes-many (c .before .before .args .codes .now) (c .before .before .args .output .now) (c .if1 .taken)
+returns c = codes-many (c .before .args .codes .now) (c .before .args .output .now) (c .if1 .taken)
 
 loop-holds : tie.Need-loop-holds Inv-loop μ-loop
 loop-holds c = (omega arith, over-none _, refl)

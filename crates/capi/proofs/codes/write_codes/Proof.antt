@@ -26,8 +26,8 @@ loop-holds c = (omega arith, over-none _, omega arith)
 mul-words : tie.Need-mul-words Inv-loop μ-loop
 mul-words c = search needs
 
-shared-slice-read-words : tie.Need-shared-slice-read-words Inv-loop μ-loop
-shared-slice-read-words c = search needs
+array-read-words : tie.Need-array-read-words Inv-loop μ-loop
+array-read-words c = search needs
 
 cast-words : tie.Need-cast-words Inv-loop μ-loop
 cast-words c = search needs
@@ -46,12 +46,14 @@ loop-less c = search needs
 
 loop-again : tie.Need-loop-again Inv-loop μ-loop
 loop-again c =
-    let L = c .before .before .loop in
-    let a = c .before .before .before .before .args in
-    let e = c .before .before .before .before .pre in
-    let h : L .i < length (a .codes .now) = omega (arith, e .1) in
-    let k : length (a .codes .now) ≤ length (a .words .now) = omega (arith, e .0, e .1) in
-    (omega arith, rw (L .inv .1) (over-copy (a .words .now) (a .codes .now) (L .i) 0 h k), simp length-set (omega arith))
+    let L = c .before .loop in
+    let s = c .before .before in
+    let w = s .args .words .now in
+    let v = s .args .codes in
+    let n : length v ≡ 16 = s .good .1 .0 .1 .0 .1 in
+    let h : L .i < length v = omega (arith, n) in
+    let k : length v ≤ length w = omega (arith, n, s .pre) in
+    (omega arith, rw (L .inv .1) (over-copy w v (L .i) 0 h k), simp length-set (omega arith))
 
 same-length : tie.Need-same-length Inv-loop μ-loop
 same-length c = search needs
@@ -59,12 +61,14 @@ same-length c = search needs
 returns : tie.Need-returns Inv-loop μ-loop
 returns c =
     let L = c .before .loop in
-    let a = c .before .before .before .args in
-    let z = c .before .before .before .pre in
-    let e : L .i ≡ length (a .codes .now) = omega (arith, z .1) in
-    let k : length (a .words .now) ≤ length (a .codes .now) = omega (arith, z .0, z .1) in
+    let s = c .before .before in
+    let w = s .args .words .now in
+    let v = s .args .codes in
+    let n : length v ≡ 16 = s .good .1 .0 .1 .0 .1 in
+    let e : L .i ≡ length v = omega (arith, n) in
+    let k : length w ≤ length v = omega (arith, n, s .pre) in
     let p = rw e at (L .inv .1) in
-    p ∙ ap (over (a .words .now)) (take-length (a .codes .now)) ∙ over-whole (a .words .now) (a .codes .now) k
+    p ∙ ap (over w) (take-length v) ∙ over-whole w v k
 
 pub write-codes-spec : {M : Type 1} → statement M
 write-codes-spec =
@@ -74,7 +78,7 @@ write-codes-spec =
     μ-loop
     loop-holds
     mul-words
-    shared-slice-read-words
+    array-read-words
     cast-words
     mul-words-2
     slice-write-words
