@@ -8,10 +8,11 @@ use lib.ListN.{length}
 use lib.Dec.{ltb, eqb}
 use borrow.Author.Tests.{lt-ltb, le-ltb, ltb-false}
 use Rattle.common.specs.Lent.{over}
-use Rattle.trcf.specs.Preprocessor.{accepted, statisticsLength}
+use Rattle.trcf.specs.Preprocessor.{State, accepted, statisticsLength}
 use Rattle.trcf.specs.View.{Lent, lentShort}
 use Rattle.trcf.specs.declared.preprocessor.Preprocessor.{Preprocessor}
-use Rattle.snapshot.specs.Restore.{Outcome, outcome, restoreOf}
+use Rattle.snapshot.specs.Read.{taken, same, read}
+use Rattle.snapshot.specs.Restore.{Outcome, outcome, restored, restoreOf}
 use Rattle.snapshot.proofs.RoundTrip.{restored-only}
 use Rattle.capi.specs.Head.{wordsOf}
 use Rattle.capi.specs.Restore.{restoreCalled, nothing, restoreAt}
@@ -25,6 +26,16 @@ module _ (t cs w : List ℕ) (l : Lent) (line : ℕ) {row bad : ℕ} {h : Prepro
       → restoreCalled row w' l' n ≡ restoreAt t cs w l line
   unfolding restoreAt
   restore-done e p r q = rw (le-ltb (length w) 44 e, sym p) (λ j. restoreCalled row (r j) l' (q j))
+
+-- "(27: codes differ from those expected, in number or value; after 19 …)": before 20, so however many words there are, and all is left as it was
+pub other-codes : (t cs w : List ℕ) (l : Lent) (line : ℕ) (v : State) → read t ≡ taken v → same (v .settings .codes) cs ≡ false
+    → restoreAt t cs w l line ≡ restoreCalled 27 w l line
+unfolding restoreAt restoreOf restored
+other-codes t cs w l line v e f = rw (e, f) (either (ltb (length w) 44))
+  where
+    either : (b : Bool) → cond b (restoreCalled 27 w l line) (restoreCalled 27 w l line) ≡ restoreCalled 27 w l line
+    either true = refl
+    either false = refl
 
 -- with too few words no text is taken up
 pub few-refuses : (t cs : List ℕ) → restoreOf t cs nothing .row ≡ 0 → ⊥
