@@ -152,16 +152,18 @@ fn row_of_words(w: &[u64]) -> u64 {
     }
 }
 
-/// A head with one word damaged: refused by the row of its settings, where there is one; else some answer, and nothing undefined.
+/// A head with one word damaged: refused by the row of its settings, where there is one; else its codes are told, and of calls there is some answer, and
+/// nothing undefined.
 fn damage(r: &mut Random, met: &mut Met, list: u64, p: &Preprocessor, s: &Settings, c: &Call) {
     let mut memory = p.memory().clone();
     if r.once_in(8) {
         memory.head.truncate(r.below(HEAD_WORDS as u64) as usize);
     } else {
         let at = r.below(HEAD_WORDS as u64) as usize;
-        memory.head[at] = match r.below(3) {
+        memory.head[at] = match r.below(4) {
             0 => r.next(),
             1 => r.below(70),
+            2 => r.from(65534, 65537),
             _ => memory.head[at] ^ (1 << r.below(64)),
         };
     }
@@ -171,7 +173,11 @@ fn damage(r: &mut Random, met: &mut Met, list: u64, p: &Preprocessor, s: &Settin
     let mut other = Preprocessor::from_memory(memory);
     if row == 0 {
         let mut output = vec![0.0; 32];
-        let _ = (other.drain(), other.scale(&mut output), other.shift(&mut output), other.difference_deviations(&mut output), other.save(), other.codes());
+        let _ = (other.drain(), other.scale(&mut output), other.shift(&mut output), other.difference_deviations(&mut output), other.save());
+        let codes = other.codes();
+        if codes.as_ref() != Ok(&decoded(&old.head).codes) {
+            difference(met, list, &format!("codes of a damaged head: {codes:?}: {:x?}", old.head), s, &[]);
+        }
         return;
     }
     let first = call(&mut other, c, s);
