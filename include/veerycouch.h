@@ -5,7 +5,7 @@
  * is lent; what C's own rules ask of a caller is listed under "The caller".
  *
  * THE ROW. Every call returns a row: 0 where it was done, else the number of the refusal below. A refused call has changed nothing: no lent
- * memory, no answer.
+ * memory, no answer; restore alone tells with 19 the bad line.
  *    1  the mode is STREAMING_IMPUTE                     2  input_dimensions (d) is 0          3  shingle_size (k) is 0
  *    4  d above 16 or k above 64                         5  not d weights, or not d codes      6  not 0 <= transform_decay < 1
  *    7  start_normalization above stop_normalization     8  start_normalization above 1999     9  method NONE and a weight other than 1
@@ -79,8 +79,8 @@ enum {
         INITIAL float *initial_values, size_t initial_values_len, INITIAL uint64_t *initial_timestamps, size_t initial_timestamps_len
 #define VEERYCOUCH_WRITTEN
 
-/* A preprocessor from its settings, weights and codes (d of each): writes the head and zeros into statistics, last_shingled_input, last_shingled_point and
- * previous_timestamps. initial_values and initial_timestamps are only measured. Rows 1 to 9, 19, 20. */
+/* A preprocessor from its settings, weights and codes (d of each): writes the head and zeros into statistics, last_shingled_input,
+ * last_shingled_point and previous_timestamps. initial_values and initial_timestamps are only measured. Rows 1 to 9, 19, 20. */
 uint64_t veerycouch_build(uint64_t forest_mode, uint64_t transform_method, size_t input_dimensions, size_t shingle_size, size_t start_normalization,
                           size_t stop_normalization, double transform_decay, float weight_time, const float *weights, size_t weights_len,
                           const uint16_t *codes, size_t codes_len, uint64_t *head, size_t head_len, VEERYCOUCH_PARTS(VEERYCOUCH_WRITTEN, const));
