@@ -67,12 +67,15 @@ head-row-requires c κs = search needs
 returns-4 : tie.Need-returns-4
 returns-4 c =
     let k = c .before .before .before .before .before .before .kind-row in
-    let s = c .before .before .before .before .before .before .before .before .before in
+    let i = c .before .before .before .before .before .if2 .left in
+    let p = c .before .before .before .before .before .before .before .before in
+    let s = p .before in
     let w = s .before .before .args .words .now in
     let v = c .before .before .before .codes-row in
+    let j = c .before .before .if3 .left in
     let h = c .before .head-of in
     let r = c .head-row in
-    (row-settings w (k .result) (s .if1 .left) (k .ensures) (c .before .before .before .before .before .if2 .left) (v .result) (r .result) (v .ensures) (c .before .before .if3 .left) (h .ensures) (r .ensures), λ e. record { whole = s .if1 .left; is = h .ensures })
+    (row-settings w (k .result) (s .if1 .left) (k .ensures) i (v .result) (r .result) (v .ensures) j (h .ensures) (r .ensures), λ e. record { whole = s .if1 .left; is = h .ensures })
 
 pub read-head-spec : {M : Type 1} → statement M
 read-head-spec =
