@@ -211,12 +211,13 @@ use Rattle.trcf.specs.declared.types.ForestMode.the-variants.{STANDARD, «TIME_
 use Rattle.snapshot.specs.Text as Text
 use Rattle.snapshot.specs.Text.{render}
 use Rattle.snapshot.specs.Ascii.{text}
+use Rattle.restart.specs.Statistics as Statistics
 use Rattle.restart.specs.History as History
 use Rattle.restart.specs.History.{historyText}
 ";
 
 /// The specs whose definitions the theorems compute with.
-const SPECS: [&str; 12] = [
+const SPECS: [&str; 13] = [
     "numeric/specs/Narrow",
     "numeric/specs/Root",
     "common/specs/Deviation",
@@ -228,6 +229,7 @@ const SPECS: [&str; 12] = [
     "trcf/specs/Transformer",
     "trcf/specs/Preprocessor",
     "snapshot/specs/Text",
+    "restart/specs/Statistics",
     "restart/specs/History",
 ];
 

@@ -782,6 +782,28 @@ pub fn file(kind: &str, seed: u64, count: u64) -> Option<String> {
     })
 }
 
+/// Where the last line with an answer ends: before its LF. A line `k` of the kind transformer has none; a text's answer stands in the line before it.
+fn last_answer(kind: &str, file: &str) -> usize {
+    if kind != "snapshot" && kind != "near" {
+        let kept = file.lines().rev().skip_while(|l| l.starts_with("k ")).map(|l| l.len() + 1).sum::<usize>();
+        return kept - 1;
+    }
+    let (mut at, mut last) = (0, 0);
+    while at < file.len() {
+        last = at + file[at..].find('\n').expect("a line");
+        let length: usize = file[at..last].split(' ').nth(1).and_then(|n| n.parse().ok()).expect("a length");
+        at = last + 1 + length + 1;
+    }
+    last
+}
+
+/// The file with a wrong answer: the last digit of the last one is another.
+pub fn with_wrong_line(kind: &str, file: &str) -> String {
+    let end = last_answer(kind, file);
+    let digit = if file[..end].ends_with('0') { "1" } else { "0" };
+    [&file[..end - 1], digit, &file[end..]].concat()
+}
+
 /// Short lists with the text after the last call, for cross-checks by computing in the proof language.
 pub fn traces(seed: u64, count: u64) -> String {
     let mut out = String::new();

@@ -21,6 +21,7 @@ use snapshot::restore::restore;
 use snapshot::save::save;
 use trcf::preprocessor::Preprocessor;
 use trcf::types::ForestMode;
+ghost use mathlib.Core.Path.{_≡_};
 ghost use Prim.Native.Nat.{_<_, _≤_};
 ghost use lib.ListN.{length};
 
@@ -37,6 +38,19 @@ fn behind_line(text: &[u8], from: usize) -> usize
     from
 }
 
+// One more for a tab, up to 16.
+fn one_tab_more(n: usize, b: u8) -> usize
+    requires { ⌜ n ≤ 16 ⌝ }
+    ensures { λ r. ⌜ r ≤ 16 ⌝ }
+{
+    if n < 16 {
+        if b == b'\t' {
+            return n + 1;
+        }
+    }
+    n
+}
+
 // How many tabs there are, at most 16.
 fn tabs(line: &[u8]) -> usize
     ensures { λ r. ⌜ r ≤ 16 ⌝ }
@@ -44,9 +58,7 @@ fn tabs(line: &[u8]) -> usize
     let mut n = 0usize;
     let mut i = 0usize;
     while i < line.len() {
-        if line[i] == b'\t' && n < 16 {
-            n += 1;
-        }
+        n = one_tab_more(n, line[i]);
         i += 1;
     }
     n
