@@ -5,17 +5,22 @@
  * is lent; what C's own rules ask of a caller is listed under "The caller".
  *
  * THE ROW. Every call returns a row: 0 where it was done, else the number of the refusal below. A refused call has changed nothing: no lent
- * memory, no answer.
+ * memory, no answer; restore alone tells with 19 the bad line.
  *    1  the mode is STREAMING_IMPUTE                     2  input_dimensions (d) is 0          3  shingle_size (k) is 0
- *    4  d above 16 or k above 64                         5  not d weights                      6  not 0 <= transform_decay < 1
+ *    4  d above 16 or k above 64                         5  not d weights, or not d codes      6  not 0 <= transform_decay < 1
  *    7  start_normalization above stop_normalization     8  start_normalization above 1999     9  method NONE and a weight other than 1
  *   10  not d numbers in the input                      11  a number of the input is not finite
  *   12  a timestamp below the newest                    13  y or expected, where given, not get_dimension long
  *   14  relative_index outside 1 - k to 0               15  drain with nothing to drain
  *   16  a forecast of unequal lists or broken blocks    18  a counter would pass its limit
- *   19  a number that names no mode or no method        20  a lent part is too short
- * They are asked in this order, but for two: a head of fewer than VEERYCOUCH_HEAD_WORDS words is refused by 20 before all else (by build:
- * after rows 1 to 9), and a number that names no mode or no method by 19 before rows 1 to 9.
+ *   19  a number that names no mode, no method or (in a word of the head) no code; or a text not of the form
+ *   20  a lent part is too short                        27  the codes of a text differ from those expected, in number or value
+ * They are asked in this order, but for three: a head of fewer than VEERYCOUCH_HEAD_WORDS words is refused by 20 before all else (by build:
+ * after rows 1 to 9; by restore: after 19 and 27), a number that names no mode, no method or no code by 19 before rows 1 to 9, and 27 stands
+ * between 19 and 20.
+ *
+ * THE CODES. Each of the d channels has a code of 16 bits, whatever the caller means by it. build is given them, the text carries them, and restore
+ * is told the ones expected: a text of other channels is refused by 27. A text of before there were codes has none, and is read as one with d zeros.
  *
  * THE PARTS. The caller owns all memory. A part is a pointer and the number of its elements. A part may be longer than it must be: what lies
  * behind keeps its contents. With d, k and start as given to build, w = d in STANDARD and d + 1 in TIME_AUGMENTED:
@@ -25,12 +30,13 @@
  *   initial_timestamps    start
  * These seven belong together from build on: between two calls nobody else may write them, and they may be copied, and moved, as bytes.
  *
- * THE HEAD. 28 words of 64 bits, so that a firmware can look at it, or keep it:
+ * THE HEAD. 44 words of 64 bits, so that a firmware can look at it, or keep it:
  *   0 mode   1 method   2 d   3 k   4 start   5 stop   6 decay, as the bits of a double   7 weight_time, as the bits of a float
  *   8 values_seen   9 internal_timestamp   10 readings fed to the statistics   11 initial values held   12 to 27 weights, as the bits of a float
+ *   28 to 43 codes, the first d of them in use
  * In a word that holds a float the low 32 bits count. Every bit pattern of a not-a-number is read as not-a-number, and written as 7fc00000 (float) or
- * 7ff8000000000000 (double). A damaged head is refused as `build` refuses its settings (rows 1 to 9, 19); counters that do not fit the
- * settings, by 20. A call writes words 8 to 11 alone; build writes all 28.
+ * 7ff8000000000000 (double). A damaged head is refused as `build` refuses its settings (rows 1 to 9, 19); by 19 too where one of words 28 to 43 is
+ * above 65535; counters that do not fit the settings, by 20. A call writes words 8 to 11 alone; build and restore write all 44.
  *
  * THE CALLER. Each pointer must be aligned for its element and valid for as many elements as its length says; with length 0 it must still not be
  * NULL. A pointer to a single number must be valid. What a call writes may not overlap anything else that it is handed. Two calls may run at the
@@ -47,7 +53,10 @@
 extern "C" {
 #endif
 
-#define VEERYCOUCH_HEAD_WORDS 28
+/* The version of this header, raised where a declaration or the head changes. 2: build and restore take codes, the head has 44 words (28 before). */
+#define VEERYCOUCH_HEADER 2
+
+#define VEERYCOUCH_HEAD_WORDS 44
 #define VEERYCOUCH_STATISTICS(d) (3 * (5 * (d) + 5))
 
 /* No text is longer. */
@@ -70,11 +79,11 @@ enum {
         INITIAL float *initial_values, size_t initial_values_len, INITIAL uint64_t *initial_timestamps, size_t initial_timestamps_len
 #define VEERYCOUCH_WRITTEN
 
-/* A preprocessor from its settings: writes the head and zeros into statistics, last_shingled_input, last_shingled_point and
- * previous_timestamps. initial_values and initial_timestamps are only measured. Rows 1 to 9, 19, 20. */
+/* A preprocessor from its settings, weights and codes (d of each): writes the head and zeros into statistics, last_shingled_input,
+ * last_shingled_point and previous_timestamps. initial_values and initial_timestamps are only measured. Rows 1 to 9, 19, 20. */
 uint64_t veerycouch_build(uint64_t forest_mode, uint64_t transform_method, size_t input_dimensions, size_t shingle_size, size_t start_normalization,
                           size_t stop_normalization, double transform_decay, float weight_time, const float *weights, size_t weights_len,
-                          uint64_t *head, size_t head_len, VEERYCOUCH_PARTS(VEERYCOUCH_WRITTEN, const));
+                          const uint16_t *codes, size_t codes_len, uint64_t *head, size_t head_len, VEERYCOUCH_PARTS(VEERYCOUCH_WRITTEN, const));
 
 /* The shingled point of a reading (d numbers). *given becomes 1 and the point stands in the first get_dimension numbers of output; or 0 while
  * initial values are awaited, and output is left. Feeds the initial values first where that is due. Rows 10, 11, 18, 20. */
@@ -84,8 +93,8 @@ uint64_t veerycouch_shingled_point(uint64_t *head, size_t head_len, VEERYCOUCH_P
 /* Learns a reading, or keeps it while initial values are awaited. y is the forest's point and counts where has_y is not 0; expected is the forest's
  * expected point and counts where expects is not 0 (get_dimension numbers each). Past waiting and without y nothing is learnt.
  * *written becomes 1 where the w deviations stand in deviations_out (they do after a learn, and with the last awaited value), else 0.
- * *has_anomaly becomes 1 where grade > 0 and y and expected are given: d past values then stand in past_out, d expected ones in expected_out,
- * *past_timestamp is the past reading's and *likelihood is 1; else 0, 0 and 0. Rows 10 to 14, 18, 20. */
+ * *has_anomaly becomes 1 where, past waiting, grade > 0 and y and expected are given: d past values then stand in past_out, d expected ones in
+ * expected_out, *past_timestamp is the time one reading before the one in past_out, and *likelihood is 1; else 0, 0 and 0. Rows 10 to 14, 18, 20. */
 uint64_t veerycouch_post_process(uint64_t *head, size_t head_len, VEERYCOUCH_PARTS(VEERYCOUCH_WRITTEN, VEERYCOUCH_WRITTEN), const float *input,
                                  size_t input_len, uint64_t timestamp, uint64_t has_y, const float *y, size_t y_len, uint64_t expects,
                                  const float *expected, size_t expected_len, float grade, int32_t relative_index, float *deviations_out,
@@ -120,8 +129,9 @@ uint64_t veerycouch_save(const uint64_t *head, size_t head_len, VEERYCOUCH_PARTS
                          size_t output_len);
 
 /* Taking a text up: the head into its words, the parts filled; of the parts' contents nothing is read. A text not of the form gives 19 with its first
- * bad line, from 1, in *line; a part that is too short gives 20. Refused, it has written nothing but that line. */
-uint64_t veerycouch_restore(const uint8_t *text, size_t text_len, uint64_t *head, size_t head_len,
+ * bad line, from 1, in *line; one whose codes are not those expected gives 27, and a part that is too short 20, with no line. Refused, it has written
+ * nothing but that line. The text put away again has the same bytes; one without its codes is put away with them, zeros. */
+uint64_t veerycouch_restore(const uint8_t *text, size_t text_len, const uint16_t *codes, size_t codes_len, uint64_t *head, size_t head_len,
                             VEERYCOUCH_PARTS(VEERYCOUCH_WRITTEN, VEERYCOUCH_WRITTEN), uint64_t *line);
 
 /* Each writes one number: readings learnt or awaiting; the number on the panel; readings learnt; 1 where the shingle is full, else 0;
@@ -136,6 +146,9 @@ uint64_t veerycouch_shingle_size(const uint64_t *head, size_t head_len, uint64_t
 uint64_t veerycouch_start_normalization(const uint64_t *head, size_t head_len, uint64_t *answer);
 uint64_t veerycouch_transformation_method(const uint64_t *head, size_t head_len, uint64_t *answer);
 uint64_t veerycouch_forest_mode(const uint64_t *head, size_t head_len, uint64_t *answer);
+
+/* The codes of the channels: d numbers into output. Rows 1 to 9, 19, of a damaged head; 20. */
+uint64_t veerycouch_codes(const uint64_t *head, size_t head_len, uint16_t *output, size_t output_len);
 
 /* The square root of a double, and the float nearest to a double, as the calls compute them: rounded once, on any machine. */
 double veerycouch_sqrt(double x);

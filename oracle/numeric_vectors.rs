@@ -181,6 +181,25 @@ fn integers(out: &mut Out, letter: char, keeps: u32, random: &mut Random) {
     }
 }
 
+// What the replay must report: for each function one answer whose last bit is another, and a line of no function.
+fn wrong(out: &mut Out) {
+    for (letter, given) in [
+        ('s', 2.0f64.to_bits()),
+        ('n', 0.1f64.to_bits()),
+        ('w', 0.1f32.to_bits() as u64),
+        ('d', (1 << 53) + 1),
+        ('f', (1 << 24) + 1),
+    ] {
+        writeln!(
+            out.text,
+            "{letter}\t{given:016x}\t{:016x}",
+            answer(letter, given) ^ 1
+        )
+        .unwrap();
+    }
+    writeln!(out.text, "x\t{:016x}\t{:016x}", 0, 0).unwrap();
+}
+
 fn main() {
     let mut out = Out { text: Vec::new() };
     let mut random = Random(1);
@@ -191,5 +210,6 @@ fn main() {
     every_f32(&mut out, &mut random);
     integers(&mut out, 'd', 53, &mut random);
     integers(&mut out, 'f', 24, &mut random);
+    wrong(&mut out);
     std::io::stdout().write_all(&out.text).unwrap();
 }

@@ -169,16 +169,23 @@ def random_input(seed):
 
 
 def write(name, inputs):
+    """The inputs with their answers, and the sample once more with a wrong one: its last digit but for the LF is another."""
+    wrong = sample()
     with open(os.path.join(HERE, "data", name), "wb") as f:
-        for text in inputs:
+        for text in [*inputs, wrong]:
             answer = oracle(text)
             f.write(b"%d %d\n" % (len(text), len(answer)) + text + answer)
-    return f"{name}: agree {len(inputs)}, differ 0\n"
+        f.seek(-2, os.SEEK_CUR)
+        f.write(b"1")
+    return f"{name}: agree {len(inputs)}, differ 1\n"
+
+
+def sample():
+    return open(os.path.join(HERE, "..", "bench", "stdin"), "rb").read()
 
 
 def make():
-    sample = open(os.path.join(HERE, "..", "bench", "stdin"), "rb").read()
-    inputs = [b"", b"\n", sample, sample[:-1], *heads(), *calls()]
+    inputs = [b"", b"\n", sample(), sample()[:-1], *heads(), *calls()]
     inputs += [rubbish(random.Random(seed)) for seed in range(1, 21)]
     inputs += [vectors(seed, 24) for seed in range(1, 101)]
     lines = write("inputs", inputs) + write("long", list(long_lines()))

@@ -3,7 +3,7 @@
 //! A call that is refused returns `Err(Refusal(row))`, with document 01's row, and has changed nothing.
 mod raw;
 
-/// The row of a refused call, 1 to 20.
+/// The row of a refused call: 1 to 20, or 27.
 #[derive(Clone, Copy, Debug, PartialEq, Eq)]
 pub struct Refusal(pub u64);
 
@@ -54,6 +54,8 @@ pub struct Settings {
     pub transform_decay: f64,
     pub weight_time: f32,
     pub weights: Vec<f32>,
+    /// One for each channel.
+    pub codes: Vec<u16>,
 }
 
 /// What the library asks to be lent: see include/veerycouch.h for the lengths. The fields are open so that memory of any length and any
@@ -69,7 +71,7 @@ pub struct Memory {
     pub initial_timestamps: Vec<u64>,
 }
 
-pub const HEAD_WORDS: usize = 28;
+pub const HEAD_WORDS: usize = 44;
 
 impl Memory {
     /// Enough for these settings; settings past the limits get memory as of the limits, and `build` refuses them.
@@ -182,8 +184,8 @@ impl Preprocessor {
         let row = unsafe {
             raw::veerycouch_build(
                 mode, method, settings.input_dimensions, settings.shingle_size, settings.start_normalization, settings.stop_normalization,
-                settings.transform_decay, settings.weight_time, settings.weights.as_ptr(), settings.weights.len(), m.head.as_mut_ptr(), m.head.len(),
-                a, an, b, bn, c, cn, d, dn, m.initial_values.as_ptr(), m.initial_values.len(), m.initial_timestamps.as_ptr(), m.initial_timestamps.len(),
+                settings.transform_decay, settings.weight_time, settings.weights.as_ptr(), settings.weights.len(), settings.codes.as_ptr(), settings.codes.len(),
+                m.head.as_mut_ptr(), m.head.len(), a, an, b, bn, c, cn, d, dn, m.initial_values.as_ptr(), m.initial_values.len(), m.initial_timestamps.as_ptr(), m.initial_timestamps.len(),
             )
         };
         match checked(row) {
@@ -316,21 +318,21 @@ impl Preprocessor {
         Ok(text)
     }
 
-    /// The text taken up; a text not of the form gives row 19 and its first bad line.
-    pub fn restore(text: &[u8]) -> Result<Preprocessor, (Refusal, u64)> {
-        Preprocessor::restore_in(text, Memory::sized(16, 64, 1999)).map_err(|(refusal, line, _)| (refusal, line))
+    /// The text taken up, where its codes are those expected, otherwise row 27; a text not of the form gives row 19 and its first bad line.
+    pub fn restore(text: &[u8], codes: &[u16]) -> Result<Preprocessor, (Refusal, u64)> {
+        Preprocessor::restore_in(text, codes, Memory::sized(16, 64, 1999)).map_err(|(refusal, line, _)| (refusal, line))
     }
 
-    /// The text taken up in memory of any contents; a text not of the form gives row 19 and its first bad line.
-    pub fn restore_in(text: &[u8], mut memory: Memory) -> Result<Preprocessor, (Refusal, u64, Memory)> {
+    /// The same in memory of any length and contents, which a refusal hands back as it was; the line is 0 but for row 19.
+    pub fn restore_in(text: &[u8], codes: &[u16], mut memory: Memory) -> Result<Preprocessor, (Refusal, u64, Memory)> {
         let m = &mut memory;
         let mut line = 0;
         let (a, an, b, bn, c, cn, d, dn) = lent!(&mut m);
         // SAFETY: every part is a slice of its own that lives through the call.
         let row = unsafe {
             raw::veerycouch_restore(
-                text.as_ptr(), text.len(), m.head.as_mut_ptr(), m.head.len(), a, an, b, bn, c, cn, d, dn, m.initial_values.as_mut_ptr(),
-                m.initial_values.len(), m.initial_timestamps.as_mut_ptr(), m.initial_timestamps.len(), &mut line,
+                text.as_ptr(), text.len(), codes.as_ptr(), codes.len(), m.head.as_mut_ptr(), m.head.len(), a, an, b, bn, c, cn, d, dn,
+                m.initial_values.as_mut_ptr(), m.initial_values.len(), m.initial_timestamps.as_mut_ptr(), m.initial_timestamps.len(), &mut line,
             )
         };
         match checked(row) {
@@ -348,6 +350,19 @@ impl Preprocessor {
     getter!("How many readings wait until the statistics begin.", start_normalization, veerycouch_start_normalization);
     getter!("The number of the method.", transformation_method, veerycouch_transformation_method);
     getter!("The number of the mode.", forest_mode, veerycouch_forest_mode);
+
+    /// The codes of the channels, one for each, into the first numbers of the output.
+    pub fn codes_into(&self, output: &mut [u16]) -> Result<(), Refusal> {
+        // SAFETY: the words are ours, and the output is apart from them.
+        checked(unsafe { raw::veerycouch_codes(self.memory.head.as_ptr(), self.memory.head.len(), output.as_mut_ptr(), output.len()) })
+    }
+
+    /// The codes of the channels.
+    pub fn codes(&self) -> Result<Vec<u16>, Refusal> {
+        let mut codes = vec![0; self.input_dimensions()? as usize];
+        self.codes_into(&mut codes)?;
+        Ok(codes)
+    }
 
     /// Whether the shingle is full.
     pub fn is_ready(&self) -> Result<bool, Refusal> {

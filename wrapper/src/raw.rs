@@ -5,7 +5,7 @@
 extern "C" {
     pub fn veerycouch_build(
         forest_mode: u64, transform_method: u64, input_dimensions: usize, shingle_size: usize, start_normalization: usize, stop_normalization: usize,
-        transform_decay: f64, weight_time: f32, weights: *const f32, weights_len: usize, head: *mut u64, head_len: usize,
+        transform_decay: f64, weight_time: f32, weights: *const f32, weights_len: usize, codes: *const u16, codes_len: usize, head: *mut u64, head_len: usize,
         statistics: *mut f64, statistics_len: usize, last_shingled_input: *mut f32, last_shingled_input_len: usize,
         last_shingled_point: *mut f32, last_shingled_point_len: usize, previous_timestamps: *mut u64, previous_timestamps_len: usize,
         initial_values: *const f32, initial_values_len: usize, initial_timestamps: *const u64, initial_timestamps_len: usize,
@@ -67,7 +67,7 @@ extern "C" {
         length: *mut u64, output: *mut u8, output_len: usize,
     ) -> u64;
     pub fn veerycouch_restore(
-        text: *const u8, text_len: usize, head: *mut u64, head_len: usize, statistics: *mut f64, statistics_len: usize,
+        text: *const u8, text_len: usize, codes: *const u16, codes_len: usize, head: *mut u64, head_len: usize, statistics: *mut f64, statistics_len: usize,
         last_shingled_input: *mut f32, last_shingled_input_len: usize, last_shingled_point: *mut f32, last_shingled_point_len: usize,
         previous_timestamps: *mut u64, previous_timestamps_len: usize, initial_values: *mut f32, initial_values_len: usize,
         initial_timestamps: *mut u64, initial_timestamps_len: usize, line: *mut u64,
@@ -82,6 +82,7 @@ extern "C" {
     pub fn veerycouch_start_normalization(head: *const u64, head_len: usize, answer: *mut u64) -> u64;
     pub fn veerycouch_transformation_method(head: *const u64, head_len: usize, answer: *mut u64) -> u64;
     pub fn veerycouch_forest_mode(head: *const u64, head_len: usize, answer: *mut u64) -> u64;
+    pub fn veerycouch_codes(head: *const u64, head_len: usize, output: *mut u16, output_len: usize) -> u64;
     pub fn veerycouch_sqrt(x: f64) -> f64;
     pub fn veerycouch_to_f32(x: f64) -> f32;
 }

@@ -1,6 +1,9 @@
 //! The wrapper's own tests: samples of document 01, refusals, the head's words, and memory past the need.
 use veerycouch::{sqrt, to_f32, ForestMode, Learn, Memory, Preprocessor, Ranges, Refusal, Settings, TransformMethod, HEAD_WORDS};
 
+const FUEL_TRIM: u16 = 6;
+const LOAD: u16 = 4;
+
 fn settings(method: TransformMethod, d: usize, k: usize, start: usize) -> Settings {
     Settings {
         forest_mode: ForestMode::Standard,
@@ -12,6 +15,7 @@ fn settings(method: TransformMethod, d: usize, k: usize, start: usize) -> Settin
         transform_decay: 0.1,
         weight_time: 1.0,
         weights: vec![1.0; d],
+        codes: (0..d as u16).map(|i| FUEL_TRIM + i).collect(),
     }
 }
 
@@ -52,12 +56,14 @@ fn weighted() {
 fn every_row_of_build() {
     let good = settings(TransformMethod::None, 2, 3, 4);
     type Change = fn(&mut Settings);
-    let rows: [(Change, u64); 9] = [
+    let rows: [(Change, u64); 11] = [
         (|s| s.forest_mode = ForestMode::StreamingImpute, 1),
         (|s| s.input_dimensions = 0, 2),
         (|s| s.shingle_size = 0, 3),
         (|s| s.shingle_size = 65, 4),
         (|s| s.weights = vec![1.0], 5),
+        (|s| s.codes = vec![FUEL_TRIM], 5),
+        (|s| s.codes.push(0), 5),
         (|s| s.transform_decay = 1.0, 6),
         (|s| s.stop_normalization = 3, 7),
         (|s| (s.start_normalization, s.stop_normalization) = (2000, 2000), 8),
@@ -81,8 +87,14 @@ fn every_row_of_build() {
 fn the_words_of_a_head() {
     let p = Preprocessor::build(&settings(TransformMethod::NormalizeDifference, 2, 4, 10)).unwrap();
     let mut words = vec![0, 5, 2, 4, 10, 110, 0.1f64.to_bits(), 0x3f80_0000, 0, 0, 0, 0, 0x3f80_0000, 0x3f80_0000];
+    words.resize(28, 0);
+    words.extend([6, 7]);
     words.resize(HEAD_WORDS, 0);
     assert_eq!(p.memory().head, words);
+    assert_eq!(p.codes(), Ok(vec![6, 7]));
+    let mut output = [9; 3];
+    assert_eq!((p.codes_into(&mut output[..1]), output), (Err(Refusal(20)), [9; 3]));
+    assert_eq!((p.codes_into(&mut output), output), (Ok(()), [6, 7, 9]));
     assert_eq!((p.get_dimension(), p.input_dimensions(), p.shingle_size(), p.start_normalization()), (Ok(8), Ok(2), Ok(4), Ok(10)));
     assert_eq!((p.is_ready(), p.transformation_method(), p.forest_mode()), (Ok(false), Ok(5), Ok(0)));
 }
@@ -90,12 +102,12 @@ fn the_words_of_a_head() {
 #[test]
 fn damaged_heads() {
     let p = Preprocessor::build(&settings(TransformMethod::Normalize, 2, 4, 10)).unwrap();
-    for (at, word, row) in [(0, 2, 1), (0, 3, 19), (1, 6, 19), (2, 0, 2), (3, 0, 3), (2, 17, 4), (3, 65, 4), (6, 0x7ff8_0000_0000_0000, 6), (4, 200, 7)] {
+    for (at, word, row) in [(0, 2, 1), (0, 3, 19), (1, 6, 19), (2, 0, 2), (3, 0, 3), (2, 17, 4), (3, 65, 4), (6, 0x7ff8_0000_0000_0000, 6), (4, 200, 7), (28, 65536, 19), (43, u64::MAX, 19)] {
         let mut memory = p.clone().into_memory();
         memory.head[at] = word;
         let mut other = Preprocessor::from_memory(memory);
-        let rows = [other.drain().err(), other.panel().err(), other.save().err(), other.shift(&mut [0.0; 4]).err(), other.shingled_point(&[1.0, 2.0], 1).err()];
-        assert_eq!(rows, [Some(Refusal(row)); 5], "word {at} is {word}");
+        let rows = [other.drain().err(), other.panel().err(), other.codes_into(&mut [0; 16]).err(), other.save().err(), other.shift(&mut [0.0; 4]).err(), other.shingled_point(&[1.0, 2.0], 1).err()];
+        assert_eq!(rows, [Some(Refusal(row)); 6], "word {at} is {word}");
     }
 }
 
@@ -121,7 +133,7 @@ fn patterns() {
 fn text_and_its_length() {
     let p = Preprocessor::build(&settings(TransformMethod::None, 1, 1, 10)).unwrap();
     let text = p.save().unwrap();
-    assert!(text.starts_with(b"set\tS\t0\t1\t1\t10\t110\t3fb999999999999a\t3f800000\nwgt\t3f800000\ncnt\t0\t0\t0\ndev\t"));
+    assert!(text.starts_with(b"set\tS\t0\t1\t1\t10\t110\t3fb999999999999a\t3f800000\nwgt\t3f800000\nchn\t6\ncnt\t0\t0\t0\ndev\t"));
     let mut output = vec![9; text.len() + 1];
     assert_eq!(p.save_into(&mut output[..text.len() - 1]), Err(Refusal(20)));
     assert!(output.iter().all(|&b| b == 9));
@@ -141,7 +153,7 @@ fn taken_up() {
     let mut memory = Memory::sized(2, 3, 5);
     memory.statistics.fill(7.0);
     memory.initial_timestamps.fill(9);
-    let mut q = Preprocessor::restore_in(&text, memory).unwrap();
+    let mut q = Preprocessor::restore_in(&text, &s.codes, memory).unwrap();
     assert_eq!((q.save().unwrap(), q.values_seen()), (text.clone(), Ok(2)));
     assert_eq!(q.memory().initial_timestamps, [0, 1, 9, 9, 9]);
     for r in [&mut p, &mut q] {
@@ -151,10 +163,43 @@ fn taken_up() {
     // the waiting readings are missing: the line after the last
     let cut = text.iter().rposition(|&b| b == b'b').unwrap();
     let lines = text[..cut].iter().filter(|&&b| b == b'\n').count() as u64;
-    assert_eq!(Preprocessor::restore(&text[..cut]).unwrap_err(), (Refusal(19), lines + 1));
-    let (refusal, _, memory) = Preprocessor::restore_in(&text, Memory::sized(1, 2, 2)).unwrap_err();
-    assert_eq!((refusal, memory.head), (Refusal(20), vec![0; 28]));
-    assert_eq!(Preprocessor::restore(&text).unwrap().save().unwrap(), text);
+    assert_eq!(Preprocessor::restore(&text[..cut], &s.codes).unwrap_err(), (Refusal(19), lines + 1));
+    let (refusal, _, memory) = Preprocessor::restore_in(&text, &s.codes, Memory::sized(1, 2, 2)).unwrap_err();
+    assert_eq!((refusal, memory.head), (Refusal(20), vec![0; HEAD_WORDS]));
+    assert_eq!(Preprocessor::restore(&text, &s.codes).unwrap().save().unwrap(), text);
+}
+
+/// "A trace of fuel trims was taken up on a load screen."
+#[test]
+fn other_channels() {
+    let text = Preprocessor::build(&settings(TransformMethod::Normalize, 2, 3, 4)).unwrap().save().unwrap();
+    let load: &[u16] = &[LOAD, FUEL_TRIM + 1];
+    let memory = Memory::sized(2, 3, 4);
+    for codes in [load, &[FUEL_TRIM], &[FUEL_TRIM, FUEL_TRIM + 1, 0], &[]] {
+        let (refusal, line, after) = Preprocessor::restore_in(&text, codes, memory.clone()).unwrap_err();
+        assert_eq!((refusal, line, after.head, after.statistics), (Refusal(27), 0, memory.head.clone(), memory.statistics.clone()));
+    }
+    // 19 comes before 27, and 27 before 20, too few words among it
+    assert_eq!(Preprocessor::restore(&text[1..], load).unwrap_err(), (Refusal(19), 1));
+    let mut short = Memory::sized(1, 1, 0);
+    short.head.pop();
+    assert_eq!(Preprocessor::restore_in(&text, load, short.clone()).unwrap_err().0, Refusal(27));
+    let trims = [FUEL_TRIM, FUEL_TRIM + 1];
+    assert_eq!(Preprocessor::restore_in(&text, &trims, short).unwrap_err().0, Refusal(20));
+    assert_eq!(Preprocessor::restore(&text, &trims).unwrap().codes(), Ok(trims.to_vec()));
+}
+
+/// A text of before there were codes is read as one with zeros, and put away with them.
+#[test]
+fn without_codes() {
+    let mut s = settings(TransformMethod::None, 2, 1, 0);
+    s.codes = vec![0, 0];
+    let text = Preprocessor::build(&s).unwrap().save().unwrap();
+    let line = b"chn\t0\t0\n";
+    let at = text.windows(line.len()).position(|w| w == line).unwrap();
+    let old = [&text[..at], &text[at + line.len()..]].concat();
+    assert_eq!(Preprocessor::restore(&old, &[0, 0]).unwrap().save().unwrap(), text);
+    assert_eq!(Preprocessor::restore(&old, &[FUEL_TRIM, FUEL_TRIM + 1]).unwrap_err(), (Refusal(27), 0));
 }
 
 #[test]

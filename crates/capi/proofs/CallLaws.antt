@@ -1,15 +1,17 @@
 -- The calls, from what trcf's and snapshot's promise. Assumes nothing.
-use Prim.Native.Nat.{ℕ}
-use mathlib.Core.Bool.{Bool}
+use Prim.Native.Nat.{ℕ, _≤_, _<_}
+use mathlib.Core.Bool.{Bool, cond}
 use mathlib.Core.List.{List}
 use mathlib.Core.Path.{_≡_, sym, ap, _∙_}
 use native.Mathlib.Omega.{arith}
+use lib.ListN.{length}
 use lib.Ieee.{Float}
+use borrow.Author.Tests.{lt-ltb, le-ltb}
 use Rattle.common.specs.Lent.{over}
 use Rattle.trcf.specs.Settings.{Settings, settingsRow}
 use Rattle.trcf.specs.Calls.{Call, Learn, Forecast}
 use Rattle.trcf.specs.Preprocessor.{accepted}
-use Rattle.trcf.specs.View.{Lent, Outcome, outcome, orElse, buildOf, drainOf, pointed, pointAfter, learnOutcome, learnAfter, Written, written, writeOf}
+use Rattle.trcf.specs.View.{Lent, settingsOf, Outcome, outcome, orElse, buildOf, drainOf, pointed, pointAfter, learnOutcome, learnAfter, Written, written, writeOf}
 use Rattle.trcf.specs.Extrapolation.{Extrapolation, extrapolation, extrapolationOf}
 use Rattle.trcf.specs.declared.types.TransformMethod.{TransformMethod}
 use Rattle.trcf.specs.declared.types.ForestMode.{ForestMode}
@@ -17,7 +19,7 @@ use Rattle.trcf.specs.declared.preprocessor.Preprocessor.{Preprocessor}
 use Rattle.trcf.proofs.OutcomeLaws.{accepted-not, orElse-is}
 use Rattle.snapshot.specs.Save.{saveOf, outcome as saved}
 use Rattle.capi.specs.Head.{headOf, wordsOf, countsOver, kindRow, shortRow, wordsRow, Read}
-use Rattle.capi.specs.Calls.{onHead, flag, Called, called, drainTold, drainAt, buildTold, buildAt, pointCalled, pointTold, pointAt, Anomaly, anomaly, learnCalled, learnTold, learnAt, writeAt, extrapolationAt, saveTold, saveAt, got, getAt}
+use Rattle.capi.specs.Calls.{onHead, flag, CodesGot, codesGot, codesTold, codesAt, Called, called, drainTold, drainAt, buildTold, buildAt, pointCalled, pointTold, pointAt, Anomaly, anomaly, learnCalled, learnTold, learnAt, writeAt, extrapolationAt, saveTold, saveAt, got, getAt}
 
 module _ {A : Type 0} where
   -- an answer where a call was not refused
@@ -67,6 +69,10 @@ module _ (w : List ℕ) {n : ℕ} (e : n ≡ wordsRow w) where
   pub get-refused : (v : ℕ) (f : Preprocessor → ℕ) → (n ≡ 0 → ⊥) → got n v ≡ getAt w v f
   unfolding getAt
   get-refused v f z = refused w (got 0 (f (headOf w))) (λ (r : ℕ). got r v) n e z
+
+  pub codes-refused : (out : List ℕ) → (n ≡ 0 → ⊥) → codesGot n out ≡ codesAt w out
+  unfolding codesAt
+  codes-refused out z = refused w (codesTold (settingsOf (headOf w) .codes) out) (λ (r : ℕ). codesGot r out) n e z
 
   module _ {h : Preprocessor} (z : n ≡ 0) (read : n ≡ 0 → Read w h) where
     pub drain-done : (l : Lent) {row : ℕ} {next : Preprocessor} {l' : Lent} {w' : List ℕ}
@@ -120,10 +126,28 @@ module _ (w : List ℕ) {n : ℕ} (e : n ≡ wordsRow w) where
     unfolding getAt
     get-done v f p = ap (got 0) (p ∙ ap f (read z .is)) ∙ done w (got 0 (f (headOf w))) (λ (r : ℕ). got r v) n e z
 
+    pub codes-done : (cs out : List ℕ) {o : CodesGot} → cs ≡ settingsOf h .codes → o ≡ codesTold cs out → o ≡ codesAt w out
+    unfolding codesAt
+    codes-done cs out i p =
+        p
+        ∙ ap (λ (v : List ℕ). codesTold v out) (i ∙ ap (λ (x : Preprocessor). settingsOf x .codes) (read z .is))
+        ∙ done w (codesTold (settingsOf (headOf w) .codes) out) (λ (r : ℕ). codesGot r out) n e z
+
+-- ---- the codes, told or too many
+
+pub codes-many : (cs out : List ℕ) → length out < length cs → codesGot 20 out ≡ codesTold cs out
+unfolding codesTold
+codes-many cs out h = sym (ap (λ (b : Bool). cond b (codesGot 20 out) (codesGot 0 (over out cs))) (lt-ltb (length out) (length cs) h))
+
+pub codes-fit : (cs out : List ℕ) {v : List ℕ} → length cs ≤ length out → v ≡ over out cs → codesGot 0 v ≡ codesTold cs out
+unfolding codesTold
+codes-fit cs out h e =
+    ap (codesGot 0) e ∙ sym (ap (λ (b : Bool). cond b (codesGot 20 out) (codesGot 0 (over out cs))) (le-ltb (length out) (length cs) h))
+
 -- ---- `build`
 
-abbrev pub settingsWith : ForestMode → TransformMethod → ℕ → ℕ → ℕ → ℕ → Float → Float → List Float → Settings
-settingsWith mode method d k start stop decay weightTime weights =
+abbrev pub settingsWith : ForestMode → TransformMethod → ℕ → ℕ → ℕ → ℕ → Float → Float → List Float → List ℕ → Settings
+settingsWith mode method d k start stop decay weightTime weights codes =
     record {
       mode = mode;
       method = method;
@@ -134,6 +158,7 @@ settingsWith mode method d k start stop decay weightTime weights =
       decay = decay;
       weightTime = weightTime;
       weights = weights;
+      codes = codes;
     }
 
 module _ (mode method : ℕ) (s : Settings) (w : List ℕ) (l : Lent) where

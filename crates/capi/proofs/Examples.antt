@@ -12,10 +12,11 @@ use Rattle.trcf.specs.declared.types.TransformMethod.the-variants.{NORMALIZE}
 use Rattle.trcf.specs.declared.types.ForestMode.the-variants.{«TIME_AUGMENTED»}
 use Rattle.trcf.specs.declared.preprocessor.Preprocessor.{Preprocessor}
 use Rattle.common.specs.Lent.{over}
-use Rattle.capi.specs.Head.{headOf, numbersOf, wordsOf, wordsRow, single}
+use Rattle.capi.specs.Head.{headOf, numbersOf, frontOf, wordsOf, wordsRow, single}
+use Rattle.capi.specs.Calls.{onHead, codesGot, codesTold, codesAt}
 
 all : Unit {0}
-unfolding wordsOf numbersOf headOf wordsRow settingsRow allOne outsideUnit over toBits ofBits le
+unfolding wordsOf frontOf numbersOf headOf wordsRow onHead codesTold codesAt settingsRow allOne outsideUnit over toBits ofBits le
 all = tt
 
 abbrev sample : Preprocessor
@@ -31,11 +32,14 @@ sample =
       decay = ofBits binary64 0x3fb9_9999_9999_999a;
       weightTime = one32;
       weights = one32 ∷ one32 ∷ [];
+      codes = 12 ∷ 65535 ∷ [];
     })
 
 abbrev words : List ℕ
 words =
-    1 ∷ 4 ∷ 2 ∷ 4 ∷ 10 ∷ 20 ∷ 0x3fb9_9999_9999_999a ∷ 0x3f80_0000 ∷ 0 ∷ 0 ∷ 0 ∷ 0 ∷ 0x3f80_0000 ∷ 0x3f80_0000 ∷ 0 ∷ 0 ∷ 0 ∷ 0 ∷ 0 ∷ 0 ∷ 0 ∷ 0 ∷ 0 ∷ 0 ∷ 0 ∷ 0 ∷ 0 ∷ 0 ∷ []
+    1 ∷ 4 ∷ 2 ∷ 4 ∷ 10 ∷ 20 ∷ 0x3fb9_9999_9999_999a ∷ 0x3f80_0000 ∷ 0 ∷ 0 ∷ 0 ∷ 0
+    ∷ 0x3f80_0000 ∷ 0x3f80_0000 ∷ 0 ∷ 0 ∷ 0 ∷ 0 ∷ 0 ∷ 0 ∷ 0 ∷ 0 ∷ 0 ∷ 0 ∷ 0 ∷ 0 ∷ 0 ∷ 0
+    ∷ 12 ∷ 65535 ∷ 0 ∷ 0 ∷ 0 ∷ 0 ∷ 0 ∷ 0 ∷ 0 ∷ 0 ∷ 0 ∷ 0 ∷ 0 ∷ 0 ∷ 0 ∷ 0 ∷ []
 
 example-words : wordsOf sample ≡ words
 unfolding all
@@ -46,7 +50,7 @@ unfolding all
 example-row = refl
 
 -- one word too few; a mode and a method that there is not; STREAMING_IMPUTE; d 0, k 65; a decay of 1.0; start above stop
-example-few : wordsRow (take 27 words) ≡ 20
+example-few : wordsRow (take 43 words) ≡ 20
 unfolding all
 example-few = refl
 
@@ -77,6 +81,28 @@ example-decay = refl
 example-start : wordsRow (set words 4 21) ≡ 7
 unfolding all
 example-start = refl
+
+-- a code of 17 bits, also behind the d in use
+example-code : wordsRow (set words 28 65536) ≡ 19
+unfolding all
+example-code = refl
+
+example-code-behind : wordsRow (set words 43 65536) ≡ 19
+unfolding all
+example-code-behind = refl
+
+-- the codes, told: in a list of just their number, in a longer one, which keeps what lies behind, and in one too short
+example-codes : codesAt words (7 ∷ 7 ∷ []) ≡ codesGot 0 (12 ∷ 65535 ∷ [])
+unfolding all
+example-codes = refl
+
+example-codes-behind : codesAt words (7 ∷ 7 ∷ 7 ∷ []) ≡ codesGot 0 (12 ∷ 65535 ∷ 7 ∷ [])
+unfolding all
+example-codes-behind = refl
+
+example-codes-short : codesAt words (7 ∷ []) ≡ codesGot 20 (7 ∷ [])
+unfolding all
+example-codes-short = refl
 
 -- every pattern of a not-a-number, and bits above the 32
 example-nan : single 0xffff_ffff ≡ nan

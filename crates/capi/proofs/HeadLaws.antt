@@ -1,12 +1,12 @@
 -- The head in words: what is written is read back, the row of words, and the settings' row. Assumes nothing.
 use Prim.Native.Nat.{ℕ, suc, _+_, _≤_, _<_}
-use mathlib.Core.Bool.{Bool, false, cond, not, _||_}
-use mathlib.Core.List.{List, [], _∷_, _++_, map}
+use mathlib.Core.Bool.{Bool, true, false, cond, not, _||_}
+use mathlib.Core.List.{List, [], _∷_, _++_, map, append-assoc}
 use mathlib.Core.Path.{_≡_, refl, sym, ap, _∙_}
 use native.Mathlib.Omega.{arith}
 use lib.Dec.{ltb}
 use lib.ListN.{length, take, drop, getD, set, length-drop, length-append, length-map}
-use lib.Seq.{take-all, take-at, drop-drop}
+use lib.Seq.{length-take-le, take-all, take-at, drop-at, drop-drop}
 use lib.Ieee.{Float, binary32, binary64, ofBits, toBits}
 use lib.Ieee.Bits.{ofBits-toBits}
 use borrow.Author.Tests.{lt-ltb, le-ltb}
@@ -14,6 +14,8 @@ use borrow.Rule.Slice.PartMut.{putMid}
 use Rattle.common.specs.Lent.{over}
 use Rattle.trcf.specs.Types.{methodNumber}
 use Rattle.trcf.specs.Settings.{Settings, settingsRow}
+use Rattle.snapshot.specs.Read.{allCodes}
+use Rattle.snapshot.proofs.ReadKinds.{to-codes}
 use Rattle.trcf.specs.View.{settingsOf, orElse, counting}
 use Rattle.trcf.specs.declared.types.TransformMethod.{TransformMethod}
 use Rattle.trcf.specs.declared.types.TransformMethod.the-variants.{NONE, WEIGHTED, DIFFERENCE, «SUBTRACT_MA», NORMALIZE, «NORMALIZE_DIFFERENCE»}
@@ -21,13 +23,13 @@ use Rattle.trcf.specs.declared.types.ForestMode.{ForestMode}
 use Rattle.trcf.specs.declared.types.ForestMode.the-variants.{STANDARD, «TIME_AUGMENTED», «STREAMING_IMPUTE»}
 use Rattle.trcf.specs.declared.preprocessor.Preprocessor.{Preprocessor}
 use Rattle.trcf.proofs.OutcomeLaws.{orElse-is}
-use Rattle.capi.specs.Head.{modeNumber, modeOf, methodOf, kindRow, single, headOf, numbersOf, wordsOf, countsOver, shortRow as fewRow, wordsRow, Held}
+use Rattle.capi.specs.Head.{modeNumber, modeOf, methodOf, kindRow, codesRow, single, codesIn, headOf, numbersOf, frontOf, wordsOf, countsOver, shortRow as fewRow, wordsRow, Read, Held}
 use Rattle.capi.proofs.WordLaws.{mode-back, method-back, single-back, singles-back}
 
 -- ---- reading
 
-abbrev pub headBy : ForestMode → TransformMethod → Float → Float → List Float → List ℕ → Preprocessor
-headBy mode method decay time weights w =
+abbrev pub headBy : ForestMode → TransformMethod → Float → Float → List Float → List ℕ → List ℕ → Preprocessor
+headBy mode method decay time weights codes w =
     record {
       transformer = record {
         «transform_method» = method;
@@ -44,19 +46,20 @@ headBy mode method decay time weights w =
       «values_seen» = getD w 8 0;
       «internal_timestamp» = getD w 9 0;
       «initial_len» = getD w 11 0;
+      codes = codes;
     }
 
-pub head-made : (w : List ℕ) {mode : ForestMode} {method : TransformMethod} {decay time : Float} {weights : List Float}
+pub head-made : (w : List ℕ) {mode : ForestMode} {method : TransformMethod} {decay time : Float} {weights : List Float} {codes : List ℕ}
     → mode ≡ modeOf (getD w 0 0) → method ≡ methodOf (getD w 1 0) → decay ≡ ofBits binary64 (getD w 6 0) → time ≡ single (getD w 7 0)
-    → weights ≡ map single (take 16 (drop 12 w))
-    → headBy mode method decay time weights w ≡ headOf w
+    → weights ≡ map single (take 16 (drop 12 w)) → codes ≡ codesIn w
+    → headBy mode method decay time weights codes w ≡ headOf w
 unfolding headOf
-head-made w a b c d e = λ j. headBy (a j) (b j) (c j) (d j) (e j) w
+head-made w a b c d e f = λ j. headBy (a j) (b j) (c j) (d j) (e j) (f j) w
 
 -- ---- what is written is read back, whatever lies behind it
 
 pub head-back : (h : Preprocessor) → Held h → (rest : List ℕ) → headOf (wordsOf h ++ rest) ≡ h
-unfolding headOf wordsOf numbersOf
+unfolding headOf wordsOf frontOf numbersOf
 head-back h g rest =
     λ j. record {
       transformer = record {
@@ -74,49 +77,84 @@ head-back h g rest =
       «values_seen» = h .«values_seen»;
       «internal_timestamp» = h .«internal_timestamp»;
       «initial_len» = h .«initial_len»;
+      codes = codes-back j;
     }
   where
-    sixteen-bits : (l : List Float) → length (map (toBits binary32) l) ≡ length l
-    sixteen-bits [] = refl
-    sixteen-bits (x ∷ l) = ap suc (sixteen-bits l)
+    sixteen-bits : length (map (toBits binary32) (h .transformer .weights)) ≡ 16
+    sixteen-bits = length-map (h .transformer .weights) (toBits binary32) ∙ g .sixteen
 
-    weights-back : map single (take 16 (map (toBits binary32) (h .transformer .weights) ++ rest)) ≡ h .transformer .weights
+    weights-back : map single (take 16 ((map (toBits binary32) (h .transformer .weights) ++ h .codes) ++ rest)) ≡ h .transformer .weights
     weights-back =
-        ap (map single) (take-at (map (toBits binary32) (h .transformer .weights)) rest 16 (sixteen-bits (h .transformer .weights) ∙ g .sixteen))
+        let v = map (toBits binary32) (h .transformer .weights) in
+        ap (λ (l : List ℕ). map single (take 16 l)) (append-assoc v (h .codes) rest)
+        ∙ ap (map single) (take-at v (h .codes ++ rest) 16 sixteen-bits)
         ∙ singles-back (h .transformer .weights) (g .weightsFit)
+
+    codes-back : take 16 (drop 16 ((map (toBits binary32) (h .transformer .weights) ++ h .codes) ++ rest)) ≡ h .codes
+    codes-back =
+        let v = map (toBits binary32) (h .transformer .weights) in
+        ap (λ (l : List ℕ). take 16 (drop 16 l)) (append-assoc v (h .codes) rest)
+        ∙ ap (take 16) (drop-at v (h .codes ++ rest) 16 sixteen-bits)
+        ∙ take-at (h .codes) rest 16 (g .sixteenCodes)
 
 -- ---- the row of words
 
-pub long : (w : List ℕ) → 28 ≤ length w → fewRow w ≡ 0
-long w h = ap (λ (b : Bool). cond b 20 0) (le-ltb (length w) 28 h)
+pub long : (w : List ℕ) → 44 ≤ length w → fewRow w ≡ 0
+long w h = ap (λ (b : Bool). cond b 20 0) (le-ltb (length w) 44 h)
 
-pub row-few : (w : List ℕ) → length w < 28 → 20 ≡ wordsRow w
+-- behind the row of too few words, and behind the row of the kinds
+abbrev pub kindBehind : List ℕ → ℕ
+kindBehind w = orElse (codesRow (codesIn w)) (settingsRow (settingsOf (headOf w)))
+
+abbrev pub fewBehind : List ℕ → ℕ
+fewBehind w = orElse (kindRow (getD w 0 0) (getD w 1 0)) (kindBehind w)
+
+pub row-few : (w : List ℕ) → length w < 44 → 20 ≡ wordsRow w
 unfolding wordsRow
-row-few w h = sym (ap (λ (b : Bool). orElse (cond b 20 0) (orElse (kindRow (getD w 0 0) (getD w 1 0)) (settingsRow (settingsOf (headOf w))))) (lt-ltb (length w) 28 h))
+row-few w h = sym (ap (λ (b : Bool). orElse (cond b 20 0) (fewBehind w)) (lt-ltb (length w) 44 h))
 
-pub row-kind : (w : List ℕ) (k : ℕ) → 28 ≤ length w → k ≡ kindRow (getD w 0 0) (getD w 1 0) → (k ≡ 0 → ⊥) → k ≡ wordsRow w
+pub row-kind : (w : List ℕ) (k : ℕ) → 44 ≤ length w → k ≡ kindRow (getD w 0 0) (getD w 1 0) → (k ≡ 0 → ⊥) → k ≡ wordsRow w
 unfolding wordsRow
 row-kind w k h e n =
-    let r = settingsRow (settingsOf (headOf w)) in
     e
-    ∙ sym (orElse-is (kindRow (getD w 0 0) (getD w 1 0)) r (λ z. n (e ∙ z)))
-    ∙ sym (ap (λ (q : ℕ). orElse q (orElse (kindRow (getD w 0 0) (getD w 1 0)) r)) (long w h))
+    ∙ sym (orElse-is (kindRow (getD w 0 0) (getD w 1 0)) (kindBehind w) (λ z. n (e ∙ z)))
+    ∙ sym (ap (λ (q : ℕ). orElse q (fewBehind w)) (long w h))
 
-pub row-settings : (w : List ℕ) {h : Preprocessor} (k : ℕ) (row : ℕ) → 28 ≤ length w → k ≡ kindRow (getD w 0 0) (getD w 1 0) → k ≡ 0
-    → h ≡ headOf w → row ≡ settingsRow (settingsOf h) → row ≡ wordsRow w
-unfolding wordsRow
-row-settings w k row h e z p q =
-    let r = settingsRow (settingsOf (headOf w)) in
-    q
-    ∙ ap (λ (x : Preprocessor). settingsRow (settingsOf x)) p
-    ∙ sym (ap (λ (m : ℕ). orElse m r) (sym e ∙ z))
-    ∙ sym (ap (λ (m : ℕ). orElse m (orElse (kindRow (getD w 0 0) (getD w 1 0)) r)) (long w h))
+module _ (w : List ℕ) (k : ℕ) (h : 44 ≤ length w) (e : k ≡ kindRow (getD w 0 0) (getD w 1 0)) (z : k ≡ 0) where
+  past-kinds : kindBehind w ≡ wordsRow w
+  unfolding wordsRow
+  past-kinds =
+      sym (ap (λ (m : ℕ). orElse m (kindBehind w)) (sym e ∙ z))
+      ∙ sym (ap (λ (m : ℕ). orElse m (fewBehind w)) (long w h))
+
+  pub row-codes : (c : ℕ) → c ≡ codesRow (codesIn w) → (c ≡ 0 → ⊥) → c ≡ wordsRow w
+  row-codes c p n = p ∙ sym (orElse-is (codesRow (codesIn w)) (settingsRow (settingsOf (headOf w))) (λ q. n (p ∙ q))) ∙ past-kinds
+
+  pub row-settings : {g : Preprocessor} (c row : ℕ) → c ≡ codesRow (codesIn w) → c ≡ 0 → g ≡ headOf w → row ≡ settingsRow (settingsOf g) → row ≡ wordsRow w
+  row-settings c row p y i q =
+      q
+      ∙ ap (λ (x : Preprocessor). settingsRow (settingsOf x)) i
+      ∙ sym (ap (λ (m : ℕ). orElse m (settingsRow (settingsOf (headOf w)))) (sym p ∙ y))
+      ∙ past-kinds
+
+-- what row 0 says of the words of the codes
+pub all-codes : (v : List ℕ) {c : ℕ} → c ≡ codesRow v → c ≡ 0 → allCodes v ≡ true
+all-codes v {c} p z = go (allCodes v) (sym p ∙ z)
+  where
+    go : (b : Bool) → _≡_ {A = ℕ} (cond b 0 19) 0 → b ≡ true
+    go true e = refl
+    go false e = absurd (omega (arith, e))
+
+-- a head that was read has sixteen codes
+pub read-codes : {w : List ℕ} {h : Preprocessor} → Read w h → length (h .codes) ≡ 16
+unfolding headOf
+read-codes {w} {h} r = ap (λ (x : Preprocessor). length (x .codes)) (r .is) ∙ length-take-le 16 (drop 28 w) (omega (arith, length-drop 28 w, r .whole))
 
 -- ---- the settings' row
 
--- the settings of a head with its weights handed beside it
-abbrev pub settingsBy : Preprocessor → List Float → Settings
-settingsBy h v =
+-- the settings of a head with its weights and codes handed beside it
+abbrev pub settingsBy : Preprocessor → List Float → List ℕ → Settings
+settingsBy h v cs =
     record {
       mode = h .«forest_mode»;
       method = h .transformer .«transform_method»;
@@ -127,12 +165,14 @@ settingsBy h v =
       decay = h .transformer .«transform_decay»;
       weightTime = h .«weight_time»;
       weights = v;
+      codes = cs;
     }
 
-pub settings-by : (h : Preprocessor) (v : List Float) → v ≡ take (h .transformer .«input_length») (h .transformer .weights) → settingsRow (settingsBy h v) ≡ settingsRow (settingsOf h)
-settings-by h v e = ap (λ (u : List Float). settingsRow (settingsBy h u)) e
+pub settings-by : (h : Preprocessor) (v : List Float) (cs : List ℕ) → v ≡ take (h .transformer .«input_length») (h .transformer .weights)
+    → cs ≡ take (h .transformer .«input_length») (h .codes) → settingsRow (settingsBy h v cs) ≡ settingsRow (settingsOf h)
+settings-by h v cs e f = λ j. settingsRow (settingsBy h (e j) (f j))
 
-pub used-all : (d : ℕ) (w : List Float) → length w ≡ 16 → 16 < d → take 16 w ≡ take d w
+pub used-all : {A : Type 0} (d : ℕ) (w : List A) → length w ≡ 16 → 16 < d → take 16 w ≡ take d w
 used-all d w h k = take-all 16 w (omega arith) ∙ sym (take-all d w (omega arith))
 
 -- ---- writing
@@ -164,21 +204,50 @@ numbers-stored w h {a} {b} {g} {i} n p q r s =
     twelve w a b (h .transformer .«input_length») (h .«shingle_size») (h .«start_normalization») (h .«stop_normalization») g i (h .«values_seen») (h .«internal_timestamp») (h .transformer .count) (h .«initial_len») n
     ∙ (λ j. p j ∷ q j ∷ h .transformer .«input_length» ∷ h .«shingle_size» ∷ h .«start_normalization» ∷ h .«stop_normalization» ∷ r j ∷ s j ∷ h .«values_seen» ∷ h .«internal_timestamp» ∷ h .transformer .count ∷ h .«initial_len» ∷ drop 12 w)
 
-pub numbers-length : (w w' : List ℕ) (h : Preprocessor) → w' ≡ over w (numbersOf h) → 28 ≤ length w → length w' ≡ length w
+pub numbers-length : (w w' : List ℕ) (h : Preprocessor) → w' ≡ over w (numbersOf h) → 44 ≤ length w → length w' ≡ length w
 unfolding over numbersOf
 numbers-length w w' h e n = ap length e ∙ omega (arith, length-drop 12 w)
 
--- and the weights behind them
+-- a list laid over the front, and one behind it: the one and then the other
+behind : (w p v : List ℕ) (a n : ℕ) → length p ≡ a → length v ≡ n → putMid a n (over w p) v ≡ over w (p ++ v)
+unfolding over
+behind w p v a n e f =
+    let q = drop (length p) w in
+    (λ j. take-at p q a e j ++ (v ++ drop n (drop-at p q a e j)))
+    ∙ ap (λ (r : List ℕ). p ++ (v ++ r)) (drop-drop n (length p) w ∙ ap (λ (k : ℕ). drop k w) (ap (λ (m : ℕ). length p + m) (sym f) ∙ sym (length-append p v)))
+    ∙ sym (append-assoc p v (drop (length (p ++ v)) w))
+
+twelve-numbers : (h : Preprocessor) → length (numbersOf h) ≡ 12
+unfolding numbersOf
+twelve-numbers h = refl
+
+-- the weights behind the numbers
 pub weights-stored : (w w' : List ℕ) (h : Preprocessor) (v : List ℕ) → w' ≡ over w (numbersOf h) → v ≡ map (toBits binary32) (h .transformer .weights) → length v ≡ 16
-    → putMid 12 16 w' v ≡ over w (wordsOf h)
-unfolding over numbersOf wordsOf
+    → putMid 12 16 w' v ≡ over w (frontOf h)
+unfolding frontOf
 weights-stored w w' h v e p n =
     ap (λ (u : List ℕ). putMid 12 16 u v) e
-    ∙ ap (λ (r : List ℕ). numbersOf h ++ (v ++ r)) (sym (behind w v n))
+    ∙ behind w (numbersOf h) v 12 16 (twelve-numbers h) n
     ∙ ap (λ (u : List ℕ). over w (numbersOf h ++ u)) p
-  where
-    behind : (w v : List ℕ) → length v ≡ 16 → drop (length (numbersOf h ++ v)) w ≡ drop 16 (drop 12 w)
-    behind w v n = ap (λ (k : ℕ). drop (suc (suc (suc (suc (suc (suc (suc (suc (suc (suc (suc (suc k)))))))))))) w) n ∙ sym (drop-drop 16 12 w)
+
+front-length : (h : Preprocessor) → length (h .transformer .weights) ≡ 16 → length (frontOf h) ≡ 28
+unfolding frontOf
+front-length h e =
+    let v = map (toBits binary32) (h .transformer .weights) in
+    omega (arith, length-append (numbersOf h) v, twelve-numbers h, length-map (h .transformer .weights) (toBits binary32), e)
+
+pub front-kept : (w w' : List ℕ) (h : Preprocessor) → length (h .transformer .weights) ≡ 16 → w' ≡ over w (frontOf h) → 44 ≤ length w → length w' ≡ length w
+unfolding over
+front-kept w w' h e p n = ap length p ∙ omega (arith, length-append (frontOf h) (drop (length (frontOf h)) w), length-drop (length (frontOf h)) w, front-length h e)
+
+-- and the codes behind the front
+pub codes-stored : (w w' : List ℕ) (h : Preprocessor) (v : List ℕ) → length (h .transformer .weights) ≡ 16 → w' ≡ over w (frontOf h) → v ≡ h .codes → length v ≡ 16
+    → putMid 28 16 w' v ≡ over w (wordsOf h)
+unfolding wordsOf
+codes-stored w w' h v z e p n =
+    ap (λ (u : List ℕ). putMid 28 16 u v) e
+    ∙ behind w (frontOf h) v 28 16 (front-length h z) n
+    ∙ ap (λ (u : List ℕ). over w (frontOf h ++ u)) p
 
 -- ---- heads in use: the words of a head that `build` accepts are not refused, and a call's counters go into them as into the head
 
@@ -198,19 +267,25 @@ method-known «NORMALIZE_DIFFERENCE» = refl
 kind-known : (m : ForestMode) (t : TransformMethod) → 0 ≡ kindRow (modeNumber m) (methodNumber t)
 kind-known m t = sym (ap (λ (b : Bool). cond (b || ltb 5 (methodNumber t)) 19 0) (mode-known m) ∙ ap (λ (b : Bool). cond b 19 0) (method-known t))
 
-whole-words : (h : Preprocessor) → Held h → (rest : List ℕ) → 28 ≤ length (wordsOf h ++ rest)
-unfolding wordsOf numbersOf
+whole-words : (h : Preprocessor) → Held h → (rest : List ℕ) → 44 ≤ length (wordsOf h ++ rest)
+unfolding wordsOf
 whole-words h g rest =
-    let bits = map (toBits binary32) (h .transformer .weights) in
-    omega (arith, length-append bits rest, length-map (h .transformer .weights) (toBits binary32), g .sixteen)
+    omega (arith, length-append (frontOf h ++ h .codes) rest, length-append (frontOf h) (h .codes), front-length h (g .sixteen), g .sixteenCodes)
+
+-- the codes of a head stand in their words
+codes-known : (h : Preprocessor) → Held h → (rest : List ℕ) → 0 ≡ codesRow (codesIn (wordsOf h ++ rest))
+unfolding headOf
+codes-known h g rest =
+    let e : codesIn (wordsOf h ++ rest) ≡ h .codes = ap (λ (x : Preprocessor). x .codes) (head-back h g rest) in
+    sym (ap codesRow e ∙ ap (λ (b : Bool). cond b 0 19) (to-codes (h .codes) (g .codesFit)))
 
 pub in-use : (h : Preprocessor) → Held h → settingsRow (settingsOf h) ≡ 0 → (rest : List ℕ) → wordsRow (wordsOf h ++ rest) ≡ 0
-unfolding wordsOf numbersOf
+unfolding wordsOf frontOf numbersOf
 in-use h g e rest =
     let w = wordsOf h ++ rest in
-    sym (row-settings w 0 0 (whole-words h g rest) (kind-known (h .«forest_mode») (h .transformer .«transform_method»)) refl (sym (head-back h g rest)) (sym e))
+    sym (row-settings w 0 (whole-words h g rest) (kind-known (h .«forest_mode») (h .transformer .«transform_method»)) refl 0 0 (codes-known h g rest) refl (sym (head-back h g rest)) (sym e))
 
 pub counts-in-words : (h : Preprocessor) (rest : List ℕ) (count seen internal n : ℕ)
     → countsOver (wordsOf h ++ rest) (counting h count seen internal n) ≡ wordsOf (counting h count seen internal n) ++ rest
-unfolding countsOver wordsOf numbersOf
+unfolding countsOver wordsOf frontOf numbersOf
 counts-in-words h rest count seen internal n = refl

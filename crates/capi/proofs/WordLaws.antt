@@ -1,16 +1,17 @@
 -- Bits and kinds, and lists filled from the front. Assumes nothing.
-use Prim.Native.Nat.{ℕ, zero, suc, _+_, _<_}
+use Prim.Native.Nat.{ℕ, zero, suc, _+_, _≤_, _<_}
 use mathlib.Core.Bool.{true}
-use mathlib.Core.List.{List, [], _∷_, _++_, map}
+use mathlib.Core.List.{List, [], _∷_, _++_, map, append-nil}
 use mathlib.Core.Path.{_≡_, refl, sym, ap, _∙_, subst}
 use native.Mathlib.Omega.{arith}
 use native.Mathlib.Numerals.{add-one}
 use native.Mathlib.Nat.{mod-eq-of-lt}
 use lib.Dec.{T}
-use lib.ListN.{length, take, getD, set}
+use lib.ListN.{length, take, drop, getD, set, drop-of-length-le}
 use lib.Seq.{take-suc, take-suc-set, take-all}
 use lib.Ieee.{Float, nan, inf, fin, Format, binary32, fits, div, isNan, nanBits, ofBits, toBits}
 use lib.Ieee.Bits.{nanBits-is, ofBits-toBits, toBits-lt}
+use Rattle.common.specs.Lent.{over}
 use Rattle.trcf.specs.Fit.{Fits}
 use Rattle.trcf.specs.Types.{methodNumber}
 use Rattle.trcf.specs.declared.types.TransformMethod.{TransformMethod}
@@ -72,3 +73,9 @@ module _ {A B : Type 0} (f : B → A) where
 
   pub filled-whole : (i : ℕ) (a : List A) (l : List B) → take i a ≡ map f (take i l) → length a ≡ i → length l ≡ i → a ≡ map f l
   filled-whole i a l e h k = sym (take-all i a (omega arith)) ∙ e ∙ ap (map f) (take-all i l (omega arith))
+
+-- ---- a list laid over one that is no longer
+
+pub over-whole : (old new : List ℕ) → length old ≤ length new → over old new ≡ new
+unfolding over
+over-whole old new h = ap (λ (r : List ℕ). new ++ r) (drop-of-length-le old h) ∙ append-nil new

@@ -3,13 +3,14 @@
 use Prim.Native.Nat.{ℕ}
 use mathlib.Core.Bool.{Bool, cond, not}
 use mathlib.Core.List.{List}
-use lib.Dec.{eqb}
+use lib.Dec.{eqb, ltb}
+use lib.ListN.{length}
 use lib.Ieee.{Float}
 use Rattle.common.specs.Lent.{over}
 use Rattle.trcf.specs.Settings.{Settings, settingsRow}
 use Rattle.trcf.specs.Calls.{Call, Learn, Forecast}
 use Rattle.trcf.specs.Preprocessor.{accepted}
-use Rattle.trcf.specs.View.{Lent, Outcome, orElse, buildOf, drainOf, PointOutcome, pointAfter, LearnOutcome, learnAfter, Written, written, writeOf}
+use Rattle.trcf.specs.View.{Lent, settingsOf, Outcome, orElse, buildOf, drainOf, PointOutcome, pointAfter, LearnOutcome, learnAfter, Written, written, writeOf}
 use Rattle.trcf.specs.Extrapolation.{Extrapolation, extrapolation, extrapolationOf}
 use Rattle.trcf.specs.declared.preprocessor.Preprocessor.{Preprocessor}
 use Rattle.snapshot.specs.Save.{saveOf, Outcome as Saved, outcome as saved}
@@ -131,3 +132,18 @@ got n v = record { row = n; number = v }
 
 unfoldable pub getAt : List ℕ → ℕ → (Preprocessor → ℕ) → Got
 getAt w v f = onHead w (got 0 (f (headOf w))) (λ n. got n v)
+
+-- ---- the codes of the channels in a lent list; row 20 where it is shorter than they are many
+
+pub record CodesGot : Type 0 where
+  pub row : ℕ
+  pub out : List ℕ
+
+abbrev pub codesGot : ℕ → List ℕ → CodesGot
+codesGot n out = record { row = n; out = out }
+
+unfoldable pub codesTold : List ℕ → List ℕ → CodesGot
+codesTold cs out = cond (ltb (length out) (length cs)) (codesGot 20 out) (codesGot 0 (over out cs))
+
+unfoldable pub codesAt : List ℕ → List ℕ → CodesGot
+codesAt w out = onHead w (codesTold (settingsOf (headOf w) .codes) out) (λ n. codesGot n out)

@@ -1,4 +1,5 @@
--- `restore` over lent words: the head into its words, the bad line into its place. Row 20 of too few words stands with row 20 of the lists, behind row 19.
+-- `restore` over lent words: the head into its words, the bad line into its place. Row 20 of too few words stands with row 20 of the lists, behind rows 19
+-- and 27.
 use Prim.Native.Nat.{ℕ}
 use mathlib.Core.Bool.{cond}
 use mathlib.Core.List.{List, []}
@@ -26,10 +27,11 @@ lineTold o line = cond (eqb (o .row) 19) (o .line) line
 abbrev pub nothing : Lent
 nothing = lent [] [] [] [] [] []
 
-unfoldable pub restoreAt : List ℕ → List ℕ → Lent → ℕ → RestoreCalled
-restoreAt t w l line =
-    let o = restoreOf t l in
-    let few = restoreOf t nothing in
-    cond (ltb (length w) 28)
+-- the text, the codes that are expected, the words, what is lent and the place of the line
+unfoldable pub restoreAt : List ℕ → List ℕ → List ℕ → Lent → ℕ → RestoreCalled
+restoreAt t cs w l line =
+    let o = restoreOf t cs l in
+    let few = restoreOf t cs nothing in
+    cond (ltb (length w) 44)
     (restoreCalled (few .row) w l (lineTold few line))
     (restoreCalled (o .row) (accepted (o .row) (over w (wordsOf (o .head))) w) (o .lent) (lineTold o line))

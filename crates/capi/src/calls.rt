@@ -32,6 +32,7 @@ pub extern "C" fn veerycouch_build(
     transform_decay: f64,
     weight_time: f32,
     weights: &[f32],
+    codes: &[u16],
     head: &mut [u64],
     statistics: &mut [f64],
     last_shingled_input: &mut [f32],
@@ -41,7 +42,7 @@ pub extern "C" fn veerycouch_build(
     initial_timestamps: &[u64],
 ) -> u64
     ensures { λ r. ⌜ called r (now (head .exit)) (lent (now (statistics .exit)) (now («last_shingled_input» .exit)) (now («last_shingled_point» .exit)) (now («previous_timestamps» .exit)) (now («initial_values» .entry)) (now («initial_timestamps» .entry)))
-        ≡ buildAt «forest_mode» «transform_method» (settingsGiven «forest_mode» «transform_method» «input_dimensions» «shingle_size» «start_normalization» «stop_normalization» «transform_decay» «weight_time» (now (weights .entry))) (now (head .entry)) (lent (now (statistics .entry)) (now («last_shingled_input» .entry)) (now («last_shingled_point» .entry)) (now («previous_timestamps» .entry)) (now («initial_values» .entry)) (now («initial_timestamps» .entry))) ⌝ }
+        ≡ buildAt «forest_mode» «transform_method» (settingsGiven «forest_mode» «transform_method» «input_dimensions» «shingle_size» «start_normalization» «stop_normalization» «transform_decay» «weight_time» (now (weights .entry)) (now (codes .entry))) (now (head .entry)) (lent (now (statistics .entry)) (now («last_shingled_input» .entry)) (now («last_shingled_point» .entry)) (now («previous_timestamps» .entry)) (now («initial_values» .entry)) (now («initial_timestamps» .entry))) ⌝ }
 {
     let kind = kind_row(forest_mode, transform_method);
     if kind != 0 {
@@ -59,16 +60,17 @@ pub extern "C" fn veerycouch_build(
         transform_decay: transform_decay,
         weight_time: weight_time,
     };
-    let bad = settings_row(builder, weights);
+    let bad = settings_row(builder, weights, codes);
     if bad != 0 {
         return bad;
     }
-    if head.len() < 28 {
+    if head.len() < 44 {
         return 20;
     }
     let r = build(
         builder,
         weights,
+        codes,
         statistics,
         last_shingled_input,
         last_shingled_point,

@@ -1,6 +1,8 @@
-// The getters: each writes its number, or gives the row of the words.
+// The getters: each writes its number, or its numbers, or gives the row of the words.
 use crate::answer::flag_of;
+use crate::codes::tell_codes;
 use crate::head::read_head;
+use crate::head::used;
 use crate::words::method_number;
 use crate::words::mode_number;
 use trcf::preprocessor::forest_mode;
@@ -21,7 +23,7 @@ ghost use Rattle.trcf.specs.Preprocessor.{accepted};
 ghost use Rattle.trcf.specs.View.{settingsOf, headRow};
 ghost use Rattle.trcf.specs.declared.preprocessor.Preprocessor.{Preprocessor};
 ghost use Rattle.capi.specs.Head.{modeNumber};
-ghost use Rattle.capi.specs.Calls.{got, getAt, flag};
+ghost use Rattle.capi.specs.Calls.{got, getAt, flag, codesGot, codesAt};
 
 // How many readings were learnt or wait.
 #[no_mangle]
@@ -171,4 +173,21 @@ pub extern "C" fn veerycouch_forest_mode(head: &[u64], answer: &mut u64) -> u64
     let before = read.head;
     *answer = mode_number(forest_mode(before));
     0
+}
+
+// The codes of the channels, one for each.
+#[no_mangle]
+pub extern "C" fn veerycouch_codes(head: &[u64], output: &mut [u16]) -> u64
+    ensures { λ r. ⌜ codesGot r (now (output .exit)) ≡ codesAt (now (head .entry)) (now (output .entry)) ⌝ }
+{
+    let read = read_head(head);
+    let bad = read.row;
+    if bad != 0 {
+        return bad;
+    }
+    let before = read.head;
+    let t = before.transformer;
+    let codes = before.codes;
+    let n = used(t.input_length);
+    tell_codes(&codes[..n], output)
 }

@@ -1,4 +1,7 @@
 // The head in lent words: read, tested, and written.
+use crate::codes::codes_of;
+use crate::codes::codes_row;
+use crate::codes::write_codes;
 use crate::words::double_bits;
 use crate::words::double_of;
 use crate::words::kind_row;
@@ -14,16 +17,18 @@ use trcf::preprocessor::no_head;
 use trcf::refusal::settings_row;
 use trcf::transformer::WeightedTransformer;
 ghost use mathlib.Core.Path.{_≡_};
+ghost use mathlib.Core.Bool.{true};
 ghost use mathlib.Core.List.{map};
 ghost use mathlib.Core.List.{List};
-ghost use Prim.Native.Nat.{_≤_};
+ghost use Prim.Native.Nat.{ℕ, _≤_};
 ghost use lib.ListN.{length, take};
 ghost use lib.Ieee.{Float, binary32, toBits};
 ghost use Rattle.common.specs.Lent.{over};
 ghost use Rattle.trcf.specs.Settings.{settingsRow};
 ghost use Rattle.trcf.specs.Preprocessor.{accepted};
 ghost use Rattle.trcf.specs.View.{settingsOf};
-ghost use Rattle.capi.specs.Head.{single, headOf, numbersOf, wordsOf, countsOver, wordsRow, Read};
+ghost use Rattle.snapshot.specs.Read.{allCodes};
+ghost use Rattle.capi.specs.Head.{single, codesIn, headOf, numbersOf, frontOf, wordsOf, countsOver, wordsRow, Read};
 
 fn weights_of(words: &[u64]) -> [f32; 16]
     requires { ⌜ length (now words) ≡ 16 ⌝ }
@@ -39,7 +44,8 @@ fn weights_of(words: &[u64]) -> [f32; 16]
 }
 
 fn head_of(words: &[u64]) -> Preprocessor
-    requires { ⌜ 28 ≤ length (now words) ⌝ }
+    requires { ⌜ 44 ≤ length (now words) ⌝ }
+    requires { ⌜ allCodes (codesIn (now words)) ≡ true ⌝ }
     ensures { λ r. ⌜ r ≡ headOf (now (words .entry)) ⌝ }
 {
     let mode = mode_of(words[0]);
@@ -50,13 +56,18 @@ fn head_of(words: &[u64]) -> Preprocessor
     let stop = words[5] as usize;
     let decay = double_of(words[6]);
     let weight_time = single_of(words[7]);
+    let seen = words[8] as usize;
+    let internal = words[9] as usize;
+    let count = words[10];
+    let initial = words[11] as usize;
     let weights = weights_of(&words[12..28]);
+    let codes = codes_of(&words[28..44]);
     let t = WeightedTransformer {
         transform_method: method,
         input_length: d,
         transform_decay: decay,
         weights: weights,
-        count: words[10],
+        count: count,
     };
     Preprocessor {
         transformer: t,
@@ -65,18 +76,20 @@ fn head_of(words: &[u64]) -> Preprocessor
         start_normalization: start,
         stop_normalization: stop,
         weight_time: weight_time,
-        values_seen: words[8] as usize,
-        internal_timestamp: words[9] as usize,
-        initial_len: words[11] as usize,
+        values_seen: seen,
+        internal_timestamp: internal,
+        initial_len: initial,
+        codes: codes,
     }
 }
 
 // ---- the row of words
 
-// How many of 16 weights are in use.
-fn used(d: usize) -> usize
+// How many of 16 weights and codes are in use.
+pub(crate) fn used(d: usize) -> usize
     ensures { λ r. ⌜ r ≤ 16 ⌝ }
     ensures { λ r. ⌜ ((w : List Float) → length w ≡ 16 → take r w ≡ take d w) ⌝ }
+    ensures { λ r. ⌜ ((w : List ℕ) → length w ≡ 16 → take r w ≡ take d w) ⌝ }
 {
     if d <= 16 {
         return d;
@@ -91,6 +104,7 @@ fn head_row(head: Preprocessor) -> u64
     let mode = head.forest_mode;
     let method = t.transform_method;
     let weights = t.weights;
+    let codes = head.codes;
     let d = t.input_length;
     let n = used(d);
     let builder = PreprocessorBuilder {
@@ -103,7 +117,7 @@ fn head_row(head: Preprocessor) -> u64
         transform_decay: t.transform_decay,
         weight_time: head.weight_time,
     };
-    settings_row(builder, &weights[..n])
+    settings_row(builder, &weights[..n], &codes[..n])
 }
 
 // The row of the words, 0 for none, and the head that they hold.
@@ -116,20 +130,27 @@ pub(crate) fn read_head(words: &[u64]) -> Reading
     ensures { λ r. ⌜ r .row ≡ wordsRow (now (words .entry)) ⌝ }
     ensures { λ r. ⌜ (r .row ≡ 0 → Read (now (words .entry)) (r .head)) ⌝ }
 {
-    if words.len() < 28 {
+    if words.len() < 44 {
         return Reading {
             row: 20,
             head: no_head(),
         };
     }
-    let head = head_of(words);
     let kind = kind_row(words[0], words[1]);
     if kind != 0 {
         return Reading {
             row: kind,
-            head: head,
+            head: no_head(),
         };
     }
+    let wide = codes_row(&words[28..44]);
+    if wide != 0 {
+        return Reading {
+            row: wide,
+            head: no_head(),
+        };
+    }
+    let head = head_of(words);
     let row = head_row(head);
     Reading {
         row: row,
@@ -141,7 +162,7 @@ pub(crate) fn read_head(words: &[u64]) -> Reading
 
 // The counters of a head, where its call was not refused.
 pub(crate) fn write_counts(words: &mut [u64], row: u64, head: Preprocessor)
-    requires { ⌜ 28 ≤ length (now words) ⌝ }
+    requires { ⌜ 44 ≤ length (now words) ⌝ }
     ensures { λ _. ⌜ now (words .exit) ≡ accepted row (countsOver (now (words .entry)) head) (now (words .entry)) ⌝ }
 {
     if row != 0 {
@@ -168,7 +189,7 @@ fn write_weights(words: &mut [u64], weights: &[f32])
 
 // The words before the weights.
 fn write_numbers(words: &mut [u64], head: Preprocessor)
-    requires { ⌜ 28 ≤ length (now words) ⌝ }
+    requires { ⌜ 44 ≤ length (now words) ⌝ }
     ensures { λ _. ⌜ now (words .exit) ≡ over (now (words .entry)) (numbersOf head) ⌝ }
 {
     let t = head.transformer;
@@ -188,16 +209,26 @@ fn write_numbers(words: &mut [u64], head: Preprocessor)
     words[11] = head.initial_len as u64;
 }
 
+// The words before the codes.
+fn write_front(words: &mut [u64], head: Preprocessor)
+    requires { ⌜ 44 ≤ length (now words) ⌝ }
+    ensures { λ _. ⌜ now (words .exit) ≡ over (now (words .entry)) (frontOf head) ⌝ }
+{
+    let t = head.transformer;
+    let weights = t.weights;
+    write_numbers(words, head);
+    write_weights(&mut words[12..28], &weights);
+}
+
 // All of a head, where its call was not refused.
 pub(crate) fn write_head(words: &mut [u64], row: u64, head: Preprocessor)
-    requires { ⌜ 28 ≤ length (now words) ⌝ }
+    requires { ⌜ 44 ≤ length (now words) ⌝ }
     ensures { λ _. ⌜ now (words .exit) ≡ accepted row (over (now (words .entry)) (wordsOf head)) (now (words .entry)) ⌝ }
 {
     if row != 0 {
         return;
     }
-    let t = head.transformer;
-    let weights = t.weights;
-    write_numbers(words, head);
-    write_weights(&mut words[12..28], &weights);
+    let codes = head.codes;
+    write_front(words, head);
+    write_codes(&mut words[28..44], codes);
 }

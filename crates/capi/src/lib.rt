@@ -2,6 +2,7 @@
 // include/veerycouch.h describes it for C.
 mod answer;
 pub mod calls;
+mod codes;
 pub mod getters;
 mod head;
 pub mod numbers;

@@ -17,10 +17,12 @@ fn tell_line(place: &mut u64, row: u64, line: u64)
     *place = line;
 }
 
-// The preprocessor of a text: the head into its words, the lists filled. 19 with the bad line, 20 where a lent part is too short: nothing else is written.
+// The preprocessor of a text that holds the codes expected: the head into its words, the lists filled. 19 with the bad line, 27 where the codes differ, 20
+// where a lent part is too short: nothing else is written.
 #[no_mangle]
 pub extern "C" fn veerycouch_restore(
     text: &[u8],
+    codes: &[u16],
     head: &mut [u64],
     statistics: &mut [f64],
     last_shingled_input: &mut [f32],
@@ -31,9 +33,9 @@ pub extern "C" fn veerycouch_restore(
     line: &mut u64,
 ) -> u64
     ensures { λ r. ⌜ restoreCalled r (now (head .exit)) (lent (now (statistics .exit)) (now («last_shingled_input» .exit)) (now («last_shingled_point» .exit)) (now («previous_timestamps» .exit)) (now («initial_values» .exit)) (now («initial_timestamps» .exit))) (now (line .exit))
-        ≡ restoreAt (now (text .entry)) (now (head .entry)) (lent (now (statistics .entry)) (now («last_shingled_input» .entry)) (now («last_shingled_point» .entry)) (now («previous_timestamps» .entry)) (now («initial_values» .entry)) (now («initial_timestamps» .entry))) (now (line .entry)) ⌝ }
+        ≡ restoreAt (now (text .entry)) (now (codes .entry)) (now (head .entry)) (lent (now (statistics .entry)) (now («last_shingled_input» .entry)) (now («last_shingled_point» .entry)) (now («previous_timestamps» .entry)) (now («initial_values» .entry)) (now («initial_timestamps» .entry))) (now (line .entry)) ⌝ }
 {
-    if head.len() < 28 {
+    if head.len() < 44 {
         let mut numbers = [0.0f64; 1];
         let mut input = [0.0f32; 1];
         let mut point = [0.0f32; 1];
@@ -42,6 +44,7 @@ pub extern "C" fn veerycouch_restore(
         let mut initial = [0u64; 1];
         let few = restore(
             text,
+            codes,
             &mut numbers[..0],
             &mut input[..0],
             &mut point[..0],
@@ -55,6 +58,7 @@ pub extern "C" fn veerycouch_restore(
     }
     let r = restore(
         text,
+        codes,
         statistics,
         last_shingled_input,
         last_shingled_point,

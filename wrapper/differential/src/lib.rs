@@ -27,6 +27,7 @@ pub fn settings(s: &Given) -> Settings {
         transform_decay: s.decay,
         weight_time: s.weight_time,
         weights: s.weights.clone(),
+        codes: s.codes.clone(),
     }
 }
 
@@ -140,6 +141,21 @@ fn numbers(row: Result<(), Refusal>, output: &[f32], n: usize) -> Result<Answer,
     }
 }
 
+/// The codes in an output one longer, and none where it is one too short.
+fn codes(p: &Preprocessor, s: &Given) -> Result<(), String> {
+    let n = s.codes.len();
+    let mut output = vec![0x1234; n + 1];
+    let short = p.codes_into(&mut output[..n - 1]);
+    if short != Err(Refusal(20)) || output.iter().any(|&c| c != 0x1234) {
+        return Err(format!("codes in too short an output: {short:?}"));
+    }
+    let told = p.codes_into(&mut output);
+    if told.is_err() || output[..n] != s.codes || output[n] != 0x1234 {
+        return Err(format!("codes: {told:?} {output:?}"));
+    }
+    Ok(())
+}
+
 fn status(p: &Preprocessor, out: usize, s: &Given) -> Result<Answer, String> {
     let mut output = lent32(out);
     if let Err(refusal) = p.difference_deviations(&mut output) {
@@ -159,6 +175,7 @@ fn status(p: &Preprocessor, out: usize, s: &Given) -> Result<Answer, String> {
         })
     };
     first32(&output, s.width())?;
+    codes(p, s)?;
     told().map_err(|refusal| format!("a getter: {refusal}"))
 }
 

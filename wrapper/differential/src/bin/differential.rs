@@ -2,25 +2,30 @@
 //! heads that were damaged. Usage: differential SEED LISTS [TEXTS].
 use differential::{call, same, settings};
 use oracle::calls::{Answer, Call, Mode, Settings};
-use oracle::random::{bad_settings, settings as random_settings, Calls, Random, FULL};
+use oracle::random::{bad_settings, expected_codes, settings as random_settings, Calls, Random, FULL};
 use oracle::reference::Reference;
-use oracle::snapshot::Snapshot;
-use oracle::texts::{snapshot, undrained};
+use oracle::snapshot::{take_up, Snapshot};
+use oracle::texts::{damaged_as, scratched_as, snapshot, undrained};
 use veerycouch::{Memory, Preprocessor, HEAD_WORDS};
+
+/// One more than the last row.
+const ROWS: usize = 28;
 
 #[derive(Default)]
 struct Met {
     calls: u64,
     texts: u64,
-    rows: [u64; 21],
-    builds: [u64; 21],
-    damaged: [u64; 21],
+    rows: [u64; ROWS],
+    builds: [u64; ROWS],
+    damaged: [u64; ROWS],
     stranded: u64,
     drained: u64,
     restarts: u64,
     answers: u64,
-    read: u64,
-    bad: u64,
+    others: u64,
+    read: [u64; ROWS],
+    unlined: u64,
+    unlined_bad: u64,
     differences: u64,
 }
 
@@ -120,7 +125,7 @@ fn builds(r: &mut Random, met: &mut Met, list: u64, s: &Settings) {
     }
 }
 
-/// The settings that words hold, where they name a mode and a method.
+/// The settings that words hold, where they name a mode, a method and codes.
 fn decoded(w: &[u64]) -> Settings {
     let d = w[2];
     Settings {
@@ -133,29 +138,32 @@ fn decoded(w: &[u64]) -> Settings {
         decay: f64::from_bits(w[6]),
         weight_time: f32::from_bits(w[7] as u32),
         weights: w[12..28].iter().take(d.min(16) as usize).map(|&b| f32::from_bits(b as u32)).collect(),
+        codes: w[28..44].iter().take(d.min(16) as usize).map(|&c| c as u16).collect(),
     }
 }
 
 fn row_of_words(w: &[u64]) -> u64 {
     if w.len() < HEAD_WORDS {
         20
-    } else if w[0] > 2 || w[1] > 5 {
+    } else if w[0] > 2 || w[1] > 5 || w[28..44].iter().any(|&c| c > 65535) {
         19
     } else {
         decoded(w).row() as u64
     }
 }
 
-/// A head with one word damaged: refused by the row of its settings, where there is one; else some answer, and nothing undefined.
+/// A head with one word damaged: refused by the row of its settings, where there is one; else its codes are told, and of calls there is some answer, and
+/// nothing undefined.
 fn damage(r: &mut Random, met: &mut Met, list: u64, p: &Preprocessor, s: &Settings, c: &Call) {
     let mut memory = p.memory().clone();
     if r.once_in(8) {
         memory.head.truncate(r.below(HEAD_WORDS as u64) as usize);
     } else {
         let at = r.below(HEAD_WORDS as u64) as usize;
-        memory.head[at] = match r.below(3) {
+        memory.head[at] = match r.below(4) {
             0 => r.next(),
             1 => r.below(70),
+            2 => r.from(65534, 65537),
             _ => memory.head[at] ^ (1 << r.below(64)),
         };
     }
@@ -166,12 +174,17 @@ fn damage(r: &mut Random, met: &mut Met, list: u64, p: &Preprocessor, s: &Settin
     if row == 0 {
         let mut output = vec![0.0; 32];
         let _ = (other.drain(), other.scale(&mut output), other.shift(&mut output), other.difference_deviations(&mut output), other.save());
+        let codes = other.codes();
+        if codes.as_ref() != Ok(&decoded(&old.head).codes) {
+            difference(met, list, &format!("codes of a damaged head: {codes:?}: {:x?}", old.head), s, &[]);
+        }
         return;
     }
     let first = call(&mut other, c, s);
     let mut text = vec![0; 64];
-    let rows = [other.panel().err(), other.is_ready().err().or(None), other.save_into(&mut text).err().map(|r| r), other.drain().err()];
-    let kept = same(other.memory(), &old) && text.iter().all(|&b| b == 0);
+    let mut codes = [0x1234; 17];
+    let rows = [other.panel().err(), other.is_ready().err(), other.save_into(&mut text).err(), other.codes_into(&mut codes).err(), other.drain().err()];
+    let kept = same(other.memory(), &old) && text.iter().all(|&b| b == 0) && codes == [0x1234; 17];
     if first != Ok(Answer::No(row as u8)) || rows.iter().any(|x| x.map(|x| x.0) != Some(row)) || !kept {
         difference(met, list, &format!("damaged head: row {row}, got {first:?} and {rows:?}, kept {kept}: {:x?}", old.head), s, std::slice::from_ref(c));
     }
@@ -242,6 +255,28 @@ fn run_list(r: &mut Random, list: u64, met: &mut Met, s: &Settings, mut referenc
     Some(record)
 }
 
+/// A text without its line of codes.
+fn unlined(text: &str) -> String {
+    text.split_inclusive('\n').enumerate().filter(|(i, _)| *i != 2).map(|(_, line)| line).collect()
+}
+
+/// Codes other than the list's own are refused by 27, and memory is as it was.
+fn other_codes(r: &mut Random, list: u64, met: &mut Met, s: &Settings, text: &str) {
+    r.next();
+    let codes = expected_codes(r, &s.codes);
+    if codes == s.codes {
+        return;
+    }
+    met.others += 1;
+    let memory = rubbish(r, s.d, s.k, s.start);
+    let old = memory.clone();
+    match Preprocessor::restore_in(text.as_bytes(), &codes, memory) {
+        Err((refusal, 0, memory)) if refusal.0 == 27 && same(&memory, &old) => {}
+        Err((refusal, line, _)) => difference(met, list, &format!("{codes:?}: {refusal}, line {line}, or memory changed"), s, &[]),
+        Ok(_) => difference(met, list, &format!("taken up with {codes:?}"), s, &[]),
+    }
+}
+
 /// From every place: taken up in memory of rubbish, the same later answers and the same last text.
 fn restarts(r: &mut Random, list: u64, met: &mut Met, s: &Settings, record: &Record) {
     let mut buffer = Vec::new();
@@ -249,7 +284,10 @@ fn restarts(r: &mut Random, list: u64, met: &mut Met, s: &Settings, record: &Rec
         let memory = rubbish(r, s.d, s.k, s.start);
         let old = memory.clone();
         met.restarts += 1;
-        let mut p = match Preprocessor::restore_in(record.texts[place].as_bytes(), memory) {
+        let bare = s.codes.iter().all(|&c| c == 0) && r.once_in(2);
+        let text = if bare { unlined(&record.texts[place]) } else { record.texts[place].clone() };
+        other_codes(r, list, met, s, &text);
+        let mut p = match Preprocessor::restore_in(text.as_bytes(), &s.codes, memory) {
             Ok(p) => p,
             Err((refusal, line, _)) => return difference(met, list, &format!("place {place}: {refusal}, line {line}"), s, &record.calls),
         };
@@ -269,35 +307,60 @@ fn restarts(r: &mut Random, list: u64, met: &mut Met, s: &Settings, record: &Rec
     }
 }
 
-/// A text of the form, or damaged, by the library and by the oracle's reader: taken up and written again, or 19 with the first bad line.
+/// The snapshot that a text holds where it is taken up with these codes in this memory, or the row and the line.
+fn expected(text: &[u8], codes: &[u16], m: &Memory) -> Result<Snapshot, (u64, u64)> {
+    let room = [
+        m.statistics.len(),
+        m.last_shingled_input.len(),
+        m.last_shingled_point.len(),
+        m.previous_timestamps.len(),
+        m.initial_values.len(),
+        m.initial_timestamps.len(),
+    ];
+    let taken = take_up(text, codes, &room).map_err(|refused| (refused.row as u64, refused.line as u64))?;
+    if m.head.len() < HEAD_WORDS {
+        return Err((20, 0));
+    }
+    Ok(taken)
+}
+
+/// A text of the form or damaged, half of them without the line of the codes: by the library and by the oracle's reader, in memory of which one part may be
+/// too short, with the text's codes or others. Taken up and written again, or the same row and line.
 fn texts(r: &mut Random, number: u64, met: &mut Met) {
-    use oracle::snapshot::read;
-    use oracle::texts::{damaged, scratched};
-    let good = if r.once_in(4) { undrained(r, FULL) } else { snapshot(r, FULL) };
+    let mut good = if r.once_in(4) { undrained(r, FULL) } else { snapshot(r, FULL) };
+    let lined = r.once_in(2);
+    if !lined {
+        good.settings.codes.fill(0);
+    }
     let s = &good.settings;
     let text = match r.below(3) {
-        0 => good.text().into_bytes(),
-        1 => damaged(r, &good).0,
-        _ => scratched(r, &good),
+        0 => good.written(lined).into_bytes(),
+        1 => damaged_as(r, &good, lined).0,
+        _ => scratched_as(r, &good, lined),
     };
-    let expected = read(&text);
-    let sized = expected.as_ref().map_or(s, |w| &w.settings);
-    let memory = rubbish(r, sized.d, sized.k, sized.start);
+    let read = oracle::snapshot::read(&text);
+    let sized = read.as_ref().map_or(s, |w| &w.settings);
+    let codes = expected_codes(r, &sized.codes);
+    let mut memory = rubbish(r, sized.d, sized.k, sized.start);
+    if r.once_in(8) {
+        cut(r, &mut memory, sized);
+    }
     let old = memory.clone();
-    met.read += 1;
-    met.bad += expected.is_err() as u64;
-    let what = match (Preprocessor::restore_in(&text, memory), expected) {
-        (Ok(p), Ok(snapshot)) => {
-            let mut buffer = Vec::new();
-            match text_of(&p, &mut buffer, &snapshot.text()) {
-                Ok(()) => return,
-                Err(what) => what,
-            }
-        }
-        (Err((refusal, line, memory)), Err(bad)) if refusal.0 == 19 && line == bad as u64 && same(&memory, &old) => return,
-        (Err((refusal, line, _)), Err(bad)) => format!("{refusal}, line {line} for {bad}, or memory changed"),
-        (Ok(_), Err(bad)) => format!("taken up, but line {bad} is bad"),
-        (Err((refusal, line, _)), Ok(_)) => format!("{refusal}, line {line}, for a text of the form"),
+    let expected = expected(&text, &codes, &memory);
+    met.read[expected.as_ref().map_or_else(|refused| refused.0, |_| 0) as usize] += 1;
+    let bare = !text.split_inclusive(|&b| b == b'\n').nth(2).is_some_and(|line| line.starts_with(b"chn"));
+    met.unlined += bare as u64;
+    met.unlined_bad += (bare && read.is_err()) as u64;
+    let what = match (Preprocessor::restore_in(&text, &codes, memory), expected) {
+        (Ok(p), Ok(snapshot)) => match text_of(&p, &mut Vec::new(), &snapshot.text()) {
+            Ok(()) if past_kept(&old, p.memory(), &snapshot.settings) => return,
+            Ok(()) => "memory past the need was written".to_string(),
+            Err(what) => what,
+        },
+        (Err((refusal, line, memory)), Err(refused)) if (refusal.0, line) == refused && same(&memory, &old) => return,
+        (Err((refusal, line, _)), Err(refused)) => format!("{refusal}, line {line} for {refused:?}, or memory changed"),
+        (Ok(_), Err(refused)) => format!("taken up, but {refused:?}"),
+        (Err((refusal, line, _)), Ok(_)) => format!("{refusal}, line {line}, for a text to be taken up"),
     };
     difference(met, number, &format!("text: {what}\n{}", String::from_utf8_lossy(&text)), s, &[]);
 }
@@ -357,13 +420,14 @@ fn main() {
         let mut r = Random::new((seed ^ 0x7e87).wrapping_mul(0x1_0000_0001).wrapping_add(number));
         texts(&mut r, number, &mut met);
     }
-    let rows = |list: &[u64; 21]| list.iter().enumerate().filter(|(_, &n)| n > 0).map(|(i, n)| format!("{i}: {n}")).collect::<Vec<_>>().join(", ");
+    let rows = |list: &[u64; ROWS]| list.iter().enumerate().filter(|(_, &n)| n > 0).map(|(i, n)| format!("{i}: {n}")).collect::<Vec<_>>().join(", ");
     println!("lists {lists}, calls {}, texts {} (each also with an output one byte short)", met.calls, met.texts);
     println!("calls by row {}", rows(&met.rows));
     println!("builds by row {}", rows(&met.builds));
     println!("damaged heads by row {}", rows(&met.damaged));
     println!("drained {}, lists stranded {}", met.drained, met.stranded);
-    println!("restarts {}, answers after one {}; texts read {}, of them bad {}", met.restarts, met.answers, met.read, met.bad);
+    println!("restarts {}, answers after one {}; with other codes {}", met.restarts, met.answers, met.others);
+    println!("texts read {}, by row {}; without the line of the codes {}, of them bad {}", met.read.iter().sum::<u64>(), rows(&met.read), met.unlined, met.unlined_bad);
     println!("differences {}", met.differences);
     std::process::exit((met.differences > 0) as i32);
 }

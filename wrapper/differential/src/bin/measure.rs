@@ -14,7 +14,7 @@ use std::time::Instant;
 use veerycouch::{sqrt, to_f32, Learn, Preprocessor, Ranges};
 
 fn given(method: u8, d: u64, k: u64, start: u64) -> Settings {
-    Settings { mode: Mode::Standard, method, d, k, start, stop: u64::MAX, decay: 0.001, weight_time: 1.0, weights: vec![1.0; d as usize] }
+    Settings { mode: Mode::Standard, method, d, k, start, stop: u64::MAX, decay: 0.001, weight_time: 1.0, weights: vec![1.0; d as usize], codes: vec![0; d as usize] }
 }
 
 fn input(r: &mut Random, n: u64) -> Vec<f32> {
@@ -175,13 +175,13 @@ fn save(repeats: usize, start: u64) -> (f64, usize) {
 
 /// Taking up what `save` wrote, in memory of just its size.
 fn restore(repeats: usize, ours: &Preprocessor) -> (f64, f64, usize) {
-    let text = ours.save().unwrap();
+    let (text, codes) = (ours.save().unwrap(), ours.codes().unwrap());
     let mut memory = ours.memory().clone();
     let mut times = Vec::new();
     for _ in 0..repeats {
         let mut taken = None;
         let lent = memory;
-        times.push(timed(|| taken = Some(Preprocessor::restore_in(black_box(&text), lent).unwrap())));
+        times.push(timed(|| taken = Some(Preprocessor::restore_in(black_box(&text), &codes, lent).unwrap())));
         memory = taken.unwrap().into_memory();
     }
     let mut output = vec![0; text.len()];

@@ -44,6 +44,18 @@ shared-slice-read-single-of c = search needs
 single-of-requires : tie.Need-single-of-requires
 single-of-requires c κs = search needs
 
+shared-slice-read-seen : tie.Need-shared-slice-read-seen
+shared-slice-read-seen c = search needs
+
+shared-slice-read-internal : tie.Need-shared-slice-read-internal
+shared-slice-read-internal c = search needs
+
+shared-slice-read-count : tie.Need-shared-slice-read-count
+shared-slice-read-count c = search needs
+
+shared-slice-read-initial : tie.Need-shared-slice-read-initial
+shared-slice-read-initial c = search needs
+
 sub-weights-of : tie.Need-sub-weights-of
 sub-weights-of c = search needs
 
@@ -54,22 +66,64 @@ part-weights-of-end : tie.Need-part-weights-of-end
 part-weights-of-end c = search needs
 
 weights-of-requires : tie.Need-weights-of-requires
-weights-of-requires c κs = let w = c .before .before .before .before .before .before .before .before .before .before .before .before .before .before .args .words .now in length-take-le 16 (drop 12 w) (omega (arith, length-drop 12 w, c .before .before .before .before .before .before .before .before .before .before .before .before .before .before .pre))
+weights-of-requires c κs =
+    let p0 = c .before .before .before .before .before .before .before .before in
+    let p1 = p0 .before .before .before .before .before .before .before .before in
+    let s = p1 .before .before in
+    let w = s .args .words .now in
+    length-take-le 16 (drop 12 w) (omega (arith, length-drop 12 w, s .pre .0))
 
-shared-slice-read-t13 : tie.Need-shared-slice-read-t13
-shared-slice-read-t13 c = search needs
+sub-codes-of : tie.Need-sub-codes-of
+sub-codes-of c = search needs
 
-shared-slice-read-t13-2 : tie.Need-shared-slice-read-t13-2
-shared-slice-read-t13-2 c = search needs
+part-codes-of-start : tie.Need-part-codes-of-start
+part-codes-of-start c = search needs
 
-shared-slice-read-t28 : tie.Need-shared-slice-read-t28
-shared-slice-read-t28 c = search needs
+part-codes-of-end : tie.Need-part-codes-of-end
+part-codes-of-end c = search needs
 
-shared-slice-read-t31 : tie.Need-shared-slice-read-t31
-shared-slice-read-t31 c = search needs
+codes-of-requires : tie.Need-codes-of-requires
+codes-of-requires c κs =
+    let p0 = c .before .before .before .before .before .before .before .before in
+    let p1 = p0 .before .before .before .before .before .before .before .before in
+    let s = p1 .before .before .before .before in
+    let w = s .args .words .now in
+    (length-take-le 16 (drop 28 w) (omega (arith, length-drop 28 w, s .pre .0)), s .pre .1)
 
 returns : tie.Need-returns
-returns c = head-made (c .before .before .before .before .before .before .before .before .before .before .before .before .before .before .before .before .before .before .before .args .words .now) (c .before .before .before .before .before .before .before .before .before .before .before .before .before .before .before .before .mode-of .ensures) (c .before .before .before .before .before .before .before .before .before .before .before .before .before .before .method-of .ensures) (c .before .before .before .before .before .before .before .before .double-of .ensures) (c .before .before .before .before .before .before .single-of .ensures) (c .before .before .before .before .weights-of .ensures)
+returns c =
+    let p = c .before .before .before .before .before .before .before .before in
+    let q = p .before .before .before .before .before .before .before .before in
+    let w = q .before .before .before .before .before .args .words .now in
+    head-made w (q .before .before .mode-of .ensures) (q .method-of .ensures) (p .before .before .double-of .ensures) (p .single-of .ensures)
+    (c .before .before .weights-of .ensures) (c .codes-of .ensures)
 
 pub head-of-spec : {M : Type 1} → statement M
-head-of-spec = tie.close (tie.spec shared-slice-read-mode-of mode-of-requires shared-slice-read-method-of method-of-requires shared-slice-read-d shared-slice-read-k shared-slice-read-start shared-slice-read-stop shared-slice-read-double-of double-of-requires shared-slice-read-single-of single-of-requires sub-weights-of part-weights-of-start part-weights-of-end weights-of-requires shared-slice-read-t13 shared-slice-read-t13-2 shared-slice-read-t28 shared-slice-read-t31 returns)
+head-of-spec =
+    tie.close
+    (tie.spec
+    shared-slice-read-mode-of
+    mode-of-requires
+    shared-slice-read-method-of
+    method-of-requires
+    shared-slice-read-d
+    shared-slice-read-k
+    shared-slice-read-start
+    shared-slice-read-stop
+    shared-slice-read-double-of
+    double-of-requires
+    shared-slice-read-single-of
+    single-of-requires
+    shared-slice-read-seen
+    shared-slice-read-internal
+    shared-slice-read-count
+    shared-slice-read-initial
+    sub-weights-of
+    part-weights-of-start
+    part-weights-of-end
+    weights-of-requires
+    sub-codes-of
+    part-codes-of-start
+    part-codes-of-end
+    codes-of-requires
+    returns)

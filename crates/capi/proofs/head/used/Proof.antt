@@ -6,10 +6,10 @@ use Rattle.capi.proofs.head.used.Statement.{statement}
 use Rattle.capi.proofs.head.used.Tie as tie
 
 returns : tie.Need-returns
-returns c = (omega arith, λ w e. refl)
+returns c = (omega arith, ((λ w e. refl), λ w e. refl))
 
 returns-2 : tie.Need-returns-2
-returns-2 c = (omega arith, λ w e. used-all (c .before .args .d) w e (c .if1 .left))
+returns-2 c = (omega arith, ((λ w e. used-all (c .before .args .d) w e (c .if1 .left)), λ w e. used-all (c .before .args .d) w e (c .if1 .left)))
 
 pub used-spec : {M : Type 1} → statement M
 used-spec = tie.close (tie.spec returns returns-2)

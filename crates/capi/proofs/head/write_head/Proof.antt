@@ -1,13 +1,13 @@
--- `capi::head::write_head` meets its contract: the numbers, and the weights behind them. Assumes nothing.
+-- `capi::head::write_head` meets its contract: the front, and the codes behind it. Assumes nothing.
 use mathlib.Core.Path.{_≡_, refl, sym, ap, _∙_}
 use native.Mathlib.Omega.{arith}
 use Prim.Native.Nat.{_≤_}
-use lib.ListN.{length, drop, length-drop, length-map}
+use lib.ListN.{length, drop, length-drop}
 use lib.Seq.{length-take-le}
-use lib.Ieee.{binary32, toBits}
 use borrow.Rule.Slice.PartMut.{same-len-mid}
 use Rattle.snapshot.proofs.SaveLaws.{sixteen}
-use Rattle.capi.proofs.HeadLaws.{numbers-length, weights-stored}
+use Rattle.snapshot.proofs.CodeLaws.{sixteen-codes}
+use Rattle.capi.proofs.HeadLaws.{front-kept, codes-stored}
 use Rattle.capi.proofs.CallLaws.{kept, given}
 use borrow.Author.Needs.{needs}
 use Rattle.capi.proofs.head.write_head.Statement.{statement}
@@ -18,41 +18,70 @@ returns c =
     let a = c .before .before .args in
     kept (a .row) _ (a .words .now) (c .if1 .taken)
 
-write-numbers-requires : tie.Need-write-numbers-requires
-write-numbers-requires c κs = search needs
+write-front-requires : tie.Need-write-front-requires
+write-front-requires c κs = search needs
 
-sub-write-weights : tie.Need-sub-write-weights
-sub-write-weights c = search needs
+sub-write-codes : tie.Need-sub-write-codes
+sub-write-codes c = search needs
 
-part-write-weights-start : tie.Need-part-write-weights-start
-part-write-weights-start c = search needs
+part-write-codes-start : tie.Need-part-write-codes-start
+part-write-codes-start c = search needs
 
-part-write-weights-end : tie.Need-part-write-weights-end
-part-write-weights-end c =
-    let a = c .before .before .before .before .before .before .before .before .args in
-    omega (arith, numbers-length (a .words .now) _ (a .head) (c .before .before .write-numbers .ensures) (c .before .before .before .before .before .before .before .before .pre), c .before .before .before .before .before .before .before .before .pre)
+part-write-codes-end : tie.Need-part-write-codes-end
+part-write-codes-end c =
+    let s = c .before .before .before .before .before .before .before in
+    let h = s .args .head in
+    let y = sixteen (h .transformer .weights) (s .good .1 .1 .0 .1 .1 .0 .1 .1 .1 .1 .1 .0 .1 .0 .1) in
+    let k = front-kept (s .args .words .now) _ h y (c .before .before .write-front .ensures) (s .pre) in
+    omega (arith, k, s .pre)
 
-slice-aggregate-write-weights : tie.Need-slice-aggregate-write-weights
-slice-aggregate-write-weights c = let w = c .before .before .before .before .before .before .before .before .before .before .args .head .transformer .weights in let z : length w ≡ 16 = sixteen w (c .before .before .before .before .before .before .before .before .before .before .good .1 .1 .0 .1 .1 .0 .1 .1 .1 .1 .1 .0 .1 .0 .1) in sym z
-
-write-weights-requires : tie.Need-write-weights-requires
-write-weights-requires c κs =
-    let a = c .before .before .before .before .before .before .before .before .before .before .args in
-    let n = c .before .before .before .before .write-numbers in
-    let w = a .head .transformer .weights in let z : length w ≡ 16 = sixteen w (c .before .before .before .before .before .before .before .before .before .before .good .1 .1 .0 .1 .1 .0 .1 .1 .1 .1 .1 .0 .1 .0 .1) in (length-take-le 16 (drop 12 (n .last .0)) (omega (arith, length-drop 12 (n .last .0), numbers-length (a .words .now) _ (a .head) (n .ensures) (c .before .before .before .before .before .before .before .before .before .before .pre), c .before .before .before .before .before .before .before .before .before .before .pre)), z)
+write-codes-requires : tie.Need-write-codes-requires
+write-codes-requires c κs =
+    let s = c .before .before .before .before .before .before .before .before in
+    let h = s .args .head in
+    let f = c .before .before .before .write-front in
+    let xs = f .last .0 in
+    let y = sixteen (h .transformer .weights) (s .good .1 .1 .0 .1 .1 .0 .1 .1 .1 .1 .1 .0 .1 .0 .1) in
+    let k = front-kept (s .args .words .now) _ h y (f .ensures) (s .pre) in
+    length-take-le 16 (drop 28 xs) (omega (arith, length-drop 28 xs, k, s .pre))
 
 same-length : tie.Need-same-length
 same-length c =
-    let a = c .before .before .before .before .before .before .before .before .before .before .before .before .before .args in
-    let n = c .before .before .before .before .before .before .before .write-numbers in
-    let v = c .before .before .write-weights in
-    let w = a .head .transformer .weights in let z : length w ≡ 16 = sixteen w (c .before .before .before .before .before .before .before .before .before .before .before .before .before .good .1 .1 .0 .1 .1 .0 .1 .1 .1 .1 .1 .0 .1 .0 .1) in let xs = n .last .0 in same-len-mid 12 16 xs (v .last .0) (ap length (v .ensures) ∙ length-map w (toBits binary32) ∙ z ∙ sym (length-take-le 16 (drop 12 xs) (omega (arith, length-drop 12 xs, numbers-length (a .words .now) _ (a .head) (n .ensures) (c .before .before .before .before .before .before .before .before .before .before .before .before .before .pre), c .before .before .before .before .before .before .before .before .before .before .before .before .before .pre)))) ∙ numbers-length (a .words .now) _ (a .head) (n .ensures) (c .before .before .before .before .before .before .before .before .before .before .before .before .before .pre)
+    let p0 = c .before .before .before .before .before .before .before .before in
+    let s = p0 .before .before .before in
+    let h = s .args .head in
+    let f = c .before .before .before .before .before .before .write-front in
+    let v = c .before .before .write-codes in
+    let xs = f .last .0 in
+    let y = sixteen (h .transformer .weights) (s .good .1 .1 .0 .1 .1 .0 .1 .1 .1 .1 .1 .0 .1 .0 .1) in
+    let z : length (h .codes) ≡ 16 = sixteen-codes (h .codes) (s .good .1 .1 .0 .1 .1 .1 .1 .1 .1 .1 .1 .1 .1 .1 .0 .1 .0 .1) in
+    let k : length xs ≡ length (s .args .words .now) = front-kept (s .args .words .now) _ h y (f .ensures) (s .pre) in
+    let m = length-take-le 16 (drop 28 xs) (omega (arith, length-drop 28 xs, k, s .pre)) in
+    same-len-mid 28 16 xs (v .last .0) (ap length (v .ensures) ∙ z ∙ sym m) ∙ k
 
 returns-2 : tie.Need-returns-2
 returns-2 c =
-    let a = c .before .before .before .before .before .before .before .before .before .before .before .before .before .args in
-    let v = c .before .before .write-weights in
-    let w = a .head .transformer .weights in let z : length w ≡ 16 = sixteen w (c .before .before .before .before .before .before .before .before .before .before .before .before .before .good .1 .1 .0 .1 .1 .0 .1 .1 .1 .1 .1 .0 .1 .0 .1) in weights-stored (a .words .now) _ (a .head) _ (c .before .before .before .before .before .before .before .write-numbers .ensures) (v .ensures) (ap length (v .ensures) ∙ length-map w (toBits binary32) ∙ z) ∙ given (a .row) _ (a .words .now) (c .before .before .before .before .before .before .before .before .before .before .before .if1 .left)
+    let p0 = c .before .before .before .before .before .before .before .before in
+    let s = p0 .before .before .before in
+    let a = s .args in
+    let h = a .head in
+    let f = c .before .before .before .before .before .before .write-front in
+    let v = c .before .before .write-codes in
+    let i = c .before .before .before .before .before .before .before .before in
+    let y = sixteen (h .transformer .weights) (s .good .1 .1 .0 .1 .1 .0 .1 .1 .1 .1 .1 .0 .1 .0 .1) in
+    let z : length (h .codes) ≡ 16 = sixteen-codes (h .codes) (s .good .1 .1 .0 .1 .1 .1 .1 .1 .1 .1 .1 .1 .1 .1 .0 .1 .0 .1) in
+    codes-stored (a .words .now) _ h _ y (f .ensures) (v .ensures) (ap length (v .ensures) ∙ z)
+    ∙ given (a .row) _ (a .words .now) (i .before .if1 .left)
 
 pub write-head-spec : {M : Type 1} → statement M
-write-head-spec = tie.close (tie.spec returns write-numbers-requires sub-write-weights part-write-weights-start part-write-weights-end slice-aggregate-write-weights write-weights-requires same-length returns-2)
+write-head-spec =
+    tie.close
+    (tie.spec
+    returns
+    write-front-requires
+    sub-write-codes
+    part-write-codes-start
+    part-write-codes-end
+    write-codes-requires
+    same-length
+    returns-2)

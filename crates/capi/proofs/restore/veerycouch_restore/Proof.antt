@@ -55,8 +55,8 @@ tell-line-requires c κs = search needs
 
 returns : tie.Need-returns
 returns c =
-    let a = c .before .before .before .before .before .before .before .before .before .before .before .before .before .before .before .before .before .before .before .before .before .before .before .before .args in
-    restore-few (a .text .now) (a .head .now) (lent (a .statistics .now) (a .last-shingled-input .now) (a .last-shingled-point .now) (a .previous-timestamps .now) (a .initial-values .now) (a .initial-timestamps .now)) (a .line .now) (omega arith) (c .before .before .before .before .before .before .before .before .restore .ensures) (c .tell-line .ensures)
+    let a = c .before .before .before .before .before .before .before .before .before .before .before .before .before .before .before .before .before .before .before .before .before .before .before .before .before .args in
+    restore-few (a .text .now) (a .codes .now) (a .head .now) (lent (a .statistics .now) (a .last-shingled-input .now) (a .last-shingled-point .now) (a .previous-timestamps .now) (a .initial-values .now) (a .initial-timestamps .now)) (a .line .now) (omega arith) (c .before .before .before .before .before .before .before .before .restore .ensures) (c .tell-line .ensures)
 
 restore-requires-2 : tie.Need-restore-requires-2
 restore-requires-2 c κs = search needs
@@ -90,8 +90,8 @@ same-length-7 c = search needs
 
 returns-2 : tie.Need-returns-2
 returns-2 c =
-    let a = c .before .before .before .before .before .before .before .before .before .before .before .before .before .before .before .before .before .before .before .before .before .before .before .before .before .before .before .before .before .before .before .before .before .before .before .args in
-    restore-done (a .text .now) (a .head .now) (lent (a .statistics .now) (a .last-shingled-input .now) (a .last-shingled-point .now) (a .previous-timestamps .now) (a .initial-values .now) (a .initial-timestamps .now)) (a .line .now) (omega arith) (c .before .before .before .before .before .before .before .before .before .before .before .before .before .before .before .before .before .before .before .restore2 .ensures) (c .before .before .before .before .write-head .ensures) (c .tell-line2 .ensures)
+    let a = c .before .before .before .before .before .before .before .before .before .before .before .before .before .before .before .before .before .before .before .before .before .before .before .before .before .before .before .before .before .before .before .before .before .before .before .before .args in
+    restore-done (a .text .now) (a .codes .now) (a .head .now) (lent (a .statistics .now) (a .last-shingled-input .now) (a .last-shingled-point .now) (a .previous-timestamps .now) (a .initial-values .now) (a .initial-timestamps .now)) (a .line .now) (omega arith) (c .before .before .before .before .before .before .before .before .before .before .before .before .before .before .before .before .before .before .before .restore2 .ensures) (c .before .before .before .before .write-head .ensures) (c .tell-line2 .ensures)
 
 pub veerycouch-restore-spec : {M : Type 1} → statement M
 veerycouch-restore-spec =
