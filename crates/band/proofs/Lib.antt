@@ -1,0 +1,5 @@
+pub mod Steps
+pub mod Upright
+pub mod HeldUpright
+pub mod Samples
+pub mod Refused
