@@ -7,6 +7,9 @@ use mathlib.Core.Option.{Option, none, some}
 use lib.IntN.{pos, negsuc}
 use lib.ListN.{replicate}
 use lib.Ieee.{Float, binary32, toBits, ofBits, size, round, le, lt, eq, add, sub, mul, div, ofInt}
+use Rattle.restart.specs.Statistics.{statisticsFrom}
+use Rattle.restart.proofs.Step.{answers-history}
+use native.Mathlib.Omega.{arith}
 use Rattle.restart.specs.History.{Entry, initial, learned, drained, seenOf, internalOf, bufferOf, shingled, inputsOf, timestampsOf, newestOf, countOf, statisticsOf, historyState, historyFacts, historyRefusal, complete, adds, enter, entries, historyText, historyAnswer, historyAnswers}
 use Rattle.trcf.specs.declared.types.TransformMethod.{TransformMethod}
 use Rattle.trcf.specs.declared.types.TransformMethod.the-variants.{NONE, NORMALIZE}
@@ -39,7 +42,7 @@ unfolding running deviations scaleOf shiftOf pointOf invertTime numbersOf timesO
 answering = tt
 
 recording : Unit {0}
-unfolding computing seenOf internalOf bufferOf shingled inputsOf timestampsOf newestOf countOf statisticsOf historyState historyFacts historyRefusal complete adds enter entries historyText historyAnswer
+unfolding computing seenOf internalOf bufferOf shingled inputsOf timestampsOf newestOf countOf statisticsOf statisticsFrom historyState historyFacts historyRefusal complete adds enter entries historyText historyAnswer
 recording = tt
 
 writing : Unit {0}
@@ -217,8 +220,7 @@ unfolding answering
 every-row = refl
 
 pub every-answer : answers (fresh augmented) every ≡ historyAnswers augmented [] every
-unfolding answering recording
-every-answer = refl
+every-answer = answers-history augmented (omega arith) every
 
 -- the text at each place of a list of calls: of the state, and of the history
 abbrev texts : State → List Call → List (List ℕ)
