@@ -9,14 +9,17 @@ use mathlib.Core.List.{List, [], _∷_, _++_, append-assoc, append-nil}
 use lib.Dec.{ltb}
 use lib.ListN.{length, replicate, length-append, length-replicate}
 use lib.Ieee.{Float}
-use Rattle.restart.specs.History.{Entry, initial, learned, drained, initials, learns, isDrained, onlyInitials, values, timestamps, seenOf, internalOf, bufferOf, firstAndAll, shingled, inputsOf, timestampsOf, newestOf, Fed, fedAfter, after, fedOf, feedEach, countOf, statisticsOf, pointsOf, historyState}
+use Rattle.restart.specs.Statistics.{Fed, fedAfter, statisticsFrom}
+use Rattle.restart.specs.History.{Entry, initial, learned, drained, initials, learns, isDrained, onlyInitials, values, timestamps, seenOf, internalOf, bufferOf, firstAndAll, shingled, inputsOf, timestampsOf, newestOf, after, fedOf, countOf, statisticsOf, pointsOf, historyState}
+use Rattle.restart.proofs.Lists.{feedEach}
 use Rattle.common.specs.Deviation.{zero64}
 use Rattle.trcf.specs.Lists.{lastN}
 use Rattle.trcf.specs.Transformer.{zero32}
 use Rattle.trcf.specs.Settings.{Settings, dimension}
 use Rattle.trcf.specs.Calls.{Learn}
-use Rattle.trcf.specs.Preprocessor.{State, statisticsLength, Reading, reading, feed, previous, primed, drainEach, drainAll, held, learned as learnedState}
+use Rattle.trcf.specs.Preprocessor.{State, statisticsLength, Reading, reading, feed, feedAll, previous, primed, drainEach, drainAll, held, learned as learnedState}
 use Rattle.restart.proofs.Lists.{lastN-shift, lastN-all, lastN-newest, lastOr-newest, Each, timestamps-append, values-snoc, length-after, feedAll-after, feedEach-append, overwrite-fresh}
+use Rattle.restart.proofs.Scores.{statistics-fed}
 use Rattle.restart.proofs.Drain.{mid, pass}
 
 -- ---- nothing but W's
@@ -48,7 +51,7 @@ module _ (s : Settings) (k>0 : 0 < s .k) (es : List Entry) (r : Reading) (rs : L
     valuesSeen = seenOf es;
     internalTimestamp = 0;
     count = zero-add (suc (length rs)) j;
-    statistics = feedAll-after s 0 (replicate (statisticsLength s) zero64) r (r ∷ rs) j;
+    statistics = (ap (λ (st : List Float). feedAll s 0 st r (r ∷ rs)) (statistics-fed s []) ∙ feedAll-after s 0 (replicate (statisticsLength s) zero64) r (r ∷ rs)) j;
     lastShingledInput = overwrite-fresh (s .d * s .k) zero32 (r .value) (omega (arith, e .0, le-mul-of-pos-right (s .d) k>0)) j;
     lastShingledPoint = sym (lastN-all (dimension s) (replicate (dimension s) zero32) (length-replicate (dimension s) zero32)) j;
     previousTimestamps = overwrite-fresh (s .k) 0 (r .time ∷ []) k>0 j;
@@ -66,6 +69,7 @@ module _ (s : Settings) (k>0 : 0 < s .k) (es : List Entry) (r : Reading) (rs : L
       (lastOr-newest 0 (s .k) (replicate (s .k) 0) (r .time) (simp length-replicate (omega arith)) k>0) e
       ∙ rw (q .noL, q .noFed, q .zeros, ew) (cc (
         append-nil rs,
+        statistics-fed s (after r (r ∷ rs)),
         length-after r rs,
         append-assoc (replicate (s .d * s .k) zero32) (r .value) (r .value ++ values rs),
         append-assoc (replicate (s .k) 0) (r .time ∷ []) (r .time ∷ timestamps rs),
@@ -99,10 +103,13 @@ fed-length : (b : Bool) (ps : List Fed) (p : Fed) → cond b (suc (length ps)) (
 fed-length true ps p = simp length-append (omega arith)
 fed-length false ps p = simp append-nil
 
-fed-stats : (s : Settings) (st : List Float) (b : Bool) (ps : List Fed) (p : Fed)
-    → cond b (feed s (length ps) (feedEach s 0 st ps) (p .before) (p .now)) (feedEach s 0 st ps) ≡ feedEach s 0 st (ps ++ cond b (p ∷ []) [])
-fed-stats s st true ps p = sym (feedEach-append s 0 st ps (p ∷ []) ∙ rw zero-add)
-fed-stats s st false ps p = simp append-nil
+fed-stats : (s : Settings) (b : Bool) (ps : List Fed) (p : Fed)
+    → cond b (feed s (length ps) (statisticsFrom s ps) (p .before) (p .now)) (statisticsFrom s ps) ≡ statisticsFrom s (ps ++ cond b (p ∷ []) [])
+fed-stats s true ps p =
+    let st = replicate (statisticsLength s) zero64 in
+    let fed : feed s (length ps) (feedEach s 0 st ps) (p .before) (p .now) ≡ feedEach s 0 st (ps ++ (p ∷ [])) = sym (feedEach-append s 0 st ps (p ∷ []) ∙ rw zero-add) in
+    ap (λ (l : List Float). feed s (length ps) l (p .before) (p .now)) (statistics-fed s ps) ∙ fed ∙ sym (statistics-fed s (ps ++ (p ∷ [])))
+fed-stats s false ps p = simp append-nil
 
 module _ (s : Settings) (k>0 : 0 < s .k) (es : List Entry) where
   pub learned-state : (x : List Float) (t : ℕ) (y : List Float) → length x ≡ s .d → learnedState (historyState s es) (reading x t) y ≡ historyState s (learned x t y ∷ es)
@@ -112,7 +119,7 @@ module _ (s : Settings) (k>0 : 0 < s .k) (es : List Entry) where
     valuesSeen = e₁ j;
     internalTimestamp = e₂ j;
     count = fed-length (ltb (seenOf es) (s .stop)) (fedOf s es) (fedAfter (newestOf s es) r) j;
-    statistics = fed-stats s (replicate (statisticsLength s) zero64) (ltb (seenOf es) (s .stop)) (fedOf s es) (fedAfter (newestOf s es) r) j;
+    statistics = fed-stats s (ltb (seenOf es) (s .stop)) (fedOf s es) (fedAfter (newestOf s es) r) j;
     lastShingledInput = (sym (lastN-shift (s .d * s .k) Z x (simp (length-append, length-replicate) (omega arith)) (omega (arith, le-mul-of-pos-right (s .d) k>0)))
         ∙ ap (lastN (s .d * s .k)) (append-assoc (replicate (s .d * s .k) zero32) (values (shingled es)) x ∙ ap (λ (l : List Float). replicate (s .d * s .k) zero32 ++ l) (sym (values-snoc (shingled es) r) ∙ ap values g))) j;
     lastShingledPoint = y;

@@ -1,5 +1,7 @@
 pub mod FeedLaws
 pub mod Lists
+pub mod Places
+pub mod Scores
 pub mod Drain
 pub mod Entries
 pub mod Step

@@ -7,7 +7,8 @@ use mathlib.Core.List.{List, [], _∷_, _++_, append-assoc, append-nil}
 use lib.ListN.{length, take, drop, replicate, length-append, length-drop, length-replicate}
 use lib.Seq.{drop-drop, drop-append-le, drop-at, take-at}
 use lib.Ieee.{Float}
-use Rattle.restart.specs.History.{values, timestamps, Fed, after, pairs, feedEach}
+use Rattle.restart.specs.Statistics.{Fed}
+use Rattle.restart.specs.History.{values, timestamps, after, pairs}
 use Rattle.trcf.specs.Lists.{lastN, lastOr, null, shiftIn, overwrite}
 use Rattle.trcf.specs.Fit.{All}
 use Rattle.trcf.specs.Settings.{Settings}
@@ -109,6 +110,11 @@ length-after p (r ∷ rs) = ap suc (length-after r rs)
 pub length-pairs : (rs : List Reading) → length (pairs rs) ≡ length rs
 length-pairs [] = refl
 length-pairs (r ∷ rs) = length-after r (r ∷ rs)
+
+-- fed one after the other; c were fed before
+abbrev pub feedEach : Settings → ℕ → List Float → List Fed → List Float
+feedEach s c st [] = st
+feedEach s c st (p ∷ ps) = feedEach s (suc c) (feed s c st (p .before) (p .now)) ps
 
 pub feedAll-after : (s : Settings) (c : ℕ) (st : List Float) (p : Reading) (rs : List Reading) → feedAll s c st p rs ≡ feedEach s c st (after p rs)
 feedAll-after s c st p [] = refl

@@ -2,7 +2,7 @@
 use Prim.Native.Nat.{ℕ, zero, suc, _+_, _-_, _*_, _≤_, _<_}
 use native.Mathlib.Nat.{suc-mul, zero-mul}
 use native.Mathlib.Omega.{arith}
-use mathlib.Core.Path.{_≡_, refl, sym, ap, _∙_}
+use mathlib.Core.Path.{_≡_, refl, sym, ap, _∙_, subst}
 use mathlib.Core.Bool.{Bool, true, false, _&&_, _||_, cond, true≢false}
 use mathlib.Core.List.{List, [], _∷_, _++_, append-assoc, append-nil}
 use mathlib.Core.Option.{Option, none, some}
@@ -12,7 +12,10 @@ use lib.ListN.{length, drop, replicate, length-append, length-replicate}
 use lib.Ieee.{Float, binary32, binary64}
 use lib.Ieee.Bits.{ofBits-fits}
 use borrow.Author.Tests.{ltb-false, leb-false, eqb-true, eqb-false, not-false}
-use Rattle.restart.specs.History.{Entry, initial, learned, drained, initials, learns, isDrained, onlyInitials, values, timestamps, seenOf, internalOf, bufferOf, firstAndAll, shingled, inputsOf, timestampsOf, Fed, after, pairs, fedOf, feedEach, countOf, statisticsOf, transforms, pointsOf, historyState, historyFacts, historyRefusal, complete, adds, enter, entriesFrom, entries}
+use Rattle.restart.specs.Statistics.{Fed}
+use Rattle.restart.specs.History.{Entry, initial, learned, drained, initials, learns, isDrained, onlyInitials, values, timestamps, seenOf, internalOf, bufferOf, firstAndAll, shingled, inputsOf, timestampsOf, after, pairs, fedOf, countOf, statisticsOf, transforms, pointsOf, historyState, historyFacts, historyRefusal, complete, adds, enter, entriesFrom, entries}
+use Rattle.restart.proofs.Scores.{statistics-fed}
+use Rattle.restart.proofs.Lists.{feedEach}
 use Rattle.common.specs.Deviation.{zero64, countLimit}
 use Rattle.trcf.specs.Lists.{lastN, lastOr}
 use Rattle.trcf.specs.Fit.{All, Fits}
@@ -363,7 +366,8 @@ module _ (s : Settings) (ok : Valid s) (es : List Entry) (v : Inv s es) (g : Goo
   unfolding historyState statisticsOf inputsOf timestampsOf
   has-form = record {
     valid = ok;
-    statisticsFit = feedEach-fits s 0 _ (fedOf s es) (all-replicate _ (statisticsLength s) zero64 (ofBits-fits binary64 0));
+    statisticsFit = subst (Fits binary64) (sym (statistics-fed s (fedOf s es)))
+        (feedEach-fits s 0 (replicate (statisticsLength s) zero64) (fedOf s es) (all-replicate _ (statisticsLength s) zero64 (ofBits-fits binary64 0)));
     inputFits = all-lastN _ (s .d * s .k) (replicate (s .d * s .k) zero32 ++ values (shingled es))
         (all-append _ (replicate (s .d * s .k) zero32) _ (all-replicate _ (s .d * s .k) zero32 (ofBits-fits binary32 0)) (values-fit (shingled es) (saneLine (isDrained es) refl)));
     pointFits = g .pointsFit;
@@ -371,7 +375,7 @@ module _ (s : Settings) (ok : Valid s) (es : List Entry) (v : Inv s es) (g : Goo
     timesFit = all-lastN _ (s .k) (replicate (s .k) 0 ++ timestamps (shingled es))
         (all-append _ (replicate (s .k) 0) _ (all-replicate _ (s .k) 0 (omega arith)) (timestamps-fit (shingled es) (saneLine (isDrained es) refl)));
     initialTimesFit = timestamps-fit (bufferOf es) (saneBuf (isDrained es) refl);
-    statisticsLong = feedEach-length s 0 _ (fedOf s es) ∙ length-replicate (statisticsLength s) zero64;
+    statisticsLong = ap length (statistics-fed s (fedOf s es)) ∙ feedEach-length s 0 (replicate (statisticsLength s) zero64) (fedOf s es) ∙ length-replicate (statisticsLength s) zero64;
     inputLong = lastN-length (s .d * s .k) (replicate (s .d * s .k) zero32 ++ values (shingled es)) (simp (length-append, length-replicate) (omega arith));
     pointLong = g .pointsWide;
     timesLong = lastN-length (s .k) (replicate (s .k) 0 ++ timestamps (shingled es)) (simp (length-append, length-replicate) (omega arith));

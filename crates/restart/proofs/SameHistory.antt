@@ -4,7 +4,8 @@ use mathlib.Core.Bool.{Bool, true, false, cond}
 use mathlib.Core.List.{List, [], _∷_, _++_, append-assoc, append-nil, reverse, reverse-cons}
 use lib.ListN.{replicate}
 use lib.Ieee.{Float}
-use Rattle.restart.specs.History.{Entry, initial, learned, drained, initials, learns, isDrained, seenOf, internalOf, bufferOf, shingled, inputsOf, timestampsOf, newestOf, Fed, fedOf, countOf, statisticsOf, pointsOf, historyState, entries, historyText}
+use Rattle.restart.specs.Statistics.{Fed}
+use Rattle.restart.specs.History.{Entry, initial, learned, drained, initials, learns, isDrained, seenOf, internalOf, bufferOf, shingled, inputsOf, timestampsOf, newestOf, fedOf, countOf, statisticsOf, pointsOf, historyState, entries, historyText}
 use Rattle.restart.specs.Chronicle.{Ws, Ls, stands, fedBy, fedFrom, pointsBy, pointsFrom, chronicle}
 use Rattle.trcf.specs.Transformer.{zero32}
 use Rattle.trcf.specs.Settings.{Settings, dimension}

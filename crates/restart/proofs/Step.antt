@@ -21,6 +21,7 @@ use Rattle.trcf.specs.Preprocessor.{State, statisticsLength, fresh, facts, refu
 use Rattle.trcf.proofs.FitLaws.{all-append}
 use Rattle.snapshot.proofs.Accepted.{clear}
 use Rattle.snapshot.proofs.Lists.{and-left, and-right, nil}
+use Rattle.restart.proofs.Scores.{statistics-fed}
 use Rattle.restart.proofs.Lists.{lastN-all, Each, null-timestamps, blocks-values}
 use Rattle.restart.proofs.Entries.{Unmixed, unmixed, drained-state, initial-state, learned-state}
 
@@ -208,7 +209,7 @@ module _ (s : Settings) (k>0 : 0 < s .k) where
     valuesSeen = 0;
     internalTimestamp = 0;
     count = 0;
-    statistics = replicate (statisticsLength s) zero64;
+    statistics = sym (statistics-fed s []) j;
     lastShingledInput = zeros (s .d * s .k) zero32 j;
     lastShingledPoint = replicate (dimension s) zero32;
     previousTimestamps = zeros (s .k) 0 j;

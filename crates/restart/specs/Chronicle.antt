@@ -1,4 +1,4 @@
--- The history once more, read from its oldest entry on, as document 01 tells it; proofs/Chronicle.antt shows that both are one.
+-- The history once more, read from its oldest entry on, as document 01 tells it; proofs/SameHistory.antt shows that both are one.
 -- `before` holds the entries before the one that is looked at, oldest first.
 use Prim.Native.Nat.{ℕ, zero, suc, _+_, _*_}
 use mathlib.Core.Bool.{Bool, true, false, cond}
@@ -6,12 +6,12 @@ use mathlib.Core.List.{List, [], _∷_, _++_}
 use lib.Dec.{ltb}
 use lib.ListN.{length, replicate}
 use lib.Ieee.{Float}
-use Rattle.common.specs.Deviation.{zero64}
 use Rattle.trcf.specs.Lists.{lastN, lastOr}
 use Rattle.trcf.specs.Transformer.{zero32}
 use Rattle.trcf.specs.Settings.{Settings, dimension}
-use Rattle.trcf.specs.Preprocessor.{Reading, reading, statisticsLength, State}
-use Rattle.restart.specs.History.{Entry, initial, learned, drained, values, timestamps, firstAndAll, Fed, fedAfter, pairs, feedEach, transforms}
+use Rattle.trcf.specs.Preprocessor.{Reading, reading, State}
+use Rattle.restart.specs.Statistics.{Fed, fedAfter, statisticsFrom}
+use Rattle.restart.specs.History.{Entry, initial, learned, drained, values, timestamps, firstAndAll, pairs, transforms}
 
 abbrev pub Ws : List Entry → List Reading
 Ws [] = []
@@ -55,7 +55,7 @@ fedFrom s before [] = []
 fedFrom s before (e ∷ es) = fedBy s before e ++ fedFrom s (before ++ (e ∷ [])) es
 
 abbrev pub statisticsAfter : Settings → List Entry → List Float
-statisticsAfter s es = feedEach s 0 (replicate (statisticsLength s) zero64) (fedFrom s [] es)
+statisticsAfter s es = statisticsFrom s (fedFrom s [] es)
 
 -- what an entry makes of the points
 abbrev pub pointsBy : Settings → List Entry → List Float → Entry → List Float

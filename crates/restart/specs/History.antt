@@ -7,13 +7,13 @@ use mathlib.Core.Option.{Option, none, some}
 use lib.Dec.{ltb, eqb}
 use lib.ListN.{length, replicate}
 use lib.Ieee.{Float}
-use Rattle.common.specs.Deviation.{zero64}
 use Rattle.trcf.specs.Lists.{lastN, lastOr}
 use Rattle.trcf.specs.Transformer.{zero32}
 use Rattle.trcf.specs.Settings.{Settings, dimension, waiting}
 use Rattle.trcf.specs.Calls.{Learn, Forecast, Call, shingledPoint, postProcess, drain, transform, invertExtrapolation, scale, shift, status, Facts, rows}
-use Rattle.trcf.specs.Preprocessor.{Reading, reading, statisticsLength, feed, transformedAfter, State, accepted, Answer, refused, reply}
+use Rattle.trcf.specs.Preprocessor.{Reading, reading, transformedAfter, State, accepted, Answer, refused, reply}
 use Rattle.snapshot.specs.Text.{render}
+use Rattle.restart.specs.Statistics.{Fed, fedAfter, statisticsFrom}
 
 -- Document 01's W(x, t), L(x, t, y) and F.
 pub data Entry : Type 0 where
@@ -95,14 +95,6 @@ newestOf s es = reading (lastN (s .d) (inputsOf s es)) (lastOr 0 (timestampsOf s
 
 -- ---- statistics and points
 
--- a reading with its previous one
-pub record Fed : Type 0 where
-  pub now : Reading
-  pub before : Reading
-
-abbrev pub fedAfter : Reading → Reading → Fed
-fedAfter p r = record { now = r; before = p }
-
 -- "each W in order, previous = the W before, the first with itself"
 abbrev pub after : Reading → List Reading → List Fed
 after p [] = []
@@ -119,17 +111,12 @@ fedOf s (initial x t ∷ es) = fedOf s es
 fedOf s (learned x t y ∷ es) = fedOf s es ++ cond (ltb (seenOf es) (s .stop)) (fedAfter (newestOf s es) (reading x t) ∷ []) []
 fedOf s (drained ∷ es) = fedOf s es ++ pairs (initials es)
 
--- fed one after the other; c were fed before
-abbrev pub feedEach : Settings → ℕ → List Float → List Fed → List Float
-feedEach s c st [] = st
-feedEach s c st (p ∷ ps) = feedEach s (suc c) (feed s c st (p .before) (p .now)) ps
-
 -- "All start empty; count = readings fed."
 unfoldable pub countOf : Settings → List Entry → ℕ
 countOf s es = length (fedOf s es)
 
 unfoldable pub statisticsOf : Settings → List Entry → List Float
-statisticsOf s es = feedEach s 0 (replicate (statisticsLength s) zero64) (fedOf s es)
+statisticsOf s es = statisticsFrom s (fedOf s es)
 
 abbrev pub transforms : Settings → List Float → ℕ → List Fed → List Float
 transforms s st seen [] = []

@@ -1,3 +1,4 @@
+pub mod Statistics
 pub mod History
 pub mod Chronicle
 pub mod Statement

@@ -7,6 +7,9 @@ use mathlib.Core.Option.{Option, none, some}
 use lib.IntN.{pos, negsuc}
 use lib.ListN.{replicate}
 use lib.Ieee.{Float, binary32, toBits, ofBits, size, round, le, lt, eq, add, sub, mul, div, ofInt}
+use Rattle.restart.specs.Statistics.{statisticsFrom}
+use Rattle.restart.proofs.Step.{answers-history}
+use native.Mathlib.Omega.{arith}
 use Rattle.restart.specs.History.{Entry, initial, learned, drained, seenOf, internalOf, bufferOf, shingled, inputsOf, timestampsOf, newestOf, countOf, statisticsOf, historyState, historyFacts, historyRefusal, complete, adds, enter, entries, historyText, historyAnswer, historyAnswers}
 use Rattle.trcf.specs.declared.types.TransformMethod.{TransformMethod}
 use Rattle.trcf.specs.declared.types.TransformMethod.the-variants.{NONE, NORMALIZE}
@@ -26,7 +29,7 @@ use Rattle.snapshot.specs.Text.{whole, float, setLine, singles, cntLine, devLin
 use Rattle.snapshot.specs.Read.{same}
 
 -- to unfold this is to unfold whatever its line names
-computing : Unit {0}
+unfoldable pub computing : Unit {0}
 unfolding add sub mul div lt le eq ofInt ofBits toBits size round narrowed rootOf rooted halves rootWithin factorOf stepOf isEmpty meanOf rootAbove deviationOf settled shifted scaled rangeAt putAt unequal unblocked shorter cascadeTo over statisticAt putStatistic fed deviationsAt putDeviations fedAt channelsFed updated normalizedScale basicShift basicDrift weightAt transformed unweighted inverted reciprocal forecastAt forecastTo invertedForecast scales shifts differenceDeviations block dimension waiting lastN shiftIn overwrite finite due newest wrongLength outside drainFull learnFull lookahead unturnable turnShort waitingShort learnShort table rows timeFed feed timescale timedrift timeElement transformedAfter
 computing = tt
 
@@ -38,8 +41,8 @@ answering : Unit {0}
 unfolding running deviations scaleOf shiftOf pointOf invertTime numbersOf timesOf blockFrom pastValues expectedValues anomalyOf learnedNothing heldAnswer learnedAnswer learnAnswer turnedBack statusOf reply answer
 answering = tt
 
-recording : Unit {0}
-unfolding computing seenOf internalOf bufferOf shingled inputsOf timestampsOf newestOf countOf statisticsOf historyState historyFacts historyRefusal complete adds enter entries historyText historyAnswer
+unfoldable pub recording : Unit {0}
+unfolding computing seenOf internalOf bufferOf shingled inputsOf timestampsOf newestOf countOf statisticsOf statisticsFrom historyState historyFacts historyRefusal complete adds enter entries historyText historyAnswer
 recording = tt
 
 writing : Unit {0}
@@ -48,10 +51,10 @@ writing = tt
 
 -- ---- settings and calls
 
-abbrev one : Float
+abbrev pub one : Float
 one = ofBits binary32 0x3f80_0000
 
-abbrev two : Float
+abbrev pub two : Float
 two = ofBits binary32 0x4000_0000
 
 abbrev four : Float
@@ -70,12 +73,12 @@ abbrev thirty : Float
 thirty = ofBits binary32 0x41f0_0000
 
 -- d 1, decay 0, weight 1
-abbrev sets : ForestMode → TransformMethod → ℕ → ℕ → ℕ → Float → Settings
+abbrev pub sets : ForestMode → TransformMethod → ℕ → ℕ → ℕ → Float → Settings
 sets mode method k start stop wt =
     record { mode = mode; method = method; d = 1; k = k; start = start; stop = stop; decay = zero64; weightTime = wt; weights = one ∷ []; codes = 0 ∷ [] }
 
 -- a learn with outputs long enough
-abbrev learnAt : Float → ℕ → Option (List Float) → Call
+abbrev pub learnAt : Float → ℕ → Option (List Float) → Call
 learnAt x t y =
     postProcess (record {
       input = x ∷ [];
@@ -91,10 +94,10 @@ learnAt x t y =
 
 -- ---- "Start 2, k 4, W's 4, 6, then drain: inputs 0, 4, 4, 6."
 
-abbrev four-six : List Call
+abbrev pub four-six : List Call
 four-six = learnAt four 1 none ∷ learnAt six 2 none ∷ drain ∷ []
 
-abbrev normalizing : ℕ → ℕ → Settings
+abbrev pub normalizing : ℕ → ℕ → Settings
 normalizing k start = sets STANDARD NORMALIZE k start 9 one
 
 pub inputs-run : run (fresh (normalizing 4 2)) four-six .lastShingledInput ≡ zero32 ∷ four ∷ four ∷ six ∷ []
@@ -217,8 +220,7 @@ unfolding answering
 every-row = refl
 
 pub every-answer : answers (fresh augmented) every ≡ historyAnswers augmented [] every
-unfolding answering recording
-every-answer = refl
+every-answer = answers-history augmented (omega arith) every
 
 -- the text at each place of a list of calls: of the state, and of the history
 abbrev texts : State → List Call → List (List ℕ)

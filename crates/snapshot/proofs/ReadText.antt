@@ -275,19 +275,23 @@ third-form : (s : Settings) (v : List Float) → Hold (setKind .tests s) → Hol
     → Form w × Shows w (bytesOfLine (setLine s) ∷ bytesOfLine (singles wgt v) ∷ bytesOfLine (thirdKind s v .write o) ∷ ls)
 unfolding linesBy setLine
 third-form s v h g w (inl cs) ls q t =
-    let r = body-form (withLists s v cs) (valid-of s v cs h g q) (t .a) (t .holds) w (t .rest) (t .more) in
-    (r .0, record {
-      coded = true;
-      allZero = λ e. absurd (false≢true (sym e));
-      is = λ i. bytesOfLine (setLine (r .1 i)) ∷ bytesOfLine (singles wgt (r .1 i .weights)) ∷ bytesOfLine (chnLine (r .1 i .codes)) ∷ (r .2 ∙ t .is) i;
-    })
+    let r = body-form (withLists s v cs) (valid-of s v cs h g q) (t .a) (t .holds) w (t .rest) (t .more) in (
+      r .0,
+      record {
+        coded = true;
+        allZero = λ e. absurd (false≢true (sym e));
+        is = λ i. bytesOfLine (setLine (r .1 i)) ∷ bytesOfLine (singles wgt (r .1 i .weights)) ∷ bytesOfLine (chnLine (r .1 i .codes)) ∷ (r .2 ∙ t .is) i;
+      },
+    )
 third-form s v h g w (inr c) ls q t =
-    let r = body-form (bare s v) (valid-of s v (replicate (s .d) 0) h g (zero-codes s)) c q w ls t in
-    (r .0, record {
-      coded = false;
-      allZero = λ _. subst (λ (z : Settings). z .codes ≡ replicate (z .d) 0) (sym (r .1)) refl;
-      is = λ i. bytesOfLine (setLine (r .1 i)) ∷ bytesOfLine (singles wgt (r .1 i .weights)) ∷ r .2 i;
-    })
+    let r = body-form (bare s v) (valid-of s v (replicate (s .d) 0) h g (zero-codes s)) c q w ls t in (
+      r .0,
+      record {
+        coded = false;
+        allZero = λ _. subst (λ (z : Settings). z .codes ≡ replicate (z .d) 0) (sym (r .1)) refl;
+        is = λ i. bytesOfLine (setLine (r .1 i)) ∷ bytesOfLine (singles wgt (r .1 i .weights)) ∷ r .2 i;
+      },
+    )
 
 whole-form : (w : State) (ls : List (List ℕ)) → Entire w ls → Form w × Shows w ls
 whole-form w ls t =

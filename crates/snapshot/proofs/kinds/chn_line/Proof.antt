@@ -38,9 +38,10 @@ returns c =
     let C = c .before .before .before .chn-codes in
     let v = C .last .1 .1 .0 in
     let m = length-take-le d (replicate {A = ℕ} 16 0) (c .before .before .before .before .before .before .pre) in
-    let n : length v ≡ d = C .ensures .kept ∙ m in
-    (none-or d _ (drop (c .before .before .before .before .before .before .args .at) t) (c .before .before .before .before .before .before .pre) m (lost-one (C .result) t v _ (c .enum-told .given .1) (C .ensures .told)),
-    (none-over d (c .before .before .before .before .before .before .pre), omega arith))
+    let n : length v ≡ d = C .ensures .kept ∙ m in (
+      none-or d _ (drop (c .before .before .before .before .before .before .args .at) t) (c .before .before .before .before .before .before .pre) m (lost-one (C .result) t v _ (c .enum-told .given .1) (C .ensures .told)),
+      (none-over d (c .before .before .before .before .before .before .pre), omega arith),
+    )
 
 array-share-prefix-w : tie.Need-array-share-prefix-w
 array-share-prefix-w c =

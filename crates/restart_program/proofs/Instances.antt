@@ -1,0 +1,396 @@
+-- The theorems at concrete settings, lists of calls, places and lent memory: their premises can be met, and what they then say is written out.
+use Prim.Native.Nat.{ℕ, zero, suc, _≤_}
+use mathlib.Core.Path.{_≡_, refl, sym, ap, _∙_, subst}
+use mathlib.Core.Bool.{Bool, true, false}
+use mathlib.Core.List.{List, [], _∷_, _++_, map}
+use mathlib.Core.Option.{Option, none, some}
+use native.Mathlib.Omega.{arith}
+use lib.IntN.{pos, negsuc}
+use lib.ListN.{length, take, drop, getD, replicate}
+use lib.Ieee.{Float, nan, binary32, binary64, toBits, ofBits, fits}
+use lib.Ieee as Ieee
+use lib.Ieee.Bits.{ofBits-fits}
+use Rattle.numeric.specs.Narrow as Narrow
+use Rattle.numeric.specs.Root as Root
+use Rattle.common.specs.Deviation as Deviation
+use Rattle.common.specs.Lent as Over
+use Rattle.common.specs.RangeVector as RangeVector
+use Rattle.trcf.specs.Lists as Lists
+use Rattle.trcf.specs.Settings as Settings
+use Rattle.trcf.specs.Calls as Calls
+use Rattle.trcf.specs.Transformer as Transformer
+use Rattle.trcf.specs.Preprocessor as Preprocessor
+use Rattle.trcf.specs.View as View
+use Rattle.trcf.specs.View.{Lent, lent, lentShort}
+use Rattle.trcf.specs.Fit.{All}
+use Rattle.trcf.specs.Settings.{Settings, Valid, settingsRow}
+use Rattle.trcf.specs.Calls.{Call, Machine, shingledPoint, postProcess, drain, transform, invertExtrapolation, scale, shift, status}
+use Rattle.trcf.specs.Preprocessor.{State, fresh, run, answers, Answer, refused, absent, done, wrote, learnt, turned, told}
+use Rattle.trcf.specs.declared.types.TransformMethod.the-variants.{NORMALIZE, «NORMALIZE_DIFFERENCE»}
+use Rattle.trcf.specs.declared.types.ForestMode.the-variants.{STANDARD, «TIME_AUGMENTED»}
+use Rattle.snapshot.specs.Text as Text
+use Rattle.snapshot.specs.Text.{render}
+use Rattle.snapshot.specs.Ascii.{text}
+use Rattle.restart.specs.History as History
+use Rattle.restart.specs.History.{Entry, initial, learned, drained, entries, historyText, historyAnswers}
+use Rattle.restart.specs.Statement.{Restart, Event, called, restarted, callsOf, Restarts}
+use Rattle.restart.specs.Held.{Held, builtOn, heldRun, heldAnswers, savedTo, textIn, restoredOn, HeldRestart}
+use Rattle.restart.proofs.Restart.{demand-3}
+use Rattle.restart.proofs.Held.{held-demand-3}
+use Rattle.trcf.specs.Preprocessor.{Reading, reading, statisticsLength}
+use Rattle.restart.specs.Statistics as Statistics
+use Rattle.restart.specs.Statistics.{Fed, fedAfter, statisticsFrom}
+use Rattle.restart_program.specs.Program.{returns, ran, answerRead, ProgramRestart}
+use Rattle.restart_program.proofs.Program.{program-demand-3}
+
+-- to unfold this is to unfold whatever its line names
+computing : Unit {0}
+unfolding Ieee.add Ieee.sub Ieee.mul Ieee.div Ieee.lt Ieee.le Ieee.eq Ieee.ofInt Ieee.ofBits Ieee.toBits Ieee.size Ieee.round Ieee.fits Narrow.narrowed Root.rootOf Root.rooted Root.halves Root.rootWithin Deviation.outsideUnit Deviation.factorOf Deviation.stepOf Deviation.isEmpty Deviation.meanOf Deviation.rootAbove Deviation.deviationOf Over.over Transformer.statisticAt Transformer.putStatistic Transformer.fed Transformer.deviationsAt Transformer.putDeviations Transformer.fedAt Transformer.channelsFed Transformer.updated Transformer.normalizedScale Transformer.basicShift Transformer.basicDrift Transformer.weightAt Transformer.transformed Transformer.unweighted Transformer.inverted Transformer.scales Transformer.shifts Transformer.differenceDeviations Settings.block Settings.dimension Settings.waiting Settings.allOne Settings.settingsRow Lists.lastN Lists.shiftIn Lists.overwrite Calls.finite Calls.due Calls.newest Calls.wrongLength Calls.outside Calls.drainFull Calls.learnFull Calls.waitingShort Calls.learnShort Calls.table Calls.rows Preprocessor.timeFed Preprocessor.feed Preprocessor.timescale Preprocessor.timedrift Preprocessor.timeElement Preprocessor.transformedAfter View.lentShort
+computing = tt
+
+recording : Unit {0}
+unfolding computing History.seenOf History.internalOf History.bufferOf History.shingled History.inputsOf History.timestampsOf History.newestOf History.countOf History.statisticsOf Statistics.statisticsFrom History.historyState History.historyFacts History.historyRefusal History.complete History.adds History.enter History.entries History.historyText
+recording = tt
+
+writing : Unit {0}
+unfolding recording Text.whole Text.float Text.setLine Text.singles Text.cntLine Text.devLine Text.timLine Text.bufLine Text.chnLine Text.linesBy Text.bodyLines Text.render
+writing = tt
+
+answering : Unit {0}
+unfolding recording Preprocessor.previous Preprocessor.primed Preprocessor.drainOne Preprocessor.drainAll Preprocessor.drained Preprocessor.held Preprocessor.learned Preprocessor.learnedWith Preprocessor.facts Preprocessor.deviations Preprocessor.scaleOf Preprocessor.shiftOf Preprocessor.pointOf Preprocessor.blockFrom Preprocessor.pastValues Preprocessor.expectedValues Preprocessor.anomalyOf Preprocessor.learnedNothing Preprocessor.heldAnswer Preprocessor.learnedAnswer Preprocessor.learnAnswer Preprocessor.statusOf Preprocessor.reply History.historyAnswer
+answering = tt
+
+abbrev single : ℕ → Float
+single n = ofBits binary32 n
+
+abbrev zero32 : Float
+zero32 = single 0
+
+abbrev one : Float
+one = single 0x3f80_0000
+
+abbrev two : Float
+two = single 0x4000_0000
+
+abbrev four : Float
+four = single 0x4080_0000
+
+abbrev six : Float
+six = single 0x40c0_0000
+
+-- a learn whose outputs are too long and hold something
+abbrev learnAt : List Float → ℕ → Option (List Float) → Call
+learnAt x t y =
+    postProcess (record {
+      input = x;
+      timestamp = t;
+      rcfPoint = y;
+      expectedPoint = none;
+      grade = zero32;
+      relativeIndex = pos 0;
+      deviationsOut = nan ∷ nan ∷ nan ∷ nan ∷ nan ∷ [];
+      pastOut = nan ∷ [];
+      expectedOut = [];
+    })
+
+-- ---- an L before F strands a W; a time that falls is refused; the last times are 2^64 − 2 and 2^64 − 1; an output is too short
+
+abbrev strands : Settings
+strands = record { mode = STANDARD; method = NORMALIZE; d = 1; k = 2; start = 1; stop = 9; decay = ofBits binary64 0x3fc0_0000_0000_0000; weightTime = one; weights = two ∷ []; codes = 7 ∷ [] }
+
+strands-valid : Valid strands
+unfolding computing
+strands-valid = record {
+  accepted = refl;
+  machine = record { stopFits = omega arith; decayFits = tt; weightTimeFits = tt; weightsFit = (tt, tt); codesFit = (omega arith, tt) };
+}
+
+abbrev stranding : List Call
+stranding =
+    learnAt (four ∷ []) 5 none
+    ∷ learnAt (six ∷ []) 3 (some (one ∷ two ∷ []))
+    ∷ learnAt (six ∷ []) 18446744073709551614 (some (one ∷ two ∷ []))
+    ∷ drain
+    ∷ shingledPoint (one ∷ []) 18446744073709551615 (nan ∷ nan ∷ nan ∷ [])
+    ∷ learnAt (two ∷ []) 18446744073709551615 (some (two ∷ four ∷ []))
+    ∷ status []
+    ∷ []
+
+stranding-machine : All Machine stranding
+unfolding computing
+stranding-machine = (
+  ((tt, tt), (omega arith), tt),
+  (
+    ((tt, tt), (omega arith), (tt, (tt, tt))),
+    (
+      ((tt, tt), (omega arith), (tt, (tt, tt))),
+      (
+        tt,
+        (
+          tt,
+          (
+            ((tt, tt), (omega arith), (tt, (tt, tt))),
+            (tt, tt),
+          ),
+        ),
+      ),
+    ),
+  ),
+)
+
+-- what is looked at of a list of calls
+all-take : (P : Call → Type 0) (n : ℕ) (cs : List Call) → All P cs → All P (take n cs)
+all-take P zero cs h = tt
+all-take P (suc n) [] h = tt
+all-take P (suc n) (c ∷ cs) h = (h .0, all-take P n cs (h .1))
+
+all-drop : (P : Call → Type 0) (n : ℕ) (cs : List Call) → All P cs → All P (drop n cs)
+all-drop P zero cs h = h
+all-drop P (suc n) [] h = tt
+all-drop P (suc n) (c ∷ cs) h = all-drop P n cs (h .1)
+
+-- every place, "before the first call and after the last included"
+stranding-at : (n : ℕ) → Restart strands (take n stranding) (drop n stranding)
+stranding-at n = demand-3 .once strands strands-valid (take n stranding) (drop n stranding) (all-take Machine n stranding stranding-machine)
+
+stranding-first : Restart strands [] stranding
+stranding-first = stranding-at 0
+
+stranding-last : Restart strands stranding []
+stranding-last = stranding-at 7
+
+stranding-entries : entries strands stranding ≡ learned (two ∷ []) 18446744073709551615 (two ∷ four ∷ []) ∷ learned (six ∷ []) 18446744073709551614 (one ∷ two ∷ []) ∷ initial (four ∷ []) 5 ∷ []
+unfolding recording
+stranding-entries = refl
+
+abbrev strandedText : List ℕ
+strandedText = text (
+    "set\tS\t4\t1\t2\t1\t9\t3fc0000000000000\t3f800000" ∷
+    "wgt\t40000000" ∷
+    "chn\t7" ∷
+    "cnt\t3\t2\t2" ∷
+    "dev\t3ffaaaaaaaaaaaab\t4018000000000000\t403c000000000001" ∷
+    "dev\t3ffaaaaaaaaaaaab\t0000000000000000\t4044000000000000" ∷
+    "dev\t3ffaaaaaaaaaaaab\t3fff5a7cecdb684e\t400eb851eb851ebf" ∷
+    "dev\t3ffaaaaaaaaaaaab\t4010000000000000\t4038000000000001" ∷
+    "dev\t3ffaaaaaaaaaaaab\t4013988e1409212e\t4037ffffffffffff" ∷
+    "dev\t3ffaaaaaaaaaaaab\t43faaaaaaaaaaaab\t47faaaaaaaaaaaab" ∷
+    "dev\t3ffaaaaaaaaaaaab\t43e5555555555556\t47e5555555555556" ∷
+    "dev\t3ffaaaaaaaaaaaab\t0000000000000000\t0000000000000000" ∷
+    "dev\t3ffaaaaaaaaaaaab\t43f1111111111112\t47ea740da740da75" ∷
+    "dev\t3ffaaaaaaaaaaaab\t43df5a7cecdb684a\t47ceb851eb851eb8" ∷
+    "inp\t40c00000\t40000000" ∷
+    "pnt\t40000000\t40800000" ∷
+    "tim\t18446744073709551614\t18446744073709551615" ∷
+    "buf\t5\t40800000" ∷ [])
+
+stranding-text : historyText strands stranding ≡ strandedText
+unfolding writing
+stranding-text = refl
+
+-- what is put away after the last call, and what another watch puts away that took it up: these bytes
+stranding-put-away : render (stranding-last .second) ≡ strandedText
+stranding-put-away = stranding-last .outlives .historyEnds ∙ stranding-text
+
+-- ---- the same over memory that is too long and holds something else, for both watches and for the text
+
+abbrev dirty : Lent
+dirty = lent (replicate 31 nan) (replicate 5 six) (replicate 4 nan) (replicate 3 18446744073709551615) (replicate 2 nan) (replicate 9 77)
+
+abbrev filthy : Lent
+filthy = lent (replicate 90 (ofBits binary64 0xfff0_0000_0000_0000)) (replicate 2 nan) (replicate 7 nan) (replicate 8 3) (replicate 1 six) (replicate 1 5)
+
+text-fits : length (historyText strands (take 4 stranding)) ≤ 1000
+unfolding writing
+text-fits = omega arith
+
+stranding-held : HeldRestart strands (take 4 stranding) (drop 4 stranding) dirty filthy (replicate 1000 10) (replicate 726 255)
+unfolding computing
+stranding-held =
+    held-demand-3 strands strands-valid (take 4 stranding) (drop 4 stranding) (all-take Machine 4 stranding stranding-machine) (all-drop Machine 4 stranding stranding-machine)
+    dirty filthy refl refl (replicate 1000 10) (replicate 726 255) text-fits
+
+abbrev putAway : List ℕ
+putAway = textIn (heldRun (builtOn strands dirty) (take 4 stranding)) (replicate 1000 10)
+
+-- the second watch, over the filthy memory, answers: the point, the learn, and row 20
+abbrev pointAnswer : Answer
+pointAnswer = wrote (two ∷ single 0xc0a0_0000 ∷ nan ∷ [])
+
+abbrev learnAnswer : Answer
+learnAnswer = learnt (record { written = true; anomaly = none; deviationsOut = single 0x403c_1eee ∷ nan ∷ nan ∷ nan ∷ nan ∷ []; pastOut = nan ∷ []; expectedOut = [] })
+
+ruled : historyAnswers strands (entries strands (take 4 stranding)) (drop 4 stranding) ≡ pointAnswer ∷ learnAnswer ∷ refused 20 ∷ []
+unfolding answering
+ruled = refl
+
+stranding-answers : heldAnswers (restoredOn putAway (7 ∷ []) filthy) (drop 4 stranding) ≡ pointAnswer ∷ learnAnswer ∷ refused 20 ∷ []
+stranding-answers = stranding-held .ruledAnswers ∙ ruled
+
+-- both ends as places
+last-fits : length (historyText strands stranding) ≤ 726
+unfolding writing
+last-fits = omega arith
+
+held-last : HeldRestart strands stranding [] dirty filthy (replicate 726 255) (replicate 725 0)
+unfolding computing
+held-last = held-demand-3 strands strands-valid stranding [] stranding-machine tt dirty filthy refl refl (replicate 726 255) (replicate 725 0) last-fits
+
+-- 726 bytes are enough: the text, byte for byte
+held-last-text : textIn (heldRun (builtOn strands dirty) stranding) (replicate 726 255) ≡ strandedText
+held-last-text = held-last .text ∙ stranding-text
+
+first-fits : length (historyText strands []) ≤ 1000
+unfolding writing
+first-fits = omega arith
+
+held-first : HeldRestart strands [] stranding dirty filthy (replicate 1000 10) (replicate 725 0)
+unfolding computing
+held-first = held-demand-3 strands strands-valid [] stranding tt stranding-machine dirty filthy refl refl (replicate 1000 10) (replicate 725 0) first-fits
+
+-- ---- two W's and F by a point, d 2, TIME_AUGMENTED; restarts before the first call, twice in the middle and after the last
+
+abbrev drains : Settings
+drains = record { mode = «TIME_AUGMENTED»; method = «NORMALIZE_DIFFERENCE»; d = 2; k = 1; start = 2; stop = 3; decay = ofBits binary64 0; weightTime = two; weights = one ∷ single 0xbf00_0000 ∷ []; codes = 12 ∷ 65535 ∷ [] }
+
+drains-valid : Valid drains
+unfolding computing
+drains-valid = record {
+  accepted = refl;
+  machine = record { stopFits = omega arith; decayFits = tt; weightTimeFits = tt; weightsFit = (tt, (tt, tt)); codesFit = (omega arith, (omega arith, tt)) };
+}
+
+abbrev y : List Float
+y = one ∷ two ∷ six ∷ []
+
+abbrev draining : List Event
+draining =
+    restarted
+    ∷ called drain
+    ∷ called (learnAt (one ∷ two ∷ []) 0 none)
+    ∷ called (learnAt (one ∷ nan ∷ []) 1 none)
+    ∷ called (learnAt (four ∷ six ∷ []) 18446744073709551615 none)
+    ∷ restarted
+    ∷ restarted
+    ∷ called (shingledPoint (two ∷ two ∷ []) 0 (replicate 4 nan))
+    ∷ called (learnAt (two ∷ six ∷ []) 18446744073709551615 (some y))
+    ∷ called (learnAt (two ∷ six ∷ []) 7 (some y))
+    ∷ called (learnAt (one ∷ six ∷ []) 18446744073709551615 (some y))
+    ∷ restarted
+    ∷ []
+
+draining-machine : All Machine (callsOf draining)
+unfolding computing
+draining-machine = (
+  tt,
+  (
+    ((tt, (tt, tt)), (omega arith), tt),
+    (
+      ((tt, (tt, tt)), (omega arith), tt),
+      (
+        ((tt, (tt, tt)), (omega arith), tt),
+        (
+          tt,
+          (
+            ((tt, (tt, tt)), (omega arith), (tt, (tt, (tt, tt)))),
+            (
+              ((tt, (tt, tt)), (omega arith), (tt, (tt, (tt, tt)))),
+              (((tt, (tt, tt)), (omega arith), (tt, (tt, (tt, tt)))), tt),
+            ),
+          ),
+        ),
+      ),
+    ),
+  ),
+)
+
+draining-often : Restarts drains draining
+draining-often = demand-3 .often drains drains-valid draining draining-machine
+
+-- the refused ones, 11 for the not-a-number and 12 for the time that falls, add nothing; the last L comes at stop
+draining-entries : entries drains (callsOf draining)
+    ≡ learned (one ∷ six ∷ []) 18446744073709551615 y ∷ learned (two ∷ six ∷ []) 18446744073709551615 y ∷ drained ∷ initial (four ∷ six ∷ []) 18446744073709551615 ∷ initial (one ∷ two ∷ []) 0 ∷ []
+unfolding recording
+draining-entries = refl
+
+abbrev numberOf : Answer → ℕ
+numberOf (refused n) = n
+numberOf absent = 0
+numberOf done = 0
+numberOf (wrote v) = 0
+numberOf (learnt l) = 0
+numberOf (turned f) = 0
+numberOf (told s) = 0
+
+draining-rows : map numberOf (historyAnswers drains [] (callsOf draining)) ≡ 0 ∷ 0 ∷ 11 ∷ 0 ∷ 0 ∷ 0 ∷ 12 ∷ 0 ∷ []
+unfolding answering
+draining-rows = refl
+
+-- ---- the program, composed by its contracts, over the same memory
+
+program-held : ProgramRestart strands (take 4 stranding) (drop 4 stranding) dirty filthy (replicate 1000 10) (replicate 726 255)
+unfolding computing
+program-held =
+    program-demand-3 strands strands-valid (take 4 stranding) (drop 4 stranding) (all-take Machine 4 stranding stranding-machine) (all-drop Machine 4 stranding stranding-machine)
+    dirty filthy refl refl (replicate 1000 10) (replicate 726 255) text-fits
+
+program-answers : map answerRead (returns (restoredOn (textIn (ran (builtOn strands dirty) (take 4 stranding)) (replicate 1000 10)) (7 ∷ []) filthy) (drop 4 stranding))
+    ≡ pointAnswer ∷ learnAnswer ∷ refused 20 ∷ []
+program-answers = program-held .ruledAnswers ∙ ruled
+
+-- ---- the text of the other list, each statistic a fold over its own scores
+
+draining-text : historyText drains (callsOf draining) ≡ text (
+    "set\tT\t5\t2\t1\t2\t3\t0000000000000000\t40000000" ∷
+    "wgt\t3f800000\tbf000000" ∷
+    "chn\t12\t65535" ∷
+    "cnt\t4\t4\t3" ∷
+    "dev\t4008000000000000\t401c000000000000\t4035000000000000" ∷
+    "dev\t4008000000000000\t402c000000000000\t4053000000000000" ∷
+    "dev\t4008000000000000\t3ff0000000000000\t402a000000000000" ∷
+    "dev\t4008000000000000\t4010000000000000\t4030000000000000" ∷
+    "dev\t4008000000000000\t4005fa4e05cd6a6c\t400e71c71c71c71a" ∷
+    "dev\t4008000000000000\t400f15beeeff7d30\t401e38e38e38e388" ∷
+    "dev\t4008000000000000\t3ffd555555555555\t4002e38e38e38e39" ∷
+    "dev\t4008000000000000\t400aaaaaaaaaaaaa\t40171c71c71c71c7" ∷
+    "dev\t4008000000000000\t400c703d6dfa043c\t4019e38e38e38e3a" ∷
+    "dev\t4008000000000000\t400f15beeeff7d33\t401e38e38e38e38e" ∷
+    "dev\t4008000000000000\t4400000000000000\t4800000000000000" ∷
+    "dev\t4008000000000000\t43f0000000000000\t47f0000000000000" ∷
+    "dev\t4008000000000000\t43ef15beeeff7d33\t47de38e38e38e38e" ∷
+    "dev\t4008000000000000\t43eaaaaaaaaaaaaa\t47d71c71c71c71c7" ∷
+    "dev\t4008000000000000\t43ef15beeeff7d33\t47de38e38e38e38e" ∷
+    "inp\t3f800000\t40c00000" ∷
+    "pnt\t3f800000\t40000000\t40c00000" ∷
+    "tim\t18446744073709551615" ∷ [])
+unfolding writing
+draining-text = refl
+
+-- a `feed` that does nothing does not make the history's statistics
+
+abbrev Feeding : Type 0
+Feeding = Settings → ℕ → List Float → Reading → Reading → List Float
+
+abbrev eachBy : Feeding → Settings → ℕ → List Float → List Fed → List Float
+eachBy g s c st [] = st
+eachBy g s c st (p ∷ ps) = eachBy g s (suc c) (g s c st (p .before) (p .now)) ps
+
+abbrev once : List Fed
+once = fedAfter (reading (one ∷ []) 0) (reading (two ∷ []) 1) ∷ []
+
+-- the weight of the first statistic after one score is 1
+first-weight : toBits binary64 (getD (statisticsFrom strands once) 0 nan) ≡ 0x3ff0_0000_0000_0000
+unfolding writing
+first-weight = refl
+
+no-weight : toBits binary64 (ofBits binary64 0) ≡ 0
+unfolding writing
+no-weight = refl
+
+idle-refused : (g : Feeding) → ((s : Settings) (c : ℕ) (st : List Float) (p r : Reading) → g s c st p r ≡ st)
+    → ((s : Settings) (ps : List Fed) → eachBy g s 0 (replicate (statisticsLength s) (ofBits binary64 0)) ps ≡ statisticsFrom s ps) → ⊥
+idle-refused g idle e =
+    let zeros : List Float = replicate 30 (ofBits binary64 0) in
+    let z : zeros ≡ statisticsFrom strands once = sym (idle strands 0 zeros (reading (one ∷ []) 0) (reading (two ∷ []) 1)) ∙ e strands once in
+    let q : _≡_ {A = ℕ} 0 0x3ff0_0000_0000_0000 = sym no-weight ∙ ap (λ (l : List Float). toBits binary64 (getD l 0 nan)) z ∙ first-weight in
+    omega arith

@@ -1,0 +1,423 @@
+-- The program's calls, composed by their contracts, are the calls of `held-demand-3`.
+use Prim.Native.Nat.{ℕ, zero, suc, _+_, _*_, _≤_, _<_}
+use native.Mathlib.Omega.{arith}
+use mathlib.Core.Path.{_≡_, refl, sym, ap, _∙_, subst}
+use mathlib.Core.Bool.{Bool, true, false, not, _&&_, _||_, cond}
+use mathlib.Core.List.{List, [], _∷_, _++_, map, head-eq-of-cons-eq, tail-eq-of-cons-eq}
+use mathlib.Core.Option.{Option, none, some}
+use borrow.Author.Tests.{ltb-false, le-ltb}
+use lib.Dec.{ltb, eqb}
+use lib.ListN.{length, replicate, length-replicate}
+use lib.Ieee.{Float}
+use Rattle.common.specs.Refusal.{firstOf}
+use Rattle.trcf.specs.Fit.{All}
+use Rattle.trcf.specs.Transformer.{zero32}
+use Rattle.trcf.specs.Settings.{Settings, Valid, block, dimension, waiting}
+use Rattle.trcf.specs.Calls.{Learn, Call, Machine, shingledPoint, postProcess, drain, transform, invertExtrapolation, scale, shift, status, rows, table, given, Facts}
+use Rattle.trcf.specs.Preprocessor.{State, Answer, refused, absent, done, wrote, learnt, turned, told, Anomaly, Learned, Status, reading, drained, pointOf, statisticsLength, change, reply, accepted, statusOf, answer, facts}
+use Rattle.trcf.specs.View.{Lent, lent, optional, settingsFrom, settingsOf, view, counted, laid, headRow, lentShort, misfit, shortRow, lentRow, rowOf, orElse, answerOf, headAfter, lentAfter, Roomy, Fitted, Written, written, writtenOf, writeOf, StatusOutcome, untold, statusRead, statusAfter, drainOf, PointOutcome, pointed, pointRead, pointAfter, LearnOutcome, learnRead, learnAfter, anomalyTime, anomalyLikelihood}
+use Rattle.trcf.specs.Extrapolation.{Extrapolation, extrapolationOf, extrapolationRead, unread}
+use Rattle.trcf.specs.declared.preprocessor.Preprocessor.{Preprocessor}
+use Rattle.trcf.proofs.RefusalLaws.{misfit-few, misfit-counted}
+use Rattle.trcf.proofs.StateLaws.{same-head, same-lent}
+use Rattle.trcf.proofs.ViewLaws.{answer-is}
+use Rattle.trcf.proofs.ExtrapolationLaws.{extrapolation-answers}
+use Rattle.snapshot.specs.Save as save
+use Rattle.snapshot.specs.Restore as restore
+use Rattle.restart.specs.History.{Entry, entries, enter, historyState, historyFacts, historyRefusal, historyAnswer, historyText, historyAnswers}
+use Rattle.restart.specs.Held.{Held, held, builtOn, heldNext, heldRun, heldAnswers, savedTo, textIn, restoredOn, HeldRestart}
+use Rattle.restart.proofs.Held.{held-demand-3}
+use Rattle.restart_program.specs.Program.{Return, point, learn, drains, writes, turns, tells, pointReturn, learnReturn, returnOf, leftBy, ran, returns, anomalyRead, byRow, answerRead, ProgramRestart, ProgramDemand3, listOf, Arguments}
+
+-- ---- a row 0 of a call says that what is lent is long enough
+
+or-both : (a b : Bool) → (a || b) ≡ false → (a ≡ false) × (b ≡ false)
+or-both true b e = (e, (cc))
+or-both false b e = (refl, e)
+
+or-else : (r n : ℕ) → orElse r n ≡ 0 → (r ≡ 0) × (n ≡ 0)
+or-else zero n e = (refl, e)
+or-else (suc r) n e = absurd (omega arith)
+
+pub record Sound (h : Preprocessor) (l : Lent) : Type 0 where
+  pub head : headRow (settingsOf h) ≡ 0
+  pub long : lentRow h l ≡ 0
+
+module _ (h : Preprocessor) (l : Lent) where
+  sound-of : (c : Call) → rowOf h l c ≡ 0 → Sound h l
+  unfolding rowOf
+  sound-of c e =
+      let r : ℕ = rows (settingsOf h) (facts (view h l)) c in
+      let a = or-else (headRow (settingsOf h)) (orElse r (lentRow h l)) e in
+      let b = or-else r (lentRow h l) (a .1) in
+      record { head = a .0; long = b .1 }
+
+  both : (a b : Bool) → _≡_ {A = ℕ} (cond a 20 (cond b 20 0)) 0 → (a ≡ false) × (b ≡ false)
+  both true b e = absurd (omega arith)
+  both false true e = absurd (omega arith)
+  both false false e = (refl, refl)
+
+  fits : lentRow h l ≡ 0 → (misfit h ≡ false) × (lentShort (settingsOf h) l ≡ false)
+  unfolding lentRow shortRow
+  fits e = both (misfit h) (lentShort (settingsOf h) l) e
+
+  roomy-of : lentShort (settingsOf h) l ≡ false → Roomy (settingsOf h) l
+  unfolding lentShort
+  roomy-of e =
+      let s : Settings = settingsOf h in
+      let b1 : Bool = ltb (length (l .statistics)) (statisticsLength s) in
+      let b2 : Bool = ltb (length (l .lastShingledInput)) (s .d * s .k) in
+      let b3 : Bool = ltb (length (l .lastShingledPoint)) (dimension s) in
+      let b4 : Bool = ltb (length (l .previousTimestamps)) (s .k) in
+      let b5 : Bool = ltb (length (l .initialValues)) (s .start * s .d) in
+      let b6 : Bool = ltb (length (l .initialTimestamps)) (s .start) in
+      let e1 = or-both b1 (b2 || (b3 || (b4 || (b5 || b6)))) e in
+      let e2 = or-both b2 (b3 || (b4 || (b5 || b6))) (e1 .1) in
+      let e3 = or-both b3 (b4 || (b5 || b6)) (e2 .1) in
+      let e4 = or-both b4 (b5 || b6) (e3 .1) in
+      let e5 = or-both b5 b6 (e4 .1) in
+      record {
+        in-statistics = ltb-false (length (l .statistics)) (statisticsLength s) (e1 .0);
+        in-input = ltb-false (length (l .lastShingledInput)) (s .d * s .k) (e2 .0);
+        in-point = ltb-false (length (l .lastShingledPoint)) (dimension s) (e3 .0);
+        in-times = ltb-false (length (l .previousTimestamps)) (s .k) (e4 .0);
+        in-values = ltb-false (length (l .initialValues)) (s .start * s .d) (e5 .0);
+        in-initial = ltb-false (length (l .initialTimestamps)) (s .start) (e5 .1);
+      }
+
+  fitted-of : Sound h l → Fitted h l
+  fitted-of o =
+      let f = fits (o .long) in
+      record { roomy = roomy-of (f .1); few = misfit-few h (f .0); counted = misfit-counted h (f .0) }
+
+  unread-not : Sound h l → unread (settingsOf h) (length (l .statistics)) (length (l .lastShingledInput)) (length (l .previousTimestamps)) ≡ false
+  unfolding unread
+  unread-not o =
+      let r = fitted-of o .roomy in
+      rw (le-ltb (length (l .statistics)) (statisticsLength (settingsOf h)) (r .in-statistics), le-ltb (length (l .lastShingledInput)) (h .transformer .«input_length» * h .«shingle_size») (r .in-input))
+      (le-ltb (length (l .previousTimestamps)) (h .«shingle_size») (r .in-times))
+
+-- ---- what the next call is given
+
+module _ (m : Held) where
+  abbrev h : Preprocessor
+  h = m .head
+
+  abbrev l : Lent
+  l = m .lent
+
+  -- a call that changes nothing leaves head and lists as they are, also where they are laid back
+  reads : (c : Call) → change (view h l) c ≡ view h l → m ≡ heldNext m c
+  unfolding headAfter lentAfter
+  reads c e = go (rowOf h l c) refl
+    where
+      go : (r : ℕ) → rowOf h l c ≡ r → m ≡ held (accepted (rowOf h l c) (counted h (change (view h l) c)) h) (accepted (rowOf h l c) (laid (change (view h l) c) l) l)
+      go zero q =
+          let f : Fitted h l = fitted-of h l (sound-of h l c q) in
+          rw (q, e) (λ j. held (same-head h l f j) (same-lent h l f j))
+      go (suc r) q = rw q
+
+  point-head : (a : Preprocessor) (b : Lent) (out : List Float) (v : Answer) → held (pointRead a b out v .head) (pointRead a b out v .lent) ≡ held a b
+  point-head a b out (refused n) = refl
+  point-head a b out absent = refl
+  point-head a b out done = refl
+  point-head a b out (wrote v) = refl
+  point-head a b out (learnt q) = refl
+  point-head a b out (turned q) = refl
+  point-head a b out (told q) = refl
+
+  learn-head : (a : Preprocessor) (b : Lent) (c : Learn) (v : Answer) → held (learnRead a b c v .head) (learnRead a b c v .lent) ≡ held a b
+  learn-head a b c (refused n) = refl
+  learn-head a b c absent = refl
+  learn-head a b c done = refl
+  learn-head a b c (wrote v) = refl
+  learn-head a b c (learnt q) = refl
+  learn-head a b c (turned q) = refl
+  learn-head a b c (told q) = refl
+
+  pub left-is : (c : Call) → leftBy m c ≡ heldNext m c
+  unfolding pointAfter learnAfter drainOf change
+  left-is (shingledPoint x t out) = point-head _ _ out (answerOf h l (shingledPoint x t out))
+  left-is (postProcess q) = learn-head _ _ q (answerOf h l (postProcess q))
+  left-is drain = refl
+  left-is (transform x t out) = reads (transform x t out) refl
+  left-is (invertExtrapolation c) = reads (invertExtrapolation c) refl
+  left-is (scale out) = reads (scale out) refl
+  left-is (shift out) = reads (shift out) refl
+  left-is (status out) = reads (status out) refl
+
+pub ran-is : (m : Held) (cs : List Call) → ran m cs ≡ heldRun m cs
+ran-is m [] = refl
+ran-is m (c ∷ cs) = ap (λ (x : Held). ran x cs) (left-is m c) ∙ ran-is (heldNext m c) cs
+
+-- ---- what a caller gets, from the answer
+
+abbrev rowIn : Answer → ℕ
+rowIn (refused n) = n
+rowIn absent = 0
+rowIn done = 0
+rowIn (wrote v) = 0
+rowIn (learnt a) = 0
+rowIn (turned a) = 0
+rowIn (told a) = 0
+
+abbrev returned : Preprocessor → Lent → Call → Answer → Return
+returned h l (shingledPoint x t out) a = pointReturn (pointRead h l out a)
+returned h l (postProcess q) a = learnReturn (learnRead h l q a)
+returned h l drain a = drains (rowIn a)
+returned h l (transform x t out) a = writes (writtenOf out a)
+returned h l (invertExtrapolation c) a = turns (extrapolationRead c a)
+returned h l (scale out) a = writes (writtenOf out a)
+returned h l (shift out) a = writes (writtenOf out a)
+returned h l (status out) a = tells (statusRead h out a)
+
+-- a point's and a learn's returns look at no head
+point-free : (h k : Preprocessor) (l n : Lent) (out : List Float) (a : Answer) → pointReturn (pointRead h l out a) ≡ pointReturn (pointRead k n out a)
+point-free h k l n out (refused r) = refl
+point-free h k l n out absent = refl
+point-free h k l n out done = refl
+point-free h k l n out (wrote v) = refl
+point-free h k l n out (learnt q) = refl
+point-free h k l n out (turned q) = refl
+point-free h k l n out (told q) = refl
+
+learn-free : (h k : Preprocessor) (l n : Lent) (c : Learn) (a : Answer) → learnReturn (learnRead h l c a) ≡ learnReturn (learnRead k n c a)
+learn-free h k l n c (refused r) = refl
+learn-free h k l n c absent = refl
+learn-free h k l n c done = refl
+learn-free h k l n c (wrote v) = refl
+learn-free h k l n c (learnt q) = refl
+learn-free h k l n c (turned q) = refl
+learn-free h k l n c (told q) = refl
+
+drain-row : (r : ℕ) → r ≡ rowIn (accepted r done (refused r))
+drain-row zero = refl
+drain-row (suc r) = refl
+
+drain-is : (h : Preprocessor) (l : Lent) → drainOf h l .row ≡ rowIn (answerOf h l drain)
+unfolding drainOf answerOf reply
+drain-is h l = drain-row (rowOf h l drain)
+
+return-is : (m : Held) → Sound (m .head) (m .lent) → (c : Call) → returnOf m c ≡ returned (m .head) (m .lent) c (answerOf (m .head) (m .lent) c)
+unfolding pointAfter learnAfter drainOf writeOf statusAfter
+return-is m o (shingledPoint x t out) = point-free _ (m .head) _ (m .lent) out (answerOf (m .head) (m .lent) (shingledPoint x t out))
+return-is m o (postProcess q) = learn-free _ (m .head) _ (m .lent) q (answerOf (m .head) (m .lent) (postProcess q))
+return-is m o drain = ap drains (drain-is (m .head) (m .lent))
+return-is m o (transform x t out) = refl
+return-is m o (invertExtrapolation c) =
+    ap turns (sym (ap (extrapolationRead c) (answer-is (m .head) (m .lent) (invertExtrapolation c) (o .head) (o .long))
+    ∙ extrapolation-answers (m .head) (m .lent) c (o .head) (unread-not (m .head) (m .lent) o)))
+return-is m o (scale out) = refl
+return-is m o (shift out) = refl
+return-is m o (status out) = refl
+
+-- ---- the answer, from what a caller gets
+
+read-anomaly : (a : Option Anomaly) → anomalyRead (given a) (anomalyTime a) (anomalyLikelihood a) ≡ a
+read-anomaly none = refl
+read-anomaly (some a) = refl
+
+read-learned : (a : Learned) → answerRead (learn 0 (a .written) (given (a .anomaly)) (anomalyTime (a .anomaly)) (anomalyLikelihood (a .anomaly)) (a .deviationsOut) (a .pastOut) (a .expectedOut)) ≡ learnt a
+read-learned a = λ j. learnt (record { written = a .written; anomaly = read-anomaly (a .anomaly) j; deviationsOut = a .deviationsOut; pastOut = a .pastOut; expectedOut = a .expectedOut })
+
+read-refused : (h : Preprocessor) (l : Lent) (c : Call) (r : ℕ) → answerRead (returned h l c (refused (suc r))) ≡ refused (suc r)
+read-refused h l (shingledPoint x t out) r = refl
+read-refused h l (postProcess q) r = refl
+read-refused h l drain r = refl
+read-refused h l (transform x t out) r = refl
+read-refused h l (invertExtrapolation c) r = refl
+read-refused h l (scale out) r = refl
+read-refused h l (shift out) r = refl
+read-refused h l (status out) r = refl
+
+read-point : (h : Preprocessor) (l : Lent) (x : List Float) (t : ℕ) (out v : List Float) (b : Bool)
+    → answerRead (returned h l (shingledPoint x t out) (cond b absent (wrote v))) ≡ cond b absent (wrote v)
+read-point h l x t out v true = refl
+read-point h l x t out v false = refl
+
+read-reply : (h : Preprocessor) (l : Lent) (w : State) (c : Call) → answerRead (returned h l c (reply w c)) ≡ reply w c
+unfolding reply
+read-reply h l w (shingledPoint x t out) = read-point h l x t out _ (waiting (w .settings) (w .valuesSeen))
+read-reply h l w (postProcess q) = read-learned _
+read-reply h l w drain = refl
+read-reply h l w (transform x t out) = refl
+read-reply h l w (invertExtrapolation c) = refl
+read-reply h l w (scale out) = refl
+read-reply h l w (shift out) = refl
+read-reply h l w (status out) = refl
+
+read-by : (h : Preprocessor) (l : Lent) (w : State) (c : Call) (r : ℕ) → answerRead (returned h l c (accepted r (reply w c) (refused r))) ≡ accepted r (reply w c) (refused r)
+read-by h l w c zero = read-reply h l w c
+read-by h l w c (suc r) = read-refused h l c r
+
+answer-read : (m : Held) → Sound (m .head) (m .lent) → (c : Call) → answerRead (returnOf m c) ≡ answerOf (m .head) (m .lent) c
+unfolding answerOf
+answer-read m o c = ap answerRead (return-is m o c) ∙ read-by (m .head) (m .lent) (view (m .head) (m .lent)) c (rowOf (m .head) (m .lent) c)
+
+-- ---- what is held answers as the history rules: so `status` is not refused, so it is sound
+
+module _ (s : Settings) where
+  -- what the existing theorem says of it, for every list of calls
+  abbrev Ruled : Held → List Entry → Type 0
+  Ruled m es = (cs : List Call) → All Machine cs → heldAnswers m cs ≡ historyAnswers s es cs
+
+  ruled-next : (m : Held) (es : List Entry) → Ruled m es → (c : Call) → Machine c → Ruled (heldNext m c) (enter s es c)
+  ruled-next m es r c k cs a = tail-eq-of-cons-eq (r (c ∷ cs) (k, a))
+
+  ruled-answer : (m : Held) (es : List Entry) → Ruled m es → (c : Call) → Machine c → answerOf (m .head) (m .lent) c ≡ historyAnswer s es c
+  ruled-answer m es r c k = head-eq-of-cons-eq (r (c ∷ []) (k, tt))
+
+  -- an output that is long enough
+  abbrev wide : List Float
+  wide = replicate (block s) zero32
+
+  status-told : (es : List Entry) → historyAnswer s es (status wide) ≡ told (statusOf (historyState s es) wide)
+  unfolding historyAnswer historyRefusal rows table reply
+  status-told es = rw (le-ltb (length wide) (block s) (omega (arith, length-replicate (block s) zero32)))
+
+  told-row : (r : ℕ) (a : Answer) (x : Status) → accepted r a (refused r) ≡ told x → r ≡ 0
+  told-row zero a x e = refl
+  told-row (suc r) a x e = cc
+
+  module _ (m : Held) (es : List Entry) (r : Ruled m es) where
+    tells-all : answerOf (m .head) (m .lent) (status wide) ≡ told (statusOf (historyState s es) wide)
+    tells-all = ruled-answer m es r (status wide) tt ∙ status-told es
+
+    no-row : rowOf (m .head) (m .lent) (status wide) ≡ 0
+    unfolding answerOf
+    no-row = told-row (rowOf (m .head) (m .lent) (status wide)) (reply (view (m .head) (m .lent)) (status wide)) (statusOf (historyState s es) wide) tells-all
+
+    pub sound : Sound (m .head) (m .lent)
+    sound = sound-of (m .head) (m .lent) (status wide) no-row
+
+    -- and its numbers are the history's
+    told-same : statusOf (view (m .head) (m .lent)) wide ≡ statusOf (historyState s es) wide
+    unfolding answerOf reply
+    told-same = told-inj (sym (rw no-row) ∙ tells-all)
+      where
+        told-inj : {x y : Status} → told x ≡ told y → x ≡ y
+        told-inj e = cc
+
+  -- ---- all calls
+
+  read-answers : (m : Held) (es : List Entry) → Ruled m es → (cs : List Call) → All Machine cs → map answerRead (returns m cs) ≡ historyAnswers s es cs
+  read-answers m es r [] a = refl
+  read-answers m es r (c ∷ cs) a =
+      let n : Ruled (leftBy m c) (enter s es c) = subst (λ (x : Held). Ruled x (enter s es c)) (sym (left-is m c)) (ruled-next m es r c (a .0)) in
+      λ j. (answer-read m (sound m es r) c ∙ ruled-answer m es r c (a .0)) j ∷ read-answers (leftBy m c) (enter s es c) n cs (a .1) j
+
+-- ---- two that answer by one history return the same, refusals included
+
+-- what a refused `status` tells is what an accepted one would, over an output left as it was
+abbrev retold : Status → List Float → Status
+retold u out =
+    record {
+      valuesSeen = u .valuesSeen;
+      internalTimestamp = u .internalTimestamp;
+      ready = u .ready;
+      inputDimensions = u .inputDimensions;
+      shingleSize = u .shingleSize;
+      dimensions = u .dimensions;
+      method = u .method;
+      mode = u .mode;
+      start = u .start;
+      panel = u .panel;
+      deviationsOut = out;
+    }
+
+untold-is : (h : Preprocessor) (l : Lent) (out wide : List Float) → headRow (settingsOf h) ≡ 0 → untold h out ≡ retold (statusOf (view h l) wide) out
+unfolding statusOf view
+untold-is h l out wide e = rw e
+
+status-same : (h k : Preprocessor) (out : List Float) (a : Answer) → untold h out ≡ untold k out → statusRead h out a ≡ statusRead k out a
+status-same h k out (refused n) e = λ j. record { row = n; numbers = e j }
+status-same h k out absent e = λ j. record { row = 0; numbers = e j }
+status-same h k out done e = λ j. record { row = 0; numbers = e j }
+status-same h k out (wrote v) e = λ j. record { row = 0; numbers = e j }
+status-same h k out (learnt q) e = λ j. record { row = 0; numbers = e j }
+status-same h k out (turned q) e = λ j. record { row = 0; numbers = e j }
+status-same h k out (told q) e = refl
+
+returned-same : (h k : Preprocessor) (l n : Lent) (c : Call) (a : Answer) → ((out : List Float) → untold h out ≡ untold k out) → returned h l c a ≡ returned k n c a
+returned-same h k l n (shingledPoint x t out) a e = point-free h k l n out a
+returned-same h k l n (postProcess q) a e = learn-free h k l n q a
+returned-same h k l n drain a e = refl
+returned-same h k l n (transform x t out) a e = refl
+returned-same h k l n (invertExtrapolation c) a e = refl
+returned-same h k l n (scale out) a e = refl
+returned-same h k l n (shift out) a e = refl
+returned-same h k l n (status out) a e = ap tells (status-same h k out a (e out))
+
+module _ (s : Settings) where
+  same-return : (m n : Held) (es : List Entry) → Ruled s m es → Ruled s n es → (c : Call) → Machine c → returnOf n c ≡ returnOf m c
+  same-return m n es r q c k =
+      let a = sound s m es r in
+      let b = sound s n es q in
+      let u : (out : List Float) → untold (n .head) out ≡ untold (m .head) out =
+      λ out. untold-is (n .head) (n .lent) out (wide s) (b .head)
+      ∙ ap (λ (x : Status). retold x out) (told-same s n es q ∙ sym (told-same s m es r))
+      ∙ sym (untold-is (m .head) (m .lent) out (wide s) (a .head)) in
+      return-is n b c
+      ∙ ap (returned (n .head) (n .lent) c) (ruled-answer s n es q c k ∙ sym (ruled-answer s m es r c k))
+      ∙ returned-same (n .head) (m .head) (n .lent) (m .lent) c (answerOf (m .head) (m .lent) c) u
+      ∙ sym (return-is m a c)
+
+  same-returns : (m n : Held) (es : List Entry) → Ruled s m es → Ruled s n es → (cs : List Call) → All Machine cs → returns n cs ≡ returns m cs
+  same-returns m n es r q [] a = refl
+  same-returns m n es r q (c ∷ cs) a =
+      let left : (x : Held) → Ruled s x es → Ruled s (leftBy x c) (enter s es c) =
+      λ x p. subst (λ (y : Held). Ruled s y (enter s es c)) (sym (left-is x c)) (ruled-next s x es p c (a .0)) in
+      λ j. same-return m n es r q c (a .0) j ∷ same-returns (leftBy m c) (leftBy n c) (enter s es c) (left m r) (left n q) cs (a .1) j
+
+-- ---- the statement
+
+pub program-demand-3 : ProgramDemand3
+program-demand-3 s ok before after mb ma first second r₁ r₂ out last long =
+    let H : (cs : List Call) → All Machine cs → HeldRestart s before cs first second out last =
+    λ cs k. held-demand-3 s ok before cs mb k first second r₁ r₂ out last long in
+    let k : HeldRestart s before after first second out last = H after ma in
+    let M : Held = heldRun (builtOn s first) before in
+    let N : Held = restoredOn (textIn M out) (s .codes) second in
+    let es : List Entry = entries s before in
+    let q : Ruled s N es = λ cs a. H cs a .ruledAnswers in
+    let r : Ruled s M es = λ cs a. sym (H cs a .sameAnswers) ∙ H cs a .ruledAnswers in
+    let e : heldRun (builtOn s first) before ≡ ran (builtOn s first) before = sym (ran-is (builtOn s first) before) in
+    let saves : savedTo M out .row ≡ 0 = k .saves in
+    let text : textIn M out ≡ historyText s before = k .text in
+    let restores : restore.restoreOf (textIn M out) (s .codes) second .row ≡ 0 = k .restores in
+    let same : returns N after ≡ returns M after = same-returns s M N es r q after ma in
+    let ruled : map answerRead (returns N after) ≡ historyAnswers s es after = read-answers s N es q after ma in
+    let ends : savedTo (ran N after) last ≡ savedTo (ran (builtOn s first) (before ++ after)) last =
+    ap (λ (x : Held). savedTo x last) (ran-is N after) ∙ k .sameText ∙ ap (λ (x : Held). savedTo x last) (sym (ran-is (builtOn s first) (before ++ after))) in
+    record {
+      builds = k .builds;
+      saves = subst (λ (x : Held). savedTo x out .row ≡ 0) e saves;
+      text = subst (λ (x : Held). textIn x out ≡ historyText s before) e text;
+      restores = subst (λ (x : Held). restore.restoreOf (textIn x out) (s .codes) second .row ≡ 0) e restores;
+      sameReturns = subst (λ (x : Held). returns (restoredOn (textIn x out) (s .codes) second) after ≡ returns x after) e same;
+      ruledAnswers = subst (λ (x : Held). map answerRead (returns (restoredOn (textIn x out) (s .codes) second) after) ≡ historyAnswers s es after) e ruled;
+      sameText = subst (λ (x : Held). savedTo (ran (restoredOn (textIn x out) (s .codes) second) after) last ≡ savedTo (ran (builtOn s first) (before ++ after)) last) e ends;
+    }
+
+-- ---- every settings and every learn is one that the contracts speak of
+
+optional-is : (v : Option (List Float)) → optional (given v) (listOf v) ≡ v
+optional-is none = refl
+optional-is (some v) = refl
+
+pub arguments : Arguments
+arguments = record {
+  built = λ s. refl;
+  learns =
+      λ q. λ j. record {
+        input = q .input;
+        timestamp = q .timestamp;
+        rcfPoint = optional-is (q .rcfPoint) j;
+        expectedPoint = optional-is (q .expectedPoint) j;
+        grade = q .grade;
+        relativeIndex = q .relativeIndex;
+        deviationsOut = q .deviationsOut;
+        pastOut = q .pastOut;
+        expectedOut = q .expectedOut;
+      };
+}
