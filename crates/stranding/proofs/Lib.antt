@@ -2,3 +2,4 @@
 pub mod Orders
 pub mod Recurrence
 pub mod Rows
+pub mod Examples
