@@ -15,7 +15,7 @@ use Rattle.trcf.specs.Settings.{block, dimension, waiting, allOne, settingsRow}
 use Rattle.trcf.specs.Calls.{finite, due, newest, wrongLength, outside, drainFull, learnFull, waitingShort, learnShort, table, rows}
 use Rattle.trcf.specs.Preprocessor.{fresh as freshState, facts, timeFed, feed, timescale, timedrift, timeElement, transformedAfter, previous, primed, drainOne, drainAll, drained, held, learned, learnedWith, change, deviations, pointOf, blockFrom, pastValues, expectedValues, anomalyOf, learnedNothing, heldAnswer, learnedAnswer, learnAnswer, reply}
 use Rattle.trcf.specs.View.{view, laid, headRow, lentShort, misfit, shortRow, lentRow, rowOf, buildRow, buildOf, answerOf, headAfter, lentAfter, drainOf, pointAfter, learnAfter}
-use Rattle.snapshot.specs.Text.{whole, float, setLine, singles, cntLine, devLine, timLine, bufLine, linesOf, render}
+use Rattle.snapshot.specs.Text.{whole, float, setLine, singles, cntLine, devLine, timLine, bufLine, linesBy, bodyLines, chnLine, render}
 use Rattle.snapshot.specs.Read.{judge, floatFrom, asWhole, asFloat}
 use Rattle.snapshot.specs.Save.{unheld, fitted, saveOf}
 use Rattle.snapshot.specs.Ascii.{bytes}
@@ -25,7 +25,7 @@ use Rattle.bench_core.specs.Run.{printed}
 
 -- to unfold this is to unfold whatever its line names
 running : Unit {0}
-unfolding toBits ofBits ofFields odd fits size round le lt eq add sub mul div ofInt narrowed rootWithin halves rooted rootOf outsideUnit factorOf fedStep isEmpty meanOf rootAbove deviationOf over lastN shiftIn overwrite statisticAt putStatistic fed deviationsAt putDeviations fedAt channelsFed updated normalizedScale basicShift basicDrift weightAt transformed unweighted inverted scales shifts differenceDeviations block dimension waiting allOne settingsRow finite due newest wrongLength outside drainFull learnFull waitingShort learnShort table rows freshState facts timeFed feed timescale timedrift timeElement transformedAfter previous primed drainOne drainAll drained held learned learnedWith change deviations pointOf blockFrom pastValues expectedValues anomalyOf learnedNothing heldAnswer learnedAnswer learnAnswer reply view laid headRow lentShort misfit shortRow lentRow rowOf buildRow buildOf answerOf headAfter lentAfter drainOf pointAfter learnAfter whole float setLine singles cntLine devLine timLine bufLine linesOf render judge floatFrom asWhole asFloat unheld fitted saveOf blankLine fieldOf cellOf requestOf keptOf noText pointText doneText prints dimensionOf pointTurn learnTurn drainTurn savePrints builderFrom fresh weightsTurn lineHeard stepOf finishOf printed
+unfolding toBits ofBits ofFields odd fits size round le lt eq add sub mul div ofInt narrowed rootWithin halves rooted rootOf outsideUnit factorOf fedStep isEmpty meanOf rootAbove deviationOf over lastN shiftIn overwrite statisticAt putStatistic fed deviationsAt putDeviations fedAt channelsFed updated normalizedScale basicShift basicDrift weightAt transformed unweighted inverted scales shifts differenceDeviations block dimension waiting allOne settingsRow finite due newest wrongLength outside drainFull learnFull waitingShort learnShort table rows freshState facts timeFed feed timescale timedrift timeElement transformedAfter previous primed drainOne drainAll drained held learned learnedWith change deviations pointOf blockFrom pastValues expectedValues anomalyOf learnedNothing heldAnswer learnedAnswer learnAnswer reply view laid headRow lentShort misfit shortRow lentRow rowOf buildRow buildOf answerOf headAfter lentAfter drainOf pointAfter learnAfter whole float setLine singles cntLine devLine timLine bufLine linesBy bodyLines chnLine render judge floatFrom asWhole asFloat unheld fitted saveOf blankLine fieldOf cellOf requestOf keptOf noText pointText doneText prints dimensionOf pointTurn learnTurn drainTurn savePrints builderFrom fresh weightsTurn lineHeard stepOf finishOf printed
 running = tt
 
 -- inputs with their outputs
@@ -50,7 +50,7 @@ good = settings ++ "wgt\t3f800000\n"
 -- document 01's sample
 abbrev sample : Cases
 sample =
-    (good ++ "s\n", good ++ "cnt\t0\t0\t0\ndev\t0000000000000000\t0000000000000000\t0000000000000000\ndev\t0000000000000000\t0000000000000000\t0000000000000000\ndev\t0000000000000000\t0000000000000000\t0000000000000000\ndev\t0000000000000000\t0000000000000000\t0000000000000000\ndev\t0000000000000000\t0000000000000000\t0000000000000000\ndev\t0000000000000000\t0000000000000000\t0000000000000000\ndev\t0000000000000000\t0000000000000000\t0000000000000000\ndev\t0000000000000000\t0000000000000000\t0000000000000000\ndev\t0000000000000000\t0000000000000000\t0000000000000000\ndev\t0000000000000000\t0000000000000000\t0000000000000000\ninp\t00000000\npnt\t00000000\ntim\t0\n")
+    (good ++ "s\n", good ++ "chn\t0\ncnt\t0\t0\t0\ndev\t0000000000000000\t0000000000000000\t0000000000000000\ndev\t0000000000000000\t0000000000000000\t0000000000000000\ndev\t0000000000000000\t0000000000000000\t0000000000000000\ndev\t0000000000000000\t0000000000000000\t0000000000000000\ndev\t0000000000000000\t0000000000000000\t0000000000000000\ndev\t0000000000000000\t0000000000000000\t0000000000000000\ndev\t0000000000000000\t0000000000000000\t0000000000000000\ndev\t0000000000000000\t0000000000000000\t0000000000000000\ndev\t0000000000000000\t0000000000000000\t0000000000000000\ndev\t0000000000000000\t0000000000000000\t0000000000000000\ninp\t00000000\npnt\t00000000\ntim\t0\n")
     ∷ []
 
 sample-hold : given sample ≡ expected sample
@@ -182,7 +182,7 @@ answers-hold = refl
 -- 12: the last point stays, also where a later `p` is refused
 abbrev last-point : Cases
 last-point =
-    (good ++ "p\t1\t3f800000\np\t2\nl\t3\t40000000\ns\n", "pt\t3f800000\nno\t10\nok\nset\tS\t0\t1\t1\t10\t20\t0000000000000000\t3f800000\nwgt\t3f800000\ncnt\t1\t1\t1\ndev\t3ff0000000000000\t4000000000000000\t4010000000000000\ndev\t3ff0000000000000\t4000000000000000\t4010000000000000\ndev\t3ff0000000000000\t0000000000000000\t0000000000000000\ndev\t3ff0000000000000\t4000000000000000\t4010000000000000\ndev\t3ff0000000000000\t0000000000000000\t0000000000000000\ndev\t3ff0000000000000\t4008000000000000\t4022000000000000\ndev\t3ff0000000000000\t4008000000000000\t4022000000000000\ndev\t3ff0000000000000\t0000000000000000\t0000000000000000\ndev\t3ff0000000000000\t4008000000000000\t4022000000000000\ndev\t3ff0000000000000\t0000000000000000\t0000000000000000\ninp\t40000000\npnt\t3f800000\ntim\t3\n")
+    (good ++ "p\t1\t3f800000\np\t2\nl\t3\t40000000\ns\n", "pt\t3f800000\nno\t10\nok\nset\tS\t0\t1\t1\t10\t20\t0000000000000000\t3f800000\nwgt\t3f800000\nchn\t0\ncnt\t1\t1\t1\ndev\t3ff0000000000000\t4000000000000000\t4010000000000000\ndev\t3ff0000000000000\t4000000000000000\t4010000000000000\ndev\t3ff0000000000000\t0000000000000000\t0000000000000000\ndev\t3ff0000000000000\t4000000000000000\t4010000000000000\ndev\t3ff0000000000000\t0000000000000000\t0000000000000000\ndev\t3ff0000000000000\t4008000000000000\t4022000000000000\ndev\t3ff0000000000000\t4008000000000000\t4022000000000000\ndev\t3ff0000000000000\t0000000000000000\t0000000000000000\ndev\t3ff0000000000000\t4008000000000000\t4022000000000000\ndev\t3ff0000000000000\t0000000000000000\t0000000000000000\ninp\t40000000\npnt\t3f800000\ntim\t3\n")
     ∷ []
 
 last-point-hold : given last-point ≡ expected last-point

@@ -6,7 +6,7 @@ use mathlib.Core.Bool.{Bool, true, false, cond}
 use mathlib.Core.List.{List, [], _∷_, map}
 use borrow.Author.Tests.{lt-ltb, le-ltb, eq-eqb, ne-eqb}
 use lib.Dec.{T}
-use lib.ListN.{length, take, drop, getD}
+use lib.ListN.{length, take, drop, getD, replicate}
 use lib.Ieee.{Float}
 use Rattle.trcf.specs.Preprocessor.{accepted}
 use Rattle.trcf.proofs.OutcomeLaws.{accepted-not}
@@ -20,7 +20,7 @@ use Rattle.bench_core.specs.declared.line.Name.the-variants.{Unread, Set
 use Rattle.bench_core.specs.declared.step.Phase.{Phase}
 use Rattle.bench_core.specs.declared.step.Phase.the-variants.{WantsWeights, Running}
 use Rattle.bench_core.specs.declared.step.Bench.{Bench}
-use Rattle.bench_core.specs.Bench.{Output, output, prints, noText, readyFor, goingOn, endOf, builderFrom, Told, told, Heard, heard, refusedBy, setHeard, limitRow, builtHeard, weightsTurn, weightsHeard, callTold, isReading, isPoint, readingName, plainHeard, callHeard, tells, pointTurn, learnTurn, lineBy, lineHeard, begun, Said, said, finishBy, finished, finishOf, cellLength, cellKept, stepped, withLine, cellStep, stepOf}
+use Rattle.bench_core.specs.Bench.{zeroCodes, Output, output, prints, noText, readyFor, goingOn, endOf, builderFrom, Told, told, Heard, heard, refusedBy, setHeard, limitRow, builtHeard, weightsTurn, weightsHeard, callTold, isReading, isPoint, readingName, plainHeard, callHeard, tells, pointTurn, learnTurn, lineBy, lineHeard, begun, Said, said, finishBy, finished, finishOf, cellLength, cellKept, stepped, withLine, cellStep, stepOf}
 
 pub kept-of : (l : Line) (n : ℕ) → n ≡ keptCount (l .count) → take n (l .singles) ≡ keptOf l
 unfolding keptOf
@@ -32,9 +32,9 @@ pub refused-heard : (b : Bench) (out : List ℕ) (row : ℕ) (lists : Lent) (y :
 refused-heard b out row lists y e = ap (λ (s : Said). heard (s .bench) lists y (s .out)) e
 
 module _ (b : Bench) (out : List ℕ) (l : Line) (lists : Lent) (y : List Float) {l' : Lent} {row : ℕ} {h' : Preprocessor} {v : List Float}
-    (k : v ≡ keptOf l) (e : outcome row h' l' ≡ buildOf (settingsFrom (b .builder) v) lists) where
-  built : outcome row h' l' ≡ buildOf (settingsFrom (b .builder) (keptOf l)) lists
-  built = e ∙ ap (λ (u : List Float). buildOf (settingsFrom (b .builder) u) lists) k
+    (k : v ≡ keptOf l) (e : outcome row h' l' ≡ buildOf (settingsFrom (b .builder) v (zeroCodes (b .builder))) lists) where
+  built : outcome row h' l' ≡ buildOf (settingsFrom (b .builder) (keptOf l) (zeroCodes (b .builder))) lists
+  built = e ∙ ap (λ (u : List Float). buildOf (settingsFrom (b .builder) u (zeroCodes (b .builder))) lists) k
 
   pub weights-refused : {b' : Bench} {o : Output} → (row ≡ 0 → ⊥) → said b' o ≡ said (endOf b) (prints (noText row) out)
       → heard b' l' y o ≡ weightsTurn b l lists y out
@@ -202,3 +202,9 @@ seventeen w h = sym (same w) ∙ h
     same : (l : List Float) → length (map (λ v. v) l) ≡ length l
     same [] = refl
     same (x ∷ xs) = ap suc (same xs)
+
+-- zeros in front of zeros
+pub take-zeros : (n d : ℕ) → d ≤ n → take d (replicate {A = ℕ} n 0) ≡ replicate d 0
+take-zeros n zero h = refl
+take-zeros zero (suc d) h = absurd (omega arith)
+take-zeros (suc n) (suc d) h = ap (λ (l : List ℕ). 0 ∷ l) (take-zeros n d (omega arith))

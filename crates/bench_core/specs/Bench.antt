@@ -208,8 +208,15 @@ builtHeard b o y out =
     (refusedBy (limitRow (b .builder)) b (o .lent) y out))
     (refusedBy (o .row) b (o .lent) y out)
 
+-- "The bench has zero codes": one for each channel, as far as an array holds them (row 4 comes before row 5)
+abbrev pub codeCount : ℕ → ℕ
+codeCount n = cond (ltb 16 n) 16 n
+
+abbrev pub zeroCodes : PreprocessorBuilder → List ℕ
+zeroCodes b = replicate (codeCount (b .«input_dimensions»)) 0
+
 unfoldable pub weightsTurn : Bench → Line → Lent → List Float → List ℕ → Heard
-weightsTurn b l lists y out = builtHeard b (buildOf (settingsFrom (b .builder) (keptOf l)) lists) y out
+weightsTurn b l lists y out = builtHeard b (buildOf (settingsFrom (b .builder) (keptOf l) (zeroCodes (b .builder))) lists) y out
 
 -- the second line: an accepted `wgt` prints nothing
 abbrev pub weightsHeard : Name → Bench → Line → Lent → List Float → List ℕ → Heard

@@ -10,6 +10,7 @@ use crate::line::Name;
 use crate::line::blank;
 use crate::line::cell;
 use crate::line::request;
+use trcf::preprocessor::Changed;
 use trcf::preprocessor::Preprocessor;
 use trcf::preprocessor::PreprocessorBuilder;
 use trcf::preprocessor::build;
@@ -21,9 +22,9 @@ ghost use mathlib.Core.List.{List};
 ghost use lib.Ieee.{Float};
 ghost use Prim.Native.Nat.{_≤_};
 ghost use lib.ListN.{length, take};
-ghost use Rattle.trcf.specs.View.{Lent, lent};
+ghost use Rattle.trcf.specs.View.{Lent, lent, outcome, buildOf, settingsFrom};
 ghost use Rattle.bench_core.specs.Line.{requestOf, keptCount};
-ghost use Rattle.bench_core.specs.Bench.{output, prints, noText, readyFor, goingOn, endOf, modeFrom, methodFrom, builderFrom, noBuilder, fresh, heard, setHeard, limitRow, weightsTurn, weightsHeard, isReading, isPoint, readingName, plainHeard, callHeard, lineHeard, cellLength, cellKept, stepped, withLine, stepOf, begun, said, finishBy, finished, finishOf};
+ghost use Rattle.bench_core.specs.Bench.{codeCount, zeroCodes, output, prints, noText, readyFor, goingOn, endOf, modeFrom, methodFrom, builderFrom, noBuilder, fresh, heard, setHeard, limitRow, weightsTurn, weightsHeard, isReading, isPoint, readingName, plainHeard, callHeard, lineHeard, cellLength, cellKept, stepped, withLine, stepOf, begun, said, finishBy, finished, finishOf};
 
 // The bytes that the output of a step has to have.
 pub const ROOM: usize = 65536;
@@ -201,6 +202,46 @@ fn limit_row(b: PreprocessorBuilder) -> u64
     0
 }
 
+// How many codes a bench has.
+fn code_count(d: usize) -> usize
+    ensures { λ r. ⌜ r ≡ codeCount d ⌝ }
+    ensures { λ r. ⌜ r ≤ 16 ⌝ }
+{
+    if 16 < d {
+        return 16;
+    }
+    d
+}
+
+// `build` with zero codes.
+fn build_bare(
+    builder: PreprocessorBuilder,
+    weights: &[f32],
+    statistics: &mut [f64],
+    last_shingled_input: &mut [f32],
+    last_shingled_point: &mut [f32],
+    previous_timestamps: &mut [u64],
+    initial_values: &[f32],
+    initial_timestamps: &[u64],
+) -> Changed
+    ensures { λ r. ⌜ outcome (r .row) (r .head) (lent (now (statistics .exit)) (now («last_shingled_input» .exit)) (now («last_shingled_point» .exit)) (now («previous_timestamps» .exit)) (now («initial_values» .entry)) (now («initial_timestamps» .entry)))
+        ≡ buildOf (settingsFrom builder (now (weights .entry)) (zeroCodes builder)) (lent (now (statistics .entry)) (now («last_shingled_input» .entry)) (now («last_shingled_point» .entry)) (now («previous_timestamps» .entry)) (now («initial_values» .entry)) (now («initial_timestamps» .entry))) ⌝ }
+{
+    let zeros = [0u16; 16];
+    let n = code_count(builder.input_dimensions);
+    build(
+        builder,
+        weights,
+        &zeros[..n],
+        statistics,
+        last_shingled_input,
+        last_shingled_point,
+        previous_timestamps,
+        initial_values,
+        initial_timestamps,
+    )
+}
+
 // The second line, of the form: rows 1 to 9, and then the limits.
 fn read_weights(
     b: Bench,
@@ -219,7 +260,7 @@ fn read_weights(
     let builder = b.builder;
     let n = kept(l);
     let singles = l.singles;
-    let r = build(
+    let r = build_bare(
         builder,
         &singles[..n],
         statistics,

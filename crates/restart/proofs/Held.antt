@@ -20,7 +20,7 @@ use Rattle.trcf.specs.Preprocessor.{State, statisticsLength, fresh, refusal, ch
 use Rattle.trcf.specs.View.{Lent, lent, settingsOf, view, laid, counted, headFrom, headTable, headRow, lentShort, misfit, shortRow, lentRow, rowOf, answerOf, headAfter, lentAfter, buildRow, buildOf, Outcome, outcome}
 use Rattle.trcf.specs.declared.preprocessor.Preprocessor.{Preprocessor}
 use Rattle.trcf.proofs.ViewLaws.{row-is, answer-is, Shaped, view-laid}
-use Rattle.snapshot.specs.Text.{render}
+use Rattle.snapshot.specs.Text.{render, TextOf}
 use Rattle.snapshot.specs.Form.{Form}
 use Rattle.snapshot.proofs.Accepted.{rows-of, none-refuses}
 use Rattle.snapshot.specs.Save.{unheld, fitted, saveOf}
@@ -28,6 +28,7 @@ use Rattle.snapshot.specs.Save as save
 use Rattle.snapshot.specs.Restore as restore
 use Rattle.snapshot.specs.Runs.{Few, HeadFew}
 use Rattle.snapshot.proofs.BodyLaws.{room-of, dimension-is}
+use Rattle.snapshot.proofs.ReadText.{put-away}
 use Rattle.snapshot.proofs.RoundTrip.{settings-are, shaped-of, few-of, initial-few, past-not, laid-short, restored-as, restored-view}
 use Rattle.restart.specs.History.{historyState, entries, historyText, historyAnswers}
 use Rattle.restart.specs.Held.{Held, held, builtOn, heldNext, heldRun, heldAnswers, savedTo, textIn, restoredOn, HeldRestart, HeldDemand3}
@@ -185,15 +186,15 @@ module _ (s : Settings) (ok : Valid s) where
     built-holds =
         let f : Form (fresh s) = run-form s ok [] tt in
         subst (λ (x : Outcome). Holds s (held (x .head) (x .lent)) (fresh s)) (sym built-as)
-        (record { viewed = restored-view [] l (fresh s) f; settled = settings-are s ok; room = laid-short (fresh s) f l room; counts = refl })
+        (record { viewed = restored-view [] [] l (fresh s) f; settled = settings-are s ok; room = laid-short (fresh s) f l room; counts = refl })
 
-    pub restored-holds : (w : State) → Form w → w .settings ≡ s → (t : List ℕ) → render w ≡ t → Holds s (restoredOn t l) w
+    pub restored-holds : (w : State) → Form w → w .settings ≡ s → (t : List ℕ) → render w ≡ t → Holds s (restoredOn t (s .codes) l) w
     restored-holds w f e t h =
         let room' : lentShort (w .settings) l ≡ false = subst (λ (x : Settings). lentShort x l ≡ false) (sym e) room in
-        let o = restored-as t l w f h room' in
+        let o = restored-as t (s .codes) l w f (subst (TextOf w) h (put-away w)) (ap (λ (x : Settings). x .codes) e) room' in
         subst (λ (x : restore.Outcome). Holds s (held (x .head) (x .lent)) w) (sym o)
         (record {
-          viewed = restored-view t l w f;
+          viewed = restored-view t (s .codes) l w f;
           settled = settings-are (w .settings) (f .valid) ∙ e;
           room = subst (λ (x : Settings). lentShort x (laid w l) ≡ false) e (laid-short w f l room');
           counts = refl;
@@ -224,7 +225,7 @@ held-demand-3 s ok before after mb ma first second r₁ r₂ out last long =
     let x : render w ≡ historyText s before = text-history s ok before mb in
     let o : fitted (render w) out ≡ save.outcome 0 (length (render w)) (over out (render w)) = fits-in (render w) out (subst (λ (t : List ℕ). length t ≤ length out) (sym x) long) in
     let t : textIn M out ≡ render w = ap (λ (y : save.Outcome). take (y .length) (y .bytes)) (v ∙ o) ∙ text-over (render w) out in
-    let N : Held = restoredOn (textIn M out) second in
+    let N : Held = restoredOn (textIn M out) (s .codes) second in
     let j : Holds s N w = restored-holds s ok second r₂ w f e (textIn M out) (sym t) in
     let p : Runs s ok M w after = runs-held s ok M before after mb ma k in
     let q : Runs s ok N w after = runs-held s ok N before after mb ma j in
@@ -235,7 +236,7 @@ held-demand-3 s ok before after mb ma first second r₁ r₂ out last long =
       builds = ap (λ (y : Outcome). y .row) (built-as s ok first r₁);
       saves = ap (λ (y : save.Outcome). y .row) (v ∙ o);
       text = t ∙ x;
-      restores = ap (λ (y : restore.Outcome). y .row) (restored-as (textIn M out) second w f (sym t) (subst (λ (y : Settings). lentShort y second ≡ false) (sym e) r₂));
+      restores = ap (λ (y : restore.Outcome). y .row) (restored-as (textIn M out) (s .codes) second w f (subst (TextOf w) (sym t) (put-away w)) (ap (λ (y : Settings). y .codes) e) (subst (λ (y : Settings). lentShort y second ≡ false) (sym e) r₂));
       sameAnswers = q .says ∙ sym (p .says);
       ruledAnswers = q .says ∙ restart s ok before after mb .every w (restorable s ok before mb) .ruledAnswers;
       sameText = saved-by s ok (heldRun N after) (run w after) (q .holds) g d last

@@ -6,7 +6,4 @@ pub mod Step
 pub mod Reachable
 pub mod SameHistory
 pub mod Restart
-pub mod Samples
-pub mod RowSamples
-pub mod Traces
 pub mod Held

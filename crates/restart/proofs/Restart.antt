@@ -1,24 +1,28 @@
 -- Demand 3: a preprocessor outlives any restart, at any place, any number of times.
 use Prim.Native.Nat.{_<_}
-use mathlib.Core.Path.{_≡_, refl, sym, ap, _∙_}
+use mathlib.Core.Path.{_≡_, refl, sym, ap, _∙_, subst}
 use mathlib.Core.List.{List, [], _∷_, _++_}
-use Rattle.restart.specs.History.{after, entries, historyText}
+use Rattle.restart.specs.History.{after, entries, historyState, historyText}
 use Rattle.restart.specs.Statement.{Restores, Outlives, Restart, Event, called, restarted, callsOf, runEvents, answersEvents, Restarts, Reaches, built, calling, restoring, Demand3}
 use Rattle.trcf.specs.Fit.{All}
 use Rattle.trcf.specs.Settings.{Settings, Valid}
 use Rattle.trcf.specs.Calls.{Call, Machine}
 use Rattle.trcf.specs.Preprocessor.{State, fresh, next, run, Answer, answer, answers}
-use Rattle.snapshot.specs.Text.{render}
+use Rattle.snapshot.specs.Text.{render, TextOf}
 use Rattle.snapshot.specs.Read.{Read, taken, read}
 use Rattle.trcf.proofs.FitLaws.{all-append}
-use Rattle.snapshot.proofs.Injective.{render-injective}
-use Rattle.snapshot.proofs.ReadText.{read-complete}
+use Rattle.snapshot.proofs.ReadText.{read-complete, put-away, text-injective}
 use Rattle.restart.proofs.Step.{begins, runs, run-history, answers-from, answers-history}
 use Rattle.restart.proofs.Reachable.{k>0-of, run-form}
 
 pub run-append : (w : State) (a b : List Call) → run w (a ++ b) ≡ run (run w a) b
 run-append w [] b = refl
 run-append w (c ∷ a) b = run-append (next w c) a b
+
+-- calls leave the settings as they are
+pub settings-kept : (s : Settings) → Valid s → (cs : List Call) → run (fresh s) cs .settings ≡ s
+unfolding historyState
+settings-kept s ok cs = ap (λ (w : State). w .settings) (run-history s (k>0-of s ok) cs)
 
 -- ---- the text of a state that calls lead to
 
@@ -29,15 +33,15 @@ module _ (s : Settings) (ok : Valid s) (before : List Call) (m : All Machine bef
   text-history = ap render (run-history s (k>0-of s ok) before)
 
   -- it is restored
-  pub restorable : Restores (render (run (fresh s) before)) (run (fresh s) before)
-  restorable = record { form = run-form s ok before m; text = refl }
+  pub restorable : Restores (s .codes) (render (run (fresh s) before)) (run (fresh s) before)
+  restorable = record { form = run-form s ok before m; text = put-away (run (fresh s) before); agree = ap (λ (x : Settings). x .codes) (settings-kept s ok before) }
 
   pub restored : read (render (run (fresh s) before)) ≡ taken (run (fresh s) before)
   restored = read-complete (run (fresh s) before) (run-form s ok before m)
 
   -- as that state and as no other
-  pub only : (w : State) → Restores (render (run (fresh s) before)) w → w ≡ run (fresh s) before
-  only w u = render-injective w (run (fresh s) before) (u .form) (run-form s ok before m) (u .text)
+  pub only : (w : State) → Restores (s .codes) (render (run (fresh s) before)) w → w ≡ run (fresh s) before
+  only w u = text-injective (render (run (fresh s) before)) w (run (fresh s) before) (u .form) (run-form s ok before m) (u .text) (put-away (run (fresh s) before))
 
 -- ---- one restart
 
@@ -59,6 +63,7 @@ module _ (s : Settings) (ok : Valid s) (before after : List Call) where
     text = text-history s ok before m;
     second = run (fresh s) before;
     taking = restored s ok before m;
+    agree = ap (λ (x : Settings). x .codes) (settings-kept s ok before);
     outlives = goes-on;
     every = λ w u. rw (only s ok before m w u) goes-on;
   }
@@ -105,7 +110,7 @@ module _ (s : Settings) (ok : Valid s) where
       (ap (λ (v : State). next v c) (h .0) ∙ sym (run-append (fresh s) cs (c ∷ [])), all-append _ cs (c ∷ []) (h .1) (m, tt))
   reaches (restoring {cs = cs} {w = w} u k t) =
       let h : (w ≡ run (fresh s) cs) × All Machine cs = reaches t in
-      (only s ok cs (h .1) u (record { form = k .form; text = k .text ∙ ap render (h .0) }), h .1)
+      (only s ok cs (h .1) u (record { form = k .form; text = subst (TextOf u) (ap render (h .0)) (k .text); agree = k .agree }), h .1)
 
 -- ---- the statement
 

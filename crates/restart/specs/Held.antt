@@ -46,8 +46,8 @@ abbrev pub textIn : Held → List ℕ → List ℕ
 textIn m out = take (savedTo m out .length) (savedTo m out .bytes)
 
 -- "taken up"
-abbrev pub restoredOn : List ℕ → Lent → Held
-restoredOn t l = held (restore.restoreOf t l .head) (restore.restoreOf t l .lent)
+abbrev pub restoredOn : List ℕ → List ℕ → Lent → Held
+restoredOn t codes l = held (restore.restoreOf t codes l .head) (restore.restoreOf t codes l .lent)
 
 -- The first watch is built over `first` and makes the calls `before`; its text is written to `out`; another one takes it up over `second`, "whatever the
 -- new memory held before", and both make the calls `after`.
@@ -55,11 +55,11 @@ pub record HeldRestart (s : Settings) (before after : List Call) (first second :
   pub builds : buildOf s first .row ≡ 0
   pub saves : savedTo (heldRun (builtOn s first) before) out .row ≡ 0
   pub text : textIn (heldRun (builtOn s first) before) out ≡ historyText s before
-  pub restores : restore.restoreOf (textIn (heldRun (builtOn s first) before) out) second .row ≡ 0
-  pub sameAnswers : heldAnswers (restoredOn (textIn (heldRun (builtOn s first) before) out) second) after ≡ heldAnswers (heldRun (builtOn s first) before) after
-  pub ruledAnswers : heldAnswers (restoredOn (textIn (heldRun (builtOn s first) before) out) second) after ≡ historyAnswers s (entries s before) after
+  pub restores : restore.restoreOf (textIn (heldRun (builtOn s first) before) out) (s .codes) second .row ≡ 0
+  pub sameAnswers : heldAnswers (restoredOn (textIn (heldRun (builtOn s first) before) out) (s .codes) second) after ≡ heldAnswers (heldRun (builtOn s first) before) after
+  pub ruledAnswers : heldAnswers (restoredOn (textIn (heldRun (builtOn s first) before) out) (s .codes) second) after ≡ historyAnswers s (entries s before) after
   -- "After the last call both are put away as the same text, byte for byte": the same bytes, or row 20 of both
-  pub sameText : savedTo (heldRun (restoredOn (textIn (heldRun (builtOn s first) before) out) second) after) last ≡ savedTo (heldRun (builtOn s first) (before ++ after)) last
+  pub sameText : savedTo (heldRun (restoredOn (textIn (heldRun (builtOn s first) before) out) (s .codes) second) after) last ≡ savedTo (heldRun (builtOn s first) (before ++ after)) last
 
 -- for all settings that no row refuses, all calls, all places, and all lent memory that is long enough
 abbrev pub HeldDemand3 : Type 0

@@ -7,15 +7,17 @@ use Rattle.trcf.specs.Fit.{All}
 use Rattle.trcf.specs.Settings.{Settings, Valid}
 use Rattle.trcf.specs.Calls.{Call, Machine}
 use Rattle.trcf.specs.Preprocessor.{State, fresh, next, run, Answer, answer, answers}
-use Rattle.snapshot.specs.Text.{render}
+use Rattle.snapshot.specs.Text.{render, TextOf}
 use Rattle.snapshot.specs.Form.{Form}
 use Rattle.snapshot.specs.Read.{Read, taken, bad, read}
 use Rattle.restart.specs.History.{entries, historyText, historyAnswers}
 
--- Taking up as a relation: w has the form, and t is its text. `read` takes up t as w exactly then (crate snapshot: read-sound, read-complete).
-pub record Restores (t : List ℕ) (w : State) : Type 0 where
+-- Taking up as a relation: w has the form, t is a text of it, and its codes are those expected. `restore` takes up t as w exactly then, where the lent
+-- lists are long enough (crate snapshot: restored-as, restored-only).
+pub record Restores (codes t : List ℕ) (w : State) : Type 0 where
   pub form : Form w
-  pub text : render w ≡ t
+  pub text : TextOf w t
+  pub agree : w .settings .codes ≡ codes
 
 -- What is asked of a restored state w: the calls `before` were made before the restart, `after` are made after it.
 pub record Outlives (s : Settings) (before after : List Call) (w : State) : Type 0 where
@@ -34,9 +36,11 @@ pub record Restart (s : Settings) (before after : List Call) : Type 0 where
   -- "The watch is put away there, and another watch takes the text up, whatever the new memory held before": what is taken up depends on the text alone
   pub second : State
   pub taking : read (render (run (fresh s) before)) ≡ taken second
+  -- "the expected codes are the settings'"
+  pub agree : second .settings .codes ≡ s .codes
   pub outlives : Outlives s before after second
   -- and so does whatever restores that text
-  pub every : (w : State) → Restores (render (run (fresh s) before)) w → Outlives s before after w
+  pub every : (w : State) → Restores (s .codes) (render (run (fresh s) before)) w → Outlives s before after w
 
 -- ---- restarts at any places
 
@@ -75,7 +79,7 @@ pub record Restarts (s : Settings) (es : List Event) : Type 0 where
 pub data Reaches (s : Settings) : List Call → State → Type 0 where
   built : Reaches s [] (fresh s)
   calling : {cs : List Call} {w : State} (c : Call) → Machine c → Reaches s cs w → Reaches s (cs ++ (c ∷ [])) (next w c)
-  restoring : {cs : List Call} {w : State} (u : State) → Restores (render w) u → Reaches s cs w → Reaches s cs u
+  restoring : {cs : List Call} {w : State} (u : State) → Restores (s .codes) (render w) u → Reaches s cs w → Reaches s cs u
 
 -- ---- the statement
 

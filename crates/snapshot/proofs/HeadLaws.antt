@@ -1,4 +1,4 @@
--- The lines `set`, `wgt` and `cnt`: where they break off, and the head that they give.
+-- The lines `set`, `wgt`, `chn` and `cnt`: where they break off, and the head that they give.
 use Prim.Native.Nat.{ℕ, zero, suc, _+_, _≤_, _<_}
 use native.Mathlib.Omega.{arith}
 use mathlib.Core.Path.{_≡_, refl, sym, ap, _∙_, subst}
@@ -10,13 +10,14 @@ use lib.Dec.{leb, ltb, eqb}
 use lib.Ieee.{Float}
 use borrow.Author.Tests.{ltb-false, leb-false}
 use Rattle.common.specs.Deviation.{outsideUnit}
+use Rattle.common.specs.Lent.{over}
 use Rattle.trcf.proofs.ShingleLaws.{over-part}
 use Rattle.trcf.specs.declared.types.ForestMode.{ForestMode}
 use Rattle.trcf.specs.declared.types.TransformMethod.{TransformMethod}
 use Rattle.trcf.specs.Transformer.{zero32}
 use Rattle.trcf.specs.Settings.{Settings}
-use Rattle.snapshot.specs.Read.{asWhole, Counts, withWeights}
-use Rattle.snapshot.specs.Judge.{onto, byte, name, fields, modeIn, methodIn, setTest, settingsWith, settled, tailBy, setBy, wgtBy, cntBy}
+use Rattle.snapshot.specs.Read.{asWhole, Counts, withLists}
+use Rattle.snapshot.specs.Judge.{onto, byte, name, fields, modeIn, methodIn, setTest, settingsWith, settled, tailBy, Codes, chnOr, chnBy, setBy, wgtBy, cntBy}
 use Rattle.snapshot.proofs.Lists.{and-left, and-right}
 use Rattle.snapshot.proofs.JudgeLines.{onto-some}
 use Rattle.snapshot.specs.Runs.{Ran, ran, broke, after, oneLine, headRead, headBy, headOf, headWith, Few}
@@ -34,18 +35,22 @@ module _ (t : List ℕ) where
       head-wgt q h = rw (sym e, sym h, sym q)
 
       module _ (v : List Float) (l₂ : List ℕ) (f : some (v, l₂) ≡ wgtBy (s .method) m l₁) (h : m ≡ s .d) where
-        pub head-cnt : none ≡ cntBy (s .method) (s .start) l₂ → broke 3 ≡ headBy t
-        unfolding headBy
-        head-cnt q = rw (sym e, sym h, sym f, sym q)
+        module _ (k : Codes) (j : k ≡ chnOr (s .d) (chnBy (s .d) l₂) l₂) where
+          j′ : k ≡ chnOr m (chnBy m l₂) l₂
+          j′ = subst (λ (n : ℕ). k ≡ chnOr n (chnBy n l₂) l₂) (sym h) j
 
-        pub head-all : (c : Counts) (l₃ : List ℕ) → some (c, l₃) ≡ cntBy (s .method) (s .start) l₂ → ran (headRead (withWeights s v) c) l₃ ≡ headBy t
-        unfolding headBy
-        head-all c l₃ q = rw (sym e, sym h, sym f, sym q)
+          pub head-cnt : none ≡ cntBy (s .method) (s .start) (k .rest) → broke (3 + k .extra) ≡ headBy t
+          unfolding headBy
+          head-cnt q = let n : 3 + k .extra ≡ 1 + (1 + (k .extra + 1)) = omega arith in ap broke n ∙ rw (sym e, sym h, sym f, sym j′, sym q)
 
--- the weights stand in an array, zeros behind them
-pub head-is : (s : Settings) (v : List Float) (c : Counts) → length v ≡ s .d
-    → headWith s (v ++ drop (s .d) (replicate 16 zero32)) c ≡ headOf (headRead (withWeights s v) c)
-head-is s v c e = ap (λ (w : List Float). headWith s w c) (over-part (replicate 16 zero32) v (s .d) e)
+          pub head-all : (c : Counts) (l₃ : List ℕ) → some (c, l₃) ≡ cntBy (s .method) (s .start) (k .rest) → ran (headRead (withLists s v (k .codes)) c (k .extra)) l₃ ≡ headBy t
+          unfolding headBy
+          head-all c l₃ q = rw (sym e, sym h, sym f, sym j′, sym q)
+
+-- the weights stand in an array, and so do the codes, zeros behind them
+pub head-is : (s : Settings) (v : List Float) (cs b : List ℕ) (c : Counts) (n : ℕ) → length v ≡ s .d → b ≡ over (replicate 16 0) cs
+    → headWith s (v ++ drop (s .d) (replicate 16 zero32)) b c ≡ headOf (headRead (withLists s v cs) c n)
+head-is s v cs b c n e g = λ i. headWith s (over-part (replicate 16 zero32) v (s .d) e i) (g i) c
 
 -- ---- what settings that are read keep to
 

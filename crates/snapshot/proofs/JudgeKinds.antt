@@ -11,17 +11,18 @@ use lib.Ieee.{Float, Format, binary32, binary64, fits}
 use borrow.Author.Tests.{eqb-true, eq-eqb, leb-true, le-leb}
 use Rattle.common.specs.Deviation.{countLimit}
 use Rattle.trcf.specs.Types.{isNone, normalizes}
-use Rattle.trcf.specs.Settings.{Settings, All, Fits, Whole, dimension, waiting, wholeMax, allOne}
+use Rattle.trcf.specs.Settings.{Settings, All, Fits, Whole, dimension, waiting, wholeMax, codeMax, allOne}
 use Rattle.trcf.specs.Calls.{finite, seenLimit}
 use Rattle.trcf.specs.Preprocessor.{Reading, reading}
-use Rattle.snapshot.specs.Text.{behind, whole, float, singles, cntLine, devLine, timLine, bufLine}
-use Rattle.snapshot.specs.Read.{bytesOfLine, every, asWhole, asFloat, climbs, zeros, Kind, singlesKind, wgtKind, inpKind, pntKind, cntKind, Counts, devKind, Three, timKind, bufKind}
+use mathlib.Core.Logic.{_⊎_, inl, inr}
+use Rattle.snapshot.specs.Text.{behind, whole, float, singles, chnLine, cntLine, devLine, timLine, bufLine}
+use Rattle.snapshot.specs.Read.{bytesOfLine, every, asWhole, asFloat, climbs, zeros, allCodes, same, Kind, chnKind, eitherKind, singlesKind, wgtKind, inpKind, pntKind, cntKind, Counts, devKind, Three, timKind, bufKind}
 use Rattle.snapshot.specs.Write.{tabbed}
-use Rattle.snapshot.specs.Judge.{onto, held, byte, name, one, fields, closing, listLine, checked, wgtTest, wgtBy, countsOf, counted, cntTest, cntBy, timTest, timBy, timed, bufTest, bufRaw, bufBy, threeOf, threed, devBy}
+use Rattle.snapshot.specs.Judge.{onto, held, byte, name, one, fields, closing, listLine, checked, wgtTest, wgtBy, chnBy, eitherOf, countsOf, counted, cntTest, cntBy, timTest, timBy, timed, bufTest, bufRaw, bufBy, threeOf, threed, devBy}
 use Rattle.snapshot.proofs.Lists.{and-left, and-right, if-of, to-if}
 use Rattle.snapshot.proofs.Fields.{Clean}
 use Rattle.snapshot.proofs.ReadLine.{Hold, every-hold, hold-every, Writes}
-use Rattle.snapshot.proofs.ReadKinds.{fit-of, fits-of, whole-of, climbs-of, zeros-of, singles-write, cnt-writes, dev-writes, tim-writes, buf-writes}
+use Rattle.snapshot.proofs.ReadKinds.{fit-of, fits-of, whole-of, climbs-of, zeros-of, codes-of, chn-writes, either-left, either-right, singles-write, cnt-writes, dev-writes, tim-writes, buf-writes}
 use Rattle.snapshot.proofs.LineBytes.{buf-bytes}
 use Rattle.snapshot.proofs.JudgeLines.{Reads, Codec, float-codec, whole-codec, line-is, line-back, byte-is, byte-back, name-is, name-back, onto-some, one-is, one-back, tabbed-stop, fields-are, fields-back}
 
@@ -92,6 +93,49 @@ tim-reads s c = record {
       let e = line-back asWhole whole (λ n. n ≤ wholeMax) whole-codec 116 105 109 ts z (whole-of ts (h .1 .0)) in
       (ts, rw (← m, e, h .1 .1 .0, h .1 .1 .1 .0));
 }
+
+-- ---- the codes
+
+codes-whole : (l : List ℕ) → All (λ c. c ≤ codeMax) l → Whole l
+codes-whole [] h = tt
+codes-whole (c ∷ cs) h = (omega (arith, h .0), codes-whole cs (h .1))
+
+pub chn-reads : (s : Settings) → Reads (chnKind s) (chnBy (s .d))
+unfolding chnBy chnLine
+chn-reads s = record {
+  good = λ l r e.
+      let k = checked-some allCodes (listLine asWhole 99 104 110 (s .d) l) r e in
+      let h = line-is asWhole whole (λ n. n ≤ wholeMax) whole-codec 99 104 110 (s .d) l r (k .0) in
+      (h .0, chn-writes s (r .0) (h .1) (codes-of (r .0) (k .1)));
+  back = λ cs z h.
+      let m : length cs ≡ s .d = eqb-true _ _ (h .0) in
+      let e = line-back asWhole whole (λ n. n ≤ wholeMax) whole-codec 99 104 110 cs z (codes-whole cs (codes-of cs (h .1 .0))) in
+      (cs, rw (← m, e, h .1 .0));
+}
+
+-- ---- one kind or the other: the lines of the second are none of the first
+
+module _ {A C : Type 0} (n : List ℕ) (p : Kind A) (q : Kind C) (P : List ℕ → Option (A × List ℕ)) (Q : List ℕ → Option (C × List ℕ)) (np : (a : A) → p .write a .name ≡ n)
+    (nq : (c : C) → same (q .write c .name) n ≡ false) (off : (c : C) (z : List ℕ) → P (bytesOfLine (q .write c) ++ z) ≡ none) where
+  either-good : (l : List ℕ) → Reads p P → Reads q Q → (o : Option (A × List ℕ)) → P l ≡ o → (u : Option (C × List ℕ)) → Q l ≡ u → (r : (A ⊎ C) × List ℕ) → eitherOf o u ≡ some r
+      → (l ≡ bytesOfLine (eitherKind n p q .write (r .0)) ++ r .1) × Writes (eitherKind n p q) (r .0)
+  either-good l R S (some x) e u f r h =
+      let g = R .good l x e in
+      subst (λ (y : (A ⊎ C) × List ℕ). (l ≡ bytesOfLine (eitherKind n p q .write (y .0)) ++ y .1) × Writes (eitherKind n p q) (y .0)) (Option·some-injective (inl (x .0), x .1) r h)
+      (g .0, either-left n p q (x .0) (np (x .0)) (g .1))
+  either-good l R S none e (some x) f r h =
+      let g = S .good l x f in
+      subst (λ (y : (A ⊎ C) × List ℕ). (l ≡ bytesOfLine (eitherKind n p q .write (y .0)) ++ y .1) × Writes (eitherKind n p q) (y .0)) (Option·some-injective (inr (x .0), x .1) r h)
+      (g .0, either-right n p q (x .0) (nq (x .0)) (g .1))
+  either-good l R S none e none f r h = absurd (Option·none-ne-some r h)
+
+  either-back : Reads p P → Reads q Q → (a : A ⊎ C) (z : List ℕ) → Hold (eitherKind n p q .tests a)
+      → (b : A ⊎ C) × (eitherOf (P (bytesOfLine (eitherKind n p q .write a) ++ z)) (Q (bytesOfLine (eitherKind n p q .write a) ++ z)) ≡ some (b, z))
+  either-back R S (inl a) z h = let b = R .back a z h in (inl (b .0), rw (b .1))
+  either-back R S (inr c) z h = let b = S .back c z h in (inr (b .0), rw (off c z, b .1))
+
+  pub either-reads : Reads p P → Reads q Q → Reads (eitherKind n p q) (λ l. eitherOf (P l) (Q l))
+  either-reads R S = record { good = λ l r e. either-good l R S (P l) refl (Q l) refl r e; back = either-back R S }
 
 -- ---- a statistic
 

@@ -19,12 +19,12 @@ use Rattle.trcf.specs.declared.types.TransformMethod.the-variants.{NONE, WEIGHT
 use Rattle.trcf.specs.declared.types.ForestMode.{ForestMode}
 use Rattle.trcf.specs.declared.types.ForestMode.the-variants.{STANDARD, «TIME_AUGMENTED», «STREAMING_IMPUTE»}
 use Rattle.snapshot.specs.Text.{behind, whole, float, setLine}
-use Rattle.snapshot.specs.Read.{bytesOfLine, asWhole, asFloat, setKind, withWeights}
+use Rattle.snapshot.specs.Read.{bytesOfLine, asWhole, asFloat, setKind, withLists}
 use Rattle.snapshot.specs.Write.{tabbed, setBytes}
 use Rattle.snapshot.specs.Judge.{onto, held, byte, name, one, fields, modeIn, methodIn, setTest, tailBy, settingsWith, settled, setBy}
 use Rattle.snapshot.proofs.Lists.{and-left, and-right}
 use Rattle.snapshot.proofs.ReadLine.{Hold, Writes}
-use Rattle.snapshot.proofs.ReadKinds.{fit-of, to-fits, set-writes, valid-of}
+use Rattle.snapshot.proofs.ReadKinds.{fit-of, to-fits, set-writes, valid-of, zero-codes}
 use Rattle.snapshot.proofs.ReadText.{ones-pass, ones-fit}
 use Rattle.snapshot.proofs.LineBytes.{set-bytes}
 use Rattle.snapshot.proofs.JudgeLines.{Reads, float-codec, whole-codec, byte-is, byte-back, name-is, name-back, onto-some, one-is, one-back, fields-are, fields-back}
@@ -126,11 +126,11 @@ set-split s z =
     ∙ ap (λ (l : List ℕ). T ++ (9 ∷ l)) (append-assoc (float binary64 (s .decay)) (9 ∷ (float binary32 (s .weightTime) ++ (10 ∷ []))) z
     ∙ ap (λ (l : List ℕ). float binary64 (s .decay) ++ (9 ∷ l)) (append-assoc (float binary32 (s .weightTime)) (10 ∷ []) z)))
 
-writes-of : (s : Settings) → s .weights ≡ [] → Hold (setKind .tests s) → Writes setKind s
-writes-of s e h =
+writes-of : (s : Settings) → s .weights ≡ [] → s .codes ≡ [] → Hold (setKind .tests s) → Writes setKind s
+writes-of s e f h =
     let v = replicate (s .d) one32 in
-    let g = valid-of s v h (eq-eqb _ _ (length-replicate (s .d) one32), (to-fits binary32 v (ones-fit (s .d)), (ones-pass (isNone (s .method)) (s .d), tt))) in
-    subst (Writes setKind) (ap (withWeights s) (sym e)) (set-writes (withWeights s v) g)
+    let g = valid-of s v (replicate (s .d) 0) h (eq-eqb _ _ (length-replicate (s .d) one32), (to-fits binary32 v (ones-fit (s .d)), (ones-pass (isNone (s .method)) (s .d), tt))) (zero-codes s) in
+    subst (Writes setKind) (λ i. withLists s (sym e i) (sym f i)) (set-writes (withLists s v (replicate (s .d) 0)) g)
 
 last-small : (w : List ℕ) → length w ≡ 5 → All small w → getD w 4 0 ≤ wholeMax
 last-small [] e h = absurd (omega arith)
@@ -195,7 +195,7 @@ set-tested l m t w q r i n a b c j e f = go (setTest (getD w 1 0) (getD w 2 0) (
     go true h =
         subst (Read l) (Option·some-injective (s, q .1) r (rw h at f)) (
           e ∙ ap (λ (x : List ℕ). 115 ∷ 101 ∷ 116 ∷ 9 ∷ modeLetter m ∷ (tabbed (map whole x) ++ ending (q .0 .0) (q .0 .1) (q .1))) ws ∙ sym (set-split s (q .1)),
-          writes-of s refl (holds-of s i h (last-small w n a) b c),
+          writes-of s refl refl (holds-of s i h (last-small w n a) b c),
         )
 
 set-good : (l : List ℕ) (r : Settings × List ℕ) → setBy l ≡ some r → Read l r
@@ -247,14 +247,14 @@ all-small s h =
     let b : s .stop ≤ wholeMax = leb-true _ _ (h .1 .1 .1 .1 .1 .1 .1 .0) in
     (number-small (s .method), (omega (arith, d), (omega (arith, k), (omega (arith, a, b), (b, tt)))))
 
-set-back : (s : Settings) (z : List ℕ) → Hold (setKind .tests s) → setBy (bytesOfLine (setLine s) ++ z) ≡ some (withWeights s [], z)
+set-back : (s : Settings) (z : List ℕ) → Hold (setKind .tests s) → setBy (bytesOfLine (setLine s) ++ z) ≡ some (withLists s [] [], z)
 unfolding setBy
 set-back s z h =
     let v = methodNumber (s .method) ∷ s .d ∷ s .k ∷ s .start ∷ s .stop ∷ [] in
     let y = ending (s .decay) (s .weightTime) z in
     let l = tabbed (map whole v) ++ y in
     let e : tailBy y ≡ some ((s .decay, s .weightTime), z) = tail-back (s .decay) (s .weightTime) z (fit-of binary64 (s .decay) (h .1 .1 .1 .1 .1 .1 .1 .1 .0)) (fit-of binary32 (s .weightTime) (h .1 .1 .1 .1 .1 .1 .1 .1 .1 .0)) in
-    let t : settled (s .mode) (s .method) v (some ((s .decay, s .weightTime), z)) ≡ some (withWeights s [], z) = rw (test-of s h) in
+    let t : settled (s .mode) (s .method) v (some ((s .decay, s .weightTime), z)) ≡ some (withLists s [] [], z) = rw (test-of s h) in
     ap setBy (set-split s z)
     ∙ ap (λ (o : Option ForestMode). onto o (λ m. onto (fields asWhole 5 l) (λ w. onto (methodIn (getD (w .0) 0 0)) (λ t. settled m t (w .0) (tailBy (w .1))))))
     (mode-back (s .mode) l (mode-not (s .mode) (h .0)))
@@ -265,4 +265,4 @@ set-back s z h =
     ∙ t
 
 pub set-reads : Reads setKind setBy
-set-reads = record { good = set-good; back = λ s z h. (withWeights s [], set-back s z h) }
+set-reads = record { good = set-good; back = λ s z h. (withLists s [] [], set-back s z h) }

@@ -1,15 +1,16 @@
 -- One step of the reading for each line of the plan: what the code reads of the line, and the reading behind it.
 use Prim.Native.Nat.{ℕ, suc, _+_, _*_}
-use mathlib.Core.Path.{_≡_}
+use mathlib.Core.Path.{_≡_, refl}
 use mathlib.Core.List.{List, _∷_, _++_}
 use mathlib.Core.Option.{Option, none}
 use lib.Ieee.{Float, binary32}
 use Rattle.trcf.specs.Settings.{Settings, dimension}
 use Rattle.trcf.specs.Preprocessor.{State, Reading}
-use Rattle.snapshot.specs.Read.{lines, asFloat, Counts, Three, setKind, wgtKind, cntKind, devKind, inpKind, pntKind, timKind, bufKind, Plan, bufsPlan, devsPlan, withWeights, afterSet, afterWgt, afterCnt, afterDev, afterInp, afterPnt, afterTim, later, follow, read}
-use Rattle.snapshot.specs.Judge.{listLine, via, setBy, wgtBy, cntBy, devBy, timBy, bufBy}
+use Rattle.snapshot.specs.Text.{chn, chnLine, cntLine}
+use Rattle.snapshot.specs.Read.{lines, asFloat, Counts, Three, setKind, wgtKind, cntKind, devKind, inpKind, pntKind, timKind, bufKind, Plan, bufsPlan, devsPlan, chnKind, thirdKind, bare, afterSet, afterWgt, afterThird, afterChn, afterCnt, afterDev, afterInp, afterPnt, afterTim, later, follow, read}
+use Rattle.snapshot.specs.Judge.{listLine, via, eitherOf, setBy, wgtBy, chnBy, cntBy, devBy, timBy, bufBy}
 use Rattle.snapshot.proofs.JudgeLines.{step}
-use Rattle.snapshot.proofs.JudgeKinds.{wgt-reads, cnt-reads, dev-reads, inp-reads, pnt-reads, tim-reads, buf-reads}
+use Rattle.snapshot.proofs.JudgeKinds.{wgt-reads, chn-reads, either-reads, cnt-reads, dev-reads, inp-reads, pnt-reads, tim-reads, buf-reads}
 use Rattle.snapshot.proofs.JudgeSettings.{set-reads}
 
 pub step-set : (t : List ℕ) → read t ≡ via (setBy t) (λ s z. later (follow (afterSet s) (lines z)))
@@ -17,10 +18,16 @@ unfolding read
 step-set t = step setKind setBy set-reads afterSet t
 
 module _ (s : Settings) (l : List ℕ) where
-  pub step-wgt : follow (afterSet s) (lines l) ≡ via (wgtBy (s .method) (s .d) l) (λ v z. later (follow (afterWgt (withWeights s v)) (lines z)))
-  step-wgt = step (wgtKind s) (wgtBy (s .method) (s .d)) (wgt-reads s) (λ v. afterWgt (withWeights s v)) l
+  pub step-wgt : follow (afterSet s) (lines l) ≡ via (wgtBy (s .method) (s .d) l) (λ v z. later (follow (afterWgt s v) (lines z)))
+  step-wgt = step (wgtKind s) (wgtBy (s .method) (s .d)) (wgt-reads s) (afterWgt s) l
 
-  pub step-cnt : follow (afterWgt s) (lines l) ≡ via (cntBy (s .method) (s .start) l) (λ c z. later (follow (afterCnt s c) (lines z)))
+  pub step-third : (v : List Float) → follow (afterWgt s v) (lines l) ≡ via (eitherOf (chnBy (s .d) l) (cntBy (s .method) (s .start) l)) (λ o z. later (follow (afterThird s v o) (lines z)))
+  unfolding chnBy listLine chnLine cntLine
+  step-third v =
+      step (thirdKind s v) (λ x. eitherOf (chnBy (s .d) x) (cntBy (s .method) (s .start) x))
+      (either-reads chn (chnKind s) (cntKind (bare s v)) (chnBy (s .d)) (cntBy (s .method) (s .start)) (λ a. refl) (λ c. refl) (λ c z. refl) (chn-reads s) (cnt-reads (bare s v))) (afterThird s v) l
+
+  pub step-cnt : follow (afterChn s) (lines l) ≡ via (cntBy (s .method) (s .start) l) (λ c z. later (follow (afterCnt s c) (lines z)))
   step-cnt = step (cntKind s) (cntBy (s .method) (s .start)) (cnt-reads s) (afterCnt s) l
 
   module _ (c : Counts) (st : List Float) where

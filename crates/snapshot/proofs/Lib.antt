@@ -1,12 +1,13 @@
 pub mod Lists
 pub mod Accepted
 pub mod Fields
-pub mod Injective
+pub mod Clean
 pub mod ReadLine
 pub mod ReadPlan
 pub mod ReadKinds
 pub mod ReadText
 pub mod ReadBytes
+pub mod Kept
 pub mod ReadExamples
 pub mod ScanLaws
 pub mod HexLaws
@@ -32,4 +33,5 @@ pub mod HeadLaws
 pub mod BodyLaws
 pub mod ReadRuns
 pub mod RestoreLaws
+pub mod CodeLaws
 pub mod RoundTrip

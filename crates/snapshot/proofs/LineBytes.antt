@@ -8,7 +8,7 @@ use mathlib.Core.List.{List, [], _∷_, _++_, map, append-assoc}
 use lib.ListN.{length, take, drop, getD, length-append, length-drop}
 use lib.Seq.{drop-cons, drop-drop}
 use lib.Ieee.{Float, nan, binary32, binary64}
-use Rattle.snapshot.specs.Text.{whole, float, behind, singles, cntLine, devLine, devLines, timLine, bufLine, bufLines}
+use Rattle.snapshot.specs.Text.{whole, float, behind, singles, chnLine, cntLine, devLine, devLines, timLine, bufLine, bufLines}
 use Rattle.snapshot.specs.Read.{bytesOfLine}
 use Rattle.snapshot.specs.Write.{tabbed, setBytes}
 use Rattle.snapshot.proofs.WriteLaws.{float-length, floats-length, behind-tabbed}
@@ -20,6 +20,10 @@ singles-bytes name v = ap (λ (t : List ℕ). name ++ t) (sym (behind-tabbed (ma
 pub tim-bytes : (v : List ℕ) → (116 ∷ 105 ∷ 109 ∷ []) ++ (tabbed (map whole v) ++ (10 ∷ [])) ≡ bytesOfLine (timLine v)
 unfolding timLine
 tim-bytes v = ap (λ (t : List ℕ). 116 ∷ 105 ∷ 109 ∷ t) (sym (behind-tabbed (map whole v)))
+
+pub chn-bytes : (v : List ℕ) → (99 ∷ 104 ∷ 110 ∷ []) ++ (tabbed (map whole v) ++ (10 ∷ [])) ≡ bytesOfLine (chnLine v)
+unfolding chnLine
+chn-bytes v = ap (λ (t : List ℕ). 99 ∷ 104 ∷ 110 ∷ t) (sym (behind-tabbed (map whole v)))
 
 pub buf-bytes : (t : ℕ) (v : List Float)
     → (98 ∷ 117 ∷ 102 ∷ []) ++ ((9 ∷ whole t) ++ (tabbed (map (float binary32) v) ++ (10 ∷ []))) ≡ bytesOfLine (bufLine t v)
@@ -35,6 +39,9 @@ singles-size a b c v =
 
 pub tim-size : (v : List ℕ) → length (bytesOfLine (timLine v)) ≡ 4 + length (tabbed (map whole v))
 tim-size v = ap length (sym (tim-bytes v)) ∙ omega (arith, length-append (tabbed (map whole v)) (10 ∷ []))
+
+pub chn-size : (v : List ℕ) → length (bytesOfLine (chnLine v)) ≡ 4 + length (tabbed (map whole v))
+chn-size v = ap length (sym (chn-bytes v)) ∙ omega (arith, length-append (tabbed (map whole v)) (10 ∷ []))
 
 pub cnt-size : (a b c : ℕ) → length (bytesOfLine (cntLine a b c)) ≡ 7 + length (whole a) + length (whole b) + length (whole c)
 unfolding cntLine

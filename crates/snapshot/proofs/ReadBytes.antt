@@ -11,9 +11,9 @@ use borrow.Author.Tests.{eqb-true, eqb-false, ne-eqb}
 use Rattle.trcf.specs.Settings.{All}
 use Rattle.trcf.specs.Preprocessor.{State}
 use Rattle.snapshot.specs.Form.{Form}
-use Rattle.snapshot.specs.Text.{render}
-use Rattle.snapshot.specs.Read.{push, lines, read, bad, Agrees}
-use Rattle.snapshot.proofs.ReadLine.{join, join-lines}
+use Rattle.snapshot.specs.Text.{TextOf}
+use Rattle.snapshot.specs.Read.{push, lines, join, read, bad, Agrees}
+use Rattle.snapshot.proofs.ReadLine.{join-lines}
 use Rattle.snapshot.proofs.ReadText.{read-first-bad}
 
 join-append : (a b : List (List ℕ)) → join (a ++ b) ≡ join a ++ join b
@@ -21,11 +21,11 @@ join-append [] b = refl
 join-append (x ∷ xs) b = ap (λ (t : List ℕ). x ++ t) (join-append xs b) ∙ sym (append-assoc x (join xs) (join b))
 
 -- before the bad line: some text of the form begins with these bytes
-pub begun : (t : List ℕ) (n : ℕ) → read t ≡ bad n → (m : ℕ) → m < n → (w : State) × Form w × (r : List ℕ) × (render w ≡ join (take m (lines t)) ++ r)
+pub begun : (t : List ℕ) (n : ℕ) → read t ≡ bad n → (m : ℕ) → m < n → (w : State) × (u : List ℕ) × Form w × TextOf w u × (r : List ℕ) × (u ≡ join (take m (lines t)) ++ r)
 begun t n e m h =
     let a = read-first-bad t n e .oneBefore m h in
-    let l : List (List ℕ) = lines (render (a .0)) in
-    (a .0, a .1, join (drop m l), sym (join-lines (render (a .0))) ∙ ap join (sym (take-append-drop m l)) ∙ join-append (take m l) (drop m l) ∙ ap (λ (k : List (List ℕ)). join k ++ join (drop m l)) (a .2))
+    let l : List (List ℕ) = lines (a .1) in
+    (a .0, a .1, a .2, a .3, join (drop m l), sym (join-lines (a .1)) ∙ ap join (sym (take-append-drop m l)) ∙ join-append (take m l) (drop m l) ∙ ap (λ (k : List (List ℕ)). join k ++ join (drop m l)) (a .4))
 
 -- how many lines are ended
 abbrev pub ends : List ℕ → ℕ
@@ -60,12 +60,14 @@ all-ended (b ∷ t) (suc n) h = go (eqb b 10) refl (λ k. all-ended t n k) (λ k
     go false e i j = rw e (pushed b (suc n) (lines t) (eqb-false b 10 e) (j (rw e at h)))
 
 -- at the bad line, where it is ended: no text of the form begins with these bytes
-pub not-begun : (t : List ℕ) (n : ℕ) → read t ≡ bad n → n ≤ ends t → (w : State) → Form w → (r : List ℕ) → render w ≡ join (take n (lines t)) ++ r → ⊥
-not-begun t n e h w f r q =
+pub not-begun : (t : List ℕ) (n : ℕ) → read t ≡ bad n → n ≤ ends t → (w : State) (u : List ℕ) → Form w → TextOf w u → (r : List ℕ) → u ≡ join (take n (lines t)) ++ r → ⊥
+not-begun t n e h w u f x r q =
     let k = all-ended t n h in
     read-first-bad t n e .noneHere (
       w,
+      u,
       f,
+      x,
       ap (λ (u : List ℕ). take n (lines u)) q ∙ ap (take n) (ended-lines (take n (lines t)) (k .0) r)
           ∙ take-append-le n (take n (lines t)) (lines r) (simp length-take (omega (arith, k .1))) ∙ take-take n n (lines t) (omega arith),
     )

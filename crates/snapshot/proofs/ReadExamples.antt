@@ -8,8 +8,8 @@ use Rattle.common.specs.Deviation.{outsideUnit}
 use Rattle.trcf.specs.Settings.{block, dimension, waiting, allOne}
 use Rattle.trcf.specs.Calls.{finite}
 use Rattle.trcf.specs.Preprocessor.{State, fresh}
-use Rattle.snapshot.specs.Text.{render, linesOf, setLine, singles, cntLine, devLine, timLine, bufLine, whole, float}
-use Rattle.snapshot.specs.Read.{Read, taken, bad, read, judge, floatFrom, mayStand, asWhole}
+use Rattle.snapshot.specs.Text.{render, linesBy, bodyLines, setLine, singles, chnLine, cntLine, devLine, timLine, bufLine, whole, float}
+use Rattle.snapshot.specs.Read.{carries, kept, Read, taken, bad, read, judge, floatFrom, mayStand, asWhole}
 use lib.ListN.{replicate}
 use Rattle.common.specs.Lent.{over}
 use Rattle.trcf.specs.View.{Lent, lent, lentShort, laid, noHead}
@@ -19,7 +19,7 @@ use Rattle.snapshot.proofs.ReadText.{sample}
 
 -- to unfold this is to unfold whatever its line names
 read·all : Unit {0}
-unfolding read judge floatFrom mayStand block dimension waiting finite outsideUnit allOne setLine singles cntLine devLine timLine bufLine whole float toBits size ofBits ofFields odd fits le lt eq fresh render linesOf
+unfolding read judge floatFrom mayStand block dimension waiting finite outsideUnit allOne setLine singles cntLine devLine timLine bufLine whole float toBits size ofBits ofFields odd fits le lt eq fresh render linesBy bodyLines chnLine
 read·all = tt
 
 -- ---- lines
@@ -204,18 +204,36 @@ nine l = l ++ (l ++ (l ++ (l ++ (l ++ (l ++ (l ++ (l ++ l)))))))
 abbrev ends : List ℕ
 ends = inpL ++ (pntL ++ timL)
 
+abbrev chnL : List ℕ
+chnL = bytes "chn\t0\n"
+
 abbrev text : List ℕ → List ℕ → List ℕ → List ℕ → List ℕ → List ℕ
 text s w c e r = s ++ (w ++ (c ++ (ten devL ++ (e ++ r))))
 
 -- ---- taken up
 
-sample-is : render (fresh sample) ≡ text setL wgtL cntL ends []
+sample-is : render (fresh sample) ≡ text setL wgtL (chnL ++ cntL) ends []
 unfolding read·all
 sample-is = refl
 
 sample-read : read (text setL wgtL cntL ends []) ≡ taken (fresh sample)
 unfolding read·all
 sample-read = refl
+
+-- with the codes' line, and what is put away of the text without it
+coded-read : read (text setL wgtL (chnL ++ cntL) ends []) ≡ taken (fresh sample)
+unfolding read·all
+coded-read = refl
+
+bare-kept : kept 1 (text setL wgtL cntL ends []) ≡ text setL wgtL (chnL ++ cntL) ends []
+unfolding read·all kept carries
+bare-kept = refl
+
+-- one code too many, and one past 16 bits: line 3; codes twice: line 4
+codes-bad : (read (text setL wgtL (bytes "chn\t0\t0\n" ++ cntL) ends []) ≡ bad 3) × (read (text setL wgtL (bytes "chn\t65536\n" ++ cntL) ends []) ≡ bad 3)
+    × (read (text setL wgtL (chnL ++ (chnL ++ cntL)) ends []) ≡ bad 4)
+unfolding read·all
+codes-bad = (refl, refl, refl)
 
 abbrev timesOf : Read → List ℕ
 timesOf (taken w) = w .initialTimestamps
@@ -483,20 +501,25 @@ waitingText = set4L ++ (wgtL ++ (cnt1L ++ (ten devL ++ (inpL ++ (pntL ++ (timL +
 abbrev memory : List ℕ → Lent
 memory initial = lent (replicate 31 nan) (nan ∷ nan ∷ []) (nan ∷ []) (7 ∷ 8 ∷ []) (nan ∷ nan ∷ nan ∷ []) initial
 
-pub restored-waiting : (restoreOf waitingText (memory (4 ∷ 6 ∷ [])) .row ≡ 0)
-    × (restoreOf waitingText (memory (4 ∷ 6 ∷ [])) .head .«initial_len» ≡ 1)
-    × (restoreOf waitingText (memory (4 ∷ 6 ∷ [])) .lent .initialTimestamps ≡ 5 ∷ 6 ∷ [])
-    × (restoreOf waitingText (memory (4 ∷ 6 ∷ [])) .lent .previousTimestamps ≡ 0 ∷ 8 ∷ [])
+pub restored-waiting : (restoreOf waitingText (0 ∷ []) (memory (4 ∷ 6 ∷ [])) .row ≡ 0)
+    × (restoreOf waitingText (0 ∷ []) (memory (4 ∷ 6 ∷ [])) .head .«initial_len» ≡ 1)
+    × (restoreOf waitingText (0 ∷ []) (memory (4 ∷ 6 ∷ [])) .lent .initialTimestamps ≡ 5 ∷ 6 ∷ [])
+    × (restoreOf waitingText (0 ∷ []) (memory (4 ∷ 6 ∷ [])) .lent .previousTimestamps ≡ 0 ∷ 8 ∷ [])
 unfolding read·all restoreOf restored lentShort laid over
 restored-waiting = (refl, refl, refl, refl)
 
 -- row 20: start initial times do not fit
-pub restored-short : restoreOf waitingText (memory (4 ∷ [])) ≡ outcome 20 0 noHead (memory (4 ∷ []))
+pub restored-short : restoreOf waitingText (0 ∷ []) (memory (4 ∷ [])) ≡ outcome 20 0 noHead (memory (4 ∷ []))
 unfolding read·all restoreOf restored lentShort
 restored-short = refl
 
 -- row 19: the `buf` line is missing, the line after the last; and a bad third line
-pub restored-bad : (restoreOf (set4L ++ (wgtL ++ (cnt1L ++ (ten devL ++ (inpL ++ (pntL ++ timL)))))) (memory []) ≡ outcome 19 17 noHead (memory []))
-    × (restoreOf (set4L ++ (wgtL ++ inpL)) (memory []) ≡ outcome 19 3 noHead (memory []))
+pub restored-bad : (restoreOf (set4L ++ (wgtL ++ (cnt1L ++ (ten devL ++ (inpL ++ (pntL ++ timL)))))) (0 ∷ []) (memory []) ≡ outcome 19 17 noHead (memory []))
+    × (restoreOf (set4L ++ (wgtL ++ inpL)) (0 ∷ []) (memory []) ≡ outcome 19 3 noHead (memory []))
 unfolding read·all restoreOf restored
 restored-bad = (refl, refl)
+
+-- row 27, before 20: another code, and codes in another number
+pub restored-other : (restoreOf waitingText (1 ∷ []) (memory (4 ∷ [])) ≡ outcome 27 0 noHead (memory (4 ∷ []))) × (restoreOf waitingText [] (memory (4 ∷ [])) ≡ outcome 27 0 noHead (memory (4 ∷ [])))
+unfolding read·all restoreOf restored
+restored-other = (refl, refl)

@@ -4,6 +4,7 @@ use native.Mathlib.Omega.{arith}
 use mathlib.Core.Path.{_≡_, refl, sym, ap, _∙_, subst}
 use mathlib.Core.Bool.{Bool, true, false, not, _&&_, _||_, cond, false≢true}
 use mathlib.Core.List.{List, [], _∷_, _++_, map}
+use mathlib.Core.Logic.{_⊎_, inl, inr}
 use lib.ListN.{length, replicate, length-replicate}
 use lib.Dec.{T, leb, ltb, eqb}
 use lib.Ieee.{Float, Format, binary32, binary64, fits, fin, eq}
@@ -12,16 +13,16 @@ use lib.IntN.{pos}
 use borrow.Author.Tests.{ltb-true, leb-true, eqb-true, eqb-false, lt-ltb, le-leb, eq-eqb, ne-eqb, not-true, not-false}
 use Rattle.common.specs.Deviation.{countLimit, outsideUnit}
 use Rattle.trcf.specs.Types.{isNone, methodNumber, modeLetter}
-use Rattle.trcf.specs.Settings.{Settings, Valid, Fits, Whole, settingsTable, waiting, wholeMax, imputes, allOne}
+use Rattle.trcf.specs.Settings.{Settings, Valid, Fits, Whole, settingsTable, waiting, wholeMax, codeMax, All, imputes, allOne}
 use Rattle.trcf.specs.Calls.{finite, seenLimit}
 use Rattle.trcf.specs.Preprocessor.{Reading}
 use Rattle.snapshot.specs.Form.{Climbs}
-use Rattle.snapshot.specs.Text.{whole, float, setLine, singles, cntLine, devLine, timLine, bufLine}
-use Rattle.snapshot.specs.Read.{wholeFrom, floatFrom, methodFrom, every, allFit, allWhole, climbs, zeros, Kind, setKind, singlesKind, wgtKind, cntKind, Counts, devKind, Three, timKind, bufKind, withWeights}
-use Rattle.snapshot.proofs.Lists.{and-left, and-right, if-of, to-if}
+use Rattle.snapshot.specs.Text.{whole, float, setLine, singles, chnLine, cntLine, devLine, timLine, bufLine}
+use Rattle.snapshot.specs.Read.{wholeFrom, floatFrom, methodFrom, every, allFit, allWhole, climbs, zeros, Kind, setKind, singlesKind, wgtKind, cntKind, Counts, devKind, Three, timKind, bufKind, allCodes, same, chnKind, eitherKind, withLists}
+use Rattle.snapshot.proofs.Lists.{and-left, and-right, if-of, to-if, all-replicate}
 use Rattle.snapshot.proofs.Accepted.{rows-of, row-none}
 use Rattle.snapshot.proofs.Fields.{whole-from, float-from, mode-is, method-is, Clean, whole-clean, float-clean, floats-clean, wholes-clean, letter-clean}
-use Rattle.snapshot.proofs.ReadLine.{Hold, Writes}
+use Rattle.snapshot.proofs.ReadLine.{same-refl, Hold, Writes}
 
 -- ---- tests and what they say
 
@@ -47,6 +48,14 @@ whole-of (t ∷ ts) e = (leb-true _ _ (and-left _ _ e), whole-of ts (and-right (
 pub to-whole : (l : List ℕ) → Whole l → allWhole l ≡ true
 to-whole [] h = refl
 to-whole (t ∷ ts) h = rw (le-leb t wholeMax (h .0)) (to-whole ts (h .1))
+
+pub codes-of : (l : List ℕ) → allCodes l ≡ true → All (λ c. c ≤ codeMax) l
+codes-of [] e = tt
+codes-of (c ∷ cs) e = (leb-true _ _ (and-left _ _ e), codes-of cs (and-right (leb c codeMax) _ e))
+
+pub to-codes : (l : List ℕ) → All (λ c. c ≤ codeMax) l → allCodes l ≡ true
+to-codes [] h = refl
+to-codes (c ∷ cs) h = rw (le-leb c codeMax (h .0)) (to-codes cs (h .1))
 
 pub climbs-of : (p : ℕ) (l : List ℕ) → climbs p l ≡ true → Climbs p l
 climbs-of p [] e = tt
@@ -83,7 +92,7 @@ not-of false h = refl
 to-not : (b : Bool) → b ≡ false → not b ≡ true
 to-not b h = rw h refl
 
-pub set-writes : (s : Settings) → Valid s → Writes setKind (withWeights s [])
+pub set-writes : (s : Settings) → Valid s → Writes setKind (withLists s [] [])
 unfolding setLine
 set-writes s h =
     let r = rows-of s (h .accepted) in
@@ -106,6 +115,7 @@ set-writes s h =
             decay = float-from binary64 (s .decay) (h .machine .decayFits) i;
             weightTime = float-from binary32 (s .weightTime) (h .machine .weightTimeFits) i;
             weights = [];
+            codes = [];
           };
       holds = (
         to-not _ (r .0),
@@ -136,13 +146,16 @@ pub wgt-tests : (s : Settings) → Valid s → Hold (not (isNone (s .method) && 
 wgt-tests s h = (to-not _ (rows-of s (h .accepted) .1 .1 .1 .1 .1 .1 .1 .1 .0), tt)
 
 pub wgt-long : (s : Settings) → Valid s → length (s .weights) ≡ s .d
-wgt-long s h = eqb-true _ _ (not-false _ (rows-of s (h .accepted) .1 .1 .1 .1 .0))
+wgt-long s h = eqb-true _ _ (and-left _ _ (not-false _ (rows-of s (h .accepted) .1 .1 .1 .1 .0)))
 
--- lines 1 and 2 make settings that no row refuses
-pub valid-of : (s : Settings) (v : List Float) → Hold (setKind .tests s) → Hold (wgtKind s .tests v) → Valid (withWeights s v)
-valid-of s v h g =
+pub chn-long : (s : Settings) → Valid s → length (s .codes) ≡ s .d
+chn-long s h = eqb-true _ _ (and-right (eqb (length (s .weights)) (s .d)) _ (not-false _ (rows-of s (h .accepted) .1 .1 .1 .1 .0)))
+
+-- lines 1 to 3 make settings that no row refuses
+pub valid-of : (s : Settings) (v : List Float) (cs : List ℕ) → Hold (setKind .tests s) → Hold (wgtKind s .tests v) → Hold (chnKind s .tests cs) → Valid (withLists s v cs)
+valid-of s v cs h g q =
     record {
-      accepted = row-none (withWeights s v) (
+      accepted = row-none (withLists s v cs) (
         not-of _ (h .0),
         (
           not-of _ (h .1 .0),
@@ -151,7 +164,7 @@ valid-of s v h g =
             (
               not-of _ (h .1 .1 .1 .0),
               (
-                rw (g .0) refl,
+                rw (g .0, q .0) refl,
                 (
                   not-of _ (h .1 .1 .1 .1 .0),
                   (not-of _ (h .1 .1 .1 .1 .1 .0), (not-of _ (h .1 .1 .1 .1 .1 .1 .0), (not-of _ (g .1 .1 .0), tt))),
@@ -166,12 +179,28 @@ valid-of s v h g =
         decayFits = fit-of _ _ (h .1 .1 .1 .1 .1 .1 .1 .1 .0);
         weightTimeFits = fit-of _ _ (h .1 .1 .1 .1 .1 .1 .1 .1 .1 .0);
         weightsFit = fits-of binary32 v (g .1 .0);
+        codesFit = codes-of cs (q .1 .0);
       };
     }
 
 pub singles-write : (name : List ℕ) (n : ℕ) (more : List Float → List Bool) (v : List Float) → Clean name → length v ≡ n → Fits binary32 v → Hold (more v) → Writes (singlesKind name n more) v
 unfolding singles
 singles-write name n more v c l f h = record { clean = (c, floats-clean binary32 v); back = reals v f; holds = (eq-eqb _ _ l, (to-fits binary32 v f, h)) }
+
+pub chn-writes : (s : Settings) (cs : List ℕ) → length cs ≡ s .d → All (λ c. c ≤ codeMax) cs → Writes (chnKind s) cs
+unfolding chnLine
+chn-writes s cs l m = record { clean = (omega arith, wholes-clean cs); back = vals cs; holds = (eq-eqb _ _ l, (to-codes cs m, tt)) }
+
+-- a text that lacks the line: as many zeros as there are channels
+pub zero-codes : (s : Settings) → Hold (chnKind s .tests (replicate (s .d) 0))
+zero-codes s = (eq-eqb _ _ (length-replicate (s .d) 0), (to-codes (replicate (s .d) 0) (all-replicate {A = ℕ} _ (s .d) 0 (omega arith)), tt))
+
+module _ {A B : Type 0} (n : List ℕ) (p : Kind A) (q : Kind B) where
+  pub either-left : (a : A) → p .write a .name ≡ n → Writes p a → Writes (eitherKind n p q) (inl a)
+  either-left a e h = record { clean = h .clean; back = rw (e, same-refl n, sym e) (ap inl (h .back)); holds = h .holds }
+
+  pub either-right : (b : B) → same (q .write b .name) n ≡ false → Writes q b → Writes (eitherKind n p q) (inr b)
+  either-right b e h = record { clean = h .clean; back = rw e (ap inr (h .back)); holds = h .holds }
 
 pub cnt-writes : (s : Settings) (c : Counts) → c .valuesSeen ≤ seenLimit → c .internalTimestamp ≤ seenLimit → c .count ≤ countLimit → (waiting s (c .valuesSeen) ≡ true → c .internalTimestamp ≡ 0) → Writes (cntKind s) c
 unfolding cntLine

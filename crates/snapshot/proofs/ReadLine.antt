@@ -9,7 +9,7 @@ use lib.Dec.{leb, ltb, eqb}
 use borrow.Author.Tests.{eqb-true, eq-eqb, ne-eqb, le-leb, lt-leb}
 use Rattle.trcf.specs.Settings.{All}
 use Rattle.snapshot.specs.Text.{Line, named, behind, bytesOf}
-use Rattle.snapshot.specs.Read.{push, lines, bytesOfLine, cells, every, same, Kind, judge}
+use Rattle.snapshot.specs.Read.{push, lines, join, bytesOfLine, cells, every, same, Kind, judge}
 use Rattle.snapshot.proofs.Fields.{Clean, CleanLine}
 use Rattle.snapshot.proofs.Lists.{and-left, and-right}
 
@@ -38,10 +38,6 @@ hold-every [] h = refl
 hold-every (b ∷ bs) h = rw (h .0) (hold-every bs (h .1))
 
 -- ---- the bytes of lines
-
-abbrev pub join : List (List ℕ) → List ℕ
-join [] = []
-join (l ∷ ls) = l ++ join ls
 
 join-push : (b : ℕ) (ls : List (List ℕ)) → join (push b ls) ≡ b ∷ join ls
 join-push b [] = refl
@@ -76,7 +72,7 @@ cells-tail : (fs : List (List ℕ)) → All Clean fs → cells (behind fs) ≡ [
 cells-tail [] c = refl
 cells-tail (f ∷ fs) c = rw (cells-clean f (behind fs) fs (c .0) (cells-tail fs (c .1)))
 
-cells-render : (l : Line) → CleanLine l → cells (bytesOfLine l) ≡ l .name ∷ l .fields
+pub cells-render : (l : Line) → CleanLine l → cells (bytesOfLine l) ≡ l .name ∷ l .fields
 cells-render l c = cells-clean (l .name) (behind (l .fields)) (l .fields) (c .0) (cells-tail (l .fields) (c .1))
 
 pub line-front : (l : Line) (x : List ℕ) → CleanLine l → lines (bytesOfLine l ++ x) ≡ bytesOfLine l ∷ lines x

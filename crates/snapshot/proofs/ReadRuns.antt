@@ -5,6 +5,7 @@ use mathlib.Core.Path.{_≡_, refl, sym, ap, _∙_}
 use mathlib.Core.Bool.{Bool, true, false, not, _&&_, cond}
 use mathlib.Core.List.{List, [], _∷_, _++_}
 use mathlib.Core.Option.{Option, none, some}
+use mathlib.Core.Logic.{_⊎_, inl, inr}
 use lib.ListN.{length}
 use lib.Dec.{T, eqb}
 use lib.Ieee.{Float, binary32, binary64, fits}
@@ -12,11 +13,11 @@ use Rattle.trcf.specs.Lists.{null}
 use Rattle.trcf.specs.Settings.{Settings, dimension, waiting}
 use Rattle.trcf.specs.Preprocessor.{State, Reading}
 use Rattle.snapshot.specs.Text.{float}
-use Rattle.snapshot.specs.Read.{lines, push, asFloat, Counts, Plan, end, line, bufsPlan, bufPlan, devsPlan, mayStand, stateOf, withWeights, afterSet, afterWgt, afterCnt, afterDev, afterInp, afterPnt, afterTim, Read, taken, bad, later, ended, follow, read}
-use Rattle.snapshot.specs.Judge.{listLine, via, setBy, wgtBy, cntBy, timBy, bufBy, threed, threeOf, devBy}
-use Rattle.snapshot.specs.Runs.{Ran, ran, broke, oneLine, behindLines, after, front, many, devLine, unread, flat, mapRan, devs, timeOf, valuesOf, timesOf, Initial, initialOf, bufs, Parts, parts, partsBy, partsOf, Head, headRead, headBy, expected, ending, Body, body, bodyBy, stateFrom, readBy, asRead}
+use Rattle.snapshot.specs.Read.{lines, push, asFloat, Counts, Plan, end, line, bufsPlan, bufPlan, devsPlan, mayStand, stateOf, withLists, bare, afterSet, afterWgt, afterThird, afterChn, afterCnt, afterDev, afterInp, afterPnt, afterTim, Read, taken, bad, later, ended, follow, read}
+use Rattle.snapshot.specs.Judge.{listLine, via, Codes, eitherOf, chnOr, chnBy, setBy, wgtBy, cntBy, timBy, bufBy, threed, threeOf, devBy}
+use Rattle.snapshot.specs.Runs.{Ran, ran, broke, oneLine, behindLines, after, front, many, devLine, unread, flat, mapRan, devs, timeOf, valuesOf, timesOf, Initial, initialOf, bufs, Parts, parts, partsBy, partsOf, Head, headRead, thirdBy, headBy, expected, ending, Body, body, bodyBy, stateFrom, readBy, asRead}
 use Rattle.snapshot.proofs.JudgeLines.{float-codec, line-is}
-use Rattle.snapshot.proofs.JudgeSteps.{step-set, step-wgt, step-cnt, step-inp, step-pnt, step-tim, step-dev, step-buf}
+use Rattle.snapshot.proofs.JudgeSteps.{step-set, step-wgt, step-third, step-cnt, step-inp, step-pnt, step-tim, step-dev, step-buf}
 
 -- ---- n lines further on
 
@@ -107,7 +108,7 @@ module _ {A : Type 0} where
   map-ending f a (x ∷ l) = refl
 
 Next : Head → List ℕ → Read
-Next h z = follow (afterCnt (h .settings) (h .counts)) (lines z)
+Next h z = skips (h .extra) (follow (afterCnt (h .settings) (h .counts)) (lines z))
 
 -- ---- the `dev` lines
 
@@ -249,16 +250,49 @@ module _ (s : Settings) (c : Counts) where
       ∙ goOn-read (5 * s .d + 8) (partsOf s c l) (λ p l₁. after (expected s c l₁) (bufs (s .d) (expected s c l₁) l₁) (λ i l₂. ending (stateFrom s c (body p i)) l₂))
       ∙ ap asRead (sym (map-after (5 * s .d + 8) (partsOf s c l) (stateFrom s c) _ _ (λ p l₁. map-after (expected s c l₁) (bufs (s .d) (expected s c l₁) l₁) (stateFrom s c) _ _ (λ i l₂. map-ending (stateFrom s c) (body p i) l₂))))
 
+-- ---- line 3 and what it leads to
+
+module _ (s : Settings) (v : List Float) where
+  Then : List ℕ ⊎ Counts → List ℕ → Read
+  Then o z = later (follow (afterThird s v o) (lines z))
+
+  -- the counters behind the codes
+  cnt-follow : (cs : List ℕ) (o : Option (Counts × List ℕ)) → later (via o (λ c z. later (follow (afterCnt (withLists s v cs) c) (lines z))))
+      ≡ goOn 1 (behindLines 1 (after 1 (oneLine o) (λ c z. ran (headRead (withLists s v cs) c 1) z))) Next
+  unfolding goOn skips Next
+  cnt-follow cs none = refl
+  cnt-follow cs (some r) = refl
+
+  -- the counters of a text that lacks them
+  bare-follow : (o : Option (Counts × List ℕ)) → via (eitherOf none o) Then ≡ goOn 1 (behindLines 0 (after 1 (oneLine o) (λ c z. ran (headRead (bare s v) c 0) z))) Next
+  unfolding goOn skips Next Then
+  bare-follow none = refl
+  bare-follow (some r) = refl
+
+  third-follow : (l : List ℕ) → follow (afterWgt s v) (lines l) ≡ goOn 1 (thirdBy s v (chnOr (s .d) (chnBy (s .d) l) l)) Next
+  unfolding Then
+  third-follow l = step-third s l v ∙ go (chnBy (s .d) l)
+    where
+      go : (o : Option (List ℕ × List ℕ)) → via (eitherOf o (cntBy (s .method) (s .start) l)) Then ≡ goOn 1 (thirdBy s v (chnOr (s .d) o l)) Next
+      go (some r) = ap later (step-cnt (withLists s v (r .0)) (r .1)) ∙ cnt-follow (r .0) (cntBy (s .method) (s .start) (r .1))
+      go none = bare-follow (cntBy (s .method) (s .start) l)
+
 -- ---- the whole text
 
+next-read : (h : Head) (z : List ℕ) → Next h z ≡ asRead (behindLines (h .extra) (mapRan (stateFrom (h .settings) (h .counts)) (bodyBy (h .settings) (h .counts) z)))
+unfolding Next goOn
+next-read h z =
+    let one : Ran (Unit {0}) = ran tt [] in
+    ap (skips (h .extra)) (body-follow (h .settings) (h .counts) z)
+    ∙ goOn-read (h .extra) one (λ _ _. mapRan (stateFrom (h .settings) (h .counts)) (bodyBy (h .settings) (h .counts) z))
+
 pub read-runs : (t : List ℕ) → read t ≡ asRead (readBy t)
-unfolding readBy headBy Next
+unfolding readBy headBy
 read-runs t =
     step-set t ∙ one-line (setBy t) (λ s z. follow (afterSet s) (lines z))
-    ∙ goOn-same 1 (oneLine (setBy t)) _ _ (λ s l₁. step-wgt s l₁ ∙ one-line (wgtBy (s .method) (s .d) l₁) (λ v z. follow (afterWgt (withWeights s v)) (lines z))
-    ∙ goOn-same 1 (oneLine (wgtBy (s .method) (s .d) l₁)) _ _ (λ v l₂. step-cnt (withWeights s v) l₂ ∙ one-line (cntBy (s .method) (s .start) l₂) (λ c z. follow (afterCnt (withWeights s v) c) (lines z))
-    ∙ goOn-one (oneLine (cntBy (s .method) (s .start) l₂)) (λ c. headRead (withWeights s v) c) Next)
-    ∙ goOn-after 1 1 (oneLine (wgtBy (s .method) (s .d) l₁)) (λ v l₂. after 1 (oneLine (cntBy (s .method) (s .start) l₂)) (λ c l₃. ran (headRead (withWeights s v) c) l₃)) Next)
-    ∙ goOn-after 1 2 (oneLine (setBy t)) (λ s l₁. after 1 (oneLine (wgtBy (s .method) (s .d) l₁)) (λ v l₂. after 1 (oneLine (cntBy (s .method) (s .start) l₂)) (λ c l₃. ran (headRead (withWeights s v) c) l₃))) Next
-    ∙ goOn-same 3 (headBy t) Next _ (λ h z. body-follow (h .settings) (h .counts) z)
-    ∙ goOn-read 3 (headBy t) (λ h l. mapRan (stateFrom (h .settings) (h .counts)) (bodyBy (h .settings) (h .counts) l))
+    ∙ goOn-same 1 (oneLine (setBy t)) _ _ (λ s l₁. step-wgt s l₁ ∙ one-line (wgtBy (s .method) (s .d) l₁) (λ v z. follow (afterWgt s v) (lines z))
+    ∙ goOn-same 1 (oneLine (wgtBy (s .method) (s .d) l₁)) _ _ (λ v l₂. third-follow s v l₂)
+    ∙ goOn-after 1 1 (oneLine (wgtBy (s .method) (s .d) l₁)) (λ v l₂. thirdBy s v (chnOr (s .d) (chnBy (s .d) l₂) l₂)) Next)
+    ∙ goOn-after 1 2 (oneLine (setBy t)) (λ s l₁. after 1 (oneLine (wgtBy (s .method) (s .d) l₁)) (λ v l₂. thirdBy s v (chnOr (s .d) (chnBy (s .d) l₂) l₂))) Next
+    ∙ goOn-same 3 (headBy t) Next _ next-read
+    ∙ goOn-read 3 (headBy t) (λ h l. behindLines (h .extra) (mapRan (stateFrom (h .settings) (h .counts)) (bodyBy (h .settings) (h .counts) l)))

@@ -21,17 +21,17 @@ use Rattle.trcf.specs.Settings.{Settings, Valid, Fits, Whole, dimension, waitin
 use Rattle.trcf.specs.Calls.{finite}
 use Rattle.trcf.specs.Preprocessor.{State, Reading, statisticsLength}
 use Rattle.snapshot.specs.Form.{Form, Climbs}
-use Rattle.snapshot.specs.Text.{Line, wgt, inp, pnt, setLine, singles, cntLine, devLine, devLines, timLine, bufLine, bufLines, linesOf, bytesOf, render}
-use Rattle.snapshot.specs.Read.{lines, bytesOfLine, Kind, setKind, wgtKind, inpKind, pntKind, singlesKind, cntKind, Counts, devKind, Three, timKind, bufKind, Plan, end, line, bufsPlan, mayStand, bufPlan, devsPlan, stateOf, withWeights, afterTim, afterPnt, afterInp, afterDev, afterCnt, afterWgt, afterSet, plan, Read, taken, bad, follow, read, FirstBad}
+use Rattle.snapshot.specs.Text.{Line, wgt, inp, pnt, chn, setLine, singles, chnLine, cntLine, devLine, devLines, timLine, bufLine, bufLines, bodyLines, linesBy, bytesOf, render, TextOf}
+use Rattle.snapshot.specs.Read.{lines, join, bytesOfLine, Kind, setKind, wgtKind, inpKind, pntKind, singlesKind, cntKind, Counts, devKind, Three, timKind, bufKind, Plan, end, line, bufsPlan, mayStand, bufPlan, devsPlan, stateOf, withLists, bare, chnKind, eitherKind, thirdKind, afterThird, afterTim, afterPnt, afterInp, afterDev, afterCnt, afterWgt, afterSet, plan, Read, taken, bad, follow, read, FirstBad}
 use Rattle.snapshot.proofs.Lists.{and-left, and-right, clash, if-of, to-if, nil, all-append, all-take, all-drop, all-replicate, finite-append, finite-split}
 use Rattle.snapshot.proofs.Accepted.{row-none}
 use Rattle.snapshot.proofs.Fields.{Clean}
-use Rattle.snapshot.proofs.Injective.{lines-clean}
-use Rattle.snapshot.proofs.ReadLine.{Hold, Writes, join, join-lines, bytes-join, lines-bytes}
+use Rattle.snapshot.proofs.Clean.{lines-clean}
+use Rattle.snapshot.proofs.ReadLine.{Hold, Writes, join-lines, bytes-join, lines-bytes}
 use Rattle.snapshot.proofs.ReadPlan.{Took, took, took-cons, give, taken-inj, not-both, same-bad, Live, good-before}
-use Rattle.snapshot.proofs.ReadKinds.{fit-of, fits-of, whole-of, climbs-of, zeros-of, set-writes, wgt-tests, wgt-long, valid-of, singles-write, cnt-writes, dev-writes, tim-writes, buf-writes}
+use Rattle.snapshot.proofs.ReadKinds.{fit-of, fits-of, whole-of, climbs-of, zeros-of, set-writes, wgt-tests, wgt-long, valid-of, zero-codes, chn-long, chn-writes, either-left, either-right, singles-write, cnt-writes, dev-writes, tim-writes, buf-writes}
 
-abbrev shown : List Line → List (List ℕ)
+abbrev pub shown : List Line → List (List ℕ)
 shown ls = map bytesOfLine ls
 
 shown-append : (a b : List Line) → shown (a ++ b) ≡ shown a ++ shown b
@@ -190,8 +190,13 @@ Ends s c w st = Took (inpKind s) λ x. Took (pntKind s) λ y. Took (timKind s c)
 abbrev Middle : Settings → State → List (List ℕ) → Type 0
 Middle s w = Took (cntKind s) λ c. Devs (5 * s .d + 5) (Ends s c w)
 
+-- from line 3 on: the codes, or the counts of a text that lacks them
+abbrev Third : Settings → List Float → State → List ℕ ⊎ Counts → List (List ℕ) → Type 0
+Third s v w (inl cs) = Middle (withLists s v cs) w
+Third s v w (inr c) = Devs (5 * s .d + 5) (Ends (bare s v) c w)
+
 abbrev Entire : State → List (List ℕ) → Type 0
-Entire w = Took setKind λ s. Took (wgtKind s) λ v. Middle (withWeights s v) w
+Entire w = Took setKind λ s. Took (wgtKind s) λ v. Took (thirdKind s v) (Third s v w)
 
 ends-took : (s : Settings) (c : Counts) (w : State) (st : List Float) (ls : List (List ℕ)) → follow (afterDev s c st) ls ≡ taken w → Ends s c w st ls
 ends-took s c w st =
@@ -200,12 +205,17 @@ ends-took s c w st =
     took (List ℕ) (timKind s c) (afterTim s c st x y) w _ λ ts r.
     tail-took s c (stateOf s c st x y ts) w r (waiting s (c .valuesSeen)) (mayStand s c) refl refl
 
+third-took : (s : Settings) (v : List Float) (w : State) (o : List ℕ ⊎ Counts) (ls : List (List ℕ)) → follow (afterThird s v o) ls ≡ taken w → Third s v w o ls
+third-took s v w (inl cs) =
+    took Counts (cntKind (withLists s v cs)) (afterCnt (withLists s v cs)) w _ λ c.
+    devs-took (5 * s .d + 5) (afterDev (withLists s v cs) c) w _ (ends-took (withLists s v cs) c w)
+third-took s v w (inr c) = devs-took (5 * s .d + 5) (afterDev (bare s v) c) w _ (ends-took (bare s v) c w)
+
 whole-took : (w : State) (ls : List (List ℕ)) → follow plan ls ≡ taken w → Entire w ls
 whole-took w =
     took Settings setKind afterSet w _ λ s.
-    took (List Float) (wgtKind s) (λ v. afterWgt (withWeights s v)) w _ λ v.
-    took Counts (cntKind (withWeights s v)) (afterCnt (withWeights s v)) w _ λ c.
-    devs-took (5 * s .d + 5) (afterDev (withWeights s v) c) w _ (ends-took (withWeights s v) c w)
+    took (List Float) (wgtKind s) (afterWgt s) w _ λ v.
+    took (List ℕ ⊎ Counts) (thirdKind s v) (afterThird s v) w _ (third-took s v w)
 
 -- ---- it is of the form, and it is that text
 
@@ -243,16 +253,46 @@ ends-form s ok c hc st long fit x y ts hx hy ht n v us q m = record {
 then : {x : List ℕ} {r t ls : List (List ℕ)} → r ≡ t → x ∷ t ≡ ls → x ∷ r ≡ ls
 then {x} p q = (λ i. x ∷ p i) ∙ q
 
-whole-form : (w : State) (ls : List (List ℕ)) → Entire w ls → Form w × (shown (linesOf w) ≡ ls)
-unfolding linesOf setLine
-whole-form w ls t = subst (λ (u : State). Form u × (shown (linesOf u) ≡ ls)) (t .more .more .more .more .more .more .more .bufs .it) (
-  ends-form _ (valid-of (t .a) (t .more .a) (t .holds) (t .more .holds)) _ (t .more .more .holds) _ (t .more .more .more .long) (t .more .more .more .fit) _ _ _
-      (t .more .more .more .more .holds) (t .more .more .more .more .more .holds) (t .more .more .more .more .more .more .holds) _ _ _
-      (t .more .more .more .more .more .more .more .bufs .waited) (t .more .more .more .more .more .more .more .counted),
-  then (then (then (shown-append (devLines (t .more .more .more .st)) _ ∙ ap (λ (r : List (List ℕ)). shown (devLines (t .more .more .more .st)) ++ r)
-      (then (then (then (t .more .more .more .more .more .more .more .bufs .is) (t .more .more .more .more .more .more .is)) (t .more .more .more .more .more .is)) (t .more .more .more .more .is))
-      ∙ t .more .more .more .is) (t .more .more .is)) (t .more .is)) (t .is),
+-- from `dev` on
+body-form : (s : Settings) → Valid s → (c : Counts) → Hold (cntKind s .tests c) → (w : State) (ls : List (List ℕ)) → Devs (5 * s .d + 5) (Ends s c w) ls
+    → Form w × (w .settings ≡ s) × (shown (bodyLines w) ≡ bytesOfLine (cntKind s .write c) ∷ ls)
+unfolding bodyLines
+body-form s ok c hc w ls t = subst (λ (u : State). Form u × (u .settings ≡ s) × (shown (bodyLines u) ≡ bytesOfLine (cntKind s .write c) ∷ ls)) (t .more .more .more .more .bufs .it) (
+  ends-form s ok c hc _ (t .long) (t .fit) _ _ _ (t .more .holds) (t .more .more .holds) (t .more .more .more .holds) _ _ _ (t .more .more .more .more .bufs .waited) (t .more .more .more .more .counted),
+  refl,
+  then (shown-append (devLines (t .st)) _ ∙ ap (λ (r : List (List ℕ)). shown (devLines (t .st)) ++ r)
+      (then (then (then (t .more .more .more .more .bufs .is) (t .more .more .more .is)) (t .more .more .is)) (t .more .is))
+      ∙ t .is) refl,
 )
+
+-- the lines of a text of w
+record Shows (w : State) (ls : List (List ℕ)) : Type 0 where
+  coded : Bool
+  allZero : coded ≡ false → w .settings .codes ≡ replicate (w .settings .d) 0
+  is : shown (linesBy coded w) ≡ ls
+
+third-form : (s : Settings) (v : List Float) → Hold (setKind .tests s) → Hold (wgtKind s .tests v) → (w : State) (o : List ℕ ⊎ Counts) (ls : List (List ℕ)) → Hold (thirdKind s v .tests o) → Third s v w o ls
+    → Form w × Shows w (bytesOfLine (setLine s) ∷ bytesOfLine (singles wgt v) ∷ bytesOfLine (thirdKind s v .write o) ∷ ls)
+unfolding linesBy setLine
+third-form s v h g w (inl cs) ls q t =
+    let r = body-form (withLists s v cs) (valid-of s v cs h g q) (t .a) (t .holds) w (t .rest) (t .more) in
+    (r .0, record {
+      coded = true;
+      allZero = λ e. absurd (false≢true (sym e));
+      is = λ i. bytesOfLine (setLine (r .1 i)) ∷ bytesOfLine (singles wgt (r .1 i .weights)) ∷ bytesOfLine (chnLine (r .1 i .codes)) ∷ (r .2 ∙ t .is) i;
+    })
+third-form s v h g w (inr c) ls q t =
+    let r = body-form (bare s v) (valid-of s v (replicate (s .d) 0) h g (zero-codes s)) c q w ls t in
+    (r .0, record {
+      coded = false;
+      allZero = λ _. subst (λ (z : Settings). z .codes ≡ replicate (z .d) 0) (sym (r .1)) refl;
+      is = λ i. bytesOfLine (setLine (r .1 i)) ∷ bytesOfLine (singles wgt (r .1 i .weights)) ∷ r .2 i;
+    })
+
+whole-form : (w : State) (ls : List (List ℕ)) → Entire w ls → Form w × Shows w ls
+whole-form w ls t =
+    let r = third-form (t .a) (t .more .a) (t .holds) (t .more .holds) w (t .more .more .a) (t .more .more .rest) (t .more .more .holds) (t .more .more .more) in
+    (r .0, record { coded = r .1 .coded; allZero = r .1 .allZero; is = r .1 .is ∙ then (then (t .more .more .is) (t .more .is)) (t .is) })
 
 -- ---- a text of the form is taken
 
@@ -316,19 +356,44 @@ module _ (w : State) (g : Form w) where
   abbrev cntLines : List Line
   cntLines = cntLine (w .valuesSeen) (w .internalTimestamp) (w .count) ∷ midLines
 
-  abbrev wgtLines : List Line
-  wgtLines = singles wgt (s .weights) ∷ cntLines
-
   middle-give : follow (afterCnt s c) (shown midLines) ≡ taken w
   middle-give = rw (shown-append (devLines (w .statistics)) endLines) (devs-give (5 * s .d + 5) (afterDev s c) (w .statistics) (shown endLines) w (g .statisticsLong) (g .statisticsFit) ends-give)
 
-  pub complete : follow plan (shown (linesOf w)) ≡ taken w
-  unfolding linesOf setLine
-  complete =
-      give none Settings setKind afterSet w (withWeights s []) (shown wgtLines) (set-writes s (g .valid))
-      (give none (List Float) (wgtKind s) (λ v. afterWgt (withWeights s v)) w (s .weights) (shown cntLines)
+  cnt-given : Writes (cntKind s) c
+  cnt-given = cnt-writes s c (g .seenFits) (g .internalFits) (g .countFits) (λ e. g .whileWaiting e .1)
+
+  abbrev thirdLines : Bool → List Line
+  thirdLines true = chnLine (s .codes) ∷ cntLines
+  thirdLines false = cntLines
+
+  -- what line 1 tells of the settings
+  abbrev set : Settings
+  set = withLists s [] []
+
+  third-give : (b : Bool) → (b ≡ false → s .codes ≡ replicate (s .d) 0) → follow (afterWgt set (s .weights)) (shown (thirdLines b)) ≡ taken w
+  unfolding chnLine cntLine
+  third-give true z =
+      give none (List ℕ ⊎ Counts) (thirdKind set (s .weights)) (afterThird set (s .weights)) w (inl (s .codes)) (shown cntLines)
+      (either-left chn (chnKind s) (cntKind (bare set (s .weights))) (s .codes) refl (chn-writes s (s .codes) (chn-long s (g .valid)) (g .valid .machine .codesFit)))
+      (give none Counts (cntKind s) (afterCnt s) w c (shown midLines) cnt-given middle-give)
+  third-give false z =
+      give none (List ℕ ⊎ Counts) (thirdKind set (s .weights)) (afterThird set (s .weights)) w (inr c) (shown midLines)
+      (either-right chn (chnKind s) (cntKind (bare set (s .weights))) c refl (subst (λ (cs : List ℕ). Writes (cntKind (withLists s (s .weights) cs)) c) (z refl) cnt-given))
+      (subst (λ (cs : List ℕ). follow (afterCnt (withLists s (s .weights) cs) c) (shown midLines) ≡ taken w) (z refl) middle-give)
+
+  lines-are : (b : Bool) → linesBy b w ≡ setLine s ∷ singles wgt (s .weights) ∷ thirdLines b
+  unfolding linesBy bodyLines
+  lines-are true = refl
+  lines-are false = refl
+
+  pub complete : (b : Bool) → (b ≡ false → s .codes ≡ replicate (s .d) 0) → follow plan (shown (linesBy b w)) ≡ taken w
+  unfolding setLine
+  complete b z =
+      rw (lines-are b)
+      (give none Settings setKind afterSet w set (shown (singles wgt (s .weights) ∷ thirdLines b)) (set-writes s (g .valid))
+      (give none (List Float) (wgtKind set) (afterWgt set) w (s .weights) (shown (thirdLines b))
       (singles-write _ _ _ (s .weights) (omega arith) (wgt-long s (g .valid)) (g .valid .machine .weightsFit) (wgt-tests s (g .valid)))
-      (give none Counts (cntKind s) (afterCnt s) w c (shown midLines) (cnt-writes s c (g .seenFits) (g .internalFits) (g .countFits) (λ e. g .whileWaiting e .1)) middle-give))
+      (third-give b z)))
 
 -- ---- the plan can always be gone on with
 
@@ -398,58 +463,84 @@ devs-live (suc n) k h = (record { weight = zero64; sum = zero64; squares = zero6
 -- the settings of document 01's sample of the bench
 abbrev pub sample : Settings
 sample =
-    record { mode = STANDARD; method = NONE; d = 1; k = 1; start = 10; stop = 20; decay = zero64; weightTime = one32; weights = one32 ∷ [] }
+    record { mode = STANDARD; method = NONE; d = 1; k = 1; start = 10; stop = 20; decay = zero64; weightTime = one32; weights = one32 ∷ []; codes = 0 ∷ [] }
 
 pub sample-valid : Valid sample
 unfolding settingsRow outsideUnit allOne le lt eq fits ofBits ofFields odd
-sample-valid = record { accepted = refl; machine = record { stopFits = omega arith; decayFits = tt; weightTimeFits = tt; weightsFit = (tt, tt) } }
+sample-valid = record { accepted = refl; machine = record { stopFits = omega arith; decayFits = tt; weightTimeFits = tt; weightsFit = (tt, tt); codesFit = (omega arith, tt) } }
+
+third-live : (s : Settings) (v : List Float) (o : List ℕ ⊎ Counts) → Live (afterThird s v o)
+third-live s v (inl cs) = (
+  record { valuesSeen = 0; internalTimestamp = 0; count = 0 },
+  cnt-writes (withLists s v cs) _ (omega arith) (omega arith) (omega arith) (λ _. refl),
+  λ c _.
+      devs-live (5 * s .d + 5) (afterDev (withLists s v cs) c) (ends-live (withLists s v cs) c),
+)
+third-live s v (inr c) = devs-live (5 * s .d + 5) (afterDev (bare s v) c) (ends-live (bare s v) c)
 
 plan-live : Live plan
+unfolding chnLine
 plan-live = (
-  withWeights sample [],
+  withLists sample [] [],
   set-writes sample sample-valid,
   λ s _. (
     replicate (s .d) one32,
     singles-write _ _ _ (replicate (s .d) one32) (omega arith) (length-replicate (s .d) one32) (ones-fit (s .d)) (ones-pass (isNone (s .method)) (s .d), tt),
     λ v _. (
-      record { valuesSeen = 0; internalTimestamp = 0; count = 0 },
-      cnt-writes (withWeights s v) _ (omega arith) (omega arith) (omega arith) (λ _. refl),
-      λ c _.
-          devs-live (5 * s .d + 5) (afterDev (withWeights s v) c) (ends-live (withWeights s v) c),
+      inl (replicate (s .d) 0),
+      either-left chn (chnKind s) (cntKind (bare s v)) (replicate (s .d) 0) refl (chn-writes s _ (length-replicate (s .d) 0) (all-replicate {A = ℕ} _ (s .d) 0 (omega arith))),
+      λ o _.
+          third-live s v o,
     ),
   ),
 )
 
 -- ---- the theorems
 
-lines-text : (w : State) → lines (render w) ≡ shown (linesOf w)
-unfolding render
-lines-text w = lines-bytes (linesOf w) (lines-clean w)
+pub lines-text : (b : Bool) (w : State) → lines (bytesOf (linesBy b w)) ≡ shown (linesBy b w)
+lines-text b w = lines-bytes (linesBy b w) (lines-clean b w)
 
--- a text that is taken is that of a state of the form
-pub read-sound : (t : List ℕ) (w : State) → read t ≡ taken w → Form w × (render w ≡ t)
-unfolding read render
-read-sound t w e =
-    let r : Form w × (shown (linesOf w) ≡ lines t) = whole-form w (lines t) (whole-took w (lines t) e) in
-    (r .0, bytes-join (linesOf w) ∙ ap join (r .1) ∙ join-lines t)
+-- lines that show w make a text of w
+shown-text : (w : State) (ls : List (List ℕ)) → Shows w ls → TextOf w (join ls)
+shown-text w ls t = record { coded = t .coded; allZero = t .allZero; is = bytes-join (linesBy (t .coded) w) ∙ ap join (t .is) }
 
--- the text of a state of the form is taken as this state
-pub read-complete : (w : State) → Form w → read (render w) ≡ taken w
+-- a text that is taken is one of a state of the form
+pub read-sound : (t : List ℕ) (w : State) → read t ≡ taken w → Form w × TextOf w t
 unfolding read
-read-complete w g = rw (lines-text w) (complete w g)
+read-sound t w e =
+    let r = whole-form w (lines t) (whole-took w (lines t) e) in
+    (r .0, subst (TextOf w) (join-lines t) (shown-text w (lines t) (r .1)))
 
-pub read-exactly : (t : List ℕ) (w : State) → Form w → render w ≡ t → read t ≡ taken w
-read-exactly t w g e = ap read (sym e) ∙ read-complete w g
+-- a text of a state of the form is taken as this state
+pub read-exactly : (t : List ℕ) (w : State) → Form w → TextOf w t → read t ≡ taken w
+unfolding read
+read-exactly t w g x = ap read (sym (x .is)) ∙ rw (lines-text (x .coded) w) (complete w g (x .coded) (x .allZero))
+
+-- what is put away is a text
+pub put-away : (w : State) → TextOf w (render w)
+unfolding render
+put-away w = record { coded = true; allZero = λ e. absurd (false≢true (sym e)); is = refl }
+
+pub read-complete : (w : State) → Form w → read (render w) ≡ taken w
+read-complete w g = read-exactly (render w) w g (put-away w)
+
+-- what a text is read as is unique: no text is one of two states of the form
+pub text-injective : (t : List ℕ) (w u : State) → Form w → Form u → TextOf w t → TextOf u t → w ≡ u
+text-injective t w u f g x y = taken-inj w u (sym (read-exactly t w f x) ∙ read-exactly t u g y)
+
+pub render-injective : (w u : State) → Form w → Form u → render w ≡ render u → w ≡ u
+render-injective w u f g e = text-injective (render w) w u f g (put-away w) (subst (TextOf u) (sym e) (put-away u))
 
 -- where it refuses, its line is the first after which no text of the form begins with what was read
 pub read-first-bad : (t : List ℕ) (n : ℕ) → read t ≡ bad n → FirstBad n t
 unfolding read
 read-first-bad t n e = record {
-  noneHere = λ a. not-both (read (render (a .0))) (same-bad plan n (lines t) (lines (render (a .0))) e (a .2)) (read-complete (a .0) (a .1));
+  noneHere = λ a. not-both (read (a .1)) (same-bad plan n (lines t) (lines (a .1)) e (a .4)) (read-exactly (a .1) (a .0) (a .2) (a .3));
   oneBefore = λ m h.
       let r = good-before plan plan-live m n (lines t) e h in
-      let f : Form (r .0) × (shown (linesOf (r .0)) ≡ r .1) = whole-form (r .0) (r .1) (whole-took (r .0) (r .1) (r .2)) in
-      (r .0, f .0, ap (take m) (lines-text (r .0) ∙ f .1) ∙ r .3);
+      let f = whole-form (r .0) (r .1) (whole-took (r .0) (r .1) (r .2)) in
+      let b = f .1 .coded in
+      (r .0, bytesOf (linesBy b (r .0)), f .0, record { coded = b; allZero = f .1 .allZero; is = refl }, ap (take m) (lines-text b (r .0) ∙ f .1 .is) ∙ r .3);
 }
 
 -- the other way round: the first bad line is what is answered
@@ -458,7 +549,7 @@ unfolding read
 first-bad-read t n h = go (read t) refl
   where
     go : (r : Read) → read t ≡ r → read t ≡ bad n
-    go (taken w) e = absurd (h .noneHere (w, read-sound t w e .0, ap (λ (u : List ℕ). take n (lines u)) (read-sound t w e .1)))
+    go (taken w) e = absurd (h .noneHere (w, t, read-sound t w e .0, read-sound t w e .1, refl))
     go (bad m) e = e ∙ ap bad (least (ltb m n) (ltb n m) refl refl)
       where
         l : FirstBad m t

@@ -5,7 +5,8 @@ use mathlib.Core.Path.{_≡_, refl, sym, ap, _∙_, subst}
 use mathlib.Core.Bool.{Bool, true, false, not, _&&_, _||_, cond, false≢true}
 use mathlib.Core.List.{List, [], _∷_, _++_}
 use mathlib.Core.Logic.{_⊎_, inl, inr}
-use lib.ListN.{length, take}
+use lib.ListN.{length, take, replicate}
+use Rattle.trcf.specs.Transformer.{zero32}
 use lib.Dec.{ltb, leb, eqb}
 use lib.Ieee.{Float}
 use borrow.Author.Tests.{eqb-true, ltb-true, ltb-false, le-ltb, leb-false}
@@ -18,15 +19,17 @@ use Rattle.trcf.proofs.DrainLaws.{front-over}
 use Rattle.trcf.proofs.ShingleLaws.{length-over}
 use Rattle.trcf.proofs.ViewLaws.{Shaped, view-laid}
 use Rattle.common.specs.Lent.{over}
-use Rattle.snapshot.specs.Text.{render}
+use Rattle.snapshot.specs.Text.{render, TextOf}
 use Rattle.snapshot.specs.Form.{Form}
-use Rattle.snapshot.specs.Read.{Read, taken, bad, withWeights, read, FirstBad}
+use Rattle.snapshot.specs.Read.{Read, taken, bad, same, withLists, read, carries, kept, FirstBad}
 use Rattle.snapshot.specs.Save.{past, unheld, saveOf}
 use Rattle.snapshot.specs.Save as saving
 use Rattle.snapshot.specs.Restore.{Outcome, outcome, restored, restoreOf}
 use Rattle.snapshot.specs.Runs.{Few, Room}
 use Rattle.snapshot.proofs.Lists.{and-left, and-right}
 use Rattle.snapshot.proofs.Accepted.{rows-of}
+use Rattle.snapshot.proofs.ReadLine.{same-refl, same-eq}
+use Rattle.snapshot.proofs.Kept.{text-kept}
 use Rattle.snapshot.proofs.ReadText.{read-sound, read-complete, read-exactly, read-first-bad}
 use Rattle.snapshot.proofs.SaveLaws.{Held}
 use Rattle.snapshot.proofs.BodyLaws.{dimension-is, room-of}
@@ -39,10 +42,13 @@ not-true true e = refl
 not-true false e = absurd (false≢true (sym e))
 
 pub weights-are : (s : Settings) → Valid s → length (s .weights) ≡ s .d
-weights-are s v = eqb-true (length (s .weights)) (s .d) (not-true _ (rows-of s (v .accepted) .1 .1 .1 .1 .0))
+weights-are s v = eqb-true (length (s .weights)) (s .d) (and-left _ _ (not-true _ (rows-of s (v .accepted) .1 .1 .1 .1 .0)))
+
+pub codes-are : (s : Settings) → Valid s → length (s .codes) ≡ s .d
+codes-are s v = eqb-true (length (s .codes)) (s .d) (and-right (eqb (length (s .weights)) (s .d)) _ (not-true _ (rows-of s (v .accepted) .1 .1 .1 .1 .0)))
 
 pub settings-are : (s : Settings) → Valid s → settingsOf (headFrom s) ≡ s
-settings-are s v = ap (λ (w : List Float). withWeights s w) (front-over _ (s .weights) (s .d) (weights-are s v))
+settings-are s v = λ i. withLists s (front-over (replicate 16 zero32) (s .weights) (s .d) (weights-are s v) i) (front-over (replicate 16 0) (s .codes) (s .d) (codes-are s v) i)
 
 pub shaped-of : (w : State) → Form w → Shaped (headFrom (w .settings)) w
 shaped-of w f =
@@ -57,11 +63,12 @@ shaped-of w f =
 
 -- ---- taking up
 
-module _ (t : List ℕ) (l : Lent) where
-  -- "taken up with w exactly when the text is that of w", and the lent lists are long enough
-  pub restored-as : (w : State) → Form w → render w ≡ t → lentShort (w .settings) l ≡ false → restoreOf t l ≡ outcome 0 0 (counted (headFrom (w .settings)) w) (laid w l)
+module _ (t cs : List ℕ) (l : Lent) where
+  -- "taken up with w exactly when the text is one of w", the codes are those expected, and the lent lists are long enough
+  pub restored-as : (w : State) → Form w → TextOf w t → w .settings .codes ≡ cs → lentShort (w .settings) l ≡ false
+      → restoreOf t cs l ≡ outcome 0 0 (counted (headFrom (w .settings)) w) (laid w l)
   unfolding restoreOf restored
-  restored-as w f e h = rw (read-exactly t w f e, h)
+  restored-as w f x e h = rw (read-exactly t w f x, sym e, same-refl (w .settings .codes), h)
 
   pub restored-view : (w : State) → Form w → view (counted (headFrom (w .settings)) w) (laid w l) ≡ w
   restored-view w f = view-laid (headFrom (w .settings)) l w (shaped-of w f)
@@ -69,56 +76,76 @@ module _ (t : List ℕ) (l : Lent) where
   pub record Taken (o : Outcome) : Type 0 where
     pub state : State
     pub form : Form state
-    pub text : render state ≡ t
+    pub text : TextOf state t
+    pub agree : state .settings .codes ≡ cs
     pub room : lentShort (state .settings) l ≡ false
     pub held : view (o .head) (o .lent) ≡ state
 
-  pub restored-only : restoreOf t l .row ≡ 0 → Taken (restoreOf t l)
+  pub restored-only : restoreOf t cs l .row ≡ 0 → Taken (restoreOf t cs l)
   unfolding restoreOf restored
   restored-only h = go (read t) refl h
     where
-      go : (r : Read) → read t ≡ r → restored r l .row ≡ 0 → Taken (restored (read t) l)
+      go : (r : Read) → read t ≡ r → restored r cs l .row ≡ 0 → Taken (restored (read t) cs l)
       go (bad n) e k = absurd (omega (arith, k))
-      go (taken w) e k = fit (lentShort (w .settings) l) refl
+      go (taken w) e k = fit (same (w .settings .codes) cs) (lentShort (w .settings) l) refl refl
         where
-          fit : (b : Bool) → lentShort (w .settings) l ≡ b → Taken (restored (read t) l)
-          fit true i = absurd (let q : _≡_ {A = ℕ} 20 0 = (rw i at k) in omega (arith, q))
-          fit false i =
+          fit : (a b : Bool) → same (w .settings .codes) cs ≡ a → lentShort (w .settings) l ≡ b → Taken (restored (read t) cs l)
+          fit false b u i = absurd (let q : _≡_ {A = ℕ} 27 0 = (rw u at k) in omega (arith, q))
+          fit true true u i = absurd (let q : _≡_ {A = ℕ} 20 0 = (rw (u, i) at k) in omega (arith, q))
+          fit true false u i =
               let f = read-sound t w e in
               record {
                 state = w;
                 form = f .0;
                 text = f .1;
+                agree = same-eq (w .settings .codes) cs u;
                 room = i;
-                held = rw (e, i) (restored-view w (f .0));
+                held = rw (e, u, i) (restored-view w (f .0));
               }
 
   -- 19 tells the first line after which no text of the form could begin with what was read, and leaves all as it was
-  pub refused-line : restoreOf t l .row ≡ 19 → FirstBad (restoreOf t l .line) t × (restoreOf t l .lent ≡ l)
+  pub refused-line : restoreOf t cs l .row ≡ 19 → FirstBad (restoreOf t cs l .line) t × (restoreOf t cs l .lent ≡ l)
   unfolding restoreOf restored
   refused-line h = go (read t) refl h
     where
-      go : (r : Read) → read t ≡ r → restored r l .row ≡ 19 → FirstBad (restored (read t) l .line) t × (restored (read t) l .lent ≡ l)
+      go : (r : Read) → read t ≡ r → restored r cs l .row ≡ 19 → FirstBad (restored (read t) cs l .line) t × (restored (read t) cs l .lent ≡ l)
       go (bad n) e k = rw e (read-first-bad t n e, refl)
-      go (taken w) e k = fit (lentShort (w .settings) l) refl
+      go (taken w) e k = fit (same (w .settings .codes) cs) (lentShort (w .settings) l) refl refl
         where
-          fit : (b : Bool) → lentShort (w .settings) l ≡ b → FirstBad (restored (read t) l .line) t × (restored (read t) l .lent ≡ l)
-          fit true i = absurd (let q : _≡_ {A = ℕ} 20 19 = (rw i at k) in omega (arith, q))
-          fit false i = absurd (let q : _≡_ {A = ℕ} 0 19 = (rw i at k) in omega (arith, q))
+          fit : (a b : Bool) → same (w .settings .codes) cs ≡ a → lentShort (w .settings) l ≡ b → FirstBad (restored (read t) cs l .line) t × (restored (read t) cs l .lent ≡ l)
+          fit false b u i = absurd (let q : _≡_ {A = ℕ} 27 19 = (rw u at k) in omega (arith, q))
+          fit true true u i = absurd (let q : _≡_ {A = ℕ} 20 19 = (rw (u, i) at k) in omega (arith, q))
+          fit true false u i = absurd (let q : _≡_ {A = ℕ} 0 19 = (rw (u, i) at k) in omega (arith, q))
+
+  -- 27 says that a text of the form has other codes, and leaves all as it was
+  pub refused-codes : restoreOf t cs l .row ≡ 27 → ((w : State) × Form w × TextOf w t × (w .settings .codes ≡ cs → ⊥)) × (restoreOf t cs l .lent ≡ l)
+  unfolding restoreOf restored
+  refused-codes h = go (read t) refl h
+    where
+      go : (r : Read) → read t ≡ r → restored r cs l .row ≡ 27 → ((w : State) × Form w × TextOf w t × (w .settings .codes ≡ cs → ⊥)) × (restored (read t) cs l .lent ≡ l)
+      go (bad n) e k = absurd (let q : _≡_ {A = ℕ} 19 27 = k in omega (arith, q))
+      go (taken w) e k = fit (same (w .settings .codes) cs) (lentShort (w .settings) l) refl refl
+        where
+          fit : (a b : Bool) → same (w .settings .codes) cs ≡ a → lentShort (w .settings) l ≡ b → ((w : State) × Form w × TextOf w t × (w .settings .codes ≡ cs → ⊥)) × (restored (read t) cs l .lent ≡ l)
+          fit false b u i =
+              let f = read-sound t w e in
+              ((w, f .0, f .1, λ q. false≢true (sym u ∙ subst (λ (x : List ℕ). same (w .settings .codes) x ≡ true) q (same-refl (w .settings .codes)))), rw (e, u))
+          fit true true u i = absurd (let q : _≡_ {A = ℕ} 20 27 = (rw (u, i) at k) in omega (arith, q))
+          fit true false u i = absurd (let q : _≡_ {A = ℕ} 0 27 = (rw (u, i) at k) in omega (arith, q))
 
 -- ---- restoring what was saved gives the same state, whatever the second memory held
 
 module _ (h : Preprocessor) (l : Lent) (out : List ℕ) (held : unheld h l ≡ false) (room : length (render (view h l)) ≤ length out) (f : Form (view h l)) (l₂ : Lent)
     (room₂ : lentShort (view h l .settings) l₂ ≡ false) where
   abbrev pub Again : Outcome
-  Again = restoreOf (take (saveOf h l out .length) (saveOf h l out .bytes)) l₂
+  Again = restoreOf (take (saveOf h l out .length) (saveOf h l out .bytes)) (view h l .settings .codes) l₂
 
   again-is : Again ≡ outcome 0 0 (counted (headFrom (view h l .settings)) (view h l)) (laid (view h l) l₂)
   unfolding restoreOf restored
-  again-is = rw (saved-read h l out held room f, room₂)
+  again-is = rw (saved-read h l out held room f, same-refl (view h l .settings .codes), room₂)
 
   pub saved-restored : (Again .row ≡ 0) × (view (Again .head) (Again .lent) ≡ view h l)
-  saved-restored = rw again-is (refl, restored-view (render (view h l)) l₂ (view h l) f)
+  saved-restored = rw again-is (refl, restored-view (render (view h l)) (view h l .settings .codes) l₂ (view h l) f)
 
 -- ---- saving what was restored gives the same bytes
 
@@ -208,13 +235,20 @@ module _ (w : State) (f : Form w) (l : Lent) (room : lentShort (w .settings) l �
       stays : {A : Type 0} (l v : List A) (n : ℕ) → length v ≡ n → n ≤ length l → n ≤ length (over l v)
       stays l v n e h = subst (λ (m : ℕ). n ≤ m) (sym (length-over l v (omega (arith, e, h)))) h
 
-module _ (t : List ℕ) (l : Lent) (h : restoreOf t l .row ≡ 0) (out : List ℕ) (long : length t ≤ length out) where
-  pub restored-saved : saveOf (restoreOf t l .head) (restoreOf t l .lent) out ≡ saving.outcome 0 (length t) (over out t)
+-- the same bytes; or, of a text that lacks the codes' line, the text with a line of as many zeros as there are channels
+module _ (t cs : List ℕ) (l : Lent) (h : restoreOf t cs l .row ≡ 0) (out : List ℕ) (long : length (kept (length cs) t) ≤ length out) where
+  pub restored-saved : saveOf (restoreOf t cs l .head) (restoreOf t cs l .lent) out ≡ saving.outcome 0 (length (kept (length cs) t)) (over out (kept (length cs) t))
   restored-saved =
-      let k = restored-only t l h in
+      let k = restored-only t cs l h in
       let w = k .state in
-      let o : restoreOf t l ≡ outcome 0 0 (counted (headFrom (w .settings)) w) (laid w l) = restored-as t l w (k .form) (k .text) (k .room) in
-      let u : unheld (restoreOf t l .head) (restoreOf t l .lent) ≡ false = ap (λ (x : Outcome). unheld (x .head) (x .lent)) o ∙ laid-held w (k .form) l (k .room) in
-      let e : render (view (restoreOf t l .head) (restoreOf t l .lent)) ≡ t = ap render (k .held) ∙ k .text in
-      saved (restoreOf t l .head) (restoreOf t l .lent) out u (subst (λ (x : List ℕ). length x ≤ length out) (sym e) long)
+      let o : restoreOf t cs l ≡ outcome 0 0 (counted (headFrom (w .settings)) w) (laid w l) = restored-as t cs l w (k .form) (k .text) (k .agree) (k .room) in
+      let u : unheld (restoreOf t cs l .head) (restoreOf t cs l .lent) ≡ false = ap (λ (x : Outcome). unheld (x .head) (x .lent)) o ∙ laid-held w (k .form) l (k .room) in
+      let n : w .settings .d ≡ length cs = sym (codes-are (w .settings) (k .form .valid)) ∙ ap length (k .agree) in
+      let e : render (view (restoreOf t cs l .head) (restoreOf t cs l .lent)) ≡ kept (length cs) t = ap render (k .held) ∙ text-kept t w (k .text) ∙ ap (λ (d : ℕ). kept d t) n in
+      saved (restoreOf t cs l .head) (restoreOf t cs l .lent) out u (subst (λ (x : List ℕ). length x ≤ length out) (sym e) long)
       ∙ ap (λ (x : List ℕ). saving.outcome 0 (length x) (over out x)) e
+
+  -- "Every other accepted text still returns its bytes."
+  pub restored-same : carries t ≡ true → saveOf (restoreOf t cs l .head) (restoreOf t cs l .lent) out ≡ saving.outcome 0 (length t) (over out t)
+  unfolding kept
+  restored-same c = let e : kept (length cs) t ≡ t = rw c in restored-saved ∙ ap (λ (x : List ℕ). saving.outcome 0 (length x) (over out x)) e

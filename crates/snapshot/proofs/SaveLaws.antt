@@ -15,12 +15,12 @@ use Rattle.trcf.specs.Types.{methodNumber, modeLetter, augments}
 use Rattle.trcf.specs.Settings.{Settings, block, dimension}
 use Rattle.trcf.specs.View.{Lent, settingsOf, view}
 use Rattle.trcf.specs.Preprocessor.{State}
-use Rattle.snapshot.specs.Text.{Line, whole, wgt, inp, pnt, setLine, singles, cntLine, devLine, devLines, timLine, bufLine, bufLines, bytesOf, linesOf, render}
+use Rattle.snapshot.specs.Text.{Line, whole, wgt, inp, pnt, setLine, singles, chnLine, cntLine, devLine, devLines, timLine, bufLine, bufLines, bytesOf, bodyLines, linesBy, render}
 use Rattle.snapshot.specs.Read.{bytesOfLine}
 use Rattle.snapshot.specs.Write.{Wrote, tabbed, setBytes}
 use Rattle.snapshot.specs.Save.{past, unheld, Outcome, outcome, fitted, saveOf, headBytes, listBytes}
 use Rattle.snapshot.proofs.WriteLaws.{stored-over}
-use Rattle.snapshot.proofs.LineBytes.{singles-size, tim-size, cnt-size, dev-size, buf-size, set-size}
+use Rattle.snapshot.proofs.LineBytes.{singles-size, chn-size, tim-size, cnt-size, dev-size, buf-size, set-size}
 
 -- ---- the two parts
 
@@ -41,13 +41,15 @@ pub render-parts : (w : State)
     → headBytes (w .settings) (w .valuesSeen) (w .internalTimestamp) (w .count)
     ++ listBytes (w .settings .d) (w .statistics) (w .lastShingledInput) (w .lastShingledPoint) (w .previousTimestamps) (w .initialValues) (w .initialTimestamps)
     ≡ render w
-unfolding render linesOf headBytes listBytes
+unfolding render linesBy bodyLines headBytes listBytes
 render-parts w =
     append-assoc (bytesOfLine (setLine (w .settings))) _ _
     ∙ ap (λ (t : List ℕ). bytesOfLine (setLine (w .settings)) ++ t)
     (append-assoc (bytesOfLine (singles wgt (w .settings .weights))) _ _
-    ∙ ap (λ (t : List ℕ). bytesOfLine (singles wgt (w .settings .weights)) ++ (bytesOfLine (cntLine (w .valuesSeen) (w .internalTimestamp) (w .count)) ++ t))
-    (sym (bytes-append (devLines (w .statistics)) _)))
+    ∙ ap (λ (t : List ℕ). bytesOfLine (singles wgt (w .settings .weights)) ++ t)
+    (append-assoc (bytesOfLine (chnLine (w .settings .codes))) _ _
+    ∙ ap (λ (t : List ℕ). bytesOfLine (chnLine (w .settings .codes)) ++ (bytesOfLine (cntLine (w .valuesSeen) (w .internalTimestamp) (w .count)) ++ t))
+    (sym (bytes-append (devLines (w .statistics)) _))))
 
 -- ---- how many bytes
 
@@ -69,14 +71,16 @@ bufs-size d v (t ∷ ts) h =
 
 pub head-size : (s : Settings) (v i c : ℕ)
     → length (headBytes s v i c)
-    ≡ 48 + (length (whole (methodNumber (s .method))) + length (whole (s .d)) + length (whole (s .k)) + length (whole (s .start)) + length (whole (s .stop)))
-    + (length (whole v) + length (whole i) + length (whole c)) + 9 * length (s .weights)
+    ≡ 52 + (length (whole (methodNumber (s .method))) + length (whole (s .d)) + length (whole (s .k)) + length (whole (s .start)) + length (whole (s .stop)))
+    + (length (whole v) + length (whole i) + length (whole c)) + 9 * length (s .weights) + length (tabbed (map whole (s .codes)))
 unfolding headBytes
 head-size s v i c =
     omega (
       arith,
-      length-append (bytesOfLine (setLine s)) (bytesOfLine (singles wgt (s .weights)) ++ bytesOfLine (cntLine v i c)),
-      length-append (bytesOfLine (singles wgt (s .weights))) (bytesOfLine (cntLine v i c)),
+      length-append (bytesOfLine (setLine s)) (bytesOfLine (singles wgt (s .weights)) ++ (bytesOfLine (chnLine (s .codes)) ++ bytesOfLine (cntLine v i c))),
+      length-append (bytesOfLine (singles wgt (s .weights))) (bytesOfLine (chnLine (s .codes)) ++ bytesOfLine (cntLine v i c)),
+      length-append (bytesOfLine (chnLine (s .codes))) (bytesOfLine (cntLine v i c)),
+      chn-size (s .codes),
       ap length (set-is s),
       set-size (modeLetter (s .mode)) (methodNumber (s .method)) (s .d) (s .k) (s .start) (s .stop) (s .decay) (s .weightTime),
       singles-size 119 103 116 (s .weights),
@@ -162,13 +166,14 @@ few-values n d h g = mul-le-mul h g
 
 pub head-split : (s : Settings) (v i c : ℕ)
     → length (headBytes s v i c)
-    ≡ length (bytesOfLine (setLine s)) + length (bytesOfLine (singles wgt (s .weights))) + length (bytesOfLine (cntLine v i c))
+    ≡ length (bytesOfLine (setLine s)) + length (bytesOfLine (singles wgt (s .weights))) + length (bytesOfLine (chnLine (s .codes))) + length (bytesOfLine (cntLine v i c))
 unfolding headBytes
 head-split s v i c =
     omega (
       arith,
-      length-append (bytesOfLine (setLine s)) (bytesOfLine (singles wgt (s .weights)) ++ bytesOfLine (cntLine v i c)),
-      length-append (bytesOfLine (singles wgt (s .weights))) (bytesOfLine (cntLine v i c)),
+      length-append (bytesOfLine (setLine s)) (bytesOfLine (singles wgt (s .weights)) ++ (bytesOfLine (chnLine (s .codes)) ++ bytesOfLine (cntLine v i c))),
+      length-append (bytesOfLine (singles wgt (s .weights))) (bytesOfLine (chnLine (s .codes)) ++ bytesOfLine (cntLine v i c)),
+      length-append (bytesOfLine (chnLine (s .codes))) (bytesOfLine (cntLine v i c)),
     )
 
 pub list-split : (d : ℕ) (st x y : List Float) (ts : List ℕ) (v : List Float) (us : List ℕ)

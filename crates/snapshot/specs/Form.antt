@@ -1,4 +1,4 @@
--- The form of a snapshot, as far as the numbers that it holds go: document 01, 'Trace text'. A text has the form when it is `render w` for a w of the form.
+-- The form of a snapshot, as far as the numbers that it holds go: document 01, 'Trace text'. A text has the form when it is a text (`TextOf`) of a w of the form.
 use Prim.Native.Nat.{ℕ, zero, suc, _+_, _*_, _≤_, _<_}
 use mathlib.Core.Path.{_≡_}
 use mathlib.Core.Bool.{Bool, true, false}

@@ -4,7 +4,8 @@ use mathlib.Core.Bool.{Bool, true, false, not, _&&_, _||_, cond}
 use mathlib.Core.Path.{_≡_}
 use mathlib.Core.List.{List, [], _∷_, _++_}
 use mathlib.Core.Option.{Option, none, some}
-use lib.ListN.{length, take, drop, getD}
+use mathlib.Core.Logic.{_⊎_, inl, inr}
+use lib.ListN.{length, take, drop, replicate, getD}
 use lib.Dec.{leb, ltb, eqb}
 use lib.Ieee.{Float, nan, Format, binary32, binary64}
 use Rattle.common.specs.Deviation.{countLimit, outsideUnit}
@@ -21,7 +22,7 @@ use Rattle.snapshot.specs.declared.settings.Mode.the-variants.{OfMode, N
 use Rattle.snapshot.specs.declared.settings.Method.{Method}
 use Rattle.snapshot.specs.declared.settings.Method.the-variants.{OfMethod, NoMethod}
 use Rattle.snapshot.specs.declared.settings.Set.{Set}
-use Rattle.snapshot.specs.Read.{asWhole, asFloat, every, climbs, zeros, Counts, Three, Read, bad}
+use Rattle.snapshot.specs.Read.{asWhole, asFloat, every, allCodes, climbs, zeros, Counts, Three, Read, bad}
 use Rattle.snapshot.specs.Scan.{fieldOf}
 use Rattle.snapshot.specs.declared.field.Field.{Field}
 use Rattle.snapshot.specs.declared.field.Field.the-variants.{Bad}
@@ -126,6 +127,30 @@ wgtTest m v = every (not (isNone m && not (allOne v)) ∷ [])
 unfoldable pub wgtBy : TransformMethod → ℕ → List ℕ → Option (List Float × List ℕ)
 wgtBy m d l = checked (wgtTest m) (listLine (asFloat binary32) 119 103 116 d l)
 
+-- `chn`: d codes of 16 bits
+unfoldable pub chnBy : ℕ → List ℕ → Option (List ℕ × List ℕ)
+chnBy d l = checked allCodes (listLine asWhole 99 104 110 d l)
+
+-- the one kind of line, or else the other
+abbrev pub eitherOf : {A B : Type 0} → Option (A × List ℕ) → Option (B × List ℕ) → Option ((A ⊎ B) × List ℕ)
+eitherOf (some r) o = some (inl (r .0), r .1)
+eitherOf none (some r) = some (inr (r .0), r .1)
+eitherOf none none = none
+
+-- how many lines hold codes, the codes, and what is left behind them
+pub record Codes : Type 0 where
+  pub extra : ℕ
+  pub codes : List ℕ
+  pub rest : List ℕ
+
+abbrev pub codesRead : ℕ → List ℕ → List ℕ → Codes
+codesRead n cs l = record { extra = n; codes = cs; rest = l }
+
+-- "a text lacking it is read as all zeros"
+abbrev pub chnOr : ℕ → Option (List ℕ × List ℕ) → List ℕ → Codes
+chnOr d (some r) l = codesRead 1 (r .0) (r .1)
+chnOr d none l = codesRead 0 (replicate d 0) l
+
 -- `cnt`: "While waiting … internal is 0"
 abbrev pub countsOf : List ℕ → Counts
 countsOf w = record { valuesSeen = getD w 0 0; internalTimestamp = getD w 1 0; count = getD w 2 0 }
@@ -226,6 +251,7 @@ settingsWith m t w y x =
       decay = y;
       weightTime = x;
       weights = [];
+      codes = [];
     }
 
 abbrev pub settled : ForestMode → TransformMethod → List ℕ → Option ((Float × Float) × List ℕ) → Option (Settings × List ℕ)
@@ -249,4 +275,5 @@ settingsTold r =
       decay = r .decay;
       weightTime = r .«weight_time»;
       weights = [];
+      codes = [];
     }

@@ -6,7 +6,8 @@ use mathlib.Core.Path.{_≡_}
 use mathlib.Core.Bool.{Bool, true, false, not, _&&_, _||_, cond}
 use mathlib.Core.List.{List, [], _∷_, _++_, map}
 use mathlib.Core.Option.{Option, none, some}
-use lib.ListN.{length, take, drop}
+use mathlib.Core.Logic.{_⊎_, inl, inr}
+use lib.ListN.{length, take, drop, replicate}
 use lib.Dec.{leb, ltb, eqb}
 use lib.Ieee.{Float, Format, binary32, binary64, ofBits, fits}
 use Rattle.common.specs.Deviation.{countLimit, outsideUnit}
@@ -15,11 +16,11 @@ use Rattle.trcf.specs.declared.types.TransformMethod.the-variants.{NONE, WEIGHT
 use Rattle.trcf.specs.declared.types.ForestMode.{ForestMode}
 use Rattle.trcf.specs.declared.types.ForestMode.the-variants.{STANDARD, «TIME_AUGMENTED»}
 use Rattle.trcf.specs.Types.{isNone, normalizes}
-use Rattle.trcf.specs.Settings.{Settings, dimension, waiting, imputes, allOne, wholeMax}
+use Rattle.trcf.specs.Settings.{Settings, dimension, waiting, imputes, allOne, wholeMax, codeMax}
 use Rattle.trcf.specs.Calls.{finite, seenLimit}
 use Rattle.trcf.specs.Preprocessor.{State, Reading}
 use Rattle.snapshot.specs.Form.{Form}
-use Rattle.snapshot.specs.Text.{whole, float, Line, behind, wgt, inp, pnt, setLine, singles, cntLine, devLine, timLine, bufLine, render}
+use Rattle.snapshot.specs.Text.{whole, float, Line, behind, wgt, inp, pnt, chn, setLine, singles, chnLine, cntLine, devLine, timLine, bufLine, TextOf}
 
 -- ---- lines, and the cells of a line
 
@@ -32,6 +33,10 @@ push b (l ∷ ls) = (b ∷ l) ∷ ls
 abbrev pub lines : List ℕ → List (List ℕ)
 lines [] = []
 lines (b ∷ t) = let r = lines t in cond (eqb b 10) ((10 ∷ []) ∷ r) (push b r)
+
+abbrev pub join : List (List ℕ) → List ℕ
+join [] = []
+join (l ∷ ls) = l ++ join ls
 
 -- the bytes of a line
 abbrev pub bytesOfLine : Line → List ℕ
@@ -100,6 +105,10 @@ abbrev pub climbs : ℕ → List ℕ → Bool
 climbs p [] = true
 climbs p (t ∷ ts) = leb p t && climbs t ts
 
+abbrev pub allCodes : List ℕ → Bool
+allCodes [] = true
+allCodes (c ∷ cs) = leb c codeMax && allCodes cs
+
 abbrev pub zeros : List ℕ → Bool
 zeros [] = true
 zeros (t ∷ ts) = eqb t 0 && zeros ts
@@ -141,6 +150,7 @@ setKind =
             decay = floatFrom binary64 (cell 7 c);
             weightTime = floatFrom binary32 (cell 8 c);
             weights = [];
+            codes = [];
           };
       tests = λ s.
           not (imputes (s .mode))
@@ -192,6 +202,32 @@ cntKind s =
           ∷ leb (c .count) countLimit
           ∷ (not (waiting s (c .valuesSeen)) || eqb (c .internalTimestamp) 0)
           ∷ [];
+    }
+
+-- `chn`: d codes
+abbrev pub chnKind : Settings → Kind (List ℕ)
+chnKind s =
+    record {
+      write = chnLine;
+      guess = λ c. map (wholeFrom 0) (drop 1 c);
+      tests = λ cs. eqb (length cs) (s .d) ∷ allCodes cs ∷ [];
+    }
+
+-- a line of the one kind or of the other, by the name that it bears
+abbrev pub writeEither : {A B : Type 0} → Kind A → Kind B → A ⊎ B → Line
+writeEither p q (inl a) = p .write a
+writeEither p q (inr b) = q .write b
+
+abbrev pub testsEither : {A B : Type 0} → Kind A → Kind B → A ⊎ B → List Bool
+testsEither p q (inl a) = p .tests a
+testsEither p q (inr b) = q .tests b
+
+abbrev pub eitherKind : {A B : Type 0} → List ℕ → Kind A → Kind B → Kind (A ⊎ B)
+eitherKind n p q =
+    record {
+      write = writeEither p q;
+      guess = λ c. cond (same (cell 0 c) n) (inl (p .guess c)) (inr (q .guess c));
+      tests = testsEither p q;
     }
 
 pub record Three : Type 0 where
@@ -266,8 +302,9 @@ stateOf s c st x y ts v us =
       initialTimestamps = us;
     }
 
-abbrev pub withWeights : Settings → List Float → Settings
-withWeights s v =
+-- the settings of line 1 with their weights and codes
+abbrev pub withLists : Settings → List Float → List ℕ → Settings
+withLists s v cs =
     record {
       mode = s .mode;
       method = s .method;
@@ -278,9 +315,10 @@ withWeights s v =
       decay = s .decay;
       weightTime = s .weightTime;
       weights = v;
+      codes = cs;
     }
 
--- "In order: `set` …; `wgt` …; `cnt` …; `dev` …: 5d lines … then time's five; `inp` …; `pnt` …; `tim` …; `buf` …"
+-- "In order: `set` …; `wgt` …; `chn` …, or not; `cnt` …; `dev` …: 5d lines … then time's five; `inp` …; `pnt` …; `tim` …; `buf` …"
 abbrev pub afterTim : Settings → Counts → List Float → List Float → List Float → List ℕ → Plan
 afterTim s c st x y ts = bufPlan (waiting s (c .valuesSeen)) (mayStand s c) s c (stateOf s c st x y ts)
 
@@ -296,11 +334,26 @@ afterDev s c st = line none (List Float) (inpKind s) (afterInp s c st)
 abbrev pub afterCnt : Settings → Counts → Plan
 afterCnt s c = devsPlan (5 * s .d + 5) (afterDev s c)
 
-abbrev pub afterWgt : Settings → Plan
-afterWgt s = line none Counts (cntKind s) (afterCnt s)
+abbrev pub afterChn : Settings → Plan
+afterChn s = line none Counts (cntKind s) (afterCnt s)
+
+-- "a text lacking it is read as all zeros"
+abbrev pub bare : Settings → List Float → Settings
+bare s v = withLists s v (replicate (s .d) 0)
+
+-- line 3: the codes, or the counts of a text that lacks them
+abbrev pub thirdKind : Settings → List Float → Kind (List ℕ ⊎ Counts)
+thirdKind s v = eitherKind chn (chnKind s) (cntKind (bare s v))
+
+abbrev pub afterThird : Settings → List Float → List ℕ ⊎ Counts → Plan
+afterThird s v (inl cs) = afterChn (withLists s v cs)
+afterThird s v (inr c) = afterCnt (bare s v) c
+
+abbrev pub afterWgt : Settings → List Float → Plan
+afterWgt s v = line none (List ℕ ⊎ Counts) (thirdKind s v) (afterThird s v)
 
 abbrev pub afterSet : Settings → Plan
-afterSet s = line none (List Float) (wgtKind s) (λ v. afterWgt (withWeights s v))
+afterSet s = line none (List Float) (wgtKind s) (afterWgt s)
 
 abbrev pub plan : Plan
 plan = line none Settings setKind afterSet
@@ -333,11 +386,21 @@ follow (line e A c k) (l ∷ ls) = next (judge c l) (λ a. later (follow (k a) l
 unfoldable pub read : List ℕ → Read
 read t = follow plan (lines t)
 
+-- ---- what is put away of a text that was taken up
+
+-- whether line 3 is the codes'
+unfoldable pub carries : List ℕ → Bool
+carries t = same (cell 0 (cells (cell 2 (lines t)))) chn
+
+-- the text itself; "a text lacking it … as one exception, is put away with the line": d zeros behind line 2
+unfoldable pub kept : ℕ → List ℕ → List ℕ
+kept d t = cond (carries t) t (join (take 2 (lines t) ++ (bytesOfLine (chnLine (replicate d 0)) ∷ drop 2 (lines t))))
+
 -- ---- what the theorems say of it
 
 -- some text of the form agrees with t in its first n lines (all of it, where one of the two has fewer)
 abbrev pub Agrees : ℕ → List ℕ → Type 0
-Agrees n t = (w : State) × Form w × (take n (lines (render w)) ≡ take n (lines t))
+Agrees n t = (w : State) × (u : List ℕ) × Form w × TextOf w u × (take n (lines u) ≡ take n (lines t))
 
 -- "The bad line is the first after which no text of this form could begin with what was read"
 pub record FirstBad (n : ℕ) (t : List ℕ) : Type 0 where

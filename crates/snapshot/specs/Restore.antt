@@ -1,10 +1,10 @@
--- `restore` (document 01: taken up): "taken up exactly when it has 01's form"; 19 with the bad line, 20 for what is lent.
+-- `restore` (document 01: taken up): "taken up exactly when it has 01's form"; 19 with the bad line, 27 for other codes than are expected, 20 for what is lent.
 use Prim.Native.Nat.{ℕ}
-use mathlib.Core.Bool.{cond}
+use mathlib.Core.Bool.{cond, not}
 use mathlib.Core.List.{List}
 use Rattle.trcf.specs.View.{Lent, lentShort, headFrom, noHead, counted, laid}
 use Rattle.trcf.specs.declared.preprocessor.Preprocessor.{Preprocessor}
-use Rattle.snapshot.specs.Read.{Read, taken, bad, read}
+use Rattle.snapshot.specs.Read.{Read, taken, bad, same, read}
 
 -- ---- what `restore` gives: row, bad line, head and the lent lists afterwards
 
@@ -17,11 +17,13 @@ pub record Outcome : Type 0 where
 abbrev pub outcome : ℕ → ℕ → Preprocessor → Lent → Outcome
 outcome row line h l = record { row = row; line = line; head = h; lent = l }
 
--- 19 with the bad line; 20 where a lent list is too short; both leave all as it was. Else the state that was read, "whatever they held before".
-unfoldable pub restored : Read → Lent → Outcome
-restored (bad n) l = outcome 19 n noHead l
-restored (taken w) l =
-    cond (lentShort (w .settings) l) (outcome 20 0 noHead l) (outcome 0 0 (counted (headFrom (w .settings)) w) (laid w l))
+-- 19 with the bad line; 27 where the codes are not those expected, "in number or value"; 20 where a lent list is too short; each leaves all as it was.
+-- Else the state that was read, "whatever they held before".
+unfoldable pub restored : Read → List ℕ → Lent → Outcome
+restored (bad n) cs l = outcome 19 n noHead l
+restored (taken w) cs l =
+    cond (not (same (w .settings .codes) cs)) (outcome 27 0 noHead l)
+    (cond (lentShort (w .settings) l) (outcome 20 0 noHead l) (outcome 0 0 (counted (headFrom (w .settings)) w) (laid w l)))
 
-unfoldable pub restoreOf : List ℕ → Lent → Outcome
-restoreOf t l = restored (read t) l
+unfoldable pub restoreOf : List ℕ → List ℕ → Lent → Outcome
+restoreOf t cs l = restored (read t) cs l

@@ -11,8 +11,8 @@ use Rattle.trcf.specs.Settings.{Settings, dimension, waiting}
 use Rattle.trcf.specs.Preprocessor.{State, Reading, statisticsLength}
 use Rattle.trcf.specs.View.{Lent, settingsOf, headFrom, counting, laid}
 use Rattle.trcf.specs.declared.preprocessor.Preprocessor.{Preprocessor}
-use Rattle.snapshot.specs.Read.{asFloat, Counts, Read, taken, bad, mayStand, stateOf, withWeights}
-use Rattle.snapshot.specs.Judge.{listLine, setBy, wgtBy, cntBy, timBy, bufBy}
+use Rattle.snapshot.specs.Read.{asFloat, Counts, Read, taken, bad, mayStand, stateOf, withLists}
+use Rattle.snapshot.specs.Judge.{listLine, Codes, chnOr, chnBy, setBy, wgtBy, cntBy, timBy, bufBy}
 use Rattle.snapshot.specs.declared.lines.Lines.{Lines}
 use Rattle.snapshot.specs.declared.restore.Judged.{Judged}
 
@@ -124,25 +124,34 @@ partsBy internal n x y k l =
     after 1 (oneLine (listLine (asFloat binary32) 112 110 116 y l₂))
     (λ u l₃. after 1 (oneLine (timBy internal k l₃)) (λ ts l₄. ran (parts st v u ts) l₄))))
 
--- ---- `set`, `wgt` and `cnt`
+-- ---- `set`, `wgt`, `chn` where it stands, and `cnt`
 
 pub record Head : Type 0 where
   pub settings : Settings
   pub counts : Counts
+  pub extra : ℕ  -- how many lines hold codes
 
-abbrev pub headRead : Settings → Counts → Head
-headRead s c = record { settings = s; counts = c }
+abbrev pub headRead : Settings → Counts → ℕ → Head
+headRead s c n = record { settings = s; counts = c; extra = n }
+
+abbrev pub thirdBy : Settings → List Float → Codes → Ran Head
+thirdBy s v q =
+    behindLines (q .extra) (after 1 (oneLine (cntBy (s .method) (s .start) (q .rest))) (λ c z. ran (headRead (withLists s v (q .codes)) c (q .extra)) z))
 
 unfoldable pub headBy : List ℕ → Ran Head
 headBy l =
     after 1 (oneLine (setBy l))
     (λ s l₁.
     after 1 (oneLine (wgtBy (s .method) (s .d) l₁))
-    (λ v l₂. after 1 (oneLine (cntBy (s .method) (s .start) l₂)) (λ c l₃. ran (headRead (withWeights s v) c) l₃)))
+    (λ v l₂. thirdBy s v (chnOr (s .d) (chnBy (s .d) l₂) l₂)))
 
 -- with no initial values yet
 abbrev pub headOf : Head → Preprocessor
 headOf h = counting (headFrom (h .settings)) (h .counts .count) (h .counts .valuesSeen) (h .counts .internalTimestamp) 0
+
+-- with how many lines hold codes
+abbrev pub headedOf : Head → Preprocessor × ℕ
+headedOf h = (headOf h, h .extra)
 
 -- within the limits of rows 4 and 8
 pub record Few (d k start : ℕ) : Type 0 where
@@ -153,9 +162,9 @@ pub record Few (d k start : ℕ) : Type 0 where
 abbrev pub HeadFew : Preprocessor → Type 0
 HeadFew h = Few (h .transformer .«input_length») (h .«shingle_size») (h .«start_normalization»)
 
--- the same with an array of which the first d count
-abbrev pub headWith : Settings → List Float → Counts → Preprocessor
-headWith s a c =
+-- the same with arrays of which the first d count
+abbrev pub headWith : Settings → List Float → List ℕ → Counts → Preprocessor
+headWith s a b c =
     record {
       transformer = record {
         «transform_method» = s .method;
@@ -172,6 +181,7 @@ headWith s a c =
       «values_seen» = c .valuesSeen;
       «internal_timestamp» = c .internalTimestamp;
       «initial_len» = 0;
+      codes = b;
     }
 
 abbrev pub countsIn : Preprocessor → Counts
@@ -242,7 +252,7 @@ summed (ran b z) = record { bad = 0; count = length (b .initial .times) }
 summed (broke m) = record { bad = m; count = 0 }
 
 unfoldable pub readBy : List ℕ → Ran State
-readBy t = after 3 (headBy t) (λ h l. mapRan (stateFrom (h .settings) (h .counts)) (bodyBy (h .settings) (h .counts) l))
+readBy t = after 3 (headBy t) (λ h l. behindLines (h .extra) (mapRan (stateFrom (h .settings) (h .counts)) (bodyBy (h .settings) (h .counts) l)))
 
 abbrev pub asRead : Ran State → Read
 asRead (ran w z) = taken w

@@ -10,7 +10,7 @@ use Rattle.trcf.specs.declared.preprocessor.Preprocessor.{Preprocessor}
 use Rattle.trcf.specs.Types.{augments}
 use Rattle.trcf.specs.Settings.{Settings}
 use Rattle.trcf.specs.View.{Lent, settingsOf, view}
-use Rattle.snapshot.specs.Text.{wgt, inp, pnt, setLine, singles, cntLine, devLines, timLine, bufLines, bytesOf, render}
+use Rattle.snapshot.specs.Text.{wgt, inp, pnt, setLine, singles, chnLine, cntLine, devLines, timLine, bufLines, bytesOf, render}
 use Rattle.snapshot.specs.Read.{bytesOfLine}
 
 -- a number is past document 01's limits, or a lent list is shorter than what is in use of it: d, k, the numbers of a time (0 or 1) and the initial
@@ -51,7 +51,8 @@ saveOf h l out = cond (unheld h l) (outcome 20 0 out) (fitted (render (view h l)
 
 unfoldable pub headBytes : Settings → ℕ → ℕ → ℕ → List ℕ
 headBytes s seen internal count =
-    bytesOfLine (setLine s) ++ (bytesOfLine (singles wgt (s .weights)) ++ bytesOfLine (cntLine seen internal count))
+    bytesOfLine (setLine s)
+    ++ (bytesOfLine (singles wgt (s .weights)) ++ (bytesOfLine (chnLine (s .codes)) ++ bytesOfLine (cntLine seen internal count)))
 
 unfoldable pub listBytes : ℕ → List Float → List Float → List Float → List ℕ → List Float → List ℕ → List ℕ
 listBytes d statistics input point times values initial =

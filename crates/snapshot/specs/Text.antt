@@ -2,7 +2,8 @@
 use Prim.Native.Nat.{ℕ, zero, suc, _+_, _/_, _%_}
 use mathlib.Core.Bool.{Bool, true, false, cond}
 use mathlib.Core.List.{List, [], _∷_, _++_, map}
-use lib.ListN.{take, drop}
+use mathlib.Core.Path.{_≡_}
+use lib.ListN.{take, drop, replicate}
 use lib.Dec.{ltb}
 use lib.Ieee.{Float, Format, binary32, binary64, toBits}
 use Rattle.trcf.specs.Types.{methodNumber, modeLetter}
@@ -64,6 +65,13 @@ pnt = 112 ∷ 110 ∷ 116 ∷ []
 unfoldable pub singles : List ℕ → List Float → Line
 singles name v = named name (map (float binary32) v)
 
+-- "a `chn` line of d decimal codes after `wgt`"
+abbrev pub chn : List ℕ
+chn = 99 ∷ 104 ∷ 110 ∷ []
+
+unfoldable pub chnLine : List ℕ → Line
+chnLine cs = named chn (map whole cs)
+
 -- "`cnt` values_seen, internal, count"
 unfoldable pub cntLine : ℕ → ℕ → ℕ → Line
 cntLine v i c = named (99 ∷ 110 ∷ 116 ∷ []) (whole v ∷ whole i ∷ whole c ∷ [])
@@ -90,16 +98,20 @@ abbrev pub bufLines : ℕ → List Float → List ℕ → List Line
 bufLines n v [] = []
 bufLines n v (t ∷ ts) = bufLine t (take n v) ∷ bufLines n (drop n v) ts
 
-unfoldable pub linesOf : State → List Line
-linesOf w =
-    setLine (w .settings)
-    ∷ singles wgt (w .settings .weights)
-    ∷ cntLine (w .valuesSeen) (w .internalTimestamp) (w .count)
+-- from `cnt` on
+unfoldable pub bodyLines : State → List Line
+bodyLines w =
+    cntLine (w .valuesSeen) (w .internalTimestamp) (w .count)
     ∷ (devLines (w .statistics)
     ++ (singles inp (w .lastShingledInput)
     ∷ singles pnt (w .lastShingledPoint)
     ∷ timLine (w .previousTimestamps)
     ∷ bufLines (w .settings .d) (w .initialValues) (w .initialTimestamps)))
+
+-- with the codes' line or without it
+unfoldable pub linesBy : Bool → State → List Line
+linesBy true w = setLine (w .settings) ∷ singles wgt (w .settings .weights) ∷ chnLine (w .settings .codes) ∷ bodyLines w
+linesBy false w = setLine (w .settings) ∷ singles wgt (w .settings .weights) ∷ bodyLines w
 
 -- "Lines end in LF, fields are parted by tabs."
 abbrev pub behind : List (List ℕ) → List ℕ
@@ -110,6 +122,12 @@ abbrev pub bytesOf : List Line → List ℕ
 bytesOf [] = []
 bytesOf (l ∷ ls) = l .name ++ behind (l .fields) ++ bytesOf ls
 
--- the text of a state
+-- the text of a state, as it is put away
 unfoldable pub render : State → List ℕ
-render w = bytesOf (linesOf w)
+render w = bytesOf (linesBy true w)
+
+-- a text of a state: the one that is put away, or, where every code is 0, the same without the codes' line
+pub record TextOf (w : State) (t : List ℕ) : Type 0 where
+  pub coded : Bool
+  pub allZero : coded ≡ false → w .settings .codes ≡ replicate (w .settings .d) 0
+  pub is : bytesOf (linesBy coded w) ≡ t

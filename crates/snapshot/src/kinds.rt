@@ -8,6 +8,8 @@ use crate::judge::singles;
 use crate::judge::singles_line;
 use crate::judge::wholes_line;
 use crate::values::all_zero;
+use crate::values::codes_fit;
+use crate::values::narrowed;
 use crate::values::none_falls;
 use trcf::refusal::all_finite;
 use trcf::transformer::all_one;
@@ -18,10 +20,11 @@ ghost use mathlib.Core.Path.{_≡_};
 ghost use mathlib.Core.Bool.{_&&_};
 ghost use Prim.Native.Nat.{_+_, _*_, _≤_, _<_};
 ghost use lib.Dec.{ltb};
-ghost use lib.ListN.{length, take, drop};
+ghost use lib.ListN.{length, take, drop, replicate};
+ghost use Rattle.common.specs.Lent.{over};
 ghost use Rattle.trcf.specs.Types.{normalizes};
 ghost use Rattle.trcf.specs.Preprocessor.{reading};
-ghost use Rattle.snapshot.specs.Judge.{placed, held, Filled, wgtBy, cntTest, cntBy, timBy, bufBy, countsRead, FilledWith};
+ghost use Rattle.snapshot.specs.Judge.{placed, held, Filled, codesRead, chnOr, chnBy, wgtBy, cntTest, cntBy, timBy, bufBy, countsRead, FilledWith};
 
 // The weights, as many as `out` is long.
 pub(crate) fn wgt_line(text: &[u8], at: usize, method: TransformMethod, out: &mut [f32]) -> Place
@@ -34,6 +37,46 @@ pub(crate) fn wgt_line(text: &[u8], at: usize, method: TransformMethod, out: &mu
         }
     }
     place
+}
+
+// Line 3: the codes where they stand there, and the place behind them; else zeros, and the place before the line.
+pub(crate) struct Coded {
+    pub extra: usize,
+    pub at: usize,
+    pub codes: [u16; 16],
+}
+
+// The codes, as many as `out` is long.
+fn chn_codes(text: &[u8], at: usize, out: &mut [u64]) -> Place
+    ensures { λ r. ⌜ Filled (chnBy (length (now (out .entry))) (drop at (now (text .entry)))) (now (text .entry)) (now (out .entry)) r (now (out .exit)) ⌝ }
+{
+    let place = wholes_line(text, at, 99, 104, 110, out);
+    if !codes_fit(out) {
+        return Place::Nowhere;
+    }
+    place
+}
+
+pub(crate) fn chn_line(text: &[u8], at: usize, d: usize) -> Coded
+    requires { ⌜ d ≤ 16 ⌝ }
+    ensures { λ r. ⌜ codesRead (r .extra) (take d (r .codes)) (drop (r .at) (now (text .entry))) ≡ chnOr d (chnBy d (drop at (now (text .entry)))) (drop at (now (text .entry))) ⌝ }
+    ensures { λ r. ⌜ r .codes ≡ over (replicate 16 0) (take d (r .codes)) ⌝ }
+    ensures { λ r. ⌜ r .extra ≤ 1 ⌝ }
+{
+    let mut w = [0u64; 16];
+    let Place::At(p) = chn_codes(text, at, &mut w[..d]) else {
+        return Coded {
+            extra: 0,
+            at: at,
+            codes: [0u16; 16],
+        };
+    };
+    let own = narrowed(&w[..d]);
+    Coded {
+        extra: 1,
+        at: p,
+        codes: own,
+    }
 }
 
 // The last times, as many as `out` is long.

@@ -1,5 +1,6 @@
 // `restore` (document 01: taking up): the whole text is judged first, and then the lent lists are filled.
 use crate::judge::Place;
+use crate::kinds::chn_line;
 use crate::kinds::cnt_line;
 use crate::kinds::is_waiting;
 use crate::kinds::wgt_line;
@@ -11,6 +12,7 @@ use crate::save::is_past;
 use crate::save::time_width;
 use crate::settings::Set;
 use crate::settings::set_line;
+use crate::values::same_codes;
 use trcf::preprocessor::Preprocessor;
 use trcf::preprocessor::no_head;
 use trcf::transformer::WeightedTransformer;
@@ -21,19 +23,29 @@ ghost use lib.ListN.{length, drop};
 ghost use Rattle.trcf.specs.View.{lent, settingsOf, noHead, counting, lentShort};
 ghost use Rattle.trcf.specs.Settings.{dimension};
 ghost use Rattle.snapshot.specs.Judge.{countsRead, settingsTold};
+ghost use Rattle.snapshot.specs.Read.{same};
 ghost use Rattle.snapshot.specs.Restore.{outcome, restoreOf};
-ghost use Rattle.snapshot.specs.Runs.{Fills, Room, FillsOver, told, mapRan, headOf, headWith, headBy, HeadFew, countsIn, expected, lined, unkept, parts, initial, body, partsOf, bodyBy, Good, filledBy, summed};
+ghost use Rattle.snapshot.specs.Runs.{Fills, Room, FillsOver, told, mapRan, headedOf, headWith, headBy, HeadFew, countsIn, expected, lined, unkept, parts, initial, body, partsOf, bodyBy, Good, filledBy, summed};
 
-// The first bad line of the first three or 0, the place behind them, and the head that they give, with no initial values yet.
+// The first bad line of the first three or four or 0, how many of them hold codes, the place behind them, and the head that they give,
+// with no initial values yet.
 pub(crate) struct Header {
     pub bad: usize,
+    pub extra: usize,
     pub at: usize,
     pub head: Preprocessor,
 }
 
-// The head of the settings, the weights and the counters.
-fn head_with(set: Set, weights: [f32; 16], seen: u64, internal: u64, count: u64) -> Preprocessor
-    ensures { λ r. ⌜ r ≡ headWith (settingsTold set) weights (countsRead seen internal count) ⌝ }
+// The head of the settings, the weights, the codes and the counters.
+fn head_with(
+    set: Set,
+    weights: [f32; 16],
+    codes: [u16; 16],
+    seen: u64,
+    internal: u64,
+    count: u64,
+) -> Preprocessor
+    ensures { λ r. ⌜ r ≡ headWith (settingsTold set) weights codes (countsRead seen internal count) ⌝ }
 {
     let method = set.method;
     let mode = set.mode;
@@ -53,23 +65,27 @@ fn head_with(set: Set, weights: [f32; 16], seen: u64, internal: u64, count: u64)
         values_seen: seen as usize,
         internal_timestamp: internal as usize,
         initial_len: 0,
+        codes: codes,
     }
 }
 
 fn no_header(bad: usize) -> Header
     ensures { λ r. ⌜ r .bad ≡ bad ⌝ }
+    ensures { λ r. ⌜ r .extra ≡ 0 ⌝ }
 {
     Header {
         bad: bad,
+        extra: 0,
         at: 0,
         head: no_head(),
     }
 }
 
-// The lines of the settings, the weights and the counters.
+// The lines of the settings, the weights, the codes and the counters.
 fn head_lines(text: &[u8]) -> Header
-    ensures { λ r. ⌜ told (r .bad) (r .head) (drop (r .at) (now (text .entry))) ≡ mapRan headOf (headBy (now (text .entry))) ⌝ }
+    ensures { λ r. ⌜ told (r .bad) (r .head, r .extra) (drop (r .at) (now (text .entry))) ≡ mapRan headedOf (headBy (now (text .entry))) ⌝ }
     ensures { λ r. ⌜ (r .bad ≡ 0 → HeadFew (r .head)) ⌝ }
+    ensures { λ r. ⌜ r .extra ≤ 1 ⌝ }
 {
     let set = set_line(text);
     let first = set.place;
@@ -82,17 +98,21 @@ fn head_lines(text: &[u8]) -> Header
     let Place::At(q) = wgt_line(text, p, method, &mut weights[..d]) else {
         return no_header(2);
     };
-    let counters = cnt_line(text, q, method, set.start as usize);
-    let third = counters.place;
-    let Place::At(r) = third else {
-        return no_header(3);
+    let third = chn_line(text, q, d);
+    let counters = cnt_line(text, third.at, method, set.start as usize);
+    let last = counters.place;
+    let Place::At(r) = last else {
+        return no_header(3 + third.extra);
     };
+    let codes = third.codes;
     Header {
         bad: 0,
+        extra: third.extra,
         at: r,
         head: head_with(
             set,
             weights,
+            codes,
             counters.seen,
             counters.internal,
             counters.count,
@@ -275,6 +295,7 @@ fn with_initial(head: Preprocessor, n: usize) -> Preprocessor
 {
     let mode = head.forest_mode;
     let t = head.transformer;
+    let codes = head.codes;
     Preprocessor {
         transformer: t,
         forest_mode: mode,
@@ -285,6 +306,7 @@ fn with_initial(head: Preprocessor, n: usize) -> Preprocessor
         values_seen: head.values_seen,
         internal_timestamp: head.internal_timestamp,
         initial_len: n,
+        codes: codes,
     }
 }
 
@@ -319,7 +341,18 @@ fn is_short(
     )
 }
 
-// What taking up gives: 0 and the head; 19 and the bad line; or 20.
+// Whether the codes of a head are those expected.
+fn codes_agree(head: Preprocessor, codes: &[u16]) -> bool
+    requires { ⌜ HeadFew head ⌝ }
+    ensures { λ r. ⌜ r ≡ same (settingsOf head .codes) (now (codes .entry)) ⌝ }
+{
+    let t = head.transformer;
+    let d = t.input_length;
+    let own = head.codes;
+    same_codes(&own[..d], codes)
+}
+
+// What taking up gives: 0 and the head; 19 and the bad line; 27; or 20.
 pub struct Restored {
     pub row: u64,
     pub line: usize,
@@ -336,9 +369,11 @@ fn refused(row: u64, line: usize) -> Restored
     }
 }
 
-// Takes up a text: the head and the filled lists; or 19 with the bad line, or 20 where a lent list is too short, with everything lent unchanged.
+// Takes up a text: the head and the filled lists; or 19 with the bad line, or 27 where the codes are others than those expected, or 20 where
+// a lent list is too short, with everything lent unchanged.
 pub fn restore(
     text: &[u8],
+    codes: &[u16],
     statistics: &mut [f64],
     last_shingled_input: &mut [f32],
     last_shingled_point: &mut [f32],
@@ -346,7 +381,7 @@ pub fn restore(
     initial_values: &mut [f32],
     initial_timestamps: &mut [u64],
 ) -> Restored
-    ensures { λ r. ⌜ outcome (r .row) (r .line) (r .head) (lent (now (statistics .exit)) (now («last_shingled_input» .exit)) (now («last_shingled_point» .exit)) (now («previous_timestamps» .exit)) (now («initial_values» .exit)) (now («initial_timestamps» .exit))) ≡ restoreOf (now (text .entry)) (lent (now (statistics .entry)) (now («last_shingled_input» .entry)) (now («last_shingled_point» .entry)) (now («previous_timestamps» .entry)) (now («initial_values» .entry)) (now («initial_timestamps» .entry))) ⌝ }
+    ensures { λ r. ⌜ outcome (r .row) (r .line) (r .head) (lent (now (statistics .exit)) (now («last_shingled_input» .exit)) (now («last_shingled_point» .exit)) (now («previous_timestamps» .exit)) (now («initial_values» .exit)) (now («initial_timestamps» .exit))) ≡ restoreOf (now (text .entry)) (now (codes .entry)) (lent (now (statistics .entry)) (now («last_shingled_input» .entry)) (now («last_shingled_point» .entry)) (now («previous_timestamps» .entry)) (now («initial_values» .entry)) (now («initial_timestamps» .entry))) ⌝ }
 {
     let h = head_lines(text);
     if h.bad != 0 {
@@ -355,7 +390,10 @@ pub fn restore(
     let head = h.head;
     let judged = judge_body(text, h.at, head);
     if judged.bad != 0 {
-        return refused(19, 3 + judged.bad);
+        return refused(19, 3 + h.extra + judged.bad);
+    }
+    if !codes_agree(head, codes) {
+        return refused(27, 0);
     }
     if is_short(
         head,

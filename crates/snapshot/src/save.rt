@@ -1,5 +1,6 @@
 // `save` (document 01: putting away): the snapshot of a preprocessor, written into lent bytes.
 use crate::write::buf_lines;
+use crate::write::chn_line;
 use crate::write::cnt_line;
 use crate::write::dev_lines;
 use crate::write::set_line;
@@ -16,7 +17,8 @@ ghost use Prim.Native.Nat.{_+_, _*_, _≤_, _<_};
 ghost use lib.ListN.{length};
 ghost use Rattle.trcf.specs.Types.{methodNumber, modeLetter, augments};
 ghost use Rattle.trcf.specs.View.{lent, settingsOf};
-ghost use Rattle.snapshot.specs.Text.{whole};
+ghost use Rattle.snapshot.specs.Text.{whole, chnLine};
+ghost use Rattle.snapshot.specs.Read.{bytesOfLine};
 ghost use Rattle.snapshot.specs.Write.{Wrote, tabbed};
 ghost use Rattle.snapshot.specs.Save.{past, outcome, fitted, saveOf, headBytes, listBytes};
 
@@ -118,11 +120,37 @@ fn wholes_length(v: &[u64]) -> usize
     l
 }
 
-// How many bytes the lines of the settings, the weights and the counters take.
+// The codes as wider numbers.
+fn widened(codes: [u16; 16]) -> [u64; 16]
+    ensures { λ r. ⌜ r ≡ codes ⌝ }
+{
+    let mut a = [0u64; 16];
+    let mut i = 0;
+    while i < 16 {
+        a[i] = codes[i] as u64;
+        i += 1;
+    }
+    a
+}
+
+// How many bytes the codes take, each behind its tab.
+fn codes_length(head: Preprocessor) -> usize
+    requires { ⌜ head .transformer .«input_length» ≤ 16 ⌝ }
+    ensures { λ r. ⌜ r ≡ length (tabbed (map whole (settingsOf head .codes))) ⌝ }
+    ensures { λ r. ⌜ r ≤ 42000 ⌝ }
+{
+    let t = head.transformer;
+    let d = t.input_length;
+    let own = head.codes;
+    let wide = widened(own);
+    wholes_length(&wide[..d])
+}
+
+// How many bytes the lines of the settings, the weights, the codes and the counters take.
 fn head_length(head: Preprocessor) -> usize
     requires { ⌜ head .transformer .«input_length» ≤ 16 ⌝ }
     ensures { λ r. ⌜ r ≡ length (headBytes (settingsOf head) (head .«values_seen») (head .«internal_timestamp») (head .transformer .count)) ⌝ }
-    ensures { λ r. ⌜ r ≤ 400 ⌝ }
+    ensures { λ r. ⌜ r ≤ 50000 ⌝ }
 {
     let t = head.transformer;
     let d = t.input_length;
@@ -135,7 +163,7 @@ fn head_length(head: Preprocessor) -> usize
     let c = whole_length(head.values_seen as u64)
         + whole_length(head.internal_timestamp as u64)
         + whole_length(t.count);
-    a + b + c + 48 + 9 * d
+    a + b + c + 52 + 9 * d + codes_length(head)
 }
 
 // How many bytes the lines of the lent lists take.
@@ -163,7 +191,20 @@ fn lists_length(
     a + b + initial.len() * (4 + 9 * d)
 }
 
-// The lines of the settings, the weights and the counters.
+// The line of the codes.
+fn write_codes(out: &mut [u8], at: usize, head: Preprocessor) -> usize
+    requires { ⌜ head .transformer .«input_length» ≤ 16 ⌝ }
+    requires { ⌜ at + length (bytesOfLine (chnLine (settingsOf head .codes))) ≤ length (now out) ⌝ }
+    ensures { λ r. ⌜ Wrote at (bytesOfLine (chnLine (settingsOf head .codes))) (now (out .entry)) r (now (out .exit)) ⌝ }
+{
+    let t = head.transformer;
+    let d = t.input_length;
+    let own = head.codes;
+    let wide = widened(own);
+    chn_line(out, at, &wide[..d])
+}
+
+// The lines of the settings, the weights, the codes and the counters.
 fn write_head(out: &mut [u8], head: Preprocessor) -> usize
     requires { ⌜ head .transformer .«input_length» ≤ 16 ⌝ }
     requires { ⌜ length (headBytes (settingsOf head) (head .«values_seen») (head .«internal_timestamp») (head .transformer .count)) ≤ length (now out) ⌝ }
@@ -191,9 +232,10 @@ fn write_head(out: &mut [u8], head: Preprocessor) -> usize
         head.weight_time,
     );
     let q = singles_line(out, p, 119, 103, 116, &weights[..d]);
+    let r = write_codes(out, q, head);
     cnt_line(
         out,
-        q,
+        r,
         head.values_seen as u64,
         head.internal_timestamp as u64,
         t.count,

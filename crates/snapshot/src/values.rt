@@ -1,6 +1,10 @@
 // What the lines of a snapshot ask of their times (document 01, 'Trace text').
 ghost use mathlib.Core.Path.{_≡_};
-ghost use Rattle.snapshot.specs.Read.{climbs, zeros};
+ghost use mathlib.Core.Bool.{true};
+ghost use Prim.Native.Nat.{_≤_};
+ghost use lib.ListN.{length, replicate};
+ghost use Rattle.common.specs.Lent.{over};
+ghost use Rattle.snapshot.specs.Read.{climbs, zeros, allCodes, same};
 
 // Whether no time falls.
 pub(crate) fn none_falls(times: &[u64]) -> bool
@@ -26,6 +30,52 @@ pub(crate) fn all_zero(times: &[u64]) -> bool
     let mut i = 0;
     while i < times.len() {
         if times[i] != 0 {
+            return false;
+        }
+        i += 1;
+    }
+    true
+}
+
+// Whether every number is a code: 16 bits.
+pub(crate) fn codes_fit(w: &[u64]) -> bool
+    ensures { λ r. ⌜ r ≡ allCodes (now (w .entry)) ⌝ }
+{
+    let mut i = 0;
+    while i < w.len() {
+        if 65535 < w[i] {
+            return false;
+        }
+        i += 1;
+    }
+    true
+}
+
+// The codes in an array, zeros behind them.
+pub(crate) fn narrowed(w: &[u64]) -> [u16; 16]
+    requires { ⌜ length (now w) ≤ 16 ⌝ }
+    requires { ⌜ allCodes (now w) ≡ true ⌝ }
+    ensures { λ r. ⌜ r ≡ over (replicate 16 0) (now (w .entry)) ⌝ }
+{
+    let mut a = [0u16; 16];
+    let mut i = 0;
+    while i < w.len() {
+        a[i] = w[i] as u16;
+        i += 1;
+    }
+    a
+}
+
+// Whether two lists of codes are the same, in number and value.
+pub(crate) fn same_codes(a: &[u16], b: &[u16]) -> bool
+    ensures { λ r. ⌜ r ≡ same (now (a .entry)) (now (b .entry)) ⌝ }
+{
+    if a.len() != b.len() {
+        return false;
+    }
+    let mut i = 0;
+    while i < a.len() {
+        if a[i] != b[i] {
             return false;
         }
         i += 1;

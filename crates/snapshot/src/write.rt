@@ -5,7 +5,7 @@ ghost use mathlib.Core.List.{[], _∷_, _++_, map};
 ghost use Prim.Native.Nat.{_+_, _*_, _≤_, _<_};
 ghost use lib.ListN.{length};
 ghost use lib.Ieee.{binary32, binary64, toBits};
-ghost use Rattle.snapshot.specs.Text.{whole, digit, hex, float, bytesOf, singles, cntLine, devLine, devLines, timLine, bufLine, bufLines};
+ghost use Rattle.snapshot.specs.Text.{whole, digit, hex, float, bytesOf, singles, chnLine, cntLine, devLine, devLines, timLine, bufLine, bufLines};
 ghost use Rattle.snapshot.specs.Read.{bytesOfLine};
 ghost use Rattle.snapshot.specs.Write.{Wrote, tabbed, setBytes};
 
@@ -173,6 +173,16 @@ pub(crate) fn tim_line(out: &mut [u8], at: usize, v: &[u64]) -> usize
     ensures { λ r. ⌜ Wrote at (bytesOfLine (timLine (now (v .entry)))) (now (out .entry)) r (now (out .exit)) ⌝ }
 {
     let p = write_name(out, at, 116, 105, 109);
+    let q = tab_wholes(out, p, v);
+    write_byte(out, q, 10)
+}
+
+// The line of the codes.
+pub(crate) fn chn_line(out: &mut [u8], at: usize, v: &[u64]) -> usize
+    requires { ⌜ at + length (bytesOfLine (chnLine (now v))) ≤ length (now out) ⌝ }
+    ensures { λ r. ⌜ Wrote at (bytesOfLine (chnLine (now (v .entry)))) (now (out .entry)) r (now (out .exit)) ⌝ }
+{
+    let p = write_name(out, at, 99, 104, 110);
     let q = tab_wholes(out, p, v);
     write_byte(out, q, 10)
 }

@@ -33,7 +33,7 @@ abbrev turnedOf : ForestMode → TransformMethod → Forecast → Extrapolation
 turnedOf mode method =
     extrapolationOf
     (headFrom
-    (record { mode = mode; method = method; d = 1; k = 1; start = 0; stop = 0; decay = zero64; weightTime = one32; weights = one32 ∷ [] }))
+    (record { mode = mode; method = method; d = 1; k = 1; start = 0; stop = 0; decay = zero64; weightTime = one32; weights = one32 ∷ []; codes = 0 ∷ [] }))
     (replicate 30 zero64) (ofInt binary32 (pos 10) ∷ []) (10 ∷ [])
 
 abbrev single : ℕ → Float

@@ -43,6 +43,7 @@ module _ (h : Preprocessor) (l : Lent) (f : Fitted h l) where
         «values_seen» = h .«values_seen»;
         «internal_timestamp» = h .«internal_timestamp»;
         «initial_len» = sym (length-take-le (h .«initial_len») (l .initialTimestamps) held-initial) j;
+        codes = h .codes;
       }
 
   pub same-lent : l ≡ laid (view h l) l
@@ -88,6 +89,7 @@ drainedHead h n =
       «values_seen» = h .«values_seen»;
       «internal_timestamp» = h .«internal_timestamp» + n;
       «initial_len» = 0;
+      codes = h .codes;
     }
 
 module _ (h : Preprocessor) (l : Lent) (f : Fitted h l) (d-pos : 0 < h .«initial_len») (e : due (settingsOf h) (facts (view h l)) ≡ true) where

@@ -30,7 +30,7 @@ abbrev six : Float
 six = ofBits binary32 0x40c0_0000
 
 abbrev settings : Settings
-settings = record { mode = STANDARD; method = NORMALIZE; d = 1; k = 4; start = 2; stop = 10; decay = zero64; weightTime = one32; weights = one32 ∷ [] }
+settings = record { mode = STANDARD; method = NORMALIZE; d = 1; k = 4; start = 2; stop = 10; decay = zero64; weightTime = one32; weights = one32 ∷ []; codes = 0 ∷ [] }
 
 -- each list one longer than its need
 abbrev memory : Lent

@@ -25,6 +25,7 @@ pub record Settings : Type 0 where
   pub decay : Float  -- transform_decay
   pub weightTime : Float
   pub weights : List Float
+  pub codes : List ℕ  -- of the channels
 
 -- the settings and statistics that the transform reads
 abbrev pub transformer : Settings → ℕ → List Float → Transformer
@@ -60,7 +61,7 @@ settingsTable s =
     ∷ (eqb (s .d) 0, 2)  -- d = 0
     ∷ (eqb (s .k) 0, 3)  -- k = 0
     ∷ (ltb 16 (s .d) || ltb 64 (s .k), 4)  -- d or k over limit
-    ∷ (not (eqb (length (s .weights)) (s .d)), 5)  -- weights not d long
+    ∷ (not (eqb (length (s .weights)) (s .d) && eqb (length (s .codes)) (s .d)), 5)  -- weights or codes not d long
     ∷ (outsideUnit (s .decay), 6)  -- decay outside 0 ≤ it < 1
     ∷ (ltb (s .stop) (s .start), 7)  -- start > stop
     ∷ (leb 2000 (s .start), 8)  -- start ≥ 2000
@@ -78,12 +79,17 @@ wholeMax = 18446744073709551615
 abbrev pub Whole : List ℕ → Type 0
 Whole l = All (λ t. t ≤ wholeMax) l
 
+-- the greatest code: 16 bits
+abbrev pub codeMax : ℕ
+codeMax = 65535
+
 -- settings that the program can hold
 pub record MachineSettings (s : Settings) : Type 0 where
   pub stopFits : s .stop ≤ wholeMax
   pub decayFits : T (fits binary64 (s .decay))
   pub weightTimeFits : T (fits binary32 (s .weightTime))
   pub weightsFit : Fits binary32 (s .weights)
+  pub codesFit : All (λ c. c ≤ codeMax) (s .codes)
 
 -- settings that no row refuses
 pub record Valid (s : Settings) : Type 0 where

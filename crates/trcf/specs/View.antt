@@ -59,6 +59,7 @@ settingsOf h =
       decay = h .transformer .«transform_decay»;
       weightTime = h .«weight_time»;
       weights = take (h .transformer .«input_length») (h .transformer .weights);
+      codes = take (h .transformer .«input_length») (h .codes);
     }
 
 unfoldable pub view : Preprocessor → Lent → State
@@ -97,6 +98,7 @@ counting h count seen internal n =
       «values_seen» = seen;
       «internal_timestamp» = internal;
       «initial_len» = n;
+      codes = h .codes;
     }
 
 abbrev pub counted : Preprocessor → State → Preprocessor
@@ -252,8 +254,8 @@ pub record Learnable (h : Preprocessor) (y e : ℕ) (expects : Bool) (grade : Fl
 
 -- ---- `build`
 
-abbrev pub settingsFrom : PreprocessorBuilder → List Float → Settings
-settingsFrom b weights =
+abbrev pub settingsFrom : PreprocessorBuilder → List Float → List ℕ → Settings
+settingsFrom b weights codes =
     record {
       mode = b .«forest_mode»;
       method = b .«transform_method»;
@@ -264,13 +266,15 @@ settingsFrom b weights =
       decay = b .«transform_decay»;
       weightTime = b .«weight_time»;
       weights = weights;
+      codes = codes;
     }
 
 pub record Accepted (s : Settings) : Type 0 where
   pub bounded : Bounded s
   pub weighted : length (s .weights) ≡ s .d
+  pub coded : length (s .codes) ≡ s .d
 
--- "a fresh watch is what `build` gives"; an array holds the weights, zeros behind them
+-- "a fresh watch is what `build` gives"; an array holds the weights, and one the codes, zeros behind them
 abbrev pub headFrom : Settings → Preprocessor
 headFrom s =
     record {
@@ -289,13 +293,14 @@ headFrom s =
       «values_seen» = 0;
       «internal_timestamp» = 0;
       «initial_len» = 0;
+      codes = over (replicate 16 0) (s .codes);
     }
 
 -- what a refused `build` hands back: every call refuses it
 abbrev pub noHead : Preprocessor
 noHead =
     headFrom
-    (record { mode = STANDARD; method = NONE; d = 0; k = 0; start = 0; stop = 0; decay = zero64; weightTime = zero32; weights = [] })
+    (record { mode = STANDARD; method = NONE; d = 0; k = 0; start = 0; stop = 0; decay = zero64; weightTime = zero32; weights = []; codes = [] })
 
 -- the row, the head and the final contents of what is lent
 pub record Outcome : Type 0 where

@@ -228,6 +228,7 @@ pub(crate) fn drain_due(
     let k = head.shingle_size;
     let n = head.initial_len;
     let weights = t.weights;
+    let codes = head.codes;
     let m = dimension_of(head);
     drain_all(
         head,
@@ -254,5 +255,6 @@ pub(crate) fn drain_due(
         values_seen: head.values_seen,
         internal_timestamp: head.internal_timestamp + n,
         initial_len: 0,
+        codes: codes,
     }
 }

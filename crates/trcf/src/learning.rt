@@ -37,6 +37,7 @@ pub(crate) fn with_counts(
     let mode = head.forest_mode;
     let method = t.transform_method;
     let weights = t.weights;
+    let codes = head.codes;
     Preprocessor {
         transformer: WeightedTransformer {
             transform_method: method,
@@ -53,6 +54,7 @@ pub(crate) fn with_counts(
         values_seen: values_seen,
         internal_timestamp: internal_timestamp,
         initial_len: initial_len,
+        codes: codes,
     }
 }
 

@@ -54,9 +54,10 @@ pub struct Preprocessor {
     pub values_seen: usize,
     pub internal_timestamp: usize,
     pub initial_len: usize,
+    pub codes: [u16; 16],
 }
 
-// The settings of a new preprocessor; its weights are handed beside it.
+// The settings of a new preprocessor; its weights and codes are handed beside it.
 pub struct PreprocessorBuilder {
     pub forest_mode: ForestMode,
     pub transform_method: TransformMethod,
@@ -118,13 +119,29 @@ fn weights_from(weights: &[f32]) -> [f32; 16]
     a
 }
 
-fn head_from(b: PreprocessorBuilder, weights: &[f32]) -> Preprocessor
+// The codes in an array, zeros behind them.
+fn codes_from(w: &[u16]) -> [u16; 16]
+    requires { ⌜ length (now w) ≤ 16 ⌝ }
+    ensures { λ r. ⌜ r ≡ over (replicate 16 0) (now (w .entry)) ⌝ }
+{
+    let mut a = [0u16; 16];
+    let mut i = 0;
+    while i < w.len() {
+        a[i] = w[i];
+        i += 1;
+    }
+    a
+}
+
+fn head_from(b: PreprocessorBuilder, weights: &[f32], codes: &[u16]) -> Preprocessor
     requires { ⌜ length (now weights) ≤ 16 ⌝ }
-    ensures { λ r. ⌜ r ≡ headFrom (settingsFrom b (now (weights .entry))) ⌝ }
+    requires { ⌜ length (now codes) ≤ 16 ⌝ }
+    ensures { λ r. ⌜ r ≡ headFrom (settingsFrom b (now (weights .entry)) (now (codes .entry))) ⌝ }
 {
     let method = b.transform_method;
     let mode = b.forest_mode;
     let a = weights_from(weights);
+    let own = codes_from(codes);
     Preprocessor {
         transformer: WeightedTransformer {
             transform_method: method,
@@ -141,6 +158,7 @@ fn head_from(b: PreprocessorBuilder, weights: &[f32]) -> Preprocessor
         values_seen: 0,
         internal_timestamp: 0,
         initial_len: 0,
+        codes: own,
     }
 }
 
@@ -164,12 +182,14 @@ pub fn no_head() -> Preprocessor
         values_seen: 0,
         internal_timestamp: 0,
         initial_len: 0,
+        codes: [0; 16],
     }
 }
 
 pub fn build(
     builder: PreprocessorBuilder,
     weights: &[f32],
+    codes: &[u16],
     statistics: &mut [f64],
     last_shingled_input: &mut [f32],
     last_shingled_point: &mut [f32],
@@ -178,16 +198,16 @@ pub fn build(
     initial_timestamps: &[u64],
 ) -> Changed
     ensures { λ r. ⌜ outcome (r .row) (r .head) (lent (now (statistics .exit)) (now («last_shingled_input» .exit)) (now («last_shingled_point» .exit)) (now («previous_timestamps» .exit)) (now («initial_values» .entry)) (now («initial_timestamps» .entry)))
-        ≡ buildOf (settingsFrom builder (now (weights .entry))) (lent (now (statistics .entry)) (now («last_shingled_input» .entry)) (now («last_shingled_point» .entry)) (now («previous_timestamps» .entry)) (now («initial_values» .entry)) (now («initial_timestamps» .entry))) ⌝ }
+        ≡ buildOf (settingsFrom builder (now (weights .entry)) (now (codes .entry))) (lent (now (statistics .entry)) (now («last_shingled_input» .entry)) (now («last_shingled_point» .entry)) (now («previous_timestamps» .entry)) (now («initial_values» .entry)) (now («initial_timestamps» .entry))) ⌝ }
 {
-    let row = settings_row(builder, weights);
+    let row = settings_row(builder, weights, codes);
     if row != 0 {
         return Changed {
             row: row,
             head: no_head(),
         };
     }
-    let head = head_from(builder, weights);
+    let head = head_from(builder, weights, codes);
     let short = lent_row(
         head,
         statistics,

@@ -47,9 +47,9 @@ fn is_imputing(m: ForestMode) -> bool
 }
 
 // Rows 1 to 9, also of a head that comes from outside.
-pub fn settings_row(b: PreprocessorBuilder, weights: &[f32]) -> u64
-    ensures { λ r. ⌜ r ≡ settingsRow (settingsFrom b (now (weights .entry))) ⌝ }
-    ensures { λ r. ⌜ (r ≡ 0 → Accepted (settingsFrom b (now (weights .entry)))) ⌝ }
+pub fn settings_row(b: PreprocessorBuilder, weights: &[f32], codes: &[u16]) -> u64
+    ensures { λ r. ⌜ r ≡ settingsRow (settingsFrom b (now (weights .entry)) (now (codes .entry))) ⌝ }
+    ensures { λ r. ⌜ (r ≡ 0 → Accepted (settingsFrom b (now (weights .entry)) (now (codes .entry)))) ⌝ }
 {
     let mode = b.forest_mode;
     let method = b.transform_method;
@@ -72,6 +72,9 @@ pub fn settings_row(b: PreprocessorBuilder, weights: &[f32]) -> u64
         return 4;
     }
     if weights.len() != d {
+        return 5;
+    }
+    if codes.len() != d {
         return 5;
     }
     if outside_unit(b.transform_decay) {

@@ -68,17 +68,24 @@ mul-result c = search needs
 add-result-4 : tie.Need-add-result-4
 add-result-4 c = search needs
 
+codes-length-requires : tie.Need-codes-length-requires
+codes-length-requires c κs = search needs
+
+add-result-5 : tie.Need-add-result-5
+add-result-5 c = search needs
+
 returns : tie.Need-returns
 returns c =
-    let h = c .before .before .before .before .before .before .before .before .before .before .args .head in
+    let h = c .before .before .before .before .before .before .before .before .before .before .before .args .head in
     let w = h .transformer .weights in
     let d = h .transformer .«input_length» in
-    let z : length w ≡ 16 = sixteen w (c .before .before .before .before .before .before .before .before .before .before .good .0 .1 .1 .0 .1 .1 .1 .1 .1 .0 .1 .0 .1) in
+    let z : length w ≡ 16 = sixteen w (c .before .before .before .before .before .before .before .before .before .before .before .good .0 .1 .1 .0 .1 .1 .1 .1 .1 .0 .1 .0 .1) in
     omega (
       arith,
       head-size (settingsOf h) (h .«values_seen») (h .«internal_timestamp») (h .transformer .count),
       length-take-le d w (omega arith),
-      ap (λ (n : ℕ). length (whole n)) (c .before .before .before .before .before .before .before .before .method-number .ensures),
+      c .codes-length .ensures .0,
+      ap (λ (n : ℕ). length (whole n)) (c .before .before .before .before .before .before .before .before .before .method-number .ensures),
     )
 
 pub head-length-spec : {M : Type 1} → statement M
@@ -104,4 +111,6 @@ head-length-spec =
     add-result-3
     mul-result
     add-result-4
+    codes-length-requires
+    add-result-5
     returns)

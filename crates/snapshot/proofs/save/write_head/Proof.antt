@@ -52,14 +52,23 @@ singles-line-requires c κs =
     let e = set-lined (settingsOf h) (c .before .before .before .before .before .before .before .mode-letter .result) (c .before .before .before .before .before .before .method-number .result) (c .before .before .before .before .before .before .before .mode-letter .ensures) (c .before .before .before .before .before .before .method-number .ensures) in
     omega (arith, head-split (settingsOf h) (h .«values_seen») (h .«internal_timestamp») (h .transformer .count), ap length e, c .before .before .before .before .before .before .before .before .before .before .before .pre .1, c .before .before .before .before .set-line .ensures .place, c .before .before .before .before .set-line .ensures .kept)
 
-cnt-line-requires : tie.Need-cnt-line-requires
-cnt-line-requires c κs =
+write-codes-requires : tie.Need-write-codes-requires
+write-codes-requires c κs =
     let h = c .before .before .before .before .before .before .before .before .before .before .before .before .before .before .before .args .head in
     let w = h .transformer .weights in
     let d = h .transformer .«input_length» in
     let z : length w ≡ 16 = sixteen w (c .before .before .before .before .before .before .before .before .before .before .before .before .before .before .before .good .1 .0 .1 .1 .0 .1 .1 .1 .1 .1 .0 .1 .0 .1) in
     let e = set-lined (settingsOf h) (c .before .before .before .before .before .before .before .before .before .before .before .mode-letter .result) (c .before .before .before .before .before .before .before .before .before .before .method-number .result) (c .before .before .before .before .before .before .before .before .before .before .before .mode-letter .ensures) (c .before .before .before .before .before .before .before .before .before .before .method-number .ensures) in
-    omega (arith, head-split (settingsOf h) (h .«values_seen») (h .«internal_timestamp») (h .transformer .count), ap length e, c .before .before .before .before .before .before .before .before .before .before .before .before .before .before .before .pre .1, c .before .before .before .before .before .before .before .before .set-line .ensures .place, c .before .before .before .before .before .before .before .before .set-line .ensures .kept, c .before .before .before .singles-line .ensures .place, c .before .before .before .singles-line .ensures .kept)
+    (c .before .before .before .before .before .before .before .before .before .before .before .before .before .before .before .pre .0, omega (arith, head-split (settingsOf h) (h .«values_seen») (h .«internal_timestamp») (h .transformer .count), ap length e, c .before .before .before .before .before .before .before .before .before .before .before .before .before .before .before .pre .1, c .before .before .before .before .before .before .before .before .set-line .ensures .place, c .before .before .before .before .before .before .before .before .set-line .ensures .kept, c .before .before .before .singles-line .ensures .place, c .before .before .before .singles-line .ensures .kept))
+
+cnt-line-requires : tie.Need-cnt-line-requires
+cnt-line-requires c κs =
+    let h = c .before .before .before .before .before .before .before .before .before .before .before .before .before .before .before .before .before .before .before .args .head in
+    let w = h .transformer .weights in
+    let d = h .transformer .«input_length» in
+    let z : length w ≡ 16 = sixteen w (c .before .before .before .before .before .before .before .before .before .before .before .before .before .before .before .before .before .before .before .good .1 .0 .1 .1 .0 .1 .1 .1 .1 .1 .0 .1 .0 .1) in
+    let e = set-lined (settingsOf h) (c .before .before .before .before .before .before .before .before .before .before .before .before .before .before .before .mode-letter .result) (c .before .before .before .before .before .before .before .before .before .before .before .before .before .before .method-number .result) (c .before .before .before .before .before .before .before .before .before .before .before .before .before .before .before .mode-letter .ensures) (c .before .before .before .before .before .before .before .before .before .before .before .before .before .before .method-number .ensures) in
+    omega (arith, head-split (settingsOf h) (h .«values_seen») (h .«internal_timestamp») (h .transformer .count), ap length e, c .before .before .before .before .before .before .before .before .before .before .before .before .before .before .before .before .before .before .before .pre .1, c .before .before .before .before .before .before .before .before .before .before .before .before .set-line .ensures .place, c .before .before .before .before .before .before .before .before .before .before .before .before .set-line .ensures .kept, c .before .before .before .before .before .before .before .singles-line .ensures .place, c .before .before .before .before .before .before .before .singles-line .ensures .kept, c .before .before .before .write-codes .ensures .place, c .before .before .before .write-codes .ensures .kept)
 
 same-length : tie.Need-same-length
 same-length c = search needs
@@ -67,12 +76,12 @@ same-length c = search needs
 returns : tie.Need-returns
 unfolding headBytes
 returns c =
-    let h = c .before .before .before .before .before .before .before .before .before .before .before .before .before .before .before .before .before .before .args .head in
+    let h = c .before .before .before .before .before .before .before .before .before .before .before .before .before .before .before .before .before .before .before .before .before .before .args .head in
     let w = h .transformer .weights in
     let d = h .transformer .«input_length» in
-    let z : length w ≡ 16 = sixteen w (c .before .before .before .before .before .before .before .before .before .before .before .before .before .before .before .before .before .before .good .1 .0 .1 .1 .0 .1 .1 .1 .1 .1 .0 .1 .0 .1) in
-    let e = set-lined (settingsOf h) (c .before .before .before .before .before .before .before .before .before .before .before .before .before .before .mode-letter .result) (c .before .before .before .before .before .before .before .before .before .before .before .before .before .method-number .result) (c .before .before .before .before .before .before .before .before .before .before .before .before .before .before .mode-letter .ensures) (c .before .before .before .before .before .before .before .before .before .before .before .before .before .method-number .ensures) in
-    wrote-then (wrote-is e (c .before .before .before .before .before .before .before .before .before .before .before .set-line .ensures)) (wrote-then (c .before .before .before .before .before .before .singles-line .ensures) (c .before .before .cnt-line .ensures))
+    let z : length w ≡ 16 = sixteen w (c .before .before .before .before .before .before .before .before .before .before .before .before .before .before .before .before .before .before .before .before .before .before .good .1 .0 .1 .1 .0 .1 .1 .1 .1 .1 .0 .1 .0 .1) in
+    let e = set-lined (settingsOf h) (c .before .before .before .before .before .before .before .before .before .before .before .before .before .before .before .before .before .before .mode-letter .result) (c .before .before .before .before .before .before .before .before .before .before .before .before .before .before .before .before .before .method-number .result) (c .before .before .before .before .before .before .before .before .before .before .before .before .before .before .before .before .before .before .mode-letter .ensures) (c .before .before .before .before .before .before .before .before .before .before .before .before .before .before .before .before .before .method-number .ensures) in
+    wrote-then (wrote-is e (c .before .before .before .before .before .before .before .before .before .before .before .before .before .before .before .set-line .ensures)) (wrote-then (c .before .before .before .before .before .before .before .before .before .before .singles-line .ensures) (wrote-then (c .before .before .before .before .before .before .write-codes .ensures) (c .before .before .cnt-line .ensures)))
 
 pub write-head-spec : {M : Type 1} → statement M
 write-head-spec =
@@ -84,6 +93,7 @@ write-head-spec =
     array-share-prefix-weights
     slice-aggregate-singles-line
     singles-line-requires
+    write-codes-requires
     cnt-line-requires
     same-length
     returns)

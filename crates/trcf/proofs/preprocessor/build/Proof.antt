@@ -21,19 +21,19 @@ no-head-requires c κs = tt
 
 returns : tie.Need-returns
 returns c =
-    let a = c .before .before .before .before .before .before .before .before .before .before .args in
-    let s = settingsFrom (a .builder) (a .weights .now) in
+    let a = c .before .before .before .before .before .before .before .before .before .before .before .args in
+    let s = settingsFrom (a .builder) (a .weights .now) (a .codes .now) in
     let l = lent (a .statistics .now) (a .last-shingled-input .now) (a .last-shingled-point .now) (a .previous-timestamps .now) (a .initial-values .now) (a .initial-timestamps .now) in
     let e = c .before .before .settings-row .ensures .0 in
     rw (c .no-head .ensures, e) (build-refused s l (λ z. c .before .if1 .taken (e ∙ z)))
 
 head-from-requires : tie.Need-head-from-requires
-head-from-requires c κs = let r = c .before .settings-row .ensures .1 (c .if1 .left) in omega (arith, r .bounded, r .weighted)
+head-from-requires c κs = let r = c .before .settings-row .ensures .1 (c .if1 .left) in (omega (arith, r .bounded, r .weighted), omega (arith, r .bounded, r .coded))
 
 lent-row-requires : tie.Need-lent-row-requires
 lent-row-requires c κs =
-    let a = c .before .before .before .before .before .before .before .before .before .before .before .before .before .before .args in
-    let s = settingsFrom (a .builder) (a .weights .now) in
+    let a = c .before .before .before .before .before .before .before .before .before .before .before .before .before .before .before .args in
+    let s = settingsFrom (a .builder) (a .weights .now) (a .codes .now) in
     let l = lent (a .statistics .now) (a .last-shingled-input .now) (a .last-shingled-point .now) (a .previous-timestamps .now) (a .initial-values .now) (a .initial-timestamps .now) in
     rw (c .before .before .before .before .head-from .ensures) (bounded-from s (c .before .before .before .before .before .before .settings-row .ensures .1 (c .before .before .before .before .before .if1 .left) .bounded))
 
@@ -54,8 +54,8 @@ same-length-4 c = refl
 
 returns-2 : tie.Need-returns-2
 returns-2 c =
-    let a = c .before .before .before .before .before .before .before .before .before .before .before .before .before .before .before .before .before .args in
-    let s = settingsFrom (a .builder) (a .weights .now) in
+    let a = c .before .before .before .before .before .before .before .before .before .before .before .before .before .before .before .before .before .before .args in
+    let s = settingsFrom (a .builder) (a .weights .now) (a .codes .now) in
     let l = lent (a .statistics .now) (a .last-shingled-input .now) (a .last-shingled-point .now) (a .previous-timestamps .now) (a .initial-values .now) (a .initial-timestamps .now) in
     let e = c .before .before .before .before .before .before .before .before .before .settings-row .ensures .0 in
     let f : c .before .before .lent-row .result ≡ lentRow (headFrom s) l = c .before .before .lent-row .ensures .0 ∙ ap (λ (h : Preprocessor). lentRow h l) (c .before .before .before .before .before .before .before .head-from .ensures) in
@@ -63,8 +63,8 @@ returns-2 c =
 
 dimension-of-requires : tie.Need-dimension-of-requires
 dimension-of-requires c κs =
-    let a = c .before .before .before .before .before .before .before .before .before .before .before .before .before .before .before .before .args in
-    let s = settingsFrom (a .builder) (a .weights .now) in
+    let a = c .before .before .before .before .before .before .before .before .before .before .before .before .before .before .before .before .before .args in
+    let s = settingsFrom (a .builder) (a .weights .now) (a .codes .now) in
     let l = lent (a .statistics .now) (a .last-shingled-input .now) (a .last-shingled-point .now) (a .previous-timestamps .now) (a .initial-values .now) (a .initial-timestamps .now) in
     rw (c .before .before .before .before .before .before .head-from .ensures) (bounded-from s (c .before .before .before .before .before .before .before .before .settings-row .ensures .1 (c .before .before .before .before .before .before .before .if1 .left) .bounded))
 
@@ -130,8 +130,8 @@ same-length-8 c = search needs
 
 returns-3 : tie.Need-returns-3
 returns-3 c =
-    let a = c .before .before .before .before .before .before .before .before .before .before .before .before .before .before .before .before .before .before .before .before .before .before .before .before .before .before .before .before .before .before .before .before .before .args in
-    let s = settingsFrom (a .builder) (a .weights .now) in
+    let a = c .before .before .before .before .before .before .before .before .before .before .before .before .before .before .before .before .before .before .before .before .before .before .before .before .before .before .before .before .before .before .before .before .before .before .args in
+    let s = settingsFrom (a .builder) (a .weights .now) (a .codes .now) in
     let l = lent (a .statistics .now) (a .last-shingled-input .now) (a .last-shingled-point .now) (a .previous-timestamps .now) (a .initial-values .now) (a .initial-timestamps .now) in
     let e = c .before .before .before .before .before .before .before .before .before .before .before .before .before .before .before .before .before .before .before .before .before .before .before .before .before .settings-row .ensures .0 in
     let f : c .before .before .before .before .before .before .before .before .before .before .before .before .before .before .before .before .before .before .lent-row .result ≡ lentRow (headFrom s) l = c .before .before .before .before .before .before .before .before .before .before .before .before .before .before .before .before .before .before .lent-row .ensures .0 ∙ ap (λ (h : Preprocessor). lentRow h l) (c .before .before .before .before .before .before .before .before .before .before .before .before .before .before .before .before .before .before .before .before .before .before .before .head-from .ensures) in

@@ -6,8 +6,11 @@ use Rattle.trcf.proofs.preprocessor.head_from.Tie as tie
 weights-from-requires : tie.Need-weights-from-requires
 weights-from-requires c κs = search needs
 
+codes-from-requires : tie.Need-codes-from-requires
+codes-from-requires c κs = search needs
+
 returns : tie.Need-returns
-returns c = rw (c .weights-from .ensures)
+returns c = rw (c .before .weights-from .ensures, c .codes-from .ensures)
 
 pub head-from-spec : {M : Type 1} → statement M
-head-from-spec = tie.close (tie.spec weights-from-requires returns)
+head-from-spec = tie.close (tie.spec weights-from-requires codes-from-requires returns)

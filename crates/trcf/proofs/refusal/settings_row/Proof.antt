@@ -33,31 +33,35 @@ returns-6 : tie.Need-returns-6
 unfolding settingsRow
 returns-6 c = (rw (sym (c .before .before .before .before .before .before .is-imputing .ensures) ∙ c .before .before .before .before .before .if1 .left, ne-eqb _ _ (c .before .before .before .before .if2 .left), ne-eqb _ _ (c .before .before .before .if3 .left), le-ltb _ _ (c .before .before .if4 .left), le-ltb _ _ (c .before .if5 .left), ne-eqb _ _ (c .if6 .taken)), λ e. absurd (omega (arith, e)))
 
+returns-7 : tie.Need-returns-7
+unfolding settingsRow
+returns-7 c = (rw (sym (c .before .before .before .before .before .before .before .is-imputing .ensures) ∙ c .before .before .before .before .before .before .if1 .left, ne-eqb _ _ (c .before .before .before .before .before .if2 .left), ne-eqb _ _ (c .before .before .before .before .if3 .left), le-ltb _ _ (c .before .before .before .if4 .left), le-ltb _ _ (c .before .before .if5 .left), eq-eqb _ _ (c .before .if6 .left), ne-eqb _ _ (c .if7 .taken)), λ e. absurd (omega (arith, e)))
+
 outside-unit-requires : tie.Need-outside-unit-requires
 outside-unit-requires c κs = tt
 
-returns-7 : tie.Need-returns-7
-unfolding settingsRow
-returns-7 c = (rw (sym (c .before .before .before .before .before .before .before .before .is-imputing .ensures) ∙ c .before .before .before .before .before .before .before .if1 .left, ne-eqb _ _ (c .before .before .before .before .before .before .if2 .left), ne-eqb _ _ (c .before .before .before .before .before .if3 .left), le-ltb _ _ (c .before .before .before .before .if4 .left), le-ltb _ _ (c .before .before .before .if5 .left), eq-eqb _ _ (c .before .before .if6 .left), sym (c .before .outside-unit .ensures) ∙ c .if7 .taken), λ e. absurd (omega (arith, e)))
-
 returns-8 : tie.Need-returns-8
 unfolding settingsRow
-returns-8 c = (rw (sym (c .before .before .before .before .before .before .before .before .before .before .is-imputing .ensures) ∙ c .before .before .before .before .before .before .before .before .before .if1 .left, ne-eqb _ _ (c .before .before .before .before .before .before .before .before .if2 .left), ne-eqb _ _ (c .before .before .before .before .before .before .before .if3 .left), le-ltb _ _ (c .before .before .before .before .before .before .if4 .left), le-ltb _ _ (c .before .before .before .before .before .if5 .left), eq-eqb _ _ (c .before .before .before .before .if6 .left), sym (c .before .before .before .outside-unit .ensures) ∙ c .before .before .if7 .left, lt-ltb _ _ (c .if8 .taken)), λ e. absurd (omega (arith, e)))
+returns-8 c = (rw (sym (c .before .before .before .before .before .before .before .before .before .is-imputing .ensures) ∙ c .before .before .before .before .before .before .before .before .if1 .left, ne-eqb _ _ (c .before .before .before .before .before .before .before .if2 .left), ne-eqb _ _ (c .before .before .before .before .before .before .if3 .left), le-ltb _ _ (c .before .before .before .before .before .if4 .left), le-ltb _ _ (c .before .before .before .before .if5 .left), eq-eqb _ _ (c .before .before .before .if6 .left), eq-eqb _ _ (c .before .before .if7 .left), sym (c .before .outside-unit .ensures) ∙ c .if8 .taken), λ e. absurd (omega (arith, e)))
 
 returns-9 : tie.Need-returns-9
 unfolding settingsRow
-returns-9 c = (rw (sym (c .before .before .before .before .before .before .before .before .before .before .before .is-imputing .ensures) ∙ c .before .before .before .before .before .before .before .before .before .before .if1 .left, ne-eqb _ _ (c .before .before .before .before .before .before .before .before .before .if2 .left), ne-eqb _ _ (c .before .before .before .before .before .before .before .before .if3 .left), le-ltb _ _ (c .before .before .before .before .before .before .before .if4 .left), le-ltb _ _ (c .before .before .before .before .before .before .if5 .left), eq-eqb _ _ (c .before .before .before .before .before .if6 .left), sym (c .before .before .before .before .outside-unit .ensures) ∙ c .before .before .before .if7 .left, le-ltb _ _ (c .before .if8 .left), le-leb _ _ (c .if9 .taken)), λ e. absurd (omega (arith, e)))
+returns-9 c = (rw (sym (c .before .before .before .before .before .before .before .before .before .before .before .is-imputing .ensures) ∙ c .before .before .before .before .before .before .before .before .before .before .if1 .left, ne-eqb _ _ (c .before .before .before .before .before .before .before .before .before .if2 .left), ne-eqb _ _ (c .before .before .before .before .before .before .before .before .if3 .left), le-ltb _ _ (c .before .before .before .before .before .before .before .if4 .left), le-ltb _ _ (c .before .before .before .before .before .before .if5 .left), eq-eqb _ _ (c .before .before .before .before .before .if6 .left), eq-eqb _ _ (c .before .before .before .before .if7 .left), sym (c .before .before .before .outside-unit .ensures) ∙ c .before .before .if8 .left, lt-ltb _ _ (c .if9 .taken)), λ e. absurd (omega (arith, e)))
+
+returns-10 : tie.Need-returns-10
+unfolding settingsRow
+returns-10 c = (rw (sym (c .before .before .before .before .before .before .before .before .before .before .before .before .is-imputing .ensures) ∙ c .before .before .before .before .before .before .before .before .before .before .before .if1 .left, ne-eqb _ _ (c .before .before .before .before .before .before .before .before .before .before .if2 .left), ne-eqb _ _ (c .before .before .before .before .before .before .before .before .before .if3 .left), le-ltb _ _ (c .before .before .before .before .before .before .before .before .if4 .left), le-ltb _ _ (c .before .before .before .before .before .before .before .if5 .left), eq-eqb _ _ (c .before .before .before .before .before .before .if6 .left), eq-eqb _ _ (c .before .before .before .before .before .if7 .left), sym (c .before .before .before .before .outside-unit .ensures) ∙ c .before .before .before .if8 .left, le-ltb _ _ (c .before .if9 .left), le-leb _ _ (c .if10 .taken)), λ e. absurd (omega (arith, e)))
 
 weights-refused-requires : tie.Need-weights-refused-requires
 weights-refused-requires c κs = tt
 
-returns-10 : tie.Need-returns-10
-unfolding settingsRow
-returns-10 c = (rw (sym (c .before .before .before .before .before .before .before .before .before .before .before .before .before .is-imputing .ensures) ∙ c .before .before .before .before .before .before .before .before .before .before .before .before .if1 .left, ne-eqb _ _ (c .before .before .before .before .before .before .before .before .before .before .before .if2 .left), ne-eqb _ _ (c .before .before .before .before .before .before .before .before .before .before .if3 .left), le-ltb _ _ (c .before .before .before .before .before .before .before .before .before .if4 .left), le-ltb _ _ (c .before .before .before .before .before .before .before .before .if5 .left), eq-eqb _ _ (c .before .before .before .before .before .before .before .if6 .left), sym (c .before .before .before .before .before .before .outside-unit .ensures) ∙ c .before .before .before .before .before .if7 .left, le-ltb _ _ (c .before .before .before .if8 .left), lt-leb _ _ (c .before .before .if9 .left), sym (c .before .weights-refused .ensures) ∙ c .if10 .taken), λ e. absurd (omega (arith, e)))
-
 returns-11 : tie.Need-returns-11
 unfolding settingsRow
-returns-11 c = (rw (sym (c .before .before .before .before .before .before .before .before .before .before .before .before .before .is-imputing .ensures) ∙ c .before .before .before .before .before .before .before .before .before .before .before .before .if1 .left, ne-eqb _ _ (c .before .before .before .before .before .before .before .before .before .before .before .if2 .left), ne-eqb _ _ (c .before .before .before .before .before .before .before .before .before .before .if3 .left), le-ltb _ _ (c .before .before .before .before .before .before .before .before .before .if4 .left), le-ltb _ _ (c .before .before .before .before .before .before .before .before .if5 .left), eq-eqb _ _ (c .before .before .before .before .before .before .before .if6 .left), sym (c .before .before .before .before .before .before .outside-unit .ensures) ∙ c .before .before .before .before .before .if7 .left, le-ltb _ _ (c .before .before .before .if8 .left), lt-leb _ _ (c .before .before .if9 .left), sym (c .before .weights-refused .ensures) ∙ c .if10 .left), λ e. record { bounded = record { d-pos = omega arith; d-few = omega arith; k-pos = omega arith; k-few = omega arith; start-few = omega arith }; weighted = omega arith })
+returns-11 c = (rw (sym (c .before .before .before .before .before .before .before .before .before .before .before .before .before .before .is-imputing .ensures) ∙ c .before .before .before .before .before .before .before .before .before .before .before .before .before .if1 .left, ne-eqb _ _ (c .before .before .before .before .before .before .before .before .before .before .before .before .if2 .left), ne-eqb _ _ (c .before .before .before .before .before .before .before .before .before .before .before .if3 .left), le-ltb _ _ (c .before .before .before .before .before .before .before .before .before .before .if4 .left), le-ltb _ _ (c .before .before .before .before .before .before .before .before .before .if5 .left), eq-eqb _ _ (c .before .before .before .before .before .before .before .before .if6 .left), eq-eqb _ _ (c .before .before .before .before .before .before .before .if7 .left), sym (c .before .before .before .before .before .before .outside-unit .ensures) ∙ c .before .before .before .before .before .if8 .left, le-ltb _ _ (c .before .before .before .if9 .left), lt-leb _ _ (c .before .before .if10 .left), sym (c .before .weights-refused .ensures) ∙ c .if11 .taken), λ e. absurd (omega (arith, e)))
+
+returns-12 : tie.Need-returns-12
+unfolding settingsRow
+returns-12 c = (rw (sym (c .before .before .before .before .before .before .before .before .before .before .before .before .before .before .is-imputing .ensures) ∙ c .before .before .before .before .before .before .before .before .before .before .before .before .before .if1 .left, ne-eqb _ _ (c .before .before .before .before .before .before .before .before .before .before .before .before .if2 .left), ne-eqb _ _ (c .before .before .before .before .before .before .before .before .before .before .before .if3 .left), le-ltb _ _ (c .before .before .before .before .before .before .before .before .before .before .if4 .left), le-ltb _ _ (c .before .before .before .before .before .before .before .before .before .if5 .left), eq-eqb _ _ (c .before .before .before .before .before .before .before .before .if6 .left), eq-eqb _ _ (c .before .before .before .before .before .before .before .if7 .left), sym (c .before .before .before .before .before .before .outside-unit .ensures) ∙ c .before .before .before .before .before .if8 .left, le-ltb _ _ (c .before .before .before .if9 .left), lt-leb _ _ (c .before .before .if10 .left), sym (c .before .weights-refused .ensures) ∙ c .if11 .left), λ e. record { bounded = record { d-pos = omega arith; d-few = omega arith; k-pos = omega arith; k-few = omega arith; start-few = omega arith }; weighted = omega arith; coded = omega arith })
 
 pub settings-row-spec : {M : Type 1} → statement M
 settings-row-spec =
@@ -70,10 +74,11 @@ settings-row-spec =
     returns-4
     returns-5
     returns-6
-    outside-unit-requires
     returns-7
+    outside-unit-requires
     returns-8
     returns-9
-    weights-refused-requires
     returns-10
-    returns-11)
+    weights-refused-requires
+    returns-11
+    returns-12)

@@ -22,7 +22,7 @@ use Rattle.trcf.specs.Transformer.{zero32, statisticAt, putStatistic, fed, devi
 use Rattle.trcf.specs.Settings.{Settings, block, dimension, waiting}
 use Rattle.trcf.specs.Calls.{Call, shingledPoint, postProcess, drain, transform, invertExtrapolation, scale, shift, status, finite, due, newest, wrongLength, outside, drainFull, learnFull, lookahead, unturnable, turnShort, waitingShort, learnShort, table, rows}
 use Rattle.trcf.specs.Preprocessor.{State, fresh, facts, refusal, timeFed, feed, timescale, timedrift, timeElement, transformedAfter, previous, primed, drainOne, drainAll, drained as drainedState, held, learned as learnedState, learnedWith, change, next, run, deviations, scaleOf, shiftOf, pointOf, invertTime, numbersOf, timesOf, blockFrom, pastValues, expectedValues, anomalyOf, Answer, refused, absent, done, wrote, learnt, turned, told, learnedNothing, heldAnswer, learnedAnswer, learnAnswer, turnedBack, statusOf, reply, answer, answers}
-use Rattle.snapshot.specs.Text.{whole, float, setLine, singles, cntLine, devLine, timLine, bufLine, linesOf, render}
+use Rattle.snapshot.specs.Text.{whole, float, setLine, singles, cntLine, devLine, timLine, bufLine, chnLine, linesBy, bodyLines, render}
 use Rattle.snapshot.specs.Read.{same}
 
 -- to unfold this is to unfold whatever its line names
@@ -43,7 +43,7 @@ unfolding computing seenOf internalOf bufferOf shingled inputsOf timestampsOf ne
 recording = tt
 
 writing : Unit {0}
-unfolding whole float setLine singles cntLine devLine timLine bufLine linesOf render
+unfolding whole float setLine singles cntLine devLine timLine bufLine linesBy bodyLines chnLine render
 writing = tt
 
 -- ---- settings and calls
@@ -72,7 +72,7 @@ thirty = ofBits binary32 0x41f0_0000
 -- d 1, decay 0, weight 1
 abbrev sets : ForestMode → TransformMethod → ℕ → ℕ → ℕ → Float → Settings
 sets mode method k start stop wt =
-    record { mode = mode; method = method; d = 1; k = k; start = start; stop = stop; decay = zero64; weightTime = wt; weights = one ∷ [] }
+    record { mode = mode; method = method; d = 1; k = k; start = start; stop = stop; decay = zero64; weightTime = wt; weights = one ∷ []; codes = 0 ∷ [] }
 
 -- a learn with outputs long enough
 abbrev learnAt : Float → ℕ → Option (List Float) → Call
@@ -127,6 +127,7 @@ abbrev benchText : List ℕ
 benchText =
     115 ∷ 101 ∷ 116 ∷ 9 ∷ 83 ∷ 9 ∷ 48 ∷ 9 ∷ 49 ∷ 9 ∷ 49 ∷ 9 ∷ 49 ∷ 48 ∷ 9 ∷ 50 ∷ 48 ∷ 9 ∷ (zeros 16 ++ 9 ∷ 51 ∷ 102 ∷ 56 ∷ (zeros 5 ++ 10  -- set S 0 1 1 10 20 0000000000000000 3f800000
     ∷ 119 ∷ 103 ∷ 116 ∷ 9 ∷ 51 ∷ 102 ∷ 56 ∷ (zeros 5 ++ 10  -- wgt 3f800000
+    ∷ 99 ∷ 104 ∷ 110 ∷ 9 ∷ 48 ∷ 10  -- chn 0
     ∷ 99 ∷ 110 ∷ 116 ∷ 9 ∷ 48 ∷ 9 ∷ 48 ∷ 9 ∷ 48 ∷ 10  -- cnt 0 0 0
     ∷ (devZeros ++ devZeros ++ devZeros ++ devZeros ++ devZeros ++ devZeros ++ devZeros ++ devZeros ++ devZeros ++ devZeros
     ++ 105 ∷ 110 ∷ 112 ∷ 9 ∷ (zeros 8 ++ 10  -- inp 00000000

@@ -33,7 +33,7 @@ one = ofBits binary32 0x3f80_0000
 -- k 2, start 2, stop 9
 abbrev sets : ForestMode → TransformMethod → ℕ → Settings
 sets mode method d =
-    record { mode = mode; method = method; d = d; k = 2; start = 2; stop = 9; decay = zero64; weightTime = one; weights = replicate d one }
+    record { mode = mode; method = method; d = d; k = 2; start = 2; stop = 9; decay = zero64; weightTime = one; weights = replicate d one; codes = replicate d 0 }
 
 abbrev N : Settings
 N = sets STANDARD NORMALIZE 1
@@ -50,7 +50,7 @@ A = sets «TIME_AUGMENTED» NONE 1
 -- settings with another start
 abbrev starting : ℕ → Settings
 starting n =
-    record { mode = STANDARD; method = NORMALIZE; d = 1; k = 2; start = n; stop = n; decay = zero64; weightTime = one; weights = one ∷ [] }
+    record { mode = STANDARD; method = NORMALIZE; d = 1; k = 2; start = n; stop = n; decay = zero64; weightTime = one; weights = one ∷ []; codes = 0 ∷ [] }
 
 abbrev know : ℕ → ℕ → ℕ → List ℕ → List ℕ → Facts
 know seen internal count tims bufs =
