@@ -1,0 +1,4 @@
+-- The orders of calls are the history's.
+pub mod Calls
+pub mod ZeroCalls
+pub mod Counted
