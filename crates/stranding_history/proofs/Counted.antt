@@ -13,6 +13,7 @@ use Rattle.trcf.specs.Transformer.{zero32}
 use Rattle.trcf.specs.Settings.{Settings, dimension, waiting as waits, Valid}
 use Rattle.trcf.specs.Calls.{Call, drain}
 use Rattle.trcf.specs.Preprocessor.{accepted}
+use Rattle.trcf.proofs.FitLaws.{all-append}
 use Rattle.restart.specs.History.{Entry, initial, learned, drained as F, seenOf, historyRefusal, complete, adds, enter, entries}
 use Rattle.restart.proofs.Step.{Inv, step as kept, begins}
 use Rattle.restart.proofs.Reachable.{k>0-of}
@@ -23,12 +24,9 @@ use Rattle.stranding.proofs.Recurrence.{counts-add-up}
 use Rattle.stranding_history.specs.CallOrders.{standingOf, Of, aPoint, aLearn, aDrain, counted, Calls, end, then, zeroLearn, zeroCall, zeroCalls, Strandings}
 use Rattle.stranding_history.proofs.Calls.{drain-counts, calls-leave}
 use Rattle.stranding_history.proofs.ZeroCalls.{point-accepted, learn-accepted}
+use Rattle.stranding_history.proofs.MachineCalls.{zeros-machine}
 
 -- ---- the orders of n calls have n calls
-
-all-append : {A : Type 0} (P : A → Type 0) (xs ys : List A) → All P xs → All P ys → All P (xs ++ ys)
-all-append P [] ys p q = q
-all-append P (x ∷ xs) ys p q = (p .0, all-append P xs ys (p .1) q)
 
 longer : (c : Kind) (n : ℕ) (ws : List (List Kind)) → All (λ (w : List Kind). length w ≡ n) ws → All (λ (w : List Kind). length w ≡ suc n) (map (c ∷_) ws)
 longer c n [] p = tt
@@ -101,7 +99,7 @@ strandings-normalizing s ok m pos few n p q =
     let b : outOfRange n ≡ false = in-range n p q in
     let lo : s .start ≤ 2000 = omega arith in
     record {
-      some-arguments = λ w h. zeros-from s m pos few k>0 w [] (begins s k>0) (omega arith);
+      some-arguments = λ w h. (zeros-from s m pos few k>0 w [] (begins s k>0) (omega arith), zeros-machine s ok w);
       any-arguments = λ w cs ds f g. calls-leave s m pos lo k>0 w cs f ∙ sym (calls-leave s m pos lo k>0 w ds g);
       counts = λ calls h. same-counts s m pos few k>0 n calls h ∙ rw (a, b);
       sum = rw (a, b) (counts-add-up (run (s .start) (waiting 0)) n);

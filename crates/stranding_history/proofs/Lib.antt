@@ -1,4 +1,5 @@
 -- The orders of calls are the history's.
 pub mod Calls
 pub mod ZeroCalls
+pub mod MachineCalls
 pub mod Counted

@@ -40,7 +40,7 @@ fed-few : (s : Settings) (es : List Entry) → length (fedOf s es) ≤ length es
 fed-few s [] = omega arith
 fed-few s (initial x t ∷ es) = omega (arith, fed-few s es)
 fed-few s (learned x t y ∷ es) =
-    let h : length (fedOf s (learned x t y ∷ es)) ≤ suc (length (fedOf s es)) = one-more _ _ _ in
+    let h : length (fedOf s (learned x t y ∷ es)) ≤ suc (length (fedOf s es)) = one-more (fedOf s es) (ltb (seenOf es) (s .stop)) _ in
     omega (arith, fed-few s es, h)
 fed-few s (F ∷ es) = simp (length-append, length-pairs) (omega (arith, fed-few s es, kinds es))
 

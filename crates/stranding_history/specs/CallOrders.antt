@@ -8,9 +8,10 @@ use lib.Dec.{ltb, eqb}
 use lib.IntN.{pos}
 use lib.ListN.{length, replicate}
 use lib.Ieee.{Float}
+use Rattle.trcf.specs.Fit.{All}
 use Rattle.trcf.specs.Transformer.{zero32}
 use Rattle.trcf.specs.Settings.{Settings, block, dimension}
-use Rattle.trcf.specs.Calls.{Learn, Call, shingledPoint, postProcess, drain as drainCall, newest}
+use Rattle.trcf.specs.Calls.{Learn, Call, shingledPoint, postProcess, drain as drainCall, newest, Machine}
 use Rattle.restart.specs.History.{Entry, initials, learns, isDrained, historyFacts, historyRefusal, enter, entries}
 use Rattle.stranding.specs.Orders.{Kind, point, learn, drain}
 use Rattle.stranding.specs.Standing.{Standing, waiting, drained, stranded}
@@ -71,8 +72,8 @@ zeroCalls s es (x ∷ xs) = zeroCall s es x ∷ zeroCalls s (enter s es (zeroCal
 
 -- "The three counts equal those over all 3^n lists run on the history sheet, and so add up to 3^n."
 pub record Strandings (s : Settings) (n : ℕ) : Type 0 where
-  -- every order of n calls has arguments with which its calls count
-  pub some-arguments : (w : List Kind) → length w ≡ n → Calls s [] w (zeroCalls s [] w)
+  -- every order of n calls has arguments with which its calls count, and the program can be given them
+  pub some-arguments : (w : List Kind) → length w ≡ n → Calls s [] w (zeroCalls s [] w) × All Machine (zeroCalls s [] w)
   -- what an order leaves is the same with all such arguments
   pub any-arguments : (w : List Kind) (cs ds : List Call) → Calls s [] w cs → Calls s [] w ds → standingOf (entries s cs) ≡ standingOf (entries s ds)
   -- with whatever such arguments for each of the 3^n orders, the numbers are the answer of `strandings`
