@@ -3,3 +3,4 @@ pub mod Calls
 pub mod ZeroCalls
 pub mod MachineCalls
 pub mod Counted
+pub mod Examples
