@@ -45,14 +45,21 @@ fn count(counts: &mut [u64], i: usize) {
 }
 
 const LINE: usize = 102;
-// the places of `counts`
+
+// Where `counts` has the lines that agree, those that differ and those that are not of the form.
 const AGREE: usize = 0;
+
 const DIFFER: usize = 1;
+
 const BROKEN: usize = 2;
 
 // A tab behind each of the first five fields, and an LF behind the last.
 fn is_parted(line: &[u8; LINE]) -> bool {
-    let tabs = line[16] == b'\t' && line[33] == b'\t' && line[50] == b'\t' && line[67] == b'\t' && line[84] == b'\t';
+    let tabs = line[16] == b'\t'
+        && line[33] == b'\t'
+        && line[50] == b'\t'
+        && line[67] == b'\t'
+        && line[84] == b'\t';
     tabs && line[101] == b'\n'
 }
 
@@ -67,7 +74,11 @@ fn judged(line: &[u8; LINE]) -> usize {
     let given = is_parted(line) && start.good && calls.good;
     if given && row.good && waiting.good && drained.good && stranded.good {
         let a = stranding::strandings(start.value, calls.value);
-        if a.row == row.value && a.waiting == waiting.value && a.drained == drained.value && a.stranded == stranded.value {
+        if a.row == row.value
+            && a.waiting == waiting.value
+            && a.drained == drained.value
+            && a.stranded == stranded.value
+        {
             return AGREE;
         }
         return DIFFER;
