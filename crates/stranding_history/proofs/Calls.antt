@@ -17,7 +17,8 @@ use Rattle.trcf.specs.Types.{normalizes}
 use Rattle.trcf.specs.Settings.{Settings, waiting as waits}
 use Rattle.trcf.specs.Calls.{Learn, Call, postProcess, drain, seenLimit, due as isDue, drainFull, table, rows}
 use Rattle.trcf.specs.Preprocessor.{accepted}
-use Rattle.restart.specs.History.{Entry, initial, learned, drained as F, initials, learns, isDrained, onlyInitials, seenOf, internalOf, countOf, historyFacts, historyRefusal, complete, adds, enter, entriesFrom, entries}
+use Rattle.restart.specs.History.{Entry, initial, learned, drained as F, initials, learns, isDrained, onlyInitials}
+use Rattle.restart.specs.History.{seenOf, internalOf, countOf, historyFacts, historyRefusal, complete, adds, enter, entriesFrom, entries}
 use Rattle.snapshot.proofs.Lists.{and-right}
 use Rattle.restart.proofs.Entries.{Unmixed, unmixed}
 use Rattle.restart.proofs.Step.{Phase, filling, drainedBy, plainly, stranded as strandedBy, Inv, is-false, due-full, isFull, step as kept, begins}
@@ -55,7 +56,8 @@ module _ (s : Settings) (m : normalizes (s .method) ≡ true) (pos : 0 < s .star
   -- ---- one call
 
   -- what a drain or an accepted point makes of the standing
-  drains : (es : List Entry) → Phase s es → (x : Kind) → ((j : ℕ) → step (s .start) (waiting j) x ≡ afterDrain (s .start) j) → standingOf (cond (complete s es) (F ∷ es) es) ≡ step (s .start) (standingOf es) x
+  drains : (es : List Entry) → Phase s es → (x : Kind) → ((j : ℕ) → step (s .start) (waiting j) x ≡ afterDrain (s .start) j)
+      → standingOf (cond (complete s es) (F ∷ es) es) ≡ step (s .start) (standingOf es) x
   unfolding afterDrain
   drains es (filling o u z) x d = rw (stands-filling s es o, d (length (initials es)), complete-filling es o) (go (eqb (length (initials es)) (s .start)) refl)
     where
@@ -76,7 +78,8 @@ module _ (s : Settings) (m : normalizes (s .method) ≡ true) (pos : 0 < s .star
   waits-filling es o = rw (m, unmixed s es o .noL, add-zero (length (initials es)))
 
   -- what an accepted learn with a forest point makes of the standing
-  learns-one : (es : List Entry) → Phase s es → (l : Learn) (y : List Float) → l .rcfPoint ≡ some y → standingOf (adds s es (postProcess l)) ≡ step (s .start) (standingOf es) learn
+  learns-one : (es : List Entry) → Phase s es → (l : Learn) (y : List Float) → l .rcfPoint ≡ some y
+      → standingOf (adds s es (postProcess l)) ≡ step (s .start) (standingOf es) learn
   unfolding adds afterLearn
   learns-one es (filling o u z) l y g = rw (stands-filling s es o, waits-filling es o, g) (go (ltb (length (initials es)) (s .start)) refl)
     where

@@ -18,20 +18,46 @@ use Rattle.stranding.specs.Counts.{answer, countsBy, strandingsOf}
 use Rattle.stranding_history.specs.CallOrders.{standingOf, zeroCalls, Strandings}
 use Rattle.stranding_history.proofs.Counted.{strandings-of-the-history}
 
--- to unfold this is to unfold whatever its line names
+-- to unfold one of these is to unfold whatever its line names
+judging : Unit {0}
+unfolding ofBits lt size lastN block dimension waits finite due newest wrongLength outside drainFull learnFull waitingShort learnShort table rows
+judging = tt
+
 recording : Unit {0}
-unfolding ofBits lt size lastN block dimension waits finite due newest wrongLength outside drainFull learnFull waitingShort learnShort table rows seenOf internalOf bufferOf shingled inputsOf timestampsOf newestOf countOf historyFacts historyRefusal complete adds enter entries standingOf
+unfolding judging seenOf internalOf bufferOf shingled inputsOf timestampsOf newestOf countOf historyFacts historyRefusal complete adds enter entries standingOf
 recording = tt
 
 -- d 1, k 2, and the start given
 abbrev plain : ℕ → Settings
 plain start =
-    record { mode = STANDARD; method = NORMALIZE; d = 1; k = 2; start = start; stop = 20; decay = zero64; weightTime = one32; weights = one32 ∷ []; codes = 7 ∷ [] }
+    record {
+      mode = STANDARD;
+      method = NORMALIZE;
+      d = 1;
+      k = 2;
+      start = start;
+      stop = 20;
+      decay = zero64;
+      weightTime = one32;
+      weights = one32 ∷ [];
+      codes = 7 ∷ [];
+    }
 
 -- with the time, d 2
 abbrev timed : ℕ → Settings
 timed start =
-    record { mode = «TIME_AUGMENTED»; method = NORMALIZE; d = 2; k = 1; start = start; stop = start; decay = zero64; weightTime = one32; weights = one32 ∷ one32 ∷ []; codes = 0 ∷ 65535 ∷ [] }
+    record {
+      mode = «TIME_AUGMENTED»;
+      method = NORMALIZE;
+      d = 2;
+      k = 1;
+      start = start;
+      stop = start;
+      decay = zero64;
+      weightTime = one32;
+      weights = one32 ∷ one32 ∷ [];
+      codes = 0 ∷ 65535 ∷ [];
+    }
 
 -- what the history's entries show after the calls of zeros
 abbrev leaves : Settings → List Kind → Standing

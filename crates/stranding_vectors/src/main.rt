@@ -54,31 +54,31 @@ const DIFFER: usize = 1;
 const BROKEN: usize = 2;
 
 // A tab behind each of the first five fields, and an LF behind the last.
-fn is_parted(line: &[u8; LINE]) -> bool {
-    let tabs = line[16] == b'\t'
-        && line[33] == b'\t'
-        && line[50] == b'\t'
-        && line[67] == b'\t'
-        && line[84] == b'\t';
-    tabs && line[101] == b'\n'
+fn is_parted(line: &[u8]) -> bool {
+    if line.len() != LINE {
+        return false;
+    }
+    let first = line[16] == b'\t' && line[33] == b'\t' && line[50] == b'\t';
+    first && line[67] == b'\t' && line[84] == b'\t' && line[101] == b'\n'
 }
 
-// Where a line is counted.
-fn judged(line: &[u8; LINE]) -> usize {
+// The place of `counts` at which a line is counted.
+fn judged(line: &[u8]) -> usize {
+    if line.len() != LINE {
+        return BROKEN;
+    }
     let start = field(&line[0..16]);
     let calls = field(&line[17..33]);
     let row = field(&line[34..50]);
     let waiting = field(&line[51..67]);
     let drained = field(&line[68..84]);
     let stranded = field(&line[85..101]);
-    let given = is_parted(line) && start.good && calls.good;
-    if given && row.good && waiting.good && drained.good && stranded.good {
+    let given = start.good && calls.good;
+    let wanted = row.good && waiting.good && drained.good && stranded.good;
+    if is_parted(line) && given && wanted {
         let a = stranding::strandings(start.value, calls.value);
-        if a.row == row.value
-            && a.waiting == waiting.value
-            && a.drained == drained.value
-            && a.stranded == stranded.value
-        {
+        let same = a.row == row.value && a.waiting == waiting.value;
+        if same && a.drained == drained.value && a.stranded == stranded.value {
             return AGREE;
         }
         return DIFFER;
@@ -93,11 +93,7 @@ fn step(fd: i32, counts: &mut [u64]) -> bool {
     if n == 0 {
         return false;
     }
-    if n == LINE {
-        count(counts, judged(&line));
-    } else {
-        count(counts, BROKEN);
-    }
+    count(counts, judged(&line[..n]));
     true
 }
 
