@@ -1,0 +1,1 @@
+-- Laws behind `alignment`, its theorems, and computed examples.
