@@ -12,3 +12,5 @@ pub mod Comparing
 pub mod Compared
 pub mod Absolute
 pub mod Rows
+pub mod Sizes
+pub mod Theorem

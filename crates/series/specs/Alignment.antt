@@ -3,11 +3,11 @@ use Prim.Native.Nat.{ℕ, zero, suc, _*_}
 use mathlib.Core.Bool.{Bool, false, not, _||_}
 use mathlib.Core.List.{List, [], _∷_}
 use lib.Dec.{ltb, eqb}
-use lib.ListN.{length, take}
+use lib.ListN.{length}
 use lib.Ieee.{Float}
 use Rattle.series.specs.Refusal.{firstOf}
 use Rattle.series.specs.Lent.{over}
-use Rattle.series.specs.Pairs.{Pair, pair, pairs, lefts, rights}
+use Rattle.series.specs.Pairs.{Pair, pairs, lefts, rights}
 use Rattle.series.specs.Gaps.{gaps}
 
 -- "up to 4,096 each"
@@ -113,13 +113,3 @@ unfoldable pub alignOf : ℕ → Readings → Readings → ℕ → Outputs → A
 alignOf d l r w o =
     let ps = pairs w (l .times) (r .times) in
     refusedOr (rowOf (asked d l r (length ps) o)) o (answer 0 (length ps) (written d l r ps o))
-
--- ---- the pairs that an answer tells
-
-abbrev pub zipped : List ℕ → List ℕ → List Pair
-zipped [] b = []
-zipped (x ∷ a) [] = []
-zipped (x ∷ a) (y ∷ b) = pair x y ∷ zipped a b
-
-unfoldable pub pairsTold : Answer → List Pair
-pairsTold a = zipped (take (a .number) (a .outs .lefts)) (take (a .number) (a .outs .rights))

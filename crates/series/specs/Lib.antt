@@ -4,4 +4,5 @@ pub mod Pairs
 pub mod Pairing
 pub mod Gaps
 pub mod Alignment
+pub mod Comparison
 pub mod Steps

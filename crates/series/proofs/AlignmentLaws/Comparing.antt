@@ -5,9 +5,10 @@ use mathlib.Core.List.{List, [], _∷_, _++_, map, map-append}
 use native.Mathlib.Numerals.{add-one}
 use native.Mathlib.Nat.{mul-le-mul-right}
 use native.Mathlib.Omega.{arith}
-use lib.ListN.{length, getD, set, take}
-use lib.Seq.{take-suc}
+use lib.ListN.{length, getD, set, take, drop}
+use lib.Seq.{take-suc, length-take-le}
 use lib.Ieee.{Float, nan}
+use Rattle.series.specs.Lent.{over}
 use Rattle.series.specs.Pairs.{Pair, pair}
 use Rattle.series.specs.Gaps.{zero32, sizeOf, larger, largestFrom, largest, cell, sizes, perChannel, gaps}
 use Rattle.series.specs.Steps.Comparing.{widened}
@@ -86,3 +87,11 @@ widen-turn l a r b g now c s v h e size by =
 pub widen-end : (l : List Float) (a : ℕ) (r : List Float) (b : ℕ) (g : List Float) (c : ℕ) → c ≡ length g
     → part g (widened l a r b g) c ≡ widened l a r b g
 widen-end l a r b g c e = part-whole g (widened l a r b g) c (omega (arith, widened-length l a r b g)) e
+
+-- what is written at the front of the sizes' output
+pub gaps-front : (d : ℕ) (l r : List Float) (ps : List Pair) (old front : List Float) → d ≤ length old
+    → front ≡ gaps (length (take d old)) l r ps → front ++ drop d old ≡ over old (gaps d l r ps)
+unfolding over
+gaps-front d l r ps old front h e =
+    ap (λ (x : List Float). x ++ drop d old) (e ∙ ap (λ (k : ℕ). gaps k l r ps) (length-take-le d old h))
+    ∙ ap (λ (k : ℕ). gaps d l r ps ++ drop k old) (sym (gaps-length d l r ps))
