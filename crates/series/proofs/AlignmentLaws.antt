@@ -14,3 +14,4 @@ pub mod Absolute
 pub mod Rows
 pub mod Sizes
 pub mod Theorem
+pub mod Examples

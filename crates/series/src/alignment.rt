@@ -208,16 +208,16 @@ fn write_pairs(
         if j == right_times.len() {
             return;
         }
-        let x = left_times[i];
-        let y = right_times[j];
-        if distance(x, y) <= tolerance {
+        let at_left = left_times[i];
+        let at_right = right_times[j];
+        if distance(at_left, at_right) <= tolerance {
             left_out[n] = i as u64;
             right_out[n] = j as u64;
             widen(gaps_out, left, i * d, right, j * d);
             n += 1;
             i += 1;
             j += 1;
-        } else if x < y {
+        } else if at_left < at_right {
             i += 1;
         } else {
             j += 1;

@@ -89,9 +89,10 @@ module _ (s : Lists) (lo ro : List ℕ) (g : List Float) (n i j : ℕ) (q : Comp
           rightCells = omega (arith, inside j (length (s .rightTimes)) (s .d) (length (s .right)) hj (f .right), q .gapsLength);
         }
 
-    pub compared-both : (h : List Float) → h ≡ widened (s .left) (i * s .d) (s .right) (j * s .d) g
-        → Compared s (set lo n i) (set ro n j) h (n + 1) (i + 1) (j + 1)
-    compared-both k e =
+    -- the pair's cells begin at a and at b
+    pub compared-both : (a b : ℕ) (k : List Float) → a ≡ i * s .d → b ≡ j * s .d → k ≡ widened (s .left) a (s .right) b g
+        → Compared s (set lo n i) (set ro n j) k (n + 1) (i + 1) (j + 1)
+    compared-both a b k ea eb e =
         let m = met (s .tolerance) (s .leftTimes) (s .rightTimes) n i j (q .walked) hi hj h in
         let f = q .fitting in
         let ps = all s in
@@ -103,11 +104,13 @@ module _ (s : Lists) (lo ro : List ℕ) (g : List Float) (n i j : ℕ) (q : Comp
           leftIs = rw (q .leftIs) (part-more (s .leftOut) (lefts ps) n 0 hl (omega (arith, m .room, f .leftRoom)) i (m .leftIs));
           rightIs = rw (q .rightIs) (part-more (s .rightOut) (rights ps) n 0 hr (omega (arith, m .room, f .rightRoom)) j (m .rightIs));
           gapsAre = e
+            ∙ ap (λ (x : ℕ). widened (s .left) x (s .right) b g) ea
+            ∙ ap (λ (x : ℕ). widened (s .left) (i * s .d) (s .right) x g) eb
             ∙ ap (widened (s .left) (i * s .d) (s .right) (j * s .d)) (q .gapsAre)
             ∙ gaps-one-more (s .d) (s .left) (s .right) ps n i j (m .room) (m .pairIs);
           leftLength = simp length-set (q .leftLength);
           rightLength = simp length-set (q .rightLength);
-          gapsLength = ap length e ∙ widened-length (s .left) (i * s .d) (s .right) (j * s .d) g ∙ q .gapsLength;
+          gapsLength = ap length e ∙ widened-length (s .left) a (s .right) b g ∙ q .gapsLength;
         }
 
   module _ (h : s .tolerance < apart (getD (s .leftTimes) i 0) (getD (s .rightTimes) j 0)) where

@@ -69,17 +69,17 @@ returns c =
     (all-right (a .tolerance) (a .left-times .now) (a .right-times .now) (L .n) (L .i) (L .j) (L .inv .walked) (omega arith)) in
     (f .left, (f .right, f .gapsAre ∙ ap (λ (k : ℕ). gaps k (a .left .now) (a .right .now) (all s)) e))
 
-mul-x : tie.Need-mul-x Inv-loop μ-loop
-mul-x c = omega arith
+mul-at-left : tie.Need-mul-at-left Inv-loop μ-loop
+mul-at-left c = omega arith
 
-shared-slice-read-x : tie.Need-shared-slice-read-x Inv-loop μ-loop
-shared-slice-read-x c = omega arith
+shared-slice-read-at-left : tie.Need-shared-slice-read-at-left Inv-loop μ-loop
+shared-slice-read-at-left c = omega arith
 
-mul-y : tie.Need-mul-y Inv-loop μ-loop
-mul-y c = omega arith
+mul-at-right : tie.Need-mul-at-right Inv-loop μ-loop
+mul-at-right c = omega arith
 
-shared-slice-read-y : tie.Need-shared-slice-read-y Inv-loop μ-loop
-shared-slice-read-y c = omega arith
+shared-slice-read-at-right : tie.Need-shared-slice-read-at-right Inv-loop μ-loop
+shared-slice-read-at-right c = omega arith
 
 distance-requires : tie.Need-distance-requires Inv-loop μ-loop
 distance-requires c κs = search needs
@@ -158,7 +158,7 @@ widen-requires c κs =
     let hj : L .j < length (a .right-times .now) = omega arith in
     let h : apart (getD (a .left-times .now) (L .i) 0) (getD (a .right-times .now) (L .j) 0) ≤ a .tolerance = omega arith in
     let y = ready s (L .left-out) (L .right-out) (L .gaps-out) (L .n) (L .i) (L .j) (L .inv) hi hj h in
-    (y .leftCells, y .rightCells)
+    (omega (arith, y .leftCells), omega (arith, y .rightCells))
 
 add-n : tie.Need-add-n Inv-loop μ-loop
 add-n c = omega arith
@@ -183,8 +183,8 @@ loop-again c =
     let hi : L .i < length (a .left-times .now) = omega arith in
     let hj : L .j < length (a .right-times .now) = omega arith in
     let h : apart (getD (a .left-times .now) (L .i) 0) (getD (a .right-times .now) (L .j) 0) ≤ a .tolerance = omega arith in
-    compared-both s (L .left-out) (L .right-out) (L .gaps-out) (L .n) (L .i) (L .j) (L .inv) hi hj h (c .before .before .widen .last .0)
-    (c .before .before .widen .ensures)
+    compared-both s (L .left-out) (L .right-out) (L .gaps-out) (L .n) (L .i) (L .j) (L .inv) hi hj h _ _ (c .before .before .widen .last .0)
+    (omega arith) (omega arith) (c .before .before .widen .ensures)
 
 add-i-2 : tie.Need-add-i-2 Inv-loop μ-loop
 add-i-2 c = omega arith
@@ -264,10 +264,10 @@ write-pairs-spec =
     same-length-2
     same-length-3
     returns
-    mul-x
-    shared-slice-read-x
-    mul-y
-    shared-slice-read-y
+    mul-at-left
+    shared-slice-read-at-left
+    mul-at-right
+    shared-slice-read-at-right
     distance-requires
     mul-left-out
     slice-write-left-out
