@@ -18,7 +18,9 @@ const MARK32: u64 = 0x40f0_0000;
 
 // One case's verdict.
 const AGREES: u64 = 0;
+
 const DIFFERS: u64 = 1;
+
 const BROKEN: u64 = 2;
 
 // A list of readings as it was read: how many cells, how many times.
@@ -59,7 +61,11 @@ fn expect(
         return BROKEN;
     }
     let n = pairs.value as usize;
-    let k = if row.value == 0 && d <= 16 { d as usize } else { 0 };
+    let k = if row.value == 0 && d <= 16 {
+        d as usize
+    } else {
+        0
+    };
     let lefts = next_are_wholes(fd, left_out, n, MARK);
     let rights = next_are_wholes(fd, right_out, n, MARK);
     let gaps = next_are_singles(fd, gaps_out, k, MARK32);
