@@ -148,23 +148,32 @@ fn one(
     )
 }
 
+fn more(n: u64) -> u64 {
+    if n < u64::MAX { n + 1 } else { n }
+}
+
 fn counted(tally: Tally, verdict: u64) -> Tally {
-    let mut agree = tally.agree;
-    let mut differ = tally.differ;
-    let mut broken = tally.broken;
-    if verdict == AGREES && agree < u64::MAX {
-        agree += 1;
+    let agree = tally.agree;
+    let differ = tally.differ;
+    let broken = tally.broken;
+    if verdict == AGREES {
+        return Tally {
+            agree: more(agree),
+            differ: differ,
+            broken: broken,
+        };
     }
-    if verdict == DIFFERS && differ < u64::MAX {
-        differ += 1;
-    }
-    if verdict == BROKEN && broken < u64::MAX {
-        broken += 1;
+    if verdict == DIFFERS {
+        return Tally {
+            agree: agree,
+            differ: more(differ),
+            broken: broken,
+        };
     }
     Tally {
         agree: agree,
         differ: differ,
-        broken: broken,
+        broken: more(broken),
     }
 }
 
