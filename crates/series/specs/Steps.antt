@@ -1,0 +1,2 @@
+-- What only private contracts and proofs use.
+pub mod ImputationSteps

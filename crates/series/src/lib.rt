@@ -1,0 +1,2 @@
+// Lists of readings before they are learnt.
+pub mod imputation;
