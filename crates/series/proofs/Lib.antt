@@ -1,0 +1,2 @@
+pub mod ImputationLists
+pub mod ImputationLaws

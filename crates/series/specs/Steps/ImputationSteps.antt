@@ -31,10 +31,16 @@ pub record Placed (ch : Channel) (readings cells : ℕ) : Type 0 where
 unfoldable pub inside : ℕ → ℕ → ℕ → ℕ → ℕ → Bool
 inside d c start end k = eqb (k % d) c && (leb start (k / d) && ltb (k / d) end)
 
--- the readings of an open gap up to `end` are filled
-unfoldable pub gapOf : Channel → Gap → ℕ → Nearest → List Float → List Float
-gapOf ch gap end after l =
-    byPlace (λ (k : ℕ) (x : Float). cond (inside (ch .d) (ch .c) (gap .start) end k) (fillOf (ch .method) (gap .before) after (k / ch .d) (ch .fixed)) x) l
+-- the readings of an open gap up to `end` are filled: place k, where x stands
+unfoldable pub gapAt : Channel → Gap → ℕ → Nearest → ℕ → Float → Float
+gapAt ch gap end after k x =
+    cond (inside (ch .d) (ch .c) (gap .start) end k) (fillOf (ch .method) (gap .before) after (k / ch .d) (ch .fixed)) x
+
+abbrev pub gapOf : Channel → Gap → ℕ → Nearest → List Float → List Float
+gapOf ch gap end after l = byPlace (gapAt ch gap end after) l
+
+abbrev pub channel : ImputationMethod → ℕ → ℕ → Float → Channel
+channel m d c f = record { method = m; d = d; c = c; fixed = f }
 
 abbrev pub gapFrom : ℕ → Nearest → Gap
 gapFrom s b = record { start = s; before = b }
@@ -52,16 +58,15 @@ passedOf ch gap i marks l =
     let here = At i (getD l (i * ch .d + ch .c) nan) in
     cond (isPresent (getD marks (i * ch .d + ch .c) 0)) (passing (gapFrom (i + 1) here) (gapOf ch gap i here l)) (passing gap l)
 
--- one cell of the channel
-unfoldable pub cellOf : Channel → List ℕ → List Float → ℕ → Float → Float
-cellOf ch marks l k x =
-    cond (isPresent (getD marks k 0)) x (missingOf (ch .method) (ch .d) l marks (ch .fixed) (ch .c) (k / ch .d))
+-- the channel's readings before `end` are finished: place k, where x stands
+unfoldable pub doneAt : Channel → List ℕ → List Float → ℕ → ℕ → Float → Float
+doneAt ch marks l end k x =
+    cond (inside (ch .d) (ch .c) 0 end k) (cond (isPresent (getD marks k 0)) x (missingOf (ch .method) (ch .d) l marks (ch .fixed) (ch .c) (k / ch .d))) x
 
 -- the whole channel
-unfoldable pub channelOf : Channel → List ℕ → List Float → List Float
-channelOf ch marks l = byPlace (λ (k : ℕ) (x : Float). cond (eqb (k % ch .d) (ch .c)) (cellOf ch marks l k x) x) l
+abbrev pub channelOf : Channel → List ℕ → List Float → List Float
+channelOf ch marks l = byPlace (doneAt ch marks l (length l / ch .d)) l
 
--- the channels below c
-unfoldable pub channelsOf : ImputationMethod → ℕ → ℕ → List ℕ → List Float → List Float → List Float
-channelsOf method d c marks fixed l =
-    byPlace (λ (k : ℕ) (x : Float). cond (ltb (k % d) c) (imputedAt method d l marks fixed k x) x) l
+-- the channels below c: place k, where x stands
+unfoldable pub belowAt : ImputationMethod → ℕ → List Float → List ℕ → List Float → ℕ → ℕ → Float → Float
+belowAt method d l marks fixed c k x = cond (ltb (k % d) c) (imputedAt method d l marks fixed k x) x
