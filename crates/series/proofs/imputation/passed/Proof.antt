@@ -1,4 +1,10 @@
+use Prim.Native.Nat.{_+_, _<_}
+use mathlib.Core.Path.{ap}
+use native.Mathlib.Omega.{arith}
+use native.Mathlib.Nat.{le-mul-of-pos-right}
 use borrow.Author.Needs.{needs}
+use borrow.Author.Tests.{eq-eqb, ne-eqb}
+use Rattle.series.specs.Steps.ImputationSteps.{passing, passedOf}
 use Rattle.series.proofs.imputation.passed.Statement.{statement}
 use Rattle.series.proofs.imputation.passed.Tie as tie
 use Rattle.series.proofs.imputation.passed.Reads as reads
@@ -19,7 +25,8 @@ shared-slice-read-if1 c = search needs
 
 -- src/imputation.rt:109:9
 returns : tie.Need-returns
-returns c = ?
+unfolding passedOf
+returns c = rw (ne-eqb _ _ (c .if1 .taken))
 
 -- src/imputation.rt:111:31
 mul-t8 : tie.Need-mul-t8
@@ -35,7 +42,12 @@ fill-gap-requires c κs = search needs
 
 -- src/imputation.rt:114:16
 add-t8 : tie.Need-add-t8
-add-t8 c = ?
+add-t8 c =
+    let s = c .before .before .before .before .before .before .before .before .before .before .before in
+    let h = s .pre .0 .0 .channel in
+    let k : 0 < s .args .ch .d = omega arith in
+    let r = s .pre .0 .0 .room in
+    omega (arith, le-mul-of-pos-right (s .args .i + 1) k)
 
 -- src/imputation.rt:102:1
 same-length : tie.Need-same-length
@@ -43,7 +55,9 @@ same-length c = search needs
 
 -- src/imputation.rt:102:1
 returns-2 : tie.Need-returns-2
-returns-2 c = ?
+unfolding passedOf
+returns-2 c =
+    rw (eq-eqb _ _ (c .before .before .before .before .before .if1 .left)) (ap (passing _) (c .before .before .fill-gap .ensures))
 
 pub passed-spec : {M : Type 1} → statement M
 passed-spec =
