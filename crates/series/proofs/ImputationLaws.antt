@@ -6,10 +6,10 @@ use mathlib.Core.Path.{_≡_, refl, sym, ap, _∙_, subst}
 use mathlib.Core.Logic.{⊎-elim}
 use native.Mathlib.Numerals.{add-one}
 use native.Mathlib.Omega.{arith}
-use native.Mathlib.Nat.{div-add-mod'}
+use native.Mathlib.Nat.{mod-lt, div-lt-iff-lt-mul}
 use borrow.Author.Tests.{eqb-true, eqb-false, ltb-true, ltb-false, leb-true, leb-false, eq-eqb, ne-eqb, lt-ltb, le-ltb}
 use lib.Dec.{ltb, leb, eqb}
-use lib.ListN.{length, getD, set, length-set}
+use lib.ListN.{length, getD, set, length-set, List·getD-eq-default}
 use lib.Seq.{getD-set-same, getD-set-other}
 use lib.Ieee.{Float, nan}
 use Rattle.series.specs.declared.imputation.ImputationMethod.{ImputationMethod}
@@ -18,7 +18,7 @@ use Rattle.series.specs.declared.imputation.Nearest.the-variants.{At, No
 use Rattle.series.specs.declared.imputation.Channel.{Channel}
 use Rattle.series.specs.declared.imputation.Gap.{Gap}
 use Rattle.series.specs.Imputation.{isPresent, nearestBefore, nearestFrom, fillOf, presentIn, cellIn, missingOf, imputedAt, byPlace, imputed}
-use Rattle.series.specs.Steps.ImputationSteps.{Under, Above, inside, gapAt, gapOf, gapFrom, Passed, passing, passedOf, doneAt, channelOf, belowAt}
+use Rattle.series.specs.Steps.ImputationSteps.{Under, Above, inside, gapAt, gapOf, gapFrom, Passed, passing, passedOf, channel, doneAt, channelOf, belowAt}
 use Rattle.series.proofs.ImputationLists.{cond-same, cond-on, cond-off, length-byPlace, getD-byPlace, is-byPlace, place-channel, place-reading, place-below, place-of, inside-yes, inside-off, inside-low, inside-high}
 
 -- ---- before and after
@@ -390,3 +390,112 @@ module _ (ch : Channel) (marks : List ℕ) (l : List Float) (hc : ch .c < ch .d)
       let z : n - n ≡ 0 = omega arith in
       let after : Nowhere ≡ nearestFrom p v (n - n) n = sym (ap (λ (m : ℕ). nearestFrom p v m n) z) in
       closed n gap now Nowhere W (omega arith) after
+
+pub walked-under : {ch : Channel} {marks : List ℕ} {l : List Float} {i : ℕ} {gap : Gap} {now : List Float}
+    → Walked ch marks l i gap now → Under (gap .before) (gap .start)
+walked-under {ch} {marks} {l} {i} {gap} {now} W =
+    subst (λ (n : Nearest). Under n (gap .start)) (sym (W .before))
+    (nearestBefore-under (presentIn (ch .d) marks (ch .c)) (cellIn (ch .d) l (ch .c)) (gap .start))
+
+pub walked-length : {ch : Channel} {marks : List ℕ} {l : List Float} {i : ℕ} {gap : Gap} {now : List Float}
+    → Walked ch marks l i gap now → length now ≡ length l
+walked-length {ch} {marks} {l} {i} {gap} {now} W = ap length (W .cells) ∙ length-byPlace (doneAt ch marks l (gap .start)) l
+
+-- ---- all channels
+
+module _ (m : ImputationMethod) (d : ℕ) (l : List Float) (marks : List ℕ) (fixed : List Float) (c k : ℕ) (x : Float) where
+  below-in : k % d < c → belowAt m d l marks fixed c k x ≡ imputedAt m d l marks fixed k x
+  unfolding belowAt
+  below-in h = cond-on (imputedAt m d l marks fixed k x) x (ltb (k % d) c) (lt-ltb (k % d) c h)
+
+  below-out : c ≤ k % d → belowAt m d l marks fixed c k x ≡ x
+  unfolding belowAt
+  below-out h = cond-off (imputedAt m d l marks fixed k x) x (ltb (k % d) c) (le-ltb (k % d) c h)
+
+module _ (m : ImputationMethod) (d : ℕ) (l : List Float) (marks : List ℕ) (fixed : List Float) (hd : 0 < d) where
+  pub below-start : l ≡ byPlace (belowAt m d l marks fixed 0) l
+  below-start =
+      is-byPlace (belowAt m d l marks fixed 0) l l refl
+      (λ (k : ℕ) (h : k < length l). sym (below-out m d l marks fixed 0 k (getD l k nan) (omega arith)))
+
+  pub below-end : byPlace (belowAt m d l marks fixed d) l ≡ imputed m d l marks fixed
+  unfolding imputed
+  below-end =
+      is-byPlace (imputedAt m d l marks fixed) l (byPlace (belowAt m d l marks fixed d) l) (length-byPlace (belowAt m d l marks fixed d) l)
+      (λ (k : ℕ) (h : k < length l). getD-byPlace (belowAt m d l marks fixed d) l k h
+      ∙ below-in m d l marks fixed d k (getD l k nan) (mod-lt k hd))
+
+  -- a turn of the loop over the channels: the cells of channel c are as they were, so that its answer is that of the cells at entry
+  module _ (whole : length l / d * d ≡ length l) (c : ℕ) (hc : c < d) (now : List Float) (so-far : now ≡ byPlace (belowAt m d l marks fixed c) l) where
+    below-length : length now ≡ length l
+    below-length = ap length so-far ∙ length-byPlace (belowAt m d l marks fixed c) l
+
+    below-at : (k : ℕ) → k < length l → getD now k nan ≡ belowAt m d l marks fixed c k (getD l k nan)
+    below-at k h = ap (λ (z : List Float). getD z k nan) so-far ∙ getD-byPlace (belowAt m d l marks fixed c) l k h
+
+    below-cell : (r : ℕ) → cellIn d now c r ≡ cellIn d l c r
+    below-cell r = by (ltb p (length l)) refl
+      where
+        p : ℕ
+        p = r * d + c
+        by : (b : Bool) → ltb p (length l) ≡ b → getD now p nan ≡ getD l p nan
+        by true t =
+            below-at p (ltb-true p (length l) t)
+            ∙ below-out m d l marks fixed c p (getD l p nan) (omega (arith, place-channel d c r hc))
+        by false t =
+            let g : length l ≤ p = ltb-false p (length l) t in
+            let g′ : length now ≤ p = omega (arith, below-length) in
+            List·getD-eq-default now nan g′ ∙ sym (List·getD-eq-default l nan g)
+
+    below-missing : (i : ℕ) → missingOf m d now marks (getD fixed c nan) c i ≡ missingOf m d l marks (getD fixed c nan) c i
+    below-missing i =
+        missing-same m d now l marks (getD fixed c nan) c i below-length
+        (λ (r : ℕ) (t : presentIn d marks c r ≡ true). below-cell r)
+
+    -- the cell at a place of this channel
+    on-channel : (k : ℕ) → k < length l → k % d ≡ c
+        → doneAt (channel m d c (getD fixed c nan)) marks now (length now / d) k (getD now k nan) ≡ belowAt m d l marks fixed (c + 1) k (getD l k nan)
+    unfolding imputedAt
+    on-channel k h e =
+        let ch = channel m d c (getD fixed c nan) in
+        let high : k / d < length l / d = div-lt-iff-lt-mul hd .1 (omega (arith, whole)) in
+        let high′ : k / d < length now / d = subst (λ (n : ℕ). k / d < n / d) (sym below-length) high in
+        let stays : getD now k nan ≡ getD l k nan = below-at k h ∙ below-out m d l marks fixed c k (getD l k nan) (omega arith) in
+        let x = getD l k nan in
+        let p = isPresent (getD marks k 0) in
+        done-in ch marks now (length now / d) k (getD now k nan) (inside-yes d c 0 (length now / d) k e (omega arith) high′)
+        ∙ ap (λ (z : Float). cond p z (missingOf m d now marks (getD fixed c nan) c (k / d))) stays
+        ∙ ap (cond p x) (below-missing (k / d))
+        ∙ ap (λ (z : ℕ). cond p x (missingOf m d l marks (getD fixed z nan) z (k / d))) (sym e)
+        ∙ sym (below-in m d l marks fixed (c + 1) k x (omega arith))
+
+    off-channel : (k : ℕ) → k < length l → (k % d ≡ c → ⊥)
+        → doneAt (channel m d c (getD fixed c nan)) marks now (length now / d) k (getD now k nan) ≡ belowAt m d l marks fixed (c + 1) k (getD l k nan)
+    off-channel k h n =
+        done-out (channel m d c (getD fixed c nan)) marks now (length now / d) k (getD now k nan) (inside-off d c 0 (length now / d) k n)
+        ∙ below-at k h
+        ∙ by (ltb (k % d) c) refl
+      where
+        x : Float
+        x = getD l k nan
+        by : (b : Bool) → ltb (k % d) c ≡ b → belowAt m d l marks fixed c k x ≡ belowAt m d l marks fixed (c + 1) k x
+        by true t =
+            let g : k % d < c = ltb-true (k % d) c t in
+            below-in m d l marks fixed c k x g ∙ sym (below-in m d l marks fixed (c + 1) k x (omega arith))
+        by false t =
+            let g : c ≤ k % d = ltb-false (k % d) c t in
+            let g′ : c + 1 ≤ k % d = omega arith in
+            below-out m d l marks fixed c k x g ∙ sym (below-out m d l marks fixed (c + 1) k x g′)
+
+    pub below-more : channelOf (channel m d c (getD fixed c nan)) marks now ≡ byPlace (belowAt m d l marks fixed (c + 1)) l
+    below-more =
+        is-byPlace (belowAt m d l marks fixed (c + 1)) l (channelOf ch marks now) (length-byPlace (doneAt ch marks now (length now / d)) now ∙ below-length)
+        (λ (k : ℕ) (h : k < length l).
+        getD-byPlace (doneAt ch marks now (length now / d)) now k (omega (arith, below-length)) ∙ at k h (eqb (k % d) c) refl)
+      where
+        ch : Channel
+        ch = channel m d c (getD fixed c nan)
+        at : (k : ℕ) → k < length l → (b : Bool) → eqb (k % d) c ≡ b
+            → doneAt ch marks now (length now / d) k (getD now k nan) ≡ belowAt m d l marks fixed (c + 1) k (getD l k nan)
+        at k h true t = on-channel k h (eqb-true (k % d) c t)
+        at k h false t = off-channel k h (eqb-false (k % d) c t)

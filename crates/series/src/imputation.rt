@@ -4,8 +4,12 @@ ghost use mathlib.Core.Path.{_≡_};
 ghost use mathlib.Core.Bool.{not, _&&_, _||_};
 ghost use Prim.Native.Nat.{_+_, _*_, _/_, _≤_, _<_};
 ghost use lib.ListN.{length};
-ghost use Rattle.series.specs.Imputation.{copyOf, lineOf, betweenOf, fillOf, misshapen, knownMarks, isFinite, finitePresent, allFinite, imputed, imputeRow, imputation, imputeOf};
-ghost use Rattle.series.specs.Steps.ImputationSteps.{Under, Above, Placed, gapOf, passing, passedOf, channelOf};
+ghost use Rattle.series.specs.Imputation.{copyOf, lineOf, isPresent, betweenOf, fillOf, misshapen, knownMarks, isFinite, finitePresent, allFinite, imputed, imputeRow, imputation, imputeOf};
+ghost use Rattle.series.specs.Steps.ImputationSteps.{Under, Above, Placed, Shaped, gapOf, passing, passedOf, channelOf};
+
+// The most channels, and the most readings of one call.
+const DIMENSIONS_LIMIT: u64 = 16;
+const READINGS_LIMIT: usize = 2_000;
 
 // The source's USE_RCF is dropped with the forests.
 pub enum ImputationMethod {
@@ -143,7 +147,7 @@ fn impute_channels(
     marks: &[u8],
     fixed: &[f32],
 )
-    requires { ⌜ (0 < d) × (length (now fixed) ≡ d) × (length (now marks) ≡ length (now cells)) × (length (now cells) / d * d ≡ length (now cells)) ⌝ }
+    requires { ⌜ Shaped d (length (now cells)) (length (now marks)) (length (now fixed)) ⌝ }
     ensures { λ _. ⌜ now (cells .exit) ≡ imputed method d (now (cells .entry)) (now (marks .entry)) (now (fixed .entry)) ⌝ }
 {
     let mut c = 0;
@@ -157,4 +161,127 @@ fn impute_channels(
         impute_channel(ch, cells, marks);
         c += 1;
     }
+}
+
+// ---- refusals
+
+fn is_finite(v: f32) -> bool
+    ensures { λ r. ⌜ r ≡ isFinite v ⌝ }
+{
+    let top = 1.0f32 / 0.0f32;
+    if v < top { -top < v } else { false }
+}
+
+fn all_finite(x: &[f32]) -> bool
+    ensures { λ r. ⌜ r ≡ allFinite (now (x .entry)) ⌝ }
+{
+    let mut i = 0;
+    while i < x.len() {
+        if !is_finite(x[i]) {
+            return false;
+        }
+        i += 1;
+    }
+    true
+}
+
+// Missing, or a number: what stands in a missing cell is not asked.
+fn fits_mark(x: f32, mark: u8) -> bool
+    ensures { λ r. ⌜ r ≡ (not (isPresent mark) || isFinite x) ⌝ }
+{
+    if mark == 0 { is_finite(x) } else { true }
+}
+
+// Whether every present cell is finite.
+fn present_finite(cells: &[f32], marks: &[u8]) -> bool
+    requires { ⌜ length (now marks) ≡ length (now cells) ⌝ }
+    ensures { λ r. ⌜ r ≡ finitePresent (now (cells .entry)) (now (marks .entry)) ⌝ }
+{
+    let mut i = 0;
+    while i < cells.len() {
+        if !fits_mark(cells[i], marks[i]) {
+            return false;
+        }
+        i += 1;
+    }
+    true
+}
+
+// Whether every mark is 0 or 1.
+fn marks_known(marks: &[u8]) -> bool
+    ensures { λ r. ⌜ r ≡ knownMarks (now (marks .entry)) ⌝ }
+{
+    let mut i = 0;
+    while i < marks.len() {
+        if 1 < marks[i] {
+            return false;
+        }
+        i += 1;
+    }
+    true
+}
+
+// Row 10: cells, marks and fixed values are not of one shape.
+fn is_misshapen(d: usize, cells: usize, marks: usize, fixed: usize) -> bool
+    requires { ⌜ 0 < d ⌝ }
+    ensures { λ r. ⌜ r ≡ misshapen d cells marks fixed ⌝ }
+{
+    if cells % d != 0 {
+        return true;
+    }
+    if marks != cells {
+        return true;
+    }
+    fixed != d
+}
+
+// The row that refuses the call, 0 for none: 2, 4, 10, 21, 11. It reads and never writes.
+fn impute_row(d: u64, cells: &[f32], marks: &[u8], fixed: &[f32]) -> u64
+    ensures { λ r. ⌜ r ≡ imputeRow d (now (cells .entry)) (now (marks .entry)) (now (fixed .entry)) ⌝ }
+    ensures { λ r. ⌜ (r ≡ 0 → Shaped d (length (now (cells .entry))) (length (now (marks .entry))) (length (now (fixed .entry)))) ⌝ }
+{
+    if d == 0 {
+        return 2;
+    }
+    if DIMENSIONS_LIMIT < d {
+        return 4;
+    }
+    let n = d as usize;
+    if is_misshapen(n, cells.len(), marks.len(), fixed.len()) {
+        return 10;
+    }
+    if READINGS_LIMIT < cells.len() / n {
+        return 21;
+    }
+    if !marks_known(marks) {
+        return 21;
+    }
+    if !present_finite(cells, marks) {
+        return 11;
+    }
+    if !all_finite(fixed) {
+        return 11;
+    }
+    0
+}
+
+// ---- the call
+
+// n readings of d cells, reading by reading, in `cells`; a mark for each cell in the same order, 0 present and 1 missing; d fixed values.
+// Fills the missing cells in place and answers 0, or answers the row that refuses and changes nothing.
+pub fn impute(
+    method: ImputationMethod,
+    d: u64,
+    cells: &mut [f32],
+    marks: &[u8],
+    fixed: &[f32],
+) -> u64
+    ensures { λ r. ⌜ imputation r (now (cells .exit)) ≡ imputeOf method d (now (cells .entry)) (now (marks .entry)) (now (fixed .entry)) ⌝ }
+{
+    let row = impute_row(d, cells, marks, fixed);
+    if row != 0 {
+        return row;
+    }
+    impute_channels(method, d as usize, cells, marks, fixed);
+    0
 }

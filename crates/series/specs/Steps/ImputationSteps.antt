@@ -27,6 +27,14 @@ pub record Placed (ch : Channel) (readings cells : ℕ) : Type 0 where
   pub channel : ch .c < ch .d
   pub room : readings * ch .d ≤ cells
 
+-- cells, marks and fixed values of one shape, by their numbers
+pub record Shaped (d cells marks fixed : ℕ) : Type 0 where
+  pub some : 0 < d
+  pub narrow : d ≤ 16
+  pub whole : cells / d * d ≡ cells
+  pub marked : marks ≡ cells
+  pub fixes : fixed ≡ d
+
 -- place k belongs to channel c and to one of the readings start .. end − 1
 unfoldable pub inside : ℕ → ℕ → ℕ → ℕ → ℕ → Bool
 inside d c start end k = eqb (k % d) c && (leb start (k / d) && ltb (k / d) end)
