@@ -1,2 +1,3 @@
 pub mod ImputationLists
 pub mod ImputationLaws
+pub mod ImputationRows
