@@ -1,7 +1,8 @@
 -- Filling in missing cells: request #104, "Channels that drop out for a second".
-use Prim.Native.Nat.{ℕ, zero, suc, _+_, _-_, _*_, _/_, _%_}
+use Prim.Native.Nat.{ℕ, zero, suc, _+_, _-_, _*_, _/_, _%_, _<_}
 use mathlib.Core.Bool.{Bool, true, false, cond, not, _&&_, _||_}
 use mathlib.Core.List.{List, [], _∷_}
+use mathlib.Core.Path.{_≡_}
 use lib.Dec.{ltb, eqb}
 use lib.IntN.{pos}
 use lib.ListN.{length, getD}
@@ -136,3 +137,18 @@ imputeAnswer (suc n) old new = imputation (suc n) old
 unfoldable pub imputeOf : ImputationMethod → ℕ → List Float → List ℕ → List Float → Imputation
 imputeOf method d cells marks fixed =
     imputeAnswer (imputeRow d cells marks fixed) cells (imputed method d cells marks fixed)
+
+-- ---- where a cell of the answer comes from
+
+-- Reading i of channel c: "a present cell's value, a fixed one, or the line's value between two present ones", which are its nearest.
+pub data Origin (d : ℕ) (cells : List Float) (marks : List ℕ) (fixed : Float) (c i : ℕ) : Float → Type 0 where
+  copy : (r : ℕ) → r < length cells / d → presentIn d marks c r ≡ true → Origin d cells marks fixed c i (cellIn d cells c r)
+  constant : Origin d cells marks fixed c i fixed
+  line : (r s : ℕ) → r < i → i < s → s < length cells / d → presentIn d marks c r ≡ true → presentIn d marks c s ≡ true
+      → ((q : ℕ) → r < q → q < s → (q ≡ i → ⊥) → presentIn d marks c q ≡ false)
+      → Origin d cells marks fixed c i (lineOf (cellIn d cells c r) (cellIn d cells c s) (i - r) (s - r))
+
+-- two lists of cells of one length that agree wherever a cell is present
+pub record Agree (marks : List ℕ) (cells others : List Float) : Type 0 where
+  pub long : length cells ≡ length others
+  pub same : (k : ℕ) → k < length cells → isPresent (getD marks k 0) ≡ true → getD cells k nan ≡ getD others k nan

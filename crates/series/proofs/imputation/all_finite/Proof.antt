@@ -1,50 +1,59 @@
+-- `imputation::all_finite` meets its contract: by its loop's invariant. Assumes nothing.
+use Prim.Native.Nat.{ℕ, _≤_, _<_, _-_}
+use mathlib.Core.Bool.{true, false}
+use mathlib.Core.Path.{_≡_, refl, sym, _∙_}
+use lib.ListN.{length, drop}
+use borrow.Author.Tests.{not-true, not-false}
+use native.Mathlib.Omega.{arith}
+use Rattle.series.specs.Imputation.{allFinite}
+use Rattle.series.proofs.ImputationRows.{finite-at, finite-end}
 use Rattle.series.proofs.imputation.all_finite.Statement.{statement}
 use Rattle.series.proofs.imputation.all_finite.Tie as tie
-use Rattle.series.proofs.imputation.all_finite.Reads as reads
-use Rattle.series.proofs.imputation.all_finite.Lts as lts
-use Rattle.series.proofs.imputation.is_finite.Reads as is-finite-reads
 
 abbrev Inv-loop : tie.InvT-loop
-Inv-loop x i₀ i = ?
+Inv-loop x i₀ i = (i ≤ length x) × (allFinite x ≡ allFinite (drop i x))
 
 abbrev μ-loop : tie.MeasureT-loop
-μ-loop x i₀ i = ?
+μ-loop x i₀ i = length x - i
 
--- src/imputation.rt:179:5
 loop-holds : tie.Need-loop-holds Inv-loop μ-loop
-loop-holds c = ?
+loop-holds c = (omega arith, refl)
 
--- src/imputation.rt:180:23
 mul-is-finite : tie.Need-mul-is-finite Inv-loop μ-loop
-mul-is-finite c = ?
+mul-is-finite c = omega arith
 
--- src/imputation.rt:180:23
 shared-slice-read-is-finite : tie.Need-shared-slice-read-is-finite Inv-loop μ-loop
-shared-slice-read-is-finite c = ?
+shared-slice-read-is-finite c = omega arith
 
--- src/imputation.rt:180:13
 is-finite-requires : tie.Need-is-finite-requires Inv-loop μ-loop
-is-finite-requires c κs = ?
+is-finite-requires c κs = tt
 
--- src/imputation.rt:181:13
 returns : tie.Need-returns Inv-loop μ-loop
-returns c = ?
+returns c =
+    let L = c .before .before .before .before .loop in
+    let x = c .before .before .before .before .before .before .args .x .now in
+    let h : L .i < length x = omega arith in
+    sym (L .inv .1 ∙ finite-at x (L .i) false h (sym (c .before .is-finite .ensures) ∙ not-true _ (c .if1 .taken)))
 
--- src/imputation.rt:183:9
 add-i : tie.Need-add-i Inv-loop μ-loop
-add-i c = ?
+add-i c = omega arith
 
--- src/imputation.rt:179:5
 loop-less : tie.Need-loop-less Inv-loop μ-loop
-loop-less c = ?
+loop-less c = omega arith
 
--- src/imputation.rt:179:5
 loop-again : tie.Need-loop-again Inv-loop μ-loop
-loop-again c = ?
+loop-again c =
+    let L = c .before .before .before .before .loop in
+    let x = c .before .before .before .before .before .before .args .x .now in
+    let h : L .i < length x = omega arith in
+    (omega arith, L .inv .1 ∙ finite-at x (L .i) true h (sym (c .before .is-finite .ensures) ∙ not-false _ (c .if1 .left)))
 
--- src/imputation.rt:175:1
 returns-2 : tie.Need-returns-2 Inv-loop μ-loop
-returns-2 c = ?
+returns-2 c =
+    let L = c .before .loop in
+    let x = c .before .before .before .args .x .now in
+    let h : length x ≤ L .i = omega arith in
+    sym (L .inv .1 ∙ finite-end x (L .i) h)
 
 pub all-finite-spec : {M : Type 1} → statement M
 all-finite-spec =
