@@ -97,23 +97,31 @@ most = refl
 pub kept-60 : getD (imputeOf LINEAR 2 cells marks fixed .cells) 9 nan ≡ n 60
 kept-60 = present-kept LINEAR 2 cells marks fixed 9 (omega arith) refl
 
--- other numbers in the missing cells
-abbrev others : List Float
-others = n 2 ∷ n 1 ∷ inf true ∷ n 30 ∷ n 0 ∷ largest ∷ n 8 ∷ nan ∷ n 4 ∷ n 60 ∷ []
+-- 5 where a not-a-number stood, in a cell that is missing
+abbrev gap : List Float
+gap = n 2 ∷ nan ∷ n 8 ∷ []
 
-agreeing : Agree marks cells others
+abbrev other : List Float
+other = n 2 ∷ n 5 ∷ n 8 ∷ []
+
+abbrev between : List ℕ
+between = 0 ∷ 1 ∷ 0 ∷ []
+
+agreeing : Agree between gap other
 agreeing = record { long = refl; same = at }
   where
-    at : (k : ℕ) → k < length cells → isPresent (getD marks k 0) ≡ true → getD cells k nan ≡ getD others k nan
+    at : (k : ℕ) → k < length gap → isPresent (getD between k 0) ≡ true → getD gap k nan ≡ getD other k nan
     at zero h e = refl
-    at (suc (suc (suc zero))) h e = refl
-    at (suc (suc (suc (suc (suc (suc zero)))))) h e = refl
-    at (suc (suc (suc (suc (suc (suc (suc (suc (suc zero))))))))) h e = refl
-    at (suc zero) h e = absurd (let z : _≡_ {A = Bool} false true = e in cc)
-    at k h e = ?
+    at (suc zero) h e = absurd (let z : _≡_ {A = ℕ} 0 1 = cc in omega arith)
+    at (suc (suc zero)) h e = refl
+    at (suc (suc (suc k))) h e = absurd (omega arith)
 
-pub unread : imputeOf LINEAR 2 cells marks fixed ≡ imputeOf LINEAR 2 others marks fixed
-unread = missing-unread LINEAR 2 marks fixed cells others agreeing .1 accepted-row
+gap-row : imputeOf LINEAR 1 gap between (n 7 ∷ []) .row ≡ 0
+unfolding all
+gap-row = refl
+
+pub unread : imputeOf LINEAR 1 gap between (n 7 ∷ []) ≡ imputeOf LINEAR 1 other between (n 7 ∷ [])
+unread = missing-unread LINEAR 1 between (n 7 ∷ []) gap other agreeing .1 gap-row
 
 pub origin-40 : Origin 2 cells marks (n 9) 1 2 (getD (imputed LINEAR 2 cells marks fixed) 5 nan)
 origin-40 = origin LINEAR 2 cells marks fixed (omega arith) refl 5 (omega arith)

@@ -11,7 +11,8 @@ use lib.Dec.{ltb, eqb}
 use lib.ListN.{length, getD, drop, drop-of-length-le}
 use lib.Seq.{drop-cons}
 use lib.Ieee.{Float, nan, inf, fin, lt}
-use Rattle.series.specs.Imputation.{isPresent, knownMarks, isFinite, finitePresent, allFinite, misshapen, imputation, imputeAnswer}
+use Rattle.series.specs.Imputation.{isPresent, knownMarks, isFinite, finitePresent, allFinite, misshapen, imputeRow, imputation, imputeAnswer}
+use Rattle.common.specs.Refusal.{firstOf}
 use Rattle.series.specs.Steps.ImputationSteps.{Shaped}
 
 -- ---- finite
@@ -98,3 +99,17 @@ refused row (suc n) old new e taken = ap (λ (k : ℕ). imputation k old) e
 pub done : (row n : ℕ) (old new left : List Float) → row ≡ n → row ≡ 0 → left ≡ new → imputation 0 left ≡ imputeAnswer n old new
 done row zero old new left e z h = ap (imputation 0) h
 done row (suc n) old new left e z h = absurd (omega arith)
+
+-- ---- the rows in their order, each by its test
+
+module _ (d : ℕ) (cells : List Float) (marks : List ℕ) (fixed : List Float) where
+  pub row-as : {a b c r m p f : Bool} → eqb d 0 ≡ a → ltb 16 d ≡ b → misshapen d (length cells) (length marks) (length fixed) ≡ c
+      → ltb 2000 (length cells / d) ≡ r → knownMarks marks ≡ m → finitePresent cells marks ≡ p → allFinite fixed ≡ f
+      → imputeRow d cells marks fixed ≡ firstOf ((a, 2) ∷ (b, 4) ∷ (c, 10) ∷ (r || not m, 21) ∷ (not (p && f), 11) ∷ [])
+  unfolding imputeRow
+  row-as ea eb ec er em ep ef =
+      λ t. firstOf ((ea t, 2) ∷ (eb t, 4) ∷ (ec t, 10) ∷ (er t || not (em t), 21) ∷ (not (ep t && ef t), 11) ∷ [])
+
+both-off : (p : Bool) → p && false ≡ false
+both-off true = refl
+both-off false = refl

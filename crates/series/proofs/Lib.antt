@@ -1,3 +1,5 @@
 pub mod ImputationLists
 pub mod ImputationLaws
 pub mod ImputationRows
+pub mod ImputationTheorems
+pub mod ImputationExamples

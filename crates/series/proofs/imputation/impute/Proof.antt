@@ -1,34 +1,40 @@
+-- `imputation::impute` meets its contract: refused by its row, or done by the channels. Assumes nothing.
+use mathlib.Core.Path.{sym, _∙_}
 use borrow.Author.Needs.{needs}
+use Rattle.series.specs.Imputation.{imputed, imputeRow, imputeOf}
+use Rattle.series.proofs.ImputationRows.{refused, done}
 use Rattle.series.proofs.imputation.impute.Statement.{statement}
 use Rattle.series.proofs.imputation.impute.Tie as tie
 use Rattle.series.proofs.imputation.impute.Reads as reads
 use Rattle.series.proofs.imputation.impute.Lts as lts
-use Rattle.series.proofs.imputation.impute_channels.Reads as impute-channels-reads
-use Rattle.series.proofs.imputation.impute_row.Reads as impute-row-reads
 
--- src/imputation.rt:281:9
 impute-row-requires : tie.Need-impute-row-requires
 impute-row-requires c κs = search needs
 
--- src/imputation.rt:283:9
 same-length : tie.Need-same-length
 same-length c = search needs
 
--- src/imputation.rt:283:9
 returns : tie.Need-returns
-returns c = ?
+unfolding imputeOf
+returns c =
+    let a = c .before .before .before .before .before .before .args in
+    refused (c .before .impute-row .result) (imputeRow (a .d) (a .cells .now) (a .marks .now) (a .fixed .now)) (a .cells .now)
+    (imputed (a .method) (a .d) (a .cells .now) (a .marks .now) (a .fixed .now)) (c .before .impute-row .ensures .0) (c .if1 .taken)
 
--- src/imputation.rt:285:5
 impute-channels-requires : tie.Need-impute-channels-requires
-impute-channels-requires c κs = ?
+impute-channels-requires c κs = c .before .before .impute-row .ensures .1 (c .before .if1 .left)
 
--- src/imputation.rt:272:1
 same-length-2 : tie.Need-same-length-2
 same-length-2 c = search needs
 
--- src/imputation.rt:272:1
 returns-2 : tie.Need-returns-2
-returns-2 c = ?
+unfolding imputeOf
+returns-2 c =
+    let u = c .before .before .before .before .before in
+    let a = u .before .before .before .before .before .args in
+    done (u .impute-row .result) (imputeRow (a .d) (a .cells .now) (a .marks .now) (a .fixed .now)) (a .cells .now)
+    (imputed (a .method) (a .d) (a .cells .now) (a .marks .now) (a .fixed .now)) _ (u .impute-row .ensures .0)
+    (c .before .before .before .before .if1 .left) (c .before .before .impute-channels .ensures)
 
 pub impute-spec : {M : Type 1} → statement M
 impute-spec =
