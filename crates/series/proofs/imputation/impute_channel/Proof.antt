@@ -9,10 +9,6 @@ use Rattle.series.proofs.ImputationLists.{place-below}
 use Rattle.series.proofs.ImputationLaws.{Walked, walked-start, walked-more, walked-end, walked-under, walked-length}
 use Rattle.series.proofs.imputation.impute_channel.Statement.{statement}
 use Rattle.series.proofs.imputation.impute_channel.Tie as tie
-use Rattle.series.proofs.imputation.impute_channel.Reads as reads
-use Rattle.series.proofs.imputation.impute_channel.Lts as lts
-use Rattle.series.proofs.imputation.fill_gap.Reads as fill-gap-reads
-use Rattle.series.proofs.imputation.passed.Reads as passed-reads
 
 abbrev Inv-loop : tie.InvT-loop
 Inv-loop ch cells₀ marks n gap₀ i₀ cells gap i =
