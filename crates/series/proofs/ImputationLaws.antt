@@ -19,7 +19,8 @@ use Rattle.series.specs.declared.imputation.Channel.{Channel}
 use Rattle.series.specs.declared.imputation.Gap.{Gap}
 use Rattle.series.specs.Imputation.{isPresent, nearestBefore, nearestFrom, fillOf, presentIn, cellIn, missingOf, imputedAt, byPlace, imputed}
 use Rattle.series.specs.Steps.ImputationSteps.{Under, Above, inside, gapAt, gapOf, gapFrom, Passed, passing, passedOf, channel, doneAt, channelOf, belowAt}
-use Rattle.series.proofs.ImputationLists.{cond-same, cond-on, cond-off, length-byPlace, getD-byPlace, is-byPlace, place-channel, place-reading, place-below, place-of, inside-yes, inside-off, inside-low, inside-high}
+use Rattle.series.proofs.ImputationLists.{cond-same, cond-on, cond-off, length-byPlace, getD-byPlace, is-byPlace}
+use Rattle.series.proofs.ImputationLists.{place-channel, place-reading, place-below, place-of, inside-yes, inside-off, inside-low, inside-high}
 
 -- ---- before and after
 

@@ -47,7 +47,8 @@ loop-less c = omega arith
 
 loop-again : tie.Need-loop-again Inv-loop μ-loop
 loop-again c =
-    let s = c .before .before .before .before .before .before .before .before .before .before in
+    let u = c .before .before .before .before .before .before in
+    let s = u .before .before .before .before in
     let L = c .before .before .before .before .before .before .loop in
     let a = s .args in
     let e = c .before .before .impute-channel .ensures
