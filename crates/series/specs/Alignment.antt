@@ -5,8 +5,8 @@ use mathlib.Core.List.{List, [], _∷_}
 use lib.Dec.{ltb, eqb}
 use lib.ListN.{length}
 use lib.Ieee.{Float}
-use Rattle.series.specs.Refusal.{firstOf}
-use Rattle.series.specs.Lent.{over}
+use Rattle.common.specs.Refusal.{firstOf}
+use Rattle.common.specs.Lent.{over}
 use Rattle.series.specs.Pairs.{Pair, pairs, lefts, rights}
 use Rattle.series.specs.Gaps.{gaps}
 

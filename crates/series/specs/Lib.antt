@@ -1,8 +1,7 @@
-pub mod Refusal
-pub mod Lent
 pub mod Pairs
 pub mod Pairing
 pub mod Gaps
 pub mod Alignment
 pub mod Comparison
+pub mod Imputation
 pub mod Steps

@@ -1,3 +1,4 @@
 -- Definitions that only private contracts cite.
 pub mod Comparing
 pub mod AlignmentRows
+pub mod ImputationSteps

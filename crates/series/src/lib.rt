@@ -1,2 +1,3 @@
-// Lists of readings with their times: two of them compared.
+// Lists of readings, apart from any preprocessor: missing cells filled in, and two lists compared by their times.
 pub mod alignment;
+pub mod imputation;
