@@ -7,7 +7,7 @@ use crate::write::set_line;
 use crate::write::singles_line;
 use crate::write::tim_line;
 use crate::write::whole_length;
-use trcf::preprocessor::Preprocessor;
+use trcf::head::Preprocessor;
 use trcf::types::ForestMode;
 use trcf::types::TransformMethod;
 ghost use mathlib.Core.Path.{_≡_};

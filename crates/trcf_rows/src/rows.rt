@@ -21,7 +21,7 @@ ghost use Rattle.trcf.specs.Lists.{null};
 ghost use Rattle.trcf.specs.Settings.{imputes, waiting, settingsRow, block};
 ghost use Rattle.trcf.specs.Calls.{seenLimit, finite, due, drainFull, scale, transform, drain, shingledPoint};
 ghost use Rattle.trcf.specs.Preprocessor.{facts};
-ghost use Rattle.trcf.specs.View.{settingsOf, settingsFrom, view, misfit, lentRow, shortRow, rowOf, pastRow, lent, Bounded, Accepted, Roomy, Fitted, Ready, Pointing};
+ghost use Rattle.trcf.specs.View.{settingsOf, settingsFrom, view, misfit, headRow, orElse, lentRow, shortRow, rowOf, pastRow, lent, Bounded, Accepted, Roomy, Fitted, Ready, Pointing};
 
 fn is_imputing(m: ForestMode) -> bool
     ensures { λ r. ⌜ r ≡ imputes m ⌝ }

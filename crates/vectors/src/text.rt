@@ -3,7 +3,7 @@ use crate::expect::expect_whole;
 use crate::field::begin;
 use crate::field::done;
 use snapshot::save::save;
-use trcf::preprocessor::Preprocessor;
+use trcf::head::Preprocessor;
 ghost use Prim.Native.Nat.{_<_};
 
 fn wide(b: u8) -> u64

@@ -17,7 +17,7 @@ use crate::settings::forget;
 use crate::settings::untouched;
 use snapshot::restore::restore;
 use snapshot::save::save;
-use trcf::preprocessor::Preprocessor;
+use trcf::head::Preprocessor;
 use trcf::types::ForestMode;
 ghost use Prim.Native.Nat.{_<_, _≤_};
 ghost use lib.ListN.{length};

@@ -67,7 +67,7 @@ returns c =
     times-done (settingsOf (A .head)) (A .s .now) (ranges (A .values .now) (A .upper .now) (A .lower .now))
     (ranges (W .last .1 .1 .1 .1 .1 .1 .1 .1 .0) (W .last .1 .1 .1 .1 .1 .1 .1 .1 .1 .0) (W .last .1 .1 .1 .1 .1 .1 .1 .1 .1 .1 .0)) _
     (c .before .before .before .before .before .before .before .before .before .before .before .before .before .before .before .before .before .before .before .before .before .before .before .before .time-factor .result) (c .before .before .before .before .before .before .before .before .before .before .before .before .before .before .before .before .before .before .before .before .before .before .before .timescale-of .result) (c .before .before .before .before .before .before .before .before .before .before .before .before .before .before .before .before .before .before .before .before .before .before .timedrift-of .result) (c .before .before .before .before .before .before .before .before .before .before .before .u64-to-f64 .result) (A .last) (c .before .before .before .before .before .before .before .before .before .before .before .before .before .before .before .before .before .before .before .before .before .before .before .before .before .get-dimension .result) _ n _
-    (c .before .before .before .before .before .before .before .before .before .before .before .before .before .before .before .before .before .before .before .before .before .before .before .before .time-factor .ensures) ((opened _ (c .before .before .before .before .before .before .before .before .before .before .before .before .before .before .before .before .before .before .before .before .before .before .before .timescale-of .ensures) (time-fits (search needs)))) ((opened _ (c .before .before .before .before .before .before .before .before .before .before .before .before .before .before .before .before .before .before .before .before .before .before .timedrift-of .ensures) (time-fits (search needs)))) ((dimension-known (c .before .before .before .before .before .before .before .before .before .before .before .before .before .before .before .before .before .before .before .before .before .before .before .before .before .get-dimension .ensures) (search needs)) .0) (c .before .before .before .before .before .before .before .before .before .before .before .u64-to-f64 .ensures) (W .ensures) (P .1 .1 .1 .0)
+    (c .before .before .before .before .before .before .before .before .before .before .before .before .before .before .before .before .before .before .before .before .before .before .before .before .time-factor .ensures) ((opened _ (c .before .before .before .before .before .before .before .before .before .before .before .before .before .before .before .before .before .before .before .before .before .before .before .timescale-of .ensures) (time-fits (P .0) (P .1 .0)))) ((opened _ (c .before .before .before .before .before .before .before .before .before .before .before .before .before .before .before .before .before .before .before .before .before .before .timedrift-of .ensures) (time-fits (P .0) (P .1 .0)))) ((dimension-known (c .before .before .before .before .before .before .before .before .before .before .before .before .before .before .before .before .before .before .before .before .before .before .before .before .before .get-dimension .ensures) (search needs)) .0) (c .before .before .before .before .before .before .before .before .before .before .before .u64-to-f64 .ensures) (W .ensures) (P .1 .1 .1 .0)
     (W .kept .1 .1 .1 .1 .1 .1 .1 .1 .0) (W .kept .1 .1 .1 .1 .1 .1 .1 .1 .1 .0 ∙ P .1 .1 .1 .1 .0 .0) (W .kept .1 .1 .1 .1 .1 .1 .1 .1 .1 .1 .0 ∙ P .1 .1 .1 .1 .0 .1)
     (c .before .before .before .before .before .before .cascaded-add-f64 .ensures)
 

@@ -86,7 +86,7 @@ same-length-2 c = c .before .before .before .invert-into .kept .1 .1 .1 .1 .0
 
 returns : tie.Need-returns
 unfolding blockFrom
-returns c = let a = c .before .before .before .before .before .before .before .before .before .before .before .before .before .before .before .before .before .before .before .before .args in let h = a .head in let q = c .before .before .before .before .before .before .before .before .before .before .before .before .before .before .before .before .before .before .before .before .pre in let d = h .transformer .«input_length» in let n = h .«shingle_size» - 1 - a .back in (refl, (c .before .before .before .before .before .before .before .before .before .write-past .ensures, (passing _ (c .before .before .before .invert-into .ensures) (transform-row-zero (let a = c .before .before .before .before .before .before .before .before .before .before .before .before .before .before .before .before .before .before .before .before .args in let h = a .head in let q = c .before .before .before .before .before .before .before .before .before .before .before .before .before .before .before .before .before .before .before .before .pre in let d = h .transformer .«input_length» in let k = h .«shingle_size» in let c2 = mul-comm d k in let m = mul-le-mul (q .0 .d-few) (q .0 .k-few) in let b = block-in (k - 1 - a .back) k d (omega (arith, q)) in let w = wide (settingsOf h) in (record { some = omega (arith, q); few = omega (arith, q); room = omega (arith, q .1 .0) }, (simp (length-drop, length-take) (omega (arith, q, q .1 .0)), (simp (length-drop, length-take) (omega (arith, q, q .1 .0)), omega (arith, q))))))) ∙ ap (over (a .expected-out .now)) (inverted-free h (a .s .now) _ _ ∙ (λ j. inverted (transformer (settingsOf h) 0 (a .s .now)) (block-cut n d (a .expected .now) j) (block-cut n d (a .inputs .now) j)))))
+returns c = let a = c .before .before .before .before .before .before .before .before .before .before .before .before .before .before .before .before .before .before .before .before .args in let h = a .head in let q = c .before .before .before .before .before .before .before .before .before .before .before .before .before .before .before .before .before .before .before .before .pre in let d = h .transformer .«input_length» in let n = h .«shingle_size» - 1 - a .back in (refl, (c .before .before .before .before .before .before .before .before .before .write-past .ensures, (passing _ (c .before .before .before .invert-into .ensures) (transform-row-zero {t = h .transformer} (let a = c .before .before .before .before .before .before .before .before .before .before .before .before .before .before .before .before .before .before .before .before .args in let h = a .head in let q = c .before .before .before .before .before .before .before .before .before .before .before .before .before .before .before .before .before .before .before .before .pre in let d = h .transformer .«input_length» in let k = h .«shingle_size» in let c2 = mul-comm d k in let m = mul-le-mul (q .0 .d-few) (q .0 .k-few) in let b = block-in (k - 1 - a .back) k d (omega (arith, q)) in let w = wide (settingsOf h) in (record { some = omega (arith, q); few = omega (arith, q); room = omega (arith, q .1 .0) }, (simp (length-drop, length-take) (omega (arith, q, q .1 .0)), (simp (length-drop, length-take) (omega (arith, q, q .1 .0)), omega (arith, q))))))) ∙ ap (over (a .expected-out .now)) (inverted-free h (a .s .now) _ _ ∙ (λ j. inverted (transformer (settingsOf h) 0 (a .s .now)) (block-cut n d (a .expected .now) j) (block-cut n d (a .inputs .now) j)))))
 
 pub write-anomaly-spec : {M : Type 1} → statement M
 write-anomaly-spec =

@@ -182,7 +182,7 @@ returns-2 c =
     let r = f .roomy in
     let e : due (settingsOf h) (facts (view h l)) ≡ true = sym (c .before .before .before .before .before .before .before .before .before .before .before .before .before .before .before .before .before .before .before .before .before .before .is-due .ensures) ∙ not-false _ (c .before .before .before .before .before .before .before .before .before .before .before .before .before .before .before .before .before .before .before .before .before .if1 .left) in
     let K = c .before .before .before .before .before .before .before .before .before .before .drain-all .kept in
-    (drained-out-at h l f (omega (arith, due-some h l e, length-take-le (h .«initial_len») (a .initial-timestamps .now) (omega (arith, f .few, r)))) e (c .before .before .before .before .before .before .before .before .before .before .before .before .before .before .before .before .before .get-dimension .result) ((dimension-known (c .before .before .before .before .before .before .before .before .before .before .before .before .before .before .before .before .before .get-dimension .ensures) (search needs)) .0) _ _ _ _ (K .1 .0 ∙ length-take-le _ _ (r .in-statistics)) (K .1 .1 .0 ∙ length-take-le _ _ (r .in-input)) (K .1 .1 .1 .0 ∙ length-take-le _ _ (omega (arith, (dimension-known (c .before .before .before .before .before .before .before .before .before .before .before .before .before .before .before .before .before .get-dimension .ensures) (search needs)), r .in-point))) (K .1 .1 .1 .1 .0 ∙ length-take-le _ _ (r .in-times)) (c .before .before .before .before .before .before .before .before .before .before .drain-all .ensures), drained-view-at h l f (omega (arith, due-some h l e, length-take-le (h .«initial_len») (a .initial-timestamps .now) (omega (arith, f .few, r)))) e (c .before .before .before .before .before .before .before .before .before .before .before .before .before .before .before .before .before .get-dimension .result) ((dimension-known (c .before .before .before .before .before .before .before .before .before .before .before .before .before .before .before .before .before .get-dimension .ensures) (search needs)) .0) _ _ _ _ (K .1 .0 ∙ length-take-le _ _ (r .in-statistics)) (K .1 .1 .0 ∙ length-take-le _ _ (r .in-input)) (K .1 .1 .1 .0 ∙ length-take-le _ _ (omega (arith, (dimension-known (c .before .before .before .before .before .before .before .before .before .before .before .before .before .before .before .before .before .get-dimension .ensures) (search needs)), r .in-point))) (K .1 .1 .1 .1 .0 ∙ length-take-le _ _ (r .in-times)) (c .before .before .before .before .before .before .before .before .before .before .drain-all .ensures))
+    (drained-out-at h l f (omega (arith, due-some h l e, length-take-le (h .«initial_len») (a .initial-timestamps .now) (omega (arith, f .few, r)))) e (c .before .before .before .before .before .before .before .before .before .before .before .before .before .before .before .before .before .get-dimension .result) ((dimension-known (c .before .before .before .before .before .before .before .before .before .before .before .before .before .before .before .before .before .get-dimension .ensures) (c .before .before .before .before .before .before .before .before .before .before .before .before .before .before .before .before .before .before .before .before .before .before .before .before .before .before .before .before .before .pre .0 .bounded)) .0) _ _ _ _ (K .1 .0 ∙ length-take-le _ _ (r .in-statistics)) (K .1 .1 .0 ∙ length-take-le _ _ (r .in-input)) (K .1 .1 .1 .0 ∙ length-take-le _ _ (omega (arith, (dimension-known (c .before .before .before .before .before .before .before .before .before .before .before .before .before .before .before .before .before .get-dimension .ensures) (c .before .before .before .before .before .before .before .before .before .before .before .before .before .before .before .before .before .before .before .before .before .before .before .before .before .before .before .before .before .pre .0 .bounded)), r .in-point))) (K .1 .1 .1 .1 .0 ∙ length-take-le _ _ (r .in-times)) (c .before .before .before .before .before .before .before .before .before .before .drain-all .ensures), drained-view-at h l f (omega (arith, due-some h l e, length-take-le (h .«initial_len») (a .initial-timestamps .now) (omega (arith, f .few, r)))) e (c .before .before .before .before .before .before .before .before .before .before .before .before .before .before .before .before .before .get-dimension .result) ((dimension-known (c .before .before .before .before .before .before .before .before .before .before .before .before .before .before .before .before .before .get-dimension .ensures) (c .before .before .before .before .before .before .before .before .before .before .before .before .before .before .before .before .before .before .before .before .before .before .before .before .before .before .before .before .before .pre .0 .bounded)) .0) _ _ _ _ (K .1 .0 ∙ length-take-le _ _ (r .in-statistics)) (K .1 .1 .0 ∙ length-take-le _ _ (r .in-input)) (K .1 .1 .1 .0 ∙ length-take-le _ _ (omega (arith, (dimension-known (c .before .before .before .before .before .before .before .before .before .before .before .before .before .before .before .before .before .get-dimension .ensures) (c .before .before .before .before .before .before .before .before .before .before .before .before .before .before .before .before .before .before .before .before .before .before .before .before .before .before .before .before .before .pre .0 .bounded)), r .in-point))) (K .1 .1 .1 .1 .0 ∙ length-take-le _ _ (r .in-times)) (c .before .before .before .before .before .before .before .before .before .before .drain-all .ensures))
 
 pub drain-due-spec : {M : Type 1} → statement M
 drain-due-spec =

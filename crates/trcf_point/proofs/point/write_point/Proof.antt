@@ -76,7 +76,7 @@ same-length c = search needs
 
 returns : tie.Need-returns
 unfolding pointOf view previous
-returns c = let a = c .before .before .before .before .before .before .before .before .before .before .before .before .before .before .before .before .before .before .before .before .before .before .before .before .before .args in let q = c .before .before .before .before .before .before .before .before .before .before .before .before .before .before .before .before .before .before .before .before .before .before .before .before .before .pre in let m = block-fits (settingsOf (a .head)) (q .0 .k-pos) in let e = (block-known (c .before .before .before .before .before .before .before .before .before .before .before .before .before .before .before .before .before .block-of .ensures) (search needs)) .0 ∙ sym (block-is (settingsOf (a .head))) in point-written (a .output .now) (take (c .before .before .before .before .before .before .before .before .before .before .before .before .before .before .before .before .get-dimension .result) (a .last-shingled-point .now)) _ _ _ _ _ (c .before .before .before .before .before .before .before .before .before .before .before .before .before .before .before .before .before .block-of .result) (c .before .before .before .before .before .before .before .before .before .before .before .before .before .before .before .before .get-dimension .result) ((roomy _ (c .before .before .before .before .before .before .before .copy-in .ensures) (let a = c .before .before .before .before .before .before .before .before .before .before .before .before .before .before .before .before .before .before .before .before .before .before .before .before .before .args in let q = c .before .before .before .before .before .before .before .before .before .before .before .before .before .before .before .before .before .before .before .before .before .before .before .before .before .pre in simp length-take (omega (arith, q, c .before .before .before .before .before .before .before .before .before .before .before .before .before .before .before .before .get-dimension .ensures)))) ∙ paste-over _ _) (length-take-le _ _ (omega (arith, q, (dimension-known (c .before .before .before .before .before .before .before .before .before .before .before .before .before .before .before .before .get-dimension .ensures) (search needs))))) ((opened _ (c .before .before .before .before .before .before .before .before .before .before .before .write-transform .ensures) (transform-fits (let a = c .before .before .before .before .before .before .before .before .before .before .before .before .before .before .before .before .before .before .before .before .before .before .before .before .before .args in let q = c .before .before .before .before .before .before .before .before .before .before .before .before .before .before .before .before .before .before .before .before .before .before .before .before .before .pre in (q .0, (record { all-statistics = length-take-le _ _ (q .1 .0); all-input = length-take-le _ _ (q .1 .1 .0); all-times = length-take-le _ _ (q .1 .1 .1 .1 .0) }, (q .1 .1 .1 .1 .1 .0, omega (arith, c .before .before .before .before .before .before .before .before .before .before .before .before .before .before .before .before .before .block-of .ensures, block-is (settingsOf (a .head)))))))))) (transformedAfter-length _ _ _ _ _ ∙ sym e) (omega (arith, e, (dimension-known (c .before .before .before .before .before .before .before .before .before .before .before .before .before .before .before .before .get-dimension .ensures) (search needs)), m)) ((roomy _ (c .before .before .shift-vector .ensures) (let a = c .before .before .before .before .before .before .before .before .before .before .before .before .before .before .before .before .before .before .before .before .before .before .before .before .before .args in let q = c .before .before .before .before .before .before .before .before .before .before .before .before .before .before .before .before .before .before .before .before .before .before .before .before .before .pre in let m = block-fits (settingsOf (a .head)) (q .0 .k-pos) in simp length-take (omega (arith, q, c .before .before .before .before .before .before .before .before .before .before .before .before .before .before .before .before .before .block-of .ensures, block-is (settingsOf (a .head)), c .before .before .before .before .before .before .before .before .before .before .before .before .before .before .before .before .get-dimension .ensures, c .before .before .before .before .before .before .before .copy-in .kept, c .before .before .before .before .before .before .before .before .before .before .before .write-transform .kept))))) ∙ ap (λ (k : ℕ). over (a .output .now) (shiftIn (take k (a .last-shingled-point .now)) (transformedAfter (settingsOf (a .head)) (take (statisticsLength (settingsOf (a .head))) (a .statistics .now)) (a .head .«values_seen») (previous (holding (a .head) (take (statisticsLength (settingsOf (a .head))) (a .statistics .now)) (take (a .head .transformer .«input_length» * a .head .«shingle_size») (a .last-shingled-input .now)) (take (a .head .«shingle_size») (a .previous-timestamps .now)))) (reading (a .input .now) (a .timestamp))))) ((dimension-known (c .before .before .before .before .before .before .before .before .before .before .before .before .before .before .before .before .get-dimension .ensures) (search needs)) .0)
+returns c = let a = c .before .before .before .before .before .before .before .before .before .before .before .before .before .before .before .before .before .before .before .before .before .before .before .before .before .args in let q = c .before .before .before .before .before .before .before .before .before .before .before .before .before .before .before .before .before .before .before .before .before .before .before .before .before .pre in let m = block-fits (settingsOf (a .head)) (q .0 .k-pos) in let e = (block-known (c .before .before .before .before .before .before .before .before .before .before .before .before .before .before .before .before .before .block-of .ensures) (search needs)) .0 ∙ sym (block-is (settingsOf (a .head))) in point-written (a .output .now) (take (c .before .before .before .before .before .before .before .before .before .before .before .before .before .before .before .before .get-dimension .result) (a .last-shingled-point .now)) _ _ _ _ _ (c .before .before .before .before .before .before .before .before .before .before .before .before .before .before .before .before .before .block-of .result) (c .before .before .before .before .before .before .before .before .before .before .before .before .before .before .before .before .get-dimension .result) ((roomy _ (c .before .before .before .before .before .before .before .copy-in .ensures) (let a = c .before .before .before .before .before .before .before .before .before .before .before .before .before .before .before .before .before .before .before .before .before .before .before .before .before .args in let q = c .before .before .before .before .before .before .before .before .before .before .before .before .before .before .before .before .before .before .before .before .before .before .before .before .before .pre in simp length-take (omega (arith, q, (dimension-known (c .before .before .before .before .before .before .before .before .before .before .before .before .before .before .before .before .get-dimension .ensures) (search needs)))))) ∙ paste-over _ _) (length-take-le _ _ (omega (arith, q, (dimension-known (c .before .before .before .before .before .before .before .before .before .before .before .before .before .before .before .before .get-dimension .ensures) (search needs))))) ((opened _ (c .before .before .before .before .before .before .before .before .before .before .before .write-transform .ensures) (transform-fits (let a = c .before .before .before .before .before .before .before .before .before .before .before .before .before .before .before .before .before .before .before .before .before .before .before .before .before .args in let q = c .before .before .before .before .before .before .before .before .before .before .before .before .before .before .before .before .before .before .before .before .before .before .before .before .before .pre in (q .0, (record { all-statistics = length-take-le _ _ (q .1 .0); all-input = length-take-le _ _ (q .1 .1 .0); all-times = length-take-le _ _ (q .1 .1 .1 .1 .0) }, (q .1 .1 .1 .1 .1 .0, omega (arith, (block-known (c .before .before .before .before .before .before .before .before .before .before .before .before .before .before .before .before .before .block-of .ensures) (search needs)), block-is (settingsOf (a .head)))))))))) (transformedAfter-length _ _ _ _ _ ∙ sym e) (omega (arith, e, (dimension-known (c .before .before .before .before .before .before .before .before .before .before .before .before .before .before .before .before .get-dimension .ensures) (search needs)), m)) ((roomy _ (c .before .before .shift-vector .ensures) (let a = c .before .before .before .before .before .before .before .before .before .before .before .before .before .before .before .before .before .before .before .before .before .before .before .before .before .args in let q = c .before .before .before .before .before .before .before .before .before .before .before .before .before .before .before .before .before .before .before .before .before .before .before .before .before .pre in let m = block-fits (settingsOf (a .head)) (q .0 .k-pos) in simp length-take (omega (arith, q, (block-known (c .before .before .before .before .before .before .before .before .before .before .before .before .before .before .before .before .before .block-of .ensures) (search needs)), block-is (settingsOf (a .head)), (dimension-known (c .before .before .before .before .before .before .before .before .before .before .before .before .before .before .before .before .get-dimension .ensures) (search needs)), c .before .before .before .before .before .before .before .copy-in .kept, c .before .before .before .before .before .before .before .before .before .before .before .write-transform .kept))))) ∙ ap (λ (k : ℕ). over (a .output .now) (shiftIn (take k (a .last-shingled-point .now)) (transformedAfter (settingsOf (a .head)) (take (statisticsLength (settingsOf (a .head))) (a .statistics .now)) (a .head .«values_seen») (previous (holding (a .head) (take (statisticsLength (settingsOf (a .head))) (a .statistics .now)) (take (a .head .transformer .«input_length» * a .head .«shingle_size») (a .last-shingled-input .now)) (take (a .head .«shingle_size») (a .previous-timestamps .now)))) (reading (a .input .now) (a .timestamp))))) ((dimension-known (c .before .before .before .before .before .before .before .before .before .before .before .before .before .before .before .before .get-dimension .ensures) (search needs)) .0)
 
 pub write-point-spec : {M : Type 1} → statement M
 write-point-spec =
