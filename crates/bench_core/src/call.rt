@@ -1,7 +1,7 @@
 // What each call line does and prints, on a preprocessor and the last point.
-use snapshot::line::singles_line;
-use snapshot::line::whole_line;
-use snapshot::save::save;
+use snapshot_save::line::singles_line;
+use snapshot_save::line::whole_line;
+use snapshot_save::save::save;
 use trcf::head::Preprocessor;
 use trcf::head::get_dimension;
 use trcf_learn::post_process::post_process;

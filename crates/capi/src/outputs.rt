@@ -1,7 +1,7 @@
 // The calls that write lists and change no state.
 use crate::answer::tell;
 use crate::head::read_head;
-use snapshot::save::save;
+use snapshot_save::save::save;
 use trcf_calls::queries::difference_deviations;
 use trcf_calls::queries::scale;
 use trcf_calls::queries::shift;

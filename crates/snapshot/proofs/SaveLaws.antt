@@ -129,6 +129,10 @@ pub record Held (d k wide n statistics input point times values initial : ℕ) :
   pub in-values : n * d ≤ values
   pub in-initial : n ≤ initial
 
+-- a time of one number at most
+pub narrow-past : {w : ℕ} {r p : Bool} → r ≡ (ltb 1 w || p) → w ≤ 1 → r ≡ p
+narrow-past {w = w} {p = p} e h = e ∙ ap (λ (b : Bool). b || p) (le-ltb 1 w h)
+
 pub held-of : (d k wide n a b c e f g : ℕ) → past d k wide n a b c e f g ≡ false → Held d k wide n a b c e f g
 held-of d k wide n a b c e f g h =
     let h₁ = or-right (ltb 16 d) _ h in

@@ -8,8 +8,8 @@ use crate::lines::Lines;
 use crate::lines::buf_lines;
 use crate::lines::buf_lines_unkept;
 use crate::lines::part_lines;
-use crate::save::is_past;
-use crate::save::time_width;
+use crate::limits::past_limits;
+use crate::limits::time_width;
 use crate::settings::Set;
 use crate::settings::set_line;
 use crate::values::same_codes;
@@ -327,7 +327,7 @@ fn is_short(
     let mode = head.forest_mode;
     let wide = time_width(mode);
     let start = head.start_normalization;
-    is_past(
+    past_limits(
         t.input_length,
         head.shingle_size,
         wide,

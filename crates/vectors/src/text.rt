@@ -2,7 +2,7 @@
 use crate::expect::expect_whole;
 use crate::field::begin;
 use crate::field::done;
-use snapshot::save::save;
+use snapshot_save::save::save;
 use trcf::head::Preprocessor;
 ghost use Prim.Native.Nat.{_<_};
 

@@ -16,7 +16,7 @@ use crate::list::length_within;
 use crate::settings::forget;
 use crate::settings::untouched;
 use snapshot::restore::restore;
-use snapshot::save::save;
+use snapshot_save::save::save;
 use trcf::head::Preprocessor;
 use trcf::types::ForestMode;
 ghost use Prim.Native.Nat.{_<_, _≤_};
