@@ -95,7 +95,7 @@ same-length-3 : tie.Need-same-length-3
 same-length-3 c = c .before .before .shift-time .kept .0
 
 returns : tie.Need-returns
-returns c = let a = c .before .before .before .before .before .before .before .before .before .before .before .before .before .before .before .before .before .before .before .before .before .before .before .before .before .before .before .before .before .args in let d = a .head .transformer .«input_length» in let n = length (a .stamps .now) in let e = (block-known (c .before .before .before .before .before .before .before .before .before .before .before .before .before .before .before .before .before .before .before .before .before .block-of .ensures) (c .before .before .before .before .before .before .before .before .before .before .before .before .before .before .before .before .before .before .before .before .before .before .before .before .before .before .before .before .before .pre .0 .d-few)) .0 ∙ sym (block-is (settingsOf (a .head))) in ((roomy _ (c .before .before .before .before .before .before .before .before .before .before .before .shift-vector .ensures) (let a = c .before .before .before .before .before .before .before .before .before .before .before .before .before .before .before .before .before .before .before .before .before .before .before .before .before .before .before .before .before .args in let d = a .head .transformer .«input_length» in let n = length (a .stamps .now) in let b = block-in (a .i) n d (omega (arith, c .before .before .before .before .before .before .before .before .before .before .before .before .before .before .before .before .before .before .before .before .before .before .before .before .before .before .before .before .before .pre)) in let m = le-mul-of-pos-right d (c .before .before .before .before .before .before .before .before .before .before .before .before .before .before .before .before .before .before .before .before .before .before .before .before .before .before .before .before .before .pre .0 .k-pos) in simp (length-drop, length-take) (omega (arith, c .before .before .before .before .before .before .before .before .before .before .before .before .before .before .before .before .before .before .before .before .before .before .before .before .before .before .before .before .before .pre)))) ∙ ap (shiftIn (a .inputs .now)) (block-cut (a .i) d (a .values .now)), ((roomy _ (c .before .before .before .before .before .before .shift-vector2 .ensures) (let a = c .before .before .before .before .before .before .before .before .before .before .before .before .before .before .before .before .before .before .before .before .before .before .before .before .before .before .before .before .before .args in let d = a .head .transformer .«input_length» in let n = length (a .stamps .now) in let m = block-fits (settingsOf (a .head)) (c .before .before .before .before .before .before .before .before .before .before .before .before .before .before .before .before .before .before .before .before .before .before .before .before .before .before .before .before .before .pre .0 .k-pos) in simp length-take (omega (arith, c .before .before .before .before .before .before .before .before .before .before .before .before .before .before .before .write-transform .kept, (block-known (c .before .before .before .before .before .before .before .before .before .before .before .before .before .before .before .before .before .before .before .before .before .block-of .ensures) (c .before .before .before .before .before .before .before .before .before .before .before .before .before .before .before .before .before .before .before .before .before .before .before .before .before .before .before .before .before .pre .0 .d-few)), block-is (settingsOf (a .head)), c .before .before .before .before .before .before .before .before .before .before .before .before .before .before .before .before .before .before .before .before .before .before .before .before .before .before .before .before .before .pre)))) ∙ point-cut (settingsOf (a .head)) (a .s .now) (a .head .«values_seen») _ d (a .values .now) (a .i) _ _ _ (a .points .now) (c .before .before .before .before .before .before .before .before .before .before .before .before .before .before .before .before .before .before .before .before .before .block-of .result) e ((opened _ (c .before .before .before .before .before .before .before .before .before .before .before .before .before .before .before .write-transform .ensures) (transform-fits (let a = c .before .before .before .before .before .before .before .before .before .before .before .before .before .before .before .before .before .before .before .before .before .before .before .before .before .before .before .before .before .args in let d = a .head .transformer .«input_length» in let n = length (a .stamps .now) in let b = block-in (a .i) n d (omega (arith, c .before .before .before .before .before .before .before .before .before .before .before .before .before .before .before .before .before .before .before .before .before .before .before .before .before .before .before .before .before .pre)) in (c .before .before .before .before .before .before .before .before .before .before .before .before .before .before .before .before .before .before .before .before .before .before .before .before .before .before .before .before .before .pre .0, (c .before .before .before .before .before .before .before .before .before .before .before .before .before .before .before .before .before .before .before .before .before .before .before .before .before .before .before .before .before .pre .1 .0, (simp (length-drop, length-take) (omega (arith, c .before .before .before .before .before .before .before .before .before .before .before .before .before .before .before .before .before .before .before .before .before .before .before .before .before .before .before .before .before .pre)), omega (arith, (block-known (c .before .before .before .before .before .before .before .before .before .before .before .before .before .before .before .before .before .before .before .before .before .block-of .ensures) (c .before .before .before .before .before .before .before .before .before .before .before .before .before .before .before .before .before .before .before .before .before .before .before .before .before .before .before .before .before .pre .0 .d-few)), block-is (settingsOf (a .head)))))))))), (roomy _ (c .before .before .shift-time .ensures) (search needs))))
+returns c = let a = c .before .before .before .before .before .before .before .before .before .before .before .before .before .before .before .before .before .before .before .before .before .before .before .before .before .before .before .before .before .args in let d = a .head .transformer .«input_length» in let n = length (a .stamps .now) in let e = (block-known (c .before .before .before .before .before .before .before .before .before .before .before .before .before .before .before .before .before .before .before .before .before .block-of .ensures) (c .before .before .before .before .before .before .before .before .before .before .before .before .before .before .before .before .before .before .before .before .before .before .before .before .before .before .before .before .before .pre .0 .d-few)) .0 ∙ sym (block-is (settingsOf (a .head))) in ((roomy _ (c .before .before .before .before .before .before .before .before .before .before .before .shift-vector .ensures) (let a = c .before .before .before .before .before .before .before .before .before .before .before .before .before .before .before .before .before .before .before .before .before .before .before .before .before .before .before .before .before .args in let d = a .head .transformer .«input_length» in let n = length (a .stamps .now) in let b = block-in (a .i) n d (omega (arith, c .before .before .before .before .before .before .before .before .before .before .before .before .before .before .before .before .before .before .before .before .before .before .before .before .before .before .before .before .before .pre)) in let m = le-mul-of-pos-right d (c .before .before .before .before .before .before .before .before .before .before .before .before .before .before .before .before .before .before .before .before .before .before .before .before .before .before .before .before .before .pre .0 .k-pos) in simp (length-drop, length-take) (omega (arith, c .before .before .before .before .before .before .before .before .before .before .before .before .before .before .before .before .before .before .before .before .before .before .before .before .before .before .before .before .before .pre)))) ∙ ap (shiftIn (a .inputs .now)) (block-cut (a .i) d (a .values .now)), ((roomy _ (c .before .before .before .before .before .before .shift-vector2 .ensures) (let a = c .before .before .before .before .before .before .before .before .before .before .before .before .before .before .before .before .before .before .before .before .before .before .before .before .before .before .before .before .before .args in let d = a .head .transformer .«input_length» in let n = length (a .stamps .now) in let m = block-fits (settingsOf (a .head)) (c .before .before .before .before .before .before .before .before .before .before .before .before .before .before .before .before .before .before .before .before .before .before .before .before .before .before .before .before .before .pre .0 .k-pos) in simp length-take (omega (arith, c .before .before .before .before .before .before .before .before .before .before .before .before .before .before .before .write-transform .kept, (block-known (c .before .before .before .before .before .before .before .before .before .before .before .before .before .before .before .before .before .before .before .before .before .block-of .ensures) (c .before .before .before .before .before .before .before .before .before .before .before .before .before .before .before .before .before .before .before .before .before .before .before .before .before .before .before .before .before .pre .0 .d-few)), block-is (settingsOf (a .head)), c .before .before .before .before .before .before .before .before .before .before .before .before .before .before .before .before .before .before .before .before .before .before .before .before .before .before .before .before .before .pre)))) ∙ point-cut (settingsOf (a .head)) (a .s .now) (a .head .«values_seen») _ d (a .values .now) (a .i) _ _ _ (a .points .now) (c .before .before .before .before .before .before .before .before .before .before .before .before .before .before .before .before .before .before .before .before .before .block-of .result) e ((opened _ (c .before .before .before .before .before .before .before .before .before .before .before .before .before .before .before .write-transform .ensures) (transform-fits (let a = c .before .before .before .before .before .before .before .before .before .before .before .before .before .before .before .before .before .before .before .before .before .before .before .before .before .before .before .before .before .args in let d = a .head .transformer .«input_length» in let n = length (a .stamps .now) in let b = block-in (a .i) n d (omega (arith, c .before .before .before .before .before .before .before .before .before .before .before .before .before .before .before .before .before .before .before .before .before .before .before .before .before .before .before .before .before .pre)) in (c .before .before .before .before .before .before .before .before .before .before .before .before .before .before .before .before .before .before .before .before .before .before .before .before .before .before .before .before .before .pre .0, (c .before .before .before .before .before .before .before .before .before .before .before .before .before .before .before .before .before .before .before .before .before .before .before .before .before .before .before .before .before .pre .1 .0, (simp (length-drop, length-take) (omega (arith, c .before .before .before .before .before .before .before .before .before .before .before .before .before .before .before .before .before .before .before .before .before .before .before .before .before .before .before .before .before .pre)), omega (arith, (block-known (c .before .before .before .before .before .before .before .before .before .before .before .before .before .before .before .before .before .before .before .before .before .block-of .ensures) (c .before .before .before .before .before .before .before .before .before .before .before .before .before .before .before .before .before .before .before .before .before .before .before .before .before .before .before .before .before .pre .0 .d-few)), block-is (settingsOf (a .head)))))))))), (roomy _ (c .before .before .shift-time .ensures) (omega (arith, c .before .before .before .before .before .before .before .before .before .before .before .before .before .before .before .before .before .before .before .before .before .before .before .before .before .before .before .before .before .pre .0 .k-pos, c .before .before .before .before .before .before .before .before .before .before .before .before .before .before .before .before .before .before .before .before .before .before .before .before .before .before .before .before .before .pre .1 .0 .all-times)))))
 
 pub drain-turn-spec : {M : Type 1} → statement M
 drain-turn-spec =
