@@ -9,8 +9,8 @@ use Rattle.snapshot.proofs.restore.is_short.Statement.{statement}
 use Rattle.snapshot.proofs.restore.is_short.Tie as tie
 use Rattle.snapshot.proofs.restore.is_short.Reads as reads
 use Rattle.snapshot.proofs.restore.is_short.Lts as lts
-use Rattle.snapshot.proofs.save.is_past.Reads as past-limits-reads
-use Rattle.snapshot.proofs.save.time_width.Reads as time-width-reads
+use Rattle.snapshot.proofs.limits.past_limits.Reads as past-limits-reads
+use Rattle.snapshot.proofs.limits.time_width.Reads as time-width-reads
 
 time-width-requires : tie.Need-time-width-requires
 time-width-requires c κs = search needs
