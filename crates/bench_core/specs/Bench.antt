@@ -17,8 +17,8 @@ use Rattle.trcf.specs.declared.types.TransformMethod.{TransformMethod}
 use Rattle.trcf.specs.declared.types.TransformMethod.the-variants.{NONE, WEIGHTED, DIFFERENCE, «SUBTRACT_MA», NORMALIZE, «NORMALIZE_DIFFERENCE»}
 use Rattle.trcf.specs.declared.types.ForestMode.{ForestMode}
 use Rattle.trcf.specs.declared.types.ForestMode.the-variants.{STANDARD, «TIME_AUGMENTED»}
-use Rattle.trcf.specs.declared.preprocessor.Preprocessor.{Preprocessor}
-use Rattle.trcf.specs.declared.preprocessor.PreprocessorBuilder.{PreprocessorBuilder}
+use Rattle.trcf.specs.declared.head.Preprocessor.{Preprocessor}
+use Rattle.trcf.specs.declared.head.PreprocessorBuilder.{PreprocessorBuilder}
 use Rattle.snapshot.specs.Text.{whole, named, singles, render}
 use Rattle.snapshot.specs.Read.{bytesOfLine}
 use Rattle.snapshot.specs.Save.{saveOf, Outcome as Saved}
