@@ -1,19 +1,18 @@
-// One block of the input: read behind the bytes that are kept of the block before, handed on cell by cell, and what it prints written.
+// One block of the input: read behind the bytes that are kept of the block before, handed to `bench_core`, and what it prints written.
+use bench_core::block::block;
+use bench_core::block::carry;
 use bench_core::step::Bench;
-use bench_core::step::LONGEST;
 use bench_core::step::Phase;
-use bench_core::step::ROOM;
-use bench_core::step::step;
 use libc::STDIN_FILENO;
 use libc::STDOUT_FILENO;
 ghost use Prim.Native.Nat.{_≤_, _<_};
 ghost use lib.ListN.{length};
 
-// The bench behind a cell, the place behind it in the text, and the place in the output.
+// The bench behind a call, the place behind what it read of the text, and whether it stopped for want of room.
 struct Place {
     bench: Bench,
     next: usize,
-    at: usize,
+    full: bool,
 }
 
 // What a block leaves: the bench, how many bytes are kept, and whether the run is over.
@@ -21,17 +20,6 @@ pub(crate) struct Turn {
     pub bench: Bench,
     pub kept: usize,
     pub over: bool,
-}
-
-// n places behind at, and never past the end.
-pub(crate) fn onward(at: usize, n: usize, end: usize) -> usize
-    requires { ⌜ at ≤ end ⌝ }
-    ensures { λ r. ⌜ (at ≤ r) × (r ≤ end) ⌝ }
-{
-    if end - at < n {
-        return end;
-    }
-    at + n
 }
 
 // The turns that are left behind one.
@@ -54,20 +42,8 @@ fn is_over(phase: Phase) -> bool {
     }
 }
 
-// Writes the output where less than ROOM is left of it; answers where it goes on.
-fn flushed(out: &[u8], at: usize) -> usize
-    requires { ⌜ at ≤ length (now out) ⌝ }
-    ensures { λ r. ⌜ r ≤ length (now (out .entry)) ⌝ }
-{
-    if out.len() - at < ROOM {
-        io::write_all(STDOUT_FILENO, &out[..at]);
-        return 0;
-    }
-    at
-}
-
-// The first cell from next on; where none ends in the text, next stays.
-fn cell_at(
+// One call, on the text from next on, and what it prints written.
+fn hand(
     b: Bench,
     statistics: &mut [f64],
     last_shingled_input: &mut [f32],
@@ -78,16 +54,13 @@ fn cell_at(
     point: &mut [f32],
     text: &[u8],
     next: usize,
+    ends: bool,
     out: &mut [u8],
-    at: usize,
 ) -> Place
     requires { ⌜ next ≤ length (now text) ⌝ }
-    requires { ⌜ at ≤ length (now out) ⌝ }
     ensures { λ r. ⌜ (next ≤ r .next) × (r .next ≤ length (now (text .entry))) ⌝ }
-    ensures { λ r. ⌜ r .at ≤ length (now (out .exit)) ⌝ }
 {
-    let from = flushed(out, at);
-    let s = step(
+    let r = block(
         b,
         statistics,
         last_shingled_input,
@@ -97,18 +70,21 @@ fn cell_at(
         initial_timestamps,
         point,
         &text[next..],
-        &mut out[from..],
+        ends,
+        out,
     );
-    let bench = s.bench;
+    let n = r.written;
+    io::write_all(STDOUT_FILENO, &out[..n]);
+    let bench = r.bench;
     Place {
         bench: bench,
-        next: onward(next, s.next, text.len()),
-        at: onward(from, s.length, out.len()),
+        next: next + r.read,
+        full: r.full,
     }
 }
 
-// Every cell that ends in the text; answers the bench, and where the cells end.
-fn cells(
+// Call after call, until one has room for all that it prints.
+fn handed(
     b: Bench,
     statistics: &mut [f64],
     last_shingled_input: &mut [f32],
@@ -118,16 +94,15 @@ fn cells(
     initial_timestamps: &mut [u64],
     point: &mut [f32],
     text: &[u8],
+    ends: bool,
     out: &mut [u8],
 ) -> Place
     ensures { λ r. ⌜ r .next ≤ length (now (text .entry)) ⌝ }
-    ensures { λ r. ⌜ r .at ≤ length (now (out .exit)) ⌝ }
 {
     let mut bench = b;
     let mut next = 0usize;
-    let mut at = 0usize;
-    while next < text.len() {
-        let p = cell_at(
+    while next <= text.len() {
+        let p = hand(
             bench,
             statistics,
             last_shingled_input,
@@ -138,45 +113,23 @@ fn cells(
             point,
             text,
             next,
+            ends,
             out,
-            at,
         );
+        if !p.full {
+            return p;
+        }
         if p.next == next {
             return p;
         }
         bench = p.bench;
         next = p.next;
-        at = p.at;
     }
     Place {
         bench: bench,
         next: next,
-        at: at,
+        full: false,
     }
-}
-
-// Moves the start of a cell that the block cuts, from..to, to the front; answers how many bytes that is. More than LONGEST are not needed.
-fn carried(text: &mut [u8], from: usize, to: usize) -> usize
-    requires { ⌜ from ≤ to ⌝ }
-    requires { ⌜ to ≤ length (now text) ⌝ }
-    ensures { λ r. ⌜ r ≤ length (now (text .exit)) ⌝ }
-{
-    let n = least(to - from, LONGEST);
-    let mut i = 0usize;
-    while i < n {
-        text[i] = text[from + i];
-        i += 1;
-    }
-    n
-}
-
-fn least(a: usize, b: usize) -> usize
-    ensures { λ r. ⌜ (r ≤ a) × (r ≤ b) ⌝ }
-{
-    if a < b {
-        return a;
-    }
-    b
 }
 
 // Reads behind the bytes that are kept; answers how many bytes stand in the text, no more than before at the end of the input.
@@ -206,7 +159,8 @@ pub(crate) fn next_block(
     ensures { λ r. ⌜ r .kept ≤ length (now (text .exit)) ⌝ }
 {
     let n = filled(text, kept);
-    let p = cells(
+    let ends = n == kept;
+    let p = handed(
         b,
         statistics,
         last_shingled_input,
@@ -216,15 +170,14 @@ pub(crate) fn next_block(
         initial_timestamps,
         point,
         &text[..n],
+        ends,
         out,
     );
-    let at = p.at;
-    io::write_all(STDOUT_FILENO, &out[..at]);
     let bench = p.bench;
     let phase = bench.phase;
     Turn {
         bench: bench,
-        kept: carried(text, p.next, n),
-        over: n == kept || is_over(phase),
+        kept: carry(text, p.next, n),
+        over: ends || is_over(phase),
     }
 }

@@ -1,17 +1,7 @@
-// The bench: reads standard input block by block until it ends, hands each block to `bench_core` cell by cell, and writes what that prints.
+// The bench: reads standard input block by block until it ends, hands each block to `bench_core`, and writes what that prints.
 mod block;
 
-use bench_core::step::Bench;
-use bench_core::step::finish;
 use bench_core::step::start;
-use libc::STDOUT_FILENO;
-
-// What the end of the input prints, behind the bytes of rest, in which no cell ends.
-fn last(bench: Bench, rest: &[u8], out: &mut [u8]) {
-    let s = finish(bench, rest, out);
-    let n = block::onward(0, s.length, out.len());
-    io::write_all(STDOUT_FILENO, &out[..n]);
-}
 
 // The whole input. A proved loop has to end, and nothing says that an input does: the loop counts its turns down, from a number that no
 // run uses up.
@@ -47,7 +37,6 @@ fn all(
         kept = t.kept;
         turns = block::left(turns, t.over);
     }
-    last(bench, &text[..kept], out);
 }
 
 // The memory that is lent: room for 4 values a reading, 64 readings a point and 500 readings that wait, which are the bench's limits.

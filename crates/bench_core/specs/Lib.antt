@@ -1,3 +1,5 @@
 pub mod Line
 pub mod Bench
 pub mod Run
+pub mod Whole
+pub mod Blocks

@@ -31,15 +31,6 @@ loop-less c = search needs
 loop-again : tie.Need-loop-again Inv-loop μ-loop
 loop-again c = search (needs, c .before .before .before .before .before .before .before .before .before .before .before .before .before .before .before .before .before .before .before .before .next-block .kept, c .before .before .before .before .before .before .before .before .before .before .before .before .before .before .before .before .before .before .before .before .next-block .ensures, c .before .before .before .before .before .before .before .before .before .before .before .before .before .before .before .before .before .before .before .before .before .before .before .before .before .before .before .before .before .before .before .loop .inv)
 
-slice-reshare-prefix-last : tie.Need-slice-reshare-prefix-last Inv-loop μ-loop
-slice-reshare-prefix-last c = search needs
-
-slice-aggregate-last : tie.Need-slice-aggregate-last Inv-loop μ-loop
-slice-aggregate-last c = simp length-take (omega arith)
-
-last-requires : tie.Need-last-requires Inv-loop μ-loop
-last-requires c κs = search needs
-
 same-length : tie.Need-same-length Inv-loop μ-loop
 same-length c = search needs
 
@@ -82,9 +73,6 @@ all-spec =
     left-requires
     loop-less
     loop-again
-    slice-reshare-prefix-last
-    slice-aggregate-last
-    last-requires
     same-length
     same-length-2
     same-length-3
