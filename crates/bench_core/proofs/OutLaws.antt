@@ -21,7 +21,7 @@ use Rattle.bench_core.specs.declared.step.Bench.{Bench}
 use Rattle.bench_core.specs.declared.step.Phase.{Phase}
 use Rattle.bench_core.specs.declared.step.Phase.the-variants.{WantsSet, WantsWeights, Running, Ended}
 use Rattle.bench_core.specs.Line.{requestOf, keptOf}
-use Rattle.bench_core.specs.Bench.{Output, output, prints, noText, Heard, heard, refusedBy, endOf, readyFor, setHeard, limitRow, builtHeard, weightsTurn, weightsHeard, unread, goingOn, plainHeard, callHeard, saveTold, savePrints, lineBy, lineHeard, builderFrom, Turn, callTold, tells, pointTurn, learnTurn, drainTurn, begun, Said, said, finishBy}
+use Rattle.bench_core.specs.Bench.{zeroCodes, Output, output, prints, noText, Heard, heard, refusedBy, endOf, readyFor, setHeard, limitRow, builtHeard, weightsTurn, weightsHeard, unread, goingOn, plainHeard, callHeard, saveTold, savePrints, lineBy, lineHeard, builderFrom, Turn, callTold, tells, pointTurn, learnTurn, drainTurn, begun, Said, said, finishBy}
 use Rattle.bench_core.specs.Run.{shown}
 use Rattle.bench_core.specs.Blocks.{Reply, replyOf, speaks}
 
@@ -83,7 +83,7 @@ module _ (out other : List ℕ) (e : length out ≡ length other) where
     unfolding weightsTurn
     weights-line l Unread = no-19 (endOf b)
     weights-line l Set = no-19 (endOf b)
-    weights-line l Weights = built b (buildOf (settingsFrom (b .builder) (keptOf l)) lists) y
+    weights-line l Weights = built b (buildOf (settingsFrom (b .builder) (keptOf l) (zeroCodes (b .builder))) lists) y
     weights-line l Point = no-19 (endOf b)
     weights-line l Learn = no-19 (endOf b)
     weights-line l Drain = no-19 (endOf b)

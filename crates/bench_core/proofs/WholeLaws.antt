@@ -27,7 +27,7 @@ use Rattle.bench_core.specs.declared.step.Bench.{Bench}
 use Rattle.bench_core.specs.declared.step.Phase.{Phase}
 use Rattle.bench_core.specs.declared.step.Phase.the-variants.{WantsSet, WantsWeights, Running, Ended}
 use Rattle.bench_core.specs.Line.{shortName, longName, nameOf, letterOf, methodOf, placeOf, otherLine, blankLine, withWhole, withDouble, withSingle, fieldAt, fieldOf, cellBy, cellOf, requestOf, keptOf}
-use Rattle.bench_core.specs.Bench.{output, noText, Heard, heard, cellLength, endOf, readyFor, refusedBy, limitRow, builtHeard, weightsTurn, setHeard, weightsHeard, callHeard, plainHeard, lineBy, lineHeard, fresh, withLine, begun, finishBy, said, prints}
+use Rattle.bench_core.specs.Bench.{zeroCodes, output, noText, Heard, heard, cellLength, endOf, readyFor, refusedBy, limitRow, builtHeard, weightsTurn, setHeard, weightsHeard, callHeard, plainHeard, lineBy, lineHeard, fresh, withLine, begun, finishBy, said, prints}
 use Rattle.bench_core.specs.Run.{memory, blank, shown, printedFrom, printed}
 use Rattle.bench_core.specs.Whole.{onto, parts, withFields, lineFrom, endText, linesPrint, answers}
 use Rattle.bench_core.specs.Blocks.{Runs}
@@ -168,7 +168,7 @@ module _ (b : Bench) (k : Line) (l : Line) (lists : Lent) (y : List Float) (out 
   unfolding weightsTurn
   clean-weights Unread = (refl, refl)
   clean-weights Set = (refl, refl)
-  clean-weights Weights = (refl, clean-built (buildOf (settingsFrom (b .builder) (keptOf l)) lists))
+  clean-weights Weights = (refl, clean-built (buildOf (settingsFrom (b .builder) (keptOf l) (zeroCodes (b .builder))) lists))
   clean-weights Point = (refl, refl)
   clean-weights Learn = (refl, refl)
   clean-weights Drain = (refl, refl)
