@@ -4,14 +4,4 @@ pub mod TurnLaws
 pub mod StepLaws
 pub mod CellLaws
 pub mod BlockLaws
-pub mod CutLaws
-pub mod OutLaws
-pub mod ReadLaws
-pub mod RunLaws
-pub mod WholeLaws
-pub mod PlaceLaws
-pub mod LoopLaws
-pub mod EndLaws
-pub mod EveryRun
-pub mod CarryLaws
 pub mod Examples

@@ -1,5 +1,3 @@
 pub mod Line
 pub mod Bench
 pub mod Run
-pub mod Whole
-pub mod Blocks

@@ -615,7 +615,7 @@ fn cell_end(text: &[u8]) -> usize
 }
 
 // The part of a cell that is looked at.
-pub(crate) fn cell_of(n: usize) -> usize
+fn cell_of(n: usize) -> usize
     ensures { λ r. ⌜ r ≡ cellKept n ⌝ }
     ensures { λ r. ⌜ r ≤ n ⌝ }
 {

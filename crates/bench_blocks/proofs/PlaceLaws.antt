@@ -11,14 +11,15 @@ use lib.Seq.{take-append-add, drop-append-add, take-append-seam, drop-append-sea
 use lib.Ieee.{Float}
 use Rattle.common.specs.Lent.{over}
 use Rattle.trcf.specs.View.{Lent}
 use Rattle.bench_core.specs.Line.{cellOf}
 use Rattle.bench_core.specs.declared.step.Bench.{Bench}
 use Rattle.bench_core.specs.Bench.{Output, output, prints, Heard, heard, lineHeard, cellLength, room, Stepped, stepped, stepOf, withLine}
 use Rattle.bench_core.specs.Run.{blank, shown}
-use Rattle.bench_core.specs.Blocks.{replyOf, speaks, Placed}
-use Rattle.bench_core.proofs.OutLaws.{silent, line-out}
-use Rattle.bench_core.proofs.ReadLaws.{cellHeard, at-most, step-none, step-read}
-use Rattle.bench_core.proofs.RunLaws.{roomy, long-blank}
+use Rattle.bench_blocks.specs.Steps.{Placed}
+use Rattle.bench_blocks.proofs.OutLaws.{replyOf, speaks}
+use Rattle.bench_blocks.proofs.OutLaws.{silent, line-out}
+use Rattle.bench_blocks.proofs.ReadLaws.{cellHeard, at-most, step-none, step-read}
+use Rattle.bench_blocks.proofs.RunLaws.{roomy, long-blank}
 
 -- ---- a step on any output of ROOM bytes
 

@@ -1,12 +1,12 @@
--- `bench_core::block::carry` meets its contract. Assumes nothing.
+-- `bench_blocks::turn::carry` meets its contract. Assumes nothing.
 use Prim.Native.Nat.{ℕ, _+_, _-_, _≤_}
 use mathlib.Core.Path.{_≡_, subst}
 use native.Mathlib.Omega.{arith}
 use borrow.Author.Needs.{needs}
 use lib.ListN.{length, take, drop}
-use Rattle.bench_core.proofs.CarryLaws.{Moved, moved-none, moved-one}
-use Rattle.bench_core.proofs.block.carry.Statement.{statement}
-use Rattle.bench_core.proofs.block.carry.Tie as tie
+use Rattle.bench_blocks.proofs.CarryLaws.{Moved, moved-none, moved-one}
+use Rattle.bench_blocks.proofs.turn.carry.Statement.{statement}
+use Rattle.bench_blocks.proofs.turn.carry.Tie as tie
 
 abbrev Inv-loop : tie.InvT-loop
 Inv-loop text₀ from to n i₀ text i = Moved text₀ text from i × (i ≤ n) × (from + n ≤ length text₀)

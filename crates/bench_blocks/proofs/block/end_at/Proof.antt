@@ -1,9 +1,9 @@
--- `bench_core::block::end_at` meets its contract. Assumes nothing.
+-- `bench_blocks::block::end_at` meets its contract. Assumes nothing.
 use native.Mathlib.Omega.{arith}
-use Rattle.bench_core.proofs.EndLaws.{closed-at}
+use Rattle.bench_blocks.proofs.EndLaws.{closed-at}
 use borrow.Author.Needs.{needs}
-use Rattle.bench_core.proofs.block.end_at.Statement.{statement}
-use Rattle.bench_core.proofs.block.end_at.Tie as tie
+use Rattle.bench_blocks.proofs.block.end_at.Statement.{statement}
+use Rattle.bench_blocks.proofs.block.end_at.Tie as tie
 
 add-end : tie.Need-add-end
 add-end c = search needs

@@ -11,13 +11,14 @@ use lib.Seq.{take-all, take-append-seam, drop-append-seam, drop-drop}
 use lib.Ieee.{Float}
 use Rattle.common.specs.Lent.{over}
 use Rattle.trcf.specs.View.{Lent}
 use Rattle.bench_core.specs.declared.step.Bench.{Bench}
 use Rattle.bench_core.specs.Bench.{Output, output, prints, room, said, finishBy, Finished, finished, finishOf}
 use Rattle.bench_core.specs.Run.{memory, blank, shown}
-use Rattle.bench_core.specs.Blocks.{Block, block, cellsOf, endsWith, blockOf, Written, written, laid, Handed, Closed}
-use Rattle.bench_core.proofs.OutLaws.{end-out}
-use Rattle.bench_core.proofs.RunLaws.{long-blank}
-use Rattle.bench_core.proofs.PlaceLaws.{w-fits, laid-text, laid-behind}
+use Rattle.bench_blocks.specs.Blocks.{Block, block, cellsOf, endsWith, blockOf, Written, written, laid}
+use Rattle.bench_blocks.specs.Steps.{Handed, Closed}
+use Rattle.bench_blocks.proofs.OutLaws.{end-out}
+use Rattle.bench_blocks.proofs.RunLaws.{long-blank}
+use Rattle.bench_blocks.proofs.PlaceLaws.{w-fits, laid-text, laid-behind}
 
 finish-out : (b : Bench) (t out : List ℕ) → length out ≡ 65536
     → finishOf b t out ≡ finished 0 0 (said (finishOf b t blank .left .bench) (prints (shown (finishOf b t blank .left .out)) out))

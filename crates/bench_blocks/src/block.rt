@@ -1,17 +1,17 @@
 // A whole block of the input: every cell that ends in it, as long as the output has room, and the end of the input.
-use crate::step::Bench;
-use crate::step::ROOM;
-use crate::step::cell_of;
-use crate::step::finish;
-use crate::step::step;
+use bench_core::step::Bench;
+use bench_core::step::ROOM;
+use bench_core::step::finish;
+use bench_core::step::step;
 ghost use mathlib.Core.Path.{_≡_};
 ghost use mathlib.Core.List.{[]};
 ghost use mathlib.Core.Bool.{false};
-ghost use Prim.Native.Nat.{suc, _+_, _-_, _≤_};
-ghost use lib.ListN.{length, take, drop};
+ghost use Prim.Native.Nat.{suc, _+_, _≤_};
+ghost use lib.ListN.{length, drop};
 ghost use Rattle.trcf.specs.View.{lent};
-ghost use Rattle.bench_core.specs.Bench.{output, cellKept};
-ghost use Rattle.bench_core.specs.Blocks.{Placed, Closed, Handed, written, laid, cellsOf, blockOf};
+ghost use Rattle.bench_core.specs.Bench.{output};
+ghost use Rattle.bench_blocks.specs.Blocks.{written, laid, cellsOf, blockOf};
+ghost use Rattle.bench_blocks.specs.Steps.{Placed, Closed, Handed};
 
 // What a cell leaves: the bench, and how many bytes are read and written.
 pub struct CellResult {
@@ -138,7 +138,7 @@ fn end_at(b: Bench, text: &[u8], next: usize, out: &mut [u8], at: usize) -> Cell
 }
 
 // A block of the input: every cell that ends in it, as long as ROOM bytes of the output are left, and where no cell is left and the input ends
-// here, its end. The bytes that are not read stand before the next block; of bytes in which no cell ends LONGEST are enough.
+// here, its end.
 pub fn block(
     b: Bench,
     statistics: &mut [f64],
@@ -185,21 +185,4 @@ pub fn block(
         written: at + s.length,
         full: false,
     }
-}
-
-// Moves the bytes from..to of the text, in which no cell ends, to its front, where the next block is read behind them: LONGEST of them are
-// enough. Answers how many.
-pub fn carry(text: &mut [u8], from: usize, to: usize) -> usize
-    requires { ⌜ from ≤ to ⌝ }
-    requires { ⌜ to ≤ length (now text) ⌝ }
-    ensures { λ r. ⌜ r ≡ cellKept (to - from) ⌝ }
-    ensures { λ r. ⌜ take r (now (text .exit)) ≡ take r (drop from (now (text .entry))) ⌝ }
-{
-    let n = cell_of(to - from);
-    let mut i = 0usize;
-    while i < n {
-        text[i] = text[from + i];
-        i += 1;
-    }
-    n
 }

@@ -1,12 +1,12 @@
--- `bench_core::block::block` meets its contract. Assumes nothing.
+-- `bench_blocks::block::block` meets its contract. Assumes nothing.
 use native.Mathlib.Omega.{arith}
 use Rattle.trcf.specs.View.{lent}
 use Rattle.bench_core.specs.Bench.{output}
-use Rattle.bench_core.specs.Blocks.{written}
-use Rattle.bench_core.proofs.EndLaws.{block-open, block-full, block-closed}
+use Rattle.bench_blocks.specs.Blocks.{written}
+use Rattle.bench_blocks.proofs.EndLaws.{block-open, block-full, block-closed}
 use borrow.Author.Needs.{needs}
-use Rattle.bench_core.proofs.block.block.Statement.{statement}
-use Rattle.bench_core.proofs.block.block.Tie as tie
+use Rattle.bench_blocks.proofs.block.block.Statement.{statement}
+use Rattle.bench_blocks.proofs.block.block.Tie as tie
 
 cells-requires : tie.Need-cells-requires
 cells-requires c κs = search needs

@@ -11,13 +11,14 @@ use lib.Seq.{length-take-le, drop-drop}
 use lib.Ieee.{Float}
 use Rattle.common.specs.Lent.{over}
 use Rattle.trcf.specs.View.{Lent}
 use Rattle.bench_core.specs.declared.step.Bench.{Bench}
 use Rattle.bench_core.specs.Bench.{Output, output, prints, Heard, heard, cellLength, room, Stepped, stepped, stepOf}
 use Rattle.bench_core.specs.Run.{blank, shown}
-use Rattle.bench_core.specs.Blocks.{Block, block, cellsOf, Written, written, laid, Placed, Handed}
-use Rattle.bench_core.proofs.ReadLaws.{at-most, step-none, step-read}
-use Rattle.bench_core.proofs.RunLaws.{roomy, long-blank}
-use Rattle.bench_core.proofs.PlaceLaws.{step-out}
+use Rattle.bench_blocks.specs.Blocks.{Block, block, cellsOf, Written, written, laid}
+use Rattle.bench_blocks.specs.Steps.{Placed, Handed}
+use Rattle.bench_blocks.proofs.ReadLaws.{at-most, step-none, step-read}
+use Rattle.bench_blocks.proofs.RunLaws.{roomy, long-blank}
+use Rattle.bench_blocks.proofs.PlaceLaws.{step-out}
 
 -- ---- enough turns
 

@@ -14,16 +14,29 @@ use Rattle.trcf.specs.View.{Lent, Outcome, settingsFrom, buildOf, view}
 use Rattle.trcf.specs.declared.preprocessor.Preprocessor.{Preprocessor}
 use Rattle.snapshot.specs.Text.{render}
 use Rattle.snapshot.specs.Save.{unheld, fitted, saveOf, outcome as saved}
 use Rattle.bench_core.specs.declared.line.Name.{Name}
 use Rattle.bench_core.specs.declared.line.Name.the-variants.{Unread, Set, Weights, Point, Learn, Drain, Save, Other}
 use Rattle.bench_core.specs.declared.line.Line.{Line}
 use Rattle.bench_core.specs.declared.step.Bench.{Bench}
 use Rattle.bench_core.specs.declared.step.Phase.{Phase}
 use Rattle.bench_core.specs.declared.step.Phase.the-variants.{WantsSet, WantsWeights, Running, Ended}
 use Rattle.bench_core.specs.Line.{requestOf, keptOf}
 use Rattle.bench_core.specs.Bench.{zeroCodes, Output, output, prints, noText, Heard, heard, refusedBy, endOf, readyFor, setHeard, limitRow, builtHeard, weightsTurn, weightsHeard, unread, goingOn, plainHeard, callHeard, saveTold, savePrints, lineBy, lineHeard, builderFrom, Turn, callTold, tells, pointTurn, learnTurn, drainTurn, begun, Said, said, finishBy}
 use Rattle.bench_core.specs.Run.{shown}
-use Rattle.bench_core.specs.Blocks.{Reply, replyOf, speaks}
+
+
+-- what a line leaves, and the text that it prints
+pub record Reply : Type 0 where
+  pub bench : Bench
+  pub lent : Lent
+  pub point : List Float
+  pub text : List ℕ
+
+abbrev pub replyOf : Heard → Reply
+replyOf h = record { bench = h .bench; lent = h .lent; point = h .point; text = shown (h .out) }
+
+abbrev pub speaks : Reply → List ℕ → Heard
+speaks r out = heard (r .bench) (r .lent) (r .point) (prints (r .text) out)
 
 pub shown-prints : (t out : List ℕ) → shown (prints t out) ≡ t
 unfolding prints over

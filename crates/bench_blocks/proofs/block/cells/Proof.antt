@@ -1,13 +1,13 @@
--- `bench_core::block::cells` meets its contract. Assumes nothing.
+-- `bench_blocks::block::cells` meets its contract. Assumes nothing.
 use Prim.Native.Nat.{_-_}
 use native.Mathlib.Omega.{arith}
 use borrow.Author.Needs.{needs}
 use mathlib.Core.Path.{_≡_, refl}
 use lib.ListN.{length, length-drop}
 use Rattle.trcf.specs.View.{lent}
-use Rattle.bench_core.proofs.LoopLaws.{Stands, stands-first, stands-full, stands-idle, stands-next}
-use Rattle.bench_core.proofs.block.cells.Statement.{statement}
-use Rattle.bench_core.proofs.block.cells.Tie as tie
+use Rattle.bench_blocks.proofs.LoopLaws.{Stands, stands-first, stands-full, stands-idle, stands-next}
+use Rattle.bench_blocks.proofs.block.cells.Statement.{statement}
+use Rattle.bench_blocks.proofs.block.cells.Tie as tie
 
 abbrev Inv-loop : tie.InvT-loop
 Inv-loop statistics₀ last-shingled-input₀ last-shingled-point₀ previous-timestamps₀ initial-values₀ initial-timestamps₀ point₀ text out₀ bench₀ next₀ at₀ statistics last-shingled-input last-shingled-point previous-timestamps initial-values initial-timestamps point out bench next at =

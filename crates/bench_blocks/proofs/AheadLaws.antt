@@ -1,4 +1,4 @@
--- A run ends: with an output of ROOM bytes or more each call reads a byte at least, until all is read. And what a call leaves unread. Assumes nothing.
+-- With an output of ROOM bytes or more a call that stops for the output has read a byte at least. Assumes nothing.
 use Prim.Native.Nat.{ℕ, zero, suc, _+_, _-_, _≤_, _<_}
 use native.Mathlib.Omega.{arith}
 use mathlib.Core.Path.{_≡_, refl, sym, ap, subst, _∙_}
@@ -9,12 +9,12 @@ use lib.Dec.{ltb, eqb}
 use lib.ListN.{length, take, drop, length-drop}
 use lib.Ieee.{Float}
 use Rattle.trcf.specs.View.{Lent}
 use Rattle.bench_core.specs.declared.step.Bench.{Bench}
 use Rattle.bench_core.specs.Bench.{cellLength, room, Stepped, stepOf}
 use Rattle.bench_core.specs.Run.{blank, shown}
-use Rattle.bench_core.specs.Blocks.{Block, block, cellsOf, endsWith, blockOf, Runs, again, end}
-use Rattle.bench_core.proofs.RunLaws.{long-blank, splits}
-use Rattle.bench_core.proofs.PlaceLaws.{step-out}
+use Rattle.bench_blocks.specs.Blocks.{Block, block, cellsOf, endsWith, blockOf}
+use Rattle.bench_blocks.proofs.RunLaws.{long-blank, splits}
+use Rattle.bench_blocks.proofs.PlaceLaws.{step-out}
 
 -- no byte is given back
 ahead : (n m : ℕ) (b : Bench) (lists : Lent) (y : List Float) (text : List ℕ) (next : ℕ) (w : List ℕ) → next ≤ cellsOf n m b lists y text next w .read
@@ -35,7 +35,7 @@ ahead (suc n) m b lists y text next w =
 
 module _ (b : Bench) (lists : Lent) (y : List Float) (text : List ℕ) (m : ℕ) where
   -- a call that stops for the output has read something
-  full-ahead : room ≤ m → cellsOf (suc (length text)) m b lists y text 0 [] .full ≡ true → (0 < length text) × (0 < cellsOf (suc (length text)) m b lists y text 0 [] .read)
+  pub full-ahead : room ≤ m → cellsOf (suc (length text)) m b lists y text 0 [] .full ≡ true → (0 < length text) × (0 < cellsOf (suc (length text)) m b lists y text 0 [] .read)
   full-ahead h f =
       let s : Stepped = stepOf b lists y text blank in
       go (eqb (s .next) 0) refl (ahead (length text) m (s .left .bench) (s .left .lent) (s .left .point) text (0 + s .next) (shown (s .left .out))) f
@@ -54,29 +54,3 @@ module _ (b : Bench) (lists : Lent) (y : List Float) (text : List ℕ) (m : ℕ)
           let z = eqb-false (stepOf b lists y text blank .next) 0 e in
           let k = step-out b lists y text blank long-blank .within in
           (omega (arith, z, k), rw t (omega (arith, z, i)))
-
-  -- where a call does not stop for the output, no cell ends in what it leaves: of that 24 bytes are enough
-  pub block-none : blockOf b lists y text false m .full ≡ false
-      → (let r = blockOf b lists y text false m in cellLength (drop (r .read) text) ≡ length (drop (r .read) text))
-  unfolding blockOf
-  block-none f = splits b lists y text m [] .none f
-
--- to the end, by calls with an output of m bytes
-pub runs-some : (m : ℕ) → room ≤ m → (k : ℕ) (b : Bench) (lists : Lent) (y : List Float) (t : List ℕ) → length t < k → (w : List ℕ) × Runs b lists y t [] w
-unfolding blockOf
-runs-some m h zero b lists y t l = absurd (omega arith)
-runs-some m h (suc k) b lists y t l =
-    go (cellsOf (suc (length (t ++ []))) m b lists y (t ++ []) 0 [] .full) refl (λ c g z u i. runs-some m h k c g z u i)
-  where
-    go : (q : Bool) → cellsOf (suc (length (t ++ []))) m b lists y (t ++ []) 0 [] .full ≡ q
-        → ((c : Bench) (g : Lent) (z : List Float) (u : List ℕ) → length u < k → (w : List ℕ) × Runs c g z u [] w)
-        → (w : List ℕ) × Runs b lists y t [] w
-    go true f ih =
-        let r : Block = cellsOf (suc (length (t ++ []))) m b lists y (t ++ []) 0 [] in
-        let a = full-ahead b lists y (t ++ []) m h f in
-        let i = ih (r .bench) (r .lent) (r .point) (drop (r .read) (t ++ []))
-        (omega (arith, length-drop (r .read) (t ++ []), ap length (append-nil t), a .0, a .1)) in
-        (r .text ++ i .0, again (i .0) m r (λ j. endsWith true (sym f j) r (t ++ [])) f refl (i .1))
-    go false f ih =
-        let r : Block = cellsOf (suc (length (t ++ []))) m b lists y (t ++ []) 0 [] in
-        (endsWith true false r (t ++ []) .text, end m (endsWith true false r (t ++ [])) (λ j. endsWith true (sym f j) r (t ++ [])) refl refl)

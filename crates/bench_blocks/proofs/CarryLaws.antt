@@ -4,8 +4,9 @@ use native.Mathlib.Omega.{arith}
 use native.Mathlib.Numerals.{add-one}
 use mathlib.Core.Path.{_≡_, refl, sym, ap, _∙_}
 use mathlib.Core.List.{List, [], _∷_, _++_}
-use lib.ListN.{length, take, drop, getD, set, length-set, length-drop}
-use lib.Seq.{take-suc, take-suc-set, drop-set-lt, getD-drop, drop-drop}
+use lib.ListN.{length, take, drop, getD, set, length-set, length-drop, take-append-drop}
+use lib.Seq.{take-suc, take-suc-set, drop-set-lt, getD-drop, drop-drop, length-take-le}
+use Rattle.common.specs.Lent.{over}
 
 -- i bytes are moved
 pub record Moved (text₀ text : List ℕ) (from i : ℕ) : Type 0 where
@@ -41,3 +42,10 @@ moved-one text₀ text from i h m =
       front = rw (add-one i) f;
       behind = rw (add-one i) d;
     }
+
+-- all n bytes are moved
+pub moved-all : (text₀ text : List ℕ) (from n : ℕ) → from + n ≤ length text₀ → Moved text₀ text from n → text ≡ over text₀ (take n (drop from text₀))
+unfolding over
+moved-all text₀ text from n h m =
+    let k : n ≡ length (take n (drop from text₀)) = sym (length-take-le n (drop from text₀) (simp length-drop (omega arith))) in
+    sym (take-append-drop n text) ∙ (λ j. m .front j ++ m .behind j) ∙ ap (λ (i : ℕ). take n (drop from text₀) ++ drop i text₀) k

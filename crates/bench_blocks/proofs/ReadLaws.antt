@@ -11,14 +11,14 @@ use lib.ListN.{length, take, drop, getD, replicate, length-append, length-take, 
 use lib.Seq.{take-all, take-take, length-take-le, split-at}
 use lib.Ieee.{Float}
 use Rattle.trcf.specs.View.{Lent}
 use Rattle.bench_core.specs.Line.{cellOf}
 use Rattle.bench_core.specs.declared.line.Line.{Line}
 use Rattle.bench_core.specs.declared.step.Bench.{Bench}
 use Rattle.bench_core.specs.declared.step.Phase.{Phase}
 use Rattle.bench_core.specs.declared.step.Phase.the-variants.{WantsSet, WantsWeights, Running, Ended}
 use Rattle.bench_core.specs.Bench.{output, Heard, heard, lineHeard, cellLength, cellKept, cellStep, room, Stepped, stepped, withLine, stepOf, begun, finishBy, finishOf}
 use Rattle.bench_core.specs.Run.{blank, shown}
-use Rattle.bench_core.proofs.CutLaws.{cut-cell, long-alike}
+use Rattle.bench_blocks.proofs.CutLaws.{cut-cell, long-alike}
 
 -- ---- the definition
 

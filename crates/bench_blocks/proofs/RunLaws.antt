@@ -11,11 +11,11 @@ use lib.ListN.{length, take, drop, getD, replicate, length-replicate}
 use lib.Seq.{drop-drop}
 use lib.Ieee.{Float}
 use Rattle.trcf.specs.View.{Lent}
 use Rattle.bench_core.specs.declared.step.Bench.{Bench}
 use Rattle.bench_core.specs.Bench.{output, Heard, heard, cellLength, room, Stepped, stepped, stepOf, finishBy, finished, finishOf}
 use Rattle.bench_core.specs.Run.{blank, shown}
-use Rattle.bench_core.specs.Blocks.{Block, block, cellsOf, endsWith, blockOf, Runs, more, cut, again, end}
-use Rattle.bench_core.proofs.ReadLaws.{cellHeard, readsOn, at-most, step-none, step-read, reads-cell, reads-end, reads-cut}
+use Rattle.bench_blocks.specs.Blocks.{Block, block, cellsOf, endsWith, blockOf}
+use Rattle.bench_blocks.proofs.ReadLaws.{cellHeard, readsOn, at-most, step-none, step-read, reads-cell, reads-end, reads-cut}
 
 pub long-blank : length blank ≡ 65536
 long-blank = length-replicate {A = ℕ} 65536 0
@@ -69,13 +69,19 @@ module _ (b : Bench) (lists : Lent) (y : List Float) (text : List ℕ) (m : ℕ)
   pub splits : (rest : List ℕ) → Splits (readsOn b lists y [] (text ++ rest)) text rest (cellsOf (suc (length text)) m b lists y text 0 [])
   splits rest = cells-law (suc (length text)) m b lists y text 0 [] rest
 
-  block-law : (r : Block) → r ≡ blockOf b lists y text false m → (rest : List ℕ)
+  pub block-law : (r : Block) → r ≡ blockOf b lists y text false m → (rest : List ℕ)
       → readsOn b lists y [] (text ++ rest) ≡ r .text ++ readsOn (r .bench) (r .lent) (r .point) [] (drop (r .read) text ++ rest)
   unfolding blockOf
   block-law r e rest =
       subst (λ (q : Block). readsOn b lists y [] (text ++ rest) ≡ q .text ++ readsOn (q .bench) (q .lent) (q .point) [] (drop (q .read) text ++ rest)) (sym e) (splits rest .all)
 
-  again-law : (r : Block) → r ≡ blockOf b lists y text true m → r .full ≡ true
+  -- where a call does not stop for the output, no cell ends in what it leaves: of that 24 bytes are enough
+  pub block-none : blockOf b lists y text false m .full ≡ false
+      → (let r = blockOf b lists y text false m in cellLength (drop (r .read) text) ≡ length (drop (r .read) text))
+  unfolding blockOf
+  block-none f = splits [] .none f
+
+  pub again-law : (r : Block) → r ≡ blockOf b lists y text true m → r .full ≡ true
       → readsOn b lists y [] text ≡ r .text ++ readsOn (r .bench) (r .lent) (r .point) [] (drop (r .read) text ++ [])
   unfolding blockOf
   again-law r e f = go (cellsOf (suc (length text)) m b lists y text 0 []) (cellsOf (suc (length text)) m b lists y text 0 [] .full) e (splits [])
@@ -88,7 +94,7 @@ module _ (b : Bench) (lists : Lent) (y : List Float) (text : List ℕ) (m : ℕ)
           ∙ ap (λ (u : Block). u .text ++ readsOn (u .bench) (u .lent) (u .point) [] (drop (u .read) text ++ [])) (sym i)
       go s false i l = absurd (false≢true (sym (ap (λ (u : Block). u .full) i) ∙ f))
 
-  end-law : (r : Block) → r ≡ blockOf b lists y text true m → r .full ≡ false → readsOn b lists y [] text ≡ r .text
+  pub end-law : (r : Block) → r ≡ blockOf b lists y text true m → r .full ≡ false → readsOn b lists y [] text ≡ r .text
   unfolding blockOf
   end-law r e f = go (cellsOf (suc (length text)) m b lists y text 0 []) (cellsOf (suc (length text)) m b lists y text 0 [] .full) refl e (splits [])
     where
@@ -101,16 +107,3 @@ module _ (b : Bench) (lists : Lent) (y : List Float) (text : List ℕ) (m : ℕ)
           ∙ ap (λ (u : List ℕ). s .text ++ readsOn (s .bench) (s .lent) (s .point) [] u) (append-nil (drop (s .read) text))
           ∙ ap (λ (u : List ℕ). s .text ++ u) (reads-end (s .bench) (s .lent) (s .point) (drop (s .read) text) (l .none k) ∙ sym (ended (s .bench) (drop (s .read) text)))
           ∙ ap (λ (u : Block). u .text) (sym i)
-
--- ---- a run
-
-pub runs-law : {b : Bench} {lists : Lent} {y : List Float} {kept input all : List ℕ} → Runs b lists y kept input all → all ≡ readsOn b lists y [] (kept ++ input)
-runs-law {b} {lists} {y} {kept} {input} {all} (more new later w m r i e a t) =
-    a
-    ∙ ap (λ (u : List ℕ). r .text ++ u) (runs-law t)
-    ∙ sym (block-law b lists y (kept ++ new) m r e later)
-    ∙ ap (readsOn b lists y []) (append-assoc kept new later ∙ ap (λ (u : List ℕ). kept ++ u) (sym i))
-runs-law {b} {lists} {y} {kept} {input} {all} (cut n h e t) = runs-law t ∙ reads-cut b lists y n kept input h e
-runs-law {b} {lists} {y} {kept} {input} {all} (again w m r e f a t) =
-    a ∙ ap (λ (u : List ℕ). r .text ++ u) (runs-law t) ∙ sym (again-law b lists y (kept ++ input) m r e f)
-runs-law {b} {lists} {y} {kept} {input} {all} (end m r e f a) = a ∙ sym (end-law b lists y (kept ++ input) m r e f)

@@ -18,22 +18,21 @@ use Rattle.snapshot.specs.declared.field.Number.{Number}
 use Rattle.snapshot.specs.declared.field.Number.the-variants.{Is, No}
 use Rattle.snapshot.specs.declared.field.Field.{Field}
 use Rattle.snapshot.specs.declared.field.Field.the-variants.{Single, Double, Whole, Bad}
 use Rattle.bench_core.specs.declared.line.Name.{Name}
 use Rattle.bench_core.specs.declared.line.Name.the-variants.{Unread, Set, Weights, Point, Learn, Drain, Save, Other}
 use Rattle.bench_core.specs.declared.line.Place.{Place}
 use Rattle.bench_core.specs.declared.line.Place.the-variants.{AsLetter, AsMethod, AsWhole, AsDouble, AsSingle, Nowhere}
 use Rattle.bench_core.specs.declared.line.Line.{Line}
 use Rattle.bench_core.specs.declared.step.Bench.{Bench}
 use Rattle.bench_core.specs.declared.step.Phase.{Phase}
 use Rattle.bench_core.specs.declared.step.Phase.the-variants.{WantsSet, WantsWeights, Running, Ended}
 use Rattle.bench_core.specs.Line.{shortName, longName, nameOf, letterOf, methodOf, placeOf, otherLine, blankLine, withWhole, withDouble, withSingle, fieldAt, fieldOf, cellBy, cellOf, requestOf, keptOf}
 use Rattle.bench_core.specs.Bench.{zeroCodes, output, noText, Heard, heard, cellLength, endOf, readyFor, refusedBy, limitRow, builtHeard, weightsTurn, setHeard, weightsHeard, callHeard, plainHeard, lineBy, lineHeard, fresh, withLine, begun, finishBy, said, prints}
 use Rattle.bench_core.specs.Run.{memory, blank, shown, printedFrom, printed}
-use Rattle.bench_core.specs.Whole.{onto, parts, withFields, lineFrom, endText, linesPrint, answers}
-use Rattle.bench_core.specs.Blocks.{Runs}
-use Rattle.bench_core.proofs.OutLaws.{shown-prints}
-use Rattle.bench_core.proofs.ReadLaws.{ends, cellHeard, readsOn, at-most, step-none, step-read, reads-cell, reads-end}
-use Rattle.bench_core.proofs.RunLaws.{roomy, ended, runs-law}
+use Rattle.bench_blocks.specs.Whole.{onto, parts, withFields, lineFrom, endText, linesPrint, answers}
+use Rattle.bench_blocks.proofs.OutLaws.{shown-prints}
+use Rattle.bench_blocks.proofs.ReadLaws.{ends, cellHeard, readsOn, at-most, step-none, step-read, reads-cell, reads-end}
+use Rattle.bench_blocks.proofs.RunLaws.{roomy, ended}
 
 -- ---- parts of a text
 
@@ -202,7 +201,7 @@ module _ (lists : Lent) (y : List Float) where
   unfolding lineHeard
   over-line b l e = ap (λ (p : Phase). lineBy p b l lists y blank) e
 
-  over-reads : (t : List ℕ) (b : Bench) (c : List ℕ) → b .phase ≡ Ended → readsOn b lists y c t ≡ []
+  pub over-reads : (t : List ℕ) (b : Bench) (c : List ℕ) → b .phase ≡ Ended → readsOn b lists y c t ≡ []
   over-reads [] b c e = ap (λ (p : Phase). shown (finishBy p b c blank .out)) e
   over-reads (x ∷ t) b c e =
       go (ends x) (eqb x 9) (over-reads t (withLine b (cellOf (b .line) c)) [] e) (over-reads t b [] e) (over-reads t b (c ++ x ∷ []) e)
@@ -350,10 +349,6 @@ unfolding answers fresh
 reads-whole t =
     reads-lines t fresh memory (replicate 320 zero32) [] [] (λ k. along-blank (fresh .line) refl)
     ∙ ap (linesPrint fresh memory (replicate 320 zero32)) (prefix-none 10 t)
-
--- However an input is cut into blocks, and whenever the output is written: all that is written is what the input prints.
-pub blocks-print : (t w : List ℕ) → Runs fresh memory (replicate 320 zero32) [] t w → w ≡ answers t
-blocks-print t w r = runs-law r ∙ reads-whole t
 
 -- ---- step after step on the whole input (specs/Run) is the same
 

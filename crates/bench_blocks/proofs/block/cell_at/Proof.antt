@@ -1,10 +1,10 @@
--- `bench_core::block::cell_at` meets its contract. Assumes nothing.
+-- `bench_blocks::block::cell_at` meets its contract. Assumes nothing.
 use native.Mathlib.Omega.{arith}
 use Rattle.trcf.specs.View.{lent}
-use Rattle.bench_core.proofs.PlaceLaws.{placed-at}
+use Rattle.bench_blocks.proofs.PlaceLaws.{placed-at}
 use borrow.Author.Needs.{needs}
-use Rattle.bench_core.proofs.block.cell_at.Statement.{statement}
-use Rattle.bench_core.proofs.block.cell_at.Tie as tie
+use Rattle.bench_blocks.proofs.block.cell_at.Statement.{statement}
+use Rattle.bench_blocks.proofs.block.cell_at.Tie as tie
 
 add-end : tie.Need-add-end
 add-end c = omega (arith, c .before .before .before .before .before .before .before .before .before .good)
