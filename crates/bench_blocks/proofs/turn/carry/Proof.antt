@@ -3,22 +3,16 @@ use Prim.Native.Nat.{ℕ, _+_, _-_, _≤_}
 use mathlib.Core.Path.{_≡_, subst}
 use native.Mathlib.Omega.{arith}
 use borrow.Author.Needs.{needs}
-use lib.ListN.{length, take, drop}
-use Rattle.bench_blocks.proofs.CarryLaws.{Moved, moved-none, moved-one}
+use lib.ListN.{length}
+use Rattle.bench_blocks.proofs.CarryLaws.{Moved, moved-none, moved-one, moved-all}
 use Rattle.bench_blocks.proofs.turn.carry.Statement.{statement}
 use Rattle.bench_blocks.proofs.turn.carry.Tie as tie
 
 abbrev Inv-loop : tie.InvT-loop
-Inv-loop text₀ from to n i₀ text i = Moved text₀ text from i × (i ≤ n) × (from + n ≤ length text₀)
+Inv-loop text₀ from n i₀ text i = Moved text₀ text from i × (i ≤ n) × (from + n ≤ length text₀)
 
 abbrev μ-loop : tie.MeasureT-loop
-μ-loop text₀ from to n i₀ text i = n - i
-
-sub-cell-of : tie.Need-sub-cell-of Inv-loop μ-loop
-sub-cell-of c = search needs
-
-cell-of-requires : tie.Need-cell-of-requires Inv-loop μ-loop
-cell-of-requires c κs = search needs
+μ-loop text₀ from n i₀ text i = n - i
 
 loop-holds : tie.Need-loop-holds Inv-loop μ-loop
 loop-holds c = (moved-none _ _, omega arith, omega arith)
@@ -40,7 +34,7 @@ loop-less c = omega arith
 
 loop-again : tie.Need-loop-again Inv-loop μ-loop
 loop-again c =
-    let a = c .before .before .before .before .before .args in
+    let a = c .before .before .before .args in
     let l = c .before .before .loop in
     (moved-one (a .text .now) (l .text) (a .from) (l .i) (omega arith) (l .inv .0), omega arith, omega arith)
 
@@ -49,26 +43,10 @@ same-length c = omega arith
 
 returns : tie.Need-returns Inv-loop μ-loop
 returns c =
-    let a = c .before .before .before .before .args in
+    let a = c .before .before .args in
     let l = c .before .loop in
-    let n = c .before .before .cell-of .result in
-    let e : l .i ≡ n = omega arith in
-    (c .before .before .cell-of .ensures .0, subst (λ (k : ℕ). take k (l .text) ≡ take k (drop (a .from) (a .text .now))) e (l .inv .0 .front))
+    let e : l .i ≡ a .n = omega arith in
+    moved-all (a .text .now) (l .text) (a .from) (a .n) (omega arith) (subst (λ (k : ℕ). Moved (a .text .now) (l .text) (a .from) k) e (l .inv .0))
 
 pub carry-spec : {M : Type 1} → statement M
-carry-spec =
-    tie.close
-    (tie.spec
-    Inv-loop
-    μ-loop
-    sub-cell-of
-    cell-of-requires
-    loop-holds
-    add-text
-    slice-read-text
-    slice-write-text
-    add-i
-    loop-less
-    loop-again
-    same-length
-    returns)
+carry-spec = tie.close (tie.spec Inv-loop μ-loop loop-holds add-text slice-read-text slice-write-text add-i loop-less loop-again same-length returns)
