@@ -73,7 +73,7 @@ fn integer(n: i32) -> String {
 
 fn settings_term(s: &Settings) -> String {
     format!(
-        "record {{ mode = {}; method = {}; d = {}; k = {}; start = {}; stop = {}; decay = {}; weightTime = {}; weights = {} }}",
+        "record {{ mode = {}; method = {}; d = {}; k = {}; start = {}; stop = {}; decay = {}; weightTime = {}; weights = {}; codes = {} }}",
         mode(s),
         METHODS[s.method as usize],
         s.d,
@@ -82,7 +82,8 @@ fn settings_term(s: &Settings) -> String {
         s.stop,
         double(s.decay),
         single(s.weight_time),
-        singles(&s.weights)
+        singles(&s.weights),
+        list(s.codes.iter().map(u16::to_string))
     )
 }
 
@@ -268,14 +269,14 @@ again (taken w) = render w
 again (bad n) = []
 ";
 
-/// `count` texts as theorems over the reader's definition: the first bad line; a text of the form is written again as it was.
+/// `count` texts as theorems over the reader's definition: the first bad line; a text of the form is written again as it was, with the line of its codes.
 pub fn read_file(seed: u64, count: u64, crates: &Path) -> String {
     let mut out = head(crates, READ_USES, &["snapshot/specs/Read", "snapshot/specs/Form"]);
     for n in 0..count {
         let mut r = Random::new(seed.wrapping_mul(0x1_0000_0009).wrapping_add(n));
         let good = texts::snapshot(&mut r, Sizes { d: 2, k: 2, start: 3, exact: false });
         let (text, line) = match n % 4 {
-            0 => (good.text().into_bytes(), 0),
+            0 => (texts::given(&r, &good), 0),
             1 => {
                 let text = texts::scratched(&mut r, &good);
                 let line = read(&text).err().unwrap_or(0);
@@ -286,7 +287,9 @@ pub fn read_file(seed: u64, count: u64, crates: &Path) -> String {
         let bytes = list(text.iter().map(|b| b.to_string()));
         out += &format!("\nabbrev t{n} : List ℕ\nt{n} = {bytes}\n\nline{n} : lineOf (read t{n}) ≡ {line}\nunfolding trace·all\nline{n} = refl\n");
         if line == 0 {
-            out += &format!("\nagain{n} : again (read t{n}) ≡ t{n}\nunfolding trace·all\nagain{n} = refl\n");
+            let d = read(&text).expect("a text of the form").settings.d as usize;
+            let away = list(texts::put_away(&text, d).iter().map(|b| b.to_string()));
+            out += &format!("\nagain{n} : again (read t{n}) ≡ {away}\nunfolding trace·all\nagain{n} = refl\n");
         }
     }
     out

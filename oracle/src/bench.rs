@@ -21,6 +21,8 @@ fn time_and_values(line: &[u8], name: &str) -> Option<(u64, Vec<f32>)> {
 fn head(set: Option<&[u8]>, wgt: Option<&[u8]>) -> Option<Settings> {
     let mut settings = set_line(set?)?;
     settings.weights = every(&fields(wgt?, "wgt")?, None, single)?;
+    // "The bench has zero codes and its `s` shows the line."
+    settings.codes = settings.zero_codes();
     Some(settings)
 }
 
@@ -84,13 +86,13 @@ pub fn run(input: &[u8]) -> String {
 mod tests {
     use super::run;
 
-    /// Document 01's own example.
+    /// Document 01's own example, with request #113's line.
     #[test]
     fn the_example() {
         let given = "set\tS\t0\t1\t1\t10\t20\t0000000000000000\t3f800000\nwgt\t3f800000\ns\n";
         let dev = "dev\t0000000000000000\t0000000000000000\t0000000000000000\n".repeat(10);
         let head = &given[..given.len() - 2];
-        assert_eq!(run(given.as_bytes()), format!("{head}cnt\t0\t0\t0\n{dev}inp\t00000000\npnt\t00000000\ntim\t0\n"));
+        assert_eq!(run(given.as_bytes()), format!("{head}chn\t0\ncnt\t0\t0\t0\n{dev}inp\t00000000\npnt\t00000000\ntim\t0\n"));
     }
 
     /// Readings 1 to 13 of the lines.

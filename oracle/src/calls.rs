@@ -28,6 +28,8 @@ pub struct Settings {
     pub decay: f64,
     pub weight_time: f32,
     pub weights: Vec<f32>,
+    /// One for each channel (request #113); the Rust knows none.
+    pub codes: Vec<u16>,
 }
 
 impl Settings {
@@ -41,7 +43,7 @@ impl Settings {
             3
         } else if self.d > 16 || self.k > 64 {
             4
-        } else if self.weights.len() as u64 != self.d {
+        } else if self.weights.len() as u64 != self.d || self.codes.len() as u64 != self.d {
             5
         } else if !(self.decay >= 0.0 && self.decay < 1.0) {
             6
@@ -54,6 +56,11 @@ impl Settings {
         } else {
             0
         }
+    }
+
+    /// Codes of zeros; none beyond the seventeenth, since row 4 then comes first.
+    pub fn zero_codes(&self) -> Vec<u16> {
+        vec![0; self.d.min(17) as usize]
     }
 
     pub fn timed(&self) -> bool {

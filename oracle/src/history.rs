@@ -1,4 +1,4 @@
-//! The history sheet of document 01, on its own: entries, the refusals they decide, and the text, in closed form.
+//! The history sheet of document 01, on its own, with request #113's codes: entries, the refusals they decide, and the text, in closed form.
 //! It is fed the settings and the calls, never an answer, and uses nothing of the Rust's code.
 use crate::bits::{hex32, hex64};
 use crate::calls::{Call, Learn, Mode, Settings, COUNT_LIMIT, DIFFERENCE, NORMALIZE, NORMALIZE_DIFFERENCE, SEEN_LIMIT};
@@ -343,6 +343,7 @@ impl History {
         let mut lines = vec![
             format!("set\t{mode}\t{}\t{}\t{}\t{}\t{}\t{}\t{}", s.method, s.d, s.k, s.start, s.stop, hex64(s.decay), hex32(s.weight_time)),
             line("wgt", s.weights.iter().map(|&w| hex32(w))),
+            line("chn", s.codes.iter().map(u16::to_string)),
             format!("cnt\t{}\t{}\t{}", self.values_seen(), self.internal(), fed.count),
         ];
         let dev = |s: &Statistic| line("dev", [s.weight, s.sum, s.squares].iter().map(|&x| hex64(x)));

@@ -18,6 +18,11 @@ impl Random {
         z ^ (z >> 31)
     }
 
+    /// Another generator, which takes nothing from this one's numbers.
+    pub fn aside(&self, key: u64) -> Random {
+        Random(Random(self.0 ^ key.wrapping_mul(0xd134_2543_de82_ef95)).next())
+    }
+
     /// Below `n`.
     pub fn below(&mut self, n: u64) -> u64 {
         self.next() % n
@@ -150,12 +155,45 @@ pub fn settings(r: &mut Random, sizes: Sizes) -> Settings {
     let weights = (0..d).map(|_| if method == NONE { 1.0 } else { r.weight() }).collect();
     let weight_time = if r.once_in(2) { 1.0 } else { r.weight() };
     let mode = if r.once_in(2) { Mode::Standard } else { Mode::TimeAugmented };
-    Settings { mode, method, d, k, start, stop, decay: r.decay(), weight_time, weights }
+    let decay = r.decay();
+    let codes = codes(r, d as usize);
+    Settings { mode, method, d, k, start, stop, decay, weight_time, weights, codes }
+}
+
+/// `n` codes, a third of the lists zeros throughout. They take nothing from the generator's own numbers, so that a seed's settings and calls
+/// are those that it gave before there were codes.
+pub fn codes(r: &Random, n: usize) -> Vec<u16> {
+    let r = &mut r.aside(113);
+    let zeros = r.once_in(3);
+    (0..n).map(|_| if zeros { 0 } else { r.code() }).collect()
+}
+
+/// Codes that taking up expects: the text's own, or others in one value or in number. They too take nothing from the generator.
+pub fn expected_codes(r: &Random, own: &[u16]) -> Vec<u16> {
+    let r = &mut r.aside(27);
+    let mut codes = own.to_vec();
+    match r.below(20) {
+        0 => {
+            codes.pop();
+        }
+        1 => codes.push(0),
+        2 => codes.push(r.code()),
+        3 => codes.clear(),
+        4 | 5 => {
+            let at = r.below(own.len() as u64) as usize;
+            codes[at] = codes[at].wrapping_add(r.pick(&[1, 65535, 256, 32768]));
+        }
+        6 => codes.iter_mut().for_each(|c| *c = 0),
+        7 => codes.reverse(),
+        _ => {}
+    }
+    codes
 }
 
 /// Settings of which most meet one row or more, 1 to 9.
 pub fn bad_settings(r: &mut Random, sizes: Sizes) -> Settings {
     let mut s = settings(r, sizes);
+    spoil_codes(r, &mut s);
     for _ in 0..r.from(1, 2) {
         match r.below(10) {
             0 => s.mode = Mode::StreamingImpute,
@@ -182,7 +220,27 @@ pub fn bad_settings(r: &mut Random, sizes: Sizes) -> Settings {
     s
 }
 
+/// One list of codes in four is most likely not d long.
+fn spoil_codes(r: &Random, s: &mut Settings) {
+    let r = &mut r.aside(5);
+    if r.once_in(4) {
+        let n = r.pick(&[0, s.d - 1, s.d + 1, 16, 17]);
+        s.codes = (0..n).map(|_| r.code()).collect();
+    }
+}
+
 impl Random {
+    /// A channel's code: the ends, the small ones, any.
+    pub fn code(&mut self) -> u16 {
+        match self.below(5) {
+            0 => 0,
+            1 => 65535,
+            2 => self.from(1, 12) as u16,
+            3 => self.pick(&[255, 256, 32767, 32768, 65534, 10, 9999, 10000]),
+            _ => self.next() as u16,
+        }
+    }
+
     fn list32_of_length(&mut self, a: u64, b: u64) -> Vec<f32> {
         let n = self.from(a, b) as usize;
         self.list32(n, |r| r.pick(&[1.0, 1.0, 1.0, 2.0]))

@@ -1,4 +1,4 @@
-//! The trace text of document 01: written from the Rust's state, read line by line, and put back into the Rust's state.
+//! The trace text of document 01 with request #113's codes: written from the Rust's state, read line by line, and put back into the Rust's state.
 use crate::bits::{bits32, bits64, hex32, hex64};
 use crate::calls::{Mode, Settings, COUNT_LIMIT, NORMALIZE, SEEN_LIMIT};
 use crate::reference::Reference;
@@ -35,6 +35,7 @@ impl Snapshot {
                 decay,
                 weight_time,
                 weights: weights.to_vec(),
+                codes: reference.settings.codes.clone(),
             },
             values_seen: reference.values_seen(),
             internal: reference.internal(),
@@ -47,7 +48,13 @@ impl Snapshot {
         }
     }
 
+    /// Put away: the line of the codes is written always.
     pub fn text(&self) -> String {
+        self.written(true)
+    }
+
+    /// The text with the line of the codes, or without it; one without it is of this snapshot only where the codes are zeros.
+    pub fn written(&self, lined: bool) -> String {
         let mut out = String::new();
         let s = &self.settings;
         let mode = if s.mode == Mode::Standard { 'S' } else { 'T' };
@@ -62,6 +69,13 @@ impl Snapshot {
         };
         out += "wgt";
         singles(&mut out, &s.weights);
+        if lined {
+            out += "chn";
+            for code in &s.codes {
+                out += &format!("\t{code}");
+            }
+            out += "\n";
+        }
         out += &format!("cnt\t{}\t{}\t{}\n", self.values_seen, self.internal, self.count);
         for [weight, sum, squares] in &self.statistics {
             out += &format!("dev\t{}\t{}\t{}\n", hex64(*weight), hex64(*sum), hex64(*squares));
@@ -149,7 +163,7 @@ pub fn every<T>(fields: &[&[u8]], n: Option<usize>, read: fn(&[u8]) -> Option<T>
     fields.iter().map(|f| read(f)).collect()
 }
 
-/// The form of a `set` line, rows aside; the weights stay empty.
+/// The form of a `set` line, rows aside; the weights and codes stay empty.
 pub fn set_line(line: &[u8]) -> Option<Settings> {
     let f = fields(line, "set")?;
     if f.len() != 8 {
@@ -171,7 +185,13 @@ pub fn set_line(line: &[u8]) -> Option<Settings> {
         decay: double(f[6])?,
         weight_time: single(f[7])?,
         weights: Vec::new(),
+        codes: Vec::new(),
     })
+}
+
+/// A code: decimal, 0 to 65,535.
+pub fn code(field: &[u8]) -> Option<u16> {
+    u16::try_from(whole(field)?).ok()
 }
 
 /// Takes lines off a text; a line without its LF is none.
@@ -195,28 +215,51 @@ fn rising(times: &[u64]) -> bool {
     times.windows(2).all(|t| t[0] <= t[1])
 }
 
+/// Line 3 holds the codes, or already the counters.
+enum Third {
+    Codes(Vec<u16>),
+    Counters([u64; 3]),
+}
+
+/// A `cnt` line that the settings allow.
+fn counters(line: &[u8], settings: &Settings) -> Option<[u64; 3]> {
+    let n = every(&fields(line, "cnt")?, Some(3), whole)?;
+    let within = n[0] <= SEEN_LIMIT && n[1] <= SEEN_LIMIT && n[2] <= COUNT_LIMIT;
+    let waits = settings.method >= NORMALIZE && n[0] < settings.start;
+    (within && !(waits && n[1] > 0)).then_some([n[0], n[1], n[2]])
+}
+
 /// The snapshot that the text holds, or its first bad line, from 1.
 pub fn read(text: &[u8]) -> Result<Snapshot, usize> {
     let mut lines = Lines { rest: text, number: 0 };
     let mut settings = lines.next(|line| {
         let settings = set_line(line)?;
         // Rows 1 to 8 but for 5 are settled by this line alone: judged with weights that pass.
-        let judged = Settings { weights: vec![1.0; settings.d.min(17) as usize], ..settings.clone() };
+        let judged = Settings { weights: vec![1.0; settings.d.min(17) as usize], codes: settings.zero_codes(), ..settings.clone() };
         (judged.row() == 0).then_some(settings)
     })?;
     let (d, k) = (settings.d as usize, settings.k as usize);
     settings.weights = lines.next(|line| {
         let weights = every(&fields(line, "wgt")?, Some(d), single)?;
-        let judged = Settings { weights: weights.clone(), ..settings.clone() };
+        let judged = Settings { weights: weights.clone(), codes: settings.zero_codes(), ..settings.clone() };
         (judged.row() == 0).then_some(weights)
     })?;
-    let normalizes = settings.method >= NORMALIZE;
-    let (values_seen, internal, count) = lines.next(|line| {
-        let n = every(&fields(line, "cnt")?, Some(3), whole)?;
-        let within = n[0] <= SEEN_LIMIT && n[1] <= SEEN_LIMIT && n[2] <= COUNT_LIMIT;
-        let waits = normalizes && n[0] < settings.start;
-        (within && !(waits && n[1] > 0)).then_some((n[0], n[1], n[2]))
+    // "a text lacking it is read as all zeros"
+    let third = lines.next(|line| {
+        let codes = fields(line, "chn").and_then(|f| every(&f, Some(d), code));
+        codes.map(Third::Codes).or_else(|| counters(line, &settings).map(Third::Counters))
     })?;
+    let [values_seen, internal, count] = match third {
+        Third::Codes(codes) => {
+            settings.codes = codes;
+            lines.next(|line| counters(line, &settings))?
+        }
+        Third::Counters(given) => {
+            settings.codes = vec![0; d];
+            given
+        }
+    };
+    let normalizes = settings.method >= NORMALIZE;
     let mut statistics = Vec::new();
     for _ in 0..5 * d + 5 {
         let dev = lines.next(|line| every(&fields(line, "dev")?, Some(3), double))?;
@@ -252,4 +295,37 @@ pub fn read(text: &[u8]) -> Result<Snapshot, usize> {
         return Err(lines.number + 1);
     }
     Ok(Snapshot { settings, values_seen, internal, count, statistics, inputs, point, times, initial })
+}
+
+/// Why a text is not taken up: the row, and with 19 the bad line, otherwise 0.
+#[derive(Clone, Copy, Debug, PartialEq)]
+pub struct Refused {
+    pub row: u8,
+    pub line: usize,
+}
+
+/// The lengths of the six lists lent to taking up: statistics, inputs, point, times, initial values, initial times.
+pub type Room = [usize; 6];
+
+/// Lists long enough for every text.
+pub const ROOMY: Room = [255, 1024, 1088, 64, 31984, 1999];
+
+impl Settings {
+    /// What a preprocessor of these settings needs of each lent list, its initial values as many as it may come to hold.
+    pub fn room(&self) -> Room {
+        let (d, k, start) = (self.d as usize, self.k as usize, self.start as usize);
+        [3 * (5 * d + 5), d * k, self.dimension(), k, start * d, start]
+    }
+}
+
+/// Takes a text up: 19 with its first bad line, then 27 where the codes are not those expected, then 20 where a lent list is too short.
+pub fn take_up(text: &[u8], expected: &[u16], room: &Room) -> Result<Snapshot, Refused> {
+    let taken = read(text).map_err(|line| Refused { row: 19, line })?;
+    if taken.settings.codes != expected {
+        return Err(Refused { row: 27, line: 0 });
+    }
+    if taken.settings.room().iter().zip(room).any(|(needed, lent)| needed > lent) {
+        return Err(Refused { row: 20, line: 0 });
+    }
+    Ok(taken)
 }

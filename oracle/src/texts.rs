@@ -1,4 +1,4 @@
-//! Texts of document 01's form that need not be reachable by calls, and damaged ones with the line at which each is bad.
+//! Texts of document 01's form (with request #113's line or without it) that need not be reachable by calls, and damaged ones with the line at which each is bad.
 use crate::calls::{COUNT_LIMIT, NONE, NORMALIZE, SEEN_LIMIT};
 use crate::random::{settings, Random, Sizes};
 use crate::snapshot::Snapshot;
@@ -93,15 +93,45 @@ fn bad_field(r: &mut Random) -> &'static [u8] {
     r.pick(&never)
 }
 
+/// What a text of d channels is put away as once it was taken up: itself, or with the line of zeros that it lacks.
+pub fn put_away(text: &[u8], d: usize) -> Vec<u8> {
+    let mut all = lines(text);
+    if !all[2].starts_with(b"chn\t") {
+        all.insert(2, format!("chn{}\n", "\t0".repeat(d)).into_bytes());
+    }
+    all.concat()
+}
+
+/// The line of a text's counters, from 0: behind the line of the codes where it has one.
+fn counters_at(lined: bool) -> usize {
+    2 + lined as usize
+}
+
+/// Whether a text of the snapshot is to have the line of the codes: half of those whose codes are zeros are without it. Takes nothing from the generator.
+pub fn lined(r: &Random, good: &Snapshot) -> bool {
+    good.settings.codes.iter().any(|&c| c != 0) || r.aside(59).once_in(2)
+}
+
+/// A text of the form: with the line of the codes, or without it.
+pub fn given(r: &Random, good: &Snapshot) -> Vec<u8> {
+    good.written(lined(r, good)).into_bytes()
+}
+
 /// A damaged text and its bad line (0: the damage left a text of the form). The line is known from how the damage was made, not from the reader.
 pub fn damaged(r: &mut Random, good: &Snapshot) -> (Vec<u8>, usize) {
+    let lined = lined(r, good);
+    damaged_as(r, good, lined)
+}
+
+/// The same of a text with the line of the codes, or without it.
+pub fn damaged_as(r: &mut Random, good: &Snapshot, lined: bool) -> (Vec<u8>, usize) {
     let s = &good.settings;
-    let text = good.text().into_bytes();
+    let text = good.written(lined).into_bytes();
     let mut all = lines(&text);
     let last = all.len();
-    let head = 3 + 5 * s.d as usize + 5 + 3;
+    let head = counters_at(lined) + 1 + 5 * s.d as usize + 5 + 3;
     let at = r.below(last as u64) as usize;
-    match r.below(16) {
+    match r.below(20) {
         // a field of no form
         0..=2 => {
             let mut fields = split(&all[at]);
@@ -150,13 +180,13 @@ pub fn damaged(r: &mut Random, good: &Snapshot) -> (Vec<u8>, usize) {
         9 => {
             let again = all[at].clone();
             all.insert(at, again);
-            let bad = second_copy(at, head, last);
+            let bad = second_copy(at, counters_at(lined) + 1, head, last);
             (all.concat(), bad)
         }
         // settings and counters that a row or the form refuses
-        10..=12 => spoiled_head(r, good),
+        10..=12 => spoiled_head(r, good, lined),
         // times that fall, times with internal 0
-        13 => spoiled_times(r, good, head),
+        13 => spoiled_times(r, good, lined, head),
         // an initial value that is not finite
         14 if last > head => {
             let at = head + r.below((last - head) as u64) as usize;
@@ -173,13 +203,51 @@ pub fn damaged(r: &mut Random, good: &Snapshot) -> (Vec<u8>, usize) {
             let complete = last - head == 1 && good.values_seen >= s.start;
             (all.concat(), if complete { 0 } else { last })
         }
+        16..=18 => spoiled_codes(r, good),
         _ => (text, 0),
     }
 }
 
+/// Damage of the line of the codes. A text whose line is left out has the form, with other codes where they were not zeros.
+fn spoiled_codes(r: &mut Random, good: &Snapshot) -> (Vec<u8>, usize) {
+    let mut all = lines(good.written(true).as_bytes());
+    let mut fields = split(&all[2]);
+    let place = r.from(1, good.settings.d) as usize;
+    match r.below(10) {
+        // beyond 16 bits
+        0 | 1 => fields[place] = r.pick(&["65536", "65537", "131072", "99999", "100000", "4294967296", "18446744073709551615"]).into(),
+        2 => fields[place].insert(0, b'0'),
+        3 => fields[place] = r.pick(&["", "-1", "+1", " 1", "1 ", "a", "0x1", "00000001"]).into(),
+        // a code too few, one too many
+        4 => {
+            fields.pop();
+        }
+        5 => fields.push(r.pick(&["0", "65535", ""]).into()),
+        6 => fields[0] = r.pick(&["ch", "chnn", "Chn", "CHN", "", "wgt"]).into(),
+        // the line twice
+        7 => {
+            all.insert(3, all[2].clone());
+            return (all.concat(), 4);
+        }
+        // the line elsewhere: what stands before it begins a text without the line
+        8 => {
+            let line = all.remove(2);
+            let places: Vec<usize> = (0..=all.len()).filter(|&p| p != 2).collect();
+            let at = r.pick(&places);
+            all.insert(at, line);
+            return (all.concat(), at + 1);
+        }
+        _ => {
+            all.remove(2);
+            return (all.concat(), 0);
+        }
+    }
+    all[2] = join(&fields);
+    (all.concat(), 3)
+}
+
 /// The bad line where line `at` (from 0) stands twice.
-fn second_copy(at: usize, head: usize, last: usize) -> usize {
-    let first_statistic = 3;
+fn second_copy(at: usize, first_statistic: usize, head: usize, last: usize) -> usize {
     let after_statistics = head - 3;
     if (first_statistic..after_statistics).contains(&at) {
         // One `dev` line too many: the line where `inp` must stand.
@@ -192,9 +260,10 @@ fn second_copy(at: usize, head: usize, last: usize) -> usize {
     at + 2
 }
 
-fn spoiled_head(r: &mut Random, good: &Snapshot) -> (Vec<u8>, usize) {
+fn spoiled_head(r: &mut Random, good: &Snapshot, lined: bool) -> (Vec<u8>, usize) {
     let mut w = good.clone();
-    let mut all = lines(w.text().as_bytes());
+    let counters = counters_at(lined) + 1;
+    let mut all = lines(w.written(lined).as_bytes());
     let mut set = split(&all[0]);
     let waits = w.settings.method >= NORMALIZE && w.values_seen < w.settings.start;
     let change = |set: &mut Vec<Vec<u8>>, place: usize, to: &str| set[place] = to.as_bytes().to_vec();
@@ -225,55 +294,60 @@ fn spoiled_head(r: &mut Random, good: &Snapshot) -> (Vec<u8>, usize) {
         }
         8 => {
             w.values_seen = SEEN_LIMIT + 1 + r.below(3);
-            return (w.text().into_bytes(), 3);
+            return (w.written(lined).into_bytes(), counters);
         }
         9 => {
             w.internal = SEEN_LIMIT + 1;
-            return (w.text().into_bytes(), 3);
+            return (w.written(lined).into_bytes(), counters);
         }
         10 => {
             w.count = COUNT_LIMIT + 1 + r.below(3);
-            return (w.text().into_bytes(), 3);
+            return (w.written(lined).into_bytes(), counters);
         }
         _ => {
             if !waits {
-                return (w.text().into_bytes(), 0);
+                return (w.written(lined).into_bytes(), 0);
             }
             w.internal = 1 + r.below(5);
-            return (w.text().into_bytes(), 3);
+            return (w.written(lined).into_bytes(), counters);
         }
     }
     all[0] = join(&set);
     (all.concat(), 1)
 }
 
-fn spoiled_times(r: &mut Random, good: &Snapshot, head: usize) -> (Vec<u8>, usize) {
+fn spoiled_times(r: &mut Random, good: &Snapshot, lined: bool, head: usize) -> (Vec<u8>, usize) {
     let mut w = good.clone();
     let k = w.times.len();
     if w.internal == 0 {
         let at = r.below(k as u64) as usize;
         w.times[at..].iter_mut().for_each(|t| *t = 3);
-        return (w.text().into_bytes(), head);
+        return (w.written(lined).into_bytes(), head);
     }
     if k > 1 && r.once_in(2) {
         let at = r.from(1, k as u64 - 1) as usize;
         w.times[at - 1] = w.times[at - 1].max(1);
         w.times[at] = w.times[at - 1] - 1;
-        return (w.text().into_bytes(), head);
+        return (w.written(lined).into_bytes(), head);
     }
     let n = w.initial.len();
     if n > 1 {
         let at = r.from(1, n as u64 - 1) as usize;
         w.initial[at - 1].0 = w.initial[at - 1].0.max(1);
         w.initial[at].0 = w.initial[at - 1].0 - 1;
-        return (w.text().into_bytes(), head + at + 1);
+        return (w.written(lined).into_bytes(), head + at + 1);
     }
-    (w.text().into_bytes(), 0)
+    (w.written(lined).into_bytes(), 0)
 }
 
 /// A good text with a few bytes changed, dropped or added: the reader decides.
 pub fn scratched(r: &mut Random, good: &Snapshot) -> Vec<u8> {
-    let mut text = good.text().into_bytes();
+    let lined = lined(r, good);
+    scratched_as(r, good, lined)
+}
+
+pub fn scratched_as(r: &mut Random, good: &Snapshot, lined: bool) -> Vec<u8> {
+    let mut text = good.written(lined).into_bytes();
     for _ in 0..r.from(1, 3) {
         let at = r.below(text.len() as u64) as usize;
         match r.below(4) {
@@ -294,7 +368,7 @@ pub fn scratched(r: &mut Random, good: &Snapshot) -> Vec<u8> {
 fn places(all: &[Vec<u8>], whole: bool) -> Vec<(usize, usize)> {
     let is_whole = |name: &[u8], field: usize| match name {
         b"set" => (2..7).contains(&field),
-        b"cnt" | b"tim" => true,
+        b"chn" | b"cnt" | b"tim" => true,
         b"buf" => field == 1,
         _ => false,
     };
@@ -309,9 +383,9 @@ fn places(all: &[Vec<u8>], whole: bool) -> Vec<(usize, usize)> {
     found
 }
 
-/// A text that misses the form by little, in one of ten ways: the reader decides, since fewer `buf` lines may leave a text of the form.
-pub fn near(r: &mut Random, good: &Snapshot, way: u64) -> Vec<u8> {
-    let mut all = lines(good.text().as_bytes());
+/// A text that misses the form by little, in one of twelve ways: the reader decides, since fewer `buf` lines may leave a text of the form.
+pub fn near(r: &mut Random, good: &Snapshot, lined: bool, way: u64) -> Vec<u8> {
+    let mut all = lines(good.written(lined).as_bytes());
     let at = r.below(all.len() as u64) as usize;
     let (wholes, floats) = (places(&all, true), places(&all, false));
     let letters = |line: &[u8], field: usize| split(line)[field].iter().any(u8::is_ascii_alphabetic);
@@ -349,10 +423,28 @@ pub fn near(r: &mut Random, good: &Snapshot, way: u64) -> Vec<u8> {
             let more = all[at].clone();
             all.push(r.pick(&[&more[..], &all.concat(), b"buf\t0\n", b"\t", b"\n\n"]).to_vec());
         }
-        _ => {
+        9 => {
             let limit = r.pick(&[(1, SEEN_LIMIT), (2, SEEN_LIMIT), (3, COUNT_LIMIT)]);
             let over = r.below(3);
-            change((2, limit.0), &|_| (limit.1 - 1 + over).to_string().into_bytes());
+            change((counters_at(lined), limit.0), &|_| (limit.1 - 1 + over).to_string().into_bytes());
+        }
+        // the line of the codes, put in where it was not
+        10 => {
+            let mut w = good.clone();
+            let at = r.below(w.settings.d) as usize;
+            w.settings.codes[at] = 65535;
+            all = lines(w.written(true).as_bytes());
+            let mut fields = split(&all[2]);
+            fields[at + 1] = r.pick(&["65535", "65536", "65534", "0", "00", "065535", "65535 ", "6553", "655350", ""]).into();
+            all[2] = join(&fields);
+        }
+        _ => {
+            all = lines(good.written(true).as_bytes());
+            let line = all.remove(2);
+            let places = [1, 2, 3, all.len() - 1, all.len()];
+            for _ in 0..r.below(3) {
+                all.insert(r.pick(&places), line.clone());
+            }
         }
     }
     all.concat()

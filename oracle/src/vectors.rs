@@ -3,9 +3,9 @@ use crate::bits::{bits32, bits64};
 use crate::calls::*;
 use crate::common::deviation::Deviation;
 use crate::common::rangevector::RangeVector;
-use crate::random::{bad_settings, settings, Calls, Random, Sizes};
+use crate::random::{bad_settings, expected_codes, settings, Calls, Random, Sizes};
 use crate::reference::{rust_method, Reference};
-use crate::snapshot::{read, Snapshot};
+use crate::snapshot::{read, take_up, Refused, Snapshot, ROOMY};
 use crate::texts;
 use crate::trcf::transformer::WeightedTransformer;
 
@@ -39,6 +39,11 @@ impl Line {
     /// The length, then the elements.
     fn list<T: Element>(self, list: &[T]) -> Line {
         list.iter().fold(self.whole(list.len() as u64), |line, x| line.field(&x.hex()))
+    }
+
+    /// The number of codes, then the codes in decimal.
+    fn codes(self, codes: &[u16]) -> Line {
+        codes.iter().fold(self.whole(codes.len() as u64), |line, &c| line.whole(c as u64))
     }
 
     /// 0, or 1 and the list.
@@ -550,7 +555,7 @@ fn settings_line(s: &Settings) -> Line {
         Mode::StreamingImpute => "I",
     };
     let line = Line::new("b").field(mode).whole(s.method as u64).whole(s.d).whole(s.k).whole(s.start).whole(s.stop);
-    line.double(s.decay).single(s.weight_time).list(&s.weights)
+    line.double(s.decay).single(s.weight_time).list(&s.weights).codes(&s.codes)
 }
 
 fn call_line(call: &Call) -> Line {
@@ -680,25 +685,43 @@ fn preprocessor(r: &mut Random, lines: u64) -> String {
 
 // snapshot and bench
 
-/// A text behind a line with its length in bytes and its bad line (0: of the form), and followed by an LF.
-fn text_line(out: &mut String, text: &[u8]) {
-    let line = read(text).err().unwrap_or(0);
-    Line::new("t").whole(text.len() as u64).whole(line as u64).end(out);
+/// A text behind a line with its length in bytes, the codes expected, the length of the list lent for its times, and the row and bad line by which it is
+/// refused (0 and 0: taken up); it is followed by an LF.
+fn text_line(r: &Random, out: &mut String, good: &Snapshot, text: &[u8]) {
+    let settings = read(text).map_or(good.settings.clone(), |taken| taken.settings);
+    let expected = expected_codes(r, &settings.codes);
+    let k = settings.k as usize;
+    let times = r.aside(20).pick(&[k + 6, k + 1, k, k, k, k - 1, 0]);
+    let mut room = ROOMY;
+    room[3] = times;
+    let Refused { row, line } = take_up(text, &expected, &room).err().unwrap_or(Refused { row: 0, line: 0 });
+    let head = Line::new("r").whole(text.len() as u64).codes(&expected).whole(times as u64);
+    head.whole(row as u64).whole(line as u64).end(out);
     *out += std::str::from_utf8(text).expect("the damage is plain");
     *out += "\n";
+}
+
+/// A snapshot, and whether its text has the line of the codes. In each eight texts four lack it.
+fn coded(r: &mut Random, sizes: Sizes, n: u64) -> (Snapshot, bool) {
+    let mut good = texts::snapshot(r, sizes);
+    let lined = n / 4 % 2 == 0;
+    if !lined {
+        good.settings.codes = good.settings.zero_codes();
+    }
+    (good, lined)
 }
 
 fn snapshot(r: &mut Random, count: u64) -> String {
     let mut out = String::new();
     for n in 0..count {
         let sizes = if n % 50 == 7 { Sizes { d: 16, k: 8, start: 6, exact: true } } else { Sizes { d: 2, k: 3, start: 4, exact: false } };
-        let good = texts::snapshot(r, sizes);
+        let (good, lined) = coded(r, sizes, n);
         let text = match n % 4 {
-            0 => good.text().into_bytes(),
-            1 => texts::scratched(r, &good),
-            _ => texts::damaged(r, &good).0,
+            0 => good.written(lined).into_bytes(),
+            1 => texts::scratched_as(r, &good, lined),
+            _ => texts::damaged_as(r, &good, lined).0,
         };
-        text_line(&mut out, &text);
+        text_line(r, &mut out, &good, &text);
     }
     out
 }
@@ -706,8 +729,9 @@ fn snapshot(r: &mut Random, count: u64) -> String {
 fn near(r: &mut Random, count: u64) -> String {
     let mut out = String::new();
     for n in 0..count {
-        let good = texts::snapshot(r, Sizes { d: 2, k: 3, start: 4, exact: false });
-        text_line(&mut out, &texts::near(r, &good, n % 10));
+        let (good, lined) = coded(r, Sizes { d: 2, k: 3, start: 4, exact: false }, n / 3);
+        let text = texts::near(r, &good, lined, n % 12);
+        text_line(r, &mut out, &good, &text);
     }
     out
 }

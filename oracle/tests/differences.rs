@@ -13,7 +13,8 @@ fn panics<T>(act: impl FnOnce() -> T) -> bool {
 
 fn built(mode: Mode, method: u8, d: u64, k: u64, start: u64, stop: u64) -> Preprocessor {
     let weights = vec![1.0; d as usize];
-    rust_build(&Settings { mode, method, d, k, start, stop, decay: 0.1, weight_time: 1.0, weights }).unwrap()
+    let codes = vec![0; d as usize];
+    rust_build(&Settings { mode, method, d, k, start, stop, decay: 0.1, weight_time: 1.0, weights, codes }).unwrap()
 }
 
 fn learn(p: &mut Preprocessor, input: &[f32], time: u64, y: &[f32]) -> bool {

@@ -4,7 +4,7 @@ use oracle::calls::{Answer, Call, Learn, Mode, Settings, NORMALIZE, WEIGHTED};
 use oracle::common::deviation::Deviation;
 use oracle::common::rangevector::RangeVector;
 use oracle::reference::Reference;
-use oracle::snapshot::read;
+use oracle::snapshot::{read, take_up, Room, ROOMY};
 use oracle::trcf::transformer::WeightedTransformer;
 use oracle::trcf::types::TransformMethod;
 
@@ -64,8 +64,18 @@ fn learn(value: f32, timestamp: u64) -> Call {
 
 #[test]
 fn drained_inputs() {
-    let settings =
-        Settings { mode: Mode::Standard, method: NORMALIZE, d: 1, k: 4, start: 2, stop: 9, decay: 0.0, weight_time: 1.0, weights: vec![1.0] };
+    let settings = Settings {
+        mode: Mode::Standard,
+        method: NORMALIZE,
+        d: 1,
+        k: 4,
+        start: 2,
+        stop: 9,
+        decay: 0.0,
+        weight_time: 1.0,
+        weights: vec![1.0],
+        codes: vec![0],
+    };
     let mut p = Reference::build(&settings).unwrap();
     p.call(&learn(4.0, 1));
     p.call(&learn(6.0, 2));
@@ -86,4 +96,31 @@ fn time_element() {
         let given = p.call(&Call::Transform { input: vec![5.0], timestamp: 130, out: 2 });
         assert_eq!(given, Answer::Numbers(all32(&[5.0, expected])));
     }
+}
+
+/// Request #113: the line of the codes, a text without it, and the order of rows 19, 27 and 20.
+#[test]
+fn codes() {
+    let set = "set\tS\t0\t2\t1\t0\t9\t0000000000000000\t3f800000\nwgt\t3f800000\t3f800000\n";
+    let dev = "dev\t0000000000000000\t0000000000000000\t0000000000000000\n".repeat(15);
+    let rest = format!("cnt\t0\t0\t0\n{dev}inp\t00000000\t00000000\npnt\t00000000\t00000000\ntim\t0\n");
+    let with = |line: &str| format!("{set}{line}{rest}");
+    let refused = |text: &str, codes: &[u16], room: &Room| take_up(text.as_bytes(), codes, room).err().map(|r| (r.row, r.line));
+    let lined = with("chn\t7\t65535\n");
+    assert_eq!(read(lined.as_bytes()).unwrap().text(), lined);
+    assert_eq!(read(with("").as_bytes()).unwrap().text(), with("chn\t0\t0\n"));
+    assert_eq!(refused(&lined, &[7, 65535], &ROOMY), None);
+    assert_eq!(refused(&with(""), &[0, 0], &ROOMY), None);
+    for other in [&[7][..], &[7, 65535, 0], &[], &[7, 65534], &[65535, 7], &[0, 0]] {
+        assert_eq!(refused(&lined, other, &[0; 6]), Some((27, 0)));
+    }
+    assert_eq!(refused(&lined, &[7, 65535], &[0; 6]), Some((20, 0)));
+    for bad in ["chn\t7\t65536\n", "chn\t7\n", "chn\t7\t1\t0\n", "chn\t07\t1\n", "chn\t\t1\n", "chn\n", "chn\t7\t1 \n", "\n", "CHN\t7\t1\n"] {
+        assert_eq!(refused(&with(bad), &[7, 1], &[0; 6]), Some((19, 3)));
+    }
+    for bad in ["chn\t7\t1\nchn\t7\t1\n", "cnt\t0\t0\t0\nchn\t7\t1\n", "cnt\t0\t0\t0\n"] {
+        assert_eq!(refused(&with(bad), &[7, 1], &ROOMY), Some((19, 4)));
+    }
+    assert_eq!(refused(&format!("{set}chn\t7\t1\n"), &[7, 1], &ROOMY), Some((19, 4)));
+    assert_eq!(refused(set, &[7, 1], &ROOMY), Some((19, 3)));
 }

@@ -14,6 +14,11 @@ pub(crate) struct List {
     pub cursor: Cursor,
 }
 
+struct Code {
+    value: u16,
+    cursor: Cursor,
+}
+
 // A length of at most `most`; a longer one is no good, and read as 0.
 pub(crate) fn length_within(line: &[u8], c: Cursor, most: usize) -> List
     ensures { λ r. ⌜ r .len ≤ most ⌝ }
@@ -70,6 +75,28 @@ pub(crate) fn read_all_wholes(line: &[u8], c: Cursor, out: &mut [u64]) -> Cursor
     cursor
 }
 
+// A number of 16 bits; a larger one is no good.
+fn read_code(line: &[u8], c: Cursor) -> Code {
+    let f = read_whole(line, c);
+    let cursor = also(f.cursor, f.value <= 65535);
+    Code {
+        value: (f.value % 65536) as u16,
+        cursor: cursor,
+    }
+}
+
+fn read_all_codes(line: &[u8], c: Cursor, out: &mut [u16]) -> Cursor {
+    let mut cursor = c;
+    let mut i = 0usize;
+    while i < out.len() {
+        let f = read_code(line, cursor);
+        out[i] = f.value;
+        cursor = f.cursor;
+        i += 1;
+    }
+    cursor
+}
+
 // A list, to the front of `out`.
 pub(crate) fn read_singles(line: &[u8], c: Cursor, out: &mut [f32]) -> List
     ensures { λ r. ⌜ r .len ≤ length (now (out .exit)) ⌝ }
@@ -101,6 +128,18 @@ pub(crate) fn read_wholes(line: &[u8], c: Cursor, out: &mut [u64]) -> List
     let l = length_within(line, c, out.len());
     let n = l.len;
     let cursor = read_all_wholes(line, l.cursor, &mut out[..n]);
+    List {
+        len: n,
+        cursor: cursor,
+    }
+}
+
+pub(crate) fn read_codes(line: &[u8], c: Cursor, out: &mut [u16]) -> List
+    ensures { λ r. ⌜ r .len ≤ length (now (out .exit)) ⌝ }
+{
+    let l = length_within(line, c, out.len());
+    let n = l.len;
+    let cursor = read_all_codes(line, l.cursor, &mut out[..n]);
     List {
         len: n,
         cursor: cursor,

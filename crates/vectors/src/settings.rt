@@ -16,6 +16,7 @@ use crate::field::read_single;
 use crate::field::read_whole;
 use crate::kinds::method_of;
 use crate::kinds::mode_of;
+use crate::list::read_codes;
 use crate::list::read_singles;
 use trcf::preprocessor::Preprocessor;
 use trcf::preprocessor::PreprocessorBuilder;
@@ -34,7 +35,7 @@ pub(crate) fn kept(head: Preprocessor, good: bool) -> Step {
     }
 }
 
-// The settings of a line but for the weights.
+// The settings of a line but for the weights and codes.
 struct Settings {
     builder: PreprocessorBuilder,
     cursor: Cursor,
@@ -91,6 +92,7 @@ fn built(
     c: Cursor,
     builder: PreprocessorBuilder,
     weights: &[f32],
+    codes: &[u16],
     statistics: &mut [f64],
     inputs: &mut [f32],
     point: &mut [f32],
@@ -101,6 +103,7 @@ fn built(
     let made = build(
         builder,
         weights,
+        codes,
         statistics,
         inputs,
         point,
@@ -128,14 +131,18 @@ fn read_and_build(
     initial_timestamps: &[u64],
 ) -> Step {
     let mut weights = [0.0f32; 40];
+    let mut codes = [0u16; 40];
     let s = read_settings(line);
     let w = read_singles(line, s.cursor, &mut weights);
+    let c = read_codes(line, w.cursor, &mut codes);
     let n = w.len;
+    let k = c.len;
     built(
         line,
-        w.cursor,
+        c.cursor,
         s.builder,
         &weights[..n],
+        &codes[..k],
         statistics,
         inputs,
         point,

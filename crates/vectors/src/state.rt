@@ -189,6 +189,21 @@ fn read_waiting(line: &[u8], c: Cursor, d: usize, values: &mut [f32], times: &mu
     }
 }
 
+fn read_state(
+    line: &[u8],
+    c: Cursor,
+    d: usize,
+    statistics: &mut [f64],
+    inputs: &mut [f32],
+    point: &mut [f32],
+    times: &mut [u64],
+    initial_values: &mut [f32],
+    initial_timestamps: &mut [u64],
+) -> List {
+    let behind = read_lists(line, c, statistics, inputs, point, times);
+    read_waiting(line, behind, d, initial_values, initial_timestamps)
+}
+
 pub(crate) fn set_line(
     line: &[u8],
     head: Preprocessor,
@@ -201,8 +216,17 @@ pub(crate) fn set_line(
 ) -> Step {
     let t = head.transformer;
     let counts = read_counts(line);
-    let c = read_lists(line, counts.cursor, statistics, inputs, point, times);
-    let w = read_waiting(line, c, t.input_length, initial_values, initial_timestamps);
+    let w = read_state(
+        line,
+        counts.cursor,
+        t.input_length,
+        statistics,
+        inputs,
+        point,
+        times,
+        initial_values,
+        initial_timestamps,
+    );
     let next = with_counts(head, counts, w.len);
     Step {
         good: done(line, w.cursor),

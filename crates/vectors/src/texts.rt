@@ -1,4 +1,5 @@
-// Replays the texts of the kinds snapshot and near. One of the form is restored, and saved again as the same bytes; any other is refused at its line, and what was lent stays as it was.
+// Replays the texts of the kinds snapshot and near. One that is taken up is saved again as the same bytes, but for a line of zero codes that it
+// lacks; any other is refused by its row, at its line, and what was lent stays as it was.
 use crate::answer::forget_f32;
 use crate::answer::forget_u64;
 use crate::expect::untouched_f32;
@@ -13,14 +14,91 @@ use crate::lines::counted;
 use crate::lines::line_end;
 use crate::lines::no_lines;
 use crate::list::length_within;
+use crate::list::read_codes;
 use crate::settings::forget;
 use crate::settings::untouched;
 use snapshot::restore::restore;
 use snapshot::save::save;
 use trcf::preprocessor::Preprocessor;
 use trcf::types::ForestMode;
+ghost use mathlib.Core.Path.{_≡_};
 ghost use Prim.Native.Nat.{_<_, _≤_};
 ghost use lib.ListN.{length};
+
+// ---- the line of the codes
+
+// The place behind the line from `from` on, or the end.
+fn behind_line(text: &[u8], from: usize) -> usize
+    requires { ⌜ from ≤ length (now text) ⌝ }
+    ensures { λ r. ⌜ (from ≤ r) × (r ≤ length (now (text .entry))) ⌝ }
+{
+    if from < text.len() {
+        return line_end(text, from);
+    }
+    from
+}
+
+// One more for a tab, up to 16.
+fn one_tab_more(n: usize, b: u8) -> usize
+    requires { ⌜ n ≤ 16 ⌝ }
+    ensures { λ r. ⌜ r ≤ 16 ⌝ }
+{
+    if n < 16 {
+        if b == b'\t' {
+            return n + 1;
+        }
+    }
+    n
+}
+
+// How many tabs there are, at most 16.
+fn tabs(line: &[u8]) -> usize
+    ensures { λ r. ⌜ r ≤ 16 ⌝ }
+{
+    let mut n = 0usize;
+    let mut i = 0usize;
+    while i < line.len() {
+        n = one_tab_more(n, line[i]);
+        i += 1;
+    }
+    n
+}
+
+// How many weights the second line has.
+fn channels(text: &[u8]) -> usize
+    ensures { λ r. ⌜ r ≤ 16 ⌝ }
+{
+    let from = behind_line(text, 0);
+    let to = behind_line(text, from);
+    tabs(&text[from..to])
+}
+
+fn has_codes(line: &[u8]) -> bool {
+    if line.len() < 3 {
+        return false;
+    }
+    line[0] == b'c' && line[1] == b'h' && line[2] == b'n'
+}
+
+// The byte at `i` of a line of zero codes, of which the name is 3 bytes long.
+fn zero_code(i: usize) -> u8 {
+    if i % 2 == 1 { b'\t' } else { b'0' }
+}
+
+// Whether a line is that of d zero codes.
+fn zero_codes(line: &[u8], d: usize) -> bool {
+    if line.len() != 4 + 2 * (d % 128) {
+        return false;
+    }
+    let mut i = 3usize;
+    while i + 1 < line.len() {
+        if line[i] != zero_code(i) {
+            return false;
+        }
+        i += 1;
+    }
+    has_codes(line) && line[i] == b'\n'
+}
 
 // ---- a text of the form
 
@@ -36,6 +114,21 @@ fn same(a: &[u8], b: &[u8]) -> bool {
         i += 1;
     }
     true
+}
+
+// Whether `saved` is the text, with the line of d zeros behind its second where its third is none of codes.
+fn put_away(saved: &[u8], text: &[u8], d: usize) -> bool {
+    let first = behind_line(text, 0);
+    let at = behind_line(text, first);
+    if has_codes(&text[at..]) {
+        return same(saved, text);
+    }
+    if at > saved.len() {
+        return false;
+    }
+    let next = behind_line(saved, at);
+    let old = same(&saved[..at], &text[..at]) && same(&saved[next..], &text[at..]);
+    old && zero_codes(&saved[at..next], d)
 }
 
 fn saved_into(
@@ -63,10 +156,11 @@ fn saved_into(
     if n > out.len() {
         return false;
     }
-    s.row == 0 && same(&out[..n], text)
+    let t = head.transformer;
+    s.row == 0 && put_away(&out[..n], text, t.input_length)
 }
 
-// Whether the text is saved again as the same bytes.
+// Whether the text is saved again as it was, with the line of its codes.
 fn saved_again(
     text: &[u8],
     head: Preprocessor,
@@ -149,10 +243,16 @@ fn rest_untouched(
 
 // ---- every text
 
+// The row by which a text is refused and its bad line, or zeros.
+struct Outcome {
+    row: u64,
+    line: u64,
+}
+
 // The row, the line, and the head that the text was restored to.
 fn agrees(
     text: &[u8],
-    line: u64,
+    wanted: Outcome,
     row: u64,
     bad: usize,
     head: Preprocessor,
@@ -163,13 +263,12 @@ fn agrees(
     initial_values: &[f32],
     initial_timestamps: &[u64],
 ) -> bool {
-    if bad as u64 != line {
+    if row != wanted.row || bad as u64 != wanted.line {
         return false;
     }
-    if line != 0 {
+    if row != 0 {
         let lists = untouched(statistics, inputs, point, times);
-        let initial = untouched_f32(initial_values) && untouched_u64(initial_timestamps);
-        return row == 19 && lists && initial;
+        return lists && untouched_f32(initial_values) && untouched_u64(initial_timestamps);
     }
     let rest = rest_untouched(
         head,
@@ -190,13 +289,14 @@ fn agrees(
         initial_values,
         initial_timestamps,
     );
-    row == 0 && rest && again
+    rest && again
 }
 
-// A text whose first bad line is `line`, 0 for none.
+// A text that is taken up where these codes are expected, or refused.
 fn restored(
     text: &[u8],
-    line: u64,
+    codes: &[u16],
+    wanted: Outcome,
     statistics: &mut [f64],
     inputs: &mut [f32],
     point: &mut [f32],
@@ -206,6 +306,7 @@ fn restored(
 ) -> bool {
     let r = restore(
         text,
+        codes,
         statistics,
         inputs,
         point,
@@ -215,7 +316,7 @@ fn restored(
     );
     agrees(
         text,
-        line,
+        wanted,
         r.row,
         r.line,
         r.head,
@@ -244,7 +345,8 @@ fn forget_all(
 // The same, into memory that holds something else.
 fn text_step(
     text: &[u8],
-    line: u64,
+    codes: &[u16],
+    wanted: Outcome,
     statistics: &mut [f64],
     inputs: &mut [f32],
     point: &mut [f32],
@@ -262,7 +364,8 @@ fn text_step(
     );
     restored(
         text,
-        line,
+        codes,
+        wanted,
         statistics,
         inputs,
         point,
@@ -274,48 +377,104 @@ fn text_step(
 
 // ---- the places of the texts
 
-// What the line before a text says: how long the text is, and its first bad line.
+// What the line before a text says: how long the text is, how many codes are expected, how many times are lent, and what comes of it.
 struct Announced {
     good: bool,
     len: usize,
-    line: u64,
+    bare: bool,
+    count: usize,
+    times: usize,
+    wanted: Outcome,
 }
 
-fn announcement(line: &[u8], most: usize) -> Announced
+// `t`: a text of before there were codes, with its first bad line. Zeros are expected, as many as it has weights.
+fn bare_text(line: &[u8], most: usize, room: usize) -> Announced
     ensures { λ r. ⌜ r .len ≤ most ⌝ }
+    ensures { λ r. ⌜ r .count ≡ 0 ⌝ }
+    ensures { λ r. ⌜ r .times ≤ room ⌝ }
 {
     let l = length_within(line, begin(line), most);
-    let w = read_whole(line, l.cursor);
-    let good = done(line, w.cursor);
+    let bad = read_whole(line, l.cursor);
+    let row = if bad.value == 0 { 0u64 } else { 19u64 };
     Announced {
-        good: good && name(line) == b't',
+        good: done(line, bad.cursor),
         len: l.len,
-        line: w.value,
+        bare: true,
+        count: 0,
+        times: room,
+        wanted: Outcome {
+            row: row,
+            line: bad.value,
+        },
     }
 }
 
-// Where a text stands, its first bad line, and the place behind it.
+// `r`: the codes expected, the length of the list lent for the times, the row and the first bad line.
+fn coded_text(line: &[u8], most: usize, room: usize, codes: &mut [u16]) -> Announced
+    ensures { λ r. ⌜ r .len ≤ most ⌝ }
+    ensures { λ r. ⌜ r .count ≤ length (now (codes .exit)) ⌝ }
+    ensures { λ r. ⌜ r .times ≤ room ⌝ }
+{
+    let l = length_within(line, begin(line), most);
+    let c = read_codes(line, l.cursor, codes);
+    let t = length_within(line, c.cursor, room);
+    let row = read_whole(line, t.cursor);
+    let bad = read_whole(line, row.cursor);
+    let good = done(line, bad.cursor);
+    Announced {
+        good: good && name(line) == b'r',
+        len: l.len,
+        bare: false,
+        count: c.len,
+        times: t.len,
+        wanted: Outcome {
+            row: row.value,
+            line: bad.value,
+        },
+    }
+}
+
+fn announcement(line: &[u8], most: usize, room: usize, codes: &mut [u16]) -> Announced
+    ensures { λ r. ⌜ r .len ≤ most ⌝ }
+    ensures { λ r. ⌜ r .count ≤ length (now (codes .exit)) ⌝ }
+    ensures { λ r. ⌜ r .times ≤ room ⌝ }
+{
+    if name(line) == b't' {
+        return bare_text(line, most, room);
+    }
+    coded_text(line, most, room, codes)
+}
+
+// Where a text stands, what the line before it says, and the place behind it.
 struct Found {
     good: bool,
-    line: u64,
+    bare: bool,
+    count: usize,
+    times: usize,
+    wanted: Outcome,
     from: usize,
     to: usize,
     next: usize,
 }
 
 // A text that its file does not hold to the end is the last.
-fn text_at(text: &[u8], at: usize) -> Found
+fn text_at(text: &[u8], at: usize, room: usize, codes: &mut [u16]) -> Found
     requires { ⌜ at < length (now text) ⌝ }
     ensures { λ r. ⌜ (at < r .next) × (r .next ≤ length (now (text .entry))) ⌝ }
     ensures { λ r. ⌜ (r .from ≤ r .to) × (r .to ≤ length (now (text .entry))) ⌝ }
+    ensures { λ r. ⌜ (r .count ≤ length (now (codes .exit))) × (r .times ≤ room) ⌝ }
 {
     let from = line_end(text, at);
-    let a = announcement(&text[at..from], text.len() - from);
+    let a = announcement(&text[at..from], text.len() - from, room, codes);
     let to = from + a.len;
+    let wanted = a.wanted;
     if to >= text.len() {
         return Found {
             good: false,
-            line: 0,
+            bare: false,
+            count: 0,
+            times: 0,
+            wanted: wanted,
             from: 0,
             to: 0,
             next: text.len(),
@@ -324,11 +483,25 @@ fn text_at(text: &[u8], at: usize) -> Found
     let ended = text[to] == b'\n';
     Found {
         good: a.good && ended,
-        line: a.line,
+        bare: a.bare,
+        count: a.count,
+        times: a.times,
+        wanted: wanted,
         from: from,
         to: to,
         next: to + 1,
     }
+}
+
+// How many codes are expected.
+fn expected(text: &[u8], bare: bool, count: usize) -> usize
+    requires { ⌜ count ≤ 40 ⌝ }
+    ensures { λ r. ⌜ r ≤ 40 ⌝ }
+{
+    if bare {
+        return channels(text);
+    }
+    count
 }
 
 // What a turn leaves: the tally, and the place of the next text.
@@ -351,21 +524,25 @@ fn turn_at(
     requires { ⌜ at < length (now text) ⌝ }
     ensures { λ r. ⌜ (at < r .at) × (r .at ≤ length (now (text .entry))) ⌝ }
 {
-    let f = text_at(text, at);
+    let mut codes = [0u16; 40];
+    let f = text_at(text, at, times.len(), &mut codes);
     let from = f.from;
     let to = f.to;
+    let n = expected(&text[from..to], f.bare, f.count);
+    let k = f.times;
     let good = text_step(
         &text[from..to],
-        f.line,
+        &codes[..n],
+        f.wanted,
         statistics,
         inputs,
         point,
-        times,
+        &mut times[..k],
         initial_values,
         initial_timestamps,
     );
     Turn {
-        tally: counted(tally, f.good && good, b't'),
+        tally: counted(tally, f.good && good, text[at]),
         at: f.next,
     }
 }

@@ -18,6 +18,7 @@ struct Met {
     stopped: u64,
     differences: u64,
     built: [u64; 10],
+    codes: u64,
 }
 
 /// The row that the Rust's own message stands for.
@@ -37,8 +38,15 @@ fn row_of_message(message: &str) -> u8 {
 
 /// Rows 1 to 9 against the Rust's own build; row 4 is added, so the Rust is asked only where it does not hold.
 fn check_build(s: &Settings, met: &mut Met) {
-    let row = s.row();
-    met.built[row as usize] += 1;
+    met.built[s.row() as usize] += 1;
+    // The Rust knows no codes: it is asked as if they were right, and codes of another number are row 5, behind rows 1 to 4.
+    let row = Settings { codes: s.zero_codes(), ..s.clone() }.row();
+    let coded = if (1..5).contains(&row) || s.codes.len() as u64 == s.d { row } else { 5 };
+    met.codes += (coded != row) as u64;
+    if s.row() != coded {
+        met.differences += 1;
+        println!("build differs: row {}, by the codes {coded}: {s:?}", s.row());
+    }
     if row == 4 {
         return;
     }
@@ -135,7 +143,7 @@ fn main() {
     }
     println!("lists {lists}, calls {}, places {}", met.calls, met.calls + lists);
     println!("accepted {}; refused by row {:?}", met.rows[0], (10..=20).map(|i| (i, met.rows[i])).collect::<Vec<_>>());
-    println!("builds by row {:?}", met.built);
+    println!("builds by row {:?}; row 5 by the codes alone, or before a later row {}", met.built, met.codes);
     println!("drained {}, lists stranded {}, lists past stop {}", met.drained, met.stranded, met.stopped);
     println!("differences {}", met.differences);
     std::process::exit((met.differences > 0) as i32);

@@ -1,22 +1,47 @@
 //! Puts the Rust's state away and takes it up again at every place of random lists of calls, and tries the reader on damaged texts.
 //! Usage: restart SEED LISTS TEXTS
 use oracle::calls::{Answer, Call};
-use oracle::random::{settings, Calls, Random, FULL};
+use oracle::random::{expected_codes, settings, Calls, Random, FULL};
 use oracle::reference::Reference;
-use oracle::snapshot::{read, Snapshot};
-use oracle::texts::{damaged, lines, scratched, snapshot, undrained};
+use oracle::snapshot::{read, take_up, Refused, Room, Snapshot, ROOMY};
+use oracle::texts::{damaged, given, lines, put_away, scratched, snapshot, undrained};
 
 fn text(reference: &Reference) -> String {
     Snapshot::of(reference).text()
 }
 
-/// Takes the text up; it must be of the form and be written again as the same bytes.
-fn taken_up(text: &str) -> Reference {
-    let snapshot = read(text.as_bytes()).unwrap_or_else(|line| panic!("line {line} is bad in\n{text}"));
-    assert_eq!(snapshot.text(), text);
+/// Takes the text up, its own codes expected; it must be of the form and be written again as the same bytes, but for a line of zeros that it lacks.
+fn taken_up(text: &[u8], codes: &[u16]) -> Reference {
+    let snapshot = take_up(text, codes, &ROOMY).unwrap_or_else(|refused| panic!("{refused:?} in\n{}", String::from_utf8_lossy(text)));
+    let away = String::from_utf8(put_away(text, codes.len())).unwrap();
+    assert_eq!(snapshot.text(), away);
     let reference = snapshot.restore();
-    assert_eq!(Snapshot::of(&reference).text(), text);
+    assert_eq!(Snapshot::of(&reference).text(), away);
     reference
+}
+
+/// A room that is too short for the snapshot in one list, or just long enough in all.
+fn room(r: &Random, good: &Snapshot) -> (Room, bool) {
+    let r = &mut r.aside(20);
+    let mut room = good.settings.room();
+    let at = r.below(6) as usize;
+    let short = room[at] > 0 && r.once_in(3);
+    room[at] -= short as usize;
+    (room, short)
+}
+
+/// Rows 27 and 20 of a text of the form, told from the codes and lengths alone. Gives the row.
+fn check_expected(r: &Random, text: &[u8], own: &[u16], good: &Snapshot) -> u8 {
+    let expected = expected_codes(r, own);
+    let (room, short) = room(r, good);
+    let row = match (expected == own, short) {
+        (false, _) => 27,
+        (true, true) => 20,
+        (true, false) => 0,
+    };
+    let refused = take_up(text, &expected, &room).err();
+    assert_eq!(refused, (row > 0).then_some(Refused { row, line: 0 }), "{expected:?} {own:?} {room:?}");
+    row
 }
 
 /// A list run from a given state: its calls, their answers, and the text at every place.
@@ -37,10 +62,10 @@ fn run(r: &mut Random, mut reference: Reference, length: u64) -> (Vec<Call>, Vec
 }
 
 /// From every place: the same answers and the same last text.
-fn restart_everywhere(calls: &[Call], answers: &[Answer], texts: &[String]) -> u64 {
+fn restart_everywhere(codes: &[u16], calls: &[Call], answers: &[Answer], texts: &[String]) -> u64 {
     let mut compared = 0;
     for place in 0..texts.len() {
-        let mut other = taken_up(&texts[place]);
+        let mut other = taken_up(texts[place].as_bytes(), codes);
         for (call, answer) in calls[place..].iter().zip(&answers[place..]) {
             assert_eq!(&other.call(call), answer, "place {place}: {call:?}\n{}", texts[place]);
             compared += 1;
@@ -65,7 +90,10 @@ fn completed(before: &[Vec<u8>]) -> Vec<u8> {
         (number(2), number(3), number(4), number(5))
     };
     let timed = !before.is_empty() && field(0, 1) == "T";
-    let (seen, _internal) = if before.len() > 2 { (field(2, 1).parse::<u64>().unwrap(), field(2, 2)) } else { (start as u64, String::new()) };
+    // The line of the codes stands there, or is filled in, or the counters are the third line already.
+    let bare = before.len() > 2 && field(2, 0) != "chn";
+    let counters = if bare { 2 } else { 3 };
+    let seen = if before.len() > counters { field(counters, 1).parse::<u64>().unwrap() } else { start as u64 };
     let statistics = 5 * d + 5;
     let mut fill = |at: usize, line: String| {
         if before.len() <= at && at > 0 {
@@ -74,14 +102,18 @@ fn completed(before: &[Vec<u8>]) -> Vec<u8> {
         }
     };
     fill(1, format!("wgt{}", "\t3f800000".repeat(d)));
-    fill(2, format!("cnt\t{start}\t0\t0"));
-    for i in 0..statistics {
-        fill(3 + i, format!("dev{}", "\t0000000000000000".repeat(3)));
+    if !bare {
+        fill(2, format!("chn{}", "\t65535".repeat(d)));
     }
-    fill(3 + statistics, format!("inp{}", "\t00000000".repeat(d * k)));
-    fill(4 + statistics, format!("pnt{}", "\t00000000".repeat(if timed { (d + 1) * k } else { d * k })));
-    fill(5 + statistics, format!("tim{}", "\t0".repeat(k)));
-    let head = 6 + statistics;
+    fill(counters, format!("cnt\t{start}\t0\t0"));
+    let first = counters + 1;
+    for i in 0..statistics {
+        fill(first + i, format!("dev{}", "\t0000000000000000".repeat(3)));
+    }
+    fill(first + statistics, format!("inp{}", "\t00000000".repeat(d * k)));
+    fill(first + 1 + statistics, format!("pnt{}", "\t00000000".repeat(if timed { (d + 1) * k } else { d * k })));
+    fill(first + 2 + statistics, format!("tim{}", "\t0".repeat(k)));
+    let head = first + 3 + statistics;
     let present = before.len().saturating_sub(head);
     let waits = method >= 4 && seen < start as u64;
     let wanted = if waits {
@@ -113,8 +145,8 @@ fn check_bad_line(text: &[u8], line: usize) {
 }
 
 fn main() {
-    let given: Vec<u64> = std::env::args().skip(1).map(|a| a.parse().expect("SEED LISTS TEXTS")).collect();
-    let (seed, lists, texts) = (given[0], given[1], given[2]);
+    let arguments: Vec<u64> = std::env::args().skip(1).map(|a| a.parse().expect("SEED LISTS TEXTS")).collect();
+    let (seed, lists, texts) = (arguments[0], arguments[1], arguments[2]);
     let (mut places, mut compared) = (0u64, 0u64);
     let mut rows = [0u64; 21];
     for list in 0..lists {
@@ -125,31 +157,39 @@ fn main() {
             9 => undrained(&mut r, FULL).restore(),
             _ => Reference::build(&settings(&mut r, FULL)).unwrap(),
         };
+        let codes = first.settings.codes.clone();
         let length = r.from(0, 18);
         let (calls, answers, all) = run(&mut r, first, length);
         answers.iter().for_each(|a| rows[a.row() as usize] += 1);
         places += all.len() as u64;
-        compared += restart_everywhere(&calls, &answers, &all);
+        compared += restart_everywhere(&codes, &calls, &answers, &all);
     }
     println!("lists {lists}, places {places}, answers compared after a restart {compared}, none differs");
     println!("accepted {}; refused by row {:?}", rows[0], (10..=20).map(|i| (i, rows[i])).collect::<Vec<_>>());
-    let mut bad = 0u64;
+    let (mut bad, mut without, mut expected) = (0u64, 0u64, [0u64; 28]);
     for n in 0..texts {
         let mut r = Random::new(seed.wrapping_mul(0x1_0000_0005).wrapping_add(n));
         let good = snapshot(&mut r, FULL);
-        taken_up(&good.text());
+        let whole = given(&r, &good);
+        taken_up(&whole, &good.settings.codes);
+        without += (whole != good.text().as_bytes()) as u64;
+        expected[check_expected(&r, &whole, &good.settings.codes, &good) as usize] += 1;
         let (text, line) = damaged(&mut r, &good);
         assert_eq!(read(&text).err().unwrap_or(0), line, "{}", String::from_utf8_lossy(&text));
         let scratch = scratched(&mut r, &good);
         for text in [text, scratch] {
             match read(&text) {
-                Ok(snapshot) => assert_eq!(snapshot.text().as_bytes(), text),
+                Ok(snapshot) => assert_eq!(snapshot.text().as_bytes(), put_away(&text, snapshot.settings.d as usize)),
                 Err(line) => {
+                    // 19 comes before 27 and 20.
+                    let (codes, none) = (expected_codes(&r, &good.settings.codes), [0; 6]);
+                    assert_eq!(take_up(&text, &codes, &none).err(), Some(Refused { row: 19, line }));
                     check_bad_line(&text, line);
                     bad += 1;
                 }
             }
         }
     }
-    println!("texts {texts}, damaged {}, bad {bad}, each at the line that was expected", 2 * texts);
+    println!("texts {texts}, {without} without codes; taken up {}, refused by 27 {}, by 20 {}", expected[0], expected[27], expected[20]);
+    println!("damaged {}, bad {bad}, each at the line that was expected", 2 * texts);
 }

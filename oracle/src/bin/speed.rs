@@ -21,6 +21,7 @@ fn settings(d: u64, k: u64) -> Settings {
         decay: 0.001,
         weight_time: 1.0,
         weights: vec![1.0; d as usize],
+        codes: vec![0; d as usize],
     }
 }
 

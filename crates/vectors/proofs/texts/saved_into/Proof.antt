@@ -14,14 +14,14 @@ same-length c = search needs
 returns : tie.Need-returns
 returns c = search needs
 
-slice-reshare-prefix-same : tie.Need-slice-reshare-prefix-same
-slice-reshare-prefix-same c = search needs
+slice-reshare-prefix-put-away : tie.Need-slice-reshare-prefix-put-away
+slice-reshare-prefix-put-away c = search needs
 
-slice-aggregate-same : tie.Need-slice-aggregate-same
-slice-aggregate-same c = simp length-take (omega arith)
+slice-aggregate-put-away : tie.Need-slice-aggregate-put-away
+slice-aggregate-put-away c = simp length-take (omega arith)
 
-same-requires : tie.Need-same-requires
-same-requires c κs = search needs
+put-away-requires : tie.Need-put-away-requires
+put-away-requires c κs = search needs
 
 same-length-2 : tie.Need-same-length-2
 same-length-2 c = search needs
@@ -42,9 +42,9 @@ saved-into-spec =
     save-requires
     same-length
     returns
-    slice-reshare-prefix-same
-    slice-aggregate-same
-    same-requires
+    slice-reshare-prefix-put-away
+    slice-aggregate-put-away
+    put-away-requires
     same-length-2
     returns-2
     same-length-3
