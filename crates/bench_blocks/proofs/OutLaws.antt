@@ -10,7 +10,7 @@ use lib.Seq.{take-append-seam}
 use lib.Ieee.{Float}
 use Rattle.common.specs.Lent.{over}
 use Rattle.trcf.specs.Preprocessor.{accepted}
-use Rattle.trcf.specs.View.{Lent, Outcome, settingsFrom, buildOf, view}
+use Rattle.trcf.specs.View.{Lent, Outcome, view}
 use Rattle.trcf.specs.declared.preprocessor.Preprocessor.{Preprocessor}
 use Rattle.snapshot.specs.Text.{render}
 use Rattle.snapshot.specs.Save.{unheld, fitted, saveOf, outcome as saved}
@@ -21,7 +21,7 @@ use Rattle.bench_core.specs.declared.step.Bench.{Bench}
 use Rattle.bench_core.specs.declared.step.Phase.{Phase}
 use Rattle.bench_core.specs.declared.step.Phase.the-variants.{WantsSet, WantsWeights, Running, Ended}
 use Rattle.bench_core.specs.Line.{requestOf, keptOf}
-use Rattle.bench_core.specs.Bench.{zeroCodes, Output, output, prints, noText, Heard, heard, refusedBy, endOf, readyFor, setHeard, limitRow, builtHeard, weightsTurn, weightsHeard, unread, goingOn, plainHeard, callHeard, saveTold, savePrints, lineBy, lineHeard, builderFrom, Turn, callTold, tells, pointTurn, learnTurn, drainTurn, begun, Said, said, finishBy}
+use Rattle.bench_core.specs.Bench.{Output, output, prints, noText, Heard, heard, refusedBy, endOf, readyFor, setHeard, builtOf, builtHeard, weightsTurn, weightsHeard, unread, goingOn, plainHeard, callHeard, saveTold, savePrints, lineBy, lineHeard, builderFrom, Turn, callTold, tells, pointTurn, learnTurn, drainTurn, begun, Said, said, finishBy}
 use Rattle.bench_core.specs.Run.{shown}
 
 
@@ -53,14 +53,13 @@ module _ (b : Bench) (lists : Lent) (y : List Float) (out other : List ℕ) wher
 
 module _ (out other : List ℕ) (e : length out ≡ length other) where
   built : (b : Bench) (o : Outcome) (y : List Float) → builtHeard b o y out ≡ speaks (replyOf (builtHeard b o y other)) out
-  built b o y = go (o .row) (limitRow (b .builder))
+  built b o y = go (o .row)
     where
-      go : (r k : ℕ)
-          → accepted r (accepted k (heard (readyFor Running (b .builder) (o .head) (b .given)) (o .lent) y (output 0 out)) (refusedBy k b (o .lent) y out)) (refusedBy r b (o .lent) y out)
-          ≡ speaks (replyOf (accepted r (accepted k (heard (readyFor Running (b .builder) (o .head) (b .given)) (o .lent) y (output 0 other)) (refusedBy k b (o .lent) y other)) (refusedBy r b (o .lent) y other))) out
-      go zero zero = silent (readyFor Running (b .builder) (o .head) (b .given)) (o .lent) y out other
-      go zero (suc k) = lays (endOf b) (o .lent) y out other (noText (suc k))
-      go (suc r) k = lays (endOf b) (o .lent) y out other (noText (suc r))
+      go : (r : ℕ)
+          → accepted r (heard (readyFor Running (b .builder) (o .head) (b .given)) (o .lent) y (output 0 out)) (refusedBy r b (o .lent) y out)
+          ≡ speaks (replyOf (accepted r (heard (readyFor Running (b .builder) (o .head) (b .given)) (o .lent) y (output 0 other)) (refusedBy r b (o .lent) y other))) out
+      go zero = silent (readyFor Running (b .builder) (o .head) (b .given)) (o .lent) y out other
+      go (suc r) = lays (endOf b) (o .lent) y out other (noText (suc r))
 
   saves : (h : Preprocessor) (l : Lent) → savePrints h l out ≡ prints (shown (savePrints h l other)) out
   unfolding savePrints saveOf fitted prints
@@ -96,7 +95,7 @@ module _ (out other : List ℕ) (e : length out ≡ length other) where
     unfolding weightsTurn
     weights-line l Unread = no-19 (endOf b)
     weights-line l Set = no-19 (endOf b)
-    weights-line l Weights = built b (buildOf (settingsFrom (b .builder) (keptOf l) (zeroCodes (b .builder))) lists) y
+    weights-line l Weights = built b (builtOf (b .builder) (keptOf l) lists) y
     weights-line l Point = no-19 (endOf b)
     weights-line l Learn = no-19 (endOf b)
     weights-line l Drain = no-19 (endOf b)

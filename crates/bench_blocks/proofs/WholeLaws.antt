@@ -10,7 +10,7 @@ use lib.Dec.{T, ltb, leb, eqb}
 use lib.ListN.{length, take, drop, getD, replicate, length-drop}
 use lib.Ieee.{Float, binary32, binary64}
 use Rattle.trcf.specs.Transformer.{zero32}
-use Rattle.trcf.specs.View.{Lent, Outcome, settingsFrom, buildOf}
+use Rattle.trcf.specs.View.{Lent, Outcome}
 use Rattle.trcf.specs.Preprocessor.{accepted}
 use Rattle.snapshot.specs.Read.{asWhole, asFloat}
 use Rattle.snapshot.specs.Scan.{numberOf, singleOf, doubleOf}
@@ -27,7 +27,7 @@ use Rattle.bench_core.specs.declared.step.Bench.{Bench}
 use Rattle.bench_core.specs.declared.step.Phase.{Phase}
 use Rattle.bench_core.specs.declared.step.Phase.the-variants.{WantsSet, WantsWeights, Running, Ended}
 use Rattle.bench_core.specs.Line.{shortName, longName, nameOf, letterOf, methodOf, placeOf, otherLine, blankLine, withWhole, withDouble, withSingle, fieldAt, fieldOf, cellBy, cellOf, requestOf, keptOf}
-use Rattle.bench_core.specs.Bench.{zeroCodes, output, noText, Heard, heard, cellLength, endOf, readyFor, refusedBy, limitRow, builtHeard, weightsTurn, setHeard, weightsHeard, callHeard, plainHeard, lineBy, lineHeard, fresh, withLine, begun, finishBy, said, prints}
+use Rattle.bench_core.specs.Bench.{output, noText, Heard, heard, cellLength, endOf, readyFor, refusedBy, builtOf, builtHeard, weightsTurn, setHeard, weightsHeard, callHeard, plainHeard, lineBy, lineHeard, fresh, withLine, begun, finishBy, said, prints}
 use Rattle.bench_core.specs.Run.{memory, blank, shown, printedFrom, printed}
 use Rattle.bench_blocks.specs.Whole.{onto, parts, withFields, lineFrom, endText, linesPrint, answers}
 use Rattle.bench_blocks.proofs.OutLaws.{shown-prints}
@@ -156,18 +156,17 @@ module _ (b : Bench) (k : Line) (l : Line) (lists : Lent) (y : List Float) (out 
   clean-set Other = (refl, refl)
 
   clean-built : (o : Outcome) → (builtHeard b o y out) .bench .line ≡ blankLine
-  clean-built o = go (o .row) (limitRow (b .builder))
+  clean-built o = go (o .row)
     where
-      go : (r i : ℕ) → (accepted r (accepted i (heard (readyFor Running (b .builder) (o .head) (b .given)) (o .lent) y (output 0 out)) (refusedBy i b (o .lent) y out)) (refusedBy r b (o .lent) y out)) .bench .line ≡ blankLine
-      go zero zero = refl
-      go zero (suc i) = refl
-      go (suc r) i = refl
+      go : (r : ℕ) → (accepted r (heard (readyFor Running (b .builder) (o .head) (b .given)) (o .lent) y (output 0 out)) (refusedBy r b (o .lent) y out)) .bench .line ≡ blankLine
+      go zero = refl
+      go (suc r) = refl
 
   clean-weights : (n : Name) → Clean (weightsHeard n (withLine b k) l lists y out) (weightsHeard n b l lists y out)
   unfolding weightsTurn
   clean-weights Unread = (refl, refl)
   clean-weights Set = (refl, refl)
-  clean-weights Weights = (refl, clean-built (buildOf (settingsFrom (b .builder) (keptOf l) (zeroCodes (b .builder))) lists))
+  clean-weights Weights = (refl, clean-built (builtOf (b .builder) (keptOf l) lists))
   clean-weights Point = (refl, refl)
   clean-weights Learn = (refl, refl)
   clean-weights Drain = (refl, refl)
