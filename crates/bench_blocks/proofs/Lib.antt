@@ -10,3 +10,4 @@ pub mod AheadLaws
 pub mod CarryLaws
 pub mod TurnLaws
 pub mod ProgramLaws
+pub mod Instances
