@@ -142,7 +142,8 @@ fn all(
     let mut run = first_run();
     let mut reads = u64::MAX;
     while reads > 0 {
-        let got = filled(text, run.kept);
+        let kept = run.kept;
+        let got = filled(text, kept);
         run = handed(
             run,
             statistics,
@@ -157,7 +158,8 @@ fn all(
             out,
         );
         let bench = run.bench;
-        reads = left(reads, bench.phase);
+        let phase = bench.phase;
+        reads = left(reads, phase);
     }
 }
 

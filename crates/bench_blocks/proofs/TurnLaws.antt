@@ -73,7 +73,7 @@ pub record Goes (r : Run) (got : ℕ) (t : Turned) : Type 0 where
   pub rest : t .run .full ≡ false → t .run .kept ≤ 24
   pub less : t .run .full ≡ true → t .run .kept < standing (r .kept) got (r .full)
 
-stand-least : (kept got : ℕ) (full : Bool) → standing kept got full ≤ kept + got
+pub stand-least : (kept got : ℕ) (full : Bool) → standing kept got full ≤ kept + got
 stand-least kept got true = omega arith
 stand-least kept got false = omega arith
 
