@@ -37,9 +37,17 @@ same-length-8 c = search needs
 
 returns : tie.Need-returns
 returns c =
-    let a = c .before .before .before .before .before .before .before .before .before .before .before .before .before .before .before .before .before .before .before .before .before .before .before .before .before .before .before .before .before .before .before .before .before .before .before .args in
-    let s = c .before .before .before .before .before .before .before .before .before .before .before .before .before .before .before .before .before .cells in
-    (block-open (a .b) (lent (a .statistics .now) (a .last-shingled-input .now) (a .last-shingled-point .now) (a .previous-timestamps .now) (a .initial-values .now) (a .initial-timestamps .now)) (a .point .now) (a .text .now) (a .out .now) (a .ends) (written (s .result .bench) (lent (s .last .1 .0) (s .last .1 .1 .0) (s .last .1 .1 .1 .0) (s .last .1 .1 .1 .1 .0) (s .last .1 .1 .1 .1 .1 .0) (s .last .1 .1 .1 .1 .1 .1 .0)) (s .last .1 .1 .1 .1 .1 .1 .1 .0) (s .result .read) (output (s .result .written) (s .last .1 .1 .1 .1 .1 .1 .1 .1 .1 .0)) (s .result .full)) (s .ensures) (c .if1 .taken), (s .ensures .read, omega (arith, s .kept, s .ensures .fits)))
+    let k1 : tie.After-initial-values = c .before .before .before .before .before .before .before .before in
+    let k2 : tie.After-statistics = k1 .before .before .before .before .before .before .before .before in
+    let k3 : tie.After-cells-arg2 = k2 .before .before .before .before .before .before .before .before in
+    let k4 : tie.After-slice-known3 = k3 .before .before .before .before .before .before .before .before in
+    let a = k4 .before .before .before .args in
+    let s = k2 .before .cells in
+    (block-open (a .b) (lent (a .statistics .now) (a .last-shingled-input .now) (a .last-shingled-point .now) (a .previous-timestamps .now) (a .initial-values .now)
+    (a .initial-timestamps .now)) (a .point .now) (a .text .now) (a .out .now) (a .ends) (written (s .result .bench)
+    (lent (s .last .1 .0) (s .last .1 .1 .0) (s .last .1 .1 .1 .0) (s .last .1 .1 .1 .1 .0) (s .last .1 .1 .1 .1 .1 .0) (s .last .1 .1 .1 .1 .1 .1 .0))
+    (s .last .1 .1 .1 .1 .1 .1 .1 .0) (s .result .read) (output (s .result .written) (s .last .1 .1 .1 .1 .1 .1 .1 .1 .1 .0)) (s .result .full)) (s .ensures) (c .if1 .taken), (s
+    .ensures .read, omega (arith, s .kept, s .ensures .fits)))
 
 same-length-9 : tie.Need-same-length-9
 same-length-9 c = search needs
@@ -67,39 +75,80 @@ same-length-16 c = search needs
 
 returns-2 : tie.Need-returns-2
 returns-2 c =
-    let a = c .before .before .before .before .before .before .before .before .before .before .before .before .before .before .before .before .before .before .before .before .before .before .before .before .before .before .before .before .before .before .before .before .before .before .before .before .args in
-    let s = c .before .before .before .before .before .before .before .before .before .before .before .before .before .before .before .before .before .before .cells in
-    (block-full (a .b) (lent (a .statistics .now) (a .last-shingled-input .now) (a .last-shingled-point .now) (a .previous-timestamps .now) (a .initial-values .now) (a .initial-timestamps .now)) (a .point .now) (a .text .now) (a .out .now) (a .ends) (written (s .result .bench) (lent (s .last .1 .0) (s .last .1 .1 .0) (s .last .1 .1 .1 .0) (s .last .1 .1 .1 .1 .0) (s .last .1 .1 .1 .1 .1 .0) (s .last .1 .1 .1 .1 .1 .1 .0)) (s .last .1 .1 .1 .1 .1 .1 .1 .0) (s .result .read) (output (s .result .written) (s .last .1 .1 .1 .1 .1 .1 .1 .1 .1 .0)) (s .result .full)) (s .ensures) (c .before .if1 .left) (c .if2 .taken), (s .ensures .read, omega (arith, s .kept, s .ensures .fits)))
+    let k1 : tie.After-slice-known13 = c .before .before .before .before .before .before .before .before in
+    let k2 : tie.After-slice-known9 = k1 .before .before .before .before .before .before .before .before in
+    let k3 : tie.After-cells-arg3 = k2 .before .before .before .before .before .before .before .before in
+    let k4 : tie.After-slice-known4 = k3 .before .before .before .before .before .before .before .before in
+    let a = k4 .before .before .before .before .args in
+    let s = k2 .before .before .cells in
+    (block-full (a .b) (lent (a .statistics .now) (a .last-shingled-input .now) (a .last-shingled-point .now) (a .previous-timestamps .now) (a .initial-values .now)
+    (a .initial-timestamps .now)) (a .point .now) (a .text .now) (a .out .now) (a .ends) (written (s .result .bench)
+    (lent (s .last .1 .0) (s .last .1 .1 .0) (s .last .1 .1 .1 .0) (s .last .1 .1 .1 .1 .0) (s .last .1 .1 .1 .1 .1 .0) (s .last .1 .1 .1 .1 .1 .1 .0))
+    (s .last .1 .1 .1 .1 .1 .1 .1 .0) (s .result .read) (output (s .result .written) (s .last .1 .1 .1 .1 .1 .1 .1 .1 .1 .0)) (s .result .full)) (s .ensures) (c .before .if1
+    .left) (c .if2 .taken), (s .ensures .read, omega (arith, s .kept, s .ensures .fits)))
 
 end-at-requires : tie.Need-end-at-requires
 end-at-requires c κs =
-    let a = c .before .before .before .before .before .before .before .before .before .before .before .before .before .before .before .before .before .before .before .before .before .before .before .before .before .before .before .before .before .before .before .before .before .before .before .before .before .before .args in
-    let s = c .before .before .before .before .before .before .before .before .before .before .before .before .before .before .before .before .before .before .before .before .cells in
+    let k1 : tie.After-slice-known14 = c .before .before .before .before .before .before .before .before in
+    let k2 : tie.After-slice-known10 = k1 .before .before .before .before .before .before .before .before in
+    let k3 : tie.After-cells-arg5 = k2 .before .before .before .before .before .before .before .before in
+    let k4 : tie.After-slice-known6 = k3 .before .before .before .before .before .before .before .before in
+    let a = k4 .before .before .before .before .before .before .args in
+    let s = k2 .before .before .before .before .cells in
     (s .ensures .read, omega (arith, s .kept, s .ensures .room (c .before .before .if2 .left)))
 
 add-t38 : tie.Need-add-t38
 add-t38 c =
-    let a = c .before .before .before .before .before .before .before .before .before .before .before .before .before .before .before .before .before .before .before .before .before .before .before .before .before .before .before .before .before .before .before .before .before .before .before .before .before .before .before .before .before .before .before .args in
-    let s = c .before .before .before .before .before .before .before .before .before .before .before .before .before .before .before .before .before .before .before .before .before .before .before .before .before .cells in
-    omega (arith, s .ensures .room (c .before .before .before .before .before .before .before .if2 .left), c .before .before .before .before .end-at .ensures .fits, c .before .before .before .before .before .before .before .before .before .before .before .before .before .before .before .before .before .before .before .before .before .before .before .before .before .before .before .before .before .before .before .before .before .before .before .before .before .before .before .before .before .before .before .good)
+    let k1 : tie.Else1 = c .before .before .before .before .before .before .before .before in
+    let k2 : tie.After-initial-values = k1 .before .before .before .before .before .before .before .before in
+    let k3 : tie.After-statistics = k2 .before .before .before .before .before .before .before .before in
+    let k4 : tie.After-cells-arg2 = k3 .before .before .before .before .before .before .before .before in
+    let k5 : tie.After-slice-known3 = k4 .before .before .before .before .before .before .before .before in
+    let a = k5 .before .before .before .args in
+    let s = k3 .before .cells in
+    omega (arith, s .ensures .room (c .before .before .before .before .before .before .before .if2 .left), c .before .before .before .before .end-at .ensures .fits, k5 .before .before .before .good)
 
 same-length-17 : tie.Need-same-length-17
-same-length-17 c = omega (arith, c .before .before .before .before .before .before .before .before .before .before .before .before .before .before .before .before .before .before .before .before .before .before .before .before .before .cells .kept)
+same-length-17 c =
+    let k1 : tie.Else1 = c .before .before .before .before .before .before .before .before in
+    let k2 : tie.After-initial-values = k1 .before .before .before .before .before .before .before .before in
+    let k3 : tie.After-statistics = k2 .before .before .before .before .before .before .before .before in
+    omega (arith, k3 .before .cells .kept)
 
 same-length-18 : tie.Need-same-length-18
-same-length-18 c = omega (arith, c .before .before .before .before .before .before .before .before .before .before .before .before .before .before .before .before .before .before .before .before .before .before .before .before .before .cells .kept)
+same-length-18 c =
+    let k1 : tie.Else1 = c .before .before .before .before .before .before .before .before in
+    let k2 : tie.After-initial-values = k1 .before .before .before .before .before .before .before .before in
+    let k3 : tie.After-statistics = k2 .before .before .before .before .before .before .before .before in
+    omega (arith, k3 .before .cells .kept)
 
 same-length-19 : tie.Need-same-length-19
-same-length-19 c = omega (arith, c .before .before .before .before .before .before .before .before .before .before .before .before .before .before .before .before .before .before .before .before .before .before .before .before .before .cells .kept)
+same-length-19 c =
+    let k1 : tie.Else1 = c .before .before .before .before .before .before .before .before in
+    let k2 : tie.After-initial-values = k1 .before .before .before .before .before .before .before .before in
+    let k3 : tie.After-statistics = k2 .before .before .before .before .before .before .before .before in
+    omega (arith, k3 .before .cells .kept)
 
 same-length-20 : tie.Need-same-length-20
-same-length-20 c = omega (arith, c .before .before .before .before .before .before .before .before .before .before .before .before .before .before .before .before .before .before .before .before .before .before .before .before .before .cells .kept)
+same-length-20 c =
+    let k1 : tie.Else1 = c .before .before .before .before .before .before .before .before in
+    let k2 : tie.After-initial-values = k1 .before .before .before .before .before .before .before .before in
+    let k3 : tie.After-statistics = k2 .before .before .before .before .before .before .before .before in
+    omega (arith, k3 .before .cells .kept)
 
 same-length-21 : tie.Need-same-length-21
-same-length-21 c = omega (arith, c .before .before .before .before .before .before .before .before .before .before .before .before .before .before .before .before .before .before .before .before .before .before .before .before .before .cells .kept)
+same-length-21 c =
+    let k1 : tie.Else1 = c .before .before .before .before .before .before .before .before in
+    let k2 : tie.After-initial-values = k1 .before .before .before .before .before .before .before .before in
+    let k3 : tie.After-statistics = k2 .before .before .before .before .before .before .before .before in
+    omega (arith, k3 .before .cells .kept)
 
 same-length-22 : tie.Need-same-length-22
-same-length-22 c = omega (arith, c .before .before .before .before .before .before .before .before .before .before .before .before .before .before .before .before .before .before .before .before .before .before .before .before .before .cells .kept)
+same-length-22 c =
+    let k1 : tie.Else1 = c .before .before .before .before .before .before .before .before in
+    let k2 : tie.After-initial-values = k1 .before .before .before .before .before .before .before .before in
+    let k3 : tie.After-statistics = k2 .before .before .before .before .before .before .before .before in
+    omega (arith, k3 .before .cells .kept)
 
 same-length-23 : tie.Need-same-length-23
 same-length-23 c = search needs
@@ -109,10 +158,21 @@ same-length-24 c = search needs
 
 returns-3 : tie.Need-returns-3
 returns-3 c =
-    let a = c .before .before .before .before .before .before .before .before .before .before .before .before .before .before .before .before .before .before .before .before .before .before .before .before .before .before .before .before .before .before .before .before .before .before .before .before .before .before .before .before .before .before .before .args in
-    let s = c .before .before .before .before .before .before .before .before .before .before .before .before .before .before .before .before .before .before .before .before .before .before .before .before .before .cells in
+    let k1 : tie.Else1 = c .before .before .before .before .before .before .before .before in
+    let k2 : tie.After-initial-values = k1 .before .before .before .before .before .before .before .before in
+    let k3 : tie.After-statistics = k2 .before .before .before .before .before .before .before .before in
+    let k4 : tie.After-cells-arg2 = k3 .before .before .before .before .before .before .before .before in
+    let k5 : tie.After-slice-known3 = k4 .before .before .before .before .before .before .before .before in
+    let a = k5 .before .before .before .args in
+    let s = k3 .before .cells in
     let t = c .before .before .before .before .end-at in
-    (block-closed (a .b) (lent (a .statistics .now) (a .last-shingled-input .now) (a .last-shingled-point .now) (a .previous-timestamps .now) (a .initial-values .now) (a .initial-timestamps .now)) (a .point .now) (a .text .now) (a .out .now) (a .ends) (written (s .result .bench) (lent (s .last .1 .0) (s .last .1 .1 .0) (s .last .1 .1 .1 .0) (s .last .1 .1 .1 .1 .0) (s .last .1 .1 .1 .1 .1 .0) (s .last .1 .1 .1 .1 .1 .1 .0)) (s .last .1 .1 .1 .1 .1 .1 .1 .0) (s .result .read) (output (s .result .written) (s .last .1 .1 .1 .1 .1 .1 .1 .1 .1 .0)) (s .result .full)) (s .ensures) (c .before .before .before .before .before .before .before .before .if1 .left) (c .before .before .before .before .before .before .before .if2 .left) (t .result .bench) (t .last .1 .1 .1 .0) (t .result .length) (t .ensures), (omega arith, omega (arith, s .kept, t .kept, t .ensures .fits, s .ensures .room (c .before .before .before .before .before .before .before .if2 .left))))
+    (block-closed (a .b) (lent (a .statistics .now) (a .last-shingled-input .now) (a .last-shingled-point .now) (a .previous-timestamps .now) (a .initial-values .now)
+    (a .initial-timestamps .now)) (a .point .now) (a .text .now) (a .out .now) (a .ends) (written (s .result .bench)
+    (lent (s .last .1 .0) (s .last .1 .1 .0) (s .last .1 .1 .1 .0) (s .last .1 .1 .1 .1 .0) (s .last .1 .1 .1 .1 .1 .0) (s .last .1 .1 .1 .1 .1 .1 .0))
+    (s .last .1 .1 .1 .1 .1 .1 .1 .0) (s .result .read) (output (s .result .written) (s .last .1 .1 .1 .1 .1 .1 .1 .1 .1 .0)) (s .result .full)) (s .ensures) (c .before .before
+    .before .before .before .before .before .before .if1 .left) (c .before .before .before .before .before .before .before .if2 .left) (t .result .bench) (t .last .1 .1 .1 .0) (t
+    .result .length) (t .ensures), (omega arith, omega
+    (arith, s .kept, t .kept, t .ensures .fits, s .ensures .room (c .before .before .before .before .before .before .before .if2 .left))))
 
 pub block-spec : {M : Type 1} → statement M
 block-spec =

@@ -7,7 +7,9 @@ use Rattle.bench_blocks.proofs.block.cell_at.Statement.{statement}
 use Rattle.bench_blocks.proofs.block.cell_at.Tie as tie
 
 add-end : tie.Need-add-end
-add-end c = omega (arith, c .before .before .before .before .before .before .before .before .before .good)
+add-end c =
+    let k1 : tie.After-slice-known = c .before .before .before .before .before .before .before .before in
+    omega (arith, k1 .before .good)
 
 sub-step : tie.Need-sub-step
 sub-step c = search needs
@@ -56,10 +58,16 @@ same-length-8 c = search needs
 
 returns : tie.Need-returns
 returns c =
-    let a = c .before .before .before .before .before .before .before .before .before .before .before .before .before .before .before .before .before .before .before .before .before .before .before .before .before .before .before .before .before .before .before .before .before .before .before .before .args in
-    let s = c .before .before .before .before .before .before .before .before .before .before .before .before .before .before .before .before .before .step in
-    placed-at (a .b) (lent (a .statistics .now) (a .last-shingled-input .now) (a .last-shingled-point .now) (a .previous-timestamps .now) (a .initial-values .now) (a .initial-timestamps .now)) (a .point .now) (a .text .now) (a .next) (a .out .now) (a .at)
-    (c .before .before .before .before .before .before .before .before .before .before .before .before .before .before .before .before .before .before .before .before .before .before .before .before .before .before .before .before .before .before .before .before .before .before .before .before .pre .1) (s .last .1 .1 .1 .1 .1 .1 .1 .1 .1 .0) (s .ensures) (omega (arith, s .kept))
+    let k1 : tie.After-initial-values = c .before .before .before .before .before .before .before .before in
+    let k2 : tie.After-statistics = k1 .before .before .before .before .before .before .before .before in
+    let k3 : tie.After-step-arg3 = k2 .before .before .before .before .before .before .before .before in
+    let k4 : tie.After-slice-known4 = k3 .before .before .before .before .before .before .before .before in
+    let a = k4 .before .before .before .before .args in
+    let s = k2 .before .step in
+    placed-at (a .b)
+    (lent (a .statistics .now) (a .last-shingled-input .now) (a .last-shingled-point .now) (a .previous-timestamps .now) (a .initial-values .now) (a .initial-timestamps .now))
+    (a .point .now) (a .text .now) (a .next) (a .out .now) (a .at)
+    (k4 .before .before .before .before .pre .1) (s .last .1 .1 .1 .1 .1 .1 .1 .1 .1 .0) (s .ensures) (omega (arith, s .kept))
 
 pub cell-at-spec : {M : Type 1} → statement M
 cell-at-spec =
