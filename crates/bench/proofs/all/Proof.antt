@@ -4,6 +4,7 @@ use Prim.Native.Nat.{ℕ, _≤_}
 use mathlib.Core.Path.{_≡_, ap}
 use lib.ListN.{length}
 use Rattle.bench_blocks.specs.declared.turn.Run.{Run}
+use borrow.Author.Needs.{needs}
 use Rattle.bench.proofs.all.Statement.{statement}
 use Rattle.bench.proofs.all.Tie as tie
 
@@ -16,7 +17,7 @@ abbrev μ-loop : tie.MeasureT-loop
     reads
 
 first-run-requires : tie.Need-first-run-requires Inv-loop μ-loop
-first-run-requires c κs = ?
+first-run-requires c κs = search needs
 
 loop-holds : tie.Need-loop-holds Inv-loop μ-loop
 loop-holds c = omega (arith, ap (λ (r : Run). r .kept) (c .first-run .ensures))

@@ -4,6 +4,7 @@ use Prim.Native.Nat.{ℕ, suc, _+_, _≤_, _<_}
 use mathlib.Core.Path.{_≡_, refl, subst, sym}
 use mathlib.Core.Bool.{Bool, true, false, cond}
 use lib.ListN.{length}
+use borrow.Author.Needs.{needs}
 use Rattle.bench.proofs.handed.Statement.{statement}
 use Rattle.bench.proofs.handed.Tie as tie
 

@@ -34,7 +34,7 @@ slice-aggregate-all-9 : tie.Need-slice-aggregate-all-9
 slice-aggregate-all-9 c = search needs
 
 all-requires : tie.Need-all-requires
-all-requires c κs = search needs
+all-requires c κs = (simp length-replicate (omega arith), simp length-replicate (omega arith))
 
 returns : tie.Need-returns
 returns c = search needs
