@@ -24,7 +24,6 @@ use Rattle.bench_core.specs.Line.{requestOf, keptOf}
 use Rattle.bench_core.specs.Bench.{Output, output, prints, noText, Heard, heard, refusedBy, endOf, readyFor, setHeard, builtOf, builtHeard, weightsTurn, weightsHeard, unread, goingOn, plainHeard, callHeard, saveTold, savePrints, lineBy, lineHeard, builderFrom, Turn, callTold, tells, pointTurn, learnTurn, drainTurn, begun, Said, said, finishBy}
 use Rattle.bench_core.specs.Run.{shown}
 
-
 -- what a line leaves, and the text that it prints
 pub record Reply : Type 0 where
   pub bench : Bench

@@ -13,7 +13,7 @@ use Rattle.common.specs.Lent.{over}
 use Rattle.trcf.specs.Transformer.{zero32}
 use Rattle.trcf.specs.View.{Lent}
 use Rattle.bench_core.specs.Bench.{Output, cellLength, cellKept, room, finishBy, finishOf, Finished, begun, prints, noText, output, said, Said, endOf}
-use Rattle.bench_core.specs.Run.{memory, blank, shown}
+use Rattle.bench_core.specs.Run.{memory, blank, shown, printed}
 use Rattle.bench_core.specs.declared.step.Bench.{Bench}
 use Rattle.bench_core.specs.declared.step.Phase.{Phase}
 use Rattle.bench_core.specs.declared.step.Phase.the-variants.{WantsSet, WantsWeights, Running, Ended}
@@ -25,7 +25,7 @@ use Rattle.bench_blocks.specs.declared.turn.Run.{Run}
 use Rattle.bench_blocks.proofs.OutLaws.{shown-prints}
 use Rattle.bench_blocks.proofs.ReadLaws.{readsOn, reads-cut}
 use Rattle.bench_blocks.proofs.RunLaws.{block-law, block-none, again-law, end-law}
-use Rattle.bench_blocks.proofs.WholeLaws.{over-reads, reads-whole}
+use Rattle.bench_blocks.proofs.WholeLaws.{over-reads, reads-whole, printed-whole}
 use Rattle.bench_blocks.proofs.TurnLaws.{unfit-false}
 
 -- ---- lists
@@ -217,3 +217,7 @@ program-law {r} {lists} {y} {text} {input} {all} (stops e a) = a ∙ sym (over-r
 -- Whatever blocks an input arrives in, what is written is what its lines print.
 pub blocks-print : BlocksPrint
 blocks-print text input all p = program-law p ∙ reads-whole input
+
+-- step after step on the whole input (bench_core/specs/Run) is the same
+pub blocks-printed : (text input all : List ℕ) → Program firstRun memory (replicate 320 zero32) text input all → all ≡ printed input
+blocks-printed text input all p = blocks-print text input all p ∙ sym (printed-whole input)

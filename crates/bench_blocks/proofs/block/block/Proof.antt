@@ -42,12 +42,17 @@ returns c =
     let k3 : tie.After-cells-arg2 = k2 .before .before .before .before .before .before .before .before in
     let k4 : tie.After-slice-known3 = k3 .before .before .before .before .before .before .before .before in
     let a = k4 .before .before .before .args in
-    let s = k2 .before .cells in
-    (block-open (a .b) (lent (a .statistics .now) (a .last-shingled-input .now) (a .last-shingled-point .now) (a .previous-timestamps .now) (a .initial-values .now)
-    (a .initial-timestamps .now)) (a .point .now) (a .text .now) (a .out .now) (a .ends) (written (s .result .bench)
-    (lent (s .last .1 .0) (s .last .1 .1 .0) (s .last .1 .1 .1 .0) (s .last .1 .1 .1 .1 .0) (s .last .1 .1 .1 .1 .1 .0) (s .last .1 .1 .1 .1 .1 .1 .0))
-    (s .last .1 .1 .1 .1 .1 .1 .1 .0) (s .result .read) (output (s .result .written) (s .last .1 .1 .1 .1 .1 .1 .1 .1 .1 .0)) (s .result .full)) (s .ensures) (c .if1 .taken), (s
-    .ensures .read, omega (arith, s .kept, s .ensures .fits)))
+    let s = k2 .before .cells in (
+      block-open (a .b) (lent (a .statistics .now) (a .last-shingled-input .now) (a .last-shingled-point .now) (a .previous-timestamps .now) (a .initial-values .now)
+          (a .initial-timestamps .now)) (a .point .now) (a .text .now) (a .out .now) (a .ends) (written (s .result .bench)
+          (lent (s .last .1 .0) (s .last .1 .1 .0) (s .last .1 .1 .1 .0) (s .last .1 .1 .1 .1 .0) (s .last .1 .1 .1 .1 .1 .0) (s .last .1 .1 .1 .1 .1 .1 .0))
+          (s .last .1 .1 .1 .1 .1 .1 .1 .0) (s .result .read) (output (s .result .written) (s .last .1 .1 .1 .1 .1 .1 .1 .1 .1 .0)) (s .result .full)) (s .ensures) (c .if1 .taken),
+      (
+        s
+            .ensures .read,
+        omega (arith, s .kept, s .ensures .fits),
+      ),
+    )
 
 same-length-9 : tie.Need-same-length-9
 same-length-9 c = search needs
@@ -80,12 +85,14 @@ returns-2 c =
     let k3 : tie.After-cells-arg3 = k2 .before .before .before .before .before .before .before .before in
     let k4 : tie.After-slice-known4 = k3 .before .before .before .before .before .before .before .before in
     let a = k4 .before .before .before .before .args in
-    let s = k2 .before .before .cells in
-    (block-full (a .b) (lent (a .statistics .now) (a .last-shingled-input .now) (a .last-shingled-point .now) (a .previous-timestamps .now) (a .initial-values .now)
-    (a .initial-timestamps .now)) (a .point .now) (a .text .now) (a .out .now) (a .ends) (written (s .result .bench)
-    (lent (s .last .1 .0) (s .last .1 .1 .0) (s .last .1 .1 .1 .0) (s .last .1 .1 .1 .1 .0) (s .last .1 .1 .1 .1 .1 .0) (s .last .1 .1 .1 .1 .1 .1 .0))
-    (s .last .1 .1 .1 .1 .1 .1 .1 .0) (s .result .read) (output (s .result .written) (s .last .1 .1 .1 .1 .1 .1 .1 .1 .1 .0)) (s .result .full)) (s .ensures) (c .before .if1
-    .left) (c .if2 .taken), (s .ensures .read, omega (arith, s .kept, s .ensures .fits)))
+    let s = k2 .before .before .cells in (
+      block-full (a .b) (lent (a .statistics .now) (a .last-shingled-input .now) (a .last-shingled-point .now) (a .previous-timestamps .now) (a .initial-values .now)
+          (a .initial-timestamps .now)) (a .point .now) (a .text .now) (a .out .now) (a .ends) (written (s .result .bench)
+          (lent (s .last .1 .0) (s .last .1 .1 .0) (s .last .1 .1 .1 .0) (s .last .1 .1 .1 .1 .0) (s .last .1 .1 .1 .1 .1 .0) (s .last .1 .1 .1 .1 .1 .1 .0))
+          (s .last .1 .1 .1 .1 .1 .1 .1 .0) (s .result .read) (output (s .result .written) (s .last .1 .1 .1 .1 .1 .1 .1 .1 .1 .0)) (s .result .full)) (s .ensures) (c .before .if1
+          .left) (c .if2 .taken),
+      (s .ensures .read, omega (arith, s .kept, s .ensures .fits)),
+    )
 
 end-at-requires : tie.Need-end-at-requires
 end-at-requires c κs =
@@ -165,14 +172,19 @@ returns-3 c =
     let k5 : tie.After-slice-known3 = k4 .before .before .before .before .before .before .before .before in
     let a = k5 .before .before .before .args in
     let s = k3 .before .cells in
-    let t = c .before .before .before .before .end-at in
-    (block-closed (a .b) (lent (a .statistics .now) (a .last-shingled-input .now) (a .last-shingled-point .now) (a .previous-timestamps .now) (a .initial-values .now)
-    (a .initial-timestamps .now)) (a .point .now) (a .text .now) (a .out .now) (a .ends) (written (s .result .bench)
-    (lent (s .last .1 .0) (s .last .1 .1 .0) (s .last .1 .1 .1 .0) (s .last .1 .1 .1 .1 .0) (s .last .1 .1 .1 .1 .1 .0) (s .last .1 .1 .1 .1 .1 .1 .0))
-    (s .last .1 .1 .1 .1 .1 .1 .1 .0) (s .result .read) (output (s .result .written) (s .last .1 .1 .1 .1 .1 .1 .1 .1 .1 .0)) (s .result .full)) (s .ensures) (c .before .before
-    .before .before .before .before .before .before .if1 .left) (c .before .before .before .before .before .before .before .if2 .left) (t .result .bench) (t .last .1 .1 .1 .0) (t
-    .result .length) (t .ensures), (omega arith, omega
-    (arith, s .kept, t .kept, t .ensures .fits, s .ensures .room (c .before .before .before .before .before .before .before .if2 .left))))
+    let t = c .before .before .before .before .end-at in (
+      block-closed (a .b) (lent (a .statistics .now) (a .last-shingled-input .now) (a .last-shingled-point .now) (a .previous-timestamps .now) (a .initial-values .now)
+          (a .initial-timestamps .now)) (a .point .now) (a .text .now) (a .out .now) (a .ends) (written (s .result .bench)
+          (lent (s .last .1 .0) (s .last .1 .1 .0) (s .last .1 .1 .1 .0) (s .last .1 .1 .1 .1 .0) (s .last .1 .1 .1 .1 .1 .0) (s .last .1 .1 .1 .1 .1 .1 .0))
+          (s .last .1 .1 .1 .1 .1 .1 .1 .0) (s .result .read) (output (s .result .written) (s .last .1 .1 .1 .1 .1 .1 .1 .1 .1 .0)) (s .result .full)) (s .ensures) (c .before .before
+          .before .before .before .before .before .before .if1 .left) (c .before .before .before .before .before .before .before .if2 .left) (t .result .bench) (t .last .1 .1 .1 .0) (t
+          .result .length) (t .ensures),
+      (
+        omega arith,
+        omega
+            (arith, s .kept, t .kept, t .ensures .fits, s .ensures .room (c .before .before .before .before .before .before .before .if2 .left)),
+      ),
+    )
 
 pub block-spec : {M : Type 1} → statement M
 block-spec =

@@ -21,10 +21,12 @@ abbrev μ-loop : tie.MeasureT-loop
 loop-holds : tie.Need-loop-holds Inv-loop μ-loop
 loop-holds c =
     let k1 : tie.After-slice-known Inv-loop μ-loop = c .before .before .before .before .before .before .before .before in
-    let a = k1 .before .args in
-    ((refl, refl, refl, refl, refl, refl, refl, refl), stands-first (a .b)
-    (lent (a .statistics .now) (a .last-shingled-input .now) (a .last-shingled-point .now) (a .previous-timestamps .now) (a .initial-values .now) (a .initial-timestamps .now))
-    (a .point .now) (a .text .now) (a .out .now))
+    let a = k1 .before .args in (
+      (refl, refl, refl, refl, refl, refl, refl, refl),
+      stands-first (a .b)
+          (lent (a .statistics .now) (a .last-shingled-input .now) (a .last-shingled-point .now) (a .previous-timestamps .now) (a .initial-values .now) (a .initial-timestamps .now))
+          (a .point .now) (a .text .now) (a .out .now),
+    )
 
 sub-loop : tie.Need-sub-loop Inv-loop μ-loop
 sub-loop c = omega (arith, c .loop .inv .1 .fits)
@@ -151,15 +153,17 @@ loop-again c =
     let k5 : tie.After-slice-known Inv-loop μ-loop = k4 .before .before .before .before .before .before .before .before in
     let a = k5 .before .args in
     let l = k3 .before .before .before .before .before .before .before .loop in
-    let s = k2 .before .before .before .before .before .cell-at in
-    (omega (arith, s .kept, l .inv .0), stands-next (a .b)
-    (lent (a .statistics .now) (a .last-shingled-input .now) (a .last-shingled-point .now) (a .previous-timestamps .now) (a .initial-values .now) (a .initial-timestamps .now))
-    (a .point .now) (a .text .now) (a .out .now) (l .bench)
-    (lent (l .statistics) (l .last-shingled-input) (l .last-shingled-point) (l .previous-timestamps) (l .initial-values) (l .initial-timestamps)) (l .point) (l .out) (l .next)
-    (l .at) (l .inv .1) (k3 .before .before .before .before .before .before .loop-test .taken) (s .result .bench)
-    (lent (s .last .1 .0) (s .last .1 .1 .0) (s .last .1 .1 .1 .0) (s .last .1 .1 .1 .1 .0) (s .last .1 .1 .1 .1 .1 .0) (s .last .1 .1 .1 .1 .1 .1 .0))
-    (s .last .1 .1 .1 .1 .1 .1 .1 .0) (s .last .1 .1 .1 .1 .1 .1 .1 .1 .1 .1 .0) (s .result .next) (s .result .length) (s .ensures) (omega (arith, s .kept))
-    (c .before .before .if1 .left))
+    let s = k2 .before .before .before .before .before .cell-at in (
+      omega (arith, s .kept, l .inv .0),
+      stands-next (a .b)
+          (lent (a .statistics .now) (a .last-shingled-input .now) (a .last-shingled-point .now) (a .previous-timestamps .now) (a .initial-values .now) (a .initial-timestamps .now))
+          (a .point .now) (a .text .now) (a .out .now) (l .bench)
+          (lent (l .statistics) (l .last-shingled-input) (l .last-shingled-point) (l .previous-timestamps) (l .initial-values) (l .initial-timestamps)) (l .point) (l .out) (l .next)
+          (l .at) (l .inv .1) (k3 .before .before .before .before .before .before .loop-test .taken) (s .result .bench)
+          (lent (s .last .1 .0) (s .last .1 .1 .0) (s .last .1 .1 .1 .0) (s .last .1 .1 .1 .1 .0) (s .last .1 .1 .1 .1 .1 .0) (s .last .1 .1 .1 .1 .1 .1 .0))
+          (s .last .1 .1 .1 .1 .1 .1 .1 .0) (s .last .1 .1 .1 .1 .1 .1 .1 .1 .1 .1 .0) (s .result .next) (s .result .length) (s .ensures) (omega (arith, s .kept))
+          (c .before .before .if1 .left),
+    )
 
 same-length-9 : tie.Need-same-length-9 Inv-loop μ-loop
 same-length-9 c = omega (arith, c .before .loop .inv .0)

@@ -17,10 +17,12 @@ returns : tie.Need-returns
 returns c =
     let k1 : tie.After-slice-known4 = c .before .before .before .before .before .before .before .before in
     let a = k1 .before .before .before .before .args in
-    let u = c .before .is-unfit in
-    (turn-refused (a .run)
-    (lent (a .statistics .now) (a .last-shingled-input .now) (a .last-shingled-point .now) (a .previous-timestamps .now) (a .initial-values .now) (a .initial-timestamps .now))
-    (a .point .now) (a .text .now) (a .got) (a .out .now) (u .result) (u .ensures) (c .if1 .taken), (omega arith, λ z. absurd (omega (arith, z))))
+    let u = c .before .is-unfit in (
+      turn-refused (a .run)
+          (lent (a .statistics .now) (a .last-shingled-input .now) (a .last-shingled-point .now) (a .previous-timestamps .now) (a .initial-values .now) (a .initial-timestamps .now))
+          (a .point .now) (a .text .now) (a .got) (a .out .now) (u .result) (u .ensures) (c .if1 .taken),
+      (omega arith, λ z. absurd (omega (arith, z))),
+    )
 
 standing-in-requires : tie.Need-standing-in-requires
 standing-in-requires c κs =
@@ -115,13 +117,15 @@ returns-2 c =
     let q = k3 .before .before .before .before .before .before .before .before .is-end in
     let s = k2 .before .before .before .before .before .before .block in
     let k = c .before .before .before .before .before .rest-of in
-    let m = c .before .before .before .carry in
-    (turn-done (a .run) (lent (a .statistics .now) (a .last-shingled-input .now) (a .last-shingled-point .now) (a .previous-timestamps .now) (a .initial-values .now)
-    (a .initial-timestamps .now)) (a .point .now) (a .text .now) (a .got) (a .out .now) (u .result) (u .ensures) (k4 .before .before .if1 .left) (n .result) (n .ensures .0) (q
-    .result) (q .ensures) (written (s .result .bench)
-    (lent (s .last .1 .0) (s .last .1 .1 .0) (s .last .1 .1 .1 .0) (s .last .1 .1 .1 .1 .0) (s .last .1 .1 .1 .1 .1 .0) (s .last .1 .1 .1 .1 .1 .1 .0))
-    (s .last .1 .1 .1 .1 .1 .1 .1 .0) (s .result .read) (output (s .result .written) (s .last .1 .1 .1 .1 .1 .1 .1 .1 .1 .1 .0)) (s .result .full)) (s .ensures .0) (k .result) (k
-    .ensures .0) (m .last .0) (m .ensures), (omega (arith, s .kept, s .ensures .1 .1), λ z. omega (arith, m .kept, k .ensures .1, n .ensures .1, h .2)))
+    let m = c .before .before .before .carry in (
+      turn-done (a .run) (lent (a .statistics .now) (a .last-shingled-input .now) (a .last-shingled-point .now) (a .previous-timestamps .now) (a .initial-values .now)
+          (a .initial-timestamps .now)) (a .point .now) (a .text .now) (a .got) (a .out .now) (u .result) (u .ensures) (k4 .before .before .if1 .left) (n .result) (n .ensures .0) (q
+          .result) (q .ensures) (written (s .result .bench)
+          (lent (s .last .1 .0) (s .last .1 .1 .0) (s .last .1 .1 .1 .0) (s .last .1 .1 .1 .1 .0) (s .last .1 .1 .1 .1 .1 .0) (s .last .1 .1 .1 .1 .1 .1 .0))
+          (s .last .1 .1 .1 .1 .1 .1 .1 .0) (s .result .read) (output (s .result .written) (s .last .1 .1 .1 .1 .1 .1 .1 .1 .1 .1 .0)) (s .result .full)) (s .ensures .0) (k .result) (k
+          .ensures .0) (m .last .0) (m .ensures),
+      (omega (arith, s .kept, s .ensures .1 .1), λ z. omega (arith, m .kept, k .ensures .1, n .ensures .1, h .2)),
+    )
 
 pub turn-spec : {M : Type 1} → statement M
 turn-spec = tie.close (tie.spec is-unfit-requires returns standing-in-requires is-end-requires slice-reshare-prefix-block slice-aggregate-block block-requires sub-rest-of rest-of-requires carry-requires same-length same-length-2 same-length-3 same-length-4 same-length-5 same-length-6 same-length-7 same-length-8 same-length-9 returns-2)
