@@ -67,7 +67,8 @@ module _ (b : Bench) (lists : Lent) (y : List Float) (text out : List ℕ) (ends
   unfolding blockOf
   block-open e =
       h .same
-      ∙ ap (λ (q : Bool). laid (endsWith q (cellsOf (suc (length text)) (length out) b lists y text 0 [] .full) (cellsOf (suc (length text)) (length out) b lists y text 0 []) text) out) (sym (not-true ends e))
+      ∙ ap (λ (q : Bool). laid (endsWith q (cellsOf (suc (length text)) (length out) b lists y text 0 [] .full) (cellsOf (suc (length text)) (length out) b lists y text 0 []) text) out)
+      (sym (not-true ends e))
 
   pub block-full : not ends ≡ false → g .full ≡ true → g ≡ laid (blockOf b lists y text ends (length out)) out
   unfolding blockOf

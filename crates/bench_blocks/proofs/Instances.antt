@@ -1,9 +1,10 @@
 -- The claim of specs/Program at concrete arguments, worked out by computation: an input cut at every place into two blocks. Assumes nothing.
-use Prim.Native.Nat.{ℕ, zero, suc, _+_}
+use Prim.Native.Nat.{ℕ, zero, suc, _+_, _<_}
+use native.Mathlib.Omega.{arith}
 use Prim.Native.String.{String, _++_ as _·_}
-use mathlib.Core.Path.{_≡_, refl}
+use mathlib.Core.Path.{_≡_, refl, sym, ap, _∙_}
 use mathlib.Core.Bool.{Bool, true, false}
-use mathlib.Core.List.{List, [], _∷_, _++_}
+use mathlib.Core.List.{List, [], _∷_, _++_, append-nil}
 use lib.ListN.{length, take, drop, replicate}
 use lib.Ieee.{Float}
 use Rattle.trcf.specs.Transformer.{zero32}
@@ -13,7 +14,9 @@ use Rattle.bench_core.specs.declared.step.Phase.{Phase}
 use Rattle.bench_core.specs.declared.step.Phase.the-variants.{WantsSet, WantsWeights, Running, Ended}
 use Rattle.bench_blocks.specs.declared.turn.Run.{Run}
 use Rattle.bench_blocks.specs.Blocks.{blockOf}
-use Rattle.bench_blocks.specs.Turns.{firstRun, turnOf}
+use Rattle.bench_blocks.specs.Turns.{firstRun, Turned, turnOf}
+use Rattle.bench_blocks.specs.Program.{Program, reads, ends, over as stops}
+use Rattle.bench_blocks.proofs.ProgramLaws.{blocks-print}
 use Rattle.bench_blocks.specs.Whole.{answers}
 use lib.Ieee.{toBits, ofBits, ofFields, odd, fits, size, round, le, lt, eq, add, sub, mul, div, ofInt}
 use Rattle.numeric.specs.Narrow.{narrowed}
@@ -77,7 +80,7 @@ run bs = writes 9 firstRun memory (replicate 320 zero32) (replicate 160 0) bs
 
 -- ---- every cut
 
--- a time of 20 digits, a cell that is too long, and a last line without its LF
+-- a time of 20 digits, a cell of more than 24 bytes, and a last line without its LF
 abbrev input : String
 input = "set\tS\t0\t1\t1\t10\t20\t0000000000000000\t3f800000\nwgt\t3f800000\nl\t18446744073709551615\t3f800000\ns2345678901234567890123456\nd"
 
@@ -96,3 +99,62 @@ every-cut = refl
 whole-input : answers (bytes input) ≡ bytes output
 unfolding running
 whole-input = refl
+
+-- ---- the claim at a run: a line that is cut in its first field
+
+abbrev lent320 : List Float
+lent320 = replicate 320 zero32
+
+abbrev first : List ℕ
+first = 120 ∷ []
+
+abbrev second : List ℕ
+second = 10 ∷ []
+
+abbrev one : Turned
+one = turnOf firstRun memory lent320 (stored (replicate 32 0) 0 first) 1 blank
+
+abbrev two : Turned
+two = turnOf (one .run) (one .lent) (one .point) (stored (one .text) (one .run .kept) second) 1 blank
+
+-- what the two turns leave
+one-row : one .row ≡ 0
+unfolding running
+one-row = refl
+
+one-shows : shown (one .out) ≡ []
+unfolding running
+one-shows = refl
+
+one-full : one .run .full ≡ false
+unfolding running
+one-full = refl
+
+one-read : take 1 (stored (replicate 32 0) 0 first) ≡ first
+unfolding over
+one-read = refl
+
+two-read : take (one .run .kept + 1) (stored (one .text) (one .run .kept) second) ≡ take (one .run .kept) (one .text) ++ second
+unfolding running
+two-read = refl
+
+two-row : two .row ≡ 0
+unfolding running
+two-row = refl
+
+two-shows : shown (two .out) ≡ noText 19
+unfolding running
+two-shows = refl
+
+two-over : two .run .bench .phase ≡ Ended
+unfolding running
+two-over = refl
+
+two-blocks : Program firstRun memory lent320 (replicate 32 0) (120 ∷ 10 ∷ []) (noText 19)
+two-blocks =
+    reads first second (stored (replicate 32 0) 0 first) blank (noText 19) one refl (omega arith) refl one-read refl one-row (ap (λ (u : List ℕ). u ++ noText 19) (sym one-shows))
+    (reads second [] (stored (one .text) (one .run .kept) second) blank [] two one-full (omega arith) refl two-read refl two-row
+    (sym two-shows ∙ sym (append-nil (shown (two .out)))) (stops two-over refl))
+
+two-blocks-print : noText 19 ≡ answers (120 ∷ 10 ∷ [])
+two-blocks-print = blocks-print (replicate 32 0) (120 ∷ 10 ∷ []) (noText 19) two-blocks

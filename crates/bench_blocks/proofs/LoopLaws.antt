@@ -147,5 +147,9 @@ module _ (b₀ : Bench) (lists₀ : Lent) (y₀ : List Float) (text out₀ : Lis
             fits = omega (arith, a .fits, p .fits);
             size = z ∙ a .size;
             behind = p .behind ∙ sym (drop-drop m at out) ∙ ap (drop m) (a .behind) ∙ drop-drop m at out₀;
-            same = a .same ∙ e ∙ f ∙ fuel (length text - next) (suc (length text - (next + n))) (length out₀) b' lists' y' text (next + n) (take (at + m) out') (omega (arith, a .read)) (omega arith);
+            same =
+                a .same
+                ∙ e
+                ∙ f
+                ∙ fuel (length text - next) (suc (length text - (next + n))) (length out₀) b' lists' y' text (next + n) (take (at + m) out') (omega (arith, a .read)) (omega arith);
           }

@@ -131,7 +131,9 @@ module _ (out other : List ℕ) (e : length out ≡ length other) where
     end-phase c WantsWeights = ap (λ (u : List ℕ). said (endOf b) (prints u out)) (sym (shown-prints (noText 19) other))
     end-phase c Running = go (begun (b .line .name) c)
       where
-        go : (p : Bool) → cond p (said (endOf b) (prints (noText 19) out)) (said (endOf b) (output 0 out)) ≡ said ((cond p (said (endOf b) (prints (noText 19) other)) (said (endOf b) (output 0 other))) .bench) (prints (shown ((cond p (said (endOf b) (prints (noText 19) other)) (said (endOf b) (output 0 other))) .out)) out)
+        go : (p : Bool) → cond p (said (endOf b) (prints (noText 19) out)) (said (endOf b) (output 0 out))
+            ≡ said ((cond p (said (endOf b) (prints (noText 19) other)) (said (endOf b) (output 0 other))) .bench)
+            (prints (shown ((cond p (said (endOf b) (prints (noText 19) other)) (said (endOf b) (output 0 other))) .out)) out)
         go true = ap (λ (u : List ℕ). said (endOf b) (prints u out)) (sym (shown-prints (noText 19) other))
         go false = refl
     end-phase c Ended = refl

@@ -181,7 +181,9 @@ program-law {r} {lists} {y} {text} {input} {all} (reads new later text' out w t 
     let k : ℕ = r .kept + length new in
     let s : t ≡ carried text' k (laid (blockOf (r .bench) lists y (take k text') false (length out)) out) =
     d .is
-    ∙ (λ j. carried text' (standing (r .kept) (length new) (f j)) (laid (blockOf (r .bench) lists y (take (standing (r .kept) (length new) (f j)) text') (endsAt (length new) (f j)) (length out)) out))
+    ∙ (λ j.
+    carried text' (standing (r .kept) (length new) (f j))
+    (laid (blockOf (r .bench) lists y (take (standing (r .kept) (length new) (f j)) text') (endsAt (length new) (f j)) (length out)) out))
     ∙ ap (λ (q : Bool). carried text' k (laid (blockOf (r .bench) lists y (take k text') q (length out)) out)) (ne-eqb (length new) 0 (λ q. omega arith)) in
     let g : Block = blockOf (r .bench) lists y (take k text') false (length out) in
     let l : Leaves r lists y (g .text) (take k text' ++ later) later t =

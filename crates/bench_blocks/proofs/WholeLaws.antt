@@ -7,7 +7,7 @@ use mathlib.Core.Bool.{Bool, true, false, cond, _||_, false≢true}
 use mathlib.Core.List.{List, [], _∷_, _++_, append-assoc, append-nil}
 use borrow.Author.Tests.{ne-eqb, eqb-true, eqb-false}
 use lib.Dec.{T, ltb, leb, eqb}
-use lib.ListN.{length, take, drop, getD, replicate, length-drop}
+use lib.ListN.{length, set, take, drop, getD, replicate, length-drop}
 use lib.Ieee.{Float, binary32, binary64}
 use Rattle.trcf.specs.Transformer.{zero32}
 use Rattle.trcf.specs.View.{Lent, Outcome}
@@ -26,7 +26,7 @@ use Rattle.bench_core.specs.declared.line.Line.{Line}
 use Rattle.bench_core.specs.declared.step.Bench.{Bench}
 use Rattle.bench_core.specs.declared.step.Phase.{Phase}
 use Rattle.bench_core.specs.declared.step.Phase.the-variants.{WantsSet, WantsWeights, Running, Ended}
-use Rattle.bench_core.specs.Line.{shortName, longName, nameOf, letterOf, methodOf, placeOf, otherLine, blankLine, withWhole, withDouble, withSingle, fieldAt, fieldOf, cellBy, cellOf, requestOf, keptOf}
+use Rattle.bench_core.specs.Line.{line as lineOf, afterField, shortName, longName, nameOf, letterOf, methodOf, placeOf, otherLine, blankLine, withWhole, withDouble, withSingle, fieldAt, fieldOf, cellBy, cellOf, requestOf, keptOf}
 use Rattle.bench_core.specs.Bench.{output, noText, Heard, heard, cellLength, endOf, readyFor, refusedBy, builtOf, builtHeard, weightsTurn, setHeard, weightsHeard, callHeard, plainHeard, lineBy, lineHeard, fresh, withLine, begun, finishBy, said, prints}
 use Rattle.bench_core.specs.Run.{memory, blank, shown, printedFrom, printed}
 use Rattle.bench_blocks.specs.Whole.{onto, parts, withFields, lineFrom, endText, linesPrint, answers}
@@ -88,7 +88,7 @@ module _ (l : Line) (e : begun (l .name) [] ≡ true) where
   whole-begun No = refl
   whole-begun (Is n) = go (leb 6 (l .fields))
     where
-      go : (p : Bool) → begun ((cond p (otherLine l) (Rattle.bench_core.specs.Line.line (l .name) (l .fields + 1) (lib.ListN.set (l .wholes) (l .fields) n) (l .double) (l .count) (l .singles))) .name) [] ≡ true
+      go : (p : Bool) → begun ((cond p (otherLine l) (lineOf (l .name) (l .fields + 1) (set (l .wholes) (l .fields) n) (l .double) (l .count) (l .singles))) .name) [] ≡ true
       go true = refl
       go false = e
 
@@ -102,8 +102,8 @@ module _ (l : Line) (e : begun (l .name) [] ≡ true) where
   single-begun (Single x) = go (leb 17 (l .count))
     where
       go : (p : Bool)
-          → begun ((cond p (Rattle.bench_core.specs.Line.line (l .name) (Rattle.bench_core.specs.Line.afterField (l .fields)) (l .wholes) (l .double) (l .count) (l .singles))
-          (Rattle.bench_core.specs.Line.line (l .name) (Rattle.bench_core.specs.Line.afterField (l .fields)) (l .wholes) (l .double) (l .count + 1) (lib.ListN.set (l .singles) (l .count) x))) .name) [] ≡ true
+          → begun ((cond p (lineOf (l .name) (afterField (l .fields)) (l .wholes) (l .double) (l .count) (l .singles))
+          (lineOf (l .name) (afterField (l .fields)) (l .wholes) (l .double) (l .count + 1) (set (l .singles) (l .count) x))) .name) [] ≡ true
       go true = e
       go false = e
   single-begun (Double x) = refl
@@ -302,7 +302,8 @@ more-lines : (b : Bench) (lists : Lent) (y : List Float) (u : List ℕ) (l : Lin
     → (let h = lineHeard b l lists y blank in
     linesPrint b lists y (u ∷ prefix [] ps) ≡ shown (h .out) ++ linesPrint (h .bench) (h .lent) (h .point) (prefix [] ps))
 more-lines b lists y u l e [] =
-    ap (λ (k : Line). shown (lineHeard b k lists y blank .out) ++ linesPrint (lineHeard b k lists y blank .bench) (lineHeard b k lists y blank .lent) (lineHeard b k lists y blank .point) ([] ∷ [])) e
+    ap (λ (k : Line). shown (lineHeard b k lists y blank .out) ++ linesPrint (lineHeard b k lists y blank .bench) (lineHeard b k lists y blank .lent) (lineHeard b k lists y blank .point) ([] ∷ []))
+    e
 more-lines b lists y u l e (v ∷ r) =
     ap (λ (k : Line). shown (lineHeard b k lists y blank .out) ++ linesPrint (lineHeard b k lists y blank .bench) (lineHeard b k lists y blank .lent) (lineHeard b k lists y blank .point) (v ∷ r)) e
 
@@ -337,7 +338,8 @@ reads-lines (x ∷ t) b lists y c p a = top (isEnded (b .phase)) refl (λ c' l z
     go e false f false g ih =
         ih b lists y (c ++ x ∷ []) (p ++ x ∷ []) (λ k. along-byte (b .line) c p x f (a e)) ∙ ap (linesPrint b lists y) (prefix-onto p x (parts 10 t))
 
-    top : (q : Bool) → isEnded (b .phase) ≡ q → ((c' : Bench) (l : Lent) (z : List Float) (d q : List ℕ) → (isEnded (c' .phase) ≡ false → Along (c' .line) d q) → Reads t c' l z d q) → Reads (x ∷ t) b lists y c p
+    top : (q : Bool) → isEnded (b .phase) ≡ q
+        → ((c' : Bench) (l : Lent) (z : List Float) (d q : List ℕ) → (isEnded (c' .phase) ≡ false → Along (c' .line) d q) → Reads t c' l z d q) → Reads (x ∷ t) b lists y c p
     top true e ih = over-reads lists y (x ∷ t) b c (is-ended (b .phase) e) ∙ sym (over-prints lists y (prefix p (parts 10 (x ∷ t))) b (is-ended (b .phase) e))
     top false e ih = go e (eqb x 9) refl (eqb x 10) refl ih
 
