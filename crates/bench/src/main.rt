@@ -1,5 +1,6 @@
-// The bench: reads standard input block by block until it ends, hands each block to `bench_blocks`, and writes what that prints. What is proved of it
-// is that it makes the steps of `Program` (bench_blocks/specs) in their order; that `filled` reads and `turned` writes is seen by reading.
+// The bench: reads standard input block by block until it ends, hands each block to `bench_blocks`, and writes what that prints. Proved are what each
+// call does, that turns follow until one had room before the next read, that a read leaves what is kept, and that the memory does. That `filled` and
+// `turned` read and write, and that `all` hands on the number of bytes that were read, is seen by reading: then a run is one of `Program` (bench_blocks/specs).
 use bench_blocks::turn::Run;
 use bench_blocks::turn::first_run;
 use bench_blocks::turn::turn;

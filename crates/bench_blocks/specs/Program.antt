@@ -1,4 +1,4 @@
--- Every run of the program `bench` on an input. Its loop makes these steps and no others; of them the reading and the writing alone are not proved.
+-- Every run of the program `bench` on an input. That its loop makes these steps is seen by reading crates/bench/src/main.rt; what each step does is proved.
 use Prim.Native.Nat.{ℕ, _+_, _<_}
 use mathlib.Core.Path.{_≡_}
 use mathlib.Core.Bool.{true, false}
