@@ -7,6 +7,7 @@ use standins::samplerplustree;
 
 include!(concat!(env!("OUT_DIR"), "/source.rs"));
 
+pub mod alignment;
 pub mod antt;
 pub mod bench;
 pub mod bits;

@@ -1,0 +1,2 @@
+// Lists of readings with their times: two of them compared.
+pub mod alignment;

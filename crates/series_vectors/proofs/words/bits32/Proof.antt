@@ -1,0 +1,29 @@
+-- `words::bits32` is safe: a float whose pattern is asked for is no not-a-number. Assumes nothing.
+use mathlib.Core.Path.{sym, subst}
+use Prim.Native.Nat.{_^_, _<_}
+use native.Mathlib.Omega.{arith}
+use lib.Dec.{T}
+use lib.Ieee.{binary32, toBits}
+use lib.Ieee.Bits.{toBits-lt}
+use borrow.Author.Needs.{needs}
+use Rattle.series_vectors.proofs.Patterns.{real}
+use Rattle.series_vectors.proofs.words.bits32.Statement.{statement}
+use Rattle.series_vectors.proofs.words.bits32.Tie as tie
+
+float-to-bits-result : tie.Need-float-to-bits-result
+float-to-bits-result c = real (c .before .args .x) (c .if1 .left)
+
+cast-result : tie.Need-cast-result
+cast-result c =
+    let x = c .before .args .x in
+    let h : toBits binary32 x < 2 ^ 32 = toBits-lt binary32 x (subst T (sym (c .before .good .0 .1)) tt) in
+    omega arith
+
+returns : tie.Need-returns
+returns c = search needs
+
+returns-2 : tie.Need-returns-2
+returns-2 c = search needs
+
+pub bits32-spec : {M : Type 1} → statement M
+bits32-spec = tie.close (tie.spec float-to-bits-result cast-result returns returns-2)
