@@ -16,5 +16,6 @@ pub mod history;
 pub mod random;
 pub mod reference;
 pub mod snapshot;
+pub mod stranding;
 pub mod texts;
 pub mod vectors;

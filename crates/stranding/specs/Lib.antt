@@ -1,0 +1,4 @@
+pub mod Orders
+pub mod Standing
+pub mod Counts
+pub mod Steps
