@@ -13,6 +13,7 @@ pub mod bench;
 pub mod bits;
 pub mod calls;
 pub mod history;
+pub mod imputation;
 pub mod random;
 pub mod reference;
 pub mod snapshot;

@@ -5,4 +5,5 @@ pub mod Pairing
 pub mod Gaps
 pub mod Alignment
 pub mod Comparison
+pub mod Imputation
 pub mod Steps

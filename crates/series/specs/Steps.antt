@@ -1,3 +1,4 @@
--- Definitions that only private contracts cite.
+-- Definitions that only private contracts and proofs use.
 pub mod Comparing
 pub mod AlignmentRows
+pub mod ImputationSteps
