@@ -4,3 +4,5 @@ pub mod CallLaws
 pub mod InUse
 pub mod Examples
 pub mod RestoreLaws
+pub mod OtherLaws
+pub mod OtherExamples

@@ -1,3 +1,5 @@
 pub mod Head
 pub mod Calls
 pub mod Restore
+pub mod Lists
+pub mod Counts
