@@ -2,7 +2,7 @@
 use Prim.Native.Nat.{ℕ}
 use mathlib.Core.List.{List, [], _∷_}
 use mathlib.Core.Path.{_≡_, refl}
-use lib.Ieee.{Float, binary32, ofBits, add, sub, mul, div, ofInt}
+use lib.Ieee.{Float, binary32, ofBits, add, sub, mul, div, ofInt, lt}
 use Rattle.stranding.specs.Counts.{answer as counted, countsBy, counts, outOfRange, strandingsOf}
 use Rattle.stranding.specs.Standing.{afterDrain, afterLearn}
 use Rattle.series.specs.Imputation.{imputation, lineOf, missingOf, imputedAt, byPlace, imputed, misshapen, knownMarks, finitePresent, allFinite, imputeRow, imputeOf}
@@ -14,7 +14,7 @@ use Rattle.capi.specs.Counts.{strandingsAt}
 use Rattle.capi.specs.Lists.{imputeAt, alignAt}
 
 all : Unit {0}
-unfolding strandingsAt strandingsOf outOfRange counts countsBy afterDrain afterLearn imputeAt imputeOf imputeRow misshapen knownMarks finitePresent allFinite imputed byPlace imputedAt missingOf lineOf alignAt alignOf rowOf unlike unusable pairs turn near written over gaps sizes sizeOf absolute largest larger ofBits add sub mul div ofInt
+unfolding strandingsAt strandingsOf outOfRange counts countsBy afterDrain afterLearn imputeAt imputeOf imputeRow misshapen knownMarks finitePresent allFinite imputed byPlace imputedAt missingOf lineOf alignAt alignOf rowOf unlike unusable pairs turn near written over gaps sizes sizeOf absolute largest larger ofBits add sub mul div ofInt lt
 all = tt
 
 -- 2.0, 4.0, 6.0 and 9.0
