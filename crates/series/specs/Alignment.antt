@@ -75,12 +75,12 @@ pub record Asked : Type 0 where
 unfoldable pub rowOf : Asked → ℕ
 rowOf q =
     firstOf (
-      (eqb (q .d) 0, 2)
-      ∷ (ltb channelLimit (q .d), 4)
-      ∷ (misshapen (q .d) (q .leftCells) (length (q .leftTimes)) || misshapen (q .d) (q .rightCells) (length (q .rightTimes)), 10)
-      ∷ (unusable (q .leftTimes) || unusable (q .rightTimes), 24)
-      ∷ (ltb (q .leftsRoom) (q .number) || (ltb (q .rightsRoom) (q .number) || ltb (q .gapsRoom) (q .d)), 20)
-      ∷ [])
+    (eqb (q .d) 0, 2)
+    ∷ (ltb channelLimit (q .d), 4)
+    ∷ (misshapen (q .d) (q .leftCells) (length (q .leftTimes)) || misshapen (q .d) (q .rightCells) (length (q .rightTimes)), 10)
+    ∷ (unusable (q .leftTimes) || unusable (q .rightTimes), 24)
+    ∷ (ltb (q .leftsRoom) (q .number) || (ltb (q .rightsRoom) (q .number) || ltb (q .gapsRoom) (q .d)), 20)
+    ∷ [])
 
 -- ---- the call
 

@@ -239,7 +239,7 @@ pub fn align(
 ) -> Aligned
     ensures { λ r. ⌜ answer (r .row) (r .pairs) (outputs (now («left_out» .exit)) (now («right_out» .exit)) (now («gaps_out» .exit)))
         ≡ alignOf d (readings (now (left .entry)) (now («left_times» .entry))) (readings (now (right .entry)) (now («right_times» .entry))) tolerance
-            (outputs (now («left_out» .entry)) (now («right_out» .entry)) (now («gaps_out» .entry))) ⌝ }
+        (outputs (now («left_out» .entry)) (now («right_out» .entry)) (now («gaps_out» .entry))) ⌝ }
 {
     let row = readings_row(d, left.len(), left_times, right.len(), right_times);
     if row != 0 {
@@ -248,7 +248,10 @@ pub fn align(
     let number = count_pairs(left_times, right_times, tolerance);
     let room = room_row(d, number, left_out.len(), right_out.len(), gaps_out.len());
     if room != 0 {
-        return Aligned { row: room, pairs: 0 };
+        return Aligned {
+            row: room,
+            pairs: 0,
+        };
     }
     let channels = d as usize;
     write_pairs(
@@ -261,5 +264,8 @@ pub fn align(
         right_out,
         &mut gaps_out[..channels],
     );
-    Aligned { row: 0, pairs: number }
+    Aligned {
+        row: 0,
+        pairs: number,
+    }
 }

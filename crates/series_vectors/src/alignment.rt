@@ -18,7 +18,9 @@ const MARK32: u64 = 0x40f0_0000;
 
 // One case's verdict.
 const AGREES: u64 = 0;
+
 const DIFFERS: u64 = 1;
+
 const BROKEN: u64 = 2;
 
 // A list of readings as it was read: how many cells, how many times.
@@ -59,7 +61,11 @@ fn expect(
         return BROKEN;
     }
     let n = pairs.value as usize;
-    let k = if row.value == 0 && d <= 16 { d as usize } else { 0 };
+    let k = if row.value == 0 && d <= 16 {
+        d as usize
+    } else {
+        0
+    };
     let lefts = next_are_wholes(fd, left_out, n, MARK);
     let rights = next_are_wholes(fd, right_out, n, MARK);
     let gaps = next_are_singles(fd, gaps_out, k, MARK32);
@@ -100,6 +106,42 @@ fn called(
     expect(fd, answer, d, left_out, right_out, gaps_out)
 }
 
+// A case behind its lists: the outputs' lengths, then the call.
+fn lent(
+    fd: i32,
+    d: u64,
+    tolerance: u64,
+    left: &[f32],
+    left_times: &[u64],
+    right: &[f32],
+    right_times: &[u64],
+    left_out: &mut [u64],
+    right_out: &mut [u64],
+    gaps_out: &mut [f32],
+) -> u64 {
+    let a = next_length(fd, left_out.len());
+    let b = next_length(fd, right_out.len());
+    let c = next_length(fd, gaps_out.len());
+    if !(a.good && b.good && c.good) {
+        return BROKEN;
+    }
+    let lefts = a.value;
+    let rights = b.value;
+    let gaps = c.value;
+    called(
+        fd,
+        d,
+        tolerance,
+        left,
+        left_times,
+        right,
+        right_times,
+        &mut left_out[..lefts],
+        &mut right_out[..rights],
+        &mut gaps_out[..gaps],
+    )
+}
+
 // A case behind its d.
 fn one(
     fd: i32,
@@ -115,20 +157,14 @@ fn one(
     let tolerance = next_word(fd);
     let l = read_list(fd, left, left_times);
     let r = read_list(fd, right, right_times);
-    let a = next_length(fd, left_out.len());
-    let b = next_length(fd, right_out.len());
-    let c = next_length(fd, gaps_out.len());
-    if !(tolerance.good && l.good && r.good && a.good && b.good && c.good) {
+    if !(tolerance.good && l.good && r.good) {
         return BROKEN;
     }
     let left_cells = l.cells;
     let left_length = l.times;
     let right_cells = r.cells;
     let right_length = r.times;
-    let lefts = a.value;
-    let rights = b.value;
-    let gaps = c.value;
-    called(
+    lent(
         fd,
         d,
         tolerance.value,
@@ -136,41 +172,52 @@ fn one(
         &left_times[..left_length],
         &right[..right_cells],
         &right_times[..right_length],
-        &mut left_out[..lefts],
-        &mut right_out[..rights],
-        &mut gaps_out[..gaps],
+        left_out,
+        right_out,
+        gaps_out,
     )
 }
 
+fn more(n: u64) -> u64 {
+    if n < u64::MAX { n + 1 } else { n }
+}
+
 fn counted(tally: Tally, verdict: u64) -> Tally {
-    let mut agree = tally.agree;
-    let mut differ = tally.differ;
-    let mut broken = tally.broken;
-    if verdict == AGREES && agree < u64::MAX {
-        agree += 1;
+    let agree = tally.agree;
+    let differ = tally.differ;
+    let broken = tally.broken;
+    if verdict == AGREES {
+        return Tally {
+            agree: more(agree),
+            differ: differ,
+            broken: broken,
+        };
     }
-    if verdict == DIFFERS && differ < u64::MAX {
-        differ += 1;
-    }
-    if verdict == BROKEN && broken < u64::MAX {
-        broken += 1;
+    if verdict == DIFFERS {
+        return Tally {
+            agree: agree,
+            differ: more(differ),
+            broken: broken,
+        };
     }
     Tally {
         agree: agree,
         differ: differ,
-        broken: broken,
+        broken: more(broken),
     }
 }
 
 // A case that cannot be read ends the replay: nobody knows where the next one begins. A proved loop has to end: the turns are counted down.
-pub(crate) fn replay(fd: i32) -> Tally {
-    let mut left = [0.0f32; 65600];
-    let mut left_times = [0u64; 4100];
-    let mut right = [0.0f32; 65600];
-    let mut right_times = [0u64; 4100];
-    let mut left_out = [0u64; 4100];
-    let mut right_out = [0u64; 4100];
-    let mut gaps_out = [0.0f32; 20];
+fn replay_all(
+    fd: i32,
+    left: &mut [f32],
+    left_times: &mut [u64],
+    right: &mut [f32],
+    right_times: &mut [u64],
+    left_out: &mut [u64],
+    right_out: &mut [u64],
+    gaps_out: &mut [f32],
+) -> Tally {
     let mut tally = Tally {
         agree: 0,
         differ: 0,
@@ -182,20 +229,20 @@ pub(crate) fn replay(fd: i32) -> Tally {
         if d.ended {
             return tally;
         }
-        let mut verdict = BROKEN;
-        if d.good {
-            verdict = one(
-                fd,
-                d.value,
-                &mut left,
-                &mut left_times,
-                &mut right,
-                &mut right_times,
-                &mut left_out,
-                &mut right_out,
-                &mut gaps_out,
-            );
+        if !d.good {
+            return counted(tally, BROKEN);
         }
+        let verdict = one(
+            fd,
+            d.value,
+            left,
+            left_times,
+            right,
+            right_times,
+            left_out,
+            right_out,
+            gaps_out,
+        );
         tally = counted(tally, verdict);
         if verdict == BROKEN {
             return tally;
@@ -203,4 +250,24 @@ pub(crate) fn replay(fd: i32) -> Tally {
         turns -= 1;
     }
     tally
+}
+
+pub(crate) fn replay(fd: i32) -> Tally {
+    let mut left = [0.0f32; 65600];
+    let mut left_times = [0u64; 4100];
+    let mut right = [0.0f32; 65600];
+    let mut right_times = [0u64; 4100];
+    let mut left_out = [0u64; 4100];
+    let mut right_out = [0u64; 4100];
+    let mut gaps_out = [0.0f32; 20];
+    replay_all(
+        fd,
+        &mut left,
+        &mut left_times,
+        &mut right,
+        &mut right_times,
+        &mut left_out,
+        &mut right_out,
+        &mut gaps_out,
+    )
 }

@@ -48,7 +48,7 @@ module _ (w : ℕ) (l r : List ℕ) where
           within = λ k h. q .within (suc k) (omega arith);
           risesLeft = λ k m h g. q .risesLeft (suc k) (suc m) (omega arith) (omega arith);
           risesRight = λ k m h g. q .risesRight (suc k) (suc m) (omega arith) (omega arith);
-        }) (λ k h. (q .risesLeft 0 (suc k) (omega arith) (omega arith), q .risesRight 0 (suc k) (omega arith) (omega arith))),
+        }) (λ k h. (omega (arith, q .risesLeft 0 (suc k) (omega arith) (omega arith)), omega (arith, q .risesRight 0 (suc k) (omega arith) (omega arith)))),
       )
 
   pub chain-of : (ps : List Pair) → Pairing w l r ps → Chain 0 0 ps

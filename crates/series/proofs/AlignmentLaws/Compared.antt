@@ -104,10 +104,10 @@ module _ (s : Lists) (lo ro : List ℕ) (g : List Float) (n i j : ℕ) (q : Comp
           leftIs = rw (q .leftIs) (part-more (s .leftOut) (lefts ps) n 0 hl (omega (arith, m .room, f .leftRoom)) i (m .leftIs));
           rightIs = rw (q .rightIs) (part-more (s .rightOut) (rights ps) n 0 hr (omega (arith, m .room, f .rightRoom)) j (m .rightIs));
           gapsAre = e
-            ∙ ap (λ (x : ℕ). widened (s .left) x (s .right) b g) ea
-            ∙ ap (λ (x : ℕ). widened (s .left) (i * s .d) (s .right) x g) eb
-            ∙ ap (widened (s .left) (i * s .d) (s .right) (j * s .d)) (q .gapsAre)
-            ∙ gaps-one-more (s .d) (s .left) (s .right) ps n i j (m .room) (m .pairIs);
+              ∙ ap (λ (x : ℕ). widened (s .left) x (s .right) b g) ea
+              ∙ ap (λ (x : ℕ). widened (s .left) (i * s .d) (s .right) x g) eb
+              ∙ ap (widened (s .left) (i * s .d) (s .right) (j * s .d)) (q .gapsAre)
+              ∙ gaps-one-more (s .d) (s .left) (s .right) ps n i j (m .room) (m .pairIs);
           leftLength = simp length-set (q .leftLength);
           rightLength = simp length-set (q .rightLength);
           gapsLength = ap length e ∙ widened-length (s .left) a (s .right) b g ∙ q .gapsLength;

@@ -61,9 +61,9 @@ module _ (d : ℕ) (l r : List Float) (ps : List Pair) (n i j : ℕ) (h : n < le
       ap (λ (k : ℕ). perChannel k (λ c. larger (getD (perChannel d so-far) c nan) (s c))) (channels-length d so-far)
       ∙ channels-same d (λ c. larger (getD (perChannel d so-far) c nan) (s c)) (λ c. largest (sizes d l r (take (n + 1) ps) c))
       (λ c k.
-        ap (λ (g : Float). larger g (s c)) (channels-at d so-far c nan k)
-        ∙ sym (largest-one-more (sizes d l r (take n ps) c) (s c))
-        ∙ ap largest (sym (sizes-one-more c)))
+      ap (λ (g : Float). larger g (s c)) (channels-at d so-far c nan k)
+      ∙ sym (largest-one-more (sizes d l r (take n ps) c) (s c))
+      ∙ ap largest (sym (sizes-one-more c)))
 
 -- a turn of the loop over the channels
 widened-at : (l : List Float) (a : ℕ) (r : List Float) (b : ℕ) (g : List Float) (c : ℕ) → c < length g

@@ -85,8 +85,8 @@ module _ (d : ℕ) (l r : Readings) (w : ℕ) (o : Outputs) where
         number-told = ap length told-is;
         best-told = subst (BestPairing w (l .times) (r .times)) (sym told-is) best;
         largest-told = λ c h.
-          subst (λ (qs : List Pair). Largest (sizes d (l .cells) (r .cells) qs c) (getD (full .outs .gaps) c nan)) (sym told-is)
-          (subst (Largest (sizes d (l .cells) (r .cells) ps c)) (sym (size-told c h)) (largest-of-channel d (l .cells) (r .cells) ps c));
+            subst (λ (qs : List Pair). Largest (sizes d (l .cells) (r .cells) qs c) (getD (full .outs .gaps) c nan)) (sym told-is)
+            (subst (Largest (sizes d (l .cells) (r .cells) ps c)) (sym (size-told c h)) (largest-of-channel d (l .cells) (r .cells) ps c));
       }
 
   -- THEOREM: an answer that no row refuses is a best pairing, with the largest sizes over its pairs

@@ -11,11 +11,11 @@ use Rattle.series.specs.Alignment.{channelLimit, misshapen, unusable}
 unfoldable pub readingsRow : ℕ → ℕ → List ℕ → ℕ → List ℕ → ℕ
 readingsRow d lc l rc r =
     firstOf (
-      (eqb d 0, 2)
-      ∷ (ltb channelLimit d, 4)
-      ∷ (misshapen d lc (length l) || misshapen d rc (length r), 10)
-      ∷ (unusable l || unusable r, 24)
-      ∷ [])
+    (eqb d 0, 2)
+    ∷ (ltb channelLimit d, 4)
+    ∷ (misshapen d lc (length l) || misshapen d rc (length r), 10)
+    ∷ (unusable l || unusable r, 24)
+    ∷ [])
 
 unfoldable pub roomRow : ℕ → ℕ → ℕ → ℕ → ℕ → ℕ
 roomRow d n lo ro go = firstOf ((ltb lo n || (ltb ro n || ltb go d), 20) ∷ [])

@@ -82,12 +82,14 @@ returns-3 c =
     let room = near .before .before .before .room-row in
     let roomy = room .ensures .1 (near .before .before .if2 .left) in
     let wrote = c .before .before .before .before .before .before .write-pairs in
+    let count = near .before .before .before .before .count-pairs in
     let ps = pairs (a .tolerance) (a .left-times .now) (a .right-times .now) in
     let f = near .before .before .before .room-row .ensures .0
-    ∙ ap (λ (n : ℕ). roomRow (a .d) n (length (a .left-out .now)) (length (a .right-out .now)) (length (a .gaps-out .now))) (near .before .before .before .before .count-pairs .ensures) in
+    ∙ ap (λ (n : ℕ). roomRow (a .d) n (length (a .left-out .now)) (length (a .right-out .now)) (length (a .gaps-out .now))) (count .ensures) in
     taken (a .d) (readings (a .left .now) (a .left-times .now)) (readings (a .right .now) (a .right-times .now)) (a .tolerance)
-    (outputs (a .left-out .now) (a .right-out .now) (a .gaps-out .now)) (row .result) (room .result) (near .before .before .before .before .count-pairs .result) _ _ _ (row .ensures .0) (near .before .before .before .before .before .if1 .left) f (near .before .before .if2 .left)
-    (near .before .before .before .before .count-pairs .ensures) (wrote .ensures .0) (wrote .ensures .1 .0)
+    (outputs (a .left-out .now) (a .right-out .now) (a .gaps-out .now)) (row .result) (room .result) (count .result) _ _ _ (row .ensures .0)
+    (near .before .before .before .before .before .if1 .left) f (near .before .before .if2 .left)
+    (count .ensures) (wrote .ensures .0) (wrote .ensures .1 .0)
     (gaps-front (a .d) (a .left .now) (a .right .now) ps (a .gaps-out .now) _ (roomy .gaps) (wrote .ensures .1 .1))
 
 pub align-spec : {M : Type 1} → statement M

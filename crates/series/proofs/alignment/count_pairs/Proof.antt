@@ -53,8 +53,9 @@ loop-less c = omega arith
 
 loop-again : tie.Need-loop-again Inv-loop μ-loop
 loop-again c =
-    let L = c .before .before .before .before .before .before .loop in
-    let a = c .before .before .before .before .before .before .before .before .before .args in
+    let near = c .before .before .before .before .before .before in
+    let L = near .loop in
+    let a = near .before .before .before .args in
     (met (a .tolerance) (a .left .now) (a .right .now) (L .n) (L .i) (L .j) (L .inv) (omega arith) (omega arith) (omega arith)) .on
 
 add-i-2 : tie.Need-add-i-2 Inv-loop μ-loop
@@ -65,8 +66,9 @@ loop-less-2 c = omega arith
 
 loop-again-2 : tie.Need-loop-again-2 Inv-loop μ-loop
 loop-again-2 c =
-    let L = c .before .before .before .before .before .before .before .loop in
-    let a = c .before .before .before .before .before .before .before .before .before .before .args in
+    let near = c .before .before .before .before .before .before .before in
+    let L = near .loop in
+    let a = near .before .before .before .args in
     past-left (a .tolerance) (a .left .now) (a .right .now) (L .n) (L .i) (L .j) (L .inv) (omega arith) (omega arith) (omega arith) (c .if3 .taken)
 
 add-j-2 : tie.Need-add-j-2 Inv-loop μ-loop
@@ -77,8 +79,9 @@ loop-less-3 c = omega arith
 
 loop-again-3 : tie.Need-loop-again-3 Inv-loop μ-loop
 loop-again-3 c =
-    let L = c .before .before .before .before .before .before .before .loop in
-    let a = c .before .before .before .before .before .before .before .before .before .before .args in
+    let near = c .before .before .before .before .before .before .before in
+    let L = near .loop in
+    let a = near .before .before .before .args in
     past-right (a .tolerance) (a .left .now) (a .right .now) (L .n) (L .i) (L .j) (L .inv) (omega arith) (omega arith) (omega arith) (c .if3 .left)
 
 returns-2 : tie.Need-returns-2 Inv-loop μ-loop

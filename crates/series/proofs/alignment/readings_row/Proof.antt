@@ -13,53 +13,49 @@ use Rattle.series.proofs.alignment.readings_row.Tie as tie
 
 returns : tie.Need-returns
 unfolding readingsRow
-returns c =
-    (
-      rw (eq-eqb _ _ (c .if1 .taken)),
-      λ e. absurd (omega arith),
-    )
+returns c = (
+  rw (eq-eqb _ _ (c .if1 .taken)),
+  λ e. absurd (omega arith),
+)
 
 returns-2 : tie.Need-returns-2
 unfolding readingsRow
-returns-2 c =
-    (
-      rw (
-        ne-eqb _ _ (c .before .if1 .left),
-        lt-ltb _ _ (c .if2 .taken),
-      ),
-      λ e. absurd (omega arith),
-    )
+returns-2 c = (
+  rw (
+    ne-eqb _ _ (c .before .if1 .left),
+    lt-ltb _ _ (c .if2 .taken),
+  ),
+  λ e. absurd (omega arith),
+)
 
 is-misshapen-requires : tie.Need-is-misshapen-requires
 is-misshapen-requires c κs = search needs
 
 returns-3 : tie.Need-returns-3
 unfolding readingsRow
-returns-3 c =
-    (
-      rw (
-        ne-eqb _ _ (c .before .before .before .if1 .left),
-        le-ltb _ _ (c .before .before .if2 .left),
-        sym (c .before .is-misshapen .ensures) ∙ c .if3 .taken,
-      ),
-      λ e. absurd (omega arith),
-    )
+returns-3 c = (
+  rw (
+    ne-eqb _ _ (c .before .before .before .if1 .left),
+    le-ltb _ _ (c .before .before .if2 .left),
+    sym (c .before .is-misshapen .ensures) ∙ c .if3 .taken,
+  ),
+  λ e. absurd (omega arith),
+)
 
 is-misshapen-requires-2 : tie.Need-is-misshapen-requires-2
 is-misshapen-requires-2 c κs = search needs
 
 returns-4 : tie.Need-returns-4
 unfolding readingsRow
-returns-4 c =
-    (
-      rw (
-        ne-eqb _ _ (c .before .before .before .before .before .if1 .left),
-        le-ltb _ _ (c .before .before .before .before .if2 .left),
-        sym (c .before .before .before .is-misshapen .ensures) ∙ c .before .before .if3 .left,
-        sym (c .before .is-misshapen2 .ensures) ∙ c .if4 .taken,
-      ),
-      λ e. absurd (omega arith),
-    )
+returns-4 c = (
+  rw (
+    ne-eqb _ _ (c .before .before .before .before .before .if1 .left),
+    le-ltb _ _ (c .before .before .before .before .if2 .left),
+    sym (c .before .before .before .is-misshapen .ensures) ∙ c .before .before .if3 .left,
+    sym (c .before .is-misshapen2 .ensures) ∙ c .if4 .taken,
+  ),
+  λ e. absurd (omega arith),
+)
 
 is-unusable-requires : tie.Need-is-unusable-requires
 is-unusable-requires c κs = search needs
@@ -67,8 +63,7 @@ is-unusable-requires c κs = search needs
 returns-5 : tie.Need-returns-5
 unfolding readingsRow
 returns-5 c =
-    let m = c .before .before .before .before .before .before in
-    (
+    let m = c .before .before .before .before .before .before in (
       rw (
         ne-eqb _ _ (m .before .if1 .left),
         le-ltb _ _ (c .before .before .before .before .before .before .if2 .left),
@@ -85,8 +80,7 @@ is-unusable-requires-2 c κs = search needs
 returns-6 : tie.Need-returns-6
 unfolding readingsRow
 returns-6 c =
-    let m = c .before .before .before .before .before .before in
-    (
+    let m = c .before .before .before .before .before .before in (
       rw (
         ne-eqb _ _ (m .before .before .before .if1 .left),
         le-ltb _ _ (m .before .before .if2 .left),

@@ -19,7 +19,10 @@ returns-3 c = (rw (le-ltb _ _ (c .before .before .if1 .left), le-ltb _ _ (c .bef
 
 returns-4 : tie.Need-returns-4
 unfolding roomRow
-returns-4 c = (rw (le-ltb _ _ (c .before .before .if1 .left), le-ltb _ _ (c .before .if2 .left), le-ltb _ _ (c .if3 .left)), λ e. record { lefts = omega arith; rights = omega arith; gaps = omega arith })
+returns-4 c = (
+  rw (le-ltb _ _ (c .before .before .if1 .left), le-ltb _ _ (c .before .if2 .left), le-ltb _ _ (c .if3 .left)),
+  λ e. record { lefts = omega arith; rights = omega arith; gaps = omega arith },
+)
 
 pub room-row-spec : {M : Type 1} → statement M
 room-row-spec = tie.close (tie.spec returns returns-2 returns-3 returns-4)

@@ -16,11 +16,15 @@ returns-2 c = below-zero (sub binary32 (c .before .before .args .x) (c .before .
 
 returns-3 : tie.Need-returns-3
 unfolding sizeOf
-returns-3 c = at-zero (sub binary32 (c .before .before .before .args .x) (c .before .before .before .args .y)) (sub-fits binary32 (c .before .before .before .args .x) (c .before .before .before .args .y)) (c .if3 .taken)
+returns-3 c =
+    let a = c .before .before .before .args in
+    at-zero (sub binary32 (a .x) (a .y)) (sub-fits binary32 (a .x) (a .y)) (c .if3 .taken)
 
 returns-4 : tie.Need-returns-4
 unfolding sizeOf div ofBits
-returns-4 c = else-not-a-number (sub binary32 (c .before .before .before .args .x) (c .before .before .before .args .y)) (c .before .before .if1 .left) (c .before .if2 .left) (c .if3 .left)
+returns-4 c =
+    let a = c .before .before .before .args in
+    else-not-a-number (sub binary32 (a .x) (a .y)) (c .before .before .if1 .left) (c .before .if2 .left) (c .if3 .left)
 
 pub size-spec : {M : Type 1} → statement M
 size-spec = tie.close (tie.spec returns returns-2 returns-3 returns-4)

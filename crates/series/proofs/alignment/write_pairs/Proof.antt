@@ -203,7 +203,7 @@ loop-again-2 c =
     let hi : L .i < length (a .left-times .now) = omega arith in
     let hj : L .j < length (a .right-times .now) = omega arith in
     let h : a .tolerance < apart (getD (a .left-times .now) (L .i) 0) (getD (a .right-times .now) (L .j) 0) = omega arith in
-    compared-left s (L .left-out) (L .right-out) (L .gaps-out) (L .n) (L .i) (L .j) (L .inv) hi hj h (c .if3 .taken)
+    compared-left s (L .left-out) (L .right-out) (L .gaps-out) (L .n) (L .i) (L .j) (L .inv) hi hj h (omega (arith, c .if3 .taken))
 
 add-j-2 : tie.Need-add-j-2 Inv-loop μ-loop
 add-j-2 c = omega arith
@@ -222,7 +222,7 @@ loop-again-3 c =
     let hi : L .i < length (a .left-times .now) = omega arith in
     let hj : L .j < length (a .right-times .now) = omega arith in
     let h : a .tolerance < apart (getD (a .left-times .now) (L .i) 0) (getD (a .right-times .now) (L .j) 0) = omega arith in
-    compared-right s (L .left-out) (L .right-out) (L .gaps-out) (L .n) (L .i) (L .j) (L .inv) hi hj h (c .if3 .left)
+    compared-right s (L .left-out) (L .right-out) (L .gaps-out) (L .n) (L .i) (L .j) (L .inv) hi hj h (omega (arith, c .if3 .left))
 
 same-length-4 : tie.Need-same-length-4 Inv-loop μ-loop
 same-length-4 c = omega (arith, c .before .loop .inv .leftLength)
