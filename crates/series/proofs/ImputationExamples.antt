@@ -9,7 +9,8 @@ use lib.ListN.{length, getD, replicate}
 use lib.Ieee.{Float, nan, inf, fin, binary32, add, sub, mul, div, ofInt, ofBits}
 use Rattle.series.specs.declared.imputation.ImputationMethod.{ImputationMethod}
 use Rattle.series.specs.declared.imputation.ImputationMethod.the-variants.{FIXED, PREVIOUS, NEXT, LINEAR}
-use Rattle.series.specs.Imputation.{isPresent, lineOf, missingOf, imputedAt, byPlace, imputed, misshapen, knownMarks, isFinite, finitePresent, allFinite, imputeRow, Imputation, imputation, imputeOf, Origin, Agree}
+use Rattle.series.specs.Imputation.{isPresent, lineOf, missingOf, imputedAt, byPlace, imputed}
+use Rattle.series.specs.Imputation.{misshapen, knownMarks, finitePresent, allFinite, imputeRow, Imputation, imputation, imputeOf, Origin, Agree}
 use Rattle.series.proofs.ImputationTheorems.{present-kept, missing-unread, accepted, origin}
 
 -- opens what a call computes by
@@ -17,27 +18,27 @@ all : Unit {0}
 unfolding lineOf missingOf imputedAt byPlace imputed misshapen knownMarks finitePresent allFinite imputeRow imputeOf add sub mul div ofInt ofBits
 all = tt
 
-abbrev n : ℕ → Float
+abbrev pub n : ℕ → Float
 n k = ofInt binary32 (pos k)
 
 -- Five readings of two channels. In the first the readings 1, 2 and 4 are missing, in the second 0, 2 and 3; not-a-numbers stand in them.
-abbrev cells : List Float
+abbrev pub cells : List Float
 cells = n 2 ∷ nan ∷ nan ∷ n 30 ∷ nan ∷ nan ∷ n 8 ∷ nan ∷ nan ∷ n 60 ∷ []
 
-abbrev marks : List ℕ
+abbrev pub marks : List ℕ
 marks = 0 ∷ 1 ∷ 1 ∷ 0 ∷ 1 ∷ 1 ∷ 0 ∷ 1 ∷ 1 ∷ 0 ∷ []
 
-abbrev fixed : List Float
+abbrev pub fixed : List Float
 fixed = n 7 ∷ n 9 ∷ []
 
-abbrev largest : Float
+abbrev pub largest : Float
 largest = ofBits binary32 0x7f7f_ffff
 
-abbrev smallest : Float
+abbrev pub smallest : Float
 smallest = ofBits binary32 0xff7f_ffff
 
 -- the four rules; a channel with one side, and one with none; overflow of b − a; no readings
-given : List Imputation
+pub given : List Imputation
 unfolding all
 given =
     imputeOf FIXED 2 cells marks fixed
@@ -58,12 +59,12 @@ pub samples : given
     ∷ imputation 0 (smallest ∷ inf false ∷ largest ∷ [])
     ∷ imputation 0 []
     ∷ []
-unfolding all
+unfolding all given
 samples = refl
 
 -- Each row, and each before the next: d 0 and d above 16 with nothing else right; cells, marks and fixed values of another shape; 2,001 readings with
 -- a fixed value that is not finite; a mark of 2 likewise; a present cell that is infinite; a fixed value, also with no readings. Nothing is changed.
-refusals : List ℕ
+pub refusals : List ℕ
 unfolding all
 refusals =
     imputeRow 0 (nan ∷ []) (2 ∷ []) []
@@ -80,7 +81,7 @@ refusals =
     ∷ []
 
 pub rows : refusals ≡ 2 ∷ 4 ∷ 4 ∷ 10 ∷ 10 ∷ 10 ∷ 10 ∷ 21 ∷ 11 ∷ 11 ∷ 11 ∷ []
-unfolding all
+unfolding all refusals
 rows = refl
 
 pub unchanged : imputeOf LINEAR 1 (n 1 ∷ nan ∷ []) (0 ∷ 2 ∷ []) (n 3 ∷ []) ≡ imputation 21 (n 1 ∷ nan ∷ [])
@@ -98,13 +99,13 @@ pub kept-60 : getD (imputeOf LINEAR 2 cells marks fixed .cells) 9 nan ≡ n 60
 kept-60 = present-kept LINEAR 2 cells marks fixed 9 (omega arith) refl
 
 -- 5 where a not-a-number stood, in a cell that is missing
-abbrev gap : List Float
+abbrev pub gap : List Float
 gap = n 2 ∷ nan ∷ n 8 ∷ []
 
-abbrev other : List Float
+abbrev pub other : List Float
 other = n 2 ∷ n 5 ∷ n 8 ∷ []
 
-abbrev between : List ℕ
+abbrev pub between : List ℕ
 between = 0 ∷ 1 ∷ 0 ∷ []
 
 agreeing : Agree between gap other

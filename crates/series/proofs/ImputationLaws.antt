@@ -19,7 +19,8 @@ use Rattle.series.specs.declared.imputation.Channel.{Channel}
 use Rattle.series.specs.declared.imputation.Gap.{Gap}
 use Rattle.series.specs.Imputation.{isPresent, nearestBefore, nearestFrom, fillOf, presentIn, cellIn, missingOf, imputedAt, byPlace, imputed}
 use Rattle.series.specs.Steps.ImputationSteps.{Under, Above, inside, gapAt, gapOf, gapFrom, Passed, passing, passedOf, channel, doneAt, channelOf, belowAt}
-use Rattle.series.proofs.ImputationLists.{cond-same, cond-on, cond-off, length-byPlace, getD-byPlace, is-byPlace, place-channel, place-reading, place-below, place-of, inside-yes, inside-off, inside-low, inside-high}
+use Rattle.series.proofs.ImputationLists.{cond-same, cond-on, cond-off, length-byPlace, getD-byPlace, is-byPlace}
+use Rattle.series.proofs.ImputationLists.{place-channel, place-reading, place-below, place-of, inside-yes, inside-off, inside-low, inside-high}
 
 -- ---- before and after
 
@@ -50,6 +51,7 @@ inside-more d c s j k h = by-channel (eqb (k % d) c) refl
     by-low e g false t =
         let l : s ≤ k / d = ltb-false (k / d) s t in
         inside-yes d c s (j + 1) k e l (omega arith) ∙ sym (inside-yes d c s j k e l g)
+
     by-high : k % d ≡ c → (b : Bool) → ltb (k / d) j ≡ b → inside d c s (j + 1) k ≡ inside d c s j k
     by-high e true t = by-low e (ltb-true (k / d) j t) (ltb (k / d) s) refl
     by-high e false t =
@@ -57,6 +59,7 @@ inside-more d c s j k h = by-channel (eqb (k % d) c) refl
         let n : k / d ≡ j → ⊥ = λ q. h (sym (place-of d c k e) ∙ ap (λ (x : ℕ). x * d + c) q) in
         let m : j + 1 ≤ k / d = omega arith in
         inside-high d c s (j + 1) k m ∙ sym (inside-high d c s j k l)
+
     by-channel : (b : Bool) → eqb (k % d) c ≡ b → inside d c s (j + 1) k ≡ inside d c s j k
     by-channel true t = by-high (eqb-true (k % d) c t) (ltb (k / d) j) refl
     by-channel false t = inside-off d c s (j + 1) k (eqb-false (k % d) c t) ∙ sym (inside-off d c s j k (eqb-false (k % d) c t))
@@ -99,10 +102,13 @@ gap-more ch gap j after l m y hc hs hp ey em =
   where
     p : ℕ
     p = j * ch .d + ch .c
+
     same : length m ≡ length l
     same = ap length em ∙ length-byPlace (gapAt ch gap j after) l
+
     reading : p / ch .d ≡ j
     reading = place-reading (ch .d) (ch .c) j hc
+
     at : (k : ℕ) → k < length l → (b : Bool) → eqb k p ≡ b → getD (set m p y) k nan ≡ gapAt ch gap (j + 1) after k (getD l k nan)
     at k h true t =
         let e : k ≡ p = eqb-true k p t in
@@ -178,7 +184,7 @@ missing-same m d l k marks f c i e h =
     let w = cellIn d k c in
     let b = nearestBefore-same p v w h i in
     let a : nearestFrom p v (length l / d - suc i) (suc i) ≡ nearestFrom p w (length k / d - suc i) (suc i) =
-        nearestFrom-same p v w h (length l / d - suc i) (suc i) ∙ ap (λ (n : ℕ). nearestFrom p w (n / d - suc i) (suc i)) e in
+    nearestFrom-same p v w h (length l / d - suc i) (suc i) ∙ ap (λ (n : ℕ). nearestFrom p w (n / d - suc i) (suc i)) e in
     λ t. fillOf m (b t) (a t) i f
 
 -- ---- a reading passed
@@ -220,7 +226,7 @@ walked-start ch marks l =
       missing = λ (r : ℕ) (a : 0 ≤ r) (b : r < 0). absurd (omega arith);
       before = refl;
       cells = is-byPlace (doneAt ch marks l 0) l l refl
-          (λ (k : ℕ) (h : k < length l). sym (done-out ch marks l 0 k (getD l k nan) (inside-none (ch .d) (ch .c) 0 k)))
+          (λ (k : ℕ) (h : k < length l). sym (done-out ch marks l 0 k (getD l k nan) (inside-none (ch .d) (ch .c) 0 k)));
     }
 
 -- what fills a reading of the gap is what its definition says
@@ -235,10 +241,10 @@ gap-value ch marks l i gap now after r W hi ea low high =
     let v = cellIn (ch .d) l (ch .c) in
     let n = length l / ch .d in
     let b : gap .before ≡ nearestBefore p v r =
-        W .before ∙ sym (nearestBefore-gap p v (gap .start) r low (λ (q : ℕ) (x : gap .start ≤ q) (y : q < r). W .missing q x (omega arith))) in
+    W .before ∙ sym (nearestBefore-gap p v (gap .start) r low (λ (q : ℕ) (x : gap .start ≤ q) (y : q < r). W .missing q x (omega arith))) in
     let a : after ≡ nearestFrom p v (n - suc r) (suc r) =
-        ea ∙ sym (nearestFrom-gap p v (i - suc r) (n - suc r) (n - i) (suc r) i (omega arith) (omega arith)
-        (λ (q : ℕ) (x : suc r ≤ q) (y : q < i). W .missing q (omega arith) y)) in
+    ea ∙ sym (nearestFrom-gap p v (i - suc r) (n - suc r) (n - i) (suc r) i (omega arith) (omega arith)
+    (λ (q : ℕ) (x : suc r ≤ q) (y : q < i). W .missing q (omega arith) y)) in
     λ t. fillOf (ch .method) (b t) (a t) r (ch .fixed)
 
 module _ (ch : Channel) (marks : List ℕ) (l : List Float) (hc : ch .c < ch .d) where
@@ -252,13 +258,16 @@ module _ (ch : Channel) (marks : List ℕ) (l : List Float) (hc : ch .c < ch .d)
     where
       same : length now ≡ length l
       same = ap length (W .cells) ∙ length-byPlace (doneAt ch marks l (gap .start)) l
+
       here : (k : ℕ) → k < length l
           → getD (gapOf ch gap i after now) k nan ≡ gapAt ch gap i after k (doneAt ch marks l (gap .start) k (getD l k nan))
       here k h =
           getD-byPlace (gapAt ch gap i after) now k (omega (arith, same))
           ∙ ap (gapAt ch gap i after k) (ap (λ (z : List Float). getD z k nan) (W .cells) ∙ getD-byPlace (doneAt ch marks l (gap .start)) l k h)
+
       Goal : ℕ → Type 0
       Goal k = gapAt ch gap i after k (doneAt ch marks l (gap .start) k (getD l k nan)) ≡ doneAt ch marks l i k (getD l k nan)
+
       -- neither in the gap nor before it
       out : (k : ℕ) → inside (ch .d) (ch .c) (gap .start) i k ≡ false → inside (ch .d) (ch .c) 0 (gap .start) k ≡ false
           → inside (ch .d) (ch .c) 0 i k ≡ false → Goal k
@@ -266,15 +275,17 @@ module _ (ch : Channel) (marks : List ℕ) (l : List Float) (hc : ch .c < ch .d)
           gap-out ch gap i after k (doneAt ch marks l (gap .start) k (getD l k nan)) a
           ∙ done-out ch marks l (gap .start) k (getD l k nan) b
           ∙ sym (done-out ch marks l i k (getD l k nan) e)
+
       -- in the gap
       in-gap : (k : ℕ) → k % ch .d ≡ ch .c → gap .start ≤ k / ch .d → k / ch .d < i → Goal k
       in-gap k e low high =
           let absent : isPresent (getD marks k 0) ≡ false =
-              ap (λ (z : ℕ). isPresent (getD marks z 0)) (sym (place-of (ch .d) (ch .c) k e)) ∙ W .missing (k / ch .d) low high in
+          ap (λ (z : ℕ). isPresent (getD marks z 0)) (sym (place-of (ch .d) (ch .c) k e)) ∙ W .missing (k / ch .d) low high in
           gap-in ch gap i after k (doneAt ch marks l (gap .start) k (getD l k nan)) (inside-yes (ch .d) (ch .c) (gap .start) i k e low high)
           ∙ gap-value ch marks l i gap now after (k / ch .d) W hi ea low high
           ∙ sym (cond-off (getD l k nan) (missingOf (ch .method) (ch .d) l marks (ch .fixed) (ch .c) (k / ch .d)) (isPresent (getD marks k 0)) absent)
           ∙ sym (done-in ch marks l i k (getD l k nan) (inside-yes (ch .d) (ch .c) 0 i k e (omega arith) high))
+
       -- before the gap
       before : (k : ℕ) → k % ch .d ≡ ch .c → k / ch .d < gap .start → Goal k
       before k e low =
@@ -282,14 +293,17 @@ module _ (ch : Channel) (marks : List ℕ) (l : List Float) (hc : ch .c < ch .d)
           gap-out ch gap i after k (doneAt ch marks l (gap .start) k (getD l k nan)) (inside-low (ch .d) (ch .c) (gap .start) i k low)
           ∙ done-in ch marks l (gap .start) k (getD l k nan) (inside-yes (ch .d) (ch .c) 0 (gap .start) k e (omega arith) low)
           ∙ sym (done-in ch marks l i k (getD l k nan) (inside-yes (ch .d) (ch .c) 0 i k e (omega arith) (omega arith)))
+
       by-end : (k : ℕ) → k % ch .d ≡ ch .c → gap .start ≤ k / ch .d → (b : Bool) → ltb (k / ch .d) i ≡ b → Goal k
       by-end k e low true t = in-gap k e low (ltb-true (k / ch .d) i t)
       by-end k e low false t =
           let high : i ≤ k / ch .d = ltb-false (k / ch .d) i t in
           out k (inside-high (ch .d) (ch .c) (gap .start) i k high) (inside-high (ch .d) (ch .c) 0 (gap .start) k low) (inside-high (ch .d) (ch .c) 0 i k high)
+
       by-start : (k : ℕ) → k % ch .d ≡ ch .c → (b : Bool) → ltb (k / ch .d) (gap .start) ≡ b → Goal k
       by-start k e true t = before k e (ltb-true (k / ch .d) (gap .start) t)
       by-start k e false t = by-end k e (ltb-false (k / ch .d) (gap .start) t) (ltb (k / ch .d) i) refl
+
       at : (k : ℕ) → k < length l → (b : Bool) → eqb (k % ch .d) (ch .c) ≡ b → Goal k
       at k h true t = by-start k (eqb-true (k % ch .d) (ch .c) t) (ltb (k / ch .d) (gap .start)) refl
       at k h false t =
@@ -304,6 +318,7 @@ module _ (ch : Channel) (marks : List ℕ) (l : List Float) (hc : ch .c < ch .d)
     where
       p : ℕ
       p = i * ch .d + ch .c
+
       at : (k : ℕ) → (b : Bool) → eqb k p ≡ b → doneAt ch marks l i k (getD l k nan) ≡ doneAt ch marks l (i + 1) k (getD l k nan)
       at k true t =
           let q : k ≡ p = eqb-true k p t in
@@ -335,13 +350,13 @@ module _ (ch : Channel) (marks : List ℕ) (l : List Float) (hc : ch .c < ch .d)
       let x = still i gap now W hp in
       let n : length l / ch .d - i ≡ suc (length l / ch .d - suc i) = omega arith in
       let after : At i (getD now (i * ch .d + ch .c) nan) ≡ nearestFrom p v (length l / ch .d - i) i =
-          ap (At i) x
-          ∙ sym (ap (λ (z : ℕ). nearestFrom p v z i) n ∙ cond-on (At i (v i)) (nearestFrom p v (length l / ch .d - suc i) (suc i)) (p i) e) in
+      ap (At i) x
+      ∙ sym (ap (λ (z : ℕ). nearestFrom p v z i) n ∙ cond-on (At i (v i)) (nearestFrom p v (length l / ch .d - suc i) (suc i)) (p i) e) in
       record {
         start = omega arith;
         missing = λ (r : ℕ) (a : i + 1 ≤ r) (b : r < i + 1). absurd (omega arith);
         before = ap (At i) x ∙ sym (ap (nearestBefore p v) (add-one i) ∙ cond-on (At i (v i)) (nearestBefore p v i) (p i) e);
-        cells = closed i gap now (At i (getD now (i * ch .d + ch .c) nan)) W (omega arith) after ∙ done-more i e
+        cells = closed i gap now (At i (getD now (i * ch .d + ch .c) nan)) W (omega arith) after ∙ done-more i e;
       }
 
   missing-next : (i : ℕ) (gap : Gap) (now : List Float) → Walked ch marks l i gap now → presentIn (ch .d) marks (ch .c) i ≡ false
@@ -352,7 +367,7 @@ module _ (ch : Channel) (marks : List ℕ) (l : List Float) (hc : ch .c < ch .d)
         start = omega arith;
         missing = λ (r : ℕ) (a : gap .start ≤ r) (b : r < i + 1). by r a b (ltb r i) refl;
         before = W .before;
-        cells = W .cells
+        cells = W .cells;
       }
     where
       by : (r : ℕ) → gap .start ≤ r → r < i + 1 → (t : Bool) → ltb r i ≡ t → presentIn (ch .d) marks (ch .c) r ≡ false
@@ -372,12 +387,12 @@ module _ (ch : Channel) (marks : List ℕ) (l : List Float) (hc : ch .c < ch .d)
       by true t =
           let x = At i (getD now (i * ch .d + ch .c) nan) in
           let q : passing gap′ now′ ≡ passing (gapFrom (i + 1) x) (gapOf ch gap i x now) =
-              e ∙ cond-on (passing (gapFrom (i + 1) x) (gapOf ch gap i x now)) (passing gap now) (presentIn (ch .d) marks (ch .c) i) t in
+          e ∙ cond-on (passing (gapFrom (i + 1) x) (gapOf ch gap i x now)) (passing gap now) (presentIn (ch .d) marks (ch .c) i) t in
           subst (λ (z : Passed). Walked ch marks l (i + 1) (z .gap) (z .cells)) (sym q) (present-next i gap now W hi hp t)
       by false t =
           let x = At i (getD now (i * ch .d + ch .c) nan) in
           let q : passing gap′ now′ ≡ passing gap now =
-              e ∙ cond-off (passing (gapFrom (i + 1) x) (gapOf ch gap i x now)) (passing gap now) (presentIn (ch .d) marks (ch .c) i) t in
+          e ∙ cond-off (passing (gapFrom (i + 1) x) (gapOf ch gap i x now)) (passing gap now) (presentIn (ch .d) marks (ch .c) i) t in
           subst (λ (z : Passed). Walked ch marks l (i + 1) (z .gap) (z .cells)) (sym q) (missing-next i gap now W t)
 
   -- and its end: behind the last reading there is no present cell
@@ -438,6 +453,7 @@ module _ (m : ImputationMethod) (d : ℕ) (l : List Float) (marks : List ℕ) (f
       where
         p : ℕ
         p = r * d + c
+
         by : (b : Bool) → ltb p (length l) ≡ b → getD now p nan ≡ getD l p nan
         by true t =
             below-at p (ltb-true p (length l) t)
@@ -478,6 +494,7 @@ module _ (m : ImputationMethod) (d : ℕ) (l : List Float) (marks : List ℕ) (f
       where
         x : Float
         x = getD l k nan
+
         by : (b : Bool) → ltb (k % d) c ≡ b → belowAt m d l marks fixed c k x ≡ belowAt m d l marks fixed (c + 1) k x
         by true t =
             let g : k % d < c = ltb-true (k % d) c t in
@@ -495,6 +512,7 @@ module _ (m : ImputationMethod) (d : ℕ) (l : List Float) (marks : List ℕ) (f
       where
         ch : Channel
         ch = channel m d c (getD fixed c nan)
+
         at : (k : ℕ) → k < length l → (b : Bool) → eqb (k % d) c ≡ b
             → doneAt ch marks now (length now / d) k (getD now k nan) ≡ belowAt m d l marks fixed (c + 1) k (getD l k nan)
         at k h true t = on-channel k h (eqb-true (k % d) c t)

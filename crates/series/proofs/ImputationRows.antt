@@ -87,7 +87,7 @@ shaped d cells marks fixed some narrow e =
       narrow = narrow;
       whole = omega (arith, div-add-mod' cells d);
       marked = eqb-true marks cells (not-false (eqb marks cells) (k .0));
-      fixes = eqb-true fixed d (not-false (eqb fixed d) (k .1))
+      fixes = eqb-true fixed d (not-false (eqb fixed d) (k .1));
     }
 
 -- ---- how a call answers: by the number of its refusal, 0 for none
@@ -109,7 +109,3 @@ module _ (d : ℕ) (cells : List Float) (marks : List ℕ) (fixed : List Float) 
   unfolding imputeRow
   row-as ea eb ec er em ep ef =
       λ t. firstOf ((ea t, 2) ∷ (eb t, 4) ∷ (ec t, 10) ∷ (er t || not (em t), 21) ∷ (not (ep t && ef t), 11) ∷ [])
-
-both-off : (p : Bool) → p && false ≡ false
-both-off true = refl
-both-off false = refl

@@ -84,12 +84,12 @@ row-same d marks fixed cells others A =
     let f = finite-same marks cells others (A .long) (A .same) in
     let n = A .long in
     λ t. firstOf (
-      (eqb d 0, 2)
-      ∷ (ltb 16 d, 4)
-      ∷ (misshapen d (n t) (length marks) (length fixed), 10)
-      ∷ (ltb 2000 (n t / d) || not (knownMarks marks), 21)
-      ∷ (not (f t && allFinite fixed), 11)
-      ∷ [])
+    (eqb d 0, 2)
+    ∷ (ltb 16 d, 4)
+    ∷ (misshapen d (n t) (length marks) (length fixed), 10)
+    ∷ (ltb 2000 (n t / d) || not (knownMarks marks), 21)
+    ∷ (not (f t && allFinite fixed), 11)
+    ∷ [])
 
 imputed-same : (m : ImputationMethod) (d : ℕ) (marks : List ℕ) (fixed cells others : List Float) → Agree marks cells others
     → imputed m d cells marks fixed ≡ imputed m d others marks fixed
@@ -230,14 +230,19 @@ origin m d cells marks fixed hd whole k h =
   where
     f : Float
     f = getD fixed (k % d) nan
+
     c : ℕ
     c = k % d
+
     i : ℕ
     i = k / d
+
     high : i < length cells / d
     high = div-lt-iff-lt-mul hd .1 (omega (arith, whole))
+
     place : i * d + c ≡ k
     place = place-of d c k refl
+
     by : (b : Bool) → isPresent (getD marks k 0) ≡ b → Origin d cells marks f c i (cond b (getD cells k nan) (missingOf m d cells marks f c i))
     by true t =
         subst (λ (z : ℕ). Origin d cells marks f c i (getD cells z nan)) place

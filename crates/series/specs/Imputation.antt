@@ -113,12 +113,12 @@ allFinite (x ∷ xs) = isFinite x && allFinite xs
 unfoldable pub imputeRow : ℕ → List Float → List ℕ → List Float → ℕ
 imputeRow d cells marks fixed =
     firstOf (
-      (eqb d 0, 2)
-      ∷ (ltb 16 d, 4)
-      ∷ (misshapen d (length cells) (length marks) (length fixed), 10)
-      ∷ (ltb 2000 (length cells / d) || not (knownMarks marks), 21)
-      ∷ (not (finitePresent cells marks && allFinite fixed), 11)
-      ∷ [])
+    (eqb d 0, 2)
+    ∷ (ltb 16 d, 4)
+    ∷ (misshapen d (length cells) (length marks) (length fixed), 10)
+    ∷ (ltb 2000 (length cells / d) || not (knownMarks marks), 21)
+    ∷ (not (finitePresent cells marks && allFinite fixed), 11)
+    ∷ [])
 
 -- ---- the call: its row, 0 for none, and what the lent cells are left as
 

@@ -9,6 +9,7 @@ ghost use Rattle.series.specs.Steps.ImputationSteps.{Under, Above, Place
 
 // The most channels, and the most readings of one call.
 const DIMENSIONS_LIMIT: u64 = 16;
+
 const READINGS_LIMIT: usize = 2_000;
 
 // The source's USE_RCF is dropped with the forests.

@@ -1,26 +1,25 @@
+-- `imputation::between` meets its contract: by which sides there are. Assumes nothing.
 use borrow.Author.Needs.{needs}
 use native.Mathlib.Omega.{arith}
 use Rattle.series.proofs.ImputationLaws.{under-at, above-at}
 use Rattle.series.proofs.imputation.between.Statement.{statement}
 use Rattle.series.proofs.imputation.between.Tie as tie
-use Rattle.series.proofs.imputation.between.Reads as reads
-use Rattle.series.proofs.imputation.between.Lts as lts
-use Rattle.series.proofs.imputation.copied.Reads as copied-reads
-use Rattle.series.proofs.imputation.line.Reads as line-reads
 
--- src/imputation.rt:61:21
 enum-known-before : tie.Need-enum-known-before
 enum-known-before c = search needs
 
--- src/imputation.rt:62:25
 enum-known-after : tie.Need-enum-known-after
 enum-known-after c = search needs
 
--- src/imputation.rt:62:45
 sub-line : tie.Need-sub-line
-sub-line c = under-at _ (c .before .before .before .before .before2 .given .1) (c .before .before .before .before .before .before .pre .0)
+sub-line c =
+    let s = c .before .before .before .before .before .before in
+    omega (
+      arith,
+      under-at _ (c .before .before .before .before .before2 .given .1) (s .pre .0),
+      above-at _ (c .before .after .given .1) (s .pre .1),
+    )
 
--- src/imputation.rt:62:52
 sub-line-2 : tie.Need-sub-line-2
 sub-line-2 c =
     omega (
@@ -29,31 +28,24 @@ sub-line-2 c =
       above-at _ (c .before .after .given .1) (c .before .before .before .before .before .before .pre .1),
     )
 
--- src/imputation.rt:62:34
 line-requires : tie.Need-line-requires
 line-requires c κs = search needs
 
--- src/imputation.rt:63:33
 enum-told : tie.Need-enum-told
 enum-told c = search needs
 
--- src/imputation.rt:65:29
 enum-told-2 : tie.Need-enum-told-2
 enum-told-2 c = search needs
 
--- src/imputation.rt:65:29
 copied-requires : tie.Need-copied-requires
 copied-requires c κs = search needs
 
--- src/imputation.rt:56:1
 returns : tie.Need-returns
 returns c = rw (c .before .before .before .before .before .before2 .given .1, c .before .before .after .given .1, c .line .ensures)
 
--- src/imputation.rt:56:1
 returns-2 : tie.Need-returns-2
 returns-2 c = search needs
 
--- src/imputation.rt:56:1
 returns-3 : tie.Need-returns-3
 returns-3 c = rw (c .before .enum-told2 .given .1, c .copied .ensures)
 

@@ -8,9 +8,6 @@ use Rattle.series.proofs.ImputationLists.{place-below}
 use Rattle.series.proofs.ImputationLaws.{under-more, above-less, gap-start, gap-more}
 use Rattle.series.proofs.imputation.fill_gap.Statement.{statement}
 use Rattle.series.proofs.imputation.fill_gap.Tie as tie
-use Rattle.series.proofs.imputation.fill_gap.Reads as reads
-use Rattle.series.proofs.imputation.fill_gap.Lts as lts
-use Rattle.series.proofs.imputation.filled.Reads as filled-reads
 
 abbrev Inv-loop : tie.InvT-loop
 Inv-loop end after cells₀ method d c fixed before j₀ cells j =
@@ -27,9 +24,10 @@ loop-holds c =
 filled-requires : tie.Need-filled-requires Inv-loop μ-loop
 filled-requires c κs =
     let s = c .before .before .before in
-    let j = c .before .loop .j in
-    (under-more (s .args .gap .before) (s .args .gap .start) j (s .pre .1 .1) (c .before .loop .inv .0),
-    above-less (s .args .after) j (s .args .end) (s .pre .1 .2) (c .before .loop .inv .1))
+    let j = c .before .loop .j in (
+      under-more (s .args .gap .before) (s .args .gap .start) j (s .pre .1 .1) (c .before .loop .inv .0),
+      above-less (s .args .after) j (s .args .end) (s .pre .1 .2) (c .before .loop .inv .1),
+    )
 
 place : (d c j end n : ℕ) → c < d → j < end → end * d ≤ n → j * d + c < n
 place d c j end n h k r = place-below d c j h end n k r
@@ -53,7 +51,7 @@ mul-cells-2 c =
     omega (arith, place (s .args .ch .d) (s .args .ch .c) j (s .args .end) (length (s .args .cells .now)) (s .pre .0 .channel) (c .before .loop-test .taken) (s .pre .0 .room))
 
 slice-write-cells : tie.Need-slice-write-cells Inv-loop μ-loop
-slice-write-cells c = 
+slice-write-cells c =
     let s = c .before .before .before .before in
     let j = c .before .before .loop .j in
     omega (arith, place (s .args .ch .d) (s .args .ch .c) j (s .args .end) (length (s .args .cells .now)) (s .pre .0 .channel) (c .before .loop-test .taken) (s .pre .0 .room))

@@ -1,52 +1,38 @@
+-- `imputation::filled` meets its contract: each arm is the definition's case. Assumes nothing.
 use borrow.Author.Needs.{needs}
 use Rattle.series.proofs.imputation.filled.Statement.{statement}
 use Rattle.series.proofs.imputation.filled.Tie as tie
-use Rattle.series.proofs.imputation.filled.Reads as reads
-use Rattle.series.proofs.imputation.filled.Lts as lts
-use Rattle.series.proofs.imputation.between.Reads as between-reads
-use Rattle.series.proofs.imputation.copied.Reads as copied-reads
 
--- src/imputation.rt:74:36
 enum-told : tie.Need-enum-told
 enum-told c = search needs
 
--- src/imputation.rt:75:39
 enum-told-2 : tie.Need-enum-told-2
 enum-told-2 c = search needs
 
--- src/imputation.rt:75:39
 copied-requires : tie.Need-copied-requires
 copied-requires c κs = search needs
 
--- src/imputation.rt:76:35
 enum-told-3 : tie.Need-enum-told-3
 enum-told-3 c = search needs
 
--- src/imputation.rt:76:35
 copied-requires-2 : tie.Need-copied-requires-2
 copied-requires-2 c κs = search needs
 
--- src/imputation.rt:77:37
 enum-told-4 : tie.Need-enum-told-4
 enum-told-4 c = search needs
 
--- src/imputation.rt:77:37
 between-requires : tie.Need-between-requires
 between-requires c κs = search needs
 
--- src/imputation.rt:69:1
 returns : tie.Need-returns
 returns c = search needs
 
--- src/imputation.rt:69:1
 returns-2 : tie.Need-returns-2
 returns-2 c = rw (c .before .enum-told2 .given .1, c .copied .ensures)
 
--- src/imputation.rt:69:1
 returns-3 : tie.Need-returns-3
 returns-3 c = rw (c .before .enum-told3 .given .1, c .copied2 .ensures)
 
--- src/imputation.rt:69:1
 returns-4 : tie.Need-returns-4
 returns-4 c = rw (c .before .enum-told4 .given .1, c .between .ensures)
 

@@ -5,8 +5,6 @@ use Rattle.series.specs.Imputation.{imputed, imputeRow, imputeOf}
 use Rattle.series.proofs.ImputationRows.{refused, done}
 use Rattle.series.proofs.imputation.impute.Statement.{statement}
 use Rattle.series.proofs.imputation.impute.Tie as tie
-use Rattle.series.proofs.imputation.impute.Reads as reads
-use Rattle.series.proofs.imputation.impute.Lts as lts
 
 impute-row-requires : tie.Need-impute-row-requires
 impute-row-requires c κs = search needs

@@ -9,10 +9,6 @@ use Rattle.series.proofs.ImputationLists.{place-below}
 use Rattle.series.proofs.ImputationLaws.{Walked, walked-start, walked-more, walked-end, walked-under, walked-length}
 use Rattle.series.proofs.imputation.impute_channel.Statement.{statement}
 use Rattle.series.proofs.imputation.impute_channel.Tie as tie
-use Rattle.series.proofs.imputation.impute_channel.Reads as reads
-use Rattle.series.proofs.imputation.impute_channel.Lts as lts
-use Rattle.series.proofs.imputation.fill_gap.Reads as fill-gap-reads
-use Rattle.series.proofs.imputation.passed.Reads as passed-reads
 
 abbrev Inv-loop : tie.InvT-loop
 Inv-loop ch cells₀ marks n gap₀ i₀ cells gap i =
@@ -41,7 +37,8 @@ passed-requires c κs =
 
 add-i : tie.Need-add-i Inv-loop μ-loop
 add-i c =
-    let a = c .before .before .before .before .before .before .before .before .before .args in
+    let u = c .before .before .before .before .before in
+    let a = u .before .before .before .before .args in
     omega (arith, div-le-self (length (a .cells .now)) (a .ch .d))
 
 loop-less : tie.Need-loop-less Inv-loop μ-loop
@@ -49,11 +46,16 @@ loop-less c = omega arith
 
 loop-again : tie.Need-loop-again Inv-loop μ-loop
 loop-again c =
-    let s = c .before .before .before .before .before .before .before .before .before in
+    let u = c .before .before .before .before .before in
+    let s = u .before .before .before .before in
     let L = c .before .before .before .before .before .loop in
     let a = s .args in
-    let in-list = place-below (a .ch .d) (a .ch .c) (L .i) (s .pre .0) (length (a .cells .now) / a .ch .d) (length (a .cells .now)) (c .before .before .before .before .loop-test .taken) (omega (arith, s .pre .2)) in
-    let W = walked-more (a .ch) (a .marks .now) (a .cells .now) (s .pre .0) (L .i) (L .gap) (c .before .before .passed .result) (L .cells) _ (L .inv .2) (c .before .before .before .before .loop-test .taken) in-list (c .before .before .passed .ensures) in
+    let n = length (a .cells .now) in
+    let below = c .before .before .before .before .loop-test .taken in
+    let in-list = place-below (a .ch .d) (a .ch .c) (L .i) (s .pre .0) (n / a .ch .d) n below (omega (arith, s .pre .2)) in
+    let W =
+        walked-more (a .ch) (a .marks .now) (a .cells .now) (s .pre .0) (L .i) (L .gap) (c .before .before .passed .result) (L .cells) _
+        (L .inv .2) below in-list (c .before .before .passed .ensures) in
     (omega arith, walked-length W, W)
 
 fill-gap-requires : tie.Need-fill-gap-requires Inv-loop μ-loop
@@ -68,7 +70,8 @@ same-length c = omega arith
 
 returns : tie.Need-returns Inv-loop μ-loop
 returns c =
-    let s = c .before .before .before .before .before .before .before .before .before in
+    let u = c .before .before .before .before .before in
+    let s = u .before .before .before .before in
     let L = c .before .before .before .before .before .loop in
     let a = s .args in
     let e : L .i ≡ length (a .cells .now) / a .ch .d = omega arith in

@@ -10,9 +10,6 @@ use Rattle.series.proofs.ImputationLists.{length-byPlace}
 use Rattle.series.proofs.ImputationLaws.{below-start, below-more, below-end}
 use Rattle.series.proofs.imputation.impute_channels.Statement.{statement}
 use Rattle.series.proofs.imputation.impute_channels.Tie as tie
-use Rattle.series.proofs.imputation.impute_channels.Reads as reads
-use Rattle.series.proofs.imputation.impute_channels.Lts as lts
-use Rattle.series.proofs.imputation.impute_channel.Reads as impute-channel-reads
 
 abbrev Inv-loop : tie.InvT-loop
 Inv-loop method d cells₀ marks fixed c₀ cells c =
@@ -36,9 +33,11 @@ shared-slice-read-t11 c = omega (arith, c .before .before .before .before .befor
 impute-channel-requires : tie.Need-impute-channel-requires Inv-loop μ-loop
 impute-channel-requires c κs =
     let s = c .before .before .before .before .before .before .before in
-    let L = c .before .before .before .loop in
-    (c .before .before .loop-test .taken, s .pre .marked ∙ sym (L .inv .1),
-    ap (λ (n : ℕ). n / s .args .d * s .args .d) (L .inv .1) ∙ s .pre .whole ∙ sym (L .inv .1))
+    let L = c .before .before .before .loop in (
+      c .before .before .loop-test .taken,
+      s .pre .marked ∙ sym (L .inv .1),
+      ap (λ (n : ℕ). n / s .args .d * s .args .d) (L .inv .1) ∙ s .pre .whole ∙ sym (L .inv .1),
+    )
 
 add-c : tie.Need-add-c Inv-loop μ-loop
 add-c c = omega arith
@@ -48,12 +47,13 @@ loop-less c = omega arith
 
 loop-again : tie.Need-loop-again Inv-loop μ-loop
 loop-again c =
-    let s = c .before .before .before .before .before .before .before .before .before .before in
+    let u = c .before .before .before .before .before .before in
+    let s = u .before .before .before .before in
     let L = c .before .before .before .before .before .before .loop in
     let a = s .args in
     let e = c .before .before .impute-channel .ensures
-        ∙ below-more (a .method) (a .d) (a .cells .now) (a .marks .now) (a .fixed .now) (s .pre .some) (s .pre .whole) (L .c)
-        (c .before .before .before .before .before .loop-test .taken) (L .cells) (L .inv .2) in
+    ∙ below-more (a .method) (a .d) (a .cells .now) (a .marks .now) (a .fixed .now) (s .pre .some) (s .pre .whole) (L .c)
+    (c .before .before .before .before .before .loop-test .taken) (L .cells) (L .inv .2) in
     (omega arith, ap length e ∙ length-byPlace (belowAt (a .method) (a .d) (a .cells .now) (a .marks .now) (a .fixed .now) (L .c + 1)) (a .cells .now), e)
 
 same-length : tie.Need-same-length Inv-loop μ-loop

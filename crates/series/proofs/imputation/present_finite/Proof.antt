@@ -49,9 +49,10 @@ loop-again : tie.Need-loop-again Inv-loop μ-loop
 loop-again c =
     let L = c .before .before .before .before .before .loop in
     let s = c .before .before .before .before .before .before .before .before in
-    let h : L .i < length (s .args .cells .now) = omega arith in
-    (omega arith,
-    L .inv .1 ∙ present-at (s .args .cells .now) (s .args .marks .now) (L .i) true h (s .pre) (sym (c .before .fits-mark .ensures) ∙ not-false _ (c .if1 .left)))
+    let h : L .i < length (s .args .cells .now) = omega arith in (
+      omega arith,
+      L .inv .1 ∙ present-at (s .args .cells .now) (s .args .marks .now) (L .i) true h (s .pre) (sym (c .before .fits-mark .ensures) ∙ not-false _ (c .if1 .left)),
+    )
 
 returns-2 : tie.Need-returns-2 Inv-loop μ-loop
 returns-2 c =
