@@ -13,9 +13,17 @@ use Rattle.series.specs.Alignment.{answer, readings, outputs, unusable, rowOf, 
 use Rattle.capi.specs.Counts.{strandingsAt}
 use Rattle.capi.specs.Lists.{imputeAt, alignAt}
 
-all : Unit {0}
-unfolding strandingsAt strandingsOf outOfRange counts countsBy afterDrain afterLearn imputeAt imputeOf imputeRow misshapen knownMarks finitePresent allFinite imputed byPlace imputedAt missingOf lineOf alignAt alignOf rowOf unlike unusable pairs turn near written over gaps sizes sizeOf absolute largest larger ofBits add sub mul div ofInt lt
-all = tt
+counting : Unit {0}
+unfolding strandingsAt strandingsOf outOfRange counts countsBy afterDrain afterLearn
+counting = tt
+
+filling : Unit {0}
+unfolding imputeAt imputeOf imputeRow misshapen knownMarks finitePresent allFinite imputed byPlace imputedAt missingOf lineOf ofBits add sub mul div ofInt
+filling = tt
+
+comparing : Unit {0}
+unfolding alignAt alignOf rowOf unlike unusable pairs turn near written over gaps sizes sizeOf absolute largest larger ofBits sub lt
+comparing = tt
 
 -- 2.0, 4.0, 6.0 and 9.0
 abbrev two : Float
@@ -32,11 +40,11 @@ nine = ofBits binary32 0x4110_0000
 
 -- "For n 2 and s 1 they are 6, 2 and 1"; refused, the lent numbers stay
 example-strandings : strandingsAt 1 2 7 8 9 ≡ counted 0 6 2 1
-unfolding all
+unfolding counting
 example-strandings = refl
 
 example-strandings-refused : strandingsAt 4294967297 2 7 8 9 ≡ counted 25 7 8 9
-unfolding all
+unfolding counting
 example-strandings-refused = refl
 
 -- one missing cell between 2.0 and 6.0, by each rule and by a number that names none
@@ -47,33 +55,33 @@ abbrev marks : List ℕ
 marks = 0 ∷ 1 ∷ 0 ∷ []
 
 example-fixed : imputeAt 0 1 cells marks (four ∷ []) ≡ imputation 0 (two ∷ four ∷ six ∷ [])
-unfolding all
+unfolding filling
 example-fixed = refl
 
 example-previous : imputeAt 1 1 cells marks (four ∷ []) ≡ imputation 0 (two ∷ two ∷ six ∷ [])
-unfolding all
+unfolding filling
 example-previous = refl
 
 example-next : imputeAt 2 1 cells marks (four ∷ []) ≡ imputation 0 (two ∷ six ∷ six ∷ [])
-unfolding all
+unfolding filling
 example-next = refl
 
 example-linear : imputeAt 3 1 cells marks (nine ∷ []) ≡ imputation 0 (two ∷ four ∷ six ∷ [])
-unfolding all
+unfolding filling
 example-linear = refl
 
 -- 19 before 2
 example-no-rule : imputeAt 4 0 cells marks [] ≡ imputation 19 cells
-unfolding all
+unfolding filling
 example-no-rule = refl
 
 -- two readings and one: a pair at the second, in outputs one longer; one too short
 example-align : alignAt 1 (readings (two ∷ six ∷ []) (0 ∷ 10 ∷ [])) (readings (four ∷ []) (11 ∷ [])) 1 5 (outputs (7 ∷ 7 ∷ []) (8 ∷ 8 ∷ []) (nine ∷ nine ∷ []))
     ≡ answer 0 1 (outputs (1 ∷ 7 ∷ []) (0 ∷ 8 ∷ []) (two ∷ nine ∷ []))
-unfolding all
+unfolding comparing
 example-align = refl
 
 example-align-short : alignAt 1 (readings (two ∷ six ∷ []) (0 ∷ 10 ∷ [])) (readings (four ∷ []) (11 ∷ [])) 1 5 (outputs [] (8 ∷ []) (nine ∷ []))
     ≡ answer 20 5 (outputs [] (8 ∷ []) (nine ∷ []))
-unfolding all
+unfolding comparing
 example-align-short = refl
