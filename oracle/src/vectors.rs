@@ -193,7 +193,158 @@ fn deviation(r: &mut Random, lines: u64) -> String {
             }
         }
     }
+    corrections(r, &mut out);
     out
+}
+
+// corrected: the Rust has no such function, so the answer is the Rust's statistic of the changed list, and where no list made the statistic the written rule
+
+/// A reading that may be put right is a whole number of at most this size, of a list of at most so many.
+const READING_LIMIT: f64 = 65_536.0;
+const LENGTH_LIMIT: u64 = 1_048_576;
+
+fn row26(s: &Deviation, wrong: f32, right: f32) -> u8 {
+    let whole = |x: f64, limit: f64| x.is_finite() && x == x.trunc() && x.abs() <= limit;
+    let count = s.count as f64;
+    let kept = s.discount == 0.0
+        && whole(wrong as f64, READING_LIMIT)
+        && whole(right as f64, READING_LIMIT)
+        && 1.0 <= count
+        && count <= LENGTH_LIMIT as f64
+        && s.weight == count
+        && whole(s.sum, READING_LIMIT * count)
+        && whole(s.sum_squared, READING_LIMIT * READING_LIMIT * count)
+        && s.sum_squared >= 0.0;
+    if kept {
+        0
+    } else {
+        26
+    }
+}
+
+/// The statistic of a list, from the Rust's own updates.
+fn fed(discount: f64, readings: &[f32]) -> Deviation {
+    let mut s = Deviation::new(discount).unwrap();
+    for &x in readings {
+        s.update(x as f64);
+    }
+    s
+}
+
+fn create_line(s: &Deviation, out: &mut String) {
+    let line = Line::new("c").double(s.discount).double(s.weight).double(s.sum).double(s.sum_squared).whole(s.count as u64);
+    deviation_line(line, 0, s, out);
+}
+
+/// One reading of a list put right, and back again: both answers are the Rust's.
+fn correction(discount: f64, readings: &[f32], place: usize, right: f32, out: &mut String) {
+    let wrong = readings[place];
+    let mut changed = readings.to_vec();
+    changed[place] = right;
+    let (old, new) = (fed(discount, readings), fed(discount, &changed));
+    assert_eq!((row26(&old, wrong, right), row26(&new, right, wrong)), (0, 0));
+    deviation_line(Line::new("o").single(wrong).single(right), 0, &new, out);
+    deviation_line(Line::new("o").single(right).single(wrong), 0, &old, out);
+}
+
+fn whole_reading(r: &mut Random) -> f32 {
+    match r.below(8) {
+        0 => r.pick(&[0.0, -0.0, 65_536.0, -65_536.0, 1.0, -1.0]),
+        1 | 2 => r.from(0, 131_072) as f32 - 65_536.0,
+        _ => r.from(0, 40) as f32 - 20.0,
+    }
+}
+
+/// Every place of short lists, fed reading by reading.
+fn short_corrections(r: &mut Random, out: &mut String) {
+    for length in [1, 1, 2, 2, 3, 3, 4, 5, 6] {
+        let discount = r.pick(&[0.0, 0.0, -0.0]);
+        let readings: Vec<f32> = (0..length).map(|_| whole_reading(r)).collect();
+        deviation_line(Line::new("n").double(discount), 0, &fed(discount, &[]), out);
+        for n in 0..length {
+            deviation_line(Line::new("u").double(readings[n] as f64), 0, &fed(discount, &readings[..n + 1]), out);
+        }
+        for place in 0..length {
+            for right in [whole_reading(r), 65_536.0, -readings[place]] {
+                correction(discount, &readings, place, right, out);
+            }
+        }
+    }
+}
+
+/// Random places of long lists, whose statistic is created as the Rust has it; the last two are as long as may be.
+fn long_corrections(r: &mut Random, out: &mut String) {
+    for length in [1_000, 4_097, 65_536, LENGTH_LIMIT - 1, LENGTH_LIMIT, LENGTH_LIMIT] {
+        let large = r.once_in(2);
+        let readings: Vec<f32> = (0..length).map(|_| if large { 65_536.0 - r.below(3) as f32 } else { whole_reading(r) }).collect();
+        create_line(&fed(0.0, &readings), out);
+        for _ in 0..4 {
+            let (place, right) = (r.below(length) as usize, whole_reading(r));
+            correction(0.0, &readings, place, right, out);
+        }
+    }
+}
+
+/// Both sides of each border of row 26. Accepted calls on statistics of no list follow the written rule, in whole numbers.
+fn bordered_corrections(out: &mut String) {
+    let three = fed(0.0, &[3.0, 5.0, -7.0]);
+    let statistic = |d: f64, w: f64, a: f64, q: f64, n: u64| Deviation::create(d, w, a, q, n as i32);
+    let readings = [65_536.0, -65_536.0, 65_537.0, -65_537.0, 1.5, 0.0, -0.0, f32::NAN, f32::INFINITY, f32::NEG_INFINITY, 1.0e-45, 3.0e38];
+    let mut cases: Vec<(Deviation, f32, f32)> = Vec::new();
+    for x in readings {
+        cases.push((three.clone(), x, 5.0));
+        cases.push((three.clone(), 5.0, x));
+    }
+    let most = LENGTH_LIMIT as f64;
+    for s in [
+        statistic(-0.0, 3.0, 1.0, 83.0, 3),
+        statistic(0.1, 3.0, 1.0, 83.0, 3),
+        statistic(5.0e-324, 3.0, 1.0, 83.0, 3),
+        statistic(0.0, 0.0, 0.0, 0.0, 0),
+        statistic(0.0, 1.0, 0.0, 0.0, 1),
+        statistic(0.0, most, 0.0, 0.0, LENGTH_LIMIT),
+        statistic(0.0, most + 1.0, 0.0, 0.0, LENGTH_LIMIT + 1),
+        statistic(0.0, most, READING_LIMIT * most, READING_LIMIT * READING_LIMIT * most, LENGTH_LIMIT),
+        statistic(0.0, most, READING_LIMIT * most + 1.0, 0.0, LENGTH_LIMIT),
+        statistic(0.0, most, 0.0, READING_LIMIT * READING_LIMIT * most + 1.0, LENGTH_LIMIT),
+        statistic(0.0, 2.0, 1.0, 83.0, 3),
+        statistic(0.0, 4.0, 1.0, 83.0, 3),
+        statistic(0.0, f64::NAN, 1.0, 83.0, 3),
+        statistic(0.0, 3.0, 196_608.0, 83.0, 3),
+        statistic(0.0, 3.0, 196_609.0, 83.0, 3),
+        statistic(0.0, 3.0, -196_608.0, 83.0, 3),
+        statistic(0.0, 3.0, -196_609.0, 83.0, 3),
+        statistic(0.0, 3.0, 0.5, 83.0, 3),
+        statistic(0.0, 3.0, -0.0, 83.0, 3),
+        statistic(0.0, 3.0, f64::NAN, 83.0, 3),
+        statistic(0.0, 3.0, 1.0, 12_884_901_888.0, 3),
+        statistic(0.0, 3.0, 1.0, 12_884_901_889.0, 3),
+        statistic(0.0, 3.0, 1.0, -1.0, 3),
+        statistic(0.0, 3.0, 1.0, -0.0, 3),
+        statistic(0.0, 3.0, 1.0, 0.0, 3),
+        statistic(0.0, 3.0, 1.0, 0.5, 3),
+        statistic(0.0, 3.0, 1.0, f64::INFINITY, 3),
+    ] {
+        cases.push((s, 5.0, 3.0));
+    }
+    for (s, wrong, right) in cases {
+        create_line(&s, out);
+        let row = row26(&s, wrong, right);
+        let mut after = s;
+        if row == 0 {
+            let (w, r) = (wrong as i64, right as i64);
+            after.sum = (after.sum as i64 + (r - w)) as f64;
+            after.sum_squared = (after.sum_squared as i64 + (r * r - w * w)) as f64;
+        }
+        deviation_line(Line::new("o").single(wrong).single(right), row, &after, out);
+    }
+}
+
+/// What is appended to the lines of the kind deviation.
+fn corrections(r: &mut Random, out: &mut String) {
+    short_corrections(r, out);
+    long_corrections(r, out);
+    bordered_corrections(out);
 }
 
 // ranges

@@ -110,11 +110,11 @@ pub factor-none : (d : Float) (n : ℕ) → eq d zero64 ≡ true → factorOf d 
 unfolding factorOf
 factor-none d n e = rw e
 
-one-is : one64 ≡ wholeFloat (pos 1)
+pub one-is : one64 ≡ wholeFloat (pos 1)
 unfolding ofBits ofInt round
 one-is = refl
 
-zero-is : zero64 ≡ wholeFloat (pos 0)
+pub zero-is : zero64 ≡ wholeFloat (pos 0)
 unfolding ofBits ofInt round
 zero-is = refl
 
@@ -126,7 +126,7 @@ accumulated a b A B =
     ∙ add-whole binary64 a b A B
 
 -- the statistic that holds n scores with the sum a and the sum of squares q
-abbrev holding : Float → ℕ → ℤ → ℤ → Deviation
+abbrev pub holding : Float → ℕ → ℤ → ℤ → Deviation
 holding d n a q = statistic d (wholeFloat (pos n)) (wholeFloat a) (wholeFloat q) n
 
 step-whole : (d : Float) (n : ℕ) (a q z : ℤ) → eq d zero64 ≡ true → n ≤ 2 ^ 53 → natAbs a ≤ 2 ^ 53 → natAbs q ≤ 2 ^ 53 → natAbs z ≤ 65536

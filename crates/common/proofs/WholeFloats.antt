@@ -69,7 +69,7 @@ whole-value f (pos n) h = round-whole f false n h
 whole-value f (negsuc n) h = round-whole f true (suc n) h
 
 -- a difference of two whole numbers, the first with the sign of its place
-sum-integers : (f : Format) (y z : ℤ) → sum f (negative y) (natAbs y) (negative z) (natAbs z) 1 ≡ ofInt f (y +ℤ z)
+pub sum-integers : (f : Format) (y z : ℤ) → sum f (negative y) (natAbs y) (negative z) (natAbs z) 1 ≡ ofInt f (y +ℤ z)
 unfolding sum ofInt
 sum-integers f (pos m) (pos n) = refl
 sum-integers f (negsuc m) (negsuc n) = ap (λ (k : ℕ). round f true k 1) (omega arith)

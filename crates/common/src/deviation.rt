@@ -3,9 +3,20 @@ ghost use mathlib.Core.Path.{_≡_};
 ghost use Prim.Native.Nat.{_≤_};
 ghost use Rattle.common.specs.Deviation.{zero64, countLimit, emptyWith, outsideUnit, newOf, createOf, resetOf};
 ghost use Rattle.common.specs.Deviation.{factorOf, updateOf, isEmpty, meanOf, deviationOf, setDiscountOf, setCountOf};
+ghost use Rattle.common.specs.Refusal.{firstOf};
+ghost use lib.IntN.{_+ℤ_, _-ℤ_};
+ghost use Rattle.common.specs.WholeScores.{wholeFloat};
+ghost use Rattle.common.specs.Corrected.{wholeWithin, integerOf, correctionRows, correctedOf};
+ghost use Rattle.common.specs.Steps.Whole.{sizeOf, Summand};
 
 // The largest count of a statistic.
 pub const COUNT_LIMIT: u64 = 2_147_483_646;
+
+// A reading that is put right is a whole number of at most this size,
+pub const READING_LIMIT: u64 = 65_536;
+
+// and one of a list of at most so many.
+pub const LENGTH_LIMIT: u64 = 1_048_576;
 
 pub struct Deviation {
     pub discount: f64,
@@ -40,6 +51,72 @@ fn factor(discount: f64, count: u64) -> f64
         return 1.0;
     }
     if a < b { a } else { b }
+}
+
+// The size of x; a zero keeps its sign.
+fn size_of(x: f64) -> f64
+    ensures { λ r. ⌜ r ≡ sizeOf x ⌝ }
+{
+    if x < 0.0 { -x } else { x }
+}
+
+// Whether x is a whole number of size at most `limit`: its whole part, turned back into a float, is the size again. From 2^64 on there is no whole part to take.
+fn whole_within(limit: u64, x: f64) -> bool
+    requires { ⌜ limit ≤ 9007199254740992 ⌝ }
+    ensures { λ r. ⌜ r ≡ wholeWithin limit x ⌝ }
+{
+    let a = size_of(x);
+    if a < 18446744073709551616.0 {
+        let n = std::num::truncating_f64_to_u64(a);
+        if limit < n {
+            return false;
+        }
+        return std::num::nearest_u64_to_f64(n) == a;
+    }
+    false
+}
+
+// Row 26, or 0: whether a statistic and two readings are such that the one reading can be put right by the other.
+fn correction_row(s: Deviation, wrong: f64, right: f64) -> u64
+    ensures { λ r. ⌜ r ≡ firstOf (correctionRows s wrong right) ⌝ }
+{
+    let count = s.count;
+    if !(s.discount == 0.0) {
+        return 26;
+    }
+    if !whole_within(READING_LIMIT, wrong) {
+        return 26;
+    }
+    if !whole_within(READING_LIMIT, right) {
+        return 26;
+    }
+    if count < 1 {
+        return 26;
+    }
+    if LENGTH_LIMIT < count {
+        return 26;
+    }
+    if !(s.weight == count as f64) {
+        return 26;
+    }
+    if !whole_within(READING_LIMIT * count, s.sum) {
+        return 26;
+    }
+    if !whole_within(READING_LIMIT * READING_LIMIT * count, s.sum_squared) {
+        return 26;
+    }
+    if !(0.0 <= s.sum_squared) {
+        return 26;
+    }
+    0
+}
+
+// A whole number with one summand put in and one taken out. Each step is exact; and as it begins at +0, a zero is +0.
+fn moved(x: f64, put: f64, taken: f64) -> f64
+    requires { ⌜ Summand x × Summand put × Summand taken ⌝ }
+    ensures { λ r. ⌜ r ≡ wholeFloat (integerOf x +ℤ (integerOf put -ℤ integerOf taken)) ⌝ }
+{
+    0.0 + x + put - taken
 }
 
 impl Deviation {
@@ -130,6 +207,26 @@ impl Deviation {
             sum_squared: self.sum_squared * f + score * score,
             sum: self.sum * f + score,
             count: count + 1,
+        })
+    }
+
+    // Of a list's statistic, the statistic of the list with `right` in a place that held `wrong`: one odd reading put right, without the list.
+    pub fn corrected(self, wrong: f32, right: f32) -> DeviationResult
+        ensures { λ r. ⌜ r ≡ correctedOf self wrong right ⌝ }
+    {
+        let w = numeric::to_f64(wrong);
+        let r = numeric::to_f64(right);
+        let row = correction_row(self, w, r);
+        if 0 < row {
+            return DeviationResult::Err(row);
+        }
+        let weight = self.weight;
+        DeviationResult::Ok(Deviation {
+            discount: self.discount,
+            weight: weight,
+            sum_squared: moved(self.sum_squared, r * r, w * w),
+            sum: moved(self.sum, r, w),
+            count: self.count,
         })
     }
 

@@ -33,11 +33,11 @@ use Rattle.restart.specs.History.{historyText}
 
 -- to unfold this is to unfold whatever its line names
 trace·all : Unit {0}
-unfolding Ieee.span Ieee.climb Ieee.size Ieee.odd Ieee.units Ieee.round Ieee.neg Ieee.sum Ieee.add Ieee.sub Ieee.mul Ieee.div Ieee.lt Ieee.eq Ieee.le Ieee.ne Ieee.ofInt Ieee.fits Ieee.ofFields Ieee.ofBits Ieee.toBits Narrow.narrowed Root.rootWithin Root.halves Root.rooted Root.rootOf Root.digitsTried Root.triedOf Deviation.outsideUnit Deviation.newOf Deviation.createOf Deviation.factorOf Deviation.stepOf Deviation.updateOf Deviation.isEmpty Deviation.meanOf Deviation.rootAbove Deviation.deviationOf Deviation.setCountOf Lent.over RangeVector.settled RangeVector.shifted RangeVector.scaled RangeVector.rangeAt RangeVector.putAt RangeVector.pastAny RangeVector.shiftOf RangeVector.scaleOf RangeVector.cascadeTo RangeVector.unequal RangeVector.unblocked RangeVector.cascadedAddOf RangeVector.shorter RangeVector.newOf RangeVector.fromOf RangeVector.inOrder RangeVector.createOf Lists.lastN Lists.shiftIn Lists.overwrite Settings.block Settings.dimension Settings.waiting Settings.allOne Settings.settingsRow Calls.finite Calls.due Calls.newest Calls.wrongLength Calls.outside Calls.drainFull Calls.learnFull Calls.lookahead Calls.unturnable Calls.turnShort Calls.waitingShort Calls.learnShort Calls.table Calls.rows Transformer.statisticAt Transformer.putStatistic Transformer.fed Transformer.deviationsAt Transformer.putDeviations Transformer.fedAt Transformer.channelsFed Transformer.updated Transformer.normalizedScale Transformer.basicShift Transformer.basicDrift Transformer.weightAt Transformer.transformed Transformer.unweighted Transformer.inverted Transformer.reciprocal Transformer.forecastAt Transformer.forecastTo Transformer.invertedForecast Transformer.scales Transformer.shifts Transformer.differenceDeviations Preprocessor.fresh Preprocessor.facts Preprocessor.refusal Preprocessor.timeFed Preprocessor.feed Preprocessor.timescale Preprocessor.timedrift Preprocessor.timeElement Preprocessor.transformedAfter Preprocessor.previous Preprocessor.primed Preprocessor.drainOne Preprocessor.drainAll Preprocessor.drained Preprocessor.held Preprocessor.learned Preprocessor.learnedWith Preprocessor.change Preprocessor.next Preprocessor.deviations Preprocessor.scaleOf Preprocessor.shiftOf Preprocessor.pointOf Preprocessor.invertTime Preprocessor.numbersOf Preprocessor.timesOf Preprocessor.blockFrom Preprocessor.pastValues Preprocessor.expectedValues Preprocessor.anomalyOf Preprocessor.learnedNothing Preprocessor.heldAnswer Preprocessor.learnedAnswer Preprocessor.learnAnswer Preprocessor.turnedBack Preprocessor.statusOf Preprocessor.reply Preprocessor.answer Text.whole Text.float Text.setLine Text.singles Text.cntLine Text.devLine Text.timLine Text.bufLine Text.linesBy Text.bodyLines Text.chnLine Text.render History.seenOf History.internalOf History.bufferOf History.shingled History.inputsOf History.timestampsOf History.newestOf History.countOf History.statisticsOf Statistics.statisticsFrom History.historyState History.historyFacts History.historyRefusal History.complete History.adds History.enter History.entries History.historyText History.historyAnswer
+unfolding Ieee.span Ieee.climb Ieee.size Ieee.odd Ieee.units Ieee.round Ieee.neg Ieee.sum Ieee.add Ieee.sub Ieee.mul Ieee.div Ieee.lt Ieee.eq Ieee.le Ieee.ne Ieee.ofInt Ieee.fits Ieee.ofFields Ieee.ofBits Ieee.toBits Narrow.narrowed Root.rootWithin Root.halves Root.rooted Root.rootOf Root.digitsTried Root.triedOf Deviation.outsideUnit Deviation.newOf Deviation.createOf Deviation.factorOf Deviation.stepOf Deviation.updateOf Deviation.isEmpty Deviation.meanOf Deviation.rootAbove Deviation.deviationOf Deviation.setCountOf Lent.over RangeVector.settled RangeVector.shifted RangeVector.scaled RangeVector.rangeAt RangeVector.putAt RangeVector.pastAny RangeVector.shiftOf RangeVector.scaleOf RangeVector.cascadeTo RangeVector.unequal RangeVector.unblocked RangeVector.cascadedAddOf RangeVector.shorter RangeVector.newOf RangeVector.fromOf RangeVector.inOrder RangeVector.createOf Lists.lastN Lists.shiftIn Lists.overwrite Settings.block Settings.dimension Settings.waiting Settings.allOne Settings.settingsRow Calls.finite Calls.due Calls.newest Calls.wrongLength Calls.outside Calls.drainFull Calls.learnFull Calls.lookahead Calls.unturnable Calls.turnShort Calls.waitingShort Calls.learnShort Calls.table Calls.rows Transformer.statisticAt Transformer.putStatistic Transformer.fed Transformer.deviationsAt Transformer.putDeviations Transformer.fedAt Transformer.channelsFed Transformer.updated Transformer.normalizedScale Transformer.basicShift Transformer.basicDrift Transformer.weightAt Transformer.transformed Transformer.unweighted Transformer.inverted Transformer.reciprocal Transformer.forecastAt Transformer.forecastTo Transformer.invertedForecast Transformer.scales Transformer.shifts Transformer.differenceDeviations Preprocessor.fresh Preprocessor.facts Preprocessor.refusal Preprocessor.timeFed Preprocessor.feed Preprocessor.timescale Preprocessor.timedrift Preprocessor.timeElement Preprocessor.transformedAfter Preprocessor.previous Preprocessor.primed Preprocessor.drainOne Preprocessor.drainAll Preprocessor.drained Preprocessor.held Preprocessor.learned Preprocessor.learnedWith Preprocessor.change Preprocessor.next Preprocessor.deviations Preprocessor.scaleOf Preprocessor.shiftOf Preprocessor.pointOf Preprocessor.invertTime Preprocessor.numbersOf Preprocessor.timesOf Preprocessor.blockFrom Preprocessor.pastValues Preprocessor.expectedValues Preprocessor.anomalyOf Preprocessor.learnedNothing Preprocessor.heldAnswer Preprocessor.learnedAnswer Preprocessor.learnAnswer Preprocessor.turnedBack Preprocessor.statusOf Preprocessor.reply Preprocessor.answer Text.whole Text.float Text.setLine Text.singles Text.chnLine Text.cntLine Text.devLine Text.timLine Text.bufLine Text.bodyLines Text.linesBy Text.render Statistics.statisticsFrom History.seenOf History.internalOf History.bufferOf History.shingled History.inputsOf History.timestampsOf History.newestOf History.countOf History.statisticsOf History.historyState History.historyFacts History.historyRefusal History.complete History.adds History.enter History.entries History.historyText History.historyAnswer
 trace·all = tt
 
 abbrev s0 : Settings
-s0 = record { mode = STANDARD; method = NONE; d = 1; k = 1; start = 2; stop = 9223372036854775808; decay = (ofBits binary64 0x1); weightTime = (ofBits binary32 0xff800000); weights = ((ofBits binary32 0x3f800000) ∷ []); codes = 0 ∷ [] }
+s0 = record { mode = STANDARD; method = NONE; d = 1; k = 1; start = 2; stop = 9223372036854775808; decay = (ofBits binary64 0x1); weightTime = (ofBits binary32 0xff800000); weights = ((ofBits binary32 0x3f800000) ∷ []); codes = (9999 ∷ []) }
 
 abbrev c0 : List Call
 c0 = (
@@ -56,7 +56,7 @@ abbrev t0 : List ℕ
 t0 = text (
     "set\tS\t0\t1\t1\t2\t9223372036854775808\t0000000000000001\tff800000" ∷
     "wgt\t3f800000" ∷
-    "chn\t0" ∷
+    "chn\t9999" ∷
     "cnt\t5\t5\t5" ∷
     "dev\t400aaaaaaaaaaaab\t406966aaaaaaaaab\t40ceea06aaaaaaac" ∷
     "dev\t400aaaaaaaaaaaab\tc02a555555555554\t40cc105d55555555" ∷
@@ -95,7 +95,7 @@ unfolding trace·all
 answers0 = refl
 
 abbrev s1 : Settings
-s1 = record { mode = «TIME_AUGMENTED»; method = NORMALIZE; d = 1; k = 3; start = 1; stop = 5; decay = (ofBits binary64 0x3fefae147ae147ae); weightTime = (ofBits binary32 0xbf000000); weights = ((ofBits binary32 0x40400000) ∷ []); codes = 0 ∷ [] }
+s1 = record { mode = «TIME_AUGMENTED»; method = NORMALIZE; d = 1; k = 3; start = 1; stop = 5; decay = (ofBits binary64 0x3fefae147ae147ae); weightTime = (ofBits binary32 0xbf000000); weights = ((ofBits binary32 0x40400000) ∷ []); codes = (0 ∷ []) }
 
 abbrev c1 : List Call
 c1 = (
@@ -135,7 +135,7 @@ unfolding trace·all
 answers1 = refl
 
 abbrev s2 : Settings
-s2 = record { mode = «TIME_AUGMENTED»; method = WEIGHTED; d = 2; k = 3; start = 3; stop = 9223372036854775808; decay = (ofBits binary64 0x3f50624dd2f1a9fc); weightTime = (ofBits binary32 0x3f800000); weights = ((ofBits binary32 0x40000000) ∷ (ofBits binary32 0x40400000) ∷ []); codes = 0 ∷ 0 ∷ [] }
+s2 = record { mode = «TIME_AUGMENTED»; method = WEIGHTED; d = 2; k = 3; start = 3; stop = 9223372036854775808; decay = (ofBits binary64 0x3f50624dd2f1a9fc); weightTime = (ofBits binary32 0x3f800000); weights = ((ofBits binary32 0x40000000) ∷ (ofBits binary32 0x40400000) ∷ []); codes = (28798 ∷ 45356 ∷ []) }
 
 abbrev c2 : List Call
 c2 = (
@@ -153,7 +153,7 @@ abbrev t2 : List ℕ
 t2 = text (
     "set\tT\t1\t2\t3\t3\t9223372036854775808\t3f50624dd2f1a9fc\t3f800000" ∷
     "wgt\t40000000\t40400000" ∷
-    "chn\t0\t0" ∷
+    "chn\t28798\t45356" ∷
     "cnt\t1\t1\t1" ∷
     "dev\t3ff0000000000000\tc7efffffe0000000\t4fefffffc0000020" ∷
     "dev\t3ff0000000000000\t404a580000000000\t40a5aff200000000" ∷
@@ -196,7 +196,7 @@ unfolding trace·all
 answers2 = refl
 
 abbrev s3 : Settings
-s3 = record { mode = STANDARD; method = DIFFERENCE; d = 1; k = 1; start = 1; stop = 9223372036854775808; decay = (ofBits binary64 0x0); weightTime = (ofBits binary32 0x0); weights = ((ofBits binary32 0x7f800000) ∷ []); codes = 0 ∷ [] }
+s3 = record { mode = STANDARD; method = DIFFERENCE; d = 1; k = 1; start = 1; stop = 9223372036854775808; decay = (ofBits binary64 0x0); weightTime = (ofBits binary32 0x0); weights = ((ofBits binary32 0x7f800000) ∷ []); codes = (3168 ∷ []) }
 
 abbrev c3 : List Call
 c3 = (
@@ -211,7 +211,7 @@ abbrev t3 : List ℕ
 t3 = text (
     "set\tS\t2\t1\t1\t1\t9223372036854775808\t0000000000000000\t00000000" ∷
     "wgt\t7f800000" ∷
-    "chn\t0" ∷
+    "chn\t3168" ∷
     "cnt\t0\t0\t0" ∷
     "dev\t0000000000000000\t0000000000000000\t0000000000000000" ∷
     "dev\t0000000000000000\t0000000000000000\t0000000000000000" ∷
@@ -246,7 +246,7 @@ unfolding trace·all
 answers3 = refl
 
 abbrev s4 : Settings
-s4 = record { mode = «TIME_AUGMENTED»; method = NORMALIZE; d = 2; k = 1; start = 0; stop = 0; decay = (ofBits binary64 0x1a56e1fc2f8f359); weightTime = (ofBits binary32 0x3f800000); weights = ((ofBits binary32 0x7f800000) ∷ (ofBits binary32 0x1) ∷ []); codes = 0 ∷ 0 ∷ [] }
+s4 = record { mode = «TIME_AUGMENTED»; method = NORMALIZE; d = 2; k = 1; start = 0; stop = 0; decay = (ofBits binary64 0x1a56e1fc2f8f359); weightTime = (ofBits binary32 0x3f800000); weights = ((ofBits binary32 0x7f800000) ∷ (ofBits binary32 0x1) ∷ []); codes = (0 ∷ 0 ∷ []) }
 
 abbrev c4 : List Call
 c4 = (
@@ -311,7 +311,7 @@ unfolding trace·all
 answers4 = refl
 
 abbrev s5 : Settings
-s5 = record { mode = STANDARD; method = NONE; d = 2; k = 1; start = 2; stop = 6; decay = (ofBits binary64 0x0); weightTime = (ofBits binary32 0xc0000000); weights = ((ofBits binary32 0x3f800000) ∷ (ofBits binary32 0x3f800000) ∷ []); codes = 0 ∷ 0 ∷ [] }
+s5 = record { mode = STANDARD; method = NONE; d = 2; k = 1; start = 2; stop = 6; decay = (ofBits binary64 0x0); weightTime = (ofBits binary32 0xc0000000); weights = ((ofBits binary32 0x3f800000) ∷ (ofBits binary32 0x3f800000) ∷ []); codes = (0 ∷ 0 ∷ []) }
 
 abbrev c5 : List Call
 c5 = (
@@ -366,7 +366,7 @@ unfolding trace·all
 answers5 = refl
 
 abbrev s6 : Settings
-s6 = record { mode = STANDARD; method = «SUBTRACT_MA»; d = 2; k = 2; start = 2; stop = 2; decay = (ofBits binary64 0x3fe0000000000000); weightTime = (ofBits binary32 0x3f800000); weights = (nan ∷ (ofBits binary32 0xbf000000) ∷ []); codes = 0 ∷ 0 ∷ [] }
+s6 = record { mode = STANDARD; method = «SUBTRACT_MA»; d = 2; k = 2; start = 2; stop = 2; decay = (ofBits binary64 0x3fe0000000000000); weightTime = (ofBits binary32 0x3f800000); weights = (nan ∷ (ofBits binary32 0xbf000000) ∷ []); codes = (11 ∷ 0 ∷ []) }
 
 abbrev c6 : List Call
 c6 = (
@@ -382,7 +382,7 @@ abbrev t6 : List ℕ
 t6 = text (
     "set\tS\t3\t2\t2\t2\t2\t3fe0000000000000\t3f800000" ∷
     "wgt\t7fc00000\tbf000000" ∷
-    "chn\t0\t0" ∷
+    "chn\t11\t0" ∷
     "cnt\t2\t2\t2" ∷
     "dev\t3ff8000000000000\t4053100000000000\t40b6209000000000" ∷
     "dev\t3ff8000000000000\t405b680000000000\t40bfb1d800000000" ∷
@@ -423,7 +423,7 @@ unfolding trace·all
 answers6 = refl
 
 abbrev s7 : Settings
-s7 = record { mode = «TIME_AUGMENTED»; method = «NORMALIZE_DIFFERENCE»; d = 1; k = 2; start = 2; stop = 2; decay = (ofBits binary64 0x3fefffffffffffff); weightTime = (ofBits binary32 0x800116c2); weights = ((ofBits binary32 0x3f800000) ∷ []); codes = 0 ∷ [] }
+s7 = record { mode = «TIME_AUGMENTED»; method = «NORMALIZE_DIFFERENCE»; d = 1; k = 2; start = 2; stop = 2; decay = (ofBits binary64 0x3fefffffffffffff); weightTime = (ofBits binary32 0x800116c2); weights = ((ofBits binary32 0x3f800000) ∷ []); codes = (0 ∷ []) }
 
 abbrev c7 : List Call
 c7 = (
@@ -483,7 +483,7 @@ unfolding trace·all
 answers7 = refl
 
 abbrev s8 : Settings
-s8 = record { mode = STANDARD; method = NORMALIZE; d = 2; k = 1; start = 2; stop = 1000; decay = (ofBits binary64 0x3fd612a76af8d114); weightTime = (ofBits binary32 0x3f800000); weights = ((ofBits binary32 0x1) ∷ (ofBits binary32 0x3f800000) ∷ []); codes = 0 ∷ 0 ∷ [] }
+s8 = record { mode = STANDARD; method = NORMALIZE; d = 2; k = 1; start = 2; stop = 1000; decay = (ofBits binary64 0x3fd612a76af8d114); weightTime = (ofBits binary32 0x3f800000); weights = ((ofBits binary32 0x1) ∷ (ofBits binary32 0x3f800000) ∷ []); codes = (0 ∷ 0 ∷ []) }
 
 abbrev c8 : List Call
 c8 = (
@@ -538,7 +538,7 @@ unfolding trace·all
 answers8 = refl
 
 abbrev s9 : Settings
-s9 = record { mode = STANDARD; method = «NORMALIZE_DIFFERENCE»; d = 2; k = 1; start = 1; stop = 1000; decay = (ofBits binary64 0x3feccccccccccccd); weightTime = (ofBits binary32 0x3f800000); weights = ((ofBits binary32 0xf7adf466) ∷ (ofBits binary32 0x4a66610a) ∷ []); codes = 0 ∷ 0 ∷ [] }
+s9 = record { mode = STANDARD; method = «NORMALIZE_DIFFERENCE»; d = 2; k = 1; start = 1; stop = 1000; decay = (ofBits binary64 0x3feccccccccccccd); weightTime = (ofBits binary32 0x3f800000); weights = ((ofBits binary32 0xf7adf466) ∷ (ofBits binary32 0x4a66610a) ∷ []); codes = (18284 ∷ 0 ∷ []) }
 
 abbrev c9 : List Call
 c9 = (
@@ -554,7 +554,7 @@ abbrev t9 : List ℕ
 t9 = text (
     "set\tS\t5\t2\t1\t1\t1000\t3feccccccccccccd\t3f800000" ∷
     "wgt\tf7adf466\t4a66610a" ∷
-    "chn\t0\t0" ∷
+    "chn\t18284\t0" ∷
     "cnt\t5\t4\t4" ∷
     "dev\t3ff1c6a7ef9db22d\t4055e5851eb851eb\t40bc3f1fc28f5c29" ∷
     "dev\t3ff1c6a7ef9db22d\t404e4a4dd2f1a9fc\t40a9d50116872b02" ∷
@@ -596,7 +596,7 @@ unfolding trace·all
 answers9 = refl
 
 abbrev s10 : Settings
-s10 = record { mode = STANDARD; method = DIFFERENCE; d = 1; k = 1; start = 1; stop = 12; decay = (ofBits binary64 0x0); weightTime = (ofBits binary32 0x3f800000); weights = ((ofBits binary32 0xefd3d64) ∷ []); codes = 0 ∷ [] }
+s10 = record { mode = STANDARD; method = DIFFERENCE; d = 1; k = 1; start = 1; stop = 12; decay = (ofBits binary64 0x0); weightTime = (ofBits binary32 0x3f800000); weights = ((ofBits binary32 0xefd3d64) ∷ []); codes = (0 ∷ []) }
 
 abbrev c10 : List Call
 c10 = (
@@ -658,7 +658,7 @@ unfolding trace·all
 answers10 = refl
 
 abbrev s11 : Settings
-s11 = record { mode = «TIME_AUGMENTED»; method = «NORMALIZE_DIFFERENCE»; d = 2; k = 1; start = 1; stop = 1; decay = (ofBits binary64 0x3c670ef54646d497); weightTime = (ofBits binary32 0x3f800000); weights = ((ofBits binary32 0xbf800000) ∷ (ofBits binary32 0x3f800000) ∷ []); codes = 0 ∷ 0 ∷ [] }
+s11 = record { mode = «TIME_AUGMENTED»; method = «NORMALIZE_DIFFERENCE»; d = 2; k = 1; start = 1; stop = 1; decay = (ofBits binary64 0x3c670ef54646d497); weightTime = (ofBits binary32 0x3f800000); weights = ((ofBits binary32 0xbf800000) ∷ (ofBits binary32 0x3f800000) ∷ []); codes = (65535 ∷ 6 ∷ []) }
 
 abbrev c11 : List Call
 c11 = (
@@ -675,7 +675,7 @@ abbrev t11 : List ℕ
 t11 = text (
     "set\tT\t5\t2\t1\t1\t1\t3c670ef54646d497\t3f800000" ∷
     "wgt\tbf800000\t3f800000" ∷
-    "chn\t0\t0" ∷
+    "chn\t65535\t6" ∷
     "cnt\t0\t0\t0" ∷
     "dev\t0000000000000000\t0000000000000000\t0000000000000000" ∷
     "dev\t0000000000000000\t0000000000000000\t0000000000000000" ∷
@@ -717,7 +717,7 @@ unfolding trace·all
 answers11 = refl
 
 abbrev s12 : Settings
-s12 = record { mode = «TIME_AUGMENTED»; method = «NORMALIZE_DIFFERENCE»; d = 1; k = 3; start = 2; stop = 3; decay = (ofBits binary64 0x3f50624dd2f1a9fc); weightTime = (ofBits binary32 0x89dab83b); weights = ((ofBits binary32 0x3dcccccd) ∷ []); codes = 0 ∷ [] }
+s12 = record { mode = «TIME_AUGMENTED»; method = «NORMALIZE_DIFFERENCE»; d = 1; k = 3; start = 2; stop = 3; decay = (ofBits binary64 0x3f50624dd2f1a9fc); weightTime = (ofBits binary32 0x89dab83b); weights = ((ofBits binary32 0x3dcccccd) ∷ []); codes = (0 ∷ []) }
 
 abbrev c12 : List Call
 c12 = (
@@ -779,7 +779,7 @@ unfolding trace·all
 answers12 = refl
 
 abbrev s13 : Settings
-s13 = record { mode = STANDARD; method = «NORMALIZE_DIFFERENCE»; d = 2; k = 2; start = 1; stop = 1; decay = (ofBits binary64 0x3fefae147ae147ae); weightTime = (ofBits binary32 0x3f800000); weights = ((ofBits binary32 0xc0000000) ∷ (ofBits binary32 0x40400000) ∷ []); codes = 0 ∷ 0 ∷ [] }
+s13 = record { mode = STANDARD; method = «NORMALIZE_DIFFERENCE»; d = 2; k = 2; start = 1; stop = 1; decay = (ofBits binary64 0x3fefae147ae147ae); weightTime = (ofBits binary32 0x3f800000); weights = ((ofBits binary32 0xc0000000) ∷ (ofBits binary32 0x40400000) ∷ []); codes = (255 ∷ 65535 ∷ []) }
 
 abbrev c13 : List Call
 c13 = ([])
@@ -788,7 +788,7 @@ abbrev t13 : List ℕ
 t13 = text (
     "set\tS\t5\t2\t2\t1\t1\t3fefae147ae147ae\t3f800000" ∷
     "wgt\tc0000000\t40400000" ∷
-    "chn\t0\t0" ∷
+    "chn\t255\t65535" ∷
     "cnt\t0\t0\t0" ∷
     "dev\t0000000000000000\t0000000000000000\t0000000000000000" ∷
     "dev\t0000000000000000\t0000000000000000\t0000000000000000" ∷
@@ -822,7 +822,7 @@ unfolding trace·all
 answers13 = refl
 
 abbrev s14 : Settings
-s14 = record { mode = «TIME_AUGMENTED»; method = NORMALIZE; d = 2; k = 3; start = 0; stop = 9; decay = (ofBits binary64 0x1a56e1fc2f8f359); weightTime = (ofBits binary32 0x3dcccccd); weights = ((ofBits binary32 0x40400000) ∷ (ofBits binary32 0x0) ∷ []); codes = 0 ∷ 0 ∷ [] }
+s14 = record { mode = «TIME_AUGMENTED»; method = NORMALIZE; d = 2; k = 3; start = 0; stop = 9; decay = (ofBits binary64 0x1a56e1fc2f8f359); weightTime = (ofBits binary32 0x3dcccccd); weights = ((ofBits binary32 0x40400000) ∷ (ofBits binary32 0x0) ∷ []); codes = (0 ∷ 65535 ∷ []) }
 
 abbrev c14 : List Call
 c14 = (
@@ -837,7 +837,7 @@ abbrev t14 : List ℕ
 t14 = text (
     "set\tT\t4\t2\t3\t0\t9\t01a56e1fc2f8f359\t3dcccccd" ∷
     "wgt\t40400000\t00000000" ∷
-    "chn\t0\t0" ∷
+    "chn\t0\t65535" ∷
     "cnt\t0\t0\t0" ∷
     "dev\t0000000000000000\t0000000000000000\t0000000000000000" ∷
     "dev\t0000000000000000\t0000000000000000\t0000000000000000" ∷
@@ -877,7 +877,7 @@ unfolding trace·all
 answers14 = refl
 
 abbrev s15 : Settings
-s15 = record { mode = STANDARD; method = WEIGHTED; d = 1; k = 2; start = 2; stop = 13; decay = (ofBits binary64 0x1); weightTime = (ofBits binary32 0x0); weights = ((ofBits binary32 0x3f000000) ∷ []); codes = 0 ∷ [] }
+s15 = record { mode = STANDARD; method = WEIGHTED; d = 1; k = 2; start = 2; stop = 13; decay = (ofBits binary64 0x1); weightTime = (ofBits binary32 0x0); weights = ((ofBits binary32 0x3f000000) ∷ []); codes = (0 ∷ []) }
 
 abbrev c15 : List Call
 c15 = ([])
@@ -915,7 +915,7 @@ unfolding trace·all
 answers15 = refl
 
 abbrev s16 : Settings
-s16 = record { mode = «TIME_AUGMENTED»; method = «NORMALIZE_DIFFERENCE»; d = 2; k = 3; start = 2; stop = 9; decay = (ofBits binary64 0x3fefae147ae147ae); weightTime = (ofBits binary32 0xc0000000); weights = ((ofBits binary32 0x0) ∷ (ofBits binary32 0x3dcccccd) ∷ []); codes = 0 ∷ 0 ∷ [] }
+s16 = record { mode = «TIME_AUGMENTED»; method = «NORMALIZE_DIFFERENCE»; d = 2; k = 3; start = 2; stop = 9; decay = (ofBits binary64 0x3fefae147ae147ae); weightTime = (ofBits binary32 0xc0000000); weights = ((ofBits binary32 0x0) ∷ (ofBits binary32 0x3dcccccd) ∷ []); codes = (36275 ∷ 5 ∷ []) }
 
 abbrev c16 : List Call
 c16 = (
@@ -933,7 +933,7 @@ abbrev t16 : List ℕ
 t16 = text (
     "set\tT\t5\t2\t3\t2\t9\t3fefae147ae147ae\tc0000000" ∷
     "wgt\t00000000\t3dcccccd" ∷
-    "chn\t0\t0" ∷
+    "chn\t36275\t5" ∷
     "cnt\t5\t3\t3" ∷
     "dev\t3ff0295e9e1b089a\t40532136e2eb1c43\t40b6aad0c504816f" ∷
     "dev\t3ff0295e9e1b089a\t401adfbe76c8b43a\t404790147ae147af" ∷
@@ -978,7 +978,7 @@ unfolding trace·all
 answers16 = refl
 
 abbrev s17 : Settings
-s17 = record { mode = «TIME_AUGMENTED»; method = «NORMALIZE_DIFFERENCE»; d = 2; k = 1; start = 0; stop = 0; decay = (ofBits binary64 0x3fd88a6ebaee8f7a); weightTime = (ofBits binary32 0x3f800000); weights = ((ofBits binary32 0x3f800000) ∷ (ofBits binary32 0x3f800000) ∷ []); codes = 0 ∷ 0 ∷ [] }
+s17 = record { mode = «TIME_AUGMENTED»; method = «NORMALIZE_DIFFERENCE»; d = 2; k = 1; start = 0; stop = 0; decay = (ofBits binary64 0x3fd88a6ebaee8f7a); weightTime = (ofBits binary32 0x3f800000); weights = ((ofBits binary32 0x3f800000) ∷ (ofBits binary32 0x3f800000) ∷ []); codes = (0 ∷ 0 ∷ []) }
 
 abbrev c17 : List Call
 c17 = (
@@ -1043,7 +1043,7 @@ unfolding trace·all
 answers17 = refl
 
 abbrev s18 : Settings
-s18 = record { mode = STANDARD; method = NORMALIZE; d = 2; k = 1; start = 0; stop = 12; decay = (ofBits binary64 0x3fe5a15486d0843f); weightTime = (ofBits binary32 0x3f800000); weights = ((ofBits binary32 0x0) ∷ (ofBits binary32 0x40400000) ∷ []); codes = 0 ∷ 0 ∷ [] }
+s18 = record { mode = STANDARD; method = NORMALIZE; d = 2; k = 1; start = 0; stop = 12; decay = (ofBits binary64 0x3fe5a15486d0843f); weightTime = (ofBits binary32 0x3f800000); weights = ((ofBits binary32 0x0) ∷ (ofBits binary32 0x40400000) ∷ []); codes = (0 ∷ 0 ∷ []) }
 
 abbrev c18 : List Call
 c18 = (
@@ -1090,7 +1090,7 @@ unfolding trace·all
 answers18 = refl
 
 abbrev s19 : Settings
-s19 = record { mode = «TIME_AUGMENTED»; method = «NORMALIZE_DIFFERENCE»; d = 2; k = 3; start = 0; stop = 4; decay = (ofBits binary64 0x3fefffffffffffff); weightTime = (ofBits binary32 0x3f800000); weights = ((ofBits binary32 0xbf800000) ∷ (ofBits binary32 0x40400000) ∷ []); codes = 0 ∷ 0 ∷ [] }
+s19 = record { mode = «TIME_AUGMENTED»; method = «NORMALIZE_DIFFERENCE»; d = 2; k = 3; start = 0; stop = 4; decay = (ofBits binary64 0x3fefffffffffffff); weightTime = (ofBits binary32 0x3f800000); weights = ((ofBits binary32 0xbf800000) ∷ (ofBits binary32 0x40400000) ∷ []); codes = (14210 ∷ 6 ∷ []) }
 
 abbrev c19 : List Call
 c19 = (
@@ -1101,7 +1101,7 @@ abbrev t19 : List ℕ
 t19 = text (
     "set\tT\t5\t2\t3\t0\t4\t3fefffffffffffff\t3f800000" ∷
     "wgt\tbf800000\t40400000" ∷
-    "chn\t0\t0" ∷
+    "chn\t14210\t6" ∷
     "cnt\t2\t2\t2" ∷
     "dev\t3ff0000000000000\t4050a00000000000\t40b1464000000000" ∷
     "dev\t3ff0000000000000\t4055800000000001\t40bce40000000001" ∷

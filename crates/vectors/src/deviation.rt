@@ -7,6 +7,7 @@ use crate::field::begin;
 use crate::field::done;
 use crate::field::name;
 use crate::field::read_double;
+use crate::field::read_single;
 use crate::field::read_whole;
 use crate::lines::Tally;
 use crate::lines::counted;
@@ -77,6 +78,13 @@ fn set_count(line: &[u8], c: Cursor, s: Deviation) -> Called {
     answered(s.set_count(n.value), s, n.cursor)
 }
 
+// One reading put right.
+fn correct(line: &[u8], c: Cursor, s: Deviation) -> Called {
+    let wrong = read_single(line, c);
+    let right = read_single(line, wrong.cursor);
+    answered(s.corrected(wrong.value, right.value), s, right.cursor)
+}
+
 // No letter that the kind lacks: its line differs.
 fn call(line: &[u8], s: Deviation) -> Called {
     let letter = name(line);
@@ -87,6 +95,7 @@ fn call(line: &[u8], s: Deviation) -> Called {
         b'd' => call_double(letter, line, c, s),
         b'c' => create(line, c, s),
         b'k' => set_count(line, c, s),
+        b'o' => correct(line, c, s),
         b'r' => taken(s.reset(), c),
         b'e' => taken(Deviation::default(), c),
         _ => taken(s, Cursor { at: 0, good: false }),
