@@ -5,4 +5,5 @@ pub mod InUse
 pub mod Examples
 pub mod RestoreLaws
 pub mod OtherLaws
+pub mod StatisticLaws
 pub mod OtherExamples

@@ -2,7 +2,10 @@
 use Prim.Native.Nat.{ℕ}
 use mathlib.Core.List.{List, [], _∷_}
 use mathlib.Core.Path.{_≡_, refl}
-use lib.Ieee.{Float, binary32, ofBits, add, sub, mul, div, ofInt, lt}
+use lib.Ieee.{Float, binary32, binary64, ofBits, add, sub, mul, div, ofInt, lt, le, eq}
+use Rattle.common.specs.Lent.{over as over'}
+use Rattle.common.specs.Deviation.{statistic}
+use Rattle.common.specs.Corrected.{wholeWithin, integerOf, correctionRows, correctedStatistic, correctedOf}
 use Rattle.stranding.specs.Counts.{answer as counted, countsBy, counts, outOfRange, strandingsOf}
 use Rattle.stranding.specs.Standing.{afterDrain, afterLearn}
 use Rattle.series.specs.Imputation.{imputation, lineOf, missingOf, imputedAt, byPlace, imputed, misshapen, knownMarks, finitePresent, allFinite, imputeRow, imputeOf}
@@ -12,6 +15,7 @@ use Rattle.series.specs.Gaps.{absolute, sizeOf, larger, largest, sizes, gaps}
 use Rattle.series.specs.Alignment.{answer, readings, outputs, unusable, rowOf, written, alignOf, misshapen as unlike}
 use Rattle.capi.specs.Counts.{strandingsAt}
 use Rattle.capi.specs.Lists.{imputeAt, alignAt}
+use Rattle.capi.specs.Statistic.{statisticGot, statisticTold, correctedAt}
 
 counting : Unit {0}
 unfolding strandingsAt strandingsOf outOfRange counts countsBy afterDrain afterLearn
@@ -24,6 +28,10 @@ filling = tt
 comparing : Unit {0}
 unfolding alignAt alignOf rowOf unlike unusable pairs turn near written over gaps sizes sizeOf absolute largest larger ofBits sub lt
 comparing = tt
+
+correcting : Unit {0}
+unfolding correctedAt correctedOf correctionRows correctedStatistic wholeWithin integerOf statisticTold over' ofBits ofInt eq le
+correcting = tt
 
 -- 2.0, 4.0, 6.0 and 9.0
 abbrev two : Float
@@ -85,3 +93,26 @@ example-align-short : alignAt 1 (readings (two ∷ six ∷ []) (0 ∷ 10 ∷ [])
     ≡ answer 20 5 (outputs [] (8 ∷ []) (nine ∷ []))
 unfolding comparing
 example-align-short = refl
+
+-- of the list 2.0, 6.0 (weight 2, sum 8, squares 40) the 6.0 was a 4.0: sum 6, squares 20, what lies behind is kept; a weight of 3 is refused, and 26 comes
+-- before 20
+abbrev double : ℕ → Float
+double n = ofBits binary64 n
+
+example-corrected : correctedAt (statistic (double 0) (double 0x4000_0000_0000_0000) (double 0x4020_0000_0000_0000) (double 0x4044_0000_0000_0000) 2) six four
+    (nine ∷ nine ∷ nine ∷ nine ∷ [])
+    ≡ statisticGot 0 (double 0x4000_0000_0000_0000 ∷ double 0x4018_0000_0000_0000 ∷ double 0x4034_0000_0000_0000 ∷ nine ∷ [])
+unfolding correcting
+example-corrected = refl
+
+example-corrected-short : correctedAt (statistic (double 0) (double 0x4000_0000_0000_0000) (double 0x4020_0000_0000_0000) (double 0x4044_0000_0000_0000) 2) six four
+    (nine ∷ nine ∷ [])
+    ≡ statisticGot 20 (nine ∷ nine ∷ [])
+unfolding correcting
+example-corrected-short = refl
+
+example-corrected-refused : correctedAt (statistic (double 0) (double 0x4008_0000_0000_0000) (double 0x4020_0000_0000_0000) (double 0x4044_0000_0000_0000) 2) six four
+    (nine ∷ nine ∷ [])
+    ≡ statisticGot 26 (nine ∷ nine ∷ [])
+unfolding correcting
+example-corrected-refused = refl

@@ -3,3 +3,4 @@ pub mod Calls
 pub mod Restore
 pub mod Lists
 pub mod Counts
+pub mod Statistic

@@ -11,4 +11,5 @@ pub mod lists;
 pub mod numbers;
 pub mod outputs;
 pub mod restore;
+pub mod statistic;
 mod words;
