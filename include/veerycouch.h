@@ -17,10 +17,12 @@
  *   20  a lent part is too short
  *   21  impute: a mark other than 0 or 1, or more than 2000 readings
  *   24  align: a time below the one before it, or a list of more than 4096 readings
- *   25  strandings: a number outside 1 to 20            27  the codes of a text differ from those expected, in number or value
+ *   25  strandings: a number outside 1 to 20
+ *   26  corrected: the statistic or a reading is not such that one reading can be put right (see there)
+ *   27  the codes of a text differ from those expected, in number or value
  * They are asked in this order, but for these: a head of fewer than VEERYCOUCH_HEAD_WORDS words is refused by 20 before all else (by build:
  * after rows 1 to 9; by restore: after 19 and 27), a number that names no mode, no method, no rule or no code by 19 before rows 1 to 9, 27 stands
- * between 19 and 20, and 21 and 24 stand behind 10.
+ * between 19 and 20, 21 and 24 stand behind 10, and 26 stands before 20.
  *
  * THE CODES. Each of the d channels has a code of 16 bits, whatever the caller means by it. build is given them, the text carries them, and restore
  * is told the ones expected: a text of other channels is refused by 27. A text of before there were codes has none, and is read as one with d zeros.
@@ -179,6 +181,13 @@ uint64_t veerycouch_align(uint64_t d, const float *left, size_t left_len, const 
 /* Of the 3^calls lists of calls (a shingled_point, a post_process with y, a drain, each accepted or a drain refused by 15) on a fresh preprocessor of NORMALIZE
  * that awaits start initial values: how many leave them waiting, how many drained, how many stranded. start and calls are 1 to 20. Row 25. */
 uint64_t veerycouch_strandings(uint64_t start, uint64_t calls, uint64_t *waiting, uint64_t *drained, uint64_t *stranded);
+
+/* Of the statistic of a list of whole-number readings (discount, weight, sum, sum of squares, count), the statistic of the same list with right in a place
+ * that held wrong: the list itself is not needed. The new weight, sum and sum of squares become the first 3 numbers of output; discount and count stay.
+ * Rows 26 (discount not 0; wrong or right not a whole number of size at most 65536; count not 1 to 1048576; weight not count; sum not a whole number of size
+ * at most 65536 * count; sum_squared not one from 0 to 65536 * 65536 * count), 20. */
+uint64_t veerycouch_corrected(double discount, double weight, double sum, double sum_squared, uint64_t count, float wrong, float right, double *output,
+                              size_t output_len);
 
 /* The square root of a double, and the float nearest to a double, as the calls compute them: rounded once, on any machine. */
 double veerycouch_sqrt(double x);

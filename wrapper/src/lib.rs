@@ -450,6 +450,34 @@ pub fn strandings(start: u64, calls: u64) -> Result<Strandings, Refusal> {
     Ok(s)
 }
 
+/// The running statistic of a list.
+#[derive(Clone, Copy, Debug, PartialEq)]
+pub struct Statistic {
+    pub discount: f64,
+    pub weight: f64,
+    pub sum: f64,
+    pub sum_squared: f64,
+    pub count: u64,
+}
+
+impl Statistic {
+    /// Of the statistic of a list, that of the list with `right` in a place that held `wrong`.
+    pub fn corrected(self, wrong: f32, right: f32) -> Result<Statistic, Refusal> {
+        let mut numbers = [0.0; 3];
+        self.corrected_into(wrong, right, &mut numbers)?;
+        let [weight, sum, sum_squared] = numbers;
+        Ok(Statistic { weight, sum, sum_squared, ..self })
+    }
+
+    /// The new weight, sum and sum of squares, into the first three numbers of the output; discount and count stay.
+    pub fn corrected_into(self, wrong: f32, right: f32, output: &mut [f64]) -> Result<(), Refusal> {
+        // SAFETY: numbers, and a slice that is borrowed alone.
+        checked(unsafe {
+            raw::veerycouch_corrected(self.discount, self.weight, self.sum, self.sum_squared, self.count, wrong, right, output.as_mut_ptr(), output.len())
+        })
+    }
+}
+
 /// The square root, rounded once.
 pub fn sqrt(x: f64) -> f64 {
     // SAFETY: numbers alone.

@@ -92,6 +92,9 @@ extern "C" {
         right_out_len: usize, gaps_out: *mut f32, gaps_out_len: usize, pairs: *mut u64,
     ) -> u64;
     pub fn veerycouch_strandings(start: u64, calls: u64, waiting: *mut u64, drained: *mut u64, stranded: *mut u64) -> u64;
+    pub fn veerycouch_corrected(
+        discount: f64, weight: f64, sum: f64, sum_squared: f64, count: u64, wrong: f32, right: f32, output: *mut f64, output_len: usize,
+    ) -> u64;
     pub fn veerycouch_sqrt(x: f64) -> f64;
     pub fn veerycouch_to_f32(x: f64) -> f32;
 }

@@ -1,7 +1,7 @@
 //! The wrapper's own tests: samples of document 01, refusals, the head's words, and memory past the need.
 use veerycouch::{
     align, align_into, impute, impute_by_number, sqrt, strandings, to_f32, Aligned, ForestMode, ImputationMethod, Learn, Memory, Preprocessor, Ranges, Readings, Refusal,
-    Settings, Strandings, TransformMethod, HEAD_WORDS,
+    Settings, Statistic, Strandings, TransformMethod, HEAD_WORDS,
 };
 
 const FUEL_TRIM: u16 = 6;
@@ -307,4 +307,27 @@ fn stranded_starts() {
     }
     let s = strandings(20, 20).unwrap();
     assert_eq!(s.waiting + s.drained + s.stranded, 3u64.pow(20));
+}
+
+/// Of the list 2, 6 the 6 was a 4.
+#[test]
+fn put_right() {
+    let s = Statistic { discount: 0.0, weight: 2.0, sum: 8.0, sum_squared: 40.0, count: 2 };
+    assert_eq!(s.corrected(6.0, 4.0), Ok(Statistic { sum: 6.0, sum_squared: 20.0, ..s }));
+    // what lies past the answer is kept, a refusal writes nothing, and 26 comes before 20
+    let mut output = [9.0; 4];
+    assert_eq!((s.corrected_into(6.0, 4.0, &mut output[..2]), output), (Err(Refusal(20)), [9.0; 4]));
+    for (other, wrong) in [
+        (Statistic { discount: 0.1, ..s }, 6.0),
+        (Statistic { weight: 3.0, ..s }, 6.0),
+        (Statistic { sum: 0.5, ..s }, 6.0),
+        (Statistic { sum_squared: -1.0, ..s }, 6.0),
+        (Statistic { count: (1 << 32) + 2, ..s }, 6.0),
+        (s, 6.5),
+        (s, 65537.0),
+        (s, f32::NAN),
+    ] {
+        assert_eq!((other.corrected_into(wrong, 4.0, &mut output[..2]), output), (Err(Refusal(26)), [9.0; 4]), "{other:?} {wrong}");
+    }
+    assert_eq!((s.corrected_into(6.0, 4.0, &mut output), output), (Ok(()), [2.0, 6.0, 20.0, 9.0]));
 }

@@ -1,10 +1,11 @@
 //! The calls that take no preprocessor, on the library and by the oracle: random cases, refusals among them.
 use oracle::alignment::{align as paired, Call};
-use oracle::bits::all32;
+use oracle::bits::{all32, all64};
+use oracle::common::deviation::Deviation;
 use oracle::imputation::{cases, filled, row, Given, RULES};
 use oracle::random::Random;
 use oracle::stranding::by_table;
-use veerycouch::{align_into, impute_by_number, strandings, Readings, Refusal};
+use veerycouch::{align_into, impute_by_number, strandings, Readings, Refusal, Statistic};
 
 /// One more than the last row.
 pub const ROWS: usize = 28;
@@ -194,6 +195,98 @@ pub fn stranding(seed: u64, count: u64) -> Tally {
             Err(Refusal(25))
         };
         t.case(if accepted { 0 } else { 25 }, given == expected, || format!("strandings {start} {calls}: {given:?} for {expected:?}"));
+    }
+    t
+}
+
+// ---- corrected: the Rust has no such call, so its answer is the Rust's statistic of the changed list
+
+const READING: f64 = 65_536.0;
+
+fn reading(r: &mut Random) -> f32 {
+    match r.below(8) {
+        0 => r.pick(&[0.0, -0.0, 65_536.0, -65_536.0, 1.0, -1.0]),
+        1 | 2 => r.from(0, 131_072) as f32 - 65_536.0,
+        _ => r.from(0, 40) as f32 - 20.0,
+    }
+}
+
+fn fed(discount: f64, readings: &[f32]) -> Deviation {
+    let mut s = Deviation::new(discount).unwrap();
+    readings.iter().for_each(|&x| s.update(x as f64));
+    s
+}
+
+fn statistic(s: &Deviation) -> Statistic {
+    Statistic { discount: s.discount, weight: s.weight, sum: s.sum, sum_squared: s.sum_squared, count: s.count as u64 }
+}
+
+/// Row 26, from the request's words.
+fn row26(s: &Statistic, wrong: f32, right: f32) -> u64 {
+    let whole = |x: f64, limit: f64| x.is_finite() && x == x.trunc() && x.abs() <= limit;
+    let n = s.count as f64;
+    let kept = s.discount == 0.0
+        && whole(wrong as f64, READING)
+        && whole(right as f64, READING)
+        && (1..=1_048_576).contains(&s.count)
+        && s.weight == n
+        && whole(s.sum, READING * n)
+        && whole(s.sum_squared, READING * READING * n)
+        && s.sum_squared >= 0.0;
+    if kept {
+        0
+    } else {
+        26
+    }
+}
+
+/// One number of the statistic, or a reading, that may not be.
+fn spoiled(r: &mut Random, s: &mut Statistic, wrong: &mut f32, right: &mut f32) {
+    let odd = r.pick(&[0.5, -1.0, f64::NAN, f64::INFINITY, 1.0e300]);
+    match r.below(7) {
+        0 => s.discount = r.pick(&[0.1, 5.0e-324, -0.1, 1.0, f64::NAN]),
+        1 => s.weight += odd,
+        2 => s.sum = odd,
+        3 => s.sum_squared = odd,
+        4 => s.count = r.pick(&[0, s.count + 1, s.count + (1 << 32), 1_048_577, u64::MAX]),
+        5 => *wrong = r.pick(&[0.5, 65_537.0, -65_537.0, f32::NAN, f32::INFINITY, 1.0e-45]),
+        _ => *right = r.pick(&[0.5, 65_537.0, -65_537.0, f32::NAN, f32::NEG_INFINITY, 3.0e38]),
+    }
+}
+
+/// A list and one of its places; one in three with a fault. A fault that row 26 does not meet leaves a statistic that is no list's, and is passed over.
+pub fn corrected(seed: u64, count: u64) -> Tally {
+    let mut t = Tally::default();
+    for k in 0..count {
+        let mut r = Random::new((seed ^ 0x111).wrapping_mul(0x1_0000_0001).wrapping_add(k));
+        let n = if r.once_in(50) { r.from(1, 3000) } else { r.from(1, 12) } as usize;
+        let discount = r.pick(&[0.0, 0.0, -0.0]);
+        let mut readings: Vec<f32> = (0..n).map(|_| reading(&mut r)).collect();
+        let place = r.below(n as u64) as usize;
+        let (mut wrong, mut right) = (readings[place], reading(&mut r));
+        let mut s = statistic(&fed(discount, &readings));
+        let faulty = r.once_in(3);
+        if faulty {
+            spoiled(&mut r, &mut s, &mut wrong, &mut right);
+        }
+        let mut row = row26(&s, wrong, right);
+        if faulty && row == 0 {
+            continue;
+        }
+        readings[place] = right;
+        let room = r.pick(&[2, 3, 3, 4, 5]);
+        if row == 0 && room < 3 {
+            row = 20;
+        }
+        let mut output = vec![f64::from_bits(OLD); room];
+        let mut expected = output.clone();
+        if row == 0 {
+            let after = fed(discount, &readings);
+            expected[..3].copy_from_slice(&[after.weight, after.sum, after.sum_squared]);
+        }
+        let given = s.corrected_into(wrong, right, &mut output);
+        let agree = given == answered(row) && all64(&output) == all64(&expected);
+        t.case(row, agree, || format!("corrected: {s:?} {wrong} {right}: {given:?} {output:?} for {row} {expected:?}"));
     }
     t
 }
