@@ -9,7 +9,7 @@ use Rattle.common.specs.Corrected.{wholeWithin, integerOf, correctionRows, corr
 use Rattle.stranding.specs.Counts.{answer as counted, countsBy, counts, outOfRange, strandingsOf}
 use Rattle.stranding.specs.Standing.{afterDrain, afterLearn}
 use Rattle.series.specs.Imputation.{imputation, lineOf, missingOf, imputedAt, byPlace, imputed, misshapen, knownMarks, finitePresent, allFinite, imputeRow, imputeOf}
-use Rattle.series.specs.Lent.{over}
+use Rattle.common.specs.Lent.{over}
 use Rattle.series.specs.Pairs.{near, turn, pairs}
 use Rattle.series.specs.Gaps.{absolute, sizeOf, larger, largest, sizes, gaps}
 use Rattle.series.specs.Alignment.{answer, readings, outputs, unusable, rowOf, written, alignOf, misshapen as unlike}
