@@ -1,7 +1,7 @@
 //! Request #108, written from its words: two lists of readings paired by their times, and the largest size of difference per channel.
 //! Knows nothing of the Rattle: the pairs are checked against the best of all order-keeping pairings where the lists are short.
 use crate::random::Random;
-use std::fmt::Write;
+use crate::words::{singles, wholes, word};
 
 /// A call: the readings' cells one after the other, d to a reading, and how long the lent outputs are.
 #[derive(Clone, Default)]
@@ -187,24 +187,6 @@ fn long(random: &mut Random, d: u64, n: usize, m: usize, step: u64) -> Call {
         call.left[k] = random.value32();
     }
     call
-}
-
-fn word(line: &mut String, value: u64) {
-    write!(line, "{value:x} ").unwrap();
-}
-
-fn singles(line: &mut String, list: &[f32]) {
-    word(line, list.len() as u64);
-    for x in list {
-        word(line, crate::bits::bits32(*x) as u64);
-    }
-}
-
-fn wholes(line: &mut String, list: &[u64]) {
-    word(line, list.len() as u64);
-    for x in list {
-        word(line, *x);
-    }
 }
 
 /// A line: the call, then the row, and where it is 0 the number of pairs, the positions and the sizes.

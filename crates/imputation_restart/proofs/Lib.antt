@@ -1,0 +1,2 @@
+-- The theorem, and its instance.
+pub mod Filled
