@@ -18,9 +18,6 @@ loop-holds c = search needs
 next-word-requires : tie.Need-next-word-requires Inv-loop μ-loop
 next-word-requires c κs = search needs
 
-mul-out : tie.Need-mul-out Inv-loop μ-loop
-mul-out c = search needs
-
 slice-write-out : tie.Need-slice-write-out Inv-loop μ-loop
 slice-write-out c = search needs
 
@@ -47,7 +44,6 @@ read-bytes-spec =
     μ-loop
     loop-holds
     next-word-requires
-    mul-out
     slice-write-out
     add-i
     loop-less
