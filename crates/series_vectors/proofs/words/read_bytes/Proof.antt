@@ -18,6 +18,9 @@ loop-holds c = search needs
 next-word-requires : tie.Need-next-word-requires Inv-loop μ-loop
 next-word-requires c κs = search needs
 
+cast-out : tie.Need-cast-out Inv-loop μ-loop
+cast-out c = search needs
+
 slice-write-out : tie.Need-slice-write-out Inv-loop μ-loop
 slice-write-out c = search needs
 
@@ -44,6 +47,7 @@ read-bytes-spec =
     μ-loop
     loop-holds
     next-word-requires
+    cast-out
     slice-write-out
     add-i
     loop-less
