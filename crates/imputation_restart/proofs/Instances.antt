@@ -168,7 +168,7 @@ run-holdable =
       fixedFit = (tt, (tt, tt));
       learnsFit = (
         (omega arith, tt),
-        ((omega arith, (tt, (tt, tt))), ((omega arith, (tt, (tt, tt))), ((omega arith, (tt, (tt, tt))), ((omega arith, (tt, (tt, tt))), tt))))
+        ((omega arith, (tt, (tt, tt))), ((omega arith, (tt, (tt, tt))), ((omega arith, (tt, (tt, tt))), ((omega arith, (tt, (tt, tt))), tt)))),
       );
     }
 
