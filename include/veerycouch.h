@@ -13,11 +13,16 @@
  *   12  a timestamp below the newest                    13  y or expected, where given, not get_dimension long
  *   14  relative_index outside 1 - k to 0               15  drain with nothing to drain
  *   16  a forecast of unequal lists or broken blocks    18  a counter would pass its limit
- *   19  a number that names no mode, no method or (in a word of the head) no code; or a text not of the form
- *   20  a lent part is too short                        27  the codes of a text differ from those expected, in number or value
- * They are asked in this order, but for three: a head of fewer than VEERYCOUCH_HEAD_WORDS words is refused by 20 before all else (by build:
- * after rows 1 to 9; by restore: after 19 and 27), a number that names no mode, no method or no code by 19 before rows 1 to 9, and 27 stands
- * between 19 and 20.
+ *   19  a number that names no mode, no method, no rule of impute or (in a word of the head) no code; or a text not of the form
+ *   20  a lent part is too short
+ *   21  impute: a mark other than 0 or 1, or more than 2000 readings
+ *   24  align: a time below the one before it, or a list of more than 4096 readings
+ *   25  strandings: a number outside 1 to 20
+ *   26  corrected: the statistic or a reading is not such that one reading can be put right (see there)
+ *   27  the codes of a text differ from those expected, in number or value
+ * They are asked in this order, but for these: a head of fewer than VEERYCOUCH_HEAD_WORDS words is refused by 20 before all else (by build:
+ * after rows 1 to 9; by restore: after 19 and 27), a number that names no mode, no method, no rule or no code by 19 before rows 1 to 9, 27 stands
+ * between 19 and 20, 21 and 24 stand behind 10, and 26 stands before 20.
  *
  * THE CODES. Each of the d channels has a code of 16 bits, whatever the caller means by it. build is given them, the text carries them, and restore
  * is told the ones expected: a text of other channels is refused by 27. A text of before there were codes has none, and is read as one with d zeros.
@@ -72,6 +77,8 @@ enum {
     VEERYCOUCH_NORMALIZE_DIFFERENCE = 5
 };
 
+enum { VEERYCOUCH_FIXED = 0, VEERYCOUCH_PREVIOUS = 1, VEERYCOUCH_NEXT = 2, VEERYCOUCH_LINEAR = 3 };
+
 /* The parts of a preprocessor beside its head, as every call takes them. */
 #define VEERYCOUCH_PARTS(CHANGED, INITIAL)                                                                                                          \
     CHANGED double *statistics, size_t statistics_len, CHANGED float *last_shingled_input, size_t last_shingled_input_len,                          \
@@ -116,7 +123,9 @@ uint64_t veerycouch_difference_deviations(const uint64_t *head, size_t head_len,
 /* A forecast turned back into readings. values, upper and lower are equally long. In STANDARD they are turned back in their own place (blocks of d
  * numbers, where the method is DIFFERENCE or NORMALIZE_DIFFERENCE; the outputs are left and may be empty). In TIME_AUGMENTED they are blocks of
  * get_dimension numbers, h of them whole: h * d * k numbers go into values_out, upper_out and lower_out, h times into times_out, times_upper_out and
- * times_lower_out; values, upper and lower keep their contents. Rows 16, 20. */
+ * times_lower_out; values, upper and lower keep their contents. What an accepted call leaves is the right way up: no upper below its value and no lower
+ * above it, in numbers and in times, whatever the method and the weights (in STANDARD: where the lists are a whole number of blocks of d); the values do
+ * not depend on the bounds handed in, and the uppers do not depend on the lowers. Rows 16, 20. */
 uint64_t veerycouch_invert_extrapolation(const uint64_t *head, size_t head_len, const double *statistics, size_t statistics_len,
                                          const float *last_shingled_input, size_t last_shingled_input_len, const uint64_t *previous_timestamps,
                                          size_t previous_timestamps_len, float *values, size_t values_len, float *upper, size_t upper_len,
@@ -149,6 +158,36 @@ uint64_t veerycouch_forest_mode(const uint64_t *head, size_t head_len, uint64_t 
 
 /* The codes of the channels: d numbers into output. Rows 1 to 9, 19, of a damaged head; 20. */
 uint64_t veerycouch_codes(const uint64_t *head, size_t head_len, uint16_t *output, size_t output_len);
+
+/* ---- These take no preprocessor. */
+
+/* Fills in the missing cells of readings of d floats each, reading by reading, in their place. marks has a byte for each cell in the same order, 0 present
+ * and 1 missing; fixed has a value for each of the d channels. FIXED gives the channel's fixed value, PREVIOUS and NEXT the nearest present cell of the
+ * channel on that side, LINEAR the line in floats between the nearest on both sides, or the only one of them; where there is none, the fixed value. What
+ * stands in a missing cell is not read. d is 1 to 16, and there are at most 2000 readings. Rows 19 (the rule's number), 2, 4, 10 (cells not a whole number
+ * of readings, not as many marks as cells, or not d fixed values), 21, 11 (a present cell or a fixed value is not finite). */
+uint64_t veerycouch_impute(uint64_t method, uint64_t d, float *cells, size_t cells_len, const uint8_t *marks, size_t marks_len, const float *fixed,
+                           size_t fixed_len);
+
+/* Compares two lists of at most 4096 readings of d floats each (1 to 16) with their times: from both fronts, two readings whose times differ by at most
+ * tolerance are a pair, otherwise the earlier one is skipped. No other way of pairing that keeps the order of both lists has more pairs. *pairs becomes
+ * their number, their positions from 0 stand at the start of left_out and right_out, and the first d floats of gaps_out are each channel's largest size of
+ * difference over the pairs, subtracted in floats (a not-a-number counts as infinity; 0 where there is no pair). Rows 2, 4, 10 (a list without d floats for
+ * each time), 24, 20. */
+uint64_t veerycouch_align(uint64_t d, const float *left, size_t left_len, const uint64_t *left_times, size_t left_times_len, const float *right,
+                          size_t right_len, const uint64_t *right_times, size_t right_times_len, uint64_t tolerance, uint64_t *left_out,
+                          size_t left_out_len, uint64_t *right_out, size_t right_out_len, float *gaps_out, size_t gaps_out_len, uint64_t *pairs);
+
+/* Of the 3^calls lists of calls (a shingled_point, a post_process with y, a drain, each accepted or a drain refused by 15) on a fresh preprocessor of NORMALIZE
+ * that awaits start initial values: how many leave them waiting, how many drained, how many stranded. start and calls are 1 to 20. Row 25. */
+uint64_t veerycouch_strandings(uint64_t start, uint64_t calls, uint64_t *waiting, uint64_t *drained, uint64_t *stranded);
+
+/* Of the statistic of a list of whole-number readings (discount, weight, sum, sum of squares, count), the statistic of the same list with right in a place
+ * that held wrong: the list itself is not needed. The new weight, sum and sum of squares become the first 3 numbers of output; discount and count stay.
+ * Rows 26 (discount not 0; wrong or right not a whole number of size at most 65536; count not 1 to 1048576; weight not count; sum not a whole number of size
+ * at most 65536 * count; sum_squared not one from 0 to 65536 * 65536 * count), 20. */
+uint64_t veerycouch_corrected(double discount, double weight, double sum, double sum_squared, uint64_t count, float wrong, float right, double *output,
+                              size_t output_len);
 
 /* The square root of a double, and the float nearest to a double, as the calls compute them: rounded once, on any machine. */
 double veerycouch_sqrt(double x);

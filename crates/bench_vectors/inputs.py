@@ -1,7 +1,8 @@
 #!/usr/bin/env python3
 """Inputs of the bench, with the answers of the oracle's bench (docs/ORACLE.md); needs the oracle built.
 
-    crates/bench_vectors/inputs.py make                      data/inputs, data/long, and stdout with their counts
+    crates/bench_vectors/inputs.py make                      data/inputs, data/long, data/wrong, and stdout with their counts
+    crates/bench_vectors/inputs.py blocks                    stdin and stdout of the program bench, its edges of blocks cutting what they can
     crates/bench_vectors/inputs.py compare SEED COUNT BENCH  random inputs through BENCH too, byte for byte
     crates/bench_vectors/inputs.py speed REPEATS BENCH       lines a second of both on large inputs, medians
 
@@ -17,6 +18,7 @@ import tempfile
 
 HERE = os.path.dirname(os.path.abspath(__file__))
 TOOLS = os.path.join(HERE, "..", "..", "oracle", "target", "release")
+SAMPLE = b"set\tS\t0\t1\t1\t10\t20\t0000000000000000\t3f800000\nwgt\t3f800000\ns\n"
 HEAD = b"set\tS\t4\t1\t2\t1\t20\t0000000000000000\t3f800000\nwgt\t3f800000\n"
 BAD = [b"", b"x", b"d\t", b"s\t1", b"p", b"l\t", b"P\t1", b"p\t01\t3f800000", b"l\t1\t7fc00001", b"p\t18446744073709551616\t3f800000", b"d ", b"s\r", b"p\t1\t3F800000", b"l\t-1\t3f800000", b"p\t1\t3f800000\t", b"l\t1 3f800000", b"set", b"wgt", b"wgt\t3f800000", b"l\t1\t3f80000", b"p\t1\t3f8000000", b"l\t\t3f800000"]
 
@@ -169,28 +171,106 @@ def random_input(seed):
 
 
 def write(name, inputs):
-    """The inputs with their answers, and the sample once more with a wrong one: its last digit but for the LF is another."""
-    wrong = sample()
     with open(os.path.join(HERE, "data", name), "wb") as f:
-        for text in [*inputs, wrong]:
+        for text in inputs:
             answer = oracle(text)
             f.write(b"%d %d\n" % (len(text), len(answer)) + text + answer)
-        f.seek(-2, os.SEEK_CUR)
-        f.write(b"1")
-    return f"{name}: agree {len(inputs)}, differ 1\n"
-
-
-def sample():
-    return open(os.path.join(HERE, "..", "bench", "stdin"), "rb").read()
+    return f"{name}: agree {len(inputs)}, differ 0\n"
 
 
 def make():
-    inputs = [b"", b"\n", sample(), sample()[:-1], *heads(), *calls()]
+    inputs = [b"", b"\n", SAMPLE, SAMPLE[:-1], *heads(), *calls()]
     inputs += [rubbish(random.Random(seed)) for seed in range(1, 21)]
     inputs += [vectors(seed, 24) for seed in range(1, 101)]
-    lines = write("inputs", inputs) + write("long", list(long_lines()))
+    lines = write("inputs", inputs) + write("long", list(long_lines())) + wrong()
     with open(os.path.join(HERE, "stdout"), "w") as f:
         f.write(lines)
+
+
+def wrong():
+    """The sample with its answer, and once more with one digit of the answer changed: the replaying program must report that one."""
+    answer = oracle(SAMPLE)
+    at = answer.index(b"cnt\t0\t0\t0") + 6
+    with open(os.path.join(HERE, "data", "wrong"), "wb") as f:
+        for said in [answer, answer[:at] + b"1" + answer[at + 1:]]:
+            f.write(b"%d %d\n" % (len(SAMPLE), len(said)) + SAMPLE + said)
+    return "wrong: agree 1, differ 1\n"
+
+
+# ---- the input of the program bench, which reads blocks
+
+BLOCK = 131072  # bytes of the program's text
+LONGEST = 24  # bytes that it keeps of a cell
+
+
+def edges(text):
+    """Where the program's reads end, of an input that comes as fast as it is read."""
+    at, kept = 0, 0
+    while at < len(text):
+        at = min(len(text), at + BLOCK - kept)
+        yield at
+        kept = min(LONGEST, at - 1 - max(text.rfind(b"\t", 0, at), text.rfind(b"\n", 0, at)))
+
+
+def kinds(r, time):
+    """Readings of 4 values, calls of every kind and refusals of every row, from a time on that is 20 digits long."""
+    reading = b"\t%d" % time + b"".join(b"\t%08x" % r.randrange(0x3F000000, 0x43000000) for _ in range(4))
+    x = r.random()
+    if x < 0.02:
+        return r.choice([b"d", b"set\tS", b"wgt\t3f800000", b"p" + reading + b"\t3f800000", b"l\t%d\t3f800000" % time, b"l\t9" + reading[21:], b"l" + reading[:-8] + b"7f800000", b"p" + reading[:-8] + b"7fc00000"])
+    if x < 0.04:
+        return r.choice(BAD)
+    return b"l" + reading
+
+
+def block_input():
+    """More than 400 KB: d 4, k 64, mode T, start 500; edges of blocks in a time, behind a line, before a tab, behind a tab, in a name and in a long cell."""
+    r = random.Random(113)
+    time = 10**19
+    text = set_line(mode=b"T", method=b"5", d=b"4", k=b"64", start=b"500", stop=b"100000", decay=b"3f847ae147ae147b", time=b"3f000000")
+    text += b"wgt\t3f800000\t40000000\tbf800000\t3e800000\n"
+    # what the edge cuts, and how many bytes of it stand before the edge
+    reading = lambda line: b"%d" % time + line[22:]
+    cuts = [
+        (lambda line: b"l\t" + reading(line), 14), (lambda line: b"wgt\t3f800000\n", 0), (lambda line: b"p\t" + reading(line), 22),
+        (lambda line: b"l\t" + reading(line), 23), (lambda line: b"wgt\t3f800000\n", 2), (lambda line: b"l\t" + b"7" * 900 + b"\n", 302),
+    ]
+    learnt, stage = 0, 0
+    for cut, lead in cuts:
+        edge = next(e for e in edges(text + b"\n" * 2 * BLOCK) if e >= len(text))
+        while edge - len(text) > 700:
+            time += r.randrange(3)
+            line = kinds(r, time) + b"\n"
+            learnt += line[:2] == b"l\t"
+            text += line
+            if stage == 0 and learnt == 250:
+                text += b"p" + line[1:] + b"s\nd\n"
+                stage = 1
+            if stage == 1 and learnt > 560:
+                # the start is met: an `s` shows the readings that wait, they are let in, and a second `d` is refused
+                text += b"s\nd\nd\np" + line[1:] + b"s\n"
+                stage = 2
+            if stage == 2 and learnt > 2500:
+                # more output than the program has room for in one turn
+                for _ in range(85):
+                    time += 1
+                    text += b"p\t" + reading(line) + b"l\t" + reading(line)
+                text += b"s\n"
+                stage = 3
+            edge = next(e for e in edges(text + b"\n" * 2 * BLOCK) if e >= len(text))
+        # a line of no form fills the place up to the line that the edge cuts
+        text += b"x" * (edge - len(text) - lead - 1) + b"\n" + cut(line)
+    return text + b"s\nl\t%d" % time
+
+
+def blocks():
+    text = block_input()
+    for name, what in [("stdin", text), ("stdout", oracle(text))]:
+        with open(os.path.join(HERE, "..", "bench", name), "wb") as f:
+            f.write(what)
+    for e in edges(text):
+        print(e, text[max(0, e - 30):e], text[e:e + 10])
+    print(len(text), "bytes in")
 
 
 def compare(seed, count, bench):
@@ -241,6 +321,8 @@ def speed(repeats, bench):
 if __name__ == "__main__":
     if sys.argv[1:] == ["make"]:
         make()
+    elif sys.argv[1:] == ["blocks"]:
+        blocks()
     elif len(sys.argv) == 5 and sys.argv[1] == "compare":
         compare(int(sys.argv[2]), int(sys.argv[3]), sys.argv[4])
     elif len(sys.argv) == 4 and sys.argv[1] == "speed":

@@ -3,7 +3,7 @@
 //! A call that is refused returns `Err(Refusal(row))`, with document 01's row, and has changed nothing.
 mod raw;
 
-/// The row of a refused call: 1 to 20, or 27.
+/// The row of a refused call, as include/veerycouch.h lists them.
 #[derive(Clone, Copy, Debug, PartialEq, Eq)]
 pub struct Refusal(pub u64);
 
@@ -370,6 +370,111 @@ impl Preprocessor {
         // SAFETY: the words and the number are ours, and do not overlap.
         checked(unsafe { raw::veerycouch_is_ready(self.memory.head.as_ptr(), self.memory.head.len(), &mut answer) })?;
         Ok(answer != 0)
+    }
+}
+
+/// The rules that fill in a missing cell: a value fixed for its channel, the nearest present cell before it or after it, or the line between the two.
+#[derive(Clone, Copy, Debug, PartialEq, Eq)]
+#[repr(u64)]
+pub enum ImputationMethod {
+    Fixed = 0,
+    Previous = 1,
+    Next = 2,
+    Linear = 3,
+}
+
+/// Fills in the missing cells (mark 1) of readings of d cells, reading by reading; `fixed` has a value for each channel.
+pub fn impute(method: ImputationMethod, d: u64, cells: &mut [f32], marks: &[u8], fixed: &[f32]) -> Result<(), Refusal> {
+    impute_by_number(method as u64, d, cells, marks, fixed)
+}
+
+/// With the rule as any number.
+pub fn impute_by_number(method: u64, d: u64, cells: &mut [f32], marks: &[u8], fixed: &[f32]) -> Result<(), Refusal> {
+    // SAFETY: three slices that live through the call, of which the one that is written is borrowed alone.
+    checked(unsafe { raw::veerycouch_impute(method, d, cells.as_mut_ptr(), cells.len(), marks.as_ptr(), marks.len(), fixed.as_ptr(), fixed.len()) })
+}
+
+/// A list of readings of d cells, reading by reading, and the time of each.
+#[derive(Clone, Copy, Debug)]
+pub struct Readings<'a> {
+    pub cells: &'a [f32],
+    pub times: &'a [u64],
+}
+
+/// Two lists paired by their times. The number of pairs; their positions stand in the first numbers of `left_out` and `right_out`, and the largest size of
+/// difference of each channel in the first d of `gaps_out`.
+pub fn align_into(
+    d: u64, left: Readings, right: Readings, tolerance: u64, left_out: &mut [u64], right_out: &mut [u64], gaps_out: &mut [f32],
+) -> Result<usize, Refusal> {
+    let mut pairs = 0;
+    // SAFETY: every part is a slice that lives through the call, and those that are written are borrowed alone.
+    checked(unsafe {
+        raw::veerycouch_align(
+            d, left.cells.as_ptr(), left.cells.len(), left.times.as_ptr(), left.times.len(), right.cells.as_ptr(), right.cells.len(),
+            right.times.as_ptr(), right.times.len(), tolerance, left_out.as_mut_ptr(), left_out.len(), right_out.as_mut_ptr(), right_out.len(),
+            gaps_out.as_mut_ptr(), gaps_out.len(), &mut pairs,
+        )
+    })?;
+    Ok(pairs as usize)
+}
+
+/// The pairs, as positions in the two lists, and a size of difference for each channel.
+#[derive(Clone, Debug, PartialEq)]
+pub struct Aligned {
+    pub pairs: Vec<(usize, usize)>,
+    pub gaps: Vec<f32>,
+}
+
+/// Two lists paired by their times, in memory of its own.
+pub fn align(d: u64, left: Readings, right: Readings, tolerance: u64) -> Result<Aligned, Refusal> {
+    let most = left.times.len().min(right.times.len());
+    let (mut lefts, mut rights, mut gaps) = (vec![0; most], vec![0; most], vec![0.0; d.min(16) as usize]);
+    let number = align_into(d, left, right, tolerance, &mut lefts, &mut rights, &mut gaps)?;
+    let pairs = lefts.iter().zip(&rights).take(number).map(|(&i, &j)| (i as usize, j as usize)).collect();
+    Ok(Aligned { pairs, gaps })
+}
+
+/// Of all lists of so many calls, how many leave the initial values waiting, drained or stranded.
+#[derive(Clone, Copy, Debug, Default, PartialEq, Eq)]
+pub struct Strandings {
+    pub waiting: u64,
+    pub drained: u64,
+    pub stranded: u64,
+}
+
+/// Of the 3^calls lists of points, learns with a forest point and drains on a fresh preprocessor of NORMALIZE that awaits `start` initial values.
+pub fn strandings(start: u64, calls: u64) -> Result<Strandings, Refusal> {
+    let mut s = Strandings::default();
+    // SAFETY: three numbers of their own.
+    checked(unsafe { raw::veerycouch_strandings(start, calls, &mut s.waiting, &mut s.drained, &mut s.stranded) })?;
+    Ok(s)
+}
+
+/// The running statistic of a list.
+#[derive(Clone, Copy, Debug, PartialEq)]
+pub struct Statistic {
+    pub discount: f64,
+    pub weight: f64,
+    pub sum: f64,
+    pub sum_squared: f64,
+    pub count: u64,
+}
+
+impl Statistic {
+    /// Of the statistic of a list, that of the list with `right` in a place that held `wrong`.
+    pub fn corrected(self, wrong: f32, right: f32) -> Result<Statistic, Refusal> {
+        let mut numbers = [0.0; 3];
+        self.corrected_into(wrong, right, &mut numbers)?;
+        let [weight, sum, sum_squared] = numbers;
+        Ok(Statistic { weight, sum, sum_squared, ..self })
+    }
+
+    /// The new weight, sum and sum of squares, into the first three numbers of the output; discount and count stay.
+    pub fn corrected_into(self, wrong: f32, right: f32, output: &mut [f64]) -> Result<(), Refusal> {
+        // SAFETY: numbers, and a slice that is borrowed alone.
+        checked(unsafe {
+            raw::veerycouch_corrected(self.discount, self.weight, self.sum, self.sum_squared, self.count, wrong, right, output.as_mut_ptr(), output.len())
+        })
     }
 }
 

@@ -83,6 +83,18 @@ extern "C" {
     pub fn veerycouch_transformation_method(head: *const u64, head_len: usize, answer: *mut u64) -> u64;
     pub fn veerycouch_forest_mode(head: *const u64, head_len: usize, answer: *mut u64) -> u64;
     pub fn veerycouch_codes(head: *const u64, head_len: usize, output: *mut u16, output_len: usize) -> u64;
+    pub fn veerycouch_impute(
+        method: u64, d: u64, cells: *mut f32, cells_len: usize, marks: *const u8, marks_len: usize, fixed: *const f32, fixed_len: usize,
+    ) -> u64;
+    pub fn veerycouch_align(
+        d: u64, left: *const f32, left_len: usize, left_times: *const u64, left_times_len: usize, right: *const f32, right_len: usize,
+        right_times: *const u64, right_times_len: usize, tolerance: u64, left_out: *mut u64, left_out_len: usize, right_out: *mut u64,
+        right_out_len: usize, gaps_out: *mut f32, gaps_out_len: usize, pairs: *mut u64,
+    ) -> u64;
+    pub fn veerycouch_strandings(start: u64, calls: u64, waiting: *mut u64, drained: *mut u64, stranded: *mut u64) -> u64;
+    pub fn veerycouch_corrected(
+        discount: f64, weight: f64, sum: f64, sum_squared: f64, count: u64, wrong: f32, right: f32, output: *mut f64, output_len: usize,
+    ) -> u64;
     pub fn veerycouch_sqrt(x: f64) -> f64;
     pub fn veerycouch_to_f32(x: f64) -> f32;
 }

@@ -1,5 +1,8 @@
 //! The wrapper's own tests: samples of document 01, refusals, the head's words, and memory past the need.
-use veerycouch::{sqrt, to_f32, ForestMode, Learn, Memory, Preprocessor, Ranges, Refusal, Settings, TransformMethod, HEAD_WORDS};
+use veerycouch::{
+    align, align_into, impute, impute_by_number, sqrt, strandings, to_f32, Aligned, ForestMode, ImputationMethod, Learn, Memory, Preprocessor, Ranges, Readings, Refusal,
+    Settings, Statistic, Strandings, TransformMethod, HEAD_WORDS,
+};
 
 const FUEL_TRIM: u16 = 6;
 const LOAD: u16 = 4;
@@ -234,4 +237,97 @@ fn numbers() {
     assert_eq!(sqrt(f64::from_bits(1)).to_bits(), 0x1e60_0000_0000_0000);
     assert!(sqrt(-1.0).is_nan());
     assert_eq!((to_f32(16777217.0), to_f32(16777219.0)), (16777216.0, 16777220.0));
+}
+
+/// Two channels, three readings: in the first channel the middle cell is missing, in the second all are.
+#[test]
+fn filled_in() {
+    let marks = [0, 1, 1, 1, 0, 1];
+    let fixed = [9.0, -1.0];
+    for (method, middle) in [
+        (ImputationMethod::Fixed, 9.0),
+        (ImputationMethod::Previous, 2.0),
+        (ImputationMethod::Next, 6.0),
+        (ImputationMethod::Linear, 4.0),
+    ] {
+        // what stands in a missing cell is not read
+        let mut cells = [2.0, f32::NAN, f32::INFINITY, 0.0, 6.0, 7.0];
+        assert_eq!(impute(method, 2, &mut cells, &marks, &fixed), Ok(()));
+        assert_eq!(cells, [2.0, -1.0, middle, -1.0, 6.0, -1.0], "{method:?}");
+    }
+    let old = [2.0, 3.0, 4.0, 5.0, 6.0, 7.0];
+    let mut cells = old;
+    type Refused<'a> = (u64, u64, &'a [u8], &'a [f32], u64);
+    let refused: [Refused; 10] = [
+        (4, 0, &[3], &[f32::NAN], 19),
+        (u64::MAX, 2, &marks, &fixed, 19),
+        (1 << 32, 2, &marks, &fixed, 19),
+        (0, 0, &marks, &fixed, 2),
+        (1, 17, &marks, &fixed, 4),
+        (1, u64::MAX, &marks, &fixed, 4),
+        (2, 2, &marks[1..], &fixed, 10),
+        (2, 2, &marks, &fixed[1..], 10),
+        (3, 2, &[0, 1, 2, 1, 0, 1], &[f32::NAN, 1.0], 21),
+        (3, 2, &marks, &[f32::NAN, 1.0], 11),
+    ];
+    for (method, d, marks, fixed, row) in refused {
+        assert_eq!((impute_by_number(method, d, &mut cells, marks, fixed), cells), (Err(Refusal(row)), old), "rule {method}, d {d}");
+    }
+}
+
+#[test]
+fn compared() {
+    let left = Readings { cells: &[1.0, 2.0, 5.0], times: &[0, 10, 20] };
+    let right = Readings { cells: &[1.5, 7.0], times: &[1, 21] };
+    assert_eq!(align(1, left, right, 2), Ok(Aligned { pairs: vec![(0, 0), (2, 1)], gaps: vec![2.0] }));
+    assert_eq!(align(1, left, right, 0), Ok(Aligned { pairs: vec![], gaps: vec![0.0] }));
+    // what lies past the answer is kept, and a refusal writes nothing
+    let (mut i, mut j, mut gaps) = ([7; 3], [8; 3], [9.0; 2]);
+    for (d, left, right, row) in [
+        (0, left, right, 2),
+        (u64::MAX, left, right, 4),
+        (2, left, right, 10),
+        (1, Readings { times: &[0, 10, 9], ..left }, right, 24),
+    ] {
+        assert_eq!((align_into(d, left, right, 2, &mut i, &mut j, &mut gaps), i, j, gaps), (Err(Refusal(row)), [7; 3], [8; 3], [9.0; 2]));
+    }
+    assert_eq!(align_into(1, left, right, 2, &mut i[..1], &mut j, &mut gaps), Err(Refusal(20)));
+    assert_eq!(align_into(1, left, right, 2, &mut i, &mut j, &mut []), Err(Refusal(20)));
+    assert_eq!((align_into(1, left, right, 2, &mut i, &mut j, &mut gaps), i, j, gaps), (Ok(2), [0, 2, 7], [0, 1, 8], [2.0, 9.0]));
+    let nan = Readings { cells: &[f32::NAN], times: &[5] };
+    assert_eq!(align(1, nan, nan, 0), Ok(Aligned { pairs: vec![(0, 0)], gaps: vec![f32::INFINITY] }));
+}
+
+/// "For n 2 and s 1 they are 6, 2 and 1."
+#[test]
+fn stranded_starts() {
+    assert_eq!(strandings(1, 2), Ok(Strandings { waiting: 6, drained: 2, stranded: 1 }));
+    for (start, calls) in [(0, 1), (1, 0), (21, 1), (1, 21), ((1 << 32) + 1, 1), (1, u64::MAX)] {
+        assert_eq!(strandings(start, calls), Err(Refusal(25)), "{start} {calls}");
+    }
+    let s = strandings(20, 20).unwrap();
+    assert_eq!(s.waiting + s.drained + s.stranded, 3u64.pow(20));
+}
+
+/// Of the list 2, 6 the 6 was a 4.
+#[test]
+fn put_right() {
+    let s = Statistic { discount: 0.0, weight: 2.0, sum: 8.0, sum_squared: 40.0, count: 2 };
+    assert_eq!(s.corrected(6.0, 4.0), Ok(Statistic { sum: 6.0, sum_squared: 20.0, ..s }));
+    // what lies past the answer is kept, a refusal writes nothing, and 26 comes before 20
+    let mut output = [9.0; 4];
+    assert_eq!((s.corrected_into(6.0, 4.0, &mut output[..2]), output), (Err(Refusal(20)), [9.0; 4]));
+    for (other, wrong) in [
+        (Statistic { discount: 0.1, ..s }, 6.0),
+        (Statistic { weight: 3.0, ..s }, 6.0),
+        (Statistic { sum: 0.5, ..s }, 6.0),
+        (Statistic { sum_squared: -1.0, ..s }, 6.0),
+        (Statistic { count: (1 << 32) + 2, ..s }, 6.0),
+        (s, 6.5),
+        (s, 65537.0),
+        (s, f32::NAN),
+    ] {
+        assert_eq!((other.corrected_into(wrong, 4.0, &mut output[..2]), output), (Err(Refusal(26)), [9.0; 4]), "{other:?} {wrong}");
+    }
+    assert_eq!((s.corrected_into(6.0, 4.0, &mut output), output), (Ok(()), [2.0, 6.0, 20.0, 9.0]));
 }

@@ -11,7 +11,7 @@ use Rattle.trcf.specs.Preprocessor.{turned, refused, accepted, facts, turnedBac
 use Rattle.trcf.specs.View.{view, settingsOf, headRow, orElse}
 use Rattle.trcf.specs.Extrapolation.{viewed, unread, extrapolationRow, extrapolationOf, Sizes, sizes, rowAt}
 use Rattle.trcf.proofs.ExtrapolationLaws.{row-is}
-use Rattle.trcf.specs.declared.preprocessor.Preprocessor.{Preprocessor}
+use Rattle.trcf.specs.declared.head.Preprocessor.{Preprocessor}
 use Rattle.band.specs.Band.{AllAsLong, Turns, Leaves, HeldBand}
 use Rattle.band.proofs.Upright.{band}
 

@@ -12,7 +12,7 @@ use Rattle.trcf.specs.Calls.{Forecast, invertExtrapolation, lookahead}
 use Rattle.trcf.specs.Preprocessor.{State, Answer, turned, answer, refusal}
 use Rattle.trcf.specs.Extrapolation.{extrapolationOf}
 use Rattle.trcf.specs.View.{settingsOf}
-use Rattle.trcf.specs.declared.preprocessor.Preprocessor.{Preprocessor}
+use Rattle.trcf.specs.declared.head.Preprocessor.{Preprocessor}
 
 -- "no upper below its value and no lower above it … not-a-numbers included": `lt` is IEEE's of any width, false where one of the two is not a number.
 -- n of each; past the end stands a not-a-number, so no index is left out.

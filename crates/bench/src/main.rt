@@ -1,19 +1,130 @@
-// The bench: reads standard input block by block until it ends, hands each block to `bench_core` cell by cell, and writes what that prints.
-mod block;
-
-use bench_core::step::Bench;
-use bench_core::step::finish;
-use bench_core::step::start;
+// The bench: reads standard input block by block until it ends, hands each block to `bench_blocks`, and writes what that prints. Proved are what each
+// call does, that turns follow until one had room before the next read, that a read leaves what is kept, and that the memory does. That `filled` and
+// `turned` read and write, and that `all` hands on the number of bytes that were read, is seen by reading: then a run is one of `Program` (bench_blocks/specs).
+use bench_blocks::turn::Run;
+use bench_blocks::turn::first_run;
+use bench_blocks::turn::turn;
+use bench_core::step::Phase;
+use libc::STDIN_FILENO;
 use libc::STDOUT_FILENO;
+ghost use Prim.Native.Nat.{_+_, _≤_, _<_};
+ghost use mathlib.Core.Path.{_≡_};
+ghost use mathlib.Core.Bool.{true, false};
+ghost use lib.ListN.{length, take};
 
-// What the end of the input prints, behind the bytes of rest, in which no cell ends.
-fn last(bench: Bench, rest: &[u8], out: &mut [u8]) {
-    let s = finish(bench, rest, out);
-    let n = block::onward(0, s.length, out.len());
-    io::write_all(STDOUT_FILENO, &out[..n]);
+// Reads the next bytes of the input to the text, behind those that are kept; answers how many, none at the end of the input.
+fn filled(text: &mut [u8], kept: usize) -> usize
+    requires { ⌜ kept < length (now text) ⌝ }
+    ensures { λ r. ⌜ kept + r ≤ length (now (text .exit)) ⌝ }
+    ensures { λ _. ⌜ take kept (now (text .exit)) ≡ take kept (now (text .entry)) ⌝ }
+{
+    let got = libc::read(STDIN_FILENO, &mut text[kept..]);
+    io::count(got, &text[kept..])
 }
 
-// The whole input. A proved loop has to end, and nothing says that an input does: the loop counts its turns down, from a number that no
+// One turn, and what it prints written.
+fn turned(
+    run: Run,
+    statistics: &mut [f64],
+    last_shingled_input: &mut [f32],
+    last_shingled_point: &mut [f32],
+    previous_timestamps: &mut [u64],
+    initial_values: &mut [f32],
+    initial_timestamps: &mut [u64],
+    point: &mut [f32],
+    text: &mut [u8],
+    got: usize,
+    out: &mut [u8],
+) -> Run
+    requires { ⌜ run .kept + got ≤ length (now text) ⌝ }
+    requires { ⌜ 24 < length (now text) ⌝ }
+    requires { ⌜ 65536 ≤ length (now out) ⌝ }
+    ensures { λ r. ⌜ r .kept ≤ length (now (text .exit)) ⌝ }
+    ensures { λ r. ⌜ (r .full ≡ false → r .kept ≤ 24) ⌝ }
+    ensures { λ r. ⌜ (r .full ≡ true → r .kept < run .kept + got) ⌝ }
+{
+    let t = turn(
+        run,
+        statistics,
+        last_shingled_input,
+        last_shingled_point,
+        previous_timestamps,
+        initial_values,
+        initial_timestamps,
+        point,
+        text,
+        got,
+        out,
+    );
+    let n = t.written;
+    io::write_all(STDOUT_FILENO, &out[..n]);
+    t.run
+}
+
+// A block: turn after turn, until one has room for all that it prints. Each has read a byte at least, or it would not end.
+fn handed(
+    run: Run,
+    statistics: &mut [f64],
+    last_shingled_input: &mut [f32],
+    last_shingled_point: &mut [f32],
+    previous_timestamps: &mut [u64],
+    initial_values: &mut [f32],
+    initial_timestamps: &mut [u64],
+    point: &mut [f32],
+    text: &mut [u8],
+    got: usize,
+    out: &mut [u8],
+) -> Run
+    requires { ⌜ run .kept + got ≤ length (now text) ⌝ }
+    requires { ⌜ 24 < length (now text) ⌝ }
+    requires { ⌜ 65536 ≤ length (now out) ⌝ }
+    ensures { λ r. ⌜ (r .full ≡ false) × (r .kept ≤ 24) ⌝ }
+{
+    let mut r = turned(
+        run,
+        statistics,
+        last_shingled_input,
+        last_shingled_point,
+        previous_timestamps,
+        initial_values,
+        initial_timestamps,
+        point,
+        text,
+        got,
+        out,
+    );
+    while r.full {
+        r = turned(
+            r,
+            statistics,
+            last_shingled_input,
+            last_shingled_point,
+            previous_timestamps,
+            initial_values,
+            initial_timestamps,
+            point,
+            text,
+            0,
+            out,
+        );
+    }
+    r
+}
+
+// The reads that are left behind one: none where the bench is at its end.
+fn left(reads: u64, phase: Phase) -> u64
+    requires { ⌜ 0 < reads ⌝ }
+    ensures { λ r. ⌜ r < reads ⌝ }
+{
+    match phase {
+        Phase::WantsSet => reads - 1,
+        Phase::WantsWeights => reads - 1,
+        Phase::Running => reads - 1,
+        Phase::Ended => 0,
+    }
+}
+
+// The whole input. A proved loop has to end, and nothing says that an input does: the loop counts its reads down, from a number that no
 // run uses up.
 fn all(
     statistics: &mut [f64],
@@ -25,13 +136,17 @@ fn all(
     point: &mut [f32],
     text: &mut [u8],
     out: &mut [u8],
-) {
-    let mut bench = start();
-    let mut kept = 0usize;
-    let mut turns = u64::MAX;
-    while turns > 0 {
-        let t = block::next_block(
-            bench,
+)
+    requires { ⌜ 24 < length (now text) ⌝ }
+    requires { ⌜ 65536 ≤ length (now out) ⌝ }
+{
+    let mut run = first_run();
+    let mut reads = u64::MAX;
+    while reads > 0 {
+        let kept = run.kept;
+        let got = filled(text, kept);
+        run = handed(
+            run,
             statistics,
             last_shingled_input,
             last_shingled_point,
@@ -40,14 +155,13 @@ fn all(
             initial_timestamps,
             point,
             text,
-            kept,
+            got,
             out,
         );
-        bench = t.bench;
-        kept = t.kept;
-        turns = block::left(turns, t.over);
+        let bench = run.bench;
+        let phase = bench.phase;
+        reads = left(reads, phase);
     }
-    last(bench, &text[..kept], out);
 }
 
 // The memory that is lent: room for 4 values a reading, 64 readings a point and 500 readings that wait, which are the bench's limits.

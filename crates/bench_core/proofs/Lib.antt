@@ -3,5 +3,4 @@ pub mod PrintLaws
 pub mod TurnLaws
 pub mod StepLaws
 pub mod CellLaws
-pub mod BlockLaws
 pub mod Examples

@@ -14,7 +14,7 @@ use Rattle.trcf.specs.Types.{augments}
 use Rattle.trcf.specs.Settings.{Settings, block, dimension, wholeMax}
 use Rattle.trcf.specs.View.{settingsOf, headRow, headTable}
 use Rattle.trcf.specs.Preprocessor.{accepted}
-use Rattle.trcf.specs.declared.preprocessor.Preprocessor.{Preprocessor}
+use Rattle.trcf.specs.declared.head.Preprocessor.{Preprocessor}
 use Rattle.snapshot.specs.Text.{singles}
 use Rattle.snapshot.specs.Read.{bytesOfLine}
 use Rattle.snapshot.specs.Save.{Outcome, outcome, fitted}

@@ -10,9 +10,10 @@ use lib.ListN.{length, take, drop, getD, replicate}
 use lib.Ieee.{Float}
 use Rattle.trcf.specs.Preprocessor.{accepted}
 use Rattle.trcf.proofs.OutcomeLaws.{accepted-not}
-use Rattle.trcf.specs.View.{Lent, Outcome, outcome, buildOf, settingsFrom}
-use Rattle.trcf.specs.declared.preprocessor.Preprocessor.{Preprocessor}
-use Rattle.trcf.specs.declared.preprocessor.PreprocessorBuilder.{PreprocessorBuilder}
+use Rattle.trcf.specs.Settings.{settingsRow}
+use Rattle.trcf.specs.View.{Lent, Outcome, outcome, orElse, noHead, buildOf, settingsFrom}
+use Rattle.trcf.specs.declared.head.Preprocessor.{Preprocessor}
+use Rattle.trcf.specs.declared.head.PreprocessorBuilder.{PreprocessorBuilder}
 use Rattle.bench_core.specs.Line.{cellOf, requestOf, keptCount, keptOf}
 use Rattle.bench_core.specs.declared.line.Line.{Line}
 use Rattle.bench_core.specs.declared.line.Name.{Name}
@@ -20,7 +21,7 @@ use Rattle.bench_core.specs.declared.line.Name.the-variants.{Unread, Set
 use Rattle.bench_core.specs.declared.step.Phase.{Phase}
 use Rattle.bench_core.specs.declared.step.Phase.the-variants.{WantsWeights, Running}
 use Rattle.bench_core.specs.declared.step.Bench.{Bench}
-use Rattle.bench_core.specs.Bench.{zeroCodes, Output, output, prints, noText, readyFor, goingOn, endOf, builderFrom, Told, told, Heard, heard, refusedBy, setHeard, limitRow, builtHeard, weightsTurn, weightsHeard, callTold, isReading, isPoint, readingName, plainHeard, callHeard, tells, pointTurn, learnTurn, lineBy, lineHeard, begun, Said, said, finishBy, finished, finishOf, cellLength, cellKept, stepped, withLine, cellStep, stepOf}
+use Rattle.bench_core.specs.Bench.{zeroCodes, builtOf, Output, output, prints, noText, readyFor, goingOn, endOf, builderFrom, Told, told, Heard, heard, refusedBy, setHeard, limitRow, builtHeard, weightsTurn, weightsHeard, callTold, isReading, isPoint, readingName, plainHeard, callHeard, tells, pointTurn, learnTurn, lineBy, lineHeard, begun, Said, said, finishBy, finished, finishOf, cellLength, cellKept, stepped, withLine, cellStep, stepOf}
 
 pub kept-of : (l : Line) (n : ℕ) → n ≡ keptCount (l .count) → take n (l .singles) ≡ keptOf l
 unfolding keptOf
@@ -31,10 +32,38 @@ pub refused-heard : (b : Bench) (out : List ℕ) (row : ℕ) (lists : Lent) (y :
     → said b' o ≡ said (endOf b) (prints (noText row) out) → heard b' lists y o ≡ refusedBy row b lists y out
 refused-heard b out row lists y e = ap (λ (s : Said). heard (s .bench) lists y (s .out)) e
 
+-- ---- rows 1 to 9, the limits, `build`
+
+pub else-not : (n m k : ℕ) → k ≡ n → (k ≡ 0 → ⊥) → k ≡ orElse n m
+else-not zero m k e z = absurd (z e)
+else-not (suc n) m k e z = e
+
+pub else-then : (n m k r : ℕ) → k ≡ n → k ≡ 0 → r ≡ m → r ≡ orElse n m
+else-then n m k r e z f = f ∙ ap (λ (i : ℕ). orElse i m) (sym z ∙ e)
+
+module _ (q : PreprocessorBuilder) (w : List Float) (lists : Lent) (row : ℕ) (cs : List ℕ) (k : cs ≡ zeroCodes q)
+    (e : row ≡ orElse (settingsRow (settingsFrom q w cs)) (limitRow q)) where
+  bare-row : row ≡ orElse (settingsRow (settingsFrom q w (zeroCodes q))) (limitRow q)
+  bare-row = e ∙ ap (λ (u : List ℕ). orElse (settingsRow (settingsFrom q w u)) (limitRow q)) k
+
+  pub bare-refused : (h : Preprocessor) → h ≡ noHead → (row ≡ 0 → ⊥) → outcome row h lists ≡ builtOf q w lists
+  unfolding builtOf
+  bare-refused h p n =
+      ap (λ (g : Preprocessor). outcome row g lists) p
+      ∙ sym (accepted-not row (buildOf (settingsFrom q w (zeroCodes q)) lists) (outcome row noHead lists) n)
+      ∙ ap (λ (i : ℕ). accepted i (buildOf (settingsFrom q w (zeroCodes q)) lists) (outcome i noHead lists)) bare-row
+
+  pub bare-built : (o : Outcome) → row ≡ 0 → o ≡ buildOf (settingsFrom q w cs) lists → o ≡ builtOf q w lists
+  unfolding builtOf
+  bare-built o z p =
+      p
+      ∙ ap (λ (u : List ℕ). buildOf (settingsFrom q w u) lists) k
+      ∙ ap (λ (i : ℕ). accepted i (buildOf (settingsFrom q w (zeroCodes q)) lists) (outcome i noHead lists)) (sym z ∙ bare-row)
+
 module _ (b : Bench) (out : List ℕ) (l : Line) (lists : Lent) (y : List Float) {l' : Lent} {row : ℕ} {h' : Preprocessor} {v : List Float}
-    (k : v ≡ keptOf l) (e : outcome row h' l' ≡ buildOf (settingsFrom (b .builder) v (zeroCodes (b .builder))) lists) where
-  built : outcome row h' l' ≡ buildOf (settingsFrom (b .builder) (keptOf l) (zeroCodes (b .builder))) lists
-  built = e ∙ ap (λ (u : List Float). buildOf (settingsFrom (b .builder) u (zeroCodes (b .builder))) lists) k
+    (k : v ≡ keptOf l) (e : outcome row h' l' ≡ builtOf (b .builder) v lists) where
+  built : outcome row h' l' ≡ builtOf (b .builder) (keptOf l) lists
+  built = e ∙ ap (λ (u : List Float). builtOf (b .builder) u lists) k
 
   pub weights-refused : {b' : Bench} {o : Output} → (row ≡ 0 → ⊥) → said b' o ≡ said (endOf b) (prints (noText row) out)
       → heard b' l' y o ≡ weightsTurn b l lists y out
@@ -42,22 +71,10 @@ module _ (b : Bench) (out : List ℕ) (l : Line) (lists : Lent) (y : List Float)
   weights-refused n p =
       refused-heard b out row l' y p ∙ sym (accepted-not row _ (refusedBy row b l' y out) n) ∙ ap (λ (q : Outcome). builtHeard b q y out) built
 
-  pub weights-over : {b' : Bench} {o : Output} (m : ℕ) → row ≡ 0 → m ≡ limitRow (b .builder) → (m ≡ 0 → ⊥)
-      → said b' o ≡ said (endOf b) (prints (noText m) out) → heard b' l' y o ≡ weightsTurn b l lists y out
+  pub weights-built : {b' : Bench} → row ≡ 0 → b' ≡ readyFor Running (b .builder) h' (b .given) → heard b' l' y (output 0 out) ≡ weightsTurn b l lists y out
   unfolding weightsTurn
-  weights-over m z q n p =
-      refused-heard b out m l' y p
-      ∙ sym (accepted-not m (heard (readyFor Running (b .builder) h' (b .given)) l' y (output 0 out)) (refusedBy m b l' y out) n)
-      ∙ ap (λ (i : ℕ). accepted i (heard (readyFor Running (b .builder) h' (b .given)) l' y (output 0 out)) (refusedBy i b l' y out)) q
-      ∙ ap (λ (u : Outcome). builtHeard b u y out) ((λ j. outcome (sym z j) h' l') ∙ built)
-
-  pub weights-built : {b' : Bench} (m : ℕ) → row ≡ 0 → m ≡ limitRow (b .builder) → m ≡ 0
-      → b' ≡ readyFor Running (b .builder) h' (b .given) → heard b' l' y (output 0 out) ≡ weightsTurn b l lists y out
-  unfolding weightsTurn
-  weights-built m z q n p =
-      (λ j. heard (p j) l' y (output 0 out))
-      ∙ ap (λ (i : ℕ). accepted i (heard (readyFor Running (b .builder) h' (b .given)) l' y (output 0 out)) (refusedBy i b l' y out)) (sym n ∙ q)
-      ∙ ap (λ (u : Outcome). builtHeard b u y out) ((λ j. outcome (sym z j) h' l') ∙ built)
+  weights-built z p =
+      (λ j. heard (p j) l' y (output 0 out)) ∙ ap (λ (u : Outcome). builtHeard b u y out) ((λ j. outcome (sym z j) h' l') ∙ built)
 
 -- ---- by the name of the line, and by what the bench waits for
 

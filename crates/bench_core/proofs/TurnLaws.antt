@@ -10,7 +10,7 @@ use Rattle.trcf.specs.Transformer.{zero32}
 use Rattle.trcf.specs.Preprocessor.{accepted}
 use Rattle.trcf.proofs.OutcomeLaws.{accepted-not}
 use Rattle.trcf.specs.View.{Lent, Outcome, outcome, drainOf, PointOutcome, pointed, pointAfter, LearnOutcome, learnOutcome, learnAfter, learnCall}
-use Rattle.trcf.specs.declared.preprocessor.Preprocessor.{Preprocessor}
+use Rattle.trcf.specs.declared.head.Preprocessor.{Preprocessor}
 use Rattle.snapshot.specs.Save.{saveOf, Outcome as Saved, outcome as saved}
 use Rattle.bench_core.specs.Bench.{Output, output, prints, noText, okText, noneText, doneText, pointText, dimensionOf, Turn, turn, told, tells, pointTold, pointTurn, learnTurn, drainTurn, saveTold, savePrints}
 

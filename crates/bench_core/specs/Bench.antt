@@ -10,15 +10,15 @@ use lib.Ieee.{Float, nan}
 use Rattle.common.specs.Lent.{over}
 use Rattle.common.specs.Deviation.{zero64}
 use Rattle.trcf.specs.Transformer.{zero32}
-use Rattle.trcf.specs.Settings.{dimension}
+use Rattle.trcf.specs.Settings.{dimension, settingsRow}
 use Rattle.trcf.specs.Preprocessor.{accepted}
-use Rattle.trcf.specs.View.{Lent, settingsOf, settingsFrom, headRow, orElse, noHead, buildOf, drainOf, pointAfter, PointOutcome, learnAfter, learnCall, LearnOutcome, Outcome}
+use Rattle.trcf.specs.View.{Lent, settingsOf, settingsFrom, headRow, orElse, noHead, buildOf, drainOf, pointAfter, PointOutcome, learnAfter, learnCall, LearnOutcome, Outcome, outcome}
 use Rattle.trcf.specs.declared.types.TransformMethod.{TransformMethod}
 use Rattle.trcf.specs.declared.types.TransformMethod.the-variants.{NONE, WEIGHTED, DIFFERENCE, «SUBTRACT_MA», NORMALIZE, «NORMALIZE_DIFFERENCE»}
 use Rattle.trcf.specs.declared.types.ForestMode.{ForestMode}
 use Rattle.trcf.specs.declared.types.ForestMode.the-variants.{STANDARD, «TIME_AUGMENTED»}
-use Rattle.trcf.specs.declared.preprocessor.Preprocessor.{Preprocessor}
-use Rattle.trcf.specs.declared.preprocessor.PreprocessorBuilder.{PreprocessorBuilder}
+use Rattle.trcf.specs.declared.head.Preprocessor.{Preprocessor}
+use Rattle.trcf.specs.declared.head.PreprocessorBuilder.{PreprocessorBuilder}
 use Rattle.snapshot.specs.Text.{whole, named, singles, render}
 use Rattle.snapshot.specs.Read.{bytesOfLine}
 use Rattle.snapshot.specs.Save.{saveOf, Outcome as Saved}
@@ -201,13 +201,6 @@ setHeard Other b l lists y out = refusedBy 19 b lists y out
 abbrev pub limitRow : PreprocessorBuilder → ℕ
 limitRow b = cond (ltb 4 (b .«input_dimensions»)) 20 (cond (ltb 500 (b .«start_normalization»)) 20 0)
 
-abbrev pub builtHeard : Bench → Outcome → List Float → List ℕ → Heard
-builtHeard b o y out =
-    accepted (o .row)
-    (accepted (limitRow (b .builder)) (heard (readyFor Running (b .builder) (o .head) (b .given)) (o .lent) y (output 0 out))
-    (refusedBy (limitRow (b .builder)) b (o .lent) y out))
-    (refusedBy (o .row) b (o .lent) y out)
-
 -- "The bench has zero codes": one for each channel, as far as an array holds them (row 4 comes before row 5)
 abbrev pub codeCount : ℕ → ℕ
 codeCount n = cond (ltb 16 n) 16 n
@@ -215,8 +208,19 @@ codeCount n = cond (ltb 16 n) 16 n
 abbrev pub zeroCodes : PreprocessorBuilder → List ℕ
 zeroCodes b = replicate (codeCount (b .«input_dimensions»)) 0
 
+-- rows 1 to 9, then the limits, and then `build`: a refusal leaves what is lent as it was
+unfoldable pub builtOf : PreprocessorBuilder → List Float → Lent → Outcome
+builtOf b w lists =
+    let s = settingsFrom b w (zeroCodes b) in
+    let row = orElse (settingsRow s) (limitRow b) in
+    accepted row (buildOf s lists) (outcome row noHead lists)
+
+abbrev pub builtHeard : Bench → Outcome → List Float → List ℕ → Heard
+builtHeard b o y out =
+    accepted (o .row) (heard (readyFor Running (b .builder) (o .head) (b .given)) (o .lent) y (output 0 out)) (refusedBy (o .row) b (o .lent) y out)
+
 unfoldable pub weightsTurn : Bench → Line → Lent → List Float → List ℕ → Heard
-weightsTurn b l lists y out = builtHeard b (buildOf (settingsFrom (b .builder) (keptOf l) (zeroCodes (b .builder))) lists) y out
+weightsTurn b l lists y out = builtHeard b (builtOf (b .builder) (keptOf l) lists) y out
 
 -- the second line: an accepted `wgt` prints nothing
 abbrev pub weightsHeard : Name → Bench → Line → Lent → List Float → List ℕ → Heard

@@ -1,5 +1,5 @@
 -- What the bench prints for a whole input: step after step until nothing more is read, and then the end of the input. The program `bench` makes these steps
--- block by block; where its blocks end does not matter (proofs/BlockLaws).
+-- block by block; where its blocks end does not matter (the crate bench_blocks).
 use Prim.Native.Nat.{ℕ, zero, suc}
 use mathlib.Core.Bool.{true, false}
 use mathlib.Core.List.{List, [], _∷_, _++_}

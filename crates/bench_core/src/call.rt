@@ -1,12 +1,12 @@
 // What each call line does and prints, on a preprocessor and the last point.
-use snapshot::line::singles_line;
-use snapshot::line::whole_line;
-use snapshot::save::save;
-use trcf::preprocessor::Preprocessor;
-use trcf::preprocessor::drain;
-use trcf::preprocessor::get_dimension;
-use trcf::preprocessor::post_process;
-use trcf::preprocessor::shingled_point;
+use snapshot_save::line::singles_line;
+use snapshot_save::line::whole_line;
+use snapshot_save::save::save;
+use trcf::head::Preprocessor;
+use trcf::head::get_dimension;
+use trcf_learn::post_process::post_process;
+use trcf_point::drain::drain;
+use trcf_point::point::shingled_point;
 ghost use mathlib.Core.Path.{_≡_};
 ghost use mathlib.Core.List.{List};
 ghost use mathlib.Core.Bool.{cond};

@@ -10,26 +10,28 @@ use crate::line::Name;
 use crate::line::blank;
 use crate::line::cell;
 use crate::line::request;
-use trcf::preprocessor::Changed;
-use trcf::preprocessor::Preprocessor;
-use trcf::preprocessor::PreprocessorBuilder;
-use trcf::preprocessor::build;
-use trcf::preprocessor::no_head;
+use trcf::head::Changed;
+use trcf::head::Preprocessor;
+use trcf::head::PreprocessorBuilder;
+use trcf::head::no_head;
 use trcf::types::ForestMode;
 use trcf::types::TransformMethod;
+use trcf_calls::build::build;
+use trcf_rows::rows::settings_row;
 ghost use mathlib.Core.Path.{_≡_};
 ghost use mathlib.Core.List.{List};
 ghost use lib.Ieee.{Float};
 ghost use Prim.Native.Nat.{_≤_};
 ghost use lib.ListN.{length, take};
-ghost use Rattle.trcf.specs.View.{Lent, lent, outcome, buildOf, settingsFrom};
+ghost use Rattle.trcf.specs.Settings.{settingsRow};
+ghost use Rattle.trcf.specs.View.{Lent, lent, outcome, orElse, settingsFrom};
 ghost use Rattle.bench_core.specs.Line.{requestOf, keptCount};
-ghost use Rattle.bench_core.specs.Bench.{codeCount, zeroCodes, output, prints, noText, readyFor, goingOn, endOf, modeFrom, methodFrom, builderFrom, noBuilder, fresh, heard, setHeard, limitRow, weightsTurn, weightsHeard, isReading, isPoint, readingName, plainHeard, callHeard, lineHeard, cellLength, cellKept, stepped, withLine, stepOf, begun, said, finishBy, finished, finishOf};
+ghost use Rattle.bench_core.specs.Bench.{codeCount, builtOf, output, prints, noText, readyFor, goingOn, endOf, modeFrom, methodFrom, builderFrom, noBuilder, fresh, heard, setHeard, limitRow, weightsTurn, weightsHeard, isReading, isPoint, readingName, plainHeard, callHeard, lineHeard, cellLength, cellKept, stepped, withLine, stepOf, begun, said, finishBy, finished, finishOf};
 
 // The bytes that the output of a step has to have.
 pub const ROOM: usize = 65536;
 
-// The bytes that are looked at of a cell: a longer one is no name and no field, and neither is its start (proofs/BlockLaws).
+// The bytes that are looked at of a cell: a longer one is no name and no field, and neither is its start (`long-cell` in bench_blocks).
 pub const LONGEST: usize = 24;
 
 // What the next line has to be: `set`, `wgt`, a call; or the run is over.
@@ -213,7 +215,18 @@ fn code_count(d: usize) -> usize
     d
 }
 
-// `build` with zero codes.
+// Rows 1 to 9, and then the limits.
+fn head_row(builder: PreprocessorBuilder, weights: &[f32], codes: &[u16]) -> u64
+    ensures { λ r. ⌜ r ≡ orElse (settingsRow (settingsFrom builder (now (weights .entry)) (now (codes .entry)))) (limitRow builder) ⌝ }
+{
+    let row = settings_row(builder, weights, codes);
+    if row != 0 {
+        return row;
+    }
+    limit_row(builder)
+}
+
+// `build` with zero codes, unless a row refuses the settings or they are past the limits.
 fn build_bare(
     builder: PreprocessorBuilder,
     weights: &[f32],
@@ -225,10 +238,17 @@ fn build_bare(
     initial_timestamps: &[u64],
 ) -> Changed
     ensures { λ r. ⌜ outcome (r .row) (r .head) (lent (now (statistics .exit)) (now («last_shingled_input» .exit)) (now («last_shingled_point» .exit)) (now («previous_timestamps» .exit)) (now («initial_values» .entry)) (now («initial_timestamps» .entry)))
-        ≡ buildOf (settingsFrom builder (now (weights .entry)) (zeroCodes builder)) (lent (now (statistics .entry)) (now («last_shingled_input» .entry)) (now («last_shingled_point» .entry)) (now («previous_timestamps» .entry)) (now («initial_values» .entry)) (now («initial_timestamps» .entry))) ⌝ }
+        ≡ builtOf builder (now (weights .entry)) (lent (now (statistics .entry)) (now («last_shingled_input» .entry)) (now («last_shingled_point» .entry)) (now («previous_timestamps» .entry)) (now («initial_values» .entry)) (now («initial_timestamps» .entry))) ⌝ }
 {
     let zeros = [0u16; 16];
     let n = code_count(builder.input_dimensions);
+    let row = head_row(builder, weights, &zeros[..n]);
+    if row != 0 {
+        return Changed {
+            row: row,
+            head: no_head(),
+        };
+    }
     build(
         builder,
         weights,
@@ -242,7 +262,7 @@ fn build_bare(
     )
 }
 
-// The second line, of the form: rows 1 to 9, and then the limits.
+// The second line, of the form.
 fn read_weights(
     b: Bench,
     l: Line,
@@ -273,10 +293,6 @@ fn read_weights(
     let row = r.row;
     if row != 0 {
         return ended(b, row, out);
-    }
-    let over = limit_row(builder);
-    if over != 0 {
-        return ended(b, over, out);
     }
     let head = r.head;
     Printed {

@@ -1,8 +1,7 @@
-// Replays inputs of the bench (inputs.py makes them) on `bench_core`, and prints how many outputs agree with the Rust's and how many differ.
-mod cells;
+// Replays inputs of the bench (inputs.py makes them) on `bench_blocks`, and prints how many outputs agree with the Rust's and how many differ.
 mod input;
 
-use bench_core::step::finish;
+use bench_blocks::block::block;
 use bench_core::step::start;
 use libc::STDOUT_FILENO;
 ghost use mathlib.Core.Path.{_≡_};
@@ -16,7 +15,7 @@ fn room() -> [u8; 524288]
     [0; 524288]
 }
 
-// Whether the bench prints just this for a text.
+// Whether the bench prints just this for a text, which is one block with the end of the input behind it. An output that the room is too small for differs.
 fn agrees(text: &[u8], expected: &[u8], out: &mut [u8]) -> bool {
     let mut statistics = [0.0f64; 75];
     let mut last_shingled_input = [0.0f32; 256];
@@ -25,7 +24,7 @@ fn agrees(text: &[u8], expected: &[u8], out: &mut [u8]) -> bool {
     let mut initial_values = [0.0f32; 2000];
     let mut initial_timestamps = [0u64; 500];
     let mut point = [0.0f32; 320];
-    let p = cells::cells(
+    let r = block(
         start(),
         &mut statistics,
         &mut last_shingled_input,
@@ -35,13 +34,13 @@ fn agrees(text: &[u8], expected: &[u8], out: &mut [u8]) -> bool {
         &mut initial_timestamps,
         &mut point,
         text,
+        true,
         out,
     );
-    let next = p.next;
-    let at = p.at;
-    let bench = p.bench;
-    let s = finish(bench, &text[next..], &mut out[at..]);
-    let n = cells::onward(at, s.length, out.len());
+    if r.full {
+        return false;
+    }
+    let n = r.written;
     check::same(&out[..n], expected)
 }
 
@@ -123,4 +122,5 @@ fn replay_file(path: &[u8]) {
 fn main() {
     replay_file(b"inputs");
     replay_file(b"long");
+    replay_file(b"wrong");
 }

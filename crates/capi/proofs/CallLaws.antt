@@ -15,7 +15,7 @@ use Rattle.trcf.specs.View.{Lent, settingsOf, Outcome, outcome, orElse, buildOf
 use Rattle.trcf.specs.Extrapolation.{Extrapolation, extrapolation, extrapolationOf}
 use Rattle.trcf.specs.declared.types.TransformMethod.{TransformMethod}
 use Rattle.trcf.specs.declared.types.ForestMode.{ForestMode}
-use Rattle.trcf.specs.declared.preprocessor.Preprocessor.{Preprocessor}
+use Rattle.trcf.specs.declared.head.Preprocessor.{Preprocessor}
 use Rattle.trcf.proofs.OutcomeLaws.{accepted-not, orElse-is}
 use Rattle.snapshot.specs.Save.{saveOf, outcome as saved}
 use Rattle.capi.specs.Head.{headOf, wordsOf, countsOver, kindRow, shortRow, wordsRow, Read}

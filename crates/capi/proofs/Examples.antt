@@ -10,7 +10,7 @@ use Rattle.trcf.specs.Settings.{settingsRow, allOne}
 use Rattle.trcf.specs.View.{headFrom}
 use Rattle.trcf.specs.declared.types.TransformMethod.the-variants.{NORMALIZE}
 use Rattle.trcf.specs.declared.types.ForestMode.the-variants.{«TIME_AUGMENTED»}
-use Rattle.trcf.specs.declared.preprocessor.Preprocessor.{Preprocessor}
+use Rattle.trcf.specs.declared.head.Preprocessor.{Preprocessor}
 use Rattle.common.specs.Lent.{over}
 use Rattle.capi.specs.Head.{headOf, numbersOf, frontOf, wordsOf, wordsRow, single}
 use Rattle.capi.specs.Calls.{onHead, codesGot, codesTold, codesAt}

@@ -21,7 +21,7 @@ use Rattle.trcf.specs.declared.types.TransformMethod.{TransformMethod}
 use Rattle.trcf.specs.declared.types.TransformMethod.the-variants.{NONE, WEIGHTED, DIFFERENCE, «SUBTRACT_MA», NORMALIZE, «NORMALIZE_DIFFERENCE»}
 use Rattle.trcf.specs.declared.types.ForestMode.{ForestMode}
 use Rattle.trcf.specs.declared.types.ForestMode.the-variants.{STANDARD, «TIME_AUGMENTED», «STREAMING_IMPUTE»}
-use Rattle.trcf.specs.declared.preprocessor.Preprocessor.{Preprocessor}
+use Rattle.trcf.specs.declared.head.Preprocessor.{Preprocessor}
 use Rattle.trcf.proofs.OutcomeLaws.{orElse-is}
 use Rattle.capi.specs.Head.{modeNumber, modeOf, methodOf, kindRow, codesRow, single, codesIn, headOf, numbersOf, frontOf, wordsOf, countsOver, shortRow as fewRow, wordsRow, Read, Held}
 use Rattle.capi.proofs.WordLaws.{mode-back, method-back, single-back, singles-back}

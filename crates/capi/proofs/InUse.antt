@@ -11,7 +11,7 @@ use Rattle.trcf.specs.Settings.{settingsRow, waiting}
 use Rattle.trcf.specs.Calls.{Call, Learn, drain, shingledPoint, postProcess}
 use Rattle.trcf.specs.Preprocessor.{State, Answer, refused, absent, done, wrote, learnt, turned, told, accepted, change, reply, reading, drained, pointOf}
 use Rattle.trcf.specs.View.{Lent, settingsOf, view, counted, rowOf, headAfter, lentAfter, answerOf, drainOf, pointRead, pointAfter, learnRead, learnAfter}
-use Rattle.trcf.specs.declared.preprocessor.Preprocessor.{Preprocessor}
+use Rattle.trcf.specs.declared.head.Preprocessor.{Preprocessor}
 use Rattle.capi.specs.Head.{headOf, wordsOf, countsOver, Held}
 use Rattle.capi.specs.Calls.{flag, Called, called, drainTold, drainAt, pointCalled, pointTold, pointAt, Anomaly, anomaly, learnCalled, anomalyTold, learnTold, learnAt}
 use Rattle.capi.proofs.HeadLaws.{head-back, in-use, counts-in-words}

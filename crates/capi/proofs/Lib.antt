@@ -4,3 +4,6 @@ pub mod CallLaws
 pub mod InUse
 pub mod Examples
 pub mod RestoreLaws
+pub mod OtherLaws
+pub mod StatisticLaws
+pub mod OtherExamples

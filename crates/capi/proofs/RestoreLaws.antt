@@ -10,7 +10,7 @@ use borrow.Author.Tests.{lt-ltb, le-ltb, ltb-false}
 use Rattle.common.specs.Lent.{over}
 use Rattle.trcf.specs.Preprocessor.{State, accepted, statisticsLength}
 use Rattle.trcf.specs.View.{Lent, lentShort}
-use Rattle.trcf.specs.declared.preprocessor.Preprocessor.{Preprocessor}
+use Rattle.trcf.specs.declared.head.Preprocessor.{Preprocessor}
 use Rattle.snapshot.specs.Read.{taken, same, read}
 use Rattle.snapshot.specs.Restore.{Outcome, outcome, restored, restoreOf}
 use Rattle.snapshot.proofs.RoundTrip.{restored-only}

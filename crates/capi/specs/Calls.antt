@@ -12,7 +12,7 @@ use Rattle.trcf.specs.Calls.{Call, Learn, Forecast}
 use Rattle.trcf.specs.Preprocessor.{accepted}
 use Rattle.trcf.specs.View.{Lent, settingsOf, Outcome, orElse, buildOf, drainOf, PointOutcome, pointAfter, LearnOutcome, learnAfter, Written, written, writeOf}
 use Rattle.trcf.specs.Extrapolation.{Extrapolation, extrapolation, extrapolationOf}
-use Rattle.trcf.specs.declared.preprocessor.Preprocessor.{Preprocessor}
+use Rattle.trcf.specs.declared.head.Preprocessor.{Preprocessor}
 use Rattle.snapshot.specs.Save.{saveOf, Outcome as Saved, outcome as saved}
 use Rattle.capi.specs.Head.{headOf, wordsOf, countsOver, kindRow, shortRow, wordsRow}
 

@@ -1,12 +1,12 @@
 // The calls that write lists and change no state.
 use crate::answer::tell;
 use crate::head::read_head;
-use snapshot::save::save;
-use trcf::extrapolation::invert_extrapolation;
-use trcf::preprocessor::difference_deviations;
-use trcf::preprocessor::scale;
-use trcf::preprocessor::shift;
-use trcf::preprocessor::transform;
+use snapshot_save::save::save;
+use trcf_calls::queries::difference_deviations;
+use trcf_calls::queries::scale;
+use trcf_calls::queries::shift;
+use trcf_calls::queries::transform;
+use trcf_forecast::forecast::invert_extrapolation;
 ghost use mathlib.Core.Path.{_≡_};
 ghost use Rattle.common.specs.RangeVector.{ranges};
 ghost use Rattle.trcf.specs.Calls.{transform, scale, shift, status};

@@ -18,7 +18,7 @@ use Rattle.trcf.specs.Settings.{Settings, Valid, waiting, dimension}
 use Rattle.trcf.specs.Calls.{Call, Machine}
 use Rattle.trcf.specs.Preprocessor.{State, statisticsLength, fresh, refusal, change, next, run, Answer, answer, answers, accepted}
 use Rattle.trcf.specs.View.{Lent, lent, settingsOf, view, laid, counted, headFrom, headTable, headRow, lentShort, misfit, shortRow, lentRow, rowOf, answerOf, headAfter, lentAfter, buildRow, buildOf, Outcome, outcome}
-use Rattle.trcf.specs.declared.preprocessor.Preprocessor.{Preprocessor}
+use Rattle.trcf.specs.declared.head.Preprocessor.{Preprocessor}
 use Rattle.trcf.proofs.ViewLaws.{row-is, answer-is, Shaped, view-laid}
 use Rattle.snapshot.specs.Text.{render, TextOf}
 use Rattle.snapshot.specs.Form.{Form}

@@ -13,7 +13,7 @@ use lib.Seq.{take-all}
 use lib.Ieee.{Float, nan, binary32, binary64, sub, ofInt}
 use Rattle.common.specs.declared.deviation.Deviation.{Deviation}
 use Rattle.common.specs.Deviation.{zero64, statistic, emptyWith, stepOf, meanOf, deviationOf}
-use Rattle.trcf.specs.declared.transformer.Deviations.{Deviations}
+use Rattle.trcf.specs.declared.statistics.Deviations.{Deviations}
 use Rattle.trcf.specs.Transformer.{slowDecay, statisticAt, putStatistic, fed, deviationsAt, putDeviations, fedAt, channelsFed, updated}
 use Rattle.trcf.specs.Settings.{Settings, transformer}
 use Rattle.trcf.specs.Preprocessor.{Reading, reading, statisticsLength, timeFed, feed}

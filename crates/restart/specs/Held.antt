@@ -10,7 +10,7 @@ use Rattle.trcf.specs.Settings.{Settings, Valid}
 use Rattle.trcf.specs.Calls.{Call, Machine}
 use Rattle.trcf.specs.Preprocessor.{Answer}
 use Rattle.trcf.specs.View.{Lent, lentShort, buildOf, answerOf, headAfter, lentAfter}
-use Rattle.trcf.specs.declared.preprocessor.Preprocessor.{Preprocessor}
+use Rattle.trcf.specs.declared.head.Preprocessor.{Preprocessor}
 use Rattle.snapshot.specs.Save as save
 use Rattle.snapshot.specs.Restore as restore
 use Rattle.restart.specs.History.{entries, historyText, historyAnswers}

@@ -17,7 +17,7 @@ use Rattle.trcf.specs.Calls.{Learn, Call, Machine, shingledPoint, postProcess, 
 use Rattle.trcf.specs.Preprocessor.{State, Answer, refused, absent, done, wrote, learnt, turned, told, Anomaly, Learned, Status, reading, drained, pointOf, statisticsLength, change, reply, accepted, statusOf, answer, facts}
 use Rattle.trcf.specs.View.{Lent, lent, optional, settingsFrom, settingsOf, view, counted, laid, headRow, lentShort, misfit, shortRow, lentRow, rowOf, orElse, answerOf, headAfter, lentAfter, Roomy, Fitted, Written, written, writtenOf, writeOf, StatusOutcome, untold, statusRead, statusAfter, drainOf, PointOutcome, pointed, pointRead, pointAfter, LearnOutcome, learnRead, learnAfter, anomalyTime, anomalyLikelihood}
 use Rattle.trcf.specs.Extrapolation.{Extrapolation, extrapolationOf, extrapolationRead, unread}
-use Rattle.trcf.specs.declared.preprocessor.Preprocessor.{Preprocessor}
+use Rattle.trcf.specs.declared.head.Preprocessor.{Preprocessor}
 use Rattle.trcf.proofs.RefusalLaws.{misfit-few, misfit-counted}
 use Rattle.trcf.proofs.StateLaws.{same-head, same-lent}
 use Rattle.trcf.proofs.ViewLaws.{answer-is}

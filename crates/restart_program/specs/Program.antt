@@ -10,7 +10,7 @@ use lib.ListN.{length}
 use lib.Ieee.{Float}
 use Rattle.trcf.specs.Fit.{All}
 use Rattle.trcf.specs.Settings.{Settings, Valid}
-use Rattle.trcf.specs.declared.preprocessor.PreprocessorBuilder.{PreprocessorBuilder}
+use Rattle.trcf.specs.declared.head.PreprocessorBuilder.{PreprocessorBuilder}
 use Rattle.trcf.specs.Calls.{Learn, given, Call, Machine, shingledPoint, postProcess, drain, transform, invertExtrapolation, scale, shift, status}
 use Rattle.trcf.specs.Preprocessor.{Answer, refused, absent, done, wrote, learnt, turned, told, Anomaly}
 use Rattle.trcf.specs.View.{Lent, settingsFrom, learnCall, lentShort, buildOf, Written, StatusOutcome, PointOutcome, LearnOutcome, writeOf, statusAfter, drainOf, pointAfter, learnAfter}

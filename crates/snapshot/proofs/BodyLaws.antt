@@ -20,7 +20,7 @@ use Rattle.snapshot.specs.Read.{Counts, mayStand}
 use Rattle.snapshot.specs.Runs.{Ran, ran, broke, told, after, behindLines, mapRan, unkept, front, many, bufs, Initial, initialOf, timesOf, timeOf, Parts, expected, ending, Body, body, partsBy, partsOf, bodyBy, filledBy, Fills, HeadFew, Room, stateFrom, Good, summed}
 use Rattle.common.specs.Lent.{over}
 use Rattle.trcf.specs.View.{Lent, lent, settingsOf, laid, lentShort}
-use Rattle.trcf.specs.declared.preprocessor.Preprocessor.{Preprocessor}
+use Rattle.trcf.specs.declared.head.Preprocessor.{Preprocessor}
 use Rattle.trcf.proofs.ShingleLaws.{over-part}
 use Rattle.snapshot.specs.Save.{past}
 use Rattle.snapshot.specs.declared.restore.Judged.{Judged}

@@ -11,7 +11,7 @@ use lib.Dec.{T}
 use lib.Ieee.{Float, binary32, fits}
 use Rattle.trcf.specs.Settings.{Settings, wholeMax}
 use Rattle.trcf.specs.View.{Lent, settingsOf, headFrom, noHead, counting, laid, lentShort}
-use Rattle.trcf.specs.declared.preprocessor.Preprocessor.{Preprocessor}
+use Rattle.trcf.specs.declared.head.Preprocessor.{Preprocessor}
 use Rattle.trcf.proofs.DrainLaws.{front-over}
 use Rattle.snapshot.specs.Text.{whole, float}
 use Rattle.snapshot.specs.Read.{asWhole, asFloat, allCodes, same, Counts, withLists, Read, taken, bad, read}

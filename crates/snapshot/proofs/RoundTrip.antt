@@ -14,7 +14,7 @@ use Rattle.trcf.specs.Settings.{Settings, Valid, settingsTable, waiting, dimens
 use Rattle.trcf.specs.Preprocessor.{State, statisticsLength}
 use Rattle.trcf.specs.Types.{augments, normalizes}
 use Rattle.trcf.specs.View.{Lent, settingsOf, view, headFrom, noHead, counted, laid, lentShort}
-use Rattle.trcf.specs.declared.preprocessor.Preprocessor.{Preprocessor}
+use Rattle.trcf.specs.declared.head.Preprocessor.{Preprocessor}
 use Rattle.trcf.proofs.DrainLaws.{front-over}
 use Rattle.trcf.proofs.ShingleLaws.{length-over}
 use Rattle.trcf.proofs.ViewLaws.{Shaped, view-laid}

@@ -10,7 +10,7 @@ use lib.ListN.{length, take, drop, length-append, length-drop, length-take}
 use lib.Seq.{length-take-le}
 use lib.Ieee.{Float}
 use borrow.Author.Tests.{ltb-false, lt-ltb, le-ltb}
-use Rattle.trcf.specs.declared.preprocessor.Preprocessor.{Preprocessor}
+use Rattle.trcf.specs.declared.head.Preprocessor.{Preprocessor}
 use Rattle.trcf.specs.Types.{methodNumber, modeLetter, augments}
 use Rattle.trcf.specs.Settings.{Settings, block, dimension}
 use Rattle.trcf.specs.View.{Lent, settingsOf, view}
@@ -128,6 +128,10 @@ pub record Held (d k wide n statistics input point times values initial : ℕ) :
   pub in-times : k ≤ times
   pub in-values : n * d ≤ values
   pub in-initial : n ≤ initial
+
+-- a time of one number at most
+pub narrow-past : {w : ℕ} {r p : Bool} → r ≡ (ltb 1 w || p) → w ≤ 1 → r ≡ p
+narrow-past {w = w} {p = p} e h = e ∙ ap (λ (b : Bool). b || p) (le-ltb 1 w h)
 
 pub held-of : (d k wide n a b c e f g : ℕ) → past d k wide n a b c e f g ≡ false → Held d k wide n a b c e f g
 held-of d k wide n a b c e f g h =

@@ -3,7 +3,7 @@ use Prim.Native.Nat.{ℕ}
 use mathlib.Core.Bool.{cond, not}
 use mathlib.Core.List.{List}
 use Rattle.trcf.specs.View.{Lent, lentShort, headFrom, noHead, counted, laid}
-use Rattle.trcf.specs.declared.preprocessor.Preprocessor.{Preprocessor}
+use Rattle.trcf.specs.declared.head.Preprocessor.{Preprocessor}
 use Rattle.snapshot.specs.Read.{Read, taken, bad, same, read}
 
 -- ---- what `restore` gives: row, bad line, head and the lent lists afterwards

@@ -4,17 +4,17 @@ use crate::kinds::chn_line;
 use crate::kinds::cnt_line;
 use crate::kinds::is_waiting;
 use crate::kinds::wgt_line;
+use crate::limits::past_limits;
+use crate::limits::time_width;
 use crate::lines::Lines;
 use crate::lines::buf_lines;
 use crate::lines::buf_lines_unkept;
 use crate::lines::part_lines;
-use crate::save::is_past;
-use crate::save::time_width;
 use crate::settings::Set;
 use crate::settings::set_line;
 use crate::values::same_codes;
-use trcf::preprocessor::Preprocessor;
-use trcf::preprocessor::no_head;
+use trcf::head::Preprocessor;
+use trcf::head::no_head;
 use trcf::transformer::WeightedTransformer;
 use trcf::types::is_normalizing;
 ghost use mathlib.Core.Path.{_≡_};
@@ -327,7 +327,7 @@ fn is_short(
     let mode = head.forest_mode;
     let wide = time_width(mode);
     let start = head.start_normalization;
-    is_past(
+    past_limits(
         t.input_length,
         head.shingle_size,
         wide,

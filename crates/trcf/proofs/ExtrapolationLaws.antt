@@ -24,7 +24,7 @@ use Rattle.trcf.specs.Calls.{Forecast, invertExtrapolation, rows, table,
 use Rattle.trcf.specs.Preprocessor.{refused, turned, fronts, backs, invertTime, invertTimes, timescale, timedrift, previous, numbersOf, timesOf, turnedBack, answer, refusal, reply, accepted}
 use Rattle.trcf.specs.View.{Lent, view, holding, settingsOf, headRow, orElse}
 use Rattle.trcf.specs.Extrapolation.{Extrapolation, extrapolation, forecast, viewed, unread, extrapolationRow, extrapolationOf, extrapolationRead, Sizes, sizesOf, brokenAt, shortAt, rowAt, Longer, timeFactor, timeBy, timesBy}
-use Rattle.trcf.specs.declared.preprocessor.Preprocessor.{Preprocessor}
+use Rattle.trcf.specs.declared.head.Preprocessor.{Preprocessor}
 use Rattle.trcf.proofs.FitLaws.{tabulate-length}
 use Rattle.trcf.proofs.LentLaws.{over-more}
 use Rattle.trcf.proofs.ShingleLaws.{over-part}

@@ -11,6 +11,7 @@ pub mod OutputLaws
 pub mod OutcomeLaws
 pub mod DrainLaws
 pub mod BoundLaws
+pub mod LengthLaws
 pub mod StateLaws
 pub mod LearnLaws
 pub mod WayLaws

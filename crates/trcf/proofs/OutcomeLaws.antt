@@ -14,7 +14,7 @@ use Rattle.trcf.specs.Settings.{Settings, settingsRow, dimension, block}
 use Rattle.trcf.specs.Calls.{Call, scale, shift, status, rows, table}
 use Rattle.trcf.specs.Preprocessor.{Answer, refused, reply, accepted, change, statisticsLength, fresh, statusOf}
 use Rattle.trcf.specs.View.{Lent, lent, view, laid, counted, rowOf, lentRow, orElse, answerOf, headAfter, lentAfter, Written, written, writtenOf, writeOf, Outcome, outcome, headFrom, noHead, buildRow, buildOf, settingsOf, headRow, Bounded, StatusOutcome, untold, statusRead, statusAfter}
-use Rattle.trcf.specs.declared.preprocessor.Preprocessor.{Preprocessor}
+use Rattle.trcf.specs.declared.head.Preprocessor.{Preprocessor}
 use Rattle.trcf.proofs.ShingleLaws.{over-part}
 
 module _ {A : Type 0} where

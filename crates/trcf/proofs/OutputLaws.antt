@@ -18,7 +18,7 @@ use Rattle.trcf.specs.Preprocessor.{withTime}
 use Rattle.trcf.specs.View.{settingsOf}
 use Rattle.trcf.specs.declared.types.TransformMethod.{TransformMethod}
 use Rattle.trcf.specs.declared.types.TransformMethod.the-variants.{NONE, WEIGHTED, DIFFERENCE, «SUBTRACT_MA», NORMALIZE, «NORMALIZE_DIFFERENCE»}
-use Rattle.trcf.specs.declared.preprocessor.Preprocessor.{Preprocessor}
+use Rattle.trcf.specs.declared.head.Preprocessor.{Preprocessor}
 
 -- ---- one number more behind an answer
 

@@ -19,7 +19,7 @@ use Rattle.trcf.specs.Transformer.{normalizedScale, basicShift, weightAt
 use Rattle.trcf.specs.Transformer.{basicDrift, forecastAt, forecastTo, invertedForecast}
 use Rattle.trcf.specs.declared.types.TransformMethod.{TransformMethod}
 use Rattle.trcf.specs.declared.types.TransformMethod.the-variants.{NONE, WEIGHTED, DIFFERENCE, «SUBTRACT_MA», NORMALIZE, «NORMALIZE_DIFFERENCE»}
-use Rattle.trcf.specs.declared.transformer.Deviations.{Deviations}
+use Rattle.trcf.specs.declared.statistics.Deviations.{Deviations}
 use Rattle.trcf.proofs.TransformerLaws.{putStatistic-length, channelsFed-length}
 
 -- the same settings over the statistics l

@@ -13,7 +13,7 @@ use lib.Ieee.{Float, nan, eq}
 use Rattle.trcf.specs.Transformer.{one32}
 use Rattle.trcf.specs.Settings.{allOne, waiting}
 use Rattle.trcf.specs.View.{settingsOf, misfit, orElse}
-use Rattle.trcf.specs.declared.preprocessor.Preprocessor.{Preprocessor}
+use Rattle.trcf.specs.declared.head.Preprocessor.{Preprocessor}
 
 pub orElse-not : (r m : ℕ) → (r ≡ 0 → ⊥) → r ≡ orElse r m
 orElse-not zero m n = absurd (n refl)

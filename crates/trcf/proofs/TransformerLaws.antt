@@ -23,7 +23,7 @@ use lib.Seq.{getD-take}
 use Rattle.trcf.specs.Types.{normalizes, centres}
 use Rattle.trcf.specs.declared.types.TransformMethod.{TransformMethod}
 use Rattle.trcf.specs.declared.types.TransformMethod.the-variants.{NONE, WEIGHTED, DIFFERENCE, «SUBTRACT_MA», NORMALIZE, «NORMALIZE_DIFFERENCE»}
-use Rattle.trcf.specs.declared.transformer.Deviations.{Deviations}
+use Rattle.trcf.specs.declared.statistics.Deviations.{Deviations}
 use Rattle.trcf.proofs.FitLaws.{all-set, all-getD, all-tabulate, tabulate-length, narrowed-fits}
 
 abbrev fit : Format → Float → Type 0

@@ -16,7 +16,7 @@ use Rattle.trcf.specs.Preprocessor.{fresh, facts, change, held, drained,
 use Rattle.trcf.specs.View.{Lent, lent, settingsFrom, view, laid, headRow, lentShort, misfit, shortRow, lentRow, rowOf, headAfter, lentAfter, noHead, buildRow, buildOf, drainOf, learnCall, Outcome}
 use Rattle.trcf.specs.declared.types.TransformMethod.the-variants.{NORMALIZE}
 use Rattle.trcf.specs.declared.types.ForestMode.the-variants.{STANDARD}
-use Rattle.trcf.specs.declared.preprocessor.Preprocessor.{Preprocessor}
+use Rattle.trcf.specs.declared.head.Preprocessor.{Preprocessor}
 
 -- opens what a call computes by
 all : Unit {0}

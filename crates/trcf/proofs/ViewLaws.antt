@@ -10,7 +10,7 @@ use Rattle.trcf.specs.Settings.{Settings, dimension, block}
 use Rattle.trcf.specs.Calls.{Call}
 use Rattle.trcf.specs.Preprocessor.{State, Answer, refused, statisticsLength, refusal, reply, change, next, answer, accepted}
 use Rattle.trcf.specs.View.{Lent, settingsOf, view, counted, laid, headRow, lentRow, rowOf, answerOf, headAfter, lentAfter, orElse}
-use Rattle.trcf.specs.declared.preprocessor.Preprocessor.{Preprocessor}
+use Rattle.trcf.specs.declared.head.Preprocessor.{Preprocessor}
 
 or-none : (r : ℕ) → orElse r 0 ≡ r
 or-none zero = refl

@@ -13,8 +13,8 @@ use Rattle.trcf.specs.Settings.{waiting, block, dimension}
 use Rattle.trcf.specs.Calls.{drain, shingledPoint, postProcess}
 use Rattle.trcf.specs.Preprocessor.{State, statisticsLength, deviations, drained, reading, pointOf}
 use Rattle.trcf.specs.View.{Lent, lent, settingsOf, rowOf, learningRow, optional, learnCall, backOf, learnOutcome, LearnParts, learnedParts, learnNothing, learnAfter, answering, answeringRow, counting, holding, Bounded, Ready, Learnable, Fitted, Outcome, outcome, drainOf, pointed, pointAfter, counted, laid, view}
-use Rattle.trcf.specs.declared.preprocessor.Preprocessor.{Preprocessor}
-use Rattle.trcf.specs.declared.preprocessor.PostProcessed.{PostProcessed}
+use Rattle.trcf.specs.declared.head.Preprocessor.{Preprocessor}
+use Rattle.trcf.specs.declared.head.PostProcessed.{PostProcessed}
 use Rattle.trcf.proofs.BoundLaws.{kept-room}
 use Rattle.trcf.proofs.StateLaws.{drain-refused, drain-done, point-refused, point-waits, point-done}
 use Rattle.trcf.proofs.LearnLaws.{learn-refused, learn-held, learn-none, learn-whole, learnable, waiting-below, waiting-completes, outcomeOf}

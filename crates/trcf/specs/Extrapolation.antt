@@ -16,7 +16,7 @@ use Rattle.trcf.specs.Settings.{Settings, dimension}
 use Rattle.trcf.specs.Calls.{Forecast, invertExtrapolation, rows, lookahead}
 use Rattle.trcf.specs.Preprocessor.{State, Answer, refused, absent, done, wrote, learnt, turned, told, statisticsLength, facts, turnedBack, accepted}
 use Rattle.trcf.specs.View.{lent, view, settingsOf, headRow, orElse, Bounded}
-use Rattle.trcf.specs.declared.preprocessor.Preprocessor.{Preprocessor}
+use Rattle.trcf.specs.declared.head.Preprocessor.{Preprocessor}
 
 -- ---- the call
 

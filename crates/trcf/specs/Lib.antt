@@ -9,4 +9,5 @@ pub mod Settings
 pub mod Calls
 pub mod Preprocessor
 pub mod View
+pub mod Lengths
 pub mod Extrapolation

@@ -5,7 +5,7 @@ use lib.ListN.{getD}
 use lib.Ieee.{nan}
 use Rattle.common.specs.declared.deviation.Deviation.{Deviation}
 use Rattle.common.specs.Deviation.{statistic, countLimit}
-use Rattle.trcf.specs.declared.transformer.Deviations.{Deviations}
+use Rattle.trcf.specs.declared.statistics.Deviations.{Deviations}
 
 abbrev pub listed : Deviations → List Deviation
 listed t = t .value ∷ t .difference ∷ t .deviation ∷ t .«difference_mean» ∷ t .«difference_deviation» ∷ []

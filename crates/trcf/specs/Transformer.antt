@@ -14,7 +14,7 @@ use Rattle.trcf.specs.Lists.{tabulate}
 use Rattle.trcf.specs.Types.{isNone, normalizes, differences, centres}
 use Rattle.trcf.specs.declared.types.TransformMethod.{TransformMethod}
 use Rattle.trcf.specs.declared.types.TransformMethod.the-variants.{NONE, WEIGHTED, DIFFERENCE, «SUBTRACT_MA», NORMALIZE, «NORMALIZE_DIFFERENCE»}
-use Rattle.trcf.specs.declared.transformer.Deviations.{Deviations}
+use Rattle.trcf.specs.declared.statistics.Deviations.{Deviations}
 
 abbrev pub zero32 : Float
 zero32 = ofBits binary32 0

@@ -19,10 +19,10 @@ use Rattle.trcf.specs.Preprocessor.{State, Answer, refused, absent, done
 use Rattle.trcf.specs.declared.types.TransformMethod.the-variants.{NONE}
 use Rattle.trcf.specs.declared.types.ForestMode.the-variants.{STANDARD}
 use Rattle.trcf.specs.declared.transformer.WeightedTransformer.{WeightedTransformer}
-use Rattle.trcf.specs.declared.preprocessor.Preprocessor.{Preprocessor}
-use Rattle.trcf.specs.declared.preprocessor.PreprocessorBuilder.{PreprocessorBuilder}
-use Rattle.trcf.specs.declared.preprocessor.PostProcessed.{PostProcessed}
-use Rattle.trcf.specs.declared.preprocessor.StatusAnswer.{StatusAnswer}
+use Rattle.trcf.specs.declared.head.Preprocessor.{Preprocessor}
+use Rattle.trcf.specs.declared.head.PreprocessorBuilder.{PreprocessorBuilder}
+use Rattle.trcf.specs.declared.head.PostProcessed.{PostProcessed}
+use Rattle.trcf.specs.declared.head.StatusAnswer.{StatusAnswer}
 
 -- ---- what is lent
 

@@ -1,13 +1,10 @@
-// The preprocessor of a stream of readings: its settings, the transform of a reading, and the shingles it keeps.
-mod draining;
-pub mod extrapolation;
-mod learn_refusal;
-mod learning;
-mod output;
-pub mod preprocessor;
-pub mod refusal;
-mod shingle;
-mod time;
-mod timestamps;
+// The preprocessor of a stream of readings: its settings and statistics, the transform of a reading, and the definitions and laws of all its calls.
+pub mod feeding;
+pub mod head;
+mod lengths;
+pub mod output;
+pub mod shingle;
+mod statistics;
+pub mod time;
 pub mod transformer;
 pub mod types;

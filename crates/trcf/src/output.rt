@@ -1,30 +1,29 @@
 // What the calls write to lent output: the channels' numbers and, in TIME_AUGMENTED, the time's behind them.
-use crate::preprocessor::Preprocessor;
-use crate::refusal::block_of;
-use crate::refusal::dimension_of;
-use crate::refusal::is_augmented;
-use crate::shingle::copy_in;
-use crate::shingle::shift_vector;
+use crate::head::Preprocessor;
+use crate::lengths::output_fits;
+use crate::lengths::transform_fits;
 use crate::time::last_time;
 use crate::time::previous_time;
 use crate::time::time_deviation;
 use crate::time::time_element;
 use crate::time::time_scale;
-use crate::time::timedrift_of;
+use crate::time::timedrift_fitting;
 use crate::transformer::difference_deviations_into;
 use crate::transformer::scale_into;
 use crate::transformer::shift_into;
 use crate::transformer::transform_into;
+use crate::types::is_augmented;
 ghost use mathlib.Core.Path.{_≡_};
 ghost use mathlib.Core.List.{[]};
-ghost use Prim.Native.Nat.{_*_, _≤_};
+ghost use Prim.Native.Nat.{_≤_};
 ghost use lib.ListN.{length};
 ghost use Rattle.common.specs.Lent.{over};
-ghost use Rattle.trcf.specs.Settings.{block, dimension};
-ghost use Rattle.trcf.specs.Preprocessor.{statisticsLength, previous, reading, transformedAfter, scaleOf, shiftOf, deviations, pointOf};
-ghost use Rattle.trcf.specs.View.{settingsOf, holding, view, lent, Bounded, Exact};
+ghost use Rattle.trcf.specs.Settings.{block};
+ghost use Rattle.trcf.specs.Preprocessor.{statisticsLength, previous, reading, transformedAfter, scaleOf, shiftOf, deviations};
+ghost use Rattle.trcf.specs.Lengths.{whereFits, outputFits, transformFits};
+ghost use Rattle.trcf.specs.View.{settingsOf, holding, Bounded, Exact};
 
-pub(crate) fn write_transform(
+pub(crate) fn transform_fitting(
     head: Preprocessor,
     s: &[f64],
     inputs: &[f32],
@@ -50,7 +49,31 @@ pub(crate) fn write_transform(
     }
 }
 
-pub(crate) fn write_scale(head: Preprocessor, s: &[f64], output: &mut [f32])
+// The same; where a length does not fit, nothing changes.
+pub fn write_transform(
+    head: Preprocessor,
+    s: &[f64],
+    inputs: &[f32],
+    times: &[u64],
+    input: &[f32],
+    timestamp: u64,
+    output: &mut [f32],
+)
+    ensures { λ _. ⌜ now (output .exit) ≡ whereFits (transformFits (settingsOf head) (length (now (s .entry))) (length (now (inputs .entry))) (length (now (times .entry))) (length (now (input .entry))) (length (now (output .entry)))) (over (now (output .entry)) (transformedAfter (settingsOf head) (now (s .entry)) (head .«values_seen») (previous (holding head (now (s .entry)) (now (inputs .entry)) (now (times .entry)))) (reading (now (input .entry)) timestamp))) (now (output .entry)) ⌝ }
+{
+    if transform_fits(
+        head,
+        s.len(),
+        inputs.len(),
+        times.len(),
+        input.len(),
+        output.len(),
+    ) {
+        transform_fitting(head, s, inputs, times, input, timestamp, output);
+    }
+}
+
+pub(crate) fn scale_fitting(head: Preprocessor, s: &[f64], output: &mut [f32])
     requires { ⌜ Bounded (settingsOf head) ⌝ }
     requires { ⌜ length (now s) ≡ statisticsLength (settingsOf head) ⌝ }
     requires { ⌜ block (settingsOf head) ≤ length (now output) ⌝ }
@@ -65,7 +88,16 @@ pub(crate) fn write_scale(head: Preprocessor, s: &[f64], output: &mut [f32])
     }
 }
 
-pub(crate) fn write_shift(head: Preprocessor, s: &[f64], times: &[u64], output: &mut [f32])
+// The same; where a length does not fit, nothing changes.
+pub fn write_scale(head: Preprocessor, s: &[f64], output: &mut [f32])
+    ensures { λ _. ⌜ now (output .exit) ≡ whereFits (outputFits (settingsOf head) (length (now (s .entry))) (length (now (output .entry)))) (over (now (output .entry)) (scaleOf (holding head (now (s .entry)) [] []))) (now (output .entry)) ⌝ }
+{
+    if output_fits(head, s.len(), output.len()) {
+        scale_fitting(head, s, output);
+    }
+}
+
+pub(crate) fn shift_fitting(head: Preprocessor, s: &[f64], times: &[u64], output: &mut [f32])
     requires { ⌜ Bounded (settingsOf head) ⌝ }
     requires { ⌜ length (now s) ≡ statisticsLength (settingsOf head) ⌝ }
     requires { ⌜ block (settingsOf head) ≤ length (now output) ⌝ }
@@ -77,11 +109,20 @@ pub(crate) fn write_shift(head: Preprocessor, s: &[f64], times: &[u64], output: 
     shift_into(t, s, output);
     if is_augmented(mode) {
         let newest = numeric::u64_to_f32(last_time(times));
-        output[d] = newest + numeric::to_f32(timedrift_of(head, s));
+        output[d] = newest + numeric::to_f32(timedrift_fitting(head, s));
     }
 }
 
-pub(crate) fn write_deviations(head: Preprocessor, s: &[f64], output: &mut [f32])
+// The same; where a length does not fit, nothing changes.
+pub fn write_shift(head: Preprocessor, s: &[f64], times: &[u64], output: &mut [f32])
+    ensures { λ _. ⌜ now (output .exit) ≡ whereFits (outputFits (settingsOf head) (length (now (s .entry))) (length (now (output .entry)))) (over (now (output .entry)) (shiftOf (holding head (now (s .entry)) [] (now (times .entry))))) (now (output .entry)) ⌝ }
+{
+    if output_fits(head, s.len(), output.len()) {
+        shift_fitting(head, s, times, output);
+    }
+}
+
+pub(crate) fn deviations_fitting(head: Preprocessor, s: &[f64], output: &mut [f32])
     requires { ⌜ Bounded (settingsOf head) ⌝ }
     requires { ⌜ length (now s) ≡ statisticsLength (settingsOf head) ⌝ }
     requires { ⌜ block (settingsOf head) ≤ length (now output) ⌝ }
@@ -96,42 +137,11 @@ pub(crate) fn write_deviations(head: Preprocessor, s: &[f64], output: &mut [f32]
     }
 }
 
-// The point with the transformed reading behind it.
-pub(crate) fn write_point(
-    head: Preprocessor,
-    statistics: &[f64],
-    last_shingled_input: &[f32],
-    last_shingled_point: &[f32],
-    previous_timestamps: &[u64],
-    input: &[f32],
-    timestamp: u64,
-    output: &mut [f32],
-)
-    requires { ⌜ Bounded (settingsOf head) ⌝ }
-    requires { ⌜ statisticsLength (settingsOf head) ≤ length (now statistics) ⌝ }
-    requires { ⌜ head .transformer .«input_length» * head .«shingle_size» ≤ length (now «last_shingled_input») ⌝ }
-    requires { ⌜ dimension (settingsOf head) ≤ length (now «last_shingled_point») ⌝ }
-    requires { ⌜ head .«shingle_size» ≤ length (now «previous_timestamps») ⌝ }
-    requires { ⌜ length (now input) ≡ head .transformer .«input_length» ⌝ }
-    requires { ⌜ dimension (settingsOf head) ≤ length (now output) ⌝ }
-    ensures { λ _. ⌜ now (output .exit) ≡ over (now (output .entry)) (pointOf (view head (lent (now (statistics .entry)) (now («last_shingled_input» .entry)) (now («last_shingled_point» .entry)) (now («previous_timestamps» .entry)) [] [])) (reading (now (input .entry)) timestamp)) ⌝ }
+// The same; where a length does not fit, nothing changes.
+pub fn write_deviations(head: Preprocessor, s: &[f64], output: &mut [f32])
+    ensures { λ _. ⌜ now (output .exit) ≡ whereFits (outputFits (settingsOf head) (length (now (s .entry))) (length (now (output .entry)))) (over (now (output .entry)) (deviations (holding head (now (s .entry)) [] []))) (now (output .entry)) ⌝ }
 {
-    let t = head.transformer;
-    let mode = head.forest_mode;
-    let d = t.input_length;
-    let k = head.shingle_size;
-    let b = block_of(mode, d);
-    let m = dimension_of(head);
-    let mut z = [0.0f32; 17];
-    write_transform(
-        head,
-        &statistics[..3 * (5 * d + 5)],
-        &last_shingled_input[..d * k],
-        &previous_timestamps[..k],
-        input,
-        timestamp,
-        &mut z,
-    );
-    copy_in(output, 0, &last_shingled_point[..m]);
-    shift_vector(&mut output[..m], &z[..b]);
+    if output_fits(head, s.len(), output.len()) {
+        deviations_fitting(head, s, output);
+    }
 }

@@ -1,28 +1,31 @@
 // What the time's five statistics say: they lie behind the channels' in the lent list.
-use crate::preprocessor::Preprocessor;
+use crate::head::Preprocessor;
+use crate::lengths::time_fits;
 use crate::shingle::last_of;
-use crate::transformer::mean_at;
-use crate::transformer::statistic_at;
+use crate::statistics::mean_at;
+use crate::statistics::statistic_at;
 ghost use mathlib.Core.Path.{_≡_};
 ghost use mathlib.Core.Bool.{cond};
 ghost use Prim.Native.Nat.{_+_, _*_, _≤_};
 ghost use lib.Dec.{eqb};
 ghost use lib.ListN.{length};
-ghost use lib.Ieee.{binary32, binary64, add, mul, div, eq};
+ghost use lib.Ieee.{binary32, mul, div, eq};
 ghost use Rattle.numeric.specs.Narrow.{narrowed};
+ghost use Rattle.common.specs.Deviation.{zero64};
 ghost use Rattle.trcf.specs.Lists.{lastOr};
 ghost use Rattle.trcf.specs.Transformer.{deviationAt, zero32, one32};
 ghost use Rattle.trcf.specs.Preprocessor.{timescale, timedrift, timeElement};
+ghost use Rattle.trcf.specs.Lengths.{whereFits, timeFits};
 ghost use Rattle.trcf.specs.View.{settingsOf};
 
-pub(crate) fn last_time(times: &[u64]) -> u64
+pub fn last_time(times: &[u64]) -> u64
     ensures { λ r. ⌜ r ≡ lastOr 0 (now (times .entry)) ⌝ }
 {
     last_of(times, times.len())
 }
 
 // The mean of the fifth, plus 1.
-pub(crate) fn timescale_of(head: Preprocessor, s: &[f64]) -> f64
+pub(crate) fn timescale_fitting(head: Preprocessor, s: &[f64]) -> f64
     requires { ⌜ head .transformer .«input_length» ≤ 16 ⌝ }
     requires { ⌜ 3 * (5 * head .transformer .«input_length» + 5) ≤ length (now s) ⌝ }
     ensures { λ r. ⌜ r ≡ timescale (settingsOf head) (now (s .entry)) ⌝ }
@@ -31,13 +34,35 @@ pub(crate) fn timescale_of(head: Preprocessor, s: &[f64]) -> f64
     mean_at(s, 5 * t.input_length + 4) + 1.0
 }
 
-pub(crate) fn timedrift_of(head: Preprocessor, s: &[f64]) -> f64
+// The same; 0 where the head or the list does not fit.
+pub fn timescale_of(head: Preprocessor, s: &[f64]) -> f64
+    ensures { λ r. ⌜ r ≡ whereFits (timeFits (settingsOf head) (length (now (s .entry)))) (timescale (settingsOf head) (now (s .entry))) zero64 ⌝ }
+{
+    if time_fits(head, s.len()) {
+        timescale_fitting(head, s)
+    } else {
+        0.0
+    }
+}
+
+pub(crate) fn timedrift_fitting(head: Preprocessor, s: &[f64]) -> f64
     requires { ⌜ head .transformer .«input_length» ≤ 16 ⌝ }
     requires { ⌜ 3 * (5 * head .transformer .«input_length» + 5) ≤ length (now s) ⌝ }
     ensures { λ r. ⌜ r ≡ timedrift (settingsOf head) (now (s .entry)) ⌝ }
 {
     let t = head.transformer;
     mean_at(s, 5 * t.input_length + 3)
+}
+
+// The same; 0 where the head or the list does not fit.
+pub fn timedrift_of(head: Preprocessor, s: &[f64]) -> f64
+    ensures { λ r. ⌜ r ≡ whereFits (timeFits (settingsOf head) (length (now (s .entry)))) (timedrift (settingsOf head) (now (s .entry))) zero64 ⌝ }
+{
+    if time_fits(head, s.len()) {
+        timedrift_fitting(head, s)
+    } else {
+        0.0
+    }
 }
 
 // weight_time × the deviation of the second.
@@ -59,7 +84,7 @@ pub(crate) fn time_scale(head: Preprocessor, s: &[f64]) -> f32
     ensures { λ r. ⌜ r ≡ mul binary32 (cond (eq (head .«weight_time») zero32) zero32 (div binary32 one32 (head .«weight_time»))) (narrowed (timescale (settingsOf head) (now (s .entry)))) ⌝ }
 {
     let weight = head.weight_time;
-    let scale = numeric::to_f32(timescale_of(head, s));
+    let scale = numeric::to_f32(timescale_fitting(head, s));
     if weight == 0.0 {
         0.0 * scale
     } else {
@@ -85,7 +110,7 @@ pub(crate) fn time_element(head: Preprocessor, s: &[f64], timestamp: u64, previo
     ensures { λ r. ⌜ r ≡ timeElement (settingsOf head) (now (s .entry)) timestamp previous ⌝ }
 {
     let weight = numeric::to_f64(head.weight_time);
-    let scale = timescale_of(head, s);
+    let scale = timescale_fitting(head, s);
     let t = numeric::u64_to_f64(timestamp);
     let p = numeric::u64_to_f64(previous);
     numeric::to_f32(t - p * weight / scale)

@@ -1,5 +1,6 @@
 // The transform of a reading, channel by channel (the source's trcf/transformer.rs). The statistics lie in a lent list, three numbers each.
-use crate::timestamps::feed_at;
+use crate::statistics::feed_at;
+use crate::statistics::mean_at;
 use crate::types::TransformMethod;
 use crate::types::is_centring;
 use crate::types::is_differencing;
@@ -20,16 +21,14 @@ ghost use lib.Ieee.{binary32, binary64, add, mul, ofInt};
 ghost use Rattle.numeric.specs.Narrow.{narrowed};
 ghost use Rattle.common.specs.Refusal.{firstOf};
 ghost use Rattle.common.specs.Lent.{over};
-ghost use Rattle.common.specs.Deviation.{zero64, one64, countLimit, outsideUnit, stepOf};
+ghost use Rattle.common.specs.Deviation.{zero64, one64, countLimit, outsideUnit};
 ghost use Rattle.common.specs.RangeVector.{ranges, outcome, unblocked, cascadeTo};
 ghost use Rattle.trcf.specs.Types.{isNone, normalizes, differences, centres};
 ghost use Rattle.trcf.specs.Settings.{allOne};
-ghost use Rattle.trcf.specs.Transformer.{zero32, statisticAt, putStatistic, deviationsAt, putDeviations, fed, updated};
-ghost use Rattle.trcf.specs.Transformer.{meanAt, weightAt, normalizedScale, transformBy, transformed, unweighted, invertBy, inverted};
-ghost use Rattle.trcf.specs.Transformer.{reciprocal, scaledIf, shiftedIf, forecastTo, invertedForecast, scales, shifts, differenceDeviations};
+ghost use Rattle.trcf.specs.Transformer.{zero32, updated, meanAt, weightAt, normalizedScale, transformBy, transformed, unweighted, invertBy, inverted, reciprocal, scaledIf, shiftedIf, forecastTo, invertedForecast, scales, shifts, differenceDeviations};
+ghost use Rattle.trcf.specs.Lengths.{whereFits, passes};
 ghost use Rattle.trcf.specs.Forecast.{plain, inversionOf, forecastBy, channelTo};
-ghost use Rattle.trcf.specs.TransformerCalls.{view, Sound, made, written, newRow, updateRow, transformRow, outputRow, forecastRow};
-ghost use Rattle.trcf.specs.TransformerCalls.{newOf, updateOf, transformOf, invertOf, invertForecastOf, scaleOf, shiftOf, differenceDeviationsOf};
+ghost use Rattle.trcf.specs.TransformerCalls.{view, Sound, made, written, newRow, updateRow, transformRow, outputRow, forecastRow, newOf, updateOf, transformOf, invertOf, invertForecastOf, scaleOf, shiftOf, differenceDeviationsOf};
 
 // The settings of a transform and how many readings the statistics were fed; the first `input_length` weights count.
 pub struct WeightedTransformer {
@@ -40,114 +39,10 @@ pub struct WeightedTransformer {
     pub count: u64,
 }
 
-// The five statistics of one channel, or of the time.
-pub struct Deviations {
-    pub value: Deviation,
-    pub difference: Deviation,
-    pub deviation: Deviation,
-    pub difference_mean: Deviation,
-    pub difference_deviation: Deviation,
-}
-
 // The number of the refusal, 0 for none, and a transformer.
 pub struct TransformerResult {
     pub row: u64,
     pub transformer: WeightedTransformer,
-}
-
-// ---- statistics in the lent list, by their place
-
-pub(crate) fn statistic_at(s: &[f64], n: usize, discount: f64, count: u64) -> Deviation
-    requires { ⌜ 3 * n + 3 ≤ length (now s) ⌝ }
-    ensures { λ r. ⌜ r ≡ statisticAt (now (s .entry)) n discount count ⌝ }
-{
-    let at = 3 * n;
-    Deviation {
-        discount: discount,
-        weight: s[at],
-        sum_squared: s[at + 2],
-        sum: s[at + 1],
-        count: count,
-    }
-}
-
-fn put_statistic(s: &mut [f64], n: usize, t: Deviation)
-    requires { ⌜ 3 * n + 3 ≤ length (now s) ⌝ }
-    ensures { λ _. ⌜ now (s .exit) ≡ putStatistic (now (s .entry)) n t ⌝ }
-{
-    let at = 3 * n;
-    s[at] = t.weight;
-    s[at + 1] = t.sum;
-    s[at + 2] = t.sum_squared;
-}
-
-// The five at the places b, b + w and so on; the last three have a tenth of the decay.
-pub(crate) fn deviations_at(s: &[f64], b: usize, w: usize, decay: f64, count: u64) -> Deviations
-    requires { ⌜ 3 * (b + 4 * w) + 3 ≤ length (now s) ⌝ }
-    ensures { λ r. ⌜ r ≡ deviationsAt (now (s .entry)) b w decay count ⌝ }
-{
-    let slow = 0.1 * decay;
-    let value = statistic_at(s, b, decay, count);
-    let difference = statistic_at(s, b + w, decay, count);
-    let deviation = statistic_at(s, b + 2 * w, slow, count);
-    let difference_mean = statistic_at(s, b + 3 * w, slow, count);
-    let difference_deviation = statistic_at(s, b + 4 * w, slow, count);
-    Deviations {
-        value: value,
-        difference: difference,
-        deviation: deviation,
-        difference_mean: difference_mean,
-        difference_deviation: difference_deviation,
-    }
-}
-
-pub(crate) fn put_deviations(s: &mut [f64], b: usize, w: usize, t: Deviations)
-    requires { ⌜ 3 * (b + 4 * w) + 3 ≤ length (now s) ⌝ }
-    ensures { λ _. ⌜ now (s .exit) ≡ putDeviations (now (s .entry)) b w t ⌝ }
-{
-    let value = t.value;
-    let difference = t.difference;
-    let deviation = t.deviation;
-    let difference_mean = t.difference_mean;
-    let difference_deviation = t.difference_deviation;
-    put_statistic(s, b, value);
-    put_statistic(s, b + w, difference);
-    put_statistic(s, b + 2 * w, deviation);
-    put_statistic(s, b + 3 * w, difference_mean);
-    put_statistic(s, b + 4 * w, difference_deviation);
-}
-
-// ---- feeding
-
-// An update that the count does not refuse.
-fn step(t: Deviation, x: f64) -> Deviation
-    requires { ⌜ t .count < countLimit ⌝ }
-    ensures { λ r. ⌜ r ≡ stepOf t x ⌝ }
-{
-    let r = t.update(x);
-    match r {
-        DeviationResult::Ok(next) => next,
-        DeviationResult::Err(_) => t,
-    }
-}
-
-pub(crate) fn feed(t: Deviations, x: f64, dx: f64) -> Deviations
-    requires { ⌜ (t .value .count < countLimit) × (t .difference .count < countLimit) × (t .deviation .count < countLimit)
-        × (t .«difference_mean» .count < countLimit) × (t .«difference_deviation» .count < countLimit) ⌝ }
-    ensures { λ r. ⌜ r ≡ fed t x dx ⌝ }
-{
-    let value = step(t.value, x);
-    let difference = step(t.difference, dx);
-    let deviation = step(t.deviation, value.deviation());
-    let difference_mean = step(t.difference_mean, difference.mean());
-    let difference_deviation = step(t.difference_deviation, difference.deviation());
-    Deviations {
-        value: value,
-        difference: difference,
-        deviation: deviation,
-        difference_mean: difference_mean,
-        difference_deviation: difference_deviation,
-    }
 }
 
 // Each channel's five statistics are fed its reading and its difference from the one before.
@@ -183,15 +78,6 @@ pub(crate) fn update_channels(
     }
 }
 
-// ---- what the statistics of a channel say
-
-pub(crate) fn mean_at(s: &[f64], n: usize) -> f64
-    requires { ⌜ 3 * n + 3 ≤ length (now s) ⌝ }
-    ensures { λ r. ⌜ r ≡ meanAt (now (s .entry)) n ⌝ }
-{
-    statistic_at(s, n, 0.0, 0).mean()
-}
-
 fn narrow_mean_at(s: &[f64], n: usize) -> f32
     requires { ⌜ 3 * n + 3 ≤ length (now s) ⌝ }
     ensures { λ r. ⌜ r ≡ narrowed (meanAt (now (s .entry)) n) ⌝ }
@@ -206,8 +92,6 @@ fn normalized_scale(s: &[f64], d: usize, i: usize) -> f32
 {
     numeric::to_f32(mean_at(s, i + 2 * d) + 1.0)
 }
-
-// ---- transform and invert
 
 // One channel's reading x, after p.
 fn transform_at(t: WeightedTransformer, s: &[f64], i: usize, x: f32, p: f32) -> f32
@@ -273,7 +157,7 @@ fn invert_at(t: WeightedTransformer, s: &[f64], i: usize, x: f32, p: f32) -> f32
     }
 }
 
-pub(crate) fn invert_into(
+pub(crate) fn invert_fitting(
     t: WeightedTransformer,
     s: &[f64],
     input: &[f32],
@@ -294,8 +178,6 @@ pub(crate) fn invert_into(
         i += 1;
     }
 }
-
-// ---- scale, shift, difference_deviations
 
 fn scale_at(t: WeightedTransformer, s: &[f64], i: usize) -> f32
     requires { ⌜ Sound t (length (now s)) ⌝ }
@@ -362,8 +244,6 @@ pub(crate) fn difference_deviations_into(t: WeightedTransformer, s: &[f64], outp
         i += 1;
     }
 }
-
-// ---- invert_forecast
 
 // What a channel of a forecast is scaled and shifted by, the same in every block.
 struct Inversion {
@@ -506,7 +386,7 @@ fn cascade_if(b: bool, values: &mut [f32], upper: &mut [f32], lower: &mut [f32],
     }
 }
 
-pub(crate) fn invert_forecast_in_place(
+pub(crate) fn forecast_fitting(
     t: WeightedTransformer,
     s: &[f64],
     previous: &[f32],
@@ -525,8 +405,6 @@ pub(crate) fn invert_forecast_in_place(
     invert_channels(t, s, values, upper, lower);
     cascade_if(b, values, upper, lower, previous);
 }
-
-// ---- what refuses a call
 
 // Row 6 as the source has it: what makes a statistic with this discount refuses it.
 fn decay_row(decay: f64) -> u64
@@ -554,7 +432,7 @@ pub fn all_one(w: &[f32]) -> bool
 }
 
 // Row 9: NONE takes no weight but 1.
-pub(crate) fn weights_refused(m: TransformMethod, w: &[f32]) -> bool
+pub fn weights_refused(m: TransformMethod, w: &[f32]) -> bool
     ensures { λ r. ⌜ r ≡ (isNone m && not (allOne (now (w .entry)))) ⌝ }
 {
     if is_none(m) { !all_one(w) } else { false }
@@ -704,8 +582,6 @@ fn forecast_row(
     0
 }
 
-// ---- the calls
-
 // The weights, and zeros behind them.
 fn padded(w: &[f32]) -> [f32; 16]
     requires { ⌜ length (now w) ≤ 16 ⌝ }
@@ -728,6 +604,51 @@ fn clear(s: &mut [f64], n: usize)
     while i < n {
         s[i] = 0.0;
         i += 1;
+    }
+}
+
+// The same as the worker; where a row refuses, nothing changes.
+pub fn invert_into(
+    t: WeightedTransformer,
+    s: &[f64],
+    input: &[f32],
+    previous: &[f32],
+    output: &mut [f32],
+)
+    ensures { λ _. ⌜ now (output .exit) ≡ whereFits (passes (transformRow (t .«input_length») (length (now (input .entry))) (length (now (previous .entry))) (length (now (s .entry))) (length (now (output .entry))))) (over (now (output .entry)) (inverted (view t (now (s .entry))) (now (input .entry)) (now (previous .entry)))) (now (output .entry)) ⌝ }
+{
+    let d = t.input_length;
+    let row = transform_row(d, input.len(), previous.len(), s.len(), output.len());
+    if row == 0 {
+        invert_fitting(t, s, input, previous, output);
+    }
+}
+
+// The same as the worker; where a row refuses, nothing changes.
+pub fn invert_forecast_in_place(
+    t: WeightedTransformer,
+    s: &[f64],
+    previous: &[f32],
+    values: &mut [f32],
+    upper: &mut [f32],
+    lower: &mut [f32],
+)
+    ensures { λ _. ⌜ ranges (now (values .exit)) (now (upper .exit)) (now (lower .exit))
+        ≡ whereFits (passes (forecastRow (t .«transform_method») (t .«input_length») (length (now (previous .entry))) (length (now (values .entry))) (length (now (upper .entry))) (length (now (lower .entry))) (length (now (s .entry))))) (invertedForecast (view t (now (s .entry))) (now (previous .entry)) (ranges (now (values .entry)) (now (upper .entry)) (now (lower .entry)))) (ranges (now (values .entry)) (now (upper .entry)) (now (lower .entry))) ⌝ }
+{
+    let m = t.transform_method;
+    let d = t.input_length;
+    let row = forecast_row(
+        m,
+        d,
+        previous.len(),
+        values.len(),
+        upper.len(),
+        lower.len(),
+        s.len(),
+    );
+    if row == 0 {
+        forecast_fitting(t, s, previous, values, upper, lower);
     }
 }
 
@@ -858,7 +779,7 @@ impl WeightedTransformer {
             return row;
         }
         let n = 15 * d;
-        invert_into(self, &statistics[..n], input, previous, output);
+        invert_fitting(self, &statistics[..n], input, previous, output);
         0
     }
 
@@ -888,7 +809,7 @@ impl WeightedTransformer {
             return row;
         }
         let n = 15 * d;
-        invert_forecast_in_place(self, &statistics[..n], previous, values, upper, lower);
+        forecast_fitting(self, &statistics[..n], previous, values, upper, lower);
         0
     }
 

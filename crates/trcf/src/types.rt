@@ -1,6 +1,6 @@
 // The kinds that the settings name, under the source's names (trcf/types.rs).
 ghost use mathlib.Core.Path.{_≡_};
-ghost use Rattle.trcf.specs.Types.{isNone, normalizes, differences, centres};
+ghost use Rattle.trcf.specs.Types.{isNone, normalizes, differences, centres, augments};
 
 pub enum TransformMethod {
     NONE,
@@ -45,7 +45,7 @@ pub fn is_normalizing(m: TransformMethod) -> bool
 }
 
 // DIFFERENCE or NORMALIZE_DIFFERENCE.
-pub(crate) fn is_differencing(m: TransformMethod) -> bool
+pub fn is_differencing(m: TransformMethod) -> bool
     ensures { λ r. ⌜ r ≡ differences m ⌝ }
 {
     match m {
@@ -69,5 +69,15 @@ pub(crate) fn is_centring(m: TransformMethod) -> bool
         TransformMethod::SUBTRACT_MA => true,
         TransformMethod::NORMALIZE => true,
         TransformMethod::NORMALIZE_DIFFERENCE => false,
+    }
+}
+
+pub fn is_augmented(m: ForestMode) -> bool
+    ensures { λ r. ⌜ r ≡ augments m ⌝ }
+{
+    match m {
+        ForestMode::STANDARD => false,
+        ForestMode::TIME_AUGMENTED => true,
+        ForestMode::STREAMING_IMPUTE => false,
     }
 }

@@ -15,9 +15,9 @@ use crate::list::length_within;
 use crate::list::read_optional;
 use crate::list::read_singles;
 use crate::settings::Step;
-use trcf::preprocessor::PostProcessed;
-use trcf::preprocessor::Preprocessor;
-use trcf::preprocessor::post_process;
+use trcf::head::PostProcessed;
+use trcf::head::Preprocessor;
+use trcf_learn::post_process::post_process;
 ghost use Prim.Native.Nat.{_≤_};
 ghost use lib.ListN.{length};
 

@@ -18,10 +18,10 @@ use crate::field::name;
 use crate::field::read_whole;
 use crate::list::length_within;
 use crate::list::read_singles;
-use trcf::extrapolation::invert_extrapolation;
-use trcf::preprocessor::Preprocessor;
-use trcf::preprocessor::StatusAnswer;
-use trcf::refusal::is_augmented;
+use trcf::head::Preprocessor;
+use trcf::head::StatusAnswer;
+use trcf::types::is_augmented;
+use trcf_forecast::forecast::invert_extrapolation;
 
 // ---- transform
 
@@ -39,7 +39,7 @@ fn transform(
     time: u64,
     out: &mut [f32],
 ) -> bool {
-    let row = trcf::preprocessor::transform(
+    let row = trcf_calls::queries::transform(
         head,
         statistics,
         inputs,
@@ -101,7 +101,7 @@ fn scale(
     initial_timestamps: &[u64],
     out: &mut [f32],
 ) -> bool {
-    let row = trcf::preprocessor::scale(
+    let row = trcf_calls::queries::scale(
         head,
         statistics,
         inputs,
@@ -126,7 +126,7 @@ fn shift(
     initial_timestamps: &[u64],
     out: &mut [f32],
 ) -> bool {
-    let row = trcf::preprocessor::shift(
+    let row = trcf_calls::queries::shift(
         head,
         statistics,
         inputs,
@@ -162,7 +162,7 @@ fn status(
     initial_timestamps: &[u64],
     out: &mut [f32],
 ) -> bool {
-    let s = trcf::preprocessor::status(
+    let s = trcf_calls::queries::status(
         head,
         statistics,
         inputs,

@@ -26,10 +26,10 @@ use crate::settings::kept;
 use crate::state::set_line;
 use crate::state::state_line;
 use crate::text::text_line;
-use trcf::preprocessor::Preprocessor;
-use trcf::preprocessor::drain;
-use trcf::preprocessor::no_head;
-use trcf::preprocessor::shingled_point;
+use trcf::head::Preprocessor;
+use trcf::head::no_head;
+use trcf_point::drain::drain;
+use trcf_point::point::shingled_point;
 ghost use Prim.Native.Nat.{_<_, _≤_};
 ghost use lib.ListN.{length};
 

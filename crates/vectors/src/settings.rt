@@ -18,9 +18,9 @@ use crate::kinds::method_of;
 use crate::kinds::mode_of;
 use crate::list::read_codes;
 use crate::list::read_singles;
-use trcf::preprocessor::Preprocessor;
-use trcf::preprocessor::PreprocessorBuilder;
-use trcf::preprocessor::build;
+use trcf::head::Preprocessor;
+use trcf::head::PreprocessorBuilder;
+use trcf_calls::build::build;
 
 // Whether a line agrees, and the head after it.
 pub(crate) struct Step {

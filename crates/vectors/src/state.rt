@@ -16,7 +16,7 @@ use crate::list::read_doubles;
 use crate::list::read_singles;
 use crate::list::read_wholes;
 use crate::settings::Step;
-use trcf::preprocessor::Preprocessor;
+use trcf::head::Preprocessor;
 
 // A cursor, and the place of the next initial value.
 struct Initial {

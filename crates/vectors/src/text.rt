@@ -2,8 +2,8 @@
 use crate::expect::expect_whole;
 use crate::field::begin;
 use crate::field::done;
-use snapshot::save::save;
-use trcf::preprocessor::Preprocessor;
+use snapshot_save::save::save;
+use trcf::head::Preprocessor;
 ghost use Prim.Native.Nat.{_<_};
 
 fn wide(b: u8) -> u64

@@ -1,4 +1,6 @@
-//! What both programs share: the oracle's settings and calls, made on the library.
+//! What the programs share: the oracle's settings and calls, made on the library; and the calls that take no preprocessor.
+pub mod lists;
+
 use oracle::bits::{all32, all64};
 use oracle::calls::{Anomaly, Answer, Call, Learn as Learning, Mode, Settings as Given};
 use veerycouch::{ForestMode, Learn, Memory, Preprocessor, Ranges, Refusal, Settings, TransformMethod};

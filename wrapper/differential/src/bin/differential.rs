@@ -1,5 +1,6 @@
 //! Random lists of calls on the static library and on the unchanged Rust: every answer, refusal and text, what lies past the answers, and
-//! heads that were damaged. Usage: differential SEED LISTS [TEXTS].
+//! heads that were damaged; and the calls that take no preprocessor. Usage: differential SEED LISTS [TEXTS [CASES]].
+use differential::lists::{align, corrected, impute, stranding, Tally};
 use differential::{call, same, settings};
 use oracle::calls::{Answer, Call, Mode, Settings};
 use oracle::random::{bad_settings, expected_codes, settings as random_settings, Calls, Random, FULL};
@@ -409,8 +410,36 @@ fn one(seed: u64, list: u64, met: &mut Met) {
     restarts(&mut r, list, met, &s, &record);
 }
 
+type Rows = [u64; ROWS];
+
+fn by_row(list: &Rows) -> String {
+    list.iter().enumerate().filter(|(_, &n)| n > 0).map(|(i, n)| format!("{i}: {n}")).collect::<Vec<_>>().join(", ")
+}
+
+fn told(met: &Met, lists: u64) {
+    println!("lists {lists}, calls {}, texts {} (each also with an output one byte short)", met.calls, met.texts);
+    println!("calls by row {}", by_row(&met.rows));
+    println!("builds by row {}", by_row(&met.builds));
+    println!("damaged heads by row {}", by_row(&met.damaged));
+    println!("drained {}, lists stranded {}", met.drained, met.stranded);
+    println!("restarts {}, answers after one {}; with other codes {}", met.restarts, met.answers, met.others);
+    println!("texts read {}, by row {}; without the line of the codes {}, of them bad {}", met.read.iter().sum::<u64>(), by_row(&met.read), met.unlined, met.unlined_bad);
+}
+
+/// CASES random cases of each call that takes no preprocessor.
+fn cases(seed: u64, count: u64) -> u64 {
+    let kinds: [(&str, fn(u64, u64) -> Tally); 4] = [("impute", impute), ("align", align), ("strandings", stranding), ("corrected", corrected)];
+    let mut differences = 0;
+    for (name, run) in kinds {
+        let t = run(seed, count);
+        println!("{name}: {} cases, by row {}; differences {}", t.rows.iter().sum::<u64>(), by_row(&t.rows), t.differences);
+        differences += t.differences;
+    }
+    differences
+}
+
 fn main() {
-    let given: Vec<u64> = std::env::args().skip(1).map(|a| a.parse().expect("SEED LISTS [TEXTS]")).collect();
+    let given: Vec<u64> = std::env::args().skip(1).map(|a| a.parse().expect("SEED LISTS [TEXTS [CASES]]")).collect();
     let (seed, lists) = (given[0], given[1]);
     let mut met = Met::default();
     for list in 0..lists {
@@ -420,14 +449,10 @@ fn main() {
         let mut r = Random::new((seed ^ 0x7e87).wrapping_mul(0x1_0000_0001).wrapping_add(number));
         texts(&mut r, number, &mut met);
     }
-    let rows = |list: &[u64; ROWS]| list.iter().enumerate().filter(|(_, &n)| n > 0).map(|(i, n)| format!("{i}: {n}")).collect::<Vec<_>>().join(", ");
-    println!("lists {lists}, calls {}, texts {} (each also with an output one byte short)", met.calls, met.texts);
-    println!("calls by row {}", rows(&met.rows));
-    println!("builds by row {}", rows(&met.builds));
-    println!("damaged heads by row {}", rows(&met.damaged));
-    println!("drained {}, lists stranded {}", met.drained, met.stranded);
-    println!("restarts {}, answers after one {}; with other codes {}", met.restarts, met.answers, met.others);
-    println!("texts read {}, by row {}; without the line of the codes {}, of them bad {}", met.read.iter().sum::<u64>(), rows(&met.read), met.unlined, met.unlined_bad);
+    told(&met, lists);
+    if let Some(&count) = given.get(3) {
+        met.differences += cases(seed, count);
+    }
     println!("differences {}", met.differences);
     std::process::exit((met.differences > 0) as i32);
 }

@@ -1,5 +1,5 @@
 -- `capi::getters::veerycouch_get_dimension` meets its contract: by the promises of the words and of the call. Assumes nothing.
-use Rattle.trcf.specs.declared.preprocessor.Preprocessor.{Preprocessor}
+use Rattle.trcf.specs.declared.head.Preprocessor.{Preprocessor}
 use Rattle.trcf.specs.Settings.{dimension}
 use Rattle.trcf.specs.Preprocessor.{accepted}
 use Rattle.trcf.specs.View.{settingsOf, headRow}

@@ -1,6 +1,6 @@
 -- `capi::getters::veerycouch_is_ready` meets its contract: by the promises of the words and of the call. Assumes nothing.
 use mathlib.Core.Path.{_≡_, refl, sym, ap, _∙_}
-use Rattle.trcf.specs.declared.preprocessor.Preprocessor.{Preprocessor}
+use Rattle.trcf.specs.declared.head.Preprocessor.{Preprocessor}
 use lib.Dec.{leb}
 use Rattle.capi.specs.Calls.{flag}
 use Rattle.capi.proofs.CallLaws.{get-refused, get-done}

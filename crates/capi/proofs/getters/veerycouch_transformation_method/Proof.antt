@@ -1,6 +1,6 @@
 -- `capi::getters::veerycouch_transformation_method` meets its contract: by the promises of the words and of the call. Assumes nothing.
 use mathlib.Core.Path.{_≡_, refl, sym, ap, _∙_}
-use Rattle.trcf.specs.declared.preprocessor.Preprocessor.{Preprocessor}
+use Rattle.trcf.specs.declared.head.Preprocessor.{Preprocessor}
 use Rattle.trcf.specs.Types.{methodNumber}
 use Rattle.capi.proofs.CallLaws.{get-refused, get-done}
 use borrow.Author.Needs.{needs}

@@ -1,5 +1,5 @@
 -- `capi::getters::veerycouch_values_seen` meets its contract: by the promises of the words and of the call. Assumes nothing.
-use Rattle.trcf.specs.declared.preprocessor.Preprocessor.{Preprocessor}
+use Rattle.trcf.specs.declared.head.Preprocessor.{Preprocessor}
 use Rattle.capi.proofs.CallLaws.{get-refused, get-done}
 use borrow.Author.Needs.{needs}
 use Rattle.capi.proofs.getters.veerycouch_values_seen.Statement.{statement}

@@ -54,8 +54,8 @@ loop-again c =
     let below = c .before .before .before .before .loop-test .taken in
     let in-list = place-below (a .ch .d) (a .ch .c) (L .i) (s .pre .0) (n / a .ch .d) n below (omega (arith, s .pre .2)) in
     let W =
-        walked-more (a .ch) (a .marks .now) (a .cells .now) (s .pre .0) (L .i) (L .gap) (c .before .before .passed .result) (L .cells) _
-        (L .inv .2) below in-list (c .before .before .passed .ensures) in
+    walked-more (a .ch) (a .marks .now) (a .cells .now) (s .pre .0) (L .i) (L .gap) (c .before .before .passed .result) (L .cells) _
+    (L .inv .2) below in-list (c .before .before .passed .ensures) in
     (omega arith, walked-length W, W)
 
 fill-gap-requires : tie.Need-fill-gap-requires Inv-loop μ-loop

@@ -15,7 +15,7 @@ use Rattle.snapshot.proofs.restore.fill.Tie as tie
 use Rattle.snapshot.proofs.restore.fill.Reads as reads
 use Rattle.snapshot.proofs.restore.fill.Lts as lts
 use Rattle.snapshot.proofs.restore.fill_body.Reads as fill-body-reads
-use Rattle.snapshot.proofs.save.time_width.Reads as time-width-reads
+use Rattle.snapshot.proofs.limits.time_width.Reads as time-width-reads
 
 time-width-requires : tie.Need-time-width-requires
 time-width-requires c κs = search needs

@@ -5,7 +5,7 @@ use native.Mathlib.Omega.{arith}
 use mathlib.Core.Path.{_≡_, refl, sym, ap, _∙_, subst}
 use lib.ListN.{length, take, drop}
 use lib.Seq.{length-take-le}
-use Rattle.trcf.specs.declared.preprocessor.Preprocessor.{Preprocessor}
+use Rattle.trcf.specs.declared.head.Preprocessor.{Preprocessor}
 use Rattle.snapshot.specs.Judge.{settingsTold, countsRead, codesRead}
 use Rattle.snapshot.specs.Runs.{Ran, ran, broke, Head, headRead, headOf, headedOf, HeadFew, mapRan}
 use Rattle.snapshot.proofs.JudgeLaws.{got-one, lost-one}

@@ -9,19 +9,19 @@ use Rattle.snapshot.proofs.restore.is_short.Statement.{statement}
 use Rattle.snapshot.proofs.restore.is_short.Tie as tie
 use Rattle.snapshot.proofs.restore.is_short.Reads as reads
 use Rattle.snapshot.proofs.restore.is_short.Lts as lts
-use Rattle.snapshot.proofs.save.is_past.Reads as is-past-reads
-use Rattle.snapshot.proofs.save.time_width.Reads as time-width-reads
+use Rattle.snapshot.proofs.limits.past_limits.Reads as past-limits-reads
+use Rattle.snapshot.proofs.limits.time_width.Reads as time-width-reads
 
 time-width-requires : tie.Need-time-width-requires
 time-width-requires c κs = search needs
 
-is-past-requires : tie.Need-is-past-requires
-is-past-requires c κs = wide-of (augments (c .before .before .before .before .before .before .before .before .args .head .«forest_mode»)) (c .time-width .result) (c .time-width .ensures)
+past-limits-requires : tie.Need-past-limits-requires
+past-limits-requires c κs = wide-of (augments (c .before .before .before .before .before .before .before .before .args .head .«forest_mode»)) (c .time-width .result) (c .time-width .ensures)
 
 returns : tie.Need-returns
 returns c =
     let a = c .before .before .before .before .before .before .before .before .before .args in
-    c .is-past .ensures ∙ short-is (a .head) (lent (a .statistics .now) (a .last-shingled-input .now) (a .last-shingled-point .now) (a .previous-timestamps .now) (a .initial-values .now) (a .initial-timestamps .now)) (c .before .time-width .result) (c .before .before .before .before .before .before .before .before .before .pre) (c .before .time-width .ensures)
+    c .past-limits .ensures ∙ short-is (a .head) (lent (a .statistics .now) (a .last-shingled-input .now) (a .last-shingled-point .now) (a .previous-timestamps .now) (a .initial-values .now) (a .initial-timestamps .now)) (c .before .time-width .result) (c .before .before .before .before .before .before .before .before .before .pre) (c .before .time-width .ensures)
 
 pub is-short-spec : {M : Type 1} → statement M
-is-short-spec = tie.close (tie.spec time-width-requires is-past-requires returns)
+is-short-spec = tie.close (tie.spec time-width-requires past-limits-requires returns)

@@ -15,7 +15,7 @@ use Rattle.snapshot.proofs.restore.part_lines_unkept.Tie as tie
 use Rattle.snapshot.proofs.restore.part_lines_unkept.Reads as reads
 use Rattle.snapshot.proofs.restore.part_lines_unkept.Lts as lts
 use Rattle.snapshot.proofs.lines.part_lines.Reads as part-lines-reads
-use Rattle.snapshot.proofs.save.time_width.Reads as time-width-reads
+use Rattle.snapshot.proofs.limits.time_width.Reads as time-width-reads
 
 mul-lines : tie.Need-mul-lines
 mul-lines c = search needs

@@ -1,7 +1,7 @@
 -- `snapshot::restore::refused` meets its contract. Assumes nothing.
 use borrow.Author.Needs.{needs}
 use mathlib.Core.Path.{_≡_, ap}
-use Rattle.trcf.specs.declared.preprocessor.Preprocessor.{Preprocessor}
+use Rattle.trcf.specs.declared.head.Preprocessor.{Preprocessor}
 use Rattle.snapshot.proofs.restore.refused.Statement.{statement}
 use Rattle.snapshot.proofs.restore.refused.Tie as tie
 use Rattle.snapshot.proofs.restore.refused.Reads as reads

@@ -6,7 +6,7 @@ use mathlib.Core.Path.{_≡_, refl, sym, ap, _∙_}
 use lib.ListN.{length, drop}
 use borrow.Author.Tests.{not-true, not-false}
 use Rattle.trcf.specs.View.{Lent, lent, settingsOf, counting}
-use Rattle.trcf.specs.declared.preprocessor.Preprocessor.{Preprocessor}
+use Rattle.trcf.specs.declared.head.Preprocessor.{Preprocessor}
 use Rattle.snapshot.specs.Restore.{outcome}
 use Rattle.snapshot.specs.declared.restore.Restored.{Restored}
 use Rattle.snapshot.proofs.RunLaws.{not-zero, told-broke, told-ran}

@@ -1,64 +1,24 @@
--- `trcf::output::write_deviations` meets its contract: by its callees' promises, the time's number behind the channels'. Assumes nothing.
-use native.Mathlib.Omega.{arith}
+-- `trcf::output::write_deviations` meets its contract: by its worker's promise where all fits. Assumes nothing.
 use mathlib.Core.Path.{_≡_, refl, sym, ap, _∙_}
-use Prim.Native.Nat.{ℕ, _+_, _-_, _*_, _≤_, _<_}
-use lib.ListN.{length}
-use Rattle.trcf.specs.Settings.{block}
-use Rattle.trcf.specs.Preprocessor.{deviations}
-use Rattle.trcf.specs.View.{settingsOf}
-use Rattle.trcf.proofs.OutputLaws.{timed, untimed, deviations-free, block-augmented}
-use Rattle.trcf.proofs.TransformerLaws.{differenceDeviations-length}
 use borrow.Author.Needs.{needs}
+use Rattle.trcf.proofs.LengthLaws.{fitting, unfit}
 use Rattle.trcf.proofs.output.write_deviations.Statement.{statement}
 use Rattle.trcf.proofs.output.write_deviations.Tie as tie
 
-difference-deviations-into-requires : tie.Need-difference-deviations-into-requires
-unfolding block
-difference-deviations-into-requires c κs = (record { some = omega arith; few = omega arith; room = omega arith }, omega arith)
+output-fits-requires : tie.Need-output-fits-requires
+output-fits-requires c κs = tt
 
-is-augmented-requires : tie.Need-is-augmented-requires
-is-augmented-requires c κs = tt
-
-time-deviation-requires : tie.Need-time-deviation-requires
-time-deviation-requires c κs = search needs
-
-mul-output : tie.Need-mul-output
-mul-output c = omega arith
-
-slice-write-output : tie.Need-slice-write-output
-slice-write-output c = let b = block-augmented (settingsOf (c .before .before .before .before .before .before .before .before .before .before .args .head)) (sym (c .before .before .is-augmented .ensures) ∙ c .before .if1 .taken) in omega (arith, c .before .before .before .before .before .difference-deviations-into .kept, c .before .before .before .before .before .before .before .before .before .before .pre)
+deviations-fitting-requires : tie.Need-deviations-fitting-requires
+deviations-fitting-requires c κs = let f = c .before .before .output-fits .ensures .1 (c .before .if1 .taken) in (f .0, (f .1, f .2))
 
 same-length : tie.Need-same-length
 same-length c = search needs
 
 returns : tie.Need-returns
-unfolding deviations
-returns c =
-    let a = c .before .before .before .before .before .before .before .before .before .before .args in
-    let g = sym (c .before .before .is-augmented .ensures) ∙ c .before .if1 .taken in
-    let b = block-augmented (settingsOf (a .head)) g in
-    let h : a .head .transformer .«input_length» < length (a .output .now) = omega (arith, c .before .before .before .before .before .before .before .before .before .before .pre) in
-    rw (c .before .before .before .before .before .difference-deviations-into .ensures, c .time-deviation .ensures) (timed (settingsOf (a .head)) (a .output .now) _ _ _ (deviations-free (a .head) (a .s .now)) (differenceDeviations-length _) g h)
-
-same-length-2 : tie.Need-same-length-2
-same-length-2 c = search needs
+returns c = fitting _ (c .before .before .deviations-fitting .ensures) (sym (c .before .before .before .before .before .output-fits .ensures .0) ∙ c .before .before .before .before .if1 .taken)
 
 returns-2 : tie.Need-returns-2
-unfolding deviations
-returns-2 c =
-    let a = c .before .before .before .before .before .before .before .before .before .args in
-    rw (c .before .before .before .before .difference-deviations-into .ensures) (untimed (settingsOf (a .head)) (a .output .now) _ _ _ (deviations-free (a .head) (a .s .now)) (sym (c .before .is-augmented .ensures) ∙ c .if1 .left))
+returns-2 c = unfit _ refl (sym (c .before .output-fits .ensures .0) ∙ c .if1 .left)
 
 pub write-deviations-spec : {M : Type 1} → statement M
-write-deviations-spec =
-    tie.close
-    (tie.spec
-    difference-deviations-into-requires
-    is-augmented-requires
-    time-deviation-requires
-    mul-output
-    slice-write-output
-    same-length
-    returns
-    same-length-2
-    returns-2)
+write-deviations-spec = tie.close (tie.spec output-fits-requires deviations-fitting-requires same-length returns returns-2)

@@ -1,76 +1,24 @@
--- `trcf::output::write_shift` meets its contract: by its callees' promises, the time's number behind the channels'. Assumes nothing.
-use native.Mathlib.Omega.{arith}
+-- `trcf::output::write_shift` meets its contract: by its worker's promise where all fits. Assumes nothing.
 use mathlib.Core.Path.{_≡_, refl, sym, ap, _∙_}
-use Prim.Native.Nat.{ℕ, _+_, _-_, _*_, _≤_, _<_}
-use lib.ListN.{length}
-use Rattle.trcf.specs.Settings.{block}
-use Rattle.trcf.specs.Preprocessor.{shiftOf}
-use Rattle.trcf.specs.View.{settingsOf}
-use Rattle.trcf.proofs.OutputLaws.{timed, untimed, shifts-free, block-augmented}
-use Rattle.trcf.proofs.TransformerLaws.{shifts-length}
 use borrow.Author.Needs.{needs}
+use Rattle.trcf.proofs.LengthLaws.{fitting, unfit}
 use Rattle.trcf.proofs.output.write_shift.Statement.{statement}
 use Rattle.trcf.proofs.output.write_shift.Tie as tie
 
-shift-into-requires : tie.Need-shift-into-requires
-unfolding block
-shift-into-requires c κs = (record { some = omega arith; few = omega arith; room = omega arith }, omega arith)
+output-fits-requires : tie.Need-output-fits-requires
+output-fits-requires c κs = tt
 
-is-augmented-requires : tie.Need-is-augmented-requires
-is-augmented-requires c κs = tt
-
-last-time-requires : tie.Need-last-time-requires
-last-time-requires c κs = tt
-
-u64-to-f32-requires : tie.Need-u64-to-f32-requires
-u64-to-f32-requires c κs = search needs
-
-timedrift-of-requires : tie.Need-timedrift-of-requires
-timedrift-of-requires c κs = search needs
-
-to-f32-requires : tie.Need-to-f32-requires
-to-f32-requires c κs = search needs
-
-mul-output : tie.Need-mul-output
-mul-output c = omega arith
-
-slice-write-output : tie.Need-slice-write-output
-slice-write-output c = let b = block-augmented (settingsOf (c .before .before .before .before .before .before .before .before .before .before .before .before .before .before .args .head)) (sym (c .before .before .before .before .before .is-augmented .ensures) ∙ c .before .before .before .before .if1 .taken) in omega (arith, c .before .before .before .before .before .before .before .before .shift-into .kept, c .before .before .before .before .before .before .before .before .before .before .before .before .before .before .pre)
+shift-fitting-requires : tie.Need-shift-fitting-requires
+shift-fitting-requires c κs = let f = c .before .before .output-fits .ensures .1 (c .before .if1 .taken) in (f .0, (f .1, f .2))
 
 same-length : tie.Need-same-length
 same-length c = search needs
 
 returns : tie.Need-returns
-unfolding shiftOf
-returns c =
-    let a = c .before .before .before .before .before .before .before .before .before .before .before .before .before .before .args in
-    let g = sym (c .before .before .before .before .before .is-augmented .ensures) ∙ c .before .before .before .before .if1 .taken in
-    let b = block-augmented (settingsOf (a .head)) g in
-    let h : a .head .transformer .«input_length» < length (a .output .now) = omega (arith, c .before .before .before .before .before .before .before .before .before .before .before .before .before .before .pre) in
-    rw (c .before .before .before .before .before .before .before .before .shift-into .ensures, c .before .before .u64-to-f32 .ensures, c .before .before .before .last-time .ensures, c .to-f32 .ensures, c .before .timedrift-of .ensures) (timed (settingsOf (a .head)) (a .output .now) _ _ _ (shifts-free (a .head) (a .s .now)) (shifts-length _) g h)
-
-same-length-2 : tie.Need-same-length-2
-same-length-2 c = search needs
+returns c = fitting _ (c .before .before .shift-fitting .ensures) (sym (c .before .before .before .before .before .output-fits .ensures .0) ∙ c .before .before .before .before .if1 .taken)
 
 returns-2 : tie.Need-returns-2
-unfolding shiftOf
-returns-2 c =
-    let a = c .before .before .before .before .before .before .before .before .before .before .args in
-    rw (c .before .before .before .before .shift-into .ensures) (untimed (settingsOf (a .head)) (a .output .now) _ _ _ (shifts-free (a .head) (a .s .now)) (sym (c .before .is-augmented .ensures) ∙ c .if1 .left))
+returns-2 c = unfit _ refl (sym (c .before .output-fits .ensures .0) ∙ c .if1 .left)
 
 pub write-shift-spec : {M : Type 1} → statement M
-write-shift-spec =
-    tie.close
-    (tie.spec
-    shift-into-requires
-    is-augmented-requires
-    last-time-requires
-    u64-to-f32-requires
-    timedrift-of-requires
-    to-f32-requires
-    mul-output
-    slice-write-output
-    same-length
-    returns
-    same-length-2
-    returns-2)
+write-shift-spec = tie.close (tie.spec output-fits-requires shift-fitting-requires same-length returns returns-2)

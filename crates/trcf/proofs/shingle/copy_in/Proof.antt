@@ -1,74 +1,24 @@
--- `trcf::shingle::copy_in` meets its contract: by its loop's invariant. Assumes nothing.
-use mathlib.Core.Path.{_≡_, refl}
-use lib.Seq.{paste, paste-zero, paste-suc}
-use lib.ListN.{length, length-set}
-use Prim.Native.Nat.{_+_, _≤_, _<_, _-_}
-use native.Mathlib.Numerals.{add-one}
-use native.Mathlib.Omega.{arith}
+-- `trcf::shingle::copy_in` meets its contract: by its worker's promise where all fits. Assumes nothing.
+use mathlib.Core.Path.{_≡_, refl, sym, ap, _∙_}
+use borrow.Author.Needs.{needs}
+use Rattle.trcf.proofs.LengthLaws.{fitting, unfit, within-le}
 use Rattle.trcf.proofs.shingle.copy_in.Statement.{statement}
 use Rattle.trcf.proofs.shingle.copy_in.Tie as tie
 
-abbrev Inv-loop : tie.InvT-loop
-Inv-loop dst₀ at src i₀ dst i = (i ≤ length src) × (dst ≡ paste dst₀ at src i) × (length dst ≡ length dst₀)
+has-room-requires : tie.Need-has-room-requires
+has-room-requires c κs = tt
 
-abbrev μ-loop : tie.MeasureT-loop
-μ-loop dst₀ at src i₀ dst i = length src - i
+copy-fitting-requires : tie.Need-copy-fitting-requires
+copy-fitting-requires c κs = within-le (sym (c .before .before .has-room .ensures) ∙ c .before .if1 .taken)
 
-loop-holds : tie.Need-loop-holds Inv-loop μ-loop
-loop-holds c = (omega arith, paste-zero (c .args .dst .now) (c .args .at) (c .args .src .now), refl)
+same-length : tie.Need-same-length
+same-length c = search needs
 
-mul-dst : tie.Need-mul-dst Inv-loop μ-loop
-mul-dst c = omega arith
+returns : tie.Need-returns
+returns c = fitting _ (c .before .before .copy-fitting .ensures) (sym (c .before .before .before .before .before .has-room .ensures) ∙ c .before .before .before .before .if1 .taken)
 
-shared-slice-read-dst : tie.Need-shared-slice-read-dst Inv-loop μ-loop
-shared-slice-read-dst c = omega arith
-
-add-dst : tie.Need-add-dst Inv-loop μ-loop
-add-dst c = omega arith
-
-mul-dst-2 : tie.Need-mul-dst-2 Inv-loop μ-loop
-mul-dst-2 c = omega arith
-
-slice-write-dst : tie.Need-slice-write-dst Inv-loop μ-loop
-slice-write-dst c = omega arith
-
-add-i : tie.Need-add-i Inv-loop μ-loop
-add-i c = omega arith
-
-loop-less : tie.Need-loop-less Inv-loop μ-loop
-loop-less c = omega arith
-
-loop-again : tie.Need-loop-again Inv-loop μ-loop
-loop-again c =
-    let L = c .before .before .loop in
-    let a = c .before .before .before .args in
-    let hd : a .at + L .i < length (a .dst .now) = omega arith in
-    let hs : L .i < length (a .src .now) = omega arith in
-    (omega arith, rw (L .inv .1, add-one) (paste-suc (a .dst .now) (a .at) (a .src .now) (L .i) _ hd hs), simp length-set (omega arith))
-
-same-length : tie.Need-same-length Inv-loop μ-loop
-same-length c = omega arith
-
-returns : tie.Need-returns Inv-loop μ-loop
-returns c =
-    let L = c .before .loop in
-    let e : L .i ≡ length (c .before .before .args .src .now) = omega arith in
-    rw e at (L .inv .1)
+returns-2 : tie.Need-returns-2
+returns-2 c = unfit _ refl (sym (c .before .has-room .ensures) ∙ c .if1 .left)
 
 pub copy-in-spec : {M : Type 1} → statement M
-copy-in-spec =
-    tie.close
-    (tie.spec
-    Inv-loop
-    μ-loop
-    loop-holds
-    mul-dst
-    shared-slice-read-dst
-    add-dst
-    mul-dst-2
-    slice-write-dst
-    add-i
-    loop-less
-    loop-again
-    same-length
-    returns)
+copy-in-spec = tie.close (tie.spec has-room-requires copy-fitting-requires same-length returns returns-2)

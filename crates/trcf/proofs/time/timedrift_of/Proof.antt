@@ -1,22 +1,20 @@
--- `trcf::time::timedrift_of` meets its contract: by its callees' promises. Assumes nothing.
-use native.Mathlib.Omega.{arith}
-use Rattle.trcf.specs.Preprocessor.{timedrift}
-use borrow.Author.Needs.{needs}
+-- `trcf::time::timedrift_of` meets its contract: by its worker's promise where all fits. Assumes nothing.
+use mathlib.Core.Path.{_≡_, refl, sym, ap, _∙_}
+use Rattle.trcf.proofs.LengthLaws.{fitting, unfit}
 use Rattle.trcf.proofs.time.timedrift_of.Statement.{statement}
 use Rattle.trcf.proofs.time.timedrift_of.Tie as tie
 
-mul-mean-at : tie.Need-mul-mean-at
-mul-mean-at c = omega arith
+time-fits-requires : tie.Need-time-fits-requires
+time-fits-requires c κs = tt
 
-add-mean-at : tie.Need-add-mean-at
-add-mean-at c = omega arith
-
-mean-at-requires : tie.Need-mean-at-requires
-mean-at-requires c κs = search needs
+timedrift-fitting-requires : tie.Need-timedrift-fitting-requires
+timedrift-fitting-requires c κs = let f = c .before .time-fits .ensures .1 (c .if1 .taken) in (f .0, f .1)
 
 returns : tie.Need-returns
-unfolding timedrift
-returns c = c .mean-at .ensures
+returns c = fitting _ (c .timedrift-fitting .ensures) (sym (c .before .before .time-fits .ensures .0) ∙ c .before .if1 .taken)
+
+returns-2 : tie.Need-returns-2
+returns-2 c = unfit _ refl (sym (c .before .time-fits .ensures .0) ∙ c .if1 .left)
 
 pub timedrift-of-spec : {M : Type 1} → statement M
-timedrift-of-spec = tie.close (tie.spec mul-mean-at add-mean-at mean-at-requires returns)
+timedrift-of-spec = tie.close (tie.spec time-fits-requires timedrift-fitting-requires returns returns-2)

@@ -1,50 +1,40 @@
--- `trcf::transformer::invert_forecast_in_place` meets its contract: the inverted channels, then the cascade. Assumes nothing.
-use mathlib.Core.Path.{_∙_}
-use lib.ListN.{length}
-use native.Mathlib.Omega.{arith}
-use Rattle.common.specs.RangeVector.{ranges}
-use Rattle.trcf.specs.TransformerCalls.{view}
-use Rattle.trcf.proofs.ForecastLaws.{blocked-still, forecast-done}
+-- `trcf::transformer::invert_forecast_in_place` meets its contract: by its worker's promise where no row refuses. Assumes nothing.
+use mathlib.Core.Path.{_≡_, refl, sym, ap, _∙_}
 use borrow.Author.Needs.{needs}
+use mathlib.Core.Bool.{_&&_}
+use Prim.Native.Nat.{ℕ}
+use lib.ListN.{length}
+use Rattle.common.specs.RangeVector.{unblocked}
+use Rattle.trcf.specs.Types.{differences}
+use Rattle.trcf.proofs.LengthLaws.{fitting, unfit, passes-zero, passes-not}
 use Rattle.trcf.proofs.transformer.invert_forecast_in_place.Statement.{statement}
 use Rattle.trcf.proofs.transformer.invert_forecast_in_place.Tie as tie
 
-is-differencing-requires : tie.Need-is-differencing-requires
-is-differencing-requires c κs = tt
+forecast-row-requires : tie.Need-forecast-row-requires
+forecast-row-requires c κs = tt
 
-invert-channels-requires : tie.Need-invert-channels-requires
-invert-channels-requires c κs = search needs
-
-cascade-if-requires : tie.Need-cascade-if-requires
-cascade-if-requires c κs = let a = c .before .before .before .before .before .before .before .before .before .before .before .before .before .before .before .before .before .before .before .args in
-    let I = c .before .before .before .before .before .before .before .before .before .invert-channels in
-    ((omega arith, omega arith), blocked-still (c .before .before .before .before .before .before .before .before .before .before .before .before .before .is-differencing .result) _ (length (a .previous .now)) (length (I .last .1 .1 .0)) (length (a .values .now)) (c .before .before .before .before .before .before .before .before .before .before .before .before .before .is-differencing .ensures) (omega arith) (c .before .before .before .before .before .before .before .before .before .before .before .before .before .before .before .before .before .before .before .pre .1 .1))
+forecast-fitting-requires : tie.Need-forecast-fitting-requires
+forecast-fitting-requires c κs =
+    let a = c .before .before .before .before .before .before .before .before .before .before .args in
+    let f = c .before .before .before .before .forecast-row .ensures .1 (c .before .before .before .if1 .taken) in (
+      record { some = f .0; few = f .1; room = f .6 },
+      ((f .3, f .4), ap (λ (k : ℕ). differences (a .t .«transform_method») && unblocked k (length (a .values .now))) (f .2) ∙ f .5),
+    )
 
 same-length : tie.Need-same-length
-same-length c = c .before .before .before .before .before .before .cascade-if .kept .1 .0 ∙ c .before .before .before .before .before .before .before .before .before .before .before .before .before .before .before .before .invert-channels .kept .1 .1 .0
+same-length c = c .before .before .before .before .before .before .forecast-fitting .kept .1 .1 .1 .0
 
 same-length-2 : tie.Need-same-length-2
-same-length-2 c = c .before .before .before .before .before .before .cascade-if .kept .1 .1 .0 ∙ c .before .before .before .before .before .before .before .before .before .before .before .before .before .before .before .before .invert-channels .kept .1 .1 .1 .0
+same-length-2 c = c .before .before .before .before .before .before .forecast-fitting .kept .1 .1 .1 .1 .0
 
 same-length-3 : tie.Need-same-length-3
-same-length-3 c = c .before .before .before .before .before .before .cascade-if .kept .1 .1 .1 .0 ∙ c .before .before .before .before .before .before .before .before .before .before .before .before .before .before .before .before .invert-channels .kept .1 .1 .1 .1 .0
+same-length-3 c = c .before .before .before .before .before .before .forecast-fitting .kept .1 .1 .1 .1 .1 .0
 
 returns : tie.Need-returns
-returns c = let a = c .before .before .before .before .before .before .before .before .before .before .before .before .before .before .before .before .before .before .before .before .before .before .before .before .before .before .args in
-    let I = c .before .before .before .before .before .before .before .before .before .before .before .before .before .before .before .before .invert-channels in
-    let J = c .before .before .before .before .before .before .cascade-if in
-    forecast-done (view (a .t) (a .s .now)) (a .previous .now) (ranges (a .values .now) (a .upper .now) (a .lower .now))
-    (ranges (I .last .1 .1 .0) (I .last .1 .1 .1 .0) (I .last .1 .1 .1 .1 .0)) (ranges (J .last .1 .0) (J .last .1 .1 .0) (J .last .1 .1 .1 .0))
-    (c .before .before .before .before .before .before .before .before .before .before .before .before .before .before .before .before .before .before .before .before .is-differencing .result) (c .before .before .before .before .before .before .before .before .before .before .before .before .before .before .before .before .before .before .before .before .is-differencing .ensures) (I .ensures) (I .kept .1 .1 .0) (J .ensures)
+returns c = fitting _ (c .before .before .before .before .before .before .forecast-fitting .ensures) (passes-zero (sym (c .before .before .before .before .before .before .before .before .before .before .before .forecast-row .ensures .0) ∙ c .before .before .before .before .before .before .before .before .before .before .if1 .taken))
+
+returns-2 : tie.Need-returns-2
+returns-2 c = unfit _ refl (passes-not (λ e. c .if1 .left (c .before .forecast-row .ensures .0 ∙ e)))
 
 pub invert-forecast-in-place-spec : {M : Type 1} → statement M
-invert-forecast-in-place-spec =
-    tie.close
-    (tie.spec
-    is-differencing-requires
-    invert-channels-requires
-    cascade-if-requires
-    same-length
-    same-length-2
-    same-length-3
-    returns)
+invert-forecast-in-place-spec = tie.close (tie.spec forecast-row-requires forecast-fitting-requires same-length same-length-2 same-length-3 returns returns-2)

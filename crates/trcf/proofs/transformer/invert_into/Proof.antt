@@ -1,101 +1,24 @@
--- `trcf::transformer::invert_into` meets its contract: the invariant is that the answer's first i numbers stand over the output. Assumes nothing.
-use lib.Ieee.{Float}
-use Rattle.trcf.proofs.TransformerLaws.{weightAt-view}
-use Rattle.trcf.specs.Transformer.{inverted, invertBy, unweighted, weightAt}
-use lib.Ieee.{nan}
-use lib.ListN.{length, getD, length-set}
-use Prim.Native.Nat.{_≤_, _<_, _-_}
-use native.Mathlib.Omega.{arith}
-use native.Mathlib.Numerals.{add-one}
+-- `trcf::transformer::invert_into` meets its contract: by its worker's promise where no row refuses. Assumes nothing.
 use mathlib.Core.Path.{_≡_, refl, sym, ap, _∙_}
-use Rattle.trcf.proofs.LentLaws.{over-none, over-more}
-use Rattle.common.specs.Lent.{over}
-use Rattle.trcf.specs.Lists.{tabulate}
-use Rattle.trcf.specs.TransformerCalls.{view}
+use borrow.Author.Needs.{needs}
+use Rattle.trcf.proofs.LengthLaws.{fitting, unfit, passes-zero, passes-not}
 use Rattle.trcf.proofs.transformer.invert_into.Statement.{statement}
 use Rattle.trcf.proofs.transformer.invert_into.Tie as tie
 
-abbrev Inv-loop : tie.InvT-loop
-Inv-loop s input previous output₀ t d i₀ output i = (i ≤ d) × (output ≡ over output₀ (tabulate i (λ k. invertBy (t .«transform_method») (view t s) k (unweighted (weightAt (view t s) k) (getD input k nan)) (getD previous k nan)))) × (length output ≡ length output₀)
+transform-row-requires : tie.Need-transform-row-requires
+transform-row-requires c κs = tt
 
-abbrev μ-loop : tie.MeasureT-loop
-μ-loop s input previous output₀ t d i₀ output i = d - i
+invert-fitting-requires : tie.Need-invert-fitting-requires
+invert-fitting-requires c κs = let f = c .before .before .transform-row .ensures .1 (c .before .if1 .taken) in (record { some = f .0; few = f .1; room = f .4 }, (f .2, (f .3, f .5)))
 
-loop-holds : tie.Need-loop-holds Inv-loop μ-loop
-loop-holds c = (omega arith, over-none _, refl)
+same-length : tie.Need-same-length
+same-length c = search needs
 
-mul-unweigh : tie.Need-mul-unweigh Inv-loop μ-loop
-mul-unweigh c = omega arith
+returns : tie.Need-returns
+returns c = fitting _ (c .before .before .invert-fitting .ensures) (passes-zero (sym (c .before .before .before .before .before .transform-row .ensures .0) ∙ c .before .before .before .before .if1 .taken))
 
-element-copy-out-unweigh : tie.Need-element-copy-out-unweigh Inv-loop μ-loop
-element-copy-out-unweigh c = omega arith
-
-mul-unweigh-2 : tie.Need-mul-unweigh-2 Inv-loop μ-loop
-mul-unweigh-2 c = omega arith
-
-shared-slice-read-unweigh : tie.Need-shared-slice-read-unweigh Inv-loop μ-loop
-shared-slice-read-unweigh c = omega arith
-
-unweigh-requires : tie.Need-unweigh-requires Inv-loop μ-loop
-unweigh-requires c κs = tt
-
-mul-invert-at : tie.Need-mul-invert-at Inv-loop μ-loop
-mul-invert-at c = omega arith
-
-shared-slice-read-invert-at : tie.Need-shared-slice-read-invert-at Inv-loop μ-loop
-shared-slice-read-invert-at c = omega arith
-
-invert-at-requires : tie.Need-invert-at-requires Inv-loop μ-loop
-invert-at-requires c κs = (c .before .before .before .before .before .before .before .before .before .before .pre .0, c .before .before .before .before .loop-test .taken)
-
-mul-output : tie.Need-mul-output Inv-loop μ-loop
-mul-output c = omega arith
-
-slice-write-output : tie.Need-slice-write-output Inv-loop μ-loop
-slice-write-output c = omega arith
-
-add-i : tie.Need-add-i Inv-loop μ-loop
-add-i c = omega arith
-
-loop-less : tie.Need-loop-less Inv-loop μ-loop
-loop-less c = omega arith
-
-loop-again : tie.Need-loop-again Inv-loop μ-loop
-loop-again c = let L = c .before .before .before .before .before .before .loop in
-    let a = c .before .before .before .before .before .before .before .before .before .before .before .args in
-    let h : L .i < length (a .output .now) = omega arith in
-    let x = c .before .before .unweigh .ensures ∙ ap (λ (w : Float). unweighted w (getD (a .input .now) (L .i) nan)) (sym (weightAt-view (a .t1) (a .s .now) (L .i) (c .before .before .before .before .before .loop-test .taken))) in
-    let e = c .invert-at .ensures ∙ ap (λ (y : Float). invertBy (a .t1 .«transform_method») (view (a .t1) (a .s .now)) (L .i) y (getD (a .previous .now) (L .i) nan)) x in
-    (omega arith, rw (add-one, L .inv .1, e) (over-more (a .output .now) (λ k. invertBy ((a .t1) .«transform_method») (view (a .t1) (a .s .now)) k (unweighted (weightAt (view (a .t1) (a .s .now)) k) (getD (a .input .now) k nan)) (getD (a .previous .now) k nan)) (L .i) h), simp length-set (omega arith))
-
-same-length : tie.Need-same-length Inv-loop μ-loop
-same-length c = omega arith
-
-returns : tie.Need-returns Inv-loop μ-loop
-unfolding inverted
-returns c = let L = c .before .loop in
-    let e : L .i ≡ c .before .before .before .before .before .before .args .t1 .«input_length» = omega arith in
-    rw e at (L .inv .1)
+returns-2 : tie.Need-returns-2
+returns-2 c = unfit _ refl (passes-not (λ e. c .if1 .left (c .before .transform-row .ensures .0 ∙ e)))
 
 pub invert-into-spec : {M : Type 1} → statement M
-invert-into-spec =
-    tie.close
-    (tie.spec
-    Inv-loop
-    μ-loop
-    loop-holds
-    mul-unweigh
-    element-copy-out-unweigh
-    mul-unweigh-2
-    shared-slice-read-unweigh
-    unweigh-requires
-    mul-invert-at
-    shared-slice-read-invert-at
-    invert-at-requires
-    mul-output
-    slice-write-output
-    add-i
-    loop-less
-    loop-again
-    same-length
-    returns)
+invert-into-spec = tie.close (tie.spec transform-row-requires invert-fitting-requires same-length returns returns-2)

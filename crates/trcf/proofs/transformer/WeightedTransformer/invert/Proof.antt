@@ -22,13 +22,13 @@ mul-n c = let R = c .before .transform-row .ensures .1 (c .if1 .left) in
     let a = c .before .before .before .before .before .before .args in
     omega (arith, R .1)
 
-slice-aggregate-invert-into : tie.Need-slice-aggregate-invert-into
-slice-aggregate-invert-into c = let R = c .before .before .transform-row .ensures .1 (c .before .if1 .left) in
+slice-aggregate-invert-fitting : tie.Need-slice-aggregate-invert-fitting
+slice-aggregate-invert-fitting c = let R = c .before .before .transform-row .ensures .1 (c .before .if1 .left) in
     let a = c .before .before .before .before .before .before .before .args in
     omega (arith, length-take-le (15 * a .self .«input_length») (a .statistics .now) (R .4))
 
-invert-into-requires : tie.Need-invert-into-requires
-invert-into-requires c κs = let R = c .before .before .before .transform-row .ensures .1 (c .before .before .if1 .left) in
+invert-fitting-requires : tie.Need-invert-fitting-requires
+invert-fitting-requires c κs = let R = c .before .before .before .transform-row .ensures .1 (c .before .before .if1 .left) in
     let a = c .before .before .before .before .before .before .before .before .args in
     (sound-part (a .self) (a .statistics .now) (R .0) (R .1) (R .4), (R .2, (R .3, R .5)))
 
@@ -39,7 +39,7 @@ returns-2 : tie.Need-returns-2
 unfolding invertOf
 returns-2 c = let R = c .before .before .before .before .before .before .transform-row in
     let a = c .before .before .before .before .before .before .before .before .before .before .before .args in
-    written-done (R .result) _ (a .output .now) (inverted (own (a .self) (a .statistics .now)) (a .input .now) (a .previous .now)) _ (R .ensures .0) (c .before .before .before .before .before .if1 .left) (c .before .before .invert-into .ensures)
+    written-done (R .result) _ (a .output .now) (inverted (own (a .self) (a .statistics .now)) (a .input .now) (a .previous .now)) _ (R .ensures .0) (c .before .before .before .before .before .if1 .left) (c .before .before .invert-fitting .ensures)
 
 pub invert-spec : {M : Type 1} → statement M
 invert-spec =
@@ -48,7 +48,7 @@ invert-spec =
     transform-row-requires
     returns
     mul-n
-    slice-aggregate-invert-into
-    invert-into-requires
+    slice-aggregate-invert-fitting
+    invert-fitting-requires
     same-length
     returns-2)

@@ -28,13 +28,13 @@ mul-n c = let R = c .before .forecast-row .ensures .1 (c .if1 .left) in
     let a = c .before .before .before .before .before .before .before .args in
     omega (arith, R .1)
 
-slice-aggregate-invert-forecast-in-place : tie.Need-slice-aggregate-invert-forecast-in-place
-slice-aggregate-invert-forecast-in-place c = let R = c .before .before .forecast-row .ensures .1 (c .before .if1 .left) in
+slice-aggregate-forecast-fitting : tie.Need-slice-aggregate-forecast-fitting
+slice-aggregate-forecast-fitting c = let R = c .before .before .forecast-row .ensures .1 (c .before .if1 .left) in
     let a = c .before .before .before .before .before .before .before .before .args in
     omega (arith, length-take-le (15 * a .self .«input_length») (a .statistics .now) (R .6))
 
-invert-forecast-in-place-requires : tie.Need-invert-forecast-in-place-requires
-invert-forecast-in-place-requires c κs = let R = c .before .before .before .before .before .forecast-row .ensures .1 (c .before .before .before .before .if1 .left) in
+forecast-fitting-requires : tie.Need-forecast-fitting-requires
+forecast-fitting-requires c κs = let R = c .before .before .before .before .before .forecast-row .ensures .1 (c .before .before .before .before .if1 .left) in
     let a = c .before .before .before .before .before .before .before .before .before .before .before .args in
     (sound-part (a .self) (a .statistics .now) (R .0) (R .1) (R .6), ((R .3, R .4), blocked-base (differences (a .self .«transform_method»)) _ _ _ (R .2) (R .5)))
 
@@ -51,7 +51,7 @@ returns-2 : tie.Need-returns-2
 unfolding invertForecastOf
 returns-2 c = let R = c .before .before .before .before .before .before .before .before .before .before .before .before .forecast-row in
     let a = c .before .before .before .before .before .before .before .before .before .before .before .before .before .before .before .before .before .before .args in
-    done (R .result) _ (ranges (a .values .now) (a .upper .now) (a .lower .now)) (invertedForecast (own (a .self) (a .statistics .now)) (a .previous .now) (ranges (a .values .now) (a .upper .now) (a .lower .now))) _ (R .ensures .0) (c .before .before .before .before .before .before .before .before .before .before .before .if1 .left) (c .before .before .before .before .before .before .invert-forecast-in-place .ensures)
+    done (R .result) _ (ranges (a .values .now) (a .upper .now) (a .lower .now)) (invertedForecast (own (a .self) (a .statistics .now)) (a .previous .now) (ranges (a .values .now) (a .upper .now) (a .lower .now))) _ (R .ensures .0) (c .before .before .before .before .before .before .before .before .before .before .before .if1 .left) (c .before .before .before .before .before .before .forecast-fitting .ensures)
 
 pub invert-forecast-spec : {M : Type 1} → statement M
 invert-forecast-spec =
@@ -60,8 +60,8 @@ invert-forecast-spec =
     forecast-row-requires
     returns
     mul-n
-    slice-aggregate-invert-forecast-in-place
-    invert-forecast-in-place-requires
+    slice-aggregate-forecast-fitting
+    forecast-fitting-requires
     same-length
     same-length-2
     same-length-3

@@ -1,0 +1,13 @@
+pub mod CutLaws
+pub mod OutLaws
+pub mod ReadLaws
+pub mod RunLaws
+pub mod WholeLaws
+pub mod PlaceLaws
+pub mod LoopLaws
+pub mod EndLaws
+pub mod AheadLaws
+pub mod CarryLaws
+pub mod TurnLaws
+pub mod ProgramLaws
+pub mod Instances

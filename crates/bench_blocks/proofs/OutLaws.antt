@@ -1,0 +1,142 @@
+-- What a line leaves does not depend on what stood in the output, and what it prints is laid over that. Assumes nothing.
+use Prim.Native.Nat.{ℕ, zero, suc, _+_, _≤_, _<_}
+use native.Mathlib.Omega.{arith}
+use mathlib.Core.Path.{_≡_, refl, sym, ap, subst, _∙_}
+use mathlib.Core.Bool.{Bool, true, false, cond}
+use mathlib.Core.List.{List, [], _∷_, _++_}
+use lib.Dec.{T, ltb}
+use lib.ListN.{length, take, drop, getD}
+use lib.Seq.{take-append-seam}
+use lib.Ieee.{Float}
+use Rattle.common.specs.Lent.{over}
+use Rattle.trcf.specs.Preprocessor.{accepted}
+use Rattle.trcf.specs.View.{Lent, Outcome, view}
+use Rattle.trcf.specs.declared.head.Preprocessor.{Preprocessor}
+use Rattle.snapshot.specs.Text.{render}
+use Rattle.snapshot.specs.Save.{unheld, fitted, saveOf, outcome as saved}
+use Rattle.bench_core.specs.declared.line.Name.{Name}
+use Rattle.bench_core.specs.declared.line.Name.the-variants.{Unread, Set, Weights, Point, Learn, Drain, Save, Other}
+use Rattle.bench_core.specs.declared.line.Line.{Line}
+use Rattle.bench_core.specs.declared.step.Bench.{Bench}
+use Rattle.bench_core.specs.declared.step.Phase.{Phase}
+use Rattle.bench_core.specs.declared.step.Phase.the-variants.{WantsSet, WantsWeights, Running, Ended}
+use Rattle.bench_core.specs.Line.{requestOf, keptOf}
+use Rattle.bench_core.specs.Bench.{Output, output, prints, noText, Heard, heard, refusedBy, endOf, readyFor, setHeard, builtOf, builtHeard, weightsTurn, weightsHeard, unread, goingOn, plainHeard, callHeard, saveTold, savePrints, lineBy, lineHeard, builderFrom, Turn, callTold, tells, pointTurn, learnTurn, drainTurn, begun, Said, said, finishBy}
+use Rattle.bench_core.specs.Run.{shown}
+
+-- what a line leaves, and the text that it prints
+pub record Reply : Type 0 where
+  pub bench : Bench
+  pub lent : Lent
+  pub point : List Float
+  pub text : List ℕ
+
+abbrev pub replyOf : Heard → Reply
+replyOf h = record { bench = h .bench; lent = h .lent; point = h .point; text = shown (h .out) }
+
+abbrev pub speaks : Reply → List ℕ → Heard
+speaks r out = heard (r .bench) (r .lent) (r .point) (prints (r .text) out)
+
+pub shown-prints : (t out : List ℕ) → shown (prints t out) ≡ t
+unfolding prints over
+shown-prints t out = take-append-seam t (drop (length t) out)
+
+-- what is laid over one output is what is shown of any other
+module _ (b : Bench) (lists : Lent) (y : List Float) (out other : List ℕ) where
+  pub lays : (t : List ℕ) → heard b lists y (prints t out) ≡ speaks (replyOf (heard b lists y (prints t other))) out
+  lays t = ap (λ (u : List ℕ). heard b lists y (prints u out)) (sym (shown-prints t other))
+
+  pub silent : heard b lists y (output 0 out) ≡ speaks (replyOf (heard b lists y (output 0 other))) out
+  unfolding prints over
+  silent = refl
+
+module _ (out other : List ℕ) (e : length out ≡ length other) where
+  built : (b : Bench) (o : Outcome) (y : List Float) → builtHeard b o y out ≡ speaks (replyOf (builtHeard b o y other)) out
+  built b o y = go (o .row)
+    where
+      go : (r : ℕ)
+          → accepted r (heard (readyFor Running (b .builder) (o .head) (b .given)) (o .lent) y (output 0 out)) (refusedBy r b (o .lent) y out)
+          ≡ speaks (replyOf (accepted r (heard (readyFor Running (b .builder) (o .head) (b .given)) (o .lent) y (output 0 other)) (refusedBy r b (o .lent) y other))) out
+      go zero = silent (readyFor Running (b .builder) (o .head) (b .given)) (o .lent) y out other
+      go (suc r) = lays (endOf b) (o .lent) y out other (noText (suc r))
+
+  saves : (h : Preprocessor) (l : Lent) → savePrints h l out ≡ prints (shown (savePrints h l other)) out
+  unfolding savePrints saveOf fitted prints
+  saves h l = go (unheld h l) (ltb (length out) (length (render (view h l)))) (ltb (length other) (length (render (view h l)))) (ap (λ (n : ℕ). ltb n (length (render (view h l)))) e)
+    where
+      no : prints (noText 20) out ≡ prints (shown (prints (noText 20) other)) out
+      no = ap (λ (u : List ℕ). prints u out) (sym (shown-prints (noText 20) other))
+
+      go : (p q r : Bool) → q ≡ r
+          → saveTold (cond p (saved 20 0 out) (cond q (saved 20 0 out) (saved 0 (length (render (view h l))) (over out (render (view h l))))))
+          ≡ prints (shown (saveTold (cond p (saved 20 0 other) (cond r (saved 20 0 other) (saved 0 (length (render (view h l))) (over other (render (view h l)))))))) out
+      go true q r i = no
+      go false true true i = no
+      go false true false i = absurd (subst T i tt)
+      go false false true i = absurd (subst T (sym i) tt)
+      go false false false i = ap (λ (u : List ℕ). prints u out) (sym (shown-prints (render (view h l)) other))
+
+  module _ (b : Bench) (lists : Lent) (y : List Float) where
+    no-19 : (c : Bench) → heard c lists y (prints (noText 19) out) ≡ speaks (replyOf (heard c lists y (prints (noText 19) other))) out
+    no-19 c = lays c lists y out other (noText 19)
+
+    set-line : (l : Line) (n : Name) → setHeard n b l lists y out ≡ speaks (replyOf (setHeard n b l lists y other)) out
+    set-line l Unread = no-19 (endOf b)
+    set-line l Set = silent (readyFor WantsWeights (builderFrom l) (b .head) (b .given)) lists y out other
+    set-line l Weights = no-19 (endOf b)
+    set-line l Point = no-19 (endOf b)
+    set-line l Learn = no-19 (endOf b)
+    set-line l Drain = no-19 (endOf b)
+    set-line l Save = no-19 (endOf b)
+    set-line l Other = no-19 (endOf b)
+
+    weights-line : (l : Line) (n : Name) → weightsHeard n b l lists y out ≡ speaks (replyOf (weightsHeard n b l lists y other)) out
+    unfolding weightsTurn
+    weights-line l Unread = no-19 (endOf b)
+    weights-line l Set = no-19 (endOf b)
+    weights-line l Weights = built b (builtOf (b .builder) (keptOf l) lists) y
+    weights-line l Point = no-19 (endOf b)
+    weights-line l Learn = no-19 (endOf b)
+    weights-line l Drain = no-19 (endOf b)
+    weights-line l Save = no-19 (endOf b)
+    weights-line l Other = no-19 (endOf b)
+
+    told-line : (u : Turn) → callTold b (tells u out) ≡ speaks (replyOf (callTold b (tells u other))) out
+    told-line u = lays (readyFor Running (b .builder) (u .head) (u .given)) (u .lent) (u .point) out other (u .text)
+
+    call-line : (l : Line) (n : Name) → callHeard n b l lists y out ≡ speaks (replyOf (callHeard n b l lists y other)) out
+    call-line l Unread = no-19 (goingOn b)
+    call-line l Set = no-19 (goingOn b)
+    call-line l Weights = no-19 (goingOn b)
+    call-line l Point = told-line (pointTurn (b .head) (b .given) lists y (keptOf l) (getD (l .wholes) 0 0))
+    call-line l Learn = told-line (learnTurn (b .head) (b .given) lists y (keptOf l) (getD (l .wholes) 0 0))
+    call-line l Drain = told-line (drainTurn (b .head) (b .given) lists y)
+    call-line l Save = ap (heard (goingOn b) lists y) (saves (b .head) lists)
+    call-line l Other = no-19 (goingOn b)
+
+    by-phase : (l : Line) (p : Phase) → lineBy p b l lists y out ≡ speaks (replyOf (lineBy p b l lists y other)) out
+    by-phase l WantsSet = set-line l (requestOf l)
+    by-phase l WantsWeights = weights-line l (requestOf l)
+    by-phase l Running = call-line l (requestOf l)
+    by-phase l Ended = silent b lists y out other
+
+    -- two outputs of one length
+    pub line-out : (l : Line) → lineHeard b l lists y out ≡ speaks (replyOf (lineHeard b l lists y other)) out
+    unfolding lineHeard
+    line-out l = by-phase l (b .phase)
+
+    end-phase : (c : List ℕ) (p : Phase) → finishBy p b c out ≡ said (finishBy p b c other .bench) (prints (shown (finishBy p b c other .out)) out)
+    unfolding prints over
+    end-phase c WantsSet = ap (λ (u : List ℕ). said (endOf b) (prints u out)) (sym (shown-prints (noText 19) other))
+    end-phase c WantsWeights = ap (λ (u : List ℕ). said (endOf b) (prints u out)) (sym (shown-prints (noText 19) other))
+    end-phase c Running = go (begun (b .line .name) c)
+      where
+        go : (p : Bool) → cond p (said (endOf b) (prints (noText 19) out)) (said (endOf b) (output 0 out))
+            ≡ said ((cond p (said (endOf b) (prints (noText 19) other)) (said (endOf b) (output 0 other))) .bench)
+            (prints (shown ((cond p (said (endOf b) (prints (noText 19) other)) (said (endOf b) (output 0 other))) .out)) out)
+        go true = ap (λ (u : List ℕ). said (endOf b) (prints u out)) (sym (shown-prints (noText 19) other))
+        go false = refl
+    end-phase c Ended = refl
+
+    pub end-out : (c : List ℕ) → finishBy (b .phase) b c out ≡ said (finishBy (b .phase) b c other .bench) (prints (shown (finishBy (b .phase) b c other .out)) out)
+    end-out c = end-phase c (b .phase)

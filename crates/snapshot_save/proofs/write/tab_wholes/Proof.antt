@@ -1,0 +1,73 @@
+-- `snapshot_save::write::tab_wholes` meets its contract. Assumes nothing.
+use Rattle.snapshot.proofs.WriteLaws.{Left, left-all, left-step, left-done}
+use Rattle.snapshot.specs.Write.{tabbed}
+use Rattle.snapshot.specs.Text.{whole}
+use lib.Seq.{drop-cons}
+use lib.ListN.{length, drop, getD, length-append, drop-of-length-le}
+use mathlib.Core.List.{List, _++_, _∷_, map}
+use mathlib.Core.Path.{_≡_, refl, ap, sym, _∙_}
+use native.Mathlib.Numerals.{add-one}
+use native.Mathlib.Omega.{arith}
+use Prim.Native.Nat.{ℕ, suc, _+_, _-_, _≤_, _<_}
+use borrow.Author.Needs.{needs}
+use Rattle.snapshot_save.proofs.write.tab_wholes.Statement.{statement}
+use Rattle.snapshot_save.proofs.write.tab_wholes.Tie as tie
+
+abbrev Inv-loop : tie.InvT-loop
+Inv-loop out₀ at v p₀ i₀ out p i = (i ≤ length v) × Left at (tabbed (map (whole) v)) out₀ p (tabbed (map (whole) (drop i v))) out
+
+abbrev μ-loop : tie.MeasureT-loop
+μ-loop out₀ at v p₀ i₀ out p i = length v - i
+
+loop-holds : tie.Need-loop-holds Inv-loop μ-loop
+loop-holds c = (omega arith, left-all)
+
+mul-tab-whole : tie.Need-mul-tab-whole Inv-loop μ-loop
+mul-tab-whole c = search needs
+
+shared-slice-read-tab-whole : tie.Need-shared-slice-read-tab-whole Inv-loop μ-loop
+shared-slice-read-tab-whole c = search needs
+
+tab-whole-requires : tie.Need-tab-whole-requires Inv-loop μ-loop
+tab-whole-requires c κs =
+    let L = c .before .before .before .loop in
+    let v = c .before .before .before .before .before .before .args .v .now in
+    omega (arith, ap (λ (l : List ℕ). length (tabbed (map (whole) l))) (drop-cons v (L .i) 0 (omega arith)), length-append (whole (getD v (L .i) 0)) (tabbed (map (whole) (drop (suc (L .i)) v))))
+
+add-i : tie.Need-add-i Inv-loop μ-loop
+add-i c = search needs
+
+loop-less : tie.Need-loop-less Inv-loop μ-loop
+loop-less c = search needs
+
+loop-again : tie.Need-loop-again Inv-loop μ-loop
+loop-again c =
+    let L = c .before .before .before .before .before .before .loop in
+    let v = c .before .before .before .before .before .before .before .before .before .args .v .now in
+    let e : drop (L .i) v ≡ getD v (L .i) 0 ∷ drop (L .i + 1) v = drop-cons v (L .i) 0 (omega arith) ∙ ap (λ (k : ℕ). getD v (L .i) 0 ∷ drop k v) (sym (add-one (L .i))) in
+    (omega arith, left-step (9 ∷ (whole) (getD v (L .i) 0)) (tabbed (map (whole) (drop (L .i + 1) v))) (L .inv .1) (ap (λ (l : List ℕ). tabbed (map (whole) l)) e) (c .before .before .tab-whole .ensures))
+
+same-length : tie.Need-same-length Inv-loop μ-loop
+same-length c = search needs
+
+returns : tie.Need-returns Inv-loop μ-loop
+returns c =
+    let L = c .before .loop in
+    let v = c .before .before .before .before .args .v .now in
+    left-done (L .inv .1) (ap (λ (l : List ℕ). tabbed (map (whole) l)) (drop-of-length-le v (c .loop-test .left)))
+
+pub tab-wholes-spec : {M : Type 1} → statement M
+tab-wholes-spec =
+    tie.close
+    (tie.spec
+    Inv-loop
+    μ-loop
+    loop-holds
+    mul-tab-whole
+    shared-slice-read-tab-whole
+    tab-whole-requires
+    add-i
+    loop-less
+    loop-again
+    same-length
+    returns)

@@ -1,0 +1,79 @@
+-- `trcf_calls::queries::transform` meets its contract: by its callees' promises and the laws of outcomes. Assumes nothing.
+use Rattle.trcf.proofs.LengthLaws.{opened, transform-fits}
+use Rattle.trcf.proofs.BoundLaws.{five, five-more, all-statistics, all-inputs}
+use Rattle.trcf.proofs.OutcomeLaws.{write-stays, write-goes}
+use Rattle.trcf.specs.Preprocessor.{reply, previous}
+use Rattle.trcf.specs.View.{view, lent}
+use Rattle.trcf.specs.Calls.{transform}
+use native.Mathlib.Omega.{arith}
+use mathlib.Core.Path.{_≡_, refl, sym, ap, _∙_}
+use native.Mathlib.Nat.{mul-le-mul}
+use lib.ListN.{length, length-take}
+use lib.Seq.{length-take-le}
+use borrow.Author.Needs.{needs}
+use Rattle.trcf_calls.proofs.queries.transform.Statement.{statement}
+use Rattle.trcf_calls.proofs.queries.transform.Tie as tie
+
+transform-row-requires : tie.Need-transform-row-requires
+transform-row-requires c κs = tt
+
+same-length : tie.Need-same-length
+same-length c = search needs
+
+returns : tie.Need-returns
+returns c =
+    let a = c .before .before .before .before .before .before .before .before .before .before .before .args in
+    let l = lent (a .statistics .now) (a .last-shingled-input .now) (a .last-shingled-point .now) (a .previous-timestamps .now) (a .initial-values .now) (a .initial-timestamps .now) in
+    write-stays (a .head) l (transform (a .input .now) (a .timestamp) (a .output .now)) (a .output .now) (c .before .transform-row .result) (c .before .transform-row .ensures .0 (a .timestamp)) (c .if1 .taken)
+
+mul-write-transform : tie.Need-mul-write-transform
+mul-write-transform c = five (c .before .before .transform-row .ensures .1 .0 (c .before .if1 .left) .bounded .d-few)
+
+add-write-transform : tie.Need-add-write-transform
+add-write-transform c = five-more (c .before .before .transform-row .ensures .1 .0 (c .before .if1 .left) .bounded .d-few)
+
+mul-write-transform-2 : tie.Need-mul-write-transform-2
+mul-write-transform-2 c = all-statistics (c .before .before .transform-row .ensures .1 .0 (c .before .if1 .left) .bounded .d-few)
+
+slice-aggregate-write-transform : tie.Need-slice-aggregate-write-transform
+slice-aggregate-write-transform c = sym (length-take-le _ _ (c .before .before .before .transform-row .ensures .1 .0 (c .before .before .if1 .left) .fitted .roomy .in-statistics))
+
+mul-write-transform-3 : tie.Need-mul-write-transform-3
+mul-write-transform-3 c = let r = c .before .before .before .transform-row .ensures .1 .0 (c .before .before .if1 .left) in all-inputs (r .bounded .d-few) (r .bounded .k-few)
+
+slice-aggregate-write-transform-2 : tie.Need-slice-aggregate-write-transform-2
+slice-aggregate-write-transform-2 c = sym (length-take-le _ _ (c .before .before .before .before .transform-row .ensures .1 .0 (c .before .before .before .if1 .left) .fitted .roomy .in-input))
+
+slice-aggregate-write-transform-3 : tie.Need-slice-aggregate-write-transform-3
+slice-aggregate-write-transform-3 c = sym (length-take-le _ _ (c .before .before .before .before .before .transform-row .ensures .1 .0 (c .before .before .before .before .if1 .left) .fitted .roomy .in-times))
+
+write-transform-requires : tie.Need-write-transform-requires
+write-transform-requires c κs = tt
+
+same-length-2 : tie.Need-same-length-2
+same-length-2 c = search needs
+
+returns-2 : tie.Need-returns-2
+unfolding reply view previous
+returns-2 c =
+    let a = c .before .before .before .before .before .before .before .before .before .before .before .before .before .before .before .before .before .before .before .args in
+    let l = lent (a .statistics .now) (a .last-shingled-input .now) (a .last-shingled-point .now) (a .previous-timestamps .now) (a .initial-values .now) (a .initial-timestamps .now) in
+    write-goes (a .head) l (transform (a .input .now) (a .timestamp) (a .output .now)) (a .output .now) (c .before .before .before .before .before .before .before .before .before .transform-row .result) (c .before .before .before .before .before .before .before .before .before .transform-row .ensures .0 (a .timestamp)) (c .before .before .before .before .before .before .before .before .if1 .left) _ _ ((opened _ (c .before .before .write-transform .ensures) (transform-fits (let r = c .before .before .before .before .before .before .before .before .before .transform-row .ensures .1 .0 (c .before .before .before .before .before .before .before .before .if1 .left) in let f = r .fitted .roomy in (r .bounded, (record { all-statistics = length-take-le _ _ (f .in-statistics); all-input = length-take-le _ _ (f .in-input); all-times = length-take-le _ _ (f .in-times) }, (c .before .before .before .before .before .before .before .before .before .transform-row .ensures .1 .1 .0 (c .before .before .before .before .before .before .before .before .if1 .left), c .before .before .before .before .before .before .before .before .before .transform-row .ensures .1 .1 .1 (c .before .before .before .before .before .before .before .before .if1 .left)))))))) refl
+
+pub transform-spec : {M : Type 1} → statement M
+transform-spec =
+    tie.close
+    (tie.spec
+    transform-row-requires
+    same-length
+    returns
+    mul-write-transform
+    add-write-transform
+    mul-write-transform-2
+    slice-aggregate-write-transform
+    mul-write-transform-3
+    slice-aggregate-write-transform-2
+    slice-aggregate-write-transform-3
+    write-transform-requires
+    same-length-2
+    returns-2)

@@ -1,0 +1,3 @@
+// A new preprocessor, and the calls that change nothing.
+pub mod build;
+pub mod queries;

@@ -1,0 +1,258 @@
+// The calls that change nothing: what a reading would be transformed to, what the statistics say, and what the head holds.
+use trcf::head::Preprocessor;
+use trcf::head::StatusAnswer;
+use trcf::head::get_dimension;
+use trcf::output::write_deviations;
+use trcf::output::write_scale;
+use trcf::output::write_shift;
+use trcf::output::write_transform;
+use trcf::types::ForestMode;
+use trcf::types::TransformMethod;
+use trcf_rows::rows::transform_row;
+use trcf_rows::rows::write_row;
+ghost use mathlib.Core.Path.{_≡_};
+ghost use lib.Dec.{leb};
+ghost use Rattle.trcf.specs.Calls.{transform, scale, shift, status};
+ghost use Rattle.trcf.specs.View.{lent, written, writeOf, statusGiven, statusAfter};
+
+pub fn transform(
+    head: Preprocessor,
+    statistics: &[f64],
+    last_shingled_input: &[f32],
+    last_shingled_point: &[f32],
+    previous_timestamps: &[u64],
+    initial_values: &[f32],
+    initial_timestamps: &[u64],
+    input: &[f32],
+    timestamp: u64,
+    output: &mut [f32],
+) -> u64
+    ensures { λ r. ⌜ written r (now (output .exit)) ≡ writeOf head (lent (now (statistics .entry)) (now («last_shingled_input» .entry)) (now («last_shingled_point» .entry)) (now («previous_timestamps» .entry)) (now («initial_values» .entry)) (now («initial_timestamps» .entry))) (transform (now (input .entry)) timestamp (now (output .entry))) (now (output .entry)) ⌝ }
+{
+    let row = transform_row(
+        head,
+        statistics,
+        last_shingled_input,
+        last_shingled_point,
+        previous_timestamps,
+        initial_values,
+        initial_timestamps,
+        input,
+        output,
+    );
+    if row != 0 {
+        return row;
+    }
+    let t = head.transformer;
+    let d = t.input_length;
+    let k = head.shingle_size;
+    write_transform(
+        head,
+        &statistics[..3 * (5 * d + 5)],
+        &last_shingled_input[..d * k],
+        &previous_timestamps[..k],
+        input,
+        timestamp,
+        output,
+    );
+    0
+}
+
+pub fn scale(
+    head: Preprocessor,
+    statistics: &[f64],
+    last_shingled_input: &[f32],
+    last_shingled_point: &[f32],
+    previous_timestamps: &[u64],
+    initial_values: &[f32],
+    initial_timestamps: &[u64],
+    output: &mut [f32],
+) -> u64
+    ensures { λ r. ⌜ written r (now (output .exit)) ≡ writeOf head (lent (now (statistics .entry)) (now («last_shingled_input» .entry)) (now («last_shingled_point» .entry)) (now («previous_timestamps» .entry)) (now («initial_values» .entry)) (now («initial_timestamps» .entry))) (scale (now (output .entry))) (now (output .entry)) ⌝ }
+{
+    let row = write_row(
+        head,
+        statistics,
+        last_shingled_input,
+        last_shingled_point,
+        previous_timestamps,
+        initial_values,
+        initial_timestamps,
+        output,
+    );
+    if row != 0 {
+        return row;
+    }
+    let t = head.transformer;
+    let d = t.input_length;
+    write_scale(head, &statistics[..3 * (5 * d + 5)], output);
+    0
+}
+
+pub fn shift(
+    head: Preprocessor,
+    statistics: &[f64],
+    last_shingled_input: &[f32],
+    last_shingled_point: &[f32],
+    previous_timestamps: &[u64],
+    initial_values: &[f32],
+    initial_timestamps: &[u64],
+    output: &mut [f32],
+) -> u64
+    ensures { λ r. ⌜ written r (now (output .exit)) ≡ writeOf head (lent (now (statistics .entry)) (now («last_shingled_input» .entry)) (now («last_shingled_point» .entry)) (now («previous_timestamps» .entry)) (now («initial_values» .entry)) (now («initial_timestamps» .entry))) (shift (now (output .entry))) (now (output .entry)) ⌝ }
+{
+    let row = write_row(
+        head,
+        statistics,
+        last_shingled_input,
+        last_shingled_point,
+        previous_timestamps,
+        initial_values,
+        initial_timestamps,
+        output,
+    );
+    if row != 0 {
+        return row;
+    }
+    let t = head.transformer;
+    let d = t.input_length;
+    let k = head.shingle_size;
+    write_shift(
+        head,
+        &statistics[..3 * (5 * d + 5)],
+        &previous_timestamps[..k],
+        output,
+    );
+    0
+}
+
+pub fn difference_deviations(
+    head: Preprocessor,
+    statistics: &[f64],
+    last_shingled_input: &[f32],
+    last_shingled_point: &[f32],
+    previous_timestamps: &[u64],
+    initial_values: &[f32],
+    initial_timestamps: &[u64],
+    output: &mut [f32],
+) -> u64
+    ensures { λ r. ⌜ written r (now (output .exit)) ≡ writeOf head (lent (now (statistics .entry)) (now («last_shingled_input» .entry)) (now («last_shingled_point» .entry)) (now («previous_timestamps» .entry)) (now («initial_values» .entry)) (now («initial_timestamps» .entry))) (status (now (output .entry))) (now (output .entry)) ⌝ }
+{
+    let row = write_row(
+        head,
+        statistics,
+        last_shingled_input,
+        last_shingled_point,
+        previous_timestamps,
+        initial_values,
+        initial_timestamps,
+        output,
+    );
+    if row != 0 {
+        return row;
+    }
+    let t = head.transformer;
+    let d = t.input_length;
+    write_deviations(head, &statistics[..3 * (5 * d + 5)], output);
+    0
+}
+
+pub fn is_ready(head: Preprocessor) -> bool
+    ensures { λ r. ⌜ r ≡ leb (head .«shingle_size») (head .«internal_timestamp») ⌝ }
+{
+    head.internal_timestamp >= head.shingle_size
+}
+
+pub fn values_seen(head: Preprocessor) -> usize
+    ensures { λ r. ⌜ r ≡ head .«values_seen» ⌝ }
+{
+    head.values_seen
+}
+
+// The number on the panel.
+pub fn panel(head: Preprocessor) -> usize
+    ensures { λ r. ⌜ r ≡ head .«values_seen» ⌝ }
+{
+    head.values_seen
+}
+
+pub fn internal_timestamp(head: Preprocessor) -> usize
+    ensures { λ r. ⌜ r ≡ head .«internal_timestamp» ⌝ }
+{
+    head.internal_timestamp
+}
+
+pub fn input_dimensions(head: Preprocessor) -> usize
+    ensures { λ r. ⌜ r ≡ head .transformer .«input_length» ⌝ }
+{
+    let t = head.transformer;
+    t.input_length
+}
+
+pub fn shingle_size(head: Preprocessor) -> usize
+    ensures { λ r. ⌜ r ≡ head .«shingle_size» ⌝ }
+{
+    head.shingle_size
+}
+
+pub fn transformation_method(head: Preprocessor) -> TransformMethod
+    ensures { λ r. ⌜ r ≡ head .transformer .«transform_method» ⌝ }
+{
+    let t = head.transformer;
+    let method = t.transform_method;
+    method
+}
+
+pub fn forest_mode(head: Preprocessor) -> ForestMode
+    ensures { λ r. ⌜ r ≡ head .«forest_mode» ⌝ }
+{
+    let mode = head.forest_mode;
+    mode
+}
+
+pub fn start_normalization(head: Preprocessor) -> usize
+    ensures { λ r. ⌜ r ≡ head .«start_normalization» ⌝ }
+{
+    head.start_normalization
+}
+
+pub fn status(
+    head: Preprocessor,
+    statistics: &[f64],
+    last_shingled_input: &[f32],
+    last_shingled_point: &[f32],
+    previous_timestamps: &[u64],
+    initial_values: &[f32],
+    initial_timestamps: &[u64],
+    output: &mut [f32],
+) -> StatusAnswer
+    ensures { λ r. ⌜ statusGiven r (now (output .exit)) ≡ statusAfter head (lent (now (statistics .entry)) (now («last_shingled_input» .entry)) (now («last_shingled_point» .entry)) (now («previous_timestamps» .entry)) (now («initial_values» .entry)) (now («initial_timestamps» .entry))) (now (output .entry)) ⌝ }
+{
+    let row = difference_deviations(
+        head,
+        statistics,
+        last_shingled_input,
+        last_shingled_point,
+        previous_timestamps,
+        initial_values,
+        initial_timestamps,
+        output,
+    );
+    let t = head.transformer;
+    let method = t.transform_method;
+    let mode = head.forest_mode;
+    let seen = head.values_seen;
+    StatusAnswer {
+        row: row,
+        values_seen: seen,
+        internal_timestamp: head.internal_timestamp,
+        ready: is_ready(head),
+        input_dimensions: t.input_length,
+        shingle_size: head.shingle_size,
+        dimensions: get_dimension(head),
+        transform_method: method,
+        forest_mode: mode,
+        start_normalization: head.start_normalization,
+        panel: panel(head),
+    }
+}

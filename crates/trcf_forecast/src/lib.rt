@@ -1,0 +1,2 @@
+// The call that turns a forecast back.
+pub mod forecast;

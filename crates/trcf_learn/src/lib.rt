@@ -1,0 +1,3 @@
+// The call that learns.
+pub mod learn;
+pub mod post_process;

@@ -1,0 +1,132 @@
+-- `trcf_point::point::shingled_point` meets its contract: by its callees' promises and the laws of outcomes. Assumes nothing.
+use native.Mathlib.Omega.{arith}
+use mathlib.Core.Path.{_≡_, refl, sym, ap, _∙_}
+use lib.ListN.{length}
+use Rattle.common.specs.Lent.{over}
+use Rattle.trcf.specs.Preprocessor.{State, pointOf, reading, drained, previous}
+use Rattle.trcf.specs.View.{lent, view, counted, Outcome}
+use Rattle.trcf.proofs.StateLaws.{past-room, past-long}
+use Rattle.trcf.proofs.WayLaws.{point-stays, point-holds, point-goes, room-point}
+use Rattle.trcf_point.proofs.point.shingled_point.Statement.{statement}
+use Rattle.trcf_point.proofs.point.shingled_point.Tie as tie
+
+shingled-point-row-requires : tie.Need-shingled-point-row-requires
+shingled-point-row-requires c κs = tt
+
+same-length : tie.Need-same-length
+same-length c = refl
+
+same-length-2 : tie.Need-same-length-2
+same-length-2 c = refl
+
+same-length-3 : tie.Need-same-length-3
+same-length-3 c = refl
+
+same-length-4 : tie.Need-same-length-4
+same-length-4 c = refl
+
+same-length-5 : tie.Need-same-length-5
+same-length-5 c = refl
+
+returns : tie.Need-returns
+returns c =
+    let a = c .before .before .before .before .before .before .before .before .before .before .before .before .before .before .before .args in
+    let l = lent (a .statistics .now) (a .last-shingled-input .now) (a .last-shingled-point .now) (a .previous-timestamps .now) (a .initial-values .now) (a .initial-timestamps .now) in
+    point-stays (a .head) l (a .input .now) (a .timestamp) (a .output .now) (c .before .shingled-point-row .result) (c .before .shingled-point-row .ensures .0 (a .timestamp)) (c .if1 .taken)
+
+is-waiting-requires : tie.Need-is-waiting-requires
+is-waiting-requires c κs = tt
+
+same-length-6 : tie.Need-same-length-6
+same-length-6 c = refl
+
+same-length-7 : tie.Need-same-length-7
+same-length-7 c = refl
+
+same-length-8 : tie.Need-same-length-8
+same-length-8 c = refl
+
+same-length-9 : tie.Need-same-length-9
+same-length-9 c = refl
+
+same-length-10 : tie.Need-same-length-10
+same-length-10 c = refl
+
+returns-2 : tie.Need-returns-2
+returns-2 c =
+    let a = c .before .before .before .before .before .before .before .before .before .before .before .before .before .before .before .before .before .args in
+    let l = lent (a .statistics .now) (a .last-shingled-input .now) (a .last-shingled-point .now) (a .previous-timestamps .now) (a .initial-values .now) (a .initial-timestamps .now) in
+    let o = c .before .before .before .shingled-point-row in
+    let z = c .before .before .if1 .left in
+    point-holds (a .head) l (a .input .now) (a .timestamp) (a .output .now) (o .result) (o .ensures .0 (a .timestamp)) z (c .before .is-waiting .result) (c .before .is-waiting .ensures) (c .if2 .taken) (o .ensures .1 .0 z .fitted)
+
+drain-due-requires : tie.Need-drain-due-requires
+drain-due-requires c κs =
+    let a = c .before .before .before .before .before .before .before .before .before .before .before .before .before .before .before .before .before .before .before .before .before .args in
+    let h = a .head in
+    let l = lent (a .statistics .now) (a .last-shingled-input .now) (a .last-shingled-point .now) (a .previous-timestamps .now) (a .initial-values .now) (a .initial-timestamps .now) in
+    let x = a .input .now in
+    let o = a .output .now in
+    let e = c .before .before .before .before .before .before .before .shingled-point-row .ensures .0 (a .timestamp) in
+    (c .before .before .before .before .before .before .before .shingled-point-row .ensures .1 .0 (c .before .before .before .before .before .before .if1 .left), past-room h l (length o) (c .before .before .before .before .before .before .before .shingled-point-row .ensures .1 .1 (c .before .before .before .before .before .before .if1 .left) .past) (sym (c .before .before .before .before .before .is-waiting .ensures) ∙ c .before .before .before .before .if2 .left))
+
+write-point-requires : tie.Need-write-point-requires
+write-point-requires c κs =
+    let a = c .before .before .before .before .before .before .before .before .before .before .before .before .before .before .before .before .before .before .before .before .before .before .before .before .before .before .before .before .before .before .before .before .before .before .before .args in
+    let l = lent (a .statistics .now) (a .last-shingled-input .now) (a .last-shingled-point .now) (a .previous-timestamps .now) (a .initial-values .now) (a .initial-timestamps .now) in
+    let o = c .before .before .before .before .before .before .before .before .before .before .before .before .before .before .before .before .before .before .before .before .before .shingled-point-row in
+    let z = c .before .before .before .before .before .before .before .before .before .before .before .before .before .before .before .before .before .before .before .before .if1 .left in
+    let d = c .before .before .before .before .before .before .before .before .before .before .before .before .before .drain-due in
+    let g = past-long (a .head) l (length (a .output .now)) (o .ensures .1 .1 z .past) (sym (c .before .before .before .before .before .before .before .before .before .before .before .before .before .before .before .before .before .before .before .is-waiting .ensures) ∙ c .before .before .before .before .before .before .before .before .before .before .before .before .before .before .before .before .before .before .if2 .left) in
+    room-point (a .head) l (length (a .input .now)) (length (a .output .now)) _ _ _ _ (drained (view (a .head) l)) (d .result) (ap (λ (u : Outcome). u .head) (d .ensures .0)) (o .ensures .1 .0 z) (d .kept .1 .0) (d .kept .1 .1 .0) (d .kept .1 .1 .1 .0) (d .kept .1 .1 .1 .1 .0) (o .ensures .1 .1 z .whole) g
+
+same-length-11 : tie.Need-same-length-11
+same-length-11 c = c .before .before .before .before .before .before .before .before .before .before .before .before .before .before .before .before .drain-due .kept .1 .0
+
+same-length-12 : tie.Need-same-length-12
+same-length-12 c = c .before .before .before .before .before .before .before .before .before .before .before .before .before .before .before .before .drain-due .kept .1 .1 .0
+
+same-length-13 : tie.Need-same-length-13
+same-length-13 c = c .before .before .before .before .before .before .before .before .before .before .before .before .before .before .before .before .drain-due .kept .1 .1 .1 .0
+
+same-length-14 : tie.Need-same-length-14
+same-length-14 c = c .before .before .before .before .before .before .before .before .before .before .before .before .before .before .before .before .drain-due .kept .1 .1 .1 .1 .0
+
+same-length-15 : tie.Need-same-length-15
+same-length-15 c = c .before .before .write-point .kept .1 .1 .1 .1 .1 .1 .1 .0
+
+returns-3 : tie.Need-returns-3
+unfolding pointOf view previous
+returns-3 c =
+    let a = c .before .before .before .before .before .before .before .before .before .before .before .before .before .before .before .before .before .before .before .before .before .before .before .before .before .before .before .before .before .before .before .before .before .before .before .before .before .before .args in
+    let l = lent (a .statistics .now) (a .last-shingled-input .now) (a .last-shingled-point .now) (a .previous-timestamps .now) (a .initial-values .now) (a .initial-timestamps .now) in
+    let o = c .before .before .before .before .before .before .before .before .before .before .before .before .before .before .before .before .before .before .before .before .before .before .before .before .shingled-point-row in
+    let d = c .before .before .before .before .before .before .before .before .before .before .before .before .before .before .before .before .drain-due in
+    point-goes (a .head) l (a .input .now) (a .timestamp) (a .output .now) (o .result) (o .ensures .0 (a .timestamp)) (c .before .before .before .before .before .before .before .before .before .before .before .before .before .before .before .before .before .before .before .before .before .before .before .if1 .left) (c .before .before .before .before .before .before .before .before .before .before .before .before .before .before .before .before .before .before .before .before .before .before .is-waiting .result) (c .before .before .before .before .before .before .before .before .before .before .before .before .before .before .before .before .before .before .before .before .before .before .is-waiting .ensures) (c .before .before .before .before .before .before .before .before .before .before .before .before .before .before .before .before .before .before .before .before .before .if2 .left) _ _ _ _ (d .ensures .0) (d .ensures .1) (c .before .before .write-point .ensures)
+
+pub shingled-point-spec : {M : Type 1} → statement M
+shingled-point-spec =
+    tie.close
+    (tie.spec
+    shingled-point-row-requires
+    same-length
+    same-length-2
+    same-length-3
+    same-length-4
+    same-length-5
+    returns
+    is-waiting-requires
+    same-length-6
+    same-length-7
+    same-length-8
+    same-length-9
+    same-length-10
+    returns-2
+    drain-due-requires
+    write-point-requires
+    same-length-11
+    same-length-12
+    same-length-13
+    same-length-14
+    same-length-15
+    returns-3)

@@ -1,0 +1,104 @@
+-- `trcf_point::point::write_point` meets its contract: by its callees' promises, the time's number behind the channels'. Assumes nothing.
+use Rattle.trcf.proofs.LengthLaws.{block-known, dimension-known, opened, roomy, transform-fits}
+use Rattle.trcf.proofs.BoundLaws.{five, five-more, all-statistics, all-inputs}
+use native.Mathlib.Omega.{arith}
+use mathlib.Core.Path.{_≡_, refl, sym, ap, _∙_}
+use Prim.Native.Nat.{ℕ, _+_, _-_, _*_, _≤_, _<_}
+use lib.ListN.{length, length-take, length-drop, take, drop}
+use lib.Seq.{length-take-le}
+use Rattle.common.specs.Lent.{over}
+use Rattle.trcf.specs.Lists.{shiftIn}
+use Rattle.trcf.specs.Preprocessor.{pointOf, previous, transformedAfter, reading, statisticsLength}
+use Rattle.trcf.specs.View.{settingsOf, view, holding}
+use Rattle.trcf.proofs.DrainLaws.{block-is, block-fits, transformedAfter-length}
+use Rattle.trcf.proofs.ShingleLaws.{paste-over}
+use Rattle.trcf.proofs.StateLaws.{point-written}
+use borrow.Author.Needs.{needs}
+use Rattle.trcf_point.proofs.point.write_point.Statement.{statement}
+use Rattle.trcf_point.proofs.point.write_point.Tie as tie
+
+block-of-requires : tie.Need-block-of-requires
+block-of-requires c κs = tt
+
+get-dimension-requires : tie.Need-get-dimension-requires
+get-dimension-requires c κs = tt
+
+mul-write-transform : tie.Need-mul-write-transform
+mul-write-transform c = five (c .before .before .before .before .before .before .before .before .before .pre .0 .d-few)
+
+add-write-transform : tie.Need-add-write-transform
+add-write-transform c = five-more (c .before .before .before .before .before .before .before .before .before .pre .0 .d-few)
+
+mul-write-transform-2 : tie.Need-mul-write-transform-2
+mul-write-transform-2 c = all-statistics (c .before .before .before .before .before .before .before .before .before .pre .0 .d-few)
+
+slice-aggregate-write-transform : tie.Need-slice-aggregate-write-transform
+slice-aggregate-write-transform c = sym (length-take-le _ _ (c .before .before .before .before .before .before .before .before .before .before .pre .1 .0))
+
+mul-write-transform-3 : tie.Need-mul-write-transform-3
+mul-write-transform-3 c = let b = c .before .before .before .before .before .before .before .before .before .before .pre .0 in all-inputs (b .d-few) (b .k-few)
+
+slice-aggregate-write-transform-2 : tie.Need-slice-aggregate-write-transform-2
+slice-aggregate-write-transform-2 c = sym (length-take-le _ _ (c .before .before .before .before .before .before .before .before .before .before .before .pre .1 .1 .0))
+
+slice-aggregate-write-transform-3 : tie.Need-slice-aggregate-write-transform-3
+slice-aggregate-write-transform-3 c = sym (length-take-le _ _ (c .before .before .before .before .before .before .before .before .before .before .before .before .pre .1 .1 .1 .1 .0))
+
+slice-aggregate-write-transform-4 : tie.Need-slice-aggregate-write-transform-4
+slice-aggregate-write-transform-4 c = search needs
+
+write-transform-requires : tie.Need-write-transform-requires
+write-transform-requires c κs = tt
+
+slice-aggregate-copy-in : tie.Need-slice-aggregate-copy-in
+slice-aggregate-copy-in c = let a = c .before .before .before .before .before .before .before .before .before .before .before .before .before .before .before .before .before .args in let q = c .before .before .before .before .before .before .before .before .before .before .before .before .before .before .before .before .before .pre in simp length-take (omega (arith, q, (dimension-known (c .before .before .before .before .before .before .before .before .get-dimension .ensures) (search needs))))
+
+copy-in-requires : tie.Need-copy-in-requires
+copy-in-requires c κs = tt
+
+slice-relend-prefix-shift-vector : tie.Need-slice-relend-prefix-shift-vector
+slice-relend-prefix-shift-vector c = let a = c .before .before .before .before .before .before .before .before .before .before .before .before .before .before .before .before .before .before .before .before .args in let q = c .before .before .before .before .before .before .before .before .before .before .before .before .before .before .before .before .before .before .before .before .pre in omega (arith, q, (dimension-known (c .before .before .before .before .before .before .before .before .before .before .before .get-dimension .ensures) (search needs)), c .before .before .copy-in .kept)
+
+slice-aggregate-shift-vector : tie.Need-slice-aggregate-shift-vector
+slice-aggregate-shift-vector c = let a = c .before .before .before .before .before .before .before .before .before .before .before .before .before .before .before .before .before .before .before .before .before .args in let q = c .before .before .before .before .before .before .before .before .before .before .before .before .before .before .before .before .before .before .before .before .before .pre in simp length-take (omega (arith, q, (dimension-known (c .before .before .before .before .before .before .before .before .before .before .before .before .get-dimension .ensures) (search needs)), c .before .before .before .copy-in .kept))
+
+array-share-prefix-z : tie.Need-array-share-prefix-z
+array-share-prefix-z c = search needs
+
+slice-aggregate-shift-vector-2 : tie.Need-slice-aggregate-shift-vector-2
+slice-aggregate-shift-vector-2 c = let a = c .before .before .before .before .before .before .before .before .before .before .before .before .before .before .before .before .before .before .before .before .before .before .args in let q = c .before .before .before .before .before .before .before .before .before .before .before .before .before .before .before .before .before .before .before .before .before .before .pre in simp length-take (omega (arith, (block-known (c .before .before .before .before .before .before .before .before .before .before .before .before .before .before .block-of .ensures) (search needs)), c .before .before .before .before .before .before .before .before .write-transform .kept))
+
+shift-vector-requires : tie.Need-shift-vector-requires
+shift-vector-requires c κs = tt
+
+same-length : tie.Need-same-length
+same-length c = search needs
+
+returns : tie.Need-returns
+unfolding pointOf view previous
+returns c = let a = c .before .before .before .before .before .before .before .before .before .before .before .before .before .before .before .before .before .before .before .before .before .before .before .before .before .args in let q = c .before .before .before .before .before .before .before .before .before .before .before .before .before .before .before .before .before .before .before .before .before .before .before .before .before .pre in let m = block-fits (settingsOf (a .head)) (q .0 .k-pos) in let e = (block-known (c .before .before .before .before .before .before .before .before .before .before .before .before .before .before .before .before .before .block-of .ensures) (search needs)) .0 ∙ sym (block-is (settingsOf (a .head))) in point-written (a .output .now) (take (c .before .before .before .before .before .before .before .before .before .before .before .before .before .before .before .before .get-dimension .result) (a .last-shingled-point .now)) _ _ _ _ _ (c .before .before .before .before .before .before .before .before .before .before .before .before .before .before .before .before .before .block-of .result) (c .before .before .before .before .before .before .before .before .before .before .before .before .before .before .before .before .get-dimension .result) ((roomy _ (c .before .before .before .before .before .before .before .copy-in .ensures) (let a = c .before .before .before .before .before .before .before .before .before .before .before .before .before .before .before .before .before .before .before .before .before .before .before .before .before .args in let q = c .before .before .before .before .before .before .before .before .before .before .before .before .before .before .before .before .before .before .before .before .before .before .before .before .before .pre in simp length-take (omega (arith, q, (dimension-known (c .before .before .before .before .before .before .before .before .before .before .before .before .before .before .before .before .get-dimension .ensures) (search needs)))))) ∙ paste-over _ _) (length-take-le _ _ (omega (arith, q, (dimension-known (c .before .before .before .before .before .before .before .before .before .before .before .before .before .before .before .before .get-dimension .ensures) (search needs))))) ((opened _ (c .before .before .before .before .before .before .before .before .before .before .before .write-transform .ensures) (transform-fits (let a = c .before .before .before .before .before .before .before .before .before .before .before .before .before .before .before .before .before .before .before .before .before .before .before .before .before .args in let q = c .before .before .before .before .before .before .before .before .before .before .before .before .before .before .before .before .before .before .before .before .before .before .before .before .before .pre in (q .0, (record { all-statistics = length-take-le _ _ (q .1 .0); all-input = length-take-le _ _ (q .1 .1 .0); all-times = length-take-le _ _ (q .1 .1 .1 .1 .0) }, (q .1 .1 .1 .1 .1 .0, omega (arith, (block-known (c .before .before .before .before .before .before .before .before .before .before .before .before .before .before .before .before .before .block-of .ensures) (search needs)), block-is (settingsOf (a .head)))))))))) (transformedAfter-length _ _ _ _ _ ∙ sym e) (omega (arith, e, (dimension-known (c .before .before .before .before .before .before .before .before .before .before .before .before .before .before .before .before .get-dimension .ensures) (search needs)), m)) ((roomy _ (c .before .before .shift-vector .ensures) (let a = c .before .before .before .before .before .before .before .before .before .before .before .before .before .before .before .before .before .before .before .before .before .before .before .before .before .args in let q = c .before .before .before .before .before .before .before .before .before .before .before .before .before .before .before .before .before .before .before .before .before .before .before .before .before .pre in let m = block-fits (settingsOf (a .head)) (q .0 .k-pos) in simp length-take (omega (arith, q, (block-known (c .before .before .before .before .before .before .before .before .before .before .before .before .before .before .before .before .before .block-of .ensures) (search needs)), block-is (settingsOf (a .head)), (dimension-known (c .before .before .before .before .before .before .before .before .before .before .before .before .before .before .before .before .get-dimension .ensures) (search needs)), c .before .before .before .before .before .before .before .copy-in .kept, c .before .before .before .before .before .before .before .before .before .before .before .write-transform .kept))))) ∙ ap (λ (k : ℕ). over (a .output .now) (shiftIn (take k (a .last-shingled-point .now)) (transformedAfter (settingsOf (a .head)) (take (statisticsLength (settingsOf (a .head))) (a .statistics .now)) (a .head .«values_seen») (previous (holding (a .head) (take (statisticsLength (settingsOf (a .head))) (a .statistics .now)) (take (a .head .transformer .«input_length» * a .head .«shingle_size») (a .last-shingled-input .now)) (take (a .head .«shingle_size») (a .previous-timestamps .now)))) (reading (a .input .now) (a .timestamp))))) ((dimension-known (c .before .before .before .before .before .before .before .before .before .before .before .before .before .before .before .before .get-dimension .ensures) (search needs)) .0)
+
+pub write-point-spec : {M : Type 1} → statement M
+write-point-spec =
+    tie.close
+    (tie.spec
+    block-of-requires
+    get-dimension-requires
+    mul-write-transform
+    add-write-transform
+    mul-write-transform-2
+    slice-aggregate-write-transform
+    mul-write-transform-3
+    slice-aggregate-write-transform-2
+    slice-aggregate-write-transform-3
+    slice-aggregate-write-transform-4
+    write-transform-requires
+    slice-aggregate-copy-in
+    copy-in-requires
+    slice-relend-prefix-shift-vector
+    slice-aggregate-shift-vector
+    array-share-prefix-z
+    slice-aggregate-shift-vector-2
+    shift-vector-requires
+    same-length
+    returns)

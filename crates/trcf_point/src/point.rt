@@ -1,0 +1,126 @@
+// The point with the transformed reading behind it (the source's shingled_point), after what waits is drained.
+use crate::drain::drain_due;
+use trcf::head::Pointed;
+use trcf::head::Preprocessor;
+use trcf::head::block_of;
+use trcf::head::get_dimension;
+use trcf::output::write_transform;
+use trcf::shingle::copy_in;
+use trcf::shingle::shift_vector;
+use trcf_rows::rows::is_waiting;
+use trcf_rows::rows::shingled_point_row;
+ghost use mathlib.Core.Path.{_≡_};
+ghost use mathlib.Core.List.{[]};
+ghost use Prim.Native.Nat.{_*_, _≤_};
+ghost use lib.ListN.{length};
+ghost use Rattle.common.specs.Lent.{over};
+ghost use Rattle.trcf.specs.Settings.{dimension};
+ghost use Rattle.trcf.specs.Preprocessor.{statisticsLength, reading, pointOf};
+ghost use Rattle.trcf.specs.View.{settingsOf, view, lent, Bounded, pointed, pointAfter};
+
+// The point with the transformed reading behind it.
+pub(crate) fn write_point(
+    head: Preprocessor,
+    statistics: &[f64],
+    last_shingled_input: &[f32],
+    last_shingled_point: &[f32],
+    previous_timestamps: &[u64],
+    input: &[f32],
+    timestamp: u64,
+    output: &mut [f32],
+)
+    requires { ⌜ Bounded (settingsOf head) ⌝ }
+    requires { ⌜ statisticsLength (settingsOf head) ≤ length (now statistics) ⌝ }
+    requires { ⌜ head .transformer .«input_length» * head .«shingle_size» ≤ length (now «last_shingled_input») ⌝ }
+    requires { ⌜ dimension (settingsOf head) ≤ length (now «last_shingled_point») ⌝ }
+    requires { ⌜ head .«shingle_size» ≤ length (now «previous_timestamps») ⌝ }
+    requires { ⌜ length (now input) ≡ head .transformer .«input_length» ⌝ }
+    requires { ⌜ dimension (settingsOf head) ≤ length (now output) ⌝ }
+    ensures { λ _. ⌜ now (output .exit) ≡ over (now (output .entry)) (pointOf (view head (lent (now (statistics .entry)) (now («last_shingled_input» .entry)) (now («last_shingled_point» .entry)) (now («previous_timestamps» .entry)) [] [])) (reading (now (input .entry)) timestamp)) ⌝ }
+{
+    let t = head.transformer;
+    let mode = head.forest_mode;
+    let d = t.input_length;
+    let k = head.shingle_size;
+    let b = block_of(mode, d);
+    let m = get_dimension(head);
+    let mut z = [0.0f32; 17];
+    write_transform(
+        head,
+        &statistics[..3 * (5 * d + 5)],
+        &last_shingled_input[..d * k],
+        &previous_timestamps[..k],
+        input,
+        timestamp,
+        &mut z,
+    );
+    copy_in(output, 0, &last_shingled_point[..m]);
+    shift_vector(&mut output[..m], &z[..b]);
+}
+
+pub fn shingled_point(
+    head: Preprocessor,
+    statistics: &mut [f64],
+    last_shingled_input: &mut [f32],
+    last_shingled_point: &mut [f32],
+    previous_timestamps: &mut [u64],
+    initial_values: &[f32],
+    initial_timestamps: &[u64],
+    input: &[f32],
+    timestamp: u64,
+    output: &mut [f32],
+) -> Pointed
+    ensures { λ r. ⌜ pointed (r .row) (r .given) (r .head) (lent (now (statistics .exit)) (now («last_shingled_input» .exit)) (now («last_shingled_point» .exit)) (now («previous_timestamps» .exit)) (now («initial_values» .entry)) (now («initial_timestamps» .entry))) (now (output .exit)) ≡ pointAfter head (lent (now (statistics .entry)) (now («last_shingled_input» .entry)) (now («last_shingled_point» .entry)) (now («previous_timestamps» .entry)) (now («initial_values» .entry)) (now («initial_timestamps» .entry))) (now (input .entry)) timestamp (now (output .entry)) ⌝ }
+{
+    let row = shingled_point_row(
+        head,
+        statistics,
+        last_shingled_input,
+        last_shingled_point,
+        previous_timestamps,
+        initial_values,
+        initial_timestamps,
+        input,
+        output,
+    );
+    if row != 0 {
+        return Pointed {
+            row: row,
+            given: false,
+            head: head,
+        };
+    }
+    if is_waiting(head) {
+        return Pointed {
+            row: 0,
+            given: false,
+            head: head,
+        };
+    }
+    // what waits is fed, and never the reading that a point is asked for
+    let fed = initial_values;
+    let next = drain_due(
+        head,
+        statistics,
+        last_shingled_input,
+        last_shingled_point,
+        previous_timestamps,
+        fed,
+        initial_timestamps,
+    );
+    write_point(
+        next,
+        statistics,
+        last_shingled_input,
+        last_shingled_point,
+        previous_timestamps,
+        input,
+        timestamp,
+        output,
+    );
+    Pointed {
+        row: 0,
+        given: true,
+        head: next,
+    }
+}

@@ -1,0 +1,23 @@
+-- `trcf_rows::rows::held_row` meets its contract: each return by the tests on the way to it. Assumes nothing.
+use mathlib.Core.Path.{_≡_, refl, sym, ap, _∙_}
+use Rattle.trcf.proofs.RefusalLaws.{orElse-not}
+use Rattle.trcf_rows.proofs.rows.held_row.Statement.{statement}
+use Rattle.trcf_rows.proofs.rows.held_row.Tie as tie
+
+head-row-requires : tie.Need-head-row-requires
+head-row-requires c κs = tt
+
+returns : tie.Need-returns
+returns c = (rw (← c .before .head-row .ensures .0) (orElse-not (c .before .head-row .result) _ (c .if1 .taken)), λ e. absurd (c .if1 .taken e))
+
+lent-row-requires : tie.Need-lent-row-requires
+lent-row-requires c κs = c .before .head-row .ensures .1 (c .if1 .left)
+
+returns-2 : tie.Need-returns-2
+returns-2 c =
+    let h = c .before .before .head-row in
+    let z = c .before .if1 .left in
+    (rw (sym (h .ensures .0) ∙ z) (c .lent-row .ensures .0), λ e. record { bounded = h .ensures .1 z; fitted = c .lent-row .ensures .1 e })
+
+pub held-row-spec : {M : Type 1} → statement M
+held-row-spec = tie.close (tie.spec head-row-requires returns lent-row-requires returns-2)

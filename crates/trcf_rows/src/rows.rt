@@ -1,0 +1,463 @@
+// Which row refuses a call, 0 for none. Nothing here writes.
+use common::deviation::COUNT_LIMIT;
+use common::deviation::outside_unit;
+use trcf::head::Preprocessor;
+use trcf::head::PreprocessorBuilder;
+use trcf::head::SEEN_LIMIT;
+use trcf::head::block_of;
+use trcf::head::get_dimension;
+use trcf::head::head_row;
+use trcf::transformer::weights_refused;
+use trcf::types::ForestMode;
+use trcf::types::is_normalizing;
+ghost use mathlib.Core.Path.{_≡_};
+ghost use mathlib.Core.Bool.{not, false, _&&_, _||_};
+ghost use mathlib.Core.List.{[], _∷_};
+ghost use Prim.Native.Nat.{ℕ, _+_, _≤_};
+ghost use lib.Dec.{ltb, eqb};
+ghost use lib.ListN.{length, take};
+ghost use Rattle.common.specs.Deviation.{countLimit};
+ghost use Rattle.trcf.specs.Lists.{null};
+ghost use Rattle.trcf.specs.Settings.{imputes, waiting, settingsRow, block};
+ghost use Rattle.trcf.specs.Calls.{seenLimit, finite, due, drainFull, scale, transform, drain, shingledPoint};
+ghost use Rattle.trcf.specs.Preprocessor.{facts};
+ghost use Rattle.trcf.specs.View.{settingsOf, settingsFrom, view, misfit, headRow, orElse, lentRow, shortRow, rowOf, pastRow, lent, Bounded, Accepted, Roomy, Fitted, Ready, Pointing};
+
+fn is_imputing(m: ForestMode) -> bool
+    ensures { λ r. ⌜ r ≡ imputes m ⌝ }
+{
+    match m {
+        ForestMode::STANDARD => false,
+        ForestMode::TIME_AUGMENTED => false,
+        ForestMode::STREAMING_IMPUTE => true,
+    }
+}
+
+// Rows 1 to 9, also of a head that comes from outside.
+pub fn settings_row(b: PreprocessorBuilder, weights: &[f32], codes: &[u16]) -> u64
+    ensures { λ r. ⌜ r ≡ settingsRow (settingsFrom b (now (weights .entry)) (now (codes .entry))) ⌝ }
+    ensures { λ r. ⌜ (r ≡ 0 → Accepted (settingsFrom b (now (weights .entry)) (now (codes .entry)))) ⌝ }
+{
+    let mode = b.forest_mode;
+    let method = b.transform_method;
+    let d = b.input_dimensions;
+    let k = b.shingle_size;
+    let start = b.start_normalization;
+    if is_imputing(mode) {
+        return 1;
+    }
+    if d == 0 {
+        return 2;
+    }
+    if k == 0 {
+        return 3;
+    }
+    if 16 < d {
+        return 4;
+    }
+    if 64 < k {
+        return 4;
+    }
+    if weights.len() != d {
+        return 5;
+    }
+    if codes.len() != d {
+        return 5;
+    }
+    if outside_unit(b.transform_decay) {
+        return 6;
+    }
+    if b.stop_normalization < start {
+        return 7;
+    }
+    if 2000 <= start {
+        return 8;
+    }
+    if weights_refused(method, weights) {
+        return 9;
+    }
+    0
+}
+
+fn is_finite(v: f32) -> bool
+    ensures { λ r. ⌜ r ≡ finite (v ∷ []) ⌝ }
+{
+    let top = 1.0f32 / 0.0f32;
+    if v < top { -top < v } else { false }
+}
+
+// Whether every number is finite.
+pub fn all_finite(x: &[f32]) -> bool
+    ensures { λ r. ⌜ r ≡ finite (now (x .entry)) ⌝ }
+{
+    let mut i = 0;
+    while i < x.len() {
+        if !is_finite(x[i]) {
+            return false;
+        }
+        i += 1;
+    }
+    true
+}
+
+// Whether a reading is to wait until the statistics have begun.
+pub fn is_waiting(head: Preprocessor) -> bool
+    ensures { λ r. ⌜ r ≡ waiting (settingsOf head) (head .«values_seen») ⌝ }
+{
+    let t = head.transformer;
+    let method = t.transform_method;
+    let seen = head.values_seen;
+    let start = head.start_normalization;
+    if is_normalizing(method) {
+        seen < start
+    } else {
+        false
+    }
+}
+
+// Whether the head counts other initial values than it can have.
+fn is_misfit(head: Preprocessor) -> bool
+    ensures { λ r. ⌜ r ≡ misfit head ⌝ }
+{
+    let n = head.initial_len;
+    let seen = head.values_seen;
+    let start = head.start_normalization;
+    if start < n {
+        return true;
+    }
+    if is_waiting(head) { n != seen } else { false }
+}
+
+// 20 where a lent list is too short.
+fn short_row(
+    head: Preprocessor,
+    statistics: &[f64],
+    last_shingled_input: &[f32],
+    last_shingled_point: &[f32],
+    previous_timestamps: &[u64],
+    initial_values: &[f32],
+    initial_timestamps: &[u64],
+) -> u64
+    requires { ⌜ Bounded (settingsOf head) ⌝ }
+    ensures { λ r. ⌜ r ≡ shortRow (settingsOf head) (lent (now (statistics .entry)) (now («last_shingled_input» .entry)) (now («last_shingled_point» .entry)) (now («previous_timestamps» .entry)) (now («initial_values» .entry)) (now («initial_timestamps» .entry))) ⌝ }
+    ensures { λ r. ⌜ (r ≡ 0 → Roomy (settingsOf head) (lent (now (statistics .entry)) (now («last_shingled_input» .entry)) (now («last_shingled_point» .entry)) (now («previous_timestamps» .entry)) (now («initial_values» .entry)) (now («initial_timestamps» .entry)))) ⌝ }
+{
+    let t = head.transformer;
+    let d = t.input_length;
+    let k = head.shingle_size;
+    let start = head.start_normalization;
+    let n = get_dimension(head);
+    if statistics.len() < 3 * (5 * d + 5) {
+        return 20;
+    }
+    if last_shingled_input.len() < d * k {
+        return 20;
+    }
+    if last_shingled_point.len() < n {
+        return 20;
+    }
+    if previous_timestamps.len() < k {
+        return 20;
+    }
+    if initial_values.len() < start * d {
+        return 20;
+    }
+    if initial_timestamps.len() < start {
+        return 20;
+    }
+    0
+}
+
+// 20 where the head and what is lent do not go together.
+pub(crate) fn lent_row(
+    head: Preprocessor,
+    statistics: &[f64],
+    last_shingled_input: &[f32],
+    last_shingled_point: &[f32],
+    previous_timestamps: &[u64],
+    initial_values: &[f32],
+    initial_timestamps: &[u64],
+) -> u64
+    requires { ⌜ Bounded (settingsOf head) ⌝ }
+    ensures { λ r. ⌜ r ≡ lentRow head (lent (now (statistics .entry)) (now («last_shingled_input» .entry)) (now («last_shingled_point» .entry)) (now («previous_timestamps» .entry)) (now («initial_values» .entry)) (now («initial_timestamps» .entry))) ⌝ }
+    ensures { λ r. ⌜ (r ≡ 0 → Fitted head (lent (now (statistics .entry)) (now («last_shingled_input» .entry)) (now («last_shingled_point» .entry)) (now («previous_timestamps» .entry)) (now («initial_values» .entry)) (now («initial_timestamps» .entry)))) ⌝ }
+{
+    if is_misfit(head) {
+        return 20;
+    }
+    short_row(
+        head,
+        statistics,
+        last_shingled_input,
+        last_shingled_point,
+        previous_timestamps,
+        initial_values,
+        initial_timestamps,
+    )
+}
+
+// The row of a head, or 20 where what is lent does not go with it.
+pub fn held_row(
+    head: Preprocessor,
+    statistics: &[f64],
+    last_shingled_input: &[f32],
+    last_shingled_point: &[f32],
+    previous_timestamps: &[u64],
+    initial_values: &[f32],
+    initial_timestamps: &[u64],
+) -> u64
+    ensures { λ r. ⌜ r ≡ orElse (headRow (settingsOf head)) (lentRow head (lent (now (statistics .entry)) (now («last_shingled_input» .entry)) (now («last_shingled_point» .entry)) (now («previous_timestamps» .entry)) (now («initial_values» .entry)) (now («initial_timestamps» .entry)))) ⌝ }
+    ensures { λ r. ⌜ (r ≡ 0 → Ready head (lent (now (statistics .entry)) (now («last_shingled_input» .entry)) (now («last_shingled_point» .entry)) (now («previous_timestamps» .entry)) (now («initial_values» .entry)) (now («initial_timestamps» .entry)))) ⌝ }
+{
+    let row = head_row(head);
+    if row != 0 {
+        return row;
+    }
+    lent_row(
+        head,
+        statistics,
+        last_shingled_input,
+        last_shingled_point,
+        previous_timestamps,
+        initial_values,
+        initial_timestamps,
+    )
+}
+
+// The rows of a call that hands nothing but its output.
+pub fn write_row(
+    head: Preprocessor,
+    statistics: &[f64],
+    last_shingled_input: &[f32],
+    last_shingled_point: &[f32],
+    previous_timestamps: &[u64],
+    initial_values: &[f32],
+    initial_timestamps: &[u64],
+    output: &[f32],
+) -> u64
+    ensures { λ r. ⌜ r ≡ rowOf head (lent (now (statistics .entry)) (now («last_shingled_input» .entry)) (now («last_shingled_point» .entry)) (now («previous_timestamps» .entry)) (now («initial_values» .entry)) (now («initial_timestamps» .entry))) (scale (now (output .entry))) ⌝ }
+    ensures { λ r. ⌜ (r ≡ 0 → Ready head (lent (now (statistics .entry)) (now («last_shingled_input» .entry)) (now («last_shingled_point» .entry)) (now («previous_timestamps» .entry)) (now («initial_values» .entry)) (now («initial_timestamps» .entry)))) ⌝ }
+    ensures { λ r. ⌜ (r ≡ 0 → block (settingsOf head) ≤ length (now (output .entry))) ⌝ }
+{
+    let row = head_row(head);
+    if row != 0 {
+        return row;
+    }
+    let t = head.transformer;
+    let mode = head.forest_mode;
+    let n = block_of(mode, t.input_length);
+    if output.len() < n {
+        return 20;
+    }
+    lent_row(
+        head,
+        statistics,
+        last_shingled_input,
+        last_shingled_point,
+        previous_timestamps,
+        initial_values,
+        initial_timestamps,
+    )
+}
+
+pub fn transform_row(
+    head: Preprocessor,
+    statistics: &[f64],
+    last_shingled_input: &[f32],
+    last_shingled_point: &[f32],
+    previous_timestamps: &[u64],
+    initial_values: &[f32],
+    initial_timestamps: &[u64],
+    input: &[f32],
+    output: &[f32],
+) -> u64
+    ensures { λ r. ⌜ ((t : ℕ) → r ≡ rowOf head (lent (now (statistics .entry)) (now («last_shingled_input» .entry)) (now («last_shingled_point» .entry)) (now («previous_timestamps» .entry)) (now («initial_values» .entry)) (now («initial_timestamps» .entry))) (transform (now (input .entry)) t (now (output .entry)))) ⌝ }
+    ensures { λ r. ⌜ (r ≡ 0 → Ready head (lent (now (statistics .entry)) (now («last_shingled_input» .entry)) (now («last_shingled_point» .entry)) (now («previous_timestamps» .entry)) (now («initial_values» .entry)) (now («initial_timestamps» .entry)))) ⌝ }
+    ensures { λ r. ⌜ (r ≡ 0 → length (now (input .entry)) ≡ head .transformer .«input_length») ⌝ }
+    ensures { λ r. ⌜ (r ≡ 0 → block (settingsOf head) ≤ length (now (output .entry))) ⌝ }
+{
+    let row = head_row(head);
+    if row != 0 {
+        return row;
+    }
+    let t = head.transformer;
+    let d = t.input_length;
+    if input.len() != d {
+        return 10;
+    }
+    let mode = head.forest_mode;
+    let n = block_of(mode, d);
+    if output.len() < n {
+        return 20;
+    }
+    lent_row(
+        head,
+        statistics,
+        last_shingled_input,
+        last_shingled_point,
+        previous_timestamps,
+        initial_values,
+        initial_timestamps,
+    )
+}
+
+// Whether any of the first n times is lent.
+fn has_initial(initial_timestamps: &[u64], n: usize) -> bool
+    ensures { λ r. ⌜ r ≡ not (null (take n (now («initial_timestamps» .entry)))) ⌝ }
+{
+    if n == 0 {
+        return false;
+    }
+    0 < initial_timestamps.len()
+}
+
+// Whether a drain comes when nothing waits any more.
+fn is_spent(head: Preprocessor, initial_timestamps: &[u64]) -> bool
+    ensures { λ r. ⌜ r ≡ eqb (head .«values_seen») (head .«start_normalization») && null (take (head .«initial_len») (now («initial_timestamps» .entry))) ⌝ }
+{
+    let seen = head.values_seen;
+    let start = head.start_normalization;
+    let n = head.initial_len;
+    if seen == start {
+        return !has_initial(initial_timestamps, n);
+    }
+    false
+}
+
+// Whether a drain has something to do.
+pub fn is_due(head: Preprocessor, initial_timestamps: &[u64]) -> bool
+    ensures { λ r. ⌜ r ≡ eqb (head .«values_seen») (head .«start_normalization») && not (null (take (head .«initial_len») (now («initial_timestamps» .entry)))) ⌝ }
+{
+    let seen = head.values_seen;
+    let start = head.start_normalization;
+    let n = head.initial_len;
+    if seen == start {
+        return has_initial(initial_timestamps, n);
+    }
+    false
+}
+
+// Whether a drain would pass a limit.
+fn is_full(head: Preprocessor) -> bool
+    requires { ⌜ Bounded (settingsOf head) ⌝ }
+    ensures { λ r. ⌜ r ≡ ltb countLimit (head .transformer .count + head .«start_normalization») || ltb seenLimit (head .«internal_timestamp» + head .«start_normalization») ⌝ }
+{
+    let t = head.transformer;
+    let count = t.count;
+    let internal = head.internal_timestamp;
+    let start = head.start_normalization;
+    if COUNT_LIMIT < count {
+        return true;
+    }
+    if COUNT_LIMIT < count + start as u64 {
+        return true;
+    }
+    if SEEN_LIMIT < internal {
+        return true;
+    }
+    SEEN_LIMIT < internal + start
+}
+
+// Whether a drain that has something to do would pass a limit.
+fn is_overdue(head: Preprocessor, initial_timestamps: &[u64]) -> bool
+    requires { ⌜ Bounded (settingsOf head) ⌝ }
+    ensures { λ r. ⌜ r ≡ (eqb (head .«values_seen») (head .«start_normalization») && not (null (take (head .«initial_len») (now («initial_timestamps» .entry)))))
+        && (ltb countLimit (head .transformer .count + head .«start_normalization») || ltb seenLimit (head .«internal_timestamp» + head .«start_normalization»)) ⌝ }
+{
+    if is_due(head, initial_timestamps) {
+        return is_full(head);
+    }
+    false
+}
+
+pub fn drain_row(
+    head: Preprocessor,
+    statistics: &[f64],
+    last_shingled_input: &[f32],
+    last_shingled_point: &[f32],
+    previous_timestamps: &[u64],
+    initial_values: &[f32],
+    initial_timestamps: &[u64],
+) -> u64
+    ensures { λ r. ⌜ r ≡ rowOf head (lent (now (statistics .entry)) (now («last_shingled_input» .entry)) (now («last_shingled_point» .entry)) (now («previous_timestamps» .entry)) (now («initial_values» .entry)) (now («initial_timestamps» .entry))) drain ⌝ }
+    ensures { λ r. ⌜ (r ≡ 0 → Ready head (lent (now (statistics .entry)) (now («last_shingled_input» .entry)) (now («last_shingled_point» .entry)) (now («previous_timestamps» .entry)) (now («initial_values» .entry)) (now («initial_timestamps» .entry)))) ⌝ }
+    ensures { λ r. ⌜ (r ≡ 0 → (due (settingsOf head) (facts (view head (lent (now (statistics .entry)) (now («last_shingled_input» .entry)) (now («last_shingled_point» .entry)) (now («previous_timestamps» .entry)) (now («initial_values» .entry)) (now («initial_timestamps» .entry))))) && drainFull (settingsOf head) (facts (view head (lent (now (statistics .entry)) (now («last_shingled_input» .entry)) (now («last_shingled_point» .entry)) (now («previous_timestamps» .entry)) (now («initial_values» .entry)) (now («initial_timestamps» .entry)))))) ≡ false) ⌝ }
+{
+    let row = head_row(head);
+    if row != 0 {
+        return row;
+    }
+    if is_spent(head, initial_timestamps) {
+        return 15;
+    }
+    if is_overdue(head, initial_timestamps) {
+        return 18;
+    }
+    lent_row(
+        head,
+        statistics,
+        last_shingled_input,
+        last_shingled_point,
+        previous_timestamps,
+        initial_values,
+        initial_timestamps,
+    )
+}
+
+pub fn shingled_point_row(
+    head: Preprocessor,
+    statistics: &[f64],
+    last_shingled_input: &[f32],
+    last_shingled_point: &[f32],
+    previous_timestamps: &[u64],
+    initial_values: &[f32],
+    initial_timestamps: &[u64],
+    input: &[f32],
+    output: &[f32],
+) -> u64
+    ensures { λ r. ⌜ ((t : ℕ) → r ≡ rowOf head (lent (now (statistics .entry)) (now («last_shingled_input» .entry)) (now («last_shingled_point» .entry)) (now («previous_timestamps» .entry)) (now («initial_values» .entry)) (now («initial_timestamps» .entry))) (shingledPoint (now (input .entry)) t (now (output .entry)))) ⌝ }
+    ensures { λ r. ⌜ (r ≡ 0 → Ready head (lent (now (statistics .entry)) (now («last_shingled_input» .entry)) (now («last_shingled_point» .entry)) (now («previous_timestamps» .entry)) (now («initial_values» .entry)) (now («initial_timestamps» .entry)))) ⌝ }
+    ensures { λ r. ⌜ (r ≡ 0 → Pointing head (lent (now (statistics .entry)) (now («last_shingled_input» .entry)) (now («last_shingled_point» .entry)) (now («previous_timestamps» .entry)) (now («initial_values» .entry)) (now («initial_timestamps» .entry))) (length (now (input .entry))) (length (now (output .entry)))) ⌝ }
+{
+    let row = head_row(head);
+    if row != 0 {
+        return row;
+    }
+    let t = head.transformer;
+    if input.len() != t.input_length {
+        return 10;
+    }
+    if !all_finite(input) {
+        return 11;
+    }
+    let row = past_row(head, initial_timestamps, output.len());
+    if row != 0 {
+        return row;
+    }
+    lent_row(
+        head,
+        statistics,
+        last_shingled_input,
+        last_shingled_point,
+        previous_timestamps,
+        initial_values,
+        initial_timestamps,
+    )
+}
+
+// Rows 18 and 20 of a point, past waiting.
+fn past_row(head: Preprocessor, initial_timestamps: &[u64], n: usize) -> u64
+    requires { ⌜ Bounded (settingsOf head) ⌝ }
+    ensures { λ r. ⌜ r ≡ pastRow head (now («initial_timestamps» .entry)) n ⌝ }
+{
+    if is_waiting(head) {
+        return 0;
+    }
+    if is_overdue(head, initial_timestamps) {
+        return 18;
+    }
+    if n < get_dimension(head) {
+        return 20;
+    }
+    0
+}
