@@ -1,14 +1,16 @@
 -- Demand 3 where learns are fed with filled readings: whatever the filler leaves, a program can hold. Assumes nothing.
-use Prim.Native.Nat.{ℕ, zero, suc, _-_, _*_, _+_, _/_, _%_, _≤_, _<_}
+use Prim.Native.Nat.{ℕ, zero, suc, _+_, _-_, _*_, _/_, _%_, _≤_}
 use mathlib.Core.Bool.{Bool, true, false, cond}
 use mathlib.Core.List.{List, [], _∷_}
-use mathlib.Core.Path.{_≡_, refl}
+use mathlib.Core.Path.{_≡_, ap}
+use native.Mathlib.Omega.{arith}
 use lib.Dec.{T}
 use lib.ListN.{length, getD, take, drop}
 use lib.IntN.{pos}
 use lib.Ieee.{Float, nan, binary32, mul, sub, div, ofInt, fits}
 use lib.Ieee.Fits.{nan-fits, add-fits, cond-fits}
 use Rattle.trcf.specs.Fit.{All, Fits}
+use Rattle.trcf.specs.Settings.{wholeMax}
 use Rattle.trcf.specs.Calls.{Learn, Call, Machine, drain}
 use Rattle.trcf.proofs.FitLaws.{all-take, all-drop, all-getD}
 use Rattle.series.specs.declared.imputation.ImputationMethod.{ImputationMethod}
@@ -17,6 +19,7 @@ use Rattle.series.specs.declared.imputation.Nearest.{Nearest}
 use Rattle.series.specs.declared.imputation.Nearest.the-variants.{At, Nowhere}
 use Rattle.series.specs.Imputation.{isPresent, nearestBefore, nearestFrom, copyOf, lineOf, betweenOf, fillOf, presentIn, cellIn, missingOf, imputedAt, byPlace, imputed}
 use Rattle.series.specs.Imputation.{imputeRow, Imputation, imputeAnswer, imputeOf}
+use Rattle.series.proofs.ImputationTheorems.{accepted}
 use Rattle.restart_program.proofs.Program.{program-demand-3}
 use Rattle.imputation_restart.specs.FilledLearns.{Filling, fedWith, fed, filledLearns, Timed, Holdable, Fed, other, filled, FilledDemand3}
 
@@ -105,7 +108,8 @@ module _ (m : ImputationMethod) (d : ℕ) (cells : List Float) (marks : List ℕ
 fed-machine : (d : ℕ) (cells : List Float) (qs : List Learn) → Fits binary32 cells → All Timed qs → All Machine (fed d cells qs)
 fed-machine d cells [] h k = tt
 fed-machine d cells (q ∷ qs) h k =
-    ((all-take Single d cells h, k .0 .0, k .0 .1), fed-machine d (drop d cells) qs (all-drop Single d cells h) (k .1))
+    let time : fedWith (take d cells) q .timestamp ≤ wholeMax = omega (arith, k .0 .0) in
+    ((all-take Single d cells h, time, k .0 .1), fed-machine d (drop d cells) qs (all-drop Single d cells h) (k .1))
 
 pub filled-machine : (g : Filling) → Holdable g → All Machine (filledLearns g)
 unfolding filledLearns
@@ -113,6 +117,13 @@ filled-machine g h =
     fed-machine (g .d) (imputeOf (g .method) (g .d) (g .cells) (g .marks) (g .fixed) .cells) (g .learns)
     (answer-fits (g .method) (g .d) (g .cells) (g .marks) (g .fixed) (h .cellsFit) (h .fixedFit))
     (h .learnsFit)
+
+-- where no row refuses, the learns are fed with the filled readings
+pub accepted-learns : (g : Filling) → imputeRow (g .d) (g .cells) (g .marks) (g .fixed) ≡ 0
+    → filledLearns g ≡ fed (g .d) (imputed (g .method) (g .d) (g .cells) (g .marks) (g .fixed)) (g .learns)
+unfolding filledLearns
+accepted-learns g e =
+    ap (λ (a : Imputation). fed (g .d) (a .cells) (g .learns)) (accepted (g .method) (g .d) (g .cells) (g .marks) (g .fixed) e)
 
 call-machine : (c : Call) → Fed c → Machine c
 call-machine c (other _ h) = h

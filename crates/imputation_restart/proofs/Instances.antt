@@ -22,21 +22,21 @@ use Rattle.trcf.specs.View as View
 use Rattle.trcf.specs.View.{Lent, lent}
 use Rattle.trcf.specs.Fit.{All}
 use Rattle.trcf.specs.Settings.{Settings, Valid}
-use Rattle.trcf.specs.Calls.{Learn, Call, shingledPoint, postProcess, drain, transform}
+use Rattle.trcf.specs.Calls.{Learn, Call, postProcess, drain}
 use Rattle.trcf.specs.Preprocessor.{Answer, refused, absent, done, wrote, learnt, turned, told}
 use Rattle.trcf.specs.declared.types.TransformMethod.the-variants.{NORMALIZE}
 use Rattle.trcf.specs.declared.types.ForestMode.the-variants.{STANDARD}
 use Rattle.snapshot.specs.Text as Text
 use Rattle.series.specs.declared.imputation.ImputationMethod.the-variants.{LINEAR}
 use Rattle.series.specs.Imputation as Imputation
-use Rattle.series.specs.Imputation.{Imputation, imputeOf, imputation}
+use Rattle.series.specs.Imputation.{imputed}
 use Rattle.restart.specs.History as History
 use Rattle.restart.specs.History.{Entry, initial, learned, drained, entries, historyText, historyAnswers}
 use Rattle.restart.specs.Held.{builtOn, textIn, restoredOn}
 use Rattle.restart.specs.Statistics as Statistics
 use Rattle.restart_program.specs.Program.{returns, ran, answerRead, ProgramRestart}
-use Rattle.imputation_restart.specs.FilledLearns.{Filling, fedWith, filledLearns, Holdable, Fed, other, filled}
-use Rattle.imputation_restart.proofs.Filled.{filled-demand-3}
+use Rattle.imputation_restart.specs.FilledLearns.{Filling, fedWith, fed, filledLearns, Holdable, Fed, other, filled}
+use Rattle.imputation_restart.proofs.Filled.{accepted-learns, filled-demand-3}
 
 -- ---- to unfold one of these is to unfold whatever its line names
 
@@ -185,6 +185,10 @@ run-learns : filledLearns run
     ∷ []
 unfolding filledIn
 run-learns = refl
+
+run-accepted : filledLearns run ≡ fed 2 (imputed LINEAR 2 (run .cells) (run .marks) (run .fixed)) (run .learns)
+unfolding filledIn
+run-accepted = accepted-learns run refl
 
 -- ---- key-off in the middle of them
 
