@@ -177,7 +177,16 @@ fn chosen(rule: Rule) -> Vec<Given> {
         all.push(Given { d, ..sound.clone() });
         all.push(Given { rule, d, cells: vec![], marks: vec![], fixed: vec![0.5; 16] });
     }
-    let pairs = [(f32::MAX, f32::MIN), (f32::MIN, f32::MAX), (3.0e38, -1.0e38), (-0.0, -0.0), (0.0, -0.0), (1.0e-45, -1.0e-45), (1.0e-40, 3.0e-45), (-1.0e-45, f32::MIN_POSITIVE)];
+    let pairs = [
+        (f32::MAX, f32::MIN),
+        (f32::MIN, f32::MAX),
+        (3.0e38, -1.0e38),
+        (-0.0, -0.0),
+        (0.0, -0.0),
+        (1.0e-45, -1.0e-45),
+        (1.0e-40, 3.0e-45),
+        (-1.0e-45, f32::MIN_POSITIVE),
+    ];
     for (a, b) in pairs {
         // between two, before the first, behind the last, two gaps, the whole channel
         for marks in [[0, 1, 1, 1, 0], [1, 1, 0, 0, 0], [0, 1, 1, 1, 1], [0, 1, 0, 1, 0], [1, 1, 1, 1, 1]] {
