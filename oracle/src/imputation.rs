@@ -128,7 +128,7 @@ fn fault(r: &mut Random, mut g: Given) -> Given {
     for _ in 0..r.from(1, 2) {
         match r.below(9) {
             0 => g.d = r.pick(&[0, 17, 256, 272, 1 << 32, u64::MAX]),
-            1 => g.d += 1,
+            1 => g.d = g.d.wrapping_add(1),
             2 => g.cells.truncate(g.cells.len().saturating_sub(1)),
             3 => g.marks.push(1),
             4 => g.fixed.push(0.0),
