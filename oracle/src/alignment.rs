@@ -1,7 +1,7 @@
 //! Request #108, written from its words: two lists of readings paired by their times, and the largest size of difference per channel.
 //! Knows nothing of the Rattle: the pairs are checked against the best of all order-keeping pairings where the lists are short.
 use crate::random::Random;
-use std::fmt::Write;
+use crate::words::{singles, wholes, word};
 
 /// A call: the readings' cells one after the other, d to a reading, and how long the lent outputs are.
 #[derive(Clone, Default)]
@@ -181,30 +181,20 @@ fn spoiled(random: &mut Random) -> Call {
 /// n by m readings, the cells zeros but for a few.
 fn long(random: &mut Random, d: u64, n: usize, m: usize, step: u64) -> Call {
     let of = |n: usize| (0..n as u64).map(|i| i * step).collect::<Vec<u64>>();
-    let mut call = Call { d, tolerance: 1, left: vec![0.0; n * d as usize], left_times: of(n), right: vec![0.0; m * d as usize], right_times: of(m), outs: [n, n, d as usize] };
+    let mut call = Call {
+        d,
+        tolerance: 1,
+        left: vec![0.0; n * d as usize],
+        left_times: of(n),
+        right: vec![0.0; m * d as usize],
+        right_times: of(m),
+        outs: [n, n, d as usize],
+    };
     for _ in 0..20 {
         let k = random.below(call.left.len() as u64) as usize;
         call.left[k] = random.value32();
     }
     call
-}
-
-fn word(line: &mut String, value: u64) {
-    write!(line, "{value:x} ").unwrap();
-}
-
-fn singles(line: &mut String, list: &[f32]) {
-    word(line, list.len() as u64);
-    for x in list {
-        word(line, crate::bits::bits32(*x) as u64);
-    }
-}
-
-fn wholes(line: &mut String, list: &[u64]) {
-    word(line, list.len() as u64);
-    for x in list {
-        word(line, *x);
-    }
 }
 
 /// A line: the call, then the row, and where it is 0 the number of pairs, the positions and the sizes.
@@ -253,7 +243,8 @@ pub fn file(seed: u64, count: usize) -> String {
     for call in &calls {
         text += &line(call, &align(call));
     }
-    let call = Call { d: 1, tolerance: 2, left: vec![1.0, 2.0], left_times: vec![0, 10], right: vec![1.5, 4.0], right_times: vec![1, 11], outs: [2, 2, 1] };
+    let call =
+        Call { d: 1, tolerance: 2, left: vec![1.0, 2.0], left_times: vec![0, 10], right: vec![1.5, 4.0], right_times: vec![1, 11], outs: [2, 2, 1] };
     let mut wrong = align(&call);
     wrong.pairs[1].1 = 0;
     text + &line(&call, &wrong)

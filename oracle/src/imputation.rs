@@ -1,6 +1,7 @@
 //! Request #104 written anew from its words: for every missing cell both sides are searched, cell by cell. It shares nothing with the crate `series`.
 use crate::bits::bits32;
 use crate::random::Random;
+use crate::words::{singles, wholes, word};
 
 #[derive(Clone, Copy, PartialEq)]
 pub enum Rule {
@@ -150,7 +151,64 @@ fn fault(r: &mut Random, mut g: Given) -> Given {
     g
 }
 
-/// The cases of a seed: small ones of every rule, one in six of them with faults; 125 readings of 16 channels; 2,000 and 2,001 readings of one.
+/// One channel of five readings by its marks, with a, b and c in the readings 0, 2 and 4.
+fn channel(rule: Rule, marks: [u8; 5], a: f32, b: f32, c: f32, fixed: f32) -> Given {
+    Given { rule, d: 1, cells: vec![a, f32::NAN, b, f32::NAN, c], marks: marks.to_vec(), fixed: vec![fixed] }
+}
+
+/// What every rule must meet: rows 11 and 21 with what hides or is hidden by them, gaps of every place, and cells at the ends of the range.
+fn chosen(rule: Rule) -> Vec<Given> {
+    let mut all = vec![];
+    let sound = channel(rule, [0, 1, 0, 1, 0], 1.0, 5.0, 2.0, 9.0);
+    for x in [f32::INFINITY, f32::NEG_INFINITY, f32::NAN] {
+        // a present cell, a missing one, the fixed value, the fixed value of no readings
+        all.push(channel(rule, [0, 1, 0, 1, 0], 1.0, x, 2.0, 9.0));
+        all.push(channel(rule, [0, 1, 1, 1, 0], 1.0, x, 2.0, 9.0));
+        all.push(channel(rule, [0, 1, 0, 1, 0], 1.0, 5.0, 2.0, x));
+        all.push(Given { rule, d: 2, cells: vec![], marks: vec![], fixed: vec![1.0, x] });
+    }
+    for mark in [2, 3, 128, 255] {
+        // the mark alone, before a cell that is not finite, behind unequal shapes
+        all.push(channel(rule, [0, 1, mark, 1, 0], 1.0, 5.0, 2.0, 9.0));
+        all.push(channel(rule, [0, 1, 0, 1, mark], f32::NAN, 5.0, 2.0, f32::INFINITY));
+        all.push(Given { fixed: vec![], ..channel(rule, [mark, 1, 0, 1, 0], 1.0, 5.0, 2.0, 9.0) });
+    }
+    for d in [0, 16, 17, 1 << 32, (1 << 32) + 1, u64::MAX] {
+        all.push(Given { d, ..sound.clone() });
+        all.push(Given { rule, d, cells: vec![], marks: vec![], fixed: vec![0.5; 16] });
+    }
+    let pairs = [
+        (f32::MAX, f32::MIN),
+        (f32::MIN, f32::MAX),
+        (3.0e38, -1.0e38),
+        (-0.0, -0.0),
+        (0.0, -0.0),
+        (1.0e-45, -1.0e-45),
+        (1.0e-40, 3.0e-45),
+        (-1.0e-45, f32::MIN_POSITIVE),
+    ];
+    for (a, b) in pairs {
+        // between two, before the first, behind the last, two gaps, the whole channel
+        for marks in [[0, 1, 1, 1, 0], [1, 1, 0, 0, 0], [0, 1, 1, 1, 1], [0, 1, 0, 1, 0], [1, 1, 1, 1, 1]] {
+            all.push(channel(rule, marks, a, b, b, -a));
+        }
+    }
+    for mark in [0, 1] {
+        all.push(Given { rule, d: 1, cells: vec![-0.0], marks: vec![mark], fixed: vec![1.0e-45] });
+    }
+    all
+}
+
+/// n readings, in each channel the first and the last present and zeros in the cells between, every 500th of which is present too.
+fn long(rule: Rule, d: usize, n: usize, ends: [f32; 2]) -> Given {
+    let marks = (0..n * d).map(|k| (k / d % 500 != 0 && k / d != n - 1) as u8).collect();
+    let mut g = Given { rule, d: d as u64, cells: vec![0.0; n * d], marks, fixed: vec![-0.0; d] };
+    g.cells[..d].fill(ends[0]);
+    g.cells[(n - 1) * d..].fill(ends[1]);
+    g
+}
+
+/// The cases of a seed: small ones of every rule, one in six of them with faults; the chosen ones; 20 readings of 16 channels; 2,000 and 2,001 readings.
 pub fn cases(seed: u64, count: usize) -> Vec<Given> {
     let mut r = Random::new(seed);
     let mut all = Vec::new();
@@ -161,30 +219,56 @@ pub fn cases(seed: u64, count: usize) -> Vec<Given> {
         all.push(if r.once_in(6) { fault(&mut r, g) } else { g });
     }
     for rule in RULES {
-        all.push(case(&mut r, rule, 16, 125));
-        // one gap from the second reading to the last but one
-        let mut long = case(&mut r, rule, 1, 2000);
-        long.marks = (0..2000).map(|i| (i != 0 && i != 1999) as u8).collect();
-        (long.cells[0], long.cells[1999]) = (-7.25, 1.0e6);
-        all.push(long);
+        all.extend(chosen(rule));
+        all.push(case(&mut r, rule, 16, 20));
+        all.push(long(rule, 1, 2000, [-7.25, 1.0e6]));
+        all.push(long(rule, 1, 2001, [-7.25, 1.0e6]));
     }
-    let mut over = case(&mut r, Rule::Linear, 1, 2001);
+    all.push(long(Rule::Linear, 2, 2000, [f32::MAX, f32::MIN]));
+    all.push(long(Rule::Next, 16, 2000, [1.0e-45, 0.0]));
+    // 21 before 11
+    let mut over = long(Rule::Linear, 1, 2001, [0.0, 0.0]);
     over.fixed[0] = f32::NAN;
     all.push(over);
     all
 }
 
-/// A case as words: rule, d, the number of cells and the cells, of marks and the marks, of fixed values and those, the row, the cells after the call.
-pub fn words(g: &Given) -> Vec<u64> {
-    let floats = |x: &[f32]| x.iter().map(|x| bits32(*x) as u64).collect::<Vec<_>>();
-    let number = RULES.iter().position(|x| *x == g.rule).unwrap() as u64;
-    let mut all = vec![number, g.d, g.cells.len() as u64];
-    all.extend(floats(&g.cells));
-    all.push(g.marks.len() as u64);
-    all.extend(g.marks.iter().map(|m| *m as u64));
-    all.push(g.fixed.len() as u64);
-    all.extend(floats(&g.fixed));
-    all.push(row(g));
-    all.extend(floats(&filled(g)));
-    all
+/// A line: the rule's number, d, the cells, the marks, the fixed values; then the row, and the cells after the call.
+fn line(g: &Given, row: u64, after: &[f32]) -> String {
+    let mut line = String::new();
+    word(&mut line, RULES.iter().position(|x| *x == g.rule).unwrap() as u64);
+    word(&mut line, g.d);
+    singles(&mut line, &g.cells);
+    wholes(&mut line, &g.marks.iter().map(|m| *m as u64).collect::<Vec<_>>());
+    singles(&mut line, &g.fixed);
+    word(&mut line, row);
+    for x in after {
+        word(&mut line, bits32(*x) as u64);
+    }
+    line.pop();
+    line + "\n"
+}
+
+/// The cases, then one whose answer is wrong by purpose: the cell that PREVIOUS fills has the value behind it.
+pub fn file(seed: u64, count: usize) -> String {
+    let mut text = String::new();
+    for g in cases(seed, count) {
+        text += &line(&g, row(&g), &filled(&g));
+    }
+    let g = channel(Rule::Previous, [0, 1, 0, 0, 0], 1.0, 5.0, 2.0, 9.0);
+    let g = Given { cells: vec![1.0, 3.0, 5.0, 6.0, 2.0], ..g };
+    text + &line(&g, 0, &[1.0, 5.0, 5.0, 6.0, 2.0])
+}
+
+#[cfg(test)]
+mod tests {
+    use super::*;
+
+    #[test]
+    fn every_row_by_every_rule() {
+        for rule in RULES {
+            let rows: std::collections::BTreeSet<u64> = chosen(rule).iter().map(row).collect();
+            assert_eq!(rows.into_iter().collect::<Vec<u64>>(), [0, 2, 4, 10, 11, 21]);
+        }
+    }
 }

@@ -20,3 +20,4 @@ pub mod snapshot;
 pub mod stranding;
 pub mod texts;
 pub mod vectors;
+pub mod words;

@@ -1,5 +1,9 @@
 // Replays calls of `align`: d, tolerance, the two lists (cells, times), the outputs' lengths; then the row, the number of pairs, the positions and the sizes.
+use crate::words::AGREES;
+use crate::words::BROKEN;
+use crate::words::DIFFERS;
 use crate::words::Tally;
+use crate::words::counted;
 use crate::words::fill_singles;
 use crate::words::fill_wholes;
 use crate::words::next_are_singles;
@@ -15,13 +19,6 @@ ghost use lib.ListN.{length};
 const MARK: u64 = 0x5a5a;
 // 7.5
 const MARK32: u64 = 0x40f0_0000;
-
-// One case's verdict.
-const AGREES: u64 = 0;
-
-const DIFFERS: u64 = 1;
-
-const BROKEN: u64 = 2;
 
 // A list of readings as it was read: how many cells, how many times.
 struct Lengths {
@@ -176,35 +173,6 @@ fn one(
         right_out,
         gaps_out,
     )
-}
-
-fn more(n: u64) -> u64 {
-    if n < u64::MAX { n + 1 } else { n }
-}
-
-fn counted(tally: Tally, verdict: u64) -> Tally {
-    let agree = tally.agree;
-    let differ = tally.differ;
-    let broken = tally.broken;
-    if verdict == AGREES {
-        return Tally {
-            agree: more(agree),
-            differ: differ,
-            broken: broken,
-        };
-    }
-    if verdict == DIFFERS {
-        return Tally {
-            agree: agree,
-            differ: more(differ),
-            broken: broken,
-        };
-    }
-    Tally {
-        agree: agree,
-        differ: differ,
-        broken: more(broken),
-    }
 }
 
 // A case that cannot be read ends the replay: nobody knows where the next one begins. A proved loop has to end: the turns are counted down.

@@ -1,6 +1,7 @@
 // Replays answers that the oracle worked out from the requests' words (docs/VECTORS.md) on `series`, and prints how many agree and how many differ.
 // The last line of a file is wrong by purpose: the one that differs.
 mod alignment;
+mod imputation;
 mod words;
 
 use libc::STDOUT_FILENO;
@@ -16,7 +17,7 @@ fn report(name: &[u8], tally: words::Tally) {
     io::write_all(STDOUT_FILENO, b"\n");
 }
 
-fn main() {
+fn alignments() {
     let path = b"alignment";
     let fd = os::open_read(path);
     if fd < 0 {
@@ -26,4 +27,21 @@ fn main() {
     let tally = alignment::replay(fd);
     libc::close(fd);
     report(path, tally);
+}
+
+fn imputations() {
+    let path = b"imputation";
+    let fd = os::open_read(path);
+    if fd < 0 {
+        os::fail(path);
+        return;
+    }
+    let tally = imputation::replay(fd);
+    libc::close(fd);
+    report(path, tally);
+}
+
+fn main() {
+    alignments();
+    imputations();
 }

@@ -8,6 +8,42 @@ pub(crate) struct Tally {
     pub broken: u64,
 }
 
+// One case's verdict.
+pub(crate) const AGREES: u64 = 0;
+
+pub(crate) const DIFFERS: u64 = 1;
+
+pub(crate) const BROKEN: u64 = 2;
+
+fn more(n: u64) -> u64 {
+    if n < u64::MAX { n + 1 } else { n }
+}
+
+pub(crate) fn counted(tally: Tally, verdict: u64) -> Tally {
+    let agree = tally.agree;
+    let differ = tally.differ;
+    let broken = tally.broken;
+    if verdict == AGREES {
+        return Tally {
+            agree: more(agree),
+            differ: differ,
+            broken: broken,
+        };
+    }
+    if verdict == DIFFERS {
+        return Tally {
+            agree: agree,
+            differ: more(differ),
+            broken: broken,
+        };
+    }
+    Tally {
+        agree: agree,
+        differ: differ,
+        broken: more(broken),
+    }
+}
+
 // A word's value; `good` is false where there is none, or none of the form.
 pub(crate) struct Word {
     pub value: u64,
@@ -120,6 +156,18 @@ pub(crate) fn read_singles(fd: i32, out: &mut [f32]) -> bool {
         let w = next_word(fd);
         out[i] = value32((w.value % 0x1_0000_0000) as u32);
         good = good && w.good && w.value < 0x1_0000_0000;
+        i += 1;
+    }
+    good
+}
+
+pub(crate) fn read_bytes(fd: i32, out: &mut [u8]) -> bool {
+    let mut good = true;
+    let mut i = 0usize;
+    while i < out.len() {
+        let w = next_word(fd);
+        out[i] = (w.value % 0x100) as u8;
+        good = good && w.good && w.value < 0x100;
         i += 1;
     }
     good

@@ -1,0 +1,3 @@
+-- The theorem, and its instance.
+pub mod Filled
+pub mod Instances
