@@ -80,6 +80,15 @@ pub fn is_past(
         return true;
     }
     past_limits(
-        d, k, wide, n, statistics, input, point, times, values, initial,
+        d,
+        k,
+        wide,
+        n,
+        statistics,
+        input,
+        point,
+        times,
+        values,
+        initial,
     )
 }

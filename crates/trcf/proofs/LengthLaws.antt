@@ -122,5 +122,5 @@ module _ {t : WeightedTransformer} where
   forecast-row-zero {n = n} {p = p} {v = v} {u = u} {l = l} f =
       let d = t .«input_length» in
       let h : (differences (t .«transform_method») && unblocked d v) ≡ false =
-        ap (λ (k : ℕ). differences (t .«transform_method») && unblocked k v) (sym (f .1 .0)) ∙ f .1 .1 .1 in
+      ap (λ (k : ℕ). differences (t .«transform_method») && unblocked k v) (sym (f .1 .0)) ∙ f .1 .1 .1 in
       rw (ne-eqb d 0 (λ e. omega (arith, f .0 .some, e)), le-ltb 16 d (f .0 .few), eq-eqb p d (f .1 .0), eq-eqb v u (sym (f .1 .1 .0 .0)), eq-eqb v l (sym (f .1 .1 .0 .1)), h, le-ltb n (15 * d) (f .0 .room))

@@ -61,7 +61,14 @@ pub fn write_transform(
 )
     ensures { λ _. ⌜ now (output .exit) ≡ whereFits (transformFits (settingsOf head) (length (now (s .entry))) (length (now (inputs .entry))) (length (now (times .entry))) (length (now (input .entry))) (length (now (output .entry)))) (over (now (output .entry)) (transformedAfter (settingsOf head) (now (s .entry)) (head .«values_seen») (previous (holding head (now (s .entry)) (now (inputs .entry)) (now (times .entry)))) (reading (now (input .entry)) timestamp))) (now (output .entry)) ⌝ }
 {
-    if transform_fits(head, s.len(), inputs.len(), times.len(), input.len(), output.len()) {
+    if transform_fits(
+        head,
+        s.len(),
+        inputs.len(),
+        times.len(),
+        input.len(),
+        output.len(),
+    ) {
         transform_fitting(head, s, inputs, times, input, timestamp, output);
     }
 }

@@ -1,9 +1,4 @@
 // The transform of a reading, channel by channel (the source's trcf/transformer.rs). The statistics lie in a lent list, three numbers each.
-use common::deviation::COUNT_LIMIT;
-use common::deviation::Deviation;
-use common::deviation::DeviationResult;
-use common::rangevector::Range32;
-use common::rangevector::cascaded_add_f32;
 use crate::statistics::feed_at;
 use crate::statistics::mean_at;
 use crate::types::TransformMethod;
@@ -11,6 +6,11 @@ use crate::types::is_centring;
 use crate::types::is_differencing;
 use crate::types::is_none;
 use crate::types::is_normalizing;
+use common::deviation::COUNT_LIMIT;
+use common::deviation::Deviation;
+use common::deviation::DeviationResult;
+use common::rangevector::Range32;
+use common::rangevector::cascaded_add_f32;
 ghost use mathlib.Core.Path.{_≡_};
 ghost use mathlib.Core.Bool.{false, cond, not, _&&_};
 ghost use mathlib.Core.List.{[], _∷_};
@@ -638,7 +638,15 @@ pub fn invert_forecast_in_place(
 {
     let m = t.transform_method;
     let d = t.input_length;
-    let row = forecast_row(m, d, previous.len(), values.len(), upper.len(), lower.len(), s.len());
+    let row = forecast_row(
+        m,
+        d,
+        previous.len(),
+        values.len(),
+        upper.len(),
+        lower.len(),
+        s.len(),
+    );
     if row == 0 {
         forecast_fitting(t, s, previous, values, upper, lower);
     }

@@ -1,8 +1,8 @@
 // Which row refuses a post_process, 0 for none. Nothing here writes.
-use common::deviation::COUNT_LIMIT;
 use crate::rows::all_finite;
 use crate::rows::is_waiting;
 use crate::rows::lent_row;
+use common::deviation::COUNT_LIMIT;
 use trcf::head::Preprocessor;
 use trcf::head::SEEN_LIMIT;
 use trcf::head::block_of;

@@ -19,7 +19,7 @@ block-of-requires : tie.Need-block-of-requires
 block-of-requires c κs = tt
 
 mul-result : tie.Need-mul-result
-mul-result c = 
+mul-result c =
     let p : c .before .block-of .result ≤ 17 = c .before .block-of .ensures .1 in
     omega (arith, mul-le-mul p (c .before .before .before .before .head-row .ensures .1 (c .before .before .before .if1 .left) .k-few))
 

@@ -43,9 +43,10 @@ returns-5 c = (rw (eq-eqb (headRow (settingsOf (c .before .before .before .befor
 
 returns-6 : tie.Need-returns-6
 unfolding feedFits
-returns-6 c = 
-    (rw (eq-eqb (headRow (settingsOf (c .before .before .before .before .before .before .before .args .head))) 0 (sym (c .before .before .before .before .before .before .head-row .ensures .0) ∙ c .before .before .before .before .before .if1 .left), eq-eqb _ _ (c .before .before .before .if2 .left), lt-ltb _ _ (c .before .before .if3 .left), eq-eqb _ _ (c .before .if4 .left), eq-eqb _ _ (c .if5 .left)),
-    λ e. (c .before .before .before .before .before .before .head-row .ensures .1 (c .before .before .before .before .before .if1 .left), c .before .before .before .if2 .left, c .before .before .if3 .left, c .before .if4 .left, c .if5 .left))
+returns-6 c = (
+  rw (eq-eqb (headRow (settingsOf (c .before .before .before .before .before .before .before .args .head))) 0 (sym (c .before .before .before .before .before .before .head-row .ensures .0) ∙ c .before .before .before .before .before .if1 .left), eq-eqb _ _ (c .before .before .before .if2 .left), lt-ltb _ _ (c .before .before .if3 .left), eq-eqb _ _ (c .before .if4 .left), eq-eqb _ _ (c .if5 .left)),
+  λ e. (c .before .before .before .before .before .before .head-row .ensures .1 (c .before .before .before .before .before .if1 .left), c .before .before .before .if2 .left, c .before .before .if3 .left, c .before .if4 .left, c .if5 .left),
+)
 
 pub feed-fits-spec : {M : Type 1} → statement M
 feed-fits-spec = tie.close (tie.spec head-row-requires returns mul-if2 add-if2 mul-if2-2 returns-2 returns-3 returns-4 returns-5 returns-6)

@@ -37,13 +37,13 @@ returns-2 c = (rw (eq-eqb (headRow (settingsOf (c .before .before .before .befor
 
 returns-3 : tie.Need-returns-3
 unfolding outputFits
-returns-3 c = 
+returns-3 c =
     let b = block-known (c .before .before .block-of .ensures) (c .before .before .before .before .before .head-row .ensures .1 (c .before .before .before .before .if1 .left) .d-few) .0 ∙ sym (block-is (settingsOf (c .before .before .before .before .before .before .args .head))) in
     (rw (eq-eqb (headRow (settingsOf (c .before .before .before .before .before .before .args .head))) 0 (sym (c .before .before .before .before .before .head-row .ensures .0) ∙ c .before .before .before .before .if1 .left), eq-eqb _ _ (c .before .if2 .left), lt-leb (block (settingsOf (c .before .before .before .before .before .before .args .head))) (c .before .before .before .before .before .before .args .output) (omega (arith, b))), λ e. absurd (true-false (sym e)))
 
 returns-4 : tie.Need-returns-4
 unfolding outputFits
-returns-4 c = 
+returns-4 c =
     let b = block-known (c .before .before .block-of .ensures) (c .before .before .before .before .before .head-row .ensures .1 (c .before .before .before .before .if1 .left) .d-few) .0 ∙ sym (block-is (settingsOf (c .before .before .before .before .before .before .args .head))) in
     (rw (eq-eqb (headRow (settingsOf (c .before .before .before .before .before .before .args .head))) 0 (sym (c .before .before .before .before .before .head-row .ensures .0) ∙ c .before .before .before .before .if1 .left), eq-eqb _ _ (c .before .if2 .left), le-leb (block (settingsOf (c .before .before .before .before .before .before .args .head))) (c .before .before .before .before .before .before .args .output) (omega (arith, b))), λ e. (c .before .before .before .before .before .head-row .ensures .1 (c .before .before .before .before .if1 .left), c .before .if2 .left, omega (arith, b)))
 

@@ -32,9 +32,10 @@ returns-4 c = (rw (sym (c .before .before .before .before .before .output-fits .
 
 returns-5 : tie.Need-returns-5
 unfolding transformFits
-returns-5 c = 
-    (rw (sym (c .before .before .before .before .before .output-fits .ensures .0) ∙ not-false _ (c .before .before .before .before .if1 .left), eq-eqb _ _ (c .before .before .if2 .left), eq-eqb _ _ (c .before .if3 .left), eq-eqb _ _ (c .if4 .left)),
-    λ e. let f = c .before .before .before .before .before .output-fits .ensures .1 (not-false _ (c .before .before .before .before .if1 .left)) in (f .0, record { all-statistics = f .1; all-input = c .before .before .if2 .left; all-times = c .before .if3 .left }, c .if4 .left, f .2))
+returns-5 c = (
+  rw (sym (c .before .before .before .before .before .output-fits .ensures .0) ∙ not-false _ (c .before .before .before .before .if1 .left), eq-eqb _ _ (c .before .before .if2 .left), eq-eqb _ _ (c .before .if3 .left), eq-eqb _ _ (c .if4 .left)),
+  λ e. let f = c .before .before .before .before .before .output-fits .ensures .1 (not-false _ (c .before .before .before .before .if1 .left)) in (f .0, record { all-statistics = f .1; all-input = c .before .before .if2 .left; all-times = c .before .if3 .left }, c .if4 .left, f .2),
+)
 
 pub transform-fits-spec : {M : Type 1} → statement M
 transform-fits-spec = tie.close (tie.spec output-fits-requires returns mul-if2 returns-2 returns-3 returns-4 returns-5)

@@ -14,11 +14,12 @@ forecast-row-requires : tie.Need-forecast-row-requires
 forecast-row-requires c κs = tt
 
 forecast-fitting-requires : tie.Need-forecast-fitting-requires
-forecast-fitting-requires c κs = 
+forecast-fitting-requires c κs =
     let a = c .before .before .before .before .before .before .before .before .before .before .args in
-    let f = c .before .before .before .before .forecast-row .ensures .1 (c .before .before .before .if1 .taken) in
-    (record { some = f .0; few = f .1; room = f .6 },
-    ((f .3, f .4), ap (λ (k : ℕ). differences (a .t .«transform_method») && unblocked k (length (a .values .now))) (f .2) ∙ f .5))
+    let f = c .before .before .before .before .forecast-row .ensures .1 (c .before .before .before .if1 .taken) in (
+      record { some = f .0; few = f .1; room = f .6 },
+      ((f .3, f .4), ap (λ (k : ℕ). differences (a .t .«transform_method») && unblocked k (length (a .values .now))) (f .2) ∙ f .5),
+    )
 
 same-length : tie.Need-same-length
 same-length c = c .before .before .before .before .before .before .forecast-fitting .kept .1 .1 .1 .0

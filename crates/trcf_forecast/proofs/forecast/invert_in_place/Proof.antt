@@ -48,17 +48,22 @@ same-length-3 c = c .before .before .before .before .before .before .invert-fore
 
 returns : tie.Need-returns
 returns c =
-    let A = c .before .before .before .before .before .before .before .before .before .before .before .before .before .before .before .before .before .args in
-    let P = c .before .before .before .before .before .before .before .before .before .before .before .before .before .before .before .before .before .pre in
+    let c8 = c .before .before .before .before .before .before .before .before in
+    let c16 = c8 .before .before .before .before .before .before .before .before in
+    let A = c16 .before .args in
+    let P = c16 .before .pre in
     let d = A .head .transformer .«input_length» in
     let w = input-within d (A .head .«shingle_size») (P .0 .k-pos) in
     let n : d ≤ length (A .inputs .now) = omega (arith, P .1 .0 .1) in
     let v = ranges (A .values .now) (A .upper .now) (A .lower .now) in
-    (passing _ (c .before .before .before .before .before .before .invert-forecast-in-place .ensures) 
-    (forecast-row-zero {t = A .head .transformer}
-    (record { some = P .0 .d-pos; few = P .0 .d-few; room = omega (arith, P .1 .0 .0) },
-    (newest-length (A .inputs .now) d n,
-    (P .1 .1 .0, ap (λ (k : ℕ). differences (A .head .transformer .«transform_method») && unblocked k (length (A .values .now))) (newest-length (A .inputs .now) d n) ∙ P .1 .1 .1)))))
+    (passing _ (c .before .before .before .before .before .before .invert-forecast-in-place .ensures)
+    (forecast-row-zero {t = A .head .transformer} (
+      record { some = P .0 .d-pos; few = P .0 .d-few; room = omega (arith, P .1 .0 .0) },
+      (
+        newest-length (A .inputs .now) d n,
+        (P .1 .1 .0, ap (λ (k : ℕ). differences (A .head .transformer .«transform_method») && unblocked k (length (A .values .now))) (newest-length (A .inputs .now) d n) ∙ P .1 .1 .1),
+      ),
+    )))
     ∙ inverted-free (A .head) (A .s .now) _ v
     ∙ ap (λ (p : List Float). invertedForecast (transformer (settingsOf (A .head)) 0 (A .s .now)) p v) (newest-is (A .inputs .now) d n)
 
