@@ -20,9 +20,9 @@ use Rattle.snapshot.specs.declared.field.Number.the-variants.{No, Is}
 use Rattle.snapshot.specs.Judge.{placed, onto, held, byte, name, fieldLength, fieldIn, endIn, restOf, tabbedOf, nextOf, one, before, fields, closing, listLine, Filled}
 use Rattle.snapshot.specs.declared.field.Field.{Field}
 use Rattle.snapshot.specs.declared.field.Field.the-variants.{Single, Double, Whole, Bad}
-use Rattle.snapshot.specs.declared.judge.Place.{Place}
-use Rattle.snapshot.specs.declared.judge.Place.the-variants.{At, Nowhere}
-use Rattle.snapshot.specs.declared.judge.Next.{Next}
+use Rattle.snapshot.specs.declared.piece.Place.{Place}
+use Rattle.snapshot.specs.declared.piece.Place.the-variants.{At, Nowhere}
+use Rattle.snapshot.specs.declared.piece.Next.{Next}
 
 -- ---- places
 

@@ -15,8 +15,8 @@ use Rattle.trcf.specs.Preprocessor.{Reading, reading}
 use Rattle.trcf.specs.declared.types.TransformMethod.{TransformMethod}
 use Rattle.snapshot.specs.Read.{asWhole, asFloat, climbs, zeros, Counts}
 use Rattle.snapshot.specs.Judge.{placed, onto, held, byte, name, one, fields, closing, listLine, checked, wgtTest, cntTest, cntBy, countsOf, countsRead, counted, timTest, timed, bufTest, bufRaw, bufBy}
-use Rattle.snapshot.specs.declared.judge.Place.{Place}
-use Rattle.snapshot.specs.declared.judge.Place.the-variants.{At, Nowhere}
+use Rattle.snapshot.specs.declared.piece.Place.{Place}
+use Rattle.snapshot.specs.declared.piece.Place.the-variants.{At, Nowhere}
 
 module _ {A : Type 0} (q : A → Bool) (a : A) (r : Place) (t : List ℕ) (o : Option (A × List ℕ)) (e : held a (placed r t) ≡ o) where
   pub check-yes : q a ≡ true → held a (placed r t) ≡ checked q o

@@ -16,8 +16,8 @@ use Rattle.snapshot.specs.Read.{asWhole, asFloat}
 use Rattle.trcf.specs.declared.types.ForestMode.{ForestMode}
 use Rattle.trcf.specs.declared.types.TransformMethod.{TransformMethod}
 use Rattle.snapshot.specs.Judge.{placed, onto, held, byte, name, one, fields, modeIn, modeTold, methodIn, methodTold, setTest, tailBy, settingsWith, settled, setBy, settingsTold}
-use Rattle.snapshot.specs.declared.judge.Place.{Place}
-use Rattle.snapshot.specs.declared.judge.Place.the-variants.{At, Nowhere}
+use Rattle.snapshot.specs.declared.piece.Place.{Place}
+use Rattle.snapshot.specs.declared.piece.Place.the-variants.{At, Nowhere}
 use Rattle.snapshot.specs.declared.settings.Mode.{Mode}
 use Rattle.snapshot.specs.declared.settings.Mode.the-variants.{OfMode, NoMode}
 use Rattle.snapshot.specs.declared.settings.Method.{Method}

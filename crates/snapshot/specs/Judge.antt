@@ -26,9 +26,9 @@ use Rattle.snapshot.specs.Read.{asWhole, asFloat, every, allCodes, climb
 use Rattle.snapshot.specs.Scan.{fieldOf}
 use Rattle.snapshot.specs.declared.field.Field.{Field}
 use Rattle.snapshot.specs.declared.field.Field.the-variants.{Bad}
-use Rattle.snapshot.specs.declared.judge.Place.{Place}
-use Rattle.snapshot.specs.declared.judge.Place.the-variants.{At, Nowhere}
-use Rattle.snapshot.specs.declared.judge.Next.{Next}
+use Rattle.snapshot.specs.declared.piece.Place.{Place}
+use Rattle.snapshot.specs.declared.piece.Place.the-variants.{At, Nowhere}
+use Rattle.snapshot.specs.declared.piece.Next.{Next}
 
 -- ---- places: what is left of the text from there on
 

@@ -1,12 +1,12 @@
 // Each kind of line of a snapshot, as it is read (document 01: taking up).
 use crate::field::Field;
-use crate::judge::Place;
-use crate::judge::byte;
-use crate::judge::name;
 use crate::judge::next_field;
 use crate::judge::singles;
 use crate::judge::singles_line;
 use crate::judge::wholes_line;
+use crate::piece::Place;
+use crate::piece::byte;
+use crate::piece::name;
 use crate::values::all_zero;
 use crate::values::codes_fit;
 use crate::values::narrowed;

@@ -5,6 +5,7 @@ mod judge;
 mod kinds;
 pub mod limits;
 mod lines;
+mod piece;
 mod reader;
 pub mod restore;
 mod settings;

@@ -1,9 +1,9 @@
 // Runs of lines of a snapshot (document 01: taking up), one after the other: each is left at its first bad line.
-use crate::judge::Place;
 use crate::judge::doubles_line;
 use crate::judge::singles_line;
 use crate::kinds::buf_line;
 use crate::kinds::tim_line;
+use crate::piece::Place;
 ghost use mathlib.Core.Path.{_≡_};
 ghost use Prim.Native.Nat.{_+_, _*_, _≤_, _<_};
 ghost use lib.ListN.{length, drop};

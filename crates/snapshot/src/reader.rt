@@ -1,7 +1,7 @@
 // A field reader holds the lent text and a position (document 01, 'Forms to follow'). The borrow checker covers no function over such a struct,
 // so each is thin and proved by hand: `next` takes it apart and leaves the work to `field_at`, which takes the text and the place and is covered.
-use crate::judge::Next;
-use crate::judge::field_at;
+use crate::piece::Next;
+use crate::piece::field_at;
 ghost use mathlib.Core.Path.{_≡_};
 ghost use Rattle.snapshot.specs.Judge.{nextOf};
 

@@ -1,5 +1,4 @@
 // `restore` (document 01: taking up): the whole text is judged first, and then the lent lists are filled.
-use crate::judge::Place;
 use crate::kinds::chn_line;
 use crate::kinds::cnt_line;
 use crate::kinds::is_waiting;
@@ -10,6 +9,7 @@ use crate::lines::Lines;
 use crate::lines::buf_lines;
 use crate::lines::buf_lines_unkept;
 use crate::lines::part_lines;
+use crate::piece::Place;
 use crate::settings::Set;
 use crate::settings::set_line;
 use crate::values::same_codes;

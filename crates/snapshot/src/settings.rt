@@ -1,17 +1,17 @@
 // The first line of a snapshot, the settings (document 01, 'Trace text': `set`).
 use crate::field::Field;
-use crate::judge::Place;
-use crate::judge::byte;
-use crate::judge::name;
 use crate::judge::next_field;
 use crate::judge::wholes;
+use crate::piece::Place;
+use crate::piece::byte;
+use crate::piece::name;
 use common::deviation::outside_unit;
 use trcf::types::ForestMode;
 use trcf::types::TransformMethod;
 ghost use mathlib.Core.Path.{_≡_};
 ghost use lib.ListN.{length, drop};
 ghost use Rattle.snapshot.specs.Judge.{placed, held, modeIn, modeTold, methodIn, methodTold, setTest, tailBy, setBy, settingsTold};
-ghost use Rattle.snapshot.specs.declared.judge.Place.the-variants.{Nowhere};
+ghost use Rattle.snapshot.specs.declared.piece.Place.the-variants.{Nowhere};
 
 // A mode, or none.
 pub(crate) enum Mode {

@@ -1,7 +1,7 @@
 -- `snapshot::cells::double` meets its contract. Assumes nothing.
 use borrow.Author.Needs.{needs}
 use mathlib.Core.Path.{_≡_, ap}
-use Rattle.snapshot.specs.declared.judge.Next.{Next}
+use Rattle.snapshot.specs.declared.piece.Next.{Next}
 use Rattle.snapshot.proofs.cells.double.Statement.{statement}
 use Rattle.snapshot.proofs.cells.double.Tie as tie
 use Rattle.snapshot.proofs.cells.double.Reads as reads

@@ -1,7 +1,7 @@
 -- `snapshot::cells::single` meets its contract. Assumes nothing.
 use borrow.Author.Needs.{needs}
 use mathlib.Core.Path.{_≡_, ap}
-use Rattle.snapshot.specs.declared.judge.Next.{Next}
+use Rattle.snapshot.specs.declared.piece.Next.{Next}
 use Rattle.snapshot.proofs.cells.single.Statement.{statement}
 use Rattle.snapshot.proofs.cells.single.Tie as tie
 use Rattle.snapshot.proofs.cells.single.Reads as reads

@@ -2,7 +2,7 @@
 use borrow.Author.Needs.{needs}
 use mathlib.Core.Path.{_≡_, ap}
 use Rattle.snapshot.specs.Read.{asWhole}
-use Rattle.snapshot.specs.declared.judge.Next.{Next}
+use Rattle.snapshot.specs.declared.piece.Next.{Next}
 use Rattle.snapshot.proofs.JudgeLaws.{number-is, number-not}
 use Rattle.snapshot.proofs.cells.whole.Statement.{statement}
 use Rattle.snapshot.proofs.cells.whole.Tie as tie

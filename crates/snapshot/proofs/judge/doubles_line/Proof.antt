@@ -10,9 +10,9 @@ use Rattle.snapshot.proofs.judge.doubles_line.Statement.{statement}
 use Rattle.snapshot.proofs.judge.doubles_line.Tie as tie
 use Rattle.snapshot.proofs.judge.doubles_line.Reads as reads
 use Rattle.snapshot.proofs.judge.doubles_line.Lts as lts
-use Rattle.snapshot.proofs.judge.byte.Reads as byte-reads
+use Rattle.snapshot.proofs.piece.byte.Reads as byte-reads
 use Rattle.snapshot.proofs.judge.doubles.Reads as doubles-reads
-use Rattle.snapshot.proofs.judge.name.Reads as name-reads
+use Rattle.snapshot.proofs.piece.name.Reads as name-reads
 
 name-requires : tie.Need-name-requires
 name-requires c κs = search needs

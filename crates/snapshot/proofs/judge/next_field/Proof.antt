@@ -39,11 +39,11 @@ use denote.Exit.{yes}
 use denote.Triple.Clauses.{ensured, lasts}
 use Rattle.snapshot.specs.Judge.{nextOf}
 use Rattle.snapshot.specs.declared.reader.FieldReader.{FieldReader}
-use Rattle.snapshot.specs.declared.judge.Next.{Next}
+use Rattle.snapshot.specs.declared.piece.Next.{Next}
 use Rattle.snapshot.proofs.reader.FieldReader as T
 use Rattle.snapshot.proofs.reader.FieldReader.Laws as T′
-use Rattle.snapshot.proofs.judge.Next as S
-use Rattle.snapshot.proofs.judge.Next.Laws as S′
+use Rattle.snapshot.proofs.piece.Next as S
+use Rattle.snapshot.proofs.piece.Next.Laws as S′
 use Rattle.snapshot.proofs.reader.new as new
 use Rattle.snapshot.proofs.reader.new.Symbol as new-def
 use Rattle.snapshot.proofs.reader.new.Symbol.{name as #snapshot·reader·new}

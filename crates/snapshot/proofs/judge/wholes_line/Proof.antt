@@ -9,8 +9,8 @@ use Rattle.snapshot.proofs.judge.wholes_line.Statement.{statement}
 use Rattle.snapshot.proofs.judge.wholes_line.Tie as tie
 use Rattle.snapshot.proofs.judge.wholes_line.Reads as reads
 use Rattle.snapshot.proofs.judge.wholes_line.Lts as lts
-use Rattle.snapshot.proofs.judge.byte.Reads as byte-reads
-use Rattle.snapshot.proofs.judge.name.Reads as name-reads
+use Rattle.snapshot.proofs.piece.byte.Reads as byte-reads
+use Rattle.snapshot.proofs.piece.name.Reads as name-reads
 use Rattle.snapshot.proofs.judge.wholes.Reads as wholes-reads
 
 name-requires : tie.Need-name-requires

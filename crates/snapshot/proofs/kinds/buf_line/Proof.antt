@@ -10,8 +10,8 @@ use Rattle.snapshot.proofs.kinds.buf_line.Statement.{statement}
 use Rattle.snapshot.proofs.kinds.buf_line.Tie as tie
 use Rattle.snapshot.proofs.kinds.buf_line.Reads as reads
 use Rattle.snapshot.proofs.kinds.buf_line.Lts as lts
-use Rattle.snapshot.proofs.judge.byte.Reads as byte-reads
-use Rattle.snapshot.proofs.judge.name.Reads as name-reads
+use Rattle.snapshot.proofs.piece.byte.Reads as byte-reads
+use Rattle.snapshot.proofs.piece.name.Reads as name-reads
 use Rattle.snapshot.proofs.judge.next_field.Reads as next-field-reads
 use Rattle.snapshot.proofs.judge.singles.Reads as singles-reads
 

@@ -10,8 +10,8 @@ use Rattle.snapshot.proofs.settings.set_line.Statement.{statement}
 use Rattle.snapshot.proofs.settings.set_line.Tie as tie
 use Rattle.snapshot.proofs.settings.set_line.Reads as reads
 use Rattle.snapshot.proofs.settings.set_line.Lts as lts
-use Rattle.snapshot.proofs.judge.byte.Reads as byte-reads
-use Rattle.snapshot.proofs.judge.name.Reads as name-reads
+use Rattle.snapshot.proofs.piece.byte.Reads as byte-reads
+use Rattle.snapshot.proofs.piece.name.Reads as name-reads
 use Rattle.snapshot.proofs.judge.wholes.Reads as wholes-reads
 use Rattle.snapshot.proofs.settings.method_of.Reads as method-of-reads
 use Rattle.snapshot.proofs.settings.mode_at.Reads as mode-at-reads

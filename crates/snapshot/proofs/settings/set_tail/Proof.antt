@@ -9,7 +9,7 @@ use Rattle.snapshot.proofs.settings.set_tail.Statement.{statement}
 use Rattle.snapshot.proofs.settings.set_tail.Tie as tie
 use Rattle.snapshot.proofs.settings.set_tail.Reads as reads
 use Rattle.snapshot.proofs.settings.set_tail.Lts as lts
-use Rattle.snapshot.proofs.judge.byte.Reads as byte-reads
+use Rattle.snapshot.proofs.piece.byte.Reads as byte-reads
 use Rattle.snapshot.proofs.judge.next_field.Reads as next-field-reads
 
 next-field-requires : tie.Need-next-field-requires

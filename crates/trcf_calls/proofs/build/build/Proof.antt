@@ -23,7 +23,8 @@ no-head-requires c κs = tt
 
 returns : tie.Need-returns
 returns c =
-    let a = c .before .before .before .before .before .before .before .before .before .before .before .args in
+    let c8 = c .before .before .before .before .before .before .before .before in
+    let a = c8 .before .before .before .args in
     let s = settingsFrom (a .builder) (a .weights .now) (a .codes .now) in
     let l = lent (a .statistics .now) (a .last-shingled-input .now) (a .last-shingled-point .now) (a .previous-timestamps .now) (a .initial-values .now) (a .initial-timestamps .now) in
     let e = c .before .before .settings-row .ensures .0 in
@@ -52,60 +53,125 @@ same-length-4 c = refl
 
 returns-2 : tie.Need-returns-2
 returns-2 c =
-    let a = c .before .before .before .before .before .before .before .before .before .before .before .before .before .before .before .before .before .before .args in
+    let c8 = c .before .before .before .before .before .before .before .before in
+    let c16 = c8 .before .before .before .before .before .before .before .before in
+    let a = c16 .before .before .args in
     let s = settingsFrom (a .builder) (a .weights .now) (a .codes .now) in
     let l = lent (a .statistics .now) (a .last-shingled-input .now) (a .last-shingled-point .now) (a .previous-timestamps .now) (a .initial-values .now) (a .initial-timestamps .now) in
-    let e = c .before .before .before .before .before .before .before .before .before .settings-row .ensures .0 in
-    let f : c .before .before .held-row .result ≡ lentRow (headFrom s) l = held-known (c .before .before .held-row .ensures .0) (rw (c .before .before .before .before .before .before .before .head-from .ensures) (bounded-from s (c .before .before .before .before .before .before .before .before .before .settings-row .ensures .1 (c .before .before .before .before .before .before .before .before .if1 .left) .bounded))) ∙ ap (λ (h : Preprocessor). lentRow h l) (c .before .before .before .before .before .before .before .head-from .ensures) in
+    let e = c8 .before .settings-row .ensures .0 in
+    let f : c .before .before .held-row .result ≡ lentRow (headFrom s) l = held-known (c .before .before .held-row .ensures .0)
+    (rw (c .before .before .before .before .before .before .before .head-from .ensures)
+    (bounded-from s (c8 .before .settings-row .ensures .1 (c .before .before .before .before .before .before .before .before .if1 .left) .bounded))) ∙ ap (λ (h : Preprocessor). lentRow h l)
+    (c .before .before .before .before .before .before .before .head-from .ensures) in
     rw (c .no-head2 .ensures, f) (build-short s l (sym e ∙ c .before .before .before .before .before .before .before .before .if1 .left) (λ z. c .before .if2 .taken (f ∙ z)))
 
 get-dimension-requires : tie.Need-get-dimension-requires
 get-dimension-requires c κs = tt
 
 mul-zero-f64 : tie.Need-mul-zero-f64
-mul-zero-f64 c = five (c .before .before .before .before .before .before .before .before .before .settings-row .ensures .1 (c .before .before .before .before .before .before .before .before .if1 .left) .bounded .d-few)
+mul-zero-f64 c =
+    let c8 = c .before .before .before .before .before .before .before .before in
+    five (c8 .before .settings-row .ensures .1 (c .before .before .before .before .before .before .before .before .if1 .left) .bounded .d-few)
 
 add-zero-f64 : tie.Need-add-zero-f64
-add-zero-f64 c = five-more (c .before .before .before .before .before .before .before .before .before .settings-row .ensures .1 (c .before .before .before .before .before .before .before .before .if1 .left) .bounded .d-few)
+add-zero-f64 c =
+    let c8 = c .before .before .before .before .before .before .before .before in
+    five-more (c8 .before .settings-row .ensures .1 (c .before .before .before .before .before .before .before .before .if1 .left) .bounded .d-few)
 
 mul-zero-f64-2 : tie.Need-mul-zero-f64-2
-mul-zero-f64-2 c = all-statistics (c .before .before .before .before .before .before .before .before .before .settings-row .ensures .1 (c .before .before .before .before .before .before .before .before .if1 .left) .bounded .d-few)
+mul-zero-f64-2 c =
+    let c8 = c .before .before .before .before .before .before .before .before in
+    all-statistics (c8 .before .settings-row .ensures .1 (c .before .before .before .before .before .before .before .before .if1 .left) .bounded .d-few)
 
 slice-relend-prefix-zero-f64 : tie.Need-slice-relend-prefix-zero-f64
-slice-relend-prefix-zero-f64 c = let r = (rw (c .before .before .before .before .before .before .before .head-from .ensures) at (c .before .before .held-row .ensures .1 (c .before .if2 .left) .fitted)) in omega (arith, r .roomy)
+slice-relend-prefix-zero-f64 c =
+    let r = (rw (c .before .before .before .before .before .before .before .head-from .ensures) at (c .before .before .held-row .ensures .1 (c .before .if2 .left) .fitted)) in
+    omega (arith, r .roomy)
 
 slice-aggregate-zero-f64 : tie.Need-slice-aggregate-zero-f64
-slice-aggregate-zero-f64 c = let r = (rw (c .before .before .before .before .before .before .before .before .head-from .ensures) at (c .before .before .before .held-row .ensures .1 (c .before .before .if2 .left) .fitted)) in simp length-take (omega (arith, r .roomy))
+slice-aggregate-zero-f64 c =
+    let r = (rw (c .before .before .before .before .before .before .before .before .head-from .ensures) at
+    (c .before .before .before .held-row .ensures .1 (c .before .before .if2 .left) .fitted)) in
+    simp length-take (omega (arith, r .roomy))
 
 zero-f64-requires : tie.Need-zero-f64-requires
 zero-f64-requires c κs = tt
 
 mul-zero-f32 : tie.Need-mul-zero-f32
-mul-zero-f32 c = let r = c .before .before .before .before .before .before .before .before .before .before .before .before .before .settings-row .ensures .1 (c .before .before .before .before .before .before .before .before .before .before .before .before .if1 .left) in all-inputs (r .bounded .d-few) (r .bounded .k-few)
+mul-zero-f32 c =
+    let c8 = c .before .before .before .before .before .before .before .before in
+    let r = c8 .before .before .before .before .before .settings-row .ensures .1 (c8 .before .before .before .before .if1 .left) in all-inputs (r .bounded .d-few) (r .bounded .k-few)
 
 slice-relend-prefix-zero-f32 : tie.Need-slice-relend-prefix-zero-f32
-slice-relend-prefix-zero-f32 c = let r = (rw (c .before .before .before .before .before .before .before .before .before .before .before .head-from .ensures) at (c .before .before .before .before .before .before .held-row .ensures .1 (c .before .before .before .before .before .if2 .left) .fitted)) in omega (arith, r .roomy)
+slice-relend-prefix-zero-f32 c =
+    let c8 = c .before .before .before .before .before .before .before .before in
+    let r = (rw (c8 .before .before .before .head-from .ensures) at
+    (c .before .before .before .before .before .before .held-row .ensures .1 (c .before .before .before .before .before .if2 .left) .fitted)) in
+    omega (arith, r .roomy)
 
 slice-aggregate-zero-f32 : tie.Need-slice-aggregate-zero-f32
-slice-aggregate-zero-f32 c = let r = (rw (c .before .before .before .before .before .before .before .before .before .before .before .before .head-from .ensures) at (c .before .before .before .before .before .before .before .held-row .ensures .1 (c .before .before .before .before .before .before .if2 .left) .fitted)) in simp length-take (omega (arith, r .roomy))
+slice-aggregate-zero-f32 c =
+    let c8 = c .before .before .before .before .before .before .before .before in
+    let r = (rw (c8 .before .before .before .before .head-from .ensures) at
+    (c .before .before .before .before .before .before .before .held-row .ensures .1 (c .before .before .before .before .before .before .if2 .left) .fitted)) in
+    simp length-take (omega (arith, r .roomy))
 
 zero-f32-requires : tie.Need-zero-f32-requires
 zero-f32-requires c κs = tt
 
 slice-relend-prefix-zero-f32-2 : tie.Need-slice-relend-prefix-zero-f32-2
-slice-relend-prefix-zero-f32-2 c = let r = (rw (c .before .before .before .before .before .before .before .before .before .before .before .before .before .before .before .head-from .ensures) at (c .before .before .before .before .before .before .before .before .before .before .held-row .ensures .1 (c .before .before .before .before .before .before .before .before .before .if2 .left) .fitted)) in omega (arith, r .roomy, (rw (c .before .before .before .before .before .before .before .before .before .before .before .before .before .before .before .head-from .ensures) at ((dimension-known (c .before .before .before .before .before .before .before .before .get-dimension .ensures) (let a = c .before .before .before .before .before .before .before .before .before .before .before .before .before .before .before .before .before .before .before .before .before .before .before .before .before .before .args in let s = settingsFrom (a .builder) (a .weights .now) (a .codes .now) in let l = lent (a .statistics .now) (a .last-shingled-input .now) (a .last-shingled-point .now) (a .previous-timestamps .now) (a .initial-values .now) (a .initial-timestamps .now) in rw (c .before .before .before .before .before .before .before .before .before .before .before .before .before .before .before .head-from .ensures) (bounded-from s (c .before .before .before .before .before .before .before .before .before .before .before .before .before .before .before .before .before .settings-row .ensures .1 (c .before .before .before .before .before .before .before .before .before .before .before .before .before .before .before .before .if1 .left) .bounded)))) .0)))
+slice-relend-prefix-zero-f32-2 c =
+    let c8 = c .before .before .before .before .before .before .before .before in
+    let c16 = c8 .before .before .before .before .before .before .before .before in
+    let c24 = c16 .before .before .before .before .before .before .before .before in
+    let r = (rw (c8 .before .before .before .before .before .before .before .head-from .ensures) at (c8 .before .before .held-row .ensures .1 (c8 .before .if2 .left) .fitted)) in
+    omega (
+      arith,
+      r .roomy,
+      (rw (c8 .before .before .before .before .before .before .before .head-from .ensures) at
+          ((dimension-known (c .before .before .before .before .before .before .before .before .get-dimension .ensures)
+          (let a = c24 .before .before .args in let s = settingsFrom (a .builder) (a .weights .now) (a .codes .now) in let l = lent (a .statistics .now) (a .last-shingled-input .now)
+          (a .last-shingled-point .now) (a .previous-timestamps .now) (a .initial-values .now) (a .initial-timestamps .now) in rw
+          (c8 .before .before .before .before .before .before .before .head-from .ensures)
+          (bounded-from s (c16 .before .settings-row .ensures .1 (c8 .before .before .before .before .before .before .before .before .if1 .left) .bounded)))) .0)),
+    )
 
 slice-aggregate-zero-f32-2 : tie.Need-slice-aggregate-zero-f32-2
-slice-aggregate-zero-f32-2 c = let r = (rw (c .before .before .before .before .before .before .before .before .before .before .before .before .before .before .before .before .head-from .ensures) at (c .before .before .before .before .before .before .before .before .before .before .before .held-row .ensures .1 (c .before .before .before .before .before .before .before .before .before .before .if2 .left) .fitted)) in simp length-take (omega (arith, r .roomy, (rw (c .before .before .before .before .before .before .before .before .before .before .before .before .before .before .before .before .head-from .ensures) at ((dimension-known (c .before .before .before .before .before .before .before .before .before .get-dimension .ensures) (let a = c .before .before .before .before .before .before .before .before .before .before .before .before .before .before .before .before .before .before .before .before .before .before .before .before .before .before .before .args in let s = settingsFrom (a .builder) (a .weights .now) (a .codes .now) in let l = lent (a .statistics .now) (a .last-shingled-input .now) (a .last-shingled-point .now) (a .previous-timestamps .now) (a .initial-values .now) (a .initial-timestamps .now) in rw (c .before .before .before .before .before .before .before .before .before .before .before .before .before .before .before .before .head-from .ensures) (bounded-from s (c .before .before .before .before .before .before .before .before .before .before .before .before .before .before .before .before .before .before .settings-row .ensures .1 (c .before .before .before .before .before .before .before .before .before .before .before .before .before .before .before .before .before .if1 .left) .bounded)))) .0))))
+slice-aggregate-zero-f32-2 c =
+    let c8 = c .before .before .before .before .before .before .before .before in
+    let c16 = c8 .before .before .before .before .before .before .before .before in
+    let c24 = c16 .before .before .before .before .before .before .before .before in
+    let r = (rw (c8 .before .before .before .before .before .before .before .before .head-from .ensures) at
+    (c8 .before .before .before .held-row .ensures .1 (c8 .before .before .if2 .left) .fitted)) in
+    simp length-take (omega (
+      arith,
+      r .roomy,
+      (rw (c8 .before .before .before .before .before .before .before .before .head-from .ensures) at
+          ((dimension-known (c8 .before .get-dimension .ensures)
+          (let a = c24 .before .before .before .args in let s = settingsFrom (a .builder) (a .weights .now) (a .codes .now) in let l = lent (a .statistics .now) (a .last-shingled-input .now)
+          (a .last-shingled-point .now) (a .previous-timestamps .now) (a .initial-values .now) (a .initial-timestamps .now) in rw
+          (c8 .before .before .before .before .before .before .before .before .head-from .ensures)
+          (bounded-from s (c16 .before .before .settings-row .ensures .1 (c16 .before .if1 .left) .bounded)))) .0)),
+    ))
 
 zero-f32-requires-2 : tie.Need-zero-f32-requires-2
 zero-f32-requires-2 c κs = tt
 
 slice-relend-prefix-zero-u64 : tie.Need-slice-relend-prefix-zero-u64
-slice-relend-prefix-zero-u64 c = let r = (rw (c .before .before .before .before .before .before .before .before .before .before .before .before .before .before .before .before .before .before .before .head-from .ensures) at (c .before .before .before .before .before .before .before .before .before .before .before .before .before .before .held-row .ensures .1 (c .before .before .before .before .before .before .before .before .before .before .before .before .before .if2 .left) .fitted)) in omega (arith, r .roomy)
+slice-relend-prefix-zero-u64 c =
+    let c8 = c .before .before .before .before .before .before .before .before in
+    let c16 = c8 .before .before .before .before .before .before .before .before in
+    let r = (rw (c16 .before .before .before .head-from .ensures) at
+    (c8 .before .before .before .before .before .before .held-row .ensures .1 (c8 .before .before .before .before .before .if2 .left) .fitted)) in
+    omega (arith, r .roomy)
 
 slice-aggregate-zero-u64 : tie.Need-slice-aggregate-zero-u64
-slice-aggregate-zero-u64 c = let r = (rw (c .before .before .before .before .before .before .before .before .before .before .before .before .before .before .before .before .before .before .before .before .head-from .ensures) at (c .before .before .before .before .before .before .before .before .before .before .before .before .before .before .before .held-row .ensures .1 (c .before .before .before .before .before .before .before .before .before .before .before .before .before .before .if2 .left) .fitted)) in simp length-take (omega (arith, r .roomy))
+slice-aggregate-zero-u64 c =
+    let c8 = c .before .before .before .before .before .before .before .before in
+    let c16 = c8 .before .before .before .before .before .before .before .before in
+    let r = (rw (c16 .before .before .before .before .head-from .ensures) at
+    (c8 .before .before .before .before .before .before .before .held-row .ensures .1 (c8 .before .before .before .before .before .before .if2 .left) .fitted)) in
+    simp length-take (omega (arith, r .roomy))
 
 zero-u64-requires : tie.Need-zero-u64-requires
 zero-u64-requires c κs = tt
@@ -124,14 +190,36 @@ same-length-8 c = search needs
 
 returns-3 : tie.Need-returns-3
 returns-3 c =
-    let a = c .before .before .before .before .before .before .before .before .before .before .before .before .before .before .before .before .before .before .before .before .before .before .before .before .before .before .before .before .before .before .before .before .before .before .args in
+    let c8 = c .before .before .before .before .before .before .before .before in
+    let c16 = c8 .before .before .before .before .before .before .before .before in
+    let c24 = c16 .before .before .before .before .before .before .before .before in
+    let c32 = c24 .before .before .before .before .before .before .before .before in
+    let a = c32 .before .before .args in
     let s = settingsFrom (a .builder) (a .weights .now) (a .codes .now) in
     let l = lent (a .statistics .now) (a .last-shingled-input .now) (a .last-shingled-point .now) (a .previous-timestamps .now) (a .initial-values .now) (a .initial-timestamps .now) in
-    let e = c .before .before .before .before .before .before .before .before .before .before .before .before .before .before .before .before .before .before .before .before .before .before .before .before .before .settings-row .ensures .0 in
-    let f : c .before .before .before .before .before .before .before .before .before .before .before .before .before .before .before .before .before .before .held-row .result ≡ lentRow (headFrom s) l = held-known (c .before .before .before .before .before .before .before .before .before .before .before .before .before .before .before .before .before .before .held-row .ensures .0) (rw (c .before .before .before .before .before .before .before .before .before .before .before .before .before .before .before .before .before .before .before .before .before .before .before .head-from .ensures) (bounded-from s (c .before .before .before .before .before .before .before .before .before .before .before .before .before .before .before .before .before .before .before .before .before .before .before .before .before .settings-row .ensures .1 (c .before .before .before .before .before .before .before .before .before .before .before .before .before .before .before .before .before .before .before .before .before .before .before .before .if1 .left) .bounded))) ∙ ap (λ (h : Preprocessor). lentRow h l) (c .before .before .before .before .before .before .before .before .before .before .before .before .before .before .before .before .before .before .before .before .before .before .before .head-from .ensures) in
-    let r = (rw (c .before .before .before .before .before .before .before .before .before .before .before .before .before .before .before .before .before .before .before .before .before .before .before .head-from .ensures) at (c .before .before .before .before .before .before .before .before .before .before .before .before .before .before .before .before .before .before .held-row .ensures .1 (c .before .before .before .before .before .before .before .before .before .before .before .before .before .before .before .before .before .if2 .left) .fitted)) .roomy in
-    let n : c .before .before .before .before .before .before .before .before .before .before .before .before .before .before .before .before .get-dimension .result ≡ dimension s = (rw (c .before .before .before .before .before .before .before .before .before .before .before .before .before .before .before .before .before .before .before .before .before .before .before .head-from .ensures) at ((dimension-known (c .before .before .before .before .before .before .before .before .before .before .before .before .before .before .before .before .get-dimension .ensures) (let a = c .before .before .before .before .before .before .before .before .before .before .before .before .before .before .before .before .before .before .before .before .before .before .before .before .before .before .before .before .before .before .before .before .before .before .args in let s = settingsFrom (a .builder) (a .weights .now) (a .codes .now) in let l = lent (a .statistics .now) (a .last-shingled-input .now) (a .last-shingled-point .now) (a .previous-timestamps .now) (a .initial-values .now) (a .initial-timestamps .now) in rw (c .before .before .before .before .before .before .before .before .before .before .before .before .before .before .before .before .before .before .before .before .before .before .before .head-from .ensures) (bounded-from s (c .before .before .before .before .before .before .before .before .before .before .before .before .before .before .before .before .before .before .before .before .before .before .before .before .before .settings-row .ensures .1 (c .before .before .before .before .before .before .before .before .before .before .before .before .before .before .before .before .before .before .before .before .before .before .before .before .if1 .left) .bounded)))) .0)) ∙ dimension-from s in
-    rw (c .before .before .before .before .before .before .before .before .before .before .before .before .before .before .zero-f64 .ensures, c .before .before .before .before .before .before .before .before .before .before .zero-f32 .ensures, c .before .before .before .before .before .before .zero-f322 .ensures, c .before .before .zero-u64 .ensures, n, c .before .before .before .before .before .before .before .before .before .before .before .before .before .before .before .before .before .before .before .before .before .before .before .head-from .ensures) (build-done s l (sym e ∙ c .before .before .before .before .before .before .before .before .before .before .before .before .before .before .before .before .before .before .before .before .before .before .before .before .if1 .left) (sym f ∙ c .before .before .before .before .before .before .before .before .before .before .before .before .before .before .before .before .before .if2 .left) (r .in-statistics) (r .in-input) (rw (← dimension-from s) (r .in-point)) (r .in-times))
+    let e = c24 .before .settings-row .ensures .0 in
+    let f : c16 .before .before .held-row .result ≡ lentRow (headFrom s) l = held-known (c16 .before .before .held-row .ensures .0)
+    (rw (c16 .before .before .before .before .before .before .before .head-from .ensures)
+    (bounded-from s (c24 .before .settings-row .ensures .1 (c16 .before .before .before .before .before .before .before .before .if1 .left) .bounded))) ∙ ap
+    (λ (h : Preprocessor). lentRow h l) (c16 .before .before .before .before .before .before .before .head-from .ensures) in
+    let r = (rw (c16 .before .before .before .before .before .before .before .head-from .ensures) at (c16 .before .before .held-row .ensures .1 (c16 .before .if2 .left) .fitted)) .roomy in
+    let n : c8 .before .before .before .before .before .before .before .before .get-dimension .result ≡ dimension s =
+    (rw (c16 .before .before .before .before .before .before .before .head-from .ensures) at
+    ((dimension-known (c8 .before .before .before .before .before .before .before .before .get-dimension .ensures)
+    (let a = c32 .before .before .args in let s = settingsFrom (a .builder) (a .weights .now) (a .codes .now) in let l = lent (a .statistics .now) (a .last-shingled-input .now)
+    (a .last-shingled-point .now) (a .previous-timestamps .now) (a .initial-values .now) (a .initial-timestamps .now) in rw
+    (c16 .before .before .before .before .before .before .before .head-from .ensures)
+    (bounded-from s (c24 .before .settings-row .ensures .1 (c16 .before .before .before .before .before .before .before .before .if1 .left) .bounded)))) .0)) ∙ dimension-from s in
+    rw (
+      c8 .before .before .before .before .before .before .zero-f64 .ensures,
+      c8 .before .before .zero-f32 .ensures,
+      c .before .before .before .before .before .before .zero-f322 .ensures,
+      c .before .before .zero-u64 .ensures,
+      n,
+      c16 .before .before .before .before .before .before .before .head-from .ensures,
+    )
+    (build-done s l (sym e ∙ c16 .before .before .before .before .before .before .before .before .if1 .left) (sym f ∙ c16 .before .if2 .left) (r .in-statistics) (r .in-input)
+    (rw (← dimension-from s) (r .in-point)) (r .in-times))
 
 pub build-spec : {M : Type 1} → statement M
 build-spec =

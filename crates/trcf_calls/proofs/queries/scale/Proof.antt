@@ -21,7 +21,8 @@ same-length c = refl
 
 returns : tie.Need-returns
 returns c =
-    let a = c .before .before .before .before .before .before .before .before .before .before .args in
+    let c8 = c .before .before .before .before .before .before .before .before in
+    let a = c8 .before .before .args in
     let l = lent (a .statistics .now) (a .last-shingled-input .now) (a .last-shingled-point .now) (a .previous-timestamps .now) (a .initial-values .now) (a .initial-timestamps .now) in
     write-stays (a .head) l (scale (a .output .now)) (a .output .now) (c .before .write-row .result) (c .before .write-row .ensures .0) (c .if1 .taken)
 
@@ -46,9 +47,20 @@ same-length-2 c = c .before .before .write-scale .kept .1 .1 .0
 returns-2 : tie.Need-returns-2
 unfolding reply view scaleOf
 returns-2 c =
-    let a = c .before .before .before .before .before .before .before .before .before .before .before .before .before .before .before .before .args in
+    let c8 = c .before .before .before .before .before .before .before .before in
+    let a = c8 .before .before .before .before .before .before .before .before .args in
     let l = lent (a .statistics .now) (a .last-shingled-input .now) (a .last-shingled-point .now) (a .previous-timestamps .now) (a .initial-values .now) (a .initial-timestamps .now) in
-    write-goes (a .head) l (scale (a .output .now)) (a .output .now) (c .before .before .before .before .before .before .before .write-row .result) (c .before .before .before .before .before .before .before .write-row .ensures .0) (c .before .before .before .before .before .before .if1 .left) _ _ ((opened _ (c .before .before .write-scale .ensures) (output-fits (let r = c .before .before .before .before .before .before .before .write-row .ensures .1 .0 (c .before .before .before .before .before .before .if1 .left) in (r .bounded, (length-take-le _ _ (r .fitted .roomy .in-statistics), c .before .before .before .before .before .before .before .write-row .ensures .1 .1 (c .before .before .before .before .before .before .if1 .left))))))) refl
+    write-goes (a .head) l (scale (a .output .now)) (a .output .now) (c .before .before .before .before .before .before .before .write-row .result)
+    (c .before .before .before .before .before .before .before .write-row .ensures .0) (c .before .before .before .before .before .before .if1 .left) _ _
+    ((opened _ (c .before .before .write-scale .ensures)
+    (output-fits (let r = c .before .before .before .before .before .before .before .write-row .ensures .1 .0 (c .before .before .before .before .before .before .if1 .left) in (
+      r .bounded,
+      (
+        length-take-le _ _ (r .fitted .roomy .in-statistics),
+        c .before .before .before .before .before .before .before .write-row .ensures .1 .1
+            (c .before .before .before .before .before .before .if1 .left),
+      ),
+    ))))) refl
 
 pub scale-spec : {M : Type 1} → statement M
 scale-spec =

@@ -19,7 +19,9 @@ same-length : tie.Need-same-length
 same-length c = c .before .before .before .before .before .before .difference-deviations .kept .1 .1 .1 .1 .1 .1 .1 .0
 
 returns : tie.Need-returns
-returns c = rw (c .panel .ensures, c .before .get-dimension .ensures, c .before .before .is-ready .ensures) (status-told _ _ _ _ (c .before .before .before .before .before .before .difference-deviations .ensures))
+returns c =
+    rw (c .panel .ensures, c .before .get-dimension .ensures, c .before .before .is-ready .ensures)
+    (status-told _ _ _ _ (c .before .before .before .before .before .before .difference-deviations .ensures))
 
 pub status-spec : {M : Type 1} → statement M
 status-spec =

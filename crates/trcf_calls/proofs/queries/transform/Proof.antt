@@ -22,9 +22,11 @@ same-length c = search needs
 
 returns : tie.Need-returns
 returns c =
-    let a = c .before .before .before .before .before .before .before .before .before .before .before .args in
+    let c8 = c .before .before .before .before .before .before .before .before in
+    let a = c8 .before .before .before .args in
     let l = lent (a .statistics .now) (a .last-shingled-input .now) (a .last-shingled-point .now) (a .previous-timestamps .now) (a .initial-values .now) (a .initial-timestamps .now) in
-    write-stays (a .head) l (transform (a .input .now) (a .timestamp) (a .output .now)) (a .output .now) (c .before .transform-row .result) (c .before .transform-row .ensures .0 (a .timestamp)) (c .if1 .taken)
+    write-stays (a .head) l (transform (a .input .now) (a .timestamp) (a .output .now)) (a .output .now) (c .before .transform-row .result)
+    (c .before .transform-row .ensures .0 (a .timestamp)) (c .if1 .taken)
 
 mul-write-transform : tie.Need-mul-write-transform
 mul-write-transform c = five (c .before .before .transform-row .ensures .1 .0 (c .before .if1 .left) .bounded .d-few)
@@ -45,7 +47,8 @@ slice-aggregate-write-transform-2 : tie.Need-slice-aggregate-write-transform-2
 slice-aggregate-write-transform-2 c = sym (length-take-le _ _ (c .before .before .before .before .transform-row .ensures .1 .0 (c .before .before .before .if1 .left) .fitted .roomy .in-input))
 
 slice-aggregate-write-transform-3 : tie.Need-slice-aggregate-write-transform-3
-slice-aggregate-write-transform-3 c = sym (length-take-le _ _ (c .before .before .before .before .before .transform-row .ensures .1 .0 (c .before .before .before .before .if1 .left) .fitted .roomy .in-times))
+slice-aggregate-write-transform-3 c =
+    sym (length-take-le _ _ (c .before .before .before .before .before .transform-row .ensures .1 .0 (c .before .before .before .before .if1 .left) .fitted .roomy .in-times))
 
 write-transform-requires : tie.Need-write-transform-requires
 write-transform-requires c κs = tt
@@ -56,9 +59,24 @@ same-length-2 c = search needs
 returns-2 : tie.Need-returns-2
 unfolding reply view previous
 returns-2 c =
-    let a = c .before .before .before .before .before .before .before .before .before .before .before .before .before .before .before .before .before .before .before .args in
+    let c8 = c .before .before .before .before .before .before .before .before in
+    let c16 = c8 .before .before .before .before .before .before .before .before in
+    let a = c16 .before .before .before .args in
     let l = lent (a .statistics .now) (a .last-shingled-input .now) (a .last-shingled-point .now) (a .previous-timestamps .now) (a .initial-values .now) (a .initial-timestamps .now) in
-    write-goes (a .head) l (transform (a .input .now) (a .timestamp) (a .output .now)) (a .output .now) (c .before .before .before .before .before .before .before .before .before .transform-row .result) (c .before .before .before .before .before .before .before .before .before .transform-row .ensures .0 (a .timestamp)) (c .before .before .before .before .before .before .before .before .if1 .left) _ _ ((opened _ (c .before .before .write-transform .ensures) (transform-fits (let r = c .before .before .before .before .before .before .before .before .before .transform-row .ensures .1 .0 (c .before .before .before .before .before .before .before .before .if1 .left) in let f = r .fitted .roomy in (r .bounded, (record { all-statistics = length-take-le _ _ (f .in-statistics); all-input = length-take-le _ _ (f .in-input); all-times = length-take-le _ _ (f .in-times) }, (c .before .before .before .before .before .before .before .before .before .transform-row .ensures .1 .1 .0 (c .before .before .before .before .before .before .before .before .if1 .left), c .before .before .before .before .before .before .before .before .before .transform-row .ensures .1 .1 .1 (c .before .before .before .before .before .before .before .before .if1 .left)))))))) refl
+    write-goes (a .head) l (transform (a .input .now) (a .timestamp) (a .output .now)) (a .output .now) (c8 .before .transform-row .result)
+    (c8 .before .transform-row .ensures .0 (a .timestamp)) (c .before .before .before .before .before .before .before .before .if1 .left) _ _
+    ((opened _ (c .before .before .write-transform .ensures)
+    (transform-fits (let r = c8 .before .transform-row .ensures .1 .0 (c .before .before .before .before .before .before .before .before .if1 .left) in let f = r .fitted .roomy in (
+      r .bounded,
+      (
+        record { all-statistics = length-take-le _ _ (f .in-statistics); all-input = length-take-le _ _ (f .in-input); all-times = length-take-le _ _ (f .in-times) },
+        (
+          c8 .before .transform-row .ensures .1 .1 .0 (c .before .before .before .before .before .before .before .before .if1 .left),
+          c8 .before .transform-row .ensures .1 .1 .1
+              (c .before .before .before .before .before .before .before .before .if1 .left),
+        ),
+      ),
+    ))))) refl
 
 pub transform-spec : {M : Type 1} → statement M
 transform-spec =

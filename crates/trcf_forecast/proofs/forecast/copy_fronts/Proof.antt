@@ -97,13 +97,17 @@ loop-less c =
 
 loop-again : tie.Need-loop-again Inv-loop μ-loop
 loop-again c =
-    let A = c .before .before .before .before .before .before .before .before .before .args in
+    let c8 = c .before .before .before .before .before .before .before .before in
+    let A = c8 .before .args in
     let L = c .before .before .before .before .before .before .loop in
-    let P = c .before .before .before .before .before .before .before .before .before .pre in
+    let P = c8 .before .pre in
     let w = turn-within (L .i) (A .h) (A .a) (length (A .src .now)) (c .before .before .before .before .before .loop-test .taken) (P .0) in
     let e : L .i * A .a + A .m - L .i * A .a ≡ A .m = omega arith in (
       omega arith,
-      (roomy _ (c .before .before .copy-in .ensures) (let A = c .before .before .before .before .before .before .before .before .before .args in let L = c .before .before .before .before .before .before .loop in let P = c .before .before .before .before .before .before .before .before .before .pre in let w = turn-within (L .i) (A .h) (A .a) (length (A .src .now)) (c .before .before .before .before .before .loop-test .taken) (P .0) in let v = turn-within (L .i) (A .h) (A .m) (length (A .dst .now)) (c .before .before .before .before .before .loop-test .taken) (omega (arith, P .2)) in simp (length-take, length-drop) (omega (arith, P .1, L .inv .2))))
+      (roomy _ (c .before .before .copy-in .ensures)
+          (let A = c8 .before .args in let L = c .before .before .before .before .before .before .loop in let P = c8 .before .pre in let w = turn-within (L .i) (A .h) (A .a)
+          (length (A .src .now)) (c .before .before .before .before .before .loop-test .taken) (P .0) in let v = turn-within (L .i) (A .h) (A .m) (length (A .dst .now))
+          (c .before .before .before .before .before .loop-test .taken) (omega (arith, P .2)) in simp (length-take, length-drop) (omega (arith, P .1, L .inv .2))))
           ∙ fronts-more (A .a) (A .m) (L .i) (A .h) (A .src .now) (A .dst .now) (L .dst) _ (omega (arith, P .1)) (P .1) (c .before .before .before .before .before .loop-test .taken) (P .2) (L .inv .1)
           (ap (λ k. take k (drop (L .i * A .a) (A .src .now))) e),
       omega arith,

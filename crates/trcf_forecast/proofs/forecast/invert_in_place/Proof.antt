@@ -48,8 +48,10 @@ same-length-3 c = c .before .before .before .before .before .before .invert-fore
 
 returns : tie.Need-returns
 returns c =
-    let A = c .before .before .before .before .before .before .before .before .before .before .before .before .before .before .before .before .before .args in
-    let P = c .before .before .before .before .before .before .before .before .before .before .before .before .before .before .before .before .before .pre in
+    let c8 = c .before .before .before .before .before .before .before .before in
+    let c16 = c8 .before .before .before .before .before .before .before .before in
+    let A = c16 .before .args in
+    let P = c16 .before .pre in
     let d = A .head .transformer .«input_length» in
     let w = input-within d (A .head .«shingle_size») (P .0 .k-pos) in
     let n : d ≤ length (A .inputs .now) = omega (arith, P .1 .0 .1) in

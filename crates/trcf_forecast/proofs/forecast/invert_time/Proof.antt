@@ -21,7 +21,8 @@ shift-requires c κs = tt
 returns : tie.Need-returns
 unfolding timeBy
 returns c =
-    c .shift .ensures ∙ (λ j. shifted binary64 (range (c .before .before .before .stretch .ensures j) (c .before .before .stretch2 .ensures j) (c .before .stretch3 .ensures j)) (c .before .before .before .before .args .drift))
+    c .shift .ensures ∙ (λ j. shifted binary64 (range (c .before .before .before .stretch .ensures j) (c .before .before .stretch2 .ensures j) (c .before .stretch3 .ensures j))
+    (c .before .before .before .before .args .drift))
 
 pub invert-time-spec : {M : Type 1} → statement M
 invert-time-spec =

@@ -14,8 +14,9 @@ use Rattle.trcf_forecast.proofs.forecast.invert_times.Tie as tie
 
 mul-m : tie.Need-mul-m
 mul-m c =
-    let p : c .before .before .before .before .before .before .before .before .before .args .head .transformer .«input_length» ≤ 16 = c .before .before .before .before .before .before .before .before .before .pre .0 .d-few in
-    let q : c .before .before .before .before .before .before .before .before .before .args .head .«shingle_size» ≤ 64 = c .before .before .before .before .before .before .before .before .before .pre .0 .k-few in
+    let c8 = c .before .before .before .before .before .before .before .before in
+    let p : c8 .before .args .head .transformer .«input_length» ≤ 16 = c8 .before .pre .0 .d-few in
+    let q : c8 .before .args .head .«shingle_size» ≤ 64 = c8 .before .pre .0 .k-few in
     omega (arith, mul-le-mul p q)
 
 get-dimension-requires : tie.Need-get-dimension-requires
@@ -32,8 +33,9 @@ timedrift-of-requires c κs = tt
 
 write-times-requires : tie.Need-write-times-requires
 write-times-requires c κs =
-    let A = c .before .before .before .before .before .before .before .before .before .before .before .before .before .before .before .before .args in
-    let P = c .before .before .before .before .before .before .before .before .before .before .before .before .before .before .before .before .pre in
+    let c8 = c .before .before .before .before .before .before .before .before in
+    let A = c8 .before .before .before .before .before .before .before .before .args in
+    let P = c8 .before .before .before .before .before .before .before .before .pre in
     let e = (dimension-known (c .before .before .before .before .before .before .get-dimension .ensures) (search needs)) .0 in
     let f = dimension-augmented (settingsOf (A .head)) (P .1 .1 .0) in (
       omega (arith, e, f, P .0 .k-pos),
@@ -50,24 +52,41 @@ cascaded-add-f64-requires : tie.Need-cascaded-add-f64-requires
 cascaded-add-f64-requires c κs = search needs
 
 same-length : tie.Need-same-length
-same-length c = c .before .before .before .before .before .before .cascaded-add-f64 .kept .0 ∙ c .before .before .before .before .before .before .before .before .before .before .before .before .before .before .before .before .before .before .write-times .kept .1 .1 .1 .1 .1 .1 .1 .1 .0
+same-length c =
+    let c8 = c .before .before .before .before .before .before .before .before in
+    let c16 = c8 .before .before .before .before .before .before .before .before in
+    c .before .before .before .before .before .before .cascaded-add-f64 .kept .0 ∙ c16 .before .before .write-times .kept .1 .1 .1 .1 .1 .1 .1 .1 .0
 
 same-length-2 : tie.Need-same-length-2
-same-length-2 c = c .before .before .before .before .before .before .cascaded-add-f64 .kept .1 .0 ∙ c .before .before .before .before .before .before .before .before .before .before .before .before .before .before .before .before .before .before .write-times .kept .1 .1 .1 .1 .1 .1 .1 .1 .1 .0
+same-length-2 c =
+    let c8 = c .before .before .before .before .before .before .before .before in
+    let c16 = c8 .before .before .before .before .before .before .before .before in
+    c .before .before .before .before .before .before .cascaded-add-f64 .kept .1 .0 ∙ c16 .before .before .write-times .kept .1 .1 .1 .1 .1 .1 .1 .1 .1 .0
 
 same-length-3 : tie.Need-same-length-3
-same-length-3 c = c .before .before .before .before .before .before .cascaded-add-f64 .kept .1 .1 .0 ∙ c .before .before .before .before .before .before .before .before .before .before .before .before .before .before .before .before .before .before .write-times .kept .1 .1 .1 .1 .1 .1 .1 .1 .1 .1 .0
+same-length-3 c =
+    let c8 = c .before .before .before .before .before .before .before .before in
+    let c16 = c8 .before .before .before .before .before .before .before .before in
+    c .before .before .before .before .before .before .cascaded-add-f64 .kept .1 .1 .0 ∙ c16 .before .before .write-times .kept .1 .1 .1 .1 .1 .1 .1 .1 .1 .1 .0
 
 returns : tie.Need-returns
 returns c =
-    let A = c .before .before .before .before .before .before .before .before .before .before .before .before .before .before .before .before .before .before .before .before .before .before .before .before .before .before .before .before .before .before .before .before .before .before .before .args in
-    let P = c .before .before .before .before .before .before .before .before .before .before .before .before .before .before .before .before .before .before .before .before .before .before .before .before .before .before .before .before .before .before .before .before .before .before .before .pre in
-    let W = c .before .before .before .before .before .before .before .before .before .before .before .before .before .before .before .before .before .before .write-times in
+    let c8 = c .before .before .before .before .before .before .before .before in
+    let c16 = c8 .before .before .before .before .before .before .before .before in
+    let c24 = c16 .before .before .before .before .before .before .before .before in
+    let c32 = c24 .before .before .before .before .before .before .before .before in
+    let A = c32 .before .before .before .args in
+    let P = c32 .before .before .before .pre in
+    let W = c16 .before .before .write-times in
     let n = length (A .«values-out» .now) in
     times-done (settingsOf (A .head)) (A .s .now) (ranges (A .values .now) (A .upper .now) (A .lower .now))
     (ranges (W .last .1 .1 .1 .1 .1 .1 .1 .1 .0) (W .last .1 .1 .1 .1 .1 .1 .1 .1 .1 .0) (W .last .1 .1 .1 .1 .1 .1 .1 .1 .1 .1 .0)) _
-    (c .before .before .before .before .before .before .before .before .before .before .before .before .before .before .before .before .before .before .before .before .before .before .before .before .time-factor .result) (c .before .before .before .before .before .before .before .before .before .before .before .before .before .before .before .before .before .before .before .before .before .before .before .timescale-of .result) (c .before .before .before .before .before .before .before .before .before .before .before .before .before .before .before .before .before .before .before .before .before .before .timedrift-of .result) (c .before .before .before .before .before .before .before .before .before .before .before .u64-to-f64 .result) (A .last) (c .before .before .before .before .before .before .before .before .before .before .before .before .before .before .before .before .before .before .before .before .before .before .before .before .before .get-dimension .result) _ n _
-    (c .before .before .before .before .before .before .before .before .before .before .before .before .before .before .before .before .before .before .before .before .before .before .before .before .time-factor .ensures) ((opened _ (c .before .before .before .before .before .before .before .before .before .before .before .before .before .before .before .before .before .before .before .before .before .before .before .timescale-of .ensures) (time-fits (P .0) (P .1 .0)))) ((opened _ (c .before .before .before .before .before .before .before .before .before .before .before .before .before .before .before .before .before .before .before .before .before .before .timedrift-of .ensures) (time-fits (P .0) (P .1 .0)))) ((dimension-known (c .before .before .before .before .before .before .before .before .before .before .before .before .before .before .before .before .before .before .before .before .before .before .before .before .before .get-dimension .ensures) (search needs)) .0) (c .before .before .before .before .before .before .before .before .before .before .before .u64-to-f64 .ensures) (W .ensures) (P .1 .1 .1 .0)
+    (c16 .before .before .before .before .before .before .before .before .time-factor .result) (c16 .before .before .before .before .before .before .before .timescale-of .result)
+    (c16 .before .before .before .before .before .before .timedrift-of .result) (c8 .before .before .before .u64-to-f64 .result) (A .last) (c24 .before .get-dimension .result) _ n _
+    (c16 .before .before .before .before .before .before .before .before .time-factor .ensures)
+    ((opened _ (c16 .before .before .before .before .before .before .before .timescale-of .ensures) (time-fits (P .0) (P .1 .0))))
+    ((opened _ (c16 .before .before .before .before .before .before .timedrift-of .ensures) (time-fits (P .0) (P .1 .0))))
+    ((dimension-known (c24 .before .get-dimension .ensures) (search needs)) .0) (c8 .before .before .before .u64-to-f64 .ensures) (W .ensures) (P .1 .1 .1 .0)
     (W .kept .1 .1 .1 .1 .1 .1 .1 .1 .0) (W .kept .1 .1 .1 .1 .1 .1 .1 .1 .1 .0 ∙ P .1 .1 .1 .1 .0 .0) (W .kept .1 .1 .1 .1 .1 .1 .1 .1 .1 .1 .0 ∙ P .1 .1 .1 .1 .0 .1)
     (c .before .before .before .before .before .before .cascaded-add-f64 .ensures)
 

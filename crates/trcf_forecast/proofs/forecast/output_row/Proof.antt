@@ -33,7 +33,9 @@ mul-is-shorter c =
 mul-is-shorter-2 : tie.Need-mul-is-shorter-2
 mul-is-shorter-2 c =
     let p = numbers-within (settingsOf (c .before .before .before .before .args .head)) in
-    let q = numbers-fit (c .before .before .before .before .args .values) (c .before .before .get-dimension .result) (c .before .before .before .before .args .head .transformer .«input_length» * c .before .before .before .before .args .head .«shingle_size») (rw ((dimension-known (c .before .before .get-dimension .ensures) (search needs)) .0) p) in
+    let q = numbers-fit (c .before .before .before .before .args .values) (c .before .before .get-dimension .result)
+    (c .before .before .before .before .args .head .transformer .«input_length» * c .before .before .before .before .args .head .«shingle_size»)
+    (rw ((dimension-known (c .before .before .get-dimension .ensures) (search needs)) .0) p) in
     omega (arith, c .before .before .before .before .fits .values)
 
 is-shorter-requires : tie.Need-is-shorter-requires

@@ -61,53 +61,58 @@ mul-invert-time c =
 
 shared-slice-read-invert-time : tie.Need-shared-slice-read-invert-time Inv-loop μ-loop
 shared-slice-read-invert-time c =
-    let A = c .before .before .before .before .before .before .before .before .before .args in
+    let c8 = c .before .before .before .before .before .before .before .before in
+    let A = c8 .before .args in
     let L = c .before .before .loop in
-    let P = c .before .before .before .before .before .before .before .before .before .pre in
+    let P = c8 .before .pre in
     let x = turn-within (L .i) (length (A .«values-out» .now)) (A .a) (length (A .values .now)) (c .before .loop-test .taken) (P .1 .1 .0) in
     let y = turn-within (L .i) (length (A .«values-out» .now)) (A .a) (length (A .upper .now)) (c .before .loop-test .taken) (P .1 .1 .1) in
     let z = turn-within (L .i) (length (A .«values-out» .now)) (A .a) (length (A .lower .now)) (c .before .loop-test .taken) (P .1 .1 .2) in
-    omega (arith, P .0, c .before .before .before .before .before .before .before .before .before .good)
+    omega (arith, P .0, c8 .before .good)
 
 mul-invert-time-2 : tie.Need-mul-invert-time-2 Inv-loop μ-loop
 mul-invert-time-2 c =
-    let A = c .before .before .before .before .before .before .before .before .before .args in
+    let c8 = c .before .before .before .before .before .before .before .before in
+    let A = c8 .before .args in
     let L = c .before .before .loop in
-    let P = c .before .before .before .before .before .before .before .before .before .pre in
+    let P = c8 .before .pre in
     let x = turn-within (L .i) (length (A .«values-out» .now)) (A .a) (length (A .values .now)) (c .before .loop-test .taken) (P .1 .1 .0) in
     let y = turn-within (L .i) (length (A .«values-out» .now)) (A .a) (length (A .upper .now)) (c .before .loop-test .taken) (P .1 .1 .1) in
     let z = turn-within (L .i) (length (A .«values-out» .now)) (A .a) (length (A .lower .now)) (c .before .loop-test .taken) (P .1 .1 .2) in
-    omega (arith, P .0, c .before .before .before .before .before .before .before .before .before .good)
+    omega (arith, P .0, c8 .before .good)
 
 shared-slice-read-invert-time-2 : tie.Need-shared-slice-read-invert-time-2 Inv-loop μ-loop
 shared-slice-read-invert-time-2 c =
-    let A = c .before .before .before .before .before .before .before .before .before .before .args in
+    let c8 = c .before .before .before .before .before .before .before .before in
+    let A = c8 .before .before .args in
     let L = c .before .before .before .loop in
-    let P = c .before .before .before .before .before .before .before .before .before .before .pre in
+    let P = c8 .before .before .pre in
     let x = turn-within (L .i) (length (A .«values-out» .now)) (A .a) (length (A .values .now)) (c .before .before .loop-test .taken) (P .1 .1 .0) in
     let y = turn-within (L .i) (length (A .«values-out» .now)) (A .a) (length (A .upper .now)) (c .before .before .loop-test .taken) (P .1 .1 .1) in
     let z = turn-within (L .i) (length (A .«values-out» .now)) (A .a) (length (A .lower .now)) (c .before .before .loop-test .taken) (P .1 .1 .2) in
-    omega (arith, P .0, c .before .before .before .before .before .before .before .before .before .before .good)
+    omega (arith, P .0, c8 .before .before .good)
 
 mul-invert-time-3 : tie.Need-mul-invert-time-3 Inv-loop μ-loop
 mul-invert-time-3 c =
-    let A = c .before .before .before .before .before .before .before .before .before .before .args in
+    let c8 = c .before .before .before .before .before .before .before .before in
+    let A = c8 .before .before .args in
     let L = c .before .before .before .loop in
-    let P = c .before .before .before .before .before .before .before .before .before .before .pre in
+    let P = c8 .before .before .pre in
     let x = turn-within (L .i) (length (A .«values-out» .now)) (A .a) (length (A .values .now)) (c .before .before .loop-test .taken) (P .1 .1 .0) in
     let y = turn-within (L .i) (length (A .«values-out» .now)) (A .a) (length (A .upper .now)) (c .before .before .loop-test .taken) (P .1 .1 .1) in
     let z = turn-within (L .i) (length (A .«values-out» .now)) (A .a) (length (A .lower .now)) (c .before .before .loop-test .taken) (P .1 .1 .2) in
-    omega (arith, P .0, c .before .before .before .before .before .before .before .before .before .before .good)
+    omega (arith, P .0, c8 .before .before .good)
 
 shared-slice-read-invert-time-3 : tie.Need-shared-slice-read-invert-time-3 Inv-loop μ-loop
 shared-slice-read-invert-time-3 c =
-    let A = c .before .before .before .before .before .before .before .before .before .before .before .args in
+    let c8 = c .before .before .before .before .before .before .before .before in
+    let A = c8 .before .before .before .args in
     let L = c .before .before .before .before .loop in
-    let P = c .before .before .before .before .before .before .before .before .before .before .before .pre in
+    let P = c8 .before .before .before .pre in
     let x = turn-within (L .i) (length (A .«values-out» .now)) (A .a) (length (A .values .now)) (c .before .before .before .loop-test .taken) (P .1 .1 .0) in
     let y = turn-within (L .i) (length (A .«values-out» .now)) (A .a) (length (A .upper .now)) (c .before .before .before .loop-test .taken) (P .1 .1 .1) in
     let z = turn-within (L .i) (length (A .«values-out» .now)) (A .a) (length (A .lower .now)) (c .before .before .before .loop-test .taken) (P .1 .1 .2) in
-    omega (arith, P .0, c .before .before .before .before .before .before .before .before .before .before .before .good)
+    omega (arith, P .0, c8 .before .before .before .good)
 
 invert-time-requires : tie.Need-invert-time-requires Inv-loop μ-loop
 invert-time-requires c κs =
@@ -115,27 +120,33 @@ invert-time-requires c κs =
 
 mul-values-out : tie.Need-mul-values-out Inv-loop μ-loop
 mul-values-out c =
-    omega (arith, c .before .before .before .before .before .before .before .before .before .before .before .before .good, c .before .before .before .before .loop-test .taken, c .before .before .before .before .before .before .before .before .before .before .before .before .pre)
+    let c8 = c .before .before .before .before .before .before .before .before in
+    omega (arith, c8 .before .before .before .before .good, c .before .before .before .before .loop-test .taken, c8 .before .before .before .before .pre)
 
 slice-write-values-out : tie.Need-slice-write-values-out Inv-loop μ-loop
 slice-write-values-out c =
-    omega (arith, c .before .before .before .before .before .loop .inv, c .before .before .before .before .loop-test .taken, c .before .before .before .before .before .before .before .before .before .before .before .before .pre)
+    let c8 = c .before .before .before .before .before .before .before .before in
+    omega (arith, c .before .before .before .before .before .loop .inv, c .before .before .before .before .loop-test .taken, c8 .before .before .before .before .pre)
 
 mul-upper-out : tie.Need-mul-upper-out Inv-loop μ-loop
 mul-upper-out c =
-    omega (arith, c .before .before .before .before .before .before .before .before .before .before .before .before .good, c .before .before .before .before .loop-test .taken, c .before .before .before .before .before .before .before .before .before .before .before .before .pre)
+    let c8 = c .before .before .before .before .before .before .before .before in
+    omega (arith, c8 .before .before .before .before .good, c .before .before .before .before .loop-test .taken, c8 .before .before .before .before .pre)
 
 slice-write-upper-out : tie.Need-slice-write-upper-out Inv-loop μ-loop
 slice-write-upper-out c =
-    omega (arith, c .before .before .before .before .before .loop .inv, c .before .before .before .before .loop-test .taken, c .before .before .before .before .before .before .before .before .before .before .before .before .pre)
+    let c8 = c .before .before .before .before .before .before .before .before in
+    omega (arith, c .before .before .before .before .before .loop .inv, c .before .before .before .before .loop-test .taken, c8 .before .before .before .before .pre)
 
 mul-lower-out : tie.Need-mul-lower-out Inv-loop μ-loop
 mul-lower-out c =
-    omega (arith, c .before .before .before .before .before .before .before .before .before .before .before .before .good, c .before .before .before .before .loop-test .taken, c .before .before .before .before .before .before .before .before .before .before .before .before .pre)
+    let c8 = c .before .before .before .before .before .before .before .before in
+    omega (arith, c8 .before .before .before .before .good, c .before .before .before .before .loop-test .taken, c8 .before .before .before .before .pre)
 
 slice-write-lower-out : tie.Need-slice-write-lower-out Inv-loop μ-loop
 slice-write-lower-out c =
-    omega (arith, c .before .before .before .before .before .loop .inv, c .before .before .before .before .loop-test .taken, c .before .before .before .before .before .before .before .before .before .before .before .before .pre)
+    let c8 = c .before .before .before .before .before .before .before .before in
+    omega (arith, c .before .before .before .before .before .loop .inv, c .before .before .before .before .loop-test .taken, c8 .before .before .before .before .pre)
 
 add-i : tie.Need-add-i Inv-loop μ-loop
 add-i c =
@@ -148,9 +159,10 @@ loop-less c =
 loop-again : tie.Need-loop-again Inv-loop μ-loop
 unfolding rangeAt
 loop-again c =
-    let A = c .before .before .before .before .before .before .before .before .before .before .before .before .args in
+    let c8 = c .before .before .before .before .before .before .before .before in
+    let A = c8 .before .before .before .before .args in
     let L = c .before .before .before .before .before .loop in
-    let P = c .before .before .before .before .before .before .before .before .before .before .before .before .pre in
+    let P = c8 .before .before .before .before .pre in
     let R = c .invert-time .ensures in
     let i : L .i < length (A .«values-out» .now) = c .before .before .before .before .loop-test .taken in (
       omega arith,

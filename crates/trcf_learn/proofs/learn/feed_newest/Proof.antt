@@ -16,7 +16,13 @@ last-time-requires : tie.Need-last-time-requires
 last-time-requires c κs = tt
 
 sub-feed-reading : tie.Need-sub-feed-reading
-sub-feed-reading c = let a = c .before .before .before .before .before .before .before .before .args in let h = a .head in let q = c .before .before .before .before .before .before .before .before .pre in let d = h .transformer .«input_length» in let m = le-mul-of-pos-right d (q .0 .k-pos) in omega (arith, q .1 .0)
+sub-feed-reading c =
+    let a = c .before .before .before .before .before .before .before .before .args in
+    let h = a .head in
+    let q = c .before .before .before .before .before .before .before .before .pre in
+    let d = h .transformer .«input_length» in
+    let m = le-mul-of-pos-right d (q .0 .k-pos) in
+    omega (arith, q .1 .0)
 
 mul-feed-reading : tie.Need-mul-feed-reading
 mul-feed-reading c = omega arith
@@ -38,7 +44,29 @@ same-length c = c .before .before .feed-reading .kept .1 .1 .0
 
 returns : tie.Need-returns
 unfolding previous
-returns c = let a = c .before .before .before .before .before .before .before .before .before .before .before .before .args in let h = a .head in let q = c .before .before .before .before .before .before .before .before .before .before .before .before .pre in let d = h .transformer .«input_length» in let m = le-mul-of-pos-right d (q .0 .k-pos) in let k : d ≤ length (a .inputs .now) = omega (arith, q .1 .0) in rw (lt-ltb _ _ (c .before .before .before .before .before .before .before .if1 .taken)) ((opened _ (c .before .before .feed-reading .ensures) (feed-fits (let a = c .before .before .before .before .before .before .before .before .before .before .before .before .args in let h = a .head in let q = c .before .before .before .before .before .before .before .before .before .before .before .before .pre in let d = h .transformer .«input_length» in let m = le-mul-of-pos-right d (q .0 .k-pos) in (q .0, (q .1 .0 .all-statistics, (q .1 .1 .1 (c .before .before .before .before .before .before .before .if1 .taken), (simp (length-drop, length-take) (omega (arith, q .1 .0)), q .1 .1 .0))))))) ∙ (λ j. feed (settingsOf h) (h .transformer .count) (a .s .now) (reading (newest-part (a .inputs .now) d k j) (c .before .before .before .before .before .last-time .ensures j)) (reading (a .input .now) (a .timestamp))))
+returns c =
+    let c8 = c .before .before .before .before .before .before .before .before in
+    let a = c8 .before .before .before .before .args in
+    let h = a .head in
+    let q = c8 .before .before .before .before .pre in
+    let d = h .transformer .«input_length» in
+    let m = le-mul-of-pos-right d (q .0 .k-pos) in
+    let k : d ≤ length (a .inputs .now) = omega (arith, q .1 .0) in
+    rw (lt-ltb _ _ (c .before .before .before .before .before .before .before .if1 .taken))
+    ((opened _ (c .before .before .feed-reading .ensures)
+    (feed-fits (let a = c8 .before .before .before .before .args in let h = a .head in let q = c8 .before .before .before .before .pre in let d = h .transformer .«input_length» in let m =
+    le-mul-of-pos-right d (q .0 .k-pos) in (
+      q .0,
+      (
+        q .1 .0 .all-statistics,
+        (
+          q .1 .1 .1 (c .before .before .before .before .before .before .before .if1 .taken),
+          (simp (length-drop, length-take) (omega (arith, q .1 .0)), q .1 .1 .0),
+        ),
+      ),
+    )))) ∙
+    (λ j. feed (settingsOf h) (h .transformer .count) (a .s .now) (reading (newest-part (a .inputs .now) d k j) (c .before .before .before .before .before .last-time .ensures j))
+    (reading (a .input .now) (a .timestamp))))
 
 returns-2 : tie.Need-returns-2
 unfolding previous

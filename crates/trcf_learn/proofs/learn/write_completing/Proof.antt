@@ -17,10 +17,26 @@ same-length : tie.Need-same-length
 same-length c = c .before .before .write-deviations .kept .1 .1 .0
 
 returns : tie.Need-returns
-returns c = let a = c .before .before .before .before .before .before .before .args in let h = a .head in let q = c .before .before .before .before .before .before .before .pre in let d = h .transformer .«input_length» in let e = eq-eqb (suc (h .«values_seen»)) (h .«start_normalization») (omega arith) in (sym e, rw e ((opened _ (c .before .before .write-deviations .ensures) (output-fits (let a = c .before .before .before .before .before .before .before .args in let h = a .head in let q = c .before .before .before .before .before .before .before .pre in let d = h .transformer .«input_length» in (q .0, (q .1 .0, q .1 .1 .1 (eq-eqb (suc (h .«values_seen»)) (h .«start_normalization») (omega arith)))))))))
+returns c =
+    let a = c .before .before .before .before .before .before .before .args in
+    let h = a .head in
+    let q = c .before .before .before .before .before .before .before .pre in
+    let d = h .transformer .«input_length» in
+    let e = eq-eqb (suc (h .«values_seen»)) (h .«start_normalization») (omega arith) in (
+      sym e,
+      rw e ((opened _ (c .before .before .write-deviations .ensures)
+          (output-fits (let a = c .before .before .before .before .before .before .before .args in let h = a .head in let q = c .before .before .before .before .before .before .before .pre in let
+          d = h .transformer .«input_length» in (q .0, (q .1 .0, q .1 .1 .1 (eq-eqb (suc (h .«values_seen»)) (h .«start_normalization») (omega arith)))))))),
+    )
 
 returns-2 : tie.Need-returns-2
-returns-2 c = let a = c .before .before .before .args in let h = a .head in let q = c .before .before .before .pre in let d = h .transformer .«input_length» in let e = ne-eqb (suc (h .«values_seen»)) (h .«start_normalization») (λ z. c .if1 .left (omega (arith, z))) in (sym e, rw e)
+returns-2 c =
+    let a = c .before .before .before .args in
+    let h = a .head in
+    let q = c .before .before .before .pre in
+    let d = h .transformer .«input_length» in
+    let e = ne-eqb (suc (h .«values_seen»)) (h .«start_normalization») (λ z. c .if1 .left (omega (arith, z))) in
+    (sym e, rw e)
 
 pub write-completing-spec : {M : Type 1} → statement M
 write-completing-spec =

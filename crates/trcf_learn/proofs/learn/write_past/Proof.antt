@@ -22,16 +22,48 @@ sub-at : tie.Need-sub-at
 sub-at c = omega arith
 
 mul-copy-in : tie.Need-mul-copy-in
-mul-copy-in c = let a = c .before .before .before .before .before .before .args in let h = a .head in let d = h .transformer .«input_length» in let k = h .«shingle_size» in let m = length (a .inputs .now) in block-at (a .head .«shingle_size» - a .back) k d m (back-inside (h .«shingle_size») (a .back) (c .before .if1 .left) (c .before .before .before .before .before .before .pre .1 .1 .1 .0)) (flat-turned k d m (c .before .before .before .before .before .before .pre .1 .0)) (c .before .before .before .before .before .before .good .1 .0 .1)
+mul-copy-in c =
+    let a = c .before .before .before .before .before .before .args in
+    let h = a .head in
+    let d = h .transformer .«input_length» in
+    let k = h .«shingle_size» in
+    let m = length (a .inputs .now) in
+    block-at (a .head .«shingle_size» - a .back) k d m
+    (back-inside (h .«shingle_size») (a .back) (c .before .if1 .left) (c .before .before .before .before .before .before .pre .1 .1 .1 .0))
+    (flat-turned k d m (c .before .before .before .before .before .before .pre .1 .0)) (c .before .before .before .before .before .before .good .1 .0 .1)
 
 mul-copy-in-2 : tie.Need-mul-copy-in-2
-mul-copy-in-2 c = let a = c .before .before .before .before .before .before .args in let h = a .head in let d = h .transformer .«input_length» in let k = h .«shingle_size» in let m = length (a .inputs .now) in block-at (a .head .«shingle_size» - a .back) k d m (back-inside (h .«shingle_size») (a .back) (c .before .if1 .left) (c .before .before .before .before .before .before .pre .1 .1 .1 .0)) (flat-turned k d m (c .before .before .before .before .before .before .pre .1 .0)) (c .before .before .before .before .before .before .good .1 .0 .1)
+mul-copy-in-2 c =
+    let a = c .before .before .before .before .before .before .args in
+    let h = a .head in
+    let d = h .transformer .«input_length» in
+    let k = h .«shingle_size» in
+    let m = length (a .inputs .now) in
+    block-at (a .head .«shingle_size» - a .back) k d m
+    (back-inside (h .«shingle_size») (a .back) (c .before .if1 .left) (c .before .before .before .before .before .before .pre .1 .1 .1 .0))
+    (flat-turned k d m (c .before .before .before .before .before .before .pre .1 .0)) (c .before .before .before .before .before .before .good .1 .0 .1)
 
 add-copy-in : tie.Need-add-copy-in
-add-copy-in c = let a = c .before .before .before .before .before .before .args in let h = a .head in let d = h .transformer .«input_length» in let k = h .«shingle_size» in let m = length (a .inputs .now) in block-to (a .head .«shingle_size» - a .back) k d m (back-inside (h .«shingle_size») (a .back) (c .before .if1 .left) (c .before .before .before .before .before .before .pre .1 .1 .1 .0)) (flat-turned k d m (c .before .before .before .before .before .before .pre .1 .0)) (c .before .before .before .before .before .before .good .1 .0 .1)
+add-copy-in c =
+    let a = c .before .before .before .before .before .before .args in
+    let h = a .head in
+    let d = h .transformer .«input_length» in
+    let k = h .«shingle_size» in
+    let m = length (a .inputs .now) in
+    block-to (a .head .«shingle_size» - a .back) k d m
+    (back-inside (h .«shingle_size») (a .back) (c .before .if1 .left) (c .before .before .before .before .before .before .pre .1 .1 .1 .0))
+    (flat-turned k d m (c .before .before .before .before .before .before .pre .1 .0)) (c .before .before .before .before .before .before .good .1 .0 .1)
 
 mul-copy-in-3 : tie.Need-mul-copy-in-3
-mul-copy-in-3 c = let a = c .before .before .before .before .before .before .args in let h = a .head in let d = h .transformer .«input_length» in let k = h .«shingle_size» in let m = length (a .inputs .now) in block-bytes (a .head .«shingle_size» - a .back) k d m (back-inside (h .«shingle_size») (a .back) (c .before .if1 .left) (c .before .before .before .before .before .before .pre .1 .1 .1 .0)) (flat-turned k d m (c .before .before .before .before .before .before .pre .1 .0)) (c .before .before .before .before .before .before .good .1 .0 .1)
+mul-copy-in-3 c =
+    let a = c .before .before .before .before .before .before .args in
+    let h = a .head in
+    let d = h .transformer .«input_length» in
+    let k = h .«shingle_size» in
+    let m = length (a .inputs .now) in
+    block-bytes (a .head .«shingle_size» - a .back) k d m
+    (back-inside (h .«shingle_size») (a .back) (c .before .if1 .left) (c .before .before .before .before .before .before .pre .1 .1 .1 .0))
+    (flat-turned k d m (c .before .before .before .before .before .before .pre .1 .0)) (c .before .before .before .before .before .before .good .1 .0 .1)
 
 sub-copy-in : tie.Need-sub-copy-in
 sub-copy-in c = omega arith
@@ -40,7 +72,15 @@ part-copy-in-start : tie.Need-part-copy-in-start
 part-copy-in-start c = let a = c .before .before .before .before .before .before .args in block-start (a .head .«shingle_size» - a .back) (a .head .transformer .«input_length»)
 
 part-copy-in-end : tie.Need-part-copy-in-end
-part-copy-in-end c = let a = c .before .before .before .before .before .before .args in let h = a .head in let d = h .transformer .«input_length» in let k = h .«shingle_size» in let m = length (a .inputs .now) in block-end (a .head .«shingle_size» - a .back) k d m (back-inside (h .«shingle_size») (a .back) (c .before .if1 .left) (c .before .before .before .before .before .before .pre .1 .1 .1 .0)) (flat-turned k d m (c .before .before .before .before .before .before .pre .1 .0)) (c .before .before .before .before .before .before .good .1 .0 .1)
+part-copy-in-end c =
+    let a = c .before .before .before .before .before .before .args in
+    let h = a .head in
+    let d = h .transformer .«input_length» in
+    let k = h .«shingle_size» in
+    let m = length (a .inputs .now) in
+    block-end (a .head .«shingle_size» - a .back) k d m
+    (back-inside (h .«shingle_size») (a .back) (c .before .if1 .left) (c .before .before .before .before .before .before .pre .1 .1 .1 .0))
+    (flat-turned k d m (c .before .before .before .before .before .before .pre .1 .0)) (c .before .before .before .before .before .before .good .1 .0 .1)
 
 copy-in-requires-2 : tie.Need-copy-in-requires-2
 copy-in-requires-2 c κs = tt
@@ -56,7 +96,14 @@ same-length-2 c = c .before .before .copy-in2 .kept .0
 
 returns-2 : tie.Need-returns-2
 unfolding blockFrom
-returns-2 c = let a = c .before .before .before .before .before .before .before .before .before .before .args in let h = a .head in let q = c .before .before .before .before .before .before .before .before .before .before .pre in let d = h .transformer .«input_length» in rw (ne-eqb _ _ (c .before .before .before .before .before .if1 .left)) ((roomy _ (c .before .before .copy-in2 .ensures) (search needs)) ∙ paste-over _ _ ∙ ap (over (a .output .now)) (block-cut (h .«shingle_size» - a .back) d (a .inputs .now)))
+returns-2 c =
+    let c8 = c .before .before .before .before .before .before .before .before in
+    let a = c8 .before .before .args in
+    let h = a .head in
+    let q = c8 .before .before .pre in
+    let d = h .transformer .«input_length» in
+    rw (ne-eqb _ _ (c .before .before .before .before .before .if1 .left))
+    ((roomy _ (c .before .before .copy-in2 .ensures) (search needs)) ∙ paste-over _ _ ∙ ap (over (a .output .now)) (block-cut (h .«shingle_size» - a .back) d (a .inputs .now)))
 
 pub write-past-spec : {M : Type 1} → statement M
 write-past-spec =

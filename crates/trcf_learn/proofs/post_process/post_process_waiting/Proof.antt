@@ -18,19 +18,32 @@ hold-requires : tie.Need-hold-requires
 hold-requires c κs = search needs
 
 mul-write-completing : tie.Need-mul-write-completing
-mul-write-completing c = five (c .before .before .before .before .before .before .before .before .before .before .before .before .before .pre .0 .d-few)
+mul-write-completing c =
+    let c8 = c .before .before .before .before .before .before .before .before in
+    five (c8 .before .before .before .before .before .pre .0 .d-few)
 
 add-write-completing : tie.Need-add-write-completing
-add-write-completing c = five-more (c .before .before .before .before .before .before .before .before .before .before .before .before .before .pre .0 .d-few)
+add-write-completing c =
+    let c8 = c .before .before .before .before .before .before .before .before in
+    five-more (c8 .before .before .before .before .before .pre .0 .d-few)
 
 mul-write-completing-2 : tie.Need-mul-write-completing-2
-mul-write-completing-2 c = all-statistics (c .before .before .before .before .before .before .before .before .before .before .before .before .before .pre .0 .d-few)
+mul-write-completing-2 c =
+    let c8 = c .before .before .before .before .before .before .before .before in
+    all-statistics (c8 .before .before .before .before .before .pre .0 .d-few)
 
 slice-aggregate-write-completing : tie.Need-slice-aggregate-write-completing
-slice-aggregate-write-completing c = sym (length-take-le _ _ (c .before .before .before .before .before .before .before .before .before .before .before .before .before .before .pre .1 .0))
+slice-aggregate-write-completing c =
+    let c8 = c .before .before .before .before .before .before .before .before in
+    sym (length-take-le _ _ (c8 .before .before .before .before .before .before .pre .1 .0))
 
 write-completing-requires : tie.Need-write-completing-requires
-write-completing-requires c κs = let a = c .before .before .before .before .before .before .before .before .before .before .before .before .before .before .before .args in let h = a .head in let q = c .before .before .before .before .before .before .before .before .before .before .before .before .before .before .before .pre in (q .0, (length-take-le _ _ (q .1 .0), (q .1 .1 .1 .1 .0, q .1 .1 .1 .1 .1 .1 .1)))
+write-completing-requires c κs =
+    let c8 = c .before .before .before .before .before .before .before .before in
+    let a = c8 .before .before .before .before .before .before .before .args in
+    let h = a .head in
+    let q = c8 .before .before .before .before .before .before .before .pre in
+    (q .0, (length-take-le _ _ (q .1 .0), (q .1 .1 .1 .1 .0, q .1 .1 .1 .1 .1 .1 .1)))
 
 add-with-counts : tie.Need-add-with-counts
 add-with-counts c = omega arith
@@ -42,16 +55,31 @@ with-counts-requires : tie.Need-with-counts-requires
 with-counts-requires c κs = tt
 
 same-length : tie.Need-same-length
-same-length c = c .before .before .before .before .before .before .before .before .before .before .hold .kept .1 .0
+same-length c =
+    let c8 = c .before .before .before .before .before .before .before .before in
+    c8 .before .before .hold .kept .1 .0
 
 same-length-2 : tie.Need-same-length-2
-same-length-2 c = c .before .before .before .before .before .before .before .before .before .before .hold .kept .1 .1 .0
+same-length-2 c =
+    let c8 = c .before .before .before .before .before .before .before .before in
+    c8 .before .before .hold .kept .1 .1 .0
 
 same-length-3 : tie.Need-same-length-3
 same-length-3 c = c .before .before .before .write-completing .kept .1 .1 .0
 
 returns : tie.Need-returns
-returns c = let a = c .before .before .before .before .before .before .before .before .before .before .before .before .before .before .before .before .before .before .before .args in let h = a .head in let q = c .before .before .before .before .before .before .before .before .before .before .before .before .before .before .before .before .before .before .before .pre in let W = c .before .before .before .write-completing .ensures in let H = c .before .before .before .before .before .before .before .before .before .before .hold .ensures in ((rw (c .with-counts .ensures, W .0) (λ j. answering (counting h (h .transformer .count) (add-one (h .«values_seen») j) (h .«internal_timestamp») (add-one (h .«initial_len») j)) (eqb (suc (h .«values_seen»)) (h .«start_normalization»)) false 0 zero32)), (H .0, (H .1, W .1)))
+returns c =
+    let c8 = c .before .before .before .before .before .before .before .before in
+    let c16 = c8 .before .before .before .before .before .before .before .before in
+    let a = c16 .before .before .before .args in
+    let h = a .head in
+    let q = c16 .before .before .before .pre in
+    let W = c .before .before .before .write-completing .ensures in
+    let H = c8 .before .before .hold .ensures in (
+      (rw (c .with-counts .ensures, W .0) (λ j. answering (counting h (h .transformer .count) (add-one (h .«values_seen») j) (h .«internal_timestamp») (add-one (h .«initial_len») j))
+          (eqb (suc (h .«values_seen»)) (h .«start_normalization»)) false 0 zero32)),
+      (H .0, (H .1, W .1)),
+    )
 
 pub post-process-waiting-spec : {M : Type 1} → statement M
 post-process-waiting-spec =

@@ -22,11 +22,17 @@ same-length-4 c = refl
 
 returns : tie.Need-returns
 returns c =
-    let a = c .before .before .before .before .before .before .before .before .before .before .before .before .args in
-    drain-stays (a .head) (lent (a .statistics .now) (a .last-shingled-input .now) (a .last-shingled-point .now) (a .previous-timestamps .now) (a .initial-values .now) (a .initial-timestamps .now)) (c .before .drain-row .result) (c .before .drain-row .ensures .0) (c .if1 .taken)
+    let c8 = c .before .before .before .before .before .before .before .before in
+    let a = c8 .before .before .before .before .args in
+    drain-stays (a .head) (lent (a .statistics .now) (a .last-shingled-input .now) (a .last-shingled-point .now) (a .previous-timestamps .now) (a .initial-values .now)
+    (a .initial-timestamps .now)) (c .before .drain-row .result) (c .before .drain-row .ensures .0) (c .if1 .taken)
 
 drain-due-requires : tie.Need-drain-due-requires
-drain-due-requires c κs = (c .before .before .before .before .before .drain-row .ensures .1 .0 (c .before .before .before .before .if1 .left), c .before .before .before .before .before .drain-row .ensures .1 .1 (c .before .before .before .before .if1 .left))
+drain-due-requires c κs = (
+  c .before .before .before .before .before .drain-row .ensures .1 .0 (c .before .before .before .before .if1 .left),
+  c .before .before .before .before .before .drain-row .ensures .1 .1
+      (c .before .before .before .before .if1 .left),
+)
 
 same-length-5 : tie.Need-same-length-5
 same-length-5 c = c .before .before .before .before .before .before .before .before .drain-due .kept .1 .0
@@ -42,8 +48,13 @@ same-length-8 c = c .before .before .before .before .before .before .before .bef
 
 returns-2 : tie.Need-returns-2
 returns-2 c =
-    let a = c .before .before .before .before .before .before .before .before .before .before .before .before .before .before .before .before .before .before .before .before .before .before .before .before .before .args in
-    drain-goes (a .head) (lent (a .statistics .now) (a .last-shingled-input .now) (a .last-shingled-point .now) (a .previous-timestamps .now) (a .initial-values .now) (a .initial-timestamps .now)) (c .before .before .before .before .before .before .before .before .before .before .before .before .before .before .drain-row .result) (c .before .before .before .before .before .before .before .before .before .before .before .before .before .before .drain-row .ensures .0) (c .before .before .before .before .before .before .before .before .before .before .before .before .before .if1 .left) _ (c .before .before .before .before .before .before .before .before .drain-due .ensures .0)
+    let c8 = c .before .before .before .before .before .before .before .before in
+    let c16 = c8 .before .before .before .before .before .before .before .before in
+    let c24 = c16 .before .before .before .before .before .before .before .before in
+    let a = c24 .before .args in
+    drain-goes (a .head) (lent (a .statistics .now) (a .last-shingled-input .now) (a .last-shingled-point .now) (a .previous-timestamps .now) (a .initial-values .now)
+    (a .initial-timestamps .now)) (c8 .before .before .before .before .before .before .drain-row .result) (c8 .before .before .before .before .before .before .drain-row .ensures .0)
+    (c8 .before .before .before .before .before .if1 .left) _ (c .before .before .before .before .before .before .before .before .drain-due .ensures .0)
 
 pub drain-spec : {M : Type 1} → statement M
 drain-spec =

@@ -21,9 +21,13 @@ full head s values stamps = feedAll (settingsOf head) (head .transformer .count)
 abbrev Inv-loop : tie.InvT-loop
 Inv-loop head s₀ inputs₀ points₀ times₀ values stamps n fed₀ i₀ s inputs points times fed i =
     (i ≤ length stamps) × (length s ≡ length s₀) × (length inputs ≡ length inputs₀) × (length points ≡ length points₀) × (length times ≡ length times₀)
-    × (feedAll (settingsOf head) (head .transformer .count + fed) s (readingAt (head .transformer .«input_length») values stamps (fed - 1)) (left (head .transformer .«input_length») values stamps fed) ≡ full head s₀ values stamps)
+    × (feedAll (settingsOf head) (head .transformer .count + fed) s (readingAt (head .transformer .«input_length») values stamps (fed - 1))
+    (left (head .transformer .«input_length») values stamps fed) ≡ full head s₀ values stamps)
     × (0 < i → s ≡ full head s₀ values stamps)
-    × (drainEach (shingling head (head .transformer .count + length stamps) (full head s₀ values stamps) inputs₀ points₀ times₀ (head .«internal_timestamp»)) (blocks (head .transformer .«input_length») values stamps) ≡ drainEach (shingling head (head .transformer .count + length stamps) (full head s₀ values stamps) inputs points times (head .«internal_timestamp» + i)) (left (head .transformer .«input_length») values stamps i))
+    × (drainEach (shingling head (head .transformer .count + length stamps) (full head s₀ values stamps) inputs₀ points₀ times₀ (head .«internal_timestamp»))
+    (blocks (head .transformer .«input_length») values stamps) ≡ drainEach
+    (shingling head (head .transformer .count + length stamps) (full head s₀ values stamps) inputs points times (head .«internal_timestamp» + i))
+    (left (head .transformer .«input_length») values stamps i))
 
 abbrev μ-loop : tie.MeasureT-loop
 μ-loop head s₀ inputs₀ points₀ times₀ values stamps n fed₀ i₀ s inputs points times fed i = length stamps - i
@@ -54,17 +58,25 @@ slice-aggregate-feed-initial c = sym (length-take-le _ _ (omega arith))
 
 feed-initial-requires : tie.Need-feed-initial-requires Inv-loop μ-loop
 feed-initial-requires c κs =
-    let q = c .before .before .before .before .before .before .before .before .before .before .pre in
+    let c8 = c .before .before .before .before .before .before .before .before in
+    let q = c8 .before .before .pre in
     let L = c .before .before .before .loop in
     let e = slice-aggregate-feed-initial c in
     (q .0, (omega (arith, L .inv .1, q .1 .0), (omega (arith, e, q .1 .1 .1 .1 .0), flat-part _ _ _ _ (q .1 .1 .1 .0) (omega (arith, e)))))
 
 drain-turn-requires : tie.Need-drain-turn-requires Inv-loop μ-loop
 drain-turn-requires c κs =
-    let q = c .before .before .before .before .before .before .before .before .before .before .before .before .before .before .before .before .before .pre in
-    let L = c .before .before .before .before .before .before .before .before .before .before .loop in
-    let fed = c .before .before .before .before .before .before .feed-initial in
-    (q .0, (record { all-statistics = omega (arith, fed .kept, L .inv .1, q .1 .0); all-input = omega (arith, L .inv .2, q .1 .0); all-times = omega (arith, L .inv .4, q .1 .0) }, (omega (arith, L .inv .3, q .1 .1 .0), (q .1 .1 .1 .0, omega arith))))
+    let c8 = c .before .before .before .before .before .before .before .before in
+    let c16 = c8 .before .before .before .before .before .before .before .before in
+    let q = c16 .before .pre in
+    let L = c8 .before .before .loop in
+    let fed = c .before .before .before .before .before .before .feed-initial in (
+      q .0,
+      (
+        record { all-statistics = omega (arith, fed .kept, L .inv .1, q .1 .0); all-input = omega (arith, L .inv .2, q .1 .0); all-times = omega (arith, L .inv .4, q .1 .0) },
+        (omega (arith, L .inv .3, q .1 .1 .0), (q .1 .1 .1 .0, omega arith)),
+      ),
+    )
 
 loop-less : tie.Need-loop-less Inv-loop μ-loop
 loop-less c = omega arith
@@ -72,17 +84,19 @@ loop-less c = omega arith
 -- k is how many of them the call is given; these must be all
 loop-again : tie.Need-loop-again Inv-loop μ-loop
 loop-again c =
-    let a = c .before .before .before .before .before .before .before .before .before .before .before .before .before .before .before .before .before .before .before .before .before .before .before .before .args in
+    let c8 = c .before .before .before .before .before .before .before .before in
+    let c16 = c8 .before .before .before .before .before .before .before .before in
+    let a = c16 .before .before .before .before .before .before .before .before .args in
     let d = a .head .transformer .«input_length» in
     let v = a .values .now in
     let ts = a .stamps .now in
     let n = a .head .transformer .count + length ts in
     let f = full (a .head) (a .s .now) v ts in
-    let L = c .before .before .before .before .before .before .before .before .before .before .before .before .before .before .before .before .before .loop in
-    let F = c .before .before .before .before .before .before .before .before .before .before .before .before .before .feed-initial in
+    let L = c16 .before .loop in
+    let F = c8 .before .before .before .before .before .feed-initial in
     let D = c .before .before .before .before .before .before .drain-turn in
     let more : L .i < length ts = omega arith in
-    let k = slice-aggregate-feed-initial (c .before .before .before .before .before .before .before .before .before .before .before .before .before .before) 0 in
+    let k = slice-aggregate-feed-initial (c8 .before .before .before .before .before .before) 0 in
     let all : take k ts ≡ ts = take-length ts in
     let fed : F .last .1 .0 ≡ f = feed-rest (settingsOf (a .head)) d v ts k (L .fed) (a .head .transformer .count) (L .s) (F .last .1 .0) f (L .inv .5) (F .ensures) all in (
       omega arith,
@@ -92,7 +106,8 @@ loop-again c =
       omega (arith, D .kept, L .inv .4),
       feed-none (settingsOf (a .head)) d v ts (a .head .transformer .count) (F .last .1 .0) ∙ fed,
       (λ _. fed),
-      L .inv .7 ∙ drain-again (a .head) n f (L .inputs) (L .points) (L .times) (F .last .1 .0) _ _ _ d v ts (L .i) (a .head .«internal_timestamp») more fed (D .ensures .0) (D .ensures .1 .0) (D .ensures .1 .1),
+      L .inv .7 ∙ drain-again (a .head) n f (L .inputs) (L .points) (L .times) (F .last .1 .0) _ _ _ d v ts (L .i) (a .head .«internal_timestamp») more fed (D .ensures .0)
+          (D .ensures .1 .0) (D .ensures .1 .1),
     )
 
 same-length : tie.Need-same-length Inv-loop μ-loop

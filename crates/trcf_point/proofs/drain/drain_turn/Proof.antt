@@ -17,31 +17,67 @@ block-of-requires : tie.Need-block-of-requires
 block-of-requires c κs = tt
 
 mul-y : tie.Need-mul-y
-mul-y c = let a = c .before .before .before .before .before .before .before .before .args in scaled-fits (a .i) (length (a .stamps .now)) 8 (c .before .before .before .before .before .before .before .before .pre .1 .1 .1 .1) (c .before .before .before .before .before .before .before .before .good .1 .1 .1 .1 .1 .1 .0 .1)
+mul-y c =
+    let a = c .before .before .before .before .before .before .before .before .args in
+    scaled-fits (a .i) (length (a .stamps .now)) 8 (c .before .before .before .before .before .before .before .before .pre .1 .1 .1 .1)
+    (c .before .before .before .before .before .before .before .before .good .1 .1 .1 .1 .1 .1 .0 .1)
 
 shared-slice-read-y : tie.Need-shared-slice-read-y
 shared-slice-read-y c = omega arith
 
 mul-write-transform : tie.Need-mul-write-transform
-mul-write-transform c = let a = c .before .before .before .before .before .before .before .before .before .before .before .args in let d = a .head .transformer .«input_length» in let n = length (a .stamps .now) in let m = length (a .values .now) in block-at (a .i) n d m (c .before .before .before .before .before .before .before .before .before .before .before .pre .1 .1 .1 .1) (flat-of n d m (c .before .before .before .before .before .before .before .before .before .before .before .pre .1 .1 .1 .0)) (c .before .before .before .before .before .before .before .before .before .before .before .good .1 .1 .1 .1 .1 .0 .1)
+mul-write-transform c =
+    let c8 = c .before .before .before .before .before .before .before .before in
+    let a = c8 .before .before .before .args in
+    let d = a .head .transformer .«input_length» in
+    let n = length (a .stamps .now) in
+    let m = length (a .values .now) in
+    block-at (a .i) n d m (c8 .before .before .before .pre .1 .1 .1 .1) (flat-of n d m (c8 .before .before .before .pre .1 .1 .1 .0)) (c8 .before .before .before .good .1 .1 .1 .1 .1 .0 .1)
 
 mul-write-transform-2 : tie.Need-mul-write-transform-2
-mul-write-transform-2 c = let a = c .before .before .before .before .before .before .before .before .before .before .before .args in let d = a .head .transformer .«input_length» in let n = length (a .stamps .now) in let m = length (a .values .now) in block-at (a .i) n d m (c .before .before .before .before .before .before .before .before .before .before .before .pre .1 .1 .1 .1) (flat-of n d m (c .before .before .before .before .before .before .before .before .before .before .before .pre .1 .1 .1 .0)) (c .before .before .before .before .before .before .before .before .before .before .before .good .1 .1 .1 .1 .1 .0 .1)
+mul-write-transform-2 c =
+    let c8 = c .before .before .before .before .before .before .before .before in
+    let a = c8 .before .before .before .args in
+    let d = a .head .transformer .«input_length» in
+    let n = length (a .stamps .now) in
+    let m = length (a .values .now) in
+    block-at (a .i) n d m (c8 .before .before .before .pre .1 .1 .1 .1) (flat-of n d m (c8 .before .before .before .pre .1 .1 .1 .0)) (c8 .before .before .before .good .1 .1 .1 .1 .1 .0 .1)
 
 add-write-transform : tie.Need-add-write-transform
-add-write-transform c = let a = c .before .before .before .before .before .before .before .before .before .before .before .args in let d = a .head .transformer .«input_length» in let n = length (a .stamps .now) in let m = length (a .values .now) in block-to (a .i) n d m (c .before .before .before .before .before .before .before .before .before .before .before .pre .1 .1 .1 .1) (flat-of n d m (c .before .before .before .before .before .before .before .before .before .before .before .pre .1 .1 .1 .0)) (c .before .before .before .before .before .before .before .before .before .before .before .good .1 .1 .1 .1 .1 .0 .1)
+add-write-transform c =
+    let c8 = c .before .before .before .before .before .before .before .before in
+    let a = c8 .before .before .before .args in
+    let d = a .head .transformer .«input_length» in
+    let n = length (a .stamps .now) in
+    let m = length (a .values .now) in
+    block-to (a .i) n d m (c8 .before .before .before .pre .1 .1 .1 .1) (flat-of n d m (c8 .before .before .before .pre .1 .1 .1 .0)) (c8 .before .before .before .good .1 .1 .1 .1 .1 .0 .1)
 
 mul-write-transform-3 : tie.Need-mul-write-transform-3
-mul-write-transform-3 c = let a = c .before .before .before .before .before .before .before .before .before .before .before .args in let d = a .head .transformer .«input_length» in let n = length (a .stamps .now) in let m = length (a .values .now) in block-bytes (a .i) n d m (c .before .before .before .before .before .before .before .before .before .before .before .pre .1 .1 .1 .1) (flat-of n d m (c .before .before .before .before .before .before .before .before .before .before .before .pre .1 .1 .1 .0)) (c .before .before .before .before .before .before .before .before .before .before .before .good .1 .1 .1 .1 .1 .0 .1)
+mul-write-transform-3 c =
+    let c8 = c .before .before .before .before .before .before .before .before in
+    let a = c8 .before .before .before .args in
+    let d = a .head .transformer .«input_length» in
+    let n = length (a .stamps .now) in
+    let m = length (a .values .now) in
+    block-bytes (a .i) n d m (c8 .before .before .before .pre .1 .1 .1 .1) (flat-of n d m (c8 .before .before .before .pre .1 .1 .1 .0))
+    (c8 .before .before .before .good .1 .1 .1 .1 .1 .0 .1)
 
 sub-write-transform : tie.Need-sub-write-transform
 sub-write-transform c = omega arith
 
 part-write-transform-start : tie.Need-part-write-transform-start
-part-write-transform-start c = let a = c .before .before .before .before .before .before .before .before .before .before .before .args in block-start (a .i) (a .head .transformer .«input_length»)
+part-write-transform-start c =
+    let c8 = c .before .before .before .before .before .before .before .before in
+    let a = c8 .before .before .before .args in block-start (a .i) (a .head .transformer .«input_length»)
 
 part-write-transform-end : tie.Need-part-write-transform-end
-part-write-transform-end c = let a = c .before .before .before .before .before .before .before .before .before .before .before .args in let d = a .head .transformer .«input_length» in let n = length (a .stamps .now) in let m = length (a .values .now) in block-end (a .i) n d m (c .before .before .before .before .before .before .before .before .before .before .before .pre .1 .1 .1 .1) (flat-of n d m (c .before .before .before .before .before .before .before .before .before .before .before .pre .1 .1 .1 .0)) (c .before .before .before .before .before .before .before .before .before .before .before .good .1 .1 .1 .1 .1 .0 .1)
+part-write-transform-end c =
+    let c8 = c .before .before .before .before .before .before .before .before in
+    let a = c8 .before .before .before .args in
+    let d = a .head .transformer .«input_length» in
+    let n = length (a .stamps .now) in
+    let m = length (a .values .now) in
+    block-end (a .i) n d m (c8 .before .before .before .pre .1 .1 .1 .1) (flat-of n d m (c8 .before .before .before .pre .1 .1 .1 .0)) (c8 .before .before .before .good .1 .1 .1 .1 .1 .0 .1)
 
 slice-aggregate-write-transform : tie.Need-slice-aggregate-write-transform
 slice-aggregate-write-transform c = search needs
@@ -50,25 +86,67 @@ write-transform-requires : tie.Need-write-transform-requires
 write-transform-requires c κs = tt
 
 mul-shift-vector : tie.Need-mul-shift-vector
-mul-shift-vector c = let a = c .before .before .before .before .before .before .before .before .before .before .before .before .before .before .before .before .args in let d = a .head .transformer .«input_length» in let n = length (a .stamps .now) in let m = length (a .values .now) in block-at (a .i) n d m (c .before .before .before .before .before .before .before .before .before .before .before .before .before .before .before .before .pre .1 .1 .1 .1) (flat-of n d m (c .before .before .before .before .before .before .before .before .before .before .before .before .before .before .before .before .pre .1 .1 .1 .0)) (c .before .before .before .before .before .before .before .before .before .before .before .before .before .before .before .before .good .1 .1 .1 .1 .1 .0 .1)
+mul-shift-vector c =
+    let c8 = c .before .before .before .before .before .before .before .before in
+    let a = c8 .before .before .before .before .before .before .before .before .args in
+    let d = a .head .transformer .«input_length» in
+    let n = length (a .stamps .now) in
+    let m = length (a .values .now) in
+    block-at (a .i) n d m (c8 .before .before .before .before .before .before .before .before .pre .1 .1 .1 .1)
+    (flat-of n d m (c8 .before .before .before .before .before .before .before .before .pre .1 .1 .1 .0))
+    (c8 .before .before .before .before .before .before .before .before .good .1 .1 .1 .1 .1 .0 .1)
 
 mul-shift-vector-2 : tie.Need-mul-shift-vector-2
-mul-shift-vector-2 c = let a = c .before .before .before .before .before .before .before .before .before .before .before .before .before .before .before .before .args in let d = a .head .transformer .«input_length» in let n = length (a .stamps .now) in let m = length (a .values .now) in block-at (a .i) n d m (c .before .before .before .before .before .before .before .before .before .before .before .before .before .before .before .before .pre .1 .1 .1 .1) (flat-of n d m (c .before .before .before .before .before .before .before .before .before .before .before .before .before .before .before .before .pre .1 .1 .1 .0)) (c .before .before .before .before .before .before .before .before .before .before .before .before .before .before .before .before .good .1 .1 .1 .1 .1 .0 .1)
+mul-shift-vector-2 c =
+    let c8 = c .before .before .before .before .before .before .before .before in
+    let a = c8 .before .before .before .before .before .before .before .before .args in
+    let d = a .head .transformer .«input_length» in
+    let n = length (a .stamps .now) in
+    let m = length (a .values .now) in
+    block-at (a .i) n d m (c8 .before .before .before .before .before .before .before .before .pre .1 .1 .1 .1)
+    (flat-of n d m (c8 .before .before .before .before .before .before .before .before .pre .1 .1 .1 .0))
+    (c8 .before .before .before .before .before .before .before .before .good .1 .1 .1 .1 .1 .0 .1)
 
 add-shift-vector : tie.Need-add-shift-vector
-add-shift-vector c = let a = c .before .before .before .before .before .before .before .before .before .before .before .before .before .before .before .before .args in let d = a .head .transformer .«input_length» in let n = length (a .stamps .now) in let m = length (a .values .now) in block-to (a .i) n d m (c .before .before .before .before .before .before .before .before .before .before .before .before .before .before .before .before .pre .1 .1 .1 .1) (flat-of n d m (c .before .before .before .before .before .before .before .before .before .before .before .before .before .before .before .before .pre .1 .1 .1 .0)) (c .before .before .before .before .before .before .before .before .before .before .before .before .before .before .before .before .good .1 .1 .1 .1 .1 .0 .1)
+add-shift-vector c =
+    let c8 = c .before .before .before .before .before .before .before .before in
+    let a = c8 .before .before .before .before .before .before .before .before .args in
+    let d = a .head .transformer .«input_length» in
+    let n = length (a .stamps .now) in
+    let m = length (a .values .now) in
+    block-to (a .i) n d m (c8 .before .before .before .before .before .before .before .before .pre .1 .1 .1 .1)
+    (flat-of n d m (c8 .before .before .before .before .before .before .before .before .pre .1 .1 .1 .0))
+    (c8 .before .before .before .before .before .before .before .before .good .1 .1 .1 .1 .1 .0 .1)
 
 mul-shift-vector-3 : tie.Need-mul-shift-vector-3
-mul-shift-vector-3 c = let a = c .before .before .before .before .before .before .before .before .before .before .before .before .before .before .before .before .args in let d = a .head .transformer .«input_length» in let n = length (a .stamps .now) in let m = length (a .values .now) in block-bytes (a .i) n d m (c .before .before .before .before .before .before .before .before .before .before .before .before .before .before .before .before .pre .1 .1 .1 .1) (flat-of n d m (c .before .before .before .before .before .before .before .before .before .before .before .before .before .before .before .before .pre .1 .1 .1 .0)) (c .before .before .before .before .before .before .before .before .before .before .before .before .before .before .before .before .good .1 .1 .1 .1 .1 .0 .1)
+mul-shift-vector-3 c =
+    let c8 = c .before .before .before .before .before .before .before .before in
+    let a = c8 .before .before .before .before .before .before .before .before .args in
+    let d = a .head .transformer .«input_length» in
+    let n = length (a .stamps .now) in
+    let m = length (a .values .now) in
+    block-bytes (a .i) n d m (c8 .before .before .before .before .before .before .before .before .pre .1 .1 .1 .1)
+    (flat-of n d m (c8 .before .before .before .before .before .before .before .before .pre .1 .1 .1 .0))
+    (c8 .before .before .before .before .before .before .before .before .good .1 .1 .1 .1 .1 .0 .1)
 
 sub-shift-vector : tie.Need-sub-shift-vector
 sub-shift-vector c = omega arith
 
 part-shift-vector-start : tie.Need-part-shift-vector-start
-part-shift-vector-start c = let a = c .before .before .before .before .before .before .before .before .before .before .before .before .before .before .before .before .args in block-start (a .i) (a .head .transformer .«input_length»)
+part-shift-vector-start c =
+    let c8 = c .before .before .before .before .before .before .before .before in
+    let a = c8 .before .before .before .before .before .before .before .before .args in block-start (a .i) (a .head .transformer .«input_length»)
 
 part-shift-vector-end : tie.Need-part-shift-vector-end
-part-shift-vector-end c = let a = c .before .before .before .before .before .before .before .before .before .before .before .before .before .before .before .before .args in let d = a .head .transformer .«input_length» in let n = length (a .stamps .now) in let m = length (a .values .now) in block-end (a .i) n d m (c .before .before .before .before .before .before .before .before .before .before .before .before .before .before .before .before .pre .1 .1 .1 .1) (flat-of n d m (c .before .before .before .before .before .before .before .before .before .before .before .before .before .before .before .before .pre .1 .1 .1 .0)) (c .before .before .before .before .before .before .before .before .before .before .before .before .before .before .before .before .good .1 .1 .1 .1 .1 .0 .1)
+part-shift-vector-end c =
+    let c8 = c .before .before .before .before .before .before .before .before in
+    let a = c8 .before .before .before .before .before .before .before .before .args in
+    let d = a .head .transformer .«input_length» in
+    let n = length (a .stamps .now) in
+    let m = length (a .values .now) in
+    block-end (a .i) n d m (c8 .before .before .before .before .before .before .before .before .pre .1 .1 .1 .1)
+    (flat-of n d m (c8 .before .before .before .before .before .before .before .before .pre .1 .1 .1 .0))
+    (c8 .before .before .before .before .before .before .before .before .good .1 .1 .1 .1 .1 .0 .1)
 
 shift-vector-requires : tie.Need-shift-vector-requires
 shift-vector-requires c κs = tt
@@ -77,7 +155,13 @@ array-share-prefix-z : tie.Need-array-share-prefix-z
 array-share-prefix-z c = search needs
 
 slice-aggregate-shift-vector : tie.Need-slice-aggregate-shift-vector
-slice-aggregate-shift-vector c = simp length-take (omega (arith, c .before .before .before .before .before .before .before .before .write-transform .kept, (block-known (c .before .before .before .before .before .before .before .before .before .before .before .before .before .before .block-of .ensures) (search needs))))
+slice-aggregate-shift-vector c =
+    let c8 = c .before .before .before .before .before .before .before .before in
+    simp length-take (omega (
+      arith,
+      c .before .before .before .before .before .before .before .before .write-transform .kept,
+      (block-known (c8 .before .before .before .before .before .before .block-of .ensures) (search needs)),
+    ))
 
 shift-vector-requires-2 : tie.Need-shift-vector-requires-2
 shift-vector-requires-2 c κs = tt
@@ -86,7 +170,9 @@ shift-time-requires : tie.Need-shift-time-requires
 shift-time-requires c κs = tt
 
 same-length : tie.Need-same-length
-same-length c = c .before .before .before .before .before .before .before .before .before .before .before .shift-vector .kept .0
+same-length c =
+    let c8 = c .before .before .before .before .before .before .before .before in
+    c8 .before .before .before .shift-vector .kept .0
 
 same-length-2 : tie.Need-same-length-2
 same-length-2 c = c .before .before .before .before .before .before .shift-vector2 .kept .0
@@ -95,7 +181,52 @@ same-length-3 : tie.Need-same-length-3
 same-length-3 c = c .before .before .shift-time .kept .0
 
 returns : tie.Need-returns
-returns c = let a = c .before .before .before .before .before .before .before .before .before .before .before .before .before .before .before .before .before .before .before .before .before .before .before .before .before .before .before .before .before .args in let d = a .head .transformer .«input_length» in let n = length (a .stamps .now) in let e = (block-known (c .before .before .before .before .before .before .before .before .before .before .before .before .before .before .before .before .before .before .before .before .before .block-of .ensures) (c .before .before .before .before .before .before .before .before .before .before .before .before .before .before .before .before .before .before .before .before .before .before .before .before .before .before .before .before .before .pre .0 .d-few)) .0 ∙ sym (block-is (settingsOf (a .head))) in ((roomy _ (c .before .before .before .before .before .before .before .before .before .before .before .shift-vector .ensures) (let a = c .before .before .before .before .before .before .before .before .before .before .before .before .before .before .before .before .before .before .before .before .before .before .before .before .before .before .before .before .before .args in let d = a .head .transformer .«input_length» in let n = length (a .stamps .now) in let b = block-in (a .i) n d (omega (arith, c .before .before .before .before .before .before .before .before .before .before .before .before .before .before .before .before .before .before .before .before .before .before .before .before .before .before .before .before .before .pre)) in let m = le-mul-of-pos-right d (c .before .before .before .before .before .before .before .before .before .before .before .before .before .before .before .before .before .before .before .before .before .before .before .before .before .before .before .before .before .pre .0 .k-pos) in simp (length-drop, length-take) (omega (arith, c .before .before .before .before .before .before .before .before .before .before .before .before .before .before .before .before .before .before .before .before .before .before .before .before .before .before .before .before .before .pre)))) ∙ ap (shiftIn (a .inputs .now)) (block-cut (a .i) d (a .values .now)), ((roomy _ (c .before .before .before .before .before .before .shift-vector2 .ensures) (let a = c .before .before .before .before .before .before .before .before .before .before .before .before .before .before .before .before .before .before .before .before .before .before .before .before .before .before .before .before .before .args in let d = a .head .transformer .«input_length» in let n = length (a .stamps .now) in let m = block-fits (settingsOf (a .head)) (c .before .before .before .before .before .before .before .before .before .before .before .before .before .before .before .before .before .before .before .before .before .before .before .before .before .before .before .before .before .pre .0 .k-pos) in simp length-take (omega (arith, c .before .before .before .before .before .before .before .before .before .before .before .before .before .before .before .write-transform .kept, (block-known (c .before .before .before .before .before .before .before .before .before .before .before .before .before .before .before .before .before .before .before .before .before .block-of .ensures) (c .before .before .before .before .before .before .before .before .before .before .before .before .before .before .before .before .before .before .before .before .before .before .before .before .before .before .before .before .before .pre .0 .d-few)), block-is (settingsOf (a .head)), c .before .before .before .before .before .before .before .before .before .before .before .before .before .before .before .before .before .before .before .before .before .before .before .before .before .before .before .before .before .pre)))) ∙ point-cut (settingsOf (a .head)) (a .s .now) (a .head .«values_seen») _ d (a .values .now) (a .i) _ _ _ (a .points .now) (c .before .before .before .before .before .before .before .before .before .before .before .before .before .before .before .before .before .before .before .before .before .block-of .result) e ((opened _ (c .before .before .before .before .before .before .before .before .before .before .before .before .before .before .before .write-transform .ensures) (transform-fits (let a = c .before .before .before .before .before .before .before .before .before .before .before .before .before .before .before .before .before .before .before .before .before .before .before .before .before .before .before .before .before .args in let d = a .head .transformer .«input_length» in let n = length (a .stamps .now) in let b = block-in (a .i) n d (omega (arith, c .before .before .before .before .before .before .before .before .before .before .before .before .before .before .before .before .before .before .before .before .before .before .before .before .before .before .before .before .before .pre)) in (c .before .before .before .before .before .before .before .before .before .before .before .before .before .before .before .before .before .before .before .before .before .before .before .before .before .before .before .before .before .pre .0, (c .before .before .before .before .before .before .before .before .before .before .before .before .before .before .before .before .before .before .before .before .before .before .before .before .before .before .before .before .before .pre .1 .0, (simp (length-drop, length-take) (omega (arith, c .before .before .before .before .before .before .before .before .before .before .before .before .before .before .before .before .before .before .before .before .before .before .before .before .before .before .before .before .before .pre)), omega (arith, (block-known (c .before .before .before .before .before .before .before .before .before .before .before .before .before .before .before .before .before .before .before .before .before .block-of .ensures) (c .before .before .before .before .before .before .before .before .before .before .before .before .before .before .before .before .before .before .before .before .before .before .before .before .before .before .before .before .before .pre .0 .d-few)), block-is (settingsOf (a .head)))))))))), (roomy _ (c .before .before .shift-time .ensures) (omega (arith, c .before .before .before .before .before .before .before .before .before .before .before .before .before .before .before .before .before .before .before .before .before .before .before .before .before .before .before .before .before .pre .0 .k-pos, c .before .before .before .before .before .before .before .before .before .before .before .before .before .before .before .before .before .before .before .before .before .before .before .before .before .before .before .before .before .pre .1 .0 .all-times)))))
+returns c =
+    let c8 = c .before .before .before .before .before .before .before .before in
+    let c16 = c8 .before .before .before .before .before .before .before .before in
+    let c24 = c16 .before .before .before .before .before .before .before .before in
+    let a = c24 .before .before .before .before .before .args in
+    let d = a .head .transformer .«input_length» in
+    let n = length (a .stamps .now) in
+    let e = (block-known (c16 .before .before .before .before .before .block-of .ensures) (c24 .before .before .before .before .before .pre .0 .d-few)) .0 ∙ sym
+    (block-is (settingsOf (a .head))) in (
+      (roomy _ (c8 .before .before .before .shift-vector .ensures)
+          (let a = c24 .before .before .before .before .before .args in let d = a .head .transformer .«input_length» in let n = length (a .stamps .now) in let b = block-in (a .i) n d
+          (omega (arith, c24 .before .before .before .before .before .pre)) in let m = le-mul-of-pos-right d (c24 .before .before .before .before .before .pre .0 .k-pos) in simp
+          (length-drop, length-take) (omega (arith, c24 .before .before .before .before .before .pre)))) ∙ ap (shiftIn (a .inputs .now)) (block-cut (a .i) d (a .values .now)),
+      (
+        (roomy _ (c .before .before .before .before .before .before .shift-vector2 .ensures)
+            (let a = c24 .before .before .before .before .before .args in let d = a .head .transformer .«input_length» in let n = length (a .stamps .now) in let m = block-fits
+            (settingsOf (a .head)) (c24 .before .before .before .before .before .pre .0 .k-pos) in simp length-take
+            (omega (
+              arith,
+              c8 .before .before .before .before .before .before .before .write-transform .kept,
+              (block-known (c16 .before .before .before .before .before .block-of .ensures) (c24 .before .before .before .before .before .pre .0 .d-few)),
+              block-is (settingsOf (a .head)),
+              c24 .before .before .before .before .before .pre,
+            )))) ∙ point-cut (settingsOf (a .head)) (a .s .now) (a .head .«values_seen») _ d (a .values .now) (a .i) _ _ _ (a .points .now)
+            (c16 .before .before .before .before .before .block-of .result) e
+            ((opened _ (c8 .before .before .before .before .before .before .before .write-transform .ensures)
+            (transform-fits (let a = c24 .before .before .before .before .before .args in let d = a .head .transformer .«input_length» in let n = length (a .stamps .now) in let b = block-in (a .i)
+            n d (omega (arith, c24 .before .before .before .before .before .pre)) in (
+              c24 .before .before .before .before .before .pre .0,
+              (
+                c24 .before .before .before .before .before .pre .1 .0,
+                (
+                  simp (length-drop, length-take) (omega (arith, c24 .before .before .before .before .before .pre)),
+                  omega (
+                    arith,
+                    (block-known (c16 .before .before .before .before .before .block-of .ensures) (c24 .before .before .before .before .before .pre .0 .d-few)),
+                    block-is
+                        (settingsOf (a .head)),
+                  ),
+                ),
+              ),
+            ))))),
+        (roomy _ (c .before .before .shift-time .ensures)
+            (omega (arith, c24 .before .before .before .before .before .pre .0 .k-pos, c24 .before .before .before .before .before .pre .1 .0 .all-times))),
+      ),
+    )
 
 pub drain-turn-spec : {M : Type 1} → statement M
 drain-turn-spec =

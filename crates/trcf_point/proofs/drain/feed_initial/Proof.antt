@@ -11,7 +11,9 @@ use Rattle.trcf_point.proofs.drain.feed_initial.Tie as tie
 
 abbrev Inv-loop : tie.InvT-loop
 Inv-loop head s₀ values stamps from i₀ s i =
-    (length s ≡ length s₀) × (feedAll (settingsOf head) (head .transformer .count + from) s₀ (readingAt (head .transformer .«input_length») values stamps (from - 1)) (left (head .transformer .«input_length») values stamps from) ≡ feedAll (settingsOf head) (head .transformer .count + i) s (readingAt (head .transformer .«input_length») values stamps (i - 1)) (left (head .transformer .«input_length») values stamps i))
+    (length s ≡ length s₀) × (feedAll (settingsOf head) (head .transformer .count + from) s₀ (readingAt (head .transformer .«input_length») values stamps (from - 1))
+    (left (head .transformer .«input_length») values stamps from) ≡ feedAll (settingsOf head) (head .transformer .count + i) s
+    (readingAt (head .transformer .«input_length») values stamps (i - 1)) (left (head .transformer .«input_length») values stamps i))
 
 abbrev μ-loop : tie.MeasureT-loop
 μ-loop head s₀ values stamps from i₀ s i = length stamps - i
@@ -29,13 +31,31 @@ loop-less : tie.Need-loop-less Inv-loop μ-loop
 loop-less c = omega arith
 
 loop-again : tie.Need-loop-again Inv-loop μ-loop
-loop-again c = let a = c .before .before .before .before .before .before .before .before .before .args in let d = a .head .transformer .«input_length» in let v = a .values .now in let ts = a .stamps .now in let L = c .before .before .before .before .before .loop in let h : L .fed < length ts = omega arith in (omega (arith, c .before .before .feed-turn .kept, L .inv), L .inv .1 ∙ feed-again (settingsOf (a .head)) d v ts (L .fed) (a .head .transformer .count) (L .s) _ h (c .before .before .feed-turn .ensures))
+loop-again c =
+    let c8 = c .before .before .before .before .before .before .before .before in
+    let a = c8 .before .args in
+    let d = a .head .transformer .«input_length» in
+    let v = a .values .now in
+    let ts = a .stamps .now in
+    let L = c .before .before .before .before .before .loop in
+    let h : L .fed < length ts = omega arith in (
+      omega (arith, c .before .before .feed-turn .kept, L .inv),
+      L .inv .1 ∙ feed-again (settingsOf (a .head)) d v ts (L .fed) (a .head .transformer .count) (L .s) _ h
+          (c .before .before .feed-turn .ensures),
+    )
 
 same-length : tie.Need-same-length Inv-loop μ-loop
 same-length c = omega arith
 
 returns : tie.Need-returns Inv-loop μ-loop
-returns c = let a = c .before .before .before .before .before .args in let d = a .head .transformer .«input_length» in let v = a .values .now in let ts = a .stamps .now in let L = c .before .loop in let h : length ts ≤ L .fed = omega arith in sym (L .inv .1 ∙ ap (feedAll (settingsOf (a .head)) (a .head .transformer .count + L .fed) (L .s) (readingAt d v ts (L .fed - 1))) (left-none d v ts (L .fed) h))
+returns c =
+    let a = c .before .before .before .before .before .args in
+    let d = a .head .transformer .«input_length» in
+    let v = a .values .now in
+    let ts = a .stamps .now in
+    let L = c .before .loop in
+    let h : length ts ≤ L .fed = omega arith in
+    sym (L .inv .1 ∙ ap (feedAll (settingsOf (a .head)) (a .head .transformer .count + L .fed) (L .s) (readingAt d v ts (L .fed - 1))) (left-none d v ts (L .fed) h))
 
 pub feed-initial-spec : {M : Type 1} → statement M
 feed-initial-spec = tie.close (tie.spec Inv-loop μ-loop loop-holds feed-turn-requires add-fed loop-less loop-again same-length returns)

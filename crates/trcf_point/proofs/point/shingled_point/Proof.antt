@@ -30,7 +30,8 @@ same-length-5 c = refl
 
 returns : tie.Need-returns
 returns c =
-    let a = c .before .before .before .before .before .before .before .before .before .before .before .before .before .before .before .args in
+    let c8 = c .before .before .before .before .before .before .before .before in
+    let a = c8 .before .before .before .before .before .before .before .args in
     let l = lent (a .statistics .now) (a .last-shingled-input .now) (a .last-shingled-point .now) (a .previous-timestamps .now) (a .initial-values .now) (a .initial-timestamps .now) in
     point-stays (a .head) l (a .input .now) (a .timestamp) (a .output .now) (c .before .shingled-point-row .result) (c .before .shingled-point-row .ensures .0 (a .timestamp)) (c .if1 .taken)
 
@@ -54,43 +55,65 @@ same-length-10 c = refl
 
 returns-2 : tie.Need-returns-2
 returns-2 c =
-    let a = c .before .before .before .before .before .before .before .before .before .before .before .before .before .before .before .before .before .args in
+    let c8 = c .before .before .before .before .before .before .before .before in
+    let c16 = c8 .before .before .before .before .before .before .before .before in
+    let a = c16 .before .args in
     let l = lent (a .statistics .now) (a .last-shingled-input .now) (a .last-shingled-point .now) (a .previous-timestamps .now) (a .initial-values .now) (a .initial-timestamps .now) in
     let o = c .before .before .before .shingled-point-row in
     let z = c .before .before .if1 .left in
-    point-holds (a .head) l (a .input .now) (a .timestamp) (a .output .now) (o .result) (o .ensures .0 (a .timestamp)) z (c .before .is-waiting .result) (c .before .is-waiting .ensures) (c .if2 .taken) (o .ensures .1 .0 z .fitted)
+    point-holds (a .head) l (a .input .now) (a .timestamp) (a .output .now) (o .result) (o .ensures .0 (a .timestamp)) z (c .before .is-waiting .result) (c .before .is-waiting .ensures)
+    (c .if2 .taken) (o .ensures .1 .0 z .fitted)
 
 drain-due-requires : tie.Need-drain-due-requires
 drain-due-requires c κs =
-    let a = c .before .before .before .before .before .before .before .before .before .before .before .before .before .before .before .before .before .before .before .before .before .args in
+    let c8 = c .before .before .before .before .before .before .before .before in
+    let c16 = c8 .before .before .before .before .before .before .before .before in
+    let a = c16 .before .before .before .before .before .args in
     let h = a .head in
     let l = lent (a .statistics .now) (a .last-shingled-input .now) (a .last-shingled-point .now) (a .previous-timestamps .now) (a .initial-values .now) (a .initial-timestamps .now) in
     let x = a .input .now in
     let o = a .output .now in
-    let e = c .before .before .before .before .before .before .before .shingled-point-row .ensures .0 (a .timestamp) in
-    (c .before .before .before .before .before .before .before .shingled-point-row .ensures .1 .0 (c .before .before .before .before .before .before .if1 .left), past-room h l (length o) (c .before .before .before .before .before .before .before .shingled-point-row .ensures .1 .1 (c .before .before .before .before .before .before .if1 .left) .past) (sym (c .before .before .before .before .before .is-waiting .ensures) ∙ c .before .before .before .before .if2 .left))
+    let e = c .before .before .before .before .before .before .before .shingled-point-row .ensures .0 (a .timestamp) in (
+      c .before .before .before .before .before .before .before .shingled-point-row .ensures .1 .0 (c .before .before .before .before .before .before .if1 .left),
+      past-room h l (length o)
+          (c .before .before .before .before .before .before .before .shingled-point-row .ensures .1 .1 (c .before .before .before .before .before .before .if1 .left) .past)
+          (sym (c .before .before .before .before .before .is-waiting .ensures) ∙ c .before .before .before .before .if2 .left),
+    )
 
 write-point-requires : tie.Need-write-point-requires
 write-point-requires c κs =
-    let a = c .before .before .before .before .before .before .before .before .before .before .before .before .before .before .before .before .before .before .before .before .before .before .before .before .before .before .before .before .before .before .before .before .before .before .before .args in
+    let c8 = c .before .before .before .before .before .before .before .before in
+    let c16 = c8 .before .before .before .before .before .before .before .before in
+    let c24 = c16 .before .before .before .before .before .before .before .before in
+    let c32 = c24 .before .before .before .before .before .before .before .before in
+    let a = c32 .before .before .before .args in
     let l = lent (a .statistics .now) (a .last-shingled-input .now) (a .last-shingled-point .now) (a .previous-timestamps .now) (a .initial-values .now) (a .initial-timestamps .now) in
-    let o = c .before .before .before .before .before .before .before .before .before .before .before .before .before .before .before .before .before .before .before .before .before .shingled-point-row in
-    let z = c .before .before .before .before .before .before .before .before .before .before .before .before .before .before .before .before .before .before .before .before .if1 .left in
-    let d = c .before .before .before .before .before .before .before .before .before .before .before .before .before .drain-due in
-    let g = past-long (a .head) l (length (a .output .now)) (o .ensures .1 .1 z .past) (sym (c .before .before .before .before .before .before .before .before .before .before .before .before .before .before .before .before .before .before .before .is-waiting .ensures) ∙ c .before .before .before .before .before .before .before .before .before .before .before .before .before .before .before .before .before .before .if2 .left) in
-    room-point (a .head) l (length (a .input .now)) (length (a .output .now)) _ _ _ _ (drained (view (a .head) l)) (d .result) (ap (λ (u : Outcome). u .head) (d .ensures .0)) (o .ensures .1 .0 z) (d .kept .1 .0) (d .kept .1 .1 .0) (d .kept .1 .1 .1 .0) (d .kept .1 .1 .1 .1 .0) (o .ensures .1 .1 z .whole) g
+    let o = c16 .before .before .before .before .before .shingled-point-row in
+    let z = c16 .before .before .before .before .if1 .left in
+    let d = c8 .before .before .before .before .before .drain-due in
+    let g = past-long (a .head) l (length (a .output .now)) (o .ensures .1 .1 z .past) (sym (c16 .before .before .before .is-waiting .ensures) ∙ c16 .before .before .if2 .left) in
+    room-point (a .head) l (length (a .input .now)) (length (a .output .now)) _ _ _ _ (drained (view (a .head) l)) (d .result) (ap (λ (u : Outcome). u .head) (d .ensures .0))
+    (o .ensures .1 .0 z) (d .kept .1 .0) (d .kept .1 .1 .0) (d .kept .1 .1 .1 .0) (d .kept .1 .1 .1 .1 .0) (o .ensures .1 .1 z .whole) g
 
 same-length-11 : tie.Need-same-length-11
-same-length-11 c = c .before .before .before .before .before .before .before .before .before .before .before .before .before .before .before .before .drain-due .kept .1 .0
+same-length-11 c =
+    let c8 = c .before .before .before .before .before .before .before .before in
+    c8 .before .before .before .before .before .before .before .before .drain-due .kept .1 .0
 
 same-length-12 : tie.Need-same-length-12
-same-length-12 c = c .before .before .before .before .before .before .before .before .before .before .before .before .before .before .before .before .drain-due .kept .1 .1 .0
+same-length-12 c =
+    let c8 = c .before .before .before .before .before .before .before .before in
+    c8 .before .before .before .before .before .before .before .before .drain-due .kept .1 .1 .0
 
 same-length-13 : tie.Need-same-length-13
-same-length-13 c = c .before .before .before .before .before .before .before .before .before .before .before .before .before .before .before .before .drain-due .kept .1 .1 .1 .0
+same-length-13 c =
+    let c8 = c .before .before .before .before .before .before .before .before in
+    c8 .before .before .before .before .before .before .before .before .drain-due .kept .1 .1 .1 .0
 
 same-length-14 : tie.Need-same-length-14
-same-length-14 c = c .before .before .before .before .before .before .before .before .before .before .before .before .before .before .before .before .drain-due .kept .1 .1 .1 .1 .0
+same-length-14 c =
+    let c8 = c .before .before .before .before .before .before .before .before in
+    c8 .before .before .before .before .before .before .before .before .drain-due .kept .1 .1 .1 .1 .0
 
 same-length-15 : tie.Need-same-length-15
 same-length-15 c = c .before .before .write-point .kept .1 .1 .1 .1 .1 .1 .1 .0
@@ -98,11 +121,18 @@ same-length-15 c = c .before .before .write-point .kept .1 .1 .1 .1 .1 .1 .1 .0
 returns-3 : tie.Need-returns-3
 unfolding pointOf view previous
 returns-3 c =
-    let a = c .before .before .before .before .before .before .before .before .before .before .before .before .before .before .before .before .before .before .before .before .before .before .before .before .before .before .before .before .before .before .before .before .before .before .before .before .before .before .args in
+    let c8 = c .before .before .before .before .before .before .before .before in
+    let c16 = c8 .before .before .before .before .before .before .before .before in
+    let c24 = c16 .before .before .before .before .before .before .before .before in
+    let c32 = c24 .before .before .before .before .before .before .before .before in
+    let a = c32 .before .before .before .before .before .before .args in
     let l = lent (a .statistics .now) (a .last-shingled-input .now) (a .last-shingled-point .now) (a .previous-timestamps .now) (a .initial-values .now) (a .initial-timestamps .now) in
-    let o = c .before .before .before .before .before .before .before .before .before .before .before .before .before .before .before .before .before .before .before .before .before .before .before .before .shingled-point-row in
-    let d = c .before .before .before .before .before .before .before .before .before .before .before .before .before .before .before .before .drain-due in
-    point-goes (a .head) l (a .input .now) (a .timestamp) (a .output .now) (o .result) (o .ensures .0 (a .timestamp)) (c .before .before .before .before .before .before .before .before .before .before .before .before .before .before .before .before .before .before .before .before .before .before .before .if1 .left) (c .before .before .before .before .before .before .before .before .before .before .before .before .before .before .before .before .before .before .before .before .before .before .is-waiting .result) (c .before .before .before .before .before .before .before .before .before .before .before .before .before .before .before .before .before .before .before .before .before .before .is-waiting .ensures) (c .before .before .before .before .before .before .before .before .before .before .before .before .before .before .before .before .before .before .before .before .before .if2 .left) _ _ _ _ (d .ensures .0) (d .ensures .1) (c .before .before .write-point .ensures)
+    let o = c16 .before .before .before .before .before .before .before .before .shingled-point-row in
+    let d = c8 .before .before .before .before .before .before .before .before .drain-due in
+    point-goes (a .head) l (a .input .now) (a .timestamp) (a .output .now) (o .result) (o .ensures .0 (a .timestamp))
+    (c16 .before .before .before .before .before .before .before .if1 .left) (c16 .before .before .before .before .before .before .is-waiting .result)
+    (c16 .before .before .before .before .before .before .is-waiting .ensures) (c16 .before .before .before .before .before .if2 .left) _ _ _ _ (d .ensures .0) (d .ensures .1)
+    (c .before .before .write-point .ensures)
 
 pub shingled-point-spec : {M : Type 1} → statement M
 shingled-point-spec =

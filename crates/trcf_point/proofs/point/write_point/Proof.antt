@@ -24,25 +24,39 @@ get-dimension-requires : tie.Need-get-dimension-requires
 get-dimension-requires c κs = tt
 
 mul-write-transform : tie.Need-mul-write-transform
-mul-write-transform c = five (c .before .before .before .before .before .before .before .before .before .pre .0 .d-few)
+mul-write-transform c =
+    let c8 = c .before .before .before .before .before .before .before .before in
+    five (c8 .before .pre .0 .d-few)
 
 add-write-transform : tie.Need-add-write-transform
-add-write-transform c = five-more (c .before .before .before .before .before .before .before .before .before .pre .0 .d-few)
+add-write-transform c =
+    let c8 = c .before .before .before .before .before .before .before .before in
+    five-more (c8 .before .pre .0 .d-few)
 
 mul-write-transform-2 : tie.Need-mul-write-transform-2
-mul-write-transform-2 c = all-statistics (c .before .before .before .before .before .before .before .before .before .pre .0 .d-few)
+mul-write-transform-2 c =
+    let c8 = c .before .before .before .before .before .before .before .before in
+    all-statistics (c8 .before .pre .0 .d-few)
 
 slice-aggregate-write-transform : tie.Need-slice-aggregate-write-transform
-slice-aggregate-write-transform c = sym (length-take-le _ _ (c .before .before .before .before .before .before .before .before .before .before .pre .1 .0))
+slice-aggregate-write-transform c =
+    let c8 = c .before .before .before .before .before .before .before .before in
+    sym (length-take-le _ _ (c8 .before .before .pre .1 .0))
 
 mul-write-transform-3 : tie.Need-mul-write-transform-3
-mul-write-transform-3 c = let b = c .before .before .before .before .before .before .before .before .before .before .pre .0 in all-inputs (b .d-few) (b .k-few)
+mul-write-transform-3 c =
+    let c8 = c .before .before .before .before .before .before .before .before in
+    let b = c8 .before .before .pre .0 in all-inputs (b .d-few) (b .k-few)
 
 slice-aggregate-write-transform-2 : tie.Need-slice-aggregate-write-transform-2
-slice-aggregate-write-transform-2 c = sym (length-take-le _ _ (c .before .before .before .before .before .before .before .before .before .before .before .pre .1 .1 .0))
+slice-aggregate-write-transform-2 c =
+    let c8 = c .before .before .before .before .before .before .before .before in
+    sym (length-take-le _ _ (c8 .before .before .before .pre .1 .1 .0))
 
 slice-aggregate-write-transform-3 : tie.Need-slice-aggregate-write-transform-3
-slice-aggregate-write-transform-3 c = sym (length-take-le _ _ (c .before .before .before .before .before .before .before .before .before .before .before .before .pre .1 .1 .1 .1 .0))
+slice-aggregate-write-transform-3 c =
+    let c8 = c .before .before .before .before .before .before .before .before in
+    sym (length-take-le _ _ (c8 .before .before .before .before .pre .1 .1 .1 .1 .0))
 
 slice-aggregate-write-transform-4 : tie.Need-slice-aggregate-write-transform-4
 slice-aggregate-write-transform-4 c = search needs
@@ -51,22 +65,46 @@ write-transform-requires : tie.Need-write-transform-requires
 write-transform-requires c κs = tt
 
 slice-aggregate-copy-in : tie.Need-slice-aggregate-copy-in
-slice-aggregate-copy-in c = let a = c .before .before .before .before .before .before .before .before .before .before .before .before .before .before .before .before .before .args in let q = c .before .before .before .before .before .before .before .before .before .before .before .before .before .before .before .before .before .pre in simp length-take (omega (arith, q, (dimension-known (c .before .before .before .before .before .before .before .before .get-dimension .ensures) (search needs))))
+slice-aggregate-copy-in c =
+    let c8 = c .before .before .before .before .before .before .before .before in
+    let c16 = c8 .before .before .before .before .before .before .before .before in
+    let a = c16 .before .args in
+    let q = c16 .before .pre in
+    simp length-take (omega (arith, q, (dimension-known (c .before .before .before .before .before .before .before .before .get-dimension .ensures) (search needs))))
 
 copy-in-requires : tie.Need-copy-in-requires
 copy-in-requires c κs = tt
 
 slice-relend-prefix-shift-vector : tie.Need-slice-relend-prefix-shift-vector
-slice-relend-prefix-shift-vector c = let a = c .before .before .before .before .before .before .before .before .before .before .before .before .before .before .before .before .before .before .before .before .args in let q = c .before .before .before .before .before .before .before .before .before .before .before .before .before .before .before .before .before .before .before .before .pre in omega (arith, q, (dimension-known (c .before .before .before .before .before .before .before .before .before .before .before .get-dimension .ensures) (search needs)), c .before .before .copy-in .kept)
+slice-relend-prefix-shift-vector c =
+    let c8 = c .before .before .before .before .before .before .before .before in
+    let c16 = c8 .before .before .before .before .before .before .before .before in
+    let a = c16 .before .before .before .before .args in
+    let q = c16 .before .before .before .before .pre in
+    omega (arith, q, (dimension-known (c8 .before .before .before .get-dimension .ensures) (search needs)), c .before .before .copy-in .kept)
 
 slice-aggregate-shift-vector : tie.Need-slice-aggregate-shift-vector
-slice-aggregate-shift-vector c = let a = c .before .before .before .before .before .before .before .before .before .before .before .before .before .before .before .before .before .before .before .before .before .args in let q = c .before .before .before .before .before .before .before .before .before .before .before .before .before .before .before .before .before .before .before .before .before .pre in simp length-take (omega (arith, q, (dimension-known (c .before .before .before .before .before .before .before .before .before .before .before .before .get-dimension .ensures) (search needs)), c .before .before .before .copy-in .kept))
+slice-aggregate-shift-vector c =
+    let c8 = c .before .before .before .before .before .before .before .before in
+    let c16 = c8 .before .before .before .before .before .before .before .before in
+    let a = c16 .before .before .before .before .before .args in
+    let q = c16 .before .before .before .before .before .pre in
+    simp length-take (omega (arith, q, (dimension-known (c8 .before .before .before .before .get-dimension .ensures) (search needs)), c .before .before .before .copy-in .kept))
 
 array-share-prefix-z : tie.Need-array-share-prefix-z
 array-share-prefix-z c = search needs
 
 slice-aggregate-shift-vector-2 : tie.Need-slice-aggregate-shift-vector-2
-slice-aggregate-shift-vector-2 c = let a = c .before .before .before .before .before .before .before .before .before .before .before .before .before .before .before .before .before .before .before .before .before .before .args in let q = c .before .before .before .before .before .before .before .before .before .before .before .before .before .before .before .before .before .before .before .before .before .before .pre in simp length-take (omega (arith, (block-known (c .before .before .before .before .before .before .before .before .before .before .before .before .before .before .block-of .ensures) (search needs)), c .before .before .before .before .before .before .before .before .write-transform .kept))
+slice-aggregate-shift-vector-2 c =
+    let c8 = c .before .before .before .before .before .before .before .before in
+    let c16 = c8 .before .before .before .before .before .before .before .before in
+    let a = c16 .before .before .before .before .before .before .args in
+    let q = c16 .before .before .before .before .before .before .pre in
+    simp length-take (omega (
+      arith,
+      (block-known (c8 .before .before .before .before .before .before .block-of .ensures) (search needs)),
+      c .before .before .before .before .before .before .before .before .write-transform .kept,
+    ))
 
 shift-vector-requires : tie.Need-shift-vector-requires
 shift-vector-requires c κs = tt
@@ -76,7 +114,45 @@ same-length c = search needs
 
 returns : tie.Need-returns
 unfolding pointOf view previous
-returns c = let a = c .before .before .before .before .before .before .before .before .before .before .before .before .before .before .before .before .before .before .before .before .before .before .before .before .before .args in let q = c .before .before .before .before .before .before .before .before .before .before .before .before .before .before .before .before .before .before .before .before .before .before .before .before .before .pre in let m = block-fits (settingsOf (a .head)) (q .0 .k-pos) in let e = (block-known (c .before .before .before .before .before .before .before .before .before .before .before .before .before .before .before .before .before .block-of .ensures) (search needs)) .0 ∙ sym (block-is (settingsOf (a .head))) in point-written (a .output .now) (take (c .before .before .before .before .before .before .before .before .before .before .before .before .before .before .before .before .get-dimension .result) (a .last-shingled-point .now)) _ _ _ _ _ (c .before .before .before .before .before .before .before .before .before .before .before .before .before .before .before .before .before .block-of .result) (c .before .before .before .before .before .before .before .before .before .before .before .before .before .before .before .before .get-dimension .result) ((roomy _ (c .before .before .before .before .before .before .before .copy-in .ensures) (let a = c .before .before .before .before .before .before .before .before .before .before .before .before .before .before .before .before .before .before .before .before .before .before .before .before .before .args in let q = c .before .before .before .before .before .before .before .before .before .before .before .before .before .before .before .before .before .before .before .before .before .before .before .before .before .pre in simp length-take (omega (arith, q, (dimension-known (c .before .before .before .before .before .before .before .before .before .before .before .before .before .before .before .before .get-dimension .ensures) (search needs)))))) ∙ paste-over _ _) (length-take-le _ _ (omega (arith, q, (dimension-known (c .before .before .before .before .before .before .before .before .before .before .before .before .before .before .before .before .get-dimension .ensures) (search needs))))) ((opened _ (c .before .before .before .before .before .before .before .before .before .before .before .write-transform .ensures) (transform-fits (let a = c .before .before .before .before .before .before .before .before .before .before .before .before .before .before .before .before .before .before .before .before .before .before .before .before .before .args in let q = c .before .before .before .before .before .before .before .before .before .before .before .before .before .before .before .before .before .before .before .before .before .before .before .before .before .pre in (q .0, (record { all-statistics = length-take-le _ _ (q .1 .0); all-input = length-take-le _ _ (q .1 .1 .0); all-times = length-take-le _ _ (q .1 .1 .1 .1 .0) }, (q .1 .1 .1 .1 .1 .0, omega (arith, (block-known (c .before .before .before .before .before .before .before .before .before .before .before .before .before .before .before .before .before .block-of .ensures) (search needs)), block-is (settingsOf (a .head)))))))))) (transformedAfter-length _ _ _ _ _ ∙ sym e) (omega (arith, e, (dimension-known (c .before .before .before .before .before .before .before .before .before .before .before .before .before .before .before .before .get-dimension .ensures) (search needs)), m)) ((roomy _ (c .before .before .shift-vector .ensures) (let a = c .before .before .before .before .before .before .before .before .before .before .before .before .before .before .before .before .before .before .before .before .before .before .before .before .before .args in let q = c .before .before .before .before .before .before .before .before .before .before .before .before .before .before .before .before .before .before .before .before .before .before .before .before .before .pre in let m = block-fits (settingsOf (a .head)) (q .0 .k-pos) in simp length-take (omega (arith, q, (block-known (c .before .before .before .before .before .before .before .before .before .before .before .before .before .before .before .before .before .block-of .ensures) (search needs)), block-is (settingsOf (a .head)), (dimension-known (c .before .before .before .before .before .before .before .before .before .before .before .before .before .before .before .before .get-dimension .ensures) (search needs)), c .before .before .before .before .before .before .before .copy-in .kept, c .before .before .before .before .before .before .before .before .before .before .before .write-transform .kept))))) ∙ ap (λ (k : ℕ). over (a .output .now) (shiftIn (take k (a .last-shingled-point .now)) (transformedAfter (settingsOf (a .head)) (take (statisticsLength (settingsOf (a .head))) (a .statistics .now)) (a .head .«values_seen») (previous (holding (a .head) (take (statisticsLength (settingsOf (a .head))) (a .statistics .now)) (take (a .head .transformer .«input_length» * a .head .«shingle_size») (a .last-shingled-input .now)) (take (a .head .«shingle_size») (a .previous-timestamps .now)))) (reading (a .input .now) (a .timestamp))))) ((dimension-known (c .before .before .before .before .before .before .before .before .before .before .before .before .before .before .before .before .get-dimension .ensures) (search needs)) .0)
+returns c =
+    let c8 = c .before .before .before .before .before .before .before .before in
+    let c16 = c8 .before .before .before .before .before .before .before .before in
+    let c24 = c16 .before .before .before .before .before .before .before .before in
+    let a = c24 .before .args in
+    let q = c24 .before .pre in
+    let m = block-fits (settingsOf (a .head)) (q .0 .k-pos) in
+    let e = (block-known (c16 .before .block-of .ensures) (search needs)) .0 ∙ sym (block-is (settingsOf (a .head))) in
+    point-written (a .output .now) (take (c8 .before .before .before .before .before .before .before .before .get-dimension .result) (a .last-shingled-point .now)) _ _ _ _ _
+    (c16 .before .block-of .result) (c8 .before .before .before .before .before .before .before .before .get-dimension .result)
+    ((roomy _ (c .before .before .before .before .before .before .before .copy-in .ensures)
+    (let a = c24 .before .args in let q = c24 .before .pre in simp length-take
+    (omega (arith, q, (dimension-known (c8 .before .before .before .before .before .before .before .before .get-dimension .ensures) (search needs)))))) ∙ paste-over _ _)
+    (length-take-le _ _ (omega (arith, q, (dimension-known (c8 .before .before .before .before .before .before .before .before .get-dimension .ensures) (search needs)))))
+    ((opened _ (c8 .before .before .before .write-transform .ensures)
+    (transform-fits (let a = c24 .before .args in let q = c24 .before .pre in (
+      q .0,
+      (
+        record { all-statistics = length-take-le _ _ (q .1 .0); all-input = length-take-le _ _ (q .1 .1 .0); all-times = length-take-le _ _ (q .1 .1 .1 .1 .0) },
+        (q .1 .1 .1 .1 .1 .0, omega (arith, (block-known (c16 .before .block-of .ensures) (search needs)), block-is (settingsOf (a .head)))),
+      ),
+    ))))) (transformedAfter-length _ _ _ _ _ ∙ sym e)
+    (omega (arith, e, (dimension-known (c8 .before .before .before .before .before .before .before .before .get-dimension .ensures) (search needs)), m))
+    ((roomy _ (c .before .before .shift-vector .ensures)
+    (let a = c24 .before .args in let q = c24 .before .pre in let m = block-fits (settingsOf (a .head)) (q .0 .k-pos) in simp length-take
+    (omega (
+      arith,
+      q,
+      (block-known (c16 .before .block-of .ensures) (search needs)),
+      block-is (settingsOf (a .head)),
+      (dimension-known (c8 .before .before .before .before .before .before .before .before .get-dimension .ensures) (search needs)),
+      c .before .before .before .before .before .before .before .copy-in .kept,
+      c8 .before .before .before .write-transform .kept,
+    ))))) ∙ ap
+    (λ (k : ℕ). over (a .output .now) (shiftIn (take k (a .last-shingled-point .now))
+    (transformedAfter (settingsOf (a .head)) (take (statisticsLength (settingsOf (a .head))) (a .statistics .now)) (a .head .«values_seen»)
+    (previous (holding (a .head) (take (statisticsLength (settingsOf (a .head))) (a .statistics .now))
+    (take (a .head .transformer .«input_length» * a .head .«shingle_size») (a .last-shingled-input .now)) (take (a .head .«shingle_size») (a .previous-timestamps .now))))
+    (reading (a .input .now) (a .timestamp))))) ((dimension-known (c8 .before .before .before .before .before .before .before .before .get-dimension .ensures) (search needs)) .0)
 
 pub write-point-spec : {M : Type 1} → statement M
 write-point-spec =

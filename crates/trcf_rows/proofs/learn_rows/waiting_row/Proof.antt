@@ -21,15 +21,33 @@ add-if2 c = omega arith
 
 returns-2 : tie.Need-returns-2
 unfolding waitingRow block
-returns-2 c = let a = c .before .before .before .before .args .head in rw (lt-leb _ _ (c .before .before .if1 .left), ne-eqb (suc (a .«values_seen»)) (a .«start_normalization») (λ z. c .if2 .taken (omega (arith, z))))
+returns-2 c =
+    let a = c .before .before .before .before .args .head in
+    rw (lt-leb _ _ (c .before .before .if1 .left), ne-eqb (suc (a .«values_seen»)) (a .«start_normalization») (λ z. c .if2 .taken (omega (arith, z))))
 
 returns-3 : tie.Need-returns-3
 unfolding waitingRow block
-returns-3 c = let a = c .before .before .before .before .before .args .head in rw (lt-leb _ _ (c .before .before .before .if1 .left), eq-eqb (suc (a .«values_seen»)) (a .«start_normalization») (omega arith), ← (block-known (c .before .before .block-of .ensures) (search needs)) .0, lt-ltb _ _ (c .if3 .taken))
+returns-3 c =
+    let a = c .before .before .before .before .before .args .head in
+    rw (
+      lt-leb _ _ (c .before .before .before .if1 .left),
+      eq-eqb (suc (a .«values_seen»)) (a .«start_normalization») (omega arith),
+      ←
+          (block-known (c .before .before .block-of .ensures) (search needs)) .0,
+      lt-ltb _ _ (c .if3 .taken),
+    )
 
 returns-4 : tie.Need-returns-4
 unfolding waitingRow block
-returns-4 c = let a = c .before .before .before .before .before .args .head in rw (lt-leb _ _ (c .before .before .before .if1 .left), eq-eqb (suc (a .«values_seen»)) (a .«start_normalization») (omega arith), ← (block-known (c .before .before .block-of .ensures) (search needs)) .0, le-ltb _ _ (c .if3 .left))
+returns-4 c =
+    let a = c .before .before .before .before .before .args .head in
+    rw (
+      lt-leb _ _ (c .before .before .before .if1 .left),
+      eq-eqb (suc (a .«values_seen»)) (a .«start_normalization») (omega arith),
+      ←
+          (block-known (c .before .before .block-of .ensures) (search needs)) .0,
+      le-ltb _ _ (c .if3 .left),
+    )
 
 pub waiting-row-spec : {M : Type 1} → statement M
 waiting-row-spec =

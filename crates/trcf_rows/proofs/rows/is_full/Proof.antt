@@ -15,7 +15,9 @@ returns-2 : tie.Need-returns-2
 returns-2 c = let a = c .before .before .before .args .head in rw (lt-ltb 2147483646 (a .transformer .count + a .«start_normalization») (omega arith))
 
 returns-3 : tie.Need-returns-3
-returns-3 c = let a = c .before .before .before .before .args .head in rw (le-ltb 2147483646 (a .transformer .count + a .«start_normalization») (omega arith), lt-ltb 9223372036854775807 (a .«internal_timestamp» + a .«start_normalization») (omega arith))
+returns-3 c =
+    let a = c .before .before .before .before .args .head in
+    rw (le-ltb 2147483646 (a .transformer .count + a .«start_normalization») (omega arith), lt-ltb 9223372036854775807 (a .«internal_timestamp» + a .«start_normalization») (omega arith))
 
 add-result : tie.Need-add-result
 add-result c = omega arith

@@ -32,11 +32,25 @@ get-dimension-requires c κs = tt
 
 returns-3 : tie.Need-returns-3
 unfolding pastRow
-returns-3 c = rw (sym (c .before .before .before .before .before .is-waiting .ensures) ∙ c .before .before .before .before .if1 .left, sym (c .before .before .before .is-overdue .ensures) ∙ c .before .before .if2 .left, ← (dimension-known (c .before .get-dimension .ensures) (search needs)) .0, lt-ltb _ _ (c .if3 .taken))
+returns-3 c =
+    rw (
+      sym (c .before .before .before .before .before .is-waiting .ensures) ∙ c .before .before .before .before .if1 .left,
+      sym (c .before .before .before .is-overdue .ensures) ∙
+          c .before .before .if2 .left,
+      ← (dimension-known (c .before .get-dimension .ensures) (search needs)) .0,
+      lt-ltb _ _ (c .if3 .taken),
+    )
 
 returns-4 : tie.Need-returns-4
 unfolding pastRow
-returns-4 c = rw (sym (c .before .before .before .before .before .is-waiting .ensures) ∙ c .before .before .before .before .if1 .left, sym (c .before .before .before .is-overdue .ensures) ∙ c .before .before .if2 .left, ← (dimension-known (c .before .get-dimension .ensures) (search needs)) .0, le-ltb _ _ (c .if3 .left))
+returns-4 c =
+    rw (
+      sym (c .before .before .before .before .before .is-waiting .ensures) ∙ c .before .before .before .before .if1 .left,
+      sym (c .before .before .before .is-overdue .ensures) ∙
+          c .before .before .if2 .left,
+      ← (dimension-known (c .before .get-dimension .ensures) (search needs)) .0,
+      le-ltb _ _ (c .if3 .left),
+    )
 
 pub past-row-spec : {M : Type 1} → statement M
 past-row-spec =

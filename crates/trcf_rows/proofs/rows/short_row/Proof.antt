@@ -28,7 +28,9 @@ unfolding shortRow lentShort
 returns c = (rw (← (dimension-known (c .before .get-dimension .ensures) (search needs)) .0, lt-ltb _ _ (c .if1 .taken)), λ e. absurd (omega (arith, e)))
 
 mul-if2 : tie.Need-mul-if2
-mul-if2 c = let b = c .before .before .before .before .before .before .before .before .before .pre in all-inputs (b .d-few) (b .k-few)
+mul-if2 c =
+    let c8 = c .before .before .before .before .before .before .before .before in
+    let b = c8 .before .pre in all-inputs (b .d-few) (b .k-few)
 
 returns-2 : tie.Need-returns-2
 unfolding shortRow lentShort
@@ -36,26 +38,94 @@ returns-2 c = (rw (← (dimension-known (c .before .before .get-dimension .ensur
 
 returns-3 : tie.Need-returns-3
 unfolding shortRow lentShort
-returns-3 c = (rw (← (dimension-known (c .before .before .before .get-dimension .ensures) (search needs)) .0, le-ltb _ _ (c .before .before .if1 .left), le-ltb _ _ (c .before .if2 .left), lt-ltb _ _ (c .if3 .taken)), λ e. absurd (omega (arith, e)))
+returns-3 c = (
+  rw (
+    ← (dimension-known (c .before .before .before .get-dimension .ensures) (search needs)) .0,
+    le-ltb _ _ (c .before .before .if1 .left),
+    le-ltb _ _ (c .before .if2 .left),
+    lt-ltb _ _
+        (c .if3 .taken),
+  ),
+  λ e. absurd (omega (arith, e)),
+)
 
 returns-4 : tie.Need-returns-4
 unfolding shortRow lentShort
-returns-4 c = (rw (← (dimension-known (c .before .before .before .before .get-dimension .ensures) (search needs)) .0, le-ltb _ _ (c .before .before .before .if1 .left), le-ltb _ _ (c .before .before .if2 .left), le-ltb _ _ (c .before .if3 .left), lt-ltb _ _ (c .if4 .taken)), λ e. absurd (omega (arith, e)))
+returns-4 c = (
+  rw (
+    ← (dimension-known (c .before .before .before .before .get-dimension .ensures) (search needs)) .0,
+    le-ltb _ _ (c .before .before .before .if1 .left),
+    le-ltb _ _
+        (c .before .before .if2 .left),
+    le-ltb _ _ (c .before .if3 .left),
+    lt-ltb _ _ (c .if4 .taken),
+  ),
+  λ e. absurd (omega (arith, e)),
+)
 
 mul-if5 : tie.Need-mul-if5
-mul-if5 c = let a : c .before .before .before .before .before .before .before .before .before .before .before .before .args .head .«start_normalization» ≤ 2000 = omega arith in let b : c .before .before .before .before .before .before .before .before .before .before .before .before .args .head .transformer .«input_length» ≤ 16 = omega arith in omega (arith, mul-le-mul a b)
+mul-if5 c =
+    let c8 = c .before .before .before .before .before .before .before .before in
+    let a : c8 .before .before .before .before .args .head .«start_normalization» ≤ 2000 = omega arith in
+    let b : c8 .before .before .before .before .args .head .transformer .«input_length» ≤ 16 = omega arith in
+    omega (arith, mul-le-mul a b)
 
 returns-5 : tie.Need-returns-5
 unfolding shortRow lentShort
-returns-5 c = (rw (← (dimension-known (c .before .before .before .before .before .get-dimension .ensures) (search needs)) .0, le-ltb _ _ (c .before .before .before .before .if1 .left), le-ltb _ _ (c .before .before .before .if2 .left), le-ltb _ _ (c .before .before .if3 .left), le-ltb _ _ (c .before .if4 .left), lt-ltb _ _ (c .if5 .taken)), λ e. absurd (omega (arith, e)))
+returns-5 c = (
+  rw (
+    ← (dimension-known (c .before .before .before .before .before .get-dimension .ensures) (search needs)) .0,
+    le-ltb _ _ (c .before .before .before .before .if1 .left),
+    le-ltb _ _
+        (c .before .before .before .if2 .left),
+    le-ltb _ _ (c .before .before .if3 .left),
+    le-ltb _ _ (c .before .if4 .left),
+    lt-ltb _ _ (c .if5 .taken),
+  ),
+  λ e. absurd (omega (arith, e)),
+)
 
 returns-6 : tie.Need-returns-6
 unfolding shortRow lentShort
-returns-6 c = (rw (← (dimension-known (c .before .before .before .before .before .before .get-dimension .ensures) (search needs)) .0, le-ltb _ _ (c .before .before .before .before .before .if1 .left), le-ltb _ _ (c .before .before .before .before .if2 .left), le-ltb _ _ (c .before .before .before .if3 .left), le-ltb _ _ (c .before .before .if4 .left), le-ltb _ _ (c .before .if5 .left), lt-ltb _ _ (c .if6 .taken)), λ e. absurd (omega (arith, e)))
+returns-6 c = (
+  rw (
+    ← (dimension-known (c .before .before .before .before .before .before .get-dimension .ensures) (search needs)) .0,
+    le-ltb _ _
+        (c .before .before .before .before .before .if1 .left),
+    le-ltb _ _ (c .before .before .before .before .if2 .left),
+    le-ltb _ _ (c .before .before .before .if3 .left),
+    le-ltb _ _
+        (c .before .before .if4 .left),
+    le-ltb _ _ (c .before .if5 .left),
+    lt-ltb _ _ (c .if6 .taken),
+  ),
+  λ e. absurd (omega (arith, e)),
+)
 
 returns-7 : tie.Need-returns-7
 unfolding shortRow lentShort
-returns-7 c = (rw (← (dimension-known (c .before .before .before .before .before .before .get-dimension .ensures) (search needs)) .0, le-ltb _ _ (c .before .before .before .before .before .if1 .left), le-ltb _ _ (c .before .before .before .before .if2 .left), le-ltb _ _ (c .before .before .before .if3 .left), le-ltb _ _ (c .before .before .if4 .left), le-ltb _ _ (c .before .if5 .left), le-ltb _ _ (c .if6 .left)), λ e. record { in-statistics = omega arith; in-input = omega arith; in-point = rw (← (dimension-known (c .before .before .before .before .before .before .get-dimension .ensures) (search needs)) .0) (omega arith); in-times = omega arith; in-values = omega arith; in-initial = omega arith })
+returns-7 c = (
+  rw (
+    ← (dimension-known (c .before .before .before .before .before .before .get-dimension .ensures) (search needs)) .0,
+    le-ltb _ _
+        (c .before .before .before .before .before .if1 .left),
+    le-ltb _ _ (c .before .before .before .before .if2 .left),
+    le-ltb _ _ (c .before .before .before .if3 .left),
+    le-ltb _ _
+        (c .before .before .if4 .left),
+    le-ltb _ _ (c .before .if5 .left),
+    le-ltb _ _ (c .if6 .left),
+  ),
+  λ e. record {
+    in-statistics = omega arith;
+    in-input = omega arith;
+    in-point = rw (← (dimension-known (c .before .before .before .before .before .before .get-dimension .ensures) (search needs)) .0)
+        (omega arith);
+    in-times = omega arith;
+    in-values = omega arith;
+    in-initial = omega arith;
+  },
+)
 
 pub short-row-spec : {M : Type 1} → statement M
 short-row-spec =

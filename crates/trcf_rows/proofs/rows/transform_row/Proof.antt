@@ -17,25 +17,64 @@ head-row-requires c κs = tt
 
 returns : tie.Need-returns
 unfolding rowOf rows table block
-returns c = ((λ t. rw (← c .before .head-row .ensures .0) (orElse-not (c .before .head-row .result) _ (c .if1 .taken))), (λ e. absurd (c .if1 .taken e), (λ e. absurd (c .if1 .taken e), λ e. absurd (c .if1 .taken e))))
+returns c = (
+  (λ t. rw (← c .before .head-row .ensures .0) (orElse-not (c .before .head-row .result) _ (c .if1 .taken))),
+  (λ e. absurd (c .if1 .taken e), (λ e. absurd (c .if1 .taken e), λ e. absurd (c .if1 .taken e))),
+)
 
 returns-2 : tie.Need-returns-2
 unfolding rowOf rows table block
-returns-2 c = ((λ t. rw (sym (c .before .before .before .head-row .ensures .0) ∙ c .before .before .if1 .left, ne-eqb _ _ (c .if2 .taken))), (λ e. absurd (omega (arith, e)), (λ e. absurd (omega (arith, e)), λ e. absurd (omega (arith, e)))))
+returns-2 c = (
+  (λ t. rw (sym (c .before .before .before .head-row .ensures .0) ∙ c .before .before .if1 .left, ne-eqb _ _ (c .if2 .taken))),
+  (λ e. absurd (omega (arith, e)), (λ e. absurd (omega (arith, e)), λ e. absurd (omega (arith, e)))),
+)
 
 block-of-requires : tie.Need-block-of-requires
 block-of-requires c κs = tt
 
 returns-3 : tie.Need-returns-3
 unfolding rowOf rows table block
-returns-3 c = ((λ t. rw (sym (c .before .before .before .before .before .head-row .ensures .0) ∙ c .before .before .before .before .if1 .left, eq-eqb _ _ (c .before .before .if2 .left), ← (block-known (c .before .block-of .ensures) (omega (arith, c .before .before .before .before .before .head-row .ensures .1 (c .before .before .before .before .if1 .left)))) .0, lt-ltb _ _ (c .if3 .taken))), (λ e. absurd (omega (arith, e)), (λ e. absurd (omega (arith, e)), λ e. absurd (omega (arith, e)))))
+returns-3 c = (
+  (λ t. rw (
+    sym (c .before .before .before .before .before .head-row .ensures .0) ∙ c .before .before .before .before .if1 .left,
+    eq-eqb _ _ (c .before .before .if2 .left),
+    ←
+        (block-known (c .before .block-of .ensures) (omega (arith, c .before .before .before .before .before .head-row .ensures .1 (c .before .before .before .before .if1 .left)))) .0,
+    lt-ltb _
+        _ (c .if3 .taken),
+  )),
+  (λ e. absurd (omega (arith, e)), (λ e. absurd (omega (arith, e)), λ e. absurd (omega (arith, e)))),
+)
 
 lent-row-requires : tie.Need-lent-row-requires
 lent-row-requires c κs = c .before .before .before .before .before .head-row .ensures .1 (c .before .before .before .before .if1 .left)
 
 returns-4 : tie.Need-returns-4
 unfolding rowOf rows table block
-returns-4 c = ((λ t. rw (sym (c .before .before .before .before .before .before .head-row .ensures .0) ∙ c .before .before .before .before .before .if1 .left, eq-eqb _ _ (c .before .before .before .if2 .left), ← (block-known (c .before .before .block-of .ensures) (omega (arith, c .before .before .before .before .before .before .head-row .ensures .1 (c .before .before .before .before .before .if1 .left)))) .0, le-ltb _ _ (c .before .if3 .left), c .lent-row .ensures .0)), (λ e. record { bounded = c .before .before .before .before .before .before .head-row .ensures .1 (c .before .before .before .before .before .if1 .left); fitted = c .lent-row .ensures .1 e }, (λ e. c .before .before .before .if2 .left, λ e. rw (← (block-known (c .before .before .block-of .ensures) (omega (arith, c .before .before .before .before .before .before .head-row .ensures .1 (c .before .before .before .before .before .if1 .left)))) .0) (c .before .if3 .left))))
+returns-4 c = (
+  (λ t. rw (
+    sym (c .before .before .before .before .before .before .head-row .ensures .0) ∙ c .before .before .before .before .before .if1 .left,
+    eq-eqb _ _
+        (c .before .before .before .if2 .left),
+    ←
+        (block-known (c .before .before .block-of .ensures)
+        (omega (arith, c .before .before .before .before .before .before .head-row .ensures .1 (c .before .before .before .before .before .if1 .left)))) .0,
+    le-ltb _ _ (c .before .if3 .left),
+    c .lent-row .ensures .0,
+  )),
+  (
+    λ e. record {
+      bounded = c .before .before .before .before .before .before .head-row .ensures .1 (c .before .before .before .before .before .if1 .left);
+      fitted = c .lent-row .ensures .1 e;
+    },
+    (
+      λ e. c .before .before .before .if2 .left,
+      λ e. rw
+          (← (block-known (c .before .before .block-of .ensures)
+          (omega (arith, c .before .before .before .before .before .before .head-row .ensures .1 (c .before .before .before .before .before .if1 .left)))) .0) (c .before .if3 .left),
+    ),
+  ),
+)
 
 pub transform-row-spec : {M : Type 1} → statement M
 transform-row-spec =

@@ -24,14 +24,37 @@ block-of-requires c κs = tt
 
 returns-2 : tie.Need-returns-2
 unfolding rowOf rows table block
-returns-2 c = (rw (sym (c .before .before .before .before .head-row .ensures .0) ∙ c .before .before .before .if1 .left, ← (block-known (c .before .block-of .ensures) (omega (arith, c .before .before .before .before .head-row .ensures .1 (c .before .before .before .if1 .left)))) .0, lt-ltb _ _ (c .if2 .taken)), (λ e. absurd (omega (arith, e)), λ e. absurd (omega (arith, e))))
+returns-2 c = (
+  rw (
+    sym (c .before .before .before .before .head-row .ensures .0) ∙ c .before .before .before .if1 .left,
+    ←
+        (block-known (c .before .block-of .ensures) (omega (arith, c .before .before .before .before .head-row .ensures .1 (c .before .before .before .if1 .left)))) .0,
+    lt-ltb _ _
+        (c .if2 .taken),
+  ),
+  (λ e. absurd (omega (arith, e)), λ e. absurd (omega (arith, e))),
+)
 
 lent-row-requires : tie.Need-lent-row-requires
 lent-row-requires c κs = c .before .before .before .before .head-row .ensures .1 (c .before .before .before .if1 .left)
 
 returns-3 : tie.Need-returns-3
 unfolding rowOf rows table block
-returns-3 c = (rw (sym (c .before .before .before .before .before .head-row .ensures .0) ∙ c .before .before .before .before .if1 .left, ← (block-known (c .before .before .block-of .ensures) (omega (arith, c .before .before .before .before .before .head-row .ensures .1 (c .before .before .before .before .if1 .left)))) .0, le-ltb _ _ (c .before .if2 .left), c .lent-row .ensures .0), (λ e. record { bounded = c .before .before .before .before .before .head-row .ensures .1 (c .before .before .before .before .if1 .left); fitted = c .lent-row .ensures .1 e }, λ e. rw (← (block-known (c .before .before .block-of .ensures) (omega (arith, c .before .before .before .before .before .head-row .ensures .1 (c .before .before .before .before .if1 .left)))) .0) (c .before .if2 .left)))
+returns-3 c = (
+  rw (
+    sym (c .before .before .before .before .before .head-row .ensures .0) ∙ c .before .before .before .before .if1 .left,
+    ←
+        (block-known (c .before .before .block-of .ensures) (omega (arith, c .before .before .before .before .before .head-row .ensures .1 (c .before .before .before .before .if1 .left)))) .0,
+    le-ltb _ _ (c .before .if2 .left),
+    c .lent-row .ensures .0,
+  ),
+  (
+    λ e. record { bounded = c .before .before .before .before .before .head-row .ensures .1 (c .before .before .before .before .if1 .left); fitted = c .lent-row .ensures .1 e },
+    λ e. rw
+        (← (block-known (c .before .before .block-of .ensures)
+        (omega (arith, c .before .before .before .before .before .head-row .ensures .1 (c .before .before .before .before .if1 .left)))) .0) (c .before .if2 .left),
+  ),
+)
 
 pub write-row-spec : {M : Type 1} → statement M
 write-row-spec =

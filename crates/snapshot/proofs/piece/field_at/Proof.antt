@@ -1,13 +1,13 @@
--- `snapshot::judge::field_at` meets its contract. Assumes nothing.
+-- `snapshot::piece::field_at` meets its contract. Assumes nothing.
 use borrow.Author.Needs.{needs}
 use mathlib.Core.Path.{_≡_, _∙_}
 use Rattle.snapshot.proofs.JudgeLaws.{next-tabbed, next-rest}
-use Rattle.snapshot.proofs.judge.field_at.Statement.{statement}
-use Rattle.snapshot.proofs.judge.field_at.Tie as tie
-use Rattle.snapshot.proofs.judge.field_at.Reads as reads
-use Rattle.snapshot.proofs.judge.field_at.Lts as lts
-use Rattle.snapshot.proofs.judge.rest_at.Reads as rest-at-reads
-use Rattle.snapshot.proofs.judge.tabbed_at.Reads as tabbed-at-reads
+use Rattle.snapshot.proofs.piece.field_at.Statement.{statement}
+use Rattle.snapshot.proofs.piece.field_at.Tie as tie
+use Rattle.snapshot.proofs.piece.field_at.Reads as reads
+use Rattle.snapshot.proofs.piece.field_at.Lts as lts
+use Rattle.snapshot.proofs.piece.rest_at.Reads as rest-at-reads
+use Rattle.snapshot.proofs.piece.tabbed_at.Reads as tabbed-at-reads
 
 tabbed-at-requires : tie.Need-tabbed-at-requires
 tabbed-at-requires c κs = search needs

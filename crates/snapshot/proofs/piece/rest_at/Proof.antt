@@ -1,4 +1,4 @@
--- `snapshot::judge::rest_at` meets its contract. Assumes nothing.
+-- `snapshot::piece::rest_at` meets its contract. Assumes nothing.
 use borrow.Author.Needs.{needs}
 use Prim.Native.Nat.{ℕ, _≤_, _<_}
 use native.Mathlib.Omega.{arith}
@@ -6,10 +6,10 @@ use mathlib.Core.Path.{_≡_, refl, sym, _∙_}
 use lib.ListN.{length, drop, drop-of-length-le}
 use lib.Seq.{drop-length}
 use Rattle.snapshot.proofs.JudgeLaws.{rest-is}
-use Rattle.snapshot.proofs.judge.rest_at.Statement.{statement}
-use Rattle.snapshot.proofs.judge.rest_at.Tie as tie
-use Rattle.snapshot.proofs.judge.rest_at.Reads as reads
-use Rattle.snapshot.proofs.judge.rest_at.Lts as lts
+use Rattle.snapshot.proofs.piece.rest_at.Statement.{statement}
+use Rattle.snapshot.proofs.piece.rest_at.Tie as tie
+use Rattle.snapshot.proofs.piece.rest_at.Reads as reads
+use Rattle.snapshot.proofs.piece.rest_at.Lts as lts
 use Rattle.snapshot.proofs.field.parse.Reads as parse-reads
 
 parse-requires : tie.Need-parse-requires

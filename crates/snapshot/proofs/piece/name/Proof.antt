@@ -1,4 +1,4 @@
--- `snapshot::judge::name` meets its contract. Assumes nothing.
+-- `snapshot::piece::name` meets its contract. Assumes nothing.
 use Rattle.snapshot.proofs.JudgeLaws.{got, lost}
 use Rattle.snapshot.specs.Judge.{onto, byte}
 use mathlib.Core.Path.{_≡_, sym, _∙_, ap}
@@ -6,11 +6,11 @@ use mathlib.Core.Option.{Option}
 use mathlib.Core.List.{List}
 use Prim.Native.Nat.{ℕ}
 use borrow.Author.Needs.{needs}
-use Rattle.snapshot.proofs.judge.name.Statement.{statement}
-use Rattle.snapshot.proofs.judge.name.Tie as tie
-use Rattle.snapshot.proofs.judge.name.Reads as reads
-use Rattle.snapshot.proofs.judge.name.Lts as lts
-use Rattle.snapshot.proofs.judge.byte.Reads as byte-reads
+use Rattle.snapshot.proofs.piece.name.Statement.{statement}
+use Rattle.snapshot.proofs.piece.name.Tie as tie
+use Rattle.snapshot.proofs.piece.name.Reads as reads
+use Rattle.snapshot.proofs.piece.name.Lts as lts
+use Rattle.snapshot.proofs.piece.byte.Reads as byte-reads
 
 byte-requires : tie.Need-byte-requires
 byte-requires c κs = search needs

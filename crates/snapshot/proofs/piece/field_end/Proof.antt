@@ -1,4 +1,4 @@
--- `snapshot::judge::field_end` meets its contract. Assumes nothing.
+-- `snapshot::piece::field_end` meets its contract. Assumes nothing.
 use borrow.Author.Needs.{needs}
 use Prim.Native.Nat.{ℕ, suc, _+_, _-_, _≤_, _<_}
 use native.Mathlib.Omega.{arith}
@@ -7,11 +7,11 @@ use mathlib.Core.Path.{_≡_, refl, sym, ap, _∙_}
 use lib.ListN.{length, drop, getD}
 use Rattle.snapshot.specs.Judge.{fieldLength}
 use Rattle.snapshot.proofs.JudgeLaws.{stops, goes, none-left}
-use Rattle.snapshot.proofs.judge.field_end.Statement.{statement}
-use Rattle.snapshot.proofs.judge.field_end.Tie as tie
-use Rattle.snapshot.proofs.judge.field_end.Reads as reads
-use Rattle.snapshot.proofs.judge.field_end.Lts as lts
-use Rattle.snapshot.proofs.judge.wide.Reads as wide-reads
+use Rattle.snapshot.proofs.piece.field_end.Statement.{statement}
+use Rattle.snapshot.proofs.piece.field_end.Tie as tie
+use Rattle.snapshot.proofs.piece.field_end.Reads as reads
+use Rattle.snapshot.proofs.piece.field_end.Lts as lts
+use Rattle.snapshot.proofs.piece.wide.Reads as wide-reads
 
 abbrev Inv-loop : tie.InvT-loop
 Inv-loop text from i₀ i = (i ≤ length text) × (from + fieldLength (drop from text) ≡ i + fieldLength (drop i text))

@@ -1,4 +1,4 @@
--- `snapshot::judge::tabbed_at` meets its contract. Assumes nothing.
+-- `snapshot::piece::tabbed_at` meets its contract. Assumes nothing.
 use borrow.Author.Needs.{needs}
 use Prim.Native.Nat.{ℕ, suc, _+_, _-_, _≤_, _<_}
 use native.Mathlib.Omega.{arith}
@@ -6,13 +6,13 @@ use mathlib.Core.Path.{_≡_, refl, sym, ap, _∙_}
 use lib.ListN.{length, drop, getD, length-drop}
 use Rattle.snapshot.specs.Judge.{fieldLength}
 use Rattle.snapshot.proofs.JudgeLaws.{next-yes, next-no, next-end, field-short}
-use Rattle.snapshot.proofs.judge.tabbed_at.Statement.{statement}
-use Rattle.snapshot.proofs.judge.tabbed_at.Tie as tie
-use Rattle.snapshot.proofs.judge.tabbed_at.Reads as reads
-use Rattle.snapshot.proofs.judge.tabbed_at.Lts as lts
+use Rattle.snapshot.proofs.piece.tabbed_at.Statement.{statement}
+use Rattle.snapshot.proofs.piece.tabbed_at.Tie as tie
+use Rattle.snapshot.proofs.piece.tabbed_at.Reads as reads
+use Rattle.snapshot.proofs.piece.tabbed_at.Lts as lts
 use Rattle.snapshot.proofs.field.parse.Reads as parse-reads
-use Rattle.snapshot.proofs.judge.field_end.Reads as field-end-reads
-use Rattle.snapshot.proofs.judge.wide.Reads as wide-reads
+use Rattle.snapshot.proofs.piece.field_end.Reads as field-end-reads
+use Rattle.snapshot.proofs.piece.wide.Reads as wide-reads
 
 shared-slice-read-wide : tie.Need-shared-slice-read-wide
 shared-slice-read-wide c = search needs

@@ -1,12 +1,12 @@
--- `snapshot::judge::byte` meets its contract. Assumes nothing.
+-- `snapshot::piece::byte` meets its contract. Assumes nothing.
 use Rattle.snapshot.proofs.JudgeLaws.{byte-yes, byte-no, byte-end}
 use mathlib.Core.Path.{_≡_, sym, _∙_}
 use borrow.Author.Needs.{needs}
-use Rattle.snapshot.proofs.judge.byte.Statement.{statement}
-use Rattle.snapshot.proofs.judge.byte.Tie as tie
-use Rattle.snapshot.proofs.judge.byte.Reads as reads
-use Rattle.snapshot.proofs.judge.byte.Lts as lts
-use Rattle.snapshot.proofs.judge.wide.Reads as wide-reads
+use Rattle.snapshot.proofs.piece.byte.Statement.{statement}
+use Rattle.snapshot.proofs.piece.byte.Tie as tie
+use Rattle.snapshot.proofs.piece.byte.Reads as reads
+use Rattle.snapshot.proofs.piece.byte.Lts as lts
+use Rattle.snapshot.proofs.piece.wide.Reads as wide-reads
 
 shared-slice-read-wide : tie.Need-shared-slice-read-wide
 shared-slice-read-wide c = search needs

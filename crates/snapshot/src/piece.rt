@@ -1,0 +1,115 @@
+// The pieces of a line (document 01, 'Trace text'): a byte, a name, and the field behind a tab.
+use crate::field::Field;
+use crate::field::parse;
+ghost use mathlib.Core.Path.{_≡_};
+ghost use Prim.Native.Nat.{_+_, _≤_, _<_};
+ghost use lib.ListN.{length, drop};
+ghost use Rattle.snapshot.specs.Judge.{placed, byte, name, fieldLength, restOf, tabbedOf, nextOf};
+
+fn wide(x: u8) -> u64
+    ensures { λ r. ⌜ r ≡ x ⌝ }
+{
+    x as u64
+}
+
+// A place in the text, or nowhere: what was to be read is not there.
+pub(crate) enum Place {
+    At(usize),
+    Nowhere,
+}
+
+// Behind the byte b.
+pub(crate) fn byte(text: &[u8], at: usize, b: u64) -> Place
+    ensures { λ r. ⌜ placed r (now (text .entry)) ≡ byte b (drop at (now (text .entry))) ⌝ }
+{
+    if at < text.len() {
+        if wide(text[at]) == b {
+            return Place::At(at + 1);
+        }
+    }
+    Place::Nowhere
+}
+
+// Behind the name of a line.
+pub(crate) fn name(text: &[u8], at: usize, a: u64, b: u64, c: u64) -> Place
+    ensures { λ r. ⌜ placed r (now (text .entry)) ≡ name a b c (drop at (now (text .entry))) ⌝ }
+{
+    let Place::At(p) = byte(text, at, a) else {
+        return Place::Nowhere;
+    };
+    let Place::At(q) = byte(text, p, b) else {
+        return Place::Nowhere;
+    };
+    byte(text, q, c)
+}
+
+// The next tab or LF, or the end of the text.
+fn field_end(text: &[u8], from: usize) -> usize
+    requires { ⌜ from ≤ length (now text) ⌝ }
+    ensures { λ r. ⌜ r ≡ from + fieldLength (drop from (now (text .entry))) ⌝ }
+{
+    let mut i = from;
+    while i < text.len() {
+        if wide(text[i]) <= 10 {
+            return i;
+        }
+        i += 1;
+    }
+    i
+}
+
+// A field, and the place behind it.
+pub(crate) struct Next {
+    pub field: Field,
+    pub end: usize,
+}
+
+// The rest of the text as one field.
+fn rest_at(text: &[u8], at: usize, kind: u64) -> Next
+    ensures { λ r. ⌜ r ≡ restOf kind at (now (text .entry)) ⌝ }
+{
+    let end = text.len();
+    if at < end {
+        let field = parse(text, at, end, kind);
+        return Next {
+            field: field,
+            end: end,
+        };
+    }
+    let field = parse(text, end, end, kind);
+    Next {
+        field: field,
+        end: end,
+    }
+}
+
+// The field behind the tab at a place, by the kind that its place calls for.
+fn tabbed_at(text: &[u8], at: usize, kind: u64) -> Next
+    ensures { λ r. ⌜ r ≡ tabbedOf kind at (now (text .entry)) ⌝ }
+{
+    if at < text.len() {
+        if wide(text[at]) == 9 {
+            let from = at + 1;
+            let end = field_end(text, from);
+            let field = parse(text, from, end, kind);
+            return Next {
+                field: field,
+                end: end,
+            };
+        }
+    }
+    Next {
+        field: Field::Bad,
+        end: at,
+    }
+}
+
+// By the kind: below 4 the field behind a tab, from 4 on the rest of the text.
+pub(crate) fn field_at(text: &[u8], at: usize, kind: u64) -> Next
+    ensures { λ r. ⌜ r ≡ nextOf kind at (now (text .entry)) ⌝ }
+{
+    if kind < 4 {
+        return tabbed_at(text, at, kind);
+    }
+    rest_at(text, at, kind - 4)
+}
