@@ -11,7 +11,7 @@ use oracle::reference::rust_build;
 use oracle::trcf::preprocessor::Preprocessor as Rust;
 use std::hint::black_box;
 use std::time::Instant;
-use veerycouch::{sqrt, to_f32, Learn, Preprocessor, Ranges};
+use veerycouch::{align_into, impute, sqrt, to_f32, ImputationMethod, Learn, Preprocessor, Ranges, Readings};
 
 fn given(method: u8, d: u64, k: u64, start: u64) -> Settings {
     Settings { mode: Mode::Standard, method, d, k, start, stop: u64::MAX, decay: 0.001, weight_time: 1.0, weights: vec![1.0; d as usize], codes: vec![0; d as usize] }
@@ -220,6 +220,29 @@ fn roots(repeats: usize) {
     numbers("to_f32", repeats, &list, to_f32, |x| x as f32, |x| x as f64);
 }
 
+/// Nanoseconds a cell of filling in 2,000 readings of one channel, of which one in `every` is present.
+fn filling(repeats: usize, method: ImputationMethod, every: usize) -> f64 {
+    let cells = input(&mut Random::new(2), 2000);
+    let marks: Vec<u8> = (0..2000).map(|i| u8::from(i % every != 0)).collect();
+    let mut times = Vec::new();
+    for _ in 0..repeats {
+        let mut lent = cells.clone();
+        times.push(timed(|| impute(method, 1, black_box(&mut lent), &marks, &[1.0]).unwrap()) / 2000.0);
+    }
+    median(times)
+}
+
+/// Nanoseconds of comparing two lists of 4,096 readings of d channels, all of them paired.
+fn aligning(repeats: usize, d: u64) -> f64 {
+    let mut r = Random::new(3);
+    let (left, right) = (input(&mut r, 4096 * d), input(&mut r, 4096 * d));
+    let times: Vec<u64> = (0..4096).map(|i| i * 10).collect();
+    let (mut lefts, mut rights, mut gaps) = (vec![0; 4096], vec![0; 4096], vec![0.0; d as usize]);
+    let (one, other) = (Readings { cells: &left, times: &times }, Readings { cells: &right, times: &times });
+    let work = (0..repeats).map(|_| timed(|| align_into(d, black_box(one), black_box(other), 3, &mut lefts, &mut rights, &mut gaps).unwrap())).collect();
+    median(work)
+}
+
 fn main() {
     let repeats = std::env::args().nth(1).map_or(101, |a| a.parse().expect("REPEATS"));
     println!("{:<64} {:>12} {:>12} {:>7}", format!("medians of {repeats}, nanoseconds"), "library", "the Rust", "ratio");
@@ -231,6 +254,14 @@ fn main() {
     let head = (0..repeats).map(|_| timed(|| (0..1000).fold(0, |a, _| a ^ black_box(&ours).panel().unwrap())) / 1000.0).collect();
     println!("{:<64} {:>12.1} {:>12}", "a getter: the head read from its words and tested", median(head), "-");
     roots(repeats);
+    for (method, name) in [(ImputationMethod::Fixed, "FIXED"), (ImputationMethod::Previous, "PREVIOUS"), (ImputationMethod::Next, "NEXT"), (ImputationMethod::Linear, "LINEAR")] {
+        for (every, gaps) in [(2, "gaps of 1"), (2001, "one gap of 1,999")] {
+            println!("{:<64} {:>12.2} {:>12}", format!("impute, {name}, 2,000 readings, {gaps}, a cell"), filling(repeats, method, every), "-");
+        }
+    }
+    for d in [1, 16] {
+        println!("{:<64} {:>12.1} {:>12}", format!("align, 4,096 by 4,096, d {d}"), aligning(repeats, d), "-");
+    }
     for k in [1, 2, 4, 8, 16, 32, 64] {
         told(&format!("point and learn, d 1, k {k}"), readings(repeats, 1, k));
     }
