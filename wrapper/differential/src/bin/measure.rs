@@ -255,7 +255,7 @@ fn main() {
     println!("{:<64} {:>12.1} {:>12}", "a getter: the head read from its words and tested", median(head), "-");
     roots(repeats);
     for (method, name) in [(ImputationMethod::Fixed, "FIXED"), (ImputationMethod::Previous, "PREVIOUS"), (ImputationMethod::Next, "NEXT"), (ImputationMethod::Linear, "LINEAR")] {
-        for (every, gaps) in [(2, "gaps of 1"), (2001, "one gap of 1,999")] {
+        for (every, gaps) in [(2, "gaps of 1"), (1999, "one gap of 1,998")] {
             println!("{:<64} {:>12.2} {:>12}", format!("impute, {name}, 2,000 readings, {gaps}, a cell"), filling(repeats, method, every), "-");
         }
     }
