@@ -1,6 +1,6 @@
--- Wrong turn-backs that request #107's statement excludes, by computation: a scale by a negative weight without putting the bounds in order, and a
--- cascade by the uppers instead of the values. (Bounds put in order before the last shift, and not after it, are excluded by no statement about order:
--- a shift moves all three alike, and rounding keeps order.) Assumes nothing.
+-- What request #107's statement excludes, by computation: bounds that a scale by a negative weight leaves out of order, and values that a cascade by the
+-- uppers makes depend on them. (Inside a turn-back the first is mended by the shift that follows every scale; and bounds put in order before the last shift
+-- and not after it stay in order, since a shift moves all three alike and rounding keeps order. So the statement excludes neither there.) Assumes nothing.
 use Prim.Native.Nat.{ℕ, zero, suc}
 use mathlib.Core.Path.{_≡_, refl, sym, ap, _∙_}
 use mathlib.Core.Bool.{true, false, false≢true}

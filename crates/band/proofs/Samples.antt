@@ -21,7 +21,7 @@ use Rattle.trcf.specs.declared.types.TransformMethod.{TransformMethod}
 use Rattle.trcf.specs.declared.types.TransformMethod.the-variants.{NONE, WEIGHTED}
 use Rattle.trcf.specs.declared.types.ForestMode.{ForestMode}
 use Rattle.trcf.specs.declared.types.ForestMode.the-variants.{STANDARD, «TIME_AUGMENTED»}
-use Rattle.band.specs.Band.{Turns, UprightBand}
+use Rattle.band.specs.Band.{Turns, UprightBand, SameValues, SameUppers}
 use Rattle.band.proofs.Upright.{band}
 
 -- the definitions, opened
@@ -113,3 +113,37 @@ unfolding fresh
 block-upright =
     band .upright (fresh (two «TIME_AUGMENTED» NONE one32)) block-crossed block-left block-turns
     (λ e. absurd (let z : _≡_ {A = ℕ} 0 1 = cc in omega arith))
+
+-- ---- two calls that differ in their bounds alone: the same values; in their lowers alone: the same uppers
+
+abbrev wider : Forecast
+wider = forecast (ranges (single 2 ∷ single 2 ∷ []) (single 5 ∷ single 5 ∷ []) (single 0 ∷ single 0 ∷ [])) empty empty
+
+abbrev lowered : Forecast
+lowered = forecast (ranges (single 2 ∷ single 2 ∷ []) (single 5 ∷ single 5 ∷ []) (single 1 ∷ nan ∷ [])) empty empty
+
+abbrev wider-right : Forecast
+wider-right =
+    let m = ofBits binary32 0xc000_0000 in
+    forecast (ranges (m ∷ m ∷ []) (m ∷ m ∷ []) (m ∷ m ∷ [])) empty empty
+
+abbrev lowered-right : Forecast
+lowered-right =
+    let m = ofBits binary32 0xc000_0000 in
+    forecast (ranges (m ∷ m ∷ []) (m ∷ m ∷ []) (m ∷ nan ∷ [])) empty empty
+
+wider-turns : Turns (fresh (two STANDARD WEIGHTED minus)) wider wider-right
+unfolding all
+wider-turns = refl
+
+lowered-turns : Turns (fresh (two STANDARD WEIGHTED minus)) lowered lowered-right
+unfolding all
+lowered-turns = refl
+
+pub same-values : SameValues (two STANDARD WEIGHTED minus) over-turned put-right wider wider-right
+unfolding fresh
+same-values = band .values (fresh (two STANDARD WEIGHTED minus)) over-turned wider put-right wider-right negative-turns wider-turns refl
+
+pub same-uppers : SameUppers (two STANDARD WEIGHTED minus) wider wider-right lowered lowered-right
+unfolding fresh
+same-uppers = band .uppers (fresh (two STANDARD WEIGHTED minus)) wider lowered wider-right lowered-right wider-turns lowered-turns refl refl

@@ -10,7 +10,7 @@ use mathlib.Core.Option.{some}
 use lib.Dec.{ltb, eqb}
 use lib.ListN.{length, length-append}
 use lib.Ieee.{Float}
-use borrow.Author.Tests.{lt-ltb, le-ltb, eqb-true, not-true}
+use borrow.Author.Tests.{lt-ltb, le-ltb, eqb-true, not-true, ltb-false}
 use Rattle.common.specs.Deviation.{countLimit}
 use Rattle.trcf.specs.Lists.{null}
 use Rattle.trcf.specs.Types.{normalizes}
@@ -24,21 +24,29 @@ use Rattle.restart.proofs.Entries.{Unmixed, unmixed}
 use Rattle.restart.proofs.Step.{Phase, filling, drainedBy, plainly, stranded as strandedBy, Inv, is-false, due-full, isFull, step as kept, begins}
 use Rattle.stranding.specs.Orders.{Kind, point, learn, drain as drainKind}
 use Rattle.stranding.specs.Standing.{Standing, waiting, drained, stranded, afterDrain, afterLearn, step, run}
-use Rattle.stranding_history.specs.CallOrders.{standingOf, Of, aPoint, aLearn, aDrain, counted, Calls, end, then}
+use Rattle.stranding_history.specs.CallOrders.{hasLearned, standingOf, Of, aPoint, aLearn, aDrain, counted, Calls, end, then}
 
 -- ---- the standing by phase
 
 stands-filling : (s : Settings) (es : List Entry) → onlyInitials es ≡ true → standingOf es ≡ waiting (length (initials es))
-unfolding standingOf
+unfolding standingOf hasLearned
 stands-filling s es o = let u = unmixed s es o in rw (u .noF, u .noL)
 
 stands-drained : (es : List Entry) → isDrained es ≡ true → standingOf es ≡ drained
 unfolding standingOf
 stands-drained es f = rw f
 
+some-learned : (es : List Entry) → 0 < length (learns es) → hasLearned es ≡ true
+unfolding hasLearned
+some-learned es h = by (hasLearned es) refl
+  where
+    by : (b : Bool) → hasLearned es ≡ b → hasLearned es ≡ true
+    by true e = e
+    by false e = absurd (omega (arith, ltb-false, e, h))
+
 stands-stranded : (es : List Entry) → isDrained es ≡ false → 0 < length (learns es) → standingOf es ≡ stranded
 unfolding standingOf
-stands-stranded es f h = rw (f, lt-ltb 0 (length (learns es)) h)
+stands-stranded es f h = rw (f, some-learned es h)
 
 module _ (s : Settings) (m : normalizes (s .method) ≡ true) (pos : 0 < s .start) (few : s .start ≤ 2000) where
   -- ---- drain is due exactly when start initial values wait
@@ -150,5 +158,5 @@ module _ (s : Settings) (m : normalizes (s .method) ≡ true) (pos : 0 < s .star
 
     -- THEOREM: the calls of an order leave what the order leads to
     pub calls-leave : (xs : List Kind) (cs : List Call) → Calls s [] xs cs → standingOf (entries s cs) ≡ run (s .start) (waiting 0) xs
-    unfolding entries standingOf
+    unfolding entries standingOf hasLearned
     calls-leave xs cs t = by-calls (begins s k>0) t

@@ -15,7 +15,7 @@ use Rattle.restart.specs.History.{seenOf, internalOf, bufferOf, shingled, input
 use Rattle.stranding.specs.Orders.{Kind, point, learn, drain}
 use Rattle.stranding.specs.Standing.{Standing, waiting, drained, stranded}
 use Rattle.stranding.specs.Counts.{answer, countsBy, strandingsOf}
-use Rattle.stranding_history.specs.CallOrders.{standingOf, zeroCalls, Strandings}
+use Rattle.stranding_history.specs.CallOrders.{hasLearned, standingOf, zeroCalls, Strandings}
 use Rattle.stranding_history.proofs.Counted.{strandings-of-the-history}
 
 -- to unfold one of these is to unfold whatever its line names
@@ -24,7 +24,7 @@ unfolding ofBits lt size lastN block dimension waits finite due newest wrongLeng
 judging = tt
 
 recording : Unit {0}
-unfolding judging seenOf internalOf bufferOf shingled inputsOf timestampsOf newestOf countOf historyFacts historyRefusal complete adds enter entries standingOf
+unfolding judging seenOf internalOf bufferOf shingled inputsOf timestampsOf newestOf countOf historyFacts historyRefusal complete adds enter entries hasLearned standingOf
 recording = tt
 
 -- d 1, k 2, and the start given

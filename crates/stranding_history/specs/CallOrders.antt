@@ -19,9 +19,13 @@ use Rattle.stranding.specs.Counts.{countsBy, strandingsOf}
 
 -- ---- what the entries show
 
+-- an L stands, one being enough
+unfoldable pub hasLearned : List Entry → Bool
+hasLearned es = ltb 0 (length (learns es))
+
 -- Document 01: "W's without F wait. An L before F strands them for good."
 unfoldable pub standingOf : List Entry → Standing
-standingOf es = cond (isDrained es) drained (cond (ltb 0 (length (learns es))) stranded (waiting (length (initials es))))
+standingOf es = cond (isDrained es) drained (cond (hasLearned es) stranded (waiting (length (initials es))))
 
 -- ---- the calls of an order
 
