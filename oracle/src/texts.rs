@@ -96,13 +96,27 @@ pub fn far_decay(r: &mut Random, count: u64) -> f64 {
     }
 }
 
-/// A state that only a text can bring about, whose count is far out. Half of them have initial values that a drain would feed, most of those a count with which the drain
-/// ends around the limit or around the Rust's last count.
+/// A state that only a text can bring about, whose count is far out. Half of them have initial values that a drain would feed.
 pub fn far(r: &mut Random, sizes: Sizes) -> Snapshot {
-    let drains = r.once_in(2);
-    let mut w = if drains { undrained(r, sizes) } else { snapshot(r, sizes) };
-    w.count = if drains && !r.once_in(4) { r.pick(&[RUST_COUNT, COUNT_LIMIT, COUNT_LIMIT]) - w.settings.start - 1 + r.below(3) } else { far_count(r) };
-    w.settings.decay = far_decay(r, w.count);
+    if r.once_in(2) {
+        return far_drain(r, sizes);
+    }
+    let w = snapshot(r, sizes);
+    let count = far_count(r);
+    tamed(r, w, count)
+}
+
+/// As `far`, with initial values; most have a count with which their drain ends around the limit or around the Rust's last count.
+pub fn far_drain(r: &mut Random, sizes: Sizes) -> Snapshot {
+    let w = undrained(r, sizes);
+    let count = if r.once_in(4) { far_count(r) } else { r.pick(&[RUST_COUNT, COUNT_LIMIT, COUNT_LIMIT]) - w.settings.start - 1 + r.below(3) };
+    tamed(r, w, count)
+}
+
+/// With this count, a decay to go with it, and mostly statistics that an update changes and times that a call's may follow.
+fn tamed(r: &mut Random, mut w: Snapshot, count: u64) -> Snapshot {
+    w.count = count;
+    w.settings.decay = far_decay(r, count);
     if !r.once_in(8) {
         w.settings.stop = u64::MAX;
     }

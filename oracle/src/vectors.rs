@@ -891,14 +891,14 @@ fn preprocessor_list(r: &mut Random, out: &mut String, sizes: Sizes, most: u64, 
         settings_line(&s).whole(0).end(out);
         Reference::build(&s).unwrap()
     };
-    calls_lines(r, out, reference, 0, most)
+    calls_lines(r, out, reference, &[], (0, most))
 }
 
-/// From `least` to `most` random calls, the state after them, and its text.
-fn calls_lines(r: &mut Random, out: &mut String, mut reference: Reference, least: u64, most: u64) -> Snapshot {
+/// The calls given, then random ones, at least and at most so many; the state after them, and its text.
+fn calls_lines(r: &mut Random, out: &mut String, mut reference: Reference, first: &[Call], (least, most): (u64, u64)) -> Snapshot {
     let mut maker = Calls::new(r, &reference.settings);
-    for _ in 0..r.from(least, most) {
-        let call = maker.next(r);
+    for n in 0..first.len() + r.from(least, most) as usize {
+        let call = if n < first.len() { first[n].clone() } else { maker.next(r) };
         let answer = reference.call(&call);
         answered(call_line(&call), &call, &answer).end(out);
         if let (Call::Point { .. }, Answer::Numbers(point)) = (&call, &answer) {
@@ -939,13 +939,24 @@ fn preprocessor(r: &mut Random, lines: u64) -> String {
     out
 }
 
-/// Lists that begin with a count around the Rust's last one or around the limit.
+/// Lists that begin with a count around the Rust's last one or around the limit. In the first twelve a drain, or a point that drains, ends one below, at and one above both.
 fn far(r: &mut Random, lines: u64) -> String {
     let mut out = String::new();
-    while (out.lines().count() as u64) < lines {
-        let snapshot = texts::far(r, Sizes { d: 2, k: 3, start: 5, exact: false });
+    let sizes = Sizes { d: 2, k: 3, start: 5, exact: false };
+    for n in 0..12 {
+        let mut snapshot = texts::far_drain(r, sizes);
+        let s = &snapshot.settings;
+        let (d, dimension) = (s.d as usize, s.dimension());
+        snapshot.count = [RUST_COUNT, COUNT_LIMIT][n % 2] - s.start - 1 + n as u64 / 2 % 3;
+        let point = Call::Point { input: r.list32(d, |r| r.from(0, 400) as f32 / 4.0), timestamp: 60, out: dimension };
+        let first = if n < 6 { Call::Drain } else { point };
         set_lines(&snapshot, &mut out);
-        calls_lines(r, &mut out, snapshot.restore(), 3, 14);
+        calls_lines(r, &mut out, snapshot.restore(), &[first], (2, 6));
+    }
+    while (out.lines().count() as u64) < lines {
+        let snapshot = texts::far(r, sizes);
+        set_lines(&snapshot, &mut out);
+        calls_lines(r, &mut out, snapshot.restore(), &[], (3, 14));
     }
     out
 }
