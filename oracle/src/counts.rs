@@ -28,16 +28,22 @@ fn factor(discount: f64, count: u64) -> f64 {
 }
 
 /// "Update multiplies weight, sum and squares by it, then adds 1, score and score × score." `count` is the statistic's count.
-pub fn update(s: &mut Deviation, count: u64, score: f64) {
-    assert_eq!(s.count, held(count));
-    if count < RUST_COUNT {
-        return s.update(score);
-    }
+pub fn written(s: &mut Deviation, count: u64, score: f64) {
     let f = factor(s.discount, count);
     s.weight = s.weight * f + 1.0;
     s.sum = s.sum * f + score;
     s.sum_squared = s.sum_squared * f + score * score;
     s.count = held(count + 1);
+}
+
+/// By the Rust, and from its last count on by the written rule.
+pub fn update(s: &mut Deviation, count: u64, score: f64) {
+    assert_eq!(s.count, held(count));
+    if count < RUST_COUNT {
+        s.update(score);
+    } else {
+        written(s, count, score);
+    }
 }
 
 /// "Five statistics a channel: value; difference from the previous; deviation of the first; mean of the second; deviation of the second." They stand `apart` from each other.
