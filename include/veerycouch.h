@@ -12,7 +12,8 @@
  *   10  not d numbers in the input                      11  a number of the input is not finite
  *   12  a timestamp below the newest                    13  y or expected, where given, not get_dimension long
  *   14  relative_index outside 1 - k to 0               15  drain with nothing to drain
- *   16  a forecast of unequal lists or broken blocks    18  a counter would pass its limit
+ *   16  a forecast of unequal lists or broken blocks
+ *   18  a counter would pass its limit: readings fed 9007199254740990 (2^53 - 2), values_seen and internal_timestamp 2^63 - 1
  *   19  a number that names no mode, no method, no rule of impute or (in a word of the head) no code; or a text not of the form
  *   20  a lent part is too short
  *   21  impute: a mark other than 0 or 1, or more than 2000 readings

@@ -181,8 +181,12 @@ fn theorems(n: u64, s: &Settings, calls: &[Call], answers: &[Answer], text: &str
     )
 }
 
+const TITLE: &str = "-- Lists of calls whose texts and answers the unchanged Rust gave (oracle: traces SEED COUNT antt), computed by the definitions.";
+
+const FAR_TITLE: &str = "-- Texts whose count is around the Rust's last one or around the limit (document 02, #101), taken up, fed and put away; as the oracle has it
+-- (traces SEED COUNT far: the Rust, and past its counts the written rule), computed by the definitions.";
+
 const USES: &str = "\
--- Lists of calls whose texts and answers the unchanged Rust gave (oracle: traces SEED COUNT antt), computed by the definitions.
 use Prim.Native.Nat.{ℕ}
 use mathlib.Core.Path.{_≡_, refl}
 use mathlib.Core.Bool.{true, false}
@@ -237,7 +241,7 @@ const SPECS: [&str; 13] = [
 const IEEE: &str = "span climb size odd units round neg sum add sub mul div lt eq le ne ofInt fits ofFields ofBits toBits";
 
 /// Brings in the definitions, and names all that are to be unfolded, as the repository's specs have them.
-fn head(crates: &Path, uses: &str, more: &[&str]) -> String {
+fn head(crates: &Path, title: &str, uses: &str, more: &[&str]) -> String {
     let mut names: Vec<String> = IEEE.split(' ').map(|n| format!("Ieee.{n}")).collect();
     for spec in SPECS.iter().chain(more) {
         let path = crates.join(spec).with_extension("antt");
@@ -251,7 +255,7 @@ fn head(crates: &Path, uses: &str, more: &[&str]) -> String {
         }
     }
     format!(
-        "{USES}{uses}\n-- to unfold this is to unfold whatever its line names\ntrace·all : Unit {{0}}\nunfolding {}\ntrace·all = tt\n",
+        "{title}\n{USES}{uses}\n-- to unfold this is to unfold whatever its line names\ntrace·all : Unit {{0}}\nunfolding {}\ntrace·all = tt\n",
         names.join(" ")
     )
 }
@@ -273,7 +277,7 @@ again (bad n) = []
 
 /// `count` texts as theorems over the reader's definition: the first bad line; a text of the form is written again as it was, with the line of its codes.
 pub fn read_file(seed: u64, count: u64, crates: &Path) -> String {
-    let mut out = head(crates, READ_USES, &["snapshot/specs/Read", "snapshot/specs/Form"]);
+    let mut out = head(crates, TITLE, READ_USES, &["snapshot/specs/Read", "snapshot/specs/Form"]);
     for n in 0..count {
         let mut r = Random::new(seed.wrapping_mul(0x1_0000_0009).wrapping_add(n));
         let good = texts::snapshot(&mut r, Sizes { d: 2, k: 2, start: 3, exact: false });
@@ -297,9 +301,68 @@ pub fn read_file(seed: u64, count: u64, crates: &Path) -> String {
     out
 }
 
+const FAR_USES: &str = "\
+use Rattle.snapshot.specs.Read as Read
+use Rattle.snapshot.specs.Read.{Read, taken, bad, read}
+
+-- the text after the calls, of what was taken up
+abbrev away : Read → List Call → List ℕ
+away (taken w) cs = render (run w cs)
+away (bad n) cs = []
+
+abbrev answered : Read → List Call → List Answer
+answered (taken w) cs = answers w cs
+answered (bad n) cs = []
+";
+
+/// Points, learns and drains from a state whose count is far out, with the answers; none where no reading is fed.
+fn far_calls(r: &mut Random, first: &Snapshot) -> Option<(Vec<Call>, Vec<Answer>, String)> {
+    let mut reference = first.restore();
+    let mut maker = Calls::new(r, &first.settings);
+    let (mut calls, mut answers) = (Vec::new(), Vec::new());
+    while calls.len() < 6 {
+        let call = maker.next(r);
+        if !matches!(call, Call::Point { .. } | Call::Learn(_) | Call::Drain) {
+            continue;
+        }
+        let answer = reference.call(&call);
+        if let (Call::Point { .. }, Answer::Numbers(point)) = (&call, &answer) {
+            maker.last_point = Some(point.iter().map(|&b| f32::from_bits(b)).collect());
+        }
+        calls.push(call);
+        answers.push(answer);
+    }
+    (reference.count() > first.count).then(|| (calls, answers, Snapshot::of(&reference).text()))
+}
+
+/// Texts with a count around the Rust's last one or around the limit, as theorems: taken up, fed and put away.
+pub fn far_file(seed: u64, count: u64, crates: &Path) -> String {
+    let mut out = head(crates, FAR_TITLE, FAR_USES, &["snapshot/specs/Read", "snapshot/specs/Form"]);
+    let (mut n, mut tried) = (0, 0);
+    while n < count {
+        let mut r = Random::new(seed.wrapping_mul(0x1_0000_000b).wrapping_add(tried));
+        tried += 1;
+        let first = texts::far(&mut r, Sizes { d: 1, k: 2, start: 2, exact: false });
+        let Some((calls, answers, last)) = far_calls(&mut r, &first) else { continue };
+        let lines = |text: &str| list(text.lines().map(|l| format!("\n    \"{}\"", l.replace('\t', "\\t"))));
+        let s = &first.settings;
+        out += &format!(
+            "\nabbrev f{n} : List ℕ\nf{n} = text {}\n\nabbrev c{n} : List Call\nc{n} = {}\n\nabbrev t{n} : List ℕ\nt{n} = text {}\n\n\
+             away{n} : away (read f{n}) c{n} ≡ t{n}\nunfolding trace·all\naway{n} = refl\n\n\
+             answers{n} : answered (read f{n}) c{n} ≡ {}\nunfolding trace·all\nanswers{n} = refl\n",
+            lines(&first.text()),
+            list(calls.iter().map(|c| format!("\n    {}", call_term(c)))),
+            lines(&last),
+            list(calls.iter().zip(&answers).map(|(c, a)| format!("\n    {}", answer_term(s, c, a))))
+        );
+        n += 1;
+    }
+    out
+}
+
 /// `count` short lists as theorems over the definitions of the repository whose `crates` folder is given.
 pub fn file(seed: u64, count: u64, crates: &Path) -> String {
-    let mut out = head(crates, "", &[]);
+    let mut out = head(crates, TITLE, "", &[]);
     for n in 0..count {
         let mut r = Random::new(seed.wrapping_mul(0x1_0000_0007).wrapping_add(n));
         let s = settings(&mut r, Sizes { d: 2, k: 3, start: 3, exact: false });

@@ -14,7 +14,8 @@ pub const SUBTRACT_MA: u8 = 3;
 pub const NORMALIZE: u8 = 4;
 pub const NORMALIZE_DIFFERENCE: u8 = 5;
 
-pub const COUNT_LIMIT: u64 = 2_147_483_646;
+/// Request #101: count + 2 is exact as f64 up to 2^53.
+pub const COUNT_LIMIT: u64 = (1 << 53) - 2;
 pub const SEEN_LIMIT: u64 = (1 << 63) - 1;
 
 #[derive(Clone, Debug)]

@@ -3,6 +3,7 @@ use crate::bits::{all32, all64};
 use crate::calls::*;
 use crate::common::descriptor::Descriptor;
 use crate::common::rangevector::RangeVector;
+use crate::counts::{held, RUST_COUNT};
 use crate::rcf::RCFLarge;
 use crate::trcf::preprocessor::{Preprocessor, PreprocessorBuilder};
 use crate::trcf::types::{ForestMode, TransformMethod};
@@ -46,12 +47,14 @@ pub fn rust_build(s: &Settings) -> crate::types::Result<Preprocessor> {
 pub struct Reference {
     pub settings: Settings,
     pub rust: Preprocessor,
+    /// Readings fed: the count of every statistic, past the Rust's too.
+    pub count: u64,
 }
 
 impl Reference {
     pub fn build(settings: &Settings) -> Result<Reference, u8> {
         match settings.row() {
-            0 => Ok(Reference { settings: settings.clone(), rust: rust_build(settings).expect("no row refuses these settings") }),
+            0 => Ok(Reference { settings: settings.clone(), rust: rust_build(settings).expect("no row refuses these settings"), count: 0 }),
             row => Err(row),
         }
     }
@@ -64,12 +67,10 @@ impl Reference {
         self.rust.internal_timestamp() as u64
     }
 
-    /// All statistics hold the same count.
+    /// All statistics of the Rust hold this count, or past the last i32 that one.
     pub fn count(&self) -> u64 {
-        let mut counts = self.rust.all_statistics().map(|s| s.count);
-        let first = counts.next().unwrap();
-        assert!(counts.all(|c| c == first), "the statistics' counts differ");
-        first as u64
+        assert!(self.rust.all_statistics().all(|s| s.count == held(self.count)), "the statistics' counts differ");
+        self.count
     }
 
     pub fn waits(&self) -> bool {
@@ -215,6 +216,15 @@ impl Reference {
         if row != 0 {
             return Answer::No(row);
         }
+        let fed = self.feeds(call);
+        let past = fed > 0 && self.count + fed > RUST_COUNT;
+        let answer = if past { self.call_past(call) } else { self.asked(call) };
+        self.count += fed;
+        answer
+    }
+
+    /// The Rust's answer, where no row refuses the call.
+    pub fn asked(&mut self, call: &Call) -> Answer {
         match call {
             Call::Point { input, timestamp, .. } => {
                 let given = self.rust.shingled_point(None as Option<&RCFLarge<u64, u64>>, input, *timestamp).expect("no row refuses");
@@ -242,7 +252,7 @@ impl Reference {
         }
     }
 
-    fn learn(&mut self, c: &Learn) -> Answer {
+    pub fn learn(&mut self, c: &Learn) -> Answer {
         let mut result = Descriptor {
             rcf_point: c.point.clone(),
             anomaly_grade: c.grade,

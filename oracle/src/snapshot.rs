@@ -1,6 +1,7 @@
 //! The trace text of document 01 with request #113's codes: written from the Rust's state, read line by line, and put back into the Rust's state.
 use crate::bits::{bits32, bits64, hex32, hex64};
 use crate::calls::{Mode, Settings, COUNT_LIMIT, NORMALIZE, SEEN_LIMIT};
+use crate::counts::held;
 use crate::reference::Reference;
 
 /// Exactly what a text holds.
@@ -107,13 +108,14 @@ impl Snapshot {
             place.weight = *weight;
             place.sum = *sum;
             place.sum_squared = *squares;
-            place.count = self.count as i32;
+            place.count = held(self.count);
         }
         *state.last_shingled_input = self.inputs.clone();
         *state.last_shingled_point = self.point.clone();
         *state.previous_timestamps = self.times.clone();
         *state.initial_timestamps = self.initial.iter().map(|w| w.0).collect();
         *state.initial_values = self.initial.iter().map(|w| w.1.clone()).collect();
+        reference.count = self.count;
         reference
     }
 }

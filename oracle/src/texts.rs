@@ -1,5 +1,6 @@
 //! Texts of document 01's form (with request #113's line or without it) that need not be reachable by calls, and damaged ones with the line at which each is bad.
 use crate::calls::{COUNT_LIMIT, NONE, NORMALIZE, SEEN_LIMIT};
+use crate::counts::RUST_COUNT;
 use crate::random::{settings, Random, Sizes};
 use crate::snapshot::Snapshot;
 
@@ -15,6 +16,11 @@ fn counter(r: &mut Random, limit: u64) -> u64 {
         1 => r.next() % (limit + 1),
         _ => r.from(0, 12),
     }
+}
+
+/// The Rust's last count, or the limit of the count. Takes nothing from the generator.
+fn a_limit(r: &Random) -> u64 {
+    r.aside(101).pick(&[RUST_COUNT, COUNT_LIMIT])
 }
 
 /// A snapshot that has the form: "nothing ties the counts but what document 01 says".
@@ -42,7 +48,7 @@ pub fn snapshot(r: &mut Random, sizes: Sizes) -> Snapshot {
     Snapshot {
         values_seen,
         internal,
-        count: counter(r, COUNT_LIMIT),
+        count: counter(r, RUST_COUNT),
         statistics: (0..5 * d + 5).map(|_| [r.wild64(), r.wild64(), r.wild64()]).collect(),
         inputs: r.list32(d * k, Random::wild32),
         point: r.list32(s.dimension(), Random::wild32),
@@ -52,7 +58,7 @@ pub fn snapshot(r: &mut Random, sizes: Sizes) -> Snapshot {
     }
 }
 
-/// As `snapshot`, with initial values that a drain would feed, and a count near its limit.
+/// As `snapshot`, with initial values that a drain would feed, and a count near the Rust's last one.
 pub fn undrained(r: &mut Random, sizes: Sizes) -> Snapshot {
     let mut w = snapshot(r, sizes);
     let s = &mut w.settings;
@@ -65,10 +71,78 @@ pub fn undrained(r: &mut Random, sizes: Sizes) -> Snapshot {
     w.values_seen = s.start;
     w.internal = 0;
     w.times.iter_mut().for_each(|t| *t = 0);
-    w.count = COUNT_LIMIT - r.below(8);
+    w.count = RUST_COUNT - r.below(8);
     let (d, times) = (s.d as usize, rising_times(r, s.start as usize));
     w.initial = times.into_iter().map(|t| (t, r.list32(d, Random::value32))).collect();
     w
+}
+
+/// A count around the Rust's last one, around the limit, or between both.
+pub fn far_count(r: &mut Random) -> u64 {
+    match r.below(8) {
+        0..=2 => RUST_COUNT - 6 + r.below(12),
+        3..=6 => COUNT_LIMIT - r.below(10),
+        _ => (1 << r.from(32, 53)) - 2 - r.below(4),
+    }
+}
+
+/// A decay with which a count as large decides the factor, or with which it does not.
+pub fn far_decay(r: &mut Random, count: u64) -> f64 {
+    match r.below(5) {
+        0 => r.decay(),
+        1 => r.pick(&[0.0, -0.0, 5.0e-324, 1.0e-300, 1.0e-17]),
+        2 => r.pick(&[f64::EPSILON / 2.0, f64::EPSILON, f64::EPSILON / 4.0]),
+        _ => r.pick(&[0.5, 1.0, 1.0, 2.0, 5.0, 10.0, 20.0]) / (count + 2) as f64,
+    }
+}
+
+/// A state that only a text can bring about, whose count is far out. Half of them have initial values that a drain would feed.
+pub fn far(r: &mut Random, sizes: Sizes) -> Snapshot {
+    if r.once_in(2) {
+        return far_drain(r, sizes);
+    }
+    let w = snapshot(r, sizes);
+    let count = far_count(r);
+    tamed(r, w, count)
+}
+
+/// As `far`, with initial values; most have a count with which their drain ends around the limit or around the Rust's last count.
+pub fn far_drain(r: &mut Random, sizes: Sizes) -> Snapshot {
+    let w = undrained(r, sizes);
+    let count = if r.once_in(4) { far_count(r) } else { r.pick(&[RUST_COUNT, COUNT_LIMIT, COUNT_LIMIT]) - w.settings.start - 1 + r.below(3) };
+    tamed(r, w, count)
+}
+
+/// With this count, a decay to go with it, and mostly statistics that an update changes and times that a call's may follow.
+fn tamed(r: &mut Random, mut w: Snapshot, count: u64) -> Snapshot {
+    w.count = count;
+    w.settings.decay = far_decay(r, count);
+    if !r.once_in(8) {
+        w.settings.stop = u64::MAX;
+    }
+    if !r.once_in(8) {
+        w.statistics.iter_mut().for_each(|s| *s = [r.from(1, 1 << 40) as f64 / 8.0, r.from(0, 1 << 40) as f64 / 16.0 - 1.0e10, r.from(0, 1 << 50) as f64 / 3.0]);
+    }
+    w.times.iter_mut().for_each(|t| *t %= 50);
+    w.times.sort();
+    w.initial.iter_mut().for_each(|i| i.0 %= 50);
+    w.initial.sort_by_key(|i| i.0);
+    w
+}
+
+/// The text of such a state; half of them have another number in the count's place, and a third of the others miss it by a byte.
+pub fn far_text(r: &mut Random, good: &Snapshot, lined: bool) -> Vec<u8> {
+    let mut all = lines(good.written(lined).as_bytes());
+    let mut fields = split(&all[counters_at(lined)]);
+    let limit = r.pick(&[RUST_COUNT, COUNT_LIMIT, COUNT_LIMIT]);
+    fields[3] = match r.below(6) {
+        0 => (limit - 1 + r.below(4)).to_string().into_bytes(),
+        1 => r.pick(&["9007199254740992", "9007199254740993", "90071992547409900", "9007199254740990 ", "9223372036854775807", "18446744073709551615"]).into(),
+        2 => r.pick(&["09007199254740990", "9007199254740991", "9007199254740990", "2147483647", "4294967296", "18446744073709551616"]).into(),
+        _ => return all.concat(),
+    };
+    all[counters_at(lined)] = join(&fields);
+    all.concat()
 }
 
 /// The lines of a text, each with its LF.
@@ -301,8 +375,10 @@ fn spoiled_head(r: &mut Random, good: &Snapshot, lined: bool) -> (Vec<u8>, usize
             return (w.written(lined).into_bytes(), counters);
         }
         10 => {
-            w.count = COUNT_LIMIT + 1 + r.below(3);
-            return (w.written(lined).into_bytes(), counters);
+            // past the Rust's last count the text still has the form
+            let limit = a_limit(r);
+            w.count = limit + 1 + r.below(3);
+            return (w.written(lined).into_bytes(), if limit < COUNT_LIMIT { 0 } else { counters });
         }
         _ => {
             if !waits {
@@ -424,7 +500,8 @@ pub fn near(r: &mut Random, good: &Snapshot, lined: bool, way: u64) -> Vec<u8> {
             all.push(r.pick(&[&more[..], &all.concat(), b"buf\t0\n", b"\t", b"\n\n"]).to_vec());
         }
         9 => {
-            let limit = r.pick(&[(1, SEEN_LIMIT), (2, SEEN_LIMIT), (3, COUNT_LIMIT)]);
+            let counts = a_limit(r);
+            let limit = r.pick(&[(1, SEEN_LIMIT), (2, SEEN_LIMIT), (3, counts)]);
             let over = r.below(3);
             change((counters_at(lined), limit.0), &|_| (limit.1 - 1 + over).to_string().into_bytes());
         }

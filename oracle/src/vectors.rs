@@ -3,6 +3,7 @@ use crate::bits::{bits32, bits64};
 use crate::calls::*;
 use crate::common::deviation::Deviation;
 use crate::common::rangevector::RangeVector;
+use crate::counts::{feed_channels, held, update, RUST_COUNT};
 use crate::random::{bad_settings, expected_codes, settings, Calls, Random, Sizes};
 use crate::reference::{rust_method, Reference};
 use crate::snapshot::{read, take_up, Refused, Snapshot, ROOMY};
@@ -92,12 +93,17 @@ impl Element for u64 {
 // deviation
 
 fn deviation_line(line: Line, row: u8, s: &Deviation, out: &mut String) {
+    counted_line(line, row, s, s.count as u64, out);
+}
+
+/// The same of a statistic whose count may be past the Rust's.
+fn counted_line(line: Line, row: u8, s: &Deviation, count: u64, out: &mut String) {
     line.whole(row as u64)
         .double(s.discount)
         .double(s.weight)
         .double(s.sum)
         .double(s.sum_squared)
-        .whole(s.count as u64)
+        .whole(count)
         .double(s.mean())
         .double(s.deviation())
         .whole(s.is_empty() as u64)
@@ -105,7 +111,8 @@ fn deviation_line(line: Line, row: u8, s: &Deviation, out: &mut String) {
 }
 
 const BAD_DISCOUNTS: [f64; 8] = [1.0, -0.001, -5.0e-324, f64::NAN, f64::INFINITY, f64::NEG_INFINITY, 1.000_000_000_000_000_2, 2.0];
-const BAD_COUNTS: [u64; 5] = [COUNT_LIMIT + 1, COUNT_LIMIT + 2, 3_000_000_000, u32::MAX as u64, COUNT_LIMIT + 3];
+const LARGE_COUNTS: [u64; 5] = [RUST_COUNT + 1, RUST_COUNT + 2, 3_000_000_000, u32::MAX as u64, RUST_COUNT + 3];
+const BAD_COUNTS: [u64; 6] = [COUNT_LIMIT + 1, COUNT_LIMIT + 2, COUNT_LIMIT + 3, 1 << 63, u64::MAX, 10_000_000_000_000_000];
 
 fn discount(r: &mut Random) -> f64 {
     if r.once_in(6) {
@@ -117,9 +124,9 @@ fn discount(r: &mut Random) -> f64 {
 
 fn count(r: &mut Random) -> u64 {
     match r.below(5) {
-        0 => r.pick(&BAD_COUNTS),
-        1 => COUNT_LIMIT - r.below(4),
-        2 => r.below(COUNT_LIMIT),
+        0 => r.pick(&LARGE_COUNTS),
+        1 => RUST_COUNT - r.below(4),
+        2 => r.below(RUST_COUNT),
         _ => r.below(40),
     }
 }
@@ -142,7 +149,7 @@ fn row18(count: u64) -> u8 {
 
 fn deviation(r: &mut Random, lines: u64) -> String {
     let mut out = String::new();
-    let mut s = Deviation::new(0.0).unwrap();
+    let (mut s, mut n) = (Deviation::new(0.0).unwrap(), 0);
     let mut tame = true;
     for _ in 0..lines {
         match r.below(40) {
@@ -151,50 +158,86 @@ fn deviation(r: &mut Random, lines: u64) -> String {
                 tame = r.once_in(2);
                 assert_eq!(Deviation::new(d).is_ok(), row6(d) == 0);
                 if let Ok(new) = Deviation::new(d) {
-                    s = new;
+                    (s, n) = (new, 0);
                 }
-                deviation_line(Line::new("n").double(d), row6(d), &s, &mut out);
+                counted_line(Line::new("n").double(d), row6(d), &s, n, &mut out);
             }
             2 | 3 => {
                 let (d, w, a, q, c) = (discount(r), r.wild64(), r.wild64(), r.wild64(), count(r));
                 let row = if row6(d) != 0 { 6 } else { row18(c) };
                 if row == 0 {
-                    s = Deviation::create(d, w, a, q, c as i32);
+                    (s, n) = (Deviation::create(d, w, a, q, held(c)), c);
                 }
-                deviation_line(Line::new("c").double(d).double(w).double(a).double(q).whole(c), row, &s, &mut out);
+                counted_line(Line::new("c").double(d).double(w).double(a).double(q).whole(c), row, &s, n, &mut out);
             }
             4 => {
                 let c = count(r);
                 if row18(c) == 0 {
-                    s.set_count(c as i32);
+                    s.set_count(held(c));
+                    n = c;
                 }
-                deviation_line(Line::new("k").whole(c), row18(c), &s, &mut out);
+                counted_line(Line::new("k").whole(c), row18(c), &s, n, &mut out);
             }
             5 => {
                 let d = discount(r);
                 s.set_discount(d);
-                deviation_line(Line::new("d").double(d), 0, &s, &mut out);
+                counted_line(Line::new("d").double(d), 0, &s, n, &mut out);
             }
             6 => {
                 s.reset();
+                n = 0;
                 deviation_line(Line::new("r"), 0, &s, &mut out);
             }
             7 => {
-                s = Deviation::default();
+                (s, n) = (Deviation::default(), 0);
                 deviation_line(Line::new("e"), 0, &s, &mut out);
             }
             _ => {
                 let score = if tame && !r.once_in(40) { r.from(0, 400) as f64 / 8.0 - 20.0 } else { r.wild64() };
-                let row = row18(s.count as u64 + 1);
-                if row == 0 {
-                    s.update(score);
-                }
-                deviation_line(Line::new("u").double(score), row, &s, &mut out);
+                n += fed_line(&mut s, n, score, &mut out);
             }
         }
     }
     corrections(r, &mut out);
+    far_counts(r, &mut out);
     out
+}
+
+/// An update, and by how much it raises the count: 0 where row 18 refuses it.
+fn fed_line(s: &mut Deviation, count: u64, score: f64, out: &mut String) -> u64 {
+    let row = row18(count + 1);
+    let fed = (row == 0) as u64;
+    if row == 0 {
+        update(s, count, score);
+    }
+    counted_line(Line::new("u").double(score), row, s, count + fed, out);
+    fed
+}
+
+/// Created and set at counts around the Rust's last one and around the limit, and fed across both.
+fn far_counts(r: &mut Random, out: &mut String) {
+    for n in 0..48 {
+        let given = if n < 12 { [RUST_COUNT - 3, COUNT_LIMIT - 3][n % 2] + n as u64 / 4 } else { texts::far_count(r) };
+        let discount = texts::far_decay(r, given);
+        let mut s = Deviation::create(discount, r.from(0, 1 << 40) as f64 / 8.0, r.from(0, 400) as f64 / 8.0, r.from(0, 1 << 50) as f64 / 3.0, held(given));
+        let line = Line::new("c").double(discount).double(s.weight).double(s.sum).double(s.sum_squared).whole(given);
+        counted_line(line, 0, &s, given, out);
+        let mut count = given;
+        for _ in 0..5 {
+            let score = r.from(0, 400) as f64 / 8.0 - 20.0;
+            count += fed_line(&mut s, count, score, out);
+        }
+        if n % 3 == 0 {
+            let bad = r.pick(&BAD_COUNTS);
+            let line = Line::new("c").double(discount).double(1.0).double(1.0).double(1.0).whole(bad);
+            counted_line(line, 18, &s, count, out);
+            counted_line(Line::new("k").whole(bad), 18, &s, count, out);
+            count = texts::far_count(r);
+            s.set_count(held(count));
+            counted_line(Line::new("k").whole(count), 0, &s, count, out);
+            fed_line(&mut s, count, 0.1, out);
+        }
+    }
 }
 
 // corrected: the Rust has no such function, so the answer is the Rust's statistic of the changed list, and where no list made the statistic the written rule
@@ -539,11 +582,28 @@ struct Transformer {
     rust: WeightedTransformer,
     method: u8,
     d: usize,
+    count: u64,
 }
 
 impl Transformer {
     fn count(&self) -> u64 {
-        self.rust.statistics()[0].count as u64
+        assert!(self.rust.statistics().iter().all(|s| s.count == held(self.count)));
+        self.count
+    }
+
+    fn set_count(&mut self, count: u64) {
+        self.rust.statistics_mut().iter_mut().for_each(|s| s.count = held(count));
+        self.count = count;
+    }
+
+    /// By the Rust, or past its counts by the written rule.
+    fn update(&mut self, input: &[f32], previous: &[f32]) {
+        if self.count < RUST_COUNT {
+            self.rust.update(input, previous).expect("no row refuses");
+        } else {
+            feed_channels(self.rust.statistics_mut(), self.count, input, previous);
+        }
+        self.count += 1;
     }
 
     fn inputs(&self, r: &mut Random) -> [Vec<f32>; 2] {
@@ -583,7 +643,7 @@ fn new_transformer(r: &mut Random, out: &mut String) -> Option<Transformer> {
     let made = WeightedTransformer::new(rust_method(method), d, decay, &weights);
     assert_eq!(made.is_ok(), row == 0);
     Line::new("n").whole(method as u64).whole(d as u64).double(decay).list(&weights).whole(row as u64).end(out);
-    made.ok().map(|rust| Transformer { rust, method, d })
+    made.ok().map(|rust| Transformer { rust, method, d, count: 0 })
 }
 
 fn transformer_statistics(t: &Transformer, out: &mut String) {
@@ -644,7 +704,7 @@ fn transformer_line(t: &mut Transformer, r: &mut Random, out: &mut String) {
             }
             let line = Line::new("u").list(&input).list(&previous).whole(row as u64);
             if row == 0 {
-                t.rust.update(&input, &previous).expect("no row refuses");
+                t.update(&input, &previous);
             }
             line.end(out);
         }
@@ -674,8 +734,8 @@ fn transformer_line(t: &mut Transformer, r: &mut Random, out: &mut String) {
             listed(Line::new(name).whole(lent as u64), row, answer, out);
         }
         22 if r.once_in(4) => {
-            let count = if r.once_in(2) { COUNT_LIMIT - r.below(3) } else { r.below(1000) };
-            t.rust.statistics_mut().iter_mut().for_each(|s| s.count = count as i32);
+            let count = if r.once_in(2) { RUST_COUNT - r.below(3) } else { r.below(1000) };
+            t.set_count(count);
             Line::new("k").whole(count).end(out);
         }
         _ => transformer_statistics(t, out),
@@ -694,7 +754,39 @@ fn transformer(r: &mut Random, lines: u64) -> String {
             written += 1;
         }
     }
+    for _ in 0..24 {
+        far_transformer(r, &mut out);
+    }
     out
+}
+
+/// A transformer whose count is set around the Rust's last one or around the limit, and then fed.
+fn far_transformer(r: &mut Random, out: &mut String) {
+    let count = texts::far_count(r);
+    let (method, d, decay) = (r.from(1, 5) as u8, r.from(1, 2) as usize, texts::far_decay(r, count));
+    let weights: Vec<f32> = (0..d).map(|_| r.weight()).collect();
+    let rust = WeightedTransformer::new(rust_method(method), d, decay, &weights).expect("no row refuses");
+    Line::new("n").whole(method as u64).whole(d as u64).double(decay).list(&weights).whole(0).end(out);
+    let mut t = Transformer { rust, method, d, count: 0 };
+    let quarter = |r: &mut Random| r.from(0, 400) as f32 / 4.0 - 20.0;
+    let mut previous = r.list32(d, quarter);
+    for n in 0..7 {
+        if n == 2 {
+            t.set_count(count);
+            Line::new("k").whole(count).end(out);
+        }
+        let input = r.list32(d, quarter);
+        let row = row18(t.count() + 1);
+        Line::new("u").list(&input).list(&previous).whole(row as u64).end(out);
+        if row == 0 {
+            t.update(&input, &previous);
+        }
+        previous = input;
+    }
+    transformer_statistics(&t, out);
+    let input = r.list32(d, quarter);
+    let answer = t.rust.transform(&input, &previous);
+    Line::new("t").list(&input).list(&previous).whole(d as u64).whole(0).list(&answer).end(out);
 }
 
 // preprocessor
@@ -778,22 +870,35 @@ fn checksum(text: &[u8]) -> u64 {
     b * 65536 + a
 }
 
+/// Its settings built, and the state set.
+fn set_lines(snapshot: &Snapshot, out: &mut String) {
+    settings_line(&snapshot.settings).whole(0).end(out);
+    state_line("g", snapshot).end(out);
+}
+
 /// One list: settings, calls with their answers, the state, and the length and checksum of its text.
 fn preprocessor_list(r: &mut Random, out: &mut String, sizes: Sizes, most: u64, unreached: bool) -> Snapshot {
-    let mut reference = if unreached {
-        // A state that only a text can bring about: it is set, and row 18 can be met.
-        let snapshot = if r.once_in(3) { texts::undrained(r, sizes) } else { texts::snapshot(r, sizes) };
-        settings_line(&snapshot.settings).whole(0).end(out);
-        state_line("g", &snapshot).end(out);
+    let reference = if unreached {
+        // A state that only a text can bring about: it is set, and row 18 can be met. A count near the Rust's last one is moved to the limit.
+        let mut snapshot = if r.once_in(3) { texts::undrained(r, sizes) } else { texts::snapshot(r, sizes) };
+        if snapshot.count > RUST_COUNT - 8 {
+            snapshot.count += COUNT_LIMIT - RUST_COUNT;
+        }
+        set_lines(&snapshot, out);
         snapshot.restore()
     } else {
         let s = settings(r, sizes);
         settings_line(&s).whole(0).end(out);
         Reference::build(&s).unwrap()
     };
+    calls_lines(r, out, reference, &[], (0, most))
+}
+
+/// The calls given, then random ones, at least and at most so many; the state after them, and its text.
+fn calls_lines(r: &mut Random, out: &mut String, mut reference: Reference, first: &[Call], (least, most): (u64, u64)) -> Snapshot {
     let mut maker = Calls::new(r, &reference.settings);
-    for _ in 0..r.from(0, most) {
-        let call = maker.next(r);
+    for n in 0..first.len() + r.from(least, most) as usize {
+        let call = if n < first.len() { first[n].clone() } else { maker.next(r) };
         let answer = reference.call(&call);
         answered(call_line(&call), &call, &answer).end(out);
         if let (Call::Point { .. }, Answer::Numbers(point)) = (&call, &answer) {
@@ -830,6 +935,28 @@ fn preprocessor(r: &mut Random, lines: u64) -> String {
         }
         let most = if d * k > 100 { 12 } else { 30 };
         preprocessor_list(r, &mut out, sizes, most, lists % 6 == 0);
+    }
+    out
+}
+
+/// Lists that begin with a count around the Rust's last one or around the limit. In the first twelve a drain, or a point that drains, ends one below, at and one above both.
+fn far(r: &mut Random, lines: u64) -> String {
+    let mut out = String::new();
+    let sizes = Sizes { d: 2, k: 3, start: 5, exact: false };
+    for n in 0..12 {
+        let mut snapshot = texts::far_drain(r, sizes);
+        let s = &snapshot.settings;
+        let (d, dimension) = (s.d as usize, s.dimension());
+        snapshot.count = [RUST_COUNT, COUNT_LIMIT][n % 2] - s.start - 1 + n as u64 / 2 % 3;
+        let point = Call::Point { input: r.list32(d, |r| r.from(0, 400) as f32 / 4.0), timestamp: 60, out: dimension };
+        let first = if n < 6 { Call::Drain } else { point };
+        set_lines(&snapshot, &mut out);
+        calls_lines(r, &mut out, snapshot.restore(), &[first], (2, 6));
+    }
+    while (out.lines().count() as u64) < lines {
+        let snapshot = texts::far(r, sizes);
+        set_lines(&snapshot, &mut out);
+        calls_lines(r, &mut out, snapshot.restore(), &[], (3, 14));
     }
     out
 }
@@ -887,6 +1014,21 @@ fn near(r: &mut Random, count: u64) -> String {
     out
 }
 
+/// Texts whose count is around the Rust's last one or around the limit, the half of them with another number in its place.
+fn far_texts(r: &mut Random, count: u64) -> String {
+    let mut out = String::new();
+    for n in 0..count {
+        let mut good = texts::far(r, Sizes { d: 2, k: 3, start: 4, exact: false });
+        let lined = n % 2 == 0;
+        if !lined {
+            good.settings.codes = good.settings.zero_codes();
+        }
+        let text = texts::far_text(r, &good, lined);
+        text_line(r, &mut out, &good, &text);
+    }
+    out
+}
+
 /// One input for the bench, of `count` call lines, most of the form.
 fn bench(r: &mut Random, count: u64) -> String {
     let s = settings(r, Sizes { d: 4, k: 8, start: 6, exact: false });
@@ -917,7 +1059,7 @@ fn bench(r: &mut Random, count: u64) -> String {
     out
 }
 
-/// The file of a kind: `count` lines, and for `snapshot` and `near` as many texts.
+/// The file of a kind: `count` lines, and for `snapshot`, `near` and `far_texts` as many texts.
 pub fn file(kind: &str, seed: u64, count: u64) -> Option<String> {
     let r = &mut Random::new(seed);
     Some(match kind {
@@ -928,14 +1070,30 @@ pub fn file(kind: &str, seed: u64, count: u64) -> Option<String> {
         "preprocessor" => preprocessor(r, count),
         "snapshot" => snapshot(r, count),
         "near" => near(r, count),
+        "far" => far(r, count),
+        "far_texts" => far_texts(r, count),
         "bench" => bench(r, count),
         _ => return None,
     })
 }
 
+/// A file of texts of before there were codes, judged anew: the same texts, and the first bad line of each as it is today.
+pub fn judged(file: &str) -> String {
+    let (mut out, mut rest) = (String::new(), file);
+    while let Some((head, behind)) = rest.split_once('\n') {
+        let length: usize = head.split(' ').nth(1).and_then(|n| n.parse().ok()).expect("t length line");
+        let text = &behind[..length];
+        Line::new("t").whole(length as u64).whole(read(text.as_bytes()).err().unwrap_or(0) as u64).end(&mut out);
+        out += text;
+        out += "\n";
+        rest = &behind[length + 1..];
+    }
+    out
+}
+
 /// Where the last line with an answer ends: before its LF. A line `k` of the kind transformer has none; a text's answer stands in the line before it.
 fn last_answer(kind: &str, file: &str) -> usize {
-    if kind != "snapshot" && kind != "near" {
+    if !["snapshot", "near", "far_texts"].contains(&kind) {
         let kept = file.lines().rev().skip_while(|l| l.starts_with("k ")).map(|l| l.len() + 1).sum::<usize>();
         return kept - 1;
     }

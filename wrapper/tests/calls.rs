@@ -55,6 +55,28 @@ fn weighted() {
     assert_eq!(p.shingled_point(&[f32::INFINITY], 5), Err(Refusal(11)));
 }
 
+/// A text taken up with this count, and what one learn more gives: the row, and the count that is put away.
+fn fed_at(count: &str) -> Result<(u64, String), (Refusal, u64)> {
+    let p = Preprocessor::build(&settings(TransformMethod::None, 1, 1, 0)).unwrap();
+    let text = String::from_utf8(p.save().unwrap()).unwrap().replace("cnt\t0\t0\t0\n", &format!("cnt\t0\t0\t{count}\n"));
+    let mut p = Preprocessor::restore(text.as_bytes(), &[FUEL_TRIM])?;
+    let given = Learn { y: Some(&[0.0]), ..Learn::default() };
+    let row = p.post_process(&[1.0], 1, given, &mut [0.0], &mut [], &mut []).err().map_or(0, |refusal| refusal.0);
+    let text = String::from_utf8(p.save().unwrap()).unwrap();
+    Ok((row, text.lines().nth(3).unwrap().split('\t').nth(3).unwrap().to_string()))
+}
+
+/// Counts past 32 bits, and row 18 at the limit; past it a text is not of the form.
+#[test]
+fn counts_up_to_the_limit() {
+    let told = |row: u64, count: &str| Ok((row, count.to_string()));
+    assert_eq!(fed_at("2147483646"), told(0, "2147483647"));
+    assert_eq!(fed_at("4294967295"), told(0, "4294967296"));
+    assert_eq!(fed_at("9007199254740989"), told(0, "9007199254740990"));
+    assert_eq!(fed_at("9007199254740990"), told(18, "9007199254740990"));
+    assert_eq!(fed_at("9007199254740991"), Err((Refusal(19), 4)));
+}
+
 #[test]
 fn every_row_of_build() {
     let good = settings(TransformMethod::None, 2, 3, 4);

@@ -49,7 +49,7 @@ unfolding correctedOf correctionRows correctedStatistic wholeWithin eq le ofBits
 decays = refl
 
 -- counts 0, 1, 1,048,576 and 1,048,577, each with the weight that it is, and one past a statistic's own limit
-pub counts : map (λ (n : ℕ). row (statistic zero64 (whole (pos n)) (whole (pos 0)) (whole (pos 0)) n) (whole (pos 5)) (whole (pos 6))) (0 ∷ 1 ∷ 1048576 ∷ 1048577 ∷ 2147483647 ∷ [])
+pub counts : map (λ (n : ℕ). row (statistic zero64 (whole (pos n)) (whole (pos 0)) (whole (pos 0)) n) (whole (pos 5)) (whole (pos 6))) (0 ∷ 1 ∷ 1048576 ∷ 1048577 ∷ 9007199254740991 ∷ [])
     ≡ 26 ∷ 0 ∷ 0 ∷ 26 ∷ 26 ∷ []
 unfolding correctedOf correctionRows correctedStatistic wholeWithin eq le ofBits ofInt round
 counts = refl

@@ -1,6 +1,7 @@
 -- Laws on plain numbers and floats, for the functions' proofs and for the crates above.
 pub mod WholeFloats
 pub mod RoundOrder
+pub mod FactorLaws
 pub mod WholeValues
 pub mod WholeTests
 pub mod DeviationLaws

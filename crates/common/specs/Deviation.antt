@@ -18,9 +18,9 @@ zero64 = ofBits binary64 0
 abbrev pub one64 : Float
 one64 = ofBits binary64 0x3ff0_0000_0000_0000
 
--- the largest count: row 18
+-- the largest count: row 18. "Count … may reach 9,007,199,254,740,990, so count + 2 is still exact as f64." (document 02, #101)
 abbrev pub countLimit : ℕ
-countLimit = 2147483646
+countLimit = 9007199254740990
 
 -- "A running statistic holds discount, weight, sum, sum of squares and count."
 abbrev pub statistic : Float → Float → Float → Float → ℕ → Deviation
@@ -49,7 +49,7 @@ emptyWith d = statistic d zero64 zero64 zero64 0
 unfoldable pub newOf : Float → DeviationResult
 newOf d = answered (firstOf ((outsideUnit d, 6) ∷ [])) (emptyWith d)
 
--- row 18: "statistic `create`: count outside 0 to 2,147,483,646"
+-- row 18: "statistic `create`: count outside 0 to" the limit
 unfoldable pub createOf : Float → Float → Float → Float → ℕ → DeviationResult
 createOf d w s q n = answered (firstOf ((outsideUnit d, 6) ∷ (ltb countLimit n, 18) ∷ [])) (statistic d w s q n)
 
@@ -71,7 +71,7 @@ stepOf s x =
     statistic (s .discount) (add binary64 (mul binary64 (s .weight) f) one64) (add binary64 (mul binary64 (s .sum) f) x)
     (add binary64 (mul binary64 (s .«sum_squared») f) (mul binary64 x x)) (s .count + 1)
 
--- row 18: "count would pass 2,147,483,646"
+-- row 18: "count would pass" the limit
 unfoldable pub updateOf : Deviation → Float → DeviationResult
 updateOf s x = answered (firstOf ((leb countLimit (s .count), 18) ∷ [])) (stepOf s x)
 

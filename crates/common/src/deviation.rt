@@ -9,8 +9,8 @@ ghost use Rattle.common.specs.WholeScores.{wholeFloat};
 ghost use Rattle.common.specs.Corrected.{wholeWithin, integerOf, correctionRows, correctedOf};
 ghost use Rattle.common.specs.Steps.Whole.{sizeOf, Summand};
 
-// The largest count of a statistic.
-pub const COUNT_LIMIT: u64 = 2_147_483_646;
+// The largest count of a statistic: count + 2 is then 2^53, the last up to which every whole number is an f64.
+pub const COUNT_LIMIT: u64 = 9_007_199_254_740_990;
 
 // A reading that is put right is a whole number of at most this size,
 pub const READING_LIMIT: u64 = 65_536;

@@ -86,12 +86,14 @@ points =
     ∷ case N past (point (Inf ∷ Inf ∷ []) 2) 10  -- before 11
     ∷ case N past (point (Inf ∷ []) 2) 11
     ∷ case N past (point (nan ∷ []) 2) 11
-    ∷ case N (ready 2147483645 0) (point (Inf ∷ []) 2) 11  -- before 18
-    ∷ case N (ready 2147483645 0) (point (one ∷ []) 2) 18
-    ∷ case N (ready 2147483644 0) (point (one ∷ []) 2) 0
+    ∷ case N (ready 9007199254740989 0) (point (Inf ∷ []) 2) 11  -- before 18
+    ∷ case N (ready 9007199254740989 0) (point (one ∷ []) 2) 18
+    ∷ case N (ready 9007199254740988 0) (point (one ∷ []) 2) 0  -- count + start is the limit
+    ∷ case N (ready 9007199254740987 0) (point (one ∷ []) 2) 0
+    ∷ case N (ready 2147483645 0) (point (one ∷ []) 2) 0  -- past the Rust's last count
     ∷ case N (ready 0 9223372036854775806) (point (one ∷ []) 2) 18
     ∷ case N (ready 0 9223372036854775805) (point (one ∷ []) 2) 0
-    ∷ case N (ready 2147483645 0) (point (one ∷ []) 0) 18  -- before 20
+    ∷ case N (ready 9007199254740989 0) (point (one ∷ []) 0) 18  -- before 20
     ∷ case N past (point (one ∷ []) 1) 20
     ∷ case N past (point (one ∷ []) 2) 0
     ∷ case A past (point (one ∷ []) 3) 20
@@ -146,16 +148,17 @@ learnings =
     ∷ case N waits (odd (pos 1) (some (room 2))) 0
     ∷ case N past (learning (one ∷ []) 9 (some (room 2)) none zero32 (pos 1) 1 1 1) 0
     ∷ case N past (learning (one ∷ []) 9 (some (room 2)) none nan (pos 1) 1 1 1) 0
-    ∷ case N (know 3 3 2147483646 (7 ∷ 9 ∷ []) []) (odd (pos 1) (some (room 2))) 14  -- before 18
-    ∷ case N (know 3 3 2147483646 (7 ∷ 9 ∷ []) []) (plain (one ∷ []) 9 (some (room 2))) 18
-    ∷ case N (know 3 3 2147483645 (7 ∷ 9 ∷ []) []) (plain (one ∷ []) 9 (some (room 2))) 0
-    ∷ case N (know 9 3 2147483646 (7 ∷ 9 ∷ []) []) (plain (one ∷ []) 9 (some (room 2))) 0  -- at stop nothing is fed
-    ∷ case N (know 3 3 2147483646 (7 ∷ 9 ∷ []) []) (plain (one ∷ []) 9 none) 0
+    ∷ case N (know 3 3 9007199254740990 (7 ∷ 9 ∷ []) []) (odd (pos 1) (some (room 2))) 14  -- before 18
+    ∷ case N (know 3 3 9007199254740990 (7 ∷ 9 ∷ []) []) (plain (one ∷ []) 9 (some (room 2))) 18
+    ∷ case N (know 3 3 9007199254740989 (7 ∷ 9 ∷ []) []) (plain (one ∷ []) 9 (some (room 2))) 0
+    ∷ case N (know 3 3 2147483646 (7 ∷ 9 ∷ []) []) (plain (one ∷ []) 9 (some (room 2))) 0  -- past the Rust's last count
+    ∷ case N (know 9 3 9007199254740990 (7 ∷ 9 ∷ []) []) (plain (one ∷ []) 9 (some (room 2))) 0  -- at stop nothing is fed
+    ∷ case N (know 3 3 9007199254740990 (7 ∷ 9 ∷ []) []) (plain (one ∷ []) 9 none) 0
     ∷ case N (know 9223372036854775807 3 3 (7 ∷ 9 ∷ []) []) (plain (one ∷ []) 9 (some (room 2))) 18
     ∷ case N (know 9223372036854775806 3 3 (7 ∷ 9 ∷ []) []) (plain (one ∷ []) 9 (some (room 2))) 0
     ∷ case N (know 3 9223372036854775807 3 (7 ∷ 9 ∷ []) []) (plain (one ∷ []) 9 (some (room 2))) 18
     ∷ case (starting 9223372036854775808) (know 9223372036854775807 0 0 (0 ∷ 0 ∷ []) []) (plain (one ∷ []) 9 none) 18
-    ∷ case N (know 3 3 2147483646 (7 ∷ 9 ∷ []) []) (learning (one ∷ []) 9 (some (room 2)) none zero32 (pos 0) 0 0 0) 18  -- before 20
+    ∷ case N (know 3 3 9007199254740990 (7 ∷ 9 ∷ []) []) (learning (one ∷ []) 9 (some (room 2)) none zero32 (pos 0) 0 0 0) 18  -- before 20
     ∷ case N past (learning (one ∷ []) 9 (some (room 2)) none zero32 (pos 0) 0 0 0) 20
     ∷ case A past (learning (one ∷ []) 9 (some (room 4)) none zero32 (pos 0) 1 0 0) 20
     ∷ case N past (learning (one ∷ []) 9 none none zero32 (pos 0) 0 0 0) 0
@@ -179,8 +182,10 @@ others =
     ∷ case P (know 1 1 1 (0 ∷ 9 ∷ []) []) drain 0
     ∷ case P past drain 0
     ∷ case (starting 0) empty drain 15
-    ∷ case N (ready 2147483645 0) drain 18
-    ∷ case N (ready 2147483644 0) drain 0
+    ∷ case N (ready 9007199254740989 0) drain 18
+    ∷ case N (ready 9007199254740988 0) drain 0  -- count + start is the limit
+    ∷ case N (ready 9007199254740987 0) drain 0
+    ∷ case N (ready 2147483645 0) drain 0  -- past the Rust's last count
     ∷ case N (ready 0 9223372036854775806) drain 18
     ∷ case N past (transform [] 0 (room 0)) 10  -- before 20
     ∷ case N past (transform (one ∷ []) 0 (room 0)) 20

@@ -8,6 +8,7 @@ use lib.ListN.{length, drop, getD}
 use lib.Dec.{eqb, leb, ltb}
 use lib.Ieee.{Float, binary32}
 use borrow.Author.Tests.{le-leb, lt-leb, eq-eqb, ne-eqb}
+use Rattle.common.specs.Deviation.{countLimit}
 use Rattle.trcf.specs.Types.{isNone, normalizes}
 use Rattle.trcf.specs.Settings.{allOne}
 use Rattle.trcf.specs.Calls.{finite, seenLimit}
@@ -70,28 +71,28 @@ module _ (i : ℕ) (ts : List ℕ) where
 -- ---- the counters
 
 module _ (m : TransformMethod) (start seen internal count : ℕ) where
-  pub cnt-seen : 9223372036854775807 < seen → false ≡ cntTest m start (countsRead seen internal count)
+  pub cnt-seen : seenLimit < seen → false ≡ cntTest m start (countsRead seen internal count)
   unfolding cntTest
-  cnt-seen a = rw (lt-leb seen 9223372036854775807 a)
+  cnt-seen a = rw (lt-leb seen seenLimit a)
 
-  module _ (a : seen ≤ 9223372036854775807) where
-    pub cnt-internal : 9223372036854775807 < internal → false ≡ cntTest m start (countsRead seen internal count)
+  module _ (a : seen ≤ seenLimit) where
+    pub cnt-internal : seenLimit < internal → false ≡ cntTest m start (countsRead seen internal count)
     unfolding cntTest
-    cnt-internal b = rw (le-leb seen 9223372036854775807 a, lt-leb internal 9223372036854775807 b)
+    cnt-internal b = rw (le-leb seen seenLimit a, lt-leb internal seenLimit b)
 
-    module _ (b : internal ≤ 9223372036854775807) where
-      pub cnt-count : 2147483646 < count → false ≡ cntTest m start (countsRead seen internal count)
+    module _ (b : internal ≤ seenLimit) where
+      pub cnt-count : countLimit < count → false ≡ cntTest m start (countsRead seen internal count)
       unfolding cntTest
-      cnt-count c = rw (le-leb seen 9223372036854775807 a, le-leb internal 9223372036854775807 b, lt-leb count 2147483646 c)
+      cnt-count c = rw (le-leb seen seenLimit a, le-leb internal seenLimit b, lt-leb count countLimit c)
 
-      module _ (c : count ≤ 2147483646) where
+      module _ (c : count ≤ countLimit) where
         pub cnt-waits : normalizes m && ltb seen start ≡ true → eqb internal 0 ≡ cntTest m start (countsRead seen internal count)
         unfolding cntTest
-        cnt-waits d = rw (le-leb seen 9223372036854775807 a, le-leb internal 9223372036854775807 b, le-leb count 2147483646 c, d)
+        cnt-waits d = rw (le-leb seen seenLimit a, le-leb internal seenLimit b, le-leb count countLimit c, d)
 
         pub cnt-past : normalizes m && ltb seen start ≡ false → true ≡ cntTest m start (countsRead seen internal count)
         unfolding cntTest
-        cnt-past d = rw (le-leb seen 9223372036854775807 a, le-leb internal 9223372036854775807 b, le-leb count 2147483646 c, d)
+        cnt-past d = rw (le-leb seen seenLimit a, le-leb internal seenLimit b, le-leb count countLimit c, d)
 
 module _ (m : TransformMethod) (start : ℕ) (r : Place) (t l new : List ℕ) (e : held new (placed r t) ≡ listLine asWhole 99 110 116 3 l) where
   count-told : held (countsOf new) (placed r t) ≡ counted (listLine asWhole 99 110 116 3 l)

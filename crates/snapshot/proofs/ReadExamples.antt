@@ -186,8 +186,14 @@ wgt1mL = bytes "wgt\tbf800000\n"
 abbrev devmoreL : List ℕ
 devmoreL = bytes "dev\t0000000000000000\t0000000000000000\t0000000000000000\t0000000000000000\n"
 
+abbrev cntoldL : List ℕ
+cntoldL = bytes "cnt\t0\t0\t2147483647\n"
+
+abbrev cnttopL : List ℕ
+cnttopL = bytes "cnt\t0\t0\t9007199254740990\n"
+
 abbrev cntlimitL : List ℕ
-cntlimitL = bytes "cnt\t0\t0\t2147483647\n"
+cntlimitL = bytes "cnt\t0\t0\t9007199254740991\n"
 
 abbrev cntupL : List ℕ
 cntupL = bytes "CNT\t0\t0\t0\n"
@@ -279,6 +285,19 @@ stop-max = refl
 decay-minus : timesOf (read (text decayMinusL wgtL cntL ends [])) ≡ []
 unfolding read·all
 decay-minus = refl
+
+abbrev countOf : Read → ℕ
+countOf (taken w) = w .count
+countOf (bad n) = 0
+
+-- a count past the Rust's, and the limit itself
+count-past : countOf (read (text setL wgtL cntoldL ends [])) ≡ 2147483647
+unfolding read·all
+count-past = refl
+
+count-limit : countOf (read (text setL wgtL cnttopL ends [])) ≡ 9007199254740990
+unfolding read·all
+count-limit = refl
 
 -- ---- damaged
 
@@ -458,7 +477,7 @@ weight-minus : read (text setL wgt1mL cntL ends []) ≡ bad 2
 unfolding read·all
 weight-minus = refl
 
--- count 2,147,483,647
+-- count 9,007,199,254,740,991
 count-above : read (text setL wgtL cntlimitL ends []) ≡ bad 3
 unfolding read·all
 count-above = refl

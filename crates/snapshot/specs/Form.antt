@@ -32,7 +32,7 @@ pub record Form (w : State) : Type 0 where
   pub inputLong : length (w .lastShingledInput) ≡ w .settings .d * w .settings .k
   pub pointLong : length (w .lastShingledPoint) ≡ dimension (w .settings)
   pub timesLong : length (w .previousTimestamps) ≡ w .settings .k
-  -- "`cnt` values_seen, internal (each ≤ 2^63 − 1), count (≤ 2,147,483,646)"
+  -- "`cnt` values_seen, internal (each ≤ 2^63 − 1), count"; of document 02, #101: "and the `cnt` line take the wider range"
   pub seenFits : w .valuesSeen ≤ seenLimit
   pub internalFits : w .internalTimestamp ≤ seenLimit
   pub countFits : w .count ≤ countLimit

@@ -11,6 +11,8 @@ use crate::values::all_zero;
 use crate::values::codes_fit;
 use crate::values::narrowed;
 use crate::values::none_falls;
+use common::deviation::COUNT_LIMIT;
+use trcf::head::SEEN_LIMIT;
 use trcf::transformer::all_one;
 use trcf::types::TransformMethod;
 use trcf::types::is_none;
@@ -109,13 +111,13 @@ pub(crate) fn is_waiting(method: TransformMethod, start: usize, seen: u64) -> bo
 fn counts_fit(method: TransformMethod, start: usize, seen: u64, internal: u64, count: u64) -> bool
     ensures { λ r. ⌜ r ≡ cntTest method start (countsRead seen internal count) ⌝ }
 {
-    if 9_223_372_036_854_775_807 < seen {
+    if seen > SEEN_LIMIT as u64 {
         return false;
     }
-    if 9_223_372_036_854_775_807 < internal {
+    if internal > SEEN_LIMIT as u64 {
         return false;
     }
-    if 2_147_483_646 < count {
+    if COUNT_LIMIT < count {
         return false;
     }
     if is_waiting(method, start, seen) {

@@ -122,9 +122,11 @@ rows =
     ∷ rowOf (newOf WEIGHTED 1 zero64 (single 2 ∷ []) (replicate 14 zero64))
     ∷ rowOf (newOf WEIGHTED 1 zero64 (single 2 ∷ []) empty)
     ∷ rowOf (updateOf (headOf NONE 1 zero64 (replicate 16 one32) 2147483646) empty (single 1 ∷ []) (single 1 ∷ []))
+    ∷ rowOf (updateOf (headOf NONE 1 zero64 (replicate 16 one32) 9007199254740989) empty (single 1 ∷ []) (single 1 ∷ []))
+    ∷ rowOf (updateOf (headOf NONE 1 zero64 (replicate 16 one32) 9007199254740990) empty (single 1 ∷ []) (single 1 ∷ []))
     ∷ rowOf (updateOf (headOf NONE 1 zero64 (replicate 16 one32) 0) empty [] (single 1 ∷ []))
     ∷ []
 
-pub row-samples : rows ≡ (2 ∷ 4 ∷ 5 ∷ 6 ∷ 9 ∷ 20 ∷ 0 ∷ 18 ∷ 10 ∷ [])
+pub row-samples : rows ≡ (2 ∷ 4 ∷ 5 ∷ 6 ∷ 9 ∷ 20 ∷ 0 ∷ 0 ∷ 0 ∷ 18 ∷ 10 ∷ [])
 unfolding rows single double newOf newRow outsideUnit allOne updateOf updateRow notLong over updated channelsFed fedAt putDeviations putStatistic fed deviationsAt statisticAt factorOf stepOf meanOf deviationOf rootAbove rootOf isEmpty add sub mul div lt le eq ofInt ofBits
 row-samples = refl

@@ -100,10 +100,12 @@ fn main() {
     replay_transformer();
     replay_preprocessor(b"preprocessor_1");
     replay_preprocessor(b"preprocessor_6");
+    replay_preprocessor(b"preprocessor_far");
     replay_texts(b"texts_1");
     replay_texts(b"texts_2");
     replay_texts(b"texts_3");
     replay_texts(b"texts_4");
     replay_texts(b"texts_5");
     replay_texts(b"texts_6");
+    replay_texts(b"texts_far");
 }

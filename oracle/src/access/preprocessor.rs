@@ -1,6 +1,6 @@
 // Included behind preprocessor.rs, in its module: the state that has no getter, and the setting that has no setter.
 
-/// Everything of the state that the snapshot holds besides the settings.
+/// Everything of the state that the snapshot holds besides the settings, and stop.
 pub struct State<'a> {
     pub values_seen: &'a mut usize,
     pub internal_timestamp: &'a mut usize,
@@ -11,6 +11,7 @@ pub struct State<'a> {
     pub previous_timestamps: &'a mut Vec<u64>,
     pub initial_values: &'a mut Vec<Vec<f32>>,
     pub initial_timestamps: &'a mut Vec<u64>,
+    pub stop_normalization: &'a mut usize,
 }
 
 impl Preprocessor {
@@ -25,6 +26,7 @@ impl Preprocessor {
             previous_timestamps: &mut self.previous_timestamps,
             initial_values: &mut self.initial_values,
             initial_timestamps: &mut self.initial_timestamps,
+            stop_normalization: &mut self.stop_normalization,
         }
     }
 

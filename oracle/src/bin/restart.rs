@@ -4,7 +4,7 @@ use oracle::calls::{Answer, Call};
 use oracle::random::{expected_codes, settings, Calls, Random, FULL};
 use oracle::reference::Reference;
 use oracle::snapshot::{read, take_up, Refused, Room, Snapshot, ROOMY};
-use oracle::texts::{damaged, given, lines, put_away, scratched, snapshot, undrained};
+use oracle::texts::{damaged, far, given, lines, put_away, scratched, snapshot, undrained};
 
 fn text(reference: &Reference) -> String {
     Snapshot::of(reference).text()
@@ -151,9 +151,10 @@ fn main() {
     let mut rows = [0u64; 21];
     for list in 0..lists {
         let mut r = Random::new(seed.wrapping_mul(0x1_0000_0003).wrapping_add(list));
-        // Every fifth list starts from a text that calls need not reach.
+        // Three lists in ten start from a text that calls need not reach, one of them with a count around the Rust's last one or around the limit.
         let first = match list % 10 {
             4 => snapshot(&mut r, FULL).restore(),
+            7 => far(&mut r, FULL).restore(),
             9 => undrained(&mut r, FULL).restore(),
             _ => Reference::build(&settings(&mut r, FULL)).unwrap(),
         };

@@ -3,7 +3,11 @@ use std::io::Write;
 
 fn main() {
     let given: Vec<String> = std::env::args().skip(1).collect();
-    let usage = "vectors KIND SEED COUNT [wrong]; kinds: deviation range32 range64 transformer preprocessor snapshot near bench";
+    let usage = "vectors KIND SEED COUNT [wrong], or judged FILE; kinds: deviation range32 range64 transformer preprocessor far snapshot near far_texts bench";
+    if let [word, path] = &given[..] {
+        assert_eq!(word, "judged", "{usage}");
+        return print!("{}", oracle::vectors::judged(&std::fs::read_to_string(path).expect("a file of texts")));
+    }
     let (kind, seed, count, wrong) = match &given[..] {
         [kind, seed, count] => (kind, seed, count, false),
         [kind, seed, count, word] if word == "wrong" => (kind, seed, count, true),

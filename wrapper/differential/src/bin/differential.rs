@@ -6,7 +6,7 @@ use oracle::calls::{Answer, Call, Mode, Settings};
 use oracle::random::{bad_settings, expected_codes, settings as random_settings, Calls, Random, FULL};
 use oracle::reference::Reference;
 use oracle::snapshot::{take_up, Snapshot};
-use oracle::texts::{damaged_as, scratched_as, snapshot, undrained};
+use oracle::texts::{damaged_as, far, scratched_as, snapshot, undrained};
 use veerycouch::{Memory, Preprocessor, HEAD_WORDS};
 
 /// One more than the last row.
@@ -383,9 +383,10 @@ fn laid(p: Preprocessor, w: &Snapshot) -> Preprocessor {
 
 fn one(seed: u64, list: u64, met: &mut Met) {
     let mut r = Random::new(seed.wrapping_mul(0x1_0000_0001).wrapping_add(list));
-    // Every fifth list starts from a state that calls need not reach.
+    // Three lists in ten start from a state that calls need not reach, one of them with a count around the Rust's last one or around the limit.
     let given = match list % 10 {
         4 => Some(snapshot(&mut r, FULL)),
+        7 => Some(far(&mut r, FULL)),
         9 => Some(undrained(&mut r, FULL)),
         _ => None,
     };
