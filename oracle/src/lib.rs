@@ -12,6 +12,7 @@ pub mod antt;
 pub mod bench;
 pub mod bits;
 pub mod calls;
+pub mod digits;
 pub mod history;
 pub mod imputation;
 pub mod random;
