@@ -192,6 +192,9 @@ uint64_t veerycouch_corrected(double discount, double weight, double sum, double
 
 /* The square root of a double, and the float nearest to a double, as the calls compute them: rounded once, on any machine. */
 double veerycouch_sqrt(double x);
+/* How many binary digits of that root are tried where one is tried after the other from the top: those up to the first whose prefix has the square x, and else 54;
+ * 0 for zeros, negatives, infinities and not-a-numbers. A measure of x, not of the time that veerycouch_sqrt takes. */
+uint64_t veerycouch_sqrt_digits(double x);
 float veerycouch_to_f32(double x);
 
 #ifdef __cplusplus

@@ -1,8 +1,12 @@
 // Writes the vectors that crates/numeric_vectors replays: a line for each, with a letter for the function, its argument and the machine's own answer, the two
 // numbers as 16 hexadecimal digits (bit patterns, or the integer itself). s: f64 square root. n: f64 to f32. w: f32 to f64. d: u64 to f64. f: u64 to f32.
+// c: how many binary digits of the f64 square root are tried, for which the machine has no answer: here they are tried, one after the other, over whole numbers.
 // Every not-a-number is written in one pattern. Made with: rustc -O oracle/numeric_vectors.rs -o /tmp/numeric_vectors && /tmp/numeric_vectors > crates/numeric_vectors/data/vectors
 use std::hint::black_box;
 use std::io::Write;
+
+#[path = "src/digits.rs"]
+mod digits;
 
 // A linear congruential generator (Knuth's MMIX), so that each run writes the same bytes.
 struct Random(u64);
@@ -41,6 +45,7 @@ fn answer(letter: char, given: u64) -> u64 {
         'n' => bits32(f64::from_bits(given) as f32),
         'w' => bits64(f32::from_bits(given as u32) as f64),
         'd' => bits64(given as f64),
+        'c' => digits::digits_tried(f64::from_bits(given)),
         _ => bits32(given as f32),
     }
 }
@@ -181,6 +186,52 @@ fn integers(out: &mut Out, letter: char, keeps: u32, random: &mut Random) {
     }
 }
 
+// A pattern and its neighbours.
+fn beside(out: &mut Out, b: u64) {
+    for near in [b.wrapping_sub(1), b, b + 1] {
+        out.put('c', near);
+    }
+}
+
+// Roots of every number of digits that an exact one can have, at several exponents; subnormals; every power of two, each second of them a power of four; what has no digits; random ones.
+fn counts(out: &mut Out, random: &mut Random) {
+    for size in 1..=27u32 {
+        // a square of 53 digits at most
+        let top = if size == 27 { 94_906_265 } else { (1u64 << size) - 1 };
+        let low = 1u64 << (size - 1);
+        let mut list = vec![low | 1, top];
+        list.extend((0..4).map(|_| (low + random.next() % (top - low + 1)) | 1).filter(|q| *q <= top));
+        for q in list {
+            let b = ((q * q) as f64).to_bits();
+            beside(out, b);
+            // with other powers of four, and with one of two, which is no square
+            beside(out, b - (random.next() % 500 << 53));
+            beside(out, b + (random.next() % 400 << 53));
+            out.put('c', b + (1 << 52));
+            // subnormal: q * q * 4^j units of 2^-1074
+            if size < 27 {
+                let room = ((q * q).leading_zeros() - 12) / 2;
+                let j = random.next() % (room + 1) as u64;
+                beside(out, q * q << (2 * j));
+                out.put('c', q * q * 2);
+            }
+        }
+    }
+    for e in 0..52 {
+        out.put('c', 1 << e);
+    }
+    for field in 1..2047u64 {
+        out.put('c', field << 52);
+    }
+    for _ in 0..400 {
+        out.put('c', random.next() >> 1);
+        out.put('c', random.next() >> (12 + random.next() % 52));
+    }
+    for b in [0, 1, 0x7ff << 52, 0x7ff << 52 | 1, 0x7ff8 << 48, 0x7fef_ffff_ffff_ffff, 0x3ff << 52] {
+        out.signs('c', b, SIGN64);
+    }
+}
+
 // What the replay must report: for each function one answer whose last bit is another, and a line of no function.
 fn wrong(out: &mut Out) {
     for (letter, given) in [
@@ -189,6 +240,7 @@ fn wrong(out: &mut Out) {
         ('w', 0.1f32.to_bits() as u64),
         ('d', (1 << 53) + 1),
         ('f', (1 << 24) + 1),
+        ('c', 2.25f64.to_bits()),
     ] {
         writeln!(
             out.text,
@@ -210,6 +262,7 @@ fn main() {
     every_f32(&mut out, &mut random);
     integers(&mut out, 'd', 53, &mut random);
     integers(&mut out, 'f', 24, &mut random);
+    counts(&mut out, &mut Random(2));
     wrong(&mut out);
     std::io::stdout().write_all(&out.text).unwrap();
 }

@@ -13,6 +13,7 @@ pub mod bench;
 pub mod bits;
 pub mod calls;
 pub mod counts;
+pub mod digits;
 pub mod history;
 pub mod imputation;
 pub mod random;

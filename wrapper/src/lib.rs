@@ -484,6 +484,13 @@ pub fn sqrt(x: f64) -> f64 {
     unsafe { raw::veerycouch_sqrt(x) }
 }
 
+/// How many binary digits of the square root are tried, one after the other from the top: those up to the first whose prefix has the square x, and else 54;
+/// 0 for zeros, negatives, infinities and not-a-numbers.
+pub fn sqrt_digits(x: f64) -> u64 {
+    // SAFETY: numbers alone.
+    unsafe { raw::veerycouch_sqrt_digits(x) }
+}
+
 /// The nearest f32.
 pub fn to_f32(x: f64) -> f32 {
     // SAFETY: numbers alone.

@@ -96,5 +96,6 @@ extern "C" {
         discount: f64, weight: f64, sum: f64, sum_squared: f64, count: u64, wrong: f32, right: f32, output: *mut f64, output_len: usize,
     ) -> u64;
     pub fn veerycouch_sqrt(x: f64) -> f64;
+    pub fn veerycouch_sqrt_digits(x: f64) -> u64;
     pub fn veerycouch_to_f32(x: f64) -> f32;
 }

@@ -1,6 +1,6 @@
 //! The wrapper's own tests: samples of document 01, refusals, the head's words, and memory past the need.
 use veerycouch::{
-    align, align_into, impute, impute_by_number, sqrt, strandings, to_f32, Aligned, ForestMode, ImputationMethod, Learn, Memory, Preprocessor, Ranges, Readings, Refusal,
+    align, align_into, impute, impute_by_number, sqrt, sqrt_digits, strandings, to_f32, Aligned, ForestMode, ImputationMethod, Learn, Memory, Preprocessor, Ranges, Readings, Refusal,
     Settings, Statistic, Strandings, TransformMethod, HEAD_WORDS,
 };
 
@@ -258,6 +258,8 @@ fn turned_back() {
 fn numbers() {
     assert_eq!(sqrt(f64::from_bits(1)).to_bits(), 0x1e60_0000_0000_0000);
     assert!(sqrt(-1.0).is_nan());
+    let digits = [1.0, 4.0, f64::from_bits(1), 2.25, 2.0, 0.0, -0.0, -4.0, f64::INFINITY, f64::NAN].map(sqrt_digits);
+    assert_eq!(digits, [1, 1, 1, 2, 54, 0, 0, 0, 0, 0]);
     assert_eq!((to_f32(16777217.0), to_f32(16777219.0)), (16777216.0, 16777220.0));
 }
 

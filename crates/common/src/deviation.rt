@@ -239,7 +239,7 @@ impl Deviation {
         let temp = self.sum / self.weight;
         let answer = self.sum_squared / self.weight - temp * temp;
         if answer > 0.0 {
-            numeric::sqrt(answer)
+            numeric::sqrt(answer).root
         } else {
             0.0
         }

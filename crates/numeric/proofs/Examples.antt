@@ -1,13 +1,17 @@
 -- Closed cases that antt computes from the definitions: document 01's samples, and rows of what x86-64 gives, so that the definitions are seen to be the machine's. Assumes nothing.
-use mathlib.Core.Path.{_≡_, refl}
-use Prim.Native.Nat.{ℕ}
-use mathlib.Core.Bool.{true}
+use mathlib.Core.Path.{_≡_, refl, sym, subst}
+use Prim.Native.Nat.{ℕ, _-_, _*_, _^_, _≤_, _<_}
+use mathlib.Core.Bool.{true, false}
 use mathlib.Core.List.{[], _∷_, map}
-use lib.IntN.{pos}
-use lib.Count.{trailingZeros}
-use lib.Ieee.{Float, nan, inf, fin, Format, binary32, binary64, size, round, ofBits, toBits, ofInt, toUnsigned, sub, add, sum, neg, mul, div}
+use lib.Dec.{T}
+use lib.IntN.{pos, negsuc}
+use lib.Ieee.Fits.{eq→eqb}
+use lib.Ieee.Exact.{HasValue}
+use lib.Ieee.{Float, nan, inf, fin, Format, binary32, binary64, up, down, size, round, fits, ofBits, toBits, ofInt, toUnsigned, sub, add, sum, neg, mul, div}
 use Rattle.numeric.specs.Narrow.{narrowed}
-use Rattle.numeric.specs.Root.{rootWithin, halves, rooted, rootOf, digitsTried, triedOf}
+use Rattle.numeric.specs.Root.{rootWithin, isqrt, halves, rooted, rootOf, positive}
+use Rattle.numeric.specs.Digits.{radicand, triedBelow, digitsTried, digitsOf}
+use Rattle.numeric.proofs.DigitCount.{at-most-54, counts-positive, exact-count, inexact-count, radicand-is-exact}
 
 -- an f64's pattern, and that of what becomes of it
 abbrev narrow-bits : ℕ → ℕ
@@ -63,7 +67,62 @@ root-none : map rootOf (nan ∷ inf true ∷ fin true 1 (pos 0) ∷ []) ≡ nan 
 unfolding rootOf
 root-none = refl
 
--- of 4, 9, 2, 1 / 4, 2 ^ -1074, three times that, and 0
-tried-rows : map (λ (b : ℕ). triedOf (ofBits binary64 b)) (0x4010000000000000 ∷ 0x4022000000000000 ∷ 0x4000000000000000 ∷ 0x3fd0000000000000 ∷ 0x1 ∷ 0x3 ∷ 0x0 ∷ []) ≡ 1 ∷ 2 ∷ 54 ∷ 1 ∷ 1 ∷ 54 ∷ 0 ∷ []
-unfolding triedOf digitsTried rootWithin trailingZeros size ofBits
-tried-rows = refl
+-- ---- the digits tried
+abbrev digits-of : ℕ → ℕ
+digits-of b = digitsOf (ofBits binary64 b)
+
+-- 1, 4 and 2 ^ -1074 take 1 digit, 2.25 takes 2, and 2 takes 54
+digits-rows : map digits-of (0x3ff0000000000000 ∷ 0x4010000000000000 ∷ 0x1 ∷ 0x4002000000000000 ∷ 0x4000000000000000 ∷ []) ≡ 1 ∷ 1 ∷ 1 ∷ 2 ∷ 54 ∷ []
+unfolding digitsOf digitsTried triedBelow rootWithin size ofBits
+digits-rows = refl
+
+-- 9; the squares of the least and of the largest number of 27 digits that have 53 at most, and the f64s beside the second; 3 * 2 ^ -1074 and 9 * 2 ^ -1074; the largest f64; 1 and its neighbours
+digits-more : map digits-of
+    (0x4022000000000000
+    ∷ 0x4330000008000001
+    ∷ 0x433ffffff8eff971
+    ∷ 0x433ffffff8eff970
+    ∷ 0x433ffffff8eff972
+    ∷ 0x3
+    ∷ 0x9
+    ∷ 0x7fefffffffffffff
+    ∷ 0x3fefffffffffffff
+    ∷ 0x3ff0000000000001
+    ∷ [])
+    ≡ 2 ∷ 27 ∷ 27 ∷ 54 ∷ 54 ∷ 54 ∷ 2 ∷ 54 ∷ 54 ∷ 54 ∷ []
+unfolding digitsOf digitsTried triedBelow rootWithin size ofBits
+digits-more = refl
+
+-- zeros, numbers below zero, infinities, and not-a-numbers
+digits-none : map digitsOf (fin false 0 (pos 0) ∷ fin true 0 (pos 0) ∷ fin true 1 (pos 2) ∷ inf false ∷ inf true ∷ nan ∷ []) ≡ 0 ∷ 0 ∷ 0 ∷ 0 ∷ 0 ∷ 0 ∷ []
+unfolding digitsOf
+digits-none = refl
+
+-- ---- an instance of each statement of specs/Digits.antt
+most : digitsOf (ofBits binary64 0x7fefffffffffffff) ≤ 54
+most = at-most-54 (ofBits binary64 0x7fefffffffffffff)
+
+above-zero : (0 < digitsOf (fin false 1 (pos 1)) → T (positive (fin false 1 (pos 1)))) × (T (positive (fin false 1 (pos 1))) → 0 < digitsOf (fin false 1 (pos 1)))
+above-zero = counts-positive (fin false 1 (pos 1))
+
+-- 2.25 is the square of 1.5, of 2 digits
+exact : (digitsOf (fin false 9 (negsuc 1)) ≡ size 3) × (size 3 ≤ 27)
+unfolding fits rootOf rooted halves rootWithin round
+exact = exact-count (fin false 9 (negsuc 1)) tt 3 (negsuc 0) (refl, (refl, refl))
+
+-- 2 is not the square of its root
+abbrev square-of : Float → Type 0
+square-of nan = ⊥
+square-of (inf s) = ⊥
+square-of (fin s q e) = HasValue (fin false 1 (pos 1)) false (q * up e * (q * up e)) (down e * down e)
+
+inexact : digitsOf (fin false 1 (pos 1)) ≡ 54
+unfolding fits rootOf rooted halves rootWithin round
+inexact = inexact-count (fin false 1 (pos 1)) tt tt (λ q e x. no (subst square-of (sym (x .0)) (x .1)))
+  where
+    no : square-of (rootOf (fin false 1 (pos 1))) → ⊥
+    no v = eq→eqb (v .1)
+
+radicand-of : (radicand (2 ^ 2149) * 4 ^ (size (isqrt (2 ^ 2149)) - 54) ≡ 2 ^ 2149) × (size (isqrt (radicand (2 ^ 2149))) ≡ 54)
+unfolding fits
+radicand-of = radicand-is-exact (fin false 1 (pos 1)) tt tt (2 ^ 2149) (refl, refl)

@@ -18,17 +18,15 @@ use Rattle.numeric.specs.Root.{isqrt, halves, rooted}
 use Rattle.numeric.specs.Nearest.{IsValue, apart, WholeRoot, RootIsNearest}
 use Rattle.numeric.proofs.Near.{two-powers}
 use Rattle.numeric.proofs.Pack.{round-units, closest-hi, closest-lo}
-use Rattle.numeric.proofs.Squares.{square-suc, square-times, isqrt-within, halves-exact, halves-between}
-use Rattle.numeric.proofs.Roots.{part, unit, unit-pos, whole, n-lo, halves-in, rootOf-scaled, same-value, scaled-of}
+use Rattle.numeric.proofs.Squares.{square-times, isqrt-within, halves-exact, halves-between, scaled}
+use Rattle.numeric.proofs.Roots.{part, unit, unit-pos, whole, four-units, n-lo, halves-in, rootOf-scaled, same-value, scaled-of}
+use Rattle.numeric.proofs.Tried.{square-lt}
 use Rattle.numeric.proofs.Rounded.{half, on-grid}
 
 pub whole-root : WholeRoot
 whole-root n = let w = isqrt-within n in (w .low, subst (λ (x : ℕ). n < x * x) (sym (add-one (isqrt n))) (w .high))
 
 -- ---- squares
-square-lt : (x y : ℕ) → x < y → x * x < y * y
-square-lt x y h = let a : suc x * suc x ≤ y * y = mul-le-mul h h in let b = square-suc x in omega arith
-
 twice-square : (x : ℕ) → 2 * x * (2 * x) ≡ 4 * (x * x)
 twice-square x = square-times 2 x
 
@@ -191,6 +189,14 @@ module _ (m e : ℕ) (lo : 2 ^ 52 ≤ m) (hi : m < 2 ^ 53) (E : e < 2098) where
         held = round-fits binary64 false h (2 ^ 1075);
         value = subst (λ (r : Float). HasValue r false (places * (2 * unit e)) (2 ^ 1074)) (sym is) (subst (λ (x : ℕ). HasValue (units binary64 false places (e / 2 + 485)) false (places * x) (2 ^ 1074)) two v);
       }
+
+  -- the same from the 53 digits of the radicand's own root
+  pub root-value : HasValue (rooted (m * 2 ^ (e + 1022))) false (closest (halves (part m e)) 4 * (2 * unit e)) (2 ^ 1074)
+  root-value =
+      let n = m * 2 ^ (e + 1022) in
+      let same : places ≡ closest (halves (part m e)) 4 =
+      ap (λ (u : ℕ). closest (halves n) u) (four-units m e lo hi E) ∙ ap (λ (x : ℕ). closest (halves x) (4 * unit e)) (whole m e lo hi E) ∙ scaled (part m e) (unit e) (unit-pos m e lo hi E) in
+      subst (λ (p : ℕ). HasValue (rooted n) false (p * (2 * unit e)) (2 ^ 1074)) same (is-value .value)
 
   -- a value from 2 ^ 52 places on is a whole number of places
   grid : (v : Float) (b : ℕ) → IsValue binary64 false v b → 2 ^ 52 * (2 * unit e) ≤ b → (d : ℕ) × (b ≡ d * (2 * unit e))

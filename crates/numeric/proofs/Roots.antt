@@ -2,26 +2,28 @@
 use mathlib.Core.Path.{_≡_, refl, sym, ap, _∙_, subst}
 use mathlib.Core.Logic.{inr}
 use Prim.Native.Nat.{ℕ, zero, suc, _+_, _-_, _*_, _/_, _%_, _^_, _≤_, _<_, zero-le}
-use native.Mathlib.Nat.{le-trans, le-of-eq, lt-of-lt-of-le, lt-of-le-of-lt, lt-of-not-le, not-le-of-lt, lt-irrefl, zero-lt-suc, zero-add, zero-mul, mul-one, mul-assoc, mul-right-comm, mul-pos, mul-le-mul-right, mul-lt-mul-of-pos-right, eq-of-mul-eq-mul-right, mul-div-cancel, mod-eq-of-lt}
+use native.Mathlib.Nat.{le-trans, le-of-eq, le-of-suc-le-suc, lt-of-lt-of-le, lt-of-le-of-lt, lt-of-not-le, not-le-of-lt, lt-irrefl, zero-lt-suc, zero-add, zero-mul, mul-one, mul-assoc, mul-right-comm, mul-pos, mul-le-mul-right, mul-lt-mul-of-pos-right, eq-of-mul-eq-mul-right, mul-div-cancel, mod-eq-of-lt, pow-succ'}
 use native.Mathlib.Decide.{ℕ-discrete}
 use native.Mathlib.Omega.{arith}
 use mathlib.Core.Bool.{Bool, true, false, not, _&&_, _||_, Bool·beq, cond, true≢false, false≢true}
 use lib.IntN.{ℤ}
-use lib.Dec.{T, leb, eqb, nleb→lt, lt→ltb, ltb→lt, eqb→eq}
+use lib.Dec.{T, leb, ltb, eqb, nleb→lt, lt→ltb, ltb→lt, eqb→eq}
 use lib.Arith.{lt→nleb}
 use lib.Pow.{pow-add, pow-pos, pow-mono, shl-lt}
 use lib.Count.{leadingZeros, leading-top}
-use lib.Ieee.{Float, nan, inf, fin, binary64, low, up, down, odd, isNan, fits, div, lt, eq, ofFields, ofBits, toBits}
-use lib.Ieee.Bits.{is-false}
+use lib.Ieee.{Float, nan, inf, fin, binary64, low, up, down, size, odd, isNan, fits, div, lt, eq, ofFields, ofBits, toBits}
+use lib.Ieee.Bits.{is-false, nanBits-is, toBits-ofBits}
 use lib.Ieee.Fits.{down-pos, up-pos}
 use lib.Ieee.Exact.{HasValue}
 use lib.Ieee.Nearest.{closest}
 use borrow.Author.Tests.{eqb-false}
-use Rattle.numeric.specs.Root.{positive, IsScaled, halves, rooted, rootOf, digitsTried, triedOf}
+use Rattle.numeric.specs.Root.{positive, IsScaled, isqrt, halves, rooted, rootOf}
+use Rattle.numeric.specs.Digits.{radicand, digitsTried, digitsOf}
 use Rattle.numeric.proofs.Near.{two-powers, three-powers}
-use Rattle.numeric.proofs.Pack.{round-bits, round-pattern, Pattern}
+use Rattle.numeric.proofs.Pack.{size-exact, round-bits, round-pattern, Pattern}
 use Rattle.numeric.proofs.Fields.{value-mid, value-low, no-nan-fields, read}
-use Rattle.numeric.proofs.Squares.{square-times, scaled, tried-scaled, halves-lo, halves-hi}
+use Rattle.numeric.proofs.Tried.{square-lt, upper-root}
+use Rattle.numeric.proofs.Squares.{square-double, square-times, square-back, scaled, isqrt-within, halves-lo, halves-hi}
 
 -- ---- the pattern
 small-pow : (p : ℕ) → p < 2 → 1 + p ≡ 2 ^ p
@@ -31,6 +33,10 @@ small-pow (suc (suc p)) h = absurd (no p h)
   where
     no : (p : ℕ) → suc (suc p) < 2 → ⊥
     no p h = omega arith
+
+four-power : (l : ℕ) → 4 ^ l ≡ 2 ^ l * 2 ^ l
+four-power zero = refl
+four-power (suc l) = pow-succ' 4 l ∙ ap (λ (x : ℕ). 4 * x) (four-power l) ∙ sym (square-double (2 ^ l)) ∙ ap (λ (x : ℕ). x * x) (sym (pow-succ' 2 l))
 
 -- the radicand m * 2 ^ (e + 1022), cut to 108 digits, and the power of two whose square was cut off
 abbrev pub part : ℕ → ℕ → ℕ
@@ -69,7 +75,7 @@ module _ (m e : ℕ) (lo : 2 ^ 52 ≤ m) (hi : m < 2 ^ 53) (E : e < 2098) where
   pub unit-pos : 0 < (unit e)
   unit-pos = pow-pos (e / 2 + 484)
 
-  four-units : 2 ^ (e / 2 + 486) ≡ 4 * (unit e)
+  pub four-units : 2 ^ (e / 2 + 486) ≡ 4 * (unit e)
   four-units =
       let x : e / 2 + 486 ≡ 2 + (e / 2 + 484) = omega arith in
       ap (λ (y : ℕ). 2 ^ y) x ∙ pow-add 2 2 (e / 2 + 484)
@@ -104,6 +110,29 @@ module _ (m e : ℕ) (lo : 2 ^ 52 ≤ m) (hi : m < 2 ^ 53) (E : e < 2098) where
       ∙ sym (zero-add ((e / 2 + 485) * 2 ^ 52 + closest h (2 ^ (e / 2 + 486))))
       ∙ sym (round-bits binary64 false h (2 ^ 1075) h (e / 2 + 486) (e / 2 + 485) (pow-pos 1075) (halves-in .1) (two-powers h 1074 (e / 2 + 486) (e / 2 + 485) 1075 (omega arith)) (inr (halves-in .0)) (omega arith)))
 
+  -- ---- the radicand for the digits
+  root-size : size (isqrt (m * 2 ^ (e + 1022))) ≡ suc (53 + (e / 2 + 484))
+  root-size =
+      let n = m * 2 ^ (e + 1022) in
+      let k = e / 2 + 484 in
+      let w = isqrt-within n in
+      let lo : 2 ^ 53 * unit e < suc (isqrt n) = square-back (2 ^ 53 * unit e) (suc (isqrt n)) (lt-of-le-of-lt n-lo (w .high)) in
+      let sum : 54 + k ≡ suc (53 + k) = omega arith in
+      let hi : isqrt n < 2 ^ 54 * unit e = square-back (isqrt n) (2 ^ 54 * unit e) (lt-of-le-of-lt (w .low) n-hi) in
+      size-exact (53 + k) (isqrt n) (le-trans (le-of-eq (pow-add 2 53 k)) (le-of-suc-le-suc lo)) (lt-of-lt-of-le hi (le-of-eq (sym (pow-add 2 54 k) ∙ ap (λ (x : ℕ). 2 ^ x) sum)))
+
+  pub cut-is : 4 ^ (size (isqrt (m * 2 ^ (e + 1022))) - 54) ≡ unit e * unit e
+  cut-is = ap (λ (x : ℕ). 4 ^ (x - 54)) root-size ∙ ap (λ (x : ℕ). 4 ^ x) (less (e / 2 + 484)) ∙ four-power (e / 2 + 484)
+    where
+      less : (k : ℕ) → suc (53 + k) - 54 ≡ k
+      less k = omega arith
+
+  pub radicand-part : radicand (m * 2 ^ (e + 1022)) ≡ part m e
+  radicand-part =
+      ap (λ (x : ℕ). m * 2 ^ (e + 1022) / x) cut-is
+      ∙ ap (λ (x : ℕ). x / (unit e * unit e)) whole
+      ∙ mul-div-cancel (part m e) (mul-pos unit-pos unit-pos)
+
 -- ---- the root of a value, by its size
 not-zero : (m : ℕ) (e : ℤ) (a d : ℕ) → 0 < a → m * up e * d ≡ a * down e → (m ≡ 0) → ⊥
 not-zero m e a d A v z =
@@ -114,15 +143,15 @@ same-size m e a d n l D v w =
     eq-of-mul-eq-mul-right d D (m * up e * l) (n * down e)
     (mul-right-comm (m * up e) l d ∙ ap (λ (x : ℕ). x * l) v ∙ mul-right-comm a (down e) l ∙ ap (λ (x : ℕ). x * down e) w ∙ mul-right-comm n d (down e))
 
-pub rootOf-value : (v : Float) (a d n : ℕ) → 0 < a → 0 < d → HasValue v false a d → a * 2 ^ 2148 ≡ n * d → (rootOf v ≡ rooted n) × (triedOf v ≡ digitsTried n)
-unfolding rootOf triedOf
+pub rootOf-value : (v : Float) (a d n : ℕ) → 0 < a → 0 < d → HasValue v false a d → a * 2 ^ 2148 ≡ n * d → (rootOf v ≡ rooted n) × (digitsOf v ≡ digitsTried (radicand n))
+unfolding rootOf digitsOf
 rootOf-value nan a d n A D v w = absurd v
 rootOf-value (inf s) a d n A D v w = absurd v
 rootOf-value (fin true m e) a d n A D v w = absurd (true≢false (v .0))
 rootOf-value (fin false zero e) a d n A D v w = absurd (not-zero zero e a d A (v .1) refl)
 rootOf-value (fin false (suc m) e) a d n A D v w =
     let x : suc m * up e * 2 ^ 2148 / down e ≡ n = ap (λ (x : ℕ). x / down e) (same-size (suc m) e a d n (2 ^ 2148) D (v .1) w) ∙ mul-div-cancel n (down-pos e) in
-    (ap rooted x, ap digitsTried x)
+    (ap rooted x, ap (λ (y : ℕ). digitsTried (radicand y)) x)
 
 -- x is a / c, and so b / d
 pub same-value : (x : Float) (s : Bool) (a c b d : ℕ) → 0 < c → a * d ≡ b * c → HasValue x s a c → HasValue x s b d
@@ -130,18 +159,15 @@ same-value nan s a c b d C w v = absurd v
 same-value (inf t) s a c b d C w v = absurd v
 same-value (fin t m e) s a c b d C w v = (v .0, same-size m e a c b d C (v .1) w)
 
-of-scaled : (x : Float) (m e : ℕ) → IsScaled x m e → (rootOf x ≡ rooted (m * 2 ^ (e + 1022))) × (triedOf x ≡ digitsTried (m * 2 ^ (e + 1022)))
+of-scaled : (x : Float) (m e : ℕ) → IsScaled x m e → (rootOf x ≡ rooted (m * 2 ^ (e + 1022))) × (digitsOf x ≡ digitsTried (radicand (m * 2 ^ (e + 1022))))
 of-scaled x m e s =
     rootOf-value x (m * 2 ^ e) (2 ^ 1126) (m * 2 ^ (e + 1022)) (mul-pos (lt-of-lt-of-le (pow-pos 52) (s .low)) (pow-pos e)) (pow-pos 1126) (s .value) (two-powers m e 2148 (e + 1022) 1126 (omega arith))
 
 pub rootOf-scaled : (x : Float) (m e : ℕ) → IsScaled x m e → rootOf x ≡ rooted (m * 2 ^ (e + 1022))
 rootOf-scaled x m e s = of-scaled x m e s .0
 
-pub triedOf-scaled : (x : Float) (m e : ℕ) → IsScaled x m e → triedOf x ≡ digitsTried (part m e)
-triedOf-scaled x m e s =
-    of-scaled x m e s .1
-    ∙ ap digitsTried (whole m e (s .low) (s .high) (s .room))
-    ∙ tried-scaled (part m e) (e / 2 + 484) (mul-pos (lt-of-lt-of-le (pow-pos 52) (twice-le m e (s .low) (s .high) (s .room))) (pow-pos 54))
+pub digitsOf-scaled : (x : Float) (m e : ℕ) → IsScaled x m e → digitsOf x ≡ digitsTried (part m e)
+digitsOf-scaled x m e s = of-scaled x m e s .1 ∙ ap digitsTried (radicand-part m e (s .low) (s .high) (s .room))
 
 -- ---- the fields of a value that is finite and above zero
 pub positive-real : (x : Float) → T (positive x) → T (not (isNan x))
@@ -289,11 +315,11 @@ zero-cut a b c z h = eqb→eq a b (both (eqb a b) c (subst T (sym h) tt)) ∙ z
 no-size : (m : ℕ) (e : ℤ) → suc m * up e * 1 ≡ 0 → ⊥
 no-size m e h = lt-irrefl 0 (subst (λ (x : ℕ). 0 < x) h (mul-pos (mul-pos (zero-lt-suc m) (up-pos e)) (zero-lt-suc 0)))
 
-pub root-zero : (x : Float) → eq x (ofBits binary64 0) ≡ true → (x ≡ rootOf x) × (0 ≡ triedOf x)
-unfolding eq ofBits rootOf triedOf
+pub root-zero : (x : Float) → eq x (ofBits binary64 0) ≡ true → x ≡ rootOf x
+unfolding eq ofBits rootOf
 root-zero nan h = absurd (false≢true h)
 root-zero (inf s) h = absurd (false≢true h)
-root-zero (fin s zero e) h = (refl, refl)
+root-zero (fin s zero e) h = refl
 root-zero (fin s (suc m) e) h =
     absurd (no-size m e (zero-cut (suc m * up e * 1) (0 * 1 * down e) (Bool·beq s false || eqb (suc m * up e * 1) 0) (zero-mul (down e)) h))
 
@@ -304,16 +330,29 @@ zeros-equal s e = rw (zero-mul (up e), zero-mul (down e)) (last s)
     last true = refl
     last false = refl
 
+no-above : (m : ℕ) (e : ℤ) → ltb (0 * 1 * down e) (suc m * up e * 1) ≡ false → ⊥
+no-above m e h =
+    subst T h (lt→ltb (0 * 1 * down e) (suc m * up e * 1) (subst (λ (x : ℕ). x < suc m * up e * 1) (sym (zero-mul (down e))) (mul-pos (mul-pos (zero-lt-suc m) (up-pos e)) (zero-lt-suc 0))))
+
 -- what is neither above zero nor a zero has no root
-pub root-none : (x : Float) → lt (ofBits binary64 0) x ≡ false → eq x (ofBits binary64 0) ≡ false → (nan ≡ rootOf x) × (0 ≡ triedOf x)
-unfolding lt eq ofBits rootOf triedOf
-root-none nan h k = (refl, refl)
-root-none (inf true) h k = (refl, refl)
+pub root-none : (x : Float) → lt (ofBits binary64 0) x ≡ false → eq x (ofBits binary64 0) ≡ false → nan ≡ rootOf x
+unfolding lt eq ofBits rootOf
+root-none nan h k = refl
+root-none (inf true) h k = refl
 root-none (inf false) h k = absurd (true≢false h)
 root-none (fin s zero e) h k = absurd (true≢false (sym (zeros-equal s e) ∙ k))
-root-none (fin true (suc m) e) h k = (refl, refl)
-root-none (fin false (suc m) e) h k =
-    absurd (subst T h (lt→ltb (0 * 1 * down e) (suc m * up e * 1) (subst (λ (x : ℕ). x < suc m * up e * 1) (sym (zero-mul (down e))) (mul-pos (mul-pos (zero-lt-suc m) (up-pos e)) (zero-lt-suc 0)))))
+root-none (fin true (suc m) e) h k = refl
+root-none (fin false (suc m) e) h k = absurd (no-above m e h)
+
+-- and of what is not above zero no digit is tried
+pub digits-none : (x : Float) → lt (ofBits binary64 0) x ≡ false → 0 ≡ digitsOf x
+unfolding lt ofBits digitsOf
+digits-none nan h = refl
+digits-none (inf true) h = refl
+digits-none (inf false) h = absurd (true≢false h)
+digits-none (fin s zero e) h = refl
+digits-none (fin true (suc m) e) h = refl
+digits-none (fin false (suc m) e) h = absurd (no-above m e h)
 
 -- the two tests that a program makes
 pub positive-by : (x : Float) → lt (ofBits binary64 0) x ≡ true → lt x (div binary64 (ofBits binary64 0x3ff0_0000_0000_0000) (ofBits binary64 0)) ≡ true → T (positive x)
@@ -326,15 +365,54 @@ positive-by (fin false zero e) h k =
     absurd (lt-irrefl 0 (subst (λ (b : ℕ). 0 < b) (ap (λ (a : ℕ). a * 1) (zero-mul (up e))) (lt-of-le-of-lt zero-le (ltb→lt (0 * 1 * down e) (0 * up e * 1) (subst T (sym h) tt)))))
 positive-by (fin false (suc m) e) h k = lt→ltb 0 (suc m) (zero-lt-suc m)
 
-pub root-infinite : (x : Float) → lt (ofBits binary64 0) x ≡ true → lt x (div binary64 (ofBits binary64 0x3ff0_0000_0000_0000) (ofBits binary64 0)) ≡ false → (x ≡ rootOf x) × (0 ≡ triedOf x)
-unfolding lt ofBits div rootOf triedOf
-root-infinite nan h k = absurd (false≢true h)
-root-infinite (inf true) h k = absurd (false≢true h)
-root-infinite (inf false) h k = (refl, refl)
-root-infinite (fin s m e) h k = absurd (true≢false k)
+infinite : (x : Float) → lt (ofBits binary64 0) x ≡ true → lt x (div binary64 (ofBits binary64 0x3ff0_0000_0000_0000) (ofBits binary64 0)) ≡ false → x ≡ inf false
+unfolding lt ofBits div
+infinite nan h k = absurd (false≢true h)
+infinite (inf true) h k = absurd (false≢true h)
+infinite (inf false) h k = refl
+infinite (fin s m e) h k = absurd (true≢false k)
+
+pub root-infinite : (x : Float) → lt (ofBits binary64 0) x ≡ true → lt x (div binary64 (ofBits binary64 0x3ff0_0000_0000_0000) (ofBits binary64 0)) ≡ false → x ≡ rootOf x
+unfolding rootOf
+root-infinite x h k = let e = infinite x h k in e ∙ sym (ap rootOf e)
+
+pub digits-infinite : (x : Float) → lt (ofBits binary64 0) x ≡ true → lt x (div binary64 (ofBits binary64 0x3ff0_0000_0000_0000) (ofBits binary64 0)) ≡ false → 0 ≡ digitsOf x
+unfolding digitsOf
+digits-infinite x h k = sym (ap digitsOf (infinite x h k))
 
 pub above-real : (x : Float) → lt (ofBits binary64 0) x ≡ true → T (not (isNan x))
 unfolding lt ofBits isNan
 above-real nan h = absurd (false≢true h)
 above-real (inf s) h = tt
 above-real (fin s m e) h = tt
+
+-- ---- the digits of the root of x, read off its pattern
+module _ (x : Float) (m e : ℕ) (i : IsScaled x m e) where
+  abbrev low-digits : ℕ
+  low-digits = closest (halves (part m e)) 4
+
+  root-pattern : Pattern binary64 (rootOf x) ((e / 2 + 485) * 2 ^ 52 + low-digits)
+  root-pattern = subst (λ (r : Float). Pattern binary64 r ((e / 2 + 485) * 2 ^ 52 + low-digits)) (sym (rootOf-scaled x m e i)) (rooted-pattern m e (i .low) (i .high) (i .room) low-digits refl)
+
+  pub root-real : T (not (isNan (rootOf x)))
+  root-real =
+      let p = root-pattern in
+      subst (λ (r : Float). T (not (isNan r))) (p .reads) (subst (λ (t : Bool). T (not t)) (nanBits-is binary64 ((e / 2 + 485) * 2 ^ 52 + low-digits)) (p .real))
+
+  root-bits : toBits binary64 (rootOf x) ≡ (e / 2 + 485) * 2 ^ 52 + low-digits
+  root-bits =
+      let b = (e / 2 + 485) * 2 ^ 52 + low-digits in
+      let p = root-pattern in
+      ap (toBits binary64) (sym (p .reads)) ∙ toBits-ofBits binary64 b (p .below) (subst (λ (r : Float). T (not (isNan r))) (sym (p .reads)) root-real)
+
+  -- of an exact root, the 27 upper digits are all
+  pub upper-digits : (b : ℕ) → b * b ≡ m * (1 + e % 2) → toBits binary64 (rootOf x) % 2 ^ 52 / 2 ^ 26 + 2 ^ 26 ≡ b
+  upper-digits b s =
+      let n = m * (1 + e % 2) in
+      let l : low-digits ≡ b * 2 ^ 26 = upper-root n b low-digits s refl in
+      let hi : b < 2 ^ 27 = square-back b (2 ^ 27) (lt-of-le-of-lt (le-of-eq s) (twice-lt m e (i .low) (i .high) (i .room))) in
+      let lo : 2 ^ 26 < suc b = square-back (2 ^ 26) (suc b) (lt-of-le-of-lt (le-trans (twice-le m e (i .low) (i .high) (i .room)) (le-of-eq (sym s))) (square-lt b (suc b) (le-of-eq refl))) in
+      rw (root-bits, l) (upper (e / 2 + 485) b hi (le-of-suc-le-suc lo))
+    where
+      upper : (f b : ℕ) → b < 2 ^ 27 → 2 ^ 26 ≤ b → (f * 2 ^ 52 + b * 2 ^ 26) % 2 ^ 52 / 2 ^ 26 + 2 ^ 26 ≡ b
+      upper f b h l = omega arith

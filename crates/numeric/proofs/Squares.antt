@@ -2,24 +2,18 @@
 use mathlib.Core.Path.{_≡_, refl, sym, ap, _∙_, subst}
 use mathlib.Core.Logic.{inl, inr}
 use Prim.Native.Nat.{ℕ, zero, suc, _+_, _-_, _*_, _/_, _%_, _^_, _≤_, _<_}
-use native.Mathlib.Nat.{add-zero, add-suc, le-trans, mul-one, mul-le-mul-right, pow-succ', le-of-eq, le-of-lt, le-antisymm, le-of-suc-le-suc, lt-of-lt-of-le, lt-of-le-of-lt, lt-of-not-le, not-le-of-lt, eq-or-lt-of-le, zero-lt-suc, mul-comm, mul-assoc, mul-left-comm, mul-add, add-mul, mul-pos, mul-le-mul, mul-lt-mul-of-pos-right, suc-mul, mul-suc}
+use native.Mathlib.Nat.{add-zero, mul-one, pow-succ', le-of-eq, le-of-lt, le-antisymm, le-of-suc-le-suc, lt-of-lt-of-le, lt-of-le-of-lt, lt-of-not-le, not-le-of-lt, eq-or-lt-of-le, zero-lt-suc, mul-comm, mul-assoc, mul-left-comm, mul-add, add-mul, mul-pos, mul-le-mul, mul-lt-mul-of-pos-right, suc-mul, mul-suc}
 use native.Mathlib.Numerals.{add-one}
 use native.Mathlib.Omega.{arith}
 use native.Mathlib.Decide.{decLt}
 use mathlib.Core.Bool.{Bool, true, false, not, cond}
 use lib.Dec.{T, leb, eqb, leb→le, nleb→lt, eqb→eq, not-T}
 use lib.Arith.{digits-div, digits-mod}
-use lib.Bits.{shifted-half, shifted-even}
-use lib.Pow.{pow-add, shl-lt}
-use lib.Count.{trailingZeros, under}
-use lib.Ieee.{size}
-use lib.Ieee.Digits.{size-lt, size-reaches}
 use lib.Ieee.Bits.{is-true, is-false}
 use lib.Ieee.Fits.{eq→eqb}
 use lib.Ieee.Nearest.{closest, closest-same}
-use Rattle.numeric.specs.Root.{rootWithin, isqrt, halves, digitsTried}
+use Rattle.numeric.specs.Root.{rootWithin, isqrt, halves}
 use Rattle.numeric.proofs.Near.{closest-lt, closest-gt}
-use Rattle.numeric.proofs.Pack.{size-exact}
 
 -- ---- squares
 pub square-double : (p : ℕ) → 2 * p * (2 * p) ≡ 4 * (p * p)
@@ -267,53 +261,6 @@ halves-hi n a h =
       | inr l ↦ let x = halves-between n p l (w .high) in omega arith
     ]
 
--- ---- the digits tried
-tried-at : (n q : ℕ) → isqrt n ≡ q → digitsTried n ≡ cond (eqb (q * q) n) (size q - trailingZeros (size q) q) 54
-unfolding digitsTried
-tried-at n q e = ap (λ (x : ℕ). cond (eqb (x * x) n) (size x - trailingZeros (size x) x) 54) e
-
-pub tried-square : (n q : ℕ) → q * q ≡ n → digitsTried n ≡ size q - trailingZeros (size q) q
-tried-square n q e = tried-at n q (isqrt-is n q (record { low = le-of-eq e; high = grows q n (sym e) })) ∙ ap (λ (t : Bool). cond t (size q - trailingZeros (size q) q) 54) (is-true (eqb (q * q) n) (eq→eqb e))
-
-pub tried-all : (n : ℕ) → isqrt n * isqrt n < n → digitsTried n ≡ 54
-tried-all n l = tried-at n (isqrt n) refl ∙ ap (λ (t : Bool). cond t (size (isqrt n) - trailingZeros (size (isqrt n)) (isqrt n)) 54) (is-false (eqb (isqrt n * isqrt n) n) (not-T (eqb (isqrt n * isqrt n) n) (λ t. differ (isqrt n * isqrt n) n l (eqb→eq (isqrt n * isqrt n) n t))))
-
-pub tried-rest : (n q r : ℕ) → q * q + r ≡ n → 0 < r → r ≤ 2 * q → digitsTried n ≡ 54
-tried-rest n q r e p h =
-    let s = square-suc q in
-    let w : isqrt n ≡ q = isqrt-is n q (record { low = omega arith; high = omega arith }) in
-    let l : q * q < n = omega arith in
-    tried-all n (subst (λ (x : ℕ). x * x < n) (sym w) l)
-
--- zeros put behind a number
-zeros-up : (d q t : ℕ) → trailingZeros (d + t) (q * 2 ^ t) ≡ trailingZeros d q + t
-unfolding trailingZeros
-zeros-up d q zero = ap (λ (x : ℕ). trailingZeros x (q * 1)) (add-zero d) ∙ ap (λ (x : ℕ). trailingZeros d x) (mul-one q) ∙ sym (add-zero (trailingZeros d q))
-zeros-up d q (suc t) =
-    ap (λ (x : ℕ). trailingZeros x (q * 2 ^ suc t)) (add-suc d t)
-    ∙ ap (λ (r : ℕ). under r (trailingZeros (d + t) (q * 2 ^ suc t / 2))) (shifted-even q t)
-    ∙ ap (λ (x : ℕ). suc (trailingZeros (d + t) x)) (shifted-half q t)
-    ∙ ap suc (zeros-up d q t)
-    ∙ sym (add-suc (trailingZeros d q) t)
-
-zeros-odd : (d q : ℕ) → q % 2 ≡ 1 → trailingZeros (suc d) q ≡ 0
-unfolding trailingZeros
-zeros-odd d q o = ap (λ (r : ℕ). under r (trailingZeros d (q / 2))) o
-
-size-up : (q t : ℕ) → 0 < q → size (q * 2 ^ t) ≡ size q + t
-size-up q t p = go (size q) refl
-  where
-    go : (z : ℕ) → size q ≡ z → size (q * 2 ^ t) ≡ z + t
-    go zero e = absurd (not-le-of-lt p (le-of-suc-le-suc (subst (λ (x : ℕ). q < 2 ^ x) e (size-lt q))))
-    go (suc z) e =
-        let lo : 2 ^ z ≤ q = size-reaches q z (subst (λ (x : ℕ). z < x) (sym e) (le-of-eq refl)) in
-        let hi : q < 2 ^ suc z = subst (λ (x : ℕ). q < 2 ^ x) e (size-lt q) in
-        let w : suc (z + t) ≡ suc z + t = omega arith in
-        size-exact (z + t) (q * 2 ^ t) (le-trans (le-of-eq (pow-add 2 z t)) (mul-le-mul-right (2 ^ t) lo)) (subst (λ (x : ℕ). q * 2 ^ t < 2 ^ x) (sym w) (shl-lt (suc z) t hi)) ∙ w
-
-same-rest : (a b t : ℕ) → a + t - (b + t) ≡ a - b
-same-rest a b t = omega arith
-
 -- a square times 4 ^ t is a square only if it was one
 half-square : (p k : ℕ) → p * p ≡ 4 * k → p / 2 * (p / 2) ≡ k
 half-square p k e = go (p / 2) (p % 2) (omega arith) (omega arith)
@@ -333,45 +280,9 @@ half-square p k e = go (p / 2) (p % 2) (omega arith) (omega arith)
         too-large : (b : ℕ) → suc (suc b) < 2 → ⊥
         too-large b h = omega arith
 
-square-down : (n t p : ℕ) → p * p ≡ n * (2 ^ t * 2 ^ t) → (q : ℕ) × (q * q ≡ n)
+pub square-down : (n t p : ℕ) → p * p ≡ n * (2 ^ t * 2 ^ t) → (q : ℕ) × (q * q ≡ n)
 square-down n zero p e = (p, e ∙ mul-one n)
 square-down n (suc t) p e =
     square-down n t (p / 2)
     (half-square p (n * (2 ^ t * 2 ^ t))
     (e ∙ ap (λ (x : ℕ). n * (x * x)) (pow-succ' 2 t) ∙ ap (λ (x : ℕ). n * x) (square-double (2 ^ t)) ∙ mul-left-comm n 4 (2 ^ t * 2 ^ t)))
-
-pub tried-scaled : (n t : ℕ) → 0 < n → digitsTried (n * (2 ^ t * 2 ^ t)) ≡ digitsTried n
-tried-scaled n t P =
-    let w = isqrt-within n in
-    let q = isqrt n in
-    let N = n * (2 ^ t * 2 ^ t) in
-    elim (eq-or-lt-of-le (w .low)) [
-      | inl e ↦
-          let p : 0 < q = square-back 0 q (lt-of-lt-of-le P (le-of-eq (sym e))) in
-          tried-square N (q * 2 ^ t) (square-times q (2 ^ t) ∙ ap (λ (x : ℕ). x * (2 ^ t * 2 ^ t)) e)
-          ∙ ap (λ (z : ℕ). z - trailingZeros z (q * 2 ^ t)) (size-up q t p)
-          ∙ ap (λ (z : ℕ). size q + t - z) (zeros-up (size q) q t)
-          ∙ same-rest (size q) (trailingZeros (size q) q) t
-          ∙ sym (tried-square n q e)
-      | inr l ↦
-          elim (eq-or-lt-of-le (isqrt-within N .low)) [
-            | inl e ↦
-                let d = square-down n t (isqrt N) e in
-                let z : q ≡ d .0 = isqrt-is n (d .0) (record { low = le-of-eq (d .1); high = grows (d .0) n (sym (d .1)) }) in
-                absurd (differ (q * q) n l (ap (λ (x : ℕ). x * x) z ∙ d .1))
-            | inr g ↦ tried-all N g ∙ sym (tried-all n l)
-          ]
-    ]
-
--- an odd q with t zeros after it, 54 digits in all
-pub tried-odd : (n q t : ℕ) → q % 2 ≡ 1 → t < 54 → 2 ^ 53 ≤ q * 2 ^ t → q * 2 ^ t < 2 ^ 54 → q * 2 ^ t * (q * 2 ^ t) ≡ n → digitsTried n ≡ 54 - t
-tried-odd n q t o h lo hi e =
-    tried-square n (q * 2 ^ t) e
-    ∙ ap (λ (z : ℕ). z - trailingZeros z (q * 2 ^ t)) (size-exact 53 (q * 2 ^ t) lo hi)
-    ∙ ap (λ (z : ℕ). 54 - z) (ap (λ (z : ℕ). trailingZeros z (q * 2 ^ t)) (split t h) ∙ zeros-up (suc (53 - t)) q t ∙ ap (λ (z : ℕ). z + t) (zeros-odd (53 - t) q o) ∙ zero-plus t)
-  where
-    split : (t : ℕ) → t < 54 → 54 ≡ suc (53 - t) + t
-    split t h = omega arith
-
-    zero-plus : (t : ℕ) → 0 + t ≡ t
-    zero-plus t = omega arith

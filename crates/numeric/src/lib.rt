@@ -1,5 +1,6 @@
-// Square root of f64 and the conversions f64 to f32, f32 to f64, u64 to f64 and u64 to f32, correctly rounded (IEEE 754-2019: to nearest, ties to even). The lowest layer: it knows nothing of what the numbers are for.
+// Square root of f64, with the digits that it takes, and the conversions f64 to f32, f32 to f64, u64 to f64 and u64 to f32, correctly rounded (IEEE 754-2019: to nearest, ties to even). The lowest layer: it knows nothing of what the numbers are for.
 mod conversion;
+mod counted;
 mod root;
 mod rounding;
 
@@ -7,4 +8,5 @@ pub use conversion::to_f32;
 pub use conversion::to_f64;
 pub use conversion::u64_to_f32;
 pub use conversion::u64_to_f64;
-pub use root::sqrt;
+pub use counted::SquareRoot;
+pub use counted::sqrt;

@@ -1,71 +1,21 @@
 // The square root of an f64, in whole numbers. x is m * 2^(e - 1126), and its root comes from that of m * 2^54 or 2 m * 2^54, a number of 54 binary digits, with one digit more
-// that says whether anything is left (`halves`). `root_counted` finds it digit by digit, and counts. `sqrt` needs its 53 rounded digits only: it guesses them by float arithmetic, on which
-// nothing relies, and takes a guess, moved by one at most, whose square shows that it is right; for any other guess it finds the root by a division.
+// that says whether anything is left (`halves`). `nearest_root` needs its 53 rounded digits only: it guesses them by float arithmetic, on which nothing relies, and takes a guess, moved by one
+// at most, whose square shows that it is right; for any other guess it finds the root by a division.
 ghost use mathlib.Core.Path.{_≡_};
 ghost use Prim.Native.Nat.{_+_, _*_, _%_, _^_, _≤_, _<_};
 ghost use lib.Dec.{T};
 ghost use lib.Ieee.Nearest.{closest};
-ghost use Rattle.numeric.specs.Root.{positive, IsScaled, halves, rooted, rootOf, digitsTried, triedOf};
+ghost use Rattle.numeric.specs.Root.{positive, IsScaled, halves, rooted, rootOf};
 use crate::rounding::nearest;
 
-// A root in halves, and how many of its digits were tried.
-struct Part {
-    value: u64,
-    tried: u64,
-}
-
-// √(n * 2^54) in halves, and how many of the root's 54 binary digits were tried. Each turn takes two
-// more digits of the radicand, of which `rest` has the next 64: r is what q's square leaves of those
-// taken. Where nothing is left, the digits to come are zeros.
-fn digits(n: u64) -> Part
-    requires { ⌜ 2 ^ 52 ≤ n ⌝ }
-    requires { ⌜ n < 2 ^ 54 ⌝ }
-    ensures { λ p. ⌜ p .value ≡ halves (n * 2 ^ 54) ⌝ }
-    ensures { λ p. ⌜ p .tried ≡ digitsTried (n * 2 ^ 54) ⌝ }
-{
-    let mut q = 0u64;
-    let mut r = 0u64;
-    let mut rest = n * 1024;
-    let mut left = 54u64;
-    while left > 0 {
-        if r == 0 {
-            if rest == 0 {
-                return Part {
-                    value: (q << left) * 2,
-                    tried: 54 - left,
-                };
-            }
-        }
-        let next = r * 4 + rest / 0x4000_0000_0000_0000;
-        let trial = q * 4 + 1;
-        rest = rest % 0x4000_0000_0000_0000 * 4;
-        left -= 1;
-        // a product, and no branch, since each digit is as likely to be 0 as 1
-        let digit = if next < trial { 0u64 } else { 1u64 };
-        r = next - trial * digit;
-        q = q * 2 + digit;
-    }
-    if r == 0 {
-        Part {
-            value: q * 2,
-            tried: 54,
-        }
-    } else {
-        Part {
-            value: q * 2 + 1,
-            tried: 54,
-        }
-    }
-}
-
 // m and e of x = m * 2^(e - 1126).
-struct Scaled {
-    m: u64,
-    e: u64,
+pub(crate) struct Scaled {
+    pub(crate) m: u64,
+    pub(crate) e: u64,
 }
 
 // x as m * 2^(e - 1126), with an m of 53 binary digits.
-fn scale(x: f64) -> Scaled
+pub(crate) fn scale(x: f64) -> Scaled
     requires { ⌜ T (positive x) ⌝ }
     ensures { λ s. ⌜ IsScaled x (s .m) (s .e) ⌝ }
 {
@@ -95,40 +45,6 @@ fn assembled(m: u64, e: u64, low: u64) -> f64
     ensures { λ r. ⌜ r ≡ rooted (m * 2 ^ (e + 1022)) ⌝ }
 {
     f64::from_bits((e / 2 + 485) * 0x10_0000_0000_0000 + low)
-}
-
-// A root, and how many of its digits were tried.
-struct Root {
-    root: f64,
-    tried: u64,
-}
-
-// The square root of x by trying one binary digit after the other, and how many were tried. Nothing calls it yet: the count is kept for a later request.
-fn root_counted(x: f64) -> Root
-    ensures { λ r. ⌜ r .root ≡ rootOf x ⌝ }
-    ensures { λ r. ⌜ r .tried ≡ triedOf x ⌝ }
-{
-    if x > 0.0 {
-        if x < 1.0 / 0.0 {
-            let s = scale(x);
-            let p = digits(s.m * (1 + s.e % 2));
-            let low = nearest(p.value, 2);
-            let root = assembled(s.m, s.e, low);
-            Root {
-                root: root,
-                tried: p.tried,
-            }
-        } else {
-            Root { root: x, tried: 0 }
-        }
-    } else if x == 0.0 {
-        Root { root: x, tried: 0 }
-    } else {
-        Root {
-            root: 0.0 / 0.0,
-            tried: 0,
-        }
-    }
 }
 
 // From a number near 1 / √(2 * h) to a nearer one. The three products do not wait for each other, as they would in y * (1.5 - h * y * y).
@@ -289,8 +205,8 @@ fn rounded(m: u64, e: u64) -> u64
     }
 }
 
-// The square root of x, correctly rounded.
-pub fn sqrt(x: f64) -> f64
+// The f64 nearest to the square root of x.
+pub(crate) fn nearest_root(x: f64) -> f64
     ensures { λ r. ⌜ r ≡ rootOf x ⌝ }
 {
     if x > 0.0 {

@@ -1,4 +1,4 @@
-// Replays data/vectors, the machine's own answers (docs/VECTORS.md), on the functions of `numeric`, and prints for each function how many agree and how many differ.
+// Replays data/vectors, the machine's own answers and the oracle's counts of digits (docs/VECTORS.md), on the functions of `numeric`, and prints for each function how many agree and how many differ.
 // A line is a letter, a tab, 16 hexadecimal digits, a tab, 16 hexadecimal digits and an LF: the function, the argument's bits and the answer's.
 use libc::STDOUT_FILENO;
 
@@ -36,7 +36,7 @@ fn bits32(x: f32) -> u64 {
     }
 }
 
-// The number of a letter's function, in the order of the report; 5 for any other letter.
+// The number of a letter's function, in the order of the report; 6 for any other letter.
 fn number_of(letter: u8) -> usize {
     match letter {
         b's' => 0,
@@ -44,17 +44,19 @@ fn number_of(letter: u8) -> usize {
         b'w' => 2,
         b'd' => 3,
         b'f' => 4,
-        _ => 5,
+        b'c' => 5,
+        _ => 6,
     }
 }
 
 fn answer(function: usize, given: u64) -> u64 {
     match function {
-        0 => bits64(numeric::sqrt(value64(given))),
+        0 => bits64(numeric::sqrt(value64(given)).root),
         1 => bits32(numeric::to_f32(value64(given))),
         2 => bits64(numeric::to_f64(value32((given % 0x1_0000_0000) as u32))),
         3 => bits64(numeric::u64_to_f64(given)),
-        _ => bits32(numeric::u64_to_f32(given)),
+        4 => bits32(numeric::u64_to_f32(given)),
+        _ => numeric::sqrt(value64(given)).digits,
     }
 }
 
@@ -101,7 +103,7 @@ fn count(counts: &mut [u64], i: usize) {
 
 const LINE: usize = 36;
 // where a line that is not of the form is counted
-const BROKEN: usize = 10;
+const BROKEN: usize = 12;
 
 // Counts one line: at twice the function's number where the answers agree, and next to it where they differ.
 fn judge(line: &[u8], counts: &mut [u64]) {
@@ -113,7 +115,7 @@ fn judge(line: &[u8], counts: &mut [u64]) {
     let wanted = field(&line[19..35]);
     let function = number_of(line[0]);
     let parted = line[1] == b'\t' && line[18] == b'\t' && line[35] == b'\n';
-    if function < 5 && parted && given.good && wanted.good {
+    if function < 6 && parted && given.good && wanted.good {
         if answer(function, given.value) == wanted.value {
             count(counts, function * 2);
         } else {
@@ -159,7 +161,7 @@ fn main() {
         os::fail(path);
         return;
     }
-    let mut counts = [0u64; 11];
+    let mut counts = [0u64; 13];
     replay(fd, &mut counts);
     libc::close(fd);
     report(b"sqrt", counts[0], counts[1]);
@@ -167,7 +169,8 @@ fn main() {
     report(b"to_f64", counts[4], counts[5]);
     report(b"u64_to_f64", counts[6], counts[7]);
     report(b"u64_to_f32", counts[8], counts[9]);
+    report(b"digits of sqrt", counts[10], counts[11]);
     io::write_all(STDOUT_FILENO, b"broken lines: ");
-    io::print_decimal(STDOUT_FILENO, counts[10]);
+    io::print_decimal(STDOUT_FILENO, counts[12]);
     io::write_all(STDOUT_FILENO, b"\n");
 }

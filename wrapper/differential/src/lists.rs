@@ -2,10 +2,11 @@
 use oracle::alignment::{align as paired, Call};
 use oracle::bits::{all32, all64};
 use oracle::common::deviation::Deviation;
+use oracle::digits::digits_tried;
 use oracle::imputation::{cases, filled, row, Given, RULES};
 use oracle::random::Random;
 use oracle::stranding::by_table;
-use veerycouch::{align_into, impute_by_number, strandings, Readings, Refusal, Statistic};
+use veerycouch::{align_into, impute_by_number, sqrt, sqrt_digits, strandings, Readings, Refusal, Statistic};
 
 /// One more than the last row.
 pub const ROWS: usize = 28;
@@ -287,6 +288,37 @@ pub fn corrected(seed: u64, count: u64) -> Tally {
         let given = s.corrected_into(wrong, right, &mut output);
         let agree = given == answered(row) && all64(&output) == all64(&expected);
         t.case(row, agree, || format!("corrected: {s:?} {wrong} {right}: {given:?} {output:?} for {row} {expected:?}"));
+    }
+    t
+}
+
+// ---- sqrt
+
+/// The pattern of a square of an odd number of 1 to 27 digits at any exponent, or one beside it.
+fn near_square(r: &mut Random) -> u64 {
+    let top = r.from(1, 27);
+    let q = (r.below(1 << (top - 1)) | 1 << (top - 1) | 1).min(94_906_265);
+    let b = ((q * q) as f64).to_bits();
+    let moved = if r.once_in(4) { q * q << r.below((q * q).leading_zeros() as u64 - 10) } else { (b - (511 << 52)) + (r.below(1400) << 52) };
+    moved + r.pick(&[1, 1, 1, 0, 2]) - 1
+}
+
+/// Roots of any pattern, of squares and what lies beside them, subnormals among them, and of powers of two: the bits of the machine's root, and the digits that the oracle tries.
+pub fn roots(seed: u64, count: u64) -> Tally {
+    let mut t = Tally::default();
+    let mut r = Random::new(seed ^ 0x109);
+    for _ in 0..count {
+        let b = match r.below(6) {
+            0 => r.next(),
+            1 => r.next() >> r.from(12, 63),
+            2 => r.from(0, 2047) << 52 | r.pick(&[0, 0, 1]),
+            3 => r.pick(&[0, 1 << 63, 1, 1 << 63 | 1, 0x7ff << 52, 0xfff << 52, 0x7ff8 << 48, 0x7fef_ffff_ffff_ffff]),
+            _ => near_square(&mut r),
+        };
+        let x = f64::from_bits(b);
+        let (root, digits) = (sqrt(x), sqrt_digits(x));
+        let agree = all64(&[root]) == all64(&[x.sqrt()]) && digits == digits_tried(x);
+        t.case(0, agree, || format!("sqrt: {b:016x}: {root:e} of {:e}, {digits} digits of {}", x.sqrt(), digits_tried(x)));
     }
     t
 }

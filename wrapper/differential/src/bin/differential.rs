@@ -1,6 +1,6 @@
 //! Random lists of calls on the static library and on the unchanged Rust: every answer, refusal and text, what lies past the answers, and
 //! heads that were damaged; and the calls that take no preprocessor. Usage: differential SEED LISTS [TEXTS [CASES]].
-use differential::lists::{align, corrected, impute, stranding, Tally};
+use differential::lists::{align, corrected, impute, roots, stranding, Tally};
 use differential::{call, same, settings};
 use oracle::calls::{Answer, Call, Mode, Settings};
 use oracle::random::{bad_settings, expected_codes, settings as random_settings, Calls, Random, FULL};
@@ -429,7 +429,7 @@ fn told(met: &Met, lists: u64) {
 
 /// CASES random cases of each call that takes no preprocessor.
 fn cases(seed: u64, count: u64) -> u64 {
-    let kinds: [(&str, fn(u64, u64) -> Tally); 4] = [("impute", impute), ("align", align), ("strandings", stranding), ("corrected", corrected)];
+    let kinds: [(&str, fn(u64, u64) -> Tally); 5] = [("impute", impute), ("align", align), ("strandings", stranding), ("corrected", corrected), ("sqrt", roots)];
     let mut differences = 0;
     for (name, run) in kinds {
         let t = run(seed, count);

@@ -11,7 +11,7 @@ use oracle::reference::rust_build;
 use oracle::trcf::preprocessor::Preprocessor as Rust;
 use std::hint::black_box;
 use std::time::Instant;
-use veerycouch::{align_into, impute, sqrt, to_f32, ImputationMethod, Learn, Preprocessor, Ranges, Readings};
+use veerycouch::{align_into, impute, sqrt, sqrt_digits, to_f32, ImputationMethod, Learn, Preprocessor, Ranges, Readings};
 
 fn given(method: u8, d: u64, k: u64, start: u64) -> Settings {
     Settings { mode: Mode::Standard, method, d, k, start, stop: u64::MAX, decay: 0.001, weight_time: 1.0, weights: vec![1.0; d as usize], codes: vec![0; d as usize] }
@@ -217,6 +217,9 @@ fn roots(repeats: usize) {
     let mut r = Random::new(5);
     let list: Vec<f64> = (0..1000).map(|_| r.from(1, 1 << 40) as f64 / 1024.0).collect();
     numbers("sqrt", repeats, &list, sqrt, f64::sqrt, |x| x);
+    let fours: Vec<f64> = (0..1000).map(|_| 4f64.powi(r.from(0, 40) as i32 - 20)).collect();
+    numbers("sqrt of powers of four, whose roots have one digit", repeats, &fours, sqrt, f64::sqrt, |x| x);
+    numbers("sqrt_digits beside the machine's root", repeats, &list, sqrt_digits, |x| x.sqrt() as u64, |n| n as f64);
     numbers("to_f32", repeats, &list, to_f32, |x| x as f32, |x| x as f64);
 }
 

@@ -16,7 +16,7 @@ sqrt-requires c κs = search needs
 
 returns-2 : tie.Need-returns-2
 unfolding deviationOf rootAbove
-returns-2 c = rw (← c .before .before .before .before .before .is-empty .ensures, c .before .before .before .before .if1 .left, c .before .if2 .taken, c .sqrt .ensures)
+returns-2 c = rw (← c .before .before .before .before .before .is-empty .ensures, c .before .before .before .before .if1 .left, c .before .if2 .taken, c .sqrt .ensures .0)
 
 returns-3 : tie.Need-returns-3
 unfolding deviationOf rootAbove
