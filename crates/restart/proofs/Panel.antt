@@ -18,10 +18,15 @@ abbrev pub shown : State → List Call → List ℕ
 shown w [] = panelOf w ∷ []
 shown w (c ∷ cs) = panelOf w ∷ shown (next w c) cs
 
+-- the state that the history works out has the readings fed for its panel
+pub panel-fed : (s : Settings) (es : List Entry) → panelOf (historyState s es) ≡ historyPanel s es
+unfolding historyState countOf historyPanel
+panel-fed s es = refl
+
 -- where its output is long enough, status is not refused and tells what was fed
 pub panel-ruled : (s : Settings) (es : List Entry) (out : List Float) → block s ≤ length out → panelTold (historyAnswer s es (status out)) ≡ some (historyPanel s es)
-unfolding historyAnswer historyRefusal rows table reply statusOf historyState historyPanel countOf
-panel-ruled s es out h = rw (le-ltb (length out) (block s) h)
+unfolding historyAnswer historyRefusal rows table reply statusOf
+panel-ruled s es out h = rw (le-ltb (length out) (block s) h) (ap some (panel-fed s es))
 
 pub panel-at : (s : Settings) (es : List Entry) (out : List Float) → block s ≤ length out → panelTold (answer (historyState s es) (status out)) ≡ some (historyPanel s es)
 unfolding answer historyAnswer refusal historyRefusal facts historyFacts historyState
@@ -29,11 +34,10 @@ panel-at s es out h = panel-ruled s es out h
 
 module _ (s : Settings) (k>0 : 0 < s .k) where
   pub shown-from : (es : List Entry) → Inv s es → (cs : List Call) → shown (historyState s es) cs ≡ historyPanels s es cs
-  unfolding historyState historyPanel
-  shown-from es v [] = refl
+  shown-from es v [] = λ j. panel-fed s es j ∷ []
   shown-from es v (c ∷ cs) =
       let k = step s k>0 es v c in
-      λ j. historyPanel s es ∷ (ap (λ (w : State). shown w cs) (k .0) ∙ shown-from (enter s es c) (k .1) cs) j
+      λ j. panel-fed s es j ∷ (ap (λ (w : State). shown w cs) (k .0) ∙ shown-from (enter s es c) (k .1) cs) j
 
   pub shown-history : (cs : List Call) → shown (fresh s) cs ≡ historyPanels s [] cs
   shown-history cs = ap (λ (w : State). shown w cs) (fresh-history s k>0) ∙ shown-from [] (begins s k>0) cs
