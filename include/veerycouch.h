@@ -145,7 +145,9 @@ uint64_t veerycouch_restore(const uint8_t *text, size_t text_len, const uint16_t
                             VEERYCOUCH_PARTS(VEERYCOUCH_WRITTEN, VEERYCOUCH_WRITTEN), uint64_t *line);
 
 /* Each writes one number: readings learnt or awaiting; the number on the panel; readings learnt; 1 where the shingle is full, else 0;
- * w * k; d; k; start; the numbers of the method and of the mode. Rows 1 to 9, 19, 20, of a damaged head. */
+ * w * k; d; k; start; the numbers of the method and of the mode. Rows 1 to 9, 19, 20, of a damaged head.
+ * The panel says how much the statistics know: how many readings they were fed, word 10 of the head. It does not rise for a reading that waits (it rises
+ * by all of them when they are drained), for one that was stranded, being learnt past before it was drained, or for one from stop_normalization on. */
 uint64_t veerycouch_values_seen(const uint64_t *head, size_t head_len, uint64_t *answer);
 uint64_t veerycouch_panel(const uint64_t *head, size_t head_len, uint64_t *answer);
 uint64_t veerycouch_internal_timestamp(const uint64_t *head, size_t head_len, uint64_t *answer);

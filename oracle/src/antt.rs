@@ -160,8 +160,8 @@ fn answer_term(s: &Settings, call: &Call, answer: &Answer) -> String {
             )
         }
         Answer::Ranges { numbers, times } => turned_term(call, numbers, times),
-        Answer::Status { values_seen, internal, ready, d, k, dimension, start, deviations } => format!(
-            "told (record {{ valuesSeen = {values_seen}; internalTimestamp = {internal}; ready = {ready}; inputDimensions = {d}; shingleSize = {k}; dimensions = {dimension}; method = {}; mode = {}; start = {start}; panel = {values_seen}; deviationsOut = {} }})",
+        Answer::Status { values_seen, internal, ready, d, k, dimension, start, panel, deviations } => format!(
+            "told (record {{ valuesSeen = {values_seen}; internalTimestamp = {internal}; ready = {ready}; inputDimensions = {d}; shingleSize = {k}; dimensions = {dimension}; method = {}; mode = {}; start = {start}; panel = {panel}; deviationsOut = {} }})",
             METHODS[s.method as usize], mode(s), written(deviations, out)
         ),
     }

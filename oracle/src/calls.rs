@@ -151,6 +151,8 @@ pub enum Answer {
         k: u64,
         dimension: u64,
         start: u64,
+        /// Request #102: how many readings the statistics were fed. The Rust has no panel.
+        panel: u64,
         deviations: Vec<u32>,
     },
 }

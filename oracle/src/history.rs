@@ -194,6 +194,22 @@ impl History {
         fed
     }
 
+    /// Request #102: "The sheet's 'readings fed' defines the panel number". Counted from the entries, without feeding anything: all W's where F stands, and each
+    /// L that came while values_seen was below stop.
+    pub fn panel(&self) -> u64 {
+        let (mut seen, mut initial, mut fed) = (0, 0, 0);
+        for entry in &self.entries {
+            match entry {
+                Initial(..) => initial += 1,
+                Learned(..) if seen < self.settings.stop => fed += 1,
+                Learned(..) => {}
+                Drained => fed += initial,
+            }
+            seen += !matches!(entry, Drained) as u64;
+        }
+        fed
+    }
+
     /// "Points: zeros; F shifts in each W's transform, made with all W's fed and its previous as above; each L replaces them by y."
     fn point(&self) -> Vec<f32> {
         if let Some(&(_, _, y)) = self.learned().last() {

@@ -247,6 +247,7 @@ impl Reference {
                 k: self.rust.shingle_size() as u64,
                 dimension: self.rust.get_dimension() as u64,
                 start: self.rust.start_normalization() as u64,
+                panel: self.count(),
                 deviations: all32(&self.rust.difference_deviations()),
             },
         }

@@ -845,9 +845,9 @@ fn answered(line: Line, call: &Call, answer: &Answer) -> Line {
                 Some(times) => times.iter().fold(line.whole(1), |line, list| line.list(list)),
             }
         }
-        Answer::Status { values_seen, internal, ready, d, k, dimension, start, deviations } => {
+        Answer::Status { values_seen, internal, ready, d, k, dimension, start, panel, deviations } => {
             let line = line.whole(*values_seen).whole(*internal).whole(*ready as u64).whole(*d);
-            line.whole(*k).whole(*dimension).whole(*start).list(deviations)
+            line.whole(*k).whole(*dimension).whole(*start).whole(*panel).list(deviations)
         }
     }
 }

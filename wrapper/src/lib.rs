@@ -342,7 +342,7 @@ impl Preprocessor {
     }
 
     getter!("How many readings were learnt or wait.", values_seen, veerycouch_values_seen);
-    getter!("The number on the panel.", panel, veerycouch_panel);
+    getter!("The number on the panel: how many readings the statistics were fed.", panel, veerycouch_panel);
     getter!("How many readings were learnt.", internal_timestamp, veerycouch_internal_timestamp);
     getter!("How many numbers a shingled point has.", get_dimension, veerycouch_get_dimension);
     getter!("How many channels a reading has.", input_dimensions, veerycouch_input_dimensions);

@@ -40,6 +40,30 @@ fn drained_inputs() {
     assert_eq!((p.values_seen(), p.internal_timestamp(), p.panel()), (Ok(2), Ok(2), Ok(2)));
 }
 
+/// The panel counts what was fed: not what waits, not what is stranded, not what comes after stop.
+#[test]
+fn the_panel() {
+    let mut s = settings(TransformMethod::Normalize, 1, 1, 2);
+    s.stop_normalization = 3;
+    let counts = |p: &Preprocessor| (p.values_seen().unwrap(), p.internal_timestamp().unwrap(), p.panel().unwrap());
+    let fed = |p: &mut Preprocessor, t| p.post_process(&[1.0], t, Learn { y: Some(&[0.0]), ..Learn::default() }, &mut [0.0], &mut [], &mut []).unwrap();
+    let mut p = Preprocessor::build(&s).unwrap();
+    learn(&mut p, 4.0, 1);
+    learn(&mut p, 6.0, 2);
+    assert_eq!(counts(&p), (2, 0, 0));
+    let mut q = p.clone();
+    p.drain().unwrap();
+    assert_eq!(counts(&p), (2, 2, 2));
+    fed(&mut p, 3);
+    fed(&mut p, 4);
+    assert_eq!(counts(&p), (4, 4, 3));
+    fed(&mut q, 3);
+    q.drain().unwrap();
+    assert_eq!(counts(&q), (3, 1, 1));
+    let taken = Preprocessor::restore(&q.save().unwrap(), &s.codes).unwrap();
+    assert_eq!(counts(&taken), (3, 1, 1));
+}
+
 /// "WEIGHTED 2: 3 becomes 6"
 #[test]
 fn weighted() {

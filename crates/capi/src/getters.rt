@@ -19,8 +19,8 @@ ghost use mathlib.Core.Path.{_≡_};
 ghost use lib.Dec.{leb};
 ghost use Rattle.trcf.specs.Types.{methodNumber};
 ghost use Rattle.trcf.specs.Settings.{dimension};
-ghost use Rattle.trcf.specs.Preprocessor.{accepted};
-ghost use Rattle.trcf.specs.View.{settingsOf, headRow};
+ghost use Rattle.trcf.specs.Preprocessor.{accepted, panelOf};
+ghost use Rattle.trcf.specs.View.{settingsOf, headRow, alone};
 ghost use Rattle.trcf.specs.declared.head.Preprocessor.{Preprocessor};
 ghost use Rattle.capi.specs.Head.{modeNumber};
 ghost use Rattle.capi.specs.Calls.{got, getAt, flag, codesGot, codesAt};
@@ -40,10 +40,10 @@ pub extern "C" fn veerycouch_values_seen(head: &[u64], answer: &mut u64) -> u64
     0
 }
 
-// The number on the panel.
+// The number on the panel: how many readings the statistics were fed.
 #[no_mangle]
 pub extern "C" fn veerycouch_panel(head: &[u64], answer: &mut u64) -> u64
-    ensures { λ r. ⌜ got r (now (answer .exit)) ≡ getAt (now (head .entry)) (now (answer .entry)) (λ (h : Preprocessor). h .«values_seen») ⌝ }
+    ensures { λ r. ⌜ got r (now (answer .exit)) ≡ getAt (now (head .entry)) (now (answer .entry)) (λ (h : Preprocessor). panelOf (alone h)) ⌝ }
 {
     let read = read_head(head);
     let bad = read.row;
@@ -51,7 +51,7 @@ pub extern "C" fn veerycouch_panel(head: &[u64], answer: &mut u64) -> u64
         return bad;
     }
     let before = read.head;
-    *answer = panel(before) as u64;
+    *answer = panel(before);
     0
 }
 

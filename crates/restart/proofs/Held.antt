@@ -3,7 +3,8 @@ use Prim.Native.Nat.{ℕ, zero, suc, _+_, _*_, _≤_, _<_}
 use native.Mathlib.Omega.{arith}
 use mathlib.Core.Path.{_≡_, refl, sym, ap, _∙_, subst}
 use mathlib.Core.Bool.{Bool, true, false, not, _&&_, _||_, cond}
-use mathlib.Core.List.{List, [], _∷_, _++_}
+use mathlib.Core.List.{List, [], _∷_, _++_, map}
+use mathlib.Core.Option.{some}
 use lib.ListN.{length, take, drop}
 use lib.Seq.{take-append-seam}
 use Rattle.common.specs.Lent.{over}
@@ -14,10 +15,10 @@ use Rattle.common.specs.Refusal.{firstOf}
 use Rattle.trcf.specs.Fit.{All}
 use Rattle.trcf.proofs.FitLaws.{all-append}
 use Rattle.trcf.specs.Types.{augments}
-use Rattle.trcf.specs.Settings.{Settings, Valid, waiting, dimension}
-use Rattle.trcf.specs.Calls.{Call, Machine}
-use Rattle.trcf.specs.Preprocessor.{State, statisticsLength, fresh, refusal, change, next, run, Answer, answer, answers, accepted}
-use Rattle.trcf.specs.View.{Lent, lent, settingsOf, view, laid, counted, headFrom, headTable, headRow, lentShort, misfit, shortRow, lentRow, rowOf, answerOf, headAfter, lentAfter, buildRow, buildOf, Outcome, outcome}
+use Rattle.trcf.specs.Settings.{Settings, Valid, waiting, block, dimension}
+use Rattle.trcf.specs.Calls.{Call, Machine, status}
+use Rattle.trcf.specs.Preprocessor.{State, statisticsLength, fresh, refusal, change, next, run, Answer, answer, answers, accepted, panelOf}
+use Rattle.trcf.specs.View.{Lent, lent, alone, settingsOf, view, laid, counted, headFrom, headTable, headRow, lentShort, misfit, shortRow, lentRow, rowOf, answerOf, headAfter, lentAfter, buildRow, buildOf, Outcome, outcome}
 use Rattle.trcf.specs.declared.head.Preprocessor.{Preprocessor}
 use Rattle.trcf.proofs.ViewLaws.{row-is, answer-is, Shaped, view-laid}
 use Rattle.snapshot.specs.Text.{render, TextOf}
@@ -30,9 +31,11 @@ use Rattle.snapshot.specs.Runs.{Few, HeadFew}
 use Rattle.snapshot.proofs.BodyLaws.{room-of, dimension-is}
 use Rattle.snapshot.proofs.ReadText.{put-away}
 use Rattle.snapshot.proofs.RoundTrip.{settings-are, shaped-of, few-of, initial-few, past-not, laid-short, restored-as, restored-view}
-use Rattle.restart.specs.History.{historyState, entries, historyText, historyAnswers}
-use Rattle.restart.specs.Held.{Held, held, builtOn, heldNext, heldRun, heldAnswers, savedTo, textIn, restoredOn, HeldRestart, HeldDemand3}
-use Rattle.restart.proofs.Step.{run-history}
+use Rattle.restart.specs.History.{historyState, entries, historyText, historyAnswers, historyPanels}
+use Rattle.restart.specs.Statement.{panelTold, panels}
+use Rattle.restart.specs.Held.{Held, held, builtOn, heldNext, heldRun, heldAnswers, heldPanels, heldShown, savedTo, textIn, restoredOn, HeldRestart, HeldDemand3}
+use Rattle.restart.proofs.Step.{begins, runs, run-history}
+use Rattle.restart.proofs.Panel.{shown, shown-from, shown-history, panels-history}
 use Rattle.restart.proofs.Restart.{run-append, text-history, restorable, restart}
 use Rattle.restart.proofs.Reachable.{k>0-of, run-form}
 
@@ -79,6 +82,13 @@ module _ (s : Settings) (ok : Valid s) where
 
     held-answer : (c : Call) → answerOf (m .head) (m .lent) c ≡ answer w c
     held-answer c = answer-is (m .head) (m .lent) c (sane m w k) long ∙ ap (λ (x : State). answer x c) (k .viewed)
+
+    held-panel : (room : List Float) → panelTold (answerOf (m .head) (m .lent) (status room)) ≡ panelTold (answer w (status room))
+    held-panel room = ap panelTold (held-answer (status room))
+
+    held-shown : panelOf (alone (m .head)) ≡ panelOf w
+    unfolding view
+    held-shown = ap panelOf (k .viewed)
 
     -- the state that an accepted call leaves is laid back
     laid-back : (v : State) → Form v → v .settings ≡ s → Holds s (held (counted (m .head) v) (laid v (m .lent))) v
@@ -150,9 +160,18 @@ module _ (s : Settings) (ok : Valid s) where
   pub record Runs (m : Held) (w : State) (cs : List Call) : Type 0 where
     pub holds : Holds s (heldRun m cs) (run w cs)
     pub says : heldAnswers m cs ≡ answers w cs
+    pub tells : (room : List Float) → heldPanels room m cs ≡ panels room w cs
+    pub shows : heldShown m cs ≡ shown w cs
 
   runs-held : (m : Held) (done cs : List Call) → All Machine done → All Machine cs → Holds s m (run (fresh s) done) → Runs m (run (fresh s) done) cs
-  runs-held m done [] md mc k = record { holds = k; says = refl }
+  runs-held m done [] md mc k =
+      let w = run (fresh s) done in
+      record {
+        holds = k;
+        says = refl;
+        tells = λ room. λ i. held-panel m w k (run-form s ok done md) (settings-kept done) room i ∷ [];
+        shows = λ i. held-shown m w k (run-form s ok done md) (settings-kept done) i ∷ [];
+      }
   runs-held m done (c ∷ cs) md mc k =
       let w = run (fresh s) done in
       let n : run (fresh s) (done ++ (c ∷ [])) ≡ next w c = run-append (fresh s) done (c ∷ []) in
@@ -164,7 +183,16 @@ module _ (s : Settings) (ok : Valid s) where
       record {
         holds = subst (λ (x : State). Holds s (heldRun (heldNext m c) cs) (run x cs)) n (r .holds);
         says = λ i. held-answer m w k (run-form s ok done md) (settings-kept done) c i ∷ (r .says ∙ ap (λ (x : State). answers x cs) n) i;
+        tells = λ room. λ i. held-panel m w k (run-form s ok done md) (settings-kept done) room i ∷ (r .tells room ∙ ap (λ (x : State). panels room x cs) n) i;
+        shows = λ i. held-shown m w k (run-form s ok done md) (settings-kept done) i ∷ (r .shows ∙ ap (λ (x : State). shown x cs) n) i;
       }
+
+  -- the panel's numbers after the calls `before`
+  shown-since : (before after : List Call) → shown (run (fresh s) before) after ≡ historyPanels s (entries s before) after
+  unfolding entries
+  shown-since before after =
+      let k>0 = k>0-of s ok in
+      ap (λ (w : State). shown w after) (run-history s k>0 before) ∙ shown-from s k>0 (entries s before) (runs s k>0 [] (begins s k>0) before .1) after
 
   -- ---- built, and taken up
 
@@ -230,6 +258,7 @@ held-demand-3 s ok before after mb ma first second r₁ r₂ out last long =
     let p : Runs s ok M w after = runs-held s ok M before after mb ma k in
     let q : Runs s ok N w after = runs-held s ok N before after mb ma j in
     let all : All Machine (before ++ after) = all-append _ before after mb ma in
+    let whole : Runs s ok (builtOn s first) (fresh s) (before ++ after) = runs-held s ok (builtOn s first) [] (before ++ after) tt all (built-holds s ok first r₁) in
     let g : Form (run w after) = subst Form (run-append (fresh s) before after) (run-form s ok (before ++ after) all) in
     let d : run w after .settings ≡ s = ap (λ (y : State). y .settings) (sym (run-append (fresh s) before after)) ∙ settings-kept s ok (before ++ after) in
     record {
@@ -241,4 +270,8 @@ held-demand-3 s ok before after mb ma first second r₁ r₂ out last long =
       ruledAnswers = q .says ∙ restart s ok before after mb .every w (restorable s ok before mb) .ruledAnswers;
       sameText = saved-by s ok (heldRun N after) (run w after) (q .holds) g d last
           ∙ sym (ap (λ (y : Held). savedTo y last) (held-append (builtOn s first) before after) ∙ saved-by s ok (heldRun M after) (run w after) (p .holds) g d last);
+      fedPanels = λ room h. q .tells room ∙ restart s ok before after mb .every w (restorable s ok before mb) .fedPanels room h;
+      firstPanels = λ room h. whole .tells room ∙ panels-history s (k>0-of s ok) room h (before ++ after);
+      fedShown = q .shows ∙ shown-since s ok before after;
+      firstShown = whole .shows ∙ shown-history s (k>0-of s ok) (before ++ after);
     }

@@ -5,6 +5,7 @@ pub mod Scores
 pub mod Drain
 pub mod Entries
 pub mod Step
+pub mod Panel
 pub mod Reachable
 pub mod SameHistory
 pub mod Restart

@@ -1,18 +1,22 @@
 -- Demand 3: a preprocessor outlives any restart, at any place, any number of times.
-use Prim.Native.Nat.{_<_}
+use Prim.Native.Nat.{_≤_, _<_}
 use mathlib.Core.Path.{_≡_, refl, sym, ap, _∙_, subst}
-use mathlib.Core.List.{List, [], _∷_, _++_}
-use Rattle.restart.specs.History.{after, entries, historyState, historyText}
-use Rattle.restart.specs.Statement.{Restores, Outlives, Restart, Event, called, restarted, callsOf, runEvents, answersEvents, Restarts, Reaches, built, calling, restoring, Demand3}
+use mathlib.Core.List.{List, [], _∷_, _++_, map}
+use mathlib.Core.Option.{some}
+use lib.ListN.{length}
+use lib.Ieee.{Float}
+use Rattle.restart.specs.History.{after, Entry, entries, enter, historyState, historyText, historyPanel}
+use Rattle.restart.specs.Statement.{Restores, Outlives, Restart, Event, called, restarted, callsOf, runEvents, answersEvents, panelTold, panels, panelsEvents, historyPanelsEvents, Restarts, Reaches, built, calling, restoring, Demand3}
 use Rattle.trcf.specs.Fit.{All}
-use Rattle.trcf.specs.Settings.{Settings, Valid}
-use Rattle.trcf.specs.Calls.{Call, Machine}
+use Rattle.trcf.specs.Settings.{Settings, Valid, block}
+use Rattle.trcf.specs.Calls.{Call, Machine, status}
 use Rattle.trcf.specs.Preprocessor.{State, fresh, next, run, Answer, answer, answers}
 use Rattle.snapshot.specs.Text.{render, TextOf}
 use Rattle.snapshot.specs.Read.{Read, taken, read}
 use Rattle.trcf.proofs.FitLaws.{all-append}
 use Rattle.snapshot.proofs.ReadText.{read-complete, put-away, text-injective}
-use Rattle.restart.proofs.Step.{begins, runs, run-history, answers-from, answers-history}
+use Rattle.restart.proofs.Step.{Inv, begins, step, fresh-history, runs, run-history, answers-from, answers-history}
+use Rattle.restart.proofs.Panel.{panel-at, panels-from, panels-history}
 use Rattle.restart.proofs.Reachable.{k>0-of, run-form}
 
 pub run-append : (w : State) (a b : List Call) → run w (a ++ b) ≡ run (run w a) b
@@ -53,6 +57,9 @@ module _ (s : Settings) (ok : Valid s) (before after : List Call) where
     ruledAnswers = ap (λ (w : State). answers w after) (run-history s k>0 before) ∙ answers-from s k>0 (entries s before) (runs s k>0 [] (begins s k>0) before .1) after;
     sameText = ap render (sym (run-append (fresh s) before after));
     historyEnds = ap render (sym (run-append (fresh s) before after) ∙ run-history s k>0 (before ++ after));
+    fedPanels =
+        λ out room. ap (λ (w : State). panels out w after) (run-history s k>0 before)
+        ∙ panels-from s k>0 out room (entries s before) (runs s k>0 [] (begins s k>0) before .1) after;
   }
     where
       k>0 : 0 < s .k
@@ -66,6 +73,7 @@ module _ (s : Settings) (ok : Valid s) (before after : List Call) where
     agree = ap (λ (x : Settings). x .codes) (settings-kept s ok before);
     outlives = goes-on;
     every = λ w u. rw (only s ok before m w u) goes-on;
+    fedPanels = λ out room. panels-history s (k>0-of s ok) out room (before ++ after);
   }
 
 -- ---- any number of restarts
@@ -95,12 +103,28 @@ module _ (s : Settings) (ok : Valid s) where
       ap (λ (l : List Answer). answer w c ∷ l) (answers-on (cs ++ (c ∷ [])) (all-more cs m w e c (n .0)) (next w c) (one-more cs m w e c) es (n .1))
   answers-on cs m w e (restarted ∷ es) n = ap (λ (r : Read). answersEvents r es) (taken-up cs m w e) ∙ answers-on cs m w e es n
 
+  -- the panel, where h are the entries of the calls cs
+  module _ (out : List Float) (room : block s ≤ length out) where
+    tells : (w : State) (h : List Entry) → w ≡ historyState s h → panelTold (answer w (status out)) ≡ some (historyPanel s h)
+    tells w h q = ap (λ (x : State). panelTold (answer x (status out))) q ∙ panel-at s h out room
+
+    panels-on : (cs : List Call) → All Machine cs → (w : State) → w ≡ run (fresh s) cs → (h : List Entry) → w ≡ historyState s h → Inv s h
+        → (es : List Event) → All Machine (callsOf es) → panelsEvents out (taken w) es ≡ map some (historyPanelsEvents s h es)
+    panels-on cs m w e h q v [] n = λ j. tells w h q j ∷ []
+    panels-on cs m w e h q v (called c ∷ es) n =
+        let k = step s (k>0-of s ok) h v c in
+        let p : next w c ≡ historyState s (enter s h c) = ap (λ (x : State). next x c) q ∙ k .0 in
+        λ j. tells w h q j ∷ panels-on (cs ++ (c ∷ [])) (all-more cs m w e c (n .0)) (next w c) (one-more cs m w e c) (enter s h c) p (k .1) es (n .1) j
+    panels-on cs m w e h q v (restarted ∷ es) n =
+        λ j. tells w h q j ∷ (ap (λ (r : Read). panelsEvents out r es) (taken-up cs m w e) ∙ panels-on cs m w e h q v es n) j
+
   pub restarts : (es : List Event) → All Machine (callsOf es) → Restarts s es
   restarts es m = record {
     ends = ends-from [] tt (fresh s) refl es m;
     sameAnswers = answers-on [] tt (fresh s) refl es m;
     ruledAnswers = answers-on [] tt (fresh s) refl es m ∙ answers-history s (k>0-of s ok) (callsOf es);
     text = text-history s ok (callsOf es) m;
+    fedPanels = λ out room. panels-on out room [] tt (fresh s) refl [] (fresh-history s (k>0-of s ok)) (begins s (k>0-of s ok)) es m;
   }
 
   reaches : {cs : List Call} {w : State} → Reaches s cs w → (w ≡ run (fresh s) cs) × All Machine cs

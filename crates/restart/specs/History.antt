@@ -211,3 +211,13 @@ historyAnswer s es c = accepted (historyRefusal s es c) (reply (historyState s e
 abbrev pub historyAnswers : Settings → List Entry → List Call → List Answer
 historyAnswers s es [] = []
 historyAnswers s es (c ∷ cs) = historyAnswer s es c ∷ historyAnswers s (enter s es c) cs
+
+-- ---- the panel: "The sheet's "readings fed" defines the panel number at every place of a trace." (request 102)
+
+unfoldable pub historyPanel : Settings → List Entry → ℕ
+historyPanel s es = countOf s es
+
+-- at each of a list's places: "A list of n calls has n + 1 places."
+abbrev pub historyPanels : Settings → List Entry → List Call → List ℕ
+historyPanels s es [] = historyPanel s es ∷ []
+historyPanels s es (c ∷ cs) = historyPanel s es ∷ historyPanels s (enter s es c) cs

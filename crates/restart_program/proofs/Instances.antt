@@ -31,16 +31,17 @@ use Rattle.trcf.specs.declared.types.ForestMode.the-variants.{STANDARD, «TIME_
 use Rattle.snapshot.specs.Text as Text
 use Rattle.snapshot.specs.Text.{render}
 use Rattle.snapshot.specs.Ascii.{text}
+use Rattle.snapshot.specs.Read.{taken}
 use Rattle.restart.specs.History as History
-use Rattle.restart.specs.History.{Entry, initial, learned, drained, entries, historyText, historyAnswers}
-use Rattle.restart.specs.Statement.{Restart, Event, called, restarted, callsOf, Restarts}
-use Rattle.restart.specs.Held.{Held, builtOn, heldRun, heldAnswers, savedTo, textIn, restoredOn, HeldRestart}
+use Rattle.restart.specs.History.{Entry, initial, learned, drained, entries, historyText, historyAnswers, historyPanels}
+use Rattle.restart.specs.Statement.{Restart, Event, called, restarted, callsOf, panels, panelsEvents, historyPanelsEvents, Restarts}
+use Rattle.restart.specs.Held.{Held, builtOn, heldRun, heldAnswers, heldPanels, heldShown, savedTo, textIn, restoredOn, HeldRestart}
 use Rattle.restart.proofs.Restart.{demand-3}
 use Rattle.restart.proofs.Held.{held-demand-3}
 use Rattle.trcf.specs.Preprocessor.{Reading, reading, statisticsLength}
 use Rattle.restart.specs.Statistics as Statistics
 use Rattle.restart.specs.Statistics.{Fed, fedAfter, statisticsFrom}
-use Rattle.restart_program.specs.Program.{returns, ran, answerRead, ProgramRestart}
+use Rattle.restart_program.specs.Program.{returns, ran, answerRead, returnedPanels, shownPanels, ProgramRestart}
 use Rattle.restart_program.proofs.Program.{program-demand-3}
 
 -- to unfold this is to unfold whatever its line names
@@ -49,7 +50,7 @@ unfolding Ieee.add Ieee.sub Ieee.mul Ieee.div Ieee.lt Ieee.le Ieee.eq Ieee.ofInt
 computing = tt
 
 recording : Unit {0}
-unfolding computing History.seenOf History.internalOf History.bufferOf History.shingled History.inputsOf History.timestampsOf History.newestOf History.countOf History.statisticsOf Statistics.statisticsFrom History.historyState History.historyFacts History.historyRefusal History.complete History.adds History.enter History.entries History.historyText
+unfolding computing History.seenOf History.internalOf History.bufferOf History.shingled History.inputsOf History.timestampsOf History.newestOf History.countOf History.statisticsOf Statistics.statisticsFrom History.historyState History.historyFacts History.historyRefusal History.complete History.adds History.enter History.entries History.historyText History.historyPanel
 recording = tt
 
 writing : Unit {0}
@@ -192,6 +193,28 @@ stranding-text = refl
 stranding-put-away : render (stranding-last .second) ≡ strandedText
 stranding-put-away = stranding-last .outlives .historyEnds ∙ stranding-text
 
+-- the panel, after the fourth call put away and taken up again: of three readings seen the two L's are fed, the stranded W is not
+abbrev oneRoom : List Float
+oneRoom = nan ∷ []
+
+one-fits : Settings.block strands ≤ length oneRoom
+unfolding computing
+one-fits = omega arith
+
+stranding-fed : historyPanels strands (entries strands (take 4 stranding)) (drop 4 stranding) ≡ 1 ∷ 1 ∷ 2 ∷ 2 ∷ []
+unfolding recording
+stranding-fed = refl
+
+stranding-panels : panels oneRoom (stranding-at 4 .second) (drop 4 stranding) ≡ map some (1 ∷ 1 ∷ 2 ∷ 2 ∷ [])
+stranding-panels = stranding-at 4 .outlives .fedPanels oneRoom one-fits ∙ ap (map some) stranding-fed
+
+stranding-fed-first : historyPanels strands [] stranding ≡ 0 ∷ 0 ∷ 0 ∷ 1 ∷ 1 ∷ 1 ∷ 2 ∷ 2 ∷ []
+unfolding recording
+stranding-fed-first = refl
+
+stranding-panels-first : panels oneRoom (fresh strands) stranding ≡ map some (0 ∷ 0 ∷ 0 ∷ 1 ∷ 1 ∷ 1 ∷ 2 ∷ 2 ∷ [])
+stranding-panels-first = stranding-first .fedPanels oneRoom one-fits ∙ ap (map some) stranding-fed-first
+
 -- ---- the same over memory that is too long and holds something else, for both watches and for the text
 
 abbrev dirty : Lent
@@ -226,6 +249,19 @@ ruled = refl
 
 stranding-answers : heldAnswers (restoredOn putAway (7 ∷ []) filthy) (drop 4 stranding) ≡ pointAnswer ∷ learnAnswer ∷ refused 20 ∷ []
 stranding-answers = stranding-held .ruledAnswers ∙ ruled
+
+-- and its panel, as status tells it and as the getter gives it
+held-panels : heldPanels oneRoom (restoredOn putAway (7 ∷ []) filthy) (drop 4 stranding) ≡ map some (1 ∷ 1 ∷ 2 ∷ 2 ∷ [])
+held-panels = stranding-held .fedPanels oneRoom one-fits ∙ ap (map some) stranding-fed
+
+held-panels-first : heldPanels oneRoom (builtOn strands dirty) stranding ≡ map some (0 ∷ 0 ∷ 0 ∷ 1 ∷ 1 ∷ 1 ∷ 2 ∷ 2 ∷ [])
+held-panels-first = stranding-held .firstPanels oneRoom one-fits ∙ ap (map some) stranding-fed-first
+
+held-shown : heldShown (restoredOn putAway (7 ∷ []) filthy) (drop 4 stranding) ≡ 1 ∷ 1 ∷ 2 ∷ 2 ∷ []
+held-shown = stranding-held .fedShown ∙ stranding-fed
+
+held-shown-first : heldShown (builtOn strands dirty) stranding ≡ 0 ∷ 0 ∷ 0 ∷ 1 ∷ 1 ∷ 1 ∷ 2 ∷ 2 ∷ []
+held-shown-first = stranding-held .firstShown ∙ stranding-fed-first
 
 -- both ends as places
 last-fits : length (historyText strands stranding) ≤ 726
@@ -326,6 +362,21 @@ draining-rows : map numberOf (historyAnswers drains [] (callsOf draining)) ≡ 0
 unfolding answering
 draining-rows = refl
 
+-- the panel before and after each restart: F feeds two, one L feeds, and the L at stop does not
+abbrev draining-counts : List ℕ
+draining-counts = replicate 8 0 ++ (2 ∷ replicate 4 3)
+
+draining-fed : historyPanelsEvents drains [] draining ≡ draining-counts
+unfolding recording
+draining-fed = refl
+
+three-fit : Settings.block drains ≤ length (nan ∷ nan ∷ nan ∷ [])
+unfolding computing
+three-fit = omega arith
+
+draining-panels : panelsEvents (nan ∷ nan ∷ nan ∷ []) (taken (fresh drains)) draining ≡ map some draining-counts
+draining-panels = draining-often .fedPanels (nan ∷ nan ∷ nan ∷ []) three-fit ∙ ap (map some) draining-fed
+
 -- ---- the program, composed by its contracts, over the same memory
 
 program-held : ProgramRestart strands (take 4 stranding) (drop 4 stranding) dirty filthy (replicate 1000 10) (replicate 726 255)
@@ -337,6 +388,21 @@ program-held =
 program-answers : map answerRead (returns (restoredOn (textIn (ran (builtOn strands dirty) (take 4 stranding)) (replicate 1000 10)) (7 ∷ []) filthy) (drop 4 stranding))
     ≡ pointAnswer ∷ learnAnswer ∷ refused 20 ∷ []
 program-answers = program-held .ruledAnswers ∙ ruled
+
+abbrev programPutAway : List ℕ
+programPutAway = textIn (ran (builtOn strands dirty) (take 4 stranding)) (replicate 1000 10)
+
+program-panels : returnedPanels oneRoom (restoredOn programPutAway (7 ∷ []) filthy) (drop 4 stranding) ≡ map some (1 ∷ 1 ∷ 2 ∷ 2 ∷ [])
+program-panels = program-held .fedPanels oneRoom one-fits ∙ ap (map some) stranding-fed
+
+program-panels-first : returnedPanels oneRoom (builtOn strands dirty) stranding ≡ map some (0 ∷ 0 ∷ 0 ∷ 1 ∷ 1 ∷ 1 ∷ 2 ∷ 2 ∷ [])
+program-panels-first = program-held .firstPanels oneRoom one-fits ∙ ap (map some) stranding-fed-first
+
+program-shown : shownPanels (restoredOn programPutAway (7 ∷ []) filthy) (drop 4 stranding) ≡ 1 ∷ 1 ∷ 2 ∷ 2 ∷ []
+program-shown = program-held .fedShown ∙ stranding-fed
+
+program-shown-first : shownPanels (builtOn strands dirty) stranding ≡ 0 ∷ 0 ∷ 0 ∷ 1 ∷ 1 ∷ 1 ∷ 2 ∷ 2 ∷ []
+program-shown-first = program-held .firstShown ∙ stranding-fed-first
 
 -- ---- the text of the other list, each statistic a fold over its own scores
 

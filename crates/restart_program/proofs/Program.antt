@@ -14,20 +14,22 @@ use Rattle.trcf.specs.Fit.{All}
 use Rattle.trcf.specs.Transformer.{zero32}
 use Rattle.trcf.specs.Settings.{Settings, Valid, block, dimension, waiting}
 use Rattle.trcf.specs.Calls.{Learn, Call, Machine, shingledPoint, postProcess, drain, transform, invertExtrapolation, scale, shift, status, rows, table, given, Facts}
-use Rattle.trcf.specs.Preprocessor.{State, Answer, refused, absent, done, wrote, learnt, turned, told, Anomaly, Learned, Status, reading, drained, pointOf, statisticsLength, change, reply, accepted, statusOf, answer, facts}
-use Rattle.trcf.specs.View.{Lent, lent, optional, settingsFrom, settingsOf, view, counted, laid, headRow, lentShort, misfit, shortRow, lentRow, rowOf, orElse, answerOf, headAfter, lentAfter, Roomy, Fitted, Written, written, writtenOf, writeOf, StatusOutcome, untold, statusRead, statusAfter, drainOf, PointOutcome, pointed, pointRead, pointAfter, LearnOutcome, learnRead, learnAfter, anomalyTime, anomalyLikelihood}
+use Rattle.trcf.specs.Preprocessor.{State, Answer, refused, absent, done, wrote, learnt, turned, told, Anomaly, Learned, Status, reading, drained, pointOf, statisticsLength, change, reply, accepted, statusOf, answer, facts, panelOf}
+use Rattle.trcf.specs.View.{Lent, lent, alone, optional, settingsFrom, settingsOf, view, counted, laid, headRow, lentShort, misfit, shortRow, lentRow, rowOf, orElse, answerOf, headAfter, lentAfter, Roomy, Fitted, Written, written, writtenOf, writeOf, StatusOutcome, untold, statusRead, statusAfter, drainOf, PointOutcome, pointed, pointRead, pointAfter, LearnOutcome, learnRead, learnAfter, anomalyTime, anomalyLikelihood}
 use Rattle.trcf.specs.Extrapolation.{Extrapolation, extrapolationOf, extrapolationRead, unread}
 use Rattle.trcf.specs.declared.head.Preprocessor.{Preprocessor}
+use Rattle.trcf.proofs.FitLaws.{all-append}
 use Rattle.trcf.proofs.RefusalLaws.{misfit-few, misfit-counted}
 use Rattle.trcf.proofs.StateLaws.{same-head, same-lent}
 use Rattle.trcf.proofs.ViewLaws.{answer-is}
 use Rattle.trcf.proofs.ExtrapolationLaws.{extrapolation-answers}
 use Rattle.snapshot.specs.Save as save
 use Rattle.snapshot.specs.Restore as restore
-use Rattle.restart.specs.History.{Entry, entries, enter, historyState, historyFacts, historyRefusal, historyAnswer, historyText, historyAnswers}
-use Rattle.restart.specs.Held.{Held, held, builtOn, heldNext, heldRun, heldAnswers, savedTo, textIn, restoredOn, HeldRestart}
+use Rattle.restart.specs.History.{Entry, entries, enter, historyState, historyFacts, historyRefusal, historyAnswer, historyText, historyAnswers, historyPanels}
+use Rattle.restart.specs.Statement.{panelTold}
+use Rattle.restart.specs.Held.{Held, held, builtOn, heldNext, heldRun, heldAnswers, heldPanels, heldShown, savedTo, textIn, restoredOn, HeldRestart}
 use Rattle.restart.proofs.Held.{held-demand-3}
-use Rattle.restart_program.specs.Program.{Return, point, learn, drains, writes, turns, tells, pointReturn, learnReturn, returnOf, leftBy, ran, returns, anomalyRead, byRow, answerRead, ProgramRestart, ProgramDemand3, listOf, Arguments}
+use Rattle.restart_program.specs.Program.{Return, point, learn, drains, writes, turns, tells, pointReturn, learnReturn, returnOf, leftBy, ran, returns, anomalyRead, byRow, answerRead, returnedPanels, shownPanels, ProgramRestart, ProgramDemand3, listOf, Arguments}
 
 -- ---- a row 0 of a call says that what is lent is long enough
 
@@ -145,6 +147,10 @@ module _ (m : Held) where
   left-is (scale out) = reads (scale out) refl
   left-is (shift out) = reads (shift out) refl
   left-is (status out) = reads (status out) refl
+
+shown-is : (m : Held) (cs : List Call) → shownPanels m cs ≡ heldShown m cs
+shown-is m [] = refl
+shown-is m (c ∷ cs) = λ j. panelOf (alone (m .head)) ∷ (ap (λ (x : Held). shownPanels x cs) (left-is m c) ∙ shown-is (heldNext m c) cs) j
 
 pub ran-is : (m : Held) (cs : List Call) → ran m cs ≡ heldRun m cs
 ran-is m [] = refl
@@ -306,6 +312,14 @@ module _ (s : Settings) where
       let n : Ruled (leftBy m c) (enter s es c) = subst (λ (x : Held). Ruled x (enter s es c)) (sym (left-is m c)) (ruled-next m es r c (a .0)) in
       λ j. (answer-read m (sound m es r) c ∙ ruled-answer m es r c (a .0)) j ∷ read-answers (leftBy m c) (enter s es c) n cs (a .1) j
 
+  -- what status returns on the panel is what it tells
+  panels-read : (room : List Float) (m : Held) (es : List Entry) → Ruled m es → (cs : List Call) → All Machine cs → returnedPanels room m cs ≡ heldPanels room m cs
+  panels-read room m es r [] a = λ j. panelTold (answer-read m (sound m es r) (status room) j) ∷ []
+  panels-read room m es r (c ∷ cs) a =
+      let n : Ruled (heldNext m c) (enter s es c) = ruled-next m es r c (a .0) in
+      λ j. panelTold (answer-read m (sound m es r) (status room) j)
+      ∷ (ap (λ (x : Held). returnedPanels room x cs) (left-is m c) ∙ panels-read room (heldNext m c) (enter s es c) n cs (a .1)) j
+
 -- ---- two that answer by one history return the same, refusals included
 
 -- what a refused `status` tells is what an accepted one would, over an output left as it was
@@ -369,6 +383,13 @@ module _ (s : Settings) where
       λ x p. subst (λ (y : Held). Ruled s y (enter s es c)) (sym (left-is x c)) (ruled-next s x es p c (a .0)) in
       λ j. same-return m n es r q c (a .0) j ∷ same-returns (leftBy m c) (leftBy n c) (enter s es c) (left m r) (left n q) cs (a .1) j
 
+-- what was built answers as the history rules from its first call on
+ruled-built : (s : Settings) → Valid s → (first second : Lent) → lentShort s first ≡ false → lentShort s second ≡ false → Ruled s (builtOn s first) []
+unfolding entries
+ruled-built s ok first second r₁ r₂ cs a =
+    let k : HeldRestart s [] cs first second (historyText s []) [] = held-demand-3 s ok [] cs tt a first second r₁ r₂ (historyText s []) [] (omega arith) in
+    sym (k .sameAnswers) ∙ k .ruledAnswers
+
 -- ---- the statement
 
 pub program-demand-3 : ProgramDemand3
@@ -387,6 +408,9 @@ program-demand-3 s ok before after mb ma first second r₁ r₂ out last long =
     let restores : restore.restoreOf (textIn M out) (s .codes) second .row ≡ 0 = k .restores in
     let same : returns N after ≡ returns M after = same-returns s M N es r q after ma in
     let ruled : map answerRead (returns N after) ≡ historyAnswers s es after = read-answers s N es q after ma in
+    let fed : (room : List Float) → block s ≤ length room → returnedPanels room N after ≡ map some (historyPanels s es after) =
+    λ room h. panels-read s room N es q after ma ∙ k .fedPanels room h in
+    let shown : shownPanels N after ≡ historyPanels s es after = shown-is N after ∙ k .fedShown in
     let ends : savedTo (ran N after) last ≡ savedTo (ran (builtOn s first) (before ++ after)) last =
     ap (λ (x : Held). savedTo x last) (ran-is N after) ∙ k .sameText ∙ ap (λ (x : Held). savedTo x last) (sym (ran-is (builtOn s first) (before ++ after))) in
     record {
@@ -397,6 +421,12 @@ program-demand-3 s ok before after mb ma first second r₁ r₂ out last long =
       sameReturns = subst (λ (x : Held). returns (restoredOn (textIn x out) (s .codes) second) after ≡ returns x after) e same;
       ruledAnswers = subst (λ (x : Held). map answerRead (returns (restoredOn (textIn x out) (s .codes) second) after) ≡ historyAnswers s es after) e ruled;
       sameText = subst (λ (x : Held). savedTo (ran (restoredOn (textIn x out) (s .codes) second) after) last ≡ savedTo (ran (builtOn s first) (before ++ after)) last) e ends;
+      fedPanels =
+          λ room h. subst (λ (x : Held). returnedPanels room (restoredOn (textIn x out) (s .codes) second) after ≡ map some (historyPanels s es after)) e (fed room h);
+      firstPanels =
+          λ room h. panels-read s room (builtOn s first) [] (ruled-built s ok first second r₁ r₂) (before ++ after) (all-append _ before after mb ma) ∙ k .firstPanels room h;
+      fedShown = subst (λ (x : Held). shownPanels (restoredOn (textIn x out) (s .codes) second) after ≡ historyPanels s es after) e shown;
+      firstShown = shown-is (builtOn s first) (before ++ after) ∙ k .firstShown;
     }
 
 -- ---- every settings and every learn is one that the contracts speak of

@@ -9,14 +9,15 @@ use mathlib.Core.Option.{Option, none, some}
 use lib.ListN.{length}
 use lib.Ieee.{Float}
 use Rattle.trcf.specs.Fit.{All}
-use Rattle.trcf.specs.Settings.{Settings, Valid}
+use Rattle.trcf.specs.Settings.{Settings, Valid, block}
 use Rattle.trcf.specs.declared.head.PreprocessorBuilder.{PreprocessorBuilder}
 use Rattle.trcf.specs.Calls.{Learn, given, Call, Machine, shingledPoint, postProcess, drain, transform, invertExtrapolation, scale, shift, status}
-use Rattle.trcf.specs.Preprocessor.{Answer, refused, absent, done, wrote, learnt, turned, told, Anomaly}
-use Rattle.trcf.specs.View.{Lent, settingsFrom, learnCall, lentShort, buildOf, Written, StatusOutcome, PointOutcome, LearnOutcome, writeOf, statusAfter, drainOf, pointAfter, learnAfter}
+use Rattle.trcf.specs.Preprocessor.{Answer, refused, absent, done, wrote, learnt, turned, told, Anomaly, panelOf}
+use Rattle.trcf.specs.View.{Lent, alone, settingsFrom, learnCall, lentShort, buildOf, Written, StatusOutcome, PointOutcome, LearnOutcome, writeOf, statusAfter, drainOf, pointAfter, learnAfter}
 use Rattle.trcf.specs.Extrapolation.{Extrapolation, extrapolationOf}
 use Rattle.snapshot.specs.Restore as restore
-use Rattle.restart.specs.History.{entries, historyText, historyAnswers}
+use Rattle.restart.specs.History.{entries, historyText, historyAnswers, historyPanels}
+use Rattle.restart.specs.Statement.{panelTold}
 use Rattle.restart.specs.Held.{Held, held, builtOn, savedTo, textIn, restoredOn}
 
 -- ---- what a caller gets: the returned numbers, and the lists lent to be written as they stand afterwards
@@ -88,6 +89,16 @@ answerRead (writes w) = byRow (w .row) (wrote (w .out))
 answerRead (turns e) = byRow (e .row) (turned (e .left))
 answerRead (tells o) = byRow (o .row) (told (o .numbers))
 
+-- ---- the panel at each place: what status returns, asked with the output `room`; and what `panel` returns
+
+abbrev pub returnedPanels : List Float → Held → List Call → List (Option ℕ)
+returnedPanels room m [] = panelTold (answerRead (returnOf m (status room))) ∷ []
+returnedPanels room m (c ∷ cs) = panelTold (answerRead (returnOf m (status room))) ∷ returnedPanels room (leftBy m c) cs
+
+abbrev pub shownPanels : Held → List Call → List ℕ
+shownPanels m [] = panelOf (alone (m .head)) ∷ []
+shownPanels m (c ∷ cs) = panelOf (alone (m .head)) ∷ shownPanels (leftBy m c) cs
+
 -- ---- the statement
 
 pub record ProgramRestart (s : Settings) (before after : List Call) (first second : Lent) (out last : List ℕ) : Type 0 where
@@ -99,6 +110,12 @@ pub record ProgramRestart (s : Settings) (before after : List Call) (first secon
   pub sameReturns : returns (restoredOn (textIn (ran (builtOn s first) before) out) (s .codes) second) after ≡ returns (ran (builtOn s first) before) after
   pub ruledAnswers : map answerRead (returns (restoredOn (textIn (ran (builtOn s first) before) out) (s .codes) second) after) ≡ historyAnswers s (entries s before) after
   pub sameText : savedTo (ran (restoredOn (textIn (ran (builtOn s first) before) out) (s .codes) second) after) last ≡ savedTo (ran (builtOn s first) (before ++ after)) last
+  -- the panel is the history's number of readings fed, at every place after the restart, and at every place where nothing is put away
+  pub fedPanels : (room : List Float) → block s ≤ length room
+      → returnedPanels room (restoredOn (textIn (ran (builtOn s first) before) out) (s .codes) second) after ≡ map some (historyPanels s (entries s before) after)
+  pub firstPanels : (room : List Float) → block s ≤ length room → returnedPanels room (builtOn s first) (before ++ after) ≡ map some (historyPanels s [] (before ++ after))
+  pub fedShown : shownPanels (restoredOn (textIn (ran (builtOn s first) before) out) (s .codes) second) after ≡ historyPanels s (entries s before) after
+  pub firstShown : shownPanels (builtOn s first) (before ++ after) ≡ historyPanels s [] (before ++ after)
 
 abbrev pub ProgramDemand3 : Type 0
 ProgramDemand3 =

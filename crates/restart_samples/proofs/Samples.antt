@@ -10,7 +10,8 @@ use lib.Ieee.{Float, binary32, toBits, ofBits, size, round, le, lt, eq, add, sub
 use Rattle.restart.specs.Statistics.{statisticsFrom}
 use Rattle.restart.proofs.Step.{answers-history}
 use native.Mathlib.Omega.{arith}
-use Rattle.restart.specs.History.{Entry, initial, learned, drained, seenOf, internalOf, bufferOf, shingled, inputsOf, timestampsOf, newestOf, countOf, statisticsOf, historyState, historyFacts, historyRefusal, complete, adds, enter, entries, historyText, historyAnswer, historyAnswers}
+use Rattle.restart.specs.History.{Entry, initial, learned, drained, seenOf, internalOf, bufferOf, shingled, inputsOf, timestampsOf, newestOf, countOf, statisticsOf, historyState, historyFacts, historyRefusal, complete, adds, enter, entries, historyText, historyAnswer, historyAnswers, historyPanel, historyPanels}
+use Rattle.restart.specs.Statement.{panelTold, panels}
 use Rattle.trcf.specs.declared.types.TransformMethod.{TransformMethod}
 use Rattle.trcf.specs.declared.types.TransformMethod.the-variants.{NONE, NORMALIZE}
 use Rattle.trcf.specs.declared.types.ForestMode.{ForestMode}
@@ -245,3 +246,34 @@ pub every-count : historyState augmented (entries augmented every) .valuesSeen �
     ≡ 4 ∷ 4 ∷ 3 ∷ []
 unfolding recording
 every-count = refl
+
+-- ---- the panel at each place (request 102): readings that wait, stranded ones and those after stop do not raise it
+
+-- values_seen, internal, and the panel that status tells
+abbrev counted : List Float → State → List Call → List (ℕ × ℕ × Option ℕ)
+counted out w [] = (w .valuesSeen, w .internalTimestamp, panelTold (answer w (status out))) ∷ []
+counted out w (c ∷ cs) = (w .valuesSeen, w .internalTimestamp, panelTold (answer w (status out))) ∷ counted out (next w c) cs
+
+-- two W's, then F feeds them
+pub waiting-panel : counted (room 1) (fresh (normalizing 4 2)) four-six ≡ (0, 0, some 0) ∷ (1, 0, some 0) ∷ (2, 0, some 0) ∷ (2, 2, some 2) ∷ []
+unfolding answering
+waiting-panel = refl
+
+-- the stranded W is never fed, the L is
+pub stranded-panel : counted (room 1) (fresh (normalizing 1 1)) stranding
+    ≡ (0, 0, some 0) ∷ (1, 0, some 0) ∷ (2, 1, some 1) ∷ (2, 1, some 1) ∷ (2, 1, some 1) ∷ []
+unfolding answering
+stranded-panel = refl
+
+-- the last L comes at stop; with no room for its answer status tells nothing
+pub every-panel : panels (room 2) (fresh augmented) every ≡ map some (replicate 5 0 ++ (2 ∷ 2 ∷ replicate 10 3))
+unfolding answering
+every-panel = refl
+
+pub every-fed : historyPanels augmented [] every ≡ replicate 5 0 ++ (2 ∷ 2 ∷ replicate 10 3)
+unfolding recording historyPanel
+every-fed = refl
+
+pub roomless-panel : panels [] (fresh augmented) [] ≡ none ∷ []
+unfolding answering
+roomless-panel = refl

@@ -33,7 +33,7 @@ use Rattle.restart.specs.History.{historyText}
 
 -- to unfold this is to unfold whatever its line names
 trace·all : Unit {0}
-unfolding Ieee.span Ieee.climb Ieee.size Ieee.odd Ieee.units Ieee.round Ieee.neg Ieee.sum Ieee.add Ieee.sub Ieee.mul Ieee.div Ieee.lt Ieee.eq Ieee.le Ieee.ne Ieee.ofInt Ieee.fits Ieee.ofFields Ieee.ofBits Ieee.toBits Narrow.narrowed Root.rootWithin Root.halves Root.rooted Root.rootOf Deviation.outsideUnit Deviation.newOf Deviation.createOf Deviation.factorOf Deviation.stepOf Deviation.updateOf Deviation.isEmpty Deviation.meanOf Deviation.rootAbove Deviation.deviationOf Deviation.setCountOf Lent.over RangeVector.settled RangeVector.shifted RangeVector.scaled RangeVector.rangeAt RangeVector.putAt RangeVector.pastAny RangeVector.shiftOf RangeVector.scaleOf RangeVector.cascadeTo RangeVector.unequal RangeVector.unblocked RangeVector.cascadedAddOf RangeVector.shorter RangeVector.newOf RangeVector.fromOf RangeVector.inOrder RangeVector.createOf Lists.lastN Lists.shiftIn Lists.overwrite Settings.block Settings.dimension Settings.waiting Settings.allOne Settings.settingsRow Calls.finite Calls.due Calls.newest Calls.wrongLength Calls.outside Calls.drainFull Calls.learnFull Calls.lookahead Calls.unturnable Calls.turnShort Calls.waitingShort Calls.learnShort Calls.table Calls.rows Transformer.statisticAt Transformer.putStatistic Transformer.fed Transformer.deviationsAt Transformer.putDeviations Transformer.fedAt Transformer.channelsFed Transformer.updated Transformer.normalizedScale Transformer.basicShift Transformer.basicDrift Transformer.weightAt Transformer.transformed Transformer.unweighted Transformer.inverted Transformer.reciprocal Transformer.forecastAt Transformer.forecastTo Transformer.invertedForecast Transformer.scales Transformer.shifts Transformer.differenceDeviations Preprocessor.fresh Preprocessor.facts Preprocessor.refusal Preprocessor.timeFed Preprocessor.feed Preprocessor.timescale Preprocessor.timedrift Preprocessor.timeElement Preprocessor.transformedAfter Preprocessor.previous Preprocessor.primed Preprocessor.drainOne Preprocessor.drainAll Preprocessor.drained Preprocessor.held Preprocessor.learned Preprocessor.learnedWith Preprocessor.change Preprocessor.next Preprocessor.deviations Preprocessor.scaleOf Preprocessor.shiftOf Preprocessor.pointOf Preprocessor.invertTime Preprocessor.numbersOf Preprocessor.timesOf Preprocessor.blockFrom Preprocessor.pastValues Preprocessor.expectedValues Preprocessor.anomalyOf Preprocessor.learnedNothing Preprocessor.heldAnswer Preprocessor.learnedAnswer Preprocessor.learnAnswer Preprocessor.turnedBack Preprocessor.statusOf Preprocessor.reply Preprocessor.answer Text.whole Text.float Text.setLine Text.singles Text.chnLine Text.cntLine Text.devLine Text.timLine Text.bufLine Text.bodyLines Text.linesBy Text.render Statistics.statisticsFrom History.seenOf History.internalOf History.bufferOf History.shingled History.inputsOf History.timestampsOf History.newestOf History.countOf History.statisticsOf History.historyState History.historyFacts History.historyRefusal History.complete History.adds History.enter History.entries History.historyText History.historyAnswer
+unfolding Ieee.span Ieee.climb Ieee.size Ieee.odd Ieee.units Ieee.round Ieee.neg Ieee.sum Ieee.add Ieee.sub Ieee.mul Ieee.div Ieee.lt Ieee.eq Ieee.le Ieee.ne Ieee.ofInt Ieee.fits Ieee.ofFields Ieee.ofBits Ieee.toBits Narrow.narrowed Root.rootWithin Root.halves Root.rooted Root.rootOf Deviation.outsideUnit Deviation.newOf Deviation.createOf Deviation.factorOf Deviation.stepOf Deviation.updateOf Deviation.isEmpty Deviation.meanOf Deviation.rootAbove Deviation.deviationOf Deviation.setCountOf Lent.over RangeVector.settled RangeVector.shifted RangeVector.scaled RangeVector.rangeAt RangeVector.putAt RangeVector.pastAny RangeVector.shiftOf RangeVector.scaleOf RangeVector.cascadeTo RangeVector.unequal RangeVector.unblocked RangeVector.cascadedAddOf RangeVector.shorter RangeVector.newOf RangeVector.fromOf RangeVector.inOrder RangeVector.createOf Lists.lastN Lists.shiftIn Lists.overwrite Settings.block Settings.dimension Settings.waiting Settings.allOne Settings.settingsRow Calls.finite Calls.due Calls.newest Calls.wrongLength Calls.outside Calls.drainFull Calls.learnFull Calls.lookahead Calls.unturnable Calls.turnShort Calls.waitingShort Calls.learnShort Calls.table Calls.rows Transformer.statisticAt Transformer.putStatistic Transformer.fed Transformer.deviationsAt Transformer.putDeviations Transformer.fedAt Transformer.channelsFed Transformer.updated Transformer.normalizedScale Transformer.basicShift Transformer.basicDrift Transformer.weightAt Transformer.transformed Transformer.unweighted Transformer.inverted Transformer.reciprocal Transformer.forecastAt Transformer.forecastTo Transformer.invertedForecast Transformer.scales Transformer.shifts Transformer.differenceDeviations Preprocessor.fresh Preprocessor.facts Preprocessor.refusal Preprocessor.timeFed Preprocessor.feed Preprocessor.timescale Preprocessor.timedrift Preprocessor.timeElement Preprocessor.transformedAfter Preprocessor.previous Preprocessor.primed Preprocessor.drainOne Preprocessor.drainAll Preprocessor.drained Preprocessor.held Preprocessor.learned Preprocessor.learnedWith Preprocessor.change Preprocessor.next Preprocessor.deviations Preprocessor.scaleOf Preprocessor.shiftOf Preprocessor.pointOf Preprocessor.invertTime Preprocessor.numbersOf Preprocessor.timesOf Preprocessor.blockFrom Preprocessor.pastValues Preprocessor.expectedValues Preprocessor.anomalyOf Preprocessor.learnedNothing Preprocessor.heldAnswer Preprocessor.learnedAnswer Preprocessor.learnAnswer Preprocessor.turnedBack Preprocessor.statusOf Preprocessor.reply Preprocessor.answer Text.whole Text.float Text.setLine Text.singles Text.chnLine Text.cntLine Text.devLine Text.timLine Text.bufLine Text.bodyLines Text.linesBy Text.render Statistics.statisticsFrom History.seenOf History.internalOf History.bufferOf History.shingled History.inputsOf History.timestampsOf History.newestOf History.countOf History.statisticsOf History.historyState History.historyFacts History.historyRefusal History.complete History.adds History.enter History.entries History.historyText History.historyAnswer History.historyPanel
 trace·all = tt
 
 abbrev s0 : Settings
@@ -476,7 +476,7 @@ answers7 : answers (fresh s7) c7 ≡ (
     learnt (record { written = false; anomaly = none; deviationsOut = ((ofBits binary32 0x0) ∷ (ofBits binary32 0x0) ∷ []); pastOut = ((ofBits binary32 0x0) ∷ []); expectedOut = ((ofBits binary32 0x0) ∷ []) }) ∷
     refused 20 ∷
     learnt (record { written = true; anomaly = none; deviationsOut = ((ofBits binary32 0x0) ∷ (ofBits binary32 0x80000000) ∷ []); pastOut = ((ofBits binary32 0x0) ∷ []); expectedOut = ((ofBits binary32 0x0) ∷ (ofBits binary32 0x0) ∷ (ofBits binary32 0x0) ∷ (ofBits binary32 0x0) ∷ []) }) ∷
-    told (record { valuesSeen = 2; internalTimestamp = 0; ready = false; inputDimensions = 1; shingleSize = 2; dimensions = 4; method = «NORMALIZE_DIFFERENCE»; mode = «TIME_AUGMENTED»; start = 2; panel = 2; deviationsOut = ((ofBits binary32 0x0) ∷ (ofBits binary32 0x80000000) ∷ []) }) ∷
+    told (record { valuesSeen = 2; internalTimestamp = 0; ready = false; inputDimensions = 1; shingleSize = 2; dimensions = 4; method = «NORMALIZE_DIFFERENCE»; mode = «TIME_AUGMENTED»; start = 2; panel = 0; deviationsOut = ((ofBits binary32 0x0) ∷ (ofBits binary32 0x80000000) ∷ []) }) ∷
     refused 20 ∷
     refused 11 ∷ [])
 unfolding trace·all
@@ -530,7 +530,7 @@ history8 = refl
 
 answers8 : answers (fresh s8) c8 ≡ (
     learnt (record { written = false; anomaly = none; deviationsOut = ((ofBits binary32 0x0) ∷ (ofBits binary32 0x0) ∷ []); pastOut = ((ofBits binary32 0x0) ∷ (ofBits binary32 0x0) ∷ []); expectedOut = ((ofBits binary32 0x0) ∷ (ofBits binary32 0x0) ∷ []) }) ∷
-    told (record { valuesSeen = 1; internalTimestamp = 0; ready = false; inputDimensions = 2; shingleSize = 1; dimensions = 2; method = NORMALIZE; mode = STANDARD; start = 2; panel = 1; deviationsOut = ((ofBits binary32 0x0) ∷ (ofBits binary32 0x0) ∷ (ofBits binary32 0x0) ∷ []) }) ∷
+    told (record { valuesSeen = 1; internalTimestamp = 0; ready = false; inputDimensions = 2; shingleSize = 1; dimensions = 2; method = NORMALIZE; mode = STANDARD; start = 2; panel = 0; deviationsOut = ((ofBits binary32 0x0) ∷ (ofBits binary32 0x0) ∷ (ofBits binary32 0x0) ∷ []) }) ∷
     learnt (record { written = true; anomaly = none; deviationsOut = ((ofBits binary32 0x0) ∷ (ofBits binary32 0x0) ∷ []); pastOut = ((ofBits binary32 0x0) ∷ (ofBits binary32 0x0) ∷ []); expectedOut = ((ofBits binary32 0x0) ∷ (ofBits binary32 0x0) ∷ []) }) ∷
     learnt (record { written = true; anomaly = none; deviationsOut = ((ofBits binary32 0x0) ∷ (ofBits binary32 0x0) ∷ []); pastOut = ((ofBits binary32 0x0) ∷ (ofBits binary32 0x0) ∷ (ofBits binary32 0x0) ∷ (ofBits binary32 0x0) ∷ (ofBits binary32 0x0) ∷ []); expectedOut = ((ofBits binary32 0x0) ∷ (ofBits binary32 0x0) ∷ (ofBits binary32 0x0) ∷ (ofBits binary32 0x0) ∷ []) }) ∷
     turned (record { forecast = (ranges ((ofBits binary32 0x7f800000) ∷ (ofBits binary32 0x424d0000) ∷ []) ((ofBits binary32 0x7f800000) ∷ (ofBits binary32 0x42550000) ∷ []) ((ofBits binary32 0x7f800000) ∷ (ofBits binary32 0x423d0000) ∷ [])); valuesOut = (ranges (replicate 2 (ofBits binary32 0)) (replicate 2 (ofBits binary32 0)) (replicate 2 (ofBits binary32 0))); timesOut = (ranges (replicate 1 (ofBits binary32 0)) (replicate 1 (ofBits binary32 0)) (replicate 1 (ofBits binary32 0))) }) ∷ [])
@@ -772,7 +772,7 @@ answers12 : answers (fresh s12) c12 ≡ (
     refused 10 ∷
     wrote ((ofBits binary32 0x0) ∷ (ofBits binary32 0x0) ∷ (ofBits binary32 0x0) ∷ (ofBits binary32 0x0) ∷ (ofBits binary32 0x0) ∷ []) ∷
     wrote ((ofBits binary32 0x0) ∷ (ofBits binary32 0x0) ∷ []) ∷
-    told (record { valuesSeen = 2; internalTimestamp = 0; ready = false; inputDimensions = 1; shingleSize = 3; dimensions = 6; method = «NORMALIZE_DIFFERENCE»; mode = «TIME_AUGMENTED»; start = 2; panel = 2; deviationsOut = ((ofBits binary32 0x0) ∷ (ofBits binary32 0x80000000) ∷ (ofBits binary32 0x0) ∷ []) }) ∷
+    told (record { valuesSeen = 2; internalTimestamp = 0; ready = false; inputDimensions = 1; shingleSize = 3; dimensions = 6; method = «NORMALIZE_DIFFERENCE»; mode = «TIME_AUGMENTED»; start = 2; panel = 0; deviationsOut = ((ofBits binary32 0x0) ∷ (ofBits binary32 0x80000000) ∷ (ofBits binary32 0x0) ∷ []) }) ∷
     refused 13 ∷
     refused 13 ∷ [])
 unfolding trace·all
@@ -968,7 +968,7 @@ answers16 : answers (fresh s16) c16 ≡ (
     refused 20 ∷
     wrote ((ofBits binary32 0x0) ∷ (ofBits binary32 0x0) ∷ (ofBits binary32 0x0) ∷ []) ∷
     learnt (record { written = false; anomaly = none; deviationsOut = ((ofBits binary32 0x0) ∷ (ofBits binary32 0x0) ∷ (ofBits binary32 0x0) ∷ (ofBits binary32 0x0) ∷ (ofBits binary32 0x0) ∷ []); pastOut = ((ofBits binary32 0x0) ∷ (ofBits binary32 0x0) ∷ []); expectedOut = ((ofBits binary32 0x0) ∷ (ofBits binary32 0x0) ∷ (ofBits binary32 0x0) ∷ []) }) ∷
-    told (record { valuesSeen = 1; internalTimestamp = 0; ready = false; inputDimensions = 2; shingleSize = 3; dimensions = 9; method = «NORMALIZE_DIFFERENCE»; mode = «TIME_AUGMENTED»; start = 2; panel = 1; deviationsOut = ((ofBits binary32 0x0) ∷ (ofBits binary32 0x0) ∷ (ofBits binary32 0x80000000) ∷ []) }) ∷
+    told (record { valuesSeen = 1; internalTimestamp = 0; ready = false; inputDimensions = 2; shingleSize = 3; dimensions = 9; method = «NORMALIZE_DIFFERENCE»; mode = «TIME_AUGMENTED»; start = 2; panel = 0; deviationsOut = ((ofBits binary32 0x0) ∷ (ofBits binary32 0x0) ∷ (ofBits binary32 0x80000000) ∷ []) }) ∷
     learnt (record { written = true; anomaly = none; deviationsOut = ((ofBits binary32 0x0) ∷ (ofBits binary32 0x0) ∷ (ofBits binary32 0x80000000) ∷ []); pastOut = ((ofBits binary32 0x0) ∷ (ofBits binary32 0x0) ∷ []); expectedOut = ([]) }) ∷
     learnt (record { written = true; anomaly = none; deviationsOut = ((ofBits binary32 0x0) ∷ (ofBits binary32 0x0) ∷ (ofBits binary32 0x80000000) ∷ []); pastOut = ((ofBits binary32 0x0) ∷ (ofBits binary32 0x0) ∷ []); expectedOut = ((ofBits binary32 0x0) ∷ (ofBits binary32 0x0) ∷ []) }) ∷
     wrote ((ofBits binary32 0x0) ∷ (ofBits binary32 0x3dcccccd) ∷ (ofBits binary32 0xbf000000) ∷ []) ∷
@@ -1032,11 +1032,11 @@ answers17 : answers (fresh s17) c17 ≡ (
     refused 20 ∷
     done ∷
     wrote ((ofBits binary32 0xc0c80000) ∷ (ofBits binary32 0x41e80000) ∷ (ofBits binary32 0x41a00000) ∷ []) ∷
-    told (record { valuesSeen = 1; internalTimestamp = 1; ready = true; inputDimensions = 2; shingleSize = 1; dimensions = 3; method = «NORMALIZE_DIFFERENCE»; mode = «TIME_AUGMENTED»; start = 0; panel = 1; deviationsOut = ((ofBits binary32 0x0) ∷ (ofBits binary32 0x0) ∷ (ofBits binary32 0x0) ∷ (ofBits binary32 0x0) ∷ (ofBits binary32 0x0) ∷ (ofBits binary32 0x0) ∷ []) }) ∷
+    told (record { valuesSeen = 1; internalTimestamp = 1; ready = true; inputDimensions = 2; shingleSize = 1; dimensions = 3; method = «NORMALIZE_DIFFERENCE»; mode = «TIME_AUGMENTED»; start = 0; panel = 0; deviationsOut = ((ofBits binary32 0x0) ∷ (ofBits binary32 0x0) ∷ (ofBits binary32 0x0) ∷ (ofBits binary32 0x0) ∷ (ofBits binary32 0x0) ∷ (ofBits binary32 0x0) ∷ []) }) ∷
     refused 13 ∷
-    told (record { valuesSeen = 1; internalTimestamp = 1; ready = true; inputDimensions = 2; shingleSize = 1; dimensions = 3; method = «NORMALIZE_DIFFERENCE»; mode = «TIME_AUGMENTED»; start = 0; panel = 1; deviationsOut = ((ofBits binary32 0x0) ∷ (ofBits binary32 0x0) ∷ (ofBits binary32 0x0) ∷ []) }) ∷
+    told (record { valuesSeen = 1; internalTimestamp = 1; ready = true; inputDimensions = 2; shingleSize = 1; dimensions = 3; method = «NORMALIZE_DIFFERENCE»; mode = «TIME_AUGMENTED»; start = 0; panel = 0; deviationsOut = ((ofBits binary32 0x0) ∷ (ofBits binary32 0x0) ∷ (ofBits binary32 0x0) ∷ []) }) ∷
     learnt (record { written = true; anomaly = some (record { pastTimestamp = 58; likelihood = (ofBits binary32 0x3f800000) }); deviationsOut = ((ofBits binary32 0x0) ∷ (ofBits binary32 0x0) ∷ (ofBits binary32 0x0) ∷ (ofBits binary32 0x0) ∷ (ofBits binary32 0x0) ∷ []); pastOut = ((ofBits binary32 0x41ae0000) ∷ (ofBits binary32 0x42030000) ∷ []); expectedOut = ((ofBits binary32 0x420d0000) ∷ (ofBits binary32 0x40b80000) ∷ (ofBits binary32 0x0) ∷ []) }) ∷
-    told (record { valuesSeen = 2; internalTimestamp = 2; ready = true; inputDimensions = 2; shingleSize = 1; dimensions = 3; method = «NORMALIZE_DIFFERENCE»; mode = «TIME_AUGMENTED»; start = 0; panel = 2; deviationsOut = ((ofBits binary32 0x0) ∷ (ofBits binary32 0x0) ∷ (ofBits binary32 0x0) ∷ []) }) ∷
+    told (record { valuesSeen = 2; internalTimestamp = 2; ready = true; inputDimensions = 2; shingleSize = 1; dimensions = 3; method = «NORMALIZE_DIFFERENCE»; mode = «TIME_AUGMENTED»; start = 0; panel = 0; deviationsOut = ((ofBits binary32 0x0) ∷ (ofBits binary32 0x0) ∷ (ofBits binary32 0x0) ∷ []) }) ∷
     learnt (record { written = true; anomaly = none; deviationsOut = ((ofBits binary32 0x0) ∷ (ofBits binary32 0x0) ∷ (ofBits binary32 0x0) ∷ []); pastOut = ([]); expectedOut = ((ofBits binary32 0x0) ∷ (ofBits binary32 0x0) ∷ []) }) ∷
     refused 11 ∷ [])
 unfolding trace·all

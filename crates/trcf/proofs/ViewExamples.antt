@@ -12,8 +12,8 @@ use Rattle.trcf.specs.Lists.{shiftIn, overwrite, lastN}
 use Rattle.trcf.specs.Transformer.{zero32, one32}
 use Rattle.trcf.specs.Settings.{Settings, settingsRow, allOne, block, dimension, waiting}
 use Rattle.trcf.specs.Calls.{Call, postProcess, drain, scale, rows, table, finite, due, drainFull, newest, wrongLength, waitingShort, learnFull, learnShort, outside}
-use Rattle.trcf.specs.Preprocessor.{fresh, facts, change, held, drained, drainAll, drainOne, primed, previous}
-use Rattle.trcf.specs.View.{Lent, lent, settingsFrom, view, laid, headRow, lentShort, misfit, shortRow, lentRow, rowOf, headAfter, lentAfter, noHead, buildRow, buildOf, drainOf, learnCall, Outcome}
+use Rattle.trcf.specs.Preprocessor.{fresh, facts, change, held, drained, drainAll, drainOne, primed, previous, panelOf}
+use Rattle.trcf.specs.View.{Lent, lent, settingsFrom, view, alone, laid, headRow, lentShort, misfit, shortRow, lentRow, rowOf, headAfter, lentAfter, noHead, buildRow, buildOf, drainOf, learnCall, Outcome}
 use Rattle.trcf.specs.declared.types.TransformMethod.the-variants.{NORMALIZE}
 use Rattle.trcf.specs.declared.types.ForestMode.the-variants.{STANDARD}
 use Rattle.trcf.specs.declared.head.Preprocessor.{Preprocessor}
@@ -67,6 +67,11 @@ example-inputs = refl
 example-times : drainOf head₂ lent₂ .lent .previousTimestamps ≡ 0 ∷ 1 ∷ 1 ∷ 2 ∷ 7 ∷ []
 unfolding all first head₁ lent₁ head₂ lent₂
 example-times = refl
+
+-- the panel: readings that wait are not on it, and a drain feeds them; `values_seen` is 2 before it and after it
+example-panel : panelOf (view head₂ lent₂) ∷ panelOf (alone (drainOf head₂ lent₂ .head)) ∷ [] ≡ 0 ∷ 2 ∷ []
+unfolding all first head₁ lent₁ head₂ lent₂
+example-panel = refl
 
 -- a second drain is refused, and so are a falling time, a head that no build made and a lent list that is too short
 example-twice : rowOf (drainOf head₂ lent₂ .head) (drainOf head₂ lent₂ .lent) drain ≡ 15

@@ -414,7 +414,11 @@ turnedBack w c =
       timesOut = c .timesOut;
     })
 
--- "Ready means internal ≥ k." The panel number is `values_seen`.
+-- The number on the panel: "The trade now reads the panel as readings fed to the statistics, so it shows count." (request 102)
+abbrev pub panelOf : State → ℕ
+panelOf w = w .count
+
+-- "Ready means internal ≥ k."
 unfoldable pub statusOf : State → List Float → Status
 statusOf w out =
     record {
@@ -427,7 +431,7 @@ statusOf w out =
       method = w .settings .method;
       mode = w .settings .mode;
       start = w .settings .start;
-      panel = w .valuesSeen;
+      panel = panelOf w;
       deviationsOut = over out (deviations w);
     }
 

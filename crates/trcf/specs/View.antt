@@ -15,7 +15,7 @@ use Rattle.common.specs.Lent.{over}
 use Rattle.trcf.specs.Transformer.{zero32, one32, inverted}
 use Rattle.trcf.specs.Settings.{Settings, transformer, settingsRow, block, dimension, waiting}
 use Rattle.trcf.specs.Calls.{Learn, Call, shingledPoint, postProcess, drain, transform, invertExtrapolation, scale, shift, status, Forecast, rows, seenLimit, finite, given}
-use Rattle.trcf.specs.Preprocessor.{State, Answer, refused, absent, done, wrote, learnt, turned, told, Learned, Status, Anomaly, Reading, reading, feed, previous, deviations, blockFrom, statisticsLength, fresh, facts, change, reply, accepted}
+use Rattle.trcf.specs.Preprocessor.{State, Answer, refused, absent, done, wrote, learnt, turned, told, Learned, Status, Anomaly, Reading, reading, feed, previous, deviations, blockFrom, statisticsLength, fresh, facts, change, panelOf, reply, accepted}
 use Rattle.trcf.specs.declared.types.TransformMethod.the-variants.{NONE}
 use Rattle.trcf.specs.declared.types.ForestMode.the-variants.{STANDARD}
 use Rattle.trcf.specs.declared.transformer.WeightedTransformer.{WeightedTransformer}
@@ -210,6 +210,10 @@ holding h st x ts =
       initialTimestamps = [];
     }
 
+-- the state of a head alone, for the numbers that stand in it
+abbrev pub alone : Preprocessor → State
+alone h = holding h [] [] []
+
 -- the i-th waiting reading, out of the flat lists
 abbrev pub readingAt : ℕ → List Float → List ℕ → ℕ → Reading
 readingAt d v ts i = reading (take d (drop (i * d) v)) (getD ts i 0)
@@ -385,7 +389,7 @@ untold h out =
       method = h .transformer .«transform_method»;
       mode = h .«forest_mode»;
       start = h .«start_normalization»;
-      panel = h .«values_seen»;
+      panel = panelOf (alone h);
       deviationsOut = out;
     }
 

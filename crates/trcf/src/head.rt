@@ -73,7 +73,7 @@ pub struct StatusAnswer {
     pub transform_method: TransformMethod,
     pub forest_mode: ForestMode,
     pub start_normalization: usize,
-    pub panel: usize,
+    pub panel: u64,
 }
 
 // The largest values_seen and internal_timestamp.

@@ -13,7 +13,8 @@ use trcf_rows::rows::write_row;
 ghost use mathlib.Core.Path.{_≡_};
 ghost use lib.Dec.{leb};
 ghost use Rattle.trcf.specs.Calls.{transform, scale, shift, status};
-ghost use Rattle.trcf.specs.View.{lent, written, writeOf, statusGiven, statusAfter};
+ghost use Rattle.trcf.specs.Preprocessor.{panelOf};
+ghost use Rattle.trcf.specs.View.{alone, lent, written, writeOf, statusGiven, statusAfter};
 
 pub fn transform(
     head: Preprocessor,
@@ -169,11 +170,12 @@ pub fn values_seen(head: Preprocessor) -> usize
     head.values_seen
 }
 
-// The number on the panel.
-pub fn panel(head: Preprocessor) -> usize
-    ensures { λ r. ⌜ r ≡ head .«values_seen» ⌝ }
+// The number on the panel: how many readings the statistics were fed.
+pub fn panel(head: Preprocessor) -> u64
+    ensures { λ r. ⌜ r ≡ panelOf (alone head) ⌝ }
 {
-    head.values_seen
+    let t = head.transformer;
+    t.count
 }
 
 pub fn internal_timestamp(head: Preprocessor) -> usize

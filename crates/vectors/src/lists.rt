@@ -147,7 +147,7 @@ fn expect_status(line: &[u8], c: Cursor, s: StatusAnswer) -> Cursor {
     let c5 = expect_whole(line, c4, s.shingle_size as u64);
     let c6 = expect_whole(line, c5, s.dimensions as u64);
     let c7 = expect_whole(line, c6, s.start_normalization as u64);
-    also(c7, s.panel == s.values_seen)
+    expect_whole(line, c7, s.panel)
 }
 
 fn status(

@@ -1,4 +1,4 @@
-//! Compares the Rust behind document 01's rows with the history sheet, on random lists of calls: refusals and text at every place.
+//! Compares the Rust behind document 01's rows with the history sheet, on random lists of calls: refusals, text and panel at every place.
 //! Usage: crosscheck SEED LISTS
 use oracle::calls::{Answer, Call, Settings, DIFFERENCE, NORMALIZE, NORMALIZE_DIFFERENCE};
 use oracle::common::rangevector::RangeVector;
@@ -19,6 +19,9 @@ struct Met {
     differences: u64,
     built: [u64; 10],
     codes: u64,
+    /// Places whose panel was compared, and those among them where it is below values_seen.
+    panels: u64,
+    lower: u64,
 }
 
 /// The row that the Rust's own message stands for.
@@ -105,6 +108,14 @@ fn run_list(seed: u64, list: u64, met: &mut Met) {
             difference(met, list, place, &format!("text\n{text}\n---\n{}", history.text()), &s, &calls);
             return;
         }
+        let asked = reference.clone().call(&Call::Status { out: s.width() });
+        let Answer::Status { panel, .. } = asked else { panic!("status with room is not refused") };
+        if panel != history.panel() {
+            difference(met, list, place, &format!("panel {panel} and {}", history.panel()), &s, &calls);
+            return;
+        }
+        met.panels += 1;
+        met.lower += (panel < reference.values_seen()) as u64;
         if place as u64 == length {
             break;
         }
@@ -145,6 +156,7 @@ fn main() {
     println!("accepted {}; refused by row {:?}", met.rows[0], (10..=20).map(|i| (i, met.rows[i])).collect::<Vec<_>>());
     println!("builds by row {:?}; row 5 by the codes alone, or before a later row {}", met.built, met.codes);
     println!("drained {}, lists stranded {}, lists past stop {}", met.drained, met.stranded, met.stopped);
+    println!("panels {}, below values_seen {}", met.panels, met.lower);
     println!("differences {}", met.differences);
     std::process::exit((met.differences > 0) as i32);
 }

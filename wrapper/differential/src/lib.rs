@@ -164,7 +164,7 @@ fn status(p: &Preprocessor, out: usize, s: &Given) -> Result<Answer, String> {
         return refused(refusal, &[&output], &[]);
     }
     let told = || -> Result<Answer, Refusal> {
-        assert_eq!((p.panel()?, p.transformation_method()?, p.forest_mode()?), (p.values_seen()?, s.method as u64, s.timed() as u64));
+        assert_eq!((p.transformation_method()?, p.forest_mode()?), (s.method as u64, s.timed() as u64));
         Ok(Answer::Status {
             values_seen: p.values_seen()?,
             internal: p.internal_timestamp()?,
@@ -173,6 +173,7 @@ fn status(p: &Preprocessor, out: usize, s: &Given) -> Result<Answer, String> {
             k: p.shingle_size()?,
             dimension: p.get_dimension()?,
             start: p.start_normalization()?,
+            panel: p.panel()?,
             deviations: all32(&output[..s.width()]),
         })
     };
