@@ -2,9 +2,9 @@
 use crate::answer::flag_of;
 use crate::codes::tell_codes;
 use crate::head::read_head;
-use crate::head::used;
 use crate::words::method_number;
 use crate::words::mode_number;
+use trcf_rows::rows::used;
 use trcf::head::get_dimension;
 use trcf_calls::queries::forest_mode;
 use trcf_calls::queries::input_dimensions;

@@ -1,4 +1,4 @@
--- `snapshot_save::save::save` meets its contract. Assumes nothing.
+-- `snapshot_save::save::save_held` meets its contract. Assumes nothing.
 use Rattle.snapshot.proofs.SaveLaws.{narrow-past, wide-of, held-of, few, few-wide, few-values, saved-not, saved-is}
 use Rattle.trcf.specs.View.{lent}
 use Rattle.trcf.specs.Types.{augments}
@@ -9,8 +9,8 @@ use native.Mathlib.Omega.{arith}
 use native.Mathlib.Nat.{le-of-eq}
 use Prim.Native.Nat.{ℕ, _+_, _*_, _≤_}
 use borrow.Author.Needs.{needs}
-use Rattle.snapshot_save.proofs.save.save.Statement.{statement}
-use Rattle.snapshot_save.proofs.save.save.Tie as tie
+use Rattle.snapshot_save.proofs.save.save_held.Statement.{statement}
+use Rattle.snapshot_save.proofs.save.save_held.Tie as tie
 
 time-width-requires : tie.Need-time-width-requires
 time-width-requires c κs = search needs
@@ -225,8 +225,8 @@ returns-2 c =
     let o : w ≤ 1 = wide-of (augments (h .«forest_mode»)) w (c .before .before .before .before .before .before .before .before .before .before .before .before .time-width .ensures) in
     saved-is h (lent (a .statistics .now) (a .last-shingled-input .now) (a .last-shingled-point .now) (a .previous-timestamps .now) (a .initial-values .now) (a .initial-timestamps .now)) w (c .before .before .before .before .before .before .before .before .before .before .before .before .time-width .ensures) (a .out .now) _ (sym (narrow-past (c .before .before .before .before .before .before .before .before .before .before .before .is-past .ensures) o) ∙ c .before .before .before .before .before .before .before .before .before .before .if1 .left) (c .before .before .save-parts .ensures)
 
-pub save-spec : {M : Type 1} → statement M
-save-spec =
+pub save-held-spec : {M : Type 1} → statement M
+save-held-spec =
     tie.close
     (tie.spec
     time-width-requires
