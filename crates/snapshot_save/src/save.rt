@@ -251,6 +251,13 @@ fn save_parts(
     Saved { row: 0, length: l }
 }
 
+// Whether a time stands where none was counted.
+fn is_uncounted(internal: usize, times: &[u64]) -> bool
+    ensures { λ r. ⌜ r ≡ eqb internal 0 && not (zeros (now (times .entry))) ⌝ }
+{
+    if internal == 0 { !all_zero(times) } else { false }
+}
+
 // Whether times and initial values are not such as a text has.
 fn is_unformed(internal: usize, times: &[u64], values: &[f32], initial: &[u64]) -> bool
     ensures { λ r. ⌜ r ≡ not (climbs 0 (now (times .entry))) || ((eqb internal 0 && not (zeros (now (times .entry)))) || (not (finite (now (values .entry))) || not (climbs 0 (now (initial .entry))))) ⌝ }
@@ -258,10 +265,8 @@ fn is_unformed(internal: usize, times: &[u64], values: &[f32], initial: &[u64]) 
     if !none_falls(times) {
         return true;
     }
-    if internal == 0 {
-        if !all_zero(times) {
-            return true;
-        }
+    if is_uncounted(internal, times) {
+        return true;
     }
     if !all_finite(values) {
         return true;

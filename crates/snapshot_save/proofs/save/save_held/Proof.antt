@@ -1,6 +1,7 @@
 -- `snapshot_save::save::save_held` meets its contract. Assumes nothing.
-use Rattle.snapshot.proofs.SaveLaws.{narrow-past, wide-of, held-of, few, few-wide, few-values, saved-not, saved-is}
-use Rattle.trcf.specs.View.{lent}
+use Rattle.snapshot.proofs.SaveLaws.{narrow-past, wide-of, held-of, few, few-wide, few-values, saved-not, saved-unformed, saved-is}
+use Rattle.trcf.specs.View.{lent, view}
+use Rattle.snapshot.specs.Save.{unformed}
 use Rattle.trcf.specs.Types.{augments}
 use lib.Seq.{length-take-le}
 use lib.ListN.{length}
@@ -185,8 +186,24 @@ slice-aggregate-us c =
     let H = held-of d k w n (length (a .statistics .now)) (length (a .last-shingled-input .now)) (length (a .last-shingled-point .now)) (length (a .previous-timestamps .now)) (length (a .initial-values .now)) (length (a .initial-timestamps .now)) (sym (narrow-past (c .before .before .before .before .before .before .before .is-past .ensures) o) ∙ c .before .before .before .before .before .before .if1 .left) in
     sym (length-take-le (n) (a .initial-timestamps .now) (H .in-initial))
 
+is-unformed-requires : tie.Need-is-unformed-requires
+is-unformed-requires c κs = search needs
+
+returns-2 : tie.Need-returns-2
+unfolding unformed view
+returns-2 c =
+    let e = c .before .before in
+    let f = e .before .before .before .before .before .before in
+    let a = f .before .before .before .before .before .before .before .before .before .before .before .args in
+    let h = a .head in
+    let w = f .before .before .time-width .result in
+    let o : w ≤ 1 = wide-of (augments (h .«forest_mode»)) w (f .before .before .time-width .ensures) in
+    let l = lent (a .statistics .now) (a .last-shingled-input .now) (a .last-shingled-point .now) (a .previous-timestamps .now) (a .initial-values .now) (a .initial-timestamps .now) in
+    saved-unformed h l w (f .before .before .time-width .ensures) (a .out .now) (sym (narrow-past (f .before .is-past .ensures) o) ∙ f .if1 .left) (sym (c .before .is-unformed .ensures) ∙ c .if2 .taken)
+
 save-parts-requires : tie.Need-save-parts-requires
-save-parts-requires c κs =
+save-parts-requires e κs =
+    let c = e .before .before in
     let a = c .before .before .before .before .before .before .before .before .before .before .before .before .before .before .before .before .before .before .args in
     let h = a .head in
     let d = h .transformer .«input_length» in
@@ -214,16 +231,19 @@ save-parts-requires c κs =
 same-length : tie.Need-same-length
 same-length c = search needs
 
-returns-2 : tie.Need-returns-2
-returns-2 c =
-    let a = c .before .before .before .before .before .before .before .before .before .before .before .before .before .before .before .before .before .before .before .before .before .args in
+returns-3 : tie.Need-returns-3
+unfolding unformed view
+returns-3 c =
+    let g = c .before .before .before .before in
+    let e = g .before .before in
+    let f = e .before .before .before .before .before .before in
+    let a = f .before .before .before .before .before .before .before .before .before .before .before .args in
     let h = a .head in
-    let d = h .transformer .«input_length» in
-    let k = h .«shingle_size» in
-    let n = h .«initial_len» in
-    let w = c .before .before .before .before .before .before .before .before .before .before .before .before .time-width .result in
-    let o : w ≤ 1 = wide-of (augments (h .«forest_mode»)) w (c .before .before .before .before .before .before .before .before .before .before .before .before .time-width .ensures) in
-    saved-is h (lent (a .statistics .now) (a .last-shingled-input .now) (a .last-shingled-point .now) (a .previous-timestamps .now) (a .initial-values .now) (a .initial-timestamps .now)) w (c .before .before .before .before .before .before .before .before .before .before .before .before .time-width .ensures) (a .out .now) _ (sym (narrow-past (c .before .before .before .before .before .before .before .before .before .before .before .is-past .ensures) o) ∙ c .before .before .before .before .before .before .before .before .before .before .if1 .left) (c .before .before .save-parts .ensures)
+    let w = f .before .before .time-width .result in
+    let o : w ≤ 1 = wide-of (augments (h .«forest_mode»)) w (f .before .before .time-width .ensures) in
+    let l = lent (a .statistics .now) (a .last-shingled-input .now) (a .last-shingled-point .now) (a .previous-timestamps .now) (a .initial-values .now) (a .initial-timestamps .now) in
+    saved-is h l w (f .before .before .time-width .ensures) (a .out .now) _ (sym (narrow-past (f .before .is-past .ensures) o) ∙ f .if1 .left)
+    (sym (g .before .is-unformed .ensures) ∙ g .if2 .left) (c .before .before .save-parts .ensures)
 
 pub save-held-spec : {M : Type 1} → statement M
 save-held-spec =
@@ -245,6 +265,8 @@ save-held-spec =
     mul-v
     slice-aggregate-v
     slice-aggregate-us
+    is-unformed-requires
+    returns-2
     save-parts-requires
     same-length
-    returns-2)
+    returns-3)
