@@ -36,3 +36,4 @@ pub mod ReadRuns
 pub mod RestoreLaws
 pub mod CodeLaws
 pub mod RoundTrip
+pub mod SaveSamples

@@ -255,7 +255,11 @@ fn save_parts(
 fn is_uncounted(internal: usize, times: &[u64]) -> bool
     ensures { λ r. ⌜ r ≡ eqb internal 0 && not (zeros (now (times .entry))) ⌝ }
 {
-    if internal == 0 { !all_zero(times) } else { false }
+    if internal == 0 {
+        !all_zero(times)
+    } else {
+        false
+    }
 }
 
 // Whether times and initial values are not such as a text has.
@@ -337,7 +341,10 @@ pub fn save(
 {
     let row = head_settings_row(head);
     if row != 0 {
-        return Saved { row: row, length: 0 };
+        return Saved {
+            row: row,
+            length: 0,
+        };
     }
     if is_misfit(head) {
         return Saved { row: 19, length: 0 };

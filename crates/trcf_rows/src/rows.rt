@@ -171,11 +171,7 @@ fn is_left(head: Preprocessor) -> bool
     if n != start {
         return true;
     }
-    if seen == start {
-        internal != 0
-    } else {
-        false
-    }
+    if seen == start { internal != 0 } else { false }
 }
 
 // Whether the head's counters are such as no preprocessor has.
@@ -199,11 +195,7 @@ pub fn is_misfit(head: Preprocessor) -> bool
     if !is_waiting(head) {
         return is_left(head);
     }
-    if n == seen {
-        internal != 0
-    } else {
-        true
-    }
+    if n == seen { internal != 0 } else { true }
 }
 
 // Every row of a head that comes from outside.
