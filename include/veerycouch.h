@@ -42,7 +42,7 @@
  *   28 to 43 codes, the first d of them in use
  * In a word that holds a float the low 32 bits count. Every bit pattern of a not-a-number is read as not-a-number, and written as 7fc00000 (float) or
  * 7ff8000000000000 (double). A damaged head is refused as `build` refuses its settings (rows 1 to 9, 19); by 19 too where one of words 28 to 43 is
- * above 65535; counters that do not fit the settings, by 20. A call writes words 8 to 11 alone; build and restore write all 44.
+ * above 65535; counters that no preprocessor of these settings can have, by 20, by every call that takes a head. A call writes words 8 to 11 alone; build and restore write all 44.
  *
  * THE CALLER. Each pointer must be aligned for its element and valid for as many elements as its length says; with length 0 it must still not be
  * NULL. A pointer to a single number must be valid. What a call writes may not overlap anything else that it is handed. Two calls may run at the
@@ -134,7 +134,9 @@ uint64_t veerycouch_invert_extrapolation(const uint64_t *head, size_t head_len, 
                                          size_t upper_out_len, float *lower_out, size_t lower_out_len, double *times_out, size_t times_out_len,
                                          double *times_upper_out, size_t times_upper_out_len, double *times_lower_out, size_t times_lower_out_len);
 
-/* The text of the preprocessor: *length bytes at the start of output, never more than VEERYCOUCH_TEXT_MAX, without a closing 0. Row 20. */
+/* The text of the preprocessor: *length bytes at the start of output, never more than VEERYCOUCH_TEXT_MAX, without a closing 0. What restore could not
+ * take up again is not put away: 19 where times or waiting readings have been damaged (times that fall, a waiting reading that is not finite). Rows 19,
+ * 20. */
 uint64_t veerycouch_save(const uint64_t *head, size_t head_len, VEERYCOUCH_PARTS(const, const), uint64_t *length, uint8_t *output,
                          size_t output_len);
 

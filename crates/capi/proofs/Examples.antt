@@ -6,8 +6,8 @@ use lib.ListN.{take, set}
 use lib.Ieee.{nan, binary64, ofBits, toBits, le}
 use Rattle.common.specs.Deviation.{outsideUnit}
 use Rattle.trcf.specs.Transformer.{one32}
-use Rattle.trcf.specs.Settings.{settingsRow, allOne}
-use Rattle.trcf.specs.View.{headFrom}
+use Rattle.trcf.specs.Settings.{settingsRow, allOne, waiting}
+use Rattle.trcf.specs.View.{headFrom, misfit, outsideRow}
 use Rattle.trcf.specs.declared.types.TransformMethod.the-variants.{NORMALIZE}
 use Rattle.trcf.specs.declared.types.ForestMode.the-variants.{«TIME_AUGMENTED»}
 use Rattle.trcf.specs.declared.head.Preprocessor.{Preprocessor}
@@ -16,7 +16,7 @@ use Rattle.capi.specs.Head.{headOf, numbersOf, frontOf, wordsOf, wordsRo
 use Rattle.capi.specs.Calls.{onHead, codesGot, codesTold, codesAt}
 
 all : Unit {0}
-unfolding wordsOf frontOf numbersOf headOf wordsRow onHead codesTold codesAt settingsRow allOne outsideUnit over toBits ofBits le
+unfolding wordsOf frontOf numbersOf headOf wordsRow outsideRow misfit waiting onHead codesTold codesAt settingsRow allOne outsideUnit over toBits ofBits le
 all = tt
 
 abbrev sample : Preprocessor
@@ -48,6 +48,19 @@ example-words = refl
 example-row : wordsRow words ≡ 0
 unfolding all
 example-row = refl
+
+-- counters that no preprocessor has: an internal time while readings wait, another number of waiting readings than were seen, a count past its limit
+example-internal : wordsRow (set words 9 1) ≡ 20
+unfolding all
+example-internal = refl
+
+example-waiting : wordsRow (set words 11 1) ≡ 20
+unfolding all
+example-waiting = refl
+
+example-count : wordsRow (set words 10 0xffff_ffff_ffff_ffff) ≡ 20
+unfolding all
+example-count = refl
 
 -- one word too few; a mode and a method that there is not; STREAMING_IMPUTE; d 0, k 65; a decay of 1.0; start above stop
 example-few : wordsRow (take 43 words) ≡ 20

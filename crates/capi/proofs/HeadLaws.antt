@@ -13,10 +13,9 @@ use borrow.Author.Tests.{lt-ltb, le-ltb}
 use borrow.Rule.Slice.PartMut.{putMid}
 use Rattle.common.specs.Lent.{over}
 use Rattle.trcf.specs.Types.{methodNumber}
-use Rattle.trcf.specs.Settings.{Settings, settingsRow}
 use Rattle.snapshot.specs.Read.{allCodes}
 use Rattle.snapshot.proofs.ReadKinds.{to-codes}
-use Rattle.trcf.specs.View.{settingsOf, orElse, counting}
+use Rattle.trcf.specs.View.{outsideRow, settingsOf, orElse, counting}
 use Rattle.trcf.specs.declared.types.TransformMethod.{TransformMethod}
 use Rattle.trcf.specs.declared.types.TransformMethod.the-variants.{NONE, WEIGHTED, DIFFERENCE, «SUBTRACT_MA», NORMALIZE, «NORMALIZE_DIFFERENCE»}
 use Rattle.trcf.specs.declared.types.ForestMode.{ForestMode}
@@ -104,7 +103,7 @@ long w h = ap (λ (b : Bool). cond b 20 0) (le-ltb (length w) 44 h)
 
 -- behind the row of too few words, and behind the row of the kinds
 abbrev pub kindBehind : List ℕ → ℕ
-kindBehind w = orElse (codesRow (codesIn w)) (settingsRow (settingsOf (headOf w)))
+kindBehind w = orElse (codesRow (codesIn w)) (outsideRow (headOf w))
 
 abbrev pub fewBehind : List ℕ → ℕ
 fewBehind w = orElse (kindRow (getD w 0 0) (getD w 1 0)) (kindBehind w)
@@ -128,13 +127,13 @@ module _ (w : List ℕ) (k : ℕ) (h : 44 ≤ length w) (e : k ≡ kindRow (getD
       ∙ sym (ap (λ (m : ℕ). orElse m (fewBehind w)) (long w h))
 
   pub row-codes : (c : ℕ) → c ≡ codesRow (codesIn w) → (c ≡ 0 → ⊥) → c ≡ wordsRow w
-  row-codes c p n = p ∙ sym (orElse-is (codesRow (codesIn w)) (settingsRow (settingsOf (headOf w))) (λ q. n (p ∙ q))) ∙ past-kinds
+  row-codes c p n = p ∙ sym (orElse-is (codesRow (codesIn w)) (outsideRow (headOf w)) (λ q. n (p ∙ q))) ∙ past-kinds
 
-  pub row-settings : {g : Preprocessor} (c row : ℕ) → c ≡ codesRow (codesIn w) → c ≡ 0 → g ≡ headOf w → row ≡ settingsRow (settingsOf g) → row ≡ wordsRow w
-  row-settings c row p y i q =
+  pub row-outside : {g : Preprocessor} (c row : ℕ) → c ≡ codesRow (codesIn w) → c ≡ 0 → g ≡ headOf w → row ≡ outsideRow g → row ≡ wordsRow w
+  row-outside c row p y i q =
       q
-      ∙ ap (λ (x : Preprocessor). settingsRow (settingsOf x)) i
-      ∙ sym (ap (λ (m : ℕ). orElse m (settingsRow (settingsOf (headOf w)))) (sym p ∙ y))
+      ∙ ap (λ (x : Preprocessor). outsideRow x) i
+      ∙ sym (ap (λ (m : ℕ). orElse m (outsideRow (headOf w))) (sym p ∙ y))
       ∙ past-kinds
 
 -- what row 0 says of the words of the codes
@@ -151,29 +150,6 @@ unfolding headOf
 read-codes {w} {h} r = ap (λ (x : Preprocessor). length (x .codes)) (r .is) ∙ length-take-le 16 (drop 28 w) (omega (arith, length-drop 28 w, r .whole))
 
 -- ---- the settings' row
-
--- the settings of a head with its weights and codes handed beside it
-abbrev pub settingsBy : Preprocessor → List Float → List ℕ → Settings
-settingsBy h v cs =
-    record {
-      mode = h .«forest_mode»;
-      method = h .transformer .«transform_method»;
-      d = h .transformer .«input_length»;
-      k = h .«shingle_size»;
-      start = h .«start_normalization»;
-      stop = h .«stop_normalization»;
-      decay = h .transformer .«transform_decay»;
-      weightTime = h .«weight_time»;
-      weights = v;
-      codes = cs;
-    }
-
-pub settings-by : (h : Preprocessor) (v : List Float) (cs : List ℕ) → v ≡ take (h .transformer .«input_length») (h .transformer .weights)
-    → cs ≡ take (h .transformer .«input_length») (h .codes) → settingsRow (settingsBy h v cs) ≡ settingsRow (settingsOf h)
-settings-by h v cs e f = λ j. settingsRow (settingsBy h (e j) (f j))
-
-pub used-all : {A : Type 0} (d : ℕ) (w : List A) → length w ≡ 16 → 16 < d → take 16 w ≡ take d w
-used-all d w h k = take-all 16 w (omega arith) ∙ sym (take-all d w (omega arith))
 
 -- ---- writing
 
@@ -279,11 +255,11 @@ codes-known h g rest =
     let e : codesIn (wordsOf h ++ rest) ≡ h .codes = ap (λ (x : Preprocessor). x .codes) (head-back h g rest) in
     sym (ap codesRow e ∙ ap (λ (b : Bool). cond b 0 19) (to-codes (h .codes) (g .codesFit)))
 
-pub in-use : (h : Preprocessor) → Held h → settingsRow (settingsOf h) ≡ 0 → (rest : List ℕ) → wordsRow (wordsOf h ++ rest) ≡ 0
+pub in-use : (h : Preprocessor) → Held h → outsideRow h ≡ 0 → (rest : List ℕ) → wordsRow (wordsOf h ++ rest) ≡ 0
 unfolding wordsOf frontOf numbersOf
 in-use h g e rest =
     let w = wordsOf h ++ rest in
-    sym (row-settings w 0 (whole-words h g rest) (kind-known (h .«forest_mode») (h .transformer .«transform_method»)) refl 0 0 (codes-known h g rest) refl (sym (head-back h g rest)) (sym e))
+    sym (row-outside w 0 (whole-words h g rest) (kind-known (h .«forest_mode») (h .transformer .«transform_method»)) refl 0 0 (codes-known h g rest) refl (sym (head-back h g rest)) (sym e))
 
 pub counts-in-words : (h : Preprocessor) (rest : List ℕ) (count seen internal n : ℕ)
     → countsOver (wordsOf h ++ rest) (counting h count seen internal n) ≡ wordsOf (counting h count seen internal n) ++ rest

@@ -7,10 +7,10 @@ use mathlib.Core.Path.{_≡_, refl, sym, ap, _∙_}
 use lib.ListN.{length}
 use lib.Ieee.{Float}
 use Rattle.common.specs.Lent.{over}
-use Rattle.trcf.specs.Settings.{settingsRow, waiting}
+use Rattle.trcf.specs.Settings.{waiting}
 use Rattle.trcf.specs.Calls.{Call, Learn, drain, shingledPoint, postProcess}
 use Rattle.trcf.specs.Preprocessor.{State, Answer, refused, absent, done, wrote, learnt, turned, told, accepted, change, reply, reading, drained, pointOf}
-use Rattle.trcf.specs.View.{Lent, settingsOf, view, counted, rowOf, headAfter, lentAfter, answerOf, drainOf, pointRead, pointAfter, learnRead, learnAfter}
+use Rattle.trcf.specs.View.{outsideRow, Lent, settingsOf, view, counted, rowOf, headAfter, lentAfter, answerOf, drainOf, pointRead, pointAfter, learnRead, learnAfter}
 use Rattle.trcf.specs.declared.head.Preprocessor.{Preprocessor}
 use Rattle.capi.specs.Head.{headOf, wordsOf, countsOver, Held}
 use Rattle.capi.specs.Calls.{flag, Called, called, drainTold, drainAt, pointCalled, pointTold, pointAt, Anomaly, anomaly, learnCalled, anomalyTold, learnTold, learnAt}
@@ -68,7 +68,7 @@ learn-head b k c (told a) = refl
 
 -- ---- the calls that change a preprocessor
 
-module _ (h : Preprocessor) (held : Held h) (good : settingsRow (settingsOf h) ≡ 0) (rest : List ℕ) where
+module _ (h : Preprocessor) (held : Held h) (good : outsideRow h ≡ 0) (rest : List ℕ) where
   pub drain-in-words : (l : Lent) → drainAt (wordsOf h ++ rest) l ≡ called (drainOf h l .row) (wordsOf (drainOf h l .head) ++ rest) (drainOf h l .lent)
   unfolding drainAt drainOf headAfter
   drain-in-words l =

@@ -12,8 +12,8 @@ use lib.ListN.{length, take, drop, getD, set}
 use lib.Ieee.{Float, binary32, binary64, fits, ofBits, toBits}
 use Rattle.trcf.specs.Fit.{All, Fits}
 use Rattle.trcf.specs.Types.{methodNumber}
-use Rattle.trcf.specs.Settings.{Settings, settingsRow, codeMax}
-use Rattle.trcf.specs.View.{settingsOf, orElse}
+use Rattle.trcf.specs.Settings.{Settings, codeMax}
+use Rattle.trcf.specs.View.{outsideRow, settingsOf, orElse}
 use Rattle.trcf.specs.declared.types.TransformMethod.{TransformMethod}
 use Rattle.trcf.specs.declared.types.TransformMethod.the-variants.{NONE, WEIGHTED, DIFFERENCE, «SUBTRACT_MA», NORMALIZE, «NORMALIZE_DIFFERENCE»}
 use Rattle.trcf.specs.declared.types.ForestMode.{ForestMode}
@@ -126,7 +126,7 @@ abbrev pub codesRow : List ℕ → ℕ
 codesRow v = cond (allCodes v) 0 19
 
 unfoldable pub wordsRow : List ℕ → ℕ
-wordsRow w = orElse (shortRow w) (orElse (kindRow (getD w 0 0) (getD w 1 0)) (orElse (codesRow (codesIn w)) (settingsRow (settingsOf (headOf w)))))
+wordsRow w = orElse (shortRow w) (orElse (kindRow (getD w 0 0) (getD w 1 0)) (orElse (codesRow (codesIn w)) (outsideRow (headOf w))))
 
 -- what the row 0 of words says of the head that was read from them
 pub record Read (w : List ℕ) (h : Preprocessor) : Type 0 where

@@ -2,7 +2,6 @@
 use crate::answer::flag_of;
 use crate::codes::tell_codes;
 use crate::head::read_head;
-use crate::head::used;
 use crate::words::method_number;
 use crate::words::mode_number;
 use trcf::head::get_dimension;
@@ -15,6 +14,7 @@ use trcf_calls::queries::shingle_size;
 use trcf_calls::queries::start_normalization;
 use trcf_calls::queries::transformation_method;
 use trcf_calls::queries::values_seen;
+use trcf_rows::rows::used;
 ghost use mathlib.Core.Path.{_≡_};
 ghost use lib.Dec.{leb};
 ghost use Rattle.trcf.specs.Types.{methodNumber};

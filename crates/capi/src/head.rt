@@ -12,10 +12,9 @@ use crate::words::mode_of;
 use crate::words::single_bits;
 use crate::words::single_of;
 use trcf::head::Preprocessor;
-use trcf::head::PreprocessorBuilder;
 use trcf::head::no_head;
 use trcf::transformer::WeightedTransformer;
-use trcf_rows::rows::settings_row;
+use trcf_rows::rows::outside_row;
 ghost use mathlib.Core.Path.{_≡_};
 ghost use mathlib.Core.Bool.{true};
 ghost use mathlib.Core.List.{map};
@@ -24,7 +23,6 @@ ghost use Prim.Native.Nat.{ℕ, _≤_};
 ghost use lib.ListN.{length, take};
 ghost use lib.Ieee.{Float, binary32, toBits};
 ghost use Rattle.common.specs.Lent.{over};
-ghost use Rattle.trcf.specs.Settings.{settingsRow};
 ghost use Rattle.trcf.specs.Preprocessor.{accepted};
 ghost use Rattle.trcf.specs.View.{settingsOf};
 ghost use Rattle.snapshot.specs.Read.{allCodes};
@@ -85,41 +83,6 @@ fn head_of(words: &[u64]) -> Preprocessor
 
 // ---- the row of words
 
-// How many of 16 weights and codes are in use.
-pub(crate) fn used(d: usize) -> usize
-    ensures { λ r. ⌜ r ≤ 16 ⌝ }
-    ensures { λ r. ⌜ ((w : List Float) → length w ≡ 16 → take r w ≡ take d w) ⌝ }
-    ensures { λ r. ⌜ ((w : List ℕ) → length w ≡ 16 → take r w ≡ take d w) ⌝ }
-{
-    if d <= 16 {
-        return d;
-    }
-    16
-}
-
-fn head_row(head: Preprocessor) -> u64
-    ensures { λ r. ⌜ r ≡ settingsRow (settingsOf head) ⌝ }
-{
-    let t = head.transformer;
-    let mode = head.forest_mode;
-    let method = t.transform_method;
-    let weights = t.weights;
-    let codes = head.codes;
-    let d = t.input_length;
-    let n = used(d);
-    let builder = PreprocessorBuilder {
-        forest_mode: mode,
-        transform_method: method,
-        input_dimensions: d,
-        shingle_size: head.shingle_size,
-        start_normalization: head.start_normalization,
-        stop_normalization: head.stop_normalization,
-        transform_decay: t.transform_decay,
-        weight_time: head.weight_time,
-    };
-    settings_row(builder, &weights[..n], &codes[..n])
-}
-
 // The row of the words, 0 for none, and the head that they hold.
 pub(crate) struct Reading {
     pub row: u64,
@@ -151,7 +114,7 @@ pub(crate) fn read_head(words: &[u64]) -> Reading
         };
     }
     let head = head_of(words);
-    let row = head_row(head);
+    let row = outside_row(head);
     Reading {
         row: row,
         head: head,

@@ -24,12 +24,13 @@ use Rattle.trcf.proofs.ViewLaws.{row-is, answer-is, Shaped, view-laid}
 use Rattle.snapshot.specs.Text.{render, TextOf}
 use Rattle.snapshot.specs.Form.{Form}
 use Rattle.snapshot.proofs.Accepted.{rows-of, none-refuses}
-use Rattle.snapshot.specs.Save.{unheld, fitted, saveOf}
+use Rattle.snapshot.specs.Save.{unheld, fitted}
 use Rattle.snapshot.specs.Save as save
 use Rattle.snapshot.specs.Restore as restore
 use Rattle.snapshot.specs.Runs.{Few, HeadFew}
 use Rattle.snapshot.proofs.BodyLaws.{room-of, dimension-is}
 use Rattle.snapshot.proofs.ReadText.{put-away}
+use Rattle.snapshot.proofs.SaveForm.{Savable, saved-fitted, form-savable}
 use Rattle.snapshot.proofs.RoundTrip.{settings-are, shaped-of, few-of, initial-few, past-not, laid-short, restored-as, restored-view}
 use Rattle.restart.specs.History.{historyState, entries, historyText, historyAnswers, historyPanels}
 use Rattle.restart.specs.Statement.{panelTold, panels}
@@ -59,26 +60,33 @@ module _ (s : Settings) (ok : Valid s) where
     unfolding view
     seen-is = ap (λ (x : State). x .valuesSeen) (k .viewed)
 
-    no-misfit : misfit (m .head) ≡ false
-    unfolding misfit
-    no-misfit = go (waiting (settingsOf (m .head)) (m .head .«values_seen»)) refl
-      where
-        few : m .head .«initial_len» ≤ m .head .«start_normalization»
-        few =
-            let a = initial-few w f in
-            let b : w .settings .start ≡ m .head .«start_normalization» = ap (λ (x : Settings). x .start) (e ∙ sym (k .settled)) in
-            omega (arith, a, b, k .counts)
+    unheld-not : unheld (m .head) (m .lent) ≡ false
+    unfolding unheld
+    unheld-not =
+        let h = m .head in
+        let n : h .«initial_len» ≤ h .«start_normalization» = (let a = initial-few w f in let b : w .settings .start ≡ h .«start_normalization» = ap (λ (x : Settings). x .start) (e ∙ sym (k .settled)) in omega (arith, a, b, k .counts)) in
+        let F : HeadFew h = subst (λ (x : Settings). Few (x .d) (x .k) (x .start)) (sym (k .settled)) (few-of s ok) in
+        let r = room-of h (m .lent) (h .«initial_len») F (subst (λ (x : Settings). lentShort x (m .lent) ≡ false) (sym (k .settled)) (k .room)) n in
+        let wide : ℕ = cond (augments (h .«forest_mode»)) 1 0 in
+        past-not (h .transformer .«input_length») (h .«shingle_size») wide (h .«initial_len») _ _ _ _ _ _
+        (record {
+          d-few = r .d-few;
+          k-few = r .k-few;
+          n-few = omega (arith, n, F .start-few);
+          in-statistics = r .in-statistics;
+          in-input = r .in-input;
+          in-point = subst (λ (x : ℕ). x ≤ length (m .lent .lastShingledPoint)) (sym (dimension-is (settingsOf h) wide refl)) (r .in-point);
+          in-times = r .in-times;
+          in-values = r .in-values;
+          in-initial = r .in-initial;
+        })
 
-        go : (b : Bool) → waiting (settingsOf (m .head)) (m .head .«values_seen») ≡ b
-            → ltb (m .head .«start_normalization») (m .head .«initial_len») || (waiting (settingsOf (m .head)) (m .head .«values_seen») && not (eqb (m .head .«initial_len») (m .head .«values_seen»))) ≡ false
-        go false h = rw (le-ltb (m .head .«start_normalization») (m .head .«initial_len») few, h)
-        go true h =
-            let i : waiting (w .settings) (w .valuesSeen) ≡ true = (λ j. waiting ((e ∙ sym (k .settled)) j) (sym seen-is j)) ∙ h in
-            rw (le-ltb (m .head .«start_normalization») (m .head .«initial_len») few, h, eq-eqb (m .head .«initial_len») (m .head .«values_seen») (k .counts ∙ f .whileWaiting i .0 ∙ sym seen-is))
+    savable : Savable (m .head) (m .lent)
+    savable = form-savable (m .head) (m .lent) (subst Form (sym (k .viewed)) f) unheld-not
 
     long : lentRow (m .head) (m .lent) ≡ 0
     unfolding lentRow shortRow
-    long = rw no-misfit (ap (λ (b : Bool). firstOf ((b, 20) ∷ [])) (ap (λ (x : Settings). lentShort x (m .lent)) (k .settled) ∙ k .room))
+    long = rw (savable .counted) (ap (λ (b : Bool). firstOf ((b, 20) ∷ [])) (ap (λ (x : Settings). lentShort x (m .lent)) (k .settled) ∙ k .room))
 
     held-answer : (c : Call) → answerOf (m .head) (m .lent) c ≡ answer w c
     held-answer c = answer-is (m .head) (m .lent) c (sane m w k) long ∙ ap (λ (x : State). answer x c) (k .viewed)
@@ -126,30 +134,8 @@ module _ (s : Settings) (ok : Valid s) where
             let n : w ≡ next w c = rw q in
             subst (λ (x : Held). Holds s x (next w c)) (sym (rw p)) (subst (λ (v : State). Holds s m v) n k)
 
-    unheld-not : unheld (m .head) (m .lent) ≡ false
-    unfolding unheld
-    unheld-not =
-        let h = m .head in
-        let n : h .«initial_len» ≤ h .«start_normalization» = (let a = initial-few w f in let b : w .settings .start ≡ h .«start_normalization» = ap (λ (x : Settings). x .start) (e ∙ sym (k .settled)) in omega (arith, a, b, k .counts)) in
-        let F : HeadFew h = subst (λ (x : Settings). Few (x .d) (x .k) (x .start)) (sym (k .settled)) (few-of s ok) in
-        let r = room-of h (m .lent) (h .«initial_len») F (subst (λ (x : Settings). lentShort x (m .lent) ≡ false) (sym (k .settled)) (k .room)) n in
-        let wide : ℕ = cond (augments (h .«forest_mode»)) 1 0 in
-        past-not (h .transformer .«input_length») (h .«shingle_size») wide (h .«initial_len») _ _ _ _ _ _
-        (record {
-          d-few = r .d-few;
-          k-few = r .k-few;
-          n-few = omega (arith, n, F .start-few);
-          in-statistics = r .in-statistics;
-          in-input = r .in-input;
-          in-point = subst (λ (x : ℕ). x ≤ length (m .lent .lastShingledPoint)) (sym (dimension-is (settingsOf h) wide refl)) (r .in-point);
-          in-times = r .in-times;
-          in-values = r .in-values;
-          in-initial = r .in-initial;
-        })
-
     saved-by : (out : List ℕ) → savedTo m out ≡ fitted (render w) out
-    unfolding saveOf
-    saved-by out = rw unheld-not (ap (λ (x : State). fitted (render x) out) (k .viewed))
+    saved-by out = saved-fitted (m .head) (m .lent) savable out ∙ ap (λ (x : State). fitted (render x) out) (k .viewed)
 
   -- ---- any list of calls
 
@@ -199,11 +185,12 @@ module _ (s : Settings) (ok : Valid s) where
   module _ (l : Lent) (room : lentShort s l ≡ false) where
     new-row : lentRow (headFrom s) l ≡ 0
     unfolding lentRow shortRow misfit
-    new-row = rw (le-ltb (s .start) 0 (omega arith), off (waiting (settingsOf (headFrom s)) 0)) (ap (λ (b : Bool). firstOf ((b, 20) ∷ [])) (ap (λ (x : Settings). lentShort x l) (settings-are s ok) ∙ room))
+    new-row = rw (none (waiting (settingsOf (headFrom s)) 0)) (ap (λ (b : Bool). firstOf ((b, 20) ∷ [])) (ap (λ (x : Settings). lentShort x l) (settings-are s ok) ∙ room))
       where
-        off : (b : Bool) → b && false ≡ false
-        off true = refl
-        off false = refl
+        -- nothing is counted yet, so that nothing is counted wrong
+        none : (b : Bool) → cond b false false ≡ false
+        none true = refl
+        none false = refl
 
     built-as : buildOf s l ≡ outcome 0 (headFrom s) (laid (fresh s) l)
     unfolding buildOf buildRow

@@ -38,14 +38,6 @@ pub codes-pass : (m : ℕ) (l v z : List ℕ) → some (v, z) ≡ chnBy m l → 
 unfolding chnBy
 codes-pass m l v z e = checked-some allCodes (listLine asWhole 99 104 110 m l) (v, z) (sym e) .1
 
--- what owning a head tells of its codes
-pub sixteen-codes : (w : List ℕ) → length (map (λ v. v) w) ≡ 16 → length w ≡ 16
-sixteen-codes w h = sym (same w) ∙ h
-  where
-    same : (l : List ℕ) → length (map (λ v. v) l) ≡ length l
-    same [] = refl
-    same (x ∷ xs) = ap suc (same xs)
-
 -- a list as long as the one that it is laid over
 pub over-all : (w : List ℕ) → length w ≡ 16 → over (replicate 16 0) w ≡ w
 unfolding over

@@ -17,6 +17,7 @@ pub mod LineLaws
 pub mod WriteLaws
 pub mod LineBytes
 pub mod SaveLaws
+pub mod SaveForm
 pub mod SaveRead
 pub mod JudgeLaws
 pub mod JudgeLines
@@ -35,3 +36,4 @@ pub mod ReadRuns
 pub mod RestoreLaws
 pub mod CodeLaws
 pub mod RoundTrip
+pub mod SaveSamples

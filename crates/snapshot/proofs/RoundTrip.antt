@@ -33,7 +33,9 @@ use Rattle.snapshot.proofs.Kept.{text-kept}
 use Rattle.snapshot.proofs.ReadText.{read-sound, read-complete, read-exactly, read-first-bad}
 use Rattle.snapshot.proofs.SaveLaws.{Held}
 use Rattle.snapshot.proofs.BodyLaws.{dimension-is, room-of}
-use Rattle.snapshot.proofs.SaveRead.{saved, saved-read}
+use Rattle.snapshot.specs.Savable.{InMemory, textOf, takenUp, TakenUp, SavedIsTakenUp}
+use Rattle.snapshot.proofs.SaveForm.{Savable, saved-fitted, savable-of, saved-form, form-savable}
+use Rattle.snapshot.proofs.SaveRead.{saved, saved-text, saved-read}
 
 -- ---- a state of the form, and a head for it
 
@@ -140,9 +142,9 @@ module _ (h : Preprocessor) (l : Lent) (out : List ℕ) (held : unheld h l ≡ f
   abbrev pub Again : Outcome
   Again = restoreOf (take (saveOf h l out .length) (saveOf h l out .bytes)) (view h l .settings .codes) l₂
 
-  again-is : Again ≡ outcome 0 0 (counted (headFrom (view h l .settings)) (view h l)) (laid (view h l) l₂)
+  pub again-is : Again ≡ outcome 0 0 (counted (headFrom (view h l .settings)) (view h l)) (laid (view h l) l₂)
   unfolding restoreOf restored
-  again-is = rw (saved-read h l out held room f, same-refl (view h l .settings .codes), room₂)
+  again-is = rw (saved-read h l out (form-savable h l f held) room f, same-refl (view h l .settings .codes), room₂)
 
   pub saved-restored : (Again .row ≡ 0) × (view (Again .head) (Again .lent) ≡ view h l)
   saved-restored = rw again-is (refl, restored-view (render (view h l)) (view h l .settings .codes) l₂ (view h l) f)
@@ -245,10 +247,44 @@ module _ (t cs : List ℕ) (l : Lent) (h : restoreOf t cs l .row ≡ 0) (out : L
       let u : unheld (restoreOf t cs l .head) (restoreOf t cs l .lent) ≡ false = ap (λ (x : Outcome). unheld (x .head) (x .lent)) o ∙ laid-held w (k .form) l (k .room) in
       let n : w .settings .d ≡ length cs = sym (codes-are (w .settings) (k .form .valid)) ∙ ap length (k .agree) in
       let e : render (view (restoreOf t cs l .head) (restoreOf t cs l .lent)) ≡ kept (length cs) t = ap render (k .held) ∙ text-kept t w (k .text) ∙ ap (λ (d : ℕ). kept d t) n in
-      saved (restoreOf t cs l .head) (restoreOf t cs l .lent) out u (subst (λ (x : List ℕ). length x ≤ length out) (sym e) long)
+      saved (restoreOf t cs l .head) (restoreOf t cs l .lent) out (form-savable _ _ (subst Form (sym (k .held)) (k .form)) u) (subst (λ (x : List ℕ). length x ≤ length out) (sym e) long)
       ∙ ap (λ (x : List ℕ). saving.outcome 0 (length x) (over out x)) e
 
   -- "Every other accepted text still returns its bytes."
   pub restored-same : carries t ≡ true → saveOf (restoreOf t cs l .head) (restoreOf t cs l .lent) out ≡ saving.outcome 0 (length t) (over out t)
   unfolding kept
   restored-same c = let e : kept (length cs) t ≡ t = rw c in restored-saved ∙ ap (λ (x : List ℕ). saving.outcome 0 (length x) (over out x)) e
+
+-- ---- what was put away is taken up, of any head and any memory
+
+-- a text that was not refused for want of room had it
+room-for : (t out : List ℕ) → saving.fitted t out .row ≡ 0 → length t ≤ length out
+unfolding saving.fitted
+room-for t out e = go (ltb (length out) (length t)) refl
+  where
+    go : (b : Bool) → ltb (length out) (length t) ≡ b → length t ≤ length out
+    go true q = absurd (let z : _≡_ {A = ℕ} 20 0 = (rw q at e) in omega (arith, z))
+    go false q = ltb-false (length out) (length t) q
+
+short : (h : Preprocessor) (l m : Lent) → lentShort (settingsOf h) m ≡ false → lentShort (view h l .settings) m ≡ false
+unfolding view
+short h l m q = q
+
+pub saved-is-taken-up : SavedIsTakenUp
+unfolding view
+saved-is-taken-up h l m out e l₂ r again =
+    let k : Savable h l = savable-of h l out e in
+    let f : Form (view h l) = saved-form h l m k in
+    let room : length (render (view h l)) ≤ length out = room-for (render (view h l)) out (ap (λ (o : saving.Outcome). o .row) (sym (saved-fitted h l k out)) ∙ e) in
+    let p = saved-restored h l out (k .held) room f l₂ (short h l l₂ r) in
+    let o = again-is h l out (k .held) room f l₂ (short h l l₂ r) in
+    let u : unheld (takenUp h l out l₂ .head) (takenUp h l out l₂ .lent) ≡ false = ap (λ (x : Outcome). unheld (x .head) (x .lent)) o ∙ laid-held (view h l) f l₂ (short h l l₂ r) in
+    let k₂ : Savable (takenUp h l out l₂ .head) (takenUp h l out l₂ .lent) = form-savable _ _ (subst Form (sym (p .1)) f) u in
+    record {
+      accepted = p .0;
+      sameState = p .1;
+      sameText =
+          saved-fitted (takenUp h l out l₂ .head) (takenUp h l out l₂ .lent) k₂ again
+          ∙ ap (λ (x : State). saving.fitted (render x) again) (p .1)
+          ∙ ap (λ (t : List ℕ). saving.fitted t again) (sym (saved-text h l out k room));
+    }

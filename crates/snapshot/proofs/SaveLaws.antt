@@ -12,13 +12,13 @@ use lib.Ieee.{Float}
 use borrow.Author.Tests.{ltb-false, lt-ltb, le-ltb}
 use Rattle.trcf.specs.declared.head.Preprocessor.{Preprocessor}
 use Rattle.trcf.specs.Types.{methodNumber, modeLetter, augments}
-use Rattle.trcf.specs.Settings.{Settings, block, dimension}
-use Rattle.trcf.specs.View.{Lent, settingsOf, view}
+use Rattle.trcf.specs.Settings.{Settings, settingsRow, block, dimension}
+use Rattle.trcf.specs.View.{Lent, settingsOf, view, misfit}
 use Rattle.trcf.specs.Preprocessor.{State}
 use Rattle.snapshot.specs.Text.{Line, whole, wgt, inp, pnt, setLine, singles, chnLine, cntLine, devLine, devLines, timLine, bufLine, bufLines, bytesOf, bodyLines, linesBy, render}
 use Rattle.snapshot.specs.Read.{bytesOfLine}
 use Rattle.snapshot.specs.Write.{Wrote, tabbed, setBytes}
-use Rattle.snapshot.specs.Save.{past, unheld, Outcome, outcome, fitted, saveOf, headBytes, listBytes}
+use Rattle.snapshot.specs.Save.{past, unheld, unformed, Outcome, outcome, fitted, heldSave, saveOf, headBytes, listBytes}
 use Rattle.snapshot.proofs.WriteLaws.{stored-over}
 use Rattle.snapshot.proofs.LineBytes.{singles-size, chn-size, tim-size, cnt-size, dev-size, buf-size, set-size}
 
@@ -197,14 +197,6 @@ list-split d st x y ts v us =
       length-append (bytesOfLine (timLine ts)) e,
     )
 
--- what owning a head tells of its weights
-pub sixteen : (w : List Float) → length (map (λ v. v) w) ≡ 16 → length w ≡ 16
-sixteen w h = sym (same w) ∙ h
-  where
-    same : (l : List Float) → length (map (λ v. v) l) ≡ length l
-    same [] = refl
-    same (x ∷ xs) = ap suc (same xs)
-
 -- ---- what is answered
 
 pub fitted-not : (t out : List ℕ) (n : ℕ) → n ≡ length t → length out < n → outcome 20 0 out ≡ fitted t out
@@ -228,21 +220,25 @@ module _ (h : Preprocessor) (l : Lent) (w : ℕ) (e : w ≡ cond (augments (h .�
       past (h .transformer .«input_length») (h .«shingle_size») x (h .«initial_len») (length (l .statistics)) (length (l .lastShingledInput))
       (length (l .lastShingledPoint)) (length (l .previousTimestamps)) (length (l .initialValues)) (length (l .initialTimestamps))
 
-  pub saved-not : (out : List ℕ) → pastBy w ≡ true → outcome 20 0 out ≡ saveOf h l out
-  unfolding saveOf unheld
+  pub saved-not : (out : List ℕ) → pastBy w ≡ true → outcome 20 0 out ≡ heldSave h l out
+  unfolding heldSave unheld
   saved-not out g = let k : pastBy (cond (augments (h .«forest_mode»)) 1 0) ≡ true = ap pastBy (sym e) ∙ g in rw k
 
+  pub saved-unformed : (out : List ℕ) → pastBy w ≡ false → unformed (view h l) ≡ true → outcome 19 0 out ≡ heldSave h l out
+  unfolding heldSave unheld
+  saved-unformed out g u = let k : pastBy (cond (augments (h .«forest_mode»)) 1 0) ≡ false = ap pastBy (sym e) ∙ g in rw (k, u)
+
   -- the text of what is in use of the lent lists
-  pub saved-is : (out : List ℕ) (o : Outcome) → pastBy w ≡ false
+  pub saved-is : (out : List ℕ) (o : Outcome) → pastBy w ≡ false → unformed (view h l) ≡ false
       → o ≡ fitted
       (headBytes (settingsOf h) (h .«values_seen») (h .«internal_timestamp») (h .transformer .count)
       ++ listBytes (h .transformer .«input_length») (take (3 * (5 * h .transformer .«input_length» + 5)) (l .statistics))
       (take (h .transformer .«input_length» * h .«shingle_size») (l .lastShingledInput))
       (take ((h .transformer .«input_length» + w) * h .«shingle_size») (l .lastShingledPoint)) (take (h .«shingle_size») (l .previousTimestamps))
       (take (h .«initial_len» * h .transformer .«input_length») (l .initialValues)) (take (h .«initial_len») (l .initialTimestamps))) out
-      → o ≡ saveOf h l out
-  unfolding saveOf unheld view dimension block
-  saved-is out o g q =
+      → o ≡ heldSave h l out
+  unfolding heldSave unheld view dimension block
+  saved-is out o g u q =
       let k : pastBy (cond (augments (h .«forest_mode»)) 1 0) ≡ false = ap pastBy (sym e) ∙ g in
       q
       ∙ ap (λ (x : ℕ). fitted
@@ -251,4 +247,20 @@ module _ (h : Preprocessor) (l : Lent) (w : ℕ) (e : w ≡ cond (augments (h .�
       (take (h .transformer .«input_length» * h .«shingle_size») (l .lastShingledInput))
       (take ((h .transformer .«input_length» + x) * h .«shingle_size») (l .lastShingledPoint)) (take (h .«shingle_size») (l .previousTimestamps))
       (take (h .«initial_len» * h .transformer .«input_length») (l .initialValues)) (take (h .«initial_len») (l .initialTimestamps))) out) e
-      ∙ ap (λ (t : List ℕ). fitted t out) (render-parts (view h l)) ∙ rw k
+      ∙ ap (λ (t : List ℕ). fitted t out) (render-parts (view h l)) ∙ rw (k, u)
+
+-- ---- the head's own rows come first
+
+module _ (h : Preprocessor) (l : Lent) (out : List ℕ) where
+  pub saved-row : (r : ℕ) → r ≡ settingsRow (settingsOf h) → (r ≡ 0 → ⊥) → outcome r 0 out ≡ saveOf h l out
+  unfolding saveOf
+  saved-row zero e n = absurd (n refl)
+  saved-row (suc r) e n = rw (sym e)
+
+  pub saved-misfit : settingsRow (settingsOf h) ≡ 0 → misfit h ≡ true → outcome 19 0 out ≡ saveOf h l out
+  unfolding saveOf
+  saved-misfit e m = rw (e, m)
+
+  pub saved-held : settingsRow (settingsOf h) ≡ 0 → misfit h ≡ false → (o : Outcome) → o ≡ heldSave h l out → o ≡ saveOf h l out
+  unfolding saveOf
+  saved-held e m o q = rw (e, m) q

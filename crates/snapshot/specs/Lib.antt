@@ -8,5 +8,6 @@ pub mod Write
 pub mod Save
 pub mod Judge
 pub mod Restore
+pub mod Savable
 pub mod Runs
 pub mod Ascii

@@ -1,17 +1,19 @@
--- `save` (document 01: put away): "the bytes are the rendered text", or row 20 with nothing written.
+-- `save` (document 01: put away): "the bytes are the rendered text", or a row with nothing written: what could not be taken up again is not put away.
 use Prim.Native.Nat.{ℕ, _+_, _*_, _≤_}
-use mathlib.Core.Bool.{Bool, cond, _||_}
+use mathlib.Core.Bool.{Bool, cond, not, _&&_, _||_}
 use mathlib.Core.List.{List, [], _∷_, _++_}
-use lib.Dec.{ltb}
+use lib.Dec.{ltb, eqb}
 use lib.ListN.{length}
 use lib.Ieee.{Float}
 use Rattle.common.specs.Lent.{over}
 use Rattle.trcf.specs.declared.head.Preprocessor.{Preprocessor}
 use Rattle.trcf.specs.Types.{augments}
-use Rattle.trcf.specs.Settings.{Settings}
-use Rattle.trcf.specs.View.{Lent, settingsOf, view}
+use Rattle.trcf.specs.Settings.{Settings, settingsRow}
+use Rattle.trcf.specs.Calls.{finite}
+use Rattle.trcf.specs.Preprocessor.{State, accepted}
+use Rattle.trcf.specs.View.{Lent, settingsOf, view, misfit}
 use Rattle.snapshot.specs.Text.{wgt, inp, pnt, setLine, singles, chnLine, cntLine, devLines, timLine, bufLines, bytesOf, render}
-use Rattle.snapshot.specs.Read.{bytesOfLine}
+use Rattle.snapshot.specs.Read.{bytesOfLine, climbs, zeros}
 
 -- a number is past document 01's limits, or a lent list is shorter than what is in use of it: d, k, the numbers of a time (0 or 1) and the initial
 -- values, then the lengths of the lent lists
@@ -43,9 +45,22 @@ outcome row n bytes = record { row = row; length = n; bytes = bytes }
 unfoldable pub fitted : List ℕ → List ℕ → Outcome
 fitted t out = cond (ltb (length out) (length t)) (outcome 20 0 out) (outcome 0 (length t) (over out t))
 
--- row 20 too where a lent part is shorter than what is in use of it
+-- the times and the initial values are not such as a text has: "`tim` k times, none falling"; "With internal 0 all `tim` are 0."; "`buf` time, d finite f32,
+-- times not falling"
+unfoldable pub unformed : State → Bool
+unformed w =
+    not (climbs 0 (w .previousTimestamps))
+    || ((eqb (w .internalTimestamp) 0 && not (zeros (w .previousTimestamps)))
+    || (not (finite (w .initialValues)) || not (climbs 0 (w .initialTimestamps))))
+
+-- row 20 too where a lent part is shorter than what is in use of it; 19 where what it holds has not the form of a text
+unfoldable pub heldSave : Preprocessor → Lent → List ℕ → Outcome
+heldSave h l out = cond (unheld h l) (outcome 20 0 out) (cond (unformed (view h l)) (outcome 19 0 out) (fitted (render (view h l)) out))
+
+-- first the row of the settings, then 19 for counters that no text has
 unfoldable pub saveOf : Preprocessor → Lent → List ℕ → Outcome
-saveOf h l out = cond (unheld h l) (outcome 20 0 out) (fitted (render (view h l)) out)
+saveOf h l out =
+    accepted (settingsRow (settingsOf h)) (cond (misfit h) (outcome 19 0 out) (heldSave h l out)) (outcome (settingsRow (settingsOf h)) 0 out)
 
 -- ---- the text in two parts, as it is written
 

@@ -9,4 +9,4 @@ mod piece;
 mod reader;
 pub mod restore;
 mod settings;
-mod values;
+pub mod values;

@@ -7,7 +7,7 @@ ghost use Rattle.common.specs.Lent.{over};
 ghost use Rattle.snapshot.specs.Read.{climbs, zeros, allCodes, same};
 
 // Whether no time falls.
-pub(crate) fn none_falls(times: &[u64]) -> bool
+pub fn none_falls(times: &[u64]) -> bool
     ensures { λ r. ⌜ r ≡ climbs 0 (now (times .entry)) ⌝ }
 {
     let mut past: u64 = 0;
@@ -24,7 +24,7 @@ pub(crate) fn none_falls(times: &[u64]) -> bool
 }
 
 // Whether every time is 0.
-pub(crate) fn all_zero(times: &[u64]) -> bool
+pub fn all_zero(times: &[u64]) -> bool
     ensures { λ r. ⌜ r ≡ zeros (now (times .entry)) ⌝ }
 {
     let mut i = 0;

@@ -9,19 +9,27 @@ use crate::write::tim_line;
 use crate::write::whole_length;
 use snapshot::limits::is_past;
 use snapshot::limits::time_width;
+use snapshot::values::all_zero;
+use snapshot::values::none_falls;
 use trcf::head::Preprocessor;
 use trcf::types::ForestMode;
 use trcf::types::TransformMethod;
+use trcf_rows::rows::all_finite;
+use trcf_rows::rows::head_settings_row;
+use trcf_rows::rows::is_misfit;
 ghost use mathlib.Core.Path.{_≡_};
+ghost use mathlib.Core.Bool.{not, _&&_, _||_};
 ghost use mathlib.Core.List.{map, _++_};
+ghost use lib.Dec.{eqb};
 ghost use Prim.Native.Nat.{_+_, _*_, _≤_, _<_};
 ghost use lib.ListN.{length};
 ghost use Rattle.trcf.specs.Types.{methodNumber, modeLetter};
 ghost use Rattle.trcf.specs.View.{lent, settingsOf};
 ghost use Rattle.snapshot.specs.Text.{whole, chnLine};
-ghost use Rattle.snapshot.specs.Read.{bytesOfLine};
+ghost use Rattle.trcf.specs.Calls.{finite};
+ghost use Rattle.snapshot.specs.Read.{bytesOfLine, climbs, zeros};
 ghost use Rattle.snapshot.specs.Write.{Wrote, tabbed};
-ghost use Rattle.snapshot.specs.Save.{outcome, fitted, saveOf, headBytes, listBytes};
+ghost use Rattle.snapshot.specs.Save.{outcome, fitted, heldSave, saveOf, headBytes, listBytes};
 
 // The row, 0 for none, and the length of the text.
 pub struct Saved {
@@ -243,9 +251,36 @@ fn save_parts(
     Saved { row: 0, length: l }
 }
 
-// The snapshot of what head and the lent lists hold, and its length; or row 20 with nothing written, where out is shorter than the text,
-// or a lent list shorter than what is in use of it, or a number of the head past the limits.
-pub fn save(
+// Whether a time stands where none was counted.
+fn is_uncounted(internal: usize, times: &[u64]) -> bool
+    ensures { λ r. ⌜ r ≡ eqb internal 0 && not (zeros (now (times .entry))) ⌝ }
+{
+    if internal == 0 {
+        !all_zero(times)
+    } else {
+        false
+    }
+}
+
+// Whether times and initial values are not such as a text has.
+fn is_unformed(internal: usize, times: &[u64], values: &[f32], initial: &[u64]) -> bool
+    ensures { λ r. ⌜ r ≡ not (climbs 0 (now (times .entry))) || ((eqb internal 0 && not (zeros (now (times .entry)))) || (not (finite (now (values .entry))) || not (climbs 0 (now (initial .entry))))) ⌝ }
+{
+    if !none_falls(times) {
+        return true;
+    }
+    if is_uncounted(internal, times) {
+        return true;
+    }
+    if !all_finite(values) {
+        return true;
+    }
+    !none_falls(initial)
+}
+
+// The text of a head whose own rows are 0, and its length; row 20 where out is shorter than the text, or a lent list shorter than what is in use of it;
+// row 19 where that has not the form of a text.
+fn save_held(
     head: Preprocessor,
     statistics: &[f64],
     last_shingled_input: &[f32],
@@ -255,13 +290,14 @@ pub fn save(
     initial_timestamps: &[u64],
     out: &mut [u8],
 ) -> Saved
-    ensures { λ r. ⌜ outcome (r .row) (r .length) (now (out .exit)) ≡ saveOf head (lent (now (statistics .entry)) (now («last_shingled_input» .entry)) (now («last_shingled_point» .entry)) (now («previous_timestamps» .entry)) (now («initial_values» .entry)) (now («initial_timestamps» .entry))) (now (out .entry)) ⌝ }
+    ensures { λ r. ⌜ outcome (r .row) (r .length) (now (out .exit)) ≡ heldSave head (lent (now (statistics .entry)) (now («last_shingled_input» .entry)) (now («last_shingled_point» .entry)) (now («previous_timestamps» .entry)) (now («initial_values» .entry)) (now («initial_timestamps» .entry))) (now (out .entry)) ⌝ }
 {
     let t = head.transformer;
     let mode = head.forest_mode;
     let d = t.input_length;
     let k = head.shingle_size;
     let n = head.initial_len;
+    let internal = head.internal_timestamp;
     let w = time_width(mode);
     if is_past(
         d,
@@ -283,5 +319,44 @@ pub fn save(
     let ts = &previous_timestamps[..k];
     let v = &initial_values[..n * d];
     let us = &initial_timestamps[..n];
+    if is_unformed(internal, ts, v, us) {
+        return Saved { row: 19, length: 0 };
+    }
     save_parts(head, st, x, y, ts, v, us, out)
+}
+
+// The snapshot of what head and the lent lists hold, and its length. What could not be taken up again is not put away: the row of the settings, 19 for
+// counters, times or initial values that no text has, 20 where a lent list or out is too short; nothing is written then.
+pub fn save(
+    head: Preprocessor,
+    statistics: &[f64],
+    last_shingled_input: &[f32],
+    last_shingled_point: &[f32],
+    previous_timestamps: &[u64],
+    initial_values: &[f32],
+    initial_timestamps: &[u64],
+    out: &mut [u8],
+) -> Saved
+    ensures { λ r. ⌜ outcome (r .row) (r .length) (now (out .exit)) ≡ saveOf head (lent (now (statistics .entry)) (now («last_shingled_input» .entry)) (now («last_shingled_point» .entry)) (now («previous_timestamps» .entry)) (now («initial_values» .entry)) (now («initial_timestamps» .entry))) (now (out .entry)) ⌝ }
+{
+    let row = head_settings_row(head);
+    if row != 0 {
+        return Saved {
+            row: row,
+            length: 0,
+        };
+    }
+    if is_misfit(head) {
+        return Saved { row: 19, length: 0 };
+    }
+    save_held(
+        head,
+        statistics,
+        last_shingled_input,
+        last_shingled_point,
+        previous_timestamps,
+        initial_values,
+        initial_timestamps,
+        out,
+    )
 }

@@ -13,6 +13,7 @@ use Rattle.trcf.specs.Lists.{null, lastOr, shiftIn}
 use Rattle.common.specs.Refusal.{firstOf}
 use Rattle.common.specs.Lent.{over}
 use Rattle.trcf.specs.Transformer.{zero32, one32, inverted}
+use Rattle.trcf.specs.Types.{normalizes}
 use Rattle.trcf.specs.Settings.{Settings, transformer, settingsRow, block, dimension, waiting}
 use Rattle.trcf.specs.Calls.{Learn, Call, shingledPoint, postProcess, drain, transform, invertExtrapolation, scale, shift, status, Forecast, rows, seenLimit, finite, given}
 use Rattle.trcf.specs.Preprocessor.{State, Answer, refused, absent, done, wrote, learnt, turned, told, Learned, Status, Anomaly, Reading, reading, feed, previous, deviations, blockFrom, statisticsLength, fresh, facts, change, panelOf, reply, accepted}
@@ -133,11 +134,23 @@ lentShort s l =
     || (ltb (length (l .previousTimestamps)) (s .k)
     || (ltb (length (l .initialValues)) (s .start * s .d) || ltb (length (l .initialTimestamps)) (s .start)))))
 
--- the head counts initial values that its lent lists have no room for, or, while waiting, others than it has seen
+-- Counters that no preprocessor has, by document 01's 'Trace text'. Past waiting: not "none, or start lines under methods 4 and 5 (with such lines,
+-- internal is 0 if values_seen = start)".
+abbrev pub leftOver : Settings → ℕ → ℕ → ℕ → Bool
+leftOver s seen internal initial =
+    not (eqb initial 0) && (not (normalizes (s .method)) || (not (eqb initial (s .start)) || (eqb seen (s .start) && not (eqb internal 0))))
+
+-- "values_seen, internal (each ≤ 2^63 − 1), count"; "While waiting, `buf` lines = values_seen and internal is 0"
+abbrev pub miscounted : Settings → ℕ → ℕ → ℕ → ℕ → Bool
+miscounted s seen internal count initial =
+    ltb seenLimit seen
+    || (ltb seenLimit internal
+    || (ltb countLimit count
+    || cond (waiting s seen) (not (eqb initial seen) || not (eqb internal 0)) (leftOver s seen internal initial)))
+
+-- the head's counters are such
 unfoldable pub misfit : Preprocessor → Bool
-misfit h =
-    ltb (h .«start_normalization») (h .«initial_len»)
-    || (waiting (settingsOf h) (h .«values_seen») && not (eqb (h .«initial_len») (h .«values_seen»)))
+misfit h = miscounted (settingsOf h) (h .«values_seen») (h .«internal_timestamp») (h .transformer .count) (h .«initial_len»)
 
 unfoldable pub shortRow : Settings → Lent → ℕ
 shortRow s l = firstOf ((lentShort s l, 20) ∷ [])
@@ -149,6 +162,10 @@ lentRow h l = cond (misfit h) 20 (shortRow (settingsOf h) l)
 abbrev pub orElse : ℕ → ℕ → ℕ
 orElse zero m = m
 orElse (suc n) m = suc n
+
+-- a head that comes from outside: rows 1 to 9, and 20 for counters that no preprocessor has
+unfoldable pub outsideRow : Preprocessor → ℕ
+outsideRow h = orElse (settingsRow (settingsOf h)) (cond (misfit h) 20 0)
 
 -- what a row 0 says of each
 pub record Bounded (s : Settings) : Type 0 where

@@ -12,16 +12,17 @@ use trcf::types::ForestMode;
 use trcf::types::is_normalizing;
 ghost use mathlib.Core.Path.{_≡_};
 ghost use mathlib.Core.Bool.{not, false, _&&_, _||_};
-ghost use mathlib.Core.List.{[], _∷_};
+ghost use mathlib.Core.List.{List, [], _∷_};
 ghost use Prim.Native.Nat.{ℕ, _+_, _≤_};
 ghost use lib.Dec.{ltb, eqb};
 ghost use lib.ListN.{length, take};
+ghost use lib.Ieee.{Float};
 ghost use Rattle.common.specs.Deviation.{countLimit};
 ghost use Rattle.trcf.specs.Lists.{null};
 ghost use Rattle.trcf.specs.Settings.{imputes, waiting, settingsRow, block};
 ghost use Rattle.trcf.specs.Calls.{seenLimit, finite, due, drainFull, scale, transform, drain, shingledPoint};
 ghost use Rattle.trcf.specs.Preprocessor.{facts};
-ghost use Rattle.trcf.specs.View.{settingsOf, settingsFrom, view, misfit, headRow, orElse, lentRow, shortRow, rowOf, pastRow, lent, Bounded, Accepted, Roomy, Fitted, Ready, Pointing};
+ghost use Rattle.trcf.specs.View.{settingsOf, settingsFrom, view, leftOver, misfit, outsideRow, headRow, orElse, lentRow, shortRow, rowOf, pastRow, lent, Bounded, Accepted, Roomy, Fitted, Ready, Pointing};
 
 fn is_imputing(m: ForestMode) -> bool
     ensures { λ r. ⌜ r ≡ imputes m ⌝ }
@@ -79,6 +80,42 @@ pub fn settings_row(b: PreprocessorBuilder, weights: &[f32], codes: &[u16]) -> u
     0
 }
 
+// How many of 16 weights and codes are in use.
+pub fn used(d: usize) -> usize
+    ensures { λ r. ⌜ r ≤ 16 ⌝ }
+    ensures { λ r. ⌜ ((w : List Float) → length w ≡ 16 → take r w ≡ take d w) ⌝ }
+    ensures { λ r. ⌜ ((w : List ℕ) → length w ≡ 16 → take r w ≡ take d w) ⌝ }
+{
+    if d <= 16 {
+        return d;
+    }
+    16
+}
+
+// Rows 1 to 9 of a head that comes from outside.
+pub fn head_settings_row(head: Preprocessor) -> u64
+    ensures { λ r. ⌜ r ≡ settingsRow (settingsOf head) ⌝ }
+{
+    let t = head.transformer;
+    let mode = head.forest_mode;
+    let method = t.transform_method;
+    let weights = t.weights;
+    let codes = head.codes;
+    let d = t.input_length;
+    let n = used(d);
+    let builder = PreprocessorBuilder {
+        forest_mode: mode,
+        transform_method: method,
+        input_dimensions: d,
+        shingle_size: head.shingle_size,
+        start_normalization: head.start_normalization,
+        stop_normalization: head.stop_normalization,
+        transform_decay: t.transform_decay,
+        weight_time: head.weight_time,
+    };
+    settings_row(builder, &weights[..n], &codes[..n])
+}
+
 fn is_finite(v: f32) -> bool
     ensures { λ r. ⌜ r ≡ finite (v ∷ []) ⌝ }
 {
@@ -115,17 +152,61 @@ pub fn is_waiting(head: Preprocessor) -> bool
     }
 }
 
-// Whether the head counts other initial values than it can have.
-fn is_misfit(head: Preprocessor) -> bool
-    ensures { λ r. ⌜ r ≡ misfit head ⌝ }
+// Whether initial values are left that a preprocessor past waiting cannot have.
+fn is_left(head: Preprocessor) -> bool
+    ensures { λ r. ⌜ r ≡ leftOver (settingsOf head) (head .«values_seen») (head .«internal_timestamp») (head .«initial_len») ⌝ }
 {
+    let t = head.transformer;
+    let method = t.transform_method;
     let n = head.initial_len;
-    let seen = head.values_seen;
     let start = head.start_normalization;
-    if start < n {
+    let seen = head.values_seen;
+    let internal = head.internal_timestamp;
+    if n == 0 {
+        return false;
+    }
+    if !is_normalizing(method) {
         return true;
     }
-    if is_waiting(head) { n != seen } else { false }
+    if n != start {
+        return true;
+    }
+    if seen == start { internal != 0 } else { false }
+}
+
+// Whether the head's counters are such as no preprocessor has.
+pub fn is_misfit(head: Preprocessor) -> bool
+    ensures { λ r. ⌜ r ≡ misfit head ⌝ }
+{
+    let t = head.transformer;
+    let count = t.count;
+    let n = head.initial_len;
+    let seen = head.values_seen;
+    let internal = head.internal_timestamp;
+    if SEEN_LIMIT < seen {
+        return true;
+    }
+    if SEEN_LIMIT < internal {
+        return true;
+    }
+    if COUNT_LIMIT < count {
+        return true;
+    }
+    if !is_waiting(head) {
+        return is_left(head);
+    }
+    if n == seen { internal != 0 } else { true }
+}
+
+// Every row of a head that comes from outside.
+pub fn outside_row(head: Preprocessor) -> u64
+    ensures { λ r. ⌜ r ≡ outsideRow head ⌝ }
+{
+    let row = head_settings_row(head);
+    if row != 0 {
+        return row;
+    }
+    if is_misfit(head) { 20 } else { 0 }
 }
 
 // 20 where a lent list is too short.

@@ -2,7 +2,7 @@
 use mathlib.Core.Path.{_≡_, refl, sym, ap, _∙_}
 use native.Mathlib.Omega.{arith}
 use Rattle.capi.specs.Head.{codesIn, Read}
-use Rattle.capi.proofs.HeadLaws.{row-few, row-kind, row-codes, row-settings, all-codes}
+use Rattle.capi.proofs.HeadLaws.{row-few, row-kind, row-codes, row-outside, all-codes}
 use borrow.Author.Needs.{needs}
 use Rattle.capi.proofs.head.read_head.Statement.{statement}
 use Rattle.capi.proofs.head.read_head.Tie as tie
@@ -61,8 +61,8 @@ head-of-requires c κs =
     let w = s .before .before .args .words .now in
     (s .if1 .left, all-codes (codesIn w) (c .before .codes-row .ensures) (c .if3 .left))
 
-head-row-requires : tie.Need-head-row-requires
-head-row-requires c κs = search needs
+outside-row-requires : tie.Need-outside-row-requires
+outside-row-requires c κs = search needs
 
 returns-4 : tie.Need-returns-4
 returns-4 c =
@@ -74,8 +74,8 @@ returns-4 c =
     let v = c .before .before .before .codes-row in
     let j = c .before .before .if3 .left in
     let h = c .before .head-of in
-    let r = c .head-row in
-    (row-settings w (k .result) (s .if1 .left) (k .ensures) i (v .result) (r .result) (v .ensures) j (h .ensures) (r .ensures), λ e. record { whole = s .if1 .left; is = h .ensures })
+    let r = c .outside-row in
+    (row-outside w (k .result) (s .if1 .left) (k .ensures) i (v .result) (r .result) (v .ensures) j (h .ensures) (r .ensures), λ e. record { whole = s .if1 .left; is = h .ensures })
 
 pub read-head-spec : {M : Type 1} → statement M
 read-head-spec =
@@ -95,5 +95,5 @@ read-head-spec =
     no-head-requires-3
     returns-3
     head-of-requires
-    head-row-requires
+    outside-row-requires
     returns-4)

@@ -1,4 +1,5 @@
 -- `capi::head::write_front` meets its contract: the numbers, and the weights behind them. Assumes nothing.
+use Rattle.trcf.proofs.RefusalLaws.{sixteen}
 use mathlib.Core.Path.{_≡_, refl, sym, ap, _∙_}
 use native.Mathlib.Omega.{arith}
 use Prim.Native.Nat.{_≤_}
@@ -6,7 +7,6 @@ use lib.ListN.{length, drop, length-drop, length-map}
 use lib.Seq.{length-take-le}
 use lib.Ieee.{binary32, toBits}
 use borrow.Rule.Slice.PartMut.{same-len-mid}
-use Rattle.snapshot.proofs.SaveLaws.{sixteen}
 use Rattle.capi.proofs.HeadLaws.{numbers-length, weights-stored}
 use borrow.Author.Needs.{needs}
 use Rattle.capi.proofs.head.write_front.Statement.{statement}

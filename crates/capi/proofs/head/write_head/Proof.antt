@@ -1,12 +1,11 @@
 -- `capi::head::write_head` meets its contract: the front, and the codes behind it. Assumes nothing.
+use Rattle.trcf.proofs.RefusalLaws.{sixteen}
 use mathlib.Core.Path.{_≡_, refl, sym, ap, _∙_}
 use native.Mathlib.Omega.{arith}
 use Prim.Native.Nat.{_≤_}
 use lib.ListN.{length, drop, length-drop}
 use lib.Seq.{length-take-le}
 use borrow.Rule.Slice.PartMut.{same-len-mid}
-use Rattle.snapshot.proofs.SaveLaws.{sixteen}
-use Rattle.snapshot.proofs.CodeLaws.{sixteen-codes}
 use Rattle.capi.proofs.HeadLaws.{front-kept, codes-stored}
 use Rattle.capi.proofs.CallLaws.{kept, given}
 use borrow.Author.Needs.{needs}
@@ -54,7 +53,7 @@ same-length c =
     let v = c .before .before .write-codes in
     let xs = f .last .0 in
     let y = sixteen (h .transformer .weights) (s .good .1 .1 .0 .1 .1 .0 .1 .1 .1 .1 .1 .0 .1 .0 .1) in
-    let z : length (h .codes) ≡ 16 = sixteen-codes (h .codes) (s .good .1 .1 .0 .1 .1 .1 .1 .1 .1 .1 .1 .1 .1 .1 .0 .1 .0 .1) in
+    let z : length (h .codes) ≡ 16 = sixteen (h .codes) (s .good .1 .1 .0 .1 .1 .1 .1 .1 .1 .1 .1 .1 .1 .1 .0 .1 .0 .1) in
     let k : length xs ≡ length (s .args .words .now) = front-kept (s .args .words .now) _ h y (f .ensures) (s .pre) in
     let m = length-take-le 16 (drop 28 xs) (omega (arith, length-drop 28 xs, k, s .pre)) in
     same-len-mid 28 16 xs (v .last .0) (ap length (v .ensures) ∙ z ∙ sym m) ∙ k
@@ -69,7 +68,7 @@ returns-2 c =
     let v = c .before .before .write-codes in
     let i = c .before .before .before .before .before .before .before .before in
     let y = sixteen (h .transformer .weights) (s .good .1 .1 .0 .1 .1 .0 .1 .1 .1 .1 .1 .0 .1 .0 .1) in
-    let z : length (h .codes) ≡ 16 = sixteen-codes (h .codes) (s .good .1 .1 .0 .1 .1 .1 .1 .1 .1 .1 .1 .1 .1 .1 .0 .1 .0 .1) in
+    let z : length (h .codes) ≡ 16 = sixteen (h .codes) (s .good .1 .1 .0 .1 .1 .1 .1 .1 .1 .1 .1 .1 .1 .1 .0 .1 .0 .1) in
     codes-stored (a .words .now) _ h _ y (f .ensures) (v .ensures) (ap length (v .ensures) ∙ z)
     ∙ given (a .row) _ (a .words .now) (i .before .if1 .left)
 

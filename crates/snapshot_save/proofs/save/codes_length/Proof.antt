@@ -1,4 +1,5 @@
 -- `snapshot_save::save::codes_length` meets its contract. Assumes nothing.
+use Rattle.trcf.proofs.RefusalLaws.{sixteen}
 use borrow.Author.Needs.{needs}
 use native.Mathlib.Omega.{arith}
 use mathlib.Core.Path.{_≡_, sym, ap, _∙_}
@@ -8,7 +9,6 @@ use lib.ListN.{length, take}
 use Rattle.snapshot.specs.Text.{whole}
 use Rattle.snapshot.specs.Write.{tabbed}
 use lib.Seq.{length-take-le}
-use Rattle.snapshot.proofs.CodeLaws.{sixteen-codes}
 use Rattle.snapshot_save.proofs.save.codes_length.Statement.{statement}
 use Rattle.snapshot_save.proofs.save.codes_length.Tie as tie
 
@@ -23,7 +23,7 @@ slice-aggregate-wholes-length c =
     let h = c .before .before .before .before .args .head in
     let d = h .transformer .«input_length» in
     let W = c .before .widened in
-    let z : length (W .result) ≡ 16 = ap length (W .ensures) ∙ sixteen-codes (h .codes) (c .before .before .before .before .good .0 .1 .1 .1 .1 .1 .1 .1 .1 .1 .1 .1 .0 .1 .0 .1) in
+    let z : length (W .result) ≡ 16 = ap length (W .ensures) ∙ sixteen (h .codes) (c .before .before .before .before .good .0 .1 .1 .1 .1 .1 .1 .1 .1 .1 .1 .1 .0 .1 .0 .1) in
     let m = length-take-le d (W .result) (omega (arith, z, c .before .before .before .before .pre)) in
     sym m
 
@@ -32,7 +32,7 @@ wholes-length-requires c κs =
     let h = c .before .before .before .before .args .head in
     let d = h .transformer .«input_length» in
     let W = c .before .widened in
-    let z : length (W .result) ≡ 16 = ap length (W .ensures) ∙ sixteen-codes (h .codes) (c .before .before .before .before .good .0 .1 .1 .1 .1 .1 .1 .1 .1 .1 .1 .1 .0 .1 .0 .1) in
+    let z : length (W .result) ≡ 16 = ap length (W .ensures) ∙ sixteen (h .codes) (c .before .before .before .before .good .0 .1 .1 .1 .1 .1 .1 .1 .1 .1 .1 .1 .0 .1 .0 .1) in
     let m = length-take-le d (W .result) (omega (arith, z, c .before .before .before .before .pre)) in
     omega (arith, m, c .before .before .before .before .pre)
 

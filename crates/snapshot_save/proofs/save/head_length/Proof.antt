@@ -1,5 +1,6 @@
 -- `snapshot_save::save::head_length` meets its contract. Assumes nothing.
-use Rattle.snapshot.proofs.SaveLaws.{head-size, sixteen}
+use Rattle.trcf.proofs.RefusalLaws.{sixteen}
+use Rattle.snapshot.proofs.SaveLaws.{head-size}
 use Rattle.snapshot.specs.Text.{whole}
 use Rattle.trcf.specs.View.{settingsOf}
 use lib.Seq.{length-take-le}

@@ -1,4 +1,5 @@
 -- `snapshot_save::save::write_codes` meets its contract. Assumes nothing.
+use Rattle.trcf.proofs.RefusalLaws.{sixteen}
 use borrow.Author.Needs.{needs}
 use native.Mathlib.Omega.{arith}
 use mathlib.Core.Path.{_≡_, sym, ap, _∙_}
@@ -9,7 +10,6 @@ use Rattle.snapshot.specs.Text.{chnLine}
 use Rattle.snapshot.specs.Read.{bytesOfLine}
 use Rattle.snapshot.proofs.WriteLaws.{wrote-is}
 use lib.Seq.{length-take-le}
-use Rattle.snapshot.proofs.CodeLaws.{sixteen-codes}
 use Rattle.snapshot_save.proofs.save.write_codes.Statement.{statement}
 use Rattle.snapshot_save.proofs.save.write_codes.Tie as tie
 
@@ -24,7 +24,7 @@ slice-aggregate-chn-line c =
     let h = c .before .before .before .before .before .before .args .head in
     let d = h .transformer .«input_length» in
     let W = c .before .before .widened in
-    let z : length (W .result) ≡ 16 = ap length (W .ensures) ∙ sixteen-codes (h .codes) (c .before .before .before .before .before .before .good .1 .1 .0 .1 .1 .1 .1 .1 .1 .1 .1 .1 .1 .1 .0 .1 .0 .1) in
+    let z : length (W .result) ≡ 16 = ap length (W .ensures) ∙ sixteen (h .codes) (c .before .before .before .before .before .before .good .1 .1 .0 .1 .1 .1 .1 .1 .1 .1 .1 .1 .1 .1 .0 .1 .0 .1) in
     let m = length-take-le d (W .result) (omega (arith, z, c .before .before .before .before .before .before .pre .0)) in
     sym m
 

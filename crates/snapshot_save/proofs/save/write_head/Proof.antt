@@ -1,5 +1,6 @@
 -- `snapshot_save::save::write_head` meets its contract. Assumes nothing.
-use Rattle.snapshot.proofs.SaveLaws.{set-lined, head-split, sixteen}
+use Rattle.trcf.proofs.RefusalLaws.{sixteen}
+use Rattle.snapshot.proofs.SaveLaws.{set-lined, head-split}
 use Rattle.snapshot.proofs.WriteLaws.{wrote-then, wrote-is}
 use Rattle.snapshot.specs.Save.{headBytes}
 use Rattle.trcf.specs.View.{settingsOf}

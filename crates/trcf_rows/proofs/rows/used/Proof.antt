@@ -1,9 +1,9 @@
--- `capi::head::used` meets its contract: each return by the tests on the way to it. Assumes nothing.
+-- `trcf_rows::rows::used` meets its contract: each return by the tests on the way to it. Assumes nothing.
 use mathlib.Core.Path.{_≡_, refl, sym, ap, _∙_}
 use native.Mathlib.Omega.{arith}
-use Rattle.capi.proofs.HeadLaws.{used-all}
-use Rattle.capi.proofs.head.used.Statement.{statement}
-use Rattle.capi.proofs.head.used.Tie as tie
+use Rattle.trcf.proofs.RefusalLaws.{used-all}
+use Rattle.trcf_rows.proofs.rows.used.Statement.{statement}
+use Rattle.trcf_rows.proofs.rows.used.Tie as tie
 
 returns : tie.Need-returns
 returns c = (omega arith, ((λ w e. refl), λ w e. refl))
