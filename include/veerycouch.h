@@ -66,7 +66,10 @@ extern "C" {
 #define VEERYCOUCH_STATISTICS(d) (3 * (5 * (d) + 5))
 
 /* No text is longer. */
-#define VEERYCOUCH_TEXT_MAX 500400
+#define VEERYCOUCH_TEXT_MAX 363245
+/* The same by d, k and start: no text of such a preprocessor is longer. */
+#define VEERYCOUCH_TEXT_ROOM(d, k, start) \
+    (135 + 15 * (d) + 55 * (5 * (d) + 5) + 12 + 9 * (d) * (k) + 9 * ((d) + 1) * (k) + 21 * (k) + (start) * (25 + 9 * (d)))
 
 enum { VEERYCOUCH_STANDARD = 0, VEERYCOUCH_TIME_AUGMENTED = 1, VEERYCOUCH_STREAMING_IMPUTE = 2 };
 enum {

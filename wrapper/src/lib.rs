@@ -310,9 +310,9 @@ impl Preprocessor {
         Ok(length as usize)
     }
 
-    /// The text. No text is longer than 500,400 bytes.
+    /// The text. No text is longer than 363,245 bytes.
     pub fn save(&self) -> Result<Vec<u8>, Refusal> {
-        let mut text = vec![0; 500_400];
+        let mut text = vec![0; 363_245];
         let length = self.save_into(&mut text)?;
         text.truncate(length);
         Ok(text)

@@ -14,11 +14,11 @@ use lib.IntN.{pos}
 use lib.Pow.{pow-add, pow-pos, pow-mono, pow-lt}
 use lib.Ieee.{Float, nan, inf, fin, Format, binary32, binary64, prec, emax, low, up, down, size, units, round, ofInt, fits, hid, ones, top, toBits}
 use lib.Ieee.Digits.{size-lt, size-reaches, back}
-use lib.Ieee.Fits.{two, reach, nearest-le, round-is, round-fits, down-pos}
+use lib.Ieee.Fits.{two, reach, nearest-le, round-is, round-fits, down-pos, fits-widens}
 use lib.Ieee.Exact.{HasValue, units-val}
 use lib.Ieee.Nearest.{closest, nearest-ge}
 use Rattle.numeric.specs.Narrow.{narrowed}
-use Rattle.numeric.specs.Nearest.{IsValue, apart, IsNearest, limit, IsRounded, RoundIsNearest, NarrowingIsNearest, IntegerIsNearest}
+use Rattle.numeric.specs.Nearest.{IsValue, apart, IsNearest, limit, IsRounded, RoundIsNearest, NarrowingIsNearest, WideningIsExact, IntegerIsNearest}
 use Rattle.numeric.proofs.Near.{closest-lt, closest-gt, closest-eq}
 use Rattle.numeric.proofs.Pack.{twice-hid, units-bits, units-inf}
 use Rattle.numeric.proofs.Held.{Held, held, one-lt}
@@ -427,6 +427,9 @@ round-is-nearest f s num den D = rounded f s num den D
 pub narrowing-is-nearest : NarrowingIsNearest
 unfolding narrowed
 narrowing-is-nearest s m e = rounded binary32 s (m * up e) (down e) (down-pos e)
+
+pub widening-is-exact : WideningIsExact
+widening-is-exact = fits-widens
 
 pub integer-is-nearest : IntegerIsNearest
 unfolding ofInt

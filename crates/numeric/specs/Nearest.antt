@@ -59,6 +59,10 @@ RoundIsNearest = (f : Format) (s : Bool) (num den : ℕ) → 0 < den → IsRound
 abbrev pub NarrowingIsNearest : Type 0
 NarrowingIsNearest = (s : Bool) (m : ℕ) (e : ℤ) → IsRounded binary32 s (m * up e) (down e) (narrowed (fin s m e))
 
+-- f32 to f64: every f32 is an f64, so that the nearest is the number itself, and nothing is rounded
+abbrev pub WideningIsExact : Type 0
+WideningIsExact = (x : Float) → T (fits binary32 x) → T (fits binary64 x)
+
 -- u64 to f64 and u64 to f32
 abbrev pub IntegerIsNearest : Type 0
 IntegerIsNearest = (f : Format) (n : ℕ) → IsRounded f false n 1 (ofInt f (pos n))

@@ -37,3 +37,4 @@ pub mod RestoreLaws
 pub mod CodeLaws
 pub mod RoundTrip
 pub mod SaveSamples
+pub mod TextRoom

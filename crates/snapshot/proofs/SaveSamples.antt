@@ -1,9 +1,9 @@
 -- Heads and memory that are put away, and such as are not, computed. Assumes nothing.
-use Prim.Native.Nat.{ℕ}
+use Prim.Native.Nat.{ℕ, _≤_}
 use mathlib.Core.Path.{_≡_, refl}
 use mathlib.Core.List.{List, [], _∷_, map}
 use native.Mathlib.Omega.{arith}
-use lib.ListN.{replicate}
+use lib.ListN.{length, replicate}
 use lib.Ieee.{Float, binary32, ofBits, ofFields, odd, fits, size, toBits, le, lt}
 use Rattle.common.specs.Deviation.{zero64, outsideUnit}
 use Rattle.common.specs.Lent.{over}
@@ -17,7 +17,10 @@ use Rattle.trcf.specs.declared.head.Preprocessor.{Preprocessor}
 use Rattle.snapshot.specs.Text.{render, linesBy, bodyLines, setLine, singles, chnLine, cntLine, devLine, timLine, bufLine, whole, float}
 use Rattle.snapshot.specs.Save.{unheld, unformed, fitted, heldSave, saveOf}
 use Rattle.snapshot.specs.Savable.{InMemory, TakenUp}
+use Rattle.snapshot.specs.Room.{textRoom}
+use Rattle.snapshot.proofs.SaveForm.{savable-of, saved-form}
 use Rattle.snapshot.proofs.RoundTrip.{saved-is-taken-up}
+use Rattle.snapshot.proofs.TextRoom.{text-fits}
 
 all : Unit {0}
 unfolding over saveOf heldSave fitted unformed unheld settingsRow misfit lentShort view block dimension waiting allOne finite outsideUnit render linesBy bodyLines setLine singles chnLine cntLine devLine timLine bufLine whole float toBits ofBits ofFields odd fits size le lt
@@ -88,3 +91,8 @@ in-memory = record { settings = record { stopFits = omega arith; decayFits = tt;
 pub taken-again : TakenUp (headWith 0 1 0 1) held room (memory (9 ∷ 9 ∷ []) (9 ∷ 9 ∷ [])) []
 unfolding all
 taken-again = saved-is-taken-up (headWith 0 1 0 1) held in-memory room one-waits (memory (9 ∷ 9 ∷ []) (9 ∷ 9 ∷ [])) refl []
+
+-- and its text takes no more than the room that it is given by d, k and start
+pub text-within : length (render (view (headWith 0 1 0 1) held)) ≤ textRoom 1 2 2
+unfolding all
+text-within = text-fits (view (headWith 0 1 0 1) held) (saved-form (headWith 0 1 0 1) held in-memory (savable-of (headWith 0 1 0 1) held room one-waits))

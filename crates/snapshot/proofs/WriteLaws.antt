@@ -136,9 +136,10 @@ whole-pos m = go (ltb m 10) refl
     go true e = rw (whole-less m (ltb-true _ _ e)) (omega arith)
     go false e = omega (arith, whole-more-length m (ltb-false _ _ e))
 
-short : (k m : ℕ) → m < 10 ^ suc k → length (whole m) ≤ suc k
-short zero m h = rw (whole-less m h) (omega arith)
-short (suc k) m h = go (ltb m 10) refl (short k (m / 10))
+-- a number of at most k + 1 digits
+pub whole-within : (k m : ℕ) → m < 10 ^ suc k → length (whole m) ≤ suc k
+whole-within zero m h = rw (whole-less m h) (omega arith)
+whole-within (suc k) m h = go (ltb m 10) refl (whole-within k (m / 10))
   where
     go : (b : Bool) → ltb m 10 ≡ b → (m / 10 < 10 ^ suc k → length (whole (m / 10)) ≤ suc k) → length (whole m) ≤ suc (suc k)
     go true e ih = rw (whole-less m (ltb-true _ _ e)) (omega arith)
@@ -148,7 +149,7 @@ short (suc k) m h = go (ltb m 10) refl (short k (m / 10))
         omega (arith, whole-more-length m g, ih (omega arith))
 
 pub whole-short : (m : ℕ) → m ≤ wholeMax → length (whole m) ≤ 20
-whole-short m h = short 19 m (omega arith)
+whole-short m h = whole-within 19 m (omega arith)
 
 -- ---- the bits of a number: `to_bits` is asked only where x is one
 

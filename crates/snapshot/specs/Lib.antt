@@ -9,5 +9,6 @@ pub mod Save
 pub mod Judge
 pub mod Restore
 pub mod Savable
+pub mod Room
 pub mod Runs
 pub mod Ascii

@@ -167,7 +167,7 @@ fn drain(repeats: usize, start: u64) -> (f64, f64) {
 
 fn save(repeats: usize, start: u64) -> (f64, usize) {
     let ours = awaited(start).1;
-    let mut text = vec![0; 500_400];
+    let mut text = vec![0; 363_245];
     let mut length = 0;
     let times = (0..repeats).map(|_| timed(|| length = black_box(&ours).save_into(&mut text).unwrap())).collect();
     (median(times), length)
