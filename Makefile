@@ -15,7 +15,7 @@ STRICT = -std=c99 -Wall -Wextra -Wpedantic -Wconversion -Werror
 
 HEADER = include/veerycouch.h
 ARCHIVE = target/lib/libveerycouch.a
-VERSION := $(shell sed -n 's/^\#define VEERYCOUCH_VERSION_TEXT "\(.*\)"/\1/p' $(HEADER))
+VERSION := $(or $(shell sed -n 's/^\#define VEERYCOUCH_VERSION_TEXT "\(.*\)"/\1/p' $(HEADER)),$(shell sed -n 's/^\#define VEERYCOUCH_HEADER //p' $(HEADER)))
 PROVED := $(shell for c in $$(tools/build-program --below capi) capi; do find crates/$$c/src crates/$$c/specs crates/$$c/proofs -type f 2>/dev/null; done)
 EXAMPLES = $(basename $(notdir $(wildcard examples/*.c)))
 
@@ -30,7 +30,7 @@ $(ARCHIVE): target/staticlib/libcapi.a
 	@mkdir -p $(@D)
 	cp $< $@
 
-# names the folders of the last make or make install
+# for use from this folder; install writes one of its own
 target/lib/pkgconfig/veerycouch.pc: $(HEADER) Makefile
 	@mkdir -p $(@D)
 	@printf 'prefix=%s\nlibdir=%s\nincludedir=%s\n\nName: veerycouch\nDescription: the proved preprocessor of a streaming anomaly detector\nVersion: %s\nLibs: -L$${libdir} -lveerycouch\nCflags: -I$${includedir}\n' '$(CURDIR)' '$(CURDIR)/target/lib' '$(CURDIR)/include' '$(VERSION)' >$@
@@ -42,6 +42,7 @@ install: all
 	sed -e 's|^prefix=.*|prefix=$(PREFIX)|' -e 's|^libdir=.*|libdir=$(LIBDIR)|' -e 's|^includedir=.*|includedir=$(INCLUDEDIR)|' target/lib/pkgconfig/veerycouch.pc >target/lib/veerycouch.pc
 	install -m 644 target/lib/veerycouch.pc $(DESTDIR)$(LIBDIR)/pkgconfig/veerycouch.pc
 
+# some seconds, once the library is built
 test: test-header $(EXAMPLES:%=test-%) test-cpp test-wrapper
 	@echo "make test: all passed"
 
