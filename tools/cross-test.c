@@ -174,7 +174,9 @@ static void draw_role(void) {
     table_length = 16;
     role = below(4);
     if (one_in(12))
-        table[below(16)] = one_in(4) ? 2 : 0;
+        table[below(16)] = 0;
+    if (one_in(60))
+        table[below(16)] = 2;
     if (one_in(60))
         table_length = 15 + below(2) * 2;
     if (one_in(60))
@@ -211,12 +213,16 @@ static size_t reading(float *input) {
     }
     return one_in(40) ? m->d + 1 - 2 * below(2) : m->d;
 }
+static uint64_t any_width(void) {
+    const uint64_t x = any();
+    return x >> below(64);
+}
 static uint64_t time_of_call(void) {
     uint64_t t = newest + below(6);
     if (one_in(15) && t > 3)
         t -= 3;
     if (one_in(200))
-        t = any() >> below(64);
+        t = any_width();
     return t;
 }
 
@@ -292,7 +298,8 @@ static void learn(void) {
     const size_t y_n = m->dimension + (one_in(30) ? 1 : 0), expected_n = m->dimension + (one_in(30) ? 1 : 0);
     const int graded = one_in(2), wild = one_in(20);
     const float grade = wild ? any_float() : graded ? 1.0f : 0.0f;
-    const int32_t relative = (one_in(20) ? 1 : 0) - (int32_t)below(m->k + (one_in(10) ? 1 : 0));
+    const uint64_t ahead = one_in(20) ? 1 : 0, too_far = one_in(10) ? 1 : 0, back = below(m->k + too_far);
+    const int32_t relative = (int32_t)ahead - (int32_t)back;
     const size_t r1 = room(m->w), r2 = room(m->d), r3 = room(m->d);
     clear(output), clear(second), clear(third);
     const uint64_t row = told(LEARN, veerycouch_post_process(ACCESS HEAD(m), PARTS(m), input, n, t, has_y, y, y_n, expects, expected, expected_n, grade,
@@ -474,12 +481,15 @@ static void bad_head(void) {
     const int random_word = one_in(4);
     const uint64_t word = edge[below(sizeof edge / sizeof edge[0])];
     m->head[at] = random_word ? any() : word;
+    const uint64_t time = any();
+    const float value = any_float();
+    const double number = any_double();
     if (one_in(5) && m->length[4] > 0)
-        m->previous_timestamps[below(m->length[4])] = any();
+        m->previous_timestamps[below(m->length[4])] = time;
     if (one_in(5) && m->length[5] > 0)
-        m->initial_values[below(m->length[5])] = any_float();
+        m->initial_values[below(m->length[5])] = value;
     if (one_in(5) && m->length[1] > 0)
-        m->statistics[below(m->length[1])] = any_double();
+        m->statistics[below(m->length[1])] = number;
     calls_of[BAD_HEAD]++;
     const uint64_t damaged_word = m->head[at];
     struct memory *const here = m;
@@ -505,7 +515,7 @@ static void fill(void) {
     if (one_in(5))
         switch (below(6)) {
         case 0: method = one_in(2) ? 4 : 0x100000000ULL; break;
-        case 1: d = one_in(2) ? 0 : 17 + below(2) * any() / 2; break;
+        case 1: d = one_in(2) ? 0 : 17 + any_width() / 2; break;
         case 2: marked = n + 1; break;
         case 3: given = (size_t)d - 1; break;
         case 4: marks[below(40)] = 2; break;
@@ -534,7 +544,7 @@ static void compare(void) {
     for (size_t i = 0; i < D_MAX; i++)
         gaps[i] = -7.5f;
     size_t cells = n * (size_t)d, space = one_in(12) ? below(3) : 20, channels = one_in(20) ? (size_t)d - 1 : (size_t)d + below(2);
-    const uint64_t tolerance = one_in(10) ? any() >> below(64) : below(4);
+    const uint64_t tolerance = one_in(10) ? any_width() : below(4);
     if (one_in(20))
         d = one_in(2) ? 0 : 17 + any() / 2;
     if (one_in(20))
