@@ -4,7 +4,7 @@
 #   make test                 the header against the sources, the C examples against what they should print, the wrapper's tests
 #   make fuzz SECONDS=60      damaged texts and heads in memory between guard pages, under two sanitizers
 #   tools/cross TARGET        the archive for another processor
-# From nothing, `make` proves 13 crates, which takes about ten minutes on two processors, and says which one it is at. Sources that have not changed are
+# From nothing, `make` proves the library and what it rests on, which takes about ten minutes on two processors, and says which crate it is at. Sources that have not changed are
 # not proved again.
 PREFIX ?= /usr/local
 LIBDIR ?= $(PREFIX)/lib
