@@ -24,6 +24,9 @@
  * They are asked in this order, but for these: a head of fewer than VEERYCOUCH_HEAD_WORDS words is refused by 20 before all else (by build:
  * after rows 1 to 9; by restore: after 19 and 27), a number that names no mode, no method, no rule or no code by 19 before rows 1 to 9, 27 stands
  * between 19 and 20, 21 and 24 stand behind 10, and 26 stands before 20.
+ * That a part is too short is asked last. A row before it that reads the part reads what is there: of too few previous_timestamps the last one counts as
+ * the newest time, so that 12 may not hold and 13, 14, 18 or 20 shows; where initial_timestamps has no element nothing is seen to wait, so that a drain
+ * gives 15. Whichever row shows, the call is refused and has changed nothing.
  *
  * THE CODES. Each of the d channels has a code of 16 bits, whatever the caller means by it. build is given them, the text carries them, and restore
  * is told the ones expected: a text of other channels is refused by 27. A text of before there were codes has none, and is read as one with d zeros.
@@ -32,8 +35,8 @@
  * behind keeps its contents. With d, k and start as given to build, w = d in STANDARD and d + 1 in TIME_AUGMENTED:
  *   head                  VEERYCOUCH_HEAD_WORDS words      statistics            3 * (5 * d + 5) doubles
  *   last_shingled_input   d * k floats                     last_shingled_point   w * k floats (get_dimension)
- *   previous_timestamps   k                                initial_values        start * d floats
- *   initial_timestamps    start
+ *   previous_timestamps   k                                initial_values        start * d floats, under methods 0 to 3 none
+ *   initial_timestamps    start, under methods 0 to 3 none (a part of no elements still has a pointer that is not NULL)
  * These seven belong together from build on: between two calls nobody else may write them, and they may be copied, and moved, as bytes.
  *
  * THE HEAD. 44 words of 64 bits, so that a firmware can look at it, or keep it:

@@ -16,11 +16,10 @@ use trcf_calls::queries::transformation_method;
 use trcf_calls::queries::values_seen;
 use trcf_rows::rows::used;
 ghost use mathlib.Core.Path.{_≡_};
-ghost use lib.Dec.{leb};
 ghost use Rattle.trcf.specs.Types.{methodNumber};
 ghost use Rattle.trcf.specs.Settings.{dimension};
 ghost use Rattle.trcf.specs.Preprocessor.{accepted, panelOf};
-ghost use Rattle.trcf.specs.View.{settingsOf, headRow, alone};
+ghost use Rattle.trcf.specs.View.{settingsOf, headRow, alone, readyOf};
 ghost use Rattle.trcf.specs.declared.head.Preprocessor.{Preprocessor};
 ghost use Rattle.capi.specs.Head.{modeNumber};
 ghost use Rattle.capi.specs.Calls.{got, getAt, flag, codesGot, codesAt};
@@ -73,7 +72,7 @@ pub extern "C" fn veerycouch_internal_timestamp(head: &[u64], answer: &mut u64) 
 // 1 where the shingle is full, else 0.
 #[no_mangle]
 pub extern "C" fn veerycouch_is_ready(head: &[u64], answer: &mut u64) -> u64
-    ensures { λ r. ⌜ got r (now (answer .exit)) ≡ getAt (now (head .entry)) (now (answer .entry)) (λ (h : Preprocessor). flag (leb (h .«shingle_size») (h .«internal_timestamp»))) ⌝ }
+    ensures { λ r. ⌜ got r (now (answer .exit)) ≡ getAt (now (head .entry)) (now (answer .entry)) (λ (h : Preprocessor). flag (readyOf h)) ⌝ }
 {
     let read = read_head(head);
     let bad = read.row;

@@ -17,9 +17,10 @@ use Rattle.trcf.proofs.FitLaws.{all-append}
 use Rattle.trcf.specs.Types.{augments}
 use Rattle.trcf.specs.Settings.{Settings, Valid, waiting, block, dimension}
 use Rattle.trcf.specs.Calls.{Call, Machine, status}
-use Rattle.trcf.specs.Preprocessor.{State, statisticsLength, fresh, refusal, change, next, run, Answer, answer, answers, accepted, panelOf}
-use Rattle.trcf.specs.View.{Lent, lent, alone, settingsOf, view, laid, counted, headFrom, headTable, headRow, lentShort, misfit, shortRow, lentRow, rowOf, answerOf, headAfter, lentAfter, buildRow, buildOf, Outcome, outcome}
+use Rattle.trcf.specs.Preprocessor.{State, statisticsLength, fresh, refusal, change, next, run, Answer, answer, answers, accepted}
+use Rattle.trcf.specs.View.{Lent, lent, settingsOf, view, laid, counted, headFrom, headTable, headRow, initialRoom, lentShort, misfit, ownRow, readyOf, gettersOf, shortRow, lentRow, rowOf, answerOf, headAfter, lentAfter, buildRow, buildOf, Outcome, outcome}
 use Rattle.trcf.specs.declared.head.Preprocessor.{Preprocessor}
+use Rattle.trcf.proofs.RefusalLaws.{room-start}
 use Rattle.trcf.proofs.ViewLaws.{row-is, answer-is, Shaped, view-laid}
 use Rattle.snapshot.specs.Text.{render, TextOf}
 use Rattle.snapshot.specs.Form.{Form}
@@ -31,12 +32,12 @@ use Rattle.snapshot.specs.Runs.{Few, HeadFew}
 use Rattle.snapshot.proofs.BodyLaws.{room-of, dimension-is}
 use Rattle.snapshot.proofs.ReadText.{put-away}
 use Rattle.snapshot.proofs.SaveForm.{Savable, saved-fitted, form-savable}
-use Rattle.snapshot.proofs.RoundTrip.{settings-are, shaped-of, few-of, initial-few, past-not, laid-short, restored-as, restored-view}
-use Rattle.restart.specs.History.{historyState, entries, historyText, historyAnswers, historyPanels}
+use Rattle.snapshot.proofs.RoundTrip.{settings-are, shaped-of, few-of, initial-room, past-not, laid-short, restored-as, restored-view}
+use Rattle.restart.specs.History.{historyState, entries, historyText, historyAnswers, historyPanels, historyShown}
 use Rattle.restart.specs.Statement.{panelTold, panels}
 use Rattle.restart.specs.Held.{Held, held, builtOn, heldNext, heldRun, heldAnswers, heldPanels, heldShown, savedTo, textIn, restoredOn, HeldRestart, HeldDemand3}
 use Rattle.restart.proofs.Step.{begins, runs, run-history}
-use Rattle.restart.proofs.Panel.{shown, shown-from, shown-history, panels-history}
+use Rattle.restart.proofs.Panel.{gettersAt, shown, shown-from, shown-history, panels-history}
 use Rattle.restart.proofs.Restart.{run-append, text-history, restorable, restart}
 use Rattle.restart.proofs.Reachable.{k>0-of, run-form}
 
@@ -64,7 +65,8 @@ module _ (s : Settings) (ok : Valid s) where
     unfolding unheld
     unheld-not =
         let h = m .head in
-        let n : h .«initial_len» ≤ h .«start_normalization» = (let a = initial-few w f in let b : w .settings .start ≡ h .«start_normalization» = ap (λ (x : Settings). x .start) (e ∙ sym (k .settled)) in omega (arith, a, b, k .counts)) in
+        let n : h .«initial_len» ≤ initialRoom (settingsOf h) =
+        (let a = initial-room w f in let b : initialRoom (w .settings) ≡ initialRoom (settingsOf h) = ap initialRoom (e ∙ sym (k .settled)) in omega (arith, a, b, k .counts)) in
         let F : HeadFew h = subst (λ (x : Settings). Few (x .d) (x .k) (x .start)) (sym (k .settled)) (few-of s ok) in
         let r = room-of h (m .lent) (h .«initial_len») F (subst (λ (x : Settings). lentShort x (m .lent) ≡ false) (sym (k .settled)) (k .room)) n in
         let wide : ℕ = cond (augments (h .«forest_mode»)) 1 0 in
@@ -72,7 +74,7 @@ module _ (s : Settings) (ok : Valid s) where
         (record {
           d-few = r .d-few;
           k-few = r .k-few;
-          n-few = omega (arith, n, F .start-few);
+          n-few = omega (arith, n, room-start (settingsOf h), F .start-few);
           in-statistics = r .in-statistics;
           in-input = r .in-input;
           in-point = subst (λ (x : ℕ). x ≤ length (m .lent .lastShingledPoint)) (sym (dimension-is (settingsOf h) wide refl)) (r .in-point);
@@ -94,9 +96,9 @@ module _ (s : Settings) (ok : Valid s) where
     held-panel : (room : List Float) → panelTold (answerOf (m .head) (m .lent) (status room)) ≡ panelTold (answer w (status room))
     held-panel room = ap panelTold (held-answer (status room))
 
-    held-shown : panelOf (alone (m .head)) ≡ panelOf w
-    unfolding view
-    held-shown = ap panelOf (k .viewed)
+    held-shown : gettersOf (m .head) ≡ gettersAt w
+    unfolding view readyOf ownRow
+    held-shown = rw (sane m w k, savable .counted) (ap gettersAt (k .viewed))
 
     -- the state that an accepted call leaves is laid back
     laid-back : (v : State) → Form v → v .settings ≡ s → Holds s (held (counted (m .head) v) (laid v (m .lent))) v
@@ -173,8 +175,8 @@ module _ (s : Settings) (ok : Valid s) where
         shows = λ i. held-shown m w k (run-form s ok done md) (settings-kept done) i ∷ (r .shows ∙ ap (λ (x : State). shown x cs) n) i;
       }
 
-  -- the panel's numbers after the calls `before`
-  shown-since : (before after : List Call) → shown (run (fresh s) before) after ≡ historyPanels s (entries s before) after
+  -- what the getters answer after the calls `before`
+  shown-since : (before after : List Call) → shown (run (fresh s) before) after ≡ historyShown s (entries s before) after
   unfolding entries
   shown-since before after =
       let k>0 = k>0-of s ok in

@@ -1,4 +1,4 @@
--- The panel at every place of a list of calls is the history's number of readings fed: what status tells, and the number itself.
+-- The panel at every place of a list of calls is the history's number of readings fed, and what the getters answer there is the history's.
 use Prim.Native.Nat.{ℕ, _≤_, _<_}
 use mathlib.Core.Path.{_≡_, refl, ap, _∙_}
 use mathlib.Core.List.{List, [], _∷_, map}
@@ -6,17 +6,38 @@ use mathlib.Core.Option.{Option, some}
 use lib.ListN.{length}
 use lib.Ieee.{Float}
 use borrow.Author.Tests.{le-ltb}
-use Rattle.trcf.specs.Settings.{Settings, block}
+use Rattle.trcf.specs.Types.{methodNumber, modeLetter}
+use Rattle.trcf.specs.Settings.{Settings, block, dimension}
 use Rattle.trcf.specs.Calls.{Call, status, table, rows}
-use Rattle.trcf.specs.Preprocessor.{State, fresh, facts, refusal, next, panelOf, statusOf, reply, answer}
-use Rattle.restart.specs.History.{Entry, enter, countOf, historyState, historyFacts, historyRefusal, historyAnswer, historyPanel, historyPanels}
+use Rattle.trcf.specs.Preprocessor.{State, fresh, facts, refusal, next, isReady, panelOf, statusOf, reply, answer}
+use Rattle.trcf.specs.View.{Getters}
+use Rattle.restart.specs.History.{Entry, enter, countOf, historyState, historyFacts, historyRefusal, historyAnswer, historyPanel, historyPanels, historyGetters, historyShown}
 use Rattle.restart.specs.Statement.{panelTold, panels}
 use Rattle.restart.proofs.Step.{Inv, begins, step, fresh-history}
 
--- the number itself at each place
-abbrev pub shown : State → List Call → List ℕ
-shown w [] = panelOf w ∷ []
-shown w (c ∷ cs) = panelOf w ∷ shown (next w c) cs
+-- what the getters answer of a state, and at each place
+abbrev pub gettersAt : State → Getters
+gettersAt w =
+    record {
+      valuesSeen = w .valuesSeen;
+      internalTimestamp = w .internalTimestamp;
+      ready = isReady w;
+      inputDimensions = w .settings .d;
+      shingleSize = w .settings .k;
+      dimensions = dimension (w .settings);
+      method = methodNumber (w .settings .method);
+      mode = modeLetter (w .settings .mode);
+      start = w .settings .start;
+      panel = panelOf w;
+    }
+
+abbrev pub shown : State → List Call → List Getters
+shown w [] = gettersAt w ∷ []
+shown w (c ∷ cs) = gettersAt w ∷ shown (next w c) cs
+
+pub getters-told : (s : Settings) (es : List Entry) → gettersAt (historyState s es) ≡ historyGetters s es
+unfolding historyState historyPanel historyGetters
+getters-told s es = refl
 
 -- the state that the history works out has the readings fed for its panel
 pub panel-fed : (s : Settings) (es : List Entry) → panelOf (historyState s es) ≡ historyPanel s es
@@ -33,13 +54,13 @@ unfolding answer historyAnswer refusal historyRefusal facts historyFacts history
 panel-at s es out h = panel-ruled s es out h
 
 module _ (s : Settings) (k>0 : 0 < s .k) where
-  pub shown-from : (es : List Entry) → Inv s es → (cs : List Call) → shown (historyState s es) cs ≡ historyPanels s es cs
-  shown-from es v [] = λ j. panel-fed s es j ∷ []
+  pub shown-from : (es : List Entry) → Inv s es → (cs : List Call) → shown (historyState s es) cs ≡ historyShown s es cs
+  shown-from es v [] = λ j. getters-told s es j ∷ []
   shown-from es v (c ∷ cs) =
       let k = step s k>0 es v c in
-      λ j. panel-fed s es j ∷ (ap (λ (w : State). shown w cs) (k .0) ∙ shown-from (enter s es c) (k .1) cs) j
+      λ j. getters-told s es j ∷ (ap (λ (w : State). shown w cs) (k .0) ∙ shown-from (enter s es c) (k .1) cs) j
 
-  pub shown-history : (cs : List Call) → shown (fresh s) cs ≡ historyPanels s [] cs
+  pub shown-history : (cs : List Call) → shown (fresh s) cs ≡ historyShown s [] cs
   shown-history cs = ap (λ (w : State). shown w cs) (fresh-history s k>0) ∙ shown-from [] (begins s k>0) cs
 
   module _ (out : List Float) (room : block s ≤ length out) where

@@ -10,12 +10,12 @@ use lib.Ieee.{Float}
 use Rattle.trcf.specs.Fit.{All}
 use Rattle.trcf.specs.Settings.{Settings, Valid, block}
 use Rattle.trcf.specs.Calls.{Call, Machine, status}
-use Rattle.trcf.specs.Preprocessor.{Answer, panelOf}
-use Rattle.trcf.specs.View.{Lent, alone, lentShort, buildOf, answerOf, headAfter, lentAfter}
+use Rattle.trcf.specs.Preprocessor.{Answer}
+use Rattle.trcf.specs.View.{Lent, lentShort, Getters, gettersOf, buildOf, answerOf, headAfter, lentAfter}
 use Rattle.trcf.specs.declared.head.Preprocessor.{Preprocessor}
 use Rattle.snapshot.specs.Save as save
 use Rattle.snapshot.specs.Restore as restore
-use Rattle.restart.specs.History.{entries, historyText, historyAnswers, historyPanels}
+use Rattle.restart.specs.History.{entries, historyText, historyAnswers, historyPanels, historyShown}
 use Rattle.restart.specs.Statement.{panelTold}
 
 pub record Held : Type 0 where
@@ -41,14 +41,15 @@ abbrev pub heldAnswers : Held → List Call → List Answer
 heldAnswers m [] = []
 heldAnswers m (c ∷ cs) = answerOf (m .head) (m .lent) c ∷ heldAnswers (heldNext m c) cs
 
--- the panel at each place: what status tells, asked with the output `room`; and what the getter `panel` gives
+-- the panel at each place: what status tells, asked with the output `room`
 abbrev pub heldPanels : List Float → Held → List Call → List (Option ℕ)
 heldPanels room m [] = panelTold (answerOf (m .head) (m .lent) (status room)) ∷ []
 heldPanels room m (c ∷ cs) = panelTold (answerOf (m .head) (m .lent) (status room)) ∷ heldPanels room (heldNext m c) cs
 
-abbrev pub heldShown : Held → List Call → List ℕ
-heldShown m [] = panelOf (alone (m .head)) ∷ []
-heldShown m (c ∷ cs) = panelOf (alone (m .head)) ∷ heldShown (heldNext m c) cs
+-- what the getters answer at each place
+abbrev pub heldShown : Held → List Call → List Getters
+heldShown m [] = gettersOf (m .head) ∷ []
+heldShown m (c ∷ cs) = gettersOf (m .head) ∷ heldShown (heldNext m c) cs
 
 -- "put away": what `save` gives of lent bytes, and the text among them
 abbrev pub savedTo : Held → List ℕ → save.Outcome
@@ -76,8 +77,9 @@ pub record HeldRestart (s : Settings) (before after : List Call) (first second :
   pub fedPanels : (room : List Float) → block s ≤ length room
       → heldPanels room (restoredOn (textIn (heldRun (builtOn s first) before) out) (s .codes) second) after ≡ map some (historyPanels s (entries s before) after)
   pub firstPanels : (room : List Float) → block s ≤ length room → heldPanels room (builtOn s first) (before ++ after) ≡ map some (historyPanels s [] (before ++ after))
-  pub fedShown : heldShown (restoredOn (textIn (heldRun (builtOn s first) before) out) (s .codes) second) after ≡ historyPanels s (entries s before) after
-  pub firstShown : heldShown (builtOn s first) (before ++ after) ≡ historyPanels s [] (before ++ after)
+  -- and what every getter answers there
+  pub fedShown : heldShown (restoredOn (textIn (heldRun (builtOn s first) before) out) (s .codes) second) after ≡ historyShown s (entries s before) after
+  pub firstShown : heldShown (builtOn s first) (before ++ after) ≡ historyShown s [] (before ++ after)
 
 -- for all settings that no row refuses, all calls, all places, and all lent memory that is long enough
 abbrev pub HeldDemand3 : Type 0

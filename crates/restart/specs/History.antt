@@ -4,14 +4,16 @@ use Prim.Native.Nat.{ℕ, zero, suc, _+_, _*_}
 use mathlib.Core.Bool.{Bool, true, false, cond, _&&_}
 use mathlib.Core.List.{List, [], _∷_, _++_}
 use mathlib.Core.Option.{Option, none, some}
-use lib.Dec.{ltb, eqb}
+use lib.Dec.{ltb, leb, eqb}
 use lib.ListN.{length, replicate}
 use lib.Ieee.{Float}
 use Rattle.trcf.specs.Lists.{lastN, lastOr}
+use Rattle.trcf.specs.Types.{methodNumber, modeLetter}
 use Rattle.trcf.specs.Transformer.{zero32}
 use Rattle.trcf.specs.Settings.{Settings, dimension, waiting}
 use Rattle.trcf.specs.Calls.{Learn, Forecast, Call, shingledPoint, postProcess, drain, transform, invertExtrapolation, scale, shift, status, Facts, rows}
 use Rattle.trcf.specs.Preprocessor.{Reading, reading, transformedAfter, State, accepted, Answer, refused, reply}
+use Rattle.trcf.specs.View.{Getters}
 use Rattle.snapshot.specs.Text.{render}
 use Rattle.restart.specs.Statistics.{Fed, fedAfter, statisticsFrom}
 
@@ -221,3 +223,25 @@ historyPanel s es = countOf s es
 abbrev pub historyPanels : Settings → List Entry → List Call → List ℕ
 historyPanels s es [] = historyPanel s es ∷ []
 historyPanels s es (c ∷ cs) = historyPanel s es ∷ historyPanels s (enter s es c) cs
+
+-- ---- the getters: the history's own numbers, "Ready means internal ≥ k.", and the settings
+
+unfoldable pub historyGetters : Settings → List Entry → Getters
+historyGetters s es =
+    record {
+      valuesSeen = seenOf es;
+      internalTimestamp = internalOf es;
+      ready = leb (s .k) (internalOf es);
+      inputDimensions = s .d;
+      shingleSize = s .k;
+      dimensions = dimension s;
+      method = methodNumber (s .method);
+      mode = modeLetter (s .mode);
+      start = s .start;
+      panel = historyPanel s es;
+    }
+
+-- at each of a list's places
+abbrev pub historyShown : Settings → List Entry → List Call → List Getters
+historyShown s es [] = historyGetters s es ∷ []
+historyShown s es (c ∷ cs) = historyGetters s es ∷ historyShown s (enter s es c) cs

@@ -21,19 +21,19 @@ use Rattle.trcf.specs.Calls as Calls
 use Rattle.trcf.specs.Transformer as Transformer
 use Rattle.trcf.specs.Preprocessor as Preprocessor
 use Rattle.trcf.specs.View as View
-use Rattle.trcf.specs.View.{Lent, lent, lentShort}
+use Rattle.trcf.specs.View.{Lent, lent, lentShort, Getters}
 use Rattle.trcf.specs.Fit.{All}
 use Rattle.trcf.specs.Settings.{Settings, Valid, settingsRow}
 use Rattle.trcf.specs.Calls.{Call, Machine, shingledPoint, postProcess, drain, transform, invertExtrapolation, scale, shift, status}
 use Rattle.trcf.specs.Preprocessor.{State, fresh, run, answers, Answer, refused, absent, done, wrote, learnt, turned, told}
-use Rattle.trcf.specs.declared.types.TransformMethod.the-variants.{NORMALIZE, «NORMALIZE_DIFFERENCE»}
+use Rattle.trcf.specs.declared.types.TransformMethod.the-variants.{DIFFERENCE, NORMALIZE, «NORMALIZE_DIFFERENCE»}
 use Rattle.trcf.specs.declared.types.ForestMode.the-variants.{STANDARD, «TIME_AUGMENTED»}
 use Rattle.snapshot.specs.Text as Text
 use Rattle.snapshot.specs.Text.{render}
 use Rattle.snapshot.specs.Ascii.{text}
 use Rattle.snapshot.specs.Read.{taken}
 use Rattle.restart.specs.History as History
-use Rattle.restart.specs.History.{Entry, initial, learned, drained, entries, historyText, historyAnswers, historyPanels}
+use Rattle.restart.specs.History.{Entry, initial, learned, drained, entries, historyText, historyAnswers, historyPanels, historyShown}
 use Rattle.restart.specs.Statement.{Restart, Event, called, restarted, callsOf, panels, panelsEvents, historyPanelsEvents, Restarts}
 use Rattle.restart.specs.Held.{Held, builtOn, heldRun, heldAnswers, heldPanels, heldShown, savedTo, textIn, restoredOn, HeldRestart}
 use Rattle.restart.proofs.Restart.{demand-3}
@@ -41,7 +41,7 @@ use Rattle.restart.proofs.Held.{held-demand-3}
 use Rattle.trcf.specs.Preprocessor.{Reading, reading, statisticsLength}
 use Rattle.restart.specs.Statistics as Statistics
 use Rattle.restart.specs.Statistics.{Fed, fedAfter, statisticsFrom}
-use Rattle.restart_program.specs.Program.{returns, ran, answerRead, returnedPanels, shownPanels, ProgramRestart}
+use Rattle.restart_program.specs.Program.{returns, ran, answerRead, returnedPanels, shownGetters, ProgramRestart}
 use Rattle.restart_program.proofs.Program.{program-demand-3}
 
 -- to unfold this is to unfold whatever its line names
@@ -250,18 +250,48 @@ ruled = refl
 stranding-answers : heldAnswers (restoredOn putAway (7 ∷ []) filthy) (drop 4 stranding) ≡ pointAnswer ∷ learnAnswer ∷ refused 20 ∷ []
 stranding-answers = stranding-held .ruledAnswers ∙ ruled
 
--- and its panel, as status tells it and as the getter gives it
+-- its panel, as status tells it
 held-panels : heldPanels oneRoom (restoredOn putAway (7 ∷ []) filthy) (drop 4 stranding) ≡ map some (1 ∷ 1 ∷ 2 ∷ 2 ∷ [])
 held-panels = stranding-held .fedPanels oneRoom one-fits ∙ ap (map some) stranding-fed
 
 held-panels-first : heldPanels oneRoom (builtOn strands dirty) stranding ≡ map some (0 ∷ 0 ∷ 0 ∷ 1 ∷ 1 ∷ 1 ∷ 2 ∷ 2 ∷ [])
 held-panels-first = stranding-held .firstPanels oneRoom one-fits ∙ ap (map some) stranding-fed-first
 
-held-shown : heldShown (restoredOn putAway (7 ∷ []) filthy) (drop 4 stranding) ≡ 1 ∷ 1 ∷ 2 ∷ 2 ∷ []
-held-shown = stranding-held .fedShown ∙ stranding-fed
+-- what its getters answer: readings seen, shingled, whether the shingle is full, and the panel; the rest is the settings'
+abbrev tell : ℕ → ℕ → Bool → ℕ → Getters
+tell seen internal full fed =
+    record {
+      valuesSeen = seen;
+      internalTimestamp = internal;
+      ready = full;
+      inputDimensions = 1;
+      shingleSize = 2;
+      dimensions = 2;
+      method = 4;
+      mode = 83;
+      start = 1;
+      panel = fed;
+    }
 
-held-shown-first : heldShown (builtOn strands dirty) stranding ≡ 0 ∷ 0 ∷ 0 ∷ 1 ∷ 1 ∷ 1 ∷ 2 ∷ 2 ∷ []
-held-shown-first = stranding-held .firstShown ∙ stranding-fed-first
+abbrev since : List Getters
+since = tell 2 1 false 1 ∷ tell 2 1 false 1 ∷ tell 3 2 true 2 ∷ tell 3 2 true 2 ∷ []
+
+abbrev throughout : List Getters
+throughout = tell 0 0 false 0 ∷ tell 1 0 false 0 ∷ tell 1 0 false 0 ∷ tell 2 1 false 1 ∷ since
+
+stranding-shown : historyShown strands (entries strands (take 4 stranding)) (drop 4 stranding) ≡ since
+unfolding recording History.historyGetters
+stranding-shown = refl
+
+stranding-shown-first : historyShown strands [] stranding ≡ throughout
+unfolding recording History.historyGetters
+stranding-shown-first = refl
+
+held-shown : heldShown (restoredOn putAway (7 ∷ []) filthy) (drop 4 stranding) ≡ since
+held-shown = stranding-held .fedShown ∙ stranding-shown
+
+held-shown-first : heldShown (builtOn strands dirty) stranding ≡ throughout
+held-shown-first = stranding-held .firstShown ∙ stranding-shown-first
 
 -- both ends as places
 last-fits : length (historyText strands stranding) ≤ 726
@@ -398,11 +428,91 @@ program-panels = program-held .fedPanels oneRoom one-fits ∙ ap (map some) stra
 program-panels-first : returnedPanels oneRoom (builtOn strands dirty) stranding ≡ map some (0 ∷ 0 ∷ 0 ∷ 1 ∷ 1 ∷ 1 ∷ 2 ∷ 2 ∷ [])
 program-panels-first = program-held .firstPanels oneRoom one-fits ∙ ap (map some) stranding-fed-first
 
-program-shown : shownPanels (restoredOn programPutAway (7 ∷ []) filthy) (drop 4 stranding) ≡ 1 ∷ 1 ∷ 2 ∷ 2 ∷ []
-program-shown = program-held .fedShown ∙ stranding-fed
+program-shown : shownGetters (restoredOn programPutAway (7 ∷ []) filthy) (drop 4 stranding) ≡ since
+program-shown = program-held .fedShown ∙ stranding-shown
 
-program-shown-first : shownPanels (builtOn strands dirty) stranding ≡ 0 ∷ 0 ∷ 0 ∷ 1 ∷ 1 ∷ 1 ∷ 2 ∷ 2 ∷ []
-program-shown-first = program-held .firstShown ∙ stranding-fed-first
+program-shown-first : shownGetters (builtOn strands dirty) stranding ≡ throughout
+program-shown-first = program-held .firstShown ∙ stranding-shown-first
+
+-- ---- a method that never waits: neither is lent memory for readings that wait
+
+abbrev differs : Settings
+differs = record { mode = STANDARD; method = DIFFERENCE; d = 1; k = 1; start = 3; stop = 9; decay = ofBits binary64 0; weightTime = one; weights = one ∷ []; codes = 7 ∷ [] }
+
+differs-valid : Valid differs
+unfolding computing
+differs-valid = record {
+  accepted = refl;
+  machine = record { stopFits = omega arith; decayFits = tt; weightTimeFits = tt; weightsFit = (tt, tt); codesFit = (omega arith, tt) };
+}
+
+abbrev differing : List Call
+differing = learnAt (four ∷ []) 5 (some (one ∷ [])) ∷ learnAt (six ∷ []) 6 (some (two ∷ [])) ∷ []
+
+differing-machine : All Machine differing
+unfolding computing
+differing-machine = (((tt, tt), (omega arith), (tt, tt)), (((tt, tt), (omega arith), (tt, tt)), tt))
+
+abbrev bare : Lent
+bare = lent (replicate 30 nan) (six ∷ []) (nan ∷ []) (3 ∷ []) [] []
+
+differing-fits : length (historyText differs (take 1 differing)) ≤ 1000
+unfolding writing
+differing-fits = omega arith
+
+differing-held : ProgramRestart differs (take 1 differing) (drop 1 differing) bare bare (replicate 1000 10) (replicate 1000 255)
+unfolding computing
+differing-held =
+    program-demand-3 differs differs-valid (take 1 differing) (drop 1 differing) (all-take Machine 1 differing differing-machine) (all-drop Machine 1 differing differing-machine)
+    bare bare refl refl (replicate 1000 10) (replicate 1000 255) differing-fits
+
+-- ---- the largest settings, d 16, k 64, start 1,999: what is put away is taken up
+
+abbrev largest : Settings
+largest =
+    record {
+      mode = «TIME_AUGMENTED»;
+      method = «NORMALIZE_DIFFERENCE»;
+      d = 16;
+      k = 64;
+      start = 1999;
+      stop = 18446744073709551615;
+      decay = ofBits binary64 0x3fef_ffff_ffff_ffff;
+      weightTime = one;
+      weights = replicate 16 two;
+      codes = replicate 16 65535;
+    }
+
+largest-valid : Valid largest
+unfolding computing
+largest-valid = record {
+  accepted = refl;
+  machine = record {
+    stopFits = omega arith;
+    decayFits = tt;
+    weightTimeFits = tt;
+    weightsFit = (tt, (tt, (tt, (tt, (tt, (tt, (tt, (tt, (tt, (tt, (tt, (tt, (tt, (tt, (tt, (tt, tt))))))))))))))));
+    codesFit = (
+      omega arith,
+      (
+        omega arith,
+        (
+          omega arith,
+          (
+            omega arith,
+            (
+              omega arith,
+              (omega arith, (omega arith, (omega arith, (omega arith, (omega arith, (omega arith, (omega arith, (omega arith, (omega arith, (omega arith, (omega arith, tt))))))))))),
+            ),
+          ),
+        ),
+      ),
+    );
+  };
+}
+
+largest-restart : Restart largest [] []
+largest-restart = demand-3 .once largest largest-valid [] [] tt
 
 -- ---- the text of the other list, each statistic a fold over its own scores
 

@@ -14,22 +14,22 @@ use Rattle.trcf.specs.Fit.{All}
 use Rattle.trcf.specs.Transformer.{zero32}
 use Rattle.trcf.specs.Settings.{Settings, Valid, block, dimension, waiting}
 use Rattle.trcf.specs.Calls.{Learn, Call, Machine, shingledPoint, postProcess, drain, transform, invertExtrapolation, scale, shift, status, rows, table, given, Facts}
-use Rattle.trcf.specs.Preprocessor.{State, Answer, refused, absent, done, wrote, learnt, turned, told, Anomaly, Learned, Status, reading, drained, pointOf, statisticsLength, change, reply, accepted, statusOf, answer, facts, panelOf}
-use Rattle.trcf.specs.View.{Lent, lent, alone, optional, settingsFrom, settingsOf, view, counted, laid, headRow, lentShort, misfit, shortRow, lentRow, rowOf, orElse, answerOf, headAfter, lentAfter, Roomy, Fitted, Written, written, writtenOf, writeOf, StatusOutcome, untold, statusRead, statusAfter, drainOf, PointOutcome, pointed, pointRead, pointAfter, LearnOutcome, learnRead, learnAfter, anomalyTime, anomalyLikelihood}
+use Rattle.trcf.specs.Preprocessor.{State, Answer, refused, absent, done, wrote, learnt, turned, told, Anomaly, Learned, Status, reading, drained, pointOf, statisticsLength, change, reply, accepted, statusOf, answer, facts}
+use Rattle.trcf.specs.View.{Lent, lent, optional, settingsFrom, settingsOf, view, counted, laid, headRow, initialRoom, lentShort, gettersOf, misfit, shortRow, lentRow, rowOf, orElse, answerOf, headAfter, lentAfter, Roomy, Fitted, Written, written, writtenOf, writeOf, StatusOutcome, statusRead, statusAfter, drainOf, PointOutcome, pointed, pointRead, pointAfter, LearnOutcome, learnRead, learnAfter, anomalyTime, anomalyLikelihood}
 use Rattle.trcf.specs.Extrapolation.{Extrapolation, extrapolationOf, extrapolationRead, unread}
 use Rattle.trcf.specs.declared.head.Preprocessor.{Preprocessor}
 use Rattle.trcf.proofs.FitLaws.{all-append}
-use Rattle.trcf.proofs.RefusalLaws.{misfit-few, misfit-counted}
+use Rattle.trcf.proofs.RefusalLaws.{misfit-few, misfit-room, misfit-counted}
 use Rattle.trcf.proofs.StateLaws.{same-head, same-lent}
 use Rattle.trcf.proofs.ViewLaws.{answer-is}
 use Rattle.trcf.proofs.ExtrapolationLaws.{extrapolation-answers}
 use Rattle.snapshot.specs.Save as save
 use Rattle.snapshot.specs.Restore as restore
-use Rattle.restart.specs.History.{Entry, entries, enter, historyState, historyFacts, historyRefusal, historyAnswer, historyText, historyAnswers, historyPanels}
+use Rattle.restart.specs.History.{Entry, entries, enter, historyState, historyFacts, historyRefusal, historyAnswer, historyText, historyAnswers, historyPanels, historyShown}
 use Rattle.restart.specs.Statement.{panelTold}
 use Rattle.restart.specs.Held.{Held, held, builtOn, heldNext, heldRun, heldAnswers, heldPanels, heldShown, savedTo, textIn, restoredOn, HeldRestart}
 use Rattle.restart.proofs.Held.{held-demand-3}
-use Rattle.restart_program.specs.Program.{Return, point, learn, drains, writes, turns, tells, pointReturn, learnReturn, returnOf, leftBy, ran, returns, anomalyRead, byRow, answerRead, returnedPanels, shownPanels, ProgramRestart, ProgramDemand3, listOf, Arguments}
+use Rattle.restart_program.specs.Program.{Return, point, learn, drains, writes, turns, tells, pointReturn, learnReturn, returnOf, leftBy, ran, returns, anomalyRead, byRow, answerRead, returnedPanels, shownGetters, ProgramRestart, ProgramDemand3, listOf, Arguments}
 
 -- ---- a row 0 of a call says that what is lent is long enough
 
@@ -71,8 +71,8 @@ module _ (h : Preprocessor) (l : Lent) where
       let b2 : Bool = ltb (length (l .lastShingledInput)) (s .d * s .k) in
       let b3 : Bool = ltb (length (l .lastShingledPoint)) (dimension s) in
       let b4 : Bool = ltb (length (l .previousTimestamps)) (s .k) in
-      let b5 : Bool = ltb (length (l .initialValues)) (s .start * s .d) in
-      let b6 : Bool = ltb (length (l .initialTimestamps)) (s .start) in
+      let b5 : Bool = ltb (length (l .initialValues)) (initialRoom s * s .d) in
+      let b6 : Bool = ltb (length (l .initialTimestamps)) (initialRoom s) in
       let e1 = or-both b1 (b2 || (b3 || (b4 || (b5 || b6)))) e in
       let e2 = or-both b2 (b3 || (b4 || (b5 || b6))) (e1 .1) in
       let e3 = or-both b3 (b4 || (b5 || b6)) (e2 .1) in
@@ -83,14 +83,14 @@ module _ (h : Preprocessor) (l : Lent) where
         in-input = ltb-false (length (l .lastShingledInput)) (s .d * s .k) (e2 .0);
         in-point = ltb-false (length (l .lastShingledPoint)) (dimension s) (e3 .0);
         in-times = ltb-false (length (l .previousTimestamps)) (s .k) (e4 .0);
-        in-values = ltb-false (length (l .initialValues)) (s .start * s .d) (e5 .0);
-        in-initial = ltb-false (length (l .initialTimestamps)) (s .start) (e5 .1);
+        in-values = ltb-false (length (l .initialValues)) (initialRoom s * s .d) (e5 .0);
+        in-initial = ltb-false (length (l .initialTimestamps)) (initialRoom s) (e5 .1);
       }
 
   fitted-of : Sound h l → Fitted h l
   fitted-of o =
       let f = fits (o .long) in
-      record { roomy = roomy-of (f .1); few = misfit-few h (f .0); counted = misfit-counted h (f .0) }
+      record { roomy = roomy-of (f .1); few = misfit-few h (f .0); in-room = misfit-room h (f .0); counted = misfit-counted h (f .0) }
 
   unread-not : Sound h l → unread (settingsOf h) (length (l .statistics)) (length (l .lastShingledInput)) (length (l .previousTimestamps)) ≡ false
   unfolding unread
@@ -148,9 +148,9 @@ module _ (m : Held) where
   left-is (shift out) = reads (shift out) refl
   left-is (status out) = reads (status out) refl
 
-shown-is : (m : Held) (cs : List Call) → shownPanels m cs ≡ heldShown m cs
+shown-is : (m : Held) (cs : List Call) → shownGetters m cs ≡ heldShown m cs
 shown-is m [] = refl
-shown-is m (c ∷ cs) = λ j. panelOf (alone (m .head)) ∷ (ap (λ (x : Held). shownPanels x cs) (left-is m c) ∙ shown-is (heldNext m c) cs) j
+shown-is m (c ∷ cs) = λ j. gettersOf (m .head) ∷ (ap (λ (x : Held). shownGetters x cs) (left-is m c) ∙ shown-is (heldNext m c) cs) j
 
 pub ran-is : (m : Held) (cs : List Call) → ran m cs ≡ heldRun m cs
 ran-is m [] = refl
@@ -175,7 +175,7 @@ returned h l (transform x t out) a = writes (writtenOf out a)
 returned h l (invertExtrapolation c) a = turns (extrapolationRead c a)
 returned h l (scale out) a = writes (writtenOf out a)
 returned h l (shift out) a = writes (writtenOf out a)
-returned h l (status out) a = tells (statusRead h out a)
+returned h l (status out) a = tells (statusRead out a)
 
 -- a point's and a learn's returns look at no head
 point-free : (h k : Preprocessor) (l n : Lent) (out : List Float) (a : Answer) → pointReturn (pointRead h l out a) ≡ pointReturn (pointRead k n out a)
@@ -296,14 +296,6 @@ module _ (s : Settings) where
     pub sound : Sound (m .head) (m .lent)
     sound = sound-of (m .head) (m .lent) (status wide) no-row
 
-    -- and its numbers are the history's
-    told-same : statusOf (view (m .head) (m .lent)) wide ≡ statusOf (historyState s es) wide
-    unfolding answerOf reply
-    told-same = told-inj (sym (rw no-row) ∙ tells-all)
-      where
-        told-inj : {x y : Status} → told x ≡ told y → x ≡ y
-        told-inj e = cc
-
   -- ---- all calls
 
   read-answers : (m : Held) (es : List Entry) → Ruled m es → (cs : List Call) → All Machine cs → map answerRead (returns m cs) ≡ historyAnswers s es cs
@@ -322,58 +314,24 @@ module _ (s : Settings) where
 
 -- ---- two that answer by one history return the same, refusals included
 
--- what a refused `status` tells is what an accepted one would, over an output left as it was
-abbrev retold : Status → List Float → Status
-retold u out =
-    record {
-      valuesSeen = u .valuesSeen;
-      internalTimestamp = u .internalTimestamp;
-      ready = u .ready;
-      inputDimensions = u .inputDimensions;
-      shingleSize = u .shingleSize;
-      dimensions = u .dimensions;
-      method = u .method;
-      mode = u .mode;
-      start = u .start;
-      panel = u .panel;
-      deviationsOut = out;
-    }
-
-untold-is : (h : Preprocessor) (l : Lent) (out wide : List Float) → headRow (settingsOf h) ≡ 0 → untold h out ≡ retold (statusOf (view h l) wide) out
-unfolding statusOf view
-untold-is h l out wide e = rw e
-
-status-same : (h k : Preprocessor) (out : List Float) (a : Answer) → untold h out ≡ untold k out → statusRead h out a ≡ statusRead k out a
-status-same h k out (refused n) e = λ j. record { row = n; numbers = e j }
-status-same h k out absent e = λ j. record { row = 0; numbers = e j }
-status-same h k out done e = λ j. record { row = 0; numbers = e j }
-status-same h k out (wrote v) e = λ j. record { row = 0; numbers = e j }
-status-same h k out (learnt q) e = λ j. record { row = 0; numbers = e j }
-status-same h k out (turned q) e = λ j. record { row = 0; numbers = e j }
-status-same h k out (told q) e = refl
-
-returned-same : (h k : Preprocessor) (l n : Lent) (c : Call) (a : Answer) → ((out : List Float) → untold h out ≡ untold k out) → returned h l c a ≡ returned k n c a
-returned-same h k l n (shingledPoint x t out) a e = point-free h k l n out a
-returned-same h k l n (postProcess q) a e = learn-free h k l n q a
-returned-same h k l n drain a e = refl
-returned-same h k l n (transform x t out) a e = refl
-returned-same h k l n (invertExtrapolation c) a e = refl
-returned-same h k l n (scale out) a e = refl
-returned-same h k l n (shift out) a e = refl
-returned-same h k l n (status out) a e = ap tells (status-same h k out a (e out))
+returned-same : (h k : Preprocessor) (l n : Lent) (c : Call) (a : Answer) → returned h l c a ≡ returned k n c a
+returned-same h k l n (shingledPoint x t out) a = point-free h k l n out a
+returned-same h k l n (postProcess q) a = learn-free h k l n q a
+returned-same h k l n drain a = refl
+returned-same h k l n (transform x t out) a = refl
+returned-same h k l n (invertExtrapolation c) a = refl
+returned-same h k l n (scale out) a = refl
+returned-same h k l n (shift out) a = refl
+returned-same h k l n (status out) a = refl
 
 module _ (s : Settings) where
   same-return : (m n : Held) (es : List Entry) → Ruled s m es → Ruled s n es → (c : Call) → Machine c → returnOf n c ≡ returnOf m c
   same-return m n es r q c k =
       let a = sound s m es r in
       let b = sound s n es q in
-      let u : (out : List Float) → untold (n .head) out ≡ untold (m .head) out =
-      λ out. untold-is (n .head) (n .lent) out (wide s) (b .head)
-      ∙ ap (λ (x : Status). retold x out) (told-same s n es q ∙ sym (told-same s m es r))
-      ∙ sym (untold-is (m .head) (m .lent) out (wide s) (a .head)) in
       return-is n b c
       ∙ ap (returned (n .head) (n .lent) c) (ruled-answer s n es q c k ∙ sym (ruled-answer s m es r c k))
-      ∙ returned-same (n .head) (m .head) (n .lent) (m .lent) c (answerOf (m .head) (m .lent) c) u
+      ∙ returned-same (n .head) (m .head) (n .lent) (m .lent) c (answerOf (m .head) (m .lent) c)
       ∙ sym (return-is m a c)
 
   same-returns : (m n : Held) (es : List Entry) → Ruled s m es → Ruled s n es → (cs : List Call) → All Machine cs → returns n cs ≡ returns m cs
@@ -410,7 +368,7 @@ program-demand-3 s ok before after mb ma first second r₁ r₂ out last long =
     let ruled : map answerRead (returns N after) ≡ historyAnswers s es after = read-answers s N es q after ma in
     let fed : (room : List Float) → block s ≤ length room → returnedPanels room N after ≡ map some (historyPanels s es after) =
     λ room h. panels-read s room N es q after ma ∙ k .fedPanels room h in
-    let shown : shownPanels N after ≡ historyPanels s es after = shown-is N after ∙ k .fedShown in
+    let shown : shownGetters N after ≡ historyShown s es after = shown-is N after ∙ k .fedShown in
     let ends : savedTo (ran N after) last ≡ savedTo (ran (builtOn s first) (before ++ after)) last =
     ap (λ (x : Held). savedTo x last) (ran-is N after) ∙ k .sameText ∙ ap (λ (x : Held). savedTo x last) (sym (ran-is (builtOn s first) (before ++ after))) in
     record {
@@ -425,7 +383,7 @@ program-demand-3 s ok before after mb ma first second r₁ r₂ out last long =
           λ room h. subst (λ (x : Held). returnedPanels room (restoredOn (textIn x out) (s .codes) second) after ≡ map some (historyPanels s es after)) e (fed room h);
       firstPanels =
           λ room h. panels-read s room (builtOn s first) [] (ruled-built s ok first second r₁ r₂) (before ++ after) (all-append _ before after mb ma) ∙ k .firstPanels room h;
-      fedShown = subst (λ (x : Held). shownPanels (restoredOn (textIn x out) (s .codes) second) after ≡ historyPanels s es after) e shown;
+      fedShown = subst (λ (x : Held). shownGetters (restoredOn (textIn x out) (s .codes) second) after ≡ historyShown s es after) e shown;
       firstShown = shown-is (builtOn s first) (before ++ after) ∙ k .firstShown;
     }
 

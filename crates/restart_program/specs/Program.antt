@@ -12,11 +12,11 @@ use Rattle.trcf.specs.Fit.{All}
 use Rattle.trcf.specs.Settings.{Settings, Valid, block}
 use Rattle.trcf.specs.declared.head.PreprocessorBuilder.{PreprocessorBuilder}
 use Rattle.trcf.specs.Calls.{Learn, given, Call, Machine, shingledPoint, postProcess, drain, transform, invertExtrapolation, scale, shift, status}
-use Rattle.trcf.specs.Preprocessor.{Answer, refused, absent, done, wrote, learnt, turned, told, Anomaly, panelOf}
-use Rattle.trcf.specs.View.{Lent, alone, settingsFrom, learnCall, lentShort, buildOf, Written, StatusOutcome, PointOutcome, LearnOutcome, writeOf, statusAfter, drainOf, pointAfter, learnAfter}
+use Rattle.trcf.specs.Preprocessor.{Answer, refused, absent, done, wrote, learnt, turned, told, Anomaly}
+use Rattle.trcf.specs.View.{Lent, settingsFrom, learnCall, lentShort, Getters, gettersOf, buildOf, Written, StatusOutcome, PointOutcome, LearnOutcome, writeOf, statusAfter, drainOf, pointAfter, learnAfter}
 use Rattle.trcf.specs.Extrapolation.{Extrapolation, extrapolationOf}
 use Rattle.snapshot.specs.Restore as restore
-use Rattle.restart.specs.History.{entries, historyText, historyAnswers, historyPanels}
+use Rattle.restart.specs.History.{entries, historyText, historyAnswers, historyPanels, historyShown}
 use Rattle.restart.specs.Statement.{panelTold}
 use Rattle.restart.specs.Held.{Held, held, builtOn, savedTo, textIn, restoredOn}
 
@@ -89,15 +89,15 @@ answerRead (writes w) = byRow (w .row) (wrote (w .out))
 answerRead (turns e) = byRow (e .row) (turned (e .left))
 answerRead (tells o) = byRow (o .row) (told (o .numbers))
 
--- ---- the panel at each place: what status returns, asked with the output `room`; and what `panel` returns
+-- ---- the panel at each place: what status returns, asked with the output `room`; and what each getter returns, by the right side of its contract
 
 abbrev pub returnedPanels : List Float → Held → List Call → List (Option ℕ)
 returnedPanels room m [] = panelTold (answerRead (returnOf m (status room))) ∷ []
 returnedPanels room m (c ∷ cs) = panelTold (answerRead (returnOf m (status room))) ∷ returnedPanels room (leftBy m c) cs
 
-abbrev pub shownPanels : Held → List Call → List ℕ
-shownPanels m [] = panelOf (alone (m .head)) ∷ []
-shownPanels m (c ∷ cs) = panelOf (alone (m .head)) ∷ shownPanels (leftBy m c) cs
+abbrev pub shownGetters : Held → List Call → List Getters
+shownGetters m [] = gettersOf (m .head) ∷ []
+shownGetters m (c ∷ cs) = gettersOf (m .head) ∷ shownGetters (leftBy m c) cs
 
 -- ---- the statement
 
@@ -114,8 +114,9 @@ pub record ProgramRestart (s : Settings) (before after : List Call) (first secon
   pub fedPanels : (room : List Float) → block s ≤ length room
       → returnedPanels room (restoredOn (textIn (ran (builtOn s first) before) out) (s .codes) second) after ≡ map some (historyPanels s (entries s before) after)
   pub firstPanels : (room : List Float) → block s ≤ length room → returnedPanels room (builtOn s first) (before ++ after) ≡ map some (historyPanels s [] (before ++ after))
-  pub fedShown : shownPanels (restoredOn (textIn (ran (builtOn s first) before) out) (s .codes) second) after ≡ historyPanels s (entries s before) after
-  pub firstShown : shownPanels (builtOn s first) (before ++ after) ≡ historyPanels s [] (before ++ after)
+  -- and so is what every getter answers
+  pub fedShown : shownGetters (restoredOn (textIn (ran (builtOn s first) before) out) (s .codes) second) after ≡ historyShown s (entries s before) after
+  pub firstShown : shownGetters (builtOn s first) (before ++ after) ≡ historyShown s [] (before ++ after)
 
 abbrev pub ProgramDemand3 : Type 0
 ProgramDemand3 =

@@ -4,3 +4,4 @@ pub mod Traces
 pub mod FarCounts
 pub mod Starred
 pub mod SettingsRows
+pub mod HeldRows

@@ -19,12 +19,13 @@ use Rattle.snapshot.specs.Judge.{bufBy}
 use Rattle.snapshot.specs.Read.{Counts, mayStand}
 use Rattle.snapshot.specs.Runs.{Ran, ran, broke, told, after, behindLines, mapRan, unkept, front, many, bufs, Initial, initialOf, timesOf, timeOf, Parts, expected, ending, Body, body, partsBy, partsOf, bodyBy, filledBy, Fills, HeadFew, Room, stateFrom, Good, summed}
 use Rattle.common.specs.Lent.{over}
-use Rattle.trcf.specs.View.{Lent, lent, settingsOf, laid, lentShort}
+use Rattle.trcf.specs.View.{Lent, lent, settingsOf, laid, initialRoom, lentShort}
 use Rattle.trcf.specs.declared.head.Preprocessor.{Preprocessor}
 use Rattle.trcf.proofs.ShingleLaws.{over-part}
+use Rattle.trcf.proofs.RefusalLaws.{room-start, room-normalizing}
 use Rattle.snapshot.specs.Save.{past}
 use Rattle.snapshot.specs.declared.restore.Judged.{Judged}
-use Rattle.snapshot.proofs.Lists.{and-right}
+use Rattle.snapshot.proofs.Lists.{and-left, and-right}
 use Rattle.snapshot.proofs.SaveLaws.{held-of}
 
 -- ---- a run that breaks off is no other
@@ -150,14 +151,20 @@ module _ (s : Settings) (c : Counts) (l : List ℕ) where
           may : mayStand s c ≡ true
           may = rw (k, eq-eqb (c .internalTimestamp) 0 f) (or-true (not (eqb (c .valuesSeen) (s .start))))
 
-  pub expected-few : s .start < 2000 → expected s c l ≤ s .start
-  unfolding expected waiting
-  expected-few h = go (normalizes (s .method) && ltb (c .valuesSeen) (s .start)) refl (mayStand s c && not (null l))
+  pub expected-room : expected s c l ≤ initialRoom s
+  unfolding expected waiting mayStand
+  expected-room = go (normalizes (s .method) && ltb (c .valuesSeen) (s .start)) refl (mayStand s c && not (null l)) refl
     where
-      go : (b : Bool) → normalizes (s .method) && ltb (c .valuesSeen) (s .start) ≡ b → (a : Bool) → cond b (c .valuesSeen) (cond a (s .start) 0) ≤ s .start
-      go true e a = let k = ltb-true (c .valuesSeen) (s .start) (and-right (normalizes (s .method)) _ e) in omega (arith, k)
-      go false e true = omega arith
-      go false e false = omega arith
+      go : (b : Bool) → normalizes (s .method) && ltb (c .valuesSeen) (s .start) ≡ b → (a : Bool) → mayStand s c && not (null l) ≡ a
+          → cond b (c .valuesSeen) (cond a (s .start) 0) ≤ initialRoom s
+      go true e a f =
+          let k = ltb-true (c .valuesSeen) (s .start) (and-right (normalizes (s .method)) _ e) in
+          omega (arith, k, room-normalizing s (and-left (normalizes (s .method)) _ e))
+      go false e true f = omega (arith, room-normalizing s (and-left (normalizes (s .method)) _ (and-left (mayStand s c) _ f)))
+      go false e false f = omega arith
+
+  pub expected-few : s .start < 2000 → expected s c l ≤ s .start
+  expected-few h = omega (arith, expected-room, room-start s)
 
 -- ---- the body
 
@@ -278,27 +285,35 @@ laid-is s c b l st x y ts v us e₁ e₂ e₃ e₄ e₅ e₆ = λ i. lent (e₁ 
 -- ---- lent lists that are long enough
 
 module _ (h : Preprocessor) (l : Lent) (w : ℕ) (f : HeadFew h) (e : w ≡ cond (augments (h .«forest_mode»)) 1 0) where
-  pub short-is : past (h .transformer .«input_length») (h .«shingle_size») w (h .«start_normalization») (length (l .statistics)) (length (l .lastShingledInput))
+  pub short-is : past (h .transformer .«input_length») (h .«shingle_size») w (initialRoom (settingsOf h)) (length (l .statistics)) (length (l .lastShingledInput))
       (length (l .lastShingledPoint)) (length (l .previousTimestamps)) (length (l .initialValues)) (length (l .initialTimestamps))
       ≡ lentShort (settingsOf h) l
   unfolding lentShort
   short-is =
-      rw (le-ltb 16 (h .transformer .«input_length») (f .d-few), le-ltb 64 (h .«shingle_size») (f .k-few), le-ltb 1999 (h .«start_normalization») (few-le (h .«start_normalization») (f .start-few)), dimension-is (settingsOf h) w e)
+      rw (le-ltb 16 (h .transformer .«input_length») (f .d-few), le-ltb 64 (h .«shingle_size») (f .k-few), le-ltb 1999 (initialRoom (settingsOf h)) (few-le (initialRoom (settingsOf h)) (room-start (settingsOf h))), dimension-is (settingsOf h) w e)
     where
-      few-le : (n : ℕ) → n < 2000 → n ≤ 1999
-      few-le n k = omega (arith, k)
+      few-le : (n : ℕ) → n ≤ h .«start_normalization» → n ≤ 1999
+      few-le n k = omega (arith, k, f .start-few)
 
-pub room-of : (h : Preprocessor) (l : Lent) (n : ℕ) → HeadFew h → lentShort (settingsOf h) l ≡ false → n ≤ h .«start_normalization»
+  pub short-by : (n : ℕ) → n ≡ initialRoom (settingsOf h) → past (h .transformer .«input_length») (h .«shingle_size») w n (length (l .statistics)) (length (l .lastShingledInput))
+      (length (l .lastShingledPoint)) (length (l .previousTimestamps)) (length (l .initialValues)) (length (l .initialTimestamps))
+      ≡ lentShort (settingsOf h) l
+  short-by n q =
+      ap (λ (m : ℕ). past (h .transformer .«input_length») (h .«shingle_size») w m (length (l .statistics)) (length (l .lastShingledInput))
+      (length (l .lastShingledPoint)) (length (l .previousTimestamps)) (length (l .initialValues)) (length (l .initialTimestamps))) q
+      ∙ short-is
+
+pub room-of : (h : Preprocessor) (l : Lent) (n : ℕ) → HeadFew h → lentShort (settingsOf h) l ≡ false → n ≤ initialRoom (settingsOf h)
     → Room h n (length (l .statistics)) (length (l .lastShingledInput)) (length (l .lastShingledPoint)) (length (l .previousTimestamps)) (length (l .initialValues)) (length (l .initialTimestamps))
 room-of h l n f e k =
     let w : ℕ = cond (augments (h .«forest_mode»)) 1 0 in
-    let r = held-of (h .transformer .«input_length») (h .«shingle_size») w (h .«start_normalization») (length (l .statistics)) (length (l .lastShingledInput))
+    let r = held-of (h .transformer .«input_length») (h .«shingle_size») w (initialRoom (settingsOf h)) (length (l .statistics)) (length (l .lastShingledInput))
     (length (l .lastShingledPoint)) (length (l .previousTimestamps)) (length (l .initialValues)) (length (l .initialTimestamps)) (short-is h l w f refl ∙ e) in
     let m = mul-le-mul-right (h .transformer .«input_length») k in
     record {
       d-few = f .d-few;
       k-few = f .k-few;
-      n-few = omega (arith, k, f .start-few);
+      n-few = omega (arith, k, room-start (settingsOf h), f .start-few);
       in-statistics = r .in-statistics;
       in-input = r .in-input;
       in-point = subst (λ (x : ℕ). x ≤ length (l .lastShingledPoint)) (dimension-is (settingsOf h) w refl) (r .in-point);

@@ -97,9 +97,6 @@ mode-is STANDARD h = refl
 mode-is «TIME_AUGMENTED» h = refl
 mode-is «STREAMING_IMPUTE» h = absurd (true≢false h)
 
-pub letter-inj : (m n : ForestMode) → imputes m ≡ false → imputes n ≡ false → modeLetter m ∷ [] ≡ modeLetter n ∷ [] → m ≡ n
-letter-inj m n h k e = sym (mode-is m h) ∙ ap modeFrom e ∙ mode-is n k
-
 pub method-is : (m : TransformMethod) → methodFrom (methodNumber m) ≡ m
 method-is NONE = refl
 method-is WEIGHTED = refl
@@ -107,9 +104,6 @@ method-is DIFFERENCE = refl
 method-is «SUBTRACT_MA» = refl
 method-is NORMALIZE = refl
 method-is «NORMALIZE_DIFFERENCE» = refl
-
-pub number-inj : (m n : TransformMethod) → methodNumber m ≡ methodNumber n → m ≡ n
-number-inj m n e = sym (method-is m) ∙ ap methodFrom e ∙ method-is n
 
 -- ---- no field holds a tab or an LF
 

@@ -24,8 +24,3 @@ text-kept t w x = kept-by w (x .coded) (x .allZero) ∙ ap (kept (w .settings .d
 -- saving what was read
 pub read-kept : (t : List ℕ) (w : State) → read t ≡ taken w → render w ≡ kept (w .settings .d) t
 read-kept t w e = text-kept t w (read-sound t w e .1)
-
--- "Every other accepted text still returns its bytes."
-pub coded-kept : (t : List ℕ) (w : State) → read t ≡ taken w → carries t ≡ true → render w ≡ t
-unfolding kept
-coded-kept t w e h = read-kept t w e ∙ rw h

@@ -12,8 +12,6 @@ pub mod ReadExamples
 pub mod ScanLaws
 pub mod HexLaws
 pub mod ByKind
-pub mod ByField
-pub mod LineLaws
 pub mod WriteLaws
 pub mod LineBytes
 pub mod SaveLaws

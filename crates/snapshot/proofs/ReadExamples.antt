@@ -174,6 +174,12 @@ d2L = bytes "set\tS\t0\t2\t1\t10\t20\t0000000000000000\t3f800000\n"
 abbrev late8L : List ℕ
 late8L = bytes "set\tS\t0\t1\t1\t2000\t2000\t0000000000000000\t3f800000\n"
 
+abbrev start501L : List ℕ
+start501L = bytes "set\tS\t0\t1\t1\t501\t501\t0000000000000000\t3f800000\n"
+
+abbrev start1999L : List ℕ
+start1999L = bytes "set\tS\t0\t1\t1\t1999\t1999\t0000000000000000\t3f800000\n"
+
 abbrev stopMaxL : List ℕ
 stopMaxL = bytes "set\tS\t0\t1\t1\t10\t18446744073709551615\t0000000000000000\t3f800000\n"
 
@@ -462,6 +468,15 @@ k-none = refl
 d-large : read (text d17L wgtL cntL ends []) ≡ bad 1
 unfolding read·all
 d-large = refl
+
+abbrev bare : Lent
+bare = lent (replicate 30 nan) (nan ∷ []) (nan ∷ []) (7 ∷ []) [] []
+
+-- row 8 from below: start 501 and 1,999, and no memory for readings that wait
+start-below : (restoreOf (text start501L wgtL cntL ends []) (0 ∷ []) bare .row ≡ 0) × (restoreOf (text start501L wgtL cntL ends []) (0 ∷ []) bare .head .«start_normalization» ≡ 501)
+    × (restoreOf (text start1999L wgtL cntL ends []) (0 ∷ []) bare .row ≡ 0) × (restoreOf (text start1999L wgtL cntL ends []) (0 ∷ []) bare .head .«start_normalization» ≡ 1999)
+unfolding read·all restoreOf restored lentShort laid over
+start-below = (refl, refl, refl, refl)
 
 start-large : read (text late8L wgtL cntL ends []) ≡ bad 1
 unfolding read·all

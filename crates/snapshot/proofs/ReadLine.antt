@@ -75,11 +75,6 @@ cells-tail (f ∷ fs) c = rw (cells-clean f (behind fs) fs (c .0) (cells-tail fs
 pub cells-render : (l : Line) → CleanLine l → cells (bytesOfLine l) ≡ l .name ∷ l .fields
 cells-render l c = cells-clean (l .name) (behind (l .fields)) (l .fields) (c .0) (cells-tail (l .fields) (c .1))
 
-pub line-front : (l : Line) (x : List ℕ) → CleanLine l → lines (bytesOfLine l ++ x) ≡ bytesOfLine l ∷ lines x
-line-front l x c =
-    rw append-assoc
-    (lines-clean (l .name) (behind (l .fields) ++ x) (behind (l .fields)) (lines x) (c .0) (lines-tail (l .fields) x (c .1)))
-
 pub lines-bytes : (ls : List Line) → All CleanLine ls → lines (bytesOf ls) ≡ map bytesOfLine ls
 lines-bytes [] c = refl
 lines-bytes (l ∷ ls) c =

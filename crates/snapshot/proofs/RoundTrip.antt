@@ -13,7 +13,7 @@ use borrow.Author.Tests.{eqb-true, ltb-true, ltb-false, le-ltb, leb-false}
 use Rattle.trcf.specs.Settings.{Settings, Valid, settingsTable, waiting, dimension}
 use Rattle.trcf.specs.Preprocessor.{State, statisticsLength}
 use Rattle.trcf.specs.Types.{augments, normalizes}
-use Rattle.trcf.specs.View.{Lent, settingsOf, view, headFrom, noHead, counted, laid, lentShort}
+use Rattle.trcf.specs.View.{Lent, settingsOf, view, headFrom, noHead, counted, laid, initialRoom, lentShort}
 use Rattle.trcf.specs.declared.head.Preprocessor.{Preprocessor}
 use Rattle.trcf.proofs.DrainLaws.{front-over}
 use Rattle.trcf.proofs.ShingleLaws.{length-over}
@@ -26,6 +26,7 @@ use Rattle.snapshot.specs.Save.{past, unheld, saveOf}
 use Rattle.snapshot.specs.Save as saving
 use Rattle.snapshot.specs.Restore.{Outcome, outcome, restored, restoreOf}
 use Rattle.snapshot.specs.Runs.{Few, Room}
+use Rattle.trcf.proofs.RefusalLaws.{room-start, room-normalizing}
 use Rattle.snapshot.proofs.Lists.{and-left, and-right}
 use Rattle.snapshot.proofs.Accepted.{rows-of}
 use Rattle.snapshot.proofs.ReadLine.{same-refl, same-eq}
@@ -165,21 +166,24 @@ few-of s v =
     neither true b e = absurd (false≢true (sym e))
     neither false b e = (refl, e)
 
--- never more than start
-pub initial-few : (w : State) → Form w → length (w .initialTimestamps) ≤ w .settings .start
+-- never more than can wait
+pub initial-room : (w : State) → Form w → length (w .initialTimestamps) ≤ initialRoom (w .settings)
 unfolding waiting
-initial-few w f = go (waiting (w .settings) (w .valuesSeen)) refl
+initial-room w f = go (waiting (w .settings) (w .valuesSeen)) refl
   where
     some-few : (w .initialTimestamps ≡ []) ⊎ ((normalizes (w .settings .method) ≡ true) × (length (w .initialTimestamps) ≡ w .settings .start) × (w .valuesSeen ≡ w .settings .start → w .internalTimestamp ≡ 0))
-        → length (w .initialTimestamps) ≤ w .settings .start
+        → length (w .initialTimestamps) ≤ initialRoom (w .settings)
     some-few (inl e) = rw e (omega arith)
-    some-few (inr e) = omega (arith, e .1)
+    some-few (inr e) = omega (arith, e .1, room-normalizing (w .settings) (e .0))
 
-    go : (b : Bool) → waiting (w .settings) (w .valuesSeen) ≡ b → length (w .initialTimestamps) ≤ w .settings .start
+    go : (b : Bool) → waiting (w .settings) (w .valuesSeen) ≡ b → length (w .initialTimestamps) ≤ initialRoom (w .settings)
     go true e =
         let k = ltb-true (w .valuesSeen) (w .settings .start) (and-right (normalizes (w .settings .method)) _ e) in
-        omega (arith, f .whileWaiting e .0, k)
+        omega (arith, f .whileWaiting e .0, k, room-normalizing (w .settings) (and-left (normalizes (w .settings .method)) _ e))
     go false e = some-few (f .later e)
+
+pub initial-few : (w : State) → Form w → length (w .initialTimestamps) ≤ w .settings .start
+initial-few w f = omega (arith, initial-room w f, room-start (w .settings))
 
 pub past-not : (d k wide n a b c e f g : ℕ) → Held d k wide n a b c e f g → past d k wide n a b c e f g ≡ false
 past-not d k wide n a b c e f g h =
@@ -190,7 +194,7 @@ module _ (w : State) (f : Form w) (l : Lent) (room : lentShort (w .settings) l �
       (length (l .initialValues)) (length (l .initialTimestamps))
   laid-room =
       room-of (headFrom (w .settings)) l (length (w .initialTimestamps)) (few-of (w .settings) (f .valid))
-      (ap (λ (s : Settings). lentShort s l) (settings-are (w .settings) (f .valid)) ∙ room) (initial-few w f)
+      (ap (λ (s : Settings). lentShort s l) (settings-are (w .settings) (f .valid)) ∙ room) (initial-room w f)
 
   -- no list is shorter afterwards
   pub laid-short : lentShort (w .settings) (laid w l) ≡ false
@@ -204,8 +208,8 @@ module _ (w : State) (f : Form w) (l : Lent) (room : lentShort (w .settings) l �
       || (ltb (length-over (l .lastShingledInput) (w .lastShingledInput) (fits (f .inputLong) (r .in-input)) i) (s .d * s .k)
       || (ltb (length-over (l .lastShingledPoint) (w .lastShingledPoint) (fits (f .pointLong) p) i) (dimension s)
       || (ltb (length-over (l .previousTimestamps) (w .previousTimestamps) (fits (f .timesLong) (r .in-times)) i) (s .k)
-      || (ltb (length-over (l .initialValues) (w .initialValues) (fits (f .initialLong) (r .in-values)) i) (s .start * s .d)
-      || ltb (length-over (l .initialTimestamps) (w .initialTimestamps) (r .in-initial) i) (s .start))))))
+      || (ltb (length-over (l .initialValues) (w .initialValues) (fits (f .initialLong) (r .in-values)) i) (initialRoom s * s .d)
+      || ltb (length-over (l .initialTimestamps) (w .initialTimestamps) (r .in-initial) i) (initialRoom s))))))
       ∙ room
     where
       fits : {a n m : ℕ} → a ≡ n → n ≤ m → a ≤ m

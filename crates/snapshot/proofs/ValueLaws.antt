@@ -13,10 +13,6 @@ use Rattle.trcf.specs.Settings.{allOne, codeMax}
 use Rattle.snapshot.proofs.ReadLine.{same-eq}
 use Rattle.snapshot.specs.Read.{climbs, zeros, allCodes, same}
 
-pub one-at : (x : List Float) (i : ℕ) (b : Bool) → i < length x → eq (getD x i nan) one32 ≡ b → allOne (drop i x) ≡ b && allOne (drop (suc i) x)
-unfolding allOne
-one-at x i b h e = ap allOne (drop-cons x i nan h) ∙ ap (λ (c : Bool). c && allOne (drop (suc i) x)) e
-
 module _ (t : List ℕ) (i : ℕ) (h : i < length t) where
   pub climbs-on : (p : ℕ) → p ≤ getD t i 0 → climbs p (drop i t) ≡ climbs (getD t i 0) (drop (suc i) t)
   climbs-on p e = rw (drop-cons t i 0 h, le-leb p (getD t i 0) e)

@@ -21,10 +21,6 @@ use Rattle.snapshot.proofs.HexLaws.{hex-length}
 
 -- ---- storing
 
-pub stored-length : (old : List ℕ) (at : ℕ) (b : List ℕ) → length (stored old at b) ≡ length old
-unfolding stored
-stored-length old at b = length-sets old at b
-
 pub stored-append : (a old : List ℕ) (at : ℕ) (b : List ℕ) → stored old at (a ++ b) ≡ stored (stored old at a) (at + length a) b
 unfolding stored
 stored-append [] old at b = ap (λ (k : ℕ). sets old k b) (sym (add-zero at))
@@ -55,9 +51,6 @@ unfolding stored over
 stored-over old b h = let e : 0 + length b ≡ length b = omega arith in sets-eq b old 0 (omega arith) ∙ ap (λ (k : ℕ). b ++ drop k old) e
 
 -- ---- writing piece by piece
-
-pub wrote-none : {at : ℕ} {old : List ℕ} → Wrote at [] old at old
-wrote-none {at} {old} = record { place = sym (add-zero at); bytes = sym (stored-none old at); kept = refl }
 
 pub wrote-one : (at x : ℕ) (old : List ℕ) → Wrote at (x ∷ []) old (at + 1) (set old at x)
 wrote-one at x old = record { place = refl; bytes = sym (stored-one old at x); kept = length-set old at x }

@@ -3,7 +3,6 @@ ghost use mathlib.Core.Path.{_≡_};
 ghost use Prim.Native.Nat.{_+_, _-_, _*_, _≤_, _<_};
 ghost use lib.ListN.{length, take, drop};
 ghost use lib.Ieee.{binary32, binary64};
-ghost use Rattle.snapshot.specs.LineLength.{lineLength};
 ghost use Rattle.snapshot.specs.Scan.{lead, numberOf, hexOf, hscan, singleOf, doubleOf, fieldOf};
 ghost use Rattle.snapshot.specs.Read.{asWhole, asFloat};
 
@@ -178,19 +177,4 @@ pub(crate) fn parse(text: &[u8], from: usize, to: usize, kind: u64) -> Field
         Number::No => Field::Bad,
         Number::Is(n) => Field::Whole(n),
     }
-}
-
-// Past the line that starts at from: behind its LF, or at the end of the text where it has none.
-pub(crate) fn line_end(text: &[u8], from: usize) -> usize
-    requires { ⌜ from ≤ length (now text) ⌝ }
-    ensures { λ r. ⌜ r ≡ from + lineLength (drop from (now (text .entry))) ⌝ }
-{
-    let mut i = from;
-    while i < text.len() {
-        if wide(text[i]) == 10 {
-            return i + 1;
-        }
-        i += 1;
-    }
-    i
 }

@@ -14,13 +14,14 @@ use crate::settings::Set;
 use crate::settings::set_line;
 use crate::values::same_codes;
 use trcf::head::Preprocessor;
+use trcf::head::initial_room;
 use trcf::head::no_head;
 use trcf::transformer::WeightedTransformer;
 use trcf::types::is_normalizing;
 ghost use mathlib.Core.Path.{_≡_};
 ghost use Prim.Native.Nat.{_+_, _*_, _≤_};
 ghost use lib.ListN.{length, drop};
-ghost use Rattle.trcf.specs.View.{lent, settingsOf, noHead, counting, lentShort};
+ghost use Rattle.trcf.specs.View.{lent, settingsOf, noHead, counting, initialRoom, lentShort};
 ghost use Rattle.trcf.specs.Settings.{dimension};
 ghost use Rattle.snapshot.specs.Judge.{countsRead, settingsTold};
 ghost use Rattle.snapshot.specs.Read.{same};
@@ -186,7 +187,7 @@ fn judge_body(text: &[u8], at: usize, head: Preprocessor) -> Judged
     requires { ⌜ HeadFew head ⌝ }
     ensures { λ r. ⌜ r ≡ summed (bodyBy (settingsOf head) (countsIn head) (drop at (now (text .entry)))) ⌝ }
     ensures { λ r. ⌜ r .bad ≤ 3000 ⌝ }
-    ensures { λ r. ⌜ r .count ≤ head .«start_normalization» ⌝ }
+    ensures { λ r. ⌜ r .count ≤ initialRoom (settingsOf head) ⌝ }
     ensures { λ r. ⌜ (r .bad ≡ 0 → Good (bodyBy (settingsOf head) (countsIn head) (drop at (now (text .entry))))) ⌝ }
 {
     let a = part_lines_unkept(text, at, head);
@@ -326,12 +327,12 @@ fn is_short(
     let t = head.transformer;
     let mode = head.forest_mode;
     let wide = time_width(mode);
-    let start = head.start_normalization;
+    let waiting = initial_room(head);
     past_limits(
         t.input_length,
         head.shingle_size,
         wide,
-        start,
+        waiting,
         statistics.len(),
         last_shingled_input.len(),
         last_shingled_point.len(),

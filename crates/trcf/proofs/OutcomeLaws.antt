@@ -12,8 +12,8 @@ use Rattle.common.specs.Deviation.{zero64}
 use Rattle.trcf.specs.Transformer.{zero32}
 use Rattle.trcf.specs.Settings.{Settings, settingsRow, dimension, block}
 use Rattle.trcf.specs.Calls.{Call, scale, shift, status, rows, table}
-use Rattle.trcf.specs.Preprocessor.{Answer, refused, reply, accepted, change, statisticsLength, fresh, statusOf}
-use Rattle.trcf.specs.View.{Lent, lent, view, laid, counted, rowOf, lentRow, orElse, answerOf, headAfter, lentAfter, Written, written, writtenOf, writeOf, Outcome, outcome, headFrom, noHead, buildRow, buildOf, settingsOf, headRow, Bounded, StatusOutcome, untold, statusRead, statusAfter}
+use Rattle.trcf.specs.Preprocessor.{Answer, refused, reply, accepted, change, statisticsLength, fresh, facts, isReady, panelOf, Status, statusOf}
+use Rattle.trcf.specs.View.{Lent, lent, view, laid, counted, rowOf, lentRow, orElse, answerOf, headAfter, lentAfter, Written, written, writtenOf, writeOf, Outcome, outcome, headFrom, noHead, buildRow, buildOf, settingsOf, alone, headRow, misfit, shortRow, ownRow, readyOf, dimensionOf, Bounded, StatusOutcome, untold, statusRead, statusAfter}
 use Rattle.trcf.specs.declared.head.Preprocessor.{Preprocessor}
 use Rattle.trcf.proofs.ShingleLaws.{over-part}
 
@@ -112,24 +112,84 @@ module _ (h : Preprocessor) (l : Lent) (out : List Float) where
   unfolding rowOf rows table
   status-row = refl
 
+-- ---- a head that no call refuses for its own sake
+
+orElse-both : (r m : ℕ) → orElse r m ≡ 0 → (r ≡ 0) × (m ≡ 0)
+orElse-both zero m e = (refl, e)
+orElse-both (suc r) m e = absurd (omega arith)
+
+fit-of : (b : Bool) (n : ℕ) → _≡_ {A = ℕ} (cond b 20 n) 0 → b ≡ false
+fit-of true n e = absurd (omega arith)
+fit-of false n e = refl
+
+module _ (h : Preprocessor) (l : Lent) (c : Call) (e : rowOf h l c ≡ 0) where
+  no-row : (headRow (settingsOf h) ≡ 0) × (misfit h ≡ false)
+  unfolding rowOf lentRow
+  no-row =
+      let r : ℕ = rows (settingsOf h) (facts (view h l)) c in
+      let a = orElse-both (headRow (settingsOf h)) (orElse r (lentRow h l)) e in
+      let b = orElse-both r (lentRow h l) (a .1) in
+      (a .0, fit-of (misfit h) (shortRow (settingsOf h) l) (b .1))
+
+  -- of such a head `is_ready` is what status tells
+  pub ready-is : readyOf h ≡ isReady (alone h)
+  unfolding readyOf ownRow
+  ready-is = rw (no-row .0, no-row .1)
+
+  pub dimension-of : dimensionOf h ≡ dimension (settingsOf h)
+  dimension-of = rw (no-row .0)
+
 -- ---- `status`
 
-abbrev given : Preprocessor → Written → StatusOutcome
-given h w = record { row = w .row; numbers = untold h (w .out) }
+-- what it tells of a head that it does not refuse
+abbrev pub toldBy : Preprocessor → List Float → Status
+toldBy h out =
+    record {
+      valuesSeen = h .«values_seen»;
+      internalTimestamp = h .«internal_timestamp»;
+      ready = readyOf h;
+      inputDimensions = h .transformer .«input_length»;
+      shingleSize = h .«shingle_size»;
+      dimensions = dimensionOf h;
+      method = h .transformer .«transform_method»;
+      mode = h .«forest_mode»;
+      start = h .«start_normalization»;
+      panel = panelOf (alone h);
+      deviationsOut = out;
+    }
 
-orElse-first : (r m : ℕ) → orElse r m ≡ 0 → r ≡ 0
-orElse-first zero m e = refl
-orElse-first (suc r) m e = e
+abbrev pub statusBy : ℕ → Status → StatusOutcome
+statusBy n v = record { row = n; numbers = v }
 
 module _ (h : Preprocessor) (l : Lent) (out : List Float) where
-  status-at : (r : ℕ) → rowOf h l (status out) ≡ r
-      → given h (writtenOf out (accepted r (reply (view h l) (status out)) (refused r))) ≡ statusRead h out (accepted r (reply (view h l) (status out)) (refused r))
-  unfolding rowOf reply statusOf view
-  status-at zero e =
-      let z : headRow (settingsOf h) ≡ 0 = orElse-first (headRow (settingsOf h)) _ e in
-      rw z
-  status-at (suc r) e = refl
+  told-at : (r : ℕ) → rowOf h l (status out) ≡ r → r ≡ 0
+      → statusBy r (toldBy h (writtenOf out (accepted r (reply (view h l) (status out)) (refused r)) .out)) ≡ statusRead out (accepted r (reply (view h l) (status out)) (refused r))
+  unfolding reply statusOf view
+  told-at zero e z = rw (ready-is h l (status out) e, dimension-of h l (status out) e)
+  told-at (suc r) e z = absurd (omega arith)
 
-  pub status-told : (w : Written) → w ≡ writeOf h l (status out) out → given h w ≡ statusAfter h l out
-  unfolding writeOf statusAfter answerOf
-  status-told w e = ap (given h) e ∙ status-at (rowOf h l (status out)) refl
+  refused-at : (r : ℕ) → (r ≡ 0 → ⊥)
+      → statusBy r (untold (writtenOf out (accepted r (reply (view h l) (status out)) (refused r)) .out)) ≡ statusRead out (accepted r (reply (view h l) (status out)) (refused r))
+  refused-at zero n = absurd (n refl)
+  refused-at (suc r) n = refl
+
+  row-of : (r : ℕ) → writtenOf out (accepted r (reply (view h l) (status out)) (refused r)) .row ≡ r
+  unfolding reply
+  row-of zero = refl
+  row-of (suc r) = refl
+
+  -- from the row and the output that `difference_deviations` gives
+  module _ (w : Written) (e : w ≡ writeOf h l (status out) out) where
+    row-is : w .row ≡ rowOf h l (status out)
+    unfolding writeOf answerOf
+    row-is = ap (λ (x : Written). x .row) e ∙ row-of (rowOf h l (status out))
+
+    pub status-told : w .row ≡ 0 → statusBy (w .row) (toldBy h (w .out)) ≡ statusAfter h l out
+    unfolding writeOf statusAfter answerOf
+    status-told z =
+        (λ j. statusBy (row-is j) (toldBy h (e j .out))) ∙ told-at (rowOf h l (status out)) refl (sym row-is ∙ z)
+
+    pub status-refused : (w .row ≡ 0 → ⊥) → statusBy (w .row) (untold (w .out)) ≡ statusAfter h l out
+    unfolding writeOf statusAfter answerOf
+    status-refused n =
+        (λ j. statusBy (row-is j) (untold (e j .out))) ∙ refused-at (rowOf h l (status out)) (λ z. n (row-is ∙ z))

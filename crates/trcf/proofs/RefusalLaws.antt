@@ -16,7 +16,7 @@ use Rattle.common.specs.Deviation.{countLimit}
 use Rattle.trcf.specs.Types.{normalizes}
 use Rattle.trcf.specs.Settings.{Settings, settingsRow, allOne, waiting}
 use Rattle.trcf.specs.Calls.{seenLimit}
-use Rattle.trcf.specs.View.{settingsOf, leftOver, miscounted, misfit, orElse}
+use Rattle.trcf.specs.View.{settingsOf, initialRoom, leftOver, miscounted, misfit, orElse}
 use Rattle.trcf.specs.declared.head.Preprocessor.{Preprocessor}
 
 pub orElse-not : (r m : ℕ) → (r ≡ 0 → ⊥) → r ≡ orElse r m
@@ -34,6 +34,10 @@ or-both false b e = (refl, e)
 and-second : (a b : Bool) → (a && b) ≡ false → a ≡ true → b ≡ false
 and-second true b e t = e
 and-second false b e t = cc
+
+and-left : (a b : Bool) → (a && b) ≡ true → a ≡ true
+and-left true b e = refl
+and-left false b e = e
 
 and-right : (a b : Bool) → (a && b) ≡ true → b ≡ true
 and-right true b e = e
@@ -102,23 +106,42 @@ module _ (s : Settings) (seen internal count initial : ℕ) where
       go true q = let w = k .while-waiting q in rw (q, eq-eqb initial seen (w .0), eq-eqb internal 0 (w .1))
       go false q = rw q (left (k .later q))
 
-pub misfit-few : (h : Preprocessor) → misfit h ≡ false → h .«initial_len» ≤ h .«start_normalization»
+-- what must be lent for readings that wait: start of them where the method waits, else none
+module _ (s : Settings) where
+  pub room-start : initialRoom s ≤ s .start
+  room-start = go (normalizes (s .method))
+    where
+      go : (b : Bool) → cond b (s .start) 0 ≤ s .start
+      go true = omega arith
+      go false = omega arith
+
+  pub room-normalizing : normalizes (s .method) ≡ true → initialRoom s ≡ s .start
+  room-normalizing e = rw e
+
+  pub room-waiting : (seen : ℕ) → waiting s seen ≡ true → initialRoom s ≡ s .start
+  unfolding waiting
+  room-waiting seen e = room-normalizing (and-left (normalizes (s .method)) _ e)
+
+pub misfit-room : (h : Preprocessor) → misfit h ≡ false → h .«initial_len» ≤ initialRoom (settingsOf h)
 unfolding misfit waiting
-misfit-few h e = go (waiting (settingsOf h) (h .«values_seen»)) refl
+misfit-room h e = go (waiting (settingsOf h) (h .«values_seen»)) refl
   where
     k : Counted (settingsOf h) (h .«values_seen») (h .«internal_timestamp») (h .transformer .count) (h .«initial_len»)
     k = counted-of (settingsOf h) (h .«values_seen») (h .«internal_timestamp») (h .transformer .count) (h .«initial_len») e
 
     few : (h .«initial_len» ≡ 0) ⊎ ((normalizes (settingsOf h .method) ≡ true) × (h .«initial_len» ≡ h .«start_normalization») × (h .«values_seen» ≡ h .«start_normalization» → h .«internal_timestamp» ≡ 0))
-        → h .«initial_len» ≤ h .«start_normalization»
+        → h .«initial_len» ≤ initialRoom (settingsOf h)
     few (inl q) = omega (arith, q)
-    few (inr q) = omega (arith, q .1)
+    few (inr q) = omega (arith, q .1, room-normalizing (settingsOf h) (q .0))
 
-    go : (b : Bool) → waiting (settingsOf h) (h .«values_seen») ≡ b → h .«initial_len» ≤ h .«start_normalization»
+    go : (b : Bool) → waiting (settingsOf h) (h .«values_seen») ≡ b → h .«initial_len» ≤ initialRoom (settingsOf h)
     go true q =
         let l = ltb-true (h .«values_seen») (h .«start_normalization») (and-right (normalizes (settingsOf h .method)) _ q) in
-        omega (arith, k .while-waiting q .0, l)
+        omega (arith, k .while-waiting q .0, l, room-waiting (settingsOf h) (h .«values_seen») q)
     go false q = few (k .later q)
+
+pub misfit-few : (h : Preprocessor) → misfit h ≡ false → h .«initial_len» ≤ h .«start_normalization»
+misfit-few h e = omega (arith, misfit-room h e, room-start (settingsOf h))
 
 pub misfit-counted : (h : Preprocessor) → misfit h ≡ false → waiting (settingsOf h) (h .«values_seen») ≡ true → h .«initial_len» ≡ h .«values_seen»
 unfolding misfit

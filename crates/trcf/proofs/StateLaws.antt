@@ -25,10 +25,10 @@ use Rattle.trcf.proofs.OutcomeLaws.{accepted-not}
 
 module _ (h : Preprocessor) (l : Lent) (f : Fitted h l) where
   pub held-initial : h .«initial_len» ≤ length (l .initialTimestamps)
-  held-initial = omega (arith, f .few, f .roomy .in-initial)
+  held-initial = omega (arith, f .in-room, f .roomy .in-initial)
 
   pub held-values : h .«initial_len» * h .transformer .«input_length» ≤ length (l .initialValues)
-  held-values = omega (arith, mul-le-mul (f .few) (le-refl (h .transformer .«input_length»)), f .roomy .in-values)
+  held-values = omega (arith, mul-le-mul (f .in-room) (le-refl (h .transformer .«input_length»)), f .roomy .in-values)
 
   pub same-head : h ≡ counted h (view h l)
   unfolding view

@@ -12,10 +12,11 @@ use Rattle.trcf.specs.Transformer.{zero32}
 use Rattle.trcf.specs.Settings.{waiting, block, dimension}
 use Rattle.trcf.specs.Calls.{drain, shingledPoint, postProcess}
 use Rattle.trcf.specs.Preprocessor.{State, statisticsLength, deviations, drained, reading, pointOf}
-use Rattle.trcf.specs.View.{Lent, lent, settingsOf, rowOf, learningRow, optional, learnCall, backOf, learnOutcome, LearnParts, learnedParts, learnNothing, learnAfter, answering, answeringRow, counting, holding, Bounded, Ready, Learnable, Fitted, Outcome, outcome, drainOf, pointed, pointAfter, counted, laid, view}
+use Rattle.trcf.specs.View.{Lent, lent, settingsOf, initialRoom, rowOf, learningRow, optional, learnCall, backOf, learnOutcome, LearnParts, learnedParts, learnNothing, learnAfter, answering, answeringRow, counting, holding, Bounded, Ready, Learnable, Fitted, Outcome, outcome, drainOf, pointed, pointAfter, counted, laid, view}
 use Rattle.trcf.specs.declared.head.Preprocessor.{Preprocessor}
 use Rattle.trcf.specs.declared.head.PostProcessed.{PostProcessed}
 use Rattle.trcf.proofs.BoundLaws.{kept-room}
+use Rattle.trcf.proofs.RefusalLaws.{room-waiting}
 use Rattle.trcf.proofs.StateLaws.{drain-refused, drain-done, point-refused, point-waits, point-done}
 use Rattle.trcf.proofs.LearnLaws.{learn-refused, learn-held, learn-none, learn-whole, learnable, waiting-below, waiting-completes, outcomeOf}
 
@@ -109,7 +110,13 @@ module _ (h : Preprocessor) (st xs ps : List Float) (ts : List ℕ) (vs : List F
           let r = ready zero in
           let f = r .fitted .roomy in
           let v = sym w ∙ g in
-          (r .bounded, (f .in-statistics, (k, (r .fitted .counted v, (waiting-below (settingsOf h) (h .«values_seen») v, (f .in-values, (f .in-initial, waiting-completes h (length y) hasY (length e) expects grade (backOf i) (length deviationsOut) (length pastOut) (length expectedOut) learns-is v)))))))
+          (r .bounded, (f .in-statistics, (k, (r .fitted .counted v, (waiting-below (settingsOf h) (h .«values_seen») v, (values v (f .in-values), (times v (f .in-initial), waiting-completes h (length y) hasY (length e) expects grade (backOf i) (length deviationsOut) (length pastOut) (length expectedOut) learns-is v)))))))
+        where
+          values : waiting (settingsOf h) (h .«values_seen») ≡ true → initialRoom (settingsOf h) * h .transformer .«input_length» ≤ length vs → h .«start_normalization» * h .transformer .«input_length» ≤ length vs
+          values v = subst (λ (r : ℕ). r * h .transformer .«input_length» ≤ length vs) (room-waiting (settingsOf h) (h .«values_seen») v)
+
+          times : waiting (settingsOf h) (h .«values_seen») ≡ true → initialRoom (settingsOf h) ≤ length vt → h .«start_normalization» ≤ length vt
+          times v = subst (λ (r : ℕ). r ≤ length vt) (room-waiting (settingsOf h) (h .«values_seen») v)
 
       module _ (b : Bool) (w : b ≡ waiting (settingsOf h) (h .«values_seen»)) (g : b ≡ false) (has : hasY ≡ true) (back : ℕ) (placed : back ≡ backOf i′) where
         can-learn : Learnable h (length y) (length e) expects grade (backOf i) (length deviationsOut) (length pastOut) (length expectedOut)

@@ -419,12 +419,15 @@ abbrev pub panelOf : State → ℕ
 panelOf w = w .count
 
 -- "Ready means internal ≥ k."
+abbrev pub isReady : State → Bool
+isReady w = leb (w .settings .k) (w .internalTimestamp)
+
 unfoldable pub statusOf : State → List Float → Status
 statusOf w out =
     record {
       valuesSeen = w .valuesSeen;
       internalTimestamp = w .internalTimestamp;
-      ready = leb (w .settings .k) (w .internalTimestamp);
+      ready = isReady w;
       inputDimensions = w .settings .d;
       shingleSize = w .settings .k;
       dimensions = dimension (w .settings);

@@ -13,10 +13,10 @@ use Rattle.trcf.specs.Lists.{null, lastOr, shiftIn}
 use Rattle.common.specs.Refusal.{firstOf}
 use Rattle.common.specs.Lent.{over}
 use Rattle.trcf.specs.Transformer.{zero32, one32, inverted}
-use Rattle.trcf.specs.Types.{normalizes}
+use Rattle.trcf.specs.Types.{normalizes, methodNumber, modeLetter}
 use Rattle.trcf.specs.Settings.{Settings, transformer, settingsRow, block, dimension, waiting}
 use Rattle.trcf.specs.Calls.{Learn, Call, shingledPoint, postProcess, drain, transform, invertExtrapolation, scale, shift, status, Forecast, rows, seenLimit, finite, given}
-use Rattle.trcf.specs.Preprocessor.{State, Answer, refused, absent, done, wrote, learnt, turned, told, Learned, Status, Anomaly, Reading, reading, feed, previous, deviations, blockFrom, statisticsLength, fresh, facts, change, panelOf, reply, accepted}
+use Rattle.trcf.specs.Preprocessor.{State, Answer, refused, absent, done, wrote, learnt, turned, told, Learned, Status, Anomaly, Reading, reading, feed, previous, deviations, blockFrom, statisticsLength, fresh, facts, change, isReady, panelOf, reply, accepted}
 use Rattle.trcf.specs.declared.types.TransformMethod.the-variants.{NONE}
 use Rattle.trcf.specs.declared.types.ForestMode.the-variants.{STANDARD}
 use Rattle.trcf.specs.declared.transformer.WeightedTransformer.{WeightedTransformer}
@@ -125,6 +125,10 @@ headTable s =
 unfoldable pub headRow : Settings → ℕ
 headRow s = firstOf (headTable s)
 
+-- how many readings can come to wait: "The watch waits while the method is NORMALIZE or NORMALIZE_DIFFERENCE", so under the others none
+abbrev pub initialRoom : Settings → ℕ
+initialRoom s = cond (normalizes (s .method)) (s .start) 0
+
 -- a lent list is shorter than the part in use can grow
 unfoldable pub lentShort : Settings → Lent → Bool
 lentShort s l =
@@ -132,7 +136,7 @@ lentShort s l =
     || (ltb (length (l .lastShingledInput)) (s .d * s .k)
     || (ltb (length (l .lastShingledPoint)) (dimension s)
     || (ltb (length (l .previousTimestamps)) (s .k)
-    || (ltb (length (l .initialValues)) (s .start * s .d) || ltb (length (l .initialTimestamps)) (s .start)))))
+    || (ltb (length (l .initialValues)) (initialRoom s * s .d) || ltb (length (l .initialTimestamps)) (initialRoom s)))))
 
 -- Counters that no preprocessor has, by document 01's 'Trace text'. Past waiting: not "none, or start lines under methods 4 and 5 (with such lines,
 -- internal is 0 if values_seen = start)".
@@ -167,6 +171,10 @@ orElse (suc n) m = suc n
 unfoldable pub outsideRow : Preprocessor → ℕ
 outsideRow h = orElse (settingsRow (settingsOf h)) (cond (misfit h) 20 0)
 
+-- the row by which every call refuses the head itself, 0 for none
+unfoldable pub ownRow : Preprocessor → ℕ
+ownRow h = orElse (headRow (settingsOf h)) (cond (misfit h) 20 0)
+
 -- what a row 0 says of each
 pub record Bounded (s : Settings) : Type 0 where
   pub d-pos : 0 < s .d
@@ -180,12 +188,13 @@ pub record Roomy (s : Settings) (l : Lent) : Type 0 where
   pub in-input : s .d * s .k ≤ length (l .lastShingledInput)
   pub in-point : dimension s ≤ length (l .lastShingledPoint)
   pub in-times : s .k ≤ length (l .previousTimestamps)
-  pub in-values : s .start * s .d ≤ length (l .initialValues)
-  pub in-initial : s .start ≤ length (l .initialTimestamps)
+  pub in-values : initialRoom s * s .d ≤ length (l .initialValues)
+  pub in-initial : initialRoom s ≤ length (l .initialTimestamps)
 
 pub record Fitted (h : Preprocessor) (l : Lent) : Type 0 where
   pub roomy : Roomy (settingsOf h) l
   pub few : h .«initial_len» ≤ h .«start_normalization»
+  pub in-room : h .«initial_len» ≤ initialRoom (settingsOf h)
   pub counted : waiting (settingsOf h) (h .«values_seen») ≡ true → h .«initial_len» ≡ h .«values_seen»
 
 unfoldable pub rowOf : Preprocessor → Lent → Call → ℕ
@@ -369,7 +378,46 @@ writtenOf out (told s) = written 0 (s .deviationsOut)
 unfoldable pub writeOf : Preprocessor → Lent → Call → List Float → Written
 writeOf h l c out = writtenOf out (answerOf h l c)
 
--- `status`: the row, and the numbers, of which the dimension is 0 for a head that no build made
+-- ---- the getters
+
+-- `is_ready`: never of a head that every call refuses
+unfoldable pub readyOf : Preprocessor → Bool
+readyOf h = accepted (ownRow h) (isReady (alone h)) false
+
+-- `get_dimension`: 0 for a head that no build made
+abbrev pub dimensionOf : Preprocessor → ℕ
+dimensionOf h = accepted (headRow (settingsOf h)) (dimension (settingsOf h)) 0
+
+-- what the getters answer; of the two kinds, the number and the letter that document 01 gives them
+pub record Getters : Type 0 where
+  pub valuesSeen : ℕ
+  pub internalTimestamp : ℕ
+  pub ready : Bool
+  pub inputDimensions : ℕ
+  pub shingleSize : ℕ
+  pub dimensions : ℕ
+  pub method : ℕ
+  pub mode : ℕ
+  pub start : ℕ
+  pub panel : ℕ
+
+abbrev pub gettersOf : Preprocessor → Getters
+gettersOf h =
+    record {
+      valuesSeen = h .«values_seen»;
+      internalTimestamp = h .«internal_timestamp»;
+      ready = readyOf h;
+      inputDimensions = h .transformer .«input_length»;
+      shingleSize = h .«shingle_size»;
+      dimensions = dimensionOf h;
+      method = methodNumber (h .transformer .«transform_method»);
+      mode = modeLetter (h .«forest_mode»);
+      start = h .«start_normalization»;
+      panel = panelOf (alone h);
+    }
+
+-- ---- `status`: the row and the numbers
+
 pub record StatusOutcome : Type 0 where
   pub row : ℕ
   pub numbers : Status
@@ -393,34 +441,34 @@ statusGiven r out =
       };
     }
 
--- refused, it tells what the head holds and leaves the output
-abbrev pub untold : Preprocessor → List Float → Status
-untold h out =
+-- Refused, it tells the row alone: every number is 0, nothing is ready, the two kinds are those of number 0, and the output is left.
+abbrev pub untold : List Float → Status
+untold out =
     record {
-      valuesSeen = h .«values_seen»;
-      internalTimestamp = h .«internal_timestamp»;
-      ready = leb (h .«shingle_size») (h .«internal_timestamp»);
-      inputDimensions = h .transformer .«input_length»;
-      shingleSize = h .«shingle_size»;
-      dimensions = accepted (headRow (settingsOf h)) (dimension (settingsOf h)) 0;
-      method = h .transformer .«transform_method»;
-      mode = h .«forest_mode»;
-      start = h .«start_normalization»;
-      panel = panelOf (alone h);
+      valuesSeen = 0;
+      internalTimestamp = 0;
+      ready = false;
+      inputDimensions = 0;
+      shingleSize = 0;
+      dimensions = 0;
+      method = NONE;
+      mode = STANDARD;
+      start = 0;
+      panel = 0;
       deviationsOut = out;
     }
 
-abbrev pub statusRead : Preprocessor → List Float → Answer → StatusOutcome
-statusRead h out (refused n) = record { row = n; numbers = untold h out }
-statusRead h out absent = record { row = 0; numbers = untold h out }
-statusRead h out done = record { row = 0; numbers = untold h out }
-statusRead h out (wrote v) = record { row = 0; numbers = untold h out }
-statusRead h out (learnt a) = record { row = 0; numbers = untold h out }
-statusRead h out (turned a) = record { row = 0; numbers = untold h out }
-statusRead h out (told s) = record { row = 0; numbers = s }
+abbrev pub statusRead : List Float → Answer → StatusOutcome
+statusRead out (refused n) = record { row = n; numbers = untold out }
+statusRead out absent = record { row = 0; numbers = untold out }
+statusRead out done = record { row = 0; numbers = untold out }
+statusRead out (wrote v) = record { row = 0; numbers = untold out }
+statusRead out (learnt a) = record { row = 0; numbers = untold out }
+statusRead out (turned a) = record { row = 0; numbers = untold out }
+statusRead out (told s) = record { row = 0; numbers = s }
 
 unfoldable pub statusAfter : Preprocessor → Lent → List Float → StatusOutcome
-statusAfter h l out = statusRead h out (answerOf h l (status out))
+statusAfter h l out = statusRead out (answerOf h l (status out))
 
 unfoldable pub drainOf : Preprocessor → Lent → Outcome
 drainOf h l = outcome (rowOf h l drain) (headAfter h l drain) (lentAfter h l drain)

@@ -4,13 +4,12 @@ use crate::transformer::WeightedTransformer;
 use crate::types::ForestMode;
 use crate::types::TransformMethod;
 use crate::types::is_augmented;
+use crate::types::is_normalizing;
 ghost use mathlib.Core.Path.{_≡_};
 ghost use mathlib.Core.Bool.{cond};
 ghost use Prim.Native.Nat.{_+_, _≤_};
-ghost use Rattle.trcf.specs.Settings.{dimension};
-ghost use Rattle.trcf.specs.Preprocessor.{accepted};
 ghost use Rattle.trcf.specs.Lengths.{whereFits, within};
-ghost use Rattle.trcf.specs.View.{settingsOf, headRow, noHead, counting, Bounded};
+ghost use Rattle.trcf.specs.View.{settingsOf, headRow, initialRoom, dimensionOf, noHead, counting, Bounded};
 ghost use Rattle.trcf.specs.Types.{augments};
 
 pub struct Preprocessor {
@@ -165,6 +164,20 @@ pub fn head_row(head: Preprocessor) -> u64
     0
 }
 
+// How many readings can come to wait: none under a method that never waits.
+pub fn initial_room(head: Preprocessor) -> usize
+    ensures { λ r. ⌜ r ≡ initialRoom (settingsOf head) ⌝ }
+    ensures { λ r. ⌜ r ≤ head .«start_normalization» ⌝ }
+{
+    let t = head.transformer;
+    let method = t.transform_method;
+    if is_normalizing(method) {
+        head.start_normalization
+    } else {
+        0
+    }
+}
+
 // The numbers in one transformed reading; 0 for more channels than a head can have.
 pub fn block_of(m: ForestMode, d: usize) -> usize
     ensures { λ r. ⌜ r ≡ whereFits (within d 16) (d + cond (augments m) 1 0) 0 ⌝ }
@@ -178,7 +191,7 @@ pub fn block_of(m: ForestMode, d: usize) -> usize
 
 // The numbers in a point; 0 for a head that no build made.
 pub fn get_dimension(head: Preprocessor) -> usize
-    ensures { λ r. ⌜ r ≡ accepted (headRow (settingsOf head)) (dimension (settingsOf head)) 0 ⌝ }
+    ensures { λ r. ⌜ r ≡ dimensionOf head ⌝ }
 {
     let row = head_row(head);
     if row != 0 {

@@ -2,19 +2,22 @@
 use trcf::head::Preprocessor;
 use trcf::head::StatusAnswer;
 use trcf::head::get_dimension;
+use trcf::head::head_row;
 use trcf::output::write_deviations;
 use trcf::output::write_scale;
 use trcf::output::write_shift;
 use trcf::output::write_transform;
 use trcf::types::ForestMode;
 use trcf::types::TransformMethod;
+use trcf_rows::rows::is_misfit;
 use trcf_rows::rows::transform_row;
 use trcf_rows::rows::write_row;
 ghost use mathlib.Core.Path.{_≡_};
-ghost use lib.Dec.{leb};
+ghost use mathlib.Core.List.{List};
+ghost use lib.Ieee.{Float};
+ghost use Rattle.trcf.specs.Types.{methodNumber, modeLetter};
 ghost use Rattle.trcf.specs.Calls.{transform, scale, shift, status};
-ghost use Rattle.trcf.specs.Preprocessor.{panelOf};
-ghost use Rattle.trcf.specs.View.{alone, lent, written, writeOf, statusGiven, statusAfter};
+ghost use Rattle.trcf.specs.View.{lent, written, writeOf, gettersOf, statusGiven, untold, statusAfter};
 
 pub fn transform(
     head: Preprocessor,
@@ -158,47 +161,58 @@ pub fn difference_deviations(
     0
 }
 
+// Whether the shingle is full; never of a head that every call refuses.
 pub fn is_ready(head: Preprocessor) -> bool
-    ensures { λ r. ⌜ r ≡ leb (head .«shingle_size») (head .«internal_timestamp») ⌝ }
+    ensures { λ r. ⌜ r ≡ gettersOf head .ready ⌝ }
 {
-    head.internal_timestamp >= head.shingle_size
+    let k = head.shingle_size;
+    let internal = head.internal_timestamp;
+    let row = head_row(head);
+    if row != 0 {
+        return false;
+    }
+    if is_misfit(head) {
+        false
+    } else {
+        k <= internal
+    }
 }
 
 pub fn values_seen(head: Preprocessor) -> usize
-    ensures { λ r. ⌜ r ≡ head .«values_seen» ⌝ }
+    ensures { λ r. ⌜ r ≡ gettersOf head .valuesSeen ⌝ }
 {
     head.values_seen
 }
 
 // The number on the panel: how many readings the statistics were fed.
 pub fn panel(head: Preprocessor) -> u64
-    ensures { λ r. ⌜ r ≡ panelOf (alone head) ⌝ }
+    ensures { λ r. ⌜ r ≡ gettersOf head .panel ⌝ }
 {
     let t = head.transformer;
     t.count
 }
 
 pub fn internal_timestamp(head: Preprocessor) -> usize
-    ensures { λ r. ⌜ r ≡ head .«internal_timestamp» ⌝ }
+    ensures { λ r. ⌜ r ≡ gettersOf head .internalTimestamp ⌝ }
 {
     head.internal_timestamp
 }
 
 pub fn input_dimensions(head: Preprocessor) -> usize
-    ensures { λ r. ⌜ r ≡ head .transformer .«input_length» ⌝ }
+    ensures { λ r. ⌜ r ≡ gettersOf head .inputDimensions ⌝ }
 {
     let t = head.transformer;
     t.input_length
 }
 
 pub fn shingle_size(head: Preprocessor) -> usize
-    ensures { λ r. ⌜ r ≡ head .«shingle_size» ⌝ }
+    ensures { λ r. ⌜ r ≡ gettersOf head .shingleSize ⌝ }
 {
     head.shingle_size
 }
 
 pub fn transformation_method(head: Preprocessor) -> TransformMethod
-    ensures { λ r. ⌜ r ≡ head .transformer .«transform_method» ⌝ }
+    ensures { λ r. ⌜ methodNumber r ≡ gettersOf head .method ⌝ }
 {
     let t = head.transformer;
     let method = t.transform_method;
@@ -206,18 +220,38 @@ pub fn transformation_method(head: Preprocessor) -> TransformMethod
 }
 
 pub fn forest_mode(head: Preprocessor) -> ForestMode
-    ensures { λ r. ⌜ r ≡ head .«forest_mode» ⌝ }
+    ensures { λ r. ⌜ modeLetter r ≡ gettersOf head .mode ⌝ }
 {
     let mode = head.forest_mode;
     mode
 }
 
 pub fn start_normalization(head: Preprocessor) -> usize
-    ensures { λ r. ⌜ r ≡ head .«start_normalization» ⌝ }
+    ensures { λ r. ⌜ r ≡ gettersOf head .start ⌝ }
 {
     head.start_normalization
 }
 
+// A refused status: the row alone.
+fn no_status(row: u64) -> StatusAnswer
+    ensures { λ r. ⌜ ((out : List Float) → statusGiven r out ≡ record { row = row; numbers = untold out }) ⌝ }
+{
+    StatusAnswer {
+        row: row,
+        values_seen: 0,
+        internal_timestamp: 0,
+        ready: false,
+        input_dimensions: 0,
+        shingle_size: 0,
+        dimensions: 0,
+        transform_method: TransformMethod::NONE,
+        forest_mode: ForestMode::STANDARD,
+        start_normalization: 0,
+        panel: 0,
+    }
+}
+
+// What the getters say, and the deviations; where a row refuses it, the row and nothing else.
 pub fn status(
     head: Preprocessor,
     statistics: &[f64],
@@ -240,6 +274,9 @@ pub fn status(
         initial_timestamps,
         output,
     );
+    if row != 0 {
+        return no_status(row);
+    }
     let t = head.transformer;
     let method = t.transform_method;
     let mode = head.forest_mode;

@@ -7,6 +7,7 @@ use trcf::head::SEEN_LIMIT;
 use trcf::head::block_of;
 use trcf::head::get_dimension;
 use trcf::head::head_row;
+use trcf::head::initial_room;
 use trcf::transformer::weights_refused;
 use trcf::types::ForestMode;
 use trcf::types::is_normalizing;
@@ -226,7 +227,7 @@ fn short_row(
     let t = head.transformer;
     let d = t.input_length;
     let k = head.shingle_size;
-    let start = head.start_normalization;
+    let waiting = initial_room(head);
     let n = get_dimension(head);
     if statistics.len() < 3 * (5 * d + 5) {
         return 20;
@@ -240,10 +241,10 @@ fn short_row(
     if previous_timestamps.len() < k {
         return 20;
     }
-    if initial_values.len() < start * d {
+    if initial_values.len() < waiting * d {
         return 20;
     }
-    if initial_timestamps.len() < start {
+    if initial_timestamps.len() < waiting {
         return 20;
     }
     0

@@ -1,7 +1,7 @@
 -- `capi::getters::veerycouch_is_ready` meets its contract: by the promises of the words and of the call. Assumes nothing.
 use mathlib.Core.Path.{_≡_, refl, sym, ap, _∙_}
+use Rattle.trcf.specs.View.{readyOf}
 use Rattle.trcf.specs.declared.head.Preprocessor.{Preprocessor}
-use lib.Dec.{leb}
 use Rattle.capi.specs.Calls.{flag}
 use Rattle.capi.proofs.CallLaws.{get-refused, get-done}
 use borrow.Author.Needs.{needs}
@@ -14,7 +14,7 @@ read-head-requires c κs = search needs
 returns : tie.Need-returns
 returns c =
     let a = c .before .before .before .args in
-    get-refused (a .head .now) (c .before .read-head .ensures .0) (a .answer .now) (λ (h : Preprocessor). flag (leb (h .«shingle_size») (h .«internal_timestamp»))) (c .if1 .taken)
+    get-refused (a .head .now) (c .before .read-head .ensures .0) (a .answer .now) (λ (h : Preprocessor). flag (readyOf h)) (c .if1 .taken)
 
 is-ready-requires : tie.Need-is-ready-requires
 is-ready-requires c κs = search needs
@@ -26,7 +26,7 @@ returns-2 : tie.Need-returns-2
 returns-2 c =
     let a = c .before .before .before .before .before .before .args in
     let h = c .before .before .before .before .read-head in
-    get-done (a .head .now) (h .ensures .0) (c .before .before .before .if1 .left) (h .ensures .1) (a .answer .now) (λ (h : Preprocessor). flag (leb (h .«shingle_size») (h .«internal_timestamp»))) (c .flag-of .ensures ∙ ap flag (c .before .is-ready .ensures))
+    get-done (a .head .now) (h .ensures .0) (c .before .before .before .if1 .left) (h .ensures .1) (a .answer .now) (λ (h : Preprocessor). flag (readyOf h)) (c .flag-of .ensures ∙ ap flag (c .before .is-ready .ensures))
 
 pub veerycouch-is-ready-spec : {M : Type 1} → statement M
 veerycouch-is-ready-spec = tie.close (tie.spec read-head-requires returns is-ready-requires flag-of-requires returns-2)

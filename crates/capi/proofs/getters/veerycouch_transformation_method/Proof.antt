@@ -25,7 +25,7 @@ returns-2 : tie.Need-returns-2
 returns-2 c =
     let a = c .before .before .before .before .before .before .args in
     let h = c .before .before .before .before .read-head in
-    get-done (a .head .now) (h .ensures .0) (c .before .before .before .if1 .left) (h .ensures .1) (a .answer .now) (λ (h : Preprocessor). methodNumber (h .transformer .«transform_method»)) (c .method-number .ensures ∙ ap methodNumber (c .before .transformation-method .ensures))
+    get-done (a .head .now) (h .ensures .0) (c .before .before .before .if1 .left) (h .ensures .1) (a .answer .now) (λ (h : Preprocessor). methodNumber (h .transformer .«transform_method»)) (c .method-number .ensures ∙ c .before .transformation-method .ensures)
 
 pub veerycouch-transformation-method-spec : {M : Type 1} → statement M
 veerycouch-transformation-method-spec = tie.close (tie.spec read-head-requires returns transformation-method-requires method-number-requires returns-2)

@@ -7,7 +7,7 @@ use lib.ListN.{length, drop, length-drop}
 use Rattle.trcf.specs.View.{settingsOf}
 use Rattle.snapshot.specs.Runs.{Ran, Body, countsIn, expected, bodyBy, summed}
 use Rattle.snapshot.proofs.RunLaws.{told-ran}
-use Rattle.snapshot.proofs.BodyLaws.{judged-parts, judged-bufs, judged-behind, judged-all, judged-good, expected-few}
+use Rattle.snapshot.proofs.BodyLaws.{judged-parts, judged-bufs, judged-behind, judged-all, judged-good, expected-few, expected-room}
 use Rattle.snapshot.proofs.restore.judge_body.Statement.{statement}
 use Rattle.snapshot.proofs.restore.judge_body.Tie as tie
 use Rattle.snapshot.proofs.restore.judge_body.Reads as reads
@@ -125,7 +125,7 @@ returns-4 c =
     let l = drop (a .at) t in
     let P = c .before .before .before .before .before .before .before .before .before .part-lines-unkept in
     let N = c .before .before .before .before .before .initial-count in
-    let n = expected-few s k (drop (P .result .at) t) (c .before .before .before .before .before .before .before .before .before .before .before .pre .start-few) in
+    let n = expected-room s k (drop (P .result .at) t) in
     let e = told-ran (P .result .bad) tt (drop (P .result .at) t) _ (omega (arith, c .before .before .before .before .before .before .before .if1 .left)) (P .ensures .0) in
     let U = c .before .before .before .before .buf-lines-unkept in
     let f = told-ran (U .result .bad) tt (drop (U .result .at) t) _ (omega (arith, c .before .before .if2 .left)) (U .ensures .0) in

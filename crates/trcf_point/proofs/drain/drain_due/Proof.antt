@@ -92,12 +92,13 @@ slice-aggregate-drain-all-3 c =
     let l = lent (a .statistics .now) (a .last-shingled-input .now) (a .last-shingled-point .now) (a .previous-timestamps .now) (a .initial-values .now) (a .initial-timestamps .now) in
     let f = c8 .before .before .before .before .before .before .before .pre .0 .fitted in
     let r = f .roomy in
-    let m = mul-le-mul (f .few) (le-refl (h .transformer .«input_length»)) in
+    let m = mul-le-mul (f .in-room) (le-refl (h .transformer .«input_length»)) in
     let b = mul-le-mul (f .few) (c8 .before .before .before .before .before .before .before .pre .0 .bounded .d-few) in
     simp length-take (omega (
       arith,
       r,
       f .few,
+      f .in-room,
       c8 .before .before .before .before .before .before .before .pre .0 .bounded,
       (dimension-known (c .before .before .before .get-dimension .ensures) (search needs)),
     ))
@@ -120,7 +121,7 @@ mul-drain-all-4 c =
     let l = lent (a .statistics .now) (a .last-shingled-input .now) (a .last-shingled-point .now) (a .previous-timestamps .now) (a .initial-values .now) (a .initial-timestamps .now) in
     let f = c8 .before .before .before .before .before .before .before .before .pre .0 .fitted in
     let r = f .roomy in
-    let m = mul-le-mul (f .few) (le-refl (h .transformer .«input_length»)) in
+    let m = mul-le-mul (f .in-room) (le-refl (h .transformer .«input_length»)) in
     let b = mul-le-mul (f .few) (c8 .before .before .before .before .before .before .before .before .pre .0 .bounded .d-few) in
     let k = mul-le-mul (c8 .before .before .before .before .before .before .before .before .pre .0 .bounded .d-few)
     (c8 .before .before .before .before .before .before .before .before .pre .0 .bounded .k-few) in
@@ -135,9 +136,9 @@ slice-aggregate-drain-all-5 c =
     let l = lent (a .statistics .now) (a .last-shingled-input .now) (a .last-shingled-point .now) (a .previous-timestamps .now) (a .initial-values .now) (a .initial-timestamps .now) in
     let f = c16 .before .pre .0 .fitted in
     let r = f .roomy in
-    let m = mul-le-mul (f .few) (le-refl (h .transformer .«input_length»)) in
+    let m = mul-le-mul (f .in-room) (le-refl (h .transformer .«input_length»)) in
     let b = mul-le-mul (f .few) (c16 .before .pre .0 .bounded .d-few) in
-    simp length-take (omega (arith, r, f .few, c16 .before .pre .0 .bounded, (dimension-known (c .before .before .before .before .before .get-dimension .ensures) (search needs))))
+    simp length-take (omega (arith, r, f .few, f .in-room, c16 .before .pre .0 .bounded, (dimension-known (c .before .before .before .before .before .get-dimension .ensures) (search needs))))
 
 slice-aggregate-drain-all-6 : tie.Need-slice-aggregate-drain-all-6
 slice-aggregate-drain-all-6 c =
@@ -148,9 +149,9 @@ slice-aggregate-drain-all-6 c =
     let l = lent (a .statistics .now) (a .last-shingled-input .now) (a .last-shingled-point .now) (a .previous-timestamps .now) (a .initial-values .now) (a .initial-timestamps .now) in
     let f = c16 .before .before .pre .0 .fitted in
     let r = f .roomy in
-    let m = mul-le-mul (f .few) (le-refl (h .transformer .«input_length»)) in
+    let m = mul-le-mul (f .in-room) (le-refl (h .transformer .«input_length»)) in
     let b = mul-le-mul (f .few) (c16 .before .before .pre .0 .bounded .d-few) in
-    simp length-take (omega (arith, r, f .few, c16 .before .before .pre .0 .bounded, (dimension-known (c .before .before .before .before .before .before .get-dimension .ensures) (search needs))))
+    simp length-take (omega (arith, r, f .few, f .in-room, c16 .before .before .pre .0 .bounded, (dimension-known (c .before .before .before .before .before .before .get-dimension .ensures) (search needs))))
 
 drain-all-requires : tie.Need-drain-all-requires
 unfolding due facts view
@@ -162,11 +163,11 @@ drain-all-requires c κs =
     let l = lent (a .statistics .now) (a .last-shingled-input .now) (a .last-shingled-point .now) (a .previous-timestamps .now) (a .initial-values .now) (a .initial-timestamps .now) in
     let f = c16 .before .before .pre .0 .fitted in
     let r = f .roomy in
-    let m = mul-le-mul (f .few) (le-refl (h .transformer .«input_length»)) in
+    let m = mul-le-mul (f .in-room) (le-refl (h .transformer .«input_length»)) in
     let b = mul-le-mul (f .few) (c16 .before .before .pre .0 .bounded .d-few) in
     let e : due (settingsOf h) (facts (view h l)) ≡ true = sym (c8 .before .before .before .is-due .ensures) ∙ not-false _ (c8 .before .before .if1 .left) in
     let u = count-room h l (c16 .before .before .pre .1) e in
-    let n = length-take-le (h .«initial_len») (a .initial-timestamps .now) (omega (arith, f .few, r)) in
+    let n = length-take-le (h .«initial_len») (a .initial-timestamps .now) (omega (arith, f .in-room, r)) in
     let v = length-take-le (h .«initial_len» * h .transformer .«input_length») (a .initial-values .now) (omega (arith, m, r)) in (
       c16 .before .before .pre .0 .bounded,
       (
@@ -239,13 +240,13 @@ returns-2 c =
     let e : due (settingsOf h) (facts (view h l)) ≡ true = sym (c16 .before .before .before .before .before .before .is-due .ensures) ∙ not-false _
     (c16 .before .before .before .before .before .if1 .left) in
     let K = c8 .before .before .drain-all .kept in (
-      drained-out-at h l f (omega (arith, due-some h l e, length-take-le (h .«initial_len») (a .initial-timestamps .now) (omega (arith, f .few, r)))) e (c16 .before .get-dimension .result)
+      drained-out-at h l f (omega (arith, due-some h l e, length-take-le (h .«initial_len») (a .initial-timestamps .now) (omega (arith, f .in-room, r)))) e (c16 .before .get-dimension .result)
           ((dimension-known (c16 .before .get-dimension .ensures) (c24 .before .before .before .before .before .pre .0 .bounded)) .0) _ _ _ _ (K .1 .0 ∙ length-take-le _ _ (r .in-statistics))
           (K .1 .1 .0 ∙ length-take-le _ _ (r .in-input))
           (K .1 .1 .1 .0 ∙ length-take-le _ _ (omega (arith, (dimension-known (c16 .before .get-dimension .ensures) (c24 .before .before .before .before .before .pre .0 .bounded)), r .in-point)))
           (K .1 .1 .1 .1 .0 ∙ length-take-le _ _ (r .in-times)) (c8 .before .before .drain-all .ensures),
       drained-view-at h l f
-          (omega (arith, due-some h l e, length-take-le (h .«initial_len») (a .initial-timestamps .now) (omega (arith, f .few, r)))) e (c16 .before .get-dimension .result)
+          (omega (arith, due-some h l e, length-take-le (h .«initial_len») (a .initial-timestamps .now) (omega (arith, f .in-room, r)))) e (c16 .before .get-dimension .result)
           ((dimension-known (c16 .before .get-dimension .ensures) (c24 .before .before .before .before .before .pre .0 .bounded)) .0) _ _ _ _ (K .1 .0 ∙ length-take-le _ _ (r .in-statistics))
           (K .1 .1 .0 ∙ length-take-le _ _ (r .in-input))
           (K .1 .1 .1 .0 ∙ length-take-le _ _ (omega (arith, (dimension-known (c16 .before .get-dimension .ensures) (c24 .before .before .before .before .before .pre .0 .bounded)), r .in-point)))

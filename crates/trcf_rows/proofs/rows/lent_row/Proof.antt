@@ -2,7 +2,7 @@
 use mathlib.Core.Path.{_≡_, refl, sym, ap, _∙_}
 use native.Mathlib.Omega.{arith}
 use Rattle.trcf.specs.View.{lentRow}
-use Rattle.trcf.proofs.RefusalLaws.{misfit-few, misfit-counted}
+use Rattle.trcf.proofs.RefusalLaws.{misfit-few, misfit-room, misfit-counted}
 use borrow.Author.Needs.{needs}
 use Rattle.trcf_rows.proofs.rows.lent_row.Statement.{statement}
 use Rattle.trcf_rows.proofs.rows.lent_row.Tie as tie
@@ -21,7 +21,7 @@ returns-2 : tie.Need-returns-2
 unfolding lentRow
 returns-2 c =
     let m = sym (c .before .before .is-misfit .ensures) ∙ c .before .if1 .left in
-    (rw (m, c .short-row .ensures .0), λ e. record { roomy = c .short-row .ensures .1 e; few = misfit-few _ m; counted = misfit-counted _ m })
+    (rw (m, c .short-row .ensures .0), λ e. record { roomy = c .short-row .ensures .1 e; few = misfit-few _ m; in-room = misfit-room _ m; counted = misfit-counted _ m })
 
 pub lent-row-spec : {M : Type 1} → statement M
 lent-row-spec = tie.close (tie.spec is-misfit-requires returns short-row-requires returns-2)

@@ -11,17 +11,20 @@ use borrow.Author.Needs.{needs}
 use Rattle.trcf_rows.proofs.rows.short_row.Statement.{statement}
 use Rattle.trcf_rows.proofs.rows.short_row.Tie as tie
 
+initial-room-requires : tie.Need-initial-room-requires
+initial-room-requires c κs = tt
+
 get-dimension-requires : tie.Need-get-dimension-requires
 get-dimension-requires c κs = tt
 
 mul-if1 : tie.Need-mul-if1
-mul-if1 c = five (c .before .before .before .before .before .before .before .before .pre .d-few)
+mul-if1 c = five (c .before .before .before .before .before .before .before .before .before .pre .d-few)
 
 add-if1 : tie.Need-add-if1
-add-if1 c = five-more (c .before .before .before .before .before .before .before .before .pre .d-few)
+add-if1 c = five-more (c .before .before .before .before .before .before .before .before .before .pre .d-few)
 
 mul-if1-2 : tie.Need-mul-if1-2
-mul-if1-2 c = all-statistics (c .before .before .before .before .before .before .before .before .pre .d-few)
+mul-if1-2 c = all-statistics (c .before .before .before .before .before .before .before .before .before .pre .d-few)
 
 returns : tie.Need-returns
 unfolding shortRow lentShort
@@ -30,7 +33,7 @@ returns c = (rw (← (dimension-known (c .before .get-dimension .ensures) (searc
 mul-if2 : tie.Need-mul-if2
 mul-if2 c =
     let c8 = c .before .before .before .before .before .before .before .before in
-    let b = c8 .before .pre in all-inputs (b .d-few) (b .k-few)
+    let b = c8 .before .before .pre in all-inputs (b .d-few) (b .k-few)
 
 returns-2 : tie.Need-returns-2
 unfolding shortRow lentShort
@@ -66,14 +69,16 @@ returns-4 c = (
 mul-if5 : tie.Need-mul-if5
 mul-if5 c =
     let c8 = c .before .before .before .before .before .before .before .before in
-    let a : c8 .before .before .before .before .args .head .«start_normalization» ≤ 2000 = omega arith in
-    let b : c8 .before .before .before .before .args .head .transformer .«input_length» ≤ 16 = omega arith in
+    let i = c .before .before .before .before .before .initial-room in
+    let a : i .result ≤ 2000 = omega (arith, i .ensures .1, c8 .before .before .before .before .before .pre .start-few) in
+    let b : c8 .before .before .before .before .before .args .head .transformer .«input_length» ≤ 16 = omega arith in
     omega (arith, mul-le-mul a b)
 
 returns-5 : tie.Need-returns-5
 unfolding shortRow lentShort
 returns-5 c = (
   rw (
+    ← c .before .before .before .before .before .before .initial-room .ensures .0,
     ← (dimension-known (c .before .before .before .before .before .get-dimension .ensures) (search needs)) .0,
     le-ltb _ _ (c .before .before .before .before .if1 .left),
     le-ltb _ _
@@ -89,6 +94,7 @@ returns-6 : tie.Need-returns-6
 unfolding shortRow lentShort
 returns-6 c = (
   rw (
+    ← c .before .before .before .before .before .before .before .initial-room .ensures .0,
     ← (dimension-known (c .before .before .before .before .before .before .get-dimension .ensures) (search needs)) .0,
     le-ltb _ _
         (c .before .before .before .before .before .if1 .left),
@@ -106,6 +112,7 @@ returns-7 : tie.Need-returns-7
 unfolding shortRow lentShort
 returns-7 c = (
   rw (
+    ← c .before .before .before .before .before .before .before .initial-room .ensures .0,
     ← (dimension-known (c .before .before .before .before .before .before .get-dimension .ensures) (search needs)) .0,
     le-ltb _ _
         (c .before .before .before .before .before .if1 .left),
@@ -122,8 +129,8 @@ returns-7 c = (
     in-point = rw (← (dimension-known (c .before .before .before .before .before .before .get-dimension .ensures) (search needs)) .0)
         (omega arith);
     in-times = omega arith;
-    in-values = omega arith;
-    in-initial = omega arith;
+    in-values = rw (← c .before .before .before .before .before .before .before .initial-room .ensures .0) (omega arith);
+    in-initial = rw (← c .before .before .before .before .before .before .before .initial-room .ensures .0) (omega arith);
   },
 )
 
@@ -131,6 +138,7 @@ pub short-row-spec : {M : Type 1} → statement M
 short-row-spec =
     tie.close
     (tie.spec
+    initial-room-requires
     get-dimension-requires
     mul-if1
     add-if1

@@ -1,0 +1,177 @@
+-- Rows over what the program holds, by computation: which row shows where several lent parts are too short, which lists may be empty, and what a refused
+-- status and `is_ready` tell; and that a lent part that is too short refuses every call.
+use Prim.Native.Nat.{ℕ, zero, suc}
+use native.Mathlib.Omega.{arith}
+use mathlib.Core.Path.{_≡_, refl, sym, ap, _∙_}
+use mathlib.Core.Bool.{Bool, true, false, cond}
+use mathlib.Core.List.{List, [], _∷_, map}
+use mathlib.Core.Option.{Option, none, some}
+use lib.IntN.{pos}
+use lib.ListN.{replicate}
+use lib.Ieee.{Float, nan, binary32, ofBits, le, lt}
+use Rattle.common.specs.Deviation.{zero64, outsideUnit}
+use Rattle.common.specs.Lent.{over}
+use Rattle.common.specs.Refusal.{firstOf}
+use Rattle.trcf.specs.Transformer.{zero32}
+use Rattle.trcf.specs.Settings.{Settings, settingsRow, allOne, block, dimension, waiting}
+use Rattle.trcf.specs.Calls.{Call, postProcess, drain, scale, status, rows, table, finite, due, drainFull, newest, wrongLength, waitingShort, learnFull, learnShort, outside}
+use Rattle.trcf.specs.Preprocessor.{fresh, facts, accepted}
+use Rattle.trcf.specs.View.{Lent, lent, settingsOf, view, laid, counting, headRow, lentShort, misfit, shortRow, lentRow, orElse, rowOf, ownRow, readyOf, untold, headFrom, noHead, buildRow, buildOf, answerOf, headAfter, lentAfter, statusAfter}
+use Rattle.trcf.specs.declared.types.TransformMethod.{TransformMethod}
+use Rattle.trcf.specs.declared.types.TransformMethod.the-variants.{NONE, WEIGHTED, DIFFERENCE, «SUBTRACT_MA», NORMALIZE, «NORMALIZE_DIFFERENCE»}
+use Rattle.trcf.specs.declared.types.ForestMode.the-variants.{STANDARD}
+use Rattle.trcf.specs.declared.head.Preprocessor.{Preprocessor}
+
+-- opens what a row computes by
+all : Unit {0}
+unfolding over buildOf buildRow settingsRow lentRow shortRow lentShort misfit laid fresh view rowOf ownRow readyOf headRow rows table facts finite due drainFull newest wrongLength waitingShort learnFull learnShort outside waiting block dimension allOne outsideUnit answerOf statusAfter le lt ofBits
+all = tt
+
+abbrev one : Float
+one = ofBits binary32 0x3f80_0000
+
+-- d 1, k 2, start 2, stop 9
+abbrev sets : TransformMethod → Settings
+sets m = record { mode = STANDARD; method = m; d = 1; k = 2; start = 2; stop = 9; decay = zero64; weightTime = one; weights = one ∷ []; codes = 0 ∷ [] }
+
+abbrev head : TransformMethod → ℕ → ℕ → ℕ → ℕ → Preprocessor
+head m = counting (headFrom (sets m))
+
+-- as much as is needed of all but the times and the waiting times
+abbrev memory : List ℕ → List Float → List ℕ → Lent
+memory ts v vt = lent (replicate 30 zero64) (replicate 2 one) (replicate 2 one) ts v vt
+
+-- a learn at time 3: y, the grade
+abbrev learn : Option (List Float) → Float → Call
+learn y grade =
+    postProcess (record {
+      input = one ∷ [];
+      timestamp = 3;
+      rcfPoint = y;
+      expectedPoint = none;
+      grade = grade;
+      relativeIndex = pos 1;
+      deviationsOut = nan ∷ [];
+      pastOut = nan ∷ [];
+      expectedOut = nan ∷ [];
+    })
+
+abbrev y : Option (List Float)
+y = some (one ∷ one ∷ [])
+
+-- ---- 20 for a lent part comes last: the rows before it read of a short list what is there
+
+-- three were learnt, the last of them at time 9
+abbrev past : ℕ → Preprocessor
+past count = head DIFFERENCE count 3 3 0
+
+abbrev whole : Lent
+whole = memory (8 ∷ 9 ∷ []) [] []
+
+-- the last time lent is 2
+abbrev short : Lent
+short = memory (2 ∷ []) [] []
+
+-- at time 3: with an empty y, with an index past the newest, with the count at its limit, and with nothing else wrong
+abbrev learnRows : Lent → List ℕ
+learnRows l =
+    rowOf (past 3) l (learn (some []) zero32)
+    ∷ rowOf (past 3) l (learn y one)
+    ∷ rowOf (past 9007199254740990) l (learn y zero32)
+    ∷ rowOf (past 3) l (learn y zero32)
+    ∷ []
+
+-- row 12 where the times are whole; where they are short the next row that holds: 13, 14, 18, and 20 itself
+twelve : learnRows whole ≡ 12 ∷ 12 ∷ 12 ∷ 12 ∷ []
+unfolding all
+twelve = refl
+
+instead : learnRows short ≡ 13 ∷ 14 ∷ 18 ∷ 20 ∷ []
+unfolding all
+instead = refl
+
+-- a short list in which the time falls all the same
+still : rowOf (past 3) (memory (4 ∷ []) [] []) (learn y zero32) ≡ 12
+unfolding all
+still = refl
+
+-- a drain of two that wait: with their times, with one of the two, and with none, where nothing is seen to wait
+drains : rowOf (head NORMALIZE 0 2 0 2) (memory (0 ∷ 0 ∷ []) (one ∷ one ∷ []) (5 ∷ 7 ∷ [])) drain
+    ∷ rowOf (head NORMALIZE 0 2 0 2) (memory (0 ∷ 0 ∷ []) (one ∷ one ∷ []) (5 ∷ [])) drain
+    ∷ rowOf (head NORMALIZE 0 2 0 2) (memory (0 ∷ 0 ∷ []) (one ∷ one ∷ []) []) drain
+    ∷ [] ≡ 0 ∷ 20 ∷ 15 ∷ []
+unfolding all
+drains = refl
+
+-- ---- whichever row shows, one does, and the call changes nothing
+
+or-else : (r n : ℕ) → orElse r n ≡ 0 → n ≡ 0
+or-else zero n e = e
+or-else (suc r) n e = absurd (omega arith)
+
+never : (b : Bool) → cond b 20 (firstOf ((true, 20) ∷ [])) ≡ 0 → ⊥
+never true e = omega arith
+never false e = omega arith
+
+stays : {A : Type 0} (r : ℕ) (a b : A) → (r ≡ 0 → ⊥) → accepted r a b ≡ b
+stays zero a b n = absurd (n refl)
+stays (suc r) a b n = refl
+
+module _ (h : Preprocessor) (l : Lent) (c : Call) (e : lentShort (settingsOf h) l ≡ true) where
+  pub short-refuses : rowOf h l c ≡ 0 → ⊥
+  unfolding rowOf lentRow shortRow
+  short-refuses z =
+      let r : ℕ = rows (settingsOf h) (facts (view h l)) c in
+      let q : lentRow h l ≡ 0 = or-else r (lentRow h l) (or-else (headRow (settingsOf h)) (orElse r (lentRow h l)) z) in
+      never (misfit h) (ap (λ (b : Bool). cond (misfit h) 20 (firstOf ((b, 20) ∷ []))) (sym e) ∙ q)
+
+  pub short-changes-nothing : (headAfter h l c ≡ h) × (lentAfter h l c ≡ l)
+  unfolding headAfter lentAfter
+  short-changes-nothing = (stays (rowOf h l c) _ h short-refuses, stays (rowOf h l c) _ l short-refuses)
+
+-- ---- readings that wait need room under methods 4 and 5 alone
+
+abbrev methods : List TransformMethod
+methods = NONE ∷ WEIGHTED ∷ DIFFERENCE ∷ «SUBTRACT_MA» ∷ NORMALIZE ∷ «NORMALIZE_DIFFERENCE» ∷ []
+
+abbrev none-wait : Lent
+none-wait = memory (0 ∷ 0 ∷ []) [] []
+
+builds : map (λ (m : TransformMethod). buildOf (sets m) none-wait .row) methods ≡ 0 ∷ 0 ∷ 0 ∷ 0 ∷ 20 ∷ 20 ∷ []
+unfolding all
+builds = refl
+
+calls : map (λ (m : TransformMethod). rowOf (headFrom (sets m)) none-wait (scale (nan ∷ []))) methods ≡ 0 ∷ 0 ∷ 0 ∷ 0 ∷ 20 ∷ 20 ∷ []
+unfolding all
+calls = refl
+
+-- just enough, and one too few of either
+edges : map (λ (l : Lent). rowOf (headFrom (sets NORMALIZE)) l (scale (nan ∷ [])))
+    (memory (0 ∷ 0 ∷ []) (one ∷ one ∷ []) (0 ∷ 0 ∷ []) ∷ memory (0 ∷ 0 ∷ []) (one ∷ []) (0 ∷ 0 ∷ []) ∷ memory (0 ∷ 0 ∷ []) (one ∷ one ∷ []) (0 ∷ []) ∷ []) ≡ 0 ∷ 20 ∷ 20 ∷ []
+unfolding all
+edges = refl
+
+-- ---- a refused status tells the row alone; nothing is ready in a head that every call refuses
+
+-- three learnt, and an output that is too short
+untold-short : statusAfter (past 3) whole [] ≡ record { row = 20; numbers = untold [] }
+unfolding all
+untold-short = refl
+
+-- a head that no build made, whose numbers are all there
+abbrev forged : Preprocessor
+forged =
+    counting
+    (headFrom
+    (record { mode = STANDARD; method = DIFFERENCE; d = 1; k = 65; start = 2; stop = 9; decay = zero64; weightTime = one; weights = one ∷ []; codes = 0 ∷ [] }))
+    99 99 99 0
+
+untold-forged : statusAfter forged whole (nan ∷ []) ≡ record { row = 4; numbers = untold (nan ∷ []) }
+unfolding all
+untold-forged = refl
+
+-- full; one short; full, but no build made it; full, but its counters are no preprocessor's
+ready : readyOf (past 3) ∷ readyOf (head DIFFERENCE 1 1 1 0) ∷ readyOf forged ∷ readyOf (head DIFFERENCE 3 3 3 1) ∷ readyOf noHead ∷ []
+    ≡ true ∷ false ∷ false ∷ false ∷ false ∷ []
+unfolding all
+ready = refl
