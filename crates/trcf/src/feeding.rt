@@ -1,10 +1,10 @@
 // A reading is fed to all statistics, the channels' and the time's.
-use common::deviation::next_factor;
 use crate::head::Preprocessor;
 use crate::lengths::feed_fits;
 use crate::statistics::feed_at;
 use crate::transformer::WeightedTransformer;
 use crate::transformer::update_channels;
+use common::deviation::next_factor;
 ghost use mathlib.Core.Path.{_≡_};
 ghost use Prim.Native.Nat.{_-_, _<_};
 ghost use lib.ListN.{length};

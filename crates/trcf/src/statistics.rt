@@ -132,7 +132,13 @@ fn update_timestamps(deviations: &mut [Deviation], x: f64, dx: f64, f: f64, g: f
 }
 
 // Lends the five, for a caller that holds them by value.
-fn feed_timestamps(mut deviations: [Deviation; 5], x: f64, dx: f64, f: f64, g: f64) -> [Deviation; 5]
+fn feed_timestamps(
+    mut deviations: [Deviation; 5],
+    x: f64,
+    dx: f64,
+    f: f64,
+    g: f64,
+) -> [Deviation; 5]
     requires { ⌜ Ready f g (gathered deviations) ⌝ }
     ensures { λ r. ⌜ r ≡ listed (fed (gathered deviations) x dx) ⌝ }
 {
@@ -176,7 +182,17 @@ fn gather(deviations: [Deviation; 5]) -> Deviations
 
 // Feeds the five at the places b, b + w and so on of the lent numbers: what every path that feeds statistics calls. f and g are the factors of the decay and of a
 // tenth of it: all statistics of a state have one count, so a reading needs no more than these two.
-pub(crate) fn feed_at(s: &mut [f64], b: usize, w: usize, decay: f64, count: u64, x: f64, dx: f64, f: f64, g: f64)
+pub(crate) fn feed_at(
+    s: &mut [f64],
+    b: usize,
+    w: usize,
+    decay: f64,
+    count: u64,
+    x: f64,
+    dx: f64,
+    f: f64,
+    g: f64,
+)
     requires { ⌜ 3 * (b + 4 * w) + 3 ≤ length (now s) ⌝ }
     requires { ⌜ count < countLimit ⌝ }
     requires { ⌜ f ≡ factorOf decay count ⌝ }
