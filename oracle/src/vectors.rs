@@ -199,8 +199,24 @@ fn deviation(r: &mut Random, lines: u64) -> String {
         }
     }
     corrections(r, &mut out);
+    first_factors(&mut out);
     far_counts(r, &mut out);
     out
+}
+
+/// Updates at the ends of the table of factors, where the code cuts it, and past it, with discounts on both sides of 1/(count + 2), where the factor turns from the
+/// one number to the other (request 103).
+fn first_factors(out: &mut String) {
+    for count in [0, 1, 249, 250, 499, 500, 749, 750, 998, 999, 1_000, 1_001] {
+        let edge = 1.0 / (count + 2) as f64;
+        let (below, above) = (f64::from_bits(edge.to_bits() - 1), f64::from_bits(edge.to_bits() + 1));
+        for discount in [0.0, edge / 2.0, below, edge, above, edge * 1.5] {
+            let mut s = Deviation::create(discount, 3.25, -7.5, 41.0, held(count));
+            let line = Line::new("c").double(discount).double(3.25).double(-7.5).double(41.0).whole(count);
+            counted_line(line, 0, &s, count, out);
+            fed_line(&mut s, count, 2.5, out);
+        }
+    }
 }
 
 /// An update, and by how much it raises the count: 0 where row 18 refuses it.

@@ -5,8 +5,9 @@ use mathlib.Core.Bool.{Bool, true, false, cond}
 use mathlib.Core.List.{List, [], _∷_, map}
 use Prim.Native.Nat.{ℕ, zero, suc, _+_, _*_, _^_, _≤_, _<_}
 use native.Mathlib.Nat.{add-zero, zero-add, le-trans, mul-le-mul}
+use native.Mathlib.Decide.{decLt}
 use native.Mathlib.Omega.{arith}
-use borrow.Author.Tests.{le-leb, lt-leb}
+use borrow.Author.Tests.{le-leb, lt-leb, lt-ltb}
 use lib.Dec.{T, lit≤}
 use lib.ListN.{length}
 use lib.IntN.{ℤ, pos, negsuc, natAbs, _+ℤ_, _*ℤ_, +ℤ-assoc, +ℤ-idr, +ℤ-idl}
@@ -16,7 +17,7 @@ use lib.Ieee.Bits.{ofBits-fits}
 use Rattle.numeric.specs.Root.{rootOf, rooted}
 use Rattle.common.specs.declared.deviation.Deviation.{Deviation}
 use Rattle.common.specs.declared.deviation.DeviationResult.the-variants.{Ok, Err}
-use Rattle.common.specs.Deviation.{zero64, one64, countLimit, statistic, emptyWith, factorOf, stepOf, updateOf, isEmpty, meanOf, rootAbove, deviationOf}
+use Rattle.common.specs.Deviation.{zero64, one64, countLimit, statistic, emptyWith, factorOf, nextFactor, stepBy, updateBy, stepOf, updateOf, isEmpty, meanOf, rootAbove, deviationOf}
 use Rattle.common.specs.WholeScores.{wholeFloat, fed, total, totalOfSquares, AllWithin}
 use Rattle.common.proofs.WholeFloats.{add-whole, mul-whole-one, square-whole, size-sum, size-square}
 
@@ -37,6 +38,33 @@ update-accepted s x h = rw (lt-leb countLimit (s .count) h)
 pub update-refused : (s : Deviation) (x : Float) → countLimit ≤ s .count → updateOf s x ≡ Err 18
 unfolding updateOf
 update-refused s x h = rw (le-leb countLimit (s .count) h)
+
+-- ---- update by a factor that is given
+
+pub next-factor : (d : Float) (n : ℕ) → n < countLimit → nextFactor d n ≡ factorOf d n
+unfolding nextFactor
+next-factor d n h = rw (lt-ltb n countLimit h)
+
+pub step-by : (s : Deviation) (x : Float) → stepBy (factorOf (s .discount) (s .count)) s x ≡ stepOf s x
+unfolding stepBy stepOf
+step-by s x = refl
+
+-- with its own factor it is the step
+pub update-by-accepted : (f : Float) (s : Deviation) (x : Float) → f ≡ factorOf (s .discount) (s .count) → s .count < countLimit → updateBy f s x ≡ Ok (stepOf s x)
+unfolding updateBy
+update-by-accepted f s x e h = rw (lt-leb countLimit (s .count) h) (ap Ok (ap (λ (g : Float). stepBy g s x) e ∙ step-by s x))
+
+pub update-by-refused : (f : Float) (s : Deviation) (x : Float) → countLimit ≤ s .count → updateBy f s x ≡ Err 18
+unfolding updateBy
+update-by-refused f s x h = rw (le-leb countLimit (s .count) h)
+
+-- and so is update with the factor of the next one
+pub update-by-next : (s : Deviation) (x : Float) → updateBy (nextFactor (s .discount) (s .count)) s x ≡ updateOf s x
+update-by-next s x = by-count (decLt (s .count) countLimit)
+  where
+    by-count : Dec (s .count < countLimit) → updateBy (nextFactor (s .discount) (s .count)) s x ≡ updateOf s x
+    by-count (yes h) = update-by-accepted _ s x (next-factor (s .discount) (s .count) h) h ∙ sym (update-accepted s x h)
+    by-count (no h) = update-by-refused _ s x (omega arith) ∙ sym (update-refused s x (omega arith))
 
 pub fed-discount : (s : Deviation) (xs : List Float) → fed s xs .discount ≡ s .discount
 unfolding fed

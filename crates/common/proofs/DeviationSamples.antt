@@ -9,7 +9,7 @@ use Rattle.numeric.specs.Root.{rootWithin, halves, rooted, rootOf}
 use Rattle.common.specs.declared.deviation.Deviation.{Deviation}
 use Rattle.common.specs.declared.deviation.DeviationResult.{DeviationResult}
 use Rattle.common.specs.declared.deviation.DeviationResult.the-variants.{Ok, Err}
-use Rattle.common.specs.Deviation.{zero64, one64, statistic, emptyWith, rowOf, outsideUnit, newOf, createOf, factorOf, stepOf, updateOf, isEmpty, meanOf, rootAbove, deviationOf, setCountOf}
+use Rattle.common.specs.Deviation.{zero64, one64, statistic, emptyWith, rowOf, outsideUnit, newOf, createOf, factorOf, nextFactor, stepOf, updateOf, isEmpty, meanOf, rootAbove, deviationOf, setCountOf}
 use Rattle.common.specs.WholeScores.{wholeFloat, fed}
 
 -- weight, sum, squares, mean and deviation, as bits
@@ -38,6 +38,13 @@ pub discounts : map (λ (b : ℕ). rowOf (newOf (ofBits binary64 b)))
     ≡ 0 ∷ 0 ∷ 0 ∷ 0 ∷ 6 ∷ 6 ∷ 6 ∷ 6 ∷ []
 unfolding newOf outsideUnit lt le eq ofBits
 discounts = refl
+
+-- the factor of the next update with discount 0.25: at count 0 the one that grows, at the last count 1 − 0.25, at the limit none; and with discount 0
+pub next-factors : map (λ (n : ℕ). toBits binary64 (nextFactor (ofBits binary64 0x3fd0_0000_0000_0000) n)) (0 ∷ 9007199254740989 ∷ 9007199254740990 ∷ [])
+    ++ map (λ (n : ℕ). toBits binary64 (nextFactor zero64 n)) (0 ∷ 9007199254740990 ∷ [])
+    ≡ 0x3fe0_0000_0000_0000 ∷ 0x3fe8_0000_0000_0000 ∷ 0 ∷ 0x3ff0_0000_0000_0000 ∷ 0 ∷ []
+unfolding nextFactor factorOf add sub mul div lt le eq ofInt ofBits toBits
+next-factors = refl
 
 abbrev counted : ℕ → Deviation
 counted n = statistic zero64 zero64 zero64 zero64 n

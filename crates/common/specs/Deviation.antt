@@ -71,7 +71,20 @@ stepOf s x =
     statistic (s .discount) (add binary64 (mul binary64 (s .weight) f) one64) (add binary64 (mul binary64 (s .sum) f) x)
     (add binary64 (mul binary64 (s .«sum_squared») f) (mul binary64 x x)) (s .count + 1)
 
+-- the factor of the next update; 0 where there is none, row 18
+unfoldable pub nextFactor : Float → ℕ → Float
+nextFactor d n = cond (ltb n countLimit) (factorOf d n) zero64
+
+-- an update by a factor that is given: the statistics of one discount and one count share it
+unfoldable pub stepBy : Float → Deviation → Float → Deviation
+stepBy f s x =
+    statistic (s .discount) (add binary64 (mul binary64 (s .weight) f) one64) (add binary64 (mul binary64 (s .sum) f) x)
+    (add binary64 (mul binary64 (s .«sum_squared») f) (mul binary64 x x)) (s .count + 1)
+
 -- row 18: "count would pass" the limit
+unfoldable pub updateBy : Float → Deviation → Float → DeviationResult
+updateBy f s x = answered (firstOf ((leb countLimit (s .count), 18) ∷ [])) (stepBy f s x)
+
 unfoldable pub updateOf : Deviation → Float → DeviationResult
 updateOf s x = answered (firstOf ((leb countLimit (s .count), 18) ∷ [])) (stepOf s x)
 

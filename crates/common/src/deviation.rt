@@ -1,8 +1,9 @@
 // A discounted statistic of a stream of numbers (the source's common/deviation.rs), by value.
 ghost use mathlib.Core.Path.{_≡_};
-ghost use Prim.Native.Nat.{_≤_};
+ghost use Prim.Native.Nat.{_≤_, _<_};
 ghost use Rattle.common.specs.Deviation.{zero64, countLimit, emptyWith, outsideUnit, newOf, createOf, resetOf};
-ghost use Rattle.common.specs.Deviation.{factorOf, updateOf, isEmpty, meanOf, deviationOf, setDiscountOf, setCountOf};
+ghost use Rattle.common.specs.Deviation.{factorOf, nextFactor, updateBy, updateOf, isEmpty, meanOf, deviationOf, setDiscountOf, setCountOf};
+ghost use Rattle.factors.specs.Factors.{tableLength, growingAt};
 ghost use Rattle.common.specs.Refusal.{firstOf};
 ghost use lib.IntN.{_+ℤ_, _-ℤ_};
 ghost use Rattle.common.specs.WholeScores.{wholeFloat};
@@ -39,18 +40,46 @@ pub fn outside_unit(discount: f64) -> bool
     !(discount >= 0.0 && discount < 1.0)
 }
 
+// 1 - 1/(count + 2) of a count that the table reaches.
+fn listed(count: u64) -> f64
+    requires { ⌜ count < tableLength ⌝ }
+    ensures { λ r. ⌜ r ≡ growingAt count ⌝ }
+{
+    f64::from_bits(factors::table::listed(count))
+}
+
+// 1 - 1/(count + 2): read from the table while that reaches, and by the formula from there on.
+fn growing(count: u64) -> f64
+    requires { ⌜ count ≤ countLimit ⌝ }
+    ensures { λ r. ⌜ r ≡ growingAt count ⌝ }
+{
+    if count < factors::table::LENGTH {
+        return listed(count);
+    }
+    1.0 - 1.0 / (count + 2) as f64
+}
+
 // What an update multiplies by.
 fn factor(discount: f64, count: u64) -> f64
     requires { ⌜ count ≤ countLimit ⌝ }
     ensures { λ r. ⌜ r ≡ factorOf discount count ⌝ }
 {
-    // both are found before the test, so that the five statistics of one count share the division
-    let a = 1.0 - discount;
-    let b = 1.0 - 1.0 / (count + 2) as f64;
     if discount == 0.0 {
         return 1.0;
     }
+    let a = 1.0 - discount;
+    let b = growing(count);
     if a < b { a } else { b }
+}
+
+// The factor of the next update, one for all statistics of this discount and this count; 0 where the count is spent, so that there is none.
+pub fn next_factor(discount: f64, count: u64) -> f64
+    ensures { λ r. ⌜ r ≡ nextFactor discount count ⌝ }
+{
+    if count < COUNT_LIMIT {
+        return factor(discount, count);
+    }
+    0.0
 }
 
 // The size of x; a zero keeps its sign.
@@ -196,11 +225,17 @@ impl Deviation {
     pub fn update(self, score: f64) -> DeviationResult
         ensures { λ r. ⌜ r ≡ updateOf self score ⌝ }
     {
+        self.update_by(next_factor(self.discount, self.count), score)
+    }
+
+    // The same by a factor that is given, for a caller whose statistics share it.
+    pub fn update_by(self, f: f64, score: f64) -> DeviationResult
+        ensures { λ r. ⌜ r ≡ updateBy f self score ⌝ }
+    {
         let count = self.count;
         if COUNT_LIMIT <= count {
             return DeviationResult::Err(18);
         }
-        let f = factor(self.discount, count);
         DeviationResult::Ok(Deviation {
             discount: self.discount,
             weight: self.weight * f + 1.0,

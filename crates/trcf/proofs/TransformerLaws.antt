@@ -12,12 +12,13 @@ use lib.Ieee.Bits.{ofBits-fits}
 use Rattle.common.specs.declared.deviation.Deviation.{Deviation}
 use Rattle.common.specs.declared.deviation.DeviationResult.{DeviationResult}
 use Rattle.common.specs.declared.deviation.DeviationResult.the-variants.{Ok}
-use Rattle.common.specs.Deviation.{countLimit, updateOf, stepOf}
-use Rattle.common.proofs.DeviationLaws.{update-accepted, step-fits}
+use Rattle.common.specs.Deviation.{countLimit, updateBy, stepOf}
+use Rattle.common.proofs.DeviationLaws.{update-by-accepted, step-fits}
 use Rattle.common.proofs.DeviationLaws as deviation
 use Rattle.trcf.specs.Fit.{All, Fits}
 use Rattle.trcf.specs.Transformer.{Transformer, putStatistic, putDeviations, fed, fedAt, channelsFed, updated, transformBy, transformed, unweighted, invertBy, inverted, weightAt, basicShift, normalizedScale, scales, shifts, differenceDeviations, zero32}
 use Rattle.trcf.specs.TransformerCalls.{view}
+use Rattle.trcf.specs.Timestamps.{IsFactor}
 use Rattle.trcf.specs.declared.transformer.WeightedTransformer.{WeightedTransformer}
 use lib.Seq.{getD-take}
 use Rattle.trcf.specs.Types.{normalizes, centres}
@@ -29,8 +30,8 @@ use Rattle.trcf.proofs.FitLaws.{all-set, all-getD, all-tabulate, tabula
 abbrev fit : Format → Float → Type 0
 fit f x = T (fits f x)
 
-pub taken-step : (s : Deviation) (x : Float) (r : DeviationResult) (next : Deviation) → s .count < countLimit → r ≡ updateOf s x → r ≡ Ok next → next ≡ stepOf s x
-taken-step s x r next h p q = let k = update-accepted s x h in cc
+pub taken-step : (s : Deviation) (f x : Float) (r : DeviationResult) (next : Deviation) → s .count < countLimit → IsFactor f s → r ≡ updateBy f s x → r ≡ Ok next → next ≡ stepOf s x
+taken-step s f x r next h e p q = let k = update-by-accepted f s x e h in cc
 
 -- the weight that a head holds for channel i
 pub weightAt-view : (t : WeightedTransformer) (l : List Float) (i : ℕ) → i < t .«input_length» → weightAt (view t l) i ≡ getD (t .weights) i nan

@@ -2,9 +2,10 @@
 use Prim.Native.Nat.{ℕ, _<_}
 use mathlib.Core.List.{List, [], _∷_}
 use lib.ListN.{getD}
-use lib.Ieee.{nan}
+use mathlib.Core.Path.{_≡_}
+use lib.Ieee.{Float, nan}
 use Rattle.common.specs.declared.deviation.Deviation.{Deviation}
-use Rattle.common.specs.Deviation.{statistic, countLimit}
+use Rattle.common.specs.Deviation.{statistic, countLimit, factorOf}
 use Rattle.trcf.specs.declared.statistics.Deviations.{Deviations}
 
 abbrev pub listed : Deviations → List Deviation
@@ -29,3 +30,15 @@ abbrev pub Unspent : Deviations → Type 0
 Unspent t =
     (t .value .count < countLimit) × (t .difference .count < countLimit) × (t .deviation .count < countLimit) × (t .«difference_mean» .count < countLimit)
     × (t .«difference_deviation» .count < countLimit)
+
+-- what updates this statistic multiply by
+abbrev pub IsFactor : Float → Deviation → Type 0
+IsFactor f s = f ≡ factorOf (s .discount) (s .count)
+
+-- f is the factor of the first two, and g that of the three with a tenth of the decay: all five have one count
+abbrev pub Share : Float → Float → Deviations → Type 0
+Share f g t = IsFactor f (t .value) × IsFactor f (t .difference) × IsFactor g (t .deviation) × IsFactor g (t .«difference_mean») × IsFactor g (t .«difference_deviation»)
+
+-- the five can be fed, by these factors
+abbrev pub Ready : Float → Float → Deviations → Type 0
+Ready f g t = Unspent t × Share f g t

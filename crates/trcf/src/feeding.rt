@@ -4,6 +4,7 @@ use crate::lengths::feed_fits;
 use crate::statistics::feed_at;
 use crate::transformer::WeightedTransformer;
 use crate::transformer::update_channels;
+use common::deviation::next_factor;
 ghost use mathlib.Core.Path.{_≡_};
 ghost use Prim.Native.Nat.{_-_, _<_};
 ghost use lib.ListN.{length};
@@ -48,10 +49,12 @@ pub(crate) fn feed_fitting(
         weights: weights,
         count: count,
     };
-    update_channels(u, s, input, before);
+    let f = next_factor(decay, count);
+    let g = next_factor(0.1 * decay, count);
+    update_channels(u, s, input, before, f, g);
     let x = numeric::u64_to_f64(timestamp);
     let dx = numeric::u64_to_f64(since(timestamp, previous));
-    feed_at(s, 5 * d, 1, decay, count, x, dx);
+    feed_at(s, 5 * d, 1, decay, count, x, dx, f, g);
 }
 
 // The same; where the count is spent or a length does not fit, nothing changes.

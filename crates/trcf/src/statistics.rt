@@ -6,9 +6,9 @@ use common::deviation::DeviationResult;
 ghost use mathlib.Core.Path.{_≡_};
 ghost use Prim.Native.Nat.{_+_, _*_, _≤_, _<_};
 ghost use lib.ListN.{length};
-ghost use Rattle.common.specs.Deviation.{countLimit, stepOf};
-ghost use Rattle.trcf.specs.Transformer.{statisticAt, putStatistic, deviationsAt, putDeviations, fed, meanAt, fedAt};
-ghost use Rattle.trcf.specs.Timestamps.{listed, gathered, Unspent};
+ghost use Rattle.common.specs.Deviation.{countLimit, factorOf, stepOf};
+ghost use Rattle.trcf.specs.Transformer.{statisticAt, putStatistic, deviationsAt, putDeviations, slowDecay, fed, meanAt, fedAt};
+ghost use Rattle.trcf.specs.Timestamps.{listed, gathered, IsFactor, Ready};
 
 // The five statistics of one channel, or of the time.
 pub struct Deviations {
@@ -79,28 +79,29 @@ pub(crate) fn put_deviations(s: &mut [f64], b: usize, w: usize, t: Deviations)
     put_statistic(s, b + 4 * w, difference_deviation);
 }
 
-// An update that the count does not refuse.
-fn step(t: Deviation, x: f64) -> Deviation
+// An update that the count does not refuse, by the statistic's factor.
+fn step(t: Deviation, f: f64, x: f64) -> Deviation
     requires { ⌜ t .count < countLimit ⌝ }
+    requires { ⌜ IsFactor f t ⌝ }
     ensures { λ r. ⌜ r ≡ stepOf t x ⌝ }
 {
-    let r = t.update(x);
+    let r = t.update_by(f, x);
     match r {
         DeviationResult::Ok(next) => next,
         DeviationResult::Err(_) => t,
     }
 }
 
-pub(crate) fn feed(t: Deviations, x: f64, dx: f64) -> Deviations
-    requires { ⌜ (t .value .count < countLimit) × (t .difference .count < countLimit) × (t .deviation .count < countLimit)
-        × (t .«difference_mean» .count < countLimit) × (t .«difference_deviation» .count < countLimit) ⌝ }
+// f is the factor of the first two and g that of the others.
+pub(crate) fn feed(t: Deviations, x: f64, dx: f64, f: f64, g: f64) -> Deviations
+    requires { ⌜ Ready f g t ⌝ }
     ensures { λ r. ⌜ r ≡ fed t x dx ⌝ }
 {
-    let value = step(t.value, x);
-    let difference = step(t.difference, dx);
-    let deviation = step(t.deviation, value.deviation());
-    let difference_mean = step(t.difference_mean, difference.mean());
-    let difference_deviation = step(t.difference_deviation, difference.deviation());
+    let value = step(t.value, f, x);
+    let difference = step(t.difference, f, dx);
+    let deviation = step(t.deviation, g, value.deviation());
+    let difference_mean = step(t.difference_mean, g, difference.mean());
+    let difference_deviation = step(t.difference_deviation, g, difference.deviation());
     Deviations {
         value: value,
         difference: difference,
@@ -111,8 +112,8 @@ pub(crate) fn feed(t: Deviations, x: f64, dx: f64) -> Deviations
 }
 
 // Each record is read and the five are fed by value; then each is stored back.
-fn update_timestamps(deviations: &mut [Deviation], x: f64, dx: f64)
-    requires { ⌜ (length (now deviations) ≡ 5) × Unspent (gathered (now deviations)) ⌝ }
+fn update_timestamps(deviations: &mut [Deviation], x: f64, dx: f64, f: f64, g: f64)
+    requires { ⌜ (length (now deviations) ≡ 5) × Ready f g (gathered (now deviations)) ⌝ }
     ensures { λ _. ⌜ now (deviations .exit) ≡ listed (fed (gathered (now (deviations .entry))) x dx) ⌝ }
 {
     let t = Deviations {
@@ -122,7 +123,7 @@ fn update_timestamps(deviations: &mut [Deviation], x: f64, dx: f64)
         difference_mean: deviations[3],
         difference_deviation: deviations[4],
     };
-    let u = feed(t, x, dx);
+    let u = feed(t, x, dx, f, g);
     deviations[0] = u.value;
     deviations[1] = u.difference;
     deviations[2] = u.deviation;
@@ -131,11 +132,17 @@ fn update_timestamps(deviations: &mut [Deviation], x: f64, dx: f64)
 }
 
 // Lends the five, for a caller that holds them by value.
-fn feed_timestamps(mut deviations: [Deviation; 5], x: f64, dx: f64) -> [Deviation; 5]
-    requires { ⌜ Unspent (gathered deviations) ⌝ }
+fn feed_timestamps(
+    mut deviations: [Deviation; 5],
+    x: f64,
+    dx: f64,
+    f: f64,
+    g: f64,
+) -> [Deviation; 5]
+    requires { ⌜ Ready f g (gathered deviations) ⌝ }
     ensures { λ r. ⌜ r ≡ listed (fed (gathered deviations) x dx) ⌝ }
 {
-    update_timestamps(&mut deviations, x, dx);
+    update_timestamps(&mut deviations, x, dx, f, g);
     deviations
 }
 
@@ -173,15 +180,28 @@ fn gather(deviations: [Deviation; 5]) -> Deviations
     }
 }
 
-// Feeds the five at the places b, b + w and so on of the lent numbers: what every path that feeds statistics calls.
-pub(crate) fn feed_at(s: &mut [f64], b: usize, w: usize, decay: f64, count: u64, x: f64, dx: f64)
+// Feeds the five at the places b, b + w and so on of the lent numbers: what every path that feeds statistics calls. f and g are the factors of the decay and of a
+// tenth of it: all statistics of a state have one count, so a reading needs no more than these two.
+pub(crate) fn feed_at(
+    s: &mut [f64],
+    b: usize,
+    w: usize,
+    decay: f64,
+    count: u64,
+    x: f64,
+    dx: f64,
+    f: f64,
+    g: f64,
+)
     requires { ⌜ 3 * (b + 4 * w) + 3 ≤ length (now s) ⌝ }
     requires { ⌜ count < countLimit ⌝ }
+    requires { ⌜ f ≡ factorOf decay count ⌝ }
+    requires { ⌜ g ≡ factorOf (slowDecay decay) count ⌝ }
     ensures { λ _. ⌜ now (s .exit) ≡ fedAt (now (s .entry)) b w decay count x dx ⌝ }
 {
     let t = deviations_at(s, b, w, decay, count);
     let l = list(t);
-    let u = feed_timestamps(l, x, dx);
+    let u = feed_timestamps(l, x, dx, f, g);
     let v = gather(u);
     put_deviations(s, b, w, v);
 }

@@ -9,6 +9,7 @@ use crate::types::is_normalizing;
 use common::deviation::COUNT_LIMIT;
 use common::deviation::Deviation;
 use common::deviation::DeviationResult;
+use common::deviation::next_factor;
 use common::rangevector::Range32;
 use common::rangevector::cascaded_add_f32;
 ghost use mathlib.Core.Path.{_≡_};
@@ -21,11 +22,11 @@ ghost use lib.Ieee.{binary32, binary64, add, mul, ofInt};
 ghost use Rattle.numeric.specs.Narrow.{narrowed};
 ghost use Rattle.common.specs.Refusal.{firstOf};
 ghost use Rattle.common.specs.Lent.{over};
-ghost use Rattle.common.specs.Deviation.{zero64, one64, countLimit, outsideUnit};
+ghost use Rattle.common.specs.Deviation.{zero64, one64, countLimit, outsideUnit, factorOf};
 ghost use Rattle.common.specs.RangeVector.{ranges, outcome, unblocked, cascadeTo};
 ghost use Rattle.trcf.specs.Types.{isNone, normalizes, differences, centres};
 ghost use Rattle.trcf.specs.Settings.{allOne};
-ghost use Rattle.trcf.specs.Transformer.{zero32, updated, meanAt, weightAt, normalizedScale, transformBy, transformed, unweighted, invertBy, inverted, reciprocal, scaledIf, shiftedIf, forecastTo, invertedForecast, scales, shifts, differenceDeviations};
+ghost use Rattle.trcf.specs.Transformer.{zero32, slowDecay, updated, meanAt, weightAt, normalizedScale, transformBy, transformed, unweighted, invertBy, inverted, reciprocal, scaledIf, shiftedIf, forecastTo, invertedForecast, scales, shifts, differenceDeviations};
 ghost use Rattle.trcf.specs.Lengths.{whereFits, passes};
 ghost use Rattle.trcf.specs.Forecast.{plain, inversionOf, forecastBy, channelTo};
 ghost use Rattle.trcf.specs.TransformerCalls.{view, Sound, made, written, newRow, updateRow, transformRow, outputRow, forecastRow, newOf, updateOf, transformOf, invertOf, invertForecastOf, scaleOf, shiftOf, differenceDeviationsOf};
@@ -45,17 +46,21 @@ pub struct TransformerResult {
     pub transformer: WeightedTransformer,
 }
 
-// Each channel's five statistics are fed its reading and its difference from the one before.
+// Each channel's five statistics are fed its reading and its difference from the one before, by the factors of the decay and of a tenth of it.
 pub(crate) fn update_channels(
     t: WeightedTransformer,
     s: &mut [f64],
     input: &[f32],
     previous: &[f32],
+    f: f64,
+    g: f64,
 )
     requires { ⌜ Sound t (length (now s)) ⌝ }
     requires { ⌜ t .count < countLimit ⌝ }
     requires { ⌜ length (now input) ≡ t .«input_length» ⌝ }
     requires { ⌜ length (now previous) ≡ t .«input_length» ⌝ }
+    requires { ⌜ f ≡ factorOf (t .«transform_decay») (t .count) ⌝ }
+    requires { ⌜ g ≡ factorOf (slowDecay (t .«transform_decay»)) (t .count) ⌝ }
     ensures { λ _. ⌜ now (s .exit) ≡ updated (view t (now (s .entry))) (now (input .entry)) (now (previous .entry)) ⌝ }
 {
     let d = t.input_length;
@@ -73,6 +78,8 @@ pub(crate) fn update_channels(
             count,
             numeric::to_f64(x),
             numeric::to_f64(dx),
+            f,
+            g,
         );
         i += 1;
     }
@@ -716,7 +723,10 @@ impl WeightedTransformer {
             };
         }
         let n = 15 * d;
-        update_channels(self, &mut statistics[..n], input, previous);
+        let decay = self.transform_decay;
+        let f = next_factor(decay, count);
+        let g = next_factor(0.1 * decay, count);
+        update_channels(self, &mut statistics[..n], input, previous, f, g);
         let m = self.transform_method;
         let w = self.weights;
         TransformerResult {

@@ -1,12 +1,22 @@
 -- `trcf::feeding::feed_fitting` meets its contract: by its callees' promises and the laws of lists. Assumes nothing.
+use mathlib.Core.Path.{_∙_}
 use native.Mathlib.Omega.{arith}
+use Rattle.common.proofs.DeviationLaws.{next-factor}
 use Rattle.trcf.specs.Preprocessor.{feed, timeFed}
 use borrow.Author.Needs.{needs}
 use Rattle.trcf.proofs.feeding.feed_fitting.Statement.{statement}
 use Rattle.trcf.proofs.feeding.feed_fitting.Tie as tie
 
+next-factor-requires : tie.Need-next-factor-requires
+next-factor-requires c κs = tt
+
+next-factor-requires-2 : tie.Need-next-factor-requires-2
+next-factor-requires-2 c κs = tt
+
 update-channels-requires : tie.Need-update-channels-requires
-update-channels-requires c κs = search needs
+update-channels-requires c κs = let first = c .before .before .before .before .before .before .before .before in
+    let h = first .pre .1 .1 .0 in
+    (search needs, (h, (search needs, (search needs, (c .before .before .next-factor .ensures ∙ next-factor _ _ h, c .before .next-factor2 .ensures ∙ next-factor _ _ h)))))
 
 u64-to-f64-requires : tie.Need-u64-to-f64-requires
 u64-to-f64-requires c κs = search needs
@@ -21,7 +31,10 @@ mul-feed-at : tie.Need-mul-feed-at
 mul-feed-at c = omega arith
 
 feed-at-requires : tie.Need-feed-at-requires
-feed-at-requires c κs = search needs
+feed-at-requires c κs = let made = c .before .before .before .before .before .before .before .before in
+    let first = made .before .before .before .before .before .before .before in
+    let h = first .pre .1 .1 .0 in
+    (search needs, (h, (made .before .next-factor .ensures ∙ next-factor _ _ h, made .next-factor2 .ensures ∙ next-factor _ _ h)))
 
 same-length : tie.Need-same-length
 same-length c = search needs
@@ -34,6 +47,8 @@ pub feed-fitting-spec : {M : Type 1} → statement M
 feed-fitting-spec =
     tie.close
     (tie.spec
+    next-factor-requires
+    next-factor-requires-2
     update-channels-requires
     u64-to-f64-requires
     since-requires

@@ -1,3 +1,4 @@
+-- `trcf::statistics::feed_at` meets its contract: what its parts promise, one after the other. Assumes nothing.
 use Rattle.trcf.specs.Transformer.{fedAt, deviationsAt, statisticAt}
 use borrow.Author.Needs.{needs}
 use Rattle.trcf.proofs.statistics.feed_at.Statement.{statement}
@@ -18,7 +19,9 @@ list-requires c κs = tt
 
 feed-timestamps-requires : tie.Need-feed-timestamps-requires
 unfolding deviationsAt statisticAt
-feed-timestamps-requires c κs = rw (c .list .ensures, c .before .deviations-at .ensures) (c .before .before .before .before .pre .1, c .before .before .before .before .pre .1, c .before .before .before .before .pre .1, c .before .before .before .before .pre .1, c .before .before .before .before .pre .1)
+feed-timestamps-requires c κs = let h = c .before .before .before .before .pre in
+    rw (c .list .ensures, c .before .deviations-at .ensures)
+    ((h .1 .0, h .1 .0, h .1 .0, h .1 .0, h .1 .0), (h .1 .1 .0, h .1 .1 .0, h .1 .1 .1, h .1 .1 .1, h .1 .1 .1))
 
 gather-requires : tie.Need-gather-requires
 gather-requires c κs = tt

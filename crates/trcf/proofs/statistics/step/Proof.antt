@@ -3,13 +3,13 @@ use Rattle.trcf.proofs.TransformerLaws.{taken-step}
 use native.Mathlib.Omega.{arith}
 use Prim.Native.Nat.{ℕ}
 use mathlib.Core.Path.{_≡_}
-use Rattle.common.proofs.DeviationLaws.{update-accepted}
+use Rattle.common.proofs.DeviationLaws.{update-by-accepted}
 use borrow.Author.Needs.{needs}
 use Rattle.trcf.proofs.statistics.step.Statement.{statement}
 use Rattle.trcf.proofs.statistics.step.Tie as tie
 
-update-requires : tie.Need-update-requires
-update-requires c κs = tt
+update-by-requires : tie.Need-update-by-requires
+update-by-requires c κs = tt
 
 enum-known-r : tie.Need-enum-known-r
 enum-known-r c = search needs
@@ -18,13 +18,14 @@ enum-told : tie.Need-enum-told
 enum-told c = search needs
 
 returns : tie.Need-returns
-returns c = taken-step (c .before .before .before .before .args .t) (c .before .before .before .before .args .x) (c .before .before .before .update .result) (c .before .r .given .0 .0) (c .before .before .before .before .pre) (c .before .before .before .update .ensures) (c .before .r .given .1)
+returns c = let a = c .before .before .before .before in let u = c .before .before .before .update-by in
+    taken-step (a .args .t) (a .args .f) (a .args .x) (u .result) (c .before .r .given .0 .0) (a .pre .0) (a .pre .1) (u .ensures) (c .before .r .given .1)
 
 returns-2 : tie.Need-returns-2
-returns-2 c = let a = c .before .before .before .args in
-    let k = update-accepted (a .t) (a .x) (c .before .before .before .pre) in
+returns-2 c = let a = c .before .before .before in
+    let k = update-by-accepted (a .args .f) (a .args .t) (a .args .x) (a .pre .1) (a .pre .0) in
     let z : _≡_ {A = ℕ} 0 1 = cc (c .enum-told .given .1) in
     absurd (omega arith)
 
 pub step-spec : {M : Type 1} → statement M
-step-spec = tie.close (tie.spec update-requires enum-known-r enum-told returns returns-2)
+step-spec = tie.close (tie.spec update-by-requires enum-known-r enum-told returns returns-2)

@@ -10,10 +10,10 @@ use Rattle.trcf.proofs.transformer.update_channels.Statement.{statement
 use Rattle.trcf.proofs.transformer.update_channels.Tie as tie
 
 abbrev Inv-loop : tie.InvT-loop
-Inv-loop s₀ input previous d decay count i₀ s i = (i ≤ d) × (s ≡ channelsFed i s₀ d decay count input previous) × (length s ≡ length s₀)
+Inv-loop s₀ input previous f g d decay count i₀ s i = (i ≤ d) × (s ≡ channelsFed i s₀ d decay count input previous) × (length s ≡ length s₀)
 
 abbrev μ-loop : tie.MeasureT-loop
-μ-loop s₀ input previous d decay count i₀ s i = d - i
+μ-loop s₀ input previous f g d decay count i₀ s i = d - i
 
 loop-holds : tie.Need-loop-holds Inv-loop μ-loop
 unfolding channelsFed
@@ -38,7 +38,8 @@ to-f64-requires-2 : tie.Need-to-f64-requires-2 Inv-loop μ-loop
 to-f64-requires-2 c κs = search needs
 
 feed-at-requires : tie.Need-feed-at-requires Inv-loop μ-loop
-feed-at-requires c κs = (omega arith, c .before .before .before .before .before .before .before .before .before .before .pre .1 .0)
+feed-at-requires c κs = let h = c .before .before .before .before .before .before .before .before .before .before .pre in
+    (omega arith, (h .1 .0, (h .1 .1 .1 .1 .0, h .1 .1 .1 .1 .1)))
 
 add-i : tie.Need-add-i Inv-loop μ-loop
 add-i c = omega arith

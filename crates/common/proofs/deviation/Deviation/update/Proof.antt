@@ -1,27 +1,18 @@
--- `common::deviation::Deviation::update` meets its contract: row 18 is its test, and `factor` gives the factor. Assumes nothing.
-use Prim.Native.Nat.{_≤_, _<_}
-use native.Mathlib.Omega.{arith}
+-- `common::deviation::Deviation::update` meets its contract: it is the update by the factor of the next one. Assumes nothing.
+use mathlib.Core.Path.{_∙_}
 use borrow.Author.Needs.{needs}
-use borrow.Author.Tests.{le-leb, lt-leb}
-use Rattle.common.specs.Deviation.{countLimit, stepOf, updateOf}
+use Rattle.common.proofs.DeviationLaws.{update-by-next}
 use Rattle.common.proofs.deviation.Deviation.update.Statement.{statement}
 use Rattle.common.proofs.deviation.Deviation.update.Tie as tie
 
+next-factor-requires : tie.Need-next-factor-requires
+next-factor-requires c κs = tt
+
+update-by-requires : tie.Need-update-by-requires
+update-by-requires c κs = tt
+
 returns : tie.Need-returns
-unfolding updateOf
-returns c = let h : countLimit ≤ c .before .args .self .count = omega arith in rw (le-leb _ _ h)
-
-factor-requires : tie.Need-factor-requires
-factor-requires c κs = search needs
-
-add-t13 : tie.Need-add-t13
-add-t13 c = search needs
-
-returns-2 : tie.Need-returns-2
-unfolding updateOf stepOf
-returns-2 c =
-    let h : c .before .before .before .before .before .args .self .count < countLimit = omega arith in
-    rw (lt-leb _ _ h, ← c .before .before .before .factor .ensures)
+returns c = let a = c .before .before .args in rw (← update-by-next (a .self) (a .score), ← c .before .next-factor .ensures) (c .update-by .ensures)
 
 pub update-spec : {M : Type 1} → statement M
-update-spec = tie.close (tie.spec returns factor-requires add-t13 returns-2)
+update-spec = tie.close (tie.spec next-factor-requires update-by-requires returns)

@@ -1,7 +1,9 @@
 -- `trcf::transformer::WeightedTransformer::update` meets its contract: refused by its row, or the channels fed in the front of the list. Assumes nothing.
 use Prim.Native.Nat.{_*_}
 use lib.Seq.{length-take-le}
+use mathlib.Core.Path.{_∙_}
 use native.Mathlib.Omega.{arith}
+use Rattle.common.proofs.DeviationLaws.{next-factor}
 use Rattle.common.specs.Lent.{over}
 use Rattle.trcf.specs.Transformer.{updated}
 use Rattle.trcf.specs.TransformerCalls.{updateOf, own, counted}
@@ -23,24 +25,31 @@ mul-n c = let R = c .before .update-row .ensures .1 (c .if1 .left) in
     let a = c .before .before .before .before .before .args in
     omega (arith, R .1)
 
+next-factor-requires : tie.Need-next-factor-requires
+next-factor-requires c κs = tt
+
+next-factor-requires-2 : tie.Need-next-factor-requires-2
+next-factor-requires-2 c κs = tt
+
 slice-relend-prefix-update-channels : tie.Need-slice-relend-prefix-update-channels
-slice-relend-prefix-update-channels c = let R = c .before .update-row .ensures .1 (c .if1 .left) in
-    let a = c .before .before .before .before .before .args in
+slice-relend-prefix-update-channels c = let R = c .before .before .before .update-row .ensures .1 (c .before .before .if1 .left) in
     R .5
 
 slice-aggregate-update-channels : tie.Need-slice-aggregate-update-channels
-slice-aggregate-update-channels c = let R = c .before .before .update-row .ensures .1 (c .before .if1 .left) in
-    let a = c .before .before .before .before .before .before .args in
+slice-aggregate-update-channels c = let R = c .before .before .before .before .update-row .ensures .1 (c .before .before .before .if1 .left) in
+    let a = c .before .before .before .before .before .before .before .before .args in
     omega (arith, length-take-le (15 * a .self .«input_length») (a .statistics .now) (R .5))
 
 update-channels-requires : tie.Need-update-channels-requires
-update-channels-requires c κs = let R = c .before .before .update-row .ensures .1 (c .before .if1 .left) in
-    let a = c .before .before .before .before .before .before .args in
-    (sound-part (a .self) (a .statistics .now) (R .0) (R .1) (R .5), (R .4, (R .2, R .3)))
+update-channels-requires c κs = let R = c .before .before .before .before .update-row .ensures .1 (c .before .before .before .if1 .left) in
+    let a = c .before .before .before .before .before .before .before .before .args in
+    let f = c .before .before .next-factor .ensures ∙ next-factor _ _ (R .4) in
+    let g = c .before .next-factor2 .ensures ∙ next-factor _ _ (R .4) in
+    (sound-part (a .self) (a .statistics .now) (R .0) (R .1) (R .5), (R .4, (R .2, (R .3, (f, g)))))
 
-add-t18 : tie.Need-add-t18
-add-t18 c = let R = c .before .before .before .before .before .before .update-row .ensures .1 (c .before .before .before .before .before .if1 .left) in
-    let a = c .before .before .before .before .before .before .before .before .before .before .args in
+add-t22 : tie.Need-add-t22
+add-t22 c = let tested = c .before .before .before .before .before .before .before in
+    let R = tested .before .update-row .ensures .1 (tested .if1 .left) in
     omega (arith, R .4)
 
 same-length : tie.Need-same-length
@@ -48,10 +57,11 @@ same-length c = search needs
 
 returns-2 : tie.Need-returns-2
 unfolding updateOf
-returns-2 c = let R = c .before .before .before .before .before .before .update-row in
-    let a = c .before .before .before .before .before .before .before .before .before .before .args in
-    made-done (R .result) _ _ (counted (a .self)) _ (over (a .statistics .now) (updated (own (a .self) (a .statistics .now)) (a .input .now) (a .previous .now))) (R .ensures .0) (c .before .before .before .before .before .if1 .left)
-    (updated-over (a .self) (a .statistics .now) (a .input .now) (a .previous .now) _ (R .ensures .1 (c .before .before .before .before .before .if1 .left) .5) (c .before .before .before .update-channels .ensures))
+returns-2 c = let tested = c .before .before .before .before .before .before .before in
+    let R = tested .before .update-row in
+    let a = tested .before .before .before .before .before .args in
+    made-done (R .result) _ _ (counted (a .self)) _ (over (a .statistics .now) (updated (own (a .self) (a .statistics .now)) (a .input .now) (a .previous .now))) (R .ensures .0) (tested .if1 .left)
+    (updated-over (a .self) (a .statistics .now) (a .input .now) (a .previous .now) _ (R .ensures .1 (tested .if1 .left) .5) (c .before .before .before .update-channels .ensures))
 
 pub update-spec : {M : Type 1} → statement M
 update-spec =
@@ -60,9 +70,11 @@ update-spec =
     update-row-requires
     returns
     mul-n
+    next-factor-requires
+    next-factor-requires-2
     slice-relend-prefix-update-channels
     slice-aggregate-update-channels
     update-channels-requires
-    add-t18
+    add-t22
     same-length
     returns-2)
