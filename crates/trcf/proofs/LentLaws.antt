@@ -23,7 +23,3 @@ module _ {A : Type 0} where
       let e : drop (length (tabulate i f)) l ≡ y ∷ drop (suc i) l = rw n (drop-cons l i (f i) h) in
       let k : length (tabulate i f ++ (f i ∷ [])) ≡ suc i = omega (arith, length-append (tabulate i f) (f i ∷ [])) in
       rw (e, k) (set-at (tabulate i f) y (drop (suc i) l) (f i) i n ∙ sym (append-assoc (tabulate i f) (f i ∷ []) (drop (suc i) l)))
-
-  pub over-length : (l m : List A) → length m ≤ length l → length (over l m) ≡ length l
-  unfolding over
-  over-length l m h = omega (arith, length-append m (drop (length m) l), length-drop (length m) l)

@@ -114,12 +114,6 @@ module _ {A : Type 0} where
       ∙ ap (λ (q : List A). take m l ++ t ∷ q) (drop-length l)
       ∙ ap (λ (n : ℕ). take n l ++ t ∷ []) k
 
-  pub length-overwrite : (l x : List A) → length x ≤ length l → length (overwrite l x) ≡ length l
-  unfolding overwrite
-  length-overwrite l x h =
-      let k : length l - length x ≤ length l = omega arith in
-      omega (arith, length-append (take (length l - length x) l) x, length-take-le (length l - length x) l k)
-
   -- ---- writing over lent memory
 
   -- a part that came back

@@ -95,10 +95,6 @@ pub transformed-length : (t : Transformer) (x previous : List Float) → length 
 unfolding transformed
 transformed-length t x previous = tabulate-length (t .d) _
 
-pub inverted-length : (t : Transformer) (x previous : List Float) → length (inverted t x previous) ≡ t .d
-unfolding inverted
-inverted-length t x previous = tabulate-length (t .d) _
-
 pub scales-length : (t : Transformer) → length (scales t) ≡ t .d
 unfolding scales
 scales-length t = tabulate-length (t .d) _
@@ -123,36 +119,3 @@ pub transformed-fits : (t : Transformer) (x previous : List Float) → Fits bina
 unfolding transformed
 transformed-fits t x previous h =
     all-tabulate (fit binary32) (t .d) _ (λ i. transformBy-fits (t .method) t i _ _ (all-getD (fit binary32) x i nan (nan-fits binary32) h))
-
-pub unweighted-fits : (w x : Float) → fit binary32 (unweighted w x)
-unfolding unweighted
-unweighted-fits w x = cond-fits binary32 (eq w zero32) zero32 (div binary32 x w) (ofBits-fits binary32 0) (div-fits binary32 x w)
-
-pub invertBy-fits : (m : TransformMethod) (t : Transformer) (i : ℕ) (x p : Float) → fit binary32 x → fit binary32 (invertBy m t i x p)
-invertBy-fits NONE t i x p h = h
-invertBy-fits WEIGHTED t i x p h = unweighted-fits _ _
-invertBy-fits DIFFERENCE t i x p h = add-fits binary32 _ _
-invertBy-fits «SUBTRACT_MA» t i x p h = add-fits binary32 _ _
-invertBy-fits NORMALIZE t i x p h = add-fits binary32 _ _
-invertBy-fits «NORMALIZE_DIFFERENCE» t i x p h = add-fits binary32 _ _
-
-pub inverted-fits : (t : Transformer) (x previous : List Float) → Fits binary32 (inverted t x previous)
-unfolding inverted
-inverted-fits t x previous = all-tabulate (fit binary32) (t .d) _ (λ i. invertBy-fits (t .method) t i _ _ (unweighted-fits _ _))
-
-pub scales-fits : (t : Transformer) → Fits binary32 (t .weights) → Fits binary32 (scales t)
-unfolding scales weightAt
-scales-fits t h =
-    all-tabulate (fit binary32) (t .d) _
-    (λ i. cond-fits binary32 (normalizes (t .method)) (mul binary32 (weightAt t i) (normalizedScale t i)) (weightAt t i) (mul-fits binary32 _ _)
-    (all-getD (fit binary32) (t .weights) i nan (nan-fits binary32) h))
-
-pub shifts-fits : (t : Transformer) → Fits binary32 (shifts t)
-unfolding shifts
-shifts-fits t =
-    all-tabulate (fit binary32) (t .d) _
-    (λ i. cond-fits binary32 (centres (t .method)) (add binary32 zero32 (basicShift t i)) zero32 (add-fits binary32 _ _) (ofBits-fits binary32 0))
-
-pub differenceDeviations-fits : (t : Transformer) → Fits binary32 (differenceDeviations t)
-unfolding differenceDeviations
-differenceDeviations-fits t = all-tabulate (fit binary32) (t .d) _ (λ i. narrowed-fits _)

@@ -42,7 +42,9 @@ returns-2 : tie.Need-returns-2
 returns-2 c =
     let a = c .before .before .before .before .before .before .args in
     let h = c .before .before .before .before .read-head in
-    get-done (a .head .now) (h .ensures .0) (c .before .before .before .if1 .left) (h .ensures .1) (a .answer .now) (λ (h : Preprocessor). modeNumber (h .«forest_mode»)) (c .mode-number .ensures ∙ ap modeNumber (letter-mode _ _ (c .before .forest-mode .ensures)))
+    let m : ForestMode = c .before .forest-mode .result in
+    let same : m ≡ h .result .head .«forest_mode» = letter-mode m (h .result .head .«forest_mode») (c .before .forest-mode .ensures) in
+    get-done (a .head .now) (h .ensures .0) (c .before .before .before .if1 .left) (h .ensures .1) (a .answer .now) (λ (h : Preprocessor). modeNumber (h .«forest_mode»)) (c .mode-number .ensures ∙ ap modeNumber same)
 
 pub veerycouch-forest-mode-spec : {M : Type 1} → statement M
 veerycouch-forest-mode-spec = tie.close (tie.spec read-head-requires returns forest-mode-requires mode-number-requires returns-2)
