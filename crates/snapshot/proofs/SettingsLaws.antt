@@ -25,14 +25,9 @@ use Rattle.snapshot.specs.declared.settings.Method.the-variants.{OfMetho
 use Rattle.snapshot.specs.declared.settings.Set.{Set}
 
 module _ (t : List ℕ) (i : ℕ) where
-  pub mode-standard : i < length t → getD t i 0 ≡ 83 → some STANDARD ≡ modeIn (drop i t)
-  mode-standard h e = rw (drop-cons t i 0 h, eq-eqb (getD t i 0) 83 e)
-
-  pub mode-augmented : i < length t → (getD t i 0 ≡ 83 → ⊥) → getD t i 0 ≡ 84 → some «TIME_AUGMENTED» ≡ modeIn (drop i t)
-  mode-augmented h d e = rw (drop-cons t i 0 h, ne-eqb (getD t i 0) 83 d, eq-eqb (getD t i 0) 84 e)
-
-  pub mode-other : i < length t → (getD t i 0 ≡ 83 → ⊥) → (getD t i 0 ≡ 84 → ⊥) → none ≡ modeIn (drop i t)
-  mode-other h d e = rw (drop-cons t i 0 h, ne-eqb (getD t i 0) 83 d, ne-eqb (getD t i 0) 84 e)
+  -- a letter, judged by the mode that it names
+  pub mode-named : (m : ForestMode) → i < length t → m ≡ modeOfLetter (getD t i 0) → modeNamed m ≡ modeIn (drop i t)
+  mode-named m h e = ap modeNamed e ∙ sym (ap modeIn (drop-cons t i 0 h))
 
   pub mode-end : length t ≤ i → none ≡ modeIn (drop i t)
   mode-end h = rw (drop-of-length-le t h)
