@@ -1,4 +1,5 @@
 pub mod Samples
+pub mod Gaps
 pub mod RowSamples
 pub mod Traces
 pub mod FarCounts

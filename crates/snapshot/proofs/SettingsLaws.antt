@@ -11,11 +11,11 @@ use lib.Dec.{eqb, leb, ltb}
 use lib.Ieee.{Float, binary32, binary64}
 use borrow.Author.Tests.{le-leb, lt-leb, eq-eqb, ne-eqb, lt-ltb, le-ltb, ltb-true, ltb-false, leb-true, leb-false}
 use Rattle.common.specs.Deviation.{outsideUnit}
-use Rattle.trcf.specs.declared.types.ForestMode.the-variants.{STANDARD, «TIME_AUGMENTED»}
+use Rattle.trcf.specs.Types.{modeOfLetter}
 use Rattle.snapshot.specs.Read.{asWhole, asFloat}
 use Rattle.trcf.specs.declared.types.ForestMode.{ForestMode}
 use Rattle.trcf.specs.declared.types.TransformMethod.{TransformMethod}
-use Rattle.snapshot.specs.Judge.{placed, onto, held, byte, name, one, fields, modeIn, modeTold, methodIn, methodTold, setTest, tailBy, settingsWith, settled, setBy, settingsTold}
+use Rattle.snapshot.specs.Judge.{placed, onto, held, byte, name, one, fields, modeNamed, modeIn, modeTold, methodIn, methodTold, setTest, tailBy, settingsWith, settled, setBy, settingsTold}
 use Rattle.snapshot.specs.declared.piece.Place.{Place}
 use Rattle.snapshot.specs.declared.piece.Place.the-variants.{At, Nowhere}
 use Rattle.snapshot.specs.declared.settings.Mode.{Mode}

@@ -9,8 +9,8 @@ use lib.ListN.{length, take, drop, replicate, getD}
 use lib.Dec.{leb, ltb, eqb}
 use lib.Ieee.{Float, nan, Format, binary32, binary64}
 use Rattle.common.specs.Deviation.{countLimit, outsideUnit}
-use Rattle.trcf.specs.Types.{isNone, normalizes}
-use Rattle.trcf.specs.Settings.{Settings, allOne}
+use Rattle.trcf.specs.Types.{isNone, normalizes, modeOfLetter}
+use Rattle.trcf.specs.Settings.{Settings, imputes, allOne}
 use Rattle.trcf.specs.Calls.{finite, seenLimit}
 use Rattle.trcf.specs.Preprocessor.{Reading, reading}
 use Rattle.trcf.specs.declared.types.TransformMethod.{TransformMethod}

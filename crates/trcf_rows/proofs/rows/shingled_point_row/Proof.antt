@@ -7,16 +7,17 @@ use Rattle.trcf.specs.Settings.{block}
 use Rattle.trcf.specs.Calls.{rows, table, due, drainFull, behind, newest}
 use Rattle.trcf.specs.Preprocessor.{facts}
 use Rattle.trcf.specs.View.{rowOf, view, pastRow, orElse}
-use mathlib.Core.Bool.{Bool, true, false, cond}
+use mathlib.Core.Bool.{Bool, true, false, cond, not}
+use mathlib.Core.Logic.{_⊎_, inl, inr, ⊎-elim}
 use Rattle.trcf.proofs.RefusalLaws.{orElse-not}
 use Rattle.trcf_rows.proofs.rows.shingled_point_row.Statement.{statement}
 use Rattle.trcf_rows.proofs.rows.shingled_point_row.Tie as tie
 
 -- rows 11 and 28: one of them refuses, or neither
-refuses : (a b : Bool) (x y r : ℕ) → r ≡ cond a 11 (cond b 28 0) → (r ≡ 0 → ⊥) → r ≡ orElse (cond a 11 (cond b 28 x)) y
-refuses true b x y r e n = e
-refuses false true x y r e n = e
-refuses false false x y r e n = absurd (n e)
+refuses : (a b : Bool) (r : ℕ) → r ≡ cond a 11 (cond b 28 0) → (r ≡ 0 → ⊥) → ((a ≡ true) × (r ≡ 11)) ⊎ ((a ≡ false) × (b ≡ true) × (r ≡ 28))
+refuses true b r e n = inl (refl, e)
+refuses false true r e n = inr (refl, refl, e)
+refuses false false r e n = absurd (n e)
 
 passes : (a b : Bool) (r : ℕ) → r ≡ cond a 11 (cond b 28 0) → r ≡ 0 → (a ≡ false) × (b ≡ false)
 passes true b r e z = absurd (omega (arith, e, z))
@@ -51,16 +52,14 @@ first-row-requires c κs = tt
 
 returns-3 : tie.Need-returns-3
 unfolding rowOf rows table due drainFull facts view pastRow behind newest
-returns-3 c = (
-  rw (
-    sym (c .before .before .before .before .before .before .before .before .head-row .ensures .0) ∙ c .before .before .before .before .before .before .before .if1 .left,
-    eq-eqb _ _ (c .before .before .before .before .if2 .left),
-    ← c .before .before .before .all-finite .ensures,
-    ← c .before .before .is-behind .ensures,
-  )
-      (refuses _ _ _ _ (c .before .first-row .result) (c .before .first-row .ensures) (c .if3 .taken)),
-  (λ e. absurd (c .if3 .taken e), λ e. absurd (c .if3 .taken e)),
-)
+returns-3 c =
+    let h = sym (c .before .before .before .before .before .before .before .before .head-row .ensures .0) ∙ c .before .before .before .before .before .before .before .if1 .left in
+    let d = eq-eqb _ _ (c .before .before .before .before .if2 .left) in (
+      ⊎-elim (λ e. rw (h, d, ← c .before .before .before .all-finite .ensures, e .0) (e .1))
+          (λ e. rw (h, d, ← c .before .before .before .all-finite .ensures, e .0, ← c .before .before .is-behind .ensures, e .1) (e .2))
+          (refuses (not (c .before .before .before .all-finite .result)) (c .before .before .is-behind .result) (c .before .first-row .result) (c .before .first-row .ensures) (c .if3 .taken)),
+      (λ e. absurd (c .if3 .taken e), λ e. absurd (c .if3 .taken e)),
+    )
 
 past-row-requires : tie.Need-past-row-requires
 past-row-requires c κs = c .before .before .before .before .before .before .before .before .head-row .ensures .1 (c .before .before .before .before .before .before .before .if1 .left)
@@ -69,7 +68,7 @@ returns-4 : tie.Need-returns-4
 unfolding rowOf rows table due drainFull facts view pastRow behind newest
 returns-4 c =
     let c8 = c .before .before .before .before .before .before .before .before in
-    let f = passes _ _ (c .before .before .before .first-row .result) (c .before .before .before .first-row .ensures) (c .before .before .if3 .left) in (
+    let f = passes (not (c .before .before .before .before .before .all-finite .result)) (c .before .before .before .before .is-behind .result) (c .before .before .before .first-row .result) (c .before .before .before .first-row .ensures) (c .before .before .if3 .left) in (
       rw (
         sym (c8 .before .before .head-row .ensures .0) ∙ c8 .before .if1 .left,
         eq-eqb _ _ (c .before .before .before .before .before .before .if2 .left),
@@ -91,7 +90,7 @@ returns-5 c =
     let c8 = c .before .before .before .before .before .before .before .before in
     let o = c8 .before .before .before .head-row in
     let z = c8 .before .before .if1 .left in
-    let f = passes _ _ (c .before .before .before .before .first-row .result) (c .before .before .before .before .first-row .ensures) (c .before .before .before .if3 .left) in (
+    let f = passes (not (c .before .before .before .before .before .before .all-finite .result)) (c .before .before .before .before .before .is-behind .result) (c .before .before .before .before .first-row .result) (c .before .before .before .before .first-row .ensures) (c .before .before .before .if3 .left) in (
       rw (
         sym (o .ensures .0) ∙ z,
         eq-eqb _ _ (c .before .before .before .before .before .before .before .if2 .left),
