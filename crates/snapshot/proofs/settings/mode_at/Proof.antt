@@ -12,6 +12,9 @@ use Rattle.snapshot.proofs.settings.mode_at.Tie as tie
 shared-slice-read-mode-of-letter : tie.Need-shared-slice-read-mode-of-letter
 shared-slice-read-mode-of-letter c = search needs
 
+cast-mode-of-letter : tie.Need-cast-mode-of-letter
+cast-mode-of-letter c = search needs
+
 mode-of-letter-requires : tie.Need-mode-of-letter-requires
 mode-of-letter-requires c κs = tt
 
@@ -21,21 +24,21 @@ is-imputing-requires c κs = tt
 returns : tie.Need-returns
 returns c =
     let q = c .before .before in
-    let a = q .before .before .before .args in
+    let a = q .before .before .before .before .args in
     ap (λ (b : Bool). cond b none (some (q .mode-of-letter .result))) (sym (sym (c .before .is-imputing .ensures) ∙ not-true _ (c .if2 .taken)))
     ∙ mode-named (a .text .now) (a .at) (q .mode-of-letter .result) (q .before .before .if1 .taken) (q .mode-of-letter .ensures)
 
 returns-2 : tie.Need-returns-2
 returns-2 c =
     let q = c .before .before in
-    let a = q .before .before .before .args in
+    let a = q .before .before .before .before .args in
     ap (λ (b : Bool). cond b none (some (q .mode-of-letter .result))) (sym (sym (c .before .is-imputing .ensures) ∙ not-false _ (c .if2 .left)))
     ∙ mode-named (a .text .now) (a .at) (q .mode-of-letter .result) (q .before .before .if1 .taken) (q .mode-of-letter .ensures)
 
 returns-3 : tie.Need-returns-3
-returns-3 c = mode-end (c .before .args .text .now) (c .before .args .at) (c .if1 .left)
+returns-3 c = mode-end (c .before .before .args .text .now) (c .before .before .args .at) (c .if1 .left)
 
 pub mode-at-spec : {M : Type 1} → statement M
 mode-at-spec =
     tie.close
-    (tie.spec shared-slice-read-mode-of-letter mode-of-letter-requires is-imputing-requires returns returns-2 returns-3)
+    (tie.spec shared-slice-read-mode-of-letter cast-mode-of-letter mode-of-letter-requires is-imputing-requires returns returns-2 returns-3)
