@@ -155,6 +155,12 @@ fn place_of(name: Name, i: usize) -> Place
     }
 }
 
+fn wide(x: u8) -> u64
+    ensures { λ r. ⌜ r ≡ x ⌝ }
+{
+    x as u64
+}
+
 // The letter of a mode that a text can have.
 fn letter(c: &[u8]) -> Number
     ensures { λ r. ⌜ r ≡ letterOf (now (c .entry)) ⌝ }
@@ -162,7 +168,7 @@ fn letter(c: &[u8]) -> Number
     if c.len() != 1 {
         return Number::No;
     }
-    let byte = c[0] as u64;
+    let byte = wide(c[0]);
     if is_imputing(mode_of_letter(byte)) {
         return Number::No;
     }

@@ -5,6 +5,7 @@ use crate::judge::wholes;
 use crate::piece::Place;
 use crate::piece::byte;
 use crate::piece::name;
+use crate::piece::wide;
 use common::deviation::outside_unit;
 use trcf::types::ForestMode;
 use trcf::types::TransformMethod;
@@ -26,7 +27,7 @@ fn mode_at(text: &[u8], at: usize) -> Mode
     ensures { λ r. ⌜ modeTold r ≡ modeIn (drop at (now (text .entry))) ⌝ }
 {
     if at < text.len() {
-        let mode = mode_of_letter(text[at] as u64);
+        let mode = mode_of_letter(wide(text[at]));
         if !is_imputing(mode) {
             return Mode::OfMode(mode);
         }
