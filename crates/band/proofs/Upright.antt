@@ -196,11 +196,11 @@ module _ (above : Bool) (w : State) (v u : Ranges) (e : AgreeAll above v u) wher
   unfolding timesBy rangeAt
   loose-agrees = (
     (λ j. tabulate (h w v) (λ i. value-late gap (rangeAt v (place i)) j))
-    ∙ (λ j. tabulate (count j) (λ i. late gap (at (e .0 j) i)))
-    ∙ (λ j. tabulate (h w u) (λ i. sym (value-late gap (rangeAt u (place i))) j)),
+        ∙ (λ j. tabulate (count j) (λ i. late gap (at (e .0 j) i)))
+        ∙ (λ j. tabulate (h w u) (λ i. sym (value-late gap (rangeAt u (place i))) j)),
     λ a. (λ j. tabulate (h w v) (λ i. upper-late gap (rangeAt v (place i)) j))
-    ∙ (λ j. tabulate (count j) (λ i. cond (lt (late gap (at (e .1 a j) i)) (late gap (at (e .0 j) i))) (late gap (at (e .0 j) i)) (late gap (at (e .1 a j) i))))
-    ∙ (λ j. tabulate (h w u) (λ i. sym (upper-late gap (rangeAt u (place i))) j)),
+        ∙ (λ j. tabulate (count j) (λ i. cond (lt (late gap (at (e .1 a j) i)) (late gap (at (e .0 j) i))) (late gap (at (e .0 j) i)) (late gap (at (e .1 a j) i))))
+        ∙ (λ j. tabulate (h w u) (λ i. sym (upper-late gap (rangeAt u (place i))) j)),
   )
     where
       count : h w v ≡ h w u

@@ -96,7 +96,15 @@ fn drain_turn(
     let y = stamps[i];
     let mut z = [0.0f32; 17];
     let before = last_time(times);
-    write_transform(head, s, inputs, before, &values[i * d..i * d + d], y, &mut z);
+    write_transform(
+        head,
+        s,
+        inputs,
+        before,
+        &values[i * d..i * d + d],
+        y,
+        &mut z,
+    );
     shift_vector(inputs, &values[i * d..i * d + d]);
     shift_vector(points, &z[..b]);
     shift_time(times, y);

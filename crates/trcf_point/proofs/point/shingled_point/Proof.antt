@@ -90,8 +90,7 @@ drain-due-requires c κs =
     let h = a .head in
     let l = lent (a .statistics .now) (a .last-shingled-input .now) (a .last-shingled-point .now) (a .previous-timestamps .now) (a .initial-values .now) (a .initial-timestamps .now) in
     let x = a .input .now in
-    let o = a .output .now in
-    (
+    let o = a .output .now in (
       c .before .before .before .before .before .before .before .shingled-point-row .ensures .1 .0 (c .before .before .before .before .before .before .if1 .left),
       past-room h l (length o)
           (c .before .before .before .before .before .before .before .shingled-point-row .ensures .1 .1 (c .before .before .before .before .before .before .if1 .left) .past)
