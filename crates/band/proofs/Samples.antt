@@ -20,7 +20,7 @@ use Rattle.trcf.specs.Extrapolation.{forecast}
 use Rattle.trcf.specs.declared.types.TransformMethod.{TransformMethod}
 use Rattle.trcf.specs.declared.types.TransformMethod.the-variants.{NONE, WEIGHTED}
 use Rattle.trcf.specs.declared.types.ForestMode.{ForestMode}
-use Rattle.trcf.specs.declared.types.ForestMode.the-variants.{STANDARD, «TIME_AUGMENTED»}
+use Rattle.trcf.specs.declared.types.ForestMode.the-variants.{STANDARD, «TIME_AUGMENTED», «GAP_AUGMENTED»}
 use Rattle.band.specs.Band.{Turns, UprightBand, SameValues, SameUppers}
 use Rattle.band.proofs.Upright.{band}
 
@@ -112,6 +112,17 @@ pub block-upright : UprightBand (two «TIME_AUGMENTED» NONE one32) block-crosse
 unfolding fresh
 block-upright =
     band .upright (fresh (two «TIME_AUGMENTED» NONE one32)) block-crossed block-left block-turns
+    (λ e. absurd (let z : _≡_ {A = ℕ} 0 1 = cc in omega arith))
+
+-- gaps: with nothing fed the drift is 0, so the same is left
+gap-turns : Turns (fresh (two «GAP_AUGMENTED» NONE one32)) block-crossed block-left
+unfolding all
+gap-turns = refl
+
+pub gap-upright : UprightBand (two «GAP_AUGMENTED» NONE one32) block-crossed block-left
+unfolding fresh
+gap-upright =
+    band .upright (fresh (two «GAP_AUGMENTED» NONE one32)) block-crossed block-left gap-turns
     (λ e. absurd (let z : _≡_ {A = ℕ} 0 1 = cc in omega arith))
 
 -- ---- two calls that differ in their bounds alone: the same values; in their lowers alone: the same uppers

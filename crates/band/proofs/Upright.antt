@@ -13,10 +13,10 @@ use lib.IntN.{pos}
 use lib.Ieee.{Float, nan, inf, fin, binary64, add, lt, ofInt}
 use Rattle.common.specs.Lent.{over}
 use Rattle.common.specs.Refusal.{firstOf}
-use Rattle.common.specs.RangeVector.{Range, Ranges, ranges, settled, shifted, rangeAt, overAll, cascadeTo, unequal, shorter}
+use Rattle.common.specs.RangeVector.{Range, Ranges, ranges, settled, shifted, scaled, rangeAt, overAll, cascadeTo, unequal, shorter}
 use Rattle.common.proofs.RangeLaws.{Ordered, SameLengths, cascadeTo-lengths, cascadeTo-ordered}
 use Rattle.trcf.specs.Lists.{tabulate}
-use Rattle.trcf.specs.Types.{augments}
+use Rattle.trcf.specs.Types.{augments, gaps}
 use Rattle.trcf.specs.Transformer.{Transformer, invertedForecast}
 use Rattle.trcf.specs.Settings.{Settings, transformer, dimension}
 use Rattle.trcf.specs.Calls.{Forecast, invertExtrapolation, lookahead, unturnable, turnShort, table, rows}
@@ -108,7 +108,7 @@ module _ (w : State) (v : Ranges) where
 
   -- the times, turned back but not cascaded
   abbrev loose : Ranges
-  loose = timesBy (timeFactor (s .weightTime)) (timescale s (w .statistics)) (timedrift s (w .statistics)) (dimension s) each v h
+  loose = timesBy (gaps (s .mode)) (timeFactor (s .weightTime)) (timescale s (w .statistics)) (timedrift s (w .statistics)) (dimension s) each v h
 
   numbers-are : numbersOf w v ≡ invertedForecast t (previous w .value) cut
   unfolding numbersOf
@@ -170,17 +170,47 @@ module _ (above : Bool) (w : State) (v u : Ranges) (e : AgreeAll above v u) wher
   unfolding numbersOf
   numbers-agree = inverted-agrees above (t w v) (previous w .value) (cut w v) (cut w u) cut-agrees
 
+  abbrev gap : Bool
+  gap = gaps (w .settings .mode)
+
+  -- a number of a block's time, turned back by itself
+  abbrev late : Bool → Float → Float
+  late b x =
+      let y = stretched (timeFactor (w .settings .weightTime)) (timescale (w .settings) (w .statistics)) x in
+      cond b y (add binary64 y (timedrift (w .settings) (w .statistics)))
+
+  abbrev timed : Bool → Range → Range
+  timed b r = timeBy b (timeFactor (w .settings .weightTime)) (timescale (w .settings) (w .statistics)) (timedrift (w .settings) (w .statistics)) r
+
+  value-late : (b : Bool) (r : Range) → timed b r .value ≡ late b (r .value)
+  unfolding timeBy shifted scaled settled
+  value-late true r = refl
+  value-late false r = refl
+
+  upper-late : (b : Bool) (r : Range) → timed b r .upper ≡ cond (lt (late b (r .upper)) (late b (r .value))) (late b (r .value)) (late b (r .upper))
+  unfolding timeBy shifted scaled settled
+  upper-late true r = refl
+  upper-late false r = refl
+
   loose-agrees : AgreeAll above (loose w v) (loose w u)
-  unfolding timesBy timeBy rangeAt shifted settled
-  loose-agrees = ((λ j. tabulate (count j) (λ i. at (e .0 j) i)), λ a j. tabulate (count j) (λ i. cond (lt (at (e .1 a j) i) (at (e .0 j) i)) (at (e .0 j) i) (at (e .1 a j) i)))
+  unfolding timesBy rangeAt
+  loose-agrees = (
+    (λ j. tabulate (h w v) (λ i. value-late gap (rangeAt v (place i)) j))
+        ∙ (λ j. tabulate (count j) (λ i. late gap (at (e .0 j) i)))
+        ∙ (λ j. tabulate (h w u) (λ i. sym (value-late gap (rangeAt u (place i))) j)),
+    λ a. (λ j. tabulate (h w v) (λ i. upper-late gap (rangeAt v (place i)) j))
+        ∙ (λ j. tabulate (count j) (λ i. cond (lt (late gap (at (e .1 a j) i)) (late gap (at (e .0 j) i))) (late gap (at (e .0 j) i)) (late gap (at (e .1 a j) i))))
+        ∙ (λ j. tabulate (h w u) (λ i. sym (upper-late gap (rangeAt u (place i))) j)),
+  )
     where
       count : h w v ≡ h w u
       count = ap (lookahead (w .settings)) blocks
 
+      place : ℕ → ℕ
+      place i = i * dimension (w .settings) + each w v
+
       at : List Float → ℕ → Float
-      at l i =
-          add binary64 (stretched (timeFactor (w .settings .weightTime)) (timescale (w .settings) (w .statistics)) (getD l (i * dimension (w .settings) + each w v) nan))
-          (timedrift (w .settings) (w .statistics))
+      at l i = getD l (place i) nan
 
   times-agree : AgreeAll above (timesOf w v) (timesOf w u)
   times-agree =

@@ -28,7 +28,7 @@ pub record Upright (n : ℕ) (v : Ranges) : Type 0 where
 abbrev pub front : ℕ → Ranges → Ranges
 front n v = ranges (take n (v .values)) (take n (v .upper)) (take n (v .lower))
 
--- STANDARD works in place; TIME_AUGMENTED writes d × k numbers and one time a block
+-- STANDARD works in place; a mode with a time element writes d × k numbers and one time a block
 abbrev pub numbersCount : Settings → Forecast → ℕ
 numbersCount s c = cond (augments (s .mode)) (lookahead s (length (c .forecast .values)) * (s .d * s .k)) (length (c .forecast .values))
 

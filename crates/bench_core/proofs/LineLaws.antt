@@ -4,8 +4,9 @@ use native.Mathlib.Omega.{arith}
 use mathlib.Core.Path.{_≡_, refl, sym, ap}
 use mathlib.Core.Bool.{cond}
 use mathlib.Core.List.{List, [], _∷_}
-use lib.Dec.{eqb}
 use lib.ListN.{length, getD}
+use Rattle.trcf.specs.Types.{modeOfLetter}
+use Rattle.trcf.specs.Settings.{imputes}
 use Rattle.snapshot.specs.declared.field.Number.{Number}
 use Rattle.snapshot.specs.declared.field.Number.the-variants.{Is, No}
 use Rattle.bench_core.specs.declared.line.Name.{Name}
@@ -37,7 +38,7 @@ letter-other [] h = refl
 letter-other (a ∷ []) h = absurd (h refl)
 letter-other (a ∷ b ∷ r) h = refl
 
-pub letter-one : (c : List ℕ) → length c ≡ 1 → cond (eqb (getD c 0 0) 83) (Is 83) (cond (eqb (getD c 0 0) 84) (Is 84) No) ≡ letterOf c
+pub letter-one : (c : List ℕ) → length c ≡ 1 → cond (imputes (modeOfLetter (getD c 0 0))) No (Is (getD c 0 0)) ≡ letterOf c
 letter-one [] h = absurd (omega arith)
 letter-one (a ∷ []) h = refl
 letter-one (a ∷ b ∷ r) h = absurd (omega arith)

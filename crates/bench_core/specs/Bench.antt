@@ -14,9 +14,10 @@ use Rattle.trcf.specs.Settings.{dimension, settingsRow}
 use Rattle.trcf.specs.Preprocessor.{accepted}
 use Rattle.trcf.specs.View.{Lent, settingsOf, settingsFrom, headRow, orElse, noHead, buildOf, drainOf, pointAfter, PointOutcome, learnAfter, learnCall, LearnOutcome, Outcome, outcome}
 use Rattle.trcf.specs.declared.types.TransformMethod.{TransformMethod}
-use Rattle.trcf.specs.declared.types.TransformMethod.the-variants.{NONE, WEIGHTED, DIFFERENCE, «SUBTRACT_MA», NORMALIZE, «NORMALIZE_DIFFERENCE»}
+use Rattle.trcf.specs.declared.types.TransformMethod.the-variants.{NONE}
 use Rattle.trcf.specs.declared.types.ForestMode.{ForestMode}
-use Rattle.trcf.specs.declared.types.ForestMode.the-variants.{STANDARD, «TIME_AUGMENTED»}
+use Rattle.trcf.specs.declared.types.ForestMode.the-variants.{STANDARD}
+use Rattle.trcf.specs.Types.{methodOfNumber, modeOfLetter}
 use Rattle.trcf.specs.declared.head.Preprocessor.{Preprocessor}
 use Rattle.trcf.specs.declared.head.PreprocessorBuilder.{PreprocessorBuilder}
 use Rattle.snapshot.specs.Text.{whole, named, singles, render}
@@ -133,20 +134,12 @@ goingOn b = readyFor Running (b .builder) (b .head) (b .given)
 abbrev pub endOf : Bench → Bench
 endOf b = readyFor Ended (b .builder) (b .head) (b .given)
 
-abbrev pub modeFrom : ℕ → ForestMode
-modeFrom letter = cond (eqb letter 84) «TIME_AUGMENTED» STANDARD
-
-abbrev pub methodFrom : ℕ → TransformMethod
-methodFrom n =
-    cond (eqb n 0) NONE
-    (cond (eqb n 1) WEIGHTED (cond (eqb n 2) DIFFERENCE (cond (eqb n 3) «SUBTRACT_MA» (cond (eqb n 4) NORMALIZE «NORMALIZE_DIFFERENCE»))))
-
 -- the settings of a `set` line
 unfoldable pub builderFrom : Line → PreprocessorBuilder
 builderFrom l =
     record {
-      «forest_mode» = modeFrom (getD (l .wholes) 0 0);
-      «transform_method» = methodFrom (getD (l .wholes) 1 0);
+      «forest_mode» = modeOfLetter (getD (l .wholes) 0 0);
+      «transform_method» = methodOfNumber (getD (l .wholes) 1 0);
       «input_dimensions» = getD (l .wholes) 2 0;
       «shingle_size» = getD (l .wholes) 3 0;
       «start_normalization» = getD (l .wholes) 4 0;

@@ -8,6 +8,8 @@ use lib.Dec.{leb, ltb, eqb}
 use lib.ListN.{set, take, replicate}
 use lib.Ieee.{Float, binary32, binary64}
 use Rattle.common.specs.Deviation.{zero64}
+use Rattle.trcf.specs.Types.{modeOfLetter}
+use Rattle.trcf.specs.Settings.{imputes}
 use Rattle.trcf.specs.Transformer.{zero32}
 use Rattle.snapshot.specs.Read.{asWhole, asFloat}
 use Rattle.snapshot.specs.Scan.{numberOf, singleOf, doubleOf}
@@ -60,10 +62,10 @@ placeOf Other i = Nowhere
 
 -- ---- fields
 
--- "mode (S STANDARD, T TIME_AUGMENTED)"
+-- "mode (S STANDARD, T TIME_AUGMENTED)", and G (request 114)
 abbrev pub letterOf : List ℕ → Number
 letterOf [] = No
-letterOf (a ∷ []) = cond (eqb a 83) (Is 83) (cond (eqb a 84) (Is 84) No)
+letterOf (a ∷ []) = cond (imputes (modeOfLetter a)) No (Is a)
 letterOf (a ∷ b ∷ r) = No
 
 -- "method (0 NONE, … 5 NORMALIZE_DIFFERENCE)"

@@ -4,6 +4,8 @@ use snapshot::cells::single;
 use snapshot::cells::whole;
 use snapshot::field::Field;
 use snapshot::field::Number;
+use trcf::types::mode_of_letter;
+use trcf_rows::rows::is_imputing;
 ghost use mathlib.Core.Path.{_≡_};
 ghost use Rattle.snapshot.specs.Read.{asWhole};
 ghost use Rattle.snapshot.specs.Scan.{numberOf};
@@ -153,20 +155,24 @@ fn place_of(name: Name, i: usize) -> Place
     }
 }
 
-// The letter of a mode, S or T.
+fn wide(x: u8) -> u64
+    ensures { λ r. ⌜ r ≡ x ⌝ }
+{
+    x as u64
+}
+
+// The letter of a mode that a text can have.
 fn letter(c: &[u8]) -> Number
     ensures { λ r. ⌜ r ≡ letterOf (now (c .entry)) ⌝ }
 {
     if c.len() != 1 {
         return Number::No;
     }
-    if c[0] == 83 {
-        return Number::Is(83);
+    let byte = wide(c[0]);
+    if is_imputing(mode_of_letter(byte)) {
+        return Number::No;
     }
-    if c[0] == 84 {
-        return Number::Is(84);
-    }
-    Number::No
+    Number::Is(byte)
 }
 
 // The number of a method, at most 5.

@@ -16,6 +16,8 @@ use trcf::head::PreprocessorBuilder;
 use trcf::head::no_head;
 use trcf::types::ForestMode;
 use trcf::types::TransformMethod;
+use trcf::types::method_of_number;
+use trcf::types::mode_of_letter;
 use trcf_calls::build::build;
 use trcf_rows::rows::settings_row;
 ghost use mathlib.Core.Path.{_≡_};
@@ -26,7 +28,7 @@ ghost use lib.ListN.{length, take};
 ghost use Rattle.trcf.specs.Settings.{settingsRow};
 ghost use Rattle.trcf.specs.View.{Lent, lent, outcome, orElse, settingsFrom};
 ghost use Rattle.bench_core.specs.Line.{requestOf, keptCount};
-ghost use Rattle.bench_core.specs.Bench.{codeCount, builtOf, output, prints, noText, readyFor, goingOn, endOf, modeFrom, methodFrom, builderFrom, noBuilder, fresh, heard, setHeard, limitRow, weightsTurn, weightsHeard, isReading, isPoint, readingName, plainHeard, callHeard, lineHeard, cellLength, cellKept, stepped, withLine, stepOf, begun, said, finishBy, finished, finishOf};
+ghost use Rattle.bench_core.specs.Bench.{codeCount, builtOf, output, prints, noText, readyFor, goingOn, endOf, builderFrom, noBuilder, fresh, heard, setHeard, limitRow, weightsTurn, weightsHeard, isReading, isPoint, readingName, plainHeard, callHeard, lineHeard, cellLength, cellKept, stepped, withLine, stepOf, begun, said, finishBy, finished, finishOf};
 
 // The bytes that the output of a step has to have.
 pub const ROOM: usize = 65536;
@@ -90,36 +92,6 @@ fn no_builder() -> PreprocessorBuilder
     }
 }
 
-fn mode_from(letter: u64) -> ForestMode
-    ensures { λ r. ⌜ r ≡ modeFrom letter ⌝ }
-{
-    if letter == 84 {
-        return ForestMode::TIME_AUGMENTED;
-    }
-    ForestMode::STANDARD
-}
-
-fn method_from(n: u64) -> TransformMethod
-    ensures { λ r. ⌜ r ≡ methodFrom n ⌝ }
-{
-    if n == 0 {
-        return TransformMethod::NONE;
-    }
-    if n == 1 {
-        return TransformMethod::WEIGHTED;
-    }
-    if n == 2 {
-        return TransformMethod::DIFFERENCE;
-    }
-    if n == 3 {
-        return TransformMethod::SUBTRACT_MA;
-    }
-    if n == 4 {
-        return TransformMethod::NORMALIZE;
-    }
-    TransformMethod::NORMALIZE_DIFFERENCE
-}
-
 // The settings of a `set` line.
 fn builder_from(l: Line) -> PreprocessorBuilder
     ensures { λ r. ⌜ r ≡ builderFrom l ⌝ }
@@ -127,8 +99,8 @@ fn builder_from(l: Line) -> PreprocessorBuilder
     let wholes = l.wholes;
     let singles = l.singles;
     PreprocessorBuilder {
-        forest_mode: mode_from(wholes[0]),
-        transform_method: method_from(wholes[1]),
+        forest_mode: mode_of_letter(wholes[0]),
+        transform_method: method_of_number(wholes[1]),
         input_dimensions: wholes[2] as usize,
         shingle_size: wholes[3] as usize,
         start_normalization: wholes[4] as usize,

@@ -67,9 +67,13 @@ example-few : wordsRow (take 43 words) ≡ 20
 unfolding all
 example-few = refl
 
-example-mode : wordsRow (set words 0 3) ≡ 19
+example-mode : wordsRow (set words 0 4) ≡ 19
 unfolding all
 example-mode = refl
+
+example-gap : wordsRow (set words 0 3) ≡ 0
+unfolding all
+example-gap = refl
 
 example-method : wordsRow (set words 1 6) ≡ 19
 unfolding all

@@ -19,7 +19,7 @@ use Rattle.trcf.specs.View.{outsideRow, settingsOf, orElse, counting}
 use Rattle.trcf.specs.declared.types.TransformMethod.{TransformMethod}
 use Rattle.trcf.specs.declared.types.TransformMethod.the-variants.{NONE, WEIGHTED, DIFFERENCE, «SUBTRACT_MA», NORMALIZE, «NORMALIZE_DIFFERENCE»}
 use Rattle.trcf.specs.declared.types.ForestMode.{ForestMode}
-use Rattle.trcf.specs.declared.types.ForestMode.the-variants.{STANDARD, «TIME_AUGMENTED», «STREAMING_IMPUTE»}
+use Rattle.trcf.specs.declared.types.ForestMode.the-variants.{STANDARD, «TIME_AUGMENTED», «STREAMING_IMPUTE», «GAP_AUGMENTED»}
 use Rattle.trcf.specs.declared.head.Preprocessor.{Preprocessor}
 use Rattle.trcf.proofs.OutcomeLaws.{orElse-is}
 use Rattle.capi.specs.Head.{modeNumber, modeOf, methodOf, kindRow, codesRow, single, codesIn, headOf, numbersOf, frontOf, wordsOf, countsOver, shortRow as fewRow, wordsRow, Read, Held}
@@ -227,10 +227,11 @@ codes-stored w w' h v z e p n =
 
 -- ---- heads in use: the words of a head that `build` accepts are not refused, and a call's counters go into them as into the head
 
-mode-known : (m : ForestMode) → ltb 2 (modeNumber m) ≡ false
+mode-known : (m : ForestMode) → ltb 3 (modeNumber m) ≡ false
 mode-known STANDARD = refl
 mode-known «TIME_AUGMENTED» = refl
 mode-known «STREAMING_IMPUTE» = refl
+mode-known «GAP_AUGMENTED» = refl
 
 method-known : (m : TransformMethod) → ltb 5 (methodNumber m) ≡ false
 method-known NONE = refl

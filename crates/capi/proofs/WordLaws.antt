@@ -17,7 +17,7 @@ use Rattle.trcf.specs.Types.{methodNumber}
 use Rattle.trcf.specs.declared.types.TransformMethod.{TransformMethod}
 use Rattle.trcf.specs.declared.types.TransformMethod.the-variants.{NONE, WEIGHTED, DIFFERENCE, «SUBTRACT_MA», NORMALIZE, «NORMALIZE_DIFFERENCE»}
 use Rattle.trcf.specs.declared.types.ForestMode.{ForestMode}
-use Rattle.trcf.specs.declared.types.ForestMode.the-variants.{STANDARD, «TIME_AUGMENTED», «STREAMING_IMPUTE»}
+use Rattle.trcf.specs.declared.types.ForestMode.the-variants.{STANDARD, «TIME_AUGMENTED», «STREAMING_IMPUTE», «GAP_AUGMENTED»}
 use Rattle.snapshot.proofs.HexLaws.{zero-by-zero}
 use Rattle.capi.specs.Head.{modeNumber, modeOf, methodOf, single}
 
@@ -38,6 +38,7 @@ pub mode-back : (m : ForestMode) → modeOf (modeNumber m) ≡ m
 mode-back STANDARD = refl
 mode-back «TIME_AUGMENTED» = refl
 mode-back «STREAMING_IMPUTE» = refl
+mode-back «GAP_AUGMENTED» = refl
 
 pub method-back : (m : TransformMethod) → methodOf (methodNumber m) ≡ m
 method-back NONE = refl

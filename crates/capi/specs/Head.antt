@@ -17,19 +17,20 @@ use Rattle.trcf.specs.View.{outsideRow, settingsOf, orElse}
 use Rattle.trcf.specs.declared.types.TransformMethod.{TransformMethod}
 use Rattle.trcf.specs.declared.types.TransformMethod.the-variants.{NONE, WEIGHTED, DIFFERENCE, «SUBTRACT_MA», NORMALIZE, «NORMALIZE_DIFFERENCE»}
 use Rattle.trcf.specs.declared.types.ForestMode.{ForestMode}
-use Rattle.trcf.specs.declared.types.ForestMode.the-variants.{STANDARD, «TIME_AUGMENTED», «STREAMING_IMPUTE»}
+use Rattle.trcf.specs.declared.types.ForestMode.the-variants.{STANDARD, «TIME_AUGMENTED», «STREAMING_IMPUTE», «GAP_AUGMENTED»}
 use Rattle.trcf.specs.declared.head.Preprocessor.{Preprocessor}
 use Rattle.snapshot.specs.Read.{allCodes}
 
--- ---- numbers for the kinds: the source's order
+-- ---- numbers for the kinds: the source's order, and 3 for GAP_AUGMENTED
 
 abbrev pub modeNumber : ForestMode → ℕ
 modeNumber STANDARD = 0
 modeNumber «TIME_AUGMENTED» = 1
 modeNumber «STREAMING_IMPUTE» = 2
+modeNumber «GAP_AUGMENTED» = 3
 
 abbrev pub modeOf : ℕ → ForestMode
-modeOf n = cond (eqb n 1) «TIME_AUGMENTED» (cond (eqb n 2) «STREAMING_IMPUTE» STANDARD)
+modeOf n = cond (eqb n 1) «TIME_AUGMENTED» (cond (eqb n 2) «STREAMING_IMPUTE» (cond (eqb n 3) «GAP_AUGMENTED» STANDARD))
 
 -- methodNumber's (document 01, 'Trace text')
 abbrev pub methodOf : ℕ → TransformMethod
@@ -39,7 +40,7 @@ methodOf n =
 
 -- a number that names no mode or no method has the text reader's row, 19
 abbrev pub kindRow : ℕ → ℕ → ℕ
-kindRow mode method = cond (ltb 2 mode || ltb 5 method) 19 0
+kindRow mode method = cond (ltb 3 mode || ltb 5 method) 19 0
 
 -- the settings that numbers give
 abbrev pub settingsGiven : ℕ → ℕ → ℕ → ℕ → ℕ → ℕ → Float → Float → List Float → List ℕ → Settings

@@ -51,7 +51,7 @@ pub(crate) fn double_bits(x: f64) -> u64
 pub(crate) fn kind_row(mode: u64, method: u64) -> u64
     ensures { λ r. ⌜ r ≡ kindRow mode method ⌝ }
 {
-    if 2 < mode {
+    if 3 < mode {
         return 19;
     }
     if 5 < method {
@@ -69,6 +69,9 @@ pub(crate) fn mode_of(n: u64) -> ForestMode
     if n == 2 {
         return ForestMode::STREAMING_IMPUTE;
     }
+    if n == 3 {
+        return ForestMode::GAP_AUGMENTED;
+    }
     ForestMode::STANDARD
 }
 
@@ -79,6 +82,7 @@ pub(crate) fn mode_number(m: ForestMode) -> u64
         ForestMode::STANDARD => 0,
         ForestMode::TIME_AUGMENTED => 1,
         ForestMode::STREAMING_IMPUTE => 2,
+        ForestMode::GAP_AUGMENTED => 3,
     }
 }
 

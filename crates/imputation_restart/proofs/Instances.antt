@@ -65,7 +65,7 @@ unfolding transforming Settings.block Settings.dimension Settings.waiting Settin
 judging = tt
 
 refusing : Unit {0}
-unfolding judging Calls.due Calls.newest Calls.wrongLength Calls.outside Calls.drainFull Calls.learnFull Calls.waitingShort Calls.learnShort Calls.table Calls.rows
+unfolding judging Calls.due Calls.newest Calls.behind Calls.wrongLength Calls.outside Calls.drainFull Calls.learnFull Calls.waitingShort Calls.learnShort Calls.table Calls.rows
 refusing = tt
 
 computing : Unit {0}
@@ -97,7 +97,7 @@ unfolding entering Text.whole Text.float Text.setLine Text.singles Text.cntLine 
 writing = tt
 
 holding : Unit {0}
-unfolding entering Preprocessor.previous Preprocessor.primed Preprocessor.drainOne Preprocessor.drainAll Preprocessor.drained Preprocessor.held Preprocessor.learned
+unfolding entering Preprocessor.previous Preprocessor.timeBase Preprocessor.preceding Preprocessor.primed Preprocessor.drainOne Preprocessor.drainAll Preprocessor.drained Preprocessor.held Preprocessor.learned
 holding = tt
 
 replying : Unit {0}

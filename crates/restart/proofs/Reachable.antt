@@ -292,7 +292,7 @@ module _ (s : Settings) (k>0 : 0 < s .k) (es : List Entry) (v : Inv s es) (g : G
   point-at true e x t out h =
       let f : (onlyInitials es ≡ true) × (length (initials es) ≡ s .start) × (0 < s .start) = isFull s es e in
       let w : waiting s (seenOf es) ≡ false = is-false (waiting s (seenOf es)) (λ u. omega (arith, still s es (v .phase) u .1)) in
-      drained-at true e (rw w at (clear (table s (historyFacts s es) (shingledPoint x t out)) refl h .1 .1 .0))
+      drained-at true e (rw w at (clear (table s (historyFacts s es) (shingledPoint x t out)) refl h .1 .1 .1 .0))
   point-at false e x t out h = g
 
   drain-at : historyRefusal s es drain ≡ 0 → Good s (cond (complete s es) (drained ∷ es) es)

@@ -27,7 +27,7 @@ use Rattle.trcf.specs.Settings.{Settings, Valid, settingsRow}
 use Rattle.trcf.specs.Calls.{Call, Machine, shingledPoint, postProcess, drain, transform, invertExtrapolation, scale, shift, status}
 use Rattle.trcf.specs.Preprocessor.{State, fresh, run, answers, Answer, refused, absent, done, wrote, learnt, turned, told}
 use Rattle.trcf.specs.declared.types.TransformMethod.the-variants.{DIFFERENCE, NORMALIZE, «NORMALIZE_DIFFERENCE»}
-use Rattle.trcf.specs.declared.types.ForestMode.the-variants.{STANDARD, «TIME_AUGMENTED»}
+use Rattle.trcf.specs.declared.types.ForestMode.the-variants.{STANDARD, «TIME_AUGMENTED», «GAP_AUGMENTED»}
 use Rattle.snapshot.specs.Text as Text
 use Rattle.snapshot.specs.Text.{render}
 use Rattle.snapshot.specs.Ascii.{text}
@@ -46,7 +46,7 @@ use Rattle.restart_program.proofs.Program.{program-demand-3}
 
 -- to unfold this is to unfold whatever its line names
 computing : Unit {0}
-unfolding Ieee.add Ieee.sub Ieee.mul Ieee.div Ieee.lt Ieee.le Ieee.eq Ieee.ofInt Ieee.ofBits Ieee.toBits Ieee.size Ieee.round Ieee.fits Narrow.narrowed Root.rootOf Root.rooted Root.halves Root.rootWithin Deviation.outsideUnit Deviation.factorOf Deviation.stepOf Deviation.isEmpty Deviation.meanOf Deviation.rootAbove Deviation.deviationOf Over.over Transformer.statisticAt Transformer.putStatistic Transformer.fed Transformer.deviationsAt Transformer.putDeviations Transformer.fedAt Transformer.channelsFed Transformer.updated Transformer.normalizedScale Transformer.basicShift Transformer.basicDrift Transformer.weightAt Transformer.transformed Transformer.unweighted Transformer.inverted Transformer.scales Transformer.shifts Transformer.differenceDeviations Settings.block Settings.dimension Settings.waiting Settings.allOne Settings.settingsRow Lists.lastN Lists.shiftIn Lists.overwrite Calls.finite Calls.due Calls.newest Calls.wrongLength Calls.outside Calls.drainFull Calls.learnFull Calls.waitingShort Calls.learnShort Calls.table Calls.rows Preprocessor.timeFed Preprocessor.feed Preprocessor.timescale Preprocessor.timedrift Preprocessor.timeElement Preprocessor.transformedAfter View.lentShort
+unfolding Ieee.add Ieee.sub Ieee.mul Ieee.div Ieee.lt Ieee.le Ieee.eq Ieee.ofInt Ieee.ofBits Ieee.toBits Ieee.size Ieee.round Ieee.fits Narrow.narrowed Root.rootOf Root.rooted Root.halves Root.rootWithin Deviation.outsideUnit Deviation.factorOf Deviation.stepOf Deviation.isEmpty Deviation.meanOf Deviation.rootAbove Deviation.deviationOf Over.over Transformer.statisticAt Transformer.putStatistic Transformer.fed Transformer.deviationsAt Transformer.putDeviations Transformer.fedAt Transformer.channelsFed Transformer.updated Transformer.normalizedScale Transformer.basicShift Transformer.basicDrift Transformer.weightAt Transformer.transformed Transformer.unweighted Transformer.inverted Transformer.scales Transformer.shifts Transformer.differenceDeviations Settings.block Settings.dimension Settings.waiting Settings.allOne Settings.settingsRow Lists.lastN Lists.shiftIn Lists.overwrite Calls.finite Calls.due Calls.newest Calls.behind Calls.wrongLength Calls.outside Calls.drainFull Calls.learnFull Calls.waitingShort Calls.learnShort Calls.table Calls.rows Preprocessor.timeFed Preprocessor.feed Preprocessor.timescale Preprocessor.timedrift Preprocessor.timeElement Preprocessor.transformedAfter View.lentShort
 computing = tt
 
 recording : Unit {0}
@@ -58,7 +58,7 @@ unfolding recording Text.whole Text.float Text.setLine Text.singles Text.cntLine
 writing = tt
 
 answering : Unit {0}
-unfolding recording Preprocessor.previous Preprocessor.primed Preprocessor.drainOne Preprocessor.drainAll Preprocessor.drained Preprocessor.held Preprocessor.learned Preprocessor.learnedWith Preprocessor.facts Preprocessor.deviations Preprocessor.scaleOf Preprocessor.shiftOf Preprocessor.pointOf Preprocessor.blockFrom Preprocessor.pastValues Preprocessor.expectedValues Preprocessor.anomalyOf Preprocessor.learnedNothing Preprocessor.heldAnswer Preprocessor.learnedAnswer Preprocessor.learnAnswer Preprocessor.statusOf Preprocessor.reply History.historyAnswer
+unfolding recording Preprocessor.previous Preprocessor.timeBase Preprocessor.preceding Preprocessor.primed Preprocessor.drainOne Preprocessor.drainAll Preprocessor.drained Preprocessor.held Preprocessor.learned Preprocessor.learnedWith Preprocessor.facts Preprocessor.deviations Preprocessor.scaleOf Preprocessor.shiftOf Preprocessor.pointOf Preprocessor.blockFrom Preprocessor.pastValues Preprocessor.expectedValues Preprocessor.anomalyOf Preprocessor.learnedNothing Preprocessor.heldAnswer Preprocessor.learnedAnswer Preprocessor.learnAnswer Preprocessor.statusOf Preprocessor.reply History.historyAnswer
 answering = tt
 
 abbrev single : ℕ → Float
@@ -513,6 +513,68 @@ largest-valid = record {
 
 largest-restart : Restart largest [] []
 largest-restart = demand-3 .once largest largest-valid [] [] tt
+
+-- ---- gaps (request 114): put away while a reading waits, whose time the gaps after it are counted from
+
+abbrev gapped : Settings
+gapped = record { mode = «GAP_AUGMENTED»; method = NORMALIZE; d = 1; k = 2; start = 1; stop = 9; decay = ofBits binary64 0; weightTime = two; weights = two ∷ []; codes = 7 ∷ [] }
+
+gapped-valid : Valid gapped
+unfolding computing
+gapped-valid = record {
+  accepted = refl;
+  machine = record { stopFits = omega arith; decayFits = tt; weightTimeFits = tt; weightsFit = (tt, tt); codesFit = (omega arith, tt) };
+}
+
+abbrev gapping : List Call
+gapping =
+    learnAt (four ∷ []) 100 none
+    ∷ shingledPoint (one ∷ []) 99 (replicate 5 nan)
+    ∷ transform (one ∷ []) 130 (nan ∷ nan ∷ [])
+    ∷ shingledPoint (one ∷ []) 130 (replicate 4 nan)
+    ∷ shift (nan ∷ nan ∷ [])
+    ∷ []
+
+gapping-machine : All Machine gapping
+unfolding computing
+gapping-machine = (((tt, tt), (omega arith), tt), (tt, (tt, (tt, (tt, tt)))))
+
+-- every place
+gapping-at : (n : ℕ) → Restart gapped (take n gapping) (drop n gapping)
+gapping-at n = demand-3 .once gapped gapped-valid (take n gapping) (drop n gapping) (all-take Machine n gapping gapping-machine)
+
+gap-fits : length (historyText gapped (take 1 gapping)) ≤ 1000
+unfolding writing
+gap-fits = omega arith
+
+program-gap : ProgramRestart gapped (take 1 gapping) (drop 1 gapping) dirty filthy (replicate 1000 10) (replicate 726 255)
+unfolding computing
+program-gap =
+    program-demand-3 gapped gapped-valid (take 1 gapping) (drop 1 gapping) (all-take Machine 1 gapping gapping-machine) (all-drop Machine 1 gapping gapping-machine)
+    dirty filthy refl refl (replicate 1000 10) (replicate 726 255) gap-fits
+
+-- the number that an answer ends in
+abbrev endOf : Answer → Float
+endOf (refused n) = nan
+endOf absent = nan
+endOf done = nan
+endOf (wrote v) = getD v 3 (getD v 1 nan)
+endOf (learnt l) = nan
+endOf (turned f) = nan
+endOf (told s) = nan
+
+-- the second watch: 28, the gap of 30 before and after the drain, and the time's shift, 100
+gap-rows : map numberOf (historyAnswers gapped (entries gapped (take 1 gapping)) (drop 1 gapping)) ≡ 28 ∷ 0 ∷ 0 ∷ 0 ∷ []
+unfolding answering
+gap-rows = refl
+
+gap-ends : map endOf (historyAnswers gapped (entries gapped (take 1 gapping)) (drop 1 gapping)) ≡ nan ∷ single 0x4270_0000 ∷ single 0x4270_0000 ∷ single 0x42c8_0000 ∷ []
+unfolding answering
+gap-ends = refl
+
+program-gap-ends : map endOf (map answerRead (returns (restoredOn (textIn (ran (builtOn gapped dirty) (take 1 gapping)) (replicate 1000 10)) (7 ∷ []) filthy) (drop 1 gapping)))
+    ≡ nan ∷ single 0x4270_0000 ∷ single 0x4270_0000 ∷ single 0x42c8_0000 ∷ []
+program-gap-ends = ap (map endOf) (program-gap .ruledAnswers) ∙ gap-ends
 
 -- ---- the text of the other list, each statistic a fold over its own scores
 

@@ -1,4 +1,6 @@
 pub mod Samples
+pub mod Gaps
+pub mod TracesGap
 pub mod RowSamples
 pub mod Traces
 pub mod FarCounts

@@ -1,4 +1,4 @@
--- Rows 10 to 20 of the calls by computation: each row, the values at its edge, and which of two rows comes first where both hold.
+-- Rows 10 to 20, and 28, of the calls by computation: each row, the values at its edge, and which of two rows comes first where both hold.
 use Prim.Native.Nat.{ℕ}
 use mathlib.Core.Path.{_≡_, refl}
 use mathlib.Core.Bool.{false}
@@ -10,12 +10,12 @@ use lib.Ieee.{Float, nan, inf, binary32, ofBits, lt}
 use Rattle.trcf.specs.declared.types.TransformMethod.{TransformMethod}
 use Rattle.trcf.specs.declared.types.TransformMethod.the-variants.{NONE, DIFFERENCE, NORMALIZE}
 use Rattle.trcf.specs.declared.types.ForestMode.{ForestMode}
-use Rattle.trcf.specs.declared.types.ForestMode.the-variants.{STANDARD, «TIME_AUGMENTED»}
+use Rattle.trcf.specs.declared.types.ForestMode.the-variants.{STANDARD, «TIME_AUGMENTED», «GAP_AUGMENTED»}
 use Rattle.common.specs.Deviation.{zero64}
 use Rattle.common.specs.RangeVector.{ranges, unequal, unblocked, shorter}
 use Rattle.trcf.specs.Transformer.{zero32}
 use Rattle.trcf.specs.Settings.{Settings, block, dimension, waiting}
-use Rattle.trcf.specs.Calls.{Call, shingledPoint, postProcess, drain, transform, invertExtrapolation, scale, shift, status, Facts, finite, due, newest, wrongLength, outside, drainFull, learnFull, lookahead, unturnable, turnShort, waitingShort, learnShort, table, rows}
+use Rattle.trcf.specs.Calls.{Call, shingledPoint, postProcess, drain, transform, invertExtrapolation, scale, shift, status, Facts, finite, due, newest, behind, wrongLength, outside, drainFull, learnFull, lookahead, unturnable, turnShort, waitingShort, learnShort, table, rows}
 
 -- a call, what is known when it is made, and the number of the row that refuses it (0 for none)
 record Case : Type 0 where
@@ -210,9 +210,53 @@ others =
     ∷ case N past (status (room 1)) 0
     ∷ []
 
+-- ---- row 28 (request 114)
+
+-- gaps: a method that waits, and one that does not
+abbrev G : TransformMethod → Settings
+G method = sets «GAP_AUGMENTED» method 1
+
+abbrev pointAt : List Float → ℕ → ℕ → Call
+pointAt x t n = shingledPoint x t (room n)
+
+abbrev transformAt : List Float → ℕ → ℕ → Call
+transformAt x t n = transform x t (room n)
+
+behinds : List Case
+behinds =
+    case (G NONE) past (pointAt (one ∷ []) 8 4) 28
+    ∷ case (G NONE) past (pointAt (one ∷ []) 9 4) 0  -- the same time is a gap of 0
+    ∷ case A past (pointAt (one ∷ []) 8 4) 0  -- in G alone
+    ∷ case N past (pointAt (one ∷ []) 8 2) 0
+    ∷ case (G NONE) past (pointAt [] 8 4) 10  -- before 28
+    ∷ case (G NONE) past (pointAt (nan ∷ []) 8 4) 11  -- before 28
+    ∷ case (G NONE) past (pointAt (one ∷ []) 8 3) 28  -- before 20
+    ∷ case (G NONE) past (pointAt (one ∷ []) 9 3) 20
+    ∷ case (G NORMALIZE) (ready 9007199254740989 0) (pointAt (one ∷ []) 6 4) 28  -- before 18
+    ∷ case (G NORMALIZE) (ready 9007199254740989 0) (pointAt (one ∷ []) 7 4) 18
+    ∷ case (G NORMALIZE) waits (pointAt (one ∷ []) 4 4) 28  -- while readings wait the newest is the last of them
+    ∷ case (G NORMALIZE) waits (pointAt (one ∷ []) 5 4) 0
+    ∷ case (G NONE) (know 0 1 0 (0 ∷ 9 ∷ []) []) (pointAt (one ∷ []) 8 4) 28  -- also with nothing seen
+    ∷ case (G NONE) (know 0 1 0 (0 ∷ 9 ∷ []) []) (pointAt (one ∷ []) 9 4) 0
+    ∷ case (G NONE) empty (pointAt (one ∷ []) 0 4) 0
+    ∷ case (G NONE) past (transformAt (one ∷ []) 8 2) 28
+    ∷ case (G NONE) past (transformAt (one ∷ []) 9 2) 0
+    ∷ case (G NONE) past (transformAt (Inf ∷ []) 8 2) 28  -- no row 11 before it
+    ∷ case (G NONE) past (transformAt [] 8 2) 10  -- before 28
+    ∷ case (G NONE) past (transformAt (one ∷ []) 8 1) 28  -- before 20
+    ∷ case (G NONE) past (transformAt (one ∷ []) 9 1) 20
+    ∷ case (G NORMALIZE) waits (transformAt (one ∷ []) 4 2) 28
+    ∷ case (G NORMALIZE) waits (transformAt (one ∷ []) 5 2) 0
+    ∷ case A past (transformAt (one ∷ []) 8 2) 0
+    ∷ case (G NONE) past (plain (one ∷ []) 8 none) 12  -- a learn has row 12 in every mode
+    ∷ case (G NONE) past (turning (room 3) (room 3) 0 0) 16  -- as in T
+    ∷ case (G NONE) past (turning (room 8) (room 8) 2 1) 20
+    ∷ case (G NONE) past (shift (room 1)) 20
+    ∷ []
+
 abbrev cases : List Case
-cases = points ++ learnings ++ others
+cases = points ++ learnings ++ others ++ behinds
 
 each-row : map (λ (c : Case). rows (c .settings) (c .known) (c .call)) cases ≡ map (λ (c : Case). c .row) cases
-unfolding points learnings others rows table waiting block dimension due newest wrongLength outside drainFull learnFull lookahead unturnable turnShort waitingShort learnShort finite unequal unblocked shorter lt ofBits
+unfolding points learnings others behinds rows table waiting block dimension due newest behind wrongLength outside drainFull learnFull lookahead unturnable turnShort waitingShort learnShort finite unequal unblocked shorter lt ofBits
 each-row = refl

@@ -24,21 +24,21 @@ use Rattle.common.specs.Lent.{over}
 use Rattle.trcf.specs.Lists.{lastN, shiftIn, overwrite}
 use Rattle.trcf.specs.Transformer.{zero32, statisticAt, putStatistic, fed, deviationsAt, putDeviations, fedAt, channelsFed, updated, normalizedScale, basicShift, basicDrift, weightAt, transformed, unweighted, inverted, reciprocal, forecastAt, forecastTo, invertedForecast, scales, shifts, differenceDeviations}
 use Rattle.trcf.specs.Settings.{Settings, block, dimension, waiting}
-use Rattle.trcf.specs.Calls.{Call, shingledPoint, postProcess, drain, transform, invertExtrapolation, scale, shift, status, finite, due, newest, wrongLength, outside, drainFull, learnFull, lookahead, unturnable, turnShort, waitingShort, learnShort, table, rows}
-use Rattle.trcf.specs.Preprocessor.{State, fresh, facts, refusal, timeFed, feed, timescale, timedrift, timeElement, transformedAfter, previous, primed, drainOne, drainAll, drained as drainedState, held, learned as learnedState, learnedWith, change, next, run, deviations, scaleOf, shiftOf, pointOf, invertTime, numbersOf, timesOf, blockFrom, pastValues, expectedValues, anomalyOf, Answer, refused, absent, done, wrote, learnt, turned, told, learnedNothing, heldAnswer, learnedAnswer, learnAnswer, turnedBack, statusOf, reply, answer, answers}
+use Rattle.trcf.specs.Calls.{Call, shingledPoint, postProcess, drain, transform, invertExtrapolation, scale, shift, status, finite, due, newest, behind, wrongLength, outside, drainFull, learnFull, lookahead, unturnable, turnShort, waitingShort, learnShort, table, rows}
+use Rattle.trcf.specs.Preprocessor.{State, fresh, facts, refusal, timeFed, feed, timescale, timedrift, timeElement, transformedAfter, previous, timeBase, preceding, primed, drainOne, drainAll, drained as drainedState, held, learned as learnedState, learnedWith, change, next, run, deviations, scaleOf, shiftOf, pointOf, invertTime, numbersOf, timesOf, blockFrom, pastValues, expectedValues, anomalyOf, Answer, refused, absent, done, wrote, learnt, turned, told, learnedNothing, heldAnswer, learnedAnswer, learnAnswer, turnedBack, statusOf, reply, answer, answers}
 use Rattle.snapshot.specs.Text.{whole, float, setLine, singles, cntLine, devLine, timLine, bufLine, chnLine, linesBy, bodyLines, render}
 use Rattle.snapshot.specs.Read.{same}
 
 -- to unfold this is to unfold whatever its line names
 unfoldable pub computing : Unit {0}
-unfolding add sub mul div lt le eq ofInt ofBits toBits size round narrowed rootOf rooted halves rootWithin factorOf stepOf isEmpty meanOf rootAbove deviationOf settled shifted scaled rangeAt putAt unequal unblocked shorter cascadeTo over statisticAt putStatistic fed deviationsAt putDeviations fedAt channelsFed updated normalizedScale basicShift basicDrift weightAt transformed unweighted inverted reciprocal forecastAt forecastTo invertedForecast scales shifts differenceDeviations block dimension waiting lastN shiftIn overwrite finite due newest wrongLength outside drainFull learnFull lookahead unturnable turnShort waitingShort learnShort table rows timeFed feed timescale timedrift timeElement transformedAfter
+unfolding add sub mul div lt le eq ofInt ofBits toBits size round narrowed rootOf rooted halves rootWithin factorOf stepOf isEmpty meanOf rootAbove deviationOf settled shifted scaled rangeAt putAt unequal unblocked shorter cascadeTo over statisticAt putStatistic fed deviationsAt putDeviations fedAt channelsFed updated normalizedScale basicShift basicDrift weightAt transformed unweighted inverted reciprocal forecastAt forecastTo invertedForecast scales shifts differenceDeviations block dimension waiting lastN shiftIn overwrite finite due newest behind wrongLength outside drainFull learnFull lookahead unturnable turnShort waitingShort learnShort table rows timeFed feed timescale timedrift timeElement transformedAfter
 computing = tt
 
-running : Unit {0}
-unfolding computing fresh facts refusal previous primed drainOne drainAll drainedState held learnedState learnedWith change next
+unfoldable pub running : Unit {0}
+unfolding computing fresh facts refusal previous timeBase preceding primed drainOne drainAll drainedState held learnedState learnedWith change next
 running = tt
 
-answering : Unit {0}
+unfoldable pub answering : Unit {0}
 unfolding running deviations scaleOf shiftOf pointOf invertTime numbersOf timesOf blockFrom pastValues expectedValues anomalyOf learnedNothing heldAnswer learnedAnswer learnAnswer turnedBack statusOf reply answer
 answering = tt
 
@@ -46,7 +46,7 @@ unfoldable pub recording : Unit {0}
 unfolding computing seenOf internalOf bufferOf shingled inputsOf timestampsOf newestOf countOf statisticsOf statisticsFrom historyState historyFacts historyRefusal complete adds enter entries historyText historyAnswer
 recording = tt
 
-writing : Unit {0}
+unfoldable pub writing : Unit {0}
 unfolding whole float setLine singles cntLine devLine timLine bufLine linesBy bodyLines chnLine render
 writing = tt
 
@@ -58,10 +58,10 @@ one = ofBits binary32 0x3f80_0000
 abbrev pub two : Float
 two = ofBits binary32 0x4000_0000
 
-abbrev four : Float
+abbrev pub four : Float
 four = ofBits binary32 0x4080_0000
 
-abbrev six : Float
+abbrev pub six : Float
 six = ofBits binary32 0x40c0_0000
 
 abbrev seven : Float
@@ -70,7 +70,7 @@ seven = ofBits binary32 0x40e0_0000
 abbrev minusSeventy : Float
 minusSeventy = ofBits binary32 0xc28c_0000
 
-abbrev thirty : Float
+abbrev pub thirty : Float
 thirty = ofBits binary32 0x41f0_0000
 
 -- d 1, decay 0, weight 1
@@ -168,7 +168,7 @@ augmented = sets «TIME_AUGMENTED» NORMALIZE 2 2 3 two
 abbrev y : List Float
 y = one ∷ two ∷ four ∷ six ∷ []
 
-abbrev room : ℕ → List Float
+abbrev pub room : ℕ → List Float
 room n = replicate n zero32
 
 abbrev every : List Call
@@ -207,7 +207,7 @@ unfolding recording
 every-entries = refl
 
 -- the numbers of the refusals: a drain with nothing waiting, a time that falls, no room for the answer
-abbrev numberOf : Answer → ℕ
+abbrev pub numberOf : Answer → ℕ
 numberOf (refused n) = n
 numberOf absent = 0
 numberOf done = 0
@@ -224,15 +224,15 @@ pub every-answer : answers (fresh augmented) every ≡ historyAnswers augmented 
 every-answer = answers-history augmented (omega arith) every
 
 -- the text at each place of a list of calls: of the state, and of the history
-abbrev texts : State → List Call → List (List ℕ)
+abbrev pub texts : State → List Call → List (List ℕ)
 texts w [] = render w ∷ []
 texts w (c ∷ cs) = render w ∷ texts (next w c) cs
 
-abbrev historyTexts : Settings → List Entry → List Call → List (List ℕ)
+abbrev pub historyTexts : Settings → List Entry → List Call → List (List ℕ)
 historyTexts s es [] = render (historyState s es) ∷ []
 historyTexts s es (c ∷ cs) = render (historyState s es) ∷ historyTexts s (enter s es c) cs
 
-abbrev agree : List (List ℕ) → List (List ℕ) → List Bool
+abbrev pub agree : List (List ℕ) → List (List ℕ) → List Bool
 agree [] ts = []
 agree (t ∷ ts) [] = []
 agree (t ∷ ts) (u ∷ us) = same t u ∷ agree ts us

@@ -12,9 +12,10 @@ use borrow.Author.Tests.{ltb-true, ltb-false, lt-ltb, le-ltb}
 use Rattle.trcf.specs.declared.types.TransformMethod.{TransformMethod}
 use Rattle.trcf.specs.declared.types.TransformMethod.the-variants.{NONE, WEIGHTED, DIFFERENCE, «SUBTRACT_MA», NORMALIZE, «NORMALIZE_DIFFERENCE»}
 use Rattle.trcf.specs.declared.types.ForestMode.{ForestMode}
-use Rattle.trcf.specs.declared.types.ForestMode.the-variants.{STANDARD, «TIME_AUGMENTED», «STREAMING_IMPUTE»}
+use Rattle.trcf.specs.declared.types.ForestMode.the-variants.{STANDARD, «TIME_AUGMENTED», «STREAMING_IMPUTE», «GAP_AUGMENTED»}
 use Rattle.trcf.specs.Types.{methodNumber, modeLetter}
 use Rattle.trcf.specs.Settings.{All, Fits, imputes}
+use Rattle.trcf.proofs.TypeLaws.{mode-back}
 use Rattle.snapshot.specs.Text.{decimal, whole, digit, hex, width, float, Line, behind, bytesOf}
 use Rattle.snapshot.specs.Read.{wholeFrom, undigit, hexFrom, floatFrom, modeFrom, methodFrom}
 use Rattle.snapshot.proofs.Lists.{all-append}
@@ -93,9 +94,7 @@ wholes-inj (x ∷ xs) (y ∷ ys) e = λ i. whole-inj x y (head-eq-of-cons-eq e) 
 -- ---- settings' words
 
 pub mode-is : (m : ForestMode) → imputes m ≡ false → modeFrom (modeLetter m ∷ []) ≡ m
-mode-is STANDARD h = refl
-mode-is «TIME_AUGMENTED» h = refl
-mode-is «STREAMING_IMPUTE» h = absurd (true≢false h)
+mode-is m h = mode-back m
 
 pub method-is : (m : TransformMethod) → methodFrom (methodNumber m) ≡ m
 method-is NONE = refl
@@ -146,6 +145,7 @@ pub letter-clean : (m : ForestMode) → Clean (modeLetter m ∷ [])
 letter-clean STANDARD = omega arith
 letter-clean «TIME_AUGMENTED» = omega arith
 letter-clean «STREAMING_IMPUTE» = omega arith
+letter-clean «GAP_AUGMENTED» = omega arith
 
 -- ---- the bytes tell the lines
 

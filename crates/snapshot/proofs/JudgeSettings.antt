@@ -11,17 +11,17 @@ use lib.Ieee.{Float, Format, binary32, binary64, fits}
 use lib.Ieee.Bits.{is-true}
 use borrow.Author.Tests.{eqb-true, eq-eqb, leb-true, le-leb, ltb-false}
 use Rattle.common.specs.Deviation.{outsideUnit}
-use Rattle.trcf.specs.Types.{isNone, methodNumber, modeLetter}
+use Rattle.trcf.specs.Types.{isNone, methodNumber, modeLetter, modeOfLetter}
+use Rattle.trcf.proofs.TypeLaws.{letter-back, mode-back as letter-named}
 use Rattle.trcf.specs.Transformer.{one32}
 use Rattle.trcf.specs.Settings.{Settings, All, Fits, Whole, wholeMax, imputes}
 use Rattle.trcf.specs.declared.types.TransformMethod.{TransformMethod}
 use Rattle.trcf.specs.declared.types.TransformMethod.the-variants.{NONE, WEIGHTED, DIFFERENCE, «SUBTRACT_MA», NORMALIZE, «NORMALIZE_DIFFERENCE»}
 use Rattle.trcf.specs.declared.types.ForestMode.{ForestMode}
-use Rattle.trcf.specs.declared.types.ForestMode.the-variants.{STANDARD, «TIME_AUGMENTED», «STREAMING_IMPUTE»}
 use Rattle.snapshot.specs.Text.{behind, whole, float, setLine}
 use Rattle.snapshot.specs.Read.{bytesOfLine, asWhole, asFloat, setKind, withLists}
 use Rattle.snapshot.specs.Write.{tabbed, setBytes}
-use Rattle.snapshot.specs.Judge.{onto, held, byte, name, one, fields, modeIn, methodIn, setTest, tailBy, settingsWith, settled, setBy}
+use Rattle.snapshot.specs.Judge.{onto, held, byte, name, one, fields, modeNamed, modeIn, methodIn, setTest, tailBy, settingsWith, settled, setBy}
 use Rattle.snapshot.proofs.Lists.{and-left, and-right}
 use Rattle.snapshot.proofs.ReadLine.{Hold, Writes}
 use Rattle.snapshot.proofs.ReadKinds.{fit-of, to-fits, set-writes, valid-of, zero-codes}
@@ -40,23 +40,21 @@ small n = n ≤ wholeMax
 
 -- ---- the pieces
 
+named-is : (n m : ForestMode) → modeNamed n ≡ some m → (n ≡ m) × (imputes n ≡ false)
+named-is n m e = by (imputes n) refl e
+  where
+    by : (b : Bool) → imputes n ≡ b → cond b none (some n) ≡ some m → (n ≡ m) × (imputes n ≡ false)
+    by true u k = absurd (Option·none-ne-some m k)
+    by false u k = (Option·some-injective n m k, u)
+
 mode-of : (z : List ℕ) (m : ForestMode) → modeIn z ≡ some m → (z ≡ modeLetter m ∷ drop 1 z) × (imputes m ≡ false)
 mode-of [] m e = absurd (Option·none-ne-some m e)
-mode-of (x ∷ l) m e = go (eqb x 83) refl (eqb x 84) refl
-  where
-    go : (b : Bool) → eqb x 83 ≡ b → (c : Bool) → eqb x 84 ≡ c → (x ∷ l ≡ modeLetter m ∷ l) × (imputes m ≡ false)
-    go true u c v =
-        let k : STANDARD ≡ m = Option·some-injective STANDARD m (rw u at e) in
-        subst (λ (n : ForestMode). (x ∷ l ≡ modeLetter n ∷ l) × (imputes n ≡ false)) k (ap (λ (y : ℕ). y ∷ l) (eqb-true x 83 u), refl)
-    go false u true v =
-        let k : «TIME_AUGMENTED» ≡ m = Option·some-injective «TIME_AUGMENTED» m (rw (u, v) at e) in
-        subst (λ (n : ForestMode). (x ∷ l ≡ modeLetter n ∷ l) × (imputes n ≡ false)) k (ap (λ (y : ℕ). y ∷ l) (eqb-true x 84 v), refl)
-    go false u false v = absurd (Option·none-ne-some m (rw (u, v) at e))
+mode-of (x ∷ l) m e =
+    let k = named-is (modeOfLetter x) m e in
+    subst (λ (n : ForestMode). (x ∷ l ≡ modeLetter n ∷ l) × (imputes n ≡ false)) (k .0) (ap (λ (y : ℕ). y ∷ l) (sym (letter-back x (k .1))), k .1)
 
 mode-back : (m : ForestMode) (l : List ℕ) → imputes m ≡ false → modeIn (modeLetter m ∷ l) ≡ some m
-mode-back STANDARD l h = refl
-mode-back «TIME_AUGMENTED» l h = refl
-mode-back «STREAMING_IMPUTE» l h = absurd (false≢true (sym h))
+mode-back m l h = ap modeNamed (letter-named m) ∙ ap (λ (b : Bool). cond b none (some m)) h
 
 method-of : (n : ℕ) (t : TransformMethod) → methodIn n ≡ some t → methodNumber t ≡ n
 method-of zero t e = ap methodNumber (sym (Option·some-injective NONE t e))
@@ -171,9 +169,11 @@ unfolding setTest
 test-of s h = rw (h .1 .0, h .1 .1 .0, h .1 .1 .1 .0, h .1 .1 .1 .1 .0, h .1 .1 .1 .1 .1 .0, h .1 .1 .1 .1 .1 .1 .0)
 
 mode-not : (m : ForestMode) → not (imputes m) ≡ true → imputes m ≡ false
-mode-not STANDARD h = refl
-mode-not «TIME_AUGMENTED» h = refl
-mode-not «STREAMING_IMPUTE» h = sym h
+mode-not m h = by (imputes m) h
+  where
+    by : (b : Bool) → not b ≡ true → b ≡ false
+    by true k = sym k
+    by false k = refl
 
 abbrev Read : List ℕ → Settings × List ℕ → Type 0
 Read l r = (l ≡ bytesOfLine (setLine (r .0)) ++ r .1) × Writes setKind (r .0)

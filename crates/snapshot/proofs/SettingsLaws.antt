@@ -11,11 +11,11 @@ use lib.Dec.{eqb, leb, ltb}
 use lib.Ieee.{Float, binary32, binary64}
 use borrow.Author.Tests.{le-leb, lt-leb, eq-eqb, ne-eqb, lt-ltb, le-ltb, ltb-true, ltb-false, leb-true, leb-false}
 use Rattle.common.specs.Deviation.{outsideUnit}
-use Rattle.trcf.specs.declared.types.ForestMode.the-variants.{STANDARD, «TIME_AUGMENTED»}
+use Rattle.trcf.specs.Types.{modeOfLetter}
 use Rattle.snapshot.specs.Read.{asWhole, asFloat}
 use Rattle.trcf.specs.declared.types.ForestMode.{ForestMode}
 use Rattle.trcf.specs.declared.types.TransformMethod.{TransformMethod}
-use Rattle.snapshot.specs.Judge.{placed, onto, held, byte, name, one, fields, modeIn, modeTold, methodIn, methodTold, setTest, tailBy, settingsWith, settled, setBy, settingsTold}
+use Rattle.snapshot.specs.Judge.{placed, onto, held, byte, name, one, fields, modeNamed, modeIn, modeTold, methodIn, methodTold, setTest, tailBy, settingsWith, settled, setBy, settingsTold}
 use Rattle.snapshot.specs.declared.piece.Place.{Place}
 use Rattle.snapshot.specs.declared.piece.Place.the-variants.{At, Nowhere}
 use Rattle.snapshot.specs.declared.settings.Mode.{Mode}
@@ -25,14 +25,9 @@ use Rattle.snapshot.specs.declared.settings.Method.the-variants.{OfMetho
 use Rattle.snapshot.specs.declared.settings.Set.{Set}
 
 module _ (t : List ℕ) (i : ℕ) where
-  pub mode-standard : i < length t → getD t i 0 ≡ 83 → some STANDARD ≡ modeIn (drop i t)
-  mode-standard h e = rw (drop-cons t i 0 h, eq-eqb (getD t i 0) 83 e)
-
-  pub mode-augmented : i < length t → (getD t i 0 ≡ 83 → ⊥) → getD t i 0 ≡ 84 → some «TIME_AUGMENTED» ≡ modeIn (drop i t)
-  mode-augmented h d e = rw (drop-cons t i 0 h, ne-eqb (getD t i 0) 83 d, eq-eqb (getD t i 0) 84 e)
-
-  pub mode-other : i < length t → (getD t i 0 ≡ 83 → ⊥) → (getD t i 0 ≡ 84 → ⊥) → none ≡ modeIn (drop i t)
-  mode-other h d e = rw (drop-cons t i 0 h, ne-eqb (getD t i 0) 83 d, ne-eqb (getD t i 0) 84 e)
+  -- a letter, judged by the mode that it names
+  pub mode-named : (m : ForestMode) → i < length t → m ≡ modeOfLetter (getD t i 0) → modeNamed m ≡ modeIn (drop i t)
+  mode-named m h e = ap modeNamed e ∙ sym (ap modeIn (drop-cons t i 0 h))
 
   pub mode-end : length t ≤ i → none ≡ modeIn (drop i t)
   mode-end h = rw (drop-of-length-le t h)

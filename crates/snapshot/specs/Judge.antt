@@ -9,14 +9,13 @@ use lib.ListN.{length, take, drop, replicate, getD}
 use lib.Dec.{leb, ltb, eqb}
 use lib.Ieee.{Float, nan, Format, binary32, binary64}
 use Rattle.common.specs.Deviation.{countLimit, outsideUnit}
-use Rattle.trcf.specs.Types.{isNone, normalizes}
-use Rattle.trcf.specs.Settings.{Settings, allOne}
+use Rattle.trcf.specs.Types.{isNone, normalizes, modeOfLetter}
+use Rattle.trcf.specs.Settings.{Settings, imputes, allOne}
 use Rattle.trcf.specs.Calls.{finite, seenLimit}
 use Rattle.trcf.specs.Preprocessor.{Reading, reading}
 use Rattle.trcf.specs.declared.types.TransformMethod.{TransformMethod}
 use Rattle.trcf.specs.declared.types.TransformMethod.the-variants.{NONE, WEIGHTED, DIFFERENCE, «SUBTRACT_MA», NORMALIZE, «NORMALIZE_DIFFERENCE»}
 use Rattle.trcf.specs.declared.types.ForestMode.{ForestMode}
-use Rattle.trcf.specs.declared.types.ForestMode.the-variants.{STANDARD, «TIME_AUGMENTED»}
 use Rattle.snapshot.specs.declared.settings.Mode.{Mode}
 use Rattle.snapshot.specs.declared.settings.Mode.the-variants.{OfMode, NoMode}
 use Rattle.snapshot.specs.declared.settings.Method.{Method}
@@ -209,9 +208,12 @@ unfoldable pub devBy : List ℕ → Option (Three × List ℕ)
 devBy l = threed (listLine (asFloat binary64) 100 101 118 3 l)
 
 -- `set`: the letter of the mode, five whole numbers, decay and weight_time
+abbrev pub modeNamed : ForestMode → Option ForestMode
+modeNamed m = cond (imputes m) none (some m)
+
 abbrev pub modeIn : List ℕ → Option ForestMode
 modeIn [] = none
-modeIn (x ∷ l) = cond (eqb x 83) (some STANDARD) (cond (eqb x 84) (some «TIME_AUGMENTED») none)
+modeIn (x ∷ l) = modeNamed (modeOfLetter x)
 
 abbrev pub modeTold : Mode → Option ForestMode
 modeTold (OfMode m) = some m

@@ -14,8 +14,8 @@ use Rattle.common.specs.Deviation.{countLimit, outsideUnit}
 use Rattle.trcf.specs.declared.types.TransformMethod.{TransformMethod}
 use Rattle.trcf.specs.declared.types.TransformMethod.the-variants.{NONE, WEIGHTED, DIFFERENCE, «SUBTRACT_MA», NORMALIZE, «NORMALIZE_DIFFERENCE»}
 use Rattle.trcf.specs.declared.types.ForestMode.{ForestMode}
-use Rattle.trcf.specs.declared.types.ForestMode.the-variants.{STANDARD, «TIME_AUGMENTED»}
-use Rattle.trcf.specs.Types.{isNone, normalizes}
+use Rattle.trcf.specs.declared.types.ForestMode.the-variants.{STANDARD}
+use Rattle.trcf.specs.Types.{isNone, normalizes, modeOfLetter}
 use Rattle.trcf.specs.Settings.{Settings, dimension, waiting, imputes, allOne, wholeMax, codeMax}
 use Rattle.trcf.specs.Calls.{finite, seenLimit}
 use Rattle.trcf.specs.Preprocessor.{State, Reading}
@@ -67,7 +67,7 @@ hexFrom a (c ∷ cs) = hexFrom (16 * a + undigit c) cs
 
 abbrev pub modeFrom : List ℕ → ForestMode
 modeFrom [] = STANDARD
-modeFrom (c ∷ cs) = cond (ltb c 84) STANDARD «TIME_AUGMENTED»
+modeFrom (c ∷ cs) = modeOfLetter c
 
 abbrev pub methodFrom : ℕ → TransformMethod
 methodFrom zero = NONE

@@ -1,5 +1,6 @@
 // Whether what is lent holds what is in use of it.
 use trcf::types::ForestMode;
+use trcf::types::is_augmented;
 ghost use mathlib.Core.Path.{_≡_};
 ghost use mathlib.Core.Bool.{cond, _||_};
 ghost use Prim.Native.Nat.{_≤_};
@@ -7,15 +8,11 @@ ghost use lib.Dec.{ltb};
 ghost use Rattle.trcf.specs.Types.{augments};
 ghost use Rattle.snapshot.specs.Save.{past};
 
-// The numbers of a time in a transformed reading: one in TIME_AUGMENTED.
+// The numbers of a time in a transformed reading: one where the mode has a time element.
 pub fn time_width(m: ForestMode) -> usize
     ensures { λ r. ⌜ r ≡ cond (augments m) 1 0 ⌝ }
 {
-    match m {
-        ForestMode::STANDARD => 0,
-        ForestMode::TIME_AUGMENTED => 1,
-        ForestMode::STREAMING_IMPUTE => 0,
-    }
+    if is_augmented(m) { 1 } else { 0 }
 }
 
 // Whether a number is past the limits, or a lent list is shorter than what is in use of it.

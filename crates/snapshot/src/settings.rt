@@ -5,9 +5,12 @@ use crate::judge::wholes;
 use crate::piece::Place;
 use crate::piece::byte;
 use crate::piece::name;
+use crate::piece::wide;
 use common::deviation::outside_unit;
 use trcf::types::ForestMode;
 use trcf::types::TransformMethod;
+use trcf::types::mode_of_letter;
+use trcf_rows::rows::is_imputing;
 ghost use mathlib.Core.Path.{_≡_};
 ghost use lib.ListN.{length, drop};
 ghost use Rattle.snapshot.specs.Judge.{placed, held, modeIn, modeTold, methodIn, methodTold, setTest, tailBy, setBy, settingsTold};
@@ -24,11 +27,9 @@ fn mode_at(text: &[u8], at: usize) -> Mode
     ensures { λ r. ⌜ modeTold r ≡ modeIn (drop at (now (text .entry))) ⌝ }
 {
     if at < text.len() {
-        if text[at] == 83 {
-            return Mode::OfMode(ForestMode::STANDARD);
-        }
-        if text[at] == 84 {
-            return Mode::OfMode(ForestMode::TIME_AUGMENTED);
+        let mode = mode_of_letter(wide(text[at]));
+        if !is_imputing(mode) {
+            return Mode::OfMode(mode);
         }
     }
     Mode::NoMode

@@ -12,8 +12,8 @@ use snapshot::limits::time_width;
 use snapshot::values::all_zero;
 use snapshot::values::none_falls;
 use trcf::head::Preprocessor;
-use trcf::types::ForestMode;
-use trcf::types::TransformMethod;
+use trcf::types::method_number;
+use trcf::types::mode_letter;
 use trcf_rows::rows::all_finite;
 use trcf_rows::rows::head_settings_row;
 use trcf_rows::rows::is_misfit;
@@ -35,29 +35,6 @@ ghost use Rattle.snapshot.specs.Save.{outcome, fitted, heldSave, saveOf, headBy
 pub struct Saved {
     pub row: u64,
     pub length: usize,
-}
-
-fn mode_letter(m: ForestMode) -> u8
-    ensures { λ r. ⌜ r ≡ modeLetter m ⌝ }
-{
-    match m {
-        ForestMode::STANDARD => 83,
-        ForestMode::TIME_AUGMENTED => 84,
-        ForestMode::STREAMING_IMPUTE => 73,
-    }
-}
-
-fn method_number(m: TransformMethod) -> u64
-    ensures { λ r. ⌜ r ≡ methodNumber m ⌝ }
-{
-    match m {
-        TransformMethod::NONE => 0,
-        TransformMethod::WEIGHTED => 1,
-        TransformMethod::DIFFERENCE => 2,
-        TransformMethod::SUBTRACT_MA => 3,
-        TransformMethod::NORMALIZE => 4,
-        TransformMethod::NORMALIZE_DIFFERENCE => 5,
-    }
 }
 
 // How many bytes whole numbers take, each behind its tab.

@@ -10,7 +10,7 @@ use Rattle.trcf.specs.declared.types.ForestMode.the-variants.{STANDARD, «TIME_
 use Rattle.trcf.specs.Lists.{lastN}
 use Rattle.trcf.specs.Transformer.{one32}
 use Rattle.trcf.specs.Settings.{Settings, block, dimension, waiting as waits, allOne, settingsRow, Valid}
-use Rattle.trcf.specs.Calls.{drain as drainCall, finite, due, newest, wrongLength, outside, drainFull, learnFull, waitingShort, learnShort, table, rows}
+use Rattle.trcf.specs.Calls.{drain as drainCall, finite, due, newest, behind as behindNewest, wrongLength, outside, drainFull, learnFull, waitingShort, learnShort, table, rows}
 use Rattle.restart.specs.History.{seenOf, internalOf, bufferOf, shingled, inputsOf, timestampsOf, newestOf, countOf, historyFacts, historyRefusal, complete, adds, enter, entries}
 use Rattle.stranding.specs.Orders.{Kind, point, learn, drain}
 use Rattle.stranding.specs.Standing.{Standing, waiting, drained, stranded}
@@ -20,7 +20,7 @@ use Rattle.stranding_history.proofs.Counted.{strandings-of-the-history}
 
 -- to unfold one of these is to unfold whatever its line names
 judging : Unit {0}
-unfolding ofBits lt size lastN block dimension waits finite due newest wrongLength outside drainFull learnFull waitingShort learnShort table rows
+unfolding ofBits lt size lastN block dimension waits finite due newest behindNewest wrongLength outside drainFull learnFull waitingShort learnShort table rows
 judging = tt
 
 recording : Unit {0}

@@ -11,13 +11,14 @@ use borrow.Author.Tests.{eq-eqb, ne-eqb}
 use lib.ListN.{length, getD, set, take, drop, length-append, length-drop}
 use lib.Seq.{length-take-le, getD-drop, drop-drop, take-length, paste, take-all, drop-length, drop-append-add, take-at}
 use lib.IntN.{pos}
-use lib.Ieee.{Float, nan, binary32, binary64, Format, ofInt}
+use lib.Ieee.{Float, nan, binary32, binary64, Format, add, mul, div, eq, ofInt}
+use Rattle.common.specs.Deviation.{zero64, one64}
 use Rattle.common.specs.Lent.{over}
 use Rattle.common.specs.Refusal.{firstOf}
-use Rattle.common.specs.RangeVector.{Range, Ranges, range, ranges, settled, shifted, rangeAt, putAt, overAll, cascadeTo, Outcome, outcome, unequal, unblocked, shorter, cascadedAddOf}
+use Rattle.common.specs.RangeVector.{Range, Ranges, range, ranges, settled, shifted, scaled, rangeAt, putAt, overAll, cascadeTo, Outcome, outcome, unequal, unblocked, shorter, cascadedAddOf}
 use Rattle.trcf.specs.Lists.{tabulate, lastN, lastOr}
-use Rattle.trcf.specs.Types.{augments, differences}
-use Rattle.trcf.specs.Transformer.{forecastTo, forecastAt, invertedForecast, weightAt, normalizedScale, basicDrift, basicShift}
+use Rattle.trcf.specs.Types.{augments, gaps, differences}
+use Rattle.trcf.specs.Transformer.{zero32, forecastTo, forecastAt, invertedForecast, weightAt, normalizedScale, basicDrift, basicShift}
 use Rattle.trcf.specs.TransformerCalls.{view as viewTransformer}
 use Rattle.trcf.specs.Settings.{Settings, transformer, block, dimension}
 use Rattle.trcf.specs.Calls.{Forecast, invertExtrapolation, rows, table, unturnable, turnShort, lookahead}
@@ -121,12 +122,27 @@ module _ (s : Settings) (st : List Float) where
       (times-snoc v u l x y z (omega arith) (omega arith))
 
   -- the shift by the drift puts the bounds in order
-  timeBy-is : (x y z : Float) → timeBy (timeFactor (s .weightTime)) (timescale s st) (timedrift s st) (range x y z) ≡ inverse x y z
-  unfolding timeBy timeFactor shifted invertTime
-  timeBy-is x y z = refl
+  timeBy-is : (x y z : Float) → timeBy (gaps (s .mode)) (timeFactor (s .weightTime)) (timescale s st) (timedrift s st) (range x y z) ≡ inverse x y z
+  unfolding timeBy timeFactor shifted scaled invertTime
+  timeBy-is x y z = by (gaps (s .mode))
+    where
+      factor : Float
+      factor = cond (eq (s .weightTime) zero32) zero64 (div binary64 one64 (s .weightTime))
+
+      long : Float → Float
+      long q = mul binary64 (mul binary64 q factor) (timescale s st)
+
+      late : Bool → Float → Float
+      late b q = cond b (long q) (add binary64 (long q) (timedrift s st))
+
+      by : (b : Bool) → cond b (settled (long x) (long y) (long z))
+          (settled (add binary64 (long x) (timedrift s st)) (add binary64 (long y) (timedrift s st)) (add binary64 (long z) (timedrift s st)))
+          ≡ settled (late b x) (late b y) (late b z)
+      by true = refl
+      by false = refl
 
   pub timesBy-is : (a m : ℕ) (v : Ranges) (h : ℕ)
-      → timesBy (timeFactor (s .weightTime)) (timescale s st) (timedrift s st) a m v h
+      → timesBy (gaps (s .mode)) (timeFactor (s .weightTime)) (timescale s st) (timedrift s st) a m v h
       ≡ invertTimes s st (backs a m h (v .values)) (backs a m h (v .upper)) (backs a m h (v .lower))
   unfolding timesBy rangeAt
   timesBy-is a m v zero = refl
@@ -137,7 +153,7 @@ module _ (s : Settings) (st : List Float) where
       let bv = backs a m h (v .values) in
       let bu = backs a m h (v .upper) in
       let bl = backs a m h (v .lower) in
-      ap (λ (w : Ranges). snoc w (timeBy (timeFactor (s .weightTime)) (timescale s st) (timedrift s st) (range x y z))) (timesBy-is a m v h)
+      ap (λ (w : Ranges). snoc w (timeBy (gaps (s .mode)) (timeFactor (s .weightTime)) (timescale s st) (timedrift s st) (range x y z))) (timesBy-is a m v h)
       ∙ ap (snoc (invertTimes s st bv bu bl)) (timeBy-is x y z)
       ∙ sym (times-snoc bv bu bl x y z (backs-length a m h (v .upper) ∙ sym (backs-length a m h (v .values))) (backs-length a m h (v .lower) ∙ sym (backs-length a m h (v .values))))
       ∙ (λ j. invertTimes s st (sym (backs-snoc a m h (v .values)) j) (sym (backs-snoc a m h (v .upper)) j) (sym (backs-snoc a m h (v .lower)) j))
@@ -244,18 +260,18 @@ unfolding unblocked
 one-whole h p = rw (ne-eqb h 0 (λ e. omega arith), eq-eqb _ 0 (mod-one h))
 
 -- the times written, then cascaded from the last one
-module _ (s : Settings) (st : List Float) (v w x : Ranges) (factor scale drift base : Float) (last a m h row : ℕ) where
-  pub times-done : factor ≡ timeFactor (s .weightTime) → scale ≡ timescale s st → drift ≡ timedrift s st → a ≡ dimension s
-      → base ≡ ofInt binary64 (pos last) → w ≡ timesBy factor scale drift a m v h → 0 < h
+module _ (s : Settings) (st : List Float) (v w x : Ranges) (gap : Bool) (factor scale drift base : Float) (last a m h row : ℕ) where
+  pub times-done : gap ≡ gaps (s .mode) → factor ≡ timeFactor (s .weightTime) → scale ≡ timescale s st → drift ≡ timedrift s st → a ≡ dimension s
+      → base ≡ ofInt binary64 (pos last) → w ≡ timesBy gap factor scale drift a m v h → 0 < h
       → length (w .values) ≡ h → length (w .upper) ≡ h → length (w .lower) ≡ h → outcome row x ≡ cascadedAddOf binary64 (base ∷ []) w
       → x ≡ cascadeTo binary64 (ofInt binary64 (pos last) ∷ []) h
       (invertTimes s st (backs (dimension s) m h (v .values)) (backs (dimension s) m h (v .upper)) (backs (dimension s) m h (v .lower)))
-  times-done ef es ed ea eb ew some lv lu ll e =
+  times-done eg ef es ed ea eb ew some lv lu ll e =
       cascade-taken binary64 (base ∷ []) w x row (lu ∙ sym lv) (ll ∙ sym lv) (ap (unblocked 1) lv ∙ one-whole h some) e
       ∙ ap (λ (k : ℕ). cascadeTo binary64 (base ∷ []) k w) lv
       ∙ ap (λ (b : Float). cascadeTo binary64 (b ∷ []) h w) eb
       ∙ ap (cascadeTo binary64 (ofInt binary64 (pos last) ∷ []) h)
-      (ew ∙ (λ j. timesBy (ef j) (es j) (ed j) (ea j) m v h) ∙ timesBy-is s st (dimension s) m v h)
+      (ew ∙ (λ j. timesBy (eg j) (ef j) (es j) (ed j) (ea j) m v h) ∙ timesBy-is s st (dimension s) m v h)
 
 -- the room for numbers and times, by the code's own numbers
 pub room-numbers : (s : Settings) (n a i v u l : ℕ) → a ≡ dimension s → i ≡ s .d * s .k → Longer (lookahead s n * (s .d * s .k)) v u l → Longer (n / a * i) v u l

@@ -11,7 +11,7 @@ use Rattle.trcf.specs.Types.{augments, differences}
 use Rattle.trcf.specs.Settings.{Settings, block, dimension}
 use Rattle.trcf.specs.TransformerCalls.{Sound, transformRow, forecastRow, notLong}
 use Rattle.trcf.specs.Preprocessor.{statisticsLength, accepted}
-use Rattle.trcf.specs.View.{headRow, orElse, Bounded, Exact}
+use Rattle.trcf.specs.View.{headRow, orElse, Bounded}
 use Rattle.trcf.specs.Lengths.{whereFits, within, passes, timeFits, outputFits, transformFits, feedFits}
 use Rattle.trcf.specs.declared.transformer.WeightedTransformer.{WeightedTransformer}
 
@@ -95,11 +95,11 @@ pub output-fits : {s : Settings} {n m : ℕ} → Bounded s × ((n ≡ statistics
 unfolding outputFits
 output-fits {s = s} {n = n} {m = m} f = rw (row-bounded s (f .0), eq-eqb n (statisticsLength s) (f .1 .0), le-leb (block s) m (f .1 .1))
 
-pub transform-fits : {s : Settings} {n x ts reading m : ℕ} → Bounded s × (Exact s n x ts × ((reading ≡ s .d) × (block s ≤ m)))
-    → transformFits s n x ts reading m ≡ true
+pub transform-fits : {s : Settings} {n x reading m : ℕ}
+    → Bounded s × ((n ≡ statisticsLength s) × ((x ≡ s .d * s .k) × ((reading ≡ s .d) × (block s ≤ m)))) → transformFits s n x reading m ≡ true
 unfolding transformFits
-transform-fits {s = s} {n = n} {x = x} {ts = ts} {reading = reading} {m = m} f =
-    rw (output-fits {s = s} {n = n} {m = m} (f .0, (f .1 .0 .all-statistics, f .1 .1 .1)), eq-eqb x (s .d * s .k) (f .1 .0 .all-input), eq-eqb ts (s .k) (f .1 .0 .all-times), eq-eqb reading (s .d) (f .1 .1 .0))
+transform-fits {s = s} {n = n} {x = x} {reading = reading} {m = m} f =
+    rw (output-fits {s = s} {n = n} {m = m} (f .0, (f .1 .0, f .1 .1 .1 .1)), eq-eqb x (s .d * s .k) (f .1 .1 .0), eq-eqb reading (s .d) (f .1 .1 .1 .0))
 
 pub feed-fits : {s : Settings} {count n before reading : ℕ}
     → Bounded s × ((n ≡ statisticsLength s) × ((count < countLimit) × ((before ≡ s .d) × (reading ≡ s .d)))) → feedFits s count n before reading ≡ true

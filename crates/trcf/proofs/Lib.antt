@@ -1,4 +1,5 @@
 pub mod FitLaws
+pub mod TypeLaws
 pub mod LentLaws
 pub mod TransformerLaws
 pub mod ForecastLaws

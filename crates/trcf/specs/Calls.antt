@@ -1,4 +1,4 @@
--- The calls of demand 3, and document 01's rows 10 to 20 over the values that they name.
+-- The calls of demand 3, and rows 10 to 20 (document 01) and 28 (request 114) over the values that they name.
 use Prim.Native.Nat.{ℕ, zero, suc, _+_, _-_, _*_, _/_, _≤_}
 use mathlib.Core.Bool.{Bool, true, false, cond, not, _&&_, _||_}
 use mathlib.Core.List.{List, [], _∷_}
@@ -11,7 +11,7 @@ use Rattle.common.specs.Refusal.{firstOf}
 use Rattle.common.specs.Deviation.{countLimit}
 use Rattle.common.specs.RangeVector.{Ranges, unequal, unblocked, shorter}
 use Rattle.trcf.specs.Lists.{lastOr, null}
-use Rattle.trcf.specs.Types.{augments, differences}
+use Rattle.trcf.specs.Types.{augments, gaps, differences}
 use Rattle.trcf.specs.Transformer.{zero32}
 use Rattle.trcf.specs.Settings.{Settings, block, dimension, waiting, All, Fits, Whole, wholeMax}
 
@@ -73,6 +73,10 @@ due s f = eqb (f .valuesSeen) (s .start) && not (null (f .initialTimestamps))
 unfoldable pub newest : Facts → ℕ
 newest f = cond (eqb (f .internalTimestamp) 0) (lastOr 0 (f .initialTimestamps)) (lastOr 0 (f .previousTimestamps))
 
+-- "(28: point or transform in G with a time below the newest; after 12.)" (request 114)
+unfoldable pub behind : Settings → Facts → ℕ → Bool
+behind s f t = gaps (s .mode) && ltb t (newest f)
+
 -- row 13: where given, not `get_dimension` long
 unfoldable pub wrongLength : Settings → Option (List Float) → Bool
 wrongLength s none = false
@@ -132,6 +136,7 @@ table s f (shingledPoint x t out) =
     let past = not (waiting s (f .valuesSeen)) in
     (not (eqb (length x) (s .d)), 10)
     ∷ (not (finite x), 11)
+    ∷ (behind s f t, 28)
     ∷ (past && (due s f && drainFull s f), 18)
     ∷ (past && ltb (length out) (dimension s), 20)
     ∷ []
@@ -147,7 +152,7 @@ table s f (postProcess l) =
     ∷ (cond waits (waitingShort s f l) (given (l .rcfPoint) && learnShort s l), 20)
     ∷ []
 table s f drain = (eqb (f .valuesSeen) (s .start) && null (f .initialTimestamps), 15) ∷ (due s f && drainFull s f, 18) ∷ []
-table s f (transform x t out) = (not (eqb (length x) (s .d)), 10) ∷ (ltb (length out) (block s), 20) ∷ []
+table s f (transform x t out) = (not (eqb (length x) (s .d)), 10) ∷ (behind s f t, 28) ∷ (ltb (length out) (block s), 20) ∷ []
 table s f (invertExtrapolation c) = (unturnable s (c .forecast), 16) ∷ (turnShort s c, 20) ∷ []
 table s f (scale out) = (ltb (length out) (block s), 20) ∷ []
 table s f (shift out) = (ltb (length out) (block s), 20) ∷ []

@@ -8,7 +8,7 @@ use lib.ListN.{length}
 use lib.Ieee.{Float, binary64, mul, div, eq}
 use Rattle.common.specs.Refusal.{firstOf}
 use Rattle.common.specs.Deviation.{zero64, one64}
-use Rattle.common.specs.RangeVector.{Range, range, Ranges, ranges, shifted, rangeAt, unblocked}
+use Rattle.common.specs.RangeVector.{Range, range, Ranges, ranges, shifted, scaled, rangeAt, unblocked}
 use Rattle.trcf.specs.Lists.{tabulate}
 use Rattle.trcf.specs.Types.{augments, differences}
 use Rattle.trcf.specs.Transformer.{zero32}
@@ -158,17 +158,18 @@ timeFactor w = cond (eq w zero32) zero64 (div binary64 one64 w)
 abbrev pub stretched : Float → Float → Float → Float
 stretched factor scale x = mul binary64 (mul binary64 x factor) scale
 
--- a time with its bounds: the drift comes last, so that one shift adds it and puts the bounds in order
-unfoldable pub timeBy : Float → Float → Float → Range → Range
-timeBy factor scale drift r =
-    shifted binary64 (range (stretched factor scale (r .value)) (stretched factor scale (r .upper)) (stretched factor scale (r .lower))) drift
+-- a time with its bounds, put in order by the last step: in G that is the scale, elsewhere the drift's shift
+unfoldable pub timeBy : Bool → Float → Float → Float → Range → Range
+timeBy gap factor scale drift r =
+    cond gap (scaled binary64 (range (mul binary64 (r .value) factor) (mul binary64 (r .upper) factor) (mul binary64 (r .lower) factor)) scale)
+    (shifted binary64 (range (stretched factor scale (r .value)) (stretched factor scale (r .upper)) (stretched factor scale (r .lower))) drift)
 
 -- the time of block i of a numbers, behind m of them
-abbrev pub timeAt : Float → Float → Float → ℕ → ℕ → Ranges → ℕ → Range
-timeAt factor scale drift a m v i = timeBy factor scale drift (rangeAt v (i * a + m))
+abbrev pub timeAt : Bool → Float → Float → Float → ℕ → ℕ → Ranges → ℕ → Range
+timeAt gap factor scale drift a m v i = timeBy gap factor scale drift (rangeAt v (i * a + m))
 
 -- of the first h blocks
-unfoldable pub timesBy : Float → Float → Float → ℕ → ℕ → Ranges → ℕ → Ranges
-timesBy factor scale drift a m v h =
-    ranges (tabulate h (λ i. timeAt factor scale drift a m v i .value)) (tabulate h (λ i. timeAt factor scale drift a m v i .upper))
-    (tabulate h (λ i. timeAt factor scale drift a m v i .lower))
+unfoldable pub timesBy : Bool → Float → Float → Float → ℕ → ℕ → Ranges → ℕ → Ranges
+timesBy gap factor scale drift a m v h =
+    ranges (tabulate h (λ i. timeAt gap factor scale drift a m v i .value)) (tabulate h (λ i. timeAt gap factor scale drift a m v i .upper))
+    (tabulate h (λ i. timeAt gap factor scale drift a m v i .lower))

@@ -29,9 +29,9 @@ timeFits s n = eqb (headRow s) 0 && leb (statisticsLength s) n
 unfoldable pub outputFits : Settings → ℕ → ℕ → Bool
 outputFits s n m = eqb (headRow s) 0 && (eqb n (statisticsLength s) && leb (block s) m)
 
--- besides, just the shingle of x inputs and of ts times, and one reading
-unfoldable pub transformFits : Settings → ℕ → ℕ → ℕ → ℕ → ℕ → Bool
-transformFits s n x ts reading m = outputFits s n m && (eqb x (s .d * s .k) && (eqb ts (s .k) && eqb reading (s .d)))
+-- besides, just the shingle of x inputs, and one reading
+unfoldable pub transformFits : Settings → ℕ → ℕ → ℕ → ℕ → Bool
+transformFits s n x reading m = outputFits s n m && (eqb x (s .d * s .k) && eqb reading (s .d))
 
 -- just its statistics, which can be fed once more, a reading and the one before it
 unfoldable pub feedFits : Settings → ℕ → ℕ → ℕ → ℕ → Bool

@@ -6,16 +6,16 @@ use mathlib.Core.Option.{Option, none, some}
 use lib.Dec.{ltb, leb, eqb}
 use lib.IntN.{ℤ, pos, negsuc}
 use lib.ListN.{length, take, drop, getD, replicate}
-use lib.Ieee.{Float, nan, binary32, binary64, add, sub, mul, div, eq, ofInt}
+use lib.Ieee.{Float, Format, nan, binary32, binary64, add, sub, mul, div, eq, ofInt}
 use Rattle.numeric.specs.Narrow.{narrowed}
 use Rattle.common.specs.Deviation.{zero64, one64}
 use Rattle.common.specs.Lent.{over}
 use Rattle.common.specs.RangeVector.{Range, Ranges, ranges, settled, cascadeTo, overAll}
 use Rattle.trcf.specs.Lists.{lastN, lastOr, shiftIn, overwrite}
-use Rattle.trcf.specs.Types.{augments}
+use Rattle.trcf.specs.Types.{augments, gaps}
 use Rattle.trcf.specs.Transformer.{Transformer, zero32, one32, meanAt, deviationAt, fedAt, updated, transformed, inverted, invertedForecast, scales, shifts, differenceDeviations}
 use Rattle.trcf.specs.Settings.{Settings, transformer, block, dimension, waiting}
-use Rattle.trcf.specs.Calls.{Learn, Forecast, Call, shingledPoint, postProcess, drain, transform, invertExtrapolation, scale, shift, status, Facts, rows, due, given, anomalous, lookahead}
+use Rattle.trcf.specs.Calls.{Learn, Forecast, Call, shingledPoint, postProcess, drain, transform, invertExtrapolation, scale, shift, status, Facts, rows, due, newest, given, anomalous, lookahead}
 use Rattle.trcf.specs.declared.types.TransformMethod.{TransformMethod}
 use Rattle.trcf.specs.declared.types.ForestMode.{ForestMode}
 
@@ -92,13 +92,21 @@ timescale s st = add binary64 (meanAt st (5 * s .d + 4)) one64
 unfoldable pub timedrift : Settings → List Float → Float
 timedrift s st = meanAt st (5 * s .d + 3)
 
--- "the time element is timestamp − (previous × weight_time / timescale)"
+-- whole numbers "turned to f64, multiplied, divided"
+abbrev pub weighted : Settings → List Float → ℕ → Float
+weighted s st n = div binary64 (mul binary64 (ofInt binary64 (pos n)) (s .weightTime)) (timescale s st)
+
+-- "the time element is timestamp − (previous × weight_time / timescale)"; in G "(timestamp − newest time) × weight_time / timescale … subtracted as whole
+-- numbers, turned to f64, multiplied, divided and narrowed once" (request 114)
 unfoldable pub timeElement : Settings → List Float → ℕ → ℕ → Float
 timeElement s st t previous =
-    narrowed
-    (sub binary64 (ofInt binary64 (pos t)) (div binary64 (mul binary64 (ofInt binary64 (pos previous)) (s .weightTime)) (timescale s st)))
+    narrowed (cond (gaps (s .mode)) (weighted s st (t - previous)) (sub binary64 (ofInt binary64 (pos t)) (weighted s st previous)))
 
--- in TIME_AUGMENTED one number more
+-- "Turned-back gaps and the time shift omit the drift" (request 114): it is not added, so not even as 0
+abbrev pub drifted : Format → Settings → Float → Float → Float
+drifted f s x drift = cond (gaps (s .mode)) x (add f x drift)
+
+-- where the mode has a time element, one number more
 abbrev pub withTime : Settings → List Float → Float → List Float
 withTime s v x = v ++ cond (augments (s .mode)) (x ∷ []) []
 
@@ -112,6 +120,14 @@ transformedAfter s st seen p r =
 -- newest input and newest time
 unfoldable pub previous : State → Reading
 previous w = reading (lastN (w .settings .d) (w .lastShingledInput)) (lastOr 0 (w .previousTimestamps))
+
+-- the time that a point's and a transform's time element is counted from: "with row 12's newest" (request 114), otherwise the last of `tim`
+unfoldable pub timeBase : State → ℕ
+timeBase w = cond (gaps (w .settings .mode)) (newest (facts w)) (lastOr 0 (w .previousTimestamps))
+
+-- newest input and that time
+unfoldable pub preceding : State → Reading
+preceding w = reading (lastN (w .settings .d) (w .lastShingledInput)) (timeBase w)
 
 -- the waiting readings, out of the flat lists
 abbrev pub blocks : ℕ → List Float → List ℕ → List Reading
@@ -139,7 +155,7 @@ primed w r rs =
       initialTimestamps = [];
     }
 
--- drain's second pass: one reading comes into the shingles
+-- drain's second pass: one reading comes into the shingles; "in F each W's newest is the W before, the first its own" (request 114), as the last of `tim` is
 unfoldable pub drainOne : State → Reading → State
 drainOne w r =
     record {
@@ -247,11 +263,11 @@ scaleOf w =
 unfoldable pub shiftOf : State → List Float
 shiftOf w =
     withTime (w .settings) (shifts (transformer (w .settings) 0 (w .statistics)))
-    (add binary32 (ofInt binary32 (pos (lastOr 0 (w .previousTimestamps)))) (narrowed (timedrift (w .settings) (w .statistics))))
+    (drifted binary32 (w .settings) (ofInt binary32 (pos (lastOr 0 (w .previousTimestamps)))) (narrowed (timedrift (w .settings) (w .statistics))))
 
 -- `shingled_point`: the point with the transformed reading behind it
 unfoldable pub pointOf : State → Reading → List Float
-pointOf w r = shiftIn (w .lastShingledPoint) (transformedAfter (w .settings) (w .statistics) (w .valuesSeen) (previous w) r)
+pointOf w r = shiftIn (w .lastShingledPoint) (transformedAfter (w .settings) (w .statistics) (w .valuesSeen) (preceding w) r)
 
 -- ---- turn-back
 
@@ -267,7 +283,7 @@ backs a m (suc h) l = getD l m nan ∷ backs a m h (drop a l)
 unfoldable pub invertTime : Settings → List Float → Float → Float
 invertTime s st x =
     let factor = cond (eq (s .weightTime) zero32) zero64 (div binary64 one64 (s .weightTime)) in
-    add binary64 (mul binary64 (mul binary64 x factor) (timescale s st)) (timedrift s st)
+    drifted binary64 s (mul binary64 (mul binary64 x factor) (timescale s st)) (timedrift s st)
 
 -- each time turned back, its bounds put in order
 abbrev pub invertTimes : Settings → List Float → List Float → List Float → List Float → Ranges
@@ -279,7 +295,7 @@ invertTimes s st (v ∷ vs) (u ∷ us) (l ∷ ls) =
     let rest = invertTimes s st vs us ls in
     ranges (r .value ∷ rest .values) (r .upper ∷ rest .upper) (r .lower ∷ rest .lower)
 
--- "turn-back in TIME_AUGMENTED reads d × k numbers, then one time, per block, and drops a short last block"
+-- "turn-back in TIME_AUGMENTED reads d × k numbers, then one time, per block, and drops a short last block"; in G as in T
 unfoldable pub numbersOf : State → Ranges → Ranges
 numbersOf w v =
     let s = w .settings in
@@ -399,7 +415,7 @@ unfoldable pub learnAnswer : State → Learn → Option (List Float) → Learned
 learnAnswer w l none = learnedNothing l
 learnAnswer w l (some y) = learnedAnswer w l y (anomalous l) (l .expectedPoint)
 
--- STANDARD works in place; TIME_AUGMENTED writes numbers and times
+-- STANDARD works in place; a mode with a time element writes numbers and times
 unfoldable pub turnedBack : State → Forecast → Forecast
 turnedBack w c =
     cond (augments (w .settings .mode))
@@ -443,7 +459,7 @@ unfoldable pub reply : State → Call → Answer
 reply w (shingledPoint x t out) = cond (waiting (w .settings) (w .valuesSeen)) absent (wrote (over out (pointOf (drained w) (reading x t))))
 reply w (postProcess l) = learnt (cond (waiting (w .settings) (w .valuesSeen)) (heldAnswer w l) (learnAnswer w l (l .rcfPoint)))
 reply w drain = done
-reply w (transform x t out) = wrote (over out (transformedAfter (w .settings) (w .statistics) (w .valuesSeen) (previous w) (reading x t)))
+reply w (transform x t out) = wrote (over out (transformedAfter (w .settings) (w .statistics) (w .valuesSeen) (preceding w) (reading x t)))
 reply w (invertExtrapolation c) = turned (turnedBack w c)
 reply w (scale out) = wrote (over out (scaleOf w))
 reply w (shift out) = wrote (over out (shiftOf w))

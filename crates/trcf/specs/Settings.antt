@@ -13,7 +13,7 @@ use Rattle.trcf.specs.Types.{isNone, normalizes, augments}
 use Rattle.trcf.specs.Transformer.{Transformer, one32}
 use Rattle.trcf.specs.declared.types.TransformMethod.{TransformMethod}
 use Rattle.trcf.specs.declared.types.ForestMode.{ForestMode}
-use Rattle.trcf.specs.declared.types.ForestMode.the-variants.{STANDARD, «TIME_AUGMENTED», «STREAMING_IMPUTE»}
+use Rattle.trcf.specs.declared.types.ForestMode.the-variants.{STANDARD, «TIME_AUGMENTED», «STREAMING_IMPUTE», «GAP_AUGMENTED»}
 
 pub record Settings : Type 0 where
   pub mode : ForestMode
@@ -32,7 +32,7 @@ abbrev pub transformer : Settings → ℕ → List Float → Transformer
 transformer s count st =
     record { method = s .method; d = s .d; decay = s .decay; weights = s .weights; count = count; statistics = st }
 
--- the numbers in one transformed reading: in TIME_AUGMENTED one more, for the time
+-- the numbers in one transformed reading: one more where the mode has a time element
 unfoldable pub block : Settings → ℕ
 block s = s .d + cond (augments (s .mode)) 1 0
 
@@ -50,6 +50,7 @@ abbrev pub imputes : ForestMode → Bool
 imputes STANDARD = false
 imputes «TIME_AUGMENTED» = false
 imputes «STREAMING_IMPUTE» = true
+imputes «GAP_AUGMENTED» = false
 
 unfoldable pub allOne : List Float → Bool
 allOne [] = true

@@ -1,10 +1,11 @@
 -- The numbers and letters of the settings' kinds: document 01, 'Trace text'.
 use Prim.Native.Nat.{ℕ}
-use mathlib.Core.Bool.{Bool, true, false}
+use mathlib.Core.Bool.{Bool, true, false, cond}
+use lib.Dec.{eqb}
 use Rattle.trcf.specs.declared.types.TransformMethod.{TransformMethod}
 use Rattle.trcf.specs.declared.types.TransformMethod.the-variants.{NONE, WEIGHTED, DIFFERENCE, «SUBTRACT_MA», NORMALIZE, «NORMALIZE_DIFFERENCE»}
 use Rattle.trcf.specs.declared.types.ForestMode.{ForestMode}
-use Rattle.trcf.specs.declared.types.ForestMode.the-variants.{STANDARD, «TIME_AUGMENTED», «STREAMING_IMPUTE»}
+use Rattle.trcf.specs.declared.types.ForestMode.the-variants.{STANDARD, «TIME_AUGMENTED», «STREAMING_IMPUTE», «GAP_AUGMENTED»}
 
 -- "method (0 NONE, 1 WEIGHTED, 2 DIFFERENCE, 3 SUBTRACT_MA, 4 NORMALIZE, 5 NORMALIZE_DIFFERENCE)"
 abbrev pub methodNumber : TransformMethod → ℕ
@@ -15,11 +16,23 @@ methodNumber «SUBTRACT_MA» = 3
 methodNumber NORMALIZE = 4
 methodNumber «NORMALIZE_DIFFERENCE» = 5
 
--- "mode (S STANDARD, T TIME_AUGMENTED)", as a byte; row 1 refuses the third, which has no letter in a text
+-- and back; a number above 5 names none, and whoever asks has refused it
+abbrev pub methodOfNumber : ℕ → TransformMethod
+methodOfNumber n =
+    cond (eqb n 0) NONE
+    (cond (eqb n 1) WEIGHTED
+    (cond (eqb n 2) DIFFERENCE (cond (eqb n 3) «SUBTRACT_MA» (cond (eqb n 4) NORMALIZE «NORMALIZE_DIFFERENCE»))))
+
+-- "mode (S STANDARD, T TIME_AUGMENTED)", as a byte, and "letter G in `set`" (request 114); row 1 refuses STREAMING_IMPUTE, which has no letter in a text
 abbrev pub modeLetter : ForestMode → ℕ
 modeLetter STANDARD = 83
 modeLetter «TIME_AUGMENTED» = 84
 modeLetter «STREAMING_IMPUTE» = 73
+modeLetter «GAP_AUGMENTED» = 71
+
+-- and back; whatever is no letter of a text names the mode that row 1 refuses
+abbrev pub modeOfLetter : ℕ → ForestMode
+modeOfLetter n = cond (eqb n 83) STANDARD (cond (eqb n 84) «TIME_AUGMENTED» (cond (eqb n 71) «GAP_AUGMENTED» «STREAMING_IMPUTE»))
 
 abbrev pub isNone : TransformMethod → Bool
 isNone NONE = true
@@ -56,7 +69,18 @@ centres «SUBTRACT_MA» = true
 centres NORMALIZE = true
 centres «NORMALIZE_DIFFERENCE» = false
 
+-- ---- what depends on the mode
+
+-- whether a transformed reading has a time element behind the channels'
 abbrev pub augments : ForestMode → Bool
 augments STANDARD = false
 augments «TIME_AUGMENTED» = true
 augments «STREAMING_IMPUTE» = false
+augments «GAP_AUGMENTED» = true
+
+-- whether that element is the gap from the newest time, to which no drift belongs (request 114: "as in T … but")
+abbrev pub gaps : ForestMode → Bool
+gaps STANDARD = false
+gaps «TIME_AUGMENTED» = false
+gaps «STREAMING_IMPUTE» = false
+gaps «GAP_AUGMENTED» = true

@@ -13,7 +13,7 @@ use Rattle.trcf.specs.Lists.{null, lastOr, shiftIn}
 use Rattle.common.specs.Refusal.{firstOf}
 use Rattle.common.specs.Lent.{over}
 use Rattle.trcf.specs.Transformer.{zero32, one32, inverted}
-use Rattle.trcf.specs.Types.{normalizes, methodNumber, modeLetter}
+use Rattle.trcf.specs.Types.{normalizes, methodNumber, modeLetter, gaps}
 use Rattle.trcf.specs.Settings.{Settings, transformer, settingsRow, block, dimension, waiting}
 use Rattle.trcf.specs.Calls.{Learn, Call, shingledPoint, postProcess, drain, transform, invertExtrapolation, scale, shift, status, Forecast, rows, seenLimit, finite, given}
 use Rattle.trcf.specs.Preprocessor.{State, Answer, refused, absent, done, wrote, learnt, turned, told, Learned, Status, Anomaly, Reading, reading, feed, previous, deviations, blockFrom, statisticsLength, fresh, facts, change, isReady, panelOf, reply, accepted}
@@ -525,13 +525,21 @@ backOf (pos zero) = 0
 backOf (pos (suc n)) = 64
 backOf (negsuc n) = suc n
 
+-- row 12's newest, out of the head and the lent times
+abbrev pub newestOf : Preprocessor → List ℕ → List ℕ → ℕ
+newestOf h ts vt = cond (eqb (h .«internal_timestamp») 0) (lastOr 0 (take (h .«initial_len») vt)) (lastOr 0 (take (h .«shingle_size») ts))
+
+-- the time that a point's and a transform's time element is counted from
+unfoldable pub timeBaseOf : Preprocessor → List ℕ → List ℕ → ℕ
+timeBaseOf h ts vt = cond (gaps (h .«forest_mode»)) (newestOf h ts vt) (lastOr 0 (take (h .«shingle_size») ts))
+
 -- rows 10 to 12
 unfoldable pub inputRow : Preprocessor → List ℕ → List ℕ → List Float → ℕ → ℕ
 inputRow h ts vt x t =
     firstOf
     ((not (eqb (length x) (h .transformer .«input_length»)), 10)
     ∷ (not (finite x), 11)
-    ∷ (ltb t (cond (eqb (h .«internal_timestamp») 0) (lastOr 0 (take (h .«initial_len») vt)) (lastOr 0 (take (h .«shingle_size») ts))), 12)
+    ∷ (ltb t (newestOf h ts vt), 12)
     ∷ [])
 
 -- rows 18 and 20 while waiting

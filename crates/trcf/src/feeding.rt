@@ -14,7 +14,7 @@ ghost use Rattle.trcf.specs.View.{settingsOf, Bounded};
 ghost use Rattle.trcf.specs.Lengths.{whereFits, feedFits};
 
 // t − p, 0 where the lent times fall.
-fn since(t: u64, p: u64) -> u64
+pub(crate) fn since(t: u64, p: u64) -> u64
     ensures { λ r. ⌜ r ≡ t - p ⌝ }
 {
     if p <= t { t - p } else { 0 }

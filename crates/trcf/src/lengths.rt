@@ -9,7 +9,7 @@ ghost use Prim.Native.Nat.{_+_, _*_, _≤_, _<_};
 ghost use Rattle.common.specs.Deviation.{countLimit};
 ghost use Rattle.trcf.specs.Settings.{block};
 ghost use Rattle.trcf.specs.Preprocessor.{statisticsLength};
-ghost use Rattle.trcf.specs.View.{settingsOf, Bounded, Exact};
+ghost use Rattle.trcf.specs.View.{settingsOf, Bounded};
 ghost use Rattle.trcf.specs.Lengths.{within, timeFits, outputFits, transformFits, feedFits};
 
 // Whether n numbers have room.
@@ -75,12 +75,11 @@ pub(crate) fn transform_fits(
     head: Preprocessor,
     statistics: usize,
     inputs: usize,
-    times: usize,
     input: usize,
     output: usize,
 ) -> bool
-    ensures { λ r. ⌜ r ≡ transformFits (settingsOf head) statistics inputs times input output ⌝ }
-    ensures { λ r. ⌜ (r ≡ true → Bounded (settingsOf head) × Exact (settingsOf head) statistics inputs times × (input ≡ head .transformer .«input_length») × (block (settingsOf head) ≤ output)) ⌝ }
+    ensures { λ r. ⌜ r ≡ transformFits (settingsOf head) statistics inputs input output ⌝ }
+    ensures { λ r. ⌜ (r ≡ true → Bounded (settingsOf head) × (statistics ≡ statisticsLength (settingsOf head)) × (inputs ≡ head .transformer .«input_length» * head .«shingle_size») × (input ≡ head .transformer .«input_length») × (block (settingsOf head) ≤ output)) ⌝ }
 {
     let fits = output_fits(head, statistics, output);
     if !fits {
@@ -90,9 +89,6 @@ pub(crate) fn transform_fits(
     let d = t.input_length;
     let k = head.shingle_size;
     if inputs != d * k {
-        return false;
-    }
-    if times != k {
         return false;
     }
     if input != d {

@@ -1,4 +1,4 @@
-// What the calls write to lent output: the channels' numbers and, in TIME_AUGMENTED, the time's behind them.
+// What the calls write to lent output: the channels' numbers and, where the mode has a time element, the time's behind them.
 use crate::head::Preprocessor;
 use crate::lengths::output_fits;
 use crate::lengths::transform_fits;
@@ -7,7 +7,7 @@ use crate::time::previous_time;
 use crate::time::time_deviation;
 use crate::time::time_element;
 use crate::time::time_scale;
-use crate::time::timedrift_fitting;
+use crate::time::time_shift;
 use crate::transformer::difference_deviations_into;
 use crate::transformer::scale_into;
 use crate::transformer::shift_into;
@@ -15,28 +15,31 @@ use crate::transformer::transform_into;
 use crate::types::is_augmented;
 ghost use mathlib.Core.Path.{_≡_};
 ghost use mathlib.Core.List.{[]};
-ghost use Prim.Native.Nat.{_≤_};
+ghost use Prim.Native.Nat.{_*_, _≤_};
 ghost use lib.ListN.{length};
 ghost use Rattle.common.specs.Lent.{over};
 ghost use Rattle.trcf.specs.Settings.{block};
-ghost use Rattle.trcf.specs.Preprocessor.{statisticsLength, previous, reading, transformedAfter, scaleOf, shiftOf, deviations};
+ghost use Rattle.trcf.specs.Preprocessor.{statisticsLength, reading, transformedAfter, scaleOf, shiftOf, deviations};
 ghost use Rattle.trcf.specs.Lengths.{whereFits, outputFits, transformFits};
-ghost use Rattle.trcf.specs.View.{settingsOf, holding, Bounded, Exact};
+ghost use Rattle.trcf.specs.Lists.{lastN};
+ghost use Rattle.trcf.specs.View.{settingsOf, holding, Bounded};
 
+// A reading after the newest input, its time counted from `base`.
 pub(crate) fn transform_fitting(
     head: Preprocessor,
     s: &[f64],
     inputs: &[f32],
-    times: &[u64],
+    base: u64,
     input: &[f32],
     timestamp: u64,
     output: &mut [f32],
 )
     requires { ⌜ Bounded (settingsOf head) ⌝ }
-    requires { ⌜ Exact (settingsOf head) (length (now s)) (length (now inputs)) (length (now times)) ⌝ }
+    requires { ⌜ length (now s) ≡ statisticsLength (settingsOf head) ⌝ }
+    requires { ⌜ length (now inputs) ≡ head .transformer .«input_length» * head .«shingle_size» ⌝ }
     requires { ⌜ length (now input) ≡ head .transformer .«input_length» ⌝ }
     requires { ⌜ block (settingsOf head) ≤ length (now output) ⌝ }
-    ensures { λ _. ⌜ now (output .exit) ≡ over (now (output .entry)) (transformedAfter (settingsOf head) (now (s .entry)) (head .«values_seen») (previous (holding head (now (s .entry)) (now (inputs .entry)) (now (times .entry)))) (reading (now (input .entry)) timestamp)) ⌝ }
+    ensures { λ _. ⌜ now (output .exit) ≡ over (now (output .entry)) (transformedAfter (settingsOf head) (now (s .entry)) (head .«values_seen») (reading (lastN (head .transformer .«input_length») (now (inputs .entry))) base) (reading (now (input .entry)) timestamp)) ⌝ }
 {
     let t = head.transformer;
     let mode = head.forest_mode;
@@ -44,7 +47,7 @@ pub(crate) fn transform_fitting(
     let n = inputs.len();
     transform_into(t, s, input, &inputs[n - d..n], output);
     if is_augmented(mode) {
-        let p = previous_time(head, times, timestamp);
+        let p = previous_time(head, base, timestamp);
         output[d] = time_element(head, s, timestamp, p);
     }
 }
@@ -54,22 +57,15 @@ pub fn write_transform(
     head: Preprocessor,
     s: &[f64],
     inputs: &[f32],
-    times: &[u64],
+    base: u64,
     input: &[f32],
     timestamp: u64,
     output: &mut [f32],
 )
-    ensures { λ _. ⌜ now (output .exit) ≡ whereFits (transformFits (settingsOf head) (length (now (s .entry))) (length (now (inputs .entry))) (length (now (times .entry))) (length (now (input .entry))) (length (now (output .entry)))) (over (now (output .entry)) (transformedAfter (settingsOf head) (now (s .entry)) (head .«values_seen») (previous (holding head (now (s .entry)) (now (inputs .entry)) (now (times .entry)))) (reading (now (input .entry)) timestamp))) (now (output .entry)) ⌝ }
+    ensures { λ _. ⌜ now (output .exit) ≡ whereFits (transformFits (settingsOf head) (length (now (s .entry))) (length (now (inputs .entry))) (length (now (input .entry))) (length (now (output .entry)))) (over (now (output .entry)) (transformedAfter (settingsOf head) (now (s .entry)) (head .«values_seen») (reading (lastN (head .transformer .«input_length») (now (inputs .entry))) base) (reading (now (input .entry)) timestamp))) (now (output .entry)) ⌝ }
 {
-    if transform_fits(
-        head,
-        s.len(),
-        inputs.len(),
-        times.len(),
-        input.len(),
-        output.len(),
-    ) {
-        transform_fitting(head, s, inputs, times, input, timestamp, output);
+    if transform_fits(head, s.len(), inputs.len(), input.len(), output.len()) {
+        transform_fitting(head, s, inputs, base, input, timestamp, output);
     }
 }
 
@@ -108,8 +104,7 @@ pub(crate) fn shift_fitting(head: Preprocessor, s: &[f64], times: &[u64], output
     let d = t.input_length;
     shift_into(t, s, output);
     if is_augmented(mode) {
-        let newest = numeric::u64_to_f32(last_time(times));
-        output[d] = newest + numeric::to_f32(timedrift_fitting(head, s));
+        output[d] = time_shift(head, s, last_time(times));
     }
 }
 

@@ -1,6 +1,6 @@
 // The kinds that the settings name, under the source's names (trcf/types.rs).
 ghost use mathlib.Core.Path.{_≡_};
-ghost use Rattle.trcf.specs.Types.{isNone, normalizes, differences, centres, augments};
+ghost use Rattle.trcf.specs.Types.{methodNumber, methodOfNumber, modeLetter, modeOfLetter, isNone, normalizes, differences, centres, augments, gaps};
 
 pub enum TransformMethod {
     NONE,
@@ -15,7 +15,74 @@ pub enum ForestMode {
     STANDARD,
     TIME_AUGMENTED,
     STREAMING_IMPUTE,
+    GAP_AUGMENTED,
 }
+
+// ---- numbers and letters, in texts and at every border
+
+pub fn method_number(m: TransformMethod) -> u64
+    ensures { λ r. ⌜ r ≡ methodNumber m ⌝ }
+{
+    match m {
+        TransformMethod::NONE => 0,
+        TransformMethod::WEIGHTED => 1,
+        TransformMethod::DIFFERENCE => 2,
+        TransformMethod::SUBTRACT_MA => 3,
+        TransformMethod::NORMALIZE => 4,
+        TransformMethod::NORMALIZE_DIFFERENCE => 5,
+    }
+}
+
+// A number above 5 names none: whoever asks refuses it beforehand.
+pub fn method_of_number(n: u64) -> TransformMethod
+    ensures { λ r. ⌜ r ≡ methodOfNumber n ⌝ }
+{
+    if n == 0 {
+        return TransformMethod::NONE;
+    }
+    if n == 1 {
+        return TransformMethod::WEIGHTED;
+    }
+    if n == 2 {
+        return TransformMethod::DIFFERENCE;
+    }
+    if n == 3 {
+        return TransformMethod::SUBTRACT_MA;
+    }
+    if n == 4 {
+        return TransformMethod::NORMALIZE;
+    }
+    TransformMethod::NORMALIZE_DIFFERENCE
+}
+
+pub fn mode_letter(m: ForestMode) -> u8
+    ensures { λ r. ⌜ r ≡ modeLetter m ⌝ }
+{
+    match m {
+        ForestMode::STANDARD => 83,
+        ForestMode::TIME_AUGMENTED => 84,
+        ForestMode::STREAMING_IMPUTE => 73,
+        ForestMode::GAP_AUGMENTED => 71,
+    }
+}
+
+// What is no letter names the mode that row 1 refuses.
+pub fn mode_of_letter(letter: u64) -> ForestMode
+    ensures { λ r. ⌜ r ≡ modeOfLetter letter ⌝ }
+{
+    if letter == 83 {
+        return ForestMode::STANDARD;
+    }
+    if letter == 84 {
+        return ForestMode::TIME_AUGMENTED;
+    }
+    if letter == 71 {
+        return ForestMode::GAP_AUGMENTED;
+    }
+    ForestMode::STREAMING_IMPUTE
+}
+
+// ---- what the kinds ask for
 
 pub fn is_none(m: TransformMethod) -> bool
     ensures { λ r. ⌜ r ≡ isNone m ⌝ }
@@ -72,6 +139,7 @@ pub(crate) fn is_centring(m: TransformMethod) -> bool
     }
 }
 
+// Whether a transformed reading has a time element.
 pub fn is_augmented(m: ForestMode) -> bool
     ensures { λ r. ⌜ r ≡ augments m ⌝ }
 {
@@ -79,5 +147,18 @@ pub fn is_augmented(m: ForestMode) -> bool
         ForestMode::STANDARD => false,
         ForestMode::TIME_AUGMENTED => true,
         ForestMode::STREAMING_IMPUTE => false,
+        ForestMode::GAP_AUGMENTED => true,
+    }
+}
+
+// Whether the time element is a gap, to which no drift belongs.
+pub fn is_gap(m: ForestMode) -> bool
+    ensures { λ r. ⌜ r ≡ gaps m ⌝ }
+{
+    match m {
+        ForestMode::STANDARD => false,
+        ForestMode::TIME_AUGMENTED => false,
+        ForestMode::STREAMING_IMPUTE => false,
+        ForestMode::GAP_AUGMENTED => true,
     }
 }

@@ -7,6 +7,7 @@ use trcf::output::write_deviations;
 use trcf::output::write_scale;
 use trcf::output::write_shift;
 use trcf::output::write_transform;
+use trcf::time::time_base;
 use trcf::types::ForestMode;
 use trcf::types::TransformMethod;
 use trcf_rows::rows::is_misfit;
@@ -42,6 +43,7 @@ pub fn transform(
         initial_values,
         initial_timestamps,
         input,
+        timestamp,
         output,
     );
     if row != 0 {
@@ -50,11 +52,12 @@ pub fn transform(
     let t = head.transformer;
     let d = t.input_length;
     let k = head.shingle_size;
+    let base = time_base(head, previous_timestamps, initial_timestamps);
     write_transform(
         head,
         &statistics[..3 * (5 * d + 5)],
         &last_shingled_input[..d * k],
-        &previous_timestamps[..k],
+        base,
         input,
         timestamp,
         output,

@@ -12,15 +12,16 @@ use trcf::transformer::invert_forecast_in_place;
 use trcf::types::TransformMethod;
 use trcf::types::is_augmented;
 use trcf::types::is_differencing;
+use trcf::types::is_gap;
 ghost use mathlib.Core.Path.{_≡_};
 ghost use mathlib.Core.Bool.{true, false, _&&_};
 ghost use mathlib.Core.List.{[], _∷_};
 ghost use Prim.Native.Nat.{_*_, _≤_, _<_};
 ghost use lib.IntN.{pos};
 ghost use lib.ListN.{length};
-ghost use lib.Ieee.{binary64, ofInt};
+ghost use lib.Ieee.{binary64, mul, ofInt};
 ghost use Rattle.common.specs.Refusal.{firstOf};
-ghost use Rattle.common.specs.RangeVector.{range, ranges, unblocked, cascadeTo, overAll};
+ghost use Rattle.common.specs.RangeVector.{range, ranges, scaled, unblocked, cascadeTo, overAll};
 ghost use Rattle.trcf.specs.Lists.{lastN};
 ghost use Rattle.trcf.specs.Types.{augments, differences};
 ghost use Rattle.trcf.specs.Transformer.{invertedForecast};
@@ -281,10 +282,33 @@ fn stretch(factor: f64, scale: f64, x: f32) -> f64
     numeric::to_f64(x) * factor * scale
 }
 
-// A time with its bounds; the shift puts them in order.
-fn invert_time(factor: f64, scale: f64, drift: f64, value: f32, upper: f32, lower: f32) -> Range64
-    ensures { λ r. ⌜ range (r .value) (r .upper) (r .lower) ≡ timeBy factor scale drift (range value upper lower) ⌝ }
+// A gap with its bounds, to which no drift belongs; the scale puts them in order.
+fn invert_gap(factor: f64, scale: f64, value: f32, upper: f32, lower: f32) -> Range64
+    ensures { λ r. ⌜ range (r .value) (r .upper) (r .lower) ≡ scaled binary64 (range (mul binary64 value factor) (mul binary64 upper factor) (mul binary64 lower factor)) scale ⌝ }
 {
+    let r = Range64 {
+        value: numeric::to_f64(value) * factor,
+        upper: numeric::to_f64(upper) * factor,
+        lower: numeric::to_f64(lower) * factor,
+    };
+    r.scale(scale)
+}
+
+// A time with its bounds; the shift puts them in order.
+fn invert_time(
+    gap: bool,
+    factor: f64,
+    scale: f64,
+    drift: f64,
+    value: f32,
+    upper: f32,
+    lower: f32,
+) -> Range64
+    ensures { λ r. ⌜ range (r .value) (r .upper) (r .lower) ≡ timeBy gap factor scale drift (range value upper lower) ⌝ }
+{
+    if gap {
+        return invert_gap(factor, scale, value, upper, lower);
+    }
     let r = Range64 {
         value: stretch(factor, scale, value),
         upper: stretch(factor, scale, upper),
@@ -295,6 +319,7 @@ fn invert_time(factor: f64, scale: f64, drift: f64, value: f32, upper: f32, lowe
 
 // The time behind the first m numbers of each block of a.
 fn write_times(
+    gap: bool,
     factor: f64,
     scale: f64,
     drift: f64,
@@ -311,13 +336,13 @@ fn write_times(
     requires { ⌜ (length (now «upper_out») ≡ length (now «values_out»)) × (length (now «lower_out») ≡ length (now «values_out»)) ⌝ }
     requires { ⌜ (length (now «values_out») * a ≤ length (now values)) × (length (now «values_out») * a ≤ length (now upper)) × (length (now «values_out») * a ≤ length (now lower)) ⌝ }
     ensures { λ _. ⌜ ranges (now («values_out» .exit)) (now («upper_out» .exit)) (now («lower_out» .exit))
-        ≡ timesBy factor scale drift a m (ranges (now (values .entry)) (now (upper .entry)) (now (lower .entry))) (length (now («values_out» .entry))) ⌝ }
+        ≡ timesBy gap factor scale drift a m (ranges (now (values .entry)) (now (upper .entry)) (now (lower .entry))) (length (now («values_out» .entry))) ⌝ }
 {
     let n = values_out.len();
     let mut i = 0;
     while i < n {
         let at = i * a + m;
-        let r = invert_time(factor, scale, drift, values[at], upper[at], lower[at]);
+        let r = invert_time(gap, factor, scale, drift, values[at], upper[at], lower[at]);
         values_out[i] = r.value;
         upper_out[i] = r.upper;
         lower_out[i] = r.lower;
@@ -352,13 +377,16 @@ fn invert_times(
         (backs (dimension (settingsOf head)) (head .transformer .«input_length» * head .«shingle_size») (length (now («values_out» .entry))) (now (lower .entry)))) ⌝ }
 {
     let t = head.transformer;
+    let mode = head.forest_mode;
     let d = t.input_length;
     let m = d * head.shingle_size;
     let a = get_dimension(head);
+    let gap = is_gap(mode);
     let factor = time_factor(head.weight_time);
     let scale = timescale_of(head, s);
     let drift = timedrift_of(head, s);
     write_times(
+        gap,
         factor,
         scale,
         drift,
@@ -375,7 +403,7 @@ fn invert_times(
     cascaded_add_f64(values_out, upper_out, lower_out, &base);
 }
 
-// TIME_AUGMENTED: numbers and times to the front of the lists lent for them.
+// A mode with a time element: numbers and times to the front of the lists lent for them.
 fn invert_augmented(
     head: Preprocessor,
     s: &[f64],
@@ -483,7 +511,7 @@ fn invert_accepted(
     }
 }
 
-// In STANDARD the forecast is turned back in place; in TIME_AUGMENTED numbers and times go to the six outputs.
+// In STANDARD the forecast is turned back in place; in a mode with a time element numbers and times go to the six outputs.
 pub fn invert_extrapolation(
     head: Preprocessor,
     statistics: &[f64],

@@ -8,6 +8,7 @@ use trcf::output::write_transform;
 use trcf::shingle::copy_in;
 use trcf::shingle::shift_time;
 use trcf::shingle::shift_vector;
+use trcf::time::last_time;
 use trcf::transformer::WeightedTransformer;
 use trcf_rows::rows::drain_row;
 use trcf_rows::rows::is_due;
@@ -94,7 +95,16 @@ fn drain_turn(
     let b = block_of(mode, d);
     let y = stamps[i];
     let mut z = [0.0f32; 17];
-    write_transform(head, s, inputs, times, &values[i * d..i * d + d], y, &mut z);
+    let before = last_time(times);
+    write_transform(
+        head,
+        s,
+        inputs,
+        before,
+        &values[i * d..i * d + d],
+        y,
+        &mut z,
+    );
     shift_vector(inputs, &values[i * d..i * d + d]);
     shift_vector(points, &z[..b]);
     shift_time(times, y);

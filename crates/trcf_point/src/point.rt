@@ -7,24 +7,25 @@ use trcf::head::get_dimension;
 use trcf::output::write_transform;
 use trcf::shingle::copy_in;
 use trcf::shingle::shift_vector;
+use trcf::time::time_base;
 use trcf_rows::rows::is_waiting;
 use trcf_rows::rows::shingled_point_row;
 ghost use mathlib.Core.Path.{_≡_};
-ghost use mathlib.Core.List.{[]};
 ghost use Prim.Native.Nat.{_*_, _≤_};
-ghost use lib.ListN.{length};
+ghost use lib.ListN.{length, take};
 ghost use Rattle.common.specs.Lent.{over};
 ghost use Rattle.trcf.specs.Settings.{dimension};
-ghost use Rattle.trcf.specs.Preprocessor.{statisticsLength, reading, pointOf};
-ghost use Rattle.trcf.specs.View.{settingsOf, view, lent, Bounded, pointed, pointAfter};
+ghost use Rattle.trcf.specs.Lists.{lastN, shiftIn};
+ghost use Rattle.trcf.specs.Preprocessor.{statisticsLength, reading, transformedAfter};
+ghost use Rattle.trcf.specs.View.{settingsOf, lent, Bounded, pointed, pointAfter};
 
-// The point with the transformed reading behind it.
+// The point with the transformed reading behind it, its time counted from `base`.
 pub(crate) fn write_point(
     head: Preprocessor,
     statistics: &[f64],
     last_shingled_input: &[f32],
     last_shingled_point: &[f32],
-    previous_timestamps: &[u64],
+    base: u64,
     input: &[f32],
     timestamp: u64,
     output: &mut [f32],
@@ -33,10 +34,12 @@ pub(crate) fn write_point(
     requires { ⌜ statisticsLength (settingsOf head) ≤ length (now statistics) ⌝ }
     requires { ⌜ head .transformer .«input_length» * head .«shingle_size» ≤ length (now «last_shingled_input») ⌝ }
     requires { ⌜ dimension (settingsOf head) ≤ length (now «last_shingled_point») ⌝ }
-    requires { ⌜ head .«shingle_size» ≤ length (now «previous_timestamps») ⌝ }
     requires { ⌜ length (now input) ≡ head .transformer .«input_length» ⌝ }
     requires { ⌜ dimension (settingsOf head) ≤ length (now output) ⌝ }
-    ensures { λ _. ⌜ now (output .exit) ≡ over (now (output .entry)) (pointOf (view head (lent (now (statistics .entry)) (now («last_shingled_input» .entry)) (now («last_shingled_point» .entry)) (now («previous_timestamps» .entry)) [] [])) (reading (now (input .entry)) timestamp)) ⌝ }
+    ensures { λ _. ⌜ now (output .exit) ≡ over (now (output .entry)) (shiftIn (take (dimension (settingsOf head)) (now («last_shingled_point» .entry)))
+        (transformedAfter (settingsOf head) (take (statisticsLength (settingsOf head)) (now (statistics .entry))) (head .«values_seen»)
+        (reading (lastN (head .transformer .«input_length») (take (head .transformer .«input_length» * head .«shingle_size») (now («last_shingled_input» .entry)))) base)
+        (reading (now (input .entry)) timestamp))) ⌝ }
 {
     let t = head.transformer;
     let mode = head.forest_mode;
@@ -49,7 +52,7 @@ pub(crate) fn write_point(
         head,
         &statistics[..3 * (5 * d + 5)],
         &last_shingled_input[..d * k],
-        &previous_timestamps[..k],
+        base,
         input,
         timestamp,
         &mut z,
@@ -81,6 +84,7 @@ pub fn shingled_point(
         initial_values,
         initial_timestamps,
         input,
+        timestamp,
         output,
     );
     if row != 0 {
@@ -108,12 +112,13 @@ pub fn shingled_point(
         fed,
         initial_timestamps,
     );
+    let base = time_base(next, previous_timestamps, initial_timestamps);
     write_point(
         next,
         statistics,
         last_shingled_input,
         last_shingled_point,
-        previous_timestamps,
+        base,
         input,
         timestamp,
         output,

@@ -1,5 +1,6 @@
 // Which row refuses a post_process, 0 for none. Nothing here writes.
 use crate::rows::all_finite;
+use crate::rows::first_row;
 use crate::rows::is_waiting;
 use crate::rows::lent_row;
 use common::deviation::COUNT_LIMIT;
@@ -8,16 +9,13 @@ use trcf::head::SEEN_LIMIT;
 use trcf::head::block_of;
 use trcf::head::get_dimension;
 use trcf::head::head_row;
-use trcf::shingle::last_of;
+use trcf::time::newest_of;
 ghost use mathlib.Core.Path.{_≡_};
-ghost use mathlib.Core.Bool.{cond, not, _&&_, _||_};
-ghost use mathlib.Core.List.{[], _∷_};
+ghost use mathlib.Core.Bool.{not, _&&_, _||_};
 ghost use lib.Dec.{ltb, leb, eqb};
 ghost use lib.Ieee.{lt};
-ghost use lib.ListN.{length, take};
+ghost use lib.ListN.{length};
 ghost use Rattle.common.specs.Deviation.{countLimit};
-ghost use Rattle.common.specs.Refusal.{firstOf};
-ghost use Rattle.trcf.specs.Lists.{lastOr};
 ghost use Rattle.trcf.specs.Transformer.{zero32};
 ghost use Rattle.trcf.specs.Calls.{seenLimit, postProcess};
 ghost use Rattle.trcf.specs.View.{settingsOf, rowOf, lent, learnCall, backOf, inputRow, waitingRow, learnRow, learningRow, Bounded, Ready};
@@ -31,32 +29,6 @@ pub fn places_back(relative_index: i32) -> usize
     }
     let wide = relative_index as i64;
     (0 - wide) as usize
-}
-
-// The time that none may come before.
-fn newest_of(head: Preprocessor, previous_timestamps: &[u64], initial_timestamps: &[u64]) -> u64
-    ensures { λ r. ⌜ r ≡ cond (eqb (head .«internal_timestamp») 0) (lastOr 0 (take (head .«initial_len») (now («initial_timestamps» .entry)))) (lastOr 0 (take (head .«shingle_size») (now («previous_timestamps» .entry)))) ⌝ }
-{
-    let internal = head.internal_timestamp;
-    let n = head.initial_len;
-    let k = head.shingle_size;
-    if internal == 0 {
-        return last_of(initial_timestamps, n);
-    }
-    last_of(previous_timestamps, k)
-}
-
-// The first of two rows whose test holds, 0 where neither does.
-fn first_row(a: bool, row_a: u64, b: bool, row_b: u64) -> u64
-    ensures { λ r. ⌜ r ≡ firstOf ((a, «row_a») ∷ (b, «row_b») ∷ []) ⌝ }
-{
-    if a {
-        return row_a;
-    }
-    if b {
-        return row_b;
-    }
-    0
 }
 
 // Rows 10 to 12.

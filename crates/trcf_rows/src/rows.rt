@@ -8,8 +8,10 @@ use trcf::head::block_of;
 use trcf::head::get_dimension;
 use trcf::head::head_row;
 use trcf::head::initial_room;
+use trcf::time::newest_of;
 use trcf::transformer::weights_refused;
 use trcf::types::ForestMode;
+use trcf::types::is_gap;
 use trcf::types::is_normalizing;
 ghost use mathlib.Core.Path.{_≡_};
 ghost use mathlib.Core.Bool.{not, false, _&&_, _||_};
@@ -19,19 +21,23 @@ ghost use lib.Dec.{ltb, eqb};
 ghost use lib.ListN.{length, take};
 ghost use lib.Ieee.{Float};
 ghost use Rattle.common.specs.Deviation.{countLimit};
+ghost use Rattle.common.specs.Refusal.{firstOf};
 ghost use Rattle.trcf.specs.Lists.{null};
+ghost use Rattle.trcf.specs.Types.{gaps};
 ghost use Rattle.trcf.specs.Settings.{imputes, waiting, settingsRow, block};
 ghost use Rattle.trcf.specs.Calls.{seenLimit, finite, due, drainFull, scale, transform, drain, shingledPoint};
 ghost use Rattle.trcf.specs.Preprocessor.{facts};
-ghost use Rattle.trcf.specs.View.{settingsOf, settingsFrom, view, leftOver, misfit, outsideRow, headRow, orElse, lentRow, shortRow, rowOf, pastRow, lent, Bounded, Accepted, Roomy, Fitted, Ready, Pointing};
+ghost use Rattle.trcf.specs.View.{settingsOf, settingsFrom, view, leftOver, misfit, outsideRow, headRow, orElse, lentRow, shortRow, rowOf, pastRow, lent, newestOf, Bounded, Accepted, Roomy, Fitted, Ready, Pointing};
 
-fn is_imputing(m: ForestMode) -> bool
+// The mode that row 1 refuses, which no letter of a text names.
+pub fn is_imputing(m: ForestMode) -> bool
     ensures { λ r. ⌜ r ≡ imputes m ⌝ }
 {
     match m {
         ForestMode::STANDARD => false,
         ForestMode::TIME_AUGMENTED => false,
         ForestMode::STREAMING_IMPUTE => true,
+        ForestMode::GAP_AUGMENTED => false,
     }
 }
 
@@ -342,6 +348,35 @@ pub fn write_row(
     )
 }
 
+// The first of two rows whose test holds, 0 where neither does.
+pub(crate) fn first_row(a: bool, row_a: u64, b: bool, row_b: u64) -> u64
+    ensures { λ r. ⌜ r ≡ firstOf ((a, «row_a») ∷ (b, «row_b») ∷ []) ⌝ }
+{
+    if a {
+        return row_a;
+    }
+    if b {
+        return row_b;
+    }
+    0
+}
+
+// Row 28: whether a gap would reach back, past the newest time.
+fn is_behind(
+    head: Preprocessor,
+    previous_timestamps: &[u64],
+    initial_timestamps: &[u64],
+    timestamp: u64,
+) -> bool
+    ensures { λ r. ⌜ r ≡ gaps (head .«forest_mode») && ltb timestamp (newestOf head (now («previous_timestamps» .entry)) (now («initial_timestamps» .entry))) ⌝ }
+{
+    let mode = head.forest_mode;
+    if is_gap(mode) {
+        return timestamp < newest_of(head, previous_timestamps, initial_timestamps);
+    }
+    false
+}
+
 pub fn transform_row(
     head: Preprocessor,
     statistics: &[f64],
@@ -351,9 +386,10 @@ pub fn transform_row(
     initial_values: &[f32],
     initial_timestamps: &[u64],
     input: &[f32],
+    timestamp: u64,
     output: &[f32],
 ) -> u64
-    ensures { λ r. ⌜ ((t : ℕ) → r ≡ rowOf head (lent (now (statistics .entry)) (now («last_shingled_input» .entry)) (now («last_shingled_point» .entry)) (now («previous_timestamps» .entry)) (now («initial_values» .entry)) (now («initial_timestamps» .entry))) (transform (now (input .entry)) t (now (output .entry)))) ⌝ }
+    ensures { λ r. ⌜ r ≡ rowOf head (lent (now (statistics .entry)) (now («last_shingled_input» .entry)) (now («last_shingled_point» .entry)) (now («previous_timestamps» .entry)) (now («initial_values» .entry)) (now («initial_timestamps» .entry))) (transform (now (input .entry)) timestamp (now (output .entry))) ⌝ }
     ensures { λ r. ⌜ (r ≡ 0 → Ready head (lent (now (statistics .entry)) (now («last_shingled_input» .entry)) (now («last_shingled_point» .entry)) (now («previous_timestamps» .entry)) (now («initial_values» .entry)) (now («initial_timestamps» .entry)))) ⌝ }
     ensures { λ r. ⌜ (r ≡ 0 → length (now (input .entry)) ≡ head .transformer .«input_length») ⌝ }
     ensures { λ r. ⌜ (r ≡ 0 → block (settingsOf head) ≤ length (now (output .entry))) ⌝ }
@@ -366,6 +402,9 @@ pub fn transform_row(
     let d = t.input_length;
     if input.len() != d {
         return 10;
+    }
+    if is_behind(head, previous_timestamps, initial_timestamps, timestamp) {
+        return 28;
     }
     let mode = head.forest_mode;
     let n = block_of(mode, d);
@@ -495,9 +534,10 @@ pub fn shingled_point_row(
     initial_values: &[f32],
     initial_timestamps: &[u64],
     input: &[f32],
+    timestamp: u64,
     output: &[f32],
 ) -> u64
-    ensures { λ r. ⌜ ((t : ℕ) → r ≡ rowOf head (lent (now (statistics .entry)) (now («last_shingled_input» .entry)) (now («last_shingled_point» .entry)) (now («previous_timestamps» .entry)) (now («initial_values» .entry)) (now («initial_timestamps» .entry))) (shingledPoint (now (input .entry)) t (now (output .entry)))) ⌝ }
+    ensures { λ r. ⌜ r ≡ rowOf head (lent (now (statistics .entry)) (now («last_shingled_input» .entry)) (now («last_shingled_point» .entry)) (now («previous_timestamps» .entry)) (now («initial_values» .entry)) (now («initial_timestamps» .entry))) (shingledPoint (now (input .entry)) timestamp (now (output .entry))) ⌝ }
     ensures { λ r. ⌜ (r ≡ 0 → Ready head (lent (now (statistics .entry)) (now («last_shingled_input» .entry)) (now («last_shingled_point» .entry)) (now («previous_timestamps» .entry)) (now («initial_values» .entry)) (now («initial_timestamps» .entry)))) ⌝ }
     ensures { λ r. ⌜ (r ≡ 0 → Pointing head (lent (now (statistics .entry)) (now («last_shingled_input» .entry)) (now («last_shingled_point» .entry)) (now («previous_timestamps» .entry)) (now («initial_values» .entry)) (now («initial_timestamps» .entry))) (length (now (input .entry))) (length (now (output .entry)))) ⌝ }
 {
@@ -509,8 +549,11 @@ pub fn shingled_point_row(
     if input.len() != t.input_length {
         return 10;
     }
-    if !all_finite(input) {
-        return 11;
+    let unfit = !all_finite(input);
+    let behind = is_behind(head, previous_timestamps, initial_timestamps, timestamp);
+    let row = first_row(unfit, 11, behind, 28);
+    if row != 0 {
+        return row;
     }
     let row = past_row(head, initial_timestamps, output.len());
     if row != 0 {

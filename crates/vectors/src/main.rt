@@ -101,6 +101,7 @@ fn main() {
     replay_preprocessor(b"preprocessor_1");
     replay_preprocessor(b"preprocessor_6");
     replay_preprocessor(b"preprocessor_far");
+    replay_preprocessor(b"preprocessor_gap");
     replay_texts(b"texts_1");
     replay_texts(b"texts_2");
     replay_texts(b"texts_3");
@@ -108,4 +109,5 @@ fn main() {
     replay_texts(b"texts_5");
     replay_texts(b"texts_6");
     replay_texts(b"texts_far");
+    replay_texts(b"texts_gap");
 }

@@ -21,6 +21,7 @@ use snapshot::restore::restore;
 use snapshot_save::save::save;
 use trcf::head::Preprocessor;
 use trcf::types::ForestMode;
+use trcf::types::is_augmented;
 ghost use mathlib.Core.Path.{_≡_};
 ghost use Prim.Native.Nat.{_<_, _≤_};
 ghost use lib.ListN.{length};
@@ -191,10 +192,7 @@ fn product(a: usize, b: usize) -> usize {
 }
 
 fn width(mode: ForestMode, d: usize) -> usize {
-    match mode {
-        ForestMode::TIME_AUGMENTED => d % 128 + 1,
-        _ => d,
-    }
+    if is_augmented(mode) { d % 128 + 1 } else { d }
 }
 
 fn rest_f32(xs: &[f32], n: usize) -> bool {

@@ -4,17 +4,17 @@ use borrow.Author.Needs.{needs}
 use Rattle.bench_core.proofs.step.builder_from.Statement.{statement}
 use Rattle.bench_core.proofs.step.builder_from.Tie as tie
 
-array-read-mode-from : tie.Need-array-read-mode-from
-array-read-mode-from c = search needs
+array-read-mode-of-letter : tie.Need-array-read-mode-of-letter
+array-read-mode-of-letter c = search needs
 
-mode-from-requires : tie.Need-mode-from-requires
-mode-from-requires c κs = search needs
+mode-of-letter-requires : tie.Need-mode-of-letter-requires
+mode-of-letter-requires c κs = search needs
 
-array-read-method-from : tie.Need-array-read-method-from
-array-read-method-from c = search needs
+array-read-method-of-number : tie.Need-array-read-method-of-number
+array-read-method-of-number c = search needs
 
-method-from-requires : tie.Need-method-from-requires
-method-from-requires c κs = search needs
+method-of-number-requires : tie.Need-method-of-number-requires
+method-of-number-requires c κs = search needs
 
 array-read-t14 : tie.Need-array-read-t14
 array-read-t14 c = search needs
@@ -33,16 +33,16 @@ array-read-t30 c = search needs
 
 returns : tie.Need-returns
 unfolding builderFrom
-returns c = rw (c .before .mode-from .ensures, c .method-from .ensures)
+returns c = rw (c .before .mode-of-letter .ensures, c .method-of-number .ensures)
 
 pub builder-from-spec : {M : Type 1} → statement M
 builder-from-spec =
     tie.close
     (tie.spec
-    array-read-mode-from
-    mode-from-requires
-    array-read-method-from
-    method-from-requires
+    array-read-mode-of-letter
+    mode-of-letter-requires
+    array-read-method-of-number
+    method-of-number-requires
     array-read-t14
     array-read-t18
     array-read-t22

@@ -28,14 +28,10 @@ returns-3 c = (rw (sym (c .before .before .before .before .output-fits .ensures 
 
 returns-4 : tie.Need-returns-4
 unfolding transformFits
-returns-4 c = (rw (sym (c .before .before .before .before .before .output-fits .ensures .0) ∙ not-false _ (c .before .before .before .before .if1 .left), eq-eqb _ _ (c .before .before .if2 .left), eq-eqb _ _ (c .before .if3 .left), ne-eqb _ _ (c .if4 .taken)), λ e. absurd (true-false (sym e)))
-
-returns-5 : tie.Need-returns-5
-unfolding transformFits
-returns-5 c = (
-  rw (sym (c .before .before .before .before .before .output-fits .ensures .0) ∙ not-false _ (c .before .before .before .before .if1 .left), eq-eqb _ _ (c .before .before .if2 .left), eq-eqb _ _ (c .before .if3 .left), eq-eqb _ _ (c .if4 .left)),
-  λ e. let f = c .before .before .before .before .before .output-fits .ensures .1 (not-false _ (c .before .before .before .before .if1 .left)) in (f .0, record { all-statistics = f .1; all-input = c .before .before .if2 .left; all-times = c .before .if3 .left }, c .if4 .left, f .2),
+returns-4 c = (
+  rw (sym (c .before .before .before .before .output-fits .ensures .0) ∙ not-false _ (c .before .before .before .if1 .left), eq-eqb _ _ (c .before .if2 .left), eq-eqb _ _ (c .if3 .left)),
+  λ e. let f = c .before .before .before .before .output-fits .ensures .1 (not-false _ (c .before .before .before .if1 .left)) in (f .0, f .1, c .before .if2 .left, c .if3 .left, f .2),
 )
 
 pub transform-fits-spec : {M : Type 1} → statement M
-transform-fits-spec = tie.close (tie.spec output-fits-requires returns mul-if2 returns-2 returns-3 returns-4 returns-5)
+transform-fits-spec = tie.close (tie.spec output-fits-requires returns mul-if2 returns-2 returns-3 returns-4)

@@ -22,20 +22,17 @@ is-augmented-requires c κs = tt
 last-time-requires : tie.Need-last-time-requires
 last-time-requires c κs = tt
 
-u64-to-f32-requires : tie.Need-u64-to-f32-requires
-u64-to-f32-requires c κs = search needs
-
-timedrift-fitting-requires : tie.Need-timedrift-fitting-requires
-timedrift-fitting-requires c κs = search needs
-
-to-f32-requires : tie.Need-to-f32-requires
-to-f32-requires c κs = search needs
+time-shift-requires : tie.Need-time-shift-requires
+time-shift-requires c κs = search needs
 
 mul-output : tie.Need-mul-output
 mul-output c = omega arith
 
 slice-write-output : tie.Need-slice-write-output
-slice-write-output c = let b = block-augmented (settingsOf (c .before .before .before .before .before .before .before .before .before .before .before .before .before .before .args .head)) (sym (c .before .before .before .before .before .is-augmented .ensures) ∙ c .before .before .before .before .if1 .taken) in omega (arith, c .before .before .before .before .before .before .before .before .shift-into .kept, c .before .before .before .before .before .before .before .before .before .before .before .before .before .before .pre)
+slice-write-output c =
+    let c8 = c .before .before .before .before .before .before .before .before in
+    let b = block-augmented (settingsOf (c8 .before .before .before .before .args .head)) (sym (c .before .before .before .is-augmented .ensures) ∙ c .before .before .if1 .taken) in
+    omega (arith, c .before .before .before .before .before .before .shift-into .kept, c8 .before .before .before .before .pre)
 
 same-length : tie.Need-same-length
 same-length c = search needs
@@ -43,11 +40,13 @@ same-length c = search needs
 returns : tie.Need-returns
 unfolding shiftOf
 returns c =
-    let a = c .before .before .before .before .before .before .before .before .before .before .before .before .before .before .args in
-    let g = sym (c .before .before .before .before .before .is-augmented .ensures) ∙ c .before .before .before .before .if1 .taken in
+    let c8 = c .before .before .before .before .before .before .before .before in
+    let a = c8 .before .before .before .before .args in
+    let g = sym (c .before .before .before .is-augmented .ensures) ∙ c .before .before .if1 .taken in
     let b = block-augmented (settingsOf (a .head)) g in
-    let h : a .head .transformer .«input_length» < length (a .output .now) = omega (arith, c .before .before .before .before .before .before .before .before .before .before .before .before .before .before .pre) in
-    rw (c .before .before .before .before .before .before .before .before .shift-into .ensures, c .before .before .u64-to-f32 .ensures, c .before .before .before .last-time .ensures, c .to-f32 .ensures, c .before .timedrift-fitting .ensures) (timed (settingsOf (a .head)) (a .output .now) _ _ _ (shifts-free (a .head) (a .s .now)) (shifts-length _) g h)
+    let h : a .head .transformer .«input_length» < length (a .output .now) = omega (arith, c8 .before .before .before .before .pre) in
+    rw (c .before .before .before .before .before .before .shift-into .ensures, c .time-shift .ensures, c .before .last-time .ensures)
+    (timed (settingsOf (a .head)) (a .output .now) _ _ _ (shifts-free (a .head) (a .s .now)) (shifts-length _) g h)
 
 same-length-2 : tie.Need-same-length-2
 same-length-2 c = search needs
@@ -65,9 +64,7 @@ shift-fitting-spec =
     shift-into-requires
     is-augmented-requires
     last-time-requires
-    u64-to-f32-requires
-    timedrift-fitting-requires
-    to-f32-requires
+    time-shift-requires
     mul-output
     slice-write-output
     same-length

@@ -9,7 +9,7 @@ transform-fits-requires : tie.Need-transform-fits-requires
 transform-fits-requires c κs = tt
 
 transform-fitting-requires : tie.Need-transform-fitting-requires
-transform-fitting-requires c κs = let f = c .before .before .transform-fits .ensures .1 (c .before .if1 .taken) in (f .0, (f .1, (f .2, f .3)))
+transform-fitting-requires c κs = let f = c .before .before .transform-fits .ensures .1 (c .before .if1 .taken) in (f .0, (f .1, (f .2, (f .3, f .4))))
 
 same-length : tie.Need-same-length
 same-length c = search needs

@@ -22,6 +22,9 @@ mul-m c =
 get-dimension-requires : tie.Need-get-dimension-requires
 get-dimension-requires c κs = tt
 
+is-gap-requires : tie.Need-is-gap-requires
+is-gap-requires c κs = tt
+
 time-factor-requires : tie.Need-time-factor-requires
 time-factor-requires c κs = tt
 
@@ -34,9 +37,9 @@ timedrift-of-requires c κs = tt
 write-times-requires : tie.Need-write-times-requires
 write-times-requires c κs =
     let c8 = c .before .before .before .before .before .before .before .before in
-    let A = c8 .before .before .before .before .before .before .before .before .args in
-    let P = c8 .before .before .before .before .before .before .before .before .pre in
-    let e = (dimension-known (c .before .before .before .before .before .before .get-dimension .ensures) (search needs)) .0 in
+    let A = c8 .before .before .before .before .before .before .before .before .before .args in
+    let P = c8 .before .before .before .before .before .before .before .before .before .pre in
+    let e = (dimension-known (c .before .before .before .before .before .before .before .get-dimension .ensures) (search needs)) .0 in
     let f = dimension-augmented (settingsOf (A .head)) (P .1 .1 .0) in (
       omega (arith, e, f, P .0 .k-pos),
       (P .1 .1 .1 .1 .0, (rw e (P .1 .1 .1 .1 .1 .0), rw e (P .1 .1 .1 .1 .1 .1), rw e (P .1 .1 .1 .1 .1 .2))),
@@ -55,19 +58,19 @@ same-length : tie.Need-same-length
 same-length c =
     let c8 = c .before .before .before .before .before .before .before .before in
     let c16 = c8 .before .before .before .before .before .before .before .before in
-    c .before .before .before .before .before .before .cascaded-add-f64 .kept .0 ∙ c16 .before .before .write-times .kept .1 .1 .1 .1 .1 .1 .1 .1 .0
+    c .before .before .before .before .before .before .cascaded-add-f64 .kept .0 ∙ c16 .before .before .write-times .kept .1 .1 .1 .1 .1 .1 .1 .1 .1 .0
 
 same-length-2 : tie.Need-same-length-2
 same-length-2 c =
     let c8 = c .before .before .before .before .before .before .before .before in
     let c16 = c8 .before .before .before .before .before .before .before .before in
-    c .before .before .before .before .before .before .cascaded-add-f64 .kept .1 .0 ∙ c16 .before .before .write-times .kept .1 .1 .1 .1 .1 .1 .1 .1 .1 .0
+    c .before .before .before .before .before .before .cascaded-add-f64 .kept .1 .0 ∙ c16 .before .before .write-times .kept .1 .1 .1 .1 .1 .1 .1 .1 .1 .1 .0
 
 same-length-3 : tie.Need-same-length-3
 same-length-3 c =
     let c8 = c .before .before .before .before .before .before .before .before in
     let c16 = c8 .before .before .before .before .before .before .before .before in
-    c .before .before .before .before .before .before .cascaded-add-f64 .kept .1 .1 .0 ∙ c16 .before .before .write-times .kept .1 .1 .1 .1 .1 .1 .1 .1 .1 .1 .0
+    c .before .before .before .before .before .before .cascaded-add-f64 .kept .1 .1 .0 ∙ c16 .before .before .write-times .kept .1 .1 .1 .1 .1 .1 .1 .1 .1 .1 .1 .0
 
 returns : tie.Need-returns
 returns c =
@@ -75,19 +78,20 @@ returns c =
     let c16 = c8 .before .before .before .before .before .before .before .before in
     let c24 = c16 .before .before .before .before .before .before .before .before in
     let c32 = c24 .before .before .before .before .before .before .before .before in
-    let A = c32 .before .before .before .args in
-    let P = c32 .before .before .before .pre in
+    let A = c32 .before .before .before .before .args in
+    let P = c32 .before .before .before .before .pre in
     let W = c16 .before .before .write-times in
     let n = length (A .«values-out» .now) in
     times-done (settingsOf (A .head)) (A .s .now) (ranges (A .values .now) (A .upper .now) (A .lower .now))
-    (ranges (W .last .1 .1 .1 .1 .1 .1 .1 .1 .0) (W .last .1 .1 .1 .1 .1 .1 .1 .1 .1 .0) (W .last .1 .1 .1 .1 .1 .1 .1 .1 .1 .1 .0)) _
-    (c16 .before .before .before .before .before .before .before .before .time-factor .result) (c16 .before .before .before .before .before .before .before .timescale-of .result)
-    (c16 .before .before .before .before .before .before .timedrift-of .result) (c8 .before .before .before .u64-to-f64 .result) (A .last) (c24 .before .get-dimension .result) _ n _
+    (ranges (W .last .1 .1 .1 .1 .1 .1 .1 .1 .1 .0) (W .last .1 .1 .1 .1 .1 .1 .1 .1 .1 .1 .0) (W .last .1 .1 .1 .1 .1 .1 .1 .1 .1 .1 .1 .0)) _
+    (c24 .before .is-gap .result) (c16 .before .before .before .before .before .before .before .before .time-factor .result) (c16 .before .before .before .before .before .before .before .timescale-of .result)
+    (c16 .before .before .before .before .before .before .timedrift-of .result) (c8 .before .before .before .u64-to-f64 .result) (A .last) (c24 .before .before .get-dimension .result) _ n _
+    (c24 .before .is-gap .ensures)
     (c16 .before .before .before .before .before .before .before .before .time-factor .ensures)
     ((opened _ (c16 .before .before .before .before .before .before .before .timescale-of .ensures) (time-fits (P .0) (P .1 .0))))
     ((opened _ (c16 .before .before .before .before .before .before .timedrift-of .ensures) (time-fits (P .0) (P .1 .0))))
-    ((dimension-known (c24 .before .get-dimension .ensures) (search needs)) .0) (c8 .before .before .before .u64-to-f64 .ensures) (W .ensures) (P .1 .1 .1 .0)
-    (W .kept .1 .1 .1 .1 .1 .1 .1 .1 .0) (W .kept .1 .1 .1 .1 .1 .1 .1 .1 .1 .0 ∙ P .1 .1 .1 .1 .0 .0) (W .kept .1 .1 .1 .1 .1 .1 .1 .1 .1 .1 .0 ∙ P .1 .1 .1 .1 .0 .1)
+    ((dimension-known (c24 .before .before .get-dimension .ensures) (search needs)) .0) (c8 .before .before .before .u64-to-f64 .ensures) (W .ensures) (P .1 .1 .1 .0)
+    (W .kept .1 .1 .1 .1 .1 .1 .1 .1 .1 .0) (W .kept .1 .1 .1 .1 .1 .1 .1 .1 .1 .1 .0 ∙ P .1 .1 .1 .1 .0 .0) (W .kept .1 .1 .1 .1 .1 .1 .1 .1 .1 .1 .1 .0 ∙ P .1 .1 .1 .1 .0 .1)
     (c .before .before .before .before .before .before .cascaded-add-f64 .ensures)
 
 pub invert-times-spec : {M : Type 1} → statement M
@@ -96,6 +100,7 @@ invert-times-spec =
     (tie.spec
     mul-m
     get-dimension-requires
+    is-gap-requires
     time-factor-requires
     timescale-of-requires
     timedrift-of-requires

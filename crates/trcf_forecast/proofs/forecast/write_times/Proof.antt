@@ -14,14 +14,14 @@ use Rattle.trcf_forecast.proofs.forecast.write_times.Statement.{stateme
 use Rattle.trcf_forecast.proofs.forecast.write_times.Tie as tie
 
 abbrev Inv-loop : tie.InvT-loop
-Inv-loop factor scale drift a m values upper lower values-out₀ upper-out₀ lower-out₀ h i₀ values-out upper-out lower-out i =
-    (i ≤ h) × (values-out ≡ over values-out₀ (tabulate i (λ j. timeAt factor scale drift a m (ranges values upper lower) j .value)))
-    × (upper-out ≡ over upper-out₀ (tabulate i (λ j. timeAt factor scale drift a m (ranges values upper lower) j .upper)))
-    × (lower-out ≡ over lower-out₀ (tabulate i (λ j. timeAt factor scale drift a m (ranges values upper lower) j .lower)))
+Inv-loop gap factor scale drift a m values upper lower values-out₀ upper-out₀ lower-out₀ h i₀ values-out upper-out lower-out i =
+    (i ≤ h) × (values-out ≡ over values-out₀ (tabulate i (λ j. timeAt gap factor scale drift a m (ranges values upper lower) j .value)))
+    × (upper-out ≡ over upper-out₀ (tabulate i (λ j. timeAt gap factor scale drift a m (ranges values upper lower) j .upper)))
+    × (lower-out ≡ over lower-out₀ (tabulate i (λ j. timeAt gap factor scale drift a m (ranges values upper lower) j .lower)))
     × (length values-out ≡ length values-out₀) × (length upper-out ≡ length upper-out₀) × (length lower-out ≡ length lower-out₀)
 
 abbrev μ-loop : tie.MeasureT-loop
-μ-loop factor scale drift a m values upper lower values-out₀ upper-out₀ lower-out₀ h i₀ values-out upper-out lower-out i =
+μ-loop gap factor scale drift a m values upper lower values-out₀ upper-out₀ lower-out₀ h i₀ values-out upper-out lower-out i =
     h - i
 
 loop-holds : tie.Need-loop-holds Inv-loop μ-loop
@@ -196,9 +196,9 @@ returns c =
     let e : L .i ≡ n = omega (arith, L .inv .0, c .loop-test .left) in
     let v = ranges (A .values .now) (A .upper .now) (A .lower .now) in
     λ j. ranges
-    (written-all (A .«values-out» .now) (λ i. timeAt (A .factor) (A .scale) (A .drift) (A .a) (A .m) v i .value) (L .i) n (L .«values-out») e refl (L .inv .1) j)
-    (written-all (A .«upper-out» .now) (λ i. timeAt (A .factor) (A .scale) (A .drift) (A .a) (A .m) v i .upper) (L .i) n (L .«upper-out») e (P .1 .0 .0) (L .inv .2) j)
-    (written-all (A .«lower-out» .now) (λ i. timeAt (A .factor) (A .scale) (A .drift) (A .a) (A .m) v i .lower) (L .i) n (L .«lower-out») e (P .1 .0 .1) (L .inv .3) j)
+    (written-all (A .«values-out» .now) (λ i. timeAt (A .gap) (A .factor) (A .scale) (A .drift) (A .a) (A .m) v i .value) (L .i) n (L .«values-out») e refl (L .inv .1) j)
+    (written-all (A .«upper-out» .now) (λ i. timeAt (A .gap) (A .factor) (A .scale) (A .drift) (A .a) (A .m) v i .upper) (L .i) n (L .«upper-out») e (P .1 .0 .0) (L .inv .2) j)
+    (written-all (A .«lower-out» .now) (λ i. timeAt (A .gap) (A .factor) (A .scale) (A .drift) (A .a) (A .m) v i .lower) (L .i) n (L .«lower-out») e (P .1 .0 .1) (L .inv .3) j)
 
 pub write-times-spec : {M : Type 1} → statement M
 write-times-spec =

@@ -7,8 +7,9 @@ use Prim.Native.Nat.{ℕ, _+_, _-_, _*_, _≤_, _<_}
 use native.Mathlib.Nat.{mul-le-mul, le-refl, le-mul-of-pos-right, add-zero}
 use lib.ListN.{length, length-take, length-drop, take, drop, getD}
 use Rattle.trcf.proofs.DrainLaws.{block-in, block-cut, point-cut, block-is, block-fits}
-use Rattle.trcf.specs.View.{settingsOf}
-use Rattle.trcf.specs.Lists.{shiftIn}
+use Rattle.trcf.specs.Preprocessor.{previous, reading, transformedAfter}
+use Rattle.trcf.specs.View.{settingsOf, readingAt}
+use Rattle.trcf.specs.Lists.{lastN, shiftIn}
 use borrow.Author.Needs.{needs, scaled-fits}
 use Rattle.trcf_point.proofs.drain.drain_turn.Statement.{statement}
 use Rattle.trcf_point.proofs.drain.drain_turn.Tie as tie
@@ -25,42 +26,45 @@ mul-y c =
 shared-slice-read-y : tie.Need-shared-slice-read-y
 shared-slice-read-y c = omega arith
 
+last-time-requires : tie.Need-last-time-requires
+last-time-requires c κs = tt
+
 mul-write-transform : tie.Need-mul-write-transform
 mul-write-transform c =
     let c8 = c .before .before .before .before .before .before .before .before in
-    let a = c8 .before .before .before .args in
+    let a = c8 .before .before .before .before .args in
     let d = a .head .transformer .«input_length» in
     let n = length (a .stamps .now) in
     let m = length (a .values .now) in
-    block-at (a .i) n d m (c8 .before .before .before .pre .1 .1 .1 .1) (flat-of n d m (c8 .before .before .before .pre .1 .1 .1 .0)) (c8 .before .before .before .good .1 .1 .1 .1 .1 .0 .1)
+    block-at (a .i) n d m (c8 .before .before .before .before .pre .1 .1 .1 .1) (flat-of n d m (c8 .before .before .before .before .pre .1 .1 .1 .0)) (c8 .before .before .before .before .good .1 .1 .1 .1 .1 .0 .1)
 
 mul-write-transform-2 : tie.Need-mul-write-transform-2
 mul-write-transform-2 c =
     let c8 = c .before .before .before .before .before .before .before .before in
-    let a = c8 .before .before .before .args in
+    let a = c8 .before .before .before .before .args in
     let d = a .head .transformer .«input_length» in
     let n = length (a .stamps .now) in
     let m = length (a .values .now) in
-    block-at (a .i) n d m (c8 .before .before .before .pre .1 .1 .1 .1) (flat-of n d m (c8 .before .before .before .pre .1 .1 .1 .0)) (c8 .before .before .before .good .1 .1 .1 .1 .1 .0 .1)
+    block-at (a .i) n d m (c8 .before .before .before .before .pre .1 .1 .1 .1) (flat-of n d m (c8 .before .before .before .before .pre .1 .1 .1 .0)) (c8 .before .before .before .before .good .1 .1 .1 .1 .1 .0 .1)
 
 add-write-transform : tie.Need-add-write-transform
 add-write-transform c =
     let c8 = c .before .before .before .before .before .before .before .before in
-    let a = c8 .before .before .before .args in
+    let a = c8 .before .before .before .before .args in
     let d = a .head .transformer .«input_length» in
     let n = length (a .stamps .now) in
     let m = length (a .values .now) in
-    block-to (a .i) n d m (c8 .before .before .before .pre .1 .1 .1 .1) (flat-of n d m (c8 .before .before .before .pre .1 .1 .1 .0)) (c8 .before .before .before .good .1 .1 .1 .1 .1 .0 .1)
+    block-to (a .i) n d m (c8 .before .before .before .before .pre .1 .1 .1 .1) (flat-of n d m (c8 .before .before .before .before .pre .1 .1 .1 .0)) (c8 .before .before .before .before .good .1 .1 .1 .1 .1 .0 .1)
 
 mul-write-transform-3 : tie.Need-mul-write-transform-3
 mul-write-transform-3 c =
     let c8 = c .before .before .before .before .before .before .before .before in
-    let a = c8 .before .before .before .args in
+    let a = c8 .before .before .before .before .args in
     let d = a .head .transformer .«input_length» in
     let n = length (a .stamps .now) in
     let m = length (a .values .now) in
-    block-bytes (a .i) n d m (c8 .before .before .before .pre .1 .1 .1 .1) (flat-of n d m (c8 .before .before .before .pre .1 .1 .1 .0))
-    (c8 .before .before .before .good .1 .1 .1 .1 .1 .0 .1)
+    block-bytes (a .i) n d m (c8 .before .before .before .before .pre .1 .1 .1 .1) (flat-of n d m (c8 .before .before .before .before .pre .1 .1 .1 .0))
+    (c8 .before .before .before .before .good .1 .1 .1 .1 .1 .0 .1)
 
 sub-write-transform : tie.Need-sub-write-transform
 sub-write-transform c = omega arith
@@ -68,16 +72,16 @@ sub-write-transform c = omega arith
 part-write-transform-start : tie.Need-part-write-transform-start
 part-write-transform-start c =
     let c8 = c .before .before .before .before .before .before .before .before in
-    let a = c8 .before .before .before .args in block-start (a .i) (a .head .transformer .«input_length»)
+    let a = c8 .before .before .before .before .args in block-start (a .i) (a .head .transformer .«input_length»)
 
 part-write-transform-end : tie.Need-part-write-transform-end
 part-write-transform-end c =
     let c8 = c .before .before .before .before .before .before .before .before in
-    let a = c8 .before .before .before .args in
+    let a = c8 .before .before .before .before .args in
     let d = a .head .transformer .«input_length» in
     let n = length (a .stamps .now) in
     let m = length (a .values .now) in
-    block-end (a .i) n d m (c8 .before .before .before .pre .1 .1 .1 .1) (flat-of n d m (c8 .before .before .before .pre .1 .1 .1 .0)) (c8 .before .before .before .good .1 .1 .1 .1 .1 .0 .1)
+    block-end (a .i) n d m (c8 .before .before .before .before .pre .1 .1 .1 .1) (flat-of n d m (c8 .before .before .before .before .pre .1 .1 .1 .0)) (c8 .before .before .before .before .good .1 .1 .1 .1 .1 .0 .1)
 
 slice-aggregate-write-transform : tie.Need-slice-aggregate-write-transform
 slice-aggregate-write-transform c = search needs
@@ -88,46 +92,46 @@ write-transform-requires c κs = tt
 mul-shift-vector : tie.Need-mul-shift-vector
 mul-shift-vector c =
     let c8 = c .before .before .before .before .before .before .before .before in
-    let a = c8 .before .before .before .before .before .before .before .before .args in
+    let a = c8 .before .before .before .before .before .before .before .before .before .args in
     let d = a .head .transformer .«input_length» in
     let n = length (a .stamps .now) in
     let m = length (a .values .now) in
-    block-at (a .i) n d m (c8 .before .before .before .before .before .before .before .before .pre .1 .1 .1 .1)
-    (flat-of n d m (c8 .before .before .before .before .before .before .before .before .pre .1 .1 .1 .0))
-    (c8 .before .before .before .before .before .before .before .before .good .1 .1 .1 .1 .1 .0 .1)
+    block-at (a .i) n d m (c8 .before .before .before .before .before .before .before .before .before .pre .1 .1 .1 .1)
+    (flat-of n d m (c8 .before .before .before .before .before .before .before .before .before .pre .1 .1 .1 .0))
+    (c8 .before .before .before .before .before .before .before .before .before .good .1 .1 .1 .1 .1 .0 .1)
 
 mul-shift-vector-2 : tie.Need-mul-shift-vector-2
 mul-shift-vector-2 c =
     let c8 = c .before .before .before .before .before .before .before .before in
-    let a = c8 .before .before .before .before .before .before .before .before .args in
+    let a = c8 .before .before .before .before .before .before .before .before .before .args in
     let d = a .head .transformer .«input_length» in
     let n = length (a .stamps .now) in
     let m = length (a .values .now) in
-    block-at (a .i) n d m (c8 .before .before .before .before .before .before .before .before .pre .1 .1 .1 .1)
-    (flat-of n d m (c8 .before .before .before .before .before .before .before .before .pre .1 .1 .1 .0))
-    (c8 .before .before .before .before .before .before .before .before .good .1 .1 .1 .1 .1 .0 .1)
+    block-at (a .i) n d m (c8 .before .before .before .before .before .before .before .before .before .pre .1 .1 .1 .1)
+    (flat-of n d m (c8 .before .before .before .before .before .before .before .before .before .pre .1 .1 .1 .0))
+    (c8 .before .before .before .before .before .before .before .before .before .good .1 .1 .1 .1 .1 .0 .1)
 
 add-shift-vector : tie.Need-add-shift-vector
 add-shift-vector c =
     let c8 = c .before .before .before .before .before .before .before .before in
-    let a = c8 .before .before .before .before .before .before .before .before .args in
+    let a = c8 .before .before .before .before .before .before .before .before .before .args in
     let d = a .head .transformer .«input_length» in
     let n = length (a .stamps .now) in
     let m = length (a .values .now) in
-    block-to (a .i) n d m (c8 .before .before .before .before .before .before .before .before .pre .1 .1 .1 .1)
-    (flat-of n d m (c8 .before .before .before .before .before .before .before .before .pre .1 .1 .1 .0))
-    (c8 .before .before .before .before .before .before .before .before .good .1 .1 .1 .1 .1 .0 .1)
+    block-to (a .i) n d m (c8 .before .before .before .before .before .before .before .before .before .pre .1 .1 .1 .1)
+    (flat-of n d m (c8 .before .before .before .before .before .before .before .before .before .pre .1 .1 .1 .0))
+    (c8 .before .before .before .before .before .before .before .before .before .good .1 .1 .1 .1 .1 .0 .1)
 
 mul-shift-vector-3 : tie.Need-mul-shift-vector-3
 mul-shift-vector-3 c =
     let c8 = c .before .before .before .before .before .before .before .before in
-    let a = c8 .before .before .before .before .before .before .before .before .args in
+    let a = c8 .before .before .before .before .before .before .before .before .before .args in
     let d = a .head .transformer .«input_length» in
     let n = length (a .stamps .now) in
     let m = length (a .values .now) in
-    block-bytes (a .i) n d m (c8 .before .before .before .before .before .before .before .before .pre .1 .1 .1 .1)
-    (flat-of n d m (c8 .before .before .before .before .before .before .before .before .pre .1 .1 .1 .0))
-    (c8 .before .before .before .before .before .before .before .before .good .1 .1 .1 .1 .1 .0 .1)
+    block-bytes (a .i) n d m (c8 .before .before .before .before .before .before .before .before .before .pre .1 .1 .1 .1)
+    (flat-of n d m (c8 .before .before .before .before .before .before .before .before .before .pre .1 .1 .1 .0))
+    (c8 .before .before .before .before .before .before .before .before .before .good .1 .1 .1 .1 .1 .0 .1)
 
 sub-shift-vector : tie.Need-sub-shift-vector
 sub-shift-vector c = omega arith
@@ -135,18 +139,18 @@ sub-shift-vector c = omega arith
 part-shift-vector-start : tie.Need-part-shift-vector-start
 part-shift-vector-start c =
     let c8 = c .before .before .before .before .before .before .before .before in
-    let a = c8 .before .before .before .before .before .before .before .before .args in block-start (a .i) (a .head .transformer .«input_length»)
+    let a = c8 .before .before .before .before .before .before .before .before .before .args in block-start (a .i) (a .head .transformer .«input_length»)
 
 part-shift-vector-end : tie.Need-part-shift-vector-end
 part-shift-vector-end c =
     let c8 = c .before .before .before .before .before .before .before .before in
-    let a = c8 .before .before .before .before .before .before .before .before .args in
+    let a = c8 .before .before .before .before .before .before .before .before .before .args in
     let d = a .head .transformer .«input_length» in
     let n = length (a .stamps .now) in
     let m = length (a .values .now) in
-    block-end (a .i) n d m (c8 .before .before .before .before .before .before .before .before .pre .1 .1 .1 .1)
-    (flat-of n d m (c8 .before .before .before .before .before .before .before .before .pre .1 .1 .1 .0))
-    (c8 .before .before .before .before .before .before .before .before .good .1 .1 .1 .1 .1 .0 .1)
+    block-end (a .i) n d m (c8 .before .before .before .before .before .before .before .before .before .pre .1 .1 .1 .1)
+    (flat-of n d m (c8 .before .before .before .before .before .before .before .before .before .pre .1 .1 .1 .0))
+    (c8 .before .before .before .before .before .before .before .before .before .good .1 .1 .1 .1 .1 .0 .1)
 
 shift-vector-requires : tie.Need-shift-vector-requires
 shift-vector-requires c κs = tt
@@ -157,11 +161,9 @@ array-share-prefix-z c = search needs
 slice-aggregate-shift-vector : tie.Need-slice-aggregate-shift-vector
 slice-aggregate-shift-vector c =
     let c8 = c .before .before .before .before .before .before .before .before in
-    simp length-take (omega (
-      arith,
-      c .before .before .before .before .before .before .before .before .write-transform .kept,
-      (block-known (c8 .before .before .before .before .before .before .block-of .ensures) (search needs)),
-    ))
+    let c16 = c8 .before .before .before .before .before .before .before .before in
+    let few = c16 .before .before .before .before .before .before .before .pre .0 .d-few in
+    simp length-take (omega (arith, c8 .write-transform .kept, block-known (c8 .before .before .before .before .before .before .before .block-of .ensures) few))
 
 shift-vector-requires-2 : tie.Need-shift-vector-requires-2
 shift-vector-requires-2 c κs = tt
@@ -181,50 +183,34 @@ same-length-3 : tie.Need-same-length-3
 same-length-3 c = c .before .before .shift-time .kept .0
 
 returns : tie.Need-returns
+unfolding previous
 returns c =
     let c8 = c .before .before .before .before .before .before .before .before in
     let c16 = c8 .before .before .before .before .before .before .before .before in
     let c24 = c16 .before .before .before .before .before .before .before .before in
-    let a = c24 .before .before .before .before .before .args in
+    let a = c24 .before .before .before .before .before .before .args in
+    let q = c24 .before .before .before .before .before .before .pre in
+    let s = settingsOf (a .head) in
     let d = a .head .transformer .«input_length» in
     let n = length (a .stamps .now) in
-    let e = (block-known (c16 .before .before .before .before .before .block-of .ensures) (c24 .before .before .before .before .before .pre .0 .d-few)) .0 ∙ sym
-    (block-is (settingsOf (a .head))) in (
+    let w = block-known (c16 .before .before .before .before .before .before .block-of .ensures) (q .0 .d-few) in
+    let e = w .0 ∙ sym (block-is s) in
+    let t = c8 .before .before .before .before .before .before .before .write-transform in
+    let l = c16 .before .before .before .last-time in
+    let b = block-in (a .i) n d (omega (arith, q)) in (
       (roomy _ (c8 .before .before .before .shift-vector .ensures)
-          (let a = c24 .before .before .before .before .before .args in let d = a .head .transformer .«input_length» in let n = length (a .stamps .now) in let b = block-in (a .i) n d
-          (omega (arith, c24 .before .before .before .before .before .pre)) in let m = le-mul-of-pos-right d (c24 .before .before .before .before .before .pre .0 .k-pos) in simp
-          (length-drop, length-take) (omega (arith, c24 .before .before .before .before .before .pre)))) ∙ ap (shiftIn (a .inputs .now)) (block-cut (a .i) d (a .values .now)),
+          (let m = le-mul-of-pos-right d (q .0 .k-pos) in simp (length-drop, length-take) (omega (arith, q)))) ∙ ap (shiftIn (a .inputs .now)) (block-cut (a .i) d (a .values .now)),
       (
         (roomy _ (c .before .before .before .before .before .before .shift-vector2 .ensures)
-            (let a = c24 .before .before .before .before .before .args in let d = a .head .transformer .«input_length» in let n = length (a .stamps .now) in let m = block-fits
-            (settingsOf (a .head)) (c24 .before .before .before .before .before .pre .0 .k-pos) in simp length-take
-            (omega (
-              arith,
-              c8 .before .before .before .before .before .before .before .write-transform .kept,
-              (block-known (c16 .before .before .before .before .before .block-of .ensures) (c24 .before .before .before .before .before .pre .0 .d-few)),
-              block-is (settingsOf (a .head)),
-              c24 .before .before .before .before .before .pre,
-            )))) ∙ point-cut (settingsOf (a .head)) (a .s .now) (a .head .«values_seen») _ d (a .values .now) (a .i) _ _ _ (a .points .now)
-            (c16 .before .before .before .before .before .block-of .result) e
-            ((opened _ (c8 .before .before .before .before .before .before .before .write-transform .ensures)
-            (transform-fits (let a = c24 .before .before .before .before .before .args in let d = a .head .transformer .«input_length» in let n = length (a .stamps .now) in let b = block-in (a .i)
-            n d (omega (arith, c24 .before .before .before .before .before .pre)) in (
-              c24 .before .before .before .before .before .pre .0,
-              (
-                c24 .before .before .before .before .before .pre .1 .0,
-                (
-                  simp (length-drop, length-take) (omega (arith, c24 .before .before .before .before .before .pre)),
-                  omega (
-                    arith,
-                    (block-known (c16 .before .before .before .before .before .block-of .ensures) (c24 .before .before .before .before .before .pre .0 .d-few)),
-                    block-is
-                        (settingsOf (a .head)),
-                  ),
-                ),
-              ),
-            ))))),
-        (roomy _ (c .before .before .shift-time .ensures)
-            (omega (arith, c24 .before .before .before .before .before .pre .0 .k-pos, c24 .before .before .before .before .before .pre .1 .0 .all-times))),
+            (let m = block-fits s (q .0 .k-pos) in simp length-take (omega (arith, t .kept, w, block-is s, q))))
+            ∙ point-cut s (a .s .now) (a .head .«values_seen») (reading (lastN d (a .inputs .now)) (l .result)) d (a .values .now) (a .i) _ _ _ (a .points .now)
+            (c16 .before .before .before .before .before .before .block-of .result) e
+            (opened _ (t .ensures)
+            (transform-fits
+            (q .0, (q .1 .0 .all-statistics, (q .1 .0 .all-input, (simp (length-drop, length-take) (omega (arith, q)), omega (arith, w, block-is s)))))))
+            ∙ ap (λ (k : ℕ). shiftIn (a .points .now) (transformedAfter s (a .s .now) (a .head .«values_seen») (reading (lastN d (a .inputs .now)) k)
+            (readingAt d (a .values .now) (a .stamps .now) (a .i)))) (l .ensures),
+        (roomy _ (c .before .before .shift-time .ensures) (omega (arith, q .0 .k-pos, q .1 .0 .all-times))),
       ),
     )
 
@@ -235,6 +221,7 @@ drain-turn-spec =
     block-of-requires
     mul-y
     shared-slice-read-y
+    last-time-requires
     mul-write-transform
     mul-write-transform-2
     add-write-transform

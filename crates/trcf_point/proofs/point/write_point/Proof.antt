@@ -7,9 +7,9 @@ use Prim.Native.Nat.{ℕ, _+_, _-_, _*_, _≤_, _<_}
 use lib.ListN.{length, length-take, length-drop, take, drop}
 use lib.Seq.{length-take-le}
 use Rattle.common.specs.Lent.{over}
-use Rattle.trcf.specs.Lists.{shiftIn}
-use Rattle.trcf.specs.Preprocessor.{pointOf, previous, transformedAfter, reading, statisticsLength}
-use Rattle.trcf.specs.View.{settingsOf, view, holding}
+use Rattle.trcf.specs.Lists.{lastN, shiftIn}
+use Rattle.trcf.specs.Preprocessor.{transformedAfter, reading, statisticsLength}
+use Rattle.trcf.specs.View.{settingsOf}
 use Rattle.trcf.proofs.DrainLaws.{block-is, block-fits, transformedAfter-length}
 use Rattle.trcf.proofs.ShingleLaws.{paste-over}
 use Rattle.trcf.proofs.StateLaws.{point-written}
@@ -24,42 +24,31 @@ get-dimension-requires : tie.Need-get-dimension-requires
 get-dimension-requires c κs = tt
 
 mul-write-transform : tie.Need-mul-write-transform
-mul-write-transform c =
-    let c8 = c .before .before .before .before .before .before .before .before in
-    five (c8 .before .pre .0 .d-few)
+mul-write-transform c = five (c .before .before .before .before .before .before .before .before .pre .0 .d-few)
 
 add-write-transform : tie.Need-add-write-transform
-add-write-transform c =
-    let c8 = c .before .before .before .before .before .before .before .before in
-    five-more (c8 .before .pre .0 .d-few)
+add-write-transform c = five-more (c .before .before .before .before .before .before .before .before .pre .0 .d-few)
 
 mul-write-transform-2 : tie.Need-mul-write-transform-2
-mul-write-transform-2 c =
-    let c8 = c .before .before .before .before .before .before .before .before in
-    all-statistics (c8 .before .pre .0 .d-few)
+mul-write-transform-2 c = all-statistics (c .before .before .before .before .before .before .before .before .pre .0 .d-few)
 
 slice-aggregate-write-transform : tie.Need-slice-aggregate-write-transform
 slice-aggregate-write-transform c =
     let c8 = c .before .before .before .before .before .before .before .before in
-    sym (length-take-le _ _ (c8 .before .before .pre .1 .0))
+    sym (length-take-le _ _ (c8 .before .pre .1 .0))
 
 mul-write-transform-3 : tie.Need-mul-write-transform-3
 mul-write-transform-3 c =
     let c8 = c .before .before .before .before .before .before .before .before in
-    let b = c8 .before .before .pre .0 in all-inputs (b .d-few) (b .k-few)
+    let b = c8 .before .pre .0 in all-inputs (b .d-few) (b .k-few)
 
 slice-aggregate-write-transform-2 : tie.Need-slice-aggregate-write-transform-2
 slice-aggregate-write-transform-2 c =
     let c8 = c .before .before .before .before .before .before .before .before in
-    sym (length-take-le _ _ (c8 .before .before .before .pre .1 .1 .0))
+    sym (length-take-le _ _ (c8 .before .before .pre .1 .1 .0))
 
 slice-aggregate-write-transform-3 : tie.Need-slice-aggregate-write-transform-3
-slice-aggregate-write-transform-3 c =
-    let c8 = c .before .before .before .before .before .before .before .before in
-    sym (length-take-le _ _ (c8 .before .before .before .before .pre .1 .1 .1 .1 .0))
-
-slice-aggregate-write-transform-4 : tie.Need-slice-aggregate-write-transform-4
-slice-aggregate-write-transform-4 c = search needs
+slice-aggregate-write-transform-3 c = search needs
 
 write-transform-requires : tie.Need-write-transform-requires
 write-transform-requires c κs = tt
@@ -67,10 +56,8 @@ write-transform-requires c κs = tt
 slice-aggregate-copy-in : tie.Need-slice-aggregate-copy-in
 slice-aggregate-copy-in c =
     let c8 = c .before .before .before .before .before .before .before .before in
-    let c16 = c8 .before .before .before .before .before .before .before .before in
-    let a = c16 .before .args in
-    let q = c16 .before .pre in
-    simp length-take (omega (arith, q, (dimension-known (c .before .before .before .before .before .before .before .before .get-dimension .ensures) (search needs))))
+    let q = c8 .before .before .before .before .before .before .before .pre in
+    simp length-take (omega (arith, q, (dimension-known (c .before .before .before .before .before .before .before .get-dimension .ensures) (search needs))))
 
 copy-in-requires : tie.Need-copy-in-requires
 copy-in-requires c κs = tt
@@ -79,17 +66,15 @@ slice-relend-prefix-shift-vector : tie.Need-slice-relend-prefix-shift-vector
 slice-relend-prefix-shift-vector c =
     let c8 = c .before .before .before .before .before .before .before .before in
     let c16 = c8 .before .before .before .before .before .before .before .before in
-    let a = c16 .before .before .before .before .args in
-    let q = c16 .before .before .before .before .pre in
-    omega (arith, q, (dimension-known (c8 .before .before .before .get-dimension .ensures) (search needs)), c .before .before .copy-in .kept)
+    let q = c16 .before .before .pre in
+    omega (arith, q, (dimension-known (c8 .before .before .get-dimension .ensures) (search needs)), c .before .before .copy-in .kept)
 
 slice-aggregate-shift-vector : tie.Need-slice-aggregate-shift-vector
 slice-aggregate-shift-vector c =
     let c8 = c .before .before .before .before .before .before .before .before in
     let c16 = c8 .before .before .before .before .before .before .before .before in
-    let a = c16 .before .before .before .before .before .args in
-    let q = c16 .before .before .before .before .before .pre in
-    simp length-take (omega (arith, q, (dimension-known (c8 .before .before .before .before .get-dimension .ensures) (search needs)), c .before .before .before .copy-in .kept))
+    let q = c16 .before .before .before .pre in
+    simp length-take (omega (arith, q, (dimension-known (c8 .before .before .before .get-dimension .ensures) (search needs)), c .before .before .before .copy-in .kept))
 
 array-share-prefix-z : tie.Need-array-share-prefix-z
 array-share-prefix-z c = search needs
@@ -97,13 +82,10 @@ array-share-prefix-z c = search needs
 slice-aggregate-shift-vector-2 : tie.Need-slice-aggregate-shift-vector-2
 slice-aggregate-shift-vector-2 c =
     let c8 = c .before .before .before .before .before .before .before .before in
-    let c16 = c8 .before .before .before .before .before .before .before .before in
-    let a = c16 .before .before .before .before .before .before .args in
-    let q = c16 .before .before .before .before .before .before .pre in
     simp length-take (omega (
       arith,
-      (block-known (c8 .before .before .before .before .before .before .block-of .ensures) (search needs)),
-      c .before .before .before .before .before .before .before .before .write-transform .kept,
+      (block-known (c8 .before .before .before .before .before .block-of .ensures) (search needs)),
+      c8 .write-transform .kept,
     ))
 
 shift-vector-requires : tie.Need-shift-vector-requires
@@ -113,46 +95,32 @@ same-length : tie.Need-same-length
 same-length c = search needs
 
 returns : tie.Need-returns
-unfolding pointOf view previous
 returns c =
     let c8 = c .before .before .before .before .before .before .before .before in
     let c16 = c8 .before .before .before .before .before .before .before .before in
-    let c24 = c16 .before .before .before .before .before .before .before .before in
-    let a = c24 .before .args in
-    let q = c24 .before .pre in
-    let m = block-fits (settingsOf (a .head)) (q .0 .k-pos) in
-    let e = (block-known (c16 .before .block-of .ensures) (search needs)) .0 ∙ sym (block-is (settingsOf (a .head))) in
-    point-written (a .output .now) (take (c8 .before .before .before .before .before .before .before .before .get-dimension .result) (a .last-shingled-point .now)) _ _ _ _ _
-    (c16 .before .block-of .result) (c8 .before .before .before .before .before .before .before .before .get-dimension .result)
-    ((roomy _ (c .before .before .before .before .before .before .before .copy-in .ensures)
-    (let a = c24 .before .args in let q = c24 .before .pre in simp length-take
-    (omega (arith, q, (dimension-known (c8 .before .before .before .before .before .before .before .before .get-dimension .ensures) (search needs)))))) ∙ paste-over _ _)
-    (length-take-le _ _ (omega (arith, q, (dimension-known (c8 .before .before .before .before .before .before .before .before .get-dimension .ensures) (search needs)))))
-    ((opened _ (c8 .before .before .before .write-transform .ensures)
-    (transform-fits (let a = c24 .before .args in let q = c24 .before .pre in (
-      q .0,
-      (
-        record { all-statistics = length-take-le _ _ (q .1 .0); all-input = length-take-le _ _ (q .1 .1 .0); all-times = length-take-le _ _ (q .1 .1 .1 .1 .0) },
-        (q .1 .1 .1 .1 .1 .0, omega (arith, (block-known (c16 .before .block-of .ensures) (search needs)), block-is (settingsOf (a .head)))),
-      ),
-    ))))) (transformedAfter-length _ _ _ _ _ ∙ sym e)
-    (omega (arith, e, (dimension-known (c8 .before .before .before .before .before .before .before .before .get-dimension .ensures) (search needs)), m))
-    ((roomy _ (c .before .before .shift-vector .ensures)
-    (let a = c24 .before .args in let q = c24 .before .pre in let m = block-fits (settingsOf (a .head)) (q .0 .k-pos) in simp length-take
-    (omega (
-      arith,
-      q,
-      (block-known (c16 .before .block-of .ensures) (search needs)),
-      block-is (settingsOf (a .head)),
-      (dimension-known (c8 .before .before .before .before .before .before .before .before .get-dimension .ensures) (search needs)),
-      c .before .before .before .before .before .before .before .copy-in .kept,
-      c8 .before .before .before .write-transform .kept,
-    ))))) ∙ ap
+    let start = c16 .before .before .before .before .before .before .before in
+    let a = start .args in
+    let q = start .pre in
+    let o = c8 .before .before .before .before .before .before .before .get-dimension in
+    let b = c16 .block-of in
+    let t = c8 .before .before .before .write-transform in
+    let i = c .before .before .before .before .before .before .before .copy-in in
+    let s = settingsOf (a .head) in
+    let n = dimension-known (o .ensures) (search needs) in
+    let w = block-known (b .ensures) (search needs) in
+    let m = block-fits s (q .0 .k-pos) in
+    let e = w .0 ∙ sym (block-is s) in
+    point-written (a .output .now) (take (o .result) (a .last-shingled-point .now)) _ _ _ _ _ (b .result) (o .result)
+    ((roomy _ (i .ensures) (simp length-take (omega (arith, q, n)))) ∙ paste-over _ _) (length-take-le _ _ (omega (arith, q, n)))
+    (opened _ (t .ensures)
+    (transform-fits (q .0, (length-take-le _ _ (q .1 .0), (length-take-le _ _ (q .1 .1 .0), (q .1 .1 .1 .1 .0, omega (arith, w, block-is s)))))))
+    (transformedAfter-length _ _ _ _ _ ∙ sym e) (omega (arith, e, n, m))
+    (roomy _ (c .before .before .shift-vector .ensures) (simp length-take (omega (arith, q, w, block-is s, n, i .kept, t .kept, m))))
+    ∙ ap
     (λ (k : ℕ). over (a .output .now) (shiftIn (take k (a .last-shingled-point .now))
-    (transformedAfter (settingsOf (a .head)) (take (statisticsLength (settingsOf (a .head))) (a .statistics .now)) (a .head .«values_seen»)
-    (previous (holding (a .head) (take (statisticsLength (settingsOf (a .head))) (a .statistics .now))
-    (take (a .head .transformer .«input_length» * a .head .«shingle_size») (a .last-shingled-input .now)) (take (a .head .«shingle_size») (a .previous-timestamps .now))))
-    (reading (a .input .now) (a .timestamp))))) ((dimension-known (c8 .before .before .before .before .before .before .before .before .get-dimension .ensures) (search needs)) .0)
+    (transformedAfter s (take (statisticsLength s) (a .statistics .now)) (a .head .«values_seen»)
+    (reading (lastN (a .head .transformer .«input_length») (take (a .head .transformer .«input_length» * a .head .«shingle_size») (a .last-shingled-input .now))) (a .base))
+    (reading (a .input .now) (a .timestamp))))) (n .0)
 
 pub write-point-spec : {M : Type 1} → statement M
 write-point-spec =
@@ -167,7 +135,6 @@ write-point-spec =
     mul-write-transform-3
     slice-aggregate-write-transform-2
     slice-aggregate-write-transform-3
-    slice-aggregate-write-transform-4
     write-transform-requires
     slice-aggregate-copy-in
     copy-in-requires

@@ -1,7 +1,7 @@
--- `trcf_rows::learn_rows::newest_of` meets its contract: each return by the tests on the way to it. Assumes nothing.
+-- `trcf::time::newest_of` meets its contract: each return by the tests on the way to it. Assumes nothing.
 use borrow.Author.Tests.{not-true, not-false, lt-ltb, le-ltb, eq-eqb, ne-eqb, le-leb, lt-leb}
-use Rattle.trcf_rows.proofs.learn_rows.newest_of.Statement.{statement}
-use Rattle.trcf_rows.proofs.learn_rows.newest_of.Tie as tie
+use Rattle.trcf.proofs.time.newest_of.Statement.{statement}
+use Rattle.trcf.proofs.time.newest_of.Tie as tie
 
 last-of-requires : tie.Need-last-of-requires
 last-of-requires c κs = tt

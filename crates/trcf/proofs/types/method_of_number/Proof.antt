@@ -1,7 +1,7 @@
--- `bench_core::step::method_from` meets its contract. Assumes nothing.
-use borrow.Author.Tests.{eq-eqb, ne-eqb, lt-ltb, le-ltb}
-use Rattle.bench_core.proofs.step.method_from.Statement.{statement}
-use Rattle.bench_core.proofs.step.method_from.Tie as tie
+-- `trcf::types::method_of_number` meets its contract: each return by the tests on the way to it. Assumes nothing.
+use borrow.Author.Tests.{eq-eqb, ne-eqb}
+use Rattle.trcf.proofs.types.method_of_number.Statement.{statement}
+use Rattle.trcf.proofs.types.method_of_number.Tie as tie
 
 returns : tie.Need-returns
 returns c = rw (eq-eqb _ _ (c .if1 .taken))
@@ -21,5 +21,5 @@ returns-5 c = rw (ne-eqb _ _ (c .before .before .before .before .if1 .left), ne-
 returns-6 : tie.Need-returns-6
 returns-6 c = rw (ne-eqb _ _ (c .before .before .before .before .if1 .left), ne-eqb _ _ (c .before .before .before .if2 .left), ne-eqb _ _ (c .before .before .if3 .left), ne-eqb _ _ (c .before .if4 .left), ne-eqb _ _ (c .if5 .left))
 
-pub method-from-spec : {M : Type 1} → statement M
-method-from-spec = tie.close (tie.spec returns returns-2 returns-3 returns-4 returns-5 returns-6)
+pub method-of-number-spec : {M : Type 1} → statement M
+method-of-number-spec = tie.close (tie.spec returns returns-2 returns-3 returns-4 returns-5 returns-6)
