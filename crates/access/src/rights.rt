@@ -1,10 +1,7 @@
 // The table of rights (request #105): four roles by four rights, one byte a cell, role by role. It is lent beside a preprocessor and is no part of it.
 ghost use mathlib.Core.Path.{_≡_};
-ghost use mathlib.Core.Bool.{_&&_};
 ghost use mathlib.Core.List.{[], _∷_};
-ghost use lib.Dec.{ltb, eqb};
-ghost use lib.ListN.{length};
-ghost use Rattle.access.specs.Access.{place, bits, granted, everyRight};
+ghost use Rattle.access.specs.Access.{place, bits, standing, granted, everyRight};
 ghost use Rattle.access.specs.declared.rights.Right.the-variants.{SEE, LEARN};
 
 // In the order of a role's cells: see (point, transform, turn-back, scale, shift, status and the getters), learn (learn, drain), save, restore.
@@ -49,7 +46,7 @@ fn all_bits(table: &[u8]) -> bool
 
 // Whether the table is one, and the role one of its four.
 fn has_role(table: &[u8], role: u64) -> bool
-    ensures { λ r. ⌜ r ≡ (eqb (length (now (table .entry))) 16 && (bits (now (table .entry)) && ltb role 4)) ⌝ }
+    ensures { λ r. ⌜ r ≡ standing (now (table .entry)) role ⌝ }
 {
     if table.len() != 16 {
         return false;

@@ -1,0 +1,60 @@
+-- Laws of the table's test, and of an entry behind it. Assumes nothing.
+use Prim.Native.Nat.{ℕ, zero, suc, _+_, _*_, _≤_, _<_}
+use mathlib.Core.Path.{_≡_, refl, sym, ap, _∙_}
+use mathlib.Core.Bool.{Bool, true, false, cond, _&&_}
+use mathlib.Core.List.{List, [], _∷_}
+use native.Mathlib.Numerals.{add-one}
+use lib.Dec.{ltb, eqb}
+use lib.ListN.{length, getD, drop}
+use lib.Seq.{drop-cons}
+use borrow.Author.Tests.{le-ltb, lt-ltb, eq-eqb, ne-eqb}
+use Rattle.access.specs.declared.rights.Right.{Right}
+use Rattle.access.specs.Access.{place, bits, standing, has, granted, guarded, everyRight}
+
+-- ---- the cells, one by one
+
+pub bits-not : (l : List ℕ) (i : ℕ) → i < length l → 2 ≤ getD l i 0 → bits (drop i l) ≡ false
+bits-not l i h e = rw (drop-cons l i 0 h, le-ltb (getD l i 0) 2 e)
+
+pub bits-more : (l : List ℕ) (i : ℕ) → i < length l → getD l i 0 < 2 → bits (drop i l) ≡ bits (drop (i + 1) l)
+bits-more l i h e = rw (add-one i, drop-cons l i 0 h, lt-ltb (getD l i 0) 2 e)
+
+-- ---- whether the table is one, and the role one of its four
+
+module _ (t : List ℕ) (role : ℕ) where
+  pub no-size : (length t ≡ 16 → ⊥) → false ≡ standing t role
+  no-size n = rw (ne-eqb (length t) 16 n)
+
+  pub no-role : 4 ≤ role → false ≡ standing t role
+  no-role h = rw (le-ltb role 4 h) (off (eqb (length t) 16))
+    where
+      off : (a : Bool) → false ≡ a && false
+      off true = refl
+      off false = refl
+
+  pub stands : length t ≡ 16 → role < 4 → bits t ≡ standing t role
+  stands n h = rw (eq-eqb (length t) 16 n, lt-ltb role 4 h)
+
+  -- ---- whether a right is granted
+
+  pub no-table : (rs : List Right) → standing t role ≡ false → false ≡ granted t role rs
+  unfolding granted
+  no-table rs e = ap (λ (b : Bool). b && has t role rs) (sym e)
+
+  pub by-cells : (rs : List Right) → standing t role ≡ true → has t role rs ≡ granted t role rs
+  unfolding granted
+  by-cells rs e = ap (λ (b : Bool). b && has t role rs) (sym e)
+
+-- one right of a list
+pub and-true : (b : Bool) → b ≡ b && true
+and-true true = refl
+and-true false = refl
+
+-- ---- an entry behind its guard: b is what the test said
+
+module _ {A : Type 0} (t : List ℕ) (role : ℕ) (rs : List Right) (b : Bool) (m : b ≡ granted t role rs) (below withheld : A) where
+  pub guard-shut : b ≡ false → withheld ≡ guarded t role rs below withheld
+  guard-shut e = ap (λ (x : Bool). cond x below withheld) (sym e ∙ m)
+
+  pub guard-open : b ≡ true → (x : A) → x ≡ below → x ≡ guarded t role rs below withheld
+  guard-open e x y = y ∙ ap (λ (q : Bool). cond q below withheld) (sym e ∙ m)
