@@ -7,9 +7,10 @@ use native.Mathlib.Numerals.{add-one}
 use lib.Dec.{ltb, eqb}
 use lib.ListN.{length, getD, drop}
 use lib.Seq.{drop-cons}
-use borrow.Author.Tests.{le-ltb, lt-ltb, eq-eqb, ne-eqb}
+use borrow.Author.Tests.{le-ltb, lt-ltb, eq-eqb, ne-eqb, eqb-true, ltb-true}
+use Rattle.snapshot.proofs.Lists.{and-left, and-right}
 use Rattle.access.specs.declared.rights.Right.{Right}
-use Rattle.access.specs.Access.{place, bits, standing, has, granted, guarded, everyRight}
+use Rattle.access.specs.Access.{place, bits, standing, cell, has, granted, guarded, everyRight}
 
 -- ---- the cells, one by one
 
@@ -20,6 +21,10 @@ pub bits-more : (l : List ℕ) (i : ℕ) → i < length l → getD l i 0 < 2 →
 bits-more l i h e = rw (add-one i, drop-cons l i 0 h, lt-ltb (getD l i 0) 2 e)
 
 -- ---- whether the table is one, and the role one of its four
+
+pub and-true : (b : Bool) → b ≡ b && true
+and-true true = refl
+and-true false = refl
 
 module _ (t : List ℕ) (role : ℕ) where
   pub no-size : (length t ≡ 16 → ⊥) → false ≡ standing t role
@@ -35,6 +40,12 @@ module _ (t : List ℕ) (role : ℕ) where
   pub stands : length t ≡ 16 → role < 4 → bits t ≡ standing t role
   stands n h = rw (eq-eqb (length t) 16 n, lt-ltb role 4 h)
 
+  pub stands-size : standing t role ≡ true → length t ≡ 16
+  stands-size e = eqb-true (length t) 16 (and-left (eqb (length t) 16) (ltb role 4 && bits t) e)
+
+  pub stands-role : standing t role ≡ true → role < 4
+  stands-role e = ltb-true role 4 (and-left (ltb role 4) (bits t) (and-right (eqb (length t) 16) (ltb role 4 && bits t) e))
+
   -- ---- whether a right is granted
 
   pub no-table : (rs : List Right) → standing t role ≡ false → false ≡ granted t role rs
@@ -45,10 +56,12 @@ module _ (t : List ℕ) (role : ℕ) where
   unfolding granted
   by-cells rs e = ap (λ (b : Bool). b && has t role rs) (sym e)
 
--- one right of a list
-pub and-true : (b : Bool) → b ≡ b && true
-and-true true = refl
-and-true false = refl
+  -- the two cells that a point asks for: the first is shut, or the second decides
+  pub no-first : (r q : Right) → eqb (cell t role r) 1 ≡ false → false ≡ has t role (r ∷ q ∷ [])
+  no-first r q e = ap (λ (b : Bool). b && (eqb (cell t role q) 1 && true)) (sym e)
+
+  pub by-second : (r q : Right) → eqb (cell t role r) 1 ≡ true → eqb (cell t role q) 1 ≡ has t role (r ∷ q ∷ [])
+  by-second r q e = and-true (eqb (cell t role q) 1) ∙ ap (λ (b : Bool). b && (eqb (cell t role q) 1 && true)) (sym e)
 
 -- ---- an entry behind its guard: b is what the test said
 

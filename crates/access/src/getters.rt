@@ -168,20 +168,17 @@ pub fn numbers(table: &[u8], role: u64, head: Preprocessor) -> StatusAnswer
     if !may(table, role, Right::SEE) {
         return untold();
     }
-    let t = head.transformer;
-    let method = t.transform_method;
-    let mode = head.forest_mode;
     StatusAnswer {
         row: 0,
-        values_seen: head.values_seen,
-        internal_timestamp: head.internal_timestamp,
+        values_seen: trcf_calls::queries::values_seen(head),
+        internal_timestamp: trcf_calls::queries::internal_timestamp(head),
         ready: trcf_calls::queries::is_ready(head),
-        input_dimensions: t.input_length,
-        shingle_size: head.shingle_size,
+        input_dimensions: trcf_calls::queries::input_dimensions(head),
+        shingle_size: trcf_calls::queries::shingle_size(head),
         dimensions: trcf::head::get_dimension(head),
-        transform_method: method,
-        forest_mode: mode,
-        start_normalization: head.start_normalization,
+        transform_method: trcf_calls::queries::transformation_method(head),
+        forest_mode: trcf_calls::queries::forest_mode(head),
+        start_normalization: trcf_calls::queries::start_normalization(head),
         panel: trcf_calls::queries::panel(head),
     }
 }

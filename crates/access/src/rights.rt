@@ -64,7 +64,8 @@ pub fn may(table: &[u8], role: u64, right: Right) -> bool
     if !has_role(table, role) {
         return false;
     }
-    let at = 4 * (role as usize) + place_of(right);
+    let right_at = place_of(right);
+    let at = 4 * (role as usize) + right_at;
     table[at] == 1
 }
 
@@ -79,5 +80,6 @@ pub fn may_point(table: &[u8], role: u64) -> bool
     if table[at] != 1 {
         return false;
     }
-    table[at + 1] == 1
+    let next = at + 1;
+    table[next] == 1
 }
