@@ -9,8 +9,15 @@ use lib.ListN.{length, getD, drop}
 use lib.Seq.{drop-cons}
 use borrow.Author.Tests.{le-ltb, lt-ltb, eq-eqb, ne-eqb, eqb-true, ltb-true}
 use Rattle.snapshot.proofs.Lists.{and-left, and-right}
+use Rattle.trcf.specs.Preprocessor.{panelOf}
+use Rattle.trcf.specs.View.{alone}
+use Rattle.trcf.specs.declared.types.TransformMethod.{TransformMethod}
+use Rattle.trcf.specs.declared.types.ForestMode.{ForestMode}
+use Rattle.trcf.specs.declared.head.Preprocessor.{Preprocessor}
+use Rattle.trcf.specs.declared.head.StatusAnswer.{StatusAnswer}
 use Rattle.access.specs.declared.rights.Right.{Right}
 use Rattle.access.specs.Access.{place, bits, standing, cell, has, granted, guarded, everyRight}
+use Rattle.access.specs.Entries.{readyOf, dimensionsOf, numbersOf}
 
 -- ---- the cells, one by one
 
@@ -71,3 +78,28 @@ module _ {A : Type 0} (t : List ℕ) (role : ℕ) (rs : List Right) (b : Bool) (
 
   pub guard-open : b ≡ true → (x : A) → x ≡ below → x ≡ guarded t role rs below withheld
   guard-open e x y = y ∙ ap (λ (q : Bool). cond q below withheld) (sym e ∙ m)
+
+-- ---- the getters' numbers together
+
+abbrev answered : ℕ → ℕ → Bool → ℕ → ℕ → ℕ → TransformMethod → ForestMode → ℕ → ℕ → StatusAnswer
+answered a b r d e f k m i n =
+    record {
+      row = 0;
+      «values_seen» = a;
+      «internal_timestamp» = b;
+      ready = r;
+      «input_dimensions» = d;
+      «shingle_size» = e;
+      dimensions = f;
+      «transform_method» = k;
+      «forest_mode» = m;
+      «start_normalization» = i;
+      panel = n;
+    }
+
+pub numbers-are : (h : Preprocessor) {a b d e f i n : ℕ} {r : Bool} {k : TransformMethod} {m : ForestMode}
+    → a ≡ h .«values_seen» → b ≡ h .«internal_timestamp» → r ≡ readyOf h → d ≡ h .transformer .«input_length» → e ≡ h .«shingle_size» → f ≡ dimensionsOf h
+    → k ≡ h .transformer .«transform_method» → m ≡ h .«forest_mode» → i ≡ h .«start_normalization» → n ≡ panelOf (alone h)
+    → answered a b r d e f k m i n ≡ numbersOf h
+numbers-are h a b r d e f k m i n =
+    λ j. answered (a j) (b j) (r j) (d j) (e j) (f j) (k j) (m j) (i j) (n j)

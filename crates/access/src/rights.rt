@@ -1,7 +1,10 @@
 // The table of rights (request #105): four roles by four rights, one byte a cell, role by role. It is lent beside a preprocessor and is no part of it.
 ghost use mathlib.Core.Path.{_≡_};
+ghost use mathlib.Core.Bool.{true};
 ghost use mathlib.Core.List.{[], _∷_};
-ghost use Rattle.access.specs.Access.{place, bits, standing, granted, everyRight};
+ghost use Prim.Native.Nat.{_<_};
+ghost use lib.Dec.{eqb};
+ghost use Rattle.access.specs.Access.{place, bits, standing, cell, granted, everyRight};
 ghost use Rattle.access.specs.declared.rights.Right.the-variants.{SEE, LEARN};
 
 // In the order of a role's cells: see (point, transform, turn-back, scale, shift, status and the getters), learn (learn, drain), save, restore.
@@ -21,6 +24,7 @@ pub fn every_right() -> [u8; 16]
 
 fn place_of(right: Right) -> usize
     ensures { λ r. ⌜ r ≡ place right ⌝ }
+    ensures { λ r. ⌜ r < 4 ⌝ }
 {
     match right {
         Right::SEE => 0,
@@ -57,6 +61,16 @@ fn has_role(table: &[u8], role: u64) -> bool
     all_bits(table)
 }
 
+// Whether the cell says so.
+fn is_granted(table: &[u8], role: u64, right: Right) -> bool
+    requires { ⌜ standing (now table) role ≡ true ⌝ }
+    ensures { λ r. ⌜ r ≡ eqb (cell (now (table .entry)) role right) 1 ⌝ }
+{
+    let right_at = place_of(right);
+    let at = 4 * (role as usize) + right_at;
+    table[at] == 1
+}
+
 // Whether the role has the right.
 pub fn may(table: &[u8], role: u64, right: Right) -> bool
     ensures { λ r. ⌜ r ≡ granted (now (table .entry)) role (right ∷ []) ⌝ }
@@ -64,9 +78,7 @@ pub fn may(table: &[u8], role: u64, right: Right) -> bool
     if !has_role(table, role) {
         return false;
     }
-    let right_at = place_of(right);
-    let at = 4 * (role as usize) + right_at;
-    table[at] == 1
+    is_granted(table, role, right)
 }
 
 // Whether the role has both rights that a point needs.
@@ -76,10 +88,8 @@ pub fn may_point(table: &[u8], role: u64) -> bool
     if !has_role(table, role) {
         return false;
     }
-    let at = 4 * (role as usize);
-    if table[at] != 1 {
+    if !is_granted(table, role, Right::SEE) {
         return false;
     }
-    let next = at + 1;
-    table[next] == 1
+    is_granted(table, role, Right::LEARN)
 }

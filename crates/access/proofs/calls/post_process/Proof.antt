@@ -1,77 +1,63 @@
+-- `access::calls::post_process` meets its contract: 22 by the table's test, else the promise of the entry below. Assumes nothing.
+use mathlib.Core.List.{[], _∷_}
+use borrow.Author.Tests.{not-true, not-false}
+use Rattle.trcf.specs.View.{lent, learnCall, learnNothing, learnAfter}
+use Rattle.access.specs.declared.rights.Right.the-variants.{LEARN}
+use Rattle.access.proofs.Laws.{guard-shut, guard-open}
 use borrow.Author.Needs.{needs}
 use Rattle.access.proofs.calls.post_process.Statement.{statement}
 use Rattle.access.proofs.calls.post_process.Tie as tie
-use Rattle.access.proofs.calls.post_process.Reads as reads
-use Rattle.access.proofs.calls.post_process.Lts as lts
-use Rattle.access.proofs.rights.may.Reads as may-reads
-use Rattle.trcf_learn.proofs.post_process.post_process.Reads as post-process-reads
 
--- src/calls.rt:77:9
 may-requires : tie.Need-may-requires
 may-requires c κs = search needs
 
--- src/calls.rt:78:9
 returns : tie.Need-returns
-returns c = ?
+returns c = guard-shut _ _ (LEARN ∷ []) (c .before .may .result) (c .before .may .ensures) _ _ (not-true _ (c .if1 .taken))
 
--- src/calls.rt:87:5
 post-process-requires : tie.Need-post-process-requires
 post-process-requires c κs = search needs
 
--- src/calls.rt:52:1
 same-length : tie.Need-same-length
 same-length c = search needs
 
--- src/calls.rt:52:1
 same-length-2 : tie.Need-same-length-2
 same-length-2 c = search needs
 
--- src/calls.rt:52:1
 same-length-3 : tie.Need-same-length-3
 same-length-3 c = search needs
 
--- src/calls.rt:52:1
 same-length-4 : tie.Need-same-length-4
 same-length-4 c = search needs
 
--- src/calls.rt:52:1
 same-length-5 : tie.Need-same-length-5
 same-length-5 c = search needs
 
--- src/calls.rt:52:1
 same-length-6 : tie.Need-same-length-6
 same-length-6 c = search needs
 
--- src/calls.rt:52:1
 same-length-7 : tie.Need-same-length-7
 same-length-7 c = search needs
 
--- src/calls.rt:52:1
 same-length-8 : tie.Need-same-length-8
 same-length-8 c = search needs
 
--- src/calls.rt:52:1
 same-length-9 : tie.Need-same-length-9
 same-length-9 c = search needs
 
--- src/calls.rt:52:1
 returns-2 : tie.Need-returns-2
-returns-2 c = ?
+returns-2 c =
+    let c8 = c .before .before .before .before .before .before .before .before in
+    let c16 = c8 .before .before .before .before .before .before .before .before in
+    let c24 = c16 .before .before .before .before .before .before .before .before in
+    let e = c24 .before .before .before .before in
+    let s = e .before .before .before .before .before .before .before in
+    let a = s .before .before .before .before .before .before .before .before .args in
+    let l = lent (a .statistics .now) (a .last-shingled-input .now) (a .last-shingled-point .now) (a .previous-timestamps .now) (a .initial-values .now) (a .initial-timestamps .now) in
+    let q =
+    learnCall (a .input .now) (a .timestamp) (a .has-y) (a .y .now) (a .expects) (a .expected .now) (a .grade) (a .relative-index) (a .deviations-out .now)
+    (a .past-out .now) (a .expected-out .now) in
+    guard-open (a .table .now) (a .role) (LEARN ∷ []) (e .before .may .result) (e .before .may .ensures) (learnAfter (a .head) l q) (learnNothing 22 (a .head) l q)
+    (not-false _ (e .if1 .left)) _ (c16 .before .before .post-process .ensures)
 
 pub post-process-spec : {M : Type 1} → statement M
-post-process-spec =
-    tie.close
-    (tie.spec
-    may-requires
-    returns
-    post-process-requires
-    same-length
-    same-length-2
-    same-length-3
-    same-length-4
-    same-length-5
-    same-length-6
-    same-length-7
-    same-length-8
-    same-length-9
-    returns-2)
+post-process-spec = tie.close (tie.spec may-requires returns post-process-requires same-length same-length-2 same-length-3 same-length-4 same-length-5 same-length-6 same-length-7 same-length-8 same-length-9 returns-2)

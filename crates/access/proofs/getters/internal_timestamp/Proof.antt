@@ -1,27 +1,27 @@
+-- `access::getters::internal_timestamp` meets its contract: 22 by the table's test, else the promise of the getter below. Assumes nothing.
+use mathlib.Core.Path.{ap}
+use mathlib.Core.List.{[], _∷_}
+use borrow.Author.Tests.{not-true, not-false}
+use Rattle.access.specs.declared.rights.Right.the-variants.{SEE}
+use Rattle.access.specs.Entries.{number}
+use Rattle.access.proofs.Laws.{guard-shut, guard-open}
 use borrow.Author.Needs.{needs}
 use Rattle.access.proofs.getters.internal_timestamp.Statement.{statement}
 use Rattle.access.proofs.getters.internal_timestamp.Tie as tie
-use Rattle.access.proofs.getters.internal_timestamp.Reads as reads
-use Rattle.access.proofs.getters.internal_timestamp.Lts as lts
-use Rattle.access.proofs.rights.may.Reads as may-reads
-use Rattle.trcf_calls.proofs.queries.internal_timestamp.Reads as internal-timestamp-reads
 
--- src/getters.rt:50:9
 may-requires : tie.Need-may-requires
 may-requires c κs = search needs
 
--- src/getters.rt:51:9
 returns : tie.Need-returns
-returns c = ?
+returns c = guard-shut _ _ (SEE ∷ []) (c .before .may .result) (c .before .may .ensures) _ _ (not-true _ (c .if1 .taken))
 
--- src/getters.rt:55:17
 internal-timestamp-requires : tie.Need-internal-timestamp-requires
 internal-timestamp-requires c κs = search needs
 
--- src/getters.rt:47:1
 returns-2 : tie.Need-returns-2
-returns-2 c = ?
+returns-2 c =
+    let e = c .before in
+    guard-open _ _ (SEE ∷ []) (e .before .may .result) (e .before .may .ensures) _ _ (not-false _ (e .if1 .left)) _ (ap (number 0) (c .internal-timestamp .ensures))
 
 pub internal-timestamp-spec : {M : Type 1} → statement M
-internal-timestamp-spec =
-    tie.close (tie.spec may-requires returns internal-timestamp-requires returns-2)
+internal-timestamp-spec = tie.close (tie.spec may-requires returns internal-timestamp-requires returns-2)

@@ -1,9 +1,8 @@
 -- `access::rights::may` meets its contract: by the table's test, and the cell. Assumes nothing.
 use mathlib.Core.Path.{sym, _∙_}
 use mathlib.Core.List.{[], _∷_}
-use native.Mathlib.Omega.{arith}
 use borrow.Author.Tests.{not-true, not-false}
-use Rattle.access.proofs.Laws.{no-table, stands-size, stands-role, by-cells, and-true}
+use Rattle.access.proofs.Laws.{no-table, by-cells, and-true}
 use borrow.Author.Needs.{needs}
 use Rattle.access.proofs.rights.may.Statement.{statement}
 use Rattle.access.proofs.rights.may.Tie as tie
@@ -14,20 +13,13 @@ has-role-requires c κs = search needs
 returns : tie.Need-returns
 returns c = no-table _ _ _ (sym (c .before .has-role .ensures) ∙ not-true _ (c .if1 .taken))
 
-place-of-requires : tie.Need-place-of-requires
-place-of-requires c κs = search needs
-
-mul-at : tie.Need-mul-at
-mul-at c = ?
-
-add-at : tie.Need-add-at
-add-at c = ?
-
-shared-slice-read-result : tie.Need-shared-slice-read-result
-shared-slice-read-result c = ?
+is-granted-requires : tie.Need-is-granted-requires
+is-granted-requires c κs = sym (c .before .has-role .ensures) ∙ not-false _ (c .if1 .left)
 
 returns-2 : tie.Need-returns-2
-returns-2 c = ?
+returns-2 c =
+    let e = c .before in
+    c .is-granted .ensures ∙ and-true _ ∙ by-cells _ _ _ (sym (e .before .has-role .ensures) ∙ not-false _ (e .if1 .left))
 
 pub may-spec : {M : Type 1} → statement M
-may-spec = tie.close (tie.spec has-role-requires returns place-of-requires mul-at add-at shared-slice-read-result returns-2)
+may-spec = tie.close (tie.spec has-role-requires returns is-granted-requires returns-2)
