@@ -16,6 +16,7 @@ use Rattle.trcf.specs.declared.types.ForestMode.{ForestMode}
 use Rattle.trcf.specs.declared.head.Preprocessor.{Preprocessor}
 use Rattle.trcf.specs.declared.head.StatusAnswer.{StatusAnswer}
 use Rattle.access.specs.declared.rights.Right.{Right}
+use Rattle.access.specs.declared.rights.Right.the-variants.{SEE, LEARN, SAVE, RESTORE}
 use Rattle.access.specs.Access.{place, bits, standing, cell, has, granted, guarded, everyRight}
 use Rattle.access.specs.Entries.{readyOf, dimensionsOf, numbersOf}
 
@@ -78,6 +79,23 @@ module _ {A : Type 0} (t : List ℕ) (role : ℕ) (rs : List Right) (b : Bool) (
 
   pub guard-open : b ≡ true → (x : A) → x ≡ below → x ≡ guarded t role rs below withheld
   guard-open e x y = y ∙ ap (λ (q : Bool). cond q below withheld) (sym e ∙ m)
+
+-- ---- a program: role 0 of the table with every right
+
+has-every : (rs : List Right) → has everyRight 0 rs ≡ true
+has-every [] = refl
+has-every (SEE ∷ rs) = has-every rs
+has-every (LEARN ∷ rs) = has-every rs
+has-every (SAVE ∷ rs) = has-every rs
+has-every (RESTORE ∷ rs) = has-every rs
+
+pub every-granted : (rs : List Right) → granted everyRight 0 rs ≡ true
+unfolding granted
+every-granted rs = has-every rs
+
+module _ {A : Type 0} where
+  pub as-every : (t : List ℕ) (rs : List Right) (below withheld : A) → t ≡ everyRight → guarded t 0 rs below withheld ≡ below
+  as-every t rs below withheld e = ap (λ (x : List ℕ). guarded x 0 rs below withheld) e ∙ ap (λ (b : Bool). cond b below withheld) (every-granted rs)
 
 -- ---- the getters' numbers together
 
