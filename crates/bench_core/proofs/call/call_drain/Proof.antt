@@ -5,6 +5,12 @@ use borrow.Author.Needs.{needs}
 use Rattle.bench_core.proofs.call.call_drain.Statement.{statement}
 use Rattle.bench_core.proofs.call.call_drain.Tie as tie
 
+every-right-requires : tie.Need-every-right-requires
+every-right-requires c κs = search needs
+
+slice-aggregate-drain : tie.Need-slice-aggregate-drain
+slice-aggregate-drain c = search needs
+
 drain-requires : tie.Need-drain-requires
 drain-requires c κs = search needs
 
@@ -27,13 +33,20 @@ same-length-5 : tie.Need-same-length-5
 same-length-5 c = search needs
 
 returns : tie.Need-returns
-returns c = λ y. drain-turn (c .before .before .before .before .before .before .before .before .before .before .before .before .before .before .before .before .before .before .before .before .before .before .before .before .before .args .head) (c .before .before .before .before .before .before .before .before .before .before .before .before .before .before .before .before .before .before .before .before .before .before .before .before .before .args .given) (lent (c .before .before .before .before .before .before .before .before .before .before .before .before .before .before .before .before .before .before .before .before .before .before .before .before .before .args .statistics .now) (c .before .before .before .before .before .before .before .before .before .before .before .before .before .before .before .before .before .before .before .before .before .before .before .before .before .args .last-shingled-input .now) (c .before .before .before .before .before .before .before .before .before .before .before .before .before .before .before .before .before .before .before .before .before .before .before .before .before .args .last-shingled-point .now) (c .before .before .before .before .before .before .before .before .before .before .before .before .before .before .before .before .before .before .before .before .before .before .before .before .before .args .previous-timestamps .now) (c .before .before .before .before .before .before .before .before .before .before .before .before .before .before .before .before .before .before .before .before .before .before .before .before .before .args .initial-values .now) (c .before .before .before .before .before .before .before .before .before .before .before .before .before .before .before .before .before .before .before .before .before .before .before .before .before .args .initial-timestamps .now)) (c .before .before .before .before .before .before .before .before .before .before .before .before .before .before .before .before .before .before .before .before .before .before .before .before .before .args .out .now) y (c .before .before .before .before .before .before .before .before .before .before .before .before .before .drain .ensures) (c .before .before .print-ok .ensures)
+returns c =
+    let c8 = c .before .before .before .before .before .before .before .before in
+    let c16 = c8 .before .before .before .before .before .before .before .before in
+    let c24 = c16 .before .before .before .before .before .before .before .before in
+    let a = c24 .before .before .before .args in
+    λ y. drain-turn (c16 .before .before .before .every-right .result) (c16 .before .before .before .every-right .ensures) (a .head) (a .given)
+    (lent (a .statistics .now) (a .last-shingled-input .now) (a .last-shingled-point .now) (a .previous-timestamps .now) (a .initial-values .now) (a .initial-timestamps .now))
+    (a .out .now) y (c8 .before .before .before .before .before .drain .ensures) (c .before .before .print-ok .ensures)
 
 pub call-drain-spec : {M : Type 1} → statement M
 call-drain-spec =
     tie.close
     (tie.spec
-    drain-requires
+    every-right-requires slice-aggregate-drain drain-requires
     print-ok-requires
     same-length
     same-length-2

@@ -17,11 +17,14 @@ get-dimension-requires c κs = search needs
 least-requires : tie.Need-least-requires
 least-requires c κs = search needs
 
+every-right-requires : tie.Need-every-right-requires
+every-right-requires c κs = search needs
+
 slice-aggregate-post-process : tie.Need-slice-aggregate-post-process
-slice-aggregate-post-process c = simp length-take (omega arith)
+slice-aggregate-post-process c = search needs
 
 slice-aggregate-post-process-2 : tie.Need-slice-aggregate-post-process-2
-slice-aggregate-post-process-2 c = search needs
+slice-aggregate-post-process-2 c = simp length-take (omega arith)
 
 slice-aggregate-post-process-3 : tie.Need-slice-aggregate-post-process-3
 slice-aggregate-post-process-3 c = search needs
@@ -32,11 +35,20 @@ slice-aggregate-post-process-4 c = search needs
 slice-aggregate-post-process-5 : tie.Need-slice-aggregate-post-process-5
 slice-aggregate-post-process-5 c = search needs
 
+slice-aggregate-post-process-6 : tie.Need-slice-aggregate-post-process-6
+slice-aggregate-post-process-6 c = search needs
+
 post-process-requires : tie.Need-post-process-requires
 post-process-requires c κs = search needs
 
 print-ok-requires : tie.Need-print-ok-requires
-print-ok-requires c κs = c .before .before .before .before .before .before .before .before .before .before .before .before .before .before .before .before .before .before .before .before .before .before .before .before .before .before .before .before .before .before .before .before .before .before .before .before .before .before .before .before .pre
+print-ok-requires c κs =
+    let c8 = c .before .before .before .before .before .before .before .before in
+    let c16 = c8 .before .before .before .before .before .before .before .before in
+    let c24 = c16 .before .before .before .before .before .before .before .before in
+    let c32 = c24 .before .before .before .before .before .before .before .before in
+    let c40 = c32 .before .before .before .before .before .before .before .before in
+    c40 .before .before .pre
 
 same-length : tie.Need-same-length
 same-length c = search needs
@@ -61,7 +73,18 @@ same-length-7 c = search needs
 
 returns : tie.Need-returns
 unfolding dimensionOf
-returns c = learn-turn (c .before .before .before .before .before .before .before .before .before .before .before .before .before .before .before .before .before .before .before .before .before .before .before .before .before .before .before .before .before .before .before .before .before .before .before .before .before .before .before .before .before .before .before .args .head) (c .before .before .before .before .before .before .before .before .before .before .before .before .before .before .before .before .before .before .before .before .before .before .before .before .before .before .before .before .before .before .before .before .before .before .before .before .before .before .before .before .before .before .before .args .given) (lent (c .before .before .before .before .before .before .before .before .before .before .before .before .before .before .before .before .before .before .before .before .before .before .before .before .before .before .before .before .before .before .before .before .before .before .before .before .before .before .before .before .before .before .before .args .statistics .now) (c .before .before .before .before .before .before .before .before .before .before .before .before .before .before .before .before .before .before .before .before .before .before .before .before .before .before .before .before .before .before .before .before .before .before .before .before .before .before .before .before .before .before .before .args .last-shingled-input .now) (c .before .before .before .before .before .before .before .before .before .before .before .before .before .before .before .before .before .before .before .before .before .before .before .before .before .before .before .before .before .before .before .before .before .before .before .before .before .before .before .before .before .before .before .args .last-shingled-point .now) (c .before .before .before .before .before .before .before .before .before .before .before .before .before .before .before .before .before .before .before .before .before .before .before .before .before .before .before .before .before .before .before .before .before .before .before .before .before .before .before .before .before .before .before .args .previous-timestamps .now) (c .before .before .before .before .before .before .before .before .before .before .before .before .before .before .before .before .before .before .before .before .before .before .before .before .before .before .before .before .before .before .before .before .before .before .before .before .before .before .before .before .before .before .before .args .initial-values .now) (c .before .before .before .before .before .before .before .before .before .before .before .before .before .before .before .before .before .before .before .before .before .before .before .before .before .before .before .before .before .before .before .before .before .before .before .before .before .before .before .before .before .before .before .args .initial-timestamps .now)) (c .before .before .before .before .before .before .before .before .before .before .before .before .before .before .before .before .before .before .before .before .before .before .before .before .before .before .before .before .before .before .before .before .before .before .before .before .before .before .before .before .before .before .before .args .out .now) (c .before .before .before .before .before .before .before .before .before .before .before .before .before .before .before .before .before .before .before .before .before .before .before .before .before .before .before .before .before .before .before .before .before .before .before .before .before .before .before .before .before .before .before .args .input .now) (c .before .before .before .before .before .before .before .before .before .before .before .before .before .before .before .before .before .before .before .before .before .before .before .before .before .before .before .before .before .before .before .before .before .before .before .before .before .before .before .before .before .before .before .args .timestamp) (c .before .before .before .before .before .before .before .before .before .before .before .before .before .before .before .before .before .before .before .before .before .before .before .before .before .before .before .before .before .before .before .before .before .before .before .before .before .before .before .before .before .before .before .args .point .now) (take-least (c .before .before .before .before .before .before .before .before .before .before .before .before .before .before .before .before .before .before .before .before .before .before .before .before .before .before .before .before .before .before .before .before .before .get-dimension .result) (c .before .before .before .before .before .before .before .before .before .before .before .before .before .before .before .before .before .before .before .before .before .before .before .before .before .before .before .before .before .before .before .before .least .result) (c .before .before .before .before .before .before .before .before .before .before .before .before .before .before .before .before .before .before .before .before .before .before .before .before .before .before .before .before .before .before .before .before .before .before .before .before .before .before .before .before .before .before .before .args .point .now) (c .before .before .before .before .before .before .before .before .before .before .before .before .before .before .before .before .before .before .before .before .before .before .before .before .before .before .before .before .before .before .before .before .least .ensures .0) ∙ ap (λ (i : ℕ). take i (c .before .before .before .before .before .before .before .before .before .before .before .before .before .before .before .before .before .before .before .before .before .before .before .before .before .before .before .before .before .before .before .before .before .before .before .before .before .before .before .before .before .before .before .args .point .now)) (c .before .before .before .before .before .before .before .before .before .before .before .before .before .before .before .before .before .before .before .before .before .before .before .before .before .before .before .before .before .before .before .before .before .get-dimension .ensures)) (c .before .before .before .before .before .before .before .before .before .before .before .before .before .before .before .before .before .before .before .before .post-process .ensures) (c .before .before .print-ok .ensures)
+returns c =
+    let c8 = c .before .before .before .before .before .before .before .before in
+    let c16 = c8 .before .before .before .before .before .before .before .before in
+    let c24 = c16 .before .before .before .before .before .before .before .before in
+    let c32 = c24 .before .before .before .before .before .before .before .before in
+    let c40 = c32 .before .before .before .before .before .before .before .before in
+    let a = c40 .before .before .before .before .before .args in
+    learn-turn (c32 .before .every-right .result) (c32 .before .every-right .ensures) (a .head) (a .given)
+    (lent (a .statistics .now) (a .last-shingled-input .now) (a .last-shingled-point .now) (a .previous-timestamps .now) (a .initial-values .now) (a .initial-timestamps .now))
+    (a .out .now) (a .input .now) (a .timestamp) (a .point .now)
+    (take-least (c32 .before .before .before .get-dimension .result) (c32 .before .before .least .result) (a .point .now) (c32 .before .before .least .ensures .0) ∙ ap (λ (i : ℕ). take i (a .point .now)) (c32 .before .before .before .get-dimension .ensures))
+    (c16 .before .before .before .before .post-process .ensures) (c .before .before .print-ok .ensures)
 
 pub call-learn-spec : {M : Type 1} → statement M
 call-learn-spec =
@@ -69,11 +92,13 @@ call-learn-spec =
     (tie.spec
     get-dimension-requires
     least-requires
+    every-right-requires
     slice-aggregate-post-process
     slice-aggregate-post-process-2
     slice-aggregate-post-process-3
     slice-aggregate-post-process-4
     slice-aggregate-post-process-5
+    slice-aggregate-post-process-6
     post-process-requires
     print-ok-requires
     same-length
