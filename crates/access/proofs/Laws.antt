@@ -10,7 +10,9 @@ use lib.Seq.{drop-cons}
 use borrow.Author.Tests.{le-ltb, lt-ltb, eq-eqb, ne-eqb, eqb-true, ltb-true}
 use Rattle.snapshot.proofs.Lists.{and-left, and-right}
 use Rattle.trcf.specs.Preprocessor.{panelOf}
-use Rattle.trcf.specs.View.{alone}
+use Rattle.trcf.specs.Types.{methodNumber, methodOfNumber, modeLetter, modeOfLetter}
+use Rattle.trcf.specs.View.{alone, readyOf, dimensionOf}
+use Rattle.trcf.proofs.TypeLaws.{method-back, mode-back}
 use Rattle.trcf.specs.declared.types.TransformMethod.{TransformMethod}
 use Rattle.trcf.specs.declared.types.ForestMode.{ForestMode}
 use Rattle.trcf.specs.declared.head.Preprocessor.{Preprocessor}
@@ -18,7 +20,7 @@ use Rattle.trcf.specs.declared.head.StatusAnswer.{StatusAnswer}
 use Rattle.access.specs.declared.rights.Right.{Right}
 use Rattle.access.specs.declared.rights.Right.the-variants.{SEE, LEARN, SAVE, RESTORE}
 use Rattle.access.specs.Access.{place, bits, standing, cell, has, granted, guarded, everyRight}
-use Rattle.access.specs.Entries.{readyOf, dimensionsOf, numbersOf}
+use Rattle.access.specs.Entries.{numbersOf}
 
 -- ---- the cells, one by one
 
@@ -115,9 +117,16 @@ answered a b r d e f k m i n =
       panel = n;
     }
 
+-- a kind is known by its number, or its letter
+pub same-method : (a b : TransformMethod) → methodNumber a ≡ methodNumber b → a ≡ b
+same-method a b e = sym (method-back a) ∙ ap methodOfNumber e ∙ method-back b
+
+pub same-mode : (a b : ForestMode) → modeLetter a ≡ modeLetter b → a ≡ b
+same-mode a b e = sym (mode-back a) ∙ ap modeOfLetter e ∙ mode-back b
+
 pub numbers-are : (h : Preprocessor) {a b d e f i n : ℕ} {r : Bool} {k : TransformMethod} {m : ForestMode}
-    → a ≡ h .«values_seen» → b ≡ h .«internal_timestamp» → r ≡ readyOf h → d ≡ h .transformer .«input_length» → e ≡ h .«shingle_size» → f ≡ dimensionsOf h
-    → k ≡ h .transformer .«transform_method» → m ≡ h .«forest_mode» → i ≡ h .«start_normalization» → n ≡ panelOf (alone h)
+    → a ≡ h .«values_seen» → b ≡ h .«internal_timestamp» → r ≡ readyOf h → d ≡ h .transformer .«input_length» → e ≡ h .«shingle_size» → f ≡ dimensionOf h
+    → methodNumber k ≡ methodNumber (h .transformer .«transform_method») → modeLetter m ≡ modeLetter (h .«forest_mode») → i ≡ h .«start_normalization» → n ≡ panelOf (alone h)
     → answered a b r d e f k m i n ≡ numbersOf h
 numbers-are h a b r d e f k m i n =
-    λ j. answered (a j) (b j) (r j) (d j) (e j) (f j) (k j) (m j) (i j) (n j)
+    λ j. answered (a j) (b j) (r j) (d j) (e j) (f j) (same-method _ _ k j) (same-mode _ _ m j) (i j) (n j)

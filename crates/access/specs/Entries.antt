@@ -3,12 +3,10 @@
 use Prim.Native.Nat.{ℕ}
 use mathlib.Core.Bool.{Bool, false}
 use mathlib.Core.List.{List, [], _∷_}
-use lib.Dec.{leb}
 use lib.Ieee.{Float}
-use Rattle.trcf.specs.Settings.{dimension}
 use Rattle.trcf.specs.Calls.{Call, Learn, Forecast, shingledPoint, postProcess, drain, invertExtrapolation, status}
-use Rattle.trcf.specs.Preprocessor.{accepted, panelOf}
-use Rattle.trcf.specs.View.{Lent, settingsOf, headRow, alone, noHead, Outcome, outcome, drainOf, PointOutcome, pointed, pointAfter, LearnOutcome, learnNothing, learnAfter, Written, written, writeOf, StatusOutcome, statusGiven, statusAfter}
+use Rattle.trcf.specs.Preprocessor.{panelOf}
+use Rattle.trcf.specs.View.{Lent, alone, noHead, readyOf, dimensionOf, Outcome, outcome, drainOf, PointOutcome, pointed, pointAfter, LearnOutcome, learnNothing, learnAfter, Written, written, writeOf, StatusOutcome, statusGiven, statusAfter}
 use Rattle.trcf.specs.Extrapolation.{Extrapolation, extrapolation, extrapolationOf}
 use Rattle.trcf.specs.declared.types.TransformMethod.{TransformMethod}
 use Rattle.trcf.specs.declared.types.TransformMethod.the-variants.{NONE}
@@ -67,12 +65,6 @@ statusBy table role h l out = guarded table role (needs (status out)) (statusAft
 
 -- ---- the getters, which status is made of: each its number, or 22 and 0
 
-abbrev pub readyOf : Preprocessor → Bool
-readyOf h = leb (h .«shingle_size») (h .«internal_timestamp»)
-
-abbrev pub dimensionsOf : Preprocessor → ℕ
-dimensionsOf h = accepted (headRow (settingsOf h)) (dimension (settingsOf h)) 0
-
 abbrev pub numbersOf : Preprocessor → StatusAnswer
 numbersOf h =
     record {
@@ -82,7 +74,7 @@ numbersOf h =
       ready = readyOf h;
       «input_dimensions» = h .transformer .«input_length»;
       «shingle_size» = h .«shingle_size»;
-      dimensions = dimensionsOf h;
+      dimensions = dimensionOf h;
       «transform_method» = h .transformer .«transform_method»;
       «forest_mode» = h .«forest_mode»;
       «start_normalization» = h .«start_normalization»;

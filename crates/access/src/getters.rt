@@ -8,8 +8,8 @@ use trcf::types::ForestMode;
 use trcf::types::TransformMethod;
 ghost use mathlib.Core.Path.{_≡_};
 ghost use Rattle.trcf.specs.Preprocessor.{panelOf};
-ghost use Rattle.trcf.specs.View.{alone};
-ghost use Rattle.access.specs.Entries.{readyOf, dimensionsOf, numbersBy, numberBy, readyBy, methodBy, modeBy};
+ghost use Rattle.trcf.specs.View.{alone, readyOf, dimensionOf};
+ghost use Rattle.access.specs.Entries.{numbersBy, numberBy, readyBy, methodBy, modeBy};
 
 // The row, 0 for none, and what was asked for: 0, false, NONE or STANDARD where the right is withheld.
 pub struct Number {
@@ -81,7 +81,7 @@ pub fn shingle_size(table: &[u8], role: u64, head: Preprocessor) -> Number
 }
 
 pub fn get_dimension(table: &[u8], role: u64, head: Preprocessor) -> Number
-    ensures { λ r. ⌜ r ≡ numberBy (now (table .entry)) role (dimensionsOf head) ⌝ }
+    ensures { λ r. ⌜ r ≡ numberBy (now (table .entry)) role (dimensionOf head) ⌝ }
 {
     if !may(table, role, Right::SEE) {
         return Number { row: 22, number: 0 };

@@ -4,7 +4,7 @@ use mathlib.Core.List.{[], _∷_}
 use borrow.Author.Tests.{not-true, not-false}
 use Rattle.access.specs.declared.rights.Right.the-variants.{SEE}
 use Rattle.access.specs.Entries.{mode}
-use Rattle.access.proofs.Laws.{guard-shut, guard-open}
+use Rattle.access.proofs.Laws.{guard-shut, guard-open, same-mode}
 use borrow.Author.Needs.{needs}
 use Rattle.access.proofs.getters.forest_mode.Statement.{statement}
 use Rattle.access.proofs.getters.forest_mode.Tie as tie
@@ -21,7 +21,7 @@ forest-mode-requires c κs = search needs
 returns-2 : tie.Need-returns-2
 returns-2 c =
     let e = c .before in
-    guard-open _ _ (SEE ∷ []) (e .before .may .result) (e .before .may .ensures) _ _ (not-false _ (e .if1 .left)) _ (ap (mode 0) (c .forest-mode .ensures))
+    guard-open _ _ (SEE ∷ []) (e .before .may .result) (e .before .may .ensures) _ _ (not-false _ (e .if1 .left)) _ (ap (mode 0) (same-mode _ _ (c .forest-mode .ensures)))
 
 pub forest-mode-spec : {M : Type 1} → statement M
 forest-mode-spec = tie.close (tie.spec may-requires returns forest-mode-requires returns-2)

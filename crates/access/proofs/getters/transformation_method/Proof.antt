@@ -4,7 +4,7 @@ use mathlib.Core.List.{[], _∷_}
 use borrow.Author.Tests.{not-true, not-false}
 use Rattle.access.specs.declared.rights.Right.the-variants.{SEE}
 use Rattle.access.specs.Entries.{method}
-use Rattle.access.proofs.Laws.{guard-shut, guard-open}
+use Rattle.access.proofs.Laws.{guard-shut, guard-open, same-method}
 use borrow.Author.Needs.{needs}
 use Rattle.access.proofs.getters.transformation_method.Statement.{statement}
 use Rattle.access.proofs.getters.transformation_method.Tie as tie
@@ -21,7 +21,7 @@ transformation-method-requires c κs = search needs
 returns-2 : tie.Need-returns-2
 returns-2 c =
     let e = c .before in
-    guard-open _ _ (SEE ∷ []) (e .before .may .result) (e .before .may .ensures) _ _ (not-false _ (e .if1 .left)) _ (ap (method 0) (c .transformation-method .ensures))
+    guard-open _ _ (SEE ∷ []) (e .before .may .result) (e .before .may .ensures) _ _ (not-false _ (e .if1 .left)) _ (ap (method 0) (same-method _ _ (c .transformation-method .ensures)))
 
 pub transformation-method-spec : {M : Type 1} → statement M
 transformation-method-spec = tie.close (tie.spec may-requires returns transformation-method-requires returns-2)
