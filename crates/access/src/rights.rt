@@ -1,0 +1,6 @@
+pub enum Right {
+    SEE,
+    LEARN,
+    SAVE,
+    RESTORE,
+}

@@ -1,0 +1,2 @@
+pub mod Granted
+pub mod RoleRestart
