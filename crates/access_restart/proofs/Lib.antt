@@ -1,2 +1,5 @@
 pub mod Granted
 pub mod RoleRestart
+pub mod Composed
+pub mod RoleHeld
+pub mod RoleProgram
