@@ -10,7 +10,7 @@ use Rattle.access.specs.declared.rights.Right.the-variants.{SEE, LEARN, 
 
 -- ---- rights
 
--- "(see …; learn …; put away; take up) …, role by role in that order of rights"
+-- "4 roles by 4 rights (see …; learn …; put away; take up)"
 abbrev pub place : Right → ℕ
 place SEE = 0
 place LEARN = 1
@@ -34,7 +34,11 @@ abbrev pub bits : List ℕ → Bool
 bits [] = true
 bits (x ∷ xs) = ltb x 2 && bits xs
 
--- "role by role": the rights of a role stand side by side
+-- the table is one, and the role one of its four
+abbrev pub standing : List ℕ → ℕ → Bool
+standing table role = eqb (length table) 16 && (ltb role 4 && bits table)
+
+-- "role by role in that order of rights"
 abbrev pub cell : List ℕ → ℕ → Right → ℕ
 cell table role r = getD table (4 * role + place r) 0
 
@@ -44,7 +48,7 @@ has table role [] = true
 has table role (r ∷ rs) = eqb (cell table role r) 1 && has table role rs
 
 unfoldable pub granted : List ℕ → ℕ → List Right → Bool
-granted table role rs = eqb (length table) 16 && (bits table && (ltb role 4 && has table role rs))
+granted table role rs = standing table role && has table role rs
 
 -- ---- every entry, of whatever kind its answer is: what the entry below gives, or 22 "before row 1" with all as it was
 

@@ -98,14 +98,23 @@ numbersBy table role h = guarded table role (SEE ∷ []) (numbersOf h) untold
 abbrev pub numberBy : List ℕ → ℕ → ℕ → Number
 numberBy table role x = guarded table role (SEE ∷ []) (number 0 x) (number 22 0)
 
+abbrev pub ready : ℕ → Bool → Ready
+ready n b = record { row = n; ready = b }
+
 abbrev pub readyBy : List ℕ → ℕ → Bool → Ready
-readyBy table role b = guarded table role (SEE ∷ []) (record { row = 0; ready = b }) (record { row = 22; ready = false })
+readyBy table role b = guarded table role (SEE ∷ []) (ready 0 b) (ready 22 false)
+
+abbrev pub method : ℕ → TransformMethod → Method
+method n m = record { row = n; «transform_method» = m }
 
 abbrev pub methodBy : List ℕ → ℕ → TransformMethod → Method
-methodBy table role m = guarded table role (SEE ∷ []) (record { row = 0; «transform_method» = m }) (record { row = 22; «transform_method» = NONE })
+methodBy table role m = guarded table role (SEE ∷ []) (method 0 m) (method 22 NONE)
+
+abbrev pub mode : ℕ → ForestMode → Mode
+mode n m = record { row = n; «forest_mode» = m }
 
 abbrev pub modeBy : List ℕ → ℕ → ForestMode → Mode
-modeBy table role m = guarded table role (SEE ∷ []) (record { row = 0; «forest_mode» = m }) (record { row = 22; «forest_mode» = STANDARD })
+modeBy table role m = guarded table role (SEE ∷ []) (mode 0 m) (mode 22 STANDARD)
 
 -- ---- `save`, and `restore`, which does not look at the text where it is withheld
 

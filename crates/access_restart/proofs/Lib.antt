@@ -3,3 +3,4 @@ pub mod RoleRestart
 pub mod Composed
 pub mod RoleHeld
 pub mod RoleProgram
+pub mod Plain
