@@ -5,8 +5,7 @@ use mathlib.Core.Bool.{Bool, true, false, cond}
 use mathlib.Core.List.{List, [], _∷_, _++_, map, append-assoc}
 use lib.ListN.{take, drop}
 use Rattle.trcf.specs.Calls.{Call}
-use Rattle.access.specs.Access.{granted, needs, guarded}
-use Rattle.access_restart.specs.Asked.{Asked, allowed, grantedCalls, placed, guardedStep, guardedRun, guardedPlaces, guardedSay, guardedAnswers}
+use Rattle.access_restart.specs.Asked.{Asked, allowed, grantedCalls, placed, guardedStep, guardedRun, guardedPlaces, guardedAnswers}
 
 -- the list t has what is seen at each place of the granted calls: at a withheld call it stays
 abbrev pub stayed : {P : Type 0} → List ℕ → List Asked → List P → List P

@@ -4,3 +4,4 @@ pub mod Composed
 pub mod RoleHeld
 pub mod RoleProgram
 pub mod Plain
+pub mod Instances

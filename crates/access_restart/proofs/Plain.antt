@@ -8,23 +8,23 @@ use mathlib.Core.Option.{Option, some}
 use lib.ListN.{length}
 use lib.Ieee.{Float}
 use Rattle.trcf.specs.Fit.{All}
-use Rattle.trcf.specs.Settings.{Settings, Valid, block}
+use Rattle.trcf.specs.Settings.{Settings, Valid}
 use Rattle.trcf.specs.Calls.{Call, Machine, shingledPoint, postProcess, drain, transform, invertExtrapolation, scale, shift, status}
 use Rattle.trcf.specs.Preprocessor.{State, fresh, next, run, Answer, answer, answers, panelOf}
-use Rattle.trcf.specs.View.{Lent, alone, lentShort}
+use Rattle.trcf.specs.View.{alone}
 use Rattle.snapshot.specs.Text.{render, TextOf}
 use Rattle.snapshot.specs.Read.{Read, taken, bad, read}
 use Rattle.snapshot.specs.Restore as restore
 use Rattle.restart.specs.History.{Entry, enter, entries, historyText, historyAnswer, historyAnswers, historyPanel, historyPanels}
-use Rattle.restart.specs.Statement.{Restores, Outlives, Restart, panelTold, panels, panelsEvents, historyPanelsEvents, Event, called, restarted as restarted₀, callsOf, runEvents, answersEvents, Restarts, Reaches, built as built₀, calling, restoring as restoring₀, Demand3}
+use Rattle.restart.specs.Statement.{Outlives, Restart, panelTold, panels, panelsEvents, historyPanelsEvents, Event, called, restarted as restarted₀, callsOf, runEvents, answersEvents, Restarts, Reaches, built as built₀, calling, restoring as restoring₀, Demand3}
 use Rattle.restart.specs.Held.{Held, builtOn, savedTo, textIn, restoredOn}
-use Rattle.restart_program.specs.Program.{Return, answerRead, returnOf, leftBy, ran, returns, returnedPanels, shownPanels, ProgramRestart, ProgramDemand3}
+use Rattle.restart_program.specs.Program.{answerRead, returnOf, leftBy, ran, returns, returnedPanels, shownPanels, ProgramDemand3}
 use Rattle.access.specs.declared.getters.Number.{Number}
 use Rattle.access.specs.Access.{needs, granted, everyRight}
-use Rattle.access.specs.Entries.{number, numberBy}
-use Rattle.access_restart.specs.Asked.{Asked, ask, allowed, grantedCalls, placed, guardedStep, guardedRun, guardedPlaces, guardedAnswers, asRole0}
+use Rattle.access.specs.Entries.{number}
+use Rattle.access_restart.specs.Asked.{Asked, ask, grantedCalls, placed, guardedRun, guardedPlaces, guardedAnswers, asRole0}
 use Rattle.access_restart.specs.RoleDemand.{withheldAnswer, roleNext, roleRun, roleAnswers, rolePanels, gave, fedAt, RoleOutlives, RoleEvent, asked, restarted, askedOf, roleEvents, roleEventAnswers, roleEventPanels, fedAtEvents, RoleReaches, built, asking, restoring, RoleDemand3}
-use Rattle.access_restart.specs.RoleProgram.{roleReturn, roleLeft, roleRan, roleReturns, rolePanelsReturned, rolePanelsShown, RoleProgramRestart, RoleProgramDemand3}
+use Rattle.access_restart.specs.RoleProgram.{roleReturn, roleLeft, roleRan, roleReturns, rolePanelsReturned, rolePanelsShown, RoleProgramDemand3}
 use Rattle.access_restart.proofs.Granted.{run-granted, answers-granted}
 
 pub every-call : (c : Call) → granted everyRight 0 (needs c) ≡ true

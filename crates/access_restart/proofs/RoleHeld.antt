@@ -1,20 +1,17 @@
 -- Request #105 of what the program holds, from demand 3 of what it holds, over the granted calls. Assumes nothing.
-use Prim.Native.Nat.{ℕ, _≤_}
+use Prim.Native.Nat.{ℕ}
 use mathlib.Core.Path.{_≡_, refl, sym, ap, _∙_}
 use mathlib.Core.Bool.{true}
 use mathlib.Core.List.{List, [], _∷_, map}
 use mathlib.Core.Option.{Option, some}
-use lib.ListN.{length}
 use lib.Ieee.{Float}
-use Rattle.trcf.specs.Settings.{Settings, block}
 use Rattle.trcf.specs.Calls.{Call, status}
 use Rattle.trcf.specs.Preprocessor.{panelOf}
-use Rattle.trcf.specs.View.{Lent, alone, answerOf}
+use Rattle.trcf.specs.View.{alone, answerOf}
 use Rattle.snapshot.specs.Save as save
 use Rattle.snapshot.specs.Restore as restore
-use Rattle.restart.specs.History.{entries, historyPanels}
 use Rattle.restart.specs.Statement.{panelTold}
-use Rattle.restart.specs.Held.{Held, builtOn, heldNext, heldRun, heldAnswers, heldPanels, heldShown, HeldRestart}
+use Rattle.restart.specs.Held.{Held, heldNext, heldRun, heldAnswers, heldPanels, heldShown, HeldRestart}
 use Rattle.restart.proofs.Held.{held-demand-3}
 use Rattle.access.specs.declared.rights.Right.the-variants.{SEE}
 use Rattle.access.specs.declared.getters.Number.{Number}
@@ -22,7 +19,7 @@ use Rattle.access.specs.Access.{granted}
 use Rattle.access.specs.Entries.{number, numberBy}
 use Rattle.access_restart.specs.Asked.{Asked, ask, grantedCalls, placed}
 use Rattle.access_restart.specs.RoleDemand.{withheldAnswer}
-use Rattle.access_restart.specs.RoleHeld.{heldAnswer, heldRoleAnswer, heldRoleRun, heldRoleAnswers, heldRolePanels, heldRoleShown, HeldIsolation, RoleHeldRestart, RoleHeldDemand3}
+use Rattle.access_restart.specs.RoleHeld.{heldAnswer, heldRoleAnswer, heldRoleRun, heldRoleAnswers, heldRolePanels, heldRoleShown, HeldIsolation, RoleHeldDemand3}
 use Rattle.access_restart.proofs.Granted.{stayed, run-granted, answers-granted, places-granted, places-same}
 use Rattle.access_restart.proofs.Composed.{carried}
 

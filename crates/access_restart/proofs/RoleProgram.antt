@@ -1,20 +1,17 @@
 -- Request #105 of the program: the entries of crate access, composed by their contracts, are the granted calls of `program-demand-3`. Assumes nothing.
-use Prim.Native.Nat.{ℕ, _≤_}
+use Prim.Native.Nat.{ℕ}
 use mathlib.Core.Path.{_≡_, refl, sym, ap, _∙_}
-use mathlib.Core.Bool.{Bool, true, false, cond}
-use mathlib.Core.List.{List, [], _∷_, _++_, map}
+use mathlib.Core.Bool.{Bool, true, false}
+use mathlib.Core.List.{List, [], _∷_, map}
 use mathlib.Core.Option.{Option, some}
-use lib.ListN.{length, take, drop}
 use lib.Ieee.{Float}
-use Rattle.trcf.specs.Settings.{Settings, block}
 use Rattle.trcf.specs.Calls.{Call, shingledPoint, postProcess, drain, transform, invertExtrapolation, scale, shift, status}
 use Rattle.trcf.specs.Preprocessor.{Answer, refused, panelOf}
-use Rattle.trcf.specs.View.{Lent, alone}
+use Rattle.trcf.specs.View.{alone}
 use Rattle.snapshot.specs.Save as save
 use Rattle.snapshot.specs.Restore as restore
-use Rattle.restart.specs.History.{entries, historyPanels}
 use Rattle.restart.specs.Statement.{panelTold}
-use Rattle.restart.specs.Held.{Held, builtOn}
+use Rattle.restart.specs.Held.{Held}
 use Rattle.restart_program.specs.Program.{Return, answerRead, returnOf, leftBy, ran, returns, returnedPanels, shownPanels, ProgramRestart}
 use Rattle.restart_program.proofs.Program.{program-demand-3}
 use Rattle.access.specs.declared.rights.Right.the-variants.{SEE}
@@ -23,7 +20,7 @@ use Rattle.access.specs.Access.{granted}
 use Rattle.access.specs.Entries.{number, numberBy}
 use Rattle.access_restart.specs.Asked.{Asked, ask, allowed, grantedCalls, placed, guardedStep, guardedRun, guardedPlaces, guardedSay, guardedAnswers}
 use Rattle.access_restart.specs.RoleDemand.{withheldAnswer}
-use Rattle.access_restart.specs.RoleProgram.{roleReturn, roleLeft, roleRan, roleReturns, rolePanelsReturned, rolePanelsShown, withheldReturn, ProgramIsolation, RoleProgramRestart, RoleProgramDemand3}
+use Rattle.access_restart.specs.RoleProgram.{roleReturn, roleLeft, roleRan, roleReturns, rolePanelsReturned, rolePanelsShown, withheldReturn, ProgramIsolation, RoleProgramDemand3}
 use Rattle.access_restart.proofs.Granted.{stayed, run-granted, answers-granted, places-granted, places-same}
 use Rattle.access_restart.proofs.Composed.{carried}
 

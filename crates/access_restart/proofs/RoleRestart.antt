@@ -3,26 +3,26 @@ use Prim.Native.Nat.{ℕ, _≤_}
 use mathlib.Core.Path.{_≡_, refl, sym, ap, _∙_, subst}
 use mathlib.Core.Bool.{Bool, true, false, cond}
 use mathlib.Core.List.{List, [], _∷_, _++_, map, append-nil}
-use mathlib.Core.Option.{Option, some}
+use mathlib.Core.Option.{some}
 use lib.ListN.{length}
 use lib.Ieee.{Float}
 use Rattle.trcf.specs.Fit.{All}
 use Rattle.trcf.specs.Settings.{Settings, Valid, block}
 use Rattle.trcf.specs.Calls.{Call, Machine, status}
-use Rattle.trcf.specs.Preprocessor.{State, fresh, next, run, Answer, refused, answer, answers}
+use Rattle.trcf.specs.Preprocessor.{State, fresh, next, run, Answer, answer, answers}
 use Rattle.trcf.proofs.FitLaws.{all-append}
 use Rattle.snapshot.specs.Text.{render, TextOf}
 use Rattle.snapshot.specs.Read.{Read, taken, read}
 use Rattle.restart.specs.History.{Entry, enter, entriesFrom, entries, historyState, historyText, historyPanel, historyPanels}
-use Rattle.restart.specs.Statement.{Restores, Outlives, Restart, Reaches, calling, panelTold, panels, built as built₀, restoring as restoring₀}
+use Rattle.restart.specs.Statement.{Outlives, Restart, Reaches, calling, panelTold, panels, built as built₀, restoring as restoring₀}
 use Rattle.restart.proofs.Step.{run-history, answers-history}
 use Rattle.restart.proofs.Panel.{panel-at}
 use Rattle.restart.proofs.Reachable.{k>0-of}
 use Rattle.restart.proofs.Restart.{run-append, restored, text-history, demand-3}
 use Rattle.access.specs.declared.rights.Right.the-variants.{SEE, SAVE, RESTORE}
-use Rattle.access.specs.Access.{granted, needs}
-use Rattle.access_restart.specs.Asked.{Asked, ask, allowed, grantedCalls, placed, guardedStep, guardedRun, guardedPlaces}
-use Rattle.access_restart.specs.RoleDemand.{withheldAnswer, roleNext, roleAnswer, roleRun, roleAnswers, gave, withheld, roleSave, roleRestore, rolePanels, fedAt, Isolation, RoleOutlives, RoleRestart, RoleEvent, asked, restarted, askedOf, restoredBy, restartedBy, roleEvents, roleEventAnswers, toldTo, roleEventPanels, fedAtEvents, RoleRestarts, RoleReaches, built, asking, restoring, RoleDemand3, CountsGranted}
+use Rattle.access.specs.Access.{granted}
+use Rattle.access_restart.specs.Asked.{Asked, ask, allowed, grantedCalls, placed, guardedStep}
+use Rattle.access_restart.specs.RoleDemand.{withheldAnswer, roleNext, roleAnswer, roleRun, roleAnswers, gave, withheld, rolePanels, fedAt, Isolation, RoleOutlives, RoleRestart, RoleEvent, asked, restarted, askedOf, restartedBy, roleEvents, roleEventAnswers, toldTo, roleEventPanels, fedAtEvents, RoleRestarts, RoleReaches, built, asking, restoring, RoleDemand3, CountsGranted}
 use Rattle.access_restart.proofs.Granted.{stayed, granted-append, run-granted, answers-granted, places-granted, places-same, places-map}
 
 -- ---- isolation

@@ -13,7 +13,6 @@ use Rattle.trcf.specs.Calls.{Call, Machine, status}
 use Rattle.trcf.specs.Preprocessor.{Answer, panelOf}
 use Rattle.trcf.specs.View.{Lent, alone, lentShort, buildOf, answerOf}
 use Rattle.snapshot.specs.Save as save
-use Rattle.snapshot.specs.Restore as restore
 use Rattle.restart.specs.History.{entries, historyText, historyAnswers}
 use Rattle.restart.specs.Statement.{panelTold}
 use Rattle.restart.specs.Held.{Held, held, builtOn, heldNext}

@@ -25,7 +25,7 @@ use Rattle.restart_program.specs.Program.{Return, point, learn, drains, writes,
 use Rattle.access.specs.declared.rights.Right.the-variants.{SEE, SAVE, RESTORE}
 use Rattle.access.specs.declared.getters.Number.{Number}
 use Rattle.access.specs.Access.{granted}
-use Rattle.access.specs.Entries.{pointBy, learnBy, drainBy, writeBy, extrapolationBy, statusBy, untold, number, numberBy, readyBy, methodBy, modeBy, saveBy, restoreBy}
+use Rattle.access.specs.Entries.{pointBy, learnBy, drainBy, writeBy, extrapolationBy, statusBy, untold, number, numberBy, readyBy, methodBy, modeBy, restoreBy}
 use Rattle.access_restart.specs.Asked.{Asked, allowed, grantedCalls, placed}
 use Rattle.access_restart.specs.RoleDemand.{withheldAnswer, fedAt}
 use Rattle.access_restart.specs.RoleHeld.{roleSavedTo, roleTextIn, roleRestoredOn}
