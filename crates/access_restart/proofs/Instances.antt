@@ -2,16 +2,14 @@
 -- The granted calls are those of restart_program's instance, so that its text, its answers and its panels must come out.
 use Prim.Native.Nat.{ℕ, _+_, _≤_}
 use mathlib.Core.Path.{_≡_, refl, sym, ap, _∙_, subst}
-use mathlib.Core.Bool.{Bool, true, false}
+use mathlib.Core.Bool.{true, false}
 use mathlib.Core.List.{List, [], _∷_, _++_, map}
-use mathlib.Core.Option.{none, some}
-use lib.ListN.{length, take, drop, set, replicate}
-use lib.Ieee.{Float, nan}
+use mathlib.Core.Option.{some}
+use lib.ListN.{length, take, set, replicate}
+use lib.Ieee.{nan}
 use Rattle.trcf.specs.Fit.{All}
 use Rattle.trcf.specs.Settings.{block, dimension}
-use Rattle.common.specs.RangeVector.{ranges}
-use Rattle.trcf.specs.Extrapolation.{forecast}
-use Rattle.trcf.specs.Calls.{Forecast, Call, Machine, shingledPoint, drain, transform, invertExtrapolation, scale, shift, status}
+use Rattle.trcf.specs.Calls.{Call, Machine, shingledPoint}
 use Rattle.trcf.specs.Preprocessor.{fresh, Answer, refused}
 use Rattle.trcf.specs.View.{lentShort, noHead}
 use Rattle.snapshot.specs.Text.{render}
@@ -21,141 +19,22 @@ use Rattle.restart.specs.History.{entries, historyText, historyAnswers, history
 use Rattle.restart.specs.Statement.{Demand3}
 use Rattle.restart.specs.Held.{Held, held, builtOn}
 use Rattle.restart_program.specs.Program.{point, answerRead, ProgramDemand3}
-use Rattle.restart_program.proofs.Instances.{one, two, four, six, learnAt, strands, strands-valid, stranding, stranding-machine, all-take, all-drop, strandedText, stranding-text, oneRoom, one-fits, stranding-fed, stranding-fed-first, dirty, filthy, text-fits, last-fits, first-fits, pointAnswer, learnAnswer, ruled}
+use Rattle.restart_program.proofs.Instances.{one, strands, strands-valid, stranding, stranding-machine, all-take, all-drop, strandedText, stranding-text, oneRoom, one-fits, stranding-fed, stranding-fed-first, dirty, filthy, text-fits, last-fits, first-fits, pointAnswer, learnAnswer, ruled}
 use Rattle.access.specs.declared.rights.Right.the-variants.{SEE, SAVE, RESTORE}
-use Rattle.access.specs.Access.{needs, granted, everyRight}
+use Rattle.access.specs.Access.{granted, everyRight}
 use Rattle.access.specs.Entries.{number}
-use Rattle.access_restart.specs.Asked.{Asked, ask, allowed, grantedCalls, placed}
+use Rattle.access_restart.specs.Asked.{ask, allowed, grantedCalls, placed}
 use Rattle.access_restart.specs.RoleDemand.{withheldAnswer, roleRun, roleAnswers, gave, roleSave, rolePanels, fedAt, RoleRestart, RoleEvent, asked, restarted, roleEvents, roleEventAnswers, RoleRestarts}
 use Rattle.access_restart.specs.RoleHeld.{heldRoleRun, heldRoleAnswers, roleSavedTo, roleTextIn, roleRestoredOn, RoleHeldRestart}
 use Rattle.access_restart.specs.RoleProgram.{roleReturn, roleRan, roleReturns, rolePanelsReturned, rolePanelsShown, RoleProgramRestart}
+use Rattle.access_restart.proofs.Samples.{badTables, garage, morning, evening, day, counted-morning, counted-evening, counted}
 use Rattle.access_restart.proofs.Granted.{stayed}
 use Rattle.access_restart.proofs.RoleRestart.{fed-places, role-demand-3}
 use Rattle.access_restart.proofs.RoleHeld.{role-held-demand-3}
 use Rattle.access_restart.proofs.RoleProgram.{program-isolation, role-program-demand-3}
 use Rattle.access_restart.proofs.Plain.{plain, plain-program}
 
--- ---- every cell of the table decides its entries and no other
-
-abbrev noForecast : Forecast
-noForecast = forecast (ranges [] [] []) (ranges [] [] []) (ranges [] [] [])
-
--- what a role may: point, learn, drain, transform, turn-back, scale, shift, status, save, restore
-abbrev mayBy : List ℕ → ℕ → List Bool
-mayBy table role =
-    map (granted table role)
-    (needs (shingledPoint [] 0 [])
-    ∷ needs (learnAt [] 0 none)
-    ∷ needs drain
-    ∷ needs (transform [] 0 [])
-    ∷ needs (invertExtrapolation noForecast)
-    ∷ needs (scale [])
-    ∷ needs (shift [])
-    ∷ needs (status [])
-    ∷ (SAVE ∷ [])
-    ∷ (RESTORE ∷ [])
-    ∷ [])
-
-abbrev mayAll : List ℕ → List (List Bool)
-mayAll table = map (mayBy table) (0 ∷ 1 ∷ 2 ∷ 3 ∷ [])
-
-abbrev all : List Bool
-all = replicate 10 true
-
-abbrev nothing : List Bool
-nothing = replicate 10 false
-
--- with one right withheld, in the table's order: see takes point with it, learn takes point too
-abbrev without : List (List Bool)
-without =
-    (false ∷ true ∷ true ∷ false ∷ false ∷ false ∷ false ∷ false ∷ true ∷ true ∷ [])
-    ∷ (false ∷ false ∷ false ∷ true ∷ true ∷ true ∷ true ∷ true ∷ true ∷ true ∷ [])
-    ∷ (true ∷ true ∷ true ∷ true ∷ true ∷ true ∷ true ∷ true ∷ false ∷ true ∷ [])
-    ∷ (true ∷ true ∷ true ∷ true ∷ true ∷ true ∷ true ∷ true ∷ true ∷ false ∷ [])
-    ∷ []
-
--- with that one alone granted: point has neither alone
-abbrev alone : List (List Bool)
-alone =
-    (false ∷ false ∷ false ∷ true ∷ true ∷ true ∷ true ∷ true ∷ false ∷ false ∷ [])
-    ∷ (false ∷ true ∷ true ∷ false ∷ false ∷ false ∷ false ∷ false ∷ false ∷ false ∷ [])
-    ∷ (false ∷ false ∷ false ∷ false ∷ false ∷ false ∷ false ∷ false ∷ true ∷ false ∷ [])
-    ∷ (false ∷ false ∷ false ∷ false ∷ false ∷ false ∷ false ∷ false ∷ false ∷ true ∷ [])
-    ∷ []
-
--- the other roles as `others`
-abbrev roleAmong : List Bool → ℕ → List Bool → List (List Bool)
-roleAmong others role mine = replicate role others ++ (mine ∷ drop (role + 1) (replicate 4 others))
-
-cells-withhold : map (λ (i : ℕ). mayAll (set everyRight i 0)) (0 ∷ 1 ∷ 2 ∷ 3 ∷ 4 ∷ 5 ∷ 6 ∷ 7 ∷ 8 ∷ 9 ∷ 10 ∷ 11 ∷ 12 ∷ 13 ∷ 14 ∷ 15 ∷ [])
-    ≡ map (roleAmong all 0) without ++ (map (roleAmong all 1) without ++ (map (roleAmong all 2) without ++ map (roleAmong all 3) without))
-unfolding granted
-cells-withhold = refl
-
-cells-grant : map (λ (i : ℕ). mayAll (set (replicate 16 0) i 1)) (0 ∷ 1 ∷ 2 ∷ 3 ∷ 4 ∷ 5 ∷ 6 ∷ 7 ∷ 8 ∷ 9 ∷ 10 ∷ 11 ∷ 12 ∷ 13 ∷ 14 ∷ 15 ∷ [])
-    ≡ map (roleAmong nothing 0) alone ++ (map (roleAmong nothing 1) alone ++ (map (roleAmong nothing 2) alone ++ map (roleAmong nothing 3) alone))
-unfolding granted
-cells-grant = refl
-
--- ---- "(22: …, role above 3, a table not of 16 cells, or a cell other than 0 or 1)": role 4 and 2^64 − 1, 15 cells, 17, and a 2 in a cell that is not asked for
-
-abbrev badTables : List (List ℕ)
-badTables = take 15 everyRight ∷ (1 ∷ everyRight) ∷ set everyRight 15 2 ∷ []
-
-no-role : (mayBy everyRight 4 ≡ nothing) × (mayBy everyRight 18446744073709551615 ≡ nothing)
-unfolding granted
-no-role = (refl, refl)
-
-no-table : map mayAll badTables ≡ replicate 3 (replicate 4 nothing)
-unfolding granted
-no-table = refl
-
--- ---- a day of three people under one table: role 0 may all, role 1 see, role 2 see and learn, role 3 save and restore
-
-abbrev garage : List ℕ
-garage = 1 ∷ 1 ∷ 1 ∷ 1 ∷ 1 ∷ 0 ∷ 0 ∷ 0 ∷ 1 ∷ 1 ∷ 0 ∷ 0 ∷ 0 ∷ 0 ∷ 1 ∷ 1 ∷ []
-
-abbrev y : List Float
-y = one ∷ two ∷ []
-
--- a withheld learn, which would wait with the others; a granted one; 12 for a time that falls; point with see alone; a learn; a withheld drain and a granted one
-abbrev morning : List Asked
-morning =
-    ask 1 (learnAt (six ∷ []) 4 none)
-    ∷ ask 2 (learnAt (four ∷ []) 5 none)
-    ∷ ask 0 (learnAt (six ∷ []) 3 (some y))
-    ∷ ask 1 (shingledPoint (one ∷ []) 6 (nan ∷ nan ∷ nan ∷ []))
-    ∷ ask 2 (learnAt (six ∷ []) 18446744073709551614 (some y))
-    ∷ ask 3 drain
-    ∷ ask 0 drain
-    ∷ []
-
--- role 4; a point; a withheld learn at a time that no program can hold; a learn; a withheld scale; a status whose output is too short
-abbrev evening : List Asked
-evening =
-    ask 4 (status (nan ∷ []))
-    ∷ ask 2 (shingledPoint (one ∷ []) 18446744073709551615 (nan ∷ nan ∷ nan ∷ []))
-    ∷ ask 1 (learnAt (two ∷ []) 1180591620717411303424 (some y))
-    ∷ ask 0 (learnAt (two ∷ []) 18446744073709551615 (some (two ∷ four ∷ [])))
-    ∷ ask 3 (scale (nan ∷ []))
-    ∷ ask 1 (status [])
-    ∷ []
-
--- "The history of a trace counts granted calls only"
-counted-morning : grantedCalls garage morning ≡ take 4 stranding
-unfolding granted
-counted-morning = refl
-
-counted-evening : grantedCalls garage evening ≡ drop 4 stranding
-unfolding granted
-counted-evening = refl
-
-abbrev day : List Asked
-day = morning ++ evening
-
-counted : grantedCalls garage day ≡ stranding
-unfolding granted
-counted = refl
+-- ---- the day of proofs/Samples: role 3 saves, role 0 restores, role 1 looks
 
 machine-morning : All Machine (grantedCalls garage morning)
 machine-morning = subst (All Machine) (sym counted-morning) (all-take Machine 4 stranding stranding-machine)
@@ -178,7 +57,7 @@ viewer : granted garage 1 (SEE ∷ []) ≡ true
 unfolding granted
 viewer = refl
 
--- role 3 saves, role 0 restores: in the middle, before the first call and after the last
+-- in the middle, before the first call and after the last
 restart-middle : RoleRestart garage strands 3 0 morning evening
 restart-middle = role-demand-3 .once garage strands strands-valid 3 0 saver restorer morning evening machine-morning
 

@@ -1,3 +1,4 @@
+pub mod Samples
 pub mod Granted
 pub mod RoleRestart
 pub mod Composed

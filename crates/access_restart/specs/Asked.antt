@@ -4,7 +4,7 @@ use mathlib.Core.Bool.{Bool, cond}
 use mathlib.Core.List.{List, [], _∷_, _++_}
 use lib.ListN.{take, drop}
 use Rattle.trcf.specs.Calls.{Call}
-use Rattle.access.specs.Access.{needs, granted, guarded}
+use Rattle.access.specs.Access.{needs, granted}
 
 pub record Asked : Type 0 where
   pub role : ℕ
@@ -13,6 +13,7 @@ pub record Asked : Type 0 where
 abbrev pub ask : ℕ → Call → Asked
 ask r c = record { role = r; call = c }
 
+-- what the contracts of crate access ask before a call: proofs/RoleProgram.antt ties it to them
 abbrev pub allowed : List ℕ → Asked → Bool
 allowed table a = granted table (a .role) (needs (a .call))
 
@@ -32,7 +33,7 @@ module _ {B : Type 0} (withheld : Call → B) where
 module _ {M : Type 0} (step : M → Call → M) where
   -- "A withheld call changes nothing"
   abbrev pub guardedStep : List ℕ → M → Asked → M
-  guardedStep table m a = guarded table (a .role) (needs (a .call)) (step m (a .call)) m
+  guardedStep table m a = cond (allowed table a) (step m (a .call)) m
 
   abbrev pub guardedRun : List ℕ → M → List Asked → M
   guardedRun table m [] = m
@@ -47,7 +48,7 @@ module _ {M : Type 0} (step : M → Call → M) where
   -- `say` is the answer to a call
   module _ {B : Type 0} (say : M → Call → B) (withheld : Call → B) where
     abbrev pub guardedSay : List ℕ → M → Asked → B
-    guardedSay table m a = guarded table (a .role) (needs (a .call)) (say m (a .call)) (withheld (a .call))
+    guardedSay table m a = cond (allowed table a) (say m (a .call)) (withheld (a .call))
 
     abbrev pub guardedAnswers : List ℕ → M → List Asked → List B
     guardedAnswers table m [] = []
