@@ -2,7 +2,7 @@
 -- Assumes nothing.
 use Prim.Native.Nat.{ℕ, _≤_}
 use mathlib.Core.Path.{_≡_, refl, sym, ap, _∙_, subst}
-use mathlib.Core.Bool.{Bool, true, cond}
+use mathlib.Core.Bool.{true}
 use mathlib.Core.List.{List, [], _∷_, _++_, map}
 use mathlib.Core.Option.{Option, some}
 use lib.ListN.{length}
@@ -20,14 +20,14 @@ use Rattle.restart.specs.Statement.{Outlives, Restart, panelTold, panels, panel
 use Rattle.restart.specs.Held.{Held, builtOn, savedTo, textIn, restoredOn}
 use Rattle.restart_program.specs.Program.{answerRead, returnOf, leftBy, ran, returns, returnedPanels, shownPanels, ProgramDemand3}
 use Rattle.access.specs.declared.getters.Number.{Number}
-use Rattle.access.specs.Access.{needs, granted, everyRight}
+use Rattle.access.specs.Access.{granted, everyRight}
 use Rattle.access.specs.Entries.{number}
-use Rattle.access_restart.specs.Asked.{Asked, ask, grantedCalls, placed, guardedRun, guardedPlaces, guardedAnswers, asRole0}
+use Rattle.access_restart.specs.Asked.{Asked, ask, allowed, grantedCalls, placed, guardedRun, guardedPlaces, guardedAnswers, asRole0}
 use Rattle.access_restart.specs.RoleDemand.{withheldAnswer, roleNext, roleRun, roleAnswers, rolePanels, gave, fedAt, RoleOutlives, RoleEvent, asked, restarted, askedOf, roleEvents, roleEventAnswers, roleEventPanels, fedAtEvents, RoleReaches, built, asking, restoring, RoleDemand3}
 use Rattle.access_restart.specs.RoleProgram.{roleReturn, roleLeft, roleRan, roleReturns, rolePanelsReturned, rolePanelsShown, RoleProgramDemand3}
 use Rattle.access_restart.proofs.Granted.{run-granted, answers-granted}
 
-pub every-call : (c : Call) → granted everyRight 0 (needs c) ≡ true
+pub every-call : (c : Call) → allowed everyRight (ask 0 c) ≡ true
 unfolding granted
 every-call (shingledPoint x t out) = refl
 every-call (postProcess l) = refl
@@ -161,11 +161,14 @@ same-calls [] = refl
 same-calls (called c ∷ es) = rw (same-calls es)
 same-calls (restarted₀ ∷ es) = same-calls es
 
+role0-next : (w : State) (c : Call) → roleNext everyRight w (ask 0 c) ≡ next w c
+role0-next w c = rw (every-call c)
+
 same-events : (r : Read) (es : List Event) → roleEvents everyRight r (asEvents es) ≡ runEvents r es
 unfolding granted
 same-events r [] = refl
 same-events (taken w) (called c ∷ es) =
-    ap (λ (b : Bool). roleEvents everyRight (taken (cond b (next w c) w)) (asEvents es)) (every-call c) ∙ same-events (taken (next w c)) es
+    ap (λ (v : State). roleEvents everyRight (taken v) (asEvents es)) (role0-next w c) ∙ same-events (taken (next w c)) es
 same-events (bad n) (called c ∷ es) = refl
 same-events (taken w) (restarted₀ ∷ es) = same-events (read (render w)) es
 same-events (bad n) (restarted₀ ∷ es) = refl
@@ -222,8 +225,7 @@ module _ (demand : RoleDemand3) (s : Settings) (ok : Valid s) where
   role0-reaches built₀ = built
   role0-reaches (calling {cs = cs} {w = w} c m r) =
       let machine : All Machine (grantedCalls everyRight (asRole0 (c ∷ []))) = subst (All Machine) (sym (all-granted (c ∷ []))) (m, tt) in
-      let next-is : roleNext everyRight w (ask 0 c) ≡ next w c = rw (every-call c) in
-      subst (RoleReaches everyRight s (asRole0 (cs ++ (c ∷ [])))) next-is
+      subst (RoleReaches everyRight s (asRole0 (cs ++ (c ∷ [])))) (role0-next w c)
       (subst (λ (l : List Asked). RoleReaches everyRight s l (roleNext everyRight w (ask 0 c))) (sym (role0-append cs (c ∷ []))) (asking (ask 0 c) machine (role0-reaches r)))
   role0-reaches (restoring₀ u k r) = restoring 0 0 refl refl u k (role0-reaches r)
 
