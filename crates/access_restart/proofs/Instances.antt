@@ -17,7 +17,7 @@ use Rattle.snapshot.specs.Read.{taken}
 use Rattle.snapshot.specs.Save as save
 use Rattle.restart.specs.History.{entries, historyText, historyAnswers, historyPanels}
 use Rattle.restart.specs.Statement.{Demand3}
-use Rattle.restart.specs.Held.{Held, held, builtOn}
+use Rattle.restart.specs.Held.{Held, held, builtOn, savedTo}
 use Rattle.restart_program.specs.Program.{point, answerRead, ProgramDemand3}
 use Rattle.restart_program.proofs.Instances.{one, strands, strands-valid, stranding, stranding-machine, all-take, all-drop, strandedText, stranding-text, oneRoom, one-fits, stranding-fed, stranding-fed-first, dirty, filthy, text-fits, last-fits, first-fits, pointAnswer, learnAnswer, ruled}
 use Rattle.access.specs.declared.rights.Right.the-variants.{SEE, SAVE, RESTORE}
@@ -31,7 +31,7 @@ use Rattle.access_restart.proofs.Samples.{badTables, garage, morning, e
 use Rattle.access_restart.proofs.Granted.{stayed}
 use Rattle.access_restart.proofs.RoleRestart.{fed-places, role-demand-3}
 use Rattle.access_restart.proofs.RoleHeld.{role-held-demand-3}
-use Rattle.access_restart.proofs.RoleProgram.{program-isolation, role-program-demand-3}
+use Rattle.access_restart.proofs.RoleProgram.{program-isolation, program-granted, role-program-demand-3}
 use Rattle.access_restart.proofs.Plain.{plain, plain-program}
 
 -- ---- the day of proofs/Samples: role 3 saves, role 0 restores, role 1 looks
@@ -256,6 +256,9 @@ no-saver = refl
 
 nothing-saved : roleSavedTo garage 1 first (5 ∷ 6 ∷ []) ≡ save.outcome 22 0 (5 ∷ 6 ∷ [])
 nothing-saved = program-isolation garage .savesNothing 1 no-saver first (5 ∷ 6 ∷ [])
+
+saved-by-3 : roleSavedTo garage 3 first exact ≡ savedTo first exact
+saved-by-3 = program-granted garage .saves 3 saver first exact
 
 -- ---- "programs run as one with every right"
 

@@ -20,7 +20,7 @@ use Rattle.access.specs.Access.{granted}
 use Rattle.access.specs.Entries.{number, numberBy}
 use Rattle.access_restart.specs.Asked.{Asked, ask, allowed, grantedCalls, placed, guardedStep, guardedRun, guardedPlaces, guardedSay, guardedAnswers}
 use Rattle.access_restart.specs.RoleDemand.{withheldAnswer}
-use Rattle.access_restart.specs.RoleProgram.{roleReturn, roleLeft, roleRan, roleReturns, rolePanelsReturned, rolePanelsShown, withheldReturn, ProgramIsolation, RoleProgramDemand3}
+use Rattle.access_restart.specs.RoleProgram.{roleReturn, roleLeft, roleRan, roleReturns, rolePanelsReturned, rolePanelsShown, withheldReturn, ProgramIsolation, ProgramGranted, RoleProgramDemand3}
 use Rattle.access_restart.proofs.Granted.{stayed, run-granted, answers-granted, places-granted, places-same}
 use Rattle.access_restart.proofs.Composed.{carried}
 
@@ -108,6 +108,14 @@ program-isolation table = record {
   readies = λ role e x y. rw e;
   methods = λ role e x y. rw e;
   modes = λ role e x y. rw e;
+}
+
+pub program-granted : (table : List ℕ) → ProgramGranted table
+program-granted table = record {
+  returns = λ a e m. return-granted table m (a .role) (a .call) e;
+  leaves = λ a e m. left-granted table m (a .role) (a .call) e;
+  saves = λ role e m out. rw e;
+  restores = λ role e text codes l. rw e;
 }
 
 -- ---- all calls

@@ -20,8 +20,8 @@ use Rattle.snapshot.specs.Save as save
 use Rattle.snapshot.specs.Restore as restore
 use Rattle.restart.specs.History.{entries, historyText, historyAnswers}
 use Rattle.restart.specs.Statement.{panelTold}
-use Rattle.restart.specs.Held.{Held, held, builtOn}
-use Rattle.restart_program.specs.Program.{Return, point, learn, drains, writes, turns, tells, pointReturn, learnReturn, answerRead}
+use Rattle.restart.specs.Held.{Held, held, builtOn, savedTo}
+use Rattle.restart_program.specs.Program.{Return, point, learn, drains, writes, turns, tells, pointReturn, learnReturn, answerRead, returnOf, leftBy}
 use Rattle.access.specs.declared.rights.Right.the-variants.{SEE, SAVE, RESTORE}
 use Rattle.access.specs.declared.getters.Number.{Number}
 use Rattle.access.specs.Access.{granted}
@@ -103,6 +103,13 @@ pub record ProgramIsolation (table : List ℕ) : Type 0 where
   pub readies : (role : ℕ) → granted table role (SEE ∷ []) ≡ false → (x y : Bool) → readyBy table role x ≡ readyBy table role y
   pub methods : (role : ℕ) → granted table role (SEE ∷ []) ≡ false → (x y : TransformMethod) → methodBy table role x ≡ methodBy table role y
   pub modes : (role : ℕ) → granted table role (SEE ∷ []) ≡ false → (x y : ForestMode) → modeBy table role x ≡ modeBy table role y
+
+-- and with the right each entry is the one below it: so what demand 2 says of `save` and `restore` it says of a role that has the right
+pub record ProgramGranted (table : List ℕ) : Type 0 where
+  pub returns : (a : Asked) → allowed table a ≡ true → (m : Held) → roleReturn table m (a .role) (a .call) ≡ returnOf m (a .call)
+  pub leaves : (a : Asked) → allowed table a ≡ true → (m : Held) → roleLeft table m (a .role) (a .call) ≡ leftBy m (a .call)
+  pub saves : (role : ℕ) → granted table role (SAVE ∷ []) ≡ true → (m : Held) (out : List ℕ) → roleSavedTo table role m out ≡ savedTo m out
+  pub restores : (role : ℕ) → granted table role (RESTORE ∷ []) ≡ true → (text codes : List ℕ) (l : Lent) → restoreBy table role text codes l ≡ restore.restoreOf text codes l
 
 -- ---- demand 3: M is the first preprocessor after `before`, N the one that took its text up
 
