@@ -1,3 +1,4 @@
+pub mod AddOrder
 pub mod Steps
 pub mod Upright
 pub mod HeldUpright
