@@ -2,9 +2,9 @@
 -- Assumes nothing.
 use Prim.Native.Nat.{ℕ, zero, suc, _+_, _-_, _*_, _^_, _≤_, _<_}
 use mathlib.Core.Path.{_≡_, refl, sym, ap, _∙_, subst}
-use mathlib.Core.Bool.{Bool, true, false, not, cond, Bool·beq, _&&_, _||_}
-use mathlib.Core.Logic.{_⊎_, inl, inr}
-use native.Mathlib.Nat.{mul-comm, mul-assoc, mul-left-comm, mul-right-comm, mul-pos, mul-le-mul-right, add-mul, zero-mul, zero-lt-suc}
+use mathlib.Core.Bool.{Bool, true, false, not, cond, Bool·beq, _&&_}
+use mathlib.Core.Logic.{inl, inr}
+use native.Mathlib.Nat.{mul-comm, mul-assoc, mul-left-comm, mul-pos, mul-le-mul-right, add-mul, zero-mul, zero-lt-suc}
 use native.Mathlib.Omega.{arith}
 use borrow.Author.Tests.{ltb-false, ltb-true, le-ltb}
 use lib.Dec.{T, ltb, eqb, eqb→eq, ltb→lt}

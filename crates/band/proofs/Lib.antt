@@ -3,4 +3,4 @@ pub mod Steps
 pub mod Upright
 pub mod HeldUpright
 pub mod Samples
-pub mod Refused
+pub mod WrongTurns

@@ -2,7 +2,7 @@
 -- parts (`BandBy`), and follows from two laws of them: a shift ends in order, and neither scale, shift nor cascade looks where it must not (`band-by`).
 -- trcf's definition is the one of the parts `real`. Assumes nothing.
 use Prim.Native.Nat.{ℕ, zero, suc, _*_, _/_, _%_, _<_}
-use mathlib.Core.Path.{_≡_, refl, sym, ap, _∙_, subst}
+use mathlib.Core.Path.{_≡_, refl, sym, ap, subst}
 use mathlib.Core.Bool.{Bool, true, false, cond, not}
 use mathlib.Core.List.{List, _++_}
 use native.Mathlib.Omega.{arith}
