@@ -19,12 +19,14 @@ use Rattle.restart.specs.History.{entries, historyText, historyAnswers, history
 use Rattle.restart.specs.Statement.{Demand3}
 use Rattle.restart.specs.Held.{Held, held, builtOn, savedTo}
 use Rattle.restart_program.specs.Program.{point, answerRead, ProgramDemand3}
-use Rattle.restart_program.proofs.Instances.{one, strands, strands-valid, stranding, stranding-machine, all-take, all-drop, strandedText, stranding-text, oneRoom, one-fits, stranding-fed, stranding-fed-first, dirty, filthy, text-fits, last-fits, first-fits, pointAnswer, learnAnswer, ruled}
+use Rattle.restart_program.proofs.Instances.{one, strands, strands-valid, stranding, stranding-machine, all-take, all-drop, strandedText, stranding-text, oneRoom, one-fits, stranding-fed}
+use Rattle.restart_program.proofs.Instances.{stranding-fed-first, dirty, filthy, text-fits, last-fits, first-fits, pointAnswer, learnAnswer, ruled}
 use Rattle.access.specs.declared.rights.Right.the-variants.{SEE, SAVE, RESTORE}
 use Rattle.access.specs.Access.{granted, everyRight}
 use Rattle.access.specs.Entries.{number}
 use Rattle.access_restart.specs.Asked.{ask, allowed, grantedCalls, placed}
-use Rattle.access_restart.specs.RoleDemand.{withheldAnswer, roleRun, roleAnswers, gave, roleSave, rolePanels, fedAt, RoleRestart, RoleEvent, asked, restarted, roleEvents, roleEventAnswers, RoleRestarts}
+use Rattle.access_restart.specs.RoleDemand.{withheldAnswer, roleRun, roleAnswers, gave, roleSave, rolePanels, fedAt, RoleRestart, RoleEvent, asked, restarted, roleEvents}
+use Rattle.access_restart.specs.RoleDemand.{roleEventAnswers, RoleRestarts}
 use Rattle.access_restart.specs.RoleHeld.{heldRoleRun, heldRoleAnswers, roleSavedTo, roleTextIn, roleRestoredOn, RoleHeldRestart}
 use Rattle.access_restart.specs.RoleProgram.{roleReturn, roleRan, roleReturns, rolePanelsReturned, rolePanelsShown, RoleProgramRestart}
 use Rattle.access_restart.proofs.Samples.{badTables, garage, morning, evening, day, counted-morning, counted-evening, counted}

@@ -16,14 +16,16 @@ use Rattle.snapshot.specs.Text.{render, TextOf}
 use Rattle.snapshot.specs.Read.{Read, taken, bad, read}
 use Rattle.snapshot.specs.Restore as restore
 use Rattle.restart.specs.History.{Entry, enter, entries, historyText, historyAnswer, historyAnswers, historyPanel, historyPanels}
-use Rattle.restart.specs.Statement.{Outlives, Restart, panelTold, panels, panelsEvents, historyPanelsEvents, Event, called, restarted as restarted₀, callsOf, runEvents, answersEvents, Restarts, Reaches, built as built₀, calling, restoring as restoring₀, Demand3}
+use Rattle.restart.specs.Statement.{Outlives, Restart, panelTold, panels, panelsEvents, historyPanelsEvents, Event, called, restarted as restarted₀, callsOf, runEvents, answersEvents}
+use Rattle.restart.specs.Statement.{Restarts, Reaches, built as built₀, calling, restoring as restoring₀, Demand3}
 use Rattle.restart.specs.Held.{Held, builtOn, savedTo, textIn, restoredOn}
 use Rattle.restart_program.specs.Program.{answerRead, returnOf, leftBy, ran, returns, returnedPanels, shownPanels, ProgramDemand3}
 use Rattle.access.specs.declared.getters.Number.{Number}
 use Rattle.access.specs.Access.{granted, everyRight}
 use Rattle.access.specs.Entries.{number}
 use Rattle.access_restart.specs.Asked.{Asked, ask, allowed, grantedCalls, placed, guardedRun, guardedPlaces, guardedAnswers, asRole0}
-use Rattle.access_restart.specs.RoleDemand.{withheldAnswer, roleNext, roleRun, roleAnswers, rolePanels, gave, fedAt, RoleOutlives, RoleEvent, asked, restarted, askedOf, roleEvents, roleEventAnswers, roleEventPanels, fedAtEvents, RoleReaches, built, asking, restoring, RoleDemand3}
+use Rattle.access_restart.specs.RoleDemand.{withheldAnswer, roleNext, roleRun, roleAnswers, rolePanels, gave, fedAt, RoleOutlives, RoleEvent, asked, restarted, askedOf, roleEvents}
+use Rattle.access_restart.specs.RoleDemand.{roleEventAnswers, roleEventPanels, fedAtEvents, RoleReaches, built, asking, restoring, RoleDemand3}
 use Rattle.access_restart.specs.RoleProgram.{roleReturn, roleLeft, roleRan, roleReturns, rolePanelsReturned, rolePanelsShown, RoleProgramDemand3}
 use Rattle.access_restart.proofs.Granted.{run-granted, answers-granted}
 

@@ -20,7 +20,8 @@ use Rattle.access.specs.Access.{granted}
 use Rattle.access.specs.Entries.{number, numberBy}
 use Rattle.access_restart.specs.Asked.{Asked, ask, allowed, grantedCalls, placed, guardedStep, guardedRun, guardedPlaces, guardedSay, guardedAnswers}
 use Rattle.access_restart.specs.RoleDemand.{withheldAnswer}
-use Rattle.access_restart.specs.RoleProgram.{roleReturn, roleLeft, roleRan, roleReturns, rolePanelsReturned, rolePanelsShown, withheldReturn, ProgramIsolation, ProgramGranted, RoleProgramDemand3}
+use Rattle.access_restart.specs.RoleProgram.{roleReturn, roleLeft, roleRan, roleReturns, rolePanelsReturned, rolePanelsShown, withheldReturn, ProgramIsolation, ProgramGranted}
+use Rattle.access_restart.specs.RoleProgram.{RoleProgramDemand3}
 use Rattle.access_restart.proofs.Granted.{stayed, run-granted, answers-granted, places-granted, places-same}
 use Rattle.access_restart.proofs.Composed.{carried}
 

@@ -22,7 +22,9 @@ use Rattle.restart.proofs.Restart.{run-append, restored, text-history, demand-3
 use Rattle.access.specs.declared.rights.Right.the-variants.{SEE, SAVE, RESTORE}
 use Rattle.access.specs.Access.{granted}
 use Rattle.access_restart.specs.Asked.{Asked, ask, allowed, grantedCalls, placed, guardedStep}
-use Rattle.access_restart.specs.RoleDemand.{withheldAnswer, roleNext, roleAnswer, roleRun, roleAnswers, gave, withheld, rolePanels, fedAt, Isolation, RoleOutlives, RoleRestart, RoleEvent, asked, restarted, askedOf, restartedBy, roleEvents, roleEventAnswers, toldTo, roleEventPanels, fedAtEvents, RoleRestarts, RoleReaches, built, asking, restoring, RoleDemand3, CountsGranted}
+use Rattle.access_restart.specs.RoleDemand.{withheldAnswer, roleNext, roleAnswer, roleRun, roleAnswers, gave, withheld, rolePanels, fedAt, Isolation, RoleOutlives, RoleRestart}
+use Rattle.access_restart.specs.RoleDemand.{RoleEvent, asked, restarted, askedOf, restartedBy, roleEvents, roleEventAnswers, toldTo, roleEventPanels, fedAtEvents, RoleRestarts}
+use Rattle.access_restart.specs.RoleDemand.{RoleReaches, built, asking, restoring, RoleDemand3, CountsGranted}
 use Rattle.access_restart.proofs.Granted.{stayed, granted-append, run-granted, answers-granted, places-granted, places-same, places-map}
 
 -- ---- isolation
