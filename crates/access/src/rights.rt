@@ -1,6 +1,0 @@
-pub enum Right {
-    SEE,
-    LEARN,
-    SAVE,
-    RESTORE,
-}
