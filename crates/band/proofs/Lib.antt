@@ -1,5 +1,6 @@
+pub mod AddOrder
 pub mod Steps
 pub mod Upright
 pub mod HeldUpright
 pub mod Samples
-pub mod Refused
+pub mod WrongTurns

@@ -61,26 +61,26 @@ answering : Unit {0}
 unfolding recording Preprocessor.previous Preprocessor.timeBase Preprocessor.preceding Preprocessor.primed Preprocessor.drainOne Preprocessor.drainAll Preprocessor.drained Preprocessor.held Preprocessor.learned Preprocessor.learnedWith Preprocessor.facts Preprocessor.deviations Preprocessor.scaleOf Preprocessor.shiftOf Preprocessor.pointOf Preprocessor.blockFrom Preprocessor.pastValues Preprocessor.expectedValues Preprocessor.anomalyOf Preprocessor.learnedNothing Preprocessor.heldAnswer Preprocessor.learnedAnswer Preprocessor.learnAnswer Preprocessor.statusOf Preprocessor.reply History.historyAnswer
 answering = tt
 
-abbrev single : ℕ → Float
+abbrev pub single : ℕ → Float
 single n = ofBits binary32 n
 
-abbrev zero32 : Float
+abbrev pub zero32 : Float
 zero32 = single 0
 
-abbrev one : Float
+abbrev pub one : Float
 one = single 0x3f80_0000
 
-abbrev two : Float
+abbrev pub two : Float
 two = single 0x4000_0000
 
-abbrev four : Float
+abbrev pub four : Float
 four = single 0x4080_0000
 
-abbrev six : Float
+abbrev pub six : Float
 six = single 0x40c0_0000
 
 -- a learn whose outputs are too long and hold something
-abbrev learnAt : List Float → ℕ → Option (List Float) → Call
+abbrev pub learnAt : List Float → ℕ → Option (List Float) → Call
 learnAt x t y =
     postProcess (record {
       input = x;
@@ -96,17 +96,17 @@ learnAt x t y =
 
 -- ---- an L before F strands a W; a time that falls is refused; the last times are 2^64 − 2 and 2^64 − 1; an output is too short
 
-abbrev strands : Settings
+abbrev pub strands : Settings
 strands = record { mode = STANDARD; method = NORMALIZE; d = 1; k = 2; start = 1; stop = 9; decay = ofBits binary64 0x3fc0_0000_0000_0000; weightTime = one; weights = two ∷ []; codes = 7 ∷ [] }
 
-strands-valid : Valid strands
+pub strands-valid : Valid strands
 unfolding computing
 strands-valid = record {
   accepted = refl;
   machine = record { stopFits = omega arith; decayFits = tt; weightTimeFits = tt; weightsFit = (tt, tt); codesFit = (omega arith, tt) };
 }
 
-abbrev stranding : List Call
+abbrev pub stranding : List Call
 stranding =
     learnAt (four ∷ []) 5 none
     ∷ learnAt (six ∷ []) 3 (some (one ∷ two ∷ []))
@@ -117,7 +117,7 @@ stranding =
     ∷ status []
     ∷ []
 
-stranding-machine : All Machine stranding
+pub stranding-machine : All Machine stranding
 unfolding computing
 stranding-machine = (
   ((tt, tt), (omega arith), tt),
@@ -140,12 +140,12 @@ stranding-machine = (
 )
 
 -- what is looked at of a list of calls
-all-take : (P : Call → Type 0) (n : ℕ) (cs : List Call) → All P cs → All P (take n cs)
+pub all-take : (P : Call → Type 0) (n : ℕ) (cs : List Call) → All P cs → All P (take n cs)
 all-take P zero cs h = tt
 all-take P (suc n) [] h = tt
 all-take P (suc n) (c ∷ cs) h = (h .0, all-take P n cs (h .1))
 
-all-drop : (P : Call → Type 0) (n : ℕ) (cs : List Call) → All P cs → All P (drop n cs)
+pub all-drop : (P : Call → Type 0) (n : ℕ) (cs : List Call) → All P cs → All P (drop n cs)
 all-drop P zero cs h = h
 all-drop P (suc n) [] h = tt
 all-drop P (suc n) (c ∷ cs) h = all-drop P n cs (h .1)
@@ -164,7 +164,7 @@ stranding-entries : entries strands stranding ≡ learned (two ∷ []) 184467440
 unfolding recording
 stranding-entries = refl
 
-abbrev strandedText : List ℕ
+abbrev pub strandedText : List ℕ
 strandedText = text (
     "set\tS\t4\t1\t2\t1\t9\t3fc0000000000000\t3f800000" ∷
     "wgt\t40000000" ∷
@@ -185,7 +185,7 @@ strandedText = text (
     "tim\t18446744073709551614\t18446744073709551615" ∷
     "buf\t5\t40800000" ∷ [])
 
-stranding-text : historyText strands stranding ≡ strandedText
+pub stranding-text : historyText strands stranding ≡ strandedText
 unfolding writing
 stranding-text = refl
 
@@ -194,21 +194,21 @@ stranding-put-away : render (stranding-last .second) ≡ strandedText
 stranding-put-away = stranding-last .outlives .historyEnds ∙ stranding-text
 
 -- the panel, after the fourth call put away and taken up again: of three readings seen the two L's are fed, the stranded W is not
-abbrev oneRoom : List Float
+abbrev pub oneRoom : List Float
 oneRoom = nan ∷ []
 
-one-fits : Settings.block strands ≤ length oneRoom
+pub one-fits : Settings.block strands ≤ length oneRoom
 unfolding computing
 one-fits = omega arith
 
-stranding-fed : historyPanels strands (entries strands (take 4 stranding)) (drop 4 stranding) ≡ 1 ∷ 1 ∷ 2 ∷ 2 ∷ []
+pub stranding-fed : historyPanels strands (entries strands (take 4 stranding)) (drop 4 stranding) ≡ 1 ∷ 1 ∷ 2 ∷ 2 ∷ []
 unfolding recording
 stranding-fed = refl
 
 stranding-panels : panels oneRoom (stranding-at 4 .second) (drop 4 stranding) ≡ map some (1 ∷ 1 ∷ 2 ∷ 2 ∷ [])
 stranding-panels = stranding-at 4 .outlives .fedPanels oneRoom one-fits ∙ ap (map some) stranding-fed
 
-stranding-fed-first : historyPanels strands [] stranding ≡ 0 ∷ 0 ∷ 0 ∷ 1 ∷ 1 ∷ 1 ∷ 2 ∷ 2 ∷ []
+pub stranding-fed-first : historyPanels strands [] stranding ≡ 0 ∷ 0 ∷ 0 ∷ 1 ∷ 1 ∷ 1 ∷ 2 ∷ 2 ∷ []
 unfolding recording
 stranding-fed-first = refl
 
@@ -217,13 +217,13 @@ stranding-panels-first = stranding-first .fedPanels oneRoom one-fits ∙ ap (map
 
 -- ---- the same over memory that is too long and holds something else, for both watches and for the text
 
-abbrev dirty : Lent
+abbrev pub dirty : Lent
 dirty = lent (replicate 31 nan) (replicate 5 six) (replicate 4 nan) (replicate 3 18446744073709551615) (replicate 2 nan) (replicate 9 77)
 
-abbrev filthy : Lent
+abbrev pub filthy : Lent
 filthy = lent (replicate 90 (ofBits binary64 0xfff0_0000_0000_0000)) (replicate 2 nan) (replicate 7 nan) (replicate 8 3) (replicate 1 six) (replicate 1 5)
 
-text-fits : length (historyText strands (take 4 stranding)) ≤ 1000
+pub text-fits : length (historyText strands (take 4 stranding)) ≤ 1000
 unfolding writing
 text-fits = omega arith
 
@@ -237,13 +237,13 @@ abbrev putAway : List ℕ
 putAway = textIn (heldRun (builtOn strands dirty) (take 4 stranding)) (replicate 1000 10)
 
 -- the second watch, over the filthy memory, answers: the point, the learn, and row 20
-abbrev pointAnswer : Answer
+abbrev pub pointAnswer : Answer
 pointAnswer = wrote (two ∷ single 0xc0a0_0000 ∷ nan ∷ [])
 
-abbrev learnAnswer : Answer
+abbrev pub learnAnswer : Answer
 learnAnswer = learnt (record { written = true; anomaly = none; deviationsOut = single 0x403c_1eee ∷ nan ∷ nan ∷ nan ∷ nan ∷ []; pastOut = nan ∷ []; expectedOut = [] })
 
-ruled : historyAnswers strands (entries strands (take 4 stranding)) (drop 4 stranding) ≡ pointAnswer ∷ learnAnswer ∷ refused 20 ∷ []
+pub ruled : historyAnswers strands (entries strands (take 4 stranding)) (drop 4 stranding) ≡ pointAnswer ∷ learnAnswer ∷ refused 20 ∷ []
 unfolding answering
 ruled = refl
 
@@ -294,7 +294,7 @@ held-shown-first : heldShown (builtOn strands dirty) stranding ≡ throughout
 held-shown-first = stranding-held .firstShown ∙ stranding-shown-first
 
 -- both ends as places
-last-fits : length (historyText strands stranding) ≤ 726
+pub last-fits : length (historyText strands stranding) ≤ 726
 unfolding writing
 last-fits = omega arith
 
@@ -306,7 +306,7 @@ held-last = held-demand-3 strands strands-valid stranding [] stranding-machine t
 held-last-text : textIn (heldRun (builtOn strands dirty) stranding) (replicate 726 255) ≡ strandedText
 held-last-text = held-last .text ∙ stranding-text
 
-first-fits : length (historyText strands []) ≤ 1000
+pub first-fits : length (historyText strands []) ≤ 1000
 unfolding writing
 first-fits = omega arith
 

@@ -1,0 +1,4 @@
+pub mod Asked
+pub mod RoleDemand
+pub mod RoleHeld
+pub mod RoleProgram
