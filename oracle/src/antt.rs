@@ -11,10 +11,11 @@ use crate::texts;
 const METHODS: [&str; 6] = ["NONE", "WEIGHTED", "DIFFERENCE", "«SUBTRACT_MA»", "NORMALIZE", "«NORMALIZE_DIFFERENCE»"];
 
 fn mode(s: &Settings) -> &'static str {
-    if s.mode == Mode::Standard {
-        "STANDARD"
-    } else {
-        "«TIME_AUGMENTED»"
+    match s.mode {
+        Mode::Standard => "STANDARD",
+        Mode::TimeAugmented => "«TIME_AUGMENTED»",
+        Mode::GapAugmented => "«GAP_AUGMENTED»",
+        Mode::StreamingImpute => panic!("row 1 refuses this mode"),
     }
 }
 

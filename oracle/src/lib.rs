@@ -14,6 +14,7 @@ pub mod bits;
 pub mod calls;
 pub mod counts;
 pub mod digits;
+pub mod gap;
 pub mod history;
 pub mod imputation;
 pub mod random;

@@ -58,7 +58,7 @@ impl Snapshot {
     pub fn written(&self, lined: bool) -> String {
         let mut out = String::new();
         let s = &self.settings;
-        let mode = if s.mode == Mode::Standard { 'S' } else { 'T' };
+        let mode = s.letter().expect("a mode that row 1 does not refuse");
         out += &format!("set\t{mode}\t{}\t{}\t{}\t{}\t{}", s.method, s.d, s.k, s.start, s.stop);
         out += &format!("\t{}\t{}\n", hex64(s.decay), hex32(s.weight_time));
         let singles = |out: &mut String, list: &[f32]| {
@@ -174,6 +174,7 @@ pub fn set_line(line: &[u8]) -> Option<Settings> {
     let mode = match f[0] {
         b"S" => Mode::Standard,
         b"T" => Mode::TimeAugmented,
+        b"G" => Mode::GapAugmented,
         _ => return None,
     };
     let method = whole(f[1]).filter(|&m| m <= 5)? as u8;

@@ -1,4 +1,6 @@
 //! Vector files: one call a line, its arguments, then the Rust's answer. docs/VECTORS.md states each format.
+mod gap;
+
 use crate::bits::{bits32, bits64};
 use crate::calls::*;
 use crate::common::deviation::Deviation;
@@ -792,11 +794,7 @@ fn far_transformer(r: &mut Random, out: &mut String) {
 // preprocessor
 
 fn settings_line(s: &Settings) -> Line {
-    let mode = match s.mode {
-        Mode::Standard => "S",
-        Mode::TimeAugmented => "T",
-        Mode::StreamingImpute => "I",
-    };
+    let mode = s.letter().unwrap_or("I");
     let line = Line::new("b").field(mode).whole(s.method as u64).whole(s.d).whole(s.k).whole(s.start).whole(s.stop);
     line.double(s.decay).single(s.weight_time).list(&s.weights).codes(&s.codes)
 }
@@ -970,10 +968,15 @@ fn text_line(r: &Random, out: &mut String, good: &Snapshot, text: &[u8]) {
     let expected = expected_codes(r, &settings.codes);
     let k = settings.k as usize;
     let times = r.aside(20).pick(&[k + 6, k + 1, k, k, k, k - 1, 0]);
+    expected_line(out, text, &expected, times);
+}
+
+/// With these codes expected, and so much room for the times.
+fn expected_line(out: &mut String, text: &[u8], expected: &[u16], times: usize) {
     let mut room = ROOMY;
     room[3] = times;
-    let Refused { row, line } = take_up(text, &expected, &room).err().unwrap_or(Refused { row: 0, line: 0 });
-    let head = Line::new("r").whole(text.len() as u64).codes(&expected).whole(times as u64);
+    let Refused { row, line } = take_up(text, expected, &room).err().unwrap_or(Refused { row: 0, line: 0 });
+    let head = Line::new("r").whole(text.len() as u64).codes(expected).whole(times as u64);
     head.whole(row as u64).whole(line as u64).end(out);
     *out += std::str::from_utf8(text).expect("the damage is plain");
     *out += "\n";
@@ -1059,7 +1062,7 @@ fn bench(r: &mut Random, count: u64) -> String {
     out
 }
 
-/// The file of a kind: `count` lines, and for `snapshot`, `near` and `far_texts` as many texts.
+/// The file of a kind: `count` lines, and for `snapshot`, `near`, `far_texts` and `gap_texts` as many texts; `edges` and `edge_texts` have a length of their own.
 pub fn file(kind: &str, seed: u64, count: u64) -> Option<String> {
     let r = &mut Random::new(seed);
     Some(match kind {
@@ -1072,6 +1075,10 @@ pub fn file(kind: &str, seed: u64, count: u64) -> Option<String> {
         "near" => near(r, count),
         "far" => far(r, count),
         "far_texts" => far_texts(r, count),
+        "gap" => gap::lists(r, count),
+        "gap_texts" => gap::texts_of(r, count),
+        "edges" => gap::edges(r),
+        "edge_texts" => gap::edge_texts(r),
         "bench" => bench(r, count),
         _ => return None,
     })
@@ -1093,7 +1100,7 @@ pub fn judged(file: &str) -> String {
 
 /// Where the last line with an answer ends: before its LF. A line `k` of the kind transformer has none; a text's answer stands in the line before it.
 fn last_answer(kind: &str, file: &str) -> usize {
-    if !["snapshot", "near", "far_texts"].contains(&kind) {
+    if !["snapshot", "near", "far_texts", "gap_texts", "edge_texts"].contains(&kind) {
         let kept = file.lines().rev().skip_while(|l| l.starts_with("k ")).map(|l| l.len() + 1).sum::<usize>();
         return kept - 1;
     }
