@@ -19,6 +19,8 @@ pub mod history;
 pub mod imputation;
 pub mod random;
 pub mod reference;
+pub mod settle;
+pub mod settle_cases;
 pub mod snapshot;
 pub mod stranding;
 pub mod texts;
