@@ -1,5 +1,5 @@
 //! Vector files: one call a line, its arguments, then the Rust's answer. docs/VECTORS.md states each format.
-mod gap;
+pub mod gap;
 
 use crate::bits::{bits32, bits64};
 use crate::calls::*;

@@ -139,6 +139,45 @@ fn directed(r: &mut Random, n: usize, out: &mut String) {
     calls_lines(r, out, Reference::build(&s).unwrap(), &calls, (0, 3));
 }
 
+/// A short list for the prover, of 12 to 14 calls: the readings that wait are drained by a drain or a point, or stranded, or there are none.
+pub fn short(r: &mut Random, n: u64) -> (Settings, Vec<Call>) {
+    let method = [NORMALIZE, NORMALIZE_DIFFERENCE, NORMALIZE, WEIGHTED, DIFFERENCE, SUBTRACT_MA][n as usize % 6];
+    let d = [1, 1, 2, 1, 1, 1][n as usize % 6];
+    let s = Settings {
+        mode: Mode::GapAugmented,
+        method,
+        d,
+        k: [2, 3, 2, 1, 2, 2][n as usize % 6],
+        start: if method >= NORMALIZE { 2 } else { 0 },
+        stop: if n % 6 == 5 { 1 } else { 1000 },
+        decay: [0.0, 0.5, 0.1, 0.25, 0.01, 0.0][n as usize % 6],
+        weight_time: [1.0, 0.5, 3.0, -2.0, 0.1, 0.0][n as usize % 6],
+        weights: vec![if method == WEIGHTED { 0.5 } else { 1.0 }; d as usize],
+        codes: codes(r, d as usize),
+    };
+    let waits = method >= NORMALIZE;
+    let base = if n % 6 == 4 { u64::MAX - 60 } else { 100 };
+    let m = &mut Maker { s: &s, calls: Vec::new() };
+    m.transform(r, base + 3, None, None);
+    m.learn(r, base + 10, !waits);
+    m.transform(r, base + 9, None, None);
+    m.transform(r, base + 13, None, None);
+    m.learn(r, base + 17, !waits);
+    match n % 6 {
+        0 => m.calls.push(Call::Drain),
+        2 => m.learn(r, base + 17, true),
+        _ => m.point(r, base + 17, None, None),
+    }
+    m.point(r, base + 30, None, None);
+    m.learn(r, base + 31, true);
+    m.point(r, base + 30, None, None);
+    m.point(r, base + 58, None, None);
+    m.turn_back(r, 1);
+    m.calls.extend([Call::Scale { out: s.width() }, Call::Shift { out: s.width() }, Call::Status { out: s.width() }]);
+    let calls = std::mem::take(&mut m.calls);
+    (s, calls)
+}
+
 /// States that only a text can bring about: where the newest time is not the last learnt one, and row 28 beside row 18.
 fn unreached(r: &mut Random, n: usize, out: &mut String) {
     let sizes = Sizes { d: 2, k: 3, start: 4, exact: false };
