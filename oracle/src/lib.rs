@@ -19,6 +19,7 @@ pub mod history;
 pub mod imputation;
 pub mod random;
 pub mod reference;
+pub mod roles;
 pub mod settle;
 pub mod settle_cases;
 pub mod snapshot;
