@@ -6,7 +6,7 @@ use crate::calls::*;
 use crate::common::deviation::Deviation;
 use crate::common::rangevector::RangeVector;
 use crate::counts::{feed_channels, held, update, RUST_COUNT};
-use crate::random::{bad_settings, expected_codes, settings, Calls, Random, Sizes};
+use crate::random::{bad_settings, expected_codes, gapped, settings, Calls, Random, Sizes};
 use crate::reference::{rust_method, Reference};
 use crate::snapshot::{read, take_up, Refused, Snapshot, ROOMY};
 use crate::texts;
@@ -1033,8 +1033,8 @@ fn far_texts(r: &mut Random, count: u64) -> String {
 }
 
 /// One input for the bench, of `count` call lines, most of the form.
-fn bench(r: &mut Random, count: u64) -> String {
-    let s = settings(r, Sizes { d: 4, k: 8, start: 6, exact: false });
+fn bench(r: &mut Random, count: u64, mode: fn(Settings) -> Settings) -> String {
+    let s = mode(settings(r, Sizes { d: 4, k: 8, start: 6, exact: false }));
     let fresh = Snapshot::of(&Reference::build(&s).unwrap()).text();
     let mut out: String = fresh.split_inclusive('\n').take(2).collect();
     let mut time = r.below(100);
@@ -1079,7 +1079,8 @@ pub fn file(kind: &str, seed: u64, count: u64) -> Option<String> {
         "gap_texts" => gap::texts_of(r, count),
         "edges" => gap::edges(r),
         "edge_texts" => gap::edge_texts(r),
-        "bench" => bench(r, count),
+        "bench" => bench(r, count, |s| s),
+        "bench_gap" => bench(r, count, gapped),
         _ => return None,
     })
 }
