@@ -123,6 +123,19 @@ fn turned_back() {
     assert_eq!(times, Some([[103.0f64, 105.0], [104.0, 105.0], [103.0, 102.0]].map(|l| l.map(f64::to_bits).to_vec())));
 }
 
+/// The letter in the bench, and row 28 of its `p`: 1 and 2 are seen, so that the gap from 2 to 9 is 7; the one to the learnt 9 is 0.
+#[test]
+fn the_bench() {
+    let head = "set\tG\t0\t1\t1\t0\t20\t0000000000000000\t3f800000\nwgt\t3f800000\n";
+    let with = |calls: &str| oracle::bench::run(format!("{head}{calls}").as_bytes());
+    assert_eq!(with("p\t5\t40000000\n"), "pt\t40000000\t00000000\n");
+    assert_eq!(with("p\t2\t3f800000\nl\t2\t3f800000\np\t1\t3f800000\np\t9\t3f800000\n"), "pt\t3f800000\t00000000\nok\nno\t28\npt\t3f800000\t40e00000\n");
+    assert!(with("s\n").starts_with(head));
+    for letter in ["g", "GG", "", "3"] {
+        assert_eq!(oracle::bench::run(head.replacen('G', letter, 1).as_bytes()), "no\t19\n");
+    }
+}
+
 /// The last mean of the statistics' lines, and 1; the last time; the points: from a text alone.
 fn told(text: &str) -> (f64, u64, Vec<u32>) {
     let fields = |name: &str| text.lines().rev().find(|l| l.starts_with(name)).unwrap().split('\t').skip(1).map(String::from).collect::<Vec<_>>();
