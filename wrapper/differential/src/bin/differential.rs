@@ -2,7 +2,7 @@
 //! heads that were damaged; and the calls that take no preprocessor. Usage: differential SEED LISTS [TEXTS [CASES]].
 use differential::lists::{align, corrected, impute, roots, stranding, Tally};
 use differential::{call, same, settings};
-use oracle::calls::{Answer, Call, Mode, Settings};
+use oracle::calls::{Answer, Call, Mode, Settings, COUNT_LIMIT, SEEN_LIMIT};
 use oracle::random::{any_mode, bad_settings, expected_codes, settings as random_settings, Calls, Random, FULL};
 use oracle::reference::Reference;
 use oracle::snapshot::{take_up, Snapshot};
@@ -153,8 +153,25 @@ fn row_of_words(w: &[u64]) -> u64 {
     } else if w[0] > 3 || w[1] > 5 || w[28..44].iter().any(|&c| c > 65535) {
         19
     } else {
-        decoded(w).row() as u64
+        match decoded(w).row() {
+            0 if misfit(w) => 20,
+            row => row as u64,
+        }
     }
+}
+
+/// Counters that no text of these settings has: "While waiting, `buf` lines = values_seen and internal is 0; later none, or start lines under methods 4 and 5
+/// (with such lines, internal is 0 if values_seen = start)"; and the limits of the three.
+fn misfit(w: &[u64]) -> bool {
+    let (normalizes, start) = (w[1] >= 4, w[4]);
+    let [seen, internal, count, held] = [w[8], w[9], w[10], w[11]];
+    let within = seen <= SEEN_LIMIT && internal <= SEEN_LIMIT && count <= COUNT_LIMIT;
+    let fits = if normalizes && seen < start {
+        internal == 0 && held == seen
+    } else {
+        held == 0 || (normalizes && held == start && (seen != start || internal == 0))
+    };
+    !(within && fits)
 }
 
 /// A head with one word damaged: refused by the row of its settings, where there is one; else its codes are told, and of calls there is some answer, and
