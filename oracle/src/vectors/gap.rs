@@ -109,7 +109,12 @@ fn directed(r: &mut Random, n: usize, out: &mut String) {
         weights,
         codes: codes(r, d as usize),
     };
-    let base = FIRST_TIMES[(n + n / 6) % 6];
+    // Where readings wait the times lie at the end of a u64, around 2^53 and 2^63, and at 0.
+    let base = FIRST_TIMES[match n % 6 {
+        4 => [3, 2, 1][n / 6 % 3],
+        5 => [2, 3, 5][n / 6 % 3],
+        m => (m + 2 * (n / 6)) % 6,
+    }];
     let m = &mut Maker { s: &s, calls: Vec::new() };
     m.transform(r, base + 5, None, None);
     m.point(r, base + 5, None, None);
