@@ -254,9 +254,6 @@ pub fn lists(r: &mut Random, lines: u64) -> String {
     for n in 0..8 {
         unreached(r, n, &mut out);
     }
-    for case in HALFWAY {
-        operations(r, case, &mut out);
-    }
     let mut lists = 0;
     while (out.lines().count() as u64) < lines {
         lists += 1;
@@ -332,7 +329,7 @@ fn almost(r: &mut Random, s: &Settings) -> Snapshot {
 
 const MODES: [Mode; 3] = [Mode::Standard, Mode::TimeAugmented, Mode::GapAugmented];
 
-/// Rows 4 and 8 on both sides; and starts of 1,999 and 501 completed and drained, in every mode.
+/// Rows 4 and 8 on both sides; starts of 1,999 and 501 completed and drained, in every mode; and the order of the operations in mode G's element.
 pub fn edges(r: &mut Random) -> String {
     let mut out = String::new();
     for mode in MODES {
@@ -370,6 +367,9 @@ pub fn edges(r: &mut Random) -> String {
         let calls = std::mem::take(&mut m.calls);
         set_lines(&w, &mut out);
         calls_lines(r, &mut out, w.restore(), &calls, (0, 0));
+    }
+    for case in HALFWAY {
+        operations(r, case, &mut out);
     }
     out
 }
