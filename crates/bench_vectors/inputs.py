@@ -2,6 +2,7 @@
 """Inputs of the bench, with the answers of the oracle's bench (docs/ORACLE.md); needs the oracle built.
 
     crates/bench_vectors/inputs.py make                      data/inputs, data/long, data/wrong, and stdout with their counts
+    crates/bench_vectors/inputs.py gap                       data/gap: inputs in mode G
     crates/bench_vectors/inputs.py blocks                    stdin and stdout of the program bench, its edges of blocks cutting what they can
     crates/bench_vectors/inputs.py compare SEED COUNT BENCH  random inputs through BENCH too, byte for byte
     crates/bench_vectors/inputs.py speed REPEATS BENCH       lines a second of both on large inputs, medians
@@ -27,8 +28,8 @@ def oracle(text):
     return run([os.path.join(TOOLS, "oracle_bench")], text)
 
 
-def vectors(seed, count):
-    return run([os.path.join(TOOLS, "vectors"), "bench", str(seed), str(count)], b"")
+def vectors(seed, count, kind="bench"):
+    return run([os.path.join(TOOLS, "vectors"), kind, str(seed), str(count)], b"")
 
 
 def run(command, text):
@@ -126,7 +127,7 @@ def random_head(r):
     plain = method == 0 and r.random() < 0.95
     words = [b"3f800000" if plain else r.choice([b"3f800000", b"40000000", b"3e99999a", b"bf800000", f32(r)]) for _ in range(weights)]
     time = r.choice([b"3f800000", b"40000000", b"3dcccccd", f32(r)])
-    line = set_line(r.choice([b"S", b"T"]), b"%d" % method, b"%d" % d, b"%d" % k, b"%d" % start, b"%d" % stop, b"%016x" % decay, time)
+    line = set_line(r.choice([b"S", b"T", b"G"]), b"%d" % method, b"%d" % d, b"%d" % k, b"%d" % start, b"%d" % stop, b"%016x" % decay, time)
     return d, line + b"wgt" + b"".join(b"\t" + w for w in words) + b"\n"
 
 
@@ -165,7 +166,7 @@ def random_input(seed):
     if kind < 0.1:
         return rubbish(r)
     if kind < 0.4:
-        return vectors(seed, r.choice([0, 3, 30, 120]))
+        return vectors(seed, r.choice([0, 3, 30, 120]), r.choice(["bench", "bench_gap"]))
     d, head = random_head(r)
     return damaged(r, head + b"".join(line + b"\n" for line in random_calls(r, d, r.choice([0, 1, 5, 20, 60, 150]))))
 
@@ -185,6 +186,19 @@ def make():
     lines = write("inputs", inputs) + write("long", list(long_lines())) + wrong()
     with open(os.path.join(HERE, "stdout"), "w") as f:
         f.write(lines)
+
+
+def gap():
+    """Row 28 of `p` while readings wait, after they were let in, and later; weights of the time of every kind; times up to the last."""
+    calls = b"p\t5\t3f800000\nl\t9\t3f800000\np\t8\t3f800000\np\t9\t3f800000\nl\t14\t40000000\np\t13\t3f800000\np\t20\t40400000\ns\np\t13\t3f800000\nl\t20\t40400000\np\t19\t7f800000\np\t19\np\t20\t3f800000\nl\t18446744073709551615\t3f800000\np\t18446744073709551614\t3f800000\np\t18446744073709551615\t3f800000\nd\ns\n"
+    inputs = []
+    for method in range(6):
+        for time in [b"3f800000", b"40000000", b"00000000", b"80000000", b"c0000000", b"7f800000", b"7fc00000"][method % 2::2]:
+            weight = b"wgt\t3f800000\n" if method == 0 else b"wgt\t40000000\n"
+            inputs.append(set_line(mode=b"G", method=b"%d" % method, start=b"2", decay=b"3fb999999999999a", time=time) + weight + calls)
+    inputs += [set_line(mode=b"G", d=b"5") + b"wgt" + singles(5) + b"\ns\n", set_line(mode=b"G", start=b"501", stop=b"501") + b"wgt\t3f800000\ns\n", set_line(mode=b"G", d=b"0") + b"wgt\n", set_line(mode=b"g") + b"wgt\t3f800000\n", set_line(mode=b"GG") + b"wgt\t3f800000\n"]
+    inputs += [vectors(seed, 24, "bench_gap") for seed in range(1, 31)]
+    return write("gap", inputs)
 
 
 def wrong():
@@ -321,6 +335,8 @@ def speed(repeats, bench):
 if __name__ == "__main__":
     if sys.argv[1:] == ["make"]:
         make()
+    elif sys.argv[1:] == ["gap"]:
+        print(gap(), end="")
     elif sys.argv[1:] == ["blocks"]:
         blocks()
     elif len(sys.argv) == 5 and sys.argv[1] == "compare":

@@ -7,14 +7,16 @@ use crate::random::{settings, Calls, Random, Sizes};
 use crate::reference::Reference;
 use crate::snapshot::{read, Snapshot};
 use crate::texts;
+use crate::vectors::gap::short;
 
 const METHODS: [&str; 6] = ["NONE", "WEIGHTED", "DIFFERENCE", "«SUBTRACT_MA»", "NORMALIZE", "«NORMALIZE_DIFFERENCE»"];
 
 fn mode(s: &Settings) -> &'static str {
-    if s.mode == Mode::Standard {
-        "STANDARD"
-    } else {
-        "«TIME_AUGMENTED»"
+    match s.mode {
+        Mode::Standard => "STANDARD",
+        Mode::TimeAugmented => "«TIME_AUGMENTED»",
+        Mode::GapAugmented => "«GAP_AUGMENTED»",
+        Mode::StreamingImpute => panic!("row 1 refuses this mode"),
     }
 }
 
@@ -356,6 +358,24 @@ pub fn far_file(seed: u64, count: u64, crates: &Path) -> String {
             list(calls.iter().zip(&answers).map(|(c, a)| format!("\n    {}", answer_term(s, c, a))))
         );
         n += 1;
+    }
+    out
+}
+
+const GAP_TITLE: &str = "-- Lists of calls in mode G (document 02, #114), whose texts and answers the oracle gave (traces SEED COUNT gap: the Rust, and the written rule
+-- where G is another), computed by the definitions.";
+
+const GAP_USES: &str = "use Rattle.trcf.specs.declared.types.ForestMode.the-variants.{«GAP_AUGMENTED»}\n";
+
+/// `count` lists in mode G.
+pub fn gap_file(seed: u64, count: u64, crates: &Path) -> String {
+    let mut out = head(crates, GAP_TITLE, GAP_USES, &[]);
+    for n in 0..count {
+        let mut r = Random::new(seed.wrapping_mul(0x1_0000_000d).wrapping_add(n));
+        let (s, calls) = short(&mut r, n);
+        let mut reference = Reference::build(&s).unwrap();
+        let answers: Vec<Answer> = calls.iter().map(|c| reference.call(c)).collect();
+        out += &theorems(n, &s, &calls, &answers, &Snapshot::of(&reference).text());
     }
     out
 }

@@ -18,7 +18,8 @@ fn time_and_values(line: &[u8], name: &str) -> Option<(u64, Vec<f32>)> {
     Some((whole(f.first()?)?, every(&f[1..], None, single)?))
 }
 
-fn head(set: Option<&[u8]>, wgt: Option<&[u8]>) -> Option<Settings> {
+/// The settings of both lines, where they are of the form; rows aside.
+pub fn head(set: Option<&[u8]>, wgt: Option<&[u8]>) -> Option<Settings> {
     let mut settings = set_line(set?)?;
     settings.weights = every(&fields(wgt?, "wgt")?, None, single)?;
     // "The bench has zero codes and its `s` shows the line."
@@ -26,7 +27,8 @@ fn head(set: Option<&[u8]>, wgt: Option<&[u8]>) -> Option<Settings> {
     Some(settings)
 }
 
-fn learn(input: Vec<f32>, timestamp: u64, point: Option<Vec<f32>>) -> Call {
+/// A learn of grade 0, without an expected point.
+pub fn learn(input: Vec<f32>, timestamp: u64, point: Option<Vec<f32>>) -> Call {
     let (grade, relative_index, expected) = (0.0, 0, None);
     Call::Learn(Learn { input, timestamp, point, grade, relative_index, expected, deviations_out: 64, past_out: 64, expected_out: 64 })
 }

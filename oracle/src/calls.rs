@@ -5,6 +5,8 @@ pub enum Mode {
     Standard,
     TimeAugmented,
     StreamingImpute,
+    /// Request #114, which the Rust has not.
+    GapAugmented,
 }
 
 pub const NONE: u8 = 0;
@@ -64,8 +66,24 @@ impl Settings {
         vec![0; self.d.min(17) as usize]
     }
 
+    /// Whether a block has an element for the time.
     pub fn timed(&self) -> bool {
-        self.mode == Mode::TimeAugmented
+        self.mode == Mode::TimeAugmented || self.gap()
+    }
+
+    /// Whether that element is a gap.
+    pub fn gap(&self) -> bool {
+        self.mode == Mode::GapAugmented
+    }
+
+    /// The letter of the `set` line; none for the mode that row 1 refuses.
+    pub fn letter(&self) -> Option<&'static str> {
+        match self.mode {
+            Mode::Standard => Some("S"),
+            Mode::TimeAugmented => Some("T"),
+            Mode::GapAugmented => Some("G"),
+            Mode::StreamingImpute => None,
+        }
     }
 
     /// `get_dimension`
@@ -74,7 +92,7 @@ impl Settings {
         (width * self.k) as usize
     }
 
-    /// Channels, and one more for time in TIME_AUGMENTED: the length of transform's, scale's, shift's and the deviations' answer.
+    /// Channels, and one more for time in TIME_AUGMENTED and in mode G: the length of transform's, scale's, shift's and the deviations' answer.
     pub fn width(&self) -> usize {
         (if self.timed() { self.d + 1 } else { self.d }) as usize
     }
@@ -95,7 +113,7 @@ pub enum Call {
         timestamp: u64,
         out: usize,
     },
-    /// `invert_extrapolation`; the outputs (values, upper, lower of the numbers, then of the times) are lent in TIME_AUGMENTED only.
+    /// `invert_extrapolation`; the outputs (values, upper, lower of the numbers, then of the times) are lent where blocks have times only.
     TurnBack {
         values: Vec<f32>,
         upper: Vec<f32>,

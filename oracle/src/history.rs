@@ -1,4 +1,4 @@
-//! The history sheet of document 01, on its own, with request #113's codes: entries, the refusals they decide, and the text, in closed form.
+//! The history sheet of document 01, on its own, with request #113's codes and request #114's mode G: entries, the refusals they decide, and the text, in closed form.
 //! It is fed the settings and the calls, never an answer, and uses nothing of the Rust's code.
 use crate::bits::{hex32, hex64};
 use crate::calls::{Call, Learn, Mode, Settings, COUNT_LIMIT, DIFFERENCE, NORMALIZE, NORMALIZE_DIFFERENCE, SEEN_LIMIT};
@@ -225,7 +225,7 @@ impl History {
         point.split_off(point.len() - self.settings.dimension())
     }
 
-    /// A reading in the six methods, and its time in TIME_AUGMENTED.
+    /// A reading in the six methods, and its time in TIME_AUGMENTED, its gap in mode G.
     fn transformed(&self, fed: &Fed, (x, t): (&[f32], u64), (previous, previous_time): (&[f32], u64)) -> Vec<f32> {
         let s = &self.settings;
         let mut answer: Vec<f32> = (0..x.len())
@@ -242,9 +242,12 @@ impl History {
                 }
             })
             .collect();
-        if s.timed() {
-            let scale = fed.time.0[4].mean() + 1.0;
-            answer.push((t as f64 - previous_time as f64 * s.weight_time as f64 / scale) as f32);
+        let scale = fed.time.0[4].mean() + 1.0;
+        match s.mode {
+            Mode::TimeAugmented => answer.push((t as f64 - previous_time as f64 * s.weight_time as f64 / scale) as f32),
+            // Request #114: "(timestamp − newest time) × weight_time / timescale, […] in F each W's newest is the W before, the first its own".
+            Mode::GapAugmented => answer.push(((t - previous_time) as f64 * s.weight_time as f64 / scale) as f32),
+            _ => {}
         }
         answer
     }
@@ -256,6 +259,11 @@ impl History {
         } else {
             self.undrained().last().map_or(0, |w| w.1)
         }
+    }
+
+    /// Request #114, row 28: "point or transform in G with a time below the newest".
+    fn falls(&self, timestamp: u64) -> bool {
+        self.settings.mode == Mode::GapAugmented && timestamp < self.newest()
     }
 
     /// Row 18 where F would stand next.
@@ -314,9 +322,10 @@ impl History {
         let s = &self.settings;
         let d = s.d as usize;
         match call {
-            Call::Point { input, out, .. } => first(&[
+            Call::Point { input, timestamp, out } => first(&[
                 (10, input.len() != d),
                 (11, input.iter().any(|x| !x.is_finite())),
+                (28, self.falls(*timestamp)),
                 (18, self.complete() && self.feeding_passes()),
                 (20, !self.waits() && *out < s.dimension()),
             ]),
@@ -325,7 +334,7 @@ impl History {
                 let at_start = self.values_seen() == s.start;
                 first(&[(15, at_start && self.undrained().is_empty()), (18, self.complete() && self.feeding_passes())])
             }
-            Call::Transform { input, out, .. } => first(&[(10, input.len() != d), (20, *out < s.width())]),
+            Call::Transform { input, timestamp, out } => first(&[(10, input.len() != d), (28, self.falls(*timestamp)), (20, *out < s.width())]),
             Call::TurnBack { values, upper, lower, outs } => self.row_of_turn_back(values, upper, lower, outs),
             Call::Scale { out } | Call::Shift { out } | Call::Status { out } => first(&[(20, *out < s.width())]),
         }
@@ -355,7 +364,12 @@ impl History {
         let s = &self.settings;
         let fed = self.fed();
         let (inputs, times) = self.shingle(self.learned().len());
-        let mode = if s.mode == Mode::Standard { "S" } else { "T" };
+        let mode = match s.mode {
+            Mode::Standard => "S",
+            Mode::TimeAugmented => "T",
+            Mode::GapAugmented => "G",
+            Mode::StreamingImpute => panic!("row 1"),
+        };
         let mut lines = vec![
             format!("set\t{mode}\t{}\t{}\t{}\t{}\t{}\t{}\t{}", s.method, s.d, s.k, s.start, s.stop, hex64(s.decay), hex32(s.weight_time)),
             line("wgt", s.weights.iter().map(|&w| hex32(w))),

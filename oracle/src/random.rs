@@ -160,6 +160,20 @@ pub fn settings(r: &mut Random, sizes: Sizes) -> Settings {
     Settings { mode, method, d, k, start, stop, decay, weight_time, weights, codes }
 }
 
+/// The same settings in mode G (request #114), which no generator gives by itself: a seed's settings are those that it gave before there was the mode.
+pub fn gapped(settings: Settings) -> Settings {
+    Settings { mode: Mode::GapAugmented, ..settings }
+}
+
+/// A third of them in mode G. Takes nothing from the generator.
+pub fn any_mode(r: &Random, settings: Settings) -> Settings {
+    if r.aside(114).once_in(3) {
+        gapped(settings)
+    } else {
+        settings
+    }
+}
+
 /// `n` codes, a third of the lists zeros throughout. They take nothing from the generator's own numbers, so that a seed's settings and calls
 /// are those that it gave before there were codes.
 pub fn codes(r: &Random, n: usize) -> Vec<u16> {

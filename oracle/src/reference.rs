@@ -4,6 +4,7 @@ use crate::calls::*;
 use crate::common::descriptor::Descriptor;
 use crate::common::rangevector::RangeVector;
 use crate::counts::{held, RUST_COUNT};
+use crate::gap::Before;
 use crate::rcf::RCFLarge;
 use crate::trcf::preprocessor::{Preprocessor, PreprocessorBuilder};
 use crate::trcf::types::{ForestMode, TransformMethod};
@@ -13,6 +14,8 @@ pub fn rust_mode(mode: Mode) -> ForestMode {
         Mode::Standard => ForestMode::STANDARD,
         Mode::TimeAugmented => ForestMode::TIME_AUGMENTED,
         Mode::StreamingImpute => ForestMode::STREAMING_IMPUTE,
+        // Where mode G is another, gap.rs stands in the Rust's place.
+        Mode::GapAugmented => ForestMode::TIME_AUGMENTED,
     }
 }
 
@@ -77,7 +80,8 @@ impl Reference {
         self.settings.method >= NORMALIZE && self.values_seen() < self.settings.start
     }
 
-    fn newest(&self) -> u64 {
+    /// Row 12's newest time.
+    pub fn newest(&self) -> u64 {
         if self.internal() > 0 {
             *self.rust.timestamps().last().unwrap()
         } else {
@@ -105,8 +109,20 @@ impl Reference {
         }
     }
 
-    fn row_of_point(&self, input: &[f32], out: usize) -> u8 {
-        let row = self.row_of_input(input);
+    /// Row 28: "point or transform in G with a time below the newest".
+    fn row_of_gap(&self, timestamp: u64) -> u8 {
+        if self.settings.gap() && timestamp < self.newest() {
+            28
+        } else {
+            0
+        }
+    }
+
+    fn row_of_point(&self, input: &[f32], timestamp: u64, out: usize) -> u8 {
+        let row = match self.row_of_input(input) {
+            0 => self.row_of_gap(timestamp),
+            row => row,
+        };
         if row != 0 || self.waits() {
             return row;
         }
@@ -196,12 +212,14 @@ impl Reference {
     pub fn row(&self, call: &Call) -> u8 {
         let short = |out: usize| if out < self.settings.width() { 20 } else { 0 };
         match call {
-            Call::Point { input, out, .. } => self.row_of_point(input, *out),
+            Call::Point { input, timestamp, out } => self.row_of_point(input, *timestamp, *out),
             Call::Learn(c) => self.row_of_learn(c),
             Call::Drain => self.row_of_drain(),
-            Call::Transform { input, out, .. } => {
+            Call::Transform { input, timestamp, out } => {
                 if input.len() as u64 != self.settings.d {
                     10
+                } else if self.row_of_gap(*timestamp) != 0 {
+                    28
                 } else {
                     short(*out)
                 }
@@ -218,9 +236,13 @@ impl Reference {
         }
         let fed = self.feeds(call);
         let past = fed > 0 && self.count + fed > RUST_COUNT;
+        let before = self.settings.gap().then(|| Before::of(self));
         let answer = if past { self.call_past(call) } else { self.asked(call) };
         self.count += fed;
-        answer
+        match before {
+            Some(before) => self.by_gap(call, before, answer),
+            None => answer,
+        }
     }
 
     /// The Rust's answer, where no row refuses the call.

@@ -58,7 +58,7 @@ impl Snapshot {
     pub fn written(&self, lined: bool) -> String {
         let mut out = String::new();
         let s = &self.settings;
-        let mode = if s.mode == Mode::Standard { 'S' } else { 'T' };
+        let mode = s.letter().expect("a mode that row 1 does not refuse");
         out += &format!("set\t{mode}\t{}\t{}\t{}\t{}\t{}", s.method, s.d, s.k, s.start, s.stop);
         out += &format!("\t{}\t{}\n", hex64(s.decay), hex32(s.weight_time));
         let singles = |out: &mut String, list: &[f32]| {
@@ -174,6 +174,7 @@ pub fn set_line(line: &[u8]) -> Option<Settings> {
     let mode = match f[0] {
         b"S" => Mode::Standard,
         b"T" => Mode::TimeAugmented,
+        b"G" => Mode::GapAugmented,
         _ => return None,
     };
     let method = whole(f[1]).filter(|&m| m <= 5)? as u8;
@@ -313,10 +314,19 @@ pub type Room = [usize; 6];
 pub const ROOMY: Room = [255, 1024, 1088, 64, 31984, 1999];
 
 impl Settings {
-    /// What a preprocessor of these settings needs of each lent list, its initial values as many as it may come to hold.
+    /// What a preprocessor of these settings needs of each lent list, its initial values as many as it may come to hold: none under methods that never wait.
     pub fn room(&self) -> Room {
-        let (d, k, start) = (self.d as usize, self.k as usize, self.start as usize);
+        let (d, k, start) = (self.d as usize, self.k as usize, self.initial_room());
         [3 * (5 * d + 5), d * k, self.dimension(), k, start * d, start]
+    }
+
+    /// How many readings may wait.
+    pub fn initial_room(&self) -> usize {
+        if self.method >= NORMALIZE {
+            self.start as usize
+        } else {
+            0
+        }
     }
 }
 

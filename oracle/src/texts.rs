@@ -1,6 +1,7 @@
 //! Texts of document 01's form (with request #113's line or without it) that need not be reachable by calls, and damaged ones with the line at which each is bad.
 use crate::calls::{COUNT_LIMIT, NONE, NORMALIZE, SEEN_LIMIT};
 use crate::counts::RUST_COUNT;
+use crate::calls::Mode;
 use crate::random::{settings, Random, Sizes};
 use crate::snapshot::Snapshot;
 
@@ -75,6 +76,41 @@ pub fn undrained(r: &mut Random, sizes: Sizes) -> Snapshot {
     let (d, times) = (s.d as usize, rising_times(r, s.start as usize));
     w.initial = times.into_iter().map(|t| (t, r.list32(d, Random::value32))).collect();
     w
+}
+
+/// The same snapshot in mode G: where it had no time elements, its point gets them. Takes nothing from the generator.
+pub fn gapped(r: &Random, mut w: Snapshot) -> Snapshot {
+    w.settings.mode = Mode::GapAugmented;
+    let more = w.settings.dimension() - w.point.len();
+    w.point.extend(r.aside(114).list32(more, Random::wild32));
+    w
+}
+
+/// A third of them in mode G.
+pub fn any_mode(r: &Random, w: Snapshot) -> Snapshot {
+    if r.aside(115).once_in(3) {
+        gapped(r, w)
+    } else {
+        w
+    }
+}
+
+/// Its text with another letter of the mode: where the new one has time elements too, or none as the old one, the text is of the form.
+pub fn lettered(r: &mut Random, good: &Snapshot, lined: bool) -> Vec<u8> {
+    let mut all = lines(good.written(lined).as_bytes());
+    let mut set = split(&all[0]);
+    set[1] = r.pick(&["S", "T", "G", "T", "g", "GG", "", "I", "GAP_AUGMENTED", "3", " G", "G "]).into();
+    all[0] = join(&set);
+    all.concat()
+}
+
+/// Its text with another field in the `set` line.
+pub fn with_set_field(good: &Snapshot, place: usize, field: &str) -> Vec<u8> {
+    let mut all = lines(good.text().as_bytes());
+    let mut set = split(&all[0]);
+    set[place] = field.into();
+    all[0] = join(&set);
+    all.concat()
 }
 
 /// A count around the Rust's last one, around the limit, or between both.
@@ -342,7 +378,16 @@ fn spoiled_head(r: &mut Random, good: &Snapshot, lined: bool) -> (Vec<u8>, usize
     let waits = w.settings.method >= NORMALIZE && w.values_seen < w.settings.start;
     let change = |set: &mut Vec<Vec<u8>>, place: usize, to: &str| set[place] = to.as_bytes().to_vec();
     match r.below(12) {
-        0 => change(&mut set, 1, r.pick(&["G", "s", "ST", "0"])),
+        0 => {
+            let letter = r.pick(&["G", "s", "ST", "0"]);
+            change(&mut set, 1, letter);
+            if letter == "G" {
+                // Since request #114 a letter of the form: only the line of the points may then be too short.
+                all[0] = join(&set);
+                let points = counters + 5 * w.settings.d as usize + 5 + 2;
+                return (all.concat(), if w.settings.timed() { 0 } else { points });
+            }
+        }
         1 => change(&mut set, 2, r.pick(&["6", "00", "9"])),
         2 => change(&mut set, 3, r.pick(&["0", "17", "18446744073709551615"])),
         3 => change(&mut set, 4, r.pick(&["0", "65"])),

@@ -1,10 +1,12 @@
 //! Vector files: one call a line, its arguments, then the Rust's answer. docs/VECTORS.md states each format.
+pub mod gap;
+
 use crate::bits::{bits32, bits64};
 use crate::calls::*;
 use crate::common::deviation::Deviation;
 use crate::common::rangevector::RangeVector;
 use crate::counts::{feed_channels, held, update, RUST_COUNT};
-use crate::random::{bad_settings, expected_codes, settings, Calls, Random, Sizes};
+use crate::random::{bad_settings, expected_codes, gapped, settings, Calls, Random, Sizes};
 use crate::reference::{rust_method, Reference};
 use crate::snapshot::{read, take_up, Refused, Snapshot, ROOMY};
 use crate::texts;
@@ -808,11 +810,7 @@ fn far_transformer(r: &mut Random, out: &mut String) {
 // preprocessor
 
 fn settings_line(s: &Settings) -> Line {
-    let mode = match s.mode {
-        Mode::Standard => "S",
-        Mode::TimeAugmented => "T",
-        Mode::StreamingImpute => "I",
-    };
+    let mode = s.letter().unwrap_or("I");
     let line = Line::new("b").field(mode).whole(s.method as u64).whole(s.d).whole(s.k).whole(s.start).whole(s.stop);
     line.double(s.decay).single(s.weight_time).list(&s.weights).codes(&s.codes)
 }
@@ -986,10 +984,15 @@ fn text_line(r: &Random, out: &mut String, good: &Snapshot, text: &[u8]) {
     let expected = expected_codes(r, &settings.codes);
     let k = settings.k as usize;
     let times = r.aside(20).pick(&[k + 6, k + 1, k, k, k, k - 1, 0]);
+    expected_line(out, text, &expected, times);
+}
+
+/// With these codes expected, and so much room for the times.
+fn expected_line(out: &mut String, text: &[u8], expected: &[u16], times: usize) {
     let mut room = ROOMY;
     room[3] = times;
-    let Refused { row, line } = take_up(text, &expected, &room).err().unwrap_or(Refused { row: 0, line: 0 });
-    let head = Line::new("r").whole(text.len() as u64).codes(&expected).whole(times as u64);
+    let Refused { row, line } = take_up(text, expected, &room).err().unwrap_or(Refused { row: 0, line: 0 });
+    let head = Line::new("r").whole(text.len() as u64).codes(expected).whole(times as u64);
     head.whole(row as u64).whole(line as u64).end(out);
     *out += std::str::from_utf8(text).expect("the damage is plain");
     *out += "\n";
@@ -1046,8 +1049,8 @@ fn far_texts(r: &mut Random, count: u64) -> String {
 }
 
 /// One input for the bench, of `count` call lines, most of the form.
-fn bench(r: &mut Random, count: u64) -> String {
-    let s = settings(r, Sizes { d: 4, k: 8, start: 6, exact: false });
+fn bench(r: &mut Random, count: u64, mode: fn(Settings) -> Settings) -> String {
+    let s = mode(settings(r, Sizes { d: 4, k: 8, start: 6, exact: false }));
     let fresh = Snapshot::of(&Reference::build(&s).unwrap()).text();
     let mut out: String = fresh.split_inclusive('\n').take(2).collect();
     let mut time = r.below(100);
@@ -1075,7 +1078,7 @@ fn bench(r: &mut Random, count: u64) -> String {
     out
 }
 
-/// The file of a kind: `count` lines, and for `snapshot`, `near` and `far_texts` as many texts.
+/// The file of a kind: `count` lines, and for `snapshot`, `near`, `far_texts` and `gap_texts` as many texts; `edges` and `edge_texts` have a length of their own.
 pub fn file(kind: &str, seed: u64, count: u64) -> Option<String> {
     let r = &mut Random::new(seed);
     Some(match kind {
@@ -1088,7 +1091,12 @@ pub fn file(kind: &str, seed: u64, count: u64) -> Option<String> {
         "near" => near(r, count),
         "far" => far(r, count),
         "far_texts" => far_texts(r, count),
-        "bench" => bench(r, count),
+        "gap" => gap::lists(r, count),
+        "gap_texts" => gap::texts_of(r, count),
+        "edges" => gap::edges(r),
+        "edge_texts" => gap::edge_texts(r),
+        "bench" => bench(r, count, |s| s),
+        "bench_gap" => bench(r, count, gapped),
         _ => return None,
     })
 }
@@ -1109,7 +1117,7 @@ pub fn judged(file: &str) -> String {
 
 /// Where the last line with an answer ends: before its LF. A line `k` of the kind transformer has none; a text's answer stands in the line before it.
 fn last_answer(kind: &str, file: &str) -> usize {
-    if !["snapshot", "near", "far_texts"].contains(&kind) {
+    if !["snapshot", "near", "far_texts", "gap_texts", "edge_texts"].contains(&kind) {
         let kept = file.lines().rev().skip_while(|l| l.starts_with("k ")).map(|l| l.len() + 1).sum::<usize>();
         return kept - 1;
     }

@@ -72,6 +72,8 @@ pub enum ForestMode {
     Standard = 0,
     TimeAugmented = 1,
     StreamingImpute = 2,
+    /// The time element is the gap since the newest time.
+    GapAugmented = 3,
 }
 
 #[derive(Clone, Copy, Debug, PartialEq, Eq)]

@@ -3,7 +3,7 @@
 use oracle::calls::{Answer, Call, Settings, DIFFERENCE, NORMALIZE, NORMALIZE_DIFFERENCE};
 use oracle::common::rangevector::RangeVector;
 use oracle::history::History;
-use oracle::random::{bad_settings, settings, Calls, Random, FULL};
+use oracle::random::{any_mode, bad_settings, settings, Calls, Random, FULL};
 use oracle::rcf::RCFLarge;
 use oracle::reference::{rust_build, Reference};
 use oracle::snapshot::Snapshot;
@@ -12,10 +12,12 @@ use oracle::snapshot::Snapshot;
 #[derive(Default)]
 struct Met {
     calls: u64,
-    rows: [u64; 21],
+    rows: [u64; 29],
     drained: u64,
     stranded: u64,
     stopped: u64,
+    /// Lists in mode G.
+    gap: u64,
     differences: u64,
     built: [u64; 10],
     codes: u64,
@@ -95,6 +97,8 @@ fn run_list(seed: u64, list: u64, met: &mut Met) {
     let mut r = Random::new(seed.wrapping_mul(0x1_0000_0001).wrapping_add(list));
     check_build(&bad_settings(&mut r, FULL), met);
     let s = settings(&mut r, FULL);
+    let s = any_mode(&r, s);
+    met.gap += s.gap() as u64;
     check_build(&s, met);
     let mut reference = Reference::build(&s).unwrap();
     let mut history = History::new(&s);
@@ -153,9 +157,9 @@ fn main() {
         run_list(seed, list, &mut met);
     }
     println!("lists {lists}, calls {}, places {}", met.calls, met.calls + lists);
-    println!("accepted {}; refused by row {:?}", met.rows[0], (10..=20).map(|i| (i, met.rows[i])).collect::<Vec<_>>());
+    println!("accepted {}; refused by row {:?}", met.rows[0], (10..=20).chain([28]).map(|i| (i, met.rows[i])).collect::<Vec<_>>());
     println!("builds by row {:?}; row 5 by the codes alone, or before a later row {}", met.built, met.codes);
-    println!("drained {}, lists stranded {}, lists past stop {}", met.drained, met.stranded, met.stopped);
+    println!("drained {}, lists stranded {}, lists past stop {}, lists in mode G {}", met.drained, met.stranded, met.stopped, met.gap);
     println!("panels {}, below values_seen {}", met.panels, met.lower);
     println!("differences {}", met.differences);
     std::process::exit((met.differences > 0) as i32);

@@ -1,10 +1,10 @@
 //! Puts the Rust's state away and takes it up again at every place of random lists of calls, and tries the reader on damaged texts.
 //! Usage: restart SEED LISTS TEXTS
 use oracle::calls::{Answer, Call};
-use oracle::random::{expected_codes, settings, Calls, Random, FULL};
+use oracle::random::{any_mode, expected_codes, settings, Calls, Random, FULL};
 use oracle::reference::Reference;
 use oracle::snapshot::{read, take_up, Refused, Room, Snapshot, ROOMY};
-use oracle::texts::{damaged, far, given, lines, put_away, scratched, snapshot, undrained};
+use oracle::texts::{self, damaged, far, given, lines, put_away, scratched, snapshot, undrained};
 
 fn text(reference: &Reference) -> String {
     Snapshot::of(reference).text()
@@ -89,7 +89,7 @@ fn completed(before: &[Vec<u8>]) -> Vec<u8> {
         let number = |place| field(0, place).parse::<usize>().unwrap();
         (number(2), number(3), number(4), number(5))
     };
-    let timed = !before.is_empty() && field(0, 1) == "T";
+    let timed = !before.is_empty() && field(0, 1) != "S";
     // The line of the codes stands there, or is filled in, or the counters are the third line already.
     let bare = before.len() > 2 && field(2, 0) != "chn";
     let counters = if bare { 2 } else { 3 };
@@ -147,17 +147,22 @@ fn check_bad_line(text: &[u8], line: usize) {
 fn main() {
     let arguments: Vec<u64> = std::env::args().skip(1).map(|a| a.parse().expect("SEED LISTS TEXTS")).collect();
     let (seed, lists, texts) = (arguments[0], arguments[1], arguments[2]);
-    let (mut places, mut compared) = (0u64, 0u64);
-    let mut rows = [0u64; 21];
+    let (mut places, mut compared, mut gap) = (0u64, 0u64, 0u64);
+    let mut rows = [0u64; 29];
     for list in 0..lists {
         let mut r = Random::new(seed.wrapping_mul(0x1_0000_0003).wrapping_add(list));
         // Three lists in ten start from a text that calls need not reach, one of them with a count around the Rust's last one or around the limit.
         let first = match list % 10 {
-            4 => snapshot(&mut r, FULL).restore(),
-            7 => far(&mut r, FULL).restore(),
-            9 => undrained(&mut r, FULL).restore(),
-            _ => Reference::build(&settings(&mut r, FULL)).unwrap(),
+            at @ (4 | 7 | 9) => {
+                let state = [snapshot, far, undrained][at as usize / 3 - 1](&mut r, FULL);
+                texts::any_mode(&r, state).restore()
+            }
+            _ => {
+                let s = settings(&mut r, FULL);
+                Reference::build(&any_mode(&r, s)).unwrap()
+            }
         };
+        gap += first.settings.gap() as u64;
         let codes = first.settings.codes.clone();
         let length = r.from(0, 18);
         let (calls, answers, all) = run(&mut r, first, length);
@@ -166,11 +171,12 @@ fn main() {
         compared += restart_everywhere(&codes, &calls, &answers, &all);
     }
     println!("lists {lists}, places {places}, answers compared after a restart {compared}, none differs");
-    println!("accepted {}; refused by row {:?}", rows[0], (10..=20).map(|i| (i, rows[i])).collect::<Vec<_>>());
+    println!("lists in mode G {gap}; accepted {}; refused by row {:?}", rows[0], (10..=20).chain([28]).map(|i| (i, rows[i])).collect::<Vec<_>>());
     let (mut bad, mut without, mut expected) = (0u64, 0u64, [0u64; 28]);
     for n in 0..texts {
         let mut r = Random::new(seed.wrapping_mul(0x1_0000_0005).wrapping_add(n));
         let good = snapshot(&mut r, FULL);
+        let good = texts::any_mode(&r, good);
         let whole = given(&r, &good);
         taken_up(&whole, &good.settings.codes);
         without += (whole != good.text().as_bytes()) as u64;

@@ -3,7 +3,7 @@ use std::io::Write;
 
 fn main() {
     let given: Vec<String> = std::env::args().skip(1).collect();
-    let usage = "vectors KIND SEED COUNT [wrong], or judged FILE; kinds: deviation range32 range64 transformer preprocessor far snapshot near far_texts bench";
+    let usage = "vectors KIND SEED COUNT [wrong], or judged FILE; kinds: deviation range32 range64 transformer preprocessor far gap edges snapshot near far_texts gap_texts edge_texts bench bench_gap";
     if let [word, path] = &given[..] {
         assert_eq!(word, "judged", "{usage}");
         return print!("{}", oracle::vectors::judged(&std::fs::read_to_string(path).expect("a file of texts")));

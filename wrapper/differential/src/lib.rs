@@ -20,6 +20,7 @@ pub fn settings(s: &Given) -> Settings {
             Mode::Standard => ForestMode::Standard,
             Mode::TimeAugmented => ForestMode::TimeAugmented,
             Mode::StreamingImpute => ForestMode::StreamingImpute,
+            Mode::GapAugmented => ForestMode::GapAugmented,
         },
         transform_method: METHODS[s.method as usize],
         input_dimensions: s.d as usize,
@@ -164,7 +165,7 @@ fn status(p: &Preprocessor, out: usize, s: &Given) -> Result<Answer, String> {
         return refused(refusal, &[&output], &[]);
     }
     let told = || -> Result<Answer, Refusal> {
-        assert_eq!((p.transformation_method()?, p.forest_mode()?), (s.method as u64, s.timed() as u64));
+        assert_eq!((p.transformation_method()?, p.forest_mode()?), (s.method as u64, settings(s).forest_mode as u64));
         Ok(Answer::Status {
             values_seen: p.values_seen()?,
             internal: p.internal_timestamp()?,

@@ -9,7 +9,7 @@ use oracle::stranding::by_table;
 use veerycouch::{align_into, impute_by_number, sqrt, sqrt_digits, strandings, Readings, Refusal, Statistic};
 
 /// One more than the last row.
-pub const ROWS: usize = 28;
+pub const ROWS: usize = 29;
 
 /// Cases by their row, and how many differed.
 #[derive(Default)]

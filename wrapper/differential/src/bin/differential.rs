@@ -2,15 +2,15 @@
 //! heads that were damaged; and the calls that take no preprocessor. Usage: differential SEED LISTS [TEXTS [CASES]].
 use differential::lists::{align, corrected, impute, roots, stranding, Tally};
 use differential::{call, same, settings};
-use oracle::calls::{Answer, Call, Mode, Settings};
-use oracle::random::{bad_settings, expected_codes, settings as random_settings, Calls, Random, FULL};
+use oracle::calls::{Answer, Call, Mode, Settings, COUNT_LIMIT, SEEN_LIMIT};
+use oracle::random::{any_mode, bad_settings, expected_codes, settings as random_settings, Calls, Random, FULL};
 use oracle::reference::Reference;
 use oracle::snapshot::{take_up, Snapshot};
-use oracle::texts::{damaged_as, far, scratched_as, snapshot, undrained};
+use oracle::texts::{self, damaged_as, far, scratched_as, snapshot, undrained};
 use veerycouch::{Memory, Preprocessor, HEAD_WORDS};
 
 /// One more than the last row.
-const ROWS: usize = 28;
+const ROWS: usize = 29;
 
 #[derive(Default)]
 struct Met {
@@ -21,6 +21,8 @@ struct Met {
     damaged: [u64; ROWS],
     stranded: u64,
     drained: u64,
+    /// Lists in mode G.
+    gap: u64,
     restarts: u64,
     answers: u64,
     others: u64,
@@ -63,7 +65,7 @@ fn rubbish(r: &mut Random, d: u64, k: u64, start: u64) -> Memory {
 
 /// One part, that is needed, one element too short.
 fn cut(r: &mut Random, m: &mut Memory, s: &Settings) -> bool {
-    let (d, k, start) = (s.d as usize, s.k as usize, s.start as usize);
+    let (d, k, start) = (s.d as usize, s.k as usize, s.initial_room());
     match r.below(7) {
         0 => m.head.truncate(HEAD_WORDS - 1),
         1 => m.statistics.truncate(3 * (5 * d + 5) - 1),
@@ -79,7 +81,7 @@ fn cut(r: &mut Random, m: &mut Memory, s: &Settings) -> bool {
 
 /// What lies past the parts in use is as it was.
 fn past_kept(old: &Memory, new: &Memory, s: &Settings) -> bool {
-    let (d, k, start) = (s.d as usize, s.k as usize, s.start as usize);
+    let (d, k, start) = (s.d as usize, s.k as usize, s.initial_room());
     let single = |x: &[f32], y: &[f32], n: usize| x.len() == y.len() && x[n..].iter().zip(&y[n..]).all(|(p, q)| p.to_bits() == q.to_bits());
     let n = 3 * (5 * d + 5);
     old.head[HEAD_WORDS..] == new.head[HEAD_WORDS..]
@@ -104,6 +106,8 @@ fn refused_build(met: &mut Met, list: u64, numbers: (u64, u64), s: &Settings, me
 
 fn builds(r: &mut Random, met: &mut Met, list: u64, s: &Settings) {
     let bad = bad_settings(r, FULL);
+    // Row 1 is of its own mode.
+    let bad = if bad.mode == Mode::StreamingImpute { bad } else { any_mode(r, bad) };
     let memory = rubbish(r, bad.d.min(16), bad.k.min(64), bad.start.min(1999));
     let numbers = (settings(&bad).forest_mode as u64, bad.method as u64);
     if bad.row() != 0 {
@@ -112,7 +116,7 @@ fn builds(r: &mut Random, met: &mut Met, list: u64, s: &Settings) {
     let good = (settings(s).forest_mode as u64, s.method as u64);
     match r.below(4) {
         0 => {
-            let wild = if r.once_in(2) { (r.from(3, u64::MAX - 4), good.1) } else { (good.0, r.from(6, u64::MAX - 7)) };
+            let wild = if r.once_in(2) { (r.from(4, u64::MAX - 4), good.1) } else { (good.0, r.from(6, u64::MAX - 7)) };
             let memory = rubbish(r, s.d, s.k, s.start);
             refused_build(met, list, wild, s, memory, 19);
         }
@@ -130,7 +134,7 @@ fn builds(r: &mut Random, met: &mut Met, list: u64, s: &Settings) {
 fn decoded(w: &[u64]) -> Settings {
     let d = w[2];
     Settings {
-        mode: [Mode::Standard, Mode::TimeAugmented, Mode::StreamingImpute][w[0] as usize],
+        mode: [Mode::Standard, Mode::TimeAugmented, Mode::StreamingImpute, Mode::GapAugmented][w[0] as usize],
         method: w[1] as u8,
         d,
         k: w[3],
@@ -146,11 +150,28 @@ fn decoded(w: &[u64]) -> Settings {
 fn row_of_words(w: &[u64]) -> u64 {
     if w.len() < HEAD_WORDS {
         20
-    } else if w[0] > 2 || w[1] > 5 || w[28..44].iter().any(|&c| c > 65535) {
+    } else if w[0] > 3 || w[1] > 5 || w[28..44].iter().any(|&c| c > 65535) {
         19
     } else {
-        decoded(w).row() as u64
+        match decoded(w).row() {
+            0 if misfit(w) => 20,
+            row => row as u64,
+        }
     }
+}
+
+/// Counters that no text of these settings has: "While waiting, `buf` lines = values_seen and internal is 0; later none, or start lines under methods 4 and 5
+/// (with such lines, internal is 0 if values_seen = start)"; and the limits of the three.
+fn misfit(w: &[u64]) -> bool {
+    let (normalizes, start) = (w[1] >= 4, w[4]);
+    let [seen, internal, count, held] = [w[8], w[9], w[10], w[11]];
+    let within = seen <= SEEN_LIMIT && internal <= SEEN_LIMIT && count <= COUNT_LIMIT;
+    let fits = if normalizes && seen < start {
+        internal == 0 && held == seen
+    } else {
+        held == 0 || (normalizes && held == start && (seen != start || internal == 0))
+    };
+    !(within && fits)
 }
 
 /// A head with one word damaged: refused by the row of its settings, where there is one; else its codes are told, and of calls there is some answer, and
@@ -328,7 +349,8 @@ fn expected(text: &[u8], codes: &[u16], m: &Memory) -> Result<Snapshot, (u64, u6
 /// A text of the form or damaged, half of them without the line of the codes: by the library and by the oracle's reader, in memory of which one part may be
 /// too short, with the text's codes or others. Taken up and written again, or the same row and line.
 fn texts(r: &mut Random, number: u64, met: &mut Met) {
-    let mut good = if r.once_in(4) { undrained(r, FULL) } else { snapshot(r, FULL) };
+    let good = if r.once_in(4) { undrained(r, FULL) } else { snapshot(r, FULL) };
+    let mut good = texts::any_mode(r, good);
     let lined = r.once_in(2);
     if !lined {
         good.settings.codes.fill(0);
@@ -390,7 +412,15 @@ fn one(seed: u64, list: u64, met: &mut Met) {
         9 => Some(undrained(&mut r, FULL)),
         _ => None,
     };
-    let s = given.as_ref().map_or_else(|| random_settings(&mut r, FULL), |w| w.settings.clone());
+    let given = given.map(|w| texts::any_mode(&r, w));
+    let s = match &given {
+        Some(w) => w.settings.clone(),
+        None => {
+            let s = random_settings(&mut r, FULL);
+            any_mode(&r, s)
+        }
+    };
+    met.gap += s.gap() as u64;
     builds(&mut r, met, list, &s);
     met.builds[0] += 1;
     let memory = rubbish(&mut r, s.d, s.k, s.start);
@@ -422,7 +452,7 @@ fn told(met: &Met, lists: u64) {
     println!("calls by row {}", by_row(&met.rows));
     println!("builds by row {}", by_row(&met.builds));
     println!("damaged heads by row {}", by_row(&met.damaged));
-    println!("drained {}, lists stranded {}", met.drained, met.stranded);
+    println!("drained {}, lists stranded {}, lists in mode G {}", met.drained, met.stranded, met.gap);
     println!("restarts {}, answers after one {}; with other codes {}", met.restarts, met.answers, met.others);
     println!("texts read {}, by row {}; without the line of the codes {}, of them bad {}", met.read.iter().sum::<u64>(), by_row(&met.read), met.unlined, met.unlined_bad);
 }
