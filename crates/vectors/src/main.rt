@@ -102,6 +102,7 @@ fn main() {
     replay_preprocessor(b"preprocessor_6");
     replay_preprocessor(b"preprocessor_far");
     replay_preprocessor(b"preprocessor_gap");
+    replay_preprocessor(b"preprocessor_edges");
     replay_texts(b"texts_1");
     replay_texts(b"texts_2");
     replay_texts(b"texts_3");
@@ -110,4 +111,5 @@ fn main() {
     replay_texts(b"texts_6");
     replay_texts(b"texts_far");
     replay_texts(b"texts_gap");
+    replay_texts(b"texts_edges");
 }
