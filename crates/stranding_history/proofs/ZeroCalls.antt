@@ -15,7 +15,7 @@ use Rattle.common.specs.Deviation.{countLimit}
 use Rattle.trcf.specs.Types.{normalizes}
 use Rattle.trcf.specs.Transformer.{zero32}
 use Rattle.trcf.specs.Settings.{Settings, block, dimension}
-use Rattle.trcf.specs.Calls.{seenLimit, finite, newest, wrongLength, outside, learnFull, waitingShort, learnShort, table, rows}
+use Rattle.trcf.specs.Calls.{seenLimit, finite, newest, behind, wrongLength, outside, learnFull, waitingShort, learnShort, table, rows}
 use Rattle.restart.specs.History.{Entry, initial, learned, drained as F, initials, learns, isDrained, fedOf, seenOf, internalOf, countOf, historyFacts, historyRefusal}
 use Rattle.restart.proofs.Lists.{length-pairs}
 use Rattle.snapshot.proofs.Accepted.{none-refuses}
@@ -58,11 +58,18 @@ module _ (s : Settings) (m : normalizes (s .method) ≡ true) (pos : 0 < s .star
   roomy : (n : ℕ) → ltb (length (replicate n zero32)) n ≡ false
   roomy n = rw (length-replicate n zero32, le-ltb n n (omega arith))
 
+  row-12 : ltb (newest (historyFacts s es)) (newest (historyFacts s es)) ≡ false
+  row-12 = let n = newest (historyFacts s es) in le-ltb n n (omega arith)
+
+  row-28 : behind s (historyFacts s es) (newest (historyFacts s es)) ≡ false
+  unfolding behind
+  row-28 = rw (row-12, and-false)
+
   pub point-accepted : historyRefusal s es (zeroCall s es point) ≡ 0
   unfolding historyRefusal rows table
   point-accepted =
       none-refuses (table s (historyFacts s es) (zeroCall s es point))
-      (wide (s .d), (rw (zeros-finite (s .d)), (rw (never-full s m pos few es v, and-false), (rw (roomy (dimension s), and-false), tt))))
+      (wide (s .d), (rw (zeros-finite (s .d)), (row-28, (rw (never-full s m pos few es v, and-false), (rw (roomy (dimension s), and-false), tt)))))
 
   seen-few : seenOf es ≤ 20
   unfolding seenOf
@@ -94,10 +101,7 @@ module _ (s : Settings) (m : normalizes (s .method) ≡ true) (pos : 0 < s .star
   same-either true x = refl
   same-either false x = refl
 
-  -- rows 12, 13, 14, 18 and 20 of the learn
-  row-12 : ltb (newest (historyFacts s es)) (newest (historyFacts s es)) ≡ false
-  row-12 = let n = newest (historyFacts s es) in le-ltb n n (omega arith)
-
+  -- rows 13, 14, 18 and 20 of the learn
   row-13 : wrongLength s (some (replicate (dimension s) zero32)) || wrongLength s none ≡ false
   unfolding wrongLength
   row-13 = rw (wide (dimension s))

@@ -64,7 +64,7 @@ zeroLearn s es =
     }
 
 abbrev pub zeroCall : Settings → List Entry → Kind → Call
-zeroCall s es point = shingledPoint (replicate (s .d) zero32) 0 (replicate (dimension s) zero32)
+zeroCall s es point = shingledPoint (replicate (s .d) zero32) (newest (historyFacts s es)) (replicate (dimension s) zero32)
 zeroCall s es learn = postProcess (zeroLearn s es)
 zeroCall s es drain = drainCall
 

@@ -10,7 +10,7 @@ use Rattle.bench_core.proofs.line.letter.Statement.{statement}
 use Rattle.bench_core.proofs.line.letter.Tie as tie
 
 returns : tie.Need-returns
-returns c = letter-other (c .before .args .c .now) (c .if1 .taken)
+returns c = letter-other (c .before .before .args .c .now) (c .if1 .taken)
 
 shared-slice-read-wide : tie.Need-shared-slice-read-wide
 shared-slice-read-wide c = search needs
@@ -29,14 +29,14 @@ returns-2 c =
     let q = c .before .before in
     let w = q .before in
     let k = sym (ap (λ (n : ℕ). imputes (modeOfLetter n)) (w .wide .ensures)) ∙ sym (ap imputes (q .mode-of-letter .ensures)) ∙ sym (c .before .is-imputing .ensures) ∙ c .if2 .taken in
-    rw (← letter-one (w .before .before .before .args .c .now) (w .before .before .if1 .left), k)
+    rw (← letter-one (w .before .before .before .before .args .c .now) (w .before .before .if1 .left), k)
 
 returns-3 : tie.Need-returns-3
 returns-3 c =
     let q = c .before .before in
     let w = q .before in
     let k = sym (ap (λ (n : ℕ). imputes (modeOfLetter n)) (w .wide .ensures)) ∙ sym (ap imputes (q .mode-of-letter .ensures)) ∙ sym (c .before .is-imputing .ensures) ∙ c .if2 .left in
-    rw (← letter-one (w .before .before .before .args .c .now) (w .before .before .if1 .left), k) (ap Is (w .wide .ensures))
+    rw (← letter-one (w .before .before .before .before .args .c .now) (w .before .before .if1 .left), k) (ap Is (w .wide .ensures))
 
 pub letter-spec : {M : Type 1} → statement M
 letter-spec =
