@@ -39,13 +39,16 @@ abbrev pub sizeOf : ℤ → ℕ
 sizeOf (pos n) = n
 sizeOf (negsuc n) = suc n
 
--- "The first four are whole numbers of size at most 1,000 …, the place is 0 to 1,000"; "readings n (1 to 1,000)"
+-- "the place is 0 to 1,000"; "readings n (1 to 1,000)"
+abbrev pub countsInLimits : ℕ → ℕ → Bool
+countsInLimits place n = leb place 1000 && (leb 1 n && leb n 1000)
+
+-- "The first four are whole numbers of size at most 1,000"
 unfoldable pub inLimits : Signal → Bool
 inLimits g =
     leb (sizeOf (g .base)) 1000
     && (leb (sizeOf (g .ramp)) 1000
-    && (leb (sizeOf (g .ripple)) 1000
-    && (leb (sizeOf (g .jump)) 1000 && (leb (g .place) 1000 && (leb 1 (g .readings) && leb (g .readings) 1000)))))
+    && (leb (sizeOf (g .ripple)) 1000 && (leb (sizeOf (g .jump)) 1000 && countsInLimits (g .place) (g .readings))))
 
 -- ---- what is noted of a run
 

@@ -51,11 +51,8 @@ exceedsOf kept y x = cond kept (lt y x) (eq x x)
 abbrev pub pointLength : Preprocessor → ℕ
 pointLength h = let n = accepted (headRow (settingsOf h)) (dimension (settingsOf h)) 0 in cond (ltb n 128) n 128
 
-abbrev pub asked : Preprocessor → Lent → Float → ℕ → PointOutcome
-asked h l x t = pointAfter h l (x ∷ []) t (replicate (pointLength h) zero32)
-
-abbrev pub learning : Float → ℕ → Bool → List Float → Learn
-learning x t given y = learnCall (x ∷ []) t given y false [] zero32 (pos 0) (replicate 2 zero32) (replicate 1 zero32) (replicate 1 zero32)
+abbrev pub learning : List Float → ℕ → Bool → List Float → Learn
+learning x t given y = learnCall x t given y false [] zero32 (pos 0) (replicate 2 zero32) (replicate 1 zero32) (replicate 1 zero32)
 
 -- what a reading leaves: the head, what is lent, and the last element of the point
 pub record Turn : Type 0 where
@@ -69,11 +66,15 @@ turn h l x = record { head = h; lent = l; last = x }
 abbrev pub learnt : LearnOutcome → Turn
 learnt o = turn (o .head) (o .lent) none
 
-unfoldable pub turnOf : Preprocessor → Lent → Float → ℕ → Turn
-turnOf h l x t =
-    let o = asked h l x t in
+-- the point goes to `out`
+unfoldable pub turnWith : Preprocessor → Lent → List Float → ℕ → List Float → Turn
+turnWith h l x t out =
+    let o = pointAfter h l x t out in
     let q = learnAfter (o .head) (o .lent) (learning x t (o .given) (o .out)) in
     turn (q .head) (q .lent) (optionOf (o .given) (lastOr nan (o .out)))
+
+abbrev pub turnOf : Preprocessor → Lent → Float → ℕ → Turn
+turnOf h l x t = turnWith h l (x ∷ []) t (replicate (pointLength h) zero32)
 
 -- ---- all readings
 
@@ -98,6 +99,12 @@ turned p u i = track (u .head) (u .lent) (note (p .noted) i (isReady (u .head)) 
 unfoldable pub trackAfter : Float → ℕ → Track → Track
 trackAfter x i p = turned p (turnOf (p .head) (p .lent) x i) i
 
+abbrev pub trackFrom : Signal → Track → ℕ → Track
+trackFrom g p zero = p
+trackFrom g p (suc i) = trackAfter (valueAt g i) i (trackFrom g p i)
+
+abbrev pub built : Settings → Track
+built s = track (buildOf s memory .head) (buildOf s memory .lent) (noted none none)
+
 abbrev pub trackAt : Settings → Signal → ℕ → Track
-trackAt s g zero = track (buildOf s memory .head) (buildOf s memory .lent) (noted none none)
-trackAt s g (suc i) = trackAfter (valueAt g i) i (trackAt s g i)
+trackAt s g n = trackFrom g (built s) n

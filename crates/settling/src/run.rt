@@ -3,6 +3,7 @@ use crate::signal::Signal;
 use crate::signal::in_limits;
 use crate::signal::value_at;
 use crate::step::step;
+use restart_program::build_arguments;
 use trcf::head::PreprocessorBuilder;
 use trcf_calls::build::build;
 use trcf_calls::queries::is_ready;
@@ -11,9 +12,8 @@ ghost use mathlib.Core.Path.{_≡_};
 ghost use mathlib.Core.Bool.{true};
 ghost use mathlib.Core.List.{[], _∷_};
 ghost use mathlib.Core.Option.{none};
-ghost use Rattle.trcf.specs.Settings.{settingsRow};
 ghost use Rattle.trcf.specs.View.{settingsFrom};
-ghost use Rattle.settling.specs.Settling.{inLimits, noted, note, notedOf, pairRow, ran, runOf};
+ghost use Rattle.settling.specs.Settling.{inLimits, noted, firstReady, kept, note, pairRow, ran, runOf};
 ghost use Rattle.settling.specs.Steps.{signalOf, optionOf, notedBy, exceedsOf, trackAt};
 
 // What is noted of a run: the row, 0 for none; whether the preprocessor was found ready, and after which reading first; whether a point's last element was
@@ -50,21 +50,52 @@ fn exceeds(kept: bool, largest: f32, x: f32) -> bool
     x == x
 }
 
-// The note of reading i: whether the preprocessor is ready after it, and the last element of its point, if one was given.
+// Whether the preprocessor is ready after reading i: the first such i is noted.
+fn note_ready(s: Settled, i: u64, ready: bool) -> Settled
+    ensures { λ r. ⌜ notedBy r ≡ noted (firstReady (optionOf (s .found) (s .ready)) ready i) (optionOf (s .kept) (s .largest)) ⌝ }
+    ensures { λ r. ⌜ r .row ≡ s .row ⌝ }
+{
+    if s.found {
+        return s;
+    }
+    if !ready {
+        return s;
+    }
+    Settled {
+        row: s.row,
+        found: true,
+        ready: i,
+        kept: s.kept,
+        largest: s.largest,
+    }
+}
+
+// The last element of a point, if one was given: the largest is noted, and of equal ones the first.
+fn note_last(s: Settled, given: bool, last: f32) -> Settled
+    ensures { λ r. ⌜ notedBy r ≡ noted (optionOf (s .found) (s .ready)) (kept (optionOf (s .kept) (s .largest)) (optionOf given last)) ⌝ }
+    ensures { λ r. ⌜ r .row ≡ s .row ⌝ }
+{
+    if !given {
+        return s;
+    }
+    if !exceeds(s.kept, s.largest, last) {
+        return s;
+    }
+    Settled {
+        row: s.row,
+        found: s.found,
+        ready: s.ready,
+        kept: true,
+        largest: last,
+    }
+}
+
+// The note of reading i.
 fn note_reading(s: Settled, i: u64, ready: bool, given: bool, last: f32) -> Settled
     ensures { λ r. ⌜ notedBy r ≡ note (notedBy s) i ready (optionOf given last) ⌝ }
     ensures { λ r. ⌜ r .row ≡ s .row ⌝ }
 {
-    let mut r = s;
-    if ready && !s.found {
-        r.found = true;
-        r.ready = i;
-    }
-    if given && exceeds(s.kept, s.largest, last) {
-        r.kept = true;
-        r.largest = last;
-    }
-    r
+    note_last(note_ready(s, i, ready), given, last)
 }
 
 // Rows 1 to 9, and then 23 for d other than 1.
@@ -133,12 +164,16 @@ fn readings(builder: PreprocessorBuilder, weight: f32, signal: Signal) -> Settle
 pub fn run(builder: PreprocessorBuilder, weight: f32, signal: Signal) -> Settled
     ensures { λ r. ⌜ ran (r .row) (notedBy r) ≡ runOf (settingsFrom builder (weight ∷ []) (0 ∷ [])) (signalOf signal) ⌝ }
 {
-    let row = pair_row(builder, &[weight; 1], &[0u16; 1]);
+    let weights = [weight; 1];
+    let codes = [0u16; 1];
+    let row = pair_row(builder, &weights, &codes);
     if row != 0 {
         return nothing(row);
     }
     if !in_limits(signal) {
         return nothing(23);
     }
+    // what can be handed over meets what the theorem asks of settings
+    build_arguments(builder, &weights, &codes);
     readings(builder, weight, signal)
 }

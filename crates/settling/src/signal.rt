@@ -1,12 +1,11 @@
 // The made-up signal, and its readings: whole numbers with a sign, each exact as f32.
 use numeric::u64_to_f32;
 ghost use mathlib.Core.Path.{_≡_};
-ghost use mathlib.Core.Bool.{true, cond};
-ghost use Prim.Native.Nat.{_+_, _*_, _≤_, _<_};
-ghost use lib.Dec.{leb};
+ghost use mathlib.Core.Bool.{true, cond, Bool·beq};
+ghost use Prim.Native.Nat.{_+_, _≤_};
 ghost use lib.IntN.{pos, _+ℤ_, _*ℤ_};
 ghost use lib.Ieee.{binary32, ofInt};
-ghost use Rattle.settling.specs.Settling.{inLimits, readingAt, valueAt};
+ghost use Rattle.settling.specs.Settling.{inLimits, countsInLimits, valueAt};
 ghost use Rattle.settling.specs.Steps.{signed, signalOf};
 
 // The number size, or below 0 by it.
@@ -32,13 +31,37 @@ pub fn in_limits(g: Signal) -> bool
     let ramp = g.ramp;
     let ripple = g.ripple;
     let jump = g.jump;
-    base.size <= 1000
-        && ramp.size <= 1000
-        && ripple.size <= 1000
-        && jump.size <= 1000
-        && g.place <= 1000
-        && 1 <= g.readings
-        && g.readings <= 1000
+    if 1000 < base.size {
+        return false;
+    }
+    if 1000 < ramp.size {
+        return false;
+    }
+    if 1000 < ripple.size {
+        return false;
+    }
+    if 1000 < jump.size {
+        return false;
+    }
+    counts_in_limits(g.place, g.readings)
+}
+
+fn counts_in_limits(place: u64, readings: u64) -> bool
+    ensures { λ r. ⌜ r ≡ countsInLimits place readings ⌝ }
+{
+    if 1000 < place {
+        return false;
+    }
+    if readings < 1 {
+        return false;
+    }
+    readings <= 1000
+}
+
+fn alike(a: bool, b: bool) -> bool
+    ensures { λ r. ⌜ r ≡ Bool·beq a b ⌝ }
+{
+    if a { b } else { !b }
 }
 
 fn add(a: Signed, b: Signed) -> Signed
@@ -46,7 +69,7 @@ fn add(a: Signed, b: Signed) -> Signed
     ensures { λ r. ⌜ signed r ≡ signed a +ℤ signed b ⌝ }
     ensures { λ r. ⌜ r .size ≤ a .size + b .size ⌝ }
 {
-    if a.negative == b.negative {
+    if alike(a.negative, b.negative) {
         return Signed {
             negative: a.negative,
             size: a.size + b.size,

@@ -1,21 +1,15 @@
 // One reading: it is sent to point, and then to learn with the point given.
-use trcf::head::Pointed;
 use trcf::head::Preprocessor;
 use trcf::head::get_dimension;
 use trcf_learn::post_process::post_process;
 use trcf_point::point::shingled_point;
 ghost use mathlib.Core.Path.{_≡_};
-ghost use mathlib.Core.Bool.{false};
 ghost use mathlib.Core.Option.{none};
-ghost use mathlib.Core.List.{[], _∷_};
 ghost use Prim.Native.Nat.{_≤_};
 ghost use lib.Ieee.{nan};
-ghost use lib.IntN.{pos};
-ghost use lib.ListN.{replicate};
 ghost use Rattle.trcf.specs.Lists.{lastOr};
-ghost use Rattle.trcf.specs.Transformer.{zero32};
-ghost use Rattle.trcf.specs.View.{lent, pointed, pointAfter, learnCall, learnAfter};
-ghost use Rattle.settling.specs.Steps.{pointLength, turn, turnOf, optionOf, learnt};
+ghost use Rattle.trcf.specs.View.{lent, learnAfter};
+ghost use Rattle.settling.specs.Steps.{pointLength, learning, learnt, turn, turnWith, turnOf, optionOf};
 
 // The head after a reading, whether a point was given, and its last element.
 pub(crate) struct Turned {
@@ -47,36 +41,6 @@ fn last_of(v: &[f32]) -> f32
     v[n - 1]
 }
 
-// Point: the one place where the program asks for it.
-fn ask(
-    head: Preprocessor,
-    statistics: &mut [f64],
-    last_shingled_input: &mut [f32],
-    last_shingled_point: &mut [f32],
-    previous_timestamps: &mut [u64],
-    initial_values: &[f32],
-    initial_timestamps: &[u64],
-    input: &[f32],
-    timestamp: u64,
-    point: &mut [f32],
-) -> Pointed
-    ensures { λ r. ⌜ pointed (r .row) (r .given) (r .head) (lent (now (statistics .exit)) (now («last_shingled_input» .exit)) (now («last_shingled_point» .exit)) (now («previous_timestamps» .exit)) (now («initial_values» .entry)) (now («initial_timestamps» .entry))) (now (point .exit))
-        ≡ pointAfter head (lent (now (statistics .entry)) (now («last_shingled_input» .entry)) (now («last_shingled_point» .entry)) (now («previous_timestamps» .entry)) (now («initial_values» .entry)) (now («initial_timestamps» .entry))) (now (input .entry)) timestamp (now (point .entry)) ⌝ }
-{
-    shingled_point(
-        head,
-        statistics,
-        last_shingled_input,
-        last_shingled_point,
-        previous_timestamps,
-        initial_values,
-        initial_timestamps,
-        input,
-        timestamp,
-        point,
-    )
-}
-
 // Learn, grade 0: the one place where the program asks for it.
 fn learn(
     head: Preprocessor,
@@ -93,7 +57,7 @@ fn learn(
 ) -> Preprocessor
     ensures { λ r. ⌜ turn r (lent (now (statistics .exit)) (now («last_shingled_input» .exit)) (now («last_shingled_point» .exit)) (now («previous_timestamps» .exit)) (now («initial_values» .exit)) (now («initial_timestamps» .exit))) none
         ≡ learnt (learnAfter head (lent (now (statistics .entry)) (now («last_shingled_input» .entry)) (now («last_shingled_point» .entry)) (now («previous_timestamps» .entry)) (now («initial_values» .entry)) (now («initial_timestamps» .entry)))
-        (learnCall (now (input .entry)) timestamp given (now (point .entry)) false [] zero32 (pos 0) (replicate 2 zero32) (replicate 1 zero32) (replicate 1 zero32))) ⌝ }
+        (learning (now (input .entry)) timestamp given (now (point .entry)))) ⌝ }
 {
     let mut deviations = [0.0f32; 2];
     let mut past = [0.0f32; 1];
@@ -122,6 +86,56 @@ fn learn(
     next
 }
 
+// A reading is sent to point, which writes to `point`, and then to learn with the point given.
+fn turn_with(
+    head: Preprocessor,
+    statistics: &mut [f64],
+    last_shingled_input: &mut [f32],
+    last_shingled_point: &mut [f32],
+    previous_timestamps: &mut [u64],
+    initial_values: &mut [f32],
+    initial_timestamps: &mut [u64],
+    input: &[f32],
+    timestamp: u64,
+    point: &mut [f32],
+) -> Turned
+    ensures { λ r. ⌜ turn (r .head) (lent (now (statistics .exit)) (now («last_shingled_input» .exit)) (now («last_shingled_point» .exit)) (now («previous_timestamps» .exit)) (now («initial_values» .exit)) (now («initial_timestamps» .exit))) (optionOf (r .given) (r .last))
+        ≡ turnWith head (lent (now (statistics .entry)) (now («last_shingled_input» .entry)) (now («last_shingled_point» .entry)) (now («previous_timestamps» .entry)) (now («initial_values» .entry)) (now («initial_timestamps» .entry))) (now (input .entry)) timestamp (now (point .entry)) ⌝ }
+{
+    let p = shingled_point(
+        head,
+        statistics,
+        last_shingled_input,
+        last_shingled_point,
+        previous_timestamps,
+        initial_values,
+        initial_timestamps,
+        input,
+        timestamp,
+        point,
+    );
+    let given = p.given;
+    let pointed = p.head;
+    let next = learn(
+        pointed,
+        statistics,
+        last_shingled_input,
+        last_shingled_point,
+        previous_timestamps,
+        initial_values,
+        initial_timestamps,
+        input,
+        timestamp,
+        point,
+        given,
+    );
+    Turned {
+        head: next,
+        given: given,
+        last: last_of(point),
+    }
+}
+
 pub(crate) fn step(
     head: Preprocessor,
     statistics: &mut [f64],
@@ -139,7 +153,7 @@ pub(crate) fn step(
     let input = [value; 1];
     let mut point = [0.0f32; 128];
     let n = point_length(head);
-    let p = ask(
+    turn_with(
         head,
         statistics,
         last_shingled_input,
@@ -150,25 +164,5 @@ pub(crate) fn step(
         &input,
         timestamp,
         &mut point[..n],
-    );
-    let given = p.given;
-    let pointed = p.head;
-    let next = learn(
-        pointed,
-        statistics,
-        last_shingled_input,
-        last_shingled_point,
-        previous_timestamps,
-        initial_values,
-        initial_timestamps,
-        &input,
-        timestamp,
-        &point[..n],
-        given,
-    );
-    Turned {
-        head: next,
-        given: given,
-        last: last_of(&point[..n]),
-    }
+    )
 }
