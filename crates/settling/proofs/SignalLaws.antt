@@ -1,7 +1,7 @@
 -- Whole numbers with a sign, as the program adds them and turns them to f32. Assumes nothing.
 use Prim.Native.Nat.{ℕ, zero, suc, _+_, _-_, _*_, _%_, _≤_, _<_}
 use native.Mathlib.Omega.{arith}
-use native.Mathlib.Nat.{add-zero, zero-mul}
+use native.Mathlib.Nat.{zero-mul}
 use mathlib.Core.Path.{_≡_, refl, sym, ap, _∙_}
 use mathlib.Core.Bool.{Bool, true, false, cond, _&&_, Bool·beq, true≢false}
 use lib.Dec.{leb, ltb, eqb}
@@ -21,19 +21,25 @@ size-signed true (suc n) = refl
 
 -- ---- sums
 
-pub add-alike : (s t : Bool) (a b : ℕ) → Bool·beq s t ≡ true → withSign s (a + b) ≡ withSign s a +ℤ withSign t b
-add-alike false false a b e = refl
-add-alike true true zero zero e = refl
-add-alike true true zero (suc b) e = refl
-add-alike true true (suc a) zero e = ap (λ (n : ℕ). withSign true n) (add-zero (suc a))
-add-alike true true (suc a) (suc b) e = ap (λ (n : ℕ). negsuc n) (omega arith)
-add-alike false true a b e = absurd (true≢false (sym e))
-add-alike true false a b e = absurd (true≢false (sym e))
-
 less : (a b : ℕ) → a < b → withSign true (b - a) ≡ subℕ a b
 less a b h =
     let e : b - a ≡ suc (b - suc a) = omega arith in
     ap (λ (n : ℕ). negℤ (pos n)) e ∙ sym (rw (lt-ltb a b h))
+
+pub add-alike : (s t : Bool) (a b : ℕ) → Bool·beq s t ≡ true → withSign s (a + b) ≡ withSign s a +ℤ withSign t b
+add-alike false false a b e = refl
+add-alike true true zero zero e = refl
+add-alike true true zero (suc b) e =
+    let q : zero + suc b ≡ suc b - zero = omega arith in
+    ap (λ (n : ℕ). withSign true n) q ∙ less zero (suc b) (omega arith)
+add-alike true true (suc a) zero e =
+    let q : suc a + zero ≡ suc a - zero = omega arith in
+    ap (λ (n : ℕ). withSign true n) q ∙ less zero (suc a) (omega arith)
+add-alike true true (suc a) (suc b) e =
+    let q : suc a + suc b ≡ suc (suc (a + b)) = omega arith in
+    ap (λ (n : ℕ). withSign true n) q
+add-alike false true a b e = absurd (true≢false (sym e))
+add-alike true false a b e = absurd (true≢false (sym e))
 
 enough : (a b : ℕ) → b ≤ a → pos (a - b) ≡ subℕ a b
 enough a b h = sym (rw (le-ltb a b h))

@@ -79,3 +79,12 @@ pub track-done : (s : Settings) (g : Signal) (p : Track) → p ≡ built s → (
     → (h : Preprocessor) (l : Lent) (m : Noted) → track h l m ≡ trackFrom g p i → m ≡ trackAt s g n .noted
 track-done s g p e i n q h l m v =
     ap (λ (r : Track). r .noted) (v ∙ (λ j. trackFrom g (e j) (q j)))
+
+-- the lengths of the program's own lists
+pub record Sized (st x p : List Float) (ts : List ℕ) (v : List Float) (vt : List ℕ) : Type 0 where
+  pub statistics : length st ≡ 30
+  pub input : length x ≡ 64
+  pub point : length p ≡ 128
+  pub times : length ts ≡ 64
+  pub values : length v ≡ 1999
+  pub initial : length vt ≡ 1999

@@ -27,9 +27,6 @@ returns-2 c =
     let b = c .before .before .before .before .before .before .before .args .b in
     (add-below (a .negative) (b .negative) (a .size) (b .size) (sym (c .before .before .before .before .before .before .alike .ensures) ∙ c .before .before .before .before .before .if1 .left) (c .before .before .if2 .taken), omega arith)
 
-sub-t8 : tie.Need-sub-t8
-sub-t8 c = search needs
-
 returns-3 : tie.Need-returns-3
 returns-3 c =
     let a = c .before .before .before .before .before .before .before .args .a in
@@ -45,5 +42,4 @@ add-spec =
     returns
     sub-t6
     returns-2
-    sub-t8
     returns-3)
