@@ -12,6 +12,9 @@ use Rattle.trcf.specs.Preprocessor.{accepted}
 use Rattle.trcf.specs.View.{settingsFrom}
 use Rattle.settling.specs.Settling.{Signal, signal, inLimits, pairRow}
 use Rattle.snapshot.specs.Read.{asWhole}
+use Rattle.snapshot.specs.Scan.{numberOf}
+use Rattle.snapshot.specs.declared.field.Number.{Number}
+use Rattle.snapshot.specs.declared.field.Number.the-variants.{Is, No}
 use Rattle.bench_core.specs.Line.{blankLine, nameOf, cellOf, requestOf, keptOf}
 use Rattle.bench_core.specs.Bench.{cellLength, builderFrom, zeroCodes}
 use Rattle.bench_core.specs.declared.line.Line.{Line}
@@ -88,19 +91,20 @@ pairOf t =
 
 -- ---- the signal
 
-abbrev pub positive : Option ℕ → Option ℤ
-positive none = none
-positive (some n) = some (pos n)
+abbrev pub positive : Number → Option ℤ
+positive No = none
+positive (Is n) = some (pos n)
 
-abbrev pub negative : Option ℕ → Option ℤ
-negative none = none
-negative (some zero) = none
-negative (some (suc n)) = some (negsuc n)
+-- a minus sign stands before no 0
+abbrev pub negative : Number → Option ℤ
+negative No = none
+negative (Is zero) = none
+negative (Is (suc n)) = some (negsuc n)
 
 -- "whole numbers …, with a minus sign if negative"
 unfoldable pub signedOf : List ℕ → Option ℤ
 signedOf [] = none
-signedOf (b ∷ c) = cond (eqb b 45) (negative (asWhole c)) (positive (asWhole (b ∷ c)))
+signedOf (b ∷ c) = cond (eqb b 45) (negative (numberOf (asWhole c))) (positive (numberOf (asWhole (b ∷ c))))
 
 -- the first field of a text, which the byte `end` has to end, and what follows
 pub data Part : Type 0 where

@@ -3,7 +3,7 @@ use Prim.Native.Nat.{ℕ, zero, suc, _-_}
 use mathlib.Core.Bool.{Bool, true, false, cond}
 use mathlib.Core.List.{List, [], _∷_, map}
 use mathlib.Core.Option.{Option, none, some}
-use lib.IntN.{ℤ}
+use lib.IntN.{ℤ, pos, negsuc}
 use lib.ListN.{drop, take}
 use Rattle.trcf.specs.Settings.{Settings}
 use Rattle.trcf.specs.Preprocessor.{accepted}
@@ -27,6 +27,10 @@ settingsOf p = settingsFrom (p .builder) (p .weight ∷ []) (0 ∷ [])
 
 abbrev pub pairIn : read.PairRead → List ℕ → Pair
 pairIn r t = accepted (r .row) (pair (settingsOf (r .pair)) (drop (r .next) t)) (faulty (r .row))
+
+abbrev pub isNegative : ℤ → Bool
+isNegative (pos n) = false
+isNegative (negsuc n) = true
 
 abbrev pub partBy : Bool → ℤ → List ℕ → Part
 partBy true z t = part z t

@@ -7,13 +7,11 @@ use snapshot::cells::whole;
 use snapshot::field::Number;
 ghost use mathlib.Core.Path.{_≡_};
 ghost use mathlib.Core.Bool.{false};
-ghost use mathlib.Core.Option.{Option};
-ghost use Prim.Native.Nat.{ℕ, _≤_};
+ghost use Prim.Native.Nat.{_≤_};
 ghost use lib.ListN.{length, drop, getD};
 ghost use Rattle.settling.specs.Steps.{signed, signalOf, optionOf};
 ghost use Rattle.settle_core.specs.Input.{positive, negative, signedOf, partOf, limited, fieldsOf, isSignal, signalOf as signalAt};
-ghost use Rattle.settle_core.specs.Steps.{partIn};
-ghost use Rattle.snapshot.specs.Scan.{numberOf};
+ghost use Rattle.settle_core.specs.Steps.{isNegative, partIn};
 
 // A number, or none.
 pub(crate) struct Value {
@@ -52,7 +50,7 @@ fn no_value() -> Value
 }
 
 fn positive_of(n: Number) -> Value
-    ensures { λ r. ⌜ ((o : Option ℕ) → n ≡ numberOf o → optionOf (r .found) (signed (r .value)) ≡ positive o) ⌝ }
+    ensures { λ r. ⌜ optionOf (r .found) (signed (r .value)) ≡ positive n ⌝ }
 {
     match n {
         Number::No => no_value(),
@@ -65,7 +63,7 @@ fn positive_of(n: Number) -> Value
 
 // A minus sign stands before no 0.
 fn negative_of(n: Number) -> Value
-    ensures { λ r. ⌜ ((o : Option ℕ) → n ≡ numberOf o → optionOf (r .found) (signed (r .value)) ≡ negative o) ⌝ }
+    ensures { λ r. ⌜ optionOf (r .found) (signed (r .value)) ≡ negative n ⌝ }
 {
     match n {
         Number::No => no_value(),
@@ -142,19 +140,25 @@ fn no_signal() -> SignalRead
     }
 }
 
+// Whether a number is below 0.
+fn below_zero(x: Signed) -> bool
+    ensures { λ r. ⌜ r ≡ isNegative (signed x) ⌝ }
+{
+    if x.negative {
+        return 0 < x.size;
+    }
+    false
+}
+
 // The numbers as a signal: the place and the number of readings have no sign.
 fn signal_of(base: Signed, ramp: Signed, ripple: Signed, jump: Signed, place: Signed, readings: Signed) -> SignalRead
     ensures { λ r. ⌜ optionOf (r .found) (signalOf (r .signal)) ≡ limited (signed base) (signed ramp) (signed ripple) (signed jump) (signed place) (signed readings) ⌝ }
 {
-    if place.negative {
-        if 0 < place.size {
-            return no_signal();
-        }
+    if below_zero(place) {
+        return no_signal();
     }
-    if readings.negative {
-        if 0 < readings.size {
-            return no_signal();
-        }
+    if below_zero(readings) {
+        return no_signal();
     }
     let g = Signal {
         base: base,
@@ -164,13 +168,13 @@ fn signal_of(base: Signed, ramp: Signed, ripple: Signed, jump: Signed, place: Si
         place: place.size,
         readings: readings.size,
     };
-    if in_limits(g) {
-        return SignalRead {
-            found: true,
-            signal: g,
-        };
+    if !in_limits(g) {
+        return no_signal();
     }
-    no_signal()
+    SignalRead {
+        found: true,
+        signal: g,
+    }
 }
 
 // Six fields, and nothing behind them.
