@@ -97,7 +97,8 @@ fn long_name(a: u8, b: u8, c: u8) -> Name
     Name::Other
 }
 
-fn name_of(c: &[u8]) -> Name
+// The name that a line's first cell gives it.
+pub fn name_of(c: &[u8]) -> Name
     ensures { λ r. ⌜ r ≡ nameOf (now (c .entry)) ⌝ }
 {
     if c.len() == 1 {

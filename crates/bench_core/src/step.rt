@@ -93,7 +93,7 @@ fn no_builder() -> PreprocessorBuilder
 }
 
 // The settings of a `set` line.
-fn builder_from(l: Line) -> PreprocessorBuilder
+pub fn builder_from(l: Line) -> PreprocessorBuilder
     ensures { λ r. ⌜ r ≡ builderFrom l ⌝ }
 {
     let wholes = l.wholes;
@@ -177,7 +177,7 @@ fn limit_row(b: PreprocessorBuilder) -> u64
 }
 
 // How many codes a bench has.
-fn code_count(d: usize) -> usize
+pub fn code_count(d: usize) -> usize
     ensures { λ r. ⌜ r ≡ codeCount d ⌝ }
     ensures { λ r. ⌜ r ≤ 16 ⌝ }
 {
@@ -274,7 +274,7 @@ fn read_weights(
 }
 
 // How many f32 fields are kept.
-fn kept(l: Line) -> usize
+pub fn kept(l: Line) -> usize
     ensures { λ r. ⌜ r ≡ keptCount (l .count) ⌝ }
     ensures { λ r. ⌜ r ≤ 17 ⌝ }
 {
@@ -584,7 +584,7 @@ fn read_line(
 }
 
 // Where the first cell ends: at a tab or an LF, or with the text.
-fn cell_end(text: &[u8]) -> usize
+pub fn cell_end(text: &[u8]) -> usize
     ensures { λ r. ⌜ r ≡ cellLength (now (text .entry)) ⌝ }
     ensures { λ r. ⌜ r ≤ length (now (text .entry)) ⌝ }
     ensures { λ r. ⌜ length (now (text .entry)) ≤ 18446744073709551615 ⌝ }

@@ -141,7 +141,7 @@ module _ (s : Settings) (ok : Valid s) where
 
   -- ---- any list of calls
 
-  settings-kept : (cs : List Call) → run (fresh s) cs .settings ≡ s
+  pub settings-kept : (cs : List Call) → run (fresh s) cs .settings ≡ s
   unfolding historyState
   settings-kept cs = ap (λ (w : State). w .settings) (run-history s (k>0-of s ok) cs)
 
@@ -151,7 +151,7 @@ module _ (s : Settings) (ok : Valid s) where
     pub tells : (room : List Float) → heldPanels room m cs ≡ panels room w cs
     pub shows : heldShown m cs ≡ shown w cs
 
-  runs-held : (m : Held) (done cs : List Call) → All Machine done → All Machine cs → Holds s m (run (fresh s) done) → Runs m (run (fresh s) done) cs
+  pub runs-held : (m : Held) (done cs : List Call) → All Machine done → All Machine cs → Holds s m (run (fresh s) done) → Runs m (run (fresh s) done) cs
   runs-held m done [] md mc k =
       let w = run (fresh s) done in
       record {

@@ -103,7 +103,7 @@ pub(crate) fn tab_whole(out: &mut [u8], at: usize, n: u64) -> usize
     write_whole(out, p, n)
 }
 
-fn tab_single(out: &mut [u8], at: usize, x: f32) -> usize
+pub(crate) fn tab_single(out: &mut [u8], at: usize, x: f32) -> usize
     requires { ⌜ at + 9 ≤ length (now out) ⌝ }
     ensures { λ r. ⌜ Wrote at (9 ∷ float binary32 x) (now (out .entry)) r (now (out .exit)) ⌝ }
 {

@@ -1,0 +1,131 @@
+-- `settle_core::pair::pair_at` meets its contract. Assumes nothing.
+use mathlib.Core.Path.{_≡_, refl, sym, ap, _∙_}
+use native.Mathlib.Omega.{arith}
+use Prim.Native.Nat.{ℕ}
+use mathlib.Core.List.{List}
+use mathlib.Core.Bool.{true, false}
+use lib.ListN.{drop}
+use borrow.Author.Tests.{not-true, not-false}
+use Rattle.bench_core.specs.Line.{requestOf, keptOf}
+use Rattle.bench_core.specs.Bench.{builderFrom, zeroCodes}
+use Rattle.trcf.specs.View.{settingsFrom}
+use Rattle.settle_core.specs.Input.{Scanned, lineOf, isSet, isWeights, settingsBy, pairBy}
+use Rattle.settle_core.specs.Steps.{scannedIn}
+use Rattle.settle_core.proofs.JudgeLaws.{refused-in, set-open, set-other, weights-open, weights-other, both-lines}
+use borrow.Author.Needs.{needs}
+use Rattle.settle_core.proofs.pair.pair_at.Statement.{statement}
+use Rattle.settle_core.proofs.pair.pair_at.Tie as tie
+
+line-at-requires : tie.Need-line-at-requires
+line-at-requires c κs = search needs
+
+refused-by-requires : tie.Need-refused-by-requires
+refused-by-requires c κs = search needs
+
+returns : tie.Need-returns
+returns c =
+    let a = c .before .before .before .before .before .before .args in
+    let t = a .text .now in
+    let u : List ℕ = drop (a .at) t in
+    let s = c .before .before .before .before .line-at in
+    (refused-in (c .refused-by .result) 19 (c .refused-by .ensures .0) (λ z. absurd (omega arith)) t ∙ set-open u (sym (ap (λ (x : Scanned). x .ended) (s .ensures .0)) ∙ not-true (s .result .ended) (c .before .if1 .taken)), omega (arith, c .refused-by .ensures .1))
+
+request-requires : tie.Need-request-requires
+request-requires c κs = search needs
+
+is-set-requires : tie.Need-is-set-requires
+is-set-requires c κs = search needs
+
+refused-by-requires-2 : tie.Need-refused-by-requires-2
+refused-by-requires-2 c κs = search needs
+
+returns-2 : tie.Need-returns-2
+returns-2 c =
+    let c8 = c .before .before .before .before .before .before .before .before in
+    let a = c8 .before .args in
+    let t = a .text .now in
+    let u : List ℕ = drop (a .at) t in
+    let s = c .before .before .before .before .before .before .before .line-at in
+    (refused-in (c .refused-by2 .result) 19 (c .refused-by2 .ensures .0) (λ z. absurd (omega arith)) t ∙ set-other u (sym (ap (λ (x : Scanned). x .ended) (s .ensures .0)) ∙ not-false (s .result .ended) (c .before .before .before .before .if1 .left)) (sym (c .before .before .is-set .ensures ∙ ap isSet (c .before .before .before .request .ensures ∙ ap (λ (x : Scanned). requestOf (x .line)) (s .ensures .0))) ∙ not-true (c .before .before .is-set .result) (c .before .if2 .taken)), omega (arith, c .refused-by2 .ensures .1))
+
+line-at-requires-2 : tie.Need-line-at-requires-2
+line-at-requires-2 c κs = c .before .before .before .before .before .before .line-at .ensures .1
+
+refused-by-requires-3 : tie.Need-refused-by-requires-3
+refused-by-requires-3 c κs = search needs
+
+returns-3 : tie.Need-returns-3
+returns-3 c =
+    let c8 = c .before .before .before .before .before .before .before .before in
+    let a = c8 .before .before .before .before .before .args in
+    let t = a .text .now in
+    let u : List ℕ = drop (a .at) t in
+    let s = c8 .before .before .before .line-at in
+    let w = c .before .before .before .before .line-at2 in
+    let w2 : scannedIn (w .result) t ≡ lineOf (lineOf u .rest) = w .ensures .0 ∙ ap (λ (x : Scanned). lineOf (x .rest)) (s .ensures .0) in
+    (refused-in (c .refused-by3 .result) 19 (c .refused-by3 .ensures .0) (λ z. absurd (omega arith)) t ∙ weights-open u (sym (ap (λ (x : Scanned). x .ended) (s .ensures .0)) ∙ not-false (s .result .ended) (c8 .if1 .left)) (sym (c .before .before .before .before .before .before .is-set .ensures ∙ ap isSet (c .before .before .before .before .before .before .before .request .ensures ∙ ap (λ (x : Scanned). requestOf (x .line)) (s .ensures .0))) ∙ not-false (c .before .before .before .before .before .before .is-set .result) (c .before .before .before .before .before .if2 .left)) (sym (ap (λ (x : Scanned). x .ended) w2) ∙ not-true (w .result .ended) (c .before .if3 .taken)), omega (arith, c .refused-by3 .ensures .1))
+
+request-requires-2 : tie.Need-request-requires-2
+request-requires-2 c κs = search needs
+
+is-weights-requires : tie.Need-is-weights-requires
+is-weights-requires c κs = search needs
+
+refused-by-requires-4 : tie.Need-refused-by-requires-4
+refused-by-requires-4 c κs = search needs
+
+returns-4 : tie.Need-returns-4
+returns-4 c =
+    let c8 = c .before .before .before .before .before .before .before .before in
+    let c16 = c8 .before .before .before .before .before .before .before .before in
+    let a = c16 .args in
+    let t = a .text .now in
+    let u : List ℕ = drop (a .at) t in
+    let s = c8 .before .before .before .before .before .before .line-at in
+    let w = c .before .before .before .before .before .before .before .line-at2 in
+    let w2 : scannedIn (w .result) t ≡ lineOf (lineOf u .rest) = w .ensures .0 ∙ ap (λ (x : Scanned). lineOf (x .rest)) (s .ensures .0) in
+    (refused-in (c .refused-by4 .result) 19 (c .refused-by4 .ensures .0) (λ z. absurd (omega arith)) t ∙ weights-other u (sym (ap (λ (x : Scanned). x .ended) (s .ensures .0)) ∙ not-false (s .result .ended) (c8 .before .before .before .if1 .left)) (sym (c8 .before .is-set .ensures ∙ ap isSet (c8 .before .before .request .ensures ∙ ap (λ (x : Scanned). requestOf (x .line)) (s .ensures .0))) ∙ not-false (c8 .before .is-set .result) (c8 .if2 .left)) (sym (ap (λ (x : Scanned). x .ended) w2) ∙ not-false (w .result .ended) (c .before .before .before .before .if3 .left)) (sym (c .before .before .is-weights .ensures ∙ ap isWeights (c .before .before .before .request2 .ensures ∙ ap (λ (x : Scanned). requestOf (x .line)) w2)) ∙ not-true (c .before .before .is-weights .result) (c .before .if4 .taken)), omega (arith, c .refused-by4 .ensures .1))
+
+builder-from-requires : tie.Need-builder-from-requires
+builder-from-requires c κs = search needs
+
+settings-of-requires : tie.Need-settings-of-requires
+settings-of-requires c κs = search needs
+
+returns-5 : tie.Need-returns-5
+returns-5 c =
+    let c8 = c .before .before .before .before .before .before .before .before in
+    let c16 = c8 .before .before .before .before .before .before .before .before in
+    let a = c16 .before .args in
+    let t = a .text .now in
+    let u : List ℕ = drop (a .at) t in
+    let s = c8 .before .before .before .before .before .before .before .line-at in
+    let w = c8 .line-at2 in
+    let w2 : scannedIn (w .result) t ≡ lineOf (lineOf u .rest) = w .ensures .0 ∙ ap (λ (x : Scanned). lineOf (x .rest)) (s .ensures .0) in
+    (c .settings-of .ensures .0 t
+    ∙ (λ j. pairBy (settingsFrom (c .before .builder-from .ensures j) (keptOf (w .result .line)) (zeroCodes (c .before .builder-from .ensures j))) (drop (w .result .next) t))
+    ∙ (λ j. pairBy (settingsBy (s .ensures .0 j .line) (w2 j .line)) (w2 j .rest))
+    ∙ both-lines u (sym (ap (λ (x : Scanned). x .ended) (s .ensures .0)) ∙ not-false (s .result .ended) (c8 .before .before .before .before .if1 .left)) (sym (c8 .before .before .is-set .ensures ∙ ap isSet (c8 .before .before .before .request .ensures ∙ ap (λ (x : Scanned). requestOf (x .line)) (s .ensures .0))) ∙ not-false (c8 .before .before .is-set .result) (c8 .before .if2 .left)) (sym (ap (λ (x : Scanned). x .ended) w2) ∙ not-false (w .result .ended) (c .before .before .before .before .before .if3 .left)) (sym (c .before .before .before .is-weights .ensures ∙ ap isWeights (c .before .before .before .before .request2 .ensures ∙ ap (λ (x : Scanned). requestOf (x .line)) w2)) ∙ not-false (c .before .before .before .is-weights .result) (c .before .before .if4 .left)),
+    omega (arith, c .settings-of .ensures .1, w .ensures .1))
+
+pub pair-at-spec : {M : Type 1} → statement M
+pair-at-spec =
+    tie.close
+    (tie.spec
+    line-at-requires
+    refused-by-requires
+    returns
+    request-requires
+    is-set-requires
+    refused-by-requires-2
+    returns-2
+    line-at-requires-2
+    refused-by-requires-3
+    returns-3
+    request-requires-2
+    is-weights-requires
+    refused-by-requires-4
+    returns-4
+    builder-from-requires
+    settings-of-requires
+    returns-5)

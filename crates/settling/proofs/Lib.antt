@@ -1,0 +1,3 @@
+pub mod SignalLaws
+pub mod StepLaws
+pub mod Theorem
