@@ -80,7 +80,7 @@ module _ (text : List ℕ) (at k end : ℕ) (e : k ≡ cellLength (drop at text)
         let u : at + k + 1 ≡ at + suc (cellLength (drop at text)) = omega (arith, e) in
         let v : at + k - at ≡ cellLength (drop at text) = omega (arith, e) in
         let d : drop (at + k + 1) text ≡ drop (suc (cellLength (drop at text))) (drop at text) =
-            ap (λ (i : ℕ). drop i text) u ∙ sym (drop-drop (suc (cellLength (drop at text))) at text) in
+        ap (λ (i : ℕ). drop i text) u ∙ sym (drop-drop (suc (cellLength (drop at text))) at text) in
         let c : optionOf f z ≡ signedOf (take (cellLength (drop at text)) (drop at text)) = s ∙ ap (λ (i : ℕ). signedOf (take i (drop at text))) v in
         by-option f z (drop (at + k + 1) text) ∙ (λ j. readPart (c j) (d j))
         ∙ sym (rw (inside, eq-eqb (getD (drop at text) (cellLength (drop at text)) 0) end (byte-is ∙ n)))

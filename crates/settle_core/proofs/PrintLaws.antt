@@ -69,7 +69,7 @@ module _ (out : List ℕ) (at : ℕ) (t bytes : List ℕ) (row n : ℕ) (room : 
       (λ j. take at out ++ (b j ++ z j))
       ∙ ap (λ (l : List ℕ). take at out ++ l) (append-nil (t ++ drop (length t) (drop at out)))
       ∙ ap (λ (l : List ℕ). take at out ++ (t ++ l)) (drop-drop (length t) at out)
-      ∙ sym (append-assoc (take at out) t (drop (at + length t) out) )
+      ∙ sym (append-assoc (take at out) t (drop (at + length t) out))
       ∙ sym (sets-eq t out at (omega arith))
 
   pub line-printed : Wrote at t out (at + n) (take at out ++ (bytes ++ drop (length out - at) (drop at out)))

@@ -26,9 +26,9 @@ module _ (l : Line) (t : List ℕ) where
       elim a [
         | true ↦ scanned false l t
         | false ↦ elim b [
-            | true ↦ lineFrom n (cellOf l (take (cellLength t) t)) (drop (suc (cellLength t)) t)
-            | false ↦ scanned true (cellOf l (take (cellLength t) t)) (drop (suc (cellLength t)) t)
-          ]
+          | true ↦ lineFrom n (cellOf l (take (cellLength t) t)) (drop (suc (cellLength t)) t)
+          | false ↦ scanned true (cellOf l (take (cellLength t) t)) (drop (suc (cellLength t)) t)
+        ]
       ]
 
   pub line-open : (n : ℕ) → cellLength t ≡ length t → lineFrom (suc n) l t ≡ scanned false l t

@@ -151,7 +151,14 @@ fn below_zero(x: Signed) -> bool
 }
 
 // The numbers as a signal: the place and the number of readings have no sign.
-fn signal_of(base: Signed, ramp: Signed, ripple: Signed, jump: Signed, place: Signed, readings: Signed) -> SignalRead
+fn signal_of(
+    base: Signed,
+    ramp: Signed,
+    ripple: Signed,
+    jump: Signed,
+    place: Signed,
+    readings: Signed,
+) -> SignalRead
     ensures { λ r. ⌜ optionOf (r .found) (signalOf (r .signal)) ≡ limited (signed base) (signed ramp) (signed ripple) (signed jump) (signed place) (signed readings) ⌝ }
 {
     if below_zero(place) {

@@ -74,9 +74,9 @@ turn-is M g i out a q =
     let rc : optional (o .given) (o .out) ≡ pointIn a = given-in (headAfter (M .head) (M .lent) c) (lentAfter (M .head) (M .lent) c) out (answerOf (M .head) (M .lent) c) ∙ ap pointIn q in
     let lc : learnWith g i (optional (o .given) (o .out)) ≡ learnWith g i (pointIn a) = ap (learnWith g i) rc in
     let H : leftBy m (learnWith g i (optional (o .given) (o .out))) ≡ heldNext (heldNext M c) (learnWith g i (pointIn a)) =
-        left-is m (learnWith g i (optional (o .given) (o .out))) ∙ (λ j. heldNext (le j) (lc j)) in
+    left-is m (learnWith g i (optional (o .given) (o .out))) ∙ (λ j. heldNext (le j) (lc j)) in
     let K : optionOf (o .given) (lastOr nan (o .out)) ≡ lastOf (pointIn a) =
-        last-in (headAfter (M .head) (M .lent) c) (lentAfter (M .head) (M .lent) c) out (answerOf (M .head) (M .lent) c) ∙ ap (λ (z : Answer). lastOf (pointIn z)) q in
+    last-in (headAfter (M .head) (M .lent) c) (lentAfter (M .head) (M .lent) c) out (answerOf (M .head) (M .lent) c) ∙ ap (λ (z : Answer). lastOf (pointIn z)) q in
     λ j. turn (H j .head) (H j .lent) (K j)
 
 -- ---- lengths for d 1
@@ -154,7 +154,7 @@ module _ (s : Settings) (ok : Valid s) (one : s .d ≡ 1) where
             let f : Fits binary32 (drained w .lastShingledPoint) = subst (λ (u : State). Fits binary32 (u .lastShingledPoint)) d (form .pointFits) in
             let v : List Float = transformedAfter (drained w .settings) (drained w .statistics) (drained w .valuesSeen) (previous (drained w)) (reading (valueAt g i ∷ []) i) in
             let t : Fits binary32 v =
-                transformedAfter-fits (drained w .settings) (drained w .statistics) (drained w .valuesSeen) (previous (drained w)) (reading (valueAt g i ∷ []) i) value-fits in
+            transformedAfter-fits (drained w .settings) (drained w .statistics) (drained w .valuesSeen) (previous (drained w)) (reading (valueAt g i ∷ []) i) value-fits in
             rw (e, q) (fits-over (replicate (dimension s) zero32) (pointOf (drained w) (reading (valueAt g i ∷ []) i))
             (all-replicate _ (dimension s) zero32 (ofBits-fits binary32 0))
             (all-append _ (drop (length v) (drained w .lastShingledPoint)) v (all-drop _ (length v) (drained w .lastShingledPoint) f) t))
@@ -190,7 +190,7 @@ module _ (s : Settings) (ok : Valid s) (one : s .d ≡ 1) where
       let a : answerOf h l c ≡ answer W c = head-eq-of-cons-eq (R .says) in
       let m : Held = heldNext (heldNext M c) d in
       let t : turnOf h l (valueAt g i) i ≡ turn (m .head) (m .lent) (lastOf y) =
-          ap (λ (o : List Float). turnWith h l (valueAt g i ∷ []) i o) e ∙ turn-is M g i (replicate (dimension s) zero32) (answer W c) a in
+      ap (λ (o : List Float). turnWith h l (valueAt g i ∷ []) i o) e ∙ turn-is M g i (replicate (dimension s) zero32) (answer W c) a in
       let j : run (fresh s) (p .calls ++ (c ∷ d ∷ [])) ≡ run W (c ∷ d ∷ []) = run-append (fresh s) (p .calls) (c ∷ d ∷ []) in
       let b : isReady (m .head) ≡ leb (run W (c ∷ d ∷ []) .settings .k) (run W (c ∷ d ∷ []) .internalTimestamp) = ap (λ (v : State). leb (v .settings .k) (v .internalTimestamp)) (R .holds .viewed) in
       record {

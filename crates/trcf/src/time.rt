@@ -96,11 +96,7 @@ pub(crate) fn time_scale(head: Preprocessor, s: &[f64]) -> f32
 }
 
 // The newest time, before which none may be learnt.
-pub fn newest_of(
-    head: Preprocessor,
-    previous_timestamps: &[u64],
-    initial_timestamps: &[u64],
-) -> u64
+pub fn newest_of(head: Preprocessor, previous_timestamps: &[u64], initial_timestamps: &[u64]) -> u64
     ensures { λ r. ⌜ r ≡ newestOf head (now («previous_timestamps» .entry)) (now («initial_timestamps» .entry)) ⌝ }
 {
     let internal = head.internal_timestamp;
@@ -113,11 +109,7 @@ pub fn newest_of(
 }
 
 // The time that the element of a point and of a transform is counted from.
-pub fn time_base(
-    head: Preprocessor,
-    previous_timestamps: &[u64],
-    initial_timestamps: &[u64],
-) -> u64
+pub fn time_base(head: Preprocessor, previous_timestamps: &[u64], initial_timestamps: &[u64]) -> u64
     ensures { λ r. ⌜ r ≡ timeBaseOf head (now («previous_timestamps» .entry)) (now («initial_timestamps» .entry)) ⌝ }
 {
     let mode = head.forest_mode;

@@ -38,9 +38,11 @@ returns : tie.Need-returns
 returns c =
     let a = c .before .before .before .before .before .args in
     let n = c .before .before .cell-end in
-    let e : n .result ≡ cellLength (drop (a .at) (a .text .now)) = n .ensures .0 ∙ ap cellLength (rest-is (a .text .now) (a .at)) in
-    (ap (λ (b : Bool). partBy b (signed (c .no-part .result .value)) (drop (c .no-part .result .next) (a .text .now))) (c .no-part .ensures .0)
-    ∙ part-open (a .text .now) (a .at) (n .result) (a .end) e (c .before .before .before .before .before .pre) (c .before .if1 .taken), omega (arith, c .no-part .ensures .1))
+    let e : n .result ≡ cellLength (drop (a .at) (a .text .now)) = n .ensures .0 ∙ ap cellLength (rest-is (a .text .now) (a .at)) in (
+      ap (λ (b : Bool). partBy b (signed (c .no-part .result .value)) (drop (c .no-part .result .next) (a .text .now))) (c .no-part .ensures .0)
+          ∙ part-open (a .text .now) (a .at) (n .result) (a .end) e (c .before .before .before .before .before .pre) (c .before .if1 .taken),
+      omega (arith, c .no-part .ensures .1),
+    )
 
 shared-slice-read-if2 : tie.Need-shared-slice-read-if2
 shared-slice-read-if2 c = search needs
@@ -52,9 +54,11 @@ returns-2 : tie.Need-returns-2
 returns-2 c =
     let a = c .before .before .before .before .before .before .before .args in
     let n = c .before .before .before .before .cell-end in
-    let e : n .result ≡ cellLength (drop (a .at) (a .text .now)) = n .ensures .0 ∙ ap cellLength (rest-is (a .text .now) (a .at)) in
-    (ap (λ (b : Bool). partBy b (signed (c .no-part2 .result .value)) (drop (c .no-part2 .result .next) (a .text .now))) (c .no-part2 .ensures .0)
-    ∙ part-other (a .text .now) (a .at) (n .result) (a .end) e (c .before .before .before .before .before .before .before .pre) (c .before .before .before .if1 .left) (c .before .if2 .taken), omega (arith, c .no-part2 .ensures .1))
+    let e : n .result ≡ cellLength (drop (a .at) (a .text .now)) = n .ensures .0 ∙ ap cellLength (rest-is (a .text .now) (a .at)) in (
+      ap (λ (b : Bool). partBy b (signed (c .no-part2 .result .value)) (drop (c .no-part2 .result .next) (a .text .now))) (c .no-part2 .ensures .0)
+          ∙ part-other (a .text .now) (a .at) (n .result) (a .end) e (c .before .before .before .before .before .before .before .pre) (c .before .before .before .if1 .left) (c .before .if2 .taken),
+      omega (arith, c .no-part2 .ensures .1),
+    )
 
 sub-signed-of : tie.Need-sub-signed-of
 sub-signed-of c = search needs
@@ -82,9 +86,10 @@ returns-3 c =
     let a = c8 .before .args in
     let n = c .before .before .before .before .before .before .cell-end in
     let e : n .result ≡ cellLength (drop (a .at) (a .text .now)) = n .ensures .0 ∙ ap cellLength (rest-is (a .text .now) (a .at)) in
-    let v = c .before .signed-of in
-    (part-here (a .text .now) (a .at) (n .result) (a .end) e (c8 .before .pre) (c .before .before .before .before .before .if1 .left) (c .before .before .before .if2 .left) (v .result .found) (signed (v .result .value)) (v .ensures),
-    omega (arith, n .ensures .1 .0, c .before .before .before .before .before .if1 .left, length-drop (a .at) (a .text .now)))
+    let v = c .before .signed-of in (
+      part-here (a .text .now) (a .at) (n .result) (a .end) e (c8 .before .pre) (c .before .before .before .before .before .if1 .left) (c .before .before .before .if2 .left) (v .result .found) (signed (v .result .value)) (v .ensures),
+      omega (arith, n .ensures .1 .0, c .before .before .before .before .before .if1 .left, length-drop (a .at) (a .text .now)),
+    )
 
 pub part-at-spec : {M : Type 1} → statement M
 part-at-spec =

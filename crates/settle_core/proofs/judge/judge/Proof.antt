@@ -62,10 +62,12 @@ returns-3 c =
     let c8 = c .before .before .before .before .before .before .before .before in
     let t = c8 .before .before .before .before .args .text .now in
     let l = c .before .before .before .before .before .before .before .loop in
-    let p = c .before .before .before .pair-at in
-    (input-refused (c .refused-by2 .result) (p .result .row) (c .refused-by2 .ensures .0) (c .before .if3 .taken)
-    ∙ read-fault (l .pairs) (l .n) (drop (l .at) t) (c .before .before .before .before .before .before .loop-test .taken) (sym (c .before .before .before .before .before .opens-at2 .ensures) ∙ not-false (c .before .before .before .before .before .opens-at2 .result) (c .before .before .before .before .if2 .left)) (p .result .row)
-    (sym (refused-in (p .result) (p .result .row) refl (c .before .if3 .taken) t) ∙ p .ensures .0) ∙ sym (l .inv .0), omega (arith, c .refused-by2 .ensures .1))
+    let p = c .before .before .before .pair-at in (
+      input-refused (c .refused-by2 .result) (p .result .row) (c .refused-by2 .ensures .0) (c .before .if3 .taken)
+          ∙ read-fault (l .pairs) (l .n) (drop (l .at) t) (c .before .before .before .before .before .before .loop-test .taken) (sym (c .before .before .before .before .before .opens-at2 .ensures) ∙ not-false (c .before .before .before .before .before .opens-at2 .result) (c .before .before .before .before .if2 .left)) (p .result .row)
+          (sym (refused-in (p .result) (p .result .row) refl (c .before .if3 .taken) t) ∙ p .ensures .0) ∙ sym (l .inv .0),
+      omega (arith, c .refused-by2 .ensures .1),
+    )
 
 mul-pairs : tie.Need-mul-pairs Inv-loop μ-loop
 mul-pairs c = search needs
@@ -84,9 +86,13 @@ loop-again c =
     let c8 = c .before .before .before .before .before .before .before .before in
     let t = c8 .before .before .before .before .args .text .now in
     let l = c .before .before .before .before .before .before .before .loop in
-    let p = c .before .before .before .pair-at in
-    (l .inv .0 ∙ sym (read-pair (l .pairs) (l .n) (drop (l .at) t) (c .before .before .before .before .before .before .loop-test .taken) (sym (c .before .before .before .before .before .opens-at2 .ensures) ∙ not-false (c .before .before .before .before .before .opens-at2 .result) (c .before .before .before .before .if2 .left)) (omega (arith, c .before .before .before .before .before .before .loop-test .taken, l .inv .3)) (p .result .pair) (drop (p .result .next) t)
-    (sym (rw (c .before .if3 .left)) ∙ p .ensures .0)), p .ensures .1, omega (arith, c .before .before .before .before .before .before .loop-test .taken), length-set (l .pairs) (l .n) _ ∙ l .inv .3)
+    let p = c .before .before .before .pair-at in (
+      l .inv .0 ∙ sym (read-pair (l .pairs) (l .n) (drop (l .at) t) (c .before .before .before .before .before .before .loop-test .taken) (sym (c .before .before .before .before .before .opens-at2 .ensures) ∙ not-false (c .before .before .before .before .before .opens-at2 .result) (c .before .before .before .before .if2 .left)) (omega (arith, c .before .before .before .before .before .before .loop-test .taken, l .inv .3)) (p .result .pair) (drop (p .result .next) t)
+          (sym (rw (c .before .if3 .left)) ∙ p .ensures .0)),
+      p .ensures .1,
+      omega (arith, c .before .before .before .before .before .before .loop-test .taken),
+      length-set (l .pairs) (l .n) _ ∙ l .inv .3,
+    )
 
 signalled-requires-2 : tie.Need-signalled-requires-2 Inv-loop μ-loop
 signalled-requires-2 c κs = c .before .loop .inv .1

@@ -33,16 +33,20 @@ refused-by-requires-2 c κs = search needs
 returns-2 : tie.Need-returns-2
 returns-2 c =
     let a = c .before .before .before .before .before .before .before .args in
-    let g = c .before .before .before .signal-at in
-    (input-refused (c .refused-by2 .result) 23 (c .refused-by2 .ensures .0) (λ z. absurd (omega arith)) ∙ no-signal-there (map settingsOf (take (a .n) (a .pairs))) (drop (a .at) (a .text .now)) (sym (c .before .before .before .before .before .opens-at .ensures) ∙ c .before .before .before .before .if1 .left)
-    (sym (ap (λ (b : Bool). optionOf b (signalOf (g .result .signal))) (not-true (g .result .found) (c .before .if2 .taken))) ∙ g .ensures), omega (arith, c .refused-by2 .ensures .1))
+    let g = c .before .before .before .signal-at in (
+      input-refused (c .refused-by2 .result) 23 (c .refused-by2 .ensures .0) (λ z. absurd (omega arith)) ∙ no-signal-there (map settingsOf (take (a .n) (a .pairs))) (drop (a .at) (a .text .now)) (sym (c .before .before .before .before .before .opens-at .ensures) ∙ c .before .before .before .before .if1 .left)
+          (sym (ap (λ (b : Bool). optionOf b (signalOf (g .result .signal))) (not-true (g .result .found) (c .before .if2 .taken))) ∙ g .ensures),
+      omega (arith, c .refused-by2 .ensures .1),
+    )
 
 returns-3 : tie.Need-returns-3
 returns-3 c =
     let a = c .before .before .before .before .before .before .before .args in
-    let g = c .before .before .before .signal-at in
-    (signal-there (map settingsOf (take (a .n) (a .pairs))) (drop (a .at) (a .text .now)) (sym (c .before .before .before .before .before .opens-at .ensures) ∙ c .before .before .before .before .if1 .left) (signalOf (g .result .signal))
-    (sym (ap (λ (b : Bool). optionOf b (signalOf (g .result .signal))) (not-false (g .result .found) (c .before .if2 .left))) ∙ g .ensures), omega arith)
+    let g = c .before .before .before .signal-at in (
+      signal-there (map settingsOf (take (a .n) (a .pairs))) (drop (a .at) (a .text .now)) (sym (c .before .before .before .before .before .opens-at .ensures) ∙ c .before .before .before .before .if1 .left) (signalOf (g .result .signal))
+          (sym (ap (λ (b : Bool). optionOf b (signalOf (g .result .signal))) (not-false (g .result .found) (c .before .if2 .left))) ∙ g .ensures),
+      omega arith,
+    )
 
 pub signalled-spec : {M : Type 1} → statement M
 signalled-spec =

@@ -101,12 +101,13 @@ returns-5 c =
     let u : List ℕ = drop (a .at) t in
     let s = c8 .before .before .before .before .before .before .before .line-at in
     let w = c8 .line-at2 in
-    let w2 : scannedIn (w .result) t ≡ lineOf (lineOf u .rest) = w .ensures .0 ∙ ap (λ (x : Scanned). lineOf (x .rest)) (s .ensures .0) in
-    (c .settings-of .ensures .0 t
-    ∙ (λ j. pairBy (settingsFrom (c .before .builder-from .ensures j) (keptOf (w .result .line)) (zeroCodes (c .before .builder-from .ensures j))) (drop (w .result .next) t))
-    ∙ (λ j. pairBy (settingsBy (s .ensures .0 j .line) (w2 j .line)) (w2 j .rest))
-    ∙ both-lines u (sym (ap (λ (x : Scanned). x .ended) (s .ensures .0)) ∙ not-false (s .result .ended) (c8 .before .before .before .before .if1 .left)) (sym (c8 .before .before .is-set .ensures ∙ ap isSet (c8 .before .before .before .request .ensures ∙ ap (λ (x : Scanned). requestOf (x .line)) (s .ensures .0))) ∙ not-false (c8 .before .before .is-set .result) (c8 .before .if2 .left)) (sym (ap (λ (x : Scanned). x .ended) w2) ∙ not-false (w .result .ended) (c .before .before .before .before .before .if3 .left)) (sym (c .before .before .before .is-weights .ensures ∙ ap isWeights (c .before .before .before .before .request2 .ensures ∙ ap (λ (x : Scanned). requestOf (x .line)) w2)) ∙ not-false (c .before .before .before .is-weights .result) (c .before .before .if4 .left)),
-    omega (arith, c .settings-of .ensures .1, w .ensures .1))
+    let w2 : scannedIn (w .result) t ≡ lineOf (lineOf u .rest) = w .ensures .0 ∙ ap (λ (x : Scanned). lineOf (x .rest)) (s .ensures .0) in (
+      c .settings-of .ensures .0 t
+          ∙ (λ j. pairBy (settingsFrom (c .before .builder-from .ensures j) (keptOf (w .result .line)) (zeroCodes (c .before .builder-from .ensures j))) (drop (w .result .next) t))
+          ∙ (λ j. pairBy (settingsBy (s .ensures .0 j .line) (w2 j .line)) (w2 j .rest))
+          ∙ both-lines u (sym (ap (λ (x : Scanned). x .ended) (s .ensures .0)) ∙ not-false (s .result .ended) (c8 .before .before .before .before .if1 .left)) (sym (c8 .before .before .is-set .ensures ∙ ap isSet (c8 .before .before .before .request .ensures ∙ ap (λ (x : Scanned). requestOf (x .line)) (s .ensures .0))) ∙ not-false (c8 .before .before .is-set .result) (c8 .before .if2 .left)) (sym (ap (λ (x : Scanned). x .ended) w2) ∙ not-false (w .result .ended) (c .before .before .before .before .before .if3 .left)) (sym (c .before .before .before .is-weights .ensures ∙ ap isWeights (c .before .before .before .before .request2 .ensures ∙ ap (λ (x : Scanned). requestOf (x .line)) w2)) ∙ not-false (c .before .before .before .is-weights .result) (c .before .before .if4 .left)),
+      omega (arith, c .settings-of .ensures .1, w .ensures .1),
+    )
 
 pub pair-at-spec : {M : Type 1} → statement M
 pair-at-spec =

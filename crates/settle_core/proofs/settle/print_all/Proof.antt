@@ -44,9 +44,11 @@ loop-again c =
     let c8 = c .before .before .before .before .before .before .before .before in
     let a = c8 .args in
     let l = c .before .before .before .before .before .before .loop in
-    let p = c .before .before .print-pair in
-    (wrote-is (lines-more (a .t1) (signalOf (a .signal)) (l .i) _ (omega (arith, c .before .before .before .before .before .loop-test .taken, c8 .pre .0))) (wrote-then (l .inv .0) (p .ensures .0)),
-    omega (arith, p .ensures .1, l .inv .1), omega (arith, c .before .before .before .before .before .loop-test .taken))
+    let p = c .before .before .print-pair in (
+      wrote-is (lines-more (a .t1) (signalOf (a .signal)) (l .i) _ (omega (arith, c .before .before .before .before .before .loop-test .taken, c8 .pre .0))) (wrote-then (l .inv .0) (p .ensures .0)),
+      omega (arith, p .ensures .1, l .inv .1),
+      omega (arith, c .before .before .before .before .before .loop-test .taken),
+    )
 
 same-length : tie.Need-same-length Inv-loop μ-loop
 same-length c = omega (arith, c .before .loop .inv .0 .kept)

@@ -65,10 +65,12 @@ returns c =
     let h : n .result ≤ wholeMax = omega arith in
     let z = optional-size (49 + a .i) (n .result) (s .result .kept) (s .result .largest) h in
     let t = bytesOfLine (optionalLine (49 + a .i) (n .result) (s .result .kept) (s .result .largest)) in
-    let r = ap (λ (x : Run). x .noted) (s .ensures) in
-    (wrote-is (noted-line (a .i) (a .signal .readings) (n .result) (runOf (settingsOf (a .p)) (signalOf (a .signal)) .noted) (s .result .kept) (s .result .largest) (c8 .before .pre .1)
-    (n .ensures ∙ ap (λ (x : Noted). orNever (a .signal .readings) (x .ready)) r) (sym (ap (λ (x : Noted). x .largest) r)))
-    (line-printed (a .out .now) (a .at) t _ _ _ (c8 .before .pre .0) z (o .ensures)), omega (arith, z, long-is (a .out .now) (a .at) t _ _ _ (c8 .before .pre .0) z (o .ensures)))
+    let r = ap (λ (x : Run). x .noted) (s .ensures) in (
+      wrote-is (noted-line (a .i) (a .signal .readings) (n .result) (runOf (settingsOf (a .p)) (signalOf (a .signal)) .noted) (s .result .kept) (s .result .largest) (c8 .before .pre .1)
+          (n .ensures ∙ ap (λ (x : Noted). orNever (a .signal .readings) (x .ready)) r) (sym (ap (λ (x : Noted). x .largest) r)))
+          (line-printed (a .out .now) (a .at) t _ _ _ (c8 .before .pre .0) z (o .ensures)),
+      omega (arith, z, long-is (a .out .now) (a .at) t _ _ _ (c8 .before .pre .0) z (o .ensures)),
+    )
 
 pub print-pair-spec : {M : Type 1} → statement M
 print-pair-spec =

@@ -54,15 +54,19 @@ nothing-requires c κs = search needs
 
 loop-holds : tie.Need-loop-holds Inv-loop μ-loop
 loop-holds c =
-    let k = c .before .before .before .before .before .before .build in
-    (refl, omega arith, refl, record {
-      statistics = omega (arith, k .kept, length-replicate 30 zero64);
-      input = omega (arith, k .kept, length-replicate 64 zero32);
-      point = omega (arith, k .kept, length-replicate 128 zero32);
-      times = omega (arith, k .kept, length-replicate {A = ℕ} 64 0);
-      values = length-replicate 1999 zero32;
-      initial = length-replicate {A = ℕ} 1999 0;
-    })
+    let k = c .before .before .before .before .before .before .build in (
+      refl,
+      omega arith,
+      refl,
+      record {
+        statistics = omega (arith, k .kept, length-replicate 30 zero64);
+        input = omega (arith, k .kept, length-replicate 64 zero32);
+        point = omega (arith, k .kept, length-replicate 128 zero32);
+        times = omega (arith, k .kept, length-replicate {A = ℕ} 64 0);
+        values = length-replicate 1999 zero32;
+        initial = length-replicate {A = ℕ} 1999 0;
+      },
+    )
 
 slice-aggregate-step : tie.Need-slice-aggregate-step Inv-loop μ-loop
 slice-aggregate-step c = omega (arith, c .before .before .loop .inv .3 .statistics)
@@ -119,26 +123,30 @@ loop-again c =
     let c32 = c24 .before .before .before .before .before .before .before .before in
     let l = c16 .before .before .loop in
     let k = c8 .before .step .kept in
-    let z = l .inv .3 in
-    (track-again (signalOf (c32 .before .before .args .signal)) _ (l .i) (l .head) _ _ (l .inv .0) _ (c8 .before .before .value-at .ensures) _ _ _ (c8 .before .step .ensures) _ (c .before .is-ready .ensures) _ (c .note-reading .ensures .0),
-    omega (arith, c16 .before .loop-test .taken), c .note-reading .ensures .1 ∙ l .inv .2, record {
-      statistics = omega (arith, k, z .statistics);
-      input = omega (arith, k, z .input);
-      point = omega (arith, k, z .point);
-      times = omega (arith, k, z .times);
-      values = omega (arith, k, z .values);
-      initial = omega (arith, k, z .initial);
-    })
+    let z = l .inv .3 in (
+      track-again (signalOf (c32 .before .before .args .signal)) _ (l .i) (l .head) _ _ (l .inv .0) _ (c8 .before .before .value-at .ensures) _ _ _ (c8 .before .step .ensures) _ (c .before .is-ready .ensures) _ (c .note-reading .ensures .0),
+      omega (arith, c16 .before .loop-test .taken),
+      c .note-reading .ensures .1 ∙ l .inv .2,
+      record {
+        statistics = omega (arith, k, z .statistics);
+        input = omega (arith, k, z .input);
+        point = omega (arith, k, z .point);
+        times = omega (arith, k, z .times);
+        values = omega (arith, k, z .values);
+        initial = omega (arith, k, z .initial);
+      },
+    )
 
 returns : tie.Need-returns Inv-loop μ-loop
 returns c =
     let c8 = c .before .before .before .before .before .before .before .before in
     let c16 = c8 .before .before .before .before .before .before .before .before in
     let a = c16 .before .args in
-    let l = c .before .loop in
-    (track-done (settingsFrom (a .builder) (a .weight ∷ []) (0 ∷ [])) (signalOf (a .signal)) _
-    (λ j. track (c8 .build .ensures j .head) (c8 .build .ensures j .lent) (c .before .before .nothing .ensures .0 j)) (l .i) (a .signal .readings) (omega (arith, c .loop-test .left, l .inv .1)) (l .head) _ _ (l .inv .0),
-    l .inv .2 ∙ c .before .before .nothing .ensures .1)
+    let l = c .before .loop in (
+      track-done (settingsFrom (a .builder) (a .weight ∷ []) (0 ∷ [])) (signalOf (a .signal)) _
+          (λ j. track (c8 .build .ensures j .head) (c8 .build .ensures j .lent) (c .before .before .nothing .ensures .0 j)) (l .i) (a .signal .readings) (omega (arith, c .loop-test .left, l .inv .1)) (l .head) _ _ (l .inv .0),
+      l .inv .2 ∙ c .before .before .nothing .ensures .1,
+    )
 
 pub readings-spec : {M : Type 1} → statement M
 readings-spec =
