@@ -28,6 +28,10 @@ unfolding doneText
 done-ok row out e = ap (λ (r : ℕ). prints (accepted r okText (noText r)) out) (sym e)
 
 -- the table has every right, so the guarded calls are the ones below
+point-below : (table : List ℕ) → table ≡ everyRight → (h : Preprocessor) (l : Lent) (x : List Float) (t : ℕ) (y : List Float)
+    → pointBy table 0 h l x t y ≡ pointAfter h l x t y
+point-below table every h l x t y = as-every table (SEE ∷ LEARN ∷ []) (pointAfter h l x t y) (pointed 22 false h l y) every
+
 module _ (table : List ℕ) (every : table ≡ everyRight) (h : Preprocessor) (g : Bool) (l : Lent) (out : List ℕ) {row : ℕ} {h' : Preprocessor} {l' : Lent} {o : Output} where
   pub drain-turn : (y : List Float) → outcome row h' l' ≡ drainBy table 0 h l → o ≡ prints (doneText row) out → told h' g l' y o ≡ tells (drainTurn h g l y) out
   unfolding drainTurn
@@ -36,29 +40,25 @@ module _ (table : List ℕ) (every : table ≡ everyRight) (h : Preprocessor) (g
       ∙ ap (λ (q : Outcome). told (q .head) g (q .lent) y (prints (doneText (q .row)) out)) (e ∙ as-every table (LEARN ∷ []) (drainOf h l) (outcome 22 h l) every)
 
   module _ (x : List Float) (t : ℕ) (y : List Float) {y' : List Float} {g' : Bool} where
-    -- the point, as the call below gives it
-    point-below : pointBy table 0 h l x t y ≡ pointAfter h l x t y
-    point-below = as-every table (SEE ∷ LEARN ∷ []) (pointAfter h l x t y) (pointed 22 false h l y) every
-
     pub point-refused : pointed row g' h' l' y' ≡ pointBy table 0 h l x t y → (row ≡ 0 → ⊥) → o ≡ prints (noText row) out
         → told h' g l' y' o ≡ tells (pointTurn h g l y x t) out
     unfolding pointTurn
     point-refused e n p =
-        let q = sym (accepted-not row _ (turn h' g l' y' (noText row)) n) ∙ ap (pointTold g) (e ∙ point-below) in
+        let q = sym (accepted-not row _ (turn h' g l' y' (noText row)) n) ∙ ap (pointTold g) (e ∙ point-below table every h l x t y) in
         (λ j. told h' g l' y' (p j)) ∙ ap (λ (v : Turn). tells v out) q
 
     pub point-absent : pointed row g' h' l' y' ≡ pointBy table 0 h l x t y → row ≡ 0 → g' ≡ false → o ≡ prints noneText out
         → told h' g l' y' o ≡ tells (pointTurn h g l y x t) out
     unfolding pointTurn
     point-absent e z f p =
-        let q = ap (pointTold g) ((λ j. pointed (sym z j) (sym f j) h' l' y') ∙ e ∙ point-below) in
+        let q = ap (pointTold g) ((λ j. pointed (sym z j) (sym f j) h' l' y') ∙ e ∙ point-below table every h l x t y) in
         (λ j. told h' g l' y' (p j)) ∙ ap (λ (v : Turn). tells v out) q
 
     pub point-given : pointed row g' h' l' y' ≡ pointBy table 0 h l x t y → row ≡ 0 → g' ≡ true → o ≡ prints (pointText (take (dimensionOf h') y')) out
         → told h' true l' y' o ≡ tells (pointTurn h g l y x t) out
     unfolding pointTurn
     point-given e z f p =
-        let q = ap (pointTold g) ((λ j. pointed (sym z j) (sym f j) h' l' y') ∙ e ∙ point-below) in
+        let q = ap (pointTold g) ((λ j. pointed (sym z j) (sym f j) h' l' y') ∙ e ∙ point-below table every h l x t y) in
         (λ j. told h' true l' y' (p j)) ∙ ap (λ (v : Turn). tells v out) q
 
   module _ (x : List Float) (t : ℕ) (y : List Float) {v : List Float} {w a : Bool} {pt : ℕ} {lk : Float} {dv ps ex : List Float} where
