@@ -119,6 +119,13 @@ refusal-printed t out new row n e few room u q =
     let f : outcome row n new ≡ outcome 0 (length t) (over out t) = e ∙ rw (le-ltb (length out) (length t) (omega arith)) in
     (λ j. outcome 0 (f j .length) (f j .bytes)) ∙ ap (λ (x : List ℕ). outcome 0 (length x) (over out x)) q ∙ sym (rw (le-ltb (length out) 256 room))
 
+pub refusal-length : (t out new : List ℕ) (row n : ℕ) → outcome row n new ≡ fitted t out → length t ≤ 256 → 256 ≤ length out → n ≤ 256
+unfolding fitted
+refusal-length t out new row n e few room =
+    let f : outcome row n new ≡ outcome 0 (length t) (over out t) = e ∙ rw (le-ltb (length out) (length t) (omega arith)) in
+    let q : n ≡ length t = ap (λ (o : Outcome). o .length) f in
+    omega arith
+
 pub no-short : (row : ℕ) → row ≤ wholeMax → length (noText row) ≤ 256
 unfolding noText
 no-short row h = omega (arith, number-size 110 111 row, whole-short row h)

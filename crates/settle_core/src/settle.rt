@@ -65,6 +65,7 @@ fn print_all(pairs: [Pair; 8], count: usize, signal: Signal, out: &mut [u8]) -> 
 // What the program prints for the input, and its length; row 20 with nothing written, where the output has less than ROOM bytes.
 pub fn settle(input: &[u8], output: &mut [u8]) -> Saved
     ensures { λ r. ⌜ outcome (r .row) (r .length) (now (output .exit)) ≡ settledOn (now (input .entry)) (now (output .entry)) ⌝ }
+    ensures { λ r. ⌜ r .length ≤ length (now (output .exit)) ⌝ }
 {
     if output.len() < ROOM {
         return Saved { row: 20, length: 0 };

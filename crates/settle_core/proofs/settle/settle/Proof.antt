@@ -6,7 +6,7 @@ use Rattle.snapshot_save.proofs.OptionalLaws.{within-short, within-written}
 use Rattle.snapshot.proofs.WriteLaws.{wrote-is}
 use Rattle.bench_core.specs.Bench.{noText}
 use Rattle.settle_core.specs.Settle.{settleOf, settledOn}
-use Rattle.settle_core.proofs.PrintLaws.{refusal-printed, no-short, refusal-is, lines-are}
+use Rattle.settle_core.proofs.PrintLaws.{refusal-printed, refusal-length, no-short, refusal-is, lines-are}
 use borrow.Author.Needs.{needs}
 use Rattle.settle_core.proofs.settle.settle.Statement.{statement}
 use Rattle.settle_core.proofs.settle.settle.Tie as tie
@@ -14,7 +14,7 @@ use Rattle.settle_core.proofs.settle.settle.Tie as tie
 returns : tie.Need-returns
 unfolding settledOn
 returns c =
-    within-short 256 (settleOf (c .before .before .before .args .input .now)) (c .before .before .before .args .output .now) (omega (arith, c .if1 .taken))
+    (within-short 256 (settleOf (c .before .before .before .args .input .now)) (c .before .before .before .args .output .now) (omega (arith, c .if1 .taken)), omega arith)
 
 judge-requires : tie.Need-judge-requires
 judge-requires c κs = search needs
@@ -31,7 +31,7 @@ returns-2 c =
     let c8 = c .before .before .before .before .before .before .before .before in
     let a = c8 .before .args in
     let j = c .before .before .before .before .before .judge in
-    refusal-printed (noText (j .result .row)) (a .output .now) _ _ _ (c .before .before .whole-line .ensures) (no-short (j .result .row) (omega arith)) (omega (arith, c .before .before .before .before .before .before .if1 .left)) (settleOf (a .input .now)) (refusal-is (a .input .now) (j .result) (j .ensures .0) (c .before .before .before .before .if2 .taken))
+    (refusal-printed (noText (j .result .row)) (a .output .now) _ _ _ (c .before .before .whole-line .ensures) (no-short (j .result .row) (omega arith)) (omega (arith, c .before .before .before .before .before .before .if1 .left)) (settleOf (a .input .now)) (refusal-is (a .input .now) (j .result) (j .ensures .0) (c .before .before .before .before .if2 .taken)), omega (arith, refusal-length (noText (j .result .row)) (a .output .now) _ _ _ (c .before .before .whole-line .ensures) (no-short (j .result .row) (omega arith)) (omega (arith, c .before .before .before .before .before .before .if1 .left)), c .before .before .whole-line .kept, c .before .before .before .before .before .before .if1 .left))
 
 print-all-requires : tie.Need-print-all-requires
 print-all-requires c κs = (c .before .before .before .before .judge .ensures .1, omega (arith, c .before .before .before .before .before .if1 .left))
@@ -47,7 +47,7 @@ returns-3 c =
     let j = c .before .before .before .before .before .before .before .judge in
     let p = c .before .before .print-all in
     let w = wrote-is (lines-are (a .input .now) (j .result) (j .ensures .0) (c .before .before .before .before .before .before .if2 .left)) (p .ensures .0) in
-    within-written 256 (settleOf (a .input .now)) (a .output .now) _ _ (omega (arith, c8 .if1 .left)) (omega (arith, w .place, p .ensures .1)) w
+    (within-written 256 (settleOf (a .input .now)) (a .output .now) _ _ (omega (arith, c8 .if1 .left)) (omega (arith, w .place, p .ensures .1)) w, omega (arith, p .ensures .1, w .kept, c8 .if1 .left))
 
 pub settle-spec : {M : Type 1} → statement M
 settle-spec =
