@@ -9,7 +9,7 @@ use mathlib.Core.List.{List, [], _∷_, _++_, map, append-nil, append-assoc}
 use mathlib.Core.Option.{none, some}
 use borrow.Author.Tests.{le-ltb}
 use lib.ListN.{length, take, drop, getD, length-append, length-drop, drop-of-length-le}
-use lib.Seq.{sets-eq, drop-drop, take-suc, length-take-le}
+use lib.Seq.{length-sets, sets-eq, drop-drop, take-suc, length-take-le}
 use lib.Ieee.{Float, binary32}
 use Rattle.common.specs.Lent.{over}
 use Rattle.trcf.specs.Settings.{Settings, wholeMax}
@@ -19,7 +19,7 @@ use Rattle.snapshot.specs.Text.{whole, float, named}
 use Rattle.snapshot.specs.Read.{bytesOfLine}
 use Rattle.snapshot.specs.Save.{Outcome, outcome, fitted}
 use Rattle.snapshot.specs.Write.{stored, Wrote}
-use Rattle.snapshot.proofs.WriteLaws.{wrote-then, wrote-is, whole-less, whole-short, stored-length}
+use Rattle.snapshot.proofs.WriteLaws.{wrote-then, wrote-is, whole-less, whole-short}
 use Rattle.snapshot.proofs.PairLines.{number-size}
 use Rattle.snapshot_save.specs.Line.{within, optionalField, optionalLine}
 use Rattle.bench_core.specs.Bench.{noText}
@@ -32,6 +32,14 @@ use Rattle.settle_core.specs.declared.pair.Pair as kept
 use Rattle.settle_core.specs.declared.judge.Judged.{Judged}
 use Rattle.settle_core.proofs.JudgeLaws.{map-snoc, input-refused}
 use Rattle.settle_core.proofs.ScanLaws.{rest-is}
+
+stored-length : (old : List ℕ) (at : ℕ) (b : List ℕ) → length (stored old at b) ≡ length old
+unfolding stored
+stored-length old at b = length-sets old at b
+
+pub wrote-none : {at : ℕ} {old : List ℕ} → Wrote at [] old at old
+unfolding stored
+wrote-none {at} {old} = record { place = sym (add-zero at); bytes = refl; kept = refl }
 
 -- ---- one line
 

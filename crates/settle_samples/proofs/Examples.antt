@@ -18,7 +18,6 @@ use Rattle.snapshot.specs.Read.{floatFrom, asWhole, asFloat}
 use Rattle.snapshot.specs.Ascii.{bytes}
 use Rattle.bench_core.specs.Line.{blankLine, fieldOf, cellOf, requestOf, keptOf}
 use Rattle.bench_core.specs.Bench.{noText, builderFrom}
-
 use Rattle.settling.specs.Settling.{inLimits, pairRow, readingAt, valueAt, note, settlingAfter, notedOf, runOf}
 use Rattle.settle_core.specs.Input.{lineOf, pairBy, pairOf, signedOf, partOf, fieldsOf, isSignal, signalOf, opens, inputOf}
 use Rattle.settle_core.specs.Settle.{notedLine, settleOf}

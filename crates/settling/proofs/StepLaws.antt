@@ -12,10 +12,10 @@ use mathlib.Core.Option.{Option, none, some}
 use lib.Ieee.{Float, nan}
 use Rattle.trcf.specs.Lists.{lastOr}
 use Rattle.trcf.specs.Settings.{Settings}
-use Rattle.trcf.specs.View.{Lent, PointOutcome, pointed, pointAfter, learnAfter}
+use Rattle.trcf.specs.View.{Lent, readyOf, PointOutcome, pointed, pointAfter, learnAfter}
 use Rattle.trcf.specs.declared.head.Preprocessor.{Preprocessor}
 use Rattle.settling.specs.Settling.{Signal, valueAt, Noted, noted, kept, note}
-use Rattle.settling.specs.Steps.{optionOf, exceedsOf, learning, learnt, Turn, turn, turnWith, turnOf, Track, track, isReady, turned, trackAfter, trackFrom, built, trackAt}
+use Rattle.settling.specs.Steps.{optionOf, exceedsOf, learning, learnt, Turn, turn, turnWith, turnOf, Track, track, turned, trackAfter, trackFrom, built, trackAt}
 
 module _ {A : Type 0} where
   pub last-is : (v : List A) (d e : A) → 0 < length v → getD v (length v - 1) d ≡ lastOr e v
@@ -66,7 +66,7 @@ turn-done h l x t out row g h₁ l₁ v e₁ h₂ l₂ e₂ y e₃ =
 
 pub track-again : (g : Signal) (p : Track) (i : ℕ) (h : Preprocessor) (l : Lent) (n : Noted) → track h l n ≡ trackFrom g p i
     → (x : Float) → x ≡ valueAt g i → (h₁ : Preprocessor) (l₁ : Lent) (y : Option Float) → turn h₁ l₁ y ≡ turnOf h l x i
-    → (b : Bool) → b ≡ isReady h₁ → (n₁ : Noted) → n₁ ≡ note n i b y → track h₁ l₁ n₁ ≡ trackFrom g p (i + 1)
+    → (b : Bool) → b ≡ readyOf h₁ → (n₁ : Noted) → n₁ ≡ note n i b y → track h₁ l₁ n₁ ≡ trackFrom g p (i + 1)
 unfolding trackAfter
 track-again g p i h l n ei x ex h₁ l₁ y et b eb n₁ en =
     ap (λ (m : Noted). track h₁ l₁ m) (en ∙ ap (λ (c : Bool). note n i c y) eb)

@@ -9,7 +9,7 @@ use mathlib.Core.List.{List, [], _∷_, _++_, head-eq-of-cons-eq}
 use mathlib.Core.Option.{Option, none, some}
 use lib.Dec.{T, ltb, leb, eqb}
 use lib.IntN.{pos}
-use lib.ListN.{length, drop, replicate, length-replicate}
+use lib.ListN.{length, drop, getD, replicate, length-replicate}
 use lib.Ieee.{Float, nan, binary32, fits, ofInt}
 use lib.Ieee.Fits.{ofInt-fits}
 use lib.Ieee.Bits.{ofBits-fits}
@@ -21,24 +21,26 @@ use Rattle.trcf.specs.Types.{augments}
 use Rattle.trcf.specs.Transformer.{zero32}
 use Rattle.trcf.specs.Settings.{Settings, MachineSettings, Valid, settingsRow, block, dimension, waiting, wholeMax}
 use Rattle.trcf.specs.Calls.{Call, Machine, FitsGiven, shingledPoint, postProcess}
-use Rattle.trcf.specs.Preprocessor.{State, fresh, run, next, change, refusal, Answer, refused, absent, done, wrote, learnt, turned, told, answer, reply, accepted, drained, pointOf, transformedAfter, previous, reading, statusOf, statisticsLength}
-use Rattle.trcf.specs.View.{Lent, lent, view, settingsOf, headRow, headTable, lentShort, answerOf, headAfter, lentAfter, PointOutcome, pointRead, pointAfter, learnAfter, optional}
+use Rattle.trcf.specs.Preprocessor.{State, fresh, run, next, change, refusal, Answer, refused, absent, done, wrote, learnt, turned, told, answer, reply, accepted, drained, pointOf, transformedAfter, preceding, reading, statusOf, statisticsLength}
+use Rattle.trcf.specs.View.{Lent, lent, view, settingsOf, headRow, headTable, initialRoom, lentShort, readyOf, Getters, answerOf, headAfter, lentAfter, PointOutcome, pointRead, pointAfter, learnAfter, optional}
 use Rattle.trcf.specs.declared.head.Preprocessor.{Preprocessor}
 use Rattle.trcf.proofs.FitLaws.{all-append, all-drop}
 use Rattle.trcf.proofs.OutcomeLaws.{accepted-not, orElse-is}
+use Rattle.trcf.proofs.RefusalLaws.{room-start}
 use Rattle.snapshot.specs.Form.{Form}
 use Rattle.snapshot.proofs.Accepted.{rows-of, none-refuses}
 use Rattle.snapshot.proofs.Lists.{all-replicate}
 use Rattle.snapshot.proofs.RoundTrip.{few-of}
 use Rattle.restart.specs.Held.{Held, held, builtOn, heldNext, heldRun, heldAnswers}
 use Rattle.restart.proofs.Held.{Holds, Runs, runs-held, built-holds}
+use Rattle.restart.proofs.Panel.{gettersAt}
 use Rattle.restart.proofs.Reachable.{run-form}
 use Rattle.restart.proofs.Restart.{run-append}
 use Rattle.restart.proofs.FeedLaws.{transformedAfter-fits}
 use Rattle.restart_program.specs.Program.{leftBy}
 use Rattle.restart_program.proofs.Program.{left-is}
 use Rattle.settling.specs.Settling.{Signal, valueAt, Noted, noted, note, pointCall, learnWith, pointIn, lastOf, Settling, settlingAfter, settlingAt, notedOf, inLimits, pairRow, ran, runRow, runOf}
-use Rattle.settling.specs.Steps.{optionOf, pointLength, learning, Turn, turn, turnWith, turnOf, Track, track, memory, isReady, turned as trackTurned, trackAfter, built, trackAt}
+use Rattle.settling.specs.Steps.{optionOf, pointLength, learning, Turn, turn, turnWith, turnOf, Track, track, memory, turned as trackTurned, trackAfter, built, trackAt}
 
 -- ---- the answer of point, as the program reads it
 
@@ -102,8 +104,9 @@ module _ (s : Settings) (ok : Valid s) (one : s .d ≡ 1) where
       let b : ltb 64 (s .d * s .k) ≡ false = le-ltb 64 (s .d * s .k) (rw one (omega (arith, f .k-few))) in
       let c : ltb 128 (dimension s) ≡ false = le-ltb 128 (dimension s) point-few in
       let d : ltb 64 (s .k) ≡ false = le-ltb 64 (s .k) (f .k-few) in
-      let e : ltb 1999 (s .start * s .d) ≡ false = le-ltb 1999 (s .start * s .d) (rw one (omega (arith, f .start-few))) in
-      let g : ltb 1999 (s .start) ≡ false = le-ltb 1999 (s .start) (omega (arith, f .start-few)) in
+      let i : initialRoom s ≤ s .start = room-start s in
+      let e : ltb 1999 (initialRoom s * s .d) ≡ false = le-ltb 1999 (initialRoom s * s .d) (rw one (omega (arith, i, f .start-few))) in
+      let g : ltb 1999 (initialRoom s) ≡ false = le-ltb 1999 (initialRoom s) (omega (arith, i, f .start-few)) in
       λ j. a j || (b j || (c j || (d j || (e j || g j))))
 
   sane : headRow s ≡ 0
@@ -152,9 +155,9 @@ module _ (s : Settings) (ok : Valid s) (one : s .d ≡ 1) where
         go zero e false q =
             let d : next w c₁ ≡ drained w = rw (e, q) in
             let f : Fits binary32 (drained w .lastShingledPoint) = subst (λ (u : State). Fits binary32 (u .lastShingledPoint)) d (form .pointFits) in
-            let v : List Float = transformedAfter (drained w .settings) (drained w .statistics) (drained w .valuesSeen) (previous (drained w)) (reading (valueAt g i ∷ []) i) in
+            let v : List Float = transformedAfter (drained w .settings) (drained w .statistics) (drained w .valuesSeen) (preceding (drained w)) (reading (valueAt g i ∷ []) i) in
             let t : Fits binary32 v =
-            transformedAfter-fits (drained w .settings) (drained w .statistics) (drained w .valuesSeen) (previous (drained w)) (reading (valueAt g i ∷ []) i) value-fits in
+            transformedAfter-fits (drained w .settings) (drained w .statistics) (drained w .valuesSeen) (preceding (drained w)) (reading (valueAt g i ∷ []) i) value-fits in
             rw (e, q) (fits-over (replicate (dimension s) zero32) (pointOf (drained w) (reading (valueAt g i ∷ []) i))
             (all-replicate _ (dimension s) zero32 (ofBits-fits binary32 0))
             (all-append _ (drop (length v) (drained w .lastShingledPoint)) v (all-drop _ (length v) (drained w .lastShingledPoint) f) t))
@@ -192,14 +195,14 @@ module _ (s : Settings) (ok : Valid s) (one : s .d ≡ 1) where
       let t : turnOf h l (valueAt g i) i ≡ turn (m .head) (m .lent) (lastOf y) =
       ap (λ (o : List Float). turnWith h l (valueAt g i ∷ []) i o) e ∙ turn-is M g i (replicate (dimension s) zero32) (answer W c) a in
       let j : run (fresh s) (p .calls ++ (c ∷ d ∷ [])) ≡ run W (c ∷ d ∷ []) = run-append (fresh s) (p .calls) (c ∷ d ∷ []) in
-      let b : isReady (m .head) ≡ leb (run W (c ∷ d ∷ []) .settings .k) (run W (c ∷ d ∷ []) .internalTimestamp) = ap (λ (v : State). leb (v .settings .k) (v .internalTimestamp)) (R .holds .viewed) in
+      let b : readyOf (m .head) ≡ leb (run W (c ∷ d ∷ []) .settings .k) (run W (c ∷ d ∷ []) .internalTimestamp) = ap (λ (x : List Getters). getD x 2 (gettersAt W) .ready) (R .shows) in
       record {
         calls = p .calls ++ (c ∷ d ∷ []);
         machine = all-append _ (p .calls) (c ∷ d ∷ []) (p .machine) mc;
         ran = j ∙ ap (λ (v : State). next (next v c) (learnWith g i (pointIn (answer v c)))) (p .ran);
         holds = subst (λ (v : State). Holds s (held (turnOf h l (valueAt g i) i .head) (turnOf h l (valueAt g i) i .lent)) v) (sym j)
             (subst (λ (u : Turn). Holds s (held (u .head) (u .lent)) (run W (c ∷ d ∷ []))) (sym t) (R .holds));
-        same = (λ k. note (p .same k) i (isReady (t k .head)) (t k .last))
+        same = (λ k. note (p .same k) i (readyOf (t k .head)) (t k .last))
             ∙ ap (λ (r : Bool). note (q₀ .noted) i r (lastOf y)) b
             ∙ ap (λ (v : State). note (q₀ .noted) i (leb (next (next v c) (learnWith g i (pointIn (answer v c))) .settings .k) (next (next v c) (learnWith g i (pointIn (answer v c))) .internalTimestamp)) (lastOf (pointIn (answer v c)))) (p .ran);
       }

@@ -3,7 +3,7 @@ use Prim.Native.Nat.{ℕ, zero, suc}
 use mathlib.Core.Bool.{Bool, true, false, cond}
 use mathlib.Core.List.{List, [], _∷_}
 use mathlib.Core.Option.{Option, none, some}
-use lib.Dec.{leb, ltb}
+use lib.Dec.{ltb}
 use lib.IntN.{ℤ, pos, negsuc, negℤ}
 use lib.ListN.{replicate}
 use lib.Ieee.{Float, nan, eq, lt}
@@ -13,7 +13,7 @@ use Rattle.trcf.specs.Transformer.{zero32}
 use Rattle.trcf.specs.Settings.{Settings, dimension}
 use Rattle.trcf.specs.Calls.{Learn}
 use Rattle.trcf.specs.Preprocessor.{accepted}
-use Rattle.trcf.specs.View.{Lent, lent, settingsOf, settingsFrom, headRow, buildOf, learnCall, PointOutcome, pointAfter, LearnOutcome, learnAfter}
+use Rattle.trcf.specs.View.{Lent, lent, settingsOf, settingsFrom, headRow, readyOf, buildOf, learnCall, PointOutcome, pointAfter, LearnOutcome, learnAfter}
 use Rattle.trcf.specs.declared.head.Preprocessor.{Preprocessor}
 use Rattle.trcf.specs.declared.head.PreprocessorBuilder.{PreprocessorBuilder}
 use Rattle.settling.specs.Settling.{Signal, signal, valueAt, Noted, noted, note}
@@ -90,11 +90,8 @@ track h l n = record { head = h; lent = l; noted = n }
 abbrev pub memory : Lent
 memory = lent (replicate 30 zero64) (replicate 64 zero32) (replicate 128 zero32) (replicate 64 0) (replicate 1999 zero32) (replicate 1999 0)
 
-abbrev pub isReady : Preprocessor → Bool
-isReady h = leb (h .«shingle_size») (h .«internal_timestamp»)
-
 abbrev pub turned : Track → Turn → ℕ → Track
-turned p u i = track (u .head) (u .lent) (note (p .noted) i (isReady (u .head)) (u .last))
+turned p u i = track (u .head) (u .lent) (note (p .noted) i (readyOf (u .head)) (u .last))
 
 unfoldable pub trackAfter : Float → ℕ → Track → Track
 trackAfter x i p = turned p (turnOf (p .head) (p .lent) x i) i

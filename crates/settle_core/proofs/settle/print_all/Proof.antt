@@ -4,9 +4,9 @@ use native.Mathlib.Omega.{arith}
 use Prim.Native.Nat.{ℕ, _-_, _*_, _≤_}
 use lib.ListN.{length}
 use Rattle.snapshot.specs.Write.{Wrote}
-use Rattle.snapshot.proofs.WriteLaws.{wrote-none, wrote-then, wrote-is}
+use Rattle.snapshot.proofs.WriteLaws.{wrote-then, wrote-is}
 use Rattle.settling.specs.Steps.{signalOf}
-use Rattle.settle_core.proofs.PrintLaws.{linesOf, lines-more}
+use Rattle.settle_core.proofs.PrintLaws.{wrote-none, linesOf, lines-more}
 use borrow.Author.Needs.{needs}
 use Rattle.settle_core.proofs.settle.print_all.Statement.{statement}
 use Rattle.settle_core.proofs.settle.print_all.Tie as tie
