@@ -34,11 +34,10 @@ loop-again : tie.Need-loop-again Inv-loop μ-loop
 loop-again c =
     let L = c .before .before .before .loop in
     let t = c .before .before .before .before .args .table .now in
-    let h : L .i < length t = omega arith in
-    (
+    let h : L .i < length t = omega arith in (
       omega arith,
       ⊎-elim (λ w. bad-met t (L .i) h (L .fine) (c .if1 .fine) (L .inv .1) (omega (arith, w .0 .taken)) (w .1))
-      (λ w. good-met t (L .i) h (L .fine) (c .if1 .fine) (L .inv .1) (omega (arith, w .0 .left)) (w .1)) (c .if1 .came),
+          (λ w. good-met t (L .i) h (L .fine) (c .if1 .fine) (L .inv .1) (omega (arith, w .0 .left)) (w .1)) (c .if1 .came),
     )
 
 returns : tie.Need-returns Inv-loop μ-loop
