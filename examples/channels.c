@@ -17,11 +17,13 @@ static float inputs[D * K], point[D * K], initial[1];
 static uint64_t times[K], initial_times[1];
 static uint8_t text[4096], older[4096];
 
+/* One person, who may do everything. */
+#define ALL VEERYCOUCH_EVERY_RIGHT, VEERYCOUCH_TABLE_CELLS, 0
 #define PARTS statistics, VEERYCOUCH_STATISTICS(D), inputs, D *K, point, D *K, times, K, initial, 0, initial_times, 0
 
 static int take_up(const char *who, const uint8_t *from, uint64_t length, const uint16_t *codes, size_t n, uint64_t expected) {
     uint64_t line = 0;
-    const uint64_t row = veerycouch_restore(from, length, codes, n, head, VEERYCOUCH_HEAD_WORDS, PARTS, &line);
+    const uint64_t row = veerycouch_restore(ALL, from, length, codes, n, head, VEERYCOUCH_HEAD_WORDS, PARTS, &line);
     printf("%s: row %llu\n", who, (unsigned long long)row);
     return row != expected;
 }
@@ -35,9 +37,9 @@ int main(void) {
     uint64_t row = veerycouch_build(VEERYCOUCH_STANDARD, VEERYCOUCH_NONE, D, K, 0, 1000, 0.01, 1.0f, weights, D, trims, D, head,
                                     VEERYCOUCH_HEAD_WORDS, PARTS);
     if (row == 0)
-        row = veerycouch_save(head, VEERYCOUCH_HEAD_WORDS, PARTS, &length, text, sizeof text);
+        row = veerycouch_save(ALL, head, VEERYCOUCH_HEAD_WORDS, PARTS, &length, text, sizeof text);
     if (row == 0)
-        row = veerycouch_codes(head, VEERYCOUCH_HEAD_WORDS, codes, D);
+        row = veerycouch_codes(ALL, head, VEERYCOUCH_HEAD_WORDS, codes, D);
     printf("built: row %llu, codes %u %u\n", (unsigned long long)row, codes[0], codes[1]);
     bad |= row != 0 || codes[0] != SHORT_TRIM || codes[1] != LONG_TRIM;
     bad |= take_up("fuel trims on a screen of fuel trims", text, length, trims, D, 0);

@@ -17,13 +17,25 @@
  *   19  a number that names no mode, no method, no rule of impute or (in a word of the head) no code; or a text not of the form
  *   20  a lent part is too short
  *   21  impute: a mark other than 0 or 1, or more than 2000 readings
+ *   22  the role lacks a right that the call needs, or is above 3; a table not of 16 cells, or with a cell other than 0 or 1, used or not
  *   24  align: a time below the one before it, or a list of more than 4096 readings
  *   25  strandings: a number outside 1 to 20
  *   26  corrected: the statistic or a reading is not such that one reading can be put right (see there)
  *   27  the codes of a text differ from those expected, in number or value
- * They are asked in this order, but for these: a head of fewer than VEERYCOUCH_HEAD_WORDS words is refused by 20 before all else (by build:
+ * They are asked in this order, but for these: 22 stands before all others, and nothing of the head, the parts or a text is looked at before it; a head of fewer than VEERYCOUCH_HEAD_WORDS words is refused by 20 before the rest (by build:
  * after rows 1 to 9; by restore: after 19 and 27), a number that names no mode, no method, no rule or no code by 19 before rows 1 to 9, 27 stands
  * between 19 and 20, 21 and 24 stand behind 10, and 26 stands before 20.
+ *
+ * THE TABLE. Several people may share one preprocessor. Every call that takes one names a role, 0 to 3, and is lent a table of what each role may do:
+ * 16 bytes, role by role, in each role the four rights in the order of VEERYCOUCH_SEE to VEERYCOUCH_RESTORE, 1 granted and 0 withheld. The right r of a
+ * role stands in table[4 * role + r].
+ *   SEE      transform, invert_extrapolation, scale, shift, difference_deviations, numbers and the getters over it, codes
+ *   LEARN    post_process, drain
+ *   SEE and LEARN, both: shingled_point, as it may feed the initial values
+ *   SAVE     save                 RESTORE  restore
+ * build needs none, and the calls that take no preprocessor have no role. A withheld call gives 22, changes nothing, and shows nothing of the
+ * preprocessor: its answer depends on the role, the call and the table alone. The table is the caller's, is no part of the head or of a text, and is read
+ * at each call. Who needs no roles passes VEERYCOUCH_EVERY_RIGHT, 16, and role 0.
  *
  * THE CODES. Each of the d channels has a code of 16 bits, whatever the caller means by it. build is given them, the text carries them, and restore
  * is told the ones expected: a text of other channels is refused by 27. A text of before there were codes has none, and is read as one with d zeros.
@@ -59,8 +71,9 @@
 extern "C" {
 #endif
 
-/* The version of this header, raised where a declaration or the head changes. 2: build and restore take codes, the head has 44 words (28 before). */
-#define VEERYCOUCH_HEADER 2
+/* The version of this header, raised where a declaration or the head changes. 2: build and restore take codes, the head has 44 words (28 before).
+ * 3: every call of a preprocessor but build takes a table and a role first; the getters stand over numbers. */
+#define VEERYCOUCH_HEADER 3
 
 #define VEERYCOUCH_HEAD_WORDS 44
 #define VEERYCOUCH_STATISTICS(d) (3 * (5 * (d) + 5))
@@ -83,6 +96,14 @@ enum {
 
 enum { VEERYCOUCH_FIXED = 0, VEERYCOUCH_PREVIOUS = 1, VEERYCOUCH_NEXT = 2, VEERYCOUCH_LINEAR = 3 };
 
+/* The rights of a role, in the order of its cells; and a table that grants every role everything. */
+enum { VEERYCOUCH_SEE = 0, VEERYCOUCH_LEARN = 1, VEERYCOUCH_SAVE = 2, VEERYCOUCH_RESTORE = 3 };
+#define VEERYCOUCH_TABLE_CELLS 16
+static const uint8_t VEERYCOUCH_EVERY_RIGHT[VEERYCOUCH_TABLE_CELLS] = {1, 1, 1, 1, 1, 1, 1, 1, 1, 1, 1, 1, 1, 1, 1, 1};
+
+/* The table and the role, as every call of a preprocessor but build takes them first. */
+#define VEERYCOUCH_RIGHTS const uint8_t *table, size_t table_len, uint64_t role
+
 /* The parts of a preprocessor beside its head, as every call takes them. */
 #define VEERYCOUCH_PARTS(CHANGED, INITIAL)                                                                                                          \
     CHANGED double *statistics, size_t statistics_len, CHANGED float *last_shingled_input, size_t last_shingled_input_len,                          \
@@ -98,7 +119,7 @@ uint64_t veerycouch_build(uint64_t forest_mode, uint64_t transform_method, size_
 
 /* The shingled point of a reading (d numbers). *given becomes 1 and the point stands in the first get_dimension numbers of output; or 0 while
  * initial values are awaited, and output is left. Feeds the initial values first where that is due. Rows 10, 11, 18, 20. */
-uint64_t veerycouch_shingled_point(uint64_t *head, size_t head_len, VEERYCOUCH_PARTS(VEERYCOUCH_WRITTEN, const), const float *input,
+uint64_t veerycouch_shingled_point(VEERYCOUCH_RIGHTS, uint64_t *head, size_t head_len, VEERYCOUCH_PARTS(VEERYCOUCH_WRITTEN, const), const float *input,
                                    size_t input_len, uint64_t timestamp, uint64_t *given, float *output, size_t output_len);
 
 /* Learns a reading, or keeps it while initial values are awaited. y is the forest's point and counts where has_y is not 0; expected is the forest's
@@ -106,23 +127,23 @@ uint64_t veerycouch_shingled_point(uint64_t *head, size_t head_len, VEERYCOUCH_P
  * *written becomes 1 where the w deviations stand in deviations_out (they do after a learn, and with the last awaited value), else 0.
  * *has_anomaly becomes 1 where, past waiting, grade > 0 and y and expected are given: d past values then stand in past_out, d expected ones in
  * expected_out, *past_timestamp is the time one reading before the one in past_out, and *likelihood is 1; else 0, 0 and 0. Rows 10 to 14, 18, 20. */
-uint64_t veerycouch_post_process(uint64_t *head, size_t head_len, VEERYCOUCH_PARTS(VEERYCOUCH_WRITTEN, VEERYCOUCH_WRITTEN), const float *input,
+uint64_t veerycouch_post_process(VEERYCOUCH_RIGHTS, uint64_t *head, size_t head_len, VEERYCOUCH_PARTS(VEERYCOUCH_WRITTEN, VEERYCOUCH_WRITTEN), const float *input,
                                  size_t input_len, uint64_t timestamp, uint64_t has_y, const float *y, size_t y_len, uint64_t expects,
                                  const float *expected, size_t expected_len, float grade, int32_t relative_index, float *deviations_out,
                                  size_t deviations_out_len, float *past_out, size_t past_out_len, float *expected_out, size_t expected_out_len,
                                  uint64_t *written, uint64_t *has_anomaly, uint64_t *past_timestamp, float *likelihood);
 
 /* Feeds the initial values where they are complete; past that, or before, it does nothing. Rows 15, 18, 20. */
-uint64_t veerycouch_drain(uint64_t *head, size_t head_len, VEERYCOUCH_PARTS(VEERYCOUCH_WRITTEN, const));
+uint64_t veerycouch_drain(VEERYCOUCH_RIGHTS, uint64_t *head, size_t head_len, VEERYCOUCH_PARTS(VEERYCOUCH_WRITTEN, const));
 
 /* A reading, transformed: w numbers into output. Rows 10, 20. */
-uint64_t veerycouch_transform(const uint64_t *head, size_t head_len, VEERYCOUCH_PARTS(const, const), const float *input, size_t input_len,
+uint64_t veerycouch_transform(VEERYCOUCH_RIGHTS, const uint64_t *head, size_t head_len, VEERYCOUCH_PARTS(const, const), const float *input, size_t input_len,
                               uint64_t timestamp, float *output, size_t output_len);
 
 /* The scale, the shift, and the deviation of the differences of each channel: w numbers into output. Row 20. */
-uint64_t veerycouch_scale(const uint64_t *head, size_t head_len, VEERYCOUCH_PARTS(const, const), float *output, size_t output_len);
-uint64_t veerycouch_shift(const uint64_t *head, size_t head_len, VEERYCOUCH_PARTS(const, const), float *output, size_t output_len);
-uint64_t veerycouch_difference_deviations(const uint64_t *head, size_t head_len, VEERYCOUCH_PARTS(const, const), float *output, size_t output_len);
+uint64_t veerycouch_scale(VEERYCOUCH_RIGHTS, const uint64_t *head, size_t head_len, VEERYCOUCH_PARTS(const, const), float *output, size_t output_len);
+uint64_t veerycouch_shift(VEERYCOUCH_RIGHTS, const uint64_t *head, size_t head_len, VEERYCOUCH_PARTS(const, const), float *output, size_t output_len);
+uint64_t veerycouch_difference_deviations(VEERYCOUCH_RIGHTS, const uint64_t *head, size_t head_len, VEERYCOUCH_PARTS(const, const), float *output, size_t output_len);
 
 /* A forecast turned back into readings. values, upper and lower are equally long. In STANDARD they are turned back in their own place (blocks of d
  * numbers, where the method is DIFFERENCE or NORMALIZE_DIFFERENCE; the outputs are left and may be empty). In TIME_AUGMENTED they are blocks of
@@ -130,7 +151,7 @@ uint64_t veerycouch_difference_deviations(const uint64_t *head, size_t head_len,
  * times_lower_out; values, upper and lower keep their contents. What an accepted call leaves is the right way up: no upper below its value and no lower
  * above it, in numbers and in times, whatever the method and the weights (in STANDARD: where the lists are a whole number of blocks of d); the values do
  * not depend on the bounds handed in, and the uppers do not depend on the lowers. Rows 16, 20. */
-uint64_t veerycouch_invert_extrapolation(const uint64_t *head, size_t head_len, const double *statistics, size_t statistics_len,
+uint64_t veerycouch_invert_extrapolation(VEERYCOUCH_RIGHTS, const uint64_t *head, size_t head_len, const double *statistics, size_t statistics_len,
                                          const float *last_shingled_input, size_t last_shingled_input_len, const uint64_t *previous_timestamps,
                                          size_t previous_timestamps_len, float *values, size_t values_len, float *upper, size_t upper_len,
                                          float *lower, size_t lower_len, float *values_out, size_t values_out_len, float *upper_out,
@@ -140,32 +161,77 @@ uint64_t veerycouch_invert_extrapolation(const uint64_t *head, size_t head_len, 
 /* The text of the preprocessor: *length bytes at the start of output, never more than VEERYCOUCH_TEXT_MAX, without a closing 0. What restore could not
  * take up again is not put away: 19 where times or waiting readings have been damaged (times that fall, a waiting reading that is not finite). Rows 19,
  * 20. */
-uint64_t veerycouch_save(const uint64_t *head, size_t head_len, VEERYCOUCH_PARTS(const, const), uint64_t *length, uint8_t *output,
+uint64_t veerycouch_save(VEERYCOUCH_RIGHTS, const uint64_t *head, size_t head_len, VEERYCOUCH_PARTS(const, const), uint64_t *length, uint8_t *output,
                          size_t output_len);
 
 /* Taking a text up: the head into its words, the parts filled; of the parts' contents nothing is read. A text not of the form gives 19 with its first
  * bad line, from 1, in *line; one whose codes are not those expected gives 27, and a part that is too short 20, with no line. Refused, it has written
  * nothing but that line. The text put away again has the same bytes; one without its codes is put away with them, zeros. */
-uint64_t veerycouch_restore(const uint8_t *text, size_t text_len, const uint16_t *codes, size_t codes_len, uint64_t *head, size_t head_len,
+uint64_t veerycouch_restore(VEERYCOUCH_RIGHTS, const uint8_t *text, size_t text_len, const uint16_t *codes, size_t codes_len, uint64_t *head, size_t head_len,
                             VEERYCOUCH_PARTS(VEERYCOUCH_WRITTEN, VEERYCOUCH_WRITTEN), uint64_t *line);
 
-/* Each writes one number: readings learnt or awaiting; the number on the panel; readings learnt; 1 where the shingle is full, else 0;
- * w * k; d; k; start; the numbers of the method and of the mode. Rows 1 to 9, 19, 20, of a damaged head.
+/* The ten numbers of a preprocessor into output, in the order of VEERYCOUCH_AT_VALUES_SEEN to VEERYCOUCH_AT_PANEL: readings learnt or awaiting; readings
+ * learnt; 1 where the shingle is full, else 0; d; k; w * k; start; the numbers of the method and of the mode; the number on the panel. Rows 1 to 9, 19,
+ * 20, of a damaged head; 20 where output has fewer than VEERYCOUCH_NUMBERS places.
  * The panel says how much the statistics know: how many readings they were fed, word 10 of the head. It does not rise for a reading that waits (it rises
  * by all of them when they are drained), for one that was stranded, being learnt past before it was drained, or for one from stop_normalization on. */
-uint64_t veerycouch_values_seen(const uint64_t *head, size_t head_len, uint64_t *answer);
-uint64_t veerycouch_panel(const uint64_t *head, size_t head_len, uint64_t *answer);
-uint64_t veerycouch_internal_timestamp(const uint64_t *head, size_t head_len, uint64_t *answer);
-uint64_t veerycouch_is_ready(const uint64_t *head, size_t head_len, uint64_t *answer);
-uint64_t veerycouch_get_dimension(const uint64_t *head, size_t head_len, uint64_t *answer);
-uint64_t veerycouch_input_dimensions(const uint64_t *head, size_t head_len, uint64_t *answer);
-uint64_t veerycouch_shingle_size(const uint64_t *head, size_t head_len, uint64_t *answer);
-uint64_t veerycouch_start_normalization(const uint64_t *head, size_t head_len, uint64_t *answer);
-uint64_t veerycouch_transformation_method(const uint64_t *head, size_t head_len, uint64_t *answer);
-uint64_t veerycouch_forest_mode(const uint64_t *head, size_t head_len, uint64_t *answer);
+#define VEERYCOUCH_NUMBERS 10
+enum {
+    VEERYCOUCH_AT_VALUES_SEEN = 0,
+    VEERYCOUCH_AT_INTERNAL_TIMESTAMP = 1,
+    VEERYCOUCH_AT_IS_READY = 2,
+    VEERYCOUCH_AT_INPUT_DIMENSIONS = 3,
+    VEERYCOUCH_AT_SHINGLE_SIZE = 4,
+    VEERYCOUCH_AT_GET_DIMENSION = 5,
+    VEERYCOUCH_AT_START_NORMALIZATION = 6,
+    VEERYCOUCH_AT_TRANSFORMATION_METHOD = 7,
+    VEERYCOUCH_AT_FOREST_MODE = 8,
+    VEERYCOUCH_AT_PANEL = 9
+};
+uint64_t veerycouch_numbers(VEERYCOUCH_RIGHTS, const uint64_t *head, size_t head_len, uint64_t *output, size_t output_len);
+
+/* One of them: *answer is written where the row is 0. */
+static inline uint64_t veerycouch_number(VEERYCOUCH_RIGHTS, const uint64_t *head, size_t head_len, int place, uint64_t *answer) {
+    uint64_t numbers[VEERYCOUCH_NUMBERS];
+    uint64_t row = veerycouch_numbers(table, table_len, role, head, head_len, numbers, VEERYCOUCH_NUMBERS);
+    if (row == 0) {
+        *answer = numbers[place];
+    }
+    return row;
+}
+static inline uint64_t veerycouch_values_seen(VEERYCOUCH_RIGHTS, const uint64_t *head, size_t head_len, uint64_t *answer) {
+    return veerycouch_number(table, table_len, role, head, head_len, VEERYCOUCH_AT_VALUES_SEEN, answer);
+}
+static inline uint64_t veerycouch_internal_timestamp(VEERYCOUCH_RIGHTS, const uint64_t *head, size_t head_len, uint64_t *answer) {
+    return veerycouch_number(table, table_len, role, head, head_len, VEERYCOUCH_AT_INTERNAL_TIMESTAMP, answer);
+}
+static inline uint64_t veerycouch_is_ready(VEERYCOUCH_RIGHTS, const uint64_t *head, size_t head_len, uint64_t *answer) {
+    return veerycouch_number(table, table_len, role, head, head_len, VEERYCOUCH_AT_IS_READY, answer);
+}
+static inline uint64_t veerycouch_input_dimensions(VEERYCOUCH_RIGHTS, const uint64_t *head, size_t head_len, uint64_t *answer) {
+    return veerycouch_number(table, table_len, role, head, head_len, VEERYCOUCH_AT_INPUT_DIMENSIONS, answer);
+}
+static inline uint64_t veerycouch_shingle_size(VEERYCOUCH_RIGHTS, const uint64_t *head, size_t head_len, uint64_t *answer) {
+    return veerycouch_number(table, table_len, role, head, head_len, VEERYCOUCH_AT_SHINGLE_SIZE, answer);
+}
+static inline uint64_t veerycouch_get_dimension(VEERYCOUCH_RIGHTS, const uint64_t *head, size_t head_len, uint64_t *answer) {
+    return veerycouch_number(table, table_len, role, head, head_len, VEERYCOUCH_AT_GET_DIMENSION, answer);
+}
+static inline uint64_t veerycouch_start_normalization(VEERYCOUCH_RIGHTS, const uint64_t *head, size_t head_len, uint64_t *answer) {
+    return veerycouch_number(table, table_len, role, head, head_len, VEERYCOUCH_AT_START_NORMALIZATION, answer);
+}
+static inline uint64_t veerycouch_transformation_method(VEERYCOUCH_RIGHTS, const uint64_t *head, size_t head_len, uint64_t *answer) {
+    return veerycouch_number(table, table_len, role, head, head_len, VEERYCOUCH_AT_TRANSFORMATION_METHOD, answer);
+}
+static inline uint64_t veerycouch_forest_mode(VEERYCOUCH_RIGHTS, const uint64_t *head, size_t head_len, uint64_t *answer) {
+    return veerycouch_number(table, table_len, role, head, head_len, VEERYCOUCH_AT_FOREST_MODE, answer);
+}
+static inline uint64_t veerycouch_panel(VEERYCOUCH_RIGHTS, const uint64_t *head, size_t head_len, uint64_t *answer) {
+    return veerycouch_number(table, table_len, role, head, head_len, VEERYCOUCH_AT_PANEL, answer);
+}
 
 /* The codes of the channels: d numbers into output. Rows 1 to 9, 19, of a damaged head; 20. */
-uint64_t veerycouch_codes(const uint64_t *head, size_t head_len, uint16_t *output, size_t output_len);
+uint64_t veerycouch_codes(VEERYCOUCH_RIGHTS, const uint64_t *head, size_t head_len, uint16_t *output, size_t output_len);
 
 /* ---- These take no preprocessor. */
 

@@ -1,5 +1,7 @@
 //! The preprocessor of a streaming anomaly detector, over the proved static library: safe, and with memory of its own.
 //!
+//! Several roles may share a preprocessor: `Rights` says what each may do and which one calls. By default every role may do everything.
+//!
 //! A call that is refused returns `Err(Refusal(row))`, with document 01's row, and has changed nothing.
 mod raw;
 
@@ -20,6 +22,46 @@ fn checked(row: u64) -> Result<(), Refusal> {
         Ok(())
     } else {
         Err(Refusal(row))
+    }
+}
+
+/// What a role may do: its place in the role's cells.
+#[derive(Clone, Copy, Debug, PartialEq, Eq)]
+#[repr(usize)]
+pub enum Right {
+    See = 0,
+    Learn = 1,
+    Save = 2,
+    Restore = 3,
+}
+
+/// Every role may do everything.
+pub const EVERY_RIGHT: [u8; 16] = [1; 16];
+
+/// The table of four roles by four rights, and the role that calls: the right r of a role stands in `table[4 * role + r]`, 1 granted and 0 withheld. The fields
+/// are open so that a table of any length and any cells, and any role, can be handed in; the library refuses by 22 what is none.
+#[derive(Clone, Debug, PartialEq, Eq)]
+pub struct Rights {
+    pub table: Vec<u8>,
+    pub role: u64,
+}
+
+impl Default for Rights {
+    fn default() -> Rights {
+        Rights { table: EVERY_RIGHT.to_vec(), role: 0 }
+    }
+}
+
+impl Rights {
+    /// Each role with just these rights, and role 0 to call.
+    pub fn granting(roles: [&[Right]; 4]) -> Rights {
+        let mut table = vec![0; 16];
+        for (role, rights) in roles.iter().enumerate() {
+            for &right in rights.iter() {
+                table[4 * role + right as usize] = 1;
+            }
+        }
+        Rights { table, role: 0 }
     }
 }
 
@@ -133,13 +175,10 @@ macro_rules! lent {
 }
 
 macro_rules! getter {
-    ($doc:literal, $name:ident, $raw:ident) => {
+    ($doc:literal, $name:ident, $place:literal) => {
         #[doc = $doc]
         pub fn $name(&self) -> Result<u64, Refusal> {
-            let mut answer = 0;
-            // SAFETY: the words and the number are ours, and do not overlap.
-            checked(unsafe { raw::$raw(self.memory.head.as_ptr(), self.memory.head.len(), &mut answer) })?;
-            Ok(answer)
+            Ok(self.numbers()?[$place])
         }
     };
 }
@@ -153,7 +192,7 @@ macro_rules! list {
             // SAFETY: every part is a slice that lives through the call; the output is apart from the memory, which is borrowed shared.
             checked(unsafe {
                 raw::$raw(
-                    m.head.as_ptr(), m.head.len(), a, an, b, bn, c, cn, d, dn, m.initial_values.as_ptr(), m.initial_values.len(),
+                    self.rights.table.as_ptr(), self.rights.table.len(), self.rights.role, m.head.as_ptr(), m.head.len(), a, an, b, bn, c, cn, d, dn, m.initial_values.as_ptr(), m.initial_values.len(),
                     m.initial_timestamps.as_ptr(), m.initial_timestamps.len(), output.as_mut_ptr(), output.len(),
                 )
             })
@@ -161,10 +200,11 @@ macro_rules! list {
     };
 }
 
-/// A preprocessor with its memory.
+/// A preprocessor with its memory, and the rights by which it is called.
 #[derive(Clone, Debug)]
 pub struct Preprocessor {
     memory: Memory,
+    rights: Rights,
 }
 
 impl Preprocessor {
@@ -191,14 +231,28 @@ impl Preprocessor {
             )
         };
         match checked(row) {
-            Ok(()) => Ok(Preprocessor { memory }),
+            Ok(()) => Ok(Preprocessor::from_memory(memory)),
             Err(refusal) => Err((refusal, memory)),
         }
     }
 
     /// Memory that some other library, or an older run, has filled: the calls refuse what no `build` made.
     pub fn from_memory(memory: Memory) -> Preprocessor {
-        Preprocessor { memory }
+        Preprocessor { memory, rights: Rights::default() }
+    }
+
+    /// By which table and which role the calls are made from now on.
+    pub fn set_rights(&mut self, rights: Rights) {
+        self.rights = rights;
+    }
+
+    pub fn rights(&self) -> &Rights {
+        &self.rights
+    }
+
+    /// Another role of the same table.
+    pub fn set_role(&mut self, role: u64) {
+        self.rights.role = role;
     }
 
     pub fn memory(&self) -> &Memory {
@@ -216,7 +270,7 @@ impl Preprocessor {
         // SAFETY: every part is a slice of its own that lives through the call.
         checked(unsafe {
             raw::veerycouch_drain(
-                m.head.as_mut_ptr(), m.head.len(), a, an, b, bn, c, cn, d, dn, m.initial_values.as_ptr(), m.initial_values.len(),
+                self.rights.table.as_ptr(), self.rights.table.len(), self.rights.role, m.head.as_mut_ptr(), m.head.len(), a, an, b, bn, c, cn, d, dn, m.initial_values.as_ptr(), m.initial_values.len(),
                 m.initial_timestamps.as_ptr(), m.initial_timestamps.len(),
             )
         })
@@ -236,7 +290,7 @@ impl Preprocessor {
         // SAFETY: every part is a slice of its own that lives through the call.
         checked(unsafe {
             raw::veerycouch_shingled_point(
-                m.head.as_mut_ptr(), m.head.len(), a, an, b, bn, c, cn, d, dn, m.initial_values.as_ptr(), m.initial_values.len(),
+                self.rights.table.as_ptr(), self.rights.table.len(), self.rights.role, m.head.as_mut_ptr(), m.head.len(), a, an, b, bn, c, cn, d, dn, m.initial_values.as_ptr(), m.initial_values.len(),
                 m.initial_timestamps.as_ptr(), m.initial_timestamps.len(), input.as_ptr(), input.len(), timestamp, &mut given, output.as_mut_ptr(),
                 output.len(),
             )
@@ -255,7 +309,7 @@ impl Preprocessor {
         // SAFETY: every part is a slice of its own that lives through the call.
         checked(unsafe {
             raw::veerycouch_post_process(
-                m.head.as_mut_ptr(), m.head.len(), a, an, b, bn, c, cn, d, dn, m.initial_values.as_mut_ptr(), m.initial_values.len(),
+                self.rights.table.as_ptr(), self.rights.table.len(), self.rights.role, m.head.as_mut_ptr(), m.head.len(), a, an, b, bn, c, cn, d, dn, m.initial_values.as_mut_ptr(), m.initial_values.len(),
                 m.initial_timestamps.as_mut_ptr(), m.initial_timestamps.len(), input.as_ptr(), input.len(), timestamp, learn.y.is_some() as u64,
                 y.as_ptr(), y.len(), learn.expected.is_some() as u64, e.as_ptr(), e.len(), learn.grade, learn.relative_index,
                 deviations.as_mut_ptr(), deviations.len(), past.as_mut_ptr(), past.len(), expected.as_mut_ptr(), expected.len(),
@@ -272,7 +326,7 @@ impl Preprocessor {
         // SAFETY: every part is a slice that lives through the call; the output is apart from the rest.
         checked(unsafe {
             raw::veerycouch_transform(
-                m.head.as_ptr(), m.head.len(), a, an, b, bn, c, cn, d, dn, m.initial_values.as_ptr(), m.initial_values.len(),
+                self.rights.table.as_ptr(), self.rights.table.len(), self.rights.role, m.head.as_ptr(), m.head.len(), a, an, b, bn, c, cn, d, dn, m.initial_values.as_ptr(), m.initial_values.len(),
                 m.initial_timestamps.as_ptr(), m.initial_timestamps.len(), input.as_ptr(), input.len(), timestamp, output.as_mut_ptr(), output.len(),
             )
         })
@@ -288,7 +342,7 @@ impl Preprocessor {
         // SAFETY: nine slices, each borrowed alone, apart from the memory, which is borrowed shared.
         checked(unsafe {
             raw::veerycouch_invert_extrapolation(
-                m.head.as_ptr(), m.head.len(), m.statistics.as_ptr(), m.statistics.len(), m.last_shingled_input.as_ptr(), m.last_shingled_input.len(),
+                self.rights.table.as_ptr(), self.rights.table.len(), self.rights.role, m.head.as_ptr(), m.head.len(), m.statistics.as_ptr(), m.statistics.len(), m.last_shingled_input.as_ptr(), m.last_shingled_input.len(),
                 m.previous_timestamps.as_ptr(), m.previous_timestamps.len(), forecast.values.as_mut_ptr(), forecast.values.len(),
                 forecast.upper.as_mut_ptr(), forecast.upper.len(), forecast.lower.as_mut_ptr(), forecast.lower.len(), numbers.values.as_mut_ptr(),
                 numbers.values.len(), numbers.upper.as_mut_ptr(), numbers.upper.len(), numbers.lower.as_mut_ptr(), numbers.lower.len(),
@@ -305,7 +359,7 @@ impl Preprocessor {
         // SAFETY: every part is a slice that lives through the call; the output is apart from the rest.
         checked(unsafe {
             raw::veerycouch_save(
-                m.head.as_ptr(), m.head.len(), a, an, b, bn, c, cn, d, dn, m.initial_values.as_ptr(), m.initial_values.len(),
+                self.rights.table.as_ptr(), self.rights.table.len(), self.rights.role, m.head.as_ptr(), m.head.len(), a, an, b, bn, c, cn, d, dn, m.initial_values.as_ptr(), m.initial_values.len(),
                 m.initial_timestamps.as_ptr(), m.initial_timestamps.len(), &mut length, output.as_mut_ptr(), output.len(),
             )
         })?;
@@ -326,37 +380,61 @@ impl Preprocessor {
     }
 
     /// The same in memory of any length and contents, which a refusal hands back as it was; the line is 0 but for row 19.
-    pub fn restore_in(text: &[u8], codes: &[u16], mut memory: Memory) -> Result<Preprocessor, (Refusal, u64, Memory)> {
+    pub fn restore_in(text: &[u8], codes: &[u16], memory: Memory) -> Result<Preprocessor, (Refusal, u64, Memory)> {
+        Preprocessor::restore_by(Rights::default(), text, codes, memory)
+    }
+
+    /// The same by a role of a table, which calls from then on.
+    pub fn restore_by(rights: Rights, text: &[u8], codes: &[u16], mut memory: Memory) -> Result<Preprocessor, (Refusal, u64, Memory)> {
         let m = &mut memory;
         let mut line = 0;
         let (a, an, b, bn, c, cn, d, dn) = lent!(&mut m);
         // SAFETY: every part is a slice of its own that lives through the call.
         let row = unsafe {
             raw::veerycouch_restore(
-                text.as_ptr(), text.len(), codes.as_ptr(), codes.len(), m.head.as_mut_ptr(), m.head.len(), a, an, b, bn, c, cn, d, dn,
+                rights.table.as_ptr(), rights.table.len(), rights.role, text.as_ptr(), text.len(), codes.as_ptr(), codes.len(), m.head.as_mut_ptr(), m.head.len(), a, an, b, bn, c, cn, d, dn,
                 m.initial_values.as_mut_ptr(), m.initial_values.len(), m.initial_timestamps.as_mut_ptr(), m.initial_timestamps.len(), &mut line,
             )
         };
         match checked(row) {
-            Ok(()) => Ok(Preprocessor { memory }),
+            Ok(()) => Ok(Preprocessor { memory, rights }),
             Err(refusal) => Err((refusal, line, memory)),
         }
     }
 
-    getter!("How many readings were learnt or wait.", values_seen, veerycouch_values_seen);
-    getter!("The number on the panel: how many readings the statistics were fed.", panel, veerycouch_panel);
-    getter!("How many readings were learnt.", internal_timestamp, veerycouch_internal_timestamp);
-    getter!("How many numbers a shingled point has.", get_dimension, veerycouch_get_dimension);
-    getter!("How many channels a reading has.", input_dimensions, veerycouch_input_dimensions);
-    getter!("How many readings a shingled point has.", shingle_size, veerycouch_shingle_size);
-    getter!("How many readings wait until the statistics begin.", start_normalization, veerycouch_start_normalization);
-    getter!("The number of the method.", transformation_method, veerycouch_transformation_method);
-    getter!("The number of the mode.", forest_mode, veerycouch_forest_mode);
+    /// All the numbers of the getters below, in the header's order.
+    pub fn numbers(&self) -> Result<[u64; 10], Refusal> {
+        let mut numbers = [0; 10];
+        self.numbers_into(&mut numbers)?;
+        Ok(numbers)
+    }
+
+    /// The same into the first ten numbers of the output.
+    pub fn numbers_into(&self, output: &mut [u64]) -> Result<(), Refusal> {
+        let m = &self.memory;
+        // SAFETY: the words are ours, and the output is apart from them.
+        checked(unsafe {
+            raw::veerycouch_numbers(self.rights.table.as_ptr(), self.rights.table.len(), self.rights.role, m.head.as_ptr(), m.head.len(), output.as_mut_ptr(), output.len())
+        })
+    }
+
+    getter!("How many readings were learnt or wait.", values_seen, 0);
+    getter!("How many readings were learnt.", internal_timestamp, 1);
+    getter!("How many channels a reading has.", input_dimensions, 3);
+    getter!("How many readings a shingled point has.", shingle_size, 4);
+    getter!("How many numbers a shingled point has.", get_dimension, 5);
+    getter!("How many readings wait until the statistics begin.", start_normalization, 6);
+    getter!("The number of the method.", transformation_method, 7);
+    getter!("The number of the mode.", forest_mode, 8);
+    getter!("The number on the panel: how many readings the statistics were fed.", panel, 9);
 
     /// The codes of the channels, one for each, into the first numbers of the output.
     pub fn codes_into(&self, output: &mut [u16]) -> Result<(), Refusal> {
+        let m = &self.memory;
         // SAFETY: the words are ours, and the output is apart from them.
-        checked(unsafe { raw::veerycouch_codes(self.memory.head.as_ptr(), self.memory.head.len(), output.as_mut_ptr(), output.len()) })
+        checked(unsafe {
+            raw::veerycouch_codes(self.rights.table.as_ptr(), self.rights.table.len(), self.rights.role, m.head.as_ptr(), m.head.len(), output.as_mut_ptr(), output.len())
+        })
     }
 
     /// The codes of the channels.
@@ -368,10 +446,7 @@ impl Preprocessor {
 
     /// Whether the shingle is full.
     pub fn is_ready(&self) -> Result<bool, Refusal> {
-        let mut answer = 0;
-        // SAFETY: the words and the number are ours, and do not overlap.
-        checked(unsafe { raw::veerycouch_is_ready(self.memory.head.as_ptr(), self.memory.head.len(), &mut answer) })?;
-        Ok(answer != 0)
+        Ok(self.numbers()?[2] != 0)
     }
 }
 

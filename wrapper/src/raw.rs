@@ -11,18 +11,18 @@ extern "C" {
         initial_values: *const f32, initial_values_len: usize, initial_timestamps: *const u64, initial_timestamps_len: usize,
     ) -> u64;
     pub fn veerycouch_drain(
-        head: *mut u64, head_len: usize, statistics: *mut f64, statistics_len: usize, last_shingled_input: *mut f32, last_shingled_input_len: usize,
+        table: *const u8, table_len: usize, role: u64, head: *mut u64, head_len: usize, statistics: *mut f64, statistics_len: usize, last_shingled_input: *mut f32, last_shingled_input_len: usize,
         last_shingled_point: *mut f32, last_shingled_point_len: usize, previous_timestamps: *mut u64, previous_timestamps_len: usize,
         initial_values: *const f32, initial_values_len: usize, initial_timestamps: *const u64, initial_timestamps_len: usize,
     ) -> u64;
     pub fn veerycouch_shingled_point(
-        head: *mut u64, head_len: usize, statistics: *mut f64, statistics_len: usize, last_shingled_input: *mut f32, last_shingled_input_len: usize,
+        table: *const u8, table_len: usize, role: u64, head: *mut u64, head_len: usize, statistics: *mut f64, statistics_len: usize, last_shingled_input: *mut f32, last_shingled_input_len: usize,
         last_shingled_point: *mut f32, last_shingled_point_len: usize, previous_timestamps: *mut u64, previous_timestamps_len: usize,
         initial_values: *const f32, initial_values_len: usize, initial_timestamps: *const u64, initial_timestamps_len: usize,
         input: *const f32, input_len: usize, timestamp: u64, given: *mut u64, output: *mut f32, output_len: usize,
     ) -> u64;
     pub fn veerycouch_post_process(
-        head: *mut u64, head_len: usize, statistics: *mut f64, statistics_len: usize, last_shingled_input: *mut f32, last_shingled_input_len: usize,
+        table: *const u8, table_len: usize, role: u64, head: *mut u64, head_len: usize, statistics: *mut f64, statistics_len: usize, last_shingled_input: *mut f32, last_shingled_input_len: usize,
         last_shingled_point: *mut f32, last_shingled_point_len: usize, previous_timestamps: *mut u64, previous_timestamps_len: usize,
         initial_values: *mut f32, initial_values_len: usize, initial_timestamps: *mut u64, initial_timestamps_len: usize,
         input: *const f32, input_len: usize, timestamp: u64, has_y: u64, y: *const f32, y_len: usize, expects: u64, expected: *const f32, expected_len: usize,
@@ -30,59 +30,50 @@ extern "C" {
         expected_out: *mut f32, expected_out_len: usize, written: *mut u64, has_anomaly: *mut u64, past_timestamp: *mut u64, likelihood: *mut f32,
     ) -> u64;
     pub fn veerycouch_transform(
-        head: *const u64, head_len: usize, statistics: *const f64, statistics_len: usize, last_shingled_input: *const f32, last_shingled_input_len: usize,
+        table: *const u8, table_len: usize, role: u64, head: *const u64, head_len: usize, statistics: *const f64, statistics_len: usize, last_shingled_input: *const f32, last_shingled_input_len: usize,
         last_shingled_point: *const f32, last_shingled_point_len: usize, previous_timestamps: *const u64, previous_timestamps_len: usize,
         initial_values: *const f32, initial_values_len: usize, initial_timestamps: *const u64, initial_timestamps_len: usize,
         input: *const f32, input_len: usize, timestamp: u64, output: *mut f32, output_len: usize,
     ) -> u64;
     pub fn veerycouch_scale(
-        head: *const u64, head_len: usize, statistics: *const f64, statistics_len: usize, last_shingled_input: *const f32, last_shingled_input_len: usize,
+        table: *const u8, table_len: usize, role: u64, head: *const u64, head_len: usize, statistics: *const f64, statistics_len: usize, last_shingled_input: *const f32, last_shingled_input_len: usize,
         last_shingled_point: *const f32, last_shingled_point_len: usize, previous_timestamps: *const u64, previous_timestamps_len: usize,
         initial_values: *const f32, initial_values_len: usize, initial_timestamps: *const u64, initial_timestamps_len: usize,
         output: *mut f32, output_len: usize,
     ) -> u64;
     pub fn veerycouch_shift(
-        head: *const u64, head_len: usize, statistics: *const f64, statistics_len: usize, last_shingled_input: *const f32, last_shingled_input_len: usize,
+        table: *const u8, table_len: usize, role: u64, head: *const u64, head_len: usize, statistics: *const f64, statistics_len: usize, last_shingled_input: *const f32, last_shingled_input_len: usize,
         last_shingled_point: *const f32, last_shingled_point_len: usize, previous_timestamps: *const u64, previous_timestamps_len: usize,
         initial_values: *const f32, initial_values_len: usize, initial_timestamps: *const u64, initial_timestamps_len: usize,
         output: *mut f32, output_len: usize,
     ) -> u64;
     pub fn veerycouch_difference_deviations(
-        head: *const u64, head_len: usize, statistics: *const f64, statistics_len: usize, last_shingled_input: *const f32, last_shingled_input_len: usize,
+        table: *const u8, table_len: usize, role: u64, head: *const u64, head_len: usize, statistics: *const f64, statistics_len: usize, last_shingled_input: *const f32, last_shingled_input_len: usize,
         last_shingled_point: *const f32, last_shingled_point_len: usize, previous_timestamps: *const u64, previous_timestamps_len: usize,
         initial_values: *const f32, initial_values_len: usize, initial_timestamps: *const u64, initial_timestamps_len: usize,
         output: *mut f32, output_len: usize,
     ) -> u64;
     pub fn veerycouch_invert_extrapolation(
-        head: *const u64, head_len: usize, statistics: *const f64, statistics_len: usize, last_shingled_input: *const f32, last_shingled_input_len: usize,
+        table: *const u8, table_len: usize, role: u64, head: *const u64, head_len: usize, statistics: *const f64, statistics_len: usize, last_shingled_input: *const f32, last_shingled_input_len: usize,
         previous_timestamps: *const u64, previous_timestamps_len: usize, values: *mut f32, values_len: usize, upper: *mut f32, upper_len: usize,
         lower: *mut f32, lower_len: usize, values_out: *mut f32, values_out_len: usize, upper_out: *mut f32, upper_out_len: usize,
         lower_out: *mut f32, lower_out_len: usize, times_out: *mut f64, times_out_len: usize, times_upper_out: *mut f64, times_upper_out_len: usize,
         times_lower_out: *mut f64, times_lower_out_len: usize,
     ) -> u64;
     pub fn veerycouch_save(
-        head: *const u64, head_len: usize, statistics: *const f64, statistics_len: usize, last_shingled_input: *const f32, last_shingled_input_len: usize,
+        table: *const u8, table_len: usize, role: u64, head: *const u64, head_len: usize, statistics: *const f64, statistics_len: usize, last_shingled_input: *const f32, last_shingled_input_len: usize,
         last_shingled_point: *const f32, last_shingled_point_len: usize, previous_timestamps: *const u64, previous_timestamps_len: usize,
         initial_values: *const f32, initial_values_len: usize, initial_timestamps: *const u64, initial_timestamps_len: usize,
         length: *mut u64, output: *mut u8, output_len: usize,
     ) -> u64;
     pub fn veerycouch_restore(
-        text: *const u8, text_len: usize, codes: *const u16, codes_len: usize, head: *mut u64, head_len: usize, statistics: *mut f64, statistics_len: usize,
+        table: *const u8, table_len: usize, role: u64, text: *const u8, text_len: usize, codes: *const u16, codes_len: usize, head: *mut u64, head_len: usize, statistics: *mut f64, statistics_len: usize,
         last_shingled_input: *mut f32, last_shingled_input_len: usize, last_shingled_point: *mut f32, last_shingled_point_len: usize,
         previous_timestamps: *mut u64, previous_timestamps_len: usize, initial_values: *mut f32, initial_values_len: usize,
         initial_timestamps: *mut u64, initial_timestamps_len: usize, line: *mut u64,
     ) -> u64;
-    pub fn veerycouch_values_seen(head: *const u64, head_len: usize, answer: *mut u64) -> u64;
-    pub fn veerycouch_panel(head: *const u64, head_len: usize, answer: *mut u64) -> u64;
-    pub fn veerycouch_internal_timestamp(head: *const u64, head_len: usize, answer: *mut u64) -> u64;
-    pub fn veerycouch_is_ready(head: *const u64, head_len: usize, answer: *mut u64) -> u64;
-    pub fn veerycouch_get_dimension(head: *const u64, head_len: usize, answer: *mut u64) -> u64;
-    pub fn veerycouch_input_dimensions(head: *const u64, head_len: usize, answer: *mut u64) -> u64;
-    pub fn veerycouch_shingle_size(head: *const u64, head_len: usize, answer: *mut u64) -> u64;
-    pub fn veerycouch_start_normalization(head: *const u64, head_len: usize, answer: *mut u64) -> u64;
-    pub fn veerycouch_transformation_method(head: *const u64, head_len: usize, answer: *mut u64) -> u64;
-    pub fn veerycouch_forest_mode(head: *const u64, head_len: usize, answer: *mut u64) -> u64;
-    pub fn veerycouch_codes(head: *const u64, head_len: usize, output: *mut u16, output_len: usize) -> u64;
+    pub fn veerycouch_numbers(table: *const u8, table_len: usize, role: u64, head: *const u64, head_len: usize, output: *mut u64, output_len: usize) -> u64;
+    pub fn veerycouch_codes(table: *const u8, table_len: usize, role: u64, head: *const u64, head_len: usize, output: *mut u16, output_len: usize) -> u64;
     pub fn veerycouch_impute(
         method: u64, d: u64, cells: *mut f32, cells_len: usize, marks: *const u8, marks_len: usize, fixed: *const f32, fixed_len: usize,
     ) -> u64;

@@ -1,7 +1,7 @@
 //! The wrapper's own tests: samples of document 01, refusals, the head's words, and memory past the need.
 use veerycouch::{
     align, align_into, impute, impute_by_number, sqrt, sqrt_digits, strandings, to_f32, Aligned, ForestMode, ImputationMethod, Learn, Memory, Preprocessor, Ranges, Readings, Refusal,
-    Settings, Statistic, Strandings, TransformMethod, HEAD_WORDS,
+    Right, Rights, Settings, Statistic, Strandings, TransformMethod, EVERY_RIGHT, HEAD_WORDS,
 };
 
 const FUEL_TRIM: u16 = 6;
@@ -276,6 +276,142 @@ fn turned_back() {
     .unwrap();
     assert_eq!((a[2], x[1]), (9.0, 9.0));
     assert!(a[0] != 9.0 && x[0] != 9.0);
+}
+
+/// What every call of a preprocessor answers by these rights: the row of each, or 0.
+fn rows(p: &Preprocessor, rights: &Rights, text: &[u8], codes: &[u16]) -> Vec<(&'static str, u64)> {
+    let mut p = p.clone();
+    p.set_rights(rights.clone());
+    let before = p.memory().clone();
+    let row = |r: Result<(), Refusal>| r.err().map_or(0, |refusal| refusal.0);
+    let mut out = [0.0; 2];
+    let none = || Ranges { values: &mut [], upper: &mut [], lower: &mut [] };
+    let times = || Ranges { values: &mut [], upper: &mut [], lower: &mut [] };
+    let (mut a, mut b, mut c) = ([1.0], [1.0], [1.0]);
+    let mut told = vec![
+        ("transform", row(p.transform(&[1.0], 9, &mut out))),
+        ("scale", row(p.scale(&mut out))),
+        ("shift", row(p.shift(&mut out))),
+        ("difference_deviations", row(p.difference_deviations(&mut out))),
+        ("invert_extrapolation", row(p.invert_extrapolation(Ranges { values: &mut a, upper: &mut b, lower: &mut c }, none(), times()))),
+        ("numbers", row(p.numbers().map(|_| ()))),
+        ("codes", row(p.codes_into(&mut [0]))),
+        ("save", row(p.save().map(|_| ()))),
+    ];
+    let taken = Preprocessor::restore_by(rights.clone(), text, codes, Memory::sized(1, 1, 1));
+    told.push(("restore", taken.err().map_or(0, |(refusal, line, _)| refusal.0 + 100 * line)));
+    assert_eq!(format!("{before:?}"), format!("{:?}", p.memory()));
+    let changing: [(&str, fn(&mut Preprocessor) -> Result<(), Refusal>); 3] = [
+        ("shingled_point", |p| p.shingled_point_into(&[1.0], 9, &mut [0.0]).map(|_| ())),
+        ("post_process", |p| p.post_process(&[1.0], 9, Learn::default(), &mut [0.0], &mut [], &mut []).map(|_| ())),
+        ("drain", |p| p.drain()),
+    ];
+    for (name, call) in changing {
+        let mut q = p.clone();
+        let n = row(call(&mut q));
+        assert!(n != 22 || format!("{before:?}") == format!("{:?}", q.memory()), "{name} changed something");
+        told.push((name, n));
+    }
+    told
+}
+
+/// Each cell of the table decides its calls, and no other; and point needs two.
+#[test]
+fn every_cell() {
+    let s = settings(TransformMethod::Normalize, 1, 1, 1);
+    let mut p = Preprocessor::build(&s).unwrap();
+    learn(&mut p, 4.0, 1);
+    let text = p.save().unwrap();
+    assert!(rows(&p, &Rights::default(), &text, &s.codes).iter().all(|&(_, row)| row == 0));
+    let needs = |call: &str| match call {
+        "save" => vec![Right::Save],
+        "restore" => vec![Right::Restore],
+        "post_process" | "drain" => vec![Right::Learn],
+        "shingled_point" => vec![Right::See, Right::Learn],
+        _ => vec![Right::See],
+    };
+    for role in 0..4 {
+        for right in [Right::See, Right::Learn, Right::Save, Right::Restore] {
+            let at = 4 * role as usize + right as usize;
+            let (mut without, mut alone) = (Rights { table: EVERY_RIGHT.to_vec(), role }, Rights { table: vec![0; 16], role });
+            without.table[at] = 0;
+            alone.table[at] = 1;
+            for (call, row) in rows(&p, &without, &text, &s.codes) {
+                assert_eq!(row, if needs(call).contains(&right) { 22 } else { 0 }, "{call} without {right:?} of role {role}");
+            }
+            for (call, row) in rows(&p, &alone, &text, &s.codes) {
+                assert_eq!(row, if needs(call) == [right] { 0 } else { 22 }, "{call} with {right:?} of role {role} alone");
+            }
+            for other in (0..4).filter(|&other| other != role) {
+                alone.role = other;
+                assert!(rows(&p, &alone, &text, &s.codes).iter().all(|&(_, row)| row == 22));
+            }
+        }
+    }
+}
+
+/// What is no table, or no role, is 22 for every call, before any other row: of a damaged head, of too few words, of a text that is none.
+#[test]
+fn no_table() {
+    let s = settings(TransformMethod::Normalize, 1, 1, 1);
+    let p = Preprocessor::build(&s).unwrap();
+    let mut damaged = p.clone().into_memory();
+    damaged.head[2] = 0;
+    let mut short = p.clone().into_memory();
+    short.head.truncate(3);
+    let mut tables: Vec<Rights> = [vec![], vec![1; 15], vec![1; 17]].map(|table| Rights { table, role: 0 }).to_vec();
+    for cell in 0..16 {
+        for bad in [2, 255] {
+            let mut table = EVERY_RIGHT.to_vec();
+            table[cell] = bad;
+            tables.push(Rights { table, role: 0 });
+        }
+    }
+    for role in [4, 1 << 32, 1 << 62, u64::MAX] {
+        tables.push(Rights { table: EVERY_RIGHT.to_vec(), role });
+    }
+    for rights in &tables {
+        for p in [p.clone(), Preprocessor::from_memory(damaged.clone()), Preprocessor::from_memory(short.clone())] {
+            assert!(rows(&p, rights, b"no text", &s.codes).iter().all(|&(_, row)| row == 22), "{rights:?}");
+        }
+    }
+    // with every right it is the head that refuses
+    let damaged = Preprocessor::from_memory(damaged);
+    assert!(rows(&damaged, &Rights::default(), b"no text", &s.codes).iter().all(|&(call, row)| row == if call == "restore" { 119 } else { 2 }));
+}
+
+/// One preprocessor, three people: one looks, one learns, one puts away and takes up.
+#[test]
+fn shared() {
+    let rights = Rights::granting([&[], &[Right::See], &[Right::See, Right::Learn], &[Right::Save, Right::Restore]]);
+    let s = settings(TransformMethod::None, 1, 1, 0);
+    let mut p = Preprocessor::build(&s).unwrap();
+    p.set_rights(rights.clone());
+    assert_eq!(p.shingled_point(&[3.0], 1), Err(Refusal(22)));
+    p.set_role(1);
+    assert_eq!((p.values_seen(), p.shingled_point(&[3.0], 1), p.drain()), (Ok(0), Err(Refusal(22)), Err(Refusal(22))));
+    p.set_role(2);
+    assert_eq!(p.shingled_point(&[3.0], 1), Ok(Some(vec![3.0])));
+    p.post_process(&[3.0], 1, Learn { y: Some(&[3.0]), ..Learn::default() }, &mut [0.0], &mut [], &mut []).unwrap();
+    assert_eq!((p.values_seen(), p.save()), (Ok(1), Err(Refusal(22))));
+    p.set_role(3);
+    let text = p.save().unwrap();
+    assert_eq!(p.values_seen(), Err(Refusal(22)));
+    let mut q = Preprocessor::restore_by(p.rights().clone(), &text, &s.codes, Memory::sized(1, 1, 0)).unwrap();
+    assert_eq!((q.save(), q.rights()), (Ok(text.clone()), p.rights()));
+    q.set_role(2);
+    assert_eq!(q.values_seen(), Ok(1));
+    let (refusal, line, _) = Preprocessor::restore_by(Rights { role: 2, ..rights }, &text, &s.codes, Memory::sized(1, 1, 0)).unwrap_err();
+    assert_eq!((refusal, line), (Refusal(22), 0));
+}
+
+/// The ten numbers at once, in just their room and in more; in less, nothing is written.
+#[test]
+fn ten_numbers() {
+    let p = Preprocessor::build(&settings(TransformMethod::NormalizeDifference, 2, 4, 10)).unwrap();
+    let mut output = [7; 11];
+    assert_eq!((p.numbers_into(&mut output[..9]), output), (Err(Refusal(20)), [7; 11]));
+    assert_eq!((p.numbers_into(&mut output), output), (Ok(()), [0, 0, 0, 2, 4, 8, 10, 5, 0, 0, 7]));
 }
 
 #[test]

@@ -1,12 +1,13 @@
-// What each call line does and prints, on a preprocessor and the last point.
+// What each call line does and prints, on a preprocessor and the last point. The bench runs as role 0 of a table with every right.
+use access::calls::drain;
+use access::calls::post_process;
+use access::calls::shingled_point;
+use access::rights::every_right;
+use access::snapshots::save;
 use snapshot_save::line::singles_line;
 use snapshot_save::line::whole_line;
-use snapshot_save::save::save;
 use trcf::head::Preprocessor;
 use trcf::head::get_dimension;
-use trcf_learn::post_process::post_process;
-use trcf_point::drain::drain;
-use trcf_point::point::shingled_point;
 ghost use mathlib.Core.Path.{_≡_};
 ghost use mathlib.Core.List.{List};
 ghost use mathlib.Core.Bool.{cond};
@@ -98,7 +99,10 @@ pub(crate) fn call_point(
     ensures { λ r. ⌜ told (r .head) (r .given) (lent (now (statistics .exit)) (now («last_shingled_input» .exit)) (now («last_shingled_point» .exit)) (now («previous_timestamps» .exit)) (now («initial_values» .entry)) (now («initial_timestamps» .entry))) (now (point .exit)) (output (r .length) (now (out .exit)))
         ≡ tells (pointTurn head given (lent (now (statistics .entry)) (now («last_shingled_input» .entry)) (now («last_shingled_point» .entry)) (now («previous_timestamps» .entry)) (now («initial_values» .entry)) (now («initial_timestamps» .entry))) (now (point .entry)) (now (input .entry)) timestamp) (now (out .entry)) ⌝ }
 {
+    let table = every_right();
     let r = shingled_point(
+        &table,
+        0,
         head,
         statistics,
         last_shingled_input,
@@ -156,7 +160,10 @@ pub(crate) fn call_learn(
     let mut deviations = [0.0f32; 17];
     let mut past = [0.0f32; 1];
     let mut expected = [0.0f32; 1];
+    let table = every_right();
     let r = post_process(
+        &table,
+        0,
         head,
         statistics,
         last_shingled_input,
@@ -201,7 +208,10 @@ pub(crate) fn call_drain(
     ensures { λ r. ⌜ ((y : List Float) → told (r .head) (r .given) (lent (now (statistics .exit)) (now («last_shingled_input» .exit)) (now («last_shingled_point» .exit)) (now («previous_timestamps» .exit)) (now («initial_values» .entry)) (now («initial_timestamps» .entry))) y (output (r .length) (now (out .exit)))
         ≡ tells (drainTurn head given (lent (now (statistics .entry)) (now («last_shingled_input» .entry)) (now («last_shingled_point» .entry)) (now («previous_timestamps» .entry)) (now («initial_values» .entry)) (now («initial_timestamps» .entry))) y) (now (out .entry))) ⌝ }
 {
+    let table = every_right();
     let r = drain(
+        &table,
+        0,
         head,
         statistics,
         last_shingled_input,
@@ -233,7 +243,10 @@ pub(crate) fn call_save(
     requires { ⌜ 65536 ≤ length (now out) ⌝ }
     ensures { λ r. ⌜ output r (now (out .exit)) ≡ savePrints head (lent (now (statistics .entry)) (now («last_shingled_input» .entry)) (now («last_shingled_point» .entry)) (now («previous_timestamps» .entry)) (now («initial_values» .entry)) (now («initial_timestamps» .entry))) (now (out .entry)) ⌝ }
 {
+    let table = every_right();
     let r = save(
+        &table,
+        0,
         head,
         statistics,
         last_shingled_input,

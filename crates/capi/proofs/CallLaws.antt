@@ -1,8 +1,8 @@
 -- The calls, from what trcf's and snapshot's promise. Assumes nothing.
 use Prim.Native.Nat.{ℕ, _≤_, _<_}
-use mathlib.Core.Bool.{Bool, cond}
-use mathlib.Core.List.{List}
-use mathlib.Core.Path.{_≡_, sym, ap, _∙_}
+use mathlib.Core.Bool.{Bool, true, false, cond}
+use mathlib.Core.List.{List, [], _∷_}
+use mathlib.Core.Path.{_≡_, refl, sym, ap, _∙_}
 use native.Mathlib.Omega.{arith}
 use lib.ListN.{length}
 use lib.Ieee.{Float}
@@ -11,15 +11,20 @@ use Rattle.common.specs.Lent.{over}
 use Rattle.trcf.specs.Settings.{Settings, settingsRow}
 use Rattle.trcf.specs.Calls.{Call, Learn, Forecast}
 use Rattle.trcf.specs.Preprocessor.{accepted}
-use Rattle.trcf.specs.View.{Lent, settingsOf, Outcome, outcome, orElse, buildOf, drainOf, pointed, pointAfter, learnOutcome, learnAfter, Written, written, writeOf}
+use Rattle.trcf.specs.View.{Lent, settingsOf, Outcome, outcome, orElse, buildOf, drainOf, pointed, pointAfter, learnOutcome, learnNothing, learnAfter, Written, written, writeOf}
 use Rattle.trcf.specs.Extrapolation.{Extrapolation, extrapolation, extrapolationOf}
 use Rattle.trcf.specs.declared.types.TransformMethod.{TransformMethod}
 use Rattle.trcf.specs.declared.types.ForestMode.{ForestMode}
 use Rattle.trcf.specs.declared.head.Preprocessor.{Preprocessor}
+use Rattle.trcf.specs.declared.head.StatusAnswer.{StatusAnswer}
 use Rattle.trcf.proofs.OutcomeLaws.{accepted-not, orElse-is}
 use Rattle.snapshot.specs.Save.{saveOf, outcome as saved}
 use Rattle.capi.specs.Head.{headOf, wordsOf, countsOver, kindRow, shortRow, wordsRow, Read}
-use Rattle.capi.specs.Calls.{onHead, flag, CodesGot, codesGot, codesTold, codesAt, Called, called, drainTold, drainAt, buildTold, buildAt, pointCalled, pointTold, pointAt, Anomaly, anomaly, learnCalled, learnTold, learnAt, writeAt, extrapolationAt, saveTold, saveAt, got, getAt}
+use Rattle.access.specs.declared.rights.Right.{Right}
+use Rattle.access.specs.declared.rights.Right.the-variants.{SEE, LEARN, SAVE}
+use Rattle.access.specs.Access.{needs, granted, guarded}
+use Rattle.access.specs.Entries.{pointBy, learnBy, drainBy, writeBy, extrapolationBy, saveBy, numbersOf, numbersBy, untold}
+use Rattle.capi.specs.Calls.{openRow, onHead, flag, Called, called, drainTold, drainAt, buildTold, buildAt, pointCalled, pointTold, pointAt, Anomaly, anomaly, learnCalled, learnTold, learnAt, writeAt, extrapolationAt, saveTold, saveAt, ListGot, listGot, listTold, numbersTold, numbersAt, codesAt}
 
 module _ {A : Type 0} where
   -- an answer where a call was not refused
@@ -30,119 +35,154 @@ module _ {A : Type 0} where
   given row a b e = ap (λ (r : ℕ). accepted r a b) (sym e)
 
   -- a call on the words of a head
-  pub refused : (w : List ℕ) (a : A) (f : ℕ → A) (n : ℕ) → n ≡ wordsRow w → (n ≡ 0 → ⊥) → f n ≡ onHead w a f
+  pub refused : (b : Bool) (w : List ℕ) (a : A) (f : ℕ → A) (n : ℕ) → n ≡ openRow b w → (n ≡ 0 → ⊥) → f n ≡ onHead b w a f
   unfolding onHead
-  refused w a f n e z = ap f e ∙ sym (accepted-not (wordsRow w) a (f (wordsRow w)) (λ q. z (e ∙ q)))
+  refused b w a f n e z = ap f e ∙ sym (accepted-not (openRow b w) a (f (openRow b w)) (λ q. z (e ∙ q)))
 
-  pub done : (w : List ℕ) (a : A) (f : ℕ → A) (n : ℕ) → n ≡ wordsRow w → n ≡ 0 → a ≡ onHead w a f
+  pub done : (b : Bool) (w : List ℕ) (a : A) (f : ℕ → A) (n : ℕ) → n ≡ openRow b w → n ≡ 0 → a ≡ onHead b w a f
   unfolding onHead
-  done w a f n e z = ap (λ (r : ℕ). accepted r a (f r)) (sym z ∙ e)
+  done b w a f n e z = ap (λ (r : ℕ). accepted r a (f r)) (sym z ∙ e)
 
--- each call is refused by the row of its words, n, or works on the head that was read
-module _ (w : List ℕ) {n : ℕ} (e : n ≡ wordsRow w) where
-  pub drain-refused : (l : Lent) → (n ≡ 0 → ⊥) → called n w l ≡ drainAt w l
+-- what the row 0 says of the role
+allowed : (b : Bool) (w : List ℕ) → openRow b w ≡ 0 → b ≡ true
+unfolding openRow
+allowed true w e = refl
+allowed false w e = absurd (omega (arith, e))
+
+module _ {A : Type 0} where
+  -- a guarded entry whose row of the words is 0 is the entry below
+  below : (t : List ℕ) (role : ℕ) (rs : List Right) (w : List ℕ) (n : ℕ) → n ≡ openRow (granted t role rs) w → n ≡ 0 → (x y : A) → guarded t role rs x y ≡ x
+  below t role rs w n e z x y = ap (λ (b : Bool). cond b x y) (allowed (granted t role rs) w (sym e ∙ z))
+
+-- the row of the words as the code asks for it: by what the table's test said
+pub opened : {n : ℕ} {b c : Bool} (w : List ℕ) → b ≡ c → n ≡ openRow b w → n ≡ openRow c w
+opened w m e = e ∙ ap (λ (b : Bool). openRow b w) m
+
+-- each call is refused by its row, n, or works on the head that was read
+module _ (t : List ℕ) (role : ℕ) (w : List ℕ) {n : ℕ} where
+  pub drain-refused : n ≡ openRow (granted t role (LEARN ∷ [])) w → (l : Lent) → (n ≡ 0 → ⊥) → called n w l ≡ drainAt t role w l
   unfolding drainAt
-  drain-refused l z = refused w (drainTold w (drainOf (headOf w) l)) (λ (r : ℕ). called r w l) n e z
+  drain-refused e l z = refused (granted t role (LEARN ∷ [])) w (drainTold w (drainOf (headOf w) l)) (λ (r : ℕ). called r w l) n e z
 
-  pub point-refused : (l : Lent) (x : List Float) (t g : ℕ) (out : List Float) → (n ≡ 0 → ⊥) → pointCalled n w l g out ≡ pointAt w l x t g out
+  pub point-refused : n ≡ openRow (granted t role (SEE ∷ LEARN ∷ [])) w → (l : Lent) (x : List Float) (ts g : ℕ) (out : List Float) → (n ≡ 0 → ⊥)
+      → pointCalled n w l g out ≡ pointAt t role w l x ts g out
   unfolding pointAt
-  point-refused l x t g out z = refused w (pointTold w g (pointAfter (headOf w) l x t out)) (λ (r : ℕ). pointCalled r w l g out) n e z
+  point-refused e l x ts g out z =
+      refused (granted t role (SEE ∷ LEARN ∷ [])) w (pointTold w g (pointAfter (headOf w) l x ts out)) (λ (r : ℕ). pointCalled r w l g out) n e z
 
-  pub learn-refused : (l : Lent) (a : Anomaly) (c : Learn) → (n ≡ 0 → ⊥)
-      → learnCalled n w l a (c .deviationsOut) (c .pastOut) (c .expectedOut) ≡ learnAt w l a c
+  pub learn-refused : n ≡ openRow (granted t role (LEARN ∷ [])) w → (l : Lent) (a : Anomaly) (c : Learn) → (n ≡ 0 → ⊥)
+      → learnCalled n w l a (c .deviationsOut) (c .pastOut) (c .expectedOut) ≡ learnAt t role w l a c
   unfolding learnAt
-  learn-refused l a c z =
-      refused w (learnTold w a (learnAfter (headOf w) l c)) (λ (r : ℕ). learnCalled r w l a (c .deviationsOut) (c .pastOut) (c .expectedOut)) n e z
+  learn-refused e l a c z =
+      refused (granted t role (LEARN ∷ [])) w (learnTold w a (learnAfter (headOf w) l c)) (λ (r : ℕ). learnCalled r w l a (c .deviationsOut) (c .pastOut) (c .expectedOut)) n e z
 
-  pub write-refused : (l : Lent) (c : Call) (out : List Float) → (n ≡ 0 → ⊥) → written n out ≡ writeAt w l c out
+  pub write-refused : (l : Lent) (c : Call) (out : List Float) → n ≡ openRow (granted t role (needs c)) w → (n ≡ 0 → ⊥) → written n out ≡ writeAt t role w l c out
   unfolding writeAt
-  write-refused l c out z = refused w (writeOf (headOf w) l c out) (λ (r : ℕ). written r out) n e z
+  write-refused l c out e z = refused (granted t role (needs c)) w (writeOf (headOf w) l c out) (λ (r : ℕ). written r out) n e z
 
-  pub extrapolation-refused : (st x : List Float) (ts : List ℕ) (c : Forecast) → (n ≡ 0 → ⊥) → extrapolation n c ≡ extrapolationAt w st x ts c
+  pub extrapolation-refused : n ≡ openRow (granted t role (SEE ∷ [])) w → (st x : List Float) (ts : List ℕ) (c : Forecast) → (n ≡ 0 → ⊥)
+      → extrapolation n c ≡ extrapolationAt t role w st x ts c
   unfolding extrapolationAt
-  extrapolation-refused st x ts c z = refused w (extrapolationOf (headOf w) st x ts c) (λ (r : ℕ). extrapolation r c) n e z
+  extrapolation-refused e st x ts c z =
+      refused (granted t role (SEE ∷ [])) w (extrapolationOf (headOf w) st x ts c) (λ (r : ℕ). extrapolation r c) n e z
 
-  pub save-refused : (l : Lent) (m : ℕ) (out : List ℕ) → (n ≡ 0 → ⊥) → saved n m out ≡ saveAt w l m out
+  pub save-refused : n ≡ openRow (granted t role (SAVE ∷ [])) w → (l : Lent) (m : ℕ) (out : List ℕ) → (n ≡ 0 → ⊥) → saved n m out ≡ saveAt t role w l m out
   unfolding saveAt
-  save-refused l m out z = refused w (saveTold m (saveOf (headOf w) l out)) (λ (r : ℕ). saved r m out) n e z
+  save-refused e l m out z = refused (granted t role (SAVE ∷ [])) w (saveTold m (saveOf (headOf w) l out)) (λ (r : ℕ). saved r m out) n e z
 
-  pub get-refused : (v : ℕ) (f : Preprocessor → ℕ) → (n ≡ 0 → ⊥) → got n v ≡ getAt w v f
-  unfolding getAt
-  get-refused v f z = refused w (got 0 (f (headOf w))) (λ (r : ℕ). got r v) n e z
+  pub numbers-refused : n ≡ openRow (granted t role (SEE ∷ [])) w → (out : List ℕ) → (n ≡ 0 → ⊥) → listGot n out ≡ numbersAt t role w out
+  unfolding numbersAt
+  numbers-refused e out z = refused (granted t role (SEE ∷ [])) w (listTold (numbersTold (numbersOf (headOf w))) out) (λ (r : ℕ). listGot r out) n e z
 
-  pub codes-refused : (out : List ℕ) → (n ≡ 0 → ⊥) → codesGot n out ≡ codesAt w out
+  pub codes-refused : n ≡ openRow (granted t role (SEE ∷ [])) w → (out : List ℕ) → (n ≡ 0 → ⊥) → listGot n out ≡ codesAt t role w out
   unfolding codesAt
-  codes-refused out z = refused w (codesTold (settingsOf (headOf w) .codes) out) (λ (r : ℕ). codesGot r out) n e z
+  codes-refused e out z = refused (granted t role (SEE ∷ [])) w (listTold (settingsOf (headOf w) .codes) out) (λ (r : ℕ). listGot r out) n e z
 
   module _ {h : Preprocessor} (z : n ≡ 0) (read : n ≡ 0 → Read w h) where
-    pub drain-done : (l : Lent) {row : ℕ} {next : Preprocessor} {l' : Lent} {w' : List ℕ}
-        → outcome row next l' ≡ drainOf h l → w' ≡ accepted row (countsOver w next) w → called row w' l' ≡ drainAt w l
+    pub drain-done : n ≡ openRow (granted t role (LEARN ∷ [])) w → (l : Lent) {row : ℕ} {next : Preprocessor} {l' : Lent} {w' : List ℕ}
+        → outcome row next l' ≡ drainBy t role h l → w' ≡ accepted row (countsOver w next) w → called row w' l' ≡ drainAt t role w l
     unfolding drainAt
-    drain-done l {row} {next} {l'} {w'} p q =
+    drain-done e l {row} {next} {l'} {w'} p q =
         (λ j. called row (q j) l')
-        ∙ ap (drainTold w) (p ∙ ap (λ (x : Preprocessor). drainOf x l) (read z .is))
-        ∙ done w (drainTold w (drainOf (headOf w) l)) (λ (r : ℕ). called r w l) n e z
+        ∙ ap (drainTold w) (p ∙ below t role (LEARN ∷ []) w n e z (drainOf h l) (outcome 22 h l) ∙ ap (λ (x : Preprocessor). drainOf x l) (read z .is))
+        ∙ done (granted t role (LEARN ∷ [])) w (drainTold w (drainOf (headOf w) l)) (λ (r : ℕ). called r w l) n e z
 
-    pub point-done : (l : Lent) (x : List Float) (t g : ℕ) (out : List Float) {row : ℕ} {b : Bool} {next : Preprocessor} {l' : Lent} {w' : List ℕ} {g' f : ℕ} {out' : List Float}
-        → pointed row b next l' out' ≡ pointAfter h l x t out → w' ≡ accepted row (countsOver w next) w → f ≡ flag b → g' ≡ accepted row f g
-        → pointCalled row w' l' g' out' ≡ pointAt w l x t g out
+    pub point-done : n ≡ openRow (granted t role (SEE ∷ LEARN ∷ [])) w
+        → (l : Lent) (x : List Float) (ts g : ℕ) (out : List Float) {row : ℕ} {b : Bool} {next : Preprocessor} {l' : Lent} {w' : List ℕ} {g' f : ℕ} {out' : List Float}
+        → pointed row b next l' out' ≡ pointBy t role h l x ts out → w' ≡ accepted row (countsOver w next) w → f ≡ flag b → g' ≡ accepted row f g
+        → pointCalled row w' l' g' out' ≡ pointAt t role w l x ts g out
     unfolding pointAt
-    point-done l x t g out {row} {b} {next} {l'} {w'} {g'} {f} {out'} p q i k =
+    point-done e l x ts g out {row} {b} {next} {l'} {w'} {g'} {f} {out'} p q i k =
         (λ j. pointCalled row (q j) l' ((k ∙ ap (λ (v : ℕ). accepted row v g) i) j) out')
-        ∙ ap (pointTold w g) (p ∙ ap (λ (y : Preprocessor). pointAfter y l x t out) (read z .is))
-        ∙ done w (pointTold w g (pointAfter (headOf w) l x t out)) (λ (r : ℕ). pointCalled r w l g out) n e z
+        ∙ ap (pointTold w g)
+        (p
+        ∙ below t role (SEE ∷ LEARN ∷ []) w n e z (pointAfter h l x ts out) (pointed 22 false h l out)
+        ∙ ap (λ (y : Preprocessor). pointAfter y l x ts out) (read z .is))
+        ∙ done (granted t role (SEE ∷ LEARN ∷ [])) w (pointTold w g (pointAfter (headOf w) l x ts out)) (λ (r : ℕ). pointCalled r w l g out) n e z
 
-    pub learn-done : (l : Lent) (a : Anomaly) (c c' : Learn) {row : ℕ} {u b : Bool} {t : ℕ} {k : Float} {next : Preprocessor} {l' : Lent} {dv ps ex : List Float} {w' : List ℕ} {u' b' t' f g : ℕ} {k' : Float}
-        → learnOutcome row u b t k next l' dv ps ex ≡ learnAfter h l c' → c' ≡ c → w' ≡ accepted row (countsOver w next) w
+    pub learn-done : n ≡ openRow (granted t role (LEARN ∷ [])) w
+        → (l : Lent) (a : Anomaly) (c c' : Learn) {row : ℕ} {u b : Bool} {ts : ℕ} {k : Float} {next : Preprocessor} {l' : Lent} {dv ps ex : List Float} {w' : List ℕ} {u' b' t' f g : ℕ} {k' : Float}
+        → learnOutcome row u b ts k next l' dv ps ex ≡ learnBy t role h l c' → c' ≡ c → w' ≡ accepted row (countsOver w next) w
         → f ≡ flag u → u' ≡ accepted row f (a .written) → g ≡ flag b → b' ≡ accepted row g (a .hasAnomaly)
-        → t' ≡ accepted row t (a .pastTimestamp) → k' ≡ accepted row k (a .likelihood)
-        → learnCalled row w' l' (anomaly u' b' t' k') dv ps ex ≡ learnAt w l a c
+        → t' ≡ accepted row ts (a .pastTimestamp) → k' ≡ accepted row k (a .likelihood)
+        → learnCalled row w' l' (anomaly u' b' t' k') dv ps ex ≡ learnAt t role w l a c
     unfolding learnAt
-    learn-done l a c c' {row} {u} {b} {t} {k} {next} {l'} {dv} {ps} {ex} {w'} {u'} {b'} {t'} {f} {g} {k'} p s q fu pu fb pb pt pk =
+    learn-done e l a c c' {row} {u} {b} {ts} {k} {next} {l'} {dv} {ps} {ex} {w'} {u'} {b'} {t'} {f} {g} {k'} p s q fu pu fb pb pt pk =
         (λ j. learnCalled row (q j) l' (anomaly ((pu ∙ ap (λ (v : ℕ). accepted row v (a .written)) fu) j) ((pb ∙ ap (λ (v : ℕ). accepted row v (a .hasAnomaly)) fb) j) (pt j) (pk j)) dv ps ex)
-        ∙ ap (learnTold w a) (p ∙ (λ j. learnAfter (read z .is j) l (s j)))
-        ∙ done w (learnTold w a (learnAfter (headOf w) l c)) (λ (r : ℕ). learnCalled r w l a (c .deviationsOut) (c .pastOut) (c .expectedOut)) n e z
+        ∙ ap (learnTold w a)
+        (p ∙ below t role (LEARN ∷ []) w n e z (learnAfter h l c') (learnNothing 22 h l c') ∙ (λ j. learnAfter (read z .is j) l (s j)))
+        ∙ done (granted t role (LEARN ∷ [])) w (learnTold w a (learnAfter (headOf w) l c)) (λ (r : ℕ). learnCalled r w l a (c .deviationsOut) (c .pastOut) (c .expectedOut)) n e z
 
-    pub write-done : (l : Lent) (c : Call) (out : List Float) {o : Written} → o ≡ writeOf h l c out → o ≡ writeAt w l c out
+    pub write-done : (l : Lent) (c : Call) (out : List Float) {o : Written} → n ≡ openRow (granted t role (needs c)) w → o ≡ writeBy t role h l c out → o ≡ writeAt t role w l c out
     unfolding writeAt
-    write-done l c out p =
-        p ∙ ap (λ (x : Preprocessor). writeOf x l c out) (read z .is) ∙ done w (writeOf (headOf w) l c out) (λ (r : ℕ). written r out) n e z
+    write-done l c out e p =
+        p
+        ∙ below t role (needs c) w n e z (writeOf h l c out) (written 22 out)
+        ∙ ap (λ (x : Preprocessor). writeOf x l c out) (read z .is)
+        ∙ done (granted t role (needs c)) w (writeOf (headOf w) l c out) (λ (r : ℕ). written r out) n e z
 
-    pub extrapolation-done : (st x : List Float) (ts : List ℕ) (c : Forecast) {o : Extrapolation} → o ≡ extrapolationOf h st x ts c → o ≡ extrapolationAt w st x ts c
+    pub extrapolation-done : n ≡ openRow (granted t role (SEE ∷ [])) w → (st x : List Float) (ts : List ℕ) (c : Forecast) {o : Extrapolation}
+        → o ≡ extrapolationBy t role h st x ts c → o ≡ extrapolationAt t role w st x ts c
     unfolding extrapolationAt
-    extrapolation-done st x ts c p =
+    extrapolation-done e st x ts c p =
         p
+        ∙ below t role (SEE ∷ []) w n e z (extrapolationOf h st x ts c) (extrapolation 22 c)
         ∙ ap (λ (y : Preprocessor). extrapolationOf y st x ts c) (read z .is)
-        ∙ done w (extrapolationOf (headOf w) st x ts c) (λ (r : ℕ). extrapolation r c) n e z
+        ∙ done (granted t role (SEE ∷ [])) w (extrapolationOf (headOf w) st x ts c) (λ (r : ℕ). extrapolation r c) n e z
 
-    pub save-done : (l : Lent) (m : ℕ) (out : List ℕ) {row len m' : ℕ} {out' : List ℕ} → saved row len out' ≡ saveOf h l out → m' ≡ accepted row len m → saved row m' out' ≡ saveAt w l m out
+    pub save-done : n ≡ openRow (granted t role (SAVE ∷ [])) w → (l : Lent) (m : ℕ) (out : List ℕ) {row len m' : ℕ} {out' : List ℕ}
+        → saved row len out' ≡ saveBy t role h l out → m' ≡ accepted row len m → saved row m' out' ≡ saveAt t role w l m out
     unfolding saveAt
-    save-done l m out {row} {len} {m'} {out'} p q =
+    save-done e l m out {row} {len} {m'} {out'} p q =
         (λ j. saved row (q j) out')
-        ∙ ap (saveTold m) (p ∙ ap (λ (x : Preprocessor). saveOf x l out) (read z .is))
-        ∙ done w (saveTold m (saveOf (headOf w) l out)) (λ (r : ℕ). saved r m out) n e z
+        ∙ ap (saveTold m) (p ∙ below t role (SAVE ∷ []) w n e z (saveOf h l out) (saved 22 0 out) ∙ ap (λ (x : Preprocessor). saveOf x l out) (read z .is))
+        ∙ done (granted t role (SAVE ∷ [])) w (saveTold m (saveOf (headOf w) l out)) (λ (r : ℕ). saved r m out) n e z
 
-    pub get-done : (v : ℕ) (f : Preprocessor → ℕ) {g : ℕ} → g ≡ f h → got 0 g ≡ getAt w v f
-    unfolding getAt
-    get-done v f p = ap (got 0) (p ∙ ap f (read z .is)) ∙ done w (got 0 (f (headOf w))) (λ (r : ℕ). got r v) n e z
-
-    pub codes-done : (cs out : List ℕ) {o : CodesGot} → cs ≡ settingsOf h .codes → o ≡ codesTold cs out → o ≡ codesAt w out
-    unfolding codesAt
-    codes-done cs out i p =
+    pub numbers-done : n ≡ openRow (granted t role (SEE ∷ [])) w → (out : List ℕ) {a : StatusAnswer} {o : ListGot}
+        → a ≡ numbersBy t role h → o ≡ listTold (numbersTold a) out → o ≡ numbersAt t role w out
+    unfolding numbersAt
+    numbers-done e out i p =
         p
-        ∙ ap (λ (v : List ℕ). codesTold v out) (i ∙ ap (λ (x : Preprocessor). settingsOf x .codes) (read z .is))
-        ∙ done w (codesTold (settingsOf (headOf w) .codes) out) (λ (r : ℕ). codesGot r out) n e z
+        ∙ ap (λ (x : StatusAnswer). listTold (numbersTold x) out) (i ∙ below t role (SEE ∷ []) w n e z (numbersOf h) untold ∙ ap numbersOf (read z .is))
+        ∙ done (granted t role (SEE ∷ [])) w (listTold (numbersTold (numbersOf (headOf w))) out) (λ (r : ℕ). listGot r out) n e z
 
--- ---- the codes, told or too many
+    pub codes-done : n ≡ openRow (granted t role (SEE ∷ [])) w → (cs out : List ℕ) {o : ListGot} → cs ≡ settingsOf h .codes → o ≡ listTold cs out → o ≡ codesAt t role w out
+    unfolding codesAt
+    codes-done e cs out i p =
+        p
+        ∙ ap (λ (v : List ℕ). listTold v out) (i ∙ ap (λ (x : Preprocessor). settingsOf x .codes) (read z .is))
+        ∙ done (granted t role (SEE ∷ [])) w (listTold (settingsOf (headOf w) .codes) out) (λ (r : ℕ). listGot r out) n e z
 
-pub codes-many : (cs out : List ℕ) → length out < length cs → codesGot 20 out ≡ codesTold cs out
-unfolding codesTold
-codes-many cs out h = sym (ap (λ (b : Bool). cond b (codesGot 20 out) (codesGot 0 (over out cs))) (lt-ltb (length out) (length cs) h))
+-- ---- numbers, told or too many
 
-pub codes-fit : (cs out : List ℕ) {v : List ℕ} → length cs ≤ length out → v ≡ over out cs → codesGot 0 v ≡ codesTold cs out
-unfolding codesTold
-codes-fit cs out h e =
-    ap (codesGot 0) e ∙ sym (ap (λ (b : Bool). cond b (codesGot 20 out) (codesGot 0 (over out cs))) (le-ltb (length out) (length cs) h))
+pub list-many : (v out : List ℕ) → length out < length v → listGot 20 out ≡ listTold v out
+unfolding listTold
+list-many v out h = sym (ap (λ (b : Bool). cond b (listGot 20 out) (listGot 0 (over out v))) (lt-ltb (length out) (length v) h))
+
+pub list-fit : (v out : List ℕ) {u : List ℕ} → length v ≤ length out → u ≡ over out v → listGot 0 u ≡ listTold v out
+unfolding listTold
+list-fit v out h e =
+    ap (listGot 0) e ∙ sym (ap (λ (b : Bool). cond b (listGot 20 out) (listGot 0 (over out v))) (le-ltb (length out) (length v) h))
 
 -- ---- `build`
 

@@ -7,16 +7,17 @@ use lib.Ieee.{nan, binary64, ofBits, toBits, le}
 use Rattle.common.specs.Deviation.{outsideUnit}
 use Rattle.trcf.specs.Transformer.{one32}
 use Rattle.trcf.specs.Settings.{settingsRow, allOne, waiting}
-use Rattle.trcf.specs.View.{headFrom, misfit, outsideRow}
+use Rattle.trcf.specs.View.{headFrom, headRow, misfit, outsideRow}
 use Rattle.trcf.specs.declared.types.TransformMethod.the-variants.{NORMALIZE}
 use Rattle.trcf.specs.declared.types.ForestMode.the-variants.{«TIME_AUGMENTED»}
 use Rattle.trcf.specs.declared.head.Preprocessor.{Preprocessor}
 use Rattle.common.specs.Lent.{over}
+use Rattle.access.specs.Access.{granted, everyRight}
 use Rattle.capi.specs.Head.{headOf, numbersOf, frontOf, wordsOf, wordsRow, single}
-use Rattle.capi.specs.Calls.{onHead, codesGot, codesTold, codesAt}
+use Rattle.capi.specs.Calls.{openRow, onHead, listGot, listTold, numbersAt, codesAt}
 
 all : Unit {0}
-unfolding wordsOf frontOf numbersOf headOf wordsRow outsideRow misfit waiting onHead codesTold codesAt settingsRow allOne outsideUnit over toBits ofBits le
+unfolding wordsOf frontOf numbersOf headOf wordsRow outsideRow misfit waiting openRow onHead listTold numbersAt codesAt granted headRow settingsRow allOne outsideUnit over toBits ofBits le
 all = tt
 
 abbrev sample : Preprocessor
@@ -105,17 +106,35 @@ unfolding all
 example-code-behind = refl
 
 -- the codes, told: in a list of just their number, in a longer one, which keeps what lies behind, and in one too short
-example-codes : codesAt words (7 ∷ 7 ∷ []) ≡ codesGot 0 (12 ∷ 65535 ∷ [])
+example-codes : codesAt everyRight 0 words (7 ∷ 7 ∷ []) ≡ listGot 0 (12 ∷ 65535 ∷ [])
 unfolding all
 example-codes = refl
 
-example-codes-behind : codesAt words (7 ∷ 7 ∷ 7 ∷ []) ≡ codesGot 0 (12 ∷ 65535 ∷ 7 ∷ [])
+example-codes-behind : codesAt everyRight 0 words (7 ∷ 7 ∷ 7 ∷ []) ≡ listGot 0 (12 ∷ 65535 ∷ 7 ∷ [])
 unfolding all
 example-codes-behind = refl
 
-example-codes-short : codesAt words (7 ∷ []) ≡ codesGot 20 (7 ∷ [])
+example-codes-short : codesAt everyRight 0 words (7 ∷ []) ≡ listGot 20 (7 ∷ [])
 unfolding all
 example-codes-short = refl
+
+-- the ten numbers, told; one place too few
+example-numbers : numbersAt everyRight 0 words (7 ∷ 7 ∷ 7 ∷ 7 ∷ 7 ∷ 7 ∷ 7 ∷ 7 ∷ 7 ∷ 7 ∷ 7 ∷ []) ≡ listGot 0 (0 ∷ 0 ∷ 0 ∷ 2 ∷ 4 ∷ 12 ∷ 10 ∷ 4 ∷ 1 ∷ 0 ∷ 7 ∷ [])
+unfolding all
+example-numbers = refl
+
+example-numbers-short : numbersAt everyRight 0 words (7 ∷ 7 ∷ 7 ∷ 7 ∷ 7 ∷ 7 ∷ 7 ∷ 7 ∷ 7 ∷ []) ≡ listGot 20 (7 ∷ 7 ∷ 7 ∷ 7 ∷ 7 ∷ 7 ∷ 7 ∷ 7 ∷ 7 ∷ [])
+unfolding all
+example-numbers-short = refl
+
+-- 22 before the row of the words, and before the room: role 4, words that hold no head, and no place
+example-role : numbersAt everyRight 4 [] [] ≡ listGot 22 []
+unfolding all
+example-role = refl
+
+example-bad-head : numbersAt everyRight 3 (set words 2 0) [] ≡ listGot 2 []
+unfolding all
+example-bad-head = refl
 
 -- every pattern of a not-a-number, and bits above the 32
 example-nan : single 0xffff_ffff ≡ nan

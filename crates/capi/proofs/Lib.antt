@@ -1,6 +1,7 @@
 pub mod WordLaws
 pub mod HeadLaws
 pub mod CallLaws
+pub mod NumberLaws
 pub mod InUse
 pub mod Examples
 pub mod RestoreLaws

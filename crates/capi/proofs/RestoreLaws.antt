@@ -3,35 +3,57 @@ use Prim.Native.Nat.{ℕ, _≤_, _<_}
 use native.Mathlib.Omega.{arith}
 use mathlib.Core.Path.{_≡_, refl, sym, ap, _∙_, subst}
 use mathlib.Core.Bool.{Bool, true, false, _||_, cond}
-use mathlib.Core.List.{List}
+use mathlib.Core.List.{List, [], _∷_}
 use lib.ListN.{length}
 use lib.Dec.{ltb, eqb}
 use borrow.Author.Tests.{lt-ltb, le-ltb, ltb-false}
 use Rattle.common.specs.Lent.{over}
 use Rattle.trcf.specs.Preprocessor.{State, accepted, statisticsLength}
-use Rattle.trcf.specs.View.{Lent, lentShort}
+use Rattle.trcf.specs.View.{Lent, lentShort, noHead}
 use Rattle.trcf.specs.declared.head.Preprocessor.{Preprocessor}
 use Rattle.snapshot.specs.Read.{taken, same, read}
 use Rattle.snapshot.specs.Restore.{Outcome, outcome, restored, restoreOf}
 use Rattle.snapshot.proofs.RoundTrip.{restored-only}
 use Rattle.capi.specs.Head.{wordsOf}
-use Rattle.capi.specs.Restore.{restoreCalled, nothing, restoreAt}
+use Rattle.access.specs.declared.rights.Right.the-variants.{RESTORE}
+use Rattle.access.specs.Access.{granted}
+use Rattle.access.specs.Entries.{restoreBy}
+use Rattle.capi.specs.Restore.{RestoreCalled, restoreCalled, nothing, restoreInto, restoreAt}
 
-module _ (t cs w : List ℕ) (l : Lent) (line : ℕ) {row bad : ℕ} {h : Preprocessor} {l' : Lent} {n : ℕ} where
-  pub restore-few : length w < 44 → outcome row bad h l' ≡ restoreOf t cs nothing → n ≡ cond (eqb row 19) bad line → restoreCalled row w l n ≡ restoreAt t cs w l line
-  unfolding restoreAt
-  restore-few e p q = rw (lt-ltb (length w) 44 e, sym p) (ap (restoreCalled row w l) q)
+module _ (table : List ℕ) (role : ℕ) (t cs w : List ℕ) (l : Lent) (line : ℕ) {b : Bool} (m : b ≡ granted table role (RESTORE ∷ [])) where
+  pub restore-withheld : b ≡ false → restoreCalled 22 w l line ≡ restoreAt table role t cs w l line
+  restore-withheld e = ap (λ (x : Bool). cond x (restoreInto t cs w l line) (restoreCalled 22 w l line)) (sym e ∙ m)
 
-  pub restore-done : {w' : List ℕ} → 44 ≤ length w → outcome row bad h l' ≡ restoreOf t cs l → w' ≡ accepted row (over w (wordsOf h)) w → n ≡ cond (eqb row 19) bad line
-      → restoreCalled row w' l' n ≡ restoreAt t cs w l line
-  unfolding restoreAt
-  restore-done e p r q = rw (le-ltb (length w) 44 e, sym p) (λ j. restoreCalled row (r j) l' (q j))
+  module _ (e : b ≡ true) {row bad : ℕ} {h : Preprocessor} {l' : Lent} {n : ℕ} where
+    -- what the guarded entry gives is what the one below gives
+    below : (k : Lent) → outcome row bad h l' ≡ restoreBy table role t cs k → outcome row bad h l' ≡ restoreOf t cs k
+    below k p = p ∙ ap (λ (x : Bool). cond x (restoreOf t cs k) (outcome 22 0 noHead k)) (sym m ∙ e)
+
+    into : {o : RestoreCalled} → o ≡ restoreInto t cs w l line → o ≡ restoreAt table role t cs w l line
+    into p = p ∙ ap (λ (x : Bool). cond x (restoreInto t cs w l line) (restoreCalled 22 w l line)) (sym e ∙ m)
+
+    few : length w < 44 → outcome row bad h l' ≡ restoreOf t cs nothing → n ≡ cond (eqb row 19) bad line → restoreCalled row w l n ≡ restoreInto t cs w l line
+    unfolding restoreInto
+    few f p q = rw (lt-ltb (length w) 44 f, sym p) (ap (restoreCalled row w l) q)
+
+    all : {w' : List ℕ} → 44 ≤ length w → outcome row bad h l' ≡ restoreOf t cs l → w' ≡ accepted row (over w (wordsOf h)) w → n ≡ cond (eqb row 19) bad line
+        → restoreCalled row w' l' n ≡ restoreInto t cs w l line
+    unfolding restoreInto
+    all f p r q = rw (le-ltb (length w) 44 f, sym p) (λ j. restoreCalled row (r j) l' (q j))
+
+    pub restore-few : length w < 44 → outcome row bad h l' ≡ restoreBy table role t cs nothing → n ≡ cond (eqb row 19) bad line
+        → restoreCalled row w l n ≡ restoreAt table role t cs w l line
+    restore-few f p q = into (few f (below nothing p) q)
+
+    pub restore-done : {w' : List ℕ} → 44 ≤ length w → outcome row bad h l' ≡ restoreBy table role t cs l → w' ≡ accepted row (over w (wordsOf h)) w
+        → n ≡ cond (eqb row 19) bad line → restoreCalled row w' l' n ≡ restoreAt table role t cs w l line
+    restore-done f p r q = into (all f (below l p) r q)
 
 -- "(27: codes differ from those expected, in number or value; after 19 …)": before 20, so however many words there are, and all is left as it was
-pub other-codes : (t cs w : List ℕ) (l : Lent) (line : ℕ) (v : State) → read t ≡ taken v → same (v .settings .codes) cs ≡ false
-    → restoreAt t cs w l line ≡ restoreCalled 27 w l line
-unfolding restoreAt restoreOf restored
-other-codes t cs w l line v e f = rw (e, f) (either (ltb (length w) 44))
+pub other-codes : (table : List ℕ) (role : ℕ) → granted table role (RESTORE ∷ []) ≡ true → (t cs w : List ℕ) (l : Lent) (line : ℕ) (v : State)
+    → read t ≡ taken v → same (v .settings .codes) cs ≡ false → restoreAt table role t cs w l line ≡ restoreCalled 27 w l line
+unfolding restoreInto restoreOf restored
+other-codes table role g t cs w l line v e f = rw (g, e, f) (either (ltb (length w) 44))
   where
     either : (b : Bool) → cond b (restoreCalled 27 w l line) (restoreCalled 27 w l line) ≡ restoreCalled 27 w l line
     either true = refl

@@ -1,25 +1,33 @@
--- The calls of the library: a trcf call on the head that lent words hold, its answers in lent numbers and lists. Refused, a call leaves all of them as
--- they were.
+-- The calls of the library: a call on the head that lent words hold, for a role of a lent table (#105), its answers in lent numbers and lists. Refused, a call
+-- leaves all of them as they were.
 use Prim.Native.Nat.{ℕ}
 use mathlib.Core.Bool.{Bool, cond, not}
-use mathlib.Core.List.{List}
+use mathlib.Core.List.{List, [], _∷_}
 use lib.Dec.{eqb, ltb}
 use lib.ListN.{length}
 use lib.Ieee.{Float}
 use Rattle.common.specs.Lent.{over}
+use Rattle.trcf.specs.Types.{methodNumber}
 use Rattle.trcf.specs.Settings.{Settings, settingsRow}
-use Rattle.trcf.specs.Calls.{Call, Learn, Forecast}
+use Rattle.trcf.specs.Calls.{Call, Learn, Forecast, shingledPoint, postProcess, drain, invertExtrapolation}
 use Rattle.trcf.specs.Preprocessor.{accepted}
 use Rattle.trcf.specs.View.{Lent, settingsOf, Outcome, orElse, buildOf, drainOf, PointOutcome, pointAfter, LearnOutcome, learnAfter, Written, written, writeOf}
 use Rattle.trcf.specs.Extrapolation.{Extrapolation, extrapolation, extrapolationOf}
-use Rattle.trcf.specs.declared.head.Preprocessor.{Preprocessor}
+use Rattle.trcf.specs.declared.head.StatusAnswer.{StatusAnswer}
 use Rattle.snapshot.specs.Save.{saveOf, Outcome as Saved, outcome as saved}
-use Rattle.capi.specs.Head.{headOf, wordsOf, countsOver, kindRow, shortRow, wordsRow}
+use Rattle.access.specs.declared.rights.Right.the-variants.{SEE, SAVE}
+use Rattle.access.specs.Access.{needs, granted}
+use Rattle.access.specs.Entries.{numbersOf}
+use Rattle.capi.specs.Head.{modeNumber, headOf, wordsOf, countsOver, kindRow, shortRow, wordsRow}
+
+-- the row before a call: 22 where the role may not, and then nothing of the words is looked at; else the row of the words
+unfoldable pub openRow : Bool → List ℕ → ℕ
+openRow allowed w = cond allowed (wordsRow w) 22
 
 module _ {A : Type 0} where
-  -- by the row of the words: what the call gives on a head, and what a refusal gives
-  unfoldable pub onHead : List ℕ → A → (ℕ → A) → A
-  onHead w a refuse = accepted (wordsRow w) a (refuse (wordsRow w))
+  -- by that row: what the call gives on a head, and what a refusal gives
+  unfoldable pub onHead : Bool → List ℕ → A → (ℕ → A) → A
+  onHead allowed w a refuse = accepted (openRow allowed w) a (refuse (openRow allowed w))
 
 -- a Bool in a number, and a number as a Bool
 abbrev pub flag : Bool → ℕ
@@ -41,8 +49,8 @@ called n w l = record { row = n; words = w; lent = l }
 abbrev pub drainTold : List ℕ → Outcome → Called
 drainTold w o = called (o .row) (accepted (o .row) (countsOver w (o .head)) w) (o .lent)
 
-unfoldable pub drainAt : List ℕ → Lent → Called
-drainAt w l = onHead w (drainTold w (drainOf (headOf w) l)) (λ n. called n w l)
+unfoldable pub drainAt : List ℕ → ℕ → List ℕ → Lent → Called
+drainAt table role w l = onHead (granted table role (needs drain)) w (drainTold w (drainOf (headOf w) l)) (λ n. called n w l)
 
 -- the whole head is written; its row 20 comes behind the rows of the settings
 abbrev pub buildTold : List ℕ → Outcome → Called
@@ -67,8 +75,9 @@ abbrev pub pointTold : List ℕ → ℕ → PointOutcome → PointCalled
 pointTold w g o =
     pointCalled (o .row) (accepted (o .row) (countsOver w (o .head)) w) (o .lent) (accepted (o .row) (flag (o .given)) g) (o .out)
 
-unfoldable pub pointAt : List ℕ → Lent → List Float → ℕ → ℕ → List Float → PointCalled
-pointAt w l x t g out = onHead w (pointTold w g (pointAfter (headOf w) l x t out)) (λ n. pointCalled n w l g out)
+unfoldable pub pointAt : List ℕ → ℕ → List ℕ → Lent → List Float → ℕ → ℕ → List Float → PointCalled
+pointAt table role w l x t g out =
+    onHead (granted table role (needs (shingledPoint x t out))) w (pointTold w g (pointAfter (headOf w) l x t out)) (λ n. pointCalled n w l g out)
 
 -- ---- `post_process`: whether the deviations are written and whether there is an anomaly, its time and its likelihood
 
@@ -101,49 +110,56 @@ abbrev pub learnTold : List ℕ → Anomaly → LearnOutcome → LearnCalled
 learnTold w a o =
     learnCalled (o .row) (accepted (o .row) (countsOver w (o .head)) w) (o .lent) (anomalyTold a o) (o .deviationsOut) (o .pastOut) (o .expectedOut)
 
-unfoldable pub learnAt : List ℕ → Lent → Anomaly → Learn → LearnCalled
-learnAt w l a c =
-    onHead w (learnTold w a (learnAfter (headOf w) l c)) (λ n. learnCalled n w l a (c .deviationsOut) (c .pastOut) (c .expectedOut))
+unfoldable pub learnAt : List ℕ → ℕ → List ℕ → Lent → Anomaly → Learn → LearnCalled
+learnAt table role w l a c =
+    onHead (granted table role (needs (postProcess c))) w (learnTold w a (learnAfter (headOf w) l c)) (λ n. learnCalled n w l a (c .deviationsOut) (c .pastOut) (c .expectedOut))
 
 -- ---- calls that write lists and change no state
 
-unfoldable pub writeAt : List ℕ → Lent → Call → List Float → Written
-writeAt w l c out = onHead w (writeOf (headOf w) l c out) (λ n. written n out)
+unfoldable pub writeAt : List ℕ → ℕ → List ℕ → Lent → Call → List Float → Written
+writeAt table role w l c out = onHead (granted table role (needs c)) w (writeOf (headOf w) l c out) (λ n. written n out)
 
-unfoldable pub extrapolationAt : List ℕ → List Float → List Float → List ℕ → Forecast → Extrapolation
-extrapolationAt w st x ts c = onHead w (extrapolationOf (headOf w) st x ts c) (λ n. extrapolation n c)
+unfoldable pub extrapolationAt : List ℕ → ℕ → List ℕ → List Float → List Float → List ℕ → Forecast → Extrapolation
+extrapolationAt table role w st x ts c = onHead (granted table role (needs (invertExtrapolation c))) w (extrapolationOf (headOf w) st x ts c) (λ n. extrapolation n c)
 
 -- ---- `save`: the length of the text in a lent number
 
 abbrev pub saveTold : ℕ → Saved → Saved
 saveTold n o = saved (o .row) (accepted (o .row) (o .length) n) (o .bytes)
 
-unfoldable pub saveAt : List ℕ → Lent → ℕ → List ℕ → Saved
-saveAt w l n out = onHead w (saveTold n (saveOf (headOf w) l out)) (λ r. saved r n out)
+unfoldable pub saveAt : List ℕ → ℕ → List ℕ → Lent → ℕ → List ℕ → Saved
+saveAt table role w l n out = onHead (granted table role (SAVE ∷ [])) w (saveTold n (saveOf (headOf w) l out)) (λ r. saved r n out)
 
--- ---- a getter: its number in a lent one
+-- ---- numbers in a lent list; row 20 where it is shorter than they are many
 
-pub record Got : Type 0 where
-  pub row : ℕ
-  pub number : ℕ
-
-abbrev pub got : ℕ → ℕ → Got
-got n v = record { row = n; number = v }
-
-unfoldable pub getAt : List ℕ → ℕ → (Preprocessor → ℕ) → Got
-getAt w v f = onHead w (got 0 (f (headOf w))) (λ n. got n v)
-
--- ---- the codes of the channels in a lent list; row 20 where it is shorter than they are many
-
-pub record CodesGot : Type 0 where
+pub record ListGot : Type 0 where
   pub row : ℕ
   pub out : List ℕ
 
-abbrev pub codesGot : ℕ → List ℕ → CodesGot
-codesGot n out = record { row = n; out = out }
+abbrev pub listGot : ℕ → List ℕ → ListGot
+listGot n out = record { row = n; out = out }
 
-unfoldable pub codesTold : List ℕ → List ℕ → CodesGot
-codesTold cs out = cond (ltb (length out) (length cs)) (codesGot 20 out) (codesGot 0 (over out cs))
+unfoldable pub listTold : List ℕ → List ℕ → ListGot
+listTold v out = cond (ltb (length out) (length v)) (listGot 20 out) (listGot 0 (over out v))
 
-unfoldable pub codesAt : List ℕ → List ℕ → CodesGot
-codesAt w out = onHead w (codesTold (settingsOf (headOf w) .codes) out) (λ n. codesGot n out)
+-- what the getters say, in the order of status
+abbrev pub numbersTold : StatusAnswer → List ℕ
+numbersTold a =
+    a .«values_seen»
+    ∷ a .«internal_timestamp»
+    ∷ flag (a .ready)
+    ∷ a .«input_dimensions»
+    ∷ a .«shingle_size»
+    ∷ a .dimensions
+    ∷ a .«start_normalization»
+    ∷ methodNumber (a .«transform_method»)
+    ∷ modeNumber (a .«forest_mode»)
+    ∷ a .panel
+    ∷ []
+
+unfoldable pub numbersAt : List ℕ → ℕ → List ℕ → List ℕ → ListGot
+numbersAt table role w out = onHead (granted table role (SEE ∷ [])) w (listTold (numbersTold (numbersOf (headOf w))) out) (λ n. listGot n out)
+
+-- the codes of the channels
+unfoldable pub codesAt : List ℕ → ℕ → List ℕ → List ℕ → ListGot
+codesAt table role w out = onHead (granted table role (SEE ∷ [])) w (listTold (settingsOf (headOf w) .codes) out) (λ n. listGot n out)

@@ -1,14 +1,16 @@
 -- `restore` over lent words: the head into its words, the bad line into its place. Row 20 of too few words stands with row 20 of the lists, behind rows 19
--- and 27.
+-- and 27; 22 stands before all of them.
 use Prim.Native.Nat.{ℕ}
 use mathlib.Core.Bool.{cond}
-use mathlib.Core.List.{List, []}
+use mathlib.Core.List.{List, [], _∷_}
 use lib.ListN.{length}
 use lib.Dec.{ltb, eqb}
 use Rattle.common.specs.Lent.{over}
 use Rattle.trcf.specs.Preprocessor.{accepted}
 use Rattle.trcf.specs.View.{Lent, lent}
 use Rattle.snapshot.specs.Restore.{Outcome, restoreOf}
+use Rattle.access.specs.declared.rights.Right.the-variants.{RESTORE}
+use Rattle.access.specs.Access.{guarded}
 use Rattle.capi.specs.Head.{wordsOf}
 use Rattle.capi.specs.Calls.{Called, called}
 
@@ -28,10 +30,14 @@ abbrev pub nothing : Lent
 nothing = lent [] [] [] [] [] []
 
 -- the text, the codes that are expected, the words, what is lent and the place of the line
-unfoldable pub restoreAt : List ℕ → List ℕ → List ℕ → Lent → ℕ → RestoreCalled
-restoreAt t cs w l line =
+unfoldable pub restoreInto : List ℕ → List ℕ → List ℕ → Lent → ℕ → RestoreCalled
+restoreInto t cs w l line =
     let o = restoreOf t cs l in
     let few = restoreOf t cs nothing in
     cond (ltb (length w) 44)
     (restoreCalled (few .row) w l (lineTold few line))
     (restoreCalled (o .row) (accepted (o .row) (over w (wordsOf (o .head))) w) (o .lent) (lineTold o line))
+
+-- with the table and the role before them: where it is withheld, neither the text nor the words are looked at
+abbrev pub restoreAt : List ℕ → ℕ → List ℕ → List ℕ → List ℕ → Lent → ℕ → RestoreCalled
+restoreAt table role t cs w l line = guarded table role (RESTORE ∷ []) (restoreInto t cs w l line) (restoreCalled 22 w l line)

@@ -1,9 +1,15 @@
 // The calls that make and change a preprocessor.
+use access::calls::drain;
+use access::calls::post_process;
+use access::calls::shingled_point;
+use access::rights::Right;
+use access::rights::may;
+use access::rights::may_point;
 use crate::answer::flag_of;
 use crate::answer::is_set;
 use crate::answer::tell;
 use crate::answer::tell_f32;
-use crate::head::read_head;
+use crate::head::open_head;
 use crate::head::write_counts;
 use crate::head::write_head;
 use crate::words::kind_row;
@@ -11,9 +17,6 @@ use crate::words::method_of;
 use crate::words::mode_of;
 use trcf::head::PreprocessorBuilder;
 use trcf_calls::build::build;
-use trcf_learn::post_process::post_process;
-use trcf_point::drain::drain;
-use trcf_point::point::shingled_point;
 use trcf_rows::rows::settings_row;
 ghost use mathlib.Core.Path.{_≡_};
 ghost use Rattle.trcf.specs.View.{lent, learnCall};
@@ -87,6 +90,8 @@ pub extern "C" fn veerycouch_build(
 // The initial values, once they are complete, are fed.
 #[no_mangle]
 pub extern "C" fn veerycouch_drain(
+    table: &[u8],
+    role: u64,
     head: &mut [u64],
     statistics: &mut [f64],
     last_shingled_input: &mut [f32],
@@ -96,15 +101,17 @@ pub extern "C" fn veerycouch_drain(
     initial_timestamps: &[u64],
 ) -> u64
     ensures { λ r. ⌜ called r (now (head .exit)) (lent (now (statistics .exit)) (now («last_shingled_input» .exit)) (now («last_shingled_point» .exit)) (now («previous_timestamps» .exit)) (now («initial_values» .entry)) (now («initial_timestamps» .entry)))
-        ≡ drainAt (now (head .entry)) (lent (now (statistics .entry)) (now («last_shingled_input» .entry)) (now («last_shingled_point» .entry)) (now («previous_timestamps» .entry)) (now («initial_values» .entry)) (now («initial_timestamps» .entry))) ⌝ }
+        ≡ drainAt (now (table .entry)) role (now (head .entry)) (lent (now (statistics .entry)) (now («last_shingled_input» .entry)) (now («last_shingled_point» .entry)) (now («previous_timestamps» .entry)) (now («initial_values» .entry)) (now («initial_timestamps» .entry))) ⌝ }
 {
-    let read = read_head(head);
+    let read = open_head(may(table, role, Right::LEARN), head);
     let bad = read.row;
     if bad != 0 {
         return bad;
     }
     let before = read.head;
     let r = drain(
+        table,
+        role,
         before,
         statistics,
         last_shingled_input,
@@ -122,6 +129,8 @@ pub extern "C" fn veerycouch_drain(
 // The shingled point of a reading, where one is given.
 #[no_mangle]
 pub extern "C" fn veerycouch_shingled_point(
+    table: &[u8],
+    role: u64,
     head: &mut [u64],
     statistics: &mut [f64],
     last_shingled_input: &mut [f32],
@@ -135,15 +144,17 @@ pub extern "C" fn veerycouch_shingled_point(
     output: &mut [f32],
 ) -> u64
     ensures { λ r. ⌜ pointCalled r (now (head .exit)) (lent (now (statistics .exit)) (now («last_shingled_input» .exit)) (now («last_shingled_point» .exit)) (now («previous_timestamps» .exit)) (now («initial_values» .entry)) (now («initial_timestamps» .entry))) (now (given .exit)) (now (output .exit))
-        ≡ pointAt (now (head .entry)) (lent (now (statistics .entry)) (now («last_shingled_input» .entry)) (now («last_shingled_point» .entry)) (now («previous_timestamps» .entry)) (now («initial_values» .entry)) (now («initial_timestamps» .entry))) (now (input .entry)) timestamp (now (given .entry)) (now (output .entry)) ⌝ }
+        ≡ pointAt (now (table .entry)) role (now (head .entry)) (lent (now (statistics .entry)) (now («last_shingled_input» .entry)) (now («last_shingled_point» .entry)) (now («previous_timestamps» .entry)) (now («initial_values» .entry)) (now («initial_timestamps» .entry))) (now (input .entry)) timestamp (now (given .entry)) (now (output .entry)) ⌝ }
 {
-    let read = read_head(head);
+    let read = open_head(may_point(table, role), head);
     let bad = read.row;
     if bad != 0 {
         return bad;
     }
     let before = read.head;
     let r = shingled_point(
+        table,
+        role,
         before,
         statistics,
         last_shingled_input,
@@ -165,6 +176,8 @@ pub extern "C" fn veerycouch_shingled_point(
 // A reading is learnt, or waits.
 #[no_mangle]
 pub extern "C" fn veerycouch_post_process(
+    table: &[u8],
+    role: u64,
     head: &mut [u64],
     statistics: &mut [f64],
     last_shingled_input: &mut [f32],
@@ -189,15 +202,17 @@ pub extern "C" fn veerycouch_post_process(
     likelihood: &mut f32,
 ) -> u64
     ensures { λ r. ⌜ learnCalled r (now (head .exit)) (lent (now (statistics .exit)) (now («last_shingled_input» .exit)) (now («last_shingled_point» .exit)) (now («previous_timestamps» .exit)) (now («initial_values» .exit)) (now («initial_timestamps» .exit))) (anomaly (now (written .exit)) (now («has_anomaly» .exit)) (now («past_timestamp» .exit)) (now (likelihood .exit))) (now («deviations_out» .exit)) (now («past_out» .exit)) (now («expected_out» .exit))
-        ≡ learnAt (now (head .entry)) (lent (now (statistics .entry)) (now («last_shingled_input» .entry)) (now («last_shingled_point» .entry)) (now («previous_timestamps» .entry)) (now («initial_values» .entry)) (now («initial_timestamps» .entry))) (anomaly (now (written .entry)) (now («has_anomaly» .entry)) (now («past_timestamp» .entry)) (now (likelihood .entry))) (learnCall (now (input .entry)) timestamp (isSet «has_y») (now (y .entry)) (isSet expects) (now (expected .entry)) grade «relative_index» (now («deviations_out» .entry)) (now («past_out» .entry)) (now («expected_out» .entry))) ⌝ }
+        ≡ learnAt (now (table .entry)) role (now (head .entry)) (lent (now (statistics .entry)) (now («last_shingled_input» .entry)) (now («last_shingled_point» .entry)) (now («previous_timestamps» .entry)) (now («initial_values» .entry)) (now («initial_timestamps» .entry))) (anomaly (now (written .entry)) (now («has_anomaly» .entry)) (now («past_timestamp» .entry)) (now (likelihood .entry))) (learnCall (now (input .entry)) timestamp (isSet «has_y») (now (y .entry)) (isSet expects) (now (expected .entry)) grade «relative_index» (now («deviations_out» .entry)) (now («past_out» .entry)) (now («expected_out» .entry))) ⌝ }
 {
-    let read = read_head(head);
+    let read = open_head(may(table, role, Right::LEARN), head);
     let bad = read.row;
     if bad != 0 {
         return bad;
     }
     let before = read.head;
     let r = post_process(
+        table,
+        role,
         before,
         statistics,
         last_shingled_input,

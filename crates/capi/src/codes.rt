@@ -4,7 +4,7 @@ ghost use mathlib.Core.Bool.{true};
 ghost use lib.ListN.{length};
 ghost use Rattle.snapshot.specs.Read.{allCodes};
 ghost use Rattle.capi.specs.Head.{codesRow};
-ghost use Rattle.capi.specs.Calls.{codesGot, codesTold};
+ghost use Rattle.capi.specs.Calls.{listGot, listTold};
 
 // Row 19 for a word that is no code.
 pub(crate) fn codes_row(words: &[u64]) -> u64
@@ -47,7 +47,7 @@ pub(crate) fn write_codes(words: &mut [u64], codes: [u16; 16])
 
 // The codes into lent memory, where they fit.
 pub(crate) fn tell_codes(codes: &[u16], output: &mut [u16]) -> u64
-    ensures { λ r. ⌜ codesGot r (now (output .exit)) ≡ codesTold (now (codes .entry)) (now (output .entry)) ⌝ }
+    ensures { λ r. ⌜ listGot r (now (output .exit)) ≡ listTold (now (codes .entry)) (now (output .entry)) ⌝ }
 {
     if output.len() < codes.len() {
         return 20;

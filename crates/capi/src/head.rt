@@ -26,6 +26,7 @@ ghost use Rattle.common.specs.Lent.{over};
 ghost use Rattle.trcf.specs.Preprocessor.{accepted};
 ghost use Rattle.trcf.specs.View.{settingsOf};
 ghost use Rattle.snapshot.specs.Read.{allCodes};
+ghost use Rattle.capi.specs.Calls.{openRow};
 ghost use Rattle.capi.specs.Head.{single, codesIn, headOf, numbersOf, frontOf, wordsOf, countsOver, wordsRow, Read};
 
 fn weights_of(words: &[u64]) -> [f32; 16]
@@ -89,7 +90,7 @@ pub(crate) struct Reading {
     pub head: Preprocessor,
 }
 
-pub(crate) fn read_head(words: &[u64]) -> Reading
+fn read_head(words: &[u64]) -> Reading
     ensures { λ r. ⌜ r .row ≡ wordsRow (now (words .entry)) ⌝ }
     ensures { λ r. ⌜ (r .row ≡ 0 → Read (now (words .entry)) (r .head)) ⌝ }
 {
@@ -119,6 +120,20 @@ pub(crate) fn read_head(words: &[u64]) -> Reading
         row: row,
         head: head,
     }
+}
+
+// Every export of a preprocessor begins here: `allowed` is what the table says of the role, and where it says no the words are not looked at.
+pub(crate) fn open_head(allowed: bool, words: &[u64]) -> Reading
+    ensures { λ r. ⌜ r .row ≡ openRow allowed (now (words .entry)) ⌝ }
+    ensures { λ r. ⌜ (r .row ≡ 0 → Read (now (words .entry)) (r .head)) ⌝ }
+{
+    if !allowed {
+        return Reading {
+            row: 22,
+            head: no_head(),
+        };
+    }
+    read_head(words)
 }
 
 // ---- a head written

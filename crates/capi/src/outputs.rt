@@ -1,12 +1,14 @@
 // The calls that write lists and change no state.
+use access::queries::difference_deviations;
+use access::queries::invert_extrapolation;
+use access::queries::scale;
+use access::queries::shift;
+use access::queries::transform;
+use access::rights::Right;
+use access::rights::may;
+use access::snapshots::save;
 use crate::answer::tell;
-use crate::head::read_head;
-use snapshot_save::save::save;
-use trcf_calls::queries::difference_deviations;
-use trcf_calls::queries::scale;
-use trcf_calls::queries::shift;
-use trcf_calls::queries::transform;
-use trcf_forecast::forecast::invert_extrapolation;
+use crate::head::open_head;
 ghost use mathlib.Core.Path.{_≡_};
 ghost use Rattle.common.specs.RangeVector.{ranges};
 ghost use Rattle.trcf.specs.Calls.{transform, scale, shift, status};
@@ -18,6 +20,8 @@ ghost use Rattle.capi.specs.Calls.{writeAt, extrapolationAt, saveAt};
 // A reading, transformed.
 #[no_mangle]
 pub extern "C" fn veerycouch_transform(
+    table: &[u8],
+    role: u64,
     head: &[u64],
     statistics: &[f64],
     last_shingled_input: &[f32],
@@ -29,15 +33,17 @@ pub extern "C" fn veerycouch_transform(
     timestamp: u64,
     output: &mut [f32],
 ) -> u64
-    ensures { λ r. ⌜ written r (now (output .exit)) ≡ writeAt (now (head .entry)) (lent (now (statistics .entry)) (now («last_shingled_input» .entry)) (now («last_shingled_point» .entry)) (now («previous_timestamps» .entry)) (now («initial_values» .entry)) (now («initial_timestamps» .entry))) (transform (now (input .entry)) timestamp (now (output .entry))) (now (output .entry)) ⌝ }
+    ensures { λ r. ⌜ written r (now (output .exit)) ≡ writeAt (now (table .entry)) role (now (head .entry)) (lent (now (statistics .entry)) (now («last_shingled_input» .entry)) (now («last_shingled_point» .entry)) (now («previous_timestamps» .entry)) (now («initial_values» .entry)) (now («initial_timestamps» .entry))) (transform (now (input .entry)) timestamp (now (output .entry))) (now (output .entry)) ⌝ }
 {
-    let read = read_head(head);
+    let read = open_head(may(table, role, Right::SEE), head);
     let bad = read.row;
     if bad != 0 {
         return bad;
     }
     let before = read.head;
     transform(
+        table,
+        role,
         before,
         statistics,
         last_shingled_input,
@@ -54,6 +60,8 @@ pub extern "C" fn veerycouch_transform(
 // The scale of each channel.
 #[no_mangle]
 pub extern "C" fn veerycouch_scale(
+    table: &[u8],
+    role: u64,
     head: &[u64],
     statistics: &[f64],
     last_shingled_input: &[f32],
@@ -63,15 +71,17 @@ pub extern "C" fn veerycouch_scale(
     initial_timestamps: &[u64],
     output: &mut [f32],
 ) -> u64
-    ensures { λ r. ⌜ written r (now (output .exit)) ≡ writeAt (now (head .entry)) (lent (now (statistics .entry)) (now («last_shingled_input» .entry)) (now («last_shingled_point» .entry)) (now («previous_timestamps» .entry)) (now («initial_values» .entry)) (now («initial_timestamps» .entry))) (scale (now (output .entry))) (now (output .entry)) ⌝ }
+    ensures { λ r. ⌜ written r (now (output .exit)) ≡ writeAt (now (table .entry)) role (now (head .entry)) (lent (now (statistics .entry)) (now («last_shingled_input» .entry)) (now («last_shingled_point» .entry)) (now («previous_timestamps» .entry)) (now («initial_values» .entry)) (now («initial_timestamps» .entry))) (scale (now (output .entry))) (now (output .entry)) ⌝ }
 {
-    let read = read_head(head);
+    let read = open_head(may(table, role, Right::SEE), head);
     let bad = read.row;
     if bad != 0 {
         return bad;
     }
     let before = read.head;
     scale(
+        table,
+        role,
         before,
         statistics,
         last_shingled_input,
@@ -86,6 +96,8 @@ pub extern "C" fn veerycouch_scale(
 // The shift of each channel.
 #[no_mangle]
 pub extern "C" fn veerycouch_shift(
+    table: &[u8],
+    role: u64,
     head: &[u64],
     statistics: &[f64],
     last_shingled_input: &[f32],
@@ -95,15 +107,17 @@ pub extern "C" fn veerycouch_shift(
     initial_timestamps: &[u64],
     output: &mut [f32],
 ) -> u64
-    ensures { λ r. ⌜ written r (now (output .exit)) ≡ writeAt (now (head .entry)) (lent (now (statistics .entry)) (now («last_shingled_input» .entry)) (now («last_shingled_point» .entry)) (now («previous_timestamps» .entry)) (now («initial_values» .entry)) (now («initial_timestamps» .entry))) (shift (now (output .entry))) (now (output .entry)) ⌝ }
+    ensures { λ r. ⌜ written r (now (output .exit)) ≡ writeAt (now (table .entry)) role (now (head .entry)) (lent (now (statistics .entry)) (now («last_shingled_input» .entry)) (now («last_shingled_point» .entry)) (now («previous_timestamps» .entry)) (now («initial_values» .entry)) (now («initial_timestamps» .entry))) (shift (now (output .entry))) (now (output .entry)) ⌝ }
 {
-    let read = read_head(head);
+    let read = open_head(may(table, role, Right::SEE), head);
     let bad = read.row;
     if bad != 0 {
         return bad;
     }
     let before = read.head;
     shift(
+        table,
+        role,
         before,
         statistics,
         last_shingled_input,
@@ -118,6 +132,8 @@ pub extern "C" fn veerycouch_shift(
 // The deviation of the differences of each channel.
 #[no_mangle]
 pub extern "C" fn veerycouch_difference_deviations(
+    table: &[u8],
+    role: u64,
     head: &[u64],
     statistics: &[f64],
     last_shingled_input: &[f32],
@@ -127,15 +143,17 @@ pub extern "C" fn veerycouch_difference_deviations(
     initial_timestamps: &[u64],
     output: &mut [f32],
 ) -> u64
-    ensures { λ r. ⌜ written r (now (output .exit)) ≡ writeAt (now (head .entry)) (lent (now (statistics .entry)) (now («last_shingled_input» .entry)) (now («last_shingled_point» .entry)) (now («previous_timestamps» .entry)) (now («initial_values» .entry)) (now («initial_timestamps» .entry))) (status (now (output .entry))) (now (output .entry)) ⌝ }
+    ensures { λ r. ⌜ written r (now (output .exit)) ≡ writeAt (now (table .entry)) role (now (head .entry)) (lent (now (statistics .entry)) (now («last_shingled_input» .entry)) (now («last_shingled_point» .entry)) (now («previous_timestamps» .entry)) (now («initial_values» .entry)) (now («initial_timestamps» .entry))) (status (now (output .entry))) (now (output .entry)) ⌝ }
 {
-    let read = read_head(head);
+    let read = open_head(may(table, role, Right::SEE), head);
     let bad = read.row;
     if bad != 0 {
         return bad;
     }
     let before = read.head;
     difference_deviations(
+        table,
+        role,
         before,
         statistics,
         last_shingled_input,
@@ -150,6 +168,8 @@ pub extern "C" fn veerycouch_difference_deviations(
 // A forecast of shingled points, turned back into readings and times.
 #[no_mangle]
 pub extern "C" fn veerycouch_invert_extrapolation(
+    table: &[u8],
+    role: u64,
     head: &[u64],
     statistics: &[f64],
     last_shingled_input: &[f32],
@@ -165,16 +185,18 @@ pub extern "C" fn veerycouch_invert_extrapolation(
     times_lower_out: &mut [f64],
 ) -> u64
     ensures { λ r. ⌜ extrapolation r (forecast (ranges (now (values .exit)) (now (upper .exit)) (now (lower .exit))) (ranges (now («values_out» .exit)) (now («upper_out» .exit)) (now («lower_out» .exit))) (ranges (now («times_out» .exit)) (now («times_upper_out» .exit)) (now («times_lower_out» .exit))))
-        ≡ extrapolationAt (now (head .entry)) (now (statistics .entry)) (now («last_shingled_input» .entry)) (now («previous_timestamps» .entry))
+        ≡ extrapolationAt (now (table .entry)) role (now (head .entry)) (now (statistics .entry)) (now («last_shingled_input» .entry)) (now («previous_timestamps» .entry))
         (forecast (ranges (now (values .entry)) (now (upper .entry)) (now (lower .entry))) (ranges (now («values_out» .entry)) (now («upper_out» .entry)) (now («lower_out» .entry))) (ranges (now («times_out» .entry)) (now («times_upper_out» .entry)) (now («times_lower_out» .entry)))) ⌝ }
 {
-    let read = read_head(head);
+    let read = open_head(may(table, role, Right::SEE), head);
     let bad = read.row;
     if bad != 0 {
         return bad;
     }
     let before = read.head;
     invert_extrapolation(
+        table,
+        role,
         before,
         statistics,
         last_shingled_input,
@@ -194,6 +216,8 @@ pub extern "C" fn veerycouch_invert_extrapolation(
 // The text of the preprocessor, and its length.
 #[no_mangle]
 pub extern "C" fn veerycouch_save(
+    table: &[u8],
+    role: u64,
     head: &[u64],
     statistics: &[f64],
     last_shingled_input: &[f32],
@@ -204,15 +228,17 @@ pub extern "C" fn veerycouch_save(
     length: &mut u64,
     output: &mut [u8],
 ) -> u64
-    ensures { λ r. ⌜ outcome r (now (length .exit)) (now (output .exit)) ≡ saveAt (now (head .entry)) (lent (now (statistics .entry)) (now («last_shingled_input» .entry)) (now («last_shingled_point» .entry)) (now («previous_timestamps» .entry)) (now («initial_values» .entry)) (now («initial_timestamps» .entry))) (now (length .entry)) (now (output .entry)) ⌝ }
+    ensures { λ r. ⌜ outcome r (now (length .exit)) (now (output .exit)) ≡ saveAt (now (table .entry)) role (now (head .entry)) (lent (now (statistics .entry)) (now («last_shingled_input» .entry)) (now («last_shingled_point» .entry)) (now («previous_timestamps» .entry)) (now («initial_values» .entry)) (now («initial_timestamps» .entry))) (now (length .entry)) (now (output .entry)) ⌝ }
 {
-    let read = read_head(head);
+    let read = open_head(may(table, role, Right::SAVE), head);
     let bad = read.row;
     if bad != 0 {
         return bad;
     }
     let before = read.head;
     let r = save(
+        table,
+        role,
         before,
         statistics,
         last_shingled_input,

@@ -1,6 +1,8 @@
 // Taking up a text over lent words.
+use access::rights::Right;
+use access::rights::may;
+use access::snapshots::restore;
 use crate::head::write_head;
-use snapshot::restore::restore;
 ghost use mathlib.Core.Path.{_≡_};
 ghost use mathlib.Core.Bool.{cond};
 ghost use lib.Dec.{eqb};
@@ -21,6 +23,8 @@ fn tell_line(place: &mut u64, row: u64, line: u64)
 // where a lent part is too short: nothing else is written.
 #[no_mangle]
 pub extern "C" fn veerycouch_restore(
+    table: &[u8],
+    role: u64,
     text: &[u8],
     codes: &[u16],
     head: &mut [u64],
@@ -33,8 +37,11 @@ pub extern "C" fn veerycouch_restore(
     line: &mut u64,
 ) -> u64
     ensures { λ r. ⌜ restoreCalled r (now (head .exit)) (lent (now (statistics .exit)) (now («last_shingled_input» .exit)) (now («last_shingled_point» .exit)) (now («previous_timestamps» .exit)) (now («initial_values» .exit)) (now («initial_timestamps» .exit))) (now (line .exit))
-        ≡ restoreAt (now (text .entry)) (now (codes .entry)) (now (head .entry)) (lent (now (statistics .entry)) (now («last_shingled_input» .entry)) (now («last_shingled_point» .entry)) (now («previous_timestamps» .entry)) (now («initial_values» .entry)) (now («initial_timestamps» .entry))) (now (line .entry)) ⌝ }
+        ≡ restoreAt (now (table .entry)) role (now (text .entry)) (now (codes .entry)) (now (head .entry)) (lent (now (statistics .entry)) (now («last_shingled_input» .entry)) (now («last_shingled_point» .entry)) (now («previous_timestamps» .entry)) (now («initial_values» .entry)) (now («initial_timestamps» .entry))) (now (line .entry)) ⌝ }
 {
+    if !may(table, role, Right::RESTORE) {
+        return 22;
+    }
     if head.len() < 44 {
         let mut numbers = [0.0f64; 1];
         let mut input = [0.0f32; 1];
@@ -43,6 +50,8 @@ pub extern "C" fn veerycouch_restore(
         let mut values = [0.0f32; 1];
         let mut initial = [0u64; 1];
         let few = restore(
+            table,
+            role,
             text,
             codes,
             &mut numbers[..0],
@@ -57,6 +66,8 @@ pub extern "C" fn veerycouch_restore(
         return row;
     }
     let r = restore(
+        table,
+        role,
         text,
         codes,
         statistics,

@@ -7,7 +7,7 @@ use lib.Seq.{take-length}
 use Rattle.common.specs.Lent.{over}
 use Rattle.common.proofs.RangeSteps.{over-copy}
 use Rattle.trcf.proofs.LentLaws.{over-none}
-use Rattle.capi.proofs.CallLaws.{codes-many, codes-fit}
+use Rattle.capi.proofs.CallLaws.{list-many, list-fit}
 use borrow.Author.Needs.{needs}
 use Rattle.capi.proofs.codes.tell_codes.Statement.{statement}
 use Rattle.capi.proofs.codes.tell_codes.Tie as tie
@@ -21,7 +21,7 @@ abbrev μ-loop : tie.MeasureT-loop
 μ-loop codes output₀ i₀ output i = length codes - i
 
 returns : tie.Need-returns Inv-loop μ-loop
-returns c = codes-many (c .before .args .codes .now) (c .before .args .output .now) (c .if1 .taken)
+returns c = list-many (c .before .args .codes .now) (c .before .args .output .now) (c .if1 .taken)
 
 loop-holds : tie.Need-loop-holds Inv-loop μ-loop
 loop-holds c = (omega arith, over-none _, refl)
@@ -62,7 +62,7 @@ returns-2 c =
     let e : L .i ≡ length (a .codes .now) = omega arith in
     let p = rw e at (L .inv .1) in
     let q = p ∙ ap (over (a .output .now)) (take-length (a .codes .now)) in
-    codes-fit (a .codes .now) (a .output .now) (c .before .before .if1 .left) q
+    list-fit (a .codes .now) (a .output .now) (c .before .before .if1 .left) q
 
 pub tell-codes-spec : {M : Type 1} → statement M
 tell-codes-spec =

@@ -1,15 +1,20 @@
 -- `capi::restore::veerycouch_restore` meets its contract. Assumes nothing.
 use borrow.Author.Needs.{needs}
 use native.Mathlib.Omega.{arith}
+use borrow.Author.Tests.{not-true, not-false}
 use Rattle.trcf.specs.View.{lent}
-use Rattle.capi.proofs.RestoreLaws.{restore-few, restore-done}
+use Rattle.capi.proofs.RestoreLaws.{restore-withheld, restore-few, restore-done}
 use Rattle.capi.proofs.restore.veerycouch_restore.Statement.{statement}
 use Rattle.capi.proofs.restore.veerycouch_restore.Tie as tie
-use Rattle.capi.proofs.restore.veerycouch_restore.Reads as reads
-use Rattle.capi.proofs.restore.veerycouch_restore.Lts as lts
-use Rattle.capi.proofs.head.write_head.Reads as write-head-reads
-use Rattle.capi.proofs.restore.tell_line.Reads as tell-line-reads
-use Rattle.snapshot.proofs.restore.restore.Reads as restore-reads
+
+may-requires : tie.Need-may-requires
+may-requires c κs = search needs
+
+returns : tie.Need-returns
+returns c =
+    let c8 = c .before .before .before .before .before .before .before .before in
+    let a = c8 .before .before .before .before .before .args in
+    restore-withheld (a .table .now) (a .role) (a .text .now) (a .codes .now) (a .head .now) (lent (a .statistics .now) (a .last-shingled-input .now) (a .last-shingled-point .now) (a .previous-timestamps .now) (a .initial-values .now) (a .initial-timestamps .now)) (a .line .now) (c .before .may .ensures) (not-true _ (c .if1 .taken))
 
 array-borrow-prefix-numbers : tie.Need-array-borrow-prefix-numbers
 array-borrow-prefix-numbers c = search needs
@@ -53,10 +58,13 @@ restore-requires c κs = search needs
 tell-line-requires : tie.Need-tell-line-requires
 tell-line-requires c κs = search needs
 
-returns : tie.Need-returns
-returns c =
-    let a = c .before .before .before .before .before .before .before .before .before .before .before .before .before .before .before .before .before .before .before .before .before .before .before .before .before .args in
-    restore-few (a .text .now) (a .codes .now) (a .head .now) (lent (a .statistics .now) (a .last-shingled-input .now) (a .last-shingled-point .now) (a .previous-timestamps .now) (a .initial-values .now) (a .initial-timestamps .now)) (a .line .now) (omega arith) (c .before .before .before .before .before .before .before .before .restore .ensures) (c .tell-line .ensures)
+returns-2 : tie.Need-returns-2
+returns-2 c =
+    let c8 = c .before .before .before .before .before .before .before .before in
+    let c16 = c8 .before .before .before .before .before .before .before .before in
+    let c24 = c16 .before .before .before .before .before .before .before .before in
+    let a = c24 .before .before .before .before .args in
+    restore-few (a .table .now) (a .role) (a .text .now) (a .codes .now) (a .head .now) (lent (a .statistics .now) (a .last-shingled-input .now) (a .last-shingled-point .now) (a .previous-timestamps .now) (a .initial-values .now) (a .initial-timestamps .now)) (a .line .now) (c8 .before .before .before .before .before .before .before .before .may .ensures) (not-false _ (c8 .before .before .before .before .before .before .before .if1 .left)) (omega arith) (c .before .before .before .before .before .before .before .before .restore .ensures) (c .tell-line .ensures)
 
 restore-requires-2 : tie.Need-restore-requires-2
 restore-requires-2 c κs = search needs
@@ -88,15 +96,21 @@ same-length-6 c = search needs
 same-length-7 : tie.Need-same-length-7
 same-length-7 c = search needs
 
-returns-2 : tie.Need-returns-2
-returns-2 c =
-    let a = c .before .before .before .before .before .before .before .before .before .before .before .before .before .before .before .before .before .before .before .before .before .before .before .before .before .before .before .before .before .before .before .before .before .before .before .before .args in
-    restore-done (a .text .now) (a .codes .now) (a .head .now) (lent (a .statistics .now) (a .last-shingled-input .now) (a .last-shingled-point .now) (a .previous-timestamps .now) (a .initial-values .now) (a .initial-timestamps .now)) (a .line .now) (omega arith) (c .before .before .before .before .before .before .before .before .before .before .before .before .before .before .before .before .before .before .before .restore2 .ensures) (c .before .before .before .before .write-head .ensures) (c .tell-line2 .ensures)
+returns-3 : tie.Need-returns-3
+returns-3 c =
+    let c8 = c .before .before .before .before .before .before .before .before in
+    let c16 = c8 .before .before .before .before .before .before .before .before in
+    let c24 = c16 .before .before .before .before .before .before .before .before in
+    let c32 = c24 .before .before .before .before .before .before .before .before in
+    let a = c32 .before .before .before .before .before .before .before .args in
+    restore-done (a .table .now) (a .role) (a .text .now) (a .codes .now) (a .head .now) (lent (a .statistics .now) (a .last-shingled-input .now) (a .last-shingled-point .now) (a .previous-timestamps .now) (a .initial-values .now) (a .initial-timestamps .now)) (a .line .now) (c24 .before .before .before .may .ensures) (not-false _ (c24 .before .before .if1 .left)) (omega arith) (c16 .before .before .before .restore2 .ensures) (c .before .before .before .before .write-head .ensures) (c .tell-line2 .ensures)
 
 pub veerycouch-restore-spec : {M : Type 1} → statement M
 veerycouch-restore-spec =
     tie.close
     (tie.spec
+    may-requires
+    returns
     array-borrow-prefix-numbers
     slice-aggregate-restore
     array-borrow-prefix-input
@@ -111,7 +125,7 @@ veerycouch-restore-spec =
     slice-aggregate-restore-6
     restore-requires
     tell-line-requires
-    returns
+    returns-2
     restore-requires-2
     write-head-requires
     tell-line-requires-2
@@ -122,4 +136,4 @@ veerycouch-restore-spec =
     same-length-5
     same-length-6
     same-length-7
-    returns-2)
+    returns-3)
