@@ -44,6 +44,24 @@ fn the_element() {
     assert_eq!(element(33554435, 1.0, 2.0), 16777218.0);
 }
 
+/// Multiplied, then divided, then narrowed: 25,690,113 × 49 / 49 is halfway between two f32, and 25,690,113 / 49 × 49 is not.
+#[test]
+fn the_order_of_the_operations() {
+    assert_eq!(element(25_690_113, 49.0, 49.0), 25_690_112.0);
+    assert_eq!((25_690_113.0f64 / 49.0 * 49.0) as f32, 25_690_114.0);
+    assert_eq!(element(123_032_899, 3.0, 11.0), 33_554_428.0);
+    assert_eq!((123_032_899.0f64 * (3.0 / 11.0)) as f32, 33_554_426.0);
+    for (weight_time, timescale, gaps) in oracle::vectors::gap::HALFWAY {
+        for gap in gaps {
+            // exactly: the quotient is an odd number of 25 bits
+            let (product, scale) = (gap as u128 * weight_time as u128, timescale as u128);
+            let quotient = (product / scale) as u64;
+            assert!(product % scale == 0 && quotient % 2 == 1 && quotient >> 24 == 1);
+            assert_eq!(element(gap, weight_time, timescale), quotient as f32);
+        }
+    }
+}
+
 /// Times 100 and 130: the gap, and what T has of the same times (document 01's sample).
 #[test]
 fn after_a_learnt_reading() {

@@ -224,6 +224,27 @@ fn unreached(r: &mut Random, n: usize, out: &mut String) {
     calls_lines(r, out, w.restore(), &calls, (0, 3));
 }
 
+/// weight_time, timescale and gaps whose product is, divided, halfway between two f32: divided before it is multiplied (the first), or by a quotient of weight_time
+/// and timescale (the second), it would narrow to the other of the two.
+pub const HALFWAY: [(f32, f64, [u64; 2]); 2] = [(49.0, 49.0, [25_690_113, 25_690_143]), (3.0, 11.0, [123_032_899, 123_032_855])];
+
+/// The order of the operations.
+fn operations(r: &mut Random, (weight_time, timescale, gaps): (f32, f64, [u64; 2]), out: &mut String) {
+    let s = Settings { mode: Mode::GapAugmented, method: WEIGHTED, d: 1, k: 1, start: 0, stop: 9, decay: 0.0, weight_time, weights: vec![1.0], codes: vec![7] };
+    let mut w = Snapshot::of(&Reference::build(&s).unwrap());
+    (w.values_seen, w.internal, w.count) = (1, 1, 1);
+    w.statistics.iter_mut().for_each(|s| *s = [1.0, timescale - 1.0, 2304.0]);
+    w.times = vec![1000];
+    let m = &mut Maker { s: &s, calls: Vec::new() };
+    for gap in gaps {
+        m.transform(r, 1000 + gap, None, None);
+        m.point(r, 1000 + gap, None, None);
+    }
+    let calls = std::mem::take(&mut m.calls);
+    set_lines(&w, out);
+    calls_lines(r, out, w.restore(), &calls, (0, 0));
+}
+
 /// Directed lists, then random ones until there are so many lines.
 pub fn lists(r: &mut Random, lines: u64) -> String {
     let mut out = String::new();
@@ -308,7 +329,7 @@ fn almost(r: &mut Random, s: &Settings) -> Snapshot {
 
 const MODES: [Mode; 3] = [Mode::Standard, Mode::TimeAugmented, Mode::GapAugmented];
 
-/// Rows 4 and 8 on both sides; and starts of 1,999 and 501 completed and drained, in every mode.
+/// Rows 4 and 8 on both sides; starts of 1,999 and 501 completed and drained, in every mode; and the order of the operations in mode G's element.
 pub fn edges(r: &mut Random) -> String {
     let mut out = String::new();
     for mode in MODES {
@@ -346,6 +367,9 @@ pub fn edges(r: &mut Random) -> String {
         let calls = std::mem::take(&mut m.calls);
         set_lines(&w, &mut out);
         calls_lines(r, &mut out, w.restore(), &calls, (0, 0));
+    }
+    for case in HALFWAY {
+        operations(r, case, &mut out);
     }
     out
 }
