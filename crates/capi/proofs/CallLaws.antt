@@ -24,7 +24,8 @@ use Rattle.access.specs.declared.rights.Right.{Right}
 use Rattle.access.specs.declared.rights.Right.the-variants.{SEE, LEARN, SAVE}
 use Rattle.access.specs.Access.{needs, granted, guarded}
 use Rattle.access.specs.Entries.{pointBy, learnBy, drainBy, writeBy, extrapolationBy, saveBy, numbersOf, numbersBy, untold}
-use Rattle.capi.specs.Calls.{openRow, onHead, flag, Called, called, drainTold, drainAt, buildTold, buildAt, pointCalled, pointTold, pointAt, Anomaly, anomaly, learnCalled, learnTold, learnAt, writeAt, extrapolationAt, saveTold, saveAt, ListGot, listGot, listTold, numbersTold, numbersAt, codesAt}
+use Rattle.capi.specs.Calls.{openRow, onHead, flag, Called, called, drainTold, drainAt, buildTold, buildAt, pointCalled, pointTold, pointAt, Anomaly, anomaly}
+use Rattle.capi.specs.Calls.{learnCalled, learnTold, learnAt, writeAt, extrapolationAt, saveTold, saveAt, ListGot, listGot, listTold, numbersTold, numbersAt, codesAt}
 
 module _ {A : Type 0} where
   -- an answer where a call was not refused

@@ -6,7 +6,7 @@ use lib.ListN.{take, set}
 use lib.Ieee.{nan, binary64, ofBits, toBits, le}
 use Rattle.common.specs.Deviation.{outsideUnit}
 use Rattle.trcf.specs.Transformer.{one32}
-use Rattle.trcf.specs.Settings.{settingsRow, allOne, waiting}
+use Rattle.trcf.specs.Settings.{settingsRow, allOne, block, dimension, waiting}
 use Rattle.trcf.specs.View.{headFrom, headRow, misfit, outsideRow}
 use Rattle.trcf.specs.declared.types.TransformMethod.the-variants.{NORMALIZE}
 use Rattle.trcf.specs.declared.types.ForestMode.the-variants.{«TIME_AUGMENTED»}
@@ -17,7 +17,7 @@ use Rattle.capi.specs.Head.{headOf, numbersOf, frontOf, wordsOf, wordsRo
 use Rattle.capi.specs.Calls.{openRow, onHead, listGot, listTold, numbersAt, codesAt}
 
 all : Unit {0}
-unfolding wordsOf frontOf numbersOf headOf wordsRow outsideRow misfit waiting openRow onHead listTold numbersAt codesAt granted headRow settingsRow allOne outsideUnit over toBits ofBits le
+unfolding wordsOf frontOf numbersOf headOf wordsRow outsideRow misfit waiting openRow onHead listTold numbersAt codesAt granted headRow dimension block settingsRow allOne outsideUnit over toBits ofBits le
 all = tt
 
 abbrev sample : Preprocessor

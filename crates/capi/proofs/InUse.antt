@@ -75,7 +75,7 @@ learn-head b k c (told a) = refl
 module _ (table : List ℕ) (role : ℕ) (h : Preprocessor) (held : Held h) (good : outsideRow h ≡ 0) (rest : List ℕ) where
   opens : (rs : List Right) → granted table role rs ≡ true → 0 ≡ openRow (granted table role rs) (wordsOf h ++ rest)
   unfolding openRow
-  opens rs e = sym (in-use h held good rest) ∙ ap (λ (b : Bool). cond b (wordsRow (wordsOf h ++ rest)) 22) (sym e)
+  opens rs e = rw e (sym (in-use h held good rest))
 
   pub drain-in-words : granted table role (LEARN ∷ []) ≡ true → (l : Lent)
       → drainAt table role (wordsOf h ++ rest) l ≡ called (drainOf h l .row) (wordsOf (drainOf h l .head) ++ rest) (drainOf h l .lent)

@@ -15,11 +15,11 @@ use Rattle.capi.specs.Calls.{openRow, flag, numbersTold}
 
 pub open-shut : (b : Bool) (w : List ℕ) → b ≡ false → 22 ≡ openRow b w
 unfolding openRow
-open-shut b w e = ap (λ (x : Bool). cond x (wordsRow w) 22) (sym e)
+open-shut b w e = rw e
 
 pub open-read : (b : Bool) (w : List ℕ) {n : ℕ} → b ≡ true → n ≡ wordsRow w → n ≡ openRow b w
 unfolding openRow
-open-read b w e p = p ∙ ap (λ (x : Bool). cond x (wordsRow w) 22) (sym e)
+open-read b w e p = rw e p
 
 -- ---- ten numbers stored one by one
 

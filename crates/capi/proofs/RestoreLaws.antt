@@ -20,34 +20,39 @@ use Rattle.access.specs.Access.{granted}
 use Rattle.access.specs.Entries.{restoreBy}
 use Rattle.capi.specs.Restore.{RestoreCalled, restoreCalled, nothing, restoreInto, restoreAt}
 
+-- ---- by the words
+
+module _ (t cs w : List ℕ) (l : Lent) (line : ℕ) {row bad : ℕ} {h : Preprocessor} {l' : Lent} {n : ℕ} where
+  few : length w < 44 → outcome row bad h l' ≡ restoreOf t cs nothing → n ≡ cond (eqb row 19) bad line → restoreCalled row w l n ≡ restoreInto t cs w l line
+  unfolding restoreInto
+  few f p q = rw (lt-ltb (length w) 44 f, sym p) (ap (restoreCalled row w l) q)
+
+  all : {w' : List ℕ} → 44 ≤ length w → outcome row bad h l' ≡ restoreOf t cs l → w' ≡ accepted row (over w (wordsOf h)) w → n ≡ cond (eqb row 19) bad line
+      → restoreCalled row w' l' n ≡ restoreInto t cs w l line
+  unfolding restoreInto
+  all f p r q = rw (le-ltb (length w) 44 f, sym p) (λ j. restoreCalled row (r j) l' (q j))
+
+-- ---- by the table
+
 module _ (table : List ℕ) (role : ℕ) (t cs w : List ℕ) (l : Lent) (line : ℕ) {b : Bool} (m : b ≡ granted table role (RESTORE ∷ [])) where
   pub restore-withheld : b ≡ false → restoreCalled 22 w l line ≡ restoreAt table role t cs w l line
   restore-withheld e = ap (λ (x : Bool). cond x (restoreInto t cs w l line) (restoreCalled 22 w l line)) (sym e ∙ m)
 
+  -- what the guarded entry gives is what the one below gives
+  below : b ≡ true → (k : Lent) {o : Outcome} → o ≡ restoreBy table role t cs k → o ≡ restoreOf t cs k
+  below e k p = p ∙ ap (λ (x : Bool). cond x (restoreOf t cs k) (outcome 22 0 noHead k)) (sym m ∙ e)
+
+  into : b ≡ true → {o : RestoreCalled} → o ≡ restoreInto t cs w l line → o ≡ restoreAt table role t cs w l line
+  into e p = p ∙ ap (λ (x : Bool). cond x (restoreInto t cs w l line) (restoreCalled 22 w l line)) (sym e ∙ m)
+
   module _ (e : b ≡ true) {row bad : ℕ} {h : Preprocessor} {l' : Lent} {n : ℕ} where
-    -- what the guarded entry gives is what the one below gives
-    below : (k : Lent) → outcome row bad h l' ≡ restoreBy table role t cs k → outcome row bad h l' ≡ restoreOf t cs k
-    below k p = p ∙ ap (λ (x : Bool). cond x (restoreOf t cs k) (outcome 22 0 noHead k)) (sym m ∙ e)
-
-    into : {o : RestoreCalled} → o ≡ restoreInto t cs w l line → o ≡ restoreAt table role t cs w l line
-    into p = p ∙ ap (λ (x : Bool). cond x (restoreInto t cs w l line) (restoreCalled 22 w l line)) (sym e ∙ m)
-
-    few : length w < 44 → outcome row bad h l' ≡ restoreOf t cs nothing → n ≡ cond (eqb row 19) bad line → restoreCalled row w l n ≡ restoreInto t cs w l line
-    unfolding restoreInto
-    few f p q = rw (lt-ltb (length w) 44 f, sym p) (ap (restoreCalled row w l) q)
-
-    all : {w' : List ℕ} → 44 ≤ length w → outcome row bad h l' ≡ restoreOf t cs l → w' ≡ accepted row (over w (wordsOf h)) w → n ≡ cond (eqb row 19) bad line
-        → restoreCalled row w' l' n ≡ restoreInto t cs w l line
-    unfolding restoreInto
-    all f p r q = rw (le-ltb (length w) 44 f, sym p) (λ j. restoreCalled row (r j) l' (q j))
-
     pub restore-few : length w < 44 → outcome row bad h l' ≡ restoreBy table role t cs nothing → n ≡ cond (eqb row 19) bad line
         → restoreCalled row w l n ≡ restoreAt table role t cs w l line
-    restore-few f p q = into (few f (below nothing p) q)
+    restore-few f p q = into e (few t cs w l line f (below e nothing p) q)
 
     pub restore-done : {w' : List ℕ} → 44 ≤ length w → outcome row bad h l' ≡ restoreBy table role t cs l → w' ≡ accepted row (over w (wordsOf h)) w
         → n ≡ cond (eqb row 19) bad line → restoreCalled row w' l' n ≡ restoreAt table role t cs w l line
-    restore-done f p r q = into (all f (below l p) r q)
+    restore-done f p r q = into e (all t cs w l line f (below e l p) r q)
 
 -- "(27: codes differ from those expected, in number or value; after 19 …)": before 20, so however many words there are, and all is left as it was
 pub other-codes : (table : List ℕ) (role : ℕ) → granted table role (RESTORE ∷ []) ≡ true → (t cs w : List ℕ) (l : Lent) (line : ℕ) (v : State)

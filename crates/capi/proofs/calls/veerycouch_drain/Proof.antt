@@ -18,7 +18,9 @@ returns : tie.Need-returns
 returns c =
     let c8 = c .before .before .before .before .before .before .before .before in
     let a = c8 .before .before .before .before .args in
-    drain-refused (a .table .now) (a .role) (a .head .now) (opened (a .head .now) (c .before .before .before .may .ensures) (c .before .open-head .ensures .0)) (lent (a .statistics .now) (a .last-shingled-input .now) (a .last-shingled-point .now) (a .previous-timestamps .now) (a .initial-values .now) (a .initial-timestamps .now)) (c .if1 .taken)
+    drain-refused (a .table .now) (a .role) (a .head .now) (opened (a .head .now) (c .before .before .before .may .ensures) (c .before .open-head .ensures .0))
+    (lent (a .statistics .now) (a .last-shingled-input .now) (a .last-shingled-point .now) (a .previous-timestamps .now) (a .initial-values .now) (a .initial-timestamps .now))
+    (c .if1 .taken)
 
 drain-requires : tie.Need-drain-requires
 drain-requires c κs = search needs
@@ -52,7 +54,9 @@ returns-2 c =
     let a = c24 .before .before .before .before .before .before .before .args in
     let h = c16 .before .before .before .before .open-head in
     let m = c16 .before .before .before .before .before .before .may in
-    drain-done (a .table .now) (a .role) (a .head .now) (c16 .before .before .before .if1 .left) (h .ensures .1) (opened (a .head .now) (m .ensures) (h .ensures .0)) (lent (a .statistics .now) (a .last-shingled-input .now) (a .last-shingled-point .now) (a .previous-timestamps .now) (a .initial-values .now) (a .initial-timestamps .now)) (c8 .before .before .before .before .before .drain .ensures) (c .before .before .write-counts .ensures)
+    drain-done (a .table .now) (a .role) (a .head .now) (c16 .before .before .before .if1 .left) (h .ensures .1) (opened (a .head .now) (m .ensures) (h .ensures .0))
+    (lent (a .statistics .now) (a .last-shingled-input .now) (a .last-shingled-point .now) (a .previous-timestamps .now) (a .initial-values .now) (a .initial-timestamps .now))
+    (c8 .before .before .before .before .before .drain .ensures) (c .before .before .write-counts .ensures)
 
 pub veerycouch-drain-spec : {M : Type 1} → statement M
 veerycouch-drain-spec = tie.close (tie.spec may-requires open-head-requires same-length returns drain-requires write-counts-requires same-length-2 same-length-3 same-length-4 same-length-5 same-length-6 returns-2)

@@ -18,7 +18,9 @@ returns : tie.Need-returns
 returns c =
     let c8 = c .before .before .before .before .before .before .before .before in
     let a = c8 .before .before .before .before .before .before .args in
-    point-refused (a .table .now) (a .role) (a .head .now) (opened (a .head .now) (c .before .before .before .may-point .ensures) (c .before .open-head .ensures .0)) (lent (a .statistics .now) (a .last-shingled-input .now) (a .last-shingled-point .now) (a .previous-timestamps .now) (a .initial-values .now) (a .initial-timestamps .now)) (a .input .now) (a .timestamp) (a .given .now) (a .output .now) (c .if1 .taken)
+    point-refused (a .table .now) (a .role) (a .head .now) (opened (a .head .now) (c .before .before .before .may-point .ensures) (c .before .open-head .ensures .0))
+    (lent (a .statistics .now) (a .last-shingled-input .now) (a .last-shingled-point .now) (a .previous-timestamps .now) (a .initial-values .now) (a .initial-timestamps .now))
+    (a .input .now) (a .timestamp) (a .given .now) (a .output .now) (c .if1 .taken)
 
 shingled-point-requires : tie.Need-shingled-point-requires
 shingled-point-requires c κs = search needs
@@ -62,7 +64,10 @@ returns-2 c =
     let a = c32 .before .before .before .before .before .before .before .args in
     let h = c24 .before .before .open-head in
     let m = c24 .before .before .before .before .may-point in
-    point-done (a .table .now) (a .role) (a .head .now) (c24 .before .if1 .left) (h .ensures .1) (opened (a .head .now) (m .ensures) (h .ensures .0)) (lent (a .statistics .now) (a .last-shingled-input .now) (a .last-shingled-point .now) (a .previous-timestamps .now) (a .initial-values .now) (a .initial-timestamps .now)) (a .input .now) (a .timestamp) (a .given .now) (a .output .now) (c16 .before .before .shingled-point .ensures) (c .before .before .before .before .before .write-counts .ensures) (c .before .flag-of .ensures) (c .tell .ensures)
+    point-done (a .table .now) (a .role) (a .head .now) (c24 .before .if1 .left) (h .ensures .1) (opened (a .head .now) (m .ensures) (h .ensures .0))
+    (lent (a .statistics .now) (a .last-shingled-input .now) (a .last-shingled-point .now) (a .previous-timestamps .now) (a .initial-values .now) (a .initial-timestamps .now))
+    (a .input .now) (a .timestamp) (a .given .now) (a .output .now) (c16 .before .before .shingled-point .ensures) (c .before .before .before .before .before .write-counts .ensures)
+    (c .before .flag-of .ensures) (c .tell .ensures)
 
 pub veerycouch-shingled-point-spec : {M : Type 1} → statement M
 veerycouch-shingled-point-spec = tie.close (tie.spec may-point-requires open-head-requires same-length returns shingled-point-requires write-counts-requires flag-of-requires tell-requires same-length-2 same-length-3 same-length-4 same-length-5 same-length-6 same-length-7 returns-2)

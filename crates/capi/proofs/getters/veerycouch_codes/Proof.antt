@@ -55,7 +55,8 @@ returns-2 c =
     let a = b .before .before .before .before .before .args in
     let v = r .result .head .codes in
     let z : length v ≡ 16 = read-codes (r .ensures .1 i) in
-    codes-done (a .table .now) (a .role) (a .head .now) i (r .ensures .1) (opened (a .head .now) (m .ensures) (r .ensures .0)) (take (u .result) v) (a .output .now) (u .ensures .1 .1 v z) (c .before .before .tell-codes .ensures)
+    codes-done (a .table .now) (a .role) (a .head .now) i (r .ensures .1) (opened (a .head .now) (m .ensures) (r .ensures .0)) (take (u .result) v) (a .output .now)
+    (u .ensures .1 .1 v z) (c .before .before .tell-codes .ensures)
 
 pub veerycouch-codes-spec : {M : Type 1} → statement M
 veerycouch-codes-spec =

@@ -15,7 +15,9 @@ returns : tie.Need-returns
 returns c =
     let c8 = c .before .before .before .before .before .before .before .before in
     let a = c8 .before .before .before .before .args in
-    save-refused (a .table .now) (a .role) (a .head .now) (opened (a .head .now) (c .before .before .may .ensures) (c .before .open-head .ensures .0)) (lent (a .statistics .now) (a .last-shingled-input .now) (a .last-shingled-point .now) (a .previous-timestamps .now) (a .initial-values .now) (a .initial-timestamps .now)) (a .length .now) (a .output .now) (c .if1 .taken)
+    save-refused (a .table .now) (a .role) (a .head .now) (opened (a .head .now) (c .before .before .may .ensures) (c .before .open-head .ensures .0))
+    (lent (a .statistics .now) (a .last-shingled-input .now) (a .last-shingled-point .now) (a .previous-timestamps .now) (a .initial-values .now) (a .initial-timestamps .now))
+    (a .length .now) (a .output .now) (c .if1 .taken)
 
 save-requires : tie.Need-save-requires
 save-requires c κs = search needs
@@ -33,7 +35,10 @@ returns-2 c =
     let a = c16 .before .before .before .args in
     let h = c .before .before .before .before .before .before .before .before .open-head in
     let m = c8 .before .may in
-    save-done (a .table .now) (a .role) (a .head .now) (c .before .before .before .before .before .before .before .if1 .left) (h .ensures .1) (opened (a .head .now) (m .ensures) (h .ensures .0)) (lent (a .statistics .now) (a .last-shingled-input .now) (a .last-shingled-point .now) (a .previous-timestamps .now) (a .initial-values .now) (a .initial-timestamps .now)) (a .length .now) (a .output .now) (c .before .before .before .before .save .ensures) (c .tell .ensures)
+    save-done (a .table .now) (a .role) (a .head .now) (c .before .before .before .before .before .before .before .if1 .left) (h .ensures .1)
+    (opened (a .head .now) (m .ensures) (h .ensures .0))
+    (lent (a .statistics .now) (a .last-shingled-input .now) (a .last-shingled-point .now) (a .previous-timestamps .now) (a .initial-values .now) (a .initial-timestamps .now))
+    (a .length .now) (a .output .now) (c .before .before .before .before .save .ensures) (c .tell .ensures)
 
 pub veerycouch-save-spec : {M : Type 1} → statement M
 veerycouch-save-spec = tie.close (tie.spec may-requires open-head-requires returns save-requires tell-requires same-length returns-2)

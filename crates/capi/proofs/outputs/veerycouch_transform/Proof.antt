@@ -16,7 +16,10 @@ returns : tie.Need-returns
 returns c =
     let c8 = c .before .before .before .before .before .before .before .before in
     let a = c8 .before .before .before .before .before .args in
-    write-refused (a .table .now) (a .role) (a .head .now) (lent (a .statistics .now) (a .last-shingled-input .now) (a .last-shingled-point .now) (a .previous-timestamps .now) (a .initial-values .now) (a .initial-timestamps .now)) (transform (a .input .now) (a .timestamp) (a .output .now)) (a .output .now) (opened (a .head .now) (c .before .before .may .ensures) (c .before .open-head .ensures .0)) (c .if1 .taken)
+    write-refused (a .table .now) (a .role) (a .head .now)
+    (lent (a .statistics .now) (a .last-shingled-input .now) (a .last-shingled-point .now) (a .previous-timestamps .now) (a .initial-values .now) (a .initial-timestamps .now))
+    (transform (a .input .now) (a .timestamp) (a .output .now)) (a .output .now) (opened (a .head .now) (c .before .before .may .ensures) (c .before .open-head .ensures .0))
+    (c .if1 .taken)
 
 transform-requires : tie.Need-transform-requires
 transform-requires c κs = search needs
@@ -31,7 +34,9 @@ returns-2 c =
     let a = c16 .before .before .args in
     let h = c .before .before .before .before .before .before .open-head in
     let m = c .before .before .before .before .before .before .before .may in
-    write-done (a .table .now) (a .role) (a .head .now) (c .before .before .before .before .before .if1 .left) (h .ensures .1) (lent (a .statistics .now) (a .last-shingled-input .now) (a .last-shingled-point .now) (a .previous-timestamps .now) (a .initial-values .now) (a .initial-timestamps .now)) (transform (a .input .now) (a .timestamp) (a .output .now)) (a .output .now) (opened (a .head .now) (m .ensures) (h .ensures .0)) (c .before .before .transform .ensures)
+    write-done (a .table .now) (a .role) (a .head .now) (c .before .before .before .before .before .if1 .left) (h .ensures .1)
+    (lent (a .statistics .now) (a .last-shingled-input .now) (a .last-shingled-point .now) (a .previous-timestamps .now) (a .initial-values .now) (a .initial-timestamps .now))
+    (transform (a .input .now) (a .timestamp) (a .output .now)) (a .output .now) (opened (a .head .now) (m .ensures) (h .ensures .0)) (c .before .before .transform .ensures)
 
 pub veerycouch-transform-spec : {M : Type 1} → statement M
 veerycouch-transform-spec = tie.close (tie.spec may-requires open-head-requires returns transform-requires same-length returns-2)

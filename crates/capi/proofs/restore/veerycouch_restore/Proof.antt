@@ -13,8 +13,10 @@ may-requires c κs = search needs
 returns : tie.Need-returns
 returns c =
     let c8 = c .before .before .before .before .before .before .before .before in
-    let a = c8 .before .before .before .before .before .args in
-    restore-withheld (a .table .now) (a .role) (a .text .now) (a .codes .now) (a .head .now) (lent (a .statistics .now) (a .last-shingled-input .now) (a .last-shingled-point .now) (a .previous-timestamps .now) (a .initial-values .now) (a .initial-timestamps .now)) (a .line .now) (c .before .may .ensures) (not-true _ (c .if1 .taken))
+    let a = c8 .before .before .before .before .args in
+    restore-withheld (a .table .now) (a .role) (a .text .now) (a .codes .now) (a .head .now)
+    (lent (a .statistics .now) (a .last-shingled-input .now) (a .last-shingled-point .now) (a .previous-timestamps .now) (a .initial-values .now) (a .initial-timestamps .now))
+    (a .line .now) (c .before .may .ensures) (not-true _ (c .if1 .taken))
 
 array-borrow-prefix-numbers : tie.Need-array-borrow-prefix-numbers
 array-borrow-prefix-numbers c = search needs
@@ -64,7 +66,10 @@ returns-2 c =
     let c16 = c8 .before .before .before .before .before .before .before .before in
     let c24 = c16 .before .before .before .before .before .before .before .before in
     let a = c24 .before .before .before .before .args in
-    restore-few (a .table .now) (a .role) (a .text .now) (a .codes .now) (a .head .now) (lent (a .statistics .now) (a .last-shingled-input .now) (a .last-shingled-point .now) (a .previous-timestamps .now) (a .initial-values .now) (a .initial-timestamps .now)) (a .line .now) (c8 .before .before .before .before .before .before .before .before .may .ensures) (not-false _ (c8 .before .before .before .before .before .before .before .if1 .left)) (omega arith) (c .before .before .before .before .before .before .before .before .restore .ensures) (c .tell-line .ensures)
+    restore-few (a .table .now) (a .role) (a .text .now) (a .codes .now) (a .head .now)
+    (lent (a .statistics .now) (a .last-shingled-input .now) (a .last-shingled-point .now) (a .previous-timestamps .now) (a .initial-values .now) (a .initial-timestamps .now))
+    (a .line .now) (c16 .before .may .ensures) (not-false _ (c8 .before .before .before .before .before .before .before .before .if1 .left)) (c8 .before .before .before .before .before .before .before .if2 .taken)
+    (c .before .before .before .before .before .before .before .before .restore .ensures) (c .tell-line .ensures)
 
 restore-requires-2 : tie.Need-restore-requires-2
 restore-requires-2 c κs = search needs
@@ -103,7 +108,10 @@ returns-3 c =
     let c24 = c16 .before .before .before .before .before .before .before .before in
     let c32 = c24 .before .before .before .before .before .before .before .before in
     let a = c32 .before .before .before .before .before .before .before .args in
-    restore-done (a .table .now) (a .role) (a .text .now) (a .codes .now) (a .head .now) (lent (a .statistics .now) (a .last-shingled-input .now) (a .last-shingled-point .now) (a .previous-timestamps .now) (a .initial-values .now) (a .initial-timestamps .now)) (a .line .now) (c24 .before .before .before .may .ensures) (not-false _ (c24 .before .before .if1 .left)) (omega arith) (c16 .before .before .before .restore2 .ensures) (c .before .before .before .before .write-head .ensures) (c .tell-line2 .ensures)
+    restore-done (a .table .now) (a .role) (a .text .now) (a .codes .now) (a .head .now)
+    (lent (a .statistics .now) (a .last-shingled-input .now) (a .last-shingled-point .now) (a .previous-timestamps .now) (a .initial-values .now) (a .initial-timestamps .now))
+    (a .line .now) (c24 .before .before .before .before .may .ensures) (not-false _ (c24 .before .before .before .if1 .left)) (omega arith)
+    (c16 .before .before .before .restore2 .ensures) (c .before .before .before .before .write-head .ensures) (c .tell-line2 .ensures)
 
 pub veerycouch-restore-spec : {M : Type 1} → statement M
 veerycouch-restore-spec =
