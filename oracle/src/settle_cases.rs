@@ -110,7 +110,13 @@ fn borders(mode: &'static str) -> Vec<String> {
         }
     }
     // several pairs answer each for itself
-    all.push(set(mode, 1, 2, 0).pair(&["7fc00000"]) + &set(mode, 0, 64, 0).pair(&[ONE]) + &set(mode, 4, 1, 1999).pair(&[ONE]) + &set(mode, 2, 1, 7).pair(&[ONE]) + GOOD);
+    all.push(
+        set(mode, 1, 2, 0).pair(&["7fc00000"])
+            + &set(mode, 0, 64, 0).pair(&[ONE])
+            + &set(mode, 4, 1, 1999).pair(&[ONE])
+            + &set(mode, 2, 1, 7).pair(&[ONE])
+            + GOOD,
+    );
     all.push(set(mode, 5, 3, 2).pair(&[ONE]).repeat(8) + GOOD);
     all
 }
@@ -136,14 +142,18 @@ fn refused_pairs() -> Vec<String> {
         // d other than 1, behind the rows
         base().with(|s| s.d = "2".into()).pair(&[ONE, ONE]),
         base().with(|s| s.d = "16".into()).pair(&[ONE; 16]),
-        base().with(|s| {
-            s.d = "2".into();
-            s.start = "2000".into();
-        }).pair(&[ONE, ONE]),
-        base().with(|s| {
-            s.d = "2".into();
-            s.method = "0".into();
-        }).pair(&[ONE, "40000000"]),
+        base()
+            .with(|s| {
+                s.d = "2".into();
+                s.start = "2000".into();
+            })
+            .pair(&[ONE, ONE]),
+        base()
+            .with(|s| {
+                s.d = "2".into();
+                s.method = "0".into();
+            })
+            .pair(&[ONE, "40000000"]),
         // another form
         base().with(|s| s.mode = "g").pair(&[ONE]),
         base().with(|s| s.mode = "I").pair(&[ONE]),
@@ -189,11 +199,45 @@ fn shapes() -> Vec<String> {
     let p = plain();
     let cut = |text: &str, n: usize| text[..text.len() - n].to_string();
     let line = set("S", 4, 4, 10).line();
-    let mut all: Vec<String> = ["", "\n", "set", "set\n", "set\t", "set\t\n", "wgt\t3f800000\n", GOOD, "sig\n", "sig", "x", "\t", "SET\n", "setx\n", " set\n"].map(String::from).into();
-    all.extend([p.clone(), line.clone(), cut(&line, 1), cut(&p, 1), line.clone() + "wgt", line.clone() + GOOD, p.clone() + &line, p.clone() + &cut(&line, 1), p.clone() + &cut(&p, 1)]);
-    all.extend([p.clone() + "set", p.clone() + "set\n", p.clone() + "set" + GOOD, p.clone() + "\n" + GOOD, p.clone() + "x\n" + GOOD, p.clone() + "wgt\t3f800000\n" + GOOD]);
-    all.extend([cut(&(p.clone() + GOOD), 1), p.clone() + GOOD + "\n", p.clone() + GOOD + "x", p.clone() + GOOD + GOOD, p.clone() + GOOD + &p, p.clone() + GOOD + "\0", p.clone() + GOOD + "set"]);
-    all.extend([p.clone() + "set\t" + GOOD, p.clone() + "sets\t1\n", p.clone() + "se\n", line.clone() + "\r\n" + GOOD, line.replace('\n', "\r\n") + "wgt\t3f800000\n" + GOOD]);
+    let mut all: Vec<String> =
+        ["", "\n", "set", "set\n", "set\t", "set\t\n", "wgt\t3f800000\n", GOOD, "sig\n", "sig", "x", "\t", "SET\n", "setx\n", " set\n"]
+            .map(String::from)
+            .into();
+    all.extend([
+        p.clone(),
+        line.clone(),
+        cut(&line, 1),
+        cut(&p, 1),
+        line.clone() + "wgt",
+        line.clone() + GOOD,
+        p.clone() + &line,
+        p.clone() + &cut(&line, 1),
+        p.clone() + &cut(&p, 1),
+    ]);
+    all.extend([
+        p.clone() + "set",
+        p.clone() + "set\n",
+        p.clone() + "set" + GOOD,
+        p.clone() + "\n" + GOOD,
+        p.clone() + "x\n" + GOOD,
+        p.clone() + "wgt\t3f800000\n" + GOOD,
+    ]);
+    all.extend([
+        cut(&(p.clone() + GOOD), 1),
+        p.clone() + GOOD + "\n",
+        p.clone() + GOOD + "x",
+        p.clone() + GOOD + GOOD,
+        p.clone() + GOOD + &p,
+        p.clone() + GOOD + "\0",
+        p.clone() + GOOD + "set",
+    ]);
+    all.extend([
+        p.clone() + "set\t" + GOOD,
+        p.clone() + "sets\t1\n",
+        p.clone() + "se\n",
+        line.clone() + "\r\n" + GOOD,
+        line.replace('\n', "\r\n") + "wgt\t3f800000\n" + GOOD,
+    ]);
     for n in 2..=9 {
         all.push(p.repeat(n) + GOOD);
     }
@@ -212,7 +256,35 @@ fn shapes() -> Vec<String> {
 fn signals() -> Vec<String> {
     let mut fields: Vec<Vec<String>> = Vec::new();
     let good = ["3", "-2", "10", "-4", "5", "12"].map(String::from);
-    let any = ["-0", "00", "01", "-01", "+1", " 1", "1 ", "-", "--1", "", "1.0", "0x1", "a", "1001", "-1001", "18446744073709551617", "99999999999999999999999", "1000", "0", "1", "-1", "-1000", "999", "- 1", "1-", "\0", "1\r"];
+    let any = [
+        "-0",
+        "00",
+        "01",
+        "-01",
+        "+1",
+        " 1",
+        "1 ",
+        "-",
+        "--1",
+        "",
+        "1.0",
+        "0x1",
+        "a",
+        "1001",
+        "-1001",
+        "18446744073709551617",
+        "99999999999999999999999",
+        "1000",
+        "0",
+        "1",
+        "-1",
+        "-1000",
+        "999",
+        "- 1",
+        "1-",
+        "\0",
+        "1\r",
+    ];
     for place in 0..6 {
         for field in any {
             let mut f = good.to_vec();
@@ -221,7 +293,19 @@ fn signals() -> Vec<String> {
         }
     }
     let mut all: Vec<String> = fields.into_iter().map(|f| plain() + "sig\t" + &f.join("\t") + "\n").collect();
-    for line in ["sig", "sig\t", "sig\t1\t1\t1\t1\t1", "sig\t1\t1\t1\t1\t1\t1\t", "sig\t1\t1\t1\t1\t1\t1\t1", "sig 1 1 1 1 1 1", "Sig\t1\t1\t1\t1\t1\t1", "sig\t\t1\t1\t1\t1\t1\t1", "\tsig\t1\t1\t1\t1\t1\t1", "sigs\t1\t1\t1\t1\t1\t1", "sig\t1\t1\t1\t1\t1\t1 "] {
+    for line in [
+        "sig",
+        "sig\t",
+        "sig\t1\t1\t1\t1\t1",
+        "sig\t1\t1\t1\t1\t1\t1\t",
+        "sig\t1\t1\t1\t1\t1\t1\t1",
+        "sig 1 1 1 1 1 1",
+        "Sig\t1\t1\t1\t1\t1\t1",
+        "sig\t\t1\t1\t1\t1\t1\t1",
+        "\tsig\t1\t1\t1\t1\t1\t1",
+        "sigs\t1\t1\t1\t1\t1\t1",
+        "sig\t1\t1\t1\t1\t1\t1 ",
+    ] {
         all.push(plain() + line + "\n");
     }
     all.push(plain() + "sig\t-1000\t-1000\t-1000\t-1000\t0\t1000\n");
@@ -237,7 +321,8 @@ pub fn inputs(name: &str) -> Option<Vec<String>> {
             let pair = set("G", 4, 4, 10).pair(&[ONE]);
             let mixed = plain() + &pair + &set("T", 4, 4, 10).pair(&[ONE]) + &set("G", 5, 2, 0).pair(&["40000000"]) + GOOD;
             let two = set("G", 4, 4, 10).with(|s| s.d = "2".into());
-            let odd = vec![mixed, pair.repeat(8) + GOOD, pair.repeat(9) + GOOD, two.pair(&[ONE, ONE]) + GOOD, two.pair(&[ONE]) + GOOD, pair + "sig\n"];
+            let odd =
+                vec![mixed, pair.repeat(8) + GOOD, pair.repeat(9) + GOOD, two.pair(&[ONE, ONE]) + GOOD, two.pair(&[ONE]) + GOOD, pair + "sig\n"];
             [settled("G"), borders("G"), odd].concat()
         }
         _ => return None,

@@ -98,7 +98,10 @@ fn waiting_and_drained() {
         let drained = vec![0.0, 0.0, 0.0, gaps[0], 0.0, gaps[1], 0.0, gaps[2]];
         if by_point {
             let newest = (21.0 * 2.0 / scale) as f32;
-            assert_eq!(p.call(&Call::Point { input: vec![4.0], timestamp: 38, out: 8 }), Answer::Numbers(all32(&[&drained[2..], &[0.0, newest]].concat())));
+            assert_eq!(
+                p.call(&Call::Point { input: vec![4.0], timestamp: 38, out: 8 }),
+                Answer::Numbers(all32(&[&drained[2..], &[0.0, newest]].concat()))
+            );
         } else {
             assert_eq!(p.call(&Call::Drain), Answer::Done);
         }
@@ -147,7 +150,10 @@ fn the_bench() {
     let head = "set\tG\t0\t1\t1\t0\t20\t0000000000000000\t3f800000\nwgt\t3f800000\n";
     let with = |calls: &str| oracle::bench::run(format!("{head}{calls}").as_bytes());
     assert_eq!(with("p\t5\t40000000\n"), "pt\t40000000\t00000000\n");
-    assert_eq!(with("p\t2\t3f800000\nl\t2\t3f800000\np\t1\t3f800000\np\t9\t3f800000\n"), "pt\t3f800000\t00000000\nok\nno\t28\npt\t3f800000\t40e00000\n");
+    assert_eq!(
+        with("p\t2\t3f800000\nl\t2\t3f800000\np\t1\t3f800000\np\t9\t3f800000\n"),
+        "pt\t3f800000\t00000000\nok\nno\t28\npt\t3f800000\t40e00000\n"
+    );
     assert!(with("s\n").starts_with(head));
     for letter in ["g", "GG", "", "3"] {
         assert_eq!(oracle::bench::run(head.replacen('G', letter, 1).as_bytes()), "no\t19\n");
@@ -255,13 +261,18 @@ fn all_else_is_the_rusts() {
             let width = gap.settings.width();
             let channels = |l: &[u32]| l.iter().enumerate().filter(|(i, _)| (i + 1) % width != 0).map(|(_, &x)| x).collect::<Vec<_>>();
             match (&call, &mine, &theirs) {
-                (Call::Point { .. } | Call::Transform { .. } | Call::Shift { .. }, Answer::Numbers(a), Answer::Numbers(b)) => assert_eq!(channels(a), channels(b)),
+                (Call::Point { .. } | Call::Transform { .. } | Call::Shift { .. }, Answer::Numbers(a), Answer::Numbers(b)) => {
+                    assert_eq!(channels(a), channels(b))
+                }
                 (Call::TurnBack { .. }, Answer::Ranges { numbers: a, .. }, Answer::Ranges { numbers: b, .. }) => assert_eq!(a, b),
                 _ => assert_eq!(mine, theirs, "{call:?}"),
             }
             let (a, b) = (Snapshot::of(&gap), Snapshot::of(&time));
             assert_eq!(channels(&all32(&a.point)), channels(&all32(&b.point)));
-            let bare = |w: &Snapshot| Snapshot { point: vec![0.0; w.point.len()], settings: Settings { mode: Mode::TimeAugmented, ..w.settings.clone() }, ..w.clone() }.text();
+            let bare = |w: &Snapshot| {
+                Snapshot { point: vec![0.0; w.point.len()], settings: Settings { mode: Mode::TimeAugmented, ..w.settings.clone() }, ..w.clone() }
+                    .text()
+            };
             assert_eq!(bare(&a), bare(&b));
             compared += 1;
         }

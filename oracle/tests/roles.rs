@@ -8,7 +8,17 @@ use oracle::snapshot::{take_up, Snapshot, ROOMY};
 
 fn one_of_each() -> Vec<(Call, &'static [usize])> {
     let (input, none) = (vec![1.0], Vec::new());
-    let learn = Learn { input: input.clone(), timestamp: 1, point: None, grade: 0.0, relative_index: 0, expected: None, deviations_out: 1, past_out: 1, expected_out: 1 };
+    let learn = Learn {
+        input: input.clone(),
+        timestamp: 1,
+        point: None,
+        grade: 0.0,
+        relative_index: 0,
+        expected: None,
+        deviations_out: 1,
+        past_out: 1,
+        expected_out: 1,
+    };
     vec![
         (Call::Point { input: input.clone(), timestamp: 1, out: 1 }, &[SEE, LEARN]),
         (Call::Learn(learn), &[LEARN]),

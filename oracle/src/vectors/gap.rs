@@ -230,7 +230,18 @@ pub const HALFWAY: [(f32, f64, [u64; 2]); 2] = [(49.0, 49.0, [25_690_113, 25_690
 
 /// The order of the operations.
 fn operations(r: &mut Random, (weight_time, timescale, gaps): (f32, f64, [u64; 2]), out: &mut String) {
-    let s = Settings { mode: Mode::GapAugmented, method: WEIGHTED, d: 1, k: 1, start: 0, stop: 9, decay: 0.0, weight_time, weights: vec![1.0], codes: vec![7] };
+    let s = Settings {
+        mode: Mode::GapAugmented,
+        method: WEIGHTED,
+        d: 1,
+        k: 1,
+        start: 0,
+        stop: 9,
+        decay: 0.0,
+        weight_time,
+        weights: vec![1.0],
+        codes: vec![7],
+    };
     let mut w = Snapshot::of(&Reference::build(&s).unwrap());
     (w.values_seen, w.internal, w.count) = (1, 1, 1);
     w.statistics.iter_mut().for_each(|s| *s = [1.0, timescale - 1.0, 2304.0]);
@@ -333,7 +344,9 @@ const MODES: [Mode; 3] = [Mode::Standard, Mode::TimeAugmented, Mode::GapAugmente
 pub fn edges(r: &mut Random) -> String {
     let mut out = String::new();
     for mode in MODES {
-        for (d, k, start) in [(16, 64, 1999), (16, 1, 501), (1, 64, 1999), (17, 1, 0), (1, 65, 0), (1, 1, 2000), (16, 65, 2000), (17, 64, 1999), (16, 64, 2000)] {
+        for (d, k, start) in
+            [(16, 64, 1999), (16, 1, 501), (1, 64, 1999), (17, 1, 0), (1, 65, 0), (1, 1, 2000), (16, 65, 2000), (17, 64, 1999), (16, 64, 2000)]
+        {
             // Where lines would be long the method is one that waits.
             let method = if d * k > 100 { r.from(4, 5) } else { r.below(6) } as u8;
             let s = edge(mode, method, d, k, start);
