@@ -314,10 +314,19 @@ pub type Room = [usize; 6];
 pub const ROOMY: Room = [255, 1024, 1088, 64, 31984, 1999];
 
 impl Settings {
-    /// What a preprocessor of these settings needs of each lent list, its initial values as many as it may come to hold.
+    /// What a preprocessor of these settings needs of each lent list, its initial values as many as it may come to hold: none under methods that never wait.
     pub fn room(&self) -> Room {
-        let (d, k, start) = (self.d as usize, self.k as usize, self.start as usize);
+        let (d, k, start) = (self.d as usize, self.k as usize, self.initial_room());
         [3 * (5 * d + 5), d * k, self.dimension(), k, start * d, start]
+    }
+
+    /// How many readings may wait.
+    pub fn initial_room(&self) -> usize {
+        if self.method >= NORMALIZE {
+            self.start as usize
+        } else {
+            0
+        }
     }
 }
 

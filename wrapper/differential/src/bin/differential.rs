@@ -70,7 +70,7 @@ fn rubbish(r: &mut Random, d: u64, k: u64, start: u64) -> Memory {
 
 /// One part, that is needed, one element too short.
 fn cut(r: &mut Random, m: &mut Memory, s: &Settings) -> bool {
-    let (d, k, start) = (s.d as usize, s.k as usize, s.start as usize);
+    let (d, k, start) = (s.d as usize, s.k as usize, s.initial_room());
     match r.below(7) {
         0 => m.head.truncate(HEAD_WORDS - 1),
         1 => m.statistics.truncate(3 * (5 * d + 5) - 1),
@@ -86,7 +86,7 @@ fn cut(r: &mut Random, m: &mut Memory, s: &Settings) -> bool {
 
 /// What lies past the parts in use is as it was.
 fn past_kept(old: &Memory, new: &Memory, s: &Settings) -> bool {
-    let (d, k, start) = (s.d as usize, s.k as usize, s.start as usize);
+    let (d, k, start) = (s.d as usize, s.k as usize, s.initial_room());
     let single = |x: &[f32], y: &[f32], n: usize| x.len() == y.len() && x[n..].iter().zip(&y[n..]).all(|(p, q)| p.to_bits() == q.to_bits());
     let n = 3 * (5 * d + 5);
     old.head[HEAD_WORDS..] == new.head[HEAD_WORDS..]
