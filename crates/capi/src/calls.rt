@@ -1,10 +1,4 @@
 // The calls that make and change a preprocessor.
-use access::calls::drain;
-use access::calls::post_process;
-use access::calls::shingled_point;
-use access::rights::Right;
-use access::rights::may;
-use access::rights::may_point;
 use crate::answer::flag_of;
 use crate::answer::is_set;
 use crate::answer::tell;
@@ -15,6 +9,12 @@ use crate::head::write_head;
 use crate::words::kind_row;
 use crate::words::method_of;
 use crate::words::mode_of;
+use access::calls::drain;
+use access::calls::post_process;
+use access::calls::shingled_point;
+use access::rights::Right;
+use access::rights::may;
+use access::rights::may_point;
 use trcf::head::PreprocessorBuilder;
 use trcf_calls::build::build;
 use trcf_rows::rows::settings_row;

@@ -1,12 +1,12 @@
 // What the getters say: the ten numbers of a preprocessor, and the codes of its channels.
-use access::getters::numbers;
-use access::rights::Right;
-use access::rights::may;
 use crate::answer::flag_of;
 use crate::codes::tell_codes;
 use crate::head::open_head;
 use crate::words::method_number;
 use crate::words::mode_number;
+use access::getters::numbers;
+use access::rights::Right;
+use access::rights::may;
 use trcf::head::StatusAnswer;
 use trcf_rows::rows::used;
 ghost use mathlib.Core.Path.{_≡_};
@@ -37,7 +37,12 @@ fn tell_numbers(answer: StatusAnswer, output: &mut [u64]) -> u64
 // The ten numbers that a preprocessor tells: values_seen, internal_timestamp, is_ready as 0 or 1, input_dimensions, shingle_size, get_dimension,
 // start_normalization, the numbers of the method and of the mode, and the panel.
 #[no_mangle]
-pub extern "C" fn veerycouch_numbers(table: &[u8], role: u64, head: &[u64], output: &mut [u64]) -> u64
+pub extern "C" fn veerycouch_numbers(
+    table: &[u8],
+    role: u64,
+    head: &[u64],
+    output: &mut [u64],
+) -> u64
     ensures { λ r. ⌜ listGot r (now (output .exit)) ≡ numbersAt (now (table .entry)) role (now (head .entry)) (now (output .entry)) ⌝ }
 {
     let read = open_head(may(table, role, Right::SEE), head);

@@ -1,4 +1,6 @@
 // The calls that write lists and change no state.
+use crate::answer::tell;
+use crate::head::open_head;
 use access::queries::difference_deviations;
 use access::queries::invert_extrapolation;
 use access::queries::scale;
@@ -7,8 +9,6 @@ use access::queries::transform;
 use access::rights::Right;
 use access::rights::may;
 use access::snapshots::save;
-use crate::answer::tell;
-use crate::head::open_head;
 ghost use mathlib.Core.Path.{_≡_};
 ghost use Rattle.common.specs.RangeVector.{ranges};
 ghost use Rattle.trcf.specs.Calls.{transform, scale, shift, status};

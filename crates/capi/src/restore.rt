@@ -1,8 +1,8 @@
 // Taking up a text over lent words.
+use crate::head::write_head;
 use access::rights::Right;
 use access::rights::may;
 use access::snapshots::restore;
-use crate::head::write_head;
 ghost use mathlib.Core.Path.{_≡_};
 ghost use mathlib.Core.Bool.{cond};
 ghost use lib.Dec.{eqb};
