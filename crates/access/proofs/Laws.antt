@@ -136,9 +136,9 @@ same-method a b e = sym (method-back a) ∙ ap methodOfNumber e ∙ method-back 
 pub same-mode : (a b : ForestMode) → modeLetter a ≡ modeLetter b → a ≡ b
 same-mode a b e = sym (mode-back a) ∙ ap modeOfLetter e ∙ mode-back b
 
-pub numbers-are : (h : Preprocessor) {a b d e f i n : ℕ} {r : Bool} {k : TransformMethod} {m : ForestMode}
+pub numbers-are : (h : Preprocessor) (u : TransformMethod) (v : ForestMode) {a b d e f i n : ℕ} {r : Bool}
     → a ≡ h .«values_seen» → b ≡ h .«internal_timestamp» → r ≡ readyOf h → d ≡ h .transformer .«input_length» → e ≡ h .«shingle_size» → f ≡ dimensionOf h
-    → methodNumber k ≡ methodNumber (h .transformer .«transform_method») → modeLetter m ≡ modeLetter (h .«forest_mode») → i ≡ h .«start_normalization» → n ≡ panelOf (alone h)
-    → answered a b r d e f k m i n ≡ numbersOf h
-numbers-are h a b r d e f k m i n =
-    λ j. answered (a j) (b j) (r j) (d j) (e j) (f j) (same-method _ _ k j) (same-mode _ _ m j) (i j) (n j)
+    → methodNumber u ≡ methodNumber (h .transformer .«transform_method») → modeLetter v ≡ modeLetter (h .«forest_mode») → i ≡ h .«start_normalization» → n ≡ panelOf (alone h)
+    → answered a b r d e f u v i n ≡ numbersOf h
+numbers-are h u v a b r d e f k m i n =
+    λ j. answered (a j) (b j) (r j) (d j) (e j) (f j) (same-method u (h .transformer .«transform_method») k j) (same-mode v (h .«forest_mode») m j) (i j) (n j)
