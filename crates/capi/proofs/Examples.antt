@@ -7,7 +7,7 @@ use lib.Ieee.{nan, binary64, ofBits, toBits, le}
 use Rattle.common.specs.Deviation.{outsideUnit}
 use Rattle.trcf.specs.Transformer.{one32}
 use Rattle.trcf.specs.Settings.{settingsRow, allOne, block, dimension, waiting}
-use Rattle.trcf.specs.View.{headFrom, headRow, misfit, outsideRow}
+use Rattle.trcf.specs.View.{headFrom, headRow, misfit, ownRow, readyOf, outsideRow}
 use Rattle.trcf.specs.declared.types.TransformMethod.the-variants.{NORMALIZE}
 use Rattle.trcf.specs.declared.types.ForestMode.the-variants.{«TIME_AUGMENTED»}
 use Rattle.trcf.specs.declared.head.Preprocessor.{Preprocessor}
