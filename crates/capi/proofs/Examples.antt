@@ -17,7 +17,7 @@ use Rattle.capi.specs.Head.{headOf, numbersOf, frontOf, wordsOf, wordsRo
 use Rattle.capi.specs.Calls.{openRow, onHead, listGot, listTold, numbersAt, codesAt}
 
 all : Unit {0}
-unfolding wordsOf frontOf numbersOf headOf wordsRow outsideRow misfit waiting openRow onHead listTold numbersAt codesAt granted headRow dimension block settingsRow allOne outsideUnit over toBits ofBits le
+unfolding wordsOf frontOf numbersOf headOf wordsRow outsideRow misfit ownRow readyOf waiting openRow onHead listTold numbersAt codesAt granted headRow dimension block settingsRow allOne outsideUnit over toBits ofBits le
 all = tt
 
 abbrev sample : Preprocessor
