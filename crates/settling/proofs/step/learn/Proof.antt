@@ -2,9 +2,13 @@
 use mathlib.Core.Path.{_≡_, refl, sym, ap, _∙_}
 use native.Mathlib.Omega.{arith}
 use Rattle.settling.specs.Steps.{learnt}
+use Rattle.settling.proofs.StepLaws.{learn-below}
 use borrow.Author.Needs.{needs}
 use Rattle.settling.proofs.step.learn.Statement.{statement}
 use Rattle.settling.proofs.step.learn.Tie as tie
+
+every-right-requires : tie.Need-every-right-requires
+every-right-requires c κs = search needs
 
 slice-aggregate-post-process : tie.Need-slice-aggregate-post-process
 slice-aggregate-post-process c = search needs
@@ -17,6 +21,9 @@ slice-aggregate-post-process-3 c = search needs
 
 slice-aggregate-post-process-4 : tie.Need-slice-aggregate-post-process-4
 slice-aggregate-post-process-4 c = search needs
+
+slice-aggregate-post-process-5 : tie.Need-slice-aggregate-post-process-5
+slice-aggregate-post-process-5 c = search needs
 
 post-process-requires : tie.Need-post-process-requires
 post-process-requires c κs = search needs
@@ -49,10 +56,12 @@ pub learn-spec : {M : Type 1} → statement M
 learn-spec =
     tie.close
     (tie.spec
+    every-right-requires
     slice-aggregate-post-process
     slice-aggregate-post-process-2
     slice-aggregate-post-process-3
     slice-aggregate-post-process-4
+    slice-aggregate-post-process-5
     post-process-requires
     same-length
     same-length-2

@@ -2,10 +2,16 @@
 use mathlib.Core.Path.{_≡_, refl, sym, ap, _∙_}
 use native.Mathlib.Omega.{arith}
 use Rattle.trcf.specs.View.{lent}
-use Rattle.settling.proofs.StepLaws.{turn-done}
+use Rattle.settling.proofs.StepLaws.{turn-done, point-below}
 use borrow.Author.Needs.{needs}
 use Rattle.settling.proofs.step.turn_with.Statement.{statement}
 use Rattle.settling.proofs.step.turn_with.Tie as tie
+
+every-right-requires : tie.Need-every-right-requires
+every-right-requires c κs = search needs
+
+slice-aggregate-shingled-point : tie.Need-slice-aggregate-shingled-point
+slice-aggregate-shingled-point c = search needs
 
 shingled-point-requires : tie.Need-shingled-point-requires
 shingled-point-requires c κs = search needs
@@ -72,6 +78,8 @@ pub turn-with-spec : {M : Type 1} → statement M
 turn-with-spec =
     tie.close
     (tie.spec
+    every-right-requires
+    slice-aggregate-shingled-point
     shingled-point-requires
     learn-requires
     last-of-requires
