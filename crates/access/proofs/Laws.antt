@@ -24,17 +24,29 @@ use Rattle.access.specs.Entries.{numbersOf}
 
 -- ---- the cells, one by one
 
-pub bits-not : (l : List ℕ) (i : ℕ) → i < length l → 2 ≤ getD l i 0 → bits (drop i l) ≡ false
+bits-not : (l : List ℕ) (i : ℕ) → i < length l → 2 ≤ getD l i 0 → bits (drop i l) ≡ false
 bits-not l i h e = rw (drop-cons l i 0 h, le-ltb (getD l i 0) 2 e)
 
-pub bits-more : (l : List ℕ) (i : ℕ) → i < length l → getD l i 0 < 2 → bits (drop i l) ≡ bits (drop (i + 1) l)
+bits-more : (l : List ℕ) (i : ℕ) → i < length l → getD l i 0 < 2 → bits (drop i l) ≡ bits (drop (i + 1) l)
 bits-more l i h e = rw (add-one i, drop-cons l i 0 h, lt-ltb (getD l i 0) 2 e)
-
--- ---- whether the table is one, and the role one of its four
 
 pub and-true : (b : Bool) → b ≡ b && true
 and-true true = refl
 and-true false = refl
+
+and-false : (b : Bool) → b && false ≡ false
+and-false true = refl
+and-false false = refl
+
+-- one step of the walk over them: `fine` says whether a bad one was met before i, `after` whether one was met up to i
+module _ (l : List ℕ) (i : ℕ) (h : i < length l) (fine after : Bool) (inv : bits l ≡ fine && bits (drop i l)) where
+  pub bad-met : 2 ≤ getD l i 0 → after ≡ false → bits l ≡ after && bits (drop (i + 1) l)
+  bad-met e f = inv ∙ ap (λ (b : Bool). fine && b) (bits-not l i h e) ∙ and-false fine ∙ ap (λ (b : Bool). b && bits (drop (i + 1) l)) (sym f)
+
+  pub good-met : getD l i 0 < 2 → after ≡ fine → bits l ≡ after && bits (drop (i + 1) l)
+  good-met e f = inv ∙ ap (λ (b : Bool). fine && b) (bits-more l i h e) ∙ ap (λ (b : Bool). b && bits (drop (i + 1) l)) (sym f)
+
+-- ---- whether the table is one, and the role one of its four
 
 module _ (t : List ℕ) (role : ℕ) where
   pub no-size : (length t ≡ 16 → ⊥) → false ≡ standing t role
@@ -124,9 +136,9 @@ same-method a b e = sym (method-back a) ∙ ap methodOfNumber e ∙ method-back 
 pub same-mode : (a b : ForestMode) → modeLetter a ≡ modeLetter b → a ≡ b
 same-mode a b e = sym (mode-back a) ∙ ap modeOfLetter e ∙ mode-back b
 
-pub numbers-are : (h : Preprocessor) {a b d e f i n : ℕ} {r : Bool} {k : TransformMethod} {m : ForestMode}
+pub numbers-are : (h : Preprocessor) (u : TransformMethod) (v : ForestMode) {a b d e f i n : ℕ} {r : Bool}
     → a ≡ h .«values_seen» → b ≡ h .«internal_timestamp» → r ≡ readyOf h → d ≡ h .transformer .«input_length» → e ≡ h .«shingle_size» → f ≡ dimensionOf h
-    → methodNumber k ≡ methodNumber (h .transformer .«transform_method») → modeLetter m ≡ modeLetter (h .«forest_mode») → i ≡ h .«start_normalization» → n ≡ panelOf (alone h)
-    → answered a b r d e f k m i n ≡ numbersOf h
-numbers-are h a b r d e f k m i n =
-    λ j. answered (a j) (b j) (r j) (d j) (e j) (f j) (same-method _ _ k j) (same-mode _ _ m j) (i j) (n j)
+    → methodNumber u ≡ methodNumber (h .transformer .«transform_method») → modeLetter v ≡ modeLetter (h .«forest_mode») → i ≡ h .«start_normalization» → n ≡ panelOf (alone h)
+    → answered a b r d e f u v i n ≡ numbersOf h
+numbers-are h u v a b r d e f k m i n =
+    λ j. answered (a j) (b j) (r j) (d j) (e j) (f j) (same-method u (h .transformer .«transform_method») k j) (same-mode v (h .«forest_mode») m j) (i j) (n j)

@@ -3,9 +3,18 @@
 use libc::STDIN_FILENO;
 use libc::STDOUT_FILENO;
 use settle_core::settle::settle;
+ghost use mathlib.Core.Path.{_≡_};
+ghost use lib.ListN.{length};
+
+// Room for an input.
+fn room() -> [u8; 524288]
+    ensures { λ r. ⌜ 524288 ≡ length r ⌝ }
+{
+    [0; 524288]
+}
 
 fn main() {
-    let mut text = [0u8; 1048576];
+    let mut text = room();
     let mut out = [0u8; 256];
     let n = io::read_full(STDIN_FILENO, &mut text);
     let r = settle(&text[..n], &mut out);

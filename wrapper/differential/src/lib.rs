@@ -1,9 +1,9 @@
-//! What the programs share: the oracle's settings and calls, made on the library; and the calls that take no preprocessor.
+//! What the programs share: the oracle's settings and calls, made on the library by a role; and the calls that take no preprocessor.
 pub mod lists;
 
 use oracle::bits::{all32, all64};
 use oracle::calls::{Anomaly, Answer, Call, Learn as Learning, Mode, Settings as Given};
-use veerycouch::{ForestMode, Learn, Memory, Preprocessor, Ranges, Refusal, Settings, TransformMethod};
+use veerycouch::{ForestMode, Learn, Memory, Preprocessor, Ranges, Refusal, Rights, Settings, TransformMethod};
 
 const METHODS: [TransformMethod; 6] = [
     TransformMethod::None,
@@ -13,6 +13,11 @@ const METHODS: [TransformMethod; 6] = [
     TransformMethod::Normalize,
     TransformMethod::NormalizeDifference,
 ];
+
+/// A role under a table.
+pub fn by(table: &[u8], role: u64) -> Rights {
+    Rights { table: table.to_vec(), role }
+}
 
 pub fn settings(s: &Given) -> Settings {
     Settings {
@@ -159,6 +164,20 @@ fn codes(p: &Preprocessor, s: &Given) -> Result<(), String> {
     Ok(())
 }
 
+/// The ten numbers in an output one longer, and none where it is one too short.
+fn numbers_told(p: &Preprocessor) -> Result<(), String> {
+    let mut output = [OLD64; 11];
+    let short = p.numbers_into(&mut output[..9]);
+    if short != Err(Refusal(20)) || output != [OLD64; 11] {
+        return Err(format!("numbers in too short an output: {short:?}"));
+    }
+    let told = p.numbers_into(&mut output);
+    if told.is_err() || output[10] != OLD64 || output[2] > 1 {
+        return Err(format!("numbers: {told:?} {output:?}"));
+    }
+    Ok(())
+}
+
 fn status(p: &Preprocessor, out: usize, s: &Given) -> Result<Answer, String> {
     let mut output = lent32(out);
     if let Err(refusal) = p.difference_deviations(&mut output) {
@@ -180,11 +199,13 @@ fn status(p: &Preprocessor, out: usize, s: &Given) -> Result<Answer, String> {
     };
     first32(&output, s.width())?;
     codes(p, s)?;
+    numbers_told(p)?;
     told().map_err(|refusal| format!("a getter: {refusal}"))
 }
 
-/// The oracle's call on the library, with the oracle's answer; an error where lent memory was written that should not be.
-pub fn call(p: &mut Preprocessor, c: &Call, s: &Given) -> Result<Answer, String> {
+/// The oracle's call on the library by a role, with the oracle's answer; an error where lent memory was written that should not be.
+pub fn call(p: &mut Preprocessor, by: &Rights, c: &Call, s: &Given) -> Result<Answer, String> {
+    p.set_rights(by.clone());
     let width = s.width();
     match c {
         Call::Point { input, timestamp, out } => {

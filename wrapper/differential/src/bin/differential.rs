@@ -1,13 +1,14 @@
-//! Random lists of calls on the static library and on the unchanged Rust: every answer, refusal and text, what lies past the answers, and
-//! heads that were damaged; and the calls that take no preprocessor. Usage: differential SEED LISTS [TEXTS [CASES]].
+//! Random lists of calls, by random roles under a random table, on the static library and on the unchanged Rust: every answer, refusal and text, what lies
+//! past the answers, and heads that were damaged; and the calls that take no preprocessor. Usage: differential SEED LISTS [TEXTS [CASES]].
 use differential::lists::{align, corrected, impute, roots, stranding, Tally};
-use differential::{call, same, settings};
-use oracle::calls::{Answer, Call, Mode, Settings, COUNT_LIMIT, SEEN_LIMIT};
+use differential::{by, call, same, settings};
+use oracle::calls::{Answer, Call, Learn, Mode, Settings, COUNT_LIMIT, SEEN_LIMIT};
 use oracle::random::{any_mode, bad_settings, expected_codes, settings as random_settings, Calls, Random, FULL};
 use oracle::reference::Reference;
+use oracle::roles::{self, granted, rights, withheld, PUT_AWAY, TAKE_UP};
 use oracle::snapshot::{take_up, Snapshot};
 use oracle::texts::{self, damaged_as, far, scratched_as, snapshot, undrained};
-use veerycouch::{Memory, Preprocessor, HEAD_WORDS};
+use veerycouch::{Memory, Preprocessor, Rights, HEAD_WORDS};
 
 /// One more than the last row.
 const ROWS: usize = 29;
@@ -29,6 +30,10 @@ struct Met {
     read: [u64; ROWS],
     unlined: u64,
     unlined_bad: u64,
+    /// Entries made by a role under a table, withheld ones, and those of them whose table or role is of no form.
+    withheld: u64,
+    formless: u64,
+    cells: u64,
     differences: u64,
 }
 
@@ -202,17 +207,21 @@ fn damage(r: &mut Random, met: &mut Met, list: u64, p: &Preprocessor, s: &Settin
         }
         return;
     }
-    let first = call(&mut other, c, s);
+    // The table stands before the head.
+    let none = call(&mut other, &by(&[0; 16], 0), c, s);
+    let first = call(&mut other, &Rights::default(), c, s);
     let mut text = vec![0; 64];
     let mut codes = [0x1234; 17];
-    let rows = [other.panel().err(), other.is_ready().err(), other.save_into(&mut text).err(), other.codes_into(&mut codes).err(), other.drain().err()];
+    let rows = [other.numbers().err(), other.save_into(&mut text).err(), other.codes_into(&mut codes).err(), other.drain().err()];
     let kept = same(other.memory(), &old) && text.iter().all(|&b| b == 0) && codes == [0x1234; 17];
-    if first != Ok(Answer::No(row as u8)) || rows.iter().any(|x| x.map(|x| x.0) != Some(row)) || !kept {
-        difference(met, list, &format!("damaged head: row {row}, got {first:?} and {rows:?}, kept {kept}: {:x?}", old.head), s, std::slice::from_ref(c));
+    if none != Ok(Answer::No(22)) || first != Ok(Answer::No(row as u8)) || rows.iter().any(|x| x.map(|x| x.0) != Some(row)) || !kept {
+        difference(met, list, &format!("damaged head: row {row}, got {none:?}, {first:?} and {rows:?}, kept {kept}: {:x?}", old.head), s, std::slice::from_ref(c));
     }
 }
 
-fn text_of(p: &Preprocessor, buffer: &mut Vec<u8>, expected: &str) -> Result<(), String> {
+/// The text that a role with the right puts away.
+fn text_of(p: &mut Preprocessor, by: &Rights, buffer: &mut Vec<u8>, expected: &str) -> Result<(), String> {
+    p.set_rights(by.clone());
     let n = expected.len();
     buffer.clear();
     buffer.resize(n + 2, 0xa5);
@@ -225,26 +234,131 @@ fn text_of(p: &Preprocessor, buffer: &mut Vec<u8>, expected: &str) -> Result<(),
     }
 }
 
-/// What happened in a list, for restarts.
+/// What happened in a list, for restarts: the roles of its calls and the table of them all.
 struct Record {
+    table: Vec<u8>,
+    roles: Vec<u64>,
     calls: Vec<Call>,
     answers: Vec<Answer>,
     texts: Vec<String>,
 }
 
+impl Record {
+    /// A role that has the right, under the list's table, or under one that grants all.
+    fn entitled(&self, right: usize) -> Rights {
+        granted(&self.table, &[right]).map_or_else(Rights::default, |role| by(&self.table, role))
+    }
+}
+
+/// The row of a withheld entry, and that it depends on nothing else: the same of memory with rubbish in it, and both memories and all outputs as they were.
+fn withheld_call(q: &mut Random, met: &mut Met, list: u64, p: &mut Preprocessor, by: &Rights, c: &Call, s: &Settings) {
+    met.withheld += 1;
+    met.formless += (by.role > 3 || by.table.len() != 16 || by.table.iter().any(|&b| b > 1)) as u64;
+    let mut other = Preprocessor::from_memory(rubbish(q, s.d, s.k, s.start));
+    for p in [p, &mut other] {
+        let old = p.memory().clone();
+        let given = call(p, by, c, s);
+        if given != Ok(Answer::No(22)) || !same(&old, p.memory()) {
+            difference(met, list, &format!("{by:?} is withheld: {given:?}, or memory changed"), s, std::slice::from_ref(c));
+        }
+    }
+}
+
+/// Putting away and taking up by a role that has not the right: 22, and not a byte or a cell is another. The text is not looked at.
+fn withheld_texts(q: &mut Random, met: &mut Met, list: u64, p: &mut Preprocessor, table: &[u8], text: &str, s: &Settings) {
+    let by = by(table, roles::role(q));
+    p.set_rights(by.clone());
+    if withheld(table, by.role, &[PUT_AWAY]) {
+        met.withheld += 1;
+        let (old, mut buffer) = (p.memory().clone(), [0xa5; 64]);
+        let given = p.save_into(&mut buffer).map_err(|r| r.0);
+        if given != Err(22) || buffer != [0xa5; 64] || !same(&old, p.memory()) {
+            difference(met, list, &format!("{by:?} may not put away: {given:?}, or something changed"), s, &[]);
+        }
+    }
+    if withheld(table, by.role, &[TAKE_UP]) {
+        met.withheld += 1;
+        let memory = rubbish(q, s.d, s.k, s.start);
+        let old = memory.clone();
+        // A text of the form, one without its first byte, or none.
+        let text = &text.as_bytes()[..];
+        let text = q.pick(&[text, &text[1..], &[]]);
+        let codes = expected_codes(q, &s.codes);
+        match Preprocessor::restore_by(by.clone(), text, &codes, memory) {
+            Err((refusal, 0, memory)) if refusal.0 == 22 && same(&memory, &old) => {}
+            Err((refusal, line, _)) => difference(met, list, &format!("{by:?} may not take up: {refusal}, line {line}, or memory changed"), s, &[]),
+            Ok(_) => difference(met, list, &format!("{by:?} has taken up"), s, &[]),
+        }
+    }
+}
+
+/// One call of each kind; some of them are refused for other reasons.
+fn one_of_each(s: &Settings) -> Vec<Call> {
+    let (input, none, d, width) = (vec![1.0; s.d as usize], Vec::new(), s.d as usize, s.width());
+    let timestamp = u64::MAX;
+    let learn = Learn { input: input.clone(), timestamp, point: None, grade: 0.0, relative_index: 0, expected: None, deviations_out: width, past_out: d, expected_out: d };
+    vec![
+        Call::Point { input: input.clone(), timestamp, out: s.dimension() },
+        Call::Learn(learn),
+        Call::Drain,
+        Call::Transform { input, timestamp, out: width },
+        Call::TurnBack { values: none.clone(), upper: none.clone(), lower: none, outs: [0; 6] },
+        Call::Scale { out: width },
+        Call::Shift { out: width },
+        Call::Status { out: width },
+    ]
+}
+
+/// Every cell of the table decides its own role's calls and no other: without it, and with it alone.
+fn cells(met: &mut Met, list: u64, p: &Preprocessor, text: &str, s: &Settings) {
+    for cell in 0..16 {
+        let (mut without, mut alone) = ([1u8; 16], [0u8; 16]);
+        without[cell] = 0;
+        alone[cell] = 1;
+        for table in [&without, &alone] {
+            for role in 0..4 {
+                let by = by(table, role);
+                for c in one_of_each(s) {
+                    met.cells += 1;
+                    let mut other = p.clone();
+                    let given = call(&mut other, &by, &c, s);
+                    if (given == Ok(Answer::No(22))) != withheld(table, role, rights(&c)) {
+                        difference(met, list, &format!("{by:?}: {given:?}"), s, &[c]);
+                    }
+                }
+                met.cells += 2;
+                let mut other = p.clone();
+                other.set_rights(by.clone());
+                let saved = other.save().map_err(|r| r.0) != Err(22);
+                let taken = Preprocessor::restore_by(by.clone(), text.as_bytes(), &s.codes, other.into_memory()).map_err(|r| r.0 .0).err() != Some(22);
+                if saved == withheld(table, role, &[PUT_AWAY]) || taken == withheld(table, role, &[TAKE_UP]) {
+                    difference(met, list, &format!("{by:?}: saved {saved}, taken up {taken}"), s, &[]);
+                }
+            }
+        }
+    }
+}
+
 fn run_list(r: &mut Random, list: u64, met: &mut Met, s: &Settings, mut reference: Reference, p: &mut Preprocessor) -> Option<Record> {
     let mut maker = Calls::new(r, s);
     let mut buffer = Vec::new();
-    let mut record = Record { calls: Vec::new(), answers: Vec::new(), texts: Vec::new() };
+    // Tables and roles take nothing from the generator's own numbers. Half of the lists have every right.
+    let q = &mut r.aside(105);
+    let table = if q.once_in(2) { vec![1; 16] } else { roles::table(q) };
+    let mut record = Record { table, roles: Vec::new(), calls: Vec::new(), answers: Vec::new(), texts: Vec::new() };
     let length = r.from(0, 30) as usize;
     let hurt = r.below(length as u64 + 1) as usize;
     let mut was_stranded = false;
     for place in 0..=length {
         let text = Snapshot::of(&reference).text();
         met.texts += 1;
-        if let Err(what) = text_of(p, &mut buffer, &text) {
+        if let Err(what) = text_of(p, &record.entitled(PUT_AWAY), &mut buffer, &text) {
             difference(met, list, &format!("place {place}: {what}"), s, &record.calls);
             return None;
+        }
+        withheld_texts(q, met, list, p, &record.table, &text, s);
+        if list % 100 == 0 && place == length / 2 {
+            cells(met, list, p, &text, s);
         }
         record.texts.push(text);
         if place == length {
@@ -255,10 +369,19 @@ fn run_list(r: &mut Random, list: u64, met: &mut Met, s: &Settings, mut referenc
             damage(r, met, list, p, s, &c);
         }
         met.calls += 1;
+        let role = roles::role(q);
+        record.roles.push(role);
+        if withheld(&record.table, role, rights(&c)) {
+            withheld_call(q, met, list, p, &by(&record.table, role), &c, s);
+            met.rows[22] += 1;
+            record.calls.push(c);
+            record.answers.push(Answer::No(22));
+            continue;
+        }
         let waiting = !reference.rust.initial().0.is_empty();
         let answer = reference.call(&c);
         let before = (answer.row() != 0).then(|| p.memory().clone());
-        let given = call(p, &c, s);
+        let given = call(p, &by(&record.table, role), &c, s);
         record.calls.push(c);
         met.rows[answer.row() as usize] += 1;
         if given.as_ref() != Ok(&answer) || before.is_some_and(|m| !same(&m, p.memory())) {
@@ -283,7 +406,7 @@ fn unlined(text: &str) -> String {
 }
 
 /// Codes other than the list's own are refused by 27, and memory is as it was.
-fn other_codes(r: &mut Random, list: u64, met: &mut Met, s: &Settings, text: &str) {
+fn other_codes(r: &mut Random, list: u64, met: &mut Met, s: &Settings, by: &Rights, text: &str) {
     r.next();
     let codes = expected_codes(r, &s.codes);
     if codes == s.codes {
@@ -292,7 +415,7 @@ fn other_codes(r: &mut Random, list: u64, met: &mut Met, s: &Settings, text: &st
     met.others += 1;
     let memory = rubbish(r, s.d, s.k, s.start);
     let old = memory.clone();
-    match Preprocessor::restore_in(text.as_bytes(), &codes, memory) {
+    match Preprocessor::restore_by(by.clone(), text.as_bytes(), &codes, memory) {
         Err((refusal, 0, memory)) if refusal.0 == 27 && same(&memory, &old) => {}
         Err((refusal, line, _)) => difference(met, list, &format!("{codes:?}: {refusal}, line {line}, or memory changed"), s, &[]),
         Ok(_) => difference(met, list, &format!("taken up with {codes:?}"), s, &[]),
@@ -308,19 +431,20 @@ fn restarts(r: &mut Random, list: u64, met: &mut Met, s: &Settings, record: &Rec
         met.restarts += 1;
         let bare = s.codes.iter().all(|&c| c == 0) && r.once_in(2);
         let text = if bare { unlined(&record.texts[place]) } else { record.texts[place].clone() };
-        other_codes(r, list, met, s, &text);
-        let mut p = match Preprocessor::restore_in(text.as_bytes(), &s.codes, memory) {
+        let taker = record.entitled(TAKE_UP);
+        other_codes(r, list, met, s, &taker, &text);
+        let mut p = match Preprocessor::restore_by(taker, text.as_bytes(), &s.codes, memory) {
             Ok(p) => p,
             Err((refusal, line, _)) => return difference(met, list, &format!("place {place}: {refusal}, line {line}"), s, &record.calls),
         };
-        for (c, answer) in record.calls[place..].iter().zip(&record.answers[place..]) {
+        for ((c, answer), role) in record.calls[place..].iter().zip(&record.answers[place..]).zip(&record.roles[place..]) {
             met.answers += 1;
-            let given = call(&mut p, c, s);
+            let given = call(&mut p, &by(&record.table, *role), c, s);
             if given.as_ref() != Ok(answer) {
                 return difference(met, list, &format!("restart at {place}: {given:?} for {answer:?}"), s, &record.calls);
             }
         }
-        if let Err(what) = text_of(&p, &mut buffer, record.texts.last().unwrap()) {
+        if let Err(what) = text_of(&mut p, &record.entitled(PUT_AWAY), &mut buffer, record.texts.last().unwrap()) {
             return difference(met, list, &format!("restart at {place}: {what}"), s, &record.calls);
         }
         if !past_kept(&old, p.memory(), s) {
@@ -375,7 +499,7 @@ fn texts(r: &mut Random, number: u64, met: &mut Met) {
     met.unlined += bare as u64;
     met.unlined_bad += (bare && read.is_err()) as u64;
     let what = match (Preprocessor::restore_in(&text, &codes, memory), expected) {
-        (Ok(p), Ok(snapshot)) => match text_of(&p, &mut Vec::new(), &snapshot.text()) {
+        (Ok(mut p), Ok(snapshot)) => match text_of(&mut p, &Rights::default(), &mut Vec::new(), &snapshot.text()) {
             Ok(()) if past_kept(&old, p.memory(), &snapshot.settings) => return,
             Ok(()) => "memory past the need was written".to_string(),
             Err(what) => what,
@@ -453,6 +577,7 @@ fn told(met: &Met, lists: u64) {
     println!("builds by row {}", by_row(&met.builds));
     println!("damaged heads by row {}", by_row(&met.damaged));
     println!("drained {}, lists stranded {}, lists in mode G {}", met.drained, met.stranded, met.gap);
+    println!("withheld {} (of them {} by a table or a role of no form), cells asked {}", met.withheld, met.formless, met.cells);
     println!("restarts {}, answers after one {}; with other codes {}", met.restarts, met.answers, met.others);
     println!("texts read {}, by row {}; without the line of the codes {}, of them bad {}", met.read.iter().sum::<u64>(), by_row(&met.read), met.unlined, met.unlined_bad);
 }

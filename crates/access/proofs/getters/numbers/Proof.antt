@@ -54,7 +54,8 @@ returns-2 c =
     let p = c .before .before .before .before .before in
     let e = p .before .before .before .before .before in
     guard-open _ _ (SEE ∷ []) (e .before .may .result) (e .before .may .ensures) _ _ (not-false _ (e .if1 .left)) _
-    (numbers-are (e .before .before .before .args .head) (p .before .before .before .before .values-seen .ensures) (p .before .before .before .internal-timestamp .ensures) (p .before .before .is-ready .ensures)
+    (numbers-are (e .before .before .before .args .head) (c .before .before .before .transformation-method .result) (c .before .before .forest-mode .result)
+    (p .before .before .before .before .values-seen .ensures) (p .before .before .before .internal-timestamp .ensures) (p .before .before .is-ready .ensures)
     (p .before .input-dimensions .ensures) (p .shingle-size .ensures) (c .before .before .before .before .get-dimension .ensures)
     (c .before .before .before .transformation-method .ensures) (c .before .before .forest-mode .ensures) (c .before .start-normalization .ensures) (c .panel .ensures))
 
