@@ -1,9 +1,9 @@
 // A run: a fresh preprocessor of d 1 over memory of its own, and all readings of a signal.
-use access::rights::every_right;
 use crate::signal::Signal;
 use crate::signal::in_limits;
 use crate::signal::value_at;
 use crate::step::step;
+use access::rights::every_right;
 use restart_program::build_arguments;
 use trcf::head::Preprocessor;
 use trcf::head::PreprocessorBuilder;

@@ -16,7 +16,7 @@ is-ready-requires : tie.Need-is-ready-requires
 is-ready-requires c κs = search needs
 
 returns : tie.Need-returns
-returns c = ?
+returns c = ready-below (c .before .before .every-right .result) (c .before .before .every-right .ensures) (c .before .before .before .args .head) (c .is-ready .result) (c .is-ready .ensures)
 
 pub is-ready-spec : {M : Type 1} → statement M
 is-ready-spec =

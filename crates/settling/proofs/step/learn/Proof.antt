@@ -1,7 +1,8 @@
 -- `settling::step::learn` meets its contract. Assumes nothing.
 use mathlib.Core.Path.{_≡_, refl, sym, ap, _∙_}
 use native.Mathlib.Omega.{arith}
-use Rattle.settling.specs.Steps.{learnt}
+use Rattle.trcf.specs.View.{lent}
+use Rattle.settling.specs.Steps.{learnt, learning}
 use Rattle.settling.proofs.StepLaws.{learn-below}
 use borrow.Author.Needs.{needs}
 use Rattle.settling.proofs.step.learn.Statement.{statement}
@@ -50,7 +51,15 @@ returns : tie.Need-returns
 returns c =
     let c8 = c .before .before .before .before .before .before .before .before in
     let c16 = c8 .before .before .before .before .before .before .before .before in
-    ap learnt (c16 .post-process .ensures)
+    let c24 = c16 .before .before .before .before .before .before .before .before in
+    let c32 = c24 .before .before .before .before .before .before .before .before in
+    let e = c24 .before .before .before .before .every-right in
+    let a = c32 .before .before .before .before .before .args in
+    ap learnt
+    (c16 .post-process .ensures
+    ∙ learn-below (e .result) (e .ensures) (a .head)
+    (lent (a .statistics .now) (a .last-shingled-input .now) (a .last-shingled-point .now) (a .previous-timestamps .now) (a .initial-values .now) (a .initial-timestamps .now))
+    (learning (a .input .now) (a .timestamp) (a .given) (a .point .now)))
 
 pub learn-spec : {M : Type 1} → statement M
 learn-spec =

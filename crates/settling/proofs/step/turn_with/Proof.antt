@@ -71,8 +71,12 @@ returns c =
     let c32 = c24 .before .before .before .before .before .before .before .before in
     let c40 = c32 .before .before .before .before .before .before .before .before in
     let c48 = c40 .before .before .before .before .before .before .before .before in
-    let a = c48 .before .args in
-    turn-done (a .head) (lent (a .statistics .now) (a .last-shingled-input .now) (a .last-shingled-point .now) (a .previous-timestamps .now) (a .initial-values .now) (a .initial-timestamps .now)) (a .input .now) (a .timestamp) (a .point .now) _ _ _ _ _ (c32 .before .shingled-point .ensures) _ _ (c8 .before .before .before .before .before .before .learn .ensures) _ (c .last-of .ensures)
+    let a = c48 .before .before .before .args in
+    let e = c40 .before .before .every-right in
+    let l = lent (a .statistics .now) (a .last-shingled-input .now) (a .last-shingled-point .now) (a .previous-timestamps .now) (a .initial-values .now) (a .initial-timestamps .now) in
+    turn-done (a .head) l (a .input .now) (a .timestamp) (a .point .now) _ _ _ _ _
+    (c32 .before .shingled-point .ensures ∙ point-below (e .result) (e .ensures) (a .head) l (a .input .now) (a .timestamp) (a .point .now)) _ _
+    (c8 .before .before .before .before .before .before .learn .ensures) _ (c .last-of .ensures)
 
 pub turn-with-spec : {M : Type 1} → statement M
 turn-with-spec =
