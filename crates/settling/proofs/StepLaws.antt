@@ -12,7 +12,13 @@ use mathlib.Core.Option.{Option, none, some}
 use lib.Ieee.{Float, nan}
 use Rattle.trcf.specs.Lists.{lastOr}
 use Rattle.trcf.specs.Settings.{Settings}
-use Rattle.trcf.specs.View.{Lent, readyOf, PointOutcome, pointed, pointAfter, learnAfter}
+use Rattle.trcf.specs.Calls.{Learn}
+use Rattle.trcf.specs.View.{Lent, readyOf, PointOutcome, pointed, pointAfter, LearnOutcome, learnNothing, learnAfter}
+use Rattle.access.specs.declared.rights.Right.the-variants.{SEE, LEARN}
+use Rattle.access.specs.declared.getters.Ready.{Ready}
+use Rattle.access.specs.Access.{everyRight}
+use Rattle.access.specs.Entries.{pointBy, learnBy, ready, readyBy}
+use Rattle.access.proofs.Laws.{as-every}
 use Rattle.trcf.specs.declared.head.Preprocessor.{Preprocessor}
 use Rattle.settling.specs.Settling.{Signal, valueAt, Noted, noted, kept, note}
 use Rattle.settling.specs.Steps.{optionOf, exceedsOf, learning, learnt, Turn, turn, turnWith, turnOf, Track, track, turned, trackAfter, trackFrom, built, trackAt}
@@ -50,6 +56,18 @@ module _ (f : Bool) (i : ℕ) where
   pub kept-new : (k : Bool) (y x : Float) → exceedsOf k y x ≡ true → noted (optionOf f i) (some x) ≡ noted (optionOf f i) (kept (optionOf k y) (some x))
   kept-new true y x e = rw e
   kept-new false y x e = rw e
+
+-- ---- the table has every right, so the guarded calls are the ones below
+
+module _ (table : List ℕ) (every : table ≡ everyRight) (h : Preprocessor) where
+  pub point-below : (l : Lent) (x : List Float) (t : ℕ) (y : List Float) → pointBy table 0 h l x t y ≡ pointAfter h l x t y
+  point-below l x t y = as-every table (SEE ∷ LEARN ∷ []) (pointAfter h l x t y) (pointed 22 false h l y) every
+
+  pub learn-below : (l : Lent) (c : Learn) → learnBy table 0 h l c ≡ learnAfter h l c
+  learn-below l c = as-every table (LEARN ∷ []) (learnAfter h l c) (learnNothing 22 h l c) every
+
+  pub ready-below : (r : Ready) → r ≡ readyBy table 0 (readyOf h) → r .ready ≡ readyOf h
+  ready-below r e = ap (λ (q : Ready). q .ready) (e ∙ as-every table (SEE ∷ []) (ready 0 (readyOf h)) (ready 22 false) every)
 
 -- ---- one reading, from what point, learn and the last element give
 

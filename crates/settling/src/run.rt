@@ -3,16 +3,17 @@ use crate::signal::Signal;
 use crate::signal::in_limits;
 use crate::signal::value_at;
 use crate::step::step;
+use access::rights::every_right;
 use restart_program::build_arguments;
+use trcf::head::Preprocessor;
 use trcf::head::PreprocessorBuilder;
 use trcf_calls::build::build;
-use trcf_calls::queries::is_ready;
 use trcf_rows::rows::settings_row;
 ghost use mathlib.Core.Path.{_≡_};
 ghost use mathlib.Core.Bool.{true};
 ghost use mathlib.Core.List.{[], _∷_};
 ghost use mathlib.Core.Option.{none};
-ghost use Rattle.trcf.specs.View.{settingsFrom};
+ghost use Rattle.trcf.specs.View.{settingsFrom, readyOf};
 ghost use Rattle.settling.specs.Settling.{inLimits, noted, firstReady, kept, note, pairRow, ran, runOf};
 ghost use Rattle.settling.specs.Steps.{signalOf, optionOf, notedBy, exceedsOf, trackAt};
 
@@ -110,6 +111,15 @@ pub fn pair_row(builder: PreprocessorBuilder, weights: &[f32], codes: &[u16]) ->
         return 23;
     }
     0
+}
+
+// Asked as role 0 of a table with every right.
+fn is_ready(head: Preprocessor) -> bool
+    ensures { λ r. ⌜ r ≡ readyOf head ⌝ }
+{
+    let table = every_right();
+    let r = access::getters::is_ready(&table, 0, head);
+    r.ready
 }
 
 // The readings of a signal, one by one, over memory for d 1, k 64 and start 1,999.

@@ -1,8 +1,9 @@
-// One reading: it is sent to point, and then to learn with the point given.
+// One reading: it is sent to point, and then to learn with the point given. The program runs as role 0 of a table with every right.
+use access::calls::post_process;
+use access::calls::shingled_point;
+use access::rights::every_right;
 use trcf::head::Preprocessor;
 use trcf::head::get_dimension;
-use trcf_learn::post_process::post_process;
-use trcf_point::point::shingled_point;
 ghost use mathlib.Core.Path.{_≡_};
 ghost use mathlib.Core.Option.{none};
 ghost use Prim.Native.Nat.{_≤_};
@@ -62,7 +63,10 @@ fn learn(
     let mut deviations = [0.0f32; 2];
     let mut past = [0.0f32; 1];
     let mut expected = [0.0f32; 1];
+    let table = every_right();
     let r = post_process(
+        &table,
+        0,
         head,
         statistics,
         last_shingled_input,
@@ -102,7 +106,10 @@ fn turn_with(
     ensures { λ r. ⌜ turn (r .head) (lent (now (statistics .exit)) (now («last_shingled_input» .exit)) (now («last_shingled_point» .exit)) (now («previous_timestamps» .exit)) (now («initial_values» .exit)) (now («initial_timestamps» .exit))) (optionOf (r .given) (r .last))
         ≡ turnWith head (lent (now (statistics .entry)) (now («last_shingled_input» .entry)) (now («last_shingled_point» .entry)) (now («previous_timestamps» .entry)) (now («initial_values» .entry)) (now («initial_timestamps» .entry))) (now (input .entry)) timestamp (now (point .entry)) ⌝ }
 {
+    let table = every_right();
     let p = shingled_point(
+        &table,
+        0,
         head,
         statistics,
         last_shingled_input,
