@@ -31,14 +31,14 @@ use Rattle.trcf.specs.Preprocessor.{fresh as freshState, facts, timeFed, feed, 
 use Rattle.trcf.specs.View.{view, laid, headRow, lentShort, misfit, shortRow, lentRow, rowOf, buildRow, buildOf, answerOf, headAfter, lentAfter, drainOf, pointAfter, learnAfter}
 use Rattle.snapshot.specs.Text.{whole, float, setLine, singles, cntLine, devLine, timLine, bufLine, linesBy, bodyLines, chnLine, render}
 use Rattle.snapshot.specs.Read.{judge, floatFrom, asWhole, asFloat}
-use Rattle.snapshot.specs.Save.{unheld, unformed, heldSave, fitted, saveOf}
+use Rattle.snapshot.specs.Save.{unheld, fitted, saveOf}
 use Rattle.snapshot.specs.Ascii.{bytes}
 use Rattle.bench_core.specs.Line.{blankLine, fieldOf, cellOf, requestOf, keptOf}
 use Rattle.bench_core.specs.Bench.{noText, pointText, doneText, prints, dimensionOf, pointTurn, learnTurn, drainTurn, savePrints, builderFrom, fresh, builtOf, weightsTurn, lineHeard, stepOf, finishOf}
 
 -- to unfold this is to unfold whatever its line names
 running : Unit {0}
-unfolding toBits ofBits ofFields odd fits size round le lt eq add sub mul div ofInt narrowed rootWithin halves rooted rootOf outsideUnit factorOf fedStep isEmpty meanOf rootAbove deviationOf over lastN shiftIn overwrite statisticAt putStatistic fed deviationsAt putDeviations fedAt channelsFed updated normalizedScale basicShift basicDrift weightAt transformed unweighted inverted scales shifts differenceDeviations block dimension waiting allOne settingsRow finite due newest wrongLength outside drainFull learnFull waitingShort learnShort table rows freshState facts timeFed feed timescale timedrift timeElement transformedAfter previous primed drainOne drainAll drained held learned learnedWith change deviations pointOf blockFrom pastValues expectedValues anomalyOf learnedNothing heldAnswer learnedAnswer learnAnswer reply view laid headRow lentShort misfit shortRow lentRow rowOf buildRow buildOf answerOf headAfter lentAfter drainOf pointAfter learnAfter whole float setLine singles cntLine devLine timLine bufLine linesBy bodyLines chnLine render judge floatFrom asWhole asFloat unheld unformed heldSave fitted saveOf blankLine fieldOf cellOf requestOf keptOf noText pointText doneText prints dimensionOf pointTurn learnTurn drainTurn savePrints builderFrom fresh builtOf weightsTurn lineHeard stepOf finishOf blockOf turnOf answers
+unfolding toBits ofBits ofFields odd fits size round le lt eq add sub mul div ofInt narrowed rootWithin halves rooted rootOf outsideUnit factorOf fedStep isEmpty meanOf rootAbove deviationOf over lastN shiftIn overwrite statisticAt putStatistic fed deviationsAt putDeviations fedAt channelsFed updated normalizedScale basicShift basicDrift weightAt transformed unweighted inverted scales shifts differenceDeviations block dimension waiting allOne settingsRow finite due newest wrongLength outside drainFull learnFull waitingShort learnShort table rows freshState facts timeFed feed timescale timedrift timeElement transformedAfter previous primed drainOne drainAll drained held learned learnedWith change deviations pointOf blockFrom pastValues expectedValues anomalyOf learnedNothing heldAnswer learnedAnswer learnAnswer reply view laid headRow lentShort misfit shortRow lentRow rowOf buildRow buildOf answerOf headAfter lentAfter drainOf pointAfter learnAfter whole float setLine singles cntLine devLine timLine bufLine linesBy bodyLines chnLine render judge floatFrom asWhole asFloat unheld fitted saveOf blankLine fieldOf cellOf requestOf keptOf noText pointText doneText prints dimensionOf pointTurn learnTurn drainTurn savePrints builderFrom fresh builtOf weightsTurn lineHeard stepOf finishOf blockOf turnOf answers
 running = tt
 
 -- ---- a run, worked out

@@ -10,11 +10,10 @@ use lib.Seq.{take-append-seam}
 use lib.Ieee.{Float}
 use Rattle.common.specs.Lent.{over}
 use Rattle.trcf.specs.Preprocessor.{accepted}
-use Rattle.trcf.specs.Settings.{settingsRow}
-use Rattle.trcf.specs.View.{Lent, Outcome, settingsOf, misfit, view}
+use Rattle.trcf.specs.View.{Lent, Outcome, view}
 use Rattle.trcf.specs.declared.head.Preprocessor.{Preprocessor}
 use Rattle.snapshot.specs.Text.{render}
-use Rattle.snapshot.specs.Save.{unheld, unformed, heldSave, fitted, saveOf, outcome as saved}
+use Rattle.snapshot.specs.Save.{unheld, fitted, saveOf, outcome as saved}
 use Rattle.bench_core.specs.declared.line.Name.{Name}
 use Rattle.bench_core.specs.declared.line.Name.the-variants.{Unread, Set, Weights, Point, Learn, Drain, Save, Other}
 use Rattle.bench_core.specs.declared.line.Line.{Line}
@@ -62,38 +61,20 @@ module _ (out other : List ℕ) (e : length out ≡ length other) where
       go (suc r) = lays (endOf b) (o .lent) y out other (noText (suc r))
 
   saves : (h : Preprocessor) (l : Lent) → savePrints h l out ≡ prints (shown (savePrints h l other)) out
-  unfolding savePrints saveOf heldSave fitted prints
-  saves h l = settled (settingsRow (settingsOf h)) (misfit h)
+  unfolding savePrints saveOf fitted prints
+  saves h l = go (unheld h l) (ltb (length out) (length (render (view h l)))) (ltb (length other) (length (render (view h l)))) (ap (λ (n : ℕ). ltb n (length (render (view h l)))) e)
     where
-      no : (n : ℕ) → prints (noText n) out ≡ prints (shown (prints (noText n) other)) out
-      no n = ap (λ (u : List ℕ). prints u out) (sym (shown-prints (noText n) other))
+      no : prints (noText 20) out ≡ prints (shown (prints (noText 20) other)) out
+      no = ap (λ (u : List ℕ). prints u out) (sym (shown-prints (noText 20) other))
 
-      fits : (q r : Bool) → q ≡ r
-          → saveTold (cond q (saved 20 0 out) (saved 0 (length (render (view h l))) (over out (render (view h l)))))
-          ≡ prints (shown (saveTold (cond r (saved 20 0 other) (saved 0 (length (render (view h l))) (over other (render (view h l))))))) out
-      fits true true i = no 20
-      fits true false i = absurd (subst T i tt)
-      fits false true i = absurd (subst T (sym i) tt)
-      fits false false i = ap (λ (u : List ℕ). prints u out) (sym (shown-prints (render (view h l)) other))
-
-      held : (p u : Bool)
-          → saveTold (cond p (saved 20 0 out) (cond u (saved 19 0 out) (fitted (render (view h l)) out)))
-          ≡ prints (shown (saveTold (cond p (saved 20 0 other) (cond u (saved 19 0 other) (fitted (render (view h l)) other))))) out
-      held true u = no 20
-      held false true = no 19
-      held false false =
-          fits (ltb (length out) (length (render (view h l)))) (ltb (length other) (length (render (view h l)))) (ap (λ (n : ℕ). ltb n (length (render (view h l)))) e)
-
-      counted : (m : Bool)
-          → saveTold (cond m (saved 19 0 out) (heldSave h l out)) ≡ prints (shown (saveTold (cond m (saved 19 0 other) (heldSave h l other)))) out
-      counted true = no 19
-      counted false = held (unheld h l) (unformed (view h l))
-
-      settled : (n : ℕ) (m : Bool)
-          → saveTold (accepted n (cond m (saved 19 0 out) (heldSave h l out)) (saved n 0 out))
-          ≡ prints (shown (saveTold (accepted n (cond m (saved 19 0 other) (heldSave h l other)) (saved n 0 other)))) out
-      settled zero m = counted m
-      settled (suc n) m = no (suc n)
+      go : (p q r : Bool) → q ≡ r
+          → saveTold (cond p (saved 20 0 out) (cond q (saved 20 0 out) (saved 0 (length (render (view h l))) (over out (render (view h l))))))
+          ≡ prints (shown (saveTold (cond p (saved 20 0 other) (cond r (saved 20 0 other) (saved 0 (length (render (view h l))) (over other (render (view h l)))))))) out
+      go true q r i = no
+      go false true true i = no
+      go false true false i = absurd (subst T i tt)
+      go false false true i = absurd (subst T (sym i) tt)
+      go false false false i = ap (λ (u : List ℕ). prints u out) (sym (shown-prints (render (view h l)) other))
 
   module _ (b : Bench) (lists : Lent) (y : List Float) where
     no-19 : (c : Bench) → heard c lists y (prints (noText 19) out) ≡ speaks (replyOf (heard c lists y (prints (noText 19) other))) out
