@@ -101,5 +101,6 @@ fn replay_file(path: &[u8]) {
 
 fn main() {
     replay_file(b"inputs");
+    replay_file(b"gap");
     replay_file(b"wrong");
 }
