@@ -172,7 +172,7 @@ fn saved_again(
     initial_values: &[f32],
     initial_timestamps: &[u64],
 ) -> bool {
-    let mut out = [0u8; 16384];
+    let mut out = [0u8; 65536];
     saved_into(
         text,
         head,
