@@ -32,7 +32,7 @@ use Rattle.access.specs.Entries.{number, numberBy}
 use Rattle.access_restart.specs.Asked.{ask, allowed, grantedCalls, placed}
 use Rattle.access_restart.specs.RoleDemand.{withheldAnswer, roleRun, roleAnswers, gave, roleSave, rolePanels, fedAt, RoleRestart, RoleEvent, asked, restarted, roleEvents}
 use Rattle.access_restart.specs.RoleDemand.{roleEventAnswers, RoleRestarts}
-use Rattle.access_restart.specs.RoleHeld.{heldRoleRun, heldRoleAnswers, roleSavedTo, roleTextIn, roleRestoredOn, Shown, shown, shownTo, heldRoleShown, shownAt, RoleHeldRestart}
+use Rattle.access_restart.specs.RoleHeld.{heldRoleRun, heldRoleAnswers, roleSavedTo, roleTextIn, roleRestoredOn, Shown, shown, heldRoleShown, shownAt, RoleHeldRestart}
 use Rattle.access_restart.specs.RoleProgram.{roleReturn, roleRan, roleReturns, rolePanelsReturned, roleGettersShown, RoleProgramRestart}
 use Rattle.access_restart.proofs.Samples.{badTables, garage, morning, evening, day, counted-morning, counted-evening, counted}
 use Rattle.access_restart.proofs.Granted.{stayed}
@@ -152,29 +152,29 @@ tell seen internal full fed =
       panel = fed;
     }
 
-abbrev one-in : Getters
-one-in = tell 2 1 false 1
+abbrev oneIn : Getters
+oneIn = tell 2 1 false 1
 
-abbrev two-in : Getters
-two-in = tell 3 2 true 2
+abbrev twoIn : Getters
+twoIn = tell 3 2 true 2
 
 abbrev gettersEvening : List Getters
-gettersEvening = one-in ∷ one-in ∷ one-in ∷ one-in ∷ two-in ∷ two-in ∷ two-in ∷ []
+gettersEvening = oneIn ∷ oneIn ∷ oneIn ∷ oneIn ∷ twoIn ∷ twoIn ∷ twoIn ∷ []
 
 abbrev gettersDay : List Getters
-gettersDay = tell 0 0 false 0 ∷ tell 0 0 false 0 ∷ tell 1 0 false 0 ∷ tell 1 0 false 0 ∷ tell 1 0 false 0 ∷ one-in ∷ one-in ∷ gettersEvening
+gettersDay = tell 0 0 false 0 ∷ tell 0 0 false 0 ∷ tell 1 0 false 0 ∷ tell 1 0 false 0 ∷ tell 1 0 false 0 ∷ oneIn ∷ oneIn ∷ gettersEvening
 
 -- to unfold this is to unfold whatever its line names
 counting : Unit {0}
-unfolding Ieee.add Ieee.sub Ieee.mul Ieee.div Ieee.lt Ieee.le Ieee.eq Ieee.ofInt Ieee.ofBits Ieee.toBits Ieee.size Ieee.round Ieee.fits Settings.block Settings.dimension Settings.waiting Settings.allOne Settings.settingsRow Lists.lastN Lists.shiftIn Lists.overwrite Calls.finite Calls.due Calls.newest Calls.behind Calls.wrongLength Calls.outside Calls.drainFull Calls.learnFull Calls.waitingShort Calls.learnShort Calls.table Calls.rows History.seenOf History.internalOf History.bufferOf History.shingled History.inputsOf History.timestampsOf History.newestOf History.countOf History.historyState History.historyFacts History.historyRefusal History.complete History.adds History.enter History.entries History.historyPanel History.historyGetters
+unfolding Ieee.ofBits Ieee.toBits Ieee.size Ieee.eq Ieee.lt Ieee.le Settings.block Settings.dimension Settings.waiting Settings.allOne Settings.settingsRow Lists.lastN Lists.shiftIn Lists.overwrite Calls.finite Calls.due Calls.newest Calls.behind Calls.wrongLength Calls.outside Calls.drainFull Calls.learnFull Calls.waitingShort Calls.learnShort Calls.table Calls.rows History.seenOf History.internalOf History.bufferOf History.shingled History.inputsOf History.timestampsOf History.newestOf History.countOf History.historyState History.historyFacts History.historyRefusal History.complete History.adds History.enter History.entries History.historyPanel History.historyGetters
 counting = tt
 
-told-evening : historyShown strands (entries strands (take 4 stranding)) (drop 4 stranding) ≡ one-in ∷ one-in ∷ two-in ∷ two-in ∷ []
+told-evening : historyShown strands (entries strands (take 4 stranding)) (drop 4 stranding) ≡ oneIn ∷ oneIn ∷ twoIn ∷ twoIn ∷ []
 unfolding counting
 told-evening = refl
 
 told-day : historyShown strands [] stranding
-    ≡ tell 0 0 false 0 ∷ tell 1 0 false 0 ∷ tell 1 0 false 0 ∷ one-in ∷ one-in ∷ one-in ∷ two-in ∷ two-in ∷ []
+    ≡ tell 0 0 false 0 ∷ tell 1 0 false 0 ∷ tell 1 0 false 0 ∷ oneIn ∷ oneIn ∷ oneIn ∷ twoIn ∷ twoIn ∷ []
 unfolding counting
 told-day = refl
 
@@ -183,16 +183,16 @@ shown-evening =
     shown-places garage strands (shown 0) (entries strands (grantedCalls garage morning)) evening
     ∙ (λ j. stayed garage evening (map (shown 0) (historyShown strands (entries strands (counted-morning j)) (counted-evening j))))
     ∙ ap (λ (l : List Getters). stayed garage evening (map (shown 0) l)) told-evening
-    ∙ stayed-evening (shown 0 one-in) (shown 0 one-in) (shown 0 two-in) (shown 0 two-in)
+    ∙ stayed-evening (shown 0 oneIn) (shown 0 oneIn) (shown 0 twoIn) (shown 0 twoIn)
 
 shown-day : map (shown 0) (shownAt garage strands [] day) ≡ map (shown 0) gettersDay
 shown-day =
     let blank : Shown = shown 0 (tell 0 0 false 0) in
-    let held-back : Shown = shown 0 (tell 1 0 false 0) in
+    let heldBack : Shown = shown 0 (tell 1 0 false 0) in
     shown-places garage strands (shown 0) [] day
     ∙ ap (λ (cs : List Call). stayed garage day (map (shown 0) (historyShown strands [] cs))) counted
     ∙ ap (λ (l : List Getters). stayed garage day (map (shown 0) l)) told-day
-    ∙ stayed-day blank held-back held-back (shown 0 one-in) (shown 0 one-in) (shown 0 one-in) (shown 0 two-in) (shown 0 two-in)
+    ∙ stayed-day blank heldBack heldBack (shown 0 oneIn) (shown 0 oneIn) (shown 0 oneIn) (shown 0 twoIn) (shown 0 twoIn)
 
 -- ---- restarts by roles that may, by one that may not save and by one that may not restore
 

@@ -17,7 +17,8 @@ use Rattle.access.specs.declared.rights.Right.the-variants.{SEE}
 use Rattle.access.specs.Access.{granted}
 use Rattle.access_restart.specs.Asked.{Asked, ask, grantedCalls, placed}
 use Rattle.access_restart.specs.RoleDemand.{withheldAnswer, fedAt}
-use Rattle.access_restart.specs.RoleHeld.{heldAnswer, heldRoleAnswer, heldRoleRun, heldRoleAnswers, heldRolePanels, Shown, shown, shownTo, heldRoleShown, shownAt, HeldIsolation, RoleHeldDemand3}
+use Rattle.access_restart.specs.RoleHeld.{heldAnswer, heldRoleAnswer, heldRoleRun, heldRoleAnswers, heldRolePanels, HeldIsolation, RoleHeldDemand3}
+use Rattle.access_restart.specs.RoleHeld.{Shown, shown, shownTo, heldRoleShown, shownAt}
 use Rattle.access_restart.proofs.Granted.{stayed, run-granted, answers-granted, places-granted, places-same}
 use Rattle.access_restart.proofs.RoleRestart.{fed-places}
 use Rattle.access_restart.proofs.Composed.{shown-places, carried}
