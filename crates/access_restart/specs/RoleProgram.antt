@@ -73,7 +73,7 @@ abbrev pub roleGettersShown : List ℕ → ℕ → Held → List Asked → List 
 roleGettersShown table role m [] = shownTo table role m ∷ []
 roleGettersShown table role m (a ∷ l) = shownTo table role m ∷ roleGettersShown table role (roleLeft table m (a .role) (a .call)) l
 
--- `shownTo` reads access's `numbers`, "All of them, by one test of the table": by its own contract each getter returns the same row and the same number
+-- `shownTo` reads access's `numbers`, which gives all of them: by its own contract each getter returns the same row and the same number, whatever the role
 pub record EachGetter (table : List ℕ) (role : ℕ) (m : Held) : Type 0 where
   pub seen : numberBy table role (m .head .«values_seen») ≡ number (shownTo table role m .row) (shownTo table role m .getters .valuesSeen)
   pub internal : numberBy table role (m .head .«internal_timestamp») ≡ number (shownTo table role m .row) (shownTo table role m .getters .internalTimestamp)
