@@ -69,3 +69,11 @@ module _ {M : Type 0} (step : M → Call → M) (table : List ℕ) where
   pub places-map : {P Q : Type 0} (f : P → Q) (look : M → P) (m : M) (l : List Asked) → map f (guardedPlaces step look table m l) ≡ guardedPlaces step (λ (n : M). f (look n)) table m l
   places-map f look m [] = refl
   places-map f look m (a ∷ l) = ap (λ q. f (look m) ∷ q) (places-map f look (guardedStep step table m a) l)
+
+  -- and so what is read of what `sees` sees
+  module _ {P Q : Type 0} (f : P → Q) (look : M → P) (sees : M → List Call → List P) (none : (m : M) → sees m [] ≡ look m ∷ [])
+      (more : (m : M) (c : Call) (cs : List Call) → sees m (c ∷ cs) ≡ look m ∷ sees (step m c) cs) where
+    pub places-read : (m : M) (l : List Asked) → map f (guardedPlaces step look table m l) ≡ stayed table l (map f (sees m (grantedCalls table l)))
+    places-read m l =
+        places-map f look m l
+        ∙ places-granted (λ (n : M). f (look n)) (λ (n : M) (cs : List Call). map f (sees n cs)) (λ n. ap (map f) (none n)) (λ n c cs. ap (map f) (more n c cs)) m l

@@ -2,20 +2,25 @@
 -- The granted calls are those of restart_program's instance, so that its text, its answers and its panels must come out.
 use Prim.Native.Nat.{ℕ, _+_, _≤_}
 use mathlib.Core.Path.{_≡_, refl, sym, ap, _∙_, subst}
-use mathlib.Core.Bool.{true, false}
+use mathlib.Core.Bool.{Bool, true, false}
 use mathlib.Core.List.{List, [], _∷_, _++_, map}
 use mathlib.Core.Option.{some}
-use lib.ListN.{length, take, set, replicate}
+use lib.ListN.{length, take, drop, set, replicate}
+use lib.Ieee as Ieee
 use lib.Ieee.{nan}
 use Rattle.trcf.specs.Fit.{All}
+use Rattle.trcf.specs.Lists as Lists
+use Rattle.trcf.specs.Settings as Settings
 use Rattle.trcf.specs.Settings.{block, dimension}
+use Rattle.trcf.specs.Calls as Calls
 use Rattle.trcf.specs.Calls.{Call, Machine, shingledPoint}
-use Rattle.trcf.specs.Preprocessor.{fresh, Answer, refused}
-use Rattle.trcf.specs.View.{lentShort, noHead}
+use Rattle.trcf.specs.Preprocessor.{fresh, Answer, refused, panelOf}
+use Rattle.trcf.specs.View.{lentShort, noHead, alone, Getters}
 use Rattle.snapshot.specs.Text.{render}
 use Rattle.snapshot.specs.Read.{taken}
 use Rattle.snapshot.specs.Save as save
-use Rattle.restart.specs.History.{entries, historyText, historyAnswers, historyPanels}
+use Rattle.restart.specs.History as History
+use Rattle.restart.specs.History.{entries, historyText, historyAnswers, historyPanels, historyShown}
 use Rattle.restart.specs.Statement.{Demand3}
 use Rattle.restart.specs.Held.{Held, held, builtOn, savedTo}
 use Rattle.restart_program.specs.Program.{point, answerRead, ProgramDemand3}
@@ -23,17 +28,18 @@ use Rattle.restart_program.proofs.Instances.{one, strands, strands-valid, stran
 use Rattle.restart_program.proofs.Instances.{stranding-fed-first, dirty, filthy, text-fits, last-fits, first-fits, pointAnswer, learnAnswer, ruled}
 use Rattle.access.specs.declared.rights.Right.the-variants.{SEE, SAVE, RESTORE}
 use Rattle.access.specs.Access.{granted, everyRight}
-use Rattle.access.specs.Entries.{number}
+use Rattle.access.specs.Entries.{number, numberBy}
 use Rattle.access_restart.specs.Asked.{ask, allowed, grantedCalls, placed}
 use Rattle.access_restart.specs.RoleDemand.{withheldAnswer, roleRun, roleAnswers, gave, roleSave, rolePanels, fedAt, RoleRestart, RoleEvent, asked, restarted, roleEvents}
 use Rattle.access_restart.specs.RoleDemand.{roleEventAnswers, RoleRestarts}
-use Rattle.access_restart.specs.RoleHeld.{heldRoleRun, heldRoleAnswers, roleSavedTo, roleTextIn, roleRestoredOn, RoleHeldRestart}
-use Rattle.access_restart.specs.RoleProgram.{roleReturn, roleRan, roleReturns, rolePanelsReturned, rolePanelsShown, RoleProgramRestart}
+use Rattle.access_restart.specs.RoleHeld.{heldRoleRun, heldRoleAnswers, roleSavedTo, roleTextIn, roleRestoredOn, Shown, shown, heldRoleShown, shownAt, RoleHeldRestart}
+use Rattle.access_restart.specs.RoleProgram.{roleReturn, roleRan, roleReturns, rolePanelsReturned, roleGettersShown, RoleProgramRestart}
 use Rattle.access_restart.proofs.Samples.{badTables, garage, morning, evening, day, counted-morning, counted-evening, counted}
 use Rattle.access_restart.proofs.Granted.{stayed}
 use Rattle.access_restart.proofs.RoleRestart.{fed-places, role-demand-3}
+use Rattle.access_restart.proofs.Composed.{shown-places}
 use Rattle.access_restart.proofs.RoleHeld.{role-held-demand-3}
-use Rattle.access_restart.proofs.RoleProgram.{program-isolation, program-granted, role-program-demand-3}
+use Rattle.access_restart.proofs.RoleProgram.{program-isolation, program-granted, each-getter, role-program-demand-3}
 use Rattle.access_restart.proofs.Plain.{plain, plain-program}
 
 -- ---- the day of proofs/Samples: role 3 saves, role 0 restores, role 1 looks
@@ -99,34 +105,94 @@ fedEvening = 1 ∷ 1 ∷ 1 ∷ 1 ∷ 2 ∷ 2 ∷ 2 ∷ []
 abbrev fedDay : List ℕ
 fedDay = 0 ∷ 0 ∷ 0 ∷ 0 ∷ 0 ∷ 1 ∷ 1 ∷ 1 ∷ 1 ∷ 1 ∷ 1 ∷ 2 ∷ 2 ∷ 2 ∷ []
 
-module _ {P : Type 0} (f : ℕ → P) where
-  stayed-evening : stayed garage evening (map f (1 ∷ 1 ∷ 2 ∷ 2 ∷ [])) ≡ map f fedEvening
+module _ {P : Type 0} (a b c d : P) where
+  stayed-evening : stayed garage evening (a ∷ b ∷ c ∷ d ∷ []) ≡ a ∷ a ∷ b ∷ b ∷ c ∷ c ∷ d ∷ []
   unfolding granted
   stayed-evening = refl
 
-  stayed-day : stayed garage day (map f (0 ∷ 0 ∷ 0 ∷ 1 ∷ 1 ∷ 1 ∷ 2 ∷ 2 ∷ [])) ≡ map f fedDay
+  stayed-day : (e f g h : P) → stayed garage day (a ∷ b ∷ c ∷ d ∷ e ∷ f ∷ g ∷ h ∷ []) ≡ a ∷ a ∷ b ∷ c ∷ c ∷ d ∷ d ∷ e ∷ e ∷ f ∷ f ∷ g ∷ g ∷ h ∷ []
   unfolding granted
-  stayed-day = refl
+  stayed-day e f g h = refl
 
+module _ {P : Type 0} (f : ℕ → P) where
   fed-evening : map f (fedAt garage strands (entries strands (grantedCalls garage morning)) evening) ≡ map f fedEvening
   fed-evening =
       fed-places garage strands f (entries strands (grantedCalls garage morning)) evening
       ∙ (λ j. stayed garage evening (map f (historyPanels strands (entries strands (counted-morning j)) (counted-evening j))))
       ∙ ap (λ (l : List ℕ). stayed garage evening (map f l)) stranding-fed
-      ∙ stayed-evening
+      ∙ stayed-evening (f 1) (f 1) (f 2) (f 2)
 
   fed-day : map f (fedAt garage strands [] day) ≡ map f fedDay
   fed-day =
       fed-places garage strands f [] day
       ∙ ap (λ (cs : List Call). stayed garage day (map f (historyPanels strands [] cs))) counted
       ∙ ap (λ (l : List ℕ). stayed garage day (map f l)) stranding-fed-first
-      ∙ stayed-day
+      ∙ stayed-day (f 0) (f 0) (f 0) (f 1) (f 1) (f 1) (f 2) (f 2)
 
 panels-evening : rolePanels garage 1 oneRoom (restart-middle .second) evening ≡ map some fedEvening
 panels-evening = restart-middle .outlives .fedPanels 1 viewer oneRoom one-fits ∙ fed-evening some
 
 panels-day : rolePanels garage 1 oneRoom (fresh strands) day ≡ map some fedDay
 panels-day = restart-first .fedPanels 1 viewer oneRoom one-fits ∙ fed-day some
+
+-- ---- what the getters answer it there: readings seen, shingled, whether the shingle is full, and the panel; the rest is the settings'
+
+abbrev tell : ℕ → ℕ → Bool → ℕ → Getters
+tell seen internal full fed =
+    record {
+      valuesSeen = seen;
+      internalTimestamp = internal;
+      ready = full;
+      inputDimensions = 1;
+      shingleSize = 2;
+      dimensions = 2;
+      method = 4;
+      mode = 83;
+      start = 1;
+      panel = fed;
+    }
+
+abbrev oneIn : Getters
+oneIn = tell 2 1 false 1
+
+abbrev twoIn : Getters
+twoIn = tell 3 2 true 2
+
+abbrev gettersEvening : List Getters
+gettersEvening = oneIn ∷ oneIn ∷ oneIn ∷ oneIn ∷ twoIn ∷ twoIn ∷ twoIn ∷ []
+
+abbrev gettersDay : List Getters
+gettersDay = tell 0 0 false 0 ∷ tell 0 0 false 0 ∷ tell 1 0 false 0 ∷ tell 1 0 false 0 ∷ tell 1 0 false 0 ∷ oneIn ∷ oneIn ∷ gettersEvening
+
+-- to unfold this is to unfold whatever its line names
+counting : Unit {0}
+unfolding Ieee.ofBits Ieee.toBits Ieee.size Ieee.eq Ieee.lt Ieee.le Settings.block Settings.dimension Settings.waiting Settings.allOne Settings.settingsRow Lists.lastN Lists.shiftIn Lists.overwrite Calls.finite Calls.due Calls.newest Calls.behind Calls.wrongLength Calls.outside Calls.drainFull Calls.learnFull Calls.waitingShort Calls.learnShort Calls.table Calls.rows History.seenOf History.internalOf History.bufferOf History.shingled History.inputsOf History.timestampsOf History.newestOf History.countOf History.historyState History.historyFacts History.historyRefusal History.complete History.adds History.enter History.entries History.historyPanel History.historyGetters
+counting = tt
+
+told-evening : historyShown strands (entries strands (take 4 stranding)) (drop 4 stranding) ≡ oneIn ∷ oneIn ∷ twoIn ∷ twoIn ∷ []
+unfolding counting
+told-evening = refl
+
+told-day : historyShown strands [] stranding
+    ≡ tell 0 0 false 0 ∷ tell 1 0 false 0 ∷ tell 1 0 false 0 ∷ oneIn ∷ oneIn ∷ oneIn ∷ twoIn ∷ twoIn ∷ []
+unfolding counting
+told-day = refl
+
+shown-evening : map (shown 0) (shownAt garage strands (entries strands (grantedCalls garage morning)) evening) ≡ map (shown 0) gettersEvening
+shown-evening =
+    shown-places garage strands (shown 0) (entries strands (grantedCalls garage morning)) evening
+    ∙ (λ j. stayed garage evening (map (shown 0) (historyShown strands (entries strands (counted-morning j)) (counted-evening j))))
+    ∙ ap (λ (l : List Getters). stayed garage evening (map (shown 0) l)) told-evening
+    ∙ stayed-evening (shown 0 oneIn) (shown 0 oneIn) (shown 0 twoIn) (shown 0 twoIn)
+
+shown-day : map (shown 0) (shownAt garage strands [] day) ≡ map (shown 0) gettersDay
+shown-day =
+    let blank : Shown = shown 0 (tell 0 0 false 0) in
+    let heldBack : Shown = shown 0 (tell 1 0 false 0) in
+    shown-places garage strands (shown 0) [] day
+    ∙ ap (λ (cs : List Call). stayed garage day (map (shown 0) (historyShown strands [] cs))) counted
+    ∙ ap (λ (l : List Getters). stayed garage day (map (shown 0) l)) told-day
+    ∙ stayed-day blank heldBack heldBack (shown 0 oneIn) (shown 0 oneIn) (shown 0 oneIn) (shown 0 twoIn) (shown 0 twoIn)
 
 -- ---- restarts by roles that may, by one that may not save and by one that may not restore
 
@@ -193,6 +259,9 @@ held-middle =
 held-evening : heldRoleAnswers garage heldSecond evening ≡ eveningAnswers
 held-evening = held-middle .ruledAnswers ∙ ruled-evening
 
+held-shown : heldRoleShown garage 1 heldSecond evening ≡ map (shown 0) gettersEvening
+held-shown = held-middle .fedShown 1 viewer ∙ shown-evening
+
 -- composed by access's contracts
 abbrev first : Held
 first = roleRan garage (builtOn strands dirty) morning
@@ -214,8 +283,22 @@ program-panels = program-middle .fedPanels 1 viewer oneRoom one-fits ∙ fed-eve
 program-panels-day : rolePanelsReturned garage 1 oneRoom (builtOn strands dirty) day ≡ map some fedDay
 program-panels-day = program-middle .firstPanels 1 viewer oneRoom one-fits ∙ fed-day some
 
-program-shown : rolePanelsShown garage 1 second evening ≡ map (number 0) fedEvening
-program-shown = program-middle .fedShown 1 viewer ∙ fed-evening (number 0)
+program-shown : roleGettersShown garage 1 second evening ≡ map (shown 0) gettersEvening
+program-shown = program-middle .fedShown 1 viewer ∙ shown-evening
+
+program-shown-day : roleGettersShown garage 1 (builtOn strands dirty) day ≡ map (shown 0) gettersDay
+program-shown-day = program-middle .firstShown 1 viewer ∙ shown-day
+
+-- one getter alone, after the restart: to role 1, which may see, and to role 3, which may not
+front : {P : Type 0} {x y : P} {l m : List P} → x ∷ l ≡ y ∷ m → x ≡ y
+front e = cc
+
+panel-to-1 : numberBy garage 1 (panelOf (alone (second .head))) ≡ number 0 1
+panel-to-1 = each-getter garage 1 second .fed ∙ ap (λ (x : Shown). number (x .row) (x .getters .panel)) (front program-shown)
+
+panel-to-3 : numberBy garage 3 (panelOf (alone (second .head))) ≡ number 22 0
+unfolding granted
+panel-to-3 = each-getter garage 3 second .fed
 
 -- both ends as places: after the last call 726 bytes are enough
 abbrev exact : List ℕ

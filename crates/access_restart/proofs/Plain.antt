@@ -10,23 +10,22 @@ use lib.Ieee.{Float}
 use Rattle.trcf.specs.Fit.{All}
 use Rattle.trcf.specs.Settings.{Settings, Valid}
 use Rattle.trcf.specs.Calls.{Call, Machine, shingledPoint, postProcess, drain, transform, invertExtrapolation, scale, shift, status}
-use Rattle.trcf.specs.Preprocessor.{State, fresh, next, run, Answer, answer, answers, panelOf}
-use Rattle.trcf.specs.View.{alone}
+use Rattle.trcf.specs.Preprocessor.{State, fresh, next, run, Answer, answer, answers}
+use Rattle.trcf.specs.View.{Getters, gettersOf}
 use Rattle.snapshot.specs.Text.{render, TextOf}
 use Rattle.snapshot.specs.Read.{Read, taken, bad, read}
 use Rattle.snapshot.specs.Restore as restore
-use Rattle.restart.specs.History.{Entry, enter, entries, historyText, historyAnswer, historyAnswers, historyPanel, historyPanels}
+use Rattle.restart.specs.History.{Entry, enter, entries, historyText, historyAnswer, historyAnswers, historyPanel, historyPanels, historyGetters, historyShown}
 use Rattle.restart.specs.Statement.{Outlives, Restart, panelTold, panels, panelsEvents, historyPanelsEvents, Event, called, restarted as restarted₀, callsOf, runEvents, answersEvents}
 use Rattle.restart.specs.Statement.{Restarts, Reaches, built as built₀, calling, restoring as restoring₀, Demand3}
 use Rattle.restart.specs.Held.{Held, builtOn, savedTo, textIn, restoredOn}
-use Rattle.restart_program.specs.Program.{answerRead, returnOf, leftBy, ran, returns, returnedPanels, shownPanels, ProgramDemand3}
-use Rattle.access.specs.declared.getters.Number.{Number}
+use Rattle.restart_program.specs.Program.{answerRead, returnOf, leftBy, ran, returns, returnedPanels, shownGetters, ProgramDemand3}
 use Rattle.access.specs.Access.{granted, everyRight}
-use Rattle.access.specs.Entries.{number}
 use Rattle.access_restart.specs.Asked.{Asked, ask, allowed, grantedCalls, placed, guardedRun, guardedPlaces, guardedAnswers, asRole0}
 use Rattle.access_restart.specs.RoleDemand.{withheldAnswer, roleNext, roleRun, roleAnswers, rolePanels, gave, fedAt, RoleOutlives, RoleEvent, asked, restarted, askedOf, roleEvents}
 use Rattle.access_restart.specs.RoleDemand.{roleEventAnswers, roleEventPanels, fedAtEvents, RoleReaches, built, asking, restoring, RoleDemand3}
-use Rattle.access_restart.specs.RoleProgram.{roleReturn, roleLeft, roleRan, roleReturns, rolePanelsReturned, rolePanelsShown, RoleProgramDemand3}
+use Rattle.access_restart.specs.RoleHeld.{Shown, shown, shownAt}
+use Rattle.access_restart.specs.RoleProgram.{roleReturn, roleLeft, roleRan, roleReturns, rolePanelsReturned, roleGettersShown, RoleProgramDemand3}
 use Rattle.access_restart.proofs.Granted.{run-granted, answers-granted}
 
 pub every-call : (c : Call) → allowed everyRight (ask 0 c) ≡ true
@@ -89,6 +88,9 @@ ruled-placed s = all-placed (enter s) (historyAnswer s) withheldAnswer (historyA
 
 fed-all : (s : Settings) (es : List Entry) (cs : List Call) → fedAt everyRight s es (asRole0 cs) ≡ historyPanels s es cs
 fed-all s = all-places (enter s) (historyPanel s) (historyPanels s) (λ es. refl) (λ es c cs. refl)
+
+shown-all : (s : Settings) (es : List Entry) (cs : List Call) → shownAt everyRight s es (asRole0 cs) ≡ historyShown s es cs
+shown-all s = all-places (enter s) (historyGetters s) (historyShown s) (λ es. refl) (λ es c cs. refl)
 
 same-gave : {A : Type 0} {x y : A} → gave x ≡ gave y → x ≡ y
 same-gave e = cc
@@ -282,22 +284,22 @@ program-panels room m (c ∷ cs) =
     λ j. panelTold (answerRead (entry-returns m (status room) j))
     ∷ (ap (λ (n : Held). rolePanelsReturned everyRight 0 room n (asRole0 cs)) (entry-leaves m c) ∙ program-panels room (leftBy m c) cs) j
 
-shown-numbers : (m : Held) (cs : List Call) → rolePanelsShown everyRight 0 m (asRole0 cs) ≡ map (number 0) (shownPanels m cs)
+shown-rows : (m : Held) (cs : List Call) → roleGettersShown everyRight 0 m (asRole0 cs) ≡ map (shown 0) (shownGetters m cs)
 unfolding granted
-shown-numbers m [] = refl
-shown-numbers m (c ∷ cs) =
-    ap (λ (l : List Number). number 0 (panelOf (alone (m .head))) ∷ l)
-    (ap (λ (n : Held). rolePanelsShown everyRight 0 n (asRole0 cs)) (entry-leaves m c) ∙ shown-numbers (leftBy m c) cs)
+shown-rows m [] = refl
+shown-rows m (c ∷ cs) =
+    ap (λ (l : List Shown). shown 0 (gettersOf (m .head)) ∷ l)
+    (ap (λ (n : Held). roleGettersShown everyRight 0 n (asRole0 cs)) (entry-leaves m c) ∙ shown-rows (leftBy m c) cs)
 
-abbrev numbers : List Number → List ℕ
-numbers l = map (λ (n : Number). n .number) l
+abbrev gettersIn : List Shown → List Getters
+gettersIn l = map (λ (n : Shown). n .getters) l
 
-numbers-back : (l : List ℕ) → numbers (map (number 0) l) ≡ l
-numbers-back [] = refl
-numbers-back (x ∷ l) = ap (λ (q : List ℕ). x ∷ q) (numbers-back l)
+getters-back : (l : List Getters) → gettersIn (map (shown 0) l) ≡ l
+getters-back [] = refl
+getters-back (x ∷ l) = ap (λ (q : List Getters). x ∷ q) (getters-back l)
 
-program-shown : (m : Held) (cs : List Call) → numbers (rolePanelsShown everyRight 0 m (asRole0 cs)) ≡ shownPanels m cs
-program-shown m cs = ap numbers (shown-numbers m cs) ∙ numbers-back (shownPanels m cs)
+program-shown : (m : Held) (cs : List Call) → gettersIn (roleGettersShown everyRight 0 m (asRole0 cs)) ≡ shownGetters m cs
+program-shown m cs = ap gettersIn (shown-rows m cs) ∙ getters-back (shownGetters m cs)
 
 pub plain-program : RoleProgramDemand3 → ProgramDemand3
 unfolding granted
@@ -313,6 +315,10 @@ plain-program demand s ok before after mb ma first second rf rs out last long =
     let both : asRole0 before ++ asRole0 after ≡ asRole0 (before ++ after) = sym (role0-append before after) in
     let fed : fedAt everyRight s (entries s (grantedCalls everyRight (asRole0 before))) (asRole0 after) ≡ historyPanels s (entries s before) after =
     ap (λ (cs : List Call). fedAt everyRight s (entries s cs) (asRole0 after)) (all-granted before) ∙ fed-all s (entries s before) after in
+    let shown-fed : shownAt everyRight s (entries s (grantedCalls everyRight (asRole0 before))) (asRole0 after) ≡ historyShown s (entries s before) after =
+    ap (λ (cs : List Call). shownAt everyRight s (entries s cs) (asRole0 after)) (all-granted before) ∙ shown-all s (entries s before) after in
+    let shown-whole : shownAt everyRight s [] (asRole0 before ++ asRole0 after) ≡ historyShown s [] (before ++ after) =
+    ap (shownAt everyRight s []) both ∙ shown-all s [] (before ++ after) in
     let whole : fedAt everyRight s [] (asRole0 before ++ asRole0 after) ≡ historyPanels s [] (before ++ after) =
     ap (fedAt everyRight s []) both ∙ fed-all s [] (before ++ after) in
     record {
@@ -346,15 +352,15 @@ plain-program demand s ok before after mb ma first second rf rs out last long =
           ∙ r .firstPanels 0 refl room h
           ∙ ap (map some) whole;
       fedShown =
-          ap (λ (n : Held). shownPanels n after) (sym n-is)
+          ap (λ (n : Held). shownGetters n after) (sym n-is)
           ∙ sym (program-shown N after)
-          ∙ ap numbers (r .fedShown 0 refl)
-          ∙ numbers-back _
-          ∙ fed;
+          ∙ ap gettersIn (r .fedShown 0 refl)
+          ∙ getters-back _
+          ∙ shown-fed;
       firstShown =
           sym (program-shown (builtOn s first) (before ++ after))
-          ∙ ap (λ (l : List Asked). numbers (rolePanelsShown everyRight 0 (builtOn s first) l)) (sym both)
-          ∙ ap numbers (r .firstShown 0 refl)
-          ∙ numbers-back _
-          ∙ whole;
+          ∙ ap (λ (l : List Asked). gettersIn (roleGettersShown everyRight 0 (builtOn s first) l)) (sym both)
+          ∙ ap gettersIn (r .firstShown 0 refl)
+          ∙ getters-back _
+          ∙ shown-whole;
     }

@@ -6,22 +6,22 @@ use mathlib.Core.List.{List, [], _∷_, map}
 use mathlib.Core.Option.{Option, some}
 use lib.Ieee.{Float}
 use Rattle.trcf.specs.Calls.{Call, status}
-use Rattle.trcf.specs.Preprocessor.{panelOf}
-use Rattle.trcf.specs.View.{alone, answerOf}
+use Rattle.trcf.specs.View.{answerOf, gettersOf}
 use Rattle.snapshot.specs.Save as save
 use Rattle.snapshot.specs.Restore as restore
+use Rattle.restart.specs.History.{Entry, historyPanels, historyShown}
 use Rattle.restart.specs.Statement.{panelTold}
 use Rattle.restart.specs.Held.{Held, heldNext, heldRun, heldAnswers, heldPanels, heldShown, HeldRestart}
 use Rattle.restart.proofs.Held.{held-demand-3}
 use Rattle.access.specs.declared.rights.Right.the-variants.{SEE}
-use Rattle.access.specs.declared.getters.Number.{Number}
 use Rattle.access.specs.Access.{granted}
-use Rattle.access.specs.Entries.{number, numberBy}
 use Rattle.access_restart.specs.Asked.{Asked, ask, grantedCalls, placed}
-use Rattle.access_restart.specs.RoleDemand.{withheldAnswer}
-use Rattle.access_restart.specs.RoleHeld.{heldAnswer, heldRoleAnswer, heldRoleRun, heldRoleAnswers, heldRolePanels, heldRoleShown, HeldIsolation, RoleHeldDemand3}
+use Rattle.access_restart.specs.RoleDemand.{withheldAnswer, fedAt}
+use Rattle.access_restart.specs.RoleHeld.{heldAnswer, heldRoleAnswer, heldRoleRun, heldRoleAnswers, heldRolePanels, HeldIsolation, RoleHeldDemand3}
+use Rattle.access_restart.specs.RoleHeld.{Shown, shown, shownTo, heldRoleShown, shownAt}
 use Rattle.access_restart.proofs.Granted.{stayed, run-granted, answers-granted, places-granted, places-same}
-use Rattle.access_restart.proofs.Composed.{carried}
+use Rattle.access_restart.proofs.RoleRestart.{fed-places}
+use Rattle.access_restart.proofs.Composed.{shown-places, carried}
 
 pub held-isolation : HeldIsolation
 held-isolation = record { unchanged = λ table a e m. rw e; alike = λ table a e m n. rw e }
@@ -40,11 +40,11 @@ module _ (table : List ℕ) where
         places-same heldNext table (λ (n : Held). panelTold (heldRoleAnswer table n (ask role (status room)))) told (λ n. rw g) m l
         ∙ places-granted heldNext table told (heldPanels room) (λ n. refl) (λ n c cs. refl) m l
 
-    held-shown : (m : Held) (l : List Asked) → heldRoleShown table role m l ≡ stayed table l (map (number 0) (heldShown m (grantedCalls table l)))
+    held-shown : (m : Held) (l : List Asked) → heldRoleShown table role m l ≡ stayed table l (map (shown 0) (heldShown m (grantedCalls table l)))
     held-shown m l =
-        let told : Held → Number = λ (n : Held). number 0 (panelOf (alone (n .head))) in
-        places-same heldNext table (λ (n : Held). numberBy table role (panelOf (alone (n .head)))) told (λ n. rw g) m l
-        ∙ places-granted heldNext table told (λ (n : Held) (cs : List Call). map (number 0) (heldShown n cs)) (λ n. refl) (λ n c cs. refl) m l
+        let told : Held → Shown = λ (n : Held). shown 0 (gettersOf (n .head)) in
+        places-same heldNext table (shownTo table role) told (λ n. rw g) m l
+        ∙ places-granted heldNext table told (λ (n : Held) (cs : List Call). map (shown 0) (heldShown n cs)) (λ n. refl) (λ n c cs. refl) m l
 
 pub role-held-demand-3 : RoleHeldDemand3
 role-held-demand-3 table saver restorer p q s ok before after mb ma first second rf rs out last long =
@@ -54,7 +54,13 @@ role-held-demand-3 table saver restorer p q s ok before after mb ma first second
     let k = carried table heldRun (heldRoleRun table) (held-run table) saver restorer p q s before after first second out in
     let says : (m n : Held) → m ≡ n → heldRoleAnswers table m after ≡ placed withheldAnswer table after (heldAnswers n A) =
     λ m n e. held-answers table m after ∙ ap (λ (x : Held). placed withheldAnswer table after (heldAnswers x A)) e in
-    let numbers : Held → List Call → List Number = λ n cs. map (number 0) (heldShown n cs) in
+    let panels : List Entry → List Call → List (Option ℕ) = λ es cs. map some (historyPanels s es cs) in
+    let fed : List Entry → List Asked → List (Option ℕ) = λ es l. map some (fedAt table s es l) in
+    let panel-is = fed-places table s some in
+    let getters : List Entry → List Call → List Shown = λ es cs. map (shown 0) (historyShown s es cs) in
+    let roleGetters : List Entry → List Asked → List Shown = λ es l. map (shown 0) (shownAt table s es l) in
+    let getters-are = shown-places table s (shown 0) in
+    let answered : Held → List Call → List Shown = λ n cs. map (shown 0) (heldShown n cs) in
     record {
       builds = r .builds;
       saves = ap (λ (o : save.Outcome). o .row) (k .saves) ∙ r .saves;
@@ -63,8 +69,8 @@ role-held-demand-3 table saver restorer p q s ok before after mb ma first second
       sameAnswers = says _ _ (k .second-is) ∙ ap (placed withheldAnswer table after) (r .sameAnswers) ∙ sym (says _ _ (k .first-is));
       ruledAnswers = says _ _ (k .second-is) ∙ ap (placed withheldAnswer table after) (r .ruledAnswers);
       sameText = k .sameText last (r .sameText);
-      fedPanels = λ role g room h. k .seenAfter some (heldPanels room) (heldRolePanels table role room) (held-panels table role g room) (r .fedPanels room h);
-      firstPanels = λ role g room h. k .seenFirst some (heldPanels room) (heldRolePanels table role room) (held-panels table role g room) (r .firstPanels room h);
-      fedShown = λ role g. k .seenAfter (number 0) numbers (heldRoleShown table role) (held-shown table role g) (ap (map (number 0)) (r .fedShown));
-      firstShown = λ role g. k .seenFirst (number 0) numbers (heldRoleShown table role) (held-shown table role g) (ap (map (number 0)) (r .firstShown));
+      fedPanels = λ role g room h. k .seenAfter panels fed panel-is (heldPanels room) (heldRolePanels table role room) (held-panels table role g room) (r .fedPanels room h);
+      firstPanels = λ role g room h. k .seenFirst panels fed panel-is (heldPanels room) (heldRolePanels table role room) (held-panels table role g room) (r .firstPanels room h);
+      fedShown = λ role g. k .seenAfter getters roleGetters getters-are answered (heldRoleShown table role) (held-shown table role g) (ap (map (shown 0)) (r .fedShown));
+      firstShown = λ role g. k .seenFirst getters roleGetters getters-are answered (heldRoleShown table role) (held-shown table role g) (ap (map (shown 0)) (r .firstShown));
     }

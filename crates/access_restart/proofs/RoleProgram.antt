@@ -6,24 +6,25 @@ use mathlib.Core.List.{List, [], _∷_, map}
 use mathlib.Core.Option.{Option, some}
 use lib.Ieee.{Float}
 use Rattle.trcf.specs.Calls.{Call, shingledPoint, postProcess, drain, transform, invertExtrapolation, scale, shift, status}
-use Rattle.trcf.specs.Preprocessor.{Answer, refused, panelOf}
-use Rattle.trcf.specs.View.{alone}
+use Rattle.trcf.specs.Preprocessor.{Answer, refused}
+use Rattle.trcf.specs.View.{gettersOf}
 use Rattle.snapshot.specs.Save as save
 use Rattle.snapshot.specs.Restore as restore
+use Rattle.restart.specs.History.{Entry, historyPanels, historyShown}
 use Rattle.restart.specs.Statement.{panelTold}
 use Rattle.restart.specs.Held.{Held}
-use Rattle.restart_program.specs.Program.{Return, answerRead, returnOf, leftBy, ran, returns, returnedPanels, shownPanels, ProgramRestart}
+use Rattle.restart_program.specs.Program.{Return, answerRead, returnOf, leftBy, ran, returns, returnedPanels, shownGetters, ProgramRestart}
 use Rattle.restart_program.proofs.Program.{program-demand-3}
 use Rattle.access.specs.declared.rights.Right.the-variants.{SEE}
-use Rattle.access.specs.declared.getters.Number.{Number}
 use Rattle.access.specs.Access.{granted}
-use Rattle.access.specs.Entries.{number, numberBy}
 use Rattle.access_restart.specs.Asked.{Asked, ask, allowed, grantedCalls, placed, guardedStep, guardedRun, guardedPlaces, guardedSay, guardedAnswers}
-use Rattle.access_restart.specs.RoleDemand.{withheldAnswer}
-use Rattle.access_restart.specs.RoleProgram.{roleReturn, roleLeft, roleRan, roleReturns, rolePanelsReturned, rolePanelsShown, withheldReturn, ProgramIsolation, ProgramGranted}
+use Rattle.access_restart.specs.RoleDemand.{withheldAnswer, fedAt}
+use Rattle.access_restart.specs.RoleHeld.{Shown, shown, shownTo, shownAt}
+use Rattle.access_restart.specs.RoleProgram.{roleReturn, roleLeft, roleRan, roleReturns, rolePanelsReturned, roleGettersShown, EachGetter, withheldReturn, ProgramIsolation, ProgramGranted}
 use Rattle.access_restart.specs.RoleProgram.{RoleProgramDemand3}
 use Rattle.access_restart.proofs.Granted.{stayed, run-granted, answers-granted, places-granted, places-same}
-use Rattle.access_restart.proofs.Composed.{carried}
+use Rattle.access_restart.proofs.RoleRestart.{fed-places}
+use Rattle.access_restart.proofs.Composed.{shown-places, carried}
 
 -- ---- an entry, by its contract: withheld, and granted
 
@@ -105,6 +106,7 @@ program-isolation table = record {
   savesNothing = λ role e m out. rw e;
   restores = λ role e x y codes other l. rw e;
   restoresNothing = λ role e text codes l. rw e;
+  together = λ role e m n. rw e;
   numbers = λ role e x y. rw e;
   readies = λ role e x y. rw e;
   methods = λ role e x y. rw e;
@@ -118,6 +120,41 @@ program-granted table = record {
   saves = λ role e m out. rw e;
   restores = λ role e text codes l. rw e;
 }
+
+-- ---- the getters one by one
+
+pub each-getter : (table : List ℕ) (role : ℕ) (m : Held) → EachGetter table role m
+each-getter table role m = by (granted table role (SEE ∷ [])) refl
+  where
+    by : (b : Bool) → granted table role (SEE ∷ []) ≡ b → EachGetter table role m
+    by true e = record {
+      seen = rw e;
+      internal = rw e;
+      full = rw e;
+      inputs = rw e;
+      shingle = rw e;
+      dimension = rw e;
+      methodRow = rw e;
+      methodIs = rw e;
+      modeRow = rw e;
+      modeIs = rw e;
+      starts = rw e;
+      fed = rw e;
+    }
+    by false e = record {
+      seen = rw e;
+      internal = rw e;
+      full = rw e;
+      inputs = rw e;
+      shingle = rw e;
+      dimension = rw e;
+      methodRow = rw e;
+      methodIs = rw e;
+      modeRow = rw e;
+      modeIs = rw e;
+      starts = rw e;
+      fed = rw e;
+    }
 
 -- ---- all calls
 
@@ -156,11 +193,11 @@ module _ (table : List ℕ) where
         ap (λ (q : List (Option ℕ)). panelTold (answerRead (roleReturn table m role (status room))) ∷ q)
         (ap (λ (n : Held). rolePanelsReturned table role room n l) (left-is table m a) ∙ panels-guarded room (guardedStep leftBy table m a) l)
 
-    shown-guarded : (m : Held) (l : List Asked) → rolePanelsShown table role m l ≡ guardedPlaces leftBy (λ (n : Held). numberBy table role (panelOf (alone (n .head)))) table m l
+    shown-guarded : (m : Held) (l : List Asked) → roleGettersShown table role m l ≡ guardedPlaces leftBy (shownTo table role) table m l
     shown-guarded m [] = refl
     shown-guarded m (a ∷ l) =
-        ap (λ (q : List Number). numberBy table role (panelOf (alone (m .head))) ∷ q)
-        (ap (λ (n : Held). rolePanelsShown table role n l) (left-is table m a) ∙ shown-guarded (guardedStep leftBy table m a) l)
+        ap (λ (q : List Shown). shownTo table role m ∷ q)
+        (ap (λ (n : Held). roleGettersShown table role n l) (left-is table m a) ∙ shown-guarded (guardedStep leftBy table m a) l)
 
     module _ (g : granted table role (SEE ∷ []) ≡ true) where
       panels-are : (room : List Float) (m : Held) (l : List Asked) → rolePanelsReturned table role room m l ≡ stayed table l (returnedPanels room m (grantedCalls table l))
@@ -170,12 +207,12 @@ module _ (table : List ℕ) where
           ∙ places-same leftBy table (λ (n : Held). panelTold (answerRead (roleReturn table n role (status room)))) told (λ n. rw g) m l
           ∙ places-granted leftBy table told (returnedPanels room) (λ n. refl) (λ n c cs. refl) m l
 
-      shown-are : (m : Held) (l : List Asked) → rolePanelsShown table role m l ≡ stayed table l (map (number 0) (shownPanels m (grantedCalls table l)))
+      shown-are : (m : Held) (l : List Asked) → roleGettersShown table role m l ≡ stayed table l (map (shown 0) (shownGetters m (grantedCalls table l)))
       shown-are m l =
-          let told : Held → Number = λ (n : Held). number 0 (panelOf (alone (n .head))) in
+          let told : Held → Shown = λ (n : Held). shown 0 (gettersOf (n .head)) in
           shown-guarded m l
-          ∙ places-same leftBy table (λ (n : Held). numberBy table role (panelOf (alone (n .head)))) told (λ n. rw g) m l
-          ∙ places-granted leftBy table told (λ (n : Held) (cs : List Call). map (number 0) (shownPanels n cs)) (λ n. refl) (λ n c cs. refl) m l
+          ∙ places-same leftBy table (shownTo table role) told (λ n. rw g) m l
+          ∙ places-granted leftBy table told (λ (n : Held) (cs : List Call). map (shown 0) (shownGetters n cs)) (λ n. refl) (λ n c cs. refl) m l
 
 -- ---- the statement
 
@@ -187,7 +224,13 @@ role-program-demand-3 table saver restorer p q s ok before after mb ma first sec
     let k = carried table ran (roleRan table) (ran-is table) saver restorer p q s before after first second out in
     let says : (m n : Held) → m ≡ n → roleReturns table m after ≡ placed withheldReturn table after (returns n A) =
     λ m n e. returns-are table m after ∙ ap (λ (x : Held). placed withheldReturn table after (returns x A)) e in
-    let numbers : Held → List Call → List Number = λ n cs. map (number 0) (shownPanels n cs) in
+    let panels : List Entry → List Call → List (Option ℕ) = λ es cs. map some (historyPanels s es cs) in
+    let fed : List Entry → List Asked → List (Option ℕ) = λ es l. map some (fedAt table s es l) in
+    let panel-is = fed-places table s some in
+    let getters : List Entry → List Call → List Shown = λ es cs. map (shown 0) (historyShown s es cs) in
+    let roleGetters : List Entry → List Asked → List Shown = λ es l. map (shown 0) (shownAt table s es l) in
+    let getters-are = shown-places table s (shown 0) in
+    let answered : Held → List Call → List Shown = λ n cs. map (shown 0) (shownGetters n cs) in
     record {
       builds = r .builds;
       saves = ap (λ (o : save.Outcome). o .row) (k .saves) ∙ r .saves;
@@ -196,8 +239,8 @@ role-program-demand-3 table saver restorer p q s ok before after mb ma first sec
       sameReturns = says _ _ (k .second-is) ∙ ap (placed withheldReturn table after) (r .sameReturns) ∙ sym (says _ _ (k .first-is));
       ruledAnswers = ap (map answerRead) (says _ _ (k .second-is)) ∙ placed-read table after _ ∙ ap (placed withheldAnswer table after) (r .ruledAnswers);
       sameText = k .sameText last (r .sameText);
-      fedPanels = λ role g room h. k .seenAfter some (returnedPanels room) (rolePanelsReturned table role room) (panels-are table role g room) (r .fedPanels room h);
-      firstPanels = λ role g room h. k .seenFirst some (returnedPanels room) (rolePanelsReturned table role room) (panels-are table role g room) (r .firstPanels room h);
-      fedShown = λ role g. k .seenAfter (number 0) numbers (rolePanelsShown table role) (shown-are table role g) (ap (map (number 0)) (r .fedShown));
-      firstShown = λ role g. k .seenFirst (number 0) numbers (rolePanelsShown table role) (shown-are table role g) (ap (map (number 0)) (r .firstShown));
+      fedPanels = λ role g room h. k .seenAfter panels fed panel-is (returnedPanels room) (rolePanelsReturned table role room) (panels-are table role g room) (r .fedPanels room h);
+      firstPanels = λ role g room h. k .seenFirst panels fed panel-is (returnedPanels room) (rolePanelsReturned table role room) (panels-are table role g room) (r .firstPanels room h);
+      fedShown = λ role g. k .seenAfter getters roleGetters getters-are answered (roleGettersShown table role) (shown-are table role g) (ap (map (shown 0)) (r .fedShown));
+      firstShown = λ role g. k .seenFirst getters roleGetters getters-are answered (roleGettersShown table role) (shown-are table role g) (ap (map (shown 0)) (r .firstShown));
     }

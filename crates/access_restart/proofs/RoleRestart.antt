@@ -25,7 +25,7 @@ use Rattle.access_restart.specs.Asked.{Asked, ask, allowed, grantedCalls
 use Rattle.access_restart.specs.RoleDemand.{withheldAnswer, roleNext, roleAnswer, roleRun, roleAnswers, gave, withheld, rolePanels, fedAt, Isolation, RoleOutlives, RoleRestart}
 use Rattle.access_restart.specs.RoleDemand.{RoleEvent, asked, restarted, askedOf, restartedBy, roleEvents, roleEventAnswers, toldTo, roleEventPanels, fedAtEvents, RoleRestarts}
 use Rattle.access_restart.specs.RoleDemand.{RoleReaches, built, asking, restoring, RoleDemand3, CountsGranted}
-use Rattle.access_restart.proofs.Granted.{stayed, granted-append, run-granted, answers-granted, places-granted, places-same, places-map}
+use Rattle.access_restart.proofs.Granted.{stayed, granted-append, run-granted, answers-granted, places-granted, places-same, places-read}
 
 -- ---- isolation
 
@@ -57,9 +57,7 @@ module _ (table : List ℕ) where
   -- where the status answers of the granted calls tell the history's readings fed, so do those of all calls
   module _ {P : Type 0} (s : Settings) (f : ℕ → P) where
     pub fed-places : (es : List Entry) (l : List Asked) → map f (fedAt table s es l) ≡ stayed table l (map f (historyPanels s es (grantedCalls table l)))
-    fed-places es l =
-        places-map (enter s) table f (historyPanel s) es l
-        ∙ places-granted (enter s) table (λ (h : List Entry). f (historyPanel s h)) (λ (h : List Entry) (cs : List Call). map f (historyPanels s h cs)) (λ h. refl) (λ h c cs. refl) es l
+    fed-places = places-read (enter s) table f (historyPanel s) (historyPanels s) (λ h. refl) (λ h c cs. refl)
 
   module _ (role : ℕ) (g : granted table role (SEE ∷ []) ≡ true) (out : List Float) where
     told-is : (w : State) → panelTold (roleAnswer table w (ask role (status out))) ≡ panelTold (answer w (status out))

@@ -10,16 +10,17 @@ use lib.Ieee.{Float}
 use Rattle.trcf.specs.Fit.{All}
 use Rattle.trcf.specs.Settings.{Settings, Valid, block}
 use Rattle.trcf.specs.Calls.{Call, Machine, status}
-use Rattle.trcf.specs.Preprocessor.{Answer, panelOf}
-use Rattle.trcf.specs.View.{Lent, alone, lentShort, buildOf, answerOf}
+use Rattle.trcf.specs.Types.{methodNumber, modeLetter}
+use Rattle.trcf.specs.Preprocessor.{Answer}
+use Rattle.trcf.specs.View.{Lent, lentShort, Getters, buildOf, answerOf}
+use Rattle.trcf.specs.declared.head.StatusAnswer.{StatusAnswer}
 use Rattle.snapshot.specs.Save as save
-use Rattle.restart.specs.History.{entries, historyText, historyAnswers}
+use Rattle.restart.specs.History.{Entry, enter, entries, historyText, historyAnswers, historyGetters}
 use Rattle.restart.specs.Statement.{panelTold}
 use Rattle.restart.specs.Held.{Held, held, builtOn, heldNext}
 use Rattle.access.specs.declared.rights.Right.the-variants.{SEE, SAVE, RESTORE}
-use Rattle.access.specs.declared.getters.Number.{Number}
 use Rattle.access.specs.Access.{granted}
-use Rattle.access.specs.Entries.{number, numberBy, saveBy, restoreBy}
+use Rattle.access.specs.Entries.{numbersBy, saveBy, restoreBy}
 use Rattle.access_restart.specs.Asked.{Asked, ask, allowed, grantedCalls, placed, guardedStep, guardedRun, guardedPlaces, guardedSay, guardedAnswers}
 use Rattle.access_restart.specs.RoleDemand.{withheldAnswer, fedAt}
 
@@ -49,13 +50,45 @@ roleTextIn table role m out = take (roleSavedTo table role m out .length) (roleS
 abbrev pub roleRestoredOn : List ℕ → ℕ → List ℕ → List ℕ → Lent → Held
 roleRestoredOn table role t codes l = held (restoreBy table role t codes l .head) (restoreBy table role t codes l .lent)
 
--- ---- the panel at each place: what status tells a role, asked with the output `room`; and what the getter `panel` gives it
+-- ---- the panel at each place: what status tells a role, asked with the output `room`
 
 abbrev pub heldRolePanels : List ℕ → ℕ → List Float → Held → List Asked → List (Option ℕ)
 heldRolePanels table role room = guardedPlaces heldNext (λ (m : Held). panelTold (heldRoleAnswer table m (ask role (status room)))) table
 
-abbrev pub heldRoleShown : List ℕ → ℕ → Held → List Asked → List Number
-heldRoleShown table role = guardedPlaces heldNext (λ (m : Held). numberBy table role (panelOf (alone (m .head)))) table
+-- ---- what the getters answer a role: the row of access's `numbers`, and the rest of it as `Getters` has it (of the two kinds the number and the letter)
+
+pub record Shown : Type 0 where
+  pub row : ℕ
+  pub getters : Getters
+
+abbrev pub shown : ℕ → Getters → Shown
+shown n g = record { row = n; getters = g }
+
+abbrev pub gettersRead : StatusAnswer → Getters
+gettersRead a =
+    record {
+      valuesSeen = a .«values_seen»;
+      internalTimestamp = a .«internal_timestamp»;
+      ready = a .ready;
+      inputDimensions = a .«input_dimensions»;
+      shingleSize = a .«shingle_size»;
+      dimensions = a .dimensions;
+      method = methodNumber (a .«transform_method»);
+      mode = modeLetter (a .«forest_mode»);
+      start = a .«start_normalization»;
+      panel = a .panel;
+    }
+
+abbrev pub shownTo : List ℕ → ℕ → Held → Shown
+shownTo table role m = shown (numbersBy table role (m .head) .row) (gettersRead (numbersBy table role (m .head)))
+
+-- at each place
+abbrev pub heldRoleShown : List ℕ → ℕ → Held → List Asked → List Shown
+heldRoleShown table role = guardedPlaces heldNext (shownTo table role) table
+
+-- and what the history says there: a withheld call enters nothing
+abbrev pub shownAt : List ℕ → Settings → List Entry → List Asked → List Getters
+shownAt table s = guardedPlaces (enter s) (historyGetters s) table
 
 -- ---- isolation: any two heads and memories
 
@@ -79,9 +112,10 @@ pub record RoleHeldRestart (table : List ℕ) (saver restorer : ℕ) (s : Settin
       → heldRolePanels table role room N after ≡ map some (fedAt table s (entries s (grantedCalls table before)) after)
   pub firstPanels : (role : ℕ) → granted table role (SEE ∷ []) ≡ true → (room : List Float) → block s ≤ length room
       → heldRolePanels table role room (builtOn s first) (before ++ after) ≡ map some (fedAt table s [] (before ++ after))
-  pub fedShown : (role : ℕ) → granted table role (SEE ∷ []) ≡ true → heldRoleShown table role N after ≡ map (number 0) (fedAt table s (entries s (grantedCalls table before)) after)
+  -- and what every getter answers there
+  pub fedShown : (role : ℕ) → granted table role (SEE ∷ []) ≡ true → heldRoleShown table role N after ≡ map (shown 0) (shownAt table s (entries s (grantedCalls table before)) after)
   pub firstShown : (role : ℕ) → granted table role (SEE ∷ []) ≡ true
-      → heldRoleShown table role (builtOn s first) (before ++ after) ≡ map (number 0) (fedAt table s [] (before ++ after))
+      → heldRoleShown table role (builtOn s first) (before ++ after) ≡ map (shown 0) (shownAt table s [] (before ++ after))
 
 abbrev pub RoleHeldDemand3 : Type 0
 RoleHeldDemand3 =

@@ -1,5 +1,5 @@
 -- Request #105 of the program, composed from what the contracts of crate access state by equation (`pointBy`, `learnBy`, `drainBy`, `writeBy`,
--- `extrapolationBy`, `statusBy`, `numberBy` and its kin, `saveBy`, `restoreBy`): isolation, and demand 3. proofs/RoleProgram.antt derives both.
+-- `extrapolationBy`, `statusBy`, `numbersBy`, `numberBy` and its kin, `saveBy`, `restoreBy`): isolation, and demand 3. proofs/RoleProgram.antt derives both.
 use Prim.Native.Nat.{ℕ, _≤_}
 use mathlib.Core.Path.{_≡_}
 use mathlib.Core.Bool.{Bool, true, false}
@@ -11,8 +11,9 @@ use Rattle.trcf.specs.Fit.{All}
 use Rattle.trcf.specs.Transformer.{zero32}
 use Rattle.trcf.specs.Settings.{Settings, Valid, block}
 use Rattle.trcf.specs.Calls.{Call, Machine, shingledPoint, postProcess, drain, transform, invertExtrapolation, scale, shift, status}
+use Rattle.trcf.specs.Types.{methodNumber, modeLetter}
 use Rattle.trcf.specs.Preprocessor.{refused, panelOf}
-use Rattle.trcf.specs.View.{Lent, alone, noHead, lentShort, buildOf, written, statusGiven}
+use Rattle.trcf.specs.View.{Lent, alone, noHead, readyOf, dimensionOf, lentShort, buildOf, written, statusGiven}
 use Rattle.trcf.specs.Extrapolation.{extrapolation}
 use Rattle.trcf.specs.declared.types.TransformMethod.{TransformMethod}
 use Rattle.trcf.specs.declared.types.ForestMode.{ForestMode}
@@ -23,12 +24,11 @@ use Rattle.restart.specs.Statement.{panelTold}
 use Rattle.restart.specs.Held.{Held, held, builtOn, savedTo}
 use Rattle.restart_program.specs.Program.{Return, point, learn, drains, writes, turns, tells, pointReturn, learnReturn, answerRead, returnOf, leftBy}
 use Rattle.access.specs.declared.rights.Right.the-variants.{SEE, SAVE, RESTORE}
-use Rattle.access.specs.declared.getters.Number.{Number}
 use Rattle.access.specs.Access.{granted}
-use Rattle.access.specs.Entries.{pointBy, learnBy, drainBy, writeBy, extrapolationBy, statusBy, untold, number, numberBy, readyBy, methodBy, modeBy, restoreBy}
+use Rattle.access.specs.Entries.{pointBy, learnBy, drainBy, writeBy, extrapolationBy, statusBy, untold, number, ready, numbersBy, numberBy, readyBy, methodBy, modeBy, restoreBy}
 use Rattle.access_restart.specs.Asked.{Asked, allowed, grantedCalls, placed}
 use Rattle.access_restart.specs.RoleDemand.{withheldAnswer, fedAt}
-use Rattle.access_restart.specs.RoleHeld.{roleSavedTo, roleTextIn, roleRestoredOn}
+use Rattle.access_restart.specs.RoleHeld.{roleSavedTo, roleTextIn, roleRestoredOn, Shown, shown, shownTo, shownAt}
 
 -- ---- each by the right side of its contract
 
@@ -62,16 +62,31 @@ abbrev pub roleReturns : List ℕ → Held → List Asked → List Return
 roleReturns table m [] = []
 roleReturns table m (a ∷ l) = roleReturn table m (a .role) (a .call) ∷ roleReturns table (roleLeft table m (a .role) (a .call)) l
 
--- ---- the panel at each place: what status returns to a role, asked with the output `room`; and what `panel` returns to it
+-- ---- the panel at each place: what status returns to a role, asked with the output `room`; and what the getters return to it
 
 abbrev pub rolePanelsReturned : List ℕ → ℕ → List Float → Held → List Asked → List (Option ℕ)
 rolePanelsReturned table role room m [] = panelTold (answerRead (roleReturn table m role (status room))) ∷ []
 rolePanelsReturned table role room m (a ∷ l) =
     panelTold (answerRead (roleReturn table m role (status room))) ∷ rolePanelsReturned table role room (roleLeft table m (a .role) (a .call)) l
 
-abbrev pub rolePanelsShown : List ℕ → ℕ → Held → List Asked → List Number
-rolePanelsShown table role m [] = numberBy table role (panelOf (alone (m .head))) ∷ []
-rolePanelsShown table role m (a ∷ l) = numberBy table role (panelOf (alone (m .head))) ∷ rolePanelsShown table role (roleLeft table m (a .role) (a .call)) l
+abbrev pub roleGettersShown : List ℕ → ℕ → Held → List Asked → List Shown
+roleGettersShown table role m [] = shownTo table role m ∷ []
+roleGettersShown table role m (a ∷ l) = shownTo table role m ∷ roleGettersShown table role (roleLeft table m (a .role) (a .call)) l
+
+-- `shownTo` reads access's `numbers`, which gives all of them: by its own contract each getter returns the same row and the same number, whatever the role
+pub record EachGetter (table : List ℕ) (role : ℕ) (m : Held) : Type 0 where
+  pub seen : numberBy table role (m .head .«values_seen») ≡ number (shownTo table role m .row) (shownTo table role m .getters .valuesSeen)
+  pub internal : numberBy table role (m .head .«internal_timestamp») ≡ number (shownTo table role m .row) (shownTo table role m .getters .internalTimestamp)
+  pub full : readyBy table role (readyOf (m .head)) ≡ ready (shownTo table role m .row) (shownTo table role m .getters .ready)
+  pub inputs : numberBy table role (m .head .transformer .«input_length») ≡ number (shownTo table role m .row) (shownTo table role m .getters .inputDimensions)
+  pub shingle : numberBy table role (m .head .«shingle_size») ≡ number (shownTo table role m .row) (shownTo table role m .getters .shingleSize)
+  pub dimension : numberBy table role (dimensionOf (m .head)) ≡ number (shownTo table role m .row) (shownTo table role m .getters .dimensions)
+  pub methodRow : methodBy table role (m .head .transformer .«transform_method») .row ≡ shownTo table role m .row
+  pub methodIs : methodNumber (methodBy table role (m .head .transformer .«transform_method») .«transform_method») ≡ shownTo table role m .getters .method
+  pub modeRow : modeBy table role (m .head .«forest_mode») .row ≡ shownTo table role m .row
+  pub modeIs : modeLetter (modeBy table role (m .head .«forest_mode») .«forest_mode») ≡ shownTo table role m .getters .mode
+  pub starts : numberBy table role (m .head .«start_normalization») ≡ number (shownTo table role m .row) (shownTo table role m .getters .start)
+  pub fed : numberBy table role (panelOf (alone (m .head))) ≡ number (shownTo table role m .row) (shownTo table role m .getters .panel)
 
 -- ---- isolation
 
@@ -98,7 +113,8 @@ pub record ProgramIsolation (table : List ℕ) : Type 0 where
   pub restores : (role : ℕ) → granted table role (RESTORE ∷ []) ≡ false → (x y codes other : List ℕ) (l : Lent) → restoreBy table role x codes l ≡ restoreBy table role y other l
   pub restoresNothing : (role : ℕ) → granted table role (RESTORE ∷ []) ≡ false → (text codes : List ℕ) (l : Lent)
       → restoreBy table role text codes l ≡ restore.outcome 22 0 noHead l
-  -- the getters: any two numbers of two heads
+  -- the getters: together, and one by one, of any two numbers of two heads
+  pub together : (role : ℕ) → granted table role (SEE ∷ []) ≡ false → (m n : Held) → numbersBy table role (m .head) ≡ numbersBy table role (n .head)
   pub numbers : (role : ℕ) → granted table role (SEE ∷ []) ≡ false → (x y : ℕ) → numberBy table role x ≡ numberBy table role y
   pub readies : (role : ℕ) → granted table role (SEE ∷ []) ≡ false → (x y : Bool) → readyBy table role x ≡ readyBy table role y
   pub methods : (role : ℕ) → granted table role (SEE ∷ []) ≡ false → (x y : TransformMethod) → methodBy table role x ≡ methodBy table role y
@@ -127,9 +143,10 @@ pub record RoleProgramRestart (table : List ℕ) (saver restorer : ℕ) (s : Set
       → rolePanelsReturned table role room N after ≡ map some (fedAt table s (entries s (grantedCalls table before)) after)
   pub firstPanels : (role : ℕ) → granted table role (SEE ∷ []) ≡ true → (room : List Float) → block s ≤ length room
       → rolePanelsReturned table role room (builtOn s first) (before ++ after) ≡ map some (fedAt table s [] (before ++ after))
-  pub fedShown : (role : ℕ) → granted table role (SEE ∷ []) ≡ true → rolePanelsShown table role N after ≡ map (number 0) (fedAt table s (entries s (grantedCalls table before)) after)
+  pub fedShown : (role : ℕ) → granted table role (SEE ∷ []) ≡ true
+      → roleGettersShown table role N after ≡ map (shown 0) (shownAt table s (entries s (grantedCalls table before)) after)
   pub firstShown : (role : ℕ) → granted table role (SEE ∷ []) ≡ true
-      → rolePanelsShown table role (builtOn s first) (before ++ after) ≡ map (number 0) (fedAt table s [] (before ++ after))
+      → roleGettersShown table role (builtOn s first) (before ++ after) ≡ map (shown 0) (shownAt table s [] (before ++ after))
 
 -- for all tables, all settings that no row refuses, all calls by all roles, all places, and all lent memory that is long enough
 abbrev pub RoleProgramDemand3 : Type 0
