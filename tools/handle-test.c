@@ -70,6 +70,8 @@ static int build(void) {
     const float weight_time = (float)(1 + below(3));
     const uint64_t flat = veerycouch_build(mode, method, D, K, START, stop, decay, weight_time, weights, D, codes, D, two.head, two.head_len, PARTS);
     same("build", veery_build(&one, mode, method, stop, decay, weight_time, weights, codes), flat);
+    if (flat != (method == VEERYCOUCH_NONE && weights[1] != 1.0f ? 9 : 0))
+        wrong = 1, printf("build: row %d\n", (int)flat);
     if (flat == 0)
         width = mode == VEERYCOUCH_STANDARD ? D : D + 1;
     newest = below(100);
@@ -152,13 +154,21 @@ static void text(void) {
     uint64_t kept[VEERYCOUCH_HEAD_WORDS];
     memcpy(kept, one_head, sizeof kept);
     memset(one_head, 0, sizeof one_head), memset(two_head, 0, sizeof two_head); /* restore reads none of it */
+    const size_t kept_width = one.width, kept_dimension = one.dimension;
+    one.width = one.dimension = 77; /* and what is measured comes from the text */
     const uint64_t flat = veerycouch_restore(two.table, two.table_len, two.role, a, (size_t)m, expected, D, two.head, two.head_len, PARTS, &flat_line);
     same("restore", veery_restore(&one, a, (size_t)m, expected, &line), flat);
     equal("line", &line, &flat_line, sizeof line);
-    if (flat == 0) /* a damaged letter may have changed the mode */
+    if (flat == 0) { /* a damaged letter may have changed the mode */
         width = two.head[0] == VEERYCOUCH_STANDARD ? D : D + 1;
-    else
-        memcpy(one_head, kept, sizeof kept), memcpy(two_head, kept, sizeof kept);
+        if (one.width != width || one.dimension != width * two.head[3])
+            wrong = 1, printf("restore: the handle measures %d and %d\n", (int)one.width, (int)one.dimension);
+        return;
+    }
+    if (one.width != 77 || one.dimension != 77)
+        wrong = 1, printf("restore: a refusal has changed the handle\n");
+    one.width = kept_width, one.dimension = kept_dimension;
+    memcpy(one_head, kept, sizeof kept), memcpy(two_head, kept, sizeof kept);
 }
 
 /* Under methods 0 to 3 the handle's initial lists may be empty: every call is done that a fresh preprocessor does; methods 4 and 5 are refused by 20. */
