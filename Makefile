@@ -1,7 +1,7 @@
 # The library for C on this machine. GNU make, a C compiler, and the Rattle toolchain (rt), which proves what it builds.
 #   make                      libveerycouch.a and its pkg-config file, in target/lib; the header is include/veerycouch.h
 #   make install PREFIX=...   the three under PREFIX (default /usr/local), below DESTDIR where that is set
-#   make test                 the header against the sources, the C examples against what they should print, the wrapper's tests
+#   make test                 the header against the sources, the C examples against what they should print, the handle beside the flat calls, the wrapper's tests
 #   make fuzz SECONDS=60      damaged texts and heads in memory between guard pages, under two sanitizers
 #   tools/cross TARGET        the archive for another processor
 # From nothing, `make` proves the library and what it rests on, which takes about ten minutes on two processors, and says which crate it is at. Sources that have not changed are
@@ -43,7 +43,7 @@ install: all
 	install -m 644 target/lib/veerycouch.pc $(DESTDIR)$(LIBDIR)/pkgconfig/veerycouch.pc
 
 # some seconds, once the library is built
-test: test-header $(EXAMPLES:%=test-%) test-cpp test-wrapper
+test: test-header $(EXAMPLES:%=test-%) test-handle test-cpp test-wrapper
 	@echo "make test: all passed"
 
 test-header: $(ARCHIVE)
@@ -56,9 +56,15 @@ $(EXAMPLES:%=test-%): test-%: examples/%.c examples/%.out $(HEADER) $(ARCHIVE)
 	target/examples/$* >target/examples/$*.out
 	diff examples/$*.out target/examples/$*.out
 
+# the calls on the handle beside the flat calls
+test-handle: tools/handle-test.c $(HEADER) $(ARCHIVE)
+	@mkdir -p target/examples
+	$(CC) $(STRICT) -Iinclude $< $(ARCHIVE) -o target/examples/handle-test
+	target/examples/handle-test
+
 # the header is C++ too
 test-cpp: $(HEADER)
-	@if command -v $(CXX) >/dev/null; then echo '#include "veerycouch.h"' | $(CXX) -std=c++11 -Wall -Wextra -Wpedantic -Wconversion -Werror -Iinclude -fsyntax-only -x c++ - && echo "$(CXX): the header is C++"; else echo "no C++ compiler here: not tried"; fi
+	@if command -v $(CXX) >/dev/null; then printf '#include "veerycouch.h"\nVEERYCOUCH_DECLARE(one, 2, 3, 4);\nuint64_t panel(uint64_t *n) { return veery_panel(&one, n); }\n' | $(CXX) -std=c++11 -Wall -Wextra -Wpedantic -Wconversion -Werror -Iinclude -fsyntax-only -x c++ - && echo "$(CXX): the header is C++"; else echo "no C++ compiler here: not tried"; fi
 
 test-wrapper: $(ARCHIVE)
 	@if command -v cargo >/dev/null; then cd wrapper && VEERYCOUCH_LIB=$(CURDIR)/target/lib cargo test --release --offline --quiet; else echo "no cargo here: the wrapper's tests were NOT run"; fi
@@ -69,4 +75,4 @@ fuzz: $(ARCHIVE)
 clean:
 	rm -rf target/lib target/examples
 
-.PHONY: all install test test-header test-cpp test-wrapper fuzz clean $(EXAMPLES:%=test-%)
+.PHONY: all install test test-header test-handle test-cpp test-wrapper fuzz clean $(EXAMPLES:%=test-%)

@@ -1,6 +1,6 @@
 /* A trace of two fuel trims: taken up where fuel trims are expected, refused where load is, or one of them alone, or none; and a text of before there
  * were codes, which is read as one with zeros.
- *   gcc -std=c99 -Wall -Wextra -Iinclude examples/channels.c target/staticlib/libcapi.a -o channels && ./channels */
+ *   gcc -std=c99 -Wall -Wextra -Iinclude examples/channels.c target/lib/libveerycouch.a -o channels && ./channels */
 #include "veerycouch.h"
 #include <stdio.h>
 #include <string.h>

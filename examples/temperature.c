@@ -1,6 +1,6 @@
 /* One sensor, NORMALIZE, 4 readings a point: learns 20 readings, prints the last point and the text's first line, and takes the text up again in memory
  * that held something else; as a trace of another channel it is refused.
- *   gcc -std=c99 -Wall -Wextra -Iinclude examples/temperature.c target/staticlib/libcapi.a -o temperature && ./temperature */
+ *   gcc -std=c99 -Wall -Wextra -Iinclude examples/temperature.c target/lib/libveerycouch.a -o temperature && ./temperature */
 #include "veerycouch.h"
 #include <stdio.h>
 #include <string.h>

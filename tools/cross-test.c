@@ -120,7 +120,7 @@ struct memory {
     float initial_values[START_MAX * D_MAX + 2];
     uint64_t initial_timestamps[START_MAX + 2];
     size_t length[7]; /* lent, in the order above */
-    size_t d, k, w, start, dimension;
+    size_t d, k, w, start, dimension, waiting; /* waiting: how many readings the method lets wait */
     uint16_t codes[D_MAX];
 };
 static struct memory pair[2];
@@ -139,12 +139,12 @@ static void fill_memory(struct memory *p, int with) {
     const struct memory kept = *p;
     memset(p, with, sizeof *p);
     memcpy(p->length, kept.length, sizeof p->length);
-    p->d = kept.d, p->k = kept.k, p->w = kept.w, p->start = kept.start, p->dimension = kept.dimension;
+    p->d = kept.d, p->k = kept.k, p->w = kept.w, p->start = kept.start, p->dimension = kept.dimension, p->waiting = kept.waiting;
     memcpy(p->codes, kept.codes, sizeof p->codes);
 }
 /* how long the parts are lent: as asked, or longer, and now and then one of them shorter */
 static void lend(struct memory *p) {
-    const size_t need[7] = {VEERYCOUCH_HEAD_WORDS, VEERYCOUCH_STATISTICS(p->d), p->d * p->k, p->w * p->k, p->k, p->start * p->d, p->start};
+    const size_t need[7] = {VEERYCOUCH_HEAD_WORDS, VEERYCOUCH_STATISTICS(p->d), p->d * p->k, p->w * p->k, p->k, p->waiting * p->d, p->waiting};
     for (size_t i = 0; i < 7; i++)
         p->length[i] = need[i] + (one_in(4) ? below(2) : 0);
     if (one_in(20)) {
@@ -154,16 +154,12 @@ static void lend(struct memory *p) {
     }
 }
 
-/* ---- The library's calls. With roles, every call on a preprocessor but build takes the table and the role first. */
+/* ---- The library's calls. Every call on a preprocessor but build takes the table and the role first. */
 
 static uint8_t table[18];
 static size_t table_length = 16;
 static uint64_t role;
-#if VEERYCOUCH_HEADER >= 3
 #define ACCESS table, table_length, role,
-#else
-#define ACCESS
-#endif
 #define HEAD(p) (p)->head, (p)->length[0]
 #define PARTS(p)                                                                                                                                    \
     (p)->statistics, (p)->length[1], (p)->last_shingled_input, (p)->length[2], (p)->last_shingled_point, (p)->length[3], (p)->previous_timestamps,  \
@@ -246,7 +242,7 @@ static int build(void) {
         codes[i] = (uint16_t)below(one_in(2) ? 3 : 65536);
     }
     size_t given_weights = d, given_codes = d;
-    m->d = d, m->k = k, m->start = start, m->w = mode == 0 ? d : d + 1, m->dimension = m->w * k;
+    m->d = d, m->k = k, m->start = start, m->w = mode == 0 ? d : d + 1, m->dimension = m->w * k, m->waiting = method < 4 ? 0 : start;
     lend(m);
     if (one_in(6)) /* settings that a row refuses */
         switch (below(12)) {
@@ -377,7 +373,7 @@ static void take_up(int kind, const uint8_t *from, size_t length) {
     if (one_in(12))
         memset(codes, 0, sizeof codes);
     memcpy(other->codes, m->codes, sizeof m->codes);
-    other->d = m->d, other->k = m->k, other->w = m->w, other->start = m->start, other->dimension = m->dimension;
+    other->d = m->d, other->k = m->k, other->w = m->w, other->start = m->start, other->dimension = m->dimension, other->waiting = m->waiting;
     lend(other);
     fill_memory(other, (int)below(256));
     const uint64_t row = told(kind, veerycouch_restore(ACCESS from, length, codes, n, HEAD(other), PARTS(other), &line));
@@ -387,6 +383,7 @@ static void take_up(int kind, const uint8_t *from, size_t length) {
         struct memory *const swapped = m;
         m = other, other = swapped;
         memcpy(m->codes, codes, sizeof m->codes);
+        m->waiting = m->head[1] < 4 ? 0 : m->start;
         lend(m);
     }
 }
@@ -437,10 +434,12 @@ static void put_away(int then_damage) {
 }
 
 static void numbers(void) {
-    uint64_t answer[10];
+    uint64_t answer[10], all[VEERYCOUCH_NUMBERS + 2];
     uint16_t codes[D_MAX + 4];
     for (size_t i = 0; i < 10; i++)
         answer[i] = 7;
+    for (size_t i = 0; i < VEERYCOUCH_NUMBERS + 2; i++)
+        all[i] = 7;
     memset(codes, 7, sizeof codes);
     told(NUMBERS, veerycouch_values_seen(ACCESS HEAD(m), &answer[0]));
     told(NUMBERS, veerycouch_panel(ACCESS HEAD(m), &answer[1]));
@@ -452,7 +451,9 @@ static void numbers(void) {
     told(NUMBERS, veerycouch_start_normalization(ACCESS HEAD(m), &answer[7]));
     told(NUMBERS, veerycouch_transformation_method(ACCESS HEAD(m), &answer[8]));
     told(NUMBERS, veerycouch_forest_mode(ACCESS HEAD(m), &answer[9]));
-    const size_t space = room(m->d);
+    const size_t places = room(VEERYCOUCH_NUMBERS), space = room(m->d);
+    told(NUMBERS, veerycouch_numbers(ACCESS HEAD(m), all, places));
+    mix_words(all, VEERYCOUCH_NUMBERS + 2);
     told(NUMBERS, veerycouch_codes(ACCESS HEAD(m), codes, space));
     mix_words(answer, 10);
     mix_codes(codes, D_MAX + 4);

@@ -13,6 +13,7 @@
 VEERYCOUCH_DECLARE(one, D, K, START);
 VEERYCOUCH_DECLARE(two, D, K, START);
 VEERYCOUCH_DECLARE(none, 1, 1, 0); /* no initial values: parts of no length */
+VEERYCOUCH_DECLARE_PLAIN(plain, D, K, START); /* for methods 0 to 3 */
 
 static uint64_t state = 88172645463325252ULL;
 static uint64_t below(uint64_t n) {
@@ -63,12 +64,14 @@ static size_t width;
 
 static int build(void) {
     const float weights[D] = {1.0f, below(2) ? 2.0f : 1.0f};
-    const uint64_t modes[] = {VEERYCOUCH_STANDARD, VEERYCOUCH_TIME_AUGMENTED, 3}, mode = modes[below(3)], method = below(6);
+    const uint64_t modes[] = {VEERYCOUCH_STANDARD, VEERYCOUCH_TIME_AUGMENTED, VEERYCOUCH_GAP_AUGMENTED}, mode = modes[below(3)], method = below(6);
     const size_t stop = START + below(9);
     const double decay = (double)below(64) / 64.0;
     const float weight_time = (float)(1 + below(3));
     const uint64_t flat = veerycouch_build(mode, method, D, K, START, stop, decay, weight_time, weights, D, codes, D, two.head, two.head_len, PARTS);
     same("build", veery_build(&one, mode, method, stop, decay, weight_time, weights, codes), flat);
+    if (flat != (method == VEERYCOUCH_NONE && weights[1] != 1.0f ? 9 : 0))
+        wrong = 1, printf("build: row %d\n", (int)flat);
     if (flat == 0)
         width = mode == VEERYCOUCH_STANDARD ? D : D + 1;
     newest = below(100);
@@ -76,7 +79,7 @@ static int build(void) {
 }
 
 static void numbers(void) {
-    uint64_t a = 1, b = 1;
+    uint64_t a = 1, b = 1, all[2][VEERYCOUCH_NUMBERS] = {{0}};
     uint16_t c[D] = {0}, e[D] = {0};
 #define NUMBER(name)                                                                                                                                \
     a = b = 1;                                                                                                                                      \
@@ -92,6 +95,8 @@ static void numbers(void) {
     NUMBER(start_normalization);
     NUMBER(transformation_method);
     NUMBER(forest_mode);
+    same("numbers", veery_numbers(&one, all[0]), veerycouch_numbers(FLAT, all[1], VEERYCOUCH_NUMBERS));
+    EQUAL("numbers", all[0], all[1]);
     same("codes", veery_codes(&one, c), veerycouch_codes(FLAT, e, D));
     EQUAL("codes", c, e);
 }
@@ -149,13 +154,44 @@ static void text(void) {
     uint64_t kept[VEERYCOUCH_HEAD_WORDS];
     memcpy(kept, one_head, sizeof kept);
     memset(one_head, 0, sizeof one_head), memset(two_head, 0, sizeof two_head); /* restore reads none of it */
+    const size_t kept_width = one.width, kept_dimension = one.dimension;
+    one.width = one.dimension = 77; /* and what is measured comes from the text */
     const uint64_t flat = veerycouch_restore(two.table, two.table_len, two.role, a, (size_t)m, expected, D, two.head, two.head_len, PARTS, &flat_line);
     same("restore", veery_restore(&one, a, (size_t)m, expected, &line), flat);
     equal("line", &line, &flat_line, sizeof line);
-    if (flat == 0) /* a damaged letter may have changed the mode */
+    if (flat == 0) { /* a damaged letter may have changed the mode */
         width = two.head[0] == VEERYCOUCH_STANDARD ? D : D + 1;
-    else
-        memcpy(one_head, kept, sizeof kept), memcpy(two_head, kept, sizeof kept);
+        if (one.width != width || one.dimension != width * two.head[3])
+            wrong = 1, printf("restore: the handle measures %d and %d\n", (int)one.width, (int)one.dimension);
+        return;
+    }
+    if (one.width != 77 || one.dimension != 77)
+        wrong = 1, printf("restore: a refusal has changed the handle\n");
+    one.width = kept_width, one.dimension = kept_dimension;
+    memcpy(one_head, kept, sizeof kept), memcpy(two_head, kept, sizeof kept);
+}
+
+/* Under methods 0 to 3 the handle's initial lists may be empty: every call is done that a fresh preprocessor does; methods 4 and 5 are refused by 20. */
+static void without_lists(void) {
+    static uint8_t a[ROOM];
+    const float weights[D] = {1.0f, 1.0f}, x[D] = {2.0f, 3.0f};
+    struct veerycouch_learnt learnt;
+    for (uint64_t mode = 0; mode < 4; mode++)
+        for (uint64_t method = 0; method < 6; method++) {
+            uint64_t given = 0, length = 0, line = 0, row = veery_build(&plain, mode, method, 10, 0.0, 1.0f, weights, codes);
+            const uint64_t due = mode == VEERYCOUCH_STREAMING_IMPUTE ? VEERYCOUCH_ROW_STREAMING_IMPUTE : method < 4 ? VEERYCOUCH_ROW_DONE : VEERYCOUCH_ROW_TOO_SHORT;
+            for (uint64_t t = 0; t < 2 * START && due == 0 && row == 0; t++) {
+                row = veery_shingled_point(&plain, x, t, &given);
+                if (row == 0 && given == 1)
+                    row = veery_post_process(&plain, x, t, plain.output, NULL, 0.0f, 0, &learnt);
+            }
+            if (due == 0 && row == 0)
+                row = veery_save(&plain, a, sizeof a, &length);
+            if (due == 0 && row == 0)
+                row = veery_restore(&plain, a, (size_t)length, codes, &line);
+            if (row != due || (due == 0 && (given != 1 || plain.head[8] != 2 * START)))
+                wrong = 1, printf("mode %d, method %d without initial lists: row %d\n", (int)mode, (int)method, (int)row);
+        }
 }
 
 int main(void) {
@@ -195,6 +231,14 @@ int main(void) {
     uint64_t given = 0;
     if (veery_build(&none, VEERYCOUCH_STANDARD, VEERYCOUCH_NONE, 10, 0.0, 1.0f, &weight, codes) != 0 || veery_shingled_point(&none, &x, 1, &given) != 0 || given != 1 || none.output[0] != x)
         wrong = 1, printf("a handle without initial values: refused or wrong\n");
+    without_lists();
+    if (sizeof(struct veerycouch) + sizeof one_table != 208 || sizeof one_head + sizeof one_statistics + sizeof one_last_shingled_input + sizeof one_last_shingled_point +
+            sizeof one_previous_timestamps + sizeof one_initial_values + sizeof one_initial_timestamps != VEERYCOUCH_BYTES(D, K, START))
+        wrong = 1, printf("the memory is not what the header says\n");
+    char version[32];
+    snprintf(version, sizeof version, "%d.%d", VEERYCOUCH_VERSION / 100, VEERYCOUCH_VERSION % 100);
+    if (strcmp(version, VEERYCOUCH_VERSION_TEXT) != 0 || VEERYCOUCH_VERSION / 100 != VEERYCOUCH_HEADER)
+        wrong = 1, printf("the version is %s and %s\n", version, VEERYCOUCH_VERSION_TEXT);
     for (uint64_t row = 0; row <= VEERYCOUCH_ROW_GAP_FALLS; row++)
         if (strlen(veerycouch_row_text(row)) < 4 || strlen(veerycouch_row_text(row)) > 100 || strcmp(veerycouch_row_text(row), "no such row") == 0)
             wrong = 1, printf("row %d has no text\n", (int)row);

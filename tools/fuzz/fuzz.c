@@ -159,14 +159,10 @@ static void compare(int all, size_t told) {
     }
 }
 
-/* ---- The library's calls, each on the lists as they are lent. With roles, every call but build takes the table and the role first. */
+/* ---- The library's calls, each on the lists as they are lent. Every call on a preprocessor but build takes the table and the role first. */
 
 static uint64_t role;
-#if VEERYCOUCH_HEADER >= 3
 #define ACCESS (const uint8_t *)lists[TABLE].at, lists[TABLE].length, role,
-#else
-#define ACCESS
-#endif
 #define LIST(type, i) (type *)(void *)lists[i].at, lists[i].length
 #define WORDS LIST(uint64_t, HEAD)
 #define PARTS LIST(double, STATISTICS), LIST(float, INPUTS), LIST(float, POINT), LIST(uint64_t, TIMES), LIST(float, VALUES), LIST(uint64_t, INITIAL)
@@ -176,14 +172,14 @@ static const char *const name[KINDS] = {"build", "shingled_point", "post_process
                                         "save", "restore", "the ten numbers", "codes", "impute", "align", "corrected", "strandings"};
 static uint64_t made[KINDS], accepted[KINDS], row_met[64], executions;
 
-static size_t d, k, w, start, dimension; /* of the head as it is, cut to the most that there can be */
+static size_t d, k, w, start, waiting, dimension; /* of the head as it is, cut to the most that there can be; waiting: how many readings its method lets wait */
 static uint64_t newest;
 
 static size_t most(uint64_t n, size_t limit) { return n < limit ? (size_t)n : limit; }
 static void measure(void) {
     const uint64_t *h = (const uint64_t *)(const void *)lists[HEAD].at;
     d = most(h[2], 17), k = most(h[3], 65), start = most(h[4], 2001);
-    w = h[0] == 0 ? d : d + 1, dimension = w * k;
+    w = h[0] == 0 ? d : d + 1, waiting = h[1] < 4 ? 0 : start, dimension = w * k;
 }
 /* The parts as the head asks; what fits of their contents is kept. */
 static void relend(int which, size_t element, size_t length) {
@@ -204,8 +200,8 @@ static void lend_parts(int fresh) {
     relend(INPUTS, 4, d * k);
     relend(POINT, 4, w * k);
     relend(TIMES, 8, k);
-    relend(VALUES, 4, start * d);
-    relend(INITIAL, 8, start);
+    relend(VALUES, 4, waiting * d);
+    relend(INITIAL, 8, waiting);
 }
 static void reading(void) {
     float *x = lend(READING, 4, d);
@@ -221,6 +217,25 @@ static void floats(int which, size_t n) {
     float *x = lend(which, 4, n);
     for (size_t i = 0; i < lists[which].length; i++)
         x[i] = some_float();
+}
+
+/* The header's getters give what `numbers` gave. */
+static void getters(uint64_t row, const uint64_t *numbers) {
+    uint64_t x = 0;
+#define GETTER(getter, place)                                                     \
+    if (veerycouch_##getter(ACCESS WORDS, &x) != row || (row == 0 && x != numbers[place])) \
+    fail("a getter and the numbers differ")
+    GETTER(values_seen, VEERYCOUCH_AT_VALUES_SEEN);
+    GETTER(internal_timestamp, VEERYCOUCH_AT_INTERNAL_TIMESTAMP);
+    GETTER(is_ready, VEERYCOUCH_AT_IS_READY);
+    GETTER(input_dimensions, VEERYCOUCH_AT_INPUT_DIMENSIONS);
+    GETTER(shingle_size, VEERYCOUCH_AT_SHINGLE_SIZE);
+    GETTER(get_dimension, VEERYCOUCH_AT_GET_DIMENSION);
+    GETTER(start_normalization, VEERYCOUCH_AT_START_NORMALIZATION);
+    GETTER(transformation_method, VEERYCOUCH_AT_TRANSFORMATION_METHOD);
+    GETTER(forest_mode, VEERYCOUCH_AT_FOREST_MODE);
+    GETTER(panel, VEERYCOUCH_AT_PANEL);
+    executions += VEERYCOUCH_NUMBERS;
 }
 
 static uint64_t call(int kind) {
@@ -253,7 +268,9 @@ static uint64_t call(int kind) {
     }
     if (short_one) {
         static const int of_state[] = {HEAD, STATISTICS, INPUTS, POINT, TIMES, VALUES, INITIAL}, of_call[] = {READING, Y, EXPECTED, OUT1, OUT2, OUT3, OUT4, OUT5, OUT6, TIME1, TIME2, TIME3, CODES, TEXT, TABLE};
-        if (one_in(2))
+        if (kind == F_NUMBERS)
+            shorten(ANSWERS);
+        else if (one_in(2))
             shorten(of_state[below(7)]);
         else
             shorten(of_call[below(15)]);
@@ -283,14 +300,9 @@ static uint64_t call(int kind) {
     case F_SAVE: row = veerycouch_save(ACCESS WORDS, PARTS, &answer[0], LIST(uint8_t, TEXT)); break;
     case F_RESTORE: row = veerycouch_restore(ACCESS LIST(uint8_t, TEXT), LIST(uint16_t, CODES), WORDS, PARTS, &answer[0]); told = row == 19 ? 8 : 0; break;
     case F_NUMBERS:
-        row = veerycouch_values_seen(ACCESS WORDS, &answer[0]);
-        if (veerycouch_panel(ACCESS WORDS, &answer[1]) != row || veerycouch_internal_timestamp(ACCESS WORDS, &answer[2]) != row ||
-            veerycouch_is_ready(ACCESS WORDS, &answer[3]) != row || veerycouch_get_dimension(ACCESS WORDS, &answer[4]) != row ||
-            veerycouch_input_dimensions(ACCESS WORDS, &answer[5]) != row || veerycouch_shingle_size(ACCESS WORDS, &answer[6]) != row ||
-            veerycouch_start_normalization(ACCESS WORDS, &answer[7]) != row || veerycouch_transformation_method(ACCESS WORDS, &answer[8]) != row ||
-            veerycouch_forest_mode(ACCESS WORDS, &answer[9]) != row)
-            fail("two numbers of one head have two rows");
-        executions += 9;
+        row = veerycouch_numbers(ACCESS LIST(const uint64_t, HEAD), LIST(uint64_t, ANSWERS));
+        if (lists[ANSWERS].length == VEERYCOUCH_NUMBERS)
+            getters(row, answer);
         break;
     default: row = veerycouch_codes(ACCESS WORDS, LIST(uint16_t, CODES)); break;
     }
@@ -322,7 +334,7 @@ static int build(void) {
     if (mode == 2)
         mode = 1;
     d = 1 + below(one_in(10) ? 16 : 3), k = 1 + below(one_in(10) ? 64 : 4), start = below(one_in(20) ? 2000 : 6);
-    w = mode == 0 ? d : d + 1, dimension = w * k;
+    w = mode == 0 ? d : d + 1, waiting = method < 4 ? 0 : start, dimension = w * k;
     const size_t stop = start + below(20);
     float *weights = lend(READING, 4, d);
     for (size_t i = 0; i < d; i++)
@@ -425,7 +437,7 @@ static void measure_text(void) {
         else if (text_kept[i] >= '0' && text_kept[i] <= '9')
             value[field] = value[field] * 10 + (uint64_t)(text_kept[i] - '0');
     d = most(value[3], 17), k = most(value[4], 65), start = most(value[5], 2001);
-    w = mode == 'S' ? d : d + 1, dimension = w * k;
+    w = mode == 'S' ? d : d + 1, waiting = value[2] < 4 ? 0 : start, dimension = w * k;
 }
 
 static void take_up(void) {

@@ -79,6 +79,25 @@ fn weighted() {
     assert_eq!(p.shingled_point(&[f32::INFINITY], 5), Err(Refusal(11)));
 }
 
+/// "A gap of 30 is 60 with weight_time 2", counted from the newest reading, also one that waits; 0 while nothing was seen; row 28 below the newest.
+#[test]
+fn gaps() {
+    let s = Settings { forest_mode: ForestMode::GapAugmented, stop_normalization: 9, transform_decay: 0.0, weight_time: 2.0, ..settings(TransformMethod::Normalize, 1, 2, 2) };
+    let mut p = Preprocessor::build(&s).unwrap();
+    let gap = |p: &Preprocessor, t: u64| {
+        let mut output = [7.0; 2];
+        p.transform(&[1.0], t, &mut output).map(|()| output[1])
+    };
+    assert_eq!((p.forest_mode(), gap(&p, 5)), (Ok(3), Ok(0.0)));
+    learn(&mut p, 4.0, 100);
+    assert_eq!((gap(&p, 99), gap(&p, 100), gap(&p, 130)), (Err(Refusal(28)), Ok(0.0), Ok(60.0)));
+    assert_eq!((p.shingled_point(&[1.0], 99), p.shingled_point(&[f32::NAN], 99)), (Err(Refusal(28)), Err(Refusal(11))));
+    let text = p.save().unwrap();
+    assert!(text.starts_with(b"set\tG\t4\t1\t2\t2\t9\t"));
+    let q = Preprocessor::restore(&text, &s.codes).unwrap();
+    assert_eq!((gap(&q, 99), gap(&q, 130), q.save()), (Err(Refusal(28)), Ok(60.0), Ok(text)));
+}
+
 /// A text taken up with this count, and what one learn more gives: the row, and the count that is put away.
 fn fed_at(count: &str) -> Result<(u64, String), (Refusal, u64)> {
     let p = Preprocessor::build(&settings(TransformMethod::None, 1, 1, 0)).unwrap();
@@ -125,7 +144,7 @@ fn every_row_of_build() {
     }
     assert!(Preprocessor::build(&good).is_ok());
     let memory = || Memory::sized(2, 3, 4);
-    assert_eq!(Preprocessor::build_by_numbers(3, 0, &good, memory()).unwrap_err().0, Refusal(19));
+    assert_eq!(Preprocessor::build_by_numbers(4, 0, &good, memory()).unwrap_err().0, Refusal(19));
     assert_eq!(Preprocessor::build_by_numbers(0, 6, &good, memory()).unwrap_err().0, Refusal(19));
     let mut short = memory();
     short.head.pop();
@@ -151,7 +170,7 @@ fn the_words_of_a_head() {
 #[test]
 fn damaged_heads() {
     let p = Preprocessor::build(&settings(TransformMethod::Normalize, 2, 4, 10)).unwrap();
-    for (at, word, row) in [(0, 2, 1), (0, 3, 19), (1, 6, 19), (2, 0, 2), (3, 0, 3), (2, 17, 4), (3, 65, 4), (6, 0x7ff8_0000_0000_0000, 6), (4, 200, 7), (28, 65536, 19), (43, u64::MAX, 19)] {
+    for (at, word, row) in [(0, 2, 1), (0, 4, 19), (0, 1 << 32, 19), (1, 6, 19), (2, 0, 2), (3, 0, 3), (2, 17, 4), (3, 65, 4), (6, 0x7ff8_0000_0000_0000, 6), (4, 200, 7), (28, 65536, 19), (43, u64::MAX, 19)] {
         let mut memory = p.clone().into_memory();
         memory.head[at] = word;
         let mut other = Preprocessor::from_memory(memory);
