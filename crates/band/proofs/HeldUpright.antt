@@ -9,7 +9,7 @@ use lib.Ieee.{Float}
 use Rattle.trcf.specs.Calls.{Forecast, invertExtrapolation, rows}
 use Rattle.trcf.specs.Preprocessor.{turned, refused, accepted, facts, turnedBack, refusal, reply, answer}
 use Rattle.trcf.specs.View.{view, settingsOf, headRow, orElse}
-use Rattle.trcf.specs.Extrapolation.{viewed, unread, extrapolationRow, extrapolationOf, Sizes, sizes, rowAt}
+use Rattle.trcf.specs.Extrapolation.{viewed, unreadRow, extrapolationRow, extrapolationOf, Sizes, sizes, rowAt}
 use Rattle.trcf.proofs.ExtrapolationLaws.{row-is}
 use Rattle.trcf.specs.declared.head.Preprocessor.{Preprocessor}
 use Rattle.band.specs.Band.{AllAsLong, Turns, Leaves, HeldBand}
@@ -21,7 +21,7 @@ module _ (h : Preprocessor) (st x : List Float) (ts : List ℕ) (c r : Forecast)
   turns l =
       let z : rows (settingsOf h) (facts (viewed h st x ts)) (invertExtrapolation c) ≡ 0 =
       middle (headRow (settingsOf h)) (rows (settingsOf h) (facts (viewed h st x ts)) (invertExtrapolation c))
-      (firstOf ((unread (settingsOf h) (length st) (length x) (length ts), 20) ∷ [])) (l .0) in
+      (unreadRow h (length st) (length x) (length ts)) (l .0) in
       rw z (ap turned (left (extrapolationRow h st x ts c) (l .0) (l .1)))
     where
       middle : (a b c : ℕ) → orElse a (orElse b c) ≡ 0 → b ≡ 0
@@ -47,7 +47,7 @@ held-band =
       upright = λ h st x ts c r l whole. band .upright (viewed h st x ts) c r (turns h st x ts c r l) whole;
       values = λ h st x ts c e r q l m p. band .values (viewed h st x ts) c e r q (turns h st x ts c r l) (turns h st x ts e q m) p;
       uppers = λ h st x ts c e r q l m p g. band .uppers (viewed h st x ts) c e r q (turns h st x ts c r l) (turns h st x ts e q m) p g;
-      refused = λ h st x ts c e l. sym (row-is h st x ts c) ∙ ap (rowAt (settingsOf h)) (same-sizes (length st) (length x) (length ts) c e l) ∙ row-is h st x ts e;
+      refused = λ h st x ts c e l. sym (row-is h st x ts c) ∙ ap (rowAt h) (same-sizes (length st) (length x) (length ts) c e l) ∙ row-is h st x ts e;
     }
   where
     same-sizes : (a b d : ℕ) (c e : Forecast) → AllAsLong c e → sizesIn a b d c ≡ sizesIn a b d e

@@ -92,13 +92,6 @@ module _ (h : Preprocessor) (l : Lent) where
       let f = fits (o .long) in
       record { roomy = roomy-of (f .1); few = misfit-few h (f .0); in-room = misfit-room h (f .0); counted = misfit-counted h (f .0) }
 
-  unread-not : Sound h l → unread (settingsOf h) (length (l .statistics)) (length (l .lastShingledInput)) (length (l .previousTimestamps)) ≡ false
-  unfolding unread
-  unread-not o =
-      let r = fitted-of o .roomy in
-      rw (le-ltb (length (l .statistics)) (statisticsLength (settingsOf h)) (r .in-statistics), le-ltb (length (l .lastShingledInput)) (h .transformer .«input_length» * h .«shingle_size») (r .in-input))
-      (le-ltb (length (l .previousTimestamps)) (h .«shingle_size») (r .in-times))
-
 -- ---- what the next call is given
 
 module _ (m : Held) where
@@ -211,8 +204,7 @@ return-is m o (postProcess q) = learn-free _ (m .head) _ (m .lent) q (answerOf (
 return-is m o drain = ap drains (drain-is (m .head) (m .lent))
 return-is m o (transform x t out) = refl
 return-is m o (invertExtrapolation c) =
-    ap turns (sym (ap (extrapolationRead c) (answer-is (m .head) (m .lent) (invertExtrapolation c) (o .head) (o .long))
-    ∙ extrapolation-answers (m .head) (m .lent) c (o .head) (unread-not (m .head) (m .lent) o)))
+    ap turns (sym (extrapolation-answers (m .head) (m .lent) c (fits (m .head) (m .lent) (o .long) .1)))
 return-is m o (scale out) = refl
 return-is m o (shift out) = refl
 return-is m o (status out) = refl

@@ -11,11 +11,12 @@ use Rattle.common.specs.Deviation.{zero64, isEmpty, meanOf}
 use Rattle.common.specs.RangeVector.{ranges, unequal, unblocked, shorter, rangeAt, putAt, shifted, scaled, settled, cascadeTo}
 use Rattle.trcf.specs.Lists.{lastN}
 use Rattle.trcf.specs.Transformer.{one32, statisticAt, normalizedScale, basicShift, basicDrift, weightAt, reciprocal, forecastAt, forecastTo, invertedForecast}
-use Rattle.trcf.specs.Settings.{block, dimension}
+use Rattle.trcf.specs.Settings.{block, dimension, waiting}
 use Rattle.trcf.specs.Calls.{Forecast, lookahead, unturnable, turnShort, table, rows}
 use Rattle.trcf.specs.Preprocessor.{facts, timescale, timedrift, invertTime, previous, numbersOf, timesOf, turnedBack}
-use Rattle.trcf.specs.View.{headFrom, view, headRow}
-use Rattle.trcf.specs.Extrapolation.{Extrapolation, extrapolation, forecast, viewed, unread, extrapolationRow, extrapolationOf}
+use Rattle.trcf.specs.View.{counting, headFrom, view, misfit, headRow}
+use Rattle.trcf.specs.Extrapolation.{Extrapolation, extrapolation, forecast, viewed, unread, unreadRow, extrapolationRow, extrapolationOf}
+use Rattle.trcf.specs.declared.head.Preprocessor.{Preprocessor}
 use Rattle.trcf.specs.declared.types.TransformMethod.{TransformMethod}
 use Rattle.trcf.specs.declared.types.TransformMethod.the-variants.{NONE, DIFFERENCE}
 use Rattle.trcf.specs.declared.types.ForestMode.{ForestMode}
@@ -23,18 +24,23 @@ use Rattle.trcf.specs.declared.types.ForestMode.the-variants.{STANDARD, 
 
 -- the definitions, opened
 all : Unit {0}
-unfolding extrapolationOf extrapolationRow viewed view unread headRow facts rows table unturnable turnShort lookahead dimension block unequal unblocked shorter over
+unfolding extrapolationOf extrapolationRow viewed view unread unreadRow misfit waiting headRow facts rows table unturnable turnShort lookahead dimension block unequal unblocked shorter over
     turnedBack numbersOf timesOf previous lastN timescale timedrift invertTime statisticAt meanOf isEmpty narrowed normalizedScale basicShift basicDrift weightAt reciprocal
     forecastAt forecastTo invertedForecast rangeAt putAt shifted scaled settled cascadeTo add sub mul div lt le eq ofInt ofBits
 all = tt
 
--- one channel, nothing learned but the last input 10 and the last time 10
+-- one channel
+abbrev head : ForestMode → TransformMethod → Preprocessor
+head mode method =
+    headFrom
+    (record { mode = mode; method = method; d = 1; k = 1; start = 0; stop = 0; decay = zero64; weightTime = one32; weights = one32 ∷ []; codes = 0 ∷ [] })
+
+-- nothing learned but the last input 10 and the last time 10
+abbrev turnedBy : Preprocessor → Forecast → Extrapolation
+turnedBy h = extrapolationOf h (replicate 30 zero64) (ofInt binary32 (pos 10) ∷ []) (10 ∷ [])
+
 abbrev turnedOf : ForestMode → TransformMethod → Forecast → Extrapolation
-turnedOf mode method =
-    extrapolationOf
-    (headFrom
-    (record { mode = mode; method = method; d = 1; k = 1; start = 0; stop = 0; decay = zero64; weightTime = one32; weights = one32 ∷ []; codes = 0 ∷ [] }))
-    (replicate 30 zero64) (ofInt binary32 (pos 10) ∷ []) (10 ∷ [])
+turnedOf mode method = turnedBy (head mode method)
 
 abbrev single : ℕ → Float
 single n = ofInt binary32 (pos n)
@@ -79,3 +85,19 @@ no-room : turnedOf «TIME_AUGMENTED» NONE (forecast (ranges (single 7 ∷ singl
     ≡ extrapolation 20 (forecast (ranges (single 7 ∷ single 1 ∷ []) (single 7 ∷ single 1 ∷ []) (single 7 ∷ single 1 ∷ [])) (ranges [] [] []) (ranges [] [] []))
 unfolding all
 no-room = refl
+
+-- a reading that waits under a method that never waits
+abbrev misfitted : Forecast → Extrapolation
+misfitted = turnedBy (counting (head STANDARD DIFFERENCE) 0 0 0 1)
+
+abbrev one-value : Forecast
+one-value = forecast (ranges (single 1 ∷ []) (single 1 ∷ []) (single 1 ∷ [])) (ranges [] [] []) (ranges [] [] [])
+
+counters-refused : misfitted one-value ≡ extrapolation 20 one-value
+unfolding all
+counters-refused = refl
+
+-- as in every call, its own rows come first
+row-16-first : misfitted none ≡ extrapolation 16 none
+unfolding all
+row-16-first = refl

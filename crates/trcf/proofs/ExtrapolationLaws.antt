@@ -2,7 +2,7 @@
 -- and that the call's promise is the preprocessor's answer. Assumes nothing.
 use Prim.Native.Nat.{ℕ, zero, suc, _+_, _-_, _*_, _/_, _%_, _≤_, _<_}
 use mathlib.Core.Path.{_≡_, refl, sym, ap, _∙_}
-use mathlib.Core.Bool.{Bool, true, false, cond, _&&_}
+use mathlib.Core.Bool.{Bool, true, false, cond, _&&_, _||_}
 use mathlib.Core.List.{List, [], _∷_, _++_, append-assoc}
 use native.Mathlib.Omega.{arith}
 use native.Mathlib.Nat.{zero-mul, suc-mul, add-mul, mul-assoc, mul-comm, mul-pos, mul-mod-left, mod-one, div-mul-le-self, le-div-iff-mul-le, mul-le-mul-left, mul-le-mul-right}
@@ -22,9 +22,9 @@ use Rattle.trcf.specs.Transformer.{zero32, forecastTo, forecastAt, inver
 use Rattle.trcf.specs.TransformerCalls.{view as viewTransformer}
 use Rattle.trcf.specs.Settings.{Settings, transformer, block, dimension}
 use Rattle.trcf.specs.Calls.{Forecast, invertExtrapolation, rows, table, unturnable, turnShort, lookahead}
-use Rattle.trcf.specs.Preprocessor.{refused, turned, fronts, backs, invertTime, invertTimes, timescale, timedrift, previous, numbersOf, timesOf, turnedBack, answer, refusal, reply, accepted}
-use Rattle.trcf.specs.View.{Lent, view, holding, settingsOf, headRow, orElse}
-use Rattle.trcf.specs.Extrapolation.{Extrapolation, extrapolation, forecast, viewed, unread, extrapolationRow, extrapolationOf, extrapolationRead, Sizes, sizesOf, brokenAt, shortAt, rowAt, Longer, timeFactor, timeBy, timesBy}
+use Rattle.trcf.specs.Preprocessor.{refused, turned, fronts, backs, invertTime, invertTimes, timescale, timedrift, previous, numbersOf, timesOf, turnedBack, reply, accepted}
+use Rattle.trcf.specs.View.{Lent, view, holding, settingsOf, headRow, misfit, lentShort, shortRow, lentRow, rowOf, answerOf, orElse}
+use Rattle.trcf.specs.Extrapolation.{Extrapolation, extrapolation, forecast, viewed, unread, unreadRow, extrapolationRow, extrapolationOf, extrapolationRead, Sizes, sizesOf, brokenAt, shortAt, rowAt, Longer, timeFactor, timeBy, timesBy}
 use Rattle.trcf.specs.declared.head.Preprocessor.{Preprocessor}
 use Rattle.trcf.proofs.FitLaws.{tabulate-length}
 use Rattle.trcf.proofs.LentLaws.{over-more}
@@ -317,54 +317,57 @@ parts-over old new v u l n p q r e =
 -- ---- rows
 
 -- the first of three tests that refuses
-second-row : (a b c : Bool) (row : ℕ) → row ≡ cond a 16 0 → (row ≡ 0 → ⊥) → row ≡ orElse (cond a 16 (cond b 20 0)) (cond c 20 0)
-second-row true b c row e taken = e
-second-row false b c row e taken = absurd (taken e)
+second-row : (a b : Bool) (n row : ℕ) → row ≡ cond a 16 0 → (row ≡ 0 → ⊥) → row ≡ orElse (cond a 16 (cond b 20 0)) n
+second-row true b n row e taken = e
+second-row false b n row e taken = absurd (taken e)
 
-third-row : (a b c : Bool) (row : ℕ) → _≡_ {A = ℕ} (cond a 16 0) 0 → row ≡ cond b 20 0 → (row ≡ 0 → ⊥) → row ≡ orElse (cond a 16 (cond b 20 0)) (cond c 20 0)
-third-row true b c row p e taken = absurd (omega arith)
-third-row false true c row p e taken = e
-third-row false false c row p e taken = absurd (taken e)
+third-row : (a b : Bool) (n row : ℕ) → _≡_ {A = ℕ} (cond a 16 0) 0 → row ≡ cond b 20 0 → (row ≡ 0 → ⊥) → row ≡ orElse (cond a 16 (cond b 20 0)) n
+third-row true b n row p e taken = absurd (omega arith)
+third-row false true n row p e taken = e
+third-row false false n row p e taken = absurd (taken e)
 
-last-row : (a b c : Bool) (row : ℕ) → _≡_ {A = ℕ} (cond a 16 0) 0 → _≡_ {A = ℕ} (cond b 20 0) 0 → row ≡ cond c 20 0 → row ≡ orElse (cond a 16 (cond b 20 0)) (cond c 20 0)
-last-row true b c row p q e = absurd (omega arith)
-last-row false true c row p q e = absurd (omega arith)
-last-row false false c row p q e = e
+last-row : (a b : Bool) (n row : ℕ) → _≡_ {A = ℕ} (cond a 16 0) 0 → _≡_ {A = ℕ} (cond b 20 0) 0 → row ≡ n → row ≡ orElse (cond a 16 (cond b 20 0)) n
+last-row true b n row p q e = absurd (omega arith)
+last-row false true n row p q e = absurd (omega arith)
+last-row false false n row p q e = e
 
-module _ (s : Settings) (z : Sizes) (row : ℕ) where
+module _ (h : Preprocessor) (z : Sizes) (row : ℕ) where
+  abbrev s : Settings
+  s = settingsOf h
+
   abbrev broken : Bool
   broken = brokenAt s (z .values) (z .upper) (z .lower)
 
-  abbrev missing : Bool
-  missing = unread s (z .statistics) (z .inputs) (z .times)
+  abbrev missing : ℕ
+  missing = unreadRow h (z .statistics) (z .inputs) (z .times)
 
-  pub row-head : row ≡ headRow s → (row ≡ 0 → ⊥) → row ≡ rowAt s z
+  pub row-head : row ≡ headRow s → (row ≡ 0 → ⊥) → row ≡ rowAt h z
   unfolding rowAt
   row-head e taken = by (headRow s) e
     where
-      by : (n : ℕ) → row ≡ n → row ≡ orElse n (orElse (cond broken 16 (cond (shortAt s z) 20 0)) (cond missing 20 0))
+      by : (n : ℕ) → row ≡ n → row ≡ orElse n (orElse (cond broken 16 (cond (shortAt s z) 20 0)) missing)
       by zero e = absurd (taken e)
       by (suc n) e = e
 
-  pub row-broken : headRow s ≡ 0 → row ≡ cond broken 16 0 → (row ≡ 0 → ⊥) → row ≡ rowAt s z
+  pub row-broken : headRow s ≡ 0 → row ≡ cond broken 16 0 → (row ≡ 0 → ⊥) → row ≡ rowAt h z
   unfolding rowAt
-  row-broken h e taken = rw h (second-row broken (shortAt s z) missing row e taken)
+  row-broken n e taken = rw n (second-row broken (shortAt s z) missing row e taken)
 
-  pub row-short : headRow s ≡ 0 → _≡_ {A = ℕ} (cond broken 16 0) 0 → row ≡ cond (shortAt s z) 20 0 → (row ≡ 0 → ⊥) → row ≡ rowAt s z
+  pub row-short : headRow s ≡ 0 → _≡_ {A = ℕ} (cond broken 16 0) 0 → row ≡ cond (shortAt s z) 20 0 → (row ≡ 0 → ⊥) → row ≡ rowAt h z
   unfolding rowAt
-  row-short h p e taken = rw h (third-row broken (shortAt s z) missing row p e taken)
+  row-short n p e taken = rw n (third-row broken (shortAt s z) missing row p e taken)
 
-  pub row-unread : headRow s ≡ 0 → _≡_ {A = ℕ} (cond broken 16 0) 0 → _≡_ {A = ℕ} (cond (shortAt s z) 20 0) 0 → row ≡ cond missing 20 0 → row ≡ rowAt s z
+  pub row-unread : headRow s ≡ 0 → _≡_ {A = ℕ} (cond broken 16 0) 0 → _≡_ {A = ℕ} (cond (shortAt s z) 20 0) 0 → row ≡ missing → row ≡ rowAt h z
   unfolding rowAt
-  row-unread h p q e = rw h (last-row broken (shortAt s z) missing row p q e)
+  row-unread n p q e = rw n (last-row broken (shortAt s z) missing row p q e)
 
 module _ (h : Preprocessor) (st x : List Float) (ts : List ℕ) (c : Forecast) where
   -- the rows look at lengths alone
-  pub row-is : rowAt (settingsOf h) (sizesOf st x ts c) ≡ extrapolationRow h st x ts c
+  pub row-is : rowAt h (sizesOf st x ts c) ≡ extrapolationRow h st x ts c
   unfolding rowAt brokenAt shortAt extrapolationRow rows table unturnable turnShort unequal shorter
   row-is = refl
 
-  pub refused-is : (row : ℕ) → row ≡ rowAt (settingsOf h) (sizesOf st x ts c) → (row ≡ 0 → ⊥) → extrapolation row c ≡ extrapolationOf h st x ts c
+  pub refused-is : (row : ℕ) → row ≡ rowAt h (sizesOf st x ts c) → (row ≡ 0 → ⊥) → extrapolation row c ≡ extrapolationOf h st x ts c
   unfolding extrapolationOf
   refused-is row e taken =
       ap (extrapolation row) (refusing row taken)
@@ -374,7 +377,7 @@ module _ (h : Preprocessor) (st x : List Float) (ts : List ℕ) (c : Forecast) w
       refusing zero not-zero = absurd (not-zero refl)
       refusing (suc n) not-zero = refl
 
-  pub done-is : (row : ℕ) (left : Forecast) → row ≡ rowAt (settingsOf h) (sizesOf st x ts c) → row ≡ 0 → left ≡ turnedBack (viewed h st x ts) c
+  pub done-is : (row : ℕ) (left : Forecast) → row ≡ rowAt h (sizesOf st x ts c) → row ≡ 0 → left ≡ turnedBack (viewed h st x ts) c
       → extrapolation 0 left ≡ extrapolationOf h st x ts c
   unfolding extrapolationOf
   done-is row left e z by =
@@ -404,13 +407,30 @@ module _ (h : Preprocessor) (l : Lent) (c : Forecast) where
   turned-same = refl
 
   by-row : (r : ℕ) → extrapolationRead c (accepted r (turned (turnedBack (view h l) c)) (refused r))
-      ≡ extrapolation (orElse r 0) (accepted (orElse r 0) (turnedBack (viewed h (l .statistics) (l .lastShingledInput) (l .previousTimestamps)) c) c)
+      ≡ extrapolation r (accepted r (turnedBack (viewed h (l .statistics) (l .lastShingledInput) (l .previousTimestamps)) c) c)
   by-row zero = ap (extrapolation 0) turned-same
   by-row (suc r) = refl
 
-  -- a head that `build` made, over lists that are long enough
-  pub extrapolation-answers : headRow (settingsOf h) ≡ 0
-      → unread (settingsOf h) (length (l .statistics)) (length (l .lastShingledInput)) (length (l .previousTimestamps)) ≡ false
-      → extrapolationRead c (answer (view h l) (invertExtrapolation c)) ≡ sees
-  unfolding answer refusal reply view rows table extrapolationOf extrapolationRow
-  extrapolation-answers e f = rw (e, f) (by-row (firstOf ((unturnable (settingsOf h) (c .forecast), 16) ∷ (turnShort (settingsOf h) c, 20) ∷ [])))
+  -- of six tests that fail the three that the call makes
+  three : (a b p t n : Bool) → (a || (b || (p || (t || n)))) ≡ false → (a || (b || t)) ≡ false
+  three true b p t n e = e
+  three false true p t n e = e
+  three false false true t n e = cc
+  three false false false true n e = e
+  three false false false false n e = refl
+
+  unread-not : lentShort (settingsOf h) l ≡ false → unread (settingsOf h) (length (l .statistics)) (length (l .lastShingledInput)) (length (l .previousTimestamps)) ≡ false
+  unfolding lentShort unread
+  unread-not e = three _ _ _ _ _ e
+
+  same-row : lentShort (settingsOf h) l ≡ false
+      → rowOf h l (invertExtrapolation c) ≡ extrapolationRow h (l .statistics) (l .lastShingledInput) (l .previousTimestamps) c
+  unfolding rowOf lentRow shortRow rows table extrapolationRow unreadRow
+  same-row e = rw (e, unread-not e)
+
+  -- of every head, over lists that are long enough
+  pub extrapolation-answers : lentShort (settingsOf h) l ≡ false → extrapolationRead c (answerOf h l (invertExtrapolation c)) ≡ sees
+  unfolding answerOf reply extrapolationOf
+  extrapolation-answers e =
+      ap (λ (r : ℕ). extrapolationRead c (accepted r (turned (turnedBack (view h l) c)) (refused r))) (same-row e)
+      ∙ by-row (extrapolationRow h (l .statistics) (l .lastShingledInput) (l .previousTimestamps) c)

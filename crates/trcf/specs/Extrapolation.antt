@@ -15,7 +15,7 @@ use Rattle.trcf.specs.Transformer.{zero32}
 use Rattle.trcf.specs.Settings.{Settings, dimension}
 use Rattle.trcf.specs.Calls.{Forecast, invertExtrapolation, rows, lookahead}
 use Rattle.trcf.specs.Preprocessor.{State, Answer, refused, absent, done, wrote, learnt, turned, told, statisticsLength, facts, turnedBack, accepted}
-use Rattle.trcf.specs.View.{lent, view, settingsOf, headRow, orElse, Bounded}
+use Rattle.trcf.specs.View.{lent, view, settingsOf, misfit, headRow, orElse, Bounded}
 use Rattle.trcf.specs.declared.head.Preprocessor.{Preprocessor}
 
 -- ---- the call
@@ -39,12 +39,15 @@ viewed h st x ts = view h (lent st x [] ts [] [])
 unfoldable pub unread : Settings → ℕ → ℕ → ℕ → Bool
 unread s st x ts = ltb st (statisticsLength s) || (ltb x (s .d * s .k) || ltb ts (s .k))
 
--- the rows of a head that `build` never made, document 01's of the call, and 20 for what is lent
+-- 20 for the head's counters and for what is lent: `lentRow`, of the three lists
+unfoldable pub unreadRow : Preprocessor → ℕ → ℕ → ℕ → ℕ
+unreadRow h st x ts = cond (misfit h) 20 (firstOf ((unread (settingsOf h) st x ts, 20) ∷ []))
+
+-- as `rowOf`: the rows of a head that `build` never made, document 01's of the call, and 20 for counters and what is lent
 unfoldable pub extrapolationRow : Preprocessor → List Float → List Float → List ℕ → Forecast → ℕ
 extrapolationRow h st x ts c =
     orElse (headRow (settingsOf h))
-    (orElse (rows (settingsOf h) (facts (viewed h st x ts)) (invertExtrapolation c))
-    (firstOf ((unread (settingsOf h) (length st) (length x) (length ts), 20) ∷ [])))
+    (orElse (rows (settingsOf h) (facts (viewed h st x ts)) (invertExtrapolation c)) (unreadRow h (length st) (length x) (length ts)))
 
 -- a refusal leaves every list as it was
 unfoldable pub extrapolationOf : Preprocessor → List Float → List Float → List ℕ → Forecast → Extrapolation
@@ -117,11 +120,12 @@ shortAt s z =
     augments (s .mode)
     && (shorterAt (z .valuesOut) (z .upperOut) (z .lowerOut) (h * (s .d * s .k)) || shorterAt (z .timesOut) (z .timesUpperOut) (z .timesLowerOut) h)
 
-unfoldable pub rowAt : Settings → Sizes → ℕ
-rowAt s z =
+unfoldable pub rowAt : Preprocessor → Sizes → ℕ
+rowAt h z =
+    let s = settingsOf h in
     orElse (headRow s)
     (orElse (firstOf ((brokenAt s (z .values) (z .upper) (z .lower), 16) ∷ (shortAt s z, 20) ∷ []))
-    (firstOf ((unread s (z .statistics) (z .inputs) (z .times), 20) ∷ [])))
+    (unreadRow h (z .statistics) (z .inputs) (z .times)))
 
 -- what a row 0 says of each
 pub record Unbroken (s : Settings) (v u l : ℕ) : Type 0 where

@@ -13,6 +13,7 @@ use trcf::types::TransformMethod;
 use trcf::types::is_augmented;
 use trcf::types::is_differencing;
 use trcf::types::is_gap;
+use trcf_rows::rows::is_misfit;
 ghost use mathlib.Core.Path.{_≡_};
 ghost use mathlib.Core.Bool.{true, false, _&&_};
 ghost use mathlib.Core.List.{[], _∷_};
@@ -28,7 +29,7 @@ ghost use Rattle.trcf.specs.Transformer.{invertedForecast};
 ghost use Rattle.trcf.specs.Settings.{transformer, dimension};
 ghost use Rattle.trcf.specs.Preprocessor.{statisticsLength, fronts, backs, invertTimes, numbersOf, timesOf, turnedBack};
 ghost use Rattle.trcf.specs.View.{settingsOf, holding, Bounded};
-ghost use Rattle.trcf.specs.Extrapolation.{extrapolation, forecast, viewed, extrapolationOf, sizes, brokenAt, shorterAt, shortAt, unread, rowAt, Unbroken, Longer, Long, Readable, Invertible, timeFactor, stretched, timeBy, timesBy};
+ghost use Rattle.trcf.specs.Extrapolation.{extrapolation, forecast, viewed, extrapolationOf, sizes, brokenAt, shorterAt, shortAt, unreadRow, rowAt, Unbroken, Longer, Long, Readable, Invertible, timeFactor, stretched, timeBy, timesBy};
 
 // Whether the values make no blocks of d to cascade.
 fn is_unblocked(d: usize, n: usize) -> bool
@@ -131,15 +132,18 @@ fn output_row(
     0
 }
 
-// Row 20 of what the call reads of the preprocessor.
+// Row 20 of what the call reads of the preprocessor: its counters, then the lists.
 fn unread_row(head: Preprocessor, statistics: usize, inputs: usize, times: usize) -> u64
     requires { ⌜ Bounded (settingsOf head) ⌝ }
-    ensures { λ r. ⌜ r ≡ firstOf ((unread (settingsOf head) statistics inputs times, 20) ∷ []) ⌝ }
+    ensures { λ r. ⌜ r ≡ unreadRow head statistics inputs times ⌝ }
     ensures { λ r. ⌜ (r ≡ 0 → Readable (settingsOf head) statistics inputs times) ⌝ }
 {
     let t = head.transformer;
     let d = t.input_length;
     let k = head.shingle_size;
+    if is_misfit(head) {
+        return 20;
+    }
     if statistics < 3 * (5 * d + 5) {
         return 20;
     }
@@ -167,7 +171,7 @@ fn extrapolation_row(
     times_upper_out: usize,
     times_lower_out: usize,
 ) -> u64
-    ensures { λ r. ⌜ r ≡ rowAt (settingsOf head) (sizes statistics inputs times values upper lower «values_out» «upper_out» «lower_out» «times_out» «times_upper_out» «times_lower_out») ⌝ }
+    ensures { λ r. ⌜ r ≡ rowAt head (sizes statistics inputs times values upper lower «values_out» «upper_out» «lower_out» «times_out» «times_upper_out» «times_lower_out») ⌝ }
     ensures { λ r. ⌜ (r ≡ 0 → Invertible (settingsOf head) (sizes statistics inputs times values upper lower «values_out» «upper_out» «lower_out» «times_out» «times_upper_out» «times_lower_out»)) ⌝ }
 {
     let row = head_row(head);
