@@ -1,11 +1,10 @@
 -- Row 26 on both sides of each border, answers, and the theorems at 3, 5, −7 with the 5 put right, by computation. Assumes nothing.
 use mathlib.Core.Path.{_≡_, refl}
-use mathlib.Core.Bool.{not}
 use mathlib.Core.List.{List, [], _∷_, _++_, map}
-use Prim.Native.Nat.{ℕ, _+_, _≤_, _<_}
+use Prim.Native.Nat.{ℕ}
 use lib.Dec.{T, lit≤}
 use lib.IntN.{ℤ, pos, negsuc}
-use lib.Ieee.{Float, binary64, below, round, add, sub, mul, div, lt, le, eq, ofInt, ofBits, toBits}
+use lib.Ieee.{Float, binary64, round, add, sub, mul, div, lt, le, eq, ofInt, ofBits, toBits}
 use Rattle.common.specs.declared.deviation.Deviation.{Deviation}
 use Rattle.common.specs.declared.deviation.DeviationResult.{DeviationResult}
 use Rattle.common.specs.declared.deviation.DeviationResult.the-variants.{Ok, Err}

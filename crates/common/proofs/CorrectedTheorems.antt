@@ -2,7 +2,7 @@
 use mathlib.Core.Path.{_≡_, refl, sym, ap, _∙_, subst}
 use mathlib.Core.Bool.{Bool, true, false}
 use mathlib.Core.List.{List, [], _∷_, _++_}
-use Prim.Native.Nat.{ℕ, zero, _+_, _*_, _^_, _≤_}
+use Prim.Native.Nat.{ℕ, _+_, _*_, _^_, _≤_}
 use native.Mathlib.Omega.{arith}
 use borrow.Author.Tests.{le-ltb, ltb-false, eq-eqb}
 use lib.Dec.{T, lit≤}
@@ -14,7 +14,7 @@ use lib.Ieee.Bits.{is-true}
 use lib.Ieee.Order.{le-of-values}
 use Rattle.common.specs.declared.deviation.Deviation.{Deviation}
 use Rattle.common.specs.declared.deviation.DeviationResult.the-variants.{Ok}
-use Rattle.common.specs.Deviation.{countLimit, zero64, statistic, emptyWith, stepOf, meanOf}
+use Rattle.common.specs.Deviation.{countLimit, zero64, emptyWith, stepOf, meanOf}
 use Rattle.common.specs.WholeScores.{wholeFloat, fed}
 use Rattle.common.specs.Corrected.{readingLimit, lengthLimit, wholeWithin, integerOf, correctedStatistic, correctedOf, AllWhole, updates, CorrectedIsTheLists}
 use Rattle.common.specs.Corrected.{Moved, CorrectedMoves, RaisedNeverLowersTheMean}

@@ -1,23 +1,21 @@
--- Laws of the running statistic for the crates above: what an update does to discount and count and when it is refused, the empty statistic,
--- that every number fits binary64, and `exact-sums`: with discount 0, whole-number scores are summed exactly. Assumes nothing.
+-- Laws of the running statistic for the crates above: what an update does to discount and count and when it is refused, that every number of a step
+-- fits binary64, and `exact-sums`: with discount 0, whole-number scores are summed exactly. Assumes nothing.
 use mathlib.Core.Path.{_≡_, refl, sym, ap, _∙_, subst}
-use mathlib.Core.Bool.{Bool, true, false, cond}
+use mathlib.Core.Bool.{true}
 use mathlib.Core.List.{List, [], _∷_, map}
-use Prim.Native.Nat.{ℕ, zero, suc, _+_, _*_, _^_, _≤_, _<_}
+use Prim.Native.Nat.{ℕ, suc, _+_, _*_, _^_, _≤_, _<_}
 use native.Mathlib.Nat.{add-zero, zero-add, le-trans, mul-le-mul}
 use native.Mathlib.Decide.{decLt}
 use native.Mathlib.Omega.{arith}
 use borrow.Author.Tests.{le-leb, lt-leb, lt-ltb}
 use lib.Dec.{T, lit≤}
 use lib.ListN.{length}
-use lib.IntN.{ℤ, pos, negsuc, natAbs, _+ℤ_, _*ℤ_, +ℤ-assoc, +ℤ-idr, +ℤ-idl}
-use lib.Ieee.{Float, nan, inf, fin, binary64, add, sub, mul, div, lt, le, eq, ofInt, ofBits, round, fits}
-use lib.Ieee.Fits.{add-fits, sub-fits, div-fits, cond-fits, round-fits, nan-fits, inf-fits}
-use lib.Ieee.Bits.{ofBits-fits}
-use Rattle.numeric.specs.Root.{rootOf, rooted}
+use lib.IntN.{ℤ, pos, natAbs, _+ℤ_, _*ℤ_, +ℤ-assoc, +ℤ-idr, +ℤ-idl}
+use lib.Ieee.{Float, binary64, add, mul, eq, ofInt, ofBits, round, fits}
+use lib.Ieee.Fits.{add-fits}
 use Rattle.common.specs.declared.deviation.Deviation.{Deviation}
 use Rattle.common.specs.declared.deviation.DeviationResult.the-variants.{Ok, Err}
-use Rattle.common.specs.Deviation.{zero64, one64, countLimit, statistic, emptyWith, factorOf, nextFactor, stepBy, updateBy, stepOf, updateOf, isEmpty, meanOf, rootAbove, deviationOf}
+use Rattle.common.specs.Deviation.{zero64, one64, countLimit, statistic, emptyWith, factorOf, nextFactor, stepBy, updateBy, stepOf, updateOf}
 use Rattle.common.specs.WholeScores.{wholeFloat, fed, total, totalOfSquares, AllWithin}
 use Rattle.common.proofs.WholeFloats.{add-whole, mul-whole-one, square-whole, size-sum, size-square}
 
@@ -76,20 +74,6 @@ unfolding fed
 fed-count s [] = sym (add-zero (s .count))
 fed-count s (x ∷ xs) = omega (arith, fed-count (stepOf s x) xs, step-count s x)
 
--- ---- the empty statistic
-
-pub empty-is-empty : (d : Float) → isEmpty (emptyWith d) ≡ true
-unfolding isEmpty le ofBits
-empty-is-empty d = refl
-
-pub mean-empty : (d : Float) → meanOf (emptyWith d) ≡ zero64
-unfolding meanOf
-mean-empty d = rw (empty-is-empty d)
-
-pub deviation-empty : (d : Float) → deviationOf (emptyWith d) ≡ zero64
-unfolding deviationOf
-deviation-empty d = rw (empty-is-empty d)
-
 -- ---- every number is an f64
 
 pub record Fits (s : Deviation) : Type 0 where
@@ -97,39 +81,9 @@ pub record Fits (s : Deviation) : Type 0 where
   pub sum : T (fits binary64 (s .sum))
   pub squares : T (fits binary64 (s .«sum_squared»))
 
-zero-fits : T (fits binary64 zero64)
-zero-fits = ofBits-fits binary64 0
-
-pub empty-fits : (d : Float) → Fits (emptyWith d)
-empty-fits d = record { weight = zero-fits; sum = zero-fits; squares = zero-fits }
-
 pub step-fits : (s : Deviation) (x : Float) → Fits (stepOf s x)
 unfolding stepOf
 step-fits s x = record { weight = add-fits binary64 _ _; sum = add-fits binary64 _ _; squares = add-fits binary64 _ _ }
-
-pub mean-fits : (s : Deviation) → T (fits binary64 (meanOf s))
-unfolding meanOf
-mean-fits s = cond-fits binary64 (isEmpty s) _ _ zero-fits (div-fits binary64 (s .sum) (s .weight))
-
-pub root-fits : (x : Float) → T (fits binary64 x) → T (fits binary64 (rootOf x))
-unfolding rootOf rooted
-root-fits nan h = nan-fits binary64
-root-fits (inf s) h = cond-fits binary64 s nan (inf false) (nan-fits binary64) (inf-fits binary64 false)
-root-fits (fin s zero e) h = h
-root-fits (fin true (suc m) e) h = nan-fits binary64
-root-fits (fin false (suc m) e) h = round-fits binary64 false _ _
-
-above-fits : (v : Float) → T (fits binary64 v) → T (fits binary64 (rootAbove v))
-unfolding rootAbove
-above-fits v h = cond-fits binary64 (lt zero64 v) (rootOf v) zero64 (root-fits v h) zero-fits
-
-pub deviation-fits : (s : Deviation) → T (fits binary64 (deviationOf s))
-unfolding deviationOf
-deviation-fits s =
-    let m = div binary64 (s .sum) (s .weight) in
-    let q = div binary64 (s .«sum_squared») (s .weight) in
-    let v = sub binary64 q (mul binary64 m m) in
-    cond-fits binary64 (isEmpty s) zero64 (rootAbove v) zero-fits (above-fits v (sub-fits binary64 q (mul binary64 m m)))
 
 -- ---- exact sums: discount 0 (either zero), scores of size at most 65,536, at most 2 ^ 20 of them
 

@@ -4,7 +4,7 @@ use mathlib.Core.Bool.{false}
 use Prim.Native.Nat.{ℕ, _+_, _≤_}
 use native.Mathlib.Omega.{arith}
 use lib.IntN.{pos}
-use lib.Ieee.{Float, binary64, round, div, ofInt, ofBits}
+use lib.Ieee.{binary64, round, div, ofInt, ofBits}
 use lib.Ieee.Exact.{HasValue}
 use Rattle.common.specs.Deviation.{one64, countLimit, factorOf}
 use Rattle.common.specs.FactorRule.{CountIsExact, writtenFactor, FactorIsWritten}

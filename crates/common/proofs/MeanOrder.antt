@@ -1,6 +1,6 @@
 -- A mean is one rounding of the sum over the count, and rounding keeps order: so a raised reading never lowers the mean. Assumes nothing.
 use mathlib.Core.Path.{_≡_, refl, sym, ap, _∙_, subst}
-use mathlib.Core.Bool.{Bool, true, false, cond, not, _&&_, _||_, true≢false}
+use mathlib.Core.Bool.{Bool, true, false, cond, _&&_, _||_, true≢false}
 use mathlib.Core.Logic.{inl, inr}
 use Prim.Native.Nat.{ℕ, zero, suc, _+_, _-_, _*_, _^_, _≤_, _<_}
 use native.Mathlib.Nat.{le-of-lt, le-of-eq, mul-assoc, mul-one, mul-pos, zero-mul, le-of-mul-le-mul-right, mul-right-comm, eq-of-mul-eq-mul-right}

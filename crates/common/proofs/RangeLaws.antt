@@ -1,4 +1,4 @@
--- Laws of the range for callers, over the width: which bound follows which, what depends on what, lengths, and the format.
+-- Laws of the range for callers, over the width: which bound follows which, what depends on what, and lengths.
 -- Assumes nothing.
 use Prim.Native.Nat.{ℕ, zero, suc, _+_, _*_, _≤_, _<_}
 use mathlib.Core.Path.{_≡_, refl, sym, ap, _∙_, subst}
@@ -7,11 +7,10 @@ use mathlib.Core.Bool.{Bool, true, false, cond}
 use mathlib.Core.List.{List, [], _∷_, _++_}
 use native.Mathlib.Omega.{arith}
 use borrow.Author.Tests.{le-ltb, eqb-true, eqb-false}
-use lib.Dec.{T, eqb}
+use lib.Dec.{eqb}
 use lib.ListN.{length, getD, set, length-set}
 use lib.Seq.{getD-set-same, getD-set-other}
-use lib.Ieee.{Float, nan, inf, fin, Format, add, mul, lt, fits, up, down}
-use lib.Ieee.Fits.{add-fits, mul-fits, cond-fits}
+use lib.Ieee.{Float, nan, inf, fin, Format, add, mul, lt, up, down}
 use Rattle.common.specs.RangeVector.{Range, Ranges, range, rangeAt, putAt, settled, shifted, scaled, cascadeTo}
 
 -- ---- one index
@@ -42,36 +41,9 @@ settled-ordered v u l = record { upper-not-below = raised (lt u v) refl; lower-n
     lowered true e = lt-irreflexive v
     lowered false e = e
 
--- what is rounded fits
-pub record Fit (f : Format) (r : Range) : Type 0 where
-  pub value : T (fits f (r .value))
-  pub upper : T (fits f (r .upper))
-  pub lower : T (fits f (r .lower))
-
-pub settled-fits : (f : Format) (v u l : Float) → T (fits f v) → T (fits f u) → T (fits f l) → Fit f (settled v u l)
-unfolding settled
-settled-fits f v u l p q r =
-    record { value = p; upper = cond-fits f (lt u v) v u p q; lower = cond-fits f (lt v l) v l p r }
-
-pub shifted-fits : (f : Format) (r : Range) (x : Float) → Fit f (shifted f r x)
-unfolding shifted
-shifted-fits f r x =
-    settled-fits f (add f (r .value) x) (add f (r .upper) x) (add f (r .lower) x) (add-fits f (r .value) x)
-    (add-fits f (r .upper) x) (add-fits f (r .lower) x)
-
-pub scaled-fits : (f : Format) (r : Range) (x : Float) → Fit f (scaled f r x)
-unfolding scaled
-scaled-fits f r x =
-    settled-fits f (mul f (r .value) x) (mul f (r .upper) x) (mul f (r .lower) x) (mul-fits f (r .value) x)
-    (mul-fits f (r .upper) x) (mul-fits f (r .lower) x)
-
 pub shifted-ordered : (f : Format) (r : Range) (x : Float) → Ordered (shifted f r x)
 unfolding shifted
 shifted-ordered f r x = settled-ordered (add f (r .value) x) (add f (r .upper) x) (add f (r .lower) x)
-
-pub scaled-ordered : (f : Format) (r : Range) (x : Float) → Ordered (scaled f r x)
-unfolding scaled
-scaled-ordered f r x = settled-ordered (mul f (r .value) x) (mul f (r .upper) x) (mul f (r .lower) x)
 
 -- the value depends on the value alone
 pub shifted-value : (f : Format) (r s : Range) (x : Float) → r .value ≡ s .value → shifted f r x .value ≡ shifted f s x .value
@@ -129,27 +101,12 @@ lt-put (x ∷ l) [] i a b h = lt-nan (getD (set (x ∷ l) i a) i nan)
 lt-put (x ∷ l) (y ∷ m) zero a b h = h
 lt-put (x ∷ l) (y ∷ m) (suc i) a b h = lt-put l m i a b h
 
-fits-put : (f : Format) (l : List Float) (i : ℕ) (a : Float) → T (fits f a) → T (fits f (getD (set l i a) i nan))
-unfolding fits
-fits-put f [] i a h = tt
-fits-put f (x ∷ l) zero a h = h
-fits-put f (x ∷ l) (suc i) a h = fits-put f l i a h
-
 pub putAt-ordered : (v : Ranges) (i : ℕ) (r : Range) → Ordered r → Ordered (rangeAt (putAt v i r) i)
 unfolding putAt rangeAt
 putAt-ordered v i r o =
     record {
       upper-not-below = lt-put (v .upper) (v .values) i (r .upper) (r .value) (o .upper-not-below);
       lower-not-above = lt-put (v .values) (v .lower) i (r .value) (r .lower) (o .lower-not-above);
-    }
-
-pub putAt-fits : (f : Format) (v : Ranges) (i : ℕ) (r : Range) → Fit f r → Fit f (rangeAt (putAt v i r) i)
-unfolding putAt rangeAt
-putAt-fits f v i r p =
-    record {
-      value = fits-put f (v .values) i (r .value) (p .value);
-      upper = fits-put f (v .upper) i (r .upper) (p .upper);
-      lower = fits-put f (v .lower) i (r .lower) (p .lower);
     }
 
 -- ---- the cascade
@@ -218,10 +175,6 @@ module _ (f : Format) (base : List Float) (P : Range → Type 0)
 pub cascadeTo-ordered : (f : Format) (base : List Float) (n : ℕ) (v : Ranges) (i : ℕ) → i < n
     → Ordered (rangeAt (cascadeTo f base n v) i)
 cascadeTo-ordered f base = cascadeTo-made f base Ordered (λ w i r x. putAt-ordered w i (shifted f r x) (shifted-ordered f r x))
-
-pub cascadeTo-fits : (f : Format) (base : List Float) (n : ℕ) (v : Ranges) (i : ℕ) → i < n
-    → Fit f (rangeAt (cascadeTo f base n v) i)
-cascadeTo-fits f base = cascadeTo-made f base (Fit f) (λ w i r x. putAt-fits f w i (shifted f r x) (shifted-fits f r x))
 
 -- ---- the cascade, said of what it leaves: "each later block by the finished values before it"
 

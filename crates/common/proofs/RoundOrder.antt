@@ -1,14 +1,14 @@
 -- `round` keeps the order of whole numbers of either sign over one divisor: the larger one's quotient rounds to a value that is no smaller.
 -- The library has it for fractions that are not negative (`round-mono`); a negative value is the negation of a positive one. Over the format. Assumes nothing.
-use mathlib.Core.Path.{_≡_, refl, sym, ap, _∙_, subst}
-use mathlib.Core.Bool.{Bool, true, false, not, cond, Bool·beq, _&&_, _||_}
+use mathlib.Core.Path.{_≡_, refl, sym, _∙_, subst}
+use mathlib.Core.Bool.{Bool, true, false, not, cond, Bool·beq, _||_}
 use mathlib.Core.Logic.{_⊎_, inl, inr}
 use Prim.Native.Nat.{ℕ, zero, suc, _+_, _-_, _*_, _/_, _%_, _^_, _≤_, _<_, compare}
-use native.Mathlib.Nat.{add-comm, zero-mul, mul-one, mul-comm, mul-assoc, mul-right-comm, mul-left-comm, mul-pos, mul-le-mul-right, zero-lt-suc}
+use native.Mathlib.Nat.{add-comm, zero-mul, mul-one, mul-comm, mul-assoc, mul-left-comm, mul-pos, mul-le-mul-right}
 use native.Mathlib.Decide.{decLt}
 use native.Mathlib.Omega.{arith}
 use borrow.Author.Tests.{lt-ltb, le-ltb}
-use lib.Dec.{T, ltb, leb, eqb, eqb→eq, eqb·suc-zero, lt→ltb}
+use lib.Dec.{T, ltb, eqb, eqb→eq, eqb·suc-zero, lt→ltb}
 use lib.IntN.{ℤ, pos, negsuc, natAbs, subℕ, _+ℤ_}
 use lib.Ieee.{Float, nan, inf, fin, Format, prec, emax, low, up, down, unlike, nearest, size, round, units, odd, neg, below, level, le, div}
 use lib.Ieee.Fits.{down-pos, and-l}

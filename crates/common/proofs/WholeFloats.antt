@@ -1,15 +1,15 @@
 -- Whole numbers as floats, over the format: sums are those of the integers, and so are the squares and the product by one. A sum or a product of two floats
 -- that have whole values is one rounding of the whole number; that the values are whole is `round-whole` of the library. Assumes nothing.
-use mathlib.Core.Path.{_≡_, refl, sym, ap, _∙_, subst}
-use mathlib.Core.Bool.{Bool, true, false, cond, Bool·beq, _&&_}
-use Prim.Native.Nat.{ℕ, zero, suc, _+_, _-_, _*_, _^_, _≤_, _<_}
+use mathlib.Core.Path.{_≡_, refl, sym, ap, _∙_}
+use mathlib.Core.Bool.{Bool, true, false, _&&_}
+use Prim.Native.Nat.{ℕ, suc, _+_, _-_, _*_, _^_, _≤_, _<_}
 use native.Mathlib.Nat.{mul-one, mul-comm, mul-assoc, mul-left-comm, mul-right-comm, mul-pos, add-mul, mul-sub, mul-lt-mul-of-pos-right, mul-le-mul-right, zero-lt-suc}
 use native.Mathlib.Decide.{decLt}
 use native.Mathlib.Omega.{arith}
 use borrow.Author.Tests.{lt-ltb, le-ltb}
 use lib.Dec.{ltb}
 use lib.IntN.{ℤ, pos, negsuc, natAbs, subℕ, _+ℤ_, _*ℤ_}
-use lib.Ieee.{Float, nan, inf, fin, Format, prec, up, down, unlike, round, sum, add, mul, ofInt}
+use lib.Ieee.{Float, fin, Format, prec, up, down, unlike, round, sum, add, mul, ofInt}
 use lib.Ieee.Fits.{down-pos}
 use lib.Ieee.Scale.{round-same}
 use lib.Ieee.Exact.{HasValue}

@@ -8,7 +8,7 @@ use native.Mathlib.Omega.{arith}
 use lib.Dec.{T, lit≤}
 use lib.ListN.{length}
 use lib.IntN.{ℤ, pos, negsuc, natAbs, negℤ, _+ℤ_, _-ℤ_, _*ℤ_, +ℤ-assoc, +ℤ-comm, +ℤ-idr, +ℤ-idl, +ℤ-invr}
-use lib.Ieee.{Float, binary64, up, add, mul, eq}
+use lib.Ieee.{Float, binary64, add, mul, eq}
 use Rattle.common.specs.declared.deviation.Deviation.{Deviation}
 use Rattle.common.specs.Deviation.{zero64, one64, statistic, emptyWith, factorOf, stepOf}
 use Rattle.common.specs.WholeScores.{wholeFloat, fed, total, totalOfSquares}

@@ -1,23 +1,20 @@
 -- The test for a whole number that the code makes, by way of the whole part of the size, is `wholeWithin`. Assumes nothing.
 use mathlib.Core.Path.{_≡_, refl, sym, ap, _∙_, subst}
-use mathlib.Core.Bool.{Bool, true, false, not, cond, _&&_, true≢false}
-use Prim.Native.Nat.{ℕ, zero, suc, _+_, _-_, _*_, _/_, _%_, _^_, _≤_, _<_, min, zero-le}
+use mathlib.Core.Bool.{Bool, true, false, _&&_, true≢false}
+use Prim.Native.Nat.{ℕ, zero, suc, _+_, _*_, _/_, _%_, _^_, _≤_, _<_, min, zero-le}
 use native.Mathlib.Nat.{mul-one, zero-mul, zero-div, zero-mod, add-zero, zero-lt-suc, mul-pos, mul-right-comm, div-add-mod', div-lt-iff-lt-mul}
 use native.Mathlib.Nat.{le-div-iff-mul-le, eq-of-mul-eq-mul-right}
-use native.Mathlib.Decide.{decLt, decLe, ℕ-discrete}
+use native.Mathlib.Decide.{decLt, ℕ-discrete}
 use native.Mathlib.Omega.{arith}
 use borrow.Author.Tests.{lt-ltb, le-ltb, le-leb, lt-leb, eq-eqb, ne-eqb}
-use lib.Dec.{T, lt→ltb, ltb, leb, eqb, lit≤, lit<, le→leb, leb→le}
-use lib.IntN.{ℤ, pos, negsuc, negℤ}
-use lib.Ieee.{Float, nan, inf, fin, binary64, prec, up, down, neg, lt, le, eq, round, ofInt, ofBits, toUnsigned, toSigned}
-use lib.Ieee.Fits.{up-pos, down-pos, and-l, and-r, and-i}
+use lib.Dec.{T, lt→ltb, ltb, leb, eqb}
+use lib.IntN.{ℤ, pos}
+use lib.Ieee.{Float, nan, inf, fin, binary64, up, down, neg, lt, eq, round, ofInt, ofBits, toUnsigned}
+use lib.Ieee.Fits.{up-pos, down-pos}
 use lib.Ieee.Exact.{HasValue}
-use Rattle.common.specs.Deviation.{zero64}
 use Rattle.common.specs.Corrected.{wholeWithin}
 use Rattle.common.specs.Steps.Whole.{sizeOf}
 use Rattle.common.proofs.WholeFloats.{whole-value}
-use Rattle.common.proofs.WholeValues.{Whole, whole-is}
-use Rattle.common.proofs.RoundOrder.{or-l}
 
 -- ---- the size
 

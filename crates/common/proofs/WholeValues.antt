@@ -1,12 +1,12 @@
 -- Floats that are whole numbers, -0 among them: the value of one, that the whole number's own float is one, and what a sum and a square make of one. Assumes nothing.
 use mathlib.Core.Path.{_≡_, refl, sym, ap, _∙_, subst}
-use mathlib.Core.Bool.{Bool, true, false, not, cond, _&&_}
-use Prim.Native.Nat.{ℕ, zero, suc, _+_, _-_, _*_, _/_, _%_, _^_, _≤_, _<_, zero-le}
+use mathlib.Core.Bool.{Bool, true, false, not}
+use Prim.Native.Nat.{ℕ, zero, suc, _+_, _*_, _/_, _%_, _^_, _≤_, zero-le}
 use native.Mathlib.Nat.{le-trans, mul-one, add-zero, mul-div-cancel, mul-mod-left, div-add-mod'}
 use native.Mathlib.Omega.{arith}
 use borrow.Author.Tests.{lt-ltb, le-ltb}
-use lib.Dec.{T, ltb, leb, eqb, eqb→eq, leb→le, le→leb, eqb-refl}
-use lib.IntN.{ℤ, pos, negsuc, natAbs, negℤ, subℕ, _+ℤ_, _-ℤ_, _*ℤ_, negℤ-negℤ, +ℤ-idl, +ℤ-assoc}
+use lib.Dec.{T, leb, eqb, eqb→eq, leb→le, le→leb}
+use lib.IntN.{ℤ, pos, negsuc, natAbs, negℤ, _+ℤ_, _-ℤ_, _*ℤ_, negℤ-negℤ, +ℤ-idl, +ℤ-assoc}
 use lib.Ieee.{Float, nan, inf, fin, Format, prec, up, down, unlike, round, sum, neg, add, sub, mul, ofInt}
 use lib.Ieee.Fits.{down-pos, and-l, and-r, and-i, eq→eqb}
 use lib.Ieee.Exact.{HasValue}

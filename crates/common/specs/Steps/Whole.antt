@@ -1,5 +1,5 @@
 -- The steps by which `corrected` tests for whole numbers and moves one. Definitions only.
-use mathlib.Core.Bool.{Bool, cond}
+use mathlib.Core.Bool.{cond}
 use lib.Dec.{T}
 use lib.Ieee.{Float, neg, lt}
 use Rattle.common.specs.Deviation.{zero64}

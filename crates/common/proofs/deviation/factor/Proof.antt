@@ -1,5 +1,5 @@
 -- `common::deviation::factor` meets its contract: each return is the case of `factorOf` that its tests pick. Assumes nothing.
-use mathlib.Core.Path.{_≡_, refl, sym, ap, _∙_}
+use mathlib.Core.Path.{_≡_}
 use mathlib.Core.Bool.{true, false}
 use Prim.Native.Nat.{ℕ}
 use borrow.Author.Needs.{needs}

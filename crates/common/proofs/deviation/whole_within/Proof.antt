@@ -1,6 +1,6 @@
 -- `common::deviation::whole_within` meets its contract: its tests of the size are `whole-by-size`. Assumes nothing.
-use mathlib.Core.Path.{_≡_, refl, sym, ap, _∙_, subst}
-use mathlib.Core.Bool.{Bool, true, false, _&&_}
+use mathlib.Core.Path.{_≡_, refl, ap, _∙_}
+use mathlib.Core.Bool.{true, false, _&&_}
 use Prim.Native.Nat.{ℕ, _≤_, _<_}
 use native.Mathlib.Omega.{arith}
 use borrow.Author.Needs.{needs}
@@ -10,7 +10,7 @@ use lib.IntN.{pos}
 use lib.Ieee.{Float, binary64, lt, eq, ofInt, toUnsigned}
 use Rattle.common.specs.Corrected.{wholeWithin}
 use Rattle.common.specs.Steps.Whole.{sizeOf}
-use Rattle.common.proofs.WholeTests.{tested, wideLimit, whole-by-size, size-above, size-below}
+use Rattle.common.proofs.WholeTests.{wideLimit, whole-by-size, size-above, size-below}
 use Rattle.common.proofs.deviation.whole_within.Statement.{statement}
 use Rattle.common.proofs.deviation.whole_within.Tie as tie
 

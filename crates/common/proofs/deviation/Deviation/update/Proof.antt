@@ -1,6 +1,4 @@
 -- `common::deviation::Deviation::update` meets its contract: it is the update by the factor of the next one. Assumes nothing.
-use mathlib.Core.Path.{_∙_}
-use borrow.Author.Needs.{needs}
 use Rattle.common.proofs.DeviationLaws.{update-by-next}
 use Rattle.common.proofs.deviation.Deviation.update.Statement.{statement}
 use Rattle.common.proofs.deviation.Deviation.update.Tie as tie
