@@ -1,6 +1,6 @@
 -- Isolation (#105). Assumes nothing.
 use Prim.Native.Nat.{ℕ}
-use mathlib.Core.Path.{_≡_, refl, sym, ap, _∙_}
+use mathlib.Core.Path.{_≡_, sym, ap, _∙_}
 use mathlib.Core.Bool.{Bool, false, cond}
 use mathlib.Core.List.{List, [], _∷_}
 use Rattle.trcf.specs.Calls.{shingledPoint, postProcess, drain, invertExtrapolation, status}

@@ -1,5 +1,5 @@
 -- Laws of the table's test, and of an entry behind it. Assumes nothing.
-use Prim.Native.Nat.{ℕ, zero, suc, _+_, _*_, _≤_, _<_}
+use Prim.Native.Nat.{ℕ, _+_, _≤_, _<_}
 use mathlib.Core.Path.{_≡_, refl, sym, ap, _∙_}
 use mathlib.Core.Bool.{Bool, true, false, cond, _&&_}
 use mathlib.Core.List.{List, [], _∷_}
@@ -19,7 +19,7 @@ use Rattle.trcf.specs.declared.head.Preprocessor.{Preprocessor}
 use Rattle.trcf.specs.declared.head.StatusAnswer.{StatusAnswer}
 use Rattle.access.specs.declared.rights.Right.{Right}
 use Rattle.access.specs.declared.rights.Right.the-variants.{SEE, LEARN, SAVE, RESTORE}
-use Rattle.access.specs.Access.{place, bits, standing, cell, has, granted, guarded, everyRight}
+use Rattle.access.specs.Access.{bits, standing, cell, has, granted, guarded, everyRight}
 use Rattle.access.specs.Entries.{numbersOf}
 
 -- ---- the cells, one by one

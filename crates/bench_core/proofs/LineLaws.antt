@@ -1,5 +1,5 @@
 -- Names and letters by their bytes. Assumes nothing.
-use Prim.Native.Nat.{ℕ, zero, suc, _+_}
+use Prim.Native.Nat.{ℕ}
 use native.Mathlib.Omega.{arith}
 use mathlib.Core.Path.{_≡_, refl, sym, ap}
 use mathlib.Core.Bool.{cond}
@@ -7,7 +7,6 @@ use mathlib.Core.List.{List, [], _∷_}
 use lib.ListN.{length, getD}
 use Rattle.trcf.specs.Types.{modeOfLetter}
 use Rattle.trcf.specs.Settings.{imputes}
-use Rattle.snapshot.specs.declared.field.Number.{Number}
 use Rattle.snapshot.specs.declared.field.Number.the-variants.{Is, No}
 use Rattle.bench_core.specs.declared.line.Name.{Name}
 use Rattle.bench_core.specs.declared.line.Name.the-variants.{Other}

@@ -1,5 +1,5 @@
 -- What is printed fits the room of a step. Assumes nothing.
-use Prim.Native.Nat.{ℕ, zero, suc, _+_, _*_, _≤_, _<_}
+use Prim.Native.Nat.{ℕ, zero, suc, _+_, _≤_}
 use native.Mathlib.Nat.{mul-le-mul, min-le-left, le-refl}
 use native.Mathlib.Omega.{arith}
 use mathlib.Core.Path.{_≡_, refl, sym, ap, _∙_}
@@ -22,7 +22,7 @@ use Rattle.snapshot.proofs.Accepted.{clear}
 use Rattle.snapshot.proofs.WriteLaws.{whole-short}
 use Rattle.snapshot.proofs.SaveLaws.{wide-of}
 use Rattle.snapshot.proofs.PairLines.{pair-size, number-size}
-use Rattle.bench_core.specs.Bench.{Output, output, prints, noText, okText, noneText, pointText, dimensionOf}
+use Rattle.bench_core.specs.Bench.{output, prints, noText, okText, noneText, pointText, dimensionOf}
 
 module _ {A : Type 0} where
   take-long : (n : ℕ) (l : List A) → length l ≤ n → take n l ≡ l

@@ -1,18 +1,18 @@
 -- What each call line leaves, from what the call promises. Assumes nothing.
-use Prim.Native.Nat.{ℕ, zero, suc}
-use mathlib.Core.Path.{_≡_, refl, sym, ap, _∙_}
+use Prim.Native.Nat.{ℕ}
+use mathlib.Core.Path.{_≡_, sym, ap, _∙_}
 use mathlib.Core.Bool.{Bool, true, false}
 use mathlib.Core.List.{List, [], _∷_}
 use lib.IntN.{pos}
-use lib.ListN.{length, take, replicate}
+use lib.ListN.{take, replicate}
 use lib.Ieee.{Float}
 use Rattle.trcf.specs.Transformer.{zero32}
 use Rattle.trcf.specs.Calls.{Learn}
 use Rattle.trcf.specs.Preprocessor.{accepted}
 use Rattle.trcf.proofs.OutcomeLaws.{accepted-not}
-use Rattle.trcf.specs.View.{Lent, Outcome, outcome, drainOf, PointOutcome, pointed, pointAfter, LearnOutcome, learnOutcome, learnNothing, learnAfter, learnCall}
+use Rattle.trcf.specs.View.{Lent, Outcome, outcome, drainOf, pointed, pointAfter, LearnOutcome, learnOutcome, learnNothing, learnAfter, learnCall}
 use Rattle.trcf.specs.declared.head.Preprocessor.{Preprocessor}
-use Rattle.snapshot.specs.Save.{saveOf, Outcome as Saved, outcome as saved}
+use Rattle.snapshot.specs.Save.{saveOf, outcome as saved}
 use Rattle.access.specs.declared.rights.Right.the-variants.{SEE, LEARN, SAVE}
 use Rattle.access.specs.Access.{everyRight}
 use Rattle.access.specs.Entries.{pointBy, learnBy, drainBy, saveBy}

@@ -1,8 +1,8 @@
 -- The bench (document 01, 'The bench …'), over what `build`, `shingled_point`, `post_process`, `drain` and `save` promise: what each line makes
 -- of it and prints, and one step, which reads one cell.
-use Prim.Native.Nat.{ℕ, zero, suc, _+_}
-use mathlib.Core.Bool.{Bool, true, false, cond, _||_}
-use mathlib.Core.List.{List, [], _∷_, _++_}
+use Prim.Native.Nat.{ℕ, suc, _+_}
+use mathlib.Core.Bool.{Bool, true, false, cond}
+use mathlib.Core.List.{List, [], _∷_}
 use lib.Dec.{ltb, eqb}
 use lib.IntN.{pos}
 use lib.ListN.{length, take, getD, replicate}
@@ -12,15 +12,13 @@ use Rattle.common.specs.Deviation.{zero64}
 use Rattle.trcf.specs.Transformer.{zero32}
 use Rattle.trcf.specs.Settings.{dimension, settingsRow}
 use Rattle.trcf.specs.Preprocessor.{accepted}
-use Rattle.trcf.specs.View.{Lent, settingsOf, settingsFrom, headRow, orElse, noHead, buildOf, drainOf, pointAfter, PointOutcome, learnAfter, learnCall, LearnOutcome, Outcome, outcome}
-use Rattle.trcf.specs.declared.types.TransformMethod.{TransformMethod}
+use Rattle.trcf.specs.View.{Lent, settingsOf, settingsFrom, headRow, orElse, noHead, buildOf, drainOf, pointAfter, PointOutcome, learnAfter, learnCall, Outcome, outcome}
 use Rattle.trcf.specs.declared.types.TransformMethod.the-variants.{NONE}
-use Rattle.trcf.specs.declared.types.ForestMode.{ForestMode}
 use Rattle.trcf.specs.declared.types.ForestMode.the-variants.{STANDARD}
 use Rattle.trcf.specs.Types.{methodOfNumber, modeOfLetter}
 use Rattle.trcf.specs.declared.head.Preprocessor.{Preprocessor}
 use Rattle.trcf.specs.declared.head.PreprocessorBuilder.{PreprocessorBuilder}
-use Rattle.snapshot.specs.Text.{whole, named, singles, render}
+use Rattle.snapshot.specs.Text.{whole, named, singles}
 use Rattle.snapshot.specs.Read.{bytesOfLine}
 use Rattle.snapshot.specs.Save.{saveOf, Outcome as Saved}
 use Rattle.bench_core.specs.Line.{blankLine, cellOf, requestOf, keptOf}

@@ -1,9 +1,8 @@
 -- A line of the bench, cell by cell: document 01, 'The bench …', with fields as in 'Trace text'. "A `wgt`, `p` or `l` line may hold any number of
 -- f32 fields": those past the ones that are needed are checked, and neither kept nor counted.
-use Prim.Native.Nat.{ℕ, zero, suc, _+_}
-use mathlib.Core.Bool.{Bool, true, false, cond}
+use Prim.Native.Nat.{ℕ, _+_}
+use mathlib.Core.Bool.{cond}
 use mathlib.Core.List.{List, [], _∷_}
-use mathlib.Core.Option.{Option, none, some}
 use lib.Dec.{leb, ltb, eqb}
 use lib.ListN.{set, take, replicate}
 use lib.Ieee.{Float, binary32, binary64}

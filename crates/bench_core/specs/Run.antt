@@ -2,7 +2,7 @@
 -- block by block; where its blocks end does not matter (the crate bench_blocks).
 use Prim.Native.Nat.{ℕ, zero, suc}
 use mathlib.Core.Bool.{true, false}
-use mathlib.Core.List.{List, [], _∷_, _++_}
+use mathlib.Core.List.{List, [], _++_}
 use lib.Dec.{eqb}
 use lib.ListN.{length, take, drop, replicate}
 use lib.Ieee.{Float}

@@ -11,7 +11,7 @@ use Rattle.common.specs.Lent.{over}
 use Rattle.trcf.specs.Settings.{Settings, settingsRow}
 use Rattle.trcf.specs.Calls.{Call, Learn, Forecast}
 use Rattle.trcf.specs.Preprocessor.{accepted}
-use Rattle.trcf.specs.View.{Lent, settingsOf, Outcome, outcome, orElse, buildOf, drainOf, pointed, pointAfter, learnOutcome, learnNothing, learnAfter, Written, written, writeOf}
+use Rattle.trcf.specs.View.{Lent, settingsOf, outcome, orElse, buildOf, drainOf, pointed, pointAfter, learnOutcome, learnNothing, learnAfter, Written, written, writeOf}
 use Rattle.trcf.specs.Extrapolation.{Extrapolation, extrapolation, extrapolationOf}
 use Rattle.trcf.specs.declared.types.TransformMethod.{TransformMethod}
 use Rattle.trcf.specs.declared.types.ForestMode.{ForestMode}
@@ -19,12 +19,12 @@ use Rattle.trcf.specs.declared.head.Preprocessor.{Preprocessor}
 use Rattle.trcf.specs.declared.head.StatusAnswer.{StatusAnswer}
 use Rattle.trcf.proofs.OutcomeLaws.{accepted-not, orElse-is}
 use Rattle.snapshot.specs.Save.{saveOf, outcome as saved}
-use Rattle.capi.specs.Head.{headOf, wordsOf, countsOver, kindRow, shortRow, wordsRow, Read}
+use Rattle.capi.specs.Head.{headOf, wordsOf, countsOver, kindRow, shortRow, Read}
 use Rattle.access.specs.declared.rights.Right.{Right}
 use Rattle.access.specs.declared.rights.Right.the-variants.{SEE, LEARN, SAVE}
 use Rattle.access.specs.Access.{needs, granted, guarded}
 use Rattle.access.specs.Entries.{pointBy, learnBy, drainBy, writeBy, extrapolationBy, saveBy, numbersOf, numbersBy, untold}
-use Rattle.capi.specs.Calls.{openRow, onHead, flag, Called, called, drainTold, drainAt, buildTold, buildAt, pointCalled, pointTold, pointAt, Anomaly, anomaly}
+use Rattle.capi.specs.Calls.{openRow, onHead, flag, called, drainTold, drainAt, buildTold, buildAt, pointCalled, pointTold, pointAt, Anomaly, anomaly}
 use Rattle.capi.specs.Calls.{learnCalled, learnTold, learnAt, writeAt, extrapolationAt, saveTold, saveAt, ListGot, listGot, listTold, numbersTold, numbersAt, codesAt}
 
 module _ {A : Type 0} where

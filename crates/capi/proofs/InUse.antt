@@ -8,15 +8,15 @@ use lib.ListN.{length}
 use lib.Ieee.{Float}
 use Rattle.common.specs.Lent.{over}
 use Rattle.trcf.specs.Settings.{waiting}
-use Rattle.trcf.specs.Calls.{Call, Learn, drain, shingledPoint, postProcess}
+use Rattle.trcf.specs.Calls.{Learn, drain, shingledPoint, postProcess}
 use Rattle.trcf.specs.Preprocessor.{State, Answer, refused, absent, done, wrote, learnt, turned, told, accepted, change, reply, reading, drained, pointOf}
-use Rattle.trcf.specs.View.{outsideRow, Lent, settingsOf, view, counted, rowOf, headAfter, lentAfter, answerOf, drainOf, pointRead, pointAfter, learnRead, learnAfter}
+use Rattle.trcf.specs.View.{outsideRow, Lent, view, counted, rowOf, headAfter, lentAfter, answerOf, drainOf, pointRead, pointAfter, learnRead, learnAfter}
 use Rattle.trcf.specs.declared.head.Preprocessor.{Preprocessor}
 use Rattle.access.specs.declared.rights.Right.{Right}
 use Rattle.access.specs.declared.rights.Right.the-variants.{SEE, LEARN}
 use Rattle.access.specs.Access.{granted}
-use Rattle.capi.specs.Head.{headOf, wordsOf, wordsRow, countsOver, Held}
-use Rattle.capi.specs.Calls.{openRow, flag, Called, called, drainTold, drainAt, pointCalled, pointTold, pointAt, Anomaly, anomaly, learnCalled, anomalyTold, learnTold, learnAt}
+use Rattle.capi.specs.Head.{headOf, wordsOf, countsOver, Held}
+use Rattle.capi.specs.Calls.{openRow, flag, called, drainTold, drainAt, pointCalled, pointTold, pointAt, Anomaly, learnCalled, anomalyTold, learnTold, learnAt}
 use Rattle.capi.proofs.HeadLaws.{head-back, in-use, counts-in-words}
 use Rattle.capi.proofs.CallLaws.{done as answered}
 

@@ -7,8 +7,8 @@ use native.Mathlib.Omega.{arith}
 use native.Mathlib.Numerals.{add-one}
 use native.Mathlib.Nat.{mod-eq-of-lt}
 use lib.Dec.{T}
-use lib.ListN.{length, take, drop, getD, set, drop-of-length-le}
-use lib.Seq.{take-suc, take-suc-set, take-all}
+use lib.ListN.{length, take, getD, set, drop-of-length-le}
+use lib.Seq.{take-suc-set, take-all}
 use lib.Ieee.{Float, nan, inf, fin, Format, binary32, fits, div, isNan, nanBits, ofBits, toBits}
 use lib.Ieee.Bits.{nanBits-is, ofBits-toBits, toBits-lt}
 use Rattle.common.specs.Lent.{over}

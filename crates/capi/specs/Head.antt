@@ -13,7 +13,7 @@ use lib.Ieee.{Float, binary32, binary64, fits, ofBits, toBits}
 use Rattle.trcf.specs.Fit.{All, Fits}
 use Rattle.trcf.specs.Types.{methodNumber}
 use Rattle.trcf.specs.Settings.{Settings, codeMax}
-use Rattle.trcf.specs.View.{outsideRow, settingsOf, orElse}
+use Rattle.trcf.specs.View.{outsideRow, orElse}
 use Rattle.trcf.specs.declared.types.TransformMethod.{TransformMethod}
 use Rattle.trcf.specs.declared.types.TransformMethod.the-variants.{NONE, WEIGHTED, DIFFERENCE, «SUBTRACT_MA», NORMALIZE, «NORMALIZE_DIFFERENCE»}
 use Rattle.trcf.specs.declared.types.ForestMode.{ForestMode}

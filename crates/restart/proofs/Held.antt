@@ -1,25 +1,22 @@
 -- What the program holds is the state that the definitions speak of, after every call and every restart.
-use Prim.Native.Nat.{ℕ, zero, suc, _+_, _*_, _≤_, _<_}
+use Prim.Native.Nat.{ℕ, zero, suc, _*_, _≤_}
 use native.Mathlib.Omega.{arith}
 use mathlib.Core.Path.{_≡_, refl, sym, ap, _∙_, subst}
-use mathlib.Core.Bool.{Bool, true, false, not, _&&_, _||_, cond}
-use mathlib.Core.List.{List, [], _∷_, _++_, map}
-use mathlib.Core.Option.{some}
+use mathlib.Core.Bool.{Bool, true, false, cond}
+use mathlib.Core.List.{List, [], _∷_, _++_}
 use lib.ListN.{length, take, drop}
 use lib.Seq.{take-append-seam}
 use Rattle.common.specs.Lent.{over}
-use lib.Dec.{ltb, eqb}
 use lib.Ieee.{Float}
-use borrow.Author.Tests.{le-ltb, eq-eqb}
+use borrow.Author.Tests.{le-ltb}
 use Rattle.common.specs.Refusal.{firstOf}
 use Rattle.trcf.specs.Fit.{All}
 use Rattle.trcf.proofs.FitLaws.{all-append}
 use Rattle.trcf.specs.Types.{augments}
-use Rattle.trcf.specs.Settings.{Settings, Valid, waiting, block, dimension}
+use Rattle.trcf.specs.Settings.{Settings, Valid, waiting, dimension}
 use Rattle.trcf.specs.Calls.{Call, Machine, status}
-use Rattle.trcf.specs.Preprocessor.{State, statisticsLength, fresh, refusal, change, next, run, Answer, answer, answers, accepted}
+use Rattle.trcf.specs.Preprocessor.{State, statisticsLength, fresh, refusal, change, next, run, answer, answers, accepted}
 use Rattle.trcf.specs.View.{Lent, lent, settingsOf, view, laid, counted, headFrom, headTable, headRow, initialRoom, lentShort, misfit, ownRow, readyOf, gettersOf, shortRow, lentRow, rowOf, answerOf, headAfter, lentAfter, buildRow, buildOf, Outcome, outcome}
-use Rattle.trcf.specs.declared.head.Preprocessor.{Preprocessor}
 use Rattle.trcf.proofs.RefusalLaws.{room-start}
 use Rattle.trcf.proofs.ViewLaws.{row-is, answer-is, Shaped, view-laid}
 use Rattle.snapshot.specs.Text.{render, TextOf}
@@ -32,10 +29,10 @@ use Rattle.snapshot.specs.Runs.{Few, HeadFew}
 use Rattle.snapshot.proofs.BodyLaws.{room-of, dimension-is}
 use Rattle.snapshot.proofs.ReadText.{put-away}
 use Rattle.snapshot.proofs.SaveForm.{Savable, saved-fitted, form-savable}
-use Rattle.snapshot.proofs.RoundTrip.{settings-are, shaped-of, few-of, initial-room, past-not, laid-short, restored-as, restored-view}
-use Rattle.restart.specs.History.{historyState, entries, historyText, historyAnswers, historyPanels, historyShown}
+use Rattle.snapshot.proofs.RoundTrip.{settings-are, few-of, initial-room, past-not, laid-short, restored-as, restored-view}
+use Rattle.restart.specs.History.{historyState, entries, historyText, historyShown}
 use Rattle.restart.specs.Statement.{panelTold, panels}
-use Rattle.restart.specs.Held.{Held, held, builtOn, heldNext, heldRun, heldAnswers, heldPanels, heldShown, savedTo, textIn, restoredOn, HeldRestart, HeldDemand3}
+use Rattle.restart.specs.Held.{Held, held, builtOn, heldNext, heldRun, heldAnswers, heldPanels, heldShown, savedTo, textIn, restoredOn, HeldDemand3}
 use Rattle.restart.proofs.Step.{begins, runs, run-history}
 use Rattle.restart.proofs.Panel.{gettersAt, shown, shown-from, shown-history, panels-history}
 use Rattle.restart.proofs.Restart.{run-append, text-history, restorable, restart}

@@ -1,8 +1,8 @@
 -- The panel at every place of a list of calls is the history's number of readings fed, and what the getters answer there is the history's.
-use Prim.Native.Nat.{ℕ, _≤_, _<_}
+use Prim.Native.Nat.{_≤_, _<_}
 use mathlib.Core.Path.{_≡_, refl, ap, _∙_}
 use mathlib.Core.List.{List, [], _∷_, map}
-use mathlib.Core.Option.{Option, some}
+use mathlib.Core.Option.{some}
 use lib.ListN.{length}
 use lib.Ieee.{Float}
 use borrow.Author.Tests.{le-ltb}

@@ -1,7 +1,7 @@
 -- A statistic in the list by its place: written, and read again there and elsewhere.
 use Prim.Native.Nat.{ℕ, zero, suc, _+_, _*_, _≤_, _<_}
 use mathlib.Core.Path.{_≡_, refl, sym, ap, _∙_}
-use mathlib.Core.List.{List, [], _∷_, _++_, append-assoc, append-nil}
+use mathlib.Core.List.{List, [], _∷_, _++_, append-assoc}
 use native.Mathlib.Omega.{arith}
 use lib.ListN.{length, getD, set, take, length-set}
 use lib.Seq.{getD-set-same, getD-set-other, take-suc}
@@ -9,7 +9,6 @@ use lib.Ieee.{Float, nan}
 use Rattle.common.specs.declared.deviation.Deviation.{Deviation}
 use Rattle.common.specs.Deviation.{statistic}
 use Rattle.trcf.specs.Transformer.{statisticAt, putStatistic}
-use Rattle.trcf.proofs.TransformerLaws.{putStatistic-length}
 use Rattle.restart.specs.Statistics.{line, linesTo}
 
 module _ (l : List Float) (n : ℕ) (s : Deviation) (dec : Float) (c : ℕ) where

@@ -1,6 +1,6 @@
 -- What feeding one reading after the other makes are the history's statistics: a `feed` that does not feed each statistic its scores is refused here. Assumes nothing.
 use Prim.Native.Nat.{ℕ, zero, suc, _+_, _-_, _*_, _≤_, _<_}
-use mathlib.Core.Path.{_≡_, refl, sym, ap, _∙_, subst}
+use mathlib.Core.Path.{_≡_, refl, sym, ap, _∙_}
 use mathlib.Core.Bool.{Bool, true, false}
 use mathlib.Core.List.{List, [], _∷_, _++_, map, append-nil}
 use native.Mathlib.Omega.{arith}
@@ -15,9 +15,9 @@ use Rattle.common.specs.declared.deviation.Deviation.{Deviation}
 use Rattle.common.specs.Deviation.{zero64, statistic, emptyWith, stepOf, meanOf, deviationOf}
 use Rattle.trcf.specs.declared.statistics.Deviations.{Deviations}
 use Rattle.trcf.specs.Transformer.{slowDecay, statisticAt, putStatistic, fed, deviationsAt, putDeviations, fedAt, channelsFed, updated}
-use Rattle.trcf.specs.Settings.{Settings, transformer}
-use Rattle.trcf.specs.Preprocessor.{Reading, reading, statisticsLength, timeFed, feed}
-use Rattle.trcf.proofs.TransformerLaws.{putStatistic-length, fedAt-length, channelsFed-length}
+use Rattle.trcf.specs.Settings.{Settings}
+use Rattle.trcf.specs.Preprocessor.{statisticsLength, timeFed, feed}
+use Rattle.trcf.proofs.TransformerLaws.{putStatistic-length, channelsFed-length}
 use Rattle.restart.specs.Statistics.{Fed, foldFrom, courseFrom, valuesAt, differencesAt, times, timeDifferences, first, second, third, fourth, fifth, line, linesTo, statisticsFrom}
 use Rattle.restart.proofs.Lists.{feedEach}
 use Rattle.restart.proofs.FeedLaws.{feed-length}

@@ -11,13 +11,12 @@ use lib.ListN.{length, replicate, length-append, length-replicate}
 use lib.Ieee.{Float}
 use borrow.Author.Tests.{ltb-true, ltb-false, eqb-true, ne-eqb, not-false}
 use Rattle.restart.specs.History.{Entry, initial, learned, drained, initials, learns, isDrained, onlyInitials, values, timestamps, seenOf, internalOf, bufferOf, shingled, inputsOf, timestampsOf, countOf, statisticsOf, historyState, historyFacts, historyRefusal, complete, adds, enter, entriesFrom, entries, historyAnswer, historyAnswers}
-use Rattle.common.specs.Deviation.{zero64}
 use Rattle.trcf.specs.Lists.{lastN, null}
 use Rattle.trcf.specs.Types.{normalizes}
 use Rattle.trcf.specs.Transformer.{zero32}
 use Rattle.trcf.specs.Settings.{Settings, dimension, waiting}
 use Rattle.trcf.specs.Calls.{Learn, Call, shingledPoint, postProcess, drain, transform, invertExtrapolation, scale, shift, status, due, table, rows}
-use Rattle.trcf.specs.Preprocessor.{State, statisticsLength, fresh, facts, refusal, Reading, reading, blocks, drainAll, drained as drainedState, held, learnedWith, change, accepted, next, run, answer, answers}
+use Rattle.trcf.specs.Preprocessor.{State, fresh, facts, refusal, Reading, reading, blocks, drainAll, drained as drainedState, held, learnedWith, change, accepted, next, run, answer, answers}
 use Rattle.trcf.proofs.FitLaws.{all-append}
 use Rattle.snapshot.proofs.Accepted.{clear}
 use Rattle.snapshot.proofs.Lists.{and-left, and-right, nil}

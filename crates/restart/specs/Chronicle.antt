@@ -1,6 +1,6 @@
 -- The history once more, read from its oldest entry on, as document 01 tells it; proofs/SameHistory.antt shows that both are one.
 -- `before` holds the entries before the one that is looked at, oldest first.
-use Prim.Native.Nat.{ℕ, zero, suc, _+_, _*_}
+use Prim.Native.Nat.{ℕ, _+_, _*_}
 use mathlib.Core.Bool.{Bool, true, false, cond}
 use mathlib.Core.List.{List, [], _∷_, _++_}
 use lib.Dec.{ltb}

@@ -1,6 +1,6 @@
 -- The history (document 01: history sheet): "It keeps the settings and a list of entries", here newest first. It is worked out from the settings
 -- and the calls' arguments alone: it looks at no state and at no answer, and uses of the preprocessor the arithmetic of one reading and the table of rows.
-use Prim.Native.Nat.{ℕ, zero, suc, _+_, _*_}
+use Prim.Native.Nat.{ℕ, _+_, _*_}
 use mathlib.Core.Bool.{Bool, true, false, cond, _&&_}
 use mathlib.Core.List.{List, [], _∷_, _++_}
 use mathlib.Core.Option.{Option, none, some}
@@ -11,7 +11,7 @@ use Rattle.trcf.specs.Lists.{lastN, lastOr}
 use Rattle.trcf.specs.Types.{methodNumber, modeLetter}
 use Rattle.trcf.specs.Transformer.{zero32}
 use Rattle.trcf.specs.Settings.{Settings, dimension, waiting}
-use Rattle.trcf.specs.Calls.{Learn, Forecast, Call, shingledPoint, postProcess, drain, transform, invertExtrapolation, scale, shift, status, Facts, rows}
+use Rattle.trcf.specs.Calls.{Call, shingledPoint, postProcess, drain, transform, invertExtrapolation, scale, shift, status, Facts, rows}
 use Rattle.trcf.specs.Preprocessor.{Reading, reading, transformedAfter, State, accepted, Answer, refused, reply}
 use Rattle.trcf.specs.View.{Getters}
 use Rattle.snapshot.specs.Text.{render}

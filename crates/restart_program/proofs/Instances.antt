@@ -1,15 +1,14 @@
 -- The theorems at concrete settings, lists of calls, places and lent memory: their premises can be met, and what they then say is written out.
 use Prim.Native.Nat.{ℕ, zero, suc, _≤_}
-use mathlib.Core.Path.{_≡_, refl, sym, ap, _∙_, subst}
+use mathlib.Core.Path.{_≡_, refl, sym, ap, _∙_}
 use mathlib.Core.Bool.{Bool, true, false}
 use mathlib.Core.List.{List, [], _∷_, _++_, map}
 use mathlib.Core.Option.{Option, none, some}
 use native.Mathlib.Omega.{arith}
-use lib.IntN.{pos, negsuc}
+use lib.IntN.{pos}
 use lib.ListN.{length, take, drop, getD, replicate}
 use lib.Ieee.{Float, nan, binary32, binary64, toBits, ofBits, fits}
 use lib.Ieee as Ieee
-use lib.Ieee.Bits.{ofBits-fits}
 use Rattle.numeric.specs.Narrow as Narrow
 use Rattle.numeric.specs.Root as Root
 use Rattle.common.specs.Deviation as Deviation
@@ -24,8 +23,8 @@ use Rattle.trcf.specs.View as View
 use Rattle.trcf.specs.View.{Lent, lent, lentShort, Getters}
 use Rattle.trcf.specs.Fit.{All}
 use Rattle.trcf.specs.Settings.{Settings, Valid, settingsRow}
-use Rattle.trcf.specs.Calls.{Call, Machine, shingledPoint, postProcess, drain, transform, invertExtrapolation, scale, shift, status}
-use Rattle.trcf.specs.Preprocessor.{State, fresh, run, answers, Answer, refused, absent, done, wrote, learnt, turned, told}
+use Rattle.trcf.specs.Calls.{Call, Machine, shingledPoint, postProcess, drain, transform, shift, status}
+use Rattle.trcf.specs.Preprocessor.{fresh, Answer, refused, absent, done, wrote, learnt, turned, told}
 use Rattle.trcf.specs.declared.types.TransformMethod.the-variants.{DIFFERENCE, NORMALIZE, «NORMALIZE_DIFFERENCE»}
 use Rattle.trcf.specs.declared.types.ForestMode.the-variants.{STANDARD, «TIME_AUGMENTED», «GAP_AUGMENTED»}
 use Rattle.snapshot.specs.Text as Text
@@ -33,9 +32,9 @@ use Rattle.snapshot.specs.Text.{render}
 use Rattle.snapshot.specs.Ascii.{text}
 use Rattle.snapshot.specs.Read.{taken}
 use Rattle.restart.specs.History as History
-use Rattle.restart.specs.History.{Entry, initial, learned, drained, entries, historyText, historyAnswers, historyPanels, historyShown}
+use Rattle.restart.specs.History.{initial, learned, drained, entries, historyText, historyAnswers, historyPanels, historyShown}
 use Rattle.restart.specs.Statement.{Restart, Event, called, restarted, callsOf, panels, panelsEvents, historyPanelsEvents, Restarts}
-use Rattle.restart.specs.Held.{Held, builtOn, heldRun, heldAnswers, heldPanels, heldShown, savedTo, textIn, restoredOn, HeldRestart}
+use Rattle.restart.specs.Held.{builtOn, heldRun, heldAnswers, heldPanels, heldShown, textIn, restoredOn, HeldRestart}
 use Rattle.restart.proofs.Restart.{demand-3}
 use Rattle.restart.proofs.Held.{held-demand-3}
 use Rattle.trcf.specs.Preprocessor.{Reading, reading, statisticsLength}

@@ -1,35 +1,33 @@
 -- The program's calls, composed by their contracts, are the calls of `held-demand-3`.
-use Prim.Native.Nat.{ℕ, zero, suc, _+_, _*_, _≤_, _<_}
+use Prim.Native.Nat.{ℕ, zero, suc, _*_, _≤_}
 use native.Mathlib.Omega.{arith}
 use mathlib.Core.Path.{_≡_, refl, sym, ap, _∙_, subst}
-use mathlib.Core.Bool.{Bool, true, false, not, _&&_, _||_, cond}
+use mathlib.Core.Bool.{Bool, true, false, _||_, cond}
 use mathlib.Core.List.{List, [], _∷_, _++_, map, head-eq-of-cons-eq, tail-eq-of-cons-eq}
 use mathlib.Core.Option.{Option, none, some}
 use borrow.Author.Tests.{ltb-false, le-ltb}
-use lib.Dec.{ltb, eqb}
+use lib.Dec.{ltb}
 use lib.ListN.{length, replicate, length-replicate}
 use lib.Ieee.{Float}
-use Rattle.common.specs.Refusal.{firstOf}
 use Rattle.trcf.specs.Fit.{All}
 use Rattle.trcf.specs.Transformer.{zero32}
 use Rattle.trcf.specs.Settings.{Settings, Valid, block, dimension, waiting}
-use Rattle.trcf.specs.Calls.{Learn, Call, Machine, shingledPoint, postProcess, drain, transform, invertExtrapolation, scale, shift, status, rows, table, given, Facts}
-use Rattle.trcf.specs.Preprocessor.{State, Answer, refused, absent, done, wrote, learnt, turned, told, Anomaly, Learned, Status, reading, drained, pointOf, statisticsLength, change, reply, accepted, statusOf, answer, facts}
-use Rattle.trcf.specs.View.{Lent, lent, optional, settingsFrom, settingsOf, view, counted, laid, headRow, initialRoom, lentShort, gettersOf, misfit, shortRow, lentRow, rowOf, orElse, answerOf, headAfter, lentAfter, Roomy, Fitted, Written, written, writtenOf, writeOf, StatusOutcome, statusRead, statusAfter, drainOf, PointOutcome, pointed, pointRead, pointAfter, LearnOutcome, learnRead, learnAfter, anomalyTime, anomalyLikelihood}
-use Rattle.trcf.specs.Extrapolation.{Extrapolation, extrapolationOf, extrapolationRead, unread}
+use Rattle.trcf.specs.Calls.{Learn, Call, Machine, shingledPoint, postProcess, drain, transform, invertExtrapolation, scale, shift, status, rows, table, given}
+use Rattle.trcf.specs.Preprocessor.{State, Answer, refused, absent, done, wrote, learnt, turned, told, Anomaly, Learned, Status, statisticsLength, change, reply, accepted, statusOf, facts}
+use Rattle.trcf.specs.View.{Lent, lent, optional, settingsOf, view, counted, laid, headRow, initialRoom, lentShort, gettersOf, misfit, shortRow, lentRow, rowOf, orElse, answerOf, headAfter, lentAfter, Roomy, Fitted, written, writtenOf, writeOf, statusRead, statusAfter, drainOf, pointRead, pointAfter, learnRead, learnAfter, anomalyTime, anomalyLikelihood}
+use Rattle.trcf.specs.Extrapolation.{extrapolationRead}
 use Rattle.trcf.specs.declared.head.Preprocessor.{Preprocessor}
 use Rattle.trcf.proofs.FitLaws.{all-append}
 use Rattle.trcf.proofs.RefusalLaws.{misfit-few, misfit-room, misfit-counted}
 use Rattle.trcf.proofs.StateLaws.{same-head, same-lent}
-use Rattle.trcf.proofs.ViewLaws.{answer-is}
 use Rattle.trcf.proofs.ExtrapolationLaws.{extrapolation-answers}
 use Rattle.snapshot.specs.Save as save
 use Rattle.snapshot.specs.Restore as restore
-use Rattle.restart.specs.History.{Entry, entries, enter, historyState, historyFacts, historyRefusal, historyAnswer, historyText, historyAnswers, historyPanels, historyShown}
+use Rattle.restart.specs.History.{Entry, entries, enter, historyState, historyRefusal, historyAnswer, historyText, historyAnswers, historyPanels, historyShown}
 use Rattle.restart.specs.Statement.{panelTold}
 use Rattle.restart.specs.Held.{Held, held, builtOn, heldNext, heldRun, heldAnswers, heldPanels, heldShown, savedTo, textIn, restoredOn, HeldRestart}
 use Rattle.restart.proofs.Held.{held-demand-3}
-use Rattle.restart_program.specs.Program.{Return, point, learn, drains, writes, turns, tells, pointReturn, learnReturn, returnOf, leftBy, ran, returns, anomalyRead, byRow, answerRead, returnedPanels, shownGetters, ProgramRestart, ProgramDemand3, listOf, Arguments}
+use Rattle.restart_program.specs.Program.{Return, learn, drains, writes, turns, tells, pointReturn, learnReturn, returnOf, leftBy, ran, returns, anomalyRead, answerRead, returnedPanels, shownGetters, ProgramDemand3, listOf, Arguments}
 
 -- ---- a row 0 of a call says that what is lent is long enough
 

@@ -8,6 +8,7 @@ use native.Mathlib.Omega.{arith}
 use native.Mathlib.Nat.{zero-mul, suc-mul, add-mul, mul-assoc, mul-comm, mul-pos, mul-mod-left, mod-one, div-mul-le-self, le-div-iff-mul-le, mul-le-mul-left, mul-le-mul-right}
 use native.Mathlib.Numerals.{add-one}
 use borrow.Author.Tests.{eq-eqb, ne-eqb}
+use lib.Dec.{ltb}
 use lib.ListN.{length, getD, set, take, drop, length-append, length-drop}
 use lib.Seq.{length-take-le, getD-drop, drop-drop, take-length, paste, take-all, drop-length, drop-append-add, take-at}
 use lib.IntN.{pos}
@@ -22,8 +23,8 @@ use Rattle.trcf.specs.Transformer.{zero32, forecastTo, forecastAt, inver
 use Rattle.trcf.specs.TransformerCalls.{view as viewTransformer}
 use Rattle.trcf.specs.Settings.{Settings, transformer, block, dimension}
 use Rattle.trcf.specs.Calls.{Forecast, invertExtrapolation, rows, table, unturnable, turnShort, lookahead}
-use Rattle.trcf.specs.Preprocessor.{refused, turned, fronts, backs, invertTime, invertTimes, timescale, timedrift, previous, numbersOf, timesOf, turnedBack, reply, accepted}
-use Rattle.trcf.specs.View.{Lent, view, holding, settingsOf, headRow, misfit, lentShort, shortRow, lentRow, rowOf, answerOf, orElse}
+use Rattle.trcf.specs.Preprocessor.{refused, turned, fronts, backs, invertTime, invertTimes, timescale, timedrift, previous, numbersOf, timesOf, turnedBack, reply, accepted, statisticsLength}
+use Rattle.trcf.specs.View.{Lent, view, holding, settingsOf, headRow, initialRoom, lentShort, shortRow, lentRow, rowOf, answerOf, orElse}
 use Rattle.trcf.specs.Extrapolation.{Extrapolation, extrapolation, forecast, viewed, unread, unreadRow, extrapolationRow, extrapolationOf, extrapolationRead, Sizes, sizesOf, brokenAt, shortAt, rowAt, Longer, timeFactor, timeBy, timesBy}
 use Rattle.trcf.specs.declared.head.Preprocessor.{Preprocessor}
 use Rattle.trcf.proofs.FitLaws.{tabulate-length}
@@ -421,7 +422,11 @@ module _ (h : Preprocessor) (l : Lent) (c : Forecast) where
 
   unread-not : lentShort (settingsOf h) l ≡ false → unread (settingsOf h) (length (l .statistics)) (length (l .lastShingledInput)) (length (l .previousTimestamps)) ≡ false
   unfolding lentShort unread
-  unread-not e = three _ _ _ _ _ e
+  unread-not e =
+      let s : Settings = settingsOf h in
+      three (ltb (length (l .statistics)) (statisticsLength s)) (ltb (length (l .lastShingledInput)) (s .d * s .k))
+      (ltb (length (l .lastShingledPoint)) (dimension s)) (ltb (length (l .previousTimestamps)) (s .k))
+      (ltb (length (l .initialValues)) (initialRoom s * s .d) || ltb (length (l .initialTimestamps)) (initialRoom s)) e
 
   same-row : lentShort (settingsOf h) l ≡ false
       → rowOf h l (invertExtrapolation c) ≡ extrapolationRow h (l .statistics) (l .lastShingledInput) (l .previousTimestamps) c

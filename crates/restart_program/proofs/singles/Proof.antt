@@ -2,7 +2,6 @@
 use Prim.Native.Nat.{_-_}
 use native.Mathlib.Omega.{arith}
 use borrow.Author.Needs.{needs}
-use borrow.Author.Tests.{ltb-true, ltb-false}
 use lib.Dec.{T}
 use lib.Ieee.{nan, binary32, fits}
 use lib.ListN.{length, take}

@@ -1,6 +1,5 @@
 -- `access::rights::may` meets its contract: by the table's test, and the cell. Assumes nothing.
 use mathlib.Core.Path.{sym, _∙_}
-use mathlib.Core.List.{[], _∷_}
 use borrow.Author.Tests.{not-true, not-false}
 use Rattle.access.proofs.Laws.{no-table, by-cells, and-true}
 use borrow.Author.Needs.{needs}

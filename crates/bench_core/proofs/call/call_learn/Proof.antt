@@ -5,7 +5,7 @@ use Rattle.trcf.specs.View.{lent}
 use Rattle.bench_core.specs.Bench.{dimensionOf}
 use lib.ListN.{take, length-take}
 use Prim.Native.Nat.{ℕ}
-use mathlib.Core.Path.{_≡_, refl, sym, ap, _∙_}
+use mathlib.Core.Path.{ap, _∙_}
 use native.Mathlib.Omega.{arith}
 use borrow.Author.Needs.{needs}
 use Rattle.bench_core.proofs.call.call_learn.Statement.{statement}

@@ -1,6 +1,6 @@
 -- `bench_core::call::least` meets its contract. Assumes nothing.
 use native.Mathlib.Omega.{arith}
-use borrow.Author.Tests.{eq-eqb, ne-eqb, lt-ltb, le-ltb}
+use borrow.Author.Tests.{lt-ltb, le-ltb}
 use Rattle.bench_core.proofs.call.least.Statement.{statement}
 use Rattle.bench_core.proofs.call.least.Tie as tie
 

@@ -3,7 +3,7 @@ use Rattle.bench_core.proofs.TurnLaws.{done-refused, done-ok}
 use Rattle.bench_core.proofs.PrintLaws.{ok-bytes}
 use lib.ListN.{length-set}
 use native.Mathlib.Omega.{arith}
-use mathlib.Core.Path.{_≡_, refl, sym, ap, _∙_}
+use mathlib.Core.Path.{_∙_}
 use borrow.Author.Needs.{needs}
 use Rattle.bench_core.proofs.call.print_ok.Statement.{statement}
 use Rattle.bench_core.proofs.call.print_ok.Tie as tie

@@ -1,6 +1,5 @@
 use borrow.Author.Needs.{needs}
 use Rattle.bench_core.specs.Line.{blankLine}
-use borrow.Author.Tests.{eq-eqb, ne-eqb, lt-ltb, le-ltb, le-leb, lt-leb}
 use Rattle.bench_core.proofs.line.blank.Statement.{statement}
 use Rattle.bench_core.proofs.line.blank.Tie as tie
 use Rattle.bench_core.proofs.line.blank.Reads as reads

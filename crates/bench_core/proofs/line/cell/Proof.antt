@@ -1,7 +1,6 @@
 use mathlib.Core.Path.{_∙_}
 use Rattle.bench_core.proofs.LineLaws.{cell-by}
 use Rattle.bench_core.specs.Line.{cellOf}
-use borrow.Author.Tests.{eq-eqb, ne-eqb, lt-ltb, le-ltb, le-leb, lt-leb}
 use borrow.Author.Needs.{needs}
 use Rattle.bench_core.proofs.line.cell.Statement.{statement}
 use Rattle.bench_core.proofs.line.cell.Tie as tie

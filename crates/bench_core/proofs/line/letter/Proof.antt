@@ -1,5 +1,5 @@
 -- `bench_core::line::letter` meets its contract. Assumes nothing.
-use mathlib.Core.Path.{_≡_, sym, ap, _∙_}
+use mathlib.Core.Path.{sym, ap, _∙_}
 use Prim.Native.Nat.{ℕ}
 use Rattle.trcf.specs.Types.{modeOfLetter}
 use Rattle.trcf.specs.Settings.{imputes}

@@ -1,4 +1,4 @@
-use borrow.Author.Tests.{eq-eqb, ne-eqb, lt-ltb, le-ltb, le-leb, lt-leb}
+use borrow.Author.Tests.{eq-eqb, ne-eqb}
 use Rattle.bench_core.proofs.line.long_name.Statement.{statement}
 use Rattle.bench_core.proofs.line.long_name.Tie as tie
 use Rattle.bench_core.proofs.line.long_name.Reads as reads

@@ -1,5 +1,5 @@
 use mathlib.Core.Path.{sym, _∙_}
-use borrow.Author.Tests.{eq-eqb, ne-eqb, lt-ltb, le-ltb, le-leb, lt-leb}
+use borrow.Author.Tests.{le-leb, lt-leb}
 use borrow.Author.Needs.{needs}
 use Rattle.bench_core.proofs.line.method.Statement.{statement}
 use Rattle.bench_core.proofs.line.method.Tie as tie

@@ -1,4 +1,3 @@
-use borrow.Author.Tests.{eq-eqb, ne-eqb, lt-ltb, le-ltb, le-leb, lt-leb}
 use borrow.Author.Needs.{needs}
 use Rattle.bench_core.proofs.line.place_of.Statement.{statement}
 use Rattle.bench_core.proofs.line.place_of.Tie as tie

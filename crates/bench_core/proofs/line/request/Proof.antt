@@ -1,5 +1,5 @@
 use Rattle.bench_core.specs.Line.{requestOf}
-use borrow.Author.Tests.{eq-eqb, ne-eqb, lt-ltb, le-ltb, le-leb, lt-leb}
+use borrow.Author.Tests.{eq-eqb, ne-eqb}
 use borrow.Author.Needs.{needs}
 use Rattle.bench_core.proofs.line.request.Statement.{statement}
 use Rattle.bench_core.proofs.line.request.Tie as tie

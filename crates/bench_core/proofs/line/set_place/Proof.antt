@@ -1,4 +1,4 @@
-use borrow.Author.Tests.{eq-eqb, ne-eqb, lt-ltb, le-ltb, le-leb, lt-leb}
+use borrow.Author.Tests.{eq-eqb, ne-eqb, lt-ltb, le-ltb}
 use Rattle.bench_core.proofs.line.set_place.Statement.{statement}
 use Rattle.bench_core.proofs.line.set_place.Tie as tie
 use Rattle.bench_core.proofs.line.set_place.Reads as reads

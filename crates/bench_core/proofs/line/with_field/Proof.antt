@@ -1,6 +1,5 @@
 use mathlib.Core.Path.{sym, _∙_}
 use Rattle.bench_core.specs.Line.{fieldOf}
-use borrow.Author.Tests.{eq-eqb, ne-eqb, lt-ltb, le-ltb, le-leb, lt-leb}
 use borrow.Author.Needs.{needs}
 use Rattle.bench_core.proofs.line.with_field.Statement.{statement}
 use Rattle.bench_core.proofs.line.with_field.Tie as tie

@@ -1,4 +1,4 @@
-use borrow.Author.Tests.{eq-eqb, ne-eqb, lt-ltb, le-ltb, le-leb, lt-leb}
+use borrow.Author.Tests.{le-leb, lt-leb}
 use borrow.Author.Needs.{needs}
 use Rattle.bench_core.proofs.line.with_single.Statement.{statement}
 use Rattle.bench_core.proofs.line.with_single.Tie as tie

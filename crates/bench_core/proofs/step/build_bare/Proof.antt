@@ -1,11 +1,10 @@
 -- `bench_core::step::build_bare` meets its contract. Assumes nothing.
 use Prim.Native.Nat.{ℕ, _≤_}
-use mathlib.Core.Path.{_≡_, refl, sym, ap, _∙_}
-use mathlib.Core.List.{List}
+use mathlib.Core.Path.{_≡_, sym, ap, _∙_}
 use native.Mathlib.Omega.{arith}
-use lib.ListN.{length, take, replicate}
+use lib.ListN.{take, replicate}
 use lib.Seq.{length-take-le}
-use Rattle.trcf.specs.View.{lent, outcome}
+use Rattle.trcf.specs.View.{lent}
 use Rattle.bench_core.specs.Bench.{codeCount}
 use Rattle.bench_core.proofs.StepLaws.{take-zeros, bare-refused, bare-built}
 use borrow.Author.Needs.{needs}

@@ -4,7 +4,7 @@ use Rattle.bench_core.specs.Bench.{cellLength}
 use lib.ListN.{length, drop}
 use native.Mathlib.Numerals.{add-one}
 use Prim.Native.Nat.{_+_, _-_, _≤_}
-use mathlib.Core.Path.{_≡_, refl, sym, ap, _∙_}
+use mathlib.Core.Path.{_≡_}
 use native.Mathlib.Omega.{arith}
 use Rattle.bench_core.proofs.step.cell_end.Statement.{statement}
 use Rattle.bench_core.proofs.step.cell_end.Tie as tie

@@ -1,6 +1,6 @@
 -- `bench_core::step::code_count` meets its contract. Assumes nothing.
 use native.Mathlib.Omega.{arith}
-use borrow.Author.Tests.{eq-eqb, ne-eqb, lt-ltb, le-ltb}
+use borrow.Author.Tests.{lt-ltb, le-ltb}
 use Rattle.bench_core.proofs.step.code_count.Statement.{statement}
 use Rattle.bench_core.proofs.step.code_count.Tie as tie
 

@@ -1,6 +1,6 @@
 -- `bench_core::step::finished_by` meets its contract. Assumes nothing.
 use Rattle.bench_core.proofs.StepLaws.{finish-by, ends-begun, ends-well, ends-there}
-use mathlib.Core.Path.{_≡_, refl, sym, ap, _∙_}
+use mathlib.Core.Path.{sym, _∙_}
 use borrow.Author.Needs.{needs}
 use Rattle.bench_core.proofs.step.finished_by.Statement.{statement}
 use Rattle.bench_core.proofs.step.finished_by.Tie as tie

@@ -1,7 +1,4 @@
 -- `bench_core::step::head_row` meets its contract. Assumes nothing.
-use Rattle.trcf.specs.Settings.{settingsRow}
-use Rattle.trcf.specs.View.{settingsFrom}
-use Rattle.bench_core.specs.Bench.{limitRow}
 use Rattle.bench_core.proofs.StepLaws.{else-not, else-then}
 use borrow.Author.Needs.{needs}
 use Rattle.bench_core.proofs.step.head_row.Statement.{statement}

@@ -1,5 +1,5 @@
 -- `bench_core::step::limit_row` meets its contract. Assumes nothing.
-use borrow.Author.Tests.{eq-eqb, ne-eqb, lt-ltb, le-ltb}
+use borrow.Author.Tests.{lt-ltb, le-ltb}
 use Rattle.bench_core.proofs.step.limit_row.Statement.{statement}
 use Rattle.bench_core.proofs.step.limit_row.Tie as tie
 

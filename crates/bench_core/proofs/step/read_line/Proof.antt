@@ -1,7 +1,7 @@
 -- `bench_core::step::read_line` meets its contract. Assumes nothing.
 use Rattle.bench_core.proofs.StepLaws.{line-by}
 use Rattle.trcf.specs.View.{lent}
-use mathlib.Core.Path.{_≡_, refl, sym, ap, _∙_}
+use mathlib.Core.Path.{_∙_}
 use borrow.Author.Needs.{needs}
 use Rattle.bench_core.proofs.step.read_line.Statement.{statement}
 use Rattle.bench_core.proofs.step.read_line.Tie as tie

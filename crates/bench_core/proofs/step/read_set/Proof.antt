@@ -1,6 +1,6 @@
 -- `bench_core::step::read_set` meets its contract. Assumes nothing.
 use Rattle.bench_core.proofs.StepLaws.{set-read, set-by, refused-heard}
-use mathlib.Core.Path.{_≡_, refl, sym, ap, _∙_}
+use mathlib.Core.Path.{_∙_}
 use borrow.Author.Needs.{needs}
 use Rattle.bench_core.proofs.step.read_set.Statement.{statement}
 use Rattle.bench_core.proofs.step.read_set.Tie as tie

@@ -4,8 +4,7 @@ use lib.ListN.{length}
 -- `bench_core::step::read_weights` meets its contract. Assumes nothing.
 use Rattle.bench_core.proofs.StepLaws.{kept-of, weights-refused, weights-built}
 use Rattle.trcf.specs.View.{lent}
-use lib.ListN.{length-take}
-use mathlib.Core.Path.{_≡_, refl, sym, ap, _∙_}
+use mathlib.Core.Path.{_≡_, sym}
 use native.Mathlib.Omega.{arith}
 use borrow.Author.Needs.{needs}
 use Rattle.bench_core.proofs.step.read_weights.Statement.{statement}

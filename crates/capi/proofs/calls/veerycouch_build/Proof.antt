@@ -1,5 +1,5 @@
 -- `capi::calls::veerycouch_build` meets its contract: by the promises of the words and of the call. Assumes nothing.
-use mathlib.Core.Path.{_≡_, refl, sym, ap, _∙_}
+use mathlib.Core.Path.{ap, _∙_}
 use mathlib.Core.Bool.{Bool, cond}
 use lib.ListN.{length}
 use borrow.Author.Tests.{lt-ltb}

@@ -1,6 +1,6 @@
 -- `capi::codes::codes_of` meets its contract: the invariant is that the first i codes stand over zeros. Assumes nothing.
 use Prim.Native.Nat.{ℕ, _≤_, _<_, _-_}
-use mathlib.Core.Path.{_≡_, refl, sym, ap, _∙_}
+use mathlib.Core.Path.{_≡_, refl, ap, _∙_}
 use native.Mathlib.Omega.{arith}
 use lib.ListN.{length, take, replicate, length-set}
 use lib.Seq.{take-length}

@@ -1,10 +1,10 @@
 -- `capi::codes::codes_row` meets its contract: the invariant is that the rest decides. Assumes nothing.
-use Prim.Native.Nat.{ℕ, suc, _+_, _-_, _≤_, _<_}
+use Prim.Native.Nat.{ℕ, _-_, _≤_}
 use native.Mathlib.Omega.{arith}
 use native.Mathlib.Numerals.{add-one}
 use mathlib.Core.Path.{_≡_, refl, sym, ap, _∙_}
 use mathlib.Core.Bool.{Bool, cond}
-use lib.ListN.{length, drop, getD, drop-of-length-le}
+use lib.ListN.{length, drop, drop-of-length-le}
 use Rattle.snapshot.specs.Read.{allCodes}
 use Rattle.snapshot.proofs.ValueLaws.{codes-on, codes-not}
 use borrow.Author.Needs.{needs}

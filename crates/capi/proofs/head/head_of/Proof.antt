@@ -1,7 +1,6 @@
 -- `capi::head::head_of` meets its contract: word by word. Assumes nothing.
-use Prim.Native.Nat.{_≤_}
 use native.Mathlib.Omega.{arith}
-use lib.ListN.{length, drop, length-drop}
+use lib.ListN.{drop, length-drop}
 use lib.Seq.{length-take-le}
 use Rattle.capi.proofs.HeadLaws.{head-made}
 use borrow.Author.Needs.{needs}

@@ -1,7 +1,6 @@
 -- `capi::head::read_head` meets its contract: each row by its law. Assumes nothing.
-use mathlib.Core.Path.{_≡_, refl, sym, ap, _∙_}
 use native.Mathlib.Omega.{arith}
-use Rattle.capi.specs.Head.{codesIn, Read}
+use Rattle.capi.specs.Head.{codesIn}
 use Rattle.capi.proofs.HeadLaws.{row-few, row-kind, row-codes, row-outside, all-codes}
 use borrow.Author.Needs.{needs}
 use Rattle.capi.proofs.head.read_head.Statement.{statement}

@@ -1,5 +1,4 @@
 -- `capi::head::write_counts` meets its contract: four words. Assumes nothing.
-use mathlib.Core.Path.{_≡_, refl, sym, ap, _∙_}
 use native.Mathlib.Omega.{arith}
 use lib.ListN.{length-set}
 use Rattle.capi.specs.Head.{countsOver}

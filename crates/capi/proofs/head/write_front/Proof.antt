@@ -1,8 +1,7 @@
 -- `capi::head::write_front` meets its contract: the numbers, and the weights behind them. Assumes nothing.
 use Rattle.trcf.proofs.RefusalLaws.{sixteen}
-use mathlib.Core.Path.{_≡_, refl, sym, ap, _∙_}
+use mathlib.Core.Path.{_≡_, sym, ap, _∙_}
 use native.Mathlib.Omega.{arith}
-use Prim.Native.Nat.{_≤_}
 use lib.ListN.{length, drop, length-drop, length-map}
 use lib.Seq.{length-take-le}
 use lib.Ieee.{binary32, toBits}

@@ -1,8 +1,7 @@
 -- `capi::head::write_head` meets its contract: the front, and the codes behind it. Assumes nothing.
 use Rattle.trcf.proofs.RefusalLaws.{sixteen}
-use mathlib.Core.Path.{_≡_, refl, sym, ap, _∙_}
+use mathlib.Core.Path.{_≡_, sym, ap, _∙_}
 use native.Mathlib.Omega.{arith}
-use Prim.Native.Nat.{_≤_}
 use lib.ListN.{length, drop, length-drop}
 use lib.Seq.{length-take-le}
 use borrow.Rule.Slice.PartMut.{same-len-mid}

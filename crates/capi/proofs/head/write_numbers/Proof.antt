@@ -1,8 +1,7 @@
 -- `capi::head::write_numbers` meets its contract: twelve words. Assumes nothing.
-use mathlib.Core.Path.{_≡_, refl, sym, ap, _∙_}
+use mathlib.Core.Path.{refl}
 use native.Mathlib.Omega.{arith}
-use Prim.Native.Nat.{_≤_}
-use lib.ListN.{length, length-set}
+use lib.ListN.{length-set}
 use Rattle.capi.proofs.HeadLaws.{numbers-stored}
 use borrow.Author.Needs.{needs}
 use Rattle.capi.proofs.head.write_numbers.Statement.{statement}

@@ -1,6 +1,4 @@
 -- `capi::restore::tell_line` meets its contract. Assumes nothing.
-use mathlib.Core.Path.{_≡_, refl}
-use mathlib.Core.Bool.{cond}
 use borrow.Author.Tests.{eq-eqb, ne-eqb}
 use Rattle.capi.proofs.restore.tell_line.Statement.{statement}
 use Rattle.capi.proofs.restore.tell_line.Tie as tie

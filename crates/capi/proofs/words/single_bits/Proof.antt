@@ -3,7 +3,6 @@ use lib.Ieee.Bits.{toBits-lt}
 use lib.Dec.{T}
 use mathlib.Core.Path.{sym, subst}
 use native.Mathlib.Omega.{arith}
-use Prim.Native.Nat.{_<_}
 use Rattle.snapshot.proofs.WriteLaws.{a-number, nan-bits}
 use lib.Ieee.{binary32, toBits}
 use borrow.Author.Needs.{needs}

@@ -4,9 +4,7 @@ use Rattle.trcf.proofs.LengthLaws.{held-known}
 use Rattle.trcf.proofs.BoundLaws.{five, five-more, all-statistics, all-inputs}
 use native.Mathlib.Omega.{arith}
 use mathlib.Core.Path.{_≡_, refl, sym, ap, _∙_}
-use native.Mathlib.Nat.{mul-le-mul}
-use lib.ListN.{length, length-take}
-use lib.Seq.{length-take-le}
+use lib.ListN.{length-take}
 use Rattle.trcf.specs.Settings.{dimension}
 use Rattle.trcf.specs.View.{settingsFrom, lent, lentRow, headFrom}
 use Rattle.trcf.specs.declared.head.Preprocessor.{Preprocessor}

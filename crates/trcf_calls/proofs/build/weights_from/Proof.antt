@@ -1,6 +1,6 @@
 -- `trcf_calls::build::weights_from` meets its contract: by its callees' promises and the laws of outcomes. Assumes nothing.
 use Rattle.trcf.proofs.LengthLaws.{roomy}
-use mathlib.Core.Path.{_≡_, refl, sym, ap, _∙_}
+use mathlib.Core.Path.{_∙_}
 use Rattle.trcf.proofs.ShingleLaws.{paste-over}
 use borrow.Author.Needs.{needs}
 use Rattle.trcf_calls.proofs.build.weights_from.Statement.{statement}

@@ -5,10 +5,7 @@ use Rattle.trcf.proofs.OutcomeLaws.{write-stays, write-goes, shift-row}
 use Rattle.trcf.specs.Preprocessor.{reply, shiftOf}
 use Rattle.trcf.specs.View.{view, lent}
 use Rattle.trcf.specs.Calls.{shift}
-use native.Mathlib.Omega.{arith}
-use mathlib.Core.Path.{_≡_, refl, sym, ap, _∙_}
-use native.Mathlib.Nat.{mul-le-mul}
-use lib.ListN.{length, length-take}
+use mathlib.Core.Path.{refl, sym, _∙_}
 use lib.Seq.{length-take-le}
 use Rattle.trcf_calls.proofs.queries.shift.Statement.{statement}
 use Rattle.trcf_calls.proofs.queries.shift.Tie as tie

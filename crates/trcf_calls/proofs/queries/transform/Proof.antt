@@ -8,10 +8,8 @@ use Rattle.trcf.specs.Lists.{lastN}
 use Rattle.trcf.specs.Preprocessor.{reply, facts, timeBase, preceding, reading, transformedAfter, statisticsLength}
 use Rattle.trcf.specs.View.{view, lent, settingsOf, timeBaseOf}
 use Rattle.trcf.specs.Calls.{transform, newest}
-use native.Mathlib.Omega.{arith}
-use mathlib.Core.Path.{_≡_, refl, sym, ap, _∙_}
-use native.Mathlib.Nat.{mul-le-mul}
-use lib.ListN.{length, length-take, take}
+use mathlib.Core.Path.{refl, sym, ap, _∙_}
+use lib.ListN.{take}
 use lib.Seq.{length-take-le}
 use borrow.Author.Needs.{needs}
 use Rattle.trcf_calls.proofs.queries.transform.Statement.{statement}

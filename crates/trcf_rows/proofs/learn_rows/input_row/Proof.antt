@@ -1,7 +1,6 @@
 -- `trcf_rows::learn_rows::input_row` meets its contract: each return by the tests on the way to it. Assumes nothing.
 use native.Mathlib.Omega.{arith}
-use borrow.Author.Tests.{not-true, not-false, lt-ltb, le-ltb, eq-eqb, ne-eqb, le-leb, lt-leb}
-use mathlib.Core.Path.{_≡_, refl, sym, ap, _∙_}
+use borrow.Author.Tests.{eq-eqb, ne-eqb}
 use Rattle.trcf.specs.View.{inputRow}
 use Rattle.trcf_rows.proofs.learn_rows.input_row.Statement.{statement}
 use Rattle.trcf_rows.proofs.learn_rows.input_row.Tie as tie

@@ -1,6 +1,5 @@
 -- `trcf_rows::learn_rows::is_anomaly_short` meets its contract: each return by the tests on the way to it. Assumes nothing.
-use borrow.Author.Tests.{not-true, not-false, lt-ltb, le-ltb, eq-eqb, ne-eqb, le-leb, lt-leb}
-use borrow.Author.Needs.{needs}
+use borrow.Author.Tests.{not-true, not-false, lt-ltb, le-ltb}
 use Rattle.trcf_rows.proofs.learn_rows.is_anomaly_short.Statement.{statement}
 use Rattle.trcf_rows.proofs.learn_rows.is_anomaly_short.Tie as tie
 

@@ -1,6 +1,6 @@
 -- `trcf_rows::learn_rows::is_full` meets its contract: each return by the tests on the way to it. Assumes nothing.
-use borrow.Author.Tests.{not-true, not-false, lt-ltb, le-ltb, eq-eqb, ne-eqb, le-leb, lt-leb}
-use mathlib.Core.Path.{_≡_, refl, sym, ap, _∙_}
+use borrow.Author.Tests.{le-leb, lt-leb}
+use mathlib.Core.Path.{sym, _∙_}
 use Rattle.trcf_rows.proofs.learn_rows.is_full.Statement.{statement}
 use Rattle.trcf_rows.proofs.learn_rows.is_full.Tie as tie
 

@@ -1,5 +1,4 @@
 -- `trcf_rows::learn_rows::is_wrong` meets its contract: each return by the tests on the way to it. Assumes nothing.
-use borrow.Author.Needs.{needs}
 use Rattle.trcf_rows.proofs.learn_rows.is_wrong.Statement.{statement}
 use Rattle.trcf_rows.proofs.learn_rows.is_wrong.Tie as tie
 

@@ -1,7 +1,7 @@
 -- `trcf_rows::learn_rows::learn_row` meets its contract: each return by the tests on the way to it. Assumes nothing.
 use Rattle.trcf.proofs.LengthLaws.{block-known, dimension-known}
-use borrow.Author.Tests.{not-true, not-false, lt-ltb, le-ltb, eq-eqb, ne-eqb, le-leb, lt-leb}
-use mathlib.Core.Path.{_≡_, refl, sym, ap, _∙_}
+use borrow.Author.Tests.{not-true, not-false, lt-ltb, le-ltb}
+use mathlib.Core.Path.{sym, _∙_}
 use Rattle.trcf.specs.Settings.{block}
 use Rattle.trcf.specs.View.{learnRow}
 use borrow.Author.Needs.{needs}

@@ -1,5 +1,5 @@
 -- `trcf_rows::learn_rows::learning_row` meets its contract: each return by the tests on the way to it. Assumes nothing.
-use mathlib.Core.Path.{_≡_, refl, sym, ap, _∙_}
+use mathlib.Core.Path.{sym, _∙_}
 use Rattle.trcf.specs.View.{learningRow}
 use borrow.Author.Needs.{needs}
 use Rattle.trcf_rows.proofs.learn_rows.learning_row.Statement.{statement}

@@ -1,11 +1,10 @@
 -- `trcf_rows::learn_rows::post_process_row` meets its contract: each return by the tests on the way to it. Assumes nothing.
 use mir.Syntax.{w32}
 use mir.ValLaws.{toZ-ofZ}
-use Prim.Native.Nat.{ℕ, suc, _+_, _-_, _*_, _≤_, _<_}
+use Prim.Native.Nat.{ℕ}
 use lib.ListN.{length}
 use Rattle.trcf.specs.View.{rowOf, lent, learningRow, backOf}
-use native.Mathlib.Omega.{arith}
-use mathlib.Core.Path.{_≡_, refl, sym, ap, _∙_}
+use mathlib.Core.Path.{_≡_, sym, ap, _∙_}
 use Rattle.trcf.specs.View.{rowOf, lent}
 use Rattle.trcf.proofs.RefusalLaws.{orElse-not}
 use Rattle.trcf.proofs.LearnLaws.{post-rows, or-twice}

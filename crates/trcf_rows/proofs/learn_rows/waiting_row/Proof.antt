@@ -1,7 +1,7 @@
 -- `trcf_rows::learn_rows::waiting_row` meets its contract: each return by the tests on the way to it. Assumes nothing.
 use Rattle.trcf.proofs.LengthLaws.{block-known}
 use native.Mathlib.Omega.{arith}
-use borrow.Author.Tests.{not-true, not-false, lt-ltb, le-ltb, eq-eqb, ne-eqb, le-leb, lt-leb}
+use borrow.Author.Tests.{lt-ltb, le-ltb, eq-eqb, ne-eqb, le-leb, lt-leb}
 use Prim.Native.Nat.{suc}
 use Rattle.trcf.specs.Settings.{block}
 use Rattle.trcf.specs.View.{waitingRow}

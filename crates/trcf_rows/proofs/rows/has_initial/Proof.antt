@@ -1,6 +1,5 @@
 -- `trcf_rows::rows::has_initial` meets its contract: each return by the tests on the way to it. Assumes nothing.
 use Rattle.trcf.proofs.RefusalLaws.{any-initial}
-use borrow.Author.Needs.{needs}
 use Rattle.trcf_rows.proofs.rows.has_initial.Statement.{statement}
 use Rattle.trcf_rows.proofs.rows.has_initial.Tie as tie
 

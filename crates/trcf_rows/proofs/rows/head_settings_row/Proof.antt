@@ -1,8 +1,7 @@
 -- `trcf_rows::rows::head_settings_row` meets its contract: its settings, with the weights and codes in use. Assumes nothing.
 use Rattle.trcf.proofs.RefusalLaws.{sixteen, settings-by}
-use mathlib.Core.Path.{_≡_, refl, sym, ap, _∙_}
+use mathlib.Core.Path.{_≡_, sym, _∙_}
 use native.Mathlib.Omega.{arith}
-use Prim.Native.Nat.{_≤_}
 use lib.ListN.{length, take}
 use lib.Seq.{length-take-le}
 use borrow.Author.Needs.{needs}

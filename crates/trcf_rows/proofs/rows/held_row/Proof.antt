@@ -1,5 +1,5 @@
 -- `trcf_rows::rows::held_row` meets its contract: each return by the tests on the way to it. Assumes nothing.
-use mathlib.Core.Path.{_≡_, refl, sym, ap, _∙_}
+use mathlib.Core.Path.{sym, _∙_}
 use Rattle.trcf.proofs.RefusalLaws.{orElse-not}
 use Rattle.trcf_rows.proofs.rows.held_row.Statement.{statement}
 use Rattle.trcf_rows.proofs.rows.held_row.Tie as tie

@@ -1,6 +1,5 @@
 -- `trcf_rows::rows::is_behind` meets its contract: each return by the tests on the way to it. Assumes nothing.
-use mathlib.Core.Path.{_≡_, refl, sym, ap, _∙_}
-use lib.Dec.{ltb}
+use mathlib.Core.Path.{sym, _∙_}
 use Rattle.trcf_rows.proofs.rows.is_behind.Statement.{statement}
 use Rattle.trcf_rows.proofs.rows.is_behind.Tie as tie
 

@@ -1,5 +1,5 @@
 -- `trcf_rows::rows::is_due` meets its contract: each return by the tests on the way to it. Assumes nothing.
-use borrow.Author.Tests.{not-true, not-false, lt-ltb, le-ltb, eq-eqb, ne-eqb, le-leb, lt-leb}
+use borrow.Author.Tests.{eq-eqb, ne-eqb}
 use Rattle.trcf_rows.proofs.rows.is_due.Statement.{statement}
 use Rattle.trcf_rows.proofs.rows.is_due.Tie as tie
 

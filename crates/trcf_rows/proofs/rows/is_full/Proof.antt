@@ -1,6 +1,6 @@
 -- `trcf_rows::rows::is_full` meets its contract: each return by the tests on the way to it. Assumes nothing.
 use native.Mathlib.Omega.{arith}
-use borrow.Author.Tests.{not-true, not-false, lt-ltb, le-ltb, eq-eqb, ne-eqb, le-leb, lt-leb}
+use borrow.Author.Tests.{lt-ltb, le-ltb}
 use Prim.Native.Nat.{_+_}
 use Rattle.common.specs.Deviation.{countLimit}
 use Rattle.trcf.specs.Calls.{seenLimit}

@@ -1,5 +1,5 @@
 -- `trcf_rows::rows::is_overdue` meets its contract: each return by the tests on the way to it. Assumes nothing.
-use mathlib.Core.Path.{_≡_, refl, sym, ap, _∙_}
+use mathlib.Core.Path.{sym, _∙_}
 use borrow.Author.Needs.{needs}
 use Rattle.trcf_rows.proofs.rows.is_overdue.Statement.{statement}
 use Rattle.trcf_rows.proofs.rows.is_overdue.Tie as tie

@@ -1,5 +1,5 @@
 -- `trcf_rows::rows::is_spent` meets its contract: each return by the tests on the way to it. Assumes nothing.
-use borrow.Author.Tests.{not-true, not-false, lt-ltb, le-ltb, eq-eqb, ne-eqb, le-leb, lt-leb}
+use borrow.Author.Tests.{eq-eqb, ne-eqb}
 use mathlib.Core.Bool.{Bool·not-not}
 use Rattle.trcf_rows.proofs.rows.is_spent.Statement.{statement}
 use Rattle.trcf_rows.proofs.rows.is_spent.Tie as tie

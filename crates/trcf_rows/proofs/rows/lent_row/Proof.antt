@@ -1,5 +1,5 @@
 -- `trcf_rows::rows::lent_row` meets its contract: each return by the tests on the way to it. Assumes nothing.
-use mathlib.Core.Path.{_≡_, refl, sym, ap, _∙_}
+use mathlib.Core.Path.{sym, _∙_}
 use native.Mathlib.Omega.{arith}
 use Rattle.trcf.specs.View.{lentRow}
 use Rattle.trcf.proofs.RefusalLaws.{misfit-few, misfit-room, misfit-counted}

@@ -1,14 +1,8 @@
 -- `trcf_rows::rows::past_row` meets its contract: each return by the tests on the way to it. Assumes nothing.
 use Rattle.trcf.proofs.LengthLaws.{dimension-known}
-use native.Mathlib.Omega.{arith}
-use borrow.Author.Tests.{not-true, not-false, lt-ltb, le-ltb, eq-eqb, ne-eqb, le-leb, lt-leb}
-use mathlib.Core.Path.{_≡_, refl, sym, ap, _∙_}
-use Prim.Native.Nat.{ℕ, _+_, _-_, _*_, _≤_, _<_}
-use Rattle.trcf.specs.Settings.{block}
-use Rattle.trcf.specs.Calls.{rows, table, due, drainFull}
-use Rattle.trcf.specs.Preprocessor.{facts}
-use Rattle.trcf.specs.View.{rowOf, view, pastRow}
-use Rattle.trcf.proofs.RefusalLaws.{orElse-not}
+use borrow.Author.Tests.{lt-ltb, le-ltb}
+use mathlib.Core.Path.{sym, _∙_}
+use Rattle.trcf.specs.View.{pastRow}
 use borrow.Author.Needs.{needs}
 use Rattle.trcf_rows.proofs.rows.past_row.Statement.{statement}
 use Rattle.trcf_rows.proofs.rows.past_row.Tie as tie

@@ -1,7 +1,7 @@
 -- `trcf_rows::rows::settings_row` meets its contract: each return by the tests on the way to it. Assumes nothing.
-use mathlib.Core.Path.{_≡_, refl, sym, ap, _∙_}
+use mathlib.Core.Path.{sym, _∙_}
 use native.Mathlib.Omega.{arith}
-use borrow.Author.Tests.{not-true, not-false, lt-ltb, le-ltb, eq-eqb, ne-eqb, le-leb, lt-leb}
+use borrow.Author.Tests.{lt-ltb, le-ltb, eq-eqb, ne-eqb, le-leb, lt-leb}
 use Rattle.trcf.specs.Settings.{settingsRow}
 use Rattle.trcf_rows.proofs.rows.settings_row.Statement.{statement}
 use Rattle.trcf_rows.proofs.rows.settings_row.Tie as tie

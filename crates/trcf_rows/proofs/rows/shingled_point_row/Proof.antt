@@ -1,12 +1,11 @@
 -- `trcf_rows::rows::shingled_point_row` meets its contract: each return by the tests on the way to it. Assumes nothing.
 use native.Mathlib.Omega.{arith}
-use borrow.Author.Tests.{not-true, not-false, lt-ltb, le-ltb, eq-eqb, ne-eqb, le-leb, lt-leb}
-use mathlib.Core.Path.{_≡_, refl, sym, ap, _∙_}
-use Prim.Native.Nat.{ℕ, _+_, _-_, _*_, _≤_, _<_}
-use Rattle.trcf.specs.Settings.{block}
+use borrow.Author.Tests.{eq-eqb, ne-eqb}
+use mathlib.Core.Path.{_≡_, refl, sym, _∙_}
+use Prim.Native.Nat.{ℕ}
 use Rattle.trcf.specs.Calls.{rows, table, due, drainFull, behind, newest}
 use Rattle.trcf.specs.Preprocessor.{facts}
-use Rattle.trcf.specs.View.{rowOf, view, pastRow, orElse}
+use Rattle.trcf.specs.View.{rowOf, view, pastRow}
 use mathlib.Core.Bool.{Bool, true, false, cond, not}
 use mathlib.Core.Logic.{_⊎_, inl, inr, ⊎-elim}
 use Rattle.trcf.proofs.RefusalLaws.{orElse-not}

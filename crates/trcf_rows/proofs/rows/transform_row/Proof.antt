@@ -1,9 +1,8 @@
 -- `trcf_rows::rows::transform_row` meets its contract: each return by the tests on the way to it. Assumes nothing.
 use Rattle.trcf.proofs.LengthLaws.{block-known}
 use native.Mathlib.Omega.{arith}
-use borrow.Author.Tests.{not-true, not-false, lt-ltb, le-ltb, eq-eqb, ne-eqb, le-leb, lt-leb}
-use mathlib.Core.Path.{_≡_, refl, sym, ap, _∙_}
-use Prim.Native.Nat.{ℕ, _+_, _-_, _*_, _≤_, _<_}
+use borrow.Author.Tests.{lt-ltb, le-ltb, eq-eqb, ne-eqb}
+use mathlib.Core.Path.{sym, _∙_}
 use Rattle.trcf.specs.Settings.{block}
 use Rattle.trcf.specs.Calls.{rows, table, behind, newest}
 use Rattle.trcf.specs.Preprocessor.{facts}

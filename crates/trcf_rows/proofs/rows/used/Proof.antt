@@ -1,5 +1,5 @@
 -- `trcf_rows::rows::used` meets its contract: each return by the tests on the way to it. Assumes nothing.
-use mathlib.Core.Path.{_≡_, refl, sym, ap, _∙_}
+use mathlib.Core.Path.{refl}
 use native.Mathlib.Omega.{arith}
 use Rattle.trcf.proofs.RefusalLaws.{used-all}
 use Rattle.trcf_rows.proofs.rows.used.Statement.{statement}

@@ -1,13 +1,11 @@
 -- `trcf_rows::rows::write_row` meets its contract: each return by the tests on the way to it. Assumes nothing.
 use Rattle.trcf.proofs.LengthLaws.{block-known}
 use native.Mathlib.Omega.{arith}
-use borrow.Author.Tests.{not-true, not-false, lt-ltb, le-ltb, eq-eqb, ne-eqb, le-leb, lt-leb}
-use mathlib.Core.Path.{_≡_, refl, sym, ap, _∙_}
-use Prim.Native.Nat.{ℕ, _+_, _-_, _*_, _≤_, _<_}
+use borrow.Author.Tests.{lt-ltb, le-ltb}
+use mathlib.Core.Path.{sym, _∙_}
 use Rattle.trcf.specs.Settings.{block}
-use Rattle.trcf.specs.Calls.{rows, table, due, drainFull}
-use Rattle.trcf.specs.Preprocessor.{facts}
-use Rattle.trcf.specs.View.{rowOf, view, pastRow}
+use Rattle.trcf.specs.Calls.{rows, table}
+use Rattle.trcf.specs.View.{rowOf}
 use Rattle.trcf.proofs.RefusalLaws.{orElse-not}
 use Rattle.trcf_rows.proofs.rows.write_row.Statement.{statement}
 use Rattle.trcf_rows.proofs.rows.write_row.Tie as tie
