@@ -1,22 +1,23 @@
 -- Rows over what the program holds, by computation: which row shows where several lent parts are too short, which lists may be empty, and what a refused
--- status and `is_ready` tell; and that a lent part that is too short refuses every call.
+-- status and `is_ready` tell; and that a lent part that is too short, and counters that no preprocessor has, refuse every call.
 use Prim.Native.Nat.{ℕ, zero, suc}
 use native.Mathlib.Omega.{arith}
 use mathlib.Core.Path.{_≡_, refl, sym, ap, _∙_}
-use mathlib.Core.Bool.{Bool, true, false, cond}
+use mathlib.Core.Bool.{Bool, true, false, cond, true≢false}
 use mathlib.Core.List.{List, [], _∷_, map}
 use mathlib.Core.Option.{Option, none, some}
 use lib.IntN.{pos}
-use lib.ListN.{replicate}
+use lib.ListN.{length, replicate}
 use lib.Ieee.{Float, nan, binary32, ofBits, le, lt}
 use Rattle.common.specs.Deviation.{zero64, outsideUnit}
 use Rattle.common.specs.Lent.{over}
 use Rattle.common.specs.Refusal.{firstOf}
 use Rattle.trcf.specs.Transformer.{zero32}
 use Rattle.trcf.specs.Settings.{Settings, settingsRow, allOne, block, dimension, waiting}
-use Rattle.trcf.specs.Calls.{Call, postProcess, drain, scale, status, rows, table, finite, due, drainFull, newest, wrongLength, waitingShort, learnFull, learnShort, outside}
+use Rattle.trcf.specs.Calls.{Call, Forecast, invertExtrapolation, postProcess, drain, scale, status, rows, table, finite, due, drainFull, newest, wrongLength, waitingShort, learnFull, learnShort, outside}
 use Rattle.trcf.specs.Preprocessor.{fresh, facts, accepted}
 use Rattle.trcf.specs.View.{Lent, lent, settingsOf, view, laid, counting, headRow, lentShort, misfit, shortRow, lentRow, orElse, rowOf, ownRow, readyOf, untold, headFrom, noHead, buildRow, buildOf, answerOf, headAfter, lentAfter, statusAfter}
+use Rattle.trcf.specs.Extrapolation.{viewed, unreadRow, extrapolationRow, extrapolationOf}
 use Rattle.trcf.specs.declared.types.TransformMethod.{TransformMethod}
 use Rattle.trcf.specs.declared.types.TransformMethod.the-variants.{NONE, WEIGHTED, DIFFERENCE, «SUBTRACT_MA», NORMALIZE, «NORMALIZE_DIFFERENCE»}
 use Rattle.trcf.specs.declared.types.ForestMode.the-variants.{STANDARD}
@@ -113,21 +114,54 @@ never : (b : Bool) → cond b 20 (firstOf ((true, 20) ∷ [])) ≡ 0 → ⊥
 never true e = omega arith
 never false e = omega arith
 
+twenty : (b : Bool) (n : ℕ) → b ≡ true → cond b 20 n ≡ 0 → ⊥
+twenty true n e z = omega arith
+twenty false n e z = true≢false (sym e)
+
 stays : {A : Type 0} (r : ℕ) (a b : A) → (r ≡ 0 → ⊥) → accepted r a b ≡ b
 stays zero a b n = absurd (n refl)
 stays (suc r) a b n = refl
 
-module _ (h : Preprocessor) (l : Lent) (c : Call) (e : lentShort (settingsOf h) l ≡ true) where
-  pub short-refuses : rowOf h l c ≡ 0 → ⊥
-  unfolding rowOf lentRow shortRow
-  short-refuses z =
+module _ (h : Preprocessor) (l : Lent) (c : Call) where
+  -- a row 0 of a call is a row 0 of its lent parts
+  lent-fits : rowOf h l c ≡ 0 → lentRow h l ≡ 0
+  unfolding rowOf
+  lent-fits z =
       let r : ℕ = rows (settingsOf h) (facts (view h l)) c in
-      let q : lentRow h l ≡ 0 = or-else r (lentRow h l) (or-else (headRow (settingsOf h)) (orElse r (lentRow h l)) z) in
-      never (misfit h) (ap (λ (b : Bool). cond (misfit h) 20 (firstOf ((b, 20) ∷ []))) (sym e) ∙ q)
+      or-else r (lentRow h l) (or-else (headRow (settingsOf h)) (orElse r (lentRow h l)) z)
 
-  pub short-changes-nothing : (headAfter h l c ≡ h) × (lentAfter h l c ≡ l)
+  changes-nothing : (rowOf h l c ≡ 0 → ⊥) → (headAfter h l c ≡ h) × (lentAfter h l c ≡ l)
   unfolding headAfter lentAfter
-  short-changes-nothing = (stays (rowOf h l c) _ h short-refuses, stays (rowOf h l c) _ l short-refuses)
+  changes-nothing n = (stays (rowOf h l c) _ h n, stays (rowOf h l c) _ l n)
+
+  module _ (e : lentShort (settingsOf h) l ≡ true) where
+    pub short-refuses : rowOf h l c ≡ 0 → ⊥
+    unfolding lentRow shortRow
+    short-refuses z = never (misfit h) (ap (λ (b : Bool). cond (misfit h) 20 (firstOf ((b, 20) ∷ []))) (sym e) ∙ lent-fits z)
+
+    pub short-changes-nothing : (headAfter h l c ≡ h) × (lentAfter h l c ≡ l)
+    short-changes-nothing = changes-nothing short-refuses
+
+  module _ (e : misfit h ≡ true) where
+    pub misfit-refuses : rowOf h l c ≡ 0 → ⊥
+    unfolding lentRow
+    misfit-refuses z = twenty (misfit h) (shortRow (settingsOf h) l) e (lent-fits z)
+
+    pub misfit-changes-nothing : (headAfter h l c ≡ h) × (lentAfter h l c ≡ l)
+    misfit-changes-nothing = changes-nothing misfit-refuses
+
+-- turn-back, which is handed three of the lists
+module _ (h : Preprocessor) (st x : List Float) (ts : List ℕ) (c : Forecast) (e : misfit h ≡ true) where
+  misfit-row : extrapolationRow h st x ts c ≡ 0 → ⊥
+  unfolding extrapolationRow unreadRow
+  misfit-row z =
+      let r : ℕ = rows (settingsOf h) (facts (viewed h st x ts)) (invertExtrapolation c) in
+      let n : ℕ = unreadRow h (length st) (length x) (length ts) in
+      twenty (misfit h) _ e (or-else r n (or-else (headRow (settingsOf h)) (orElse r n) z))
+
+  pub misfit-turns-nothing : (extrapolationOf h st x ts c .row ≡ 0 → ⊥) × (extrapolationOf h st x ts c .left ≡ c)
+  unfolding extrapolationOf
+  misfit-turns-nothing = (misfit-row, stays (extrapolationRow h st x ts c) _ c misfit-row)
 
 -- ---- readings that wait need room under methods 4 and 5 alone
 

@@ -24,7 +24,7 @@ use Rattle.trcf.specs.TransformerCalls.{view as viewTransformer}
 use Rattle.trcf.specs.Settings.{Settings, transformer, block, dimension}
 use Rattle.trcf.specs.Calls.{Forecast, invertExtrapolation, rows, table, unturnable, turnShort, lookahead}
 use Rattle.trcf.specs.Preprocessor.{refused, turned, fronts, backs, invertTime, invertTimes, timescale, timedrift, previous, numbersOf, timesOf, turnedBack, reply, accepted, statisticsLength}
-use Rattle.trcf.specs.View.{Lent, view, holding, settingsOf, headRow, initialRoom, lentShort, shortRow, lentRow, rowOf, answerOf, orElse}
+use Rattle.trcf.specs.View.{Lent, view, holding, settingsOf, headRow, misfit, initialRoom, lentShort, shortRow, lentRow, rowOf, answerOf, orElse}
 use Rattle.trcf.specs.Extrapolation.{Extrapolation, extrapolation, forecast, viewed, unread, unreadRow, extrapolationRow, extrapolationOf, extrapolationRead, Sizes, sizesOf, brokenAt, shortAt, rowAt, Longer, timeFactor, timeBy, timesBy}
 use Rattle.trcf.specs.declared.head.Preprocessor.{Preprocessor}
 use Rattle.trcf.proofs.FitLaws.{tabulate-length}
@@ -317,20 +317,25 @@ parts-over old new v u l n p q r e =
 
 -- ---- rows
 
--- the first of three tests that refuses
-second-row : (a b : Bool) (n row : ℕ) → row ≡ cond a 16 0 → (row ≡ 0 → ⊥) → row ≡ orElse (cond a 16 (cond b 20 0)) n
-second-row true b n row e taken = e
-second-row false b n row e taken = absurd (taken e)
+-- The first test that refuses: a broken forecast, counters, an output, a list. The definition has counters behind outputs, and both are 20.
+own-row : (a b m : Bool) (n row : ℕ) → row ≡ orElse (cond a 16 0) (cond m 20 0) → (row ≡ 0 → ⊥) → row ≡ orElse (cond a 16 (cond b 20 0)) (cond m 20 n)
+own-row true b m n row e taken = e
+own-row false true true n row e taken = e
+own-row false false true n row e taken = e
+own-row false true false n row e taken = absurd (taken e)
+own-row false false false n row e taken = absurd (taken e)
 
-third-row : (a b : Bool) (n row : ℕ) → _≡_ {A = ℕ} (cond a 16 0) 0 → row ≡ cond b 20 0 → (row ≡ 0 → ⊥) → row ≡ orElse (cond a 16 (cond b 20 0)) n
-third-row true b n row p e taken = absurd (omega arith)
-third-row false true n row p e taken = e
-third-row false false n row p e taken = absurd (taken e)
+output-row : (a b m : Bool) (n row : ℕ) → orElse (cond a 16 0) (cond m 20 0) ≡ 0 → row ≡ cond b 20 0 → (row ≡ 0 → ⊥) → row ≡ orElse (cond a 16 (cond b 20 0)) (cond m 20 n)
+output-row true b m n row p e taken = absurd (omega arith)
+output-row false b true n row p e taken = absurd (omega arith)
+output-row false true false n row p e taken = e
+output-row false false false n row p e taken = absurd (taken e)
 
-last-row : (a b : Bool) (n row : ℕ) → _≡_ {A = ℕ} (cond a 16 0) 0 → _≡_ {A = ℕ} (cond b 20 0) 0 → row ≡ n → row ≡ orElse (cond a 16 (cond b 20 0)) n
-last-row true b n row p q e = absurd (omega arith)
-last-row false true n row p q e = absurd (omega arith)
-last-row false false n row p q e = e
+last-row : (a b m : Bool) (n row : ℕ) → orElse (cond a 16 0) (cond m 20 0) ≡ 0 → _≡_ {A = ℕ} (cond b 20 0) 0 → row ≡ n → row ≡ orElse (cond a 16 (cond b 20 0)) (cond m 20 n)
+last-row true b m n row p q e = absurd (omega arith)
+last-row false b true n row p q e = absurd (omega arith)
+last-row false true false n row p q e = absurd (omega arith)
+last-row false false false n row p q e = e
 
 module _ (h : Preprocessor) (z : Sizes) (row : ℕ) where
   abbrev s : Settings
@@ -340,27 +345,35 @@ module _ (h : Preprocessor) (z : Sizes) (row : ℕ) where
   broken = brokenAt s (z .values) (z .upper) (z .lower)
 
   abbrev missing : ℕ
-  missing = unreadRow h (z .statistics) (z .inputs) (z .times)
+  missing = firstOf ((unread s (z .statistics) (z .inputs) (z .times), 20) ∷ [])
+
+  -- of the forecast and of the counters
+  abbrev own : ℕ
+  own = orElse (cond broken 16 0) (cond (misfit h) 20 0)
 
   pub row-head : row ≡ headRow s → (row ≡ 0 → ⊥) → row ≡ rowAt h z
   unfolding rowAt
   row-head e taken = by (headRow s) e
     where
-      by : (n : ℕ) → row ≡ n → row ≡ orElse n (orElse (cond broken 16 (cond (shortAt s z) 20 0)) missing)
+      by : (n : ℕ) → row ≡ n → row ≡ orElse n (orElse (cond broken 16 (cond (shortAt s z) 20 0)) (unreadRow h (z .statistics) (z .inputs) (z .times)))
       by zero e = absurd (taken e)
       by (suc n) e = e
 
-  pub row-broken : headRow s ≡ 0 → row ≡ cond broken 16 0 → (row ≡ 0 → ⊥) → row ≡ rowAt h z
-  unfolding rowAt
-  row-broken n e taken = rw n (second-row broken (shortAt s z) missing row e taken)
+  pub row-own : headRow s ≡ 0 → row ≡ own → (row ≡ 0 → ⊥) → row ≡ rowAt h z
+  unfolding rowAt unreadRow
+  row-own n e taken = rw n (own-row broken (shortAt s z) (misfit h) missing row e taken)
 
-  pub row-short : headRow s ≡ 0 → _≡_ {A = ℕ} (cond broken 16 0) 0 → row ≡ cond (shortAt s z) 20 0 → (row ≡ 0 → ⊥) → row ≡ rowAt h z
-  unfolding rowAt
-  row-short n p e taken = rw n (third-row broken (shortAt s z) missing row p e taken)
+  pub row-output : headRow s ≡ 0 → own ≡ 0 → row ≡ cond (shortAt s z) 20 0 → (row ≡ 0 → ⊥) → row ≡ rowAt h z
+  unfolding rowAt unreadRow
+  row-output n p e taken = rw n (output-row broken (shortAt s z) (misfit h) missing row p e taken)
 
-  pub row-unread : headRow s ≡ 0 → _≡_ {A = ℕ} (cond broken 16 0) 0 → _≡_ {A = ℕ} (cond (shortAt s z) 20 0) 0 → row ≡ missing → row ≡ rowAt h z
-  unfolding rowAt
-  row-unread n p q e = rw n (last-row broken (shortAt s z) missing row p q e)
+  pub row-unread : headRow s ≡ 0 → own ≡ 0 → _≡_ {A = ℕ} (cond (shortAt s z) 20 0) 0 → row ≡ missing → row ≡ rowAt h z
+  unfolding rowAt unreadRow
+  row-unread n p q e = rw n (last-row broken (shortAt s z) (misfit h) missing row p q e)
+
+pub orElse-first : (a b : ℕ) → orElse a b ≡ 0 → a ≡ 0
+orElse-first zero b e = refl
+orElse-first (suc a) b e = e
 
 module _ (h : Preprocessor) (st x : List Float) (ts : List ℕ) (c : Forecast) where
   -- the rows look at lengths alone

@@ -28,8 +28,8 @@ ghost use Rattle.trcf.specs.Types.{augments, differences};
 ghost use Rattle.trcf.specs.Transformer.{invertedForecast};
 ghost use Rattle.trcf.specs.Settings.{transformer, dimension};
 ghost use Rattle.trcf.specs.Preprocessor.{statisticsLength, fronts, backs, invertTimes, numbersOf, timesOf, turnedBack};
-ghost use Rattle.trcf.specs.View.{settingsOf, holding, Bounded};
-ghost use Rattle.trcf.specs.Extrapolation.{extrapolation, forecast, viewed, extrapolationOf, sizes, brokenAt, shorterAt, shortAt, unreadRow, rowAt, Unbroken, Longer, Long, Readable, Invertible, timeFactor, stretched, timeBy, timesBy};
+ghost use Rattle.trcf.specs.View.{settingsOf, holding, misfit, orElse, Bounded};
+ghost use Rattle.trcf.specs.Extrapolation.{extrapolation, forecast, viewed, extrapolationOf, sizes, brokenAt, shorterAt, shortAt, unread, rowAt, Unbroken, Longer, Long, Readable, Invertible, timeFactor, stretched, timeBy, timesBy};
 
 // Whether the values make no blocks of d to cascade.
 fn is_unblocked(d: usize, n: usize) -> bool
@@ -132,18 +132,15 @@ fn output_row(
     0
 }
 
-// Row 20 of what the call reads of the preprocessor: its counters, then the lists.
+// Row 20 of what the call reads of the preprocessor.
 fn unread_row(head: Preprocessor, statistics: usize, inputs: usize, times: usize) -> u64
     requires { ⌜ Bounded (settingsOf head) ⌝ }
-    ensures { λ r. ⌜ r ≡ unreadRow head statistics inputs times ⌝ }
+    ensures { λ r. ⌜ r ≡ firstOf ((unread (settingsOf head) statistics inputs times, 20) ∷ []) ⌝ }
     ensures { λ r. ⌜ (r ≡ 0 → Readable (settingsOf head) statistics inputs times) ⌝ }
 {
     let t = head.transformer;
     let d = t.input_length;
     let k = head.shingle_size;
-    if is_misfit(head) {
-        return 20;
-    }
     if statistics < 3 * (5 * d + 5) {
         return 20;
     }
@@ -154,6 +151,23 @@ fn unread_row(head: Preprocessor, statistics: usize, inputs: usize, times: usize
         return 20;
     }
     0
+}
+
+// Row 20 of the head's counters.
+fn counters_row(head: Preprocessor) -> u64
+    ensures { λ r. ⌜ r ≡ firstOf ((misfit head, 20) ∷ []) ⌝ }
+{
+    if is_misfit(head) { 20 } else { 0 }
+}
+
+// The first of two rows that refuses.
+fn first_of(a: u64, b: u64) -> u64
+    ensures { λ r. ⌜ r ≡ orElse a b ⌝ }
+{
+    if a != 0 {
+        return a;
+    }
+    b
 }
 
 fn extrapolation_row(
@@ -179,8 +193,10 @@ fn extrapolation_row(
         return row;
     }
     let broken = broken_row(head, values, upper, lower);
-    if broken != 0 {
-        return broken;
+    let unfit = counters_row(head);
+    let own = first_of(broken, unfit);
+    if own != 0 {
+        return own;
     }
     let short = output_row(
         head,
