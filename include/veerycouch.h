@@ -17,7 +17,7 @@
  *   16  a forecast of unequal lists or broken blocks
  *   18  a counter would pass its limit: readings fed 9007199254740990 (2^53 - 2), values_seen and internal_timestamp 2^63 - 1
  *   19  a number that names no mode, no method, no rule of impute or (in a word of the head) no code; or a text not of the form
- *   20  a lent part is too short
+ *   20  a lent part is too short; or the counters of the head are such as no preprocessor of its settings can have
  *   21  impute: a mark other than 0 or 1, or more than 2000 readings
  *   22  the role lacks a right that the call needs, or is above 3; a table not of 16 cells, or with a cell other than 0 or 1, used or not
  *   24  align: a time below the one before it, or a list of more than 4096 readings
@@ -28,8 +28,8 @@
  * 17 and 23 belong to no call of this library. "THE ROWS by name", at the end, has each as an enum and as a line of text.
  * They are asked in this order, but for these: 22 stands before all others, and nothing of the head, the parts or a text is looked at before it; a head
  * of fewer than VEERYCOUCH_HEAD_WORDS words is refused by 20 before the rest (by build: after rows 1 to 9; by restore: after 19 and 27), a number that
- * names no mode, no method, no rule or no code by 19 before rows 1 to 9, 27 stands between 19 and 20, 21 and 24 stand behind 10, 28 stands behind 12,
- * and 26 stands before 20.
+ * names no mode, no method, no rule or no code by 19 before rows 1 to 9, the counters of a head by 20 behind rows 1 to 9 and before the rest, 27 stands
+ * between 19 and 20, 21 and 24 stand behind 10, 28 stands behind 12, and 26 stands before 20.
  * That a part is too short is asked last. A row before it that reads the part reads what is there: of too few previous_timestamps the last one counts as
  * the newest time, so that 12 or 28 may not hold and 13, 14, 18 or 20 shows; where initial_timestamps has no element nothing is seen to wait, so that a drain
  * gives 15. Whichever row shows, the call is refused and has changed nothing.
