@@ -54,10 +54,6 @@ module _ (s : Settings) (ok : Valid s) where
       ap (λ (x : Settings). headRow x) (k .settled) ∙ none-refuses (headTable s) (c .1 .0, (c .1 .1 .0, (c .1 .1 .1 .0, (c .1 .1 .1 .1 .1 .1 .1 .0, tt))))
 
   module _ (m : Held) (w : State) (k : Holds s m w) (f : Form w) (e : w .settings ≡ s) where
-    seen-is : m .head .«values_seen» ≡ w .valuesSeen
-    unfolding view
-    seen-is = ap (λ (x : State). x .valuesSeen) (k .viewed)
-
     unheld-not : unheld (m .head) (m .lent) ≡ false
     unfolding unheld
     unheld-not =

@@ -231,10 +231,6 @@ module _ (s : Settings) (k>0 : 0 < s .k) where
   unfolding entries
   run-history cs = ap (λ (w : State). run w cs) fresh-history ∙ runs [] begins cs .0
 
-  -- and what it refuses next, the history refuses
-  pub refusal-history : (cs : List Call) (c : Call) → refusal (run (fresh s) cs) c ≡ historyRefusal s (entries s cs) c
-  refusal-history cs c = rw (run-history cs) (same-refusal (entries s cs) c)
-
   -- every answer is the one of the history's rows
   pub answers-from : (es : List Entry) → Inv s es → (cs : List Call) → answers (historyState s es) cs ≡ historyAnswers s es cs
   unfolding answer historyAnswer refusal historyRefusal facts historyFacts historyState
