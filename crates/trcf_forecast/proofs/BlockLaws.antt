@@ -2,18 +2,17 @@
 -- last by what the cascade finds one block before it. Assumes nothing.
 use Prim.Native.Nat.{ℕ, zero, suc, _+_, _*_, _/_, _%_, _≤_, _<_}
 use mathlib.Core.Bool.{Bool, true, false, cond, not, _&&_, _||_}
-use mathlib.Core.Logic.{_⊎_, inl, inr, ⊎-elim}
+use mathlib.Core.Logic.{_⊎_, ⊎-elim}
 use mathlib.Core.Path.{_≡_, refl, sym, ap, _∙_}
 use mathlib.Core.List.{List, [], _∷_, _++_}
 use native.Mathlib.Omega.{arith}
 use native.Mathlib.Nat.{mod-eq-of-lt, div-eq-of-lt, mul-add-mod-self-right, mul-add-div-right, div-add-mod', div-mul-le-self, eq-or-lt-of-le}
 use native.Mathlib.Numerals.{add-one}
-use borrow.Author.Tests.{eqb-true, not-false}
+use borrow.Author.Tests.{eqb-true}
 use lib.Dec.{eqb}
-use lib.IntN.{pos}
 use lib.ListN.{length, getD, set}
 use lib.Seq.{getD-set-same, getD-set-other, set-set, set-comm, getD-append-add}
-use lib.Ieee.{Float, nan, binary32, mul, ofInt}
+use lib.Ieee.{Float, nan, binary32}
 use Rattle.common.specs.RangeVector.{Range, Ranges, range, ranges, rangeAt, putAt, shifted, scaled, cascadeTo, unblocked}
 use Rattle.common.proofs.RangeLaws.{SameLengths, putAt-lengths, rangeAt-other, cascadeTo-lengths, cascadeTo-later}
 use Rattle.trcf.specs.Types.{isNone, normalizes, differences, centres}
@@ -40,6 +39,16 @@ places-ext g h at zero v e = refl
 places-ext g h at (suc n) v e =
     ap (λ (w : Ranges). putAt w (at + n) (g n (rangeAt w (at + n)))) (places-ext g h at n v e)
     ∙ ap (putAt (placesBy h at n v) (at + n)) (e n (rangeAt (placesBy h at n v) (at + n)))
+
+pub held-none : (t : Transformer) (p fs ss ds bs : List Float) → length bs ≡ 16 → Held t p 0 fs ss ds bs
+held-none t p fs ss ds bs e =
+    record {
+      long = e;
+      factor = λ k l. absurd (omega arith);
+      scale = λ k l. absurd (omega arith);
+      drift = λ k l. absurd (omega arith);
+      base = λ k l. absurd (omega arith);
+    }
 
 -- a list of which the first j hold what h says, and one more
 pub held-more : (h : ℕ → Float) (l : List Float) (j : ℕ) (x : Float) → j < length l → x ≡ h j → ((k : ℕ) → k < j → getD l k nan ≡ h k)

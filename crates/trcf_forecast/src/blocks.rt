@@ -193,7 +193,8 @@ fn invert_block(
     requires { ⌜ (d ≤ 16) × (i * d + d ≤ length (now values)) × (length (now bases) ≡ 16) ⌝ }
     requires { ⌜ (length (now upper) ≡ length (now values)) × (length (now lower) ≡ length (now values)) ⌝ }
     ensures { λ _. ⌜ ranges (now (values .exit)) (now (upper .exit)) (now (lower .exit))
-        ≡ placesBy (turnPlace normalizes moves i (now (factors .entry)) (now (scales .entry)) (now (drifts .entry)) (now (bases .entry))) (i * d) d (ranges (now (values .entry)) (now (upper .entry)) (now (lower .entry))) ⌝ }
+        ≡ placesBy (turnPlace normalizes moves i (now (factors .entry)) (now (scales .entry)) (now (drifts .entry)) (now (bases .entry))) (i * d) d
+        (ranges (now (values .entry)) (now (upper .entry)) (now (lower .entry))) ⌝ }
     ensures { λ _. ⌜ Carried carries (i * d) d (now (values .exit)) (now (bases .entry)) (now (bases .exit)) ⌝ }
 {
     let b = block_number(i);
@@ -207,7 +208,15 @@ fn invert_block(
             upper: upper[p],
             lower: lower[p],
         };
-        let q = turn(normalizes, moves, factors[j], scales[j], b * drifts[j], x, r);
+        let q = turn(
+            normalizes,
+            moves,
+            factors[j],
+            scales[j],
+            b * drifts[j],
+            x,
+            r,
+        );
         bases[j] = chosen(carries, q.value, x);
         values[p] = q.value;
         upper[p] = q.upper;
@@ -232,7 +241,8 @@ fn turn_block(
     requires { ⌜ (d ≤ 16) × (i * d + d ≤ length (now values)) × (length (now bases) ≡ 16) ⌝ }
     requires { ⌜ (length (now upper) ≡ length (now values)) × (length (now lower) ≡ length (now values)) ⌝ }
     ensures { λ _. ⌜ ranges (now (values .exit)) (now (upper .exit)) (now (lower .exit))
-        ≡ placesBy (placeOf m i (now (factors .entry)) (now (scales .entry)) (now (drifts .entry)) (now (bases .entry))) (i * d) d (ranges (now (values .entry)) (now (upper .entry)) (now (lower .entry))) ⌝ }
+        ≡ placesBy (placeOf m i (now (factors .entry)) (now (scales .entry)) (now (drifts .entry)) (now (bases .entry))) (i * d) d
+        (ranges (now (values .entry)) (now (upper .entry)) (now (lower .entry))) ⌝ }
     ensures { λ _. ⌜ Carried (differences m) (i * d) d (now (values .exit)) (now (bases .entry)) (now (bases .exit)) ⌝ }
 {
     if is_none(m) {
@@ -281,10 +291,29 @@ pub(crate) fn invert_blocks(
     let mut scales = [0.0f32; 16];
     let mut drifts = [0.0f32; 16];
     let mut bases = [0.0f32; 16];
-    channels_into(t, s, previous, &mut factors, &mut scales, &mut drifts, &mut bases);
+    channels_into(
+        t,
+        s,
+        previous,
+        &mut factors,
+        &mut scales,
+        &mut drifts,
+        &mut bases,
+    );
     let mut i = 0;
     while i < n {
-        turn_block(m, &factors, &scales, &drifts, &mut bases, d, i, values, upper, lower);
+        turn_block(
+            m,
+            &factors,
+            &scales,
+            &drifts,
+            &mut bases,
+            d,
+            i,
+            values,
+            upper,
+            lower,
+        );
         i += 1;
     }
 }

@@ -4,32 +4,22 @@ use Rattle.numeric.specs.Narrow.{narrowed}
 use borrow.Author.Needs.{needs}
 use Rattle.trcf_forecast.proofs.blocks.base_at.Statement.{statement}
 use Rattle.trcf_forecast.proofs.blocks.base_at.Tie as tie
-use Rattle.trcf_forecast.proofs.blocks.base_at.Reads as reads
-use Rattle.trcf_forecast.proofs.blocks.base_at.Lts as lts
-use Rattle.numeric.proofs.to_f32.Reads as to-f32-reads
-use Rattle.trcf_forecast.proofs.blocks.mean_at.Reads as mean-at-reads
 
--- src/blocks.rt:77:9
 mul-result : tie.Need-mul-result
 mul-result c = search needs
 
--- src/blocks.rt:77:9
 shared-slice-read-result : tie.Need-shared-slice-read-result
 shared-slice-read-result c = search needs
 
--- src/blocks.rt:79:25
 mean-at-requires : tie.Need-mean-at-requires
 mean-at-requires c κs = search needs
 
--- src/blocks.rt:79:9
 to-f32-requires : tie.Need-to-f32-requires
 to-f32-requires c κs = search needs
 
--- src/blocks.rt:72:1
 returns : tie.Need-returns
 returns c = rw (c .before .if1 .taken)
 
--- src/blocks.rt:72:1
 returns-2 : tie.Need-returns-2
 returns-2 c = rw (c .before .before .if1 .left) (c .to-f32 .ensures ∙ ap narrowed (c .before .mean-at .ensures))
 

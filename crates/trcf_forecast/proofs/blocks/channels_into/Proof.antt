@@ -6,22 +6,15 @@ use Rattle.common.specs.Deviation.{one64}
 use Rattle.trcf.specs.Types.{differences}
 use Rattle.trcf.specs.Transformer.{reciprocal, weightAt, normalizedScale, basicDrift, basicShift}
 use Rattle.trcf.proofs.TransformerLaws.{weightAt-view}
-use Rattle.trcf_forecast.proofs.BlockLaws.{held-more}
-use Prim.Native.Nat.{ℕ, _+_, _*_, _-_, _≤_, _<_}
-use mathlib.Core.Path.{_≡_, refl, sym, ap, _∙_}
+use Rattle.trcf_forecast.proofs.BlockLaws.{held-none, held-more}
+use Prim.Native.Nat.{_-_, _≤_, _<_}
+use mathlib.Core.Path.{_≡_, sym, ap, _∙_}
 use native.Mathlib.Omega.{arith}
-use lib.ListN.{length, getD, set, length-set}
+use lib.ListN.{length, getD, length-set}
 use Rattle.trcf.specs.TransformerCalls.{view}
 use Rattle.trcf_forecast.specs.Steps.Blocks.{Held}
 use Rattle.trcf_forecast.proofs.blocks.channels_into.Statement.{statement}
 use Rattle.trcf_forecast.proofs.blocks.channels_into.Tie as tie
-use Rattle.trcf_forecast.proofs.blocks.channels_into.Reads as reads
-use Rattle.trcf_forecast.proofs.blocks.channels_into.Lts as lts
-use Rattle.numeric.proofs.to_f32.Reads as to-f32-reads
-use Rattle.trcf.proofs.types.is_differencing.Reads as is-differencing-reads
-use Rattle.trcf_forecast.proofs.blocks.base_at.Reads as base-at-reads
-use Rattle.trcf_forecast.proofs.blocks.mean_at.Reads as mean-at-reads
-use Rattle.trcf_forecast.proofs.blocks.reciprocal_of.Reads as reciprocal-of-reads
 
 abbrev Inv-loop : tie.InvT-loop
 Inv-loop s previous factors₀ scales₀ drifts₀ bases₀ t d carries j₀ factors scales drifts bases j =
@@ -30,108 +23,86 @@ Inv-loop s previous factors₀ scales₀ drifts₀ bases₀ t d carries j₀ fac
 abbrev μ-loop : tie.MeasureT-loop
 μ-loop s previous factors₀ scales₀ drifts₀ bases₀ t d carries j₀ factors scales drifts bases j = d - j
 
--- src/blocks.rt:99:9
 is-differencing-requires : tie.Need-is-differencing-requires Inv-loop μ-loop
 is-differencing-requires c κs = tt
 
--- src/blocks.rt:101:5
 loop-holds : tie.Need-loop-holds Inv-loop μ-loop
-loop-holds c = (omega arith, record { long = c .before .before .before .pre .1 .1 .3; factor = λ k l. absurd (omega arith); scale = λ k l. absurd (omega arith); drift = λ k l. absurd (omega arith); base = λ k l. absurd (omega arith) }, c .before .before .before .pre .1 .1 .0, c .before .before .before .pre .1 .1 .1, c .before .before .before .pre .1 .1 .2, c .before .before .before .pre .1 .1 .3)
+loop-holds c =
+    let P = c .before .before .before .pre .1 .1 in
+    (omega arith, held-none _ _ _ _ _ _ (P .3), P .0, P .1, P .2, P .3)
 
--- src/blocks.rt:102:36
 mul-reciprocal-of : tie.Need-mul-reciprocal-of Inv-loop μ-loop
 mul-reciprocal-of c = omega arith
 
--- src/blocks.rt:102:36
 element-copy-out-reciprocal-of : tie.Need-element-copy-out-reciprocal-of Inv-loop μ-loop
 element-copy-out-reciprocal-of c = omega arith
 
--- src/blocks.rt:102:22
 reciprocal-of-requires : tie.Need-reciprocal-of-requires Inv-loop μ-loop
 reciprocal-of-requires c κs = tt
 
--- src/blocks.rt:102:9
 mul-factors : tie.Need-mul-factors Inv-loop μ-loop
 mul-factors c = omega arith
 
--- src/blocks.rt:102:9
 element-write-factors : tie.Need-element-write-factors Inv-loop μ-loop
 element-write-factors c = omega arith
 
--- src/blocks.rt:103:52
 mul-mean-at : tie.Need-mul-mean-at Inv-loop μ-loop
 mul-mean-at c = omega arith
 
--- src/blocks.rt:103:48
 add-mean-at : tie.Need-add-mean-at Inv-loop μ-loop
 add-mean-at c = omega arith
 
--- src/blocks.rt:103:37
 mean-at-requires : tie.Need-mean-at-requires Inv-loop μ-loop
 mean-at-requires c κs = omega arith
 
--- src/blocks.rt:103:21
 to-f32-requires : tie.Need-to-f32-requires Inv-loop μ-loop
 to-f32-requires c κs = tt
 
--- src/blocks.rt:103:9
 mul-scales : tie.Need-mul-scales Inv-loop μ-loop
 mul-scales c = omega arith
 
--- src/blocks.rt:103:9
 element-write-scales : tie.Need-element-write-scales Inv-loop μ-loop
 element-write-scales c = omega arith
 
--- src/blocks.rt:104:52
 mul-mean-at-2 : tie.Need-mul-mean-at-2 Inv-loop μ-loop
 mul-mean-at-2 c = omega arith
 
--- src/blocks.rt:104:48
 add-mean-at-2 : tie.Need-add-mean-at-2 Inv-loop μ-loop
 add-mean-at-2 c = omega arith
 
--- src/blocks.rt:104:37
 mean-at-requires-2 : tie.Need-mean-at-requires-2 Inv-loop μ-loop
 mean-at-requires-2 c κs = omega arith
 
--- src/blocks.rt:104:21
 to-f32-requires-2 : tie.Need-to-f32-requires-2 Inv-loop μ-loop
 to-f32-requires-2 c κs = tt
 
--- src/blocks.rt:104:9
 mul-drifts : tie.Need-mul-drifts Inv-loop μ-loop
 mul-drifts c = omega arith
 
--- src/blocks.rt:104:9
 element-write-drifts : tie.Need-element-write-drifts Inv-loop μ-loop
 element-write-drifts c = omega arith
 
--- src/blocks.rt:105:20
 base-at-requires : tie.Need-base-at-requires Inv-loop μ-loop
 base-at-requires c κs = (omega arith, omega arith)
 
--- src/blocks.rt:105:9
 mul-bases : tie.Need-mul-bases Inv-loop μ-loop
 mul-bases c = omega arith
 
--- src/blocks.rt:105:9
 element-write-bases : tie.Need-element-write-bases Inv-loop μ-loop
 element-write-bases c = omega arith
 
--- src/blocks.rt:106:9
 add-j : tie.Need-add-j Inv-loop μ-loop
 add-j c = omega arith
 
--- src/blocks.rt:101:5
 loop-less : tie.Need-loop-less Inv-loop μ-loop
 loop-less c = omega arith
 
--- src/blocks.rt:101:5
 loop-again : tie.Need-loop-again Inv-loop μ-loop
 unfolding normalizedScale basicDrift basicShift
-loop-again c = 
-    let A = c .before .before .before .before .before .before .before .before .before .before .before .before .args in
-    let L = c .before .before .before .before .before .before .before .before .loop in
+loop-again c =
+    let c8 = c .before .before .before .before .before .before .before .before in
+    let A = c8 .before .before .before .before .args in
+    let L = c8 .loop in
     let T = view (A .t1) (A .s .now) in
     let H = L .inv .1 in
     let low : L .j < A .t1 .«input_length» = c .before .before .before .before .before .before .before .loop-test .taken in (
@@ -144,7 +115,7 @@ loop-again c =
             (c .before .before .before .to-f32 .ensures ∙ ap (λ (x : Float). narrowed (add binary64 x one64)) (c .before .before .before .before .mean-at .ensures)) (H .scale);
         drift = held-more (basicDrift T) (L .drifts) (L .j) _ (omega arith) (c .before .to-f322 .ensures ∙ ap narrowed (c .before .before .mean-at2 .ensures)) (H .drift);
         base = held-more (λ k. cond (differences (A .t1 .«transform_method»)) (getD (A .previous .now) k nan) (basicShift T k)) (L .bases) (L .j) _ (omega arith)
-            (c .base-at .ensures ∙ ap (λ (x : Bool). cond x (getD (A .previous .now) (L .j) nan) (basicShift T (L .j))) (c .before .before .before .before .before .before .before .before .before .is-differencing .ensures)) (H .base);
+            (c .base-at .ensures ∙ ap (λ (x : Bool). cond x (getD (A .previous .now) (L .j) nan) (basicShift T (L .j))) (c8 .before .is-differencing .ensures)) (H .base);
       },
       simp length-set (L .inv .2),
       simp length-set (L .inv .3),
@@ -152,9 +123,8 @@ loop-again c =
       simp length-set (L .inv .5),
     )
 
--- src/blocks.rt:84:1
 returns : tie.Need-returns Inv-loop μ-loop
-returns c = 
+returns c =
     let A = c .before .before .before .before .before .args in
     let L = c .before .loop in
     let e : L .j ≡ A .t1 .«input_length» = omega arith in

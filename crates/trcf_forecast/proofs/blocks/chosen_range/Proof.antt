@@ -4,23 +4,16 @@ use Rattle.trcf_forecast.proofs.BlockLaws.{chosen-of}
 use borrow.Author.Needs.{needs}
 use Rattle.trcf_forecast.proofs.blocks.chosen_range.Statement.{statement}
 use Rattle.trcf_forecast.proofs.blocks.chosen_range.Tie as tie
-use Rattle.trcf_forecast.proofs.blocks.chosen_range.Reads as reads
-use Rattle.trcf_forecast.proofs.blocks.chosen_range.Lts as lts
-use Rattle.trcf_forecast.proofs.blocks.chosen.Reads as chosen-reads
 
--- src/blocks.rt:121:16
 chosen-requires : tie.Need-chosen-requires
 chosen-requires c κs = search needs
 
--- src/blocks.rt:122:16
 chosen-requires-2 : tie.Need-chosen-requires-2
 chosen-requires-2 c κs = search needs
 
--- src/blocks.rt:123:16
 chosen-requires-3 : tie.Need-chosen-requires-3
 chosen-requires-3 c κs = search needs
 
--- src/blocks.rt:117:1
 returns : tie.Need-returns
 returns c =
     let A = c .before .before .before .args in

@@ -2,116 +2,93 @@
 use lib.Ieee.{Float, nan, binary32, mul}
 use Rattle.common.specs.RangeVector.{rangeAt, putAt, shifted}
 use Rattle.trcf_forecast.proofs.BlockLaws.{places-more}
-use Prim.Native.Nat.{ℕ, _+_, _*_, _-_, _≤_, _<_}
-use mathlib.Core.Path.{_≡_, refl, sym, ap, _∙_}
+use Prim.Native.Nat.{_+_, _*_, _-_, _≤_}
+use mathlib.Core.Path.{_≡_, refl, ap, _∙_}
 use native.Mathlib.Omega.{arith}
-use lib.ListN.{length, getD, set, length-set}
+use lib.ListN.{length, getD, length-set}
 use Rattle.common.specs.RangeVector.{ranges}
 use Rattle.trcf_forecast.specs.Steps.Blocks.{placesBy, driftPlace}
 use Rattle.trcf_forecast.proofs.blocks.drift_block.Statement.{statement}
 use Rattle.trcf_forecast.proofs.blocks.drift_block.Tie as tie
-use Rattle.trcf_forecast.proofs.blocks.drift_block.Reads as reads
-use Rattle.trcf_forecast.proofs.blocks.drift_block.Lts as lts
-use Rattle.common.proofs.rangevector.Range32.shift.Reads as shift-reads
-use Rattle.trcf_forecast.proofs.blocks.block_number.Reads as block-number-reads
 
 abbrev Inv-loop : tie.InvT-loop
 Inv-loop drifts d i values₀ upper₀ lower₀ b at j₀ values upper lower j =
-    (j ≤ d) × (ranges values upper lower ≡ placesBy (driftPlace i drifts) (i * d) j (ranges values₀ upper₀ lower₀)) × (length values ≡ length values₀) × (length upper ≡ length upper₀) × (length lower ≡ length lower₀)
+    (j ≤ d)
+    × (ranges values upper lower ≡ placesBy (driftPlace i drifts) (i * d) j (ranges values₀ upper₀ lower₀))
+    × (length values ≡ length values₀) × (length upper ≡ length upper₀) × (length lower ≡ length lower₀)
 
 abbrev μ-loop : tie.MeasureT-loop
 μ-loop drifts d i values₀ upper₀ lower₀ b at j₀ values upper lower j = d - j
 
--- src/blocks.rt:159:9
 block-number-requires : tie.Need-block-number-requires Inv-loop μ-loop
 block-number-requires c κs = tt
 
--- src/blocks.rt:160:14
 mul-at : tie.Need-mul-at Inv-loop μ-loop
 mul-at c = omega arith
 
--- src/blocks.rt:162:5
 loop-holds : tie.Need-loop-holds Inv-loop μ-loop
 unfolding placesBy
 loop-holds c = (omega arith, refl, refl, refl, refl)
 
--- src/blocks.rt:163:17
 add-p : tie.Need-add-p Inv-loop μ-loop
 add-p c = omega arith
 
--- src/blocks.rt:165:20
 mul-shift : tie.Need-mul-shift Inv-loop μ-loop
 mul-shift c = omega arith
 
--- src/blocks.rt:165:20
 slice-read-shift : tie.Need-slice-read-shift Inv-loop μ-loop
 slice-read-shift c = omega arith
 
--- src/blocks.rt:166:20
 mul-t17 : tie.Need-mul-t17 Inv-loop μ-loop
 mul-t17 c = omega arith
 
--- src/blocks.rt:166:20
 slice-read-t19 : tie.Need-slice-read-t19 Inv-loop μ-loop
 slice-read-t19 c = omega arith
 
--- src/blocks.rt:167:20
 mul-shift-2 : tie.Need-mul-shift-2 Inv-loop μ-loop
 mul-shift-2 c = omega arith
 
--- src/blocks.rt:167:20
 slice-read-shift-2 : tie.Need-slice-read-shift-2 Inv-loop μ-loop
 slice-read-shift-2 c = omega arith
 
--- src/blocks.rt:169:29
 mul-shift-3 : tie.Need-mul-shift-3 Inv-loop μ-loop
 mul-shift-3 c = omega arith
 
--- src/blocks.rt:169:29
 element-copy-out-shift : tie.Need-element-copy-out-shift Inv-loop μ-loop
 element-copy-out-shift c = omega arith
 
--- src/blocks.rt:169:13
 shift-requires : tie.Need-shift-requires Inv-loop μ-loop
 shift-requires c κs = tt
 
--- src/blocks.rt:170:9
 mul-values : tie.Need-mul-values Inv-loop μ-loop
 mul-values c = omega arith
 
--- src/blocks.rt:170:9
 slice-write-values : tie.Need-slice-write-values Inv-loop μ-loop
 slice-write-values c = omega arith
 
--- src/blocks.rt:171:9
 mul-upper : tie.Need-mul-upper Inv-loop μ-loop
 mul-upper c = omega arith
 
--- src/blocks.rt:171:9
 slice-write-upper : tie.Need-slice-write-upper Inv-loop μ-loop
 slice-write-upper c = omega arith
 
--- src/blocks.rt:172:9
 mul-lower : tie.Need-mul-lower Inv-loop μ-loop
 mul-lower c = omega arith
 
--- src/blocks.rt:172:9
 slice-write-lower : tie.Need-slice-write-lower Inv-loop μ-loop
 slice-write-lower c = omega arith
 
--- src/blocks.rt:173:9
 add-j : tie.Need-add-j Inv-loop μ-loop
 add-j c = omega arith
 
--- src/blocks.rt:162:5
 loop-less : tie.Need-loop-less Inv-loop μ-loop
 loop-less c = omega arith
 
--- src/blocks.rt:162:5
 loop-again : tie.Need-loop-again Inv-loop μ-loop
 unfolding putAt rangeAt
-loop-again c = 
-    let A = c .before .before .before .before .before .before .before .before .before .before .before .args in
+loop-again c =
+    let c8 = c .before .before .before .before .before .before .before .before in
+    let A = c8 .before .before .before .args in
     let L = c .before .before .before .before .before .before .loop in
     let w = ranges (L .values) (L .upper) (L .lower) in
     let at = A .i * A .d + L .j in
@@ -124,21 +101,17 @@ loop-again c =
       simp length-set (L .inv .4),
     )
 
--- src/blocks.rt:146:1
 same-length : tie.Need-same-length Inv-loop μ-loop
 same-length c = c .before .loop .inv .2
 
--- src/blocks.rt:146:1
 same-length-2 : tie.Need-same-length-2 Inv-loop μ-loop
 same-length-2 c = c .before .loop .inv .3
 
--- src/blocks.rt:146:1
 same-length-3 : tie.Need-same-length-3 Inv-loop μ-loop
 same-length-3 c = c .before .loop .inv .4
 
--- src/blocks.rt:146:1
 returns : tie.Need-returns Inv-loop μ-loop
-returns c = 
+returns c =
     let A = c .before .before .before .before .before .before .args in
     let L = c .before .loop in
     let e : L .j ≡ A .d = omega arith in

@@ -11,10 +11,6 @@ use Rattle.trcf_forecast.specs.Steps.Blocks.{Held}
 use Rattle.trcf_forecast.proofs.BlockLaws.{turnedTo, Turned, turned-none, turned-more, turned-all, block-room}
 use Rattle.trcf_forecast.proofs.blocks.invert_blocks.Statement.{statement}
 use Rattle.trcf_forecast.proofs.blocks.invert_blocks.Tie as tie
-use Rattle.trcf_forecast.proofs.blocks.invert_blocks.Reads as reads
-use Rattle.trcf_forecast.proofs.blocks.invert_blocks.Lts as lts
-use Rattle.trcf_forecast.proofs.blocks.channels_into.Reads as channels-into-reads
-use Rattle.trcf_forecast.proofs.blocks.turn_block.Reads as turn-block-reads
 
 abbrev Inv-loop : tie.InvT-loop
 Inv-loop s previous values₀ upper₀ lower₀ d m n factors scales drifts bases₀ i₀ values upper lower bases i =
@@ -25,58 +21,62 @@ Inv-loop s previous values₀ upper₀ lower₀ d m n factors scales drifts base
 abbrev μ-loop : tie.MeasureT-loop
 μ-loop s previous values₀ upper₀ lower₀ d m n factors scales drifts bases₀ i₀ values upper lower bases i = n - i
 
--- src/blocks.rt:279:13
 div-n : tie.Need-div-n Inv-loop μ-loop
 div-n c = omega (arith, c .before .before .before .before .before .pre .0 .some)
 
--- src/blocks.rt:284:5
 channels-into-requires : tie.Need-channels-into-requires Inv-loop μ-loop
-channels-into-requires c κs = (c .before .before .before .before .before .before .before .before .before .pre .0, (c .before .before .before .before .before .before .before .before .before .pre .1 .0, (refl, refl, refl, refl)))
+channels-into-requires c κs =
+    let c8 = c .before .before .before .before .before .before .before .before in
+    (c8 .before .pre .0, (c8 .before .pre .1 .0, (refl, refl, refl, refl)))
 
--- src/blocks.rt:286:5
 loop-holds : tie.Need-loop-holds Inv-loop μ-loop
-loop-holds c = 
-    let A = c .before .before .before .before .before .before .before .before .before .before .args in
-    let H = c .channels-into .ensures in
-    (
+loop-holds c =
+    let c8 = c .before .before .before .before .before .before .before .before in
+    let A = c8 .before .before .args in
+    let H = c .channels-into .ensures in (
       omega arith,
-      λ t em ed h. turned-none t (A .previous .now) (ranges (A .values .now) (A .upper .now) (A .lower .now)) _ _ _ _ (c .before .before .before .before .before .before .before .before .before .before .pre .1 .0 ∙ sym ed) h,
+      λ t em ed h. turned-none t (A .previous .now) (ranges (A .values .now) (A .upper .now) (A .lower .now)) _ _ _ _ (c8 .before .before .pre .1 .0 ∙ sym ed) h,
       H .long,
       refl,
       refl,
       refl,
     )
 
--- src/blocks.rt:287:9
 turn-block-requires : tie.Need-turn-block-requires Inv-loop μ-loop
-turn-block-requires c κs = 
-    let A = c .before .before .before .before .before .before .before .before .before .before .before .before .before .before .before .before .before .before .before .args in
-    let L = c .before .before .before .before .before .before .before .before .loop in
-    let P = c .before .before .before .before .before .before .before .before .before .before .before .before .before .before .before .before .before .before .before .pre in
-    let x = block-room (L .i) (A .t .«input_length») (length (A .values .now)) (c .before .before .before .before .before .before .before .loop-test .taken) in
-    (
+turn-block-requires c κs =
+    let c8 = c .before .before .before .before .before .before .before .before in
+    let c16 = c8 .before .before .before .before .before .before .before .before in
+    let A = c16 .before .before .before .args in
+    let L = c8 .loop in
+    let P = c16 .before .before .before .pre in
+    let x = block-room (L .i) (A .t .«input_length») (length (A .values .now)) (c .before .before .before .before .before .before .before .loop-test .taken) in (
       (P .0 .few, omega (arith, x, L .inv .3), L .inv .2),
       (L .inv .4 ∙ P .1 .1 .0 .0 ∙ sym (L .inv .3), L .inv .5 ∙ P .1 .1 .0 .1 ∙ sym (L .inv .3)),
     )
 
--- src/blocks.rt:288:9
 add-i : tie.Need-add-i Inv-loop μ-loop
-add-i c = let A = c .before .before .before .before .before .before .before .before .before .before .before .before .before .before .before .before .before .before .before .before .before .before .before .before .before .before .args in
-    omega (arith, c .before .before .before .before .before .before .before .before .before .before .before .before .before .before .loop-test .taken, div-le-self (length (A .values .now)) (A .t .«input_length»), c .before .before .before .before .before .before .before .before .before .before .before .before .before .before .before .before .before .before .before .before .before .before .before .before .before .before .good .1 .1 .1 .0)
+add-i c =
+    let c8 = c .before .before .before .before .before .before .before .before in
+    let c16 = c8 .before .before .before .before .before .before .before .before in
+    let c24 = c16 .before .before .before .before .before .before .before .before in
+    let A = c24 .before .before .args in
+    omega (arith, c8 .before .before .before .before .before .before .loop-test .taken, div-le-self (length (A .values .now)) (A .t .«input_length»), c24 .before .before .good .1 .1 .1 .0)
 
--- src/blocks.rt:286:5
 loop-less : tie.Need-loop-less Inv-loop μ-loop
-loop-less c = omega (arith, c .before .before .before .before .before .before .before .before .before .before .before .before .before .before .loop-test .taken)
+loop-less c =
+    let c8 = c .before .before .before .before .before .before .before .before in
+    omega (arith, c8 .before .before .before .before .before .before .loop-test .taken)
 
--- src/blocks.rt:286:5
 loop-again : tie.Need-loop-again Inv-loop μ-loop
-loop-again c = 
-    let A = c .before .before .before .before .before .before .before .before .before .before .before .before .before .before .before .before .before .before .before .before .before .before .before .before .before .before .args in
-    let L = c .before .before .before .before .before .before .before .before .before .before .before .before .before .before .before .loop in
-    let P = c .before .before .before .before .before .before .before .before .before .before .before .before .before .before .before .before .before .before .before .before .before .before .before .before .before .before .pre in
-    let B = c .before .before .before .before .before .before .turn-block in
-    (
-      omega (arith, c .before .before .before .before .before .before .before .before .before .before .before .before .before .before .loop-test .taken),
+loop-again c =
+    let c8 = c .before .before .before .before .before .before .before .before in
+    let c16 = c8 .before .before .before .before .before .before .before .before in
+    let c24 = c16 .before .before .before .before .before .before .before .before in
+    let A = c24 .before .before .args in
+    let L = c8 .before .before .before .before .before .before .before .loop in
+    let P = c24 .before .before .pre in
+    let B = c .before .before .before .before .before .before .turn-block in (
+      omega (arith, c8 .before .before .before .before .before .before .loop-test .taken),
       λ t em ed h. turned-more t (A .previous .now) (L .i) (ranges (A .values .now) (A .upper .now) (A .lower .now)) (ranges (L .values) (L .upper) (L .lower)) _
           (A .t .«transform_method») (A .t .«input_length») _ _ _ _ (L .bases) _ em ed (omega (arith, ed, P .0 .some)) (P .1 .0 ∙ sym ed) h
           (L .inv .1 t em ed h) (B .ensures .0) (B .ensures .1),
@@ -86,23 +86,20 @@ loop-again c =
       B .kept .1 .1 .1 .1 .1 .1 .1 .1 .1 .0 ∙ L .inv .5,
     )
 
--- src/blocks.rt:262:1
 same-length : tie.Need-same-length Inv-loop μ-loop
 same-length c = c .before .loop .inv .3
 
--- src/blocks.rt:262:1
 same-length-2 : tie.Need-same-length-2 Inv-loop μ-loop
 same-length-2 c = c .before .loop .inv .4
 
--- src/blocks.rt:262:1
 same-length-3 : tie.Need-same-length-3 Inv-loop μ-loop
 same-length-3 c = c .before .loop .inv .5
 
--- src/blocks.rt:262:1
 returns : tie.Need-returns Inv-loop μ-loop
-returns c = 
-    let A = c .before .before .before .before .before .before .before .before .before .before .before .before .args in
-    let P = c .before .before .before .before .before .before .before .before .before .before .before .before .pre in
+returns c =
+    let c8 = c .before .before .before .before .before .before .before .before in
+    let A = c8 .before .before .before .before .args in
+    let P = c8 .before .before .before .before .pre in
     let L = c .before .loop in
     let T = view (A .t) (A .s .now) in
     let v = ranges (A .values .now) (A .upper .now) (A .lower .now) in

@@ -4,41 +4,31 @@ use Rattle.trcf_forecast.proofs.BlockLaws.{turn-steps}
 use borrow.Author.Needs.{needs}
 use Rattle.trcf_forecast.proofs.blocks.turn.Statement.{statement}
 use Rattle.trcf_forecast.proofs.blocks.turn.Tie as tie
-use Rattle.trcf_forecast.proofs.blocks.turn.Reads as reads
-use Rattle.trcf_forecast.proofs.blocks.turn.Lts as lts
-use Rattle.common.proofs.rangevector.Range32.scale.Reads as scale-reads
-use Rattle.common.proofs.rangevector.Range32.shift.Reads as shift-reads
-use Rattle.trcf_forecast.proofs.blocks.chosen_range.Reads as chosen-range-reads
 
--- src/blocks.rt:139:9
 scale-requires : tie.Need-scale-requires
 scale-requires c κs = search needs
 
--- src/blocks.rt:140:38
 scale-requires-2 : tie.Need-scale-requires-2
 scale-requires-2 c κs = search needs
 
--- src/blocks.rt:140:9
 chosen-range-requires : tie.Need-chosen-range-requires
 chosen-range-requires c κs = search needs
 
--- src/blocks.rt:141:9
 shift-requires : tie.Need-shift-requires
 shift-requires c κs = search needs
 
--- src/blocks.rt:142:25
 shift-requires-2 : tie.Need-shift-requires-2
 shift-requires-2 c κs = search needs
 
--- src/blocks.rt:142:5
 chosen-range-requires-2 : tie.Need-chosen-range-requires-2
 chosen-range-requires-2 c κs = search needs
 
--- src/blocks.rt:128:1
 returns : tie.Need-returns
 returns c =
     let A = c .before .before .before .before .before .before .args in
-    turn-steps (A .normalizes) (A .moves) (A .factor) (A .scale) (A .drift) (A .base) (plain (A .r)) _ _ _ _ _ _ (c .before .before .before .before .before .scale .ensures) (c .before .before .before .before .scale2 .ensures) (c .before .before .before .chosen-range .ensures) (c .before .before .shift .ensures) (c .before .shift2 .ensures) (c .chosen-range2 .ensures)
+    turn-steps (A .normalizes) (A .moves) (A .factor) (A .scale) (A .drift) (A .base) (plain (A .r)) _ _ _ _ _ _
+    (c .before .before .before .before .before .scale .ensures) (c .before .before .before .before .scale2 .ensures)
+    (c .before .before .before .chosen-range .ensures) (c .before .before .shift .ensures) (c .before .shift2 .ensures) (c .chosen-range2 .ensures)
 
 pub turn-spec : {M : Type 1} → statement M
 turn-spec =

@@ -6,84 +6,63 @@ use Rattle.trcf_forecast.proofs.BlockLaws.{none-block, none-carried, ot
 use borrow.Author.Needs.{needs}
 use Rattle.trcf_forecast.proofs.blocks.turn_block.Statement.{statement}
 use Rattle.trcf_forecast.proofs.blocks.turn_block.Tie as tie
-use Rattle.trcf_forecast.proofs.blocks.turn_block.Reads as reads
-use Rattle.trcf_forecast.proofs.blocks.turn_block.Lts as lts
-use Rattle.trcf.proofs.types.is_differencing.Reads as is-differencing-reads
-use Rattle.trcf.proofs.types.is_none.Reads as is-none-reads
-use Rattle.trcf.proofs.types.is_normalizing.Reads as is-normalizing-reads
-use Rattle.trcf_forecast.proofs.blocks.drift_block.Reads as drift-block-reads
-use Rattle.trcf_forecast.proofs.blocks.invert_block.Reads as invert-block-reads
-use Rattle.trcf_forecast.proofs.blocks.is_moving.Reads as is-moving-reads
 
--- src/blocks.rt:238:8
 is-none-requires : tie.Need-is-none-requires
 is-none-requires c κs = search needs
 
--- src/blocks.rt:239:9
 drift-block-requires : tie.Need-drift-block-requires
 drift-block-requires c κs = search needs
 
--- src/blocks.rt:241:13
 is-normalizing-requires : tie.Need-is-normalizing-requires
 is-normalizing-requires c κs = search needs
 
--- src/blocks.rt:242:13
 is-moving-requires : tie.Need-is-moving-requires
 is-moving-requires c κs = search needs
 
--- src/blocks.rt:243:13
 is-differencing-requires : tie.Need-is-differencing-requires
 is-differencing-requires c κs = search needs
 
--- src/blocks.rt:244:9
 invert-block-requires : tie.Need-invert-block-requires
 invert-block-requires c κs = search needs
 
--- src/blocks.rt:220:1
 same-length : tie.Need-same-length
 same-length c = search needs
 
--- src/blocks.rt:220:1
 same-length-2 : tie.Need-same-length-2
 same-length-2 c = search needs
 
--- src/blocks.rt:220:1
 same-length-3 : tie.Need-same-length-3
 same-length-3 c = search needs
 
--- src/blocks.rt:220:1
 returns : tie.Need-returns
 returns c =
-    let A = c .before .before .before .before .before .before .before .before .before .before .before .before .before .before .before .args in
-    let e = sym (c .before .before .before .before .before .before .before .before .before .before .before .is-none .ensures) ∙ c .before .before .before .before .before .before .before .before .before .before .if1 .taken in
-    (
+    let c8 = c .before .before .before .before .before .before .before .before in
+    let A = c8 .before .before .before .before .before .before .before .args in
+    let e = sym (c8 .before .before .before .is-none .ensures) ∙ c8 .before .before .if1 .taken in (
       none-block (A .m) (A .i) (A .i * A .d) (A .d) (A .factors .now) (A .scales .now) (A .drifts .now) (A .bases .now) (ranges (A .values .now) (A .upper .now) (A .lower .now)) _ e
           (c .before .before .before .before .before .before .drift-block .ensures),
       none-carried (A .m) (A .i * A .d) (A .d) _ (A .bases .now) e,
     )
 
--- src/blocks.rt:220:1
 same-length-4 : tie.Need-same-length-4
 same-length-4 c = search needs
 
--- src/blocks.rt:220:1
 same-length-5 : tie.Need-same-length-5
 same-length-5 c = search needs
 
--- src/blocks.rt:220:1
 same-length-6 : tie.Need-same-length-6
 same-length-6 c = search needs
 
--- src/blocks.rt:220:1
 returns-2 : tie.Need-returns-2
 returns-2 c =
-    let A = c .before .before .before .before .before .before .before .before .before .before .before .before .before .before .before .before .before .before .before .args in
-    let e = sym (c .before .before .before .before .before .before .before .before .before .before .before .before .before .before .before .is-none .ensures) ∙ c .before .before .before .before .before .before .before .before .before .before .before .before .before .before .if1 .left in
-    let I = c .before .before .before .before .before .before .invert-block .ensures in
-    (
+    let c8 = c .before .before .before .before .before .before .before .before in
+    let c16 = c8 .before .before .before .before .before .before .before .before in
+    let A = c16 .before .before .before .args in
+    let e = sym (c8 .before .before .before .before .before .before .before .is-none .ensures) ∙ c8 .before .before .before .before .before .before .if1 .left in
+    let I = c .before .before .before .before .before .before .invert-block .ensures in (
       other-block (A .m) _ _ (A .i) (A .i * A .d) (A .d) (A .factors .now) (A .scales .now) (A .drifts .now) (A .bases .now) (ranges (A .values .now) (A .upper .now) (A .lower .now)) _ e
-          (c .before .before .before .before .before .before .before .before .before .before .before .before .before .is-normalizing .ensures) (c .before .before .before .before .before .before .before .before .before .before .before .before .is-moving .ensures) (I .0),
-      other-carried (A .m) _ (A .i * A .d) (A .d) _ (A .bases .now) _ (c .before .before .before .before .before .before .before .before .before .before .before .is-differencing .ensures) (I .1),
+          (c8 .before .before .before .before .before .is-normalizing .ensures) (c8 .before .before .before .before .is-moving .ensures) (I .0),
+      other-carried (A .m) _ (A .i * A .d) (A .d) _ (A .bases .now) _ (c8 .before .before .before .is-differencing .ensures) (I .1),
     )
 
 pub turn-block-spec : {M : Type 1} → statement M
