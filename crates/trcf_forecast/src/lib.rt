@@ -1,2 +1,3 @@
 // The call that turns a forecast back.
+mod blocks;
 pub mod forecast;

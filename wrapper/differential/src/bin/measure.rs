@@ -2,7 +2,7 @@
 //! Usage: measure [REPEATS]; build it with `--profile speed`, which leaves overflow checks out.
 use differential::settings;
 use oracle::bits::bits32;
-use oracle::calls::{Mode, Settings, NORMALIZE, NORMALIZE_DIFFERENCE};
+use oracle::calls::{Mode, Settings, DIFFERENCE, NONE, NORMALIZE, NORMALIZE_DIFFERENCE, SUBTRACT_MA, WEIGHTED};
 use oracle::common::descriptor::Descriptor;
 use oracle::common::rangevector::RangeVector;
 use oracle::random::Random;
@@ -12,6 +12,15 @@ use oracle::trcf::preprocessor::Preprocessor as Rust;
 use std::hint::black_box;
 use std::time::Instant;
 use veerycouch::{align_into, impute, sqrt, sqrt_digits, to_f32, ImputationMethod, Learn, Preprocessor, Ranges, Readings};
+
+const METHODS: [(u8, &str); 6] = [
+    (NONE, "NONE"),
+    (WEIGHTED, "WEIGHTED"),
+    (DIFFERENCE, "DIFFERENCE"),
+    (SUBTRACT_MA, "SUBTRACT_MA"),
+    (NORMALIZE, "NORMALIZE"),
+    (NORMALIZE_DIFFERENCE, "NORMALIZE_DIFFERENCE"),
+];
 
 fn given(method: u8, d: u64, k: u64, start: u64) -> Settings {
     Settings { mode: Mode::Standard, method, d, k, start, stop: u64::MAX, decay: 0.001, weight_time: 1.0, weights: vec![1.0; d as usize], codes: vec![0; d as usize] }
@@ -80,10 +89,10 @@ fn told(what: &str, (ours, rust): (f64, f64)) {
     println!("{what:<64} {ours:>12.1} {rust:>12.1} {:>7.2}", ours / rust);
 }
 
-fn turn_back(repeats: usize) -> (f64, f64) {
-    let (rust, ours) = filled(&given(NORMALIZE_DIFFERENCE, 16, 8, 10));
+fn turn_back(repeats: usize, method: u8, d: u64) -> (f64, f64) {
+    let (rust, ours) = filled(&given(method, d, 8, 10));
     let mut r = Random::new(2);
-    let values = input(&mut r, 16 * 1000);
+    let values = input(&mut r, d * 1000);
     let upper: Vec<f32> = values.iter().map(|v| v + 1.0).collect();
     let lower: Vec<f32> = values.iter().map(|v| v - 1.0).collect();
     let range = RangeVector { values: values.clone(), upper: upper.clone(), lower: lower.clone() };
@@ -249,7 +258,12 @@ fn aligning(repeats: usize, d: u64) -> f64 {
 fn main() {
     let repeats = std::env::args().nth(1).map_or(101, |a| a.parse().expect("REPEATS"));
     println!("{:<64} {:>12} {:>12} {:>7}", format!("medians of {repeats}, nanoseconds"), "library", "the Rust", "ratio");
-    told("turn-back, 16 channels by 1,000, NORMALIZE_DIFFERENCE, STANDARD", turn_back(repeats));
+    for (method, name) in METHODS {
+        told(&format!("turn-back, 16 channels by 1,000, {name}, STANDARD"), turn_back(repeats, method, 16));
+    }
+    for d in [1, 4] {
+        told(&format!("turn-back, {d} by 1,000, NORMALIZE_DIFFERENCE, STANDARD"), turn_back(repeats, NORMALIZE_DIFFERENCE, d));
+    }
     for (d, k) in [(1, 8), (4, 8), (16, 64)] {
         told(&format!("point and learn, d {d}, k {k}, NORMALIZE, a reading"), readings(repeats, d, k));
     }
