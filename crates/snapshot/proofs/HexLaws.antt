@@ -197,11 +197,11 @@ pub told-first : (c : List ℕ) → Told c 0 0 0
 told-first c = (omega arith, λ k. refl, λ k. absurd (omega arith))
 
 -- there is room for another digit before the 16th
-pub room : (n i : ℕ) → n < 16 ^ i → i < 16 → n ≤ 1152921504606846975
-room n i h k =
+pub room : (c : List ℕ) (n largest i : ℕ) → length c ≤ 16 → i < length c → Told c n largest i → n ≤ 1152921504606846975
+room c n largest i h k t =
     let p : 16 ^ i ≤ 16 ^ 15 = pow-le-pow-right {n = 16} (omega arith) {i = i} {j = 15} (omega arith) in
     let q : 16 ^ 15 ≡ 1152921504606846976 = refl in
-    omega arith
+    omega (arith, t .0)
 
 module _ (a i : ℕ) (c : List ℕ) (h : i < length c) where
   hscan-yes : hexOf (getD c i 0) ≤ 15 → 16 * a + hexOf (getD c i 0) ≤ wholeMax → hscan a (drop i c) ≡ hscan (16 * a + hexOf (getD c i 0)) (drop (suc i) c)
@@ -224,7 +224,7 @@ module _ (c : List ℕ) (n i d old new : ℕ) (few : length c ≤ 16) (h : i < l
 
   good : old ≤ 15 → d ≤ 15 → hscan 0 c ≡ hscan (n * 16 + d % 16) (drop (suc i) c)
   good p q =
-      let r : n ≤ 1152921504606846975 = room n i (t .0) (omega arith) in
+      let r : n ≤ 1152921504606846975 = room c n old i few h t in
       let z : 16 * n + hexOf (getD c i 0) ≡ n * 16 + d % 16 = omega arith in
       t .1 p ∙ hscan-yes n i c h (omega arith) (omega arith) ∙ ap (λ (x : ℕ). hscan x (drop (suc i) c)) z
 

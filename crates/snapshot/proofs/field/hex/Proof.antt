@@ -29,12 +29,10 @@ shared-slice-read-digit c = search needs
 digit-requires : tie.Need-digit-requires Inv-loop μ-loop
 digit-requires c κs = search needs
 
--- n has room for a digit more
 mul-n : tie.Need-mul-n Inv-loop μ-loop
 mul-n c =
     let s = c .before .before .before .before in
-    let r : s .loop .n ≤ 1152921504606846975 = room (s .loop .n) (s .loop .i) (s .loop .inv .1 .0) (omega (arith, c .before .before .before .loop-test .taken, s .before .before .pre)) in
-    omega (arith, r)
+    omega (arith, room (s .before .before .args .c .now) (s .loop .n) (s .loop .largest) (s .loop .i) (s .before .before .pre) (c .before .before .before .loop-test .taken) (s .loop .inv .1))
 
 cast-n : tie.Need-cast-n Inv-loop μ-loop
 cast-n c = search needs
@@ -42,8 +40,7 @@ cast-n c = search needs
 add-n : tie.Need-add-n Inv-loop μ-loop
 add-n c =
     let s = c .before .before .before .before in
-    let r : s .loop .n ≤ 1152921504606846975 = room (s .loop .n) (s .loop .i) (s .loop .inv .1 .0) (omega (arith, c .before .before .before .loop-test .taken, s .before .before .pre)) in
-    omega (arith, r)
+    omega (arith, room (s .before .before .args .c .now) (s .loop .n) (s .loop .largest) (s .loop .i) (s .before .before .pre) (c .before .before .before .loop-test .taken) (s .loop .inv .1))
 
 add-i : tie.Need-add-i Inv-loop μ-loop
 add-i c = search needs
@@ -55,9 +52,11 @@ loop-again : tie.Need-loop-again Inv-loop μ-loop
 loop-again c =
     let v = c .before .before .before .before .before .before .args .c .now in
     let s = c .before .before .before .before .loop in
+    let d = c .before .digit in
     let h : s .i < length v = c .before .before .before .loop-test .taken in
-    let w : Larger (s .largest) (c .before .digit .result) (c .if1 .largest) = ⊎-elim (λ w. inl (w .0 .taken, w .1)) (λ w. inr (w .0 .left, w .1)) (c .if1 .came) in
-    (omega arith, rw (add-one (s .i)) (told-next v (s .n) (s .i) (c .before .digit .result) (s .largest) (c .if1 .largest) (c .before .before .before .before .before .before .pre) h (c .before .digit .ensures) (s .inv .1) w))
+    let w : Larger (s .largest) (d .result) (c .if1 .largest) = ⊎-elim (λ w. inl (w .0 .taken, w .1)) (λ w. inr (w .0 .left, w .1)) (c .if1 .came) in
+    let few : length v ≤ 16 = c .before .before .before .before .before .before .pre in
+    (omega arith, rw (add-one (s .i)) (told-next v (s .n) (s .i) (d .result) (s .largest) (c .if1 .largest) few h (d .ensures) (s .inv .1) w))
 
 returns : tie.Need-returns Inv-loop μ-loop
 returns c =

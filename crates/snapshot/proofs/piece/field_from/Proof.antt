@@ -29,7 +29,8 @@ enum-told c = search needs
 returns : tie.Need-returns
 returns c =
     let s = c .before .before .before .before .args in
-    from-good (s .kind) (s .from) (s .text .now) (c .before .parse .result) (c .before .before .likely-end .result) (c .before .before .likely-end .ensures) (c .before .parse .ensures) (c .match .keys2)
+    let e = c .before .before .likely-end in
+    from-good (s .kind) (s .from) (s .text .now) (c .before .parse .result) (e .result) (e .ensures) (c .before .parse .ensures) (c .match .keys2)
 
 field-end-requires : tie.Need-field-end-requires
 field-end-requires c κs = search needs
@@ -37,8 +38,9 @@ field-end-requires c κs = search needs
 returns-2 : tie.Need-returns-2
 returns-2 c =
     let s = c .before .before .before .before .before .before .args in
-    from-bad (s .kind) (s .from) (s .text .now) (c .before .before .before .parse .result) (c .before .before .before .before .likely-end .result)
-    (c .before .before .before .before .likely-end .ensures) (c .before .before .before .parse .ensures) (c .before .enum-told .given .1) (c .field-end .result) (c .field-end .ensures)
+    let e = c .before .before .before .before .likely-end in
+    let f = c .before .before .before .parse in
+    from-bad (s .kind) (s .from) (s .text .now) (f .result) (e .result) (e .ensures) (f .ensures) (c .before .enum-told .given .1) (c .field-end .result) (c .field-end .ensures)
 
 pub field-from-spec : {M : Type 1} → statement M
 field-from-spec =

@@ -40,7 +40,8 @@ returns : tie.Need-returns
 returns c =
     let s = c .before .before .before .before .before .before .args in
     let b : c .before .wide .result ≡ getD (s .text .now) (s .from + (s .kind * 8 + 8)) 0 = c .before .wide .ensures in
-    ap (λ (n : ℕ). s .from + n) (sym (likely-here (s .kind) (s .from) (s .text .now) (c .before .before .before .before .if1 .taken) (c .before .before .before .if2 .taken) (omega (arith, c .if3 .taken))))
+    let w = c .before .before .before .if2 .taken in
+    ap (λ (n : ℕ). s .from + n) (sym (likely-here (s .kind) (s .from) (s .text .now) (c .before .before .before .before .if1 .taken) w (omega (arith, c .if3 .taken))))
 
 field-end-requires : tie.Need-field-end-requires
 field-end-requires c κs = search needs
