@@ -18,8 +18,7 @@ use Rattle.snapshot.specs.Scan.{fieldOf, singleOf, doubleOf}
 use Rattle.snapshot.specs.Judge.{fieldLength}
 use Rattle.snapshot.specs.Steps.Likely.{likely, fromOf}
 use Rattle.snapshot.specs.declared.field.Field.{Field}
-use Rattle.snapshot.specs.declared.field.Field.the-variants.{Single, Double, Whole, Bad}
-use Rattle.snapshot.specs.declared.piece.Next.{Next}
+use Rattle.snapshot.specs.declared.field.Field.the-variants.{Single, Double, Bad}
 use Rattle.snapshot.proofs.field.Field.{the-type}
 use Rattle.snapshot.proofs.Fields.{Clean, float-clean}
 use Rattle.snapshot.proofs.HexLaws.{float-of, bad-length}

@@ -1,12 +1,10 @@
 -- `snapshot::field::hex` meets its contract. Assumes nothing.
-use Prim.Native.Nat.{ℕ, suc, _+_, _-_, _*_, _%_, _^_, _≤_, _<_}
+use Prim.Native.Nat.{_-_, _≤_, _<_}
 use native.Mathlib.Omega.{arith}
 use native.Mathlib.Numerals.{add-one}
-use mathlib.Core.Path.{_≡_, refl, sym, ap, _∙_}
-use mathlib.Core.Logic.{_⊎_, inl, inr, ⊎-elim}
-use lib.ListN.{length, drop, getD}
+use mathlib.Core.Logic.{inl, inr, ⊎-elim}
+use lib.ListN.{length}
 use borrow.Author.Needs.{needs}
-use Rattle.snapshot.specs.Scan.{hexOf}
 use Rattle.snapshot.proofs.HexLaws.{Told, Larger, told-first, told-next, room, hnone-at, hsome-at}
 use Rattle.snapshot.proofs.field.hex.Statement.{statement}
 use Rattle.snapshot.proofs.field.hex.Tie as tie

@@ -1,9 +1,9 @@
 -- `snapshot::piece::field_from` meets its contract. Assumes nothing.
 use borrow.Author.Needs.{needs}
-use Prim.Native.Nat.{ℕ, _+_, _-_, _≤_, _<_}
+use Prim.Native.Nat.{_+_}
 use native.Mathlib.Omega.{arith}
-use mathlib.Core.Path.{_≡_, sym, _∙_}
-use lib.ListN.{length, drop, length-drop}
+use mathlib.Core.Path.{_≡_}
+use lib.ListN.{drop, length-drop}
 use Rattle.snapshot.specs.Steps.Likely.{likely}
 use Rattle.snapshot.proofs.FieldEnds.{likely-fits, from-good, from-bad}
 use Rattle.snapshot.proofs.piece.field_from.Statement.{statement}

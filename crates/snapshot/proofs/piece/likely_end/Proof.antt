@@ -1,10 +1,10 @@
 -- `snapshot::piece::likely_end` meets its contract. Assumes nothing.
 use borrow.Author.Needs.{needs}
-use Prim.Native.Nat.{ℕ, _+_, _-_, _*_, _≤_, _<_}
+use Prim.Native.Nat.{ℕ, _+_, _*_}
 use native.Mathlib.Omega.{arith}
 use mathlib.Core.Path.{_≡_, sym, ap, _∙_}
 use mathlib.Core.Logic.{⊎-elim}
-use lib.ListN.{length, drop, getD}
+use lib.ListN.{drop, getD}
 use Rattle.snapshot.specs.Judge.{fieldLength}
 use Rattle.snapshot.specs.Steps.Likely.{likely}
 use Rattle.snapshot.proofs.FieldEnds.{likely-here, likely-inside, likely-past, likely-never}

@@ -1,6 +1,6 @@
 -- `snapshot::piece::tabbed_at` meets its contract. Assumes nothing.
 use borrow.Author.Needs.{needs}
-use mathlib.Core.Path.{_≡_, sym, _∙_}
+use mathlib.Core.Path.{sym, _∙_}
 use Rattle.snapshot.proofs.JudgeLaws.{next-yes, next-no, next-end}
 use Rattle.snapshot.proofs.piece.tabbed_at.Statement.{statement}
 use Rattle.snapshot.proofs.piece.tabbed_at.Tie as tie
