@@ -1,17 +1,18 @@
 -- Scanning hexadecimal digits gives the bit pattern that they write, and nothing else.
 use Prim.Native.Nat.{ℕ, zero, suc, _+_, _-_, _*_, _/_, _%_, _^_, _≤_, _<_}
-use native.Mathlib.Nat.{mod-lt, mul-le-mul-right, pow-succ', mul-assoc, mul-comm, pow-suc, zero-add, add-zero, suc-add, add-suc}
+use native.Mathlib.Nat.{mod-lt, mul-le-mul-right, pow-succ', mul-assoc, mul-comm, pow-suc, pow-le-pow-right, zero-add, add-zero, suc-add, add-suc}
 use native.Mathlib.Omega.{arith}
 use mathlib.Core.Path.{_≡_, refl, sym, ap, _∙_, subst}
 use mathlib.Core.Bool.{Bool, true, false, not, _&&_, _||_, cond, false≢true}
 use mathlib.Core.List.{List, [], _∷_, _++_, append-nil, append-assoc}
+use mathlib.Core.Logic.{_⊎_, inl, inr}
 use mathlib.Core.Option.{Option, none, some, Option·some-injective, Option·none-ne-some}
 use lib.ListN.{length, take, drop, getD, drop-of-length-le, length-append}
 use lib.Seq.{drop-cons}
 use lib.Dec.{T, leb, ltb, eqb}
 use lib.Ieee.{Float, nan, inf, fin, Format, div, binary32, binary64, ofBits, toBits, nanBits, isNan, fits, top}
 use lib.Ieee.Bits.{ofBits-toBits, toBits-lt, ofBits-fits, toBits-ofBits, nanBits-is, nanBits-above, is-true}
-use borrow.Author.Tests.{ltb-true, ltb-false, leb-true, eqb-true, lt-ltb, le-ltb, le-leb, lt-leb, ne-eqb, eq-eqb, not-true, eqb-false}
+use borrow.Author.Tests.{ltb-true, ltb-false, leb-true, leb-false, eqb-true, lt-ltb, le-ltb, le-leb, lt-leb, ne-eqb, eq-eqb, not-true, eqb-false}
 use Rattle.trcf.specs.Settings.{wholeMax}
 use Rattle.snapshot.specs.Text.{digit, hex, width, float}
 use Rattle.snapshot.specs.Read.{same, asFloat, floatFrom}
@@ -187,26 +188,67 @@ float-is f c = go (eqb (length c) (width f)) refl (hscan 0 c) refl (asFloat f c)
 
 -- ---- one turn of the loop
 
+-- What i bytes tell, of which `largest` is the largest digit: with digits alone the rest of the scan decides, and beside any other byte there is
+-- no number.
+abbrev pub Told : List ℕ → ℕ → ℕ → ℕ → Type 0
+Told c n largest i = (n < 16 ^ i) × (largest ≤ 15 → hscan 0 c ≡ hscan n (drop i c)) × (15 < largest → hscan 0 c ≡ none)
+
+pub told-first : (c : List ℕ) → Told c 0 0 0
+told-first c = (omega arith, λ k. refl, λ k. absurd (omega arith))
+
+-- there is room for another digit before the 16th
+pub room : (c : List ℕ) (n largest i : ℕ) → length c ≤ 16 → i < length c → Told c n largest i → n ≤ 1152921504606846975
+room c n largest i h k t =
+    let p : 16 ^ i ≤ 16 ^ 15 = pow-le-pow-right {n = 16} (omega arith) {i = i} {j = 15} (omega arith) in
+    let q : 16 ^ 15 ≡ 1152921504606846976 = refl in
+    omega (arith, t .0)
+
 module _ (a i : ℕ) (c : List ℕ) (h : i < length c) where
-  pub hscan-yes : hexOf (getD c i 0) ≤ 15 → 16 * a + hexOf (getD c i 0) ≤ wholeMax → hscan a (drop i c) ≡ hscan (16 * a + hexOf (getD c i 0)) (drop (suc i) c)
+  hscan-yes : hexOf (getD c i 0) ≤ 15 → 16 * a + hexOf (getD c i 0) ≤ wholeMax → hscan a (drop i c) ≡ hscan (16 * a + hexOf (getD c i 0)) (drop (suc i) c)
   hscan-yes p q = rw (drop-cons c i 0 h) (hscan-one a (getD c i 0) (drop (suc i) c) p q)
 
-  pub hscan-no : 15 < hexOf (getD c i 0) → hscan a (drop i c) ≡ none
+  hscan-no : 15 < hexOf (getD c i 0) → hscan a (drop i c) ≡ none
   hscan-no p = rw (drop-cons c i 0 h, lt-leb (hexOf (getD c i 0)) 15 p)
 
-  pub hscan-big : hexOf (getD c i 0) ≤ 15 → wholeMax < 16 * a + hexOf (getD c i 0) → hscan a (drop i c) ≡ none
-  hscan-big p q = rw (drop-cons c i 0 h, le-leb (hexOf (getD c i 0)) 15 p, lt-leb (16 * a + hexOf (getD c i 0)) wholeMax q)
+-- the larger of two is d where d is larger
+abbrev pub Larger : ℕ → ℕ → ℕ → Type 0
+Larger old d new = ((old < d) × (new ≡ d)) ⊎ ((d ≤ old) × (new ≡ old))
 
-pub hscan-end : (a i : ℕ) (c : List ℕ) → length c ≤ i → hscan a (drop i c) ≡ some a
-hscan-end a i c h = rw (drop-of-length-le c h)
+module _ (c : List ℕ) (n i d old new : ℕ) (few : length c ≤ 16) (h : i < length c) (e : d ≡ hexOf (getD c i 0)) (t : Told c n old i) where
+  above : Larger old d new → (old ≤ new) × (d ≤ new)
+  above (inl w) = (omega (arith, w .0, w .1), omega (arith, w .1))
+  above (inr w) = (omega (arith, w .1), omega (arith, w .0, w .1))
+
+  fewer : n * 16 + d % 16 < 16 ^ suc i
+  fewer = let p : 16 ^ suc i ≡ 16 ^ i * 16 = pow-suc 16 i in omega (arith, t .0)
+
+  good : old ≤ 15 → d ≤ 15 → hscan 0 c ≡ hscan (n * 16 + d % 16) (drop (suc i) c)
+  good p q =
+      let r : n ≤ 1152921504606846975 = room c n old i few h t in
+      let z : 16 * n + hexOf (getD c i 0) ≡ n * 16 + d % 16 = omega arith in
+      t .1 p ∙ hscan-yes n i c h (omega arith) (omega arith) ∙ ap (λ (x : ℕ). hscan x (drop (suc i) c)) z
+
+  wrong : 15 < d → hscan 0 c ≡ none
+  wrong p = go (leb old 15) refl
+    where
+      go : (b : Bool) → leb old 15 ≡ b → hscan 0 c ≡ none
+      go true x = t .1 (leb-true _ _ x) ∙ hscan-no n i c h (omega arith)
+      go false x = t .2 (leb-false _ _ x)
+
+  spoilt : Larger old d new → 15 < new → hscan 0 c ≡ none
+  spoilt (inl w) p = wrong (omega (arith, w .1))
+  spoilt (inr w) p = t .2 (omega (arith, w .1))
+
+  pub told-next : Larger old d new → Told c (n * 16 + d % 16) new (suc i)
+  told-next w = (fewer, λ p. good (omega (arith, above w .0)) (omega (arith, above w .1)), spoilt w)
 
 -- ---- the answers
 
-pub hnone-at : (c : List ℕ) (n i : ℕ) → hscan 0 c ≡ hscan n (drop i c) → hscan n (drop i c) ≡ none → No ≡ numberOf (hscan 0 c)
-hnone-at c n i e z = sym (ap numberOf (e ∙ z))
+pub hnone-at : (c : List ℕ) (n largest i : ℕ) → Told c n largest i → 15 < largest → No ≡ numberOf (hscan 0 c)
+hnone-at c n largest i t h = sym (ap numberOf (t .2 h))
 
-pub hsome-at : (c : List ℕ) (n i : ℕ) → hscan 0 c ≡ hscan n (drop i c) → length c ≤ i → Is n ≡ numberOf (hscan 0 c)
-hsome-at c n i e h = sym (ap numberOf (e ∙ hscan-end n i c h))
+pub hsome-at : (c : List ℕ) (n largest i : ℕ) → Told c n largest i → largest ≤ 15 → length c ≤ i → Is n ≡ numberOf (hscan 0 c)
+hsome-at c n largest i t h k = sym (ap numberOf (t .1 h ∙ ap (hscan n) (drop-of-length-le c k)))
 
 -- ---- a float's answers, for either width
 

@@ -18,6 +18,7 @@ use Rattle.snapshot.specs.Read.{asWhole, asFloat}
 use Rattle.snapshot.specs.Scan.{fieldOf, singleOf, doubleOf, wholeOf, numberOf}
 use Rattle.snapshot.specs.declared.field.Number.the-variants.{No, Is}
 use Rattle.snapshot.specs.Judge.{placed, onto, held, byte, name, fieldLength, fieldIn, endIn, restOf, tabbedOf, nextOf, one, before, fields, closing, listLine, Filled}
+use Rattle.snapshot.specs.Steps.Likely.{fromOf}
 use Rattle.snapshot.specs.declared.field.Field.{Field}
 use Rattle.snapshot.specs.declared.field.Field.the-variants.{Single, Double, Whole, Bad}
 use Rattle.snapshot.specs.declared.piece.Place.{Place}
@@ -67,13 +68,8 @@ field-short (b ∷ l) = go (leb b 10) refl (field-short l)
 -- ---- a field
 
 module _ (k : ℕ) (t : List ℕ) (i : ℕ) where
-  pub next-yes : i < length t → getD t i 0 ≡ 9 → (f : Field) (e : ℕ) → e ≡ i + 1 + fieldLength (drop (i + 1) t)
-      → f ≡ fieldOf k (take (e - (i + 1)) (drop (i + 1) t)) → record { field = f; end = e } ≡ tabbedOf k i t
-  next-yes h q f e p g =
-      let n : e - (i + 1) ≡ fieldLength (drop (i + 1) t) = omega arith in
-      let a : f ≡ fieldIn k (drop i t) = g ∙ rw (n, drop-cons t i 0 h, eq-eqb (getD t i 0) 9 q, add-one i) in
-      let b : e ≡ endIn i (drop i t) = p ∙ rw (drop-cons t i 0 h, eq-eqb (getD t i 0) 9 q, add-one i) in
-      λ j. record { field = a j; end = b j }
+  pub next-yes : i < length t → getD t i 0 ≡ 9 → fromOf k (i + 1) t ≡ tabbedOf k i t
+  next-yes h q = rw (drop-cons t i 0 h, eq-eqb (getD t i 0) 9 q, add-one i)
 
   pub next-no : i < length t → (getD t i 0 ≡ 9 → ⊥) → record { field = Bad; end = i } ≡ tabbedOf k i t
   next-no h q = rw (drop-cons t i 0 h, ne-eqb (getD t i 0) 9 q)

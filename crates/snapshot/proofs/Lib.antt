@@ -18,6 +18,7 @@ pub mod SaveLaws
 pub mod SaveForm
 pub mod SaveRead
 pub mod JudgeLaws
+pub mod FieldEnds
 pub mod JudgeLines
 pub mod ValueLaws
 pub mod LineTests

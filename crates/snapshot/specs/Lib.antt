@@ -10,3 +10,4 @@ pub mod Savable
 pub mod Room
 pub mod Runs
 pub mod Ascii
+pub mod Steps

@@ -62,42 +62,36 @@ pub fn whole(c: &[u8]) -> Number
     Number::Is(n)
 }
 
-// A lower-case hexadecimal digit, 16 for no digit.
-fn digit(b: u64) -> u64
+// A lower-case hexadecimal digit, 16 for no digit. Each of its four choices is among values at hand, so that it takes no branch, which for
+// digits nobody can foretell.
+fn digit(b: u8) -> u8
     ensures { λ r. ⌜ r ≡ hexOf b ⌝ }
 {
-    if b < 48 {
-        return 16;
-    }
-    if b <= 57 {
-        return b - 48;
-    }
-    if b < 97 {
-        return 16;
-    }
-    if b <= 102 {
-        return b - 87;
-    }
-    16
+    let low = if b < 48 { 16u8 } else { b - 48 };
+    let high = if b < 97 { 16u8 } else { b - 87 };
+    let letter = if 102 < b { 16u8 } else { high };
+    if b <= 57 { low } else { letter }
 }
 
-// The number that lower-case hexadecimal digits write.
+// The number that up to 16 lower-case hexadecimal digits write. The largest tells at the end whether each of them is a digit: with no way out of
+// the loop the machine reads them side by side.
 fn hex(c: &[u8]) -> Number
+    requires { ⌜ length (now c) ≤ 16 ⌝ }
     ensures { λ r. ⌜ r ≡ numberOf (hscan 0 (now (c .entry))) ⌝ }
 {
     let mut n: u64 = 0;
+    let mut largest: u8 = 0;
     let mut i = 0;
     while i < c.len() {
-        let b = wide(c[i]);
-        let d = digit(b);
-        if 15 < d {
-            return Number::No;
+        let d = digit(c[i]);
+        if largest < d {
+            largest = d;
         }
-        if 1152921504606846975 < n {
-            return Number::No;
-        }
-        n = n * 16 + d;
+        n = n * 16 + (d % 16) as u64;
         i += 1;
+    }
+    if 15 < largest {
+        return Number::No;
     }
     Number::Is(n)
 }

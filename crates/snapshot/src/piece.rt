@@ -5,6 +5,7 @@ ghost use mathlib.Core.Path.{_≡_};
 ghost use Prim.Native.Nat.{_+_, _≤_, _<_};
 ghost use lib.ListN.{length, drop};
 ghost use Rattle.snapshot.specs.Judge.{placed, byte, name, fieldLength, restOf, tabbedOf, nextOf};
+ghost use Rattle.snapshot.specs.Steps.Likely.{likely, fromOf};
 
 pub(crate) fn wide(x: u8) -> u64
     ensures { λ r. ⌜ r ≡ x ⌝ }
@@ -64,6 +65,41 @@ pub(crate) struct Next {
     pub end: usize,
 }
 
+// Where the field ends if a single has its 8 bytes and a double its 16; else the next tab or LF.
+fn likely_end(text: &[u8], from: usize, kind: u64) -> usize
+    requires { ⌜ from ≤ length (now text) ⌝ }
+    ensures { λ r. ⌜ r ≡ from + likely kind (drop from (now (text .entry))) ⌝ }
+{
+    if kind < 2 {
+        let width = (kind * 8 + 8) as usize;
+        if width < text.len() - from {
+            if wide(text[from + width]) <= 10 {
+                return from + width;
+            }
+        }
+    }
+    field_end(text, from)
+}
+
+// The field that begins at a place. A good one has no tab and no LF in it, so that its likely end is its end; the end of a bad one is looked for.
+fn field_from(text: &[u8], from: usize, kind: u64) -> Next
+    requires { ⌜ from ≤ length (now text) ⌝ }
+    ensures { λ r. ⌜ r ≡ fromOf kind from (now (text .entry)) ⌝ }
+{
+    let end = likely_end(text, from, kind);
+    let field = parse(text, from, end, kind);
+    let Field::Bad = field else {
+        return Next {
+            field: field,
+            end: end,
+        };
+    };
+    Next {
+        field: Field::Bad,
+        end: field_end(text, from),
+    }
+}
+
 // The rest of the text as one field.
 fn rest_at(text: &[u8], at: usize, kind: u64) -> Next
     ensures { λ r. ⌜ r ≡ restOf kind at (now (text .entry)) ⌝ }
@@ -89,13 +125,7 @@ fn tabbed_at(text: &[u8], at: usize, kind: u64) -> Next
 {
     if at < text.len() {
         if wide(text[at]) == 9 {
-            let from = at + 1;
-            let end = field_end(text, from);
-            let field = parse(text, from, end, kind);
-            return Next {
-                field: field,
-                end: end,
-            };
+            return field_from(text, at + 1, kind);
         }
     }
     Next {

@@ -1,62 +1,44 @@
 -- `snapshot::field::hex` meets its contract. Assumes nothing.
-use Prim.Native.Nat.{ℕ, suc, _+_, _-_, _*_, _≤_, _<_}
+use Prim.Native.Nat.{_-_, _≤_, _<_}
 use native.Mathlib.Omega.{arith}
 use native.Mathlib.Numerals.{add-one}
-use mathlib.Core.Path.{_≡_, refl, sym, ap, _∙_}
-use lib.ListN.{length, drop, getD}
+use mathlib.Core.Logic.{inl, inr, ⊎-elim}
+use lib.ListN.{length}
 use borrow.Author.Needs.{needs}
-use Rattle.snapshot.specs.Scan.{hexOf, hscan, numberOf}
-use Rattle.snapshot.proofs.HexLaws.{hnone-at, hsome-at, hscan-no, hscan-big, hscan-yes}
+use Rattle.snapshot.proofs.HexLaws.{Told, Larger, told-first, told-next, room, hnone-at, hsome-at}
 use Rattle.snapshot.proofs.field.hex.Statement.{statement}
 use Rattle.snapshot.proofs.field.hex.Tie as tie
 use Rattle.snapshot.proofs.field.hex.Reads as reads
 use Rattle.snapshot.proofs.field.hex.Lts as lts
 use Rattle.snapshot.proofs.field.digit.Reads as digit-reads
-use Rattle.snapshot.proofs.field.wide.Reads as wide-reads
 
 abbrev Inv-loop : tie.InvT-loop
-Inv-loop c n₀ i₀ n i = (i ≤ length c) × (hscan 0 c ≡ hscan n (drop i c))
+Inv-loop c n₀ largest₀ i₀ n largest i = (i ≤ length c) × Told c n largest i
 
 abbrev μ-loop : tie.MeasureT-loop
-μ-loop c n₀ i₀ n i = length c - i
+μ-loop c n₀ largest₀ i₀ n largest i = length c - i
 
 loop-holds : tie.Need-loop-holds Inv-loop μ-loop
-loop-holds c = (omega arith, refl)
+loop-holds c = (omega arith, told-first (c .before .args .c .now))
 
-shared-slice-read-wide : tie.Need-shared-slice-read-wide Inv-loop μ-loop
-shared-slice-read-wide c = search needs
-
-wide-requires : tie.Need-wide-requires Inv-loop μ-loop
-wide-requires c κs = search needs
+shared-slice-read-digit : tie.Need-shared-slice-read-digit Inv-loop μ-loop
+shared-slice-read-digit c = search needs
 
 digit-requires : tie.Need-digit-requires Inv-loop μ-loop
 digit-requires c κs = search needs
 
-returns : tie.Need-returns Inv-loop μ-loop
-returns c =
-    let v = c .before .before .before .before .before .before .before .args .c .now in
-    let n = c .before .before .before .before .before .loop .n in
-    let i = c .before .before .before .before .before .loop .i in
-    let h : i < length v = c .before .before .before .before .loop-test .taken in
-    let e : hscan 0 v ≡ hscan n (drop i v) = c .before .before .before .before .before .loop .inv .1 in
-    let b : c .before .digit .result ≡ hexOf (getD v i 0) = c .before .digit .ensures ∙ ap hexOf (c .before .before .wide .ensures) in
-    hnone-at v n i e (hscan-no n i v h (omega (arith, c .if1 .taken)))
-
-returns-2 : tie.Need-returns-2 Inv-loop μ-loop
-returns-2 c =
-    let v = c .before .before .before .before .before .before .before .before .args .c .now in
-    let n = c .before .before .before .before .before .before .loop .n in
-    let i = c .before .before .before .before .before .before .loop .i in
-    let h : i < length v = c .before .before .before .before .before .loop-test .taken in
-    let e : hscan 0 v ≡ hscan n (drop i v) = c .before .before .before .before .before .before .loop .inv .1 in
-    let b : c .before .before .digit .result ≡ hexOf (getD v i 0) = c .before .before .digit .ensures ∙ ap hexOf (c .before .before .before .wide .ensures) in
-    hnone-at v n i e (hscan-big n i v h (omega (arith, c .before .if1 .left)) (omega (arith, c .if2 .taken)))
-
 mul-n : tie.Need-mul-n Inv-loop μ-loop
-mul-n c = search needs
+mul-n c =
+    let s = c .before .before .before .before in
+    omega (arith, room (s .before .before .args .c .now) (s .loop .n) (s .loop .largest) (s .loop .i) (s .before .before .pre) (c .before .before .before .loop-test .taken) (s .loop .inv .1))
+
+cast-n : tie.Need-cast-n Inv-loop μ-loop
+cast-n c = search needs
 
 add-n : tie.Need-add-n Inv-loop μ-loop
-add-n c = search needs
+add-n c =
+    let s = c .before .before .before .before in
+    omega (arith, room (s .before .before .args .c .now) (s .loop .n) (s .loop .largest) (s .loop .i) (s .before .before .pre) (c .before .before .before .loop-test .taken) (s .loop .inv .1))
 
 add-i : tie.Need-add-i Inv-loop μ-loop
 add-i c = search needs
@@ -66,16 +48,23 @@ loop-less c = search needs
 
 loop-again : tie.Need-loop-again Inv-loop μ-loop
 loop-again c =
-    let v = c .before .before .before .before .before .before .before .before .args .c .now in
-    let n = c .before .before .before .before .before .before .loop .n in
-    let i = c .before .before .before .before .before .before .loop .i in
-    let h : i < length v = c .before .before .before .before .before .loop-test .taken in
-    let e : hscan 0 v ≡ hscan n (drop i v) = c .before .before .before .before .before .before .loop .inv .1 in
-    let b : c .before .before .digit .result ≡ hexOf (getD v i 0) = c .before .before .digit .ensures ∙ ap hexOf (c .before .before .before .wide .ensures) in
-    (omega arith, e ∙ hscan-yes n i v h (omega (arith, c .before .if1 .left)) (omega (arith, c .if2 .left, c .before .if1 .left)) ∙ rw (add-one i) (ap (λ (x : ℕ). hscan x (drop (suc i) v)) (omega arith)))
+    let v = c .before .before .before .before .before .before .args .c .now in
+    let s = c .before .before .before .before .loop in
+    let d = c .before .digit in
+    let h : s .i < length v = c .before .before .before .loop-test .taken in
+    let w : Larger (s .largest) (d .result) (c .if1 .largest) = ⊎-elim (λ w. inl (w .0 .taken, w .1)) (λ w. inr (w .0 .left, w .1)) (c .if1 .came) in
+    let few : length v ≤ 16 = c .before .before .before .before .before .before .pre in
+    (omega arith, rw (add-one (s .i)) (told-next v (s .n) (s .i) (d .result) (s .largest) (c .if1 .largest) few h (d .ensures) (s .inv .1) w))
 
-returns-3 : tie.Need-returns-3 Inv-loop μ-loop
-returns-3 c = hsome-at (c .before .before .before .args .c .now) (c .before .loop .n) (c .before .loop .i) (c .before .loop .inv .1) (c .loop-test .left)
+returns : tie.Need-returns Inv-loop μ-loop
+returns c =
+    let s = c .before .before .loop in
+    hnone-at (c .before .before .before .before .args .c .now) (s .n) (s .largest) (s .i) (s .inv .1) (c .if2 .taken)
+
+returns-2 : tie.Need-returns-2 Inv-loop μ-loop
+returns-2 c =
+    let s = c .before .before .loop in
+    hsome-at (c .before .before .before .before .args .c .now) (s .n) (s .largest) (s .i) (s .inv .1) (c .if2 .left) (c .before .loop-test .left)
 
 pub hex-spec : {M : Type 1} → statement M
 hex-spec =
@@ -84,14 +73,13 @@ hex-spec =
     Inv-loop
     μ-loop
     loop-holds
-    shared-slice-read-wide
-    wide-requires
+    shared-slice-read-digit
     digit-requires
-    returns
-    returns-2
     mul-n
+    cast-n
     add-n
     add-i
     loop-less
     loop-again
-    returns-3)
+    returns
+    returns-2)
