@@ -32,6 +32,10 @@ pub and-true : (b : Bool) → b ≡ b && true
 and-true true = refl
 and-true false = refl
 
+and-false : (b : Bool) → b && false ≡ false
+and-false true = refl
+and-false false = refl
+
 -- of two bounded by 2, the larger decides
 module _ (a b : ℕ) (c : Bool) (h : a ≤ b) where
   smaller : ltb b 2 ≡ true → ltb a 2 ≡ true
@@ -45,15 +49,11 @@ module _ (a b : ℕ) (c : Bool) (h : a ≤ b) where
       go false e = refl
 
   larger-last : ltb a 2 && (ltb b 2 && c) ≡ ltb b 2 && c
-  larger-last = go (ltb b 2) refl (ltb a 2) refl
+  larger-last = go (ltb b 2) refl
     where
-      go : (t : Bool) → ltb b 2 ≡ t → (s : Bool) → ltb a 2 ≡ s → s && (t && c) ≡ t && c
-      go t e true f = refl
-      go false e false f = refl
-      go true e false f = absurd (no (sym f ∙ smaller e))
-        where
-          no : false ≡ true → ⊥
-          no p = omega (arith, ap (λ (x : Bool). cond x 1 0) p)
+      go : (t : Bool) → ltb b 2 ≡ t → ltb a 2 && (t && c) ≡ t && c
+      go true e = rw (smaller e)
+      go false e = and-false (ltb a 2)
 
 -- one step of the walk over them: `largest` of those before i, `after` of those up to i
 module _ (l : List ℕ) (i : ℕ) (h : i < length l) (largest after : ℕ) (inv : bits l ≡ ltb largest 2 && bits (drop i l)) where

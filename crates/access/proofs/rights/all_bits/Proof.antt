@@ -25,6 +25,9 @@ loop-holds c = (omega arith, refl)
 shared-slice-read-if1 : tie.Need-shared-slice-read-if1 Inv-loop μ-loop
 shared-slice-read-if1 c = omega arith
 
+shared-slice-read-largest : tie.Need-shared-slice-read-largest Inv-loop μ-loop
+shared-slice-read-largest c = omega arith
+
 add-i : tie.Need-add-i Inv-loop μ-loop
 add-i c = omega arith
 
@@ -37,7 +40,7 @@ loop-again c =
     let t = c .before .before .before .before .args .table .now in
     let h : L .i < length t = omega arith in (
       omega arith,
-      ⊎-elim (λ w. larger-met t (L .i) h (L .largest) (c .if1 .largest) (L .inv .1) (omega (arith, w .0 .taken)) (w .1))
+      ⊎-elim (λ w. larger-met t (L .i) h (L .largest) (c .if1 .largest) (L .inv .1) (omega (arith, w .0 .taken)) (w .2))
           (λ w. none-larger t (L .i) h (L .largest) (c .if1 .largest) (L .inv .1) (omega (arith, w .0 .left)) (w .1)) (c .if1 .came),
     )
 
@@ -49,4 +52,4 @@ returns c =
     sym (L .inv .1 ∙ ap (λ (l : List ℕ). ltb (L .largest) 2 && bits l) (drop-of-length-le t h) ∙ sym (and-true (ltb (L .largest) 2)))
 
 pub all-bits-spec : {M : Type 1} → statement M
-all-bits-spec = tie.close (tie.spec Inv-loop μ-loop loop-holds shared-slice-read-if1 add-i loop-less loop-again returns)
+all-bits-spec = tie.close (tie.spec Inv-loop μ-loop loop-holds shared-slice-read-if1 shared-slice-read-largest add-i loop-less loop-again returns)
