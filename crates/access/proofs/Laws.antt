@@ -4,6 +4,7 @@ use mathlib.Core.Path.{_≡_, refl, sym, ap, _∙_}
 use mathlib.Core.Bool.{Bool, true, false, cond, _&&_}
 use mathlib.Core.List.{List, [], _∷_}
 use native.Mathlib.Numerals.{add-one}
+use native.Mathlib.Omega.{arith}
 use lib.Dec.{ltb, eqb}
 use lib.ListN.{length, getD, drop}
 use lib.Seq.{drop-cons}
@@ -24,11 +25,8 @@ use Rattle.access.specs.Entries.{numbersOf}
 
 -- ---- the cells, one by one
 
-bits-not : (l : List ℕ) (i : ℕ) → i < length l → 2 ≤ getD l i 0 → bits (drop i l) ≡ false
-bits-not l i h e = rw (drop-cons l i 0 h, le-ltb (getD l i 0) 2 e)
-
-bits-more : (l : List ℕ) (i : ℕ) → i < length l → getD l i 0 < 2 → bits (drop i l) ≡ bits (drop (i + 1) l)
-bits-more l i h e = rw (add-one i, drop-cons l i 0 h, lt-ltb (getD l i 0) 2 e)
+bits-step : (l : List ℕ) (i : ℕ) → i < length l → bits (drop i l) ≡ ltb (getD l i 0) 2 && bits (drop (i + 1) l)
+bits-step l i h = rw (add-one i, drop-cons l i 0 h)
 
 pub and-true : (b : Bool) → b ≡ b && true
 and-true true = refl
@@ -38,13 +36,40 @@ and-false : (b : Bool) → b && false ≡ false
 and-false true = refl
 and-false false = refl
 
--- one step of the walk over them: `fine` says whether a bad one was met before i, `after` whether one was met up to i
-module _ (l : List ℕ) (i : ℕ) (h : i < length l) (fine after : Bool) (inv : bits l ≡ fine && bits (drop i l)) where
-  pub bad-met : 2 ≤ getD l i 0 → after ≡ false → bits l ≡ after && bits (drop (i + 1) l)
-  bad-met e f = inv ∙ ap (λ (b : Bool). fine && b) (bits-not l i h e) ∙ and-false fine ∙ ap (λ (b : Bool). b && bits (drop (i + 1) l)) (sym f)
+-- of two bounded by 2, the larger decides
+module _ (a b : ℕ) (c : Bool) (h : a ≤ b) where
+  smaller : ltb b 2 ≡ true → ltb a 2 ≡ true
+  smaller e = lt-ltb a 2 (omega (arith, ltb-true b 2 e))
 
-  pub good-met : getD l i 0 < 2 → after ≡ fine → bits l ≡ after && bits (drop (i + 1) l)
-  good-met e f = inv ∙ ap (λ (b : Bool). fine && b) (bits-more l i h e) ∙ ap (λ (b : Bool). b && bits (drop (i + 1) l)) (sym f)
+  larger-first : ltb b 2 && (ltb a 2 && c) ≡ ltb b 2 && c
+  larger-first = go (ltb b 2) refl
+    where
+      go : (t : Bool) → ltb b 2 ≡ t → t && (ltb a 2 && c) ≡ t && c
+      go true e = rw (smaller e)
+      go false e = refl
+
+  larger-last : ltb a 2 && (ltb b 2 && c) ≡ ltb b 2 && c
+  larger-last = go (ltb b 2) refl
+    where
+      go : (t : Bool) → ltb b 2 ≡ t → ltb a 2 && (t && c) ≡ t && c
+      go true e = rw (smaller e)
+      go false e = and-false (ltb a 2)
+
+-- one step of the walk over them: `largest` of those before i, `after` of those up to i
+module _ (l : List ℕ) (i : ℕ) (h : i < length l) (largest after : ℕ) (inv : bits l ≡ ltb largest 2 && bits (drop i l)) where
+  pub larger-met : largest < getD l i 0 → after ≡ getD l i 0 → bits l ≡ ltb after 2 && bits (drop (i + 1) l)
+  larger-met e f =
+      inv
+      ∙ ap (λ (b : Bool). ltb largest 2 && b) (bits-step l i h)
+      ∙ larger-last largest (getD l i 0) (bits (drop (i + 1) l)) (omega (arith, e))
+      ∙ ap (λ (n : ℕ). ltb n 2 && bits (drop (i + 1) l)) (sym f)
+
+  pub none-larger : getD l i 0 ≤ largest → after ≡ largest → bits l ≡ ltb after 2 && bits (drop (i + 1) l)
+  none-larger e f =
+      inv
+      ∙ ap (λ (b : Bool). ltb largest 2 && b) (bits-step l i h)
+      ∙ larger-first (getD l i 0) largest (bits (drop (i + 1) l)) e
+      ∙ ap (λ (n : ℕ). ltb n 2 && bits (drop (i + 1) l)) (sym f)
 
 -- ---- whether the table is one, and the role one of its four
 

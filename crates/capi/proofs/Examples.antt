@@ -13,11 +13,11 @@ use Rattle.trcf.specs.declared.types.ForestMode.the-variants.{«TIME_AUGMENTED�
 use Rattle.trcf.specs.declared.head.Preprocessor.{Preprocessor}
 use Rattle.common.specs.Lent.{over}
 use Rattle.access.specs.Access.{granted, everyRight}
-use Rattle.capi.specs.Head.{headOf, numbersOf, frontOf, wordsOf, wordsRow, single}
+use Rattle.capi.specs.Head.{headOf, numbersOf, frontOf, wordsOf, formRow, wordsRow, single}
 use Rattle.capi.specs.Calls.{openRow, onHead, listGot, listTold, numbersAt, codesAt}
 
 all : Unit {0}
-unfolding wordsOf frontOf numbersOf headOf wordsRow outsideRow misfit ownRow readyOf waiting openRow onHead listTold numbersAt codesAt granted headRow dimension block settingsRow allOne outsideUnit over toBits ofBits le
+unfolding wordsOf frontOf numbersOf headOf formRow wordsRow outsideRow misfit ownRow readyOf waiting openRow onHead listTold numbersAt codesAt granted headRow dimension block settingsRow allOne outsideUnit over toBits ofBits le
 all = tt
 
 abbrev sample : Preprocessor

@@ -1,20 +1,22 @@
 -- The head in words: what is written is read back, the row of words, and the settings' row. Assumes nothing.
-use Prim.Native.Nat.{ℕ, _+_, _≤_, _<_}
+use Prim.Native.Nat.{ℕ, zero, suc, _+_, _≤_, _<_}
 use mathlib.Core.Bool.{Bool, true, false, cond, _||_}
 use mathlib.Core.List.{List, [], _∷_, _++_, map, append-assoc}
 use mathlib.Core.Path.{_≡_, refl, sym, ap, _∙_}
 use native.Mathlib.Omega.{arith}
 use lib.Dec.{ltb}
-use lib.ListN.{length, take, drop, getD, set, length-drop, length-append, length-map}
+use lib.ListN.{length, take, drop, getD, set, length-drop, length-append, length-map, drop-of-length-le}
 use lib.Seq.{length-take-le, take-at, drop-at, drop-drop}
 use lib.Ieee.{Float, binary32, binary64, ofBits, toBits}
 use lib.Ieee.Bits.{ofBits-toBits}
-use borrow.Author.Tests.{lt-ltb, le-ltb}
+use borrow.Author.Tests.{lt-ltb, le-ltb, ltb-false}
 use borrow.Rule.Slice.PartMut.{putMid}
 use Rattle.common.specs.Lent.{over}
 use Rattle.trcf.specs.Types.{methodNumber}
+use Rattle.trcf.specs.Settings.{codeMax}
 use Rattle.snapshot.specs.Read.{allCodes}
 use Rattle.snapshot.proofs.ReadKinds.{to-codes}
+use Rattle.snapshot.proofs.ValueLaws.{codes-on, codes-not}
 use Rattle.trcf.specs.View.{outsideRow, orElse, counting}
 use Rattle.trcf.specs.declared.types.TransformMethod.{TransformMethod}
 use Rattle.trcf.specs.declared.types.TransformMethod.the-variants.{NONE, WEIGHTED, DIFFERENCE, «SUBTRACT_MA», NORMALIZE, «NORMALIZE_DIFFERENCE»}
@@ -22,7 +24,7 @@ use Rattle.trcf.specs.declared.types.ForestMode.{ForestMode}
 use Rattle.trcf.specs.declared.types.ForestMode.the-variants.{STANDARD, «TIME_AUGMENTED», «STREAMING_IMPUTE», «GAP_AUGMENTED»}
 use Rattle.trcf.specs.declared.head.Preprocessor.{Preprocessor}
 use Rattle.trcf.proofs.OutcomeLaws.{orElse-is}
-use Rattle.capi.specs.Head.{modeNumber, modeOf, methodOf, kindRow, codesRow, single, codesIn, headOf, numbersOf, frontOf, wordsOf, countsOver, shortRow as fewRow, wordsRow, Read, Held}
+use Rattle.capi.specs.Head.{modeNumber, modeOf, methodOf, kindRow, codesRow, single, codesIn, headOf, numbersOf, frontOf, wordsOf, countsOver, shortRow as fewRow, formRow, wordsRow, Read, Held}
 use Rattle.capi.proofs.WordLaws.{mode-back, method-back, single-back, singles-back}
 
 -- ---- reading
@@ -101,40 +103,28 @@ head-back h g rest =
 pub long : (w : List ℕ) → 44 ≤ length w → fewRow w ≡ 0
 long w h = ap (λ (b : Bool). cond b 20 0) (le-ltb (length w) 44 h)
 
--- behind the row of too few words, and behind the row of the kinds
-abbrev pub kindBehind : List ℕ → ℕ
-kindBehind w = orElse (codesRow (codesIn w)) (outsideRow (headOf w))
+pub form-few : (w : List ℕ) → length w < 44 → 20 ≡ formRow w
+unfolding formRow
+form-few w h = rw (lt-ltb (length w) 44 h)
 
-abbrev pub fewBehind : List ℕ → ℕ
-fewBehind w = orElse (kindRow (getD w 0 0) (getD w 1 0)) (kindBehind w)
+module _ (w : List ℕ) (k : ℕ) (h : 44 ≤ length w) (e : k ≡ kindRow (getD w 0 0) (getD w 1 0)) where
+  past-few : orElse (kindRow (getD w 0 0) (getD w 1 0)) (codesRow (codesIn w)) ≡ formRow w
+  unfolding formRow
+  past-few = ap (λ (q : ℕ). orElse q (orElse (kindRow (getD w 0 0) (getD w 1 0)) (codesRow (codesIn w)))) (sym (long w h))
 
-pub row-few : (w : List ℕ) → length w < 44 → 20 ≡ wordsRow w
+  pub form-kind : (k ≡ 0 → ⊥) → k ≡ formRow w
+  form-kind n = e ∙ sym (orElse-is (kindRow (getD w 0 0) (getD w 1 0)) (codesRow (codesIn w)) (λ z. n (e ∙ z))) ∙ past-few
+
+  pub form-codes : k ≡ 0 → (c : ℕ) → c ≡ codesRow (codesIn w) → c ≡ formRow w
+  form-codes z c p = p ∙ ap (λ (m : ℕ). orElse m (codesRow (codesIn w))) (sym (sym e ∙ z)) ∙ past-few
+
+pub row-form : (w : List ℕ) → (formRow w ≡ 0 → ⊥) → formRow w ≡ wordsRow w
 unfolding wordsRow
-row-few w h = sym (ap (λ (b : Bool). orElse (cond b 20 0) (fewBehind w)) (lt-ltb (length w) 44 h))
+row-form w n = sym (orElse-is (formRow w) (outsideRow (headOf w)) n)
 
-pub row-kind : (w : List ℕ) (k : ℕ) → 44 ≤ length w → k ≡ kindRow (getD w 0 0) (getD w 1 0) → (k ≡ 0 → ⊥) → k ≡ wordsRow w
+pub row-outside : (w : List ℕ) {g : Preprocessor} {row : ℕ} → formRow w ≡ 0 → g ≡ headOf w → row ≡ outsideRow g → row ≡ wordsRow w
 unfolding wordsRow
-row-kind w k h e n =
-    e
-    ∙ sym (orElse-is (kindRow (getD w 0 0) (getD w 1 0)) (kindBehind w) (λ z. n (e ∙ z)))
-    ∙ sym (ap (λ (q : ℕ). orElse q (fewBehind w)) (long w h))
-
-module _ (w : List ℕ) (k : ℕ) (h : 44 ≤ length w) (e : k ≡ kindRow (getD w 0 0) (getD w 1 0)) (z : k ≡ 0) where
-  past-kinds : kindBehind w ≡ wordsRow w
-  unfolding wordsRow
-  past-kinds =
-      sym (ap (λ (m : ℕ). orElse m (kindBehind w)) (sym e ∙ z))
-      ∙ sym (ap (λ (m : ℕ). orElse m (fewBehind w)) (long w h))
-
-  pub row-codes : (c : ℕ) → c ≡ codesRow (codesIn w) → (c ≡ 0 → ⊥) → c ≡ wordsRow w
-  row-codes c p n = p ∙ sym (orElse-is (codesRow (codesIn w)) (outsideRow (headOf w)) (λ q. n (p ∙ q))) ∙ past-kinds
-
-  pub row-outside : {g : Preprocessor} (c row : ℕ) → c ≡ codesRow (codesIn w) → c ≡ 0 → g ≡ headOf w → row ≡ outsideRow g → row ≡ wordsRow w
-  row-outside c row p y i q =
-      q
-      ∙ ap (λ (x : Preprocessor). outsideRow x) i
-      ∙ sym (ap (λ (m : ℕ). orElse m (outsideRow (headOf w))) (sym p ∙ y))
-      ∙ past-kinds
+row-outside w z i q = q ∙ ap (λ (x : Preprocessor). outsideRow x) i ∙ sym (ap (λ (m : ℕ). orElse m (outsideRow (headOf w))) z)
 
 -- what row 0 says of the words of the codes
 pub all-codes : (v : List ℕ) {c : ℕ} → c ≡ codesRow v → c ≡ 0 → allCodes v ≡ true
@@ -143,6 +133,42 @@ all-codes v {c} p z = go (allCodes v) (sym p ∙ z)
     go : (b : Bool) → _≡_ {A = ℕ} (cond b 0 19) 0 → b ≡ true
     go true e = refl
     go false e = absurd (omega (arith, e))
+
+-- one step of the walk over the codes: `row` is what the words before i say, `after` what those up to i say
+module _ (w : List ℕ) (i : ℕ) (h : i < length w) (row after : ℕ) (inv : codesRow w ≡ orElse row (codesRow (drop i w))) where
+  pub code-bad : codeMax < getD w i 0 → after ≡ 19 → codesRow w ≡ orElse after (codesRow (drop (suc i) w))
+  code-bad e f =
+      met (allCodes w) row (inv ∙ ap (λ (b : Bool). orElse row (cond b 0 19)) (codes-not w i h e))
+      ∙ ap (λ (r : ℕ). orElse r (codesRow (drop (suc i) w))) (sym f)
+    where
+      met : (b : Bool) (r : ℕ) → _≡_ {A = ℕ} (cond b 0 19) (orElse r 19) → _≡_ {A = ℕ} (cond b 0 19) 19
+      met b zero q = q
+      met true (suc r) q = absurd (omega (arith, q))
+      met false (suc r) q = refl
+
+  pub code-good : getD w i 0 ≤ codeMax → after ≡ row → codesRow w ≡ orElse after (codesRow (drop (suc i) w))
+  code-good e f =
+      inv
+      ∙ ap (λ (b : Bool). orElse row (cond b 0 19)) (codes-on w i h e)
+      ∙ ap (λ (r : ℕ). orElse r (codesRow (drop (suc i) w))) (sym f)
+
+pub codes-met : (w : List ℕ) (i row : ℕ) → length w ≤ i → codesRow w ≡ orElse row (codesRow (drop i w)) → row ≡ codesRow w
+codes-met w i row h inv = sym (inv ∙ ap (λ (l : List ℕ). orElse row (codesRow l)) (drop-of-length-le w h) ∙ alone row)
+  where
+    alone : (r : ℕ) → orElse r 0 ≡ r
+    alone zero = refl
+    alone (suc r) = refl
+
+-- what a form's row 0 says of the words
+pub formed : (w : List ℕ) → formRow w ≡ 0 → (44 ≤ length w) × (allCodes (codesIn w) ≡ true)
+unfolding formRow
+formed w z = go (ltb (length w) 44) refl (ltb 3 (getD w 0 0) || ltb 5 (getD w 1 0)) z
+  where
+    go : (a : Bool) → ltb (length w) 44 ≡ a → (b : Bool) → orElse (cond a 20 0) (orElse (cond b 19 0) (codesRow (codesIn w))) ≡ 0
+        → (44 ≤ length w) × (allCodes (codesIn w) ≡ true)
+    go true e b r = absurd (omega (arith, r))
+    go false e true r = absurd (omega (arith, r))
+    go false e false r = (ltb-false (length w) 44 e, all-codes (codesIn w) refl r)
 
 -- a head that was read has sixteen codes
 pub read-codes : {w : List ℕ} {h : Preprocessor} → Read w h → length (h .codes) ≡ 16
@@ -260,7 +286,8 @@ pub in-use : (h : Preprocessor) → Held h → outsideRow h ≡ 0 → (rest : Li
 unfolding wordsOf frontOf numbersOf
 in-use h g e rest =
     let w = wordsOf h ++ rest in
-    sym (row-outside w 0 (whole-words h g rest) (kind-known (h .«forest_mode») (h .transformer .«transform_method»)) refl 0 0 (codes-known h g rest) refl (sym (head-back h g rest)) (sym e))
+    let z = form-codes w 0 (whole-words h g rest) (kind-known (h .«forest_mode») (h .transformer .«transform_method»)) refl 0 (codes-known h g rest) in
+    sym (row-outside w (sym z) (sym (head-back h g rest)) (sym e))
 
 pub counts-in-words : (h : Preprocessor) (rest : List ℕ) (count seen internal n : ℕ)
     → countsOver (wordsOf h ++ rest) (counting h count seen internal n) ≡ wordsOf (counting h count seen internal n) ++ rest

@@ -8,18 +8,31 @@ use lib.ListN.{length, drop, set}
 use Rattle.common.specs.Lent.{over}
 use Rattle.trcf.specs.Types.{methodNumber}
 use Rattle.trcf.specs.declared.head.StatusAnswer.{StatusAnswer}
-use Rattle.capi.specs.Head.{modeNumber, wordsRow}
+use Rattle.capi.specs.Head.{modeNumber, formRow, wordsRow}
 use Rattle.capi.specs.Calls.{openRow, flag, numbersTold}
+use Rattle.capi.proofs.HeadLaws.{row-form}
 
 -- ---- 22 before the words are looked at
 
-pub open-shut : (b : Bool) (w : List ℕ) → b ≡ false → 22 ≡ openRow b w
-unfolding openRow
-open-shut b w e = rw e
+module _ (w : List ℕ) where
+  pub form-shut : (b : Bool) → b ≡ false → 22 ≡ cond b (formRow w) 22
+  form-shut b e = rw e
 
-pub open-read : (b : Bool) (w : List ℕ) {n : ℕ} → b ≡ true → n ≡ wordsRow w → n ≡ openRow b w
-unfolding openRow
-open-read b w e p = rw e p
+  pub form-asked : (b : Bool) {n : ℕ} → b ≡ true → n ≡ formRow w → n ≡ cond b (formRow w) 22
+  form-asked b e p = rw e p
+
+  pub open-closed : (b : Bool) (n : ℕ) → n ≡ cond b (formRow w) 22 → (n ≡ 0 → ⊥) → n ≡ openRow b w
+  unfolding openRow
+  open-closed true n e z = e ∙ row-form w (λ q. z (e ∙ q))
+  open-closed false n e z = e
+
+  pub open-formed : (b : Bool) (n : ℕ) → n ≡ cond b (formRow w) 22 → n ≡ 0 → (b ≡ true) × (formRow w ≡ 0)
+  open-formed true n e z = (refl, sym e ∙ z)
+  open-formed false n e z = absurd (omega (arith, e, z))
+
+  pub open-read : (b : Bool) {n : ℕ} → b ≡ true → n ≡ wordsRow w → n ≡ openRow b w
+  unfolding openRow
+  open-read b e p = rw e p
 
 -- ---- ten numbers stored one by one
 

@@ -126,8 +126,12 @@ shortRow w = cond (ltb (length w) 44) 20 0
 abbrev pub codesRow : List ℕ → ℕ
 codesRow v = cond (allCodes v) 0 19
 
+-- words of which no head can be made
+unfoldable pub formRow : List ℕ → ℕ
+formRow w = orElse (shortRow w) (orElse (kindRow (getD w 0 0) (getD w 1 0)) (codesRow (codesIn w)))
+
 unfoldable pub wordsRow : List ℕ → ℕ
-wordsRow w = orElse (shortRow w) (orElse (kindRow (getD w 0 0) (getD w 1 0)) (orElse (codesRow (codesIn w)) (outsideRow (headOf w))))
+wordsRow w = orElse (formRow w) (outsideRow (headOf w))
 
 -- what the row 0 of words says of the head that was read from them
 pub record Read (w : List ℕ) (h : Preprocessor) : Type 0 where

@@ -6,18 +6,19 @@ ghost use Rattle.snapshot.specs.Read.{allCodes};
 ghost use Rattle.capi.specs.Head.{codesRow};
 ghost use Rattle.capi.specs.Calls.{listGot, listTold};
 
-// Row 19 for a word that is no code.
+// Row 19 for a word that is no code. All are looked at, so that a compiler can look at several at once.
 pub(crate) fn codes_row(words: &[u64]) -> u64
     ensures { λ r. ⌜ r ≡ codesRow (now (words .entry)) ⌝ }
 {
+    let mut row = 0;
     let mut i = 0;
     while i < words.len() {
         if 65535 < words[i] {
-            return 19;
+            row = 19;
         }
         i += 1;
     }
-    0
+    row
 }
 
 pub(crate) fn codes_of(words: &[u64]) -> [u16; 16]

@@ -16,7 +16,7 @@ use trcf::head::no_head;
 use trcf::transformer::WeightedTransformer;
 use trcf_rows::rows::outside_row;
 ghost use mathlib.Core.Path.{_≡_};
-ghost use mathlib.Core.Bool.{true};
+ghost use mathlib.Core.Bool.{true, cond};
 ghost use mathlib.Core.List.{map};
 ghost use Prim.Native.Nat.{_≤_};
 ghost use lib.ListN.{length};
@@ -25,7 +25,7 @@ ghost use Rattle.common.specs.Lent.{over};
 ghost use Rattle.trcf.specs.Preprocessor.{accepted};
 ghost use Rattle.snapshot.specs.Read.{allCodes};
 ghost use Rattle.capi.specs.Calls.{openRow};
-ghost use Rattle.capi.specs.Head.{single, codesIn, headOf, numbersOf, frontOf, wordsOf, countsOver, wordsRow, Read};
+ghost use Rattle.capi.specs.Head.{single, codesIn, headOf, numbersOf, frontOf, wordsOf, countsOver, formRow, Read};
 
 fn weights_of(words: &[u64]) -> [f32; 16]
     requires { ⌜ length (now words) ≡ 16 ⌝ }
@@ -88,27 +88,32 @@ pub(crate) struct Reading {
     pub head: Preprocessor,
 }
 
-fn read_head(words: &[u64]) -> Reading
-    ensures { λ r. ⌜ r .row ≡ wordsRow (now (words .entry)) ⌝ }
-    ensures { λ r. ⌜ (r .row ≡ 0 → Read (now (words .entry)) (r .head)) ⌝ }
+// The row that refuses before a head is made of the words: where the table says no they are not looked at.
+fn closed_row(allowed: bool, words: &[u64]) -> u64
+    ensures { λ r. ⌜ r ≡ cond allowed (formRow (now (words .entry))) 22 ⌝ }
 {
+    if !allowed {
+        return 22;
+    }
     if words.len() < 44 {
-        return Reading {
-            row: 20,
-            head: no_head(),
-        };
+        return 20;
     }
     let kind = kind_row(words[0], words[1]);
     if kind != 0 {
-        return Reading {
-            row: kind,
-            head: no_head(),
-        };
+        return kind;
     }
-    let wide = codes_row(&words[28..44]);
-    if wide != 0 {
+    codes_row(&words[28..44])
+}
+
+// Every export of a preprocessor begins here: `allowed` is what the table says of the role. One place refuses, so that the head is written once.
+pub(crate) fn open_head(allowed: bool, words: &[u64]) -> Reading
+    ensures { λ r. ⌜ r .row ≡ openRow allowed (now (words .entry)) ⌝ }
+    ensures { λ r. ⌜ (r .row ≡ 0 → Read (now (words .entry)) (r .head)) ⌝ }
+{
+    let closed = closed_row(allowed, words);
+    if closed != 0 {
         return Reading {
-            row: wide,
+            row: closed,
             head: no_head(),
         };
     }
@@ -118,20 +123,6 @@ fn read_head(words: &[u64]) -> Reading
         row: row,
         head: head,
     }
-}
-
-// Every export of a preprocessor begins here: `allowed` is what the table says of the role, and where it says no the words are not looked at.
-pub(crate) fn open_head(allowed: bool, words: &[u64]) -> Reading
-    ensures { λ r. ⌜ r .row ≡ openRow allowed (now (words .entry)) ⌝ }
-    ensures { λ r. ⌜ (r .row ≡ 0 → Read (now (words .entry)) (r .head)) ⌝ }
-{
-    if !allowed {
-        return Reading {
-            row: 22,
-            head: no_head(),
-        };
-    }
-    read_head(words)
 }
 
 // ---- a head written
