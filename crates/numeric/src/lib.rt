@@ -1,6 +1,7 @@
-// Square root of f64, with the digits that it takes, and the conversions f64 to f32, f32 to f64, u64 to f64 and u64 to f32, correctly rounded (IEEE 754-2019: to nearest, ties to even). The lowest layer: it knows nothing of what the numbers are for.
+// Square root of f64, with the digits that it takes, and of each number of a list, and the conversions f64 to f32, f32 to f64, u64 to f64 and u64 to f32, correctly rounded (IEEE 754-2019: to nearest, ties to even). The lowest layer: it knows nothing of what the numbers are for.
 mod conversion;
 mod counted;
+mod each;
 mod root;
 mod rounding;
 
@@ -10,3 +11,4 @@ pub use conversion::u64_to_f32;
 pub use conversion::u64_to_f64;
 pub use counted::SquareRoot;
 pub use counted::sqrt;
+pub use each::sqrt_each;

@@ -2,6 +2,7 @@ pub mod FitLaws
 pub mod TypeLaws
 pub mod LentLaws
 pub mod TransformerLaws
+pub mod PassLaws
 pub mod ForecastLaws
 pub mod CallLaws
 pub mod TransformerExamples

@@ -3,6 +3,7 @@ pub mod Fit
 pub mod Types
 pub mod Transformer
 pub mod Timestamps
+pub mod Passes
 pub mod TransformerCalls
 pub mod Forecast
 pub mod Settings

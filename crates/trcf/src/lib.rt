@@ -3,6 +3,7 @@ pub mod feeding;
 pub mod head;
 mod lengths;
 pub mod output;
+mod passes;
 pub mod shingle;
 mod statistics;
 pub mod time;

@@ -33,7 +33,7 @@ pub(crate) fn statistic_at(s: &[f64], n: usize, discount: f64, count: u64) -> De
     }
 }
 
-fn put_statistic(s: &mut [f64], n: usize, t: Deviation)
+pub(crate) fn put_statistic(s: &mut [f64], n: usize, t: Deviation)
     requires { ⌜ 3 * n + 3 ≤ length (now s) ⌝ }
     ensures { λ _. ⌜ now (s .exit) ≡ putStatistic (now (s .entry)) n t ⌝ }
 {
@@ -80,7 +80,7 @@ pub(crate) fn put_deviations(s: &mut [f64], b: usize, w: usize, t: Deviations)
 }
 
 // An update that the count does not refuse, by the statistic's factor.
-fn step(t: Deviation, f: f64, x: f64) -> Deviation
+pub(crate) fn step(t: Deviation, f: f64, x: f64) -> Deviation
     requires { ⌜ t .count < countLimit ⌝ }
     requires { ⌜ IsFactor f t ⌝ }
     ensures { λ r. ⌜ r ≡ stepOf t x ⌝ }

@@ -1,5 +1,5 @@
 // The transform of a reading, channel by channel (the source's trcf/transformer.rs). The statistics lie in a lent list, three numbers each.
-use crate::statistics::feed_at;
+use crate::passes::feed_channels;
 use crate::statistics::mean_at;
 use crate::types::TransformMethod;
 use crate::types::is_centring;
@@ -66,23 +66,8 @@ pub(crate) fn update_channels(
     let d = t.input_length;
     let decay = t.transform_decay;
     let count = t.count;
-    let mut i = 0;
-    while i < d {
-        let x = input[i];
-        let dx = x - previous[i];
-        feed_at(
-            s,
-            i,
-            d,
-            decay,
-            count,
-            numeric::to_f64(x),
-            numeric::to_f64(dx),
-            f,
-            g,
-        );
-        i += 1;
-    }
+    let mut a = [0.0f64; 32];
+    feed_channels(s, &mut a[..2 * d], d, decay, count, input, previous, f, g);
 }
 
 fn narrow_mean_at(s: &[f64], n: usize) -> f32

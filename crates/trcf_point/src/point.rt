@@ -6,7 +6,6 @@ use trcf::head::block_of;
 use trcf::head::get_dimension;
 use trcf::output::write_transform;
 use trcf::shingle::copy_in;
-use trcf::shingle::shift_vector;
 use trcf::time::time_base;
 use trcf_rows::rows::is_waiting;
 use trcf_rows::rows::shingled_point_row;
@@ -18,6 +17,17 @@ ghost use Rattle.trcf.specs.Settings.{dimension};
 ghost use Rattle.trcf.specs.Lists.{lastN, shiftIn};
 ghost use Rattle.trcf.specs.Preprocessor.{statisticsLength, reading, transformedAfter};
 ghost use Rattle.trcf.specs.View.{settingsOf, lent, Bounded, pointed, pointAfter};
+
+// The point without its front block, and z behind it: each number is written once, where it stays.
+fn copy_shifted(output: &mut [f32], point: &[f32], z: &[f32])
+    requires { ⌜ (length (now z) ≤ length (now point)) × (length (now point) ≤ length (now output)) ⌝ }
+    ensures { λ _. ⌜ now (output .exit) ≡ over (now (output .entry)) (shiftIn (now (point .entry)) (now (z .entry))) ⌝ }
+{
+    let b = z.len();
+    let m = point.len();
+    copy_in(output, 0, &point[b..m]);
+    copy_in(output, m - b, z);
+}
 
 // The point with the transformed reading behind it, its time counted from `base`.
 pub(crate) fn write_point(
@@ -57,8 +67,7 @@ pub(crate) fn write_point(
         timestamp,
         &mut z,
     );
-    copy_in(output, 0, &last_shingled_point[..m]);
-    shift_vector(&mut output[..m], &z[..b]);
+    copy_shifted(output, &last_shingled_point[..m], &z[..b]);
 }
 
 pub fn shingled_point(

@@ -1,7 +1,9 @@
 -- `trcf_point::point::write_point` meets its contract: by its callees' promises, the time's number behind the channels'. Assumes nothing.
-use Rattle.trcf.proofs.LengthLaws.{block-known, dimension-known, opened, roomy, transform-fits}
+use Rattle.trcf.proofs.LengthLaws.{block-known, dimension-known, opened, transform-fits}
 use Rattle.trcf.proofs.BoundLaws.{five, five-more, all-statistics, all-inputs}
 use native.Mathlib.Omega.{arith}
+use mathlib.Core.List.{List}
+use lib.Ieee.{Float}
 use mathlib.Core.Path.{_≡_, refl, sym, ap, _∙_}
 use Prim.Native.Nat.{ℕ, _+_, _-_, _*_, _≤_, _<_}
 use lib.ListN.{length, length-take, length-drop, take, drop}
@@ -10,9 +12,7 @@ use Rattle.common.specs.Lent.{over}
 use Rattle.trcf.specs.Lists.{lastN, shiftIn}
 use Rattle.trcf.specs.Preprocessor.{transformedAfter, reading, statisticsLength}
 use Rattle.trcf.specs.View.{settingsOf}
-use Rattle.trcf.proofs.DrainLaws.{block-is, block-fits, transformedAfter-length}
-use Rattle.trcf.proofs.ShingleLaws.{paste-over}
-use Rattle.trcf.proofs.StateLaws.{point-written}
+use Rattle.trcf.proofs.DrainLaws.{block-is, block-fits, front-over, transformedAfter-length}
 use borrow.Author.Needs.{needs}
 use Rattle.trcf_point.proofs.point.write_point.Statement.{statement}
 use Rattle.trcf_point.proofs.point.write_point.Tie as tie
@@ -53,43 +53,29 @@ slice-aggregate-write-transform-3 c = search needs
 write-transform-requires : tie.Need-write-transform-requires
 write-transform-requires c κs = tt
 
-slice-aggregate-copy-in : tie.Need-slice-aggregate-copy-in
-slice-aggregate-copy-in c =
+slice-aggregate-copy-shifted : tie.Need-slice-aggregate-copy-shifted
+slice-aggregate-copy-shifted c =
     let c8 = c .before .before .before .before .before .before .before .before in
     let q = c8 .before .before .before .before .before .before .before .pre in
     simp length-take (omega (arith, q, (dimension-known (c .before .before .before .before .before .before .before .get-dimension .ensures) (search needs))))
 
-copy-in-requires : tie.Need-copy-in-requires
-copy-in-requires c κs = tt
-
-slice-relend-prefix-shift-vector : tie.Need-slice-relend-prefix-shift-vector
-slice-relend-prefix-shift-vector c =
-    let c8 = c .before .before .before .before .before .before .before .before in
-    let c16 = c8 .before .before .before .before .before .before .before .before in
-    let q = c16 .before .before .pre in
-    omega (arith, q, (dimension-known (c8 .before .before .get-dimension .ensures) (search needs)), c .before .before .copy-in .kept)
-
-slice-aggregate-shift-vector : tie.Need-slice-aggregate-shift-vector
-slice-aggregate-shift-vector c =
-    let c8 = c .before .before .before .before .before .before .before .before in
-    let c16 = c8 .before .before .before .before .before .before .before .before in
-    let q = c16 .before .before .before .pre in
-    simp length-take (omega (arith, q, (dimension-known (c8 .before .before .before .get-dimension .ensures) (search needs)), c .before .before .before .copy-in .kept))
-
 array-share-prefix-z : tie.Need-array-share-prefix-z
 array-share-prefix-z c = search needs
 
-slice-aggregate-shift-vector-2 : tie.Need-slice-aggregate-shift-vector-2
-slice-aggregate-shift-vector-2 c =
-    let c8 = c .before .before .before .before .before .before .before .before in
-    simp length-take (omega (
-      arith,
-      (block-known (c8 .before .before .before .before .before .block-of .ensures) (search needs)),
-      c8 .write-transform .kept,
-    ))
+slice-aggregate-copy-shifted-2 : tie.Need-slice-aggregate-copy-shifted-2
+slice-aggregate-copy-shifted-2 c =
+    simp length-take (omega (arith, (block-known (c .before .before .before .before .before .before .before .before .before .block-of .ensures) (search needs)), c .before .before .before .before .write-transform .kept))
 
-shift-vector-requires : tie.Need-shift-vector-requires
-shift-vector-requires c κs = tt
+copy-shifted-requires : tie.Need-copy-shifted-requires
+copy-shifted-requires c κs =
+    let c8 = c .before .before .before .before .before .before .before .before in
+    let c16 = c8 .before .before .before .before .before .before .before .before in
+    let q = c16 .pre in
+    let s = settingsOf (c16 .args .head) in
+    let n = dimension-known (c8 .get-dimension .ensures) (search needs) in
+    let w = block-known (c8 .before .block-of .ensures) (search needs) in
+    let m = block-fits s (q .0 .k-pos) in
+    (simp length-take (omega (arith, q, w, block-is s, n, m, c .before .before .before .before .write-transform .kept)), simp length-take (omega (arith, q, n)))
 
 same-length : tie.Need-same-length
 same-length c = search needs
@@ -98,29 +84,28 @@ returns : tie.Need-returns
 returns c =
     let c8 = c .before .before .before .before .before .before .before .before in
     let c16 = c8 .before .before .before .before .before .before .before .before in
-    let start = c16 .before .before .before .before .before .before .before in
+    let start = c16 .before .before .before in
     let a = start .args in
     let q = start .pre in
-    let o = c8 .before .before .before .before .before .before .before .get-dimension in
-    let b = c16 .block-of in
-    let t = c8 .before .before .before .write-transform in
-    let i = c .before .before .before .before .before .before .before .copy-in in
+    let o = c8 .before .before .before .get-dimension in
+    let b = c8 .before .before .before .before .block-of in
+    let t = c .before .before .before .before .before .before .before .write-transform in
     let s = settingsOf (a .head) in
+    let d = a .head .transformer .«input_length» in
     let n = dimension-known (o .ensures) (search needs) in
     let w = block-known (b .ensures) (search needs) in
-    let m = block-fits s (q .0 .k-pos) in
     let e = w .0 ∙ sym (block-is s) in
-    point-written (a .output .now) (take (o .result) (a .last-shingled-point .now)) _ _ _ _ _ (b .result) (o .result)
-    ((roomy _ (i .ensures) (simp length-take (omega (arith, q, n)))) ∙ paste-over _ _) (length-take-le _ _ (omega (arith, q, n)))
+    let v =
+    transformedAfter s (take (statisticsLength s) (a .statistics .now)) (a .head .«values_seen»)
+    (reading (lastN d (take (d * a .head .«shingle_size») (a .last-shingled-input .now))) (a .base)) (reading (a .input .now) (a .timestamp)) in
+    let behind =
+    ap (take (b .result))
     (opened _ (t .ensures)
     (transform-fits (q .0, (length-take-le _ _ (q .1 .0), (length-take-le _ _ (q .1 .1 .0), (q .1 .1 .1 .1 .0, omega (arith, w, block-is s)))))))
-    (transformedAfter-length _ _ _ _ _ ∙ sym e) (omega (arith, e, n, m))
-    (roomy _ (c .before .before .shift-vector .ensures) (simp length-take (omega (arith, q, w, block-is s, n, i .kept, t .kept, m))))
-    ∙ ap
-    (λ (k : ℕ). over (a .output .now) (shiftIn (take k (a .last-shingled-point .now))
-    (transformedAfter s (take (statisticsLength s) (a .statistics .now)) (a .head .«values_seen»)
-    (reading (lastN (a .head .transformer .«input_length») (take (a .head .transformer .«input_length» * a .head .«shingle_size») (a .last-shingled-input .now))) (a .base))
-    (reading (a .input .now) (a .timestamp))))) (n .0)
+    ∙ front-over _ v (b .result) (transformedAfter-length _ _ _ _ _ ∙ sym e) in
+    c .before .before .copy-shifted .ensures
+    ∙ ap (λ (z : List Float). over (a .output .now) (shiftIn (take (o .result) (a .last-shingled-point .now)) z)) behind
+    ∙ ap (λ (k : ℕ). over (a .output .now) (shiftIn (take k (a .last-shingled-point .now)) v)) (n .0)
 
 pub write-point-spec : {M : Type 1} → statement M
 write-point-spec =
@@ -136,12 +121,9 @@ write-point-spec =
     slice-aggregate-write-transform-2
     slice-aggregate-write-transform-3
     write-transform-requires
-    slice-aggregate-copy-in
-    copy-in-requires
-    slice-relend-prefix-shift-vector
-    slice-aggregate-shift-vector
+    slice-aggregate-copy-shifted
     array-share-prefix-z
-    slice-aggregate-shift-vector-2
-    shift-vector-requires
+    slice-aggregate-copy-shifted-2
+    copy-shifted-requires
     same-length
     returns)
