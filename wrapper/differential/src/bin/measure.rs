@@ -136,23 +136,27 @@ fn alone(repeats: usize, calls: usize, mut ours: impl FnMut() -> f64) -> Times {
 }
 
 /// So many blocks of a forecast.
-fn turn_back(repeats: usize, method: u8, d: u64, blocks: u64) -> Times {
-    let (rust, ours) = filled(&given(method, d, 8, 10));
+fn turn_back(repeats: usize, s: &Settings, blocks: usize) -> Times {
+    let (rust, ours) = filled(s);
     let mut r = Random::new(2);
-    let values = input(&mut r, d * blocks);
+    let length = if s.timed() { s.dimension() } else { s.width() } * blocks;
+    let values = input(&mut r, length as u64);
     let upper: Vec<f32> = values.iter().map(|v| v + 1.0).collect();
     let lower: Vec<f32> = values.iter().map(|v| v - 1.0).collect();
     let range = RangeVector { values: values.clone(), upper: upper.clone(), lower: lower.clone() };
     let mut work = [values.clone(), upper.clone(), lower.clone()];
+    // the outputs of the modes with a time element
+    let room = if s.timed() { blocks } else { 0 };
+    let (mut numbers, mut times) = ([(); 3].map(|()| vec![0.0f32; room * (s.d * s.k) as usize]), [(); 3].map(|()| vec![0.0f64; room]));
     let by_us = || {
         work[0].copy_from_slice(&values);
         work[1].copy_from_slice(&upper);
         work[2].copy_from_slice(&lower);
         let [v, u, l] = black_box(&mut work);
+        let ([a, b, c], [x, y, z]) = (&mut numbers, &mut times);
         timed(|| {
-            let none = Ranges { values: &mut [], upper: &mut [], lower: &mut [] };
-            let times = Ranges { values: &mut [], upper: &mut [], lower: &mut [] };
-            ours.invert_extrapolation(Ranges { values: v, upper: u, lower: l }, none, times).unwrap()
+            let (numbers, times) = (Ranges { values: a, upper: b, lower: c }, Ranges { values: x, upper: y, lower: z });
+            ours.invert_extrapolation(Ranges { values: v, upper: u, lower: l }, numbers, times).unwrap()
         })
     };
     let by_rust = || {
@@ -162,14 +166,15 @@ fn turn_back(repeats: usize, method: u8, d: u64, blocks: u64) -> Times {
     both(repeats, 1, by_us, by_rust)
 }
 
-/// A list of readings, over and over, on two that grow old: past the table of factors from the first repeat that counts.
+/// A list of readings, over and over, on two that grow old: past the table of factors before the first repeat that counts. A repeat is short, so that few
+/// repeats are held up where other work runs beside.
 fn readings(repeats: usize, s: &Settings) -> Times {
     let (mut rust, mut ours) = filled(s);
     let mut r = Random::new(3);
-    let inputs: Vec<Vec<f32>> = (0..1000).map(|_| input(&mut r, s.d)).collect();
+    let inputs: Vec<Vec<f32>> = (0..200).map(|_| input(&mut r, s.d)).collect();
     let (mut point, mut deviations) = (vec![0.0; s.dimension()], vec![0.0; s.width()]);
     let (mut at, mut there) = (10_000, 10_000);
-    let by_us = || {
+    let mut by_us = || {
         timed(|| {
             for x in &inputs {
                 at += 10;
@@ -177,7 +182,7 @@ fn readings(repeats: usize, s: &Settings) -> Times {
             }
         })
     };
-    let by_rust = || {
+    let mut by_rust = || {
         timed(|| {
             for x in &inputs {
                 there += 10;
@@ -185,14 +190,18 @@ fn readings(repeats: usize, s: &Settings) -> Times {
             }
         })
     };
-    both(repeats, 1000, by_us, by_rust)
+    for _ in 0..4 {
+        by_us();
+        by_rust();
+    }
+    both(repeats, inputs.len(), by_us, by_rust)
 }
 
-/// Readings 201 to 990, within the table of factors, again and again from copies.
+/// Readings 201 to 400, within the table of factors, again and again from copies.
 fn young_readings(repeats: usize, s: &Settings) -> Times {
     let (rust, ours) = filled(s);
     let mut r = Random::new(3);
-    let inputs: Vec<Vec<f32>> = (0..790).map(|_| input(&mut r, s.d)).collect();
+    let inputs: Vec<Vec<f32>> = (0..200).map(|_| input(&mut r, s.d)).collect();
     let (mut point, mut deviations) = (vec![0.0; s.dimension()], vec![0.0; s.width()]);
     let by_us = || {
         let mut p = black_box(ours.clone());
@@ -202,7 +211,7 @@ fn young_readings(repeats: usize, s: &Settings) -> Times {
         let mut p = black_box(rust.clone());
         timed(|| (0..).zip(&inputs).fold(0, |a, (t, x)| a ^ rust_step(&mut p, black_box(x), 10_000 + t * 10)))
     };
-    both(repeats, 790, by_us, by_rust)
+    both(repeats, inputs.len(), by_us, by_rust)
 }
 
 /// Mode G, which the Rust has not.
@@ -355,11 +364,14 @@ fn small_calls(table: &Table) {
 
 fn turn_backs(table: &Table) {
     for (method, name) in METHODS {
-        table.told(&format!("turn-back, {name}, 16 by 1000"), "call", 1, turn_back(table.repeats, method, 16, 1000));
+        table.told(&format!("turn-back, {name}, 16 by 1000"), "call", 1, turn_back(table.repeats, &given(method, 16, 8, 10), 1000));
     }
     for (d, blocks) in [(1, 1000), (4, 1000), (16, 1), (16, 100), (16, 250), (16, 500), (16, 2000)] {
-        table.told(&format!("turn-back, NORMALIZE_DIFFERENCE, {d} by {blocks}"), "call", 1, turn_back(table.repeats, NORMALIZE_DIFFERENCE, d, blocks));
+        let times = turn_back(table.repeats, &given(NORMALIZE_DIFFERENCE, d, 8, 10), blocks);
+        table.told(&format!("turn-back, NORMALIZE_DIFFERENCE, {d} by {blocks}"), "call", 1, times);
     }
+    let timed = Settings { mode: Mode::TimeAugmented, ..given(NORMALIZE_DIFFERENCE, 16, 1, 10) };
+    table.told("turn-back, NORMALIZE_DIFFERENCE, 16 by 1000, TIME_AUGMENTED", "call", 1, turn_back(table.repeats, &timed, 1000));
 }
 
 fn all_readings(table: &Table) {
