@@ -1,7 +1,7 @@
 //! Times of the static library and of the unchanged Rust, in one run: medians of repeats that alternate between the sides, and the median and the quartiles of
 //! the repeats' ratios. tools/speed prints it beside the instructions.
 //! Usage: measure [REPEATS [--tabs]]; build it with `--profile speed`, which leaves overflow checks out. With --tabs a row is fields between tabs: what, the
-//! unit, units a call, nanoseconds a call of the library and of the Rust, the ratio's lower quartile, median and upper quartile; - where there is none.
+//! unit, units a call, and the repeats' nanoseconds a call, of the library and of the Rust, between spaces.
 use differential::settings;
 use oracle::bits::bits32;
 use oracle::calls::{Mode, Settings, DIFFERENCE, NONE, NORMALIZE, NORMALIZE_DIFFERENCE, SUBTRACT_MA, WEIGHTED};
@@ -90,17 +90,16 @@ impl Table {
 
     /// A call has so many units; the table has the figure of one.
     fn told(&self, what: &str, unit: &str, units: usize, times: Times) {
+        if self.tabs {
+            let list = |times: &[f64]| times.iter().map(|t| format!("{t:.2}")).collect::<Vec<_>>().join(" ");
+            println!("{what}\t{unit}\t{units}\t{}\t{}", list(&times.ours), list(&times.rust));
+            return;
+        }
         let [ratios, theirs] = match times.rust.len() {
             0 => [None, None],
             _ => [Some(quartiles(times.ours.iter().zip(&times.rust).map(|(a, b)| a / b).collect())), Some(quartiles(times.rust))],
         };
         let (ours, rust) = (quartiles(times.ours)[1], theirs.map(|t| t[1]));
-        if self.tabs {
-            let or_none = |x: Option<f64>| x.map_or("-".to_string(), |x| format!("{x:.4}"));
-            let spread = [0, 1, 2].map(|q| or_none(ratios.map(|r| r[q]))).join("\t");
-            println!("{what}\t{unit}\t{units}\t{ours:.3}\t{}\t{spread}", or_none(rust));
-            return;
-        }
         let many = units as f64;
         let rust = rust.map_or("-".to_string(), |t| format!("{:.2}", t / many));
         let ratio = ratios.map_or(String::new(), |[low, middle, high]| format!("{middle:>7.2} {:>16}", format!("{low:.2} to {high:.2}")));
