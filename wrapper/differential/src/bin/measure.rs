@@ -1,5 +1,7 @@
-//! Times of the static library and of the unchanged Rust, in one run: medians of repeats that alternate between the sides, and their ratio.
-//! Usage: measure [REPEATS]; build it with `--profile speed`, which leaves overflow checks out.
+//! Times of the static library and of the unchanged Rust, in one run: medians of repeats that alternate between the sides, and the median and the quartiles of
+//! the repeats' ratios. tools/speed prints it beside the instructions.
+//! Usage: measure [REPEATS [--tabs]]; build it with `--profile speed`, which leaves overflow checks out. With --tabs a row is fields between tabs: what, the
+//! unit, units a call, and the repeats' nanoseconds a call, of the library and of the Rust, between spaces.
 use differential::settings;
 use oracle::bits::bits32;
 use oracle::calls::{Mode, Settings, DIFFERENCE, NONE, NORMALIZE, NORMALIZE_DIFFERENCE, SUBTRACT_MA, WEIGHTED};
@@ -21,6 +23,8 @@ const METHODS: [(u8, &str); 6] = [
     (NORMALIZE, "NORMALIZE"),
     (NORMALIZE_DIFFERENCE, "NORMALIZE_DIFFERENCE"),
 ];
+
+const STARTS: [u64; 6] = [1, 10, 100, 500, 1000, 1999];
 
 fn given(method: u8, d: u64, k: u64, start: u64) -> Settings {
     Settings { mode: Mode::Standard, method, d, k, start, stop: u64::MAX, decay: 0.001, weight_time: 1.0, weights: vec![1.0; d as usize], codes: vec![0; d as usize] }
@@ -60,9 +64,48 @@ fn filled(s: &Settings) -> (Rust, Preprocessor) {
     (rust, ours)
 }
 
-fn median(mut times: Vec<f64>) -> f64 {
-    times.sort_by(f64::total_cmp);
-    times[times.len() / 2]
+/// Nanoseconds a call, repeat by repeat; none of the Rust where there is nothing to compare.
+struct Times {
+    ours: Vec<f64>,
+    rust: Vec<f64>,
+}
+
+fn quartiles(mut list: Vec<f64>) -> [f64; 3] {
+    list.sort_by(f64::total_cmp);
+    [1, 2, 3].map(|q| list[list.len() * q / 4])
+}
+
+/// The rows as a table, or as fields between tabs.
+struct Table {
+    repeats: usize,
+    tabs: bool,
+}
+
+impl Table {
+    fn begin(&self) {
+        if !self.tabs {
+            println!("{:<68} {:>12} {:>12} {:>7} {:>16}", format!("medians of {}, nanoseconds", self.repeats), "library", "the Rust", "ratio", "quartiles");
+        }
+    }
+
+    /// A call has so many units; the table has the figure of one.
+    fn told(&self, what: &str, unit: &str, units: usize, times: Times) {
+        if self.tabs {
+            let list = |times: &[f64]| times.iter().map(|t| format!("{t:.2}")).collect::<Vec<_>>().join(" ");
+            println!("{what}\t{unit}\t{units}\t{}\t{}", list(&times.ours), list(&times.rust));
+            return;
+        }
+        let [ratios, theirs] = match times.rust.len() {
+            0 => [None, None],
+            _ => [Some(quartiles(times.ours.iter().zip(&times.rust).map(|(a, b)| a / b).collect())), Some(quartiles(times.rust))],
+        };
+        let (ours, rust) = (quartiles(times.ours)[1], theirs.map(|t| t[1]));
+        let many = units as f64;
+        let rust = rust.map_or("-".to_string(), |t| format!("{:.2}", t / many));
+        let ratio = ratios.map_or(String::new(), |[low, middle, high]| format!("{middle:>7.2} {:>16}", format!("{low:.2} to {high:.2}")));
+        let speed = if unit == "byte" { format!(" ({:.0} MB/s)", many / ours * 1000.0) } else { String::new() };
+        println!("{:<68} {:>12.2} {rust:>12} {ratio}{speed}", format!("{what}: a {unit}"), ours / many);
+    }
 }
 
 fn timed<T>(work: impl FnOnce() -> T) -> f64 {
@@ -73,39 +116,46 @@ fn timed<T>(work: impl FnOnce() -> T) -> f64 {
     time
 }
 
-/// One number for each side, per piece of work, the sides in turn.
-fn both(repeats: usize, pieces: usize, mut ours: impl FnMut() -> f64, mut rust: impl FnMut() -> f64) -> (f64, f64) {
+/// Each side per call, of which a repeat makes so many, the sides in turn.
+fn both(repeats: usize, calls: usize, mut ours: impl FnMut() -> f64, mut rust: impl FnMut() -> f64) -> Times {
     ours();
     rust();
-    let (mut a, mut b) = (Vec::new(), Vec::new());
+    let mut times = Times { ours: Vec::new(), rust: Vec::new() };
     for _ in 0..repeats {
-        a.push(ours() / pieces as f64);
-        b.push(rust() / pieces as f64);
+        times.ours.push(ours() / calls as f64);
+        times.rust.push(rust() / calls as f64);
     }
-    (median(a), median(b))
+    times
 }
 
-fn told(what: &str, (ours, rust): (f64, f64)) {
-    println!("{what:<64} {ours:>12.1} {rust:>12.1} {:>7.2}", ours / rust);
+/// The library alone.
+fn alone(repeats: usize, calls: usize, mut ours: impl FnMut() -> f64) -> Times {
+    ours();
+    Times { ours: (0..repeats).map(|_| ours() / calls as f64).collect(), rust: Vec::new() }
 }
 
-fn turn_back(repeats: usize, method: u8, d: u64) -> (f64, f64) {
-    let (rust, ours) = filled(&given(method, d, 8, 10));
+/// So many blocks of a forecast.
+fn turn_back(repeats: usize, s: &Settings, blocks: usize) -> Times {
+    let (rust, ours) = filled(s);
     let mut r = Random::new(2);
-    let values = input(&mut r, d * 1000);
+    let length = if s.timed() { s.dimension() } else { s.width() } * blocks;
+    let values = input(&mut r, length as u64);
     let upper: Vec<f32> = values.iter().map(|v| v + 1.0).collect();
     let lower: Vec<f32> = values.iter().map(|v| v - 1.0).collect();
     let range = RangeVector { values: values.clone(), upper: upper.clone(), lower: lower.clone() };
     let mut work = [values.clone(), upper.clone(), lower.clone()];
+    // the outputs of the modes with a time element
+    let room = if s.timed() { blocks } else { 0 };
+    let (mut numbers, mut times) = ([(); 3].map(|()| vec![0.0f32; room * (s.d * s.k) as usize]), [(); 3].map(|()| vec![0.0f64; room]));
     let by_us = || {
         work[0].copy_from_slice(&values);
         work[1].copy_from_slice(&upper);
         work[2].copy_from_slice(&lower);
         let [v, u, l] = black_box(&mut work);
+        let ([a, b, c], [x, y, z]) = (&mut numbers, &mut times);
         timed(|| {
-            let none = Ranges { values: &mut [], upper: &mut [], lower: &mut [] };
-            let times = Ranges { values: &mut [], upper: &mut [], lower: &mut [] };
-            ours.invert_extrapolation(Ranges { values: v, upper: u, lower: l }, none, times).unwrap()
+            let (numbers, times) = (Ranges { values: a, upper: b, lower: c }, Ranges { values: x, upper: y, lower: z });
+            ours.invert_extrapolation(Ranges { values: v, upper: u, lower: l }, numbers, times).unwrap()
         })
     };
     let by_rust = || {
@@ -115,14 +165,15 @@ fn turn_back(repeats: usize, method: u8, d: u64) -> (f64, f64) {
     both(repeats, 1, by_us, by_rust)
 }
 
-fn readings(repeats: usize, d: u64, k: u64) -> (f64, f64) {
-    let s = given(NORMALIZE, d, k, 10);
-    let (mut rust, mut ours) = filled(&s);
+/// A list of readings, over and over, on two that grow old: past the table of factors before the first repeat that counts. A repeat is short, so that few
+/// repeats are held up where other work runs beside.
+fn readings(repeats: usize, s: &Settings) -> Times {
+    let (mut rust, mut ours) = filled(s);
     let mut r = Random::new(3);
-    let inputs: Vec<Vec<f32>> = (0..1000).map(|_| input(&mut r, d)).collect();
+    let inputs: Vec<Vec<f32>> = (0..200).map(|_| input(&mut r, s.d)).collect();
     let (mut point, mut deviations) = (vec![0.0; s.dimension()], vec![0.0; s.width()]);
     let (mut at, mut there) = (10_000, 10_000);
-    let by_us = || {
+    let mut by_us = || {
         timed(|| {
             for x in &inputs {
                 at += 10;
@@ -130,7 +181,7 @@ fn readings(repeats: usize, d: u64, k: u64) -> (f64, f64) {
             }
         })
     };
-    let by_rust = || {
+    let mut by_rust = || {
         timed(|| {
             for x in &inputs {
                 there += 10;
@@ -138,7 +189,45 @@ fn readings(repeats: usize, d: u64, k: u64) -> (f64, f64) {
             }
         })
     };
-    both(repeats, 1000, by_us, by_rust)
+    for _ in 0..4 {
+        by_us();
+        by_rust();
+    }
+    both(repeats, inputs.len(), by_us, by_rust)
+}
+
+/// Readings 201 to 400, within the table of factors, again and again from copies.
+fn young_readings(repeats: usize, s: &Settings) -> Times {
+    let (rust, ours) = filled(s);
+    let mut r = Random::new(3);
+    let inputs: Vec<Vec<f32>> = (0..200).map(|_| input(&mut r, s.d)).collect();
+    let (mut point, mut deviations) = (vec![0.0; s.dimension()], vec![0.0; s.width()]);
+    let by_us = || {
+        let mut p = black_box(ours.clone());
+        timed(|| (0..).zip(&inputs).fold(0, |a, (t, x)| a ^ our_step(&mut p, black_box(x), 10_000 + t * 10, &mut point, &mut deviations)))
+    };
+    let by_rust = || {
+        let mut p = black_box(rust.clone());
+        timed(|| (0..).zip(&inputs).fold(0, |a, (t, x)| a ^ rust_step(&mut p, black_box(x), 10_000 + t * 10)))
+    };
+    both(repeats, inputs.len(), by_us, by_rust)
+}
+
+/// Mode G, which the Rust has not.
+fn gap_readings(repeats: usize, s: &Settings) -> Times {
+    let mut ours = Preprocessor::build(&settings(s)).unwrap();
+    let mut r = Random::new(3);
+    let inputs: Vec<Vec<f32>> = (0..1000).map(|_| input(&mut r, s.d)).collect();
+    let (mut point, mut deviations) = (vec![0.0; s.dimension()], vec![0.0; s.width()]);
+    let mut at = 0;
+    alone(repeats, 1000, || {
+        timed(|| {
+            for x in &inputs {
+                at += 10;
+                black_box(our_step(&mut ours, black_box(x), at, &mut point, &mut deviations));
+            }
+        })
+    })
 }
 
 /// `start` initial values, complete and not yet fed.
@@ -155,7 +244,7 @@ fn awaited(start: u64) -> (Rust, Preprocessor) {
     (rust, ours)
 }
 
-fn drain(repeats: usize, start: u64) -> (f64, f64) {
+fn drain(repeats: usize, start: u64) -> Times {
     let (rust, ours) = awaited(start);
     let by_us = || {
         let mut p = black_box(ours.clone());
@@ -174,28 +263,20 @@ fn drain(repeats: usize, start: u64) -> (f64, f64) {
     both(repeats, 1, by_us, by_rust)
 }
 
-fn save(repeats: usize, start: u64) -> (f64, usize) {
-    let ours = awaited(start).1;
-    let mut text = vec![0; 363_245];
-    let mut length = 0;
-    let times = (0..repeats).map(|_| timed(|| length = black_box(&ours).save_into(&mut text).unwrap())).collect();
-    (median(times), length)
-}
-
-/// Taking up what `save` wrote, in memory of just its size.
-fn restore(repeats: usize, ours: &Preprocessor) -> (f64, f64, usize) {
+/// Putting away, and taking up in memory of just its size; and the text's length.
+fn text(repeats: usize, ours: &Preprocessor) -> (Times, Times, usize) {
     let (text, codes) = (ours.save().unwrap(), ours.codes().unwrap());
-    let mut memory = ours.memory().clone();
-    let mut times = Vec::new();
-    for _ in 0..repeats {
+    let mut memory = Some(ours.memory().clone());
+    let restores = alone(repeats, 1, || {
         let mut taken = None;
-        let lent = memory;
-        times.push(timed(|| taken = Some(Preprocessor::restore_in(black_box(&text), &codes, lent).unwrap())));
-        memory = taken.unwrap().into_memory();
-    }
+        let lent = memory.take().unwrap();
+        let time = timed(|| taken = Some(Preprocessor::restore_in(black_box(&text), &codes, lent).unwrap()));
+        memory = taken.map(Preprocessor::into_memory);
+        time
+    });
     let mut output = vec![0; text.len()];
-    let saves = (0..repeats).map(|_| timed(|| black_box(ours).save_into(&mut output).unwrap())).collect();
-    (median(saves), median(times), text.len())
+    let saves = alone(repeats, 1, || timed(|| black_box(ours).save_into(&mut output).unwrap()));
+    (saves, restores, text.len())
 }
 
 /// A full one: d 16, k 64, start 1,999, all its initial values there.
@@ -209,7 +290,7 @@ fn full() -> Preprocessor {
 }
 
 /// Both behind a call. Independent: the calls may overlap; dependent: each argument waits for the answer before it.
-fn numbers<T: Copy>(what: &str, repeats: usize, list: &[f64], ours: fn(f64) -> T, machine: fn(f64) -> T, wide: fn(T) -> f64) {
+fn numbers<T: Copy>(table: &Table, what: &str, list: &[f64], ours: fn(f64) -> T, machine: fn(f64) -> T, wide: fn(T) -> f64) {
     let independent = |f: fn(f64) -> T| {
         let f = black_box(f);
         timed(|| black_box(list).iter().fold(0.0, |a: f64, &x| a.max(wide(f(x)))))
@@ -218,87 +299,123 @@ fn numbers<T: Copy>(what: &str, repeats: usize, list: &[f64], ours: fn(f64) -> T
         let f = black_box(f);
         timed(|| black_box(list).iter().fold(0.0, |a: f64, &x| wide(f(x + (a - a)))))
     };
-    told(&format!("{what}, independent, a number"), both(repeats, list.len(), || independent(ours), || independent(machine)));
-    told(&format!("{what}, dependent, a number"), both(repeats, list.len(), || dependent(ours), || dependent(machine)));
+    let times = both(table.repeats, list.len(), || independent(ours), || independent(machine));
+    table.told(&format!("{what}, independent"), "number", 1, times);
+    let times = both(table.repeats, list.len(), || dependent(ours), || dependent(machine));
+    table.told(&format!("{what}, dependent"), "number", 1, times);
 }
 
-fn roots(repeats: usize) {
+fn roots(table: &Table) {
     let mut r = Random::new(5);
     let list: Vec<f64> = (0..1000).map(|_| r.from(1, 1 << 40) as f64 / 1024.0).collect();
-    numbers("sqrt", repeats, &list, sqrt, f64::sqrt, |x| x);
+    numbers(table, "sqrt", &list, sqrt, f64::sqrt, |x| x);
     let fours: Vec<f64> = (0..1000).map(|_| 4f64.powi(r.from(0, 40) as i32 - 20)).collect();
-    numbers("sqrt of powers of four, whose roots have one digit", repeats, &fours, sqrt, f64::sqrt, |x| x);
-    numbers("sqrt_digits beside the machine's root", repeats, &list, sqrt_digits, |x| x.sqrt() as u64, |n| n as f64);
-    numbers("to_f32", repeats, &list, to_f32, |x| x as f32, |x| x as f64);
+    numbers(table, "sqrt of powers of four", &fours, sqrt, f64::sqrt, |x| x);
+    numbers(table, "sqrt_digits", &list, sqrt_digits, |x| x.sqrt() as u64, |n| n as f64);
+    numbers(table, "to_f32", &list, to_f32, |x| x as f32, |x| x as f64);
 }
 
-/// Nanoseconds a cell of filling in 2,000 readings of one channel, of which one in `every` is present.
-fn filling(repeats: usize, method: ImputationMethod, every: usize) -> f64 {
+/// Filling in 2,000 readings of one channel, of which one in `every` is present.
+fn filling(repeats: usize, method: ImputationMethod, every: usize) -> Times {
     let cells = input(&mut Random::new(2), 2000);
     let marks: Vec<u8> = (0..2000).map(|i| u8::from(i % every != 0)).collect();
-    let mut times = Vec::new();
-    for _ in 0..repeats {
+    alone(repeats, 1, || {
         let mut lent = cells.clone();
-        times.push(timed(|| impute(method, 1, black_box(&mut lent), &marks, &[1.0]).unwrap()) / 2000.0);
-    }
-    median(times)
+        timed(|| impute(method, 1, black_box(&mut lent), &marks, &[1.0]).unwrap())
+    })
 }
 
-/// Nanoseconds of comparing two lists of 4,096 readings of d channels, all of them paired.
-fn aligning(repeats: usize, d: u64) -> f64 {
+/// Comparing two lists of 4,096 readings of d channels, all of them paired.
+fn aligning(repeats: usize, d: u64) -> Times {
     let mut r = Random::new(3);
     let (left, right) = (input(&mut r, 4096 * d), input(&mut r, 4096 * d));
     let times: Vec<u64> = (0..4096).map(|i| i * 10).collect();
     let (mut lefts, mut rights, mut gaps) = (vec![0; 4096], vec![0; 4096], vec![0.0; d as usize]);
     let (one, other) = (Readings { cells: &left, times: &times }, Readings { cells: &right, times: &times });
-    let work = (0..repeats).map(|_| timed(|| align_into(d, black_box(one), black_box(other), 3, &mut lefts, &mut rights, &mut gaps).unwrap())).collect();
-    median(work)
+    alone(repeats, 1, || timed(|| align_into(d, black_box(one), black_box(other), 3, &mut lefts, &mut rights, &mut gaps).unwrap()))
+}
+
+/// 1,000 calls a repeat.
+fn many<T>(table: &Table, what: &str, mut call: impl FnMut() -> T) {
+    let times = alone(table.repeats, 1000, || {
+        timed(|| {
+            for _ in 0..1000 {
+                black_box(call());
+            }
+        })
+    });
+    table.told(what, "call", 1, times);
+}
+
+fn small_calls(table: &Table) {
+    let s = given(NORMALIZE, 16, 8, 10);
+    let ours = filled(&s).1;
+    let (mut output, x) = ([0.0; 16], [1.0; 16]);
+    let (asked, mut memory) = (settings(&s), Some(ours.memory().clone()));
+    many(table, "build, d 16, k 8", || memory = Preprocessor::build_in(black_box(&asked), memory.take().unwrap()).ok().map(Preprocessor::into_memory));
+    many(table, "transform, d 16, k 8", || black_box(&ours).transform(&x, 10_000, &mut output));
+    many(table, "scale, d 16, k 8", || black_box(&ours).scale(&mut output));
+    many(table, "shift, d 16, k 8", || black_box(&ours).shift(&mut output));
+    many(table, "difference_deviations, d 16, k 8", || black_box(&ours).difference_deviations(&mut output));
+    many(table, "numbers", || black_box(&ours).numbers());
+    many(table, "a getter", || black_box(&ours).panel());
+}
+
+fn turn_backs(table: &Table) {
+    for (method, name) in METHODS {
+        table.told(&format!("turn-back, {name}, 16 by 1000"), "call", 1, turn_back(table.repeats, &given(method, 16, 8, 10), 1000));
+    }
+    for (d, blocks) in [(1, 1000), (4, 1000), (16, 1), (16, 100), (16, 250), (16, 500), (16, 2000)] {
+        let times = turn_back(table.repeats, &given(NORMALIZE_DIFFERENCE, d, 8, 10), blocks);
+        table.told(&format!("turn-back, NORMALIZE_DIFFERENCE, {d} by {blocks}"), "call", 1, times);
+    }
+    let timed = Settings { mode: Mode::TimeAugmented, ..given(NORMALIZE_DIFFERENCE, 16, 1, 10) };
+    table.told("turn-back, NORMALIZE_DIFFERENCE, 16 by 1000, TIME_AUGMENTED", "call", 1, turn_back(table.repeats, &timed, 1000));
+}
+
+fn all_readings(table: &Table) {
+    for (d, k) in [(1, 1), (1, 2), (1, 4), (1, 8), (1, 16), (1, 32), (1, 64), (2, 8), (4, 8), (8, 8), (16, 8), (16, 64)] {
+        table.told(&format!("point and learn, d {d}, k {k}"), "reading", 1, readings(table.repeats, &given(NORMALIZE, d, k, 10)));
+    }
+    for (d, k) in [(1, 8), (4, 8), (16, 8), (16, 64)] {
+        table.told(&format!("point and learn, d {d}, k {k}, young"), "reading", 1, young_readings(table.repeats, &given(NORMALIZE, d, k, 10)));
+    }
+    let timed = Settings { mode: Mode::TimeAugmented, ..given(NORMALIZE, 4, 8, 10) };
+    table.told("point and learn, d 4, k 8, TIME_AUGMENTED", "reading", 1, readings(table.repeats, &timed));
+    let gap = Settings { mode: Mode::GapAugmented, ..given(NORMALIZE, 4, 8, 10) };
+    table.told("point and learn, d 4, k 8, GAP_AUGMENTED", "reading", 1, gap_readings(table.repeats, &gap));
+}
+
+fn texts(table: &Table) {
+    for start in STARTS {
+        let (saves, restores, length) = text(table.repeats, &awaited(start).1);
+        table.told(&format!("save, start {start}"), "byte", length, saves);
+        table.told(&format!("restore, start {start}"), "byte", length, restores);
+    }
+    let (saves, restores, length) = text(table.repeats, &full());
+    table.told("save, full", "byte", length, saves);
+    table.told("restore, full", "byte", length, restores);
 }
 
 fn main() {
-    let repeats = std::env::args().nth(1).map_or(101, |a| a.parse().expect("REPEATS"));
-    println!("{:<64} {:>12} {:>12} {:>7}", format!("medians of {repeats}, nanoseconds"), "library", "the Rust", "ratio");
-    for (method, name) in METHODS {
-        told(&format!("turn-back, 16 channels by 1,000, {name}, STANDARD"), turn_back(repeats, method, 16));
+    let words: Vec<String> = std::env::args().skip(1).collect();
+    let repeats = words.first().map_or(101, |a| a.parse().expect("REPEATS"));
+    let table = Table { repeats, tabs: words.get(1).is_some_and(|w| w == "--tabs") };
+    table.begin();
+    turn_backs(&table);
+    all_readings(&table);
+    for start in STARTS {
+        table.told(&format!("drain, start {start}"), "value", start as usize, drain(repeats, start));
     }
-    for d in [1, 4] {
-        told(&format!("turn-back, {d} by 1,000, NORMALIZE_DIFFERENCE, STANDARD"), turn_back(repeats, NORMALIZE_DIFFERENCE, d));
-    }
-    for (d, k) in [(1, 8), (4, 8), (16, 64)] {
-        told(&format!("point and learn, d {d}, k {k}, NORMALIZE, a reading"), readings(repeats, d, k));
-    }
-    let ours = filled(&given(NORMALIZE, 1, 8, 10)).1;
-    let head = (0..repeats).map(|_| timed(|| (0..1000).fold(0, |a, _| a ^ black_box(&ours).panel().unwrap())) / 1000.0).collect();
-    println!("{:<64} {:>12.1} {:>12}", "a getter: the head read from its words and tested", median(head), "-");
-    roots(repeats);
+    texts(&table);
+    small_calls(&table);
+    roots(&table);
     for (method, name) in [(ImputationMethod::Fixed, "FIXED"), (ImputationMethod::Previous, "PREVIOUS"), (ImputationMethod::Next, "NEXT"), (ImputationMethod::Linear, "LINEAR")] {
-        for (every, gaps) in [(2, "gaps of 1"), (1999, "one gap of 1,998")] {
-            println!("{:<64} {:>12.2} {:>12}", format!("impute, {name}, 2,000 readings, {gaps}, a cell"), filling(repeats, method, every), "-");
+        for (every, gaps) in [(2, "gaps of 1"), (1999, "one gap of 1998")] {
+            table.told(&format!("impute, {name}, {gaps}"), "cell", 2000, filling(repeats, method, every));
         }
     }
     for d in [1, 16] {
-        println!("{:<64} {:>12.1} {:>12}", format!("align, 4,096 by 4,096, d {d}"), aligning(repeats, d), "-");
-    }
-    for k in [1, 2, 4, 8, 16, 32, 64] {
-        told(&format!("point and learn, d 1, k {k}"), readings(repeats, 1, k));
-    }
-    for d in [1, 2, 4, 8, 16] {
-        told(&format!("point and learn, d {d}, k 8"), readings(repeats, d, 8));
-    }
-    for start in [1, 10, 100, 500, 1000, 1999] {
-        told(&format!("drain, d 1, k 8, start {start}"), drain(repeats, start));
-    }
-    for start in [1, 10, 100, 500, 1000, 1999] {
-        let (_, time, length) = restore(repeats, &awaited(start).1);
-        println!("{:<64} {time:>12.1} {:>12} ({:.2} ns a byte)", format!("restore, d 1, k 8, start {start}, {length} bytes"), "-", time / length as f64);
-    }
-    let (save_time, restore_time, length) = restore(repeats, &full());
-    for (what, time) in [("save", save_time), ("restore", restore_time)] {
-        let speed = length as f64 / time * 1000.0;
-        println!("{:<64} {time:>12.1} {:>12} ({speed:.0} MB/s)", format!("{what}, d 16, k 64, 1,999 initial values, {length} bytes"), "-");
-    }
-    for start in [1, 10, 100, 500, 1000, 1999] {
-        let (time, length) = save(repeats, start);
-        println!("{:<64} {time:>12.1} {:>12} ({:.2} ns a byte)", format!("save, d 1, k 8, start {start}, {length} bytes"), "-", time / length as f64);
+        table.told(&format!("align, 4096 by 4096, d {d}"), "reading", 4096, aligning(repeats, d));
     }
 }
