@@ -258,11 +258,10 @@ fn aligning(repeats: usize, d: u64) -> f64 {
 fn main() {
     let repeats = std::env::args().nth(1).map_or(101, |a| a.parse().expect("REPEATS"));
     println!("{:<64} {:>12} {:>12} {:>7}", format!("medians of {repeats}, nanoseconds"), "library", "the Rust", "ratio");
-    for (method, name) in METHODS {
-        told(&format!("turn-back, 16 channels by 1,000, {name}, STANDARD"), turn_back(repeats, method, 16));
-    }
-    for d in [1, 4] {
-        told(&format!("turn-back, {d} by 1,000, NORMALIZE_DIFFERENCE, STANDARD"), turn_back(repeats, NORMALIZE_DIFFERENCE, d));
+    for d in [16, 4, 1] {
+        for (method, name) in METHODS {
+            told(&format!("turn-back, {d} by 1,000, {name}, STANDARD"), turn_back(repeats, method, d));
+        }
     }
     for (d, k) in [(1, 8), (4, 8), (16, 64)] {
         told(&format!("point and learn, d {d}, k {k}, NORMALIZE, a reading"), readings(repeats, d, k));
