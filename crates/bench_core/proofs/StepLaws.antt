@@ -21,7 +21,8 @@ use Rattle.bench_core.specs.declared.line.Name.the-variants.{Unread, Set
 use Rattle.bench_core.specs.declared.step.Phase.{Phase}
 use Rattle.bench_core.specs.declared.step.Phase.the-variants.{WantsWeights, Running}
 use Rattle.bench_core.specs.declared.step.Bench.{Bench}
-use Rattle.bench_core.specs.Bench.{zeroCodes, builtOf, Output, output, prints, noText, readyFor, goingOn, endOf, builderFrom, Told, told, Heard, heard, refusedBy, setHeard, limitRow, builtHeard, weightsTurn, weightsHeard, callTold, isReading, isPoint, readingName, plainHeard, callHeard, tells, pointTurn, learnTurn, lineBy, lineHeard, begun, Said, said, finishBy, finished, finishOf, cellLength, cellKept, stepped, withLine, cellStep, stepOf}
+use Rattle.bench_core.specs.Bench.{zeroCodes, builtOf, Output, output, prints, noText, readyFor, goingOn, endOf, builderFrom, Told, told, Heard, heard, refusedBy, setHeard, limitRow, builtHeard, weightsTurn, weightsHeard, callTold, plainHeard, callHeard, tells, pointTurn, learnTurn, lineBy, lineHeard, begun, Said, said, finishBy, finished, finishOf, cellLength, cellKept, stepped, withLine, cellStep, stepOf}
+use Rattle.bench_core.specs.Steps.Readings.{isReading, isPoint, readingName}
 
 pub kept-of : (l : Line) (n : ℕ) → n ≡ keptCount (l .count) → take n (l .singles) ≡ keptOf l
 unfolding keptOf

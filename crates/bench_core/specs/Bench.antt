@@ -253,30 +253,6 @@ callHeard Drain b l lists y out = plainHeard Drain b lists y out
 callHeard Save b l lists y out = plainHeard Save b lists y out
 callHeard Other b l lists y out = plainHeard Other b lists y out
 
--- `p` and `l` bring a reading
-abbrev pub isReading : Name → Bool
-isReading Unread = false
-isReading Set = false
-isReading Weights = false
-isReading Point = true
-isReading Learn = true
-isReading Drain = false
-isReading Save = false
-isReading Other = false
-
-abbrev pub isPoint : Name → Bool
-isPoint Unread = false
-isPoint Set = false
-isPoint Weights = false
-isPoint Point = true
-isPoint Learn = false
-isPoint Drain = false
-isPoint Save = false
-isPoint Other = false
-
-abbrev pub readingName : Bool → Name
-readingName asks = cond asks Point Learn
-
 abbrev pub lineBy : Phase → Bench → Line → Lent → List Float → List ℕ → Heard
 lineBy WantsSet b l lists y out = setHeard (requestOf l) b l lists y out
 lineBy WantsWeights b l lists y out = weightsHeard (requestOf l) b l lists y out

@@ -1,3 +1,4 @@
 pub mod Line
 pub mod Bench
 pub mod Run
+pub mod Steps

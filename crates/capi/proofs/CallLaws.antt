@@ -19,7 +19,8 @@ use Rattle.trcf.specs.declared.head.Preprocessor.{Preprocessor}
 use Rattle.trcf.specs.declared.head.StatusAnswer.{StatusAnswer}
 use Rattle.trcf.proofs.OutcomeLaws.{accepted-not, orElse-is}
 use Rattle.snapshot.specs.Save.{saveOf, outcome as saved}
-use Rattle.capi.specs.Head.{headOf, wordsOf, countsOver, kindRow, shortRow, Read}
+use Rattle.capi.specs.Head.{headOf, wordsOf, countsOver, kindRow, shortRow}
+use Rattle.capi.specs.Steps.Reading.{Read}
 use Rattle.access.specs.declared.rights.Right.{Right}
 use Rattle.access.specs.declared.rights.Right.the-variants.{SEE, LEARN, SAVE}
 use Rattle.access.specs.Access.{needs, granted, guarded}

@@ -133,11 +133,6 @@ formRow w = orElse (shortRow w) (orElse (kindRow (getD w 0 0) (getD w 1 0)) (cod
 unfoldable pub wordsRow : List ℕ → ℕ
 wordsRow w = orElse (formRow w) (outsideRow (headOf w))
 
--- what the row 0 of words says of the head that was read from them
-pub record Read (w : List ℕ) (h : Preprocessor) : Type 0 where
-  pub whole : 44 ≤ length w
-  pub is : h ≡ headOf w
-
 -- ---- a head that the program can hold: an array of 16 weights and one of 16 codes, and numbers of their widths
 
 pub record Held (h : Preprocessor) : Type 0 where

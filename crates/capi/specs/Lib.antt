@@ -4,3 +4,4 @@ pub mod Restore
 pub mod Lists
 pub mod Counts
 pub mod Statistic
+pub mod Steps

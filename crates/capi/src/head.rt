@@ -25,7 +25,8 @@ ghost use Rattle.common.specs.Lent.{over};
 ghost use Rattle.trcf.specs.Preprocessor.{accepted};
 ghost use Rattle.snapshot.specs.Read.{allCodes};
 ghost use Rattle.capi.specs.Calls.{openRow};
-ghost use Rattle.capi.specs.Head.{single, codesIn, headOf, numbersOf, frontOf, wordsOf, countsOver, formRow, Read};
+ghost use Rattle.capi.specs.Head.{single, codesIn, headOf, numbersOf, frontOf, wordsOf, countsOver, formRow};
+ghost use Rattle.capi.specs.Steps.Reading.{Read};
 
 fn weights_of(words: &[u64]) -> [f32; 16]
     requires { ⌜ length (now words) ≡ 16 ⌝ }

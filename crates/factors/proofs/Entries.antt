@@ -14,7 +14,7 @@ use lib.Ieee.{binary64, fits, size, odd, units, round, neg, sum, add, sub, div, 
 use lib.Ieee.Bits.{ofBits-toBits}
 use lib.Ieee.Fits.{sub-fits}
 use Rattle.factors.specs.Factors.{growingAt, bitsAt, tableLength, listedOf}
-use Rattle.factors.specs.Quarters.{quarterOf}
+use Rattle.factors.specs.Steps.Quarters.{quarterOf}
 use Rattle.factors.proofs.Pieces.{piece0, piece1, piece2, piece3, pieces}
 
 -- ---- a test over a table in pieces of 250, at each entry and its place, counted from i

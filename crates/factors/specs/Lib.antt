@@ -1,2 +1,2 @@
 pub mod Factors
-pub mod Quarters
+pub mod Steps

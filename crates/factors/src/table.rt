@@ -2,7 +2,7 @@
 // A constant array is built anew on the stack wherever it is read; a match with a constant in each arm becomes one load of read-only data.
 ghost use mathlib.Core.Path.{_≡_};
 ghost use Rattle.factors.specs.Factors.{listedOf};
-ghost use Rattle.factors.specs.Quarters.{quarterOf};
+ghost use Rattle.factors.specs.Steps.Quarters.{quarterOf};
 
 pub const LENGTH: u64 = 1000;
 

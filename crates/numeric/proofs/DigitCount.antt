@@ -14,7 +14,8 @@ use lib.Ieee.{Float, nan, inf, fin, binary64, low, up, down, span, climb, size, 
 use lib.Ieee.Exact.{HasValue}
 use lib.Ieee.Fits.{down-pos, and-l, round-fits}
 use lib.Ieee.Nearest.{closest}
-use Rattle.numeric.specs.Root.{isqrt, halves, rooted, rootOf, IsScaled}
+use Rattle.numeric.specs.Root.{isqrt, halves, rooted, rootOf}
+use Rattle.numeric.specs.Steps.Scaled.{IsScaled}
 use Rattle.numeric.specs.Digits.{radicand, digitsTried, digitsOf, ExactRoot, AtMost54, CountsPositive, ExactCount, InexactCount, RadicandIsExact}
 use Rattle.numeric.proofs.Near.{two-powers}
 use Rattle.numeric.proofs.Pack.{size-exact}

@@ -17,7 +17,8 @@ use lib.Ieee.Fits.{down-pos, up-pos}
 use lib.Ieee.Exact.{HasValue}
 use lib.Ieee.Nearest.{closest}
 use borrow.Author.Tests.{eqb-false}
-use Rattle.numeric.specs.Root.{positive, IsScaled, isqrt, halves, rooted, rootOf}
+use Rattle.numeric.specs.Root.{positive, isqrt, halves, rooted, rootOf}
+use Rattle.numeric.specs.Steps.Scaled.{IsScaled}
 use Rattle.numeric.specs.Digits.{radicand, digitsTried, digitsOf}
 use Rattle.numeric.proofs.Near.{two-powers, three-powers}
 use Rattle.numeric.proofs.Pack.{size-exact, round-bits, round-pattern, Pattern}

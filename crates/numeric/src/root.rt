@@ -5,7 +5,8 @@ ghost use mathlib.Core.Path.{_≡_};
 ghost use Prim.Native.Nat.{_+_, _*_, _%_, _^_, _≤_, _<_};
 ghost use lib.Dec.{T};
 ghost use lib.Ieee.Nearest.{closest};
-ghost use Rattle.numeric.specs.Root.{positive, IsScaled, halves, rooted, rootOf};
+ghost use Rattle.numeric.specs.Root.{positive, halves, rooted, rootOf};
+ghost use Rattle.numeric.specs.Steps.Scaled.{IsScaled};
 use crate::rounding::nearest;
 
 // m and e of x = m * 2^(e - 1126).

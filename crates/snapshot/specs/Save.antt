@@ -1,19 +1,18 @@
 -- `save` (document 01: put away): "the bytes are the rendered text", or a row with nothing written: what could not be taken up again is not put away.
-use Prim.Native.Nat.{ℕ, _+_, _*_, _≤_}
+use Prim.Native.Nat.{ℕ, _+_, _*_}
 use mathlib.Core.Bool.{Bool, cond, not, _&&_, _||_}
-use mathlib.Core.List.{List, [], _∷_, _++_}
+use mathlib.Core.List.{List}
 use lib.Dec.{ltb, eqb}
 use lib.ListN.{length}
-use lib.Ieee.{Float}
 use Rattle.common.specs.Lent.{over}
 use Rattle.trcf.specs.declared.head.Preprocessor.{Preprocessor}
 use Rattle.trcf.specs.Types.{augments}
-use Rattle.trcf.specs.Settings.{Settings, settingsRow}
+use Rattle.trcf.specs.Settings.{settingsRow}
 use Rattle.trcf.specs.Calls.{finite}
 use Rattle.trcf.specs.Preprocessor.{State, accepted}
 use Rattle.trcf.specs.View.{Lent, settingsOf, view, misfit}
-use Rattle.snapshot.specs.Text.{wgt, inp, pnt, setLine, singles, chnLine, cntLine, devLines, timLine, bufLines, bytesOf, render}
-use Rattle.snapshot.specs.Read.{bytesOfLine, climbs, zeros}
+use Rattle.snapshot.specs.Text.{render}
+use Rattle.snapshot.specs.Read.{climbs, zeros}
 
 -- a number is past document 01's limits, or a lent list is shorter than what is in use of it: d, k, the numbers of a time (0 or 1) and the initial
 -- values, then the lengths of the lent lists
@@ -63,14 +62,3 @@ saveOf h l out =
     accepted (settingsRow (settingsOf h)) (cond (misfit h) (outcome 19 0 out) (heldSave h l out)) (outcome (settingsRow (settingsOf h)) 0 out)
 
 -- ---- the text in two parts, as it is written
-
-unfoldable pub headBytes : Settings → ℕ → ℕ → ℕ → List ℕ
-headBytes s seen internal count =
-    bytesOfLine (setLine s)
-    ++ (bytesOfLine (singles wgt (s .weights)) ++ (bytesOfLine (chnLine (s .codes)) ++ bytesOfLine (cntLine seen internal count)))
-
-unfoldable pub listBytes : ℕ → List Float → List Float → List Float → List ℕ → List Float → List ℕ → List ℕ
-listBytes d statistics input point times values initial =
-    bytesOf (devLines statistics)
-    ++ (bytesOfLine (singles inp input)
-    ++ (bytesOfLine (singles pnt point) ++ (bytesOfLine (timLine times) ++ bytesOf (bufLines d values initial))))

@@ -4,3 +4,4 @@ pub mod Write
 pub mod Judge
 pub mod Likely
 pub mod Runs
+pub mod TwoParts

@@ -29,7 +29,8 @@ ghost use Rattle.snapshot.specs.Text.{whole, chnLine};
 ghost use Rattle.trcf.specs.Calls.{finite};
 ghost use Rattle.snapshot.specs.Read.{bytesOfLine, climbs, zeros};
 ghost use Rattle.snapshot.specs.Steps.Write.{Wrote, tabbed};
-ghost use Rattle.snapshot.specs.Save.{outcome, fitted, heldSave, saveOf, headBytes, listBytes};
+ghost use Rattle.snapshot.specs.Save.{outcome, fitted, heldSave, saveOf};
+ghost use Rattle.snapshot.specs.Steps.TwoParts.{headBytes, listBytes};
 
 // The row, 0 for none, and the length of the text.
 pub struct Saved {

@@ -1,7 +1,7 @@
 -- `snapshot_save::save::save_parts` meets its contract. Assumes nothing.
 use Rattle.snapshot.proofs.SaveLaws.{fitted-not, fitted-is}
 use Rattle.snapshot.proofs.WriteLaws.{wrote-then}
-use Rattle.snapshot.specs.Save.{headBytes, listBytes}
+use Rattle.snapshot.specs.Steps.TwoParts.{headBytes, listBytes}
 use Rattle.trcf.specs.View.{settingsOf}
 use lib.ListN.{length, length-append}
 use mathlib.Core.List.{_++_}

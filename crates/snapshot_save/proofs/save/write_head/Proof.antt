@@ -2,7 +2,7 @@
 use Rattle.trcf.proofs.RefusalLaws.{sixteen}
 use Rattle.snapshot.proofs.SaveLaws.{set-lined, head-split}
 use Rattle.snapshot.proofs.WriteLaws.{wrote-then, wrote-is}
-use Rattle.snapshot.specs.Save.{headBytes}
+use Rattle.snapshot.specs.Steps.TwoParts.{headBytes}
 use Rattle.trcf.specs.View.{settingsOf}
 use lib.Seq.{length-take-le}
 use lib.ListN.{length}

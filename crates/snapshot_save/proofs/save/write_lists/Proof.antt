@@ -1,7 +1,7 @@
 -- `snapshot_save::save::write_lists` meets its contract. Assumes nothing.
 use Rattle.snapshot.proofs.SaveLaws.{list-split}
 use Rattle.snapshot.proofs.WriteLaws.{wrote-then}
-use Rattle.snapshot.specs.Save.{listBytes}
+use Rattle.snapshot.specs.Steps.TwoParts.{listBytes}
 use lib.ListN.{length}
 use native.Mathlib.Omega.{arith}
 use Prim.Native.Nat.{_+_, _≤_}
