@@ -28,7 +28,7 @@ use Rattle.snapshot.proofs.Accepted.{rows-of, none-refuses}
 use Rattle.snapshot.specs.Save.{unheld, fitted}
 use Rattle.snapshot.specs.Save as save
 use Rattle.snapshot.specs.Restore as restore
-use Rattle.snapshot.specs.Runs.{Few, HeadFew}
+use Rattle.snapshot.specs.Steps.Runs.{Few, HeadFew}
 use Rattle.snapshot.proofs.BodyLaws.{room-of, dimension-is}
 use Rattle.snapshot.proofs.ReadText.{put-away}
 use Rattle.snapshot.proofs.SaveForm.{Savable, saved-fitted, form-savable}

@@ -18,7 +18,7 @@ use Rattle.trcf.proofs.OutcomeLaws.{accepted-not}
 use Rattle.snapshot.specs.Text.{whole, float, named}
 use Rattle.snapshot.specs.Read.{bytesOfLine}
 use Rattle.snapshot.specs.Save.{Outcome, outcome, fitted}
-use Rattle.snapshot.specs.Write.{stored, Wrote}
+use Rattle.snapshot.specs.Steps.Write.{stored, Wrote}
 use Rattle.snapshot.proofs.WriteLaws.{wrote-then, wrote-is, whole-less, whole-short}
 use Rattle.snapshot.proofs.PairLines.{number-size}
 use Rattle.snapshot_save.specs.Line.{within, optionalField, optionalLine}

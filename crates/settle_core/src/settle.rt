@@ -12,7 +12,7 @@ ghost use mathlib.Core.List.{map};
 ghost use Prim.Native.Nat.{_+_, _*_, _≤_};
 ghost use lib.ListN.{length, take};
 ghost use Rattle.snapshot.specs.Save.{outcome};
-ghost use Rattle.snapshot.specs.Write.{Wrote};
+ghost use Rattle.snapshot.specs.Steps.Write.{Wrote};
 ghost use Rattle.settling.specs.Settling.{runOf};
 ghost use Rattle.settling.specs.Steps.{signalOf, notedBy};
 ghost use Rattle.settle_core.specs.Settle.{orNever, notedLine, lineTexts, settledOn};

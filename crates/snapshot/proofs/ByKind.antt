@@ -6,7 +6,8 @@ use mathlib.Core.List.{List}
 use mathlib.Core.Option.{Option, none, some}
 use lib.Ieee.{binary32, binary64}
 use Rattle.snapshot.specs.Read.{asWhole, asFloat}
-use Rattle.snapshot.specs.Scan.{numberOf, singleOf, doubleOf, wholeOf, fieldOf}
+use Rattle.snapshot.specs.Scan.{numberOf, singleOf, doubleOf}
+use Rattle.snapshot.specs.Steps.Scan.{wholeOf, fieldOf}
 use Rattle.snapshot.specs.declared.field.Number.{Number}
 use Rattle.snapshot.specs.declared.field.Number.the-variants.{Is, No}
 use Rattle.snapshot.specs.declared.field.Field.{Field}

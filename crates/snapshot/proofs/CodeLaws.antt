@@ -11,7 +11,7 @@ use Rattle.common.specs.Lent.{over}
 use Rattle.trcf.proofs.DrainLaws.{front-over}
 use Rattle.trcf.proofs.ShingleLaws.{over-take}
 use Rattle.snapshot.specs.Read.{asWhole, allCodes}
-use Rattle.snapshot.specs.Judge.{listLine, codesRead, chnOr, chnBy}
+use Rattle.snapshot.specs.Steps.Judge.{listLine, codesRead, chnOr, chnBy}
 use Rattle.snapshot.proofs.JudgeKinds.{checked-some}
 
 take-zeros : (n d : ℕ) → d ≤ n → take d (replicate {A = ℕ} n 0) ≡ replicate d 0

@@ -14,8 +14,9 @@ use denote.Enum.Declared.{tagOf}
 use borrow.Author.Tests.{eqb-true, eqb-false, leb-true, ltb-true, lt-ltb, le-ltb, le-leb, lt-leb}
 use Rattle.snapshot.specs.Text.{width}
 use Rattle.snapshot.specs.Read.{asFloat}
-use Rattle.snapshot.specs.Scan.{fieldOf, singleOf, doubleOf}
-use Rattle.snapshot.specs.Judge.{fieldLength}
+use Rattle.snapshot.specs.Scan.{singleOf, doubleOf}
+use Rattle.snapshot.specs.Steps.Scan.{fieldOf}
+use Rattle.snapshot.specs.Steps.Judge.{fieldLength}
 use Rattle.snapshot.specs.Steps.Likely.{likely, fromOf}
 use Rattle.snapshot.specs.declared.field.Field.{Field}
 use Rattle.snapshot.specs.declared.field.Field.the-variants.{Single, Double, Bad}

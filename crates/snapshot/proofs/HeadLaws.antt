@@ -17,10 +17,10 @@ use Rattle.trcf.specs.declared.types.TransformMethod.{TransformMethod}
 use Rattle.trcf.specs.Transformer.{zero32}
 use Rattle.trcf.specs.Settings.{Settings}
 use Rattle.snapshot.specs.Read.{asWhole, Counts, withLists}
-use Rattle.snapshot.specs.Judge.{onto, byte, name, fields, modeIn, methodIn, setTest, settingsWith, settled, tailBy, Codes, chnOr, chnBy, setBy, wgtBy, cntBy}
+use Rattle.snapshot.specs.Steps.Judge.{onto, byte, name, fields, modeIn, methodIn, setTest, settingsWith, settled, tailBy, Codes, chnOr, chnBy, setBy, wgtBy, cntBy}
 use Rattle.snapshot.proofs.Lists.{and-left, and-right}
 use Rattle.snapshot.proofs.JudgeLines.{onto-some}
-use Rattle.snapshot.specs.Runs.{Ran, ran, broke, after, oneLine, headRead, headBy, headOf, headWith, Few}
+use Rattle.snapshot.specs.Steps.Runs.{Ran, ran, broke, after, oneLine, headRead, headBy, headOf, headWith, Few}
 
 module _ (t : List ℕ) where
   pub head-set : none ≡ setBy t → broke 1 ≡ headBy t

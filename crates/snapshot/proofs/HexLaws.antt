@@ -19,7 +19,8 @@ use Rattle.snapshot.specs.Read.{same, asFloat, floatFrom}
 use Rattle.snapshot.proofs.Fields.{float-from}
 use Rattle.snapshot.proofs.Lists.{and-left, and-right}
 use Rattle.snapshot.proofs.ReadLine.{same-refl, same-eq}
-use Rattle.snapshot.specs.Scan.{hexOf, hscan, bitsOf, floatOf, numberOf, singleOf, doubleOf}
+use Rattle.snapshot.specs.Scan.{numberOf, singleOf, doubleOf}
+use Rattle.snapshot.specs.Steps.Scan.{hexOf, hscan, bitsOf, floatOf}
 use Rattle.snapshot.specs.declared.field.Number.{Number}
 use Rattle.snapshot.specs.declared.field.Number.the-variants.{Is, No}
 use Rattle.snapshot.specs.declared.field.Field.{Field}

@@ -17,8 +17,8 @@ use Rattle.trcf.specs.Preprocessor.{Reading, reading}
 use mathlib.Core.Logic.{_⊎_, inl, inr}
 use Rattle.snapshot.specs.Text.{behind, whole, float, singles, chnLine, cntLine, devLine, timLine, bufLine}
 use Rattle.snapshot.specs.Read.{bytesOfLine, every, asWhole, asFloat, climbs, zeros, allCodes, same, Kind, chnKind, eitherKind, singlesKind, wgtKind, inpKind, pntKind, cntKind, Counts, devKind, Three, timKind, bufKind}
-use Rattle.snapshot.specs.Write.{tabbed}
-use Rattle.snapshot.specs.Judge.{onto, held, byte, name, one, fields, closing, listLine, checked, wgtTest, wgtBy, chnBy, eitherOf, countsOf, counted, cntTest, cntBy, timTest, timBy, timed, bufTest, bufRaw, bufBy, threeOf, threed, devBy}
+use Rattle.snapshot.specs.Steps.Write.{tabbed}
+use Rattle.snapshot.specs.Steps.Judge.{onto, held, byte, name, one, fields, closing, listLine, checked, wgtTest, wgtBy, chnBy, eitherOf, countsOf, counted, cntTest, cntBy, timTest, timBy, timed, bufTest, bufRaw, bufBy, threeOf, threed, devBy}
 use Rattle.snapshot.proofs.Lists.{and-left, and-right, if-of, to-if}
 use Rattle.snapshot.proofs.Fields.{Clean}
 use Rattle.snapshot.proofs.ReadLine.{Hold, every-hold, hold-every, Writes}

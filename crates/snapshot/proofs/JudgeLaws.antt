@@ -15,9 +15,10 @@ use Rattle.snapshot.proofs.field.Field.{the-type}
 use lib.Ieee.{Float, binary32, binary64}
 use borrow.Author.Tests.{eqb-true, eq-eqb, ne-eqb, le-leb, lt-leb}
 use Rattle.snapshot.specs.Read.{asWhole, asFloat}
-use Rattle.snapshot.specs.Scan.{fieldOf, singleOf, doubleOf, wholeOf, numberOf}
+use Rattle.snapshot.specs.Scan.{singleOf, doubleOf, numberOf}
+use Rattle.snapshot.specs.Steps.Scan.{fieldOf, wholeOf}
 use Rattle.snapshot.specs.declared.field.Number.the-variants.{No, Is}
-use Rattle.snapshot.specs.Judge.{placed, onto, held, byte, name, fieldLength, fieldIn, endIn, restOf, tabbedOf, nextOf, one, before, fields, closing, listLine, Filled}
+use Rattle.snapshot.specs.Steps.Judge.{placed, onto, held, byte, name, fieldLength, fieldIn, endIn, restOf, tabbedOf, nextOf, one, before, fields, closing, listLine, Filled}
 use Rattle.snapshot.specs.Steps.Likely.{fromOf}
 use Rattle.snapshot.specs.declared.field.Field.{Field}
 use Rattle.snapshot.specs.declared.field.Field.the-variants.{Single, Double, Whole, Bad}

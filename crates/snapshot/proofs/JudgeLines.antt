@@ -13,8 +13,8 @@ use borrow.Author.Tests.{eqb-true, eq-eqb, ne-eqb, le-leb, lt-leb}
 use Rattle.trcf.specs.Settings.{All, Fits, Whole, wholeMax}
 use Rattle.snapshot.specs.Text.{Line, named, behind, whole, float, singles}
 use Rattle.snapshot.specs.Read.{join, lines, bytesOfLine, asWhole, asFloat, Kind, judge, Plan, line, Read, bad, later, ended, next, follow}
-use Rattle.snapshot.specs.Write.{tabbed}
-use Rattle.snapshot.specs.Judge.{onto, held, byte, name, fieldLength, one, before, fields, closing, listLine, checked, via}
+use Rattle.snapshot.specs.Steps.Write.{tabbed}
+use Rattle.snapshot.specs.Steps.Judge.{onto, held, byte, name, fieldLength, one, before, fields, closing, listLine, checked, via}
 use Rattle.snapshot.proofs.Fields.{Clean, CleanLine, whole-clean, float-clean}
 use Rattle.snapshot.proofs.HexLaws.{float-of, of-float}
 use Rattle.snapshot.proofs.ScanLaws.{whole-of, of-whole}

@@ -20,8 +20,8 @@ use Rattle.trcf.specs.declared.types.TransformMethod.the-variants.{NONE, WEIGHT
 use Rattle.trcf.specs.declared.types.ForestMode.{ForestMode}
 use Rattle.snapshot.specs.Text.{behind, whole, float, setLine}
 use Rattle.snapshot.specs.Read.{bytesOfLine, asWhole, asFloat, setKind, withLists}
-use Rattle.snapshot.specs.Write.{tabbed, setBytes}
-use Rattle.snapshot.specs.Judge.{onto, held, byte, name, one, fields, modeNamed, modeIn, methodIn, setTest, tailBy, settingsWith, settled, setBy}
+use Rattle.snapshot.specs.Steps.Write.{tabbed, setBytes}
+use Rattle.snapshot.specs.Steps.Judge.{onto, held, byte, name, one, fields, modeNamed, modeIn, methodIn, setTest, tailBy, settingsWith, settled, setBy}
 use Rattle.snapshot.proofs.Lists.{and-left, and-right}
 use Rattle.snapshot.proofs.ReadLine.{Hold, Writes}
 use Rattle.snapshot.proofs.ReadKinds.{fit-of, to-fits, set-writes, valid-of, zero-codes}

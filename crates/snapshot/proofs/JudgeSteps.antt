@@ -8,7 +8,7 @@ use Rattle.trcf.specs.Settings.{Settings, dimension}
 use Rattle.trcf.specs.Preprocessor.{State, Reading}
 use Rattle.snapshot.specs.Text.{chn, chnLine, cntLine}
 use Rattle.snapshot.specs.Read.{lines, asFloat, Counts, Three, setKind, wgtKind, cntKind, devKind, inpKind, pntKind, timKind, bufKind, Plan, bufsPlan, devsPlan, chnKind, thirdKind, bare, afterSet, afterWgt, afterThird, afterChn, afterCnt, afterDev, afterInp, afterPnt, afterTim, later, follow, read}
-use Rattle.snapshot.specs.Judge.{listLine, via, eitherOf, setBy, wgtBy, chnBy, cntBy, devBy, timBy, bufBy}
+use Rattle.snapshot.specs.Steps.Judge.{listLine, via, eitherOf, setBy, wgtBy, chnBy, cntBy, devBy, timBy, bufBy}
 use Rattle.snapshot.proofs.JudgeLines.{step}
 use Rattle.snapshot.proofs.JudgeKinds.{wgt-reads, chn-reads, either-reads, cnt-reads, dev-reads, inp-reads, pnt-reads, tim-reads, buf-reads}
 use Rattle.snapshot.proofs.JudgeSettings.{set-reads}

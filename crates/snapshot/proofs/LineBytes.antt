@@ -10,7 +10,7 @@ use lib.Seq.{drop-cons, drop-drop}
 use lib.Ieee.{Float, nan, binary32, binary64}
 use Rattle.snapshot.specs.Text.{whole, float, behind, singles, chnLine, cntLine, devLine, devLines, timLine, bufLine, bufLines}
 use Rattle.snapshot.specs.Read.{bytesOfLine}
-use Rattle.snapshot.specs.Write.{tabbed, setBytes}
+use Rattle.snapshot.specs.Steps.Write.{tabbed, setBytes}
 use Rattle.snapshot.proofs.WriteLaws.{float-length, floats-length, behind-tabbed}
 
 pub singles-bytes : (name : List ℕ) (v : List Float) → name ++ (tabbed (map (float binary32) v) ++ (10 ∷ [])) ≡ bytesOfLine (singles name v)

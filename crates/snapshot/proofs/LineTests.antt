@@ -15,7 +15,7 @@ use Rattle.trcf.specs.Calls.{finite, seenLimit}
 use Rattle.trcf.specs.Preprocessor.{Reading, reading}
 use Rattle.trcf.specs.declared.types.TransformMethod.{TransformMethod}
 use Rattle.snapshot.specs.Read.{asWhole, asFloat, climbs, zeros, Counts}
-use Rattle.snapshot.specs.Judge.{placed, onto, held, byte, name, one, fields, closing, listLine, checked, wgtTest, cntTest, cntBy, countsOf, countsRead, counted, timTest, timed, bufTest, bufRaw, bufBy}
+use Rattle.snapshot.specs.Steps.Judge.{placed, onto, held, byte, name, one, fields, closing, listLine, checked, wgtTest, cntTest, cntBy, countsOf, countsRead, counted, timTest, timed, bufTest, bufRaw, bufBy}
 use Rattle.snapshot.specs.declared.piece.Place.{Place}
 use Rattle.snapshot.specs.declared.piece.Place.the-variants.{At, Nowhere}
 

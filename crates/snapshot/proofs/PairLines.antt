@@ -9,7 +9,7 @@ use lib.Ieee.{Float, binary32}
 use Rattle.snapshot.specs.Text.{whole, float, named, singles}
 use Rattle.snapshot.specs.Read.{bytesOfLine}
 use Rattle.snapshot.specs.Save.{outcome, fitted}
-use Rattle.snapshot.specs.Write.{Wrote, tabbed}
+use Rattle.snapshot.specs.Steps.Write.{Wrote, tabbed}
 use Rattle.snapshot.proofs.WriteLaws.{wrote-is, floats-length}
 use Rattle.snapshot.proofs.LineBytes.{singles-bytes}
 use Rattle.snapshot.proofs.SaveLaws.{fitted-not, fitted-is}

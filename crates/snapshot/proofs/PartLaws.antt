@@ -5,8 +5,8 @@ use mathlib.Core.List.{List}
 use mathlib.Core.Option.{Option, none, some}
 use lib.Ieee.{Float, binary32}
 use Rattle.snapshot.specs.Read.{asFloat}
-use Rattle.snapshot.specs.Judge.{listLine, timBy}
-use Rattle.snapshot.specs.Runs.{Ran, ran, broke, told, after, oneLine, behindLines, devs, Parts, parts, partsBy}
+use Rattle.snapshot.specs.Steps.Judge.{listLine, timBy}
+use Rattle.snapshot.specs.Steps.Runs.{Ran, ran, broke, told, after, oneLine, behindLines, devs, Parts, parts, partsBy}
 
 module _ (internal n x y k : ℕ) (l : List ℕ) where
   pub parts-broke : (m : ℕ) (st : List Float) (b : Parts) (z : List ℕ) → told m st z ≡ devs n l → (m ≡ 0 → ⊥) → told m b z ≡ partsBy internal n x y k l

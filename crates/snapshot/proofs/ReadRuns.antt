@@ -14,8 +14,8 @@ use Rattle.trcf.specs.Settings.{Settings, dimension, waiting}
 use Rattle.trcf.specs.Preprocessor.{State, Reading}
 use Rattle.snapshot.specs.Text.{float}
 use Rattle.snapshot.specs.Read.{lines, push, asFloat, Counts, Plan, end, line, bufsPlan, bufPlan, devsPlan, mayStand, stateOf, withLists, bare, afterSet, afterWgt, afterThird, afterChn, afterCnt, afterDev, afterInp, afterPnt, afterTim, Read, taken, bad, later, ended, follow, read}
-use Rattle.snapshot.specs.Judge.{listLine, via, Codes, eitherOf, chnOr, chnBy, setBy, wgtBy, cntBy, timBy, bufBy, threed, threeOf, devBy}
-use Rattle.snapshot.specs.Runs.{Ran, ran, broke, oneLine, behindLines, after, front, many, devLine, unread, flat, mapRan, devs, timeOf, valuesOf, timesOf, Initial, initialOf, bufs, Parts, parts, partsBy, partsOf, Head, headRead, thirdBy, headBy, expected, ending, Body, body, bodyBy, stateFrom, readBy, asRead}
+use Rattle.snapshot.specs.Steps.Judge.{listLine, via, Codes, eitherOf, chnOr, chnBy, setBy, wgtBy, cntBy, timBy, bufBy, threed, threeOf, devBy}
+use Rattle.snapshot.specs.Steps.Runs.{Ran, ran, broke, oneLine, behindLines, after, front, many, devLine, unread, flat, mapRan, devs, timeOf, valuesOf, timesOf, Initial, initialOf, bufs, Parts, parts, partsBy, partsOf, Head, headRead, thirdBy, headBy, expected, ending, Body, body, bodyBy, stateFrom, readBy, asRead}
 use Rattle.snapshot.proofs.JudgeLines.{float-codec, line-is}
 use Rattle.snapshot.proofs.JudgeSteps.{step-set, step-wgt, step-third, step-cnt, step-inp, step-pnt, step-tim, step-dev, step-buf}
 

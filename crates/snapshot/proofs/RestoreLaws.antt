@@ -15,9 +15,9 @@ use Rattle.trcf.specs.declared.head.Preprocessor.{Preprocessor}
 use Rattle.trcf.proofs.DrainLaws.{front-over}
 use Rattle.snapshot.specs.Text.{whole, float}
 use Rattle.snapshot.specs.Read.{asWhole, asFloat, allCodes, same, Counts, withLists, Read, taken, bad, read}
-use Rattle.snapshot.specs.Judge.{listLine, checked, wgtTest, Codes, chnOr, chnBy, setBy, wgtBy, cntBy}
+use Rattle.snapshot.specs.Steps.Judge.{listLine, checked, wgtTest, Codes, chnOr, chnBy, setBy, wgtBy, cntBy}
 use Rattle.snapshot.specs.Restore.{outcome, restored, restoreOf}
-use Rattle.snapshot.specs.Runs.{Ran, ran, broke, oneLine, behindLines, after, mapRan, Head, headRead, thirdBy, headBy, headOf, headedOf, HeadFew, countsIn, Parts, Initial, Body, bodyBy, expected, partsOf, bufs, ending, body, filledBy, FillsOver, stateFrom, Good, summed, readBy, asRead}
+use Rattle.snapshot.specs.Steps.Runs.{Ran, ran, broke, oneLine, behindLines, after, mapRan, Head, headRead, thirdBy, headBy, headOf, headedOf, HeadFew, countsIn, Parts, Initial, Body, bodyBy, expected, partsOf, bufs, ending, body, filledBy, FillsOver, stateFrom, Good, summed, readBy, asRead}
 use Rattle.snapshot.specs.declared.restore.Judged.{Judged}
 use Rattle.snapshot.proofs.JudgeLines.{float-codec, whole-codec, line-is}
 use Rattle.snapshot.proofs.JudgeKinds.{checked-some}

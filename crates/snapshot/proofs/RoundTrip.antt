@@ -25,7 +25,7 @@ use Rattle.snapshot.specs.Read.{Read, taken, bad, same, withLists, read,
 use Rattle.snapshot.specs.Save.{past, unheld, saveOf}
 use Rattle.snapshot.specs.Save as saving
 use Rattle.snapshot.specs.Restore.{Outcome, outcome, restored, restoreOf}
-use Rattle.snapshot.specs.Runs.{Few, Room}
+use Rattle.snapshot.specs.Steps.Runs.{Few, Room}
 use Rattle.trcf.proofs.RefusalLaws.{room-start, room-normalizing}
 use Rattle.snapshot.proofs.Lists.{and-left, and-right}
 use Rattle.snapshot.proofs.Accepted.{rows-of}

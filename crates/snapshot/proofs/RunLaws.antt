@@ -12,8 +12,8 @@ use lib.Ieee.{Float, binary64}
 use borrow.Rule.Slice.PartMut.{midOf, postOf, putMid, same-len-mid, mid-len}
 use Rattle.trcf.specs.Preprocessor.{Reading}
 use Rattle.snapshot.specs.Read.{asFloat}
-use Rattle.snapshot.specs.Judge.{listLine, bufBy}
-use Rattle.snapshot.specs.Runs.{mapRan, told, devs, bufs, timeOf, Initial, initial, initialOf, Ran, ran, broke, oneLine, behindLines, after, front, many, flat, valuesOf, timesOf, devLine, unread}
+use Rattle.snapshot.specs.Steps.Judge.{listLine, bufBy}
+use Rattle.snapshot.specs.Steps.Runs.{mapRan, told, devs, bufs, timeOf, Initial, initial, initialOf, Ran, ran, broke, oneLine, behindLines, after, front, many, flat, valuesOf, timesOf, devLine, unread}
 
 abbrev pub fronts : {A : Type 0} → List A → Ran (List A) → Ran (List A)
 fronts u (ran l z) = ran (u ++ l) z

@@ -17,7 +17,7 @@ use Rattle.trcf.specs.View.{Lent, settingsOf, view, misfit}
 use Rattle.trcf.specs.Preprocessor.{State}
 use Rattle.snapshot.specs.Text.{Line, whole, wgt, inp, pnt, setLine, singles, chnLine, cntLine, devLine, devLines, timLine, bufLine, bufLines, bytesOf, bodyLines, linesBy, render}
 use Rattle.snapshot.specs.Read.{bytesOfLine}
-use Rattle.snapshot.specs.Write.{Wrote, tabbed, setBytes}
+use Rattle.snapshot.specs.Steps.Write.{Wrote, tabbed, setBytes}
 use Rattle.snapshot.specs.Save.{past, unheld, unformed, Outcome, outcome, fitted, heldSave, saveOf, headBytes, listBytes}
 use Rattle.snapshot.proofs.WriteLaws.{stored-over}
 use Rattle.snapshot.proofs.LineBytes.{singles-size, chn-size, tim-size, cnt-size, dev-size, buf-size, set-size}

@@ -16,7 +16,8 @@ use Rattle.snapshot.specs.Read.{wholeFrom, same, asWhole}
 use Rattle.snapshot.proofs.Fields.{whole-from}
 use Rattle.snapshot.proofs.Lists.{and-left, and-right}
 use Rattle.snapshot.proofs.ReadLine.{same-refl, same-eq}
-use Rattle.snapshot.specs.Scan.{lead, digits, scan, numberOf}
+use Rattle.snapshot.specs.Scan.{numberOf}
+use Rattle.snapshot.specs.Steps.Scan.{lead, digits, scan}
 use Rattle.snapshot.specs.declared.field.Number.{Number}
 use Rattle.snapshot.specs.declared.field.Number.the-variants.{Is, No}
 

@@ -15,7 +15,7 @@ use Rattle.trcf.specs.Types.{modeOfLetter}
 use Rattle.snapshot.specs.Read.{asWhole, asFloat}
 use Rattle.trcf.specs.declared.types.ForestMode.{ForestMode}
 use Rattle.trcf.specs.declared.types.TransformMethod.{TransformMethod}
-use Rattle.snapshot.specs.Judge.{placed, onto, held, byte, name, one, fields, modeNamed, modeIn, modeTold, methodIn, methodTold, setTest, tailBy, settingsWith, settled, setBy, settingsTold}
+use Rattle.snapshot.specs.Steps.Judge.{placed, onto, held, byte, name, one, fields, modeNamed, modeIn, modeTold, methodIn, methodTold, setTest, tailBy, settingsWith, settled, setBy, settingsTold}
 use Rattle.snapshot.specs.declared.piece.Place.{Place}
 use Rattle.snapshot.specs.declared.piece.Place.the-variants.{At, Nowhere}
 use Rattle.snapshot.specs.declared.settings.Mode.{Mode}

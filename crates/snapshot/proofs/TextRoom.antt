@@ -13,7 +13,7 @@ use Rattle.trcf.specs.Settings.{Settings, dimension, Whole, wholeMax, codeMax, 
 use Rattle.trcf.specs.Preprocessor.{State, statisticsLength}
 use Rattle.snapshot.specs.Text.{whole, render}
 use Rattle.snapshot.specs.Form.{Form}
-use Rattle.snapshot.specs.Write.{tabbed}
+use Rattle.snapshot.specs.Steps.Write.{tabbed}
 use Rattle.snapshot.specs.Save.{headBytes, listBytes}
 use Rattle.snapshot.specs.Room.{textRoom, TextFits}
 use Rattle.snapshot.proofs.WriteLaws.{whole-within}

@@ -15,7 +15,7 @@ use borrow.Author.Tests.{ltb-true, ltb-false}
 use Rattle.common.specs.Lent.{over}
 use Rattle.trcf.specs.Settings.{wholeMax}
 use Rattle.snapshot.specs.Text.{whole, hex, digit, width, float, behind}
-use Rattle.snapshot.specs.Write.{stored, Wrote, tabbed}
+use Rattle.snapshot.specs.Steps.Write.{stored, Wrote, tabbed}
 use Rattle.snapshot.proofs.ScanLaws.{whole-digit, whole-snoc}
 use Rattle.snapshot.proofs.HexLaws.{hex-length}
 

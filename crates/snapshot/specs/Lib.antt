@@ -2,12 +2,9 @@ pub mod Text
 pub mod Form
 pub mod Read
 pub mod Scan
-pub mod Write
 pub mod Save
-pub mod Judge
 pub mod Restore
 pub mod Savable
 pub mod Room
-pub mod Runs
 pub mod Ascii
 pub mod Steps

@@ -3,7 +3,8 @@ ghost use mathlib.Core.Path.{_≡_};
 ghost use Prim.Native.Nat.{_+_, _-_, _*_, _≤_, _<_};
 ghost use lib.ListN.{length, take, drop};
 ghost use lib.Ieee.{binary32, binary64};
-ghost use Rattle.snapshot.specs.Scan.{lead, numberOf, hexOf, hscan, singleOf, doubleOf, fieldOf};
+ghost use Rattle.snapshot.specs.Scan.{numberOf, singleOf, doubleOf};
+ghost use Rattle.snapshot.specs.Steps.Scan.{lead, hexOf, hscan, fieldOf};
 ghost use Rattle.snapshot.specs.Read.{asWhole, asFloat};
 
 fn wide(x: u8) -> u64

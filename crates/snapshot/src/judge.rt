@@ -11,7 +11,7 @@ ghost use mathlib.Core.Path.{_≡_};
 ghost use lib.ListN.{length, drop};
 ghost use lib.Ieee.{binary32, binary64};
 ghost use Rattle.snapshot.specs.Read.{asWhole, asFloat};
-ghost use Rattle.snapshot.specs.Judge.{byte, name, nextOf, fields, listLine, Filled};
+ghost use Rattle.snapshot.specs.Steps.Judge.{byte, name, nextOf, fields, listLine, Filled};
 
 // The same by a field reader, which holds the text and the place: what reads a field calls this.
 pub(crate) fn next_field(text: &[u8], at: usize, kind: u64) -> Next

@@ -26,7 +26,7 @@ ghost use lib.ListN.{length, take, drop, replicate};
 ghost use Rattle.common.specs.Lent.{over};
 ghost use Rattle.trcf.specs.Types.{normalizes};
 ghost use Rattle.trcf.specs.Preprocessor.{reading};
-ghost use Rattle.snapshot.specs.Judge.{placed, held, Filled, codesRead, chnOr, chnBy, wgtBy, cntTest, cntBy, timBy, bufBy, countsRead, FilledWith};
+ghost use Rattle.snapshot.specs.Steps.Judge.{placed, held, Filled, codesRead, chnOr, chnBy, wgtBy, cntTest, cntBy, timBy, bufBy, countsRead, FilledWith};
 
 // The weights, as many as `out` is long.
 pub(crate) fn wgt_line(text: &[u8], at: usize, method: TransformMethod, out: &mut [f32]) -> Place

@@ -7,7 +7,7 @@ use crate::piece::Place;
 ghost use mathlib.Core.Path.{_≡_};
 ghost use Prim.Native.Nat.{_+_, _*_, _≤_, _<_};
 ghost use lib.ListN.{length, drop};
-ghost use Rattle.snapshot.specs.Runs.{lined, devs, bufs, initial, unkept, parts, partsBy};
+ghost use Rattle.snapshot.specs.Steps.Runs.{lined, devs, bufs, initial, unkept, parts, partsBy};
 
 // The first bad line among some, from 1, or 0 for none; and the place behind them.
 pub(crate) struct Lines {

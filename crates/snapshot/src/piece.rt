@@ -4,7 +4,7 @@ use crate::field::parse;
 ghost use mathlib.Core.Path.{_≡_};
 ghost use Prim.Native.Nat.{_+_, _≤_, _<_};
 ghost use lib.ListN.{length, drop};
-ghost use Rattle.snapshot.specs.Judge.{placed, byte, name, fieldLength, restOf, tabbedOf, nextOf};
+ghost use Rattle.snapshot.specs.Steps.Judge.{placed, byte, name, fieldLength, restOf, tabbedOf, nextOf};
 ghost use Rattle.snapshot.specs.Steps.Likely.{likely, fromOf};
 
 pub(crate) fn wide(x: u8) -> u64

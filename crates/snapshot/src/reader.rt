@@ -3,7 +3,7 @@
 use crate::piece::Next;
 use crate::piece::field_at;
 ghost use mathlib.Core.Path.{_≡_};
-ghost use Rattle.snapshot.specs.Judge.{nextOf};
+ghost use Rattle.snapshot.specs.Steps.Judge.{nextOf};
 
 pub(crate) struct FieldReader<'a> {
     pub text: &'a [u8],

@@ -23,10 +23,10 @@ ghost use Prim.Native.Nat.{_+_, _*_, _≤_};
 ghost use lib.ListN.{length, drop};
 ghost use Rattle.trcf.specs.View.{lent, settingsOf, noHead, counting, initialRoom, lentShort};
 ghost use Rattle.trcf.specs.Settings.{dimension};
-ghost use Rattle.snapshot.specs.Judge.{countsRead, settingsTold};
+ghost use Rattle.snapshot.specs.Steps.Judge.{countsRead, settingsTold};
 ghost use Rattle.snapshot.specs.Read.{same};
 ghost use Rattle.snapshot.specs.Restore.{outcome, restoreOf};
-ghost use Rattle.snapshot.specs.Runs.{Fills, Room, FillsOver, told, mapRan, headedOf, headWith, headBy, HeadFew, countsIn, expected, lined, unkept, parts, initial, body, partsOf, bodyBy, Good, filledBy, summed};
+ghost use Rattle.snapshot.specs.Steps.Runs.{Fills, Room, FillsOver, told, mapRan, headedOf, headWith, headBy, HeadFew, countsIn, expected, lined, unkept, parts, initial, body, partsOf, bodyBy, Good, filledBy, summed};
 
 // The first bad line of the first three or four or 0, how many of them hold codes, the place behind them, and the head that they give,
 // with no initial values yet.

@@ -13,7 +13,7 @@ use trcf::types::mode_of_letter;
 use trcf_rows::rows::is_imputing;
 ghost use mathlib.Core.Path.{_≡_};
 ghost use lib.ListN.{length, drop};
-ghost use Rattle.snapshot.specs.Judge.{placed, held, modeIn, modeTold, methodIn, methodTold, setTest, tailBy, setBy, settingsTold};
+ghost use Rattle.snapshot.specs.Steps.Judge.{placed, held, modeIn, modeTold, methodIn, methodTold, setTest, tailBy, setBy, settingsTold};
 ghost use Rattle.snapshot.specs.declared.piece.Place.the-variants.{Nowhere};
 
 // A mode, or none.

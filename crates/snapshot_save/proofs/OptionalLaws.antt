@@ -11,7 +11,7 @@ use Rattle.trcf.specs.Settings.{wholeMax}
 use Rattle.snapshot.specs.Text.{whole, float, behind, named}
 use Rattle.snapshot.specs.Read.{bytesOfLine}
 use Rattle.snapshot.specs.Save.{outcome}
-use Rattle.snapshot.specs.Write.{Wrote}
+use Rattle.snapshot.specs.Steps.Write.{Wrote}
 use Rattle.snapshot.proofs.WriteLaws.{wrote-then, wrote-is, whole-short, float-length, stored-over}
 use Rattle.snapshot_save.specs.Line.{within, optionalField, optionalLine}
 

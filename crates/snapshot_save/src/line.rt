@@ -12,7 +12,7 @@ ghost use lib.ListN.{length};
 ghost use Rattle.snapshot.specs.Text.{whole, named, singles};
 ghost use Rattle.snapshot.specs.Read.{bytesOfLine};
 ghost use Rattle.snapshot.specs.Save.{outcome, fitted};
-ghost use Rattle.snapshot.specs.Write.{Wrote};
+ghost use Rattle.snapshot.specs.Steps.Write.{Wrote};
 ghost use Rattle.snapshot_save.specs.Line.{within, optionalField, optionalLine};
 
 // A line of f32, and its length; or row 20 with nothing written, where out is shorter than the line.

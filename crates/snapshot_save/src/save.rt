@@ -28,7 +28,7 @@ ghost use Rattle.trcf.specs.View.{lent, settingsOf};
 ghost use Rattle.snapshot.specs.Text.{whole, chnLine};
 ghost use Rattle.trcf.specs.Calls.{finite};
 ghost use Rattle.snapshot.specs.Read.{bytesOfLine, climbs, zeros};
-ghost use Rattle.snapshot.specs.Write.{Wrote, tabbed};
+ghost use Rattle.snapshot.specs.Steps.Write.{Wrote, tabbed};
 ghost use Rattle.snapshot.specs.Save.{outcome, fitted, heldSave, saveOf, headBytes, listBytes};
 
 // The row, 0 for none, and the length of the text.

@@ -7,7 +7,7 @@ ghost use lib.ListN.{length};
 ghost use lib.Ieee.{binary32, binary64, toBits};
 ghost use Rattle.snapshot.specs.Text.{whole, digit, hex, float, bytesOf, singles, chnLine, cntLine, devLine, devLines, timLine, bufLine, bufLines};
 ghost use Rattle.snapshot.specs.Read.{bytesOfLine};
-ghost use Rattle.snapshot.specs.Write.{Wrote, tabbed, setBytes};
+ghost use Rattle.snapshot.specs.Steps.Write.{Wrote, tabbed, setBytes};
 
 // A lower-case hexadecimal digit.
 fn hex_digit(n: u64) -> u8

@@ -4,8 +4,8 @@ use mathlib.Core.Bool.{_&&_, cond}
 use mathlib.Core.List.{List}
 use lib.ListN.{length, take, drop, getD}
 use lib.Dec.{leb, ltb}
-use Rattle.snapshot.specs.Judge.{fieldLength}
-use Rattle.snapshot.specs.Scan.{fieldOf}
+use Rattle.snapshot.specs.Steps.Judge.{fieldLength}
+use Rattle.snapshot.specs.Steps.Scan.{fieldOf}
 use Rattle.snapshot.specs.declared.piece.Next.{Next}
 
 -- how many bytes the field has at a guess: 8 a single and 16 a double where a tab or LF stands behind them

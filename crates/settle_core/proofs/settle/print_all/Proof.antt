@@ -3,7 +3,7 @@ use mathlib.Core.Path.{_≡_, refl, sym, ap, _∙_}
 use native.Mathlib.Omega.{arith}
 use Prim.Native.Nat.{ℕ, _-_, _*_, _≤_}
 use lib.ListN.{length}
-use Rattle.snapshot.specs.Write.{Wrote}
+use Rattle.snapshot.specs.Steps.Write.{Wrote}
 use Rattle.snapshot.proofs.WriteLaws.{wrote-then, wrote-is}
 use Rattle.settling.specs.Steps.{signalOf}
 use Rattle.settle_core.proofs.PrintLaws.{wrote-none, linesOf, lines-more}

@@ -5,7 +5,8 @@ use lib.ListN.{length}
 use lib.Ieee.{binary32, binary64, nanBits, toBits}
 use lib.Ieee.Bits.{nanBits-above}
 use borrow.Author.Tests.{lt-ltb, le-ltb}
-use Rattle.snapshot.specs.Scan.{hscan, numberOf, doubleOf}
+use Rattle.snapshot.specs.Scan.{numberOf, doubleOf}
+use Rattle.snapshot.specs.Steps.Scan.{hscan}
 use Rattle.snapshot.specs.declared.field.Number.the-variants.{Is, No}
 use Rattle.snapshot.specs.declared.field.Field.the-variants.{Single, Double, Whole, Bad}
 use Rattle.snapshot.proofs.HexLaws.{bad-length, bad-hex, other-nan, the-nan, a-number, zero-by-zero}

@@ -8,7 +8,8 @@ use mathlib.Core.Option.{none, some}
 use lib.ListN.{length, drop, getD}
 use borrow.Author.Needs.{needs}
 use borrow.Author.Tests.{not-true, not-false}
-use Rattle.snapshot.specs.Scan.{lead, scan, numberOf}
+use Rattle.snapshot.specs.Scan.{numberOf}
+use Rattle.snapshot.specs.Steps.Scan.{lead, scan}
 use Rattle.snapshot.proofs.ScanLaws.{none-at, some-at, none-lead, scan-is, no-lead, scan-yes, scan-low, scan-high, scan-big, scan-end}
 use Rattle.snapshot.proofs.field.whole.Statement.{statement}
 use Rattle.snapshot.proofs.field.whole.Tie as tie

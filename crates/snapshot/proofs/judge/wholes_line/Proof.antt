@@ -2,7 +2,7 @@
 use mathlib.Core.Path.{_≡_, refl, sym, ap, _∙_}
 use lib.ListN.{length, drop}
 use Rattle.snapshot.specs.Read.{asWhole}
-use Rattle.snapshot.specs.Judge.{placed}
+use Rattle.snapshot.specs.Steps.Judge.{placed}
 use Rattle.snapshot.proofs.JudgeLaws.{got, lost, got-list, lost-list, line-nameless, line-bad, line-good}
 use borrow.Author.Needs.{needs}
 use Rattle.snapshot.proofs.judge.wholes_line.Statement.{statement}

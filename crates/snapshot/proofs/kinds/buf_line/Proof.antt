@@ -2,7 +2,7 @@
 use mathlib.Core.Path.{_≡_, refl, sym, _∙_}
 use lib.ListN.{drop, length}
 use borrow.Author.Tests.{not-true, not-false}
-use Rattle.snapshot.specs.Judge.{placed}
+use Rattle.snapshot.specs.Steps.Judge.{placed}
 use Rattle.snapshot.proofs.JudgeLaws.{got, lost, got-list, lost-list, whole-is, whole-not}
 use Rattle.snapshot.proofs.LineTests.{buf-nameless, buf-timeless, buf-bad, buf-early, buf-infinite, buf-good}
 use borrow.Author.Needs.{needs}

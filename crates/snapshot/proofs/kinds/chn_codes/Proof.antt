@@ -2,7 +2,7 @@
 use mathlib.Core.Path.{_≡_, refl, sym, _∙_}
 use borrow.Author.Tests.{not-true, not-false}
 use Rattle.snapshot.specs.Read.{allCodes}
-use Rattle.snapshot.specs.Judge.{chnBy}
+use Rattle.snapshot.specs.Steps.Judge.{chnBy}
 use Rattle.snapshot.proofs.LineTests.{check-yes, check-no}
 use borrow.Author.Needs.{needs}
 use Rattle.snapshot.proofs.kinds.chn_codes.Statement.{statement}

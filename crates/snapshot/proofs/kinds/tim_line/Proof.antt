@@ -1,7 +1,7 @@
 -- `snapshot::kinds::tim_line` meets its contract. Assumes nothing.
 use mathlib.Core.Path.{_≡_, refl, sym, _∙_}
 use borrow.Author.Tests.{not-true, not-false}
-use Rattle.snapshot.specs.Judge.{timBy, timTest}
+use Rattle.snapshot.specs.Steps.Judge.{timBy, timTest}
 use Rattle.snapshot.proofs.LineTests.{check-yes, check-no, tim-falls, tim-not, tim-zero, tim-other}
 use borrow.Author.Needs.{needs}
 use Rattle.snapshot.proofs.kinds.tim_line.Statement.{statement}

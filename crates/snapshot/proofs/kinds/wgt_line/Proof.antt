@@ -1,7 +1,7 @@
 -- `snapshot::kinds::wgt_line` meets its contract. Assumes nothing.
 use mathlib.Core.Path.{_≡_, refl, sym, _∙_}
 use borrow.Author.Tests.{not-true, not-false}
-use Rattle.snapshot.specs.Judge.{wgtBy, wgtTest}
+use Rattle.snapshot.specs.Steps.Judge.{wgtBy, wgtTest}
 use Rattle.snapshot.proofs.LineTests.{check-yes, check-no, wgt-no, wgt-one, wgt-other}
 use borrow.Author.Needs.{needs}
 use Rattle.snapshot.proofs.kinds.wgt_line.Statement.{statement}

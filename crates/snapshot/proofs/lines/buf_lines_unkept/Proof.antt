@@ -6,7 +6,7 @@ use mathlib.Core.Path.{_≡_, refl, sym, ap, _∙_}
 use lib.ListN.{length, drop}
 use Rattle.snapshot.proofs.JudgeLaws.{got-one, lost-one}
 use lib.Seq.{length-take-le, length-front}
-use Rattle.snapshot.specs.Runs.{Ran, Initial, unkept}
+use Rattle.snapshot.specs.Steps.Runs.{Ran, Initial, unkept}
 use Rattle.trcf.specs.Preprocessor.{Reading, reading}
 use Rattle.snapshot.proofs.RunLaws.{told-broke, block-room, block-long, Unkept, unkept-none, unkept-step, unkept-stop, unkept-done, Bufs, bufs-none, bufs-step, bufs-stop, bufs-done}
 use Rattle.snapshot.proofs.lines.buf_lines_unkept.Statement.{statement}

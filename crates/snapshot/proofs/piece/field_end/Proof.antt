@@ -5,7 +5,7 @@ use native.Mathlib.Omega.{arith}
 use native.Mathlib.Numerals.{add-one}
 use mathlib.Core.Path.{_≡_, refl, sym, ap, _∙_}
 use lib.ListN.{length, drop, getD}
-use Rattle.snapshot.specs.Judge.{fieldLength}
+use Rattle.snapshot.specs.Steps.Judge.{fieldLength}
 use Rattle.snapshot.proofs.JudgeLaws.{stops, goes, none-left}
 use Rattle.snapshot.proofs.piece.field_end.Statement.{statement}
 use Rattle.snapshot.proofs.piece.field_end.Tie as tie

@@ -5,7 +5,7 @@ use native.Mathlib.Omega.{arith}
 use mathlib.Core.Path.{_≡_, sym, ap, _∙_}
 use mathlib.Core.Logic.{⊎-elim}
 use lib.ListN.{drop, getD}
-use Rattle.snapshot.specs.Judge.{fieldLength}
+use Rattle.snapshot.specs.Steps.Judge.{fieldLength}
 use Rattle.snapshot.specs.Steps.Likely.{likely}
 use Rattle.snapshot.proofs.FieldEnds.{likely-here, likely-inside, likely-past, likely-never}
 use Rattle.snapshot.proofs.piece.likely_end.Statement.{statement}

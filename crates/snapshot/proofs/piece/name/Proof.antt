@@ -1,6 +1,6 @@
 -- `snapshot::piece::name` meets its contract. Assumes nothing.
 use Rattle.snapshot.proofs.JudgeLaws.{got, lost}
-use Rattle.snapshot.specs.Judge.{onto, byte}
+use Rattle.snapshot.specs.Steps.Judge.{onto, byte}
 use mathlib.Core.Path.{_≡_, sym, _∙_, ap}
 use mathlib.Core.Option.{Option}
 use mathlib.Core.List.{List}

@@ -7,7 +7,7 @@ use lib.ListN.{length, take, drop}
 use lib.Seq.{length-take-le}
 use Rattle.trcf.specs.Types.{augments}
 use Rattle.trcf.specs.View.{Lent, lent, settingsOf, laid}
-use Rattle.snapshot.specs.Runs.{countsIn, Body, body, parts, initial, stateFrom}
+use Rattle.snapshot.specs.Steps.Runs.{countsIn, Body, body, parts, initial, stateFrom}
 use Rattle.snapshot.proofs.SaveLaws.{few-wide, wide-of}
 use Rattle.snapshot.proofs.BodyLaws.{dimension-is, over-back, laid-is}
 use Rattle.snapshot.proofs.restore.fill.Statement.{statement}

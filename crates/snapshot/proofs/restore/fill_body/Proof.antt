@@ -5,7 +5,7 @@ use native.Mathlib.Omega.{arith}
 use mathlib.Core.Path.{_≡_, refl, sym, ap, _∙_}
 use lib.ListN.{length, drop}
 use Rattle.trcf.specs.View.{settingsOf}
-use Rattle.snapshot.specs.Runs.{countsIn, parts, initial}
+use Rattle.snapshot.specs.Steps.Runs.{countsIn, parts, initial}
 use Rattle.snapshot.proofs.BodyLaws.{parts-of, fills-of}
 use Rattle.snapshot.proofs.restore.fill_body.Statement.{statement}
 use Rattle.snapshot.proofs.restore.fill_body.Tie as tie

@@ -6,7 +6,7 @@ use mathlib.Core.Path.{_≡_, refl, sym, ap, _∙_}
 use mathlib.Core.Bool.{Bool, true, false}
 use lib.ListN.{length, drop, length-drop}
 use Rattle.trcf.specs.View.{settingsOf}
-use Rattle.snapshot.specs.Runs.{countsIn}
+use Rattle.snapshot.specs.Steps.Runs.{countsIn}
 use borrow.Author.Tests.{not-true, not-false}
 use Rattle.snapshot.proofs.BodyLaws.{waiting-is, expected-waiting, expected-plain, expected-end, expected-none, expected-seen, expected-internal}
 use Rattle.snapshot.proofs.restore.initial_count.Statement.{statement}

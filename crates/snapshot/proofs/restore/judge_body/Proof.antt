@@ -5,7 +5,7 @@ use native.Mathlib.Omega.{arith}
 use mathlib.Core.Path.{_≡_, refl, sym, ap, _∙_}
 use lib.ListN.{length, drop, length-drop}
 use Rattle.trcf.specs.View.{settingsOf}
-use Rattle.snapshot.specs.Runs.{Ran, Body, countsIn, expected, bodyBy, summed}
+use Rattle.snapshot.specs.Steps.Runs.{Ran, Body, countsIn, expected, bodyBy, summed}
 use Rattle.snapshot.proofs.RunLaws.{told-ran}
 use Rattle.snapshot.proofs.BodyLaws.{judged-parts, judged-bufs, judged-behind, judged-all, judged-good, expected-few, expected-room}
 use Rattle.snapshot.proofs.restore.judge_body.Statement.{statement}

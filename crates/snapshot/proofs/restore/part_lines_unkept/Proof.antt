@@ -7,7 +7,7 @@ use lib.ListN.{length, drop}
 use lib.Seq.{length-take-le}
 use Rattle.trcf.specs.Types.{augments}
 use Rattle.trcf.specs.View.{settingsOf}
-use Rattle.snapshot.specs.Runs.{countsIn}
+use Rattle.snapshot.specs.Steps.Runs.{countsIn}
 use Rattle.snapshot.proofs.SaveLaws.{few, few-wide, wide-of}
 use Rattle.snapshot.proofs.BodyLaws.{parts-of, unkept-of, dimension-is}
 use Rattle.snapshot.proofs.restore.part_lines_unkept.Statement.{statement}

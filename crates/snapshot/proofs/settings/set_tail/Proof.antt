@@ -1,7 +1,7 @@
 -- `snapshot::settings::set_tail` meets its contract. Assumes nothing.
 use mathlib.Core.Path.{_≡_, sym, _∙_}
 use lib.ListN.{drop}
-use Rattle.snapshot.specs.Judge.{placed}
+use Rattle.snapshot.specs.Steps.Judge.{placed}
 use Rattle.snapshot.proofs.JudgeLaws.{double-is, double-not, single-is, single-not}
 use Rattle.snapshot.proofs.SettingsLaws.{tail-first, tail-second, tail-good}
 use borrow.Author.Needs.{needs}

@@ -7,7 +7,7 @@ use Prim.Native.Nat.{ℕ, _≤_}
 use mathlib.Core.List.{List, map}
 use lib.ListN.{length, take}
 use Rattle.snapshot.specs.Text.{whole}
-use Rattle.snapshot.specs.Write.{tabbed}
+use Rattle.snapshot.specs.Steps.Write.{tabbed}
 use lib.Seq.{length-take-le}
 use Rattle.snapshot_save.proofs.save.codes_length.Statement.{statement}
 use Rattle.snapshot_save.proofs.save.codes_length.Tie as tie

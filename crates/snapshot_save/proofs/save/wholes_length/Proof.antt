@@ -1,6 +1,6 @@
 -- `snapshot_save::save::wholes_length` meets its contract. Assumes nothing.
 use Rattle.snapshot.proofs.WriteLaws.{whole-short}
-use Rattle.snapshot.specs.Write.{tabbed}
+use Rattle.snapshot.specs.Steps.Write.{tabbed}
 use Rattle.snapshot.specs.Text.{whole}
 use lib.Seq.{drop-cons}
 use lib.ListN.{length, drop, getD, length-append, drop-of-length-le}

@@ -1,6 +1,6 @@
 -- `snapshot_save::write::tab_singles` meets its contract. Assumes nothing.
 use Rattle.snapshot.proofs.WriteLaws.{Left, left-all, left-step, left-done, float-length}
-use Rattle.snapshot.specs.Write.{tabbed}
+use Rattle.snapshot.specs.Steps.Write.{tabbed}
 use Rattle.snapshot.specs.Text.{float}
 use lib.Ieee.{Float, nan, binary32}
 use lib.Seq.{drop-cons}

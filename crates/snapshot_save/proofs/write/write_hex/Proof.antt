@@ -7,7 +7,7 @@ use mathlib.Core.Path.{_≡_, refl, ap, sym, _∙_}
 use mathlib.Core.List.{List}
 use lib.ListN.{length, length-set, set}
 use Rattle.snapshot.specs.Text.{hex}
-use Rattle.snapshot.specs.Write.{stored}
+use Rattle.snapshot.specs.Steps.Write.{stored}
 use Rattle.snapshot.proofs.HexLaws.{hex-length}
 use Rattle.snapshot.proofs.WriteLaws.{hex-back, stored-none}
 use Rattle.snapshot_save.proofs.write.write_hex.Statement.{statement}

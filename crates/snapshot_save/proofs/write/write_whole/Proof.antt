@@ -1,6 +1,6 @@
 -- `snapshot_save::write::write_whole` meets its contract. Assumes nothing.
 use Rattle.snapshot.proofs.WriteLaws.{whole-back, whole-less, whole-more-length, whole-pos, stored-one}
-use Rattle.snapshot.specs.Write.{stored}
+use Rattle.snapshot.specs.Steps.Write.{stored}
 use Rattle.snapshot.specs.Text.{whole}
 use lib.ListN.{length, length-set, set}
 use mathlib.Core.Path.{_≡_, refl, ap, sym, _∙_}

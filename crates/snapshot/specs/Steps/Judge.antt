@@ -22,7 +22,7 @@ use Rattle.snapshot.specs.declared.settings.Method.{Method}
 use Rattle.snapshot.specs.declared.settings.Method.the-variants.{OfMethod, NoMethod}
 use Rattle.snapshot.specs.declared.settings.Set.{Set}
 use Rattle.snapshot.specs.Read.{asWhole, asFloat, every, allCodes, climbs, zeros, Counts, Three, Read, bad}
-use Rattle.snapshot.specs.Scan.{fieldOf}
+use Rattle.snapshot.specs.Steps.Scan.{fieldOf}
 use Rattle.snapshot.specs.declared.field.Field.{Field}
 use Rattle.snapshot.specs.declared.field.Field.the-variants.{Bad}
 use Rattle.snapshot.specs.declared.piece.Place.{Place}

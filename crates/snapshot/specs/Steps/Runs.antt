@@ -12,7 +12,7 @@ use Rattle.trcf.specs.Preprocessor.{State, Reading, statisticsLength}
 use Rattle.trcf.specs.View.{Lent, settingsOf, headFrom, counting, laid}
 use Rattle.trcf.specs.declared.head.Preprocessor.{Preprocessor}
 use Rattle.snapshot.specs.Read.{asFloat, Counts, Read, taken, bad, mayStand, stateOf, withLists}
-use Rattle.snapshot.specs.Judge.{listLine, Codes, chnOr, chnBy, setBy, wgtBy, cntBy, timBy, bufBy}
+use Rattle.snapshot.specs.Steps.Judge.{listLine, Codes, chnOr, chnBy, setBy, wgtBy, cntBy, timBy, bufBy}
 use Rattle.snapshot.specs.declared.lines.Lines.{Lines}
 use Rattle.snapshot.specs.declared.restore.Judged.{Judged}
 
