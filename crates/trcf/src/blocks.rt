@@ -1,12 +1,13 @@
 // A forecast turned back block by block, each number by what its channel is scaled and shifted by. The running sums of a method that differences are carried in
 // the same pass, and no branch stands in the inner loops: that lets the compiler work on several channels at once.
-use common::deviation::Deviation;
+use crate::transformer::WeightedTransformer;
+use crate::transformer::narrow_mean_at;
+use crate::transformer::normalized_scale;
+use crate::types::TransformMethod;
+use crate::types::is_differencing;
+use crate::types::is_none;
+use crate::types::is_normalizing;
 use common::rangevector::Range32;
-use trcf::transformer::WeightedTransformer;
-use trcf::types::TransformMethod;
-use trcf::types::is_differencing;
-use trcf::types::is_none;
-use trcf::types::is_normalizing;
 ghost use mathlib.Core.Path.{_≡_};
 ghost use mathlib.Core.Bool.{false, cond, _&&_};
 ghost use Prim.Native.Nat.{_+_, _*_, _≤_, _<_};
@@ -15,26 +16,10 @@ ghost use lib.ListN.{length, getD};
 ghost use lib.Ieee.{nan, binary32, ofInt};
 ghost use Rattle.numeric.specs.Narrow.{narrowed};
 ghost use Rattle.common.specs.RangeVector.{ranges, unblocked};
 ghost use Rattle.trcf.specs.Types.{differences};
 ghost use Rattle.trcf.specs.Transformer.{meanAt, reciprocal, invertedForecast};
 ghost use Rattle.trcf.specs.TransformerCalls.{view, Sound};
-ghost use Rattle.trcf.specs.Forecast.{plain};
-ghost use Rattle.trcf_forecast.specs.Steps.Blocks.{placesBy, turnBy, driftPlace, turnPlace, moves, placeOf, Carried, Held};
-
-fn mean_at(s: &[f64], n: usize) -> f64
-    requires { ⌜ 3 * n + 3 ≤ length (now s) ⌝ }
-    ensures { λ r. ⌜ r ≡ meanAt (now (s .entry)) n ⌝ }
-{
-    let at = 3 * n;
-    let t = Deviation {
-        discount: 0.0,
-        weight: s[at],
-        sum_squared: s[at + 2],
-        sum: s[at + 1],
-        count: 0,
-    };
-    t.mean()
-}
+ghost use Rattle.trcf.specs.Steps.Blocks.{plain, placesBy, turnBy, driftPlace, turnPlace, moves, placeOf, Carried, Held};
 
 // 1 / weight, 0 for weight 0.
 fn reciprocal_of(w: f32) -> f32
@@ -76,7 +61,7 @@ fn base_at(carries: bool, s: &[f64], previous: &[f32], j: usize) -> f32
     if carries {
         previous[j]
     } else {
-        numeric::to_f32(mean_at(s, j))
+        narrow_mean_at(s, j)
     }
 }
 
@@ -101,8 +86,8 @@ fn channels_into(
     let mut j = 0;
     while j < d {
         factors[j] = reciprocal_of(t.weights[j]);
-        scales[j] = numeric::to_f32(mean_at(s, j + 2 * d) + 1.0);
-        drifts[j] = numeric::to_f32(mean_at(s, j + 3 * d));
+        scales[j] = normalized_scale(s, d, j);
+        drifts[j] = narrow_mean_at(s, j + 3 * d);
         bases[j] = base_at(carries, s, previous, j);
         j += 1;
     }
@@ -269,7 +254,7 @@ fn turn_block(
 }
 
 // Every whole block.
-pub(crate) fn invert_blocks(
+pub(crate) fn forecast_fitting(
     t: WeightedTransformer,
     s: &[f64],
     previous: &[f32],
