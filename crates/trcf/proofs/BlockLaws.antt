@@ -15,13 +15,13 @@ use lib.Seq.{getD-set-same, getD-set-other, set-set, set-comm, getD-append-add}
 use lib.Ieee.{Float, nan, binary32}
 use Rattle.common.specs.RangeVector.{Range, Ranges, range, ranges, rangeAt, putAt, shifted, scaled, cascadeTo, unblocked}
 use Rattle.common.proofs.RangeLaws.{SameLengths, putAt-lengths, rangeAt-other, cascadeTo-lengths, cascadeTo-later}
 use Rattle.trcf.specs.Types.{isNone, normalizes, differences, centres}
 use Rattle.trcf.specs.Transformer.{Transformer, reciprocal, weightAt, normalizedScale, basicDrift, basicShift, scaledIf, shiftedIf, forecastAt, forecastTo, invertedForecast}
 use Rattle.trcf.specs.declared.types.TransformMethod.{TransformMethod}
 use Rattle.trcf.specs.declared.types.TransformMethod.the-variants.{NONE, WEIGHTED, DIFFERENCE, «SUBTRACT_MA», NORMALIZE, «NORMALIZE_DIFFERENCE»}
-use Rattle.trcf.proofs.ForecastLaws.{Even}
+use Rattle.trcf.proofs.ForecastLaws.{Even, lengths-of, forecastTo-lengths}
 use Rattle.trcf.proofs.ExtrapolationLaws.{true-false, turn-within}
-use Rattle.trcf_forecast.specs.Steps.Blocks.{placesBy, driftBy, turnBy, driftPlace, turnPlace, moves, placeOf, CarriedTo, Carried, Held}
+use Rattle.trcf.specs.Steps.Blocks.{placesBy, driftBy, turnBy, driftPlace, turnPlace, moves, placeOf, CarriedTo, Carried, Held}
 
 -- ---- turns of the loops
 
@@ -254,14 +254,6 @@ cascade-put p (suc n) m v r h =
     step w =
         ap (λ (y : Range). shifted binary32 y (getD (p ++ set (w .values) m (r .value)) n nan)) (rangeAt-other w m n r (λ e. omega arith))
         ∙ ap (shifted binary32 (rangeAt w n)) (getD-before p (w .values) m n (r .value) (omega arith))
-
-lengths-of : {v w z : Ranges} → SameLengths v w → SameLengths w z → SameLengths v z
-lengths-of a b = record { values = a .values ∙ b .values; upper = a .upper ∙ b .upper; lower = a .lower ∙ b .lower }
-
-forecastTo-lengths : (t : Transformer) (n : ℕ) (v : Ranges) → SameLengths (forecastTo t n v) v
-unfolding forecastTo
-forecastTo-lengths t zero v = record { values = refl; upper = refl; lower = refl }
-forecastTo-lengths t (suc n) v = lengths-of (putAt-lengths (forecastTo t n v) n _) (forecastTo-lengths t n v)
 
 module _ (t : Transformer) (p : List Float) (v : Ranges) where
   -- a method that does not difference

@@ -7,10 +7,14 @@ use mathlib.Core.List.{List}
 use lib.IntN.{pos}
 use lib.ListN.{length, getD}
 use lib.Ieee.{Float, nan, binary32, mul, ofInt}
-use Rattle.common.specs.RangeVector.{Range, Ranges, shifted, scaled, rangeAt, putAt}
+use Rattle.common.specs.declared.rangevector.Range32.{Range32}
+use Rattle.common.specs.RangeVector.{Range, range, Ranges, shifted, scaled, rangeAt, putAt}
 use Rattle.trcf.specs.Types.{isNone, normalizes, differences, centres}
 use Rattle.trcf.specs.Transformer.{Transformer, reciprocal, weightAt, normalizedScale, basicDrift, basicShift, scaledIf, shiftedIf}
 use Rattle.trcf.specs.declared.types.TransformMethod.{TransformMethod}
+
+abbrev pub plain : Range32 → Range
+plain r = range (r .value) (r .upper) (r .lower)
 
 -- n places from `at` on, each on its own: place at + j by g j
 unfoldable pub placesBy : (ℕ → Range → Range) → ℕ → ℕ → Ranges → Ranges

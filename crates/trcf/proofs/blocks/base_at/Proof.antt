@@ -1,9 +1,7 @@
--- `trcf_forecast::blocks::base_at` meets its contract: each arm is the definition's case. Assumes nothing.
-use mathlib.Core.Path.{ap, _∙_}
-use Rattle.numeric.specs.Narrow.{narrowed}
+-- `trcf::blocks::base_at` meets its contract: each arm is the definition's case. Assumes nothing.
 use borrow.Author.Needs.{needs}
-use Rattle.trcf_forecast.proofs.blocks.base_at.Statement.{statement}
-use Rattle.trcf_forecast.proofs.blocks.base_at.Tie as tie
+use Rattle.trcf.proofs.blocks.base_at.Statement.{statement}
+use Rattle.trcf.proofs.blocks.base_at.Tie as tie
 
 mul-result : tie.Need-mul-result
 mul-result c = search needs
@@ -11,17 +9,14 @@ mul-result c = search needs
 shared-slice-read-result : tie.Need-shared-slice-read-result
 shared-slice-read-result c = search needs
 
-mean-at-requires : tie.Need-mean-at-requires
-mean-at-requires c κs = search needs
-
-to-f32-requires : tie.Need-to-f32-requires
-to-f32-requires c κs = search needs
+narrow-mean-at-requires : tie.Need-narrow-mean-at-requires
+narrow-mean-at-requires c κs = search needs
 
 returns : tie.Need-returns
 returns c = rw (c .before .if1 .taken)
 
 returns-2 : tie.Need-returns-2
-returns-2 c = rw (c .before .before .if1 .left) (c .to-f32 .ensures ∙ ap narrowed (c .before .mean-at .ensures))
+returns-2 c = rw (c .before .if1 .left) (c .narrow-mean-at .ensures)
 
 pub base-at-spec : {M : Type 1} → statement M
 base-at-spec =
@@ -29,7 +24,6 @@ base-at-spec =
     (tie.spec
     mul-result
     shared-slice-read-result
-    mean-at-requires
-    to-f32-requires
+    narrow-mean-at-requires
     returns
     returns-2)

@@ -1,11 +1,11 @@
--- `trcf::transformer::block_number` meets its contract: up to 2 ^ 24 the cast loses nothing. Assumes nothing.
+-- `trcf::blocks::block_number` meets its contract: up to 2 ^ 24 the cast loses nothing. Assumes nothing.
 use Prim.Native.Nat.{_^_}
 use native.Mathlib.Omega.{arith}
 use lib.Dec.{le→leb}
 use lib.Ieee.{inFloat}
 use borrow.Author.Needs.{needs}
-use Rattle.trcf.proofs.transformer.block_number.Statement.{statement}
-use Rattle.trcf.proofs.transformer.block_number.Tie as tie
+use Rattle.trcf.proofs.blocks.block_number.Statement.{statement}
+use Rattle.trcf.proofs.blocks.block_number.Tie as tie
 
 int-to-float-result : tie.Need-int-to-float-result
 unfolding inFloat

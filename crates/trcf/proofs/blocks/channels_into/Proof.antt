@@ -1,20 +1,18 @@
--- `trcf_forecast::blocks::channels_into` meets its contract: each turn writes one channel of each list. Assumes nothing.
+-- `trcf::blocks::channels_into` meets its contract: each turn writes one channel of each list. Assumes nothing.
 use mathlib.Core.Bool.{Bool, cond}
-use lib.Ieee.{Float, nan, binary64, add}
-use Rattle.numeric.specs.Narrow.{narrowed}
-use Rattle.common.specs.Deviation.{one64}
+use lib.Ieee.{nan}
 use Rattle.trcf.specs.Types.{differences}
 use Rattle.trcf.specs.Transformer.{reciprocal, weightAt, normalizedScale, basicDrift, basicShift}
 use Rattle.trcf.proofs.TransformerLaws.{weightAt-view}
-use Rattle.trcf_forecast.proofs.BlockLaws.{held-none, held-more}
+use Rattle.trcf.proofs.BlockLaws.{held-none, held-more}
 use Prim.Native.Nat.{_-_, _≤_, _<_}
 use mathlib.Core.Path.{_≡_, sym, ap, _∙_}
 use native.Mathlib.Omega.{arith}
 use lib.ListN.{length, getD, length-set}
 use Rattle.trcf.specs.TransformerCalls.{view}
-use Rattle.trcf_forecast.specs.Steps.Blocks.{Held}
-use Rattle.trcf_forecast.proofs.blocks.channels_into.Statement.{statement}
-use Rattle.trcf_forecast.proofs.blocks.channels_into.Tie as tie
+use Rattle.trcf.specs.Steps.Blocks.{Held}
+use Rattle.trcf.proofs.blocks.channels_into.Statement.{statement}
+use Rattle.trcf.proofs.blocks.channels_into.Tie as tie
 
 abbrev Inv-loop : tie.InvT-loop
 Inv-loop s previous factors₀ scales₀ drifts₀ bases₀ t d carries j₀ factors scales drifts bases j =
@@ -46,17 +44,8 @@ mul-factors c = omega arith
 element-write-factors : tie.Need-element-write-factors Inv-loop μ-loop
 element-write-factors c = omega arith
 
-mul-mean-at : tie.Need-mul-mean-at Inv-loop μ-loop
-mul-mean-at c = omega arith
-
-add-mean-at : tie.Need-add-mean-at Inv-loop μ-loop
-add-mean-at c = omega arith
-
-mean-at-requires : tie.Need-mean-at-requires Inv-loop μ-loop
-mean-at-requires c κs = omega arith
-
-to-f32-requires : tie.Need-to-f32-requires Inv-loop μ-loop
-to-f32-requires c κs = tt
+normalized-scale-requires : tie.Need-normalized-scale-requires Inv-loop μ-loop
+normalized-scale-requires c κs = omega arith
 
 mul-scales : tie.Need-mul-scales Inv-loop μ-loop
 mul-scales c = omega arith
@@ -64,17 +53,14 @@ mul-scales c = omega arith
 element-write-scales : tie.Need-element-write-scales Inv-loop μ-loop
 element-write-scales c = omega arith
 
-mul-mean-at-2 : tie.Need-mul-mean-at-2 Inv-loop μ-loop
-mul-mean-at-2 c = omega arith
+mul-narrow-mean-at : tie.Need-mul-narrow-mean-at Inv-loop μ-loop
+mul-narrow-mean-at c = omega arith
 
-add-mean-at-2 : tie.Need-add-mean-at-2 Inv-loop μ-loop
-add-mean-at-2 c = omega arith
+add-narrow-mean-at : tie.Need-add-narrow-mean-at Inv-loop μ-loop
+add-narrow-mean-at c = omega arith
 
-mean-at-requires-2 : tie.Need-mean-at-requires-2 Inv-loop μ-loop
-mean-at-requires-2 c κs = omega arith
-
-to-f32-requires-2 : tie.Need-to-f32-requires-2 Inv-loop μ-loop
-to-f32-requires-2 c κs = tt
+narrow-mean-at-requires : tie.Need-narrow-mean-at-requires Inv-loop μ-loop
+narrow-mean-at-requires c κs = omega arith
 
 mul-drifts : tie.Need-mul-drifts Inv-loop μ-loop
 mul-drifts c = omega arith
@@ -100,22 +86,22 @@ loop-less c = omega arith
 loop-again : tie.Need-loop-again Inv-loop μ-loop
 unfolding normalizedScale basicDrift basicShift
 loop-again c =
-    let c8 = c .before .before .before .before .before .before .before .before in
-    let A = c8 .before .before .before .before .args in
-    let L = c8 .loop in
+    let c6 = c .before .before .before .before .before .before in
+    let A = c6 .before .before .before .before .args in
+    let L = c6 .loop in
     let T = view (A .t1) (A .s .now) in
     let H = L .inv .1 in
-    let low : L .j < A .t1 .«input_length» = c .before .before .before .before .before .before .before .loop-test .taken in (
+    let low : L .j < A .t1 .«input_length» = c .before .before .before .before .before .loop-test .taken in (
       omega arith,
       record {
         long = simp length-set (L .inv .5);
         factor = held-more (λ k. reciprocal (weightAt T k)) (L .factors) (L .j) _ (omega arith)
-            (c .before .before .before .before .before .reciprocal-of .ensures ∙ ap reciprocal (sym (weightAt-view (A .t1) (A .s .now) (L .j) low))) (H .factor);
+            (c .before .before .before .reciprocal-of .ensures ∙ ap reciprocal (sym (weightAt-view (A .t1) (A .s .now) (L .j) low))) (H .factor);
         scale = held-more (normalizedScale T) (L .scales) (L .j) _ (omega arith)
-            (c .before .before .before .to-f32 .ensures ∙ ap (λ (x : Float). narrowed (add binary64 x one64)) (c .before .before .before .before .mean-at .ensures)) (H .scale);
-        drift = held-more (basicDrift T) (L .drifts) (L .j) _ (omega arith) (c .before .to-f322 .ensures ∙ ap narrowed (c .before .before .mean-at2 .ensures)) (H .drift);
+            (c .before .before .normalized-scale .ensures) (H .scale);
+        drift = held-more (basicDrift T) (L .drifts) (L .j) _ (omega arith) (c .before .narrow-mean-at .ensures) (H .drift);
         base = held-more (λ k. cond (differences (A .t1 .«transform_method»)) (getD (A .previous .now) k nan) (basicShift T k)) (L .bases) (L .j) _ (omega arith)
-            (c .base-at .ensures ∙ ap (λ (x : Bool). cond x (getD (A .previous .now) (L .j) nan) (basicShift T (L .j))) (c8 .before .is-differencing .ensures)) (H .base);
+            (c .base-at .ensures ∙ ap (λ (x : Bool). cond x (getD (A .previous .now) (L .j) nan) (basicShift T (L .j))) (c6 .before .is-differencing .ensures)) (H .base);
       },
       simp length-set (L .inv .2),
       simp length-set (L .inv .3),
@@ -143,16 +129,12 @@ channels-into-spec =
     reciprocal-of-requires
     mul-factors
     element-write-factors
-    mul-mean-at
-    add-mean-at
-    mean-at-requires
-    to-f32-requires
+    normalized-scale-requires
     mul-scales
     element-write-scales
-    mul-mean-at-2
-    add-mean-at-2
-    mean-at-requires-2
-    to-f32-requires-2
+    mul-narrow-mean-at
+    add-narrow-mean-at
+    narrow-mean-at-requires
     mul-drifts
     element-write-drifts
     base-at-requires

@@ -1,6 +1,6 @@
--- `trcf_forecast::blocks::chosen` meets its contract: each arm is the definition's case. Assumes nothing.
-use Rattle.trcf_forecast.proofs.blocks.chosen.Statement.{statement}
-use Rattle.trcf_forecast.proofs.blocks.chosen.Tie as tie
+-- `trcf::blocks::chosen` meets its contract: each arm is the definition's case. Assumes nothing.
+use Rattle.trcf.proofs.blocks.chosen.Statement.{statement}
+use Rattle.trcf.proofs.blocks.chosen.Tie as tie
 
 returns : tie.Need-returns
 returns c = rw (c .if1 .taken)

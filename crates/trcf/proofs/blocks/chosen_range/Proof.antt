@@ -1,9 +1,9 @@
--- `trcf_forecast::blocks::chosen_range` meets its contract: each number is chosen. Assumes nothing.
-use Rattle.trcf.specs.Forecast.{plain}
-use Rattle.trcf_forecast.proofs.BlockLaws.{chosen-of}
+-- `trcf::blocks::chosen_range` meets its contract: each number is chosen. Assumes nothing.
+use Rattle.trcf.specs.Steps.Blocks.{plain}
+use Rattle.trcf.proofs.BlockLaws.{chosen-of}
 use borrow.Author.Needs.{needs}
-use Rattle.trcf_forecast.proofs.blocks.chosen_range.Statement.{statement}
-use Rattle.trcf_forecast.proofs.blocks.chosen_range.Tie as tie
+use Rattle.trcf.proofs.blocks.chosen_range.Statement.{statement}
+use Rattle.trcf.proofs.blocks.chosen_range.Tie as tie
 
 chosen-requires : tie.Need-chosen-requires
 chosen-requires c κs = search needs

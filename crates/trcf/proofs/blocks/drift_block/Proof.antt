@@ -1,15 +1,15 @@
--- `trcf_forecast::blocks::drift_block` meets its contract: each turn shifts one place. Assumes nothing.
+-- `trcf::blocks::drift_block` meets its contract: each turn shifts one place. Assumes nothing.
 use lib.Ieee.{Float, nan, binary32, mul}
 use Rattle.common.specs.RangeVector.{rangeAt, putAt, shifted}
-use Rattle.trcf_forecast.proofs.BlockLaws.{places-more}
+use Rattle.trcf.proofs.BlockLaws.{places-more}
 use Prim.Native.Nat.{_+_, _*_, _-_, _≤_}
 use mathlib.Core.Path.{_≡_, refl, ap, _∙_}
 use native.Mathlib.Omega.{arith}
 use lib.ListN.{length, getD, length-set}
 use Rattle.common.specs.RangeVector.{ranges}
-use Rattle.trcf_forecast.specs.Steps.Blocks.{placesBy, driftPlace}
-use Rattle.trcf_forecast.proofs.blocks.drift_block.Statement.{statement}
-use Rattle.trcf_forecast.proofs.blocks.drift_block.Tie as tie
+use Rattle.trcf.specs.Steps.Blocks.{placesBy, driftPlace}
+use Rattle.trcf.proofs.blocks.drift_block.Statement.{statement}
+use Rattle.trcf.proofs.blocks.drift_block.Tie as tie
 
 abbrev Inv-loop : tie.InvT-loop
 Inv-loop drifts d i values₀ upper₀ lower₀ b at j₀ values upper lower j =

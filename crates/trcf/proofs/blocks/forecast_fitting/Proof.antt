@@ -1,16 +1,16 @@
--- `trcf_forecast::blocks::invert_blocks` meets its contract: the invariant is that of the first i blocks, for every transformer that the lists hold. Assumes nothing.
+-- `trcf::blocks::forecast_fitting` meets its contract: the invariant is that of the first i blocks, for every transformer that the lists hold. Assumes nothing.
 use Prim.Native.Nat.{ℕ, _*_, _/_, _-_, _≤_}
 use mathlib.Core.Path.{_≡_, refl, sym, ap, _∙_}
 use native.Mathlib.Omega.{arith}
 use native.Mathlib.Nat.{div-le-self}
 use lib.ListN.{length}
 use Rattle.common.specs.RangeVector.{ranges}
 use Rattle.trcf.specs.Transformer.{Transformer}
 use Rattle.trcf.specs.TransformerCalls.{view}
-use Rattle.trcf_forecast.specs.Steps.Blocks.{Held}
-use Rattle.trcf_forecast.proofs.BlockLaws.{turnedTo, Turned, turned-none, turned-more, turned-all, block-room}
-use Rattle.trcf_forecast.proofs.blocks.invert_blocks.Statement.{statement}
-use Rattle.trcf_forecast.proofs.blocks.invert_blocks.Tie as tie
+use Rattle.trcf.specs.Steps.Blocks.{Held}
+use Rattle.trcf.proofs.BlockLaws.{turnedTo, Turned, turned-none, turned-more, turned-all, block-room}
+use Rattle.trcf.proofs.blocks.forecast_fitting.Statement.{statement}
+use Rattle.trcf.proofs.blocks.forecast_fitting.Tie as tie
 
 abbrev Inv-loop : tie.InvT-loop
 Inv-loop s previous values₀ upper₀ lower₀ d m n factors scales drifts bases₀ i₀ values upper lower bases i =
@@ -108,8 +108,8 @@ returns c =
     ∙ ap (λ (n : ℕ). turnedTo T (A .previous .now) (n * A .t .«input_length») v) e
     ∙ turned-all T (A .previous .now) v (record { upper = P .1 .1 .0 .0; lower = P .1 .1 .0 .1 }) (P .0 .some) (P .1 .0) (P .1 .1 .1)
 
-pub invert-blocks-spec : {M : Type 1} → statement M
-invert-blocks-spec =
+pub forecast-fitting-spec : {M : Type 1} → statement M
+forecast-fitting-spec =
     tie.close
     (tie.spec
     Inv-loop

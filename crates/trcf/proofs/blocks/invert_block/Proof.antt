@@ -1,17 +1,17 @@
--- `trcf_forecast::blocks::invert_block` meets its contract: each turn works on one place and one base. Assumes nothing.
+-- `trcf::blocks::invert_block` meets its contract: each turn works on one place and one base. Assumes nothing.
 use lib.Ieee.{nan, binary32, mul}
 use Rattle.common.specs.RangeVector.{rangeAt, putAt}
-use Rattle.trcf_forecast.specs.Steps.Blocks.{turnBy}
-use Rattle.trcf_forecast.proofs.BlockLaws.{places-more, carried-more}
+use Rattle.trcf.specs.Steps.Blocks.{turnBy}
+use Rattle.trcf.proofs.BlockLaws.{places-more, carried-more}
 use Prim.Native.Nat.{_+_, _*_, _-_, _≤_}
 use mathlib.Core.Path.{_≡_, refl, sym, _∙_}
 use native.Mathlib.Omega.{arith}
 use lib.ListN.{length, getD, length-set}
 use Rattle.common.specs.RangeVector.{ranges}
-use Rattle.trcf_forecast.specs.Steps.Blocks.{placesBy, turnPlace}
-use Rattle.trcf_forecast.proofs.BlockLaws.{Carrying}
-use Rattle.trcf_forecast.proofs.blocks.invert_block.Statement.{statement}
-use Rattle.trcf_forecast.proofs.blocks.invert_block.Tie as tie
+use Rattle.trcf.specs.Steps.Blocks.{placesBy, turnPlace}
+use Rattle.trcf.proofs.BlockLaws.{Carrying}
+use Rattle.trcf.proofs.blocks.invert_block.Statement.{statement}
+use Rattle.trcf.proofs.blocks.invert_block.Tie as tie
 
 abbrev Inv-loop : tie.InvT-loop
 Inv-loop normalizes moves carries factors scales drifts bases₀ d i values₀ upper₀ lower₀ b at j₀ bases values upper lower j =

@@ -1,7 +1,7 @@
--- `trcf_forecast::blocks::is_moving` meets its contract: what it answers is what the definition says, kind by kind. Assumes nothing.
+-- `trcf::blocks::is_moving` meets its contract: what it answers is what the definition says, kind by kind. Assumes nothing.
 use borrow.Author.Needs.{needs}
-use Rattle.trcf_forecast.proofs.blocks.is_moving.Statement.{statement}
-use Rattle.trcf_forecast.proofs.blocks.is_moving.Tie as tie
+use Rattle.trcf.proofs.blocks.is_moving.Statement.{statement}
+use Rattle.trcf.proofs.blocks.is_moving.Tie as tie
 
 enum-told : tie.Need-enum-told
 enum-told c = search needs

@@ -1,9 +1,9 @@
--- `trcf_forecast::blocks::turn` meets its contract: its steps are the definition's. Assumes nothing.
-use Rattle.trcf.specs.Forecast.{plain}
-use Rattle.trcf_forecast.proofs.BlockLaws.{turn-steps}
+-- `trcf::blocks::turn` meets its contract: its steps are the definition's. Assumes nothing.
+use Rattle.trcf.specs.Steps.Blocks.{plain}
+use Rattle.trcf.proofs.BlockLaws.{turn-steps}
 use borrow.Author.Needs.{needs}
-use Rattle.trcf_forecast.proofs.blocks.turn.Statement.{statement}
-use Rattle.trcf_forecast.proofs.blocks.turn.Tie as tie
+use Rattle.trcf.proofs.blocks.turn.Statement.{statement}
+use Rattle.trcf.proofs.blocks.turn.Tie as tie
 
 scale-requires : tie.Need-scale-requires
 scale-requires c κs = search needs

@@ -1,11 +1,11 @@
--- `trcf_forecast::blocks::turn_block` meets its contract: by the method's kind. Assumes nothing.
+-- `trcf::blocks::turn_block` meets its contract: by the method's kind. Assumes nothing.
 use Prim.Native.Nat.{_*_}
 use mathlib.Core.Path.{sym, _∙_}
 use Rattle.common.specs.RangeVector.{ranges}
-use Rattle.trcf_forecast.proofs.BlockLaws.{none-block, none-carried, other-block, other-carried}
+use Rattle.trcf.proofs.BlockLaws.{none-block, none-carried, other-block, other-carried}
 use borrow.Author.Needs.{needs}
-use Rattle.trcf_forecast.proofs.blocks.turn_block.Statement.{statement}
-use Rattle.trcf_forecast.proofs.blocks.turn_block.Tie as tie
+use Rattle.trcf.proofs.blocks.turn_block.Statement.{statement}
+use Rattle.trcf.proofs.blocks.turn_block.Tie as tie
 
 is-none-requires : tie.Need-is-none-requires
 is-none-requires c κs = search needs
