@@ -2,7 +2,7 @@
 -- last by what the cascade finds one block before it. Assumes nothing.
 use Prim.Native.Nat.{ℕ, zero, suc, _+_, _*_, _/_, _%_, _≤_, _<_}
 use mathlib.Core.Bool.{Bool, true, false, cond, not, _&&_, _||_}
-use mathlib.Core.Logic.{_⊎_, ⊎-elim}
+use mathlib.Core.Logic.{⊎-elim}
 use mathlib.Core.Path.{_≡_, refl, sym, ap, _∙_}
 use mathlib.Core.List.{List, [], _∷_, _++_}
 use native.Mathlib.Omega.{arith}
@@ -14,7 +14,7 @@ use lib.ListN.{length, getD, set}
 use lib.Seq.{getD-set-same, getD-set-other, set-set, set-comm, getD-append-add}
 use lib.Ieee.{Float, nan, binary32}
 use Rattle.common.specs.RangeVector.{Range, Ranges, range, ranges, rangeAt, putAt, shifted, scaled, cascadeTo, unblocked}
-use Rattle.common.proofs.RangeLaws.{SameLengths, putAt-lengths, rangeAt-other, cascadeTo-lengths, cascadeTo-later}
+use Rattle.common.proofs.RangeLaws.{rangeAt-other, cascadeTo-lengths, cascadeTo-later}
 use Rattle.trcf.specs.Types.{isNone, normalizes, differences, centres}
 use Rattle.trcf.specs.Transformer.{Transformer, reciprocal, weightAt, normalizedScale, basicDrift, basicShift, scaledIf, shiftedIf, forecastAt, forecastTo, invertedForecast}
 use Rattle.trcf.specs.declared.types.TransformMethod.{TransformMethod}

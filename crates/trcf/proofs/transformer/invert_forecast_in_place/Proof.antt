@@ -27,10 +27,22 @@ same-length-3 : tie.Need-same-length-3
 same-length-3 c = c .before .before .before .before .before .before .forecast-fitting .kept .1 .1 .1 .1 .1 .0
 
 returns : tie.Need-returns
-returns c = fitting _ (c .before .before .before .before .before .before .forecast-fitting .ensures) (passes-zero (sym (c .before .before .before .before .before .before .before .before .before .before .before .forecast-row .ensures .0) ∙ c .before .before .before .before .before .before .before .before .before .before .if1 .taken))
+returns c =
+    let f = c .before .before .before .before .before .before in
+    let r = f .before .before .before .before in
+    fitting _ (f .forecast-fitting .ensures) (passes-zero (sym (r .before .forecast-row .ensures .0) ∙ r .if1 .taken))
 
 returns-2 : tie.Need-returns-2
 returns-2 c = unfit _ refl (passes-not (λ e. c .if1 .left (c .before .forecast-row .ensures .0 ∙ e)))
 
 pub invert-forecast-in-place-spec : {M : Type 1} → statement M
-invert-forecast-in-place-spec = tie.close (tie.spec forecast-row-requires forecast-fitting-requires same-length same-length-2 same-length-3 returns returns-2)
+invert-forecast-in-place-spec =
+    tie.close
+    (tie.spec
+    forecast-row-requires
+    forecast-fitting-requires
+    same-length
+    same-length-2
+    same-length-3
+    returns
+    returns-2)

@@ -3,7 +3,7 @@ use Rattle.trcf.proofs.LengthLaws.{passing, forecast-row-zero}
 use native.Mathlib.Omega.{arith}
 use mathlib.Core.Path.{ap, _∙_}
 use mathlib.Core.Bool.{_&&_}
-use Prim.Native.Nat.{ℕ, _-_, _≤_}
+use Prim.Native.Nat.{ℕ, _≤_}
 use lib.ListN.{length}
 use lib.Ieee.{Float}
 use mathlib.Core.List.{List}
