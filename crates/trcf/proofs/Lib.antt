@@ -4,6 +4,7 @@ pub mod LentLaws
 pub mod TransformerLaws
 pub mod PassLaws
 pub mod ForecastLaws
+pub mod BlockLaws
 pub mod CallLaws
 pub mod TransformerExamples
 pub mod ShingleLaws

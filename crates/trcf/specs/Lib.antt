@@ -5,10 +5,10 @@ pub mod Transformer
 pub mod Timestamps
 pub mod Passes
 pub mod TransformerCalls
-pub mod Forecast
 pub mod Settings
 pub mod Calls
 pub mod Preprocessor
 pub mod View
 pub mod Lengths
 pub mod Extrapolation
+pub mod Steps

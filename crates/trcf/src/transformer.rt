@@ -1,4 +1,5 @@
 // The transform of a reading, channel by channel (the source's trcf/transformer.rs). The statistics lie in a lent list, three numbers each.
+use crate::blocks::forecast_fitting;
 use crate::passes::feed_channels;
 use crate::statistics::mean_at;
 use crate::types::TransformMethod;
@@ -10,25 +11,21 @@ use common::deviation::COUNT_LIMIT;
 use common::deviation::Deviation;
 use common::deviation::DeviationResult;
 use common::deviation::next_factor;
-use common::rangevector::Range32;
-use common::rangevector::cascaded_add_f32;
 ghost use mathlib.Core.Path.{_≡_};
 ghost use mathlib.Core.Bool.{false, cond, not, _&&_};
 ghost use mathlib.Core.List.{[], _∷_};
-ghost use Prim.Native.Nat.{_+_, _*_, _/_, _≤_, _<_};
-ghost use lib.IntN.{pos};
+ghost use Prim.Native.Nat.{_+_, _*_, _≤_, _<_};
 ghost use lib.ListN.{length, replicate};
-ghost use lib.Ieee.{binary32, binary64, add, mul, ofInt};
+ghost use lib.Ieee.{binary32, binary64, add, mul};
 ghost use Rattle.numeric.specs.Narrow.{narrowed};
 ghost use Rattle.common.specs.Refusal.{firstOf};
 ghost use Rattle.common.specs.Lent.{over};
 ghost use Rattle.common.specs.Deviation.{zero64, one64, countLimit, outsideUnit, factorOf};
-ghost use Rattle.common.specs.RangeVector.{ranges, outcome, unblocked, cascadeTo};
+ghost use Rattle.common.specs.RangeVector.{ranges, outcome, unblocked};
 ghost use Rattle.trcf.specs.Types.{isNone, normalizes, differences, centres};
 ghost use Rattle.trcf.specs.Settings.{allOne};
-ghost use Rattle.trcf.specs.Transformer.{zero32, slowDecay, updated, meanAt, weightAt, normalizedScale, transformBy, transformed, unweighted, invertBy, inverted, reciprocal, scaledIf, shiftedIf, forecastTo, invertedForecast, scales, shifts, differenceDeviations};
+ghost use Rattle.trcf.specs.Transformer.{zero32, slowDecay, updated, meanAt, weightAt, normalizedScale, transformBy, transformed, unweighted, invertBy, inverted, invertedForecast, scales, shifts, differenceDeviations};
 ghost use Rattle.trcf.specs.Lengths.{whereFits, passes};
-ghost use Rattle.trcf.specs.Forecast.{plain, inversionOf, forecastBy, channelTo};
 ghost use Rattle.trcf.specs.TransformerCalls.{view, Sound, made, written, newRow, updateRow, transformRow, outputRow, forecastRow, newOf, updateOf, transformOf, invertOf, invertForecastOf, scaleOf, shiftOf, differenceDeviationsOf};
 
 // The settings of a transform and how many readings the statistics were fed; the first `input_length` weights count.
@@ -70,7 +67,7 @@ pub(crate) fn update_channels(
     feed_channels(s, &mut a[..2 * d], d, decay, count, input, previous, f, g);
 }
 
-fn narrow_mean_at(s: &[f64], n: usize) -> f32
+pub(crate) fn narrow_mean_at(s: &[f64], n: usize) -> f32
     requires { ⌜ 3 * n + 3 ≤ length (now s) ⌝ }
     ensures { λ r. ⌜ r ≡ narrowed (meanAt (now (s .entry)) n) ⌝ }
 {
@@ -78,7 +75,7 @@ fn narrow_mean_at(s: &[f64], n: usize) -> f32
 }
 
 // The mean of the third statistic, plus 1.
-fn normalized_scale(s: &[f64], d: usize, i: usize) -> f32
+pub(crate) fn normalized_scale(s: &[f64], d: usize, i: usize) -> f32
     requires { ⌜ 3 * (i + 2 * d) + 3 ≤ length (now s) ⌝ }
     ensures { λ r. ⌜ r ≡ narrowed (add binary64 (meanAt (now (s .entry)) (i + 2 * d)) one64) ⌝ }
 {
@@ -235,167 +232,6 @@ pub(crate) fn difference_deviations_into(t: WeightedTransformer, s: &[f64], outp
         output[i] = narrow_mean_at(s, i + 4 * d);
         i += 1;
     }
-}
-
-// What a channel of a forecast is scaled and shifted by, the same in every block.
-struct Inversion {
-    weighs: bool,
-    factor: f32,
-    normalizes: bool,
-    scale: f32,
-    drift: f32,
-    centres: bool,
-    shift: f32,
-}
-
-// 1 / weight, 0 for weight 0.
-fn reciprocal_of(w: f32) -> f32
-    ensures { λ r. ⌜ r ≡ reciprocal w ⌝ }
-{
-    if w == 0.0 { 0.0 } else { 1.0 / w }
-}
-
-fn inversion_at(t: WeightedTransformer, s: &[f64], j: usize) -> Inversion
-    requires { ⌜ Sound t (length (now s)) ⌝ }
-    requires { ⌜ j < t .«input_length» ⌝ }
-    ensures { λ r. ⌜ r ≡ inversionOf (view t (now (s .entry))) j ⌝ }
-{
-    let d = t.input_length;
-    let m = t.transform_method;
-    let factor = reciprocal_of(t.weights[j]);
-    let none = is_none(m);
-    let normalizes = is_normalizing(m);
-    let centres = is_centring(m);
-    let scale = normalized_scale(s, d, j);
-    let drift = narrow_mean_at(s, j + 3 * d);
-    let shift = narrow_mean_at(s, j);
-    Inversion {
-        weighs: !none,
-        factor: factor,
-        normalizes: normalizes,
-        scale: scale,
-        drift: drift,
-        centres: centres,
-        shift: shift,
-    }
-}
-
-fn scaled_if(b: bool, r: Range32, x: f32) -> Range32
-    ensures { λ q. ⌜ plain q ≡ scaledIf b (plain r) x ⌝ }
-{
-    if b { r.scale(x) } else { r }
-}
-
-fn shifted_if(b: bool, r: Range32, x: f32) -> Range32
-    ensures { λ q. ⌜ plain q ≡ shiftedIf b (plain r) x ⌝ }
-{
-    if b { r.shift(x) } else { r }
-}
-
-// The nearest f32; the machine's own conversion is exact up to 2^24.
-fn block_number(i: usize) -> f32
-    ensures { λ r. ⌜ r ≡ ofInt binary32 (pos i) ⌝ }
-{
-    if i <= 16_777_216 {
-        i as f32
-    } else {
-        numeric::u64_to_f32(i as u64)
-    }
-}
-
-// What stands for the channel in block i.
-fn forecast(k: Inversion, i: usize, r: Range32) -> Range32
-    ensures { λ q. ⌜ plain q ≡ forecastBy k i (plain r) ⌝ }
-{
-    let a = scaled_if(k.weighs, r, k.factor);
-    let b = scaled_if(k.normalizes, a, k.scale);
-    let c = b.shift(block_number(i) * k.drift);
-    shifted_if(k.centres, c, k.shift)
-}
-
-// The n blocks of channel j.
-fn invert_channel(
-    k: Inversion,
-    j: usize,
-    d: usize,
-    n: usize,
-    values: &mut [f32],
-    upper: &mut [f32],
-    lower: &mut [f32],
-)
-    requires { ⌜ (j < d) × (n * d ≤ length (now values)) ⌝ }
-    requires { ⌜ (length (now upper) ≡ length (now values)) × (length (now lower) ≡ length (now values)) ⌝ }
-    ensures { λ _. ⌜ ranges (now (values .exit)) (now (upper .exit)) (now (lower .exit))
-        ≡ channelTo k d j n (ranges (now (values .entry)) (now (upper .entry)) (now (lower .entry))) ⌝ }
-{
-    let mut i = 0;
-    while i < n {
-        let at = i * d + j;
-        let r = Range32 {
-            value: values[at],
-            upper: upper[at],
-            lower: lower[at],
-        };
-        let q = forecast(k, i, r);
-        values[at] = q.value;
-        upper[at] = q.upper;
-        lower[at] = q.lower;
-        i += 1;
-    }
-}
-
-// Every whole block; each index on its own.
-fn invert_channels(
-    t: WeightedTransformer,
-    s: &[f64],
-    values: &mut [f32],
-    upper: &mut [f32],
-    lower: &mut [f32],
-)
-    requires { ⌜ Sound t (length (now s)) ⌝ }
-    requires { ⌜ (length (now upper) ≡ length (now values)) × (length (now lower) ≡ length (now values)) ⌝ }
-    ensures { λ _. ⌜ ranges (now (values .exit)) (now (upper .exit)) (now (lower .exit))
-        ≡ forecastTo (view t (now (s .entry))) (length (now (values .entry)) / t .«input_length» * t .«input_length») (ranges (now (values .entry)) (now (upper .entry)) (now (lower .entry))) ⌝ }
-{
-    let d = t.input_length;
-    let n = values.len() / d;
-    let mut j = 0;
-    while j < d {
-        let k = inversion_at(t, s, j);
-        invert_channel(k, j, d, n, values, upper, lower);
-        j += 1;
-    }
-}
-
-fn cascade_if(b: bool, values: &mut [f32], upper: &mut [f32], lower: &mut [f32], base: &[f32])
-    requires { ⌜ (length (now upper) ≡ length (now values)) × (length (now lower) ≡ length (now values)) ⌝ }
-    requires { ⌜ (b && unblocked (length (now base)) (length (now values))) ≡ false ⌝ }
-    ensures { λ _. ⌜ ranges (now (values .exit)) (now (upper .exit)) (now (lower .exit))
-        ≡ cond b (cascadeTo binary32 (now (base .entry)) (length (now (values .entry))) (ranges (now (values .entry)) (now (upper .entry)) (now (lower .entry)))) (ranges (now (values .entry)) (now (upper .entry)) (now (lower .entry))) ⌝ }
-{
-    if b {
-        cascaded_add_f32(values, upper, lower, base);
-    }
-}
-
-pub(crate) fn forecast_fitting(
-    t: WeightedTransformer,
-    s: &[f64],
-    previous: &[f32],
-    values: &mut [f32],
-    upper: &mut [f32],
-    lower: &mut [f32],
-)
-    requires { ⌜ Sound t (length (now s)) ⌝ }
-    requires { ⌜ (length (now upper) ≡ length (now values)) × (length (now lower) ≡ length (now values)) ⌝ }
-    requires { ⌜ (differences (t .«transform_method») && unblocked (length (now previous)) (length (now values))) ≡ false ⌝ }
-    ensures { λ _. ⌜ ranges (now (values .exit)) (now (upper .exit)) (now (lower .exit))
-        ≡ invertedForecast (view t (now (s .entry))) (now (previous .entry)) (ranges (now (values .entry)) (now (upper .entry)) (now (lower .entry))) ⌝ }
-{
-    let m = t.transform_method;
-    let b = is_differencing(m);
-    invert_channels(t, s, values, upper, lower);
-    cascade_if(b, values, upper, lower, previous);
 }
 
 // Row 6 as the source has it: what makes a statistic with this discount refuses it.

@@ -1,5 +1,4 @@
 // A forecast of transformed readings turned back into readings and times (the source's Preprocessor::invert_extrapolation).
-use crate::blocks::invert_blocks;
 use common::rangevector::Range64;
 use common::rangevector::cascaded_add_f64;
 use trcf::head::Preprocessor;
@@ -9,6 +8,7 @@ use trcf::shingle::copy_in;
 use trcf::time::last_time;
 use trcf::time::timedrift_of;
 use trcf::time::timescale_of;
+use trcf::transformer::invert_forecast_in_place;
 use trcf::types::TransformMethod;
 use trcf::types::is_augmented;
 use trcf::types::is_differencing;
@@ -234,7 +234,7 @@ fn invert_in_place(
     let d = t.input_length;
     let n = inputs.len();
     let b = n - d;
-    invert_blocks(t, s, &inputs[b..n], values, upper, lower);
+    invert_forecast_in_place(t, s, &inputs[b..n], values, upper, lower);
 }
 
 // Of each of h blocks of a numbers the first m.

@@ -1,3 +1,2 @@
 // The call that turns a forecast back.
-mod blocks;
 pub mod forecast;

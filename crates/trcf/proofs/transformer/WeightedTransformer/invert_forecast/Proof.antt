@@ -36,7 +36,7 @@ slice-aggregate-forecast-fitting c = let R = c .before .before .forecast-row .en
 forecast-fitting-requires : tie.Need-forecast-fitting-requires
 forecast-fitting-requires c κs = let R = c .before .before .before .before .before .forecast-row .ensures .1 (c .before .before .before .before .if1 .left) in
     let a = c .before .before .before .before .before .before .before .before .before .before .before .args in
-    (sound-part (a .self) (a .statistics .now) (R .0) (R .1) (R .6), ((R .3, R .4), blocked-base (differences (a .self .«transform_method»)) _ _ _ (R .2) (R .5)))
+    (sound-part (a .self) (a .statistics .now) (R .0) (R .1) (R .6), (R .2, ((R .3, R .4), blocked-base (differences (a .self .«transform_method»)) _ _ _ (R .2) (R .5))))
 
 same-length : tie.Need-same-length
 same-length c = search needs
