@@ -21,7 +21,7 @@ use Rattle.trcf.specs.Transformer.{Transformer, invertedForecast}
 use Rattle.trcf.specs.Settings.{Settings, transformer, dimension}
 use Rattle.trcf.specs.Calls.{Forecast, invertExtrapolation, lookahead, unturnable, turnShort, table, rows}
 use Rattle.trcf.specs.Preprocessor.{State, Answer, refused, turned, accepted, answer, refusal, reply, previous, timescale, timedrift, fronts, backs, invertTimes, numbersOf, timesOf, turnedBack}
-use Rattle.trcf.specs.Extrapolation.{timeFactor, timeBy, timesBy, stretched}
+use Rattle.trcf.specs.Steps.Inverting.{timeFactor, timeBy, timesBy, stretched}
 use Rattle.trcf.proofs.FitLaws.{tabulate-length}
 use Rattle.trcf.proofs.ForecastLaws.{invertedForecast-lengths}
 use Rattle.trcf.proofs.ExtrapolationLaws.{fronts-length, timesBy-is, numbers-within}

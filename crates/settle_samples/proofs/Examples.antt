@@ -15,7 +15,7 @@ use Rattle.trcf.specs.Calls.{finite, due, newest, wrongLength, outside, drainFu
 use Rattle.trcf.specs.Preprocessor.{fresh as freshState, facts, timeFed, feed, timescale, timedrift, timeElement, transformedAfter, previous, primed, drainOne, drainAll, drained, held, learned, learnedWith, change, deviations, next, refusal, answer, statusOf, pointOf, blockFrom, pastValues, expectedValues, anomalyOf, learnedNothing, heldAnswer, learnedAnswer, learnAnswer, reply, timeBase, preceding}
 use Rattle.snapshot.specs.Text.{whole, float}
 use Rattle.snapshot.specs.Read.{floatFrom, asWhole, asFloat}
-use Rattle.snapshot.specs.Ascii.{bytes}
+use Rattle.snapshot.specs.Steps.Ascii.{bytes}
 use Rattle.bench_core.specs.Line.{blankLine, fieldOf, cellOf, requestOf, keptOf}
 use Rattle.bench_core.specs.Bench.{noText, builderFrom}
 use Rattle.settling.specs.Settling.{inLimits, pairRow, readingAt, valueAt, note, settlingAfter, notedOf, runOf}

@@ -14,7 +14,7 @@ use lib.ListN.{replicate}
 use Rattle.common.specs.Lent.{over}
 use Rattle.trcf.specs.View.{Lent, lent, lentShort, laid, noHead}
 use Rattle.snapshot.specs.Restore.{outcome, restored, restoreOf}
-use Rattle.snapshot.specs.Ascii.{bytes}
+use Rattle.snapshot.specs.Steps.Ascii.{bytes}
 use Rattle.snapshot.proofs.ReadText.{sample}
 
 -- to unfold this is to unfold whatever its line names

@@ -6,5 +6,4 @@ pub mod Save
 pub mod Restore
 pub mod Savable
 pub mod Room
-pub mod Ascii
 pub mod Steps

@@ -60,5 +60,3 @@ heldSave h l out = cond (unheld h l) (outcome 20 0 out) (cond (unformed (view h 
 unfoldable pub saveOf : Preprocessor → Lent → List ℕ → Outcome
 saveOf h l out =
     accepted (settingsRow (settingsOf h)) (cond (misfit h) (outcome 19 0 out) (heldSave h l out)) (outcome (settingsRow (settingsOf h)) 0 out)
-
--- ---- the text in two parts, as it is written

@@ -5,3 +5,4 @@ pub mod Judge
 pub mod Likely
 pub mod Runs
 pub mod TwoParts
+pub mod Ascii

@@ -12,7 +12,8 @@ use Rattle.common.specs.Deviation.{rowOf, answered}
 use Rattle.common.specs.declared.deviation.Deviation.{Deviation}
 use Rattle.trcf.specs.Settings.{allOne}
 use Rattle.trcf.specs.Transformer.{one32, updated}
-use Rattle.trcf.specs.TransformerCalls.{Sound, Made, made, madeBy, Written, written, writtenBy, own}
+use Rattle.trcf.specs.TransformerCalls.{Made, made, madeBy, Written, written, writtenBy, own}
+use Rattle.trcf.specs.Steps.Sound.{Sound}
 use Rattle.trcf.specs.declared.transformer.WeightedTransformer.{WeightedTransformer}
 use Rattle.trcf.proofs.TransformerLaws.{updated-length}
 

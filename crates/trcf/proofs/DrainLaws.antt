@@ -15,7 +15,8 @@ use Rattle.trcf.specs.Types.{augments}
 use Rattle.trcf.specs.Transformer.{transformed}
 use Rattle.trcf.specs.Settings.{Settings, transformer, block, dimension}
 use Rattle.trcf.specs.Preprocessor.{State, Reading, reading, feed, feedAll, blocks, drainOne, drainEach, drainAll, primed, previous, transformedAfter, timeElement}
-use Rattle.trcf.specs.View.{settingsOf, holding, shingling, readingAt}
+use Rattle.trcf.specs.View.{settingsOf, holding}
+use Rattle.trcf.specs.Steps.Learning.{shingling, readingAt}
 use Rattle.trcf.specs.declared.head.Preprocessor.{Preprocessor}
 use Rattle.trcf.proofs.TransformerLaws.{transformed-length}
 

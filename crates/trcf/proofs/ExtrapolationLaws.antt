@@ -25,7 +25,8 @@ use Rattle.trcf.specs.Settings.{Settings, transformer, block, dimension}
 use Rattle.trcf.specs.Calls.{Forecast, invertExtrapolation, rows, table, unturnable, turnShort, lookahead}
 use Rattle.trcf.specs.Preprocessor.{refused, turned, fronts, backs, invertTime, invertTimes, timescale, timedrift, previous, numbersOf, timesOf, turnedBack, reply, accepted, statisticsLength}
 use Rattle.trcf.specs.View.{Lent, view, holding, settingsOf, headRow, misfit, initialRoom, lentShort, shortRow, lentRow, rowOf, answerOf, orElse}
-use Rattle.trcf.specs.Extrapolation.{Extrapolation, extrapolation, forecast, viewed, unread, unreadRow, extrapolationRow, extrapolationOf, extrapolationRead, Sizes, sizesOf, brokenAt, shortAt, rowAt, Longer, timeFactor, timeBy, timesBy}
+use Rattle.trcf.specs.Extrapolation.{Extrapolation, extrapolation, forecast, viewed, unread, unreadRow, extrapolationRow, extrapolationOf, extrapolationRead, Sizes, sizesOf, brokenAt, shortAt, rowAt}
+use Rattle.trcf.specs.Steps.Inverting.{Longer, timeFactor, timeBy, timesBy}
 use Rattle.trcf.specs.declared.head.Preprocessor.{Preprocessor}
 use Rattle.trcf.proofs.FitLaws.{tabulate-length}
 use Rattle.trcf.proofs.LentLaws.{over-more}

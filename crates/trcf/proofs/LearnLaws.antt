@@ -20,7 +20,8 @@ use Rattle.trcf.specs.Transformer.{zero32, one32, inverted, updated}
 use Rattle.trcf.specs.Settings.{Settings, transformer, dimension, block, waiting}
 use Rattle.trcf.specs.Calls.{Learn, Call, postProcess, seenLimit, rows, table, finite, given, wrongLength, newest, outside, learnFull, learnShort, waitingShort}
 use Rattle.trcf.specs.Preprocessor.{State, Answer, refused, learnt, timeFed, Reading, reading, facts, statisticsLength, previous, feed, held, learned, learnedWith, change, reply, accepted, deviations, learnedNothing, heldAnswer, learnedAnswer, learnAnswer, anomalyOf, pastValues, expectedValues, blockAt, isZero, blockFrom}
-use Rattle.trcf.specs.View.{Lent, lent, settingsOf, view, counted, counting, laid, holding, Fitted, rowOf, headAfter, lentAfter, answerOf, optional, learnCall, backOf, inputRow, waitingRow, learnRow, learningRow, Learnable, LearnOutcome, learnOutcome, LearnParts, learnedParts, learnedStatistics, learnNothing, learnRead, learnAfter, orElse}
+use Rattle.trcf.specs.View.{Lent, lent, settingsOf, view, counted, counting, laid, holding, Fitted, rowOf, headAfter, lentAfter, answerOf, optional, learnCall, backOf, waitingRow, learnRow, learningRow, LearnOutcome, learnOutcome, learnNothing, learnRead, learnAfter, orElse}
+use Rattle.trcf.specs.Steps.Learning.{inputRow, Learnable, LearnParts, learnedParts, learnedStatistics}
 use Rattle.trcf.specs.declared.head.Preprocessor.{Preprocessor}
 use Rattle.trcf.specs.Types.{normalizes}
 use Rattle.trcf.proofs.TransformerLaws.{fedAt-length, updated-length}

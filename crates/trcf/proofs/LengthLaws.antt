@@ -9,7 +9,8 @@ use Rattle.common.specs.Deviation.{countLimit}
 use Rattle.common.specs.RangeVector.{unblocked}
 use Rattle.trcf.specs.Types.{augments, differences}
 use Rattle.trcf.specs.Settings.{Settings, block, dimension}
-use Rattle.trcf.specs.TransformerCalls.{Sound, transformRow, forecastRow, notLong}
+use Rattle.trcf.specs.TransformerCalls.{transformRow, forecastRow, notLong}
+use Rattle.trcf.specs.Steps.Sound.{Sound}
 use Rattle.trcf.specs.Preprocessor.{statisticsLength, accepted}
 use Rattle.trcf.specs.View.{headRow, orElse, Bounded}
 use Rattle.trcf.specs.Lengths.{whereFits, within, passes, timeFits, outputFits, transformFits, feedFits}

@@ -14,7 +14,7 @@ use Rattle.numeric.specs.Root.{rootOf}
 use Rattle.common.specs.declared.deviation.Deviation.{Deviation}
 use Rattle.common.specs.Deviation.{zero64, statistic, stepOf, isEmpty, meanOf, deviationOf, rootAbove}
 use Rattle.trcf.specs.Transformer.{statisticAt, putStatistic, deviationsAt, putDeviations, fed, fedAt, slowDecay, channelsFed}
-use Rattle.trcf.specs.Passes.{radicandOf, stepAt, firstAt, lastAt, differenceOf, firsts, noted, lasts}
+use Rattle.trcf.specs.Steps.Passes.{radicandOf, stepAt, firstAt, lastAt, differenceOf, firsts, noted, lasts}
 use Rattle.trcf.proofs.TransformerLaws.{putStatistic-length}
 
 -- ---- one statistic written

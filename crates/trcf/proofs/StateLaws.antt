@@ -17,7 +17,8 @@ use Rattle.trcf.specs.Lists.{null, shiftIn}
 use Rattle.trcf.specs.Settings.{Settings, dimension, block, waiting}
 use Rattle.trcf.specs.Calls.{due, drainFull, seenLimit, drain, shingledPoint}
 use Rattle.trcf.specs.Preprocessor.{State, Answer, refused, absent, wrote, Reading, reading, facts, statisticsLength, blocks, primed, drainEach, drainAll, drained, pointOf, change, reply, accepted}
-use Rattle.trcf.specs.View.{Lent, lent, settingsOf, view, counted, laid, shingling, Outcome, outcome, Roomy, Fitted, readingAt, rowOf, pastRow, answerOf, headAfter, lentAfter, drainOf, pointed, pointRead, pointAfter}
+use Rattle.trcf.specs.View.{Lent, lent, settingsOf, view, counted, laid, Outcome, outcome, Roomy, Fitted, rowOf, pastRow, answerOf, headAfter, lentAfter, drainOf, pointed, pointRead, pointAfter}
+use Rattle.trcf.specs.Steps.Learning.{shingling, readingAt}
 use Rattle.trcf.specs.declared.head.Preprocessor.{Preprocessor}
 use Rattle.trcf.proofs.ShingleLaws.{over-take, over-part, length-shiftIn}
 use Rattle.trcf.proofs.DrainLaws.{first-of, left, front-over}

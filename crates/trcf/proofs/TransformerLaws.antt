@@ -18,7 +18,7 @@ use Rattle.common.proofs.DeviationLaws as deviation
 use Rattle.trcf.specs.Fit.{All, Fits}
 use Rattle.trcf.specs.Transformer.{Transformer, putStatistic, putDeviations, fed, fedAt, channelsFed, updated, transformBy, transformed, unweighted, invertBy, inverted, weightAt, basicShift, normalizedScale, scales, shifts, differenceDeviations, zero32}
 use Rattle.trcf.specs.TransformerCalls.{view}
-use Rattle.trcf.specs.Timestamps.{IsFactor}
+use Rattle.trcf.specs.Steps.Timestamps.{IsFactor}
 use Rattle.trcf.specs.declared.transformer.WeightedTransformer.{WeightedTransformer}
 use lib.Seq.{getD-take}
 use Rattle.trcf.specs.Types.{normalizes, centres}

@@ -12,7 +12,8 @@ use Rattle.trcf.specs.Transformer.{zero32}
 use Rattle.trcf.specs.Settings.{waiting, block, dimension}
 use Rattle.trcf.specs.Calls.{drain, shingledPoint, postProcess}
 use Rattle.trcf.specs.Preprocessor.{State, statisticsLength, deviations, drained, reading, pointOf}
-use Rattle.trcf.specs.View.{Lent, lent, settingsOf, initialRoom, rowOf, learningRow, optional, learnCall, backOf, learnOutcome, LearnParts, learnedParts, learnNothing, learnAfter, answering, answeringRow, counting, holding, Bounded, Ready, Learnable, Fitted, Outcome, outcome, drainOf, pointed, pointAfter, counted, laid, view}
+use Rattle.trcf.specs.View.{Lent, lent, settingsOf, initialRoom, rowOf, learningRow, optional, learnCall, backOf, learnOutcome, learnNothing, learnAfter, counting, holding, Bounded, Ready, Fitted, Outcome, outcome, drainOf, pointed, pointAfter, counted, laid, view}
+use Rattle.trcf.specs.Steps.Learning.{LearnParts, learnedParts, answering, answeringRow, Learnable}
 use Rattle.trcf.specs.declared.head.Preprocessor.{Preprocessor}
 use Rattle.trcf.specs.declared.head.PostProcessed.{PostProcessed}
 use Rattle.trcf.proofs.BoundLaws.{kept-room}

@@ -2,8 +2,6 @@ pub mod Lists
 pub mod Fit
 pub mod Types
 pub mod Transformer
-pub mod Timestamps
-pub mod Passes
 pub mod TransformerCalls
 pub mod Settings
 pub mod Calls

@@ -1,6 +1,6 @@
 -- The calls of the transformer by themselves: document 01, 'Numbers the mechanic may see', and what each leaves in the memory lent to it.
-use Prim.Native.Nat.{ℕ, zero, suc, _+_, _*_, _≤_, _<_}
-use mathlib.Core.Bool.{Bool, true, false, cond, not, _&&_, _||_}
+use Prim.Native.Nat.{ℕ, zero, suc, _+_, _*_}
+use mathlib.Core.Bool.{Bool, not, _&&_, _||_}
 use mathlib.Core.List.{List, [], _∷_}
 use lib.Dec.{ltb, leb, eqb}
 use lib.ListN.{length, take, replicate}
@@ -27,12 +27,6 @@ view h l =
       count = h .count;
       statistics = l;
     }
-
--- what the workers ask of a head and of the length of the lent statistics
-pub record Sound (h : WeightedTransformer) (n : ℕ) : Type 0 where
-  pub some : 0 < h .«input_length»
-  pub few : h .«input_length» ≤ 16
-  pub room : 15 * h .«input_length» ≤ n
 
 -- the numbers of a list that are statistics of d channels: five of three numbers each
 abbrev pub own : WeightedTransformer → List Float → Transformer

@@ -18,7 +18,8 @@ ghost use Rattle.numeric.specs.Narrow.{narrowed};
 ghost use Rattle.common.specs.RangeVector.{ranges, unblocked};
 ghost use Rattle.trcf.specs.Types.{differences};
 ghost use Rattle.trcf.specs.Transformer.{meanAt, reciprocal, invertedForecast};
-ghost use Rattle.trcf.specs.TransformerCalls.{view, Sound};
+ghost use Rattle.trcf.specs.TransformerCalls.{view};
+ghost use Rattle.trcf.specs.Steps.Sound.{Sound};
 ghost use Rattle.trcf.specs.Steps.Blocks.{plain, placesBy, turnBy, driftPlace, turnPlace, moves, placeOf, Carried, Held};
 
 // 1 / weight, 0 for weight 0.

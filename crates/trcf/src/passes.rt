@@ -11,7 +11,7 @@ ghost use lib.ListN.{length};
 ghost use Rattle.numeric.specs.Root.{rootOf};
 ghost use Rattle.common.specs.Deviation.{countLimit, factorOf, stepOf};
 ghost use Rattle.trcf.specs.Transformer.{statisticAt, slowDecay, channelsFed};
-ghost use Rattle.trcf.specs.Passes.{radicandOf, stepAt, firstAt, lastAt, firsts, noted, lasts};
+ghost use Rattle.trcf.specs.Steps.Passes.{radicandOf, stepAt, firstAt, lastAt, firsts, noted, lasts};
 
 // What the deviation is the root of; 0, which is its own root, where there is nothing to take a root of.
 fn radicand(t: Deviation) -> f64

@@ -8,7 +8,7 @@ ghost use Prim.Native.Nat.{_+_, _*_, _≤_, _<_};
 ghost use lib.ListN.{length};
 ghost use Rattle.common.specs.Deviation.{countLimit, factorOf, stepOf};
 ghost use Rattle.trcf.specs.Transformer.{statisticAt, putStatistic, deviationsAt, putDeviations, slowDecay, fed, meanAt, fedAt};
-ghost use Rattle.trcf.specs.Timestamps.{listed, gathered, IsFactor, Ready};
+ghost use Rattle.trcf.specs.Steps.Timestamps.{listed, gathered, IsFactor, Ready};
 
 // The five statistics of one channel, or of the time.
 pub struct Deviations {

@@ -26,7 +26,8 @@ ghost use Rattle.trcf.specs.Types.{isNone, normalizes, differences, cent
 ghost use Rattle.trcf.specs.Settings.{allOne};
 ghost use Rattle.trcf.specs.Transformer.{zero32, slowDecay, updated, meanAt, weightAt, normalizedScale, transformBy, transformed, unweighted, invertBy, inverted, invertedForecast, scales, shifts, differenceDeviations};
 ghost use Rattle.trcf.specs.Lengths.{whereFits, passes};
-ghost use Rattle.trcf.specs.TransformerCalls.{view, Sound, made, written, newRow, updateRow, transformRow, outputRow, forecastRow, newOf, updateOf, transformOf, invertOf, invertForecastOf, scaleOf, shiftOf, differenceDeviationsOf};
+ghost use Rattle.trcf.specs.TransformerCalls.{view, made, written, newRow, updateRow, transformRow, outputRow, forecastRow, newOf, updateOf, transformOf, invertOf, invertForecastOf, scaleOf, shiftOf, differenceDeviationsOf};
+ghost use Rattle.trcf.specs.Steps.Sound.{Sound};
 
 // The settings of a transform and how many readings the statistics were fed; the first `input_length` weights count.
 pub struct WeightedTransformer {

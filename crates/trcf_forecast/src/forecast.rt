@@ -29,7 +29,8 @@ ghost use Rattle.trcf.specs.Transformer.{invertedForecast};
 ghost use Rattle.trcf.specs.Settings.{transformer, dimension};
 ghost use Rattle.trcf.specs.Preprocessor.{statisticsLength, fronts, backs, invertTimes, numbersOf, timesOf, turnedBack};
 ghost use Rattle.trcf.specs.View.{settingsOf, holding, misfit, orElse, Bounded};
-ghost use Rattle.trcf.specs.Extrapolation.{extrapolation, forecast, viewed, extrapolationOf, sizes, brokenAt, shorterAt, shortAt, unread, rowAt, Unbroken, Longer, Long, Readable, Invertible, timeFactor, stretched, timeBy, timesBy};
+ghost use Rattle.trcf.specs.Extrapolation.{extrapolation, forecast, viewed, extrapolationOf, sizes, brokenAt, shorterAt, shortAt, unread, rowAt};
+ghost use Rattle.trcf.specs.Steps.Inverting.{Unbroken, Longer, Long, Readable, Invertible, timeFactor, stretched, timeBy, timesBy};
 
 // Whether the values make no blocks of d to cascade.
 fn is_unblocked(d: usize, n: usize) -> bool

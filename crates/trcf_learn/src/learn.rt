@@ -20,7 +20,8 @@ ghost use Rattle.trcf.specs.Lists.{shiftIn};
 ghost use Rattle.trcf.specs.Transformer.{inverted, zero32};
 ghost use Rattle.trcf.specs.Settings.{dimension, block, transformer};
 ghost use Rattle.trcf.specs.Preprocessor.{statisticsLength, reading, feed, previous, blockFrom, deviations};
-ghost use Rattle.trcf.specs.View.{settingsOf, holding, Bounded, Exact, Findable};
+ghost use Rattle.trcf.specs.View.{settingsOf, holding, Bounded};
+ghost use Rattle.trcf.specs.Steps.Learning.{Exact, Findable};
 
 // The reading stands behind those that wait.
 pub(crate) fn hold(

@@ -22,7 +22,8 @@ ghost use Rattle.common.specs.Lent.{over};
 ghost use Rattle.trcf.specs.Transformer.{zero32, one32};
 ghost use Rattle.trcf.specs.Settings.{block, dimension};
 ghost use Rattle.trcf.specs.Preprocessor.{statisticsLength, deviations};
-ghost use Rattle.trcf.specs.View.{lent, settingsOf, holding, counting, learnCall, learnOutcome, learnAfter, learnParts, learnedParts, answering, answeringRow, Bounded, Learnable};
+ghost use Rattle.trcf.specs.View.{lent, settingsOf, holding, counting, learnCall, learnOutcome, learnAfter, Bounded};
+ghost use Rattle.trcf.specs.Steps.Learning.{learnParts, learnedParts, answering, answeringRow, Learnable};
 
 // The reading waits; the deviations are written where it completes start.
 fn post_process_waiting(

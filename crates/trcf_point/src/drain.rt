@@ -22,7 +22,8 @@ ghost use Rattle.trcf.specs.Lists.{shiftIn};
 ghost use Rattle.trcf.specs.Settings.{dimension};
 ghost use Rattle.trcf.specs.Calls.{due, drainFull};
 ghost use Rattle.trcf.specs.Preprocessor.{statisticsLength, feed, feedAll, blocks, previous, transformedAfter, drainEach, drainAll, drained, facts};
-ghost use Rattle.trcf.specs.View.{settingsOf, holding, shingling, readingAt, view, counted, laid, lent, outcome, Bounded, Exact, Ready, drainOf};
+ghost use Rattle.trcf.specs.View.{settingsOf, holding, view, counted, laid, lent, outcome, Bounded, Ready, drainOf};
+ghost use Rattle.trcf.specs.Steps.Learning.{shingling, readingAt, Exact};
 
 // The place of the reading before the one at i; the first stands before itself.
 fn place_before(i: usize) -> usize

@@ -18,7 +18,8 @@ ghost use lib.ListN.{length};
 ghost use Rattle.common.specs.Deviation.{countLimit};
 ghost use Rattle.trcf.specs.Transformer.{zero32};
 ghost use Rattle.trcf.specs.Calls.{seenLimit, postProcess};
-ghost use Rattle.trcf.specs.View.{settingsOf, rowOf, lent, learnCall, backOf, inputRow, waitingRow, learnRow, learningRow, Bounded, Ready};
+ghost use Rattle.trcf.specs.View.{settingsOf, rowOf, lent, learnCall, backOf, waitingRow, learnRow, learningRow, Bounded, Ready};
+ghost use Rattle.trcf.specs.Steps.Learning.{inputRow};
 
 // How many readings before the newest; beyond every shingle for one that is to come.
 pub fn places_back(relative_index: i32) -> usize

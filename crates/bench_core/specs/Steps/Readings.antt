@@ -1,4 +1,4 @@
--- Of Bench: what only private contracts and proofs cite.
+-- The two lines that bring a reading. Only private contracts and proofs cite this.
 use mathlib.Core.Bool.{Bool, true, false, cond}
 use Rattle.bench_core.specs.declared.line.Name.{Name}
 use Rattle.bench_core.specs.declared.line.Name.the-variants.{Unread, Set, Weights, Point, Learn, Drain, Save, Other}

@@ -1,4 +1,4 @@
--- Of Head: what only private contracts and proofs cite.
+-- What a head that was read from words is. Only private contracts and proofs cite this.
 use Prim.Native.Nat.{ℕ, _≤_}
 use mathlib.Core.List.{List}
 use mathlib.Core.Path.{_≡_}

@@ -1,4 +1,4 @@
--- Of Root: what only private contracts and proofs cite.
+-- A radicand in the form in which its root is worked out. Only private contracts and proofs cite this.
 use mathlib.Core.Bool.{false}
 use Prim.Native.Nat.{ℕ, _*_, _^_, _≤_, _<_}
 use lib.Ieee.{Float}

@@ -1,4 +1,4 @@
--- Of Save: what only private contracts and proofs cite.
+-- The text in two parts, as it is written. Only private contracts and proofs cite this.
 use Prim.Native.Nat.{ℕ}
 use mathlib.Core.List.{List, _++_}
 use lib.Ieee.{Float}

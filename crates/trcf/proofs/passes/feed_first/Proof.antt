@@ -8,7 +8,7 @@ use Prim.Native.Nat.{_+_}
 use Rattle.common.specs.declared.deviation.Deviation.{Deviation}
 use Rattle.common.specs.Deviation.{stepOf}
 use Rattle.trcf.specs.Transformer.{statisticAt}
-use Rattle.trcf.specs.Passes.{radicandOf, firstAt}
+use Rattle.trcf.specs.Steps.Passes.{radicandOf, firstAt}
 use Rattle.trcf.proofs.PassLaws.{step-other}
 use Rattle.trcf.proofs.passes.feed_first.Statement.{statement}
 use Rattle.trcf.proofs.passes.feed_first.Tie as tie

@@ -1,6 +1,6 @@
 -- `trcf::passes::feed_last` meets its contract: two statistics fed one after the other. Assumes nothing.
 use borrow.Author.Needs.{needs}
-use Rattle.trcf.specs.Passes.{lastAt}
+use Rattle.trcf.specs.Steps.Passes.{lastAt}
 use Rattle.trcf.proofs.passes.feed_last.Statement.{statement}
 use Rattle.trcf.proofs.passes.feed_last.Tie as tie
 

@@ -1,7 +1,7 @@
 -- `trcf::passes::feed_one` meets its contract: one statistic read, fed and written. Assumes nothing.
 use borrow.Author.Needs.{needs}
 use Rattle.trcf.specs.Transformer.{statisticAt}
-use Rattle.trcf.specs.Passes.{stepAt}
+use Rattle.trcf.specs.Steps.Passes.{stepAt}
 use Rattle.trcf.proofs.passes.feed_one.Statement.{statement}
 use Rattle.trcf.proofs.passes.feed_one.Tie as tie
 

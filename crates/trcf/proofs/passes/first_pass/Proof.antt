@@ -9,7 +9,7 @@ use lib.Ieee.{Float, nan}
 use borrow.Author.Needs.{needs}
 use Rattle.common.specs.Deviation.{stepOf}
 use Rattle.trcf.specs.Transformer.{statisticAt}
-use Rattle.trcf.specs.Passes.{radicandOf, differenceOf, firsts, noted}
+use Rattle.trcf.specs.Steps.Passes.{radicandOf, differenceOf, firsts, noted}
 use Rattle.trcf.proofs.PassLaws.{noted-next}
 use Rattle.trcf.proofs.passes.first_pass.Statement.{statement}
 use Rattle.trcf.proofs.passes.first_pass.Tie as tie

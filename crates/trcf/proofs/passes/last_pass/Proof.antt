@@ -4,7 +4,7 @@ use mathlib.Core.Path.{_≡_, refl}
 use native.Mathlib.Omega.{arith}
 use lib.ListN.{length}
 use borrow.Author.Needs.{needs}
-use Rattle.trcf.specs.Passes.{lasts}
+use Rattle.trcf.specs.Steps.Passes.{lasts}
 use Rattle.trcf.proofs.PassLaws.{lasts-next}
 use Rattle.trcf.proofs.passes.last_pass.Statement.{statement}
 use Rattle.trcf.proofs.passes.last_pass.Tie as tie

@@ -1,6 +1,6 @@
 -- `trcf::passes::radicand` meets its contract: each return is the case that its tests pick. Assumes nothing.
 use borrow.Author.Needs.{needs}
-use Rattle.trcf.specs.Passes.{radicandOf}
+use Rattle.trcf.specs.Steps.Passes.{radicandOf}
 use Rattle.trcf.proofs.passes.radicand.Statement.{statement}
 use Rattle.trcf.proofs.passes.radicand.Tie as tie
 

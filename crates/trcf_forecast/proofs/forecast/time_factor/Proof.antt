@@ -1,5 +1,5 @@
 -- By the test; the widened weight is the weight. Assumes nothing.
-use Rattle.trcf.specs.Extrapolation.{timeFactor}
+use Rattle.trcf.specs.Steps.Inverting.{timeFactor}
 use borrow.Author.Needs.{needs}
 use Rattle.trcf_forecast.proofs.forecast.time_factor.Statement.{statement}
 use Rattle.trcf_forecast.proofs.forecast.time_factor.Tie as tie

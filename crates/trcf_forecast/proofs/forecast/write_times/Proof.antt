@@ -7,7 +7,7 @@ use lib.ListN.{length, length-set}
 use Rattle.common.specs.Lent.{over}
 use Rattle.common.specs.RangeVector.{Range, ranges, rangeAt}
 use Rattle.trcf.specs.Lists.{tabulate}
-use Rattle.trcf.specs.Extrapolation.{timeAt, timesBy}
+use Rattle.trcf.specs.Steps.Inverting.{timeAt, timesBy}
 use Rattle.trcf.proofs.LentLaws.{over-none}
 use Rattle.trcf.proofs.ExtrapolationLaws.{turn-within, written-more, written-all}
 use Rattle.trcf_forecast.proofs.forecast.write_times.Statement.{statement}

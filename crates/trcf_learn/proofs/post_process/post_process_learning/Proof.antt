@@ -13,7 +13,8 @@ use native.Mathlib.Numerals.{add-one}
 use Rattle.common.specs.Lent.{over}
 use Rattle.trcf.specs.Transformer.{zero32, one32}
 use Rattle.trcf.specs.Preprocessor.{statisticsLength, deviations}
-use Rattle.trcf.specs.View.{settingsOf, counting, holding, learnParts, learnedStatistics}
+use Rattle.trcf.specs.View.{settingsOf, counting, holding}
+use Rattle.trcf.specs.Steps.Learning.{learnParts, learnedStatistics}
 use Rattle.trcf.proofs.DrainLaws.{front-over}
 use Rattle.trcf.proofs.LearnLaws.{learned-length}
 use borrow.Author.Needs.{needs}

@@ -9,7 +9,8 @@ use lib.Dec.{eqb}
 use lib.Seq.{length-take-le}
 use native.Mathlib.Numerals.{add-one}
 use Rattle.trcf.specs.Transformer.{zero32}
-use Rattle.trcf.specs.View.{answering, counting}
+use Rattle.trcf.specs.View.{counting}
+use Rattle.trcf.specs.Steps.Learning.{answering}
 use borrow.Author.Needs.{needs}
 use Rattle.trcf_learn.proofs.post_process.post_process_waiting.Statement.{statement}
 use Rattle.trcf_learn.proofs.post_process.post_process_waiting.Tie as tie

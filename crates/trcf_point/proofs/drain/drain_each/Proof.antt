@@ -8,7 +8,8 @@ use lib.ListN.{length, take}
 use lib.Seq.{length-take-le, take-length}
 use native.Mathlib.Omega.{arith}
 use Rattle.trcf.specs.Preprocessor.{feedAll, blocks, drainEach}
-use Rattle.trcf.specs.View.{settingsOf, readingAt, shingling}
+use Rattle.trcf.specs.View.{settingsOf}
+use Rattle.trcf.specs.Steps.Learning.{readingAt, shingling}
 use Rattle.trcf.specs.declared.head.Preprocessor.{Preprocessor}
 use Rattle.trcf.proofs.DrainLaws.{left, left-all, left-none, flat-part, feed-rest, feed-none, drain-again}
 use Rattle.trcf_point.proofs.drain.drain_each.Statement.{statement}

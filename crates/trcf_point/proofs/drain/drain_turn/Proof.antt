@@ -8,7 +8,8 @@ use native.Mathlib.Nat.{mul-le-mul, le-refl, le-mul-of-pos-right, add-zero}
 use lib.ListN.{length, length-take, length-drop, take, drop, getD}
 use Rattle.trcf.proofs.DrainLaws.{block-in, block-cut, point-cut, block-is, block-fits}
 use Rattle.trcf.specs.Preprocessor.{previous, reading, transformedAfter}
-use Rattle.trcf.specs.View.{settingsOf, readingAt}
+use Rattle.trcf.specs.View.{settingsOf}
+use Rattle.trcf.specs.Steps.Learning.{readingAt}
 use Rattle.trcf.specs.Lists.{lastN, shiftIn}
 use borrow.Author.Needs.{needs, scaled-fits}
 use Rattle.trcf_point.proofs.drain.drain_turn.Statement.{statement}

@@ -4,7 +4,8 @@ use mathlib.Core.Path.{_≡_, refl, sym, ap, _∙_}
 use lib.ListN.{length}
 use native.Mathlib.Omega.{arith}
 use Rattle.trcf.specs.Preprocessor.{feedAll}
-use Rattle.trcf.specs.View.{settingsOf, readingAt}
+use Rattle.trcf.specs.View.{settingsOf}
+use Rattle.trcf.specs.Steps.Learning.{readingAt}
 use Rattle.trcf.proofs.DrainLaws.{left, left-none, feed-again}
 use Rattle.trcf_point.proofs.drain.feed_initial.Statement.{statement}
 use Rattle.trcf_point.proofs.drain.feed_initial.Tie as tie

@@ -1,7 +1,7 @@
 -- `trcf_rows::learn_rows::input_row` meets its contract: each return by the tests on the way to it. Assumes nothing.
 use native.Mathlib.Omega.{arith}
 use borrow.Author.Tests.{eq-eqb, ne-eqb}
-use Rattle.trcf.specs.View.{inputRow}
+use Rattle.trcf.specs.Steps.Learning.{inputRow}
 use Rattle.trcf_rows.proofs.learn_rows.input_row.Statement.{statement}
 use Rattle.trcf_rows.proofs.learn_rows.input_row.Tie as tie
 
