@@ -8,20 +8,20 @@ use native.Mathlib.Nat.{mul-le-mul, le-refl, zero-mul}
 use borrow.Author.Tests.{ltb-false}
 use lib.Dec.{ltb, eqb}
 use lib.ListN.{length, take, drop}
-use lib.Seq.{length-take-le, take-at, drop-at}
+use lib.Seq.{length-take-le, take-at}
 use lib.Ieee.{Float}
 use Rattle.common.specs.Lent.{over}
 use Rattle.common.specs.Deviation.{countLimit}
 use Rattle.common.specs.Refusal.{firstOf}
-use Rattle.trcf.specs.Lists.{null, shiftIn}
+use Rattle.trcf.specs.Lists.{null}
 use Rattle.trcf.specs.Settings.{Settings, dimension, block, waiting}
 use Rattle.trcf.specs.Calls.{due, drainFull, seenLimit, drain, shingledPoint}
 use Rattle.trcf.specs.Preprocessor.{State, Answer, refused, absent, wrote, Reading, reading, facts, statisticsLength, blocks, primed, drainEach, drainAll, drained, pointOf, change, reply, accepted}
 use Rattle.trcf.specs.View.{Lent, lent, settingsOf, view, counted, laid, Outcome, outcome, Roomy, Fitted, rowOf, pastRow, answerOf, headAfter, lentAfter, drainOf, pointed, pointRead, pointAfter}
 use Rattle.trcf.specs.Steps.Learning.{shingling, readingAt}
 use Rattle.trcf.specs.declared.head.Preprocessor.{Preprocessor}
-use Rattle.trcf.proofs.ShingleLaws.{over-take, over-part, length-shiftIn}
-use Rattle.trcf.proofs.DrainLaws.{first-of, left, front-over}
+use Rattle.trcf.proofs.ShingleLaws.{over-take, over-part}
+use Rattle.trcf.proofs.DrainLaws.{first-of, left}
 use Rattle.trcf.proofs.OutcomeLaws.{accepted-not}
 
 module _ (h : Preprocessor) (l : Lent) (f : Fitted h l) where
@@ -296,14 +296,3 @@ module _ (h : Preprocessor) (l : Lent) (n : ℕ) (e : pastRow h (l .initialTimes
 
   pub past-long : dimension (settingsOf h) ≤ n
   past-long = ltb-false n (dimension (settingsOf h)) (past-both .1)
-
--- the point, copied and shifted
-pub point-written : (out pn z z′ out′ last v : List Float) (b m : ℕ) → out′ ≡ over out pn → length pn ≡ m → z′ ≡ over z v → length v ≡ b → b ≤ m
-    → last ≡ shiftIn (take m out′) (take b z′) → last ++ drop m out′ ≡ over out (shiftIn pn v)
-unfolding over
-point-written out pn z z′ out′ last v b m eo lp ez lv h el =
-    let front : take m out′ ≡ pn = ap (take m) eo ∙ front-over out pn m lp in
-    let back : drop m out′ ≡ drop m out = ap (drop m) eo ∙ drop-at pn (drop (length pn) out) m lp ∙ ap (λ (k : ℕ). drop k out) lp in
-    let mid : take b z′ ≡ v = ap (take b) ez ∙ front-over z v b lv in
-    let len : length (shiftIn pn v) ≡ m = length-shiftIn pn v (omega (arith, lp, lv)) ∙ lp in
-    (λ j. (el ∙ (λ i. shiftIn (front i) (mid i))) j ++ back j) ∙ over-part out (shiftIn pn v) m len

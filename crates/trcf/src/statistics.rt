@@ -1,4 +1,4 @@
-// The five statistics of a channel, or of the time, in the lent list, three numbers each. Each reading is fed to all five in one pass over a list of records (the
+// The five statistics of a channel, or of the time, in the lent list, three numbers each. A time is fed to its five in one pass over a list of records (the
 // source's update_timestamps). The borrow checker covers no function over a lent list of records: the two that hold one are proved by hand, and callers use
 // `feed_at`, whose parameters are plain.
 use common::deviation::Deviation;
@@ -180,7 +180,7 @@ fn gather(deviations: [Deviation; 5]) -> Deviations
     }
 }
 
-// Feeds the five at the places b, b + w and so on of the lent numbers: what every path that feeds statistics calls. f and g are the factors of the decay and of a
+// Feeds the five at the places b, b + w and so on of the lent numbers: what every path that feeds time calls; the channels' are fed in passes (src/passes.rt). f and g are the factors of the decay and of a
 // tenth of it: all statistics of a state have one count, so a reading needs no more than these two.
 pub(crate) fn feed_at(
     s: &mut [f64],
