@@ -1,33 +1,19 @@
-// A forecast turned back block by block, each number by what its channel is scaled and shifted by. The running sums of a method that differences are carried in
+// A block of a forecast turned back, each number by what its channel is scaled and shifted by. The running sums of a method that differences are carried in
 // the same pass, and no branch stands in the inner loops: that lets the compiler work on several channels at once.
-use crate::transformer::WeightedTransformer;
-use crate::transformer::narrow_mean_at;
-use crate::transformer::normalized_scale;
 use crate::types::TransformMethod;
 use crate::types::is_differencing;
 use crate::types::is_none;
 use crate::types::is_normalizing;
 use common::rangevector::Range32;
 ghost use mathlib.Core.Path.{_≡_};
-ghost use mathlib.Core.Bool.{false, cond, _&&_};
+ghost use mathlib.Core.Bool.{cond};
 ghost use Prim.Native.Nat.{_+_, _*_, _≤_, _<_};
 ghost use lib.IntN.{pos};
-ghost use lib.ListN.{length, getD};
-ghost use lib.Ieee.{nan, binary32, ofInt};
-ghost use Rattle.numeric.specs.Narrow.{narrowed};
-ghost use Rattle.common.specs.RangeVector.{ranges, unblocked};
+ghost use lib.ListN.{length};
+ghost use lib.Ieee.{binary32, ofInt};
+ghost use Rattle.common.specs.RangeVector.{ranges};
 ghost use Rattle.trcf.specs.Types.{differences};
-ghost use Rattle.trcf.specs.Transformer.{meanAt, reciprocal, invertedForecast};
-ghost use Rattle.trcf.specs.TransformerCalls.{view};
-ghost use Rattle.trcf.specs.Steps.Sound.{Sound};
-ghost use Rattle.trcf.specs.Steps.Blocks.{plain, placesBy, turnBy, driftPlace, turnPlace, moves, placeOf, Carried, Held};
-
-// 1 / weight, 0 for weight 0.
-fn reciprocal_of(w: f32) -> f32
-    ensures { λ r. ⌜ r ≡ reciprocal w ⌝ }
-{
-    if w == 0.0 { 0.0 } else { 1.0 / w }
-}
+ghost use Rattle.trcf.specs.Steps.Blocks.{plain, placesBy, turnBy, driftPlace, turnPlace, moves, placeOf, Carried};
 
 // The nearest f32; the machine's own conversion is exact up to 2^24.
 fn block_number(i: usize) -> f32
@@ -51,46 +37,6 @@ fn is_moving(m: TransformMethod) -> bool
         TransformMethod::SUBTRACT_MA => true,
         TransformMethod::NORMALIZE => true,
         TransformMethod::NORMALIZE_DIFFERENCE => true,
-    }
-}
-
-// What channel j is shifted by last in the first block.
-fn base_at(carries: bool, s: &[f64], previous: &[f32], j: usize) -> f32
-    requires { ⌜ (3 * j + 3 ≤ length (now s)) × (j < length (now previous)) ⌝ }
-    ensures { λ r. ⌜ r ≡ cond carries (getD (now (previous .entry)) j nan) (narrowed (meanAt (now (s .entry)) j)) ⌝ }
-{
-    if carries {
-        previous[j]
-    } else {
-        narrow_mean_at(s, j)
-    }
-}
-
-// What each channel is scaled and shifted by in the first block.
-fn channels_into(
-    t: WeightedTransformer,
-    s: &[f64],
-    previous: &[f32],
-    factors: &mut [f32; 16],
-    scales: &mut [f32; 16],
-    drifts: &mut [f32; 16],
-    bases: &mut [f32; 16],
-)
-    requires { ⌜ Sound t (length (now s)) ⌝ }
-    requires { ⌜ length (now previous) ≡ t .«input_length» ⌝ }
-    requires { ⌜ (length (now factors) ≡ 16) × (length (now scales) ≡ 16) × (length (now drifts) ≡ 16) × (length (now bases) ≡ 16) ⌝ }
-    ensures { λ _. ⌜ Held (view t (now (s .entry))) (now (previous .entry)) (t .«input_length») (now (factors .exit)) (now (scales .exit)) (now (drifts .exit)) (now (bases .exit)) ⌝ }
-{
-    let d = t.input_length;
-    let m = t.transform_method;
-    let carries = is_differencing(m);
-    let mut j = 0;
-    while j < d {
-        factors[j] = reciprocal_of(t.weights[j]);
-        scales[j] = normalized_scale(s, d, j);
-        drifts[j] = narrow_mean_at(s, j + 3 * d);
-        bases[j] = base_at(carries, s, previous, j);
-        j += 1;
     }
 }
 
@@ -212,7 +158,7 @@ fn invert_block(
 }
 
 // Block i by the method.
-fn turn_block(
+pub(crate) fn turn_block(
     m: TransformMethod,
     factors: &[f32; 16],
     scales: &[f32; 16],
@@ -251,55 +197,5 @@ fn turn_block(
             upper,
             lower,
         );
-    }
-}
-
-// Every whole block.
-pub(crate) fn forecast_fitting(
-    t: WeightedTransformer,
-    s: &[f64],
-    previous: &[f32],
-    values: &mut [f32],
-    upper: &mut [f32],
-    lower: &mut [f32],
-)
-    requires { ⌜ Sound t (length (now s)) ⌝ }
-    requires { ⌜ length (now previous) ≡ t .«input_length» ⌝ }
-    requires { ⌜ (length (now upper) ≡ length (now values)) × (length (now lower) ≡ length (now values)) ⌝ }
-    requires { ⌜ (differences (t .«transform_method») && unblocked (length (now previous)) (length (now values))) ≡ false ⌝ }
-    ensures { λ _. ⌜ ranges (now (values .exit)) (now (upper .exit)) (now (lower .exit))
-        ≡ invertedForecast (view t (now (s .entry))) (now (previous .entry)) (ranges (now (values .entry)) (now (upper .entry)) (now (lower .entry))) ⌝ }
-{
-    let d = t.input_length;
-    let m = t.transform_method;
-    let n = values.len() / d;
-    let mut factors = [0.0f32; 16];
-    let mut scales = [0.0f32; 16];
-    let mut drifts = [0.0f32; 16];
-    let mut bases = [0.0f32; 16];
-    channels_into(
-        t,
-        s,
-        previous,
-        &mut factors,
-        &mut scales,
-        &mut drifts,
-        &mut bases,
-    );
-    let mut i = 0;
-    while i < n {
-        turn_block(
-            m,
-            &factors,
-            &scales,
-            &drifts,
-            &mut bases,
-            d,
-            i,
-            values,
-            upper,
-            lower,
-        );
-        i += 1;
     }
 }

@@ -1,5 +1,5 @@
 // The transform of a reading, channel by channel (the source's trcf/transformer.rs). The statistics lie in a lent list, three numbers each.
-use crate::blocks::forecast_fitting;
+use crate::blocks::turn_block;
 use crate::passes::feed_channels;
 use crate::statistics::mean_at;
 use crate::types::TransformMethod;
@@ -15,8 +15,8 @@ ghost use mathlib.Core.Path.{_≡_};
 ghost use mathlib.Core.Bool.{false, cond, not, _&&_};
 ghost use mathlib.Core.List.{[], _∷_};
 ghost use Prim.Native.Nat.{_+_, _*_, _≤_, _<_};
-ghost use lib.ListN.{length, replicate};
-ghost use lib.Ieee.{binary32, binary64, add, mul};
+ghost use lib.ListN.{length, getD, replicate};
+ghost use lib.Ieee.{nan, binary32, binary64, add, mul};
 ghost use Rattle.numeric.specs.Narrow.{narrowed};
 ghost use Rattle.common.specs.Refusal.{firstOf};
 ghost use Rattle.common.specs.Lent.{over};
@@ -24,10 +24,11 @@ ghost use Rattle.common.specs.Deviation.{zero64, one64, countLimit, outsideUnit
 ghost use Rattle.common.specs.RangeVector.{ranges, outcome, unblocked};
 ghost use Rattle.trcf.specs.Types.{isNone, normalizes, differences, centres};
 ghost use Rattle.trcf.specs.Settings.{allOne};
-ghost use Rattle.trcf.specs.Transformer.{zero32, slowDecay, updated, meanAt, weightAt, normalizedScale, transformBy, transformed, unweighted, invertBy, inverted, invertedForecast, scales, shifts, differenceDeviations};
+ghost use Rattle.trcf.specs.Transformer.{zero32, slowDecay, updated, meanAt, weightAt, normalizedScale, transformBy, transformed, unweighted, invertBy, inverted, reciprocal, invertedForecast, scales, shifts, differenceDeviations};
 ghost use Rattle.trcf.specs.Lengths.{whereFits, passes};
 ghost use Rattle.trcf.specs.TransformerCalls.{view, made, written, newRow, updateRow, transformRow, outputRow, forecastRow, newOf, updateOf, transformOf, invertOf, invertForecastOf, scaleOf, shiftOf, differenceDeviationsOf};
 ghost use Rattle.trcf.specs.Steps.Sound.{Sound};
+ghost use Rattle.trcf.specs.Steps.Blocks.{Held};
 
 // The settings of a transform and how many readings the statistics were fed; the first `input_length` weights count.
 pub struct WeightedTransformer {
@@ -68,7 +69,7 @@ pub(crate) fn update_channels(
     feed_channels(s, &mut a[..2 * d], d, decay, count, input, previous, f, g);
 }
 
-pub(crate) fn narrow_mean_at(s: &[f64], n: usize) -> f32
+fn narrow_mean_at(s: &[f64], n: usize) -> f32
     requires { ⌜ 3 * n + 3 ≤ length (now s) ⌝ }
     ensures { λ r. ⌜ r ≡ narrowed (meanAt (now (s .entry)) n) ⌝ }
 {
@@ -76,7 +77,7 @@ pub(crate) fn narrow_mean_at(s: &[f64], n: usize) -> f32
 }
 
 // The mean of the third statistic, plus 1.
-pub(crate) fn normalized_scale(s: &[f64], d: usize, i: usize) -> f32
+fn normalized_scale(s: &[f64], d: usize, i: usize) -> f32
     requires { ⌜ 3 * (i + 2 * d) + 3 ≤ length (now s) ⌝ }
     ensures { λ r. ⌜ r ≡ narrowed (add binary64 (meanAt (now (s .entry)) (i + 2 * d)) one64) ⌝ }
 {
@@ -231,6 +232,103 @@ pub(crate) fn difference_deviations_into(t: WeightedTransformer, s: &[f64], outp
     let mut i = 0;
     while i < d {
         output[i] = narrow_mean_at(s, i + 4 * d);
+        i += 1;
+    }
+}
+
+// 1 / weight, 0 for weight 0.
+fn reciprocal_of(w: f32) -> f32
+    ensures { λ r. ⌜ r ≡ reciprocal w ⌝ }
+{
+    if w == 0.0 { 0.0 } else { 1.0 / w }
+}
+
+// What channel j is shifted by last in the first block.
+fn base_at(carries: bool, s: &[f64], previous: &[f32], j: usize) -> f32
+    requires { ⌜ (3 * j + 3 ≤ length (now s)) × (j < length (now previous)) ⌝ }
+    ensures { λ r. ⌜ r ≡ cond carries (getD (now (previous .entry)) j nan) (narrowed (meanAt (now (s .entry)) j)) ⌝ }
+{
+    if carries {
+        previous[j]
+    } else {
+        narrow_mean_at(s, j)
+    }
+}
+
+// What each channel is scaled and shifted by in the first block.
+fn channels_into(
+    t: WeightedTransformer,
+    s: &[f64],
+    previous: &[f32],
+    factors: &mut [f32; 16],
+    scales: &mut [f32; 16],
+    drifts: &mut [f32; 16],
+    bases: &mut [f32; 16],
+)
+    requires { ⌜ Sound t (length (now s)) ⌝ }
+    requires { ⌜ length (now previous) ≡ t .«input_length» ⌝ }
+    requires { ⌜ (length (now factors) ≡ 16) × (length (now scales) ≡ 16) × (length (now drifts) ≡ 16) × (length (now bases) ≡ 16) ⌝ }
+    ensures { λ _. ⌜ Held (view t (now (s .entry))) (now (previous .entry)) (t .«input_length») (now (factors .exit)) (now (scales .exit)) (now (drifts .exit)) (now (bases .exit)) ⌝ }
+{
+    let d = t.input_length;
+    let m = t.transform_method;
+    let carries = is_differencing(m);
+    let mut j = 0;
+    while j < d {
+        factors[j] = reciprocal_of(t.weights[j]);
+        scales[j] = normalized_scale(s, d, j);
+        drifts[j] = narrow_mean_at(s, j + 3 * d);
+        bases[j] = base_at(carries, s, previous, j);
+        j += 1;
+    }
+}
+
+// Every whole block, one after the other.
+fn forecast_fitting(
+    t: WeightedTransformer,
+    s: &[f64],
+    previous: &[f32],
+    values: &mut [f32],
+    upper: &mut [f32],
+    lower: &mut [f32],
+)
+    requires { ⌜ Sound t (length (now s)) ⌝ }
+    requires { ⌜ length (now previous) ≡ t .«input_length» ⌝ }
+    requires { ⌜ (length (now upper) ≡ length (now values)) × (length (now lower) ≡ length (now values)) ⌝ }
+    requires { ⌜ (differences (t .«transform_method») && unblocked (length (now previous)) (length (now values))) ≡ false ⌝ }
+    ensures { λ _. ⌜ ranges (now (values .exit)) (now (upper .exit)) (now (lower .exit))
+        ≡ invertedForecast (view t (now (s .entry))) (now (previous .entry)) (ranges (now (values .entry)) (now (upper .entry)) (now (lower .entry))) ⌝ }
+{
+    let d = t.input_length;
+    let m = t.transform_method;
+    let n = values.len() / d;
+    let mut factors = [0.0f32; 16];
+    let mut scales = [0.0f32; 16];
+    let mut drifts = [0.0f32; 16];
+    let mut bases = [0.0f32; 16];
+    channels_into(
+        t,
+        s,
+        previous,
+        &mut factors,
+        &mut scales,
+        &mut drifts,
+        &mut bases,
+    );
+    let mut i = 0;
+    while i < n {
+        turn_block(
+            m,
+            &factors,
+            &scales,
+            &drifts,
+            &mut bases,
+            d,
+            i,
+            values,
+            upper,
+            lower,
+        );
         i += 1;
     }
 }

@@ -1,7 +1,7 @@
--- `trcf::blocks::reciprocal_of` meets its contract: each arm is the definition's case. Assumes nothing.
+-- `trcf::transformer::reciprocal_of` meets its contract: each arm is the definition's case. Assumes nothing.
 use Rattle.trcf.specs.Transformer.{reciprocal}
-use Rattle.trcf.proofs.blocks.reciprocal_of.Statement.{statement}
-use Rattle.trcf.proofs.blocks.reciprocal_of.Tie as tie
+use Rattle.trcf.proofs.transformer.reciprocal_of.Statement.{statement}
+use Rattle.trcf.proofs.transformer.reciprocal_of.Tie as tie
 
 returns : tie.Need-returns
 unfolding reciprocal

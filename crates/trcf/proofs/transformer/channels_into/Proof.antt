@@ -1,4 +1,4 @@
--- `trcf::blocks::channels_into` meets its contract: each turn writes one channel of each list. Assumes nothing.
+-- `trcf::transformer::channels_into` meets its contract: each turn writes one channel of each list. Assumes nothing.
 use mathlib.Core.Bool.{Bool, cond}
 use lib.Ieee.{nan}
 use Rattle.trcf.specs.Types.{differences}
@@ -11,8 +11,8 @@ use native.Mathlib.Omega.{arith}
 use lib.ListN.{length, getD, length-set}
 use Rattle.trcf.specs.TransformerCalls.{view}
 use Rattle.trcf.specs.Steps.Blocks.{Held}
-use Rattle.trcf.proofs.blocks.channels_into.Statement.{statement}
-use Rattle.trcf.proofs.blocks.channels_into.Tie as tie
+use Rattle.trcf.proofs.transformer.channels_into.Statement.{statement}
+use Rattle.trcf.proofs.transformer.channels_into.Tie as tie
 
 abbrev Inv-loop : tie.InvT-loop
 Inv-loop s previous factors₀ scales₀ drifts₀ bases₀ t d carries j₀ factors scales drifts bases j =

@@ -1,7 +1,7 @@
--- `trcf::blocks::base_at` meets its contract: each arm is the definition's case. Assumes nothing.
+-- `trcf::transformer::base_at` meets its contract: each arm is the definition's case. Assumes nothing.
 use borrow.Author.Needs.{needs}
-use Rattle.trcf.proofs.blocks.base_at.Statement.{statement}
-use Rattle.trcf.proofs.blocks.base_at.Tie as tie
+use Rattle.trcf.proofs.transformer.base_at.Statement.{statement}
+use Rattle.trcf.proofs.transformer.base_at.Tie as tie
 
 mul-result : tie.Need-mul-result
 mul-result c = search needs

@@ -1,4 +1,4 @@
--- `trcf::blocks::forecast_fitting` meets its contract: the invariant is that of the first i blocks, for every transformer that the lists hold. Assumes nothing.
+-- `trcf::transformer::forecast_fitting` meets its contract: the invariant is that of the first i blocks, for every transformer that the lists hold. Assumes nothing.
 use Prim.Native.Nat.{ℕ, _*_, _/_, _-_, _≤_}
 use mathlib.Core.Path.{_≡_, refl, sym, ap, _∙_}
 use native.Mathlib.Omega.{arith}
@@ -9,8 +9,8 @@ use Rattle.trcf.specs.Transformer.{Transformer}
 use Rattle.trcf.specs.TransformerCalls.{view}
 use Rattle.trcf.specs.Steps.Blocks.{Held}
 use Rattle.trcf.proofs.BlockLaws.{turnedTo, Turned, turned-none, turned-more, turned-all, block-room}
-use Rattle.trcf.proofs.blocks.forecast_fitting.Statement.{statement}
-use Rattle.trcf.proofs.blocks.forecast_fitting.Tie as tie
+use Rattle.trcf.proofs.transformer.forecast_fitting.Statement.{statement}
+use Rattle.trcf.proofs.transformer.forecast_fitting.Tie as tie
 
 abbrev Inv-loop : tie.InvT-loop
 Inv-loop s previous values₀ upper₀ lower₀ d m n factors scales drifts bases₀ i₀ values upper lower bases i =
