@@ -144,17 +144,6 @@ whole-within (suc k) m h = go (ltb m 10) refl (whole-within k (m / 10))
 pub whole-short : (m : ℕ) → m ≤ wholeMax → length (whole m) ≤ 20
 whole-short m h = whole-within 19 m (omega arith)
 
--- ---- the bits of a number: `to_bits` is asked only where x is one
-
-pub a-number : (x : Float) → ne x x ≡ false → T (not (isNan x))
-unfolding ne isNan
-a-number nan h = subst T h tt
-a-number (inf s) h = tt
-a-number (fin s m e) h = tt
-
-pub nan-bits : (f : Format) (x : Float) → ne x x ≡ true → toBits f nan ≡ toBits f x
-nan-bits f x h = ap (toBits f) (sym (differs-from-itself x (subst T (sym h) tt)))
-
 -- ---- digits stored from the back
 
 pub hex-back : (i m : ℕ) (old : List ℕ) (at : ℕ) → 0 < i → stored old at (hex i m) ≡ stored (set old (at + (i - 1)) (digit (m % 16))) at (hex (i - 1) (m / 16))

@@ -66,25 +66,6 @@ fn write_whole(out: &mut [u8], at: usize, n: u64) -> usize
     at + l
 }
 
-// The bits of x, every not-a-number in the one pattern: to_bits is undefined at one.
-fn single_bits(x: f32) -> u64
-    ensures { λ r. ⌜ r ≡ toBits binary32 x ⌝ }
-{
-    if x != x {
-        return 0x7fc0_0000;
-    }
-    f32::to_bits(x) as u64
-}
-
-fn double_bits(x: f64) -> u64
-    ensures { λ r. ⌜ r ≡ toBits binary64 x ⌝ }
-{
-    if x != x {
-        return 0x7ff8_0000_0000_0000;
-    }
-    f64::to_bits(x)
-}
-
 // One byte.
 pub(crate) fn write_byte(out: &mut [u8], at: usize, b: u8) -> usize
     requires { ⌜ at + 1 ≤ length (now out) ⌝ }
@@ -108,7 +89,7 @@ pub(crate) fn tab_single(out: &mut [u8], at: usize, x: f32) -> usize
     ensures { λ r. ⌜ Wrote at (9 ∷ float binary32 x) (now (out .entry)) r (now (out .exit)) ⌝ }
 {
     let p = write_byte(out, at, 9);
-    write_hex(out, p, 8, single_bits(x))
+    write_hex(out, p, 8, numeric::single_bits(x))
 }
 
 fn tab_double(out: &mut [u8], at: usize, x: f64) -> usize
@@ -116,7 +97,7 @@ fn tab_double(out: &mut [u8], at: usize, x: f64) -> usize
     ensures { λ r. ⌜ Wrote at (9 ∷ float binary64 x) (now (out .entry)) r (now (out .exit)) ⌝ }
 {
     let p = write_byte(out, at, 9);
-    write_hex(out, p, 16, double_bits(x))
+    write_hex(out, p, 16, numeric::double_bits(x))
 }
 
 // The name of a line.

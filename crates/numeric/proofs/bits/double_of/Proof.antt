@@ -1,11 +1,11 @@
--- `capi::words::double_of` meets its contract: a not-a-number by its law, else the bits. Assumes nothing.
+-- `numeric::bits::double_of` meets its contract: a not-a-number by its law, else the bits. Assumes nothing.
 use mathlib.Core.Path.{refl, _∙_}
 use lib.Ieee.{binary64}
 use lib.Ieee.Bits.{nanBits-above}
 use borrow.Author.Tests.{lt-ltb, le-ltb}
-use Rattle.capi.proofs.WordLaws.{read-nan}
-use Rattle.capi.proofs.words.double_of.Statement.{statement}
-use Rattle.capi.proofs.words.double_of.Tie as tie
+use Rattle.numeric.proofs.BitLaws.{read-nan}
+use Rattle.numeric.proofs.bits.double_of.Statement.{statement}
+use Rattle.numeric.proofs.bits.double_of.Tie as tie
 
 returns : tie.Need-returns
 returns c = read-nan binary64 (c .before .args .n) (nanBits-above binary64 (c .before .args .n) ∙ lt-ltb _ _ (c .if1 .taken))

@@ -1,13 +1,13 @@
--- `capi::words::single_of` meets its contract: a not-a-number by its law, else the bits. Assumes nothing.
+-- `numeric::bits::single_of` meets its contract: a not-a-number by its law, else the bits. Assumes nothing.
 use Prim.Native.Nat.{_%_}
 use mathlib.Core.Path.{refl, _∙_}
 use lib.Ieee.{binary32}
 use lib.Ieee.Bits.{nanBits-above}
 use borrow.Author.Tests.{lt-ltb, le-ltb}
-use Rattle.capi.proofs.WordLaws.{read-nan}
+use Rattle.numeric.proofs.BitLaws.{read-nan}
 use borrow.Author.Needs.{needs}
-use Rattle.capi.proofs.words.single_of.Statement.{statement}
-use Rattle.capi.proofs.words.single_of.Tie as tie
+use Rattle.numeric.proofs.bits.single_of.Statement.{statement}
+use Rattle.numeric.proofs.bits.single_of.Tie as tie
 
 returns : tie.Need-returns
 returns c = read-nan binary32 (c .before .args .n % 4294967296) (nanBits-above binary32 (c .before .args .n % 4294967296) ∙ lt-ltb _ _ (c .if1 .taken))

@@ -1,9 +1,9 @@
--- `capi::words::double_bits` meets its contract: a not-a-number in the one pattern, else its bits. Assumes nothing.
-use Rattle.snapshot.proofs.WriteLaws.{a-number, nan-bits}
+-- `numeric::bits::double_bits` meets its contract: a not-a-number in the one pattern, else its bits. Assumes nothing.
+use Rattle.numeric.proofs.BitLaws.{a-number, nan-bits}
 use lib.Ieee.{binary64, toBits}
 use borrow.Author.Needs.{needs}
-use Rattle.capi.proofs.words.double_bits.Statement.{statement}
-use Rattle.capi.proofs.words.double_bits.Tie as tie
+use Rattle.numeric.proofs.bits.double_bits.Statement.{statement}
+use Rattle.numeric.proofs.bits.double_bits.Tie as tie
 
 returns : tie.Need-returns
 unfolding toBits

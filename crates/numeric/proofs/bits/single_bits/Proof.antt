@@ -1,13 +1,13 @@
--- `capi::words::single_bits` meets its contract: a not-a-number in the one pattern, else its bits. Assumes nothing.
+-- `numeric::bits::single_bits` meets its contract: a not-a-number in the one pattern, else its bits. Assumes nothing.
 use lib.Ieee.Bits.{toBits-lt}
 use lib.Dec.{T}
 use mathlib.Core.Path.{sym, subst}
 use native.Mathlib.Omega.{arith}
-use Rattle.snapshot.proofs.WriteLaws.{a-number, nan-bits}
+use Rattle.numeric.proofs.BitLaws.{a-number, nan-bits}
 use lib.Ieee.{binary32, toBits}
 use borrow.Author.Needs.{needs}
-use Rattle.capi.proofs.words.single_bits.Statement.{statement}
-use Rattle.capi.proofs.words.single_bits.Tie as tie
+use Rattle.numeric.proofs.bits.single_bits.Statement.{statement}
+use Rattle.numeric.proofs.bits.single_bits.Tie as tie
 
 returns : tie.Need-returns
 unfolding toBits
