@@ -32,7 +32,7 @@ use Rattle.trcf.specs.View.{view, laid, headRow, lentShort, misfit, shortRow, l
 use Rattle.snapshot.specs.Text.{whole, float, setLine, singles, cntLine, devLine, timLine, bufLine, linesBy, bodyLines, chnLine, render}
 use Rattle.snapshot.specs.Read.{judge, floatFrom, asWhole, asFloat}
 use Rattle.snapshot.specs.Save.{unheld, unformed, heldSave, fitted, saveOf}
-use Rattle.snapshot.specs.Steps.Ascii.{bytes}
+use Rattle.snapshot.specs.Ascii.{ascii}
 use Rattle.bench_core.specs.Line.{blankLine, fieldOf, cellOf, requestOf, keptOf}
 use Rattle.bench_core.specs.Bench.{noText, pointText, doneText, prints, dimensionOf, pointTurn, learnTurn, drainTurn, savePrints, builderFrom, fresh, builtOf, weightsTurn, lineHeard, stepOf, finishOf}
 
@@ -92,11 +92,11 @@ cuts (suc n) t = run (take (suc n) t ∷ drop (suc n) t ∷ []) ∷ cuts n t
 abbrev output : String
 output = "ok\nno\t19\nno\t19\n"
 
-every-cut : cuts 116 (bytes input) ≡ replicate 116 (bytes output)
+every-cut : cuts 116 (ascii input) ≡ replicate 116 (ascii output)
 unfolding running isOver
 every-cut = refl
 
-whole-input : answers (bytes input) ≡ bytes output
+whole-input : answers (ascii input) ≡ ascii output
 unfolding running
 whole-input = refl
 

@@ -18,7 +18,7 @@ use Rattle.trcf.specs.View.{view, laid, headRow, lentShort, misfit, shortRow, l
 use Rattle.snapshot.specs.Text.{whole, float, setLine, singles, cntLine, devLine, timLine, bufLine, linesBy, bodyLines, chnLine, render}
 use Rattle.snapshot.specs.Read.{judge, floatFrom, asWhole, asFloat}
 use Rattle.snapshot.specs.Save.{unheld, unformed, heldSave, fitted, saveOf}
-use Rattle.snapshot.specs.Steps.Ascii.{bytes}
+use Rattle.snapshot.specs.Ascii.{ascii}
 use Rattle.bench_core.specs.Line.{blankLine, fieldOf, cellOf, requestOf, keptOf}
 use Rattle.bench_core.specs.Bench.{noText, pointText, doneText, prints, dimensionOf, pointTurn, learnTurn, drainTurn, savePrints, builderFrom, fresh, builtOf, weightsTurn, lineHeard, stepOf, finishOf}
 use Rattle.bench_core.specs.Run.{printed}
@@ -34,11 +34,11 @@ Cases = List (String × String)
 
 abbrev given : Cases → List (List ℕ)
 given [] = []
-given (c ∷ cs) = printed (bytes (c .0)) ∷ given cs
+given (c ∷ cs) = printed (ascii (c .0)) ∷ given cs
 
 abbrev expected : Cases → List (List ℕ)
 expected [] = []
-expected (c ∷ cs) = bytes (c .1) ∷ expected cs
+expected (c ∷ cs) = ascii (c .1) ∷ expected cs
 
 -- head lines that are accepted
 abbrev settings : String

@@ -18,6 +18,7 @@ use Rattle.trcf.specs.declared.types.ForestMode.the-variants.{STANDARD}
 use Rattle.trcf.specs.Types.{methodOfNumber, modeOfLetter}
 use Rattle.trcf.specs.declared.head.Preprocessor.{Preprocessor}
 use Rattle.trcf.specs.declared.head.PreprocessorBuilder.{PreprocessorBuilder}
+use Rattle.snapshot.specs.Ascii.{ascii, text}
 use Rattle.snapshot.specs.Text.{whole, named, singles}
 use Rattle.snapshot.specs.Read.{bytesOfLine}
 use Rattle.snapshot.specs.Save.{saveOf, Outcome as Saved}
@@ -32,16 +33,16 @@ use Rattle.bench_core.specs.declared.step.Bench.{Bench}
 -- ---- "It prints `ok`, `none`, `pt` with f32 fields, `no` with the number, or for `s` the text."
 
 unfoldable pub noText : ℕ → List ℕ
-noText row = bytesOfLine (named (110 ∷ 111 ∷ []) (whole row ∷ []))
+noText row = bytesOfLine (named (ascii "no") (whole row ∷ []))
 
 abbrev pub okText : List ℕ
-okText = 111 ∷ 107 ∷ 10 ∷ []
+okText = text ("ok" ∷ [])
 
 abbrev pub noneText : List ℕ
-noneText = 110 ∷ 111 ∷ 110 ∷ 101 ∷ 10 ∷ []
+noneText = text ("none" ∷ [])
 
 unfoldable pub pointText : List Float → List ℕ
-pointText v = bytesOfLine (singles (112 ∷ 116 ∷ []) v)
+pointText v = bytesOfLine (singles (ascii "pt") v)
 
 -- `ok`, or `no` with the row
 unfoldable pub doneText : ℕ → List ℕ

@@ -29,7 +29,7 @@ use Rattle.trcf.specs.declared.types.TransformMethod.the-variants.{DIFFERENCE, 
 use Rattle.trcf.specs.declared.types.ForestMode.the-variants.{STANDARD, «TIME_AUGMENTED», «GAP_AUGMENTED»}
 use Rattle.snapshot.specs.Text as Text
 use Rattle.snapshot.specs.Text.{render}
-use Rattle.snapshot.specs.Steps.Ascii.{text}
+use Rattle.snapshot.specs.Ascii.{text}
 use Rattle.snapshot.specs.Read.{taken}
 use Rattle.restart.specs.History as History
 use Rattle.restart.specs.History.{initial, learned, drained, entries, historyText, historyAnswers, historyPanels, historyShown}

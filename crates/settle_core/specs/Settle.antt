@@ -4,6 +4,7 @@ use mathlib.Core.List.{List, [], _∷_, _++_}
 use mathlib.Core.Option.{Option, none, some}
 use lib.Ieee.{Float, binary32}
 use Rattle.trcf.specs.Settings.{Settings}
+use Rattle.snapshot.specs.Ascii.{ascii}
 use Rattle.snapshot.specs.Text.{whole, float, named}
 use Rattle.snapshot.specs.Read.{bytesOfLine}
 use Rattle.snapshot.specs.Save.{Outcome}
@@ -21,7 +22,7 @@ orNever n (some i) = i
 
 -- "as f32 bits, `-` if none"
 abbrev pub largestField : Option Float → List ℕ
-largestField none = 45 ∷ []
+largestField none = ascii "-"
 largestField (some x) = float binary32 x
 
 -- "parted by tabs, the pair's number from 1, the index of the first reading after which the watch is ready … and the largest last element"

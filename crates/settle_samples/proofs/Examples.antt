@@ -15,7 +15,7 @@ use Rattle.trcf.specs.Calls.{finite, due, newest, wrongLength, outside, drainFu
 use Rattle.trcf.specs.Preprocessor.{fresh as freshState, facts, timeFed, feed, timescale, timedrift, timeElement, transformedAfter, previous, primed, drainOne, drainAll, drained, held, learned, learnedWith, change, deviations, next, refusal, answer, statusOf, pointOf, blockFrom, pastValues, expectedValues, anomalyOf, learnedNothing, heldAnswer, learnedAnswer, learnAnswer, reply, timeBase, preceding}
 use Rattle.snapshot.specs.Text.{whole, float}
 use Rattle.snapshot.specs.Read.{floatFrom, asWhole, asFloat}
-use Rattle.snapshot.specs.Steps.Ascii.{bytes}
+use Rattle.snapshot.specs.Ascii.{ascii}
 use Rattle.bench_core.specs.Line.{blankLine, fieldOf, cellOf, requestOf, keptOf}
 use Rattle.bench_core.specs.Bench.{noText, builderFrom}
 use Rattle.settling.specs.Settling.{inLimits, pairRow, readingAt, valueAt, note, settlingAfter, notedOf, runOf}
@@ -33,11 +33,11 @@ Cases = List (String × String)
 
 abbrev given : Cases → List (List ℕ)
 given [] = []
-given (c ∷ cs) = settleOf (bytes (c .0)) ∷ given cs
+given (c ∷ cs) = settleOf (ascii (c .0)) ∷ given cs
 
 abbrev expected : Cases → List (List ℕ)
 expected [] = []
-expected (c ∷ cs) = bytes (c .1) ∷ expected cs
+expected (c ∷ cs) = ascii (c .1) ∷ expected cs
 
 -- a pair that is accepted, and a signal of four readings
 abbrev good : String
