@@ -105,7 +105,7 @@ negative (Is (suc n)) = some (negsuc n)
 -- "whole numbers …, with a minus sign if negative"
 unfoldable pub signedOf : List ℕ → Option ℤ
 signedOf [] = none
-signedOf (b ∷ c) = cond (eqb b 45) (negative (numberOf (asWhole c))) (positive (numberOf (asWhole (b ∷ c))))
+signedOf (b ∷ c) = cond (eqb b (code "-")) (negative (numberOf (asWhole c))) (positive (numberOf (asWhole (b ∷ c))))
 
 -- the first field of a text, which the byte `end` has to end, and what follows
 pub data Part : Type 0 where
