@@ -1,5 +1,6 @@
 -- A line of the bench, cell by cell: document 01, 'The bench …', with fields as in 'Trace text'. "A `wgt`, `p` or `l` line may hold any number of
 -- f32 fields": those past the ones that are needed are checked, and neither kept nor counted.
+use Prim.Native.Char.{code}
 use Prim.Native.Nat.{ℕ, _+_}
 use mathlib.Core.Bool.{cond}
 use mathlib.Core.List.{List, [], _∷_}
@@ -25,11 +26,11 @@ use Rattle.bench_core.specs.declared.line.Line.{Line}
 -- ---- names: `set`, `wgt`, `p`, `l`, `d`, `s`
 
 abbrev pub shortName : ℕ → Name
-shortName a = cond (eqb a 112) Point (cond (eqb a 108) Learn (cond (eqb a 100) Drain (cond (eqb a 115) Save Other)))
+shortName a = cond (eqb a (code "p")) Point (cond (eqb a (code "l")) Learn (cond (eqb a (code "d")) Drain (cond (eqb a (code "s")) Save Other)))
 
 abbrev pub longName : ℕ → ℕ → ℕ → Name
 longName a b c =
-    cond (eqb c 116) (cond (eqb a 115) (cond (eqb b 101) Set Other) (cond (eqb a 119) (cond (eqb b 103) Weights Other) Other)) Other
+    cond (eqb c (code "t")) (cond (eqb a (code "s")) (cond (eqb b (code "e")) Set Other) (cond (eqb a (code "w")) (cond (eqb b (code "g")) Weights Other) Other)) Other
 
 abbrev pub nameOf : List ℕ → Name
 nameOf [] = Other

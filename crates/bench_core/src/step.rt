@@ -15,6 +15,7 @@ use trcf::head::Preprocessor;
 use trcf::head::PreprocessorBuilder;
 use trcf::head::no_head;
 use trcf::types::ForestMode;
+use trcf::types::INPUT_LIMIT;
 use trcf::types::TransformMethod;
 use trcf::types::method_of_number;
 use trcf::types::mode_of_letter;
@@ -182,8 +183,8 @@ pub fn code_count(d: usize) -> usize
     ensures { λ r. ⌜ r ≡ codeCount d ⌝ }
     ensures { λ r. ⌜ r ≤ 16 ⌝ }
 {
-    if 16 < d {
-        return 16;
+    if INPUT_LIMIT < d {
+        return INPUT_LIMIT;
     }
     d
 }

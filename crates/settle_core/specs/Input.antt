@@ -1,4 +1,5 @@
 -- What the settling program is given (document 02, request 106): "up to 8 `set` and `wgt` pairs with d = 1, then one line `sig`". Lines and fields are the bench's.
+use Prim.Native.Char.{code}
 use Prim.Native.Nat.{ℕ, zero, suc}
 use mathlib.Core.Bool.{Bool, true, false, cond, _&&_}
 use mathlib.Core.List.{List, [], _∷_}
@@ -104,7 +105,7 @@ negative (Is (suc n)) = some (negsuc n)
 -- "whole numbers …, with a minus sign if negative"
 unfoldable pub signedOf : List ℕ → Option ℤ
 signedOf [] = none
-signedOf (b ∷ c) = cond (eqb b 45) (negative (numberOf (asWhole c))) (positive (numberOf (asWhole (b ∷ c))))
+signedOf (b ∷ c) = cond (eqb b (code "-")) (negative (numberOf (asWhole c))) (positive (numberOf (asWhole (b ∷ c))))
 
 -- the first field of a text, which the byte `end` has to end, and what follows
 pub data Part : Type 0 where
@@ -138,7 +139,7 @@ fieldsOf t =
 
 -- the name `sig` and a tab
 unfoldable pub isSignal : List ℕ → Bool
-isSignal t = eqb (getD t 0 0) 115 && (eqb (getD t 1 0) 105 && (eqb (getD t 2 0) 103 && eqb (getD t 3 0) 9))
+isSignal t = eqb (getD t 0 0) (code "s") && (eqb (getD t 1 0) (code "i") && (eqb (getD t 2 0) (code "g") && eqb (getD t 3 0) 9))
 
 -- … and then the fields
 unfoldable pub signalOf : List ℕ → Option Signal

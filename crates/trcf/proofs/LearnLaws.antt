@@ -225,7 +225,7 @@ module _ (h : Preprocessor) (l : Lent) (c : Learn) where
       → learnOutcome 0 true (b && expects) (cond (b && expects) (anomalyOf w c .pastTimestamp) 0) (cond (b && expects) one32 zero32) a m
       (over (c .deviationsOut) (deviations (learned w (reading (c .input) (c .timestamp)) y)))
       (cond (b && expects) (over (c .pastOut) (pastValues w c)) (c .pastOut)) (cond (b && expects) (over (c .expectedOut) (expectedValues w c x)) (c .expectedOut))
-      ≡ learnRead a m c (learnt (learnedAnswer w c y b (optional expects x)))
+      ≡ learnRead a m c (learnt (learnedAnswer w c y (cond b (optional expects x) none)))
   unfolding learnedAnswer anomalyOf
   learned-read w y true true x a m = refl
   learned-read w y true false x a m = refl
@@ -245,7 +245,7 @@ module _ (h : Preprocessor) (l : Lent) (c : Learn) where
       let v = view h l in
       let g = learned v (reading (c .input) (c .timestamp)) y in
       learned-read v y (lt zero32 (c .grade)) expects x (counted h g) (laid g l)
-      ∙ (λ j. learnRead (counted h g) (laid g l) c (learnt (learnedAnswer v c y (lt zero32 (c .grade)) (sym q j))))
+      ∙ (λ j. learnRead (counted h g) (laid g l) c (learnt (learnedAnswer v c y (cond (lt zero32 (c .grade)) (sym q j) none))))
       ∙ (λ j. let s = cond (sym w j) (held v c) (learnedWith v (reading (c .input) (c .timestamp)) (sym p j)) in
       learnRead (counted h s) (laid s l) c (learnt (cond (sym w j) (heldAnswer v c) (learnAnswer v c (sym p j)))))
       ∙ learn-answered e

@@ -380,15 +380,17 @@ unfoldable pub learnedNothing : Learn → Learned
 learnedNothing l =
     record { written = false; anomaly = none; deviationsOut = l .deviationsOut; pastOut = l .pastOut; expectedOut = l .expectedOut }
 
-unfoldable pub heldAnswer : State → Learn → Learned
-heldAnswer w l =
-    cond (eqb (suc (w .valuesSeen)) (w .settings .start))
-    (record { written = true; anomaly = none; deviationsOut = over (l .deviationsOut) (deviations w); pastOut = l .pastOut; expectedOut = l .expectedOut })
-    (learnedNothing l)
+-- the deviations are written, and there is no anomaly
+abbrev pub deviationsAlone : Learn → List Float → Learned
+deviationsAlone l v =
+    record { written = true; anomaly = none; deviationsOut = over (l .deviationsOut) v; pastOut = l .pastOut; expectedOut = l .expectedOut }
 
--- with y: the deviations after the update; and, where the grade is above 0 and an expected point is given, the anomaly, from before it
-unfoldable pub learnedAnswer : State → Learn → List Float → Bool → Option (List Float) → Learned
-learnedAnswer w l y true (some x) =
+unfoldable pub heldAnswer : State → Learn → Learned
+heldAnswer w l = cond (eqb (suc (w .valuesSeen)) (w .settings .start)) (deviationsAlone l (deviations w)) (learnedNothing l)
+
+-- with y: the deviations after the update; and, where an anomaly's expected point is given, the anomaly, from before it
+unfoldable pub learnedAnswer : State → Learn → List Float → Option (List Float) → Learned
+learnedAnswer w l y (some x) =
     record {
       written = true;
       anomaly = some (anomalyOf w l);
@@ -396,24 +398,12 @@ learnedAnswer w l y true (some x) =
       pastOut = over (l .pastOut) (pastValues w l);
       expectedOut = over (l .expectedOut) (expectedValues w l x);
     }
-learnedAnswer w l y true none = record {
-  written = true;
-  anomaly = none;
-  deviationsOut = over (l .deviationsOut) (deviations (learned w (reading (l .input) (l .timestamp)) y));
-  pastOut = l .pastOut;
-  expectedOut = l .expectedOut;
-}
-learnedAnswer w l y false e = record {
-  written = true;
-  anomaly = none;
-  deviationsOut = over (l .deviationsOut) (deviations (learned w (reading (l .input) (l .timestamp)) y));
-  pastOut = l .pastOut;
-  expectedOut = l .expectedOut;
-}
+learnedAnswer w l y none = deviationsAlone l (deviations (learned w (reading (l .input) (l .timestamp)) y))
 
 unfoldable pub learnAnswer : State → Learn → Option (List Float) → Learned
 learnAnswer w l none = learnedNothing l
-learnAnswer w l (some y) = learnedAnswer w l y (anomalous l) (l .expectedPoint)
+-- the expected point counts where the grade is above 0
+learnAnswer w l (some y) = learnedAnswer w l y (cond (anomalous l) (l .expectedPoint) none)
 
 -- STANDARD works in place; a mode with a time element writes numbers and times
 unfoldable pub turnedBack : State → Forecast → Forecast

@@ -10,7 +10,7 @@ use Rattle.common.specs.Lent.{over}
 use Rattle.common.specs.Deviation.{zero64, countLimit, outsideUnit}
 use Rattle.common.specs.RangeVector.{Ranges, Outcome, answered, unblocked}
 use Rattle.trcf.specs.Types.{isNone, differences}
-use Rattle.trcf.specs.Settings.{allOne}
+use Rattle.trcf.specs.Settings.{inputLimit, allOne}
 use Rattle.trcf.specs.Transformer.{Transformer, zero32, updated, transformed, inverted, invertedForecast, scales, shifts, differenceDeviations}
 use Rattle.trcf.specs.declared.types.TransformMethod.{TransformMethod}
 use Rattle.trcf.specs.declared.types.TransformMethod.the-variants.{NONE}
@@ -42,7 +42,7 @@ unfoldable pub newRow : TransformMethod → ℕ → Float → List Float → ℕ
 newRow m d decay w s =
     firstOf
     ((eqb d 0, 2)
-    ∷ (ltb 16 d, 4)
+    ∷ (ltb inputLimit d, 4)
     ∷ (not (eqb (length w) d), 5)
     ∷ (outsideUnit decay, 6)
     ∷ (isNone m && not (allOne w), 9)
@@ -51,22 +51,22 @@ newRow m d decay w s =
 
 unfoldable pub updateRow : ℕ → ℕ → ℕ → ℕ → ℕ → ℕ
 updateRow d x p count s =
-    firstOf ((eqb d 0, 2) ∷ (ltb 16 d, 4) ∷ (notLong d x p, 10) ∷ (leb countLimit count, 18) ∷ (ltb s (15 * d), 20) ∷ [])
+    firstOf ((eqb d 0, 2) ∷ (ltb inputLimit d, 4) ∷ (notLong d x p, 10) ∷ (leb countLimit count, 18) ∷ (ltb s (15 * d), 20) ∷ [])
 
 -- `transform` and `invert`, into a list of the length o
 unfoldable pub transformRow : ℕ → ℕ → ℕ → ℕ → ℕ → ℕ
-transformRow d x p s o = firstOf ((eqb d 0, 2) ∷ (ltb 16 d, 4) ∷ (notLong d x p, 10) ∷ (ltb s (15 * d) || ltb o d, 20) ∷ [])
+transformRow d x p s o = firstOf ((eqb d 0, 2) ∷ (ltb inputLimit d, 4) ∷ (notLong d x p, 10) ∷ (ltb s (15 * d) || ltb o d, 20) ∷ [])
 
 -- `scale`, `shift` and `difference_deviations`
 unfoldable pub outputRow : ℕ → ℕ → ℕ → ℕ
-outputRow d s o = firstOf ((eqb d 0, 2) ∷ (ltb 16 d, 4) ∷ (ltb s (15 * d) || ltb o d, 20) ∷ [])
+outputRow d s o = firstOf ((eqb d 0, 2) ∷ (ltb inputLimit d, 4) ∷ (ltb s (15 * d) || ltb o d, 20) ∷ [])
 
 -- row 16: "unequal lengths; where blocks are cascaded, none or a broken one"
 unfoldable pub forecastRow : TransformMethod → ℕ → ℕ → ℕ → ℕ → ℕ → ℕ → ℕ
 forecastRow m d p v u l s =
     firstOf
     ((eqb d 0, 2)
-    ∷ (ltb 16 d, 4)
+    ∷ (ltb inputLimit d, 4)
     ∷ (not (eqb p d), 10)
     ∷ (not (eqb v u && eqb v l), 16)
     ∷ (differences m && unblocked d v, 16)
@@ -108,13 +108,13 @@ headOf m d decay w n = record { «transform_method» = m; «input_length» = d; 
 
 -- what stands in a refused answer
 abbrev pub noHead : WeightedTransformer
-noHead = headOf NONE 0 zero64 (replicate 16 zero32) 0
+noHead = headOf NONE 0 zero64 (replicate inputLimit zero32) 0
 
 -- all statistics empty
 unfoldable pub newOf : TransformMethod → ℕ → Float → List Float → List Float → Made
 newOf m d decay w l =
     let n = newRow m d decay w (length l) in
-    madeBy n (made n noHead l) (made 0 (headOf m d decay (over (replicate 16 zero32) w) 0) (over l (replicate (15 * d) zero64)))
+    madeBy n (made n noHead l) (made 0 (headOf m d decay (over (replicate inputLimit zero32) w) 0) (over l (replicate (15 * d) zero64)))
 
 abbrev pub counted : WeightedTransformer → WeightedTransformer
 counted h = headOf (h .«transform_method») (h .«input_length») (h .«transform_decay») (h .weights) (h .count + 1)

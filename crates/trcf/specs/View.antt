@@ -14,7 +14,7 @@ use Rattle.common.specs.Refusal.{firstOf}
 use Rattle.common.specs.Lent.{over}
 use Rattle.trcf.specs.Transformer.{zero32}
 use Rattle.trcf.specs.Types.{normalizes, methodNumber, modeLetter, gaps}
-use Rattle.trcf.specs.Settings.{Settings, transformer, settingsRow, block, dimension, waiting}
+use Rattle.trcf.specs.Settings.{Settings, inputLimit, shingleLimit, startBound, transformer, settingsRow, block, dimension, waiting}
 use Rattle.trcf.specs.Calls.{Learn, Call, shingledPoint, postProcess, drain, status, rows, seenLimit, given}
 use Rattle.trcf.specs.Preprocessor.{State, Answer, refused, absent, done, wrote, learnt, turned, told, Status, Anomaly, deviations, statisticsLength, fresh, facts, change, isReady, panelOf, reply, accepted}
 use Rattle.trcf.specs.declared.types.TransformMethod.the-variants.{NONE}
@@ -116,8 +116,8 @@ abbrev pub headTable : Settings → List (Bool × ℕ)
 headTable s =
     (eqb (s .d) 0, 2)
     ∷ (eqb (s .k) 0, 3)
-    ∷ (ltb 16 (s .d) || ltb 64 (s .k), 4)
-    ∷ (leb 2000 (s .start), 8)
+    ∷ (ltb inputLimit (s .d) || ltb shingleLimit (s .k), 4)
+    ∷ (leb startBound (s .start), 8)
     ∷ []
 
 unfoldable pub headRow : Settings → ℕ
@@ -176,10 +176,10 @@ ownRow h = orElse (headRow (settingsOf h)) (cond (misfit h) 20 0)
 -- what a row 0 says of each
 pub record Bounded (s : Settings) : Type 0 where
   pub d-pos : 0 < s .d
-  pub d-few : s .d ≤ 16
+  pub d-few : s .d ≤ inputLimit
   pub k-pos : 0 < s .k
-  pub k-few : s .k ≤ 64
-  pub start-few : s .start < 2000
+  pub k-few : s .k ≤ shingleLimit
+  pub start-few : s .start < startBound
 
 pub record Roomy (s : Settings) (l : Lent) : Type 0 where
   pub in-statistics : statisticsLength s ≤ length (l .statistics)
@@ -268,7 +268,7 @@ headFrom s =
         «transform_method» = s .method;
         «input_length» = s .d;
         «transform_decay» = s .decay;
-        weights = over (replicate 16 zero32) (s .weights);
+        weights = over (replicate inputLimit zero32) (s .weights);
         count = 0;
       };
       «forest_mode» = s .mode;
@@ -279,7 +279,7 @@ headFrom s =
       «values_seen» = 0;
       «internal_timestamp» = 0;
       «initial_len» = 0;
-      codes = over (replicate 16 0) (s .codes);
+      codes = over (replicate inputLimit 0) (s .codes);
     }
 
 -- what a refused `build` hands back: every call refuses it

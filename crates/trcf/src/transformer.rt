@@ -2,6 +2,7 @@
 use crate::blocks::turn_block;
 use crate::passes::feed_channels;
 use crate::statistics::mean_at;
+use crate::types::INPUT_LIMIT;
 use crate::types::TransformMethod;
 use crate::types::is_centring;
 use crate::types::is_differencing;
@@ -372,7 +373,7 @@ fn new_row(m: TransformMethod, d: usize, decay: f64, w: &[f32], s: usize) -> u64
     if d == 0 {
         return 2;
     }
-    if 16 < d {
+    if INPUT_LIMIT < d {
         return 4;
     }
     if w.len() != d {
@@ -397,7 +398,7 @@ fn update_row(d: usize, x: usize, p: usize, count: u64, s: usize) -> u64
     if d == 0 {
         return 2;
     }
-    if 16 < d {
+    if INPUT_LIMIT < d {
         return 4;
     }
     if x != d {
@@ -422,7 +423,7 @@ fn transform_row(d: usize, x: usize, p: usize, s: usize, o: usize) -> u64
     if d == 0 {
         return 2;
     }
-    if 16 < d {
+    if INPUT_LIMIT < d {
         return 4;
     }
     if x != d {
@@ -447,7 +448,7 @@ fn output_row(d: usize, s: usize, o: usize) -> u64
     if d == 0 {
         return 2;
     }
-    if 16 < d {
+    if INPUT_LIMIT < d {
         return 4;
     }
     if s < 15 * d {
@@ -488,7 +489,7 @@ fn forecast_row(
     if d == 0 {
         return 2;
     }
-    if 16 < d {
+    if INPUT_LIMIT < d {
         return 4;
     }
     if p != d {

@@ -2,6 +2,13 @@
 ghost use mathlib.Core.Path.{_≡_};
 ghost use Rattle.trcf.specs.Types.{methodNumber, methodOfNumber, modeLetter, modeOfLetter, isNone, normalizes, differences, centres, augments, gaps};
 
+// The largest number of channels, the largest number of readings in a point, and the first start that is refused (rows 4 and 8).
+pub const INPUT_LIMIT: usize = 16;
+
+pub const SHINGLE_LIMIT: usize = 64;
+
+pub const START_BOUND: usize = 2000;
+
 pub enum TransformMethod {
     NONE,
     WEIGHTED,

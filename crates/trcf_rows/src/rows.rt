@@ -11,6 +11,9 @@ use trcf::head::initial_room;
 use trcf::time::newest_of;
 use trcf::transformer::weights_refused;
 use trcf::types::ForestMode;
+use trcf::types::INPUT_LIMIT;
+use trcf::types::SHINGLE_LIMIT;
+use trcf::types::START_BOUND;
 use trcf::types::is_gap;
 use trcf::types::is_normalizing;
 ghost use mathlib.Core.Path.{_≡_};
@@ -60,10 +63,10 @@ pub fn settings_row(b: PreprocessorBuilder, weights: &[f32], codes: &[u16]) -> u
     if k == 0 {
         return 3;
     }
-    if 16 < d {
+    if INPUT_LIMIT < d {
         return 4;
     }
-    if 64 < k {
+    if SHINGLE_LIMIT < k {
         return 4;
     }
     if weights.len() != d {
@@ -78,7 +81,7 @@ pub fn settings_row(b: PreprocessorBuilder, weights: &[f32], codes: &[u16]) -> u
     if b.stop_normalization < start {
         return 7;
     }
-    if 2000 <= start {
+    if START_BOUND <= start {
         return 8;
     }
     if weights_refused(method, weights) {
@@ -93,10 +96,10 @@ pub fn used(d: usize) -> usize
     ensures { λ r. ⌜ ((w : List Float) → length w ≡ 16 → take r w ≡ take d w) ⌝ }
     ensures { λ r. ⌜ ((w : List ℕ) → length w ≡ 16 → take r w ≡ take d w) ⌝ }
 {
-    if d <= 16 {
+    if d <= INPUT_LIMIT {
         return d;
     }
-    16
+    INPUT_LIMIT
 }
 
 // Rows 1 to 9 of a head that comes from outside.
