@@ -51,5 +51,6 @@ expected f =
     ∷ []
 
 pub samples : (given binary32 ∷ given binary64 ∷ []) ≡ (expected binary32 ∷ expected binary64 ∷ [])
-unfolding whole alike one given expected shiftOf scaleOf cascadedAddOf newOf fromOf createOf pastAny unequal unblocked shorter inOrder cascadeTo shifted scaled settled rangeAt putAt over add mul lt le ofInt ofBits
+unfolding whole alike one given expected shiftOf scaleOf cascadedAddOf newOf fromOf createOf pastAny unequal unblocked shorter inOrder cascadeTo
+    shifted scaled settled rangeAt putAt over add mul lt le ofInt ofBits
 samples = refl

@@ -43,8 +43,10 @@ ordered-f64-requires : tie.Need-ordered-f64-requires Inv-loop μ-loop
 ordered-f64-requires c κs = search needs
 
 returns : tie.Need-returns Inv-loop μ-loop
-returns c = let L = c .before .before .before .before .before .before .loop in
-    let h : L .i < length (c .before .before .before .before .before .before .before .before .before .before .args .values .now) = omega arith in
+returns c =
+    let turn = c .before .before .before .before .before .before in
+    let L = turn .loop in
+    let h : L .i < length (turn .before .before .before .before .args .values .now) = omega arith in
     sym (L .inv .1 ∙ inOrder-at _ _ _ _ false h (L .inv .2) (L .inv .3) (sym (c .before .ordered-f64 .ensures) ∙ not-true _ (c .if1 .taken)))
 
 add-i : tie.Need-add-i Inv-loop μ-loop
@@ -54,8 +56,10 @@ loop-less : tie.Need-loop-less Inv-loop μ-loop
 loop-less c = omega arith
 
 loop-again : tie.Need-loop-again Inv-loop μ-loop
-loop-again c = let L = c .before .before .before .before .before .before .loop in
-    let h : L .i < length (c .before .before .before .before .before .before .before .before .before .before .args .values .now) = omega arith in (
+loop-again c =
+    let turn = c .before .before .before .before .before .before in
+    let L = turn .loop in
+    let h : L .i < length (turn .before .before .before .before .args .values .now) = omega arith in (
       omega arith,
       L .inv .1 ∙ inOrder-at _ _ _ _ true h (L .inv .2) (L .inv .3) (sym (c .before .ordered-f64 .ensures) ∙ not-false _ (c .if1 .left)),
       L .inv .2,

@@ -21,7 +21,9 @@ scale-requires : tie.Need-scale-requires
 scale-requires c κs = search needs
 
 put-f32-requires : tie.Need-put-f32-requires
-put-f32-requires c κs = c .before .before .before .before .before .before .before .before .before .index-row .ensures .1 (c .before .before .before .before .before .before .before .before .if1 .left)
+put-f32-requires c κs =
+    let tested = c .before .before .before .before .before .before .before .before in
+    tested .before .index-row .ensures .1 (tested .if1 .left)
 
 same-length : tie.Need-same-length
 same-length c = search needs
@@ -34,7 +36,13 @@ same-length-3 c = search needs
 
 returns-2 : tie.Need-returns-2
 unfolding scaleOf pastAny
-returns-2 c = done _ _ _ _ _ (c .before .before .before .before .before .before .before .before .before .before .before .before .before .before .before .before .index-row .ensures .0) (c .before .before .before .before .before .before .before .before .before .before .before .before .before .before .before .if1 .left) (stepped (λ (r : Range). scaled binary32 r (c .before .before .before .before .before .before .before .before .before .before .before .before .before .before .before .before .before .before .before .before .args .scale)) _ _ _ _ _ (c .before .before .before .before .before .before .put-f32 .ensures) (c .before .before .before .before .before .before .before .before .before .before .scale .ensures) (c .before .before .before .before .before .before .before .before .before .before .before .at-f32 .ensures))
+returns-2 c =
+    let put = c .before .before .before .before .before .before in
+    let moved = put .before .before .before .before in
+    let tested = moved .before .before .before .before .before in
+    done _ _ _ _ _ (tested .before .index-row .ensures .0) (tested .if1 .left)
+    (stepped (λ (r : Range). scaled binary32 r (tested .before .before .before .before .before .args .scale)) _ _ _ _ _
+    (put .put-f32 .ensures) (moved .scale .ensures) (moved .before .at-f32 .ensures))
 
 pub scale-f32-spec : {M : Type 1} → statement M
 scale-f32-spec =

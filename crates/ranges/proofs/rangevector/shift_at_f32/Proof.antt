@@ -25,7 +25,11 @@ same-length-3 : tie.Need-same-length-3
 same-length-3 c = search needs
 
 returns : tie.Need-returns
-returns c = stepped (λ (r : Range). shifted binary32 r (c .before .before .before .before .before .before .before .before .before .before .before .before .before .before .before .before .before .before .args .shift)) _ _ _ _ _ (c .before .before .before .before .before .before .put-f32 .ensures) (c .before .before .before .before .before .before .before .before .before .before .shift .ensures) (c .before .before .before .before .before .before .before .before .before .before .before .at-f32 .ensures)
+returns c =
+    let put = c .before .before .before .before .before .before in
+    let moved = put .before .before .before .before in
+    stepped (λ (r : Range). shifted binary32 r (moved .before .before .before .before .before .before .before .before .args .shift)) _ _ _ _ _
+    (put .put-f32 .ensures) (moved .shift .ensures) (moved .before .at-f32 .ensures)
 
 pub shift-at-f32-spec : {M : Type 1} → statement M
 shift-at-f32-spec =
