@@ -6,7 +6,7 @@ use trcf::head::StatusAnswer;
 use trcf::types::ForestMode;
 use trcf::types::TransformMethod;
 ghost use mathlib.Core.Path.{_≡_};
-ghost use Rattle.common.specs.RangeVector.{ranges};
+ghost use Rattle.ranges.specs.RangeVector.{ranges};
 ghost use Rattle.trcf.specs.Calls.{transform, scale, shift, status};
 ghost use Rattle.trcf.specs.View.{lent, written, statusGiven};
 ghost use Rattle.trcf.specs.Extrapolation.{extrapolation, forecast};

@@ -8,9 +8,9 @@ use lib.ListN.{replicate, getD}
 use lib.IntN.{pos}
 use lib.Ieee.{Float, nan, binary32, binary64, add, sub, mul, div, lt, le, eq, ofInt, ofBits}
 use Rattle.numeric.specs.Narrow.{narrowed}
-use Rattle.common.specs.Lent.{over}
+use Rattle.refusal.specs.Lent.{over}
 use Rattle.common.specs.Deviation.{zero64, isEmpty, meanOf, outsideUnit}
-use Rattle.common.specs.RangeVector.{Ranges, ranges, unequal, unblocked, shorter, rangeAt, putAt, shifted, scaled, settled, cascadeTo}
+use Rattle.ranges.specs.RangeVector.{Ranges, ranges, unequal, unblocked, shorter, rangeAt, putAt, shifted, scaled, settled, cascadeTo}
 use Rattle.trcf.specs.Lists.{lastN}
 use Rattle.trcf.specs.Transformer.{one32, statisticAt, normalizedScale, basicShift, basicDrift, weightAt, reciprocal, forecastAt, forecastTo, invertedForecast}
 use Rattle.trcf.specs.Settings.{Settings, block, dimension, settingsRow, allOne}

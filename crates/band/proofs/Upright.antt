@@ -11,10 +11,10 @@ use lib.ListN.{length, take, drop, getD, List·getD-eq-default}
 use lib.Seq.{take-at, take-all}
 use lib.IntN.{pos}
 use lib.Ieee.{Float, nan, inf, fin, binary64, add, lt, ofInt}
-use Rattle.common.specs.Lent.{over}
-use Rattle.common.specs.Refusal.{firstOf}
-use Rattle.common.specs.RangeVector.{Range, Ranges, ranges, settled, shifted, scaled, rangeAt, overAll, cascadeTo, unequal, shorter}
-use Rattle.common.proofs.RangeLaws.{Ordered, SameLengths, cascadeTo-lengths, cascadeTo-ordered}
+use Rattle.refusal.specs.Lent.{over}
+use Rattle.refusal.specs.Refusal.{firstOf}
+use Rattle.ranges.specs.RangeVector.{Range, Ranges, ranges, settled, shifted, scaled, rangeAt, overAll, cascadeTo, unequal, shorter}
+use Rattle.ranges.proofs.RangeLaws.{Ordered, SameLengths, cascadeTo-lengths, cascadeTo-ordered}
 use Rattle.trcf.specs.Lists.{tabulate}
 use Rattle.trcf.specs.Types.{augments, gaps}
 use Rattle.trcf.specs.Transformer.{Transformer, invertedForecast}

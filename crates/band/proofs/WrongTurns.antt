@@ -11,8 +11,8 @@ use lib.IntN.{pos}
 use lib.Ieee.{Float, nan, Format, binary32, add, sub, mul, div, lt, le, eq, ofInt, ofBits, toBits}
 use Rattle.numeric.specs.Narrow.{narrowed}
 use Rattle.common.specs.Deviation.{zero64, isEmpty, meanOf, outsideUnit}
-use Rattle.common.specs.RangeVector.{Range, range, Ranges, ranges, settled, shifted, scaled, rangeAt, putAt, unequal, unblocked, shorter}
-use Rattle.common.proofs.RangeLaws.{Ordered, settled-ordered}
+use Rattle.ranges.specs.RangeVector.{Range, range, Ranges, ranges, settled, shifted, scaled, rangeAt, putAt, unequal, unblocked, shorter}
+use Rattle.ranges.proofs.RangeLaws.{Ordered, settled-ordered}
 use Rattle.trcf.specs.Lists.{lastN}
 use Rattle.trcf.specs.Transformer.{one32, statisticAt, normalizedScale, basicShift, basicDrift, weightAt, reciprocal}
 use Rattle.trcf.specs.Settings.{Settings, transformer, block, dimension, settingsRow, allOne}

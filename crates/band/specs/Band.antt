@@ -5,7 +5,7 @@ use mathlib.Core.Bool.{Bool, true, false, cond}
 use mathlib.Core.List.{List, []}
 use lib.ListN.{length, take, getD}
 use lib.Ieee.{Float, nan, lt}
-use Rattle.common.specs.RangeVector.{Ranges, ranges}
+use Rattle.ranges.specs.RangeVector.{Ranges, ranges}
 use Rattle.trcf.specs.Types.{augments}
 use Rattle.trcf.specs.Settings.{Settings}
 use Rattle.trcf.specs.Calls.{Forecast, invertExtrapolation, lookahead}

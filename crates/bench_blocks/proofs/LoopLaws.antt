@@ -9,7 +9,7 @@ use lib.Dec.{ltb, eqb}
 use lib.ListN.{length, take, drop, length-drop, take-append-drop}
 use lib.Seq.{length-take-le, drop-drop}
 use lib.Ieee.{Float}
-use Rattle.common.specs.Lent.{over}
+use Rattle.refusal.specs.Lent.{over}
 use Rattle.trcf.specs.View.{Lent}
 use Rattle.bench_core.specs.declared.step.Bench.{Bench}
 use Rattle.bench_core.specs.Bench.{Output, output, prints, Heard, heard, cellLength, room, Stepped, stepped, stepOf}

@@ -8,7 +8,7 @@ use lib.Dec.{T, ltb}
 use lib.ListN.{length, take, drop, getD}
 use lib.Seq.{take-append-seam}
 use lib.Ieee.{Float}
-use Rattle.common.specs.Lent.{over}
+use Rattle.refusal.specs.Lent.{over}
 use Rattle.trcf.specs.Preprocessor.{accepted}
 use Rattle.trcf.specs.Settings.{settingsRow}
 use Rattle.trcf.specs.View.{Lent, Outcome, settingsOf, misfit, view}

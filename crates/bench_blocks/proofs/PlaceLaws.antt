@@ -9,7 +9,7 @@ use lib.Dec.{ltb, eqb}
 use lib.ListN.{length, take, drop, getD, length-append, length-take, length-drop, length-replicate, take-append-drop}
 use lib.Seq.{take-append-add, drop-append-add, take-append-seam, drop-append-seam, drop-append-le, drop-drop, length-take-le, take-all}
 use lib.Ieee.{Float}
-use Rattle.common.specs.Lent.{over}
+use Rattle.refusal.specs.Lent.{over}
 use Rattle.trcf.specs.View.{Lent}
 use Rattle.bench_core.specs.Line.{cellOf}
 use Rattle.bench_core.specs.declared.step.Bench.{Bench}

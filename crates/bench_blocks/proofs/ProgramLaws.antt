@@ -9,7 +9,7 @@ use lib.Dec.{T, ltb, eqb}
 use lib.ListN.{length, take, drop, replicate, length-take, length-drop}
 use lib.Seq.{length-take-le, take-all, take-nil, drop-nil, take-take, take-at}
 use lib.Ieee.{Float}
-use Rattle.common.specs.Lent.{over}
+use Rattle.refusal.specs.Lent.{over}
 use Rattle.trcf.specs.Transformer.{zero32}
 use Rattle.trcf.specs.View.{Lent}
 use Rattle.bench_core.specs.Bench.{Output, cellLength, cellKept, room, finishBy, finishOf, Finished, begun, prints, noText, output, said, Said, endOf}

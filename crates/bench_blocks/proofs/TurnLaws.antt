@@ -9,7 +9,7 @@ use lib.Dec.{ltb, leb}
 use lib.ListN.{length, take, drop, length-take}
 use lib.Seq.{length-take-le}
 use lib.Ieee.{Float}
-use Rattle.common.specs.Lent.{over}
+use Rattle.refusal.specs.Lent.{over}
 use Rattle.trcf.specs.View.{Lent}
 use Rattle.bench_core.specs.Bench.{Output, output, room, cellKept}
 use Rattle.bench_core.specs.declared.step.Bench.{Bench}

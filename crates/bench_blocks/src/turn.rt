@@ -7,7 +7,7 @@ use bench_core::step::start;
 ghost use mathlib.Core.Path.{_≡_};
 ghost use Prim.Native.Nat.{_+_, _≤_};
 ghost use lib.ListN.{length, take, drop};
-ghost use Rattle.common.specs.Lent.{over};
+ghost use Rattle.refusal.specs.Lent.{over};
 ghost use Rattle.trcf.specs.View.{lent};
 ghost use Rattle.bench_core.specs.Bench.{output};
 ghost use Rattle.bench_blocks.specs.Turns.{firstRun, unfit, standing, endsAt, restOf, turned, turnOf};

@@ -7,7 +7,7 @@ use lib.Dec.{ltb, eqb}
 use lib.IntN.{pos}
 use lib.ListN.{length, take, getD, replicate}
 use lib.Ieee.{Float, nan}
-use Rattle.common.specs.Lent.{over}
+use Rattle.refusal.specs.Lent.{over}
 use Rattle.common.specs.Deviation.{zero64}
 use Rattle.trcf.specs.Transformer.{zero32}
 use Rattle.trcf.specs.Settings.{dimension, settingsRow}

@@ -7,7 +7,7 @@ use native.Mathlib.Omega.{arith}
 use lib.ListN.{length}
 use lib.Ieee.{Float}
 use borrow.Author.Tests.{lt-ltb, le-ltb}
-use Rattle.common.specs.Lent.{over}
+use Rattle.refusal.specs.Lent.{over}
 use Rattle.trcf.specs.Settings.{Settings, settingsRow}
 use Rattle.trcf.specs.Calls.{Call, Learn, Forecast}
 use Rattle.trcf.specs.Preprocessor.{accepted}

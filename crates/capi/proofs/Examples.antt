@@ -11,7 +11,7 @@ use Rattle.trcf.specs.View.{headFrom, headRow, misfit, ownRow, readyOf, outside
 use Rattle.trcf.specs.declared.types.TransformMethod.the-variants.{NORMALIZE}
 use Rattle.trcf.specs.declared.types.ForestMode.the-variants.{«TIME_AUGMENTED»}
 use Rattle.trcf.specs.declared.head.Preprocessor.{Preprocessor}
-use Rattle.common.specs.Lent.{over}
+use Rattle.refusal.specs.Lent.{over}
 use Rattle.access.specs.Access.{granted, everyRight}
 use Rattle.capi.specs.Head.{headOf, numbersOf, frontOf, wordsOf, formRow, wordsRow, single}
 use Rattle.capi.specs.Calls.{openRow, onHead, listGot, listTold, numbersAt, codesAt}

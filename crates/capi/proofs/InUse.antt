@@ -6,7 +6,7 @@ use mathlib.Core.List.{List, [], _∷_, _++_}
 use mathlib.Core.Path.{_≡_, refl, sym, ap, _∙_}
 use lib.ListN.{length}
 use lib.Ieee.{Float}
-use Rattle.common.specs.Lent.{over}
+use Rattle.refusal.specs.Lent.{over}
 use Rattle.trcf.specs.Settings.{waiting}
 use Rattle.trcf.specs.Calls.{Learn, drain, shingledPoint, postProcess}
 use Rattle.trcf.specs.Preprocessor.{State, Answer, refused, absent, done, wrote, learnt, turned, told, accepted, change, reply, reading, drained, pointOf}

@@ -3,13 +3,13 @@ use Prim.Native.Nat.{ℕ}
 use mathlib.Core.List.{List, [], _∷_}
 use mathlib.Core.Path.{_≡_, refl}
 use lib.Ieee.{Float, binary32, binary64, ofBits, add, sub, mul, div, ofInt, lt, le, eq}
-use Rattle.common.specs.Lent.{over as over'}
+use Rattle.refusal.specs.Lent.{over as over'}
 use Rattle.common.specs.Deviation.{statistic}
 use Rattle.common.specs.Corrected.{wholeWithin, integerOf, correctionRows, correctedStatistic, correctedOf}
 use Rattle.stranding.specs.Counts.{answer as counted, countsBy, counts, outOfRange, strandingsOf}
 use Rattle.stranding.specs.Standing.{afterDrain, afterLearn}
 use Rattle.series.specs.Imputation.{imputation, lineOf, missingOf, imputedAt, byPlace, imputed, misshapen, knownMarks, finitePresent, allFinite, imputeRow, imputeOf}
-use Rattle.common.specs.Lent.{over}
+use Rattle.refusal.specs.Lent.{over}
 use Rattle.series.specs.Pairs.{near, turn, pairs}
 use Rattle.series.specs.Gaps.{absolute, sizeOf, larger, largest, sizes, gaps}
 use Rattle.series.specs.Alignment.{answer, readings, outputs, unusable, rowOf, written, alignOf, misshapen as unlike}

@@ -7,7 +7,7 @@ use mathlib.Core.List.{List, [], _∷_}
 use lib.ListN.{length}
 use lib.Dec.{ltb, eqb}
 use borrow.Author.Tests.{lt-ltb, le-ltb, ltb-false}
-use Rattle.common.specs.Lent.{over}
+use Rattle.refusal.specs.Lent.{over}
 use Rattle.trcf.specs.Preprocessor.{State, accepted, statisticsLength}
 use Rattle.trcf.specs.View.{Lent, lentShort, noHead}
 use Rattle.trcf.specs.declared.head.Preprocessor.{Preprocessor}

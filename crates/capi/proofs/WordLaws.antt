@@ -11,7 +11,7 @@ use lib.ListN.{length, take, getD, set, drop-of-length-le}
 use lib.Seq.{take-suc-set, take-all}
 use lib.Ieee.{Float, nan, inf, fin, Format, binary32, fits, div, isNan, nanBits, ofBits, toBits}
 use lib.Ieee.Bits.{nanBits-is, ofBits-toBits, toBits-lt}
-use Rattle.common.specs.Lent.{over}
+use Rattle.refusal.specs.Lent.{over}
 use Rattle.trcf.specs.Fit.{Fits}
 use Rattle.trcf.specs.Types.{methodNumber}
 use Rattle.trcf.specs.declared.types.TransformMethod.{TransformMethod}

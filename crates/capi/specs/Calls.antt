@@ -6,7 +6,7 @@ use mathlib.Core.List.{List, [], _∷_}
 use lib.Dec.{eqb, ltb}
 use lib.ListN.{length}
 use lib.Ieee.{Float}
-use Rattle.common.specs.Lent.{over}
+use Rattle.refusal.specs.Lent.{over}
 use Rattle.trcf.specs.Types.{methodNumber}
 use Rattle.trcf.specs.Settings.{Settings, settingsRow}
 use Rattle.trcf.specs.Calls.{Call, Learn, Forecast, shingledPoint, postProcess, drain, invertExtrapolation}

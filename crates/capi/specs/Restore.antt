@@ -5,7 +5,7 @@ use mathlib.Core.Bool.{cond}
 use mathlib.Core.List.{List, [], _∷_}
 use lib.ListN.{length}
 use lib.Dec.{ltb, eqb}
-use Rattle.common.specs.Lent.{over}
+use Rattle.refusal.specs.Lent.{over}
 use Rattle.trcf.specs.Preprocessor.{accepted}
 use Rattle.trcf.specs.View.{Lent, lent}
 use Rattle.snapshot.specs.Restore.{Outcome, restoreOf}

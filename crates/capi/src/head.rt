@@ -17,7 +17,7 @@ ghost use mathlib.Core.List.{map};
 ghost use Prim.Native.Nat.{_≤_};
 ghost use lib.ListN.{length};
 ghost use lib.Ieee.{binary32, toBits};
-ghost use Rattle.common.specs.Lent.{over};
+ghost use Rattle.refusal.specs.Lent.{over};
 ghost use Rattle.trcf.specs.Preprocessor.{accepted};
 ghost use Rattle.snapshot.specs.Read.{allCodes};
 ghost use Rattle.capi.specs.Calls.{openRow};

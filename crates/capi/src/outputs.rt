@@ -10,7 +10,7 @@ use access::rights::Right;
 use access::rights::may;
 use access::snapshots::save;
 ghost use mathlib.Core.Path.{_≡_};
-ghost use Rattle.common.specs.RangeVector.{ranges};
+ghost use Rattle.ranges.specs.RangeVector.{ranges};
 ghost use Rattle.trcf.specs.Calls.{transform, scale, shift, status};
 ghost use Rattle.trcf.specs.View.{lent, written};
 ghost use Rattle.trcf.specs.Extrapolation.{extrapolation, forecast};

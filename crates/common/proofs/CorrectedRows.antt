@@ -11,7 +11,7 @@ use lib.Ieee.{Float, le, eq}
 use lib.Ieee.Fits.{and-l, and-r}
 use Rattle.common.specs.declared.deviation.Deviation.{Deviation}
 use Rattle.common.specs.declared.deviation.DeviationResult.the-variants.{Ok}
-use Rattle.common.specs.Refusal.{firstOf}
+use Rattle.refusal.specs.Refusal.{firstOf}
 use Rattle.common.specs.Deviation.{rowOf, answered, zero64}
 use Rattle.common.specs.WholeScores.{wholeFloat}
 use Rattle.common.specs.Corrected.{readingLimit, lengthLimit, wholeWithin, correctionRows, correctedStatistic, correctedOf}

@@ -6,7 +6,7 @@ use lib.Dec.{ltb, leb}
 use lib.IntN.{pos}
 use lib.Ieee.{Float, binary64, add, sub, mul, div, lt, le, eq, ofInt, ofBits}
 use Rattle.numeric.specs.Root.{rootOf}
-use Rattle.common.specs.Refusal.{firstOf}
+use Rattle.refusal.specs.Refusal.{firstOf}
 use Rattle.common.specs.declared.deviation.Deviation.{Deviation}
 use Rattle.common.specs.declared.deviation.DeviationResult.{DeviationResult}
 use Rattle.common.specs.declared.deviation.DeviationResult.the-variants.{Ok, Err}

@@ -4,7 +4,7 @@ ghost use Prim.Native.Nat.{_≤_, _<_};
 ghost use Rattle.common.specs.Deviation.{zero64, countLimit, emptyWith, outsideUnit, newOf, createOf, resetOf};
 ghost use Rattle.common.specs.Deviation.{factorOf, nextFactor, updateBy, updateOf, isEmpty, meanOf, deviationOf, setDiscountOf, setCountOf};
 ghost use Rattle.factors.specs.Factors.{tableLength, growingAt};
-ghost use Rattle.common.specs.Refusal.{firstOf};
+ghost use Rattle.refusal.specs.Refusal.{firstOf};
 ghost use lib.IntN.{_+ℤ_, _-ℤ_};
 ghost use Rattle.common.specs.WholeScores.{wholeFloat};
 ghost use Rattle.common.specs.Corrected.{wholeWithin, integerOf, correctionRows, correctedOf};

@@ -10,8 +10,8 @@ use lib.IntN.{pos}
 use lib.ListN.{length, replicate}
 use lib.Ieee.{Float, nan, binary32, ofBits, le, lt}
 use Rattle.common.specs.Deviation.{zero64, outsideUnit}
-use Rattle.common.specs.Lent.{over}
-use Rattle.common.specs.Refusal.{firstOf}
+use Rattle.refusal.specs.Lent.{over}
+use Rattle.refusal.specs.Refusal.{firstOf}
 use Rattle.trcf.specs.Transformer.{zero32}
 use Rattle.trcf.specs.Settings.{Settings, settingsRow, allOne, block, dimension, waiting}
 use Rattle.trcf.specs.Calls.{Call, Forecast, invertExtrapolation, postProcess, drain, scale, status, rows, table, finite, due, drainFull, newest, wrongLength, waitingShort, learnFull, learnShort, outside}

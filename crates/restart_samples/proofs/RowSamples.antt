@@ -12,7 +12,7 @@ use Rattle.trcf.specs.declared.types.TransformMethod.the-variants.{NONE, DIFFER
 use Rattle.trcf.specs.declared.types.ForestMode.{ForestMode}
 use Rattle.trcf.specs.declared.types.ForestMode.the-variants.{STANDARD, «TIME_AUGMENTED», «GAP_AUGMENTED»}
 use Rattle.common.specs.Deviation.{zero64}
-use Rattle.common.specs.RangeVector.{ranges, unequal, unblocked, shorter}
+use Rattle.ranges.specs.RangeVector.{ranges, unequal, unblocked, shorter}
 use Rattle.trcf.specs.Transformer.{zero32}
 use Rattle.trcf.specs.Settings.{Settings, block, dimension, waiting}
 use Rattle.trcf.specs.Calls.{Call, shingledPoint, postProcess, drain, transform, invertExtrapolation, scale, shift, status, Facts, finite, due, newest, behind, wrongLength, outside, drainFull, learnFull, lookahead, unturnable, turnShort, waitingShort, learnShort, table, rows}

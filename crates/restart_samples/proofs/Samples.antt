@@ -19,8 +19,8 @@ use Rattle.trcf.specs.declared.types.ForestMode.the-variants.{STANDARD, «TIME_
 use Rattle.numeric.specs.Narrow.{narrowed}
 use Rattle.numeric.specs.Root.{rootWithin, halves, rooted, rootOf}
 use Rattle.common.specs.Deviation.{zero64, factorOf, stepOf, isEmpty, meanOf, rootAbove, deviationOf}
-use Rattle.common.specs.RangeVector.{settled, shifted, scaled, ranges, rangeAt, putAt, cascadeTo, unequal, unblocked, shorter}
-use Rattle.common.specs.Lent.{over}
+use Rattle.ranges.specs.RangeVector.{settled, shifted, scaled, ranges, rangeAt, putAt, cascadeTo, unequal, unblocked, shorter}
+use Rattle.refusal.specs.Lent.{over}
 use Rattle.trcf.specs.Lists.{lastN, shiftIn, overwrite}
 use Rattle.trcf.specs.Transformer.{zero32, statisticAt, putStatistic, fed, deviationsAt, putDeviations, fedAt, channelsFed, updated, normalizedScale, basicShift, basicDrift, weightAt, transformed, unweighted, inverted, reciprocal, forecastAt, forecastTo, invertedForecast, scales, shifts, differenceDeviations}
 use Rattle.trcf.specs.Settings.{Settings, block, dimension, waiting}

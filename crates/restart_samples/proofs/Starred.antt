@@ -11,8 +11,8 @@ use Rattle.numeric.specs.Root.{rootWithin, halves, rooted, rootOf}
 use Rattle.common.specs.declared.deviation.Deviation.{Deviation}
 use Rattle.common.specs.Deviation.{zero64, emptyWith, factorOf, stepOf, isEmpty, meanOf, rootAbove, deviationOf}
 use Rattle.common.specs.WholeScores.{wholeFloat, fed}
-use Rattle.common.specs.Lent.{over}
-use Rattle.common.specs.RangeVector.{Ranges, ranges, scaleOf, cascadedAddOf, pastAny, unequal, unblocked, cascadeTo, shifted, scaled, settled, rangeAt, putAt}
+use Rattle.refusal.specs.Lent.{over}
+use Rattle.ranges.specs.RangeVector.{Ranges, ranges, scaleOf, cascadedAddOf, pastAny, unequal, unblocked, cascadeTo, shifted, scaled, settled, rangeAt, putAt}
 use Rattle.trcf.specs.Transformer.{zero32, weightAt, transformed, unweighted, inverted, statisticAt, normalizedScale, basicShift}
 use Rattle.trcf.specs.TransformerCalls.{headOf, transformOf, invertOf, transformRow, notLong}
 use Rattle.trcf.specs.declared.types.TransformMethod.the-variants.{NONE, WEIGHTED}

@@ -12,7 +12,7 @@ use lib.ListN.{length, getD, drop, drop-of-length-le}
 use lib.Seq.{drop-cons}
 use lib.Ieee.{Float, nan, inf, fin, lt}
 use Rattle.series.specs.Imputation.{isPresent, knownMarks, isFinite, finitePresent, allFinite, misshapen, imputeRow, imputation, imputeAnswer}
-use Rattle.common.specs.Refusal.{firstOf}
+use Rattle.refusal.specs.Refusal.{firstOf}
 use Rattle.series.specs.Steps.ImputationSteps.{Shaped}
 
 -- ---- finite

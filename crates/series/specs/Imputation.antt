@@ -7,7 +7,7 @@ use lib.Dec.{ltb, eqb}
 use lib.IntN.{pos}
 use lib.ListN.{length, getD}
 use lib.Ieee.{Float, nan, inf, fin, binary32, add, sub, mul, div, ofInt}
-use Rattle.common.specs.Refusal.{firstOf}
+use Rattle.refusal.specs.Refusal.{firstOf}
 use Rattle.series.specs.declared.imputation.ImputationMethod.{ImputationMethod}
 use Rattle.series.specs.declared.imputation.ImputationMethod.the-variants.{FIXED, PREVIOUS, NEXT, LINEAR}
 use Rattle.series.specs.declared.imputation.Nearest.{Nearest}

@@ -2,7 +2,7 @@
 ghost use mathlib.Core.Path.{_≡_};
 ghost use Prim.Native.Nat.{_+_, _*_, _≤_};
 ghost use lib.ListN.{length};
-ghost use Rattle.common.specs.Lent.{over};
+ghost use Rattle.refusal.specs.Lent.{over};
 ghost use Rattle.series.specs.Pairs.{apart, lefts, rights, pairs};
 ghost use Rattle.series.specs.Gaps.{zero32, sizeOf, larger, perChannel, gaps};
 ghost use Rattle.series.specs.Alignment.{channelLimit, misshapen, unusable, readings, outputs, answer, alignOf};

@@ -11,7 +11,7 @@ use borrow.Author.Tests.{le-ltb}
 use lib.ListN.{length, take, drop, getD, length-append, length-drop, drop-of-length-le}
 use lib.Seq.{length-sets, sets-eq, drop-drop, take-suc, length-take-le}
 use lib.Ieee.{Float, binary32}
-use Rattle.common.specs.Lent.{over}
+use Rattle.refusal.specs.Lent.{over}
 use Rattle.trcf.specs.Settings.{Settings, wholeMax}
 use Rattle.trcf.specs.Preprocessor.{accepted}
 use Rattle.trcf.proofs.OutcomeLaws.{accepted-not}

@@ -7,7 +7,7 @@ use lib.Ieee.{toBits, ofBits, ofFields, odd, fits, size, round, le, lt, eq, add,
 use Rattle.numeric.specs.Narrow.{narrowed}
 use Rattle.numeric.specs.Root.{rootWithin, halves, rooted, rootOf}
 use Rattle.common.specs.Deviation.{outsideUnit, factorOf, stepOf as fedStep, isEmpty, meanOf, rootAbove, deviationOf}
-use Rattle.common.specs.Lent.{over}
+use Rattle.refusal.specs.Lent.{over}
 use Rattle.trcf.specs.Lists.{lastN, shiftIn, overwrite}
 use Rattle.trcf.specs.Transformer.{statisticAt, putStatistic, fed, deviationsAt, putDeviations, fedAt, channelsFed, updated, normalizedScale, basicShift, basicDrift, weightAt, transformed, unweighted, inverted, scales, shifts, differenceDeviations}
 use Rattle.trcf.specs.Settings.{block, dimension, waiting, allOne, settingsRow}

@@ -14,7 +14,7 @@ use lib.Ieee.{Float, nan, binary32, fits, ofInt}
 use lib.Ieee.Fits.{ofInt-fits}
 use lib.Ieee.Bits.{ofBits-fits}
 use borrow.Author.Tests.{le-ltb, lt-ltb, ltb-true, ltb-false, eqb-true}
-use Rattle.common.specs.Lent.{over}
+use Rattle.refusal.specs.Lent.{over}
 use Rattle.trcf.specs.Lists.{lastOr, shiftIn}
 use Rattle.trcf.specs.Fit.{All, Fits}
 use Rattle.trcf.specs.Types.{augments}

@@ -18,7 +18,7 @@ use Rattle.trcf.specs.Preprocessor.{Reading}
 use Rattle.snapshot.specs.Steps.Judge.{bufBy}
 use Rattle.snapshot.specs.Read.{Counts, mayStand}
 use Rattle.snapshot.specs.Steps.Runs.{Ran, ran, broke, told, after, behindLines, mapRan, unkept, front, many, bufs, Initial, initialOf, timesOf, timeOf, Parts, expected, ending, Body, body, partsBy, partsOf, bodyBy, filledBy, Fills, HeadFew, Room, stateFrom, Good, summed}
-use Rattle.common.specs.Lent.{over}
+use Rattle.refusal.specs.Lent.{over}
 use Rattle.trcf.specs.View.{Lent, lent, settingsOf, laid, initialRoom, lentShort}
 use Rattle.trcf.specs.declared.head.Preprocessor.{Preprocessor}
 use Rattle.trcf.proofs.ShingleLaws.{over-part}

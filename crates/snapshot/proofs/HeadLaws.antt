@@ -10,7 +10,7 @@ use lib.Dec.{leb, ltb, eqb}
 use lib.Ieee.{Float}
 use borrow.Author.Tests.{ltb-false, leb-false}
 use Rattle.common.specs.Deviation.{outsideUnit}
-use Rattle.common.specs.Lent.{over}
+use Rattle.refusal.specs.Lent.{over}
 use Rattle.trcf.proofs.ShingleLaws.{over-part}
 use Rattle.trcf.specs.declared.types.ForestMode.{ForestMode}
 use Rattle.trcf.specs.declared.types.TransformMethod.{TransformMethod}

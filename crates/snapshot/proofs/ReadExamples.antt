@@ -11,7 +11,7 @@ use Rattle.trcf.specs.Preprocessor.{State, fresh}
 use Rattle.snapshot.specs.Text.{render, linesBy, bodyLines, setLine, singles, chnLine, cntLine, devLine, timLine, bufLine, whole, float}
 use Rattle.snapshot.specs.Read.{carries, kept, Read, taken, bad, read, judge, floatFrom, mayStand, asWhole}
 use lib.ListN.{replicate}
-use Rattle.common.specs.Lent.{over}
+use Rattle.refusal.specs.Lent.{over}
 use Rattle.trcf.specs.View.{Lent, lent, lentShort, laid, noHead}
 use Rattle.snapshot.specs.Restore.{outcome, restored, restoreOf}
 use Rattle.snapshot.specs.Ascii.{ascii}

@@ -18,7 +18,7 @@ use Rattle.trcf.specs.declared.head.Preprocessor.{Preprocessor}
 use Rattle.trcf.proofs.DrainLaws.{front-over}
 use Rattle.trcf.proofs.ShingleLaws.{length-over}
 use Rattle.trcf.proofs.ViewLaws.{Shaped, view-laid}
-use Rattle.common.specs.Lent.{over}
+use Rattle.refusal.specs.Lent.{over}
 use Rattle.snapshot.specs.Text.{render, TextOf}
 use Rattle.snapshot.specs.Form.{Form}
 use Rattle.snapshot.specs.Read.{Read, taken, bad, same, withLists, read, carries, kept, FirstBad}

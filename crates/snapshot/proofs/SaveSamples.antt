@@ -6,7 +6,7 @@ use native.Mathlib.Omega.{arith}
 use lib.ListN.{length, replicate}
 use lib.Ieee.{Float, binary32, ofBits, ofFields, odd, fits, size, toBits, le, lt}
 use Rattle.common.specs.Deviation.{zero64, outsideUnit}
-use Rattle.common.specs.Lent.{over}
+use Rattle.refusal.specs.Lent.{over}
 use Rattle.trcf.specs.Transformer.{zero32, one32}
 use Rattle.trcf.specs.Settings.{Settings, settingsRow, allOne, block, dimension, waiting}
 use Rattle.trcf.specs.Calls.{finite}

@@ -12,7 +12,7 @@ use lib.Dec.{T, ltb}
 use lib.Ieee.{Float, nan, inf, fin, Format, binary32, toBits, ne, isNan}
 use lib.Ieee.Compare.{differs-from-itself}
 use borrow.Author.Tests.{ltb-true, ltb-false}
-use Rattle.common.specs.Lent.{over}
+use Rattle.refusal.specs.Lent.{over}
 use Rattle.trcf.specs.Settings.{wholeMax}
 use Rattle.snapshot.specs.Text.{whole, hex, digit, width, float, behind}
 use Rattle.snapshot.specs.Steps.Write.{stored, Wrote, tabbed}

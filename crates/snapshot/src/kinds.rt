@@ -23,7 +23,7 @@ ghost use mathlib.Core.Bool.{_&&_};
 ghost use Prim.Native.Nat.{_+_, _*_, _≤_, _<_};
 ghost use lib.Dec.{ltb};
 ghost use lib.ListN.{length, take, drop, replicate};
-ghost use Rattle.common.specs.Lent.{over};
+ghost use Rattle.refusal.specs.Lent.{over};
 ghost use Rattle.trcf.specs.Types.{normalizes};
 ghost use Rattle.trcf.specs.Preprocessor.{reading};
 ghost use Rattle.snapshot.specs.Steps.Judge.{placed, held, Filled, codesRead, chnOr, chnBy, wgtBy, cntTest, cntBy, timBy, bufBy, countsRead, FilledWith};

@@ -5,7 +5,7 @@ use mathlib.Core.List.{List, [], _∷_}
 use lib.Dec.{ltb}
 use lib.ListN.{length}
 use lib.Ieee.{Float, binary32}
-use Rattle.common.specs.Lent.{over}
+use Rattle.refusal.specs.Lent.{over}
 use Rattle.snapshot.specs.Text.{whole, float, Line, named}
 use Rattle.snapshot.specs.Save.{Outcome, outcome}
 

@@ -13,8 +13,8 @@ use lib.Dec.{eqb}
 use lib.ListN.{length, getD, set}
 use lib.Seq.{getD-set-same, getD-set-other, set-set, set-comm, getD-append-add}
 use lib.Ieee.{Float, nan, binary32}
-use Rattle.common.specs.RangeVector.{Range, Ranges, range, ranges, rangeAt, putAt, shifted, scaled, cascadeTo, unblocked}
-use Rattle.common.proofs.RangeLaws.{rangeAt-other, cascadeTo-lengths, cascadeTo-later}
+use Rattle.ranges.specs.RangeVector.{Range, Ranges, range, ranges, rangeAt, putAt, shifted, scaled, cascadeTo, unblocked}
+use Rattle.ranges.proofs.RangeLaws.{rangeAt-other, cascadeTo-lengths, cascadeTo-later}
 use Rattle.trcf.specs.Types.{isNone, normalizes, differences, centres}
 use Rattle.trcf.specs.Transformer.{Transformer, reciprocal, weightAt, normalizedScale, basicDrift, basicShift, scaledIf, shiftedIf, forecastAt, forecastTo, invertedForecast}
 use Rattle.trcf.specs.declared.types.TransformMethod.{TransformMethod}

@@ -7,7 +7,7 @@ use native.Mathlib.Omega.{arith}
 use lib.ListN.{length, getD, take, drop}
 use lib.Seq.{drop-cons, length-take-le}
 use lib.Ieee.{Float, nan, eq}
-use Rattle.common.specs.Lent.{over}
+use Rattle.refusal.specs.Lent.{over}
 use Rattle.common.specs.Deviation.{rowOf, answered}
 use Rattle.common.specs.declared.deviation.Deviation.{Deviation}
 use Rattle.trcf.specs.Settings.{allOne}

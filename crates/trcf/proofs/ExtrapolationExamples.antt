@@ -6,9 +6,9 @@ use lib.ListN.{replicate}
 use lib.IntN.{pos}
 use lib.Ieee.{Float, binary32, binary64, add, sub, mul, div, lt, le, eq, ofInt, ofBits}
 use Rattle.numeric.specs.Narrow.{narrowed}
-use Rattle.common.specs.Lent.{over}
+use Rattle.refusal.specs.Lent.{over}
 use Rattle.common.specs.Deviation.{zero64, isEmpty, meanOf}
-use Rattle.common.specs.RangeVector.{ranges, unequal, unblocked, shorter, rangeAt, putAt, shifted, scaled, settled, cascadeTo}
+use Rattle.ranges.specs.RangeVector.{ranges, unequal, unblocked, shorter, rangeAt, putAt, shifted, scaled, settled, cascadeTo}
 use Rattle.trcf.specs.Lists.{lastN}
 use Rattle.trcf.specs.Transformer.{one32, statisticAt, normalizedScale, basicShift, basicDrift, weightAt, reciprocal, forecastAt, forecastTo, invertedForecast}
 use Rattle.trcf.specs.Settings.{block, dimension, waiting}

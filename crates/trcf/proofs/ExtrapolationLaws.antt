@@ -14,9 +14,9 @@ use lib.Seq.{length-take-le, getD-drop, drop-drop, take-length, paste, take-all,
 use lib.IntN.{pos}
 use lib.Ieee.{Float, nan, binary32, binary64, Format, add, mul, div, eq, ofInt}
 use Rattle.common.specs.Deviation.{zero64, one64}
-use Rattle.common.specs.Lent.{over}
-use Rattle.common.specs.Refusal.{firstOf}
-use Rattle.common.specs.RangeVector.{Range, Ranges, range, ranges, settled, shifted, scaled, rangeAt, putAt, overAll, cascadeTo, Outcome, outcome, unequal, unblocked, shorter, cascadedAddOf}
+use Rattle.refusal.specs.Lent.{over}
+use Rattle.refusal.specs.Refusal.{firstOf}
+use Rattle.ranges.specs.RangeVector.{Range, Ranges, range, ranges, settled, shifted, scaled, rangeAt, putAt, overAll, cascadeTo, Outcome, outcome, unequal, unblocked, shorter, cascadedAddOf}
 use Rattle.trcf.specs.Lists.{tabulate, lastN, lastOr}
 use Rattle.trcf.specs.Types.{augments, gaps, differences}
 use Rattle.trcf.specs.Transformer.{zero32, forecastTo, forecastAt, invertedForecast, weightAt, normalizedScale, basicDrift, basicShift}

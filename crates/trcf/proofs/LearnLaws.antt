@@ -12,9 +12,9 @@ use lib.IntN.{ℤ, pos, negsuc}
 use lib.ListN.{length, take, drop, getD, length-append}
 use lib.Seq.{length-take-le}
 use lib.Ieee.{Float, binary64, lt, ofInt}
-use Rattle.common.specs.Lent.{over}
+use Rattle.refusal.specs.Lent.{over}
 use Rattle.common.specs.Deviation.{countLimit}
-use Rattle.common.specs.Refusal.{firstOf}
+use Rattle.refusal.specs.Refusal.{firstOf}
 use Rattle.trcf.specs.Lists.{lastOr, shiftIn}
 use Rattle.trcf.specs.Transformer.{zero32, one32, inverted, updated}
 use Rattle.trcf.specs.Settings.{Settings, transformer, dimension, block, waiting}

@@ -8,7 +8,7 @@ use native.Mathlib.Omega.{arith}
 use lib.ListN.{length, getD, set, take, drop, length-append, length-drop}
 use lib.Seq.{drop-cons, set-at, append-snoc, take-length, take-all}
 use lib.Ieee.{Float, nan}
-use Rattle.common.specs.Lent.{over}
+use Rattle.refusal.specs.Lent.{over}
 use Rattle.trcf.specs.Lists.{tabulate, lastN}
 use Rattle.trcf.specs.Types.{augments}
 use Rattle.trcf.specs.Transformer.{Transformer, transformBy, transformed, invertBy, inverted, scales, shifts, differenceDeviations, unweighted, weightAt, basicShift, normalizedScale}

@@ -10,7 +10,7 @@ use native.Mathlib.Numerals.{add-one}
 use lib.ListN.{length, getD, set, take, drop, replicate, length-append, length-drop, length-take, take-append-drop, length-replicate}
 use lib.Seq.{length-take-le, getD-take, take-nil, getD-append-add, getD-drop, take-suc, drop-cons, set-at, append-snoc, take-at, take-length, take-all, drop-append-add, drop-drop, drop-length, set-split, paste}
 use lib.Ieee.{Float, nan, inf, fin, lt}
-use Rattle.common.specs.Lent.{over}
+use Rattle.refusal.specs.Lent.{over}
 use Rattle.trcf.specs.Lists.{lastOr, lastN, shiftIn, overwrite}
 use Rattle.trcf.specs.Calls.{finite}
 

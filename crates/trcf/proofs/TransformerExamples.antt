@@ -7,9 +7,9 @@ use lib.ListN.{replicate}
 use lib.Ieee.{Float, binary32, binary64, add, sub, mul, div, lt, le, eq, ofInt, ofBits}
 use Rattle.numeric.specs.Narrow.{narrowed}
 use Rattle.numeric.specs.Root.{rootOf}
-use Rattle.common.specs.Lent.{over}
+use Rattle.refusal.specs.Lent.{over}
 use Rattle.common.specs.Deviation.{zero64, outsideUnit, isEmpty, factorOf, stepOf, meanOf, deviationOf, rootAbove}
-use Rattle.common.specs.RangeVector.{Ranges, ranges, Outcome, outcome, unblocked, rangeAt, putAt, shifted, scaled, settled, cascadeTo}
+use Rattle.ranges.specs.RangeVector.{Ranges, ranges, Outcome, outcome, unblocked, rangeAt, putAt, shifted, scaled, settled, cascadeTo}
 use Rattle.trcf.specs.Settings.{allOne}
 use Rattle.trcf.specs.Transformer.{zero32, one32, statisticAt, putStatistic, deviationsAt, putDeviations, fed, fedAt, channelsFed, updated}
 use Rattle.trcf.specs.Transformer.{normalizedScale, basicShift, basicDrift, weightAt, transformed, unweighted, inverted, reciprocal, forecastAt, forecastTo, invertedForecast, scales, shifts, differenceDeviations}

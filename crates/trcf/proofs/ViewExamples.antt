@@ -7,7 +7,7 @@ use lib.IntN.{pos}
 use lib.ListN.{replicate, length, take}
 use lib.Ieee.{Float, binary32, ofBits, le}
 use Rattle.common.specs.Deviation.{zero64, one64, outsideUnit}
-use Rattle.common.specs.Lent.{over}
+use Rattle.refusal.specs.Lent.{over}
 use Rattle.trcf.specs.Lists.{shiftIn, overwrite, lastN}
 use Rattle.trcf.specs.Transformer.{zero32, one32}
 use Rattle.trcf.specs.Settings.{Settings, settingsRow, allOne, block, dimension, waiting}

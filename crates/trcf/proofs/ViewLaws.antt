@@ -5,7 +5,7 @@ use mathlib.Core.Path.{_≡_, refl, sym, ap, _∙_}
 use mathlib.Core.List.{List, [], _∷_, _++_}
 use lib.ListN.{length, take, drop, replicate}
 use lib.Seq.{take-at}
-use Rattle.common.specs.Lent.{over}
+use Rattle.refusal.specs.Lent.{over}
 use Rattle.trcf.specs.Settings.{Settings, dimension, block}
 use Rattle.trcf.specs.Calls.{Call}
 use Rattle.trcf.specs.Preprocessor.{State, Answer, refused, statisticsLength, refusal, reply, change, next, answer, accepted}

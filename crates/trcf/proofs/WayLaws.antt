@@ -7,7 +7,7 @@ use lib.Dec.{eqb}
 use lib.IntN.{ℤ}
 use lib.Ieee.{Float, lt}
 use lib.ListN.{length, take}
-use Rattle.common.specs.Lent.{over}
+use Rattle.refusal.specs.Lent.{over}
 use Rattle.trcf.specs.Transformer.{zero32}
 use Rattle.trcf.specs.Settings.{waiting, block, dimension}
 use Rattle.trcf.specs.Calls.{drain, shingledPoint, postProcess}

@@ -7,9 +7,9 @@ use lib.Dec.{ltb, leb, eqb}
 use lib.IntN.{ℤ, pos, negsuc}
 use lib.ListN.{length}
 use lib.Ieee.{Float, nan, inf, fin, binary32, binary64, lt}
-use Rattle.common.specs.Refusal.{firstOf}
+use Rattle.refusal.specs.Refusal.{firstOf}
 use Rattle.common.specs.Deviation.{countLimit}
-use Rattle.common.specs.RangeVector.{Ranges, unequal, unblocked, shorter}
+use Rattle.ranges.specs.RangeVector.{Ranges, unequal, unblocked, shorter}
 use Rattle.trcf.specs.Lists.{lastOr, null}
 use Rattle.trcf.specs.Types.{augments, gaps, differences}
 use Rattle.trcf.specs.Transformer.{zero32}

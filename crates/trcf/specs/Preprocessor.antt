@@ -9,8 +9,8 @@ use lib.ListN.{length, take, drop, getD, replicate}
 use lib.Ieee.{Float, Format, nan, binary32, binary64, add, sub, mul, div, eq, ofInt}
 use Rattle.numeric.specs.Narrow.{narrowed}
 use Rattle.common.specs.Deviation.{zero64, one64}
-use Rattle.common.specs.Lent.{over}
-use Rattle.common.specs.RangeVector.{Range, Ranges, ranges, settled, cascadeTo, overAll}
+use Rattle.refusal.specs.Lent.{over}
+use Rattle.ranges.specs.RangeVector.{Range, Ranges, ranges, settled, cascadeTo, overAll}
 use Rattle.trcf.specs.Lists.{lastN, lastOr, shiftIn, overwrite}
 use Rattle.trcf.specs.Types.{augments, gaps}
 use Rattle.trcf.specs.Transformer.{Transformer, zero32, one32, meanAt, deviationAt, fedAt, updated, transformed, inverted, invertedForecast, scales, shifts, differenceDeviations}

@@ -6,7 +6,7 @@ use mathlib.Core.List.{List, [], _∷_}
 use lib.Dec.{T, ltb, leb, eqb}
 use lib.ListN.{length}
 use lib.Ieee.{Float, Format, binary32, binary64, eq, fits}
-use Rattle.common.specs.Refusal.{firstOf}
+use Rattle.refusal.specs.Refusal.{firstOf}
 use Rattle.common.specs.Deviation.{outsideUnit}
 unfoldable pub use Rattle.trcf.specs.Fit.{All, Fits}
 use Rattle.trcf.specs.Types.{isNone, normalizes, augments}

@@ -5,10 +5,10 @@ use mathlib.Core.List.{List, [], _∷_}
 use lib.Dec.{ltb, leb, eqb}
 use lib.ListN.{length, take, replicate}
 use lib.Ieee.{Float}
-use Rattle.common.specs.Refusal.{firstOf}
-use Rattle.common.specs.Lent.{over}
+use Rattle.refusal.specs.Refusal.{firstOf}
+use Rattle.refusal.specs.Lent.{over}
 use Rattle.common.specs.Deviation.{zero64, countLimit, outsideUnit}
-use Rattle.common.specs.RangeVector.{Ranges, Outcome, answered, unblocked}
+use Rattle.ranges.specs.RangeVector.{Ranges, Outcome, answered, unblocked}
 use Rattle.trcf.specs.Types.{isNone, differences}
 use Rattle.trcf.specs.Settings.{inputLimit, allOne}
 use Rattle.trcf.specs.Transformer.{Transformer, zero32, updated, transformed, inverted, invertedForecast, scales, shifts, differenceDeviations}

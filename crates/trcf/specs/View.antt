@@ -10,8 +10,8 @@ use lib.ListN.{length, take, replicate}
 use lib.Ieee.{Float, lt}
 use Rattle.common.specs.Deviation.{zero64, countLimit}
 use Rattle.trcf.specs.Lists.{null, lastOr}
-use Rattle.common.specs.Refusal.{firstOf}
-use Rattle.common.specs.Lent.{over}
+use Rattle.refusal.specs.Refusal.{firstOf}
+use Rattle.refusal.specs.Lent.{over}
 use Rattle.trcf.specs.Transformer.{zero32}
 use Rattle.trcf.specs.Types.{normalizes, methodNumber, modeLetter, gaps}
 use Rattle.trcf.specs.Settings.{Settings, inputLimit, shingleLimit, startBound, transformer, settingsRow, block, dimension, waiting}

@@ -4,14 +4,14 @@ use crate::types::TransformMethod;
 use crate::types::is_differencing;
 use crate::types::is_none;
 use crate::types::is_normalizing;
-use common::rangevector::Range32;
+use ranges::rangevector::Range32;
 ghost use mathlib.Core.Path.{_≡_};
 ghost use mathlib.Core.Bool.{cond};
 ghost use Prim.Native.Nat.{_+_, _*_, _≤_, _<_};
 ghost use lib.IntN.{pos};
 ghost use lib.ListN.{length};
 ghost use lib.Ieee.{binary32, ofInt};
-ghost use Rattle.common.specs.RangeVector.{ranges};
+ghost use Rattle.ranges.specs.RangeVector.{ranges};
 ghost use Rattle.trcf.specs.Types.{differences};
 ghost use Rattle.trcf.specs.Steps.Blocks.{plain, placesBy, turnBy, driftPlace, turnPlace, moves, placeOf, Carried};
 

@@ -17,7 +17,7 @@ ghost use mathlib.Core.Path.{_≡_};
 ghost use mathlib.Core.List.{[]};
 ghost use Prim.Native.Nat.{_*_, _≤_};
 ghost use lib.ListN.{length};
-ghost use Rattle.common.specs.Lent.{over};
+ghost use Rattle.refusal.specs.Lent.{over};
 ghost use Rattle.trcf.specs.Settings.{block};
 ghost use Rattle.trcf.specs.Preprocessor.{statisticsLength, reading, transformedAfter, scaleOf, shiftOf, deviations};
 ghost use Rattle.trcf.specs.Lengths.{whereFits, outputFits, transformFits};

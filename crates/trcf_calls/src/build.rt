@@ -14,7 +14,7 @@ use trcf_rows::rows::settings_row;
 ghost use mathlib.Core.Path.{_≡_};
 ghost use Prim.Native.Nat.{_≤_};
 ghost use lib.ListN.{length, replicate};
-ghost use Rattle.common.specs.Lent.{over};
+ghost use Rattle.refusal.specs.Lent.{over};
 ghost use Rattle.trcf.specs.Transformer.{zero32};
 ghost use Rattle.trcf.specs.View.{lent, settingsFrom, headFrom, outcome, buildOf};
 

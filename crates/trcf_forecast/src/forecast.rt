@@ -1,6 +1,6 @@
 // A forecast of transformed readings turned back into readings and times (the source's Preprocessor::invert_extrapolation).
-use common::rangevector::Range64;
-use common::rangevector::cascaded_add_f64;
+use ranges::rangevector::Range64;
+use ranges::rangevector::cascaded_add_f64;
 use trcf::head::Preprocessor;
 use trcf::head::get_dimension;
 use trcf::head::head_row;
@@ -21,8 +21,8 @@ ghost use Prim.Native.Nat.{_*_, _≤_, _<_};
 ghost use lib.IntN.{pos};
 ghost use lib.ListN.{length};
 ghost use lib.Ieee.{binary64, mul, ofInt};
-ghost use Rattle.common.specs.Refusal.{firstOf};
-ghost use Rattle.common.specs.RangeVector.{range, ranges, scaled, unblocked, cascadeTo, overAll};
+ghost use Rattle.refusal.specs.Refusal.{firstOf};
+ghost use Rattle.ranges.specs.RangeVector.{range, ranges, scaled, unblocked, cascadeTo, overAll};
 ghost use Rattle.trcf.specs.Lists.{lastN};
 ghost use Rattle.trcf.specs.Types.{augments, differences};
 ghost use Rattle.trcf.specs.Transformer.{invertedForecast};

@@ -15,7 +15,7 @@ ghost use lib.Dec.{ltb, eqb};
 ghost use lib.Ieee.{lt};
 ghost use lib.ListN.{length, take, getD};
 ghost use Rattle.common.specs.Deviation.{countLimit};
-ghost use Rattle.common.specs.Lent.{over};
+ghost use Rattle.refusal.specs.Lent.{over};
 ghost use Rattle.trcf.specs.Lists.{shiftIn};
 ghost use Rattle.trcf.specs.Transformer.{inverted, zero32};
 ghost use Rattle.trcf.specs.Settings.{dimension, block, transformer};

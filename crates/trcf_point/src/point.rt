@@ -12,7 +12,7 @@ use trcf_rows::rows::shingled_point_row;
 ghost use mathlib.Core.Path.{_≡_};
 ghost use Prim.Native.Nat.{_*_, _≤_};
 ghost use lib.ListN.{length, take};
-ghost use Rattle.common.specs.Lent.{over};
+ghost use Rattle.refusal.specs.Lent.{over};
 ghost use Rattle.trcf.specs.Settings.{dimension};
 ghost use Rattle.trcf.specs.Lists.{lastN, shiftIn};
 ghost use Rattle.trcf.specs.Preprocessor.{statisticsLength, reading, transformedAfter};

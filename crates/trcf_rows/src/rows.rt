@@ -24,7 +24,7 @@ ghost use lib.Dec.{ltb, eqb};
 ghost use lib.ListN.{length, take};
 ghost use lib.Ieee.{Float};
 ghost use Rattle.common.specs.Deviation.{countLimit};
-ghost use Rattle.common.specs.Refusal.{firstOf};
+ghost use Rattle.refusal.specs.Refusal.{firstOf};
 ghost use Rattle.trcf.specs.Lists.{null};
 ghost use Rattle.trcf.specs.Types.{gaps};
 ghost use Rattle.trcf.specs.Settings.{imputes, waiting, settingsRow, block};

@@ -1,4 +1,4 @@
-// Replays answers of the Rust (docs/VECTORS.md) on `common`, on `trcf` and on `snapshot`, and prints how many lines agree and how many differ.
+// Replays answers of the Rust (docs/VECTORS.md) on `common`, on `ranges`, on `trcf` and on `snapshot`, and prints how many lines agree and how many differ.
 // A call's lists are read into lent memory; an answer is compared with the fields where it stands.
 mod answer;
 mod deviation;

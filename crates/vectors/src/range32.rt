@@ -17,12 +17,12 @@ use crate::lines::line_end;
 use crate::lines::no_lines;
 use crate::list::length_within;
 use crate::list::read_singles;
-use common::rangevector::cascaded_add_f32;
-use common::rangevector::create_f32;
-use common::rangevector::from_f32;
-use common::rangevector::new_f32;
-use common::rangevector::scale_f32;
-use common::rangevector::shift_f32;
+use ranges::rangevector::cascaded_add_f32;
+use ranges::rangevector::create_f32;
+use ranges::rangevector::from_f32;
+use ranges::rangevector::new_f32;
+use ranges::rangevector::scale_f32;
+use ranges::rangevector::shift_f32;
 
 // ---- answers
 

@@ -16,12 +16,12 @@ use crate::lines::line_end;
 use crate::lines::no_lines;
 use crate::list::length_within;
 use crate::list::read_doubles;
-use common::rangevector::cascaded_add_f64;
-use common::rangevector::create_f64;
-use common::rangevector::from_f64;
-use common::rangevector::new_f64;
-use common::rangevector::scale_f64;
-use common::rangevector::shift_f64;
+use ranges::rangevector::cascaded_add_f64;
+use ranges::rangevector::create_f64;
+use ranges::rangevector::from_f64;
+use ranges::rangevector::new_f64;
+use ranges::rangevector::scale_f64;
+use ranges::rangevector::shift_f64;
 
 // ---- answers
 

@@ -8,7 +8,7 @@ use native.Mathlib.Omega.{arith}
 use lib.ListN.{length, getD, set, take, drop}
 use lib.Seq.{take-suc, length-take-le}
 use lib.Ieee.{Float, nan}
-use Rattle.common.specs.Lent.{over}
+use Rattle.refusal.specs.Lent.{over}
 use Rattle.series.specs.Pairs.{Pair, pair}
 use Rattle.series.specs.Gaps.{zero32, sizeOf, larger, largestFrom, largest, cell, sizes, perChannel, gaps}
 use Rattle.series.specs.Steps.Comparing.{widened}

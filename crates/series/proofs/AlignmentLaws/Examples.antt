@@ -6,7 +6,7 @@ use mathlib.Core.List.{List, [], _∷_}
 use lib.Dec.{T}
 use lib.ListN.{replicate}
 use lib.Ieee.{Float, nan, inf, binary32, ofBits, sub, lt}
-use Rattle.common.specs.Lent.{over}
+use Rattle.refusal.specs.Lent.{over}
 use Rattle.series.specs.Pairs.{pair, near, turn, pairs}
 use Rattle.series.specs.Gaps.{zero32, absolute, sizeOf, larger, largest, sizes, gaps}
 use Rattle.series.specs.Alignment.{unusable, misshapen, rowOf, Readings, readings, Outputs, outputs, Answer, answer, written, alignOf}

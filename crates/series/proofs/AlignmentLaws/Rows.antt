@@ -8,8 +8,8 @@ use borrow.Author.Tests.{eqb-true, not-false}
 use lib.Dec.{eqb, ltb}
 use lib.ListN.{length}
 use lib.Ieee.{Float}
-use Rattle.common.specs.Refusal.{firstOf}
-use Rattle.common.specs.Lent.{over}
+use Rattle.refusal.specs.Refusal.{firstOf}
+use Rattle.refusal.specs.Lent.{over}
 use Rattle.series.specs.Pairs.{pairs, lefts, rights}
 use Rattle.series.specs.Gaps.{gaps}
 use Rattle.series.specs.Alignment.{channelLimit, Readings, Outputs, outputs, Answer, answer, misshapen, unusable, rowOf, asked, refusedOr, written, alignOf}

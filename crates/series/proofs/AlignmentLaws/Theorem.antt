@@ -8,8 +8,8 @@ use lib.Dec.{ltb, eqb}
 use lib.ListN.{length, getD, take, length-map, List·getD-append}
 use lib.Seq.{take-at}
 use lib.Ieee.{Float, nan}
-use Rattle.common.specs.Refusal.{firstOf}
-use Rattle.common.specs.Lent.{over}
+use Rattle.refusal.specs.Refusal.{firstOf}
+use Rattle.refusal.specs.Lent.{over}
 use Rattle.series.specs.Pairs.{Pair, pair, pairs, lefts, rights}
 use Rattle.series.specs.Pairing.{BestPairing}
 use Rattle.series.specs.Gaps.{sizes, largest, gaps, Largest}

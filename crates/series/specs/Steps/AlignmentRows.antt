@@ -5,7 +5,7 @@ use mathlib.Core.Bool.{_||_}
 use mathlib.Core.List.{List, [], _∷_}
 use lib.Dec.{ltb, eqb}
 use lib.ListN.{length}
-use Rattle.common.specs.Refusal.{firstOf}
+use Rattle.refusal.specs.Refusal.{firstOf}
 use Rattle.series.specs.Alignment.{channelLimit, misshapen, unusable}
 
 unfoldable pub readingsRow : ℕ → ℕ → List ℕ → ℕ → List ℕ → ℕ

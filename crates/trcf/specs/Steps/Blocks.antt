@@ -7,8 +7,8 @@ use mathlib.Core.List.{List}
 use lib.IntN.{pos}
 use lib.ListN.{length, getD}
 use lib.Ieee.{Float, nan, binary32, mul, ofInt}
-use Rattle.common.specs.declared.rangevector.Range32.{Range32}
-use Rattle.common.specs.RangeVector.{Range, range, Ranges, shifted, scaled, rangeAt, putAt}
+use Rattle.ranges.specs.declared.rangevector.Range32.{Range32}
+use Rattle.ranges.specs.RangeVector.{Range, range, Ranges, shifted, scaled, rangeAt, putAt}
 use Rattle.trcf.specs.Types.{isNone, normalizes, differences, centres}
 use Rattle.trcf.specs.Transformer.{Transformer, reciprocal, weightAt, normalizedScale, basicDrift, basicShift, scaledIf, shiftedIf}
 use Rattle.trcf.specs.declared.types.TransformMethod.{TransformMethod}

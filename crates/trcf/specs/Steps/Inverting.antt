@@ -4,7 +4,7 @@ use mathlib.Core.Path.{_≡_}
 use mathlib.Core.Bool.{Bool, true, false, cond, _&&_}
 use lib.Ieee.{Float, binary64, mul, div, eq}
 use Rattle.common.specs.Deviation.{zero64, one64}
-use Rattle.common.specs.RangeVector.{Range, range, Ranges, ranges, shifted, scaled, rangeAt, unblocked}
+use Rattle.ranges.specs.RangeVector.{Range, range, Ranges, ranges, shifted, scaled, rangeAt, unblocked}
 use Rattle.trcf.specs.Lists.{tabulate}
 use Rattle.trcf.specs.Types.{augments, differences}
 use Rattle.trcf.specs.Transformer.{zero32}

@@ -11,7 +11,7 @@ use lib.IntN.{_+ℤ_, _-ℤ_, _*ℤ_}
 use lib.Ieee.{Float, binary64, mul}
 use Rattle.common.specs.declared.deviation.Deviation.{Deviation}
 use Rattle.common.specs.declared.deviation.DeviationResult.the-variants.{Ok, Err}
-use Rattle.common.specs.Refusal.{firstOf}
+use Rattle.refusal.specs.Refusal.{firstOf}
 use Rattle.common.specs.Deviation.{answered, statistic}
 use Rattle.common.specs.WholeScores.{wholeFloat}
 use Rattle.common.specs.Corrected.{readingLimit, lengthLimit, wholeWithin, integerOf, correctionRows, correctedStatistic, correctedOf}

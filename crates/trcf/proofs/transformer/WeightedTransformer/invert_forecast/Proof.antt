@@ -5,8 +5,8 @@ use native.Mathlib.Omega.{arith}
 use Rattle.trcf.specs.Transformer.{invertedForecast}
 use Rattle.trcf.specs.TransformerCalls.{invertForecastOf, own}
 use Rattle.trcf.specs.Types.{differences}
-use Rattle.common.specs.RangeVector.{ranges}
-use Rattle.common.proofs.RangeSteps.{refused, done}
+use Rattle.ranges.specs.RangeVector.{ranges}
+use Rattle.ranges.proofs.RangeSteps.{refused, done}
 use Rattle.trcf.proofs.ForecastLaws.{blocked-base}
 use Rattle.trcf.proofs.CallLaws.{sound-part}
 use borrow.Author.Needs.{needs}

@@ -6,7 +6,7 @@ use Rattle.trcf.specs.Transformer.{zero32}
 use Rattle.trcf.specs.TransformerCalls.{made}
 use lib.ListN.{replicate}
 use native.Mathlib.Omega.{arith}
-use Rattle.common.specs.Lent.{over}
+use Rattle.refusal.specs.Lent.{over}
 use Rattle.trcf.specs.TransformerCalls.{newOf, noHead, headOf}
 use Rattle.trcf.proofs.CallLaws.{made-refused, made-done}
 use borrow.Author.Needs.{needs}

@@ -4,7 +4,7 @@ use lib.Seq.{length-take-le}
 use mathlib.Core.Path.{_∙_}
 use native.Mathlib.Omega.{arith}
 use Rattle.common.proofs.DeviationLaws.{next-factor}
-use Rattle.common.specs.Lent.{over}
+use Rattle.refusal.specs.Lent.{over}
 use Rattle.trcf.specs.Transformer.{updated}
 use Rattle.trcf.specs.TransformerCalls.{updateOf, own, counted}
 use Rattle.trcf.proofs.CallLaws.{sound-part, made-refused, made-done, updated-over}
