@@ -81,8 +81,8 @@ pub fn to_f64(x: f32) -> f64
 pub fn u64_to_f64(n: u64) -> f64
     ensures { λ r. ⌜ r ≡ ofInt binary64 (pos n) ⌝ }
 {
-    if n == 0 {
-        return 0.0;
+    if n <= 0x20_0000_0000_0000 {
+        return n as f64;
     }
     let z = u64::leading_zeros(n) as u64;
     f64::from_bits((1085 - z) * 0x10_0000_0000_0000 + nearest(n << z, 11))

@@ -2,6 +2,7 @@
 mod conversion;
 mod counted;
 mod each;
+mod guesses;
 mod root;
 mod rounding;
 
