@@ -3,6 +3,7 @@ mod bits;
 mod conversion;
 mod counted;
 mod each;
+mod guesses;
 mod root;
 mod rounding;
 
