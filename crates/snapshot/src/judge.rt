@@ -84,7 +84,7 @@ pub(crate) fn wholes(text: &[u8], at: usize, out: &mut [u64]) -> Place
 }
 
 // A line of f32 fields.
-pub(crate) fn singles_line(text: &[u8], at: usize, a: u64, b: u64, c: u64, out: &mut [f32]) -> Place
+pub fn singles_line(text: &[u8], at: usize, a: u64, b: u64, c: u64, out: &mut [f32]) -> Place
     ensures { λ r. ⌜ Filled (listLine (asFloat binary32) a b c (length (now (out .entry))) (drop at (now (text .entry)))) (now (text .entry)) (now (out .entry)) r (now (out .exit)) ⌝ }
 {
     let Place::At(p) = name(text, at, a, b, c) else {
@@ -97,7 +97,7 @@ pub(crate) fn singles_line(text: &[u8], at: usize, a: u64, b: u64, c: u64, out: 
 }
 
 // A line of f64 fields.
-pub(crate) fn doubles_line(text: &[u8], at: usize, a: u64, b: u64, c: u64, out: &mut [f64]) -> Place
+pub fn doubles_line(text: &[u8], at: usize, a: u64, b: u64, c: u64, out: &mut [f64]) -> Place
     ensures { λ r. ⌜ Filled (listLine (asFloat binary64) a b c (length (now (out .entry))) (drop at (now (text .entry)))) (now (text .entry)) (now (out .entry)) r (now (out .exit)) ⌝ }
 {
     let Place::At(p) = name(text, at, a, b, c) else {

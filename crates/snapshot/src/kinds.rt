@@ -82,7 +82,7 @@ pub(crate) fn chn_line(text: &[u8], at: usize, d: usize) -> Coded
 }
 
 // The last times, as many as `out` is long.
-pub(crate) fn tim_line(text: &[u8], at: usize, internal: usize, out: &mut [u64]) -> Place
+pub fn tim_line(text: &[u8], at: usize, internal: usize, out: &mut [u64]) -> Place
     ensures { λ r. ⌜ Filled (timBy internal (length (now (out .entry))) (drop at (now (text .entry)))) (now (text .entry)) (now (out .entry)) r (now (out .exit)) ⌝ }
 {
     let place = wholes_line(text, at, 116, 105, 109, out);
@@ -97,7 +97,7 @@ pub(crate) fn tim_line(text: &[u8], at: usize, internal: usize, out: &mut [u64])
     place
 }
 
-pub(crate) fn is_waiting(method: TransformMethod, start: usize, seen: u64) -> bool
+pub fn is_waiting(method: TransformMethod, start: usize, seen: u64) -> bool
     ensures { λ r. ⌜ r ≡ normalizes method && ltb seen start ⌝ }
 {
     if is_normalizing(method) {
@@ -161,13 +161,13 @@ pub(crate) fn cnt_line(text: &[u8], at: usize, method: TransformMethod, start: u
 }
 
 // The place behind a line of one initial value, and its time.
-pub(crate) struct Timed {
+pub struct Timed {
     pub place: Place,
     pub time: u64,
 }
 
 // One initial value, as many numbers as `out` is long, not before the time `past`.
-pub(crate) fn buf_line(text: &[u8], at: usize, past: u64, out: &mut [f32]) -> Timed
+pub fn buf_line(text: &[u8], at: usize, past: u64, out: &mut [f32]) -> Timed
     ensures { λ r. ⌜ FilledWith (bufBy (length (now (out .entry))) past (drop at (now (text .entry)))) (now (text .entry)) (now (out .entry)) (r .place) (reading (now (out .exit)) (r .time)) ⌝ }
 {
     let Place::At(p) = name(text, at, 98, 117, 102) else {
