@@ -18,7 +18,8 @@ use Rattle.snapshot.specs.Read.{asWhole, asFloat, allCodes, same, Counts, withL
 use Rattle.snapshot.specs.Steps.Judge.{listLine, checked, wgtTest, Codes, chnOr, chnBy, setBy, wgtBy, cntBy}
 use Rattle.snapshot.specs.Save.{past}
 use Rattle.snapshot.specs.Restore.{outcome, restored, restoreOf}
-use Rattle.snapshot.specs.Steps.Runs.{Ran, ran, broke, oneLine, behindLines, after, mapRan, Head, headRead, thirdBy, headBy, headOf, headedOf, HeadFew, countsIn, Parts, Initial, Body, bodyBy, expected, partsOf, bufs, ending, body, filledBy, FillsOver, stateFrom, Good, readBy, asRead}
+use Rattle.snapshot.specs.Steps.Runs.{Ran, ran, broke, oneLine, behindLines, after, mapRan, Head, headRead, thirdBy, headBy, headOf, headedOf, HeadFew, countsIn}
+use Rattle.snapshot.specs.Steps.Runs.{Parts, Initial, Body, bodyBy, expected, partsOf, bufs, ending, body, filledBy, FillsOver, stateFrom, Good, readBy, asRead}
 use Rattle.snapshot_restore.specs.Steps.{summed}
 use Rattle.snapshot_restore.specs.declared.restore.Judged.{Judged}
 use Rattle.snapshot.proofs.JudgeLines.{float-codec, whole-codec, line-is}
@@ -75,7 +76,8 @@ lists-long t k z e = by-set (setBy t) e
     behind n (ran a y) g f = g f
     behind n (broke m) g f = absurd (ran-not-broke k z (n + m) f)
 
-    by-cnt : (s : Settings) (v : List Float) (q : Codes) → Listed (withLists s v (q .codes)) → (o : Option (Counts × List ℕ)) → Long (after 1 (oneLine o) (λ c l₃. ran (headRead (withLists s v (q .codes)) c (q .extra)) l₃))
+    by-cnt : (s : Settings) (v : List Float) (q : Codes) → Listed (withLists s v (q .codes)) → (o : Option (Counts × List ℕ)) → Long
+        (after 1 (oneLine o) (λ c l₃. ran (headRead (withLists s v (q .codes)) c (q .extra)) l₃))
     by-cnt s v q h none f = absurd (ran-not-broke k z 1 f)
     by-cnt s v q h (some r) f = subst (λ (x : Head). Listed (x .settings)) (sym (ran-value k (headRead (withLists s v (q .codes)) (r .0) (q .extra)) z (r .1) f)) h
 
@@ -99,7 +101,8 @@ lists-long t k z e = by-set (setBy t) e
         (by-wgt (r .0) (r .1) (wgtBy (r .0 .method) (r .0 .d) (r .1)) refl) f
 
 pub settings-back : (k : Head) → Listed (k .settings) → settingsOf (headOf k) ≡ k .settings
-settings-back k e = λ i. withLists (k .settings) (front-over (replicate 16 zero32) (k .settings .weights) (k .settings .d) (e .0) i) (front-over (replicate 16 0) (k .settings .codes) (k .settings .d) (e .1) i)
+settings-back k e = λ i. withLists (k .settings) (front-over (replicate 16 zero32) (k .settings .weights) (k .settings .d) (e .0) i)
+    (front-over (replicate 16 0) (k .settings .codes) (k .settings .d) (e .1) i)
 
 head-again : (k : Head) → Listed (k .settings) → (a b c n : ℕ) → counting (headOf k) a b c n ≡ counting (headFrom (settingsOf (headOf k))) a b c n
 head-again k e a b c n = ap (λ (s : Settings). counting (headFrom s) a b c n) (sym (settings-back k e))
@@ -154,7 +157,8 @@ module _ (t cs : List ℕ) (l : Lent) where
         ap (λ (x : Preprocessor). bodyBy (settingsOf x) (countsIn x) z) g
         ∙ ap (λ (s : Settings). bodyBy s (k .counts) z) (settings-back k (lists-long t k z f))
 
-    read-of : (k : Head) → ran k z ≡ headBy t → h ≡ headOf k → n ≡ k .extra → readBy t ≡ behindLines 3 (behindLines n (mapRan (stateFrom (settingsOf h) (countsIn h)) (bodyBy (settingsOf h) (countsIn h) z)))
+    read-of : (k : Head) → ran k z ≡ headBy t → h ≡ headOf k → n ≡ k .extra → readBy t ≡ behindLines 3
+        (behindLines n (mapRan (stateFrom (settingsOf h) (countsIn h)) (bodyBy (settingsOf h) (countsIn h) z)))
     unfolding readBy
     read-of k f g u =
         rw (sym f, sym u)
@@ -196,7 +200,8 @@ module _ (t cs : List ℕ) (l : Lent) where
       unfolding restoreOf restored
       restore-short u i = rw (read-taken, u, i)
 
-      pub restore-all : same (settingsOf h .codes) cs ≡ true → lentShort (settingsOf h) l ≡ false → (new : Lent) → FillsOver (settingsOf h) (countsIn h) (filledBy (settingsOf h) (countsIn h) (r .count) z) l new
+      pub restore-all : same (settingsOf h .codes) cs ≡ true → lentShort (settingsOf h) l ≡ false → (new : Lent) → FillsOver (settingsOf h) (countsIn h)
+          (filledBy (settingsOf h) (countsIn h) (r .count) z) l new
           → outcome 0 0 (counting h (h .transformer .count) (h .«values_seen») (h .«internal_timestamp») (r .count)) new ≡ restoreOf t cs l
       unfolding restoreOf restored
       restore-all u i new o =
@@ -205,9 +210,11 @@ module _ (t cs : List ℕ) (l : Lent) where
           let k = head-of (headBy t) h n z e in
           let a : counting h (h .transformer .count) (h .«values_seen») (h .«internal_timestamp») (r .count)
           ≡ counting (headFrom (settingsOf h)) (h .transformer .count) (h .«values_seen») (h .«internal_timestamp») (r .count) =
-          subst (λ (x : Preprocessor). counting x (h .transformer .count) (h .«values_seen») (h .«internal_timestamp») (r .count) ≡ counting (headFrom (settingsOf x)) (h .transformer .count) (h .«values_seen») (h .«internal_timestamp») (r .count))
+          subst (λ (x : Preprocessor). counting x (h .transformer .count) (h .«values_seen») (h .«internal_timestamp») (r .count) ≡ counting (headFrom (settingsOf x)) (h .transformer .count)
+          (h .«values_seen») (h .«internal_timestamp») (r .count))
           (sym (k .2)) (head-again (k .0) (lists-long t (k .0) z (k .1)) (h .transformer .count) (h .«values_seen») (h .«internal_timestamp») (r .count)) in
           ap (λ (x : Preprocessor). outcome 0 0 x new) a
           ∙ ap (λ (n : ℕ). outcome 0 0 (counting (headFrom (settingsOf h)) (h .transformer .count) (h .«values_seen») (h .«internal_timestamp») n) new) count-is
-          ∙ ap (λ (x : Lent). outcome 0 0 (counting (headFrom (settingsOf h)) (h .transformer .count) (h .«values_seen») (h .«internal_timestamp») (length (b .initial .times))) x) (o b (w .0) (w .1))
+          ∙ ap (λ (x : Lent). outcome 0 0 (counting (headFrom (settingsOf h)) (h .transformer .count) (h .«values_seen») (h .«internal_timestamp») (length (b .initial .times))) x)
+          (o b (w .0) (w .1))
           ∙ sym (rw (read-taken, u, i))

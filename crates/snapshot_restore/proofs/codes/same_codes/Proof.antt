@@ -49,8 +49,11 @@ loop-less c = search needs
 loop-again : tie.Need-loop-again Inv-loop μ-loop
 loop-again c =
     let a = c .before .before .before .before .before .before .args in
-    let L = c .before .before .before .before .loop in
-    (omega arith, L .inv .1 ∙ same-on (a .a .now) (L .i) (c .before .before .before .loop-test .taken) (a .b .now) (omega arith) (c .if2 .left) ∙ (λ j. same (drop (sym (add-one (L .i)) j) (a .a .now)) (drop (sym (add-one (L .i)) j) (a .b .now))))
+    let L = c .before .before .before .before .loop in (
+      omega arith,
+      L .inv .1 ∙ same-on (a .a .now) (L .i) (c .before .before .before .loop-test .taken) (a .b .now) (omega arith) (c .if2 .left) ∙
+          (λ j. same (drop (sym (add-one (L .i)) j) (a .a .now)) (drop (sym (add-one (L .i)) j) (a .b .now))),
+    )
 
 returns-3 : tie.Need-returns-3 Inv-loop μ-loop
 returns-3 c =

@@ -30,7 +30,8 @@ mul-from : tie.Need-mul-from Inv-lines μ-lines
 mul-from c =
     let a = c .before .before .before .before .before .args in
     let L = c .before .lines in
-    let h = bufs-few (a .d) (a .n) (drop (a .at) (a .text .now)) (L .values) (L .times) (L .i) (L .past) (drop (L .p) (a .text .now)) (L .inv) (omega (arith, L .inv .so .ahead .some-left, c .if1 .left)) in
+    let h = bufs-few (a .d) (a .n) (drop (a .at) (a .text .now)) (L .values) (L .times) (L .i) (L .past) (drop (L .p) (a .text .now)) (L .inv)
+    (omega (arith, L .inv .so .ahead .some-left, c .if1 .left)) in
     omega (arith, h)
 
 -- src/lines.rt:95:62
@@ -38,7 +39,8 @@ add-buf-line : tie.Need-add-buf-line Inv-lines μ-lines
 add-buf-line c =
     let a = c .before .before .before .before .before .args in
     let L = c .before .lines in
-    let h = bufs-few (a .d) (a .n) (drop (a .at) (a .text .now)) (L .values) (L .times) (L .i) (L .past) (drop (L .p) (a .text .now)) (L .inv) (omega (arith, L .inv .so .ahead .some-left, c .if1 .left)) in
+    let h = bufs-few (a .d) (a .n) (drop (a .at) (a .text .now)) (L .values) (L .times) (L .i) (L .past) (drop (L .p) (a .text .now)) (L .inv)
+    (omega (arith, L .inv .so .ahead .some-left, c .if1 .left)) in
     omega (arith, h)
 
 -- src/lines.rt:95:44
@@ -46,7 +48,8 @@ mul-buf-line : tie.Need-mul-buf-line Inv-lines μ-lines
 mul-buf-line c =
     let a = c .before .before .before .before .before .args in
     let L = c .before .lines in
-    let h = bufs-few (a .d) (a .n) (drop (a .at) (a .text .now)) (L .values) (L .times) (L .i) (L .past) (drop (L .p) (a .text .now)) (L .inv) (omega (arith, L .inv .so .ahead .some-left, c .if1 .left)) in
+    let h = bufs-few (a .d) (a .n) (drop (a .at) (a .text .now)) (L .values) (L .times) (L .i) (L .past) (drop (L .p) (a .text .now)) (L .inv)
+    (omega (arith, L .inv .so .ahead .some-left, c .if1 .left)) in
     omega (arith, h)
 
 -- src/lines.rt:95:44
@@ -78,19 +81,27 @@ enum-told c = search needs
 
 -- src/lines.rt:98:39
 add-t22 : tie.Need-add-t22 Inv-lines μ-lines
-add-t22 c = omega (arith, c .before .before .before .before .before .before .before .lines .inv .so .few, c .before .before .before .before .before .before .before .lines .inv .so .ahead .some-left)
+add-t22 c =
+    let lines-at = c .before .before .before .before .before .before .before .lines in
+    omega (arith, lines-at .inv .so .few, lines-at .inv .so .ahead .some-left)
 
 -- src/lines.rt:101:9
 mul-times : tie.Need-mul-times Inv-lines μ-lines
-mul-times c = omega (arith, c .before .before .before .before .before .before .before .before .lines .inv .so .few, c .before .before .before .before .before .before .before .before .lines .inv .so .ahead .some-left)
+mul-times c =
+    let lines-at = c .before .before .before .before .before .before .before .before .lines in
+    omega (arith, lines-at .inv .so .few, lines-at .inv .so .ahead .some-left)
 
 -- src/lines.rt:101:9
 slice-write-times : tie.Need-slice-write-times Inv-lines μ-lines
-slice-write-times c = omega (arith, c .before .before .before .before .before .before .before .before .lines .inv .so .ahead .some-left, c .before .before .before .before .before .before .before .before .lines .inv .long-times)
+slice-write-times c =
+    let lines-at = c .before .before .before .before .before .before .before .before .lines in
+    omega (arith, lines-at .inv .so .ahead .some-left, lines-at .inv .long-times)
 
 -- src/lines.rt:103:9
 add-i : tie.Need-add-i Inv-lines μ-lines
-add-i c = omega (arith, c .before .before .before .before .before .before .before .before .lines .inv .so .few, c .before .before .before .before .before .before .before .before .lines .inv .so .ahead .some-left)
+add-i c =
+    let lines-at = c .before .before .before .before .before .before .before .before .lines in
+    omega (arith, lines-at .inv .so .few, lines-at .inv .so .ahead .some-left)
 
 -- src/lines.rt:90:5
 lines-less : tie.Need-lines-less Inv-lines μ-lines
@@ -99,7 +110,8 @@ lines-less c = omega (arith, c .before .before .before .before .before .before .
 -- src/lines.rt:90:5
 lines-again : tie.Need-lines-again Inv-lines μ-lines
 lines-again c =
-    let a = c .before .before .before .before .before .before .before .before .before .before .before .before .args in
+    let c8 = c .before .before .before .before .before .before .before .before in
+    let a = c8 .before .before .before .before .args in
     let L = c .before .before .before .before .before .before .before .before .lines in
     let b = c .before .before .before .before .before .buf-line in
     bufs-step (a .d) (a .n) (drop (a .at) (a .text .now)) (L .values) (L .times) (L .i) (L .past) (drop (L .p) (a .text .now)) (L .inv) (omega (arith, L .inv .so .ahead .some-left))
@@ -124,7 +136,8 @@ returns c =
 -- src/lines.rt:80:1
 same-length-3 : tie.Need-same-length-3 Inv-lines μ-lines
 same-length-3 c =
-    let a = c .before .before .before .before .before .before .before .before .before .before .before .args in
+    let c8 = c .before .before .before .before .before .before .before .before in
+    let a = c8 .before .before .before .args in
     let L = c .before .before .before .before .before .before .before .lines in
     let b = c .before .before .before .before .buf-line in
     block-long (a .d) (L .i) (a .n) (L .values) (L .inv .long) (omega (arith, L .inv .so .ahead .some-left)) (b .last .1 .1 .1 .0) (b .ensures .kept) ∙ sym (omega arith)
@@ -136,7 +149,8 @@ same-length-4 c = c .before .before .before .before .before .before .before .lin
 -- src/lines.rt:80:1
 returns-2 : tie.Need-returns-2 Inv-lines μ-lines
 returns-2 c =
-    let a = c .before .before .before .before .before .before .before .before .before .before .before .args in
+    let c8 = c .before .before .before .before .before .before .before .before in
+    let a = c8 .before .before .before .args in
     let L = c .before .before .before .before .before .before .before .lines in
     let b = c .before .before .before .before .buf-line in
     told-broke (L .i + 1) _ (drop (L .p) (a .text .now)) (omega arith)

@@ -63,7 +63,8 @@ lines-less c = omega (arith, c .before .before .before .before .before .before .
 -- src/lines.rt:117:5
 lines-again : tie.Need-lines-again Inv-lines μ-lines
 lines-again c =
-    let a = c .before .before .before .before .before .before .before .before .before .args in
+    let c8 = c .before .before .before .before .before .before .before .before in
+    let a = c8 .before .args in
     let L = c .before .before .before .before .before .before .before .lines in
     let b = c .before .before .before .before .buf-line in (
       length-front (L .values) (b .last .1 .1 .1 .0) (a .d) (b .ensures .kept) ∙ L .inv .0,
@@ -76,8 +77,11 @@ lines-again c =
 returns : tie.Need-returns Inv-lines μ-lines
 returns c =
     let a = c .before .before .before .args in
-    let L = c .before .lines in
-    (ap (λ (r : Ran Initial). unkept r) (unkept-done (a .d) (a .n) (drop (a .at) (a .text .now)) (L .i) (L .past) (drop (L .p) (a .text .now)) (L .inv .1) (omega (arith, c .if1 .taken))), omega arith)
+    let L = c .before .lines in (
+      ap (λ (r : Ran Initial). unkept r) (unkept-done (a .d) (a .n) (drop (a .at) (a .text .now)) (L .i) (L .past) (drop (L .p) (a .text .now)) (L .inv .1) (omega (arith, c .if1 .taken))),
+      omega
+          arith,
+    )
 
 -- src/lines.rt:108:1
 returns-2 : tie.Need-returns-2 Inv-lines μ-lines
@@ -86,7 +90,8 @@ returns-2 c =
     let L = c .before .before .before .before .before .before .lines in
     let b = c .before .before .before .buf-line in (
       told-broke (L .i + 1) _ (drop (L .p) (a .text .now)) (omega arith)
-          ∙ ap (λ (r : Ran Initial). unkept r) (unkept-stop (a .d) (a .n) (drop (a .at) (a .text .now)) (L .i) (L .past) (drop (L .p) (a .text .now)) (L .inv .1) (omega (arith, L .inv .1 .ahead .some-left)) _ (length-take-le (a .d) (L .values) (omega (arith, L .inv .1 .narrow, L .inv .0)))
+          ∙ ap (λ (r : Ran Initial). unkept r) (unkept-stop (a .d) (a .n) (drop (a .at) (a .text .now)) (L .i) (L .past) (drop (L .p) (a .text .now)) (L .inv .1)
+          (omega (arith, L .inv .1 .ahead .some-left)) _ (length-take-le (a .d) (L .values) (omega (arith, L .inv .1 .narrow, L .inv .0)))
           (lost-one (b .result .place) (a .text .now) (reading (b .last .1 .1 .1 .0) (b .result .time)) _ (c .enum-told .given .1) (b .ensures .told))),
       omega (arith, L .inv .1 .ahead .some-left),
     )

@@ -19,7 +19,9 @@ abbrev μ-lines : tie.MeasureT-lines
 
 -- src/lines.rt:26:5
 lines-holds : tie.Need-lines-holds Inv-lines μ-lines
-lines-holds c = devs-none (c .before .before .args .n) (drop (c .before .before .args .at) (c .before .before .args .text .now)) (c .before .before .args .statistics .now) (omega arith) (omega arith)
+lines-holds c =
+    let args = c .before .before .args in
+    devs-none (args .n) (drop (args .at) (args .text .now)) (args .statistics .now) (omega arith) (omega arith)
 
 -- src/lines.rt:30:20
 mul-from : tie.Need-mul-from Inv-lines μ-lines
@@ -65,7 +67,9 @@ add-t18 c = omega (arith, c .before .before .before .before .before .before .bef
 
 -- src/lines.rt:35:9
 add-i : tie.Need-add-i Inv-lines μ-lines
-add-i c = omega (arith, c .before .before .before .before .before .before .before .before .lines .inv .few, c .before .before .before .before .before .before .before .before .lines .inv .ahead .some-left)
+add-i c =
+    let lines-at = c .before .before .before .before .before .before .before .before .lines in
+    omega (arith, lines-at .inv .few, lines-at .inv .ahead .some-left)
 
 -- src/lines.rt:26:5
 lines-less : tie.Need-lines-less Inv-lines μ-lines
@@ -74,10 +78,12 @@ lines-less c = omega (arith, c .before .before .before .before .before .before .
 -- src/lines.rt:26:5
 lines-again : tie.Need-lines-again Inv-lines μ-lines
 lines-again c =
-    let a = c .before .before .before .before .before .before .before .before .before .before .before .args in
+    let c8 = c .before .before .before .before .before .before .before .before in
+    let a = c8 .before .before .before .args in
     let L = c .before .before .before .before .before .before .before .before .lines in
     let d = c .before .before .before .before .before .doubles-line in
-    devs-step (a .n) (drop (a .at) (a .text .now)) (L .statistics) (L .i) (drop (L .p) (a .text .now)) (L .inv) (omega (arith, L .inv .ahead .some-left)) _ (drop (c .before .q .given .0 .0) (a .text .now)) (d .ensures .kept)
+    devs-step (a .n) (drop (a .at) (a .text .now)) (L .statistics) (L .i) (drop (L .p) (a .text .now)) (L .inv) (omega (arith, L .inv .ahead .some-left)) _
+    (drop (c .before .q .given .0 .0) (a .text .now)) (d .ensures .kept)
     (got-list (d .result) (a .text .now) _ _ (c .before .q .given .0 .0) (c .before .q .given .1) (d .ensures .told))
 
 -- src/lines.rt:19:1
@@ -94,7 +100,8 @@ returns c =
 -- src/lines.rt:19:1
 same-length-2 : tie.Need-same-length-2 Inv-lines μ-lines
 same-length-2 c =
-    let a = c .before .before .before .before .before .before .before .before .before .before .args in
+    let c8 = c .before .before .before .before .before .before .before .before in
+    let a = c8 .before .before .args in
     let L = c .before .before .before .before .before .before .before .lines in
     let d = c .before .before .before .before .doubles-line in
     block-long 3 (L .i) (a .n) (L .statistics) (L .inv .long) (omega (arith, L .inv .ahead .some-left)) (d .last .1 .1 .1 .1 .1 .0) (d .ensures .kept) ∙ sym (omega arith)
@@ -102,7 +109,8 @@ same-length-2 c =
 -- src/lines.rt:19:1
 returns-2 : tie.Need-returns-2 Inv-lines μ-lines
 returns-2 c =
-    let a = c .before .before .before .before .before .before .before .before .before .before .args in
+    let c8 = c .before .before .before .before .before .before .before .before in
+    let a = c8 .before .before .args in
     let L = c .before .before .before .before .before .before .before .lines in
     let d = c .before .before .before .before .doubles-line in (
       told-broke (L .i + 1) _ (drop (L .p) (a .text .now)) (omega arith)

@@ -24,10 +24,14 @@ same-length c = search needs
 -- src/lines.rt:56:9
 returns : tie.Need-returns
 returns c =
-    let a = c .before .before .before .before .before .before .before .before .before .before .before .args in
+    let c8 = c .before .before .before .before .before .before .before .before in
+    let a = c8 .before .before .before .args in
     let t = a .text .now in
-    let D = c .before .before .before .before .dev-lines in
-    (parts-broke (a .internal) (a .n) (length (a .input .now)) (length (a .point .now)) (length (a .times .now)) (drop (a .at) t) (D .result .bad) (D .last .1 .1 .1 .0) _ (drop (D .result .at) t) (D .ensures .0) (c .if1 .taken), omega (arith, D .ensures .1))
+    let D = c .before .before .before .before .dev-lines in (
+      parts-broke (a .internal) (a .n) (length (a .input .now)) (length (a .point .now)) (length (a .times .now)) (drop (a .at) t) (D .result .bad) (D .last .1 .1 .1 .0) _ (drop (D .result .at) t)
+          (D .ensures .0) (c .if1 .taken),
+      omega (arith, D .ensures .1),
+    )
 
 -- src/lines.rt:58:24
 singles-line-requires : tie.Need-singles-line-requires
@@ -56,12 +60,16 @@ same-length-3 c = search needs
 -- src/lines.rt:59:9
 returns-2 : tie.Need-returns-2
 returns-2 c =
-    let a = c .before .before .before .before .before .before .before .before .before .before .before .before .before .before .before .before .before .args in
+    let c8 = c .before .before .before .before .before .before .before .before in
+    let c16 = c8 .before .before .before .before .before .before .before .before in
+    let singles-line-at = c .before .before .before .before .singles-line in
+    let a = c16 .before .args in
     let t = a .text .now in
-    let D = c .before .before .before .before .before .before .before .before .before .before .dev-lines in
+    let D = c8 .before .before .dev-lines in
     let e = told-ran (D .result .bad) (D .last .1 .1 .1 .0) (drop (D .result .at) t) _ (omega (arith, c .before .before .before .before .before .before .if1 .left)) (D .ensures .0) in (
       told-broke (a .n + 1) _ (drop (a .at) t) (omega arith)
-          ∙ parts-inp (a .internal) (a .n) (length (a .input .now)) (length (a .point .now)) (length (a .times .now)) (drop (a .at) t) (D .last .1 .1 .1 .0) (drop (D .result .at) t) e (lost-list (c .before .before .before .before .singles-line .result) t (c .before .before .before .before .singles-line .last .1 .1 .1 .1 .1 .0) _ (c .enum-told .given .1) (c .before .before .before .before .singles-line .ensures .told)),
+          ∙ parts-inp (a .internal) (a .n) (length (a .input .now)) (length (a .point .now)) (length (a .times .now)) (drop (a .at) t) (D .last .1 .1 .1 .0) (drop (D .result .at) t) e
+          (lost-list (singles-line-at .result) t (singles-line-at .last .1 .1 .1 .1 .1 .0) _ (c .enum-told .given .1) (singles-line-at .ensures .told)),
       omega arith,
     )
 
@@ -96,13 +104,20 @@ same-length-6 c = search needs
 -- src/lines.rt:65:9
 returns-3 : tie.Need-returns-3
 returns-3 c =
-    let a = c .before .before .before .before .before .before .before .before .before .before .before .before .before .before .before .before .before .before .before .before .before .before .before .before .args in
+    let c8 = c .before .before .before .before .before .before .before .before in
+    let c16 = c8 .before .before .before .before .before .before .before .before in
+    let c24 = c16 .before .before .before .before .before .before .before .before in
+    let p-at = c .before .before .before .before .before .before .before .p in
+    let singles-line2-at = c .before .before .before .before .singles-line2 in
+    let singles-line-at = c8 .before .before .before .singles-line in
+    let a = c24 .args in
     let t = a .text .now in
-    let D = c .before .before .before .before .before .before .before .before .before .before .before .before .before .before .before .before .before .dev-lines in
-    let e = told-ran (D .result .bad) (D .last .1 .1 .1 .0) (drop (D .result .at) t) _ (omega (arith, c .before .before .before .before .before .before .before .before .before .before .before .before .before .if1 .left)) (D .ensures .0) in
-    let g = got-list (c .before .before .before .before .before .before .before .before .before .before .before .singles-line .result) t (c .before .before .before .before .before .before .before .before .before .before .before .singles-line .last .1 .1 .1 .1 .1 .0) _ (c .before .before .before .before .before .before .before .p .given .0 .0) (c .before .before .before .before .before .before .before .p .given .1) (c .before .before .before .before .before .before .before .before .before .before .before .singles-line .ensures .told) in (
+    let D = c16 .before .dev-lines in
+    let e = told-ran (D .result .bad) (D .last .1 .1 .1 .0) (drop (D .result .at) t) _ (omega (arith, c8 .before .before .before .before .before .if1 .left)) (D .ensures .0) in
+    let g = got-list (singles-line-at .result) t (singles-line-at .last .1 .1 .1 .1 .1 .0) _ (p-at .given .0 .0) (p-at .given .1) (singles-line-at .ensures .told) in (
       told-broke (a .n + 2) _ (drop (a .at) t) (omega arith)
-          ∙ parts-pnt (a .internal) (a .n) (length (a .input .now)) (length (a .point .now)) (length (a .times .now)) (drop (a .at) t) (D .last .1 .1 .1 .0) (drop (D .result .at) t) e _ _ g (lost-list (c .before .before .before .before .singles-line2 .result) t (c .before .before .before .before .singles-line2 .last .1 .1 .1 .1 .1 .0) _ (c .enum-told2 .given .1) (c .before .before .before .before .singles-line2 .ensures .told)),
+          ∙ parts-pnt (a .internal) (a .n) (length (a .input .now)) (length (a .point .now)) (length (a .times .now)) (drop (a .at) t) (D .last .1 .1 .1 .0) (drop (D .result .at) t) e _ _ g
+          (lost-list (singles-line2-at .result) t (singles-line2-at .last .1 .1 .1 .1 .1 .0) _ (c .enum-told2 .given .1) (singles-line2-at .ensures .told)),
       omega arith,
     )
 
@@ -120,7 +135,11 @@ enum-told-3 c = search needs
 
 -- src/lines.rt:72:18
 add-t27 : tie.Need-add-t27
-add-t27 c = omega (arith, c .before .before .before .before .before .before .before .before .before .before .before .before .before .before .before .before .before .before .before .before .before .before .before .before .before .before .before .before .before .before .before .pre .1)
+add-t27 c =
+    let c8 = c .before .before .before .before .before .before .before .before in
+    let c16 = c8 .before .before .before .before .before .before .before .before in
+    let c24 = c16 .before .before .before .before .before .before .before .before in
+    omega (arith, c24 .before .before .before .before .before .before .before .pre .1)
 
 -- src/lines.rt:71:9
 same-length-7 : tie.Need-same-length-7
@@ -141,14 +160,23 @@ same-length-10 c = search needs
 -- src/lines.rt:71:9
 returns-4 : tie.Need-returns-4
 returns-4 c =
-    let a = c .before .before .before .before .before .before .before .before .before .before .before .before .before .before .before .before .before .before .before .before .before .before .before .before .before .before .before .before .before .before .before .args in
+    let c8 = c .before .before .before .before .before .before .before .before in
+    let c16 = c8 .before .before .before .before .before .before .before .before in
+    let c24 = c16 .before .before .before .before .before .before .before .before in
+    let q-at = c .before .before .before .before .before .before .before .q in
+    let p-at = c8 .before .before .before .before .before .before .p in
+    let tim-line-at = c .before .before .before .before .tim-line in
+    let singles-line2-at = c8 .before .before .before .singles-line2 in
+    let singles-line-at = c16 .before .before .singles-line in
+    let a = c24 .before .before .before .before .before .before .before .args in
     let t = a .text .now in
-    let D = c .before .before .before .before .before .before .before .before .before .before .before .before .before .before .before .before .before .before .before .before .before .before .before .before .dev-lines in
-    let e = told-ran (D .result .bad) (D .last .1 .1 .1 .0) (drop (D .result .at) t) _ (omega (arith, c .before .before .before .before .before .before .before .before .before .before .before .before .before .before .before .before .before .before .before .before .if1 .left)) (D .ensures .0) in
-    let g = got-list (c .before .before .before .before .before .before .before .before .before .before .before .before .before .before .before .before .before .before .singles-line .result) t (c .before .before .before .before .before .before .before .before .before .before .before .before .before .before .before .before .before .before .singles-line .last .1 .1 .1 .1 .1 .0) _ (c .before .before .before .before .before .before .before .before .before .before .before .before .before .before .p .given .0 .0) (c .before .before .before .before .before .before .before .before .before .before .before .before .before .before .p .given .1) (c .before .before .before .before .before .before .before .before .before .before .before .before .before .before .before .before .before .before .singles-line .ensures .told) in
-    let h = got-list (c .before .before .before .before .before .before .before .before .before .before .before .singles-line2 .result) t (c .before .before .before .before .before .before .before .before .before .before .before .singles-line2 .last .1 .1 .1 .1 .1 .0) _ (c .before .before .before .before .before .before .before .q .given .0 .0) (c .before .before .before .before .before .before .before .q .given .1) (c .before .before .before .before .before .before .before .before .before .before .before .singles-line2 .ensures .told) in (
+    let D = c24 .dev-lines in
+    let e = told-ran (D .result .bad) (D .last .1 .1 .1 .0) (drop (D .result .at) t) _ (omega (arith, c16 .before .before .before .before .if1 .left)) (D .ensures .0) in
+    let g = got-list (singles-line-at .result) t (singles-line-at .last .1 .1 .1 .1 .1 .0) _ (p-at .given .0 .0) (p-at .given .1) (singles-line-at .ensures .told) in
+    let h = got-list (singles-line2-at .result) t (singles-line2-at .last .1 .1 .1 .1 .1 .0) _ (q-at .given .0 .0) (q-at .given .1) (singles-line2-at .ensures .told) in (
       told-broke (a .n + 3) _ (drop (a .at) t) (omega arith)
-          ∙ parts-tim (a .internal) (a .n) (length (a .input .now)) (length (a .point .now)) (length (a .times .now)) (drop (a .at) t) (D .last .1 .1 .1 .0) (drop (D .result .at) t) e _ _ g _ _ h (lost-list (c .before .before .before .before .tim-line .result) t (c .before .before .before .before .tim-line .last .1 .1 .1 .0) _ (c .enum-told3 .given .1) (c .before .before .before .before .tim-line .ensures .told)),
+          ∙ parts-tim (a .internal) (a .n) (length (a .input .now)) (length (a .point .now)) (length (a .times .now)) (drop (a .at) t) (D .last .1 .1 .1 .0) (drop (D .result .at) t) e _ _ g _ _ h
+          (lost-list (tim-line-at .result) t (tim-line-at .last .1 .1 .1 .0) _ (c .enum-told3 .given .1) (tim-line-at .ensures .told)),
       omega arith,
     )
 
@@ -171,14 +199,25 @@ same-length-14 c = search needs
 -- src/lines.rt:40:1
 returns-5 : tie.Need-returns-5
 returns-5 c =
-    let a = c .before .before .before .before .before .before .before .before .before .before .before .before .before .before .before .before .before .before .before .before .before .before .before .before .before .before .before .before .before .before .before .before .args in
+    let c8 = c .before .before .before .before .before .before .before .before in
+    let c16 = c8 .before .before .before .before .before .before .before .before in
+    let c24 = c16 .before .before .before .before .before .before .before .before in
+    let c32 = c24 .before .before .before .before .before .before .before .before in
+    let q-at = c .before .before .before .before .before .before .before .before .q in
+    let p-at = c8 .before .before .before .before .before .before .before .p in
+    let tim-line-at = c .before .before .before .before .before .tim-line in
+    let singles-line2-at = c8 .before .before .before .before .singles-line2 in
+    let singles-line-at = c16 .before .before .before .singles-line in
+    let a = c32 .args in
     let t = a .text .now in
-    let D = c .before .before .before .before .before .before .before .before .before .before .before .before .before .before .before .before .before .before .before .before .before .before .before .before .before .dev-lines in
-    let e = told-ran (D .result .bad) (D .last .1 .1 .1 .0) (drop (D .result .at) t) _ (omega (arith, c .before .before .before .before .before .before .before .before .before .before .before .before .before .before .before .before .before .before .before .before .before .if1 .left)) (D .ensures .0) in
-    let g = got-list (c .before .before .before .before .before .before .before .before .before .before .before .before .before .before .before .before .before .before .before .singles-line .result) t (c .before .before .before .before .before .before .before .before .before .before .before .before .before .before .before .before .before .before .before .singles-line .last .1 .1 .1 .1 .1 .0) _ (c .before .before .before .before .before .before .before .before .before .before .before .before .before .before .before .p .given .0 .0) (c .before .before .before .before .before .before .before .before .before .before .before .before .before .before .before .p .given .1) (c .before .before .before .before .before .before .before .before .before .before .before .before .before .before .before .before .before .before .before .singles-line .ensures .told) in
-    let h = got-list (c .before .before .before .before .before .before .before .before .before .before .before .before .singles-line2 .result) t (c .before .before .before .before .before .before .before .before .before .before .before .before .singles-line2 .last .1 .1 .1 .1 .1 .0) _ (c .before .before .before .before .before .before .before .before .q .given .0 .0) (c .before .before .before .before .before .before .before .before .q .given .1) (c .before .before .before .before .before .before .before .before .before .before .before .before .singles-line2 .ensures .told) in
-    let k = got-list (c .before .before .before .before .before .tim-line .result) t (c .before .before .before .before .before .tim-line .last .1 .1 .1 .0) _ (c .before .r .given .0 .0) (c .before .r .given .1) (c .before .before .before .before .before .tim-line .ensures .told) in
-    (parts-all (a .internal) (a .n) (length (a .input .now)) (length (a .point .now)) (length (a .times .now)) (drop (a .at) t) (D .last .1 .1 .1 .0) (drop (D .result .at) t) e _ _ g _ _ h _ _ k, omega arith)
+    let D = c24 .before .dev-lines in
+    let e = told-ran (D .result .bad) (D .last .1 .1 .1 .0) (drop (D .result .at) t) _ (omega (arith, c16 .before .before .before .before .before .if1 .left)) (D .ensures .0) in
+    let g = got-list (singles-line-at .result) t (singles-line-at .last .1 .1 .1 .1 .1 .0) _ (p-at .given .0 .0) (p-at .given .1) (singles-line-at .ensures .told) in
+    let h = got-list (singles-line2-at .result) t (singles-line2-at .last .1 .1 .1 .1 .1 .0) _ (q-at .given .0 .0) (q-at .given .1) (singles-line2-at .ensures .told) in
+    let k = got-list (tim-line-at .result) t (tim-line-at .last .1 .1 .1 .0) _ (c .before .r .given .0 .0) (c .before .r .given .1) (tim-line-at .ensures .told) in (
+      parts-all (a .internal) (a .n) (length (a .input .now)) (length (a .point .now)) (length (a .times .now)) (drop (a .at) t) (D .last .1 .1 .1 .0) (drop (D .result .at) t) e _ _ g _ _ h _ _ k,
+      omega arith,
+    )
 
 pub part-lines-spec : {M : Type 1} → statement M
 part-lines-spec =

@@ -24,7 +24,11 @@ part-lines-requires : tie.Need-part-lines-requires
 part-lines-requires c κs = search needs
 
 buf-lines-requires : tie.Need-buf-lines-requires
-buf-lines-requires c κs = (c .before .before .before .before .before .before .before .before .before .before .before .before .before .before .before .before .before .before .before .before .before .before .before .pre .1 .1 .1 .1 .1 .1 .0, (c .before .before .before .before .before .before .before .before .before .before .before .before .before .before .before .before .before .before .before .before .before .before .before .pre .1 .1 .1 .1 .1 .1 .1, (c .before .before .before .before .before .before .before .before .before .before .before .before .before .before .before .before .before .before .before .before .before .before .before .pre .0, c .before .before .before .before .before .before .before .before .before .before .before .before .before .before .before .before .before .before .before .before .before .before .before .pre .1 .0)))
+buf-lines-requires c κs =
+    let c8 = c .before .before .before .before .before .before .before .before in
+    let c16 = c8 .before .before .before .before .before .before .before .before in
+    let pre = c16 .before .before .before .before .before .before .before .pre in
+    (pre .1 .1 .1 .1 .1 .1 .0, (pre .1 .1 .1 .1 .1 .1 .1, (pre .0, pre .1 .0)))
 
 same-length : tie.Need-same-length
 same-length c = search needs
@@ -46,15 +50,20 @@ same-length-6 c = search needs
 
 returns : tie.Need-returns
 returns c =
-    let a = c .before .before .before .before .before .before .before .before .before .before .before .before .before .before .before .before .before .before .before .before .before .before .before .before .before .before .before .before .args in
+    let c8 = c .before .before .before .before .before .before .before .before in
+    let c16 = c8 .before .before .before .before .before .before .before .before in
+    let c24 = c16 .before .before .before .before .before .before .before .before in
+    let pre = c24 .before .before .before .before .pre in
+    let a = c24 .before .before .before .before .args in
     let s = settingsOf (a .head) in
     let k = countsIn (a .head) in
     let t = a .text .now in
-    let P = c .before .before .before .before .before .before .before .before .before .before .before .before .before .before .before .part-lines in
+    let P = c8 .before .before .before .before .before .before .before .part-lines in
     let U = c .before .before .before .before .buf-lines in
     fills-of s k (a .n) (drop (a .at) t) (parts (P .last .1 .1 .1 .1 .0) (P .last .1 .1 .1 .1 .1 .0) (P .last .1 .1 .1 .1 .1 .1 .0) (P .last .1 .1 .1 .1 .1 .1 .1 .0))
     (initial (U .last .1 .1 .1 .1 .0) (U .last .1 .1 .1 .1 .1 .0)) (P .result .bad) (U .result .bad) (drop (P .result .at) t) (drop (U .result .at) t)
-    (parts-of s k (drop (a .at) t) (length (a .input .now)) (length (a .point .now)) (length (a .times .now)) _ (c .before .before .before .before .before .before .before .before .before .before .before .before .before .before .before .before .before .before .before .before .before .before .before .before .before .before .before .before .pre .1 .1 .1 .0) (c .before .before .before .before .before .before .before .before .before .before .before .before .before .before .before .before .before .before .before .before .before .before .before .before .before .before .before .before .pre .1 .1 .1 .1 .0) (c .before .before .before .before .before .before .before .before .before .before .before .before .before .before .before .before .before .before .before .before .before .before .before .before .before .before .before .before .pre .1 .1 .1 .1 .1 .0) (P .ensures .0)) (U .ensures)
+    (parts-of s k (drop (a .at) t) (length (a .input .now)) (length (a .point .now)) (length (a .times .now)) _ (pre .1 .1 .1 .0) (pre .1 .1 .1 .1 .0) (pre .1 .1 .1 .1 .1 .0) (P .ensures .0))
+    (U .ensures)
 
 pub fill-body-spec : {M : Type 1} → statement M
 fill-body-spec =

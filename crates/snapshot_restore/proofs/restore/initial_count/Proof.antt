@@ -40,41 +40,49 @@ returns-2 c =
 
 returns-3 : tie.Need-returns-3
 returns-3 c =
+    let is-waiting-at = c .before .before .before .before .is-waiting in
     let a = c .before .before .before .before .before .before .before .args in
     let s = settingsOf (a .head) in
     let k = countsIn (a .head) in
     let l = drop (a .at) (a .text .now) in
-    let w = waiting-is s (a .head .«values_seen») (c .before .before .before .before .is-waiting .result) false (c .before .before .before .before .is-waiting .ensures) (c .before .before .before .if1 .left) in
+    let w = waiting-is s (a .head .«values_seen») (is-waiting-at .result) false (is-waiting-at .ensures) (c .before .before .before .if1 .left) in
     expected-end s k l w (length-drop (a .at) (a .text .now) ∙ omega (arith, c .if3 .taken))
 
 returns-4 : tie.Need-returns-4
 returns-4 c =
+    let is-waiting-at = c .before .before .before .before .before .is-waiting in
     let a = c .before .before .before .before .before .before .before .before .args in
     let s = settingsOf (a .head) in
     let k = countsIn (a .head) in
     let l = drop (a .at) (a .text .now) in
-    let w = waiting-is s (a .head .«values_seen») (c .before .before .before .before .before .is-waiting .result) false (c .before .before .before .before .before .is-waiting .ensures) (c .before .before .before .before .if1 .left) in
+    let w = waiting-is s (a .head .«values_seen») (is-waiting-at .result) false (is-waiting-at .ensures) (c .before .before .before .before .if1 .left) in
     let n : 0 < length l = omega (arith, length-drop (a .at) (a .text .now), c .before .if3 .left) in
     expected-seen s k l w (sym (c .before .before .before .is-normalizing .ensures) ∙ not-false _ (c .before .before .if2 .left)) n (c .if4 .taken)
 
 returns-5 : tie.Need-returns-5
 returns-5 c =
-    let a = c .before .before .before .before .before .before .before .before .before .before .args in
+    let c8 = c .before .before .before .before .before .before .before .before in
+    let is-waiting-at = c .before .before .before .before .before .before .before .is-waiting in
+    let a = c8 .before .before .args in
     let s = settingsOf (a .head) in
     let k = countsIn (a .head) in
     let l = drop (a .at) (a .text .now) in
-    let w = waiting-is s (a .head .«values_seen») (c .before .before .before .before .before .before .before .is-waiting .result) false (c .before .before .before .before .before .before .before .is-waiting .ensures) (c .before .before .before .before .before .before .if1 .left) in
+    let w = waiting-is s (a .head .«values_seen») (is-waiting-at .result) false (is-waiting-at .ensures) (c .before .before .before .before .before .before .if1 .left) in
     let n : 0 < length l = omega (arith, length-drop (a .at) (a .text .now), c .before .before .before .if3 .left) in
-    expected-internal s k l w (sym (c .before .before .before .before .before .is-normalizing .ensures) ∙ not-false _ (c .before .before .before .before .if2 .left)) n (omega (arith, c .if5 .taken))
+    expected-internal s k l w (sym (c .before .before .before .before .before .is-normalizing .ensures) ∙ not-false _ (c .before .before .before .before .if2 .left)) n
+    (omega (arith, c .if5 .taken))
 
 returns-6 : tie.Need-returns-6
 returns-6 c =
-    let a = c .before .before .before .before .before .before .before .before .before .before .args in
+    let c8 = c .before .before .before .before .before .before .before .before in
+    let is-waiting-at = c .before .before .before .before .before .before .before .is-waiting in
+    let a = c8 .before .before .args in
     let s = settingsOf (a .head) in
     let k = countsIn (a .head) in
     let l = drop (a .at) (a .text .now) in
-    let w = waiting-is s (a .head .«values_seen») (c .before .before .before .before .before .before .before .is-waiting .result) false (c .before .before .before .before .before .before .before .is-waiting .ensures) (c .before .before .before .before .before .before .if1 .left) in
-    expected-none s k l w (sym (c .before .before .before .before .before .is-normalizing .ensures) ∙ not-false _ (c .before .before .before .before .if2 .left)) (omega (arith, c .before .before .if4 .left)) (c .if5 .left)
+    let w = waiting-is s (a .head .«values_seen») (is-waiting-at .result) false (is-waiting-at .ensures) (c .before .before .before .before .before .before .if1 .left) in
+    expected-none s k l w (sym (c .before .before .before .before .before .is-normalizing .ensures) ∙ not-false _ (c .before .before .before .before .if2 .left))
+    (omega (arith, c .before .before .if4 .left)) (c .if5 .left)
 
 pub initial-count-spec : {M : Type 1} → statement M
 initial-count-spec =
