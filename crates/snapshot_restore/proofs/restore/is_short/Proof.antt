@@ -2,6 +2,7 @@
 use borrow.Author.Needs.{needs}
 use mathlib.Core.Path.{_∙_}
 use Rattle.trcf.specs.Types.{augments}
+use Rattle.trcf.specs.View.{settingsOf, initialRoom}
 use Rattle.snapshot_restore.proofs.RestoreLaws.{short-past}
 use Rattle.snapshot_restore.proofs.restore.is_short.Statement.{statement}
 use Rattle.snapshot_restore.proofs.restore.is_short.Tie as tie
@@ -17,9 +18,13 @@ is-past-requires c κs = search needs
 
 returns : tie.Need-returns
 returns c =
-    let w = c .before .before .time-width in
+    let w = c .before .before in
     let n = c .before .initial-room in
-    c .is-past .ensures ∙ short-past _ (w .result) (n .result) _ _ _ _ _ _ _ _ _ (w .ensures) (n .ensures .0)
+    let a = w .before .before .args in
+    let h = a .head in
+    c .is-past .ensures
+    ∙ short-past (augments (h .«forest_mode»)) (w .time-width .result) (n .result) (initialRoom (settingsOf h)) (h .transformer .«input_length») (h .«shingle_size»)
+    (a .statistics) (a .input) (a .point) (a .times) (a .values) (a .initial) (w .time-width .ensures) (n .ensures .0)
 
 pub is-short-spec : {M : Type 1} → statement M
 is-short-spec = tie.close (tie.spec time-width-requires initial-room-requires is-past-requires returns)
