@@ -1,7 +1,7 @@
 // `save` and `restore`, each for a role that has its right.
 use crate::rights::Right;
 use crate::rights::may;
-use snapshot::restore::Restored;
+use snapshot_restore::restore::Restored;
 use snapshot_save::save::Saved;
 use trcf::head::Preprocessor;
 use trcf::head::no_head;
@@ -63,7 +63,7 @@ pub fn restore(
             head: no_head(),
         };
     }
-    snapshot::restore::restore(
+    snapshot_restore::restore::restore(
         text,
         codes,
         statistics,

@@ -13,9 +13,9 @@ use lib.Ieee as Ieee
 use Rattle.numeric.specs.Narrow as Narrow
 use Rattle.numeric.specs.Root as Root
 use Rattle.common.specs.Deviation as Deviation
-use Rattle.common.specs.Lent as Over
-use Rattle.common.specs.RangeVector as RangeVector
-use Rattle.common.specs.RangeVector.{Ranges, ranges}
+use Rattle.refusal.specs.Lent as Over
+use Rattle.ranges.specs.RangeVector as RangeVector
+use Rattle.ranges.specs.RangeVector.{Ranges, ranges}
 use Rattle.trcf.specs.Lists as Lists
 use Rattle.trcf.specs.Settings as Settings
 use Rattle.trcf.specs.Calls as Calls

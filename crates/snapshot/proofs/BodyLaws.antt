@@ -17,14 +17,13 @@ use Rattle.trcf.specs.Settings.{Settings, waiting, block, dimension}
 use Rattle.trcf.specs.Preprocessor.{Reading}
 use Rattle.snapshot.specs.Steps.Judge.{bufBy}
 use Rattle.snapshot.specs.Read.{Counts, mayStand}
-use Rattle.snapshot.specs.Steps.Runs.{Ran, ran, broke, told, after, behindLines, mapRan, unkept, front, many, bufs, Initial, initialOf, timesOf, timeOf, Parts, expected, ending, Body, body, partsBy, partsOf, bodyBy, filledBy, Fills, HeadFew, Room, stateFrom, Good, summed}
+use Rattle.snapshot.specs.Steps.Runs.{Ran, ran, broke, told, after, behindLines, mapRan, unkept, front, many, bufs, Initial, initialOf, timesOf, timeOf, Parts, expected, ending, Body, body, partsBy, partsOf, bodyBy, filledBy, Fills, HeadFew, Room, stateFrom}
 use Rattle.refusal.specs.Lent.{over}
 use Rattle.trcf.specs.View.{Lent, lent, settingsOf, laid, initialRoom, lentShort}
 use Rattle.trcf.specs.declared.head.Preprocessor.{Preprocessor}
 use Rattle.trcf.proofs.ShingleLaws.{over-part}
 use Rattle.trcf.proofs.RefusalLaws.{room-start, room-normalizing}
 use Rattle.snapshot.specs.Save.{past}
-use Rattle.snapshot.specs.declared.restore.Judged.{Judged}
 use Rattle.snapshot.proofs.Lists.{and-left, and-right}
 use Rattle.snapshot.proofs.SaveLaws.{held-of}
 
@@ -194,46 +193,6 @@ module _ (s : Settings) (c : Counts) (l : List ℕ) where
       pub body-all : length l₂ ≡ 0 → ran (body p i) [] ≡ bodyBy s c l
       unfolding bodyBy
       body-all h = rw (sym e, sym f, ending-end (body p i) l₂ h)
-
--- ---- the body judged, of which nothing was kept
-
-abbrev judged : ℕ → ℕ → Judged
-judged bad n = record { bad = bad; count = n }
-
-module _ (s : Settings) (c : Counts) (l : List ℕ) where
-  pub judged-parts : (m : ℕ) (z : List ℕ) → (m ≡ 0 → ⊥) → told m tt z ≡ unkept (partsOf s c l) → judged m 0 ≡ summed (bodyBy s c l)
-  judged-parts zero z h e = absurd (h refl)
-  judged-parts (suc m) z h e = ap summed (body-parts s c l (suc m) (broke-of (partsOf s c l) (suc m) e))
-
-  module _ (l₁ : List ℕ) (e : ran tt l₁ ≡ unkept (partsOf s c l)) (n : ℕ) (h : n ≡ expected s c l₁) where
-    pub judged-bufs : (m : ℕ) (z : List ℕ) → (m ≡ 0 → ⊥) → told m tt z ≡ unkept (bufs (s .d) n l₁) → judged (5 * s .d + 8 + m) 0 ≡ summed (bodyBy s c l)
-    judged-bufs zero z k f = absurd (k refl)
-    judged-bufs (suc m) z k f =
-        let p = kept-of (partsOf s c l) l₁ e in
-        let b = broke-of (bufs (s .d) n l₁) (suc m) f ∙ ap (λ (x : ℕ). bufs (s .d) x l₁) h in
-        ap summed (body-bufs s c l (p .0) l₁ (p .1) (suc m) b)
-
-    module _ (l₂ : List ℕ) (f : ran tt l₂ ≡ unkept (bufs (s .d) n l₁)) where
-      pub judged-behind : 0 < length l₂ → judged (5 * s .d + 8 + n + 1) 0 ≡ summed (bodyBy s c l)
-      judged-behind k =
-          let p = kept-of (partsOf s c l) l₁ e in
-          let i = kept-of (bufs (s .d) n l₁) l₂ f in
-          let a : 5 * s .d + 8 + n + 1 ≡ 5 * s .d + 8 + (expected s c l₁ + 1) = omega (arith, h) in
-          ap (λ (x : ℕ). judged x 0) a
-          ∙ ap summed (body-behind s c l (p .0) l₁ (p .1) (i .0) l₂ (i .1 ∙ ap (λ (x : ℕ). bufs (s .d) x l₁) h) k)
-
-      pub judged-all : length l₂ ≡ 0 → judged 0 n ≡ summed (bodyBy s c l)
-      judged-all k =
-          let p = kept-of (partsOf s c l) l₁ e in
-          let i = kept-of (bufs (s .d) n l₁) l₂ f in
-          ap (judged 0) (sym (bufs-length (s .d) n l₁ (i .0) l₂ (i .1)))
-          ∙ ap summed (body-all s c l (p .0) l₁ (p .1) (i .0) l₂ (i .1 ∙ ap (λ (x : ℕ). bufs (s .d) x l₁) h) k)
-
-      pub judged-good : length l₂ ≡ 0 → Good (bodyBy s c l)
-      judged-good k =
-          let p = kept-of (partsOf s c l) l₁ e in
-          let i = kept-of (bufs (s .d) n l₁) l₂ f in
-          subst Good (body-all s c l (p .0) l₁ (p .1) (i .0) l₂ (i .1 ∙ ap (λ (x : ℕ). bufs (s .d) x l₁) h) k) tt
 
 -- ---- by the places that are lent
 

@@ -14,7 +14,7 @@ pub(crate) fn wide(x: u8) -> u64
 }
 
 // A place in the text, or nowhere: what was to be read is not there.
-pub(crate) enum Place {
+pub enum Place {
     At(usize),
     Nowhere,
 }

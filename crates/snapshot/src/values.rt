@@ -4,7 +4,7 @@ ghost use mathlib.Core.Bool.{true};
 ghost use Prim.Native.Nat.{_≤_};
 ghost use lib.ListN.{length, replicate};
 ghost use Rattle.refusal.specs.Lent.{over};
-ghost use Rattle.snapshot.specs.Read.{climbs, zeros, allCodes, same};
+ghost use Rattle.snapshot.specs.Read.{climbs, zeros, allCodes};
 
 // Whether no time falls.
 pub fn none_falls(times: &[u64]) -> bool
@@ -64,21 +64,4 @@ pub(crate) fn narrowed(w: &[u64]) -> [u16; 16]
         i += 1;
     }
     a
-}
-
-// Whether two lists of codes are the same, in number and value.
-pub(crate) fn same_codes(a: &[u16], b: &[u16]) -> bool
-    ensures { λ r. ⌜ r ≡ same (now (a .entry)) (now (b .entry)) ⌝ }
-{
-    if a.len() != b.len() {
-        return false;
-    }
-    let mut i = 0;
-    while i < a.len() {
-        if a[i] != b[i] {
-            return false;
-        }
-        i += 1;
-    }
-    true
 }

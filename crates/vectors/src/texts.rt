@@ -17,7 +17,7 @@ use crate::list::length_within;
 use crate::list::read_codes;
 use crate::settings::forget;
 use crate::settings::untouched;
-use snapshot::restore::restore;
+use snapshot_restore::restore::restore;
 use snapshot_save::save::save;
 use trcf::head::Preprocessor;
 use trcf::types::ForestMode;

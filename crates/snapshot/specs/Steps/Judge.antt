@@ -9,6 +9,7 @@ use lib.ListN.{length, take, drop, replicate, getD}
 use lib.Dec.{leb, ltb, eqb}
 use lib.Ieee.{Float, nan, Format, binary32, binary64}
 use Rattle.common.specs.Deviation.{countLimit, outsideUnit}
+use Rattle.refusal.specs.Lent.{over}
 use Rattle.trcf.specs.Types.{isNone, normalizes, modeOfLetter}
 use Rattle.trcf.specs.Settings.{Settings, imputes, allOne}
 use Rattle.trcf.specs.Calls.{finite, seenLimit}
@@ -101,10 +102,24 @@ closing (some r) = held (r .0) (byte 10 (r .1))
 unfoldable pub listLine : {A : Type 0} → (List ℕ → Option A) → ℕ → ℕ → ℕ → ℕ → List ℕ → Option (List A × List ℕ)
 listLine p a b c n l = closing (onto (name a b c l) (fields p n))
 
--- what n fields leave in lent memory of that length
-pub record Filled {A : Type 0} (o : Option (List A × List ℕ)) (t : List ℕ) (old : List A) (r : Place) (new : List A) : Type 0 where
+-- n fields up to the first bad one
+abbrev pub led : {A B : Type 0} → Option A → (A → List B) → List B
+led none g = []
+led (some a) g = g a
+
+abbrev pub firsts : {A : Type 0} → (List ℕ → Option A) → ℕ → List ℕ → List A
+firsts p zero l = []
+firsts p (suc n) l = led (one p l) (λ r. r .0 ∷ firsts p n (r .1))
+
+-- the same of a line: none where it has another name
+abbrev pub lineFirsts : {A : Type 0} → (List ℕ → Option A) → ℕ → ℕ → ℕ → ℕ → List ℕ → List A
+lineFirsts p a b c n l = led (name a b c l) (firsts p n)
+
+-- what n fields leave in lent memory of that length: the fields; of bad ones, those before the first bad one, and behind them what it held before
+pub record Filled {A : Type 0} (o : Option (List A × List ℕ)) (v : List A) (t : List ℕ) (old : List A) (r : Place) (new : List A) : Type 0 where
   pub told : held new (placed r t) ≡ o
   pub kept : length new ≡ length old
+  pub left : new ≡ over old v
 
 -- ---- what is read of a line, where it passes the tests of its kind
 
@@ -191,10 +206,15 @@ bufBy d p l = checked (bufTest p) (bufRaw d l)
 abbrev pub countsRead : ℕ → ℕ → ℕ → Counts
 countsRead a b c = record { valuesSeen = a; internalTimestamp = b; count = c }
 
+-- its numbers up to the first bad one: none where its name or its time is bad
+abbrev pub bufFirsts : ℕ → List ℕ → List Float
+bufFirsts d l = led (name 98 117 102 l) (λ z. led (one asWhole z) (λ t. firsts (asFloat binary32) d (t .1)))
+
 -- what one `buf` line leaves: its numbers in lent memory, and its time
-pub record FilledWith (o : Option (Reading × List ℕ)) (t : List ℕ) (old : List Float) (p : Place) (r : Reading) : Type 0 where
+pub record FilledWith (o : Option (Reading × List ℕ)) (v : List Float) (t : List ℕ) (old : List Float) (p : Place) (r : Reading) : Type 0 where
   pub told : held r (placed p t) ≡ o
   pub kept : length (r .value) ≡ length old
+  pub left : r .value ≡ over old v
 
 -- `dev`
 abbrev pub threeOf : List Float → Three

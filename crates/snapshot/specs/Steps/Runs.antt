@@ -13,8 +13,6 @@ use Rattle.trcf.specs.View.{Lent, settingsOf, headFrom, counting, laid}
 use Rattle.trcf.specs.declared.head.Preprocessor.{Preprocessor}
 use Rattle.snapshot.specs.Read.{asFloat, Counts, Read, taken, bad, mayStand, stateOf, withLists}
 use Rattle.snapshot.specs.Steps.Judge.{listLine, Codes, chnOr, chnBy, setBy, wgtBy, cntBy, timBy, bufBy}
-use Rattle.snapshot.specs.declared.lines.Lines.{Lines}
-use Rattle.snapshot.specs.declared.restore.Judged.{Judged}
 
 -- ---- some lines: a value and what is left of the text, or which of them is the first bad one, from 1
 
@@ -41,9 +39,6 @@ after n (broke m) g = broke m
 abbrev pub told : {A : Type 0} → ℕ → A → List ℕ → Ran A
 told zero a z = ran a z
 told (suc m) a z = broke (suc m)
-
-abbrev pub lined : {A : Type 0} → Lines → A → List ℕ → Ran A
-lined r a t = told (r .bad) a (drop (r .at) t)
 
 -- what is judged and not kept
 abbrev pub unkept : {A : Type 0} → Ran A → Ran (Unit {0})
@@ -245,11 +240,6 @@ pub record Room (h : Preprocessor) (n statistics input point times values initia
   pub in-times : h .«shingle_size» ≤ times
   pub in-values : n * h .transformer .«input_length» ≤ values
   pub in-initial : n ≤ initial
-
--- what a judged text says of these lines: the bad one or 0, and how many initial values there are
-abbrev pub summed : Ran Body → Judged
-summed (ran b z) = record { bad = 0; count = length (b .initial .times) }
-summed (broke m) = record { bad = m; count = 0 }
 
 unfoldable pub readBy : List ℕ → Ran State
 readBy t = after 3 (headBy t) (λ h l. behindLines (h .extra) (mapRan (stateFrom (h .settings) (h .counts)) (bodyBy (h .settings) (h .counts) l)))
