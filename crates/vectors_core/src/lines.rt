@@ -2,7 +2,7 @@
 use libc::STDOUT_FILENO;
 ghost use mathlib.Core.Path.{_≡_};
 ghost use mathlib.Core.Bool.{cond, not};
-ghost use Prim.Native.Nat.{_<_, _≤_};
+ghost use Prim.Native.Nat.{_<_, _≤_, _+_, _-_};
 ghost use lib.ListN.{length};
 ghost use Rattle.vectors_core.specs.Tally.{oneMore};
 
@@ -13,10 +13,10 @@ pub fn room() -> [u8; 524288]
     [0; 524288]
 }
 
-// The place behind the line from `from` on; the end where there is none.
+// The place behind the line from `from` on; the end where there is none. Within the text the difference below is 0, and the place lies behind `from`.
 pub fn line_end(text: &[u8], from: usize) -> usize
     ensures { λ r. ⌜ r ≤ length (now (text .entry)) ⌝ }
-    ensures { λ r. ⌜ (from < length (now (text .entry)) → from < r) ⌝ }
+    ensures { λ r. ⌜ from < r + (from + 1 - length (now (text .entry))) ⌝ }
 {
     if from >= text.len() {
         return text.len();
@@ -94,6 +94,7 @@ pub fn counted(t: Tally, good: bool, letter: u8) -> Tally
     }
 }
 
+// A line of the report: the file, and both numbers.
 pub fn report(kind: &[u8], t: Tally)
     ensures { λ r. ⌜ r ≡ tt ⌝ }
 {

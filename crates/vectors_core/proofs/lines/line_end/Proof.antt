@@ -1,6 +1,5 @@
 -- `vectors_core::lines::line_end` meets its contract. Assumes nothing.
 use Prim.Native.Nat.{_-_, _≤_, _<_}
-use native.Mathlib.Omega.{arith}
 use borrow.Author.Needs.{needs}
 use lib.ListN.{length}
 use Rattle.vectors_core.proofs.lines.line_end.Statement.{statement}
@@ -13,7 +12,7 @@ abbrev μ-loop : tie.MeasureT-loop
 μ-loop text from i₀ i = length text - i
 
 returns : tie.Need-returns Inv-loop μ-loop
-returns c = (omega arith, λ h. omega (arith, h))
+returns c = search needs
 
 loop-holds : tie.Need-loop-holds Inv-loop μ-loop
 loop-holds c = search needs
@@ -28,7 +27,7 @@ add-result : tie.Need-add-result Inv-loop μ-loop
 add-result c = search needs
 
 returns-2 : tie.Need-returns-2 Inv-loop μ-loop
-returns-2 c = (omega arith, λ h. omega arith)
+returns-2 c = search needs
 
 add-i : tie.Need-add-i Inv-loop μ-loop
 add-i c = search needs
@@ -43,7 +42,7 @@ add-result-2 : tie.Need-add-result-2 Inv-loop μ-loop
 add-result-2 c = search needs
 
 returns-3 : tie.Need-returns-3 Inv-loop μ-loop
-returns-3 c = (omega arith, λ h. omega arith)
+returns-3 c = search needs
 
 pub line-end-spec : {M : Type 1} → statement M
 line-end-spec =
