@@ -23,6 +23,9 @@ cascaded-add-f32-requires c κs = search needs
 changed-requires : tie.Need-changed-requires
 changed-requires c κs = search needs
 
+done-requires : tie.Need-done-requires
+done-requires c κs = search needs
+
 same-length : tie.Need-same-length
 same-length c = search needs
 
@@ -45,6 +48,7 @@ cascade-spec =
     slice-aggregate-cascaded-add-f32
     cascaded-add-f32-requires
     changed-requires
+    done-requires
     same-length
     same-length-2
     same-length-3

@@ -26,8 +26,8 @@ read-singles-requires c κs = search needs
 forget-f64-requires : tie.Need-forget-f64-requires
 forget-f64-requires c κs = search needs
 
-method-of-requires : tie.Need-method-of-requires
-method-of-requires c κs = search needs
+method-of-number-requires : tie.Need-method-of-number-requires
+method-of-number-requires c κs = search needs
 
 array-share-prefix-weights : tie.Need-array-share-prefix-weights
 array-share-prefix-weights c = search needs
@@ -67,7 +67,7 @@ new-line-spec =
     slice-aggregate-read-singles
     read-singles-requires
     forget-f64-requires
-    method-of-requires
+    method-of-number-requires
     array-share-prefix-weights
     slice-aggregate-new
     new-requires
