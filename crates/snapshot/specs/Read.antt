@@ -16,7 +16,7 @@ use Rattle.trcf.specs.declared.types.TransformMethod.the-variants.{NONE, WEIGHT
 use Rattle.trcf.specs.declared.types.ForestMode.{ForestMode}
 use Rattle.trcf.specs.declared.types.ForestMode.the-variants.{STANDARD}
 use Rattle.trcf.specs.Types.{isNone, normalizes, modeOfLetter}
-use Rattle.trcf.specs.Settings.{Settings, dimension, waiting, imputes, allOne, wholeMax, codeMax}
+use Rattle.trcf.specs.Settings.{Settings, inputLimit, shingleLimit, startBound, dimension, waiting, imputes, allOne, wholeMax, codeMax}
 use Rattle.trcf.specs.Calls.{finite, seenLimit}
 use Rattle.trcf.specs.Preprocessor.{State, Reading}
 use Rattle.snapshot.specs.Form.{Form}
@@ -156,10 +156,10 @@ setKind =
           not (imputes (s .mode))
           ∷ not (eqb (s .d) 0)
           ∷ not (eqb (s .k) 0)
-          ∷ not (ltb 16 (s .d) || ltb 64 (s .k))
+          ∷ not (ltb inputLimit (s .d) || ltb shingleLimit (s .k))
           ∷ not (outsideUnit (s .decay))
           ∷ not (ltb (s .stop) (s .start))
-          ∷ not (leb 2000 (s .start))
+          ∷ not (leb startBound (s .start))
           ∷ leb (s .stop) wholeMax
           ∷ fits binary64 (s .decay)
           ∷ fits binary32 (s .weightTime)

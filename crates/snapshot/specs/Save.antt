@@ -7,7 +7,7 @@ use lib.ListN.{length}
 use Rattle.refusal.specs.Lent.{over}
 use Rattle.trcf.specs.declared.head.Preprocessor.{Preprocessor}
 use Rattle.trcf.specs.Types.{augments}
-use Rattle.trcf.specs.Settings.{settingsRow}
+use Rattle.trcf.specs.Settings.{inputLimit, shingleLimit, settingsRow}
 use Rattle.trcf.specs.Calls.{finite}
 use Rattle.trcf.specs.Preprocessor.{State, accepted}
 use Rattle.trcf.specs.View.{Lent, settingsOf, view, misfit}
@@ -18,8 +18,8 @@ use Rattle.snapshot.specs.Read.{climbs, zeros}
 -- values, then the lengths of the lent lists
 abbrev pub past : ℕ → ℕ → ℕ → ℕ → ℕ → ℕ → ℕ → ℕ → ℕ → ℕ → Bool
 past d k wide n statistics input point times values initial =
-    ltb 16 d
-    || (ltb 64 k
+    ltb inputLimit d
+    || (ltb shingleLimit k
     || (ltb 1999 n
     || (ltb statistics (3 * (5 * d + 5))
     || (ltb input (d * k)
