@@ -84,17 +84,18 @@ fn normalized_scale(s: &[f64], d: usize, i: usize) -> f32
     numeric::to_f32(mean_at(s, i + 2 * d) + 1.0)
 }
 
-// One channel's reading x, after p.
-fn transform_at(t: WeightedTransformer, s: &[f64], i: usize, x: f32, p: f32) -> f32
+// One channel's reading x, after p. The weight is handed over beside the transformer, so that no list of weights is copied for a channel.
+fn transform_at(t: WeightedTransformer, w: f32, s: &[f64], i: usize, x: f32, p: f32) -> f32
     requires { ⌜ Sound t (length (now s)) ⌝ }
     requires { ⌜ i < t .«input_length» ⌝ }
+    requires { ⌜ w ≡ weightAt (view t (now s)) i ⌝ }
     ensures { λ r. ⌜ r ≡ transformBy (t .«transform_method») (view t (now (s .entry))) i x p ⌝ }
 {
     let d = t.input_length;
     let m = t.transform_method;
     match m {
         TransformMethod::NONE => x,
-        TransformMethod::WEIGHTED => x * t.weights[i],
+        TransformMethod::WEIGHTED => x * w,
         TransformMethod::DIFFERENCE => x - p,
         TransformMethod::SUBTRACT_MA => x - narrow_mean_at(s, i),
         TransformMethod::NORMALIZE => { (x - narrow_mean_at(s, i)) / normalized_scale(s, d, i) }
@@ -118,7 +119,8 @@ pub(crate) fn transform_into(
     let d = t.input_length;
     let mut i = 0;
     while i < d {
-        output[i] = transform_at(t, s, i, input[i], previous[i]);
+        let w = t.weights[i];
+        output[i] = transform_at(t, w, s, i, input[i], previous[i]);
         i += 1;
     }
 }
