@@ -15,7 +15,8 @@ use Rattle.trcf.proofs.transformer.transform_into.Statement.{statement}
 use Rattle.trcf.proofs.transformer.transform_into.Tie as tie
 
 abbrev Inv-loop : tie.InvT-loop
-Inv-loop s input previous output₀ t d i₀ output i = (i ≤ d) × (output ≡ over output₀ (tabulate i (λ k. transformBy (t .«transform_method») (view t s) k (getD input k nan) (getD previous k nan)))) × (length output ≡ length output₀)
+Inv-loop s input previous output₀ t d i₀ output i =
+    (i ≤ d) × (output ≡ over output₀ (tabulate i (λ k. transformBy (t .«transform_method») (view t s) k (getD input k nan) (getD previous k nan)))) × (length output ≡ length output₀)
 
 abbrev μ-loop : tie.MeasureT-loop
 μ-loop s input previous output₀ t d i₀ output i = d - i
