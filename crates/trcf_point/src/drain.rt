@@ -4,12 +4,12 @@ use trcf::head::Changed;
 use trcf::head::Preprocessor;
 use trcf::head::block_of;
 use trcf::head::get_dimension;
+use trcf::head::with_counts;
 use trcf::output::write_transform;
 use trcf::shingle::copy_in;
 use trcf::shingle::shift_time;
 use trcf::shingle::shift_vector;
 use trcf::time::last_time;
-use trcf::transformer::WeightedTransformer;
 use trcf_rows::rows::drain_row;
 use trcf_rows::rows::is_due;
 ghost use mathlib.Core.Path.{_≡_};
@@ -190,13 +190,9 @@ pub(crate) fn drain_due(
         return head;
     }
     let t = head.transformer;
-    let mode = head.forest_mode;
-    let method = t.transform_method;
     let d = t.input_length;
     let k = head.shingle_size;
     let n = head.initial_len;
-    let weights = t.weights;
-    let codes = head.codes;
     let m = get_dimension(head);
     drain_all(
         head,
@@ -207,24 +203,13 @@ pub(crate) fn drain_due(
         &initial_values[..n * d],
         &initial_timestamps[..n],
     );
-    Preprocessor {
-        transformer: WeightedTransformer {
-            transform_method: method,
-            input_length: d,
-            transform_decay: t.transform_decay,
-            weights: weights,
-            count: t.count + n as u64,
-        },
-        forest_mode: mode,
-        shingle_size: k,
-        start_normalization: head.start_normalization,
-        stop_normalization: head.stop_normalization,
-        weight_time: head.weight_time,
-        values_seen: head.values_seen,
-        internal_timestamp: head.internal_timestamp + n,
-        initial_len: 0,
-        codes: codes,
-    }
+    with_counts(
+        head,
+        t.count + n as u64,
+        head.values_seen,
+        head.internal_timestamp + n,
+        0,
+    )
 }
 
 pub fn drain(
