@@ -137,7 +137,8 @@ slice-aggregate-drain-all-5 c =
     let r = f .roomy in
     let m = mul-le-mul (f .in-room) (le-refl (h .transformer .«input_length»)) in
     let b = mul-le-mul (f .few) (c8 .before .before .before .before .before .before .before .pre .0 .bounded .d-few) in
-    simp length-take (omega (arith, r, f .few, f .in-room, c8 .before .before .before .before .before .before .before .pre .0 .bounded, (dimension-known (c .before .before .before .before .before .get-dimension .ensures) (search needs))))
+    let k = dimension-known (c .before .before .before .before .before .get-dimension .ensures) (search needs) in
+    simp length-take (omega (arith, r, f .few, f .in-room, c8 .before .before .before .before .before .before .before .pre .0 .bounded, k))
 
 slice-aggregate-drain-all-6 : tie.Need-slice-aggregate-drain-all-6
 slice-aggregate-drain-all-6 c =
