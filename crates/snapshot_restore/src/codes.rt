@@ -1,4 +1,4 @@
-// Whether the codes of a text are those expected (request 103).
+// Whether the codes of a text are those expected (request 113).
 ghost use mathlib.Core.Path.{_≡_};
 ghost use Rattle.snapshot.specs.Read.{same};
 
