@@ -1,7 +1,7 @@
 // The line of a post_process.
-use crate::held::Held;
-use crate::held::Step;
+use crate::settings::Step;
 use trcf::head::PostProcessed;
+use trcf::head::Preprocessor;
 use trcf_learn::post_process::post_process;
 use vectors_core::expect::OLD_F32;
 use vectors_core::expect::expect_flag;
@@ -118,7 +118,13 @@ fn learned(
     line: &[u8],
     c: Cursor,
     given: Given,
-    held: Held,
+    head: Preprocessor,
+    statistics: &mut [f64],
+    inputs: &mut [f32],
+    point: &mut [f32],
+    times: &mut [u64],
+    initial_values: &mut [f32],
+    initial_timestamps: &mut [u64],
     input: &[f32],
     y: &[f32],
     expected: &[f32],
@@ -126,21 +132,14 @@ fn learned(
     past_out: &mut [f32],
     expected_out: &mut [f32],
 ) -> Step {
-    let head = held.head;
-    let mut statistics = held.statistics;
-    let mut inputs = held.inputs;
-    let mut point = held.point;
-    let mut times = held.times;
-    let mut initial_values = held.initial_values;
-    let mut initial_timestamps = held.initial_timestamps;
     let r = post_process(
         head,
-        &mut statistics,
-        &mut inputs,
-        &mut point,
-        &mut times,
-        &mut initial_values,
-        &mut initial_timestamps,
+        statistics,
+        inputs,
+        point,
+        times,
+        initial_values,
+        initial_timestamps,
         input,
         given.time,
         y,
@@ -156,20 +155,25 @@ fn learned(
     let next = r.head;
     Step {
         good: answered(line, c, r, deviations_out, past_out, expected_out),
-        held: Held {
-            head: next,
-            statistics: statistics,
-            inputs: inputs,
-            point: point,
-            times: times,
-            initial_values: initial_values,
-            initial_timestamps: initial_timestamps,
-        },
+        head: next,
     }
 }
 
 // The three outputs.
-fn outs(line: &[u8], given: Given, held: Held, input: &[f32], y: &[f32], expected: &[f32]) -> Step {
+fn outs(
+    line: &[u8],
+    given: Given,
+    head: Preprocessor,
+    statistics: &mut [f64],
+    inputs: &mut [f32],
+    point: &mut [f32],
+    times: &mut [u64],
+    initial_values: &mut [f32],
+    initial_timestamps: &mut [u64],
+    input: &[f32],
+    y: &[f32],
+    expected: &[f32],
+) -> Step {
     let mut deviations_out = [OLD_F32; 40];
     let mut past_out = [OLD_F32; 40];
     let mut expected_out = [OLD_F32; 40];
@@ -183,7 +187,13 @@ fn outs(line: &[u8], given: Given, held: Held, input: &[f32], y: &[f32], expecte
         line,
         o3.cursor,
         given,
-        held,
+        head,
+        statistics,
+        inputs,
+        point,
+        times,
+        initial_values,
+        initial_timestamps,
         input,
         y,
         expected,
@@ -193,7 +203,16 @@ fn outs(line: &[u8], given: Given, held: Held, input: &[f32], y: &[f32], expecte
     )
 }
 
-pub(crate) fn learn_line(line: &[u8], held: Held) -> Step {
+pub(crate) fn learn_line(
+    line: &[u8],
+    head: Preprocessor,
+    statistics: &mut [f64],
+    inputs: &mut [f32],
+    point: &mut [f32],
+    times: &mut [u64],
+    initial_values: &mut [f32],
+    initial_timestamps: &mut [u64],
+) -> Step {
     let mut input = [0.0f32; 40];
     let mut y = [0.0f32; 1200];
     let mut expected = [0.0f32; 1200];
@@ -201,5 +220,18 @@ pub(crate) fn learn_line(line: &[u8], held: Held) -> Step {
     let n1 = given.input_len;
     let n2 = given.y_len;
     let n3 = given.expected_len;
-    outs(line, given, held, &input[..n1], &y[..n2], &expected[..n3])
+    outs(
+        line,
+        given,
+        head,
+        statistics,
+        inputs,
+        point,
+        times,
+        initial_values,
+        initial_timestamps,
+        &input[..n1],
+        &y[..n2],
+        &expected[..n3],
+    )
 }

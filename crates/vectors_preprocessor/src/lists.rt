@@ -1,5 +1,5 @@
 // Lines of the kind preprocessor whose call changes nothing but its outputs: transform, invert_extrapolation, scale, shift, the getters.
-use crate::held::Held;
+use trcf::head::Preprocessor;
 use trcf::head::StatusAnswer;
 use trcf::types::is_augmented;
 use trcf_forecast::forecast::invert_extrapolation;
@@ -28,26 +28,25 @@ use vectors_core::list::read_singles;
 fn transform(
     line: &[u8],
     c: Cursor,
-    held: Held,
+    head: Preprocessor,
+    statistics: &[f64],
+    inputs: &[f32],
+    point: &[f32],
+    times: &[u64],
+    initial_values: &[f32],
+    initial_timestamps: &[u64],
     input: &[f32],
     time: u64,
     out: &mut [f32],
 ) -> bool {
-    let head = held.head;
-    let statistics = held.statistics;
-    let inputs = held.inputs;
-    let point = held.point;
-    let times = held.times;
-    let initial_values = held.initial_values;
-    let initial_timestamps = held.initial_timestamps;
     let row = trcf_calls::queries::transform(
         head,
-        &statistics,
-        &inputs,
-        &point,
-        &times,
-        &initial_values,
-        &initial_timestamps,
+        statistics,
+        inputs,
+        point,
+        times,
+        initial_values,
+        initial_timestamps,
         input,
         time,
         out,
@@ -55,7 +54,16 @@ fn transform(
     done(line, written(line, c, row, out))
 }
 
-pub(crate) fn transform_line(line: &[u8], held: Held) -> bool {
+pub(crate) fn transform_line(
+    line: &[u8],
+    head: Preprocessor,
+    statistics: &[f64],
+    inputs: &[f32],
+    point: &[f32],
+    times: &[u64],
+    initial_values: &[f32],
+    initial_timestamps: &[u64],
+) -> bool {
     let mut input = [0.0f32; 40];
     let mut out = [OLD_F32; 40];
     let time = read_whole(line, begin(line));
@@ -63,48 +71,69 @@ pub(crate) fn transform_line(line: &[u8], held: Held) -> bool {
     let o = length_within(line, x.cursor, 40);
     let n = x.len;
     let k = o.len;
-    transform(line, o.cursor, held, &input[..n], time.value, &mut out[..k])
+    transform(
+        line,
+        o.cursor,
+        head,
+        statistics,
+        inputs,
+        point,
+        times,
+        initial_values,
+        initial_timestamps,
+        &input[..n],
+        time.value,
+        &mut out[..k],
+    )
 }
 
 // ---- scale, shift, the getters
 
-fn scale(line: &[u8], c: Cursor, held: Held, out: &mut [f32]) -> bool {
-    let head = held.head;
-    let statistics = held.statistics;
-    let inputs = held.inputs;
-    let point = held.point;
-    let times = held.times;
-    let initial_values = held.initial_values;
-    let initial_timestamps = held.initial_timestamps;
+fn scale(
+    line: &[u8],
+    c: Cursor,
+    head: Preprocessor,
+    statistics: &[f64],
+    inputs: &[f32],
+    point: &[f32],
+    times: &[u64],
+    initial_values: &[f32],
+    initial_timestamps: &[u64],
+    out: &mut [f32],
+) -> bool {
     let row = trcf_calls::queries::scale(
         head,
-        &statistics,
-        &inputs,
-        &point,
-        &times,
-        &initial_values,
-        &initial_timestamps,
+        statistics,
+        inputs,
+        point,
+        times,
+        initial_values,
+        initial_timestamps,
         out,
     );
     done(line, written(line, c, row, out))
 }
 
-fn shift(line: &[u8], c: Cursor, held: Held, out: &mut [f32]) -> bool {
-    let head = held.head;
-    let statistics = held.statistics;
-    let inputs = held.inputs;
-    let point = held.point;
-    let times = held.times;
-    let initial_values = held.initial_values;
-    let initial_timestamps = held.initial_timestamps;
+fn shift(
+    line: &[u8],
+    c: Cursor,
+    head: Preprocessor,
+    statistics: &[f64],
+    inputs: &[f32],
+    point: &[f32],
+    times: &[u64],
+    initial_values: &[f32],
+    initial_timestamps: &[u64],
+    out: &mut [f32],
+) -> bool {
     let row = trcf_calls::queries::shift(
         head,
-        &statistics,
-        &inputs,
-        &point,
-        &times,
-        &initial_values,
-        &initial_timestamps,
+        statistics,
+        inputs,
+        point,
+        times,
+        initial_values,
+        initial_timestamps,
         out,
     );
     done(line, written(line, c, row, out))
@@ -121,22 +150,26 @@ fn expect_status(line: &[u8], c: Cursor, s: StatusAnswer) -> Cursor {
     expect_whole(line, c7, s.panel)
 }
 
-fn status(line: &[u8], c: Cursor, held: Held, out: &mut [f32]) -> bool {
-    let head = held.head;
-    let statistics = held.statistics;
-    let inputs = held.inputs;
-    let point = held.point;
-    let times = held.times;
-    let initial_values = held.initial_values;
-    let initial_timestamps = held.initial_timestamps;
+fn status(
+    line: &[u8],
+    c: Cursor,
+    head: Preprocessor,
+    statistics: &[f64],
+    inputs: &[f32],
+    point: &[f32],
+    times: &[u64],
+    initial_values: &[f32],
+    initial_timestamps: &[u64],
+    out: &mut [f32],
+) -> bool {
     let s = trcf_calls::queries::status(
         head,
-        &statistics,
-        &inputs,
-        &point,
-        &times,
-        &initial_values,
-        &initial_timestamps,
+        statistics,
+        inputs,
+        point,
+        times,
+        initial_values,
+        initial_timestamps,
         out,
     );
     let row = s.row;
@@ -148,20 +181,84 @@ fn status(line: &[u8], c: Cursor, held: Held, out: &mut [f32]) -> bool {
     done(line, expect_singles(line, c2, out))
 }
 
-fn output(line: &[u8], c: Cursor, held: Held, out: &mut [f32]) -> bool {
+fn output(
+    line: &[u8],
+    c: Cursor,
+    head: Preprocessor,
+    statistics: &[f64],
+    inputs: &[f32],
+    point: &[f32],
+    times: &[u64],
+    initial_values: &[f32],
+    initial_timestamps: &[u64],
+    out: &mut [f32],
+) -> bool {
     let letter = name(line);
     match letter {
-        b'c' => scale(line, c, held, out),
-        b'h' => shift(line, c, held, out),
-        _ => status(line, c, held, out),
+        b'c' => scale(
+            line,
+            c,
+            head,
+            statistics,
+            inputs,
+            point,
+            times,
+            initial_values,
+            initial_timestamps,
+            out,
+        ),
+        b'h' => shift(
+            line,
+            c,
+            head,
+            statistics,
+            inputs,
+            point,
+            times,
+            initial_values,
+            initial_timestamps,
+            out,
+        ),
+        _ => status(
+            line,
+            c,
+            head,
+            statistics,
+            inputs,
+            point,
+            times,
+            initial_values,
+            initial_timestamps,
+            out,
+        ),
     }
 }
 
-pub(crate) fn output_line(line: &[u8], held: Held) -> bool {
+pub(crate) fn output_line(
+    line: &[u8],
+    head: Preprocessor,
+    statistics: &[f64],
+    inputs: &[f32],
+    point: &[f32],
+    times: &[u64],
+    initial_values: &[f32],
+    initial_timestamps: &[u64],
+) -> bool {
     let mut out = [OLD_F32; 40];
     let o = length_within(line, begin(line), 40);
     let k = o.len;
-    output(line, o.cursor, held, &mut out[..k])
+    output(
+        line,
+        o.cursor,
+        head,
+        statistics,
+        inputs,
+        point,
+        times,
+        initial_values,
+        initial_timestamps,
+        &mut out[..k],
+    )
 }
 
 // ---- invert_extrapolation
@@ -243,7 +340,10 @@ fn turned(
 fn extrapolation(
     line: &[u8],
     c: Cursor,
-    held: Held,
+    head: Preprocessor,
+    statistics: &[f64],
+    inputs: &[f32],
+    previous_timestamps: &[u64],
     values: &mut [f32],
     upper: &mut [f32],
     lower: &mut [f32],
@@ -254,15 +354,11 @@ fn extrapolation(
     times_upper_out: &mut [f64],
     times_lower_out: &mut [f64],
 ) -> bool {
-    let head = held.head;
-    let statistics = held.statistics;
-    let inputs = held.inputs;
-    let times = held.times;
     let row = invert_extrapolation(
         head,
-        &statistics,
-        &inputs,
-        &times,
+        statistics,
+        inputs,
+        previous_timestamps,
         values,
         upper,
         lower,
@@ -296,7 +392,10 @@ fn extrapolation(
 fn outs(
     line: &[u8],
     c: Cursor,
-    held: Held,
+    head: Preprocessor,
+    statistics: &[f64],
+    inputs: &[f32],
+    previous_timestamps: &[u64],
     values: &mut [f32],
     upper: &mut [f32],
     lower: &mut [f32],
@@ -322,7 +421,10 @@ fn outs(
     extrapolation(
         line,
         o6.cursor,
-        held,
+        head,
+        statistics,
+        inputs,
+        previous_timestamps,
         values,
         upper,
         lower,
@@ -335,7 +437,13 @@ fn outs(
     )
 }
 
-pub(crate) fn extrapolation_line(line: &[u8], held: Held) -> bool {
+pub(crate) fn extrapolation_line(
+    line: &[u8],
+    head: Preprocessor,
+    statistics: &[f64],
+    inputs: &[f32],
+    previous_timestamps: &[u64],
+) -> bool {
     let mut values = [0.0f32; 3300];
     let mut upper = [0.0f32; 3300];
     let mut lower = [0.0f32; 3300];
@@ -348,7 +456,10 @@ pub(crate) fn extrapolation_line(line: &[u8], held: Held) -> bool {
     outs(
         line,
         c.cursor,
-        held,
+        head,
+        statistics,
+        inputs,
+        previous_timestamps,
         &mut values[..x],
         &mut upper[..y],
         &mut lower[..z],

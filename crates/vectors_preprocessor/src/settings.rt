@@ -1,13 +1,9 @@
 // The line that begins a list of the kind preprocessor: `build`.
-use crate::held::Held;
-use crate::held::Step;
+use trcf::head::Preprocessor;
 use trcf::head::PreprocessorBuilder;
 use trcf::types::method_of_number;
 use trcf::types::mode_of_letter;
 use trcf_calls::build::build;
-use vectors_core::expect::OLD_F32;
-use vectors_core::expect::OLD_F64;
-use vectors_core::expect::OLD_U64;
 use vectors_core::expect::expect_whole;
 use vectors_core::expect::untouched_f32;
 use vectors_core::expect::untouched_f64;
@@ -20,8 +16,24 @@ use vectors_core::field::read_double;
 use vectors_core::field::read_letter;
 use vectors_core::field::read_single;
 use vectors_core::field::read_whole;
+use vectors_core::forget::forget_f32;
+use vectors_core::forget::forget_f64;
+use vectors_core::forget::forget_u64;
 use vectors_core::list::read_codes;
 use vectors_core::list::read_singles;
+
+// Whether a line agrees, and the head after it.
+pub(crate) struct Step {
+    pub good: bool,
+    pub head: Preprocessor,
+}
+
+pub(crate) fn kept(head: Preprocessor, good: bool) -> Step {
+    Step {
+        good: good,
+        head: head,
+    }
+}
 
 // The settings of a line but for the weights and codes.
 struct Settings {
@@ -56,51 +68,63 @@ fn read_settings(line: &[u8]) -> Settings {
     }
 }
 
-// The four lists that are written hold something else before the call.
+fn forget(statistics: &mut [f64], inputs: &mut [f32], point: &mut [f32], times: &mut [u64]) {
+    forget_f64(statistics);
+    forget_f32(inputs);
+    forget_f32(point);
+    forget_u64(times);
+}
+
+fn untouched(statistics: &[f64], inputs: &[f32], point: &[f32], times: &[u64]) -> bool {
+    untouched_f64(statistics)
+        && untouched_f32(inputs)
+        && untouched_f32(point)
+        && untouched_u64(times)
+}
+
 fn built(
     line: &[u8],
     c: Cursor,
     builder: PreprocessorBuilder,
     weights: &[f32],
     codes: &[u16],
-    held: Held,
+    statistics: &mut [f64],
+    inputs: &mut [f32],
+    point: &mut [f32],
+    times: &mut [u64],
+    initial_values: &[f32],
+    initial_timestamps: &[u64],
 ) -> Step {
-    let mut statistics = [OLD_F64; 260];
-    let mut inputs = [OLD_F32; 1030];
-    let mut point = [OLD_F32; 1100];
-    let mut times = [OLD_U64; 70];
-    let initial_values = held.initial_values;
-    let initial_timestamps = held.initial_timestamps;
     let made = build(
         builder,
         weights,
         codes,
-        &mut statistics,
-        &mut inputs,
-        &mut point,
-        &mut times,
-        &initial_values,
-        &initial_timestamps,
+        statistics,
+        inputs,
+        point,
+        times,
+        initial_values,
+        initial_timestamps,
     );
-    let next = made.head;
-    let lists = untouched_f64(&statistics) && untouched_f32(&inputs) && untouched_f32(&point);
-    let old = made.row == 0 || (lists && untouched_u64(&times));
-    let c1 = expect_whole(line, c, made.row);
+    let row = made.row;
+    let head = made.head;
+    let old = row == 0 || untouched(statistics, inputs, point, times);
+    let c1 = expect_whole(line, c, row);
     Step {
         good: done(line, also(c1, old)),
-        held: Held {
-            head: next,
-            statistics: statistics,
-            inputs: inputs,
-            point: point,
-            times: times,
-            initial_values: initial_values,
-            initial_timestamps: initial_timestamps,
-        },
+        head: head,
     }
 }
 
-pub(crate) fn build_line(line: &[u8], held: Held) -> Step {
+fn read_and_build(
+    line: &[u8],
+    statistics: &mut [f64],
+    inputs: &mut [f32],
+    point: &mut [f32],
+    times: &mut [u64],
+    initial_values: &[f32],
+    initial_timestamps: &[u64],
+) -> Step {
     let mut weights = [0.0f32; 40];
     let mut codes = [0u16; 40];
     let s = read_settings(line);
@@ -108,5 +132,38 @@ pub(crate) fn build_line(line: &[u8], held: Held) -> Step {
     let c = read_codes(line, w.cursor, &mut codes);
     let n = w.len;
     let k = c.len;
-    built(line, c.cursor, s.builder, &weights[..n], &codes[..k], held)
+    built(
+        line,
+        c.cursor,
+        s.builder,
+        &weights[..n],
+        &codes[..k],
+        statistics,
+        inputs,
+        point,
+        times,
+        initial_values,
+        initial_timestamps,
+    )
+}
+
+pub(crate) fn build_line(
+    line: &[u8],
+    statistics: &mut [f64],
+    inputs: &mut [f32],
+    point: &mut [f32],
+    times: &mut [u64],
+    initial_values: &[f32],
+    initial_timestamps: &[u64],
+) -> Step {
+    forget(statistics, inputs, point, times);
+    read_and_build(
+        line,
+        statistics,
+        inputs,
+        point,
+        times,
+        initial_values,
+        initial_timestamps,
+    )
 }

@@ -1,6 +1,5 @@
 // The lines of the kind preprocessor that hold a state: `q`, which the state must be, and `g`, which it becomes.
-use crate::held::Held;
-use crate::held::Step;
+use crate::settings::Step;
 use trcf::head::Preprocessor;
 use vectors_core::expect::expect_all_singles;
 use vectors_core::expect::expect_doubles;
@@ -59,23 +58,25 @@ fn expect_all_initial(line: &[u8], c: Cursor, d: usize, values: &[f32], times: &
 }
 
 // What lies past the lists in use must be as it was before `build`; of the initial values only those that wait count.
-pub(crate) fn state_line(line: &[u8], held: Held) -> bool {
-    let head = held.head;
-    let statistics = held.statistics;
-    let inputs = held.inputs;
-    let point = held.point;
-    let times = held.times;
-    let initial_values = held.initial_values;
-    let initial_timestamps = held.initial_timestamps;
+pub(crate) fn state_line(
+    line: &[u8],
+    head: Preprocessor,
+    statistics: &[f64],
+    inputs: &[f32],
+    point: &[f32],
+    times: &[u64],
+    initial_values: &[f32],
+    initial_timestamps: &[u64],
+) -> bool {
     let t = head.transformer;
     let n = head.initial_len;
     let c1 = expect_whole(line, begin(line), head.values_seen as u64);
     let c2 = expect_whole(line, c1, head.internal_timestamp as u64);
     let c3 = expect_whole(line, c2, t.count);
-    let c4 = expect_doubles(line, c3, &statistics);
-    let c5 = expect_singles(line, c4, &inputs);
-    let c6 = expect_singles(line, c5, &point);
-    let c7 = expect_wholes(line, c6, &times);
+    let c4 = expect_doubles(line, c3, statistics);
+    let c5 = expect_singles(line, c4, inputs);
+    let c6 = expect_singles(line, c5, point);
+    let c7 = expect_wholes(line, c6, times);
     let c8 = expect_whole(line, c7, n as u64);
     if n > initial_timestamps.len() {
         return false;
@@ -84,7 +85,7 @@ pub(crate) fn state_line(line: &[u8], held: Held) -> bool {
         line,
         c8,
         t.input_length,
-        &initial_values,
+        initial_values,
         &initial_timestamps[..n],
     );
     done(line, c9)
@@ -188,42 +189,47 @@ fn read_waiting(line: &[u8], c: Cursor, d: usize, values: &mut [f32], times: &mu
     }
 }
 
-pub(crate) fn set_line(line: &[u8], held: Held) -> Step {
-    let head = held.head;
+fn read_state(
+    line: &[u8],
+    c: Cursor,
+    d: usize,
+    statistics: &mut [f64],
+    inputs: &mut [f32],
+    point: &mut [f32],
+    times: &mut [u64],
+    initial_values: &mut [f32],
+    initial_timestamps: &mut [u64],
+) -> List {
+    let behind = read_lists(line, c, statistics, inputs, point, times);
+    read_waiting(line, behind, d, initial_values, initial_timestamps)
+}
+
+pub(crate) fn set_line(
+    line: &[u8],
+    head: Preprocessor,
+    statistics: &mut [f64],
+    inputs: &mut [f32],
+    point: &mut [f32],
+    times: &mut [u64],
+    initial_values: &mut [f32],
+    initial_timestamps: &mut [u64],
+) -> Step {
     let t = head.transformer;
-    let mut statistics = held.statistics;
-    let mut inputs = held.inputs;
-    let mut point = held.point;
-    let mut times = held.times;
-    let mut initial_values = held.initial_values;
-    let mut initial_timestamps = held.initial_timestamps;
     let counts = read_counts(line);
-    let behind = read_lists(
+    let w = read_state(
         line,
         counts.cursor,
-        &mut statistics,
-        &mut inputs,
-        &mut point,
-        &mut times,
-    );
-    let w = read_waiting(
-        line,
-        behind,
         t.input_length,
-        &mut initial_values,
-        &mut initial_timestamps,
+        statistics,
+        inputs,
+        point,
+        times,
+        initial_values,
+        initial_timestamps,
     );
     let next = with_counts(head, counts, w.len);
     Step {
         good: done(line, w.cursor),
-        held: Held {
-            head: next,
-            statistics: statistics,
-            inputs: inputs,
-            point: point,
-            times: times,
-            initial_values: initial_values,
-            initial_timestamps: initial_timestamps,
-        },
+        head: next,
     }
 }

@@ -1,6 +1,6 @@
 // The line with the length and the checksum of the text that the state is saved as.
-use crate::held::Held;
 use snapshot_save::save::save;
+use trcf::head::Preprocessor;
 use vectors_core::expect::expect_whole;
 use vectors_core::field::begin;
 use vectors_core::field::done;
@@ -25,22 +25,25 @@ fn checksum(text: &[u8]) -> u64 {
     b % 65521 * 65536 + a % 65521
 }
 
-fn saved(line: &[u8], held: Held, out: &mut [u8]) -> bool {
-    let head = held.head;
-    let statistics = held.statistics;
-    let inputs = held.inputs;
-    let point = held.point;
-    let times = held.times;
-    let initial_values = held.initial_values;
-    let initial_timestamps = held.initial_timestamps;
+fn saved(
+    line: &[u8],
+    head: Preprocessor,
+    statistics: &[f64],
+    inputs: &[f32],
+    point: &[f32],
+    times: &[u64],
+    initial_values: &[f32],
+    initial_timestamps: &[u64],
+    out: &mut [u8],
+) -> bool {
     let s = save(
         head,
-        &statistics,
-        &inputs,
-        &point,
-        &times,
-        &initial_values,
-        &initial_timestamps,
+        statistics,
+        inputs,
+        point,
+        times,
+        initial_values,
+        initial_timestamps,
         out,
     );
     let n = s.length;
@@ -52,7 +55,26 @@ fn saved(line: &[u8], held: Held, out: &mut [u8]) -> bool {
     s.row == 0 && done(line, c2)
 }
 
-pub(crate) fn text_line(line: &[u8], held: Held) -> bool {
+pub(crate) fn text_line(
+    line: &[u8],
+    head: Preprocessor,
+    statistics: &[f64],
+    inputs: &[f32],
+    point: &[f32],
+    times: &[u64],
+    initial_values: &[f32],
+    initial_timestamps: &[u64],
+) -> bool {
     let mut out = [0u8; 65536];
-    saved(line, held, &mut out)
+    saved(
+        line,
+        head,
+        statistics,
+        inputs,
+        point,
+        times,
+        initial_values,
+        initial_timestamps,
+        &mut out,
+    )
 }

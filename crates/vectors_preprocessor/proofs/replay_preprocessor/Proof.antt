@@ -20,6 +20,24 @@ array-share-prefix-text c = search needs
 slice-aggregate-replay : tie.Need-slice-aggregate-replay
 slice-aggregate-replay c = simp length-take (omega arith)
 
+slice-aggregate-replay-2 : tie.Need-slice-aggregate-replay-2
+slice-aggregate-replay-2 c = search needs
+
+slice-aggregate-replay-3 : tie.Need-slice-aggregate-replay-3
+slice-aggregate-replay-3 c = search needs
+
+slice-aggregate-replay-4 : tie.Need-slice-aggregate-replay-4
+slice-aggregate-replay-4 c = search needs
+
+slice-aggregate-replay-5 : tie.Need-slice-aggregate-replay-5
+slice-aggregate-replay-5 c = search needs
+
+slice-aggregate-replay-6 : tie.Need-slice-aggregate-replay-6
+slice-aggregate-replay-6 c = search needs
+
+slice-aggregate-replay-7 : tie.Need-slice-aggregate-replay-7
+slice-aggregate-replay-7 c = search needs
+
 replay-requires : tie.Need-replay-requires
 replay-requires c κs = search needs
 
@@ -38,6 +56,12 @@ replay-preprocessor-spec =
     read-file-requires
     array-share-prefix-text
     slice-aggregate-replay
+    slice-aggregate-replay-2
+    slice-aggregate-replay-3
+    slice-aggregate-replay-4
+    slice-aggregate-replay-5
+    slice-aggregate-replay-6
+    slice-aggregate-replay-7
     replay-requires
     report-requires
     returns)

@@ -35,6 +35,18 @@ slice-aggregate-pointed-2 c = simp (length-take, length-replicate) (omega arith)
 pointed-requires : tie.Need-pointed-requires
 pointed-requires c κs = search needs
 
+same-length : tie.Need-same-length
+same-length c = search needs
+
+same-length-2 : tie.Need-same-length-2
+same-length-2 c = search needs
+
+same-length-3 : tie.Need-same-length-3
+same-length-3 c = search needs
+
+same-length-4 : tie.Need-same-length-4
+same-length-4 c = search needs
+
 returns : tie.Need-returns
 returns c = search needs
 
@@ -52,4 +64,8 @@ point-line-spec =
     array-borrow-prefix-out
     slice-aggregate-pointed-2
     pointed-requires
+    same-length
+    same-length-2
+    same-length-3
+    same-length-4
     returns)

@@ -1,4 +1,5 @@
 -- `vectors_preprocessor::preprocessor::replay` is safe and ends. Assumes nothing.
+use mathlib.Core.Path.{_≡_}
 use Prim.Native.Nat.{_-_}
 use borrow.Author.Needs.{needs}
 use lib.ListN.{length}
@@ -6,13 +7,13 @@ use Rattle.vectors_preprocessor.proofs.preprocessor.replay.Statement.{s
 use Rattle.vectors_preprocessor.proofs.preprocessor.replay.Tie as tie
 
 abbrev Inv-loop : tie.InvT-loop
-Inv-loop text held₀ tally₀ at₀ held tally at = Unit {0}
+Inv-loop text statistics₀ inputs₀ point₀ times₀ initial-values₀ initial-timestamps₀ head₀ tally₀ at₀ statistics inputs point times initial-values initial-timestamps head tally at = (length statistics ≡ length statistics₀) × (length inputs ≡ length inputs₀) × (length point ≡ length point₀) × (length times ≡ length times₀) × (length initial-values ≡ length initial-values₀) × (length initial-timestamps ≡ length initial-timestamps₀)
 
 abbrev μ-loop : tie.MeasureT-loop
-μ-loop text held₀ tally₀ at₀ held tally at = length text - at
+μ-loop text statistics₀ inputs₀ point₀ times₀ initial-values₀ initial-timestamps₀ head₀ tally₀ at₀ statistics inputs point times initial-values initial-timestamps head tally at = length text - at
 
-nothing-held-requires : tie.Need-nothing-held-requires Inv-loop μ-loop
-nothing-held-requires c κs = search needs
+no-head-requires : tie.Need-no-head-requires Inv-loop μ-loop
+no-head-requires c κs = search needs
 
 no-lines-requires : tie.Need-no-lines-requires Inv-loop μ-loop
 no-lines-requires c κs = search needs
@@ -20,32 +21,32 @@ no-lines-requires c κs = search needs
 loop-holds : tie.Need-loop-holds Inv-loop μ-loop
 loop-holds c = search needs
 
-line-end-requires : tie.Need-line-end-requires Inv-loop μ-loop
-line-end-requires c κs = search needs
-
-sub-line-step : tie.Need-sub-line-step Inv-loop μ-loop
-sub-line-step c = search needs
-
-part-line-step-start : tie.Need-part-line-step-start Inv-loop μ-loop
-part-line-step-start c = search needs
-
-part-line-step-end : tie.Need-part-line-step-end Inv-loop μ-loop
-part-line-step-end c = search needs
-
-line-step-requires : tie.Need-line-step-requires Inv-loop μ-loop
-line-step-requires c κs = search needs
-
-shared-slice-read-counted : tie.Need-shared-slice-read-counted Inv-loop μ-loop
-shared-slice-read-counted c = search needs
-
-counted-requires : tie.Need-counted-requires Inv-loop μ-loop
-counted-requires c κs = search needs
+turn-at-requires : tie.Need-turn-at-requires Inv-loop μ-loop
+turn-at-requires c κs = search needs
 
 loop-less : tie.Need-loop-less Inv-loop μ-loop
 loop-less c = search needs
 
 loop-again : tie.Need-loop-again Inv-loop μ-loop
 loop-again c = search needs
+
+same-length : tie.Need-same-length Inv-loop μ-loop
+same-length c = search needs
+
+same-length-2 : tie.Need-same-length-2 Inv-loop μ-loop
+same-length-2 c = search needs
+
+same-length-3 : tie.Need-same-length-3 Inv-loop μ-loop
+same-length-3 c = search needs
+
+same-length-4 : tie.Need-same-length-4 Inv-loop μ-loop
+same-length-4 c = search needs
+
+same-length-5 : tie.Need-same-length-5 Inv-loop μ-loop
+same-length-5 c = search needs
+
+same-length-6 : tie.Need-same-length-6 Inv-loop μ-loop
+same-length-6 c = search needs
 
 returns : tie.Need-returns Inv-loop μ-loop
 returns c = search needs
@@ -56,16 +57,16 @@ replay-spec =
     (tie.spec
     Inv-loop
     μ-loop
-    nothing-held-requires
+    no-head-requires
     no-lines-requires
     loop-holds
-    line-end-requires
-    sub-line-step
-    part-line-step-start
-    part-line-step-end
-    line-step-requires
-    shared-slice-read-counted
-    counted-requires
+    turn-at-requires
     loop-less
     loop-again
+    same-length
+    same-length-2
+    same-length-3
+    same-length-4
+    same-length-5
+    same-length-6
     returns)

@@ -1,9 +1,9 @@
--- `vectors_preprocessor::settings::build_line` is safe. Assumes nothing.
+-- `vectors_preprocessor::settings::read_and_build` is safe. Assumes nothing.
 use native.Mathlib.Omega.{arith}
 use lib.ListN.{length-take}
 use borrow.Author.Needs.{needs}
-use Rattle.vectors_preprocessor.proofs.settings.build_line.Statement.{statement}
-use Rattle.vectors_preprocessor.proofs.settings.build_line.Tie as tie
+use Rattle.vectors_preprocessor.proofs.settings.read_and_build.Statement.{statement}
+use Rattle.vectors_preprocessor.proofs.settings.read_and_build.Tie as tie
 
 read-settings-requires : tie.Need-read-settings-requires
 read-settings-requires c κs = search needs
@@ -35,11 +35,23 @@ slice-aggregate-built-2 c = simp length-take (omega arith)
 built-requires : tie.Need-built-requires
 built-requires c κs = search needs
 
+same-length : tie.Need-same-length
+same-length c = search needs
+
+same-length-2 : tie.Need-same-length-2
+same-length-2 c = search needs
+
+same-length-3 : tie.Need-same-length-3
+same-length-3 c = search needs
+
+same-length-4 : tie.Need-same-length-4
+same-length-4 c = search needs
+
 returns : tie.Need-returns
 returns c = search needs
 
-pub build-line-spec : {M : Type 1} → statement M
-build-line-spec =
+pub read-and-build-spec : {M : Type 1} → statement M
+read-and-build-spec =
     tie.close
     (tie.spec
     read-settings-requires
@@ -52,4 +64,8 @@ build-line-spec =
     array-share-prefix-codes
     slice-aggregate-built-2
     built-requires
+    same-length
+    same-length-2
+    same-length-3
+    same-length-4
     returns)
