@@ -29,8 +29,8 @@
  * 17 and 23 belong to no call of this library. "THE ROWS by name", at the end, has each as an enum and as a line of text.
  * They are asked in this order, but for these: 22 stands before all others, and nothing of the head, the parts or a text is looked at before it; a head
  * of fewer than VEERYCOUCH_HEAD_WORDS words is refused by 20 before the rest (by build: after rows 1 to 9; by restore: after 19 and 27), a number that
- * names no mode, no method, no rule or no code by 19 before rows 1 to 9, the counters of a head by 20 behind rows 1 to 9 and before the rest, 27 stands
- * between 19 and 20, 21 and 24 stand behind 10, 28 stands behind 12, and 26 stands before 20.
+ * names no mode, no method, no rule or no code by 19 before rows 1 to 9, the counters of a head by 20 after rows 1 to 9 and before the rest, 27 stands
+ * between 19 and 20, 21 and 24 stand after 10, 28 stands after 12, and 26 stands before 20.
  * That a part is too short is asked last. A row before it that reads the part reads what is there: of too few previous_timestamps the last one counts as
  * the newest time, so that 12 or 28 may not hold and 13, 14, 18 or 20 shows; where initial_timestamps has no element nothing is seen to wait, so that a drain
  * gives 15. save alone asks it before it judges what the parts hold, so that there 20 stands before that 19, and 20 for its output last. Whichever row
@@ -51,7 +51,7 @@
  * is told the ones expected: a text of other channels is refused by 27. A text of before there were codes has none, and is read as one with d zeros.
  *
  * THE PARTS. The caller owns all memory. A part is a pointer and the number of its elements. A part may be longer than it must be: what lies
- * behind keeps its contents. With d, k and start as given to build, w = d in STANDARD and d + 1 in TIME_AUGMENTED and GAP_AUGMENTED:
+ * past that keeps its contents. With d, k and start as given to build, w = d in STANDARD and d + 1 in TIME_AUGMENTED and GAP_AUGMENTED:
  *   head                  VEERYCOUCH_HEAD_WORDS words      statistics            3 * (5 * d + 5) doubles
  *   last_shingled_input   d * k floats                     last_shingled_point   w * k floats (get_dimension)
  *   previous_timestamps   k                                initial_values        start * d floats, under methods 0 to 3 none

@@ -7,8 +7,8 @@ use trcf::head::Preprocessor;
 use trcf::head::no_head;
 ghost use mathlib.Core.Path.{_≡_};
 ghost use Rattle.trcf.specs.View.{lent};
-ghost use Rattle.snapshot.specs.Save.{outcome as saved};
-ghost use Rattle.snapshot.specs.Restore.{outcome as restored};
+ghost use Rattle.snapshot.specs.Save.{saveOutcome as saved};
+ghost use Rattle.snapshot.specs.Restore.{restoreOutcome as restored};
 ghost use Rattle.access.specs.Entries.{saveBy, restoreBy};
 
 pub fn save(

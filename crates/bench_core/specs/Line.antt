@@ -69,9 +69,9 @@ letterOf (a ∷ []) = cond (imputes (modeOfLetter a)) No (Is a)
 letterOf (a ∷ b ∷ r) = No
 
 -- "method (0 NONE, … 5 NORMALIZE_DIFFERENCE)"
-abbrev pub methodOf : Number → Number
-methodOf No = No
-methodOf (Is n) = cond (leb n 5) (Is n) No
+abbrev pub methodField : Number → Number
+methodField No = No
+methodField (Is n) = cond (leb n 5) (Is n) No
 
 -- ---- a line with a field more
 
@@ -116,24 +116,24 @@ withSingle l Bad = otherLine l
 
 abbrev pub fieldAt : Place → Line → List ℕ → Line
 fieldAt AsLetter l c = withWhole l (letterOf c)
-fieldAt AsMethod l c = withWhole l (methodOf (numberOf (asWhole c)))
+fieldAt AsMethod l c = withWhole l (methodField (numberOf (asWhole c)))
 fieldAt AsWhole l c = withWhole l (numberOf (asWhole c))
 fieldAt AsDouble l c = withDouble l (doubleOf (asFloat binary64 c))
 fieldAt AsSingle l c = withSingle l (singleOf (asFloat binary32 c))
 fieldAt Nowhere l c = otherLine l
 
-unfoldable pub fieldOf : Line → List ℕ → Line
-fieldOf l c = fieldAt (placeOf (l .name) (l .fields)) l c
+unfoldable pub lineWithField : Line → List ℕ → Line
+lineWithField l c = fieldAt (placeOf (l .name) (l .fields)) l c
 
 abbrev pub cellBy : Name → Line → List ℕ → Line
 cellBy Unread l c = namedLine l (nameOf c)
-cellBy Set l c = fieldOf l c
-cellBy Weights l c = fieldOf l c
-cellBy Point l c = fieldOf l c
-cellBy Learn l c = fieldOf l c
-cellBy Drain l c = fieldOf l c
-cellBy Save l c = fieldOf l c
-cellBy Other l c = fieldOf l c
+cellBy Set l c = lineWithField l c
+cellBy Weights l c = lineWithField l c
+cellBy Point l c = lineWithField l c
+cellBy Learn l c = lineWithField l c
+cellBy Drain l c = lineWithField l c
+cellBy Save l c = lineWithField l c
+cellBy Other l c = lineWithField l c
 
 -- the line with one cell more: its name, and then its fields
 unfoldable pub cellOf : Line → List ℕ → Line

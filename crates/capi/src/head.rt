@@ -21,8 +21,8 @@ ghost use Rattle.refusal.specs.Lent.{over};
 ghost use Rattle.trcf.specs.Preprocessor.{accepted};
 ghost use Rattle.snapshot.specs.Read.{allCodes};
 ghost use Rattle.capi.specs.Calls.{openRow};
-ghost use Rattle.capi.specs.Head.{single, codesIn, headOf, numbersOf, frontOf, wordsOf, countsOver, formRow};
-ghost use Rattle.capi.specs.Steps.Reading.{Read};
+ghost use Rattle.capi.specs.Head.{single, codesIn, headOf, headNumbers, frontOf, wordsOf, countsOver, formRow};
+ghost use Rattle.capi.specs.Steps.Reading.{HeadRead};
 
 fn weights_of(words: &[u64]) -> [f32; 16]
     requires { ⌜ length (now words) ≡ 16 ⌝ }
@@ -105,7 +105,7 @@ fn closed_row(allowed: bool, words: &[u64]) -> u64
 // Every export of a preprocessor begins here: `allowed` is what the table says of the role. One place refuses, so that the head is written once.
 pub(crate) fn open_head(allowed: bool, words: &[u64]) -> Reading
     ensures { λ r. ⌜ r .row ≡ openRow allowed (now (words .entry)) ⌝ }
-    ensures { λ r. ⌜ (r .row ≡ 0 → Read (now (words .entry)) (r .head)) ⌝ }
+    ensures { λ r. ⌜ (r .row ≡ 0 → HeadRead (now (words .entry)) (r .head)) ⌝ }
 {
     let closed = closed_row(allowed, words);
     if closed != 0 {
@@ -154,7 +154,7 @@ fn write_weights(words: &mut [u64], weights: &[f32])
 // The words before the weights.
 fn write_numbers(words: &mut [u64], head: Preprocessor)
     requires { ⌜ 44 ≤ length (now words) ⌝ }
-    ensures { λ _. ⌜ now (words .exit) ≡ over (now (words .entry)) (numbersOf head) ⌝ }
+    ensures { λ _. ⌜ now (words .exit) ≡ over (now (words .entry)) (headNumbers head) ⌝ }
 {
     let t = head.transformer;
     let mode = head.forest_mode;

@@ -178,7 +178,7 @@ cascadeTo-ordered f base = cascadeTo-made f base Ordered (λ w i r x. putAt-orde
 
 -- ---- the cascade, said of what it leaves: "each later block by the finished values before it"
 
--- a store at index n of the list behind the base is not seen before place (length base) + n
+-- a store at index n of the list after the base is not seen before place (length base) + n
 getD-before : (base l : List Float) (n i : ℕ) (a : Float) → i < length base + n → getD (base ++ set l n a) i nan ≡ getD (base ++ l) i nan
 getD-before [] l n i a h = getD-set-other l n i a nan (λ e. omega arith)
 getD-before (x ∷ base) l n zero a h = refl
@@ -191,7 +191,7 @@ rangeAt-same v i r a b c = λ k.
     range (getD-set-same (v .values) i (r .value) nan a k) (getD-set-same (v .upper) i (r .upper) nan b k)
     (getD-set-same (v .lower) i (r .lower) nan c k)
 
--- with a base, index i is what it was, shifted by what stands in the end at place i behind the base
+-- with a base, index i is what it was, shifted by what stands in the end at place i after the base
 pub cascadeTo-at : (f : Format) (base : List Float) (n : ℕ) (v : Ranges) (i : ℕ) → 0 < length base
     → n ≤ length (v .values) → n ≤ length (v .upper) → n ≤ length (v .lower) → i < n
     → rangeAt (cascadeTo f base n v) i ≡ shifted f (rangeAt v i) (getD (base ++ cascadeTo f base n v .values) i nan)

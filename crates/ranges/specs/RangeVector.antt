@@ -46,32 +46,32 @@ unfoldable pub putAt : Ranges → ℕ → Range → Ranges
 putAt v i r = ranges (set (v .values) i (r .value)) (set (v .upper) i (r .upper)) (set (v .lower) i (r .lower))
 
 -- a call's number, 0 for none, and what the three lists are left as
-pub record Outcome : Type 0 where
+pub record RangeOutcome : Type 0 where
   pub row : ℕ
   pub left : Ranges
 
-abbrev pub outcome : ℕ → Ranges → Outcome
-outcome n v = record { row = n; left = v }
+abbrev pub rangeOutcome : ℕ → Ranges → RangeOutcome
+rangeOutcome n v = record { row = n; left = v }
 
 -- a refusal leaves the lists as they were
-abbrev pub answered : ℕ → Ranges → Ranges → Outcome
-answered zero old new = outcome 0 new
-answered (suc n) old new = outcome (suc n) old
+abbrev pub rangeOutcomeBy : ℕ → Ranges → Ranges → RangeOutcome
+rangeOutcomeBy zero old new = rangeOutcome 0 new
+rangeOutcomeBy (suc n) old new = rangeOutcome (suc n) old
 
 -- row 14: "range `shift`, `scale`: index past any of the three lists"
 unfoldable pub pastAny : Ranges → ℕ → Bool
 pastAny v i = leb (length (v .values)) i || (leb (length (v .upper)) i || leb (length (v .lower)) i)
 
-unfoldable pub shiftOf : Format → Ranges → ℕ → Float → Outcome
-shiftOf f v i x = answered (firstOf ((pastAny v i, 14) ∷ [])) v (putAt v i (shifted f (rangeAt v i) x))
+unfoldable pub rangeShift : Format → Ranges → ℕ → Float → RangeOutcome
+rangeShift f v i x = rangeOutcomeBy (firstOf ((pastAny v i, 14) ∷ [])) v (putAt v i (shifted f (rangeAt v i) x))
 
-unfoldable pub scaleOf : Format → Ranges → ℕ → Float → Outcome
-scaleOf f v i x = answered (firstOf ((pastAny v i, 14) ∷ [])) v (putAt v i (scaled f (rangeAt v i) x))
+unfoldable pub rangeScale : Format → Ranges → ℕ → Float → RangeOutcome
+rangeScale f v i x = rangeOutcomeBy (firstOf ((pastAny v i, 14) ∷ [])) v (putAt v i (scaled f (rangeAt v i) x))
 
 -- ---- the cascade
 
 -- The first n indices, one after the other: "`cascaded_add` shifts the first block by the base, each later block by the finished values before it".
--- Behind the base of b numbers stands the value at index i at place b + i, so place i holds what index i is shifted by.
+-- After the base of b numbers stands the value at index i at place b + i, so place i holds what index i is shifted by.
 unfoldable pub cascadeTo : Format → List Float → ℕ → Ranges → Ranges
 cascadeTo f base zero v = v
 cascadeTo f base (suc n) v =
@@ -85,9 +85,9 @@ unequal v = not (eqb (length (v .values)) (length (v .upper)) && eqb (length (v 
 unfoldable pub unblocked : ℕ → ℕ → Bool
 unblocked b n = eqb b 0 || (eqb n 0 || not (eqb (n % b) 0))
 
-unfoldable pub cascadedAddOf : Format → List Float → Ranges → Outcome
-cascadedAddOf f base v =
-    answered (firstOf ((unequal v || unblocked (length base) (length (v .values)), 16) ∷ [])) v
+unfoldable pub rangeCascadedAdd : Format → List Float → Ranges → RangeOutcome
+rangeCascadedAdd f base v =
+    rangeOutcomeBy (firstOf ((unequal v || unblocked (length base) (length (v .values)), 16) ∷ [])) v
     (cascadeTo f base (length (v .values)) v)
 
 -- ---- making one, in lent lists
@@ -99,13 +99,13 @@ shorter v n = ltb (length (v .values)) n || (ltb (length (v .upper)) n || ltb (l
 abbrev pub overAll : Ranges → Ranges → Ranges
 overAll old new = ranges (over (old .values) (new .values)) (over (old .upper) (new .upper)) (over (old .lower) (new .lower))
 
-unfoldable pub newOf : Format → ℕ → Ranges → Outcome
-newOf f n v =
+unfoldable pub rangeNew : Format → ℕ → Ranges → RangeOutcome
+rangeNew f n v =
     let z = replicate n (ofBits f 0) in
-    answered (firstOf ((shorter v n, 20) ∷ [])) v (overAll v (ranges z z z))
+    rangeOutcomeBy (firstOf ((shorter v n, 20) ∷ [])) v (overAll v (ranges z z z))
 
-unfoldable pub fromOf : List Float → Ranges → Outcome
-fromOf x v = answered (firstOf ((shorter v (length x), 20) ∷ [])) v (overAll v (ranges x x x))
+unfoldable pub rangeFrom : List Float → Ranges → RangeOutcome
+rangeFrom x v = rangeOutcomeBy (firstOf ((shorter v (length x), 20) ∷ [])) v (overAll v (ranges x x x))
 
 -- "`create` demands lower ≤ values ≤ upper everywhere."
 unfoldable pub inOrder : List Float → List Float → List Float → Bool
@@ -115,7 +115,7 @@ inOrder (v ∷ vs) [] ls = true
 inOrder (v ∷ vs) (u ∷ us) [] = true
 
 -- row 17: "bounds crossed or not-a-number"
-unfoldable pub createOf : Ranges → Ranges → Outcome
-createOf x v =
-    answered (firstOf ((unequal x, 16) ∷ (not (inOrder (x .values) (x .upper) (x .lower)), 17) ∷ (shorter v (length (x .values)), 20) ∷ [])) v
+unfoldable pub rangeCreate : Ranges → Ranges → RangeOutcome
+rangeCreate x v =
+    rangeOutcomeBy (firstOf ((unequal x, 16) ∷ (not (inOrder (x .values) (x .upper) (x .lower)), 17) ∷ (shorter v (length (x .values)), 20) ∷ [])) v
     (overAll v x)

@@ -10,8 +10,8 @@ ghost use lib.ListN.{length, getD, replicate};
 ghost use lib.Ieee.{nan, binary32, binary64, lt, le, ofBits};
 ghost use Rattle.refusal.specs.Refusal.{firstOf};
 ghost use Rattle.refusal.specs.Lent.{over};
-ghost use Rattle.ranges.specs.RangeVector.{range, settled, shifted, scaled, ranges, rangeAt, putAt, outcome};
-ghost use Rattle.ranges.specs.RangeVector.{shiftOf, scaleOf, cascadeTo, cascadedAddOf, newOf, fromOf, createOf, inOrder, unequal, unblocked};
+ghost use Rattle.ranges.specs.RangeVector.{range, settled, shifted, scaled, ranges, rangeAt, putAt, rangeOutcome};
+ghost use Rattle.ranges.specs.RangeVector.{rangeShift, rangeScale, cascadeTo, rangeCascadedAdd, rangeNew, rangeFrom, rangeCreate, inOrder, unequal, unblocked};
 
 // ---- which row refuses: the lengths alone say it, so one test serves both widths
 
@@ -173,8 +173,8 @@ pub fn shift_f32(
     i: usize,
     shift: f32,
 ) -> u64
-    ensures { λ r. ⌜ outcome r (ranges (now (values .exit)) (now (upper .exit)) (now (lower .exit)))
-        ≡ shiftOf binary32 (ranges (now (values .entry)) (now (upper .entry)) (now (lower .entry))) i shift ⌝ }
+    ensures { λ r. ⌜ rangeOutcome r (ranges (now (values .exit)) (now (upper .exit)) (now (lower .exit)))
+        ≡ rangeShift binary32 (ranges (now (values .entry)) (now (upper .entry)) (now (lower .entry))) i shift ⌝ }
 {
     let row = index_row(values.len(), upper.len(), lower.len(), i);
     if row != 0 {
@@ -191,8 +191,8 @@ pub fn scale_f32(
     i: usize,
     scale: f32,
 ) -> u64
-    ensures { λ r. ⌜ outcome r (ranges (now (values .exit)) (now (upper .exit)) (now (lower .exit)))
-        ≡ scaleOf binary32 (ranges (now (values .entry)) (now (upper .entry)) (now (lower .entry))) i scale ⌝ }
+    ensures { λ r. ⌜ rangeOutcome r (ranges (now (values .exit)) (now (upper .exit)) (now (lower .exit)))
+        ≡ rangeScale binary32 (ranges (now (values .entry)) (now (upper .entry)) (now (lower .entry))) i scale ⌝ }
 {
     let row = index_row(values.len(), upper.len(), lower.len(), i);
     if row != 0 {
@@ -235,8 +235,8 @@ pub fn cascaded_add_f32(
     lower: &mut [f32],
     base: &[f32],
 ) -> u64
-    ensures { λ r. ⌜ outcome r (ranges (now (values .exit)) (now (upper .exit)) (now (lower .exit)))
-        ≡ cascadedAddOf binary32 (now (base .entry)) (ranges (now (values .entry)) (now (upper .entry)) (now (lower .entry))) ⌝ }
+    ensures { λ r. ⌜ rangeOutcome r (ranges (now (values .exit)) (now (upper .exit)) (now (lower .exit)))
+        ≡ rangeCascadedAdd binary32 (now (base .entry)) (ranges (now (values .entry)) (now (upper .entry)) (now (lower .entry))) ⌝ }
 {
     let row = cascade_row(base.len(), values.len(), upper.len(), lower.len());
     if row != 0 {
@@ -271,8 +271,8 @@ fn copy_f32(dst: &mut [f32], src: &[f32])
 }
 
 pub fn new_f32(values: &mut [f32], upper: &mut [f32], lower: &mut [f32], dimensions: usize) -> u64
-    ensures { λ r. ⌜ outcome r (ranges (now (values .exit)) (now (upper .exit)) (now (lower .exit)))
-        ≡ newOf binary32 dimensions (ranges (now (values .entry)) (now (upper .entry)) (now (lower .entry))) ⌝ }
+    ensures { λ r. ⌜ rangeOutcome r (ranges (now (values .exit)) (now (upper .exit)) (now (lower .exit)))
+        ≡ rangeNew binary32 dimensions (ranges (now (values .entry)) (now (upper .entry)) (now (lower .entry))) ⌝ }
 {
     let row = room_row(values.len(), upper.len(), lower.len(), dimensions);
     if row != 0 {
@@ -285,8 +285,8 @@ pub fn new_f32(values: &mut [f32], upper: &mut [f32], lower: &mut [f32], dimensi
 }
 
 pub fn from_f32(values: &mut [f32], upper: &mut [f32], lower: &mut [f32], x: &[f32]) -> u64
-    ensures { λ r. ⌜ outcome r (ranges (now (values .exit)) (now (upper .exit)) (now (lower .exit)))
-        ≡ fromOf (now (x .entry)) (ranges (now (values .entry)) (now (upper .entry)) (now (lower .entry))) ⌝ }
+    ensures { λ r. ⌜ rangeOutcome r (ranges (now (values .exit)) (now (upper .exit)) (now (lower .exit)))
+        ≡ rangeFrom (now (x .entry)) (ranges (now (values .entry)) (now (upper .entry)) (now (lower .entry))) ⌝ }
 {
     let row = room_row(values.len(), upper.len(), lower.len(), x.len());
     if row != 0 {
@@ -347,8 +347,8 @@ pub fn create_f32(
     u: &[f32],
     l: &[f32],
 ) -> u64
-    ensures { λ r. ⌜ outcome r (ranges (now (values .exit)) (now (upper .exit)) (now (lower .exit)))
-        ≡ createOf (ranges (now (v .entry)) (now (u .entry)) (now (l .entry))) (ranges (now (values .entry)) (now (upper .entry)) (now (lower .entry))) ⌝ }
+    ensures { λ r. ⌜ rangeOutcome r (ranges (now (values .exit)) (now (upper .exit)) (now (lower .exit)))
+        ≡ rangeCreate (ranges (now (v .entry)) (now (u .entry)) (now (l .entry))) (ranges (now (values .entry)) (now (upper .entry)) (now (lower .entry))) ⌝ }
 {
     let row = create_row_f32(v, u, l, values.len(), upper.len(), lower.len());
     if row != 0 {
@@ -448,8 +448,8 @@ pub fn shift_f64(
     i: usize,
     shift: f64,
 ) -> u64
-    ensures { λ r. ⌜ outcome r (ranges (now (values .exit)) (now (upper .exit)) (now (lower .exit)))
-        ≡ shiftOf binary64 (ranges (now (values .entry)) (now (upper .entry)) (now (lower .entry))) i shift ⌝ }
+    ensures { λ r. ⌜ rangeOutcome r (ranges (now (values .exit)) (now (upper .exit)) (now (lower .exit)))
+        ≡ rangeShift binary64 (ranges (now (values .entry)) (now (upper .entry)) (now (lower .entry))) i shift ⌝ }
 {
     let row = index_row(values.len(), upper.len(), lower.len(), i);
     if row != 0 {
@@ -466,8 +466,8 @@ pub fn scale_f64(
     i: usize,
     scale: f64,
 ) -> u64
-    ensures { λ r. ⌜ outcome r (ranges (now (values .exit)) (now (upper .exit)) (now (lower .exit)))
-        ≡ scaleOf binary64 (ranges (now (values .entry)) (now (upper .entry)) (now (lower .entry))) i scale ⌝ }
+    ensures { λ r. ⌜ rangeOutcome r (ranges (now (values .exit)) (now (upper .exit)) (now (lower .exit)))
+        ≡ rangeScale binary64 (ranges (now (values .entry)) (now (upper .entry)) (now (lower .entry))) i scale ⌝ }
 {
     let row = index_row(values.len(), upper.len(), lower.len(), i);
     if row != 0 {
@@ -510,8 +510,8 @@ pub fn cascaded_add_f64(
     lower: &mut [f64],
     base: &[f64],
 ) -> u64
-    ensures { λ r. ⌜ outcome r (ranges (now (values .exit)) (now (upper .exit)) (now (lower .exit)))
-        ≡ cascadedAddOf binary64 (now (base .entry)) (ranges (now (values .entry)) (now (upper .entry)) (now (lower .entry))) ⌝ }
+    ensures { λ r. ⌜ rangeOutcome r (ranges (now (values .exit)) (now (upper .exit)) (now (lower .exit)))
+        ≡ rangeCascadedAdd binary64 (now (base .entry)) (ranges (now (values .entry)) (now (upper .entry)) (now (lower .entry))) ⌝ }
 {
     let row = cascade_row(base.len(), values.len(), upper.len(), lower.len());
     if row != 0 {
@@ -546,8 +546,8 @@ fn copy_f64(dst: &mut [f64], src: &[f64])
 }
 
 pub fn new_f64(values: &mut [f64], upper: &mut [f64], lower: &mut [f64], dimensions: usize) -> u64
-    ensures { λ r. ⌜ outcome r (ranges (now (values .exit)) (now (upper .exit)) (now (lower .exit)))
-        ≡ newOf binary64 dimensions (ranges (now (values .entry)) (now (upper .entry)) (now (lower .entry))) ⌝ }
+    ensures { λ r. ⌜ rangeOutcome r (ranges (now (values .exit)) (now (upper .exit)) (now (lower .exit)))
+        ≡ rangeNew binary64 dimensions (ranges (now (values .entry)) (now (upper .entry)) (now (lower .entry))) ⌝ }
 {
     let row = room_row(values.len(), upper.len(), lower.len(), dimensions);
     if row != 0 {
@@ -560,8 +560,8 @@ pub fn new_f64(values: &mut [f64], upper: &mut [f64], lower: &mut [f64], dimensi
 }
 
 pub fn from_f64(values: &mut [f64], upper: &mut [f64], lower: &mut [f64], x: &[f64]) -> u64
-    ensures { λ r. ⌜ outcome r (ranges (now (values .exit)) (now (upper .exit)) (now (lower .exit)))
-        ≡ fromOf (now (x .entry)) (ranges (now (values .entry)) (now (upper .entry)) (now (lower .entry))) ⌝ }
+    ensures { λ r. ⌜ rangeOutcome r (ranges (now (values .exit)) (now (upper .exit)) (now (lower .exit)))
+        ≡ rangeFrom (now (x .entry)) (ranges (now (values .entry)) (now (upper .entry)) (now (lower .entry))) ⌝ }
 {
     let row = room_row(values.len(), upper.len(), lower.len(), x.len());
     if row != 0 {
@@ -622,8 +622,8 @@ pub fn create_f64(
     u: &[f64],
     l: &[f64],
 ) -> u64
-    ensures { λ r. ⌜ outcome r (ranges (now (values .exit)) (now (upper .exit)) (now (lower .exit)))
-        ≡ createOf (ranges (now (v .entry)) (now (u .entry)) (now (l .entry))) (ranges (now (values .entry)) (now (upper .entry)) (now (lower .entry))) ⌝ }
+    ensures { λ r. ⌜ rangeOutcome r (ranges (now (values .exit)) (now (upper .exit)) (now (lower .exit)))
+        ≡ rangeCreate (ranges (now (v .entry)) (now (u .entry)) (now (l .entry))) (ranges (now (values .entry)) (now (upper .entry)) (now (lower .entry))) ⌝ }
 {
     let row = create_row_f64(v, u, l, values.len(), upper.len(), lower.len());
     if row != 0 {

@@ -37,7 +37,7 @@ use Rattle.restart.specs.Statement.{Restart}
 use Rattle.restart.specs.Held.{builtOn, heldRun, heldAnswers, textIn, restoredOn, HeldRestart}
 use Rattle.restart.proofs.Restart.{demand-3}
 use Rattle.restart.proofs.Held.{held-demand-3}
-use Rattle.restart_program.specs.Program.{returns, ran, answerRead, ProgramRestart}
+use Rattle.restart_program.specs.Program.{returns, leftByAll, answerRead, ProgramRestart}
 use Rattle.restart_program.proofs.Program.{program-demand-3}
 use Rattle.restart_program.proofs.Instances.{single, one, two, four, six, learnAt, all-take, all-drop, dirty}
 
@@ -75,11 +75,11 @@ unfolding Settings.block Settings.dimension Settings.waiting Settings.allOne Set
 settings = tt
 
 rows : Unit {0}
-unfolding Calls.finite Calls.due Calls.newest Calls.behind Calls.wrongLength Calls.outside Calls.drainFull Calls.learnFull Calls.waitingShort Calls.learnShort Calls.table Calls.rows
+unfolding Calls.finite Calls.due Calls.newest Calls.beforeNewest Calls.wrongLength Calls.outside Calls.drainFull Calls.learnFull Calls.waitingShort Calls.learnShort Calls.table Calls.rows
 rows = tt
 
 turns : Unit {0}
-unfolding Calls.lookahead Calls.unturnable Calls.turnShort
+unfolding Calls.lookahead Calls.forecastUnfit Calls.forecastOutputShort
 turns = tt
 
 clocks : Unit {0}
@@ -91,7 +91,7 @@ unfolding floats roots deviations bands lists transforms inverses settings rows 
 computing = tt
 
 counts : Unit {0}
-unfolding History.seenOf History.internalOf History.bufferOf History.shingled History.inputsOf History.timestampsOf History.newestOf History.countOf History.statisticsOf Statistics.statisticsFrom
+unfolding History.seenOf History.internalOf History.bufferOf History.shingled History.inputsOf History.timestampsOf History.newestReading History.countOf History.statisticsOf Statistics.statisticsFrom
 counts = tt
 
 sheet : Unit {0}
@@ -119,7 +119,7 @@ unfolding Preprocessor.timeFed Preprocessor.feed Preprocessor.drainOne Preproces
 drains = tt
 
 learns : Unit {0}
-unfolding Preprocessor.held Preprocessor.learned Preprocessor.learnedWith Preprocessor.learnedNothing Preprocessor.heldAnswer Preprocessor.learnedAnswer Preprocessor.learnAnswer
+unfolding Preprocessor.buffered Preprocessor.learned Preprocessor.learnedWith Preprocessor.learnedNothing Preprocessor.bufferedAnswer Preprocessor.learnedAnswer Preprocessor.learnAnswer
 learns = tt
 
 anomalies : Unit {0}
@@ -273,7 +273,7 @@ every-rows = refl
 held-rows : map rowIn (heldAnswers (restoredOn (textIn (heldRun (builtOn times dirty) (take 4 every)) (replicate 1000 10)) (7 ∷ []) other) (drop 4 every)) ≡ rowsOfRest
 held-rows = ap (map rowIn) (every-held .ruledAnswers) ∙ every-rows
 
-program-rows : map rowIn (map answerRead (returns (restoredOn (textIn (ran (builtOn times dirty) (take 4 every)) (replicate 1000 10)) (7 ∷ []) other) (drop 4 every))) ≡ rowsOfRest
+program-rows : map rowIn (map answerRead (returns (restoredOn (textIn (leftByAll (builtOn times dirty) (take 4 every)) (replicate 1000 10)) (7 ∷ []) other) (drop 4 every))) ≡ rowsOfRest
 program-rows = ap (map rowIn) (every-program .ruledAnswers) ∙ every-rows
 
 -- the anomaly that a learn tells, and what it writes
@@ -302,5 +302,5 @@ every-odd : oddities (historyAnswers times (entries times (take 4 every)) (drop 
 unfolding answering
 every-odd = refl
 
-program-odd : oddities (map answerRead (returns (restoredOn (textIn (ran (builtOn times dirty) (take 4 every)) (replicate 1000 10)) (7 ∷ []) other) (drop 4 every))) ≡ told-odd
+program-odd : oddities (map answerRead (returns (restoredOn (textIn (leftByAll (builtOn times dirty) (take 4 every)) (replicate 1000 10)) (7 ∷ []) other) (drop 4 every))) ≡ told-odd
 program-odd = ap oddities (every-program .ruledAnswers) ∙ every-odd

@@ -171,7 +171,7 @@ pub(crate) fn fill_singles(out: &mut [f32], x: f32) {
     }
 }
 
-// Whether the next words are the first `n` of the list, and whether all behind them are `x`. Every word is read.
+// Whether the next words are the first `n` of the list, and whether all after them are `x`. Every word is read.
 pub(crate) fn next_are_wholes(fd: i32, list: &[u64], n: usize, x: u64) -> bool {
     let mut same = true;
     let mut i = 0usize;

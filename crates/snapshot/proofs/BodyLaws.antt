@@ -1,4 +1,4 @@
--- The lines behind `cnt`: how many `buf` lines are to come, where the text breaks off, and what it gives.
+-- The lines after `cnt`: how many `buf` lines are to come, where the text breaks off, and what it gives.
 use Prim.Native.Nat.{ℕ, zero, suc, _+_, _*_, _≤_, _<_}
 use native.Mathlib.Omega.{arith}
 use native.Mathlib.Nat.{mul-le-mul-right}
@@ -17,9 +17,9 @@ use Rattle.trcf.specs.Settings.{Settings, waiting, block, dimension}
 use Rattle.trcf.specs.Preprocessor.{Reading}
 use Rattle.snapshot.specs.Steps.Judge.{bufBy}
 use Rattle.snapshot.specs.Read.{Counts, mayStand}
-use Rattle.snapshot.specs.Steps.Runs.{Ran, ran, broke, told, after, behindLines, mapRan, unkept, front, many, bufs, Initial, initialOf, timesOf, timeOf, Parts, expected, ending, Body, body, partsBy, partsOf, bodyBy, filledBy, Fills, HeadFew, Room, stateFrom}
+use Rattle.snapshot.specs.Steps.Runs.{Ran, ran, broke, ranBy, thenLines, afterLines, mapRan, unkept, front, many, bufs, Initial, initialOf, readingTimes, timeOf, Parts, expected, ending, Body, body, partsBy, partsOf, bodyBy, filledBy, Fills, HeadFew, Room, stateFrom}
 use Rattle.refusal.specs.Lent.{over}
-use Rattle.trcf.specs.View.{Lent, lent, settingsOf, laid, initialRoom, lentShort}
+use Rattle.trcf.specs.View.{Lent, lent, settingsOf, writtenOver, initialRoom, lentShort}
 use Rattle.trcf.specs.declared.head.Preprocessor.{Preprocessor}
 use Rattle.trcf.proofs.ShingleLaws.{over-part}
 use Rattle.trcf.proofs.RefusalLaws.{room-start, room-normalizing}
@@ -70,7 +70,7 @@ module _ {A : Type 0} (p : ℕ → List ℕ → Option (A × List ℕ)) (f : A �
       values (broke m) = []
 
       by-rest : (a : A) (r : Ran (List A)) (y : List ℕ) → ((v : List A) (x : List ℕ) → many p f (f a) n y ≡ ran v x → length v ≡ n) → many p f (f a) n y ≡ r
-          → behindLines 1 (front a r) ≡ ran u z → length u ≡ suc n
+          → afterLines 1 (front a r) ≡ ran u z → length u ≡ suc n
       by-rest a (ran v x) y g h k = ap (λ (r : Ran (List A)). length (values r)) (sym k) ∙ ap suc (g v x h)
       by-rest a (broke m) y g h k = absurd (ran-not-broke u z (1 + m) (sym k))
 
@@ -78,7 +78,7 @@ module _ {A : Type 0} (p : ℕ → List ℕ → Option (A × List ℕ)) (f : A �
       by-line g none h = absurd (ran-not-broke u z 1 (sym (rw h at e)))
       by-line g (some r) h = by-rest (r .0) (many p f (f (r .0)) n (r .1)) (r .1) (g (r .0) (r .1)) refl (rw h at e)
 
-times-length : (u : List Reading) → length (timesOf u) ≡ length u
+times-length : (u : List Reading) → length (readingTimes u) ≡ length u
 times-length [] = refl
 times-length (r ∷ u) = ap suc (times-length u)
 
@@ -196,7 +196,7 @@ module _ (s : Settings) (c : Counts) (l : List ℕ) where
 
 -- ---- by the places that are lent
 
-pub unkept-of : {A : Type 0} (m : ℕ) (a : A) (z : List ℕ) (q : Ran A) → told m a z ≡ q → told m tt z ≡ unkept q
+pub unkept-of : {A : Type 0} (m : ℕ) (a : A) (z : List ℕ) (q : Ran A) → ranBy m a z ≡ q → ranBy m tt z ≡ unkept q
 unkept-of zero a z q e = ap unkept e
 unkept-of (suc m) a z q e = ap unkept e
 
@@ -224,7 +224,7 @@ unfolding held
 ran-value a b y z e = ap (held a) e
 
 module _ (s : Settings) (c : Counts) (n : ℕ) (l : List ℕ) (p : Parts) (i : Initial) where
-  pub fills-of : (m k : ℕ) (y z : List ℕ) → told m p y ≡ partsOf s c l → told k i z ≡ bufs (s .d) n y → Fills (filledBy s c n l) (body p i)
+  pub fills-of : (m k : ℕ) (y z : List ℕ) → ranBy m p y ≡ partsOf s c l → ranBy k i z ≡ bufs (s .d) n y → Fills (filledBy s c n l) (body p i)
   unfolding filledBy
   fills-of (suc m) k y z e f b x h = absurd (ran-not-broke b x (suc m) (rw (sym e) at h))
   fills-of zero (suc k) y z e f b x h = absurd (ran-not-broke b x (5 * s .d + 8 + suc k) (rw (sym e, sym f) at h))
@@ -237,8 +237,8 @@ over-back l v n h e = over-part l v n (e ∙ length-take-le n l h)
 pub laid-is : (s : Settings) (c : Counts) (b : Body) (l : Lent) (st x y : List Float) (ts : List ℕ) (v : List Float) (us : List ℕ)
     → st ≡ over (l .statistics) (b .parts .statistics) → x ≡ over (l .lastShingledInput) (b .parts .input) → y ≡ over (l .lastShingledPoint) (b .parts .point)
     → ts ≡ over (l .previousTimestamps) (b .parts .times) → v ≡ over (l .initialValues) (b .initial .values) → us ≡ over (l .initialTimestamps) (b .initial .times)
-    → lent st x y ts v us ≡ laid (stateFrom s c b) l
-unfolding laid
+    → lent st x y ts v us ≡ writtenOver (stateFrom s c b) l
+unfolding writtenOver
 laid-is s c b l st x y ts v us e₁ e₂ e₃ e₄ e₅ e₆ = λ i. lent (e₁ i) (e₂ i) (e₃ i) (e₄ i) (e₅ i) (e₆ i)
 
 -- ---- lent lists that are long enough

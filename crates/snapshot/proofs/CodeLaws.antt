@@ -1,4 +1,4 @@
--- Line 3 as the code reads it: the codes in an array, zeros behind them.
+-- Line 3 as the code reads it: the codes in an array, zeros after them.
 use Prim.Native.Nat.{ℕ, zero, suc, _+_, _≤_, _<_}
 use native.Mathlib.Omega.{arith}
 use mathlib.Core.Path.{_≡_, refl, sym, ap, _∙_, subst}

@@ -9,11 +9,11 @@ use Rattle.trcf.specs.Settings.{block, dimension, waiting, allOne}
 use Rattle.trcf.specs.Calls.{finite}
 use Rattle.trcf.specs.Preprocessor.{State, fresh}
 use Rattle.snapshot.specs.Text.{render, linesBy, bodyLines, setLine, singles, chnLine, cntLine, devLine, timLine, bufLine, whole, float}
-use Rattle.snapshot.specs.Read.{carries, kept, Read, taken, bad, read, judge, floatFrom, mayStand, asWhole}
+use Rattle.snapshot.specs.Read.{carries, withChannelLine, Read, taken, bad, read, judge, floatFrom, mayStand, asWhole}
 use lib.ListN.{replicate}
 use Rattle.refusal.specs.Lent.{over}
-use Rattle.trcf.specs.View.{Lent, lent, lentShort, laid, noHead}
-use Rattle.snapshot.specs.Restore.{outcome, restored, restoreOf}
+use Rattle.trcf.specs.View.{Lent, lent, lentShort, writtenOver, noHead}
+use Rattle.snapshot.specs.Restore.{restoreOutcome, restored, restoreOf}
 use Rattle.snapshot.specs.Ascii.{ascii}
 use Rattle.snapshot.proofs.ReadText.{sample}
 
@@ -237,8 +237,8 @@ coded-read : read (text setL wgtL (chnL ++ cntL) ends []) ≡ taken (fresh sampl
 unfolding read·all
 coded-read = refl
 
-bare-kept : kept 1 (text setL wgtL cntL ends []) ≡ text setL wgtL (chnL ++ cntL) ends []
-unfolding read·all kept carries
+bare-kept : withChannelLine 1 (text setL wgtL cntL ends []) ≡ text setL wgtL (chnL ++ cntL) ends []
+unfolding read·all withChannelLine carries
 bare-kept = refl
 
 -- one code too many, and one past 16 bits: line 3; codes twice: line 4
@@ -411,12 +411,12 @@ no-tim : read (text setL wgtL cntL (inpL ++ pntL) []) ≡ bad 16
 unfolding read·all
 no-tim = refl
 
--- bytes behind
+-- bytes after it
 behind : read (text setL wgtL cntL ends restL) ≡ bad 17
 unfolding read·all
 behind = refl
 
--- an empty line behind
+-- an empty line after it
 behind-lf : read (text setL wgtL cntL ends lfL) ≡ bad 17
 unfolding read·all
 behind-lf = refl
@@ -475,7 +475,7 @@ bare = lent (replicate 30 nan) (nan ∷ []) (nan ∷ []) (7 ∷ []) [] []
 -- row 8 from below: start 501 and 1,999, and no memory for readings that wait
 start-below : (restoreOf (text start501L wgtL cntL ends []) (0 ∷ []) bare .row ≡ 0) × (restoreOf (text start501L wgtL cntL ends []) (0 ∷ []) bare .head .«start_normalization» ≡ 501)
     × (restoreOf (text start1999L wgtL cntL ends []) (0 ∷ []) bare .row ≡ 0) × (restoreOf (text start1999L wgtL cntL ends []) (0 ∷ []) bare .head .«start_normalization» ≡ 1999)
-unfolding read·all restoreOf restored lentShort laid over
+unfolding read·all restoreOf restored lentShort writtenOver over
 start-below = (refl, refl, refl, refl)
 
 start-large : read (text late8L wgtL cntL ends []) ≡ bad 1
@@ -539,21 +539,22 @@ pub restored-waiting : (restoreOf waitingText (0 ∷ []) (memory (4 ∷ 6 ∷ []
     × (restoreOf waitingText (0 ∷ []) (memory (4 ∷ 6 ∷ [])) .head .«initial_len» ≡ 1)
     × (restoreOf waitingText (0 ∷ []) (memory (4 ∷ 6 ∷ [])) .lent .initialTimestamps ≡ 5 ∷ 6 ∷ [])
     × (restoreOf waitingText (0 ∷ []) (memory (4 ∷ 6 ∷ [])) .lent .previousTimestamps ≡ 0 ∷ 8 ∷ [])
-unfolding read·all restoreOf restored lentShort laid over
+unfolding read·all restoreOf restored lentShort writtenOver over
 restored-waiting = (refl, refl, refl, refl)
 
 -- row 20: start initial times do not fit
-pub restored-short : restoreOf waitingText (0 ∷ []) (memory (4 ∷ [])) ≡ outcome 20 0 noHead (memory (4 ∷ []))
+pub restored-short : restoreOf waitingText (0 ∷ []) (memory (4 ∷ [])) ≡ restoreOutcome 20 0 noHead (memory (4 ∷ []))
 unfolding read·all restoreOf restored lentShort
 restored-short = refl
 
 -- row 19: the `buf` line is missing, the line after the last; and a bad third line
-pub restored-bad : (restoreOf (set4L ++ (wgtL ++ (cnt1L ++ (ten devL ++ (inpL ++ (pntL ++ timL)))))) (0 ∷ []) (memory []) ≡ outcome 19 17 noHead (memory []))
-    × (restoreOf (set4L ++ (wgtL ++ inpL)) (0 ∷ []) (memory []) ≡ outcome 19 3 noHead (memory []))
+pub restored-bad : (restoreOf (set4L ++ (wgtL ++ (cnt1L ++ (ten devL ++ (inpL ++ (pntL ++ timL)))))) (0 ∷ []) (memory []) ≡ restoreOutcome 19 17 noHead (memory []))
+    × (restoreOf (set4L ++ (wgtL ++ inpL)) (0 ∷ []) (memory []) ≡ restoreOutcome 19 3 noHead (memory []))
 unfolding read·all restoreOf restored
 restored-bad = (refl, refl)
 
 -- row 27, before 20: another code, and codes in another number
-pub restored-other : (restoreOf waitingText (1 ∷ []) (memory (4 ∷ [])) ≡ outcome 27 0 noHead (memory (4 ∷ []))) × (restoreOf waitingText [] (memory (4 ∷ [])) ≡ outcome 27 0 noHead (memory (4 ∷ [])))
+pub restored-other : (restoreOf waitingText (1 ∷ []) (memory (4 ∷ [])) ≡ restoreOutcome 27 0 noHead (memory (4 ∷ []))) ×
+    (restoreOf waitingText [] (memory (4 ∷ [])) ≡ restoreOutcome 27 0 noHead (memory (4 ∷ [])))
 unfolding read·all restoreOf restored
 restored-other = (refl, refl)

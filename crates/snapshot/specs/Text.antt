@@ -37,7 +37,7 @@ width binary64 = 16
 unfoldable pub float : Format → Float → List ℕ
 float f x = hex (width f) (toBits f x)
 
--- ---- lines: a name, and the fields behind it
+-- ---- lines: a name, and the fields after it
 
 pub record Line : Type 0 where
   pub name : List ℕ
@@ -115,13 +115,13 @@ linesBy true w = setLine (w .settings) ∷ singles wgt (w .settings .weights) �
 linesBy false w = setLine (w .settings) ∷ singles wgt (w .settings .weights) ∷ bodyLines w
 
 -- "Lines end in LF, fields are parted by tabs."
-abbrev pub behind : List (List ℕ) → List ℕ
-behind [] = 10 ∷ []
-behind (f ∷ fs) = 9 ∷ (f ++ behind fs)
+abbrev pub tabbedFields : List (List ℕ) → List ℕ
+tabbedFields [] = 10 ∷ []
+tabbedFields (f ∷ fs) = 9 ∷ (f ++ tabbedFields fs)
 
 abbrev pub bytesOf : List Line → List ℕ
 bytesOf [] = []
-bytesOf (l ∷ ls) = l .name ++ behind (l .fields) ++ bytesOf ls
+bytesOf (l ∷ ls) = l .name ++ tabbedFields (l .fields) ++ bytesOf ls
 
 -- the text of a state, as it is put away
 unfoldable pub render : State → List ℕ

@@ -12,9 +12,9 @@ ghost use mathlib.Core.Path.{_≡_};
 ghost use Prim.Native.Nat.{_≤_};
 ghost use lib.ListN.{drop};
 ghost use Rattle.snapshot.specs.Steps.Judge.{countsRead, settingsTold};
-ghost use Rattle.snapshot.specs.Steps.Runs.{told, mapRan, headedOf, headWith, headBy, HeadFew};
+ghost use Rattle.snapshot.specs.Steps.Runs.{ranBy, mapRan, headedOf, headWith, headBy, HeadFew};
 
-// The first bad line of the first three or four or 0, how many of them hold codes, the place behind them, and the head that they give,
+// The first bad line of the first three or four or 0, how many of them hold codes, the place after them, and the head that they give,
 // with no initial values yet.
 pub struct Header {
     pub bad: usize,
@@ -70,7 +70,7 @@ fn no_header(bad: usize) -> Header
 
 // The lines of the settings, the weights, the codes and the counters.
 pub fn head_lines(text: &[u8]) -> Header
-    ensures { λ r. ⌜ told (r .bad) (r .head, r .extra) (drop (r .at) (now (text .entry))) ≡ mapRan headedOf (headBy (now (text .entry))) ⌝ }
+    ensures { λ r. ⌜ ranBy (r .bad) (r .head, r .extra) (drop (r .at) (now (text .entry))) ≡ mapRan headedOf (headBy (now (text .entry))) ⌝ }
     ensures { λ r. ⌜ (r .bad ≡ 0 → HeadFew (r .head)) ⌝ }
     ensures { λ r. ⌜ r .extra ≤ 1 ⌝ }
 {

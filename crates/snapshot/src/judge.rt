@@ -11,7 +11,7 @@ ghost use mathlib.Core.Path.{_≡_};
 ghost use lib.ListN.{length, drop};
 ghost use lib.Ieee.{binary32, binary64};
 ghost use Rattle.snapshot.specs.Read.{asWhole, asFloat};
-ghost use Rattle.snapshot.specs.Steps.Judge.{byte, name, nextOf, fields, firsts, listLine, lineFirsts, Filled};
+ghost use Rattle.snapshot.specs.Steps.Judge.{byte, name, nextOf, fields, goodFields, listLine, lineFirsts, Filled};
 
 // The same by a field reader, which holds the text and the place: what reads a field calls this.
 pub(crate) fn next_field(text: &[u8], at: usize, kind: u64) -> Next
@@ -22,7 +22,7 @@ pub(crate) fn next_field(text: &[u8], at: usize, kind: u64) -> Next
 
 // As many f32 fields as `out` is long.
 pub(crate) fn singles(text: &[u8], at: usize, out: &mut [f32]) -> Place
-    ensures { λ r. ⌜ Filled (fields (asFloat binary32) (length (now (out .entry))) (drop at (now (text .entry)))) (firsts (asFloat binary32) (length (now (out .entry))) (drop at (now (text .entry)))) (now (text .entry)) (now (out .entry)) r (now (out .exit)) ⌝ }
+    ensures { λ r. ⌜ Filled (fields (asFloat binary32) (length (now (out .entry))) (drop at (now (text .entry)))) (goodFields (asFloat binary32) (length (now (out .entry))) (drop at (now (text .entry)))) (now (text .entry)) (now (out .entry)) r (now (out .exit)) ⌝ }
 {
     let mut p = at;
     let mut i = 0;
@@ -43,7 +43,7 @@ pub(crate) fn singles(text: &[u8], at: usize, out: &mut [f32]) -> Place
 
 // As many f64 fields as `out` is long.
 fn doubles(text: &[u8], at: usize, out: &mut [f64]) -> Place
-    ensures { λ r. ⌜ Filled (fields (asFloat binary64) (length (now (out .entry))) (drop at (now (text .entry)))) (firsts (asFloat binary64) (length (now (out .entry))) (drop at (now (text .entry)))) (now (text .entry)) (now (out .entry)) r (now (out .exit)) ⌝ }
+    ensures { λ r. ⌜ Filled (fields (asFloat binary64) (length (now (out .entry))) (drop at (now (text .entry)))) (goodFields (asFloat binary64) (length (now (out .entry))) (drop at (now (text .entry)))) (now (text .entry)) (now (out .entry)) r (now (out .exit)) ⌝ }
 {
     let mut p = at;
     let mut i = 0;
@@ -64,7 +64,7 @@ fn doubles(text: &[u8], at: usize, out: &mut [f64]) -> Place
 
 // As many whole numbers as `out` is long.
 pub(crate) fn wholes(text: &[u8], at: usize, out: &mut [u64]) -> Place
-    ensures { λ r. ⌜ Filled (fields asWhole (length (now (out .entry))) (drop at (now (text .entry)))) (firsts asWhole (length (now (out .entry))) (drop at (now (text .entry)))) (now (text .entry)) (now (out .entry)) r (now (out .exit)) ⌝ }
+    ensures { λ r. ⌜ Filled (fields asWhole (length (now (out .entry))) (drop at (now (text .entry)))) (goodFields asWhole (length (now (out .entry))) (drop at (now (text .entry)))) (now (text .entry)) (now (out .entry)) r (now (out .exit)) ⌝ }
 {
     let mut p = at;
     let mut i = 0;

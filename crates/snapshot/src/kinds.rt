@@ -28,7 +28,7 @@ ghost use Rattle.refusal.specs.Lent.{over};
 ghost use Rattle.trcf.specs.Types.{normalizes};
 ghost use Rattle.trcf.specs.Preprocessor.{reading};
 ghost use Rattle.snapshot.specs.Read.{asWhole, asFloat};
-ghost use Rattle.snapshot.specs.Steps.Judge.{placed, held, lineFirsts, bufFirsts, Filled, codesRead, chnOr, chnBy, wgtBy, cntTest, cntBy, timBy, bufBy, countsRead, FilledWith};
+ghost use Rattle.snapshot.specs.Steps.Judge.{placed, withRest, lineFirsts, bufFirsts, Filled, codesRead, chnOr, chnBy, wgtBy, cntTest, cntBy, timBy, bufBy, countsRead, FilledWith};
 
 // The weights, as many as `out` is long.
 pub(crate) fn wgt_line(text: &[u8], at: usize, method: TransformMethod, out: &mut [f32]) -> Place
@@ -43,7 +43,7 @@ pub(crate) fn wgt_line(text: &[u8], at: usize, method: TransformMethod, out: &mu
     place
 }
 
-// Line 3: the codes where they stand there, and the place behind them; else zeros, and the place before the line.
+// Line 3: the codes where they stand there, and the place after them; else zeros, and the place before the line.
 pub(crate) struct Coded {
     pub extra: usize,
     pub at: usize,
@@ -129,7 +129,7 @@ fn counts_fit(method: TransformMethod, start: usize, seen: u64, internal: u64, c
     }
 }
 
-// The place behind the line of the counters, and what it says.
+// The place after the line of the counters, and what it says.
 pub(crate) struct Counters {
     pub place: Place,
     pub seen: u64,
@@ -139,7 +139,7 @@ pub(crate) struct Counters {
 
 // The line of the counters.
 pub(crate) fn cnt_line(text: &[u8], at: usize, method: TransformMethod, start: usize) -> Counters
-    ensures { λ r. ⌜ held (countsRead (r .seen) (r .internal) (r .count)) (placed (r .place) (now (text .entry))) ≡ cntBy method start (drop at (now (text .entry))) ⌝ }
+    ensures { λ r. ⌜ withRest (countsRead (r .seen) (r .internal) (r .count)) (placed (r .place) (now (text .entry))) ≡ cntBy method start (drop at (now (text .entry))) ⌝ }
 {
     let mut n = [0u64; 3];
     let place = wholes_line(text, at, 99, 110, 116, &mut n[..]);
@@ -162,7 +162,7 @@ pub(crate) fn cnt_line(text: &[u8], at: usize, method: TransformMethod, start: u
     }
 }
 
-// The place behind a line of one initial value, and its time.
+// The place after a line of one initial value, and its time.
 pub struct Timed {
     pub place: Place,
     pub time: u64,

@@ -51,7 +51,7 @@ pub(crate) fn codes_fit(w: &[u64]) -> bool
     true
 }
 
-// The codes in an array, zeros behind them.
+// The codes in an array, zeros after them.
 pub(crate) fn narrowed(w: &[u64]) -> [u16; 16]
     requires { ⌜ length (now w) ≤ 16 ⌝ }
     requires { ⌜ allCodes (now w) ≡ true ⌝ }

@@ -1,4 +1,4 @@
--- The lines behind `cnt`, judged, of which nothing was kept.
+-- The lines after `cnt`, judged, of which nothing was kept.
 use Prim.Native.Nat.{ℕ, zero, suc, _+_, _*_, _<_}
 use native.Mathlib.Omega.{arith}
 use mathlib.Core.Path.{_≡_, refl, sym, ap, _∙_, subst}
@@ -6,7 +6,7 @@ use mathlib.Core.List.{List}
 use lib.ListN.{length}
 use Rattle.trcf.specs.Settings.{Settings}
 use Rattle.snapshot.specs.Read.{Counts}
-use Rattle.snapshot.specs.Steps.Runs.{Ran, ran, broke, told, unkept, bufs, Initial, Parts, expected, partsOf, bodyBy, Good}
+use Rattle.snapshot.specs.Steps.Runs.{Ran, ran, broke, ranBy, unkept, bufs, Initial, Parts, expected, partsOf, bodyBy, Good}
 use Rattle.snapshot.proofs.BodyLaws.{kept-of, broke-of, bufs-length, body-parts, body-bufs, body-behind, body-all}
 use Rattle.snapshot_restore.specs.Steps.{summed}
 use Rattle.snapshot_restore.specs.declared.restore.Judged.{Judged}
@@ -15,12 +15,12 @@ abbrev judged : ℕ → ℕ → Judged
 judged bad n = record { bad = bad; count = n }
 
 module _ (s : Settings) (c : Counts) (l : List ℕ) where
-  pub judged-parts : (m : ℕ) (z : List ℕ) → (m ≡ 0 → ⊥) → told m tt z ≡ unkept (partsOf s c l) → judged m 0 ≡ summed (bodyBy s c l)
+  pub judged-parts : (m : ℕ) (z : List ℕ) → (m ≡ 0 → ⊥) → ranBy m tt z ≡ unkept (partsOf s c l) → judged m 0 ≡ summed (bodyBy s c l)
   judged-parts zero z h e = absurd (h refl)
   judged-parts (suc m) z h e = ap summed (body-parts s c l (suc m) (broke-of (partsOf s c l) (suc m) e))
 
   module _ (l₁ : List ℕ) (e : ran tt l₁ ≡ unkept (partsOf s c l)) (n : ℕ) (h : n ≡ expected s c l₁) where
-    pub judged-bufs : (m : ℕ) (z : List ℕ) → (m ≡ 0 → ⊥) → told m tt z ≡ unkept (bufs (s .d) n l₁) → judged (5 * s .d + 8 + m) 0 ≡ summed (bodyBy s c l)
+    pub judged-bufs : (m : ℕ) (z : List ℕ) → (m ≡ 0 → ⊥) → ranBy m tt z ≡ unkept (bufs (s .d) n l₁) → judged (5 * s .d + 8 + m) 0 ≡ summed (bodyBy s c l)
     judged-bufs zero z k f = absurd (k refl)
     judged-bufs (suc m) z k f =
         let p = kept-of (partsOf s c l) l₁ e in

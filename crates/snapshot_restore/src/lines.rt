@@ -7,10 +7,10 @@ use snapshot::piece::Place;
 ghost use mathlib.Core.Path.{_≡_};
 ghost use Prim.Native.Nat.{_+_, _*_, _≤_, _<_};
 ghost use lib.ListN.{length, drop};
-ghost use Rattle.snapshot.specs.Steps.Runs.{devs, bufs, initial, unkept, parts, partsBy};
+ghost use Rattle.snapshot.specs.Steps.Runs.{devs, bufs, initialLists, unkept, parts, partsBy};
 ghost use Rattle.snapshot_restore.specs.Steps.{lined};
 
-// The first bad line among some, from 1, or 0 for none; and the place behind them.
+// The first bad line among some, from 1, or 0 for none; and the place after them.
 pub(crate) struct Lines {
     pub bad: usize,
     pub at: usize,
@@ -84,7 +84,7 @@ pub(crate) fn buf_lines(
     requires { ⌜ length (now times) ≡ n ⌝ }
     requires { ⌜ d ≤ 16 ⌝ }
     requires { ⌜ n ≤ 2000 ⌝ }
-    ensures { λ r. ⌜ lined r (initial (now (values .exit)) (now (times .exit))) (now (text .entry)) ≡ bufs d n (drop at (now (text .entry))) ⌝ }
+    ensures { λ r. ⌜ lined r (initialLists (now (values .exit)) (now (times .exit))) (now (text .entry)) ≡ bufs d n (drop at (now (text .entry))) ⌝ }
 {
     let mut p = at;
     let mut past = 0;

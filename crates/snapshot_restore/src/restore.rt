@@ -22,11 +22,11 @@ ghost use Rattle.trcf.specs.View.{lent, settingsOf, noHead, counting, initialRo
 ghost use Rattle.trcf.specs.Settings.{dimension};
 ghost use Rattle.snapshot.specs.Read.{same};
 ghost use Rattle.snapshot.specs.Save.{past};
-ghost use Rattle.snapshot.specs.Restore.{outcome, restoreOf};
-ghost use Rattle.snapshot.specs.Steps.Runs.{Fills, Room, FillsOver, HeadFew, countsIn, expected, unkept, parts, initial, body, partsOf, bodyBy, Good, filledBy};
+ghost use Rattle.snapshot.specs.Restore.{restoreOutcome, restoreOf};
+ghost use Rattle.snapshot.specs.Steps.Runs.{Fills, Room, FillsOver, HeadFew, countsIn, expected, unkept, parts, initialLists, body, partsOf, bodyBy, Good, filledBy};
 ghost use Rattle.snapshot_restore.specs.Steps.{lined, summed};
 
-// How many `buf` lines are to come, from the place behind `tim` on.
+// How many `buf` lines are to come, from the place after `tim` on.
 fn initial_count(head: Preprocessor, text: &[u8], at: usize) -> usize
     ensures { λ r. ⌜ r ≡ expected (settingsOf head) (countsIn head) (drop at (now (text .entry))) ⌝ }
 {
@@ -52,7 +52,7 @@ fn initial_count(head: Preprocessor, text: &[u8], at: usize) -> usize
     0
 }
 
-// The first bad line behind `cnt` or 0, and how many initial values there are.
+// The first bad line after `cnt` or 0, and how many initial values there are.
 pub(crate) struct Judged {
     pub bad: usize,
     pub count: usize,
@@ -87,7 +87,7 @@ fn part_lines_unkept(text: &[u8], at: usize, head: Preprocessor) -> Lines
     )
 }
 
-// Judges the lines behind `cnt`.
+// Judges the lines after `cnt`.
 fn judge_body(text: &[u8], at: usize, head: Preprocessor) -> Judged
     requires { ⌜ HeadFew head ⌝ }
     ensures { λ r. ⌜ r ≡ summed (bodyBy (settingsOf head) (countsIn head) (drop at (now (text .entry)))) ⌝ }
@@ -122,7 +122,7 @@ fn judge_body(text: &[u8], at: usize, head: Preprocessor) -> Judged
     Judged { bad: 0, count: n }
 }
 
-// The lines behind `cnt` of a text that was judged, into lists of which all is in use.
+// The lines after `cnt` of a text that was judged, into lists of which all is in use.
 fn fill_body(
     text: &[u8],
     at: usize,
@@ -143,7 +143,7 @@ fn fill_body(
     requires { ⌜ length (now times) ≡ head .«shingle_size» ⌝ }
     requires { ⌜ length (now values) ≡ n * head .transformer .«input_length» ⌝ }
     requires { ⌜ length (now «initial_times») ≡ n ⌝ }
-    ensures { λ _. ⌜ Fills (filledBy (settingsOf head) (countsIn head) n (drop at (now (text .entry)))) (body (parts (now (statistics .exit)) (now (input .exit)) (now (point .exit)) (now (times .exit))) (initial (now (values .exit)) (now («initial_times» .exit)))) ⌝ }
+    ensures { λ _. ⌜ Fills (filledBy (settingsOf head) (countsIn head) n (drop at (now (text .entry)))) (body (parts (now (statistics .exit)) (now (input .exit)) (now (point .exit)) (now (times .exit))) (initialLists (now (values .exit)) (now («initial_times» .exit)))) ⌝ }
 {
     let t = head.transformer;
     let d = t.input_length;
@@ -160,7 +160,7 @@ fn fill_body(
     buf_lines(text, a.at, d, n, values, initial_times);
 }
 
-// The same into lent lists, of which what lies behind the part in use stays.
+// The same into lent lists, of which what lies after the part in use stays.
 fn fill(
     text: &[u8],
     at: usize,
@@ -273,7 +273,7 @@ pub fn restore(
     initial_values: &mut [f32],
     initial_timestamps: &mut [u64],
 ) -> Restored
-    ensures { λ r. ⌜ outcome (r .row) (r .line) (r .head) (lent (now (statistics .exit)) (now («last_shingled_input» .exit)) (now («last_shingled_point» .exit)) (now («previous_timestamps» .exit)) (now («initial_values» .exit)) (now («initial_timestamps» .exit))) ≡ restoreOf (now (text .entry)) (now (codes .entry)) (lent (now (statistics .entry)) (now («last_shingled_input» .entry)) (now («last_shingled_point» .entry)) (now («previous_timestamps» .entry)) (now («initial_values» .entry)) (now («initial_timestamps» .entry))) ⌝ }
+    ensures { λ r. ⌜ restoreOutcome (r .row) (r .line) (r .head) (lent (now (statistics .exit)) (now («last_shingled_input» .exit)) (now («last_shingled_point» .exit)) (now («previous_timestamps» .exit)) (now («initial_values» .exit)) (now («initial_timestamps» .exit))) ≡ restoreOf (now (text .entry)) (now (codes .entry)) (lent (now (statistics .entry)) (now («last_shingled_input» .entry)) (now («last_shingled_point» .entry)) (now («previous_timestamps» .entry)) (now («initial_values» .entry)) (now («initial_timestamps» .entry))) ⌝ }
 {
     let h = head_lines(text);
     if h.bad != 0 {

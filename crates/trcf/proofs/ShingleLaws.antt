@@ -71,7 +71,7 @@ module _ {A : Type 0} where
   length-slid w l i h =
       omega (arith, length-append (take i (drop w l)) (drop i l), length-moved w l i h, length-drop i l)
 
-  -- the end: x is copied in behind
+  -- the end: x is copied in after the rest
   pub slid-paste : (l x : List A) (m : ℕ) → m + length x ≡ length l → paste (slid (length x) l m) m x (length x) ≡ shiftIn l x
   unfolding slid shiftIn
   slid-paste l x m e =
@@ -207,7 +207,7 @@ last-none [] n e = ap (lastOr 0) (sym (take-nil n))
 last-none (x ∷ l) n e = absurd (omega arith)
 
 module _ {A : Type 0} where
-  -- what is put behind the first m
+  -- what is put after the first m
   pub paste-behind : (l x : List A) (m : ℕ) → m + length x ≤ length l → paste l m x (length x) ≡ over l (take m l ++ x)
   unfolding over
   paste-behind l x m h =

@@ -72,7 +72,7 @@ centres «NORMALIZE_DIFFERENCE» = false
 
 -- ---- what depends on the mode
 
--- whether a transformed reading has a time element behind the channels'
+-- whether a transformed reading has a time element after the channels'
 abbrev pub augments : ForestMode → Bool
 augments STANDARD = false
 augments «TIME_AUGMENTED» = true
@@ -80,8 +80,8 @@ augments «STREAMING_IMPUTE» = false
 augments «GAP_AUGMENTED» = true
 
 -- whether that element is the gap from the newest time, to which no drift belongs (request 114: "as in T … but")
-abbrev pub gaps : ForestMode → Bool
-gaps STANDARD = false
-gaps «TIME_AUGMENTED» = false
-gaps «STREAMING_IMPUTE» = false
-gaps «GAP_AUGMENTED» = true
+abbrev pub isGap : ForestMode → Bool
+isGap STANDARD = false
+isGap «TIME_AUGMENTED» = false
+isGap «STREAMING_IMPUTE» = false
+isGap «GAP_AUGMENTED» = true

@@ -1,4 +1,4 @@
-// What the calls write to lent output: the channels' numbers and, where the mode has a time element, the time's behind them.
+// What the calls write to lent output: the channels' numbers and, where the mode has a time element, the time's after them.
 use crate::head::Preprocessor;
 use crate::lengths::output_fits;
 use crate::lengths::transform_fits;

@@ -1,4 +1,4 @@
--- The point written once: the blocks that stay first, and the new one behind them.
+-- The point written once: the blocks that stay first, and the new one after them.
 use Prim.Native.Nat.{ℕ, _+_}
 use mathlib.Core.Path.{_≡_, sym, ap, _∙_}
 use mathlib.Core.List.{List, _++_}

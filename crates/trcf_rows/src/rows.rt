@@ -26,11 +26,11 @@ ghost use lib.Ieee.{Float};
 ghost use Rattle.common.specs.Deviation.{countLimit};
 ghost use Rattle.refusal.specs.Refusal.{firstOf};
 ghost use Rattle.trcf.specs.Lists.{null};
-ghost use Rattle.trcf.specs.Types.{gaps};
+ghost use Rattle.trcf.specs.Types.{isGap};
 ghost use Rattle.trcf.specs.Settings.{imputes, waiting, settingsRow, block};
 ghost use Rattle.trcf.specs.Calls.{seenLimit, finite, due, drainFull, scale, transform, drain, shingledPoint};
 ghost use Rattle.trcf.specs.Preprocessor.{facts};
-ghost use Rattle.trcf.specs.View.{settingsOf, settingsFrom, view, leftOver, misfit, outsideRow, headRow, orElse, lentRow, shortRow, rowOf, pastRow, lent, newestOf, Bounded, Accepted, Roomy, Fitted, Ready, Pointing};
+ghost use Rattle.trcf.specs.View.{settingsOf, settingsFrom, view, leftOver, countersUnfit, outsideRow, headRow, orElse, lentRow, shortRow, rowOf, pastRow, lent, newestOf, Bounded, Accepted, Roomy, Fitted, Ready, Pointing};
 
 // The mode that row 1 refuses, which no letter of a text names.
 pub fn is_imputing(m: ForestMode) -> bool
@@ -186,7 +186,7 @@ fn is_left(head: Preprocessor) -> bool
 
 // Whether the head's counters are such as no preprocessor has.
 pub fn is_misfit(head: Preprocessor) -> bool
-    ensures { λ r. ⌜ r ≡ misfit head ⌝ }
+    ensures { λ r. ⌜ r ≡ countersUnfit head ⌝ }
 {
     let t = head.transformer;
     let count = t.count;
@@ -371,7 +371,7 @@ fn is_behind(
     initial_timestamps: &[u64],
     timestamp: u64,
 ) -> bool
-    ensures { λ r. ⌜ r ≡ gaps (head .«forest_mode») && ltb timestamp (newestOf head (now («previous_timestamps» .entry)) (now («initial_timestamps» .entry))) ⌝ }
+    ensures { λ r. ⌜ r ≡ isGap (head .«forest_mode») && ltb timestamp (newestOf head (now («previous_timestamps» .entry)) (now («initial_timestamps» .entry))) ⌝ }
 {
     let mode = head.forest_mode;
     if is_gap(mode) {

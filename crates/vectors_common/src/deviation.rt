@@ -16,7 +16,7 @@ use vectors_core::lines::counted;
 use vectors_core::lines::line_end;
 use vectors_core::lines::no_lines;
 
-// The row of a call, the statistic after it, and the cursor behind the call's arguments.
+// The row of a call, the statistic after it, and the cursor after the call's arguments.
 struct Called {
     row: u64,
     statistic: Deviation,
@@ -102,7 +102,7 @@ fn call(line: &[u8], s: Deviation) -> Called {
     }
 }
 
-// Whether the fields behind the arguments are the row and the statistic.
+// Whether the fields after the arguments are the row and the statistic.
 fn agrees(line: &[u8], c: Cursor, row: u64, s: Deviation) -> bool {
     let c1 = expect_whole(line, c, row);
     let c2 = expect_double(line, c1, s.discount());

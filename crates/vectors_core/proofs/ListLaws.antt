@@ -8,7 +8,7 @@ use native.Mathlib.Nat.{not-suc-le-zero, le-of-suc-le-suc}
 use native.Mathlib.Numerals.{add-one}
 use lib.ListN.{length, getD, set, drop, replicate}
 use lib.Seq.{drop-cons, drop-length}
-use Rattle.vectors_core.specs.Old.{every}
+use Rattle.vectors_core.specs.Old.{allPass}
 
 -- an empty list has nothing at any place
 pub getD-none : (l : List ℕ) (i : ℕ) → length l ≤ 0 → 0 ≡ getD l i 0
@@ -16,9 +16,9 @@ getD-none [] i h = refl
 getD-none (x ∷ l) i h = absurd (omega arith)
 
 module _ {A : Type 0} where
-  pub every-at : (p : A → Bool) (x : List A) (i : ℕ) (d : A) (b : Bool) → i < length x → p (getD x i d) ≡ b → every p (drop i x) ≡ b && every p (drop (suc i) x)
-  unfolding every
-  every-at p x i d b h e = ap (every p) (drop-cons x i d h) ∙ ap (λ (c : Bool). c && every p (drop (suc i) x)) e
+  pub every-at : (p : A → Bool) (x : List A) (i : ℕ) (d : A) (b : Bool) → i < length x → p (getD x i d) ≡ b → allPass p (drop i x) ≡ b && allPass p (drop (suc i) x)
+  unfolding allPass
+  every-at p x i d b h e = ap (allPass p) (drop-cons x i d h) ∙ ap (λ (c : Bool). c && allPass p (drop (suc i) x)) e
 
   append-none : (l : List A) → l ++ [] ≡ l
   append-none [] = refl

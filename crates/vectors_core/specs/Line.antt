@@ -5,6 +5,6 @@ use mathlib.Core.List.{List}
 use lib.Dec.{eqb}
 use lib.ListN.{length, getD}
 
--- the place is behind the last byte, and this is an LF
-abbrev pub finished : List ℕ → ℕ → Bool
-finished line at = eqb at (length line) && eqb (getD line (length line - 1) 0) 10
+-- the place is after the last byte, and this is an LF
+abbrev pub lineFinished : List ℕ → ℕ → Bool
+lineFinished line at = eqb at (length line) && eqb (getD line (length line - 1) 0) 10

@@ -32,6 +32,6 @@ abbrev pub isOldWhole : ℕ → Bool
 isOldWhole x = eqb x oldWhole
 
 module _ {A : Type 0} where
-  unfoldable pub every : (A → Bool) → List A → Bool
-  every p [] = true
-  every p (x ∷ l) = p x && every p l
+  unfoldable pub allPass : (A → Bool) → List A → Bool
+  allPass p [] = true
+  allPass p (x ∷ l) = p x && allPass p l

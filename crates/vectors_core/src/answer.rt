@@ -1,4 +1,4 @@
-// Answers compared with the fields of a line, for more than one kind. Each gives the cursor behind the answer.
+// Answers compared with the fields of a line, for more than one kind. Each gives the cursor after the answer.
 use crate::expect::expect_singles;
 use crate::expect::expect_whole;
 use crate::expect::untouched_f32;

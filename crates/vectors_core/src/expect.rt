@@ -8,7 +8,7 @@ use crate::field::read_whole;
 use crate::list::length_within;
 ghost use mathlib.Core.Path.{_≡_};
 ghost use Prim.Native.Nat.{_≤_};
-ghost use Rattle.vectors_core.specs.Old.{every, isOld32, isOld64, isOldWhole};
+ghost use Rattle.vectors_core.specs.Old.{allPass, isOld32, isOld64, isOldWhole};
 
 // What lent memory holds before a call.
 pub const OLD_F32: f32 = 12345.678;
@@ -84,7 +84,7 @@ fn is_old_f32(x: f32) -> bool
 }
 
 pub fn untouched_f32(xs: &[f32]) -> bool
-    ensures { λ r. ⌜ r ≡ every isOld32 (now (xs .entry)) ⌝ }
+    ensures { λ r. ⌜ r ≡ allPass isOld32 (now (xs .entry)) ⌝ }
 {
     let mut i = 0usize;
     while i < xs.len() {
@@ -103,7 +103,7 @@ fn is_old_f64(x: f64) -> bool
 }
 
 pub fn untouched_f64(xs: &[f64]) -> bool
-    ensures { λ r. ⌜ r ≡ every isOld64 (now (xs .entry)) ⌝ }
+    ensures { λ r. ⌜ r ≡ allPass isOld64 (now (xs .entry)) ⌝ }
 {
     let mut i = 0usize;
     while i < xs.len() {
@@ -122,7 +122,7 @@ fn is_old_u64(x: u64) -> bool
 }
 
 pub fn untouched_u64(xs: &[u64]) -> bool
-    ensures { λ r. ⌜ r ≡ every isOldWhole (now (xs .entry)) ⌝ }
+    ensures { λ r. ⌜ r ≡ allPass isOldWhole (now (xs .entry)) ⌝ }
 {
     let mut i = 0usize;
     while i < xs.len() {

@@ -1,4 +1,4 @@
-// One field of a line, behind a cursor.
+// One field of a line, after a cursor.
 use crate::digits::decimal;
 use crate::digits::hexadecimal;
 use crate::digits::value32;
@@ -7,7 +7,7 @@ ghost use mathlib.Core.Path.{_≡_};
 ghost use mathlib.Core.Bool.{_&&_};
 ghost use Prim.Native.Nat.{_≤_, _-_};
 ghost use lib.ListN.{length, getD};
-ghost use Rattle.vectors_core.specs.Line.{finished};
+ghost use Rattle.vectors_core.specs.Line.{lineFinished};
 
 // A place in a line, and whether everything before it was as it should be.
 pub struct Cursor {
@@ -37,7 +37,7 @@ struct Span {
     cursor: Cursor,
 }
 
-// Behind the line's name, which is one letter, and its blank or LF.
+// After the line's name, which is one letter, and its blank or LF.
 pub fn begin(line: &[u8]) -> Cursor
     ensures { λ r. ⌜ r .at ≡ 2 ⌝ }
 {
@@ -72,16 +72,16 @@ fn last(line: &[u8]) -> u8
     line[n - 1]
 }
 
-// Whether the place is behind the last field, and an LF ends the line.
+// Whether the place is after the last field, and an LF ends the line.
 fn ended(line: &[u8], at: usize) -> bool
-    ensures { λ r. ⌜ r ≡ finished (now (line .entry)) at ⌝ }
+    ensures { λ r. ⌜ r ≡ lineFinished (now (line .entry)) at ⌝ }
 {
     at == line.len() && last(line) == b'\n'
 }
 
 // Whether every field was read, and all were as they should be.
 pub fn done(line: &[u8], c: Cursor) -> bool
-    ensures { λ r. ⌜ r ≡ (c .good && finished (now (line .entry)) (c .at)) ⌝ }
+    ensures { λ r. ⌜ r ≡ (c .good && lineFinished (now (line .entry)) (c .at)) ⌝ }
 {
     c.good && ended(line, c.at)
 }
@@ -184,7 +184,7 @@ pub fn read_double(line: &[u8], c: Cursor) -> Double
     }
 }
 
-// The one byte of a field that is a letter, and the cursor behind it.
+// The one byte of a field that is a letter, and the cursor after it.
 pub struct Letter {
     pub value: u8,
     pub cursor: Cursor,
@@ -221,7 +221,7 @@ fn signed_of(negative: bool, n: u64) -> i32 {
     !(((n - 1) % 0x8000_0000) as i32)
 }
 
-// The place behind a `-` at `from`, or `from`.
+// The place after a `-` at `from`, or `from`.
 fn behind_minus(line: &[u8], from: usize, to: usize) -> usize
     requires { ⌜ from ≤ to ⌝ }
     requires { ⌜ to ≤ length (now line) ⌝ }

@@ -13,7 +13,7 @@ pub fn room() -> [u8; 524288]
     [0; 524288]
 }
 
-// The place behind the line from `from` on; the end where there is none. Within the text the difference below is 0, and the place lies behind `from`.
+// The place after the line from `from` on; the end where there is none. Within the text the difference below is 0, and the place lies after `from`.
 pub fn line_end(text: &[u8], from: usize) -> usize
     ensures { λ r. ⌜ r ≤ length (now (text .entry)) ⌝ }
     ensures { λ r. ⌜ from < r + (from + 1 - length (now (text .entry))) ⌝ }

@@ -8,7 +8,7 @@ ghost use mathlib.Core.Path.{_≡_};
 ghost use Prim.Native.Nat.{_≤_};
 ghost use lib.ListN.{length};
 
-// How many were read, and the cursor behind them.
+// How many were read, and the cursor after them.
 pub struct List {
     pub len: usize,
     pub cursor: Cursor,

@@ -21,7 +21,7 @@ use vectors_core::list::read_singles;
 ghost use Prim.Native.Nat.{_≤_};
 ghost use lib.ListN.{length};
 
-// The arguments beside the lists, the lists' lengths, and the cursor behind all of them.
+// The arguments beside the lists, the lists' lengths, and the cursor after all of them.
 struct Given {
     time: u64,
     has_y: bool,

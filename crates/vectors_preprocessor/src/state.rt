@@ -130,7 +130,7 @@ fn read_all_initial(
     cursor
 }
 
-// The counters of a state, and the cursor behind them.
+// The counters of a state, and the cursor after them.
 struct Counts {
     values_seen: u64,
     internal: u64,

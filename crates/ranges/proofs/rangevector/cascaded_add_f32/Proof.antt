@@ -1,5 +1,5 @@
 -- `rangevector::cascaded_add_f32` meets its contract. Refused by row 16, or the whole cascade. Assumes nothing.
-use Rattle.ranges.specs.RangeVector.{cascadedAddOf, unequal}
+use Rattle.ranges.specs.RangeVector.{rangeCascadedAdd, unequal}
 use Rattle.ranges.proofs.RangeSteps.{refused, done}
 use borrow.Author.Needs.{needs}
 use Rattle.ranges.proofs.rangevector.cascaded_add_f32.Statement.{statement}
@@ -9,7 +9,7 @@ cascade-row-requires : tie.Need-cascade-row-requires
 cascade-row-requires c κs = search needs
 
 returns : tie.Need-returns
-unfolding cascadedAddOf unequal
+unfolding rangeCascadedAdd unequal
 returns c = refused _ _ _ _ (c .before .cascade-row .ensures .0) (c .if1 .taken)
 
 cascade-f32-requires : tie.Need-cascade-f32-requires
@@ -25,7 +25,7 @@ same-length-3 : tie.Need-same-length-3
 same-length-3 c = search needs
 
 returns-2 : tie.Need-returns-2
-unfolding cascadedAddOf unequal
+unfolding rangeCascadedAdd unequal
 returns-2 c =
     let called = c .before .before .before .before .before .before in
     let tested = called .before .before .before .before in

@@ -1,5 +1,5 @@
 -- `rangevector::create_f32` meets its contract. Refused by its row, or written to the front of each list. Assumes nothing.
-use Rattle.ranges.specs.RangeVector.{createOf, shorter}
+use Rattle.ranges.specs.RangeVector.{rangeCreate, shorter}
 use Rattle.ranges.proofs.RangeSteps.{refused, done, all-three}
 use borrow.Author.Needs.{needs}
 use Rattle.ranges.proofs.rangevector.create_f32.Statement.{statement}
@@ -9,7 +9,7 @@ create-row-f32-requires : tie.Need-create-row-f32-requires
 create-row-f32-requires c κs = search needs
 
 returns : tie.Need-returns
-unfolding createOf shorter
+unfolding rangeCreate shorter
 returns c = refused _ _ _ _ (c .before .create-row-f32 .ensures .0) (c .if1 .taken)
 
 copy-f32-requires : tie.Need-copy-f32-requires
@@ -34,7 +34,7 @@ same-length-3 : tie.Need-same-length-3
 same-length-3 c = search needs
 
 returns-2 : tie.Need-returns-2
-unfolding createOf shorter
+unfolding rangeCreate shorter
 returns-2 c =
     let third = c .before .before in
     let second = third .before .before .before .before in

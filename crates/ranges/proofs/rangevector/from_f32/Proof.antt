@@ -1,5 +1,5 @@
 -- `rangevector::from_f32` meets its contract. Refused by its row, or written to the front of each list. Assumes nothing.
-use Rattle.ranges.specs.RangeVector.{fromOf, shorter}
+use Rattle.ranges.specs.RangeVector.{rangeFrom, shorter}
 use Rattle.ranges.proofs.RangeSteps.{refused, done, all-three}
 use borrow.Author.Needs.{needs}
 use Rattle.ranges.proofs.rangevector.from_f32.Statement.{statement}
@@ -9,7 +9,7 @@ room-row-requires : tie.Need-room-row-requires
 room-row-requires c κs = search needs
 
 returns : tie.Need-returns
-unfolding fromOf shorter
+unfolding rangeFrom shorter
 returns c = refused _ _ _ _ (c .before .room-row .ensures .0) (c .if1 .taken)
 
 copy-f32-requires : tie.Need-copy-f32-requires
@@ -34,7 +34,7 @@ same-length-3 : tie.Need-same-length-3
 same-length-3 c = search needs
 
 returns-2 : tie.Need-returns-2
-unfolding fromOf shorter
+unfolding rangeFrom shorter
 returns-2 c =
     let third = c .before .before in
     let second = third .before .before .before .before in

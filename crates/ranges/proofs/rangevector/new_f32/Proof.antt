@@ -1,5 +1,5 @@
 -- `rangevector::new_f32` meets its contract. Refused by its row, or written to the front of each list. Assumes nothing.
-use Rattle.ranges.specs.RangeVector.{newOf, shorter}
+use Rattle.ranges.specs.RangeVector.{rangeNew, shorter}
 use Rattle.ranges.proofs.RangeSteps.{refused, done, all-three}
 use borrow.Author.Needs.{needs}
 use Rattle.ranges.proofs.rangevector.new_f32.Statement.{statement}
@@ -9,7 +9,7 @@ room-row-requires : tie.Need-room-row-requires
 room-row-requires c κs = search needs
 
 returns : tie.Need-returns
-unfolding newOf shorter
+unfolding rangeNew shorter
 returns c = refused _ _ _ _ (c .before .room-row .ensures .0) (c .if1 .taken)
 
 zero-f32-requires : tie.Need-zero-f32-requires
@@ -34,7 +34,7 @@ same-length-3 : tie.Need-same-length-3
 same-length-3 c = search needs
 
 returns-2 : tie.Need-returns-2
-unfolding newOf shorter
+unfolding rangeNew shorter
 returns-2 c =
     let third = c .before .before in
     let second = third .before .before .before .before in

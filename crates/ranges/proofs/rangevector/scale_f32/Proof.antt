@@ -1,6 +1,6 @@
 -- `rangevector::scale_f32` meets its contract. Refused by the row of the index, or scaled there. Assumes nothing.
 use lib.Ieee.{binary32}
-use Rattle.ranges.specs.RangeVector.{Range, scaled, scaleOf, pastAny}
+use Rattle.ranges.specs.RangeVector.{Range, scaled, rangeScale, pastAny}
 use Rattle.ranges.proofs.RangeSteps.{refused, done, stepped}
 use borrow.Author.Needs.{needs}
 use native.Mathlib.Omega.{arith}
@@ -11,7 +11,7 @@ index-row-requires : tie.Need-index-row-requires
 index-row-requires c κs = search needs
 
 returns : tie.Need-returns
-unfolding scaleOf pastAny
+unfolding rangeScale pastAny
 returns c = refused _ _ _ _ (c .before .index-row .ensures .0) (c .if1 .taken)
 
 at-f32-requires : tie.Need-at-f32-requires
@@ -35,7 +35,7 @@ same-length-3 : tie.Need-same-length-3
 same-length-3 c = search needs
 
 returns-2 : tie.Need-returns-2
-unfolding scaleOf pastAny
+unfolding rangeScale pastAny
 returns-2 c =
     let put = c .before .before .before .before .before .before in
     let moved = put .before .before .before .before in

@@ -1,5 +1,5 @@
 -- `rangevector::shift_f64` meets its contract. Refused by the row of the index, or shifted there. Assumes nothing.
-use Rattle.ranges.specs.RangeVector.{shiftOf, pastAny}
+use Rattle.ranges.specs.RangeVector.{rangeShift, pastAny}
 use Rattle.ranges.proofs.RangeSteps.{refused, done}
 use borrow.Author.Needs.{needs}
 use Rattle.ranges.proofs.rangevector.shift_f64.Statement.{statement}
@@ -9,7 +9,7 @@ index-row-requires : tie.Need-index-row-requires
 index-row-requires c κs = search needs
 
 returns : tie.Need-returns
-unfolding shiftOf pastAny
+unfolding rangeShift pastAny
 returns c = refused _ _ _ _ (c .before .index-row .ensures .0) (c .if1 .taken)
 
 shift-at-f64-requires : tie.Need-shift-at-f64-requires
@@ -25,7 +25,7 @@ same-length-3 : tie.Need-same-length-3
 same-length-3 c = search needs
 
 returns-2 : tie.Need-returns-2
-unfolding shiftOf pastAny
+unfolding rangeShift pastAny
 returns-2 c =
     let called = c .before .before .before .before .before .before in
     let tested = called .before .before .before .before in

@@ -7,7 +7,7 @@ use lib.ListN.{length, take, drop}
 use lib.Seq.{length-take-le}
 use Rattle.trcf.specs.declared.head.Preprocessor.{Preprocessor}
 use Rattle.snapshot.specs.Steps.Judge.{settingsTold, countsRead, codesRead}
-use Rattle.snapshot.specs.Steps.Runs.{Ran, ran, broke, Head, headRead, headOf, headedOf, HeadFew, mapRan}
+use Rattle.snapshot.specs.Steps.Runs.{Ran, ran, broke, Head, headRead, headWithCounts, headedOf, HeadFew, mapRan}
 use Rattle.snapshot.proofs.JudgeLaws.{got-one, lost-one}
 use Rattle.snapshot.proofs.RunLaws.{told-bad}
 use Rattle.snapshot.proofs.HeadLaws.{head-set, head-wgt, head-cnt, head-all, head-is, set-few}

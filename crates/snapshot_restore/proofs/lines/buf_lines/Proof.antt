@@ -5,7 +5,7 @@ use native.Mathlib.Omega.{arith}
 use mathlib.Core.Path.{_≡_, refl, sym, ap, _∙_}
 use lib.ListN.{length, drop}
 use Rattle.snapshot.proofs.JudgeLaws.{got-one, lost-one}
-use Rattle.snapshot.specs.Steps.Runs.{initial}
+use Rattle.snapshot.specs.Steps.Runs.{initialLists}
 use Rattle.trcf.specs.Preprocessor.{Reading, reading}
 use Rattle.snapshot.proofs.RunLaws.{bufs-few, told-broke, block-room, block-long, Unkept, unkept-none, unkept-step, unkept-stop, unkept-done, Bufs, bufs-none, bufs-step, bufs-stop, bufs-done}
 use Rattle.snapshot_restore.proofs.lines.buf_lines.Statement.{statement}

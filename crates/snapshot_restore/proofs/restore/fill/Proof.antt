@@ -6,8 +6,8 @@ use mathlib.Core.Path.{_≡_, refl, sym, ap, _∙_, subst}
 use lib.ListN.{length, take, drop}
 use lib.Seq.{length-take-le}
 use Rattle.trcf.specs.Types.{augments}
-use Rattle.trcf.specs.View.{Lent, lent, settingsOf, laid}
-use Rattle.snapshot.specs.Steps.Runs.{countsIn, Body, body, parts, initial, stateFrom}
+use Rattle.trcf.specs.View.{Lent, lent, settingsOf, writtenOver}
+use Rattle.snapshot.specs.Steps.Runs.{countsIn, Body, body, parts, initialLists, stateFrom}
 use Rattle.snapshot.proofs.SaveLaws.{few-wide, wide-of}
 use Rattle.snapshot.proofs.BodyLaws.{dimension-is, over-back, laid-is}
 use Rattle.snapshot_restore.proofs.restore.fill.Statement.{statement}
@@ -175,7 +175,7 @@ returns c = λ b z e.
     let l = lent (a .statistics .now) (a .last-shingled-input .now) (a .last-shingled-point .now) (a .previous-timestamps .now) (a .initial-values .now) (a .initial-timestamps .now) in
     let G = c8 .before .before .before .before .fill-body in
     let p = parts (G .last .1 .1 .1 .1 .0) (G .last .1 .1 .1 .1 .1 .0) (G .last .1 .1 .1 .1 .1 .1 .0) (G .last .1 .1 .1 .1 .1 .1 .1 .0) in
-    let i = initial (G .last .1 .1 .1 .1 .1 .1 .1 .1 .0) (G .last .1 .1 .1 .1 .1 .1 .1 .1 .1 .0) in
+    let i = initialLists (G .last .1 .1 .1 .1 .1 .1 .1 .1 .0) (G .last .1 .1 .1 .1 .1 .1 .1 .1 .1 .0) in
     laid-is s k (body p i) l _ _ _ _ _ _
     (over-back (a .statistics .now) (p .statistics) (3 * (5 * d + 5)) (q .in-statistics) (c8 .before .before .before .statistics .given .0))
     (over-back (a .last-shingled-input .now) (p .input) (d * a .head .«shingle_size») (q .in-input) (c8 .before .last-shingled-input .given .0))
@@ -185,7 +185,7 @@ returns c = λ b z e.
     (over-back (a .previous-timestamps .now) (p .times) (a .head .«shingle_size») (q .in-times) (c .before .before .before .before .before .previous-timestamps .given .0))
     (over-back (a .initial-values .now) (i .values) (a .n * d) (q .in-values) (c .before .before .before .initial-values .given .0))
     (over-back (a .initial-timestamps .now) (i .times) (a .n) (q .in-initial) (c .before .initial-timestamps .given .0))
-    ∙ ap (λ (x : Body). laid (stateFrom s k x) l) (G .ensures b z e)
+    ∙ ap (λ (x : Body). writtenOver (stateFrom s k x) l) (G .ensures b z e)
 
 pub fill-spec : {M : Type 1} → statement M
 fill-spec =

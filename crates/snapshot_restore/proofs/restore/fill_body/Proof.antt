@@ -5,7 +5,7 @@ use native.Mathlib.Omega.{arith}
 use mathlib.Core.Path.{_≡_, refl, sym, ap, _∙_}
 use lib.ListN.{length, drop}
 use Rattle.trcf.specs.View.{settingsOf}
-use Rattle.snapshot.specs.Steps.Runs.{countsIn, parts, initial}
+use Rattle.snapshot.specs.Steps.Runs.{countsIn, parts, initialLists}
 use Rattle.snapshot.proofs.BodyLaws.{parts-of, fills-of}
 use Rattle.snapshot_restore.proofs.restore.fill_body.Statement.{statement}
 use Rattle.snapshot_restore.proofs.restore.fill_body.Tie as tie
@@ -61,7 +61,7 @@ returns c =
     let P = c8 .before .before .before .before .before .before .before .part-lines in
     let U = c .before .before .before .before .buf-lines in
     fills-of s k (a .n) (drop (a .at) t) (parts (P .last .1 .1 .1 .1 .0) (P .last .1 .1 .1 .1 .1 .0) (P .last .1 .1 .1 .1 .1 .1 .0) (P .last .1 .1 .1 .1 .1 .1 .1 .0))
-    (initial (U .last .1 .1 .1 .1 .0) (U .last .1 .1 .1 .1 .1 .0)) (P .result .bad) (U .result .bad) (drop (P .result .at) t) (drop (U .result .at) t)
+    (initialLists (U .last .1 .1 .1 .1 .0) (U .last .1 .1 .1 .1 .1 .0)) (P .result .bad) (U .result .bad) (drop (P .result .at) t) (drop (U .result .at) t)
     (parts-of s k (drop (a .at) t) (length (a .input .now)) (length (a .point .now)) (length (a .times .now)) _ (pre .1 .1 .1 .0) (pre .1 .1 .1 .1 .0) (pre .1 .1 .1 .1 .1 .0) (P .ensures .0))
     (U .ensures)
 

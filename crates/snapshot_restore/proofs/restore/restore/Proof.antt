@@ -5,7 +5,7 @@ use lib.ListN.{length, drop}
 use borrow.Author.Tests.{not-true, not-false}
 use Rattle.trcf.specs.View.{lent}
 use Rattle.trcf.specs.declared.head.Preprocessor.{Preprocessor}
-use Rattle.snapshot.specs.Restore.{outcome}
+use Rattle.snapshot.specs.Restore.{restoreOutcome}
 use Rattle.snapshot.proofs.RunLaws.{not-zero, told-broke, told-ran}
 use Rattle.snapshot.proofs.BodyLaws.{short-is, room-of}
 use Rattle.snapshot_restore.specs.declared.restore.Restored.{Restored}
@@ -39,7 +39,7 @@ returns c =
     let H = i1 .before .before .head-lines in
     let h = H .result .head in
     let z = drop (H .result .at) t in
-    ap (λ (r : Restored). outcome (r .row) (r .line) (r .head) l) (c .refused .ensures)
+    ap (λ (r : Restored). restoreOutcome (r .row) (r .line) (r .head) l) (c .refused .ensures)
     ∙ restore-head t (a .codes .now) l (H .result .bad)
     (sym (told-broke (H .result .bad) (h, H .result .extra) z (not-zero (H .result .bad) (i1 .if1 .taken))) ∙ H .ensures .0)
 
@@ -70,7 +70,7 @@ returns-2 c =
     let z = drop (H .result .at) t in
     let e = told-ran (H .result .bad) (h, H .result .extra) z _ (i1 .if1 .left) (H .ensures .0) in
     let J = i2 .before .before .judge-body in
-    ap (λ (r : Restored). outcome (r .row) (r .line) (r .head) l) (c .refused2 .ensures)
+    ap (λ (r : Restored). restoreOutcome (r .row) (r .line) (r .head) l) (c .refused2 .ensures)
     ∙ restore-body t (a .codes .now) l h (H .result .extra) z e (J .result) (J .ensures .0) (i2 .if2 .taken)
 
 codes-agree-requires : tie.Need-codes-agree-requires
@@ -96,7 +96,7 @@ returns-3 c =
     let e = told-ran (H .result .bad) (h, H .result .extra) z _ (i1 .if1 .left) (H .ensures .0) in
     let J = i2 .before .before .judge-body in
     let o = J .ensures .1 .1 .1 (i2 .if2 .left) in
-    ap (λ (r : Restored). outcome (r .row) (r .line) (r .head) l) (c .refused3 .ensures)
+    ap (λ (r : Restored). restoreOutcome (r .row) (r .line) (r .head) l) (c .refused3 .ensures)
     ∙ restore-other t (a .codes .now) l h (H .result .extra) z e (J .result) (J .ensures .0) o
     (sym (i3 .before .codes-agree .ensures) ∙ not-true _ (i3 .if3 .taken))
 
@@ -126,7 +126,7 @@ returns-4 c =
     let o = J .ensures .1 .1 .1 (i2 .if2 .left) in
     let s = sym (i3 .before .codes-agree .ensures) ∙ not-false _ (i3 .if3 .left) in
     let w = sym (short-is h l _ (H .ensures .1 .0 (i1 .if1 .left)) refl) ∙ sym (i4 .before .is-short .ensures) ∙ i4 .if4 .taken in
-    ap (λ (r : Restored). outcome (r .row) (r .line) (r .head) l) (c .refused4 .ensures)
+    ap (λ (r : Restored). restoreOutcome (r .row) (r .line) (r .head) l) (c .refused4 .ensures)
     ∙ restore-short t (a .codes .now) l h (H .result .extra) z e (J .result) (J .ensures .0) o s w
 
 fill-requires : tie.Need-fill-requires
@@ -194,7 +194,7 @@ returns-5 c =
     let G = g .fill in
     let m = G .last .1 .1 .1 .1 in
     let new = lent (m .0) (m .1 .0) (m .1 .1 .0) (m .1 .1 .1 .0) (m .1 .1 .1 .1 .0) (m .1 .1 .1 .1 .1 .0) in
-    ap (λ (x : Preprocessor). outcome 0 0 x new) (c .with-initial .ensures)
+    ap (λ (x : Preprocessor). restoreOutcome 0 0 x new) (c .with-initial .ensures)
     ∙ restore-all t (a .codes .now) l h (H .result .extra) z e (J .result) (J .ensures .0) o s w new (G .ensures)
 
 pub restore-spec : {M : Type 1} → statement M

@@ -9,14 +9,14 @@ use lib.Seq.{getD-take}
 use Rattle.trcf.proofs.LentLaws.{over-none, over-more}
 use Rattle.refusal.specs.Lent.{over}
 use Rattle.trcf.specs.Lists.{tabulate}
-use Rattle.trcf.specs.TransformerCalls.{view}
+use Rattle.trcf.specs.TransformerCalls.{transformerView}
 use Rattle.trcf.specs.Transformer.{weightAt, transformBy, transformed}
 use Rattle.trcf.proofs.transformer.transform_into.Statement.{statement}
 use Rattle.trcf.proofs.transformer.transform_into.Tie as tie
 
 abbrev Inv-loop : tie.InvT-loop
 Inv-loop s input previous output₀ t d i₀ output i =
-    (i ≤ d) × (output ≡ over output₀ (tabulate i (λ k. transformBy (t .«transform_method») (view t s) k (getD input k nan) (getD previous k nan)))) × (length output ≡ length output₀)
+    (i ≤ d) × (output ≡ over output₀ (tabulate i (λ k. transformBy (t .«transform_method») (transformerView t s) k (getD input k nan) (getD previous k nan)))) × (length output ≡ length output₀)
 
 abbrev μ-loop : tie.MeasureT-loop
 μ-loop s input previous output₀ t d i₀ output i = d - i
@@ -69,7 +69,7 @@ loop-again c =
     let L = b .loop in
     let a = p .args in
     let h : L .i < length (a .output .now) = omega (arith, p .pre .0) in
-    let at = over-more (a .output .now) (λ k. transformBy (a .t1 .«transform_method») (view (a .t1) (a .s .now)) k (getD (a .input .now) k nan) (getD (a .previous .now) k nan)) (L .i) h in
+    let at = over-more (a .output .now) (λ k. transformBy (a .t1 .«transform_method») (transformerView (a .t1) (a .s .now)) k (getD (a .input .now) k nan) (getD (a .previous .now) k nan)) (L .i) h in
     (omega arith, rw (add-one, L .inv .1, c .transform-at .ensures) at, simp length-set (omega arith))
 
 same-length : tie.Need-same-length Inv-loop μ-loop

@@ -1,4 +1,4 @@
--- `trcf_point::point::write_point` meets its contract: by its callees' promises, the time's number behind the channels'. Assumes nothing.
+-- `trcf_point::point::write_point` meets its contract: by its callees' promises, the time's number after the channels'. Assumes nothing.
 use Rattle.trcf.proofs.LengthLaws.{block-known, dimension-known, opened, transform-fits}
 use Rattle.trcf.proofs.BoundLaws.{five, five-more, all-statistics, all-inputs}
 use native.Mathlib.Omega.{arith}
