@@ -378,6 +378,7 @@ fn turn_at(
     ensures { λ r. ⌜ (at < r .at) × (r .at ≤ length (now (text .entry))) ⌝ }
 {
     let next = line_end(text, at);
+    let letter = text[at];
     let s = line_step(
         &text[at..next],
         head,
@@ -389,7 +390,7 @@ fn turn_at(
         initial_timestamps,
     );
     let after = s.head;
-    let total = counted(tally, s.good, text[at]);
+    let total = counted(tally, s.good, letter);
     Turn {
         head: after,
         tally: total,

@@ -38,7 +38,7 @@ returns : tie.Need-returns
 returns c =
     let k = c .before .before .before .before .before .before .before in
     let first = k .before .before .before .before .before .before .before in
-    (omega (arith, first .read-singles .ensures .0), search needs, search needs)
+    (omega (arith, first .read-singles .ensures .0), search needs)
 
 pub read-given-spec : {M : Type 1} → statement M
 read-given-spec =
