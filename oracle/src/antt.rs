@@ -216,7 +216,7 @@ use Rattle.trcf.specs.declared.types.TransformMethod.the-variants.{NONE, WEIGHT
 use Rattle.trcf.specs.declared.types.ForestMode.the-variants.{STANDARD, «TIME_AUGMENTED»}
 use Rattle.snapshot.specs.Text as Text
 use Rattle.snapshot.specs.Text.{render}
-use Rattle.snapshot.specs.Steps.Ascii.{text}
+use Rattle.snapshot.specs.Ascii.{text}
 use Rattle.restart.specs.Statistics as Statistics
 use Rattle.restart.specs.History as History
 use Rattle.restart.specs.History.{historyText}
