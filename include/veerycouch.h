@@ -521,7 +521,7 @@ static inline const char *veerycouch_row_text(uint64_t row) {
         "a forecast of unequal lists, or without a whole block, or with a broken one",
         "a range whose bounds are crossed (no call of this library)",
         "a counter would pass its limit",
-        "not of the form: a text with a bad line, times or waiting readings that no text has, or a number that names no mode, method, rule or code",
+        "not of the form: a text, a state that no text has, or a number of no mode, method, rule or code",
         "a lent part is too short, or the counters of the head are not of its settings",
         "a mark other than 0 or 1, or more than 2000 readings to fill",
         "the role lacks the right, or the role is above 3, or the table is not of the form",
