@@ -16,7 +16,8 @@
  *   14  relative_index outside 1 - k to 0               15  drain with nothing to drain
  *   16  a forecast of unequal lists or broken blocks
  *   18  a counter would pass its limit: readings fed 9007199254740990 (2^53 - 2), values_seen and internal_timestamp 2^63 - 1
- *   19  a number that names no mode, no method, no rule of impute or (in a word of the head) no code; or a text not of the form
+ *   19  a number that names no mode, no method, no rule of impute or (in a word of the head) no code; or a text not of the form; or, of save, times or
+ *       waiting readings such as no text has
  *   20  a lent part is too short; or the counters of the head are such as no preprocessor of its settings can have
  *   21  impute: a mark other than 0 or 1, or more than 2000 readings
  *   22  the role lacks a right that the call needs, or is above 3; a table not of 16 cells, or with a cell other than 0 or 1, used or not
@@ -28,11 +29,12 @@
  * 17 and 23 belong to no call of this library. "THE ROWS by name", at the end, has each as an enum and as a line of text.
  * They are asked in this order, but for these: 22 stands before all others, and nothing of the head, the parts or a text is looked at before it; a head
  * of fewer than VEERYCOUCH_HEAD_WORDS words is refused by 20 before the rest (by build: after rows 1 to 9; by restore: after 19 and 27), a number that
- * names no mode, no method, no rule or no code by 19 before rows 1 to 9, the counters of a head by 20 behind rows 1 to 9 and before the rest, 27 stands
- * between 19 and 20, 21 and 24 stand behind 10, 28 stands behind 12, and 26 stands before 20.
+ * names no mode, no method, no rule or no code by 19 before rows 1 to 9, the counters of a head by 20 after rows 1 to 9 and before the rest, 27 stands
+ * between 19 and 20, 21 and 24 stand after 10, 28 stands after 12, and 26 stands before 20.
  * That a part is too short is asked last. A row before it that reads the part reads what is there: of too few previous_timestamps the last one counts as
  * the newest time, so that 12 or 28 may not hold and 13, 14, 18 or 20 shows; where initial_timestamps has no element nothing is seen to wait, so that a drain
- * gives 15. Whichever row shows, the call is refused and has changed nothing.
+ * gives 15. save alone asks it before it judges what the parts hold, so that there 20 stands before that 19, and 20 for its output last. Whichever row
+ * shows, the call is refused and has changed nothing.
  *
  * THE TABLE. Several people may share one preprocessor. Every call that takes one names a role, 0 to 3, and is lent a table of what each role may do:
  * 16 bytes, role by role, in each role the four rights in the order of VEERYCOUCH_SEE to VEERYCOUCH_RESTORE, 1 granted and 0 withheld. The right r of a
@@ -49,7 +51,7 @@
  * is told the ones expected: a text of other channels is refused by 27. A text of before there were codes has none, and is read as one with d zeros.
  *
  * THE PARTS. The caller owns all memory. A part is a pointer and the number of its elements. A part may be longer than it must be: what lies
- * behind keeps its contents. With d, k and start as given to build, w = d in STANDARD and d + 1 in TIME_AUGMENTED and GAP_AUGMENTED:
+ * past that keeps its contents. With d, k and start as given to build, w = d in STANDARD and d + 1 in TIME_AUGMENTED and GAP_AUGMENTED:
  *   head                  VEERYCOUCH_HEAD_WORDS words      statistics            3 * (5 * d + 5) doubles
  *   last_shingled_input   d * k floats                     last_shingled_point   w * k floats (get_dimension)
  *   previous_timestamps   k                                initial_values        start * d floats, under methods 0 to 3 none
@@ -63,7 +65,8 @@
  *   28 to 43 codes, the first d of them in use
  * In a word that holds a float the low 32 bits count. Every bit pattern of a not-a-number is read as not-a-number, and written as 7fc00000 (float) or
  * 7ff8000000000000 (double). A damaged head is refused as `build` refuses its settings (rows 1 to 9, 19); by 19 too where one of words 28 to 43 is
- * above 65535; counters that no preprocessor of these settings can have, by 20, by every call that takes a head. A call writes words 8 to 11 alone; build and restore write all 44.
+ * above 65535; counters that no preprocessor of these settings can have, by 20. Every call that takes a head asks all of this before anything else but
+ * 22, save and the getters too; build and restore take none, they write one. A call writes words 8 to 11 alone; build and restore write all 44.
  *
  * THE CALLER. Each pointer must be aligned for its element and valid for as many elements as its length says; with length 0 it must still not be
  * NULL. A pointer to a single number must be valid. What a call writes may not overlap anything else that it is handed. Two calls may run at the
@@ -518,7 +521,7 @@ static inline const char *veerycouch_row_text(uint64_t row) {
         "a forecast of unequal lists, or without a whole block, or with a broken one",
         "a range whose bounds are crossed (no call of this library)",
         "a counter would pass its limit",
-        "not of the form: a text with a bad line, or a number that names no mode, method, rule or code",
+        "not of the form: a text with a bad line, times or waiting readings that no text has, or a number that names no mode, method, rule or code",
         "a lent part is too short, or the counters of the head are not of its settings",
         "a mark other than 0 or 1, or more than 2000 readings to fill",
         "the role lacks the right, or the role is above 3, or the table is not of the form",

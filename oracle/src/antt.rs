@@ -201,9 +201,9 @@ use lib.Ieee as Ieee
 use Rattle.numeric.specs.Narrow as Narrow
 use Rattle.numeric.specs.Root as Root
 use Rattle.common.specs.Deviation as Deviation
-use Rattle.common.specs.Lent as Lent
-use Rattle.common.specs.RangeVector as RangeVector
-use Rattle.common.specs.RangeVector.{ranges}
+use Rattle.refusal.specs.Lent as Lent
+use Rattle.ranges.specs.RangeVector as RangeVector
+use Rattle.ranges.specs.RangeVector.{ranges}
 use Rattle.trcf.specs.Lists as Lists
 use Rattle.trcf.specs.Settings as Settings
 use Rattle.trcf.specs.Calls as Calls
@@ -216,7 +216,7 @@ use Rattle.trcf.specs.declared.types.TransformMethod.the-variants.{NONE, WEIGHT
 use Rattle.trcf.specs.declared.types.ForestMode.the-variants.{STANDARD, «TIME_AUGMENTED»}
 use Rattle.snapshot.specs.Text as Text
 use Rattle.snapshot.specs.Text.{render}
-use Rattle.snapshot.specs.Steps.Ascii.{text}
+use Rattle.snapshot.specs.Ascii.{text}
 use Rattle.restart.specs.Statistics as Statistics
 use Rattle.restart.specs.History as History
 use Rattle.restart.specs.History.{historyText}
@@ -227,8 +227,8 @@ const SPECS: [&str; 13] = [
     "numeric/specs/Narrow",
     "numeric/specs/Root",
     "common/specs/Deviation",
-    "common/specs/Lent",
-    "common/specs/RangeVector",
+    "refusal/specs/Lent",
+    "ranges/specs/RangeVector",
     "trcf/specs/Lists",
     "trcf/specs/Settings",
     "trcf/specs/Calls",

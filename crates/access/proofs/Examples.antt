@@ -5,10 +5,10 @@ use mathlib.Core.Bool.{true, false}
 use mathlib.Core.List.{List, [], _∷_, _++_}
 use lib.ListN.{replicate}
 use Rattle.trcf.specs.View.{noHead, outcome}
-use Rattle.snapshot.specs.Save.{outcome as saved}
+use Rattle.snapshot.specs.Save.{saveOutcome as saved}
 use Rattle.access.specs.declared.rights.Right.the-variants.{SEE, LEARN, SAVE, RESTORE}
 use Rattle.access.specs.Access.{granted, everyRight}
-use Rattle.access.specs.Entries.{drainBy, saveBy, restoreBy, numbersBy, numbersOf, untold}
+use Rattle.access.specs.Entries.{drainBy, saveBy, restoreBy, numbersBy, statusNumbers, withheldStatus}
 use Rattle.access.specs.Isolation.{noLent}
 use Rattle.access.proofs.Isolation.{isolation, shut}
 
@@ -113,5 +113,5 @@ example-withheld-save = isolation .withheld table 1 .saves noHead noLent (7 ∷ 
 example-isolated-restore : restoreBy table 1 (1 ∷ []) [] noLent ≡ restoreBy table 1 (2 ∷ 3 ∷ []) [] noLent
 example-isolated-restore = isolation .isolated table 1 noHead noHead noLent noLent .restores (1 ∷ []) (2 ∷ 3 ∷ []) [] shut-restore
 
-example-withheld-numbers : numbersBy table 3 noHead ≡ untold
-example-withheld-numbers = shut table 3 (SEE ∷ []) (numbersOf noHead) untold shut-see
+example-withheld-numbers : numbersBy table 3 noHead ≡ withheldStatus
+example-withheld-numbers = shut table 3 (SEE ∷ []) (statusNumbers noHead) withheldStatus shut-see

@@ -9,12 +9,12 @@ use Rattle.trcf.specs.Extrapolation.{extrapolation, extrapolationOf}
 use Rattle.trcf.specs.declared.types.TransformMethod.the-variants.{NONE}
 use Rattle.trcf.specs.declared.types.ForestMode.the-variants.{STANDARD}
 use Rattle.trcf.specs.declared.head.Preprocessor.{Preprocessor}
-use Rattle.snapshot.specs.Save.{saveOf, outcome as saved}
-use Rattle.snapshot.specs.Restore.{restoreOf, outcome as restored}
+use Rattle.snapshot.specs.Save.{saveOf, saveOutcome as saved}
+use Rattle.snapshot.specs.Restore.{restoreOf, restoreOutcome as restored}
 use Rattle.access.specs.declared.rights.Right.{Right}
 use Rattle.access.specs.declared.rights.Right.the-variants.{SEE, SAVE, RESTORE}
 use Rattle.access.specs.Access.{needs, granted, guarded}
-use Rattle.access.specs.Entries.{untold, numbersOf, number, ready, method, mode}
+use Rattle.access.specs.Entries.{withheldStatus, statusNumbers, number, ready, method, mode}
 use Rattle.access.specs.Isolation.{Withheld, Isolated, Isolation, pointShown, learnShown}
 
 module _ {A : Type 0} where
@@ -35,7 +35,7 @@ withheld t role =
       drains = λ h l e. shut t role (needs drain) (drainOf h l) (outcome 22 h l) e;
       writes = λ h l c out e. shut t role (needs c) (writeOf h l c out) (written 22 out) e;
       extrapolates = λ h st x ts c e. shut t role (needs (invertExtrapolation c)) (extrapolationOf h st x ts c) (extrapolation 22 c) e;
-      tells = λ h l out e. shut t role (needs (status out)) (statusAfter h l out) (statusGiven untold out) e;
+      tells = λ h l out e. shut t role (needs (status out)) (statusAfter h l out) (statusGiven withheldStatus out) e;
       saves = λ h l out e. shut t role (SAVE ∷ []) (saveOf h l out) (saved 22 0 out) e;
       restores = λ text codes l e. shut t role (RESTORE ∷ []) (restoreOf text codes l) (restored 22 0 noHead l) e;
     }
@@ -51,7 +51,7 @@ module _ (t : List ℕ) (role : ℕ) (h g : Preprocessor) (l m : Lent) where
         writes = λ c out e. w .writes h l c out e ∙ sym (w .writes g m c out e);
         extrapolates = λ st sy x y ts us c e. w .extrapolates h st x ts c e ∙ sym (w .extrapolates g sy y us c e);
         tells = λ out e. w .tells h l out e ∙ sym (w .tells g m out e);
-        numbers = λ e. alike t role (SEE ∷ []) (numbersOf h) (numbersOf g) untold e;
+        numbers = λ e. alike t role (SEE ∷ []) (statusNumbers h) (statusNumbers g) withheldStatus e;
         counts = λ a b e. alike t role (SEE ∷ []) (number 0 a) (number 0 b) (number 22 0) e;
         readies = λ a b e. alike t role (SEE ∷ []) (ready 0 a) (ready 0 b) (ready 22 false) e;
         methods = λ a b e. alike t role (SEE ∷ []) (method 0 a) (method 0 b) (method 22 NONE) e;

@@ -20,8 +20,8 @@ use Rattle.trcf.specs.declared.head.Preprocessor.{Preprocessor}
 use Rattle.trcf.specs.declared.head.StatusAnswer.{StatusAnswer}
 use Rattle.access.specs.declared.rights.Right.{Right}
 use Rattle.access.specs.declared.rights.Right.the-variants.{SEE, LEARN, SAVE, RESTORE}
-use Rattle.access.specs.Access.{bits, standing, cell, has, granted, guarded, everyRight}
-use Rattle.access.specs.Entries.{numbersOf}
+use Rattle.access.specs.Access.{bits, tableFits, tableEntry, has, granted, guarded, everyRight}
+use Rattle.access.specs.Entries.{statusNumbers}
 
 -- ---- the cells, one by one
 
@@ -74,41 +74,41 @@ module _ (l : List ℕ) (i : ℕ) (h : i < length l) (largest after : ℕ) (inv 
 -- ---- whether the table is one, and the role one of its four
 
 module _ (t : List ℕ) (role : ℕ) where
-  pub no-size : (length t ≡ 16 → ⊥) → false ≡ standing t role
+  pub no-size : (length t ≡ 16 → ⊥) → false ≡ tableFits t role
   no-size n = rw (ne-eqb (length t) 16 n)
 
-  pub no-role : 4 ≤ role → false ≡ standing t role
+  pub no-role : 4 ≤ role → false ≡ tableFits t role
   no-role h = rw (le-ltb role 4 h) (off (eqb (length t) 16))
     where
       off : (a : Bool) → false ≡ a && false
       off true = refl
       off false = refl
 
-  pub stands : length t ≡ 16 → role < 4 → bits t ≡ standing t role
+  pub stands : length t ≡ 16 → role < 4 → bits t ≡ tableFits t role
   stands n h = rw (eq-eqb (length t) 16 n, lt-ltb role 4 h)
 
-  pub stands-size : standing t role ≡ true → length t ≡ 16
+  pub stands-size : tableFits t role ≡ true → length t ≡ 16
   stands-size e = eqb-true (length t) 16 (and-left (eqb (length t) 16) (ltb role 4 && bits t) e)
 
-  pub stands-role : standing t role ≡ true → role < 4
+  pub stands-role : tableFits t role ≡ true → role < 4
   stands-role e = ltb-true role 4 (and-left (ltb role 4) (bits t) (and-right (eqb (length t) 16) (ltb role 4 && bits t) e))
 
   -- ---- whether a right is granted
 
-  pub no-table : (rs : List Right) → standing t role ≡ false → false ≡ granted t role rs
+  pub no-table : (rs : List Right) → tableFits t role ≡ false → false ≡ granted t role rs
   unfolding granted
   no-table rs e = ap (λ (b : Bool). b && has t role rs) (sym e)
 
-  pub by-cells : (rs : List Right) → standing t role ≡ true → has t role rs ≡ granted t role rs
+  pub by-cells : (rs : List Right) → tableFits t role ≡ true → has t role rs ≡ granted t role rs
   unfolding granted
   by-cells rs e = ap (λ (b : Bool). b && has t role rs) (sym e)
 
   -- the two cells that a point asks for: the first is shut, or the second decides
-  pub no-first : (r q : Right) → eqb (cell t role r) 1 ≡ false → false ≡ has t role (r ∷ q ∷ [])
-  no-first r q e = ap (λ (b : Bool). b && (eqb (cell t role q) 1 && true)) (sym e)
+  pub no-first : (r q : Right) → eqb (tableEntry t role r) 1 ≡ false → false ≡ has t role (r ∷ q ∷ [])
+  no-first r q e = ap (λ (b : Bool). b && (eqb (tableEntry t role q) 1 && true)) (sym e)
 
-  pub by-second : (r q : Right) → eqb (cell t role r) 1 ≡ true → eqb (cell t role q) 1 ≡ has t role (r ∷ q ∷ [])
-  by-second r q e = and-true (eqb (cell t role q) 1) ∙ ap (λ (b : Bool). b && (eqb (cell t role q) 1 && true)) (sym e)
+  pub by-second : (r q : Right) → eqb (tableEntry t role r) 1 ≡ true → eqb (tableEntry t role q) 1 ≡ has t role (r ∷ q ∷ [])
+  by-second r q e = and-true (eqb (tableEntry t role q) 1) ∙ ap (λ (b : Bool). b && (eqb (tableEntry t role q) 1 && true)) (sym e)
 
 -- ---- an entry behind its guard: b is what the test said
 
@@ -164,6 +164,6 @@ same-mode a b e = sym (mode-back a) ∙ ap modeOfLetter e ∙ mode-back b
 pub numbers-are : (h : Preprocessor) (u : TransformMethod) (v : ForestMode) {a b d e f i n : ℕ} {r : Bool}
     → a ≡ h .«values_seen» → b ≡ h .«internal_timestamp» → r ≡ readyOf h → d ≡ h .transformer .«input_length» → e ≡ h .«shingle_size» → f ≡ dimensionOf h
     → methodNumber u ≡ methodNumber (h .transformer .«transform_method») → modeLetter v ≡ modeLetter (h .«forest_mode») → i ≡ h .«start_normalization» → n ≡ panelOf (alone h)
-    → answered a b r d e f u v i n ≡ numbersOf h
+    → answered a b r d e f u v i n ≡ statusNumbers h
 numbers-are h u v a b r d e f k m i n =
     λ j. answered (a j) (b j) (r j) (d j) (e j) (f j) (same-method u (h .transformer .«transform_method») k j) (same-mode v (h .«forest_mode») m j) (i j) (n j)

@@ -35,20 +35,20 @@ bits [] = true
 bits (x ∷ xs) = ltb x 2 && bits xs
 
 -- the table is one, and the role one of its four
-abbrev pub standing : List ℕ → ℕ → Bool
-standing table role = eqb (length table) 16 && (ltb role 4 && bits table)
+abbrev pub tableFits : List ℕ → ℕ → Bool
+tableFits table role = eqb (length table) 16 && (ltb role 4 && bits table)
 
 -- "role by role in that order of rights"
-abbrev pub cell : List ℕ → ℕ → Right → ℕ
-cell table role r = getD table (4 * role + place r) 0
+abbrev pub tableEntry : List ℕ → ℕ → Right → ℕ
+tableEntry table role r = getD table (4 * role + place r) 0
 
 -- "1 granted, 0 withheld"
 abbrev pub has : List ℕ → ℕ → List Right → Bool
 has table role [] = true
-has table role (r ∷ rs) = eqb (cell table role r) 1 && has table role rs
+has table role (r ∷ rs) = eqb (tableEntry table role r) 1 && has table role rs
 
 unfoldable pub granted : List ℕ → ℕ → List Right → Bool
-granted table role rs = standing table role && has table role rs
+granted table role rs = tableFits table role && has table role rs
 
 -- ---- every entry, of whatever kind its answer is: what the entry below gives, or 22 "before row 1" with all as it was
 

@@ -14,8 +14,8 @@ use Rattle.trcf.specs.declared.types.ForestMode.{ForestMode}
 use Rattle.trcf.specs.declared.types.ForestMode.the-variants.{STANDARD}
 use Rattle.trcf.specs.declared.head.Preprocessor.{Preprocessor}
 use Rattle.trcf.specs.declared.head.StatusAnswer.{StatusAnswer}
-use Rattle.snapshot.specs.Save.{saveOf, Outcome as Saved, outcome as saved}
-use Rattle.snapshot.specs.Restore.{restoreOf, Outcome as Restored, outcome as restored}
+use Rattle.snapshot.specs.Save.{saveOf, SaveOutcome as Saved, saveOutcome as saved}
+use Rattle.snapshot.specs.Restore.{restoreOf, RestoreOutcome as Restored, restoreOutcome as restored}
 use Rattle.access.specs.declared.rights.Right.the-variants.{SEE, SAVE, RESTORE}
 use Rattle.access.specs.declared.getters.Number.{Number}
 use Rattle.access.specs.declared.getters.Ready.{Ready}
@@ -44,8 +44,8 @@ extrapolationBy table role h st x ts c = guarded table role (needs (invertExtrap
 
 -- ---- status: the number alone where it is withheld
 
-abbrev pub untold : StatusAnswer
-untold =
+abbrev pub withheldStatus : StatusAnswer
+withheldStatus =
     record {
       row = 22;
       «values_seen» = 0;
@@ -61,12 +61,12 @@ untold =
     }
 
 abbrev pub statusBy : List ℕ → ℕ → Preprocessor → Lent → List Float → StatusOutcome
-statusBy table role h l out = guarded table role (needs (status out)) (statusAfter h l out) (statusGiven untold out)
+statusBy table role h l out = guarded table role (needs (status out)) (statusAfter h l out) (statusGiven withheldStatus out)
 
 -- ---- the getters, which status is made of: each its number, or 22 and 0
 
-abbrev pub numbersOf : Preprocessor → StatusAnswer
-numbersOf h =
+abbrev pub statusNumbers : Preprocessor → StatusAnswer
+statusNumbers h =
     record {
       row = 0;
       «values_seen» = h .«values_seen»;
@@ -85,7 +85,7 @@ abbrev pub number : ℕ → ℕ → Number
 number n x = record { row = n; number = x }
 
 abbrev pub numbersBy : List ℕ → ℕ → Preprocessor → StatusAnswer
-numbersBy table role h = guarded table role (SEE ∷ []) (numbersOf h) untold
+numbersBy table role h = guarded table role (SEE ∷ []) (statusNumbers h) withheldStatus
 
 abbrev pub numberBy : List ℕ → ℕ → ℕ → Number
 numberBy table role x = guarded table role (SEE ∷ []) (number 0 x) (number 22 0)

@@ -10,11 +10,11 @@ use Rattle.trcf.specs.Extrapolation.{extrapolation}
 use Rattle.trcf.specs.declared.types.TransformMethod.{TransformMethod}
 use Rattle.trcf.specs.declared.types.ForestMode.{ForestMode}
 use Rattle.trcf.specs.declared.head.Preprocessor.{Preprocessor}
-use Rattle.snapshot.specs.Save.{outcome as saved}
-use Rattle.snapshot.specs.Restore.{outcome as restored}
+use Rattle.snapshot.specs.Save.{saveOutcome as saved}
+use Rattle.snapshot.specs.Restore.{restoreOutcome as restored}
 use Rattle.access.specs.declared.rights.Right.the-variants.{SEE, SAVE, RESTORE}
 use Rattle.access.specs.Access.{needs, granted}
-use Rattle.access.specs.Entries.{pointBy, learnBy, drainBy, writeBy, extrapolationBy, statusBy, untold, numbersBy, numberBy, readyBy, methodBy, modeBy, saveBy, restoreBy}
+use Rattle.access.specs.Entries.{pointBy, learnBy, drainBy, writeBy, extrapolationBy, statusBy, withheldStatus, numbersBy, numberBy, readyBy, methodBy, modeBy, saveBy, restoreBy}
 
 -- where a right is withheld: "changes nothing", 22, and what is lent for the answer as it was
 pub record Withheld (table : List ℕ) (role : ℕ) : Type 0 where
@@ -26,7 +26,7 @@ pub record Withheld (table : List ℕ) (role : ℕ) : Type 0 where
   pub extrapolates : (h : Preprocessor) (st x : List Float) (ts : List ℕ) (c : Forecast) → granted table role (needs (invertExtrapolation c)) ≡ false
       → extrapolationBy table role h st x ts c ≡ extrapolation 22 c
   pub tells : (h : Preprocessor) (l : Lent) (out : List Float) → granted table role (needs (status out)) ≡ false
-      → statusBy table role h l out ≡ statusGiven untold out
+      → statusBy table role h l out ≡ statusGiven withheldStatus out
   pub saves : (h : Preprocessor) (l : Lent) (out : List ℕ) → granted table role (SAVE ∷ []) ≡ false → saveBy table role h l out ≡ saved 22 0 out
   pub restores : (text codes : List ℕ) (l : Lent) → granted table role (RESTORE ∷ []) ≡ false → restoreBy table role text codes l ≡ restored 22 0 noHead l
 

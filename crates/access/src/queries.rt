@@ -6,11 +6,11 @@ use trcf::head::StatusAnswer;
 use trcf::types::ForestMode;
 use trcf::types::TransformMethod;
 ghost use mathlib.Core.Path.{_≡_};
-ghost use Rattle.common.specs.RangeVector.{ranges};
+ghost use Rattle.ranges.specs.RangeVector.{ranges};
 ghost use Rattle.trcf.specs.Calls.{transform, scale, shift, status};
 ghost use Rattle.trcf.specs.View.{lent, written, statusGiven};
 ghost use Rattle.trcf.specs.Extrapolation.{extrapolation, forecast};
-ghost use Rattle.access.specs.Entries.{writeBy, extrapolationBy, untold, statusBy};
+ghost use Rattle.access.specs.Entries.{writeBy, extrapolationBy, withheldStatus, statusBy};
 
 pub fn transform(
     table: &[u8],
@@ -175,7 +175,7 @@ pub fn invert_extrapolation(
 
 // What the getters say together where the right is withheld: the row alone.
 pub(crate) fn untold() -> StatusAnswer
-    ensures { λ r. ⌜ r ≡ untold ⌝ }
+    ensures { λ r. ⌜ r ≡ withheldStatus ⌝ }
 {
     StatusAnswer {
         row: 22,

@@ -4,7 +4,7 @@ ghost use mathlib.Core.Bool.{true};
 ghost use mathlib.Core.List.{[], _∷_};
 ghost use Prim.Native.Nat.{_<_};
 ghost use lib.Dec.{eqb};
-ghost use Rattle.access.specs.Access.{place, bits, standing, cell, granted, everyRight};
+ghost use Rattle.access.specs.Access.{place, bits, tableFits, tableEntry, granted, everyRight};
 ghost use Rattle.access.specs.declared.rights.Right.the-variants.{SEE, LEARN};
 
 // In the order of a role's cells: see (point, transform, turn-back, scale, shift, status and the getters), learn (learn, drain), save, restore.
@@ -51,7 +51,7 @@ fn all_bits(table: &[u8]) -> bool
 
 // Whether the table is one, and the role one of its four.
 fn has_role(table: &[u8], role: u64) -> bool
-    ensures { λ r. ⌜ r ≡ standing (now (table .entry)) role ⌝ }
+    ensures { λ r. ⌜ r ≡ tableFits (now (table .entry)) role ⌝ }
 {
     if table.len() != 16 {
         return false;
@@ -64,8 +64,8 @@ fn has_role(table: &[u8], role: u64) -> bool
 
 // Whether the cell says so.
 fn is_granted(table: &[u8], role: u64, right: Right) -> bool
-    requires { ⌜ standing (now table) role ≡ true ⌝ }
-    ensures { λ r. ⌜ r ≡ eqb (cell (now (table .entry)) role right) 1 ⌝ }
+    requires { ⌜ tableFits (now table) role ≡ true ⌝ }
+    ensures { λ r. ⌜ r ≡ eqb (tableEntry (now (table .entry)) role right) 1 ⌝ }
 {
     let right_at = place_of(right);
     let at = 4 * (role as usize) + right_at;

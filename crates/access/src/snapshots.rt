@@ -1,14 +1,14 @@
 // `save` and `restore`, each for a role that has its right.
 use crate::rights::Right;
 use crate::rights::may;
-use snapshot::restore::Restored;
+use snapshot_restore::restore::Restored;
 use snapshot_save::save::Saved;
 use trcf::head::Preprocessor;
 use trcf::head::no_head;
 ghost use mathlib.Core.Path.{_≡_};
 ghost use Rattle.trcf.specs.View.{lent};
-ghost use Rattle.snapshot.specs.Save.{outcome as saved};
-ghost use Rattle.snapshot.specs.Restore.{outcome as restored};
+ghost use Rattle.snapshot.specs.Save.{saveOutcome as saved};
+ghost use Rattle.snapshot.specs.Restore.{restoreOutcome as restored};
 ghost use Rattle.access.specs.Entries.{saveBy, restoreBy};
 
 pub fn save(
@@ -63,7 +63,7 @@ pub fn restore(
             head: no_head(),
         };
     }
-    snapshot::restore::restore(
+    snapshot_restore::restore::restore(
         text,
         codes,
         statistics,

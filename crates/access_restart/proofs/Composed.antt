@@ -58,19 +58,19 @@ module _ (table : List ℕ) (runs : Held → List Call → Held) (roleRuns : Hel
   saved = rw p (ap (λ (m : Held). savedTo m out) m-is)
 
   text-is : roleTextIn table saver M out ≡ textIn M₀ out
-  text-is = ap (λ (o : save.Outcome). take (o .length) (o .bytes)) saved
+  text-is = ap (λ (o : save.SaveOutcome). take (o .length) (o .bytes)) saved
 
   restored : restoreBy table restorer (roleTextIn table saver M out) (s .codes) second ≡ restore.restoreOf (textIn M₀ out) (s .codes) second
   restored = rw q (ap (λ (t : List ℕ). restore.restoreOf t (s .codes) second) text-is)
 
   n-is : N ≡ N₀
-  n-is = ap (λ (o : restore.Outcome). held (o .head) (o .lent)) restored
+  n-is = ap (λ (o : restore.RestoreOutcome). held (o .head) (o .lent)) restored
 
   -- the same bytes, or 20 of both, or 22 of both, whoever saves
   same-text : (last : List ℕ) → savedTo (runs N₀ A) last ≡ savedTo (runs (builtOn s first) (B ++ A)) last
       → (role : ℕ) → roleSavedTo table role (roleRuns N after) last ≡ roleSavedTo table role (roleRuns (builtOn s first) (before ++ after)) last
   same-text last e role =
-      ap (λ (o : save.Outcome). cond (granted table role (SAVE ∷ [])) o (save.outcome 22 0 last))
+      ap (λ (o : save.SaveOutcome). cond (granted table role (SAVE ∷ [])) o (save.saveOutcome 22 0 last))
       (ap (λ (m : Held). savedTo m last) (run-is N after ∙ ap (λ (m : Held). runs m A) n-is)
       ∙ e
       ∙ ap (λ (cs : List Call). savedTo (runs (builtOn s first) cs) last) (sym both)

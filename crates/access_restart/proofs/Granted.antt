@@ -5,7 +5,7 @@ use mathlib.Core.Bool.{Bool, true, false, cond}
 use mathlib.Core.List.{List, [], _∷_, _++_, map, append-assoc}
 use lib.ListN.{take, drop}
 use Rattle.trcf.specs.Calls.{Call}
-use Rattle.access_restart.specs.Asked.{Asked, allowed, grantedCalls, placed, guardedStep, guardedRun, guardedPlaces, guardedAnswers}
+use Rattle.access_restart.specs.Asked.{Asked, allowed, grantedCalls, withWithheld, guardedStep, guardedRun, guardedPlaces, guardedAnswers}
 
 -- the list t has what is seen at each place of the granted calls: at a withheld call it stays
 abbrev pub stayed : {P : Type 0} → List ℕ → List Asked → List P → List P
@@ -35,12 +35,12 @@ module _ {M : Type 0} (step : M → Call → M) (table : List ℕ) where
 
   module _ {B : Type 0} (say : M → Call → B) (withheld : Call → B) (says : M → List Call → List B)
       (more : (m : M) (c : Call) (cs : List Call) → says m (c ∷ cs) ≡ say m c ∷ says (step m c) cs) where
-    pub answers-granted : (m : M) (l : List Asked) → guardedAnswers step say withheld table m l ≡ placed withheld table l (says m (grantedCalls table l))
+    pub answers-granted : (m : M) (l : List Asked) → guardedAnswers step say withheld table m l ≡ withWithheld withheld table l (says m (grantedCalls table l))
     answers-granted m [] = refl
     answers-granted m (a ∷ l) = by (allowed table a) refl (λ n. answers-granted n l)
       where
-        by : (b : Bool) → allowed table a ≡ b → ((n : M) → guardedAnswers step say withheld table n l ≡ placed withheld table l (says n (grantedCalls table l)))
-            → guardedAnswers step say withheld table m (a ∷ l) ≡ placed withheld table (a ∷ l) (says m (grantedCalls table (a ∷ l)))
+        by : (b : Bool) → allowed table a ≡ b → ((n : M) → guardedAnswers step say withheld table n l ≡ withWithheld withheld table l (says n (grantedCalls table l)))
+            → guardedAnswers step say withheld table m (a ∷ l) ≡ withWithheld withheld table (a ∷ l) (says m (grantedCalls table (a ∷ l)))
         by true e rest = rw (e, more m (a .call) (grantedCalls table l)) (ap (λ (q : List B). say m (a .call) ∷ q) (rest (step m (a .call))))
         by false e rest = rw e (ap (λ (q : List B). withheld (a .call) ∷ q) (rest m))
 

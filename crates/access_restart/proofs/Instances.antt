@@ -29,10 +29,10 @@ use Rattle.restart_program.proofs.Instances.{stranding-fed-first, dirty, filthy
 use Rattle.access.specs.declared.rights.Right.the-variants.{SEE, SAVE, RESTORE}
 use Rattle.access.specs.Access.{granted, everyRight}
 use Rattle.access.specs.Entries.{number, numberBy}
-use Rattle.access_restart.specs.Asked.{ask, allowed, grantedCalls, placed}
-use Rattle.access_restart.specs.RoleDemand.{withheldAnswer, roleRun, roleAnswers, gave, roleSave, rolePanels, fedAt, RoleRestart, RoleEvent, asked, restarted, roleEvents}
+use Rattle.access_restart.specs.Asked.{ask, allowed, grantedCalls, withWithheld}
+use Rattle.access_restart.specs.RoleDemand.{withheldAnswer, roleRun, roleAnswers, gave, roleSave, rolePanels, roleHistoryPanels, RoleRestart, RoleEvent, asked, roleRestarted, roleEvents}
 use Rattle.access_restart.specs.RoleDemand.{roleEventAnswers, RoleRestarts}
-use Rattle.access_restart.specs.RoleHeld.{heldRoleRun, heldRoleAnswers, roleSavedTo, roleTextIn, roleRestoredOn, Shown, shown, heldRoleShown, shownAt, RoleHeldRestart}
+use Rattle.access_restart.specs.RoleHeld.{heldRoleRun, heldRoleAnswers, roleSavedTo, roleTextIn, roleRestoredOn, GettersShown, gettersShown, heldRoleShown, shownAt, RoleHeldRestart}
 use Rattle.access_restart.specs.RoleProgram.{roleReturn, roleRan, roleReturns, rolePanelsReturned, roleGettersShown, RoleProgramRestart}
 use Rattle.access_restart.proofs.Samples.{badTables, garage, morning, evening, day, counted-morning, counted-evening, counted}
 use Rattle.access_restart.proofs.Granted.{stayed}
@@ -84,14 +84,14 @@ text-last = restart-last .text ∙ ap (λ (cs : List Call). gave (historyText st
 abbrev eveningAnswers : List Answer
 eveningAnswers = refused 22 ∷ pointAnswer ∷ refused 22 ∷ learnAnswer ∷ refused 22 ∷ refused 20 ∷ []
 
-placed-evening : placed withheldAnswer garage evening (pointAnswer ∷ learnAnswer ∷ refused 20 ∷ []) ≡ eveningAnswers
+placed-evening : withWithheld withheldAnswer garage evening (pointAnswer ∷ learnAnswer ∷ refused 20 ∷ []) ≡ eveningAnswers
 unfolding granted
 placed-evening = refl
 
-ruled-evening : placed withheldAnswer garage evening (historyAnswers strands (entries strands (grantedCalls garage morning)) (grantedCalls garage evening)) ≡ eveningAnswers
+ruled-evening : withWithheld withheldAnswer garage evening (historyAnswers strands (entries strands (grantedCalls garage morning)) (grantedCalls garage evening)) ≡ eveningAnswers
 ruled-evening =
-    (λ j. placed withheldAnswer garage evening (historyAnswers strands (entries strands (counted-morning j)) (counted-evening j)))
-    ∙ ap (placed withheldAnswer garage evening) ruled
+    (λ j. withWithheld withheldAnswer garage evening (historyAnswers strands (entries strands (counted-morning j)) (counted-evening j)))
+    ∙ ap (withWithheld withheldAnswer garage evening) ruled
     ∙ placed-evening
 
 answers-evening : roleAnswers garage (restart-middle .second) evening ≡ eveningAnswers
@@ -115,14 +115,14 @@ module _ {P : Type 0} (a b c d : P) where
   stayed-day e f g h = refl
 
 module _ {P : Type 0} (f : ℕ → P) where
-  fed-evening : map f (fedAt garage strands (entries strands (grantedCalls garage morning)) evening) ≡ map f fedEvening
+  fed-evening : map f (roleHistoryPanels garage strands (entries strands (grantedCalls garage morning)) evening) ≡ map f fedEvening
   fed-evening =
       fed-places garage strands f (entries strands (grantedCalls garage morning)) evening
       ∙ (λ j. stayed garage evening (map f (historyPanels strands (entries strands (counted-morning j)) (counted-evening j))))
       ∙ ap (λ (l : List ℕ). stayed garage evening (map f l)) stranding-fed
       ∙ stayed-evening (f 1) (f 1) (f 2) (f 2)
 
-  fed-day : map f (fedAt garage strands [] day) ≡ map f fedDay
+  fed-day : map f (roleHistoryPanels garage strands [] day) ≡ map f fedDay
   fed-day =
       fed-places garage strands f [] day
       ∙ ap (λ (cs : List Call). stayed garage day (map f (historyPanels strands [] cs))) counted
@@ -166,7 +166,7 @@ gettersDay = tell 0 0 false 0 ∷ tell 0 0 false 0 ∷ tell 1 0 false 0 ∷ tell
 
 -- to unfold this is to unfold whatever its line names
 counting : Unit {0}
-unfolding Ieee.ofBits Ieee.toBits Ieee.size Ieee.eq Ieee.lt Ieee.le Settings.block Settings.dimension Settings.waiting Settings.allOne Settings.settingsRow Lists.lastN Lists.shiftIn Lists.overwrite Calls.finite Calls.due Calls.newest Calls.behind Calls.wrongLength Calls.outside Calls.drainFull Calls.learnFull Calls.waitingShort Calls.learnShort Calls.table Calls.rows History.seenOf History.internalOf History.bufferOf History.shingled History.inputsOf History.timestampsOf History.newestOf History.countOf History.historyState History.historyFacts History.historyRefusal History.complete History.adds History.enter History.entries History.historyPanel History.historyGetters
+unfolding Ieee.ofBits Ieee.toBits Ieee.size Ieee.eq Ieee.lt Ieee.le Settings.block Settings.dimension Settings.waiting Settings.allOne Settings.settingsRow Lists.lastN Lists.shiftIn Lists.overwrite Calls.finite Calls.due Calls.newest Calls.beforeNewest Calls.wrongLength Calls.outside Calls.drainFull Calls.learnFull Calls.waitingShort Calls.learnShort Calls.table Calls.rows History.seenOf History.internalOf History.bufferOf History.shingled History.inputsOf History.timestampsOf History.newestReading History.countOf History.historyState History.historyFacts History.historyRefusal History.complete History.adds History.enter History.entries History.historyPanel History.historyGetters
 counting = tt
 
 told-evening : historyShown strands (entries strands (take 4 stranding)) (drop 4 stranding) ≡ oneIn ∷ oneIn ∷ twoIn ∷ twoIn ∷ []
@@ -178,26 +178,26 @@ told-day : historyShown strands [] stranding
 unfolding counting
 told-day = refl
 
-shown-evening : map (shown 0) (shownAt garage strands (entries strands (grantedCalls garage morning)) evening) ≡ map (shown 0) gettersEvening
+shown-evening : map (gettersShown 0) (shownAt garage strands (entries strands (grantedCalls garage morning)) evening) ≡ map (gettersShown 0) gettersEvening
 shown-evening =
-    shown-places garage strands (shown 0) (entries strands (grantedCalls garage morning)) evening
-    ∙ (λ j. stayed garage evening (map (shown 0) (historyShown strands (entries strands (counted-morning j)) (counted-evening j))))
-    ∙ ap (λ (l : List Getters). stayed garage evening (map (shown 0) l)) told-evening
-    ∙ stayed-evening (shown 0 oneIn) (shown 0 oneIn) (shown 0 twoIn) (shown 0 twoIn)
+    shown-places garage strands (gettersShown 0) (entries strands (grantedCalls garage morning)) evening
+    ∙ (λ j. stayed garage evening (map (gettersShown 0) (historyShown strands (entries strands (counted-morning j)) (counted-evening j))))
+    ∙ ap (λ (l : List Getters). stayed garage evening (map (gettersShown 0) l)) told-evening
+    ∙ stayed-evening (gettersShown 0 oneIn) (gettersShown 0 oneIn) (gettersShown 0 twoIn) (gettersShown 0 twoIn)
 
-shown-day : map (shown 0) (shownAt garage strands [] day) ≡ map (shown 0) gettersDay
+shown-day : map (gettersShown 0) (shownAt garage strands [] day) ≡ map (gettersShown 0) gettersDay
 shown-day =
-    let blank : Shown = shown 0 (tell 0 0 false 0) in
-    let heldBack : Shown = shown 0 (tell 1 0 false 0) in
-    shown-places garage strands (shown 0) [] day
-    ∙ ap (λ (cs : List Call). stayed garage day (map (shown 0) (historyShown strands [] cs))) counted
-    ∙ ap (λ (l : List Getters). stayed garage day (map (shown 0) l)) told-day
-    ∙ stayed-day blank heldBack heldBack (shown 0 oneIn) (shown 0 oneIn) (shown 0 oneIn) (shown 0 twoIn) (shown 0 twoIn)
+    let blank : GettersShown = gettersShown 0 (tell 0 0 false 0) in
+    let heldBack : GettersShown = gettersShown 0 (tell 1 0 false 0) in
+    shown-places garage strands (gettersShown 0) [] day
+    ∙ ap (λ (cs : List Call). stayed garage day (map (gettersShown 0) (historyShown strands [] cs))) counted
+    ∙ ap (λ (l : List Getters). stayed garage day (map (gettersShown 0) l)) told-day
+    ∙ stayed-day blank heldBack heldBack (gettersShown 0 oneIn) (gettersShown 0 oneIn) (gettersShown 0 oneIn) (gettersShown 0 twoIn) (gettersShown 0 twoIn)
 
 -- ---- restarts by roles that may, by one that may not save and by one that may not restore
 
 abbrev events : List RoleEvent
-events = restarted 0 0 ∷ (map asked morning ++ (restarted 3 0 ∷ restarted 1 0 ∷ restarted 3 2 ∷ (map asked evening ++ (restarted 4 9 ∷ restarted 0 3 ∷ []))))
+events = roleRestarted 0 0 ∷ (map asked morning ++ (roleRestarted 3 0 ∷ roleRestarted 1 0 ∷ roleRestarted 3 2 ∷ (map asked evening ++ (roleRestarted 4 9 ∷ roleRestarted 0 3 ∷ []))))
 
 restarts-day : RoleRestarts garage strands events
 restarts-day = role-demand-3 .often garage strands strands-valid events machine-day
@@ -259,7 +259,7 @@ held-middle =
 held-evening : heldRoleAnswers garage heldSecond evening ≡ eveningAnswers
 held-evening = held-middle .ruledAnswers ∙ ruled-evening
 
-held-shown : heldRoleShown garage 1 heldSecond evening ≡ map (shown 0) gettersEvening
+held-shown : heldRoleShown garage 1 heldSecond evening ≡ map (gettersShown 0) gettersEvening
 held-shown = held-middle .fedShown 1 viewer ∙ shown-evening
 
 -- composed by access's contracts
@@ -283,10 +283,10 @@ program-panels = program-middle .fedPanels 1 viewer oneRoom one-fits ∙ fed-eve
 program-panels-day : rolePanelsReturned garage 1 oneRoom (builtOn strands dirty) day ≡ map some fedDay
 program-panels-day = program-middle .firstPanels 1 viewer oneRoom one-fits ∙ fed-day some
 
-program-shown : roleGettersShown garage 1 second evening ≡ map (shown 0) gettersEvening
+program-shown : roleGettersShown garage 1 second evening ≡ map (gettersShown 0) gettersEvening
 program-shown = program-middle .fedShown 1 viewer ∙ shown-evening
 
-program-shown-day : roleGettersShown garage 1 (builtOn strands dirty) day ≡ map (shown 0) gettersDay
+program-shown-day : roleGettersShown garage 1 (builtOn strands dirty) day ≡ map (gettersShown 0) gettersDay
 program-shown-day = program-middle .firstShown 1 viewer ∙ shown-day
 
 -- one getter alone, after the restart: to role 1, which may see, and to role 3, which may not
@@ -294,7 +294,7 @@ front : {P : Type 0} {x y : P} {l m : List P} → x ∷ l ≡ y ∷ m → x ≡ 
 front e = cc
 
 panel-to-1 : numberBy garage 1 (panelOf (alone (second .head))) ≡ number 0 1
-panel-to-1 = each-getter garage 1 second .fed ∙ ap (λ (x : Shown). number (x .row) (x .getters .panel)) (front program-shown)
+panel-to-1 = each-getter garage 1 second .fed ∙ ap (λ (x : GettersShown). number (x .row) (x .getters .panel)) (front program-shown)
 
 panel-to-3 : numberBy garage 3 (panelOf (alone (second .head))) ≡ number 22 0
 unfolding granted
@@ -339,7 +339,7 @@ no-saver : granted garage 1 (SAVE ∷ []) ≡ false
 unfolding granted
 no-saver = refl
 
-nothing-saved : roleSavedTo garage 1 first (5 ∷ 6 ∷ []) ≡ save.outcome 22 0 (5 ∷ 6 ∷ [])
+nothing-saved : roleSavedTo garage 1 first (5 ∷ 6 ∷ []) ≡ save.saveOutcome 22 0 (5 ∷ 6 ∷ [])
 nothing-saved = program-isolation garage .savesNothing 1 no-saver first (5 ∷ 6 ∷ [])
 
 saved-by-3 : roleSavedTo garage 3 first exact ≡ savedTo first exact

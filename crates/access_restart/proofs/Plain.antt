@@ -16,15 +16,16 @@ use Rattle.snapshot.specs.Text.{render, TextOf}
 use Rattle.snapshot.specs.Read.{Read, taken, bad, read}
 use Rattle.snapshot.specs.Restore as restore
 use Rattle.restart.specs.History.{Entry, enter, entries, historyText, historyAnswer, historyAnswers, historyPanel, historyPanels, historyGetters, historyShown}
-use Rattle.restart.specs.Statement.{Outlives, Restart, panelTold, panels, panelsEvents, historyPanelsEvents, Event, called, restarted as restarted₀, callsOf, runEvents, answersEvents}
+use Rattle.restart.specs.Statement.{Outlives, Restart, panelTold, panels, panelsEvents, historyPanelsEvents, Event, callMade, restarted as restarted₀, callsOf, runEvents, answersEvents}
 use Rattle.restart.specs.Statement.{Restarts, Reaches, built as built₀, calling, restoring as restoring₀, Demand3}
 use Rattle.restart.specs.Held.{Held, builtOn, savedTo, textIn, restoredOn}
-use Rattle.restart_program.specs.Program.{answerRead, returnOf, leftBy, ran, returns, returnedPanels, shownGetters, ProgramDemand3}
+use Rattle.restart_program.specs.Program.{answerRead, returnOf, leftBy, leftByAll, returns, returnedPanels, shownGetters, ProgramDemand3}
 use Rattle.access.specs.Access.{granted, everyRight}
-use Rattle.access_restart.specs.Asked.{Asked, ask, allowed, grantedCalls, placed, guardedRun, guardedPlaces, guardedAnswers, asRole0}
-use Rattle.access_restart.specs.RoleDemand.{withheldAnswer, roleNext, roleRun, roleAnswers, rolePanels, gave, fedAt, RoleOutlives, RoleEvent, asked, restarted, askedOf, roleEvents}
-use Rattle.access_restart.specs.RoleDemand.{roleEventAnswers, roleEventPanels, fedAtEvents, RoleReaches, built, asking, restoring, RoleDemand3}
-use Rattle.access_restart.specs.RoleHeld.{Shown, shown, shownAt}
+use Rattle.access_restart.specs.Asked.{Asked, ask, allowed, grantedCalls, withWithheld, guardedRun, guardedPlaces, guardedAnswers, asRole0}
+use Rattle.access_restart.specs.RoleDemand.{withheldAnswer, roleNext, roleRun, roleAnswers, rolePanels, gave, roleHistoryPanels, RoleOutlives, RoleEvent, asked, roleRestarted, askedOf}
+use Rattle.access_restart.specs.RoleDemand.{roleEvents}
+use Rattle.access_restart.specs.RoleDemand.{roleEventAnswers, roleEventPanels, fedAtEvents, RoleReaches, roleBuilt, asking, roleRestoring, RoleDemand3}
+use Rattle.access_restart.specs.RoleHeld.{GettersShown, gettersShown, shownAt}
 use Rattle.access_restart.specs.RoleProgram.{roleReturn, roleLeft, roleRan, roleReturns, rolePanelsReturned, roleGettersShown, RoleProgramDemand3}
 use Rattle.access_restart.proofs.Granted.{run-granted, answers-granted}
 
@@ -61,9 +62,9 @@ module _ {M : Type 0} (step : M → Call → M) where
     all-answers m (c ∷ cs) = rw (every-call c) (ap (λ (l : List B). say m c ∷ l) (all-answers (step m c) cs) ∙ sym (more m c cs))
 
     -- and so the granted ones, each in its place
-    all-placed : (m : M) (cs : List Call) → placed withheld everyRight (asRole0 cs) (says m cs) ≡ says m cs
+    all-placed : (m : M) (cs : List Call) → withWithheld withheld everyRight (asRole0 cs) (says m cs) ≡ says m cs
     all-placed m cs =
-        ap (λ (l : List Call). placed withheld everyRight (asRole0 cs) (says m l)) (sym (all-granted cs))
+        ap (λ (l : List Call). withWithheld withheld everyRight (asRole0 cs) (says m l)) (sym (all-granted cs))
         ∙ sym (answers-granted step everyRight say withheld says more m (asRole0 cs))
         ∙ all-answers m cs
 
@@ -83,10 +84,10 @@ state-panels : (out : List Float) (w : State) (cs : List Call) → rolePanels ev
 unfolding granted
 state-panels out = all-places next (λ (w : State). panelTold (answer w (status out))) (panels out) (λ w. refl) (λ w c cs. refl)
 
-ruled-placed : (s : Settings) (es : List Entry) (cs : List Call) → placed withheldAnswer everyRight (asRole0 cs) (historyAnswers s es cs) ≡ historyAnswers s es cs
+ruled-placed : (s : Settings) (es : List Entry) (cs : List Call) → withWithheld withheldAnswer everyRight (asRole0 cs) (historyAnswers s es cs) ≡ historyAnswers s es cs
 ruled-placed s = all-placed (enter s) (historyAnswer s) withheldAnswer (historyAnswers s) (λ es. refl) (λ es c cs. refl)
 
-fed-all : (s : Settings) (es : List Entry) (cs : List Call) → fedAt everyRight s es (asRole0 cs) ≡ historyPanels s es cs
+fed-all : (s : Settings) (es : List Entry) (cs : List Call) → roleHistoryPanels everyRight s es (asRole0 cs) ≡ historyPanels s es cs
 fed-all s = all-places (enter s) (historyPanel s) (historyPanels s) (λ es. refl) (λ es c cs. refl)
 
 shown-all : (s : Settings) (es : List Entry) (cs : List Call) → shownAt everyRight s es (asRole0 cs) ≡ historyShown s es cs
@@ -112,7 +113,7 @@ module _ (s : Settings) (before after : List Call) where
     ruledAnswers =
         sym (state-answers w after)
         ∙ o .ruledAnswers
-        ∙ (λ j. placed withheldAnswer everyRight (asRole0 after) (historyAnswers s (entries s (all-granted before j)) (all-granted after j)))
+        ∙ (λ j. withWithheld withheldAnswer everyRight (asRole0 after) (historyAnswers s (entries s (all-granted before j)) (all-granted after j)))
         ∙ ruled-placed s (entries s before) after;
     sameText =
         ap render (sym (state-run w after))
@@ -127,7 +128,7 @@ module _ (s : Settings) (before after : List Call) where
     fedPanels = λ out room.
         sym (state-panels out w after)
         ∙ o .fedPanels 0 refl out room
-        ∙ ap (λ (cs : List Call). map some (fedAt everyRight s (entries s cs) (asRole0 after))) (all-granted before)
+        ∙ ap (λ (cs : List Call). map some (roleHistoryPanels everyRight s (entries s cs) (asRole0 after))) (all-granted before)
         ∙ ap (map some) (fed-all s (entries s before) after);
   }
 
@@ -149,7 +150,7 @@ module _ (s : Settings) (before after : List Call) where
             sym (state-panels out (fresh s) (before ++ after))
             ∙ ap (rolePanels everyRight 0 out (fresh s)) (sym both)
             ∙ r .fedPanels 0 refl out room
-            ∙ ap (λ (l : List Asked). map some (fedAt everyRight s [] l)) both
+            ∙ ap (λ (l : List Asked). map some (roleHistoryPanels everyRight s [] l)) both
             ∙ ap (map some) (fed-all s [] (before ++ after));
       }
 
@@ -157,12 +158,12 @@ module _ (s : Settings) (before after : List Call) where
 
 abbrev asEvents : List Event → List RoleEvent
 asEvents [] = []
-asEvents (called c ∷ es) = asked (ask 0 c) ∷ asEvents es
-asEvents (restarted₀ ∷ es) = restarted 0 0 ∷ asEvents es
+asEvents (callMade c ∷ es) = asked (ask 0 c) ∷ asEvents es
+asEvents (restarted₀ ∷ es) = roleRestarted 0 0 ∷ asEvents es
 
 same-calls : (es : List Event) → askedOf (asEvents es) ≡ asRole0 (callsOf es)
 same-calls [] = refl
-same-calls (called c ∷ es) = rw (same-calls es)
+same-calls (callMade c ∷ es) = rw (same-calls es)
 same-calls (restarted₀ ∷ es) = same-calls es
 
 role0-next : (w : State) (c : Call) → roleNext everyRight w (ask 0 c) ≡ next w c
@@ -171,17 +172,17 @@ role0-next w c = rw (every-call c)
 same-events : (r : Read) (es : List Event) → roleEvents everyRight r (asEvents es) ≡ runEvents r es
 unfolding granted
 same-events r [] = refl
-same-events (taken w) (called c ∷ es) =
+same-events (taken w) (callMade c ∷ es) =
     ap (λ (v : State). roleEvents everyRight (taken v) (asEvents es)) (role0-next w c) ∙ same-events (taken (next w c)) es
-same-events (bad n) (called c ∷ es) = refl
+same-events (bad n) (callMade c ∷ es) = refl
 same-events (taken w) (restarted₀ ∷ es) = same-events (read (render w)) es
 same-events (bad n) (restarted₀ ∷ es) = refl
 
 same-answers : (r : Read) (es : List Event) → roleEventAnswers everyRight r (asEvents es) ≡ answersEvents r es
 unfolding granted
 same-answers r [] = refl
-same-answers (taken w) (called c ∷ es) = rw (every-call c) (ap (λ (l : List Answer). answer w c ∷ l) (same-answers (taken (next w c)) es))
-same-answers (bad n) (called c ∷ es) = refl
+same-answers (taken w) (callMade c ∷ es) = rw (every-call c) (ap (λ (l : List Answer). answer w c ∷ l) (same-answers (taken (next w c)) es))
+same-answers (bad n) (callMade c ∷ es) = refl
 same-answers (taken w) (restarted₀ ∷ es) = same-answers (read (render w)) es
 same-answers (bad n) (restarted₀ ∷ es) = refl
 
@@ -189,15 +190,15 @@ same-panels : (out : List Float) (r : Read) (es : List Event) → roleEventPanel
 unfolding granted
 same-panels out (taken w) [] = refl
 same-panels out (bad n) [] = refl
-same-panels out (taken w) (called c ∷ es) =
+same-panels out (taken w) (callMade c ∷ es) =
     rw (every-call c) (ap (λ (l : List (Option ℕ)). panelTold (answer w (status out)) ∷ l) (same-panels out (taken (next w c)) es))
-same-panels out (bad n) (called c ∷ es) = refl
+same-panels out (bad n) (callMade c ∷ es) = refl
 same-panels out (taken w) (restarted₀ ∷ es) = ap (λ (l : List (Option ℕ)). panelTold (answer w (status out)) ∷ l) (same-panels out (read (render w)) es)
 same-panels out (bad n) (restarted₀ ∷ es) = refl
 
 same-fed : (s : Settings) (h : List Entry) (es : List Event) → fedAtEvents everyRight s h (asEvents es) ≡ historyPanelsEvents s h es
 same-fed s h [] = refl
-same-fed s h (called c ∷ es) = rw (every-call c) (ap (λ (l : List ℕ). historyPanel s h ∷ l) (same-fed s (enter s h c) es))
+same-fed s h (callMade c ∷ es) = rw (every-call c) (ap (λ (l : List ℕ). historyPanel s h ∷ l) (same-fed s (enter s h c) es))
 same-fed s h (restarted₀ ∷ es) = ap (λ (l : List ℕ). historyPanel s h ∷ l) (same-fed s h es)
 
 module _ (demand : RoleDemand3) (s : Settings) (ok : Valid s) where
@@ -218,7 +219,7 @@ module _ (demand : RoleDemand3) (s : Settings) (ok : Valid s) where
         ruledAnswers =
             sym (same-answers (taken (fresh s)) es)
             ∙ r .ruledAnswers
-            ∙ (λ j. placed withheldAnswer everyRight (same-calls es j) (historyAnswers s [] (calls j)))
+            ∙ (λ j. withWithheld withheldAnswer everyRight (same-calls es j) (historyAnswers s [] (calls j)))
             ∙ ruled-placed s [] (callsOf es);
         text = ap render (sym ran) ∙ r .text ∙ ap (historyText s) calls;
         fedPanels = λ out room. sym (same-panels out (taken (fresh s)) es) ∙ r .fedPanels 0 refl out room ∙ ap (map some) (same-fed s [] es);
@@ -226,12 +227,12 @@ module _ (demand : RoleDemand3) (s : Settings) (ok : Valid s) where
 
   role0-reaches : {cs : List Call} {w : State} → Reaches s cs w → RoleReaches everyRight s (asRole0 cs) w
   unfolding granted
-  role0-reaches built₀ = built
+  role0-reaches built₀ = roleBuilt
   role0-reaches (calling {cs = cs} {w = w} c m r) =
       let machine : All Machine (grantedCalls everyRight (asRole0 (c ∷ []))) = subst (All Machine) (sym (all-granted (c ∷ []))) (m, tt) in
       subst (RoleReaches everyRight s (asRole0 (cs ++ (c ∷ [])))) (role0-next w c)
       (subst (λ (l : List Asked). RoleReaches everyRight s l (roleNext everyRight w (ask 0 c))) (sym (role0-append cs (c ∷ []))) (asking (ask 0 c) machine (role0-reaches r)))
-  role0-reaches (restoring₀ u k r) = restoring 0 0 refl refl u k (role0-reaches r)
+  role0-reaches (restoring₀ u k r) = roleRestoring 0 0 refl refl u k (role0-reaches r)
 
   reached : {cs : List Call} {w : State} → Reaches s cs w → w ≡ run (fresh s) cs
   reached {cs = cs} r = demand .reached everyRight s ok (role0-reaches r) ∙ state-run (fresh s) cs
@@ -269,7 +270,7 @@ entry-leaves m (scale out) = refl
 entry-leaves m (shift out) = refl
 entry-leaves m (status out) = refl
 
-program-run : (m : Held) (cs : List Call) → roleRan everyRight m (asRole0 cs) ≡ ran m cs
+program-run : (m : Held) (cs : List Call) → roleRan everyRight m (asRole0 cs) ≡ leftByAll m cs
 program-run m [] = refl
 program-run m (c ∷ cs) = ap (λ (n : Held). roleRan everyRight n (asRole0 cs)) (entry-leaves m c) ∙ program-run (leftBy m c) cs
 
@@ -284,17 +285,17 @@ program-panels room m (c ∷ cs) =
     λ j. panelTold (answerRead (entry-returns m (status room) j))
     ∷ (ap (λ (n : Held). rolePanelsReturned everyRight 0 room n (asRole0 cs)) (entry-leaves m c) ∙ program-panels room (leftBy m c) cs) j
 
-shown-rows : (m : Held) (cs : List Call) → roleGettersShown everyRight 0 m (asRole0 cs) ≡ map (shown 0) (shownGetters m cs)
+shown-rows : (m : Held) (cs : List Call) → roleGettersShown everyRight 0 m (asRole0 cs) ≡ map (gettersShown 0) (shownGetters m cs)
 unfolding granted
 shown-rows m [] = refl
 shown-rows m (c ∷ cs) =
-    ap (λ (l : List Shown). shown 0 (gettersOf (m .head)) ∷ l)
+    ap (λ (l : List GettersShown). gettersShown 0 (gettersOf (m .head)) ∷ l)
     (ap (λ (n : Held). roleGettersShown everyRight 0 n (asRole0 cs)) (entry-leaves m c) ∙ shown-rows (leftBy m c) cs)
 
-abbrev gettersIn : List Shown → List Getters
-gettersIn l = map (λ (n : Shown). n .getters) l
+abbrev gettersIn : List GettersShown → List Getters
+gettersIn l = map (λ (n : GettersShown). n .getters) l
 
-getters-back : (l : List Getters) → gettersIn (map (shown 0) l) ≡ l
+getters-back : (l : List Getters) → gettersIn (map (gettersShown 0) l) ≡ l
 getters-back [] = refl
 getters-back (x ∷ l) = ap (λ (q : List Getters). x ∷ q) (getters-back l)
 
@@ -309,18 +310,18 @@ plain-program demand s ok before after mb ma first second rf rs out last long =
     (subst (λ (cs : List Call). length (historyText s cs) ≤ length out) (sym (all-granted before)) long) in
     let M : Held = roleRan everyRight (builtOn s first) (asRole0 before) in
     let N : Held = restoredOn (textIn M out) (s .codes) second in
-    let M₀ : Held = ran (builtOn s first) before in
+    let M₀ : Held = leftByAll (builtOn s first) before in
     let m-is : M ≡ M₀ = program-run (builtOn s first) before in
     let n-is : N ≡ restoredOn (textIn M₀ out) (s .codes) second = ap (λ (m : Held). restoredOn (textIn m out) (s .codes) second) m-is in
     let both : asRole0 before ++ asRole0 after ≡ asRole0 (before ++ after) = sym (role0-append before after) in
-    let fed : fedAt everyRight s (entries s (grantedCalls everyRight (asRole0 before))) (asRole0 after) ≡ historyPanels s (entries s before) after =
-    ap (λ (cs : List Call). fedAt everyRight s (entries s cs) (asRole0 after)) (all-granted before) ∙ fed-all s (entries s before) after in
+    let fed : roleHistoryPanels everyRight s (entries s (grantedCalls everyRight (asRole0 before))) (asRole0 after) ≡ historyPanels s (entries s before) after =
+    ap (λ (cs : List Call). roleHistoryPanels everyRight s (entries s cs) (asRole0 after)) (all-granted before) ∙ fed-all s (entries s before) after in
     let shown-fed : shownAt everyRight s (entries s (grantedCalls everyRight (asRole0 before))) (asRole0 after) ≡ historyShown s (entries s before) after =
     ap (λ (cs : List Call). shownAt everyRight s (entries s cs) (asRole0 after)) (all-granted before) ∙ shown-all s (entries s before) after in
     let shown-whole : shownAt everyRight s [] (asRole0 before ++ asRole0 after) ≡ historyShown s [] (before ++ after) =
     ap (shownAt everyRight s []) both ∙ shown-all s [] (before ++ after) in
-    let whole : fedAt everyRight s [] (asRole0 before ++ asRole0 after) ≡ historyPanels s [] (before ++ after) =
-    ap (fedAt everyRight s []) both ∙ fed-all s [] (before ++ after) in
+    let whole : roleHistoryPanels everyRight s [] (asRole0 before ++ asRole0 after) ≡ historyPanels s [] (before ++ after) =
+    ap (roleHistoryPanels everyRight s []) both ∙ fed-all s [] (before ++ after) in
     record {
       builds = r .builds;
       saves = ap (λ (m : Held). savedTo m out .row) (sym m-is) ∙ r .saves;
@@ -336,10 +337,10 @@ plain-program demand s ok before after mb ma first second rf rs out last long =
           ap (λ (n : Held). map answerRead (returns n after)) (sym n-is)
           ∙ ap (map answerRead) (sym (program-returns N after))
           ∙ r .ruledAnswers
-          ∙ (λ j. placed withheldAnswer everyRight (asRole0 after) (historyAnswers s (entries s (all-granted before j)) (all-granted after j)))
+          ∙ (λ j. withWithheld withheldAnswer everyRight (asRole0 after) (historyAnswers s (entries s (all-granted before j)) (all-granted after j)))
           ∙ ruled-placed s (entries s before) after;
       sameText =
-          ap (λ (n : Held). savedTo (ran n after) last) (sym n-is)
+          ap (λ (n : Held). savedTo (leftByAll n after) last) (sym n-is)
           ∙ ap (λ (m : Held). savedTo m last) (sym (program-run N after))
           ∙ r .sameText 0
           ∙ ap (λ (l : List Asked). savedTo (roleRan everyRight (builtOn s first) l) last) both

@@ -13,13 +13,13 @@ use Rattle.snapshot.specs.Restore as restore
 use Rattle.restart.specs.History.{Entry, historyPanels, historyShown}
 use Rattle.restart.specs.Statement.{panelTold}
 use Rattle.restart.specs.Held.{Held}
-use Rattle.restart_program.specs.Program.{Return, answerRead, returnOf, leftBy, ran, returns, returnedPanels, shownGetters, ProgramRestart}
+use Rattle.restart_program.specs.Program.{Return, answerRead, returnOf, leftBy, leftByAll, returns, returnedPanels, shownGetters, ProgramRestart}
 use Rattle.restart_program.proofs.Program.{program-demand-3}
 use Rattle.access.specs.declared.rights.Right.the-variants.{SEE}
 use Rattle.access.specs.Access.{granted}
-use Rattle.access_restart.specs.Asked.{Asked, ask, allowed, grantedCalls, placed, guardedStep, guardedRun, guardedPlaces, guardedSay, guardedAnswers}
-use Rattle.access_restart.specs.RoleDemand.{withheldAnswer, fedAt}
-use Rattle.access_restart.specs.RoleHeld.{Shown, shown, shownTo, shownAt}
+use Rattle.access_restart.specs.Asked.{Asked, ask, allowed, grantedCalls, withWithheld, guardedStep, guardedRun, guardedPlaces, guardedSay, guardedAnswers}
+use Rattle.access_restart.specs.RoleDemand.{withheldAnswer, roleHistoryPanels}
+use Rattle.access_restart.specs.RoleHeld.{GettersShown, gettersShown, shownTo, shownAt}
 use Rattle.access_restart.specs.RoleProgram.{roleReturn, roleLeft, roleRan, roleReturns, rolePanelsReturned, roleGettersShown, EachGetter, withheldReturn, ProgramIsolation, ProgramGranted}
 use Rattle.access_restart.specs.RoleProgram.{RoleProgramDemand3}
 use Rattle.access_restart.proofs.Granted.{stayed, run-granted, answers-granted, places-granted, places-same}
@@ -163,24 +163,24 @@ module _ (table : List ℕ) where
   ran-guarded m [] = refl
   ran-guarded m (a ∷ l) = ap (λ (n : Held). roleRan table n l) (left-is table m a) ∙ ran-guarded (guardedStep leftBy table m a) l
 
-  ran-is : (m : Held) (l : List Asked) → roleRan table m l ≡ ran m (grantedCalls table l)
-  ran-is m l = ran-guarded m l ∙ run-granted leftBy table ran (λ n. refl) (λ n c cs. refl) m l
+  ran-is : (m : Held) (l : List Asked) → roleRan table m l ≡ leftByAll m (grantedCalls table l)
+  ran-is m l = ran-guarded m l ∙ run-granted leftBy table leftByAll (λ n. refl) (λ n c cs. refl) m l
 
   returns-guarded : (m : Held) (l : List Asked) → roleReturns table m l ≡ guardedAnswers leftBy returnOf withheldReturn table m l
   returns-guarded m [] = refl
   returns-guarded m (a ∷ l) =
       λ j. return-is table m a j ∷ (ap (λ (n : Held). roleReturns table n l) (left-is table m a) ∙ returns-guarded (guardedStep leftBy table m a) l) j
 
-  returns-are : (m : Held) (l : List Asked) → roleReturns table m l ≡ placed withheldReturn table l (returns m (grantedCalls table l))
+  returns-are : (m : Held) (l : List Asked) → roleReturns table m l ≡ withWithheld withheldReturn table l (returns m (grantedCalls table l))
   returns-are m l = returns-guarded m l ∙ answers-granted leftBy table returnOf withheldReturn returns (λ n c cs. refl) m l
 
   -- a return read as document 01's answer, in its place
-  placed-read : (l : List Asked) (t : List Return) → map answerRead (placed withheldReturn table l t) ≡ placed withheldAnswer table l (map answerRead t)
+  placed-read : (l : List Asked) (t : List Return) → map answerRead (withWithheld withheldReturn table l t) ≡ withWithheld withheldAnswer table l (map answerRead t)
   placed-read [] t = refl
   placed-read (a ∷ l) t = by (allowed table a) refl t (λ u. placed-read l u)
     where
-      by : (b : Bool) → allowed table a ≡ b → (t : List Return) → ((u : List Return) → map answerRead (placed withheldReturn table l u) ≡ placed withheldAnswer table l (map answerRead u))
-          → map answerRead (placed withheldReturn table (a ∷ l) t) ≡ placed withheldAnswer table (a ∷ l) (map answerRead t)
+      by : (b : Bool) → allowed table a ≡ b → (t : List Return) → ((u : List Return) → map answerRead (withWithheld withheldReturn table l u) ≡ withWithheld withheldAnswer table l (map answerRead u))
+          → map answerRead (withWithheld withheldReturn table (a ∷ l) t) ≡ withWithheld withheldAnswer table (a ∷ l) (map answerRead t)
       by true e [] rest = rw e (rest [])
       by true e (x ∷ t) rest = rw e (ap (λ (q : List Answer). answerRead x ∷ q) (rest t))
       by false e t rest = rw (e, read-withheld (a .call)) (ap (λ (q : List Answer). refused 22 ∷ q) (rest t))
@@ -196,7 +196,7 @@ module _ (table : List ℕ) where
     shown-guarded : (m : Held) (l : List Asked) → roleGettersShown table role m l ≡ guardedPlaces leftBy (shownTo table role) table m l
     shown-guarded m [] = refl
     shown-guarded m (a ∷ l) =
-        ap (λ (q : List Shown). shownTo table role m ∷ q)
+        ap (λ (q : List GettersShown). shownTo table role m ∷ q)
         (ap (λ (n : Held). roleGettersShown table role n l) (left-is table m a) ∙ shown-guarded (guardedStep leftBy table m a) l)
 
     module _ (g : granted table role (SEE ∷ []) ≡ true) where
@@ -207,12 +207,12 @@ module _ (table : List ℕ) where
           ∙ places-same leftBy table (λ (n : Held). panelTold (answerRead (roleReturn table n role (status room)))) told (λ n. rw g) m l
           ∙ places-granted leftBy table told (returnedPanels room) (λ n. refl) (λ n c cs. refl) m l
 
-      shown-are : (m : Held) (l : List Asked) → roleGettersShown table role m l ≡ stayed table l (map (shown 0) (shownGetters m (grantedCalls table l)))
+      shown-are : (m : Held) (l : List Asked) → roleGettersShown table role m l ≡ stayed table l (map (gettersShown 0) (shownGetters m (grantedCalls table l)))
       shown-are m l =
-          let told : Held → Shown = λ (n : Held). shown 0 (gettersOf (n .head)) in
+          let told : Held → GettersShown = λ (n : Held). gettersShown 0 (gettersOf (n .head)) in
           shown-guarded m l
           ∙ places-same leftBy table (shownTo table role) told (λ n. rw g) m l
-          ∙ places-granted leftBy table told (λ (n : Held) (cs : List Call). map (shown 0) (shownGetters n cs)) (λ n. refl) (λ n c cs. refl) m l
+          ∙ places-granted leftBy table told (λ (n : Held) (cs : List Call). map (gettersShown 0) (shownGetters n cs)) (λ n. refl) (λ n c cs. refl) m l
 
 -- ---- the statement
 
@@ -221,26 +221,26 @@ role-program-demand-3 table saver restorer p q s ok before after mb ma first sec
     let B : List Call = grantedCalls table before in
     let A : List Call = grantedCalls table after in
     let r : ProgramRestart s B A first second out last = program-demand-3 s ok B A mb ma first second rf rs out last long in
-    let k = carried table ran (roleRan table) (ran-is table) saver restorer p q s before after first second out in
-    let says : (m n : Held) → m ≡ n → roleReturns table m after ≡ placed withheldReturn table after (returns n A) =
-    λ m n e. returns-are table m after ∙ ap (λ (x : Held). placed withheldReturn table after (returns x A)) e in
+    let k = carried table leftByAll (roleRan table) (ran-is table) saver restorer p q s before after first second out in
+    let says : (m n : Held) → m ≡ n → roleReturns table m after ≡ withWithheld withheldReturn table after (returns n A) =
+    λ m n e. returns-are table m after ∙ ap (λ (x : Held). withWithheld withheldReturn table after (returns x A)) e in
     let panels : List Entry → List Call → List (Option ℕ) = λ es cs. map some (historyPanels s es cs) in
-    let fed : List Entry → List Asked → List (Option ℕ) = λ es l. map some (fedAt table s es l) in
+    let fed : List Entry → List Asked → List (Option ℕ) = λ es l. map some (roleHistoryPanels table s es l) in
     let panel-is = fed-places table s some in
-    let getters : List Entry → List Call → List Shown = λ es cs. map (shown 0) (historyShown s es cs) in
-    let roleGetters : List Entry → List Asked → List Shown = λ es l. map (shown 0) (shownAt table s es l) in
-    let getters-are = shown-places table s (shown 0) in
-    let answered : Held → List Call → List Shown = λ n cs. map (shown 0) (shownGetters n cs) in
+    let getters : List Entry → List Call → List GettersShown = λ es cs. map (gettersShown 0) (historyShown s es cs) in
+    let roleGetters : List Entry → List Asked → List GettersShown = λ es l. map (gettersShown 0) (shownAt table s es l) in
+    let getters-are = shown-places table s (gettersShown 0) in
+    let answered : Held → List Call → List GettersShown = λ n cs. map (gettersShown 0) (shownGetters n cs) in
     record {
       builds = r .builds;
-      saves = ap (λ (o : save.Outcome). o .row) (k .saves) ∙ r .saves;
+      saves = ap (λ (o : save.SaveOutcome). o .row) (k .saves) ∙ r .saves;
       text = k .text ∙ r .text;
-      restores = ap (λ (o : restore.Outcome). o .row) (k .restores) ∙ r .restores;
-      sameReturns = says _ _ (k .second-is) ∙ ap (placed withheldReturn table after) (r .sameReturns) ∙ sym (says _ _ (k .first-is));
-      ruledAnswers = ap (map answerRead) (says _ _ (k .second-is)) ∙ placed-read table after _ ∙ ap (placed withheldAnswer table after) (r .ruledAnswers);
+      restores = ap (λ (o : restore.RestoreOutcome). o .row) (k .restores) ∙ r .restores;
+      sameReturns = says _ _ (k .second-is) ∙ ap (withWithheld withheldReturn table after) (r .sameReturns) ∙ sym (says _ _ (k .first-is));
+      ruledAnswers = ap (map answerRead) (says _ _ (k .second-is)) ∙ placed-read table after _ ∙ ap (withWithheld withheldAnswer table after) (r .ruledAnswers);
       sameText = k .sameText last (r .sameText);
       fedPanels = λ role g room h. k .seenAfter panels fed panel-is (returnedPanels room) (rolePanelsReturned table role room) (panels-are table role g room) (r .fedPanels room h);
       firstPanels = λ role g room h. k .seenFirst panels fed panel-is (returnedPanels room) (rolePanelsReturned table role room) (panels-are table role g room) (r .firstPanels room h);
-      fedShown = λ role g. k .seenAfter getters roleGetters getters-are answered (roleGettersShown table role) (shown-are table role g) (ap (map (shown 0)) (r .fedShown));
-      firstShown = λ role g. k .seenFirst getters roleGetters getters-are answered (roleGettersShown table role) (shown-are table role g) (ap (map (shown 0)) (r .firstShown));
+      fedShown = λ role g. k .seenAfter getters roleGetters getters-are answered (roleGettersShown table role) (shown-are table role g) (ap (map (gettersShown 0)) (r .fedShown));
+      firstShown = λ role g. k .seenFirst getters roleGetters getters-are answered (roleGettersShown table role) (shown-are table role g) (ap (map (gettersShown 0)) (r .firstShown));
     }

@@ -21,15 +21,15 @@ use Rattle.restart.proofs.Reachable.{k>0-of}
 use Rattle.restart.proofs.Restart.{run-append, restored, text-history, demand-3}
 use Rattle.access.specs.declared.rights.Right.the-variants.{SEE, SAVE, RESTORE}
 use Rattle.access.specs.Access.{granted}
-use Rattle.access_restart.specs.Asked.{Asked, ask, allowed, grantedCalls, placed, guardedStep}
-use Rattle.access_restart.specs.RoleDemand.{withheldAnswer, roleNext, roleAnswer, roleRun, roleAnswers, gave, withheld, rolePanels, fedAt, Isolation, RoleOutlives, RoleRestart}
-use Rattle.access_restart.specs.RoleDemand.{RoleEvent, asked, restarted, askedOf, restartedBy, roleEvents, roleEventAnswers, toldTo, roleEventPanels, fedAtEvents, RoleRestarts}
-use Rattle.access_restart.specs.RoleDemand.{RoleReaches, built, asking, restoring, RoleDemand3, CountsGranted}
+use Rattle.access_restart.specs.Asked.{Asked, ask, allowed, grantedCalls, withWithheld, guardedStep}
+use Rattle.access_restart.specs.RoleDemand.{withheldAnswer, roleNext, roleAnswer, roleRun, roleAnswers, gave, withheld, rolePanels, roleHistoryPanels, RoleIsolation, RoleOutlives, RoleRestart}
+use Rattle.access_restart.specs.RoleDemand.{RoleEvent, asked, roleRestarted, askedOf, restartedBy, roleEvents, roleEventAnswers, toldTo, roleEventPanels, fedAtEvents, RoleRestarts}
+use Rattle.access_restart.specs.RoleDemand.{RoleReaches, roleBuilt, asking, roleRestoring, RoleDemand3, CountsGranted}
 use Rattle.access_restart.proofs.Granted.{stayed, granted-append, run-granted, answers-granted, places-granted, places-same, places-read}
 
 -- ---- isolation
 
-pub isolation : Isolation
+pub isolation : RoleIsolation
 isolation = record {
   unchanged = λ table a e w. rw e;
   alike = λ table a e w v. rw e;
@@ -49,14 +49,14 @@ module _ (table : List ℕ) where
   pub role-run : (w : State) (l : List Asked) → roleRun table w l ≡ run w (grantedCalls table l)
   role-run = run-granted next table run (λ w. refl) (λ w c cs. refl)
 
-  pub role-answers : (w : State) (l : List Asked) → roleAnswers table w l ≡ placed withheldAnswer table l (answers w (grantedCalls table l))
+  pub role-answers : (w : State) (l : List Asked) → roleAnswers table w l ≡ withWithheld withheldAnswer table l (answers w (grantedCalls table l))
   role-answers = answers-granted next table answer withheldAnswer answers (λ w c cs. refl)
 
   -- ---- the panel that a role is told
 
   -- where the status answers of the granted calls tell the history's readings fed, so do those of all calls
   module _ {P : Type 0} (s : Settings) (f : ℕ → P) where
-    pub fed-places : (es : List Entry) (l : List Asked) → map f (fedAt table s es l) ≡ stayed table l (map f (historyPanels s es (grantedCalls table l)))
+    pub fed-places : (es : List Entry) (l : List Asked) → map f (roleHistoryPanels table s es l) ≡ stayed table l (map f (historyPanels s es (grantedCalls table l)))
     fed-places = places-read (enter s) table f (historyPanel s) (historyPanels s) (λ h. refl) (λ h c cs. refl)
 
   module _ (role : ℕ) (g : granted table role (SEE ∷ []) ≡ true) (out : List Float) where
@@ -81,9 +81,9 @@ module _ (table : List ℕ) where
     outlives w o = record {
       sameAnswers =
           role-answers w after
-          ∙ ap (placed withheldAnswer table after) (o .sameAnswers ∙ ap (λ (v : State). answers v A) (sym (role-run (fresh s) before)))
+          ∙ ap (withWithheld withheldAnswer table after) (o .sameAnswers ∙ ap (λ (v : State). answers v A) (sym (role-run (fresh s) before)))
           ∙ sym (role-answers (roleRun table (fresh s) before) after);
-      ruledAnswers = role-answers w after ∙ ap (placed withheldAnswer table after) (o .ruledAnswers);
+      ruledAnswers = role-answers w after ∙ ap (withWithheld withheldAnswer table after) (o .ruledAnswers);
       sameText = λ role. ap (λ (x : List ℕ). cond (granted table role (SAVE ∷ [])) (gave x) withheld) texts;
       historyEnds = λ role g. rw g (ap gave (ap render (role-run w after) ∙ o .historyEnds ∙ ap (historyText s) (sym (granted-append table before after))));
       fedPanels = λ role g out room.
@@ -167,7 +167,7 @@ module _ (table : List ℕ) where
     ends w h k (asked a ∷ es) m =
         let n = asks a (grantedCalls table (askedOf es)) m w h k in
         ends (roleNext table w a) (guardedStep (enter s) table h a) (n .0) es (n .1)
-    ends w h k (restarted p q ∷ es) m = ap (λ (x : Read). roleEvents table x es) (restarted-same w h k p q) ∙ ends w h k es m
+    ends w h k (roleRestarted p q ∷ es) m = ap (λ (x : Read). roleEvents table x es) (restarted-same w h k p q) ∙ ends w h k es m
 
     says : (w : State) (h : List Entry) → Stands w h → (es : List RoleEvent) → All Machine (grantedCalls table (askedOf es))
         → roleEventAnswers table (taken w) es ≡ roleAnswers table w (askedOf es)
@@ -175,7 +175,7 @@ module _ (table : List ℕ) where
     says w h k (asked a ∷ es) m =
         let n = asks a (grantedCalls table (askedOf es)) m w h k in
         ap (λ (l : List Answer). roleAnswer table w a ∷ l) (says (roleNext table w a) (guardedStep (enter s) table h a) (n .0) es (n .1))
-    says w h k (restarted p q ∷ es) m = ap (λ (x : Read). roleEventAnswers table x es) (restarted-same w h k p q) ∙ says w h k es m
+    says w h k (roleRestarted p q ∷ es) m = ap (λ (x : Read). roleEventAnswers table x es) (restarted-same w h k p q) ∙ says w h k es m
 
     module _ (role : ℕ) (g : granted table role (SEE ∷ []) ≡ true) (out : List Float) (room : block s ≤ length out) where
       tells : (w : State) (h : List Entry) → Stands w h → toldTo table role out w ≡ some (historyPanel s h)
@@ -189,7 +189,7 @@ module _ (table : List ℕ) where
       shows w h k (asked a ∷ es) m =
           let n = asks a (grantedCalls table (askedOf es)) m w h k in
           λ j. tells w h k j ∷ shows (roleNext table w a) (guardedStep (enter s) table h a) (n .0) es (n .1) j
-      shows w h k (restarted p q ∷ es) m =
+      shows w h k (roleRestarted p q ∷ es) m =
           λ j. tells w h k j ∷ (ap (λ (x : Read). roleEventPanels table role out x es) (restarted-same w h k p q) ∙ shows w h k es m) j
 
     begun : Stands (fresh s) []
@@ -203,14 +203,14 @@ module _ (table : List ℕ) where
       ruledAnswers =
           says (fresh s) [] begun es m
           ∙ role-answers (fresh s) (askedOf es)
-          ∙ ap (placed withheldAnswer table (askedOf es)) (answers-history s (k>0-of s ok) (grantedCalls table (askedOf es)));
+          ∙ ap (withWithheld withheldAnswer table (askedOf es)) (answers-history s (k>0-of s ok) (grantedCalls table (askedOf es)));
       text = ap render (role-run (fresh s) (askedOf es)) ∙ text-history s ok (grantedCalls table (askedOf es)) m;
       fedPanels = λ role g out room. shows role g out room (fresh s) [] begun es m;
     }
 
     -- the calls that lead to w, with restarts by the relation, are granted ones
     granted-reach : {l : List Asked} {w : State} → RoleReaches table s l w → Reaches s (grantedCalls table l) w
-    granted-reach built = built₀
+    granted-reach roleBuilt = built₀
     granted-reach (asking {l = l} {w = w} a m r) =
         subst (λ (cs : List Call). Reaches s cs (roleNext table w a)) (sym (granted-append table l (a ∷ []))) (by (allowed table a) refl m (granted-reach r))
       where
@@ -220,7 +220,7 @@ module _ (table : List ℕ) where
             let n : All Machine (a .call ∷ []) = subst (λ (x : Bool). All Machine (cond x (a .call ∷ []) [] ++ [])) e m in
             rw e (calling (a .call) (n .0) r)
         by false e m r = rw e (subst (λ (cs : List Call). Reaches s cs w) (sym (append-nil (grantedCalls table l))) r)
-    granted-reach (restoring saver restorer p q u k r) = restoring₀ u k (granted-reach r)
+    granted-reach (roleRestoring saver restorer p q u k r) = restoring₀ u k (granted-reach r)
 
     reached : {l : List Asked} {w : State} → RoleReaches table s l w → w ≡ roleRun table (fresh s) l
     reached {l = l} r = demand-3 .reached s ok (granted-reach r) ∙ sym (role-run (fresh s) l)

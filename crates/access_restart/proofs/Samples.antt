@@ -6,7 +6,7 @@ use mathlib.Core.List.{List, [], _∷_, _++_, map}
 use mathlib.Core.Option.{none, some}
 use lib.ListN.{take, drop, set, replicate}
 use lib.Ieee.{Float, nan}
-use Rattle.common.specs.RangeVector.{ranges}
+use Rattle.ranges.specs.RangeVector.{ranges}
 use Rattle.trcf.specs.Extrapolation.{forecast}
 use Rattle.trcf.specs.Calls.{Forecast, Call, shingledPoint, drain, transform, invertExtrapolation, scale, shift, status}
 use Rattle.restart_program.proofs.Instances.{one, two, four, six, learnAt, stranding}

@@ -24,9 +24,9 @@ grantedCalls table (a ∷ l) = cond (allowed table a) (a .call ∷ []) [] ++ gra
 
 -- the answers t of the granted calls, each in its place among all calls, and in the other places what a withheld call gets
 module _ {B : Type 0} (withheld : Call → B) where
-  abbrev pub placed : List ℕ → List Asked → List B → List B
-  placed table [] t = []
-  placed table (a ∷ l) t = cond (allowed table a) (take 1 t) (withheld (a .call) ∷ []) ++ placed table l (cond (allowed table a) (drop 1 t) t)
+  abbrev pub withWithheld : List ℕ → List Asked → List B → List B
+  withWithheld table [] t = []
+  withWithheld table (a ∷ l) t = cond (allowed table a) (take 1 t) (withheld (a .call) ∷ []) ++ withWithheld table l (cond (allowed table a) (drop 1 t) t)
 
 -- ---- M is a state, what the program holds, or the history's entries: `step` is what a call leaves of it
 

@@ -17,7 +17,7 @@ use Rattle.restart.specs.History.{Entry, enter, entries, historyText, historyAn
 use Rattle.restart.specs.Statement.{Restores, panelTold}
 use Rattle.access.specs.declared.rights.Right.the-variants.{SEE, SAVE, RESTORE}
 use Rattle.access.specs.Access.{granted, guarded}
-use Rattle.access_restart.specs.Asked.{Asked, ask, allowed, grantedCalls, placed, guardedStep, guardedRun, guardedPlaces, guardedSay, guardedAnswers}
+use Rattle.access_restart.specs.Asked.{Asked, ask, allowed, grantedCalls, withWithheld, guardedStep, guardedRun, guardedPlaces, guardedSay, guardedAnswers}
 
 -- ---- calls, `save` and `restore` by a role, on the preprocessor's state
 
@@ -53,13 +53,13 @@ abbrev pub rolePanels : List ℕ → ℕ → List Float → State → List Asked
 rolePanels table role out = guardedPlaces next (λ (w : State). panelTold (roleAnswer table w (ask role (status out)))) table
 
 -- and the history's readings fed there (request 102): a withheld call enters nothing
-abbrev pub fedAt : List ℕ → Settings → List Entry → List Asked → List ℕ
-fedAt table s = guardedPlaces (enter s) (historyPanel s) table
+abbrev pub roleHistoryPanels : List ℕ → Settings → List Entry → List Asked → List ℕ
+roleHistoryPanels table s = guardedPlaces (enter s) (historyPanel s) table
 
 -- ---- isolation
 
 -- "A withheld call changes nothing, and its answer depends on role, call and table alone: two traces as different as you like give it equally."
-pub record Isolation : Type 0 where
+pub record RoleIsolation : Type 0 where
   pub unchanged : (table : List ℕ) (a : Asked) → allowed table a ≡ false → (w : State) → roleNext table w a ≡ w
   pub alike : (table : List ℕ) (a : Asked) → allowed table a ≡ false → (w v : State) → roleAnswer table w a ≡ roleAnswer table v a
   pub number : (table : List ℕ) (a : Asked) → allowed table a ≡ false → (w : State) → roleAnswer table w a ≡ refused 22
@@ -74,13 +74,13 @@ pub record Isolation : Type 0 where
 -- what is asked of a restored state w, as `Outlives` asks it of calls without roles
 pub record RoleOutlives (table : List ℕ) (s : Settings) (before after : List Asked) (w : State) : Type 0 where
   pub sameAnswers : roleAnswers table w after ≡ roleAnswers table (roleRun table (fresh s) before) after
-  pub ruledAnswers : roleAnswers table w after ≡ placed withheldAnswer table after (historyAnswers s (entries s (grantedCalls table before)) (grantedCalls table after))
+  pub ruledAnswers : roleAnswers table w after ≡ withWithheld withheldAnswer table after (historyAnswers s (entries s (grantedCalls table before)) (grantedCalls table after))
   -- saved at the end by any role: the same text, or 22 of both
   pub sameText : (role : ℕ) → roleSave table role (roleRun table w after) ≡ roleSave table role (roleRun table (fresh s) (before ++ after))
   pub historyEnds : (role : ℕ) → granted table role (SAVE ∷ []) ≡ true
       → roleSave table role (roleRun table w after) ≡ gave (historyText s (grantedCalls table (before ++ after)))
   pub fedPanels : (role : ℕ) → granted table role (SEE ∷ []) ≡ true → (out : List Float) → block s ≤ length out
-      → rolePanels table role out w after ≡ map some (fedAt table s (entries s (grantedCalls table before)) after)
+      → rolePanels table role out w after ≡ map some (roleHistoryPanels table s (entries s (grantedCalls table before)) after)
 
 -- one restart: `saver` saves, `restorer` restores
 pub record RoleRestart (table : List ℕ) (s : Settings) (saver restorer : ℕ) (before after : List Asked) : Type 0 where
@@ -94,19 +94,19 @@ pub record RoleRestart (table : List ℕ) (s : Settings) (saver restorer : ℕ) 
   pub every : (w : State) → Restores (s .codes) (historyText s (grantedCalls table before)) w → RoleOutlives table s before after w
   -- the panel at every place of the list where nothing is saved
   pub fedPanels : (role : ℕ) → granted table role (SEE ∷ []) ≡ true → (out : List Float) → block s ≤ length out
-      → rolePanels table role out (fresh s) (before ++ after) ≡ map some (fedAt table s [] (before ++ after))
+      → rolePanels table role out (fresh s) (before ++ after) ≡ map some (roleHistoryPanels table s [] (before ++ after))
 
 -- ---- restarts at any places, by anybody
 
 pub data RoleEvent : Type 0 where
   asked : Asked → RoleEvent
   -- the first role saves, the second restores what was saved
-  restarted : ℕ → ℕ → RoleEvent
+  roleRestarted : ℕ → ℕ → RoleEvent
 
 abbrev pub askedOf : List RoleEvent → List Asked
 askedOf [] = []
 askedOf (asked a ∷ es) = a ∷ askedOf es
-askedOf (restarted p q ∷ es) = askedOf es
+askedOf (roleRestarted p q ∷ es) = askedOf es
 
 -- with the right withheld from either, the preprocessor that stands goes on
 abbrev pub resumed : State → Given Read → Read
@@ -124,15 +124,15 @@ abbrev pub roleEvents : List ℕ → Read → List RoleEvent → Read
 roleEvents table r [] = r
 roleEvents table (taken w) (asked a ∷ es) = roleEvents table (taken (roleNext table w a)) es
 roleEvents table (bad n) (asked a ∷ es) = bad n
-roleEvents table (taken w) (restarted p q ∷ es) = roleEvents table (restartedBy table p q w) es
-roleEvents table (bad n) (restarted p q ∷ es) = bad n
+roleEvents table (taken w) (roleRestarted p q ∷ es) = roleEvents table (restartedBy table p q w) es
+roleEvents table (bad n) (roleRestarted p q ∷ es) = bad n
 
 abbrev pub roleEventAnswers : List ℕ → Read → List RoleEvent → List Answer
 roleEventAnswers table r [] = []
 roleEventAnswers table (taken w) (asked a ∷ es) = roleAnswer table w a ∷ roleEventAnswers table (taken (roleNext table w a)) es
 roleEventAnswers table (bad n) (asked a ∷ es) = []
-roleEventAnswers table (taken w) (restarted p q ∷ es) = roleEventAnswers table (restartedBy table p q w) es
-roleEventAnswers table (bad n) (restarted p q ∷ es) = []
+roleEventAnswers table (taken w) (roleRestarted p q ∷ es) = roleEventAnswers table (restartedBy table p q w) es
+roleEventAnswers table (bad n) (roleRestarted p q ∷ es) = []
 
 -- the panel at each place, before and after every restart
 module _ (table : List ℕ) (role : ℕ) (out : List Float) where
@@ -147,29 +147,29 @@ module _ (table : List ℕ) (role : ℕ) (out : List Float) where
   roleEventPanels r [] = lastToldTo r
   roleEventPanels (taken w) (asked a ∷ es) = toldTo w ∷ roleEventPanels (taken (roleNext table w a)) es
   roleEventPanels (bad n) (asked a ∷ es) = []
-  roleEventPanels (taken w) (restarted p q ∷ es) = toldTo w ∷ roleEventPanels (restartedBy table p q w) es
-  roleEventPanels (bad n) (restarted p q ∷ es) = []
+  roleEventPanels (taken w) (roleRestarted p q ∷ es) = toldTo w ∷ roleEventPanels (restartedBy table p q w) es
+  roleEventPanels (bad n) (roleRestarted p q ∷ es) = []
 
 abbrev pub fedAtEvents : List ℕ → Settings → List Entry → List RoleEvent → List ℕ
 fedAtEvents table s h [] = historyPanel s h ∷ []
 fedAtEvents table s h (asked a ∷ es) = historyPanel s h ∷ fedAtEvents table s (guardedStep (enter s) table h a) es
-fedAtEvents table s h (restarted p q ∷ es) = historyPanel s h ∷ fedAtEvents table s h es
+fedAtEvents table s h (roleRestarted p q ∷ es) = historyPanel s h ∷ fedAtEvents table s h es
 
 -- no call sees a restart, whoever tried one
 pub record RoleRestarts (table : List ℕ) (s : Settings) (es : List RoleEvent) : Type 0 where
   pub ends : roleEvents table (taken (fresh s)) es ≡ taken (roleRun table (fresh s) (askedOf es))
   pub sameAnswers : roleEventAnswers table (taken (fresh s)) es ≡ roleAnswers table (fresh s) (askedOf es)
-  pub ruledAnswers : roleEventAnswers table (taken (fresh s)) es ≡ placed withheldAnswer table (askedOf es) (historyAnswers s [] (grantedCalls table (askedOf es)))
+  pub ruledAnswers : roleEventAnswers table (taken (fresh s)) es ≡ withWithheld withheldAnswer table (askedOf es) (historyAnswers s [] (grantedCalls table (askedOf es)))
   pub text : render (roleRun table (fresh s) (askedOf es)) ≡ historyText s (grantedCalls table (askedOf es))
   pub fedPanels : (role : ℕ) → granted table role (SEE ∷ []) ≡ true → (out : List Float) → block s ≤ length out
       → roleEventPanels table role out (taken (fresh s)) es ≡ map some (fedAtEvents table s [] es)
 
 -- the same by the relation: w stands after the calls l, with any restarts between them
 pub data RoleReaches (table : List ℕ) (s : Settings) : List Asked → State → Type 0 where
-  built : RoleReaches table s [] (fresh s)
+  roleBuilt : RoleReaches table s [] (fresh s)
   asking : {l : List Asked} {w : State} (a : Asked) → All Machine (grantedCalls table (a ∷ [])) → RoleReaches table s l w
       → RoleReaches table s (l ++ (a ∷ [])) (roleNext table w a)
-  restoring : {l : List Asked} {w : State} (saver restorer : ℕ) → granted table saver (SAVE ∷ []) ≡ true → granted table restorer (RESTORE ∷ []) ≡ true
+  roleRestoring : {l : List Asked} {w : State} (saver restorer : ℕ) → granted table saver (SAVE ∷ []) ≡ true → granted table restorer (RESTORE ∷ []) ≡ true
       → (u : State) → Restores (s .codes) (render w) u → RoleReaches table s l w → RoleReaches table s l u
 
 -- ---- the statement: any table, "the same one is lent on both sides of the key"; the arguments of withheld calls may be anything

@@ -21,8 +21,8 @@ use Rattle.restart.specs.Held.{Held, held, builtOn, heldNext}
 use Rattle.access.specs.declared.rights.Right.the-variants.{SEE, SAVE, RESTORE}
 use Rattle.access.specs.Access.{granted}
 use Rattle.access.specs.Entries.{numbersBy, saveBy, restoreBy}
-use Rattle.access_restart.specs.Asked.{Asked, ask, allowed, grantedCalls, placed, guardedStep, guardedRun, guardedPlaces, guardedSay, guardedAnswers}
-use Rattle.access_restart.specs.RoleDemand.{withheldAnswer, fedAt}
+use Rattle.access_restart.specs.Asked.{Asked, ask, allowed, grantedCalls, withWithheld, guardedStep, guardedRun, guardedPlaces, guardedSay, guardedAnswers}
+use Rattle.access_restart.specs.RoleDemand.{withheldAnswer, roleHistoryPanels}
 
 abbrev pub heldAnswer : Held → Call → Answer
 heldAnswer m c = answerOf (m .head) (m .lent) c
@@ -41,7 +41,7 @@ heldRoleAnswers = guardedAnswers heldNext heldAnswer withheldAnswer
 
 -- ---- `save` and `restore` by a role
 
-abbrev pub roleSavedTo : List ℕ → ℕ → Held → List ℕ → save.Outcome
+abbrev pub roleSavedTo : List ℕ → ℕ → Held → List ℕ → save.SaveOutcome
 roleSavedTo table role m out = saveBy table role (m .head) (m .lent) out
 
 abbrev pub roleTextIn : List ℕ → ℕ → Held → List ℕ → List ℕ
@@ -57,12 +57,12 @@ heldRolePanels table role room = guardedPlaces heldNext (λ (m : Held). panelTol
 
 -- ---- what the getters answer a role: the row of access's `numbers`, and the rest of it as `Getters` has it (of the two kinds the number and the letter)
 
-pub record Shown : Type 0 where
+pub record GettersShown : Type 0 where
   pub row : ℕ
   pub getters : Getters
 
-abbrev pub shown : ℕ → Getters → Shown
-shown n g = record { row = n; getters = g }
+abbrev pub gettersShown : ℕ → Getters → GettersShown
+gettersShown n g = record { row = n; getters = g }
 
 abbrev pub gettersRead : StatusAnswer → Getters
 gettersRead a =
@@ -79,11 +79,11 @@ gettersRead a =
       panel = a .panel;
     }
 
-abbrev pub shownTo : List ℕ → ℕ → Held → Shown
-shownTo table role m = shown (numbersBy table role (m .head) .row) (gettersRead (numbersBy table role (m .head)))
+abbrev pub shownTo : List ℕ → ℕ → Held → GettersShown
+shownTo table role m = gettersShown (numbersBy table role (m .head) .row) (gettersRead (numbersBy table role (m .head)))
 
 -- at each place
-abbrev pub heldRoleShown : List ℕ → ℕ → Held → List Asked → List Shown
+abbrev pub heldRoleShown : List ℕ → ℕ → Held → List Asked → List GettersShown
 heldRoleShown table role = guardedPlaces heldNext (shownTo table role) table
 
 -- and what the history says there: a withheld call enters nothing
@@ -104,18 +104,18 @@ pub record RoleHeldRestart (table : List ℕ) (saver restorer : ℕ) (s : Settin
   pub text : roleTextIn table saver M out ≡ historyText s (grantedCalls table before)
   pub restores : restoreBy table restorer (roleTextIn table saver M out) (s .codes) second .row ≡ 0
   pub sameAnswers : heldRoleAnswers table N after ≡ heldRoleAnswers table M after
-  pub ruledAnswers : heldRoleAnswers table N after ≡ placed withheldAnswer table after (historyAnswers s (entries s (grantedCalls table before)) (grantedCalls table after))
+  pub ruledAnswers : heldRoleAnswers table N after ≡ withWithheld withheldAnswer table after (historyAnswers s (entries s (grantedCalls table before)) (grantedCalls table after))
   -- saved at the end by any role: the same bytes, or 20 of both, or 22 of both
   pub sameText : (role : ℕ) → roleSavedTo table role (heldRoleRun table N after) last ≡ roleSavedTo table role (heldRoleRun table (builtOn s first) (before ++ after)) last
   -- the panel at every place after the restart, and at every place where nothing is saved
   pub fedPanels : (role : ℕ) → granted table role (SEE ∷ []) ≡ true → (room : List Float) → block s ≤ length room
-      → heldRolePanels table role room N after ≡ map some (fedAt table s (entries s (grantedCalls table before)) after)
+      → heldRolePanels table role room N after ≡ map some (roleHistoryPanels table s (entries s (grantedCalls table before)) after)
   pub firstPanels : (role : ℕ) → granted table role (SEE ∷ []) ≡ true → (room : List Float) → block s ≤ length room
-      → heldRolePanels table role room (builtOn s first) (before ++ after) ≡ map some (fedAt table s [] (before ++ after))
+      → heldRolePanels table role room (builtOn s first) (before ++ after) ≡ map some (roleHistoryPanels table s [] (before ++ after))
   -- and what every getter answers there
-  pub fedShown : (role : ℕ) → granted table role (SEE ∷ []) ≡ true → heldRoleShown table role N after ≡ map (shown 0) (shownAt table s (entries s (grantedCalls table before)) after)
+  pub fedShown : (role : ℕ) → granted table role (SEE ∷ []) ≡ true → heldRoleShown table role N after ≡ map (gettersShown 0) (shownAt table s (entries s (grantedCalls table before)) after)
   pub firstShown : (role : ℕ) → granted table role (SEE ∷ []) ≡ true
-      → heldRoleShown table role (builtOn s first) (before ++ after) ≡ map (shown 0) (shownAt table s [] (before ++ after))
+      → heldRoleShown table role (builtOn s first) (before ++ after) ≡ map (gettersShown 0) (shownAt table s [] (before ++ after))
 
 abbrev pub RoleHeldDemand3 : Type 0
 RoleHeldDemand3 =

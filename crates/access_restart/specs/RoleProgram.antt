@@ -25,10 +25,10 @@ use Rattle.restart.specs.Held.{Held, held, builtOn, savedTo}
 use Rattle.restart_program.specs.Program.{Return, point, learn, drains, writes, turns, tells, pointReturn, learnReturn, answerRead, returnOf, leftBy}
 use Rattle.access.specs.declared.rights.Right.the-variants.{SEE, SAVE, RESTORE}
 use Rattle.access.specs.Access.{granted}
-use Rattle.access.specs.Entries.{pointBy, learnBy, drainBy, writeBy, extrapolationBy, statusBy, untold, number, ready, numbersBy, numberBy, readyBy, methodBy, modeBy, restoreBy}
-use Rattle.access_restart.specs.Asked.{Asked, allowed, grantedCalls, placed}
-use Rattle.access_restart.specs.RoleDemand.{withheldAnswer, fedAt}
-use Rattle.access_restart.specs.RoleHeld.{roleSavedTo, roleTextIn, roleRestoredOn, Shown, shown, shownTo, shownAt}
+use Rattle.access.specs.Entries.{pointBy, learnBy, drainBy, writeBy, extrapolationBy, statusBy, withheldStatus, number, ready, numbersBy, numberBy, readyBy, methodBy, modeBy, restoreBy}
+use Rattle.access_restart.specs.Asked.{Asked, allowed, grantedCalls, withWithheld}
+use Rattle.access_restart.specs.RoleDemand.{withheldAnswer, roleHistoryPanels}
+use Rattle.access_restart.specs.RoleHeld.{roleSavedTo, roleTextIn, roleRestoredOn, GettersShown, gettersShown, shownTo, shownAt}
 
 -- ---- each by the right side of its contract
 
@@ -69,7 +69,7 @@ rolePanelsReturned table role room m [] = panelTold (answerRead (roleReturn tabl
 rolePanelsReturned table role room m (a ∷ l) =
     panelTold (answerRead (roleReturn table m role (status room))) ∷ rolePanelsReturned table role room (roleLeft table m (a .role) (a .call)) l
 
-abbrev pub roleGettersShown : List ℕ → ℕ → Held → List Asked → List Shown
+abbrev pub roleGettersShown : List ℕ → ℕ → Held → List Asked → List GettersShown
 roleGettersShown table role m [] = shownTo table role m ∷ []
 roleGettersShown table role m (a ∷ l) = shownTo table role m ∷ roleGettersShown table role (roleLeft table m (a .role) (a .call)) l
 
@@ -99,7 +99,7 @@ withheldReturn (transform x t out) = writes (written 22 out)
 withheldReturn (invertExtrapolation c) = turns (extrapolation 22 c)
 withheldReturn (scale out) = writes (written 22 out)
 withheldReturn (shift out) = writes (written 22 out)
-withheldReturn (status out) = tells (statusGiven untold out)
+withheldReturn (status out) = tells (statusGiven withheldStatus out)
 
 -- "A withheld call changes nothing, and its answer depends on role, call and table alone: two traces as different as you like give it equally": m and n are any
 -- two heads with any memories, x and y any two texts
@@ -109,10 +109,10 @@ pub record ProgramIsolation (table : List ℕ) : Type 0 where
   pub alike : (a : Asked) → allowed table a ≡ false → (m n : Held) → roleReturn table m (a .role) (a .call) ≡ roleReturn table n (a .role) (a .call)
   pub number : (a : Asked) → allowed table a ≡ false → (m : Held) → answerRead (roleReturn table m (a .role) (a .call)) ≡ refused 22
   pub saves : (role : ℕ) → granted table role (SAVE ∷ []) ≡ false → (m n : Held) (out : List ℕ) → roleSavedTo table role m out ≡ roleSavedTo table role n out
-  pub savesNothing : (role : ℕ) → granted table role (SAVE ∷ []) ≡ false → (m : Held) (out : List ℕ) → roleSavedTo table role m out ≡ save.outcome 22 0 out
+  pub savesNothing : (role : ℕ) → granted table role (SAVE ∷ []) ≡ false → (m : Held) (out : List ℕ) → roleSavedTo table role m out ≡ save.saveOutcome 22 0 out
   pub restores : (role : ℕ) → granted table role (RESTORE ∷ []) ≡ false → (x y codes other : List ℕ) (l : Lent) → restoreBy table role x codes l ≡ restoreBy table role y other l
   pub restoresNothing : (role : ℕ) → granted table role (RESTORE ∷ []) ≡ false → (text codes : List ℕ) (l : Lent)
-      → restoreBy table role text codes l ≡ restore.outcome 22 0 noHead l
+      → restoreBy table role text codes l ≡ restore.restoreOutcome 22 0 noHead l
   -- the getters: together, and one by one, of any two numbers of two heads
   pub together : (role : ℕ) → granted table role (SEE ∷ []) ≡ false → (m n : Held) → numbersBy table role (m .head) ≡ numbersBy table role (n .head)
   pub numbers : (role : ℕ) → granted table role (SEE ∷ []) ≡ false → (x y : ℕ) → numberBy table role x ≡ numberBy table role y
@@ -137,16 +137,16 @@ pub record RoleProgramRestart (table : List ℕ) (saver restorer : ℕ) (s : Set
   -- every return and every output, refusals and 22 included
   pub sameReturns : roleReturns table N after ≡ roleReturns table M after
   pub ruledAnswers : map answerRead (roleReturns table N after)
-      ≡ placed withheldAnswer table after (historyAnswers s (entries s (grantedCalls table before)) (grantedCalls table after))
+      ≡ withWithheld withheldAnswer table after (historyAnswers s (entries s (grantedCalls table before)) (grantedCalls table after))
   pub sameText : (role : ℕ) → roleSavedTo table role (roleRan table N after) last ≡ roleSavedTo table role (roleRan table (builtOn s first) (before ++ after)) last
   pub fedPanels : (role : ℕ) → granted table role (SEE ∷ []) ≡ true → (room : List Float) → block s ≤ length room
-      → rolePanelsReturned table role room N after ≡ map some (fedAt table s (entries s (grantedCalls table before)) after)
+      → rolePanelsReturned table role room N after ≡ map some (roleHistoryPanels table s (entries s (grantedCalls table before)) after)
   pub firstPanels : (role : ℕ) → granted table role (SEE ∷ []) ≡ true → (room : List Float) → block s ≤ length room
-      → rolePanelsReturned table role room (builtOn s first) (before ++ after) ≡ map some (fedAt table s [] (before ++ after))
+      → rolePanelsReturned table role room (builtOn s first) (before ++ after) ≡ map some (roleHistoryPanels table s [] (before ++ after))
   pub fedShown : (role : ℕ) → granted table role (SEE ∷ []) ≡ true
-      → roleGettersShown table role N after ≡ map (shown 0) (shownAt table s (entries s (grantedCalls table before)) after)
+      → roleGettersShown table role N after ≡ map (gettersShown 0) (shownAt table s (entries s (grantedCalls table before)) after)
   pub firstShown : (role : ℕ) → granted table role (SEE ∷ []) ≡ true
-      → roleGettersShown table role (builtOn s first) (before ++ after) ≡ map (shown 0) (shownAt table s [] (before ++ after))
+      → roleGettersShown table role (builtOn s first) (before ++ after) ≡ map (gettersShown 0) (shownAt table s [] (before ++ after))
 
 -- for all tables, all settings that no row refuses, all calls by all roles, all places, and all lent memory that is long enough
 abbrev pub RoleProgramDemand3 : Type 0

@@ -3,13 +3,13 @@ use Prim.Native.Nat.{ℕ, zero, suc}
 use mathlib.Core.Path.{_≡_, refl, sym, ap, _∙_}
 use mathlib.Core.List.{List, [], _∷_}
 use lib.ListN.{length}
-use Rattle.common.specs.Refusal.{firstOf}
+use Rattle.refusal.specs.Refusal.{firstOf}
 use native.Mathlib.Omega.{arith}
 use lib.Ieee.{Float}
 use Rattle.trcf.specs.Calls.{Forecast, invertExtrapolation, rows}
 use Rattle.trcf.specs.Preprocessor.{turned, refused, accepted, facts, turnedBack, refusal, reply, answer}
 use Rattle.trcf.specs.View.{view, settingsOf, headRow, orElse}
-use Rattle.trcf.specs.Extrapolation.{viewed, unreadRow, extrapolationRow, extrapolationOf, Sizes, sizes, rowAt}
+use Rattle.trcf.specs.Extrapolation.{viewed, readShortRow, extrapolationRow, extrapolationOf, Sizes, sizes, rowAt}
 use Rattle.trcf.proofs.ExtrapolationLaws.{row-is}
 use Rattle.trcf.specs.declared.head.Preprocessor.{Preprocessor}
 use Rattle.band.specs.Band.{AllAsLong, Turns, Leaves, HeldBand}
@@ -21,7 +21,7 @@ module _ (h : Preprocessor) (st x : List Float) (ts : List ℕ) (c r : Forecast)
   turns l =
       let z : rows (settingsOf h) (facts (viewed h st x ts)) (invertExtrapolation c) ≡ 0 =
       middle (headRow (settingsOf h)) (rows (settingsOf h) (facts (viewed h st x ts)) (invertExtrapolation c))
-      (unreadRow h (length st) (length x) (length ts)) (l .0) in
+      (readShortRow h (length st) (length x) (length ts)) (l .0) in
       rw z (ap turned (left (extrapolationRow h st x ts c) (l .0) (l .1)))
     where
       middle : (a b c : ℕ) → orElse a (orElse b c) ≡ 0 → b ≡ 0

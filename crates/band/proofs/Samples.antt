@@ -8,13 +8,13 @@ use lib.ListN.{replicate, getD}
 use lib.IntN.{pos}
 use lib.Ieee.{Float, nan, binary32, binary64, add, sub, mul, div, lt, le, eq, ofInt, ofBits}
 use Rattle.numeric.specs.Narrow.{narrowed}
-use Rattle.common.specs.Lent.{over}
+use Rattle.refusal.specs.Lent.{over}
 use Rattle.common.specs.Deviation.{zero64, isEmpty, meanOf, outsideUnit}
-use Rattle.common.specs.RangeVector.{Ranges, ranges, unequal, unblocked, shorter, rangeAt, putAt, shifted, scaled, settled, cascadeTo}
+use Rattle.ranges.specs.RangeVector.{Ranges, ranges, unequal, unblocked, shorter, rangeAt, putAt, shifted, scaled, settled, cascadeTo}
 use Rattle.trcf.specs.Lists.{lastN}
 use Rattle.trcf.specs.Transformer.{one32, statisticAt, normalizedScale, basicShift, basicDrift, weightAt, reciprocal, forecastAt, forecastTo, invertedForecast}
 use Rattle.trcf.specs.Settings.{Settings, block, dimension, settingsRow, allOne}
-use Rattle.trcf.specs.Calls.{Forecast, invertExtrapolation, lookahead, unturnable, turnShort, table, rows}
+use Rattle.trcf.specs.Calls.{Forecast, invertExtrapolation, lookahead, forecastUnfit, forecastOutputShort, table, rows}
 use Rattle.trcf.specs.Preprocessor.{State, turned, fresh, facts, timescale, timedrift, invertTime, previous, numbersOf, timesOf, turnedBack, refusal, reply, answer}
 use Rattle.trcf.specs.Extrapolation.{forecast}
 use Rattle.trcf.specs.declared.types.TransformMethod.{TransformMethod}
@@ -26,7 +26,7 @@ use Rattle.band.proofs.Upright.{band}
 
 -- the definitions, opened
 all : Unit {0}
-unfolding answer refusal reply facts rows table unturnable turnShort lookahead dimension block unequal unblocked shorter over fresh
+unfolding answer refusal reply facts rows table forecastUnfit forecastOutputShort lookahead dimension block unequal unblocked shorter over fresh
     turnedBack numbersOf timesOf previous lastN timescale timedrift invertTime statisticAt meanOf isEmpty narrowed normalizedScale basicShift basicDrift weightAt reciprocal
     forecastAt forecastTo invertedForecast rangeAt putAt shifted scaled settled cascadeTo add sub mul div lt le eq ofInt ofBits
 all = tt
@@ -92,7 +92,7 @@ pub negative-upright : UprightBand (two STANDARD WEIGHTED minus) over-turned put
 unfolding fresh
 negative-upright = band .upright (fresh (two STANDARD WEIGHTED minus)) over-turned put-right negative-turns (λ e. refl)
 
--- numbers and times: a block of two numbers and a time, crossed, and a short block behind it
+-- numbers and times: a block of two numbers and a time, crossed, and a short block after it
 abbrev block-crossed : Forecast
 block-crossed =
     forecast (ranges (single 1 ∷ single 2 ∷ single 3 ∷ single 9 ∷ []) (single 0 ∷ single 2 ∷ single 2 ∷ single 8 ∷ []) (single 1 ∷ single 3 ∷ single 4 ∷ single 9 ∷ []))

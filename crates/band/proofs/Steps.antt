@@ -12,8 +12,8 @@ use lib.Dec.{eqb}
 use lib.ListN.{length, getD, set}
 use lib.IntN.{pos}
 use lib.Ieee.{Float, nan, Format, binary32, binary64, mul, ofInt}
-use Rattle.common.specs.RangeVector.{Range, Ranges, rangeAt, putAt, shifted, scaled, cascadeTo}
-use Rattle.common.proofs.RangeLaws.{Ordered, shifted-ordered, putAt-ordered, rangeAt-other, shifted-value, scaled-value, shifted-upper, scaled-upper}
+use Rattle.ranges.specs.RangeVector.{Range, Ranges, rangeAt, putAt, shifted, scaled, cascadeTo}
+use Rattle.ranges.proofs.RangeLaws.{Ordered, shifted-ordered, putAt-ordered, rangeAt-other, shifted-value, scaled-value, shifted-upper, scaled-upper}
 use Rattle.trcf.specs.Types.{isNone, normalizes, differences, centres}
 use Rattle.trcf.specs.Transformer.{Transformer, reciprocal, weightAt, normalizedScale, basicDrift, basicShift, forecastAt, forecastTo, invertedForecast}
 

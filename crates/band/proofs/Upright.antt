@@ -11,21 +11,21 @@ use lib.ListN.{length, take, drop, getD, List·getD-eq-default}
 use lib.Seq.{take-at, take-all}
 use lib.IntN.{pos}
 use lib.Ieee.{Float, nan, inf, fin, binary64, add, lt, ofInt}
-use Rattle.common.specs.Lent.{over}
-use Rattle.common.specs.Refusal.{firstOf}
-use Rattle.common.specs.RangeVector.{Range, Ranges, ranges, settled, shifted, scaled, rangeAt, overAll, cascadeTo, unequal, shorter}
-use Rattle.common.proofs.RangeLaws.{Ordered, SameLengths, cascadeTo-lengths, cascadeTo-ordered}
+use Rattle.refusal.specs.Lent.{over}
+use Rattle.refusal.specs.Refusal.{firstOf}
+use Rattle.ranges.specs.RangeVector.{Range, Ranges, ranges, settled, shifted, scaled, rangeAt, overAll, cascadeTo, unequal, shorter}
+use Rattle.ranges.proofs.RangeLaws.{Ordered, SameLengths, cascadeTo-lengths, cascadeTo-ordered}
 use Rattle.trcf.specs.Lists.{tabulate}
-use Rattle.trcf.specs.Types.{augments, gaps}
+use Rattle.trcf.specs.Types.{augments, isGap}
 use Rattle.trcf.specs.Transformer.{Transformer, invertedForecast}
 use Rattle.trcf.specs.Settings.{Settings, transformer, dimension}
-use Rattle.trcf.specs.Calls.{Forecast, invertExtrapolation, lookahead, unturnable, turnShort, table, rows}
+use Rattle.trcf.specs.Calls.{Forecast, invertExtrapolation, lookahead, forecastUnfit, forecastOutputShort, table, rows}
 use Rattle.trcf.specs.Preprocessor.{State, Answer, refused, turned, accepted, answer, refusal, reply, previous, timescale, timedrift, fronts, backs, invertTimes, numbersOf, timesOf, turnedBack}
 use Rattle.trcf.specs.Steps.Inverting.{timeFactor, timeBy, timesBy, stretched}
 use Rattle.trcf.proofs.FitLaws.{tabulate-length}
 use Rattle.trcf.proofs.ForecastLaws.{invertedForecast-lengths}
 use Rattle.trcf.proofs.ExtrapolationLaws.{fronts-length, timesBy-is, numbers-within}
-use Rattle.band.specs.Band.{Upright, front, numbersIn, timesIn, WholeBlocks, UprightBand, SameValues, SameUppers, AllAsLong, Turns, Band}
+use Rattle.band.specs.Band.{Upright, firstRanges, numbersIn, timesIn, WholeBlocks, UprightBand, SameValues, SameUppers, AllAsLong, Turns, Band}
 use Rattle.band.proofs.Steps.{AgreeAll, inverted-ordered, inverted-agrees, cascadeTo-agrees}
 
 -- ---- three lists of one length
@@ -72,14 +72,14 @@ upright-of n v l o =
     under i false e = rw (past i e) (nan-below (getD (v .lower) i nan))
 
 -- what was written is the front of what is left
-front-over : (n : ℕ) (old new : Ranges) → Long n new → front n (overAll old new) ≡ new
+front-over : (n : ℕ) (old new : Ranges) → Long n new → firstRanges n (overAll old new) ≡ new
 unfolding over
 front-over n old new l = λ j.
     ranges (take-at (new .values) (drop (length (new .values)) (old .values)) n (l .values) j)
     (take-at (new .upper) (drop (length (new .upper)) (old .upper)) n (l .upper) j)
     (take-at (new .lower) (drop (length (new .lower)) (old .lower)) n (l .lower) j)
 
-front-whole : (n : ℕ) (v : Ranges) → Long n v → front n v ≡ v
+front-whole : (n : ℕ) (v : Ranges) → Long n v → firstRanges n v ≡ v
 front-whole n v l = λ j. ranges (whole (v .values) (l .values) j) (whole (v .upper) (l .upper) j) (whole (v .lower) (l .lower) j)
   where
     whole : (x : List Float) → length x ≡ n → take n x ≡ x
@@ -108,7 +108,7 @@ module _ (w : State) (v : Ranges) where
 
   -- the times, turned back but not cascaded
   abbrev loose : Ranges
-  loose = timesBy (gaps (s .mode)) (timeFactor (s .weightTime)) (timescale s (w .statistics)) (timedrift s (w .statistics)) (dimension s) each v h
+  loose = timesBy (isGap (s .mode)) (timeFactor (s .weightTime)) (timescale s (w .statistics)) (timedrift s (w .statistics)) (dimension s) each v h
 
   numbers-are : numbersOf w v ≡ invertedForecast t (previous w .value) cut
   unfolding numbersOf
@@ -171,7 +171,7 @@ module _ (above : Bool) (w : State) (v u : Ranges) (e : AgreeAll above v u) wher
   numbers-agree = inverted-agrees above (t w v) (previous w .value) (cut w v) (cut w u) cut-agrees
 
   abbrev gap : Bool
-  gap = gaps (w .settings .mode)
+  gap = isGap (w .settings .mode)
 
   -- a number of a block's time, turned back by itself
   abbrev late : Bool → Float → Float
@@ -223,9 +223,9 @@ module _ (above : Bool) (w : State) (v u : Ranges) (e : AgreeAll above v u) wher
 -- ---- an accepted call
 
 -- three lists of one length are what row 16 asks for in every mode
-unrefused : (s : Settings) (c : Forecast) → firstOf ((unturnable s (c .forecast), 16) ∷ (turnShort s c, 20) ∷ []) ≡ 0 → Long (length (c .forecast .values)) (c .forecast)
-unfolding unturnable unequal
-unrefused s c e = go (eqb n u) (eqb n l) _ (turnShort s c) refl refl e
+unrefused : (s : Settings) (c : Forecast) → firstOf ((forecastUnfit s (c .forecast), 16) ∷ (forecastOutputShort s c, 20) ∷ []) ≡ 0 → Long (length (c .forecast .values)) (c .forecast)
+unfolding forecastUnfit unequal
+unrefused s c e = go (eqb n u) (eqb n l) _ (forecastOutputShort s c) refl refl e
   where
     n : ℕ
     n = length (c .forecast .values)
@@ -275,7 +275,7 @@ module _ (w : State) (c : Forecast) (even : Long (length (c .forecast .values)) 
   unfolding turnedBack
   numbers-in = by (augments (w .settings .mode))
     where
-      by : (b : Bool) → front (many b) (cond b (left b .valuesOut) (left b .forecast)) ≡ numbersIf b
+      by : (b : Bool) → firstRanges (many b) (cond b (left b .valuesOut) (left b .forecast)) ≡ numbersIf b
       by true = front-over (many true) (c .valuesOut) (numbersOf w (c .forecast)) (numbers-long w (c .forecast) even)
       by false = front-whole (many false) (numbersIf false) in-place
 
@@ -283,7 +283,7 @@ module _ (w : State) (c : Forecast) (even : Long (length (c .forecast .values)) 
   unfolding turnedBack
   times-in = by (augments (w .settings .mode))
     where
-      by : (b : Bool) → front (often b) (left b .timesOut) ≡ timesIf b
+      by : (b : Bool) → firstRanges (often b) (left b .timesOut) ≡ timesIf b
       by true = front-over (often true) (c .timesOut) (timesOf w (c .forecast)) (times-long w (c .forecast))
       by false = refl
 
@@ -334,7 +334,7 @@ record Accepted (w : State) (c r : Forecast) : Type 0 where
 accepted-of : (w : State) (c r : Forecast) → Turns w c r → Accepted w c r
 unfolding answer reply refusal rows table
 accepted-of w c r e =
-    let x = by (firstOf ((unturnable (w .settings) (c .forecast), 16) ∷ (turnShort (w .settings) c, 20) ∷ [])) e in
+    let x = by (firstOf ((forecastUnfit (w .settings) (c .forecast), 16) ∷ (forecastOutputShort (w .settings) c, 20) ∷ [])) e in
     record { even = unrefused (w .settings) c (x .0); left = x .1 }
   where
     by : (n : ℕ) → accepted n (turned (turnedBack w c)) (refused n) ≡ turned r → (n ≡ 0) × (turnedBack w c ≡ r)
@@ -342,7 +342,7 @@ accepted-of w c r e =
     by (suc n) e = let z : _≡_ {A = ℕ} 0 1 = cc in absurd (omega arith)
 
 pub band : Band
-unfolding refusal rows table unturnable turnShort unequal shorter
+unfolding refusal rows table forecastUnfit forecastOutputShort unequal shorter
 band =
     record {
       upright = λ w c r e whole. let a = accepted-of w c r e in subst (UprightBand (w .settings) c) (a .left) (turned-upright w c (a .even) whole);

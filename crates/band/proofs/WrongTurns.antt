@@ -11,12 +11,12 @@ use lib.IntN.{pos}
 use lib.Ieee.{Float, nan, Format, binary32, add, sub, mul, div, lt, le, eq, ofInt, ofBits, toBits}
 use Rattle.numeric.specs.Narrow.{narrowed}
 use Rattle.common.specs.Deviation.{zero64, isEmpty, meanOf, outsideUnit}
-use Rattle.common.specs.RangeVector.{Range, range, Ranges, ranges, settled, shifted, scaled, rangeAt, putAt, unequal, unblocked, shorter}
-use Rattle.common.proofs.RangeLaws.{Ordered, settled-ordered}
+use Rattle.ranges.specs.RangeVector.{Range, range, Ranges, ranges, settled, shifted, scaled, rangeAt, putAt, unequal, unblocked, shorter}
+use Rattle.ranges.proofs.RangeLaws.{Ordered, settled-ordered}
 use Rattle.trcf.specs.Lists.{lastN}
 use Rattle.trcf.specs.Transformer.{one32, statisticAt, normalizedScale, basicShift, basicDrift, weightAt, reciprocal}
 use Rattle.trcf.specs.Settings.{Settings, transformer, block, dimension, settingsRow, allOne}
-use Rattle.trcf.specs.Calls.{invertExtrapolation, lookahead, unturnable, turnShort, table, rows}
+use Rattle.trcf.specs.Calls.{invertExtrapolation, lookahead, forecastUnfit, forecastOutputShort, table, rows}
 use Rattle.trcf.specs.Preprocessor.{fresh, facts, refusal, previous}
 use Rattle.trcf.specs.Extrapolation.{forecast}
 use Rattle.trcf.specs.declared.types.TransformMethod.{TransformMethod}
@@ -92,7 +92,7 @@ minus = ofBits binary32 0xbf80_0000
 
 -- the definitions, opened
 all : Unit {0}
-unfolding refusal facts rows table unturnable turnShort lookahead dimension block unequal unblocked shorter fresh previous lastN
+unfolding refusal facts rows table forecastUnfit forecastOutputShort lookahead dimension block unequal unblocked shorter fresh previous lastN
     statisticAt meanOf isEmpty narrowed normalizedScale basicShift basicDrift weightAt reciprocal settingsRow outsideUnit allOne
     walkTo forecastAtBy invertedBy rangeAt putAt shifted scaled settled add sub mul div lt le eq ofInt ofBits toBits
 all = tt

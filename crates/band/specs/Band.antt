@@ -5,7 +5,7 @@ use mathlib.Core.Bool.{Bool, true, false, cond}
 use mathlib.Core.List.{List, []}
 use lib.ListN.{length, take, getD}
 use lib.Ieee.{Float, nan, lt}
-use Rattle.common.specs.RangeVector.{Ranges, ranges}
+use Rattle.ranges.specs.RangeVector.{Ranges, ranges}
 use Rattle.trcf.specs.Types.{augments}
 use Rattle.trcf.specs.Settings.{Settings}
 use Rattle.trcf.specs.Calls.{Forecast, invertExtrapolation, lookahead}
@@ -25,8 +25,8 @@ pub record Upright (n : ℕ) (v : Ranges) : Type 0 where
 
 -- ---- what the call c writes, and where it stands in what it leaves, r
 
-abbrev pub front : ℕ → Ranges → Ranges
-front n v = ranges (take n (v .values)) (take n (v .upper)) (take n (v .lower))
+abbrev pub firstRanges : ℕ → Ranges → Ranges
+firstRanges n v = ranges (take n (v .values)) (take n (v .upper)) (take n (v .lower))
 
 -- STANDARD works in place; a mode with a time element writes d × k numbers and one time a block
 abbrev pub numbersCount : Settings → Forecast → ℕ
@@ -36,10 +36,10 @@ abbrev pub timesCount : Settings → Forecast → ℕ
 timesCount s c = cond (augments (s .mode)) (lookahead s (length (c .forecast .values))) 0
 
 abbrev pub numbersIn : Settings → Forecast → Forecast → Ranges
-numbersIn s c r = front (numbersCount s c) (cond (augments (s .mode)) (r .valuesOut) (r .forecast))
+numbersIn s c r = firstRanges (numbersCount s c) (cond (augments (s .mode)) (r .valuesOut) (r .forecast))
 
 abbrev pub timesIn : Settings → Forecast → Forecast → Ranges
-timesIn s c r = front (timesCount s c) (r .timesOut)
+timesIn s c r = firstRanges (timesCount s c) (r .timesOut)
 
 -- "a whole number of d-blocks in mode S"; equal lengths are row 16's, so every accepted call has them
 abbrev pub WholeBlocks : Settings → Forecast → Type 0

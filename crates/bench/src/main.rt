@@ -12,7 +12,7 @@ ghost use mathlib.Core.Path.{_≡_};
 ghost use mathlib.Core.Bool.{true, false};
 ghost use lib.ListN.{length, take};
 
-// Reads the next bytes of the input to the text, behind those that are kept; answers how many, none at the end of the input.
+// Reads the next bytes of the input to the text, after those that are kept; answers how many, none at the end of the input.
 fn filled(text: &mut [u8], kept: usize) -> usize
     requires { ⌜ kept < length (now text) ⌝ }
     ensures { λ r. ⌜ kept + r ≤ length (now (text .exit)) ⌝ }
@@ -111,7 +111,7 @@ fn handed(
     r
 }
 
-// The reads that are left behind one: none where the bench is at its end.
+// The reads that are left after one: none where the bench is at its end.
 fn left(reads: u64, phase: Phase) -> u64
     requires { ⌜ 0 < reads ⌝ }
     ensures { λ r. ⌜ r < reads ⌝ }

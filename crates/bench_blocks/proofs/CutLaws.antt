@@ -23,7 +23,7 @@ use Rattle.bench_core.specs.declared.line.Name.the-variants.{Unread, Set, Weigh
 use Rattle.bench_core.specs.declared.line.Place.{Place}
 use Rattle.bench_core.specs.declared.line.Place.the-variants.{AsLetter, AsMethod, AsWhole, AsDouble, AsSingle, Nowhere}
 use Rattle.bench_core.specs.declared.line.Line.{Line}
-use Rattle.bench_core.specs.Line.{nameOf, letterOf, methodOf, placeOf, otherLine, namedLine, withWhole, withDouble, withSingle, fieldAt, fieldOf, cellBy, cellOf}
+use Rattle.bench_core.specs.Line.{nameOf, letterOf, methodField, placeOf, otherLine, namedLine, withWhole, withDouble, withSingle, fieldAt, lineWithField, cellBy, cellOf}
 use Rattle.bench_core.specs.Bench.{cellKept}
 
 no-float : (f : Format) (c : List ℕ) → width f < length c → asFloat f c ≡ none
@@ -54,7 +54,7 @@ no-whole c h = go (asWhole c) refl
 
 long-field : (p : Place) (l : Line) (c : List ℕ) → 24 ≤ length c → fieldAt p l c ≡ otherLine l
 long-field AsLetter l c h = ap (withWhole l) (no-letter c h)
-long-field AsMethod l c h = ap (λ (o : Option ℕ). withWhole l (methodOf (numberOf o))) (no-whole c h)
+long-field AsMethod l c h = ap (λ (o : Option ℕ). withWhole l (methodField (numberOf o))) (no-whole c h)
 long-field AsWhole l c h = ap (λ (o : Option ℕ). withWhole l (numberOf o)) (no-whole c h)
 long-field AsDouble l c h = ap (λ (o : Option Float). withDouble l (doubleOf o)) (no-float binary64 c (omega arith))
 long-field AsSingle l c h = ap (λ (o : Option Float). withSingle l (singleOf o)) (no-float binary32 c (omega arith))
@@ -62,7 +62,7 @@ long-field Nowhere l c h = refl
 
 -- a name or a field of 24 bytes or more makes the line one of another form
 pub long-cell : (l : Line) (c : List ℕ) → 24 ≤ length c → cellOf l c ≡ otherLine l
-unfolding cellOf fieldOf
+unfolding cellOf lineWithField
 long-cell l c h = go (l .name)
   where
     go : (n : Name) → cellBy n l c ≡ otherLine l

@@ -9,36 +9,37 @@ use lib.ListN.{length, take, drop, replicate}
 use lib.Ieee.{Float}
 use Rattle.trcf.specs.Transformer.{zero32}
 use Rattle.trcf.specs.View.{Lent}
-use Rattle.bench_core.specs.Run.{memory, blank, shown}
+use Rattle.bench_core.specs.Run.{benchMemory, blank, shown}
 use Rattle.bench_core.specs.declared.step.Phase.{Phase}
 use Rattle.bench_core.specs.declared.step.Phase.the-variants.{WantsSet, WantsWeights, Running, Ended}
 use Rattle.bench_blocks.specs.declared.turn.Run.{Run}
 use Rattle.bench_blocks.specs.Blocks.{blockOf}
-use Rattle.bench_blocks.specs.Turns.{firstRun, Turned, turnOf}
-use Rattle.bench_blocks.specs.Program.{Program, reads, ends, over as stops}
+use Rattle.bench_blocks.specs.Turns.{firstRun, TurnResult, turnOf}
+use Rattle.bench_blocks.specs.Program.{Program, reads, ends, programEnds as stops}
 use Rattle.bench_blocks.proofs.ProgramLaws.{blocks-print}
-use Rattle.bench_blocks.specs.Whole.{answers}
+use Rattle.bench_blocks.specs.Whole.{wholePrints}
 use lib.Ieee.{toBits, ofBits, ofFields, odd, fits, size, round, le, lt, eq, add, sub, mul, div, ofInt}
 use Rattle.numeric.specs.Narrow.{narrowed}
 use Rattle.numeric.specs.Root.{rootWithin, halves, rooted, rootOf}
 use Rattle.common.specs.Deviation.{outsideUnit, factorOf, stepOf as fedStep, isEmpty, meanOf, rootAbove, deviationOf}
-use Rattle.common.specs.Lent.{over}
+use Rattle.refusal.specs.Lent.{over}
 use Rattle.trcf.specs.Lists.{lastN, shiftIn, overwrite}
 use Rattle.trcf.specs.Transformer.{statisticAt, putStatistic, fed, deviationsAt, putDeviations, fedAt, channelsFed, updated, normalizedScale, basicShift, basicDrift, weightAt, transformed, unweighted, inverted, scales, shifts, differenceDeviations}
 use Rattle.trcf.specs.Settings.{block, dimension, waiting, allOne, settingsRow}
-use Rattle.trcf.specs.Calls.{finite, due, newest, behind as behindNewest, wrongLength, outside, drainFull, learnFull, waitingShort, learnShort, table, rows}
-use Rattle.trcf.specs.Preprocessor.{fresh as freshState, facts, timeFed, feed, timescale, timedrift, timeElement, transformedAfter, previous, timeBase, preceding, primed, drainOne, drainAll, drained, held, learned, learnedWith, change, deviations, pointOf, blockFrom, pastValues, expectedValues, anomalyOf, learnedNothing, heldAnswer, learnedAnswer, learnAnswer, reply}
-use Rattle.trcf.specs.View.{view, laid, headRow, lentShort, misfit, shortRow, lentRow, rowOf, buildRow, buildOf, answerOf, headAfter, lentAfter, drainOf, pointAfter, learnAfter}
+use Rattle.trcf.specs.Calls.{finite, due, newest, beforeNewest as behindNewest, wrongLength, outside, drainFull, learnFull, waitingShort, learnShort, table, rows}
+use Rattle.trcf.specs.Preprocessor.{fresh as freshState, facts, timeFed, feed, timescale, timedrift, timeElement, transformedAfter, previous, timeBase, preceding, primed, drainOne, drainAll, drained, buffered, learned, learnedWith, change, deviations, pointOf, blockFrom, pastValues, expectedValues, anomalyOf, learnedNothing, bufferedAnswer, learnedAnswer, learnAnswer, reply}
+use Rattle.trcf.specs.View.{view, writtenOver, headRow, lentShort, countersUnfit, shortRow, lentRow, rowOf, buildRow, buildOf, answerOf, headAfter, lentAfter, drainOf, pointAfter, learnAfter}
 use Rattle.snapshot.specs.Text.{whole, float, setLine, singles, cntLine, devLine, timLine, bufLine, linesBy, bodyLines, chnLine, render}
 use Rattle.snapshot.specs.Read.{judge, floatFrom, asWhole, asFloat}
-use Rattle.snapshot.specs.Save.{unheld, unformed, heldSave, fitted, saveOf}
-use Rattle.snapshot.specs.Steps.Ascii.{bytes}
-use Rattle.bench_core.specs.Line.{blankLine, fieldOf, cellOf, requestOf, keptOf}
-use Rattle.bench_core.specs.Bench.{noText, pointText, doneText, prints, dimensionOf, pointTurn, learnTurn, drainTurn, savePrints, builderFrom, fresh, builtOf, weightsTurn, lineHeard, stepOf, finishOf}
+use Rattle.snapshot.specs.Save.{inUseShort, unformed, heldSave, fitted, saveOf}
+use Rattle.snapshot.specs.Ascii.{ascii}
+use Rattle.bench_core.specs.Line.{blankLine, lineWithField, cellOf, requestOf, keptOf}
+use Rattle.bench_core.specs.Bench.{noText, pointText, doneText, prints, dimensionOf, pointResult, learnResult, drainResult, savePrints, builderFrom, freshBench, builtOf, buildGives, lineGives}
+use Rattle.bench_core.specs.Bench.{benchStep, finishOf}
 
 -- to unfold this is to unfold whatever its line names
 running : Unit {0}
-unfolding toBits ofBits ofFields odd fits size round le lt eq add sub mul div ofInt narrowed rootWithin halves rooted rootOf outsideUnit factorOf fedStep isEmpty meanOf rootAbove deviationOf over lastN shiftIn overwrite statisticAt putStatistic fed deviationsAt putDeviations fedAt channelsFed updated normalizedScale basicShift basicDrift weightAt transformed unweighted inverted scales shifts differenceDeviations block dimension waiting allOne settingsRow finite due newest wrongLength outside drainFull learnFull waitingShort learnShort table rows freshState facts timeFed feed timescale timedrift timeElement transformedAfter previous primed drainOne drainAll drained held learned learnedWith change deviations pointOf blockFrom pastValues expectedValues anomalyOf learnedNothing heldAnswer learnedAnswer learnAnswer reply view laid headRow lentShort misfit shortRow lentRow rowOf buildRow buildOf answerOf headAfter lentAfter drainOf pointAfter learnAfter whole float setLine singles cntLine devLine timLine bufLine linesBy bodyLines chnLine render judge floatFrom asWhole asFloat unheld unformed heldSave fitted saveOf blankLine fieldOf cellOf requestOf keptOf noText pointText doneText prints dimensionOf pointTurn learnTurn drainTurn savePrints builderFrom fresh builtOf weightsTurn lineHeard stepOf finishOf blockOf turnOf answers behindNewest timeBase preceding
+unfolding toBits ofBits ofFields odd fits size round le lt eq add sub mul div ofInt narrowed rootWithin halves rooted rootOf outsideUnit factorOf fedStep isEmpty meanOf rootAbove deviationOf over lastN shiftIn overwrite statisticAt putStatistic fed deviationsAt putDeviations fedAt channelsFed updated normalizedScale basicShift basicDrift weightAt transformed unweighted inverted scales shifts differenceDeviations block dimension waiting allOne settingsRow finite due newest wrongLength outside drainFull learnFull waitingShort learnShort table rows freshState facts timeFed feed timescale timedrift timeElement transformedAfter previous primed drainOne drainAll drained buffered learned learnedWith change deviations pointOf blockFrom pastValues expectedValues anomalyOf learnedNothing bufferedAnswer learnedAnswer learnAnswer reply view writtenOver headRow lentShort countersUnfit shortRow lentRow rowOf buildRow buildOf answerOf headAfter lentAfter drainOf pointAfter learnAfter whole float setLine singles cntLine devLine timLine bufLine linesBy bodyLines chnLine render judge floatFrom asWhole asFloat inUseShort unformed heldSave fitted saveOf blankLine lineWithField cellOf requestOf keptOf noText pointText doneText prints dimensionOf pointResult learnResult drainResult savePrints builderFrom freshBench builtOf buildGives lineGives benchStep finishOf blockOf turnOf wholePrints behindNewest timeBase preceding
 running = tt
 
 -- ---- a run, worked out
@@ -76,7 +77,7 @@ writes (suc n) r lists y text (c ∷ cs) =
 
 -- in a text of 160 bytes
 abbrev run : List (List ℕ) → List ℕ
-run bs = writes 9 firstRun memory (replicate 320 zero32) (replicate 160 0) bs
+run bs = writes 9 firstRun benchMemory (replicate 320 zero32) (replicate 160 0) bs
 
 -- ---- every cut
 
@@ -84,7 +85,7 @@ run bs = writes 9 firstRun memory (replicate 320 zero32) (replicate 160 0) bs
 abbrev input : String
 input = "set\tS\t0\t1\t1\t10\t20\t0000000000000000\t3f800000\nwgt\t3f800000\nl\t18446744073709551615\t3f800000\ns2345678901234567890123456\nd"
 
--- the runs of the input cut behind its first i bytes, for i from n down to 1
+-- the runs of the input cut after its first i bytes, for i from n down to 1
 abbrev cuts : ℕ → List ℕ → List (List ℕ)
 cuts zero t = []
 cuts (suc n) t = run (take (suc n) t ∷ drop (suc n) t ∷ []) ∷ cuts n t
@@ -92,11 +93,11 @@ cuts (suc n) t = run (take (suc n) t ∷ drop (suc n) t ∷ []) ∷ cuts n t
 abbrev output : String
 output = "ok\nno\t19\nno\t19\n"
 
-every-cut : cuts 116 (bytes input) ≡ replicate 116 (bytes output)
+every-cut : cuts 116 (ascii input) ≡ replicate 116 (ascii output)
 unfolding running isOver
 every-cut = refl
 
-whole-input : answers (bytes input) ≡ bytes output
+whole-input : wholePrints (ascii input) ≡ ascii output
 unfolding running
 whole-input = refl
 
@@ -111,10 +112,10 @@ first = 120 ∷ []
 abbrev second : List ℕ
 second = 10 ∷ []
 
-abbrev one : Turned
-one = turnOf firstRun memory lent320 (stored (replicate 32 0) 0 first) 1 blank
+abbrev one : TurnResult
+one = turnOf firstRun benchMemory lent320 (stored (replicate 32 0) 0 first) 1 blank
 
-abbrev two : Turned
+abbrev two : TurnResult
 two = turnOf (one .run) (one .lent) (one .point) (stored (one .text) (one .run .kept) second) 1 blank
 
 -- what the two turns leave
@@ -150,11 +151,11 @@ two-over : two .run .bench .phase ≡ Ended
 unfolding running
 two-over = refl
 
-two-blocks : Program firstRun memory lent320 (replicate 32 0) (120 ∷ 10 ∷ []) (noText 19)
+two-blocks : Program firstRun benchMemory lent320 (replicate 32 0) (120 ∷ 10 ∷ []) (noText 19)
 two-blocks =
     reads first second (stored (replicate 32 0) 0 first) blank (noText 19) one refl (omega arith) refl one-read refl one-row (ap (λ (u : List ℕ). u ++ noText 19) (sym one-shows))
     (reads second [] (stored (one .text) (one .run .kept) second) blank [] two one-full (omega arith) refl two-read refl two-row
     (sym two-shows ∙ sym (append-nil (shown (two .out)))) (stops two-over refl))
 
-two-blocks-print : noText 19 ≡ answers (120 ∷ 10 ∷ [])
+two-blocks-print : noText 19 ≡ wholePrints (120 ∷ 10 ∷ [])
 two-blocks-print = blocks-print (replicate 32 0) (120 ∷ 10 ∷ []) (noText 19) two-blocks

@@ -9,12 +9,12 @@ use lib.Dec.{ltb, eqb}
 use lib.ListN.{length, take, drop, length-drop, take-append-drop}
 use lib.Seq.{length-take-le, drop-drop}
 use lib.Ieee.{Float}
-use Rattle.common.specs.Lent.{over}
+use Rattle.refusal.specs.Lent.{over}
 use Rattle.trcf.specs.View.{Lent}
 use Rattle.bench_core.specs.declared.step.Bench.{Bench}
-use Rattle.bench_core.specs.Bench.{Output, output, prints, Heard, heard, cellLength, room, Stepped, stepped, stepOf}
+use Rattle.bench_core.specs.Bench.{Output, output, prints, LineResult, lineResult, cellLength, room, Stepped, stepped, benchStep}
 use Rattle.bench_core.specs.Run.{blank, shown}
-use Rattle.bench_blocks.specs.Blocks.{Block, block, cellsOf, Written, written, laid}
+use Rattle.bench_blocks.specs.Blocks.{TextBlock, textBlock, cellsOf, BlockPrinted, blockPrinted, printsBlock}
 use Rattle.bench_blocks.specs.Steps.{Placed, Handed}
 use Rattle.bench_blocks.proofs.ReadLaws.{at-most, step-none, step-read}
 use Rattle.bench_blocks.proofs.RunLaws.{roomy, long-blank}
@@ -27,32 +27,32 @@ fuel : (n k m : ℕ) (b : Bench) (lists : Lent) (y : List Float) (text : List �
 fuel zero k m b lists y text next w h g = absurd (omega arith)
 fuel (suc n) zero m b lists y text next w h g = absurd (omega arith)
 fuel (suc n) (suc k) m b lists y text next w h g =
-    let s : Stepped = stepOf b lists y (drop next text) blank in
+    let s : Stepped = benchStep b lists y (drop next text) blank in
     go (ltb m (length w + room)) (eqb (s .next) 0) refl
     (λ i j. fuel n k m (s .left .bench) (s .left .lent) (s .left .point) text (next + s .next) (w ++ shown (s .left .out)) i j)
   where
-    go : (p q : Bool) → eqb (stepOf b lists y (drop next text) blank .next) 0 ≡ q
-        → (let s = stepOf b lists y (drop next text) blank in
+    go : (p q : Bool) → eqb (benchStep b lists y (drop next text) blank .next) 0 ≡ q
+        → (let s = benchStep b lists y (drop next text) blank in
         (length text - (next + s .next) < n → length text - (next + s .next) < k
         → cellsOf n m (s .left .bench) (s .left .lent) (s .left .point) text (next + s .next) (w ++ shown (s .left .out))
         ≡ cellsOf k m (s .left .bench) (s .left .lent) (s .left .point) text (next + s .next) (w ++ shown (s .left .out)))
-        → cond p (block b lists y next w true)
-        (cond q (block b lists y next w false) (cellsOf n m (s .left .bench) (s .left .lent) (s .left .point) text (next + s .next) (w ++ shown (s .left .out))))
-        ≡ cond p (block b lists y next w true)
-        (cond q (block b lists y next w false) (cellsOf k m (s .left .bench) (s .left .lent) (s .left .point) text (next + s .next) (w ++ shown (s .left .out)))))
+        → cond p (textBlock b lists y next w true)
+        (cond q (textBlock b lists y next w false) (cellsOf n m (s .left .bench) (s .left .lent) (s .left .point) text (next + s .next) (w ++ shown (s .left .out))))
+        ≡ cond p (textBlock b lists y next w true)
+        (cond q (textBlock b lists y next w false) (cellsOf k m (s .left .bench) (s .left .lent) (s .left .point) text (next + s .next) (w ++ shown (s .left .out)))))
     go true q e ih = refl
     go false true e ih = refl
     go false false e ih =
-        let z = eqb-false (stepOf b lists y (drop next text) blank .next) 0 e in
+        let z = eqb-false (benchStep b lists y (drop next text) blank .next) 0 e in
         let i = step-out b lists y (drop next text) blank long-blank .within in
         let l = length-drop next text in
         ih (omega (arith, z, i, l)) (omega (arith, z, i, l))
 
 -- nothing is read where no cell ends
-idle : (b : Bench) (lists : Lent) (y : List Float) (t : List ℕ) → stepOf b lists y t blank .next ≡ 0 → stepOf b lists y t blank ≡ stepped 0 0 (heard b lists y (output 0 blank))
+idle : (b : Bench) (lists : Lent) (y : List Float) (t : List ℕ) → benchStep b lists y t blank .next ≡ 0 → benchStep b lists y t blank ≡ stepped 0 0 (lineResult b lists y (output 0 blank))
 idle b lists y t z = go (eqb (cellLength t) (length t)) refl
   where
-    go : (q : Bool) → eqb (cellLength t) (length t) ≡ q → stepOf b lists y t blank ≡ stepped 0 0 (heard b lists y (output 0 blank))
+    go : (q : Bool) → eqb (cellLength t) (length t) ≡ q → benchStep b lists y t blank ≡ stepped 0 0 (lineResult b lists y (output 0 blank))
     go true e = step-none b lists y blank roomy t (eqb-true (cellLength t) (length t) e)
     go false e =
         let k : cellLength t < length t = omega (arith, at-most t, eqb-false (cellLength t) (length t) e) in
@@ -91,12 +91,12 @@ module _ (b₀ : Bench) (lists₀ : Lent) (y₀ : List Float) (text out₀ : Lis
         λ j. output (sym at-length j) (o j)
 
     pub stands-full : length out - at < 65536
-        → Handed (cellsOf (suc (length text)) (length out₀) b₀ lists₀ y₀ text 0 []) text out₀ (written b lists y next (output at out) true)
+        → Handed (cellsOf (suc (length text)) (length out₀) b₀ lists₀ y₀ text 0 []) text out₀ (blockPrinted b lists y next (output at out) true)
     stands-full h =
         let t : ltb (length out₀) (length (take at out) + 65536) ≡ true = lt-ltb (length out₀) (length (take at out) + 65536) (omega (arith, at-length, a .size)) in
-        let e : cellsOf (suc (length text)) (length out₀) b₀ lists₀ y₀ text 0 [] ≡ block b lists y next (take at out) true = a .same ∙ rw t in
+        let e : cellsOf (suc (length text)) (length out₀) b₀ lists₀ y₀ text 0 [] ≡ textBlock b lists y next (take at out) true = a .same ∙ rw t in
         record {
-          same = (λ j. written b lists y next (laid-all j) true) ∙ ap (λ (r : Block). laid r out₀) (sym e);
+          same = (λ j. blockPrinted b lists y next (laid-all j) true) ∙ ap (λ (r : TextBlock). printsBlock r out₀) (sym e);
           read = a .read;
           fits = omega (arith, a .fits, a .size);
           room = λ e. absurd (false≢true (sym e));
@@ -108,11 +108,11 @@ module _ (b₀ : Bench) (lists₀ : Lent) (y₀ : List Float) (text out₀ : Lis
       roomed = le-ltb (length out₀) (length (take at out) + 65536) (omega (arith, at-length, a .size, a .fits))
 
       pub stands-idle : n ≡ 0
-          → Handed (cellsOf (suc (length text)) (length out₀) b₀ lists₀ y₀ text 0 []) text out₀ (written b' lists' y' next (output at out') false)
+          → Handed (cellsOf (suc (length text)) (length out₀) b₀ lists₀ y₀ text 0 []) text out₀ (blockPrinted b' lists' y' next (output at out') false)
       stands-idle k =
           let f = idle b lists y (drop next text) (sym (p .next) ∙ k) in
-          let e : cellsOf (suc (length text)) (length out₀) b₀ lists₀ y₀ text 0 [] ≡ block b lists y next (take at out) false =
-          a .same ∙ rw (roomed, eq-eqb (stepOf b lists y (drop next text) blank .next) 0 (sym (p .next) ∙ k)) in
+          let e : cellsOf (suc (length text)) (length out₀) b₀ lists₀ y₀ text 0 [] ≡ textBlock b lists y next (take at out) false =
+          a .same ∙ rw (roomed, eq-eqb (benchStep b lists y (drop next text) blank .next) 0 (sym (p .next) ∙ k)) in
           let i : m ≡ 0 = p .count ∙ ap (λ (s : Stepped). length (shown (s .left .out))) f in
           let j : at + m ≡ at = omega arith in
           let t : take at out' ≡ take at out =
@@ -124,9 +124,9 @@ module _ (b₀ : Bench) (lists₀ : Lent) (y₀ : List Float) (text out₀ : Lis
           let q : y' ≡ y = p .point ∙ ap (λ (s : Stepped). s .left .point) f in
           record {
             same =
-                (λ v. written (x v) (l v) (q v) next (output at (o v)) false)
-                ∙ (λ v. written b lists y next (laid-all v) false)
-                ∙ ap (λ (r : Block). laid r out₀) (sym e);
+                (λ v. blockPrinted (x v) (l v) (q v) next (output at (o v)) false)
+                ∙ (λ v. blockPrinted b lists y next (laid-all v) false)
+                ∙ ap (λ (r : TextBlock). printsBlock r out₀) (sym e);
             read = a .read;
             fits = omega (arith, a .fits, a .size);
             room = λ e. omega (arith, a .fits, a .size);
@@ -134,11 +134,11 @@ module _ (b₀ : Bench) (lists₀ : Lent) (y₀ : List Float) (text out₀ : Lis
 
       pub stands-next : (n ≡ 0 → ⊥) → Stands b₀ lists₀ y₀ text out₀ b' lists' y' out' (next + n) (at + m)
       stands-next k =
-          let s : Stepped = stepOf b lists y (drop next text) blank in
+          let s : Stepped = benchStep b lists y (drop next text) blank in
           let w : n ≤ length text - next = subst (λ (u : ℕ). n ≤ u) (length-drop next text) (p .within) in
           let e : cellsOf (suc (length text - next)) (length out₀) b lists y text next (take at out)
           ≡ cellsOf (length text - next) (length out₀) (s .left .bench) (s .left .lent) (s .left .point) text (next + s .next) (take at out ++ shown (s .left .out)) =
-          rw (roomed, ne-eqb (stepOf b lists y (drop next text) blank .next) 0 (λ i. k (p .next ∙ i))) in
+          rw (roomed, ne-eqb (benchStep b lists y (drop next text) blank .next) 0 (λ i. k (p .next ∙ i))) in
           let f : cellsOf (length text - next) (length out₀) (s .left .bench) (s .left .lent) (s .left .point) text (next + s .next) (take at out ++ shown (s .left .out))
           ≡ cellsOf (length text - next) (length out₀) b' lists' y' text (next + n) (take (at + m) out') =
           λ v. cellsOf (length text - next) (length out₀) (sym (p .bench) v) (sym (p .lent) v) (sym (p .point) v) text (next + sym (p .next) v) (sym (p .text) v) in

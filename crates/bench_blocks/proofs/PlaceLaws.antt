@@ -9,11 +9,11 @@ use lib.Dec.{ltb, eqb}
 use lib.ListN.{length, take, drop, getD, length-append, length-take, length-drop, length-replicate, take-append-drop}
 use lib.Seq.{take-append-add, drop-append-add, take-append-seam, drop-append-seam, drop-append-le, drop-drop, length-take-le, take-all}
 use lib.Ieee.{Float}
-use Rattle.common.specs.Lent.{over}
+use Rattle.refusal.specs.Lent.{over}
 use Rattle.trcf.specs.View.{Lent}
 use Rattle.bench_core.specs.Line.{cellOf}
 use Rattle.bench_core.specs.declared.step.Bench.{Bench}
-use Rattle.bench_core.specs.Bench.{Output, output, prints, Heard, heard, lineHeard, cellLength, room, Stepped, stepped, stepOf, withLine}
+use Rattle.bench_core.specs.Bench.{Output, output, prints, LineResult, lineResult, lineGives, cellLength, room, Stepped, stepped, benchStep, withLine}
 use Rattle.bench_core.specs.Run.{blank, shown}
 use Rattle.bench_blocks.specs.Steps.{Placed}
 use Rattle.bench_blocks.proofs.OutLaws.{replyOf, speaks}
@@ -28,19 +28,19 @@ module _ (b : Bench) (lists : Lent) (y : List Float) (t : List ℕ) (out : List 
   cell-out c x = go (eqb x 9)
     where
       go : (p : Bool)
-          → cond p (heard (withLine b (cellOf (b .line) c)) lists y (output 0 out)) (lineHeard b (cellOf (b .line) c) lists y out)
-          ≡ speaks (replyOf (cond p (heard (withLine b (cellOf (b .line) c)) lists y (output 0 blank)) (lineHeard b (cellOf (b .line) c) lists y blank))) out
+          → cond p (lineResult (withLine b (cellOf (b .line) c)) lists y (output 0 out)) (lineGives b (cellOf (b .line) c) lists y out)
+          ≡ speaks (replyOf (cond p (lineResult (withLine b (cellOf (b .line) c)) lists y (output 0 blank)) (lineGives b (cellOf (b .line) c) lists y blank))) out
       go true = silent (withLine b (cellOf (b .line) c)) lists y out blank
       go false = line-out out blank (r ∙ sym long-blank) b lists y (cellOf (b .line) c)
 
   pub record Same (s : Stepped) : Type 0 where
-    pub same : stepOf b lists y t out ≡ stepped 0 (s .next) (speaks (replyOf (s .left)) out)
+    pub same : benchStep b lists y t out ≡ stepped 0 (s .next) (speaks (replyOf (s .left)) out)
     pub within : s .next ≤ length t
 
-  pub step-out : Same (stepOf b lists y t blank)
+  pub step-out : Same (benchStep b lists y t blank)
   step-out = go (eqb (cellLength t) (length t)) refl
     where
-      go : (q : Bool) → eqb (cellLength t) (length t) ≡ q → Same (stepOf b lists y t blank)
+      go : (q : Bool) → eqb (cellLength t) (length t) ≡ q → Same (benchStep b lists y t blank)
       go true e =
           let k : cellLength t ≡ length t = eqb-true (cellLength t) (length t) e in
           rw (step-none b lists y blank roomy t k)
@@ -94,7 +94,7 @@ module _ (out : List ℕ) (at : ℕ) (h : at + 65536 ≤ length out) (w bytes : 
 
 module _ (b : Bench) (lists : Lent) (y : List Float) (t out : List ℕ) (at : ℕ) (h : at + 65536 ≤ length out) where
   pub placed : {b' : Bench} {lists' : Lent} {y' : List Float} {row n m : ℕ} (bytes out' : List ℕ)
-      → stepped row n (heard b' lists' y' (output m bytes)) ≡ stepOf b lists y t (take 65536 (drop at out))
+      → stepped row n (lineResult b' lists' y' (output m bytes)) ≡ benchStep b lists y t (take 65536 (drop at out))
       → length bytes ≡ 65536
       → out' ≡ take at out ++ (bytes ++ drop 65536 (drop at out))
       → Placed b lists y t out at b' lists' y' out' n m
@@ -103,7 +103,7 @@ module _ (b : Bench) (lists : Lent) (y : List Float) (t out : List ℕ) (at : �
       let k : length (take 65536 (drop at out)) ≡ 65536 = simp (length-take, length-drop) (omega arith) in
       let q = step-out b lists y t (take 65536 (drop at out)) k in
       let f = e ∙ q .same in
-      let w : List ℕ = shown (stepOf b lists y t blank .left .out) in
+      let w : List ℕ = shown (benchStep b lists y t blank .left .out) in
       let i : m ≡ length w = ap (λ (s : Stepped). s .left .out .length) f in
       let g : bytes ≡ over (take 65536 (drop at out)) w = ap (λ (s : Stepped). s .left .out .bytes) f in
       record {
@@ -121,7 +121,7 @@ module _ (b : Bench) (lists : Lent) (y : List Float) (t out : List ℕ) (at : �
 -- the same, over the parts as the code lends them
 module _ (b : Bench) (lists : Lent) (y : List Float) (text : List ℕ) (next : ℕ) (out : List ℕ) (at : ℕ) (h : at + 65536 ≤ length out) where
   pub placed-at : (bytes : List ℕ) {b' : Bench} {lists' : Lent} {y' : List Float} {row n m : ℕ}
-      → stepped row n (heard b' lists' y' (output m bytes)) ≡ stepOf b lists y (take (length text - next) (drop next text)) (take (at + 65536 - at) (drop at out))
+      → stepped row n (lineResult b' lists' y' (output m bytes)) ≡ benchStep b lists y (take (length text - next) (drop next text)) (take (at + 65536 - at) (drop at out))
       → length bytes ≡ length (take (at + 65536 - at) (drop at out))
       → Placed b lists y (drop next text) out at b' lists' y' (take at out ++ (bytes ++ drop (at + 65536 - at) (drop at out))) n m
   placed-at bytes {b'} {lists'} {y'} {row} {n} {m} e z =
@@ -129,6 +129,6 @@ module _ (b : Bench) (lists : Lent) (y : List Float) (text : List ℕ) (next : �
       let t : take (length text - next) (drop next text) ≡ drop next text = take-all (length text - next) (drop next text) (simp length-drop (omega arith)) in
       let l : length (take 65536 (drop at out)) ≡ 65536 = simp (length-take, length-drop) (omega arith) in
       placed b lists y (drop next text) out at h bytes (take at out ++ (bytes ++ drop (at + 65536 - at) (drop at out)))
-      (e ∙ (λ j. stepOf b lists y (t j) (take (k j) (drop at out))))
+      (e ∙ (λ j. benchStep b lists y (t j) (take (k j) (drop at out))))
       (z ∙ ap (λ (i : ℕ). length (take i (drop at out))) k ∙ l)
       (ap (λ (i : ℕ). take at out ++ (bytes ++ drop i (drop at out))) k)

@@ -9,18 +9,18 @@ use lib.Dec.{T, ltb, eqb}
 use lib.ListN.{length, take, drop, replicate, length-take, length-drop}
 use lib.Seq.{length-take-le, take-all, take-nil, drop-nil, take-take, take-at}
 use lib.Ieee.{Float}
-use Rattle.common.specs.Lent.{over}
+use Rattle.refusal.specs.Lent.{over}
 use Rattle.trcf.specs.Transformer.{zero32}
 use Rattle.trcf.specs.View.{Lent}
-use Rattle.bench_core.specs.Bench.{Output, cellLength, cellKept, room, finishBy, finishOf, Finished, begun, prints, noText, output, said, Said, endOf}
-use Rattle.bench_core.specs.Run.{memory, blank, shown, printed}
+use Rattle.bench_core.specs.Bench.{Output, cellLength, cellKept, room, finishBy, finishOf, Finished, begun, prints, noText, output, endResult, EndResult, endOf}
+use Rattle.bench_core.specs.Run.{benchMemory, blank, shown, printed}
 use Rattle.bench_core.specs.declared.step.Bench.{Bench}
 use Rattle.bench_core.specs.declared.step.Phase.{Phase}
 use Rattle.bench_core.specs.declared.step.Phase.the-variants.{WantsSet, WantsWeights, Running, Ended}
-use Rattle.bench_blocks.specs.Blocks.{Block, cellsOf, endsWith, blockOf, laid}
-use Rattle.bench_blocks.specs.Turns.{firstRun, unfit, standing, endsAt, restOf, Turned, turned, carried, turnOf}
-use Rattle.bench_blocks.specs.Whole.{answers}
-use Rattle.bench_blocks.specs.Program.{Program, reads, ends, again, over as stops, BlocksPrint}
+use Rattle.bench_blocks.specs.Blocks.{TextBlock, cellsOf, endsWith, blockOf, printsBlock}
+use Rattle.bench_blocks.specs.Turns.{firstRun, unfit, bytesInText, endsAt, bytesKept, TurnResult, turnResult, carried, turnOf}
+use Rattle.bench_blocks.specs.Whole.{wholePrints}
+use Rattle.bench_blocks.specs.Program.{Program, reads, ends, again, programEnds as stops, BlocksPrint}
 use Rattle.bench_blocks.specs.declared.turn.Run.{Run}
 use Rattle.bench_blocks.proofs.OutLaws.{shown-prints}
 use Rattle.bench_blocks.proofs.ReadLaws.{readsOn, reads-cut}
@@ -51,7 +51,7 @@ module _ (b : Bench) (lists : Lent) (y : List Float) (text : List ℕ) (n read :
   rest-length = ap length (drop-take read n text) ∙ length-take-le (n - read) (drop read text) (simp length-drop (omega arith))
 
   pub kept-reads : (full : Bool) → (full ≡ false → cellLength (drop read (take n text)) ≡ length (drop read (take n text)))
-      → (let k = restOf (n - read) full in
+      → (let k = bytesKept (n - read) full in
       readsOn b lists y [] (take k (over text (take k (drop read text))) ++ later) ≡ readsOn b lists y [] (drop read (take n text) ++ later))
   kept-reads true none =
       ap (λ (u : List ℕ). readsOn b lists y [] (u ++ later))
@@ -81,7 +81,7 @@ finish-over b c = go (ltb (length blank) room) refl (b .phase)
     go q e WantsWeights = refl
     go q e Running = by (begun (b .line .name) c)
       where
-        by : (s : Bool) → (cond s (said (endOf b) (prints (noText 19) blank)) (said (endOf b) (output 0 blank))) .bench .phase ≡ Ended
+        by : (s : Bool) → (cond s (endResult (endOf b) (prints (noText 19) blank)) (endResult (endOf b) (output 0 blank))) .bench .phase ≡ Ended
         by true = refl
         by false = refl
     go q e Ended = refl
@@ -90,14 +90,14 @@ end-over : (b : Bench) (lists : Lent) (y : List Float) (text : List ℕ) (m : �
 unfolding blockOf
 end-over b lists y text m = go (cellsOf (suc (length text)) m b lists y text 0 []) (cellsOf (suc (length text)) m b lists y text 0 [] .full) refl
   where
-    go : (s : Block) (q : Bool) → s .full ≡ q → endsWith true q s text .full ≡ false → endsWith true q s text .bench .phase ≡ Ended
+    go : (s : TextBlock) (q : Bool) → s .full ≡ q → endsWith true q s text .full ≡ false → endsWith true q s text .bench .phase ≡ Ended
     go s true k f = absurd (false≢true (sym f ∙ k))
     go s false k f = finish-over (s .bench) (drop (s .read) text)
 
 -- ---- a turn
 
 -- what stands at the front of the text after a turn, with what is still to come, prints what the turn leaves to print
-record Leaves (r : Run) (lists : Lent) (y : List Float) (said input later : List ℕ) (t : Turned) : Type 0 where
+record Leaves (r : Run) (lists : Lent) (y : List Float) (said input later : List ℕ) (t : TurnResult) : Type 0 where
   all : readsOn (r .bench) lists y [] input ≡ said ++ readsOn (t .run .bench) (t .lent) (t .point) [] (take (t .run .kept) (t .text) ++ later)
   shows : shown (t .out) ≡ said
 
@@ -105,9 +105,9 @@ module _ (r : Run) (lists : Lent) (y : List Float) (text out : List ℕ) where
   -- with n bytes in the text, and more to come
   leaves-open : (n : ℕ) → n ≤ length text → (later : List ℕ)
       → (let g = blockOf (r .bench) lists y (take n text) false (length out) in
-      Leaves r lists y (g .text) (take n text ++ later) later (carried text n (laid g out)))
+      Leaves r lists y (g .text) (take n text ++ later) later (carried text n (printsBlock g out)))
   leaves-open n h later =
-      let g : Block = blockOf (r .bench) lists y (take n text) false (length out) in
+      let g : TextBlock = blockOf (r .bench) lists y (take n text) false (length out) in
       record {
         all =
             block-law (r .bench) lists y (take n text) (length out) g refl later
@@ -119,13 +119,13 @@ module _ (r : Run) (lists : Lent) (y : List Float) (text out : List ℕ) where
   -- at the end of the input
   leaves-end : (n : ℕ) → n ≤ length text
       → (let g = blockOf (r .bench) lists y (take n text) true (length out) in
-      Leaves r lists y (g .text) (take n text) [] (carried text n (laid g out)))
+      Leaves r lists y (g .text) (take n text) [] (carried text n (printsBlock g out)))
   leaves-end n h = go (g .full) refl
     where
-      g : Block
+      g : TextBlock
       g = blockOf (r .bench) lists y (take n text) true (length out)
 
-      go : (q : Bool) → g .full ≡ q → Leaves r lists y (g .text) (take n text) [] (carried text n (laid g out))
+      go : (q : Bool) → g .full ≡ q → Leaves r lists y (g .text) (take n text) [] (carried text n (printsBlock g out))
       go true e =
           record {
             all =
@@ -140,7 +140,7 @@ module _ (r : Run) (lists : Lent) (y : List Float) (text out : List ℕ) where
                 end-law (r .bench) lists y (take n text) (length out) g refl e
                 ∙ sym (append-nil (g .text))
                 ∙ ap (λ (u : List ℕ). g .text ++ u)
-                (sym (over-reads (g .lent) (g .point) (take (restOf (n - g .read) (g .full)) (over text (take (restOf (n - g .read) (g .full)) (drop (g .read) text))) ++ []) (g .bench) []
+                (sym (over-reads (g .lent) (g .point) (take (bytesKept (n - g .read) (g .full)) (over text (take (bytesKept (n - g .read) (g .full)) (drop (g .read) text))) ++ []) (g .bench) []
                 (end-over (r .bench) lists y (take n text) (length out) e)));
             shows = shown-prints (g .text) out;
           }
@@ -148,27 +148,27 @@ module _ (r : Run) (lists : Lent) (y : List Float) (text out : List ℕ) where
 -- ---- a run
 
 -- a turn that is done: the bytes that stand in the text, and what it is
-module _ (r : Run) (lists : Lent) (y : List Float) (text : List ℕ) (got : ℕ) (out : List ℕ) (t : Turned) (e : t ≡ turnOf r lists y text got out) (z : t .row ≡ 0) where
+module _ (r : Run) (lists : Lent) (y : List Float) (text : List ℕ) (got : ℕ) (out : List ℕ) (t : TurnResult) (e : t ≡ turnOf r lists y text got out) (z : t .row ≡ 0) where
   abbrev stand : ℕ
-  stand = standing (r .kept) got (r .full)
+  stand = bytesInText (r .kept) got (r .full)
 
   record Done : Type 0 where
-    is : t ≡ carried text (standing (r .kept) got (r .full)) (laid (blockOf (r .bench) lists y (take (standing (r .kept) got (r .full)) text) (endsAt got (r .full)) (length out)) out)
+    is : t ≡ carried text (bytesInText (r .kept) got (r .full)) (printsBlock (blockOf (r .bench) lists y (take (bytesInText (r .kept) got (r .full)) text) (endsAt got (r .full)) (length out)) out)
     within : r .kept + got ≤ length text
 
   done : Done
   unfolding turnOf
   done = go (unfit (r .kept) got (length text) (length out)) refl e
     where
-      g : Turned
-      g = carried text stand (laid (blockOf (r .bench) lists y (take stand text) (endsAt got (r .full)) (length out)) out)
+      g : TurnResult
+      g = carried text stand (printsBlock (blockOf (r .bench) lists y (take stand text) (endsAt got (r .full)) (length out)) out)
 
-      go : (q : Bool) → unfit (r .kept) got (length text) (length out) ≡ q → t ≡ cond q (turned 20 r lists y text (output 0 out)) g → Done
-      go true i k = absurd (omega (arith, z, ap (λ (u : Turned). u .row) k))
+      go : (q : Bool) → unfit (r .kept) got (length text) (length out) ≡ q → t ≡ cond q (turnResult 20 r lists y text (output 0 out)) g → Done
+      go true i k = absurd (omega (arith, z, ap (λ (u : TurnResult). u .row) k))
       go false i k = record { is = k; within = unfit-false (r .kept) got (length text) (length out) i .2 }
 
--- what a turn shows, with what the turns behind it write
-turn-prints : (r : Run) (lists : Lent) (y : List Float) (said input later : List ℕ) (t : Turned) → Leaves r lists y said input later t
+-- what a turn shows, with what the turns after it write
+turn-prints : (r : Run) (lists : Lent) (y : List Float) (said input later : List ℕ) (t : TurnResult) → Leaves r lists y said input later t
     → (all w : List ℕ) → all ≡ shown (t .out) ++ w
     → w ≡ readsOn (t .run .bench) (t .lent) (t .point) [] (take (t .run .kept) (t .text) ++ later)
     → all ≡ readsOn (r .bench) lists y [] input
@@ -179,13 +179,13 @@ pub program-law : {r : Run} {lists : Lent} {y : List Float} {text input all : Li
 program-law {r} {lists} {y} {text} {input} {all} (reads new later text' out w t f n i m e z a p) =
     let d = done r lists y text' (length new) out t e z in
     let k : ℕ = r .kept + length new in
-    let s : t ≡ carried text' k (laid (blockOf (r .bench) lists y (take k text') false (length out)) out) =
+    let s : t ≡ carried text' k (printsBlock (blockOf (r .bench) lists y (take k text') false (length out)) out) =
     d .is
     ∙ (λ j.
-    carried text' (standing (r .kept) (length new) (f j))
-    (laid (blockOf (r .bench) lists y (take (standing (r .kept) (length new) (f j)) text') (endsAt (length new) (f j)) (length out)) out))
-    ∙ ap (λ (q : Bool). carried text' k (laid (blockOf (r .bench) lists y (take k text') q (length out)) out)) (ne-eqb (length new) 0 (λ q. omega arith)) in
-    let g : Block = blockOf (r .bench) lists y (take k text') false (length out) in
+    carried text' (bytesInText (r .kept) (length new) (f j))
+    (printsBlock (blockOf (r .bench) lists y (take (bytesInText (r .kept) (length new) (f j)) text') (endsAt (length new) (f j)) (length out)) out))
+    ∙ ap (λ (q : Bool). carried text' k (printsBlock (blockOf (r .bench) lists y (take k text') q (length out)) out)) (ne-eqb (length new) 0 (λ q. omega arith)) in
+    let g : TextBlock = blockOf (r .bench) lists y (take k text') false (length out) in
     let l : Leaves r lists y (g .text) (take k text' ++ later) later t =
     subst (Leaves r lists y (g .text) (take k text' ++ later) later) (sym s) (leaves-open r lists y text' out k (d .within) later) in
     turn-prints r lists y (g .text) (take k text' ++ later) later t l all w a (program-law p)
@@ -194,10 +194,10 @@ program-law {r} {lists} {y} {text} {input} {all} (reads new later text' out w t 
 program-law {r} {lists} {y} {text} {input} {all} (ends out w t f i e z a p) =
     let d = done r lists y text 0 out t e z in
     let k : ℕ = r .kept + 0 in
-    let s : t ≡ carried text k (laid (blockOf (r .bench) lists y (take k text) true (length out)) out) =
+    let s : t ≡ carried text k (printsBlock (blockOf (r .bench) lists y (take k text) true (length out)) out) =
     d .is
-    ∙ (λ j. carried text (standing (r .kept) 0 (f j)) (laid (blockOf (r .bench) lists y (take (standing (r .kept) 0 (f j)) text) (endsAt 0 (f j)) (length out)) out)) in
-    let g : Block = blockOf (r .bench) lists y (take k text) true (length out) in
+    ∙ (λ j. carried text (bytesInText (r .kept) 0 (f j)) (printsBlock (blockOf (r .bench) lists y (take (bytesInText (r .kept) 0 (f j)) text) (endsAt 0 (f j)) (length out)) out)) in
+    let g : TextBlock = blockOf (r .bench) lists y (take k text) true (length out) in
     let l : Leaves r lists y (g .text) (take k text) [] t =
     subst (Leaves r lists y (g .text) (take k text) []) (sym s) (leaves-end r lists y text out k (d .within)) in
     let c : k ≡ r .kept = omega arith in
@@ -207,10 +207,10 @@ program-law {r} {lists} {y} {text} {input} {all} (ends out w t f i e z a p) =
 program-law {r} {lists} {y} {text} {input} {all} (again got out w t f e z a p) =
     let d = done r lists y text got out t e z in
     let k : ℕ = r .kept in
-    let s : t ≡ carried text k (laid (blockOf (r .bench) lists y (take k text) false (length out)) out) =
+    let s : t ≡ carried text k (printsBlock (blockOf (r .bench) lists y (take k text) false (length out)) out) =
     d .is
-    ∙ (λ j. carried text (standing (r .kept) got (f j)) (laid (blockOf (r .bench) lists y (take (standing (r .kept) got (f j)) text) (endsAt got (f j)) (length out)) out)) in
-    let g : Block = blockOf (r .bench) lists y (take k text) false (length out) in
+    ∙ (λ j. carried text (bytesInText (r .kept) got (f j)) (printsBlock (blockOf (r .bench) lists y (take (bytesInText (r .kept) got (f j)) text) (endsAt got (f j)) (length out)) out)) in
+    let g : TextBlock = blockOf (r .bench) lists y (take k text) false (length out) in
     let l : Leaves r lists y (g .text) (take k text ++ input) input t =
     subst (Leaves r lists y (g .text) (take k text ++ input) input) (sym s) (leaves-open r lists y text out k (omega (arith, d .within)) input) in
     turn-prints r lists y (g .text) (take k text ++ input) input t l all w a (program-law p)
@@ -221,5 +221,5 @@ pub blocks-print : BlocksPrint
 blocks-print text input all p = program-law p ∙ reads-whole input
 
 -- step after step on the whole input (bench_core/specs/Run) is the same
-pub blocks-printed : (text input all : List ℕ) → Program firstRun memory (replicate 320 zero32) text input all → all ≡ printed input
+pub blocks-printed : (text input all : List ℕ) → Program firstRun benchMemory (replicate 320 zero32) text input all → all ≡ printed input
 blocks-printed text input all p = blocks-print text input all p ∙ sym (printed-whole input)

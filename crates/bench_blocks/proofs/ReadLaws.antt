@@ -16,7 +16,7 @@ use Rattle.bench_core.specs.declared.line.Line.{Line}
 use Rattle.bench_core.specs.declared.step.Bench.{Bench}
 use Rattle.bench_core.specs.declared.step.Phase.{Phase}
 use Rattle.bench_core.specs.declared.step.Phase.the-variants.{WantsSet, WantsWeights, Running, Ended}
-use Rattle.bench_core.specs.Bench.{output, Heard, heard, lineHeard, cellLength, cellKept, cellStep, room, Stepped, stepped, withLine, stepOf, begun, finishBy, finishOf}
+use Rattle.bench_core.specs.Bench.{output, LineResult, lineResult, lineGives, cellLength, cellKept, cellStep, room, Stepped, stepped, withLine, benchStep, begun, finishBy, finishOf}
 use Rattle.bench_core.specs.Run.{blank, shown}
 use Rattle.bench_blocks.proofs.CutLaws.{cut-cell, long-alike}
 
@@ -27,9 +27,9 @@ abbrev pub ends : ℕ → Bool
 ends x = eqb x 9 || eqb x 10
 
 -- what a cell c leaves that x ends
-abbrev pub cellHeard : Bench → Lent → List Float → List ℕ → List ℕ → ℕ → Heard
+abbrev pub cellHeard : Bench → Lent → List Float → List ℕ → List ℕ → ℕ → LineResult
 cellHeard b lists y out c x =
-    cond (eqb x 9) (heard (withLine b (cellOf (b .line) c)) lists y (output 0 out)) (lineHeard b (cellOf (b .line) c) lists y out)
+    cond (eqb x 9) (lineResult (withLine b (cellOf (b .line) c)) lists y (output 0 out)) (lineGives b (cellOf (b .line) c) lists y out)
 
 -- all that is printed from here on, where the bytes c of a cell are read and t is not
 abbrev pub readsOn : Bench → Lent → List Float → List ℕ → List ℕ → List ℕ
@@ -90,7 +90,7 @@ kept-least n = by (ltb 24 n) refl
 -- ---- a step
 
 module _ (b : Bench) (lists : Lent) (y : List Float) where
-  both : (q : Bool) (m : ℕ) (g h : Heard) → cond q (stepped 0 m g) (stepped 0 m h) ≡ stepped 0 m (cond q g h)
+  both : (q : Bool) (m : ℕ) (g h : LineResult) → cond q (stepped 0 m g) (stepped 0 m h) ≡ stepped 0 m (cond q g h)
   both true m g h = refl
   both false m g h = refl
 
@@ -102,18 +102,18 @@ module _ (b : Bench) (lists : Lent) (y : List Float) where
       ∙ cut-cell l (take n t)
 
   module _ (out : List ℕ) (r : room ≤ length out) (t : List ℕ) where
-    pub step-none : cellLength t ≡ length t → stepOf b lists y t out ≡ stepped 0 0 (heard b lists y (output 0 out))
-    unfolding stepOf
+    pub step-none : cellLength t ≡ length t → benchStep b lists y t out ≡ stepped 0 0 (lineResult b lists y (output 0 out))
+    unfolding benchStep
     step-none e = rw (le-ltb (length out) 65536 r, eq-eqb (cellLength t) (length t) e)
 
     pub step-read : cellLength t < length t
-        → stepOf b lists y t out ≡ stepped 0 (cellLength t + 1) (cellHeard b lists y out (take (cellLength t) t) (getD t (cellLength t) 0))
-    unfolding stepOf
+        → benchStep b lists y t out ≡ stepped 0 (cellLength t + 1) (cellHeard b lists y out (take (cellLength t) t) (getD t (cellLength t) 0))
+    unfolding benchStep
     step-read h =
         rw (le-ltb (length out) 65536 r, ne-eqb (cellLength t) (length t) (λ e. omega arith))
         (ap (cellStep b lists y t out (cellLength t)) (cut-step (b .line) t (cellLength t) (omega arith))
-        ∙ both (eqb (getD t (cellLength t) 0) 9) (cellLength t + 1) (heard (withLine b (cellOf (b .line) (take (cellLength t) t))) lists y (output 0 out))
-        (lineHeard b (cellOf (b .line) (take (cellLength t) t)) lists y out))
+        ∙ both (eqb (getD t (cellLength t) 0) 9) (cellLength t + 1) (lineResult (withLine b (cellOf (b .line) (take (cellLength t) t))) lists y (output 0 out))
+        (lineGives b (cellOf (b .line) (take (cellLength t) t)) lists y out))
 
   -- ---- bytes in which no cell ends
 
@@ -154,7 +154,7 @@ module _ (b : Bench) (lists : Lent) (y : List Float) where
       let e = long-alike (b .line) c d h k in
       let i = reads-alike t (c ++ x ∷ []) (d ++ x ∷ []) (omega (arith, length-append c (x ∷ []))) (omega (arith, length-append d (x ∷ []))) in
       let g : cellHeard b lists y blank c x ≡ cellHeard b lists y blank d x =
-      ap (λ (l : Line). cond (eqb x 9) (heard (withLine b l) lists y (output 0 blank)) (lineHeard b l lists y blank)) e in
+      ap (λ (l : Line). cond (eqb x 9) (lineResult (withLine b l) lists y (output 0 blank)) (lineGives b l lists y blank)) e in
       λ j. cond (ends x) (shown (g j .out) ++ readsOn (g j .bench) (g j .lent) (g j .point) [] t) (i j)
 
   -- of bytes in which no cell ends the first 24 are enough

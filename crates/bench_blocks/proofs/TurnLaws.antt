@@ -9,35 +9,35 @@ use lib.Dec.{ltb, leb}
 use lib.ListN.{length, take, drop, length-take}
 use lib.Seq.{length-take-le}
 use lib.Ieee.{Float}
-use Rattle.common.specs.Lent.{over}
+use Rattle.refusal.specs.Lent.{over}
 use Rattle.trcf.specs.View.{Lent}
 use Rattle.bench_core.specs.Bench.{Output, output, room, cellKept}
 use Rattle.bench_core.specs.declared.step.Bench.{Bench}
-use Rattle.bench_blocks.specs.Blocks.{Block, cellsOf, endsWith, blockOf, Written, laid}
-use Rattle.bench_blocks.specs.Turns.{runOf, unfit, standing, endsAt, restOf, Turned, turned, carried, turnOf}
+use Rattle.bench_blocks.specs.Blocks.{TextBlock, cellsOf, endsWith, blockOf, BlockPrinted, printsBlock}
+use Rattle.bench_blocks.specs.Turns.{runWith, unfit, bytesInText, endsAt, bytesKept, TurnResult, turnResult, carried, turnOf}
 use Rattle.bench_blocks.specs.declared.turn.Run.{Run}
 use Rattle.bench_blocks.proofs.AheadLaws.{block-ahead}
 
 module _ (r : Run) (lists : Lent) (y : List Float) (text : List ℕ) (got : ℕ) (out : List ℕ) where
   pub turn-refused : (u : Bool) → u ≡ unfit (r .kept) got (length text) (length out) → u ≡ true
-      → turned 20 r lists y text (output 0 out) ≡ turnOf r lists y text got out
+      → turnResult 20 r lists y text (output 0 out) ≡ turnOf r lists y text got out
   unfolding turnOf
   turn-refused u e t = rw (sym e ∙ t)
 
   -- a block g of the n bytes that stand in the text, of which k are kept
   pub turn-done : (u : Bool) → u ≡ unfit (r .kept) got (length text) (length out) → u ≡ false
-      → (n : ℕ) → n ≡ standing (r .kept) got (r .full)
+      → (n : ℕ) → n ≡ bytesInText (r .kept) got (r .full)
       → (q : Bool) → q ≡ endsAt got (r .full)
-      → (g : Written) → g ≡ laid (blockOf (r .bench) lists y (take n text) q (length out)) out
-      → (k : ℕ) → k ≡ restOf (n - g .read) (g .full)
+      → (g : BlockPrinted) → g ≡ printsBlock (blockOf (r .bench) lists y (take n text) q (length out)) out
+      → (k : ℕ) → k ≡ bytesKept (n - g .read) (g .full)
       → (text' : List ℕ) → text' ≡ over text (take k (drop (g .read) text))
-      → turned 0 (runOf (g .bench) k (g .full)) (g .lent) (g .point) text' (g .out) ≡ turnOf r lists y text got out
+      → turnResult 0 (runWith (g .bench) k (g .full)) (g .lent) (g .point) text' (g .out) ≡ turnOf r lists y text got out
   unfolding turnOf
   turn-done u e t n en q eq g eg k ek text' et =
-      ap (λ (v : List ℕ). turned 0 (runOf (g .bench) k (g .full)) (g .lent) (g .point) v (g .out)) et
-      ∙ ap (λ (i : ℕ). turned 0 (runOf (g .bench) i (g .full)) (g .lent) (g .point) (over text (take i (drop (g .read) text))) (g .out)) ek
+      ap (λ (v : List ℕ). turnResult 0 (runWith (g .bench) k (g .full)) (g .lent) (g .point) v (g .out)) et
+      ∙ ap (λ (i : ℕ). turnResult 0 (runWith (g .bench) i (g .full)) (g .lent) (g .point) (over text (take i (drop (g .read) text))) (g .out)) ek
       ∙ ap (carried text n) eg
-      ∙ (λ j. carried text (en j) (laid (blockOf (r .bench) lists y (take (en j) text) (eq j) (length out)) out))
+      ∙ (λ j. carried text (en j) (printsBlock (blockOf (r .bench) lists y (take (en j) text) (eq j) (length out)) out))
       ∙ rw (sym e ∙ t)
 
 -- ---- the memory does
@@ -59,7 +59,7 @@ unfit-false kept got size space e = go (ltb space room) refl (leb size 24) refl 
 
 -- ---- what is kept
 
-pub rest-least : (n : ℕ) → restOf n false ≤ 24
+pub rest-least : (n : ℕ) → bytesKept n false ≤ 24
 rest-least n = by (ltb 24 n) refl
   where
     by : (p : Bool) → ltb 24 n ≡ p → cond p 24 n ≤ 24
@@ -68,39 +68,39 @@ rest-least n = by (ltb 24 n) refl
 
 -- ---- what a turn leaves for the next one
 
-pub record Goes (r : Run) (got : ℕ) (t : Turned) : Type 0 where
+pub record Goes (r : Run) (got : ℕ) (t : TurnResult) : Type 0 where
   pub row : t .row ≡ 0
   pub rest : t .run .full ≡ false → t .run .kept ≤ 24
-  pub less : t .run .full ≡ true → t .run .kept < standing (r .kept) got (r .full)
+  pub less : t .run .full ≡ true → t .run .kept < bytesInText (r .kept) got (r .full)
 
-pub stand-least : (kept got : ℕ) (full : Bool) → standing kept got full ≤ kept + got
+pub stand-least : (kept got : ℕ) (full : Bool) → bytesInText kept got full ≤ kept + got
 stand-least kept got true = omega arith
 stand-least kept got false = omega arith
 
 pub turn-goes : (r : Run) (lists : Lent) (y : List Float) (text : List ℕ) (got : ℕ) (out : List ℕ)
-    → room ≤ length out → 24 < length text → r .kept + got ≤ length text → (t : Turned) → t ≡ turnOf r lists y text got out → Goes r got t
+    → room ≤ length out → 24 < length text → r .kept + got ≤ length text → (t : TurnResult) → t ≡ turnOf r lists y text got out → Goes r got t
 unfolding turnOf
 turn-goes r lists y text got out a b c t e = subst (Goes r got) (sym s) goes
   where
     n : ℕ
-    n = standing (r .kept) got (r .full)
+    n = bytesInText (r .kept) got (r .full)
 
-    g : Block
+    g : TextBlock
     g = blockOf (r .bench) lists y (take n text) (endsAt got (r .full)) (length out)
 
-    s : t ≡ carried text n (laid g out)
+    s : t ≡ carried text n (printsBlock g out)
     s =
         e
-        ∙ ap (λ (q : Bool). cond q (turned 20 r lists y text (output 0 out)) (carried text n (laid g out)))
+        ∙ ap (λ (q : Bool). cond q (turnResult 20 r lists y text (output 0 out)) (carried text n (printsBlock g out)))
         (fits-false (r .kept) got (length text) (length out) a b c)
 
-    goes : Goes r got (carried text n (laid g out))
+    goes : Goes r got (carried text n (printsBlock g out))
     goes =
         record {
           row = refl;
-          rest = λ f. subst (λ (q : Bool). restOf (n - g .read) q ≤ 24) (sym f) (rest-least (n - g .read));
+          rest = λ f. subst (λ (q : Bool). bytesKept (n - g .read) q ≤ 24) (sym f) (rest-least (n - g .read));
           less = λ f.
               let h = block-ahead (r .bench) lists y (take n text) (length out) (endsAt got (r .full)) a f in
               let k : length (take n text) ≡ n = length-take-le n text (omega (arith, stand-least (r .kept) got (r .full))) in
-              subst (λ (q : Bool). restOf (n - g .read) q < n) (sym f) (omega (arith, h .0, h .1, k));
+              subst (λ (q : Bool). bytesKept (n - g .read) q < n) (sym f) (omega (arith, h .0, h .1, k));
         }

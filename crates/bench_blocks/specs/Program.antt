@@ -7,16 +7,16 @@ use lib.ListN.{length, take, replicate}
 use lib.Ieee.{Float}
 use Rattle.trcf.specs.Transformer.{zero32}
 use Rattle.trcf.specs.View.{Lent}
-use Rattle.bench_core.specs.Run.{memory, shown}
+use Rattle.bench_core.specs.Run.{benchMemory, shown}
 use Rattle.bench_core.specs.declared.step.Phase.the-variants.{Ended}
-use Rattle.bench_blocks.specs.Turns.{firstRun, Turned, turnOf}
-use Rattle.bench_blocks.specs.Whole.{answers}
+use Rattle.bench_blocks.specs.Turns.{firstRun, TurnResult, turnOf}
+use Rattle.bench_blocks.specs.Whole.{wholePrints}
 use Rattle.bench_blocks.specs.declared.turn.Run.{Run}
 
 -- From a run, with what is lent and the text, on an input that is still to be read: `all` is written.
 pub data Program : Run → Lent → List Float → List ℕ → List ℕ → List ℕ → Type 0 where
-  -- the next bytes of the input, one at least and as many as you like, are read to the text behind those that are kept; then a turn
-  reads : {r : Run} {lists : Lent} {y : List Float} {text input all : List ℕ} (new later text' out w : List ℕ) (t : Turned)
+  -- the next bytes of the input, one at least and as many as you like, are read to the text after those that are kept; then a turn
+  reads : {r : Run} {lists : Lent} {y : List Float} {text input all : List ℕ} (new later text' out w : List ℕ) (t : TurnResult)
       → r .full ≡ false
       → 0 < length new
       → input ≡ new ++ later
@@ -27,7 +27,7 @@ pub data Program : Run → Lent → List Float → List ℕ → List ℕ → Lis
       → Program (t .run) (t .lent) (t .point) (t .text) later w
       → Program r lists y text input all
   -- the input is at its end: a turn with no bytes
-  ends : {r : Run} {lists : Lent} {y : List Float} {text input all : List ℕ} (out w : List ℕ) (t : Turned)
+  ends : {r : Run} {lists : Lent} {y : List Float} {text input all : List ℕ} (out w : List ℕ) (t : TurnResult)
       → r .full ≡ false
       → input ≡ []
       → t ≡ turnOf r lists y text 0 out
@@ -36,7 +36,7 @@ pub data Program : Run → Lent → List Float → List ℕ → List ℕ → Lis
       → Program (t .run) (t .lent) (t .point) (t .text) [] w
       → Program r lists y text input all
   -- the last turn stopped because the output was nearly full: a turn without a read
-  again : {r : Run} {lists : Lent} {y : List Float} {text input all : List ℕ} (got : ℕ) (out w : List ℕ) (t : Turned)
+  again : {r : Run} {lists : Lent} {y : List Float} {text input all : List ℕ} (got : ℕ) (out w : List ℕ) (t : TurnResult)
       → r .full ≡ true
       → t ≡ turnOf r lists y text got out
       → t .row ≡ 0
@@ -44,8 +44,8 @@ pub data Program : Run → Lent → List Float → List ℕ → List ℕ → Lis
       → Program (t .run) (t .lent) (t .point) (t .text) input w
       → Program r lists y text input all
   -- the bench is at its end: nothing more is read or written
-  over : {r : Run} {lists : Lent} {y : List Float} {text input all : List ℕ} → r .bench .phase ≡ Ended → all ≡ [] → Program r lists y text input all
+  programEnds : {r : Run} {lists : Lent} {y : List Float} {text input all : List ℕ} → r .bench .phase ≡ Ended → all ≡ [] → Program r lists y text input all
 
 -- THE CLAIM (proved as proofs/ProgramLaws.blocks-print): whatever blocks an input arrives in, what is written is what its lines print.
 abbrev pub BlocksPrint : Type 0
-BlocksPrint = (text input all : List ℕ) → Program firstRun memory (replicate 320 zero32) text input all → all ≡ answers input
+BlocksPrint = (text input all : List ℕ) → Program firstRun benchMemory (replicate 320 zero32) text input all → all ≡ wholePrints input

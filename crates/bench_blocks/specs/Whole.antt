@@ -8,8 +8,8 @@ use lib.Ieee.{Float}
 use Rattle.trcf.specs.Transformer.{zero32}
 use Rattle.trcf.specs.View.{Lent}
 use Rattle.bench_core.specs.Line.{blankLine, cellOf}
-use Rattle.bench_core.specs.Bench.{Heard, fresh, lineHeard, noText}
-use Rattle.bench_core.specs.Run.{memory, blank, shown}
+use Rattle.bench_core.specs.Bench.{LineResult, freshBench, lineGives, noText}
+use Rattle.bench_core.specs.Run.{benchMemory, blank, shown}
 use Rattle.bench_core.specs.declared.line.Line.{Line}
 use Rattle.bench_core.specs.declared.step.Bench.{Bench}
 use Rattle.bench_core.specs.declared.step.Phase.{Phase}
@@ -17,31 +17,31 @@ use Rattle.bench_core.specs.declared.step.Phase.the-variants.{WantsSet, WantsWe
 
 -- ---- lines and fields: the parts of a text between the bytes x, one more than there are of these
 
-abbrev pub onto : ℕ → List (List ℕ) → List (List ℕ)
-onto b [] = (b ∷ []) ∷ []
-onto b (p ∷ r) = (b ∷ p) ∷ r
+abbrev pub pushByte : ℕ → List (List ℕ) → List (List ℕ)
+pushByte b [] = (b ∷ []) ∷ []
+pushByte b (p ∷ r) = (b ∷ p) ∷ r
 
-abbrev pub parts : ℕ → List ℕ → List (List ℕ)
-parts x [] = [] ∷ []
-parts x (b ∷ t) = let r = parts x t in cond (eqb b x) ([] ∷ r) (onto b r)
+abbrev pub splitBy : ℕ → List ℕ → List (List ℕ)
+splitBy x [] = [] ∷ []
+splitBy x (b ∷ t) = let r = splitBy x t in cond (eqb b x) ([] ∷ r) (pushByte b r)
 
-abbrev pub lines : List ℕ → List (List ℕ)
-lines t = parts 10 t
+abbrev pub splitLines : List ℕ → List (List ℕ)
+splitLines t = splitBy 10 t
 
-abbrev pub fields : List ℕ → List (List ℕ)
-fields t = parts 9 t
+abbrev pub splitFields : List ℕ → List (List ℕ)
+splitFields t = splitBy 9 t
 
 -- a line by its fields, the name first
 abbrev pub withFields : Line → List (List ℕ) → Line
 withFields l [] = l
 withFields l (c ∷ r) = withFields (cellOf l c) r
 
-abbrev pub lineFrom : List ℕ → Line
-lineFrom t = withFields blankLine (fields t)
+abbrev pub lineOfText : List ℕ → Line
+lineOfText t = withFields blankLine (splitFields t)
 
 -- ---- what is printed
 
--- at the end of the input, behind t: a line without its LF is of another form, and so is a missing `set` or `wgt`
+-- at the end of the input, after t: a line without its LF is of another form, and so is a missing `set` or `wgt`
 abbrev pub endText : Phase → List ℕ → List ℕ
 endText WantsSet t = noText 19
 endText WantsWeights t = noText 19
@@ -49,13 +49,13 @@ endText Running [] = []
 endText Running (x ∷ t) = noText 19
 endText Ended t = []
 
--- line by line: what stands behind the last LF is no line
+-- line by line: what stands after the last LF is no line
 abbrev pub linesPrint : Bench → Lent → List Float → List (List ℕ) → List ℕ
 linesPrint b lists y [] = []
 linesPrint b lists y (t ∷ []) = endText (b .phase) t
 linesPrint b lists y (t ∷ u ∷ r) =
-    let h = lineHeard b (lineFrom t) lists y blank in
+    let h = lineGives b (lineOfText t) lists y blank in
     shown (h .out) ++ linesPrint (h .bench) (h .lent) (h .point) (u ∷ r)
 
-unfoldable pub answers : List ℕ → List ℕ
-answers t = linesPrint fresh memory (replicate 320 zero32) (lines t)
+unfoldable pub wholePrints : List ℕ → List ℕ
+wholePrints t = linesPrint freshBench benchMemory (replicate 320 zero32) (splitLines t)

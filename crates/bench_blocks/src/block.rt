@@ -10,7 +10,7 @@ ghost use Prim.Native.Nat.{suc, _+_, _≤_};
 ghost use lib.ListN.{length, drop};
 ghost use Rattle.trcf.specs.View.{lent};
 ghost use Rattle.bench_core.specs.Bench.{output};
-ghost use Rattle.bench_blocks.specs.Blocks.{written, laid, cellsOf, blockOf};
+ghost use Rattle.bench_blocks.specs.Blocks.{blockPrinted, printsBlock, cellsOf, blockOf};
 ghost use Rattle.bench_blocks.specs.Steps.{Placed, Closed, Handed};
 
 // What a cell leaves: the bench, and how many bytes are read and written.
@@ -81,7 +81,7 @@ fn cells(
     text: &[u8],
     out: &mut [u8],
 ) -> BlockResult
-    ensures { λ r. ⌜ Handed (cellsOf (suc (length (now (text .entry)))) (length (now (out .entry))) b (lent (now (statistics .entry)) (now («last_shingled_input» .entry)) (now («last_shingled_point» .entry)) (now («previous_timestamps» .entry)) (now («initial_values» .entry)) (now («initial_timestamps» .entry))) (now (point .entry)) (now (text .entry)) 0 []) (now (text .entry)) (now (out .entry)) (written (r .bench) (lent (now (statistics .exit)) (now («last_shingled_input» .exit)) (now («last_shingled_point» .exit)) (now («previous_timestamps» .exit)) (now («initial_values» .exit)) (now («initial_timestamps» .exit))) (now (point .exit)) (r .read) (output (r .written) (now (out .exit))) (r .full)) ⌝ }
+    ensures { λ r. ⌜ Handed (cellsOf (suc (length (now (text .entry)))) (length (now (out .entry))) b (lent (now (statistics .entry)) (now («last_shingled_input» .entry)) (now («last_shingled_point» .entry)) (now («previous_timestamps» .entry)) (now («initial_values» .entry)) (now («initial_timestamps» .entry))) (now (point .entry)) (now (text .entry)) 0 []) (now (text .entry)) (now (out .entry)) (blockPrinted (r .bench) (lent (now (statistics .exit)) (now («last_shingled_input» .exit)) (now («last_shingled_point» .exit)) (now («previous_timestamps» .exit)) (now («initial_values» .exit)) (now («initial_timestamps» .exit))) (now (point .exit)) (r .read) (output (r .written) (now (out .exit))) (r .full)) ⌝ }
 {
     let mut bench = b;
     let mut next = 0usize;
@@ -121,7 +121,7 @@ fn cells(
     }
 }
 
-// The end of the input, behind the bytes of the text from next on, printed from at on.
+// The end of the input, after the bytes of the text from next on, printed from at on.
 fn end_at(b: Bench, text: &[u8], next: usize, out: &mut [u8], at: usize) -> CellResult
     requires { ⌜ next ≤ length (now text) ⌝ }
     requires { ⌜ at + 65536 ≤ length (now out) ⌝ }
@@ -152,7 +152,7 @@ pub fn block(
     ends: bool,
     out: &mut [u8],
 ) -> BlockResult
-    ensures { λ r. ⌜ written (r .bench) (lent (now (statistics .exit)) (now («last_shingled_input» .exit)) (now («last_shingled_point» .exit)) (now («previous_timestamps» .exit)) (now («initial_values» .exit)) (now («initial_timestamps» .exit))) (now (point .exit)) (r .read) (output (r .written) (now (out .exit))) (r .full) ≡ laid (blockOf b (lent (now (statistics .entry)) (now («last_shingled_input» .entry)) (now («last_shingled_point» .entry)) (now («previous_timestamps» .entry)) (now («initial_values» .entry)) (now («initial_timestamps» .entry))) (now (point .entry)) (now (text .entry)) ends (length (now (out .entry)))) (now (out .entry)) ⌝ }
+    ensures { λ r. ⌜ blockPrinted (r .bench) (lent (now (statistics .exit)) (now («last_shingled_input» .exit)) (now («last_shingled_point» .exit)) (now («previous_timestamps» .exit)) (now («initial_values» .exit)) (now («initial_timestamps» .exit))) (now (point .exit)) (r .read) (output (r .written) (now (out .exit))) (r .full) ≡ printsBlock (blockOf b (lent (now (statistics .entry)) (now («last_shingled_input» .entry)) (now («last_shingled_point» .entry)) (now («previous_timestamps» .entry)) (now («initial_values» .entry)) (now («initial_timestamps» .entry))) (now (point .entry)) (now (text .entry)) ends (length (now (out .entry)))) (now (out .entry)) ⌝ }
     ensures { λ r. ⌜ r .read ≤ length (now (text .entry)) ⌝ }
     ensures { λ r. ⌜ r .written ≤ length (now (out .exit)) ⌝ }
 {

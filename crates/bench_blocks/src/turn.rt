@@ -1,4 +1,4 @@
-// One turn of the program `bench`: the bytes that a read brought, behind those that are kept of the block before, and what is kept of both.
+// One turn of the program `bench`: the bytes that a read brought, after those that are kept of the block before, and what is kept of both.
 use crate::block::block;
 use bench_core::step::Bench;
 use bench_core::step::LONGEST;
@@ -7,10 +7,10 @@ use bench_core::step::start;
 ghost use mathlib.Core.Path.{_≡_};
 ghost use Prim.Native.Nat.{_+_, _≤_};
 ghost use lib.ListN.{length, take, drop};
-ghost use Rattle.common.specs.Lent.{over};
+ghost use Rattle.refusal.specs.Lent.{over};
 ghost use Rattle.trcf.specs.View.{lent};
 ghost use Rattle.bench_core.specs.Bench.{output};
-ghost use Rattle.bench_blocks.specs.Turns.{firstRun, unfit, standing, endsAt, restOf, turned, turnOf};
+ghost use Rattle.bench_blocks.specs.Turns.{firstRun, unfit, bytesInText, endsAt, bytesKept, turnResult, turnOf};
 
 // Between two turns: the bench, how many bytes are kept at the front of the text, and whether the last turn stopped because the output was
 // nearly full. The next one then takes no new bytes.
@@ -60,7 +60,7 @@ fn is_unfit(kept: usize, got: usize, size: usize, space: usize) -> bool
 // How many bytes stand in the text.
 fn standing_in(kept: usize, got: usize, full: bool) -> usize
     requires { ⌜ kept + got ≤ 18446744073709551615 ⌝ }
-    ensures { λ r. ⌜ r ≡ standing kept got full ⌝ }
+    ensures { λ r. ⌜ r ≡ bytesInText kept got full ⌝ }
     ensures { λ r. ⌜ r ≤ kept + got ⌝ }
 {
     if full {
@@ -84,7 +84,7 @@ fn is_end(got: usize, full: bool) -> bool
 
 // How much is kept of n bytes that are not read: all where the output is nearly full. Else no cell ends in them, and LONGEST are enough.
 fn rest_of(n: usize, full: bool) -> usize
-    ensures { λ r. ⌜ r ≡ restOf n full ⌝ }
+    ensures { λ r. ⌜ r ≡ bytesKept n full ⌝ }
     ensures { λ r. ⌜ r ≤ n ⌝ }
 {
     if full {
@@ -108,8 +108,8 @@ fn carry(text: &mut [u8], from: usize, n: usize)
     }
 }
 
-// A turn: `got` bytes were read to the text behind those that are kept, none at the end of the input. Every cell is read that ends there, as long as
-// the output has room; the first `written` bytes of the output are to be written then, and the next bytes of the input are to be read behind what is
+// A turn: `got` bytes were read to the text after those that are kept, none at the end of the input. Every cell is read that ends there, as long as
+// the output has room; the first `written` bytes of the output are to be written then, and the next bytes of the input are to be read after what is
 // kept. After a turn that stopped for the output, the next one takes what is kept as it is, whatever `got` says.
 pub fn turn(
     run: Run,
@@ -124,7 +124,7 @@ pub fn turn(
     got: usize,
     out: &mut [u8],
 ) -> TurnResult
-    ensures { λ r. ⌜ turned (r .row) (r .run) (lent (now (statistics .exit)) (now («last_shingled_input» .exit)) (now («last_shingled_point» .exit)) (now («previous_timestamps» .exit)) (now («initial_values» .exit)) (now («initial_timestamps» .exit))) (now (point .exit)) (now (text .exit)) (output (r .written) (now (out .exit))) ≡ turnOf run (lent (now (statistics .entry)) (now («last_shingled_input» .entry)) (now («last_shingled_point» .entry)) (now («previous_timestamps» .entry)) (now («initial_values» .entry)) (now («initial_timestamps» .entry))) (now (point .entry)) (now (text .entry)) got (now (out .entry)) ⌝ }
+    ensures { λ r. ⌜ turnResult (r .row) (r .run) (lent (now (statistics .exit)) (now («last_shingled_input» .exit)) (now («last_shingled_point» .exit)) (now («previous_timestamps» .exit)) (now («initial_values» .exit)) (now («initial_timestamps» .exit))) (now (point .exit)) (now (text .exit)) (output (r .written) (now (out .exit))) ≡ turnOf run (lent (now (statistics .entry)) (now («last_shingled_input» .entry)) (now («last_shingled_point» .entry)) (now («previous_timestamps» .entry)) (now («initial_values» .entry)) (now («initial_timestamps» .entry))) (now (point .entry)) (now (text .entry)) got (now (out .entry)) ⌝ }
     ensures { λ r. ⌜ r .written ≤ length (now (out .exit)) ⌝ }
     ensures { λ r. ⌜ (r .row ≡ 0 → r .run .kept ≤ length (now (text .exit))) ⌝ }
 {

@@ -8,24 +8,24 @@ use lib.Ieee.{toBits, ofBits, ofFields, odd, fits, size, round, le, lt, eq, add,
 use Rattle.numeric.specs.Narrow.{narrowed}
 use Rattle.numeric.specs.Root.{rootWithin, halves, rooted, rootOf}
 use Rattle.common.specs.Deviation.{outsideUnit, factorOf, stepOf as fedStep, isEmpty, meanOf, rootAbove, deviationOf}
-use Rattle.common.specs.Lent.{over}
+use Rattle.refusal.specs.Lent.{over}
 use Rattle.trcf.specs.Lists.{lastN, shiftIn, overwrite}
 use Rattle.trcf.specs.Transformer.{statisticAt, putStatistic, fed, deviationsAt, putDeviations, fedAt, channelsFed, updated, normalizedScale, basicShift, basicDrift, weightAt, transformed, unweighted, inverted, scales, shifts, differenceDeviations}
 use Rattle.trcf.specs.Settings.{block, dimension, waiting, allOne, settingsRow}
-use Rattle.trcf.specs.Calls.{finite, due, newest, behind as behindNewest, wrongLength, outside, drainFull, learnFull, waitingShort, learnShort, table, rows}
-use Rattle.trcf.specs.Preprocessor.{fresh as freshState, facts, timeFed, feed, timescale, timedrift, timeElement, transformedAfter, previous, timeBase, preceding, primed, drainOne, drainAll, drained, held, learned, learnedWith, change, deviations, pointOf, blockFrom, pastValues, expectedValues, anomalyOf, learnedNothing, heldAnswer, learnedAnswer, learnAnswer, reply}
-use Rattle.trcf.specs.View.{view, laid, headRow, lentShort, misfit, shortRow, lentRow, rowOf, buildRow, buildOf, answerOf, headAfter, lentAfter, drainOf, pointAfter, learnAfter}
+use Rattle.trcf.specs.Calls.{finite, due, newest, beforeNewest as behindNewest, wrongLength, outside, drainFull, learnFull, waitingShort, learnShort, table, rows}
+use Rattle.trcf.specs.Preprocessor.{fresh as freshState, facts, timeFed, feed, timescale, timedrift, timeElement, transformedAfter, previous, timeBase, preceding, primed, drainOne, drainAll, drained, buffered, learned, learnedWith, change, deviations, pointOf, blockFrom, pastValues, expectedValues, anomalyOf, learnedNothing, bufferedAnswer, learnedAnswer, learnAnswer, reply}
+use Rattle.trcf.specs.View.{view, writtenOver, headRow, lentShort, countersUnfit, shortRow, lentRow, rowOf, buildRow, buildOf, answerOf, headAfter, lentAfter, drainOf, pointAfter, learnAfter}
 use Rattle.snapshot.specs.Text.{whole, float, setLine, singles, cntLine, devLine, timLine, bufLine, linesBy, bodyLines, chnLine, render}
 use Rattle.snapshot.specs.Read.{judge, floatFrom, asWhole, asFloat}
-use Rattle.snapshot.specs.Save.{unheld, unformed, heldSave, fitted, saveOf}
-use Rattle.snapshot.specs.Steps.Ascii.{bytes}
-use Rattle.bench_core.specs.Line.{blankLine, fieldOf, cellOf, requestOf, keptOf}
-use Rattle.bench_core.specs.Bench.{noText, pointText, doneText, prints, dimensionOf, pointTurn, learnTurn, drainTurn, savePrints, builderFrom, fresh, builtOf, weightsTurn, lineHeard, stepOf, finishOf}
+use Rattle.snapshot.specs.Save.{inUseShort, unformed, heldSave, fitted, saveOf}
+use Rattle.snapshot.specs.Ascii.{ascii}
+use Rattle.bench_core.specs.Line.{blankLine, lineWithField, cellOf, requestOf, keptOf}
+use Rattle.bench_core.specs.Bench.{noText, pointText, doneText, prints, dimensionOf, pointResult, learnResult, drainResult, savePrints, builderFrom, freshBench, builtOf, buildGives, lineGives, benchStep, finishOf}
 use Rattle.bench_core.specs.Run.{printed}
 
 -- to unfold this is to unfold whatever its line names
 running : Unit {0}
-unfolding toBits ofBits ofFields odd fits size round le lt eq add sub mul div ofInt narrowed rootWithin halves rooted rootOf outsideUnit factorOf fedStep isEmpty meanOf rootAbove deviationOf over lastN shiftIn overwrite statisticAt putStatistic fed deviationsAt putDeviations fedAt channelsFed updated normalizedScale basicShift basicDrift weightAt transformed unweighted inverted scales shifts differenceDeviations block dimension waiting allOne settingsRow finite due newest wrongLength outside drainFull learnFull waitingShort learnShort table rows freshState facts timeFed feed timescale timedrift timeElement transformedAfter previous primed drainOne drainAll drained held learned learnedWith change deviations pointOf blockFrom pastValues expectedValues anomalyOf learnedNothing heldAnswer learnedAnswer learnAnswer reply view laid headRow lentShort misfit shortRow lentRow rowOf buildRow buildOf answerOf headAfter lentAfter drainOf pointAfter learnAfter whole float setLine singles cntLine devLine timLine bufLine linesBy bodyLines chnLine render judge floatFrom asWhole asFloat unheld unformed heldSave fitted saveOf blankLine fieldOf cellOf requestOf keptOf noText pointText doneText prints dimensionOf pointTurn learnTurn drainTurn savePrints builderFrom fresh builtOf weightsTurn lineHeard stepOf finishOf printed behindNewest timeBase preceding
+unfolding toBits ofBits ofFields odd fits size round le lt eq add sub mul div ofInt narrowed rootWithin halves rooted rootOf outsideUnit factorOf fedStep isEmpty meanOf rootAbove deviationOf over lastN shiftIn overwrite statisticAt putStatistic fed deviationsAt putDeviations fedAt channelsFed updated normalizedScale basicShift basicDrift weightAt transformed unweighted inverted scales shifts differenceDeviations block dimension waiting allOne settingsRow finite due newest wrongLength outside drainFull learnFull waitingShort learnShort table rows freshState facts timeFed feed timescale timedrift timeElement transformedAfter previous primed drainOne drainAll drained buffered learned learnedWith change deviations pointOf blockFrom pastValues expectedValues anomalyOf learnedNothing bufferedAnswer learnedAnswer learnAnswer reply view writtenOver headRow lentShort countersUnfit shortRow lentRow rowOf buildRow buildOf answerOf headAfter lentAfter drainOf pointAfter learnAfter whole float setLine singles cntLine devLine timLine bufLine linesBy bodyLines chnLine render judge floatFrom asWhole asFloat inUseShort unformed heldSave fitted saveOf blankLine lineWithField cellOf requestOf keptOf noText pointText doneText prints dimensionOf pointResult learnResult drainResult savePrints builderFrom freshBench builtOf buildGives lineGives benchStep finishOf printed behindNewest timeBase preceding
 running = tt
 
 -- inputs with their outputs
@@ -34,11 +34,11 @@ Cases = List (String × String)
 
 abbrev given : Cases → List (List ℕ)
 given [] = []
-given (c ∷ cs) = printed (bytes (c .0)) ∷ given cs
+given (c ∷ cs) = printed (ascii (c .0)) ∷ given cs
 
 abbrev expected : Cases → List (List ℕ)
 expected [] = []
-expected (c ∷ cs) = bytes (c .1) ∷ expected cs
+expected (c ∷ cs) = ascii (c .1) ∷ expected cs
 
 -- head lines that are accepted
 abbrev settings : String

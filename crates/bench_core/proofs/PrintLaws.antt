@@ -9,7 +9,7 @@ use borrow.Author.Tests.{le-ltb, ltb-false}
 use lib.Dec.{ltb}
 use lib.ListN.{length, take, set, length-take}
 use lib.Ieee.{Float}
-use Rattle.common.specs.Lent.{over}
+use Rattle.refusal.specs.Lent.{over}
 use Rattle.trcf.specs.Types.{augments}
 use Rattle.trcf.specs.Settings.{Settings, block, dimension, wholeMax}
 use Rattle.trcf.specs.View.{settingsOf, headRow, headTable}
@@ -17,7 +17,7 @@ use Rattle.trcf.specs.Preprocessor.{accepted}
 use Rattle.trcf.specs.declared.head.Preprocessor.{Preprocessor}
 use Rattle.snapshot.specs.Text.{singles}
 use Rattle.snapshot.specs.Read.{bytesOfLine}
-use Rattle.snapshot.specs.Save.{Outcome, outcome, fitted}
+use Rattle.snapshot.specs.Save.{SaveOutcome, saveOutcome, fitted}
 use Rattle.snapshot.proofs.Accepted.{clear}
 use Rattle.snapshot.proofs.WriteLaws.{whole-short}
 use Rattle.snapshot.proofs.SaveLaws.{wide-of}
@@ -40,11 +40,11 @@ module _ {A : Type 0} where
       go false e = take-long (length l) l (le-refl (length l)) ∙ sym (take-long n l (ltb-false _ _ e))
 
 -- a line that fits is printed whole
-pub printed : (t out : List ℕ) {new : List ℕ} {row n : ℕ} → length t ≤ length out → outcome row n new ≡ fitted t out → output n new ≡ prints t out
+pub printed : (t out : List ℕ) {new : List ℕ} {row n : ℕ} → length t ≤ length out → saveOutcome row n new ≡ fitted t out → output n new ≡ prints t out
 unfolding fitted prints
 printed t out {new} {row} {n} h e =
-    let q : fitted t out ≡ outcome 0 (length t) (over out t) = rw (le-ltb (length out) (length t) h) in
-    ap (λ (o : Outcome). output (o .length) (o .bytes)) (e ∙ q)
+    let q : fitted t out ≡ saveOutcome 0 (length t) (over out t) = rw (le-ltb (length out) (length t) h) in
+    ap (λ (o : SaveOutcome). output (o .length) (o .bytes)) (e ∙ q)
 
 pub ok-bytes : (out : List ℕ) → 65536 ≤ length out → output 3 (set (set (set out 0 111) 1 107) 2 10) ≡ prints okText out
 unfolding prints over
@@ -98,7 +98,7 @@ point-fits h y =
 -- a point of which no more than is in use is printed
 pub point-line : (h : Preprocessor) (y : List Float) (out : List ℕ) (a n : ℕ) {new : List ℕ} {row m : ℕ} → 65536 ≤ length out
     → a ≡ dimensionOf h → n ≡ cond (ltb a (length y)) a (length y)
-    → outcome row m new ≡ fitted (bytesOfLine (singles (112 ∷ 116 ∷ []) (take n y))) out
+    → saveOutcome row m new ≡ fitted (bytesOfLine (singles (112 ∷ 116 ∷ []) (take n y))) out
     → output m new ≡ prints (pointText (take (dimensionOf h) y)) out
 unfolding pointText
 point-line h y out a n {new} {row} {m} r d q e =

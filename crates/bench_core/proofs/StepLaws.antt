@@ -21,7 +21,7 @@ use Rattle.bench_core.specs.declared.line.Name.the-variants.{Unread, Set
 use Rattle.bench_core.specs.declared.step.Phase.{Phase}
 use Rattle.bench_core.specs.declared.step.Phase.the-variants.{WantsWeights, Running}
 use Rattle.bench_core.specs.declared.step.Bench.{Bench}
-use Rattle.bench_core.specs.Bench.{zeroCodes, builtOf, Output, output, prints, noText, readyFor, goingOn, endOf, builderFrom, Told, told, Heard, heard, refusedBy, setHeard, limitRow, builtHeard, weightsTurn, weightsHeard, callTold, plainHeard, callHeard, tells, pointTurn, learnTurn, lineBy, lineHeard, begun, Said, said, finishBy, finished, finishOf, cellLength, cellKept, stepped, withLine, cellStep, stepOf}
+use Rattle.bench_core.specs.Bench.{zeroCodes, builtOf, Output, output, prints, noText, readyFor, goingOn, endOf, builderFrom, CallPrinted, callPrinted, LineResult, lineResult, refusedBy, setGives, limitRow, builtGives, buildGives, weightsGives, lineOfCall, plainGives, callGives, printsCall, pointResult, learnResult, lineBy, lineGives, begun, EndResult, endResult, finishBy, finished, finishOf, cellLength, cellKept, stepped, withLine, cellStep, benchStep}
 use Rattle.bench_core.specs.Steps.Readings.{isReading, isPoint, readingName}
 
 pub kept-of : (l : Line) (n : ℕ) → n ≡ keptCount (l .count) → take n (l .singles) ≡ keptOf l
@@ -30,8 +30,8 @@ kept-of l n e = ap (λ (m : ℕ). take m (l .singles)) e
 
 -- a line that ends the run
 pub refused-heard : (b : Bench) (out : List ℕ) (row : ℕ) (lists : Lent) (y : List Float) {b' : Bench} {o : Output}
-    → said b' o ≡ said (endOf b) (prints (noText row) out) → heard b' lists y o ≡ refusedBy row b lists y out
-refused-heard b out row lists y e = ap (λ (s : Said). heard (s .bench) lists y (s .out)) e
+    → endResult b' o ≡ endResult (endOf b) (prints (noText row) out) → lineResult b' lists y o ≡ refusedBy row b lists y out
+refused-heard b out row lists y e = ap (λ (s : EndResult). lineResult (s .bench) lists y (s .out)) e
 
 -- ---- rows 1 to 9, the limits, `build`
 
@@ -66,60 +66,60 @@ module _ (b : Bench) (out : List ℕ) (l : Line) (lists : Lent) (y : List Float)
   built : outcome row h' l' ≡ builtOf (b .builder) (keptOf l) lists
   built = e ∙ ap (λ (u : List Float). builtOf (b .builder) u lists) k
 
-  pub weights-refused : {b' : Bench} {o : Output} → (row ≡ 0 → ⊥) → said b' o ≡ said (endOf b) (prints (noText row) out)
-      → heard b' l' y o ≡ weightsTurn b l lists y out
-  unfolding weightsTurn
+  pub weights-refused : {b' : Bench} {o : Output} → (row ≡ 0 → ⊥) → endResult b' o ≡ endResult (endOf b) (prints (noText row) out)
+      → lineResult b' l' y o ≡ buildGives b l lists y out
+  unfolding buildGives
   weights-refused n p =
-      refused-heard b out row l' y p ∙ sym (accepted-not row _ (refusedBy row b l' y out) n) ∙ ap (λ (q : Outcome). builtHeard b q y out) built
+      refused-heard b out row l' y p ∙ sym (accepted-not row _ (refusedBy row b l' y out) n) ∙ ap (λ (q : Outcome). builtGives b q y out) built
 
-  pub weights-built : {b' : Bench} → row ≡ 0 → b' ≡ readyFor Running (b .builder) h' (b .given) → heard b' l' y (output 0 out) ≡ weightsTurn b l lists y out
-  unfolding weightsTurn
+  pub weights-built : {b' : Bench} → row ≡ 0 → b' ≡ readyFor Running (b .builder) h' (b .given) → lineResult b' l' y (output 0 out) ≡ buildGives b l lists y out
+  unfolding buildGives
   weights-built z p =
-      (λ j. heard (p j) l' y (output 0 out)) ∙ ap (λ (u : Outcome). builtHeard b u y out) ((λ j. outcome (sym z j) h' l') ∙ built)
+      (λ j. lineResult (p j) l' y (output 0 out)) ∙ ap (λ (u : Outcome). builtGives b u y out) ((λ j. outcome (sym z j) h' l') ∙ built)
 
 -- ---- by the name of the line, and by what the bench waits for
 
 module _ (b : Bench) (l : Line) (lists : Lent) (y : List Float) (out : List ℕ) where
   pub set-read : {b' : Bench} {q : PreprocessorBuilder} → b' ≡ readyFor WantsWeights q (b .head) (b .given) → q ≡ builderFrom l
-      → heard b' lists y (output 0 out) ≡ setHeard Set b l lists y out
-  set-read p q = (λ j. heard (p j) lists y (output 0 out)) ∙ (λ j. heard (readyFor WantsWeights (q j) (b .head) (b .given)) lists y (output 0 out))
+      → lineResult b' lists y (output 0 out) ≡ setGives Set b l lists y out
+  set-read p q = (λ j. lineResult (p j) lists y (output 0 out)) ∙ (λ j. lineResult (readyFor WantsWeights (q j) (b .head) (b .given)) lists y (output 0 out))
 
   module _ (n m : Name) (r : n ≡ requestOf l) (e : n ≡ m) where
-    pub set-by : setHeard m b l lists y out ≡ setHeard (requestOf l) b l lists y out
-    set-by = ap (λ (q : Name). setHeard q b l lists y out) (sym e ∙ r)
+    pub set-by : setGives m b l lists y out ≡ setGives (requestOf l) b l lists y out
+    set-by = ap (λ (q : Name). setGives q b l lists y out) (sym e ∙ r)
 
-    pub weights-by : weightsHeard m b l lists y out ≡ weightsHeard (requestOf l) b l lists y out
-    weights-by = ap (λ (q : Name). weightsHeard q b l lists y out) (sym e ∙ r)
+    pub weights-by : weightsGives m b l lists y out ≡ weightsGives (requestOf l) b l lists y out
+    weights-by = ap (λ (q : Name). weightsGives q b l lists y out) (sym e ∙ r)
 
-  pub line-by : (p : Phase) → b .phase ≡ p → lineBy p b l lists y out ≡ lineHeard b l lists y out
-  unfolding lineHeard
+  pub line-by : (p : Phase) → b .phase ≡ p → lineBy p b l lists y out ≡ lineGives b l lists y out
+  unfolding lineGives
   line-by p e = ap (λ (q : Phase). lineBy q b l lists y out) (sym e)
 
 -- a line after which the bench goes on as it was
 pub going : (b : Bench) (lists : Lent) (y : List Float) {b' : Bench} {n m : ℕ} {out' : List ℕ} {q : Output}
-    → b' ≡ goingOn b → m ≡ n → output n out' ≡ q → heard b' lists y (output m out') ≡ heard (goingOn b) lists y q
-going b lists y {b'} {n} {m} {out'} p e o = (λ j. heard (p j) lists y (output (e j) out')) ∙ (λ j. heard (goingOn b) lists y (o j))
+    → b' ≡ goingOn b → m ≡ n → output n out' ≡ q → lineResult b' lists y (output m out') ≡ lineResult (goingOn b) lists y q
+going b lists y {b'} {n} {m} {out'} p e o = (λ j. lineResult (p j) lists y (output (e j) out')) ∙ (λ j. lineResult (goingOn b) lists y (o j))
 
 -- a call that was answered
-pub call-told : (b : Bench) {b' : Bench} {h' : Preprocessor} {g' : Bool} {l' : Lent} {y' : List Float} {n m : ℕ} {out' : List ℕ} {t : Told}
-    → told h' g' l' y' (output n out') ≡ t → b' ≡ readyFor Running (b .builder) h' g' → m ≡ n → heard b' l' y' (output m out') ≡ callTold b t
-call-told b {b'} {h'} {g'} {l'} {y'} {n} {m} {out'} {t} e p q = (λ j. heard (p j) l' y' (output (q j) out')) ∙ ap (callTold b) e
+pub call-told : (b : Bench) {b' : Bench} {h' : Preprocessor} {g' : Bool} {l' : Lent} {y' : List Float} {n m : ℕ} {out' : List ℕ} {t : CallPrinted}
+    → callPrinted h' g' l' y' (output n out') ≡ t → b' ≡ readyFor Running (b .builder) h' g' → m ≡ n → lineResult b' l' y' (output m out') ≡ lineOfCall b t
+call-told b {b'} {h'} {g'} {l'} {y'} {n} {m} {out'} {t} e p q = (λ j. lineResult (p j) l' y' (output (q j) out')) ∙ ap (lineOfCall b) e
 
 -- ---- a call line, by what it brings
 
 module _ (b : Bench) (l : Line) (lists : Lent) (y : List Float) (out : List ℕ) (asks : Bool) {v : List Float} (k : v ≡ keptOf l)
     {b' : Bench} {h' : Preprocessor} {g' : Bool} {l' : Lent} {y' : List Float} {n m : ℕ} {out' : List ℕ} where
-  pub point-read : asks ≡ true → told h' g' l' y' (output n out') ≡ tells (pointTurn (b .head) (b .given) lists y v (getD (l .wholes) 0 0)) out
-      → b' ≡ readyFor Running (b .builder) h' g' → m ≡ n → heard b' l' y' (output m out') ≡ callHeard (readingName asks) b l lists y out
+  pub point-read : asks ≡ true → callPrinted h' g' l' y' (output n out') ≡ printsCall (pointResult (b .head) (b .given) lists y v (getD (l .wholes) 0 0)) out
+      → b' ≡ readyFor Running (b .builder) h' g' → m ≡ n → lineResult b' l' y' (output m out') ≡ callGives (readingName asks) b l lists y out
   point-read w e p q =
-      call-told b (e ∙ ap (λ (u : List Float). tells (pointTurn (b .head) (b .given) lists y u (getD (l .wholes) 0 0)) out) k) p q
-      ∙ ap (λ (i : Bool). callHeard (readingName i) b l lists y out) (sym w)
+      call-told b (e ∙ ap (λ (u : List Float). printsCall (pointResult (b .head) (b .given) lists y u (getD (l .wholes) 0 0)) out) k) p q
+      ∙ ap (λ (i : Bool). callGives (readingName i) b l lists y out) (sym w)
 
-  pub learn-read : asks ≡ false → told h' g' l' y' (output n out') ≡ tells (learnTurn (b .head) (b .given) lists y v (getD (l .wholes) 0 0)) out
-      → b' ≡ readyFor Running (b .builder) h' g' → m ≡ n → heard b' l' y' (output m out') ≡ callHeard (readingName asks) b l lists y out
+  pub learn-read : asks ≡ false → callPrinted h' g' l' y' (output n out') ≡ printsCall (learnResult (b .head) (b .given) lists y v (getD (l .wholes) 0 0)) out
+      → b' ≡ readyFor Running (b .builder) h' g' → m ≡ n → lineResult b' l' y' (output m out') ≡ callGives (readingName asks) b l lists y out
   learn-read w e p q =
-      call-told b (e ∙ ap (λ (u : List Float). tells (learnTurn (b .head) (b .given) lists y u (getD (l .wholes) 0 0)) out) k) p q
-      ∙ ap (λ (i : Bool). callHeard (readingName i) b l lists y out) (sym w)
+      call-told b (e ∙ ap (λ (u : List Float). printsCall (learnResult (b .head) (b .given) lists y u (getD (l .wholes) 0 0)) out) k) p q
+      ∙ ap (λ (i : Bool). callGives (readingName i) b l lists y out) (sym w)
 
 reading-name : (n : Name) → isReading n ≡ true → readingName (isPoint n) ≡ n
 reading-name Unread h = absurd (subst T (sym h) tt)
@@ -131,11 +131,11 @@ reading-name Drain h = absurd (subst T (sym h) tt)
 reading-name Save h = absurd (subst T (sym h) tt)
 reading-name Other h = absurd (subst T (sym h) tt)
 
-pub plain-by : (b : Bench) (lists : Lent) (y : List Float) (out : List ℕ) (name n : Name) → name ≡ n → plainHeard n b lists y out ≡ plainHeard name b lists y out
-plain-by b lists y out name n e = ap (λ (q : Name). plainHeard q b lists y out) (sym e)
+pub plain-by : (b : Bench) (lists : Lent) (y : List Float) (out : List ℕ) (name n : Name) → name ≡ n → plainGives n b lists y out ≡ plainGives name b lists y out
+plain-by b lists y out name n e = ap (λ (q : Name). plainGives q b lists y out) (sym e)
 
 module _ (b : Bench) (l : Line) (lists : Lent) (y : List Float) (out : List ℕ) where
-  plain-call : (n : Name) → isReading n ≡ false → plainHeard n b lists y out ≡ callHeard n b l lists y out
+  plain-call : (n : Name) → isReading n ≡ false → plainGives n b lists y out ≡ callGives n b l lists y out
   plain-call Unread h = refl
   plain-call Set h = refl
   plain-call Weights h = refl
@@ -146,13 +146,13 @@ module _ (b : Bench) (l : Line) (lists : Lent) (y : List Float) (out : List ℕ)
   plain-call Other h = refl
 
   module _ (n : Name) (e : n ≡ requestOf l) (q : Bool) (r : q ≡ isReading n) where
-    pub reading-by : (p : Bool) → p ≡ isPoint n → q ≡ true → callHeard (readingName p) b l lists y out ≡ callHeard (requestOf l) b l lists y out
+    pub reading-by : (p : Bool) → p ≡ isPoint n → q ≡ true → callGives (readingName p) b l lists y out ≡ callGives (requestOf l) b l lists y out
     reading-by p s t =
-        ap (λ (i : Bool). callHeard (readingName i) b l lists y out) s
-        ∙ ap (λ (m : Name). callHeard m b l lists y out) (reading-name n (sym r ∙ t) ∙ e)
+        ap (λ (i : Bool). callGives (readingName i) b l lists y out) s
+        ∙ ap (λ (m : Name). callGives m b l lists y out) (reading-name n (sym r ∙ t) ∙ e)
 
-    pub plain-read : q ≡ false → plainHeard n b lists y out ≡ callHeard (requestOf l) b l lists y out
-    plain-read t = plain-call n (sym r ∙ t) ∙ ap (λ (m : Name). callHeard m b l lists y out) e
+    pub plain-read : q ≡ false → plainGives n b lists y out ≡ callGives (requestOf l) b l lists y out
+    plain-read t = plain-call n (sym r ∙ t) ∙ ap (λ (m : Name). callGives m b l lists y out) e
 
 -- ---- the end of the input
 
@@ -168,49 +168,49 @@ module _ (b : Bench) (rest out : List ℕ) where
   pub finish-by : (p : Phase) → b .phase ≡ p → finishBy p b rest out ≡ finishBy (b .phase) b rest out
   finish-by p e = ap (λ (q : Phase). finishBy q b rest out) (sym e)
 
-  pub ends-begun : begun (b .line .name) rest ≡ true → said (endOf b) (prints (noText 19) out) ≡ finishBy Running b rest out
-  ends-begun e = ap (λ (t : Bool). cond t (said (endOf b) (prints (noText 19) out)) (said (endOf b) (output 0 out))) (sym e)
+  pub ends-begun : begun (b .line .name) rest ≡ true → endResult (endOf b) (prints (noText 19) out) ≡ finishBy Running b rest out
+  ends-begun e = ap (λ (t : Bool). cond t (endResult (endOf b) (prints (noText 19) out)) (endResult (endOf b) (output 0 out))) (sym e)
 
-  pub ends-well : {b' : Bench} {m : ℕ} → b' ≡ endOf b → m ≡ 0 → said b' (output m out) ≡ said (endOf b) (output 0 out)
-  ends-well p q = λ j. said (p j) (output (q j) out)
+  pub ends-well : {b' : Bench} {m : ℕ} → b' ≡ endOf b → m ≡ 0 → endResult b' (output m out) ≡ endResult (endOf b) (output 0 out)
+  ends-well p q = λ j. endResult (p j) (output (q j) out)
 
-  pub ends-there : begun (b .line .name) rest ≡ false → said (endOf b) (output 0 out) ≡ finishBy Running b rest out
-  ends-there e = ap (λ (t : Bool). cond t (said (endOf b) (prints (noText 19) out)) (said (endOf b) (output 0 out))) (sym e)
+  pub ends-there : begun (b .line .name) rest ≡ false → endResult (endOf b) (output 0 out) ≡ finishBy Running b rest out
+  ends-there e = ap (λ (t : Bool). cond t (endResult (endOf b) (prints (noText 19) out)) (endResult (endOf b) (output 0 out))) (sym e)
 
-  pub finish-short : length out < 65536 → finished 20 0 (said b (output 0 out)) ≡ finishOf b rest out
+  pub finish-short : length out < 65536 → finished 20 0 (endResult b (output 0 out)) ≡ finishOf b rest out
   unfolding finishOf
   finish-short h = rw (lt-ltb (length out) 65536 h)
 
-  pub finish-done : {s : Said} → 65536 ≤ length out → s ≡ finishBy (b .phase) b rest out → finished 0 0 s ≡ finishOf b rest out
+  pub finish-done : {s : EndResult} → 65536 ≤ length out → s ≡ finishBy (b .phase) b rest out → finished 0 0 s ≡ finishOf b rest out
   unfolding finishOf
   finish-done h e = rw (le-ltb (length out) 65536 h) (ap (finished 0 0) e)
 
 -- ---- a step
 
 module _ (b : Bench) (lists : Lent) (y : List Float) (text out : List ℕ) where
-  pub step-short : length out < 65536 → stepped 20 0 (heard b lists y (output 0 out)) ≡ stepOf b lists y text out
-  unfolding stepOf
+  pub step-short : length out < 65536 → stepped 20 0 (lineResult b lists y (output 0 out)) ≡ benchStep b lists y text out
+  unfolding benchStep
   step-short h = rw (lt-ltb (length out) 65536 h)
 
   module _ (h : 65536 ≤ length out) (n : ℕ) (e : n ≡ cellLength text) where
-    pub step-none : n ≡ length text → stepped 0 0 (heard b lists y (output 0 out)) ≡ stepOf b lists y text out
-    unfolding stepOf
+    pub step-none : n ≡ length text → stepped 0 0 (lineResult b lists y (output 0 out)) ≡ benchStep b lists y text out
+    unfolding benchStep
     step-none z = rw (le-ltb (length out) 65536 h, eq-eqb (cellLength text) (length text) (sym e ∙ z))
 
     module _ (z : n ≡ length text → ⊥) (k : ℕ) (q : k ≡ cellKept n) {l : Line} (m : l ≡ cellOf (b .line) (take k text)) where
-      stepping : cellStep b lists y text out n l ≡ stepOf b lists y text out
-      unfolding stepOf
+      stepping : cellStep b lists y text out n l ≡ benchStep b lists y text out
+      unfolding benchStep
       stepping =
           (λ j. cellStep b lists y text out n (m j))
           ∙ ap (λ (i : ℕ). cellStep b lists y text out n (cellOf (b .line) (take i text))) q
           ∙ ap (λ (i : ℕ). cellStep b lists y text out i (cellOf (b .line) (take (cellKept i) text))) e
           ∙ sym (rw (le-ltb (length out) 65536 h, ne-eqb (cellLength text) (length text) (λ p. z (e ∙ p))))
 
-      pub step-tab : {b' : Bench} → getD text n 0 ≡ 9 → b' ≡ withLine b l → stepped 0 (n + 1) (heard b' lists y (output 0 out)) ≡ stepOf b lists y text out
+      pub step-tab : {b' : Bench} → getD text n 0 ≡ 9 → b' ≡ withLine b l → stepped 0 (n + 1) (lineResult b' lists y (output 0 out)) ≡ benchStep b lists y text out
       step-tab g p =
-          (λ j. stepped 0 (n + 1) (heard (p j) lists y (output 0 out))) ∙ rw (eq-eqb (getD text n 0) 9 g) at stepping
+          (λ j. stepped 0 (n + 1) (lineResult (p j) lists y (output 0 out))) ∙ rw (eq-eqb (getD text n 0) 9 g) at stepping
 
-      pub step-line : {r : Heard} → (getD text n 0 ≡ 9 → ⊥) → r ≡ lineHeard b l lists y out → stepped 0 (n + 1) r ≡ stepOf b lists y text out
+      pub step-line : {r : LineResult} → (getD text n 0 ≡ 9 → ⊥) → r ≡ lineGives b l lists y out → stepped 0 (n + 1) r ≡ benchStep b lists y text out
       step-line g p = (λ j. stepped 0 (n + 1) (p j)) ∙ rw (ne-eqb (getD text n 0) 9 g) at stepping
 
 -- what owning a line tells of its f32 fields

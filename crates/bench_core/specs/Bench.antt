@@ -7,7 +7,7 @@ use lib.Dec.{ltb, eqb}
 use lib.IntN.{pos}
 use lib.ListN.{length, take, getD, replicate}
 use lib.Ieee.{Float, nan}
-use Rattle.common.specs.Lent.{over}
+use Rattle.refusal.specs.Lent.{over}
 use Rattle.common.specs.Deviation.{zero64}
 use Rattle.trcf.specs.Transformer.{zero32}
 use Rattle.trcf.specs.Settings.{dimension, settingsRow}
@@ -18,9 +18,10 @@ use Rattle.trcf.specs.declared.types.ForestMode.the-variants.{STANDARD}
 use Rattle.trcf.specs.Types.{methodOfNumber, modeOfLetter}
 use Rattle.trcf.specs.declared.head.Preprocessor.{Preprocessor}
 use Rattle.trcf.specs.declared.head.PreprocessorBuilder.{PreprocessorBuilder}
+use Rattle.snapshot.specs.Ascii.{ascii, text}
 use Rattle.snapshot.specs.Text.{whole, named, singles}
 use Rattle.snapshot.specs.Read.{bytesOfLine}
-use Rattle.snapshot.specs.Save.{saveOf, Outcome as Saved}
+use Rattle.snapshot.specs.Save.{saveOf, SaveOutcome as Saved}
 use Rattle.bench_core.specs.Line.{blankLine, cellOf, requestOf, keptOf}
 use Rattle.bench_core.specs.declared.line.Line.{Line}
 use Rattle.bench_core.specs.declared.line.Name.{Name}
@@ -32,16 +33,16 @@ use Rattle.bench_core.specs.declared.step.Bench.{Bench}
 -- ---- "It prints `ok`, `none`, `pt` with f32 fields, `no` with the number, or for `s` the text."
 
 unfoldable pub noText : ℕ → List ℕ
-noText row = bytesOfLine (named (110 ∷ 111 ∷ []) (whole row ∷ []))
+noText row = bytesOfLine (named (ascii "no") (whole row ∷ []))
 
 abbrev pub okText : List ℕ
-okText = 111 ∷ 107 ∷ 10 ∷ []
+okText = text ("ok" ∷ [])
 
 abbrev pub noneText : List ℕ
-noneText = 110 ∷ 111 ∷ 110 ∷ 101 ∷ 10 ∷ []
+noneText = text ("none" ∷ [])
 
 unfoldable pub pointText : List Float → List ℕ
-pointText v = bytesOfLine (singles (112 ∷ 116 ∷ []) v)
+pointText v = bytesOfLine (singles (ascii "pt") v)
 
 -- `ok`, or `no` with the row
 unfoldable pub doneText : ℕ → List ℕ
@@ -64,57 +65,57 @@ unfoldable pub dimensionOf : Preprocessor → ℕ
 dimensionOf h = accepted (headRow (settingsOf h)) (dimension (settingsOf h)) 0
 
 -- what a call leaves: the head, whether a `p` ever gave a point, what is lent, the last point, and what is printed
-pub record Turn : Type 0 where
+pub record CallResult : Type 0 where
   pub head : Preprocessor
   pub given : Bool
   pub lent : Lent
   pub point : List Float
   pub text : List ℕ
 
-abbrev pub turn : Preprocessor → Bool → Lent → List Float → List ℕ → Turn
-turn h g l y t = record { head = h; given = g; lent = l; point = y; text = t }
+abbrev pub callResult : Preprocessor → Bool → Lent → List Float → List ℕ → CallResult
+callResult h g l y t = record { head = h; given = g; lent = l; point = y; text = t }
 
 -- `p`: the point, `none` while waiting, or the row. The last point stays where none is given.
-abbrev pub pointTold : Bool → PointOutcome → Turn
-pointTold g o =
+abbrev pub pointResultBy : Bool → PointOutcome → CallResult
+pointResultBy g o =
     accepted (o .row)
-    (cond (o .given) (turn (o .head) true (o .lent) (o .out) (pointText (take (dimensionOf (o .head)) (o .out))))
-    (turn (o .head) g (o .lent) (o .out) noneText))
-    (turn (o .head) g (o .lent) (o .out) (noText (o .row)))
+    (cond (o .given) (callResult (o .head) true (o .lent) (o .out) (pointText (take (dimensionOf (o .head)) (o .out))))
+    (callResult (o .head) g (o .lent) (o .out) noneText))
+    (callResult (o .head) g (o .lent) (o .out) (noText (o .row)))
 
-unfoldable pub pointTurn : Preprocessor → Bool → Lent → List Float → List Float → ℕ → Turn
-pointTurn h g l y x t = pointTold g (pointAfter h l x t y)
+unfoldable pub pointResult : Preprocessor → Bool → Lent → List Float → List Float → ℕ → CallResult
+pointResult h g l y x t = pointResultBy g (pointAfter h l x t y)
 
 -- `l`: "y = the last point a `p` gave, if any; grade 0"
-unfoldable pub learnTurn : Preprocessor → Bool → Lent → List Float → List Float → ℕ → Turn
-learnTurn h g l y x t =
+unfoldable pub learnResult : Preprocessor → Bool → Lent → List Float → List Float → ℕ → CallResult
+learnResult h g l y x t =
     let o = learnAfter h l (learnCall x t g (take (dimensionOf h) y) false [] zero32 (pos 0) (replicate 17 zero32) (replicate 1 zero32) (replicate 1 zero32)) in
-    turn (o .head) g (o .lent) y (doneText (o .row))
+    callResult (o .head) g (o .lent) y (doneText (o .row))
 
 -- `d`
-unfoldable pub drainTurn : Preprocessor → Bool → Lent → List Float → Turn
-drainTurn h g l y = let o = drainOf h l in turn (o .head) g (o .lent) y (doneText (o .row))
+unfoldable pub drainResult : Preprocessor → Bool → Lent → List Float → CallResult
+drainResult h g l y = let o = drainOf h l in callResult (o .head) g (o .lent) y (doneText (o .row))
 
--- the turn with its text laid over the output
-pub record Told : Type 0 where
+-- the same with its text printed to the output
+pub record CallPrinted : Type 0 where
   pub head : Preprocessor
   pub given : Bool
   pub lent : Lent
   pub point : List Float
   pub out : Output
 
-abbrev pub told : Preprocessor → Bool → Lent → List Float → Output → Told
-told h g l y o = record { head = h; given = g; lent = l; point = y; out = o }
+abbrev pub callPrinted : Preprocessor → Bool → Lent → List Float → Output → CallPrinted
+callPrinted h g l y o = record { head = h; given = g; lent = l; point = y; out = o }
 
-abbrev pub tells : Turn → List ℕ → Told
-tells u out = told (u .head) (u .given) (u .lent) (u .point) (prints (u .text) out)
+abbrev pub printsCall : CallResult → List ℕ → CallPrinted
+printsCall u out = callPrinted (u .head) (u .given) (u .lent) (u .point) (prints (u .text) out)
 
 -- `s`: the text; or row 20 where a list is shorter than what is in use of it
-abbrev pub saveTold : Saved → Output
-saveTold o = accepted (o .row) (output (o .length) (o .bytes)) (prints (noText (o .row)) (o .bytes))
+abbrev pub savePrinted : Saved → Output
+savePrinted o = accepted (o .row) (output (o .length) (o .bytes)) (prints (noText (o .row)) (o .bytes))
 
 unfoldable pub savePrints : Preprocessor → Lent → List ℕ → Output
-savePrints h l out = saveTold (saveOf h l out)
+savePrints h l out = savePrinted (saveOf h l out)
 
 -- ---- lines, by what the bench waits for
 
@@ -160,33 +161,33 @@ noBuilder =
     }
 
 -- a bench that no line has reached
-unfoldable pub fresh : Bench
-fresh = readyFor WantsSet noBuilder noHead false
+unfoldable pub freshBench : Bench
+freshBench = readyFor WantsSet noBuilder noHead false
 
 -- what a line leaves: the bench, what is lent, the last point, and the output
-pub record Heard : Type 0 where
+pub record LineResult : Type 0 where
   pub bench : Bench
   pub lent : Lent
   pub point : List Float
   pub out : Output
 
-abbrev pub heard : Bench → Lent → List Float → Output → Heard
-heard b l y o = record { bench = b; lent = l; point = y; out = o }
+abbrev pub lineResult : Bench → Lent → List Float → Output → LineResult
+lineResult b l y o = record { bench = b; lent = l; point = y; out = o }
 
 -- "refused: `no` with 19 for another form, else the row, and the end"
-abbrev pub refusedBy : ℕ → Bench → Lent → List Float → List ℕ → Heard
-refusedBy row b lists y out = heard (endOf b) lists y (prints (noText row) out)
+abbrev pub refusedBy : ℕ → Bench → Lent → List Float → List ℕ → LineResult
+refusedBy row b lists y out = lineResult (endOf b) lists y (prints (noText row) out)
 
 -- the first line: an accepted `set` prints nothing
-abbrev pub setHeard : Name → Bench → Line → Lent → List Float → List ℕ → Heard
-setHeard Unread b l lists y out = refusedBy 19 b lists y out
-setHeard Set b l lists y out = heard (readyFor WantsWeights (builderFrom l) (b .head) (b .given)) lists y (output 0 out)
-setHeard Weights b l lists y out = refusedBy 19 b lists y out
-setHeard Point b l lists y out = refusedBy 19 b lists y out
-setHeard Learn b l lists y out = refusedBy 19 b lists y out
-setHeard Drain b l lists y out = refusedBy 19 b lists y out
-setHeard Save b l lists y out = refusedBy 19 b lists y out
-setHeard Other b l lists y out = refusedBy 19 b lists y out
+abbrev pub setGives : Name → Bench → Line → Lent → List Float → List ℕ → LineResult
+setGives Unread b l lists y out = refusedBy 19 b lists y out
+setGives Set b l lists y out = lineResult (readyFor WantsWeights (builderFrom l) (b .head) (b .given)) lists y (output 0 out)
+setGives Weights b l lists y out = refusedBy 19 b lists y out
+setGives Point b l lists y out = refusedBy 19 b lists y out
+setGives Learn b l lists y out = refusedBy 19 b lists y out
+setGives Drain b l lists y out = refusedBy 19 b lists y out
+setGives Save b l lists y out = refusedBy 19 b lists y out
+setGives Other b l lists y out = refusedBy 19 b lists y out
 
 -- "The bench (d ≤ 4, start ≤ 500; beyond these, after rows 1 to 9, `no 20` and the end)"
 abbrev pub limitRow : PreprocessorBuilder → ℕ
@@ -206,61 +207,61 @@ builtOf b w lists =
     let row = orElse (settingsRow s) (limitRow b) in
     accepted row (buildOf s lists) (outcome row noHead lists)
 
-abbrev pub builtHeard : Bench → Outcome → List Float → List ℕ → Heard
-builtHeard b o y out =
-    accepted (o .row) (heard (readyFor Running (b .builder) (o .head) (b .given)) (o .lent) y (output 0 out)) (refusedBy (o .row) b (o .lent) y out)
+abbrev pub builtGives : Bench → Outcome → List Float → List ℕ → LineResult
+builtGives b o y out =
+    accepted (o .row) (lineResult (readyFor Running (b .builder) (o .head) (b .given)) (o .lent) y (output 0 out)) (refusedBy (o .row) b (o .lent) y out)
 
-unfoldable pub weightsTurn : Bench → Line → Lent → List Float → List ℕ → Heard
-weightsTurn b l lists y out = builtHeard b (builtOf (b .builder) (keptOf l) lists) y out
+unfoldable pub buildGives : Bench → Line → Lent → List Float → List ℕ → LineResult
+buildGives b l lists y out = builtGives b (builtOf (b .builder) (keptOf l) lists) y out
 
 -- the second line: an accepted `wgt` prints nothing
-abbrev pub weightsHeard : Name → Bench → Line → Lent → List Float → List ℕ → Heard
-weightsHeard Unread b l lists y out = refusedBy 19 b lists y out
-weightsHeard Set b l lists y out = refusedBy 19 b lists y out
-weightsHeard Weights b l lists y out = weightsTurn b l lists y out
-weightsHeard Point b l lists y out = refusedBy 19 b lists y out
-weightsHeard Learn b l lists y out = refusedBy 19 b lists y out
-weightsHeard Drain b l lists y out = refusedBy 19 b lists y out
-weightsHeard Save b l lists y out = refusedBy 19 b lists y out
-weightsHeard Other b l lists y out = refusedBy 19 b lists y out
+abbrev pub weightsGives : Name → Bench → Line → Lent → List Float → List ℕ → LineResult
+weightsGives Unread b l lists y out = refusedBy 19 b lists y out
+weightsGives Set b l lists y out = refusedBy 19 b lists y out
+weightsGives Weights b l lists y out = buildGives b l lists y out
+weightsGives Point b l lists y out = refusedBy 19 b lists y out
+weightsGives Learn b l lists y out = refusedBy 19 b lists y out
+weightsGives Drain b l lists y out = refusedBy 19 b lists y out
+weightsGives Save b l lists y out = refusedBy 19 b lists y out
+weightsGives Other b l lists y out = refusedBy 19 b lists y out
 
-abbrev pub callTold : Bench → Told → Heard
-callTold b t = heard (readyFor Running (b .builder) (t .head) (t .given)) (t .lent) (t .point) (t .out)
+abbrev pub lineOfCall : Bench → CallPrinted → LineResult
+lineOfCall b t = lineResult (readyFor Running (b .builder) (t .head) (t .given)) (t .lent) (t .point) (t .out)
 
 -- "a line of another form giving `no 19`"
-abbrev pub unread : Bench → Lent → List Float → List ℕ → Heard
-unread b lists y out = heard (goingOn b) lists y (prints (noText 19) out)
+abbrev pub otherForm : Bench → Lent → List Float → List ℕ → LineResult
+otherForm b lists y out = lineResult (goingOn b) lists y (prints (noText 19) out)
 
 -- `d` and `s`; any other line without a reading is of another form
-abbrev pub plainHeard : Name → Bench → Lent → List Float → List ℕ → Heard
-plainHeard Unread b lists y out = unread b lists y out
-plainHeard Set b lists y out = unread b lists y out
-plainHeard Weights b lists y out = unread b lists y out
-plainHeard Point b lists y out = unread b lists y out
-plainHeard Learn b lists y out = unread b lists y out
-plainHeard Drain b lists y out = callTold b (tells (drainTurn (b .head) (b .given) lists y) out)
-plainHeard Save b lists y out = heard (goingOn b) lists y (savePrints (b .head) lists out)
-plainHeard Other b lists y out = unread b lists y out
+abbrev pub plainGives : Name → Bench → Lent → List Float → List ℕ → LineResult
+plainGives Unread b lists y out = otherForm b lists y out
+plainGives Set b lists y out = otherForm b lists y out
+plainGives Weights b lists y out = otherForm b lists y out
+plainGives Point b lists y out = otherForm b lists y out
+plainGives Learn b lists y out = otherForm b lists y out
+plainGives Drain b lists y out = lineOfCall b (printsCall (drainResult (b .head) (b .given) lists y) out)
+plainGives Save b lists y out = lineResult (goingOn b) lists y (savePrints (b .head) lists out)
+plainGives Other b lists y out = otherForm b lists y out
 
 -- every later line; the time stands first among the whole numbers
-abbrev pub callHeard : Name → Bench → Line → Lent → List Float → List ℕ → Heard
-callHeard Unread b l lists y out = plainHeard Unread b lists y out
-callHeard Set b l lists y out = plainHeard Set b lists y out
-callHeard Weights b l lists y out = plainHeard Weights b lists y out
-callHeard Point b l lists y out = callTold b (tells (pointTurn (b .head) (b .given) lists y (keptOf l) (getD (l .wholes) 0 0)) out)
-callHeard Learn b l lists y out = callTold b (tells (learnTurn (b .head) (b .given) lists y (keptOf l) (getD (l .wholes) 0 0)) out)
-callHeard Drain b l lists y out = plainHeard Drain b lists y out
-callHeard Save b l lists y out = plainHeard Save b lists y out
-callHeard Other b l lists y out = plainHeard Other b lists y out
+abbrev pub callGives : Name → Bench → Line → Lent → List Float → List ℕ → LineResult
+callGives Unread b l lists y out = plainGives Unread b lists y out
+callGives Set b l lists y out = plainGives Set b lists y out
+callGives Weights b l lists y out = plainGives Weights b lists y out
+callGives Point b l lists y out = lineOfCall b (printsCall (pointResult (b .head) (b .given) lists y (keptOf l) (getD (l .wholes) 0 0)) out)
+callGives Learn b l lists y out = lineOfCall b (printsCall (learnResult (b .head) (b .given) lists y (keptOf l) (getD (l .wholes) 0 0)) out)
+callGives Drain b l lists y out = plainGives Drain b lists y out
+callGives Save b l lists y out = plainGives Save b lists y out
+callGives Other b l lists y out = plainGives Other b lists y out
 
-abbrev pub lineBy : Phase → Bench → Line → Lent → List Float → List ℕ → Heard
-lineBy WantsSet b l lists y out = setHeard (requestOf l) b l lists y out
-lineBy WantsWeights b l lists y out = weightsHeard (requestOf l) b l lists y out
-lineBy Running b l lists y out = callHeard (requestOf l) b l lists y out
-lineBy Ended b l lists y out = heard b lists y (output 0 out)
+abbrev pub lineBy : Phase → Bench → Line → Lent → List Float → List ℕ → LineResult
+lineBy WantsSet b l lists y out = setGives (requestOf l) b l lists y out
+lineBy WantsWeights b l lists y out = weightsGives (requestOf l) b l lists y out
+lineBy Running b l lists y out = callGives (requestOf l) b l lists y out
+lineBy Ended b l lists y out = lineResult b lists y (output 0 out)
 
-unfoldable pub lineHeard : Bench → Line → Lent → List Float → List ℕ → Heard
-lineHeard b l lists y out = lineBy (b .phase) b l lists y out
+unfoldable pub lineGives : Bench → Line → Lent → List Float → List ℕ → LineResult
+lineGives b l lists y out = lineBy (b .phase) b l lists y out
 
 -- ---- a step
 
@@ -281,9 +282,9 @@ room = 65536
 pub record Stepped : Type 0 where
   pub row : ℕ
   pub next : ℕ
-  pub left : Heard
+  pub left : LineResult
 
-abbrev pub stepped : ℕ → ℕ → Heard → Stepped
+abbrev pub stepped : ℕ → ℕ → LineResult → Stepped
 stepped row n h = record { row = row; next = n; left = h }
 
 abbrev pub withLine : Bench → Line → Bench
@@ -291,18 +292,18 @@ withLine b l = bench (b .phase) l (b .builder) (b .head) (b .given)
 
 abbrev pub cellStep : Bench → Lent → List Float → List ℕ → List ℕ → ℕ → Line → Stepped
 cellStep b lists y text out n l =
-    cond (eqb (getD text n 0) 9) (stepped 0 (n + 1) (heard (withLine b l) lists y (output 0 out))) (stepped 0 (n + 1) (lineHeard b l lists y out))
+    cond (eqb (getD text n 0) 9) (stepped 0 (n + 1) (lineResult (withLine b l) lists y (output 0 out))) (stepped 0 (n + 1) (lineGives b l lists y out))
 
-unfoldable pub stepOf : Bench → Lent → List Float → List ℕ → List ℕ → Stepped
-stepOf b lists y text out =
+unfoldable pub benchStep : Bench → Lent → List Float → List ℕ → List ℕ → Stepped
+benchStep b lists y text out =
     let n = cellLength text in
-    cond (ltb (length out) room) (stepped 20 0 (heard b lists y (output 0 out)))
-    (cond (eqb n (length text)) (stepped 0 0 (heard b lists y (output 0 out)))
+    cond (ltb (length out) room) (stepped 20 0 (lineResult b lists y (output 0 out)))
+    (cond (eqb n (length text)) (stepped 0 0 (lineResult b lists y (output 0 out)))
     (cellStep b lists y text out n (cellOf (b .line) (take (cellKept n) text))))
 
 -- ---- the end of the input
 
--- bytes stand behind the last LF
+-- bytes stand after the last LF
 abbrev pub begun : Name → List ℕ → Bool
 begun name (x ∷ rest) = true
 begun Unread [] = false
@@ -314,27 +315,27 @@ begun Drain [] = true
 begun Save [] = true
 begun Other [] = true
 
-pub record Said : Type 0 where
+pub record EndResult : Type 0 where
   pub bench : Bench
   pub out : Output
 
-abbrev pub said : Bench → Output → Said
-said b o = record { bench = b; out = o }
+abbrev pub endResult : Bench → Output → EndResult
+endResult b o = record { bench = b; out = o }
 
 -- a line without its LF is of another form, and so is a missing `set` or `wgt`
-abbrev pub finishBy : Phase → Bench → List ℕ → List ℕ → Said
-finishBy WantsSet b rest out = said (endOf b) (prints (noText 19) out)
-finishBy WantsWeights b rest out = said (endOf b) (prints (noText 19) out)
-finishBy Running b rest out = cond (begun (b .line .name) rest) (said (endOf b) (prints (noText 19) out)) (said (endOf b) (output 0 out))
-finishBy Ended b rest out = said (endOf b) (output 0 out)
+abbrev pub finishBy : Phase → Bench → List ℕ → List ℕ → EndResult
+finishBy WantsSet b rest out = endResult (endOf b) (prints (noText 19) out)
+finishBy WantsWeights b rest out = endResult (endOf b) (prints (noText 19) out)
+finishBy Running b rest out = cond (begun (b .line .name) rest) (endResult (endOf b) (prints (noText 19) out)) (endResult (endOf b) (output 0 out))
+finishBy Ended b rest out = endResult (endOf b) (output 0 out)
 
 pub record Finished : Type 0 where
   pub row : ℕ
   pub next : ℕ
-  pub left : Said
+  pub left : EndResult
 
-abbrev pub finished : ℕ → ℕ → Said → Finished
+abbrev pub finished : ℕ → ℕ → EndResult → Finished
 finished row n o = record { row = row; next = n; left = o }
 
 unfoldable pub finishOf : Bench → List ℕ → List ℕ → Finished
-finishOf b rest out = cond (ltb (length out) room) (finished 20 0 (said b (output 0 out))) (finished 0 0 (finishBy (b .phase) b rest out))
+finishOf b rest out = cond (ltb (length out) room) (finished 20 0 (endResult b (output 0 out))) (finished 0 0 (finishBy (b .phase) b rest out))

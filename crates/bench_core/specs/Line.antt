@@ -1,5 +1,6 @@
 -- A line of the bench, cell by cell: document 01, 'The bench …', with fields as in 'Trace text'. "A `wgt`, `p` or `l` line may hold any number of
 -- f32 fields": those past the ones that are needed are checked, and neither kept nor counted.
+use Prim.Native.Char.{code}
 use Prim.Native.Nat.{ℕ, _+_}
 use mathlib.Core.Bool.{cond}
 use mathlib.Core.List.{List, [], _∷_}
@@ -25,11 +26,11 @@ use Rattle.bench_core.specs.declared.line.Line.{Line}
 -- ---- names: `set`, `wgt`, `p`, `l`, `d`, `s`
 
 abbrev pub shortName : ℕ → Name
-shortName a = cond (eqb a 112) Point (cond (eqb a 108) Learn (cond (eqb a 100) Drain (cond (eqb a 115) Save Other)))
+shortName a = cond (eqb a (code "p")) Point (cond (eqb a (code "l")) Learn (cond (eqb a (code "d")) Drain (cond (eqb a (code "s")) Save Other)))
 
 abbrev pub longName : ℕ → ℕ → ℕ → Name
 longName a b c =
-    cond (eqb c 116) (cond (eqb a 115) (cond (eqb b 101) Set Other) (cond (eqb a 119) (cond (eqb b 103) Weights Other) Other)) Other
+    cond (eqb c (code "t")) (cond (eqb a (code "s")) (cond (eqb b (code "e")) Set Other) (cond (eqb a (code "w")) (cond (eqb b (code "g")) Weights Other) Other)) Other
 
 abbrev pub nameOf : List ℕ → Name
 nameOf [] = Other
@@ -68,9 +69,9 @@ letterOf (a ∷ []) = cond (imputes (modeOfLetter a)) No (Is a)
 letterOf (a ∷ b ∷ r) = No
 
 -- "method (0 NONE, … 5 NORMALIZE_DIFFERENCE)"
-abbrev pub methodOf : Number → Number
-methodOf No = No
-methodOf (Is n) = cond (leb n 5) (Is n) No
+abbrev pub methodField : Number → Number
+methodField No = No
+methodField (Is n) = cond (leb n 5) (Is n) No
 
 -- ---- a line with a field more
 
@@ -115,24 +116,24 @@ withSingle l Bad = otherLine l
 
 abbrev pub fieldAt : Place → Line → List ℕ → Line
 fieldAt AsLetter l c = withWhole l (letterOf c)
-fieldAt AsMethod l c = withWhole l (methodOf (numberOf (asWhole c)))
+fieldAt AsMethod l c = withWhole l (methodField (numberOf (asWhole c)))
 fieldAt AsWhole l c = withWhole l (numberOf (asWhole c))
 fieldAt AsDouble l c = withDouble l (doubleOf (asFloat binary64 c))
 fieldAt AsSingle l c = withSingle l (singleOf (asFloat binary32 c))
 fieldAt Nowhere l c = otherLine l
 
-unfoldable pub fieldOf : Line → List ℕ → Line
-fieldOf l c = fieldAt (placeOf (l .name) (l .fields)) l c
+unfoldable pub lineWithField : Line → List ℕ → Line
+lineWithField l c = fieldAt (placeOf (l .name) (l .fields)) l c
 
 abbrev pub cellBy : Name → Line → List ℕ → Line
 cellBy Unread l c = namedLine l (nameOf c)
-cellBy Set l c = fieldOf l c
-cellBy Weights l c = fieldOf l c
-cellBy Point l c = fieldOf l c
-cellBy Learn l c = fieldOf l c
-cellBy Drain l c = fieldOf l c
-cellBy Save l c = fieldOf l c
-cellBy Other l c = fieldOf l c
+cellBy Set l c = lineWithField l c
+cellBy Weights l c = lineWithField l c
+cellBy Point l c = lineWithField l c
+cellBy Learn l c = lineWithField l c
+cellBy Drain l c = lineWithField l c
+cellBy Save l c = lineWithField l c
+cellBy Other l c = lineWithField l c
 
 -- the line with one cell more: its name, and then its fields
 unfoldable pub cellOf : Line → List ℕ → Line

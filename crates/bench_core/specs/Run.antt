@@ -9,12 +9,12 @@ use lib.Ieee.{Float}
 use Rattle.common.specs.Deviation.{zero64}
 use Rattle.trcf.specs.Transformer.{zero32}
 use Rattle.trcf.specs.View.{Lent, lent}
-use Rattle.bench_core.specs.Bench.{Output, room, fresh, stepOf, finishOf}
+use Rattle.bench_core.specs.Bench.{Output, room, freshBench, benchStep, finishOf}
 use Rattle.bench_core.specs.declared.step.Bench.{Bench}
 
 -- room for the bench's limits, d 4, k 64 and start 500
-abbrev pub memory : Lent
-memory = lent (replicate 75 zero64) (replicate 256 zero32) (replicate 320 zero32) (replicate 64 0) (replicate 2000 zero32) (replicate 500 0)
+abbrev pub benchMemory : Lent
+benchMemory = lent (replicate 75 zero64) (replicate 256 zero32) (replicate 320 zero32) (replicate 64 0) (replicate 2000 zero32) (replicate 500 0)
 
 abbrev pub blank : List ℕ
 blank = replicate room 0
@@ -26,11 +26,11 @@ shown o = take (o .length) (o .bytes)
 abbrev pub printedFrom : ℕ → Bench → Lent → List Float → List ℕ → List ℕ
 printedFrom zero b lists y t = []
 printedFrom (suc n) b lists y t =
-    let s = stepOf b lists y t blank in
+    let s = benchStep b lists y t blank in
     elim (eqb (s .next) 0) [
       | true ↦ shown (finishOf b t blank .left .out)
       | false ↦ shown (s .left .out) ++ printedFrom n (s .left .bench) (s .left .lent) (s .left .point) (drop (s .next) t)
     ]
 
 unfoldable pub printed : List ℕ → List ℕ
-printed t = printedFrom (suc (length t)) fresh memory (replicate 320 zero32) t
+printed t = printedFrom (suc (length t)) freshBench benchMemory (replicate 320 zero32) t

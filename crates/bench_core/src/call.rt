@@ -16,7 +16,7 @@ ghost use lib.Dec.{ltb};
 ghost use lib.Ieee.{Float};
 ghost use lib.ListN.{length, take};
 ghost use Rattle.trcf.specs.View.{lent};
-ghost use Rattle.bench_core.specs.Bench.{noText, noneText, doneText, pointText, dimensionOf, output, prints, told, tells, pointTurn, learnTurn, drainTurn, savePrints};
+ghost use Rattle.bench_core.specs.Bench.{noText, noneText, doneText, pointText, dimensionOf, output, prints, callPrinted, printsCall, pointResult, learnResult, drainResult, savePrints};
 
 // The head after a line, whether a point was ever given, and how many bytes are written.
 pub struct Answered {
@@ -96,8 +96,8 @@ pub(crate) fn call_point(
     out: &mut [u8],
 ) -> Answered
     requires { ⌜ 65536 ≤ length (now out) ⌝ }
-    ensures { λ r. ⌜ told (r .head) (r .given) (lent (now (statistics .exit)) (now («last_shingled_input» .exit)) (now («last_shingled_point» .exit)) (now («previous_timestamps» .exit)) (now («initial_values» .entry)) (now («initial_timestamps» .entry))) (now (point .exit)) (output (r .length) (now (out .exit)))
-        ≡ tells (pointTurn head given (lent (now (statistics .entry)) (now («last_shingled_input» .entry)) (now («last_shingled_point» .entry)) (now («previous_timestamps» .entry)) (now («initial_values» .entry)) (now («initial_timestamps» .entry))) (now (point .entry)) (now (input .entry)) timestamp) (now (out .entry)) ⌝ }
+    ensures { λ r. ⌜ callPrinted (r .head) (r .given) (lent (now (statistics .exit)) (now («last_shingled_input» .exit)) (now («last_shingled_point» .exit)) (now («previous_timestamps» .exit)) (now («initial_values» .entry)) (now («initial_timestamps» .entry))) (now (point .exit)) (output (r .length) (now (out .exit)))
+        ≡ printsCall (pointResult head given (lent (now (statistics .entry)) (now («last_shingled_input» .entry)) (now («last_shingled_point» .entry)) (now («previous_timestamps» .entry)) (now («initial_values» .entry)) (now («initial_timestamps» .entry))) (now (point .entry)) (now (input .entry)) timestamp) (now (out .entry)) ⌝ }
 {
     let table = every_right();
     let r = shingled_point(
@@ -153,8 +153,8 @@ pub(crate) fn call_learn(
     out: &mut [u8],
 ) -> Answered
     requires { ⌜ 65536 ≤ length (now out) ⌝ }
-    ensures { λ r. ⌜ told (r .head) (r .given) (lent (now (statistics .exit)) (now («last_shingled_input» .exit)) (now («last_shingled_point» .exit)) (now («previous_timestamps» .exit)) (now («initial_values» .exit)) (now («initial_timestamps» .exit))) (now (point .entry)) (output (r .length) (now (out .exit)))
-        ≡ tells (learnTurn head given (lent (now (statistics .entry)) (now («last_shingled_input» .entry)) (now («last_shingled_point» .entry)) (now («previous_timestamps» .entry)) (now («initial_values» .entry)) (now («initial_timestamps» .entry))) (now (point .entry)) (now (input .entry)) timestamp) (now (out .entry)) ⌝ }
+    ensures { λ r. ⌜ callPrinted (r .head) (r .given) (lent (now (statistics .exit)) (now («last_shingled_input» .exit)) (now («last_shingled_point» .exit)) (now («previous_timestamps» .exit)) (now («initial_values» .exit)) (now («initial_timestamps» .exit))) (now (point .entry)) (output (r .length) (now (out .exit)))
+        ≡ printsCall (learnResult head given (lent (now (statistics .entry)) (now («last_shingled_input» .entry)) (now («last_shingled_point» .entry)) (now («previous_timestamps» .entry)) (now («initial_values» .entry)) (now («initial_timestamps» .entry))) (now (point .entry)) (now (input .entry)) timestamp) (now (out .entry)) ⌝ }
 {
     let n = least(get_dimension(head), point.len());
     let mut deviations = [0.0f32; 17];
@@ -205,8 +205,8 @@ pub(crate) fn call_drain(
     out: &mut [u8],
 ) -> Answered
     requires { ⌜ 65536 ≤ length (now out) ⌝ }
-    ensures { λ r. ⌜ ((y : List Float) → told (r .head) (r .given) (lent (now (statistics .exit)) (now («last_shingled_input» .exit)) (now («last_shingled_point» .exit)) (now («previous_timestamps» .exit)) (now («initial_values» .entry)) (now («initial_timestamps» .entry))) y (output (r .length) (now (out .exit)))
-        ≡ tells (drainTurn head given (lent (now (statistics .entry)) (now («last_shingled_input» .entry)) (now («last_shingled_point» .entry)) (now («previous_timestamps» .entry)) (now («initial_values» .entry)) (now («initial_timestamps» .entry))) y) (now (out .entry))) ⌝ }
+    ensures { λ r. ⌜ ((y : List Float) → callPrinted (r .head) (r .given) (lent (now (statistics .exit)) (now («last_shingled_input» .exit)) (now («last_shingled_point» .exit)) (now («previous_timestamps» .exit)) (now («initial_values» .entry)) (now («initial_timestamps» .entry))) y (output (r .length) (now (out .exit)))
+        ≡ printsCall (drainResult head given (lent (now (statistics .entry)) (now («last_shingled_input» .entry)) (now («last_shingled_point» .entry)) (now («previous_timestamps» .entry)) (now («initial_values» .entry)) (now («initial_timestamps» .entry))) y) (now (out .entry))) ⌝ }
 {
     let table = every_right();
     let r = drain(

@@ -9,7 +9,7 @@ use trcf_rows::rows::is_imputing;
 ghost use mathlib.Core.Path.{_≡_};
 ghost use Rattle.snapshot.specs.Read.{asWhole};
 ghost use Rattle.snapshot.specs.Scan.{numberOf};
-ghost use Rattle.bench_core.specs.Line.{nameOf, shortName, longName, setPlace, callPlace, placeOf, letterOf, methodOf, otherLine, namedLine, afterField, withWhole, withDouble, withSingle, fieldOf, cellOf, requestOf, blankLine};
+ghost use Rattle.bench_core.specs.Line.{nameOf, shortName, longName, setPlace, callPlace, placeOf, letterOf, methodField, otherLine, namedLine, afterField, withWhole, withDouble, withSingle, lineWithField, cellOf, requestOf, blankLine};
 
 // What a line is, by its name; Unread before the name is read, Other for one of no form.
 pub enum Name {
@@ -35,7 +35,7 @@ pub enum Place {
 
 pub struct Line {
     pub name: Name,
-    // fields behind the name, counted to 9
+    // fields after the name, counted to 9
     pub fields: usize,
     // whole numbers, each at its place; the letter of a mode at place 0
     pub wholes: [u64; 6],
@@ -131,7 +131,7 @@ fn set_place(i: usize) -> Place
     Place::Nowhere
 }
 
-// A time, and any number of f32 behind it.
+// A time, and any number of f32 after it.
 fn call_place(i: usize) -> Place
     ensures { λ r. ⌜ r ≡ callPlace i ⌝ }
 {
@@ -178,7 +178,7 @@ fn letter(c: &[u8]) -> Number
 
 // The number of a method, at most 5.
 fn method(c: &[u8]) -> Number
-    ensures { λ r. ⌜ r ≡ methodOf (numberOf (asWhole (now (c .entry)))) ⌝ }
+    ensures { λ r. ⌜ r ≡ methodField (numberOf (asWhole (now (c .entry)))) ⌝ }
 {
     let w = whole(c);
     match w {
@@ -281,7 +281,7 @@ fn with_single(l: Line, f: Field) -> Line
 }
 
 fn with_field(l: Line, c: &[u8]) -> Line
-    ensures { λ r. ⌜ r ≡ fieldOf l (now (c .entry)) ⌝ }
+    ensures { λ r. ⌜ r ≡ lineWithField l (now (c .entry)) ⌝ }
 {
     let name = l.name;
     let i = l.fields;

@@ -15,6 +15,7 @@ use trcf::head::Preprocessor;
 use trcf::head::PreprocessorBuilder;
 use trcf::head::no_head;
 use trcf::types::ForestMode;
+use trcf::types::INPUT_LIMIT;
 use trcf::types::TransformMethod;
 use trcf::types::method_of_number;
 use trcf::types::mode_of_letter;
@@ -28,7 +29,7 @@ ghost use lib.ListN.{length};
 ghost use Rattle.trcf.specs.Settings.{settingsRow};
 ghost use Rattle.trcf.specs.View.{Lent, lent, outcome, orElse, settingsFrom};
 ghost use Rattle.bench_core.specs.Line.{requestOf, keptCount};
-ghost use Rattle.bench_core.specs.Bench.{codeCount, builtOf, output, prints, noText, readyFor, goingOn, endOf, builderFrom, noBuilder, fresh, heard, setHeard, limitRow, weightsTurn, weightsHeard, plainHeard, callHeard, lineHeard, cellLength, cellKept, stepped, withLine, stepOf, begun, said, finishBy, finished, finishOf};
+ghost use Rattle.bench_core.specs.Bench.{codeCount, builtOf, output, prints, noText, readyFor, goingOn, endOf, builderFrom, noBuilder, freshBench, lineResult, setGives, limitRow, buildGives, weightsGives, plainGives, callGives, lineGives, cellLength, cellKept, stepped, withLine, benchStep, begun, endResult, finishBy, finished, finishOf};
 ghost use Rattle.bench_core.specs.Steps.Readings.{isReading, isPoint, readingName};
 
 // The bytes that the output of a step has to have.
@@ -67,7 +68,7 @@ pub struct StepResult {
 
 // A bench that no line has reached.
 pub fn start() -> Bench
-    ensures { λ r. ⌜ r ≡ fresh ⌝ }
+    ensures { λ r. ⌜ r ≡ freshBench ⌝ }
 {
     Bench {
         phase: Phase::WantsSet,
@@ -132,7 +133,7 @@ struct Printed {
 
 fn ended(b: Bench, row: u64, out: &mut [u8]) -> Printed
     requires { ⌜ 65536 ≤ length (now out) ⌝ }
-    ensures { λ r. ⌜ said (r .bench) (output (r .length) (now (out .exit))) ≡ said (endOf b) (prints (noText row) (now (out .entry))) ⌝ }
+    ensures { λ r. ⌜ endResult (r .bench) (output (r .length) (now (out .exit))) ≡ endResult (endOf b) (prints (noText row) (now (out .entry))) ⌝ }
 {
     let builder = b.builder;
     let head = b.head;
@@ -145,7 +146,7 @@ fn ended(b: Bench, row: u64, out: &mut [u8]) -> Printed
 // The first line.
 fn read_set(b: Bench, l: Line, out: &mut [u8]) -> Printed
     requires { ⌜ 65536 ≤ length (now out) ⌝ }
-    ensures { λ r. ⌜ ((lists : Lent) (y : List Float) → heard (r .bench) lists y (output (r .length) (now (out .exit))) ≡ setHeard (requestOf l) b l lists y (now (out .entry))) ⌝ }
+    ensures { λ r. ⌜ ((lists : Lent) (y : List Float) → lineResult (r .bench) lists y (output (r .length) (now (out .exit))) ≡ setGives (requestOf l) b l lists y (now (out .entry))) ⌝ }
 {
     let name = request(l);
     let head = b.head;
@@ -182,8 +183,8 @@ pub fn code_count(d: usize) -> usize
     ensures { λ r. ⌜ r ≡ codeCount d ⌝ }
     ensures { λ r. ⌜ r ≤ 16 ⌝ }
 {
-    if 16 < d {
-        return 16;
+    if INPUT_LIMIT < d {
+        return INPUT_LIMIT;
     }
     d
 }
@@ -248,7 +249,7 @@ fn read_weights(
     out: &mut [u8],
 ) -> Printed
     requires { ⌜ 65536 ≤ length (now out) ⌝ }
-    ensures { λ r. ⌜ ((y : List Float) → heard (r .bench) (lent (now (statistics .exit)) (now («last_shingled_input» .exit)) (now («last_shingled_point» .exit)) (now («previous_timestamps» .exit)) (now («initial_values» .entry)) (now («initial_timestamps» .entry))) y (output (r .length) (now (out .exit))) ≡ weightsTurn b l (lent (now (statistics .entry)) (now («last_shingled_input» .entry)) (now («last_shingled_point» .entry)) (now («previous_timestamps» .entry)) (now («initial_values» .entry)) (now («initial_timestamps» .entry))) y (now (out .entry))) ⌝ }
+    ensures { λ r. ⌜ ((y : List Float) → lineResult (r .bench) (lent (now (statistics .exit)) (now («last_shingled_input» .exit)) (now («last_shingled_point» .exit)) (now («previous_timestamps» .exit)) (now («initial_values» .entry)) (now («initial_timestamps» .entry))) y (output (r .length) (now (out .exit))) ≡ buildGives b l (lent (now (statistics .entry)) (now («last_shingled_input» .entry)) (now («last_shingled_point» .entry)) (now («previous_timestamps» .entry)) (now («initial_values» .entry)) (now («initial_timestamps» .entry))) y (now (out .entry))) ⌝ }
 {
     let builder = b.builder;
     let n = kept(l);
@@ -357,7 +358,7 @@ fn read_reading(
     out: &mut [u8],
 ) -> Printed
     requires { ⌜ 65536 ≤ length (now out) ⌝ }
-    ensures { λ r. ⌜ heard (r .bench) (lent (now (statistics .exit)) (now («last_shingled_input» .exit)) (now («last_shingled_point» .exit)) (now («previous_timestamps» .exit)) (now («initial_values» .exit)) (now («initial_timestamps» .exit))) (now (point .exit)) (output (r .length) (now (out .exit))) ≡ callHeard (readingName asks) b l (lent (now (statistics .entry)) (now («last_shingled_input» .entry)) (now («last_shingled_point» .entry)) (now («previous_timestamps» .entry)) (now («initial_values» .entry)) (now («initial_timestamps» .entry))) (now (point .entry)) (now (out .entry)) ⌝ }
+    ensures { λ r. ⌜ lineResult (r .bench) (lent (now (statistics .exit)) (now («last_shingled_input» .exit)) (now («last_shingled_point» .exit)) (now («previous_timestamps» .exit)) (now («initial_values» .exit)) (now («initial_timestamps» .exit))) (now (point .exit)) (output (r .length) (now (out .exit))) ≡ callGives (readingName asks) b l (lent (now (statistics .entry)) (now («last_shingled_input» .entry)) (now («last_shingled_point» .entry)) (now («previous_timestamps» .entry)) (now («initial_values» .entry)) (now («initial_timestamps» .entry))) (now (point .entry)) (now (out .entry)) ⌝ }
 {
     let head = b.head;
     let given = b.given;
@@ -412,7 +413,7 @@ fn read_plain(
     out: &mut [u8],
 ) -> Printed
     requires { ⌜ 65536 ≤ length (now out) ⌝ }
-    ensures { λ r. ⌜ ((y : List Float) → heard (r .bench) (lent (now (statistics .exit)) (now («last_shingled_input» .exit)) (now («last_shingled_point» .exit)) (now («previous_timestamps» .exit)) (now («initial_values» .entry)) (now («initial_timestamps» .entry))) y (output (r .length) (now (out .exit))) ≡ plainHeard name b (lent (now (statistics .entry)) (now («last_shingled_input» .entry)) (now («last_shingled_point» .entry)) (now («previous_timestamps» .entry)) (now («initial_values» .entry)) (now («initial_timestamps» .entry))) y (now (out .entry))) ⌝ }
+    ensures { λ r. ⌜ ((y : List Float) → lineResult (r .bench) (lent (now (statistics .exit)) (now («last_shingled_input» .exit)) (now («last_shingled_point» .exit)) (now («previous_timestamps» .exit)) (now («initial_values» .entry)) (now («initial_timestamps» .entry))) y (output (r .length) (now (out .exit))) ≡ plainGives name b (lent (now (statistics .entry)) (now («last_shingled_input» .entry)) (now («last_shingled_point» .entry)) (now («previous_timestamps» .entry)) (now («initial_values» .entry)) (now («initial_timestamps» .entry))) y (now (out .entry))) ⌝ }
 {
     let head = b.head;
     match name {
@@ -466,7 +467,7 @@ fn read_call(
     out: &mut [u8],
 ) -> Printed
     requires { ⌜ 65536 ≤ length (now out) ⌝ }
-    ensures { λ r. ⌜ heard (r .bench) (lent (now (statistics .exit)) (now («last_shingled_input» .exit)) (now («last_shingled_point» .exit)) (now («previous_timestamps» .exit)) (now («initial_values» .exit)) (now («initial_timestamps» .exit))) (now (point .exit)) (output (r .length) (now (out .exit))) ≡ callHeard (requestOf l) b l (lent (now (statistics .entry)) (now («last_shingled_input» .entry)) (now («last_shingled_point» .entry)) (now («previous_timestamps» .entry)) (now («initial_values» .entry)) (now («initial_timestamps» .entry))) (now (point .entry)) (now (out .entry)) ⌝ }
+    ensures { λ r. ⌜ lineResult (r .bench) (lent (now (statistics .exit)) (now («last_shingled_input» .exit)) (now («last_shingled_point» .exit)) (now («previous_timestamps» .exit)) (now («initial_values» .exit)) (now («initial_timestamps» .exit))) (now (point .exit)) (output (r .length) (now (out .exit))) ≡ callGives (requestOf l) b l (lent (now (statistics .entry)) (now («last_shingled_input» .entry)) (now («last_shingled_point» .entry)) (now («previous_timestamps» .entry)) (now («initial_values» .entry)) (now («initial_timestamps» .entry))) (now (point .entry)) (now (out .entry)) ⌝ }
 {
     let name = request(l);
     if is_reading(name) {
@@ -510,7 +511,7 @@ fn read_second(
     out: &mut [u8],
 ) -> Printed
     requires { ⌜ 65536 ≤ length (now out) ⌝ }
-    ensures { λ r. ⌜ ((y : List Float) → heard (r .bench) (lent (now (statistics .exit)) (now («last_shingled_input» .exit)) (now («last_shingled_point» .exit)) (now («previous_timestamps» .exit)) (now («initial_values» .entry)) (now («initial_timestamps» .entry))) y (output (r .length) (now (out .exit))) ≡ weightsHeard (requestOf l) b l (lent (now (statistics .entry)) (now («last_shingled_input» .entry)) (now («last_shingled_point» .entry)) (now («previous_timestamps» .entry)) (now («initial_values» .entry)) (now («initial_timestamps» .entry))) y (now (out .entry))) ⌝ }
+    ensures { λ r. ⌜ ((y : List Float) → lineResult (r .bench) (lent (now (statistics .exit)) (now («last_shingled_input» .exit)) (now («last_shingled_point» .exit)) (now («previous_timestamps» .exit)) (now («initial_values» .entry)) (now («initial_timestamps» .entry))) y (output (r .length) (now (out .exit))) ≡ weightsGives (requestOf l) b l (lent (now (statistics .entry)) (now («last_shingled_input» .entry)) (now («last_shingled_point» .entry)) (now («previous_timestamps» .entry)) (now («initial_values» .entry)) (now («initial_timestamps» .entry))) y (now (out .entry))) ⌝ }
 {
     let name = request(l);
     match name {
@@ -549,7 +550,7 @@ fn read_line(
     out: &mut [u8],
 ) -> Printed
     requires { ⌜ 65536 ≤ length (now out) ⌝ }
-    ensures { λ r. ⌜ heard (r .bench) (lent (now (statistics .exit)) (now («last_shingled_input» .exit)) (now («last_shingled_point» .exit)) (now («previous_timestamps» .exit)) (now («initial_values» .exit)) (now («initial_timestamps» .exit))) (now (point .exit)) (output (r .length) (now (out .exit))) ≡ lineHeard b l (lent (now (statistics .entry)) (now («last_shingled_input» .entry)) (now («last_shingled_point» .entry)) (now («previous_timestamps» .entry)) (now («initial_values» .entry)) (now («initial_timestamps» .entry))) (now (point .entry)) (now (out .entry)) ⌝ }
+    ensures { λ r. ⌜ lineResult (r .bench) (lent (now (statistics .exit)) (now («last_shingled_input» .exit)) (now («last_shingled_point» .exit)) (now («previous_timestamps» .exit)) (now («initial_values» .exit)) (now («initial_timestamps» .exit))) (now (point .exit)) (output (r .length) (now (out .exit))) ≡ lineGives b l (lent (now (statistics .entry)) (now («last_shingled_input» .entry)) (now («last_shingled_point» .entry)) (now («previous_timestamps» .entry)) (now («initial_values» .entry)) (now («initial_timestamps» .entry))) (now (point .entry)) (now (out .entry)) ⌝ }
 {
     let phase = b.phase;
     match phase {
@@ -655,7 +656,7 @@ pub fn step(
     text: &[u8],
     out: &mut [u8],
 ) -> StepResult
-    ensures { λ r. ⌜ stepped (r .row) (r .next) (heard (r .bench) (lent (now (statistics .exit)) (now («last_shingled_input» .exit)) (now («last_shingled_point» .exit)) (now («previous_timestamps» .exit)) (now («initial_values» .exit)) (now («initial_timestamps» .exit))) (now (point .exit)) (output (r .length) (now (out .exit)))) ≡ stepOf b (lent (now (statistics .entry)) (now («last_shingled_input» .entry)) (now («last_shingled_point» .entry)) (now («previous_timestamps» .entry)) (now («initial_values» .entry)) (now («initial_timestamps» .entry))) (now (point .entry)) (now (text .entry)) (now (out .entry)) ⌝ }
+    ensures { λ r. ⌜ stepped (r .row) (r .next) (lineResult (r .bench) (lent (now (statistics .exit)) (now («last_shingled_input» .exit)) (now («last_shingled_point» .exit)) (now («previous_timestamps» .exit)) (now («initial_values» .exit)) (now («initial_timestamps» .exit))) (now (point .exit)) (output (r .length) (now (out .exit)))) ≡ benchStep b (lent (now (statistics .entry)) (now («last_shingled_input» .entry)) (now («last_shingled_point» .entry)) (now («previous_timestamps» .entry)) (now («initial_values» .entry)) (now («initial_timestamps» .entry))) (now (point .entry)) (now (text .entry)) (now (out .entry)) ⌝ }
 {
     if out.len() < ROOM {
         return idle(b, 20);
@@ -696,7 +697,7 @@ pub fn step(
     }
 }
 
-// Whether bytes stand behind the last LF.
+// Whether bytes stand after the last LF.
 fn is_begun(name: Name, rest: &[u8]) -> bool
     ensures { λ r. ⌜ r ≡ begun name (now (rest .entry)) ⌝ }
 {
@@ -715,9 +716,9 @@ fn is_begun(name: Name, rest: &[u8]) -> bool
     }
 }
 
-// The end of the input, behind the bytes of rest, in which no cell ends: a line without its LF, or a missing `set` or `wgt`, is of another form.
+// The end of the input, after the bytes of rest, in which no cell ends: a line without its LF, or a missing `set` or `wgt`, is of another form.
 pub fn finish(b: Bench, rest: &[u8], out: &mut [u8]) -> StepResult
-    ensures { λ r. ⌜ finished (r .row) (r .next) (said (r .bench) (output (r .length) (now (out .exit)))) ≡ finishOf b (now (rest .entry)) (now (out .entry)) ⌝ }
+    ensures { λ r. ⌜ finished (r .row) (r .next) (endResult (r .bench) (output (r .length) (now (out .exit)))) ≡ finishOf b (now (rest .entry)) (now (out .entry)) ⌝ }
 {
     if out.len() < ROOM {
         return idle(b, 20);
@@ -734,7 +735,7 @@ pub fn finish(b: Bench, rest: &[u8], out: &mut [u8]) -> StepResult
 
 fn finished_by(b: Bench, rest: &[u8], out: &mut [u8]) -> Printed
     requires { ⌜ 65536 ≤ length (now out) ⌝ }
-    ensures { λ r. ⌜ said (r .bench) (output (r .length) (now (out .exit))) ≡ finishBy (b .phase) b (now (rest .entry)) (now (out .entry)) ⌝ }
+    ensures { λ r. ⌜ endResult (r .bench) (output (r .length) (now (out .exit))) ≡ finishBy (b .phase) b (now (rest .entry)) (now (out .entry)) ⌝ }
 {
     let phase = b.phase;
     let l = b.line;

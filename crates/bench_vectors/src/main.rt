@@ -15,7 +15,7 @@ fn room() -> [u8; 524288]
     [0; 524288]
 }
 
-// Whether the bench prints just this for a text, which is one block with the end of the input behind it. An output that the room is too small for differs.
+// Whether the bench prints just this for a text, which is one block with the end of the input after it. An output that the room is too small for differs.
 fn agrees(text: &[u8], expected: &[u8], out: &mut [u8]) -> bool {
     let mut statistics = [0.0f64; 75];
     let mut last_shingled_input = [0.0f32; 256];

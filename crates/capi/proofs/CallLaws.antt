@@ -7,7 +7,7 @@ use native.Mathlib.Omega.{arith}
 use lib.ListN.{length}
 use lib.Ieee.{Float}
 use borrow.Author.Tests.{lt-ltb, le-ltb}
-use Rattle.common.specs.Lent.{over}
+use Rattle.refusal.specs.Lent.{over}
 use Rattle.trcf.specs.Settings.{Settings, settingsRow}
 use Rattle.trcf.specs.Calls.{Call, Learn, Forecast}
 use Rattle.trcf.specs.Preprocessor.{accepted}
@@ -18,14 +18,14 @@ use Rattle.trcf.specs.declared.types.ForestMode.{ForestMode}
 use Rattle.trcf.specs.declared.head.Preprocessor.{Preprocessor}
 use Rattle.trcf.specs.declared.head.StatusAnswer.{StatusAnswer}
 use Rattle.trcf.proofs.OutcomeLaws.{accepted-not, orElse-is}
-use Rattle.snapshot.specs.Save.{saveOf, outcome as saved}
-use Rattle.capi.specs.Head.{headOf, wordsOf, countsOver, kindRow, shortRow}
-use Rattle.capi.specs.Steps.Reading.{Read}
+use Rattle.snapshot.specs.Save.{saveOf, saveOutcome as saved}
+use Rattle.capi.specs.Head.{headOf, wordsOf, countsOver, kindRow, wordsShortRow}
+use Rattle.capi.specs.Steps.Reading.{HeadRead}
 use Rattle.access.specs.declared.rights.Right.{Right}
 use Rattle.access.specs.declared.rights.Right.the-variants.{SEE, LEARN, SAVE}
 use Rattle.access.specs.Access.{needs, granted, guarded}
-use Rattle.access.specs.Entries.{pointBy, learnBy, drainBy, writeBy, extrapolationBy, saveBy, numbersOf, numbersBy, untold}
-use Rattle.capi.specs.Calls.{openRow, onHead, flag, called, drainTold, drainAt, buildTold, buildAt, pointCalled, pointTold, pointAt, Anomaly, anomaly}
+use Rattle.access.specs.Entries.{pointBy, learnBy, drainBy, writeBy, extrapolationBy, saveBy, statusNumbers, numbersBy, withheldStatus}
+use Rattle.capi.specs.Calls.{openRow, onHead, flag, called, drainTold, drainAt, buildTold, buildAt, pointCalled, pointTold, pointAt, AnomalyOut, anomalyOut}
 use Rattle.capi.specs.Calls.{learnCalled, learnTold, learnAt, writeAt, extrapolationAt, saveTold, saveAt, ListGot, listGot, listTold, numbersTold, numbersAt, codesAt}
 
 module _ {A : Type 0} where
@@ -72,7 +72,7 @@ module _ (t : List ℕ) (role : ℕ) (w : List ℕ) {n : ℕ} where
   point-refused e l x ts g out z =
       refused (granted t role (SEE ∷ LEARN ∷ [])) w (pointTold w g (pointAfter (headOf w) l x ts out)) (λ (r : ℕ). pointCalled r w l g out) n e z
 
-  pub learn-refused : n ≡ openRow (granted t role (LEARN ∷ [])) w → (l : Lent) (a : Anomaly) (c : Learn) → (n ≡ 0 → ⊥)
+  pub learn-refused : n ≡ openRow (granted t role (LEARN ∷ [])) w → (l : Lent) (a : AnomalyOut) (c : Learn) → (n ≡ 0 → ⊥)
       → learnCalled n w l a (c .deviationsOut) (c .pastOut) (c .expectedOut) ≡ learnAt t role w l a c
   unfolding learnAt
   learn-refused e l a c z =
@@ -94,13 +94,13 @@ module _ (t : List ℕ) (role : ℕ) (w : List ℕ) {n : ℕ} where
 
   pub numbers-refused : n ≡ openRow (granted t role (SEE ∷ [])) w → (out : List ℕ) → (n ≡ 0 → ⊥) → listGot n out ≡ numbersAt t role w out
   unfolding numbersAt
-  numbers-refused e out z = refused (granted t role (SEE ∷ [])) w (listTold (numbersTold (numbersOf (headOf w))) out) (λ (r : ℕ). listGot r out) n e z
+  numbers-refused e out z = refused (granted t role (SEE ∷ [])) w (listTold (numbersTold (statusNumbers (headOf w))) out) (λ (r : ℕ). listGot r out) n e z
 
   pub codes-refused : n ≡ openRow (granted t role (SEE ∷ [])) w → (out : List ℕ) → (n ≡ 0 → ⊥) → listGot n out ≡ codesAt t role w out
   unfolding codesAt
   codes-refused e out z = refused (granted t role (SEE ∷ [])) w (listTold (settingsOf (headOf w) .codes) out) (λ (r : ℕ). listGot r out) n e z
 
-  module _ {h : Preprocessor} (z : n ≡ 0) (read : n ≡ 0 → Read w h) where
+  module _ {h : Preprocessor} (z : n ≡ 0) (read : n ≡ 0 → HeadRead w h) where
     pub drain-done : n ≡ openRow (granted t role (LEARN ∷ [])) w → (l : Lent) {row : ℕ} {next : Preprocessor} {l' : Lent} {w' : List ℕ}
         → outcome row next l' ≡ drainBy t role h l → w' ≡ accepted row (countsOver w next) w → called row w' l' ≡ drainAt t role w l
     unfolding drainAt
@@ -123,14 +123,14 @@ module _ (t : List ℕ) (role : ℕ) (w : List ℕ) {n : ℕ} where
         ∙ done (granted t role (SEE ∷ LEARN ∷ [])) w (pointTold w g (pointAfter (headOf w) l x ts out)) (λ (r : ℕ). pointCalled r w l g out) n e z
 
     pub learn-done : n ≡ openRow (granted t role (LEARN ∷ [])) w
-        → (l : Lent) (a : Anomaly) (c c' : Learn) {row : ℕ} {u b : Bool} {ts : ℕ} {k : Float} {next : Preprocessor} {l' : Lent} {dv ps ex : List Float} {w' : List ℕ} {u' b' t' f g : ℕ} {k' : Float}
+        → (l : Lent) (a : AnomalyOut) (c c' : Learn) {row : ℕ} {u b : Bool} {ts : ℕ} {k : Float} {next : Preprocessor} {l' : Lent} {dv ps ex : List Float} {w' : List ℕ} {u' b' t' f g : ℕ} {k' : Float}
         → learnOutcome row u b ts k next l' dv ps ex ≡ learnBy t role h l c' → c' ≡ c → w' ≡ accepted row (countsOver w next) w
         → f ≡ flag u → u' ≡ accepted row f (a .written) → g ≡ flag b → b' ≡ accepted row g (a .hasAnomaly)
         → t' ≡ accepted row ts (a .pastTimestamp) → k' ≡ accepted row k (a .likelihood)
-        → learnCalled row w' l' (anomaly u' b' t' k') dv ps ex ≡ learnAt t role w l a c
+        → learnCalled row w' l' (anomalyOut u' b' t' k') dv ps ex ≡ learnAt t role w l a c
     unfolding learnAt
     learn-done e l a c c' {row} {u} {b} {ts} {k} {next} {l'} {dv} {ps} {ex} {w'} {u'} {b'} {t'} {f} {g} {k'} p s q fu pu fb pb pt pk =
-        (λ j. learnCalled row (q j) l' (anomaly ((pu ∙ ap (λ (v : ℕ). accepted row v (a .written)) fu) j) ((pb ∙ ap (λ (v : ℕ). accepted row v (a .hasAnomaly)) fb) j) (pt j) (pk j)) dv ps ex)
+        (λ j. learnCalled row (q j) l' (anomalyOut ((pu ∙ ap (λ (v : ℕ). accepted row v (a .written)) fu) j) ((pb ∙ ap (λ (v : ℕ). accepted row v (a .hasAnomaly)) fb) j) (pt j) (pk j)) dv ps ex)
         ∙ ap (learnTold w a)
         (p ∙ below t role (LEARN ∷ []) w n e z (learnAfter h l c') (learnNothing 22 h l c') ∙ (λ j. learnAfter (read z .is j) l (s j)))
         ∙ done (granted t role (LEARN ∷ [])) w (learnTold w a (learnAfter (headOf w) l c)) (λ (r : ℕ). learnCalled r w l a (c .deviationsOut) (c .pastOut) (c .expectedOut)) n e z
@@ -165,8 +165,8 @@ module _ (t : List ℕ) (role : ℕ) (w : List ℕ) {n : ℕ} where
     unfolding numbersAt
     numbers-done e out i p =
         p
-        ∙ ap (λ (x : StatusAnswer). listTold (numbersTold x) out) (i ∙ below t role (SEE ∷ []) w n e z (numbersOf h) untold ∙ ap numbersOf (read z .is))
-        ∙ done (granted t role (SEE ∷ [])) w (listTold (numbersTold (numbersOf (headOf w))) out) (λ (r : ℕ). listGot r out) n e z
+        ∙ ap (λ (x : StatusAnswer). listTold (numbersTold x) out) (i ∙ below t role (SEE ∷ []) w n e z (statusNumbers h) withheldStatus ∙ ap statusNumbers (read z .is))
+        ∙ done (granted t role (SEE ∷ [])) w (listTold (numbersTold (statusNumbers (headOf w))) out) (λ (r : ℕ). listGot r out) n e z
 
     pub codes-done : n ≡ openRow (granted t role (SEE ∷ [])) w → (cs out : List ℕ) {o : ListGot} → cs ≡ settingsOf h .codes → o ≡ listTold cs out → o ≡ codesAt t role w out
     unfolding codesAt
@@ -205,35 +205,35 @@ settingsWith mode method d k start stop decay weightTime weights codes =
 
 module _ (mode method : ℕ) (s : Settings) (w : List ℕ) (l : Lent) where
   abbrev rowOf : ℕ
-  rowOf = orElse (kindRow mode method) (orElse (settingsRow s) (shortRow w))
+  rowOf = orElse (kindRow mode method) (orElse (settingsRow s) (wordsShortRow w))
 
   build-row : (n : ℕ) → n ≡ rowOf → (n ≡ 0 → ⊥) → called n w l ≡ buildAt mode method s w l
   unfolding buildAt
   build-row n e z = ap (λ (r : ℕ). called r w l) e ∙ sym (accepted-not rowOf (buildTold w (buildOf s l)) (called rowOf w l) (λ q. z (e ∙ q)))
 
   pub build-kind : {n : ℕ} → n ≡ kindRow mode method → (n ≡ 0 → ⊥) → called n w l ≡ buildAt mode method s w l
-  build-kind {n} e z = build-row n (e ∙ sym (orElse-is (kindRow mode method) (orElse (settingsRow s) (shortRow w)) (λ q. z (e ∙ q)))) z
+  build-kind {n} e z = build-row n (e ∙ sym (orElse-is (kindRow mode method) (orElse (settingsRow s) (wordsShortRow w)) (λ q. z (e ∙ q)))) z
 
   module _ {k : ℕ} (ke : k ≡ kindRow mode method) (kz : k ≡ 0) where
     pub build-settings : {n : ℕ} → n ≡ settingsRow s → (n ≡ 0 → ⊥) → called n w l ≡ buildAt mode method s w l
     build-settings {n} e z =
         build-row n
-        (e ∙ sym (orElse-is (settingsRow s) (shortRow w) (λ q. z (e ∙ q))) ∙ ap (λ (r : ℕ). orElse r (orElse (settingsRow s) (shortRow w))) (sym kz ∙ ke))
+        (e ∙ sym (orElse-is (settingsRow s) (wordsShortRow w) (λ q. z (e ∙ q))) ∙ ap (λ (r : ℕ). orElse r (orElse (settingsRow s) (wordsShortRow w))) (sym kz ∙ ke))
         z
 
     module _ {r : ℕ} (re : r ≡ settingsRow s) (rz : r ≡ 0) where
       not-none : _≡_ {A = ℕ} 20 0 → ⊥
       not-none q = absurd (omega (arith, q))
 
-      all-but : shortRow w ≡ rowOf
+      all-but : wordsShortRow w ≡ rowOf
       all-but =
-          ap (λ (m : ℕ). orElse m (shortRow w)) (sym rz ∙ re)
-          ∙ ap (λ (m : ℕ). orElse m (orElse (settingsRow s) (shortRow w))) (sym kz ∙ ke)
+          ap (λ (m : ℕ). orElse m (wordsShortRow w)) (sym rz ∙ re)
+          ∙ ap (λ (m : ℕ). orElse m (orElse (settingsRow s) (wordsShortRow w))) (sym kz ∙ ke)
 
-      pub build-few : shortRow w ≡ 20 → called 20 w l ≡ buildAt mode method s w l
+      pub build-few : wordsShortRow w ≡ 20 → called 20 w l ≡ buildAt mode method s w l
       build-few e = build-row 20 (sym e ∙ all-but) not-none
 
-      pub build-done : shortRow w ≡ 0 → {row : ℕ} {next : Preprocessor} {l' : Lent} {w' : List ℕ}
+      pub build-done : wordsShortRow w ≡ 0 → {row : ℕ} {next : Preprocessor} {l' : Lent} {w' : List ℕ}
           → outcome row next l' ≡ buildOf s l → w' ≡ accepted row (over w (wordsOf next)) w → called row w' l' ≡ buildAt mode method s w l
       unfolding buildAt
       build-done e {row} {next} {l'} {w'} p q =

@@ -7,17 +7,17 @@ use lib.Ieee.{nan, binary64, ofBits, toBits, le}
 use Rattle.common.specs.Deviation.{outsideUnit}
 use Rattle.trcf.specs.Transformer.{one32}
 use Rattle.trcf.specs.Settings.{settingsRow, allOne, block, dimension, waiting}
-use Rattle.trcf.specs.View.{headFrom, headRow, misfit, ownRow, readyOf, outsideRow}
+use Rattle.trcf.specs.View.{headFrom, headRow, countersUnfit, ownRow, readyOf, outsideRow}
 use Rattle.trcf.specs.declared.types.TransformMethod.the-variants.{NORMALIZE}
 use Rattle.trcf.specs.declared.types.ForestMode.the-variants.{«TIME_AUGMENTED»}
 use Rattle.trcf.specs.declared.head.Preprocessor.{Preprocessor}
-use Rattle.common.specs.Lent.{over}
+use Rattle.refusal.specs.Lent.{over}
 use Rattle.access.specs.Access.{granted, everyRight}
-use Rattle.capi.specs.Head.{headOf, numbersOf, frontOf, wordsOf, formRow, wordsRow, single}
+use Rattle.capi.specs.Head.{headOf, headNumbers, frontOf, wordsOf, formRow, wordsRow, single}
 use Rattle.capi.specs.Calls.{openRow, onHead, listGot, listTold, numbersAt, codesAt}
 
 all : Unit {0}
-unfolding wordsOf frontOf numbersOf headOf formRow wordsRow outsideRow misfit ownRow readyOf waiting openRow onHead listTold numbersAt codesAt granted headRow dimension block settingsRow allOne outsideUnit over toBits ofBits le
+unfolding wordsOf frontOf headNumbers headOf formRow wordsRow outsideRow countersUnfit ownRow readyOf waiting openRow onHead listTold numbersAt codesAt granted headRow dimension block settingsRow allOne outsideUnit over toBits ofBits le
 all = tt
 
 abbrev sample : Preprocessor
@@ -100,7 +100,7 @@ example-start : wordsRow (set words 4 21) ≡ 7
 unfolding all
 example-start = refl
 
--- a code of 17 bits, also behind the d in use
+-- a code of 17 bits, also after the d in use
 example-code : wordsRow (set words 28 65536) ≡ 19
 unfolding all
 example-code = refl
@@ -109,7 +109,7 @@ example-code-behind : wordsRow (set words 43 65536) ≡ 19
 unfolding all
 example-code-behind = refl
 
--- the codes, told: in a list of just their number, in a longer one, which keeps what lies behind, and in one too short
+-- the codes, told: in a list of just their number, in a longer one, which keeps what lies past them, and in one too short
 example-codes : codesAt everyRight 0 words (7 ∷ 7 ∷ []) ≡ listGot 0 (12 ∷ 65535 ∷ [])
 unfolding all
 example-codes = refl

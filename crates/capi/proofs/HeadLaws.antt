@@ -11,7 +11,7 @@ use lib.Ieee.{Float, binary32, binary64, ofBits, toBits}
 use lib.Ieee.Bits.{ofBits-toBits}
 use borrow.Author.Tests.{lt-ltb, le-ltb, ltb-false}
 use borrow.Rule.Slice.PartMut.{putMid}
-use Rattle.common.specs.Lent.{over}
+use Rattle.refusal.specs.Lent.{over}
 use Rattle.trcf.specs.Types.{methodNumber}
 use Rattle.trcf.specs.Settings.{codeMax}
 use Rattle.snapshot.specs.Read.{allCodes}
@@ -24,8 +24,9 @@ use Rattle.trcf.specs.declared.types.ForestMode.{ForestMode}
 use Rattle.trcf.specs.declared.types.ForestMode.the-variants.{STANDARD, «TIME_AUGMENTED», «STREAMING_IMPUTE», «GAP_AUGMENTED»}
 use Rattle.trcf.specs.declared.head.Preprocessor.{Preprocessor}
 use Rattle.trcf.proofs.OutcomeLaws.{orElse-is}
-use Rattle.capi.specs.Head.{modeNumber, modeOf, methodOf, kindRow, codesRow, single, codesIn, headOf, numbersOf, frontOf, wordsOf, countsOver, shortRow as fewRow, formRow, wordsRow, Held}
-use Rattle.capi.specs.Steps.Reading.{Read}
+use Rattle.capi.specs.Head.{modeNumber, modeOf, methodOf, kindRow, codesRow, single, codesIn, headOf, headNumbers, frontOf, wordsOf, countsOver, wordsShortRow as fewRow, formRow, wordsRow}
+use Rattle.capi.specs.Head.{HeadFits}
+use Rattle.capi.specs.Steps.Reading.{HeadRead}
 use Rattle.capi.proofs.WordLaws.{mode-back, method-back, single-back, singles-back}
 
 -- ---- reading
@@ -58,10 +59,10 @@ pub head-made : (w : List ℕ) {mode : ForestMode} {method : TransformMethod} {d
 unfolding headOf
 head-made w a b c d e f = λ j. headBy (a j) (b j) (c j) (d j) (e j) (f j) w
 
--- ---- what is written is read back, whatever lies behind it
+-- ---- what is written is read back, whatever lies after it
 
-pub head-back : (h : Preprocessor) → Held h → (rest : List ℕ) → headOf (wordsOf h ++ rest) ≡ h
-unfolding headOf wordsOf frontOf numbersOf
+pub head-back : (h : Preprocessor) → HeadFits h → (rest : List ℕ) → headOf (wordsOf h ++ rest) ≡ h
+unfolding headOf wordsOf frontOf headNumbers
 head-back h g rest =
     λ j. record {
       transformer = record {
@@ -172,7 +173,7 @@ formed w z = go (ltb (length w) 44) refl (ltb 3 (getD w 0 0) || ltb 5 (getD w 1 
     go false e false r = (ltb-false (length w) 44 e, all-codes (codesIn w) refl r)
 
 -- a head that was read has sixteen codes
-pub read-codes : {w : List ℕ} {h : Preprocessor} → Read w h → length (h .codes) ≡ 16
+pub read-codes : {w : List ℕ} {h : Preprocessor} → HeadRead w h → length (h .codes) ≡ 16
 unfolding headOf
 read-codes {w} {h} r = ap (λ (x : Preprocessor). length (x .codes)) (r .is) ∙ length-take-le 16 (drop 28 w) (omega (arith, length-drop 28 w, r .whole))
 
@@ -201,17 +202,17 @@ twelve (x₀ ∷ x₁ ∷ x₂ ∷ x₃ ∷ x₄ ∷ x₅ ∷ x₆ ∷ x₇ ∷ 
 pub numbers-stored : (w : List ℕ) (h : Preprocessor) {a b g i : ℕ} → 12 ≤ length w
     → a ≡ modeNumber (h .«forest_mode») → b ≡ methodNumber (h .transformer .«transform_method») → g ≡ toBits binary64 (h .transformer .«transform_decay») → i ≡ toBits binary32 (h .«weight_time»)
     → set (set (set (set (set (set (set (set (set (set (set (set w 0 a) 1 b) 2 (h .transformer .«input_length»)) 3 (h .«shingle_size»)) 4 (h .«start_normalization»)) 5 (h .«stop_normalization»)) 6 g) 7 i) 8 (h .«values_seen»)) 9 (h .«internal_timestamp»)) 10 (h .transformer .count)) 11 (h .«initial_len»)
-    ≡ over w (numbersOf h)
-unfolding over numbersOf
+    ≡ over w (headNumbers h)
+unfolding over headNumbers
 numbers-stored w h {a} {b} {g} {i} n p q r s =
     twelve w a b (h .transformer .«input_length») (h .«shingle_size») (h .«start_normalization») (h .«stop_normalization») g i (h .«values_seen») (h .«internal_timestamp») (h .transformer .count) (h .«initial_len») n
     ∙ (λ j. p j ∷ q j ∷ h .transformer .«input_length» ∷ h .«shingle_size» ∷ h .«start_normalization» ∷ h .«stop_normalization» ∷ r j ∷ s j ∷ h .«values_seen» ∷ h .«internal_timestamp» ∷ h .transformer .count ∷ h .«initial_len» ∷ drop 12 w)
 
-pub numbers-length : (w w' : List ℕ) (h : Preprocessor) → w' ≡ over w (numbersOf h) → 44 ≤ length w → length w' ≡ length w
-unfolding over numbersOf
+pub numbers-length : (w w' : List ℕ) (h : Preprocessor) → w' ≡ over w (headNumbers h) → 44 ≤ length w → length w' ≡ length w
+unfolding over headNumbers
 numbers-length w w' h e n = ap length e ∙ omega (arith, length-drop 12 w)
 
--- a list laid over the front, and one behind it: the one and then the other
+-- a list laid over the front, and one after it: the one and then the other
 behind : (w p v : List ℕ) (a n : ℕ) → length p ≡ a → length v ≡ n → putMid a n (over w p) v ≡ over w (p ++ v)
 unfolding over
 behind w p v a n e f =
@@ -220,30 +221,30 @@ behind w p v a n e f =
     ∙ ap (λ (r : List ℕ). p ++ (v ++ r)) (drop-drop n (length p) w ∙ ap (λ (k : ℕ). drop k w) (ap (λ (m : ℕ). length p + m) (sym f) ∙ sym (length-append p v)))
     ∙ sym (append-assoc p v (drop (length (p ++ v)) w))
 
-twelve-numbers : (h : Preprocessor) → length (numbersOf h) ≡ 12
-unfolding numbersOf
+twelve-numbers : (h : Preprocessor) → length (headNumbers h) ≡ 12
+unfolding headNumbers
 twelve-numbers h = refl
 
--- the weights behind the numbers
-pub weights-stored : (w w' : List ℕ) (h : Preprocessor) (v : List ℕ) → w' ≡ over w (numbersOf h) → v ≡ map (toBits binary32) (h .transformer .weights) → length v ≡ 16
+-- the weights after the numbers
+pub weights-stored : (w w' : List ℕ) (h : Preprocessor) (v : List ℕ) → w' ≡ over w (headNumbers h) → v ≡ map (toBits binary32) (h .transformer .weights) → length v ≡ 16
     → putMid 12 16 w' v ≡ over w (frontOf h)
 unfolding frontOf
 weights-stored w w' h v e p n =
     ap (λ (u : List ℕ). putMid 12 16 u v) e
-    ∙ behind w (numbersOf h) v 12 16 (twelve-numbers h) n
-    ∙ ap (λ (u : List ℕ). over w (numbersOf h ++ u)) p
+    ∙ behind w (headNumbers h) v 12 16 (twelve-numbers h) n
+    ∙ ap (λ (u : List ℕ). over w (headNumbers h ++ u)) p
 
 front-length : (h : Preprocessor) → length (h .transformer .weights) ≡ 16 → length (frontOf h) ≡ 28
 unfolding frontOf
 front-length h e =
     let v = map (toBits binary32) (h .transformer .weights) in
-    omega (arith, length-append (numbersOf h) v, twelve-numbers h, length-map (h .transformer .weights) (toBits binary32), e)
+    omega (arith, length-append (headNumbers h) v, twelve-numbers h, length-map (h .transformer .weights) (toBits binary32), e)
 
 pub front-kept : (w w' : List ℕ) (h : Preprocessor) → length (h .transformer .weights) ≡ 16 → w' ≡ over w (frontOf h) → 44 ≤ length w → length w' ≡ length w
 unfolding over
 front-kept w w' h e p n = ap length p ∙ omega (arith, length-append (frontOf h) (drop (length (frontOf h)) w), length-drop (length (frontOf h)) w, front-length h e)
 
--- and the codes behind the front
+-- and the codes after the front
 pub codes-stored : (w w' : List ℕ) (h : Preprocessor) (v : List ℕ) → length (h .transformer .weights) ≡ 16 → w' ≡ over w (frontOf h) → v ≡ h .codes → length v ≡ 16
     → putMid 28 16 w' v ≡ over w (wordsOf h)
 unfolding wordsOf
@@ -271,20 +272,20 @@ method-known «NORMALIZE_DIFFERENCE» = refl
 kind-known : (m : ForestMode) (t : TransformMethod) → 0 ≡ kindRow (modeNumber m) (methodNumber t)
 kind-known m t = sym (ap (λ (b : Bool). cond (b || ltb 5 (methodNumber t)) 19 0) (mode-known m) ∙ ap (λ (b : Bool). cond b 19 0) (method-known t))
 
-whole-words : (h : Preprocessor) → Held h → (rest : List ℕ) → 44 ≤ length (wordsOf h ++ rest)
+whole-words : (h : Preprocessor) → HeadFits h → (rest : List ℕ) → 44 ≤ length (wordsOf h ++ rest)
 unfolding wordsOf
 whole-words h g rest =
     omega (arith, length-append (frontOf h ++ h .codes) rest, length-append (frontOf h) (h .codes), front-length h (g .sixteen), g .sixteenCodes)
 
 -- the codes of a head stand in their words
-codes-known : (h : Preprocessor) → Held h → (rest : List ℕ) → 0 ≡ codesRow (codesIn (wordsOf h ++ rest))
+codes-known : (h : Preprocessor) → HeadFits h → (rest : List ℕ) → 0 ≡ codesRow (codesIn (wordsOf h ++ rest))
 unfolding headOf
 codes-known h g rest =
     let e : codesIn (wordsOf h ++ rest) ≡ h .codes = ap (λ (x : Preprocessor). x .codes) (head-back h g rest) in
     sym (ap codesRow e ∙ ap (λ (b : Bool). cond b 0 19) (to-codes (h .codes) (g .codesFit)))
 
-pub in-use : (h : Preprocessor) → Held h → outsideRow h ≡ 0 → (rest : List ℕ) → wordsRow (wordsOf h ++ rest) ≡ 0
-unfolding wordsOf frontOf numbersOf
+pub in-use : (h : Preprocessor) → HeadFits h → outsideRow h ≡ 0 → (rest : List ℕ) → wordsRow (wordsOf h ++ rest) ≡ 0
+unfolding wordsOf frontOf headNumbers
 in-use h g e rest =
     let w = wordsOf h ++ rest in
     let z = form-codes w 0 (whole-words h g rest) (kind-known (h .«forest_mode») (h .transformer .«transform_method»)) refl 0 (codes-known h g rest) in
@@ -292,5 +293,5 @@ in-use h g e rest =
 
 pub counts-in-words : (h : Preprocessor) (rest : List ℕ) (count seen internal n : ℕ)
     → countsOver (wordsOf h ++ rest) (counting h count seen internal n) ≡ wordsOf (counting h count seen internal n) ++ rest
-unfolding countsOver wordsOf frontOf numbersOf
+unfolding countsOver wordsOf frontOf headNumbers
 counts-in-words h rest count seen internal n = refl

@@ -6,7 +6,7 @@ use mathlib.Core.List.{List, [], _∷_, _++_}
 use mathlib.Core.Path.{_≡_, refl, sym, ap, _∙_}
 use lib.ListN.{length}
 use lib.Ieee.{Float}
-use Rattle.common.specs.Lent.{over}
+use Rattle.refusal.specs.Lent.{over}
 use Rattle.trcf.specs.Settings.{waiting}
 use Rattle.trcf.specs.Calls.{Learn, drain, shingledPoint, postProcess}
 use Rattle.trcf.specs.Preprocessor.{State, Answer, refused, absent, done, wrote, learnt, turned, told, accepted, change, reply, reading, drained, pointOf}
@@ -15,8 +15,8 @@ use Rattle.trcf.specs.declared.head.Preprocessor.{Preprocessor}
 use Rattle.access.specs.declared.rights.Right.{Right}
 use Rattle.access.specs.declared.rights.Right.the-variants.{SEE, LEARN}
 use Rattle.access.specs.Access.{granted}
-use Rattle.capi.specs.Head.{headOf, wordsOf, countsOver, Held}
-use Rattle.capi.specs.Calls.{openRow, flag, called, drainTold, drainAt, pointCalled, pointTold, pointAt, Anomaly, learnCalled, anomalyTold, learnTold, learnAt}
+use Rattle.capi.specs.Head.{headOf, wordsOf, countsOver, HeadFits}
+use Rattle.capi.specs.Calls.{openRow, flag, called, drainTold, drainAt, pointCalled, pointTold, pointAt, AnomalyOut, learnCalled, anomalyTold, learnTold, learnAt}
 use Rattle.capi.proofs.HeadLaws.{head-back, in-use, counts-in-words}
 use Rattle.capi.proofs.CallLaws.{done as answered}
 
@@ -72,7 +72,7 @@ learn-head b k c (told a) = refl
 -- ---- the calls that change a preprocessor
 
 -- by a role that has the rights
-module _ (table : List ℕ) (role : ℕ) (h : Preprocessor) (held : Held h) (good : outsideRow h ≡ 0) (rest : List ℕ) where
+module _ (table : List ℕ) (role : ℕ) (h : Preprocessor) (held : HeadFits h) (good : outsideRow h ≡ 0) (rest : List ℕ) where
   opens : (rs : List Right) → granted table role rs ≡ true → 0 ≡ openRow (granted table role rs) (wordsOf h ++ rest)
   unfolding openRow
   opens rs e = rw e (sym (in-use h held good rest))
@@ -100,7 +100,7 @@ module _ (table : List ℕ) (role : ℕ) (h : Preprocessor) (held : Held h) (goo
       ∙ ap (λ (u : List ℕ). pointCalled (o .row) u (o .lent) (accepted (o .row) (flag (o .given)) g) (o .out))
       (words-after h rest (change (view h l) c) (point-row (headAfter h l c) (lentAfter h l c) h l x t out (rowOf h l c)) (point-head (headAfter h l c) (lentAfter h l c) out (answerOf h l c)))
 
-  pub learn-in-words : granted table role (LEARN ∷ []) ≡ true → (l : Lent) (a : Anomaly) (c : Learn)
+  pub learn-in-words : granted table role (LEARN ∷ []) ≡ true → (l : Lent) (a : AnomalyOut) (c : Learn)
       → learnAt table role (wordsOf h ++ rest) l a c
       ≡ learnCalled (learnAfter h l c .row) (wordsOf (learnAfter h l c .head) ++ rest) (learnAfter h l c .lent) (anomalyTold a (learnAfter h l c))
       (learnAfter h l c .deviationsOut) (learnAfter h l c .pastOut) (learnAfter h l c .expectedOut)

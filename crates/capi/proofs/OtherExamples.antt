@@ -3,16 +3,16 @@ use Prim.Native.Nat.{ℕ}
 use mathlib.Core.List.{List, [], _∷_}
 use mathlib.Core.Path.{_≡_, refl}
 use lib.Ieee.{Float, binary32, binary64, ofBits, add, sub, mul, div, ofInt, lt, le, eq}
-use Rattle.common.specs.Lent.{over as over'}
+use Rattle.refusal.specs.Lent.{over as over'}
 use Rattle.common.specs.Deviation.{statistic}
 use Rattle.common.specs.Corrected.{wholeWithin, integerOf, correctionRows, correctedStatistic, correctedOf}
-use Rattle.stranding.specs.Counts.{answer as counted, countsBy, counts, outOfRange, strandingsOf}
+use Rattle.stranding.specs.Counts.{rowCounts as counted, countsBy, counts, outOfRange, strandingsOf}
 use Rattle.stranding.specs.Standing.{afterDrain, afterLearn}
-use Rattle.series.specs.Imputation.{imputation, lineOf, missingOf, imputedAt, byPlace, imputed, misshapen, knownMarks, finitePresent, allFinite, imputeRow, imputeOf}
-use Rattle.common.specs.Lent.{over}
-use Rattle.series.specs.Pairs.{near, turn, pairs}
-use Rattle.series.specs.Gaps.{absolute, sizeOf, larger, largest, sizes, gaps}
-use Rattle.series.specs.Alignment.{answer, readings, outputs, unusable, rowOf, written, alignOf, misshapen as unlike}
+use Rattle.series.specs.Imputation.{imputation, interpolated, missingOf, imputedAt, byPlace, imputed, cellsMisshapen, knownMarks, finitePresent, allFinite, imputeRow, imputeOf}
+use Rattle.refusal.specs.Lent.{over}
+use Rattle.series.specs.Pairs.{near, pairStep, pairs}
+use Rattle.series.specs.Gaps.{absolute, differenceSize, larger, largest, differenceSizes, gaps}
+use Rattle.series.specs.Alignment.{alignOutcome, readings, outputs, unusable, alignRow, outputsWritten, alignOf, readingsMisshapen as unlike}
 use Rattle.capi.specs.Counts.{strandingsAt}
 use Rattle.capi.specs.Lists.{imputeAt, alignAt}
 use Rattle.capi.specs.Statistic.{statisticGot, statisticTold, correctedAt}
@@ -22,11 +22,11 @@ unfolding strandingsAt strandingsOf outOfRange counts countsBy afterDrain afterL
 counting = tt
 
 filling : Unit {0}
-unfolding imputeAt imputeOf imputeRow misshapen knownMarks finitePresent allFinite imputed byPlace imputedAt missingOf lineOf ofBits add sub mul div ofInt
+unfolding imputeAt imputeOf imputeRow cellsMisshapen knownMarks finitePresent allFinite imputed byPlace imputedAt missingOf interpolated ofBits add sub mul div ofInt
 filling = tt
 
 comparing : Unit {0}
-unfolding alignAt alignOf rowOf unlike unusable pairs turn near written over gaps sizes sizeOf absolute largest larger ofBits sub lt
+unfolding alignAt alignOf alignRow unlike unusable pairs pairStep near outputsWritten over gaps differenceSizes differenceSize absolute largest larger ofBits sub lt
 comparing = tt
 
 correcting : Unit {0}
@@ -85,16 +85,16 @@ example-no-rule = refl
 
 -- two readings and one: a pair at the second, in outputs one longer; one too short
 example-align : alignAt 1 (readings (two ∷ six ∷ []) (0 ∷ 10 ∷ [])) (readings (four ∷ []) (11 ∷ [])) 1 5 (outputs (7 ∷ 7 ∷ []) (8 ∷ 8 ∷ []) (nine ∷ nine ∷ []))
-    ≡ answer 0 1 (outputs (1 ∷ 7 ∷ []) (0 ∷ 8 ∷ []) (two ∷ nine ∷ []))
+    ≡ alignOutcome 0 1 (outputs (1 ∷ 7 ∷ []) (0 ∷ 8 ∷ []) (two ∷ nine ∷ []))
 unfolding comparing
 example-align = refl
 
 example-align-short : alignAt 1 (readings (two ∷ six ∷ []) (0 ∷ 10 ∷ [])) (readings (four ∷ []) (11 ∷ [])) 1 5 (outputs [] (8 ∷ []) (nine ∷ []))
-    ≡ answer 20 5 (outputs [] (8 ∷ []) (nine ∷ []))
+    ≡ alignOutcome 20 5 (outputs [] (8 ∷ []) (nine ∷ []))
 unfolding comparing
 example-align-short = refl
 
--- of the list 2.0, 6.0 (weight 2, sum 8, squares 40) the 6.0 was a 4.0: sum 6, squares 20, what lies behind is kept; a weight of 3 is refused, and 26 comes
+-- of the list 2.0, 6.0 (weight 2, sum 8, squares 40) the 6.0 was a 4.0: sum 6, squares 20, what lies after is kept; a weight of 3 is refused, and 26 comes
 -- before 20
 abbrev double : ℕ → Float
 double n = ofBits binary64 n

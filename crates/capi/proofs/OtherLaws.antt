@@ -6,10 +6,10 @@ use mathlib.Core.Path.{_≡_, sym, ap, _∙_}
 use lib.Dec.{ltb}
 use lib.Ieee.{Float}
 use Rattle.trcf.specs.Preprocessor.{accepted}
-use Rattle.stranding.specs.Counts.{answer as counted, strandingsOf}
+use Rattle.stranding.specs.Counts.{rowCounts as counted, strandingsOf}
 use Rattle.stranding.specs.declared.StrandingCounts.{StrandingCounts}
 use Rattle.series.specs.Imputation.{Imputation, imputation, imputeOf}
-use Rattle.series.specs.Alignment.{Readings, Outputs, answer, alignOf}
+use Rattle.series.specs.Alignment.{Readings, Outputs, alignOutcome, alignOf}
 use Rattle.series.specs.declared.imputation.ImputationMethod.{ImputationMethod}
 use Rattle.capi.specs.Counts.{strandingsTold, strandingsAt}
 use Rattle.capi.specs.Lists.{imputationMethodOf, imputeAt, alignTold, alignAt}
@@ -34,6 +34,6 @@ module _ (n d : ℕ) (cells : List Float) (marks : List ℕ) (fixed : List Float
   impute-done e i p = p ∙ ap (λ (m : ImputationMethod). imputeOf m d cells marks fixed) i ∙ sym (ap imputeBy e)
 
 pub align-done : (d : ℕ) (l r : Readings) (w n : ℕ) (o : Outputs) {row number n' : ℕ} {o' : Outputs}
-    → answer row number o' ≡ alignOf d l r w o → n' ≡ accepted row number n → answer row n' o' ≡ alignAt d l r w n o
+    → alignOutcome row number o' ≡ alignOf d l r w o → n' ≡ accepted row number n → alignOutcome row n' o' ≡ alignAt d l r w n o
 unfolding alignAt
-align-done d l r w n o {row} {number} {n'} {o'} p q = (λ j. answer row (q j) o') ∙ ap (alignTold n) p
+align-done d l r w n o {row} {number} {n'} {o'} p q = (λ j. alignOutcome row (q j) o') ∙ ap (alignTold n) p

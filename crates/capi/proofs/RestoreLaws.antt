@@ -7,12 +7,12 @@ use mathlib.Core.List.{List, [], _∷_}
 use lib.ListN.{length}
 use lib.Dec.{ltb, eqb}
 use borrow.Author.Tests.{lt-ltb, le-ltb, ltb-false}
-use Rattle.common.specs.Lent.{over}
+use Rattle.refusal.specs.Lent.{over}
 use Rattle.trcf.specs.Preprocessor.{State, accepted, statisticsLength}
 use Rattle.trcf.specs.View.{Lent, lentShort, noHead}
 use Rattle.trcf.specs.declared.head.Preprocessor.{Preprocessor}
 use Rattle.snapshot.specs.Read.{taken, same, read}
-use Rattle.snapshot.specs.Restore.{Outcome, outcome, restored, restoreOf}
+use Rattle.snapshot.specs.Restore.{RestoreOutcome, restoreOutcome, restored, restoreOf}
 use Rattle.snapshot.proofs.RoundTrip.{restored-only}
 use Rattle.capi.specs.Head.{wordsOf}
 use Rattle.access.specs.declared.rights.Right.the-variants.{RESTORE}
@@ -23,11 +23,11 @@ use Rattle.capi.specs.Restore.{RestoreCalled, restoreCalled, nothing, re
 -- ---- by the words
 
 module _ (t cs w : List ℕ) (l : Lent) (line : ℕ) {row bad : ℕ} {h : Preprocessor} {l' : Lent} {n : ℕ} where
-  few : length w < 44 → outcome row bad h l' ≡ restoreOf t cs nothing → n ≡ cond (eqb row 19) bad line → restoreCalled row w l n ≡ restoreInto t cs w l line
+  few : length w < 44 → restoreOutcome row bad h l' ≡ restoreOf t cs nothing → n ≡ cond (eqb row 19) bad line → restoreCalled row w l n ≡ restoreInto t cs w l line
   unfolding restoreInto
   few f p q = rw (lt-ltb (length w) 44 f, sym p) (ap (restoreCalled row w l) q)
 
-  all : {w' : List ℕ} → 44 ≤ length w → outcome row bad h l' ≡ restoreOf t cs l → w' ≡ accepted row (over w (wordsOf h)) w → n ≡ cond (eqb row 19) bad line
+  all : {w' : List ℕ} → 44 ≤ length w → restoreOutcome row bad h l' ≡ restoreOf t cs l → w' ≡ accepted row (over w (wordsOf h)) w → n ≡ cond (eqb row 19) bad line
       → restoreCalled row w' l' n ≡ restoreInto t cs w l line
   unfolding restoreInto
   all f p r q = rw (le-ltb (length w) 44 f, sym p) (λ j. restoreCalled row (r j) l' (q j))
@@ -39,18 +39,18 @@ module _ (table : List ℕ) (role : ℕ) (t cs w : List ℕ) (l : Lent) (line : 
   restore-withheld e = ap (λ (x : Bool). cond x (restoreInto t cs w l line) (restoreCalled 22 w l line)) (sym e ∙ m)
 
   -- what the guarded entry gives is what the one below gives
-  below : b ≡ true → (k : Lent) {o : Outcome} → o ≡ restoreBy table role t cs k → o ≡ restoreOf t cs k
-  below e k p = p ∙ ap (λ (x : Bool). cond x (restoreOf t cs k) (outcome 22 0 noHead k)) (sym m ∙ e)
+  below : b ≡ true → (k : Lent) {o : RestoreOutcome} → o ≡ restoreBy table role t cs k → o ≡ restoreOf t cs k
+  below e k p = p ∙ ap (λ (x : Bool). cond x (restoreOf t cs k) (restoreOutcome 22 0 noHead k)) (sym m ∙ e)
 
   into : b ≡ true → {o : RestoreCalled} → o ≡ restoreInto t cs w l line → o ≡ restoreAt table role t cs w l line
   into e p = p ∙ ap (λ (x : Bool). cond x (restoreInto t cs w l line) (restoreCalled 22 w l line)) (sym e ∙ m)
 
   module _ (e : b ≡ true) {row bad : ℕ} {h : Preprocessor} {l' : Lent} {n : ℕ} where
-    pub restore-few : length w < 44 → outcome row bad h l' ≡ restoreBy table role t cs nothing → n ≡ cond (eqb row 19) bad line
+    pub restore-few : length w < 44 → restoreOutcome row bad h l' ≡ restoreBy table role t cs nothing → n ≡ cond (eqb row 19) bad line
         → restoreCalled row w l n ≡ restoreAt table role t cs w l line
     restore-few f p q = into e (few t cs w l line f (below e nothing p) q)
 
-    pub restore-done : {w' : List ℕ} → 44 ≤ length w → outcome row bad h l' ≡ restoreBy table role t cs l → w' ≡ accepted row (over w (wordsOf h)) w
+    pub restore-done : {w' : List ℕ} → 44 ≤ length w → restoreOutcome row bad h l' ≡ restoreBy table role t cs l → w' ≡ accepted row (over w (wordsOf h)) w
         → n ≡ cond (eqb row 19) bad line → restoreCalled row w' l' n ≡ restoreAt table role t cs w l line
     restore-done f p r q = into e (all t cs w l line f (below e l p) r q)
 

@@ -11,26 +11,14 @@ use lib.ListN.{length, take, getD, set, drop-of-length-le}
 use lib.Seq.{take-suc-set, take-all}
 use lib.Ieee.{Float, nan, inf, fin, Format, binary32, fits, div, isNan, nanBits, ofBits, toBits}
 use lib.Ieee.Bits.{nanBits-is, ofBits-toBits, toBits-lt}
-use Rattle.common.specs.Lent.{over}
+use Rattle.refusal.specs.Lent.{over}
 use Rattle.trcf.specs.Fit.{Fits}
 use Rattle.trcf.specs.Types.{methodNumber}
 use Rattle.trcf.specs.declared.types.TransformMethod.{TransformMethod}
 use Rattle.trcf.specs.declared.types.TransformMethod.the-variants.{NONE, WEIGHTED, DIFFERENCE, «SUBTRACT_MA», NORMALIZE, «NORMALIZE_DIFFERENCE»}
 use Rattle.trcf.specs.declared.types.ForestMode.{ForestMode}
 use Rattle.trcf.specs.declared.types.ForestMode.the-variants.{STANDARD, «TIME_AUGMENTED», «STREAMING_IMPUTE», «GAP_AUGMENTED»}
-use Rattle.snapshot.proofs.HexLaws.{zero-by-zero}
 use Rattle.capi.specs.Head.{modeNumber, modeOf, methodOf, single}
-
--- ---- every pattern of a not-a-number is read as the one
-
-the-nan : (x : Float) → isNan x ≡ true → x ≡ nan
-unfolding isNan
-the-nan nan h = refl
-the-nan (inf s) h = absurd (subst T (sym h) tt)
-the-nan (fin s m e) h = absurd (subst T (sym h) tt)
-
-pub read-nan : (f : Format) (n : ℕ) → nanBits f n ≡ true → div f (ofBits f 0) (ofBits f 0) ≡ ofBits f n
-read-nan f n h = zero-by-zero f ∙ sym (the-nan (ofBits f n) (sym (nanBits-is f n) ∙ h))
 
 -- ---- what is written is read back
 

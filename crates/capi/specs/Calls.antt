@@ -6,7 +6,7 @@ use mathlib.Core.List.{List, [], _∷_}
 use lib.Dec.{eqb, ltb}
 use lib.ListN.{length}
 use lib.Ieee.{Float}
-use Rattle.common.specs.Lent.{over}
+use Rattle.refusal.specs.Lent.{over}
 use Rattle.trcf.specs.Types.{methodNumber}
 use Rattle.trcf.specs.Settings.{Settings, settingsRow}
 use Rattle.trcf.specs.Calls.{Call, Learn, Forecast, shingledPoint, postProcess, drain, invertExtrapolation}
@@ -14,11 +14,11 @@ use Rattle.trcf.specs.Preprocessor.{accepted}
 use Rattle.trcf.specs.View.{Lent, settingsOf, Outcome, orElse, buildOf, drainOf, PointOutcome, pointAfter, LearnOutcome, learnAfter, Written, written, writeOf}
 use Rattle.trcf.specs.Extrapolation.{Extrapolation, extrapolation, extrapolationOf}
 use Rattle.trcf.specs.declared.head.StatusAnswer.{StatusAnswer}
-use Rattle.snapshot.specs.Save.{saveOf, Outcome as Saved, outcome as saved}
+use Rattle.snapshot.specs.Save.{saveOf, SaveOutcome as Saved, saveOutcome as saved}
 use Rattle.access.specs.declared.rights.Right.the-variants.{SEE, SAVE}
 use Rattle.access.specs.Access.{needs, granted}
-use Rattle.access.specs.Entries.{numbersOf}
-use Rattle.capi.specs.Head.{modeNumber, headOf, wordsOf, countsOver, kindRow, shortRow, wordsRow}
+use Rattle.access.specs.Entries.{statusNumbers}
+use Rattle.capi.specs.Head.{modeNumber, headOf, wordsOf, countsOver, kindRow, wordsShortRow, wordsRow}
 
 -- the row before a call: 22 where the role may not, and then nothing of the words is looked at; else the row of the words
 unfoldable pub openRow : Bool → List ℕ → ℕ
@@ -52,13 +52,13 @@ drainTold w o = called (o .row) (accepted (o .row) (countsOver w (o .head)) w) (
 unfoldable pub drainAt : List ℕ → ℕ → List ℕ → Lent → Called
 drainAt table role w l = onHead (granted table role (needs drain)) w (drainTold w (drainOf (headOf w) l)) (λ n. called n w l)
 
--- the whole head is written; its row 20 comes behind the rows of the settings
+-- the whole head is written; its row 20 comes after the rows of the settings
 abbrev pub buildTold : List ℕ → Outcome → Called
 buildTold w o = called (o .row) (accepted (o .row) (over w (wordsOf (o .head))) w) (o .lent)
 
 unfoldable pub buildAt : ℕ → ℕ → Settings → List ℕ → Lent → Called
 buildAt mode method s w l =
-    let n = orElse (kindRow mode method) (orElse (settingsRow s) (shortRow w)) in
+    let n = orElse (kindRow mode method) (orElse (settingsRow s) (wordsShortRow w)) in
     accepted n (buildTold w (buildOf s l)) (called n w l)
 
 -- ---- `shingled_point`: whether a point is given, as a number, and the output
@@ -81,36 +81,36 @@ pointAt table role w l x t g out =
 
 -- ---- `post_process`: whether the deviations are written and whether there is an anomaly, its time and its likelihood
 
-pub record Anomaly : Type 0 where
+pub record AnomalyOut : Type 0 where
   pub written : ℕ
   pub hasAnomaly : ℕ
   pub pastTimestamp : ℕ
   pub likelihood : Float
 
-abbrev pub anomaly : ℕ → ℕ → ℕ → Float → Anomaly
-anomaly w b t p = record { written = w; hasAnomaly = b; pastTimestamp = t; likelihood = p }
+abbrev pub anomalyOut : ℕ → ℕ → ℕ → Float → AnomalyOut
+anomalyOut w b t p = record { written = w; hasAnomaly = b; pastTimestamp = t; likelihood = p }
 
 pub record LearnCalled : Type 0 where
   pub called : Called
-  pub anomaly : Anomaly
+  pub anomaly : AnomalyOut
   pub deviationsOut : List Float
   pub pastOut : List Float
   pub expectedOut : List Float
 
-abbrev pub learnCalled : ℕ → List ℕ → Lent → Anomaly → List Float → List Float → List Float → LearnCalled
+abbrev pub learnCalled : ℕ → List ℕ → Lent → AnomalyOut → List Float → List Float → List Float → LearnCalled
 learnCalled n w l a deviations past expected =
     record { called = called n w l; anomaly = a; deviationsOut = deviations; pastOut = past; expectedOut = expected }
 
-abbrev pub anomalyTold : Anomaly → LearnOutcome → Anomaly
+abbrev pub anomalyTold : AnomalyOut → LearnOutcome → AnomalyOut
 anomalyTold a o =
-    anomaly (accepted (o .row) (flag (o .written)) (a .written)) (accepted (o .row) (flag (o .hasAnomaly)) (a .hasAnomaly))
+    anomalyOut (accepted (o .row) (flag (o .written)) (a .written)) (accepted (o .row) (flag (o .hasAnomaly)) (a .hasAnomaly))
     (accepted (o .row) (o .pastTimestamp) (a .pastTimestamp)) (accepted (o .row) (o .likelihood) (a .likelihood))
 
-abbrev pub learnTold : List ℕ → Anomaly → LearnOutcome → LearnCalled
+abbrev pub learnTold : List ℕ → AnomalyOut → LearnOutcome → LearnCalled
 learnTold w a o =
     learnCalled (o .row) (accepted (o .row) (countsOver w (o .head)) w) (o .lent) (anomalyTold a o) (o .deviationsOut) (o .pastOut) (o .expectedOut)
 
-unfoldable pub learnAt : List ℕ → ℕ → List ℕ → Lent → Anomaly → Learn → LearnCalled
+unfoldable pub learnAt : List ℕ → ℕ → List ℕ → Lent → AnomalyOut → Learn → LearnCalled
 learnAt table role w l a c =
     onHead (granted table role (needs (postProcess c))) w (learnTold w a (learnAfter (headOf w) l c)) (λ n. learnCalled n w l a (c .deviationsOut) (c .pastOut) (c .expectedOut))
 
@@ -158,7 +158,7 @@ numbersTold a =
     ∷ []
 
 unfoldable pub numbersAt : List ℕ → ℕ → List ℕ → List ℕ → ListGot
-numbersAt table role w out = onHead (granted table role (SEE ∷ [])) w (listTold (numbersTold (numbersOf (headOf w))) out) (λ n. listGot n out)
+numbersAt table role w out = onHead (granted table role (SEE ∷ [])) w (listTold (numbersTold (statusNumbers (headOf w))) out) (λ n. listGot n out)
 
 -- the codes of the channels
 unfoldable pub codesAt : List ℕ → ℕ → List ℕ → List ℕ → ListGot

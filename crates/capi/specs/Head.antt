@@ -89,8 +89,8 @@ headOf w =
     }
 
 -- the words before the weights
-unfoldable pub numbersOf : Preprocessor → List ℕ
-numbersOf h =
+unfoldable pub headNumbers : Preprocessor → List ℕ
+headNumbers h =
     modeNumber (h .«forest_mode»)
     ∷ methodNumber (h .transformer .«transform_method»)
     ∷ h .transformer .«input_length»
@@ -107,7 +107,7 @@ numbersOf h =
 
 -- the words before the codes
 unfoldable pub frontOf : Preprocessor → List ℕ
-frontOf h = numbersOf h ++ map (toBits binary32) (h .transformer .weights)
+frontOf h = headNumbers h ++ map (toBits binary32) (h .transformer .weights)
 
 unfoldable pub wordsOf : Preprocessor → List ℕ
 wordsOf h = frontOf h ++ h .codes
@@ -119,8 +119,8 @@ countsOver w h = set (set (set (set w 8 (h .«values_seen»)) 9 (h .«internal_t
 -- ---- the row of words that hold no head that `build` gives: 20 for too few words, 19 for a number that names no mode, no method or no code of a channel,
 -- then the row that `build` gives for the settings
 
-abbrev pub shortRow : List ℕ → ℕ
-shortRow w = cond (ltb (length w) 44) 20 0
+abbrev pub wordsShortRow : List ℕ → ℕ
+wordsShortRow w = cond (ltb (length w) 44) 20 0
 
 -- a code has 16 bits: of a word above 65,535 the text reader's row, 19, and no bit of it is dropped
 abbrev pub codesRow : List ℕ → ℕ
@@ -128,14 +128,14 @@ codesRow v = cond (allCodes v) 0 19
 
 -- words of which no head can be made
 unfoldable pub formRow : List ℕ → ℕ
-formRow w = orElse (shortRow w) (orElse (kindRow (getD w 0 0) (getD w 1 0)) (codesRow (codesIn w)))
+formRow w = orElse (wordsShortRow w) (orElse (kindRow (getD w 0 0) (getD w 1 0)) (codesRow (codesIn w)))
 
 unfoldable pub wordsRow : List ℕ → ℕ
 wordsRow w = orElse (formRow w) (outsideRow (headOf w))
 
 -- ---- a head that the program can hold: an array of 16 weights and one of 16 codes, and numbers of their widths
 
-pub record Held (h : Preprocessor) : Type 0 where
+pub record HeadFits (h : Preprocessor) : Type 0 where
   pub sixteen : length (h .transformer .weights) ≡ 16
   pub weightsFit : Fits binary32 (h .transformer .weights)
   pub decayFits : T (fits binary64 (h .transformer .«transform_decay»))

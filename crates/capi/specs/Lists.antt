@@ -6,7 +6,7 @@ use lib.Dec.{ltb, eqb}
 use lib.Ieee.{Float}
 use Rattle.trcf.specs.Preprocessor.{accepted}
 use Rattle.series.specs.Imputation.{Imputation, imputation, imputeOf}
-use Rattle.series.specs.Alignment.{Readings, Outputs, Answer, answer, alignOf}
+use Rattle.series.specs.Alignment.{Readings, Outputs, AlignOutcome, alignOutcome, alignOf}
 use Rattle.series.specs.declared.imputation.ImputationMethod.{ImputationMethod}
 use Rattle.series.specs.declared.imputation.ImputationMethod.the-variants.{FIXED, PREVIOUS, NEXT, LINEAR}
 
@@ -23,8 +23,8 @@ imputeAt n d cells marks fixed = cond (ltb 3 n) (imputation 19 cells) (imputeOf 
 -- ---- `align`
 
 -- the number of pairs in a lent number, which a refusal leaves
-abbrev pub alignTold : ℕ → Answer → Answer
-alignTold n a = answer (a .row) (accepted (a .row) (a .number) n) (a .outs)
+abbrev pub alignTold : ℕ → AlignOutcome → AlignOutcome
+alignTold n a = alignOutcome (a .row) (accepted (a .row) (a .number) n) (a .outs)
 
-unfoldable pub alignAt : ℕ → Readings → Readings → ℕ → ℕ → Outputs → Answer
+unfoldable pub alignAt : ℕ → Readings → Readings → ℕ → ℕ → Outputs → AlignOutcome
 alignAt d l r w n o = alignTold n (alignOf d l r w o)

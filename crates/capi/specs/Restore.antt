@@ -1,14 +1,14 @@
--- `restore` over lent words: the head into its words, the bad line into its place. Row 20 of too few words stands with row 20 of the lists, behind rows 19
+-- `restore` over lent words: the head into its words, the bad line into its place. Row 20 of too few words stands with row 20 of the lists, after rows 19
 -- and 27; 22 stands before all of them.
 use Prim.Native.Nat.{ℕ}
 use mathlib.Core.Bool.{cond}
 use mathlib.Core.List.{List, [], _∷_}
 use lib.ListN.{length}
 use lib.Dec.{ltb, eqb}
-use Rattle.common.specs.Lent.{over}
+use Rattle.refusal.specs.Lent.{over}
 use Rattle.trcf.specs.Preprocessor.{accepted}
 use Rattle.trcf.specs.View.{Lent, lent}
-use Rattle.snapshot.specs.Restore.{Outcome, restoreOf}
+use Rattle.snapshot.specs.Restore.{RestoreOutcome, restoreOf}
 use Rattle.access.specs.declared.rights.Right.the-variants.{RESTORE}
 use Rattle.access.specs.Access.{guarded}
 use Rattle.capi.specs.Head.{wordsOf}
@@ -22,7 +22,7 @@ pub record RestoreCalled : Type 0 where
 abbrev pub restoreCalled : ℕ → List ℕ → Lent → ℕ → RestoreCalled
 restoreCalled n w l line = record { called = called n w l; line = line }
 
-abbrev pub lineTold : Outcome → ℕ → ℕ
+abbrev pub lineTold : RestoreOutcome → ℕ → ℕ
 lineTold o line = cond (eqb (o .row) 19) (o .line) line
 
 -- lists that are too short for every text

@@ -6,7 +6,7 @@ use mathlib.Core.List.{List, [], _∷_}
 use lib.Dec.{ltb}
 use lib.ListN.{length}
 use lib.Ieee.{Float}
-use Rattle.common.specs.Lent.{over}
+use Rattle.refusal.specs.Lent.{over}
 use Rattle.common.specs.Corrected.{correctedOf}
 use Rattle.common.specs.declared.deviation.Deviation.{Deviation}
 use Rattle.common.specs.declared.deviation.DeviationResult.{DeviationResult}

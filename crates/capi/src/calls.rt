@@ -21,7 +21,7 @@ use trcf_rows::rows::settings_row;
 ghost use mathlib.Core.Path.{_≡_};
 ghost use Rattle.trcf.specs.View.{lent, learnCall};
 ghost use Rattle.capi.specs.Head.{settingsGiven};
-ghost use Rattle.capi.specs.Calls.{called, buildAt, drainAt, pointCalled, pointAt, anomaly, learnCalled, learnAt, isSet};
+ghost use Rattle.capi.specs.Calls.{called, buildAt, drainAt, pointCalled, pointAt, anomalyOut, learnCalled, learnAt, isSet};
 
 // A preprocessor from its settings: the head into its words, zeros into the four lists.
 #[no_mangle]
@@ -201,8 +201,8 @@ pub extern "C" fn veerycouch_post_process(
     past_timestamp: &mut u64,
     likelihood: &mut f32,
 ) -> u64
-    ensures { λ r. ⌜ learnCalled r (now (head .exit)) (lent (now (statistics .exit)) (now («last_shingled_input» .exit)) (now («last_shingled_point» .exit)) (now («previous_timestamps» .exit)) (now («initial_values» .exit)) (now («initial_timestamps» .exit))) (anomaly (now (written .exit)) (now («has_anomaly» .exit)) (now («past_timestamp» .exit)) (now (likelihood .exit))) (now («deviations_out» .exit)) (now («past_out» .exit)) (now («expected_out» .exit))
-        ≡ learnAt (now (table .entry)) role (now (head .entry)) (lent (now (statistics .entry)) (now («last_shingled_input» .entry)) (now («last_shingled_point» .entry)) (now («previous_timestamps» .entry)) (now («initial_values» .entry)) (now («initial_timestamps» .entry))) (anomaly (now (written .entry)) (now («has_anomaly» .entry)) (now («past_timestamp» .entry)) (now (likelihood .entry))) (learnCall (now (input .entry)) timestamp (isSet «has_y») (now (y .entry)) (isSet expects) (now (expected .entry)) grade «relative_index» (now («deviations_out» .entry)) (now («past_out» .entry)) (now («expected_out» .entry))) ⌝ }
+    ensures { λ r. ⌜ learnCalled r (now (head .exit)) (lent (now (statistics .exit)) (now («last_shingled_input» .exit)) (now («last_shingled_point» .exit)) (now («previous_timestamps» .exit)) (now («initial_values» .exit)) (now («initial_timestamps» .exit))) (anomalyOut (now (written .exit)) (now («has_anomaly» .exit)) (now («past_timestamp» .exit)) (now (likelihood .exit))) (now («deviations_out» .exit)) (now («past_out» .exit)) (now («expected_out» .exit))
+        ≡ learnAt (now (table .entry)) role (now (head .entry)) (lent (now (statistics .entry)) (now («last_shingled_input» .entry)) (now («last_shingled_point» .entry)) (now («previous_timestamps» .entry)) (now («initial_values» .entry)) (now («initial_timestamps» .entry))) (anomalyOut (now (written .entry)) (now («has_anomaly» .entry)) (now («past_timestamp» .entry)) (now (likelihood .entry))) (learnCall (now (input .entry)) timestamp (isSet «has_y») (now (y .entry)) (isSet expects) (now (expected .entry)) grade «relative_index» (now («deviations_out» .entry)) (now («past_out» .entry)) (now («expected_out» .entry))) ⌝ }
 {
     let read = open_head(may(table, role, Right::LEARN), head);
     let bad = read.row;

@@ -2,7 +2,7 @@
 use crate::answer::tell;
 use stranding::strandings;
 ghost use mathlib.Core.Path.{_≡_};
-ghost use Rattle.stranding.specs.Counts.{answer};
+ghost use Rattle.stranding.specs.Counts.{rowCounts};
 ghost use Rattle.capi.specs.Counts.{strandingsAt};
 
 // The three numbers, or row 25.
@@ -14,7 +14,7 @@ pub extern "C" fn veerycouch_strandings(
     drained: &mut u64,
     stranded: &mut u64,
 ) -> u64
-    ensures { λ r. ⌜ answer r (now (waiting .exit)) (now (drained .exit)) (now (stranded .exit)) ≡ strandingsAt start calls (now (waiting .entry)) (now (drained .entry)) (now (stranded .entry)) ⌝ }
+    ensures { λ r. ⌜ rowCounts r (now (waiting .exit)) (now (drained .exit)) (now (stranded .exit)) ≡ strandingsAt start calls (now (waiting .entry)) (now (drained .entry)) (now (stranded .entry)) ⌝ }
 {
     let r = strandings(start, calls);
     let row = r.row;

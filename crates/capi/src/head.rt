@@ -2,15 +2,11 @@
 use crate::codes::codes_of;
 use crate::codes::codes_row;
 use crate::codes::write_codes;
-use crate::words::double_bits;
-use crate::words::double_of;
 use crate::words::kind_row;
 use crate::words::method_number;
 use crate::words::method_of;
 use crate::words::mode_number;
 use crate::words::mode_of;
-use crate::words::single_bits;
-use crate::words::single_of;
 use trcf::head::Preprocessor;
 use trcf::head::no_head;
 use trcf::transformer::WeightedTransformer;
@@ -21,12 +17,12 @@ ghost use mathlib.Core.List.{map};
 ghost use Prim.Native.Nat.{_≤_};
 ghost use lib.ListN.{length};
 ghost use lib.Ieee.{binary32, toBits};
-ghost use Rattle.common.specs.Lent.{over};
+ghost use Rattle.refusal.specs.Lent.{over};
 ghost use Rattle.trcf.specs.Preprocessor.{accepted};
 ghost use Rattle.snapshot.specs.Read.{allCodes};
 ghost use Rattle.capi.specs.Calls.{openRow};
-ghost use Rattle.capi.specs.Head.{single, codesIn, headOf, numbersOf, frontOf, wordsOf, countsOver, formRow};
-ghost use Rattle.capi.specs.Steps.Reading.{Read};
+ghost use Rattle.capi.specs.Head.{single, codesIn, headOf, headNumbers, frontOf, wordsOf, countsOver, formRow};
+ghost use Rattle.capi.specs.Steps.Reading.{HeadRead};
 
 fn weights_of(words: &[u64]) -> [f32; 16]
     requires { ⌜ length (now words) ≡ 16 ⌝ }
@@ -35,7 +31,7 @@ fn weights_of(words: &[u64]) -> [f32; 16]
     let mut a = [0.0f32; 16];
     let mut i = 0;
     while i < 16 {
-        a[i] = single_of(words[i]);
+        a[i] = numeric::single_of(words[i]);
         i += 1;
     }
     a
@@ -52,8 +48,8 @@ fn head_of(words: &[u64]) -> Preprocessor
     let k = words[3] as usize;
     let start = words[4] as usize;
     let stop = words[5] as usize;
-    let decay = double_of(words[6]);
-    let weight_time = single_of(words[7]);
+    let decay = numeric::double_of(words[6]);
+    let weight_time = numeric::single_of(words[7]);
     let seen = words[8] as usize;
     let internal = words[9] as usize;
     let count = words[10];
@@ -109,7 +105,7 @@ fn closed_row(allowed: bool, words: &[u64]) -> u64
 // Every export of a preprocessor begins here: `allowed` is what the table says of the role. One place refuses, so that the head is written once.
 pub(crate) fn open_head(allowed: bool, words: &[u64]) -> Reading
     ensures { λ r. ⌜ r .row ≡ openRow allowed (now (words .entry)) ⌝ }
-    ensures { λ r. ⌜ (r .row ≡ 0 → Read (now (words .entry)) (r .head)) ⌝ }
+    ensures { λ r. ⌜ (r .row ≡ 0 → HeadRead (now (words .entry)) (r .head)) ⌝ }
 {
     let closed = closed_row(allowed, words);
     if closed != 0 {
@@ -150,7 +146,7 @@ fn write_weights(words: &mut [u64], weights: &[f32])
 {
     let mut i = 0;
     while i < 16 {
-        words[i] = single_bits(weights[i]);
+        words[i] = numeric::single_bits(weights[i]);
         i += 1;
     }
 }
@@ -158,7 +154,7 @@ fn write_weights(words: &mut [u64], weights: &[f32])
 // The words before the weights.
 fn write_numbers(words: &mut [u64], head: Preprocessor)
     requires { ⌜ 44 ≤ length (now words) ⌝ }
-    ensures { λ _. ⌜ now (words .exit) ≡ over (now (words .entry)) (numbersOf head) ⌝ }
+    ensures { λ _. ⌜ now (words .exit) ≡ over (now (words .entry)) (headNumbers head) ⌝ }
 {
     let t = head.transformer;
     let mode = head.forest_mode;
@@ -169,8 +165,8 @@ fn write_numbers(words: &mut [u64], head: Preprocessor)
     words[3] = head.shingle_size as u64;
     words[4] = head.start_normalization as u64;
     words[5] = head.stop_normalization as u64;
-    words[6] = double_bits(t.transform_decay);
-    words[7] = single_bits(head.weight_time);
+    words[6] = numeric::double_bits(t.transform_decay);
+    words[7] = numeric::single_bits(head.weight_time);
     words[8] = head.values_seen as u64;
     words[9] = head.internal_timestamp as u64;
     words[10] = t.count;

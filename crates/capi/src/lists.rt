@@ -5,7 +5,7 @@ use series::imputation::ImputationMethod;
 use series::imputation::impute;
 ghost use mathlib.Core.Path.{_≡_};
 ghost use Rattle.series.specs.Imputation.{imputation};
-ghost use Rattle.series.specs.Alignment.{readings, outputs, answer};
+ghost use Rattle.series.specs.Alignment.{readings, outputs, alignOutcome};
 ghost use Rattle.capi.specs.Lists.{imputationMethodOf, imputeAt, alignAt};
 
 fn imputation_method_of(n: u64) -> ImputationMethod
@@ -54,7 +54,7 @@ pub extern "C" fn veerycouch_align(
     gaps_out: &mut [f32],
     pairs: &mut u64,
 ) -> u64
-    ensures { λ r. ⌜ answer r (now (pairs .exit)) (outputs (now («left_out» .exit)) (now («right_out» .exit)) (now («gaps_out» .exit)))
+    ensures { λ r. ⌜ alignOutcome r (now (pairs .exit)) (outputs (now («left_out» .exit)) (now («right_out» .exit)) (now («gaps_out» .exit)))
         ≡ alignAt d (readings (now (left .entry)) (now («left_times» .entry))) (readings (now (right .entry)) (now («right_times» .entry))) tolerance (now (pairs .entry)) (outputs (now («left_out» .entry)) (now («right_out» .entry)) (now («gaps_out» .entry))) ⌝ }
 {
     let r = align(

@@ -10,11 +10,11 @@ use access::rights::Right;
 use access::rights::may;
 use access::snapshots::save;
 ghost use mathlib.Core.Path.{_≡_};
-ghost use Rattle.common.specs.RangeVector.{ranges};
+ghost use Rattle.ranges.specs.RangeVector.{ranges};
 ghost use Rattle.trcf.specs.Calls.{transform, scale, shift, status};
 ghost use Rattle.trcf.specs.View.{lent, written};
 ghost use Rattle.trcf.specs.Extrapolation.{extrapolation, forecast};
-ghost use Rattle.snapshot.specs.Save.{outcome};
+ghost use Rattle.snapshot.specs.Save.{saveOutcome};
 ghost use Rattle.capi.specs.Calls.{writeAt, extrapolationAt, saveAt};
 
 // A reading, transformed.
@@ -228,7 +228,7 @@ pub extern "C" fn veerycouch_save(
     length: &mut u64,
     output: &mut [u8],
 ) -> u64
-    ensures { λ r. ⌜ outcome r (now (length .exit)) (now (output .exit)) ≡ saveAt (now (table .entry)) role (now (head .entry)) (lent (now (statistics .entry)) (now («last_shingled_input» .entry)) (now («last_shingled_point» .entry)) (now («previous_timestamps» .entry)) (now («initial_values» .entry)) (now («initial_timestamps» .entry))) (now (length .entry)) (now (output .entry)) ⌝ }
+    ensures { λ r. ⌜ saveOutcome r (now (length .exit)) (now (output .exit)) ≡ saveAt (now (table .entry)) role (now (head .entry)) (lent (now (statistics .entry)) (now («last_shingled_input» .entry)) (now («last_shingled_point» .entry)) (now («previous_timestamps» .entry)) (now («initial_values» .entry)) (now («initial_timestamps» .entry))) (now (length .entry)) (now (output .entry)) ⌝ }
 {
     let read = open_head(may(table, role, Right::SAVE), head);
     let bad = read.row;

@@ -1,51 +1,9 @@
-// A number of the head as a word, and a word as a number: floats by their bits, kinds by their numbers.
+// A kind of the head as a word, and a word as a kind, by their numbers.
 use trcf::types::ForestMode;
 use trcf::types::TransformMethod;
 ghost use mathlib.Core.Path.{_≡_};
-ghost use lib.Ieee.{binary32, binary64, ofBits, toBits};
 ghost use Rattle.trcf.specs.Types.{methodNumber};
-ghost use Rattle.capi.specs.Head.{modeNumber, modeOf, methodOf, kindRow, single};
-
-// `from_bits` and `to_bits` are undefined at a not-a-number, so it is tested for first: every pattern of one is read as the same, and the text's
-// pattern is written.
-pub(crate) fn single_of(n: u64) -> f32
-    ensures { λ r. ⌜ r ≡ single n ⌝ }
-{
-    let b = n % 0x1_0000_0000;
-    if 0x7f80_0000 < b % 0x8000_0000 {
-        let z = 0.0f32;
-        return z / z;
-    }
-    f32::from_bits(b as u32)
-}
-
-pub(crate) fn double_of(n: u64) -> f64
-    ensures { λ r. ⌜ r ≡ ofBits binary64 n ⌝ }
-{
-    if 0x7ff0_0000_0000_0000 < n % 0x8000_0000_0000_0000 {
-        let z = 0.0f64;
-        return z / z;
-    }
-    f64::from_bits(n)
-}
-
-pub(crate) fn single_bits(x: f32) -> u64
-    ensures { λ r. ⌜ r ≡ toBits binary32 x ⌝ }
-{
-    if x != x {
-        return 0x7fc0_0000;
-    }
-    f32::to_bits(x) as u64
-}
-
-pub(crate) fn double_bits(x: f64) -> u64
-    ensures { λ r. ⌜ r ≡ toBits binary64 x ⌝ }
-{
-    if x != x {
-        return 0x7ff8_0000_0000_0000;
-    }
-    f64::to_bits(x)
-}
+ghost use Rattle.capi.specs.Head.{modeNumber, modeOf, methodOf, kindRow};
 
 // Row 19 for a number that names no kind.
 pub(crate) fn kind_row(mode: u64, method: u64) -> u64

@@ -11,8 +11,8 @@ use lib.Ieee.{Float, le, eq}
 use lib.Ieee.Fits.{and-l, and-r}
 use Rattle.common.specs.declared.deviation.Deviation.{Deviation}
 use Rattle.common.specs.declared.deviation.DeviationResult.the-variants.{Ok}
-use Rattle.common.specs.Refusal.{firstOf}
-use Rattle.common.specs.Deviation.{rowOf, answered, zero64}
+use Rattle.refusal.specs.Refusal.{firstOf}
+use Rattle.common.specs.Deviation.{deviationRow, deviationResultBy, zero64}
 use Rattle.common.specs.WholeScores.{wholeFloat}
 use Rattle.common.specs.Corrected.{readingLimit, lengthLimit, wholeWithin, correctionRows, correctedStatistic, correctedOf}
 
@@ -36,7 +36,7 @@ passed-rows s wrong right a =
 
 pub accepted : (s : Deviation) (wrong right : Float) → Accepted s wrong right → correctedOf s wrong right ≡ Ok (correctedStatistic s wrong right)
 unfolding correctedOf
-accepted s wrong right a = ap (λ (n : ℕ). answered n (correctedStatistic s wrong right)) (sym (passed-rows s wrong right a))
+accepted s wrong right a = ap (λ (n : ℕ). deviationResultBy n (correctedStatistic s wrong right)) (sym (passed-rows s wrong right a))
 
 -- and the other way round
 passed : (b : Bool) (n : ℕ) → cond b 26 n ≡ 0 → (b ≡ false) × (n ≡ 0)
@@ -67,7 +67,7 @@ rows-passed s wrong right h0 =
       squares-up = not-false _ (h9 .0);
     }
 
-answered-row : (n : ℕ) (s : Deviation) → rowOf (answered n s) ≡ n
+answered-row : (n : ℕ) (s : Deviation) → deviationRow (deviationResultBy n s) ≡ n
 answered-row zero s = refl
 answered-row (suc n) s = refl
 
@@ -75,7 +75,7 @@ answered-row (suc n) s = refl
 pub corrected-passed : (s t : Deviation) (wrong right : Float) → correctedOf s wrong right ≡ Ok t → Accepted s wrong right
 unfolding correctedOf
 corrected-passed s t wrong right h =
-    rows-passed s wrong right (sym (answered-row (firstOf (correctionRows s wrong right)) (correctedStatistic s wrong right)) ∙ ap rowOf h)
+    rows-passed s wrong right (sym (answered-row (firstOf (correctionRows s wrong right)) (correctedStatistic s wrong right)) ∙ ap deviationRow h)
 
 -- ---- one test that holds: every row is 26, so that whatever stands before it does not matter
 

@@ -8,14 +8,14 @@ use lib.Ieee.{Float, binary64, round, add, sub, mul, div, lt, le, eq, ofInt, ofB
 use Rattle.common.specs.declared.deviation.Deviation.{Deviation}
 use Rattle.common.specs.declared.deviation.DeviationResult.{DeviationResult}
 use Rattle.common.specs.declared.deviation.DeviationResult.the-variants.{Ok, Err}
-use Rattle.common.specs.Deviation.{rowOf, zero64, statistic, emptyWith, factorOf, stepOf, updateOf, meanOf}
+use Rattle.common.specs.Deviation.{deviationRow, zero64, statistic, emptyWith, factorOf, stepOf, deviationUpdate, meanOf}
 use Rattle.common.specs.WholeScores.{wholeFloat}
 use Rattle.common.specs.Corrected.{readingLimit, wholeWithin, integerOf, correctionRows, correctedStatistic, correctedOf, AllWhole, updates, Moved}
 use Rattle.common.proofs.CorrectedTheorems.{corrected-is-the-lists, corrected-moves, raised-never-lowers-the-mean}
 
 -- row 26 or 0 of a call: the statistic's decay, weight, sum and squares as f64 bits, the readings as bits of an f64 (what `to_f64` makes of the f32)
 abbrev row : Deviation → Float → Float → ℕ
-row s wrong right = rowOf (correctedOf s wrong right)
+row s wrong right = deviationRow (correctedOf s wrong right)
 
 -- the statistic of 3, 5, −7
 abbrev three : Deviation
@@ -91,7 +91,7 @@ listed zs = updates (emptyWith zero64) (map wholeFloat zs)
 -- 3, 5, −7 with 5 put right to 65,536: the statistic of 3, 65,536, −7, each computed by its own road
 pub put-right : (numbers (correctedOf three (whole (pos 5)) (whole (pos 65536))) ∷ numbers (listed (pos 3 ∷ pos 65536 ∷ negsuc 6 ∷ [])) ∷ [])
     ≡ (0 ∷ 0x4008_0000_0000_0000 ∷ 0x40ef_ff80_0000_0000 ∷ 0x41f0_0000_03a0_0000 ∷ 3 ∷ []) ∷ (0 ∷ 0x4008_0000_0000_0000 ∷ 0x40ef_ff80_0000_0000 ∷ 0x41f0_0000_03a0_0000 ∷ 3 ∷ []) ∷ []
-unfolding correctedOf correctionRows correctedStatistic wholeWithin integerOf updates updateOf stepOf factorOf add sub mul div lt le eq ofInt ofBits toBits round
+unfolding correctedOf correctionRows correctedStatistic wholeWithin integerOf updates deviationUpdate stepOf factorOf add sub mul div lt le eq ofInt ofBits toBits round
 put-right = refl
 
 -- a sum that becomes 0 is +0, from −0 too; with decay −0, which keeps its bits; and where the statistic is no list's the squares may fall below 0 (0 + 9 − 25)
@@ -103,17 +103,17 @@ pub zeros : (numbers (correctedOf (statistic zero64 (whole (pos 2)) (whole (pos 
     ∷ (0x8000_0000_0000_0000 ∷ 0x3ff0_0000_0000_0000 ∷ 0 ∷ 0 ∷ 1 ∷ [])
     ∷ (0 ∷ 0x3ff0_0000_0000_0000 ∷ 0xc000_0000_0000_0000 ∷ 0xc030_0000_0000_0000 ∷ 1 ∷ [])
     ∷ []
-unfolding correctedOf correctionRows correctedStatistic wholeWithin integerOf updates updateOf stepOf factorOf add sub mul div lt le eq ofInt ofBits toBits round
+unfolding correctedOf correctionRows correctedStatistic wholeWithin integerOf updates deviationUpdate stepOf factorOf add sub mul div lt le eq ofInt ofBits toBits round
 zeros = refl
 
 -- ---- the theorems at that list
 
 three-made : listed (pos 3 ∷ pos 5 ∷ negsuc 6 ∷ []) ≡ Ok three
-unfolding correctedOf correctionRows correctedStatistic wholeWithin integerOf updates updateOf stepOf factorOf add sub mul div lt le eq ofInt ofBits toBits round
+unfolding correctedOf correctionRows correctedStatistic wholeWithin integerOf updates deviationUpdate stepOf factorOf add sub mul div lt le eq ofInt ofBits toBits round
 three-made = refl
 
 three-whole : AllWhole (map wholeFloat (pos 3 ∷ pos 5 ∷ negsuc 6 ∷ [])) × T (wholeWithin readingLimit (whole (pos 65536))) × T (eq zero64 zero64) × T (le (whole (pos 5)) (whole (pos 65536)))
-unfolding correctedOf correctionRows correctedStatistic wholeWithin integerOf updates updateOf stepOf factorOf add sub mul div lt le eq ofInt ofBits toBits round
+unfolding correctedOf correctionRows correctedStatistic wholeWithin integerOf updates deviationUpdate stepOf factorOf add sub mul div lt le eq ofInt ofBits toBits round
 three-whole = ((tt, (tt, (tt, tt))), tt, tt, tt)
 
 pub three-put-right : correctedOf three (whole (pos 5)) (whole (pos 65536)) ≡ listed (pos 3 ∷ pos 65536 ∷ negsuc 6 ∷ [])
@@ -124,7 +124,7 @@ abbrev righted : Deviation
 righted = statistic zero64 (whole (pos 3)) (whole (pos 65532)) (whole (pos 4294967354)) 3
 
 three-answered : correctedOf three (whole (pos 5)) (whole (pos 65536)) ≡ Ok righted
-unfolding correctedOf correctionRows correctedStatistic wholeWithin integerOf updates updateOf stepOf factorOf add sub mul div lt le eq ofInt ofBits toBits round
+unfolding correctedOf correctionRows correctedStatistic wholeWithin integerOf updates deviationUpdate stepOf factorOf add sub mul div lt le eq ofInt ofBits toBits round
 three-answered = refl
 
 pub three-moved : Moved three righted (whole (pos 5)) (whole (pos 65536))

@@ -15,7 +15,7 @@ use lib.Ieee.Order.{le-of-values}
 use Rattle.common.specs.declared.deviation.Deviation.{Deviation}
 use Rattle.common.specs.declared.deviation.DeviationResult.the-variants.{Ok}
 use Rattle.common.specs.Deviation.{countLimit, zero64, emptyWith, stepOf, meanOf}
-use Rattle.common.specs.WholeScores.{wholeFloat, fed}
+use Rattle.common.specs.WholeScores.{wholeFloat, statisticAfter}
 use Rattle.common.specs.Corrected.{readingLimit, lengthLimit, wholeWithin, integerOf, correctedStatistic, correctedOf, AllWhole, updates, CorrectedIsTheLists}
 use Rattle.common.specs.Corrected.{Moved, CorrectedMoves, RaisedNeverLowersTheMean}
 use Rattle.common.proofs.WholeFloats.{whole-value, size-sum}
@@ -68,7 +68,7 @@ correction-moves d n a q wrong right A Q =
 -- the answer is bit for bit the statistic of the list with the right one there.
 pub corrected-list : (d : Float) (ys zs : List Float) (held wrong right : Float) → eq d zero64 ≡ true → length (ys ++ held ∷ zs) ≤ lengthLimit → AllWhole (ys ++ held ∷ zs)
     → T (wholeWithin readingLimit wrong) → T (wholeWithin readingLimit right) → integerOf held ≡ integerOf wrong
-    → correctedOf (fed (emptyWith d) (ys ++ held ∷ zs)) wrong right ≡ Ok (fed (emptyWith d) (ys ++ right ∷ zs))
+    → correctedOf (statisticAfter (emptyWith d) (ys ++ held ∷ zs)) wrong right ≡ Ok (statisticAfter (emptyWith d) (ys ++ right ∷ zs))
 corrected-list d ys zs held wrong right e N h W R same =
     let xs = ys ++ held ∷ zs in
     let new = ys ++ right ∷ zs in
@@ -89,8 +89,8 @@ corrected-list d ys zs held wrong right e N h W R same =
     ∙ ap Ok (correction-moves d n (sumOf xs) (squaresOf xs) wrong right (omega arith) q ∙ moves ∙ sym after)
 
 -- the same of the calls themselves
-updates-fed : (s : Deviation) (xs : List Float) → s .count + length xs ≤ countLimit → updates s xs ≡ Ok (fed s xs)
-unfolding updates fed
+updates-fed : (s : Deviation) (xs : List Float) → s .count + length xs ≤ countLimit → updates s xs ≡ Ok (statisticAfter s xs)
+unfolding updates statisticAfter
 updates-fed s [] h = refl
 updates-fed s (x ∷ xs) h = rw (update-accepted s x (omega arith)) (updates-fed (stepOf s x) xs (omega (arith, step-count s x)))
 
@@ -103,8 +103,8 @@ corrected-is-the-lists d ys zs wrong right s e N h R made =
     let old = ys ++ wrong ∷ zs in
     let new = ys ++ right ∷ zs in
     let before = updates-fed (emptyWith d) old (omega arith) in
-    let same : Ok s ≡ Ok (fed (emptyWith d) old) = sym made ∙ before in
-    let s-is : s ≡ fed (emptyWith d) old = cc in
+    let same : Ok s ≡ Ok (statisticAfter (emptyWith d) old) = sym made ∙ before in
+    let s-is : s ≡ statisticAfter (emptyWith d) old = cc in
     let len = swapped-length ys zs wrong right in
     ap (λ (t : Deviation). correctedOf t wrong right) s-is
     ∙ corrected-list d ys zs wrong wrong right (is-true (eq d zero64) e) N h (at-place ys zs wrong h) R refl

@@ -15,8 +15,8 @@ use lib.Ieee.{Float, binary64, add, mul, eq, ofInt, ofBits, round, fits}
 use lib.Ieee.Fits.{add-fits}
 use Rattle.common.specs.declared.deviation.Deviation.{Deviation}
 use Rattle.common.specs.declared.deviation.DeviationResult.the-variants.{Ok, Err}
-use Rattle.common.specs.Deviation.{zero64, one64, countLimit, statistic, emptyWith, factorOf, nextFactor, stepBy, updateBy, stepOf, updateOf}
-use Rattle.common.specs.WholeScores.{wholeFloat, fed, total, totalOfSquares, AllWithin}
+use Rattle.common.specs.Deviation.{zero64, one64, countLimit, statistic, emptyWith, factorOf, nextFactor, stepBy, updateBy, stepOf, deviationUpdate}
+use Rattle.common.specs.WholeScores.{wholeFloat, statisticAfter, total, totalOfSquares, AllWithin}
 use Rattle.common.proofs.WholeFloats.{add-whole, mul-whole-one, square-whole, size-sum, size-square}
 
 -- ---- update
@@ -29,12 +29,12 @@ pub step-count : (s : Deviation) (x : Float) → stepOf s x .count ≡ s .count 
 unfolding stepOf
 step-count s x = refl
 
-pub update-accepted : (s : Deviation) (x : Float) → s .count < countLimit → updateOf s x ≡ Ok (stepOf s x)
-unfolding updateOf
+pub update-accepted : (s : Deviation) (x : Float) → s .count < countLimit → deviationUpdate s x ≡ Ok (stepOf s x)
+unfolding deviationUpdate
 update-accepted s x h = rw (lt-leb countLimit (s .count) h)
 
-pub update-refused : (s : Deviation) (x : Float) → countLimit ≤ s .count → updateOf s x ≡ Err 18
-unfolding updateOf
+pub update-refused : (s : Deviation) (x : Float) → countLimit ≤ s .count → deviationUpdate s x ≡ Err 18
+unfolding deviationUpdate
 update-refused s x h = rw (le-leb countLimit (s .count) h)
 
 -- ---- update by a factor that is given
@@ -57,20 +57,20 @@ unfolding updateBy
 update-by-refused f s x h = rw (le-leb countLimit (s .count) h)
 
 -- and so is update with the factor of the next one
-pub update-by-next : (s : Deviation) (x : Float) → updateBy (nextFactor (s .discount) (s .count)) s x ≡ updateOf s x
+pub update-by-next : (s : Deviation) (x : Float) → updateBy (nextFactor (s .discount) (s .count)) s x ≡ deviationUpdate s x
 update-by-next s x = by-count (decLt (s .count) countLimit)
   where
-    by-count : Dec (s .count < countLimit) → updateBy (nextFactor (s .discount) (s .count)) s x ≡ updateOf s x
+    by-count : Dec (s .count < countLimit) → updateBy (nextFactor (s .discount) (s .count)) s x ≡ deviationUpdate s x
     by-count (yes h) = update-by-accepted _ s x (next-factor (s .discount) (s .count) h) h ∙ sym (update-accepted s x h)
     by-count (no h) = update-by-refused _ s x (omega arith) ∙ sym (update-refused s x (omega arith))
 
-pub fed-discount : (s : Deviation) (xs : List Float) → fed s xs .discount ≡ s .discount
-unfolding fed
+pub fed-discount : (s : Deviation) (xs : List Float) → statisticAfter s xs .discount ≡ s .discount
+unfolding statisticAfter
 fed-discount s [] = refl
 fed-discount s (x ∷ xs) = fed-discount (stepOf s x) xs ∙ step-discount s x
 
-pub fed-count : (s : Deviation) (xs : List Float) → fed s xs .count ≡ s .count + length xs
-unfolding fed
+pub fed-count : (s : Deviation) (xs : List Float) → statisticAfter s xs .count ≡ s .count + length xs
+unfolding statisticAfter
 fed-count s [] = sym (add-zero (s .count))
 fed-count s (x ∷ xs) = omega (arith, fed-count (stepOf s x) xs, step-count s x)
 
@@ -127,15 +127,15 @@ step-whole d n a q z e N A Q Z =
     λ i. statistic d (w i) (s i) (r i) (n + 1)
 
 more-exact : (d : Float) (zs : List ℤ) (n : ℕ) (a q : ℤ) → eq d zero64 ≡ true → n + length zs ≤ 1048576 → natAbs a ≤ 65536 * n → natAbs q ≤ 4294967296 * n → AllWithin 65536 zs
-    → fed (holding d n a q) (map wholeFloat zs) ≡ holding d (n + length zs) (a +ℤ total zs) (q +ℤ totalOfSquares zs)
-unfolding fed total totalOfSquares
+    → statisticAfter (holding d n a q) (map wholeFloat zs) ≡ holding d (n + length zs) (a +ℤ total zs) (q +ℤ totalOfSquares zs)
+unfolding statisticAfter total totalOfSquares
 more-exact d [] n a q e N A Q h = λ i. holding d (sym (add-zero n) i) (sym (+ℤ-idr a) i) (sym (+ℤ-idr q) i)
 more-exact d (z ∷ zs) n a q e N A Q h =
     let Z = h .0 in
     let square : natAbs (z *ℤ z) ≤ 4294967296 = subst (λ (k : ℕ). k ≤ 4294967296) (sym (size-square z)) (mul-le-mul Z Z) in
     let A' : natAbs (a +ℤ z) ≤ 65536 * (n + 1) = omega (arith, size-sum a z) in
     let Q' : natAbs (q +ℤ z *ℤ z) ≤ 4294967296 * (n + 1) = omega (arith, size-sum q (z *ℤ z)) in
-    ap (λ (s : Deviation). fed s (map wholeFloat zs)) (step-whole d n a q z e (omega arith) (omega arith) (omega arith) Z)
+    ap (λ (s : Deviation). statisticAfter s (map wholeFloat zs)) (step-whole d n a q z e (omega arith) (omega arith) (omega arith) Z)
     ∙ more-exact d zs (n + 1) (a +ℤ z) (q +ℤ z *ℤ z) e (omega arith) A' Q' (h .1)
     ∙ λ i. holding d (count n (length zs) i) (+ℤ-assoc a z (total zs) i) (+ℤ-assoc q (z *ℤ z) (totalOfSquares zs) i)
   where
@@ -144,8 +144,8 @@ more-exact d (z ∷ zs) n a q e N A Q h =
 
 -- The weight is the number of the scores, the sum their sum and the squares the sum of their squares, each as the f64 that is exactly it, a zero being +0.
 pub exact-sums : (d : Float) (zs : List ℤ) → eq d zero64 ≡ true → length zs ≤ 1048576 → AllWithin 65536 zs
-    → fed (emptyWith d) (map wholeFloat zs) ≡ statistic d (wholeFloat (pos (length zs))) (wholeFloat (total zs)) (wholeFloat (totalOfSquares zs)) (length zs)
+    → statisticAfter (emptyWith d) (map wholeFloat zs) ≡ statistic d (wholeFloat (pos (length zs))) (wholeFloat (total zs)) (wholeFloat (totalOfSquares zs)) (length zs)
 exact-sums d zs e N h =
-    ap (λ (x : Float). fed (statistic d x x x 0) (map wholeFloat zs)) zero-is
+    ap (λ (x : Float). statisticAfter (statistic d x x x 0) (map wholeFloat zs)) zero-is
     ∙ more-exact d zs 0 (pos 0) (pos 0) e (omega arith) (lit≤ tt) (lit≤ tt) h
     ∙ λ i. holding d (zero-add (length zs) i) (+ℤ-idl (total zs) i) (+ℤ-idl (totalOfSquares zs) i)

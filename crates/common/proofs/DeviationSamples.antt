@@ -9,34 +9,34 @@ use Rattle.numeric.specs.Root.{rootWithin, halves, rooted, rootOf}
 use Rattle.common.specs.declared.deviation.Deviation.{Deviation}
 use Rattle.common.specs.declared.deviation.DeviationResult.{DeviationResult}
 use Rattle.common.specs.declared.deviation.DeviationResult.the-variants.{Ok, Err}
-use Rattle.common.specs.Deviation.{zero64, one64, statistic, emptyWith, rowOf, outsideUnit, newOf, createOf, factorOf, nextFactor, stepOf, updateOf, isEmpty, meanOf, rootAbove, deviationOf, setCountOf}
-use Rattle.common.specs.WholeScores.{wholeFloat, fed}
+use Rattle.common.specs.Deviation.{zero64, one64, statistic, emptyWith, deviationRow, outsideUnit, deviationNew, deviationCreate, factorOf, nextFactor, stepOf, deviationUpdate, isEmpty, meanOf, rootAbove, deviationOf, deviationSetCount}
+use Rattle.common.specs.WholeScores.{wholeFloat, statisticAfter}
 
 -- weight, sum, squares, mean and deviation, as bits
 abbrev numbers : Deviation → List ℕ
 numbers s = map (toBits binary64) (s .weight ∷ s .sum ∷ s .«sum_squared» ∷ meanOf s ∷ deviationOf s ∷ [])
 
 abbrev scored : ℕ → List ℕ → List ℕ
-scored discount scores = numbers (fed (emptyWith (ofBits binary64 discount)) (map (λ (n : ℕ). wholeFloat (pos n)) scores))
+scored discount scores = numbers (statisticAfter (emptyWith (ofBits binary64 discount)) (map (λ (n : ℕ). wholeFloat (pos n)) scores))
 
 -- "Decay 0, scores 3, 5: weight 2, sum 8, squares 34, mean 4, deviation 1. Decay 0.5, scores 4, 1: weight 1.5, sum 3, squares 9, mean 2, deviation bits 3ff6a09e667f3bcd."
 pub samples : (scored 0 (3 ∷ 5 ∷ []) ∷ scored 0x3fe0_0000_0000_0000 (4 ∷ 1 ∷ []) ∷ [])
     ≡ (0x4000_0000_0000_0000 ∷ 0x4020_0000_0000_0000 ∷ 0x4041_0000_0000_0000 ∷ 0x4010_0000_0000_0000 ∷ 0x3ff0_0000_0000_0000 ∷ [])
     ∷ (0x3ff8_0000_0000_0000 ∷ 0x4008_0000_0000_0000 ∷ 0x4022_0000_0000_0000 ∷ 0x4000_0000_0000_0000 ∷ 0x3ff6_a09e_667f_3bcd ∷ [])
     ∷ []
-unfolding fed stepOf factorOf isEmpty meanOf rootAbove deviationOf rootOf rooted halves rootWithin add sub mul div lt le eq ofInt ofBits toBits
+unfolding statisticAfter stepOf factorOf isEmpty meanOf rootAbove deviationOf rootOf rooted halves rootWithin add sub mul div lt le eq ofInt ofBits toBits
 samples = refl
 
 -- scores −3 and 3: the sum is +0, the squares 18
-pub cancelled : numbers (fed (emptyWith zero64) (map wholeFloat (negsuc 2 ∷ pos 3 ∷ []))) ≡ 0x4000_0000_0000_0000 ∷ 0 ∷ 0x4032_0000_0000_0000 ∷ 0 ∷ 0x4008_0000_0000_0000 ∷ []
-unfolding fed stepOf factorOf isEmpty meanOf rootAbove deviationOf rootOf rooted halves rootWithin add sub mul div lt le eq ofInt ofBits toBits
+pub cancelled : numbers (statisticAfter (emptyWith zero64) (map wholeFloat (negsuc 2 ∷ pos 3 ∷ []))) ≡ 0x4000_0000_0000_0000 ∷ 0 ∷ 0x4032_0000_0000_0000 ∷ 0 ∷ 0x4008_0000_0000_0000 ∷ []
+unfolding statisticAfter stepOf factorOf isEmpty meanOf rootAbove deviationOf rootOf rooted halves rootWithin add sub mul div lt le eq ofInt ofBits toBits
 cancelled = refl
 
 -- row 6 at discounts 0, −0, 0.5, the last below 1, 1, −2 ^ −1074, infinity and not-a-number
-pub discounts : map (λ (b : ℕ). rowOf (newOf (ofBits binary64 b)))
+pub discounts : map (λ (b : ℕ). deviationRow (deviationNew (ofBits binary64 b)))
     (0 ∷ 0x8000_0000_0000_0000 ∷ 0x3fe0_0000_0000_0000 ∷ 0x3fef_ffff_ffff_ffff ∷ 0x3ff0_0000_0000_0000 ∷ 0x8000_0000_0000_0001 ∷ 0x7ff0_0000_0000_0000 ∷ 0x7ff8_0000_0000_0000 ∷ [])
     ≡ 0 ∷ 0 ∷ 0 ∷ 0 ∷ 6 ∷ 6 ∷ 6 ∷ 6 ∷ []
-unfolding newOf outsideUnit lt le eq ofBits
+unfolding deviationNew outsideUnit lt le eq ofBits
 discounts = refl
 
 -- the factor of the next update with discount 0.25: at count 0 the one that grows, at the last count 1 − 0.25, at the limit none; and with discount 0
@@ -54,13 +54,13 @@ abbrev around : List ℕ
 around = 0 ∷ 2147483644 ∷ 2147483645 ∷ 2147483646 ∷ 2147483647 ∷ 9007199254740989 ∷ 9007199254740990 ∷ 9007199254740991 ∷ []
 
 -- row 18: `create` and `set_count` take the limit itself, `update` has to stay below it; row 6 comes first
-pub limits : (map (λ (n : ℕ). rowOf (createOf zero64 zero64 zero64 zero64 n)) around
-    ∷ map (λ (n : ℕ). rowOf (setCountOf (counted 0) n)) around
-    ∷ map (λ (n : ℕ). rowOf (updateOf (counted n) zero64)) around
-    ∷ (rowOf (createOf (ofBits binary64 0x3ff0_0000_0000_0000) zero64 zero64 zero64 9007199254740991) ∷ [])
+pub limits : (map (λ (n : ℕ). deviationRow (deviationCreate zero64 zero64 zero64 zero64 n)) around
+    ∷ map (λ (n : ℕ). deviationRow (deviationSetCount (counted 0) n)) around
+    ∷ map (λ (n : ℕ). deviationRow (deviationUpdate (counted n) zero64)) around
+    ∷ (deviationRow (deviationCreate (ofBits binary64 0x3ff0_0000_0000_0000) zero64 zero64 zero64 9007199254740991) ∷ [])
     ∷ [])
     ≡ (0 ∷ 0 ∷ 0 ∷ 0 ∷ 0 ∷ 0 ∷ 0 ∷ 18 ∷ []) ∷ (0 ∷ 0 ∷ 0 ∷ 0 ∷ 0 ∷ 0 ∷ 0 ∷ 18 ∷ []) ∷ (0 ∷ 0 ∷ 0 ∷ 0 ∷ 0 ∷ 0 ∷ 18 ∷ 18 ∷ []) ∷ (6 ∷ []) ∷ []
-unfolding createOf setCountOf updateOf outsideUnit lt le eq ofBits
+unfolding deviationCreate deviationSetCount deviationUpdate outsideUnit lt le eq ofBits
 limits = refl
 
 -- an answer's row, weight, sum and squares as bits, and count
@@ -73,7 +73,7 @@ abbrev heavy : ℕ → Deviation
 heavy n = statistic (ofBits binary64 0x3c30_0000_0000_0000) (ofBits binary64 0x41e0_0000_0000_0000) (ofBits binary64 0x41e8_d5d4_2aaa_aaab) (ofBits binary64 0x43e8_c821_ae86_5725) n
 
 -- the score 0.1 fed at the Rust's last count, at the two after it, at 2 ^ 40, and up to the limit
-pub fed-far : map (λ (n : ℕ). told (updateOf (heavy n) (ofBits binary64 0x3fb9_9999_9999_999a)))
+pub fed-far : map (λ (n : ℕ). told (deviationUpdate (heavy n) (ofBits binary64 0x3fb9_9999_9999_999a)))
     (2147483645 ∷ 2147483646 ∷ 2147483647 ∷ 1099511627776 ∷ 9007199254740988 ∷ 9007199254740989 ∷ 9007199254740990 ∷ [])
     ≡ (0 ∷ 0x41e0_0000_0000_0000 ∷ 0x41e8_d5d4_2a7c_3236 ∷ 0x43e8_c821_ae54_c6e2 ∷ 2147483646 ∷ [])
     ∷ (0 ∷ 0x41e0_0000_0000_0000 ∷ 0x41e8_d5d4_2a7c_3236 ∷ 0x43e8_c821_ae54_c6e2 ∷ 2147483647 ∷ [])
@@ -83,7 +83,7 @@ pub fed-far : map (λ (n : ℕ). told (updateOf (heavy n) (ofBits binary64 0x3fb
     ∷ (0 ∷ 0x41e0_0000_0020_0000 ∷ 0x41e8_d5d4_2aad_dddd ∷ 0x43e8_c821_ae86_5724 ∷ 9007199254740990 ∷ [])
     ∷ (18 ∷ [])
     ∷ []
-unfolding updateOf stepOf factorOf add sub mul div lt eq ofInt ofBits toBits
+unfolding deviationUpdate stepOf factorOf add sub mul div lt eq ofInt ofBits toBits
 fed-far = refl
 
 -- 1/(count + 2) and the factor as bits, at the Rust's last count, at the two after it, and at the limit

@@ -11,7 +11,3 @@ pub mod MeanOrder
 pub mod CorrectedTheorems
 pub mod CorrectedSamples
 pub mod DeviationSamples
--- Laws on ranges for the functions' proofs and for the crates above.
-pub mod RangeExamples
-pub mod RangeLaws
-pub mod RangeSteps

@@ -14,7 +14,7 @@ use lib.Ieee.Fits.{down-pos, and-l, and-r}
 use Rattle.common.specs.declared.deviation.Deviation.{Deviation}
 use Rattle.common.specs.Deviation.{zero64, isEmpty, meanOf}
 use Rattle.common.specs.WholeScores.{wholeFloat}
-use Rattle.common.specs.Corrected.{readingLimit, lengthLimit, signed, integerOf, correctedStatistic}
+use Rattle.common.specs.Corrected.{readingLimit, lengthLimit, signedInteger, integerOf, correctedStatistic}
 use Rattle.common.proofs.WholeFloats.{negative, whole-value, size-sum}
 use Rattle.common.proofs.RoundOrder.{or-split, quotient, quotient-raised-signed, div-value}
 use Rattle.common.proofs.WholeValues.{Whole, whole-is, integer-small}
@@ -62,7 +62,7 @@ mean-of x w s a n N v u = div-value binary64 x w s false a n N v u ∙ ap (λ (b
 change : (w k : ℤ) → w +ℤ k -ℤ w ≡ k
 change w k = ap (λ (z : ℤ). z -ℤ w) (+ℤ-comm w k) ∙ +ℤ-negℤ-cancel k w
 
-mean-quotients : (x w : Float) (s : Bool) (a k n : ℕ) (z : ℤ) → 0 < n → HasValue x s a 1 → HasValue w false n 1 → natAbs z ≤ 2 ^ 53 → z ≡ signed s a +ℤ pos k
+mean-quotients : (x w : Float) (s : Bool) (a k n : ℕ) (z : ℤ) → 0 < n → HasValue x s a 1 → HasValue w false n 1 → natAbs z ≤ 2 ^ 53 → z ≡ signedInteger s a +ℤ pos k
     → T (le (div binary64 x w) (div binary64 (wholeFloat z) w))
 mean-quotients x w s a k n z N v u Z e =
     rw (mean-of x w s a n N v u, mean-of (wholeFloat z) w (negative z) (natAbs z) n N (whole-value binary64 z Z) u)
@@ -129,10 +129,10 @@ ordered true true a b c C h =
     C
 
 -- the second is the first and something more
-difference : (s t : Bool) (a b : ℕ) → Ordered s a t b → (k : ℕ) × (signed t b ≡ signed s a +ℤ pos k)
+difference : (s t : Bool) (a b : ℕ) → Ordered s a t b → (k : ℕ) × (signedInteger t b ≡ signedInteger s a +ℤ pos k)
 unfolding Ordered
 difference false false a b h = (b - a, ap pos (omega arith))
-difference false true a b h = (0, (λ i. signed true (h .1 i)) ∙ λ i. pos (sym (h .0) i) +ℤ pos 0)
+difference false true a b h = (0, (λ i. signedInteger true (h .1 i)) ∙ λ i. pos (sym (h .0) i) +ℤ pos 0)
 difference true false zero b h = (b, ap pos (omega arith))
 difference true false (suc a) b h = (suc a + b, rw (le-ltb (suc a + b) (suc a) (omega arith)) (ap pos (omega arith)))
 difference true true zero zero h = (0, refl)

@@ -15,7 +15,7 @@ use lib.Ieee.Fits.{down-pos, and-l}
 use lib.Ieee.Exact.{HasValue}
 use lib.Ieee.Order.{round-mono}
 use lib.Ieee.Scale.{round-same}
-use Rattle.common.specs.Corrected.{signed}
+use Rattle.common.specs.Corrected.{signedInteger}
 use Rattle.common.proofs.WholeFloats.{negative}
 
 -- ---- the sign goes through `round`
@@ -160,7 +160,7 @@ quotient-raised f (negsuc m) k n N = go (decLt k (suc m))
         rw (le-ltb k (suc m) l, round-negated f (suc m) n) (across (round f false (suc m) n) (round f false (k - suc m) n) (round-unsigned f (suc m) n) (round-unsigned f (k - suc m) n))
 
 -- the same from a signed size, whose zero may be -0
-pub quotient-raised-signed : (f : Format) (s : Bool) (c k n : ℕ) → 0 < n → T (le (round f s c n) (quotient f (signed s c +ℤ pos k) n))
+pub quotient-raised-signed : (f : Format) (s : Bool) (c k n : ℕ) → 0 < n → T (le (round f s c n) (quotient f (signedInteger s c +ℤ pos k) n))
 quotient-raised-signed f false c k n N = quotient-raised f (pos c) k n N
 quotient-raised-signed f true (suc c) k n N = quotient-raised f (negsuc c) k n N
 quotient-raised-signed f true zero k n N = rw (round-negated f 0 n) (across (round f false 0 n) (round f false (0 + k) n) (round-unsigned f 0 n) (round-unsigned f (0 + k) n))

@@ -11,7 +11,7 @@ use lib.IntN.{ℤ, pos, negsuc, natAbs, negℤ, _+ℤ_, _-ℤ_, _*ℤ_, +ℤ-ass
 use lib.Ieee.{Float, binary64, add, mul, eq}
 use Rattle.common.specs.declared.deviation.Deviation.{Deviation}
 use Rattle.common.specs.Deviation.{zero64, one64, statistic, emptyWith, factorOf, stepOf}
-use Rattle.common.specs.WholeScores.{wholeFloat, fed, total, totalOfSquares}
+use Rattle.common.specs.WholeScores.{wholeFloat, statisticAfter, total, totalOfSquares}
 use Rattle.common.specs.Corrected.{readingLimit, lengthLimit, wholeWithin, integerOf, AllWhole}
 use Rattle.common.proofs.WholeFloats.{mul-whole-one, size-sum, size-square}
 use Rattle.common.proofs.WholeValues.{Whole, whole-is, integer-small, own-within, own-integer, add-signed, square-signed}
@@ -59,8 +59,8 @@ pub square-small : (z : ℤ) → natAbs z ≤ 65536 → natAbs (z *ℤ z) ≤ 42
 square-small z Z = subst (λ (k : ℕ). k ≤ 4294967296) (sym (size-square z)) (mul-le-mul Z Z)
 
 more-holds : (d : Float) (xs : List Float) (n : ℕ) (a q : ℤ) → eq d zero64 ≡ true → n + length xs ≤ lengthLimit → natAbs a ≤ 65536 * n → natAbs q ≤ 4294967296 * n → AllWhole xs
-    → fed (holding d n a q) xs ≡ holding d (n + length xs) (a +ℤ sumOf xs) (q +ℤ squaresOf xs)
-unfolding fed total totalOfSquares
+    → statisticAfter (holding d n a q) xs ≡ holding d (n + length xs) (a +ℤ sumOf xs) (q +ℤ squaresOf xs)
+unfolding statisticAfter total totalOfSquares
 more-holds d [] n a q e N A Q h = λ i. holding d (sym (add-zero n) i) (sym (+ℤ-idr a) i) (sym (+ℤ-idr q) i)
 more-holds d (x ∷ xs) n a q e N A Q h =
     let z = integerOf x in
@@ -68,7 +68,7 @@ more-holds d (x ∷ xs) n a q e N A Q h =
     let Z² = square-small z Z in
     let A' : natAbs (a +ℤ z) ≤ 65536 * (n + 1) = omega (arith, size-sum a z) in
     let Q' : natAbs (q +ℤ z *ℤ z) ≤ 4294967296 * (n + 1) = omega (arith, size-sum q (z *ℤ z)) in
-    ap (λ (s : Deviation). fed s xs) (step-holds d n a q x e (omega arith) (omega arith) (omega arith) (h .0))
+    ap (λ (s : Deviation). statisticAfter s xs) (step-holds d n a q x e (omega arith) (omega arith) (omega arith) (h .0))
     ∙ more-holds d xs (n + 1) (a +ℤ z) (q +ℤ z *ℤ z) e (omega arith) A' Q' (h .1)
     ∙ λ i. holding d (count n (length xs) i) (+ℤ-assoc a z (sumOf xs) i) (+ℤ-assoc q (z *ℤ z) (squaresOf xs) i)
   where
@@ -76,9 +76,9 @@ more-holds d (x ∷ xs) n a q e N A Q h =
     count n k = omega arith
 
 pub list-holds : (d : Float) (xs : List Float) → eq d zero64 ≡ true → length xs ≤ lengthLimit → AllWhole xs
-    → fed (emptyWith d) xs ≡ holding d (length xs) (sumOf xs) (squaresOf xs)
+    → statisticAfter (emptyWith d) xs ≡ holding d (length xs) (sumOf xs) (squaresOf xs)
 list-holds d xs e N h =
-    ap (λ (x : Float). fed (statistic d x x x 0) xs) zero-is
+    ap (λ (x : Float). statisticAfter (statistic d x x x 0) xs) zero-is
     ∙ more-holds d xs 0 (pos 0) (pos 0) e (omega arith) (lit≤ tt) (lit≤ tt) h
     ∙ λ i. holding d (zero-add (length xs) i) (+ℤ-idl (sumOf xs) i) (+ℤ-idl (squaresOf xs) i)
 

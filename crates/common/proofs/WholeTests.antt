@@ -13,7 +13,7 @@ use lib.Ieee.{Float, nan, inf, fin, binary64, up, down, neg, lt, eq, round, ofIn
 use lib.Ieee.Fits.{up-pos, down-pos}
 use lib.Ieee.Exact.{HasValue}
 use Rattle.common.specs.Corrected.{wholeWithin}
-use Rattle.common.specs.Steps.Whole.{sizeOf}
+use Rattle.common.specs.Steps.Whole.{floatSize}
 use Rattle.common.proofs.WholeFloats.{whole-value}
 
 -- ---- the size
@@ -21,16 +21,16 @@ use Rattle.common.proofs.WholeFloats.{whole-value}
 not-below-zero : (a d : ℕ) → ltb (a * 1) (0 * d) ≡ false
 not-below-zero a d = le-ltb (a * 1) (0 * d) (subst (λ (z : ℕ). z ≤ a * 1) (sym (zero-mul d)) (omega arith))
 
-size-false : (m : ℕ) (e : ℤ) → sizeOf (fin false m e) ≡ fin false m e
-unfolding sizeOf lt ofBits
+size-false : (m : ℕ) (e : ℤ) → floatSize (fin false m e) ≡ fin false m e
+unfolding floatSize lt ofBits
 size-false m e = rw (not-below-zero (m * up e) (down e))
 
-size-zero : (e : ℤ) → sizeOf (fin true zero e) ≡ fin true zero e
-unfolding sizeOf lt ofBits
+size-zero : (e : ℤ) → floatSize (fin true zero e) ≡ fin true zero e
+unfolding floatSize lt ofBits
 size-zero e = rw (le-ltb 0 (0 * up e * 1 + 0 * down e) (omega arith))
 
-size-true : (m : ℕ) (e : ℤ) → sizeOf (fin true (suc m) e) ≡ fin false (suc m) e
-unfolding sizeOf lt ofBits neg
+size-true : (m : ℕ) (e : ℤ) → floatSize (fin true (suc m) e) ≡ fin false (suc m) e
+unfolding floatSize lt ofBits neg
 size-true m e = rw (lt-ltb 0 (suc m * up e * 1 + 0 * down e) (omega (arith, mul-pos (zero-lt-suc m) (up-pos e))))
 
 -- ---- the whole part's float equals the number where nothing is cut off
@@ -118,11 +118,11 @@ tested-zero b e =
     rw (lt-ltb 0 (0 * up e * 1 + 18446744073709551616 * down e) (omega (arith, down-pos e)), le-leb 0 b zero-le, eq-eqb (0 * down e) (0 * up e * 1) (omega arith), eq-eqb (0 * down e) 0 (omega arith))
 
 -- the code's test is `wholeWithin`
-pub whole-by-size : (b : ℕ) (x : Float) → b ≤ 2 ^ 53 → tested b (sizeOf x) ≡ wholeWithin b x
+pub whole-by-size : (b : ℕ) (x : Float) → b ≤ 2 ^ 53 → tested b (floatSize x) ≡ wholeWithin b x
 unfolding wholeWithin
-whole-by-size b nan B = unfold sizeOf lt in refl
-whole-by-size b (inf true) B = unfold sizeOf lt ofBits neg in refl
-whole-by-size b (inf false) B = unfold sizeOf lt ofBits in refl
+whole-by-size b nan B = unfold floatSize lt in refl
+whole-by-size b (inf true) B = unfold floatSize lt ofBits neg in refl
+whole-by-size b (inf false) B = unfold floatSize lt ofBits in refl
 whole-by-size b (fin false m e) B = rw (size-false m e) (tested-plain b m e B)
 whole-by-size b (fin true zero e) B = rw (size-zero e, tested-zero b e, zero-mul (up e), zero-mod, zero-div) (sym (le-leb 0 b zero-le))
 whole-by-size b (fin true (suc m) e) B = rw (size-true m e) (tested-plain b (suc m) e B)
@@ -136,10 +136,10 @@ unfolding lt
 above-zero e = lt→ltb (0 * up e * 1) (1 * down e) (omega (arith, down-pos e))
 
 -- the size may be cut to a u64: it is above -1
-pub size-above : (x : Float) → lt (sizeOf x) wideLimit ≡ true → T (lt (fin true 1 (pos 0)) (sizeOf x))
-size-above nan h = absurd (true≢false (sym (unfold sizeOf lt in h)))
-size-above (inf true) h = unfold sizeOf lt ofBits neg in tt
-size-above (inf false) h = unfold sizeOf lt ofBits in tt
+pub size-above : (x : Float) → lt (floatSize x) wideLimit ≡ true → T (lt (fin true 1 (pos 0)) (floatSize x))
+size-above nan h = absurd (true≢false (sym (unfold floatSize lt in h)))
+size-above (inf true) h = unfold floatSize lt ofBits neg in tt
+size-above (inf false) h = unfold floatSize lt ofBits in tt
 size-above (fin false m e) h = rw (size-false m e) (above-plain m e)
 size-above (fin true zero e) h = rw (size-zero e) (above-zero e)
 size-above (fin true (suc m) e) h = rw (size-true m e) (above-plain (suc m) e)

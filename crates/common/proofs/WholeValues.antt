@@ -10,7 +10,7 @@ use lib.IntN.{ℤ, pos, negsuc, natAbs, negℤ, _+ℤ_, _-ℤ_, _*ℤ_, negℤ-n
 use lib.Ieee.{Float, nan, inf, fin, Format, prec, up, down, unlike, round, sum, neg, add, sub, mul, ofInt}
 use lib.Ieee.Fits.{down-pos, and-l, and-r, and-i, eq→eqb}
 use lib.Ieee.Exact.{HasValue}
-use Rattle.common.specs.Corrected.{signed, wholeWithin, integerOf}
+use Rattle.common.specs.Corrected.{signedInteger, wholeWithin, integerOf}
 use Rattle.common.proofs.WholeFloats.{negative, add-value, mul-value, whole-value, sum-integers, size-sum}
 
 -- ---- the value
@@ -20,7 +20,7 @@ pub record Whole (b : ℕ) (x : Float) : Type 0 where
   pub sign : Bool
   pub size : ℕ
   pub value : HasValue x sign size 1
-  pub integer : integerOf x ≡ signed sign size
+  pub integer : integerOf x ≡ signedInteger sign size
   pub small : size ≤ b
 
 pub whole-is : (b : ℕ) (x : Float) → T (wholeWithin b x) → Whole b x
@@ -38,7 +38,7 @@ whole-is b (fin s m e) h =
       small = leb→le (n / down e) b (and-r (eqb (n % down e) 0) (leb (n / down e) b) h);
     }
 
-signed-size : (s : Bool) (n : ℕ) → natAbs (signed s n) ≡ n
+signed-size : (s : Bool) (n : ℕ) → natAbs (signedInteger s n) ≡ n
 signed-size false n = refl
 signed-size true zero = refl
 signed-size true (suc n) = refl
@@ -58,17 +58,17 @@ whole-of b (fin t m e) s n v h =
     let r : m * up e % down e ≡ 0 = ap (λ (x : ℕ). x % down e) q ∙ mul-mod-left n (down e) in
     and-i (eqb (m * up e % down e) 0) (leb (m * up e / down e) b) (eq→eqb r) (le→leb (m * up e / down e) b (subst (λ (k : ℕ). k ≤ b) (sym c) h))
 
-pub integer-of : (x : Float) (s : Bool) (n : ℕ) → HasValue x s n 1 → integerOf x ≡ signed s n
+pub integer-of : (x : Float) (s : Bool) (n : ℕ) → HasValue x s n 1 → integerOf x ≡ signedInteger s n
 unfolding integerOf
 integer-of (fin t m e) s n v =
     let q : m * up e ≡ n * down e = sym (mul-one (m * up e)) ∙ v .1 in
-    λ i. signed (v .0 i) ((ap (λ (x : ℕ). x / down e) q ∙ mul-div-cancel n (down-pos e)) i)
+    λ i. signedInteger (v .0 i) ((ap (λ (x : ℕ). x / down e) q ∙ mul-div-cancel n (down-pos e)) i)
 
 -- a larger bound
 pub whole-wider : (b c : ℕ) (x : Float) → T (wholeWithin b x) → b ≤ c → T (wholeWithin c x)
 whole-wider b c x h l = let w = whole-is b x h in whole-of c x (w .sign) (w .size) (w .value) (le-trans (w .small) l)
 
-signed-own : (z : ℤ) → signed (negative z) (natAbs z) ≡ z
+signed-own : (z : ℤ) → signedInteger (negative z) (natAbs z) ≡ z
 signed-own (pos n) = refl
 signed-own (negsuc n) = refl
 
@@ -81,7 +81,7 @@ own-integer f z Z = integer-of (ofInt f z) (negative z) (natAbs z) (whole-value 
 
 -- ---- a sum and a square with -0 among the summands
 
-sum-signed : (f : Format) (y : ℤ) (t : Bool) (b : ℕ) → sum f (negative y) (natAbs y) t b 1 ≡ ofInt f (y +ℤ signed t b)
+sum-signed : (f : Format) (y : ℤ) (t : Bool) (b : ℕ) → sum f (negative y) (natAbs y) t b 1 ≡ ofInt f (y +ℤ signedInteger t b)
 unfolding sum ofInt
 sum-signed f y false b = sum-integers f y (pos b)
 sum-signed f y true (suc b) = sum-integers f y (negsuc b)
@@ -101,7 +101,7 @@ square-signed f x w =
     ∙ go (w .sign) (w .size)
     ∙ ap (λ (z : ℤ). ofInt f (z *ℤ z)) (sym (w .integer))
   where
-    go : (s : Bool) (n : ℕ) → round f (unlike s s) (n * n) 1 ≡ ofInt f (signed s n *ℤ signed s n)
+    go : (s : Bool) (n : ℕ) → round f (unlike s s) (n * n) 1 ≡ ofInt f (signedInteger s n *ℤ signedInteger s n)
     go false n = refl
     go true zero = refl
     go true (suc n) = refl

@@ -7,11 +7,11 @@ use lib.Dec.{T, leb, ltb, eqb}
 use lib.ListN.{length}
 use lib.IntN.{ℤ, pos, negℤ, _+ℤ_, _-ℤ_, _*ℤ_}
 use lib.Ieee.{Float, nan, inf, fin, up, down, eq, le}
-use Rattle.common.specs.Refusal.{firstOf}
+use Rattle.refusal.specs.Refusal.{firstOf}
 use Rattle.common.specs.declared.deviation.Deviation.{Deviation}
 use Rattle.common.specs.declared.deviation.DeviationResult.{DeviationResult}
 use Rattle.common.specs.declared.deviation.DeviationResult.the-variants.{Ok, Err}
-use Rattle.common.specs.Deviation.{zero64, statistic, answered, emptyWith, updateOf, meanOf}
+use Rattle.common.specs.Deviation.{zero64, statistic, deviationResultBy, emptyWith, deviationUpdate, meanOf}
 use Rattle.common.specs.WholeScores.{wholeFloat}
 
 -- "both whole-number f32 of size at most 65,536"
@@ -24,11 +24,11 @@ lengthLimit = 1048576
 
 -- ---- whole numbers among the floats
 
-abbrev pub signed : Bool → ℕ → ℤ
-signed false n = pos n
-signed true n = negℤ (pos n)
+abbrev pub signedInteger : Bool → ℕ → ℤ
+signedInteger false n = pos n
+signedInteger true n = negℤ (pos n)
 
--- finite, with nothing behind the point, and of size at most b; -0 is the whole number 0
+-- finite, with nothing after the point, and of size at most b; -0 is the whole number 0
 unfoldable pub wholeWithin : ℕ → Float → Bool
 wholeWithin b nan = false
 wholeWithin b (inf s) = false
@@ -38,7 +38,7 @@ wholeWithin b (fin s m e) = eqb (m * up e % down e) 0 && leb (m * up e / down e)
 unfoldable pub integerOf : Float → ℤ
 integerOf nan = pos 0
 integerOf (inf s) = pos 0
-integerOf (fin s m e) = signed s (m * up e / down e)
+integerOf (fin s m e) = signedInteger s (m * up e / down e)
 
 -- ---- row 26
 
@@ -71,7 +71,7 @@ correctedStatistic s wrong right =
     (s .count)
 
 unfoldable pub correctedOf : Deviation → Float → Float → DeviationResult
-correctedOf s wrong right = answered (firstOf (correctionRows s wrong right)) (correctedStatistic s wrong right)
+correctedOf s wrong right = deviationResultBy (firstOf (correctionRows s wrong right)) (correctedStatistic s wrong right)
 
 -- ---- what is proved of it, besides that the code gives `correctedOf`: the theorems stand in proofs/CorrectedTheorems.antt
 
@@ -87,7 +87,7 @@ onward (Err n) next = Err n
 -- a list's statistic: one call of `update` for each reading, the first one first; a refusal ends it
 unfoldable pub updates : Deviation → List Float → DeviationResult
 updates s [] = Ok s
-updates s (x ∷ xs) = onward (updateOf s x) (λ t. updates t xs)
+updates s (x ∷ xs) = onward (deviationUpdate s x) (λ t. updates t xs)
 
 -- "For every list of 1 to 1,048,576 such readings and every place in it that holds the wrong one, if the statistic is the list's, the answer is bit for bit that of
 -- the list with the true one there." The list is ys, the wrong one, zs: so no list is empty, and every place is met. Decay −0 counts as 0.

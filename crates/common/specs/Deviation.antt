@@ -6,7 +6,7 @@ use lib.Dec.{ltb, leb}
 use lib.IntN.{pos}
 use lib.Ieee.{Float, binary64, add, sub, mul, div, lt, le, eq, ofInt, ofBits}
 use Rattle.numeric.specs.Root.{rootOf}
-use Rattle.common.specs.Refusal.{firstOf}
+use Rattle.refusal.specs.Refusal.{firstOf}
 use Rattle.common.specs.declared.deviation.Deviation.{Deviation}
 use Rattle.common.specs.declared.deviation.DeviationResult.{DeviationResult}
 use Rattle.common.specs.declared.deviation.DeviationResult.the-variants.{Ok, Err}
@@ -27,14 +27,14 @@ statistic d w s q n = record { discount = d; weight = w; «sum_squared» = q; su
 
 -- ---- answers: the number of an answer, 0 for a statistic
 
-abbrev pub rowOf : DeviationResult → ℕ
-rowOf (Ok s) = 0
-rowOf (Err n) = n
+abbrev pub deviationRow : DeviationResult → ℕ
+deviationRow (Ok s) = 0
+deviationRow (Err n) = n
 
 -- by the number of the row, 0 for none
-abbrev pub answered : ℕ → Deviation → DeviationResult
-answered zero s = Ok s
-answered (suc n) s = Err (suc n)
+abbrev pub deviationResultBy : ℕ → Deviation → DeviationResult
+deviationResultBy zero s = Ok s
+deviationResultBy (suc n) s = Err (suc n)
 
 -- row 6: "the discount of a new or (+) created statistic, outside 0 ≤ it < 1"
 unfoldable pub outsideUnit : Float → Bool
@@ -45,16 +45,16 @@ outsideUnit d = not (le zero64 d && lt d one64)
 abbrev pub emptyWith : Float → Deviation
 emptyWith d = statistic d zero64 zero64 zero64 0
 
-unfoldable pub newOf : Float → DeviationResult
-newOf d = answered (firstOf ((outsideUnit d, 6) ∷ [])) (emptyWith d)
+unfoldable pub deviationNew : Float → DeviationResult
+deviationNew d = deviationResultBy (firstOf ((outsideUnit d, 6) ∷ [])) (emptyWith d)
 
 -- row 18: "statistic `create`: count outside 0 to" the limit
-unfoldable pub createOf : Float → Float → Float → Float → ℕ → DeviationResult
-createOf d w s q n = answered (firstOf ((outsideUnit d, 6) ∷ (ltb countLimit n, 18) ∷ [])) (statistic d w s q n)
+unfoldable pub deviationCreate : Float → Float → Float → Float → ℕ → DeviationResult
+deviationCreate d w s q n = deviationResultBy (firstOf ((outsideUnit d, 6) ∷ (ltb countLimit n, 18) ∷ [])) (statistic d w s q n)
 
 -- the source's `reset`: all but the discount begins anew
-abbrev pub resetOf : Deviation → Deviation
-resetOf s = emptyWith (s .discount)
+abbrev pub deviationReset : Deviation → Deviation
+deviationReset s = emptyWith (s .discount)
 
 -- "The factor is 1.0 when discount is 0, otherwise the smaller of 1 − discount and 1 − 1/(count + 2)."
 unfoldable pub factorOf : Float → ℕ → Float
@@ -82,10 +82,10 @@ stepBy f s x =
 
 -- row 18: "count would pass" the limit
 unfoldable pub updateBy : Float → Deviation → Float → DeviationResult
-updateBy f s x = answered (firstOf ((leb countLimit (s .count), 18) ∷ [])) (stepBy f s x)
+updateBy f s x = deviationResultBy (firstOf ((leb countLimit (s .count), 18) ∷ [])) (stepBy f s x)
 
-unfoldable pub updateOf : Deviation → Float → DeviationResult
-updateOf s x = answered (firstOf ((leb countLimit (s .count), 18) ∷ [])) (stepOf s x)
+unfoldable pub deviationUpdate : Deviation → Float → DeviationResult
+deviationUpdate s x = deviationResultBy (firstOf ((leb countLimit (s .count), 18) ∷ [])) (stepOf s x)
 
 unfoldable pub isEmpty : Deviation → Bool
 isEmpty s = le (s .weight) zero64
@@ -106,9 +106,9 @@ deviationOf s =
 
 -- ---- the setters
 
-abbrev pub setDiscountOf : Deviation → Float → Deviation
-setDiscountOf s d = statistic d (s .weight) (s .sum) (s .«sum_squared») (s .count)
+abbrev pub deviationSetDiscount : Deviation → Float → Deviation
+deviationSetDiscount s d = statistic d (s .weight) (s .sum) (s .«sum_squared») (s .count)
 
 -- row 18 beyond the limit, as `create` has it
-unfoldable pub setCountOf : Deviation → ℕ → DeviationResult
-setCountOf s n = answered (firstOf ((ltb countLimit n, 18) ∷ [])) (statistic (s .discount) (s .weight) (s .sum) (s .«sum_squared») n)
+unfoldable pub deviationSetCount : Deviation → ℕ → DeviationResult
+deviationSetCount s n = deviationResultBy (firstOf ((ltb countLimit n, 18) ∷ [])) (statistic (s .discount) (s .weight) (s .sum) (s .«sum_squared») n)

@@ -1,8 +1,5 @@
-pub mod Refusal
-pub mod Lent
 pub mod Deviation
 pub mod FactorRule
 pub mod WholeScores
 pub mod Corrected
 pub mod Steps
-pub mod RangeVector

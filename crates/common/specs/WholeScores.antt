@@ -11,9 +11,9 @@ abbrev pub wholeFloat : ℤ → Float
 wholeFloat z = ofInt binary64 z
 
 -- the statistic after the scores of the list, the first one first
-unfoldable pub fed : Deviation → List Float → Deviation
-fed s [] = s
-fed s (x ∷ xs) = fed (stepOf s x) xs
+unfoldable pub statisticAfter : Deviation → List Float → Deviation
+statisticAfter s [] = s
+statisticAfter s (x ∷ xs) = statisticAfter (stepOf s x) xs
 
 unfoldable pub total : List ℤ → ℤ
 total [] = pos 0

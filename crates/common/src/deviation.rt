@@ -1,14 +1,14 @@
 // A discounted statistic of a stream of numbers (the source's common/deviation.rs), by value.
 ghost use mathlib.Core.Path.{_≡_};
 ghost use Prim.Native.Nat.{_≤_, _<_};
-ghost use Rattle.common.specs.Deviation.{zero64, countLimit, emptyWith, outsideUnit, newOf, createOf, resetOf};
-ghost use Rattle.common.specs.Deviation.{factorOf, nextFactor, updateBy, updateOf, isEmpty, meanOf, deviationOf, setDiscountOf, setCountOf};
+ghost use Rattle.common.specs.Deviation.{zero64, countLimit, emptyWith, outsideUnit, deviationNew, deviationCreate, deviationReset};
+ghost use Rattle.common.specs.Deviation.{factorOf, nextFactor, updateBy, deviationUpdate, isEmpty, meanOf, deviationOf, deviationSetDiscount, deviationSetCount};
 ghost use Rattle.factors.specs.Factors.{tableLength, growingAt};
-ghost use Rattle.common.specs.Refusal.{firstOf};
+ghost use Rattle.refusal.specs.Refusal.{firstOf};
 ghost use lib.IntN.{_+ℤ_, _-ℤ_};
 ghost use Rattle.common.specs.WholeScores.{wholeFloat};
 ghost use Rattle.common.specs.Corrected.{wholeWithin, integerOf, correctionRows, correctedOf};
-ghost use Rattle.common.specs.Steps.Whole.{sizeOf, Summand};
+ghost use Rattle.common.specs.Steps.Whole.{floatSize, Summand};
 
 // The largest count of a statistic: count + 2 is then 2^53, the last up to which every whole number is an f64.
 pub const COUNT_LIMIT: u64 = 9_007_199_254_740_990;
@@ -84,7 +84,7 @@ pub fn next_factor(discount: f64, count: u64) -> f64
 
 // The size of x; a zero keeps its sign.
 fn size_of(x: f64) -> f64
-    ensures { λ r. ⌜ r ≡ sizeOf x ⌝ }
+    ensures { λ r. ⌜ r ≡ floatSize x ⌝ }
 {
     if x < 0.0 { -x } else { x }
 }
@@ -150,7 +150,7 @@ fn moved(x: f64, put: f64, taken: f64) -> f64
 
 impl Deviation {
     pub fn new(discount: f64) -> DeviationResult
-        ensures { λ r. ⌜ r ≡ newOf discount ⌝ }
+        ensures { λ r. ⌜ r ≡ deviationNew discount ⌝ }
     {
         if outside_unit(discount) {
             return DeviationResult::Err(6);
@@ -183,7 +183,7 @@ impl Deviation {
         sum_squared: f64,
         count: u64,
     ) -> DeviationResult
-        ensures { λ r. ⌜ r ≡ createOf discount weight sum «sum_squared» count ⌝ }
+        ensures { λ r. ⌜ r ≡ deviationCreate discount weight sum «sum_squared» count ⌝ }
     {
         if outside_unit(discount) {
             return DeviationResult::Err(6);
@@ -201,7 +201,7 @@ impl Deviation {
     }
 
     pub fn reset(self) -> Deviation
-        ensures { λ r. ⌜ r ≡ resetOf self ⌝ }
+        ensures { λ r. ⌜ r ≡ deviationReset self ⌝ }
     {
         Deviation {
             discount: self.discount,
@@ -223,7 +223,7 @@ impl Deviation {
     }
 
     pub fn update(self, score: f64) -> DeviationResult
-        ensures { λ r. ⌜ r ≡ updateOf self score ⌝ }
+        ensures { λ r. ⌜ r ≡ deviationUpdate self score ⌝ }
     {
         self.update_by(next_factor(self.discount, self.count), score)
     }
@@ -294,7 +294,7 @@ impl Deviation {
 
     // Takes any discount, as the source does.
     pub fn set_discount(self, discount: f64) -> Deviation
-        ensures { λ r. ⌜ r ≡ setDiscountOf self discount ⌝ }
+        ensures { λ r. ⌜ r ≡ deviationSetDiscount self discount ⌝ }
     {
         Deviation {
             discount: discount,
@@ -330,7 +330,7 @@ impl Deviation {
     }
 
     pub fn set_count(self, count: u64) -> DeviationResult
-        ensures { λ r. ⌜ r ≡ setCountOf self count ⌝ }
+        ensures { λ r. ⌜ r ≡ deviationSetCount self count ⌝ }
     {
         if count > COUNT_LIMIT {
             return DeviationResult::Err(18);

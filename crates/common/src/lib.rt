@@ -1,3 +1,2 @@
-// Running statistics and ranges: what the transformer and the preprocessor count with.
+// The running statistic: what the transformer and the preprocessor count with.
 pub mod deviation;
-pub mod rangevector;

@@ -17,11 +17,11 @@ use Rattle.series.specs.declared.imputation.ImputationMethod.{ImputationMethod}
 use Rattle.series.specs.declared.imputation.ImputationMethod.the-variants.{FIXED, PREVIOUS, NEXT, LINEAR}
 use Rattle.series.specs.declared.imputation.Nearest.{Nearest}
 use Rattle.series.specs.declared.imputation.Nearest.the-variants.{At, Nowhere}
-use Rattle.series.specs.Imputation.{isPresent, nearestBefore, nearestFrom, copyOf, lineOf, betweenOf, fillOf, presentIn, cellIn, missingOf, imputedAt, byPlace, imputed}
+use Rattle.series.specs.Imputation.{isPresent, nearestBefore, nearestFrom, copyOf, interpolated, betweenOf, fillOf, presentIn, cellIn, missingOf, imputedAt, byPlace, imputed}
 use Rattle.series.specs.Imputation.{imputeRow, Imputation, imputeAnswer, imputeOf}
 use Rattle.series.proofs.ImputationTheorems.{accepted}
 use Rattle.restart_program.proofs.Program.{program-demand-3}
-use Rattle.imputation_restart.specs.FilledLearns.{Filling, fedWith, fed, filledLearns, Timed, Holdable, Fed, other, filled, FilledDemand3}
+use Rattle.imputation_restart.specs.FilledLearns.{Filling, fedWith, learnsWith, filledLearns, Timed, Holdable, MachineOrFilled, other, filled, FilledDemand3}
 
 abbrev Single : Float → Type 0
 Single x = T (fits binary32 x)
@@ -54,8 +54,8 @@ copy-fits : (side : Nearest) (fixed : Float) → Found side → Single fixed →
 copy-fits (At r x) fixed h k = h
 copy-fits Nowhere fixed h k = k
 
-line-fits : (a b : Float) (p q : ℕ) → Single (lineOf a b p q)
-unfolding lineOf
+line-fits : (a b : Float) (p q : ℕ) → Single (interpolated a b p q)
+unfolding interpolated
 line-fits a b p q = add-fits binary32 a (mul binary32 (sub binary32 b a) (div binary32 (ofInt binary32 (pos p)) (ofInt binary32 (pos q))))
 
 fill-fits : (m : ImputationMethod) (before after : Nearest) (i : ℕ) (fixed : Float) → Found before → Found after → Single fixed
@@ -105,7 +105,7 @@ module _ (m : ImputationMethod) (d : ℕ) (cells : List Float) (marks : List ℕ
 
 -- ---- the learns
 
-fed-machine : (d : ℕ) (cells : List Float) (qs : List Learn) → Fits binary32 cells → All Timed qs → All Machine (fed d cells qs)
+fed-machine : (d : ℕ) (cells : List Float) (qs : List Learn) → Fits binary32 cells → All Timed qs → All Machine (learnsWith d cells qs)
 fed-machine d cells [] h k = tt
 fed-machine d cells (q ∷ qs) h k =
     let time : fedWith (take d cells) q .timestamp ≤ wholeMax = omega (arith, k .0 .0) in
@@ -120,16 +120,16 @@ filled-machine g h =
 
 -- where no row refuses, the learns are fed with the filled readings
 pub accepted-learns : (g : Filling) → imputeRow (g .d) (g .cells) (g .marks) (g .fixed) ≡ 0
-    → filledLearns g ≡ fed (g .d) (imputed (g .method) (g .d) (g .cells) (g .marks) (g .fixed)) (g .learns)
+    → filledLearns g ≡ learnsWith (g .d) (imputed (g .method) (g .d) (g .cells) (g .marks) (g .fixed)) (g .learns)
 unfolding filledLearns
 accepted-learns g e =
-    ap (λ (a : Imputation). fed (g .d) (a .cells) (g .learns)) (accepted (g .method) (g .d) (g .cells) (g .marks) (g .fixed) e)
+    ap (λ (a : Imputation). learnsWith (g .d) (a .cells) (g .learns)) (accepted (g .method) (g .d) (g .cells) (g .marks) (g .fixed) e)
 
-call-machine : (c : Call) → Fed c → Machine c
+call-machine : (c : Call) → MachineOrFilled c → Machine c
 call-machine c (other _ h) = h
 call-machine c (filled g h i k) = all-getD Machine (filledLearns g) i drain tt (filled-machine g h)
 
-calls-machine : (cs : List Call) → All Fed cs → All Machine cs
+calls-machine : (cs : List Call) → All MachineOrFilled cs → All Machine cs
 calls-machine [] h = tt
 calls-machine (c ∷ cs) h = (call-machine c (h .0), calls-machine cs (h .1))
 

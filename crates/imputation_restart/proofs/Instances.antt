@@ -12,7 +12,7 @@ use lib.Ieee as Ieee
 use Rattle.numeric.specs.Narrow as Narrow
 use Rattle.numeric.specs.Root as Root
 use Rattle.common.specs.Deviation as Deviation
-use Rattle.common.specs.Lent as Over
+use Rattle.refusal.specs.Lent as Over
 use Rattle.trcf.specs.Lists as Lists
 use Rattle.trcf.specs.Settings as Settings
 use Rattle.trcf.specs.Calls as Calls
@@ -31,11 +31,11 @@ use Rattle.series.specs.declared.imputation.ImputationMethod.the-variants.{LINE
 use Rattle.series.specs.Imputation as Imputation
 use Rattle.series.specs.Imputation.{imputed}
 use Rattle.restart.specs.History as History
-use Rattle.restart.specs.History.{Entry, initial, learned, drained, entries, historyText, historyAnswers}
+use Rattle.restart.specs.History.{Entry, initialEntry, learnedEntry, drainedEntry, entries, historyText, historyAnswers}
 use Rattle.restart.specs.Held.{builtOn, textIn, restoredOn}
 use Rattle.restart.specs.Statistics as Statistics
-use Rattle.restart_program.specs.Program.{returns, ran, answerRead, ProgramRestart}
-use Rattle.imputation_restart.specs.FilledLearns.{Filling, fedWith, fed, filledLearns, Holdable, Fed, other, filled}
+use Rattle.restart_program.specs.Program.{returns, leftByAll, answerRead, ProgramRestart}
+use Rattle.imputation_restart.specs.FilledLearns.{Filling, fedWith, learnsWith, filledLearns, Holdable, MachineOrFilled, other, filled}
 use Rattle.imputation_restart.proofs.Filled.{accepted-learns, filled-demand-3}
 
 -- ---- to unfold one of these is to unfold whatever its line names
@@ -65,7 +65,7 @@ unfolding transforming Settings.block Settings.dimension Settings.waiting Settin
 judging = tt
 
 refusing : Unit {0}
-unfolding judging Calls.due Calls.newest Calls.behind Calls.wrongLength Calls.outside Calls.drainFull Calls.learnFull Calls.waitingShort Calls.learnShort Calls.table Calls.rows
+unfolding judging Calls.due Calls.newest Calls.beforeNewest Calls.wrongLength Calls.outside Calls.drainFull Calls.learnFull Calls.waitingShort Calls.learnShort Calls.table Calls.rows
 refusing = tt
 
 computing : Unit {0}
@@ -73,7 +73,7 @@ unfolding refusing Preprocessor.timeFed Preprocessor.feed Preprocessor.timescale
 computing = tt
 
 filling : Unit {0}
-unfolding numbers Imputation.lineOf Imputation.missingOf Imputation.imputedAt Imputation.byPlace Imputation.imputed Imputation.misshapen Imputation.knownMarks
+unfolding numbers Imputation.interpolated Imputation.missingOf Imputation.imputedAt Imputation.byPlace Imputation.imputed Imputation.cellsMisshapen Imputation.knownMarks
 filling = tt
 
 filledIn : Unit {0}
@@ -81,7 +81,7 @@ unfolding filling Imputation.finitePresent Imputation.allFinite Imputation.imput
 filledIn = tt
 
 seen : Unit {0}
-unfolding computing filledIn History.seenOf History.internalOf History.bufferOf History.shingled History.inputsOf History.timestampsOf History.newestOf History.countOf
+unfolding computing filledIn History.seenOf History.internalOf History.bufferOf History.shingled History.inputsOf History.timestampsOf History.newestReading History.countOf
 seen = tt
 
 recording : Unit {0}
@@ -97,7 +97,7 @@ unfolding entering Text.whole Text.float Text.setLine Text.singles Text.cntLine 
 writing = tt
 
 holding : Unit {0}
-unfolding entering Preprocessor.previous Preprocessor.timeBase Preprocessor.preceding Preprocessor.primed Preprocessor.drainOne Preprocessor.drainAll Preprocessor.drained Preprocessor.held Preprocessor.learned
+unfolding entering Preprocessor.previous Preprocessor.timeBase Preprocessor.preceding Preprocessor.primed Preprocessor.drainOne Preprocessor.drainAll Preprocessor.drained Preprocessor.buffered Preprocessor.learned
 holding = tt
 
 replying : Unit {0}
@@ -105,7 +105,7 @@ unfolding holding Preprocessor.learnedWith Preprocessor.facts Preprocessor.devia
 replying = tt
 
 answering : Unit {0}
-unfolding replying Preprocessor.learnedNothing Preprocessor.heldAnswer Preprocessor.learnedAnswer Preprocessor.learnAnswer Preprocessor.reply Preprocessor.anomalyOf History.historyAnswer
+unfolding replying Preprocessor.learnedNothing Preprocessor.bufferedAnswer Preprocessor.learnedAnswer Preprocessor.learnAnswer Preprocessor.reply Preprocessor.anomalyOf History.historyAnswer
 answering = tt
 
 -- ---- the filling
@@ -186,7 +186,7 @@ run-learns : filledLearns run
 unfolding filledIn
 run-learns = refl
 
-run-accepted : filledLearns run ≡ fed 2 (imputed LINEAR 2 (run .cells) (run .marks) (run .fixed)) (run .learns)
+run-accepted : filledLearns run ≡ learnsWith 2 (imputed LINEAR 2 (run .cells) (run .marks) (run .fixed)) (run .learns)
 unfolding filledIn
 run-accepted = accepted-learns run refl
 
@@ -220,11 +220,11 @@ before = fedAt 0 ∷ drain ∷ fedAt 1 ∷ []
 abbrev after : List Call
 after = fedAt 2 ∷ fedAt 3 ∷ fedAt 4 ∷ []
 
-before-fed : All Fed before
+before-fed : All MachineOrFilled before
 unfolding filledIn
 before-fed = (filled run run-holdable 0 (omega arith), (other drain tt, (filled run run-holdable 1 (omega arith), tt)))
 
-after-fed : All Fed after
+after-fed : All MachineOrFilled after
 unfolding filledIn
 after-fed = (filled run run-holdable 2 (omega arith), (filled run run-holdable 3 (omega arith), (filled run run-holdable 4 (omega arith), tt)))
 
@@ -246,11 +246,11 @@ run-restart =
 
 -- the overflowed reading adds nothing, the filled one is an entry like the others
 run-entries : entries settings (before ++ after)
-    ≡ learned (six ∷ smallest ∷ []) 18446744073709551615 y
-    ∷ learned (six ∷ largest ∷ []) 30 y
-    ∷ learned (four ∷ one ∷ []) 20 y
-    ∷ drained
-    ∷ initial (two ∷ one ∷ []) 10
+    ≡ learnedEntry (six ∷ smallest ∷ []) 18446744073709551615 y
+    ∷ learnedEntry (six ∷ largest ∷ []) 30 y
+    ∷ learnedEntry (four ∷ one ∷ []) 20 y
+    ∷ drainedEntry
+    ∷ initialEntry (two ∷ one ∷ []) 10
     ∷ []
 unfolding entering
 run-entries = refl
@@ -269,6 +269,6 @@ unfolding answering
 ruled = refl
 
 -- the second one, after key-off, over other memory: row 11 at the overflowed reading, the others are learnt
-run-answers : map rowOf (map answerRead (returns (restoredOn (textIn (ran (builtOn settings dirty) before) (replicate 2000 10)) (7 ∷ 12 ∷ []) filthy) after))
+run-answers : map rowOf (map answerRead (returns (restoredOn (textIn (leftByAll (builtOn settings dirty) before) (replicate 2000 10)) (7 ∷ 12 ∷ []) filthy) after))
     ≡ 0 ∷ 11 ∷ 0 ∷ []
 run-answers = ap (map rowOf) (run-restart .ruledAnswers) ∙ ruled

@@ -40,13 +40,13 @@ fedWith x q =
     }
 
 -- each learn with the next d cells
-abbrev pub fed : ℕ → List Float → List Learn → List Call
-fed d cells [] = []
-fed d cells (q ∷ qs) = postProcess (fedWith (take d cells) q) ∷ fed d (drop d cells) qs
+abbrev pub learnsWith : ℕ → List Float → List Learn → List Call
+learnsWith d cells [] = []
+learnsWith d cells (q ∷ qs) = postProcess (fedWith (take d cells) q) ∷ learnsWith d (drop d cells) qs
 
 -- the learns fed with what the filler leaves in the lent cells: the filled readings, and those given where it refuses
 unfoldable pub filledLearns : Filling → List Call
-filledLearns g = fed (g .d) (imputeOf (g .method) (g .d) (g .cells) (g .marks) (g .fixed) .cells) (g .learns)
+filledLearns g = learnsWith (g .d) (imputeOf (g .method) (g .d) (g .cells) (g .marks) (g .fixed) .cells) (g .learns)
 
 -- whether a program can hold a learn's time and forest point
 abbrev pub Timed : Learn → Type 0
@@ -59,14 +59,14 @@ pub record Holdable (g : Filling) : Type 0 where
   pub learnsFit : All Timed (g .learns)
 
 -- any call that a program can hold, or a learn fed with a filled reading, of whichever filling
-pub data Fed : Call → Type 0 where
-  other : (c : Call) → Machine c → Fed c
-  filled : (g : Filling) → Holdable g → (i : ℕ) → i < length (filledLearns g) → Fed (getD (filledLearns g) i drain)
+pub data MachineOrFilled : Call → Type 0 where
+  other : (c : Call) → Machine c → MachineOrFilled c
+  filled : (g : Filling) → Holdable g → (i : ℕ) → i < length (filledLearns g) → MachineOrFilled (getD (filledLearns g) i drain)
 
 -- filled readings anywhere before and after key-off
 abbrev pub FilledDemand3 : Type 0
 FilledDemand3 =
-    (s : Settings) → Valid s → (before after : List Call) → All Fed before → All Fed after
+    (s : Settings) → Valid s → (before after : List Call) → All MachineOrFilled before → All MachineOrFilled after
     → (first second : Lent) → lentShort s first ≡ false → lentShort s second ≡ false
     → (out last : List ℕ) → length (historyText s before) ≤ length out
     → ProgramRestart s before after first second out last

@@ -14,7 +14,7 @@ use lib.Ieee.Exact.{HasValue, odd-sign}
 use lib.Ieee.Nearest.{closest}
 use lib.Ieee.Scale.{round-same}
 use Rattle.numeric.specs.Narrow.{narrowed}
-use Rattle.numeric.proofs.Near.{closest-lt, three-powers}
+use Rattle.numeric.proofs.Near.{closest-lt, closest-beside, three-powers}
 use Rattle.numeric.proofs.Pack.{round-bits, round-over, round-no-nan, Pattern, pattern-of}
 
 -- ---- in either format
@@ -102,6 +102,17 @@ module _ (s : Bool) (t : ℕ) (H : t < 2 ^ 52) where
         sym (ap (toBits binary32) as-round
         ∙ round-over binary32 s ((t + 2 ^ 52) * 2 ^ (x - 1)) (2 ^ 1074) (t + 2 ^ 52) 29 (x - 897) (pow-pos 1074) (room (t + 2 ^ 52) 29 sum-lt (lit≤ tt)) (sym (three-powers (t + 2 ^ 52) (x - 897) 1074 (x - 1) 149 29 (omega arith))) (omega arith) (omega arith))
 
+-- the bits below the sign, from the exponent's new origin on
+pub narrow-size : (s : Bool) (y : ℕ) → 0x3810_0000_0000_0000 ≤ y → y < 0x47f0_0000_0000_0000
+    → cond s (top binary32) 0 + closest (y - 0x3800_0000_0000_0000) (2 ^ 29) ≡ toBits binary32 (narrowed (ofFields binary64 s (y / 2 ^ 52) (y % 2 ^ 52)))
+narrow-size s y l h =
+    let x = y / 2 ^ 52 in
+    let t = y % 2 ^ 52 in
+    let e : y - 0x3800_0000_0000_0000 ≡ (x - 897) * 2 ^ 52 + (t + 2 ^ 52) = omega arith in
+    ap (λ (m : ℕ). cond s (top binary32) 0 + closest m (2 ^ 29)) e
+    ∙ ap (λ (q : ℕ). cond s (top binary32) 0 + q) (closest-beside (x - 897) (t + 2 ^ 52))
+    ∙ narrow-normal s t (omega arith) x (omega arith) (omega arith) (omega arith) (omega arith)
+
 -- the infinity
 pub narrow-inf : (s : Bool) (x t : ℕ) → x ≡ 2047 → t ≡ 0 → cond s (top binary32) 0 + 0x7f80_0000 ≡ toBits binary32 (narrowed (ofFields binary64 s x t))
 narrow-inf s x t e z = rw (e, z) (at s)
@@ -134,13 +145,19 @@ pub read : (x : Float) → T (fits binary64 x) → ofFields binary64 (leb (top b
 unfolding ofBits
 read x h = ofBits-toBits binary64 x h
 
+-- the digits do not see the sign
+digits : (b : ℕ) → b % 2 ^ 63 % 2 ^ 52 ≡ b % 2 ^ 52
+digits b = omega arith
+
 pub narrow-pattern : (x : Float) (low : ℕ) → T (fits binary64 x) → T (not (isNan x))
-    → ((s : Bool) → cond s (top binary32) 0 + low ≡ toBits binary32 (narrowed (ofFields binary64 s (toBits binary64 x % top binary64 / hid binary64) (toBits binary64 x % hid binary64))))
+    → ((s : Bool) → cond s (top binary32) 0 + low ≡ toBits binary32 (narrowed (ofFields binary64 s (toBits binary64 x % 2 ^ 63 / 2 ^ 52) (toBits binary64 x % 2 ^ 63 % 2 ^ 52))))
     → Pattern binary32 (narrowed x) (toBits binary64 x / 2 ^ 63 * 2 ^ 31 + low)
 narrow-pattern x low h n e =
     let b = toBits binary64 x in
     pattern-of binary32 (narrowed x) (b / 2 ^ 63 * 2 ^ 31 + low) (narrowed-fits x) (narrowed-real x n)
-    (ap (λ (y : ℕ). y + low) (sign-word b (toBits-lt binary64 x h)) ∙ e (leb (top binary64) b) ∙ ap (λ (v : Float). toBits binary32 (narrowed v)) (read x h))
+    (ap (λ (y : ℕ). y + low) (sign-word b (toBits-lt binary64 x h)) ∙ e (leb (top binary64) b)
+    ∙ ap (λ (t : ℕ). toBits binary32 (narrowed (ofFields binary64 (leb (top binary64) b) (b % 2 ^ 63 / 2 ^ 52) t))) (digits b)
+    ∙ ap (λ (v : Float). toBits binary32 (narrowed v)) (read x h))
 
 -- the fields of a value that is no NaN
 pub no-nan-fields : (x : Float) → T (fits binary64 x) → T (not (isNan x)) → toBits binary64 x % top binary64 / hid binary64 ≡ 2047 → toBits binary64 x % hid binary64 ≡ 0
@@ -154,3 +171,6 @@ no-nan-fields x h n e =
     go true true a b k = b tt
     go true false a b k = absurd k
     go false q a b k = absurd a
+
+pub no-nan-size : (x : Float) → T (fits binary64 x) → T (not (isNan x)) → toBits binary64 x % 2 ^ 63 / 2 ^ 52 ≡ 2047 → toBits binary64 x % 2 ^ 63 % 2 ^ 52 ≡ 0
+no-nan-size x h n e = digits (toBits binary64 x) ∙ no-nan-fields x h n e

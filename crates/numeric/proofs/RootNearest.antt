@@ -15,7 +15,7 @@ use lib.Ieee.Fits.{round-fits}
 use lib.Ieee.Exact.{HasValue, units-val}
 use lib.Ieee.Nearest.{closest}
 use Rattle.numeric.specs.Root.{isqrt, halves, rooted}
-use Rattle.numeric.specs.Nearest.{IsValue, apart, WholeRoot, RootIsNearest}
+use Rattle.numeric.specs.Nearest.{IsValue, distance, WholeRoot, RootIsNearest}
 use Rattle.numeric.proofs.Near.{two-powers}
 use Rattle.numeric.proofs.Pack.{round-units, closest-hi, closest-lo}
 use Rattle.numeric.proofs.Squares.{square-times, isqrt-within, halves-exact, halves-between, scaled}
@@ -139,7 +139,7 @@ module _ (m e : ℕ) (lo : 2 ^ 52 ≤ m) (hi : m < 2 ^ 53) (E : e < 2098) where
   within =
       let n = m * 2 ^ (e + 1022) in
       let g = unit e in
-      let h : 2 * apart true (halves n) (places * 2 ^ (e / 2 + 486)) ≤ 2 ^ (e / 2 + 486) = half (halves n) (2 ^ (e / 2 + 486)) (pow-pos (e / 2 + 486)) .0 in
+      let h : 2 * distance true (halves n) (places * 2 ^ (e / 2 + 486)) ≤ 2 ^ (e / 2 + 486) = half (halves n) (2 ^ (e / 2 + 486)) (pow-pos (e / 2 + 486)) .0 in
       let f = four in
       let d : places * 2 ^ (e / 2 + 486) ≡ 2 * (places * (2 * g)) = ap (λ (x : ℕ). places * x) f ∙ mul-left-comm places 2 (2 * g) in
       ends n (places * (2 * g)) g (omega arith) (omega arith)

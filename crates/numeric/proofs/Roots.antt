@@ -8,11 +8,11 @@ use native.Mathlib.Omega.{arith}
 use mathlib.Core.Bool.{Bool, true, false, not, _&&_, _||_, Bool·beq, cond, true≢false, false≢true}
 use lib.IntN.{ℤ}
 use lib.Dec.{T, leb, ltb, eqb, nleb→lt, lt→ltb, ltb→lt, eqb→eq}
-use lib.Arith.{lt→nleb}
+use lib.Arith.{lt→nleb, le→nltb}
 use lib.Pow.{pow-add, pow-pos, pow-mono, shl-lt}
 use lib.Count.{leadingZeros, leading-top}
-use lib.Ieee.{Float, nan, inf, fin, binary64, low, up, down, size, odd, isNan, fits, div, lt, eq, ofFields, ofBits, toBits}
-use lib.Ieee.Bits.{is-false, nanBits-is, toBits-ofBits}
+use lib.Ieee.{Float, nan, inf, fin, binary64, low, up, down, size, odd, isNan, fits, hid, ones, top, div, lt, eq, ofFields, ofBits, nanBits, toBits}
+use lib.Ieee.Bits.{is-false, nanBits-is, nanBits-above, toBits-ofBits}
 use lib.Ieee.Fits.{down-pos, up-pos}
 use lib.Ieee.Exact.{HasValue}
 use lib.Ieee.Nearest.{closest}
@@ -356,15 +356,26 @@ digits-none (fin true (suc m) e) h = refl
 digits-none (fin false (suc m) e) h = absurd (no-above m e h)
 
 -- the two tests that a program makes
-pub positive-by : (x : Float) → lt (ofBits binary64 0) x ≡ true → lt x (div binary64 (ofBits binary64 0x3ff0_0000_0000_0000) (ofBits binary64 0)) ≡ true → T (positive x)
-unfolding lt ofBits div
-positive-by nan h k = absurd (false≢true h)
-positive-by (inf true) h k = absurd (false≢true h)
-positive-by (inf false) h k = absurd (false≢true k)
-positive-by (fin true m e) h k = absurd (false≢true h)
-positive-by (fin false zero e) h k =
+-- nothing lies above the infinity
+below-finite : (y : Float) → lt (inf false) y ≡ true → ⊥
+unfolding lt
+below-finite nan k = false≢true k
+below-finite (inf true) k = false≢true k
+below-finite (inf false) k = false≢true k
+below-finite (fin s m e) k = false≢true k
+
+pub positive-below : (x y : Float) → lt (ofBits binary64 0) x ≡ true → lt x y ≡ true → T (positive x)
+unfolding lt ofBits
+positive-below nan y h k = absurd (false≢true h)
+positive-below (inf true) y h k = absurd (false≢true h)
+positive-below (inf false) y h k = absurd (below-finite y k)
+positive-below (fin true m e) y h k = absurd (false≢true h)
+positive-below (fin false zero e) y h k =
     absurd (lt-irrefl 0 (subst (λ (b : ℕ). 0 < b) (ap (λ (a : ℕ). a * 1) (zero-mul (up e))) (lt-of-le-of-lt zero-le (ltb→lt (0 * 1 * down e) (0 * up e * 1) (subst T (sym h) tt)))))
-positive-by (fin false (suc m) e) h k = lt→ltb 0 (suc m) (zero-lt-suc m)
+positive-below (fin false (suc m) e) y h k = lt→ltb 0 (suc m) (zero-lt-suc m)
+
+pub positive-by : (x : Float) → lt (ofBits binary64 0) x ≡ true → lt x (div binary64 (ofBits binary64 0x3ff0_0000_0000_0000) (ofBits binary64 0)) ≡ true → T (positive x)
+positive-by x h k = positive-below x (div binary64 (ofBits binary64 0x3ff0_0000_0000_0000) (ofBits binary64 0)) h k
 
 infinite : (x : Float) → lt (ofBits binary64 0) x ≡ true → lt x (div binary64 (ofBits binary64 0x3ff0_0000_0000_0000) (ofBits binary64 0)) ≡ false → x ≡ inf false
 unfolding lt ofBits div
@@ -386,6 +397,10 @@ unfolding lt ofBits isNan
 above-real nan h = absurd (false≢true h)
 above-real (inf s) h = tt
 above-real (fin s m e) h = tt
+
+-- a pattern up to the infinity's is no NaN's
+pub low-pattern : (p : ℕ) → p ≤ 2047 * 2 ^ 52 → T (not (nanBits binary64 p))
+low-pattern p h = subst (λ (t : Bool). T (not t)) (sym (nanBits-above binary64 p)) (le→nltb (ones binary64 * hid binary64) (p % top binary64) (omega arith))
 
 -- ---- the digits of the root of x, read off its pattern
 module _ (x : Float) (m e : ℕ) (i : IsScaled x m e) where

@@ -18,14 +18,14 @@ use lib.Ieee.Fits.{two, reach, nearest-le, round-is, round-fits, down-pos, fits-
 use lib.Ieee.Exact.{HasValue, units-val}
 use lib.Ieee.Nearest.{closest, nearest-ge}
 use Rattle.numeric.specs.Narrow.{narrowed}
-use Rattle.numeric.specs.Nearest.{IsValue, apart, IsNearest, limit, IsRounded, RoundIsNearest, NarrowingIsNearest, WideningIsExact, IntegerIsNearest}
+use Rattle.numeric.specs.Nearest.{IsValue, distance, IsNearest, overflowLimit, IsRounded, RoundIsNearest, NarrowingIsNearest, WideningIsExact, IntegerIsNearest}
 use Rattle.numeric.proofs.Near.{closest-lt, closest-gt, closest-eq}
 use Rattle.numeric.proofs.Pack.{twice-hid, units-bits, units-inf}
 use Rattle.numeric.proofs.Held.{Held, held, one-lt}
 
 -- ---- whole numbers: q * u is within a half of u of n, and where it is just a half away, q is even
 abbrev pub Half : ℕ → ℕ → ℕ → Type 0
-Half n u q = (2 * apart true n (q * u) ≤ u) × (2 * apart true n (q * u) ≡ u → q % 2 ≡ 0)
+Half n u q = (2 * distance true n (q * u) ≤ u) × (2 * distance true n (q * u) ≡ u → q % 2 ≡ 0)
 
 pub half : (n u : ℕ) → 0 < u → Half n u (closest n u)
 half n u U = go (decLt (n % u * 2) u) (decLt u (n % u * 2))
@@ -65,7 +65,7 @@ half n u U = go (decLt (n % u * 2) u) (decLt u (n % u * 2))
         subst (λ (q : ℕ). Half n u q) (sym (closest-eq n u e)) (tie-case e (n / u % 2) (mod-lt (n / u) (lit< tt)) refl)
 
 -- so no multiple of u is nearer
-others : (n u q d : ℕ) → Half n u q → (d ≡ q → ⊥) → (apart true n (q * u) ≤ apart true n (d * u)) × (apart true n (q * u) ≡ apart true n (d * u) → q % 2 ≡ 0)
+others : (n u q d : ℕ) → Half n u q → (d ≡ q → ⊥) → (distance true n (q * u) ≤ distance true n (d * u)) × (distance true n (q * u) ≡ distance true n (d * u) → q % 2 ≡ 0)
 others n u q d h ne = go (decLt d q)
   where
     less : d < q → d * u + u ≤ q * u
@@ -74,7 +74,7 @@ others n u q d h ne = go (decLt d q)
     more : q < d → q * u + u ≤ d * u
     more l = le-trans (le-of-eq (sym (suc-mul q u))) (mul-le-mul-right u l)
 
-    go : Dec (d < q) → (apart true n (q * u) ≤ apart true n (d * u)) × (apart true n (q * u) ≡ apart true n (d * u) → q % 2 ≡ 0)
+    go : Dec (d < q) → (distance true n (q * u) ≤ distance true n (d * u)) × (distance true n (q * u) ≡ distance true n (d * u) → q % 2 ≡ 0)
     go (yes l) = let a = less l in let b = h .0 in (omega arith, λ e. h .1 (omega arith))
     go (no k) =
         let a = more (above d q k ne) in
@@ -84,11 +84,11 @@ others n u q d h ne = go (decLt d q)
         above : (d q : ℕ) → (d < q → ⊥) → (d ≡ q → ⊥) → q < d
         above d q a b = omega arith
 
-not-nearer : (n u q d : ℕ) → Half n u q → apart true n (q * u) ≤ apart true n (d * u)
+not-nearer : (n u q d : ℕ) → Half n u q → distance true n (q * u) ≤ distance true n (d * u)
 not-nearer n u q d h = go (ℕ-discrete d q)
   where
-    go : Dec (d ≡ q) → apart true n (q * u) ≤ apart true n (d * u)
-    go (yes e) = le-of-eq (ap (λ (x : ℕ). apart true n (x * u)) (sym e))
+    go : Dec (d ≡ q) → distance true n (q * u) ≤ distance true n (d * u)
+    go (yes e) = le-of-eq (ap (λ (x : ℕ). distance true n (x * u)) (sym e))
     go (no ne) = others n u q d h ne .0
 
 -- ---- the values of a format: from hid * 2 ^ k units on each is a multiple of 2 ^ k
@@ -152,7 +152,7 @@ bound-is f = ap (λ (x : ℕ). 2 ^ x) (sum (prec f) (emax f) (two f) (reach f)) 
     sum p e h g = omega arith
 
 -- the limit, with w for den * 2 ^ top-k
-limit-is : (f : Format) (den : ℕ) → limit f * den + den * 2 ^ top-k f ≡ 2 * (2 ^ prec f * (den * 2 ^ top-k f))
+limit-is : (f : Format) (den : ℕ) → overflowLimit f * den + den * 2 ^ top-k f ≡ 2 * (2 ^ prec f * (den * 2 ^ top-k f))
 limit-is f den =
     let K = 2 ^ top-k f in
     let P = 2 ^ prec f in
@@ -187,23 +187,23 @@ module _ (f : Format) (s : Bool) (n den k : ℕ) (D : 0 < den) (lead : (k ≡ 0)
 
   -- at a multiple of 2 ^ k units, and at any value of the format
   at-multiple : (d : ℕ) → let a = closest n (den * 2 ^ k) * 2 ^ k in
-      (apart true n (a * den) ≤ apart true n (d * 2 ^ k * den)) × (apart true n (a * den) ≡ apart true n (d * 2 ^ k * den) → (d * 2 ^ k ≡ a) ⊎ (closest n (den * 2 ^ k) % 2 ≡ 0))
+      (distance true n (a * den) ≤ distance true n (d * 2 ^ k * den)) × (distance true n (a * den) ≡ distance true n (d * 2 ^ k * den) → (d * 2 ^ k ≡ a) ⊎ (closest n (den * 2 ^ k) % 2 ≡ 0))
   at-multiple d = rw (shape (closest n (den * 2 ^ k)), shape d) (go (ℕ-discrete d q))
     where
       q : ℕ
       q = closest n (den * 2 ^ k)
 
-      go : Dec (d ≡ q) → (apart true n (q * (den * 2 ^ k)) ≤ apart true n (d * (den * 2 ^ k))) × (apart true n (q * (den * 2 ^ k)) ≡ apart true n (d * (den * 2 ^ k)) → (d * 2 ^ k ≡ q * 2 ^ k) ⊎ (q % 2 ≡ 0))
+      go : Dec (d ≡ q) → (distance true n (q * (den * 2 ^ k)) ≤ distance true n (d * (den * 2 ^ k))) × (distance true n (q * (den * 2 ^ k)) ≡ distance true n (d * (den * 2 ^ k)) → (d * 2 ^ k ≡ q * 2 ^ k) ⊎ (q % 2 ≡ 0))
       go (yes e) = (not-nearer n (den * 2 ^ k) q d is-half, λ x. inl (ap (λ (x : ℕ). x * 2 ^ k) e))
       go (no ne) = let o = others n (den * 2 ^ k) q d is-half ne in (o .0, λ e. inr (o .1 e))
 
   at-value : (t : Bool) (v : Float) (c : ℕ) → IsValue f t v c → let a = closest n (den * 2 ^ k) * 2 ^ k in
-      (apart true n (a * den) ≤ apart true n (c * den)) × (apart true n (a * den) ≡ apart true n (c * den) → (c ≡ a) ⊎ (closest n (den * 2 ^ k) % 2 ≡ 0))
+      (distance true n (a * den) ≤ distance true n (c * den)) × (distance true n (a * den) ≡ distance true n (c * den) → (c ≡ a) ⊎ (closest n (den * 2 ^ k) % 2 ≡ 0))
   at-value t v c i = go (decLt c (hid f * 2 ^ k)) lead
     where
       Is : ℕ → Type 0
       Is c = let a = closest n (den * 2 ^ k) * 2 ^ k in
-          (apart true n (a * den) ≤ apart true n (c * den)) × (apart true n (a * den) ≡ apart true n (c * den) → (c ≡ a) ⊎ (closest n (den * 2 ^ k) % 2 ≡ 0))
+          (distance true n (a * den) ≤ distance true n (c * den)) × (distance true n (a * den) ≡ distance true n (c * den) → (c ≡ a) ⊎ (closest n (den * 2 ^ k) % 2 ≡ 0))
 
       multiple : (k ≡ 0) ⊎ (hid f * 2 ^ k ≤ c) → Is c
       multiple b = let g = on-grid f t v c k i b in subst Is (sym (g .1)) (at-multiple (g .0))
@@ -220,7 +220,7 @@ module _ (f : Format) (s : Bool) (n den k : ℕ) (D : 0 < den) (lead : (k ≡ 0)
           let e = shape (hid f) in
           (omega arith, λ x. absurd (no (closest n (den * 2 ^ k) * 2 ^ k * den) (c * den) (hid f * 2 ^ k * den) a b (le-trans (le-of-eq e) l) x))
         where
-          no : (y c h : ℕ) → apart true n y ≤ apart true n h → c < h → h ≤ n → apart true n y ≡ apart true n c → ⊥
+          no : (y c h : ℕ) → distance true n y ≤ distance true n h → c < h → h ≤ n → distance true n y ≡ distance true n c → ⊥
           no y c h a b l e = omega arith
 
   -- ---- where the result is a value
@@ -236,14 +236,14 @@ module _ (f : Format) (s : Bool) (n den k : ℕ) (D : 0 < den) (lead : (k ≡ 0)
       q : ℕ
       q = closest n (den * 2 ^ k)
 
-      at-zero : (apart true n (q * 2 ^ k * den) ≤ apart true n (0 * den)) × (apart true n (q * 2 ^ k * den) ≡ apart true n (0 * den) → (0 ≡ q * 2 ^ k) ⊎ (q % 2 ≡ 0))
+      at-zero : (distance true n (q * 2 ^ k * den) ≤ distance true n (0 * den)) × (distance true n (q * 2 ^ k * den) ≡ distance true n (0 * den) → (0 ≡ q * 2 ^ k) ⊎ (q % 2 ≡ 0))
       at-zero = at-value s (fin s 0 (pos 0)) 0 (zero-value f s)
 
-      near-by : (b : Bool) (c : ℕ) → apart true n (q * 2 ^ k * den) ≤ apart true n (c * den) → apart true n (q * 2 ^ k * den) ≤ apart b n (c * den)
+      near-by : (b : Bool) (c : ℕ) → distance true n (q * 2 ^ k * den) ≤ distance true n (c * den) → distance true n (q * 2 ^ k * den) ≤ distance b n (c * den)
       near-by true c x = x
       near-by false c x = let z = at-zero .0 in let w = zero-mul den in omega arith
 
-      even-by : (b : Bool) (c : ℕ) → (apart true n (q * 2 ^ k * den) ≡ apart true n (c * den) → (c ≡ q * 2 ^ k) ⊎ (q % 2 ≡ 0)) → apart true n (q * 2 ^ k * den) ≡ apart b n (c * den) → (c ≡ q * 2 ^ k) ⊎ (q % 2 ≡ 0)
+      even-by : (b : Bool) (c : ℕ) → (distance true n (q * 2 ^ k * den) ≡ distance true n (c * den) → (c ≡ q * 2 ^ k) ⊎ (q % 2 ≡ 0)) → distance true n (q * 2 ^ k * den) ≡ distance b n (c * den) → (c ≡ q * 2 ^ k) ⊎ (q % 2 ≡ 0)
       even-by true c x e = x e
       even-by false c x e = x (none c z)
         where
@@ -253,7 +253,7 @@ module _ (f : Format) (s : Bool) (n den k : ℕ) (D : 0 < den) (lead : (k ≡ 0)
           z : c * den ≡ 0
           z = let a = at-zero .0 in let b = w in omega arith
 
-          none : (c : ℕ) → c * den ≡ 0 → apart true n (q * 2 ^ k * den) ≡ apart true n (c * den)
+          none : (c : ℕ) → c * den ≡ 0 → distance true n (q * 2 ^ k * den) ≡ distance true n (c * den)
           none c z = let a = e in let b = at-zero .0 in omega arith
 
       top-field : suc k < ones f
@@ -277,12 +277,12 @@ module _ (f : Format) (s : Bool) (n den k : ℕ) (D : 0 < den) (lead : (k ≡ 0)
   P-pos : 0 < 2 ^ prec f
   P-pos = pow-pos (prec f)
 
-  same-top : top-k f ≡ k → 2 ^ prec f * 2 ^ top-k f ≤ closest n (den * 2 ^ k) * 2 ^ k → limit f * den ≤ 2 * n
+  same-top : top-k f ≡ k → 2 ^ prec f * 2 ^ top-k f ≤ closest n (den * 2 ^ k) * 2 ^ k → overflowLimit f * den ≤ 2 * n
   same-top e g =
       let q = closest n (den * 2 ^ k) in
       let a : 2 ^ prec f ≤ q = le-of-mul-le-mul-right (le-trans (le-of-eq (ap (λ (x : ℕ). 2 ^ prec f * 2 ^ x) (sym e))) g) (pow-pos k) in
       let b : 2 ^ prec f * (den * 2 ^ k) ≤ q * (den * 2 ^ k) = mul-le-mul-right (den * 2 ^ k) a in
-      let c : limit f * den + den * 2 ^ k ≡ 2 * (2 ^ prec f * (den * 2 ^ k)) = subst (λ (x : ℕ). limit f * den + den * 2 ^ x ≡ 2 * (2 ^ prec f * (den * 2 ^ x))) e (limit-is f den) in
+      let c : overflowLimit f * den + den * 2 ^ k ≡ 2 * (2 ^ prec f * (den * 2 ^ k)) = subst (λ (x : ℕ). overflowLimit f * den + den * 2 ^ x ≡ 2 * (2 ^ prec f * (den * 2 ^ x))) e (limit-is f den) in
       let h = is-half .0 in
       omega arith
 
@@ -298,7 +298,7 @@ module _ (f : Format) (s : Bool) (n den k : ℕ) (D : 0 < den) (lead : (k ≡ 0)
   w-pos : 0 < den * 2 ^ top-k f
   w-pos = mul-pos D (pow-pos (top-k f))
 
-  finite : 2 * n < limit f * den → closest n (den * 2 ^ k) * 2 ^ k < 2 ^ (low f + suc (emax f))
+  finite : 2 * n < overflowLimit f * den → closest n (den * 2 ^ k) * 2 ^ k < 2 ^ (low f + suc (emax f))
   finite l = lt-of-not-le (λ g. go (subst (λ (x : ℕ). x ≤ closest n (den * 2 ^ k) * 2 ^ k) (bound-is f) g))
     where
       go : 2 ^ prec f * 2 ^ top-k f ≤ closest n (den * 2 ^ k) * 2 ^ k → ⊥
@@ -320,7 +320,7 @@ module _ (f : Format) (s : Bool) (n den k : ℕ) (D : 0 < den) (lead : (k ≡ 0)
               none a k h z = omega arith
           which (inr h) (inr x) = let a = past-top h x in let b = limit-is f den in let c = w-pos in omega arith
 
-  infinite : limit f * den ≤ 2 * n → units f s (closest n (den * 2 ^ k)) k ≡ inf s
+  infinite : overflowLimit f * den ≤ 2 * n → units f s (closest n (den * 2 ^ k)) k ≡ inf s
   infinite l = units-inf f s (closest n (den * 2 ^ k)) k (no-lt (subst (λ (x : ℕ). x ≤ closest n (den * 2 ^ k) * 2 ^ k) (sym (bound-is f)) big))
     where
       q : ℕ
@@ -356,15 +356,15 @@ module _ (f : Format) (s : Bool) (n den k : ℕ) (D : 0 < den) (lead : (k ≡ 0)
               no : q < 2 ^ prec f → ⊥
               no g =
                   let u = den * 2 ^ k in
-                  let c : limit f * den + u ≡ 2 * (2 ^ prec f * u) = subst (λ (x : ℕ). limit f * den + den * 2 ^ x ≡ 2 * (2 ^ prec f * (den * 2 ^ x))) e (limit-is f den) in
+                  let c : overflowLimit f * den + u ≡ 2 * (2 ^ prec f * u) = subst (λ (x : ℕ). overflowLimit f * den + den * 2 ^ x ≡ 2 * (2 ^ prec f * (den * 2 ^ x))) e (limit-is f den) in
                   let a : q * u + u ≤ 2 ^ prec f * u = le-trans (le-of-eq (sym (suc-mul q u))) (mul-le-mul-right u g) in
                   let h = is-half .0 in
                   let even : q % 2 ≡ 0 = is-half .1 (omega arith) in
-                  let full : suc q * u ≡ 2 ^ prec f * u = suc-mul q u ∙ exact (q * u) u (2 ^ prec f * u) n (limit f * den) a c l h in
+                  let full : suc q * u ≡ 2 ^ prec f * u = suc-mul q u ∙ exact (q * u) u (2 ^ prec f * u) n (overflowLimit f * den) a c l h in
                   let is : suc q ≡ 2 ^ prec f = eq-of-mul-eq-mul-right u U (suc q) (2 ^ prec f) full in
                   odd-even q (hid f) even (is ∙ twice-hid f)
                 where
-                  exact : (x u p n m : ℕ) → x + u ≤ p → m + u ≡ 2 * p → m ≤ 2 * n → 2 * apart true n x ≤ u → x + u ≡ p
+                  exact : (x u p n m : ℕ) → x + u ≤ p → m + u ≡ 2 * p → m ≤ 2 * n → 2 * distance true n x ≤ u → x + u ≡ p
                   exact x u p n m a b c d = omega arith
 
                   odd-even : (q h : ℕ) → q % 2 ≡ 0 → suc q ≡ 2 * h → ⊥

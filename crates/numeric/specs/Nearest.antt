@@ -19,25 +19,25 @@ pub record IsValue (f : Format) (s : Bool) (v : Float) (c : ℕ) : Type 0 where
   pub value : HasValue v s c (2 ^ low f)
 
 -- how far apart two numbers are, by their sizes: with the same sign, and with different signs
-abbrev pub apart : Bool → ℕ → ℕ → ℕ
-apart true a b = (a - b) + (b - a)
-apart false a b = a + b
+abbrev pub distance : Bool → ℕ → ℕ → ℕ
+distance true a b = (a - b) + (b - a)
+distance false a b = a + b
 
 -- r is a value of f, and of all values of f the nearest to n / den units with the sign s; where another lies as near, r's last digit is even
 pub record IsNearest (f : Format) (s : Bool) (n den : ℕ) (r : Float) : Type 0 where
   pub units : ℕ
   pub is : IsValue f s r units
-  pub nearest : (t : Bool) (v : Float) (c : ℕ) → IsValue f t v c → apart true n (units * den) ≤ apart (Bool·beq s t) n (c * den)
-  pub even : (t : Bool) (v : Float) (c : ℕ) → IsValue f t v c → apart true n (units * den) ≡ apart (Bool·beq s t) n (c * den) → (c ≡ units) ⊎ (toBits f r % 2 ≡ 0)
+  pub nearest : (t : Bool) (v : Float) (c : ℕ) → IsValue f t v c → distance true n (units * den) ≤ distance (Bool·beq s t) n (c * den)
+  pub even : (t : Bool) (v : Float) (c : ℕ) → IsValue f t v c → distance true n (units * den) ≡ distance (Bool·beq s t) n (c * den) → (c ≡ units) ⊎ (toBits f r % 2 ≡ 0)
 
 -- twice the midpoint above the largest value, which is (2 ^ prec - 1) * 2 ^ (2 * emax - 1) units
-abbrev pub limit : Format → ℕ
-limit f = (2 ^ suc (prec f) - 1) * 2 ^ (2 * emax f - 1)
+abbrev pub overflowLimit : Format → ℕ
+overflowLimit f = (2 ^ suc (prec f) - 1) * 2 ^ (2 * emax f - 1)
 
 -- r is num / den with the sign s, correctly rounded to f
 pub record IsRounded (f : Format) (s : Bool) (num den : ℕ) (r : Float) : Type 0 where
-  pub over : limit f * den ≤ 2 * (num * 2 ^ low f) → r ≡ inf s
-  pub under : 2 * (num * 2 ^ low f) < limit f * den → IsNearest f s (num * 2 ^ low f) den r
+  pub over : overflowLimit f * den ≤ 2 * (num * 2 ^ low f) → r ≡ inf s
+  pub under : 2 * (num * 2 ^ low f) < overflowLimit f * den → IsNearest f s (num * 2 ^ low f) den r
 
 -- r is the f64 nearest to √x. x is n / 2 ^ 2148, so √x is √n units. The midpoint of r and of another value, of c units, is (units + c) / 2, and its square against n tells
 -- which of the two lies nearer: r does, whatever the other. Both comparisons are strict, so √x is never a midpoint, and no tie has to be settled.

@@ -49,7 +49,7 @@ fn assembled(m: u64, e: u64, low: u64) -> f64
 }
 
 // From a number near 1 / √(2 * h) to a nearer one. The three products do not wait for each other, as they would in y * (1.5 - h * y * y).
-fn newton(h: f64, y: f64) -> f64 {
+pub(crate) fn newton(h: f64, y: f64) -> f64 {
     y * 1.5 - h * y * (y * y)
 }
 
@@ -224,4 +224,38 @@ pub(crate) fn nearest_root(x: f64) -> f64
         }
         0.0 / 0.0
     }
+}
+
+// The root of m * 2^(e - 1126) to 53 digits, if they are those of t or next to them; else 0.
+fn digits_near(m: u64, e: u64, t: f64) -> u64
+    requires { ⌜ 2 ^ 52 ≤ m ⌝ }
+    requires { ⌜ m < 2 ^ 53 ⌝ }
+    requires { ⌜ e < 2098 ⌝ }
+    ensures { λ r. ⌜ (0 < r → r ≡ closest (halves (m * (1 + e % 2) * 2 ^ 54)) 4) ⌝ }
+{
+    if t > 0.0 {
+        let n = m * (1 + e % 2);
+        mended(
+            n,
+            f64::to_bits(t) % 0x10_0000_0000_0000 + 0x10_0000_0000_0000,
+        )
+    } else {
+        0
+    }
+}
+
+// The same as `nearest_root`, from a guess t at the root's digits. The bound is not the infinity: the compiler makes a slow test of the class out of that.
+pub(crate) fn root_near(x: f64, t: f64) -> f64
+    ensures { λ r. ⌜ r ≡ rootOf x ⌝ }
+{
+    if x > 0.0 {
+        if x < 1e300 {
+            let s = scale(x);
+            let low = digits_near(s.m, s.e, t);
+            if low > 0 {
+                return assembled(s.m, s.e, low);
+            }
+        }
+    }
+    nearest_root(x)
 }

@@ -2,40 +2,6 @@
 // A line is a letter, a tab, 16 hexadecimal digits, a tab, 16 hexadecimal digits and an LF: the function, the argument's bits and the answer's.
 use libc::STDOUT_FILENO;
 
-// A pattern as a float. `from_bits` is undefined at a not-a-number's.
-fn value64(b: u64) -> f64 {
-    if b % 0x8000_0000_0000_0000 > 0x7ff0_0000_0000_0000 {
-        0.0 / 0.0
-    } else {
-        f64::from_bits(b)
-    }
-}
-
-fn value32(b: u32) -> f32 {
-    if b % 0x8000_0000 > 0x7f80_0000 {
-        0.0 / 0.0
-    } else {
-        f32::from_bits(b)
-    }
-}
-
-// A float's pattern, with every not-a-number as the one that the vectors have.
-fn bits64(x: f64) -> u64 {
-    if x != x {
-        0x7ff8_0000_0000_0000
-    } else {
-        f64::to_bits(x)
-    }
-}
-
-fn bits32(x: f32) -> u64 {
-    if x != x {
-        0x7fc0_0000
-    } else {
-        f32::to_bits(x) as u64
-    }
-}
-
 // The number of a letter's function, in the order of the report; 6 for any other letter.
 fn number_of(letter: u8) -> usize {
     match letter {
@@ -51,12 +17,12 @@ fn number_of(letter: u8) -> usize {
 
 fn answer(function: usize, given: u64) -> u64 {
     match function {
-        0 => bits64(numeric::sqrt(value64(given)).root),
-        1 => bits32(numeric::to_f32(value64(given))),
-        2 => bits64(numeric::to_f64(value32((given % 0x1_0000_0000) as u32))),
-        3 => bits64(numeric::u64_to_f64(given)),
-        4 => bits32(numeric::u64_to_f32(given)),
-        _ => numeric::sqrt(value64(given)).digits,
+        0 => numeric::double_bits(numeric::sqrt(numeric::double_of(given)).root),
+        1 => numeric::single_bits(numeric::to_f32(numeric::double_of(given))),
+        2 => numeric::double_bits(numeric::to_f64(numeric::single_of(given))),
+        3 => numeric::double_bits(numeric::u64_to_f64(given)),
+        4 => numeric::single_bits(numeric::u64_to_f32(given)),
+        _ => numeric::sqrt(numeric::double_of(given)).digits,
     }
 }
 

@@ -6,7 +6,7 @@ use mathlib.Core.Path.{_≡_, sym, ap, _∙_}
 use mathlib.Core.List.{List, [], _∷_, _++_, append-assoc, append-nil}
 use lib.ListN.{length, length-append}
 use lib.Ieee.{Float}
-use Rattle.restart.specs.History.{values, timestamps, after, transforms}
+use Rattle.restart.specs.History.{values, timestamps, eachAfter, transforms}
 use Rattle.trcf.specs.Lists.{lastN, lastOr, shiftIn}
 use Rattle.trcf.specs.Settings.{Settings, block, dimension}
 use Rattle.trcf.specs.Preprocessor.{State, Reading, reading, transformedAfter, previous, drainOne, drainEach}
@@ -66,7 +66,7 @@ module _ (s : Settings) (k>0 : 0 < s .k) (seen c : ℕ) (st : List Float) where
   pub pass : (rs : List Reading) (i : ℕ) (A C : List Float) (B : List ℕ) (p : Reading) → s .d * s .k ≤ length A → dimension s ≤ length C → s .k ≤ length B
       → lastN (s .d) (lastN (s .d * s .k) A) ≡ p .value → lastOr 0 (lastN (s .k) B) ≡ p .time → Each (s .d) rs
       → drainEach (mid s seen i c st A C B) rs
-      ≡ mid s seen (i + length rs) c st (A ++ values rs) (C ++ transforms s st seen (after p rs)) (B ++ timestamps rs)
+      ≡ mid s seen (i + length rs) c st (A ++ values rs) (C ++ transforms s st seen (eachAfter p rs)) (B ++ timestamps rs)
   pass [] i A C B p hA hC hB pv pt e = simp (add-zero, append-nil)
   pass (r ∷ rs) i A C B p hA hC hB pv pt e =
       ap (λ (w : State). drainEach w rs) (one i A C B p r hA hC hB pv pt (e .0))

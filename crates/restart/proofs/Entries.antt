@@ -10,14 +10,14 @@ use lib.Dec.{ltb}
 use lib.ListN.{length, replicate, length-append, length-replicate}
 use lib.Ieee.{Float}
 use Rattle.restart.specs.Statistics.{Fed, fedAfter, statisticsFrom}
-use Rattle.restart.specs.History.{Entry, initial, learned, drained, initials, learns, isDrained, onlyInitials, values, timestamps, seenOf, internalOf, bufferOf, firstAndAll, shingled, inputsOf, timestampsOf, newestOf, after, fedOf, countOf, statisticsOf, pointsOf, historyState}
+use Rattle.restart.specs.History.{Entry, initialEntry, learnedEntry, drainedEntry, initials, learns, isDrained, onlyInitials, values, timestamps, seenOf, internalOf, bufferOf, firstAndAll, shingled, inputsOf, timestampsOf, newestReading, eachAfter, fedOf, countOf, statisticsOf, pointsOf, historyState}
 use Rattle.restart.proofs.Lists.{feedEach}
 use Rattle.common.specs.Deviation.{zero64}
 use Rattle.trcf.specs.Lists.{lastN}
 use Rattle.trcf.specs.Transformer.{zero32}
 use Rattle.trcf.specs.Settings.{Settings, dimension}
 use Rattle.trcf.specs.Calls.{Learn}
-use Rattle.trcf.specs.Preprocessor.{State, statisticsLength, Reading, reading, feed, feedAll, previous, primed, drainEach, drainAll, held, learned as learnedState}
+use Rattle.trcf.specs.Preprocessor.{State, statisticsLength, Reading, reading, feed, feedAll, previous, primed, drainEach, drainAll, buffered, learned as learnedState}
 use Rattle.restart.proofs.Lists.{lastN-shift, lastN-all, lastN-newest, lastOr-newest, Each, timestamps-append, values-snoc, length-after, feedAll-after, feedEach-append, overwrite-fresh}
 use Rattle.restart.proofs.Scores.{statistics-fed}
 use Rattle.restart.proofs.Drain.{mid, pass}
@@ -33,17 +33,17 @@ pub record Unmixed (s : Settings) (es : List Entry) : Type 0 where
 
 pub unmixed : (s : Settings) (es : List Entry) → onlyInitials es ≡ true → Unmixed s es
 unmixed s [] h = record { noF = refl; noL = refl; noFed = refl; zeros = refl; long = refl }
-unmixed s (initial x t ∷ es) h =
+unmixed s (initialEntry x t ∷ es) h =
     let q : Unmixed s es = unmixed s es h in
     record { noF = q .noF; noL = q .noL; noFed = q .noFed; zeros = q .zeros; long = simp length-append (ap suc (q .long) ∙ sym (add-one _)) }
-unmixed s (learned x t y ∷ es) h = absurd (false≢true h)
-unmixed s (drained ∷ es) h = absurd (false≢true h)
+unmixed s (learnedEntry x t y ∷ es) h = absurd (false≢true h)
+unmixed s (drainedEntry ∷ es) h = absurd (false≢true h)
 
 -- ---- F
 
 module _ (s : Settings) (k>0 : 0 < s .k) (es : List Entry) (r : Reading) (rs : List Reading) (ew : initials es ≡ r ∷ rs) (q : Unmixed s es) (e : Each (s .d) (r ∷ rs)) where
   ready : primed (historyState s es) r (r ∷ rs)
-      ≡ mid s (seenOf es) 0 (length (r ∷ rs)) (feedEach s 0 (replicate (statisticsLength s) zero64) (after r (r ∷ rs)))
+      ≡ mid s (seenOf es) 0 (length (r ∷ rs)) (feedEach s 0 (replicate (statisticsLength s) zero64) (eachAfter r (r ∷ rs)))
       (replicate (s .d * s .k) zero32 ++ r .value) (replicate (dimension s) zero32) (replicate (s .k) 0 ++ (r .time ∷ []))
   unfolding primed historyState internalOf countOf statisticsOf inputsOf timestampsOf shingled
   ready = rw (q .noF, q .noL, q .noFed, q .zeros) (λ j. record {
@@ -60,7 +60,7 @@ module _ (s : Settings) (k>0 : 0 < s .k) (es : List Entry) (r : Reading) (rs : L
   })
 
   -- drain makes the state of the history with F
-  pub drained-state : drainAll (historyState s es) (r ∷ rs) ≡ historyState s (drained ∷ es)
+  pub drained-state : drainAll (historyState s es) (r ∷ rs) ≡ historyState s (drainedEntry ∷ es)
   unfolding drainAll historyState internalOf countOf statisticsOf inputsOf timestampsOf shingled seenOf bufferOf
   drained-state = ap (λ (w : State). drainEach w (r ∷ rs)) ready
       ∙ pass s k>0 (seenOf es) (length (r ∷ rs)) _ (r ∷ rs) 0 _ _ _ r
@@ -69,7 +69,7 @@ module _ (s : Settings) (k>0 : 0 < s .k) (es : List Entry) (r : Reading) (rs : L
       (lastOr-newest 0 (s .k) (replicate (s .k) 0) (r .time) (simp length-replicate (omega arith)) k>0) e
       ∙ rw (q .noL, q .noFed, q .zeros, ew) (cc (
         append-nil rs,
-        statistics-fed s (after r (r ∷ rs)),
+        statistics-fed s (eachAfter r (r ∷ rs)),
         length-after r rs,
         append-assoc (replicate (s .d * s .k) zero32) (r .value) (r .value ++ values rs),
         append-assoc (replicate (s .k) 0) (r .time ∷ []) (r .time ∷ timestamps rs),
@@ -78,8 +78,8 @@ module _ (s : Settings) (k>0 : 0 < s .k) (es : List Entry) (r : Reading) (rs : L
 -- ---- W, while there is no F
 
 module _ (s : Settings) (es : List Entry) (noF : isDrained es ≡ false) where
-  pub initial-state : (l : Learn) → held (historyState s es) l ≡ historyState s (initial (l .input) (l .timestamp) ∷ es)
-  unfolding held historyState internalOf countOf statisticsOf inputsOf timestampsOf shingled seenOf bufferOf
+  pub initial-state : (l : Learn) → buffered (historyState s es) l ≡ historyState s (initialEntry (l .input) (l .timestamp) ∷ es)
+  unfolding buffered historyState internalOf countOf statisticsOf inputsOf timestampsOf shingled seenOf bufferOf
   initial-state l = rw noF (λ j. record {
     settings = s;
     valuesSeen = e j;
@@ -112,14 +112,14 @@ fed-stats s true ps p =
 fed-stats s false ps p = simp append-nil
 
 module _ (s : Settings) (k>0 : 0 < s .k) (es : List Entry) where
-  pub learned-state : (x : List Float) (t : ℕ) (y : List Float) → length x ≡ s .d → learnedState (historyState s es) (reading x t) y ≡ historyState s (learned x t y ∷ es)
-  unfolding learnedState historyState internalOf countOf statisticsOf inputsOf timestampsOf shingled seenOf bufferOf previous newestOf
+  pub learned-state : (x : List Float) (t : ℕ) (y : List Float) → length x ≡ s .d → learnedState (historyState s es) (reading x t) y ≡ historyState s (learnedEntry x t y ∷ es)
+  unfolding learnedState historyState internalOf countOf statisticsOf inputsOf timestampsOf shingled seenOf bufferOf previous newestReading
   learned-state x t y h = λ j. record {
     settings = s;
     valuesSeen = e₁ j;
     internalTimestamp = e₂ j;
-    count = fed-length (ltb (seenOf es) (s .stop)) (fedOf s es) (fedAfter (newestOf s es) r) j;
-    statistics = fed-stats s (ltb (seenOf es) (s .stop)) (fedOf s es) (fedAfter (newestOf s es) r) j;
+    count = fed-length (ltb (seenOf es) (s .stop)) (fedOf s es) (fedAfter (newestReading s es) r) j;
+    statistics = fed-stats s (ltb (seenOf es) (s .stop)) (fedOf s es) (fedAfter (newestReading s es) r) j;
     lastShingledInput = (sym (lastN-shift (s .d * s .k) Z x (simp (length-append, length-replicate) (omega arith)) (omega (arith, le-mul-of-pos-right (s .d) k>0)))
         ∙ ap (lastN (s .d * s .k)) (append-assoc (replicate (s .d * s .k) zero32) (values (shingled es)) x ∙ ap (λ (l : List Float). replicate (s .d * s .k) zero32 ++ l) (sym (values-snoc (shingled es) r) ∙ ap values g))) j;
     lastShingledPoint = y;

@@ -22,7 +22,7 @@ pub feed-fits : (s : Settings) (count : ℕ) (st : List Float) (p r : Reading) �
 unfolding feed timeFed
 feed-fits s count st p r h = fedAt-fits _ (5 * s .d) 1 (s .decay) count _ _ (updated-fits (transformer s count st) (r .value) (p .value) h)
 
--- the time behind a block
+-- the time after a block
 time-length : (b : Bool) (x : Float) → length (cond b (x ∷ []) []) ≡ cond b 1 0
 time-length true x = refl
 time-length false x = refl

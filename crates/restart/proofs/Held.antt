@@ -6,23 +6,23 @@ use mathlib.Core.Bool.{Bool, true, false, cond}
 use mathlib.Core.List.{List, [], _∷_, _++_}
 use lib.ListN.{length, take, drop}
 use lib.Seq.{take-append-seam}
-use Rattle.common.specs.Lent.{over}
+use Rattle.refusal.specs.Lent.{over}
 use lib.Ieee.{Float}
 use borrow.Author.Tests.{le-ltb}
-use Rattle.common.specs.Refusal.{firstOf}
+use Rattle.refusal.specs.Refusal.{firstOf}
 use Rattle.trcf.specs.Fit.{All}
 use Rattle.trcf.proofs.FitLaws.{all-append}
 use Rattle.trcf.specs.Types.{augments}
 use Rattle.trcf.specs.Settings.{Settings, Valid, waiting, dimension}
 use Rattle.trcf.specs.Calls.{Call, Machine, status}
 use Rattle.trcf.specs.Preprocessor.{State, statisticsLength, fresh, refusal, change, next, run, answer, answers, accepted}
-use Rattle.trcf.specs.View.{Lent, lent, settingsOf, view, laid, counted, headFrom, headTable, headRow, initialRoom, lentShort, misfit, ownRow, readyOf, gettersOf, shortRow, lentRow, rowOf, answerOf, headAfter, lentAfter, buildRow, buildOf, Outcome, outcome}
+use Rattle.trcf.specs.View.{Lent, lent, settingsOf, view, writtenOver, counted, headFrom, headTable, headRow, initialRoom, lentShort, countersUnfit, ownRow, readyOf, gettersOf, shortRow, lentRow, rowOf, answerOf, headAfter, lentAfter, buildRow, buildOf, Outcome, outcome}
 use Rattle.trcf.proofs.RefusalLaws.{room-start}
 use Rattle.trcf.proofs.ViewLaws.{row-is, answer-is, Shaped, view-laid}
 use Rattle.snapshot.specs.Text.{render, TextOf}
 use Rattle.snapshot.specs.Form.{Form}
 use Rattle.snapshot.proofs.Accepted.{rows-of, none-refuses}
-use Rattle.snapshot.specs.Save.{unheld, fitted}
+use Rattle.snapshot.specs.Save.{inUseShort, fitted}
 use Rattle.snapshot.specs.Save as save
 use Rattle.snapshot.specs.Restore as restore
 use Rattle.snapshot.specs.Steps.Runs.{Few, HeadFew}
@@ -54,8 +54,8 @@ module _ (s : Settings) (ok : Valid s) where
       ap (λ (x : Settings). headRow x) (k .settled) ∙ none-refuses (headTable s) (c .1 .0, (c .1 .1 .0, (c .1 .1 .1 .0, (c .1 .1 .1 .1 .1 .1 .1 .0, tt))))
 
   module _ (m : Held) (w : State) (k : Holds s m w) (f : Form w) (e : w .settings ≡ s) where
-    unheld-not : unheld (m .head) (m .lent) ≡ false
-    unfolding unheld
+    unheld-not : inUseShort (m .head) (m .lent) ≡ false
+    unfolding inUseShort
     unheld-not =
         let h = m .head in
         let n : h .«initial_len» ≤ initialRoom (settingsOf h) =
@@ -94,7 +94,7 @@ module _ (s : Settings) (ok : Valid s) where
     held-shown = rw (sane m w k, savable .counted) (ap gettersAt (k .viewed))
 
     -- the state that an accepted call leaves is laid back
-    laid-back : (v : State) → Form v → v .settings ≡ s → Holds s (held (counted (m .head) v) (laid v (m .lent))) v
+    laid-back : (v : State) → Form v → v .settings ≡ s → Holds s (held (counted (m .head) v) (writtenOver v (m .lent))) v
     laid-back v g d =
         let q : v .settings ≡ settingsOf (m .head) = d ∙ sym (k .settled) in
         let S : Shaped (m .head) v = record {
@@ -108,7 +108,7 @@ module _ (s : Settings) (ok : Valid s) where
         record {
           viewed = view-laid (m .head) (m .lent) v S;
           settled = k .settled;
-          room = subst (λ (x : Settings). lentShort x (laid v (m .lent)) ≡ false) d (laid-short v g (m .lent) (subst (λ (x : Settings). lentShort x (m .lent) ≡ false) (sym d) (k .room)));
+          room = subst (λ (x : Settings). lentShort x (writtenOver v (m .lent)) ≡ false) d (laid-short v g (m .lent) (subst (λ (x : Settings). lentShort x (m .lent) ≡ false) (sym d) (k .room)));
           counts = refl;
         }
 
@@ -123,7 +123,7 @@ module _ (s : Settings) (ok : Valid s) where
         go zero q =
             let p : rowOf (m .head) (m .lent) c ≡ 0 = held-row c ∙ q in
             let n : next w c ≡ change (view (m .head) (m .lent)) c = rw q (ap (λ (x : State). change x c) (sym (k .viewed))) in
-            subst (λ (x : Held). Holds s x (next w c)) (ap (λ (v : State). held (counted (m .head) v) (laid v (m .lent))) n ∙ sym (rw p)) (laid-back (next w c) g d)
+            subst (λ (x : Held). Holds s x (next w c)) (ap (λ (v : State). held (counted (m .head) v) (writtenOver v (m .lent))) n ∙ sym (rw p)) (laid-back (next w c) g d)
         go (suc r) q =
             let p : rowOf (m .head) (m .lent) c ≡ suc r = held-row c ∙ q in
             let n : w ≡ next w c = rw q in
@@ -179,7 +179,7 @@ module _ (s : Settings) (ok : Valid s) where
 
   module _ (l : Lent) (room : lentShort s l ≡ false) where
     new-row : lentRow (headFrom s) l ≡ 0
-    unfolding lentRow shortRow misfit
+    unfolding lentRow shortRow countersUnfit
     new-row = rw (none (waiting (settingsOf (headFrom s)) 0)) (ap (λ (b : Bool). firstOf ((b, 20) ∷ [])) (ap (λ (x : Settings). lentShort x l) (settings-are s ok) ∙ room))
       where
         -- nothing is counted yet, so that nothing is counted wrong
@@ -187,7 +187,7 @@ module _ (s : Settings) (ok : Valid s) where
         none true = refl
         none false = refl
 
-    built-as : buildOf s l ≡ outcome 0 (headFrom s) (laid (fresh s) l)
+    built-as : buildOf s l ≡ outcome 0 (headFrom s) (writtenOver (fresh s) l)
     unfolding buildOf buildRow
     built-as = rw (ok .accepted, new-row)
 
@@ -202,11 +202,11 @@ module _ (s : Settings) (ok : Valid s) where
     restored-holds w f e t h =
         let room' : lentShort (w .settings) l ≡ false = subst (λ (x : Settings). lentShort x l ≡ false) (sym e) room in
         let o = restored-as t (s .codes) l w f (subst (TextOf w) h (put-away w)) (ap (λ (x : Settings). x .codes) e) room' in
-        subst (λ (x : restore.Outcome). Holds s (held (x .head) (x .lent)) w) (sym o)
+        subst (λ (x : restore.RestoreOutcome). Holds s (held (x .head) (x .lent)) w) (sym o)
         (record {
           viewed = restored-view t (s .codes) l w f;
           settled = settings-are (w .settings) (f .valid) ∙ e;
-          room = subst (λ (x : Settings). lentShort x (laid w l) ≡ false) e (laid-short w f l room');
+          room = subst (λ (x : Settings). lentShort x (writtenOver w l) ≡ false) e (laid-short w f l room');
           counts = refl;
         })
 
@@ -216,7 +216,7 @@ held-append : (m : Held) (a b : List Call) → heldRun m (a ++ b) ≡ heldRun (h
 held-append m [] b = refl
 held-append m (c ∷ a) b = held-append (heldNext m c) a b
 
-fits-in : (t out : List ℕ) → length t ≤ length out → fitted t out ≡ save.outcome 0 (length t) (over out t)
+fits-in : (t out : List ℕ) → length t ≤ length out → fitted t out ≡ save.saveOutcome 0 (length t) (over out t)
 unfolding fitted
 fits-in t out h = rw (le-ltb (length out) (length t) h)
 
@@ -233,8 +233,8 @@ held-demand-3 s ok before after mb ma first second r₁ r₂ out last long =
     let k : Holds s M w = runs-held s ok (builtOn s first) [] before tt mb (built-holds s ok first r₁) .holds in
     let v : savedTo M out ≡ fitted (render w) out = saved-by s ok M w k f e out in
     let x : render w ≡ historyText s before = text-history s ok before mb in
-    let o : fitted (render w) out ≡ save.outcome 0 (length (render w)) (over out (render w)) = fits-in (render w) out (subst (λ (t : List ℕ). length t ≤ length out) (sym x) long) in
-    let t : textIn M out ≡ render w = ap (λ (y : save.Outcome). take (y .length) (y .bytes)) (v ∙ o) ∙ text-over (render w) out in
+    let o : fitted (render w) out ≡ save.saveOutcome 0 (length (render w)) (over out (render w)) = fits-in (render w) out (subst (λ (t : List ℕ). length t ≤ length out) (sym x) long) in
+    let t : textIn M out ≡ render w = ap (λ (y : save.SaveOutcome). take (y .length) (y .bytes)) (v ∙ o) ∙ text-over (render w) out in
     let N : Held = restoredOn (textIn M out) (s .codes) second in
     let j : Holds s N w = restored-holds s ok second r₂ w f e (textIn M out) (sym t) in
     let p : Runs s ok M w after = runs-held s ok M before after mb ma k in
@@ -245,9 +245,9 @@ held-demand-3 s ok before after mb ma first second r₁ r₂ out last long =
     let d : run w after .settings ≡ s = ap (λ (y : State). y .settings) (sym (run-append (fresh s) before after)) ∙ settings-kept s ok (before ++ after) in
     record {
       builds = ap (λ (y : Outcome). y .row) (built-as s ok first r₁);
-      saves = ap (λ (y : save.Outcome). y .row) (v ∙ o);
+      saves = ap (λ (y : save.SaveOutcome). y .row) (v ∙ o);
       text = t ∙ x;
-      restores = ap (λ (y : restore.Outcome). y .row) (restored-as (textIn M out) (s .codes) second w f (subst (TextOf w) (sym t) (put-away w)) (ap (λ (y : Settings). y .codes) e) (subst (λ (y : Settings). lentShort y second ≡ false) (sym e) r₂));
+      restores = ap (λ (y : restore.RestoreOutcome). y .row) (restored-as (textIn M out) (s .codes) second w f (subst (TextOf w) (sym t) (put-away w)) (ap (λ (y : Settings). y .codes) e) (subst (λ (y : Settings). lentShort y second ≡ false) (sym e) r₂));
       sameAnswers = q .says ∙ sym (p .says);
       ruledAnswers = q .says ∙ restart s ok before after mb .every w (restorable s ok before mb) .ruledAnswers;
       sameText = saved-by s ok (heldRun N after) (run w after) (q .holds) g d last

@@ -8,7 +8,7 @@ use lib.ListN.{length, take, drop, replicate, length-append, length-drop, length
 use lib.Seq.{drop-drop, drop-append-le, drop-at, take-at}
 use lib.Ieee.{Float}
 use Rattle.restart.specs.Statistics.{Fed}
-use Rattle.restart.specs.History.{values, timestamps, after, pairs}
+use Rattle.restart.specs.History.{values, timestamps, eachAfter, fedPairs}
 use Rattle.trcf.specs.Lists.{lastN, lastOr, null, shiftIn, overwrite}
 use Rattle.trcf.specs.Fit.{All}
 use Rattle.trcf.specs.Settings.{Settings}
@@ -103,11 +103,11 @@ blocks-values n (r ∷ rs) h =
 
 -- ---- feeding
 
-pub length-after : (p : Reading) (rs : List Reading) → length (after p rs) ≡ length rs
+pub length-after : (p : Reading) (rs : List Reading) → length (eachAfter p rs) ≡ length rs
 length-after p [] = refl
 length-after p (r ∷ rs) = ap suc (length-after r rs)
 
-pub length-pairs : (rs : List Reading) → length (pairs rs) ≡ length rs
+pub length-pairs : (rs : List Reading) → length (fedPairs rs) ≡ length rs
 length-pairs [] = refl
 length-pairs (r ∷ rs) = length-after r (r ∷ rs)
 
@@ -116,7 +116,7 @@ abbrev pub feedEach : Settings → ℕ → List Float → List Fed → List Floa
 feedEach s c st [] = st
 feedEach s c st (p ∷ ps) = feedEach s (suc c) (feed s c st (p .before) (p .now)) ps
 
-pub feedAll-after : (s : Settings) (c : ℕ) (st : List Float) (p : Reading) (rs : List Reading) → feedAll s c st p rs ≡ feedEach s c st (after p rs)
+pub feedAll-after : (s : Settings) (c : ℕ) (st : List Float) (p : Reading) (rs : List Reading) → feedAll s c st p rs ≡ feedEach s c st (eachAfter p rs)
 feedAll-after s c st p [] = refl
 feedAll-after s c st p (r ∷ rs) = feedAll-after s (suc c) (feed s c st p r) r rs
 

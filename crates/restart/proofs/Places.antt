@@ -9,7 +9,7 @@ use lib.Ieee.{Float, nan}
 use Rattle.common.specs.declared.deviation.Deviation.{Deviation}
 use Rattle.common.specs.Deviation.{statistic}
 use Rattle.trcf.specs.Transformer.{statisticAt, putStatistic}
-use Rattle.restart.specs.Statistics.{line, linesTo}
+use Rattle.restart.specs.Statistics.{devOf, linesTo}
 
 module _ (l : List Float) (n : ℕ) (s : Deviation) (dec : Float) (c : ℕ) where
   pub put-same : 3 * n + 2 < length l → statisticAt (putStatistic l n s) n dec c ≡ statistic dec (s .weight) (s .sum) (s .«sum_squared») c
@@ -50,7 +50,7 @@ module _ (l : List Float) where
 
   module _ (dec : Float) (c : ℕ) where
     pub take-line : (p q : ℕ) (rest : List Float) → q ≡ suc p → 3 * p + 2 < length l
-        → take (3 * p) l ++ (line (statisticAt l p dec c) ++ rest) ≡ take (3 * q) l ++ rest
+        → take (3 * p) l ++ (devOf (statisticAt l p dec c) ++ rest) ≡ take (3 * q) l ++ rest
     unfolding statisticAt
     take-line p q rest e h =
         one-more (3 * p) (3 * p + 1) _ (omega arith) (omega arith)
@@ -61,10 +61,10 @@ module _ (l : List Float) where
         → take (3 * b) l ++ (linesTo n (λ i. statisticAt l (i + b) dec c) ++ rest) ≡ take (3 * e) l ++ rest
     take-lines b zero e rest q h = let z : b ≡ e = omega arith in ap (λ (x : ℕ). take (3 * x) l ++ rest) z
     take-lines b (suc n) e rest q h =
-        ap (λ (x : List Float). take (3 * b) l ++ x) (append-assoc (linesTo n (λ i. statisticAt l (i + b) dec c)) (line (statisticAt l (n + b) dec c)) rest)
-        ∙ take-lines b n (n + b) (line (statisticAt l (n + b) dec c) ++ rest) refl (omega arith)
+        ap (λ (x : List Float). take (3 * b) l ++ x) (append-assoc (linesTo n (λ i. statisticAt l (i + b) dec c)) (devOf (statisticAt l (n + b) dec c)) rest)
+        ∙ take-lines b n (n + b) (devOf (statisticAt l (n + b) dec c) ++ rest) refl (omega arith)
         ∙ take-line (n + b) e rest (omega arith) (omega arith)
 
 pub lines-same : (n : ℕ) (f g : ℕ → Deviation) → ((i : ℕ) → i < n → f i ≡ g i) → linesTo n f ≡ linesTo n g
 lines-same zero f g h = refl
-lines-same (suc n) f g h = λ j. lines-same n f g (λ i k. h i (omega arith)) j ++ line (h n (omega arith) j)
+lines-same (suc n) f g h = λ j. lines-same n f g (λ i k. h i (omega arith)) j ++ devOf (h n (omega arith) j)

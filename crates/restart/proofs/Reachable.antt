@@ -13,7 +13,7 @@ use lib.Ieee.{Float, binary32, binary64}
 use lib.Ieee.Bits.{ofBits-fits}
 use borrow.Author.Tests.{ltb-false, leb-false, eqb-true, eqb-false, not-false}
 use Rattle.restart.specs.Statistics.{Fed}
-use Rattle.restart.specs.History.{Entry, initial, learned, drained, initials, learns, isDrained, onlyInitials, values, timestamps, seenOf, internalOf, bufferOf, firstAndAll, shingled, inputsOf, timestampsOf, after, pairs, fedOf, countOf, statisticsOf, transforms, pointsOf, historyState, historyFacts, historyRefusal, complete, adds, enter, entriesFrom, entries}
+use Rattle.restart.specs.History.{Entry, initialEntry, learnedEntry, drainedEntry, initials, learns, isDrained, onlyInitials, values, timestamps, seenOf, internalOf, bufferOf, firstAndAll, shingled, inputsOf, timestampsOf, eachAfter, fedPairs, fedOf, countOf, statisticsOf, transforms, pointsOf, historyState, historyFacts, historyRefusal, complete, adds, enter, entriesFrom, entries}
 use Rattle.restart.proofs.Scores.{statistics-fed}
 use Rattle.restart.proofs.Lists.{feedEach}
 use Rattle.common.specs.Deviation.{zero64, countLimit}
@@ -52,7 +52,7 @@ lastOr-drop a zero l h = refl
 lastOr-drop a (suc n) [] h = absurd (omega arith)
 lastOr-drop a (suc n) (x ∷ xs) h = lastOr-drop a n xs (omega arith) ∙ lastOr-any a x xs (omega arith)
 
--- the newest of `tim` is the newest of what stands behind the zeros
+-- the newest of `tim` is the newest of what stands after the zeros
 newest-time : (k : ℕ) (l : List ℕ) → 0 < k → lastOr 0 (lastN k (replicate k 0 ++ l)) ≡ lastOr 0 l
 unfolding lastN
 newest-time k l h =
@@ -119,13 +119,13 @@ first-sane : (rs : List Reading) → All Sane rs → All Sane (firstAndAll rs)
 first-sane [] h = tt
 first-sane (r ∷ rs) h = (h .0, h)
 
-transforms-fit : (s : Settings) (st : List Float) (seen : ℕ) (p : Reading) (rs : List Reading) → All Sane rs → Fits binary32 (transforms s st seen (after p rs))
+transforms-fit : (s : Settings) (st : List Float) (seen : ℕ) (p : Reading) (rs : List Reading) → All Sane rs → Fits binary32 (transforms s st seen (eachAfter p rs))
 transforms-fit s st seen p [] h = tt
 transforms-fit s st seen p (r ∷ rs) h =
-    all-append _ (transformedAfter s st seen p r) (transforms s st seen (after r rs))
+    all-append _ (transformedAfter s st seen p r) (transforms s st seen (eachAfter r rs))
     (transformedAfter-fits s st seen p r (h .0 .0)) (transforms-fit s st seen r rs (h .1))
 
-paired-fit : (s : Settings) (st : List Float) (seen : ℕ) (rs : List Reading) → All Sane rs → Fits binary32 (transforms s st seen (pairs rs))
+paired-fit : (s : Settings) (st : List Float) (seen : ℕ) (rs : List Reading) → All Sane rs → Fits binary32 (transforms s st seen (fedPairs rs))
 paired-fit s st seen [] h = tt
 paired-fit s st seen (r ∷ rs) h = transforms-fit s st seen r (r ∷ rs) h
 
@@ -190,7 +190,7 @@ count-one : (b : Bool) (ps : List Fed) (p : Fed) → (b ≡ true → length ps <
 count-one true ps p h k = simp length-append (omega (arith, h refl))
 count-one false ps p h k = simp append-nil k
 
--- internal 0: nothing behind the zeros
+-- internal 0: nothing after the zeros
 empty : (b : Bool) (ws ls : List Reading) → length ls + cond b (length ws) 0 ≡ 0 → cond b (firstAndAll ws) [] ++ ls ≡ []
 empty false ws [] h = refl
 empty false ws (l ∷ ls) h = absurd (omega arith)
@@ -215,7 +215,7 @@ module _ (s : Settings) (k>0 : 0 < s .k) (es : List Entry) (v : Inv s es) (g : G
       let q : lastOr 0 (timestampsOf s es) ≤ t = rw e at h in
       rw (← (newest-time (s .k) (timestamps (shingled es)) k>0)) q
 
-  line-snoc : (x : List Float) (t : ℕ) (y : List Float) → timestamps (shingled (learned x t y ∷ es)) ≡ timestamps (shingled es) ++ (t ∷ [])
+  line-snoc : (x : List Float) (t : ℕ) (y : List Float) → timestamps (shingled (learnedEntry x t y ∷ es)) ≡ timestamps (shingled es) ++ (t ∷ [])
   unfolding shingled
   line-snoc x t y = ap timestamps (sym (append-assoc (cond (isDrained es) (firstAndAll (initials es)) []) (learns es) _)) ∙ timestamps-append (shingled es) _
 
@@ -223,7 +223,7 @@ module _ (s : Settings) (k>0 : 0 < s .k) (es : List Entry) (v : Inv s es) (g : G
   unfolding bufferOf
   buf-is q = rw (q .noF)
 
-  goodW : (l : Learn) → Machine (postProcess l) → Passed s (historyFacts s es) l → waiting s (seenOf es) ≡ true → Good s (initial (l .input) (l .timestamp) ∷ es)
+  goodW : (l : Learn) → Machine (postProcess l) → Passed s (historyFacts s es) l → waiting s (seenOf es) ≡ true → Good s (initialEntry (l .input) (l .timestamp) ∷ es)
   unfolding bufferOf shingled seenOf internalOf countOf historyFacts
   goodW l m a w =
       let q : Unmixed s es = unmixed s es (still s es (v .phase) w .0) in
@@ -241,7 +241,7 @@ module _ (s : Settings) (k>0 : 0 < s .k) (es : List Entry) (v : Inv s es) (g : G
         countSmall = g .countSmall;
       }
 
-  goodL : (l : Learn) (y : List Float) → Fits binary32 y → Machine (postProcess l) → Passed s (historyFacts s es) l → waiting s (seenOf es) ≡ false → l .rcfPoint ≡ some y → Good s (learned (l .input) (l .timestamp) y ∷ es)
+  goodL : (l : Learn) (y : List Float) → Fits binary32 y → Machine (postProcess l) → Passed s (historyFacts s es) l → waiting s (seenOf es) ≡ false → l .rcfPoint ≡ some y → Good s (learnedEntry (l .input) (l .timestamp) y ∷ es)
   unfolding bufferOf seenOf internalOf countOf historyFacts
   goodL l y fy m a w e =
       let p : (length y ≡ dimension s) × (seenOf es < seenLimit) × (internalOf es < seenLimit) × (ltb (seenOf es) (s .stop) ≡ true → countOf s es < countLimit) = a .ifLearnt w y e in
@@ -258,7 +258,7 @@ module _ (s : Settings) (k>0 : 0 < s .k) (es : List Entry) (v : Inv s es) (g : G
         countSmall = count-one (ltb (seenOf es) (s .stop)) (fedOf s es) _ (p .3) (g .countSmall);
       }
 
-  goodF : complete s es ≡ true → drainFull s (historyFacts s es) ≡ false → Good s (drained ∷ es)
+  goodF : complete s es ≡ true → drainFull s (historyFacts s es) ≡ false → Good s (drainedEntry ∷ es)
   unfolding bufferOf shingled seenOf internalOf countOf historyFacts drainFull finite
   goodF h n =
       let f : (onlyInitials es ≡ true) × (length (initials es) ≡ s .start) × (0 < s .start) = isFull s es h in
@@ -268,8 +268,8 @@ module _ (s : Settings) (k>0 : 0 < s .k) (es : List Entry) (v : Inv s es) (g : G
       record {
         saneW = g .saneW;
         saneL = g .saneL;
-        pointsFit = all-lastN _ (dimension s) (pointsOf s es ++ transforms s (statisticsOf s (drained ∷ es)) (seenOf es) (pairs (initials es)))
-            (all-append _ (pointsOf s es) _ (g .pointsFit) (paired-fit s (statisticsOf s (drained ∷ es)) (seenOf es) (initials es) (g .saneW)));
+        pointsFit = all-lastN _ (dimension s) (pointsOf s es ++ transforms s (statisticsOf s (drainedEntry ∷ es)) (seenOf es) (fedPairs (initials es)))
+            (all-append _ (pointsOf s es) _ (g .pointsFit) (paired-fit s (statisticsOf s (drainedEntry ∷ es)) (seenOf es) (initials es) (g .saneW)));
         bufUp = tt;
         lineUp = rw (q .noL, append-nil) (climbs-first (initials es) (rw (buf-is q) at (g .bufUp)));
         finiteBuf = refl;
@@ -281,13 +281,13 @@ module _ (s : Settings) (k>0 : 0 < s .k) (es : List Entry) (v : Inv s es) (g : G
 
   -- ---- one call
 
-  drained-at : (b : Bool) → complete s es ≡ b → due s (historyFacts s es) && drainFull s (historyFacts s es) ≡ false → Good s (cond b (drained ∷ es) es)
+  drained-at : (b : Bool) → complete s es ≡ b → due s (historyFacts s es) && drainFull s (historyFacts s es) ≡ false → Good s (cond b (drainedEntry ∷ es) es)
   drained-at true e h =
       let d : due s (historyFacts s es) ≡ true = due-full s es (v .phase) ∙ e in
       goodF e (rw d at h)
   drained-at false e h = g
 
-  point-at : (b : Bool) → complete s es ≡ b → (x : List Float) (t : ℕ) (out : List Float) → historyRefusal s es (shingledPoint x t out) ≡ 0 → Good s (cond b (drained ∷ es) es)
+  point-at : (b : Bool) → complete s es ≡ b → (x : List Float) (t : ℕ) (out : List Float) → historyRefusal s es (shingledPoint x t out) ≡ 0 → Good s (cond b (drainedEntry ∷ es) es)
   unfolding historyRefusal rows table historyFacts
   point-at true e x t out h =
       let f : (onlyInitials es ≡ true) × (length (initials es) ≡ s .start) × (0 < s .start) = isFull s es e in
@@ -295,7 +295,7 @@ module _ (s : Settings) (k>0 : 0 < s .k) (es : List Entry) (v : Inv s es) (g : G
       drained-at true e (rw w at (clear (table s (historyFacts s es) (shingledPoint x t out)) refl h .1 .1 .1 .0))
   point-at false e x t out h = g
 
-  drain-at : historyRefusal s es drain ≡ 0 → Good s (cond (complete s es) (drained ∷ es) es)
+  drain-at : historyRefusal s es drain ≡ 0 → Good s (cond (complete s es) (drainedEntry ∷ es) es)
   unfolding historyRefusal rows table
   drain-at h = drained-at (complete s es) refl (clear (table s (historyFacts s es) drain) refl h .1 .0)
 

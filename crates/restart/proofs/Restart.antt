@@ -5,8 +5,8 @@ use mathlib.Core.List.{List, [], _∷_, _++_, map}
 use mathlib.Core.Option.{some}
 use lib.ListN.{length}
 use lib.Ieee.{Float}
-use Rattle.restart.specs.History.{after, Entry, entries, enter, historyState, historyText, historyPanel}
-use Rattle.restart.specs.Statement.{Restores, Outlives, Restart, Event, called, restarted, callsOf, runEvents, answersEvents, panelTold, panels, panelsEvents, historyPanelsEvents, Restarts, Reaches, built, calling, restoring, Demand3}
+use Rattle.restart.specs.History.{eachAfter, Entry, entries, enter, historyState, historyText, historyPanel}
+use Rattle.restart.specs.Statement.{Restores, Outlives, Restart, Event, callMade, restarted, callsOf, runEvents, answersEvents, panelTold, panels, panelsEvents, historyPanelsEvents, Restarts, Reaches, built, calling, restoring, Demand3}
 use Rattle.trcf.specs.Fit.{All}
 use Rattle.trcf.specs.Settings.{Settings, Valid, block}
 use Rattle.trcf.specs.Calls.{Call, Machine, status}
@@ -93,13 +93,13 @@ module _ (s : Settings) (ok : Valid s) where
   ends-from : (cs : List Call) → All Machine cs → (w : State) → w ≡ run (fresh s) cs → (es : List Event) → All Machine (callsOf es)
       → runEvents (taken w) es ≡ taken (run w (callsOf es))
   ends-from cs m w e [] n = refl
-  ends-from cs m w e (called c ∷ es) n = ends-from (cs ++ (c ∷ [])) (all-more cs m w e c (n .0)) (next w c) (one-more cs m w e c) es (n .1)
+  ends-from cs m w e (callMade c ∷ es) n = ends-from (cs ++ (c ∷ [])) (all-more cs m w e c (n .0)) (next w c) (one-more cs m w e c) es (n .1)
   ends-from cs m w e (restarted ∷ es) n = ap (λ (r : Read). runEvents r es) (taken-up cs m w e) ∙ ends-from cs m w e es n
 
   answers-on : (cs : List Call) → All Machine cs → (w : State) → w ≡ run (fresh s) cs → (es : List Event) → All Machine (callsOf es)
       → answersEvents (taken w) es ≡ answers w (callsOf es)
   answers-on cs m w e [] n = refl
-  answers-on cs m w e (called c ∷ es) n =
+  answers-on cs m w e (callMade c ∷ es) n =
       ap (λ (l : List Answer). answer w c ∷ l) (answers-on (cs ++ (c ∷ [])) (all-more cs m w e c (n .0)) (next w c) (one-more cs m w e c) es (n .1))
   answers-on cs m w e (restarted ∷ es) n = ap (λ (r : Read). answersEvents r es) (taken-up cs m w e) ∙ answers-on cs m w e es n
 
@@ -111,7 +111,7 @@ module _ (s : Settings) (ok : Valid s) where
     panels-on : (cs : List Call) → All Machine cs → (w : State) → w ≡ run (fresh s) cs → (h : List Entry) → w ≡ historyState s h → Inv s h
         → (es : List Event) → All Machine (callsOf es) → panelsEvents out (taken w) es ≡ map some (historyPanelsEvents s h es)
     panels-on cs m w e h q v [] n = λ j. tells w h q j ∷ []
-    panels-on cs m w e h q v (called c ∷ es) n =
+    panels-on cs m w e h q v (callMade c ∷ es) n =
         let k = step s (k>0-of s ok) h v c in
         let p : next w c ≡ historyState s (enter s h c) = ap (λ (x : State). next x c) q ∙ k .0 in
         λ j. tells w h q j ∷ panels-on (cs ++ (c ∷ [])) (all-more cs m w e c (n .0)) (next w c) (one-more cs m w e c) (enter s h c) p (k .1) es (n .1) j

@@ -18,7 +18,7 @@ use Rattle.trcf.specs.Transformer.{slowDecay, statisticAt, putStatistic, fed, d
 use Rattle.trcf.specs.Settings.{Settings}
 use Rattle.trcf.specs.Preprocessor.{statisticsLength, timeFed, feed}
 use Rattle.trcf.proofs.TransformerLaws.{putStatistic-length, channelsFed-length}
-use Rattle.restart.specs.Statistics.{Fed, foldFrom, courseFrom, valuesAt, differencesAt, times, timeDifferences, first, second, third, fourth, fifth, line, linesTo, statisticsFrom}
+use Rattle.restart.specs.Statistics.{Fed, foldFrom, courseFrom, valuesAt, differencesAt, fedTimes, timeDifferences, first, second, third, fourth, fifth, devOf, linesTo, statisticsFrom}
 use Rattle.restart.proofs.Lists.{feedEach}
 use Rattle.restart.proofs.FeedLaws.{feed-length}
 use Rattle.restart.proofs.Places.{put-same, put-other, take-line, take-lines, lines-same}
@@ -208,7 +208,7 @@ module _ (s : Settings) (c : ℕ) (st : List Float) (p : Fed) (long : length st 
   all-channels = channelsFed (s .d) st (s .d) (s .decay) c (p .now .value) (p .before .value)
 
   module _ (i : ℕ) (h : i < s .d) where
-    -- the time's places lie behind
+    -- the time's places come after
     channel-past : deviationsAt (fedAt all-channels (5 * s .d) 1 (s .decay) c (timeOf p) (timeDifference p)) i (s .d) (s .decay) (suc c) ≡ deviationsAt all-channels i (s .d) (s .decay) (suc c)
     unfolding deviationsAt
     channel-past =
@@ -334,7 +334,7 @@ module _ (s : Settings) (ps : List Fed) where
       ∙ ap (λ (e : Deviations). fedAll e (valueAt i) (differenceAt i) ps) (five-empty (statisticsLength s) i (s .d) (s .decay) (omega arith))
       ∙ fedAll-folds (empties (s .decay)) (valueAt i) (differenceAt i) ps)
 
-  time-is : folded (empties (s .decay)) (times ps) (timeDifferences ps) ≡ deviationsAt fedList (5 * s .d) 1 (s .decay) fedCount
+  time-is : folded (empties (s .decay)) (fedTimes ps) (timeDifferences ps) ≡ deviationsAt fedList (5 * s .d) 1 (s .decay) fedCount
   time-is =
       sym (each-time s 0 (replicate (statisticsLength s) zero64) ps (length-replicate (statisticsLength s) zero64)
       ∙ ap (λ (e : Deviations). fedAll e timeOf timeDifference ps) (five-empty (statisticsLength s) (5 * s .d) 1 (s .decay) (omega arith))
@@ -347,11 +347,11 @@ module _ (s : Settings) (ps : List Fed) where
       ++ (linesTo (s .d) (λ i. statisticAt fedList (i + 2 * s .d) (slowDecay (s .decay)) fedCount)
       ++ (linesTo (s .d) (λ i. statisticAt fedList (i + 3 * s .d) (slowDecay (s .decay)) fedCount)
       ++ (linesTo (s .d) (λ i. statisticAt fedList (i + 4 * s .d) (slowDecay (s .decay)) fedCount)
-      ++ (line (statisticAt fedList (5 * s .d) (s .decay) fedCount)
-      ++ (line (statisticAt fedList (5 * s .d + 1) (s .decay) fedCount)
-      ++ (line (statisticAt fedList (5 * s .d + 2) (slowDecay (s .decay)) fedCount)
-      ++ (line (statisticAt fedList (5 * s .d + 3) (slowDecay (s .decay)) fedCount)
-      ++ line (statisticAt fedList (5 * s .d + 4) (slowDecay (s .decay)) fedCount)))))))))
+      ++ (devOf (statisticAt fedList (5 * s .d) (s .decay) fedCount)
+      ++ (devOf (statisticAt fedList (5 * s .d + 1) (s .decay) fedCount)
+      ++ (devOf (statisticAt fedList (5 * s .d + 2) (slowDecay (s .decay)) fedCount)
+      ++ (devOf (statisticAt fedList (5 * s .d + 3) (slowDecay (s .decay)) fedCount)
+      ++ devOf (statisticAt fedList (5 * s .d + 4) (slowDecay (s .decay)) fedCount)))))))))
   fed-lines =
       let e : length fedList ≡ 3 * (5 * s .d + 5) = fed-long in
       let a = s .decay in
@@ -384,5 +384,5 @@ module _ (s : Settings) (ps : List Fed) where
       let five = lines-same (s .d) (λ i. fifth (s .decay) (differencesAt i ps)) (λ i. statisticAt fedList (i + 4 * s .d) (slowDecay (s .decay)) fedCount)
       (λ i h. ap (λ (e : Deviations). e .«difference_deviation») (channel-is i h)) in
       (λ j. one j ++ (two j ++ (three j ++ (four j ++ (five j
-      ++ (line (time-is j .value) ++ (line (time-is j .difference) ++ (line (time-is j .deviation) ++ (line (time-is j .«difference_mean») ++ line (time-is j .«difference_deviation»))))))))))
+      ++ (devOf (time-is j .value) ++ (devOf (time-is j .difference) ++ (devOf (time-is j .deviation) ++ (devOf (time-is j .«difference_mean») ++ devOf (time-is j .«difference_deviation»))))))))))
       ∙ sym fed-lines

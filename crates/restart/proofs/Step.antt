@@ -10,13 +10,13 @@ use lib.Dec.{ltb, eqb, eqb·zero-suc, eqb·suc-zero, leb·suc-suc, leb·zero}
 use lib.ListN.{length, replicate, length-append, length-replicate}
 use lib.Ieee.{Float}
 use borrow.Author.Tests.{ltb-true, ltb-false, eqb-true, ne-eqb, not-false}
-use Rattle.restart.specs.History.{Entry, initial, learned, drained, initials, learns, isDrained, onlyInitials, values, timestamps, seenOf, internalOf, bufferOf, shingled, inputsOf, timestampsOf, countOf, statisticsOf, historyState, historyFacts, historyRefusal, complete, adds, enter, entriesFrom, entries, historyAnswer, historyAnswers}
+use Rattle.restart.specs.History.{Entry, initialEntry, learnedEntry, drainedEntry, initials, learns, isDrained, onlyInitials, values, timestamps, seenOf, internalOf, bufferOf, shingled, inputsOf, timestampsOf, countOf, statisticsOf, historyState, historyFacts, historyRefusal, complete, adds, enter, entriesFrom, entries, historyAnswer, historyAnswers}
 use Rattle.trcf.specs.Lists.{lastN, null}
 use Rattle.trcf.specs.Types.{normalizes}
 use Rattle.trcf.specs.Transformer.{zero32}
 use Rattle.trcf.specs.Settings.{Settings, dimension, waiting}
 use Rattle.trcf.specs.Calls.{Learn, Call, shingledPoint, postProcess, drain, transform, invertExtrapolation, scale, shift, status, due, table, rows}
-use Rattle.trcf.specs.Preprocessor.{State, fresh, facts, refusal, Reading, reading, blocks, drainAll, drained as drainedState, held, learnedWith, change, accepted, next, run, answer, answers}
+use Rattle.trcf.specs.Preprocessor.{State, fresh, facts, refusal, Reading, reading, blocks, drainAll, drained as drainedState, buffered, learnedWith, change, accepted, next, run, answer, answers}
 use Rattle.trcf.proofs.FitLaws.{all-append}
 use Rattle.snapshot.proofs.Accepted.{clear}
 use Rattle.snapshot.proofs.Lists.{and-left, and-right, nil}
@@ -83,7 +83,7 @@ due-full s es (stranded f m n p) =
 -- ---- the invariant is kept
 
 module _ (s : Settings) (es : List Entry) where
-  keepW : Inv s es → waiting s (seenOf es) ≡ true → (x : List Float) (t : ℕ) → length x ≡ s .d → Inv s (initial x t ∷ es)
+  keepW : Inv s es → waiting s (seenOf es) ≡ true → (x : List Float) (t : ℕ) → length x ≡ s .d → Inv s (initialEntry x t ∷ es)
   keepW v h x t e =
       let q : (onlyInitials es ≡ true) × (length (initials es) < s .start) × (normalizes (s .method) ≡ true) = still s es (v .phase) h in
       record {
@@ -108,16 +108,16 @@ module _ (s : Settings) (es : List Entry) where
   waitsW false e (plainly f m n p) h = absurd (omega arith)
   waitsW false e (stranded f m n p) h = m
 
-  keepF : Inv s es → complete s es ≡ true → Inv s (drained ∷ es)
+  keepF : Inv s es → complete s es ≡ true → Inv s (drainedEntry ∷ es)
   keepF v h =
       let q : (onlyInitials es ≡ true) × (length (initials es) ≡ s .start) × (0 < s .start) = isFull h in
       record { phase = drainedBy refl (waitsW (normalizes (s .method)) refl (v .phase) (omega arith)) (q .1) (q .2); wide = v .wide }
 
-  more : (x : List Float) (t : ℕ) (y : List Float) → 0 < length (learns (learned x t y ∷ es))
+  more : (x : List Float) (t : ℕ) (y : List Float) → 0 < length (learns (learnedEntry x t y ∷ es))
   more x t y = simp length-append (omega arith)
 
   pastL : (b : Bool) → normalizes (s .method) ≡ b → waiting s (seenOf es) ≡ false → onlyInitials es ≡ true → length (initials es) ≤ s .start → (normalizes (s .method) ≡ false → length (initials es) ≡ 0)
-      → (x : List Float) (t : ℕ) (y : List Float) → Phase s (learned x t y ∷ es)
+      → (x : List Float) (t : ℕ) (y : List Float) → Phase s (learnedEntry x t y ∷ es)
   unfolding waiting seenOf
   pastL false e h o u z x t y = plainly (unmixed s es o .noF) e (z e) (more x t y)
   pastL true e h o u z x t y =
@@ -125,10 +125,10 @@ module _ (s : Settings) (es : List Entry) where
       let l : length (learns es) ≡ 0 = ap length (unmixed s es o .noL) in
       stranded (unmixed s es o .noF) e (omega (arith, ltb-false)) (more x t y)
 
-  keepL : Inv s es → waiting s (seenOf es) ≡ false → (x : List Float) (t : ℕ) (y : List Float) → Inv s (learned x t y ∷ es)
+  keepL : Inv s es → waiting s (seenOf es) ≡ false → (x : List Float) (t : ℕ) (y : List Float) → Inv s (learnedEntry x t y ∷ es)
   keepL v h x t y = record { phase = go (v .phase); wide = v .wide }
     where
-      go : Phase s es → Phase s (learned x t y ∷ es)
+      go : Phase s es → Phase s (learnedEntry x t y ∷ es)
       go (filling o u z) = pastL (normalizes (s .method)) refl h o u z x t y
       go (drainedBy f m n p) = drainedBy f m n p
       go (plainly f m n p) = plainly f m n (more x t y)
@@ -141,12 +141,12 @@ module _ (s : Settings) (k>0 : 0 < s .k) where
   abbrev Kept : State → List Entry → Type 0
   Kept w es = (w ≡ historyState s es) × Inv s es
 
-  drain-all : (es : List Entry) (ws : List Reading) → initials es ≡ ws → Unmixed s es → 0 < length ws → Each (s .d) ws → drainAll (historyState s es) ws ≡ historyState s (drained ∷ es)
+  drain-all : (es : List Entry) (ws : List Reading) → initials es ≡ ws → Unmixed s es → 0 < length ws → Each (s .d) ws → drainAll (historyState s es) ws ≡ historyState s (drainedEntry ∷ es)
   drain-all es [] e q h v = absurd (omega arith)
   drain-all es (r ∷ rs) e q h v = drained-state s k>0 es r rs e q v
 
   drain-at : (es : List Entry) → Inv s es → (b : Bool) → complete s es ≡ b
-      → Kept (cond b (drainAll (historyState s es) (blocks (s .d) (values (bufferOf es)) (timestamps (bufferOf es)))) (historyState s es)) (cond b (drained ∷ es) es)
+      → Kept (cond b (drainAll (historyState s es) (blocks (s .d) (values (bufferOf es)) (timestamps (bufferOf es)))) (historyState s es)) (cond b (drainedEntry ∷ es) es)
   unfolding bufferOf
   drain-at es v true e =
       let f : (onlyInitials es ≡ true) × (length (initials es) ≡ s .start) × (0 < s .start) = isFull s es e in
@@ -154,19 +154,19 @@ module _ (s : Settings) (k>0 : 0 < s .k) where
       (rw (q .noF, blocks-values (s .d) (initials es) (v .wide)) (drain-all es (initials es) refl q (omega arith) (v .wide)), keepF s es v e)
   drain-at es v false e = (refl, v)
 
-  drain-step : (es : List Entry) → Inv s es → Kept (drainedState (historyState s es)) (cond (complete s es) (drained ∷ es) es)
+  drain-step : (es : List Entry) → Inv s es → Kept (drainedState (historyState s es)) (cond (complete s es) (drainedEntry ∷ es) es)
   unfolding drainedState historyState facts historyFacts
   drain-step es v = rw (due-full s es (v .phase)) (drain-at es v (complete s es) refl)
 
   -- waiting: a point does nothing
-  point-at : (es : List Entry) → Inv s es → (b : Bool) → waiting s (seenOf es) ≡ b → Kept (cond b (historyState s es) (drainedState (historyState s es))) (cond (complete s es) (drained ∷ es) es)
+  point-at : (es : List Entry) → Inv s es → (b : Bool) → waiting s (seenOf es) ≡ b → Kept (cond b (historyState s es) (drainedState (historyState s es))) (cond (complete s es) (drainedEntry ∷ es) es)
   point-at es v true e =
       let h : (onlyInitials es ≡ true) × (length (initials es) < s .start) × (normalizes (s .method) ≡ true) = still s es (v .phase) e in
       rw (is-false (complete s es) (λ f. omega (arith, isFull s es f .1))) (refl, v)
   point-at es v false e = drain-step es v
 
   learn-at : (es : List Entry) → Inv s es → (l : Learn) → length (l .input) ≡ s .d → (b : Bool) → waiting s (seenOf es) ≡ b → (y : Option (List Float)) → l .rcfPoint ≡ y
-      → Kept (cond (waiting s (seenOf es)) (held (historyState s es) l) (learnedWith (historyState s es) (reading (l .input) (l .timestamp)) (l .rcfPoint))) (adds s es (postProcess l))
+      → Kept (cond (waiting s (seenOf es)) (buffered (historyState s es) l) (learnedWith (historyState s es) (reading (l .input) (l .timestamp)) (l .rcfPoint))) (adds s es (postProcess l))
   unfolding adds learnedWith
   learn-at es v l h true e y g = rw e (initial-state s es (unmixed s es (still s es (v .phase) e .0) .noF) l, keepW s es v e (l .input) (l .timestamp) h)
   learn-at es v l h false e none g = rw (e, g) (refl, v)

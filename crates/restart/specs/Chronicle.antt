@@ -11,26 +11,26 @@ use Rattle.trcf.specs.Transformer.{zero32}
 use Rattle.trcf.specs.Settings.{Settings, dimension}
 use Rattle.trcf.specs.Preprocessor.{Reading, reading, State}
 use Rattle.restart.specs.Statistics.{Fed, fedAfter, statisticsFrom}
-use Rattle.restart.specs.History.{Entry, initial, learned, drained, values, timestamps, firstAndAll, pairs, transforms}
+use Rattle.restart.specs.History.{Entry, initialEntry, learnedEntry, drainedEntry, values, timestamps, firstAndAll, fedPairs, transforms}
 
 abbrev pub Ws : List Entry → List Reading
 Ws [] = []
-Ws (initial x t ∷ es) = reading x t ∷ Ws es
-Ws (learned x t y ∷ es) = Ws es
-Ws (drained ∷ es) = Ws es
+Ws (initialEntry x t ∷ es) = reading x t ∷ Ws es
+Ws (learnedEntry x t y ∷ es) = Ws es
+Ws (drainedEntry ∷ es) = Ws es
 
 abbrev pub Ls : List Entry → List Reading
 Ls [] = []
-Ls (initial x t ∷ es) = Ls es
-Ls (learned x t y ∷ es) = reading x t ∷ Ls es
-Ls (drained ∷ es) = Ls es
+Ls (initialEntry x t ∷ es) = Ls es
+Ls (learnedEntry x t y ∷ es) = reading x t ∷ Ls es
+Ls (drainedEntry ∷ es) = Ls es
 
 -- F stands
 abbrev pub stands : List Entry → Bool
 stands [] = false
-stands (initial x t ∷ es) = stands es
-stands (learned x t y ∷ es) = stands es
-stands (drained ∷ es) = true
+stands (initialEntry x t ∷ es) = stands es
+stands (learnedEntry x t y ∷ es) = stands es
+stands (drainedEntry ∷ es) = true
 
 -- "if F, the first W, then all W's; then L's"
 abbrev pub behindZeros : List Entry → List Reading
@@ -39,16 +39,16 @@ behindZeros es = cond (stands es) (firstAndAll (Ws es)) [] ++ Ls es
 abbrev pub inputs : Settings → List Entry → List Float
 inputs s es = lastN (s .d * s .k) (replicate (s .d * s .k) zero32 ++ values (behindZeros es))
 
-abbrev pub times : Settings → List Entry → List ℕ
-times s es = lastN (s .k) (replicate (s .k) 0 ++ timestamps (behindZeros es))
+abbrev pub chronicleTimes : Settings → List Entry → List ℕ
+chronicleTimes s es = lastN (s .k) (replicate (s .k) 0 ++ timestamps (behindZeros es))
 
 -- what an entry feeds
 abbrev pub fedBy : Settings → List Entry → Entry → List Fed
-fedBy s before (initial x t) = []
-fedBy s before (learned x t y) =
+fedBy s before (initialEntry x t) = []
+fedBy s before (learnedEntry x t y) =
     cond (ltb (length (Ws before) + length (Ls before)) (s .stop))
-    (fedAfter (reading (lastN (s .d) (inputs s before)) (lastOr 0 (times s before))) (reading x t) ∷ []) []
-fedBy s before drained = pairs (Ws before)
+    (fedAfter (reading (lastN (s .d) (inputs s before)) (lastOr 0 (chronicleTimes s before))) (reading x t) ∷ []) []
+fedBy s before drainedEntry = fedPairs (Ws before)
 
 abbrev pub fedFrom : Settings → List Entry → List Entry → List Fed
 fedFrom s before [] = []
@@ -59,11 +59,11 @@ statisticsAfter s es = statisticsFrom s (fedFrom s [] es)
 
 -- what an entry makes of the points
 abbrev pub pointsBy : Settings → List Entry → List Float → Entry → List Float
-pointsBy s before p (initial x t) = p
-pointsBy s before p (learned x t y) = y
-pointsBy s before p drained =
+pointsBy s before p (initialEntry x t) = p
+pointsBy s before p (learnedEntry x t y) = y
+pointsBy s before p drainedEntry =
     lastN (dimension s)
-    (p ++ transforms s (statisticsAfter s (before ++ (drained ∷ []))) (length (Ws before) + length (Ls before)) (pairs (Ws before)))
+    (p ++ transforms s (statisticsAfter s (before ++ (drainedEntry ∷ []))) (length (Ws before) + length (Ls before)) (fedPairs (Ws before)))
 
 abbrev pub pointsFrom : Settings → List Entry → List Float → List Entry → List Float
 pointsFrom s before p [] = p
@@ -79,7 +79,7 @@ chronicle s es =
       statistics = statisticsAfter s es;
       lastShingledInput = inputs s es;
       lastShingledPoint = pointsFrom s [] (replicate (dimension s) zero32) es;
-      previousTimestamps = times s es;
+      previousTimestamps = chronicleTimes s es;
       initialValues = values (cond (stands es) [] (Ws es));
       initialTimestamps = timestamps (cond (stands es) [] (Ws es));
     }

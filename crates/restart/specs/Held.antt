@@ -52,7 +52,7 @@ heldShown m [] = gettersOf (m .head) ∷ []
 heldShown m (c ∷ cs) = gettersOf (m .head) ∷ heldShown (heldNext m c) cs
 
 -- "put away": what `save` gives of lent bytes, and the text among them
-abbrev pub savedTo : Held → List ℕ → save.Outcome
+abbrev pub savedTo : Held → List ℕ → save.SaveOutcome
 savedTo m out = save.saveOf (m .head) (m .lent) out
 
 abbrev pub textIn : Held → List ℕ → List ℕ

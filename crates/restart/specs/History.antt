@@ -19,39 +19,39 @@ use Rattle.restart.specs.Statistics.{Fed, fedAfter, statisticsFrom}
 
 -- Document 01's W(x, t), L(x, t, y) and F.
 pub data Entry : Type 0 where
-  initial : List Float → ℕ → Entry
-  learned : List Float → ℕ → List Float → Entry
-  drained : Entry
+  initialEntry : List Float → ℕ → Entry
+  learnedEntry : List Float → ℕ → List Float → Entry
+  drainedEntry : Entry
 
 -- ---- the entries by kind, oldest first
 
 -- the W's
 abbrev pub initials : List Entry → List Reading
 initials [] = []
-initials (initial x t ∷ es) = initials es ++ (reading x t ∷ [])
-initials (learned x t y ∷ es) = initials es
-initials (drained ∷ es) = initials es
+initials (initialEntry x t ∷ es) = initials es ++ (reading x t ∷ [])
+initials (learnedEntry x t y ∷ es) = initials es
+initials (drainedEntry ∷ es) = initials es
 
 -- the L's
 abbrev pub learns : List Entry → List Reading
 learns [] = []
-learns (initial x t ∷ es) = learns es
-learns (learned x t y ∷ es) = learns es ++ (reading x t ∷ [])
-learns (drained ∷ es) = learns es
+learns (initialEntry x t ∷ es) = learns es
+learns (learnedEntry x t y ∷ es) = learns es ++ (reading x t ∷ [])
+learns (drainedEntry ∷ es) = learns es
 
 -- F stands
 abbrev pub isDrained : List Entry → Bool
 isDrained [] = false
-isDrained (initial x t ∷ es) = isDrained es
-isDrained (learned x t y ∷ es) = isDrained es
-isDrained (drained ∷ es) = true
+isDrained (initialEntry x t ∷ es) = isDrained es
+isDrained (learnedEntry x t y ∷ es) = isDrained es
+isDrained (drainedEntry ∷ es) = true
 
 -- nothing but W's
 abbrev pub onlyInitials : List Entry → Bool
 onlyInitials [] = true
-onlyInitials (initial x t ∷ es) = onlyInitials es
-onlyInitials (learned x t y ∷ es) = false
-onlyInitials (drained ∷ es) = false
+onlyInitials (initialEntry x t ∷ es) = onlyInitials es
+onlyInitials (learnedEntry x t y ∷ es) = false
+onlyInitials (drainedEntry ∷ es) = false
 
 abbrev pub values : List Reading → List Float
 values [] = []
@@ -92,26 +92,26 @@ unfoldable pub timestampsOf : Settings → List Entry → List ℕ
 timestampsOf s es = lastN (s .k) (replicate (s .k) 0 ++ timestamps (shingled es))
 
 -- "newest input and newest time as the next line has them, so 0 for a first L without F"
-unfoldable pub newestOf : Settings → List Entry → Reading
-newestOf s es = reading (lastN (s .d) (inputsOf s es)) (lastOr 0 (timestampsOf s es))
+unfoldable pub newestReading : Settings → List Entry → Reading
+newestReading s es = reading (lastN (s .d) (inputsOf s es)) (lastOr 0 (timestampsOf s es))
 
 -- ---- statistics and points
 
 -- "each W in order, previous = the W before, the first with itself"
-abbrev pub after : Reading → List Reading → List Fed
-after p [] = []
-after p (r ∷ rs) = fedAfter p r ∷ after r rs
+abbrev pub eachAfter : Reading → List Reading → List Fed
+eachAfter p [] = []
+eachAfter p (r ∷ rs) = fedAfter p r ∷ eachAfter r rs
 
-abbrev pub pairs : List Reading → List Fed
-pairs [] = []
-pairs (r ∷ rs) = after r (r ∷ rs)
+abbrev pub fedPairs : List Reading → List Fed
+fedPairs [] = []
+fedPairs (r ∷ rs) = eachAfter r (r ∷ rs)
 
 -- "An L feeds them if values_seen before it is below stop"
 abbrev pub fedOf : Settings → List Entry → List Fed
 fedOf s [] = []
-fedOf s (initial x t ∷ es) = fedOf s es
-fedOf s (learned x t y ∷ es) = fedOf s es ++ cond (ltb (seenOf es) (s .stop)) (fedAfter (newestOf s es) (reading x t) ∷ []) []
-fedOf s (drained ∷ es) = fedOf s es ++ pairs (initials es)
+fedOf s (initialEntry x t ∷ es) = fedOf s es
+fedOf s (learnedEntry x t y ∷ es) = fedOf s es ++ cond (ltb (seenOf es) (s .stop)) (fedAfter (newestReading s es) (reading x t) ∷ []) []
+fedOf s (drainedEntry ∷ es) = fedOf s es ++ fedPairs (initials es)
 
 -- "All start empty; count = readings fed."
 unfoldable pub countOf : Settings → List Entry → ℕ
@@ -127,10 +127,10 @@ transforms s st seen (p ∷ ps) = transformedAfter s st seen (p .before) (p .now
 -- "Points: zeros; F shifts in each W's transform, made with all W's fed and its previous as above; each L replaces them by y."
 abbrev pub pointsOf : Settings → List Entry → List Float
 pointsOf s [] = replicate (dimension s) zero32
-pointsOf s (initial x t ∷ es) = pointsOf s es
-pointsOf s (learned x t y ∷ es) = y
-pointsOf s (drained ∷ es) =
-    lastN (dimension s) (pointsOf s es ++ transforms s (statisticsOf s (drained ∷ es)) (seenOf es) (pairs (initials es)))
+pointsOf s (initialEntry x t ∷ es) = pointsOf s es
+pointsOf s (learnedEntry x t y ∷ es) = y
+pointsOf s (drainedEntry ∷ es) =
+    lastN (dimension s) (pointsOf s es ++ transforms s (statisticsOf s (drainedEntry ∷ es)) (seenOf es) (fedPairs (initials es)))
 
 -- ---- the text
 
@@ -174,14 +174,14 @@ complete s es = onlyInitials es && (eqb (length es) (s .start) && ltb 0 (s .star
 -- "learn with a forest point y adds L(x, t, y), and without one adds nothing"
 abbrev pub addsLearned : List Entry → Reading → Option (List Float) → List Entry
 addsLearned es r none = es
-addsLearned es r (some y) = learned (r .value) (r .time) y ∷ es
+addsLearned es r (some y) = learnedEntry (r .value) (r .time) y ∷ es
 
 -- "An accepted learn while waiting adds W(x, t). Otherwise learn … Drain, or an accepted point, adds F when … Nothing else adds"
 unfoldable pub adds : Settings → List Entry → Call → List Entry
-adds s es (shingledPoint x t out) = cond (complete s es) (drained ∷ es) es
+adds s es (shingledPoint x t out) = cond (complete s es) (drainedEntry ∷ es) es
 adds s es (postProcess l) =
-    cond (waiting s (seenOf es)) (initial (l .input) (l .timestamp) ∷ es) (addsLearned es (reading (l .input) (l .timestamp)) (l .rcfPoint))
-adds s es drain = cond (complete s es) (drained ∷ es) es
+    cond (waiting s (seenOf es)) (initialEntry (l .input) (l .timestamp) ∷ es) (addsLearned es (reading (l .input) (l .timestamp)) (l .rcfPoint))
+adds s es drain = cond (complete s es) (drainedEntry ∷ es) es
 adds s es (transform x t out) = es
 adds s es (invertExtrapolation c) = es
 adds s es (scale out) = es

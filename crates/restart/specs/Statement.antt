@@ -67,26 +67,26 @@ pub record Restart (s : Settings) (before after : List Call) : Type 0 where
 -- ---- restarts at any places
 
 pub data Event : Type 0 where
-  called : Call → Event
+  callMade : Call → Event
   restarted : Event
 
 abbrev pub callsOf : List Event → List Call
 callsOf [] = []
-callsOf (called c ∷ es) = c ∷ callsOf es
+callsOf (callMade c ∷ es) = c ∷ callsOf es
 callsOf (restarted ∷ es) = callsOf es
 
 -- at a restart the state is put away, and what takes the text up goes on; a text that is refused ends it
 abbrev pub runEvents : Read → List Event → Read
 runEvents r [] = r
-runEvents (taken w) (called c ∷ es) = runEvents (taken (next w c)) es
-runEvents (bad n) (called c ∷ es) = bad n
+runEvents (taken w) (callMade c ∷ es) = runEvents (taken (next w c)) es
+runEvents (bad n) (callMade c ∷ es) = bad n
 runEvents (taken w) (restarted ∷ es) = runEvents (read (render w)) es
 runEvents (bad n) (restarted ∷ es) = bad n
 
 abbrev pub answersEvents : Read → List Event → List Answer
 answersEvents r [] = []
-answersEvents (taken w) (called c ∷ es) = answer w c ∷ answersEvents (taken (next w c)) es
-answersEvents (bad n) (called c ∷ es) = []
+answersEvents (taken w) (callMade c ∷ es) = answer w c ∷ answersEvents (taken (next w c)) es
+answersEvents (bad n) (callMade c ∷ es) = []
 answersEvents (taken w) (restarted ∷ es) = answersEvents (read (render w)) es
 answersEvents (bad n) (restarted ∷ es) = []
 
@@ -97,15 +97,15 @@ lastPanel out (bad n) = []
 
 abbrev pub panelsEvents : List Float → Read → List Event → List (Option ℕ)
 panelsEvents out r [] = lastPanel out r
-panelsEvents out (taken w) (called c ∷ es) = panelTold (answer w (status out)) ∷ panelsEvents out (taken (next w c)) es
-panelsEvents out (bad n) (called c ∷ es) = []
+panelsEvents out (taken w) (callMade c ∷ es) = panelTold (answer w (status out)) ∷ panelsEvents out (taken (next w c)) es
+panelsEvents out (bad n) (callMade c ∷ es) = []
 panelsEvents out (taken w) (restarted ∷ es) = panelTold (answer w (status out)) ∷ panelsEvents out (read (render w)) es
 panelsEvents out (bad n) (restarted ∷ es) = []
 
 -- a restart enters nothing
 abbrev pub historyPanelsEvents : Settings → List Entry → List Event → List ℕ
 historyPanelsEvents s h [] = historyPanel s h ∷ []
-historyPanelsEvents s h (called c ∷ es) = historyPanel s h ∷ historyPanelsEvents s (enter s h c) es
+historyPanelsEvents s h (callMade c ∷ es) = historyPanel s h ∷ historyPanelsEvents s (enter s h c) es
 historyPanelsEvents s h (restarted ∷ es) = historyPanel s h ∷ historyPanelsEvents s h es
 
 -- no call sees a restart, and every text put away is taken up

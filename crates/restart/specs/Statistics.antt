@@ -48,8 +48,8 @@ abbrev pub differencesAt : ℕ → List Fed → List Float
 differencesAt i ps = map (λ p. sub binary32 (getD (p .now .value) i nan) (getD (p .before .value) i nan)) ps
 
 -- the time's, whole numbers made f64
-abbrev pub times : List Fed → List Float
-times ps = map (λ p. ofInt binary64 (pos (p .now .time))) ps
+abbrev pub fedTimes : List Fed → List Float
+fedTimes ps = map (λ p. ofInt binary64 (pos (p .now .time))) ps
 
 abbrev pub timeDifferences : List Fed → List Float
 timeDifferences ps = map (λ p. ofInt binary64 (pos (p .now .time - p .before .time))) ps
@@ -77,12 +77,12 @@ fifth decay ds = statisticOf (slowly decay) (map deviationOf (courseOf decay ds)
 
 -- ---- "`dev` weight, sum, squares: 5d lines, first statistic of each channel, then second and so on, then time's five"
 
-abbrev pub line : Deviation → List Float
-line s = s .weight ∷ s .sum ∷ s .«sum_squared» ∷ []
+abbrev pub devOf : Deviation → List Float
+devOf s = s .weight ∷ s .sum ∷ s .«sum_squared» ∷ []
 
 abbrev pub linesTo : ℕ → (ℕ → Deviation) → List Float
 linesTo zero f = []
-linesTo (suc n) f = linesTo n f ++ line (f n)
+linesTo (suc n) f = linesTo n f ++ devOf (f n)
 
 unfoldable pub statisticsFrom : Settings → List Fed → List Float
 statisticsFrom s ps =
@@ -91,8 +91,8 @@ statisticsFrom s ps =
     ++ (linesTo (s .d) (λ i. third (s .decay) (valuesAt i ps))
     ++ (linesTo (s .d) (λ i. fourth (s .decay) (differencesAt i ps))
     ++ (linesTo (s .d) (λ i. fifth (s .decay) (differencesAt i ps))
-    ++ (line (first (s .decay) (times ps))
-    ++ (line (second (s .decay) (timeDifferences ps))
-    ++ (line (third (s .decay) (times ps))
-    ++ (line (fourth (s .decay) (timeDifferences ps))
-    ++ line (fifth (s .decay) (timeDifferences ps))))))))))
+    ++ (devOf (first (s .decay) (fedTimes ps))
+    ++ (devOf (second (s .decay) (timeDifferences ps))
+    ++ (devOf (third (s .decay) (fedTimes ps))
+    ++ (devOf (fourth (s .decay) (timeDifferences ps))
+    ++ devOf (fifth (s .decay) (timeDifferences ps))))))))))

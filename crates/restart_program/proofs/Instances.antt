@@ -12,8 +12,8 @@ use lib.Ieee as Ieee
 use Rattle.numeric.specs.Narrow as Narrow
 use Rattle.numeric.specs.Root as Root
 use Rattle.common.specs.Deviation as Deviation
-use Rattle.common.specs.Lent as Over
-use Rattle.common.specs.RangeVector as RangeVector
+use Rattle.refusal.specs.Lent as Over
+use Rattle.ranges.specs.RangeVector as RangeVector
 use Rattle.trcf.specs.Lists as Lists
 use Rattle.trcf.specs.Settings as Settings
 use Rattle.trcf.specs.Calls as Calls
@@ -29,27 +29,27 @@ use Rattle.trcf.specs.declared.types.TransformMethod.the-variants.{DIFFERENCE, 
 use Rattle.trcf.specs.declared.types.ForestMode.the-variants.{STANDARD, «TIME_AUGMENTED», «GAP_AUGMENTED»}
 use Rattle.snapshot.specs.Text as Text
 use Rattle.snapshot.specs.Text.{render}
-use Rattle.snapshot.specs.Steps.Ascii.{text}
+use Rattle.snapshot.specs.Ascii.{text}
 use Rattle.snapshot.specs.Read.{taken}
 use Rattle.restart.specs.History as History
-use Rattle.restart.specs.History.{initial, learned, drained, entries, historyText, historyAnswers, historyPanels, historyShown}
-use Rattle.restart.specs.Statement.{Restart, Event, called, restarted, callsOf, panels, panelsEvents, historyPanelsEvents, Restarts}
+use Rattle.restart.specs.History.{initialEntry, learnedEntry, drainedEntry, entries, historyText, historyAnswers, historyPanels, historyShown}
+use Rattle.restart.specs.Statement.{Restart, Event, callMade, restarted, callsOf, panels, panelsEvents, historyPanelsEvents, Restarts}
 use Rattle.restart.specs.Held.{builtOn, heldRun, heldAnswers, heldPanels, heldShown, textIn, restoredOn, HeldRestart}
 use Rattle.restart.proofs.Restart.{demand-3}
 use Rattle.restart.proofs.Held.{held-demand-3}
 use Rattle.trcf.specs.Preprocessor.{Reading, reading, statisticsLength}
 use Rattle.restart.specs.Statistics as Statistics
 use Rattle.restart.specs.Statistics.{Fed, fedAfter, statisticsFrom}
-use Rattle.restart_program.specs.Program.{returns, ran, answerRead, returnedPanels, shownGetters, ProgramRestart}
+use Rattle.restart_program.specs.Program.{returns, leftByAll, answerRead, returnedPanels, shownGetters, ProgramRestart}
 use Rattle.restart_program.proofs.Program.{program-demand-3}
 
 -- to unfold this is to unfold whatever its line names
 computing : Unit {0}
-unfolding Ieee.add Ieee.sub Ieee.mul Ieee.div Ieee.lt Ieee.le Ieee.eq Ieee.ofInt Ieee.ofBits Ieee.toBits Ieee.size Ieee.round Ieee.fits Narrow.narrowed Root.rootOf Root.rooted Root.halves Root.rootWithin Deviation.outsideUnit Deviation.factorOf Deviation.stepOf Deviation.isEmpty Deviation.meanOf Deviation.rootAbove Deviation.deviationOf Over.over Transformer.statisticAt Transformer.putStatistic Transformer.fed Transformer.deviationsAt Transformer.putDeviations Transformer.fedAt Transformer.channelsFed Transformer.updated Transformer.normalizedScale Transformer.basicShift Transformer.basicDrift Transformer.weightAt Transformer.transformed Transformer.unweighted Transformer.inverted Transformer.scales Transformer.shifts Transformer.differenceDeviations Settings.block Settings.dimension Settings.waiting Settings.allOne Settings.settingsRow Lists.lastN Lists.shiftIn Lists.overwrite Calls.finite Calls.due Calls.newest Calls.behind Calls.wrongLength Calls.outside Calls.drainFull Calls.learnFull Calls.waitingShort Calls.learnShort Calls.table Calls.rows Preprocessor.timeFed Preprocessor.feed Preprocessor.timescale Preprocessor.timedrift Preprocessor.timeElement Preprocessor.transformedAfter View.lentShort
+unfolding Ieee.add Ieee.sub Ieee.mul Ieee.div Ieee.lt Ieee.le Ieee.eq Ieee.ofInt Ieee.ofBits Ieee.toBits Ieee.size Ieee.round Ieee.fits Narrow.narrowed Root.rootOf Root.rooted Root.halves Root.rootWithin Deviation.outsideUnit Deviation.factorOf Deviation.stepOf Deviation.isEmpty Deviation.meanOf Deviation.rootAbove Deviation.deviationOf Over.over Transformer.statisticAt Transformer.putStatistic Transformer.fed Transformer.deviationsAt Transformer.putDeviations Transformer.fedAt Transformer.channelsFed Transformer.updated Transformer.normalizedScale Transformer.basicShift Transformer.basicDrift Transformer.weightAt Transformer.transformed Transformer.unweighted Transformer.inverted Transformer.scales Transformer.shifts Transformer.differenceDeviations Settings.block Settings.dimension Settings.waiting Settings.allOne Settings.settingsRow Lists.lastN Lists.shiftIn Lists.overwrite Calls.finite Calls.due Calls.newest Calls.beforeNewest Calls.wrongLength Calls.outside Calls.drainFull Calls.learnFull Calls.waitingShort Calls.learnShort Calls.table Calls.rows Preprocessor.timeFed Preprocessor.feed Preprocessor.timescale Preprocessor.timedrift Preprocessor.timeElement Preprocessor.transformedAfter View.lentShort
 computing = tt
 
 recording : Unit {0}
-unfolding computing History.seenOf History.internalOf History.bufferOf History.shingled History.inputsOf History.timestampsOf History.newestOf History.countOf History.statisticsOf Statistics.statisticsFrom History.historyState History.historyFacts History.historyRefusal History.complete History.adds History.enter History.entries History.historyText History.historyPanel
+unfolding computing History.seenOf History.internalOf History.bufferOf History.shingled History.inputsOf History.timestampsOf History.newestReading History.countOf History.statisticsOf Statistics.statisticsFrom History.historyState History.historyFacts History.historyRefusal History.complete History.adds History.enter History.entries History.historyText History.historyPanel
 recording = tt
 
 writing : Unit {0}
@@ -57,7 +57,7 @@ unfolding recording Text.whole Text.float Text.setLine Text.singles Text.cntLine
 writing = tt
 
 answering : Unit {0}
-unfolding recording Preprocessor.previous Preprocessor.timeBase Preprocessor.preceding Preprocessor.primed Preprocessor.drainOne Preprocessor.drainAll Preprocessor.drained Preprocessor.held Preprocessor.learned Preprocessor.learnedWith Preprocessor.facts Preprocessor.deviations Preprocessor.scaleOf Preprocessor.shiftOf Preprocessor.pointOf Preprocessor.blockFrom Preprocessor.pastValues Preprocessor.expectedValues Preprocessor.anomalyOf Preprocessor.learnedNothing Preprocessor.heldAnswer Preprocessor.learnedAnswer Preprocessor.learnAnswer Preprocessor.statusOf Preprocessor.reply History.historyAnswer
+unfolding recording Preprocessor.previous Preprocessor.timeBase Preprocessor.preceding Preprocessor.primed Preprocessor.drainOne Preprocessor.drainAll Preprocessor.drained Preprocessor.buffered Preprocessor.learned Preprocessor.learnedWith Preprocessor.facts Preprocessor.deviations Preprocessor.scaleOf Preprocessor.shiftOf Preprocessor.pointOf Preprocessor.blockFrom Preprocessor.pastValues Preprocessor.expectedValues Preprocessor.anomalyOf Preprocessor.learnedNothing Preprocessor.bufferedAnswer Preprocessor.learnedAnswer Preprocessor.learnAnswer Preprocessor.statusOf Preprocessor.reply History.historyAnswer
 answering = tt
 
 abbrev pub single : ℕ → Float
@@ -159,7 +159,8 @@ stranding-first = stranding-at 0
 stranding-last : Restart strands stranding []
 stranding-last = stranding-at 7
 
-stranding-entries : entries strands stranding ≡ learned (two ∷ []) 18446744073709551615 (two ∷ four ∷ []) ∷ learned (six ∷ []) 18446744073709551614 (one ∷ two ∷ []) ∷ initial (four ∷ []) 5 ∷ []
+stranding-entries : entries strands stranding ≡ learnedEntry (two ∷ []) 18446744073709551615 (two ∷ four ∷ []) ∷ learnedEntry (six ∷ []) 18446744073709551614 (one ∷ two ∷ []) ∷ initialEntry
+    (four ∷ []) 5 ∷ []
 unfolding recording
 stranding-entries = refl
 
@@ -331,16 +332,16 @@ y = one ∷ two ∷ six ∷ []
 abbrev draining : List Event
 draining =
     restarted
-    ∷ called drain
-    ∷ called (learnAt (one ∷ two ∷ []) 0 none)
-    ∷ called (learnAt (one ∷ nan ∷ []) 1 none)
-    ∷ called (learnAt (four ∷ six ∷ []) 18446744073709551615 none)
+    ∷ callMade drain
+    ∷ callMade (learnAt (one ∷ two ∷ []) 0 none)
+    ∷ callMade (learnAt (one ∷ nan ∷ []) 1 none)
+    ∷ callMade (learnAt (four ∷ six ∷ []) 18446744073709551615 none)
     ∷ restarted
     ∷ restarted
-    ∷ called (shingledPoint (two ∷ two ∷ []) 0 (replicate 4 nan))
-    ∷ called (learnAt (two ∷ six ∷ []) 18446744073709551615 (some y))
-    ∷ called (learnAt (two ∷ six ∷ []) 7 (some y))
-    ∷ called (learnAt (one ∷ six ∷ []) 18446744073709551615 (some y))
+    ∷ callMade (shingledPoint (two ∷ two ∷ []) 0 (replicate 4 nan))
+    ∷ callMade (learnAt (two ∷ six ∷ []) 18446744073709551615 (some y))
+    ∷ callMade (learnAt (two ∷ six ∷ []) 7 (some y))
+    ∷ callMade (learnAt (one ∷ six ∷ []) 18446744073709551615 (some y))
     ∷ restarted
     ∷ []
 
@@ -374,7 +375,8 @@ draining-often = demand-3 .often drains drains-valid draining draining-machine
 
 -- the refused ones, 11 for the not-a-number and 12 for the time that falls, add nothing; the last L comes at stop
 draining-entries : entries drains (callsOf draining)
-    ≡ learned (one ∷ six ∷ []) 18446744073709551615 y ∷ learned (two ∷ six ∷ []) 18446744073709551615 y ∷ drained ∷ initial (four ∷ six ∷ []) 18446744073709551615 ∷ initial (one ∷ two ∷ []) 0 ∷ []
+    ≡ learnedEntry (one ∷ six ∷ []) 18446744073709551615 y ∷ learnedEntry (two ∷ six ∷ []) 18446744073709551615 y ∷ drainedEntry ∷ initialEntry
+    (four ∷ six ∷ []) 18446744073709551615 ∷ initialEntry (one ∷ two ∷ []) 0 ∷ []
 unfolding recording
 draining-entries = refl
 
@@ -414,12 +416,12 @@ program-held =
     program-demand-3 strands strands-valid (take 4 stranding) (drop 4 stranding) (all-take Machine 4 stranding stranding-machine) (all-drop Machine 4 stranding stranding-machine)
     dirty filthy refl refl (replicate 1000 10) (replicate 726 255) text-fits
 
-program-answers : map answerRead (returns (restoredOn (textIn (ran (builtOn strands dirty) (take 4 stranding)) (replicate 1000 10)) (7 ∷ []) filthy) (drop 4 stranding))
+program-answers : map answerRead (returns (restoredOn (textIn (leftByAll (builtOn strands dirty) (take 4 stranding)) (replicate 1000 10)) (7 ∷ []) filthy) (drop 4 stranding))
     ≡ pointAnswer ∷ learnAnswer ∷ refused 20 ∷ []
 program-answers = program-held .ruledAnswers ∙ ruled
 
 abbrev programPutAway : List ℕ
-programPutAway = textIn (ran (builtOn strands dirty) (take 4 stranding)) (replicate 1000 10)
+programPutAway = textIn (leftByAll (builtOn strands dirty) (take 4 stranding)) (replicate 1000 10)
 
 program-panels : returnedPanels oneRoom (restoredOn programPutAway (7 ∷ []) filthy) (drop 4 stranding) ≡ map some (1 ∷ 1 ∷ 2 ∷ 2 ∷ [])
 program-panels = program-held .fedPanels oneRoom one-fits ∙ ap (map some) stranding-fed
@@ -571,7 +573,7 @@ gap-ends : map endOf (historyAnswers gapped (entries gapped (take 1 gapping)) (d
 unfolding answering
 gap-ends = refl
 
-program-gap-ends : map endOf (map answerRead (returns (restoredOn (textIn (ran (builtOn gapped dirty) (take 1 gapping)) (replicate 1000 10)) (7 ∷ []) filthy) (drop 1 gapping)))
+program-gap-ends : map endOf (map answerRead (returns (restoredOn (textIn (leftByAll (builtOn gapped dirty) (take 1 gapping)) (replicate 1000 10)) (7 ∷ []) filthy) (drop 1 gapping)))
     ≡ nan ∷ single 0x4270_0000 ∷ single 0x4270_0000 ∷ single 0x42c8_0000 ∷ []
 program-gap-ends = ap (map endOf) (program-gap .ruledAnswers) ∙ gap-ends
 

@@ -1,3 +1,4 @@
 pub mod Handed
 pub mod Program
 pub mod Instances
+pub mod EveryCall

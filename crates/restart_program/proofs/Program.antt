@@ -14,7 +14,7 @@ use Rattle.trcf.specs.Transformer.{zero32}
 use Rattle.trcf.specs.Settings.{Settings, Valid, block, dimension, waiting}
 use Rattle.trcf.specs.Calls.{Learn, Call, Machine, shingledPoint, postProcess, drain, transform, invertExtrapolation, scale, shift, status, rows, table, given}
 use Rattle.trcf.specs.Preprocessor.{State, Answer, refused, absent, done, wrote, learnt, turned, told, Anomaly, Learned, Status, statisticsLength, change, reply, accepted, statusOf, facts}
-use Rattle.trcf.specs.View.{Lent, lent, optional, settingsOf, view, counted, laid, headRow, initialRoom, lentShort, gettersOf, misfit, shortRow, lentRow, rowOf, orElse, answerOf, headAfter, lentAfter, Roomy, Fitted, written, writtenOf, writeOf, statusRead, statusAfter, drainOf, pointRead, pointAfter, learnRead, learnAfter, anomalyTime, anomalyLikelihood}
+use Rattle.trcf.specs.View.{Lent, lent, optional, settingsOf, view, counted, writtenOver, headRow, initialRoom, lentShort, gettersOf, countersUnfit, shortRow, lentRow, rowOf, orElse, answerOf, headAfter, lentAfter, Roomy, Fitted, written, writtenOf, writeOf, statusRead, statusAfter, drainOf, pointRead, pointAfter, learnRead, learnAfter, anomalyTime, anomalyLikelihood}
 use Rattle.trcf.specs.Extrapolation.{extrapolationRead}
 use Rattle.trcf.specs.declared.head.Preprocessor.{Preprocessor}
 use Rattle.trcf.proofs.FitLaws.{all-append}
@@ -27,7 +27,7 @@ use Rattle.restart.specs.History.{Entry, entries, enter, historyState, historyR
 use Rattle.restart.specs.Statement.{panelTold}
 use Rattle.restart.specs.Held.{Held, held, builtOn, heldNext, heldRun, heldAnswers, heldPanels, heldShown, savedTo, textIn, restoredOn, HeldRestart}
 use Rattle.restart.proofs.Held.{held-demand-3}
-use Rattle.restart_program.specs.Program.{Return, learn, drains, writes, turns, tells, pointReturn, learnReturn, returnOf, leftBy, ran, returns, anomalyRead, answerRead, returnedPanels, shownGetters, ProgramDemand3, listOf, Arguments}
+use Rattle.restart_program.specs.Program.{Return, learn, drains, writes, turns, tells, pointReturn, learnReturn, returnOf, leftBy, leftByAll, returns, anomalyRead, answerRead, returnedPanels, shownGetters, ProgramDemand3, listOf, Arguments}
 
 -- ---- a row 0 of a call says that what is lent is long enough
 
@@ -57,9 +57,9 @@ module _ (h : Preprocessor) (l : Lent) where
   both false true e = absurd (omega arith)
   both false false e = (refl, refl)
 
-  fits : lentRow h l ≡ 0 → (misfit h ≡ false) × (lentShort (settingsOf h) l ≡ false)
+  fits : lentRow h l ≡ 0 → (countersUnfit h ≡ false) × (lentShort (settingsOf h) l ≡ false)
   unfolding lentRow shortRow
-  fits e = both (misfit h) (lentShort (settingsOf h) l) e
+  fits e = both (countersUnfit h) (lentShort (settingsOf h) l) e
 
   roomy-of : lentShort (settingsOf h) l ≡ false → Roomy (settingsOf h) l
   unfolding lentShort
@@ -104,7 +104,7 @@ module _ (m : Held) where
   unfolding headAfter lentAfter
   reads c e = go (rowOf h l c) refl
     where
-      go : (r : ℕ) → rowOf h l c ≡ r → m ≡ held (accepted (rowOf h l c) (counted h (change (view h l) c)) h) (accepted (rowOf h l c) (laid (change (view h l) c) l) l)
+      go : (r : ℕ) → rowOf h l c ≡ r → m ≡ held (accepted (rowOf h l c) (counted h (change (view h l) c)) h) (accepted (rowOf h l c) (writtenOver (change (view h l) c) l) l)
       go zero q =
           let f : Fitted h l = fitted-of h l (sound-of h l c q) in
           rw (q, e) (λ j. held (same-head h l f j) (same-lent h l f j))
@@ -143,9 +143,9 @@ shown-is : (m : Held) (cs : List Call) → shownGetters m cs ≡ heldShown m cs
 shown-is m [] = refl
 shown-is m (c ∷ cs) = λ j. gettersOf (m .head) ∷ (ap (λ (x : Held). shownGetters x cs) (left-is m c) ∙ shown-is (heldNext m c) cs) j
 
-pub ran-is : (m : Held) (cs : List Call) → ran m cs ≡ heldRun m cs
+pub ran-is : (m : Held) (cs : List Call) → leftByAll m cs ≡ heldRun m cs
 ran-is m [] = refl
-ran-is m (c ∷ cs) = ap (λ (x : Held). ran x cs) (left-is m c) ∙ ran-is (heldNext m c) cs
+ran-is m (c ∷ cs) = ap (λ (x : Held). leftByAll x cs) (left-is m c) ∙ ran-is (heldNext m c) cs
 
 -- ---- what a caller gets, from the answer
 
@@ -350,7 +350,7 @@ program-demand-3 s ok before after mb ma first second r₁ r₂ out last long =
     let es : List Entry = entries s before in
     let q : Ruled s N es = λ cs a. H cs a .ruledAnswers in
     let r : Ruled s M es = λ cs a. sym (H cs a .sameAnswers) ∙ H cs a .ruledAnswers in
-    let e : heldRun (builtOn s first) before ≡ ran (builtOn s first) before = sym (ran-is (builtOn s first) before) in
+    let e : heldRun (builtOn s first) before ≡ leftByAll (builtOn s first) before = sym (ran-is (builtOn s first) before) in
     let saves : savedTo M out .row ≡ 0 = k .saves in
     let text : textIn M out ≡ historyText s before = k .text in
     let restores : restore.restoreOf (textIn M out) (s .codes) second .row ≡ 0 = k .restores in
@@ -359,7 +359,7 @@ program-demand-3 s ok before after mb ma first second r₁ r₂ out last long =
     let fed : (room : List Float) → block s ≤ length room → returnedPanels room N after ≡ map some (historyPanels s es after) =
     λ room h. panels-read s room N es q after ma ∙ k .fedPanels room h in
     let shown : shownGetters N after ≡ historyShown s es after = shown-is N after ∙ k .fedShown in
-    let ends : savedTo (ran N after) last ≡ savedTo (ran (builtOn s first) (before ++ after)) last =
+    let ends : savedTo (leftByAll N after) last ≡ savedTo (leftByAll (builtOn s first) (before ++ after)) last =
     ap (λ (x : Held). savedTo x last) (ran-is N after) ∙ k .sameText ∙ ap (λ (x : Held). savedTo x last) (sym (ran-is (builtOn s first) (before ++ after))) in
     record {
       builds = k .builds;
@@ -368,7 +368,7 @@ program-demand-3 s ok before after mb ma first second r₁ r₂ out last long =
       restores = subst (λ (x : Held). restore.restoreOf (textIn x out) (s .codes) second .row ≡ 0) e restores;
       sameReturns = subst (λ (x : Held). returns (restoredOn (textIn x out) (s .codes) second) after ≡ returns x after) e same;
       ruledAnswers = subst (λ (x : Held). map answerRead (returns (restoredOn (textIn x out) (s .codes) second) after) ≡ historyAnswers s es after) e ruled;
-      sameText = subst (λ (x : Held). savedTo (ran (restoredOn (textIn x out) (s .codes) second) after) last ≡ savedTo (ran (builtOn s first) (before ++ after)) last) e ends;
+      sameText = subst (λ (x : Held). savedTo (leftByAll (restoredOn (textIn x out) (s .codes) second) after) last ≡ savedTo (leftByAll (builtOn s first) (before ++ after)) last) e ends;
       fedPanels =
           λ room h. subst (λ (x : Held). returnedPanels room (restoredOn (textIn x out) (s .codes) second) after ≡ map some (historyPanels s es after)) e (fed room h);
       firstPanels =

@@ -58,9 +58,9 @@ leftBy m (scale out) = m
 leftBy m (shift out) = m
 leftBy m (status out) = m
 
-abbrev pub ran : Held → List Call → Held
-ran m [] = m
-ran m (c ∷ cs) = ran (leftBy m c) cs
+abbrev pub leftByAll : Held → List Call → Held
+leftByAll m [] = m
+leftByAll m (c ∷ cs) = leftByAll (leftBy m c) cs
 
 abbrev pub returns : Held → List Call → List Return
 returns m [] = []
@@ -103,19 +103,19 @@ shownGetters m (c ∷ cs) = gettersOf (m .head) ∷ shownGetters (leftBy m c) cs
 
 pub record ProgramRestart (s : Settings) (before after : List Call) (first second : Lent) (out last : List ℕ) : Type 0 where
   pub builds : buildOf s first .row ≡ 0
-  pub saves : savedTo (ran (builtOn s first) before) out .row ≡ 0
-  pub text : textIn (ran (builtOn s first) before) out ≡ historyText s before
-  pub restores : restore.restoreOf (textIn (ran (builtOn s first) before) out) (s .codes) second .row ≡ 0
+  pub saves : savedTo (leftByAll (builtOn s first) before) out .row ≡ 0
+  pub text : textIn (leftByAll (builtOn s first) before) out ≡ historyText s before
+  pub restores : restore.restoreOf (textIn (leftByAll (builtOn s first) before) out) (s .codes) second .row ≡ 0
   -- every return and every output, refusals included
-  pub sameReturns : returns (restoredOn (textIn (ran (builtOn s first) before) out) (s .codes) second) after ≡ returns (ran (builtOn s first) before) after
-  pub ruledAnswers : map answerRead (returns (restoredOn (textIn (ran (builtOn s first) before) out) (s .codes) second) after) ≡ historyAnswers s (entries s before) after
-  pub sameText : savedTo (ran (restoredOn (textIn (ran (builtOn s first) before) out) (s .codes) second) after) last ≡ savedTo (ran (builtOn s first) (before ++ after)) last
+  pub sameReturns : returns (restoredOn (textIn (leftByAll (builtOn s first) before) out) (s .codes) second) after ≡ returns (leftByAll (builtOn s first) before) after
+  pub ruledAnswers : map answerRead (returns (restoredOn (textIn (leftByAll (builtOn s first) before) out) (s .codes) second) after) ≡ historyAnswers s (entries s before) after
+  pub sameText : savedTo (leftByAll (restoredOn (textIn (leftByAll (builtOn s first) before) out) (s .codes) second) after) last ≡ savedTo (leftByAll (builtOn s first) (before ++ after)) last
   -- the panel is the history's number of readings fed, at every place after the restart, and at every place where nothing is put away
   pub fedPanels : (room : List Float) → block s ≤ length room
-      → returnedPanels room (restoredOn (textIn (ran (builtOn s first) before) out) (s .codes) second) after ≡ map some (historyPanels s (entries s before) after)
+      → returnedPanels room (restoredOn (textIn (leftByAll (builtOn s first) before) out) (s .codes) second) after ≡ map some (historyPanels s (entries s before) after)
   pub firstPanels : (room : List Float) → block s ≤ length room → returnedPanels room (builtOn s first) (before ++ after) ≡ map some (historyPanels s [] (before ++ after))
   -- and so is what every getter answers
-  pub fedShown : shownGetters (restoredOn (textIn (ran (builtOn s first) before) out) (s .codes) second) after ≡ historyShown s (entries s before) after
+  pub fedShown : shownGetters (restoredOn (textIn (leftByAll (builtOn s first) before) out) (s .codes) second) after ≡ historyShown s (entries s before) after
   pub firstShown : shownGetters (builtOn s first) (before ++ after) ≡ historyShown s [] (before ++ after)
 
 abbrev pub ProgramDemand3 : Type 0
@@ -144,11 +144,11 @@ abbrev pub listOf : Option (List Float) → List Float
 listOf none = []
 listOf (some v) = v
 
-abbrev pub taken : Learn → Learn
-taken q =
+abbrev pub learnTaken : Learn → Learn
+learnTaken q =
     learnCall (q .input) (q .timestamp) (given (q .rcfPoint)) (listOf (q .rcfPoint)) (given (q .expectedPoint)) (listOf (q .expectedPoint)) (q .grade)
     (q .relativeIndex) (q .deviationsOut) (q .pastOut) (q .expectedOut)
 
 pub record Arguments : Type 0 where
   pub built : (s : Settings) → settingsFrom (builderOf s) (s .weights) (s .codes) ≡ s
-  pub learns : (q : Learn) → taken q ≡ q
+  pub learns : (q : Learn) → learnTaken q ≡ q

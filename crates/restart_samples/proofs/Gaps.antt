@@ -9,7 +9,7 @@ use lib.ListN.{length, take, getD, replicate}
 use lib.Ieee.{Float, nan, inf, binary32, binary64, ofBits, div}
 use Rattle.numeric.specs.Narrow.{narrowed}
 use Rattle.common.specs.Deviation.{zero64}
-use Rattle.common.specs.RangeVector.{ranges}
+use Rattle.ranges.specs.RangeVector.{ranges}
 use Rattle.trcf.specs.Transformer.{zero32}
 use Rattle.trcf.specs.Settings.{Settings}
 use Rattle.trcf.specs.Calls.{Call, shingledPoint, drain, transform, invertExtrapolation, shift}

@@ -1,5 +1,5 @@
 -- Rows over what the program holds, by computation: which row shows where several lent parts are too short, which lists may be empty, and what a refused
--- status and `is_ready` tell; and that a lent part that is too short, and counters that no preprocessor has, refuse every call.
+-- status and `is_ready` tell; the order of `save`'s rows; and that a lent part that is too short, and counters that no preprocessor has, refuse every call.
 use Prim.Native.Nat.{ℕ, zero, suc}
 use native.Mathlib.Omega.{arith}
 use mathlib.Core.Path.{_≡_, refl, sym, ap, _∙_}
@@ -8,24 +8,27 @@ use mathlib.Core.List.{List, [], _∷_, map}
 use mathlib.Core.Option.{Option, none, some}
 use lib.IntN.{pos}
 use lib.ListN.{length, replicate}
-use lib.Ieee.{Float, nan, binary32, ofBits, le, lt}
+use lib.Ieee.{Float, nan, binary32, binary64, ofBits, toBits, size, fits, le, lt}
 use Rattle.common.specs.Deviation.{zero64, outsideUnit}
-use Rattle.common.specs.Lent.{over}
-use Rattle.common.specs.Refusal.{firstOf}
+use Rattle.refusal.specs.Lent.{over}
+use Rattle.refusal.specs.Refusal.{firstOf}
 use Rattle.trcf.specs.Transformer.{zero32}
 use Rattle.trcf.specs.Settings.{Settings, settingsRow, allOne, block, dimension, waiting}
 use Rattle.trcf.specs.Calls.{Call, Forecast, invertExtrapolation, postProcess, drain, scale, status, rows, table, finite, due, drainFull, newest, wrongLength, waitingShort, learnFull, learnShort, outside}
 use Rattle.trcf.specs.Preprocessor.{fresh, facts, accepted}
-use Rattle.trcf.specs.View.{Lent, lent, settingsOf, view, laid, counting, headRow, lentShort, misfit, shortRow, lentRow, orElse, rowOf, ownRow, readyOf, untold, headFrom, noHead, buildRow, buildOf, answerOf, headAfter, lentAfter, statusAfter}
-use Rattle.trcf.specs.Extrapolation.{viewed, unreadRow, extrapolationRow, extrapolationOf}
+use Rattle.trcf.specs.View.{Lent, lent, settingsOf, view, writtenOver, counting, headRow, lentShort, countersUnfit, shortRow, lentRow, orElse, outsideRow, rowOf, ownRow, readyOf, noStatus, headFrom, noHead, buildRow, buildOf, answerOf, headAfter, lentAfter, statusAfter}
+use Rattle.trcf.specs.Extrapolation.{viewed, readShortRow, extrapolationRow, extrapolationOf}
 use Rattle.trcf.specs.declared.types.TransformMethod.{TransformMethod}
 use Rattle.trcf.specs.declared.types.TransformMethod.the-variants.{NONE, WEIGHTED, DIFFERENCE, «SUBTRACT_MA», NORMALIZE, «NORMALIZE_DIFFERENCE»}
-use Rattle.trcf.specs.declared.types.ForestMode.the-variants.{STANDARD}
+use Rattle.trcf.specs.declared.types.ForestMode.{ForestMode}
+use Rattle.trcf.specs.declared.types.ForestMode.the-variants.{STANDARD, «STREAMING_IMPUTE»}
 use Rattle.trcf.specs.declared.head.Preprocessor.{Preprocessor}
+use Rattle.snapshot.specs.Text as Text
+use Rattle.snapshot.specs.Save.{inUseShort, unformed, fitted, heldSave, saveOf}
 
 -- opens what a row computes by
 all : Unit {0}
-unfolding over buildOf buildRow settingsRow lentRow shortRow lentShort misfit laid fresh view rowOf ownRow readyOf headRow rows table facts finite due drainFull newest wrongLength waitingShort learnFull learnShort outside waiting block dimension allOne outsideUnit answerOf statusAfter le lt ofBits
+unfolding over buildOf buildRow settingsRow lentRow shortRow lentShort countersUnfit writtenOver fresh view rowOf ownRow readyOf headRow rows table facts finite due drainFull newest wrongLength waitingShort learnFull learnShort outside waiting block dimension allOne outsideUnit answerOf statusAfter le lt ofBits
 all = tt
 
 abbrev one : Float
@@ -137,27 +140,27 @@ module _ (h : Preprocessor) (l : Lent) (c : Call) where
   module _ (e : lentShort (settingsOf h) l ≡ true) where
     pub short-refuses : rowOf h l c ≡ 0 → ⊥
     unfolding lentRow shortRow
-    short-refuses z = never (misfit h) (ap (λ (b : Bool). cond (misfit h) 20 (firstOf ((b, 20) ∷ []))) (sym e) ∙ lent-fits z)
+    short-refuses z = never (countersUnfit h) (ap (λ (b : Bool). cond (countersUnfit h) 20 (firstOf ((b, 20) ∷ []))) (sym e) ∙ lent-fits z)
 
     pub short-changes-nothing : (headAfter h l c ≡ h) × (lentAfter h l c ≡ l)
     short-changes-nothing = changes-nothing short-refuses
 
-  module _ (e : misfit h ≡ true) where
+  module _ (e : countersUnfit h ≡ true) where
     pub misfit-refuses : rowOf h l c ≡ 0 → ⊥
     unfolding lentRow
-    misfit-refuses z = twenty (misfit h) (shortRow (settingsOf h) l) e (lent-fits z)
+    misfit-refuses z = twenty (countersUnfit h) (shortRow (settingsOf h) l) e (lent-fits z)
 
     pub misfit-changes-nothing : (headAfter h l c ≡ h) × (lentAfter h l c ≡ l)
     misfit-changes-nothing = changes-nothing misfit-refuses
 
 -- turn-back, which is handed three of the lists
-module _ (h : Preprocessor) (st x : List Float) (ts : List ℕ) (c : Forecast) (e : misfit h ≡ true) where
+module _ (h : Preprocessor) (st x : List Float) (ts : List ℕ) (c : Forecast) (e : countersUnfit h ≡ true) where
   misfit-row : extrapolationRow h st x ts c ≡ 0 → ⊥
-  unfolding extrapolationRow unreadRow
+  unfolding extrapolationRow readShortRow
   misfit-row z =
       let r : ℕ = rows (settingsOf h) (facts (viewed h st x ts)) (invertExtrapolation c) in
-      let n : ℕ = unreadRow h (length st) (length x) (length ts) in
-      twenty (misfit h) _ e (or-else r n (or-else (headRow (settingsOf h)) (orElse r n) z))
+      let n : ℕ = readShortRow h (length st) (length x) (length ts) in
+      twenty (countersUnfit h) _ e (or-else r n (or-else (headRow (settingsOf h)) (orElse r n) z))
 
   pub misfit-turns-nothing : (extrapolationOf h st x ts c .row ≡ 0 → ⊥) × (extrapolationOf h st x ts c .left ≡ c)
   unfolding extrapolationOf
@@ -188,7 +191,7 @@ edges = refl
 -- ---- a refused status tells the row alone; nothing is ready in a head that every call refuses
 
 -- three learnt, and an output that is too short
-untold-short : statusAfter (past 3) whole [] ≡ record { row = 20; numbers = untold [] }
+untold-short : statusAfter (past 3) whole [] ≡ record { row = 20; numbers = noStatus [] }
 unfolding all
 untold-short = refl
 
@@ -200,7 +203,7 @@ forged =
     (record { mode = STANDARD; method = DIFFERENCE; d = 1; k = 65; start = 2; stop = 9; decay = zero64; weightTime = one; weights = one ∷ []; codes = 0 ∷ [] }))
     99 99 99 0
 
-untold-forged : statusAfter forged whole (nan ∷ []) ≡ record { row = 4; numbers = untold (nan ∷ []) }
+untold-forged : statusAfter forged whole (nan ∷ []) ≡ record { row = 4; numbers = noStatus (nan ∷ []) }
 unfolding all
 untold-forged = refl
 
@@ -209,3 +212,54 @@ ready : readyOf (past 3) ∷ readyOf (head DIFFERENCE 1 1 1 0) ∷ readyOf forge
     ≡ true ∷ false ∷ false ∷ false ∷ false ∷ []
 unfolding all
 ready = refl
+
+-- ---- `save`: the settings, the counters, a list too short, what the lists hold, the output
+
+lines : Unit {0}
+unfolding Text.whole Text.float Text.setLine Text.singles Text.cntLine Text.devLine Text.timLine Text.bufLine Text.chnLine Text.linesBy Text.bodyLines Text.render toBits size fits
+lines = tt
+
+-- two wait, at times that fall, or do not; and of the times k says there is one too few, or both
+abbrev falling : List ℕ → Lent
+falling ts = memory ts (one ∷ one ∷ []) (7 ∷ 5 ∷ [])
+
+abbrev waits : Preprocessor
+waits = head NORMALIZE 0 2 0 2
+
+saves : saveOf forged (falling (0 ∷ [])) [] .row
+    ∷ saveOf (head NORMALIZE 0 2 1 2) (falling (0 ∷ [])) [] .row
+    ∷ saveOf waits (falling (0 ∷ [])) [] .row
+    ∷ saveOf waits (falling (0 ∷ 0 ∷ [])) [] .row
+    ∷ saveOf waits (memory (0 ∷ 0 ∷ []) (one ∷ one ∷ []) (5 ∷ 7 ∷ [])) [] .row
+    ∷ [] ≡ 4 ∷ 19 ∷ 20 ∷ 19 ∷ 20 ∷ []
+unfolding all lines saveOf heldSave fitted unformed inUseShort
+saves = refl
+
+-- ---- a head from outside, as C's border opens it: rows 1, 6, 7 and 9 of settings that `build` refuses, and counters that no text has
+
+abbrev made : ForestMode → TransformMethod → ℕ → ℕ → Float → Preprocessor
+made mode m decay start w =
+    headFrom (record { mode = mode; method = m; d = 1; k = 1; start = start; stop = 9; decay = ofBits binary64 decay; weightTime = one; weights = w ∷ []; codes = 0 ∷ [] })
+
+from-outside : map outsideRow
+    (made «STREAMING_IMPUTE» NORMALIZE 0 2 one
+    ∷ made STANDARD NORMALIZE 0x3ff0_0000_0000_0000 2 one
+    ∷ made STANDARD NORMALIZE 0 10 one
+    ∷ made STANDARD NONE 0 2 (ofBits binary32 0x4000_0000)
+    ∷ made STANDARD NORMALIZE 0 2 one
+    ∷ [])
+    ≡ 1 ∷ 6 ∷ 7 ∷ 9 ∷ 0 ∷ []
+unfolding all outsideRow
+from-outside = refl
+
+-- one bit of the counters flipped, where nothing was seen: values_seen, internal, the readings that wait; a count past its limit, and the limit
+flipped : map outsideRow
+    (counting (made STANDARD NORMALIZE 0 2 one) 0 1 0 0
+    ∷ counting (made STANDARD NORMALIZE 0 2 one) 0 0 1 0
+    ∷ counting (made STANDARD NORMALIZE 0 2 one) 0 0 0 1
+    ∷ counting (made STANDARD NORMALIZE 0 2 one) 9007199254740991 0 0 0
+    ∷ counting (made STANDARD NORMALIZE 0 2 one) 9007199254740990 0 0 0
+    ∷ [])
+    ≡ 20 ∷ 20 ∷ 20 ∷ 20 ∷ 0 ∷ []
+unfolding all outsideRow
+flipped = refl

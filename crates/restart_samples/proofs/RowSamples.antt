@@ -12,10 +12,10 @@ use Rattle.trcf.specs.declared.types.TransformMethod.the-variants.{NONE, DIFFER
 use Rattle.trcf.specs.declared.types.ForestMode.{ForestMode}
 use Rattle.trcf.specs.declared.types.ForestMode.the-variants.{STANDARD, «TIME_AUGMENTED», «GAP_AUGMENTED»}
 use Rattle.common.specs.Deviation.{zero64}
-use Rattle.common.specs.RangeVector.{ranges, unequal, unblocked, shorter}
+use Rattle.ranges.specs.RangeVector.{ranges, unequal, unblocked, shorter}
 use Rattle.trcf.specs.Transformer.{zero32}
 use Rattle.trcf.specs.Settings.{Settings, block, dimension, waiting}
-use Rattle.trcf.specs.Calls.{Call, shingledPoint, postProcess, drain, transform, invertExtrapolation, scale, shift, status, Facts, finite, due, newest, behind, wrongLength, outside, drainFull, learnFull, lookahead, unturnable, turnShort, waitingShort, learnShort, table, rows}
+use Rattle.trcf.specs.Calls.{Call, shingledPoint, postProcess, drain, transform, invertExtrapolation, scale, shift, status, Facts, finite, due, newest, beforeNewest, wrongLength, outside, drainFull, learnFull, lookahead, forecastUnfit, forecastOutputShort, waitingShort, learnShort, table, rows}
 
 -- a call, what is known when it is made, and the number of the row that refuses it (0 for none)
 record Case : Type 0 where
@@ -258,5 +258,5 @@ abbrev cases : List Case
 cases = points ++ learnings ++ others ++ behinds
 
 each-row : map (λ (c : Case). rows (c .settings) (c .known) (c .call)) cases ≡ map (λ (c : Case). c .row) cases
-unfolding points learnings others behinds rows table waiting block dimension due newest behind wrongLength outside drainFull learnFull lookahead unturnable turnShort waitingShort learnShort finite unequal unblocked shorter lt ofBits
+unfolding points learnings others behinds rows table waiting block dimension due newest beforeNewest wrongLength outside drainFull learnFull lookahead forecastUnfit forecastOutputShort waitingShort learnShort finite unequal unblocked shorter lt ofBits
 each-row = refl

@@ -10,7 +10,7 @@ use lib.Ieee.{Float, binary32, toBits, ofBits, size, round, le, lt, eq, add, sub
 use Rattle.restart.specs.Statistics.{statisticsFrom}
 use Rattle.restart.proofs.Step.{answers-history}
 use native.Mathlib.Omega.{arith}
-use Rattle.restart.specs.History.{Entry, initial, learned, drained, seenOf, internalOf, bufferOf, shingled, inputsOf, timestampsOf, newestOf, countOf, statisticsOf, historyState, historyFacts, historyRefusal, complete, adds, enter, entries, historyText, historyAnswer, historyAnswers, historyPanel, historyPanels}
+use Rattle.restart.specs.History.{Entry, initialEntry, learnedEntry, drainedEntry, seenOf, internalOf, bufferOf, shingled, inputsOf, timestampsOf, newestReading, countOf, statisticsOf, historyState, historyFacts, historyRefusal, complete, adds, enter, entries, historyText, historyAnswer, historyAnswers, historyPanel, historyPanels}
 use Rattle.restart.specs.Statement.{panelTold, panels}
 use Rattle.trcf.specs.declared.types.TransformMethod.{TransformMethod}
 use Rattle.trcf.specs.declared.types.TransformMethod.the-variants.{NONE, NORMALIZE}
@@ -19,31 +19,31 @@ use Rattle.trcf.specs.declared.types.ForestMode.the-variants.{STANDARD, «TIME_
 use Rattle.numeric.specs.Narrow.{narrowed}
 use Rattle.numeric.specs.Root.{rootWithin, halves, rooted, rootOf}
 use Rattle.common.specs.Deviation.{zero64, factorOf, stepOf, isEmpty, meanOf, rootAbove, deviationOf}
-use Rattle.common.specs.RangeVector.{settled, shifted, scaled, ranges, rangeAt, putAt, cascadeTo, unequal, unblocked, shorter}
-use Rattle.common.specs.Lent.{over}
+use Rattle.ranges.specs.RangeVector.{settled, shifted, scaled, ranges, rangeAt, putAt, cascadeTo, unequal, unblocked, shorter}
+use Rattle.refusal.specs.Lent.{over}
 use Rattle.trcf.specs.Lists.{lastN, shiftIn, overwrite}
 use Rattle.trcf.specs.Transformer.{zero32, statisticAt, putStatistic, fed, deviationsAt, putDeviations, fedAt, channelsFed, updated, normalizedScale, basicShift, basicDrift, weightAt, transformed, unweighted, inverted, reciprocal, forecastAt, forecastTo, invertedForecast, scales, shifts, differenceDeviations}
 use Rattle.trcf.specs.Settings.{Settings, block, dimension, waiting}
-use Rattle.trcf.specs.Calls.{Call, shingledPoint, postProcess, drain, transform, invertExtrapolation, scale, shift, status, finite, due, newest, behind, wrongLength, outside, drainFull, learnFull, lookahead, unturnable, turnShort, waitingShort, learnShort, table, rows}
-use Rattle.trcf.specs.Preprocessor.{State, fresh, facts, refusal, timeFed, feed, timescale, timedrift, timeElement, transformedAfter, previous, timeBase, preceding, primed, drainOne, drainAll, drained as drainedState, held, learned as learnedState, learnedWith, change, next, run, deviations, scaleOf, shiftOf, pointOf, invertTime, numbersOf, timesOf, blockFrom, pastValues, expectedValues, anomalyOf, Answer, refused, absent, done, wrote, learnt, turned, told, learnedNothing, heldAnswer, learnedAnswer, learnAnswer, turnedBack, statusOf, reply, answer, answers}
+use Rattle.trcf.specs.Calls.{Call, shingledPoint, postProcess, drain, transform, invertExtrapolation, scale, shift, status, finite, due, newest, beforeNewest, wrongLength, outside, drainFull, learnFull, lookahead, forecastUnfit, forecastOutputShort, waitingShort, learnShort, table, rows}
+use Rattle.trcf.specs.Preprocessor.{State, fresh, facts, refusal, timeFed, feed, timescale, timedrift, timeElement, transformedAfter, previous, timeBase, preceding, primed, drainOne, drainAll, drained as drainedState, buffered, learned as learnedState, learnedWith, change, next, run, deviations, scaleOf, shiftOf, pointOf, invertTime, numbersOf, timesOf, blockFrom, pastValues, expectedValues, anomalyOf, Answer, refused, absent, done, wrote, learnt, turned, told, learnedNothing, bufferedAnswer, learnedAnswer, learnAnswer, turnedBack, statusOf, reply, answer, answers}
 use Rattle.snapshot.specs.Text.{whole, float, setLine, singles, cntLine, devLine, timLine, bufLine, chnLine, linesBy, bodyLines, render}
 use Rattle.snapshot.specs.Read.{same}
 
 -- to unfold this is to unfold whatever its line names
 unfoldable pub computing : Unit {0}
-unfolding add sub mul div lt le eq ofInt ofBits toBits size round narrowed rootOf rooted halves rootWithin factorOf stepOf isEmpty meanOf rootAbove deviationOf settled shifted scaled rangeAt putAt unequal unblocked shorter cascadeTo over statisticAt putStatistic fed deviationsAt putDeviations fedAt channelsFed updated normalizedScale basicShift basicDrift weightAt transformed unweighted inverted reciprocal forecastAt forecastTo invertedForecast scales shifts differenceDeviations block dimension waiting lastN shiftIn overwrite finite due newest behind wrongLength outside drainFull learnFull lookahead unturnable turnShort waitingShort learnShort table rows timeFed feed timescale timedrift timeElement transformedAfter
+unfolding add sub mul div lt le eq ofInt ofBits toBits size round narrowed rootOf rooted halves rootWithin factorOf stepOf isEmpty meanOf rootAbove deviationOf settled shifted scaled rangeAt putAt unequal unblocked shorter cascadeTo over statisticAt putStatistic fed deviationsAt putDeviations fedAt channelsFed updated normalizedScale basicShift basicDrift weightAt transformed unweighted inverted reciprocal forecastAt forecastTo invertedForecast scales shifts differenceDeviations block dimension waiting lastN shiftIn overwrite finite due newest beforeNewest wrongLength outside drainFull learnFull lookahead forecastUnfit forecastOutputShort waitingShort learnShort table rows timeFed feed timescale timedrift timeElement transformedAfter
 computing = tt
 
 unfoldable pub running : Unit {0}
-unfolding computing fresh facts refusal previous timeBase preceding primed drainOne drainAll drainedState held learnedState learnedWith change next
+unfolding computing fresh facts refusal previous timeBase preceding primed drainOne drainAll drainedState buffered learnedState learnedWith change next
 running = tt
 
 unfoldable pub answering : Unit {0}
-unfolding running deviations scaleOf shiftOf pointOf invertTime numbersOf timesOf blockFrom pastValues expectedValues anomalyOf learnedNothing heldAnswer learnedAnswer learnAnswer turnedBack statusOf reply answer
+unfolding running deviations scaleOf shiftOf pointOf invertTime numbersOf timesOf blockFrom pastValues expectedValues anomalyOf learnedNothing bufferedAnswer learnedAnswer learnAnswer turnedBack statusOf reply answer
 answering = tt
 
 unfoldable pub recording : Unit {0}
-unfolding computing seenOf internalOf bufferOf shingled inputsOf timestampsOf newestOf countOf statisticsOf statisticsFrom historyState historyFacts historyRefusal complete adds enter entries historyText historyAnswer
+unfolding computing seenOf internalOf bufferOf shingled inputsOf timestampsOf newestReading countOf statisticsOf statisticsFrom historyState historyFacts historyRefusal complete adds enter entries historyText historyAnswer
 recording = tt
 
 unfoldable pub writing : Unit {0}
@@ -151,7 +151,7 @@ bench-run = refl
 abbrev stranding : List Call
 stranding = learnAt four 1 none ∷ learnAt six 2 (some (one ∷ [])) ∷ drain ∷ shingledPoint (one ∷ []) 9 (zero32 ∷ []) ∷ []
 
-pub stranded-entries : entries (normalizing 1 1) stranding ≡ learned (six ∷ []) 2 (one ∷ []) ∷ initial (four ∷ []) 1 ∷ []
+pub stranded-entries : entries (normalizing 1 1) stranding ≡ learnedEntry (six ∷ []) 2 (one ∷ []) ∷ initialEntry (four ∷ []) 1 ∷ []
 unfolding recording
 stranded-entries = refl
 
@@ -202,7 +202,7 @@ every =
     ∷ []
 
 pub every-entries : entries augmented every
-    ≡ learned (six ∷ []) 140 y ∷ learned (seven ∷ []) 131 y ∷ drained ∷ initial (six ∷ []) 130 ∷ initial (four ∷ []) 100 ∷ []
+    ≡ learnedEntry (six ∷ []) 140 y ∷ learnedEntry (seven ∷ []) 131 y ∷ drainedEntry ∷ initialEntry (six ∷ []) 130 ∷ initialEntry (four ∷ []) 100 ∷ []
 unfolding recording
 every-entries = refl
 

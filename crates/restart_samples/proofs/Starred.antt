@@ -10,11 +10,11 @@ use Rattle.numeric.specs.Narrow.{narrowed}
 use Rattle.numeric.specs.Root.{rootWithin, halves, rooted, rootOf}
 use Rattle.common.specs.declared.deviation.Deviation.{Deviation}
 use Rattle.common.specs.Deviation.{zero64, emptyWith, factorOf, stepOf, isEmpty, meanOf, rootAbove, deviationOf}
-use Rattle.common.specs.WholeScores.{wholeFloat, fed}
-use Rattle.common.specs.Lent.{over}
-use Rattle.common.specs.RangeVector.{Ranges, ranges, scaleOf, cascadedAddOf, pastAny, unequal, unblocked, cascadeTo, shifted, scaled, settled, rangeAt, putAt}
+use Rattle.common.specs.WholeScores.{wholeFloat, statisticAfter}
+use Rattle.refusal.specs.Lent.{over}
+use Rattle.ranges.specs.RangeVector.{Ranges, ranges, rangeScale, rangeCascadedAdd, pastAny, unequal, unblocked, cascadeTo, shifted, scaled, settled, rangeAt, putAt}
 use Rattle.trcf.specs.Transformer.{zero32, weightAt, transformed, unweighted, inverted, statisticAt, normalizedScale, basicShift}
-use Rattle.trcf.specs.TransformerCalls.{headOf, transformOf, invertOf, transformRow, notLong}
+use Rattle.trcf.specs.TransformerCalls.{transformerHead, transformerTransform, transformerInvert, transformRow, notLong}
 use Rattle.trcf.specs.declared.types.TransformMethod.the-variants.{NONE, WEIGHTED}
 use Rattle.trcf.specs.declared.types.ForestMode.the-variants.{«TIME_AUGMENTED»}
 use Rattle.trcf.specs.Preprocessor.{timeElement, fresh, run}
@@ -26,7 +26,7 @@ abbrev numbers : Deviation → List ℕ
 numbers s = map (toBits binary64) (s .weight ∷ s .sum ∷ s .«sum_squared» ∷ meanOf s ∷ deviationOf s ∷ [])
 
 abbrev scored : ℕ → List ℕ → List ℕ
-scored decay scores = numbers (fed (emptyWith (ofBits binary64 decay)) (map (λ (n : ℕ). wholeFloat (pos n)) scores))
+scored decay scores = numbers (statisticAfter (emptyWith (ofBits binary64 decay)) (map (λ (n : ℕ). wholeFloat (pos n)) scores))
 
 abbrev integer : Format → ℕ → ℕ
 integer f n = toUnsigned 64 (ofInt f (pos n))
@@ -49,10 +49,10 @@ pub starred :
     ∷ (toBits binary64 (rootOf (ofBits binary64 1)) ∷ [])
     ∷ (integer binary64 9007199254740993 ∷ integer binary64 9007199254740995 ∷ [])
     ∷ (integer binary32 16777217 ∷ integer binary32 16777219 ∷ [])
-    ∷ singles (cascadedAddOf binary32 (single 10 ∷ []) (alike (single 1 ∷ single 2 ∷ single 3 ∷ [])) .left .values)
-    ∷ band (scaleOf binary32 (ranges (single 2 ∷ []) (single 3 ∷ []) (single 1 ∷ [])) 0 (ofInt binary32 (negsuc 0)) .left)
-    ∷ singles (transformOf (headOf WEIGHTED 1 zero64 (over (replicate 16 zero32) (single 2 ∷ [])) 0) (replicate 15 zero64) (single 3 ∷ []) (zero32 ∷ []) (zero32 ∷ []) .output)
-    ∷ singles (invertOf (headOf WEIGHTED 1 zero64 (over (replicate 16 zero32) (single 2 ∷ [])) 0) (replicate 15 zero64) (single 6 ∷ []) (zero32 ∷ []) (zero32 ∷ []) .output)
+    ∷ singles (rangeCascadedAdd binary32 (single 10 ∷ []) (alike (single 1 ∷ single 2 ∷ single 3 ∷ [])) .left .values)
+    ∷ band (rangeScale binary32 (ranges (single 2 ∷ []) (single 3 ∷ []) (single 1 ∷ [])) 0 (ofInt binary32 (negsuc 0)) .left)
+    ∷ singles (transformerTransform (transformerHead WEIGHTED 1 zero64 (over (replicate 16 zero32) (single 2 ∷ [])) 0) (replicate 15 zero64) (single 3 ∷ []) (zero32 ∷ []) (zero32 ∷ []) .output)
+    ∷ singles (transformerInvert (transformerHead WEIGHTED 1 zero64 (over (replicate 16 zero32) (single 2 ∷ [])) 0) (replicate 15 zero64) (single 6 ∷ []) (zero32 ∷ []) (zero32 ∷ []) .output)
     ∷ singles (inputsOf (normalizing 4 2) (entries (normalizing 4 2) four-six))
     ∷ singles (map (λ (wt : Float). timeElement (sets «TIME_AUGMENTED» NONE 1 0 9 wt) (replicate 30 zero64) 130 100) (one ∷ two ∷ []))
     ∷ []
@@ -68,5 +68,5 @@ pub starred :
     ∷ (0 ∷ 0x4080_0000 ∷ 0x4080_0000 ∷ 0x40c0_0000 ∷ [])
     ∷ (0x41f0_0000 ∷ 0xc28c_0000 ∷ [])
     ∷ []
-unfolding computing recording fed scaleOf cascadedAddOf pastAny transformOf invertOf transformRow notLong toUnsigned
+unfolding computing recording statisticAfter rangeScale rangeCascadedAdd pastAny transformerTransform transformerInvert transformRow notLong toUnsigned
 starred = refl

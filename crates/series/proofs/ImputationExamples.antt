@@ -9,13 +9,13 @@ use lib.ListN.{length, getD, replicate}
 use lib.Ieee.{Float, nan, inf, fin, binary32, add, sub, mul, div, ofInt, ofBits}
 use Rattle.series.specs.declared.imputation.ImputationMethod.{ImputationMethod}
 use Rattle.series.specs.declared.imputation.ImputationMethod.the-variants.{FIXED, PREVIOUS, NEXT, LINEAR}
-use Rattle.series.specs.Imputation.{isPresent, lineOf, missingOf, imputedAt, byPlace, imputed}
-use Rattle.series.specs.Imputation.{misshapen, knownMarks, finitePresent, allFinite, imputeRow, Imputation, imputation, imputeOf, Origin, Agree}
+use Rattle.series.specs.Imputation.{isPresent, interpolated, missingOf, imputedAt, byPlace, imputed}
+use Rattle.series.specs.Imputation.{cellsMisshapen, knownMarks, finitePresent, allFinite, imputeRow, Imputation, imputation, imputeOf, Origin, Agree}
 use Rattle.series.proofs.ImputationTheorems.{present-kept, missing-unread, accepted, origin}
 
 -- opens what a call computes by
 all : Unit {0}
-unfolding lineOf missingOf imputedAt byPlace imputed misshapen knownMarks finitePresent allFinite imputeRow imputeOf add sub mul div ofInt ofBits
+unfolding interpolated missingOf imputedAt byPlace imputed cellsMisshapen knownMarks finitePresent allFinite imputeRow imputeOf add sub mul div ofInt ofBits
 all = tt
 
 abbrev pub n : ℕ → Float

@@ -150,7 +150,7 @@ nearestBefore-gap p v s (suc r) h g =
         let e : s ≡ suc r = omega arith in
         ap (nearestBefore p v) (sym e)
 
--- f readings from j to i, and m of n are left behind them
+-- f readings from j to i, and m of n are left after them
 nearestFrom-gap : (p : ℕ → Bool) (v : ℕ → Float) (f n m j i : ℕ) → n ≡ f + m → i ≡ j + f → ((q : ℕ) → j ≤ q → q < i → p q ≡ false)
     → nearestFrom p v n j ≡ nearestFrom p v m i
 nearestFrom-gap p v zero n m j i a b g =
@@ -395,7 +395,7 @@ module _ (ch : Channel) (marks : List ℕ) (l : List Float) (hc : ch .c < ch .d)
           e ∙ cond-off (passing (gapFrom (i + 1) x) (gapOf ch gap i x now)) (passing gap now) (presentIn (ch .d) marks (ch .c) i) t in
           subst (λ (z : Passed). Walked ch marks l (i + 1) (z .gap) (z .cells)) (sym q) (missing-next i gap now W t)
 
-  -- and its end: behind the last reading there is no present cell
+  -- and its end: after the last reading there is no present cell
   pub walked-end : (gap : Gap) (now : List Float) → Walked ch marks l (length l / ch .d) gap now
       → gapOf ch gap (length l / ch .d) Nowhere now ≡ channelOf ch marks l
   walked-end gap now W =

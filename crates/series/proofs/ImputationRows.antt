@@ -11,9 +11,9 @@ use lib.Dec.{ltb, eqb}
 use lib.ListN.{length, getD, drop, drop-of-length-le}
 use lib.Seq.{drop-cons}
 use lib.Ieee.{Float, nan, inf, fin, lt}
-use Rattle.series.specs.Imputation.{isPresent, knownMarks, isFinite, finitePresent, allFinite, misshapen, imputeRow, imputation, imputeAnswer}
-use Rattle.common.specs.Refusal.{firstOf}
-use Rattle.series.specs.Steps.ImputationSteps.{Shaped}
+use Rattle.series.specs.Imputation.{isPresent, knownMarks, isFinite, finitePresent, allFinite, cellsMisshapen, imputeRow, imputation, imputeAnswer}
+use Rattle.refusal.specs.Refusal.{firstOf}
+use Rattle.series.specs.Steps.ImputationSteps.{CellsShaped}
 
 -- ---- finite
 
@@ -76,8 +76,8 @@ either-not : (a b : Bool) → a || b ≡ false → (a ≡ false) × (b ≡ false
 either-not true b e = absurd (let z : _≡_ {A = ℕ} 0 1 = cc in omega arith)
 either-not false b e = (refl, e)
 
-pub shaped : (d cells marks fixed : ℕ) → 0 < d → d ≤ 16 → misshapen d cells marks fixed ≡ false → Shaped d cells marks fixed
-unfolding misshapen
+pub shaped : (d cells marks fixed : ℕ) → 0 < d → d ≤ 16 → cellsMisshapen d cells marks fixed ≡ false → CellsShaped d cells marks fixed
+unfolding cellsMisshapen
 shaped d cells marks fixed some narrow e =
     let h = either-not (not (eqb (cells % d) 0)) (not (eqb marks cells) || not (eqb fixed d)) e in
     let k = either-not (not (eqb marks cells)) (not (eqb fixed d)) (h .1) in
@@ -103,7 +103,7 @@ done row (suc n) old new left e z h = absurd (omega arith)
 -- ---- the rows in their order, each by its test
 
 module _ (d : ℕ) (cells : List Float) (marks : List ℕ) (fixed : List Float) where
-  pub row-as : {a b c r m p f : Bool} → eqb d 0 ≡ a → ltb 16 d ≡ b → misshapen d (length cells) (length marks) (length fixed) ≡ c
+  pub row-as : {a b c r m p f : Bool} → eqb d 0 ≡ a → ltb 16 d ≡ b → cellsMisshapen d (length cells) (length marks) (length fixed) ≡ c
       → ltb 2000 (length cells / d) ≡ r → knownMarks marks ≡ m → finitePresent cells marks ≡ p → allFinite fixed ≡ f
       → imputeRow d cells marks fixed ≡ firstOf ((a, 2) ∷ (b, 4) ∷ (c, 10) ∷ (r || not m, 21) ∷ (not (p && f), 11) ∷ [])
   unfolding imputeRow

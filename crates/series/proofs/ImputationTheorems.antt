@@ -10,13 +10,14 @@ use borrow.Author.Tests.{ltb-true, ltb-false}
 use lib.Dec.{ltb, eqb}
 use lib.ListN.{length, getD, List·getD-eq-default}
 use lib.Ieee.{Float, nan}
-use Rattle.common.specs.Refusal.{firstOf}
+use Rattle.refusal.specs.Refusal.{firstOf}
 use Rattle.series.specs.declared.imputation.ImputationMethod.{ImputationMethod}
 use Rattle.series.specs.declared.imputation.ImputationMethod.the-variants.{FIXED, PREVIOUS, NEXT, LINEAR}
 use Rattle.series.specs.declared.imputation.Nearest.{Nearest}
 use Rattle.series.specs.declared.imputation.Nearest.the-variants.{At, Nowhere}
-use Rattle.series.specs.Imputation.{isPresent, nearestBefore, nearestFrom, copyOf, lineOf, betweenOf, fillOf, presentIn, cellIn, missingOf, imputedAt, byPlace, imputed}
-use Rattle.series.specs.Imputation.{misshapen, knownMarks, isFinite, finitePresent, allFinite, imputeRow, Imputation, imputation, imputeAnswer, imputeOf, Origin, copy, constant, line, Agree}
+use Rattle.series.specs.Imputation.{isPresent, nearestBefore, nearestFrom, copyOf, interpolated, betweenOf, fillOf, presentIn, cellIn, missingOf, imputedAt, byPlace, imputed}
+use Rattle.series.specs.Imputation.{cellsMisshapen, knownMarks, isFinite, finitePresent, allFinite, imputeRow, Imputation, imputation, imputeAnswer, imputeOf, Origin, copy, constant, onLine}
+use Rattle.series.specs.Imputation.{Agree}
 use Rattle.series.proofs.ImputationLists.{cond-same, cond-on, cond-off, length-byPlace, getD-byPlace, is-byPlace, place-of}
 use Rattle.series.proofs.ImputationLaws.{missing-same}
 
@@ -86,7 +87,7 @@ row-same d marks fixed cells others A =
     λ t. firstOf (
     (eqb d 0, 2)
     ∷ (ltb 16 d, 4)
-    ∷ (misshapen d (n t) (length marks) (length fixed), 10)
+    ∷ (cellsMisshapen d (n t) (length marks) (length fixed), 10)
     ∷ (ltb 2000 (n t / d) || not (knownMarks marks), 21)
     ∷ (not (f t && allFinite fixed), 11)
     ∷ [])
@@ -190,13 +191,13 @@ module _ (d : ℕ) (cells : List Float) (marks : List ℕ) (fixed : Float) (c i 
 
   on-line : (r s : ℕ) (x y : Float) → Earlier (presentIn d marks c) (cellIn d cells c) i (At r x)
       → Later (presentIn d marks c) (cellIn d cells c) (length cells / d - suc i) (suc i) (At s y)
-      → Origin d cells marks fixed c i (lineOf x y (i - r) (s - r))
+      → Origin d cells marks fixed c i (interpolated x y (i - r) (s - r))
   on-line r s x y e l =
       let high : i < s = omega (arith, l .0) in
       let end : s < length cells / d = omega (arith, l .1) in
-      subst (λ (z : Float). Origin d cells marks fixed c i (lineOf z y (i - r) (s - r))) (sym (e .2))
-      (subst (λ (z : Float). Origin d cells marks fixed c i (lineOf (cellIn d cells c r) z (i - r) (s - r))) (sym (l .3))
-      (line r s (e .0) high end (e .1) (l .2) (λ (q : ℕ) (a : r < q) (b : q < s) (n : q ≡ i → ⊥). by q a b n (ltb q i) refl)))
+      subst (λ (z : Float). Origin d cells marks fixed c i (interpolated z y (i - r) (s - r))) (sym (e .2))
+      (subst (λ (z : Float). Origin d cells marks fixed c i (interpolated (cellIn d cells c r) z (i - r) (s - r))) (sym (l .3))
+      (onLine r s (e .0) high end (e .1) (l .2) (λ (q : ℕ) (a : r < q) (b : q < s) (n : q ≡ i → ⊥). by q a b n (ltb q i) refl)))
     where
       by : (q : ℕ) → r < q → q < s → (q ≡ i → ⊥) → (t : Bool) → ltb q i ≡ t → presentIn d marks c q ≡ false
       by q a b n true t = e .3 q a (ltb-true q i t)

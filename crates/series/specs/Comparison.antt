@@ -6,8 +6,8 @@ use lib.ListN.{length, getD, take}
 use lib.Ieee.{nan}
 use Rattle.series.specs.Pairs.{Pair, pair}
 use Rattle.series.specs.Pairing.{BestPairing}
-use Rattle.series.specs.Gaps.{sizes, Largest}
-use Rattle.series.specs.Alignment.{Readings, Answer}
+use Rattle.series.specs.Gaps.{differenceSizes, Largest}
+use Rattle.series.specs.Alignment.{Readings, AlignOutcome}
 
 abbrev pub zipped : List ℕ → List ℕ → List Pair
 zipped [] b = []
@@ -15,11 +15,11 @@ zipped (x ∷ a) [] = []
 zipped (x ∷ a) (y ∷ b) = pair x y ∷ zipped a b
 
 -- the pairs as the outputs hold them: as many as the number says, from the fronts of both
-unfoldable pub pairsTold : Answer → List Pair
+unfoldable pub pairsTold : AlignOutcome → List Pair
 pairsTold a = zipped (take (a .number) (a .outs .lefts)) (take (a .number) (a .outs .rights))
 
 -- the pairs told are as many as the number says, an order-keeping pairing that no other beats, and each size is the largest of its channel over them
-pub record Comparison (d : ℕ) (l r : Readings) (w : ℕ) (a : Answer) : Type 0 where
+pub record Comparison (d : ℕ) (l r : Readings) (w : ℕ) (a : AlignOutcome) : Type 0 where
   pub number-told : length (pairsTold a) ≡ a .number
   pub best-told : BestPairing w (l .times) (r .times) (pairsTold a)
-  pub largest-told : (c : ℕ) → c < d → Largest (sizes d (l .cells) (r .cells) (pairsTold a) c) (getD (a .outs .gaps) c nan)
+  pub largest-told : (c : ℕ) → c < d → Largest (differenceSizes d (l .cells) (r .cells) (pairsTold a) c) (getD (a .outs .gaps) c nan)

@@ -19,8 +19,8 @@ absolute (inf s) = inf false
 absolute (fin s m e) = fin false m e
 
 -- the "size of difference, subtracted in f32" of two cells
-unfoldable pub sizeOf : Float → Float → Float
-sizeOf x y = absolute (sub binary32 x y)
+unfoldable pub differenceSize : Float → Float → Float
+differenceSize x y = absolute (sub binary32 x y)
 
 -- the larger of two sizes
 unfoldable pub larger : Float → Float → Float
@@ -40,8 +40,8 @@ abbrev pub cell : ℕ → List Float → ℕ → ℕ → Float
 cell d cells i c = getD cells (i * d + c) nan
 
 -- the sizes of the pairs' differences in channel c
-unfoldable pub sizes : ℕ → List Float → List Float → List Pair → ℕ → List Float
-sizes d l r ps c = map (λ (p : Pair). sizeOf (cell d l (p .left) c) (cell d r (p .right) c)) ps
+unfoldable pub differenceSizes : ℕ → List Float → List Float → List Pair → ℕ → List Float
+differenceSizes d l r ps c = map (λ (p : Pair). differenceSize (cell d l (p .left) c) (cell d r (p .right) c)) ps
 
 -- what f gives for the channels 0 to d - 1
 abbrev pub perChannel : ℕ → (ℕ → Float) → List Float
@@ -50,7 +50,7 @@ perChannel (suc d) f = f 0 ∷ perChannel d (λ c. f (suc c))
 
 -- "the largest size of difference per channel"
 unfoldable pub gaps : ℕ → List Float → List Float → List Pair → List Float
-gaps d l r ps = perChannel d (λ c. largest (sizes d l r ps c))
+gaps d l r ps = perChannel d (λ c. largest (differenceSizes d l r ps c))
 
 -- ---- what the largest is, however it is found
 

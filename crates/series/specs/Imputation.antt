@@ -7,7 +7,7 @@ use lib.Dec.{ltb, eqb}
 use lib.IntN.{pos}
 use lib.ListN.{length, getD}
 use lib.Ieee.{Float, nan, inf, fin, binary32, add, sub, mul, div, ofInt}
-use Rattle.common.specs.Refusal.{firstOf}
+use Rattle.refusal.specs.Refusal.{firstOf}
 use Rattle.series.specs.declared.imputation.ImputationMethod.{ImputationMethod}
 use Rattle.series.specs.declared.imputation.ImputationMethod.the-variants.{FIXED, PREVIOUS, NEXT, LINEAR}
 use Rattle.series.specs.declared.imputation.Nearest.{Nearest}
@@ -37,13 +37,13 @@ copyOf (At r x) fixed = x
 copyOf Nowhere fixed = fixed
 
 -- "a + (b − a) × (p / q) in f32"
-unfoldable pub lineOf : Float → Float → ℕ → ℕ → Float
-lineOf a b p q = add binary32 a (mul binary32 (sub binary32 b a) (div binary32 (ofInt binary32 (pos p)) (ofInt binary32 (pos q))))
+unfoldable pub interpolated : Float → Float → ℕ → ℕ → Float
+interpolated a b p q = add binary32 a (mul binary32 (sub binary32 b a) (div binary32 (ofInt binary32 (pos p)) (ofInt binary32 (pos q))))
 
 -- "LINEAR with nearest present cells a before and b after gives .., p steps from a, q from a to b; with one side only it copies that side,
 -- with neither it is FIXED": at reading i, a at reading r and b at reading s
 abbrev pub betweenOf : Nearest → Nearest → ℕ → Float → Float
-betweenOf (At r a) (At s b) i fixed = lineOf a b (i - r) (s - r)
+betweenOf (At r a) (At s b) i fixed = interpolated a b (i - r) (s - r)
 betweenOf (At r a) Nowhere i fixed = a
 betweenOf Nowhere after i fixed = copyOf after fixed
 
@@ -86,8 +86,8 @@ imputed method d cells marks fixed = byPlace (imputedAt method d cells marks fix
 -- ---- refusals
 
 -- row 10: "cells, marks or fixed values of unequal shape", by their numbers
-unfoldable pub misshapen : ℕ → ℕ → ℕ → ℕ → Bool
-misshapen d cells marks fixed = not (eqb (cells % d) 0) || (not (eqb marks cells) || not (eqb fixed d))
+unfoldable pub cellsMisshapen : ℕ → ℕ → ℕ → ℕ → Bool
+cellsMisshapen d cells marks fixed = not (eqb (cells % d) 0) || (not (eqb marks cells) || not (eqb fixed d))
 
 -- row 21: "a mark other than 0 or 1"
 unfoldable pub knownMarks : List ℕ → Bool
@@ -115,7 +115,7 @@ imputeRow d cells marks fixed =
     firstOf (
     (eqb d 0, 2)
     ∷ (ltb 16 d, 4)
-    ∷ (misshapen d (length cells) (length marks) (length fixed), 10)
+    ∷ (cellsMisshapen d (length cells) (length marks) (length fixed), 10)
     ∷ (ltb 2000 (length cells / d) || not (knownMarks marks), 21)
     ∷ (not (finitePresent cells marks && allFinite fixed), 11)
     ∷ [])
@@ -144,9 +144,9 @@ imputeOf method d cells marks fixed =
 pub data Origin (d : ℕ) (cells : List Float) (marks : List ℕ) (fixed : Float) (c i : ℕ) : Float → Type 0 where
   copy : (r : ℕ) → r < length cells / d → presentIn d marks c r ≡ true → Origin d cells marks fixed c i (cellIn d cells c r)
   constant : Origin d cells marks fixed c i fixed
-  line : (r s : ℕ) → r < i → i < s → s < length cells / d → presentIn d marks c r ≡ true → presentIn d marks c s ≡ true
+  onLine : (r s : ℕ) → r < i → i < s → s < length cells / d → presentIn d marks c r ≡ true → presentIn d marks c s ≡ true
       → ((q : ℕ) → r < q → q < s → (q ≡ i → ⊥) → presentIn d marks c q ≡ false)
-      → Origin d cells marks fixed c i (lineOf (cellIn d cells c r) (cellIn d cells c s) (i - r) (s - r))
+      → Origin d cells marks fixed c i (interpolated (cellIn d cells c r) (cellIn d cells c s) (i - r) (s - r))
 
 -- two lists of cells of one length that agree wherever a cell is present
 pub record Agree (marks : List ℕ) (cells others : List Float) : Type 0 where

@@ -20,19 +20,19 @@ apart x y = (x - y) + (y - x)
 unfoldable pub near : ℕ → ℕ → ℕ → Bool
 near w x y = leb (apart x y) w
 
-pub data Turn : Type 0 where
-  both skipLeft skipRight : Turn
+pub data PairStep : Type 0 where
+  both skipLeft skipRight : PairStep
 
 -- "if the heads' times differ by at most the tolerance they are paired, otherwise the earlier is skipped"
-unfoldable pub turn : ℕ → ℕ → ℕ → Turn
-turn w x y = cond (near w x y) both (cond (ltb x y) skipLeft skipRight)
+unfoldable pub pairStep : ℕ → ℕ → ℕ → PairStep
+pairStep w x y = cond (near w x y) both (cond (ltb x y) skipLeft skipRight)
 
 -- "From both fronts": x and y are the times at the fronts, i and j their positions
 abbrev pub pairsFrom : ℕ → ℕ → ℕ → List ℕ → List ℕ → List Pair
 pairsFrom w i j [] b = []
 pairsFrom w i j (x ∷ a) [] = []
 pairsFrom w i j (x ∷ a) (y ∷ b) =
-    elim (turn w x y) [
+    elim (pairStep w x y) [
       | both ↦ pair i j ∷ pairsFrom w (suc i) (suc j) a b
       | skipLeft ↦ pairsFrom w (suc i) j a (y ∷ b)
       | skipRight ↦ pairsFrom w i (suc j) (x ∷ a) b

@@ -2,11 +2,11 @@
 ghost use mathlib.Core.Path.{_≡_};
 ghost use Prim.Native.Nat.{_+_, _*_, _≤_};
 ghost use lib.ListN.{length};
-ghost use Rattle.common.specs.Lent.{over};
+ghost use Rattle.refusal.specs.Lent.{over};
 ghost use Rattle.series.specs.Pairs.{apart, lefts, rights, pairs};
-ghost use Rattle.series.specs.Gaps.{zero32, sizeOf, larger, perChannel, gaps};
-ghost use Rattle.series.specs.Alignment.{channelLimit, misshapen, unusable, readings, outputs, answer, alignOf};
-ghost use Rattle.series.specs.Steps.AlignmentRows.{readingsRow, roomRow, Shaped, Roomy};
+ghost use Rattle.series.specs.Gaps.{zero32, differenceSize, larger, perChannel, gaps};
+ghost use Rattle.series.specs.Alignment.{channelLimit, readingsMisshapen, unusable, readings, outputs, alignOutcome, alignOf};
+ghost use Rattle.series.specs.Steps.AlignmentRows.{readingsRow, roomRow, ReadingsShaped, RoomForPairs};
 ghost use Rattle.series.specs.Steps.Comparing.{widened};
 
 // The longest list.
@@ -31,7 +31,7 @@ fn distance(x: u64, y: u64) -> u64
 // Whether a list has not d cells for each time.
 fn is_misshapen(d: usize, cells: usize, times: &[u64]) -> bool
     requires { ⌜ d ≤ channelLimit ⌝ }
-    ensures { λ r. ⌜ r ≡ misshapen d cells (length (now (times .entry))) ⌝ }
+    ensures { λ r. ⌜ r ≡ readingsMisshapen d cells (length (now (times .entry))) ⌝ }
 {
     cells != times.len() * d
 }
@@ -65,7 +65,7 @@ fn readings_row(
     right_times: &[u64],
 ) -> u64
     ensures { λ r. ⌜ r ≡ readingsRow d «left_cells» (now («left_times» .entry)) «right_cells» (now («right_times» .entry)) ⌝ }
-    ensures { λ r. ⌜ (r ≡ 0 → Shaped d «left_cells» (length (now («left_times» .entry))) «right_cells» (length (now («right_times» .entry)))) ⌝ }
+    ensures { λ r. ⌜ (r ≡ 0 → ReadingsShaped d «left_cells» (length (now («left_times» .entry))) «right_cells» (length (now («right_times» .entry)))) ⌝ }
 {
     if d == 0 {
         return 2;
@@ -91,7 +91,7 @@ fn readings_row(
 // Row 20: an output is shorter than what is to be written.
 fn room_row(d: u64, number: u64, left_out: usize, right_out: usize, gaps_out: usize) -> u64
     ensures { λ r. ⌜ r ≡ roomRow d number «left_out» «right_out» «gaps_out» ⌝ }
-    ensures { λ r. ⌜ (r ≡ 0 → Roomy d number «left_out» «right_out» «gaps_out») ⌝ }
+    ensures { λ r. ⌜ (r ≡ 0 → RoomForPairs d number «left_out» «right_out» «gaps_out») ⌝ }
 {
     if (left_out as u64) < number {
         return 20;
@@ -136,7 +136,7 @@ fn count_pairs(left: &[u64], right: &[u64], tolerance: u64) -> u64
 
 // The size of the difference of two cells, which is never -0; a not-a-number counts as infinity.
 fn size(x: f32, y: f32) -> f32
-    ensures { λ r. ⌜ r ≡ sizeOf x y ⌝ }
+    ensures { λ r. ⌜ r ≡ differenceSize x y ⌝ }
 {
     let z = x - y;
     if z > 0.0 {
@@ -237,7 +237,7 @@ pub fn align(
     right_out: &mut [u64],
     gaps_out: &mut [f32],
 ) -> Aligned
-    ensures { λ r. ⌜ answer (r .row) (r .pairs) (outputs (now («left_out» .exit)) (now («right_out» .exit)) (now («gaps_out» .exit)))
+    ensures { λ r. ⌜ alignOutcome (r .row) (r .pairs) (outputs (now («left_out» .exit)) (now («right_out» .exit)) (now («gaps_out» .exit)))
         ≡ alignOf d (readings (now (left .entry)) (now («left_times» .entry))) (readings (now (right .entry)) (now («right_times» .entry))) tolerance
         (outputs (now («left_out» .entry)) (now («right_out» .entry)) (now («gaps_out» .entry))) ⌝ }
 {

@@ -4,8 +4,9 @@ ghost use mathlib.Core.Path.{_≡_};
 ghost use mathlib.Core.Bool.{not, _&&_, _||_};
 ghost use Prim.Native.Nat.{_+_, _*_, _/_, _≤_, _<_};
 ghost use lib.ListN.{length};
-ghost use Rattle.series.specs.Imputation.{copyOf, lineOf, isPresent, betweenOf, fillOf, misshapen, knownMarks, isFinite, finitePresent, allFinite, imputed, imputeRow, imputation, imputeOf};
-ghost use Rattle.series.specs.Steps.ImputationSteps.{Under, Above, Placed, Shaped, gapOf, passing, passedOf, channelOf};
+ghost use Rattle.series.specs.Imputation.{copyOf, interpolated, isPresent, betweenOf, fillOf, cellsMisshapen, knownMarks, isFinite, finitePresent, allFinite, imputed, imputeRow, imputation};
+ghost use Rattle.series.specs.Imputation.{imputeOf};
+ghost use Rattle.series.specs.Steps.ImputationSteps.{Under, Above, CellInside, CellsShaped, gapOf, passing, passedOf, channelOf};
 
 // The most channels, and the most readings of one call.
 const DIMENSIONS_LIMIT: u64 = 16;
@@ -53,7 +54,7 @@ fn copied(side: Nearest, fixed: f32) -> f32
 
 // The value p of q steps on the way from a to b.
 fn line(a: f32, b: f32, p: usize, q: usize) -> f32
-    ensures { λ r. ⌜ r ≡ lineOf a b p q ⌝ }
+    ensures { λ r. ⌜ r ≡ interpolated a b p q ⌝ }
 {
     a + (b - a) * (u64_to_f32(p as u64) / u64_to_f32(q as u64))
 }
@@ -85,9 +86,9 @@ fn filled(method: ImputationMethod, before: Nearest, after: Nearest, i: usize, f
 
 // ---- one channel
 
-// Fills the readings of the gap up to `end`, behind which `after` stands.
+// Fills the readings of the gap up to `end`, after which `after` stands.
 fn fill_gap(ch: Channel, gap: Gap, end: usize, after: Nearest, cells: &mut [f32])
-    requires { ⌜ Placed ch end (length (now cells)) ⌝ }
+    requires { ⌜ CellInside ch end (length (now cells)) ⌝ }
     requires { ⌜ (gap .start ≤ end) × Under (gap .before) (gap .start) × Above after end ⌝ }
     ensures { λ _. ⌜ now (cells .exit) ≡ gapOf ch gap end after (now (cells .entry)) ⌝ }
 {
@@ -103,9 +104,9 @@ fn fill_gap(ch: Channel, gap: Gap, end: usize, after: Nearest, cells: &mut [f32]
     }
 }
 
-// Passes reading i: a present cell closes the gap before it, and the next gap opens behind it.
+// Passes reading i: a present cell closes the gap before it, and the next gap opens after it.
 fn passed(ch: Channel, gap: Gap, i: usize, cells: &mut [f32], marks: &[u8]) -> Gap
-    requires { ⌜ Placed ch (i + 1) (length (now cells)) × (length (now marks) ≡ length (now cells)) ⌝ }
+    requires { ⌜ CellInside ch (i + 1) (length (now cells)) × (length (now marks) ≡ length (now cells)) ⌝ }
     requires { ⌜ (gap .start ≤ i) × Under (gap .before) (gap .start) ⌝ }
     ensures { λ r. ⌜ passing r (now (cells .exit)) ≡ passedOf ch gap i (now (marks .entry)) (now (cells .entry)) ⌝ }
 {
@@ -148,7 +149,7 @@ fn impute_channels(
     marks: &[u8],
     fixed: &[f32],
 )
-    requires { ⌜ Shaped d (length (now cells)) (length (now marks)) (length (now fixed)) ⌝ }
+    requires { ⌜ CellsShaped d (length (now cells)) (length (now marks)) (length (now fixed)) ⌝ }
     ensures { λ _. ⌜ now (cells .exit) ≡ imputed method d (now (cells .entry)) (now (marks .entry)) (now (fixed .entry)) ⌝ }
 {
     let mut c = 0;
@@ -225,7 +226,7 @@ fn marks_known(marks: &[u8]) -> bool
 // Row 10: cells, marks and fixed values are not of one shape.
 fn is_misshapen(d: usize, cells: usize, marks: usize, fixed: usize) -> bool
     requires { ⌜ 0 < d ⌝ }
-    ensures { λ r. ⌜ r ≡ misshapen d cells marks fixed ⌝ }
+    ensures { λ r. ⌜ r ≡ cellsMisshapen d cells marks fixed ⌝ }
 {
     if cells % d != 0 {
         return true;
@@ -239,7 +240,7 @@ fn is_misshapen(d: usize, cells: usize, marks: usize, fixed: usize) -> bool
 // The row that refuses the call, 0 for none: 2, 4, 10, 21, 11. It reads and never writes.
 fn impute_row(d: u64, cells: &[f32], marks: &[u8], fixed: &[f32]) -> u64
     ensures { λ r. ⌜ r ≡ imputeRow d (now (cells .entry)) (now (marks .entry)) (now (fixed .entry)) ⌝ }
-    ensures { λ r. ⌜ (r ≡ 0 → Shaped d (length (now (cells .entry))) (length (now (marks .entry))) (length (now (fixed .entry)))) ⌝ }
+    ensures { λ r. ⌜ (r ≡ 0 → CellsShaped d (length (now (cells .entry))) (length (now (marks .entry))) (length (now (fixed .entry)))) ⌝ }
 {
     if d == 0 {
         return 2;

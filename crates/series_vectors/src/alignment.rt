@@ -103,7 +103,7 @@ fn called(
     expect(fd, answer, d, left_out, right_out, gaps_out)
 }
 
-// A case behind its lists: the outputs' lengths, then the call.
+// A case after its lists: the outputs' lengths, then the call.
 fn lent(
     fd: i32,
     d: u64,
@@ -139,7 +139,7 @@ fn lent(
     )
 }
 
-// A case behind its d.
+// A case after its d.
 fn one(
     fd: i32,
     d: u64,

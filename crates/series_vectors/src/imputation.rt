@@ -36,7 +36,7 @@ fn called(fd: i32, rule: u64, d: u64, cells: &mut [f32], marks: &[u8], fixed: &[
     }
 }
 
-// A case behind its rule.
+// A case after its rule.
 fn one(fd: i32, rule: u64, cells: &mut [f32], marks: &mut [u8], fixed: &mut [f32]) -> u64 {
     let d = next_word(fd);
     let a = next_length(fd, cells.len());

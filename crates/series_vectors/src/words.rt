@@ -118,24 +118,6 @@ pub(crate) fn next_length(fd: i32, most: usize) -> Length
     }
 }
 
-// A pattern as a float. `from_bits` is undefined at a not-a-number's.
-pub(crate) fn value32(b: u32) -> f32 {
-    if b % 0x8000_0000 > 0x7f80_0000 {
-        0.0 / 0.0
-    } else {
-        f32::from_bits(b)
-    }
-}
-
-// A float's pattern, with every not-a-number as the one that the vectors have.
-pub(crate) fn bits32(x: f32) -> u64 {
-    if x != x {
-        0x7fc0_0000
-    } else {
-        f32::to_bits(x) as u64
-    }
-}
-
 // As many numbers as `out` is long.
 pub(crate) fn read_wholes(fd: i32, out: &mut [u64]) -> bool {
     let mut good = true;
@@ -154,7 +136,7 @@ pub(crate) fn read_singles(fd: i32, out: &mut [f32]) -> bool {
     let mut i = 0usize;
     while i < out.len() {
         let w = next_word(fd);
-        out[i] = value32((w.value % 0x1_0000_0000) as u32);
+        out[i] = numeric::single_of(w.value);
         good = good && w.good && w.value < 0x1_0000_0000;
         i += 1;
     }
@@ -189,7 +171,7 @@ pub(crate) fn fill_singles(out: &mut [f32], x: f32) {
     }
 }
 
-// Whether the next words are the first `n` of the list, and whether all behind them are `x`. Every word is read.
+// Whether the next words are the first `n` of the list, and whether all after them are `x`. Every word is read.
 pub(crate) fn next_are_wholes(fd: i32, list: &[u64], n: usize, x: u64) -> bool {
     let mut same = true;
     let mut i = 0usize;
@@ -216,7 +198,7 @@ pub(crate) fn next_are_singles(fd: i32, list: &[f32], n: usize, x: u64) -> bool 
             wanted = w.value;
             same = same && w.good;
         }
-        same = same && bits32(list[i]) == wanted;
+        same = same && numeric::single_bits(list[i]) == wanted;
         i += 1;
     }
     same

@@ -15,18 +15,18 @@ use Rattle.snapshot.specs.Read.{asWhole}
 use Rattle.snapshot.specs.Scan.{numberOf}
 use Rattle.snapshot.specs.declared.field.Number.the-variants.{Is}
 use Rattle.bench_core.specs.Bench.{cellLength}
-use Rattle.settling.specs.Settling.{Signal, signal, sizeOf, inLimits}
+use Rattle.settling.specs.Settling.{Signal, signal, integerSize, inLimits}
 use Rattle.settling.specs.Steps.{withSign, signed, optionOf}
 use Rattle.settling.specs.declared.signal.Signed.{Signed}
 use Rattle.settling.proofs.SignalLaws.{size-signed}
-use Rattle.settle_core.specs.Input.{positive, negative, signedOf, Part, noPart, part, partBy as readPart, partOf, withPart, limited, fieldsOf, isSignal, signalOf as signalAt}
-use Rattle.settle_core.specs.Steps.{isNegative, partBy, partIn}
+use Rattle.settle_core.specs.Input.{positiveNumber, negativeNumber, signedOf, Part, noPart, part, partBy as readPart, partOf, withPart, limited, fieldsOf, isSignal, signalRead as signalAt}
+use Rattle.settle_core.specs.Steps.{isNegative, partIf, partIn}
 use Rattle.settle_core.specs.declared.field.Part as held
 use Rattle.settle_core.proofs.ScanLaws.{rest-is}
 
 -- ---- numbers
 
-pub minus-is : (v : ℕ) → (v ≡ 0 → ⊥) → some (withSign true v) ≡ negative (Is v)
+pub minus-is : (v : ℕ) → (v ≡ 0 → ⊥) → some (withSign true v) ≡ negativeNumber (Is v)
 minus-is zero h = absurd (h refl)
 minus-is (suc v) h = refl
 
@@ -35,12 +35,12 @@ unfolding signedOf
 signed-none [] h = refl
 signed-none (b ∷ l) h = absurd (omega arith)
 
-pub signed-minus : (l : List ℕ) → (length l ≡ 0 → ⊥) → getD l 0 0 ≡ 45 → negative (numberOf (asWhole (take (length l - 1) (drop 1 l)))) ≡ signedOf l
+pub signed-minus : (l : List ℕ) → (length l ≡ 0 → ⊥) → getD l 0 0 ≡ 45 → negativeNumber (numberOf (asWhole (take (length l - 1) (drop 1 l)))) ≡ signedOf l
 unfolding signedOf
 signed-minus [] h e = absurd (h refl)
-signed-minus (b ∷ l) h e = ap (λ (c : List ℕ). negative (numberOf (asWhole c))) (rest-is (b ∷ l) 1) ∙ sym (rw (eq-eqb b 45 e))
+signed-minus (b ∷ l) h e = ap (λ (c : List ℕ). negativeNumber (numberOf (asWhole c))) (rest-is (b ∷ l) 1) ∙ sym (rw (eq-eqb b 45 e))
 
-pub signed-plain : (l : List ℕ) → (length l ≡ 0 → ⊥) → (getD l 0 0 ≡ 45 → ⊥) → positive (numberOf (asWhole l)) ≡ signedOf l
+pub signed-plain : (l : List ℕ) → (length l ≡ 0 → ⊥) → (getD l 0 0 ≡ 45 → ⊥) → positiveNumber (numberOf (asWhole l)) ≡ signedOf l
 unfolding signedOf
 signed-plain [] h e = absurd (h refl)
 signed-plain (b ∷ l) h e = sym (rw (ne-eqb b 45 e))
@@ -51,7 +51,7 @@ above-zero (suc n) = lt-ltb 0 (suc n) (omega arith)
 
 -- ---- a field at its place
 
-by-option : (f : Bool) (z : ℤ) (t : List ℕ) → partBy f z t ≡ readPart (optionOf f z) t
+by-option : (f : Bool) (z : ℤ) (t : List ℕ) → partIf f z t ≡ readPart (optionOf f z) t
 by-option true z t = refl
 by-option false z t = refl
 
@@ -74,7 +74,7 @@ module _ (text : List ℕ) (at k end : ℕ) (e : k ≡ cellLength (drop at text)
     part-other n = sym (rw (inside, ne-eqb (getD (drop at text) (cellLength (drop at text)) 0) end (λ z. n (sym byte-is ∙ z))))
 
     pub part-here : getD text (at + k) 0 ≡ end → (f : Bool) (z : ℤ) → optionOf f z ≡ signedOf (take (at + k - at) (drop at text))
-        → partBy f z (drop (at + k + 1) text) ≡ partOf end (drop at text)
+        → partIf f z (drop (at + k + 1) text) ≡ partOf end (drop at text)
     unfolding partOf
     part-here n f z s =
         let u : at + k + 1 ≡ at + suc (cellLength (drop at text)) = omega (arith, e) in
@@ -89,10 +89,10 @@ module _ (text : List ℕ) (at k end : ℕ) (e : k ≡ cellLength (drop at text)
 
 module _ (text : List ℕ) (at end : ℕ) (r : held.Part) (e : partIn r text ≡ partOf end (drop at text)) (k : ℤ → List ℕ → Option Signal) where
   pub stops : r .found ≡ false → withPart (partOf end (drop at text)) k ≡ none
-  stops f = ap (λ (p : Part). withPart p k) (sym e) ∙ ap (λ (b : Bool). withPart (partBy b (signed (r .value)) (drop (r .next) text)) k) f
+  stops f = ap (λ (p : Part). withPart p k) (sym e) ∙ ap (λ (b : Bool). withPart (partIf b (signed (r .value)) (drop (r .next) text)) k) f
 
   pub goes-on : r .found ≡ true → withPart (partOf end (drop at text)) k ≡ k (signed (r .value)) (drop (r .next) text)
-  goes-on f = ap (λ (p : Part). withPart p k) (sym e) ∙ ap (λ (b : Bool). withPart (partBy b (signed (r .value)) (drop (r .next) text)) k) f
+  goes-on f = ap (λ (p : Part). withPart p k) (sym e) ∙ ap (λ (b : Bool). withPart (partIf b (signed (r .value)) (drop (r .next) text)) k) f
 
 pub null-end : (t : List ℕ) (n : ℕ) → n ≡ length t → null (drop n t) ≡ true
 null-end t n e = go (drop n t) (simp length-drop (omega (arith, e)))
@@ -121,7 +121,7 @@ module _ (b r q j : ℤ) where
   limited-readings (negsuc p) n e f = absurd (true≢false e)
 
   limited-is : (p n : ℤ) → isNegative p ≡ false → isNegative n ≡ false
-      → cond (inLimits (signal b r q j (sizeOf p) (sizeOf n))) (some (signal b r q j (sizeOf p) (sizeOf n))) none ≡ limited b r q j p n
+      → cond (inLimits (signal b r q j (integerSize p) (integerSize n))) (some (signal b r q j (integerSize p) (integerSize n))) none ≡ limited b r q j p n
   limited-is (pos p) (pos n) e f = refl
   limited-is (pos p) (negsuc n) e f = absurd (true≢false f)
   limited-is (negsuc p) n e f = absurd (true≢false e)

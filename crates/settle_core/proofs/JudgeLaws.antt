@@ -24,8 +24,8 @@ use Rattle.settling.specs.Settling.{Signal, pairRow}
 use Rattle.settling.specs.Steps.{signalOf, optionOf}
 use Rattle.settling.proofs.StepLaws.{take-replicate}
 use Rattle.settling.proofs.Theorem.{pair-parts}
-use Rattle.settle_core.specs.Input.{Scanned, lineOf, isSet, isWeights, Pair, faulty, pair, settingsBy, pairBy, pairOf, Input, refused, input, signalled, andThen, opens, after, inputFrom, inputOf, signalOf as signalAt}
-use Rattle.settle_core.specs.Steps.{settingsOf, pairIn, prefixed, inputIn}
+use Rattle.settle_core.specs.Input.{Scanned, lineOf, isSetLine, isWeights, PairRead, faulty, pairTaken, settingsBy, pairBy, pairOf, Input, inputRefused, input, signalled, andThen, opens, thenPair, inputFrom, inputOf, signalRead as signalAt}
+use Rattle.settle_core.specs.Steps.{pairSettings, pairIn, prefixed, inputIn}
 use Rattle.settle_core.specs.declared.pair.Pair as kept
 use Rattle.settle_core.specs.declared.pair.PairRead as read
 use Rattle.settle_core.specs.declared.judge.Judged.{Judged}
@@ -36,7 +36,7 @@ pub pair-refused : (s : Settings) (row : ℕ) → row ≡ pairRow s → (row ≡
 unfolding pairBy
 pair-refused s row e ne r q t rest =
     accepted-not (r .row) _ _ (λ z. ne (sym q ∙ z)) ∙ ap (λ (n : ℕ). faulty n) (q ∙ e)
-    ∙ sym (accepted-not (pairRow s) (pair s rest) (faulty (pairRow s)) (λ z. ne (e ∙ z)))
+    ∙ sym (accepted-not (pairRow s) (pairTaken s rest) (faulty (pairRow s)) (λ z. ne (e ∙ z)))
 
 one-number : (l : List Float) (d : Float) → length l ≡ 1 → l ≡ getD l 0 d ∷ []
 one-number [] d h = absurd (omega arith)
@@ -70,7 +70,7 @@ module _ (b : PreprocessorBuilder) (w : Line) (n m : ℕ) (en : n ≡ keptCount 
       λ j. settingsFrom b (a j) (c j)
 
   -- of d 1: one weight, and one code
-  pub pair-taken : pairRow s ≡ 0 → (d : Float) (rest : List ℕ) → pair (settingsFrom b (getD (w .singles) 0 d ∷ []) (0 ∷ [])) rest ≡ pairBy s rest
+  pub pair-taken : pairRow s ≡ 0 → (d : Float) (rest : List ℕ) → pairTaken (settingsFrom b (getD (w .singles) 0 d ∷ []) (0 ∷ [])) rest ≡ pairBy s rest
   unfolding pairBy keptOf
   pair-taken e d rest =
       let p = pair-parts s e in
@@ -78,7 +78,7 @@ module _ (b : PreprocessorBuilder) (w : Line) (n m : ℕ) (en : n ≡ keptCount 
       let l : length (take (keptCount (w .count)) (w .singles)) ≡ 1 = weights-long s (p .0) ∙ one in
       let u : keptOf w ≡ getD (w .singles) 0 d ∷ [] = one-number (keptOf w) d l ∙ ap (λ (x : Float). x ∷ []) (first-taken (keptCount (w .count)) (w .singles) d l) in
       let z : zeroCodes b ≡ 0 ∷ [] = ap (λ (k : ℕ). replicate {A = ℕ} (codeCount k) 0) one in
-      sym (rw e (λ j. pair (settingsFrom b (u j) (z j)) rest))
+      sym (rw e (λ j. pairTaken (settingsFrom b (u j) (z j)) rest))
 
 -- a line that is not of the form
 module _ (t : List ℕ) where
@@ -86,11 +86,11 @@ module _ (t : List ℕ) where
   unfolding pairOf
   set-open e = sym (rw e)
 
-  pub set-other : lineOf t .ended ≡ true → isSet (requestOf (lineOf t .line)) ≡ false → faulty 19 ≡ pairOf t
+  pub set-other : lineOf t .ended ≡ true → isSetLine (requestOf (lineOf t .line)) ≡ false → faulty 19 ≡ pairOf t
   unfolding pairOf
   set-other e f = sym (rw (e, f))
 
-  module _ (e : lineOf t .ended ≡ true) (f : isSet (requestOf (lineOf t .line)) ≡ true) where
+  module _ (e : lineOf t .ended ≡ true) (f : isSetLine (requestOf (lineOf t .line)) ≡ true) where
     pub weights-open : lineOf (lineOf t .rest) .ended ≡ false → faulty 19 ≡ pairOf t
     unfolding pairOf
     weights-open g = sym (rw (e, f, g))
@@ -109,7 +109,7 @@ refused-in r n q ne t = accepted-not (r .row) _ _ (λ z. ne (sym q ∙ z)) ∙ a
 
 -- ---- pairs in front
 
-pub prefixed-refused : (ss : List Settings) (n : ℕ) → prefixed ss (refused n) ≡ refused n
+pub prefixed-refused : (ss : List Settings) (n : ℕ) → prefixed ss (inputRefused n) ≡ inputRefused n
 prefixed-refused [] n = refl
 prefixed-refused (s ∷ ss) n = ap (andThen s) (prefixed-refused ss n)
 
@@ -125,20 +125,20 @@ pub map-snoc : {A B : Type 0} (f : A → B) (l : List A) (x : A) → map f (l ++
 map-snoc f [] x = refl
 map-snoc f (y ∷ l) x = ap (λ (r : List _). f y ∷ r) (map-snoc f l x)
 
-pub input-refused : (r : Judged) (n : ℕ) → r .row ≡ n → (n ≡ 0 → ⊥) → inputIn r ≡ refused n
-input-refused r n q ne = accepted-not (r .row) _ _ (λ z. ne (sym q ∙ z)) ∙ ap (λ (k : ℕ). refused k) q
+pub input-refused : (r : Judged) (n : ℕ) → r .row ≡ n → (n ≡ 0 → ⊥) → inputIn r ≡ inputRefused n
+input-refused r n q ne = accepted-not (r .row) _ _ (λ z. ne (sym q ∙ z)) ∙ ap (λ (k : ℕ). inputRefused k) q
 
 -- ---- where no pair begins
 
 -- by whether a pair begins
 abbrev from : ℕ → List ℕ → Bool → Input
-from k t b = elim b [ true ↦ after (pairOf t) (λ r. inputFrom k r) | false ↦ signalled (signalAt t) ]
+from k t b = elim b [ true ↦ thenPair (pairOf t) (λ r. inputFrom k r) | false ↦ signalled (signalAt t) ]
 
 closed : (k : ℕ) (t : List ℕ) → opens t ≡ false → inputFrom k t ≡ inputFrom 0 t
 closed zero t e = refl
-closed (suc k) t e = ap (from k t) e ∙ sym (ap (λ (b : Bool). cond b (refused 23) (signalled (signalAt t))) e)
+closed (suc k) t e = ap (from k t) e ∙ sym (ap (λ (b : Bool). cond b (inputRefused 23) (signalled (signalAt t))) e)
 
-pub none-opens : (t : List ℕ) → opens t ≡ false → refused 23 ≡ inputOf t
+pub none-opens : (t : List ℕ) → opens t ≡ false → inputRefused 23 ≡ inputOf t
 unfolding inputOf
 none-opens t e = sym (rw e)
 
@@ -146,11 +146,11 @@ pub input-begins : (t : List ℕ) → opens t ≡ true → inputOf t ≡ inputFr
 unfolding inputOf
 input-begins t e = rw e
 
-pub ninth : (ss : List Settings) (t : List ℕ) → opens t ≡ true → refused 23 ≡ prefixed ss (inputFrom 0 t)
+pub ninth : (ss : List Settings) (t : List ℕ) → opens t ≡ true → inputRefused 23 ≡ prefixed ss (inputFrom 0 t)
 ninth ss t e = sym (prefixed-refused ss 23) ∙ ap (prefixed ss) (sym (rw e))
 
 module _ (ss : List Settings) (t : List ℕ) (e : opens t ≡ false) where
-  pub no-signal-there : none ≡ signalAt t → refused 23 ≡ prefixed ss (inputFrom 0 t)
+  pub no-signal-there : none ≡ signalAt t → inputRefused 23 ≡ prefixed ss (inputFrom 0 t)
   no-signal-there q = sym (prefixed-refused ss 23) ∙ ap (prefixed ss) (sym (rw e (ap signalled (sym q))))
 
   pub signal-there : (g : Signal) → some g ≡ signalAt t → input ss g ≡ prefixed ss (inputFrom 0 t)
@@ -159,30 +159,30 @@ module _ (ss : List Settings) (t : List ℕ) (e : opens t ≡ false) where
 -- ---- the loop
 
 abbrev pub readSoFar : List kept.Pair → ℕ → List ℕ → Input
-readSoFar pairs n t = prefixed (map settingsOf (take n pairs)) (inputFrom (8 - n) t)
+readSoFar pairs n t = prefixed (map pairSettings (take n pairs)) (inputFrom (8 - n) t)
 
 module _ (pairs : List kept.Pair) (n : ℕ) (t : List ℕ) where
-  pub read-closed : opens t ≡ false → prefixed (map settingsOf (take n pairs)) (inputFrom 0 t) ≡ readSoFar pairs n t
-  read-closed e = ap (prefixed (map settingsOf (take n pairs))) (sym (closed (8 - n) t e))
+  pub read-closed : opens t ≡ false → prefixed (map pairSettings (take n pairs)) (inputFrom 0 t) ≡ readSoFar pairs n t
+  read-closed e = ap (prefixed (map pairSettings (take n pairs))) (sym (closed (8 - n) t e))
 
-  pub read-all : 8 ≤ n → prefixed (map settingsOf (take n pairs)) (inputFrom 0 t) ≡ readSoFar pairs n t
-  read-all h = let z : 0 ≡ 8 - n = omega arith in ap (λ (k : ℕ). prefixed (map settingsOf (take n pairs)) (inputFrom k t)) z
+  pub read-all : 8 ≤ n → prefixed (map pairSettings (take n pairs)) (inputFrom 0 t) ≡ readSoFar pairs n t
+  read-all h = let z : 0 ≡ 8 - n = omega arith in ap (λ (k : ℕ). prefixed (map pairSettings (take n pairs)) (inputFrom k t)) z
 
   module _ (h : n < 8) (o : opens t ≡ true) where
-    next-pair : inputFrom (8 - n) t ≡ after (pairOf t) (inputFrom (8 - (n + 1)))
+    next-pair : inputFrom (8 - n) t ≡ thenPair (pairOf t) (inputFrom (8 - (n + 1)))
     next-pair =
         let a : 8 - n ≡ suc (8 - (n + 1)) = omega arith in
         ap (λ (k : ℕ). inputFrom k t) a ∙ ap (from (8 - (n + 1)) t) o
 
-    pub read-fault : (k : ℕ) → faulty k ≡ pairOf t → refused k ≡ readSoFar pairs n t
+    pub read-fault : (k : ℕ) → faulty k ≡ pairOf t → inputRefused k ≡ readSoFar pairs n t
     read-fault k q =
-        sym (prefixed-refused (map settingsOf (take n pairs)) k)
-        ∙ ap (prefixed (map settingsOf (take n pairs))) (ap (λ (p : Pair). after p (inputFrom (8 - (n + 1)))) q ∙ sym next-pair)
+        sym (prefixed-refused (map pairSettings (take n pairs)) k)
+        ∙ ap (prefixed (map pairSettings (take n pairs))) (ap (λ (p : PairRead). thenPair p (inputFrom (8 - (n + 1)))) q ∙ sym next-pair)
 
-    pub read-pair : n < length pairs → (p : kept.Pair) (rest : List ℕ) → pair (settingsOf p) rest ≡ pairOf t → readSoFar (set pairs n p) (n + 1) rest ≡ readSoFar pairs n t
+    pub read-pair : n < length pairs → (p : kept.Pair) (rest : List ℕ) → pairTaken (pairSettings p) rest ≡ pairOf t → readSoFar (set pairs n p) (n + 1) rest ≡ readSoFar pairs n t
     read-pair l p rest q =
         let a : take (n + 1) (set pairs n p) ≡ take n pairs ++ (p ∷ []) = ap (λ (k : ℕ). take k (set pairs n p)) (add-one n) ∙ take-suc-set pairs n p l in
-        ap (λ (ps : List kept.Pair). prefixed (map settingsOf ps) (inputFrom (8 - (n + 1)) rest)) a
-        ∙ ap (λ (ss : List Settings). prefixed ss (inputFrom (8 - (n + 1)) rest)) (map-snoc settingsOf (take n pairs) p)
-        ∙ prefixed-snoc (map settingsOf (take n pairs)) (settingsOf p) (inputFrom (8 - (n + 1)) rest)
-        ∙ ap (prefixed (map settingsOf (take n pairs))) (ap (λ (x : Pair). after x (inputFrom (8 - (n + 1)))) q ∙ sym next-pair)
+        ap (λ (ps : List kept.Pair). prefixed (map pairSettings ps) (inputFrom (8 - (n + 1)) rest)) a
+        ∙ ap (λ (ss : List Settings). prefixed ss (inputFrom (8 - (n + 1)) rest)) (map-snoc pairSettings (take n pairs) p)
+        ∙ prefixed-snoc (map pairSettings (take n pairs)) (pairSettings p) (inputFrom (8 - (n + 1)) rest)
+        ∙ ap (prefixed (map pairSettings (take n pairs))) (ap (λ (x : PairRead). thenPair x (inputFrom (8 - (n + 1)))) q ∙ sym next-pair)

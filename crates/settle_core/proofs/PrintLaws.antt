@@ -11,23 +11,23 @@ use borrow.Author.Tests.{le-ltb}
 use lib.ListN.{length, take, drop, getD, length-append, length-drop, drop-of-length-le}
 use lib.Seq.{length-sets, sets-eq, drop-drop, take-suc, length-take-le}
 use lib.Ieee.{Float, binary32}
-use Rattle.common.specs.Lent.{over}
+use Rattle.refusal.specs.Lent.{over}
 use Rattle.trcf.specs.Settings.{Settings, wholeMax}
 use Rattle.trcf.specs.Preprocessor.{accepted}
 use Rattle.trcf.proofs.OutcomeLaws.{accepted-not}
 use Rattle.snapshot.specs.Text.{whole, float, named}
 use Rattle.snapshot.specs.Read.{bytesOfLine}
-use Rattle.snapshot.specs.Save.{Outcome, outcome, fitted}
+use Rattle.snapshot.specs.Save.{SaveOutcome, saveOutcome, fitted}
 use Rattle.snapshot.specs.Steps.Write.{stored, Wrote}
 use Rattle.snapshot.proofs.WriteLaws.{wrote-then, wrote-is, whole-less, whole-short}
 use Rattle.snapshot.proofs.PairLines.{number-size}
-use Rattle.snapshot_save.specs.Line.{within, optionalField, optionalLine}
+use Rattle.snapshot_save.specs.Line.{textWithin, optionalField, optionalLine}
 use Rattle.bench_core.specs.Bench.{noText}
 use Rattle.settling.specs.Settling.{Signal, Noted, noted, runOf}
 use Rattle.settling.specs.Steps.{optionOf, signalOf}
-use Rattle.settle_core.specs.Input.{Input, refused, input, inputOf}
+use Rattle.settle_core.specs.Input.{Input, inputRefused, input, inputOf}
 use Rattle.settle_core.specs.Settle.{orNever, largestField, notedLine, lineTexts, printedBy, settleOf}
-use Rattle.settle_core.specs.Steps.{settingsOf, inputIn}
+use Rattle.settle_core.specs.Steps.{pairSettings, inputIn}
 use Rattle.settle_core.specs.declared.pair.Pair as kept
 use Rattle.settle_core.specs.declared.judge.Judged.{Judged}
 use Rattle.settle_core.proofs.JudgeLaws.{map-snoc, input-refused}
@@ -58,20 +58,20 @@ noted-line i n m o k x h em eo =
 
 -- a line printed into the part of the output from a place on
 module _ (out : List ℕ) (at : ℕ) (t bytes : List ℕ) (row n : ℕ) (room : at + 32 ≤ length out) (few : length t ≤ 32)
-    (e : outcome row n bytes ≡ within 32 t (take (length out - at) (drop at out))) where
-  printed : outcome row n bytes ≡ outcome 0 (length t) (over (drop at out) t)
-  unfolding within
+    (e : saveOutcome row n bytes ≡ textWithin 32 t (take (length out - at) (drop at out))) where
+  printed : saveOutcome row n bytes ≡ saveOutcome 0 (length t) (over (drop at out) t)
+  unfolding textWithin
   printed =
-      e ∙ ap (λ (l : List ℕ). within 32 t l) (rest-is out at)
+      e ∙ ap (λ (l : List ℕ). textWithin 32 t l) (rest-is out at)
       ∙ rw (le-ltb (length (drop at out)) 32 (simp length-drop (omega arith)))
 
   pub long-is : n ≡ length t
-  long-is = ap (λ (o : Outcome). o .length) printed
+  long-is = ap (λ (o : SaveOutcome). o .length) printed
 
   new-is : take at out ++ (bytes ++ drop (length out - at) (drop at out)) ≡ stored out at t
   unfolding stored over
   new-is =
-      let b : bytes ≡ t ++ drop (length t) (drop at out) = ap (λ (o : Outcome). o .bytes) printed in
+      let b : bytes ≡ t ++ drop (length t) (drop at out) = ap (λ (o : SaveOutcome). o .bytes) printed in
       let y : length (drop at out) ≤ length out - at = simp length-drop (omega arith) in
       let z : drop (length out - at) (drop at out) ≡ [] = drop-of-length-le (drop at out) y in
       (λ j. take at out ++ (b j ++ z j))
@@ -105,33 +105,33 @@ length-map f (x ∷ l) = ap suc (length-map f l)
 
 -- the lines of the first i pairs
 abbrev pub linesOf : List kept.Pair → Signal → ℕ → List ℕ
-linesOf pairs g i = lineTexts 1 (map settingsOf (take i pairs)) g
+linesOf pairs g i = lineTexts 1 (map pairSettings (take i pairs)) g
 
 pub lines-more : (pairs : List kept.Pair) (g : Signal) (i : ℕ) (d : kept.Pair) → i < length pairs
-    → linesOf pairs g i ++ notedLine (i + 1) (g .readings) (runOf (settingsOf (getD pairs i d)) g .noted) ≡ linesOf pairs g (i + 1)
+    → linesOf pairs g i ++ notedLine (i + 1) (g .readings) (runOf (pairSettings (getD pairs i d)) g .noted) ≡ linesOf pairs g (i + 1)
 lines-more pairs g i d h =
     let p : kept.Pair = getD pairs i d in
     let a : take (i + 1) pairs ≡ take i pairs ++ (p ∷ []) = ap (λ (k : ℕ). take k pairs) (add-one i) ∙ take-suc pairs i d h in
-    let l : 1 + length (map settingsOf (take i pairs)) ≡ i + 1 = omega (arith, length-map settingsOf (take i pairs), length-take-le i pairs (omega arith)) in
-    sym (ap (λ (ps : List kept.Pair). lineTexts 1 (map settingsOf ps) g) a
-    ∙ ap (λ (ss : List Settings). lineTexts 1 ss g) (map-snoc settingsOf (take i pairs) p)
-    ∙ lines-snoc 1 (map settingsOf (take i pairs)) (settingsOf p) g
-    ∙ ap (λ (k : ℕ). linesOf pairs g i ++ notedLine k (g .readings) (runOf (settingsOf p) g .noted)) l)
+    let l : 1 + length (map pairSettings (take i pairs)) ≡ i + 1 = omega (arith, length-map pairSettings (take i pairs), length-take-le i pairs (omega arith)) in
+    sym (ap (λ (ps : List kept.Pair). lineTexts 1 (map pairSettings ps) g) a
+    ∙ ap (λ (ss : List Settings). lineTexts 1 ss g) (map-snoc pairSettings (take i pairs) p)
+    ∙ lines-snoc 1 (map pairSettings (take i pairs)) (pairSettings p) g
+    ∙ ap (λ (k : ℕ). linesOf pairs g i ++ notedLine k (g .readings) (runOf (pairSettings p) g .noted)) l)
 
 -- ---- the whole
 
-pub refusal-printed : (t out new : List ℕ) (row n : ℕ) → outcome row n new ≡ fitted t out → length t ≤ 256 → 256 ≤ length out
-    → (u : List ℕ) → t ≡ u → outcome 0 n new ≡ within 256 u out
-unfolding fitted within
+pub refusal-printed : (t out new : List ℕ) (row n : ℕ) → saveOutcome row n new ≡ fitted t out → length t ≤ 256 → 256 ≤ length out
+    → (u : List ℕ) → t ≡ u → saveOutcome 0 n new ≡ textWithin 256 u out
+unfolding fitted textWithin
 refusal-printed t out new row n e few room u q =
-    let f : outcome row n new ≡ outcome 0 (length t) (over out t) = e ∙ rw (le-ltb (length out) (length t) (omega arith)) in
-    (λ j. outcome 0 (f j .length) (f j .bytes)) ∙ ap (λ (x : List ℕ). outcome 0 (length x) (over out x)) q ∙ sym (rw (le-ltb (length out) 256 room))
+    let f : saveOutcome row n new ≡ saveOutcome 0 (length t) (over out t) = e ∙ rw (le-ltb (length out) (length t) (omega arith)) in
+    (λ j. saveOutcome 0 (f j .length) (f j .bytes)) ∙ ap (λ (x : List ℕ). saveOutcome 0 (length x) (over out x)) q ∙ sym (rw (le-ltb (length out) 256 room))
 
-pub refusal-length : (t out new : List ℕ) (row n : ℕ) → outcome row n new ≡ fitted t out → length t ≤ 256 → 256 ≤ length out → n ≤ 256
+pub refusal-length : (t out new : List ℕ) (row n : ℕ) → saveOutcome row n new ≡ fitted t out → length t ≤ 256 → 256 ≤ length out → n ≤ 256
 unfolding fitted
 refusal-length t out new row n e few room =
-    let f : outcome row n new ≡ outcome 0 (length t) (over out t) = e ∙ rw (le-ltb (length out) (length t) (omega arith)) in
-    let q : n ≡ length t = ap (λ (o : Outcome). o .length) f in
+    let f : saveOutcome row n new ≡ saveOutcome 0 (length t) (over out t) = e ∙ rw (le-ltb (length out) (length t) (omega arith)) in
+    let q : n ≡ length t = ap (λ (o : SaveOutcome). o .length) f in
     omega arith
 
 pub no-short : (row : ℕ) → row ≤ wholeMax → length (noText row) ≤ 256
@@ -145,5 +145,5 @@ refusal-is t r e ne = ap printedBy (sym (input-refused r (r .row) refl ne) ∙ e
 pub lines-are : (t : List ℕ) (r : Judged) → inputIn r ≡ inputOf t → r .row ≡ 0 → linesOf (r .pairs) (signalOf (r .signal)) (r .count) ≡ settleOf t
 unfolding settleOf
 lines-are t r e z =
-    let q : inputIn r ≡ input (map settingsOf (take (r .count) (r .pairs))) (signalOf (r .signal)) = rw z in
+    let q : inputIn r ≡ input (map pairSettings (take (r .count) (r .pairs))) (signalOf (r .signal)) = rw z in
     ap printedBy (sym q ∙ e)

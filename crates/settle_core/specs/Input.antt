@@ -1,4 +1,5 @@
 -- What the settling program is given (document 02, request 106): "up to 8 `set` and `wgt` pairs with d = 1, then one line `sig`". Lines and fields are the bench's.
+use Prim.Native.Char.{code}
 use Prim.Native.Nat.{ℕ, zero, suc}
 use mathlib.Core.Bool.{Bool, true, false, cond, _&&_}
 use mathlib.Core.List.{List, [], _∷_}
@@ -43,21 +44,21 @@ lineFrom (suc n) l t =
       | false ↦ elim (eqb (getD t k 0) 9) [ true ↦ lineFrom n c (drop (suc k) t) | false ↦ scanned true c (drop (suc k) t) ]
     ]
 
--- every cell but the last has a byte behind it
+-- every cell but the last has a byte after it
 unfoldable pub lineOf : List ℕ → Scanned
 lineOf t = lineFrom (suc (length t)) blankLine t
 
 -- ---- a pair
 
-abbrev pub isSet : Name → Bool
-isSet Unread = false
-isSet Set = true
-isSet Weights = false
-isSet Point = false
-isSet Learn = false
-isSet Drain = false
-isSet Save = false
-isSet Other = false
+abbrev pub isSetLine : Name → Bool
+isSetLine Unread = false
+isSetLine Set = true
+isSetLine Weights = false
+isSetLine Point = false
+isSetLine Learn = false
+isSetLine Drain = false
+isSetLine Save = false
+isSetLine Other = false
 
 abbrev pub isWeights : Name → Bool
 isWeights Unread = false
@@ -70,41 +71,41 @@ isWeights Save = false
 isWeights Other = false
 
 -- the number that refuses it, or its settings and what follows it
-pub data Pair : Type 0 where
-  faulty : ℕ → Pair
-  pair : Settings → List ℕ → Pair
+pub data PairRead : Type 0 where
+  faulty : ℕ → PairRead
+  pairTaken : Settings → List ℕ → PairRead
 
 -- the settings of both lines, with zero codes
 abbrev pub settingsBy : Line → Line → Settings
 settingsBy l w = settingsFrom (builderFrom l) (keptOf w) (zeroCodes (builderFrom l))
 
-unfoldable pub pairBy : Settings → List ℕ → Pair
-pairBy s rest = accepted (pairRow s) (pair s rest) (faulty (pairRow s))
+unfoldable pub pairBy : Settings → List ℕ → PairRead
+pairBy s rest = accepted (pairRow s) (pairTaken s rest) (faulty (pairRow s))
 
 -- "a `set` or `wgt` line not of the bench's form is 19"
-unfoldable pub pairOf : List ℕ → Pair
+unfoldable pub pairOf : List ℕ → PairRead
 pairOf t =
     let a = lineOf t in
     let b = lineOf (a .rest) in
-    cond (a .ended && isSet (requestOf (a .line)))
+    cond (a .ended && isSetLine (requestOf (a .line)))
     (cond (b .ended && isWeights (requestOf (b .line))) (pairBy (settingsBy (a .line) (b .line)) (b .rest)) (faulty 19)) (faulty 19)
 
 -- ---- the signal
 
-abbrev pub positive : Number → Option ℤ
-positive No = none
-positive (Is n) = some (pos n)
+abbrev pub positiveNumber : Number → Option ℤ
+positiveNumber No = none
+positiveNumber (Is n) = some (pos n)
 
 -- a minus sign stands before no 0
-abbrev pub negative : Number → Option ℤ
-negative No = none
-negative (Is zero) = none
-negative (Is (suc n)) = some (negsuc n)
+abbrev pub negativeNumber : Number → Option ℤ
+negativeNumber No = none
+negativeNumber (Is zero) = none
+negativeNumber (Is (suc n)) = some (negsuc n)
 
 -- "whole numbers …, with a minus sign if negative"
 unfoldable pub signedOf : List ℕ → Option ℤ
 signedOf [] = none
-signedOf (b ∷ c) = cond (eqb b 45) (negative (numberOf (asWhole c))) (positive (numberOf (asWhole (b ∷ c))))
+signedOf (b ∷ c) = cond (eqb b (code "-")) (negativeNumber (numberOf (asWhole c))) (positiveNumber (numberOf (asWhole (b ∷ c))))
 
 -- the first field of a text, which the byte `end` has to end, and what follows
 pub data Part : Type 0 where
@@ -138,41 +139,41 @@ fieldsOf t =
 
 -- the name `sig` and a tab
 unfoldable pub isSignal : List ℕ → Bool
-isSignal t = eqb (getD t 0 0) 115 && (eqb (getD t 1 0) 105 && (eqb (getD t 2 0) 103 && eqb (getD t 3 0) 9))
+isSignal t = eqb (getD t 0 0) (code "s") && (eqb (getD t 1 0) (code "i") && (eqb (getD t 2 0) (code "g") && eqb (getD t 3 0) 9))
 
 -- … and then the fields
-unfoldable pub signalOf : List ℕ → Option Signal
-signalOf t = cond (isSignal t) (fieldsOf (drop 4 t)) none
+unfoldable pub signalRead : List ℕ → Option Signal
+signalRead t = cond (isSignal t) (fieldsOf (drop 4 t)) none
 
 -- ---- the whole input
 
 pub data Input : Type 0 where
-  refused : ℕ → Input
+  inputRefused : ℕ → Input
   input : List Settings → Signal → Input
 
 -- 23: "signal line missing, of another form or outside these limits"
 abbrev pub signalled : Option Signal → Input
-signalled none = refused 23
+signalled none = inputRefused 23
 signalled (some g) = input [] g
 
 abbrev pub andThen : Settings → Input → Input
-andThen s (refused n) = refused n
+andThen s (inputRefused n) = inputRefused n
 andThen s (input ss g) = input (s ∷ ss) g
 
 -- "where a pair may begin, a line whose first field is not `set` counts as the signal line"
 unfoldable pub opens : List ℕ → Bool
-opens t = isSet (nameOf (take (cellLength t) t))
+opens t = isSetLine (nameOf (take (cellLength t) t))
 
 -- "the first pair at fault decides"
-abbrev pub after : Pair → (List ℕ → Input) → Input
-after (faulty n) k = refused n
-after (pair s t) k = andThen s (k t)
+abbrev pub thenPair : PairRead → (List ℕ → Input) → Input
+thenPair (faulty n) k = inputRefused n
+thenPair (pairTaken s t) k = andThen s (k t)
 
 -- at most n pairs more, and the signal; "a ninth `set`, whose pair is not read"
 abbrev pub inputFrom : ℕ → List ℕ → Input
-inputFrom zero t = cond (opens t) (refused 23) (signalled (signalOf t))
-inputFrom (suc n) t = elim (opens t) [ true ↦ after (pairOf t) (λ r. inputFrom n r) | false ↦ signalled (signalOf t) ]
+inputFrom zero t = cond (opens t) (inputRefused 23) (signalled (signalRead t))
+inputFrom (suc n) t = elim (opens t) [ true ↦ thenPair (pairOf t) (λ r. inputFrom n r) | false ↦ signalled (signalRead t) ]
 
 -- "no pair"
 unfoldable pub inputOf : List ℕ → Input
-inputOf t = cond (opens t) (inputFrom 8 t) (refused 23)
+inputOf t = cond (opens t) (inputFrom 8 t) (inputRefused 23)

@@ -11,7 +11,7 @@ use Rattle.trcf.specs.View.{settingsFrom}
 use Rattle.settling.specs.Settling.{Signal}
 use Rattle.settling.specs.Steps.{signed, signalOf, optionOf}
 use Rattle.settling.specs.declared.signal.Signed.{Signed}
-use Rattle.settle_core.specs.Input.{Scanned, scanned, Pair, faulty, pair, Part, noPart, part, Input, refused, input, andThen}
+use Rattle.settle_core.specs.Input.{Scanned, scanned, PairRead, faulty, pairTaken, Part, noPart, part, Input, inputRefused, input, andThen}
 use Rattle.settle_core.specs.declared.scan.Line as held
 use Rattle.settle_core.specs.declared.pair.Pair as kept
 use Rattle.settle_core.specs.declared.pair.PairRead as read
@@ -22,22 +22,22 @@ use Rattle.settle_core.specs.declared.judge.Judged.{Judged}
 abbrev pub scannedIn : held.Line → List ℕ → Scanned
 scannedIn r t = scanned (r .ended) (r .line) (drop (r .next) t)
 
-abbrev pub settingsOf : kept.Pair → Settings
-settingsOf p = settingsFrom (p .builder) (p .weight ∷ []) (0 ∷ [])
+abbrev pub pairSettings : kept.Pair → Settings
+pairSettings p = settingsFrom (p .builder) (p .weight ∷ []) (0 ∷ [])
 
-abbrev pub pairIn : read.PairRead → List ℕ → Pair
-pairIn r t = accepted (r .row) (pair (settingsOf (r .pair)) (drop (r .next) t)) (faulty (r .row))
+abbrev pub pairIn : read.PairRead → List ℕ → PairRead
+pairIn r t = accepted (r .row) (pairTaken (pairSettings (r .pair)) (drop (r .next) t)) (faulty (r .row))
 
 abbrev pub isNegative : ℤ → Bool
 isNegative (pos n) = false
 isNegative (negsuc n) = true
 
-abbrev pub partBy : Bool → ℤ → List ℕ → Part
-partBy true z t = part z t
-partBy false z t = noPart
+abbrev pub partIf : Bool → ℤ → List ℕ → Part
+partIf true z t = part z t
+partIf false z t = noPart
 
 abbrev pub partIn : heldPart.Part → List ℕ → Part
-partIn r t = partBy (r .found) (signed (r .value)) (drop (r .next) t)
+partIn r t = partIf (r .found) (signed (r .value)) (drop (r .next) t)
 
 -- pairs in front of what follows them
 abbrev pub prefixed : List Settings → Input → Input
@@ -45,4 +45,4 @@ prefixed [] i = i
 prefixed (s ∷ ss) i = andThen s (prefixed ss i)
 
 abbrev pub inputIn : Judged → Input
-inputIn r = accepted (r .row) (input (map settingsOf (take (r .count) (r .pairs))) (signalOf (r .signal))) (refused (r .row))
+inputIn r = accepted (r .row) (input (map pairSettings (take (r .count) (r .pairs))) (signalOf (r .signal))) (inputRefused (r .row))

@@ -10,7 +10,7 @@ ghost use mathlib.Core.Bool.{false};
 ghost use Prim.Native.Nat.{_≤_};
 ghost use lib.ListN.{length, drop, getD};
 ghost use Rattle.settling.specs.Steps.{signed, signalOf, optionOf};
-ghost use Rattle.settle_core.specs.Input.{positive, negative, signedOf, partOf, limited, fieldsOf, isSignal, signalOf as signalAt};
+ghost use Rattle.settle_core.specs.Input.{positiveNumber, negativeNumber, signedOf, partOf, limited, fieldsOf, isSignal, signalRead as signalAt};
 ghost use Rattle.settle_core.specs.Steps.{isNegative, partIn};
 
 // A number, or none.
@@ -50,7 +50,7 @@ fn no_value() -> Value
 }
 
 fn positive_of(n: Number) -> Value
-    ensures { λ r. ⌜ optionOf (r .found) (signed (r .value)) ≡ positive n ⌝ }
+    ensures { λ r. ⌜ optionOf (r .found) (signed (r .value)) ≡ positiveNumber n ⌝ }
 {
     match n {
         Number::No => no_value(),
@@ -63,7 +63,7 @@ fn positive_of(n: Number) -> Value
 
 // A minus sign stands before no 0.
 fn negative_of(n: Number) -> Value
-    ensures { λ r. ⌜ optionOf (r .found) (signed (r .value)) ≡ negative n ⌝ }
+    ensures { λ r. ⌜ optionOf (r .found) (signed (r .value)) ≡ negativeNumber n ⌝ }
 {
     match n {
         Number::No => no_value(),
@@ -184,7 +184,7 @@ fn signal_of(
     }
 }
 
-// Six fields, and nothing behind them.
+// Six fields, and nothing after them.
 fn fields_at(text: &[u8], at: usize) -> SignalRead
     requires { ⌜ at ≤ length (now text) ⌝ }
     ensures { λ r. ⌜ optionOf (r .found) (signalOf (r .signal)) ≡ fieldsOf (drop at (now (text .entry))) ⌝ }

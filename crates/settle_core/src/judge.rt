@@ -11,7 +11,7 @@ ghost use mathlib.Core.List.{map};
 ghost use Prim.Native.Nat.{_-_, _≤_};
 ghost use lib.ListN.{length, take, drop};
 ghost use Rattle.settle_core.specs.Input.{inputFrom, inputOf};
-ghost use Rattle.settle_core.specs.Steps.{settingsOf, prefixed, inputIn};
+ghost use Rattle.settle_core.specs.Steps.{pairSettings, prefixed, inputIn};
 
 // The row that refuses the input; or how many pairs there are, their settings, and the signal.
 pub(crate) struct Judged {
@@ -47,10 +47,10 @@ fn refused_by(row: u64) -> Judged
     }
 }
 
-// Behind n pairs, where no further one is read: the signal, unless a pair begins.
+// After n pairs, where no further one is read: the signal, unless a pair begins.
 fn signalled(text: &[u8], at: usize, n: usize, pairs: [Pair; 8]) -> Judged
     requires { ⌜ at ≤ length (now text) ⌝ }
-    ensures { λ r. ⌜ inputIn r ≡ prefixed (map settingsOf (take n pairs)) (inputFrom 0 (drop at (now (text .entry)))) ⌝ }
+    ensures { λ r. ⌜ inputIn r ≡ prefixed (map pairSettings (take n pairs)) (inputFrom 0 (drop at (now (text .entry)))) ⌝ }
     ensures { λ r. ⌜ r .count ≤ n ⌝ }
 {
     if opens_at(text, at) {

@@ -8,7 +8,7 @@ use bench_core::step::cell_end;
 ghost use mathlib.Core.Path.{_≡_};
 ghost use Prim.Native.Nat.{_≤_};
 ghost use lib.ListN.{length, drop};
-ghost use Rattle.settle_core.specs.Input.{lineOf, isSet, isWeights, opens};
+ghost use Rattle.settle_core.specs.Input.{lineOf, isSetLine, isWeights, opens};
 ghost use Rattle.settle_core.specs.Steps.{scannedIn};
 
 // A line: whether an LF ends it, what was read of it, and where the next one begins.
@@ -53,7 +53,7 @@ pub(crate) fn line_at(text: &[u8], from: usize) -> Line
 }
 
 pub(crate) fn is_set(name: Name) -> bool
-    ensures { λ r. ⌜ r ≡ isSet name ⌝ }
+    ensures { λ r. ⌜ r ≡ isSetLine name ⌝ }
 {
     match name {
         Name::Set => true,

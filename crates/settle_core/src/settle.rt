@@ -11,12 +11,12 @@ ghost use mathlib.Core.Path.{_≡_};
 ghost use mathlib.Core.List.{map};
 ghost use Prim.Native.Nat.{_+_, _*_, _≤_};
 ghost use lib.ListN.{length, take};
-ghost use Rattle.snapshot.specs.Save.{outcome};
+ghost use Rattle.snapshot.specs.Save.{saveOutcome};
 ghost use Rattle.snapshot.specs.Steps.Write.{Wrote};
 ghost use Rattle.settling.specs.Settling.{runOf};
 ghost use Rattle.settling.specs.Steps.{signalOf, notedBy};
 ghost use Rattle.settle_core.specs.Settle.{orNever, notedLine, lineTexts, settledOn};
-ghost use Rattle.settle_core.specs.Steps.{settingsOf};
+ghost use Rattle.settle_core.specs.Steps.{pairSettings};
 
 // The bytes that the output has to have.
 pub const ROOM: usize = 256;
@@ -35,7 +35,7 @@ fn ready_of(s: Settled, n: u64) -> u64
 fn print_pair(out: &mut [u8], at: usize, i: usize, p: Pair, signal: Signal) -> usize
     requires { ⌜ at + 32 ≤ length (now out) ⌝ }
     requires { ⌜ i ≤ 7 ⌝ }
-    ensures { λ r. ⌜ Wrote at (notedLine (i + 1) (signal .readings) (runOf (settingsOf p) (signalOf signal) .noted)) (now (out .entry)) r (now (out .exit)) ⌝ }
+    ensures { λ r. ⌜ Wrote at (notedLine (i + 1) (signal .readings) (runOf (pairSettings p) (signalOf signal) .noted)) (now (out .entry)) r (now (out .exit)) ⌝ }
     ensures { λ r. ⌜ r ≤ at + 32 ⌝ }
 {
     let builder = p.builder;
@@ -49,7 +49,7 @@ fn print_pair(out: &mut [u8], at: usize, i: usize, p: Pair, signal: Signal) -> u
 fn print_all(pairs: [Pair; 8], count: usize, signal: Signal, out: &mut [u8]) -> usize
     requires { ⌜ count ≤ 8 ⌝ }
     requires { ⌜ 256 ≤ length (now out) ⌝ }
-    ensures { λ r. ⌜ Wrote 0 (lineTexts 1 (map settingsOf (take count pairs)) (signalOf signal)) (now (out .entry)) r (now (out .exit)) ⌝ }
+    ensures { λ r. ⌜ Wrote 0 (lineTexts 1 (map pairSettings (take count pairs)) (signalOf signal)) (now (out .entry)) r (now (out .exit)) ⌝ }
     ensures { λ r. ⌜ r ≤ 256 ⌝ }
 {
     let mut at = 0;
@@ -64,7 +64,7 @@ fn print_all(pairs: [Pair; 8], count: usize, signal: Signal, out: &mut [u8]) -> 
 
 // What the program prints for the input, and its length; row 20 with nothing written, where the output has less than ROOM bytes.
 pub fn settle(input: &[u8], output: &mut [u8]) -> Saved
-    ensures { λ r. ⌜ outcome (r .row) (r .length) (now (output .exit)) ≡ settledOn (now (input .entry)) (now (output .entry)) ⌝ }
+    ensures { λ r. ⌜ saveOutcome (r .row) (r .length) (now (output .exit)) ≡ settledOn (now (input .entry)) (now (output .entry)) ⌝ }
     ensures { λ r. ⌜ r .length ≤ length (now (output .exit)) ⌝ }
 {
     if output.len() < ROOM {

@@ -7,24 +7,24 @@ use lib.Ieee.{toBits, ofBits, ofFields, odd, fits, size, round, le, lt, eq, add,
 use Rattle.numeric.specs.Narrow.{narrowed}
 use Rattle.numeric.specs.Root.{rootWithin, halves, rooted, rootOf}
 use Rattle.common.specs.Deviation.{outsideUnit, factorOf, stepOf as fedStep, isEmpty, meanOf, rootAbove, deviationOf}
-use Rattle.common.specs.Lent.{over}
+use Rattle.refusal.specs.Lent.{over}
 use Rattle.trcf.specs.Lists.{lastN, shiftIn, overwrite}
 use Rattle.trcf.specs.Transformer.{statisticAt, putStatistic, fed, deviationsAt, putDeviations, fedAt, channelsFed, updated, normalizedScale, basicShift, basicDrift, weightAt, transformed, unweighted, inverted, scales, shifts, differenceDeviations}
 use Rattle.trcf.specs.Settings.{block, dimension, waiting, allOne, settingsRow}
-use Rattle.trcf.specs.Calls.{finite, due, newest, wrongLength, outside, drainFull, learnFull, waitingShort, learnShort, table, rows, behind}
-use Rattle.trcf.specs.Preprocessor.{fresh as freshState, facts, timeFed, feed, timescale, timedrift, timeElement, transformedAfter, previous, primed, drainOne, drainAll, drained, held, learned, learnedWith, change, deviations, next, refusal, answer, statusOf, pointOf, blockFrom, pastValues, expectedValues, anomalyOf, learnedNothing, heldAnswer, learnedAnswer, learnAnswer, reply, timeBase, preceding}
+use Rattle.trcf.specs.Calls.{finite, due, newest, wrongLength, outside, drainFull, learnFull, waitingShort, learnShort, table, rows, beforeNewest}
+use Rattle.trcf.specs.Preprocessor.{fresh as freshState, facts, timeFed, feed, timescale, timedrift, timeElement, transformedAfter, previous, primed, drainOne, drainAll, drained, buffered, learned, learnedWith, change, deviations, next, refusal, answer, statusOf, pointOf, blockFrom, pastValues, expectedValues, anomalyOf, learnedNothing, bufferedAnswer, learnedAnswer, learnAnswer, reply, timeBase, preceding}
 use Rattle.snapshot.specs.Text.{whole, float}
 use Rattle.snapshot.specs.Read.{floatFrom, asWhole, asFloat}
-use Rattle.snapshot.specs.Steps.Ascii.{bytes}
-use Rattle.bench_core.specs.Line.{blankLine, fieldOf, cellOf, requestOf, keptOf}
+use Rattle.snapshot.specs.Ascii.{ascii}
+use Rattle.bench_core.specs.Line.{blankLine, lineWithField, cellOf, requestOf, keptOf}
 use Rattle.bench_core.specs.Bench.{noText, builderFrom}
-use Rattle.settling.specs.Settling.{inLimits, pairRow, readingAt, valueAt, note, settlingAfter, notedOf, runOf}
-use Rattle.settle_core.specs.Input.{lineOf, pairBy, pairOf, signedOf, partOf, fieldsOf, isSignal, signalOf, opens, inputOf}
+use Rattle.settling.specs.Settling.{inLimits, pairRow, signalValue, valueAt, note, settlingAfter, notedOf, runOf}
+use Rattle.settle_core.specs.Input.{lineOf, pairBy, pairOf, signedOf, partOf, fieldsOf, isSignal, signalRead, opens, inputOf}
 use Rattle.settle_core.specs.Settle.{notedLine, settleOf}
 
 -- to unfold this is to unfold whatever its line names
 running : Unit {0}
-unfolding toBits ofBits ofFields odd fits size round le lt eq add sub mul div ofInt narrowed rootWithin halves rooted rootOf outsideUnit factorOf fedStep isEmpty meanOf rootAbove deviationOf over lastN shiftIn overwrite statisticAt putStatistic fed deviationsAt putDeviations fedAt channelsFed updated normalizedScale basicShift basicDrift weightAt transformed unweighted inverted scales shifts differenceDeviations block dimension waiting allOne settingsRow finite due newest wrongLength outside drainFull learnFull waitingShort learnShort table rows freshState facts timeFed feed timescale timedrift timeElement transformedAfter previous primed drainOne drainAll drained held learned learnedWith change deviations pointOf blockFrom pastValues expectedValues anomalyOf learnedNothing heldAnswer learnedAnswer learnAnswer reply whole float floatFrom asWhole asFloat blankLine fieldOf cellOf requestOf keptOf noText builderFrom next refusal answer statusOf inLimits pairRow readingAt valueAt note settlingAfter notedOf runOf lineOf pairBy pairOf signedOf partOf fieldsOf isSignal signalOf opens inputOf notedLine settleOf behind timeBase preceding
+unfolding toBits ofBits ofFields odd fits size round le lt eq add sub mul div ofInt narrowed rootWithin halves rooted rootOf outsideUnit factorOf fedStep isEmpty meanOf rootAbove deviationOf over lastN shiftIn overwrite statisticAt putStatistic fed deviationsAt putDeviations fedAt channelsFed updated normalizedScale basicShift basicDrift weightAt transformed unweighted inverted scales shifts differenceDeviations block dimension waiting allOne settingsRow finite due newest wrongLength outside drainFull learnFull waitingShort learnShort table rows freshState facts timeFed feed timescale timedrift timeElement transformedAfter previous primed drainOne drainAll drained buffered learned learnedWith change deviations pointOf blockFrom pastValues expectedValues anomalyOf learnedNothing bufferedAnswer learnedAnswer learnAnswer reply whole float floatFrom asWhole asFloat blankLine lineWithField cellOf requestOf keptOf noText builderFrom next refusal answer statusOf inLimits pairRow signalValue valueAt note settlingAfter notedOf runOf lineOf pairBy pairOf signedOf partOf fieldsOf isSignal signalRead opens inputOf notedLine settleOf beforeNewest timeBase preceding
 running = tt
 
 -- inputs with their outputs
@@ -33,11 +33,11 @@ Cases = List (String × String)
 
 abbrev given : Cases → List (List ℕ)
 given [] = []
-given (c ∷ cs) = settleOf (bytes (c .0)) ∷ given cs
+given (c ∷ cs) = settleOf (ascii (c .0)) ∷ given cs
 
 abbrev expected : Cases → List (List ℕ)
 expected [] = []
-expected (c ∷ cs) = bytes (c .1) ∷ expected cs
+expected (c ∷ cs) = ascii (c .1) ∷ expected cs
 
 -- a pair that is accepted, and a signal of four readings
 abbrev good : String

@@ -9,7 +9,7 @@ pub(crate) struct Case {
     pub next: usize,
 }
 
-// A decimal number, and the byte behind the one that ends it.
+// A decimal number, and the byte after the one that ends it.
 struct Length {
     value: usize,
     next: usize,

@@ -9,12 +9,12 @@ use lib.IntN.{ℤ, pos, negsuc, negℤ, subℕ, _+ℤ_, _*ℤ_}
 use lib.Ieee.{Float, Format, binary32, ofInt, neg, round}
 use borrow.Author.Tests.{lt-ltb, le-ltb, ltb-true, ltb-false, leb-true}
 use Rattle.common.proofs.RoundOrder.{round-negated}
-use Rattle.settling.specs.Settling.{Signal, sizeOf, countsInLimits, inLimits, readingAt, valueAt}
+use Rattle.settling.specs.Settling.{Signal, integerSize, countsInLimits, inLimits, signalValue, valueAt}
 use Rattle.settling.specs.Steps.{withSign, signed, signalOf}
 use Rattle.settling.specs.declared.signal.Signed.{Signed}
 use Rattle.settling.specs.declared.signal.Signal as held
 
-pub size-signed : (b : Bool) (n : ℕ) → sizeOf (withSign b n) ≡ n
+pub size-signed : (b : Bool) (n : ℕ) → integerSize (withSign b n) ≡ n
 size-signed false n = refl
 size-signed true zero = refl
 size-signed true (suc n) = refl
@@ -106,18 +106,18 @@ pub record Limited (g : held.Signal) : Type 0 where
   pub jump : g .jump .size ≤ 1000
   pub readings : g .readings ≤ 1000
 
-small : (x : Signed) (b : Bool) → leb (sizeOf (signed x)) 1000 && b ≡ true → x .size ≤ 1000
+small : (x : Signed) (b : Bool) → leb (integerSize (signed x)) 1000 && b ≡ true → x .size ≤ 1000
 small x b h =
     let e = size-signed (x .negative) (x .size) in
-    leb-true (x .size) 1000 (ap (λ (n : ℕ). leb n 1000) (sym e) ∙ and-left (leb (sizeOf (signed x)) 1000) b h)
+    leb-true (x .size) 1000 (ap (λ (n : ℕ). leb n 1000) (sym e) ∙ and-left (leb (integerSize (signed x)) 1000) b h)
 
 pub limited : (g : held.Signal) → inLimits (signalOf g) ≡ true → Limited g
 unfolding inLimits
 limited g h =
-    let a = and-right (leb (sizeOf (signed (g .base))) 1000) _ h in
-    let b = and-right (leb (sizeOf (signed (g .ramp))) 1000) _ a in
-    let c = and-right (leb (sizeOf (signed (g .ripple))) 1000) _ b in
-    let d = and-right (leb (sizeOf (signed (g .jump))) 1000) _ c in
+    let a = and-right (leb (integerSize (signed (g .base))) 1000) _ h in
+    let b = and-right (leb (integerSize (signed (g .ramp))) 1000) _ a in
+    let c = and-right (leb (integerSize (signed (g .ripple))) 1000) _ b in
+    let d = and-right (leb (integerSize (signed (g .jump))) 1000) _ c in
     let e = and-right (leb (g .place) 1000) _ d in
     record {
       base = small (g .base) _ h;
@@ -129,16 +129,16 @@ limited g h =
 
 -- a test that fails, and all that pass
 module _ (g : held.Signal) where
-  base-is : sizeOf (signed (g .base)) ≡ g .base .size
+  base-is : integerSize (signed (g .base)) ≡ g .base .size
   base-is = size-signed (g .base .negative) (g .base .size)
 
-  ramp-is : sizeOf (signed (g .ramp)) ≡ g .ramp .size
+  ramp-is : integerSize (signed (g .ramp)) ≡ g .ramp .size
   ramp-is = size-signed (g .ramp .negative) (g .ramp .size)
 
-  ripple-is : sizeOf (signed (g .ripple)) ≡ g .ripple .size
+  ripple-is : integerSize (signed (g .ripple)) ≡ g .ripple .size
   ripple-is = size-signed (g .ripple .negative) (g .ripple .size)
 
-  jump-is : sizeOf (signed (g .jump)) ≡ g .jump .size
+  jump-is : integerSize (signed (g .jump)) ≡ g .jump .size
   jump-is = size-signed (g .jump .negative) (g .jump .size)
 
   -- the limits, over the sizes that stand there
@@ -151,7 +151,7 @@ module _ (g : held.Signal) where
 
 pub reading-is : (g : Signal) (i : ℕ) (t r o q p z : ℤ) → t ≡ g .ramp *ℤ pos i → r ≡ g .base +ℤ t → o ≡ cond (eqb (i % 2) 1) (g .ripple) (pos 0)
     → q ≡ r +ℤ o → p ≡ cond (leb (g .place) i) (g .jump) (pos 0) → z ≡ q +ℤ p → (x : Float) → x ≡ ofInt binary32 z → x ≡ valueAt g i
-unfolding valueAt readingAt
+unfolding valueAt signalValue
 reading-is g i t r o q p z et er eo eq ep ez x ex =
     let r' : r ≡ g .base +ℤ g .ramp *ℤ pos i = er ∙ ap (λ (u : ℤ). g .base +ℤ u) et in
     let q' : q ≡ g .base +ℤ g .ramp *ℤ pos i +ℤ cond (eqb (i % 2) 1) (g .ripple) (pos 0) = eq ∙ (λ j. r' j +ℤ eo j) in

@@ -20,8 +20,9 @@ use Rattle.access.specs.Access.{everyRight}
 use Rattle.access.specs.Entries.{pointBy, learnBy, ready, readyBy}
 use Rattle.access.proofs.Laws.{as-every}
 use Rattle.trcf.specs.declared.head.Preprocessor.{Preprocessor}
-use Rattle.settling.specs.Settling.{Signal, valueAt, Noted, noted, kept, note}
-use Rattle.settling.specs.Steps.{optionOf, exceedsOf, learning, learnt, Turn, turn, turnWith, turnOf, Track, track, turned, trackAfter, trackFrom, built, trackAt}
+use Rattle.settling.specs.Settling.{Signal, valueAt, Noted, noted, keepLargerIfAny, note}
+use Rattle.settling.specs.Steps.{optionOf, exceedsOf, learning, learnedResult, ReadingResult, readingResult, readingResultWith, readingResultOf, Track, track, trackWith, trackAfter}
+use Rattle.settling.specs.Steps.{trackFrom, trackBuilt, trackAt}
 
 module _ {A : Type 0} where
   pub last-is : (v : List A) (d e : A) → 0 < length v → getD v (length v - 1) d ≡ lastOr e v
@@ -49,11 +50,11 @@ at-least n m e h = rw (← e, le-ltb m 128 h)
 -- ---- what is noted of a last element
 
 module _ (f : Bool) (i : ℕ) where
-  pub kept-not : (k : Bool) (y x : Float) → exceedsOf k y x ≡ false → noted (optionOf f i) (optionOf k y) ≡ noted (optionOf f i) (kept (optionOf k y) (some x))
+  pub kept-not : (k : Bool) (y x : Float) → exceedsOf k y x ≡ false → noted (optionOf f i) (optionOf k y) ≡ noted (optionOf f i) (keepLargerIfAny (optionOf k y) (some x))
   kept-not true y x e = rw e
   kept-not false y x e = rw e
 
-  pub kept-new : (k : Bool) (y x : Float) → exceedsOf k y x ≡ true → noted (optionOf f i) (some x) ≡ noted (optionOf f i) (kept (optionOf k y) (some x))
+  pub kept-new : (k : Bool) (y x : Float) → exceedsOf k y x ≡ true → noted (optionOf f i) (some x) ≡ noted (optionOf f i) (keepLargerIfAny (optionOf k y) (some x))
   kept-new true y x e = rw e
   kept-new false y x e = rw e
 
@@ -73,27 +74,27 @@ module _ (table : List ℕ) (every : table ≡ everyRight) (h : Preprocessor) wh
 
 pub turn-done : (h : Preprocessor) (l : Lent) (x : List Float) (t : ℕ) (out : List Float)
     → (row : ℕ) (g : Bool) (h₁ : Preprocessor) (l₁ : Lent) (v : List Float) → pointed row g h₁ l₁ v ≡ pointAfter h l x t out
-    → (h₂ : Preprocessor) (l₂ : Lent) → turn h₂ l₂ none ≡ learnt (learnAfter h₁ l₁ (learning x t g v))
-    → (y : Float) → y ≡ lastOr nan v → turn h₂ l₂ (optionOf g y) ≡ turnWith h l x t out
-unfolding turnWith
+    → (h₂ : Preprocessor) (l₂ : Lent) → readingResult h₂ l₂ none ≡ learnedResult (learnAfter h₁ l₁ (learning x t g v))
+    → (y : Float) → y ≡ lastOr nan v → readingResult h₂ l₂ (optionOf g y) ≡ readingResultWith h l x t out
+unfolding readingResultWith
 turn-done h l x t out row g h₁ l₁ v e₁ h₂ l₂ e₂ y e₃ =
-    (λ j. turn (e₂ j .head) (e₂ j .lent) (optionOf g (e₃ j)))
-    ∙ ap (λ (o : PointOutcome). let q = learnAfter (o .head) (o .lent) (learning x t (o .given) (o .out)) in turn (q .head) (q .lent) (optionOf (o .given) (lastOr nan (o .out)))) e₁
+    (λ j. readingResult (e₂ j .head) (e₂ j .lent) (optionOf g (e₃ j)))
+    ∙ ap (λ (o : PointOutcome). let q = learnAfter (o .head) (o .lent) (learning x t (o .given) (o .out)) in readingResult (q .head) (q .lent) (optionOf (o .given) (lastOr nan (o .out)))) e₁
 
 -- ---- all readings
 
 pub track-again : (g : Signal) (p : Track) (i : ℕ) (h : Preprocessor) (l : Lent) (n : Noted) → track h l n ≡ trackFrom g p i
-    → (x : Float) → x ≡ valueAt g i → (h₁ : Preprocessor) (l₁ : Lent) (y : Option Float) → turn h₁ l₁ y ≡ turnOf h l x i
+    → (x : Float) → x ≡ valueAt g i → (h₁ : Preprocessor) (l₁ : Lent) (y : Option Float) → readingResult h₁ l₁ y ≡ readingResultOf h l x i
     → (b : Bool) → b ≡ readyOf h₁ → (n₁ : Noted) → n₁ ≡ note n i b y → track h₁ l₁ n₁ ≡ trackFrom g p (i + 1)
 unfolding trackAfter
 track-again g p i h l n ei x ex h₁ l₁ y et b eb n₁ en =
     ap (λ (m : Noted). track h₁ l₁ m) (en ∙ ap (λ (c : Bool). note n i c y) eb)
-    ∙ ap (λ (u : Turn). turned (track h l n) u i) et
-    ∙ ap (λ (v : Float). turned (track h l n) (turnOf h l v i) i) ex
-    ∙ ap (λ (q : Track). turned q (turnOf (q .head) (q .lent) (valueAt g i) i) i) ei
+    ∙ ap (λ (u : ReadingResult). trackWith (track h l n) u i) et
+    ∙ ap (λ (v : Float). trackWith (track h l n) (readingResultOf h l v i) i) ex
+    ∙ ap (λ (q : Track). trackWith q (readingResultOf (q .head) (q .lent) (valueAt g i) i) i) ei
     ∙ ap (λ (k : ℕ). trackFrom g p k) (sym (add-one i))
 
-pub track-done : (s : Settings) (g : Signal) (p : Track) → p ≡ built s → (i n : ℕ) → i ≡ n
+pub track-done : (s : Settings) (g : Signal) (p : Track) → p ≡ trackBuilt s → (i n : ℕ) → i ≡ n
     → (h : Preprocessor) (l : Lent) (m : Noted) → track h l m ≡ trackFrom g p i → m ≡ trackAt s g n .noted
 track-done s g p e i n q h l m v =
     ap (λ (r : Track). r .noted) (v ∙ (λ j. trackFrom g (e j) (q j)))

@@ -14,7 +14,7 @@ use lib.Ieee.{Float, nan, binary32, fits, ofInt}
 use lib.Ieee.Fits.{ofInt-fits}
 use lib.Ieee.Bits.{ofBits-fits}
 use borrow.Author.Tests.{le-ltb, lt-ltb, ltb-true, ltb-false, eqb-true}
-use Rattle.common.specs.Lent.{over}
+use Rattle.refusal.specs.Lent.{over}
 use Rattle.trcf.specs.Lists.{lastOr, shiftIn}
 use Rattle.trcf.specs.Fit.{All, Fits}
 use Rattle.trcf.specs.Types.{augments}
@@ -39,8 +39,9 @@ use Rattle.restart.proofs.Restart.{run-append}
 use Rattle.restart.proofs.FeedLaws.{transformedAfter-fits}
 use Rattle.restart_program.specs.Program.{leftBy}
 use Rattle.restart_program.proofs.Program.{left-is}
-use Rattle.settling.specs.Settling.{Signal, valueAt, Noted, noted, note, pointCall, learnWith, pointIn, lastOf, Settling, settlingAfter, settlingAt, notedOf, inLimits, pairRow, ran, runRow, runOf}
-use Rattle.settling.specs.Steps.{optionOf, pointLength, learning, Turn, turn, turnWith, turnOf, Track, track, memory, turned as trackTurned, trackAfter, built, trackAt}
+use Rattle.settling.specs.Settling.{Signal, valueAt, Noted, noted, note, pointCall, learnWith, pointIn, lastOf, Settling, settlingAfter, settlingAt, notedOf, inLimits, pairRow, runOutcome, runRow, runOf}
+use Rattle.settling.specs.Steps.{optionOf, pointLength, learning, ReadingResult, readingResult, readingResultWith, readingResultOf, Track, track, settlingMemory, trackWith as trackTurned}
+use Rattle.settling.specs.Steps.{trackAfter, trackBuilt, trackAt}
 
 -- ---- the answer of point, as the program reads it
 
@@ -64,10 +65,10 @@ last-in h l out (told q) = refl
 
 -- point, and then learn with what it gave, are two calls on what is held
 turn-is : (M : Held) (g : Signal) (i : ℕ) (out : List Float) (a : Answer) → answerOf (M .head) (M .lent) (shingledPoint (valueAt g i ∷ []) i out) ≡ a
-    → turnWith (M .head) (M .lent) (valueAt g i ∷ []) i out
-    ≡ turn (heldNext (heldNext M (shingledPoint (valueAt g i ∷ []) i out)) (learnWith g i (pointIn a)) .head)
+    → readingResultWith (M .head) (M .lent) (valueAt g i ∷ []) i out
+    ≡ readingResult (heldNext (heldNext M (shingledPoint (valueAt g i ∷ []) i out)) (learnWith g i (pointIn a)) .head)
     (heldNext (heldNext M (shingledPoint (valueAt g i ∷ []) i out)) (learnWith g i (pointIn a)) .lent) (lastOf (pointIn a))
-unfolding turnWith pointAfter
+unfolding readingResultWith pointAfter
 turn-is M g i out a q =
     let c : Call = shingledPoint (valueAt g i ∷ []) i out in
     let o : PointOutcome = pointAfter (M .head) (M .lent) (valueAt g i ∷ []) i out in
@@ -79,7 +80,7 @@ turn-is M g i out a q =
     left-is m (learnWith g i (optional (o .given) (o .out))) ∙ (λ j. heldNext (le j) (lc j)) in
     let K : optionOf (o .given) (lastOr nan (o .out)) ≡ lastOf (pointIn a) =
     last-in (headAfter (M .head) (M .lent) c) (lentAfter (M .head) (M .lent) c) out (answerOf (M .head) (M .lent) c) ∙ ap (λ (z : Answer). lastOf (pointIn z)) q in
-    λ j. turn (H j .head) (H j .lent) (K j)
+    λ j. readingResult (H j .head) (H j .lent) (K j)
 
 -- ---- lengths for d 1
 
@@ -96,7 +97,7 @@ module _ (s : Settings) (ok : Valid s) (one : s .d ≡ 1) where
       few true = omega arith
       few false = omega arith
 
-  room : lentShort s memory ≡ false
+  room : lentShort s settlingMemory ≡ false
   unfolding lentShort
   room =
       let f = few-of s ok in
@@ -172,7 +173,7 @@ module _ (s : Settings) (ok : Valid s) (one : s .d ≡ 1) where
     pub same : trackAt s g n .noted ≡ settlingAt s g n .noted
 
   begins : (g : Signal) → At g 0
-  begins g = record { calls = []; machine = tt; ran = refl; holds = built-holds s ok memory room; same = refl }
+  begins g = record { calls = []; machine = tt; ran = refl; holds = built-holds s ok settlingMemory room; same = refl }
 
   goes : (g : Signal) (i : ℕ) → i ≤ wholeMax → At g i → At g (suc i)
   unfolding trackAfter settlingAfter view statusOf
@@ -192,16 +193,16 @@ module _ (s : Settings) (ok : Valid s) (one : s .d ≡ 1) where
       let R : Runs s ok M W (c ∷ d ∷ []) = runs-held s ok M (p .calls) (c ∷ d ∷ []) (p .machine) mc (p .holds) in
       let a : answerOf h l c ≡ answer W c = head-eq-of-cons-eq (R .says) in
       let m : Held = heldNext (heldNext M c) d in
-      let t : turnOf h l (valueAt g i) i ≡ turn (m .head) (m .lent) (lastOf y) =
-      ap (λ (o : List Float). turnWith h l (valueAt g i ∷ []) i o) e ∙ turn-is M g i (replicate (dimension s) zero32) (answer W c) a in
+      let t : readingResultOf h l (valueAt g i) i ≡ readingResult (m .head) (m .lent) (lastOf y) =
+      ap (λ (o : List Float). readingResultWith h l (valueAt g i ∷ []) i o) e ∙ turn-is M g i (replicate (dimension s) zero32) (answer W c) a in
       let j : run (fresh s) (p .calls ++ (c ∷ d ∷ [])) ≡ run W (c ∷ d ∷ []) = run-append (fresh s) (p .calls) (c ∷ d ∷ []) in
       let b : readyOf (m .head) ≡ leb (run W (c ∷ d ∷ []) .settings .k) (run W (c ∷ d ∷ []) .internalTimestamp) = ap (λ (x : List Getters). getD x 2 (gettersAt W) .ready) (R .shows) in
       record {
         calls = p .calls ++ (c ∷ d ∷ []);
         machine = all-append _ (p .calls) (c ∷ d ∷ []) (p .machine) mc;
         ran = j ∙ ap (λ (v : State). next (next v c) (learnWith g i (pointIn (answer v c)))) (p .ran);
-        holds = subst (λ (v : State). Holds s (held (turnOf h l (valueAt g i) i .head) (turnOf h l (valueAt g i) i .lent)) v) (sym j)
-            (subst (λ (u : Turn). Holds s (held (u .head) (u .lent)) (run W (c ∷ d ∷ []))) (sym t) (R .holds));
+        holds = subst (λ (v : State). Holds s (held (readingResultOf h l (valueAt g i) i .head) (readingResultOf h l (valueAt g i) i .lent)) v) (sym j)
+            (subst (λ (u : ReadingResult). Holds s (held (u .head) (u .lent)) (run W (c ∷ d ∷ []))) (sym t) (R .holds));
         same = (λ k. note (p .same k) i (readyOf (t k .head)) (t k .last))
             ∙ ap (λ (r : Bool). note (q₀ .noted) i r (lastOf y)) b
             ∙ ap (λ (v : State). note (q₀ .noted) i (leb (next (next v c) (learnWith g i (pointIn (answer v c))) .settings .k) (next (next v c) (learnWith g i (pointIn (answer v c))) .internalTimestamp)) (lastOf (pointIn (answer v c)))) (p .ran);
@@ -226,20 +227,20 @@ pair-parts s e = go (settingsRow s) refl (eqb (s .d) 1) refl
     go (suc r) q b f = let z : _≡_ {A = ℕ} (suc r) 0 = rw q at e in absurd (omega arith)
 
 module _ (s : Settings) (g : Signal) where
-  pub run-refused : (r : ℕ) → r ≡ pairRow s → (r ≡ 0 → ⊥) → (row : ℕ) → row ≡ r → (n : Noted) → n ≡ noted none none → ran row n ≡ runOf s g
+  pub run-refused : (r : ℕ) → r ≡ pairRow s → (r ≡ 0 → ⊥) → (row : ℕ) → row ≡ r → (n : Noted) → n ≡ noted none none → runOutcome row n ≡ runOf s g
   unfolding runOf
   run-refused r e ne row q n en =
       let o : runRow s g ≡ r = orElse-is (pairRow s) _ (λ z. ne (e ∙ z)) ∙ sym e in
-      (λ j. ran ((q ∙ sym o) j) (en j)) ∙ sym (accepted-not (runRow s g) (ran 0 (notedOf s g)) (ran (runRow s g) (noted none none)) (λ z. ne (sym o ∙ z)))
+      (λ j. runOutcome ((q ∙ sym o) j) (en j)) ∙ sym (accepted-not (runRow s g) (runOutcome 0 (notedOf s g)) (runOutcome (runRow s g) (noted none none)) (λ z. ne (sym o ∙ z)))
 
-  pub run-outside : pairRow s ≡ 0 → inLimits g ≡ false → (row : ℕ) → row ≡ 23 → (n : Noted) → n ≡ noted none none → ran row n ≡ runOf s g
+  pub run-outside : pairRow s ≡ 0 → inLimits g ≡ false → (row : ℕ) → row ≡ 23 → (n : Noted) → n ≡ noted none none → runOutcome row n ≡ runOf s g
   unfolding runOf
-  run-outside e f row q n en = (λ j. ran (q j) (en j)) ∙ sym (rw (e, f))
+  run-outside e f row q n en = (λ j. runOutcome (q j) (en j)) ∙ sym (rw (e, f))
 
   pub run-done : MachineSettings s → (e : pairRow s ≡ 0) → inLimits g ≡ true → g .readings ≤ wholeMax → (row : ℕ) → row ≡ 0
-      → (n : Noted) → n ≡ trackAt s g (g .readings) .noted → ran row n ≡ runOf s g
+      → (n : Noted) → n ≡ trackAt s g (g .readings) .noted → runOutcome row n ≡ runOf s g
   unfolding runOf notedOf
   run-done m e f h row q n en =
       let p = pair-parts s e in
       let ok : Valid s = record { accepted = p .0; machine = m } in
-      (λ j. ran (q j) ((en ∙ noted-is s ok (p .1) g (g .readings) h) j)) ∙ sym (rw (e, f))
+      (λ j. runOutcome (q j) ((en ∙ noted-is s ok (p .1) g (g .readings) h) j)) ∙ sym (rw (e, f))

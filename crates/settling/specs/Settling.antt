@@ -29,15 +29,15 @@ abbrev pub signal : ℤ → ℤ → ℤ → ℤ → ℕ → ℕ → Signal
 signal b r q j p n = record { base = b; ramp = r; ripple = q; jump = j; place = p; readings = n }
 
 -- "Reading i, from 0, is base + ramp × i, plus ripple if i is odd, plus jump if i ≥ the place"
-unfoldable pub readingAt : Signal → ℕ → ℤ
-readingAt g i = g .base +ℤ g .ramp *ℤ pos i +ℤ cond (eqb (i % 2) 1) (g .ripple) (pos 0) +ℤ cond (leb (g .place) i) (g .jump) (pos 0)
+unfoldable pub signalValue : Signal → ℕ → ℤ
+signalValue g i = g .base +ℤ g .ramp *ℤ pos i +ℤ cond (eqb (i % 2) 1) (g .ripple) (pos 0) +ℤ cond (leb (g .place) i) (g .jump) (pos 0)
 
 unfoldable pub valueAt : Signal → ℕ → Float
-valueAt g i = ofInt binary32 (readingAt g i)
+valueAt g i = ofInt binary32 (signalValue g i)
 
-abbrev pub sizeOf : ℤ → ℕ
-sizeOf (pos n) = n
-sizeOf (negsuc n) = suc n
+abbrev pub integerSize : ℤ → ℕ
+integerSize (pos n) = n
+integerSize (negsuc n) = suc n
 
 -- "the place is 0 to 1,000"; "readings n (1 to 1,000)"
 abbrev pub countsInLimits : ℕ → ℕ → Bool
@@ -46,9 +46,9 @@ countsInLimits place n = leb place 1000 && (leb 1 n && leb n 1000)
 -- "The first four are whole numbers of size at most 1,000"
 unfoldable pub inLimits : Signal → Bool
 inLimits g =
-    leb (sizeOf (g .base)) 1000
-    && (leb (sizeOf (g .ramp)) 1000
-    && (leb (sizeOf (g .ripple)) 1000 && (leb (sizeOf (g .jump)) 1000 && countsInLimits (g .place) (g .readings))))
+    leb (integerSize (g .base)) 1000
+    && (leb (integerSize (g .ramp)) 1000
+    && (leb (integerSize (g .ripple)) 1000 && (leb (integerSize (g .jump)) 1000 && countsInLimits (g .place) (g .readings))))
 
 -- ---- what is noted of a run
 
@@ -66,16 +66,16 @@ firstReady none b i = cond b (some i) none
 firstReady (some j) b i = some j
 
 -- "not-a-numbers are passed over, and of equal ones the first is kept"; a not-a-number does not equal itself
-abbrev pub larger : Option Float → Float → Option Float
-larger none x = cond (eq x x) (some x) none
-larger (some y) x = cond (lt y x) (some x) (some y)
+abbrev pub keepLarger : Option Float → Float → Option Float
+keepLarger none x = cond (eq x x) (some x) none
+keepLarger (some y) x = cond (lt y x) (some x) (some y)
 
-abbrev pub kept : Option Float → Option Float → Option Float
-kept y none = y
-kept y (some x) = larger y x
+abbrev pub keepLargerIfAny : Option Float → Option Float → Option Float
+keepLargerIfAny y none = y
+keepLargerIfAny y (some x) = keepLarger y x
 
 unfoldable pub note : Noted → ℕ → Bool → Option Float → Noted
-note n i ready x = noted (firstReady (n .ready) ready i) (kept (n .largest) x)
+note n i ready x = noted (firstReady (n .ready) ready i) (keepLargerIfAny (n .largest) x)
 
 -- ---- a run
 
@@ -144,12 +144,12 @@ pub record Run : Type 0 where
   pub row : ℕ
   pub noted : Noted
 
-abbrev pub ran : ℕ → Noted → Run
-ran row n = record { row = row; noted = n }
+abbrev pub runOutcome : ℕ → Noted → Run
+runOutcome row n = record { row = row; noted = n }
 
 -- 23 too where the signal is outside its limits
 abbrev pub runRow : Settings → Signal → ℕ
 runRow s g = orElse (pairRow s) (cond (inLimits g) 0 23)
 
 unfoldable pub runOf : Settings → Signal → Run
-runOf s g = accepted (runRow s g) (ran 0 (notedOf s g)) (ran (runRow s g) (noted none none))
+runOf s g = accepted (runRow s g) (runOutcome 0 (notedOf s g)) (runOutcome (runRow s g) (noted none none))

@@ -55,26 +55,26 @@ abbrev pub learning : List Float → ℕ → Bool → List Float → Learn
 learning x t given y = learnCall x t given y false [] zero32 (pos 0) (replicate 2 zero32) (replicate 1 zero32) (replicate 1 zero32)
 
 -- what a reading leaves: the head, what is lent, and the last element of the point
-pub record Turn : Type 0 where
+pub record ReadingResult : Type 0 where
   pub head : Preprocessor
   pub lent : Lent
   pub last : Option Float
 
-abbrev pub turn : Preprocessor → Lent → Option Float → Turn
-turn h l x = record { head = h; lent = l; last = x }
+abbrev pub readingResult : Preprocessor → Lent → Option Float → ReadingResult
+readingResult h l x = record { head = h; lent = l; last = x }
 
-abbrev pub learnt : LearnOutcome → Turn
-learnt o = turn (o .head) (o .lent) none
+abbrev pub learnedResult : LearnOutcome → ReadingResult
+learnedResult o = readingResult (o .head) (o .lent) none
 
 -- the point goes to `out`
-unfoldable pub turnWith : Preprocessor → Lent → List Float → ℕ → List Float → Turn
-turnWith h l x t out =
+unfoldable pub readingResultWith : Preprocessor → Lent → List Float → ℕ → List Float → ReadingResult
+readingResultWith h l x t out =
     let o = pointAfter h l x t out in
     let q = learnAfter (o .head) (o .lent) (learning x t (o .given) (o .out)) in
-    turn (q .head) (q .lent) (optionOf (o .given) (lastOr nan (o .out)))
+    readingResult (q .head) (q .lent) (optionOf (o .given) (lastOr nan (o .out)))
 
-abbrev pub turnOf : Preprocessor → Lent → Float → ℕ → Turn
-turnOf h l x t = turnWith h l (x ∷ []) t (replicate (pointLength h) zero32)
+abbrev pub readingResultOf : Preprocessor → Lent → Float → ℕ → ReadingResult
+readingResultOf h l x t = readingResultWith h l (x ∷ []) t (replicate (pointLength h) zero32)
 
 -- ---- all readings
 
@@ -87,21 +87,21 @@ abbrev pub track : Preprocessor → Lent → Noted → Track
 track h l n = record { head = h; lent = l; noted = n }
 
 -- room for d 1, k 64 and start 1,999
-abbrev pub memory : Lent
-memory = lent (replicate 30 zero64) (replicate 64 zero32) (replicate 128 zero32) (replicate 64 0) (replicate 1999 zero32) (replicate 1999 0)
+abbrev pub settlingMemory : Lent
+settlingMemory = lent (replicate 30 zero64) (replicate 64 zero32) (replicate 128 zero32) (replicate 64 0) (replicate 1999 zero32) (replicate 1999 0)
 
-abbrev pub turned : Track → Turn → ℕ → Track
-turned p u i = track (u .head) (u .lent) (note (p .noted) i (readyOf (u .head)) (u .last))
+abbrev pub trackWith : Track → ReadingResult → ℕ → Track
+trackWith p u i = track (u .head) (u .lent) (note (p .noted) i (readyOf (u .head)) (u .last))
 
 unfoldable pub trackAfter : Float → ℕ → Track → Track
-trackAfter x i p = turned p (turnOf (p .head) (p .lent) x i) i
+trackAfter x i p = trackWith p (readingResultOf (p .head) (p .lent) x i) i
 
 abbrev pub trackFrom : Signal → Track → ℕ → Track
 trackFrom g p zero = p
 trackFrom g p (suc i) = trackAfter (valueAt g i) i (trackFrom g p i)
 
-abbrev pub built : Settings → Track
-built s = track (buildOf s memory .head) (buildOf s memory .lent) (noted none none)
+abbrev pub trackBuilt : Settings → Track
+trackBuilt s = track (buildOf s settlingMemory .head) (buildOf s settlingMemory .lent) (noted none none)
 
 abbrev pub trackAt : Settings → Signal → ℕ → Track
-trackAt s g n = trackFrom g (built s) n
+trackAt s g n = trackFrom g (trackBuilt s) n

@@ -14,7 +14,7 @@ ghost use mathlib.Core.Bool.{true};
 ghost use mathlib.Core.List.{[], _∷_};
 ghost use mathlib.Core.Option.{none};
 ghost use Rattle.trcf.specs.View.{settingsFrom, readyOf};
-ghost use Rattle.settling.specs.Settling.{inLimits, noted, firstReady, kept, note, pairRow, ran, runOf};
+ghost use Rattle.settling.specs.Settling.{inLimits, noted, firstReady, keepLargerIfAny, note, pairRow, runOutcome, runOf};
 ghost use Rattle.settling.specs.Steps.{signalOf, optionOf, notedBy, exceedsOf, trackAt};
 
 // What is noted of a run: the row, 0 for none; whether the preprocessor was found ready, and after which reading first; whether a point's last element was
@@ -73,7 +73,7 @@ fn note_ready(s: Settled, i: u64, ready: bool) -> Settled
 
 // The last element of a point, if one was given: the largest is noted, and of equal ones the first.
 fn note_last(s: Settled, given: bool, last: f32) -> Settled
-    ensures { λ r. ⌜ notedBy r ≡ noted (optionOf (s .found) (s .ready)) (kept (optionOf (s .kept) (s .largest)) (optionOf given last)) ⌝ }
+    ensures { λ r. ⌜ notedBy r ≡ noted (optionOf (s .found) (s .ready)) (keepLargerIfAny (optionOf (s .kept) (s .largest)) (optionOf given last)) ⌝ }
     ensures { λ r. ⌜ r .row ≡ s .row ⌝ }
 {
     if !given {
@@ -172,7 +172,7 @@ fn readings(builder: PreprocessorBuilder, weight: f32, signal: Signal) -> Settle
 
 // The run of the settings with this weight and code 0 on the signal, or the row that refuses them.
 pub fn run(builder: PreprocessorBuilder, weight: f32, signal: Signal) -> Settled
-    ensures { λ r. ⌜ ran (r .row) (notedBy r) ≡ runOf (settingsFrom builder (weight ∷ []) (0 ∷ [])) (signalOf signal) ⌝ }
+    ensures { λ r. ⌜ runOutcome (r .row) (notedBy r) ≡ runOf (settingsFrom builder (weight ∷ []) (0 ∷ [])) (signalOf signal) ⌝ }
 {
     let weights = [weight; 1];
     let codes = [0u16; 1];

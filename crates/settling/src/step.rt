@@ -10,7 +10,7 @@ ghost use Prim.Native.Nat.{_≤_};
 ghost use lib.Ieee.{nan};
 ghost use Rattle.trcf.specs.Lists.{lastOr};
 ghost use Rattle.trcf.specs.View.{lent, learnAfter};
-ghost use Rattle.settling.specs.Steps.{pointLength, learning, learnt, turn, turnWith, turnOf, optionOf};
+ghost use Rattle.settling.specs.Steps.{pointLength, learning, learnedResult, readingResult, readingResultWith, readingResultOf, optionOf};
 
 // The head after a reading, whether a point was given, and its last element.
 pub(crate) struct Turned {
@@ -56,8 +56,8 @@ fn learn(
     point: &[f32],
     given: bool,
 ) -> Preprocessor
-    ensures { λ r. ⌜ turn r (lent (now (statistics .exit)) (now («last_shingled_input» .exit)) (now («last_shingled_point» .exit)) (now («previous_timestamps» .exit)) (now («initial_values» .exit)) (now («initial_timestamps» .exit))) none
-        ≡ learnt (learnAfter head (lent (now (statistics .entry)) (now («last_shingled_input» .entry)) (now («last_shingled_point» .entry)) (now («previous_timestamps» .entry)) (now («initial_values» .entry)) (now («initial_timestamps» .entry)))
+    ensures { λ r. ⌜ readingResult r (lent (now (statistics .exit)) (now («last_shingled_input» .exit)) (now («last_shingled_point» .exit)) (now («previous_timestamps» .exit)) (now («initial_values» .exit)) (now («initial_timestamps» .exit))) none
+        ≡ learnedResult (learnAfter head (lent (now (statistics .entry)) (now («last_shingled_input» .entry)) (now («last_shingled_point» .entry)) (now («previous_timestamps» .entry)) (now («initial_values» .entry)) (now («initial_timestamps» .entry)))
         (learning (now (input .entry)) timestamp given (now (point .entry)))) ⌝ }
 {
     let mut deviations = [0.0f32; 2];
@@ -103,8 +103,8 @@ fn turn_with(
     timestamp: u64,
     point: &mut [f32],
 ) -> Turned
-    ensures { λ r. ⌜ turn (r .head) (lent (now (statistics .exit)) (now («last_shingled_input» .exit)) (now («last_shingled_point» .exit)) (now («previous_timestamps» .exit)) (now («initial_values» .exit)) (now («initial_timestamps» .exit))) (optionOf (r .given) (r .last))
-        ≡ turnWith head (lent (now (statistics .entry)) (now («last_shingled_input» .entry)) (now («last_shingled_point» .entry)) (now («previous_timestamps» .entry)) (now («initial_values» .entry)) (now («initial_timestamps» .entry))) (now (input .entry)) timestamp (now (point .entry)) ⌝ }
+    ensures { λ r. ⌜ readingResult (r .head) (lent (now (statistics .exit)) (now («last_shingled_input» .exit)) (now («last_shingled_point» .exit)) (now («previous_timestamps» .exit)) (now («initial_values» .exit)) (now («initial_timestamps» .exit))) (optionOf (r .given) (r .last))
+        ≡ readingResultWith head (lent (now (statistics .entry)) (now («last_shingled_input» .entry)) (now («last_shingled_point» .entry)) (now («previous_timestamps» .entry)) (now («initial_values» .entry)) (now («initial_timestamps» .entry))) (now (input .entry)) timestamp (now (point .entry)) ⌝ }
 {
     let table = every_right();
     let p = shingled_point(
@@ -154,8 +154,8 @@ pub(crate) fn step(
     value: f32,
     timestamp: u64,
 ) -> Turned
-    ensures { λ r. ⌜ turn (r .head) (lent (now (statistics .exit)) (now («last_shingled_input» .exit)) (now («last_shingled_point» .exit)) (now («previous_timestamps» .exit)) (now («initial_values» .exit)) (now («initial_timestamps» .exit))) (optionOf (r .given) (r .last))
-        ≡ turnOf head (lent (now (statistics .entry)) (now («last_shingled_input» .entry)) (now («last_shingled_point» .entry)) (now («previous_timestamps» .entry)) (now («initial_values» .entry)) (now («initial_timestamps» .entry))) value timestamp ⌝ }
+    ensures { λ r. ⌜ readingResult (r .head) (lent (now (statistics .exit)) (now («last_shingled_input» .exit)) (now («last_shingled_point» .exit)) (now («previous_timestamps» .exit)) (now («initial_values» .exit)) (now («initial_timestamps» .exit))) (optionOf (r .given) (r .last))
+        ≡ readingResultOf head (lent (now (statistics .entry)) (now («last_shingled_input» .entry)) (now («last_shingled_point» .entry)) (now («previous_timestamps» .entry)) (now («initial_values» .entry)) (now («initial_timestamps» .entry))) value timestamp ⌝ }
 {
     let input = [value; 1];
     let mut point = [0.0f32; 128];

@@ -1,4 +1,4 @@
--- The lines behind `cnt`: how many `buf` lines are to come, where the text breaks off, and what it gives.
+-- The lines after `cnt`: how many `buf` lines are to come, where the text breaks off, and what it gives.
 use Prim.Native.Nat.{ℕ, zero, suc, _+_, _*_, _≤_, _<_}
 use native.Mathlib.Omega.{arith}
 use native.Mathlib.Nat.{mul-le-mul-right}
@@ -17,14 +17,13 @@ use Rattle.trcf.specs.Settings.{Settings, waiting, block, dimension}
 use Rattle.trcf.specs.Preprocessor.{Reading}
 use Rattle.snapshot.specs.Steps.Judge.{bufBy}
 use Rattle.snapshot.specs.Read.{Counts, mayStand}
-use Rattle.snapshot.specs.Steps.Runs.{Ran, ran, broke, told, after, behindLines, mapRan, unkept, front, many, bufs, Initial, initialOf, timesOf, timeOf, Parts, expected, ending, Body, body, partsBy, partsOf, bodyBy, filledBy, Fills, HeadFew, Room, stateFrom, Good, summed}
-use Rattle.common.specs.Lent.{over}
-use Rattle.trcf.specs.View.{Lent, lent, settingsOf, laid, initialRoom, lentShort}
+use Rattle.snapshot.specs.Steps.Runs.{Ran, ran, broke, ranBy, thenLines, afterLines, mapRan, unkept, front, many, bufs, Initial, initialOf, readingTimes, timeOf, Parts, expected, ending, Body, body, partsBy, partsOf, bodyBy, filledBy, Fills, HeadFew, Room, stateFrom}
+use Rattle.refusal.specs.Lent.{over}
+use Rattle.trcf.specs.View.{Lent, lent, settingsOf, writtenOver, initialRoom, lentShort}
 use Rattle.trcf.specs.declared.head.Preprocessor.{Preprocessor}
 use Rattle.trcf.proofs.ShingleLaws.{over-part}
 use Rattle.trcf.proofs.RefusalLaws.{room-start, room-normalizing}
 use Rattle.snapshot.specs.Save.{past}
-use Rattle.snapshot.specs.declared.restore.Judged.{Judged}
 use Rattle.snapshot.proofs.Lists.{and-left, and-right}
 use Rattle.snapshot.proofs.SaveLaws.{held-of}
 
@@ -71,7 +70,7 @@ module _ {A : Type 0} (p : ℕ → List ℕ → Option (A × List ℕ)) (f : A �
       values (broke m) = []
 
       by-rest : (a : A) (r : Ran (List A)) (y : List ℕ) → ((v : List A) (x : List ℕ) → many p f (f a) n y ≡ ran v x → length v ≡ n) → many p f (f a) n y ≡ r
-          → behindLines 1 (front a r) ≡ ran u z → length u ≡ suc n
+          → afterLines 1 (front a r) ≡ ran u z → length u ≡ suc n
       by-rest a (ran v x) y g h k = ap (λ (r : Ran (List A)). length (values r)) (sym k) ∙ ap suc (g v x h)
       by-rest a (broke m) y g h k = absurd (ran-not-broke u z (1 + m) (sym k))
 
@@ -79,7 +78,7 @@ module _ {A : Type 0} (p : ℕ → List ℕ → Option (A × List ℕ)) (f : A �
       by-line g none h = absurd (ran-not-broke u z 1 (sym (rw h at e)))
       by-line g (some r) h = by-rest (r .0) (many p f (f (r .0)) n (r .1)) (r .1) (g (r .0) (r .1)) refl (rw h at e)
 
-times-length : (u : List Reading) → length (timesOf u) ≡ length u
+times-length : (u : List Reading) → length (readingTimes u) ≡ length u
 times-length [] = refl
 times-length (r ∷ u) = ap suc (times-length u)
 
@@ -195,49 +194,9 @@ module _ (s : Settings) (c : Counts) (l : List ℕ) where
       unfolding bodyBy
       body-all h = rw (sym e, sym f, ending-end (body p i) l₂ h)
 
--- ---- the body judged, of which nothing was kept
-
-abbrev judged : ℕ → ℕ → Judged
-judged bad n = record { bad = bad; count = n }
-
-module _ (s : Settings) (c : Counts) (l : List ℕ) where
-  pub judged-parts : (m : ℕ) (z : List ℕ) → (m ≡ 0 → ⊥) → told m tt z ≡ unkept (partsOf s c l) → judged m 0 ≡ summed (bodyBy s c l)
-  judged-parts zero z h e = absurd (h refl)
-  judged-parts (suc m) z h e = ap summed (body-parts s c l (suc m) (broke-of (partsOf s c l) (suc m) e))
-
-  module _ (l₁ : List ℕ) (e : ran tt l₁ ≡ unkept (partsOf s c l)) (n : ℕ) (h : n ≡ expected s c l₁) where
-    pub judged-bufs : (m : ℕ) (z : List ℕ) → (m ≡ 0 → ⊥) → told m tt z ≡ unkept (bufs (s .d) n l₁) → judged (5 * s .d + 8 + m) 0 ≡ summed (bodyBy s c l)
-    judged-bufs zero z k f = absurd (k refl)
-    judged-bufs (suc m) z k f =
-        let p = kept-of (partsOf s c l) l₁ e in
-        let b = broke-of (bufs (s .d) n l₁) (suc m) f ∙ ap (λ (x : ℕ). bufs (s .d) x l₁) h in
-        ap summed (body-bufs s c l (p .0) l₁ (p .1) (suc m) b)
-
-    module _ (l₂ : List ℕ) (f : ran tt l₂ ≡ unkept (bufs (s .d) n l₁)) where
-      pub judged-behind : 0 < length l₂ → judged (5 * s .d + 8 + n + 1) 0 ≡ summed (bodyBy s c l)
-      judged-behind k =
-          let p = kept-of (partsOf s c l) l₁ e in
-          let i = kept-of (bufs (s .d) n l₁) l₂ f in
-          let a : 5 * s .d + 8 + n + 1 ≡ 5 * s .d + 8 + (expected s c l₁ + 1) = omega (arith, h) in
-          ap (λ (x : ℕ). judged x 0) a
-          ∙ ap summed (body-behind s c l (p .0) l₁ (p .1) (i .0) l₂ (i .1 ∙ ap (λ (x : ℕ). bufs (s .d) x l₁) h) k)
-
-      pub judged-all : length l₂ ≡ 0 → judged 0 n ≡ summed (bodyBy s c l)
-      judged-all k =
-          let p = kept-of (partsOf s c l) l₁ e in
-          let i = kept-of (bufs (s .d) n l₁) l₂ f in
-          ap (judged 0) (sym (bufs-length (s .d) n l₁ (i .0) l₂ (i .1)))
-          ∙ ap summed (body-all s c l (p .0) l₁ (p .1) (i .0) l₂ (i .1 ∙ ap (λ (x : ℕ). bufs (s .d) x l₁) h) k)
-
-      pub judged-good : length l₂ ≡ 0 → Good (bodyBy s c l)
-      judged-good k =
-          let p = kept-of (partsOf s c l) l₁ e in
-          let i = kept-of (bufs (s .d) n l₁) l₂ f in
-          subst Good (body-all s c l (p .0) l₁ (p .1) (i .0) l₂ (i .1 ∙ ap (λ (x : ℕ). bufs (s .d) x l₁) h) k) tt
-
 -- ---- by the places that are lent
 
-pub unkept-of : {A : Type 0} (m : ℕ) (a : A) (z : List ℕ) (q : Ran A) → told m a z ≡ q → told m tt z ≡ unkept q
+pub unkept-of : {A : Type 0} (m : ℕ) (a : A) (z : List ℕ) (q : Ran A) → ranBy m a z ≡ q → ranBy m tt z ≡ unkept q
 unkept-of zero a z q e = ap unkept e
 unkept-of (suc m) a z q e = ap unkept e
 
@@ -265,7 +224,7 @@ unfolding held
 ran-value a b y z e = ap (held a) e
 
 module _ (s : Settings) (c : Counts) (n : ℕ) (l : List ℕ) (p : Parts) (i : Initial) where
-  pub fills-of : (m k : ℕ) (y z : List ℕ) → told m p y ≡ partsOf s c l → told k i z ≡ bufs (s .d) n y → Fills (filledBy s c n l) (body p i)
+  pub fills-of : (m k : ℕ) (y z : List ℕ) → ranBy m p y ≡ partsOf s c l → ranBy k i z ≡ bufs (s .d) n y → Fills (filledBy s c n l) (body p i)
   unfolding filledBy
   fills-of (suc m) k y z e f b x h = absurd (ran-not-broke b x (suc m) (rw (sym e) at h))
   fills-of zero (suc k) y z e f b x h = absurd (ran-not-broke b x (5 * s .d + 8 + suc k) (rw (sym e, sym f) at h))
@@ -278,8 +237,8 @@ over-back l v n h e = over-part l v n (e ∙ length-take-le n l h)
 pub laid-is : (s : Settings) (c : Counts) (b : Body) (l : Lent) (st x y : List Float) (ts : List ℕ) (v : List Float) (us : List ℕ)
     → st ≡ over (l .statistics) (b .parts .statistics) → x ≡ over (l .lastShingledInput) (b .parts .input) → y ≡ over (l .lastShingledPoint) (b .parts .point)
     → ts ≡ over (l .previousTimestamps) (b .parts .times) → v ≡ over (l .initialValues) (b .initial .values) → us ≡ over (l .initialTimestamps) (b .initial .times)
-    → lent st x y ts v us ≡ laid (stateFrom s c b) l
-unfolding laid
+    → lent st x y ts v us ≡ writtenOver (stateFrom s c b) l
+unfolding writtenOver
 laid-is s c b l st x y ts v us e₁ e₂ e₃ e₄ e₅ e₆ = λ i. lent (e₁ i) (e₂ i) (e₃ i) (e₄ i) (e₅ i) (e₆ i)
 
 -- ---- lent lists that are long enough

@@ -26,7 +26,7 @@ use Rattle.snapshot.proofs.HexLaws.{float-of, bad-length}
 use Rattle.snapshot.proofs.JudgeLaws.{field-short}
 use Rattle.snapshot.proofs.Lists.{and-left, and-right}
 
--- w bytes that end no field, and one behind them that does
+-- w bytes that end no field, and one after them that does
 clean-length : (w : ℕ) (l : List ℕ) → Clean (take w l) → w < length l → getD l w 0 ≤ 10 → fieldLength l ≡ w
 clean-length zero [] c h e = absurd (omega arith)
 clean-length zero (b ∷ l) c h e = rw (le-leb b 10 e)

@@ -16,7 +16,7 @@ use Rattle.trcf.specs.declared.types.ForestMode.the-variants.{STANDARD, «TIME_
 use Rattle.trcf.specs.Types.{methodNumber, modeLetter}
 use Rattle.trcf.specs.Settings.{All, Fits, imputes}
 use Rattle.trcf.proofs.TypeLaws.{mode-back}
-use Rattle.snapshot.specs.Text.{decimal, whole, digit, hex, width, float, Line, behind, bytesOf}
+use Rattle.snapshot.specs.Text.{decimal, whole, digit, hex, width, float, Line, tabbedFields, bytesOf}
 use Rattle.snapshot.specs.Read.{wholeFrom, undigit, hexFrom, floatFrom, modeFrom, methodFrom}
 use Rattle.snapshot.proofs.Lists.{all-append}
 
@@ -163,27 +163,27 @@ field-split (a ∷ f) (b ∷ g) x y cf cg sx sy e =
     let i : (f ≡ g) × (x ≡ y) = field-split f g x y (cf .1) (cg .1) sx sy (tail-eq-of-cons-eq e) in
     (λ t. head-eq-of-cons-eq e t ∷ i .0 t, i .1)
 
-tail-stops : (fs : List (List ℕ)) (x : List ℕ) → Stops (behind fs ++ x)
+tail-stops : (fs : List (List ℕ)) (x : List ℕ) → Stops (tabbedFields fs ++ x)
 tail-stops [] x = omega arith
 tail-stops (f ∷ fs) x = omega arith
 
 nine : {x y : List ℕ} → 10 ∷ x ≡ 9 ∷ y → ⊥
 nine e = omega (arith, head-eq-of-cons-eq e)
 
-tail-inj : (fs gs : List (List ℕ)) (x y : List ℕ) → All Clean fs → All Clean gs → behind fs ++ x ≡ behind gs ++ y → (fs ≡ gs) × (x ≡ y)
+tail-inj : (fs gs : List (List ℕ)) (x y : List ℕ) → All Clean fs → All Clean gs → tabbedFields fs ++ x ≡ tabbedFields gs ++ y → (fs ≡ gs) × (x ≡ y)
 tail-inj [] [] x y c d e = (refl, tail-eq-of-cons-eq e)
 tail-inj [] (g ∷ gs) x y c d e = absurd (nine e)
 tail-inj (f ∷ fs) [] x y c d e = absurd (nine (sym e))
 tail-inj (f ∷ fs) (g ∷ gs) x y c d e =
-    let s : (f ≡ g) × (behind fs ++ x ≡ behind gs ++ y) = field-split f g (behind fs ++ x) (behind gs ++ y) (c .0) (d .0) (tail-stops fs x) (tail-stops gs y)
-    (sym (append-assoc f (behind fs) x) ∙ tail-eq-of-cons-eq e ∙ append-assoc g (behind gs) y) in
+    let s : (f ≡ g) × (tabbedFields fs ++ x ≡ tabbedFields gs ++ y) = field-split f g (tabbedFields fs ++ x) (tabbedFields gs ++ y) (c .0) (d .0) (tail-stops fs x) (tail-stops gs y)
+    (sym (append-assoc f (tabbedFields fs) x) ∙ tail-eq-of-cons-eq e ∙ append-assoc g (tabbedFields gs) y) in
     let i : (fs ≡ gs) × (x ≡ y) = tail-inj fs gs x y (c .1) (d .1) (s .1) in
     (λ t. s .0 t ∷ i .0 t, i .1)
 
 abbrev pub CleanLine : Line → Type 0
 CleanLine l = Clean (l .name) × All Clean (l .fields)
 
-ended : (n : List ℕ) (fs : List (List ℕ)) (x : List ℕ) → [] ≡ n ++ behind fs ++ x → ⊥
+ended : (n : List ℕ) (fs : List (List ℕ)) (x : List ℕ) → [] ≡ n ++ tabbedFields fs ++ x → ⊥
 ended [] [] x e = nil≢cons e
 ended [] (f ∷ fs) x e = nil≢cons e
 ended (c ∷ n) fs x e = nil≢cons e
@@ -193,8 +193,8 @@ bytes-inj [] [] c d e = refl
 bytes-inj [] (m ∷ ms) c d e = absurd (ended (m .name) (m .fields) (bytesOf ms) e)
 bytes-inj (l ∷ ls) [] c d e = absurd (ended (l .name) (l .fields) (bytesOf ls) (sym e))
 bytes-inj (l ∷ ls) (m ∷ ms) c d e =
-    let s : (l .name ≡ m .name) × (behind (l .fields) ++ bytesOf ls ≡ behind (m .fields) ++ bytesOf ms) =
-    field-split (l .name) (m .name) (behind (l .fields) ++ bytesOf ls) (behind (m .fields) ++ bytesOf ms) (c .0 .0) (d .0 .0) (tail-stops (l .fields) (bytesOf ls)) (tail-stops (m .fields) (bytesOf ms))
-    (sym (append-assoc (l .name) (behind (l .fields)) (bytesOf ls)) ∙ e ∙ append-assoc (m .name) (behind (m .fields)) (bytesOf ms)) in
+    let s : (l .name ≡ m .name) × (tabbedFields (l .fields) ++ bytesOf ls ≡ tabbedFields (m .fields) ++ bytesOf ms) =
+    field-split (l .name) (m .name) (tabbedFields (l .fields) ++ bytesOf ls) (tabbedFields (m .fields) ++ bytesOf ms) (c .0 .0) (d .0 .0) (tail-stops (l .fields) (bytesOf ls)) (tail-stops (m .fields) (bytesOf ms))
+    (sym (append-assoc (l .name) (tabbedFields (l .fields)) (bytesOf ls)) ∙ e ∙ append-assoc (m .name) (tabbedFields (m .fields)) (bytesOf ms)) in
     let i : (l .fields ≡ m .fields) × (bytesOf ls ≡ bytesOf ms) = tail-inj (l .fields) (m .fields) (bytesOf ls) (bytesOf ms) (c .0 .1) (d .0 .1) (s .1) in
     λ t. record { name = s .0 t; fields = i .0 t } ∷ bytes-inj ls ms (c .1) (d .1) (i .1) t

@@ -10,17 +10,17 @@ use lib.Dec.{leb, ltb, eqb}
 use lib.Ieee.{Float}
 use borrow.Author.Tests.{ltb-false, leb-false}
 use Rattle.common.specs.Deviation.{outsideUnit}
-use Rattle.common.specs.Lent.{over}
+use Rattle.refusal.specs.Lent.{over}
 use Rattle.trcf.proofs.ShingleLaws.{over-part}
 use Rattle.trcf.specs.declared.types.ForestMode.{ForestMode}
 use Rattle.trcf.specs.declared.types.TransformMethod.{TransformMethod}
 use Rattle.trcf.specs.Transformer.{zero32}
 use Rattle.trcf.specs.Settings.{Settings}
 use Rattle.snapshot.specs.Read.{asWhole, Counts, withLists}
-use Rattle.snapshot.specs.Steps.Judge.{onto, byte, name, fields, modeIn, methodIn, setTest, settingsWith, settled, tailBy, Codes, chnOr, chnBy, setBy, wgtBy, cntBy}
+use Rattle.snapshot.specs.Steps.Judge.{onto, byte, name, fields, modeIn, methodIn, setTest, settingsWith, settingsIfRead, tailBy, Codes, chnOr, chnBy, setBy, wgtBy, cntBy}
 use Rattle.snapshot.proofs.Lists.{and-left, and-right}
 use Rattle.snapshot.proofs.JudgeLines.{onto-some}
-use Rattle.snapshot.specs.Steps.Runs.{Ran, ran, broke, after, oneLine, headRead, headBy, headOf, headWith, Few}
+use Rattle.snapshot.specs.Steps.Runs.{Ran, ran, broke, thenLines, oneLine, headRead, headBy, headWithCounts, headWith, Few}
 
 module _ (t : List ℕ) where
   pub head-set : none ≡ setBy t → broke 1 ≡ headBy t
@@ -47,9 +47,9 @@ module _ (t : List ℕ) where
           unfolding headBy
           head-all c l₃ q = rw (sym e, sym h, sym f, sym j′, sym q)
 
--- the weights stand in an array, and so do the codes, zeros behind them
+-- the weights stand in an array, and so do the codes, zeros after them
 pub head-is : (s : Settings) (v : List Float) (cs b : List ℕ) (c : Counts) (n : ℕ) → length v ≡ s .d → b ≡ over (replicate 16 0) cs
-    → headWith s (v ++ drop (s .d) (replicate 16 zero32)) b c ≡ headOf (headRead (withLists s v cs) c n)
+    → headWith s (v ++ drop (s .d) (replicate 16 zero32)) b c ≡ headWithCounts (headRead (withLists s v cs) c n)
 head-is s v cs b c n e g = λ i. headWith s (over-part (replicate 16 zero32) v (s .d) e i) (g i) c
 
 -- ---- what settings that are read keep to
@@ -79,7 +79,7 @@ test-few d k start stop decay h =
     }
 
 settled-few : (m : ForestMode) (k : TransformMethod) (w : List ℕ) (o : Option ((Float × Float) × List ℕ)) (r : Settings × List ℕ)
-    → settled m k w o ≡ some r → Few (r .0 .d) (r .0 .k) (r .0 .start)
+    → settingsIfRead m k w o ≡ some r → Few (r .0 .d) (r .0 .k) (r .0 .start)
 settled-few m k w none r e = absurd (Option·none-ne-some r e)
 settled-few m k w (some q) r e = go (setTest (getD w 1 0) (getD w 2 0) (getD w 3 0) (getD w 4 0) (q .0 .0)) refl
   where

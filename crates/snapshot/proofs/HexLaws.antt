@@ -281,8 +281,3 @@ module _ (f : Format) (c : List ℕ) where
 
       pub a-number : nanBits f n ≡ false → asFloat f c ≡ some (ofBits f n)
       a-number h = read-float f c n l (is-of (hscan 0 c) n e) ∙ rw h
-
-pub zero-by-zero : (f : Format) → div f (ofBits f 0) (ofBits f 0) ≡ nan
-unfolding div ofBits
-zero-by-zero binary32 = refl
-zero-by-zero binary64 = refl

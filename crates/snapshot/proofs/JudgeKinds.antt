@@ -15,10 +15,10 @@ use Rattle.trcf.specs.Settings.{Settings, All, Fits, Whole, dimension, waiting,
 use Rattle.trcf.specs.Calls.{finite, seenLimit}
 use Rattle.trcf.specs.Preprocessor.{Reading, reading}
 use mathlib.Core.Logic.{_⊎_, inl, inr}
-use Rattle.snapshot.specs.Text.{behind, whole, float, singles, chnLine, cntLine, devLine, timLine, bufLine}
-use Rattle.snapshot.specs.Read.{bytesOfLine, every, asWhole, asFloat, climbs, zeros, allCodes, same, Kind, chnKind, eitherKind, singlesKind, wgtKind, inpKind, pntKind, cntKind, Counts, devKind, Three, timKind, bufKind}
+use Rattle.snapshot.specs.Text.{tabbedFields, whole, float, singles, chnLine, cntLine, devLine, timLine, bufLine}
+use Rattle.snapshot.specs.Read.{bytesOfLine, every, asWhole, asFloat, climbs, zeros, allCodes, same, LineKind, chnKind, eitherKind, singlesKind, wgtKind, inpKind, pntKind, cntKind, Counts, devKind, Three, timKind, bufKind}
 use Rattle.snapshot.specs.Steps.Write.{tabbed}
-use Rattle.snapshot.specs.Steps.Judge.{onto, held, byte, name, one, fields, closing, listLine, checked, wgtTest, wgtBy, chnBy, eitherOf, countsOf, counted, cntTest, cntBy, timTest, timBy, timed, bufTest, bufRaw, bufBy, threeOf, threed, devBy}
+use Rattle.snapshot.specs.Steps.Judge.{onto, withRest, byte, name, one, fields, closing, listLine, checked, wgtTest, wgtBy, chnBy, eitherOf, countsOf, countsIfRead, cntTest, cntBy, timTest, timBy, timed, bufTest, bufRaw, bufBy, threeOf, threed, devBy}
 use Rattle.snapshot.proofs.Lists.{and-left, and-right, if-of, to-if}
 use Rattle.snapshot.proofs.Fields.{Clean}
 use Rattle.snapshot.proofs.ReadLine.{Hold, every-hold, hold-every, Writes}
@@ -34,13 +34,13 @@ checked-some {A} q (some s) r e = go (q (s .0)) refl
     go true h = let k : s ≡ r = Option·some-injective s r (rw h at e) in (ap some k, ap (λ (x : A × List ℕ). q (x .0)) (sym k) ∙ h)
     go false h = absurd (Option·none-ne-some r (rw h at e))
 
-reads-same : {A : Type 0} (k : Kind A) (B C : List ℕ → Option (A × List ℕ)) → ((l : List ℕ) → B l ≡ C l) → Reads k B → Reads k C
+reads-same : {A : Type 0} (k : LineKind A) (B C : List ℕ → Option (A × List ℕ)) → ((l : List ℕ) → B l ≡ C l) → Reads k B → Reads k C
 reads-same k B C e R = record {
   good = λ l r h. R .good l r (e l ∙ h);
   back = λ a z h. let b = R .back a z h in (b .0, sym (e (bytesOfLine (k .write a) ++ z)) ∙ b .1);
 }
 
--- ---- singles behind a name
+-- ---- singles after a name
 
 module _ (a b c n : ℕ) (more : List Float → List Bool) (cl : Clean (a ∷ b ∷ c ∷ [])) where
   pub singles-reads : Reads (singlesKind (a ∷ b ∷ c ∷ []) n more) (λ l. checked (λ v. every (more v)) (listLine (asFloat binary32) a b c n l))
@@ -115,7 +115,7 @@ chn-reads s = record {
 
 -- ---- one kind or the other: the lines of the second are none of the first
 
-module _ {A C : Type 0} (n : List ℕ) (p : Kind A) (q : Kind C) (P : List ℕ → Option (A × List ℕ)) (Q : List ℕ → Option (C × List ℕ)) (np : (a : A) → p .write a .name ≡ n)
+module _ {A C : Type 0} (n : List ℕ) (p : LineKind A) (q : LineKind C) (P : List ℕ → Option (A × List ℕ)) (Q : List ℕ → Option (C × List ℕ)) (np : (a : A) → p .write a .name ≡ n)
     (nq : (c : C) → same (q .write c .name) n ≡ false) (off : (c : C) (z : List ℕ) → P (bytesOfLine (q .write c) ++ z) ≡ none) where
   either-good : (l : List ℕ) → Reads p P → Reads q Q → (o : Option (A × List ℕ)) → P l ≡ o → (u : Option (C × List ℕ)) → Q l ≡ u → (r : (A ⊎ C) × List ℕ) → eitherOf o u ≡ some r
       → (l ≡ bytesOfLine (eitherKind n p q .write (r .0)) ++ r .1) × Writes (eitherKind n p q) (r .0)
@@ -171,7 +171,7 @@ dev-reads = record {
         let h = line-is (asFloat binary64) (float binary64) (λ x. T (fits binary64 x)) (float-codec binary64) 100 101 118 3 l s q in
         let f = three-fit (s .0) (h .1) (h .2) in
         subst (λ (x : Three × List ℕ). (l ≡ bytesOfLine (devKind .write (x .0)) ++ x .1) × Writes devKind (x .0)) (Option·some-injective (threeOf (s .0), s .1) r e)
-        (h .0 ∙ ap (λ (fs : List (List ℕ)). (100 ∷ 101 ∷ 118 ∷ behind fs) ++ s .1) (three-is (s .0) (h .1)), dev-writes (threeOf (s .0)) (f .0) (f .1) (f .2))
+        (h .0 ∙ ap (λ (fs : List (List ℕ)). (100 ∷ 101 ∷ 118 ∷ tabbedFields fs) ++ s .1) (three-is (s .0) (h .1)), dev-writes (threeOf (s .0)) (f .0) (f .1) (f .2))
 
 -- ---- the counters
 
@@ -199,7 +199,7 @@ module _ (s : Settings) where
   unfolding cntTest waiting
   to-cnt c h = rw (h .0, h .1 .0, h .1 .1 .0, h .1 .1 .1 .0)
 
-  cnt-good : (l : List ℕ) (o : Option (List ℕ × List ℕ)) → listLine asWhole 99 110 116 3 l ≡ o → (r : Counts × List ℕ) → checked (cntTest (s .method) (s .start)) (counted o) ≡ some r
+  cnt-good : (l : List ℕ) (o : Option (List ℕ × List ℕ)) → listLine asWhole 99 110 116 3 l ≡ o → (r : Counts × List ℕ) → checked (cntTest (s .method) (s .start)) (countsIfRead o) ≡ some r
       → (l ≡ bytesOfLine (cntKind s .write (r .0)) ++ r .1) × Writes (cntKind s) (r .0)
   unfolding cntLine
   cnt-good l none q r e = absurd (Option·none-ne-some r e)
@@ -207,7 +207,7 @@ module _ (s : Settings) where
       let k = checked-some (cntTest (s .method) (s .start)) (some (countsOf (v .0), v .1)) r e in
       let h = line-is asWhole whole (λ n. n ≤ wholeMax) whole-codec 99 110 116 3 l v q in
       let m : (countsOf (v .0), v .1) ≡ r = Option·some-injective (countsOf (v .0), v .1) r (k .0) in
-      let b : l ≡ bytesOfLine (cntKind s .write (countsOf (v .0))) ++ v .1 = h .0 ∙ ap (λ (fs : List (List ℕ)). (99 ∷ 110 ∷ 116 ∷ behind fs) ++ v .1) (counts-are (v .0) (h .1)) in
+      let b : l ≡ bytesOfLine (cntKind s .write (countsOf (v .0))) ++ v .1 = h .0 ∙ ap (λ (fs : List (List ℕ)). (99 ∷ 110 ∷ 116 ∷ tabbedFields fs) ++ v .1) (counts-are (v .0) (h .1)) in
       (subst (λ (x : Counts × List ℕ). l ≡ bytesOfLine (cntKind s .write (x .0)) ++ x .1) m b, cnt-tests (r .0) (k .1))
 
   pub cnt-reads : Reads (cntKind s) (cntBy (s .method) (s .start))
@@ -220,7 +220,7 @@ module _ (s : Settings) where
         let d : c .count ≤ countLimit = leb-true _ _ (h .1 .1 .0) in
         let e = line-back asWhole whole (λ n. n ≤ wholeMax) whole-codec 99 110 116 (c .valuesSeen ∷ c .internalTimestamp ∷ c .count ∷ []) z
         (omega (arith, a), (omega (arith, b), (omega (arith, d), tt))) in
-        (c, ap (λ (o : Option (List ℕ × List ℕ)). checked (cntTest (s .method) (s .start)) (counted o)) e ∙ rw (to-cnt c h));
+        (c, ap (λ (o : Option (List ℕ × List ℕ)). checked (cntTest (s .method) (s .start)) (countsIfRead o)) e ∙ rw (to-cnt c h));
   }
 
 -- ---- one initial value
@@ -251,7 +251,7 @@ module _ (d p : ℕ) where
       at z n t g none q f = absurd (Option·none-ne-some r f)
       at z n t g (some v) q f = go (byte 10 (v .1)) refl f
         where
-          go : (o : Option (List ℕ)) → byte 10 (v .1) ≡ o → held (reading (v .0) (t .0)) o ≡ some r → Goal r
+          go : (o : Option (List ℕ)) → byte 10 (v .1) ≡ o → withRest (reading (v .0) (t .0)) o ≡ some r → Goal r
           go none u k = absurd (Option·none-ne-some r k)
           go (some w) u k =
               let h = fields-are (asFloat binary32) (float binary32) single (float-codec binary32) d (t .1) v q in

@@ -6,19 +6,22 @@ use mathlib.Core.Path.{_≡_, refl, sym, ap, _∙_, subst}
 use mathlib.Core.Bool.{Bool, true, false, cond}
 use mathlib.Core.List.{List, [], _∷_, _++_, append-assoc, append-nil}
 use mathlib.Core.Option.{Option, none, some}
-use lib.ListN.{length, take, drop, getD, set, drop-of-length-le, length-drop, length-set}
-use lib.Seq.{drop-cons, drop-drop, take-suc-set, take-all, take-length}
+use lib.ListN.{length, take, drop, getD, set, drop-of-length-le, length-drop, length-set, take-append-drop}
+use lib.Seq.{drop-cons, drop-drop, take-suc-set, take-all, take-length, length-take-le, drop-set-lt}
 use lib.Dec.{eqb, leb}
 use types.Run.{OneOf, miss}
 use denote.Enum.Declared.{tagOf}
 use Rattle.snapshot.proofs.field.Field.{the-type}
 use lib.Ieee.{Float, binary32, binary64}
 use borrow.Author.Tests.{eqb-true, eq-eqb, ne-eqb, le-leb, lt-leb}
+use Rattle.refusal.specs.Lent.{over}
+use Rattle.trcf.proofs.ShingleLaws.{over-part}
 use Rattle.snapshot.specs.Read.{asWhole, asFloat}
 use Rattle.snapshot.specs.Scan.{singleOf, doubleOf, numberOf}
 use Rattle.snapshot.specs.Steps.Scan.{fieldOf, wholeOf}
 use Rattle.snapshot.specs.declared.field.Number.the-variants.{No, Is}
-use Rattle.snapshot.specs.Steps.Judge.{placed, onto, held, byte, name, fieldLength, fieldIn, endIn, restOf, tabbedOf, nextOf, one, before, fields, closing, listLine, Filled}
+use Rattle.snapshot.specs.Steps.Judge.{placed, onto, withRest, byte, name, fieldLength, fieldIn, endIn, restField, tabbedOf, nextOf}
+use Rattle.snapshot.specs.Steps.Judge.{one, before, fields, led, goodFields, lineFirsts, bufFirsts, closing, listLine}
 use Rattle.snapshot.specs.Steps.Likely.{fromOf}
 use Rattle.snapshot.specs.declared.field.Field.{Field}
 use Rattle.snapshot.specs.declared.field.Field.the-variants.{Single, Double, Whole, Bad}
@@ -81,11 +84,11 @@ module _ (k : ℕ) (t : List ℕ) (i : ℕ) where
   pub next-tabbed : k < 4 → tabbedOf k i t ≡ nextOf k i t
   next-tabbed h = rw (lt-leb 4 k h)
 
-  pub next-rest : 4 ≤ k → restOf (k - 4) i t ≡ nextOf k i t
+  pub next-rest : 4 ≤ k → restField (k - 4) i t ≡ nextOf k i t
   next-rest h = rw (le-leb 4 k h)
 
   -- what lies from there on, or nothing
-  pub rest-is : (from : ℕ) (f : Field) → drop from t ≡ drop i t → from ≤ length t → f ≡ fieldOf k (take (length t - from) (drop from t)) → record { field = f; end = length t } ≡ restOf k i t
+  pub rest-is : (from : ℕ) (f : Field) → drop from t ≡ drop i t → from ≤ length t → f ≡ fieldOf k (take (length t - from) (drop from t)) → record { field = f; end = length t } ≡ restField k i t
   rest-is from f e h g =
       let a : take (length t - from) (drop from t) ≡ drop i t = take-all (length t - from) (drop from t) (omega (arith, length-drop from t)) ∙ e in
       λ j. record { field = (g ∙ ap (fieldOf k) a) j; end = length t }
@@ -142,16 +145,24 @@ module _ {A : Type 0} (p : List ℕ → Option A) where
   sub-zero : (n : ℕ) → n - 0 ≡ n
   sub-zero n = omega arith
 
-  -- i of n fields are read into `out`, and z is left
-  pub record Sofar (n : ℕ) (l : List ℕ) (out : List A) (i : ℕ) (z : List ℕ) : Type 0 where
+  -- i of n fields are read into `out`, which is as it was after them, and z is left
+  pub record Sofar (n : ℕ) (l : List ℕ) (old out : List A) (i : ℕ) (z : List ℕ) : Type 0 where
     pub some-left : i ≤ n
     pub long : length out ≡ n
     pub so : fields p n l ≡ before (take i out) (fields p (n - i) z)
+    pub came : goodFields p n l ≡ take i out ++ goodFields p (n - i) z
+    pub behind : drop i out ≡ drop i old
 
-  pub sofar-none : (l : List ℕ) (out : List A) → Sofar (length out) l out 0 l
-  sofar-none l out = record { some-left = omega arith; long = refl; so = sym (ap (λ (n : ℕ). before [] (fields p n l)) (sub-zero (length out)) ∙ before-nil (fields p (length out) l)) }
+  pub sofar-none : (l : List ℕ) (out : List A) → Sofar (length out) l out out 0 l
+  sofar-none l out = record {
+    some-left = omega arith;
+    long = refl;
+    so = sym (ap (λ (n : ℕ). before [] (fields p n l)) (sub-zero (length out)) ∙ before-nil (fields p (length out) l));
+    came = sym (ap (λ (n : ℕ). goodFields p n l) (sub-zero (length out)));
+    behind = refl;
+  }
 
-  module _ (n : ℕ) (l : List ℕ) (out : List A) (i : ℕ) (z : List ℕ) (s : Sofar n l out i z) where
+  module _ (n : ℕ) (l : List ℕ) (old out : List A) (i : ℕ) (z : List ℕ) (s : Sofar n l old out i z) where
     turn : i < n → fields p (n - i) z ≡ onto (one p z) (λ r. before (r .0 ∷ []) (fields p (n - (i + 1)) (r .1)))
     turn h = let e : n - i ≡ suc (n - (i + 1)) = omega arith in rw e
 
@@ -161,14 +172,45 @@ module _ {A : Type 0} (p : List ℕ → Option A) where
     turn-no : i < n → one p z ≡ none → fields p (n - i) z ≡ none
     turn-no h e = rw e at (turn h)
 
-    pub sofar-step : i < n → (x : A) (y : List ℕ) → one p z ≡ some (x, y) → Sofar n l (set out i x) (i + 1) y
+    first-turn : i < n → goodFields p (n - i) z ≡ led (one p z) (λ r. r .0 ∷ goodFields p (n - (i + 1)) (r .1))
+    first-turn h = let e : n - i ≡ suc (n - (i + 1)) = omega arith in rw e
+
+    first-yes : i < n → (x : A) (y : List ℕ) → one p z ≡ some (x, y) → goodFields p (n - i) z ≡ x ∷ goodFields p (n - (i + 1)) y
+    first-yes h x y e = rw e at (first-turn h)
+
+    first-no : i < n → one p z ≡ none → goodFields p (n - i) z ≡ []
+    first-no h e = rw e at (first-turn h)
+
+    taken-set : i < n → (x : A) → take i out ++ (x ∷ []) ≡ take (i + 1) (set out i x)
+    taken-set h x = sym (rw (add-one i) (take-suc-set out i x (omega (arith, s .long))))
+
+    dropped-set : (x : A) → drop (i + 1) (set out i x) ≡ drop (i + 1) out
+    dropped-set x = drop-set-lt (i + 1) out i x (omega arith)
+
+    pub sofar-step : i < n → (x : A) (y : List ℕ) → one p z ≡ some (x, y) → Sofar n l old (set out i x) (i + 1) y
     sofar-step h x y e = record {
       some-left = omega arith;
       long = length-set out i x ∙ s .long;
       so = s .so ∙ ap (before (take i out)) (turn-yes h x y e)
           ∙ before-before (take i out) (x ∷ []) (fields p (n - (i + 1)) y)
-          ∙ ap (λ (u : List A). before u (fields p (n - (i + 1)) y)) (sym (rw (add-one i) (take-suc-set out i x (omega (arith, s .long)))));
+          ∙ ap (λ (u : List A). before u (fields p (n - (i + 1)) y)) (taken-set h x);
+      came = s .came ∙ ap (λ (u : List A). take i out ++ u) (first-yes h x y e)
+          ∙ sym (append-assoc (take i out) (x ∷ []) (goodFields p (n - (i + 1)) y))
+          ∙ ap (λ (u : List A). u ++ goodFields p (n - (i + 1)) y) (taken-set h x);
+      behind = dropped-set x ∙ sym (drop-drop 1 i out) ∙ ap (drop 1) (s .behind) ∙ drop-drop 1 i old;
     }
+
+    left-of : goodFields p (n - i) z ≡ [] → out ≡ over old (goodFields p n l)
+    left-of e =
+        let q : goodFields p n l ≡ take i out = s .came ∙ ap (λ (u : List A). take i out ++ u) e ∙ append-nil (take i out) in
+        let k : length (take i out) ≡ i = length-take-le i out (omega (arith, s .some-left, s .long)) in
+        sym (take-append-drop i out) ∙ ap (λ (u : List A). take i out ++ u) (s .behind) ∙ over-part old (take i out) i k ∙ ap (over old) (sym q)
+
+    pub left-stop : i < n → one p z ≡ none → out ≡ over old (goodFields p n l)
+    left-stop h e = left-of (first-no h e)
+
+    pub left-done : i ≡ n → out ≡ over old (goodFields p n l)
+    left-done e = let m : n - i ≡ 0 = omega arith in left-of (ap (λ (k : ℕ). goodFields p k z) m)
 
     pub sofar-stop : i < n → one p z ≡ none → none ≡ fields p n l
     sofar-stop h e = sym (s .so ∙ ap (before (take i out)) (turn-no h e))
@@ -255,17 +297,50 @@ module _ (o : Option ℕ) (f : Field) (h : f ≡ wholeOf o) where
 -- ---- a line of fields of one kind
 
 module _ {A : Type 0} where
-  pub got-list : (r : Place) (t : List ℕ) (v : List A) (o : Option (List A × List ℕ)) (n : ℕ) → r ≡ At n → held v (placed r t) ≡ o → some (v, drop n t) ≡ o
+  pub got-list : (r : Place) (t : List ℕ) (v : List A) (o : Option (List A × List ℕ)) (n : ℕ) → r ≡ At n → withRest v (placed r t) ≡ o → some (v, drop n t) ≡ o
   got-list r t v o n e h = rw e at h
 
-  pub got-one : (r : Place) (t : List ℕ) (v : A) (o : Option (A × List ℕ)) (n : ℕ) → r ≡ At n → held v (placed r t) ≡ o → some (v, drop n t) ≡ o
+  pub got-one : (r : Place) (t : List ℕ) (v : A) (o : Option (A × List ℕ)) (n : ℕ) → r ≡ At n → withRest v (placed r t) ≡ o → some (v, drop n t) ≡ o
   got-one r t v o n e h = rw e at h
 
-  pub lost-one : (r : Place) (t : List ℕ) (v : A) (o : Option (A × List ℕ)) → r ≡ Nowhere → held v (placed r t) ≡ o → none ≡ o
+  pub lost-one : (r : Place) (t : List ℕ) (v : A) (o : Option (A × List ℕ)) → r ≡ Nowhere → withRest v (placed r t) ≡ o → none ≡ o
   lost-one r t v o e h = rw e at h
 
-  pub lost-list : (r : Place) (t : List ℕ) (v : List A) (o : Option (List A × List ℕ)) → r ≡ Nowhere → held v (placed r t) ≡ o → none ≡ o
+  pub lost-list : (r : Place) (t : List ℕ) (v : List A) (o : Option (List A × List ℕ)) → r ≡ Nowhere → withRest v (placed r t) ≡ o → none ≡ o
   lost-list r t v o e h = rw e at h
+
+over-none : {A : Type 0} (old : List A) → old ≡ over old []
+unfolding over
+over-none old = refl
+
+module _ {A : Type 0} (p : List ℕ → Option A) (a b c n : ℕ) (l : List ℕ) (old : List A) where
+  pub left-nameless : none ≡ name a b c l → old ≡ over old (lineFirsts p a b c n l)
+  left-nameless e = over-none old ∙ ap (λ (o : Option (List ℕ)). over old (led o (goodFields p n))) e
+
+  pub left-named : (z : List ℕ) → some z ≡ name a b c l → (new : List A) → new ≡ over old (goodFields p n z) → new ≡ over old (lineFirsts p a b c n l)
+  left-named z e new h = h ∙ ap (λ (o : Option (List ℕ)). over old (led o (goodFields p n))) e
+
+-- the same of a `buf` line, whose first field is a time
+module _ (d : ℕ) (l : List ℕ) (old : List Float) where
+  numbers : Option (ℕ × List ℕ) → List Float
+  numbers o = led o (λ t. goodFields (asFloat binary32) d (t .1))
+
+  pub buf-left-nameless : none ≡ name 98 117 102 l → old ≡ over old (bufFirsts d l)
+  unfolding numbers
+  buf-left-nameless e = over-none old ∙ ap (λ (o : Option (List ℕ)). over old (led o (λ z. numbers (one asWhole z)))) e
+
+  module _ (z : List ℕ) (e : some z ≡ name 98 117 102 l) where
+    buf-named : numbers (one asWhole z) ≡ bufFirsts d l
+    unfolding numbers
+    buf-named = ap (λ (o : Option (List ℕ)). led o (λ z. numbers (one asWhole z))) e
+
+    pub buf-left-timeless : one asWhole z ≡ none → old ≡ over old (bufFirsts d l)
+    unfolding numbers
+    buf-left-timeless h = over-none old ∙ ap (λ (o : Option (ℕ × List ℕ)). over old (numbers o)) (sym h) ∙ ap (over old) buf-named
+
+    pub buf-left : (t : ℕ) (y : List ℕ) → one asWhole z ≡ some (t, y) → (new : List Float) → new ≡ over old (goodFields (asFloat binary32) d y) → new ≡ over old (bufFirsts d l)
+    unfolding numbers
+    buf-left t y h new q = q ∙ ap (λ (o : Option (ℕ × List ℕ)). over old (numbers o)) (sym h) ∙ ap (over old) buf-named
 
 module _ {A : Type 0} (p : List ℕ → Option A) (a b c n : ℕ) (l : List ℕ) where
   pub line-nameless : none ≡ name a b c l → none ≡ listLine p a b c n l
@@ -280,5 +355,5 @@ module _ {A : Type 0} (p : List ℕ → Option A) (a b c n : ℕ) (l : List ℕ)
     pub line-bad : none ≡ fields p n z → none ≡ listLine p a b c n l
     line-bad h = ap closing h ∙ line-named
 
-    pub line-good : (v : List A) (y : List ℕ) (o : Option (List ℕ)) → some (v, y) ≡ fields p n z → o ≡ byte 10 y → held v o ≡ listLine p a b c n l
-    line-good v y o h q = ap (held v) q ∙ ap closing h ∙ line-named
+    pub line-good : (v : List A) (y : List ℕ) (o : Option (List ℕ)) → some (v, y) ≡ fields p n z → o ≡ byte 10 y → withRest v o ≡ listLine p a b c n l
+    line-good v y o h q = ap (withRest v) q ∙ ap closing h ∙ line-named

@@ -11,10 +11,10 @@ use lib.Dec.{T, eqb, leb}
 use lib.Ieee.{Float, Format, binary32, binary64, fits}
 use borrow.Author.Tests.{eqb-true, eq-eqb, ne-eqb, le-leb, lt-leb}
 use Rattle.trcf.specs.Settings.{All, Fits, Whole, wholeMax}
-use Rattle.snapshot.specs.Text.{Line, named, behind, whole, float, singles}
-use Rattle.snapshot.specs.Read.{join, lines, bytesOfLine, asWhole, asFloat, Kind, judge, Plan, line, Read, bad, later, ended, next, follow}
+use Rattle.snapshot.specs.Text.{Line, named, tabbedFields, whole, float, singles}
+use Rattle.snapshot.specs.Read.{join, lines, bytesOfLine, asWhole, asFloat, LineKind, judge, Plan, planLine, Read, bad, later, ended, readThen, follow}
 use Rattle.snapshot.specs.Steps.Write.{tabbed}
-use Rattle.snapshot.specs.Steps.Judge.{onto, held, byte, name, fieldLength, one, before, fields, closing, listLine, checked, via}
+use Rattle.snapshot.specs.Steps.Judge.{onto, withRest, byte, name, fieldLength, one, before, fields, closing, listLine, checked, via}
 use Rattle.snapshot.proofs.Fields.{Clean, CleanLine, whole-clean, float-clean}
 use Rattle.snapshot.proofs.HexLaws.{float-of, of-float}
 use Rattle.snapshot.proofs.ScanLaws.{whole-of, of-whole}
@@ -124,7 +124,7 @@ module _ {A : Type 0} (p : List ℕ → Option A) (w : A → List ℕ) (P : A �
         at none f g = absurd (Option·none-ne-some r g)
         at (some s) f g = go (byte 10 (s .1)) refl g
           where
-            go : (o : Option (List ℕ)) → byte 10 (s .1) ≡ o → held (s .0) o ≡ some r → (l ≡ bytesOfLine (named (a ∷ b ∷ c ∷ []) (map w (r .0))) ++ r .1) × (length (r .0) ≡ n) × All P (r .0)
+            go : (o : Option (List ℕ)) → byte 10 (s .1) ≡ o → withRest (s .0) o ≡ some r → (l ≡ bytesOfLine (named (a ∷ b ∷ c ∷ []) (map w (r .0))) ++ r .1) × (length (r .0) ≡ n) × All P (r .0)
             go none u k = absurd (Option·none-ne-some r k)
             go (some z) u k =
                 let q = onto-some (name a b c l) (fields p n) s f in
@@ -151,19 +151,19 @@ whole-codec = record { sound = whole-of; back = of-whole; clean = whole-clean }
 
 -- ---- a kind of line that is read so, and one step of the reading
 
-module _ {A : Type 0} (k : Kind A) (B : List ℕ → Option (A × List ℕ)) where
+module _ {A : Type 0} (k : LineKind A) (B : List ℕ → Option (A × List ℕ)) where
   pub record Reads : Type 0 where
     pub good : (l : List ℕ) (r : A × List ℕ) → B l ≡ some r → (l ≡ bytesOfLine (k .write (r .0)) ++ r .1) × Writes k (r .0)
     pub back : (a : A) (z : List ℕ) → Hold (k .tests a) → (b : A) × (B (bytesOfLine (k .write a) ++ z) ≡ some (b, z))
 
-  pub step : Reads → (f : A → Plan) (l : List ℕ) → follow (line none A k f) (lines l) ≡ via (B l) (λ a z. later (follow (f a) (lines z)))
+  pub step : Reads → (f : A → Plan) (l : List ℕ) → follow (planLine none A k f) (lines l) ≡ via (B l) (λ a z. later (follow (f a) (lines z)))
   step R f l = go (B l) refl
     where
       taken : (r : A × List ℕ) → (l ≡ bytesOfLine (k .write (r .0)) ++ r .1) × Writes k (r .0) → lines l ≡ bytesOfLine (k .write (r .0)) ∷ lines (r .1)
       taken r h =
           let L = k .write (r .0) in
-          ap lines (h .0 ∙ append-assoc (L .name) (behind (L .fields)) (r .1))
-          ∙ lines-clean (L .name) (behind (L .fields) ++ r .1) (behind (L .fields)) (lines (r .1)) (h .1 .clean .0) (lines-tail (L .fields) (r .1) (h .1 .clean .1))
+          ap lines (h .0 ∙ append-assoc (L .name) (tabbedFields (L .fields)) (r .1))
+          ∙ lines-clean (L .name) (tabbedFields (L .fields) ++ r .1) (tabbedFields (L .fields)) (lines (r .1)) (h .1 .clean .0) (lines-tail (L .fields) (r .1) (h .1 .clean .1))
 
       refused : (b : List ℕ) (bs : List (List ℕ)) → lines l ≡ b ∷ bs → B l ≡ none → (o : Option A) → judge k b ≡ o → o ≡ none
       refused b bs e n none q = refl
@@ -173,12 +173,12 @@ module _ {A : Type 0} (k : Kind A) (B : List ℕ → Option (A × List ℕ)) whe
           let c = R .back a (join bs) (j .1) in
           absurd (Option·none-ne-some (c .0, join bs) (sym n ∙ ap B (sym m) ∙ c .1))
 
-      missed : (ls : List (List ℕ)) → lines l ≡ ls → B l ≡ none → follow (line none A k f) ls ≡ bad 1
+      missed : (ls : List (List ℕ)) → lines l ≡ ls → B l ≡ none → follow (planLine none A k f) ls ≡ bad 1
       missed [] e n = refl
       missed (b ∷ bs) e n = rw (refused b bs e n (judge k b) refl)
 
-      go : (o : Option (A × List ℕ)) → B l ≡ o → follow (line none A k f) (lines l) ≡ via o (λ a z. later (follow (f a) (lines z)))
+      go : (o : Option (A × List ℕ)) → B l ≡ o → follow (planLine none A k f) (lines l) ≡ via o (λ a z. later (follow (f a) (lines z)))
       go none e = missed (lines l) refl e
       go (some r) e =
           let h = R .good l r e in
-          ap (follow (line none A k f)) (taken r h) ∙ rw (judge-back k (r .0) (h .1))
+          ap (follow (planLine none A k f)) (taken r h) ∙ rw (judge-back k (r .0) (h .1))

@@ -18,10 +18,10 @@ use Rattle.trcf.specs.Settings.{Settings, All, Fits, Whole, wholeMax, imputes}
 use Rattle.trcf.specs.declared.types.TransformMethod.{TransformMethod}
 use Rattle.trcf.specs.declared.types.TransformMethod.the-variants.{NONE, WEIGHTED, DIFFERENCE, «SUBTRACT_MA», NORMALIZE, «NORMALIZE_DIFFERENCE»}
 use Rattle.trcf.specs.declared.types.ForestMode.{ForestMode}
-use Rattle.snapshot.specs.Text.{behind, whole, float, setLine}
+use Rattle.snapshot.specs.Text.{tabbedFields, whole, float, setLine}
 use Rattle.snapshot.specs.Read.{bytesOfLine, asWhole, asFloat, setKind, withLists}
 use Rattle.snapshot.specs.Steps.Write.{tabbed, setBytes}
-use Rattle.snapshot.specs.Steps.Judge.{onto, held, byte, name, one, fields, modeNamed, modeIn, methodIn, setTest, tailBy, settingsWith, settled, setBy}
+use Rattle.snapshot.specs.Steps.Judge.{onto, withRest, byte, name, one, fields, modeNamed, modeIn, methodIn, setTest, tailBy, settingsWith, settingsIfRead, setBy}
 use Rattle.snapshot.proofs.Lists.{and-left, and-right}
 use Rattle.snapshot.proofs.ReadLine.{Hold, Writes}
 use Rattle.snapshot.proofs.ReadKinds.{fit-of, to-fits, set-writes, valid-of, zero-codes}
@@ -88,13 +88,13 @@ ending y u z = 9 ∷ (float binary64 y ++ (9 ∷ (float binary32 u ++ (10 ∷ z)
 tail-is : (l : List ℕ) (r : (Float × Float) × List ℕ) → tailBy l ≡ some r → (l ≡ ending (r .0 .0) (r .0 .1) (r .1)) × double (r .0 .0) × single (r .0 .1)
 unfolding tailBy
 tail-is l r e =
-    let a = onto-some (one (asFloat binary64) l) (λ y. onto (one (asFloat binary32) (y .1)) (λ x. held (y .0, x .0) (byte 10 (x .1)))) r e in
-    let b = onto-some (one (asFloat binary32) (a .0 .1)) (λ x. held (a .0 .0, x .0) (byte 10 (x .1))) r (a .2) in
+    let a = onto-some (one (asFloat binary64) l) (λ y. onto (one (asFloat binary32) (y .1)) (λ x. withRest (y .0, x .0) (byte 10 (x .1)))) r e in
+    let b = onto-some (one (asFloat binary32) (a .0 .1)) (λ x. withRest (a .0 .0, x .0) (byte 10 (x .1))) r (a .2) in
     go (a .0) (one-is (asFloat binary64) (float binary64) double (float-codec binary64) l (a .0) (a .1))
     (b .0) (one-is (asFloat binary32) (float binary32) single (float-codec binary32) (a .0 .1) (b .0) (b .1)) (byte 10 (b .0 .1)) refl (b .2)
   where
     go : (y : Float × List ℕ) → (l ≡ 9 ∷ (float binary64 (y .0) ++ y .1)) × double (y .0) → (x : Float × List ℕ) → (y .1 ≡ 9 ∷ (float binary32 (x .0) ++ x .1)) × single (x .0)
-        → (o : Option (List ℕ)) → byte 10 (x .1) ≡ o → held (y .0, x .0) o ≡ some r → (l ≡ ending (r .0 .0) (r .0 .1) (r .1)) × double (r .0 .0) × single (r .0 .1)
+        → (o : Option (List ℕ)) → byte 10 (x .1) ≡ o → withRest (y .0, x .0) o ≡ some r → (l ≡ ending (r .0 .0) (r .0 .1) (r .1)) × double (r .0 .0) × single (r .0 .1)
     go y f x g none u k = absurd (Option·none-ne-some r k)
     go y f x g (some z) u k =
         subst (λ (q : (Float × Float) × List ℕ). (l ≡ ending (q .0 .0) (q .0 .1) (q .1)) × double (q .0 .0) × single (q .0 .1))
@@ -117,7 +117,7 @@ set-split : (s : Settings) (z : List ℕ)
 unfolding setLine
 set-split s z =
     let T = tabbed (map whole (methodNumber (s .method) ∷ s .d ∷ s .k ∷ s .start ∷ s .stop ∷ [])) in
-    let B = behind (float binary64 (s .decay) ∷ float binary32 (s .weightTime) ∷ []) in
+    let B = tabbedFields (float binary64 (s .decay) ∷ float binary32 (s .weightTime) ∷ []) in
     ap (λ (l : List ℕ). l ++ z) (sym (set-bytes (modeLetter (s .mode)) (methodNumber (s .method)) (s .d) (s .k) (s .start) (s .stop) (s .decay) (s .weightTime)))
     ∙ ap (λ (l : List ℕ). 115 ∷ 101 ∷ 116 ∷ 9 ∷ modeLetter (s .mode) ∷ l)
     (append-assoc T B z
@@ -181,7 +181,7 @@ Read l r = (l ≡ bytesOfLine (setLine (r .0)) ++ r .1) × Writes setKind (r .0)
 set-tested : (l : List ℕ) (m : ForestMode) (t : TransformMethod) (w : List ℕ) (q : (Float × Float) × List ℕ) (r : Settings × List ℕ)
     → imputes m ≡ false → length w ≡ 5 → All small w → double (q .0 .0) → single (q .0 .1) → methodNumber t ≡ getD w 0 0
     → l ≡ 115 ∷ 101 ∷ 116 ∷ 9 ∷ modeLetter m ∷ (tabbed (map whole w) ++ ending (q .0 .0) (q .0 .1) (q .1))
-    → settled m t w (some q) ≡ some r → Read l r
+    → settingsIfRead m t w (some q) ≡ some r → Read l r
 set-tested l m t w q r i n a b c j e f = go (setTest (getD w 1 0) (getD w 2 0) (getD w 3 0) (getD w 4 0) (q .0 .0)) refl
   where
     s : Settings
@@ -202,11 +202,11 @@ set-good : (l : List ℕ) (r : Settings × List ℕ) → setBy l ≡ some r → 
 unfolding setBy
 set-good l r e =
     let a = onto-some (onto (name 115 101 116 l) (byte 9))
-    (λ z. onto (modeIn z) (λ m. onto (fields asWhole 5 (drop 1 z)) (λ w. onto (methodIn (getD (w .0) 0 0)) (λ t. settled m t (w .0) (tailBy (w .1)))))) r e in
+    (λ z. onto (modeIn z) (λ m. onto (fields asWhole 5 (drop 1 z)) (λ w. onto (methodIn (getD (w .0) 0 0)) (λ t. settingsIfRead m t (w .0) (tailBy (w .1)))))) r e in
     let n = onto-some (name 115 101 116 l) (byte 9) (a .0) (a .1) in
-    let b = onto-some (modeIn (a .0)) (λ m. onto (fields asWhole 5 (drop 1 (a .0))) (λ w. onto (methodIn (getD (w .0) 0 0)) (λ t. settled m t (w .0) (tailBy (w .1))))) r (a .2) in
-    let c = onto-some (fields asWhole 5 (drop 1 (a .0))) (λ w. onto (methodIn (getD (w .0) 0 0)) (λ t. settled (b .0) t (w .0) (tailBy (w .1)))) r (b .2) in
-    let d = onto-some (methodIn (getD (c .0 .0) 0 0)) (λ t. settled (b .0) t (c .0 .0) (tailBy (c .0 .1))) r (c .2) in
+    let b = onto-some (modeIn (a .0)) (λ m. onto (fields asWhole 5 (drop 1 (a .0))) (λ w. onto (methodIn (getD (w .0) 0 0)) (λ t. settingsIfRead m t (w .0) (tailBy (w .1))))) r (a .2) in
+    let c = onto-some (fields asWhole 5 (drop 1 (a .0))) (λ w. onto (methodIn (getD (w .0) 0 0)) (λ t. settingsIfRead (b .0) t (w .0) (tailBy (w .1)))) r (b .2) in
+    let d = onto-some (methodIn (getD (c .0 .0) 0 0)) (λ t. settingsIfRead (b .0) t (c .0 .0) (tailBy (c .0 .1))) r (c .2) in
     let m = mode-of (a .0) (b .0) (b .1) in
     let f = fields-are asWhole whole small whole-codec 5 (drop 1 (a .0)) (c .0) (c .1) in
     let z : l ≡ 115 ∷ 101 ∷ 116 ∷ 9 ∷ modeLetter (b .0) ∷ (tabbed (map whole (c .0 .0)) ++ c .0 .1) =
@@ -216,7 +216,7 @@ set-good l r e =
   where
     go : (m : ForestMode) (t : TransformMethod) (w : List ℕ × List ℕ) → imputes m ≡ false → length (w .0) ≡ 5 → All small (w .0) → methodNumber t ≡ getD (w .0) 0 0
         → l ≡ 115 ∷ 101 ∷ 116 ∷ 9 ∷ modeLetter m ∷ (tabbed (map whole (w .0)) ++ w .1)
-        → (o : Option ((Float × Float) × List ℕ)) → tailBy (w .1) ≡ o → settled m t (w .0) o ≡ some r → Read l r
+        → (o : Option ((Float × Float) × List ℕ)) → tailBy (w .1) ≡ o → settingsIfRead m t (w .0) o ≡ some r → Read l r
     go m t w i n a j z none u k = absurd (Option·none-ne-some r k)
     go m t w i n a j z (some q) u k =
         let h = tail-is (w .1) q u in
@@ -254,14 +254,14 @@ set-back s z h =
     let y = ending (s .decay) (s .weightTime) z in
     let l = tabbed (map whole v) ++ y in
     let e : tailBy y ≡ some ((s .decay, s .weightTime), z) = tail-back (s .decay) (s .weightTime) z (fit-of binary64 (s .decay) (h .1 .1 .1 .1 .1 .1 .1 .1 .0)) (fit-of binary32 (s .weightTime) (h .1 .1 .1 .1 .1 .1 .1 .1 .1 .0)) in
-    let t : settled (s .mode) (s .method) v (some ((s .decay, s .weightTime), z)) ≡ some (withLists s [] [], z) = rw (test-of s h) in
+    let t : settingsIfRead (s .mode) (s .method) v (some ((s .decay, s .weightTime), z)) ≡ some (withLists s [] [], z) = rw (test-of s h) in
     ap setBy (set-split s z)
-    ∙ ap (λ (o : Option ForestMode). onto o (λ m. onto (fields asWhole 5 l) (λ w. onto (methodIn (getD (w .0) 0 0)) (λ t. settled m t (w .0) (tailBy (w .1))))))
+    ∙ ap (λ (o : Option ForestMode). onto o (λ m. onto (fields asWhole 5 l) (λ w. onto (methodIn (getD (w .0) 0 0)) (λ t. settingsIfRead m t (w .0) (tailBy (w .1))))))
     (mode-back (s .mode) l (mode-not (s .mode) (h .0)))
-    ∙ ap (λ (o : Option (List ℕ × List ℕ)). onto o (λ w. onto (methodIn (getD (w .0) 0 0)) (λ t. settled (s .mode) t (w .0) (tailBy (w .1)))))
+    ∙ ap (λ (o : Option (List ℕ × List ℕ)). onto o (λ w. onto (methodIn (getD (w .0) 0 0)) (λ t. settingsIfRead (s .mode) t (w .0) (tailBy (w .1)))))
     (fields-back asWhole whole small whole-codec v y (all-small s h) refl)
-    ∙ ap (λ (o : Option TransformMethod). onto o (λ t. settled (s .mode) t v (tailBy y))) (method-back (s .method))
-    ∙ ap (settled (s .mode) (s .method) v) e
+    ∙ ap (λ (o : Option TransformMethod). onto o (λ t. settingsIfRead (s .mode) t v (tailBy y))) (method-back (s .method))
+    ∙ ap (settingsIfRead (s .mode) (s .method) v) e
     ∙ t
 
 pub set-reads : Reads setKind setBy

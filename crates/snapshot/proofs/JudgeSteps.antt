@@ -1,4 +1,4 @@
--- One step of the reading for each line of the plan: what the code reads of the line, and the reading behind it.
+-- One step of the reading for each line of the plan: what the code reads of the line, and the reading after it.
 use Prim.Native.Nat.{ℕ, suc, _+_, _*_}
 use mathlib.Core.Path.{_≡_, refl}
 use mathlib.Core.List.{List, _∷_, _++_}

@@ -32,7 +32,6 @@ pub mod PartLaws
 pub mod HeadLaws
 pub mod BodyLaws
 pub mod ReadRuns
-pub mod RestoreLaws
 pub mod CodeLaws
 pub mod RoundTrip
 pub mod SaveSamples

@@ -8,7 +8,7 @@ use mathlib.Core.List.{List, [], _∷_, _++_, map, append-assoc}
 use lib.ListN.{length, take, drop, getD, length-append, length-drop}
 use lib.Seq.{drop-cons, drop-drop}
 use lib.Ieee.{Float, nan, binary32, binary64}
-use Rattle.snapshot.specs.Text.{whole, float, behind, singles, chnLine, cntLine, devLine, devLines, timLine, bufLine, bufLines}
+use Rattle.snapshot.specs.Text.{whole, float, tabbedFields, singles, chnLine, cntLine, devLine, devLines, timLine, bufLine, bufLines}
 use Rattle.snapshot.specs.Read.{bytesOfLine}
 use Rattle.snapshot.specs.Steps.Write.{tabbed, setBytes}
 use Rattle.snapshot.proofs.WriteLaws.{float-length, floats-length, behind-tabbed}
@@ -98,12 +98,12 @@ pub five-size : (m d k a b : ℕ)
     → length (tabbed (map whole (m ∷ d ∷ k ∷ a ∷ b ∷ []))) ≡ 5 + length (whole m) + length (whole d) + length (whole k) + length (whole a) + length (whole b)
 five-size m d k a b = simp length-append (omega arith)
 
-tabbed-behind : (fs gs : List (List ℕ)) → tabbed fs ++ behind gs ≡ behind (fs ++ gs)
+tabbed-behind : (fs gs : List (List ℕ)) → tabbed fs ++ tabbedFields gs ≡ tabbedFields (fs ++ gs)
 tabbed-behind [] gs = refl
-tabbed-behind (f ∷ fs) gs = ap (λ (t : List ℕ). 9 ∷ t) (append-assoc f (tabbed fs) (behind gs) ∙ ap (λ (t : List ℕ). f ++ t) (tabbed-behind fs gs))
+tabbed-behind (f ∷ fs) gs = ap (λ (t : List ℕ). 9 ∷ t) (append-assoc f (tabbed fs) (tabbedFields gs) ∙ ap (λ (t : List ℕ). f ++ t) (tabbed-behind fs gs))
 
 pub set-bytes : (l m d k a b : ℕ) (x y : Float)
-    → 115 ∷ 101 ∷ 116 ∷ 9 ∷ l ∷ (tabbed (map whole (m ∷ d ∷ k ∷ a ∷ b ∷ [])) ++ behind (float binary64 x ∷ float binary32 y ∷ []))
+    → 115 ∷ 101 ∷ 116 ∷ 9 ∷ l ∷ (tabbed (map whole (m ∷ d ∷ k ∷ a ∷ b ∷ [])) ++ tabbedFields (float binary64 x ∷ float binary32 y ∷ []))
     ≡ setBytes l m d k a b x y
 set-bytes l m d k a b x y =
     ap (λ (t : List ℕ). 115 ∷ 101 ∷ 116 ∷ 9 ∷ l ∷ t)

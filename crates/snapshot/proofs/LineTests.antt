@@ -15,22 +15,22 @@ use Rattle.trcf.specs.Calls.{finite, seenLimit}
 use Rattle.trcf.specs.Preprocessor.{Reading, reading}
 use Rattle.trcf.specs.declared.types.TransformMethod.{TransformMethod}
 use Rattle.snapshot.specs.Read.{asWhole, asFloat, climbs, zeros, Counts}
-use Rattle.snapshot.specs.Steps.Judge.{placed, onto, held, byte, name, one, fields, closing, listLine, checked, wgtTest, cntTest, cntBy, countsOf, countsRead, counted, timTest, timed, bufTest, bufRaw, bufBy}
+use Rattle.snapshot.specs.Steps.Judge.{placed, onto, withRest, byte, name, one, fields, closing, listLine, checked, wgtTest, cntTest, cntBy, countsOf, countsRead, countsIfRead, timTest, timed, bufTest, bufRaw, bufBy}
 use Rattle.snapshot.specs.declared.piece.Place.{Place}
 use Rattle.snapshot.specs.declared.piece.Place.the-variants.{At, Nowhere}
 
-module _ {A : Type 0} (q : A → Bool) (a : A) (r : Place) (t : List ℕ) (o : Option (A × List ℕ)) (e : held a (placed r t) ≡ o) where
-  pub check-yes : q a ≡ true → held a (placed r t) ≡ checked q o
+module _ {A : Type 0} (q : A → Bool) (a : A) (r : Place) (t : List ℕ) (o : Option (A × List ℕ)) (e : withRest a (placed r t) ≡ o) where
+  pub check-yes : q a ≡ true → withRest a (placed r t) ≡ checked q o
   check-yes h = go r ∙ ap (checked q) e
     where
-      go : (p : Place) → held a (placed p t) ≡ checked q (held a (placed p t))
+      go : (p : Place) → withRest a (placed p t) ≡ checked q (withRest a (placed p t))
       go (At n) = rw h
       go Nowhere = refl
 
   pub check-no : q a ≡ false → none ≡ checked q o
   check-no h = go r ∙ ap (checked q) e
     where
-      go : (p : Place) → none ≡ checked q (held a (placed p t))
+      go : (p : Place) → none ≡ checked q (withRest a (placed p t))
       go (At n) = rw h
       go Nowhere = refl
 
@@ -94,21 +94,21 @@ module _ (m : TransformMethod) (start seen internal count : ℕ) where
         unfolding cntTest
         cnt-past d = rw (le-leb seen seenLimit a, le-leb internal seenLimit b, le-leb count countLimit c, d)
 
-module _ (m : TransformMethod) (start : ℕ) (r : Place) (t l new : List ℕ) (e : held new (placed r t) ≡ listLine asWhole 99 110 116 3 l) where
-  count-told : held (countsOf new) (placed r t) ≡ counted (listLine asWhole 99 110 116 3 l)
-  count-told = go r ∙ ap counted e
+module _ (m : TransformMethod) (start : ℕ) (r : Place) (t l new : List ℕ) (e : withRest new (placed r t) ≡ listLine asWhole 99 110 116 3 l) where
+  count-told : withRest (countsOf new) (placed r t) ≡ countsIfRead (listLine asWhole 99 110 116 3 l)
+  count-told = go r ∙ ap countsIfRead e
     where
-      go : (p : Place) → held (countsOf new) (placed p t) ≡ counted (held new (placed p t))
+      go : (p : Place) → withRest (countsOf new) (placed p t) ≡ countsIfRead (withRest new (placed p t))
       go (At n) = refl
       go Nowhere = refl
 
-  pub cnt-good : cntTest m start (countsOf new) ≡ true → held (countsOf new) (placed r t) ≡ cntBy m start l
+  pub cnt-good : cntTest m start (countsOf new) ≡ true → withRest (countsOf new) (placed r t) ≡ cntBy m start l
   unfolding cntBy
-  cnt-good h = check-yes (cntTest m start) (countsOf new) r t (counted (listLine asWhole 99 110 116 3 l)) count-told h
+  cnt-good h = check-yes (cntTest m start) (countsOf new) r t (countsIfRead (listLine asWhole 99 110 116 3 l)) count-told h
 
   pub cnt-bad : cntTest m start (countsOf new) ≡ false → none ≡ cntBy m start l
   unfolding cntBy
-  cnt-bad h = check-no (cntTest m start) (countsOf new) r t (counted (listLine asWhole 99 110 116 3 l)) count-told h
+  cnt-bad h = check-no (cntTest m start) (countsOf new) r t (countsIfRead (listLine asWhole 99 110 116 3 l)) count-told h
 
 -- ---- one initial value
 
@@ -135,13 +135,13 @@ module _ (d p : ℕ) (l : List ℕ) where
       buf-bad g = ap (λ (o : Option (List Float × List ℕ)). checked (bufTest p) (closing (timed time o))) g ∙ at-fields
 
       module _ (v : List Float) (x : List ℕ) (g : some (v, x) ≡ fields (asFloat binary32) d y) where
-        at-end : checked (bufTest p) (held (reading v time) (byte 10 x)) ≡ bufBy d p l
+        at-end : checked (bufTest p) (withRest (reading v time) (byte 10 x)) ≡ bufBy d p l
         at-end = ap (λ (o : Option (List Float × List ℕ)). checked (bufTest p) (closing (timed time o))) g ∙ at-fields
 
         fails : bufTest p (reading v time) ≡ false → none ≡ bufBy d p l
         fails h = go (byte 10 x) ∙ at-end
           where
-            go : (o : Option (List ℕ)) → none ≡ checked (bufTest p) (held (reading v time) o)
+            go : (o : Option (List ℕ)) → none ≡ checked (bufTest p) (withRest (reading v time) o)
             go none = refl
             go (some w) = rw h
 
@@ -153,12 +153,12 @@ module _ (d p : ℕ) (l : List ℕ) where
         unfolding bufTest
         buf-infinite h i = fails (rw (le-leb p time h, i))
 
-        pub buf-good : p ≤ time → finite v ≡ true → (o : Option (List ℕ)) → o ≡ byte 10 x → held (reading v time) o ≡ bufBy d p l
-        buf-good h i o q = ap (held (reading v time)) q ∙ go (byte 10 x) ∙ at-end
+        pub buf-good : p ≤ time → finite v ≡ true → (o : Option (List ℕ)) → o ≡ byte 10 x → withRest (reading v time) o ≡ bufBy d p l
+        buf-good h i o q = ap (withRest (reading v time)) q ∙ go (byte 10 x) ∙ at-end
           where
             test : bufTest p (reading v time) ≡ true
             test = good p time v h i
 
-            go : (o : Option (List ℕ)) → held (reading v time) o ≡ checked (bufTest p) (held (reading v time) o)
+            go : (o : Option (List ℕ)) → withRest (reading v time) o ≡ checked (bufTest p) (withRest (reading v time) o)
             go none = refl
             go (some w) = rw test

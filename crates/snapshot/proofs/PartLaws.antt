@@ -6,10 +6,10 @@ use mathlib.Core.Option.{Option, none, some}
 use lib.Ieee.{Float, binary32}
 use Rattle.snapshot.specs.Read.{asFloat}
 use Rattle.snapshot.specs.Steps.Judge.{listLine, timBy}
-use Rattle.snapshot.specs.Steps.Runs.{Ran, ran, broke, told, after, oneLine, behindLines, devs, Parts, parts, partsBy}
+use Rattle.snapshot.specs.Steps.Runs.{Ran, ran, broke, ranBy, thenLines, oneLine, afterLines, devs, Parts, parts, partsBy}
 
 module _ (internal n x y k : ℕ) (l : List ℕ) where
-  pub parts-broke : (m : ℕ) (st : List Float) (b : Parts) (z : List ℕ) → told m st z ≡ devs n l → (m ≡ 0 → ⊥) → told m b z ≡ partsBy internal n x y k l
+  pub parts-broke : (m : ℕ) (st : List Float) (b : Parts) (z : List ℕ) → ranBy m st z ≡ devs n l → (m ≡ 0 → ⊥) → ranBy m b z ≡ partsBy internal n x y k l
   unfolding partsBy
   parts-broke zero st b z e h = absurd (h refl)
   parts-broke (suc m) st b z e h = rw (sym e)

@@ -9,12 +9,12 @@ use Rattle.trcf.specs.Settings.{block, dimension, waiting, allOne}
 use Rattle.trcf.specs.Calls.{finite}
 use Rattle.trcf.specs.Preprocessor.{State, fresh}
 use Rattle.snapshot.specs.Text.{render, linesBy, bodyLines, setLine, singles, chnLine, cntLine, devLine, timLine, bufLine, whole, float}
-use Rattle.snapshot.specs.Read.{carries, kept, Read, taken, bad, read, judge, floatFrom, mayStand, asWhole}
+use Rattle.snapshot.specs.Read.{carries, withChannelLine, Read, taken, bad, read, judge, floatFrom, mayStand, asWhole}
 use lib.ListN.{replicate}
-use Rattle.common.specs.Lent.{over}
-use Rattle.trcf.specs.View.{Lent, lent, lentShort, laid, noHead}
-use Rattle.snapshot.specs.Restore.{outcome, restored, restoreOf}
-use Rattle.snapshot.specs.Steps.Ascii.{bytes}
+use Rattle.refusal.specs.Lent.{over}
+use Rattle.trcf.specs.View.{Lent, lent, lentShort, writtenOver, noHead}
+use Rattle.snapshot.specs.Restore.{restoreOutcome, restored, restoreOf}
+use Rattle.snapshot.specs.Ascii.{ascii}
 use Rattle.snapshot.proofs.ReadText.{sample}
 
 -- to unfold this is to unfold whatever its line names
@@ -25,187 +25,187 @@ read·all = tt
 -- ---- lines
 
 abbrev setL : List ℕ
-setL = bytes "set\tS\t0\t1\t1\t10\t20\t0000000000000000\t3f800000\n"
+setL = ascii "set\tS\t0\t1\t1\t10\t20\t0000000000000000\t3f800000\n"
 
 abbrev wgtL : List ℕ
-wgtL = bytes "wgt\t3f800000\n"
+wgtL = ascii "wgt\t3f800000\n"
 
 abbrev cntL : List ℕ
-cntL = bytes "cnt\t0\t0\t0\n"
+cntL = ascii "cnt\t0\t0\t0\n"
 
 abbrev devL : List ℕ
-devL = bytes "dev\t0000000000000000\t0000000000000000\t0000000000000000\n"
+devL = ascii "dev\t0000000000000000\t0000000000000000\t0000000000000000\n"
 
 abbrev inpL : List ℕ
-inpL = bytes "inp\t00000000\n"
+inpL = ascii "inp\t00000000\n"
 
 abbrev pntL : List ℕ
-pntL = bytes "pnt\t00000000\n"
+pntL = ascii "pnt\t00000000\n"
 
 abbrev timL : List ℕ
-timL = bytes "tim\t0\n"
+timL = ascii "tim\t0\n"
 
 abbrev set4L : List ℕ
-set4L = bytes "set\tS\t4\t1\t1\t2\t20\t0000000000000000\t3f800000\n"
+set4L = ascii "set\tS\t4\t1\t1\t2\t20\t0000000000000000\t3f800000\n"
 
 abbrev cnt1L : List ℕ
-cnt1L = bytes "cnt\t1\t0\t0\n"
+cnt1L = ascii "cnt\t1\t0\t0\n"
 
 abbrev cnt2L : List ℕ
-cnt2L = bytes "cnt\t2\t0\t0\n"
+cnt2L = ascii "cnt\t2\t0\t0\n"
 
 abbrev cnt3L : List ℕ
-cnt3L = bytes "cnt\t3\t1\t1\n"
+cnt3L = ascii "cnt\t3\t1\t1\n"
 
 abbrev cnt3wL : List ℕ
-cnt3wL = bytes "cnt\t1\t1\t0\n"
+cnt3wL = ascii "cnt\t1\t1\t0\n"
 
 abbrev buf5L : List ℕ
-buf5L = bytes "buf\t5\t00000000\n"
+buf5L = ascii "buf\t5\t00000000\n"
 
 abbrev buf6L : List ℕ
-buf6L = bytes "buf\t6\t3f800000\n"
+buf6L = ascii "buf\t6\t3f800000\n"
 
 abbrev bufinfL : List ℕ
-bufinfL = bytes "buf\t6\t7f800000\n"
+bufinfL = ascii "buf\t6\t7f800000\n"
 
 abbrev decay1L : List ℕ
-decay1L = bytes "set\tS\t0\t1\t1\t10\t20\t3ff0000000000000\t3f800000\n"
+decay1L = ascii "set\tS\t0\t1\t1\t10\t20\t3ff0000000000000\t3f800000\n"
 
 abbrev leadL : List ℕ
-leadL = bytes "set\tS\t0\t01\t1\t10\t20\t0000000000000000\t3f800000\n"
+leadL = ascii "set\tS\t0\t01\t1\t10\t20\t0000000000000000\t3f800000\n"
 
 abbrev startL : List ℕ
-startL = bytes "set\tS\t0\t1\t1\t21\t20\t0000000000000000\t3f800000\n"
+startL = ascii "set\tS\t0\t1\t1\t21\t20\t0000000000000000\t3f800000\n"
 
 abbrev wgt2L : List ℕ
-wgt2L = bytes "wgt\t40000000\n"
+wgt2L = ascii "wgt\t40000000\n"
 
 abbrev wgtupL : List ℕ
-wgtupL = bytes "wgt\t3F800000\n"
+wgtupL = ascii "wgt\t3F800000\n"
 
 abbrev wgtnanL : List ℕ
-wgtnanL = bytes "wgt\t7fc00001\n"
+wgtnanL = ascii "wgt\t7fc00001\n"
 
 abbrev devnanL : List ℕ
-devnanL = bytes "dev\t7ff8000000000000\t0000000000000000\t0000000000000000\n"
+devnanL = ascii "dev\t7ff8000000000000\t0000000000000000\t0000000000000000\n"
 
 abbrev devbadL : List ℕ
-devbadL = bytes "dev\t7ff8000000000001\t0000000000000000\t0000000000000000\n"
+devbadL = ascii "dev\t7ff8000000000001\t0000000000000000\t0000000000000000\n"
 
 abbrev devcutL : List ℕ
-devcutL = bytes "dev\t0000000000000000\t0000000000000000\n"
+devcutL = ascii "dev\t0000000000000000\t0000000000000000\n"
 
 abbrev tim1L : List ℕ
-tim1L = bytes "tim\t1\n"
+tim1L = ascii "tim\t1\n"
 
 abbrev timcutL : List ℕ
-timcutL = bytes "tim\t0"
+timcutL = ascii "tim\t0"
 
 abbrev timcrL : List ℕ
-timcrL = bytes "tim\t0\r\n"
+timcrL = ascii "tim\t0\r\n"
 
 abbrev cntbigL : List ℕ
-cntbigL = bytes "cnt\t9223372036854775808\t0\t0\n"
+cntbigL = ascii "cnt\t9223372036854775808\t0\t0\n"
 
 abbrev set0L : List ℕ
-set0L = bytes "set\tS\t5\t1\t1\t0\t20\t0000000000000000\t3f800000\n"
+set0L = ascii "set\tS\t5\t1\t1\t0\t20\t0000000000000000\t3f800000\n"
 
 abbrev cnt030L : List ℕ
-cnt030L = bytes "cnt\t0\t3\t0\n"
+cnt030L = ascii "cnt\t0\t3\t0\n"
 
 abbrev cnt300L : List ℕ
-cnt300L = bytes "cnt\t3\t0\t0\n"
+cnt300L = ascii "cnt\t3\t0\t0\n"
 
 abbrev cnt210L : List ℕ
-cnt210L = bytes "cnt\t2\t1\t0\n"
+cnt210L = ascii "cnt\t2\t1\t0\n"
 
 abbrev stopbigL : List ℕ
-stopbigL = bytes "set\tS\t0\t1\t1\t10\t18446744073709551616\t0000000000000000\t3f800000\n"
+stopbigL = ascii "set\tS\t0\t1\t1\t10\t18446744073709551616\t0000000000000000\t3f800000\n"
 
 abbrev k65L : List ℕ
-k65L = bytes "set\tS\t0\t1\t65\t10\t20\t0000000000000000\t3f800000\n"
+k65L = ascii "set\tS\t0\t1\t65\t10\t20\t0000000000000000\t3f800000\n"
 
 abbrev setTL : List ℕ
-setTL = bytes "set\tT\t1\t2\t2\t0\t20\t3fe0000000000000\t3f800000\n"
+setTL = ascii "set\tT\t1\t2\t2\t0\t20\t3fe0000000000000\t3f800000\n"
 
 abbrev wgtTL : List ℕ
-wgtTL = bytes "wgt\t40000000\tbf800000\n"
+wgtTL = ascii "wgt\t40000000\tbf800000\n"
 
 abbrev inpTL : List ℕ
-inpTL = bytes "inp\t00000000\t00000000\t00000000\t00000000\n"
+inpTL = ascii "inp\t00000000\t00000000\t00000000\t00000000\n"
 
 abbrev pntTL : List ℕ
-pntTL = bytes "pnt\t00000000\t00000000\t00000000\t00000000\t00000000\t00000000\n"
+pntTL = ascii "pnt\t00000000\t00000000\t00000000\t00000000\t00000000\t00000000\n"
 
 abbrev timTL : List ℕ
-timTL = bytes "tim\t7\t9\n"
+timTL = ascii "tim\t7\t9\n"
 
 abbrev timTfL : List ℕ
-timTfL = bytes "tim\t9\t7\n"
+timTfL = ascii "tim\t9\t7\n"
 
 abbrev cntTL : List ℕ
-cntTL = bytes "cnt\t2\t2\t2\n"
+cntTL = ascii "cnt\t2\t2\t2\n"
 
 abbrev restL : List ℕ
-restL = bytes "x"
+restL = ascii "x"
 
 abbrev lfL : List ℕ
-lfL = bytes "\n"
+lfL = ascii "\n"
 
 abbrev row1L : List ℕ
-row1L = bytes "set\tI\t0\t1\t1\t10\t20\t0000000000000000\t3f800000\n"
+row1L = ascii "set\tI\t0\t1\t1\t10\t20\t0000000000000000\t3f800000\n"
 
 abbrev method6L : List ℕ
-method6L = bytes "set\tS\t6\t1\t1\t10\t20\t0000000000000000\t3f800000\n"
+method6L = ascii "set\tS\t6\t1\t1\t10\t20\t0000000000000000\t3f800000\n"
 
 abbrev d0L : List ℕ
-d0L = bytes "set\tS\t0\t0\t1\t10\t20\t0000000000000000\t3f800000\n"
+d0L = ascii "set\tS\t0\t0\t1\t10\t20\t0000000000000000\t3f800000\n"
 
 abbrev k0L : List ℕ
-k0L = bytes "set\tS\t0\t1\t0\t10\t20\t0000000000000000\t3f800000\n"
+k0L = ascii "set\tS\t0\t1\t0\t10\t20\t0000000000000000\t3f800000\n"
 
 abbrev d17L : List ℕ
-d17L = bytes "set\tS\t0\t17\t1\t10\t20\t0000000000000000\t3f800000\n"
+d17L = ascii "set\tS\t0\t17\t1\t10\t20\t0000000000000000\t3f800000\n"
 
 abbrev d2L : List ℕ
-d2L = bytes "set\tS\t0\t2\t1\t10\t20\t0000000000000000\t3f800000\n"
+d2L = ascii "set\tS\t0\t2\t1\t10\t20\t0000000000000000\t3f800000\n"
 
 abbrev late8L : List ℕ
-late8L = bytes "set\tS\t0\t1\t1\t2000\t2000\t0000000000000000\t3f800000\n"
+late8L = ascii "set\tS\t0\t1\t1\t2000\t2000\t0000000000000000\t3f800000\n"
 
 abbrev start501L : List ℕ
-start501L = bytes "set\tS\t0\t1\t1\t501\t501\t0000000000000000\t3f800000\n"
+start501L = ascii "set\tS\t0\t1\t1\t501\t501\t0000000000000000\t3f800000\n"
 
 abbrev start1999L : List ℕ
-start1999L = bytes "set\tS\t0\t1\t1\t1999\t1999\t0000000000000000\t3f800000\n"
+start1999L = ascii "set\tS\t0\t1\t1\t1999\t1999\t0000000000000000\t3f800000\n"
 
 abbrev stopMaxL : List ℕ
-stopMaxL = bytes "set\tS\t0\t1\t1\t10\t18446744073709551615\t0000000000000000\t3f800000\n"
+stopMaxL = ascii "set\tS\t0\t1\t1\t10\t18446744073709551615\t0000000000000000\t3f800000\n"
 
 abbrev decayMinusL : List ℕ
-decayMinusL = bytes "set\tS\t0\t1\t1\t10\t20\t8000000000000000\t3f800000\n"
+decayMinusL = ascii "set\tS\t0\t1\t1\t10\t20\t8000000000000000\t3f800000\n"
 
 abbrev wgt1mL : List ℕ
-wgt1mL = bytes "wgt\tbf800000\n"
+wgt1mL = ascii "wgt\tbf800000\n"
 
 abbrev devmoreL : List ℕ
-devmoreL = bytes "dev\t0000000000000000\t0000000000000000\t0000000000000000\t0000000000000000\n"
+devmoreL = ascii "dev\t0000000000000000\t0000000000000000\t0000000000000000\t0000000000000000\n"
 
 abbrev cntoldL : List ℕ
-cntoldL = bytes "cnt\t0\t0\t2147483647\n"
+cntoldL = ascii "cnt\t0\t0\t2147483647\n"
 
 abbrev cnttopL : List ℕ
-cnttopL = bytes "cnt\t0\t0\t9007199254740990\n"
+cnttopL = ascii "cnt\t0\t0\t9007199254740990\n"
 
 abbrev cntlimitL : List ℕ
-cntlimitL = bytes "cnt\t0\t0\t9007199254740991\n"
+cntlimitL = ascii "cnt\t0\t0\t9007199254740991\n"
 
 abbrev cntupL : List ℕ
-cntupL = bytes "CNT\t0\t0\t0\n"
+cntupL = ascii "CNT\t0\t0\t0\n"
 
 abbrev emptyFieldL : List ℕ
-emptyFieldL = bytes "cnt\t0\t0\t0\t\n"
+emptyFieldL = ascii "cnt\t0\t0\t0\t\n"
 
 abbrev ten : List ℕ → List ℕ
 ten l = l ++ (l ++ (l ++ (l ++ (l ++ (l ++ (l ++ (l ++ (l ++ l))))))))
@@ -217,7 +217,7 @@ abbrev ends : List ℕ
 ends = inpL ++ (pntL ++ timL)
 
 abbrev chnL : List ℕ
-chnL = bytes "chn\t0\n"
+chnL = ascii "chn\t0\n"
 
 abbrev text : List ℕ → List ℕ → List ℕ → List ℕ → List ℕ → List ℕ
 text s w c e r = s ++ (w ++ (c ++ (ten devL ++ (e ++ r))))
@@ -237,12 +237,12 @@ coded-read : read (text setL wgtL (chnL ++ cntL) ends []) ≡ taken (fresh sampl
 unfolding read·all
 coded-read = refl
 
-bare-kept : kept 1 (text setL wgtL cntL ends []) ≡ text setL wgtL (chnL ++ cntL) ends []
-unfolding read·all kept carries
+bare-kept : withChannelLine 1 (text setL wgtL cntL ends []) ≡ text setL wgtL (chnL ++ cntL) ends []
+unfolding read·all withChannelLine carries
 bare-kept = refl
 
 -- one code too many, and one past 16 bits: line 3; codes twice: line 4
-codes-bad : (read (text setL wgtL (bytes "chn\t0\t0\n" ++ cntL) ends []) ≡ bad 3) × (read (text setL wgtL (bytes "chn\t65536\n" ++ cntL) ends []) ≡ bad 3)
+codes-bad : (read (text setL wgtL (ascii "chn\t0\t0\n" ++ cntL) ends []) ≡ bad 3) × (read (text setL wgtL (ascii "chn\t65536\n" ++ cntL) ends []) ≡ bad 3)
     × (read (text setL wgtL (chnL ++ (chnL ++ cntL)) ends []) ≡ bad 4)
 unfolding read·all
 codes-bad = (refl, refl, refl)
@@ -411,12 +411,12 @@ no-tim : read (text setL wgtL cntL (inpL ++ pntL) []) ≡ bad 16
 unfolding read·all
 no-tim = refl
 
--- bytes behind
+-- bytes after it
 behind : read (text setL wgtL cntL ends restL) ≡ bad 17
 unfolding read·all
 behind = refl
 
--- an empty line behind
+-- an empty line after it
 behind-lf : read (text setL wgtL cntL ends lfL) ≡ bad 17
 unfolding read·all
 behind-lf = refl
@@ -475,7 +475,7 @@ bare = lent (replicate 30 nan) (nan ∷ []) (nan ∷ []) (7 ∷ []) [] []
 -- row 8 from below: start 501 and 1,999, and no memory for readings that wait
 start-below : (restoreOf (text start501L wgtL cntL ends []) (0 ∷ []) bare .row ≡ 0) × (restoreOf (text start501L wgtL cntL ends []) (0 ∷ []) bare .head .«start_normalization» ≡ 501)
     × (restoreOf (text start1999L wgtL cntL ends []) (0 ∷ []) bare .row ≡ 0) × (restoreOf (text start1999L wgtL cntL ends []) (0 ∷ []) bare .head .«start_normalization» ≡ 1999)
-unfolding read·all restoreOf restored lentShort laid over
+unfolding read·all restoreOf restored lentShort writtenOver over
 start-below = (refl, refl, refl, refl)
 
 start-large : read (text late8L wgtL cntL ends []) ≡ bad 1
@@ -539,21 +539,22 @@ pub restored-waiting : (restoreOf waitingText (0 ∷ []) (memory (4 ∷ 6 ∷ []
     × (restoreOf waitingText (0 ∷ []) (memory (4 ∷ 6 ∷ [])) .head .«initial_len» ≡ 1)
     × (restoreOf waitingText (0 ∷ []) (memory (4 ∷ 6 ∷ [])) .lent .initialTimestamps ≡ 5 ∷ 6 ∷ [])
     × (restoreOf waitingText (0 ∷ []) (memory (4 ∷ 6 ∷ [])) .lent .previousTimestamps ≡ 0 ∷ 8 ∷ [])
-unfolding read·all restoreOf restored lentShort laid over
+unfolding read·all restoreOf restored lentShort writtenOver over
 restored-waiting = (refl, refl, refl, refl)
 
 -- row 20: start initial times do not fit
-pub restored-short : restoreOf waitingText (0 ∷ []) (memory (4 ∷ [])) ≡ outcome 20 0 noHead (memory (4 ∷ []))
+pub restored-short : restoreOf waitingText (0 ∷ []) (memory (4 ∷ [])) ≡ restoreOutcome 20 0 noHead (memory (4 ∷ []))
 unfolding read·all restoreOf restored lentShort
 restored-short = refl
 
 -- row 19: the `buf` line is missing, the line after the last; and a bad third line
-pub restored-bad : (restoreOf (set4L ++ (wgtL ++ (cnt1L ++ (ten devL ++ (inpL ++ (pntL ++ timL)))))) (0 ∷ []) (memory []) ≡ outcome 19 17 noHead (memory []))
-    × (restoreOf (set4L ++ (wgtL ++ inpL)) (0 ∷ []) (memory []) ≡ outcome 19 3 noHead (memory []))
+pub restored-bad : (restoreOf (set4L ++ (wgtL ++ (cnt1L ++ (ten devL ++ (inpL ++ (pntL ++ timL)))))) (0 ∷ []) (memory []) ≡ restoreOutcome 19 17 noHead (memory []))
+    × (restoreOf (set4L ++ (wgtL ++ inpL)) (0 ∷ []) (memory []) ≡ restoreOutcome 19 3 noHead (memory []))
 unfolding read·all restoreOf restored
 restored-bad = (refl, refl)
 
 -- row 27, before 20: another code, and codes in another number
-pub restored-other : (restoreOf waitingText (1 ∷ []) (memory (4 ∷ [])) ≡ outcome 27 0 noHead (memory (4 ∷ []))) × (restoreOf waitingText [] (memory (4 ∷ [])) ≡ outcome 27 0 noHead (memory (4 ∷ [])))
+pub restored-other : (restoreOf waitingText (1 ∷ []) (memory (4 ∷ [])) ≡ restoreOutcome 27 0 noHead (memory (4 ∷ []))) ×
+    (restoreOf waitingText [] (memory (4 ∷ [])) ≡ restoreOutcome 27 0 noHead (memory (4 ∷ [])))
 unfolding read·all restoreOf restored
 restored-other = (refl, refl)

@@ -18,7 +18,7 @@ use Rattle.trcf.specs.Calls.{finite, seenLimit}
 use Rattle.trcf.specs.Preprocessor.{Reading}
 use Rattle.snapshot.specs.Form.{Climbs}
 use Rattle.snapshot.specs.Text.{whole, float, setLine, singles, chnLine, cntLine, devLine, timLine, bufLine}
-use Rattle.snapshot.specs.Read.{wholeFrom, floatFrom, methodFrom, every, allFit, allWhole, climbs, zeros, Kind, setKind, singlesKind, wgtKind, cntKind, Counts, devKind, Three, timKind, bufKind, allCodes, same, chnKind, eitherKind, withLists}
+use Rattle.snapshot.specs.Read.{wholeFrom, floatFrom, methodFrom, every, allFit, allWhole, climbs, zeros, LineKind, setKind, singlesKind, wgtKind, cntKind, Counts, devKind, Three, timKind, bufKind, allCodes, same, chnKind, eitherKind, withLists}
 use Rattle.snapshot.proofs.Lists.{and-left, and-right, if-of, to-if, all-replicate}
 use Rattle.snapshot.proofs.Accepted.{rows-of, row-none}
 use Rattle.snapshot.proofs.Fields.{whole-from, float-from, mode-is, method-is, Clean, whole-clean, float-clean, floats-clean, wholes-clean, letter-clean}
@@ -195,7 +195,7 @@ chn-writes s cs l m = record { clean = (omega arith, wholes-clean cs); back = va
 pub zero-codes : (s : Settings) → Hold (chnKind s .tests (replicate (s .d) 0))
 zero-codes s = (eq-eqb _ _ (length-replicate (s .d) 0), (to-codes (replicate (s .d) 0) (all-replicate {A = ℕ} _ (s .d) 0 (omega arith)), tt))
 
-module _ {A B : Type 0} (n : List ℕ) (p : Kind A) (q : Kind B) where
+module _ {A B : Type 0} (n : List ℕ) (p : LineKind A) (q : LineKind B) where
   pub either-left : (a : A) → p .write a .name ≡ n → Writes p a → Writes (eitherKind n p q) (inl a)
   either-left a e h = record { clean = h .clean; back = rw (e, same-refl n, sym e) (ap inl (h .back)); holds = h .holds }
 

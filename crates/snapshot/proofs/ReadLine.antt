@@ -8,8 +8,8 @@ use mathlib.Core.Option.{Option, none, some, Option·some-injective, Option·non
 use lib.Dec.{leb, ltb, eqb}
 use borrow.Author.Tests.{eqb-true, eq-eqb, ne-eqb, le-leb, lt-leb}
 use Rattle.trcf.specs.Settings.{All}
-use Rattle.snapshot.specs.Text.{Line, named, behind, bytesOf}
-use Rattle.snapshot.specs.Read.{push, lines, join, bytesOfLine, cells, every, same, Kind, judge}
+use Rattle.snapshot.specs.Text.{Line, named, tabbedFields, bytesOf}
+use Rattle.snapshot.specs.Read.{push, lines, join, bytesOfLine, cells, every, same, LineKind, judge}
 use Rattle.snapshot.proofs.Fields.{Clean, CleanLine}
 use Rattle.snapshot.proofs.Lists.{and-left, and-right}
 
@@ -55,7 +55,7 @@ pub bytes-join : (ls : List Line) → bytesOf ls ≡ join (map bytesOfLine ls)
 bytes-join [] = refl
 bytes-join (l ∷ ls) = ap (λ (t : List ℕ). bytesOfLine l ++ t) (bytes-join ls)
 
--- a clean beginning belongs to the line, and to the cell, behind it
+-- a clean beginning belongs to the line, and to the cell, after it
 pub lines-clean : (f y z : List ℕ) (zs : List (List ℕ)) → Clean f → lines y ≡ z ∷ zs → lines (f ++ y) ≡ (f ++ z) ∷ zs
 lines-clean [] y z zs c e = e
 lines-clean (b ∷ f) y z zs c e = rw (ne-eqb b 10 (λ q. omega (arith, c .0)), lines-clean f y z zs (c .1) e)
@@ -64,26 +64,26 @@ cells-clean : (f y : List ℕ) (zs : List (List ℕ)) → Clean f → cells y �
 cells-clean [] y zs c e = e
 cells-clean (b ∷ f) y zs c e = rw (lt-leb b 10 (c .0), cells-clean f y zs (c .1) e)
 
-pub lines-tail : (fs : List (List ℕ)) (x : List ℕ) → All Clean fs → lines (behind fs ++ x) ≡ behind fs ∷ lines x
+pub lines-tail : (fs : List (List ℕ)) (x : List ℕ) → All Clean fs → lines (tabbedFields fs ++ x) ≡ tabbedFields fs ∷ lines x
 lines-tail [] x c = refl
-lines-tail (f ∷ fs) x c = rw (append-assoc f (behind fs) x, lines-clean f (behind fs ++ x) (behind fs) (lines x) (c .0) (lines-tail fs x (c .1)))
+lines-tail (f ∷ fs) x c = rw (append-assoc f (tabbedFields fs) x, lines-clean f (tabbedFields fs ++ x) (tabbedFields fs) (lines x) (c .0) (lines-tail fs x (c .1)))
 
-cells-tail : (fs : List (List ℕ)) → All Clean fs → cells (behind fs) ≡ [] ∷ fs
+cells-tail : (fs : List (List ℕ)) → All Clean fs → cells (tabbedFields fs) ≡ [] ∷ fs
 cells-tail [] c = refl
-cells-tail (f ∷ fs) c = rw (cells-clean f (behind fs) fs (c .0) (cells-tail fs (c .1)))
+cells-tail (f ∷ fs) c = rw (cells-clean f (tabbedFields fs) fs (c .0) (cells-tail fs (c .1)))
 
 pub cells-render : (l : Line) → CleanLine l → cells (bytesOfLine l) ≡ l .name ∷ l .fields
-cells-render l c = cells-clean (l .name) (behind (l .fields)) (l .fields) (c .0) (cells-tail (l .fields) (c .1))
+cells-render l c = cells-clean (l .name) (tabbedFields (l .fields)) (l .fields) (c .0) (cells-tail (l .fields) (c .1))
 
 pub lines-bytes : (ls : List Line) → All CleanLine ls → lines (bytesOf ls) ≡ map bytesOfLine ls
 lines-bytes [] c = refl
 lines-bytes (l ∷ ls) c =
-    rw append-assoc (lines-clean (l .name) (behind (l .fields) ++ bytesOf ls) (behind (l .fields)) (lines (bytesOf ls)) (c .0 .0) (lines-tail (l .fields) (bytesOf ls) (c .0 .1)))
+    rw append-assoc (lines-clean (l .name) (tabbedFields (l .fields) ++ bytesOf ls) (tabbedFields (l .fields)) (lines (bytesOf ls)) (c .0 .0) (lines-tail (l .fields) (bytesOf ls) (c .0 .1)))
     ∙ ap (λ (r : List (List ℕ)). bytesOfLine l ∷ r) (lines-bytes ls (c .1))
 
 -- ---- judging
 
-module _ {A : Type 0} (k : Kind A) where
+module _ {A : Type 0} (k : LineKind A) where
   -- a value that is written, guessed again, and passes
   pub record Writes (a : A) : Type 0 where
     pub clean : CleanLine (k .write a)

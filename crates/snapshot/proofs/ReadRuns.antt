@@ -13,9 +13,9 @@ use Rattle.trcf.specs.Lists.{null}
 use Rattle.trcf.specs.Settings.{Settings, dimension, waiting}
 use Rattle.trcf.specs.Preprocessor.{State, Reading}
 use Rattle.snapshot.specs.Text.{float}
-use Rattle.snapshot.specs.Read.{lines, push, asFloat, Counts, Plan, end, line, bufsPlan, bufPlan, devsPlan, mayStand, stateOf, withLists, bare, afterSet, afterWgt, afterThird, afterChn, afterCnt, afterDev, afterInp, afterPnt, afterTim, Read, taken, bad, later, ended, follow, read}
+use Rattle.snapshot.specs.Read.{lines, push, asFloat, Counts, Plan, planEnd, planLine, bufsPlan, bufPlan, devsPlan, mayStand, stateOf, withLists, bare, afterSet, afterWgt, afterThird, afterChn, afterCnt, afterDev, afterInp, afterPnt, afterTim, Read, taken, bad, later, ended, follow, read}
 use Rattle.snapshot.specs.Steps.Judge.{listLine, via, Codes, eitherOf, chnOr, chnBy, setBy, wgtBy, cntBy, timBy, bufBy, threed, threeOf, devBy}
-use Rattle.snapshot.specs.Steps.Runs.{Ran, ran, broke, oneLine, behindLines, after, front, many, devLine, unread, flat, mapRan, devs, timeOf, valuesOf, timesOf, Initial, initialOf, bufs, Parts, parts, partsBy, partsOf, Head, headRead, thirdBy, headBy, expected, ending, Body, body, bodyBy, stateFrom, readBy, asRead}
+use Rattle.snapshot.specs.Steps.Runs.{Ran, ran, broke, oneLine, afterLines, thenLines, front, many, devFields, noCarry, flat, mapRan, devs, timeOf, readingValues, readingTimes, Initial, initialOf, bufs, Parts, parts, partsBy, partsOf, Head, headRead, thirdBy, headBy, expected, ending, Body, body, bodyBy, stateFrom, readBy, asRead}
 use Rattle.snapshot.proofs.JudgeLines.{float-codec, line-is}
 use Rattle.snapshot.proofs.JudgeSteps.{step-set, step-wgt, step-third, step-cnt, step-inp, step-pnt, step-tim, step-dev, step-buf}
 
@@ -40,13 +40,13 @@ unfolding skips
 skips-more zero m r = let e : m ≡ 0 + m = omega arith in ap (λ (k : ℕ). skips k r) e
 skips-more (suc n) m r = let e : suc (n + m) ≡ suc n + m = omega arith in ap later (skips-more n m r) ∙ ap (λ (k : ℕ). skips k r) e
 
--- ---- n lines, and what is read behind them
+-- ---- n lines, and what is read after them
 
 goOn : {A : Type 0} → ℕ → Ran A → (A → List ℕ → Read) → Read
 goOn n (ran a z) g = skips n (g a z)
 goOn n (broke m) g = bad m
 
-map-behind : {A B : Type 0} (n : ℕ) (f : A → B) (r : Ran A) → mapRan f (behindLines n r) ≡ behindLines n (mapRan f r)
+map-behind : {A B : Type 0} (n : ℕ) (f : A → B) (r : Ran A) → mapRan f (afterLines n r) ≡ afterLines n (mapRan f r)
 map-behind n f (ran a z) = refl
 map-behind n f (broke m) = refl
 
@@ -62,12 +62,12 @@ module _ {A : Type 0} where
   one-line (some r) g = refl
 
   goOn-after : {B : Type 0} (n m : ℕ) (r : Ran A) (f : A → List ℕ → Ran B) (g : B → List ℕ → Read)
-      → goOn n r (λ a z. goOn m (f a z) g) ≡ goOn (n + m) (after n r f) g
+      → goOn n r (λ a z. goOn m (f a z) g) ≡ goOn (n + m) (thenLines n r f) g
   unfolding goOn
   goOn-after n m (broke k) f g = refl
   goOn-after {B = B} n m (ran a z) f g = go (f a z)
     where
-      go : (q : Ran B) → skips n (goOn m q g) ≡ goOn (n + m) (behindLines n q) g
+      go : (q : Ran B) → skips n (goOn m q g) ≡ goOn (n + m) (afterLines n q) g
       go (ran b y) = skips-more n m (g b y)
       go (broke k) = skips-bad n k
 
@@ -77,30 +77,30 @@ module _ {A : Type 0} where
   goOn-map n (ran a z) f g = refl
   goOn-map n (broke m) f g = refl
 
-  goOn-read : (n : ℕ) (r : Ran A) (f : A → List ℕ → Ran State) → goOn n r (λ a z. asRead (f a z)) ≡ asRead (after n r f)
+  goOn-read : (n : ℕ) (r : Ran A) (f : A → List ℕ → Ran State) → goOn n r (λ a z. asRead (f a z)) ≡ asRead (thenLines n r f)
   unfolding goOn
   goOn-read n (broke k) f = refl
   goOn-read n (ran a z) f = go (f a z)
     where
-      go : (q : Ran State) → skips n (asRead q) ≡ asRead (behindLines n q)
+      go : (q : Ran State) → skips n (asRead q) ≡ asRead (afterLines n q)
       go (ran w y) = skips-taken n w
       go (broke k) = skips-bad n k
 
   -- one line more in front
-  goOn-front : (n : ℕ) (a : A) (r : Ran (List A)) (g : List A → List ℕ → Read) → later (goOn n r (λ u z. g (a ∷ u) z)) ≡ goOn (suc n) (behindLines 1 (front a r)) g
+  goOn-front : (n : ℕ) (a : A) (r : Ran (List A)) (g : List A → List ℕ → Read) → later (goOn n r (λ u z. g (a ∷ u) z)) ≡ goOn (suc n) (afterLines 1 (front a r)) g
   unfolding goOn skips
   goOn-front n a (ran u z) g = refl
   goOn-front n a (broke m) g = let e : suc m ≡ 1 + m = omega arith in ap bad e
 
   -- the last of some lines
-  goOn-one : {B : Type 0} (r : Ran A) (f : A → B) (g : B → List ℕ → Read) → goOn 1 r (λ a z. g (f a) z) ≡ goOn 1 (after 1 r (λ a z. ran (f a) z)) g
+  goOn-one : {B : Type 0} (r : Ran A) (f : A → B) (g : B → List ℕ → Read) → goOn 1 r (λ a z. g (f a) z) ≡ goOn 1 (thenLines 1 r (λ a z. ran (f a) z)) g
   unfolding goOn
   goOn-one (ran a z) f g = refl
   goOn-one (broke m) f g = refl
 
   map-after : {B C : Type 0} (n : ℕ) (r : Ran A) (f : B → C) (g : A → List ℕ → Ran B) (h : A → List ℕ → Ran C) → ((a : A) (z : List ℕ) → mapRan f (g a z) ≡ h a z)
-      → mapRan f (after n r g) ≡ after n r h
-  map-after n (ran a z) f g h e = map-behind n f (g a z) ∙ ap (behindLines n) (e a z)
+      → mapRan f (thenLines n r g) ≡ thenLines n r h
+  map-after n (ran a z) f g h e = map-behind n f (g a z) ∙ ap (afterLines n) (e a z)
   map-after n (broke m) f g h e = refl
 
   map-ending : {B : Type 0} (f : A → B) (a : A) (l : List ℕ) → mapRan f (ending a l) ≡ ending (f a) l
@@ -120,36 +120,36 @@ three-are (x ∷ y ∷ z ∷ []) w e = refl
 three-are (x ∷ y ∷ z ∷ u ∷ v) w e = absurd (omega (arith, e))
 
 devs-follow : (q n : ℕ) (k : List Float → Plan) (l : List ℕ)
-    → follow (devsPlan n k) (lines l) ≡ goOn n (many devLine unread q n l) (λ u z. follow (k (flat u)) (lines z))
+    → follow (devsPlan n k) (lines l) ≡ goOn n (many devFields noCarry q n l) (λ u z. follow (k (flat u)) (lines z))
 unfolding goOn skips devBy
 devs-follow q zero k l = refl
-devs-follow q (suc n) k l = step-dev n k l ∙ go (devLine q l) refl (λ v y. devs-follow 0 n (λ st. k (threeOf v .weight ∷ threeOf v .sum ∷ threeOf v .squares ∷ st)) y)
+devs-follow q (suc n) k l = step-dev n k l ∙ go (devFields q l) refl (λ v y. devs-follow 0 n (λ st. k (threeOf v .weight ∷ threeOf v .sum ∷ threeOf v .squares ∷ st)) y)
   where
-    go : (o : Option (List Float × List ℕ)) → devLine q l ≡ o
-        → ((v : List Float) (y : List ℕ) → follow (devsPlan n (λ st. k (threeOf v .weight ∷ threeOf v .sum ∷ threeOf v .squares ∷ st))) (lines y) ≡ goOn n (many devLine unread 0 n y) (λ u z. follow (k (threeOf v .weight ∷ threeOf v .sum ∷ threeOf v .squares ∷ flat u)) (lines z)))
+    go : (o : Option (List Float × List ℕ)) → devFields q l ≡ o
+        → ((v : List Float) (y : List ℕ) → follow (devsPlan n (λ st. k (threeOf v .weight ∷ threeOf v .sum ∷ threeOf v .squares ∷ st))) (lines y) ≡ goOn n (many devFields noCarry 0 n y) (λ u z. follow (k (threeOf v .weight ∷ threeOf v .sum ∷ threeOf v .squares ∷ flat u)) (lines z)))
         → via (threed o) (λ a z. later (follow (devsPlan n (λ st. k (a .weight ∷ a .sum ∷ a .squares ∷ st))) (lines z)))
-        ≡ goOn (suc n) (after 1 (oneLine o) (λ a z. front a (many devLine unread (unread a) n z))) (λ u z. follow (k (flat u)) (lines z))
+        ≡ goOn (suc n) (thenLines 1 (oneLine o) (λ a z. front a (many devFields noCarry (noCarry a) n z))) (λ u z. follow (k (flat u)) (lines z))
     go none e h = refl
     go (some r) e h =
         let f = line-is (asFloat binary64) (float binary64) (λ x. T (fits binary64 x)) (float-codec binary64) 100 101 118 3 l r e in
-        ap later (h (r .0) (r .1) ∙ goOn-same n (many devLine unread 0 n (r .1)) _ _ (λ u z. ap (λ (st : List Float). follow (k st) (lines z)) (three-are (r .0) (flat u) (f .1))))
-        ∙ goOn-front n (r .0) (many devLine unread 0 n (r .1)) (λ u z. follow (k (flat u)) (lines z))
+        ap later (h (r .0) (r .1) ∙ goOn-same n (many devFields noCarry 0 n (r .1)) _ _ (λ u z. ap (λ (st : List Float). follow (k st) (lines z)) (three-are (r .0) (flat u) (f .1))))
+        ∙ goOn-front n (r .0) (many devFields noCarry 0 n (r .1)) (λ u z. follow (k (flat u)) (lines z))
 
 -- ---- the `buf` lines
 
 bufs-follow : (d q n : ℕ) (k : List Float → List ℕ → State) (l : List ℕ)
-    → follow (bufsPlan none d q n k) (lines l) ≡ goOn n (many (bufBy d) timeOf q n l) (λ u z. follow (end (k (valuesOf u) (timesOf u))) (lines z))
+    → follow (bufsPlan none d q n k) (lines l) ≡ goOn n (many (bufBy d) timeOf q n l) (λ u z. follow (planEnd (k (readingValues u) (readingTimes u))) (lines z))
 unfolding goOn skips
 bufs-follow d q zero k l = refl
 bufs-follow d q (suc n) k l = step-buf d q n k l ∙ go (bufBy d q l) (λ r y. bufs-follow d (r .time) n (λ v ts. k (r .value ++ v) (r .time ∷ ts)) y)
   where
     go : (o : Option (Reading × List ℕ))
-        → ((r : Reading) (y : List ℕ) → follow (bufsPlan none d (r .time) n (λ v ts. k (r .value ++ v) (r .time ∷ ts))) (lines y) ≡ goOn n (many (bufBy d) timeOf (r .time) n y) (λ u z. follow (end (k (r .value ++ valuesOf u) (r .time ∷ timesOf u))) (lines z)))
+        → ((r : Reading) (y : List ℕ) → follow (bufsPlan none d (r .time) n (λ v ts. k (r .value ++ v) (r .time ∷ ts))) (lines y) ≡ goOn n (many (bufBy d) timeOf (r .time) n y) (λ u z. follow (planEnd (k (r .value ++ readingValues u) (r .time ∷ readingTimes u))) (lines z)))
         → via o (λ r z. later (follow (bufsPlan none d (r .time) n (λ v ts. k (r .value ++ v) (r .time ∷ ts))) (lines z)))
-        ≡ goOn (suc n) (after 1 (oneLine o) (λ a z. front a (many (bufBy d) timeOf (timeOf a) n z))) (λ u z. follow (end (k (valuesOf u) (timesOf u))) (lines z))
+        ≡ goOn (suc n) (thenLines 1 (oneLine o) (λ a z. front a (many (bufBy d) timeOf (timeOf a) n z))) (λ u z. follow (planEnd (k (readingValues u) (readingTimes u))) (lines z))
     go none h = refl
     go (some r) h =
-        ap later (h (r .0) (r .1)) ∙ goOn-front n (r .0) (many (bufBy d) timeOf (timeOf (r .0)) n (r .1)) (λ u z. follow (end (k (valuesOf u) (timesOf u))) (lines z))
+        ap later (h (r .0) (r .1)) ∙ goOn-front n (r .0) (many (bufBy d) timeOf (timeOf (r .0)) n (r .1)) (λ u z. follow (planEnd (k (readingValues u) (readingTimes u))) (lines z))
 
 -- a text that goes on has a line
 some-line : (x : ℕ) (l : List ℕ) → (a : List ℕ) × (b : List (List ℕ)) × (lines (x ∷ l) ≡ a ∷ b)
@@ -163,9 +163,9 @@ some-line x l = go (eqb x 10) refl (lines l) refl
     go true e r h = (10 ∷ [], lines l, rw e)
     go false e r h = let p = pushed (lines l) in (p .0, p .1, rw e (p .2))
 
-ends-read : (w : State) (l : List ℕ) → follow (end w) (lines l) ≡ asRead (ending w l)
+ends-read : (w : State) (l : List ℕ) → follow (planEnd w) (lines l) ≡ asRead (ending w l)
 ends-read w [] = refl
-ends-read w (x ∷ l) = let p = some-line x l in ap (follow (end w)) (p .2)
+ends-read w (x ∷ l) = let p = some-line x l in ap (follow (planEnd w)) (p .2)
 
 -- lines that may be missing altogether, and are not
 begun : (e : Option State) (d n : ℕ) (k : List Float → List ℕ → State) (x : ℕ) (l : List ℕ) → follow (bufsPlan e d 0 n k) (lines (x ∷ l)) ≡ follow (bufsPlan none d 0 n k) (lines (x ∷ l))
@@ -180,13 +180,13 @@ module _ (s : Settings) (c : Counts) (k : List Float → List ℕ → State) whe
   -- as many as are expected
   expected-follow : (l : List ℕ)
       → follow (bufPlan (waiting s (c .valuesSeen)) (mayStand s c) s c k) (lines l)
-      ≡ goOn (expected s c l) (many (bufBy (s .d)) timeOf 0 (expected s c l) l) (λ u z. follow (end (k (valuesOf u) (timesOf u))) (lines z))
+      ≡ goOn (expected s c l) (many (bufBy (s .d)) timeOf 0 (expected s c l) l) (λ u z. follow (planEnd (k (readingValues u) (readingTimes u))) (lines z))
   unfolding expected
   expected-follow l = go (waiting s (c .valuesSeen)) (mayStand s c) l
     where
       go : (w m : Bool) (l : List ℕ)
           → follow (bufPlan w m s c k) (lines l)
-          ≡ goOn (cond w (c .valuesSeen) (cond (m && not (null l)) (s .start) 0)) (many (bufBy (s .d)) timeOf 0 (cond w (c .valuesSeen) (cond (m && not (null l)) (s .start) 0)) l) (λ u z. follow (end (k (valuesOf u) (timesOf u))) (lines z))
+          ≡ goOn (cond w (c .valuesSeen) (cond (m && not (null l)) (s .start) 0)) (many (bufBy (s .d)) timeOf 0 (cond w (c .valuesSeen) (cond (m && not (null l)) (s .start) 0)) l) (λ u z. follow (planEnd (k (readingValues u) (readingTimes u))) (lines z))
       go true m l = bufs-follow (s .d) 0 (c .valuesSeen) k l
       go false true [] = missing (s .d) (s .start) k ∙ bufs-follow (s .d) 0 0 k []
       go false true (x ∷ l) = begun (some (k [] [])) (s .d) (s .start) k x l ∙ bufs-follow (s .d) 0 (s .start) k (x ∷ l)
@@ -198,7 +198,7 @@ module _ (s : Settings) (c : Counts) (k : List Float → List ℕ → State) whe
   unfolding bufs
   initial-follow l =
       expected-follow l
-      ∙ goOn-same (expected s c l) (many (bufBy (s .d)) timeOf 0 (expected s c l) l) _ _ (λ u z. ends-read (k (valuesOf u) (timesOf u)) z)
+      ∙ goOn-same (expected s c l) (many (bufBy (s .d)) timeOf 0 (expected s c l) l) _ _ (λ u z. ends-read (k (readingValues u) (readingTimes u)) z)
       ∙ goOn-map (expected s c l) (many (bufBy (s .d)) timeOf 0 (expected s c l) l) initialOf (λ i z. asRead (ending (k (i .values) (i .times)) z))
 
 -- ---- the lines from `dev` to `tim`
@@ -208,27 +208,30 @@ module _ (s : Settings) (c : Counts) where
   Rest p z = follow (afterTim s c (p .statistics) (p .input) (p .point) (p .times)) (lines z)
 
   after-pnt : (st x y : List Float) (l : List ℕ) → follow (afterPnt s c st x y) (lines l)
-      ≡ goOn 1 (after 1 (oneLine (timBy (c .internalTimestamp) (s .k) l)) (λ ts z. ran (parts st x y ts) z)) Rest
+      ≡ goOn 1 (thenLines 1 (oneLine (timBy (c .internalTimestamp) (s .k) l)) (λ ts z. ran (parts st x y ts) z)) Rest
   unfolding Rest goOn skips
   after-pnt st x y l =
       step-tim s l c st x y ∙ one-line (timBy (c .internalTimestamp) (s .k) l) (λ ts z. Rest (parts st x y ts) z)
       ∙ goOn-one (oneLine (timBy (c .internalTimestamp) (s .k) l)) (λ ts. parts st x y ts) Rest
 
   after-inp : (st x : List Float) (l : List ℕ) → follow (afterInp s c st x) (lines l)
-      ≡ goOn 2 (after 1 (oneLine (listLine (asFloat binary32) 112 110 116 (dimension s) l)) (λ y l₃. after 1 (oneLine (timBy (c .internalTimestamp) (s .k) l₃)) (λ ts z. ran (parts st x y ts) z))) Rest
+      ≡ goOn 2 (thenLines 1 (oneLine (listLine (asFloat binary32) 112 110 116 (dimension s) l))
+      (λ y l₃. thenLines 1 (oneLine (timBy (c .internalTimestamp) (s .k) l₃)) (λ ts z. ran (parts st x y ts) z))) Rest
   after-inp st x l =
       step-pnt s l c st x ∙ one-line (listLine (asFloat binary32) 112 110 116 (dimension s) l) (λ y z. follow (afterPnt s c st x y) (lines z))
       ∙ goOn-same 1 (oneLine (listLine (asFloat binary32) 112 110 116 (dimension s) l)) _ _ (λ y z. after-pnt st x y z)
-      ∙ goOn-after 1 1 (oneLine (listLine (asFloat binary32) 112 110 116 (dimension s) l)) (λ y l₃. after 1 (oneLine (timBy (c .internalTimestamp) (s .k) l₃)) (λ ts z. ran (parts st x y ts) z)) Rest
+      ∙ goOn-after 1 1 (oneLine (listLine (asFloat binary32) 112 110 116 (dimension s) l))
+      (λ y l₃. thenLines 1 (oneLine (timBy (c .internalTimestamp) (s .k) l₃)) (λ ts z. ran (parts st x y ts) z)) Rest
 
   after-dev : (st : List Float) (l : List ℕ) → follow (afterDev s c st) (lines l)
-      ≡ goOn 3 (after 1 (oneLine (listLine (asFloat binary32) 105 110 112 (s .d * s .k) l))
-      (λ x l₂. after 1 (oneLine (listLine (asFloat binary32) 112 110 116 (dimension s) l₂)) (λ y l₃. after 1 (oneLine (timBy (c .internalTimestamp) (s .k) l₃)) (λ ts z. ran (parts st x y ts) z)))) Rest
+      ≡ goOn 3 (thenLines 1 (oneLine (listLine (asFloat binary32) 105 110 112 (s .d * s .k) l))
+      (λ x l₂. thenLines 1 (oneLine (listLine (asFloat binary32) 112 110 116 (dimension s) l₂)) (λ y l₃. thenLines 1 (oneLine (timBy (c .internalTimestamp) (s .k) l₃)) (λ ts z. ran (parts st x y ts) z)))) Rest
   after-dev st l =
       step-inp s l c st ∙ one-line (listLine (asFloat binary32) 105 110 112 (s .d * s .k) l) (λ x z. follow (afterInp s c st x) (lines z))
       ∙ goOn-same 1 (oneLine (listLine (asFloat binary32) 105 110 112 (s .d * s .k) l)) _ _ (λ x z. after-inp st x z)
       ∙ goOn-after 1 2 (oneLine (listLine (asFloat binary32) 105 110 112 (s .d * s .k) l))
-      (λ x l₂. after 1 (oneLine (listLine (asFloat binary32) 112 110 116 (dimension s) l₂)) (λ y l₃. after 1 (oneLine (timBy (c .internalTimestamp) (s .k) l₃)) (λ ts z. ran (parts st x y ts) z))) Rest
+      (λ x l₂. thenLines 1 (oneLine (listLine (asFloat binary32) 112 110 116 (dimension s) l₂))
+      (λ y l₃. thenLines 1 (oneLine (timBy (c .internalTimestamp) (s .k) l₃)) (λ ts z. ran (parts st x y ts) z))) Rest
 
   parts-follow : (l : List ℕ) → follow (afterCnt s c) (lines l) ≡ goOn (5 * s .d + 8) (partsOf s c l) Rest
   unfolding partsOf partsBy devs
@@ -236,10 +239,10 @@ module _ (s : Settings) (c : Counts) where
       let n : ℕ = 5 * s .d + 5 in
       let e : n + 3 ≡ 5 * s .d + 8 = omega arith in
       devs-follow 0 n (afterDev s c) l
-      ∙ goOn-same n (many devLine unread 0 n l) _ _ (λ u z. after-dev (flat u) z)
-      ∙ goOn-map n (many devLine unread 0 n l) flat (λ st l₁. goOn 3 (after 1 (oneLine (listLine (asFloat binary32) 105 110 112 (s .d * s .k) l₁))
-      (λ x l₂. after 1 (oneLine (listLine (asFloat binary32) 112 110 116 (dimension s) l₂)) (λ y l₃. after 1 (oneLine (timBy (c .internalTimestamp) (s .k) l₃)) (λ ts z. ran (parts st x y ts) z)))) Rest)
-      ∙ goOn-after n 3 (mapRan flat (many devLine unread 0 n l)) _ Rest
+      ∙ goOn-same n (many devFields noCarry 0 n l) _ _ (λ u z. after-dev (flat u) z)
+      ∙ goOn-map n (many devFields noCarry 0 n l) flat (λ st l₁. goOn 3 (thenLines 1 (oneLine (listLine (asFloat binary32) 105 110 112 (s .d * s .k) l₁))
+      (λ x l₂. thenLines 1 (oneLine (listLine (asFloat binary32) 112 110 116 (dimension s) l₂)) (λ y l₃. thenLines 1 (oneLine (timBy (c .internalTimestamp) (s .k) l₃)) (λ ts z. ran (parts st x y ts) z)))) Rest)
+      ∙ goOn-after n 3 (mapRan flat (many devFields noCarry 0 n l)) _ Rest
       ∙ ap (λ (m : ℕ). goOn m (partsOf s c l) Rest) e
 
   body-follow : (l : List ℕ) → follow (afterCnt s c) (lines l) ≡ asRead (mapRan (stateFrom s c) (bodyBy s c l))
@@ -247,7 +250,7 @@ module _ (s : Settings) (c : Counts) where
   body-follow l =
       parts-follow l
       ∙ goOn-same (5 * s .d + 8) (partsOf s c l) _ _ (λ p l₁. initial-follow s c (stateOf s c (p .statistics) (p .input) (p .point) (p .times)) l₁ ∙ goOn-read (expected s c l₁) (bufs (s .d) (expected s c l₁) l₁) (λ i l₂. ending (stateFrom s c (body p i)) l₂))
-      ∙ goOn-read (5 * s .d + 8) (partsOf s c l) (λ p l₁. after (expected s c l₁) (bufs (s .d) (expected s c l₁) l₁) (λ i l₂. ending (stateFrom s c (body p i)) l₂))
+      ∙ goOn-read (5 * s .d + 8) (partsOf s c l) (λ p l₁. thenLines (expected s c l₁) (bufs (s .d) (expected s c l₁) l₁) (λ i l₂. ending (stateFrom s c (body p i)) l₂))
       ∙ ap asRead (sym (map-after (5 * s .d + 8) (partsOf s c l) (stateFrom s c) _ _ (λ p l₁. map-after (expected s c l₁) (bufs (s .d) (expected s c l₁) l₁) (stateFrom s c) _ _ (λ i l₂. map-ending (stateFrom s c) (body p i) l₂))))
 
 -- ---- line 3 and what it leads to
@@ -256,15 +259,15 @@ module _ (s : Settings) (v : List Float) where
   Then : List ℕ ⊎ Counts → List ℕ → Read
   Then o z = later (follow (afterThird s v o) (lines z))
 
-  -- the counters behind the codes
+  -- the counters after the codes
   cnt-follow : (cs : List ℕ) (o : Option (Counts × List ℕ)) → later (via o (λ c z. later (follow (afterCnt (withLists s v cs) c) (lines z))))
-      ≡ goOn 1 (behindLines 1 (after 1 (oneLine o) (λ c z. ran (headRead (withLists s v cs) c 1) z))) Next
+      ≡ goOn 1 (afterLines 1 (thenLines 1 (oneLine o) (λ c z. ran (headRead (withLists s v cs) c 1) z))) Next
   unfolding goOn skips Next
   cnt-follow cs none = refl
   cnt-follow cs (some r) = refl
 
   -- the counters of a text that lacks them
-  bare-follow : (o : Option (Counts × List ℕ)) → via (eitherOf none o) Then ≡ goOn 1 (behindLines 0 (after 1 (oneLine o) (λ c z. ran (headRead (bare s v) c 0) z))) Next
+  bare-follow : (o : Option (Counts × List ℕ)) → via (eitherOf none o) Then ≡ goOn 1 (afterLines 0 (thenLines 1 (oneLine o) (λ c z. ran (headRead (bare s v) c 0) z))) Next
   unfolding goOn skips Next Then
   bare-follow none = refl
   bare-follow (some r) = refl
@@ -279,7 +282,7 @@ module _ (s : Settings) (v : List Float) where
 
 -- ---- the whole text
 
-next-read : (h : Head) (z : List ℕ) → Next h z ≡ asRead (behindLines (h .extra) (mapRan (stateFrom (h .settings) (h .counts)) (bodyBy (h .settings) (h .counts) z)))
+next-read : (h : Head) (z : List ℕ) → Next h z ≡ asRead (afterLines (h .extra) (mapRan (stateFrom (h .settings) (h .counts)) (bodyBy (h .settings) (h .counts) z)))
 unfolding Next goOn
 next-read h z =
     let one : Ran (Unit {0}) = ran tt [] in
@@ -293,6 +296,6 @@ read-runs t =
     ∙ goOn-same 1 (oneLine (setBy t)) _ _ (λ s l₁. step-wgt s l₁ ∙ one-line (wgtBy (s .method) (s .d) l₁) (λ v z. follow (afterWgt s v) (lines z))
     ∙ goOn-same 1 (oneLine (wgtBy (s .method) (s .d) l₁)) _ _ (λ v l₂. third-follow s v l₂)
     ∙ goOn-after 1 1 (oneLine (wgtBy (s .method) (s .d) l₁)) (λ v l₂. thirdBy s v (chnOr (s .d) (chnBy (s .d) l₂) l₂)) Next)
-    ∙ goOn-after 1 2 (oneLine (setBy t)) (λ s l₁. after 1 (oneLine (wgtBy (s .method) (s .d) l₁)) (λ v l₂. thirdBy s v (chnOr (s .d) (chnBy (s .d) l₂) l₂))) Next
+    ∙ goOn-after 1 2 (oneLine (setBy t)) (λ s l₁. thenLines 1 (oneLine (wgtBy (s .method) (s .d) l₁)) (λ v l₂. thirdBy s v (chnOr (s .d) (chnBy (s .d) l₂) l₂))) Next
     ∙ goOn-same 3 (headBy t) Next _ next-read
-    ∙ goOn-read 3 (headBy t) (λ h l. behindLines (h .extra) (mapRan (stateFrom (h .settings) (h .counts)) (bodyBy (h .settings) (h .counts) l)))
+    ∙ goOn-read 3 (headBy t) (λ h l. afterLines (h .extra) (mapRan (stateFrom (h .settings) (h .counts)) (bodyBy (h .settings) (h .counts) l)))

@@ -22,7 +22,7 @@ use Rattle.trcf.specs.Calls.{finite}
 use Rattle.trcf.specs.Preprocessor.{State, Reading, statisticsLength}
 use Rattle.snapshot.specs.Form.{Form, Climbs}
 use Rattle.snapshot.specs.Text.{Line, wgt, inp, pnt, chn, setLine, singles, chnLine, cntLine, devLine, devLines, timLine, bufLine, bufLines, bodyLines, linesBy, bytesOf, render, TextOf}
-use Rattle.snapshot.specs.Read.{lines, join, bytesOfLine, Kind, setKind, wgtKind, inpKind, pntKind, singlesKind, cntKind, Counts, devKind, Three, timKind, bufKind, Plan, end, line, bufsPlan, mayStand, bufPlan, devsPlan, stateOf, withLists, bare, chnKind, eitherKind, thirdKind, afterThird, afterTim, afterPnt, afterInp, afterDev, afterCnt, afterWgt, afterSet, plan, Read, taken, bad, follow, read, FirstBad}
+use Rattle.snapshot.specs.Read.{lines, join, bytesOfLine, LineKind, setKind, wgtKind, inpKind, pntKind, singlesKind, cntKind, Counts, devKind, Three, timKind, bufKind, Plan, planEnd, planLine, bufsPlan, mayStand, bufPlan, devsPlan, stateOf, withLists, bare, chnKind, eitherKind, thirdKind, afterThird, afterTim, afterPnt, afterInp, afterDev, afterCnt, afterWgt, afterSet, plan, Read, taken, bad, follow, read, FirstBad}
 use Rattle.snapshot.proofs.Lists.{and-left, and-right, clash, if-of, to-if, nil, all-append, all-take, all-drop, all-replicate, finite-append, finite-split}
 use Rattle.snapshot.proofs.Accepted.{row-none}
 use Rattle.snapshot.proofs.Fields.{Clean}
@@ -333,7 +333,7 @@ module _ (w : State) (g : Form w) where
     where
       go : (m : Bool) → mayStand s c ≡ m → (w .initialTimestamps ≡ []) ⊎ ((normalizes (s .method) ≡ true) × (length (w .initialTimestamps) ≡ s .start) × (w .valuesSeen ≡ s .start → w .internalTimestamp ≡ 0))
           → follow (bufPlan false m s c k) (shown (bufLines (s .d) (w .initialValues) (w .initialTimestamps))) ≡ taken w
-      go false y (inl e) = none-give (end (k [] [])) e refl
+      go false y (inl e) = none-give (planEnd (k [] [])) e refl
       go true y (inl e) = none-give (bufsPlan (some (k [] [])) (s .d) 0 (s .start) k) e (bufs-empty (s .d) 0 (s .start) k)
       go false y (inr e) = clash (mayStand s c) (rw (e .0) (to-if (eqb (w .valuesSeen) (s .start)) _ (λ q. eq-eqb _ _ (e .2 (eqb-true _ _ q))))) y
       go true y (inr e) = bufs-give (some (k [] [])) (s .d) 0 (s .start) k (w .initialValues) (w .initialTimestamps) (waited (s .start) (e .1))

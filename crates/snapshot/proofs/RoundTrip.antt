@@ -13,18 +13,18 @@ use borrow.Author.Tests.{eqb-true, ltb-true, ltb-false, le-ltb, leb-false}
 use Rattle.trcf.specs.Settings.{Settings, Valid, settingsTable, waiting, dimension}
 use Rattle.trcf.specs.Preprocessor.{State, statisticsLength}
 use Rattle.trcf.specs.Types.{augments, normalizes}
-use Rattle.trcf.specs.View.{Lent, settingsOf, view, headFrom, noHead, counted, laid, initialRoom, lentShort}
+use Rattle.trcf.specs.View.{Lent, settingsOf, view, headFrom, noHead, counted, writtenOver, initialRoom, lentShort}
 use Rattle.trcf.specs.declared.head.Preprocessor.{Preprocessor}
 use Rattle.trcf.proofs.DrainLaws.{front-over}
 use Rattle.trcf.proofs.ShingleLaws.{length-over}
 use Rattle.trcf.proofs.ViewLaws.{Shaped, view-laid}
-use Rattle.common.specs.Lent.{over}
+use Rattle.refusal.specs.Lent.{over}
 use Rattle.snapshot.specs.Text.{render, TextOf}
 use Rattle.snapshot.specs.Form.{Form}
-use Rattle.snapshot.specs.Read.{Read, taken, bad, same, withLists, read, carries, kept, FirstBad}
-use Rattle.snapshot.specs.Save.{past, unheld, saveOf}
+use Rattle.snapshot.specs.Read.{Read, taken, bad, same, withLists, read, carries, withChannelLine, FirstBad}
+use Rattle.snapshot.specs.Save.{past, inUseShort, saveOf}
 use Rattle.snapshot.specs.Save as saving
-use Rattle.snapshot.specs.Restore.{Outcome, outcome, restored, restoreOf}
+use Rattle.snapshot.specs.Restore.{RestoreOutcome, restoreOutcome, restored, restoreOf}
 use Rattle.snapshot.specs.Steps.Runs.{Few, Room}
 use Rattle.trcf.proofs.RefusalLaws.{room-start, room-normalizing}
 use Rattle.snapshot.proofs.Lists.{and-left, and-right}
@@ -69,14 +69,14 @@ shaped-of w f =
 module _ (t cs : List ℕ) (l : Lent) where
   -- "taken up with w exactly when the text is one of w", the codes are those expected, and the lent lists are long enough
   pub restored-as : (w : State) → Form w → TextOf w t → w .settings .codes ≡ cs → lentShort (w .settings) l ≡ false
-      → restoreOf t cs l ≡ outcome 0 0 (counted (headFrom (w .settings)) w) (laid w l)
+      → restoreOf t cs l ≡ restoreOutcome 0 0 (counted (headFrom (w .settings)) w) (writtenOver w l)
   unfolding restoreOf restored
   restored-as w f x e h = rw (read-exactly t w f x, sym e, same-refl (w .settings .codes), h)
 
-  pub restored-view : (w : State) → Form w → view (counted (headFrom (w .settings)) w) (laid w l) ≡ w
+  pub restored-view : (w : State) → Form w → view (counted (headFrom (w .settings)) w) (writtenOver w l) ≡ w
   restored-view w f = view-laid (headFrom (w .settings)) l w (shaped-of w f)
 
-  pub record Taken (o : Outcome) : Type 0 where
+  pub record Taken (o : RestoreOutcome) : Type 0 where
     pub state : State
     pub form : Form state
     pub text : TextOf state t
@@ -138,12 +138,12 @@ module _ (t cs : List ℕ) (l : Lent) where
 
 -- ---- restoring what was saved gives the same state, whatever the second memory held
 
-module _ (h : Preprocessor) (l : Lent) (out : List ℕ) (held : unheld h l ≡ false) (room : length (render (view h l)) ≤ length out) (f : Form (view h l)) (l₂ : Lent)
+module _ (h : Preprocessor) (l : Lent) (out : List ℕ) (held : inUseShort h l ≡ false) (room : length (render (view h l)) ≤ length out) (f : Form (view h l)) (l₂ : Lent)
     (room₂ : lentShort (view h l .settings) l₂ ≡ false) where
-  abbrev pub Again : Outcome
+  abbrev pub Again : RestoreOutcome
   Again = restoreOf (take (saveOf h l out .length) (saveOf h l out .bytes)) (view h l .settings .codes) l₂
 
-  pub again-is : Again ≡ outcome 0 0 (counted (headFrom (view h l .settings)) (view h l)) (laid (view h l) l₂)
+  pub again-is : Again ≡ restoreOutcome 0 0 (counted (headFrom (view h l .settings)) (view h l)) (writtenOver (view h l) l₂)
   unfolding restoreOf restored
   again-is = rw (saved-read h l out (form-savable h l f held) room f, same-refl (view h l .settings .codes), room₂)
 
@@ -197,8 +197,8 @@ module _ (w : State) (f : Form w) (l : Lent) (room : lentShort (w .settings) l �
       (ap (λ (s : Settings). lentShort s l) (settings-are (w .settings) (f .valid)) ∙ room) (initial-room w f)
 
   -- no list is shorter afterwards
-  pub laid-short : lentShort (w .settings) (laid w l) ≡ false
-  unfolding laid lentShort
+  pub laid-short : lentShort (w .settings) (writtenOver w l) ≡ false
+  unfolding writtenOver lentShort
   laid-short =
       let r = laid-room in
       let s = w .settings in
@@ -215,8 +215,8 @@ module _ (w : State) (f : Form w) (l : Lent) (room : lentShort (w .settings) l �
       fits : {a n m : ℕ} → a ≡ n → n ≤ m → a ≤ m
       fits e h = omega (arith, e, h)
 
-  pub laid-held : unheld (counted (headFrom (w .settings)) w) (laid w l) ≡ false
-  unfolding unheld laid
+  pub laid-held : inUseShort (counted (headFrom (w .settings)) w) (writtenOver w l) ≡ false
+  unfolding inUseShort writtenOver
   laid-held =
       let r = laid-room in
       let s = w .settings in
@@ -242,22 +242,22 @@ module _ (w : State) (f : Form w) (l : Lent) (room : lentShort (w .settings) l �
       stays l v n e h = subst (λ (m : ℕ). n ≤ m) (sym (length-over l v (omega (arith, e, h)))) h
 
 -- the same bytes; or, of a text that lacks the codes' line, the text with a line of as many zeros as there are channels
-module _ (t cs : List ℕ) (l : Lent) (h : restoreOf t cs l .row ≡ 0) (out : List ℕ) (long : length (kept (length cs) t) ≤ length out) where
-  pub restored-saved : saveOf (restoreOf t cs l .head) (restoreOf t cs l .lent) out ≡ saving.outcome 0 (length (kept (length cs) t)) (over out (kept (length cs) t))
+module _ (t cs : List ℕ) (l : Lent) (h : restoreOf t cs l .row ≡ 0) (out : List ℕ) (long : length (withChannelLine (length cs) t) ≤ length out) where
+  pub restored-saved : saveOf (restoreOf t cs l .head) (restoreOf t cs l .lent) out ≡ saving.saveOutcome 0 (length (withChannelLine (length cs) t)) (over out (withChannelLine (length cs) t))
   restored-saved =
       let k = restored-only t cs l h in
       let w = k .state in
-      let o : restoreOf t cs l ≡ outcome 0 0 (counted (headFrom (w .settings)) w) (laid w l) = restored-as t cs l w (k .form) (k .text) (k .agree) (k .room) in
-      let u : unheld (restoreOf t cs l .head) (restoreOf t cs l .lent) ≡ false = ap (λ (x : Outcome). unheld (x .head) (x .lent)) o ∙ laid-held w (k .form) l (k .room) in
+      let o : restoreOf t cs l ≡ restoreOutcome 0 0 (counted (headFrom (w .settings)) w) (writtenOver w l) = restored-as t cs l w (k .form) (k .text) (k .agree) (k .room) in
+      let u : inUseShort (restoreOf t cs l .head) (restoreOf t cs l .lent) ≡ false = ap (λ (x : RestoreOutcome). inUseShort (x .head) (x .lent)) o ∙ laid-held w (k .form) l (k .room) in
       let n : w .settings .d ≡ length cs = sym (codes-are (w .settings) (k .form .valid)) ∙ ap length (k .agree) in
-      let e : render (view (restoreOf t cs l .head) (restoreOf t cs l .lent)) ≡ kept (length cs) t = ap render (k .held) ∙ text-kept t w (k .text) ∙ ap (λ (d : ℕ). kept d t) n in
+      let e : render (view (restoreOf t cs l .head) (restoreOf t cs l .lent)) ≡ withChannelLine (length cs) t = ap render (k .held) ∙ text-kept t w (k .text) ∙ ap (λ (d : ℕ). withChannelLine d t) n in
       saved (restoreOf t cs l .head) (restoreOf t cs l .lent) out (form-savable _ _ (subst Form (sym (k .held)) (k .form)) u) (subst (λ (x : List ℕ). length x ≤ length out) (sym e) long)
-      ∙ ap (λ (x : List ℕ). saving.outcome 0 (length x) (over out x)) e
+      ∙ ap (λ (x : List ℕ). saving.saveOutcome 0 (length x) (over out x)) e
 
   -- "Every other accepted text still returns its bytes."
-  pub restored-same : carries t ≡ true → saveOf (restoreOf t cs l .head) (restoreOf t cs l .lent) out ≡ saving.outcome 0 (length t) (over out t)
-  unfolding kept
-  restored-same c = let e : kept (length cs) t ≡ t = rw c in restored-saved ∙ ap (λ (x : List ℕ). saving.outcome 0 (length x) (over out x)) e
+  pub restored-same : carries t ≡ true → saveOf (restoreOf t cs l .head) (restoreOf t cs l .lent) out ≡ saving.saveOutcome 0 (length t) (over out t)
+  unfolding withChannelLine
+  restored-same c = let e : withChannelLine (length cs) t ≡ t = rw c in restored-saved ∙ ap (λ (x : List ℕ). saving.saveOutcome 0 (length x) (over out x)) e
 
 -- ---- what was put away is taken up, of any head and any memory
 
@@ -279,10 +279,10 @@ unfolding view
 saved-is-taken-up h l m out e l₂ r again =
     let k : Savable h l = savable-of h l out e in
     let f : Form (view h l) = saved-form h l m k in
-    let room : length (render (view h l)) ≤ length out = room-for (render (view h l)) out (ap (λ (o : saving.Outcome). o .row) (sym (saved-fitted h l k out)) ∙ e) in
+    let room : length (render (view h l)) ≤ length out = room-for (render (view h l)) out (ap (λ (o : saving.SaveOutcome). o .row) (sym (saved-fitted h l k out)) ∙ e) in
     let p = saved-restored h l out (k .held) room f l₂ (short h l l₂ r) in
     let o = again-is h l out (k .held) room f l₂ (short h l l₂ r) in
-    let u : unheld (takenUp h l out l₂ .head) (takenUp h l out l₂ .lent) ≡ false = ap (λ (x : Outcome). unheld (x .head) (x .lent)) o ∙ laid-held (view h l) f l₂ (short h l l₂ r) in
+    let u : inUseShort (takenUp h l out l₂ .head) (takenUp h l out l₂ .lent) ≡ false = ap (λ (x : RestoreOutcome). inUseShort (x .head) (x .lent)) o ∙ laid-held (view h l) f l₂ (short h l l₂ r) in
     let k₂ : Savable (takenUp h l out l₂ .head) (takenUp h l out l₂ .lent) = form-savable _ _ (subst Form (sym (p .1)) f) u in
     record {
       accepted = p .0;

@@ -13,19 +13,19 @@ use borrow.Rule.Slice.PartMut.{midOf, postOf, putMid, same-len-mid, mid-len}
 use Rattle.trcf.specs.Preprocessor.{Reading}
 use Rattle.snapshot.specs.Read.{asFloat}
 use Rattle.snapshot.specs.Steps.Judge.{listLine, bufBy}
-use Rattle.snapshot.specs.Steps.Runs.{mapRan, told, devs, bufs, timeOf, Initial, initial, initialOf, Ran, ran, broke, oneLine, behindLines, after, front, many, flat, valuesOf, timesOf, devLine, unread}
+use Rattle.snapshot.specs.Steps.Runs.{mapRan, ranBy, devs, bufs, timeOf, Initial, initialLists, initialOf, Ran, ran, broke, oneLine, afterLines, thenLines, front, many, flat, readingValues, readingTimes, devFields, noCarry}
 
 abbrev pub fronts : {A : Type 0} → List A → Ran (List A) → Ran (List A)
 fronts u (ran l z) = ran (u ++ l) z
 fronts u (broke m) = broke m
 
 module _ {A : Type 0} where
-  fronts-none : (r : Ran (List A)) → r ≡ behindLines 0 (fronts [] r)
+  fronts-none : (r : Ran (List A)) → r ≡ afterLines 0 (fronts [] r)
   fronts-none (ran l z) = refl
   fronts-none (broke m) = let e : m ≡ 0 + m = omega arith in ap broke e
 
   fronts-one : (u : List A) (a : A) (i : ℕ) (r : Ran (List A))
-      → behindLines i (fronts u (behindLines 1 (front a r))) ≡ behindLines (i + 1) (fronts (u ++ (a ∷ [])) r)
+      → afterLines i (fronts u (afterLines 1 (front a r))) ≡ afterLines (i + 1) (fronts (u ++ (a ∷ [])) r)
   fronts-one u a i (ran l z) = ap (λ (v : List A). ran v z) (sym (append-assoc u (a ∷ []) l))
   fronts-one u a i (broke m) = let e : i + (1 + m) ≡ i + 1 + m = omega arith in ap broke e
 
@@ -33,39 +33,39 @@ module _ {A : Type 0} where
     -- the first i lines of n gave u; the next is read with q, from z on
     pub record Ahead (n : ℕ) (l : List ℕ) (u : List A) (i q : ℕ) (z : List ℕ) : Type 0 where
       pub some-left : i ≤ n
-      pub so : many p f 0 n l ≡ behindLines i (fronts u (many p f q (n - i) z))
+      pub so : many p f 0 n l ≡ afterLines i (fronts u (many p f q (n - i) z))
 
     pub ahead-none : (n : ℕ) (l : List ℕ) → Ahead n l [] 0 0 l
     ahead-none n l =
         let e : n ≡ n - 0 = omega arith in
         record {
           some-left = omega arith;
-          so = fronts-none (many p f 0 n l) ∙ ap (λ (m : ℕ). behindLines 0 (fronts [] (many p f 0 m l))) e;
+          so = fronts-none (many p f 0 n l) ∙ ap (λ (m : ℕ). afterLines 0 (fronts [] (many p f 0 m l))) e;
         }
 
     module _ (n : ℕ) (l : List ℕ) (u : List A) (i q : ℕ) (z : List ℕ) (s : Ahead n l u i q z) where
-      turn : i < n → many p f q (n - i) z ≡ after 1 (oneLine (p q z)) (λ a y. front a (many p f (f a) (n - (i + 1)) y))
+      turn : i < n → many p f q (n - i) z ≡ thenLines 1 (oneLine (p q z)) (λ a y. front a (many p f (f a) (n - (i + 1)) y))
       turn h = let e : n - i ≡ suc (n - (i + 1)) = omega (arith, h) in ap (λ (m : ℕ). many p f q m z) e
 
       pub ahead-step : i < n → (a : A) (y : List ℕ) → some (a, y) ≡ p q z → Ahead n l (u ++ (a ∷ [])) (i + 1) (f a) y
       ahead-step h a y e =
-          let r : many p f q (n - i) z ≡ behindLines 1 (front a (many p f (f a) (n - (i + 1)) y)) =
-          turn h ∙ ap (λ (o : Option (A × List ℕ)). after 1 (oneLine o) (λ b x. front b (many p f (f b) (n - (i + 1)) x))) (sym e) in
+          let r : many p f q (n - i) z ≡ afterLines 1 (front a (many p f (f a) (n - (i + 1)) y)) =
+          turn h ∙ ap (λ (o : Option (A × List ℕ)). thenLines 1 (oneLine o) (λ b x. front b (many p f (f b) (n - (i + 1)) x))) (sym e) in
           record {
             some-left = omega (arith, h);
-            so = s .so ∙ ap (λ (w : Ran (List A)). behindLines i (fronts u w)) r ∙ fronts-one u a i (many p f (f a) (n - (i + 1)) y);
+            so = s .so ∙ ap (λ (w : Ran (List A)). afterLines i (fronts u w)) r ∙ fronts-one u a i (many p f (f a) (n - (i + 1)) y);
           }
 
       pub ahead-stop : i < n → none ≡ p q z → many p f 0 n l ≡ broke (i + 1)
       ahead-stop h e =
           let r : many p f q (n - i) z ≡ broke 1 =
-          turn h ∙ ap (λ (o : Option (A × List ℕ)). after 1 (oneLine o) (λ b x. front b (many p f (f b) (n - (i + 1)) x))) (sym e) in
-          s .so ∙ ap (λ (w : Ran (List A)). behindLines i (fronts u w)) r
+          turn h ∙ ap (λ (o : Option (A × List ℕ)). thenLines 1 (oneLine o) (λ b x. front b (many p f (f b) (n - (i + 1)) x))) (sym e) in
+          s .so ∙ ap (λ (w : Ran (List A)). afterLines i (fronts u w)) r
 
       pub ahead-done : i ≡ n → many p f 0 n l ≡ ran u z
       ahead-done h =
           let m : n - i ≡ 0 = omega (arith, h) in
-          s .so ∙ ap (λ (k : ℕ). behindLines i (fronts u (many p f q k z))) m ∙ ap (λ (v : List A). ran v z) (append-nil u)
+          s .so ∙ ap (λ (k : ℕ). afterLines i (fronts u (many p f q k z))) m ∙ ap (λ (v : List A). ran v z) (append-nil u)
 
 -- ---- what is kept of them
 
@@ -73,18 +73,18 @@ pub flat-append : (a b : List (List Float)) → flat (a ++ b) ≡ flat a ++ flat
 flat-append [] b = refl
 flat-append (v ∷ a) b = ap (λ (w : List Float). v ++ w) (flat-append a b) ∙ sym (append-assoc v (flat a) (flat b))
 
-pub values-append : (a b : List Reading) → valuesOf (a ++ b) ≡ valuesOf a ++ valuesOf b
+pub values-append : (a b : List Reading) → readingValues (a ++ b) ≡ readingValues a ++ readingValues b
 values-append [] b = refl
-values-append (r ∷ a) b = ap (λ (w : List Float). r .value ++ w) (values-append a b) ∙ sym (append-assoc (r .value) (valuesOf a) (valuesOf b))
+values-append (r ∷ a) b = ap (λ (w : List Float). r .value ++ w) (values-append a b) ∙ sym (append-assoc (r .value) (readingValues a) (readingValues b))
 
-pub times-append : (a b : List Reading) → timesOf (a ++ b) ≡ timesOf a ++ timesOf b
+pub times-append : (a b : List Reading) → readingTimes (a ++ b) ≡ readingTimes a ++ readingTimes b
 times-append [] b = refl
 times-append (r ∷ a) b = ap (λ (w : List ℕ). r .time ∷ w) (times-append a b)
 
 block-next : (w i : ℕ) → (i + 1) * w ≡ i * w + w
 block-next w i = add-mul i 1 w ∙ ap (λ (m : ℕ). i * w + m) (one-mul w)
 
-pub told-broke : {A : Type 0} (m : ℕ) (a : A) (z : List ℕ) → 0 < m → told m a z ≡ broke m
+pub told-broke : {A : Type 0} (m : ℕ) (a : A) (z : List ℕ) → 0 < m → ranBy m a z ≡ broke m
 told-broke zero a z h = absurd (omega (arith, h))
 told-broke (suc m) a z h = refl
 
@@ -92,10 +92,10 @@ pub not-zero : (m : ℕ) → (m ≡ 0 → ⊥) → 0 < m
 not-zero zero h = absurd (h refl)
 not-zero (suc m) h = omega arith
 
-pub told-bad : {A : Type 0} (m n : ℕ) (a : A) (z : List ℕ) → m ≡ n → 0 < n → told m a z ≡ broke n
-told-bad m n a z e h = ap (λ (k : ℕ). told k a z) e ∙ told-broke n a z h
+pub told-bad : {A : Type 0} (m n : ℕ) (a : A) (z : List ℕ) → m ≡ n → 0 < n → ranBy m a z ≡ broke n
+told-bad m n a z e h = ap (λ (k : ℕ). ranBy k a z) e ∙ told-broke n a z h
 
-pub told-ran : {A : Type 0} (m : ℕ) (a : A) (z : List ℕ) (r : Ran A) → m ≡ 0 → told m a z ≡ r → ran a z ≡ r
+pub told-ran : {A : Type 0} (m : ℕ) (a : A) (z : List ℕ) (r : Ran A) → m ≡ 0 → ranBy m a z ≡ r → ran a z ≡ r
 told-ran zero a z r h e = e
 told-ran (suc m) a z r h e = absurd (omega (arith, h))
 
@@ -126,20 +126,20 @@ module _ {A : Type 0} (w i n : ℕ) (out : List A) (long : length out ≡ n * w)
 
 pub record Devs (n : ℕ) (l : List ℕ) (out : List Float) (i : ℕ) (z : List ℕ) : Type 0 where
   pub read : List (List Float)
-  pub ahead : Ahead devLine unread n l read i 0 z
+  pub ahead : Ahead devFields noCarry n l read i 0 z
   pub kept : take (i * 3) out ≡ flat read
   pub long : length out ≡ n * 3
   pub few : n ≤ 2000
 
 pub devs-none : (n : ℕ) (l : List ℕ) (out : List Float) → length out ≡ n * 3 → n ≤ 2000 → Devs n l out 0 l
-devs-none n l out e h = record { read = []; ahead = ahead-none devLine unread n l; kept = refl; long = e; few = h }
+devs-none n l out e h = record { read = []; ahead = ahead-none devFields noCarry n l; kept = refl; long = e; few = h }
 
 module _ (n : ℕ) (l : List ℕ) (out : List Float) (i : ℕ) (z : List ℕ) (s : Devs n l out i z) where
   -- the line as it is read into the part that is lent
   abbrev Line : Option (List Float × List ℕ)
   Line = listLine (asFloat binary64) 100 101 118 (length (midOf (i * 3) (i * 3 + 3 - i * 3) out)) z
 
-  line-is : i < n → Line ≡ devLine 0 z
+  line-is : i < n → Line ≡ devFields 0 z
   line-is h = ap (λ (m : ℕ). listLine (asFloat binary64) 100 101 118 m z) (block-part 3 i n out (s .long) h)
 
   pub devs-step : i < n → (v : List Float) (y : List ℕ) → length v ≡ length (midOf (i * 3) (i * 3 + 3 - i * 3) out) → some (v, y) ≡ Line
@@ -147,7 +147,7 @@ module _ (n : ℕ) (l : List ℕ) (out : List Float) (i : ℕ) (z : List ℕ) (s
   devs-step h v y e q =
       record {
         read = s .read ++ (v ∷ []);
-        ahead = ahead-step devLine unread n l (s .read) i 0 z (s .ahead) h v y (q ∙ line-is h);
+        ahead = ahead-step devFields noCarry n l (s .read) i 0 z (s .ahead) h v y (q ∙ line-is h);
         kept = block-kept 3 i n out (s .long) h v e ∙ ap (λ (u : List Float). u ++ v) (s .kept)
             ∙ sym (flat-append (s .read) (v ∷ []) ∙ ap (λ (u : List Float). flat (s .read) ++ u) (append-nil v));
         long = block-long 3 i n out (s .long) h v e;
@@ -156,14 +156,14 @@ module _ (n : ℕ) (l : List ℕ) (out : List Float) (i : ℕ) (z : List ℕ) (s
 
   pub devs-stop : i < n → none ≡ Line → broke (i + 1) ≡ devs n l
   unfolding devs
-  devs-stop h q = ap (λ (r : Ran (List (List Float))). mapRan flat r) (sym (ahead-stop devLine unread n l (s .read) i 0 z (s .ahead) h (q ∙ line-is h)))
+  devs-stop h q = ap (λ (r : Ran (List (List Float))). mapRan flat r) (sym (ahead-stop devFields noCarry n l (s .read) i 0 z (s .ahead) h (q ∙ line-is h)))
 
   pub devs-done : i ≡ n → ran out z ≡ devs n l
   unfolding devs
   devs-done h =
       let a : length out ≤ i * 3 = omega (arith, s .long, h) in
       let e : out ≡ flat (s .read) = sym (take-all (i * 3) out a) ∙ s .kept in
-      ap (λ (u : List Float). ran u z) e ∙ ap (λ (r : Ran (List (List Float))). mapRan flat r) (sym (ahead-done devLine unread n l (s .read) i 0 z (s .ahead) h))
+      ap (λ (u : List Float). ran u z) e ∙ ap (λ (r : Ran (List (List Float))). mapRan flat r) (sym (ahead-done devFields noCarry n l (s .read) i 0 z (s .ahead) h))
 
 -- ---- the `buf` lines
 
@@ -198,8 +198,8 @@ module _ (d n : ℕ) (l : List ℕ) (i q : ℕ) (z : List ℕ) (s : Unkept d n l
 
 pub record Bufs (d n : ℕ) (l : List ℕ) (values : List Float) (times : List ℕ) (i q : ℕ) (z : List ℕ) : Type 0 where
   pub so : Unkept d n l i q z
-  pub kept : take (i * d) values ≡ valuesOf (so .read)
-  pub kept-times : take i times ≡ timesOf (so .read)
+  pub kept : take (i * d) values ≡ readingValues (so .read)
+  pub kept-times : take i times ≡ readingTimes (so .read)
   pub long : length values ≡ n * d
   pub long-times : length times ≡ n
 
@@ -227,7 +227,7 @@ module _ (d n : ℕ) (l : List ℕ) (values : List Float) (times : List ℕ) (i 
       record {
         so = unkept-step d n l i q z (s .so) h (length Part) r y (block-part d i n values (s .long) h) k;
         kept = block-kept d i n values (s .long) h (r .value) e ∙ ap (λ (u : List Float). u ++ r .value) (s .kept)
-            ∙ sym (values-append (s .so .read) (r ∷ []) ∙ ap (λ (u : List Float). valuesOf (s .so .read) ++ u) (append-nil (r .value)));
+            ∙ sym (values-append (s .so .read) (r ∷ []) ∙ ap (λ (u : List Float). readingValues (s .so .read) ++ u) (append-nil (r .value)));
         kept-times = ap (λ (m : ℕ). take m (set times i (r .time))) (add-one i) ∙ take-suc-set times i (r .time) (omega (arith, s .long-times, h))
             ∙ ap (λ (u : List ℕ). u ++ (r .time ∷ [])) (s .kept-times) ∙ sym (times-append (s .so .read) (r ∷ []));
         long = block-long d i n values (s .long) h (r .value) e;
@@ -237,12 +237,12 @@ module _ (d n : ℕ) (l : List ℕ) (values : List Float) (times : List ℕ) (i 
   pub bufs-stop : i < n → none ≡ bufBy (length Part) q z → broke (i + 1) ≡ bufs d n l
   bufs-stop h k = unkept-stop d n l i q z (s .so) h (length Part) (block-part d i n values (s .long) h) k
 
-  pub bufs-done : i ≡ n → ran (initial values times) z ≡ bufs d n l
+  pub bufs-done : i ≡ n → ran (initialLists values times) z ≡ bufs d n l
   bufs-done h =
       let a : length values ≤ i * d = at-most (s .long ∙ ap (λ (m : ℕ). m * d) (sym h)) in
-      let v : values ≡ valuesOf (s .so .read) = sym (take-all (i * d) values a) ∙ s .kept in
-      let t : times ≡ timesOf (s .so .read) = sym (take-all i times (omega (arith, s .long-times, h))) ∙ s .kept-times in
-      ap (λ (u : List Float). ran (initial u times) z) v ∙ ap (λ (u : List ℕ). ran (initial (valuesOf (s .so .read)) u) z) t ∙ unkept-done d n l i q z (s .so) h
+      let v : values ≡ readingValues (s .so .read) = sym (take-all (i * d) values a) ∙ s .kept in
+      let t : times ≡ readingTimes (s .so .read) = sym (take-all i times (omega (arith, s .long-times, h))) ∙ s .kept-times in
+      ap (λ (u : List Float). ran (initialLists u times) z) v ∙ ap (λ (u : List ℕ). ran (initialLists (readingValues (s .so .read)) u) z) t ∙ unkept-done d n l i q z (s .so) h
     where
       at-most : length values ≡ i * d → length values ≤ i * d
       at-most e = omega (arith, e)

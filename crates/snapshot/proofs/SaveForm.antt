@@ -14,14 +14,14 @@ use Rattle.trcf.specs.Types.{augments, normalizes}
 use Rattle.trcf.specs.Settings.{Settings, settingsRow, waiting, dimension}
 use Rattle.trcf.specs.Calls.{finite}
 use Rattle.trcf.specs.Preprocessor.{State, statisticsLength}
-use Rattle.trcf.specs.View.{Lent, settingsOf, view, misfit}
+use Rattle.trcf.specs.View.{Lent, settingsOf, view, countersUnfit}
 use Rattle.trcf.specs.declared.head.Preprocessor.{Preprocessor}
 use Rattle.trcf.proofs.FitLaws.{all-take}
 use Rattle.trcf.proofs.RefusalLaws.{Counted, counted-of, miscounted-not}
 use Rattle.snapshot.specs.Text.{render}
 use Rattle.snapshot.specs.Form.{Form}
 use Rattle.snapshot.specs.Read.{climbs, zeros}
-use Rattle.snapshot.specs.Save.{past, unheld, unformed, Outcome, outcome, fitted, heldSave, saveOf}
+use Rattle.snapshot.specs.Save.{past, inUseShort, unformed, SaveOutcome, saveOutcome, fitted, heldSave, saveOf}
 use Rattle.snapshot.specs.Savable.{InMemory}
 use Rattle.snapshot.proofs.ReadKinds.{climbs-of, to-climbs, zeros-of, to-zeros}
 use Rattle.snapshot.proofs.SaveLaws.{Held, held-of}
@@ -51,8 +51,8 @@ module _ (h : Preprocessor) (l : Lent) where
   -- nothing refuses, but for room
   pub record Savable : Type 0 where
     pub settled : settingsRow (settingsOf h) ≡ 0
-    pub counted : misfit h ≡ false
-    pub held : unheld h l ≡ false
+    pub counted : countersUnfit h ≡ false
+    pub held : inUseShort h l ≡ false
     pub formed : unformed (view h l) ≡ false
 
   pub saved-fitted : Savable → (out : List ℕ) → saveOf h l out ≡ fitted (render (view h l)) out
@@ -61,9 +61,9 @@ module _ (h : Preprocessor) (l : Lent) where
 
   pub savable-of : (out : List ℕ) → saveOf h l out .row ≡ 0 → Savable
   unfolding saveOf heldSave
-  savable-of out e = go (settingsRow (settingsOf h)) (misfit h) (unheld h l) (unformed (view h l)) refl refl refl refl
+  savable-of out e = go (settingsRow (settingsOf h)) (countersUnfit h) (inUseShort h l) (unformed (view h l)) refl refl refl refl
     where
-      go : (r : ℕ) (a b c : Bool) → settingsRow (settingsOf h) ≡ r → misfit h ≡ a → unheld h l ≡ b → unformed (view h l) ≡ c → Savable
+      go : (r : ℕ) (a b c : Bool) → settingsRow (settingsOf h) ≡ r → countersUnfit h ≡ a → inUseShort h l ≡ b → unformed (view h l) ≡ c → Savable
       go (suc r) a b c p q u v = absurd (let z : _≡_ {A = ℕ} (suc r) 0 = (rw p at e) in omega (arith, z))
       go zero true b c p q u v = absurd (let z : _≡_ {A = ℕ} 19 0 = (rw (p, q) at e) in omega (arith, z))
       go zero false true c p q u v = absurd (let z : _≡_ {A = ℕ} 20 0 = (rw (p, q, u) at e) in omega (arith, z))
@@ -75,13 +75,13 @@ module _ (h : Preprocessor) (l : Lent) where
   abbrev wide : ℕ
   wide = cond (augments (h .«forest_mode»)) 1 0
 
-  holds : unheld h l ≡ false
+  holds : inUseShort h l ≡ false
       → Held (h .transformer .«input_length») (h .«shingle_size») wide (h .«initial_len») (length (l .statistics)) (length (l .lastShingledInput))
       (length (l .lastShingledPoint)) (length (l .previousTimestamps)) (length (l .initialValues)) (length (l .initialTimestamps))
-  unfolding unheld
+  unfolding inUseShort
   holds e = held-of (h .transformer .«input_length») (h .«shingle_size») wide (h .«initial_len») _ _ _ _ _ _ e
 
-  module _ (e : unheld h l ≡ false) where
+  module _ (e : inUseShort h l ≡ false) where
     pub initial-is : length (view h l .initialTimestamps) ≡ h .«initial_len»
     unfolding view
     initial-is = length-take-le (h .«initial_len») (l .initialTimestamps) (holds e .in-initial)
@@ -104,8 +104,8 @@ module _ (h : Preprocessor) (l : Lent) where
 
   -- ---- what is accepted has the form
 
-  counts : misfit h ≡ false → Counted (settingsOf h) (h .«values_seen») (h .«internal_timestamp») (h .transformer .count) (h .«initial_len»)
-  unfolding misfit
+  counts : countersUnfit h ≡ false → Counted (settingsOf h) (h .«values_seen») (h .«internal_timestamp») (h .transformer .count) (h .«initial_len»)
+  unfolding countersUnfit
   counts e = counted-of (settingsOf h) (h .«values_seen») (h .«internal_timestamp») (h .transformer .count) (h .«initial_len») e
 
   module _ (m : InMemory h l) (k : Savable) where
@@ -164,9 +164,9 @@ module _ (h : Preprocessor) (l : Lent) where
 
   -- ---- and what has the form is accepted
 
-  module _ (f : Form (view h l)) (e : unheld h l ≡ false) where
-    counted-form : misfit h ≡ false
-    unfolding misfit view
+  module _ (f : Form (view h l)) (e : inUseShort h l ≡ false) where
+    counted-form : countersUnfit h ≡ false
+    unfolding countersUnfit view
     counted-form =
         miscounted-not (settingsOf h) (h .«values_seen») (h .«internal_timestamp») (h .transformer .count) (h .«initial_len»)
         (record {

@@ -13,12 +13,12 @@ use borrow.Author.Tests.{ltb-false, lt-ltb, le-ltb}
 use Rattle.trcf.specs.declared.head.Preprocessor.{Preprocessor}
 use Rattle.trcf.specs.Types.{methodNumber, modeLetter, augments}
 use Rattle.trcf.specs.Settings.{Settings, settingsRow, block, dimension}
-use Rattle.trcf.specs.View.{Lent, settingsOf, view, misfit}
+use Rattle.trcf.specs.View.{Lent, settingsOf, view, countersUnfit}
 use Rattle.trcf.specs.Preprocessor.{State}
 use Rattle.snapshot.specs.Text.{Line, whole, wgt, inp, pnt, setLine, singles, chnLine, cntLine, devLine, devLines, timLine, bufLine, bufLines, bytesOf, bodyLines, linesBy, render}
 use Rattle.snapshot.specs.Read.{bytesOfLine}
 use Rattle.snapshot.specs.Steps.Write.{Wrote, tabbed, setBytes}
-use Rattle.snapshot.specs.Save.{past, unheld, unformed, Outcome, outcome, fitted, heldSave, saveOf}
+use Rattle.snapshot.specs.Save.{past, inUseShort, unformed, SaveOutcome, saveOutcome, fitted, heldSave, saveOf}
 use Rattle.snapshot.specs.Steps.TwoParts.{headBytes, listBytes}
 use Rattle.snapshot.proofs.WriteLaws.{stored-over}
 use Rattle.snapshot.proofs.LineBytes.{singles-size, chn-size, tim-size, cnt-size, dev-size, buf-size, set-size}
@@ -200,15 +200,15 @@ list-split d st x y ts v us =
 
 -- ---- what is answered
 
-pub fitted-not : (t out : List ℕ) (n : ℕ) → n ≡ length t → length out < n → outcome 20 0 out ≡ fitted t out
+pub fitted-not : (t out : List ℕ) (n : ℕ) → n ≡ length t → length out < n → saveOutcome 20 0 out ≡ fitted t out
 unfolding fitted
 fitted-not t out n e h = rw (lt-ltb (length out) (length t) (omega arith))
 
-pub fitted-is : (t out new : List ℕ) (n r : ℕ) → n ≡ length t → n ≤ length out → Wrote 0 t out r new → outcome 0 n new ≡ fitted t out
+pub fitted-is : (t out new : List ℕ) (n r : ℕ) → n ≡ length t → n ≤ length out → Wrote 0 t out r new → saveOutcome 0 n new ≡ fitted t out
 unfolding fitted
 fitted-is t out new n r e h w =
     let g : length t ≤ length out = omega arith in
-    rw (le-ltb (length out) (length t) g) (λ i. outcome 0 (e i) ((w .bytes ∙ stored-over out t g) i))
+    rw (le-ltb (length out) (length t) g) (λ i. saveOutcome 0 (e i) ((w .bytes ∙ stored-over out t g) i))
 
 pub wide-of : (b : Bool) (w : ℕ) → w ≡ cond b 1 0 → w ≤ 1
 wide-of true w e = omega arith
@@ -221,16 +221,16 @@ module _ (h : Preprocessor) (l : Lent) (w : ℕ) (e : w ≡ cond (augments (h .�
       past (h .transformer .«input_length») (h .«shingle_size») x (h .«initial_len») (length (l .statistics)) (length (l .lastShingledInput))
       (length (l .lastShingledPoint)) (length (l .previousTimestamps)) (length (l .initialValues)) (length (l .initialTimestamps))
 
-  pub saved-not : (out : List ℕ) → pastBy w ≡ true → outcome 20 0 out ≡ heldSave h l out
-  unfolding heldSave unheld
+  pub saved-not : (out : List ℕ) → pastBy w ≡ true → saveOutcome 20 0 out ≡ heldSave h l out
+  unfolding heldSave inUseShort
   saved-not out g = let k : pastBy (cond (augments (h .«forest_mode»)) 1 0) ≡ true = ap pastBy (sym e) ∙ g in rw k
 
-  pub saved-unformed : (out : List ℕ) → pastBy w ≡ false → unformed (view h l) ≡ true → outcome 19 0 out ≡ heldSave h l out
-  unfolding heldSave unheld
+  pub saved-unformed : (out : List ℕ) → pastBy w ≡ false → unformed (view h l) ≡ true → saveOutcome 19 0 out ≡ heldSave h l out
+  unfolding heldSave inUseShort
   saved-unformed out g u = let k : pastBy (cond (augments (h .«forest_mode»)) 1 0) ≡ false = ap pastBy (sym e) ∙ g in rw (k, u)
 
   -- the text of what is in use of the lent lists
-  pub saved-is : (out : List ℕ) (o : Outcome) → pastBy w ≡ false → unformed (view h l) ≡ false
+  pub saved-is : (out : List ℕ) (o : SaveOutcome) → pastBy w ≡ false → unformed (view h l) ≡ false
       → o ≡ fitted
       (headBytes (settingsOf h) (h .«values_seen») (h .«internal_timestamp») (h .transformer .count)
       ++ listBytes (h .transformer .«input_length») (take (3 * (5 * h .transformer .«input_length» + 5)) (l .statistics))
@@ -238,7 +238,7 @@ module _ (h : Preprocessor) (l : Lent) (w : ℕ) (e : w ≡ cond (augments (h .�
       (take ((h .transformer .«input_length» + w) * h .«shingle_size») (l .lastShingledPoint)) (take (h .«shingle_size») (l .previousTimestamps))
       (take (h .«initial_len» * h .transformer .«input_length») (l .initialValues)) (take (h .«initial_len») (l .initialTimestamps))) out
       → o ≡ heldSave h l out
-  unfolding heldSave unheld view dimension block
+  unfolding heldSave inUseShort view dimension block
   saved-is out o g u q =
       let k : pastBy (cond (augments (h .«forest_mode»)) 1 0) ≡ false = ap pastBy (sym e) ∙ g in
       q
@@ -253,15 +253,15 @@ module _ (h : Preprocessor) (l : Lent) (w : ℕ) (e : w ≡ cond (augments (h .�
 -- ---- the head's own rows come first
 
 module _ (h : Preprocessor) (l : Lent) (out : List ℕ) where
-  pub saved-row : (r : ℕ) → r ≡ settingsRow (settingsOf h) → (r ≡ 0 → ⊥) → outcome r 0 out ≡ saveOf h l out
+  pub saved-row : (r : ℕ) → r ≡ settingsRow (settingsOf h) → (r ≡ 0 → ⊥) → saveOutcome r 0 out ≡ saveOf h l out
   unfolding saveOf
   saved-row zero e n = absurd (n refl)
   saved-row (suc r) e n = rw (sym e)
 
-  pub saved-misfit : settingsRow (settingsOf h) ≡ 0 → misfit h ≡ true → outcome 19 0 out ≡ saveOf h l out
+  pub saved-misfit : settingsRow (settingsOf h) ≡ 0 → countersUnfit h ≡ true → saveOutcome 19 0 out ≡ saveOf h l out
   unfolding saveOf
   saved-misfit e m = rw (e, m)
 
-  pub saved-held : settingsRow (settingsOf h) ≡ 0 → misfit h ≡ false → (o : Outcome) → o ≡ heldSave h l out → o ≡ saveOf h l out
+  pub saved-held : settingsRow (settingsOf h) ≡ 0 → countersUnfit h ≡ false → (o : SaveOutcome) → o ≡ heldSave h l out → o ≡ saveOf h l out
   unfolding saveOf
   saved-held e m o q = rw (e, m) q

@@ -6,16 +6,16 @@ use native.Mathlib.Omega.{arith}
 use lib.ListN.{length, replicate}
 use lib.Ieee.{Float, binary32, ofBits, ofFields, odd, fits, size, toBits, le, lt}
 use Rattle.common.specs.Deviation.{zero64, outsideUnit}
-use Rattle.common.specs.Lent.{over}
+use Rattle.refusal.specs.Lent.{over}
 use Rattle.trcf.specs.Transformer.{zero32, one32}
 use Rattle.trcf.specs.Settings.{Settings, settingsRow, allOne, block, dimension, waiting}
 use Rattle.trcf.specs.Calls.{finite}
-use Rattle.trcf.specs.View.{Lent, lent, headFrom, noHead, counting, view, misfit, lentShort}
+use Rattle.trcf.specs.View.{Lent, lent, headFrom, noHead, counting, view, countersUnfit, lentShort}
 use Rattle.trcf.specs.declared.types.TransformMethod.the-variants.{NONE, NORMALIZE}
 use Rattle.trcf.specs.declared.types.ForestMode.the-variants.{STANDARD}
 use Rattle.trcf.specs.declared.head.Preprocessor.{Preprocessor}
 use Rattle.snapshot.specs.Text.{render, linesBy, bodyLines, setLine, singles, chnLine, cntLine, devLine, timLine, bufLine, whole, float}
-use Rattle.snapshot.specs.Save.{unheld, unformed, fitted, heldSave, saveOf}
+use Rattle.snapshot.specs.Save.{inUseShort, unformed, fitted, heldSave, saveOf}
 use Rattle.snapshot.specs.Savable.{InMemory, TakenUp}
 use Rattle.snapshot.specs.Room.{textRoom}
 use Rattle.snapshot.proofs.SaveForm.{savable-of, saved-form}
@@ -23,7 +23,7 @@ use Rattle.snapshot.proofs.RoundTrip.{saved-is-taken-up}
 use Rattle.snapshot.proofs.TextRoom.{text-fits}
 
 all : Unit {0}
-unfolding over saveOf heldSave fitted unformed unheld settingsRow misfit lentShort view block dimension waiting allOne finite outsideUnit render linesBy bodyLines setLine singles chnLine cntLine devLine timLine bufLine whole float toBits ofBits ofFields odd fits size le lt
+unfolding over saveOf heldSave fitted unformed inUseShort settingsRow countersUnfit lentShort view block dimension waiting allOne finite outsideUnit render linesBy bodyLines setLine singles chnLine cntLine devLine timLine bufLine whole float toBits ofBits ofFields odd fits size le lt
 all = tt
 
 abbrev settings : Settings

@@ -15,7 +15,7 @@ use Rattle.trcf.specs.Types.{modeOfLetter}
 use Rattle.snapshot.specs.Read.{asWhole, asFloat}
 use Rattle.trcf.specs.declared.types.ForestMode.{ForestMode}
 use Rattle.trcf.specs.declared.types.TransformMethod.{TransformMethod}
-use Rattle.snapshot.specs.Steps.Judge.{placed, onto, held, byte, name, one, fields, modeNamed, modeIn, modeTold, methodIn, methodTold, setTest, tailBy, settingsWith, settled, setBy, settingsTold}
+use Rattle.snapshot.specs.Steps.Judge.{placed, onto, withRest, byte, name, one, fields, modeNamed, modeIn, modeTold, methodIn, methodTold, setTest, tailBy, settingsWith, settingsIfRead, setBy, settingsTold}
 use Rattle.snapshot.specs.declared.piece.Place.{Place}
 use Rattle.snapshot.specs.declared.piece.Place.the-variants.{At, Nowhere}
 use Rattle.snapshot.specs.declared.settings.Mode.{Mode}
@@ -80,7 +80,7 @@ module _ (l : List ℕ) where
     unfolding tailBy
     tail-second f = rw (e, f)
 
-    pub tail-good : (x : Float) (w : List ℕ) (o : Option (List ℕ)) → one (asFloat binary32) z ≡ some (x, w) → o ≡ byte 10 w → held (y, x) o ≡ tailBy l
+    pub tail-good : (x : Float) (w : List ℕ) (o : Option (List ℕ)) → one (asFloat binary32) z ≡ some (x, w) → o ≡ byte 10 w → withRest (y, x) o ≡ tailBy l
     unfolding tailBy
     tail-good x w o f q = rw (e, f, q)
 
@@ -104,8 +104,8 @@ mode-inside t i r m e h = go (leb (length t) i) refl
         let z : some m ≡ none = (rw e at h) ∙ sym (mode-end t i (leb-true (length t) i q)) in
         absurd (Option·none-ne-some m (sym z))
 
-pub no-settings : (r : Set) (t : List ℕ) → r .place ≡ Nowhere → held (settingsTold r) (placed (r .place) t) ≡ none
-no-settings r t e = ap (λ (p : Place). held (settingsTold r) (placed p t)) e
+pub no-settings : (r : Set) (t : List ℕ) → r .place ≡ Nowhere → withRest (settingsTold r) (placed (r .place) t) ≡ none
+no-settings r t e = ap (λ (p : Place). withRest (settingsTold r) (placed p t)) e
 
 module _ (t : List ℕ) where
   pub set-nameless : none ≡ name 115 101 116 t → none ≡ setBy t
@@ -123,37 +123,37 @@ module _ (t : List ℕ) where
       set-modeless r n h = let g : none ≡ modeIn (drop q t) = rw n at h in rw (sym e, sym f, sym g)
 
       module _ (r : Mode) (m : ForestMode) (n : r ≡ OfMode m) (h : modeTold r ≡ modeIn (drop q t)) where
-        at-wholes : onto (fields asWhole 5 (drop (q + 1) t)) (λ w. onto (methodIn (getD (w .0) 0 0)) (λ k. settled m k (w .0) (tailBy (w .1)))) ≡ setBy t
+        at-wholes : onto (fields asWhole 5 (drop (q + 1) t)) (λ w. onto (methodIn (getD (w .0) 0 0)) (λ k. settingsIfRead m k (w .0) (tailBy (w .1)))) ≡ setBy t
         unfolding setBy
         at-wholes = let g : some m ≡ modeIn (drop q t) = rw n at h in rw (sym e, sym f, sym g, drop-drop 1 q t)
 
         pub set-wholeless : none ≡ fields asWhole 5 (drop (q + 1) t) → none ≡ setBy t
-        set-wholeless g = ap (λ (o : Option (List ℕ × List ℕ)). onto o (λ w. onto (methodIn (getD (w .0) 0 0)) (λ k. settled m k (w .0) (tailBy (w .1))))) g ∙ at-wholes
+        set-wholeless g = ap (λ (o : Option (List ℕ × List ℕ)). onto o (λ w. onto (methodIn (getD (w .0) 0 0)) (λ k. settingsIfRead m k (w .0) (tailBy (w .1))))) g ∙ at-wholes
 
         module _ (w : List ℕ) (x : List ℕ) (g : some (w, x) ≡ fields asWhole 5 (drop (q + 1) t)) where
-          at-method : onto (methodIn (getD w 0 0)) (λ k. settled m k w (tailBy x)) ≡ setBy t
-          at-method = ap (λ (o : Option (List ℕ × List ℕ)). onto o (λ v. onto (methodIn (getD (v .0) 0 0)) (λ k. settled m k (v .0) (tailBy (v .1))))) g ∙ at-wholes
+          at-method : onto (methodIn (getD w 0 0)) (λ k. settingsIfRead m k w (tailBy x)) ≡ setBy t
+          at-method = ap (λ (o : Option (List ℕ × List ℕ)). onto o (λ v. onto (methodIn (getD (v .0) 0 0)) (λ k. settingsIfRead m k (v .0) (tailBy (v .1))))) g ∙ at-wholes
 
           pub set-methodless : (s : Method) → s ≡ NoMethod → methodTold s ≡ methodIn (getD w 0 0) → none ≡ setBy t
-          set-methodless s a b = let c : none ≡ methodIn (getD w 0 0) = rw a at b in ap (λ (o : Option TransformMethod). onto o (λ k. settled m k w (tailBy x))) c ∙ at-method
+          set-methodless s a b = let c : none ≡ methodIn (getD w 0 0) = rw a at b in ap (λ (o : Option TransformMethod). onto o (λ k. settingsIfRead m k w (tailBy x))) c ∙ at-method
 
           module _ (s : Method) (k : TransformMethod) (a : s ≡ OfMethod k) (b : methodTold s ≡ methodIn (getD w 0 0))
-              (p : Place) (y u : Float) (c : held (y, u) (placed p t) ≡ tailBy x) where
-            at-tail : settled m k w (held (y, u) (placed p t)) ≡ setBy t
+              (p : Place) (y u : Float) (c : withRest (y, u) (placed p t) ≡ tailBy x) where
+            at-tail : settingsIfRead m k w (withRest (y, u) (placed p t)) ≡ setBy t
             at-tail =
                 let d : some k ≡ methodIn (getD w 0 0) = rw a at b in
-                ap (settled m k w) c ∙ ap (λ (o : Option TransformMethod). onto o (λ k. settled m k w (tailBy x))) d ∙ at-method
+                ap (settingsIfRead m k w) c ∙ ap (λ (o : Option TransformMethod). onto o (λ k. settingsIfRead m k w (tailBy x))) d ∙ at-method
 
             pub set-unfit : setTest (getD w 1 0) (getD w 2 0) (getD w 3 0) (getD w 4 0) y ≡ false → none ≡ setBy t
             set-unfit h = go p ∙ at-tail
               where
-                go : (p : Place) → none ≡ settled m k w (held (y, u) (placed p t))
+                go : (p : Place) → none ≡ settingsIfRead m k w (withRest (y, u) (placed p t))
                 go (At n) = rw h
                 go Nowhere = refl
 
-            pub set-good : setTest (getD w 1 0) (getD w 2 0) (getD w 3 0) (getD w 4 0) y ≡ true → held (settingsWith m k w y u) (placed p t) ≡ setBy t
+            pub set-good : setTest (getD w 1 0) (getD w 2 0) (getD w 3 0) (getD w 4 0) y ≡ true → withRest (settingsWith m k w y u) (placed p t) ≡ setBy t
             set-good h = go p ∙ at-tail
               where
-                go : (p : Place) → held (settingsWith m k w y u) (placed p t) ≡ settled m k w (held (y, u) (placed p t))
+                go : (p : Place) → withRest (settingsWith m k w y u) (placed p t) ≡ settingsIfRead m k w (withRest (y, u) (placed p t))
                 go (At n) = rw h
                 go Nowhere = refl

@@ -21,7 +21,7 @@ use Rattle.snapshot.proofs.BodyLaws.{dimension-is}
 use Rattle.snapshot.proofs.SaveLaws.{render-parts, head-size, list-size}
 use Rattle.snapshot.proofs.RoundTrip.{weights-are, codes-are, few-of, initial-few}
 
--- numbers of at most k + 1 digits, each behind its tab
+-- numbers of at most k + 1 digits, each after its tab
 tabbed-within : (k : ℕ) (l : List ℕ) → All (λ n. n < 10 ^ suc k) l → length (tabbed (map whole l)) ≤ (k + 2) * length l
 tabbed-within k [] h = omega arith
 tabbed-within k (n ∷ l) h =

@@ -12,9 +12,9 @@ use lib.Dec.{T, ltb}
 use lib.Ieee.{Float, nan, inf, fin, Format, binary32, toBits, ne, isNan}
 use lib.Ieee.Compare.{differs-from-itself}
 use borrow.Author.Tests.{ltb-true, ltb-false}
-use Rattle.common.specs.Lent.{over}
+use Rattle.refusal.specs.Lent.{over}
 use Rattle.trcf.specs.Settings.{wholeMax}
-use Rattle.snapshot.specs.Text.{whole, hex, digit, width, float, behind}
+use Rattle.snapshot.specs.Text.{whole, hex, digit, width, float, tabbedFields}
 use Rattle.snapshot.specs.Steps.Write.{stored, Wrote, tabbed}
 use Rattle.snapshot.proofs.ScanLaws.{whole-digit, whole-snoc}
 use Rattle.snapshot.proofs.HexLaws.{hex-length}
@@ -27,7 +27,7 @@ stored-append [] old at b = ap (λ (k : ℕ). sets old k b) (sym (add-zero at))
 stored-append (x ∷ a) old at b =
     stored-append a (set old at x) (suc at) b ∙ ap (λ (k : ℕ). sets (sets (set old at x) (suc at) a) k b) (omega arith)
 
--- a store behind may come first
+-- a later store may come first
 set-before : (a old : List ℕ) (at j d : ℕ) → at + length a ≤ j → sets (set old j d) at a ≡ set (sets old at a) j d
 set-before [] old at j d h = refl
 set-before (x ∷ a) old at j d h =
@@ -105,7 +105,7 @@ floats-length [] = refl
 floats-length (x ∷ xs) =
     ap suc (length-append (float binary32 x) (tabbed (map (float binary32) xs))) ∙ omega (arith, float-length binary32 x, floats-length xs)
 
-pub behind-tabbed : (fs : List (List ℕ)) → behind fs ≡ tabbed fs ++ (10 ∷ [])
+pub behind-tabbed : (fs : List (List ℕ)) → tabbedFields fs ≡ tabbed fs ++ (10 ∷ [])
 behind-tabbed [] = refl
 behind-tabbed (f ∷ fs) = ap (λ (t : List ℕ). 9 ∷ t) (ap (λ (t : List ℕ). f ++ t) (behind-tabbed fs) ∙ sym (append-assoc f (tabbed fs) (10 ∷ [])))
 
@@ -143,17 +143,6 @@ whole-within (suc k) m h = go (ltb m 10) refl (whole-within k (m / 10))
 
 pub whole-short : (m : ℕ) → m ≤ wholeMax → length (whole m) ≤ 20
 whole-short m h = whole-within 19 m (omega arith)
-
--- ---- the bits of a number: `to_bits` is asked only where x is one
-
-pub a-number : (x : Float) → ne x x ≡ false → T (not (isNan x))
-unfolding ne isNan
-a-number nan h = subst T h tt
-a-number (inf s) h = tt
-a-number (fin s m e) h = tt
-
-pub nan-bits : (f : Format) (x : Float) → ne x x ≡ true → toBits f nan ≡ toBits f x
-nan-bits f x h = ap (toBits f) (sym (differs-from-itself x (subst T (sym h) tt)))
 
 -- ---- digits stored from the back
 

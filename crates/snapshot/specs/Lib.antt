@@ -7,3 +7,4 @@ pub mod Restore
 pub mod Savable
 pub mod Room
 pub mod Steps
+pub mod Ascii

@@ -16,11 +16,11 @@ use Rattle.trcf.specs.declared.types.TransformMethod.the-variants.{NONE, WEIGHT
 use Rattle.trcf.specs.declared.types.ForestMode.{ForestMode}
 use Rattle.trcf.specs.declared.types.ForestMode.the-variants.{STANDARD}
 use Rattle.trcf.specs.Types.{isNone, normalizes, modeOfLetter}
-use Rattle.trcf.specs.Settings.{Settings, dimension, waiting, imputes, allOne, wholeMax, codeMax}
+use Rattle.trcf.specs.Settings.{Settings, inputLimit, shingleLimit, startBound, dimension, waiting, imputes, allOne, wholeMax, codeMax}
 use Rattle.trcf.specs.Calls.{finite, seenLimit}
 use Rattle.trcf.specs.Preprocessor.{State, Reading}
 use Rattle.snapshot.specs.Form.{Form}
-use Rattle.snapshot.specs.Text.{whole, float, Line, behind, wgt, inp, pnt, chn, setLine, singles, chnLine, cntLine, devLine, timLine, bufLine, TextOf}
+use Rattle.snapshot.specs.Text.{whole, float, Line, tabbedFields, wgt, inp, pnt, chn, setLine, singles, chnLine, cntLine, devLine, timLine, bufLine, TextOf}
 
 -- ---- lines, and the cells of a line
 
@@ -29,7 +29,7 @@ abbrev pub push : ℕ → List (List ℕ) → List (List ℕ)
 push b [] = (b ∷ []) ∷ []
 push b (l ∷ ls) = (b ∷ l) ∷ ls
 
--- every line with its LF; bytes behind the last LF are a line without one
+-- every line with its LF; bytes after the last LF are a line without one
 abbrev pub lines : List ℕ → List (List ℕ)
 lines [] = []
 lines (b ∷ t) = let r = lines t in cond (eqb b 10) ((10 ∷ []) ∷ r) (push b r)
@@ -40,17 +40,17 @@ join (l ∷ ls) = l ++ join ls
 
 -- the bytes of a line
 abbrev pub bytesOfLine : Line → List ℕ
-bytesOfLine l = l .name ++ behind (l .fields)
+bytesOfLine l = l .name ++ tabbedFields (l .fields)
 
 -- a line cut at its tabs and its LF
 abbrev pub cells : List ℕ → List (List ℕ)
 cells [] = []
 cells (b ∷ l) = let r = cells l in cond (leb b 10) ([] ∷ r) (push b r)
 
-abbrev pub cell : ℕ → List (List ℕ) → List ℕ
-cell n [] = []
-cell zero (x ∷ xs) = x
-cell (suc n) (x ∷ xs) = cell n xs
+abbrev pub nthField : ℕ → List (List ℕ) → List ℕ
+nthField n [] = []
+nthField zero (x ∷ xs) = x
+nthField (suc n) (x ∷ xs) = nthField n xs
 
 -- ---- what a cell may have been written from
 
@@ -115,13 +115,13 @@ zeros (t ∷ ts) = eqb t 0 && zeros ts
 
 -- ---- a kind of line: how a value is written, a guess from the cells, and the tests of a value
 
-pub record Kind (A : Type 0) : Type 0 where
+pub record LineKind (A : Type 0) : Type 0 where
   pub write : A → Line
   pub guess : List (List ℕ) → A
   pub tests : A → List Bool
 
 -- a line is taken for the value that is guessed, where that value is written as this line and passes the tests
-unfoldable pub judge : {A : Type 0} → Kind A → List ℕ → Option A
+unfoldable pub judge : {A : Type 0} → LineKind A → List ℕ → Option A
 judge k b = let a = k .guess (cells b) in cond (every (same (bytesOfLine (k .write a)) b ∷ k .tests a)) (some a) none
 
 -- ---- fields: "a single, a double, a whole number or bad", by the same rule
@@ -135,20 +135,20 @@ asFloat f c = let x = floatFrom f c in cond (same (float f x) c) (some x) none
 -- ---- the kinds
 
 -- `set`: rows 1 to 4 and 6 to 8, and numbers that the program can hold. The weights are not in this line.
-abbrev pub setKind : Kind Settings
+abbrev pub setKind : LineKind Settings
 setKind =
     record {
       write = setLine;
       guess = λ c.
           record {
-            mode = modeFrom (cell 1 c);
-            method = methodFrom (wholeFrom 0 (cell 2 c));
-            d = wholeFrom 0 (cell 3 c);
-            k = wholeFrom 0 (cell 4 c);
-            start = wholeFrom 0 (cell 5 c);
-            stop = wholeFrom 0 (cell 6 c);
-            decay = floatFrom binary64 (cell 7 c);
-            weightTime = floatFrom binary32 (cell 8 c);
+            mode = modeFrom (nthField 1 c);
+            method = methodFrom (wholeFrom 0 (nthField 2 c));
+            d = wholeFrom 0 (nthField 3 c);
+            k = wholeFrom 0 (nthField 4 c);
+            start = wholeFrom 0 (nthField 5 c);
+            stop = wholeFrom 0 (nthField 6 c);
+            decay = floatFrom binary64 (nthField 7 c);
+            weightTime = floatFrom binary32 (nthField 8 c);
             weights = [];
             codes = [];
           };
@@ -156,18 +156,18 @@ setKind =
           not (imputes (s .mode))
           ∷ not (eqb (s .d) 0)
           ∷ not (eqb (s .k) 0)
-          ∷ not (ltb 16 (s .d) || ltb 64 (s .k))
+          ∷ not (ltb inputLimit (s .d) || ltb shingleLimit (s .k))
           ∷ not (outsideUnit (s .decay))
           ∷ not (ltb (s .stop) (s .start))
-          ∷ not (leb 2000 (s .start))
+          ∷ not (leb startBound (s .start))
           ∷ leb (s .stop) wholeMax
           ∷ fits binary64 (s .decay)
           ∷ fits binary32 (s .weightTime)
           ∷ [];
     }
 
--- n singles behind a name
-abbrev pub singlesKind : List ℕ → ℕ → (List Float → List Bool) → Kind (List Float)
+-- n singles after a name
+abbrev pub singlesKind : List ℕ → ℕ → (List Float → List Bool) → LineKind (List Float)
 singlesKind name n more =
     record {
       write = singles name;
@@ -176,13 +176,13 @@ singlesKind name n more =
     }
 
 -- `wgt`: rows 5 and 9, "weights against NONE: line 2"
-abbrev pub wgtKind : Settings → Kind (List Float)
+abbrev pub wgtKind : Settings → LineKind (List Float)
 wgtKind s = singlesKind wgt (s .d) (λ v. not (isNone (s .method) && not (allOne v)) ∷ [])
 
-abbrev pub inpKind : Settings → Kind (List Float)
+abbrev pub inpKind : Settings → LineKind (List Float)
 inpKind s = singlesKind inp (s .d * s .k) (λ v. [])
 
-abbrev pub pntKind : Settings → Kind (List Float)
+abbrev pub pntKind : Settings → LineKind (List Float)
 pntKind s = singlesKind pnt (dimension s) (λ v. [])
 
 pub record Counts : Type 0 where
@@ -191,11 +191,11 @@ pub record Counts : Type 0 where
   pub count : ℕ
 
 -- `cnt`: "While waiting … internal is 0"
-abbrev pub cntKind : Settings → Kind Counts
+abbrev pub cntKind : Settings → LineKind Counts
 cntKind s =
     record {
       write = λ c. cntLine (c .valuesSeen) (c .internalTimestamp) (c .count);
-      guess = λ c. record { valuesSeen = wholeFrom 0 (cell 1 c); internalTimestamp = wholeFrom 0 (cell 2 c); count = wholeFrom 0 (cell 3 c) };
+      guess = λ c. record { valuesSeen = wholeFrom 0 (nthField 1 c); internalTimestamp = wholeFrom 0 (nthField 2 c); count = wholeFrom 0 (nthField 3 c) };
       tests = λ c.
           leb (c .valuesSeen) seenLimit
           ∷ leb (c .internalTimestamp) seenLimit
@@ -205,7 +205,7 @@ cntKind s =
     }
 
 -- `chn`: d codes
-abbrev pub chnKind : Settings → Kind (List ℕ)
+abbrev pub chnKind : Settings → LineKind (List ℕ)
 chnKind s =
     record {
       write = chnLine;
@@ -214,19 +214,19 @@ chnKind s =
     }
 
 -- a line of the one kind or of the other, by the name that it bears
-abbrev pub writeEither : {A B : Type 0} → Kind A → Kind B → A ⊎ B → Line
+abbrev pub writeEither : {A B : Type 0} → LineKind A → LineKind B → A ⊎ B → Line
 writeEither p q (inl a) = p .write a
 writeEither p q (inr b) = q .write b
 
-abbrev pub testsEither : {A B : Type 0} → Kind A → Kind B → A ⊎ B → List Bool
+abbrev pub testsEither : {A B : Type 0} → LineKind A → LineKind B → A ⊎ B → List Bool
 testsEither p q (inl a) = p .tests a
 testsEither p q (inr b) = q .tests b
 
-abbrev pub eitherKind : {A B : Type 0} → List ℕ → Kind A → Kind B → Kind (A ⊎ B)
+abbrev pub eitherKind : {A B : Type 0} → List ℕ → LineKind A → LineKind B → LineKind (A ⊎ B)
 eitherKind n p q =
     record {
       write = writeEither p q;
-      guess = λ c. cond (same (cell 0 c) n) (inl (p .guess c)) (inr (q .guess c));
+      guess = λ c. cond (same (nthField 0 c) n) (inl (p .guess c)) (inr (q .guess c));
       tests = testsEither p q;
     }
 
@@ -235,16 +235,16 @@ pub record Three : Type 0 where
   pub sum : Float
   pub squares : Float
 
-abbrev pub devKind : Kind Three
+abbrev pub devKind : LineKind Three
 devKind =
     record {
       write = λ a. devLine (a .weight) (a .sum) (a .squares);
-      guess = λ c. record { weight = floatFrom binary64 (cell 1 c); sum = floatFrom binary64 (cell 2 c); squares = floatFrom binary64 (cell 3 c) };
+      guess = λ c. record { weight = floatFrom binary64 (nthField 1 c); sum = floatFrom binary64 (nthField 2 c); squares = floatFrom binary64 (nthField 3 c) };
       tests = λ a. fits binary64 (a .weight) ∷ fits binary64 (a .sum) ∷ fits binary64 (a .squares) ∷ [];
     }
 
 -- `tim`: "k times, none falling"; "With internal 0 all `tim` are 0."
-abbrev pub timKind : Settings → Counts → Kind (List ℕ)
+abbrev pub timKind : Settings → Counts → LineKind (List ℕ)
 timKind s c =
     record {
       write = timLine;
@@ -253,11 +253,11 @@ timKind s c =
     }
 
 -- `buf`: d finite numbers, the time not below p
-abbrev pub bufKind : ℕ → ℕ → Kind Reading
+abbrev pub bufKind : ℕ → ℕ → LineKind Reading
 bufKind d p =
     record {
       write = λ r. bufLine (r .time) (r .value);
-      guess = λ c. record { value = map (floatFrom binary32) (drop 2 c); time = wholeFrom 0 (cell 1 c) };
+      guess = λ c. record { value = map (floatFrom binary32) (drop 2 c); time = wholeFrom 0 (nthField 1 c) };
       tests = λ r.
           leb p (r .time) ∷ leb (r .time) wholeMax ∷ eqb (length (r .value)) d ∷ allFit binary32 (r .value) ∷ finite (r .value) ∷ [];
     }
@@ -265,13 +265,13 @@ bufKind d p =
 -- ---- a plan: which line may come next, by what was read; where the text may end, the state that it is of
 
 pub data Plan : Type 1 where
-  end : State → Plan
-  line : Option State → (A : Type 0) → Kind A → (A → Plan) → Plan
+  planEnd : State → Plan
+  planLine : Option State → (A : Type 0) → LineKind A → (A → Plan) → Plan
 
 -- n `buf` lines, none below p; e where the text may end before them
 abbrev pub bufsPlan : Option State → ℕ → ℕ → ℕ → (List Float → List ℕ → State) → Plan
-bufsPlan e d p zero k = end (k [] [])
-bufsPlan e d p (suc n) k = line e Reading (bufKind d p) (λ r. bufsPlan none d (r .time) n (λ v ts. k (r .value ++ v) (r .time ∷ ts)))
+bufsPlan e d p zero k = planEnd (k [] [])
+bufsPlan e d p (suc n) k = planLine e Reading (bufKind d p) (λ r. bufsPlan none d (r .time) n (λ v ts. k (r .value ++ v) (r .time ∷ ts)))
 
 -- "later none, or start lines under methods 4 and 5 (with such lines, internal is 0 if values_seen = start)"
 unfoldable pub mayStand : Settings → Counts → Bool
@@ -281,11 +281,11 @@ mayStand s c = normalizes (s .method) && (not (eqb (c .valuesSeen) (s .start)) |
 abbrev pub bufPlan : Bool → Bool → Settings → Counts → (List Float → List ℕ → State) → Plan
 bufPlan true m s c k = bufsPlan none (s .d) 0 (c .valuesSeen) k
 bufPlan false true s c k = bufsPlan (some (k [] [])) (s .d) 0 (s .start) k
-bufPlan false false s c k = end (k [] [])
+bufPlan false false s c k = planEnd (k [] [])
 
 abbrev pub devsPlan : ℕ → (List Float → Plan) → Plan
 devsPlan zero k = k []
-devsPlan (suc n) k = line none Three devKind (λ a. devsPlan n (λ st. k (a .weight ∷ a .sum ∷ a .squares ∷ st)))
+devsPlan (suc n) k = planLine none Three devKind (λ a. devsPlan n (λ st. k (a .weight ∷ a .sum ∷ a .squares ∷ st)))
 
 abbrev pub stateOf : Settings → Counts → List Float → List Float → List Float → List ℕ → List Float → List ℕ → State
 stateOf s c st x y ts v us =
@@ -323,26 +323,26 @@ abbrev pub afterTim : Settings → Counts → List Float → List Float → List
 afterTim s c st x y ts = bufPlan (waiting s (c .valuesSeen)) (mayStand s c) s c (stateOf s c st x y ts)
 
 abbrev pub afterPnt : Settings → Counts → List Float → List Float → List Float → Plan
-afterPnt s c st x y = line none (List ℕ) (timKind s c) (afterTim s c st x y)
+afterPnt s c st x y = planLine none (List ℕ) (timKind s c) (afterTim s c st x y)
 
 abbrev pub afterInp : Settings → Counts → List Float → List Float → Plan
-afterInp s c st x = line none (List Float) (pntKind s) (afterPnt s c st x)
+afterInp s c st x = planLine none (List Float) (pntKind s) (afterPnt s c st x)
 
 abbrev pub afterDev : Settings → Counts → List Float → Plan
-afterDev s c st = line none (List Float) (inpKind s) (afterInp s c st)
+afterDev s c st = planLine none (List Float) (inpKind s) (afterInp s c st)
 
 abbrev pub afterCnt : Settings → Counts → Plan
 afterCnt s c = devsPlan (5 * s .d + 5) (afterDev s c)
 
 abbrev pub afterChn : Settings → Plan
-afterChn s = line none Counts (cntKind s) (afterCnt s)
+afterChn s = planLine none Counts (cntKind s) (afterCnt s)
 
 -- "a text lacking it is read as all zeros"
 abbrev pub bare : Settings → List Float → Settings
 bare s v = withLists s v (replicate (s .d) 0)
 
 -- line 3: the codes, or the counts of a text that lacks them
-abbrev pub thirdKind : Settings → List Float → Kind (List ℕ ⊎ Counts)
+abbrev pub thirdKind : Settings → List Float → LineKind (List ℕ ⊎ Counts)
 thirdKind s v = eitherKind chn (chnKind s) (cntKind (bare s v))
 
 abbrev pub afterThird : Settings → List Float → List ℕ ⊎ Counts → Plan
@@ -350,13 +350,13 @@ afterThird s v (inl cs) = afterChn (withLists s v cs)
 afterThird s v (inr c) = afterCnt (bare s v) c
 
 abbrev pub afterWgt : Settings → List Float → Plan
-afterWgt s v = line none (List ℕ ⊎ Counts) (thirdKind s v) (afterThird s v)
+afterWgt s v = planLine none (List ℕ ⊎ Counts) (thirdKind s v) (afterThird s v)
 
 abbrev pub afterSet : Settings → Plan
-afterSet s = line none (List Float) (wgtKind s) (afterWgt s)
+afterSet s = planLine none (List Float) (wgtKind s) (afterWgt s)
 
 abbrev pub plan : Plan
-plan = line none Settings setKind afterSet
+plan = planLine none Settings setKind afterSet
 
 -- ---- reading by a plan: the state, or the bad line, from 1
 
@@ -373,15 +373,15 @@ abbrev pub ended : Option State → Read
 ended none = bad 1
 ended (some w) = taken w
 
-abbrev pub next : {A : Type 0} → Option A → (A → Read) → Read
-next none g = bad 1
-next (some a) g = g a
+abbrev pub readThen : {A : Type 0} → Option A → (A → Read) → Read
+readThen none g = bad 1
+readThen (some a) g = g a
 
 abbrev pub follow : Plan → List (List ℕ) → Read
-follow (end w) [] = taken w
-follow (end w) (l ∷ ls) = bad 1
-follow (line e A c k) [] = ended e
-follow (line e A c k) (l ∷ ls) = next (judge c l) (λ a. later (follow (k a) ls))
+follow (planEnd w) [] = taken w
+follow (planEnd w) (l ∷ ls) = bad 1
+follow (planLine e A c k) [] = ended e
+follow (planLine e A c k) (l ∷ ls) = readThen (judge c l) (λ a. later (follow (k a) ls))
 
 unfoldable pub read : List ℕ → Read
 read t = follow plan (lines t)
@@ -390,11 +390,11 @@ read t = follow plan (lines t)
 
 -- whether line 3 is the codes'
 unfoldable pub carries : List ℕ → Bool
-carries t = same (cell 0 (cells (cell 2 (lines t)))) chn
+carries t = same (nthField 0 (cells (nthField 2 (lines t)))) chn
 
--- the text itself; "a text lacking it … as one exception, is put away with the line": d zeros behind line 2
-unfoldable pub kept : ℕ → List ℕ → List ℕ
-kept d t = cond (carries t) t (join (take 2 (lines t) ++ (bytesOfLine (chnLine (replicate d 0)) ∷ drop 2 (lines t))))
+-- the text itself; "a text lacking it … as one exception, is put away with the line": d zeros after line 2
+unfoldable pub withChannelLine : ℕ → List ℕ → List ℕ
+withChannelLine d t = cond (carries t) t (join (take 2 (lines t) ++ (bytesOfLine (chnLine (replicate d 0)) ∷ drop 2 (lines t))))
 
 -- ---- what the theorems say of it
 

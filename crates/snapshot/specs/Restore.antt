@@ -2,28 +2,28 @@
 use Prim.Native.Nat.{ℕ}
 use mathlib.Core.Bool.{cond, not}
 use mathlib.Core.List.{List}
-use Rattle.trcf.specs.View.{Lent, lentShort, headFrom, noHead, counted, laid}
+use Rattle.trcf.specs.View.{Lent, lentShort, headFrom, noHead, counted, writtenOver}
 use Rattle.trcf.specs.declared.head.Preprocessor.{Preprocessor}
 use Rattle.snapshot.specs.Read.{Read, taken, bad, same, read}
 
 -- ---- what `restore` gives: row, bad line, head and the lent lists afterwards
 
-pub record Outcome : Type 0 where
+pub record RestoreOutcome : Type 0 where
   pub row : ℕ
   pub line : ℕ
   pub head : Preprocessor
   pub lent : Lent
 
-abbrev pub outcome : ℕ → ℕ → Preprocessor → Lent → Outcome
-outcome row line h l = record { row = row; line = line; head = h; lent = l }
+abbrev pub restoreOutcome : ℕ → ℕ → Preprocessor → Lent → RestoreOutcome
+restoreOutcome row line h l = record { row = row; line = line; head = h; lent = l }
 
 -- 19 with the bad line; 27 where the codes are not those expected, "in number or value"; 20 where a lent list is too short; each leaves all as it was.
 -- Else the state that was read, "whatever they held before".
-unfoldable pub restored : Read → List ℕ → Lent → Outcome
-restored (bad n) cs l = outcome 19 n noHead l
+unfoldable pub restored : Read → List ℕ → Lent → RestoreOutcome
+restored (bad n) cs l = restoreOutcome 19 n noHead l
 restored (taken w) cs l =
-    cond (not (same (w .settings .codes) cs)) (outcome 27 0 noHead l)
-    (cond (lentShort (w .settings) l) (outcome 20 0 noHead l) (outcome 0 0 (counted (headFrom (w .settings)) w) (laid w l)))
+    cond (not (same (w .settings .codes) cs)) (restoreOutcome 27 0 noHead l)
+    (cond (lentShort (w .settings) l) (restoreOutcome 20 0 noHead l) (restoreOutcome 0 0 (counted (headFrom (w .settings)) w) (writtenOver w l)))
 
-unfoldable pub restoreOf : List ℕ → List ℕ → Lent → Outcome
+unfoldable pub restoreOf : List ℕ → List ℕ → Lent → RestoreOutcome
 restoreOf t cs l = restored (read t) cs l

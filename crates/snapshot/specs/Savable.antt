@@ -22,11 +22,11 @@ pub record InMemory (h : Preprocessor) (l : Lent) : Type 0 where
   pub initialTimes : Whole (l .initialTimestamps)
 
 -- the text among the bytes that were lent
-abbrev pub textOf : save.Outcome → List ℕ
+abbrev pub textOf : save.SaveOutcome → List ℕ
 textOf o = take (o .length) (o .bytes)
 
 -- the text of a head and its lent memory l, taken up over the memory m
-abbrev pub takenUp : Preprocessor → Lent → List ℕ → Lent → restore.Outcome
+abbrev pub takenUp : Preprocessor → Lent → List ℕ → Lent → restore.RestoreOutcome
 takenUp h l out m = restore.restoreOf (textOf (save.saveOf h l out)) (settingsOf h .codes) m
 
 pub record TakenUp (h : Preprocessor) (l : Lent) (out : List ℕ) (m : Lent) (again : List ℕ) : Type 0 where

@@ -5,4 +5,3 @@ pub mod Judge
 pub mod Likely
 pub mod Runs
 pub mod TwoParts
-pub mod Ascii

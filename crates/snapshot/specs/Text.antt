@@ -9,6 +9,7 @@ use lib.Ieee.{Float, Format, binary32, binary64, toBits}
 use Rattle.trcf.specs.Types.{methodNumber, modeLetter}
 use Rattle.trcf.specs.Settings.{Settings}
 use Rattle.trcf.specs.Preprocessor.{State}
+use Rattle.snapshot.specs.Ascii.{ascii}
 
 -- ---- fields
 
@@ -36,7 +37,7 @@ width binary64 = 16
 unfoldable pub float : Format → Float → List ℕ
 float f x = hex (width f) (toBits f x)
 
--- ---- lines: a name, and the fields behind it
+-- ---- lines: a name, and the fields after it
 
 pub record Line : Type 0 where
   pub name : List ℕ
@@ -48,37 +49,37 @@ named n fs = record { name = n; fields = fs }
 -- "`set` mode, method, d, k, start, stop, decay (f64), weight_time (f32)"
 unfoldable pub setLine : Settings → Line
 setLine s =
-    named (115 ∷ 101 ∷ 116 ∷ [])
+    named (ascii "set")
     ((modeLetter (s .mode) ∷ []) ∷ whole (methodNumber (s .method)) ∷ whole (s .d) ∷ whole (s .k) ∷ whole (s .start) ∷ whole (s .stop)
     ∷ float binary64 (s .decay) ∷ float binary32 (s .weightTime) ∷ [])
 
 -- "`wgt` d f32", "`inp` d × k f32", "`pnt` `get_dimension` f32"
 abbrev pub wgt : List ℕ
-wgt = 119 ∷ 103 ∷ 116 ∷ []
+wgt = ascii "wgt"
 
 abbrev pub inp : List ℕ
-inp = 105 ∷ 110 ∷ 112 ∷ []
+inp = ascii "inp"
 
 abbrev pub pnt : List ℕ
-pnt = 112 ∷ 110 ∷ 116 ∷ []
+pnt = ascii "pnt"
 
 unfoldable pub singles : List ℕ → List Float → Line
 singles name v = named name (map (float binary32) v)
 
 -- "a `chn` line of d decimal codes after `wgt`"
 abbrev pub chn : List ℕ
-chn = 99 ∷ 104 ∷ 110 ∷ []
+chn = ascii "chn"
 
 unfoldable pub chnLine : List ℕ → Line
 chnLine cs = named chn (map whole cs)
 
 -- "`cnt` values_seen, internal, count"
 unfoldable pub cntLine : ℕ → ℕ → ℕ → Line
-cntLine v i c = named (99 ∷ 110 ∷ 116 ∷ []) (whole v ∷ whole i ∷ whole c ∷ [])
+cntLine v i c = named (ascii "cnt") (whole v ∷ whole i ∷ whole c ∷ [])
 
 -- "`dev` weight, sum, squares (f64)"
 unfoldable pub devLine : Float → Float → Float → Line
-devLine a b c = named (100 ∷ 101 ∷ 118 ∷ []) (float binary64 a ∷ float binary64 b ∷ float binary64 c ∷ [])
+devLine a b c = named (ascii "dev") (float binary64 a ∷ float binary64 b ∷ float binary64 c ∷ [])
 
 abbrev pub devLines : List Float → List Line
 devLines [] = []
@@ -88,11 +89,11 @@ devLines (a ∷ b ∷ c ∷ l) = devLine a b c ∷ devLines l
 
 -- "`tim` k times"
 unfoldable pub timLine : List ℕ → Line
-timLine ts = named (116 ∷ 105 ∷ 109 ∷ []) (map whole ts)
+timLine ts = named (ascii "tim") (map whole ts)
 
 -- "`buf` time, d finite f32"
 unfoldable pub bufLine : ℕ → List Float → Line
-bufLine t x = named (98 ∷ 117 ∷ 102 ∷ []) (whole t ∷ map (float binary32) x)
+bufLine t x = named (ascii "buf") (whole t ∷ map (float binary32) x)
 
 abbrev pub bufLines : ℕ → List Float → List ℕ → List Line
 bufLines n v [] = []
@@ -114,13 +115,13 @@ linesBy true w = setLine (w .settings) ∷ singles wgt (w .settings .weights) �
 linesBy false w = setLine (w .settings) ∷ singles wgt (w .settings .weights) ∷ bodyLines w
 
 -- "Lines end in LF, fields are parted by tabs."
-abbrev pub behind : List (List ℕ) → List ℕ
-behind [] = 10 ∷ []
-behind (f ∷ fs) = 9 ∷ (f ++ behind fs)
+abbrev pub tabbedFields : List (List ℕ) → List ℕ
+tabbedFields [] = 10 ∷ []
+tabbedFields (f ∷ fs) = 9 ∷ (f ++ tabbedFields fs)
 
 abbrev pub bytesOf : List Line → List ℕ
 bytesOf [] = []
-bytesOf (l ∷ ls) = l .name ++ behind (l .fields) ++ bytesOf ls
+bytesOf (l ∷ ls) = l .name ++ tabbedFields (l .fields) ++ bytesOf ls
 
 -- the text of a state, as it is put away
 unfoldable pub render : State → List ℕ

@@ -11,7 +11,7 @@ ghost use mathlib.Core.Path.{_≡_};
 ghost use lib.ListN.{length, drop};
 ghost use lib.Ieee.{binary32, binary64};
 ghost use Rattle.snapshot.specs.Read.{asWhole, asFloat};
-ghost use Rattle.snapshot.specs.Steps.Judge.{byte, name, nextOf, fields, listLine, Filled};
+ghost use Rattle.snapshot.specs.Steps.Judge.{byte, name, nextOf, fields, goodFields, listLine, lineFirsts, Filled};
 
 // The same by a field reader, which holds the text and the place: what reads a field calls this.
 pub(crate) fn next_field(text: &[u8], at: usize, kind: u64) -> Next
@@ -22,7 +22,7 @@ pub(crate) fn next_field(text: &[u8], at: usize, kind: u64) -> Next
 
 // As many f32 fields as `out` is long.
 pub(crate) fn singles(text: &[u8], at: usize, out: &mut [f32]) -> Place
-    ensures { λ r. ⌜ Filled (fields (asFloat binary32) (length (now (out .entry))) (drop at (now (text .entry)))) (now (text .entry)) (now (out .entry)) r (now (out .exit)) ⌝ }
+    ensures { λ r. ⌜ Filled (fields (asFloat binary32) (length (now (out .entry))) (drop at (now (text .entry)))) (goodFields (asFloat binary32) (length (now (out .entry))) (drop at (now (text .entry)))) (now (text .entry)) (now (out .entry)) r (now (out .exit)) ⌝ }
 {
     let mut p = at;
     let mut i = 0;
@@ -43,7 +43,7 @@ pub(crate) fn singles(text: &[u8], at: usize, out: &mut [f32]) -> Place
 
 // As many f64 fields as `out` is long.
 fn doubles(text: &[u8], at: usize, out: &mut [f64]) -> Place
-    ensures { λ r. ⌜ Filled (fields (asFloat binary64) (length (now (out .entry))) (drop at (now (text .entry)))) (now (text .entry)) (now (out .entry)) r (now (out .exit)) ⌝ }
+    ensures { λ r. ⌜ Filled (fields (asFloat binary64) (length (now (out .entry))) (drop at (now (text .entry)))) (goodFields (asFloat binary64) (length (now (out .entry))) (drop at (now (text .entry)))) (now (text .entry)) (now (out .entry)) r (now (out .exit)) ⌝ }
 {
     let mut p = at;
     let mut i = 0;
@@ -64,7 +64,7 @@ fn doubles(text: &[u8], at: usize, out: &mut [f64]) -> Place
 
 // As many whole numbers as `out` is long.
 pub(crate) fn wholes(text: &[u8], at: usize, out: &mut [u64]) -> Place
-    ensures { λ r. ⌜ Filled (fields asWhole (length (now (out .entry))) (drop at (now (text .entry)))) (now (text .entry)) (now (out .entry)) r (now (out .exit)) ⌝ }
+    ensures { λ r. ⌜ Filled (fields asWhole (length (now (out .entry))) (drop at (now (text .entry)))) (goodFields asWhole (length (now (out .entry))) (drop at (now (text .entry)))) (now (text .entry)) (now (out .entry)) r (now (out .exit)) ⌝ }
 {
     let mut p = at;
     let mut i = 0;
@@ -84,8 +84,8 @@ pub(crate) fn wholes(text: &[u8], at: usize, out: &mut [u64]) -> Place
 }
 
 // A line of f32 fields.
-pub(crate) fn singles_line(text: &[u8], at: usize, a: u64, b: u64, c: u64, out: &mut [f32]) -> Place
-    ensures { λ r. ⌜ Filled (listLine (asFloat binary32) a b c (length (now (out .entry))) (drop at (now (text .entry)))) (now (text .entry)) (now (out .entry)) r (now (out .exit)) ⌝ }
+pub fn singles_line(text: &[u8], at: usize, a: u64, b: u64, c: u64, out: &mut [f32]) -> Place
+    ensures { λ r. ⌜ Filled (listLine (asFloat binary32) a b c (length (now (out .entry))) (drop at (now (text .entry)))) (lineFirsts (asFloat binary32) a b c (length (now (out .entry))) (drop at (now (text .entry)))) (now (text .entry)) (now (out .entry)) r (now (out .exit)) ⌝ }
 {
     let Place::At(p) = name(text, at, a, b, c) else {
         return Place::Nowhere;
@@ -97,8 +97,8 @@ pub(crate) fn singles_line(text: &[u8], at: usize, a: u64, b: u64, c: u64, out: 
 }
 
 // A line of f64 fields.
-pub(crate) fn doubles_line(text: &[u8], at: usize, a: u64, b: u64, c: u64, out: &mut [f64]) -> Place
-    ensures { λ r. ⌜ Filled (listLine (asFloat binary64) a b c (length (now (out .entry))) (drop at (now (text .entry)))) (now (text .entry)) (now (out .entry)) r (now (out .exit)) ⌝ }
+pub fn doubles_line(text: &[u8], at: usize, a: u64, b: u64, c: u64, out: &mut [f64]) -> Place
+    ensures { λ r. ⌜ Filled (listLine (asFloat binary64) a b c (length (now (out .entry))) (drop at (now (text .entry)))) (lineFirsts (asFloat binary64) a b c (length (now (out .entry))) (drop at (now (text .entry)))) (now (text .entry)) (now (out .entry)) r (now (out .exit)) ⌝ }
 {
     let Place::At(p) = name(text, at, a, b, c) else {
         return Place::Nowhere;
@@ -111,7 +111,7 @@ pub(crate) fn doubles_line(text: &[u8], at: usize, a: u64, b: u64, c: u64, out: 
 
 // A line of whole numbers.
 pub(crate) fn wholes_line(text: &[u8], at: usize, a: u64, b: u64, c: u64, out: &mut [u64]) -> Place
-    ensures { λ r. ⌜ Filled (listLine asWhole a b c (length (now (out .entry))) (drop at (now (text .entry)))) (now (text .entry)) (now (out .entry)) r (now (out .exit)) ⌝ }
+    ensures { λ r. ⌜ Filled (listLine asWhole a b c (length (now (out .entry))) (drop at (now (text .entry)))) (lineFirsts asWhole a b c (length (now (out .entry))) (drop at (now (text .entry)))) (now (text .entry)) (now (out .entry)) r (now (out .exit)) ⌝ }
 {
     let Place::At(p) = name(text, at, a, b, c) else {
         return Place::Nowhere;

@@ -23,14 +23,16 @@ ghost use mathlib.Core.Bool.{_&&_};
 ghost use Prim.Native.Nat.{_+_, _*_, _≤_, _<_};
 ghost use lib.Dec.{ltb};
 ghost use lib.ListN.{length, take, drop, replicate};
-ghost use Rattle.common.specs.Lent.{over};
+ghost use lib.Ieee.{binary32};
+ghost use Rattle.refusal.specs.Lent.{over};
 ghost use Rattle.trcf.specs.Types.{normalizes};
 ghost use Rattle.trcf.specs.Preprocessor.{reading};
-ghost use Rattle.snapshot.specs.Steps.Judge.{placed, held, Filled, codesRead, chnOr, chnBy, wgtBy, cntTest, cntBy, timBy, bufBy, countsRead, FilledWith};
+ghost use Rattle.snapshot.specs.Read.{asWhole, asFloat};
+ghost use Rattle.snapshot.specs.Steps.Judge.{placed, withRest, lineFirsts, bufFirsts, Filled, codesRead, chnOr, chnBy, wgtBy, cntTest, cntBy, timBy, bufBy, countsRead, FilledWith};
 
 // The weights, as many as `out` is long.
 pub(crate) fn wgt_line(text: &[u8], at: usize, method: TransformMethod, out: &mut [f32]) -> Place
-    ensures { λ r. ⌜ Filled (wgtBy method (length (now (out .entry))) (drop at (now (text .entry)))) (now (text .entry)) (now (out .entry)) r (now (out .exit)) ⌝ }
+    ensures { λ r. ⌜ Filled (wgtBy method (length (now (out .entry))) (drop at (now (text .entry)))) (lineFirsts (asFloat binary32) 119 103 116 (length (now (out .entry))) (drop at (now (text .entry)))) (now (text .entry)) (now (out .entry)) r (now (out .exit)) ⌝ }
 {
     let place = singles_line(text, at, 119, 103, 116, out);
     if is_none(method) {
@@ -41,7 +43,7 @@ pub(crate) fn wgt_line(text: &[u8], at: usize, method: TransformMethod, out: &mu
     place
 }
 
-// Line 3: the codes where they stand there, and the place behind them; else zeros, and the place before the line.
+// Line 3: the codes where they stand there, and the place after them; else zeros, and the place before the line.
 pub(crate) struct Coded {
     pub extra: usize,
     pub at: usize,
@@ -50,7 +52,7 @@ pub(crate) struct Coded {
 
 // The codes, as many as `out` is long.
 fn chn_codes(text: &[u8], at: usize, out: &mut [u64]) -> Place
-    ensures { λ r. ⌜ Filled (chnBy (length (now (out .entry))) (drop at (now (text .entry)))) (now (text .entry)) (now (out .entry)) r (now (out .exit)) ⌝ }
+    ensures { λ r. ⌜ Filled (chnBy (length (now (out .entry))) (drop at (now (text .entry)))) (lineFirsts asWhole 99 104 110 (length (now (out .entry))) (drop at (now (text .entry)))) (now (text .entry)) (now (out .entry)) r (now (out .exit)) ⌝ }
 {
     let place = wholes_line(text, at, 99, 104, 110, out);
     if !codes_fit(out) {
@@ -82,8 +84,8 @@ pub(crate) fn chn_line(text: &[u8], at: usize, d: usize) -> Coded
 }
 
 // The last times, as many as `out` is long.
-pub(crate) fn tim_line(text: &[u8], at: usize, internal: usize, out: &mut [u64]) -> Place
-    ensures { λ r. ⌜ Filled (timBy internal (length (now (out .entry))) (drop at (now (text .entry)))) (now (text .entry)) (now (out .entry)) r (now (out .exit)) ⌝ }
+pub fn tim_line(text: &[u8], at: usize, internal: usize, out: &mut [u64]) -> Place
+    ensures { λ r. ⌜ Filled (timBy internal (length (now (out .entry))) (drop at (now (text .entry)))) (lineFirsts asWhole 116 105 109 (length (now (out .entry))) (drop at (now (text .entry)))) (now (text .entry)) (now (out .entry)) r (now (out .exit)) ⌝ }
 {
     let place = wholes_line(text, at, 116, 105, 109, out);
     if !none_falls(out) {
@@ -97,7 +99,7 @@ pub(crate) fn tim_line(text: &[u8], at: usize, internal: usize, out: &mut [u64])
     place
 }
 
-pub(crate) fn is_waiting(method: TransformMethod, start: usize, seen: u64) -> bool
+pub fn is_waiting(method: TransformMethod, start: usize, seen: u64) -> bool
     ensures { λ r. ⌜ r ≡ normalizes method && ltb seen start ⌝ }
 {
     if is_normalizing(method) {
@@ -127,7 +129,7 @@ fn counts_fit(method: TransformMethod, start: usize, seen: u64, internal: u64, c
     }
 }
 
-// The place behind the line of the counters, and what it says.
+// The place after the line of the counters, and what it says.
 pub(crate) struct Counters {
     pub place: Place,
     pub seen: u64,
@@ -137,7 +139,7 @@ pub(crate) struct Counters {
 
 // The line of the counters.
 pub(crate) fn cnt_line(text: &[u8], at: usize, method: TransformMethod, start: usize) -> Counters
-    ensures { λ r. ⌜ held (countsRead (r .seen) (r .internal) (r .count)) (placed (r .place) (now (text .entry))) ≡ cntBy method start (drop at (now (text .entry))) ⌝ }
+    ensures { λ r. ⌜ withRest (countsRead (r .seen) (r .internal) (r .count)) (placed (r .place) (now (text .entry))) ≡ cntBy method start (drop at (now (text .entry))) ⌝ }
 {
     let mut n = [0u64; 3];
     let place = wholes_line(text, at, 99, 110, 116, &mut n[..]);
@@ -160,15 +162,15 @@ pub(crate) fn cnt_line(text: &[u8], at: usize, method: TransformMethod, start: u
     }
 }
 
-// The place behind a line of one initial value, and its time.
-pub(crate) struct Timed {
+// The place after a line of one initial value, and its time.
+pub struct Timed {
     pub place: Place,
     pub time: u64,
 }
 
 // One initial value, as many numbers as `out` is long, not before the time `past`.
-pub(crate) fn buf_line(text: &[u8], at: usize, past: u64, out: &mut [f32]) -> Timed
-    ensures { λ r. ⌜ FilledWith (bufBy (length (now (out .entry))) past (drop at (now (text .entry)))) (now (text .entry)) (now (out .entry)) (r .place) (reading (now (out .exit)) (r .time)) ⌝ }
+pub fn buf_line(text: &[u8], at: usize, past: u64, out: &mut [f32]) -> Timed
+    ensures { λ r. ⌜ FilledWith (bufBy (length (now (out .entry))) past (drop at (now (text .entry)))) (bufFirsts (length (now (out .entry))) (drop at (now (text .entry)))) (now (text .entry)) (now (out .entry)) (r .place) (reading (now (out .exit)) (r .time)) ⌝ }
 {
     let Place::At(p) = name(text, at, 98, 117, 102) else {
         return Timed {

@@ -1,12 +1,11 @@
-// The snapshot (document 01: trace text): its fields, and what reads it back. Its definitions are in specs/, and what holds of them in proofs/.
+// The snapshot (document 01: trace text): its fields and lines, as they are read. Its definitions are in specs/, and what holds of them in proofs/.
 pub mod cells;
 pub mod field;
-mod judge;
-mod kinds;
+pub mod head;
+pub mod judge;
+pub mod kinds;
 pub mod limits;
-mod lines;
-mod piece;
+pub mod piece;
 mod reader;
-pub mod restore;
 mod settings;
 pub mod values;

@@ -1,5 +1,7 @@
 // Whether what is lent holds what is in use of it.
 use trcf::types::ForestMode;
+use trcf::types::INPUT_LIMIT;
+use trcf::types::SHINGLE_LIMIT;
 use trcf::types::is_augmented;
 ghost use mathlib.Core.Path.{_≡_};
 ghost use mathlib.Core.Bool.{cond, _||_};
@@ -31,10 +33,10 @@ pub(crate) fn past_limits(
     requires { ⌜ wide ≤ 1 ⌝ }
     ensures { λ r. ⌜ r ≡ past d k wide n statistics input point times values initial ⌝ }
 {
-    if 16 < d {
+    if INPUT_LIMIT < d {
         return true;
     }
-    if 64 < k {
+    if SHINGLE_LIMIT < k {
         return true;
     }
     if 1999 < n {

@@ -1,10 +1,10 @@
-// The pieces of a line (document 01, 'Trace text'): a byte, a name, and the field behind a tab.
+// The pieces of a line (document 01, 'Trace text'): a byte, a name, and the field after a tab.
 use crate::field::Field;
 use crate::field::parse;
 ghost use mathlib.Core.Path.{_≡_};
 ghost use Prim.Native.Nat.{_+_, _≤_, _<_};
 ghost use lib.ListN.{length, drop};
-ghost use Rattle.snapshot.specs.Steps.Judge.{placed, byte, name, fieldLength, restOf, tabbedOf, nextOf};
+ghost use Rattle.snapshot.specs.Steps.Judge.{placed, byte, name, fieldLength, restField, tabbedOf, nextOf};
 ghost use Rattle.snapshot.specs.Steps.Likely.{likely, fromOf};
 
 pub(crate) fn wide(x: u8) -> u64
@@ -14,12 +14,12 @@ pub(crate) fn wide(x: u8) -> u64
 }
 
 // A place in the text, or nowhere: what was to be read is not there.
-pub(crate) enum Place {
+pub enum Place {
     At(usize),
     Nowhere,
 }
 
-// Behind the byte b.
+// After the byte b.
 pub(crate) fn byte(text: &[u8], at: usize, b: u64) -> Place
     ensures { λ r. ⌜ placed r (now (text .entry)) ≡ byte b (drop at (now (text .entry))) ⌝ }
 {
@@ -31,7 +31,7 @@ pub(crate) fn byte(text: &[u8], at: usize, b: u64) -> Place
     Place::Nowhere
 }
 
-// Behind the name of a line.
+// After the name of a line.
 pub(crate) fn name(text: &[u8], at: usize, a: u64, b: u64, c: u64) -> Place
     ensures { λ r. ⌜ placed r (now (text .entry)) ≡ name a b c (drop at (now (text .entry))) ⌝ }
 {
@@ -59,7 +59,7 @@ fn field_end(text: &[u8], from: usize) -> usize
     i
 }
 
-// A field, and the place behind it.
+// A field, and the place after it.
 pub(crate) struct Next {
     pub field: Field,
     pub end: usize,
@@ -102,7 +102,7 @@ fn field_from(text: &[u8], from: usize, kind: u64) -> Next
 
 // The rest of the text as one field.
 fn rest_at(text: &[u8], at: usize, kind: u64) -> Next
-    ensures { λ r. ⌜ r ≡ restOf kind at (now (text .entry)) ⌝ }
+    ensures { λ r. ⌜ r ≡ restField kind at (now (text .entry)) ⌝ }
 {
     let end = text.len();
     if at < end {
@@ -119,7 +119,7 @@ fn rest_at(text: &[u8], at: usize, kind: u64) -> Next
     }
 }
 
-// The field behind the tab at a place, by the kind that its place calls for.
+// The field after the tab at a place, by the kind that its place calls for.
 fn tabbed_at(text: &[u8], at: usize, kind: u64) -> Next
     ensures { λ r. ⌜ r ≡ tabbedOf kind at (now (text .entry)) ⌝ }
 {
@@ -134,7 +134,7 @@ fn tabbed_at(text: &[u8], at: usize, kind: u64) -> Next
     }
 }
 
-// By the kind: below 4 the field behind a tab, from 4 on the rest of the text.
+// By the kind: below 4 the field after a tab, from 4 on the rest of the text.
 pub(crate) fn field_at(text: &[u8], at: usize, kind: u64) -> Next
     ensures { λ r. ⌜ r ≡ nextOf kind at (now (text .entry)) ⌝ }
 {

@@ -16,7 +16,7 @@ pub(crate) fn new<'a>(text: &'a [u8], at: usize) -> FieldReader<'a>
     FieldReader { text: text, at: at }
 }
 
-// The field behind the tab at the reader's place, by the kind that its place calls for.
+// The field after the tab at the reader's place, by the kind that its place calls for.
 pub(crate) fn next<'a>(r: FieldReader<'a>, kind: u64) -> Next
     ensures { λ n. ⌜ n ≡ nextOf kind (r .entry .at) (now (r .entry .text)) ⌝ }
 {

@@ -13,7 +13,7 @@ use trcf::types::mode_of_letter;
 use trcf_rows::rows::is_imputing;
 ghost use mathlib.Core.Path.{_≡_};
 ghost use lib.ListN.{length, drop};
-ghost use Rattle.snapshot.specs.Steps.Judge.{placed, held, modeIn, modeTold, methodIn, methodTold, setTest, tailBy, setBy, settingsTold};
+ghost use Rattle.snapshot.specs.Steps.Judge.{placed, withRest, modeIn, modeTold, methodIn, methodTold, setTest, tailBy, setBy, settingsTold};
 ghost use Rattle.snapshot.specs.declared.piece.Place.the-variants.{Nowhere};
 
 // A mode, or none.
@@ -81,7 +81,7 @@ fn settings_fit(d: u64, k: u64, start: u64, stop: u64, decay: f64) -> bool
     start < 2000
 }
 
-// The end of the line: decay, weight_time and the place behind them.
+// The end of the line: decay, weight_time and the place after them.
 pub(crate) struct Tail {
     pub place: Place,
     pub decay: f64,
@@ -89,7 +89,7 @@ pub(crate) struct Tail {
 }
 
 fn set_tail(text: &[u8], at: usize) -> Tail
-    ensures { λ r. ⌜ held (r .decay, r .«weight_time») (placed (r .place) (now (text .entry))) ≡ tailBy (drop at (now (text .entry))) ⌝ }
+    ensures { λ r. ⌜ withRest (r .decay, r .«weight_time») (placed (r .place) (now (text .entry))) ≡ tailBy (drop at (now (text .entry))) ⌝ }
 {
     let first = next_field(text, at, 1);
     let f = first.field;
@@ -117,7 +117,7 @@ fn set_tail(text: &[u8], at: usize) -> Tail
     }
 }
 
-// The settings but for the weights, and the place behind their line.
+// The settings but for the weights, and the place after their line.
 pub(crate) struct Set {
     pub place: Place,
     pub mode: ForestMode,
@@ -149,7 +149,7 @@ fn no_set() -> Set
 
 // The line of the settings, which begins the text.
 pub(crate) fn set_line(text: &[u8]) -> Set
-    ensures { λ r. ⌜ held (settingsTold r) (placed (r .place) (now (text .entry))) ≡ setBy (now (text .entry)) ⌝ }
+    ensures { λ r. ⌜ withRest (settingsTold r) (placed (r .place) (now (text .entry))) ≡ setBy (now (text .entry)) ⌝ }
 {
     let Place::At(p) = name(text, 0, 115, 101, 116) else {
         return no_set();

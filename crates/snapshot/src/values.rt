@@ -3,8 +3,8 @@ ghost use mathlib.Core.Path.{_≡_};
 ghost use mathlib.Core.Bool.{true};
 ghost use Prim.Native.Nat.{_≤_};
 ghost use lib.ListN.{length, replicate};
-ghost use Rattle.common.specs.Lent.{over};
-ghost use Rattle.snapshot.specs.Read.{climbs, zeros, allCodes, same};
+ghost use Rattle.refusal.specs.Lent.{over};
+ghost use Rattle.snapshot.specs.Read.{climbs, zeros, allCodes};
 
 // Whether no time falls.
 pub fn none_falls(times: &[u64]) -> bool
@@ -51,7 +51,7 @@ pub(crate) fn codes_fit(w: &[u64]) -> bool
     true
 }
 
-// The codes in an array, zeros behind them.
+// The codes in an array, zeros after them.
 pub(crate) fn narrowed(w: &[u64]) -> [u16; 16]
     requires { ⌜ length (now w) ≤ 16 ⌝ }
     requires { ⌜ allCodes (now w) ≡ true ⌝ }
@@ -64,21 +64,4 @@ pub(crate) fn narrowed(w: &[u64]) -> [u16; 16]
         i += 1;
     }
     a
-}
-
-// Whether two lists of codes are the same, in number and value.
-pub(crate) fn same_codes(a: &[u16], b: &[u16]) -> bool
-    ensures { λ r. ⌜ r ≡ same (now (a .entry)) (now (b .entry)) ⌝ }
-{
-    if a.len() != b.len() {
-        return false;
-    }
-    let mut i = 0;
-    while i < a.len() {
-        if a[i] != b[i] {
-            return false;
-        }
-        i += 1;
-    }
-    true
 }

@@ -8,12 +8,12 @@ use lib.ListN.{length, length-append}
 use lib.Ieee.{Float, binary32}
 use borrow.Author.Tests.{lt-ltb, le-ltb}
 use Rattle.trcf.specs.Settings.{wholeMax}
-use Rattle.snapshot.specs.Text.{whole, float, behind, named}
+use Rattle.snapshot.specs.Text.{whole, float, tabbedFields, named}
 use Rattle.snapshot.specs.Read.{bytesOfLine}
-use Rattle.snapshot.specs.Save.{outcome}
+use Rattle.snapshot.specs.Save.{saveOutcome}
 use Rattle.snapshot.specs.Steps.Write.{Wrote}
 use Rattle.snapshot.proofs.WriteLaws.{wrote-then, wrote-is, whole-short, float-length, stored-over}
-use Rattle.snapshot_save.specs.Line.{within, optionalField, optionalLine}
+use Rattle.snapshot_save.specs.Line.{textWithin, optionalField, optionalLine}
 
 pub optional-short : (g : Bool) (x : Float) → length (optionalField g x) ≤ 8
 optional-short true x = omega (arith, float-length binary32 x)
@@ -22,19 +22,19 @@ optional-short false x = omega arith
 -- at most 32 bytes
 pub optional-size : (a n : ℕ) (g : Bool) (x : Float) → n ≤ wholeMax → length (bytesOfLine (optionalLine a n g x)) ≤ 32
 optional-size a n g x h =
-    omega (arith, whole-short n h, optional-short g x, length-append (whole n) (behind (optionalField g x ∷ [])), length-append (optionalField g x) (10 ∷ []))
+    omega (arith, whole-short n h, optional-short g x, length-append (whole n) (tabbedFields (optionalField g x ∷ [])), length-append (optionalField g x) (10 ∷ []))
 
 -- the bytes, piece by piece
 pub optional-bytes : (a n : ℕ) (g : Bool) (x : Float) → (a ∷ []) ++ ((9 ∷ whole n) ++ ((9 ∷ optionalField g x) ++ (10 ∷ []))) ≡ bytesOfLine (optionalLine a n g x)
 optional-bytes a n g x = refl
 
-pub within-short : (n : ℕ) (t out : List ℕ) → length out < n → outcome 20 0 out ≡ within n t out
-unfolding within
+pub within-short : (n : ℕ) (t out : List ℕ) → length out < n → saveOutcome 20 0 out ≡ textWithin n t out
+unfolding textWithin
 within-short n t out h = rw (lt-ltb (length out) n h)
 
-pub within-written : (n : ℕ) (t out new : List ℕ) (r : ℕ) → n ≤ length out → length t ≤ n → Wrote 0 t out r new → outcome 0 r new ≡ within n t out
-unfolding within
+pub within-written : (n : ℕ) (t out new : List ℕ) (r : ℕ) → n ≤ length out → length t ≤ n → Wrote 0 t out r new → saveOutcome 0 r new ≡ textWithin n t out
+unfolding textWithin
 within-written n t out new r h k w =
     let p : r ≡ length t = omega (arith, w .place) in
     let b = w .bytes ∙ stored-over out t (omega arith) in
-    rw (le-ltb (length out) n h) (λ j. outcome 0 (p j) (b j))
+    rw (le-ltb (length out) n h) (λ j. saveOutcome 0 (p j) (b j))

@@ -5,9 +5,9 @@ use mathlib.Core.List.{List, [], _∷_}
 use lib.Dec.{ltb}
 use lib.ListN.{length}
 use lib.Ieee.{Float, binary32}
-use Rattle.common.specs.Lent.{over}
+use Rattle.refusal.specs.Lent.{over}
 use Rattle.snapshot.specs.Text.{whole, float, Line, named}
-use Rattle.snapshot.specs.Save.{Outcome, outcome}
+use Rattle.snapshot.specs.Save.{SaveOutcome, saveOutcome}
 
 -- an f32, or `-` where there is none
 abbrev pub optionalField : Bool → Float → List ℕ
@@ -18,5 +18,5 @@ abbrev pub optionalLine : ℕ → ℕ → Bool → Float → Line
 optionalLine a n given x = named (a ∷ []) (whole n ∷ optionalField given x ∷ [])
 
 -- a text, with room for the longest of its kind: row 20 with nothing written, where out is shorter than n; what lies past the text keeps its contents
-unfoldable pub within : ℕ → List ℕ → List ℕ → Outcome
-within n t out = cond (ltb (length out) n) (outcome 20 0 out) (outcome 0 (length t) (over out t))
+unfoldable pub textWithin : ℕ → List ℕ → List ℕ → SaveOutcome
+textWithin n t out = cond (ltb (length out) n) (saveOutcome 20 0 out) (saveOutcome 0 (length t) (over out t))

@@ -11,13 +11,13 @@ ghost use Prim.Native.Nat.{_+_, _≤_};
 ghost use lib.ListN.{length};
 ghost use Rattle.snapshot.specs.Text.{whole, named, singles};
 ghost use Rattle.snapshot.specs.Read.{bytesOfLine};
-ghost use Rattle.snapshot.specs.Save.{outcome, fitted};
+ghost use Rattle.snapshot.specs.Save.{saveOutcome, fitted};
 ghost use Rattle.snapshot.specs.Steps.Write.{Wrote};
-ghost use Rattle.snapshot_save.specs.Line.{within, optionalField, optionalLine};
+ghost use Rattle.snapshot_save.specs.Line.{textWithin, optionalField, optionalLine};
 
 // A line of f32, and its length; or row 20 with nothing written, where out is shorter than the line.
 pub fn singles_line(out: &mut [u8], a: u8, b: u8, v: &[f32]) -> Saved
-    ensures { λ r. ⌜ outcome (r .row) (r .length) (now (out .exit)) ≡ fitted (bytesOfLine (singles (a ∷ b ∷ []) (now (v .entry)))) (now (out .entry)) ⌝ }
+    ensures { λ r. ⌜ saveOutcome (r .row) (r .length) (now (out .exit)) ≡ fitted (bytesOfLine (singles (a ∷ b ∷ []) (now (v .entry)))) (now (out .entry)) ⌝ }
 {
     let n = out.len();
     if n < 3 {
@@ -35,7 +35,7 @@ pub fn singles_line(out: &mut [u8], a: u8, b: u8, v: &[f32]) -> Saved
 
 // A line of one whole number, in the same way.
 pub fn whole_line(out: &mut [u8], a: u8, b: u8, n: u64) -> Saved
-    ensures { λ r. ⌜ outcome (r .row) (r .length) (now (out .exit)) ≡ fitted (bytesOfLine (named (a ∷ b ∷ []) (whole n ∷ []))) (now (out .entry)) ⌝ }
+    ensures { λ r. ⌜ saveOutcome (r .row) (r .length) (now (out .exit)) ≡ fitted (bytesOfLine (named (a ∷ b ∷ []) (whole n ∷ []))) (now (out .entry)) ⌝ }
 {
     let l = whole_length(n);
     if out.len() < l + 4 {
@@ -48,7 +48,7 @@ pub fn whole_line(out: &mut [u8], a: u8, b: u8, n: u64) -> Saved
     Saved { row: 0, length: e }
 }
 
-// An f32 behind its tab, or `-` in its place.
+// An f32 after its tab, or `-` in its place.
 fn tab_optional(out: &mut [u8], at: usize, given: bool, x: f32) -> usize
     requires { ⌜ at + 9 ≤ length (now out) ⌝ }
     ensures { λ r. ⌜ Wrote at (9 ∷ optionalField given x) (now (out .entry)) r (now (out .exit)) ⌝ }
@@ -62,7 +62,7 @@ fn tab_optional(out: &mut [u8], at: usize, given: bool, x: f32) -> usize
 
 // A line of a whole number and an f32, or `-` in its place, named by one letter; row 20 with nothing written, where out has less than 32 bytes.
 pub fn optional_line(out: &mut [u8], a: u8, n: u64, given: bool, x: f32) -> Saved
-    ensures { λ r. ⌜ outcome (r .row) (r .length) (now (out .exit)) ≡ within 32 (bytesOfLine (optionalLine a n given x)) (now (out .entry)) ⌝ }
+    ensures { λ r. ⌜ saveOutcome (r .row) (r .length) (now (out .exit)) ≡ textWithin 32 (bytesOfLine (optionalLine a n given x)) (now (out .entry)) ⌝ }
 {
     if out.len() < 32 {
         return Saved { row: 20, length: 0 };

@@ -29,7 +29,7 @@ ghost use Rattle.snapshot.specs.Text.{whole, chnLine};
 ghost use Rattle.trcf.specs.Calls.{finite};
 ghost use Rattle.snapshot.specs.Read.{bytesOfLine, climbs, zeros};
 ghost use Rattle.snapshot.specs.Steps.Write.{Wrote, tabbed};
-ghost use Rattle.snapshot.specs.Save.{outcome, fitted, heldSave, saveOf};
+ghost use Rattle.snapshot.specs.Save.{saveOutcome, fitted, heldSave, saveOf};
 ghost use Rattle.snapshot.specs.Steps.TwoParts.{headBytes, listBytes};
 
 // The row, 0 for none, and the length of the text.
@@ -38,7 +38,7 @@ pub struct Saved {
     pub length: usize,
 }
 
-// How many bytes whole numbers take, each behind its tab.
+// How many bytes whole numbers take, each after its tab.
 fn wholes_length(v: &[u64]) -> usize
     requires { ⌜ length (now v) ≤ 2000 ⌝ }
     ensures { λ r. ⌜ r ≡ length (tabbed (map whole (now (v .entry)))) ⌝ }
@@ -66,7 +66,7 @@ fn widened(codes: [u16; 16]) -> [u64; 16]
     a
 }
 
-// How many bytes the codes take, each behind its tab.
+// How many bytes the codes take, each after its tab.
 fn codes_length(head: Preprocessor) -> usize
     requires { ⌜ head .transformer .«input_length» ≤ 16 ⌝ }
     ensures { λ r. ⌜ r ≡ length (tabbed (map whole (settingsOf head .codes))) ⌝ }
@@ -216,7 +216,7 @@ fn save_parts(
     requires { ⌜ length (now times) ≤ 2000 ⌝ }
     requires { ⌜ length (now initial) ≤ 2000 ⌝ }
     requires { ⌜ length (now initial) * head .transformer .«input_length» ≤ length (now values) ⌝ }
-    ensures { λ r. ⌜ outcome (r .row) (r .length) (now (out .exit)) ≡ fitted (headBytes (settingsOf head) (head .«values_seen») (head .«internal_timestamp») (head .transformer .count) ++ listBytes (head .transformer .«input_length») (now (statistics .entry)) (now (input .entry)) (now (point .entry)) (now (times .entry)) (now (values .entry)) (now (initial .entry))) (now (out .entry)) ⌝ }
+    ensures { λ r. ⌜ saveOutcome (r .row) (r .length) (now (out .exit)) ≡ fitted (headBytes (settingsOf head) (head .«values_seen») (head .«internal_timestamp») (head .transformer .count) ++ listBytes (head .transformer .«input_length») (now (statistics .entry)) (now (input .entry)) (now (point .entry)) (now (times .entry)) (now (values .entry)) (now (initial .entry))) (now (out .entry)) ⌝ }
 {
     let t = head.transformer;
     let d = t.input_length;
@@ -268,7 +268,7 @@ fn save_held(
     initial_timestamps: &[u64],
     out: &mut [u8],
 ) -> Saved
-    ensures { λ r. ⌜ outcome (r .row) (r .length) (now (out .exit)) ≡ heldSave head (lent (now (statistics .entry)) (now («last_shingled_input» .entry)) (now («last_shingled_point» .entry)) (now («previous_timestamps» .entry)) (now («initial_values» .entry)) (now («initial_timestamps» .entry))) (now (out .entry)) ⌝ }
+    ensures { λ r. ⌜ saveOutcome (r .row) (r .length) (now (out .exit)) ≡ heldSave head (lent (now (statistics .entry)) (now («last_shingled_input» .entry)) (now («last_shingled_point» .entry)) (now («previous_timestamps» .entry)) (now («initial_values» .entry)) (now («initial_timestamps» .entry))) (now (out .entry)) ⌝ }
 {
     let t = head.transformer;
     let mode = head.forest_mode;
@@ -315,7 +315,7 @@ pub fn save(
     initial_timestamps: &[u64],
     out: &mut [u8],
 ) -> Saved
-    ensures { λ r. ⌜ outcome (r .row) (r .length) (now (out .exit)) ≡ saveOf head (lent (now (statistics .entry)) (now («last_shingled_input» .entry)) (now («last_shingled_point» .entry)) (now («previous_timestamps» .entry)) (now («initial_values» .entry)) (now («initial_timestamps» .entry))) (now (out .entry)) ⌝ }
+    ensures { λ r. ⌜ saveOutcome (r .row) (r .length) (now (out .exit)) ≡ saveOf head (lent (now (statistics .entry)) (now («last_shingled_input» .entry)) (now («last_shingled_point» .entry)) (now («previous_timestamps» .entry)) (now («initial_values» .entry)) (now («initial_timestamps» .entry))) (now (out .entry)) ⌝ }
 {
     let row = head_settings_row(head);
     if row != 0 {

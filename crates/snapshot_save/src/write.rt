@@ -1,5 +1,5 @@
 // Writing a snapshot into lent bytes, field by field (document 01, 'Trace text'). Each function stores its bytes from the place `at` on
-// and returns the place behind them.
+// and returns the place after them.
 ghost use mathlib.Core.Path.{_≡_};
 ghost use mathlib.Core.List.{[], _∷_, map};
 ghost use Prim.Native.Nat.{_+_, _*_, _≤_, _<_};
@@ -66,25 +66,6 @@ fn write_whole(out: &mut [u8], at: usize, n: u64) -> usize
     at + l
 }
 
-// The bits of x, every not-a-number in the one pattern: to_bits is undefined at one.
-fn single_bits(x: f32) -> u64
-    ensures { λ r. ⌜ r ≡ toBits binary32 x ⌝ }
-{
-    if x != x {
-        return 0x7fc0_0000;
-    }
-    f32::to_bits(x) as u64
-}
-
-fn double_bits(x: f64) -> u64
-    ensures { λ r. ⌜ r ≡ toBits binary64 x ⌝ }
-{
-    if x != x {
-        return 0x7ff8_0000_0000_0000;
-    }
-    f64::to_bits(x)
-}
-
 // One byte.
 pub(crate) fn write_byte(out: &mut [u8], at: usize, b: u8) -> usize
     requires { ⌜ at + 1 ≤ length (now out) ⌝ }
@@ -94,7 +75,7 @@ pub(crate) fn write_byte(out: &mut [u8], at: usize, b: u8) -> usize
     at + 1
 }
 
-// A field behind its tab: a whole number, an f32, an f64.
+// A field after its tab: a whole number, an f32, an f64.
 pub(crate) fn tab_whole(out: &mut [u8], at: usize, n: u64) -> usize
     requires { ⌜ at + length (9 ∷ whole n) ≤ length (now out) ⌝ }
     ensures { λ r. ⌜ Wrote at (9 ∷ whole n) (now (out .entry)) r (now (out .exit)) ⌝ }
@@ -108,7 +89,7 @@ pub(crate) fn tab_single(out: &mut [u8], at: usize, x: f32) -> usize
     ensures { λ r. ⌜ Wrote at (9 ∷ float binary32 x) (now (out .entry)) r (now (out .exit)) ⌝ }
 {
     let p = write_byte(out, at, 9);
-    write_hex(out, p, 8, single_bits(x))
+    write_hex(out, p, 8, numeric::single_bits(x))
 }
 
 fn tab_double(out: &mut [u8], at: usize, x: f64) -> usize
@@ -116,7 +97,7 @@ fn tab_double(out: &mut [u8], at: usize, x: f64) -> usize
     ensures { λ r. ⌜ Wrote at (9 ∷ float binary64 x) (now (out .entry)) r (now (out .exit)) ⌝ }
 {
     let p = write_byte(out, at, 9);
-    write_hex(out, p, 16, double_bits(x))
+    write_hex(out, p, 16, numeric::double_bits(x))
 }
 
 // The name of a line.
@@ -129,7 +110,7 @@ fn write_name(out: &mut [u8], at: usize, a: u8, b: u8, c: u8) -> usize
     write_byte(out, q, c)
 }
 
-// Fields of f32, each behind its tab.
+// Fields of f32, each after its tab.
 pub(crate) fn tab_singles(out: &mut [u8], at: usize, v: &[f32]) -> usize
     requires { ⌜ at + length (tabbed (map (float binary32) (now v))) ≤ length (now out) ⌝ }
     ensures { λ r. ⌜ Wrote at (tabbed (map (float binary32) (now (v .entry)))) (now (out .entry)) r (now (out .exit)) ⌝ }
@@ -143,7 +124,7 @@ pub(crate) fn tab_singles(out: &mut [u8], at: usize, v: &[f32]) -> usize
     p
 }
 
-// Whole numbers, each behind its tab.
+// Whole numbers, each after its tab.
 fn tab_wholes(out: &mut [u8], at: usize, v: &[u64]) -> usize
     requires { ⌜ at + length (tabbed (map whole (now v))) ≤ length (now out) ⌝ }
     ensures { λ r. ⌜ Wrote at (tabbed (map whole (now (v .entry)))) (now (out .entry)) r (now (out .exit)) ⌝ }

@@ -6,7 +6,7 @@ use mathlib.Core.Bool.{Bool, true, false, cond}
 use mathlib.Core.List.{List, [], _∷_, _++_, map}
 use lib.Dec.{T, eqb, eqb·zero-suc, eqb·suc-zero, eqb·suc-suc}
 use lib.ListN.{length, length-append, length-map}
-use Rattle.stranding.specs.Orders.{Kind, point, learn, drain, orders, sameOrder}
+use Rattle.stranding.specs.Orders.{Kind, pointKind, learnKind, drainKind, orders, sameOrder}
 use Rattle.stranding.specs.Counts.{count}
 
 -- ---- counting
@@ -36,27 +36,27 @@ pub same-order : (w v : List Kind) → T (sameOrder w v) → w ≡ v
 same-order [] [] t = refl
 same-order [] (d ∷ v) t = absurd t
 same-order (c ∷ w) [] t = absurd t
-same-order (point ∷ w) (point ∷ v) t = ap (point ∷_) (same-order w v t)
-same-order (point ∷ w) (learn ∷ v) t = absurd t
-same-order (point ∷ w) (drain ∷ v) t = absurd t
-same-order (learn ∷ w) (point ∷ v) t = absurd t
-same-order (learn ∷ w) (learn ∷ v) t = ap (learn ∷_) (same-order w v t)
-same-order (learn ∷ w) (drain ∷ v) t = absurd t
-same-order (drain ∷ w) (point ∷ v) t = absurd t
-same-order (drain ∷ w) (learn ∷ v) t = absurd t
-same-order (drain ∷ w) (drain ∷ v) t = ap (drain ∷_) (same-order w v t)
+same-order (pointKind ∷ w) (pointKind ∷ v) t = ap (pointKind ∷_) (same-order w v t)
+same-order (pointKind ∷ w) (learnKind ∷ v) t = absurd t
+same-order (pointKind ∷ w) (drainKind ∷ v) t = absurd t
+same-order (learnKind ∷ w) (pointKind ∷ v) t = absurd t
+same-order (learnKind ∷ w) (learnKind ∷ v) t = ap (learnKind ∷_) (same-order w v t)
+same-order (learnKind ∷ w) (drainKind ∷ v) t = absurd t
+same-order (drainKind ∷ w) (pointKind ∷ v) t = absurd t
+same-order (drainKind ∷ w) (learnKind ∷ v) t = absurd t
+same-order (drainKind ∷ w) (drainKind ∷ v) t = ap (drainKind ∷_) (same-order w v t)
 
 pub order-same : (w : List Kind) → sameOrder w w ≡ true
 order-same [] = refl
-order-same (point ∷ w) = order-same w
-order-same (learn ∷ w) = order-same w
-order-same (drain ∷ w) = order-same w
+order-same (pointKind ∷ w) = order-same w
+order-same (learnKind ∷ w) = order-same w
+order-same (drainKind ∷ w) = order-same w
 
 -- how often w stands among the orders of one call more, by their first call
 occurs-suc : (w : List Kind) (n : ℕ)
     → count (sameOrder w) (orders (suc n))
-    ≡ count (λ (v : List Kind). sameOrder w (point ∷ v)) (orders n)
-    + (count (λ (v : List Kind). sameOrder w (learn ∷ v)) (orders n) + count (λ (v : List Kind). sameOrder w (drain ∷ v)) (orders n))
+    ≡ count (λ (v : List Kind). sameOrder w (pointKind ∷ v)) (orders n)
+    + (count (λ (v : List Kind). sameOrder w (learnKind ∷ v)) (orders n) + count (λ (v : List Kind). sameOrder w (drainKind ∷ v)) (orders n))
 occurs-suc w n = simp (count-append, count-map)
 
 -- THEOREM: a list of n calls stands among them once, any other list not at all
@@ -64,6 +64,6 @@ pub orders-once : (w : List Kind) (n : ℕ) → count (sameOrder w) (orders n) �
 orders-once [] zero = refl
 orders-once (c ∷ w) zero = rw (eqb·suc-zero (length w))
 orders-once [] (suc n) = occurs-suc [] n ∙ rw (eqb·zero-suc n) (omega (arith, count-none (orders n)))
-orders-once (point ∷ w) (suc n) = occurs-suc (point ∷ w) n ∙ rw (eqb·suc-suc (length w) n) (omega (arith, orders-once w n, count-none (orders n)))
-orders-once (learn ∷ w) (suc n) = occurs-suc (learn ∷ w) n ∙ rw (eqb·suc-suc (length w) n) (omega (arith, orders-once w n, count-none (orders n)))
-orders-once (drain ∷ w) (suc n) = occurs-suc (drain ∷ w) n ∙ rw (eqb·suc-suc (length w) n) (omega (arith, orders-once w n, count-none (orders n)))
+orders-once (pointKind ∷ w) (suc n) = occurs-suc (pointKind ∷ w) n ∙ rw (eqb·suc-suc (length w) n) (omega (arith, orders-once w n, count-none (orders n)))
+orders-once (learnKind ∷ w) (suc n) = occurs-suc (learnKind ∷ w) n ∙ rw (eqb·suc-suc (length w) n) (omega (arith, orders-once w n, count-none (orders n)))
+orders-once (drainKind ∷ w) (suc n) = occurs-suc (drainKind ∷ w) n ∙ rw (eqb·suc-suc (length w) n) (omega (arith, orders-once w n, count-none (orders n)))

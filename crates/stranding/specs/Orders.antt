@@ -5,25 +5,25 @@ use mathlib.Core.List.{List, [], _∷_, _++_, map}
 
 -- "accepted point, accepted learn with a forest point, drain": document 01's point is `shingled_point`, its learn is `post_process`
 pub data Kind : Type 0 where
-  point learn drain : Kind
+  pointKind learnKind drainKind : Kind
 
 -- "all 3^n lists": a list of one call more begins with one of the three
 abbrev pub orders : ℕ → List (List Kind)
 orders zero = [] ∷ []
-orders (suc n) = map (point ∷_) (orders n) ++ (map (learn ∷_) (orders n) ++ map (drain ∷_) (orders n))
+orders (suc n) = map (pointKind ∷_) (orders n) ++ (map (learnKind ∷_) (orders n) ++ map (drainKind ∷_) (orders n))
 
 -- ---- for the theorem that these are all of them, each once (proofs/Orders)
 
 abbrev pub sameKind : Kind → Kind → Bool
-sameKind point point = true
-sameKind point learn = false
-sameKind point drain = false
-sameKind learn point = false
-sameKind learn learn = true
-sameKind learn drain = false
-sameKind drain point = false
-sameKind drain learn = false
-sameKind drain drain = true
+sameKind pointKind pointKind = true
+sameKind pointKind learnKind = false
+sameKind pointKind drainKind = false
+sameKind learnKind pointKind = false
+sameKind learnKind learnKind = true
+sameKind learnKind drainKind = false
+sameKind drainKind pointKind = false
+sameKind drainKind learnKind = false
+sameKind drainKind drainKind = true
 
 abbrev pub sameOrder : List Kind → List Kind → Bool
 sameOrder [] [] = true

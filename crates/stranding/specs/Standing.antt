@@ -4,31 +4,31 @@ use Prim.Native.Nat.{ℕ, suc}
 use mathlib.Core.Bool.{cond}
 use mathlib.Core.List.{List, [], _∷_}
 use lib.Dec.{ltb, eqb}
-use Rattle.stranding.specs.Orders.{Kind, point, learn, drain}
+use Rattle.stranding.specs.Orders.{Kind, pointKind, learnKind, drainKind}
 
 -- "still waiting to be drained, drained, or stranded": waiting with the number of initial values so far, none at first
 pub data Standing : Type 0 where
-  waiting : ℕ → Standing
-  drained stranded : Standing
+  stillWaiting : ℕ → Standing
+  nowDrained nowStranded : Standing
 
 -- Document 01: "Drain, or an accepted point, adds F when the entries are exactly start W's"; otherwise neither changes anything,
 -- and "a drain met by row 15 still counts as a call"
 unfoldable pub afterDrain : ℕ → ℕ → Standing
-afterDrain start j = cond (eqb j start) drained (waiting j)
+afterDrain start j = cond (eqb j start) nowDrained (stillWaiting j)
 
 -- Document 01: "An accepted learn while waiting adds W(x, t)"; "an L before F strands them for good"
 unfoldable pub afterLearn : ℕ → ℕ → Standing
-afterLearn start j = cond (ltb j start) (waiting (suc j)) stranded
+afterLearn start j = cond (ltb j start) (stillWaiting (suc j)) nowStranded
 
 -- one call; what is drained or stranded is so for good
 abbrev pub step : ℕ → Standing → Kind → Standing
-step start (waiting j) point = afterDrain start j
-step start (waiting j) learn = afterLearn start j
-step start (waiting j) drain = afterDrain start j
-step start drained c = drained
-step start stranded c = stranded
+step start (stillWaiting j) pointKind = afterDrain start j
+step start (stillWaiting j) learnKind = afterLearn start j
+step start (stillWaiting j) drainKind = afterDrain start j
+step start nowDrained c = nowDrained
+step start nowStranded c = nowStranded
 
 -- the calls of a list, one after the other
-abbrev pub run : ℕ → Standing → List Kind → Standing
-run start q [] = q
-run start q (c ∷ cs) = run start (step start q c) cs
+abbrev pub standingAfter : ℕ → Standing → List Kind → Standing
+standingAfter start q [] = q
+standingAfter start q (c ∷ cs) = standingAfter start (step start q c) cs

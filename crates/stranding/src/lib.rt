@@ -2,7 +2,7 @@
 // the crate stranding_history proves that the numbers are those of the history.
 ghost use mathlib.Core.Path.{_≡_};
 ghost use Prim.Native.Nat.{_≤_};
-ghost use Rattle.stranding.specs.Counts.{outOfRange, refusal, strandingsOf};
+ghost use Rattle.stranding.specs.Counts.{outOfRange, refusedCounts, strandingsOf};
 ghost use Rattle.stranding.specs.Steps.Table.{Small, Swept};
 
 // The answer: the row that refuses, 0 for none, and the three numbers, each 0 where a row refuses.
@@ -20,7 +20,7 @@ fn out_of_range(n: u64) -> bool
 }
 
 fn refused(row: u64) -> StrandingCounts
-    ensures { λ r. ⌜ r ≡ refusal row ⌝ }
+    ensures { λ r. ⌜ r ≡ refusedCounts row ⌝ }
 {
     StrandingCounts {
         row,

@@ -17,22 +17,22 @@ use Rattle.trcf.specs.Types.{normalizes}
 use Rattle.trcf.specs.Settings.{Settings, waiting as waits}
 use Rattle.trcf.specs.Calls.{Learn, Call, postProcess, drain, seenLimit, due as isDue, drainFull, table, rows}
 use Rattle.trcf.specs.Preprocessor.{accepted}
-use Rattle.restart.specs.History.{Entry, initial, learned, drained as F, initials, learns, isDrained, onlyInitials}
+use Rattle.restart.specs.History.{Entry, initialEntry, learnedEntry, drainedEntry as F, initials, learns, isDrained, onlyInitials}
 use Rattle.restart.specs.History.{seenOf, internalOf, countOf, historyFacts, historyRefusal, complete, adds, enter, entriesFrom, entries}
 use Rattle.snapshot.proofs.Lists.{and-right}
 use Rattle.restart.proofs.Entries.{Unmixed, unmixed}
 use Rattle.restart.proofs.Step.{Phase, filling, drainedBy, plainly, stranded as strandedBy, Inv, is-false, due-full, isFull, step as kept, begins}
-use Rattle.stranding.specs.Orders.{Kind, point, learn, drain as drainKind}
-use Rattle.stranding.specs.Standing.{Standing, waiting, drained, stranded, afterDrain, afterLearn, step, run}
-use Rattle.stranding_history.specs.CallOrders.{hasLearned, standingOf, Of, aPoint, aLearn, aDrain, counted, Calls, end, then}
+use Rattle.stranding.specs.Orders.{Kind, pointKind, learnKind, drainKind}
+use Rattle.stranding.specs.Standing.{Standing, stillWaiting, nowDrained, nowStranded, afterDrain, afterLearn, step, standingAfter}
+use Rattle.stranding_history.specs.CallOrders.{hasLearned, standingOf, Of, aPoint, aLearn, aDrain, isCounted, Calls, end, then}
 
 -- ---- the standing by phase
 
-stands-filling : (s : Settings) (es : List Entry) → onlyInitials es ≡ true → standingOf es ≡ waiting (length (initials es))
+stands-filling : (s : Settings) (es : List Entry) → onlyInitials es ≡ true → standingOf es ≡ stillWaiting (length (initials es))
 unfolding standingOf hasLearned
 stands-filling s es o = let u = unmixed s es o in rw (u .noF, u .noL)
 
-stands-drained : (es : List Entry) → isDrained es ≡ true → standingOf es ≡ drained
+stands-drained : (es : List Entry) → isDrained es ≡ true → standingOf es ≡ nowDrained
 unfolding standingOf
 stands-drained es f = rw f
 
@@ -44,7 +44,7 @@ some-learned es h = by (hasLearned es) refl
     by true e = e
     by false e = absurd (omega (arith, ltb-false, e, h))
 
-stands-stranded : (es : List Entry) → isDrained es ≡ false → 0 < length (learns es) → standingOf es ≡ stranded
+stands-stranded : (es : List Entry) → isDrained es ≡ false → 0 < length (learns es) → standingOf es ≡ nowStranded
 unfolding standingOf
 stands-stranded es f h = rw (f, some-learned es h)
 
@@ -64,7 +64,7 @@ module _ (s : Settings) (m : normalizes (s .method) ≡ true) (pos : 0 < s .star
   -- ---- one call
 
   -- what a drain or an accepted point makes of the standing
-  drains : (es : List Entry) → Phase s es → (x : Kind) → ((j : ℕ) → step (s .start) (waiting j) x ≡ afterDrain (s .start) j)
+  drains : (es : List Entry) → Phase s es → (x : Kind) → ((j : ℕ) → step (s .start) (stillWaiting j) x ≡ afterDrain (s .start) j)
       → standingOf (cond (complete s es) (F ∷ es) es) ≡ step (s .start) (standingOf es) x
   unfolding afterDrain
   drains es (filling o u z) x d = rw (stands-filling s es o, d (length (initials es)), complete-filling es o) (go (eqb (length (initials es)) (s .start)) refl)
@@ -87,18 +87,18 @@ module _ (s : Settings) (m : normalizes (s .method) ≡ true) (pos : 0 < s .star
 
   -- what an accepted learn with a forest point makes of the standing
   learns-one : (es : List Entry) → Phase s es → (l : Learn) (y : List Float) → l .rcfPoint ≡ some y
-      → standingOf (adds s es (postProcess l)) ≡ step (s .start) (standingOf es) learn
+      → standingOf (adds s es (postProcess l)) ≡ step (s .start) (standingOf es) learnKind
   unfolding adds afterLearn
   learns-one es (filling o u z) l y g = rw (stands-filling s es o, waits-filling es o, g) (go (ltb (length (initials es)) (s .start)) refl)
     where
       go : (b : Bool) → ltb (length (initials es)) (s .start) ≡ b
-          → standingOf (cond b (initial (l .input) (l .timestamp) ∷ es) (learned (l .input) (l .timestamp) y ∷ es)) ≡ cond b (waiting (suc (length (initials es)))) stranded
-      go true e = stands-filling s (initial (l .input) (l .timestamp) ∷ es) o ∙ ap waiting (simp length-append (add-one (length (initials es))))
-      go false e = stands-stranded (learned (l .input) (l .timestamp) y ∷ es) (unmixed s es o .noF) (simp length-append (omega arith))
-  learns-one es (drainedBy f n k p) l y g = rw (past es k, g, stands-drained es f) (stands-drained (learned (l .input) (l .timestamp) y ∷ es) f)
+          → standingOf (cond b (initialEntry (l .input) (l .timestamp) ∷ es) (learnedEntry (l .input) (l .timestamp) y ∷ es)) ≡ cond b (stillWaiting (suc (length (initials es)))) nowStranded
+      go true e = stands-filling s (initialEntry (l .input) (l .timestamp) ∷ es) o ∙ ap stillWaiting (simp length-append (add-one (length (initials es))))
+      go false e = stands-stranded (learnedEntry (l .input) (l .timestamp) y ∷ es) (unmixed s es o .noF) (simp length-append (omega arith))
+  learns-one es (drainedBy f n k p) l y g = rw (past es k, g, stands-drained es f) (stands-drained (learnedEntry (l .input) (l .timestamp) y ∷ es) f)
   learns-one es (plainly f n k p) l y g = absurd (true≢false (sym m ∙ n))
   learns-one es (strandedBy f n k p) l y g =
-      rw (past es k, g, stands-stranded es f p) (stands-stranded (learned (l .input) (l .timestamp) y ∷ es) f (simp length-append (omega arith)))
+      rw (past es k, g, stands-stranded es f p) (stands-stranded (learnedEntry (l .input) (l .timestamp) y ∷ es) f (simp length-append (omega arith)))
 
   -- a drain: no row meets one that is due, and one that is met adds nothing anyhow
   same : (n : ℕ) (es : List Entry) → accepted n es es ≡ es
@@ -131,32 +131,32 @@ module _ (s : Settings) (m : normalizes (s .method) ≡ true) (pos : 0 < s .star
   drain-adds es v false h = rw h (same (historyRefusal s es drain) es)
 
   -- a drain is accepted or met by row 15, and by no other
-  pub drain-counts : (es : List Entry) → Phase s es → counted drainKind (historyRefusal s es drain) ≡ true
+  pub drain-counts : (es : List Entry) → Phase s es → isCounted drainKind (historyRefusal s es drain) ≡ true
   unfolding historyRefusal rows table
   drain-counts es v =
       let f = historyFacts s es in
       rw (never-full es v) (go (eqb (f .valuesSeen) (s .start) && null (f .initialTimestamps)))
     where
-      go : (b : Bool) → counted drainKind (cond b 15 0) ≡ true
+      go : (b : Bool) → isCounted drainKind (cond b 15 0) ≡ true
       go true = refl
       go false = refl
 
-  by-call : (es : List Entry) → Phase s es → (x : Kind) (c : Call) → Of x c → counted x (historyRefusal s es c) ≡ true
+  by-call : (es : List Entry) → Phase s es → (x : Kind) (c : Call) → Of x c → isCounted x (historyRefusal s es c) ≡ true
       → standingOf (enter s es c) ≡ step (s .start) (standingOf es) x
   unfolding enter adds
-  by-call es v x c (aPoint a t out) e = rw (eqb-true (historyRefusal s es c) 0 e) (drains es v point (λ j. refl))
+  by-call es v x c (aPoint a t out) e = rw (eqb-true (historyRefusal s es c) 0 e) (drains es v pointKind (λ j. refl))
   by-call es v x c (aLearn l y g) e = rw (eqb-true (historyRefusal s es c) 0 e) (learns-one es v l y g)
   by-call es v x c aDrain e = ap standingOf (drain-adds es v (complete s es) refl) ∙ drains es v drainKind (λ j. refl)
 
   -- ---- any list of calls
 
   module _ (k>0 : 0 < s .k) where
-    by-calls : {es : List Entry} {xs : List Kind} {cs : List Call} → Inv s es → Calls s es xs cs → standingOf (entriesFrom s es cs) ≡ run (s .start) (standingOf es) xs
+    by-calls : {es : List Entry} {xs : List Kind} {cs : List Call} → Inv s es → Calls s es xs cs → standingOf (entriesFrom s es cs) ≡ standingAfter (s .start) (standingOf es) xs
     by-calls v end = refl
     by-calls {es} v (then {x = x} {c = c} {xs = xs} {cs = cs} o h t) =
-        by-calls (kept s k>0 es v c .1) t ∙ ap (λ (q : Standing). run (s .start) q xs) (by-call es (v .phase) x c o h)
+        by-calls (kept s k>0 es v c .1) t ∙ ap (λ (q : Standing). standingAfter (s .start) q xs) (by-call es (v .phase) x c o h)
 
     -- THEOREM: the calls of an order leave what the order leads to
-    pub calls-leave : (xs : List Kind) (cs : List Call) → Calls s [] xs cs → standingOf (entries s cs) ≡ run (s .start) (waiting 0) xs
+    pub calls-leave : (xs : List Kind) (cs : List Call) → Calls s [] xs cs → standingOf (entries s cs) ≡ standingAfter (s .start) (stillWaiting 0) xs
     unfolding entries standingOf hasLearned
     calls-leave xs cs t = by-calls (begins s k>0) t

@@ -10,11 +10,11 @@ use Rattle.trcf.specs.declared.types.ForestMode.the-variants.{STANDARD, «TIME_
 use Rattle.trcf.specs.Lists.{lastN}
 use Rattle.trcf.specs.Transformer.{one32}
 use Rattle.trcf.specs.Settings.{Settings, block, dimension, waiting as waits, allOne, settingsRow, Valid}
-use Rattle.trcf.specs.Calls.{drain as drainCall, finite, due, newest, behind as behindNewest, wrongLength, outside, drainFull, learnFull, waitingShort, learnShort, table, rows}
-use Rattle.restart.specs.History.{seenOf, internalOf, bufferOf, shingled, inputsOf, timestampsOf, newestOf, countOf, historyFacts, historyRefusal, complete, adds, enter, entries}
-use Rattle.stranding.specs.Orders.{Kind, point, learn, drain}
-use Rattle.stranding.specs.Standing.{Standing, waiting, drained, stranded}
-use Rattle.stranding.specs.Counts.{answer, countsBy, strandingsOf}
+use Rattle.trcf.specs.Calls.{drain as drainCall, finite, due, newest, beforeNewest as behindNewest, wrongLength, outside, drainFull, learnFull, waitingShort, learnShort, table, rows}
+use Rattle.restart.specs.History.{seenOf, internalOf, bufferOf, shingled, inputsOf, timestampsOf, newestReading, countOf, historyFacts, historyRefusal, complete, adds, enter, entries}
+use Rattle.stranding.specs.Orders.{Kind, pointKind, learnKind, drainKind}
+use Rattle.stranding.specs.Standing.{Standing, stillWaiting, nowDrained, nowStranded}
+use Rattle.stranding.specs.Counts.{rowCounts, countsBy, strandingsOf}
 use Rattle.stranding_history.specs.CallOrders.{hasLearned, standingOf, zeroCalls, Strandings}
 use Rattle.stranding_history.proofs.Counted.{strandings-of-the-history}
 
@@ -24,7 +24,7 @@ unfolding ofBits lt size lastN block dimension waits finite due newest behindNew
 judging = tt
 
 recording : Unit {0}
-unfolding judging seenOf internalOf bufferOf shingled inputsOf timestampsOf newestOf countOf historyFacts historyRefusal complete adds enter entries hasLearned standingOf
+unfolding judging seenOf internalOf bufferOf shingled inputsOf timestampsOf newestReading countOf historyFacts historyRefusal complete adds enter entries hasLearned standingOf
 recording = tt
 
 -- d 1, k 2, and the start given
@@ -65,38 +65,38 @@ leaves s w = standingOf (entries s (zeroCalls s [] w))
 
 -- ---- "For n 2 and s 1 they are 6, 2 and 1", on the history
 
-nine-lists : countsBy (leaves (plain 1)) 2 ≡ answer 0 6 2 1
+nine-lists : countsBy (leaves (plain 1)) 2 ≡ rowCounts 0 6 2 1
 unfolding recording countsBy
 nine-lists = refl
 
-nine-lists-timed : countsBy (leaves (timed 1)) 2 ≡ answer 0 6 2 1
+nine-lists-timed : countsBy (leaves (timed 1)) 2 ≡ rowCounts 0 6 2 1
 unfolding recording countsBy
 nine-lists-timed = refl
 
-twenty-seven-lists : countsBy (leaves (plain 2)) 3 ≡ answer 0 24 2 1
+twenty-seven-lists : countsBy (leaves (plain 2)) 3 ≡ rowCounts 0 24 2 1
 unfolding recording countsBy
 twenty-seven-lists = refl
 
 -- ---- single lists
 
-none-yet : leaves (plain 1) (point ∷ drain ∷ drain ∷ []) ≡ waiting 0
+none-yet : leaves (plain 1) (pointKind ∷ drainKind ∷ drainKind ∷ []) ≡ stillWaiting 0
 unfolding recording
 none-yet = refl
 
-by-point : leaves (plain 1) (learn ∷ point ∷ learn ∷ []) ≡ drained
+by-point : leaves (plain 1) (learnKind ∷ pointKind ∷ learnKind ∷ []) ≡ nowDrained
 unfolding recording
 by-point = refl
 
-by-learn : leaves (plain 1) (learn ∷ learn ∷ drain ∷ point ∷ []) ≡ stranded
+by-learn : leaves (plain 1) (learnKind ∷ learnKind ∷ drainKind ∷ pointKind ∷ []) ≡ nowStranded
 unfolding recording
 by-learn = refl
 
 -- "A drain met by row 15 still counts as a call": the second of two drains is met by it
-second-drain : historyRefusal (plain 1) (entries (plain 1) (zeroCalls (plain 1) [] (learn ∷ drain ∷ []))) drainCall ≡ 15
+second-drain : historyRefusal (plain 1) (entries (plain 1) (zeroCalls (plain 1) [] (learnKind ∷ drainKind ∷ []))) drainCall ≡ 15
 unfolding recording
 second-drain = refl
 
-by-drains : leaves (plain 1) (learn ∷ drain ∷ drain ∷ []) ≡ drained
+by-drains : leaves (plain 1) (learnKind ∷ drainKind ∷ drainKind ∷ []) ≡ nowDrained
 unfolding recording
 by-drains = refl
 

@@ -20,7 +20,7 @@ use Rattle.snapshot.proofs.Lists.{all-replicate}
 use Rattle.restart.specs.History.{Entry, timestampsOf, internalOf, timestamps, bufferOf, historyState, historyFacts, enter, entriesFrom, entries}
 use Rattle.restart.proofs.Step.{run-history}
 use Rattle.restart.proofs.Reachable.{k>0-of, run-form}
-use Rattle.stranding.specs.Orders.{Kind, point, learn, drain}
+use Rattle.stranding.specs.Orders.{Kind, pointKind, learnKind, drainKind}
 use Rattle.stranding_history.specs.CallOrders.{zeroCall, zeroCalls}
 
 last-whole : (a : ℕ) (l : List ℕ) → a ≤ wholeMax → Whole l → lastOr a l ≤ wholeMax
@@ -49,9 +49,9 @@ module _ (s : Settings) (ok : Valid s) where
       go false l p v w = last-whole 0 p (omega arith) w
 
   zero-machine : (cs : List Call) → All Machine cs → (x : Kind) → Machine (zeroCall s (entries s cs) x)
-  zero-machine cs m point = tt
-  zero-machine cs m learn = (zeros-fit (s .d), newest-whole cs m, zeros-fit (dimension s))
-  zero-machine cs m drain = tt
+  zero-machine cs m pointKind = tt
+  zero-machine cs m learnKind = (zeros-fit (s .d), newest-whole cs m, zeros-fit (dimension s))
+  zero-machine cs m drainKind = tt
 
   zeros-after : (xs : List Kind) (cs : List Call) → All Machine cs → All Machine (zeroCalls s (entries s cs) xs)
   unfolding entries

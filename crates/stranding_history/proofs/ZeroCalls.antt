@@ -15,11 +15,11 @@ use Rattle.common.specs.Deviation.{countLimit}
 use Rattle.trcf.specs.Types.{normalizes}
 use Rattle.trcf.specs.Transformer.{zero32}
 use Rattle.trcf.specs.Settings.{Settings, block, dimension}
-use Rattle.trcf.specs.Calls.{seenLimit, finite, newest, behind, wrongLength, outside, learnFull, waitingShort, learnShort, table, rows}
-use Rattle.restart.specs.History.{Entry, initial, learned, drained as F, initials, learns, isDrained, fedOf, seenOf, internalOf, countOf, historyFacts, historyRefusal}
+use Rattle.trcf.specs.Calls.{seenLimit, finite, newest, beforeNewest, wrongLength, outside, learnFull, waitingShort, learnShort, table, rows}
+use Rattle.restart.specs.History.{Entry, initialEntry, learnedEntry, drainedEntry as F, initials, learns, isDrained, fedOf, seenOf, internalOf, countOf, historyFacts, historyRefusal}
 use Rattle.restart.proofs.Lists.{length-pairs}
 use Rattle.snapshot.proofs.Accepted.{none-refuses}
-use Rattle.stranding.specs.Orders.{point, learn}
+use Rattle.stranding.specs.Orders.{pointKind, learnKind}
 use Rattle.restart.proofs.Step.{Phase}
 use Rattle.stranding_history.proofs.Calls.{never-full}
 use Rattle.stranding_history.specs.CallOrders.{zeroLearn, zeroCall}
@@ -28,8 +28,8 @@ use Rattle.stranding_history.specs.CallOrders.{zeroLearn, zeroCall}
 
 kinds : (es : List Entry) → length (initials es) + length (learns es) ≤ length es
 kinds [] = omega arith
-kinds (initial x t ∷ es) = simp length-append (omega (arith, kinds es))
-kinds (learned x t y ∷ es) = simp length-append (omega (arith, kinds es))
+kinds (initialEntry x t ∷ es) = simp length-append (omega (arith, kinds es))
+kinds (learnedEntry x t y ∷ es) = simp length-append (omega (arith, kinds es))
 kinds (F ∷ es) = omega (arith, kinds es)
 
 one-more : {A : Type 0} (l : List A) (b : Bool) (x : A) → length (l ++ cond b (x ∷ []) []) ≤ suc (length l)
@@ -38,9 +38,9 @@ one-more l false x = simp length-append (omega arith)
 
 fed-few : (s : Settings) (es : List Entry) → length (fedOf s es) ≤ length es * length es
 fed-few s [] = omega arith
-fed-few s (initial x t ∷ es) = omega (arith, fed-few s es)
-fed-few s (learned x t y ∷ es) =
-    let h : length (fedOf s (learned x t y ∷ es)) ≤ suc (length (fedOf s es)) = one-more (fedOf s es) (ltb (seenOf es) (s .stop)) _ in
+fed-few s (initialEntry x t ∷ es) = omega (arith, fed-few s es)
+fed-few s (learnedEntry x t y ∷ es) =
+    let h : length (fedOf s (learnedEntry x t y ∷ es)) ≤ suc (length (fedOf s es)) = one-more (fedOf s es) (ltb (seenOf es) (s .stop)) _ in
     omega (arith, fed-few s es, h)
 fed-few s (F ∷ es) = simp (length-append, length-pairs) (omega (arith, fed-few s es, kinds es))
 
@@ -61,14 +61,14 @@ module _ (s : Settings) (m : normalizes (s .method) ≡ true) (pos : 0 < s .star
   row-12 : ltb (newest (historyFacts s es)) (newest (historyFacts s es)) ≡ false
   row-12 = let n = newest (historyFacts s es) in le-ltb n n (omega arith)
 
-  row-28 : behind s (historyFacts s es) (newest (historyFacts s es)) ≡ false
-  unfolding behind
+  row-28 : beforeNewest s (historyFacts s es) (newest (historyFacts s es)) ≡ false
+  unfolding beforeNewest
   row-28 = rw (row-12, and-false)
 
-  pub point-accepted : historyRefusal s es (zeroCall s es point) ≡ 0
+  pub point-accepted : historyRefusal s es (zeroCall s es pointKind) ≡ 0
   unfolding historyRefusal rows table
   point-accepted =
-      none-refuses (table s (historyFacts s es) (zeroCall s es point))
+      none-refuses (table s (historyFacts s es) (zeroCall s es pointKind))
       (wide (s .d), (rw (zeros-finite (s .d)), (row-28, (rw (never-full s m pos few es v, and-false), (rw (roomy (dimension s), and-false), tt)))))
 
   seen-few : seenOf es ≤ 20
@@ -118,10 +118,10 @@ module _ (s : Settings) (m : normalizes (s .method) ≡ true) (pos : 0 < s .star
   unfolding waitingShort learnShort
   row-20 = (rw (roomy (block s), and-false), rw (roomy (block s), and-false))
 
-  pub learn-accepted : historyRefusal s es (zeroCall s es learn) ≡ 0
+  pub learn-accepted : historyRefusal s es (zeroCall s es learnKind) ≡ 0
   unfolding historyRefusal rows table
   learn-accepted =
-      none-refuses (table s (historyFacts s es) (zeroCall s es learn)) (
+      none-refuses (table s (historyFacts s es) (zeroCall s es learnKind)) (
         wide (s .d),
         (
           rw (zeros-finite (s .d)),

@@ -13,8 +13,8 @@ use Rattle.trcf.specs.Transformer.{zero32}
 use Rattle.trcf.specs.Settings.{Settings, block, dimension}
 use Rattle.trcf.specs.Calls.{Learn, Call, shingledPoint, postProcess, drain as drainCall, newest, Machine}
 use Rattle.restart.specs.History.{Entry, initials, learns, isDrained, historyFacts, historyRefusal, enter, entries}
-use Rattle.stranding.specs.Orders.{Kind, point, learn, drain}
-use Rattle.stranding.specs.Standing.{Standing, waiting, drained, stranded}
+use Rattle.stranding.specs.Orders.{Kind, pointKind, learnKind, drainKind}
+use Rattle.stranding.specs.Standing.{Standing, stillWaiting, nowDrained, nowStranded}
 use Rattle.stranding.specs.Counts.{countsBy, strandingsOf}
 
 -- ---- what the entries show
@@ -25,27 +25,27 @@ hasLearned es = ltb 0 (length (learns es))
 
 -- Document 01: "W's without F wait. An L before F strands them for good."
 unfoldable pub standingOf : List Entry → Standing
-standingOf es = cond (isDrained es) drained (cond (hasLearned es) stranded (waiting (length (initials es))))
+standingOf es = cond (isDrained es) nowDrained (cond (hasLearned es) nowStranded (stillWaiting (length (initials es))))
 
 -- ---- the calls of an order
 
 -- "accepted point, accepted learn with a forest point, drain": which calls are of the kind
 pub data Of : Kind → Call → Type 0 where
-  aPoint : (x : List Float) (t : ℕ) (out : List Float) → Of point (shingledPoint x t out)
-  aLearn : (l : Learn) (y : List Float) → l .rcfPoint ≡ some y → Of learn (postProcess l)
-  aDrain : Of drain drainCall
+  aPoint : (x : List Float) (t : ℕ) (out : List Float) → Of pointKind (shingledPoint x t out)
+  aLearn : (l : Learn) (y : List Float) → l .rcfPoint ≡ some y → Of learnKind (postProcess l)
+  aDrain : Of drainKind drainCall
 
 -- the rows with which a call of the kind counts, 0 for accepted: "A drain met by row 15 still counts as a call."
-abbrev pub counted : Kind → ℕ → Bool
-counted point row = eqb row 0
-counted learn row = eqb row 0
-counted drain row = eqb row 0 || eqb row 15
+abbrev pub isCounted : Kind → ℕ → Bool
+isCounted pointKind row = eqb row 0
+isCounted learnKind row = eqb row 0
+isCounted drainKind row = eqb row 0 || eqb row 15
 
 -- calls after the entries es, one of each kind of the order, with any arguments with which it counts where it stands
 pub data Calls (s : Settings) : List Entry → List Kind → List Call → Type 0 where
   end : {es : List Entry} → Calls s es [] []
   then : {es : List Entry} {x : Kind} {c : Call} {xs : List Kind} {cs : List Call}
-      → Of x c → counted x (historyRefusal s es c) ≡ true → Calls s (enter s es c) xs cs → Calls s es (x ∷ xs) (c ∷ cs)
+      → Of x c → isCounted x (historyRefusal s es c) ≡ true → Calls s (enter s es c) xs cs → Calls s es (x ∷ xs) (c ∷ cs)
 
 -- ---- such calls for any order: zeros, at the newest time
 
@@ -64,9 +64,9 @@ zeroLearn s es =
     }
 
 abbrev pub zeroCall : Settings → List Entry → Kind → Call
-zeroCall s es point = shingledPoint (replicate (s .d) zero32) (newest (historyFacts s es)) (replicate (dimension s) zero32)
-zeroCall s es learn = postProcess (zeroLearn s es)
-zeroCall s es drain = drainCall
+zeroCall s es pointKind = shingledPoint (replicate (s .d) zero32) (newest (historyFacts s es)) (replicate (dimension s) zero32)
+zeroCall s es learnKind = postProcess (zeroLearn s es)
+zeroCall s es drainKind = drainCall
 
 abbrev pub zeroCalls : Settings → List Entry → List Kind → List Call
 zeroCalls s es [] = []

@@ -1,5 +1,5 @@
 // Replays data/vectors, the oracle's numbers (docs/VECTORS.md), on `strandings`, and prints how many lines agree and how many differ.
-// A line is six fields of 16 hexadecimal digits, a tab behind each and an LF behind the last: start, calls, row, waiting, drained, stranded.
+// A line is six fields of 16 hexadecimal digits, a tab after each and an LF after the last: start, calls, row, waiting, drained, stranded.
 // Its last line is wrong on purpose: a program that reports no difference compares nothing.
 use libc::STDOUT_FILENO;
 
@@ -53,7 +53,7 @@ const DIFFER: usize = 1;
 
 const BROKEN: usize = 2;
 
-// A tab behind each of the first five fields, and an LF behind the last.
+// A tab after each of the first five fields, and an LF after the last.
 fn is_parted(line: &[u8]) -> bool {
     if line.len() != LINE {
         return false;

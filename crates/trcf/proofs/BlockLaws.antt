@@ -13,15 +13,15 @@ use lib.Dec.{eqb}
 use lib.ListN.{length, getD, set}
 use lib.Seq.{getD-set-same, getD-set-other, set-set, set-comm, getD-append-add}
 use lib.Ieee.{Float, nan, binary32}
-use Rattle.common.specs.RangeVector.{Range, Ranges, range, ranges, rangeAt, putAt, shifted, scaled, cascadeTo, unblocked}
-use Rattle.common.proofs.RangeLaws.{rangeAt-other, cascadeTo-lengths, cascadeTo-later}
+use Rattle.ranges.specs.RangeVector.{Range, Ranges, range, ranges, rangeAt, putAt, shifted, scaled, cascadeTo, unblocked}
+use Rattle.ranges.proofs.RangeLaws.{rangeAt-other, cascadeTo-lengths, cascadeTo-later}
 use Rattle.trcf.specs.Types.{isNone, normalizes, differences, centres}
 use Rattle.trcf.specs.Transformer.{Transformer, reciprocal, weightAt, normalizedScale, basicDrift, basicShift, scaledIf, shiftedIf, forecastAt, forecastTo, invertedForecast}
 use Rattle.trcf.specs.declared.types.TransformMethod.{TransformMethod}
 use Rattle.trcf.specs.declared.types.TransformMethod.the-variants.{NONE, WEIGHTED, DIFFERENCE, «SUBTRACT_MA», NORMALIZE, «NORMALIZE_DIFFERENCE»}
 use Rattle.trcf.proofs.ForecastLaws.{Even, lengths-of, forecastTo-lengths}
 use Rattle.trcf.proofs.ExtrapolationLaws.{true-false, turn-within}
-use Rattle.trcf.specs.Steps.Blocks.{placesBy, driftBy, turnBy, driftPlace, turnPlace, moves, placeOf, CarriedTo, Carried, Held}
+use Rattle.trcf.specs.Steps.Blocks.{placesBy, driftBy, turnBy, driftPlace, turnPlace, moves, invertPlace, CarriedTo, Carried, FactorsIn}
 
 -- ---- turns of the loops
 
@@ -40,7 +40,7 @@ places-ext g h at (suc n) v e =
     ap (λ (w : Ranges). putAt w (at + n) (g n (rangeAt w (at + n)))) (places-ext g h at n v e)
     ∙ ap (putAt (placesBy h at n v) (at + n)) (e n (rangeAt (placesBy h at n v) (at + n)))
 
-pub held-none : (t : Transformer) (p fs ss ds bs : List Float) → length bs ≡ 16 → Held t p 0 fs ss ds bs
+pub held-none : (t : Transformer) (p fs ss ds bs : List Float) → length bs ≡ 16 → FactorsIn t p 0 fs ss ds bs
 held-none t p fs ss ds bs e =
     record {
       long = e;
@@ -91,7 +91,7 @@ turnedTo t p (suc n) v =
 
 -- ---- a block
 
--- a store at index n of the list behind the base is not seen before place (length base) + n
+-- a store at index n of the list after the base is not seen before place (length base) + n
 getD-before : (base l : List Float) (n i : ℕ) (a : Float) → i < length base + n → getD (base ++ set l n a) i nan ≡ getD (base ++ l) i nan
 getD-before [] l n i a h = getD-set-other l n i a nan (λ e. omega arith)
 getD-before (x ∷ base) l n zero a h = refl
@@ -120,8 +120,8 @@ turn-same «NORMALIZE_DIFFERENCE» f s y shift x base r e = ap (shifted binary32
 module _ (t : Transformer) (p : List Float) (v : Ranges) (i : ℕ) (fs ss ds bs : List Float) (some : 0 < t .d) (one : length p ≡ t .d) where
   place-same : (j : ℕ) (x : Float) (r : Range) → j < t .d → getD fs j nan ≡ reciprocal (weightAt t j) → getD ss j nan ≡ normalizedScale t j
       → getD ds j nan ≡ basicDrift t j → getD bs j nan ≡ cond (differences (t .method)) x (basicShift t j)
-      → placeOf (t .method) i fs ss ds bs j r ≡ turnAt t (i * t .d + j) x r
-  unfolding placeOf forecastAt
+      → invertPlace (t .method) i fs ss ds bs j r ≡ turnAt t (i * t .d + j) x r
+  unfolding invertPlace forecastAt
   place-same j x r low ef es ed eb =
       let a : (i * t .d + j) % t .d ≡ j = mul-add-mod-self-right i (t .d) j ∙ mod-eq-of-lt low in
       let b : (i * t .d + j) / t .d ≡ i = mul-add-div-right some i j ∙ omega (arith, div-eq-of-lt low) in
@@ -131,11 +131,11 @@ module _ (t : Transformer) (p : List Float) (v : Ranges) (i : ℕ) (fs ss ds bs 
       (factor : (k : ℕ) → k < t .d → getD fs k nan ≡ reciprocal (weightAt t k)) (scale : (k : ℕ) → k < t .d → getD ss k nan ≡ normalizedScale t k)
       (drift : (k : ℕ) → k < t .d → getD ds k nan ≡ basicDrift t k)
       (base : (k : ℕ) → k < t .d → getD bs k nan ≡ cond (differences (t .method)) (getD (p ++ w .values) (i * t .d + k) nan) (basicShift t k)) where
-    block-to : (j : ℕ) → j ≤ t .d → placesBy (placeOf (t .method) i fs ss ds bs) (i * t .d) j w ≡ turnedTo t p (i * t .d + j) v
+    block-to : (j : ℕ) → j ≤ t .d → placesBy (invertPlace (t .method) i fs ss ds bs) (i * t .d) j w ≡ turnedTo t p (i * t .d + j) v
     unfolding placesBy turnedTo
     block-to zero h = so-far ∙ ap (λ (n : ℕ). turnedTo t p n v) {x = i * t .d} {y = i * t .d + 0} (omega arith)
     block-to (suc j) h =
-        let g = placeOf (t .method) i fs ss ds bs in
+        let g = invertPlace (t .method) i fs ss ds bs in
         let u = placesBy g (i * t .d) j w in
         let x = getD (p ++ u .values) (i * t .d + j) nan in
         let eb : getD bs j nan ≡ cond (differences (t .method)) x (basicShift t j) =
@@ -145,7 +145,7 @@ module _ (t : Transformer) (p : List Float) (v : Ranges) (i : ℕ) (fs ss ds bs 
         (block-to j (omega arith))
         ∙ ap (λ (n : ℕ). turnedTo t p n v) {x = suc (i * t .d + j)} {y = i * t .d + suc j} (omega arith)
 
-    pub block-more : placesBy (placeOf (t .method) i fs ss ds bs) (i * t .d) (t .d) w ≡ turnedTo t p ((i + 1) * t .d) v
+    pub block-more : placesBy (invertPlace (t .method) i fs ss ds bs) (i * t .d) (t .d) w ≡ turnedTo t p ((i + 1) * t .d) v
     block-more = block-to (t .d) (omega arith) ∙ ap (λ (n : ℕ). turnedTo t p n v) {x = i * t .d + t .d} {y = (i + 1) * t .d} (omega arith)
 
 -- the bases of the next block
@@ -172,7 +172,7 @@ pub record Turned (t : Transformer) (p : List Float) (i : ℕ) (v w : Ranges) (b
   pub places : w ≡ turnedTo t p (i * t .d) v
   pub bases : (k : ℕ) → k < t .d → getD bs k nan ≡ cond (differences (t .method)) (getD (p ++ w .values) (i * t .d + k) nan) (basicShift t k)
 
-pub turned-none : (t : Transformer) (p : List Float) (v : Ranges) (fs ss ds bs : List Float) → length p ≡ t .d → Held t p (t .d) fs ss ds bs → Turned t p 0 v v bs
+pub turned-none : (t : Transformer) (p : List Float) (v : Ranges) (fs ss ds bs : List Float) → length p ≡ t .d → FactorsIn t p (t .d) fs ss ds bs → Turned t p 0 v v bs
 unfolding turnedTo
 turned-none t p v fs ss ds bs one h =
     record {
@@ -182,13 +182,13 @@ turned-none t p v fs ss ds bs one h =
     }
 
 pub turned-more : (t : Transformer) (p : List Float) (i : ℕ) (v w z : Ranges) (m : TransformMethod) (d : ℕ) (fs ss ds first old new : List Float) → t .method ≡ m → t .d ≡ d
-    → 0 < t .d → length p ≡ t .d → Held t p (t .d) fs ss ds first → Turned t p i v w old → z ≡ placesBy (placeOf m i fs ss ds old) (i * d) d w
+    → 0 < t .d → length p ≡ t .d → FactorsIn t p (t .d) fs ss ds first → Turned t p i v w old → z ≡ placesBy (invertPlace m i fs ss ds old) (i * d) d w
     → Carried (differences m) (i * d) d (z .values) old new → Turned t p (i + 1) v z new
 turned-more t p i v w z m d fs ss ds first old new em ed some one h so-far by carried =
     record {
       places = by
-          ∙ ap (λ (x : TransformMethod). placesBy (placeOf x i fs ss ds old) (i * d) d w) (sym em)
-          ∙ ap (λ (x : ℕ). placesBy (placeOf (t .method) i fs ss ds old) (i * x) x w) (sym ed)
+          ∙ ap (λ (x : TransformMethod). placesBy (invertPlace x i fs ss ds old) (i * d) d w) (sym em)
+          ∙ ap (λ (x : ℕ). placesBy (invertPlace (t .method) i fs ss ds old) (i * x) x w) (sym ed)
           ∙ block-more t p v i fs ss ds old some one w (so-far .places) (h .factor) (h .scale) (h .drift) (so-far .bases);
       bases = λ k l. bases-more (differences (t .method)) p (z .values) old new i (t .d) k _ _ one l each (so-far .bases k l);
     }
@@ -199,9 +199,9 @@ turned-more t p i v w z m d fs ss ds first old new em ed some one h so-far by ca
 -- ---- by the method
 
 pub none-block : (m : TransformMethod) (i at d : ℕ) (fs ss ds bs : List Float) (v w : Ranges) → isNone m ≡ true → w ≡ placesBy (driftPlace i ds) at d v
-    → w ≡ placesBy (placeOf m i fs ss ds bs) at d v
-unfolding placeOf
-none-block m i at d fs ss ds bs v w e h = h ∙ places-ext (driftPlace i ds) (placeOf m i fs ss ds bs) at d v (λ j r. sym (rw e))
+    → w ≡ placesBy (invertPlace m i fs ss ds bs) at d v
+unfolding invertPlace
+none-block m i at d fs ss ds bs v w e h = h ∙ places-ext (driftPlace i ds) (invertPlace m i fs ss ds bs) at d v (λ j r. sym (rw e))
 
 pub none-carried : (m : TransformMethod) (at d : ℕ) (l bs : List Float) → isNone m ≡ true → Carried (differences m) at d l bs bs
 none-carried NONE at d l bs e = record { long = refl; each = λ k h. refl }
@@ -212,10 +212,10 @@ none-carried NORMALIZE at d l bs e = absurd (true-false (sym e))
 none-carried «NORMALIZE_DIFFERENCE» at d l bs e = absurd (true-false (sym e))
 
 pub other-block : (m : TransformMethod) (n s : Bool) (i at d : ℕ) (fs ss ds bs : List Float) (v w : Ranges) → isNone m ≡ false → n ≡ normalizes m → s ≡ moves m
-    → w ≡ placesBy (turnPlace n s i fs ss ds bs) at d v → w ≡ placesBy (placeOf m i fs ss ds bs) at d v
-unfolding placeOf
+    → w ≡ placesBy (turnPlace n s i fs ss ds bs) at d v → w ≡ placesBy (invertPlace m i fs ss ds bs) at d v
+unfolding invertPlace
 other-block m n s i at d fs ss ds bs v w e en es h =
-    h ∙ places-ext (turnPlace n s i fs ss ds bs) (placeOf m i fs ss ds bs) at d v (λ j r. sym (rw (e, ← en, ← es)))
+    h ∙ places-ext (turnPlace n s i fs ss ds bs) (invertPlace m i fs ss ds bs) at d v (λ j r. sym (rw (e, ← en, ← es)))
 
 pub other-carried : (m : TransformMethod) (b : Bool) (at d : ℕ) (l old new : List Float) → b ≡ differences m → Carried b at d l old new → Carried (differences m) at d l old new
 other-carried m b at d l old new e h = rw (← e) h

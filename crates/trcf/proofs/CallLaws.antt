@@ -7,22 +7,22 @@ use native.Mathlib.Omega.{arith}
 use lib.ListN.{length, getD, take, drop}
 use lib.Seq.{drop-cons, length-take-le}
 use lib.Ieee.{Float, nan, eq}
-use Rattle.common.specs.Lent.{over}
-use Rattle.common.specs.Deviation.{rowOf, answered}
+use Rattle.refusal.specs.Lent.{over}
+use Rattle.common.specs.Deviation.{deviationRow, deviationResultBy}
 use Rattle.common.specs.declared.deviation.Deviation.{Deviation}
 use Rattle.trcf.specs.Settings.{allOne}
 use Rattle.trcf.specs.Transformer.{one32, updated}
-use Rattle.trcf.specs.TransformerCalls.{Made, made, madeBy, Written, written, writtenBy, own}
+use Rattle.trcf.specs.TransformerCalls.{Made, made, madeBy, TransformerOutput, transformerOutput, transformerOutputBy, own}
 use Rattle.trcf.specs.Steps.Sound.{Sound}
 use Rattle.trcf.specs.declared.transformer.WeightedTransformer.{WeightedTransformer}
 use Rattle.trcf.proofs.TransformerLaws.{updated-length}
 
-pub written-refused : (r n : ℕ) (l a : List Float) → r ≡ n → (r ≡ 0 → ⊥) → written r l ≡ writtenBy n l a
+pub written-refused : (r n : ℕ) (l a : List Float) → r ≡ n → (r ≡ 0 → ⊥) → transformerOutput r l ≡ transformerOutputBy n l a
 written-refused r zero l a e taken = absurd (taken e)
-written-refused r (suc n) l a e taken = ap (λ (k : ℕ). written k l) e
+written-refused r (suc n) l a e taken = ap (λ (k : ℕ). transformerOutput k l) e
 
-pub written-done : (r n : ℕ) (l a o : List Float) → r ≡ n → r ≡ 0 → o ≡ over l a → written 0 o ≡ writtenBy n l a
-written-done r zero l a o e z h = ap (written 0) h
+pub written-done : (r n : ℕ) (l a o : List Float) → r ≡ n → r ≡ 0 → o ≡ over l a → transformerOutput 0 o ≡ transformerOutputBy n l a
+written-done r zero l a o e z h = ap (transformerOutput 0) h
 written-done r (suc n) l a o e z h = absurd (omega arith)
 
 pub made-refused : (r n : ℕ) (h : WeightedTransformer) (l : List Float) (done : Made) → r ≡ n → (r ≡ 0 → ⊥) → made r h l ≡ madeBy n (made n h l) done
@@ -49,7 +49,7 @@ updated-over h l x p new room e =
 
 -- ---- rows
 
-pub rowOf-answered : (n : ℕ) (s : Deviation) → rowOf (answered n s) ≡ n
+pub rowOf-answered : (n : ℕ) (s : Deviation) → deviationRow (deviationResultBy n s) ≡ n
 rowOf-answered zero s = refl
 rowOf-answered (suc n) s = refl
 

@@ -14,18 +14,19 @@ use lib.Seq.{length-take-le, getD-drop, drop-drop, take-length, paste, take-all,
 use lib.IntN.{pos}
 use lib.Ieee.{Float, nan, binary32, binary64, Format, add, mul, div, eq, ofInt}
 use Rattle.common.specs.Deviation.{zero64, one64}
-use Rattle.common.specs.Lent.{over}
-use Rattle.common.specs.Refusal.{firstOf}
-use Rattle.common.specs.RangeVector.{Range, Ranges, range, ranges, settled, shifted, scaled, rangeAt, putAt, overAll, cascadeTo, Outcome, outcome, unequal, unblocked, shorter, cascadedAddOf}
+use Rattle.refusal.specs.Lent.{over}
+use Rattle.refusal.specs.Refusal.{firstOf}
+use Rattle.ranges.specs.RangeVector.{Range, Ranges, range, ranges, settled, shifted, scaled, rangeAt, putAt, overAll, cascadeTo, RangeOutcome, rangeOutcome, unequal, unblocked, shorter}
+use Rattle.ranges.specs.RangeVector.{rangeCascadedAdd}
 use Rattle.trcf.specs.Lists.{tabulate, lastN, lastOr}
-use Rattle.trcf.specs.Types.{augments, gaps, differences}
+use Rattle.trcf.specs.Types.{augments, isGap, differences}
 use Rattle.trcf.specs.Transformer.{zero32, forecastTo, forecastAt, invertedForecast, weightAt, normalizedScale, basicDrift, basicShift}
-use Rattle.trcf.specs.TransformerCalls.{view as viewTransformer}
+use Rattle.trcf.specs.TransformerCalls.{transformerView as viewTransformer}
 use Rattle.trcf.specs.Settings.{Settings, transformer, block, dimension}
-use Rattle.trcf.specs.Calls.{Forecast, invertExtrapolation, rows, table, unturnable, turnShort, lookahead}
+use Rattle.trcf.specs.Calls.{Forecast, invertExtrapolation, rows, table, forecastUnfit, forecastOutputShort, lookahead}
 use Rattle.trcf.specs.Preprocessor.{refused, turned, fronts, backs, invertTime, invertTimes, timescale, timedrift, previous, numbersOf, timesOf, turnedBack, reply, accepted, statisticsLength}
-use Rattle.trcf.specs.View.{Lent, view, holding, settingsOf, headRow, misfit, initialRoom, lentShort, shortRow, lentRow, rowOf, answerOf, orElse}
-use Rattle.trcf.specs.Extrapolation.{Extrapolation, extrapolation, forecast, viewed, unread, unreadRow, extrapolationRow, extrapolationOf, extrapolationRead, Sizes, sizesOf, brokenAt, shortAt, rowAt}
+use Rattle.trcf.specs.View.{Lent, view, holding, settingsOf, headRow, countersUnfit, initialRoom, lentShort, shortRow, lentRow, rowOf, answerOf, orElse}
+use Rattle.trcf.specs.Extrapolation.{Extrapolation, extrapolation, forecast, viewed, readShort, readShortRow, extrapolationRow, extrapolationOf, extrapolationRead, Sizes, sizesOf, brokenAt, shortAt, rowAt}
 use Rattle.trcf.specs.Steps.Inverting.{Longer, timeFactor, timeBy, timesBy}
 use Rattle.trcf.specs.declared.head.Preprocessor.{Preprocessor}
 use Rattle.trcf.proofs.FitLaws.{tabulate-length}
@@ -68,7 +69,7 @@ module _ (a m : ℕ) where
   backs-length zero l = refl
   backs-length (suc h) l = ap suc (backs-length h (drop a l))
 
-  -- a turn of the loop over the blocks: m numbers stand behind those of the first i blocks
+  -- a turn of the loop over the blocks: m numbers stand after those of the first i blocks
   pub fronts-more : (i n : ℕ) (src old dst x : List Float) → i * a + m ≤ length src → m ≤ a → i < n → length old ≡ n * m
       → dst ≡ fronts a m i src ++ drop (i * m) old → x ≡ take m (drop (i * a) src)
       → paste dst (i * m) x (length x) ≡ fronts a m (i + 1) src ++ drop ((i + 1) * m) old
@@ -124,9 +125,9 @@ module _ (s : Settings) (st : List Float) where
       (times-snoc v u l x y z (omega arith) (omega arith))
 
   -- the shift by the drift puts the bounds in order
-  timeBy-is : (x y z : Float) → timeBy (gaps (s .mode)) (timeFactor (s .weightTime)) (timescale s st) (timedrift s st) (range x y z) ≡ inverse x y z
+  timeBy-is : (x y z : Float) → timeBy (isGap (s .mode)) (timeFactor (s .weightTime)) (timescale s st) (timedrift s st) (range x y z) ≡ inverse x y z
   unfolding timeBy timeFactor shifted scaled invertTime
-  timeBy-is x y z = by (gaps (s .mode))
+  timeBy-is x y z = by (isGap (s .mode))
     where
       factor : Float
       factor = cond (eq (s .weightTime) zero32) zero64 (div binary64 one64 (s .weightTime))
@@ -144,7 +145,7 @@ module _ (s : Settings) (st : List Float) where
       by false = refl
 
   pub timesBy-is : (a m : ℕ) (v : Ranges) (h : ℕ)
-      → timesBy (gaps (s .mode)) (timeFactor (s .weightTime)) (timescale s st) (timedrift s st) a m v h
+      → timesBy (isGap (s .mode)) (timeFactor (s .weightTime)) (timescale s st) (timedrift s st) a m v h
       ≡ invertTimes s st (backs a m h (v .values)) (backs a m h (v .upper)) (backs a m h (v .lower))
   unfolding timesBy rangeAt
   timesBy-is a m v zero = refl
@@ -155,7 +156,7 @@ module _ (s : Settings) (st : List Float) where
       let bv = backs a m h (v .values) in
       let bu = backs a m h (v .upper) in
       let bl = backs a m h (v .lower) in
-      ap (λ (w : Ranges). snoc w (timeBy (gaps (s .mode)) (timeFactor (s .weightTime)) (timescale s st) (timedrift s st) (range x y z))) (timesBy-is a m v h)
+      ap (λ (w : Ranges). snoc w (timeBy (isGap (s .mode)) (timeFactor (s .weightTime)) (timescale s st) (timedrift s st) (range x y z))) (timesBy-is a m v h)
       ∙ ap (snoc (invertTimes s st bv bu bl)) (timeBy-is x y z)
       ∙ sym (times-snoc bv bu bl x y z (backs-length a m h (v .upper) ∙ sym (backs-length a m h (v .values))) (backs-length a m h (v .lower) ∙ sym (backs-length a m h (v .values))))
       ∙ (λ j. invertTimes s st (sym (backs-snoc a m h (v .values)) j) (sym (backs-snoc a m h (v .upper)) j) (sym (backs-snoc a m h (v .lower)) j))
@@ -198,10 +199,10 @@ module _ (h : Preprocessor) (st : List Float) where
 -- ---- the cascade where nothing refuses it
 
 pub cascade-taken : (f : Format) (base : List Float) (v w : Ranges) (row : ℕ) → length (v .upper) ≡ length (v .values) → length (v .lower) ≡ length (v .values)
-    → unblocked (length base) (length (v .values)) ≡ false → outcome row w ≡ cascadedAddOf f base v → w ≡ cascadeTo f base (length (v .values)) v
-unfolding cascadedAddOf unequal
+    → unblocked (length base) (length (v .values)) ≡ false → rangeOutcome row w ≡ rangeCascadedAdd f base v → w ≡ cascadeTo f base (length (v .values)) v
+unfolding rangeCascadedAdd unequal
 cascade-taken f base v w row p q blocks e =
-    ap (λ (o : Outcome). o .left) (rw (eq-eqb _ _ (sym p), eq-eqb _ _ (sym q), blocks) at e)
+    ap (λ (o : RangeOutcome). o .left) (rw (eq-eqb _ _ (sym p), eq-eqb _ _ (sym q), blocks) at e)
 
 -- ---- lengths
 
@@ -263,9 +264,9 @@ one-whole h p = rw (ne-eqb h 0 (λ e. omega arith), eq-eqb _ 0 (mod-one h))
 
 -- the times written, then cascaded from the last one
 module _ (s : Settings) (st : List Float) (v w x : Ranges) (gap : Bool) (factor scale drift base : Float) (last a m h row : ℕ) where
-  pub times-done : gap ≡ gaps (s .mode) → factor ≡ timeFactor (s .weightTime) → scale ≡ timescale s st → drift ≡ timedrift s st → a ≡ dimension s
+  pub times-done : gap ≡ isGap (s .mode) → factor ≡ timeFactor (s .weightTime) → scale ≡ timescale s st → drift ≡ timedrift s st → a ≡ dimension s
       → base ≡ ofInt binary64 (pos last) → w ≡ timesBy gap factor scale drift a m v h → 0 < h
-      → length (w .values) ≡ h → length (w .upper) ≡ h → length (w .lower) ≡ h → outcome row x ≡ cascadedAddOf binary64 (base ∷ []) w
+      → length (w .values) ≡ h → length (w .upper) ≡ h → length (w .lower) ≡ h → rangeOutcome row x ≡ rangeCascadedAdd binary64 (base ∷ []) w
       → x ≡ cascadeTo binary64 (ofInt binary64 (pos last) ∷ []) h
       (invertTimes s st (backs (dimension s) m h (v .values)) (backs (dimension s) m h (v .upper)) (backs (dimension s) m h (v .lower)))
   times-done eg ef es ed ea eb ew some lv lu ll e =
@@ -318,7 +319,7 @@ parts-over old new v u l n p q r e =
 
 -- ---- rows
 
--- The first test that refuses: a broken forecast, counters, an output, a list. The definition has counters behind outputs, and both are 20.
+-- The first test that refuses: a broken forecast, counters, an output, a list. The definition has counters after outputs, and both are 20.
 own-row : (a b m : Bool) (n row : ℕ) → row ≡ orElse (cond a 16 0) (cond m 20 0) → (row ≡ 0 → ⊥) → row ≡ orElse (cond a 16 (cond b 20 0)) (cond m 20 n)
 own-row true b m n row e taken = e
 own-row false true true n row e taken = e
@@ -346,31 +347,31 @@ module _ (h : Preprocessor) (z : Sizes) (row : ℕ) where
   broken = brokenAt s (z .values) (z .upper) (z .lower)
 
   abbrev missing : ℕ
-  missing = firstOf ((unread s (z .statistics) (z .inputs) (z .times), 20) ∷ [])
+  missing = firstOf ((readShort s (z .statistics) (z .inputs) (z .times), 20) ∷ [])
 
   -- of the forecast and of the counters
   abbrev own : ℕ
-  own = orElse (cond broken 16 0) (cond (misfit h) 20 0)
+  own = orElse (cond broken 16 0) (cond (countersUnfit h) 20 0)
 
   pub row-head : row ≡ headRow s → (row ≡ 0 → ⊥) → row ≡ rowAt h z
   unfolding rowAt
   row-head e taken = by (headRow s) e
     where
-      by : (n : ℕ) → row ≡ n → row ≡ orElse n (orElse (cond broken 16 (cond (shortAt s z) 20 0)) (unreadRow h (z .statistics) (z .inputs) (z .times)))
+      by : (n : ℕ) → row ≡ n → row ≡ orElse n (orElse (cond broken 16 (cond (shortAt s z) 20 0)) (readShortRow h (z .statistics) (z .inputs) (z .times)))
       by zero e = absurd (taken e)
       by (suc n) e = e
 
   pub row-own : headRow s ≡ 0 → row ≡ own → (row ≡ 0 → ⊥) → row ≡ rowAt h z
-  unfolding rowAt unreadRow
-  row-own n e taken = rw n (own-row broken (shortAt s z) (misfit h) missing row e taken)
+  unfolding rowAt readShortRow
+  row-own n e taken = rw n (own-row broken (shortAt s z) (countersUnfit h) missing row e taken)
 
   pub row-output : headRow s ≡ 0 → own ≡ 0 → row ≡ cond (shortAt s z) 20 0 → (row ≡ 0 → ⊥) → row ≡ rowAt h z
-  unfolding rowAt unreadRow
-  row-output n p e taken = rw n (output-row broken (shortAt s z) (misfit h) missing row p e taken)
+  unfolding rowAt readShortRow
+  row-output n p e taken = rw n (output-row broken (shortAt s z) (countersUnfit h) missing row p e taken)
 
   pub row-unread : headRow s ≡ 0 → own ≡ 0 → _≡_ {A = ℕ} (cond (shortAt s z) 20 0) 0 → row ≡ missing → row ≡ rowAt h z
-  unfolding rowAt unreadRow
-  row-unread n p q e = rw n (last-row broken (shortAt s z) (misfit h) missing row p q e)
+  unfolding rowAt readShortRow
+  row-unread n p q e = rw n (last-row broken (shortAt s z) (countersUnfit h) missing row p q e)
 
 pub orElse-first : (a b : ℕ) → orElse a b ≡ 0 → a ≡ 0
 orElse-first zero b e = refl
@@ -379,7 +380,7 @@ orElse-first (suc a) b e = e
 module _ (h : Preprocessor) (st x : List Float) (ts : List ℕ) (c : Forecast) where
   -- the rows look at lengths alone
   pub row-is : rowAt h (sizesOf st x ts c) ≡ extrapolationRow h st x ts c
-  unfolding rowAt brokenAt shortAt extrapolationRow rows table unturnable turnShort unequal shorter
+  unfolding rowAt brokenAt shortAt extrapolationRow rows table forecastUnfit forecastOutputShort unequal shorter
   row-is = refl
 
   pub refused-is : (row : ℕ) → row ≡ rowAt h (sizesOf st x ts c) → (row ≡ 0 → ⊥) → extrapolation row c ≡ extrapolationOf h st x ts c
@@ -434,8 +435,8 @@ module _ (h : Preprocessor) (l : Lent) (c : Forecast) where
   three false false false true n e = e
   three false false false false n e = refl
 
-  unread-not : lentShort (settingsOf h) l ≡ false → unread (settingsOf h) (length (l .statistics)) (length (l .lastShingledInput)) (length (l .previousTimestamps)) ≡ false
-  unfolding lentShort unread
+  unread-not : lentShort (settingsOf h) l ≡ false → readShort (settingsOf h) (length (l .statistics)) (length (l .lastShingledInput)) (length (l .previousTimestamps)) ≡ false
+  unfolding lentShort readShort
   unread-not e =
       let s : Settings = settingsOf h in
       three (ltb (length (l .statistics)) (statisticsLength s)) (ltb (length (l .lastShingledInput)) (s .d * s .k))
@@ -444,7 +445,7 @@ module _ (h : Preprocessor) (l : Lent) (c : Forecast) where
 
   same-row : lentShort (settingsOf h) l ≡ false
       → rowOf h l (invertExtrapolation c) ≡ extrapolationRow h (l .statistics) (l .lastShingledInput) (l .previousTimestamps) c
-  unfolding rowOf lentRow shortRow rows table extrapolationRow unreadRow
+  unfolding rowOf lentRow shortRow rows table extrapolationRow readShortRow
   same-row e = rw (e, unread-not e)
 
   -- of every head, over lists that are long enough

@@ -5,8 +5,8 @@ use mathlib.Core.Path.{_≡_, refl, _∙_}
 use mathlib.Core.List.{List}
 use lib.ListN.{length}
 use lib.Ieee.{Float, binary32}
-use Rattle.common.specs.RangeVector.{Ranges, cascadeTo, unblocked}
-use Rattle.common.proofs.RangeLaws.{SameLengths, putAt-lengths, cascadeTo-lengths}
+use Rattle.ranges.specs.RangeVector.{Ranges, cascadeTo, unblocked}
+use Rattle.ranges.proofs.RangeLaws.{SameLengths, putAt-lengths, cascadeTo-lengths}
 use Rattle.trcf.specs.Types.{differences}
 use Rattle.trcf.specs.Transformer.{Transformer, forecastTo, invertedForecast}
 

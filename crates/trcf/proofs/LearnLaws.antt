@@ -12,15 +12,15 @@ use lib.IntN.{ℤ, pos, negsuc}
 use lib.ListN.{length, take, drop, getD, length-append}
 use lib.Seq.{length-take-le}
 use lib.Ieee.{Float, binary64, lt, ofInt}
-use Rattle.common.specs.Lent.{over}
+use Rattle.refusal.specs.Lent.{over}
 use Rattle.common.specs.Deviation.{countLimit}
-use Rattle.common.specs.Refusal.{firstOf}
+use Rattle.refusal.specs.Refusal.{firstOf}
 use Rattle.trcf.specs.Lists.{lastOr, shiftIn}
 use Rattle.trcf.specs.Transformer.{zero32, one32, inverted, updated}
 use Rattle.trcf.specs.Settings.{Settings, transformer, dimension, block, waiting}
 use Rattle.trcf.specs.Calls.{Learn, Call, postProcess, seenLimit, rows, table, finite, given, wrongLength, newest, outside, learnFull, learnShort, waitingShort}
-use Rattle.trcf.specs.Preprocessor.{State, Answer, refused, learnt, timeFed, Reading, reading, facts, statisticsLength, previous, feed, held, learned, learnedWith, change, reply, accepted, deviations, learnedNothing, heldAnswer, learnedAnswer, learnAnswer, anomalyOf, pastValues, expectedValues, blockAt, isZero, blockFrom}
-use Rattle.trcf.specs.View.{Lent, lent, settingsOf, view, counted, counting, laid, holding, Fitted, rowOf, headAfter, lentAfter, answerOf, optional, learnCall, backOf, waitingRow, learnRow, learningRow, LearnOutcome, learnOutcome, learnNothing, learnRead, learnAfter, orElse}
+use Rattle.trcf.specs.Preprocessor.{State, Answer, refused, learnt, timeFed, Reading, reading, facts, statisticsLength, previous, feed, buffered, learned, learnedWith, change, reply, accepted, deviations, learnedNothing, bufferedAnswer, learnedAnswer, learnAnswer, anomalyOf, pastValues, expectedValues, blockAt, isZero, blockFrom}
+use Rattle.trcf.specs.View.{Lent, lent, settingsOf, view, counted, counting, writtenOver, holding, Fitted, rowOf, headAfter, lentAfter, answerOf, optional, learnCall, backOf, waitingRow, learnRow, learningRow, LearnOutcome, learnOutcome, learnNothing, learnRead, learnAfter, orElse}
 use Rattle.trcf.specs.Steps.Learning.{inputRow, Learnable, LearnParts, learnedParts, learnedStatistics}
 use Rattle.trcf.specs.declared.head.Preprocessor.{Preprocessor}
 use Rattle.trcf.specs.Types.{normalizes}
@@ -169,19 +169,19 @@ module _ (h : Preprocessor) (l : Lent) (c : Learn) where
   learn-refused n = learn-at (rowOf h l (postProcess c)) _ _ _ n
 
   learn-answered : rowOf h l (postProcess c) ≡ 0
-      → learnRead (counted h (change (view h l) (postProcess c))) (laid (change (view h l) (postProcess c)) l) c (reply (view h l) (postProcess c)) ≡ learnAfter h l c
+      → learnRead (counted h (change (view h l) (postProcess c))) (writtenOver (change (view h l) (postProcess c)) l) c (reply (view h l) (postProcess c)) ≡ learnAfter h l c
   unfolding learnAfter headAfter lentAfter answerOf
   learn-answered e =
       let q = postProcess c in
-      ap (λ (r : ℕ). learnRead (accepted r (counted h (change (view h l) q)) h) (accepted r (laid (change (view h l) q) l) l) c (accepted r (reply (view h l) q) (refused r))) (sym e)
+      ap (λ (r : ℕ). learnRead (accepted r (counted h (change (view h l) q)) h) (accepted r (writtenOver (change (view h l) q) l) l) c (accepted r (reply (view h l) q) (refused r))) (sym e)
 
   -- past waiting, without a point: nothing
   pub learn-none : rowOf h l (postProcess c) ≡ 0 → waiting (settingsOf h) (h .«values_seen») ≡ false → c .rcfPoint ≡ none → Fitted h l → learnNothing 0 h l c ≡ learnAfter h l c
   unfolding change reply view learnedWith learnAnswer learnedNothing
   learn-none e w p f =
       (λ j. learnNothing 0 (same-head h l f j) (same-lent h l f j) c)
-      ∙ (λ j. let s = cond (sym w j) (held (view h l) c) (learnedWith (view h l) (reading (c .input) (c .timestamp)) (sym p j)) in
-      learnRead (counted h s) (laid s l) c (learnt (cond (sym w j) (heldAnswer (view h l) c) (learnAnswer (view h l) c (sym p j)))))
+      ∙ (λ j. let s = cond (sym w j) (buffered (view h l) c) (learnedWith (view h l) (reading (c .input) (c .timestamp)) (sym p j)) in
+      learnRead (counted h s) (writtenOver s l) c (learnt (cond (sym w j) (bufferedAnswer (view h l) c) (learnAnswer (view h l) c (sym p j)))))
       ∙ learn-answered e
 
   -- while waiting
@@ -201,7 +201,7 @@ module _ (h : Preprocessor) (l : Lent) (c : Learn) where
       (cond (eqb (suc (h .«values_seen»)) (h .«start_normalization»)) (over (c .deviationsOut) (deviations (holding h (take (statisticsLength (settingsOf h)) (l .statistics)) [] []))) (c .deviationsOut))
       (c .pastOut) (c .expectedOut)
       ≡ learnAfter h l c
-  unfolding change reply view held heldAnswer deviations laid
+  unfolding change reply view buffered bufferedAnswer deviations writtenOver
   learn-held e w f =
       let r = f .roomy in
       let n : suc (h .«initial_len») ≡ length (take (h .«initial_len») (l .initialTimestamps) ++ (c .timestamp ∷ [])) =
@@ -215,9 +215,9 @@ module _ (h : Preprocessor) (l : Lent) (c : Learn) where
       (over (l .initialValues) (take (h .«initial_len» * h .transformer .«input_length») (l .initialValues) ++ c .input))
       (over (l .initialTimestamps) (take (h .«initial_len») (l .initialTimestamps) ++ (c .timestamp ∷ []))))
       (cond (eqb (suc (h .«values_seen»)) (h .«start_normalization»)) (over (c .deviationsOut) (deviations (view h l))) (c .deviationsOut)) (c .pastOut) (c .expectedOut))
-      ∙ held-read (eqb (suc (h .«values_seen»)) (h .«start_normalization»)) (counted h (held (view h l) c)) (laid (held (view h l) c) l) (deviations (view h l))
-      ∙ (λ j. let s = cond (sym w j) (held (view h l) c) (learnedWith (view h l) (reading (c .input) (c .timestamp)) (c .rcfPoint)) in
-      learnRead (counted h s) (laid s l) c (learnt (cond (sym w j) (heldAnswer (view h l) c) (learnAnswer (view h l) c (c .rcfPoint)))))
+      ∙ held-read (eqb (suc (h .«values_seen»)) (h .«start_normalization»)) (counted h (buffered (view h l) c)) (writtenOver (buffered (view h l) c) l) (deviations (view h l))
+      ∙ (λ j. let s = cond (sym w j) (buffered (view h l) c) (learnedWith (view h l) (reading (c .input) (c .timestamp)) (c .rcfPoint)) in
+      learnRead (counted h s) (writtenOver s l) c (learnt (cond (sym w j) (bufferedAnswer (view h l) c) (learnAnswer (view h l) c (c .rcfPoint)))))
       ∙ learn-answered e
 
   -- past waiting, with a point y
@@ -225,7 +225,7 @@ module _ (h : Preprocessor) (l : Lent) (c : Learn) where
       → learnOutcome 0 true (b && expects) (cond (b && expects) (anomalyOf w c .pastTimestamp) 0) (cond (b && expects) one32 zero32) a m
       (over (c .deviationsOut) (deviations (learned w (reading (c .input) (c .timestamp)) y)))
       (cond (b && expects) (over (c .pastOut) (pastValues w c)) (c .pastOut)) (cond (b && expects) (over (c .expectedOut) (expectedValues w c x)) (c .expectedOut))
-      ≡ learnRead a m c (learnt (learnedAnswer w c y b (optional expects x)))
+      ≡ learnRead a m c (learnt (learnedAnswer w c y (cond b (optional expects x) none)))
   unfolding learnedAnswer anomalyOf
   learned-read w y true true x a m = refl
   learned-read w y true false x a m = refl
@@ -235,7 +235,7 @@ module _ (h : Preprocessor) (l : Lent) (c : Learn) where
       → c .rcfPoint ≡ some y → c .expectedPoint ≡ optional expects x
       → learnOutcome 0 true (lt zero32 (c .grade) && expects) (cond (lt zero32 (c .grade) && expects) (anomalyOf (view h l) c .pastTimestamp) 0)
       (cond (lt zero32 (c .grade) && expects) one32 zero32)
-      (counted h (learned (view h l) (reading (c .input) (c .timestamp)) y)) (laid (learned (view h l) (reading (c .input) (c .timestamp)) y) l)
+      (counted h (learned (view h l) (reading (c .input) (c .timestamp)) y)) (writtenOver (learned (view h l) (reading (c .input) (c .timestamp)) y) l)
       (over (c .deviationsOut) (deviations (learned (view h l) (reading (c .input) (c .timestamp)) y)))
       (cond (lt zero32 (c .grade) && expects) (over (c .pastOut) (pastValues (view h l) c)) (c .pastOut))
       (cond (lt zero32 (c .grade) && expects) (over (c .expectedOut) (expectedValues (view h l) c x)) (c .expectedOut))
@@ -244,10 +244,10 @@ module _ (h : Preprocessor) (l : Lent) (c : Learn) where
   learn-done y expects x e w p q =
       let v = view h l in
       let g = learned v (reading (c .input) (c .timestamp)) y in
-      learned-read v y (lt zero32 (c .grade)) expects x (counted h g) (laid g l)
-      ∙ (λ j. learnRead (counted h g) (laid g l) c (learnt (learnedAnswer v c y (lt zero32 (c .grade)) (sym q j))))
-      ∙ (λ j. let s = cond (sym w j) (held v c) (learnedWith v (reading (c .input) (c .timestamp)) (sym p j)) in
-      learnRead (counted h s) (laid s l) c (learnt (cond (sym w j) (heldAnswer v c) (learnAnswer v c (sym p j)))))
+      learned-read v y (lt zero32 (c .grade)) expects x (counted h g) (writtenOver g l)
+      ∙ (λ j. learnRead (counted h g) (writtenOver g l) c (learnt (learnedAnswer v c y (cond (lt zero32 (c .grade)) (sym q j) none))))
+      ∙ (λ j. let s = cond (sym w j) (buffered v c) (learnedWith v (reading (c .input) (c .timestamp)) (sym p j)) in
+      learnRead (counted h s) (writtenOver s l) c (learnt (cond (sym w j) (bufferedAnswer v c) (learnAnswer v c (sym p j)))))
       ∙ learn-answered e
 
 pub or-twice : (r m n : ℕ) → (r ≡ 0 → ⊥) → r ≡ orElse (orElse r m) n
@@ -323,7 +323,7 @@ module _ (h : Preprocessor) (l : Lent) (x : List Float) (t : ℕ) (hasY : Bool) 
 
   pub learn-whole : rowOf h l (postProcess call) ≡ 0 → waiting (settingsOf h) (h .«values_seen») ≡ false
       → outcomeOf parts (l .initialValues) (l .initialTimestamps) ≡ learnAfter h l call
-  unfolding view laid learned deviations previous
+  unfolding view writtenOver learned deviations previous
   learn-whole r w =
       let a = lt zero32 grade && expects in
       let d = h .transformer .«input_length» in

@@ -6,7 +6,7 @@ use native.Mathlib.Omega.{arith}
 use native.Mathlib.Nat.{mul-le-mul}
 use borrow.Author.Tests.{leb-true, lt-ltb, le-ltb, le-leb, lt-leb, eq-eqb, ne-eqb}
 use Rattle.common.specs.Deviation.{countLimit}
-use Rattle.common.specs.RangeVector.{unblocked}
+use Rattle.ranges.specs.RangeVector.{unblocked}
 use Rattle.trcf.specs.Types.{augments, differences}
 use Rattle.trcf.specs.Settings.{Settings, block, dimension}
 use Rattle.trcf.specs.TransformerCalls.{transformRow, forecastRow, notLong}

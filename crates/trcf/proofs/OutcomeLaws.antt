@@ -7,13 +7,13 @@ use native.Mathlib.Omega.{arith}
 use lib.ListN.{length, take, drop, replicate, length-replicate}
 use lib.Seq.{length-take-le, take-at}
 use lib.Ieee.{Float}
-use Rattle.common.specs.Lent.{over}
+use Rattle.refusal.specs.Lent.{over}
 use Rattle.common.specs.Deviation.{zero64}
 use Rattle.trcf.specs.Transformer.{zero32}
 use Rattle.trcf.specs.Settings.{Settings, settingsRow, dimension, block}
 use Rattle.trcf.specs.Calls.{Call, scale, shift, status, rows, table}
 use Rattle.trcf.specs.Preprocessor.{Answer, refused, reply, accepted, change, statisticsLength, fresh, facts, isReady, panelOf, Status, statusOf}
-use Rattle.trcf.specs.View.{Lent, lent, view, laid, counted, rowOf, lentRow, orElse, answerOf, headAfter, lentAfter, Written, written, writtenOf, writeOf, Outcome, outcome, headFrom, noHead, buildRow, buildOf, settingsOf, alone, headRow, misfit, shortRow, ownRow, readyOf, dimensionOf, Bounded, StatusOutcome, untold, statusRead, statusAfter}
+use Rattle.trcf.specs.View.{Lent, lent, view, writtenOver, counted, rowOf, lentRow, orElse, answerOf, headAfter, lentAfter, Written, written, writtenOf, writeOf, Outcome, outcome, headFrom, noHead, buildRow, buildOf, settingsOf, alone, headRow, countersUnfit, shortRow, ownRow, readyOf, dimensionOf, Bounded, StatusOutcome, noStatus, statusRead, statusAfter}
 use Rattle.trcf.specs.declared.head.Preprocessor.{Preprocessor}
 use Rattle.trcf.proofs.ShingleLaws.{over-part}
 
@@ -51,8 +51,8 @@ module _ (s : Settings) (l : Lent) where
   build-row : (r : ℕ) → buildRow s l ≡ r → (r ≡ 0 → ⊥) → outcome r noHead l ≡ buildOf s l
   unfolding buildOf
   build-row r e n =
-      sym (accepted-not r (outcome 0 (headFrom s) (laid (fresh s) l)) (outcome r noHead l) n)
-      ∙ ap (λ (q : ℕ). accepted q (outcome 0 (headFrom s) (laid (fresh s) l)) (outcome q noHead l)) (sym e)
+      sym (accepted-not r (outcome 0 (headFrom s) (writtenOver (fresh s) l)) (outcome r noHead l) n)
+      ∙ ap (λ (q : ℕ). accepted q (outcome 0 (headFrom s) (writtenOver (fresh s) l)) (outcome q noHead l)) (sym e)
 
   pub build-refused : (settingsRow s ≡ 0 → ⊥) → outcome (settingsRow s) noHead l ≡ buildOf s l
   unfolding buildRow
@@ -62,10 +62,10 @@ module _ (s : Settings) (l : Lent) where
   unfolding buildRow
   build-short e n = build-row (lentRow (headFrom s) l) (ap (λ (r : ℕ). orElse r (lentRow (headFrom s) l)) e) n
 
-  build-accepted : settingsRow s ≡ 0 → lentRow (headFrom s) l ≡ 0 → outcome 0 (headFrom s) (laid (fresh s) l) ≡ buildOf s l
+  build-accepted : settingsRow s ≡ 0 → lentRow (headFrom s) l ≡ 0 → outcome 0 (headFrom s) (writtenOver (fresh s) l) ≡ buildOf s l
   unfolding buildOf buildRow
   build-accepted e n =
-      ap (λ (r : ℕ). accepted r (outcome 0 (headFrom s) (laid (fresh s) l)) (outcome r noHead l)) (sym (ap (λ (r : ℕ). orElse r (lentRow (headFrom s) l)) e ∙ n))
+      ap (λ (r : ℕ). accepted r (outcome 0 (headFrom s) (writtenOver (fresh s) l)) (outcome r noHead l)) (sym (ap (λ (r : ℕ). orElse r (lentRow (headFrom s) l)) e ∙ n))
 
 module _ {A : Type 0} where
   pub over-none : (l : List A) → l ≡ over l []
@@ -85,7 +85,7 @@ pub build-done : (s : Settings) (l : Lent) → settingsRow s ≡ 0 → lentRow (
     (replicate (length (take (dimension s) (l .lastShingledPoint))) zero32 ++ drop (dimension s) (l .lastShingledPoint))
     (replicate (length (take (s .k) (l .previousTimestamps))) 0 ++ drop (s .k) (l .previousTimestamps)) (l .initialValues) (l .initialTimestamps))
     ≡ buildOf s l
-unfolding laid fresh
+unfolding writtenOver fresh
 build-done s l e n a b c d =
     (λ j. outcome 0 (headFrom s)
     (lent (filled-over (l .statistics) zero64 (statisticsLength s) a j) (filled-over (l .lastShingledInput) zero32 (s .d * s .k) b j)
@@ -123,13 +123,13 @@ fit-of true n e = absurd (omega arith)
 fit-of false n e = refl
 
 module _ (h : Preprocessor) (l : Lent) (c : Call) (e : rowOf h l c ≡ 0) where
-  no-row : (headRow (settingsOf h) ≡ 0) × (misfit h ≡ false)
+  no-row : (headRow (settingsOf h) ≡ 0) × (countersUnfit h ≡ false)
   unfolding rowOf lentRow
   no-row =
       let r : ℕ = rows (settingsOf h) (facts (view h l)) c in
       let a = orElse-both (headRow (settingsOf h)) (orElse r (lentRow h l)) e in
       let b = orElse-both r (lentRow h l) (a .1) in
-      (a .0, fit-of (misfit h) (shortRow (settingsOf h) l) (b .1))
+      (a .0, fit-of (countersUnfit h) (shortRow (settingsOf h) l) (b .1))
 
   -- of such a head `is_ready` is what status tells
   pub ready-is : readyOf h ≡ isReady (alone h)
@@ -169,7 +169,7 @@ module _ (h : Preprocessor) (l : Lent) (out : List Float) where
   told-at (suc r) e z = absurd (omega arith)
 
   refused-at : (r : ℕ) → (r ≡ 0 → ⊥)
-      → statusBy r (untold (writtenOf out (accepted r (reply (view h l) (status out)) (refused r)) .out)) ≡ statusRead out (accepted r (reply (view h l) (status out)) (refused r))
+      → statusBy r (noStatus (writtenOf out (accepted r (reply (view h l) (status out)) (refused r)) .out)) ≡ statusRead out (accepted r (reply (view h l) (status out)) (refused r))
   refused-at zero n = absurd (n refl)
   refused-at (suc r) n = refl
 
@@ -189,7 +189,7 @@ module _ (h : Preprocessor) (l : Lent) (out : List Float) where
     status-told z =
         (λ j. statusBy (row-is j) (toldBy h (e j .out))) ∙ told-at (rowOf h l (status out)) refl (sym row-is ∙ z)
 
-    pub status-refused : (w .row ≡ 0 → ⊥) → statusBy (w .row) (untold (w .out)) ≡ statusAfter h l out
+    pub status-refused : (w .row ≡ 0 → ⊥) → statusBy (w .row) (noStatus (w .out)) ≡ statusAfter h l out
     unfolding writeOf statusAfter answerOf
     status-refused n =
-        (λ j. statusBy (row-is j) (untold (e j .out))) ∙ refused-at (rowOf h l (status out)) (λ z. n (row-is ∙ z))
+        (λ j. statusBy (row-is j) (noStatus (e j .out))) ∙ refused-at (rowOf h l (status out)) (λ z. n (row-is ∙ z))

@@ -1,4 +1,4 @@
--- What the calls write: an answer over lent memory, the time's number behind the channels', and answers that no count enters.
+-- What the calls write: an answer over lent memory, the time's number after the channels', and answers that no count enters.
 -- Assumes nothing.
 use Prim.Native.Nat.{ℕ, zero, suc, _+_, _-_, _*_, _≤_, _<_}
 use mathlib.Core.Path.{_≡_, refl, sym, ap, _∙_}
@@ -8,11 +8,11 @@ use native.Mathlib.Omega.{arith}
 use lib.ListN.{length, getD, set, take, drop, length-append, length-drop}
 use lib.Seq.{drop-cons, set-at, append-snoc, take-length, take-all}
 use lib.Ieee.{Float, nan}
-use Rattle.common.specs.Lent.{over}
+use Rattle.refusal.specs.Lent.{over}
 use Rattle.trcf.specs.Lists.{tabulate, lastN}
 use Rattle.trcf.specs.Types.{augments}
 use Rattle.trcf.specs.Transformer.{Transformer, transformBy, transformed, invertBy, inverted, scales, shifts, differenceDeviations, unweighted, weightAt, basicShift, normalizedScale}
-use Rattle.trcf.specs.TransformerCalls.{view as viewTransformer}
+use Rattle.trcf.specs.TransformerCalls.{transformerView as viewTransformer}
 use Rattle.trcf.specs.Settings.{Settings, transformer, block}
 use Rattle.trcf.specs.Preprocessor.{withTime}
 use Rattle.trcf.specs.View.{settingsOf}
@@ -20,7 +20,7 @@ use Rattle.trcf.specs.declared.types.TransformMethod.{TransformMethod}
 use Rattle.trcf.specs.declared.types.TransformMethod.the-variants.{NONE, WEIGHTED, DIFFERENCE, «SUBTRACT_MA», NORMALIZE, «NORMALIZE_DIFFERENCE»}
 use Rattle.trcf.specs.declared.head.Preprocessor.{Preprocessor}
 
--- ---- one number more behind an answer
+-- ---- one number more after an answer
 
 module _ {A : Type 0} where
   pub over-snoc : (l v : List A) (n : ℕ) (e : A) → length v ≡ n → n < length l → set (over l v) n e ≡ over l (v ++ (e ∷ []))

@@ -14,7 +14,7 @@ use Rattle.numeric.specs.Root.{rootOf}
 use Rattle.common.specs.declared.deviation.Deviation.{Deviation}
 use Rattle.common.specs.Deviation.{zero64, statistic, stepOf, isEmpty, meanOf, deviationOf, rootAbove}
 use Rattle.trcf.specs.Transformer.{statisticAt, putStatistic, deviationsAt, putDeviations, fed, fedAt, slowDecay, channelsFed}
-use Rattle.trcf.specs.Steps.Passes.{radicandOf, stepAt, firstAt, lastAt, differenceOf, firsts, noted, lasts}
+use Rattle.trcf.specs.Steps.Passes.{radicandOf, stepAt, firstAt, lastAt, differenceOf, firsts, radicands, lasts}
 use Rattle.trcf.proofs.TransformerLaws.{putStatistic-length}
 
 -- ---- one statistic written
@@ -251,20 +251,20 @@ module _ (d : ℕ) (decay : Float) (c : ℕ) (x previous : List Float) where
 
   -- ---- the radicands that the first pass leaves, and their roots
 
-  noted-length : (n : ℕ) (a l : List Float) → length (noted n a l d decay c x previous) ≡ length a
-  unfolding noted
+  noted-length : (n : ℕ) (a l : List Float) → length (radicands n a l d decay c x previous) ≡ length a
+  unfolding radicands
   noted-length zero a l = refl
   noted-length (suc n) a l = simp (length-set, noted-length n a l)
 
   noted-at : (n : ℕ) (a l : List Float) → n ≤ d → 2 * n ≤ length a → (j : ℕ) → j < n
-      → (getD (noted n a l d decay c x previous) (2 * j) nan ≡ radicandOf (valueFed l j))
-      × (getD (noted n a l d decay c x previous) (2 * j + 1) nan ≡ radicandOf (differenceFed l j))
-  unfolding noted
+      → (getD (radicands n a l d decay c x previous) (2 * j) nan ≡ radicandOf (valueFed l j))
+      × (getD (radicands n a l d decay c x previous) (2 * j + 1) nan ≡ radicandOf (differenceFed l j))
+  unfolding radicands
   noted-at zero a l h k j i = absurd (omega arith)
   noted-at (suc n) a l h k j i = by (ltb j n) refl (λ q. noted-at n a l (omega arith) (omega arith) j q)
     where
       before : List Float
-      before = noted n a l d decay c x previous
+      before = radicands n a l d decay c x previous
 
       s : List Float
       s = first n l
@@ -309,17 +309,17 @@ module _ (d : ℕ) (decay : Float) (c : ℕ) (x previous : List Float) where
           )
 
   -- one channel more, as a loop counts
-  pub noted-next : (n : ℕ) (a l : List Float) → noted (n + 1) a l d decay c x previous
-      ≡ set (set (noted n a l d decay c x previous) (2 * n) (radicandOf (valueFed (first n l) n))) (2 * n + 1) (radicandOf (differenceFed (first n l) n))
-  unfolding noted
-  noted-next n a l = ap (λ (k : ℕ). noted k a l d decay c x previous) (add-one n)
+  pub noted-next : (n : ℕ) (a l : List Float) → radicands (n + 1) a l d decay c x previous
+      ≡ set (set (radicands n a l d decay c x previous) (2 * n) (radicandOf (valueFed (first n l) n))) (2 * n + 1) (radicandOf (differenceFed (first n l) n))
+  unfolding radicands
+  noted-next n a l = ap (λ (k : ℕ). radicands k a l d decay c x previous) (add-one n)
 
   -- what the three passes make
   pub fed-in-passes : (a l : List Float) → 2 * d ≤ length a
-      → channelsFed d l d decay c x previous ≡ last d (first d l) (map rootOf (noted d a l d decay c x previous))
+      → channelsFed d l d decay c x previous ≡ last d (first d l) (map rootOf (radicands d a l d decay c x previous))
   unfolding rootOf
   fed-in-passes a l h =
-      let m = noted d a l d decay c x previous in
+      let m = radicands d a l d decay c x previous in
       passes d l (map rootOf m) (omega arith)
       (λ j k.
       let q = noted-at d a l (omega arith) h j k in (

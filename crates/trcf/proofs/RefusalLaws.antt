@@ -16,7 +16,7 @@ use Rattle.common.specs.Deviation.{countLimit}
 use Rattle.trcf.specs.Types.{normalizes}
 use Rattle.trcf.specs.Settings.{Settings, settingsRow, allOne, waiting}
 use Rattle.trcf.specs.Calls.{seenLimit}
-use Rattle.trcf.specs.View.{settingsOf, initialRoom, leftOver, miscounted, misfit, orElse}
+use Rattle.trcf.specs.View.{settingsOf, initialRoom, leftOver, miscounted, countersUnfit, orElse}
 use Rattle.trcf.specs.declared.head.Preprocessor.{Preprocessor}
 
 pub orElse-not : (r m : ℕ) → (r ≡ 0 → ⊥) → r ≡ orElse r m
@@ -122,8 +122,8 @@ module _ (s : Settings) where
   unfolding waiting
   room-waiting seen e = room-normalizing (and-left (normalizes (s .method)) _ e)
 
-pub misfit-room : (h : Preprocessor) → misfit h ≡ false → h .«initial_len» ≤ initialRoom (settingsOf h)
-unfolding misfit waiting
+pub misfit-room : (h : Preprocessor) → countersUnfit h ≡ false → h .«initial_len» ≤ initialRoom (settingsOf h)
+unfolding countersUnfit waiting
 misfit-room h e = go (waiting (settingsOf h) (h .«values_seen»)) refl
   where
     k : Counted (settingsOf h) (h .«values_seen») (h .«internal_timestamp») (h .transformer .count) (h .«initial_len»)
@@ -140,11 +140,11 @@ misfit-room h e = go (waiting (settingsOf h) (h .«values_seen»)) refl
         omega (arith, k .while-waiting q .0, l, room-waiting (settingsOf h) (h .«values_seen») q)
     go false q = few (k .later q)
 
-pub misfit-few : (h : Preprocessor) → misfit h ≡ false → h .«initial_len» ≤ h .«start_normalization»
+pub misfit-few : (h : Preprocessor) → countersUnfit h ≡ false → h .«initial_len» ≤ h .«start_normalization»
 misfit-few h e = omega (arith, misfit-room h e, room-start (settingsOf h))
 
-pub misfit-counted : (h : Preprocessor) → misfit h ≡ false → waiting (settingsOf h) (h .«values_seen») ≡ true → h .«initial_len» ≡ h .«values_seen»
-unfolding misfit
+pub misfit-counted : (h : Preprocessor) → countersUnfit h ≡ false → waiting (settingsOf h) (h .«values_seen») ≡ true → h .«initial_len» ≡ h .«values_seen»
+unfolding countersUnfit
 misfit-counted h e t = counted-of (settingsOf h) (h .«values_seen») (h .«internal_timestamp») (h .transformer .count) (h .«initial_len») e .while-waiting t .0
 
 -- whether any time is lent

@@ -10,7 +10,7 @@ use native.Mathlib.Numerals.{add-one}
 use lib.ListN.{length, getD, set, take, drop, replicate, length-append, length-drop, length-take, take-append-drop, length-replicate}
 use lib.Seq.{length-take-le, getD-take, take-nil, getD-append-add, getD-drop, take-suc, drop-cons, set-at, append-snoc, take-at, take-length, take-all, drop-append-add, drop-drop, drop-length, set-split, paste}
 use lib.Ieee.{Float, nan, inf, fin, lt}
-use Rattle.common.specs.Lent.{over}
+use Rattle.refusal.specs.Lent.{over}
 use Rattle.trcf.specs.Lists.{lastOr, lastN, shiftIn, overwrite}
 use Rattle.trcf.specs.Calls.{finite}
 
@@ -71,7 +71,7 @@ module _ {A : Type 0} where
   length-slid w l i h =
       omega (arith, length-append (take i (drop w l)) (drop i l), length-moved w l i h, length-drop i l)
 
-  -- the end: x is copied in behind
+  -- the end: x is copied in after the rest
   pub slid-paste : (l x : List A) (m : ℕ) → m + length x ≡ length l → paste (slid (length x) l m) m x (length x) ≡ shiftIn l x
   unfolding slid shiftIn
   slid-paste l x m e =
@@ -207,7 +207,7 @@ last-none [] n e = ap (lastOr 0) (sym (take-nil n))
 last-none (x ∷ l) n e = absurd (omega arith)
 
 module _ {A : Type 0} where
-  -- what is put behind the first m
+  -- what is put after the first m
   pub paste-behind : (l x : List A) (m : ℕ) → m + length x ≤ length l → paste l m x (length x) ≡ over l (take m l ++ x)
   unfolding over
   paste-behind l x m h =

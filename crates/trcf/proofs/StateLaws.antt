@@ -10,14 +10,15 @@ use lib.Dec.{ltb, eqb}
 use lib.ListN.{length, take, drop}
 use lib.Seq.{length-take-le, take-at}
 use lib.Ieee.{Float}
-use Rattle.common.specs.Lent.{over}
+use Rattle.refusal.specs.Lent.{over}
 use Rattle.common.specs.Deviation.{countLimit}
-use Rattle.common.specs.Refusal.{firstOf}
+use Rattle.refusal.specs.Refusal.{firstOf}
 use Rattle.trcf.specs.Lists.{null}
 use Rattle.trcf.specs.Settings.{Settings, dimension, block, waiting}
 use Rattle.trcf.specs.Calls.{due, drainFull, seenLimit, drain, shingledPoint}
 use Rattle.trcf.specs.Preprocessor.{State, Answer, refused, absent, wrote, Reading, reading, facts, statisticsLength, blocks, primed, drainEach, drainAll, drained, pointOf, change, reply, accepted}
-use Rattle.trcf.specs.View.{Lent, lent, settingsOf, view, counted, laid, Outcome, outcome, Roomy, Fitted, rowOf, pastRow, answerOf, headAfter, lentAfter, drainOf, pointed, pointRead, pointAfter}
+use Rattle.trcf.specs.View.{Lent, lent, settingsOf, view, counted, writtenOver, Outcome, outcome, Roomy, Fitted, rowOf, pastRow, answerOf, headAfter, lentAfter, drainOf, pointed, pointRead}
+use Rattle.trcf.specs.View.{pointAfter}
 use Rattle.trcf.specs.Steps.Learning.{shingling, readingAt}
 use Rattle.trcf.specs.declared.head.Preprocessor.{Preprocessor}
 use Rattle.trcf.proofs.ShingleLaws.{over-take, over-part}
@@ -47,8 +48,8 @@ module _ (h : Preprocessor) (l : Lent) (f : Fitted h l) where
         codes = h .codes;
       }
 
-  pub same-lent : l ≡ laid (view h l) l
-  unfolding view laid
+  pub same-lent : l ≡ writtenOver (view h l) l
+  unfolding view writtenOver
   same-lent =
       let r = f .roomy in
       λ j. lent (sym (over-take (l .statistics) (statisticsLength (settingsOf h)) (r .in-statistics)) j)
@@ -63,10 +64,10 @@ module _ (h : Preprocessor) (l : Lent) (f : Fitted h l) where
   unfolding drained view
   undrained-view e = rw e
 
-  pub undrained : due (settingsOf h) (facts (view h l)) ≡ false → outcome 0 h l ≡ outcome 0 (counted h (drained (view h l))) (laid (drained (view h l)) l)
+  pub undrained : due (settingsOf h) (facts (view h l)) ≡ false → outcome 0 h l ≡ outcome 0 (counted h (drained (view h l))) (writtenOver (drained (view h l)) l)
   undrained e =
       (λ j. outcome 0 (same-head j) (same-lent j))
-      ∙ ap (λ (w : State). outcome 0 (counted h w) (laid w l)) (undrained-view e)
+      ∙ ap (λ (w : State). outcome 0 (counted h w) (writtenOver w l)) (undrained-view e)
 
   pub undrained-is : due (settingsOf h) (facts (view h l)) ≡ false → view h l ≡ drained (view h l)
   undrained-is e = undrained-view e
@@ -133,13 +134,13 @@ module _ (h : Preprocessor) (l : Lent) (f : Fitted h l) (d-pos : 0 < h .«initia
     counted-drain =
         ap (λ (n : ℕ). shingling h (h .transformer .count + n) s x p ts (h .«internal_timestamp» + n)) (sym stamped) ∙ q ∙ drained-bare
 
-    pub drained-out : outcome 0 (drainedHead h (h .«initial_len»)) back ≡ outcome 0 (counted h (drained (view h l))) (laid (drained (view h l)) l)
-    unfolding laid over
+    pub drained-out : outcome 0 (drainedHead h (h .«initial_len»)) back ≡ outcome 0 (counted h (drained (view h l))) (writtenOver (drained (view h l)) l)
+    unfolding writtenOver over
     drained-out =
         (λ j. outcome 0 (drainedHead h (h .«initial_len»))
         (lent (over-part (l .statistics) s _ ls j) (over-part (l .lastShingledInput) x _ lx j) (over-part (l .lastShingledPoint) p _ lp j)
         (over-part (l .previousTimestamps) ts _ lt j) (l .initialValues) (l .initialTimestamps)))
-        ∙ ap (λ (w : State). outcome 0 (counted h w) (laid w l)) counted-drain
+        ∙ ap (λ (w : State). outcome 0 (counted h w) (writtenOver w l)) counted-drain
 
     pub drained-view : view (drainedHead h (h .«initial_len»)) back ≡ drained (view h l)
     unfolding view dimension block
@@ -173,7 +174,7 @@ module _ (h : Preprocessor) (l : Lent) (f : Fitted h l) (n-pos : 0 < h .«initia
       (x ++ drop (h .transformer .«input_length» * h .«shingle_size») (l .lastShingledInput))
       (p ++ drop m (l .lastShingledPoint)) (ts ++ drop (h .«shingle_size») (l .previousTimestamps)) (l .initialValues)
       (l .initialTimestamps))
-      ≡ outcome 0 (counted h (drained (view h l))) (laid (drained (view h l)) l)
+      ≡ outcome 0 (counted h (drained (view h l))) (writtenOver (drained (view h l)) l)
   drained-out-at = rw em (drained-out h l f n-pos e s x p ts ls lx (lp ∙ em) lt (rw em at q))
 
   pub drained-view-at : view (drainedHead h (h .«initial_len»))
@@ -232,12 +233,12 @@ module _ (h : Preprocessor) (l : Lent) where
   unfolding drainOf headAfter lentAfter
   drain-refused n =
       let r = rowOf h l drain in
-      λ j. outcome r (sym (accepted-not r (counted h (change (view h l) drain)) h n) j) (sym (accepted-not r (laid (change (view h l) drain) l) l n) j)
+      λ j. outcome r (sym (accepted-not r (counted h (change (view h l) drain)) h n) j) (sym (accepted-not r (writtenOver (change (view h l) drain) l) l n) j)
 
-  pub drain-done : rowOf h l drain ≡ 0 → outcome 0 (counted h (drained (view h l))) (laid (drained (view h l)) l) ≡ drainOf h l
+  pub drain-done : rowOf h l drain ≡ 0 → outcome 0 (counted h (drained (view h l))) (writtenOver (drained (view h l)) l) ≡ drainOf h l
   unfolding drainOf headAfter lentAfter change
   drain-done e =
-      ap (λ (r : ℕ). outcome r (accepted r (counted h (drained (view h l))) h) (accepted r (laid (drained (view h l)) l) l)) (sym e)
+      ap (λ (r : ℕ). outcome r (accepted r (counted h (drained (view h l))) h) (accepted r (writtenOver (drained (view h l)) l) l)) (sym e)
 
 -- ---- `shingled_point`
 
@@ -252,30 +253,30 @@ module _ (h : Preprocessor) (l : Lent) (x : List Float) (t : ℕ) (out : List Fl
   point-refused n = point-at (rowOf h l (shingledPoint x t out)) _ _ _ n
 
   point-answered : rowOf h l (shingledPoint x t out) ≡ 0
-      → pointRead (counted h (change (view h l) (shingledPoint x t out))) (laid (change (view h l) (shingledPoint x t out)) l) out (reply (view h l) (shingledPoint x t out))
+      → pointRead (counted h (change (view h l) (shingledPoint x t out))) (writtenOver (change (view h l) (shingledPoint x t out)) l) out (reply (view h l) (shingledPoint x t out))
       ≡ pointAfter h l x t out
   unfolding pointAfter headAfter lentAfter answerOf
   point-answered e =
       let c = shingledPoint x t out in
-      ap (λ (r : ℕ). pointRead (accepted r (counted h (change (view h l) c)) h) (accepted r (laid (change (view h l) c) l) l) out (accepted r (reply (view h l) c) (refused r))) (sym e)
+      ap (λ (r : ℕ). pointRead (accepted r (counted h (change (view h l) c)) h) (accepted r (writtenOver (change (view h l) c) l) l) out (accepted r (reply (view h l) c) (refused r))) (sym e)
 
   pub point-waits : rowOf h l (shingledPoint x t out) ≡ 0 → waiting (settingsOf h) (h .«values_seen») ≡ true → Fitted h l
       → pointed 0 false h l out ≡ pointAfter h l x t out
   unfolding change reply view
   point-waits e w f =
       (λ j. pointed 0 false (same-head h l f j) (same-lent h l f j) out)
-      ∙ (λ j. pointRead (counted h (cond (sym w j) (view h l) (drained (view h l)))) (laid (cond (sym w j) (view h l) (drained (view h l))) l) out
+      ∙ (λ j. pointRead (counted h (cond (sym w j) (view h l) (drained (view h l)))) (writtenOver (cond (sym w j) (view h l) (drained (view h l))) l) out
       (cond (sym w j) absent (wrote (over out (pointOf (drained (view h l)) (reading x t))))))
       ∙ point-answered e
 
   pub point-done : (a : Preprocessor) (b : Lent) (o : List Float) → rowOf h l (shingledPoint x t out) ≡ 0 → waiting (settingsOf h) (h .«values_seen») ≡ false
-      → outcome 0 a b ≡ outcome 0 (counted h (drained (view h l))) (laid (drained (view h l)) l)
+      → outcome 0 a b ≡ outcome 0 (counted h (drained (view h l))) (writtenOver (drained (view h l)) l)
       → o ≡ over out (pointOf (drained (view h l)) (reading x t))
       → pointed 0 true a b o ≡ pointAfter h l x t out
   unfolding change reply view
   point-done a b o e w p q =
       (λ j. pointed 0 true (p j .head) (p j .lent) (q j))
-      ∙ (λ j. pointRead (counted h (cond (sym w j) (view h l) (drained (view h l)))) (laid (cond (sym w j) (view h l) (drained (view h l))) l) out
+      ∙ (λ j. pointRead (counted h (cond (sym w j) (view h l) (drained (view h l)))) (writtenOver (cond (sym w j) (view h l) (drained (view h l))) l) out
       (cond (sym w j) absent (wrote (over out (pointOf (drained (view h l)) (reading x t))))))
       ∙ point-answered e
 

@@ -7,14 +7,15 @@ use lib.ListN.{replicate}
 use lib.Ieee.{Float, binary32, binary64, add, sub, mul, div, lt, le, eq, ofInt, ofBits}
 use Rattle.numeric.specs.Narrow.{narrowed}
 use Rattle.numeric.specs.Root.{rootOf}
-use Rattle.common.specs.Lent.{over}
+use Rattle.refusal.specs.Lent.{over}
 use Rattle.common.specs.Deviation.{zero64, outsideUnit, isEmpty, factorOf, stepOf, meanOf, deviationOf, rootAbove}
-use Rattle.common.specs.RangeVector.{Ranges, ranges, Outcome, outcome, unblocked, rangeAt, putAt, shifted, scaled, settled, cascadeTo}
+use Rattle.ranges.specs.RangeVector.{Ranges, ranges, RangeOutcome, rangeOutcome, unblocked, rangeAt, putAt, shifted, scaled, settled, cascadeTo}
 use Rattle.trcf.specs.Settings.{allOne}
 use Rattle.trcf.specs.Transformer.{zero32, one32, statisticAt, putStatistic, deviationsAt, putDeviations, fed, fedAt, channelsFed, updated}
 use Rattle.trcf.specs.Transformer.{normalizedScale, basicShift, basicDrift, weightAt, transformed, unweighted, inverted, reciprocal, forecastAt, forecastTo, invertedForecast, scales, shifts, differenceDeviations}
-use Rattle.trcf.specs.TransformerCalls.{Made, Written, written, headOf, notLong, newRow, updateRow, transformRow, outputRow, forecastRow}
-use Rattle.trcf.specs.TransformerCalls.{newOf, updateOf, transformOf, invertOf, invertForecastOf, scaleOf, shiftOf, differenceDeviationsOf}
+use Rattle.trcf.specs.TransformerCalls.{Made, TransformerOutput, transformerOutput, transformerHead, notLong, newRow, updateRow, transformRow, outputRow, forecastRow}
+use Rattle.trcf.specs.TransformerCalls.{transformerNew, transformerUpdate, transformerTransform, transformerInvert, transformerInvertForecast, transformerScale, transformerShift}
+use Rattle.trcf.specs.TransformerCalls.{transformerDifferenceDeviations}
 use Rattle.trcf.specs.declared.types.TransformMethod.{TransformMethod}
 use Rattle.trcf.specs.declared.types.TransformMethod.the-variants.{NONE, WEIGHTED, DIFFERENCE, NORMALIZE}
 use Rattle.trcf.specs.declared.transformer.WeightedTransformer.{WeightedTransformer}
@@ -28,45 +29,45 @@ oneAndHalf = ofBits binary32 0x3fc0_0000
 
 -- one channel of the weight 2
 unfoldable pub head : TransformMethod → WeightedTransformer
-head m = headOf m 1 zero64 (over (replicate 16 zero32) (single 2 ∷ [])) 0
+head m = transformerHead m 1 zero64 (over (replicate 16 zero32) (single 2 ∷ [])) 0
 
 -- no reading fed
 abbrev pub empty : List Float
 empty = replicate 15 zero64
 
 -- WEIGHTED 2: 3 becomes 6, and `invert` divides 6 twice. A lent list keeps what lies past the answer. Then a refusal by each row: 2, 4, 10, 20.
-unfoldable pub given : List Written
+unfoldable pub given : List TransformerOutput
 given =
-    transformOf (head WEIGHTED) empty (single 3 ∷ []) (single 0 ∷ []) (single 7 ∷ single 8 ∷ [])
-    ∷ invertOf (head WEIGHTED) empty (single 6 ∷ []) (single 0 ∷ []) (single 7 ∷ single 8 ∷ [])
-    ∷ transformOf (head DIFFERENCE) empty (single 9 ∷ []) (single 5 ∷ []) (single 7 ∷ [])
-    ∷ scaleOf (head NORMALIZE) empty (single 7 ∷ [])
-    ∷ shiftOf (head NORMALIZE) empty (single 7 ∷ [])
-    ∷ differenceDeviationsOf (head NORMALIZE) empty (single 7 ∷ [])
-    ∷ transformOf (headOf NONE 0 zero64 [] 0) empty [] [] []
-    ∷ transformOf (headOf NONE 17 zero64 [] 0) empty [] [] []
-    ∷ transformOf (head WEIGHTED) empty (single 3 ∷ []) [] (single 7 ∷ [])
-    ∷ transformOf (head WEIGHTED) empty (single 3 ∷ []) (single 0 ∷ []) []
-    ∷ scaleOf (head WEIGHTED) (replicate 14 zero64) (single 7 ∷ [])
+    transformerTransform (head WEIGHTED) empty (single 3 ∷ []) (single 0 ∷ []) (single 7 ∷ single 8 ∷ [])
+    ∷ transformerInvert (head WEIGHTED) empty (single 6 ∷ []) (single 0 ∷ []) (single 7 ∷ single 8 ∷ [])
+    ∷ transformerTransform (head DIFFERENCE) empty (single 9 ∷ []) (single 5 ∷ []) (single 7 ∷ [])
+    ∷ transformerScale (head NORMALIZE) empty (single 7 ∷ [])
+    ∷ transformerShift (head NORMALIZE) empty (single 7 ∷ [])
+    ∷ transformerDifferenceDeviations (head NORMALIZE) empty (single 7 ∷ [])
+    ∷ transformerTransform (transformerHead NONE 0 zero64 [] 0) empty [] [] []
+    ∷ transformerTransform (transformerHead NONE 17 zero64 [] 0) empty [] [] []
+    ∷ transformerTransform (head WEIGHTED) empty (single 3 ∷ []) [] (single 7 ∷ [])
+    ∷ transformerTransform (head WEIGHTED) empty (single 3 ∷ []) (single 0 ∷ []) []
+    ∷ transformerScale (head WEIGHTED) (replicate 14 zero64) (single 7 ∷ [])
     ∷ []
 
-unfoldable pub expected : List Written
+unfoldable pub expected : List TransformerOutput
 expected =
-    written 0 (single 6 ∷ single 8 ∷ [])
-    ∷ written 0 (oneAndHalf ∷ single 8 ∷ [])
-    ∷ written 0 (single 4 ∷ [])
-    ∷ written 0 (single 2 ∷ [])
-    ∷ written 0 (single 0 ∷ [])
-    ∷ written 0 (single 0 ∷ [])
-    ∷ written 2 []
-    ∷ written 4 []
-    ∷ written 10 (single 7 ∷ [])
-    ∷ written 20 []
-    ∷ written 20 (single 7 ∷ [])
+    transformerOutput 0 (single 6 ∷ single 8 ∷ [])
+    ∷ transformerOutput 0 (oneAndHalf ∷ single 8 ∷ [])
+    ∷ transformerOutput 0 (single 4 ∷ [])
+    ∷ transformerOutput 0 (single 2 ∷ [])
+    ∷ transformerOutput 0 (single 0 ∷ [])
+    ∷ transformerOutput 0 (single 0 ∷ [])
+    ∷ transformerOutput 2 []
+    ∷ transformerOutput 4 []
+    ∷ transformerOutput 10 (single 7 ∷ [])
+    ∷ transformerOutput 20 []
+    ∷ transformerOutput 20 (single 7 ∷ [])
     ∷ []
 
 pub samples : given ≡ expected
-unfolding single head given expected transformOf invertOf scaleOf shiftOf differenceDeviationsOf transformRow outputRow notLong over transformed inverted scales shifts differenceDeviations weightAt unweighted normalizedScale basicShift statisticAt isEmpty meanOf narrowed add sub mul div lt le eq ofInt ofBits
+unfolding single head given expected transformerTransform transformerInvert transformerScale transformerShift transformerDifferenceDeviations transformRow outputRow notLong over transformed inverted scales shifts differenceDeviations weightAt unweighted normalizedScale basicShift statisticAt isEmpty meanOf narrowed add sub mul div lt le eq ofInt ofBits
 samples = refl
 
 -- ---- feeding and the forecast
@@ -82,51 +83,51 @@ double n = ofInt binary64 (pos n)
 
 -- 4 after 1 is fed: value 4, difference 3, and nothing but zeros for the deviations; the mean of the difference is 3
 unfoldable pub fedOnce : List Float
-fedOnce = left (updateOf (head DIFFERENCE) empty (single 4 ∷ []) (single 1 ∷ []))
+fedOnce = left (transformerUpdate (head DIFFERENCE) empty (single 4 ∷ []) (single 1 ∷ []))
 
 pub feeding : fedOnce
     ≡ (double 1 ∷ double 4 ∷ double 16 ∷ double 1 ∷ double 3 ∷ double 9 ∷ double 1 ∷ zero64 ∷ zero64 ∷ double 1 ∷ double 3 ∷ double 9 ∷ double 1 ∷ zero64 ∷ zero64 ∷ [])
-unfolding single double head fedOnce updateOf updateRow notLong over updated channelsFed fedAt putDeviations putStatistic fed deviationsAt statisticAt factorOf stepOf meanOf deviationOf rootAbove rootOf isEmpty add sub mul div lt le eq ofInt ofBits
+unfolding single double head fedOnce transformerUpdate updateRow notLong over updated channelsFed fedAt putDeviations putStatistic fed deviationsAt statisticAt factorOf stepOf meanOf deviationOf rootAbove rootOf isEmpty add sub mul div lt le eq ofInt ofBits
 feeding = refl
 
 -- the drift is then 3: block i is shifted by i × 3 under NONE too,
-unfoldable pub forecasts : List Outcome
+unfoldable pub forecasts : List RangeOutcome
 forecasts =
     let v = single 1 ∷ single 1 ∷ single 1 ∷ [] in
-    invertForecastOf (headOf NONE 1 zero64 (over (replicate 16 zero32) (one32 ∷ [])) 1) fedOnce (single 5 ∷ []) (ranges v v v)
-    ∷ invertForecastOf (headOf DIFFERENCE 1 zero64 (over (replicate 16 zero32) (one32 ∷ [])) 1) empty (single 10 ∷ []) (ranges v v v)
-    ∷ invertForecastOf (head DIFFERENCE) empty (single 10 ∷ []) (ranges [] [] [])
-    ∷ invertForecastOf (head WEIGHTED) empty (single 10 ∷ []) (ranges v v [])
+    transformerInvertForecast (transformerHead NONE 1 zero64 (over (replicate 16 zero32) (one32 ∷ [])) 1) fedOnce (single 5 ∷ []) (ranges v v v)
+    ∷ transformerInvertForecast (transformerHead DIFFERENCE 1 zero64 (over (replicate 16 zero32) (one32 ∷ [])) 1) empty (single 10 ∷ []) (ranges v v v)
+    ∷ transformerInvertForecast (head DIFFERENCE) empty (single 10 ∷ []) (ranges [] [] [])
+    ∷ transformerInvertForecast (head WEIGHTED) empty (single 10 ∷ []) (ranges v v [])
     ∷ []
 
-unfoldable pub inverses : List Outcome
+unfoldable pub inverses : List RangeOutcome
 inverses =
     let v = single 1 ∷ single 1 ∷ single 1 ∷ [] in
     let w = single 1 ∷ single 4 ∷ single 7 ∷ [] in
     let z = single 11 ∷ single 12 ∷ single 13 ∷ [] in
-    outcome 0 (ranges w w w) ∷ outcome 0 (ranges z z z) ∷ outcome 16 (ranges [] [] []) ∷ outcome 16 (ranges v v []) ∷ []
+    rangeOutcome 0 (ranges w w w) ∷ rangeOutcome 0 (ranges z z z) ∷ rangeOutcome 16 (ranges [] [] []) ∷ rangeOutcome 16 (ranges v v []) ∷ []
 
 pub forecast-samples : forecasts ≡ inverses
-unfolding forecasts inverses single double head fedOnce invertForecastOf forecastRow unblocked invertedForecast forecastTo forecastAt reciprocal weightAt normalizedScale basicDrift basicShift cascadeTo rangeAt putAt shifted scaled settled narrowed updateOf updateRow notLong over updated channelsFed fedAt putDeviations putStatistic fed deviationsAt statisticAt factorOf stepOf meanOf deviationOf rootAbove rootOf isEmpty add sub mul div lt le eq ofInt ofBits
+unfolding forecasts inverses single double head fedOnce transformerInvertForecast forecastRow unblocked invertedForecast forecastTo forecastAt reciprocal weightAt normalizedScale basicDrift basicShift cascadeTo rangeAt putAt shifted scaled settled narrowed transformerUpdate updateRow notLong over updated channelsFed fedAt putDeviations putStatistic fed deviationsAt statisticAt factorOf stepOf meanOf deviationOf rootAbove rootOf isEmpty add sub mul div lt le eq ofInt ofBits
 forecast-samples = refl
 
 -- ---- the rows of `new` and `update`
 
 unfoldable pub rows : List ℕ
 rows =
-    rowOf (newOf NONE 0 zero64 [] empty)
-    ∷ rowOf (newOf NONE 17 zero64 [] empty)
-    ∷ rowOf (newOf NONE 2 zero64 (one32 ∷ []) empty)
-    ∷ rowOf (newOf NONE 1 (double 1) (one32 ∷ []) empty)
-    ∷ rowOf (newOf NONE 1 zero64 (single 2 ∷ []) empty)
-    ∷ rowOf (newOf WEIGHTED 1 zero64 (single 2 ∷ []) (replicate 14 zero64))
-    ∷ rowOf (newOf WEIGHTED 1 zero64 (single 2 ∷ []) empty)
-    ∷ rowOf (updateOf (headOf NONE 1 zero64 (replicate 16 one32) 2147483646) empty (single 1 ∷ []) (single 1 ∷ []))
-    ∷ rowOf (updateOf (headOf NONE 1 zero64 (replicate 16 one32) 9007199254740989) empty (single 1 ∷ []) (single 1 ∷ []))
-    ∷ rowOf (updateOf (headOf NONE 1 zero64 (replicate 16 one32) 9007199254740990) empty (single 1 ∷ []) (single 1 ∷ []))
-    ∷ rowOf (updateOf (headOf NONE 1 zero64 (replicate 16 one32) 0) empty [] (single 1 ∷ []))
+    rowOf (transformerNew NONE 0 zero64 [] empty)
+    ∷ rowOf (transformerNew NONE 17 zero64 [] empty)
+    ∷ rowOf (transformerNew NONE 2 zero64 (one32 ∷ []) empty)
+    ∷ rowOf (transformerNew NONE 1 (double 1) (one32 ∷ []) empty)
+    ∷ rowOf (transformerNew NONE 1 zero64 (single 2 ∷ []) empty)
+    ∷ rowOf (transformerNew WEIGHTED 1 zero64 (single 2 ∷ []) (replicate 14 zero64))
+    ∷ rowOf (transformerNew WEIGHTED 1 zero64 (single 2 ∷ []) empty)
+    ∷ rowOf (transformerUpdate (transformerHead NONE 1 zero64 (replicate 16 one32) 2147483646) empty (single 1 ∷ []) (single 1 ∷ []))
+    ∷ rowOf (transformerUpdate (transformerHead NONE 1 zero64 (replicate 16 one32) 9007199254740989) empty (single 1 ∷ []) (single 1 ∷ []))
+    ∷ rowOf (transformerUpdate (transformerHead NONE 1 zero64 (replicate 16 one32) 9007199254740990) empty (single 1 ∷ []) (single 1 ∷ []))
+    ∷ rowOf (transformerUpdate (transformerHead NONE 1 zero64 (replicate 16 one32) 0) empty [] (single 1 ∷ []))
     ∷ []
 
 pub row-samples : rows ≡ (2 ∷ 4 ∷ 5 ∷ 6 ∷ 9 ∷ 20 ∷ 0 ∷ 0 ∷ 0 ∷ 18 ∷ 10 ∷ [])
-unfolding rows single double newOf newRow outsideUnit allOne updateOf updateRow notLong over updated channelsFed fedAt putDeviations putStatistic fed deviationsAt statisticAt factorOf stepOf meanOf deviationOf rootAbove rootOf isEmpty add sub mul div lt le eq ofInt ofBits
+unfolding rows single double transformerNew newRow outsideUnit allOne transformerUpdate updateRow notLong over updated channelsFed fedAt putDeviations putStatistic fed deviationsAt statisticAt factorOf stepOf meanOf deviationOf rootAbove rootOf isEmpty add sub mul div lt le eq ofInt ofBits
 row-samples = refl

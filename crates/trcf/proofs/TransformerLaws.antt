@@ -17,7 +17,7 @@ use Rattle.common.proofs.DeviationLaws.{update-by-accepted, step-fits}
 use Rattle.common.proofs.DeviationLaws as deviation
 use Rattle.trcf.specs.Fit.{All, Fits}
 use Rattle.trcf.specs.Transformer.{Transformer, putStatistic, putDeviations, fed, fedAt, channelsFed, updated, transformBy, transformed, unweighted, invertBy, inverted, weightAt, basicShift, normalizedScale, scales, shifts, differenceDeviations, zero32}
-use Rattle.trcf.specs.TransformerCalls.{view}
+use Rattle.trcf.specs.TransformerCalls.{transformerView}
 use Rattle.trcf.specs.Steps.Timestamps.{IsFactor}
 use Rattle.trcf.specs.declared.transformer.WeightedTransformer.{WeightedTransformer}
 use lib.Seq.{getD-take}
@@ -34,7 +34,7 @@ pub taken-step : (s : Deviation) (f x : Float) (r : DeviationResult) (next : Dev
 taken-step s f x r next h e p q = let k = update-by-accepted f s x e h in cc
 
 -- the weight that a head holds for channel i
-pub weightAt-view : (t : WeightedTransformer) (l : List Float) (i : ℕ) → i < t .«input_length» → weightAt (view t l) i ≡ getD (t .weights) i nan
+pub weightAt-view : (t : WeightedTransformer) (l : List Float) (i : ℕ) → i < t .«input_length» → weightAt (transformerView t l) i ≡ getD (t .weights) i nan
 unfolding weightAt
 weightAt-view t l i h = getD-take (t .«input_length») (t .weights) i nan h
 

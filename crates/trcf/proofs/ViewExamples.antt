@@ -7,20 +7,20 @@ use lib.IntN.{pos}
 use lib.ListN.{replicate, length, take}
 use lib.Ieee.{Float, binary32, ofBits, le}
 use Rattle.common.specs.Deviation.{zero64, one64, outsideUnit}
-use Rattle.common.specs.Lent.{over}
+use Rattle.refusal.specs.Lent.{over}
 use Rattle.trcf.specs.Lists.{shiftIn, overwrite, lastN}
 use Rattle.trcf.specs.Transformer.{zero32, one32}
 use Rattle.trcf.specs.Settings.{Settings, settingsRow, allOne, block, dimension, waiting}
 use Rattle.trcf.specs.Calls.{Call, postProcess, drain, scale, rows, table, finite, due, drainFull, newest, wrongLength, waitingShort, learnFull, learnShort, outside}
-use Rattle.trcf.specs.Preprocessor.{fresh, facts, change, held, drained, drainAll, drainOne, primed, previous, panelOf}
-use Rattle.trcf.specs.View.{Lent, lent, settingsFrom, view, alone, laid, headRow, lentShort, misfit, shortRow, lentRow, rowOf, headAfter, lentAfter, noHead, buildRow, buildOf, drainOf, learnCall, Outcome}
+use Rattle.trcf.specs.Preprocessor.{fresh, facts, change, buffered, drained, drainAll, drainOne, primed, previous, panelOf}
+use Rattle.trcf.specs.View.{Lent, lent, settingsFrom, view, alone, writtenOver, headRow, lentShort, countersUnfit, shortRow, lentRow, rowOf, headAfter, lentAfter, noHead, buildRow, buildOf, drainOf, learnCall, Outcome}
 use Rattle.trcf.specs.declared.types.TransformMethod.the-variants.{NORMALIZE}
 use Rattle.trcf.specs.declared.types.ForestMode.the-variants.{STANDARD}
 use Rattle.trcf.specs.declared.head.Preprocessor.{Preprocessor}
 
 -- opens what a call computes by
 all : Unit {0}
-unfolding buildOf buildRow settingsRow lentRow shortRow lentShort misfit laid fresh over view headAfter lentAfter rowOf headRow rows table facts finite due drainFull newest wrongLength waitingShort learnFull learnShort outside waiting block dimension allOne outsideUnit change held drainOf drained drainAll drainOne primed previous shiftIn overwrite lastN le ofBits
+unfolding buildOf buildRow settingsRow lentRow shortRow lentShort countersUnfit writtenOver fresh over view headAfter lentAfter rowOf headRow rows table facts finite due drainFull newest wrongLength waitingShort learnFull learnShort outside waiting block dimension allOne outsideUnit change buffered drainOf drained drainAll drainOne primed previous shiftIn overwrite lastN le ofBits
 all = tt
 
 abbrev four : Float
@@ -59,7 +59,7 @@ lent₂ : Lent
 unfolding all
 lent₂ = lentAfter head₁ lent₁ (reading six 2)
 
--- the sample; what lies behind the four inputs stays
+-- the sample; what lies after the four inputs stays
 example-inputs : drainOf head₂ lent₂ .lent .lastShingledInput ≡ zero32 ∷ four ∷ four ∷ six ∷ one32 ∷ []
 unfolding all first head₁ lent₁ head₂ lent₂
 example-inputs = refl

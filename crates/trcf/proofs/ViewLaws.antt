@@ -5,11 +5,11 @@ use mathlib.Core.Path.{_≡_, refl, sym, ap, _∙_}
 use mathlib.Core.List.{List, [], _∷_, _++_}
 use lib.ListN.{length, take, drop, replicate}
 use lib.Seq.{take-at}
-use Rattle.common.specs.Lent.{over}
+use Rattle.refusal.specs.Lent.{over}
 use Rattle.trcf.specs.Settings.{Settings, dimension, block}
 use Rattle.trcf.specs.Calls.{Call}
 use Rattle.trcf.specs.Preprocessor.{State, Answer, refused, statisticsLength, refusal, reply, change, next, answer, accepted}
-use Rattle.trcf.specs.View.{Lent, settingsOf, view, counted, laid, headRow, lentRow, rowOf, answerOf, headAfter, lentAfter, orElse}
+use Rattle.trcf.specs.View.{Lent, settingsOf, view, counted, writtenOver, headRow, lentRow, rowOf, answerOf, headAfter, lentAfter, orElse}
 use Rattle.trcf.specs.declared.head.Preprocessor.{Preprocessor}
 
 or-none : (r : ℕ) → orElse r 0 ≡ r
@@ -35,8 +35,8 @@ pub record Shaped (h : Preprocessor) (w : State) : Type 0 where
   pub values-length : length (w .initialValues) ≡ length (w .initialTimestamps) * h .transformer .«input_length»
 
 -- what is laid back is what is seen next
-pub view-laid : (h : Preprocessor) (l : Lent) (w : State) → Shaped h w → view (counted h w) (laid w l) ≡ w
-unfolding view laid over dimension block
+pub view-laid : (h : Preprocessor) (l : Lent) (w : State) → Shaped h w → view (counted h w) (writtenOver w l) ≡ w
+unfolding view writtenOver over dimension block
 view-laid h l w s =
     λ j. record {
       settings = sym (s .settled) j;

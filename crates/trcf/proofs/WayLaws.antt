@@ -7,12 +7,12 @@ use lib.Dec.{eqb}
 use lib.IntN.{ℤ}
 use lib.Ieee.{Float, lt}
 use lib.ListN.{length, take}
-use Rattle.common.specs.Lent.{over}
+use Rattle.refusal.specs.Lent.{over}
 use Rattle.trcf.specs.Transformer.{zero32}
 use Rattle.trcf.specs.Settings.{waiting, block, dimension}
 use Rattle.trcf.specs.Calls.{drain, shingledPoint, postProcess}
 use Rattle.trcf.specs.Preprocessor.{State, statisticsLength, deviations, drained, reading, pointOf}
-use Rattle.trcf.specs.View.{Lent, lent, settingsOf, initialRoom, rowOf, learningRow, optional, learnCall, backOf, learnOutcome, learnNothing, learnAfter, counting, holding, Bounded, Ready, Fitted, Outcome, outcome, drainOf, pointed, pointAfter, counted, laid, view}
+use Rattle.trcf.specs.View.{Lent, lent, settingsOf, initialRoom, rowOf, learningRow, optional, learnCall, backOf, learnOutcome, learnNothing, learnAfter, counting, holding, Bounded, Ready, Fitted, Outcome, outcome, drainOf, pointed, pointAfter, counted, writtenOver, view}
 use Rattle.trcf.specs.Steps.Learning.{LearnParts, learnedParts, answering, answeringRow, Learnable}
 use Rattle.trcf.specs.declared.head.Preprocessor.{Preprocessor}
 use Rattle.trcf.specs.declared.head.PostProcessed.{PostProcessed}
@@ -27,7 +27,7 @@ module _ (h : Preprocessor) (l : Lent) (n : ℕ) (row : n ≡ rowOf h l drain) w
   pub drain-stays : (n ≡ 0 → ⊥) → outcome n h l ≡ drainOf h l
   drain-stays z = ap (λ (r : ℕ). outcome r h l) row ∙ drain-refused h l (λ w. z (row ∙ w))
 
-  pub drain-goes : n ≡ 0 → (o : Outcome) → o ≡ outcome 0 (counted h (drained (view h l))) (laid (drained (view h l)) l) → o ≡ drainOf h l
+  pub drain-goes : n ≡ 0 → (o : Outcome) → o ≡ outcome 0 (counted h (drained (view h l))) (writtenOver (drained (view h l)) l) → o ≡ drainOf h l
   drain-goes z o e = e ∙ drain-done h l (sym row ∙ z)
 
 -- ---- `shingled_point`
@@ -40,7 +40,7 @@ module _ (h : Preprocessor) (l : Lent) (x : List Float) (t : ℕ) (out : List Fl
     pub point-holds : b ≡ true → Fitted h l → pointed 0 false h l out ≡ pointAfter h l x t out
     point-holds g f = point-waits h l x t out (sym row ∙ zero) (sym w ∙ g) f
 
-    pub point-goes : b ≡ false → (a : Preprocessor) (m : Lent) (o : List Float) (s : State) → outcome 0 a m ≡ outcome 0 (counted h (drained (view h l))) (laid (drained (view h l)) l)
+    pub point-goes : b ≡ false → (a : Preprocessor) (m : Lent) (o : List Float) (s : State) → outcome 0 a m ≡ outcome 0 (counted h (drained (view h l))) (writtenOver (drained (view h l)) l)
         → s ≡ drained (view h l) → o ≡ over out (pointOf s (reading x t)) → pointed 0 true a m o ≡ pointAfter h l x t out
     point-goes g a m o s p q e =
         point-done h l x t out a m o (sym row ∙ zero) (sym w ∙ g) p (e ∙ ap (λ (v : State). over out (pointOf v (reading x t))) q)

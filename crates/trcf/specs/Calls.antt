@@ -7,11 +7,11 @@ use lib.Dec.{ltb, leb, eqb}
 use lib.IntN.{ℤ, pos, negsuc}
 use lib.ListN.{length}
 use lib.Ieee.{Float, nan, inf, fin, binary32, binary64, lt}
-use Rattle.common.specs.Refusal.{firstOf}
+use Rattle.refusal.specs.Refusal.{firstOf}
 use Rattle.common.specs.Deviation.{countLimit}
-use Rattle.common.specs.RangeVector.{Ranges, unequal, unblocked, shorter}
+use Rattle.ranges.specs.RangeVector.{Ranges, unequal, unblocked, shorter}
 use Rattle.trcf.specs.Lists.{lastOr, null}
-use Rattle.trcf.specs.Types.{augments, gaps, differences}
+use Rattle.trcf.specs.Types.{augments, isGap, differences}
 use Rattle.trcf.specs.Transformer.{zero32}
 use Rattle.trcf.specs.Settings.{Settings, block, dimension, waiting, All, Fits, Whole, wholeMax}
 
@@ -74,8 +74,8 @@ unfoldable pub newest : Facts → ℕ
 newest f = cond (eqb (f .internalTimestamp) 0) (lastOr 0 (f .initialTimestamps)) (lastOr 0 (f .previousTimestamps))
 
 -- "(28: point or transform in G with a time below the newest; after 12.)" (request 114)
-unfoldable pub behind : Settings → Facts → ℕ → Bool
-behind s f t = gaps (s .mode) && ltb t (newest f)
+unfoldable pub beforeNewest : Settings → Facts → ℕ → Bool
+beforeNewest s f t = isGap (s .mode) && ltb t (newest f)
 
 -- row 13: where given, not `get_dimension` long
 unfoldable pub wrongLength : Settings → Option (List Float) → Bool
@@ -109,14 +109,14 @@ unfoldable pub lookahead : Settings → ℕ → ℕ
 lookahead s n = n / dimension s
 
 -- row 16 of a turn-back: "unequal lengths; where blocks are cascaded, none or a broken one; TIME_AUGMENTED under one block of `get_dimension` numbers"
-unfoldable pub unturnable : Settings → Ranges → Bool
-unturnable s v =
+unfoldable pub forecastUnfit : Settings → Ranges → Bool
+forecastUnfit s v =
     unequal v
     || cond (augments (s .mode)) (ltb (length (v .values)) (dimension s)) (differences (s .method) && unblocked (s .d) (length (v .values)))
 
 -- row 20 of a turn-back: TIME_AUGMENTED writes d × k numbers and one time a block; STANDARD works in place
-unfoldable pub turnShort : Settings → Forecast → Bool
-turnShort s c =
+unfoldable pub forecastOutputShort : Settings → Forecast → Bool
+forecastOutputShort s c =
     let h = lookahead s (length (c .forecast .values)) in
     augments (s .mode) && (shorter (c .valuesOut) (h * (s .d * s .k)) || shorter (c .timesOut) h)
 
@@ -136,7 +136,7 @@ table s f (shingledPoint x t out) =
     let past = not (waiting s (f .valuesSeen)) in
     (not (eqb (length x) (s .d)), 10)
     ∷ (not (finite x), 11)
-    ∷ (behind s f t, 28)
+    ∷ (beforeNewest s f t, 28)
     ∷ (past && (due s f && drainFull s f), 18)
     ∷ (past && ltb (length out) (dimension s), 20)
     ∷ []
@@ -152,8 +152,8 @@ table s f (postProcess l) =
     ∷ (cond waits (waitingShort s f l) (given (l .rcfPoint) && learnShort s l), 20)
     ∷ []
 table s f drain = (eqb (f .valuesSeen) (s .start) && null (f .initialTimestamps), 15) ∷ (due s f && drainFull s f, 18) ∷ []
-table s f (transform x t out) = (not (eqb (length x) (s .d)), 10) ∷ (behind s f t, 28) ∷ (ltb (length out) (block s), 20) ∷ []
-table s f (invertExtrapolation c) = (unturnable s (c .forecast), 16) ∷ (turnShort s c, 20) ∷ []
+table s f (transform x t out) = (not (eqb (length x) (s .d)), 10) ∷ (beforeNewest s f t, 28) ∷ (ltb (length out) (block s), 20) ∷ []
+table s f (invertExtrapolation c) = (forecastUnfit s (c .forecast), 16) ∷ (forecastOutputShort s c, 20) ∷ []
 table s f (scale out) = (ltb (length out) (block s), 20) ∷ []
 table s f (shift out) = (ltb (length out) (block s), 20) ∷ []
 table s f (status out) = (ltb (length out) (block s), 20) ∷ []

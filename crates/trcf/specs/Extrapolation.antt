@@ -5,13 +5,13 @@ use mathlib.Core.List.{List, [], _∷_}
 use lib.Dec.{ltb, eqb}
 use lib.ListN.{length}
 use lib.Ieee.{Float}
-use Rattle.common.specs.Refusal.{firstOf}
-use Rattle.common.specs.RangeVector.{Ranges, unblocked}
+use Rattle.refusal.specs.Refusal.{firstOf}
+use Rattle.ranges.specs.RangeVector.{Ranges, unblocked}
 use Rattle.trcf.specs.Types.{augments, differences}
 use Rattle.trcf.specs.Settings.{Settings, dimension}
 use Rattle.trcf.specs.Calls.{Forecast, invertExtrapolation, rows, lookahead}
 use Rattle.trcf.specs.Preprocessor.{State, Answer, refused, absent, done, wrote, learnt, turned, told, statisticsLength, facts, turnedBack, accepted}
-use Rattle.trcf.specs.View.{lent, view, settingsOf, misfit, headRow, orElse}
+use Rattle.trcf.specs.View.{lent, view, settingsOf, countersUnfit, headRow, orElse}
 use Rattle.trcf.specs.declared.head.Preprocessor.{Preprocessor}
 
 -- ---- the call
@@ -32,18 +32,18 @@ unfoldable pub viewed : Preprocessor → List Float → List Float → List ℕ 
 viewed h st x ts = view h (lent st x [] ts [] [])
 
 -- one of the three is shorter than the part in use
-unfoldable pub unread : Settings → ℕ → ℕ → ℕ → Bool
-unread s st x ts = ltb st (statisticsLength s) || (ltb x (s .d * s .k) || ltb ts (s .k))
+unfoldable pub readShort : Settings → ℕ → ℕ → ℕ → Bool
+readShort s st x ts = ltb st (statisticsLength s) || (ltb x (s .d * s .k) || ltb ts (s .k))
 
 -- 20 for the head's counters and for what is lent: `lentRow`, of the three lists
-unfoldable pub unreadRow : Preprocessor → ℕ → ℕ → ℕ → ℕ
-unreadRow h st x ts = cond (misfit h) 20 (firstOf ((unread (settingsOf h) st x ts, 20) ∷ []))
+unfoldable pub readShortRow : Preprocessor → ℕ → ℕ → ℕ → ℕ
+readShortRow h st x ts = cond (countersUnfit h) 20 (firstOf ((readShort (settingsOf h) st x ts, 20) ∷ []))
 
 -- as `rowOf`: the rows of a head that `build` never made, document 01's of the call, and 20 for counters and what is lent
 unfoldable pub extrapolationRow : Preprocessor → List Float → List Float → List ℕ → Forecast → ℕ
 extrapolationRow h st x ts c =
     orElse (headRow (settingsOf h))
-    (orElse (rows (settingsOf h) (facts (viewed h st x ts)) (invertExtrapolation c)) (unreadRow h (length st) (length x) (length ts)))
+    (orElse (rows (settingsOf h) (facts (viewed h st x ts)) (invertExtrapolation c)) (readShortRow h (length st) (length x) (length ts)))
 
 -- a refusal leaves every list as it was
 unfoldable pub extrapolationOf : Preprocessor → List Float → List Float → List ℕ → Forecast → Extrapolation
@@ -121,4 +121,4 @@ rowAt h z =
     let s = settingsOf h in
     orElse (headRow s)
     (orElse (firstOf ((brokenAt s (z .values) (z .upper) (z .lower), 16) ∷ (shortAt s z, 20) ∷ []))
-    (unreadRow h (z .statistics) (z .inputs) (z .times)))
+    (readShortRow h (z .statistics) (z .inputs) (z .times)))

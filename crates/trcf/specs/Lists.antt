@@ -23,7 +23,7 @@ module _ {A : Type 0} where
   null [] = true
   null (x ∷ xs) = false
 
-  -- `shift_vector`: the front drops out, and p comes in behind
+  -- `shift_vector`: the front drops out, and p comes in at the end
   unfoldable pub shiftIn : List A → List A → List A
   shiftIn l p = drop (length p) l ++ p
 

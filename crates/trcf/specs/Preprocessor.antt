@@ -9,10 +9,10 @@ use lib.ListN.{length, take, drop, getD, replicate}
 use lib.Ieee.{Float, Format, nan, binary32, binary64, add, sub, mul, div, eq, ofInt}
 use Rattle.numeric.specs.Narrow.{narrowed}
 use Rattle.common.specs.Deviation.{zero64, one64}
-use Rattle.common.specs.Lent.{over}
-use Rattle.common.specs.RangeVector.{Range, Ranges, ranges, settled, cascadeTo, overAll}
+use Rattle.refusal.specs.Lent.{over}
+use Rattle.ranges.specs.RangeVector.{Range, Ranges, ranges, settled, cascadeTo, overAll}
 use Rattle.trcf.specs.Lists.{lastN, lastOr, shiftIn, overwrite}
-use Rattle.trcf.specs.Types.{augments, gaps}
+use Rattle.trcf.specs.Types.{augments, isGap}
 use Rattle.trcf.specs.Transformer.{Transformer, zero32, one32, meanAt, deviationAt, fedAt, updated, transformed, inverted, invertedForecast, scales, shifts, differenceDeviations}
 use Rattle.trcf.specs.Settings.{Settings, transformer, block, dimension, waiting}
 use Rattle.trcf.specs.Calls.{Learn, Forecast, Call, shingledPoint, postProcess, drain, transform, invertExtrapolation, scale, shift, status, Facts, rows, due, newest, given, anomalous, lookahead}
@@ -75,7 +75,7 @@ pub record Reading : Type 0 where
 abbrev pub reading : List Float → ℕ → Reading
 reading x t = record { value = x; time = t }
 
--- "Time has five statistics too", behind the channels'
+-- "Time has five statistics too", after the channels'
 unfoldable pub timeFed : Settings → ℕ → List Float → ℕ → ℕ → List Float
 timeFed s count st t previous =
     fedAt st (5 * s .d) 1 (s .decay) count (ofInt binary64 (pos t)) (ofInt binary64 (pos (t - previous)))
@@ -100,11 +100,11 @@ weighted s st n = div binary64 (mul binary64 (ofInt binary64 (pos n)) (s .weight
 -- numbers, turned to f64, multiplied, divided and narrowed once" (request 114)
 unfoldable pub timeElement : Settings → List Float → ℕ → ℕ → Float
 timeElement s st t previous =
-    narrowed (cond (gaps (s .mode)) (weighted s st (t - previous)) (sub binary64 (ofInt binary64 (pos t)) (weighted s st previous)))
+    narrowed (cond (isGap (s .mode)) (weighted s st (t - previous)) (sub binary64 (ofInt binary64 (pos t)) (weighted s st previous)))
 
 -- "Turned-back gaps and the time shift omit the drift" (request 114): it is not added, so not even as 0
 abbrev pub drifted : Format → Settings → Float → Float → Float
-drifted f s x drift = cond (gaps (s .mode)) x (add f x drift)
+drifted f s x drift = cond (isGap (s .mode)) x (add f x drift)
 
 -- where the mode has a time element, one number more
 abbrev pub withTime : Settings → List Float → Float → List Float
@@ -123,7 +123,7 @@ previous w = reading (lastN (w .settings .d) (w .lastShingledInput)) (lastOr 0 (
 
 -- the time that a point's and a transform's time element is counted from: "with row 12's newest" (request 114), otherwise the last of `tim`
 unfoldable pub timeBase : State → ℕ
-timeBase w = cond (gaps (w .settings .mode)) (newest (facts w)) (lastOr 0 (w .previousTimestamps))
+timeBase w = cond (isGap (w .settings .mode)) (newest (facts w)) (lastOr 0 (w .previousTimestamps))
 
 -- newest input and that time
 unfoldable pub preceding : State → Reading
@@ -183,8 +183,8 @@ unfoldable pub drained : State → State
 drained w = cond (due (w .settings) (facts w)) (drainAll w (blocks (w .settings .d) (w .initialValues) (w .initialTimestamps))) w
 
 -- the reading waits
-unfoldable pub held : State → Learn → State
-held w l =
+unfoldable pub buffered : State → Learn → State
+buffered w l =
     record {
       settings = w .settings;
       valuesSeen = suc (w .valuesSeen);
@@ -224,7 +224,7 @@ learnedWith w r (some y) = learned w r y
 -- a call that no row refuses
 unfoldable pub change : State → Call → State
 change w (shingledPoint x t out) = cond (waiting (w .settings) (w .valuesSeen)) w (drained w)
-change w (postProcess l) = cond (waiting (w .settings) (w .valuesSeen)) (held w l) (learnedWith w (reading (l .input) (l .timestamp)) (l .rcfPoint))
+change w (postProcess l) = cond (waiting (w .settings) (w .valuesSeen)) (buffered w l) (learnedWith w (reading (l .input) (l .timestamp)) (l .rcfPoint))
 change w drain = drained w
 change w (transform x t out) = w
 change w (invertExtrapolation c) = w
@@ -248,7 +248,7 @@ run w (c ∷ cs) = run (next w c) cs
 
 -- ---- answers
 
--- weight_time × the deviation of the time's second statistic stands behind the channels' numbers
+-- weight_time × the deviation of the time's second statistic stands after the channels' numbers
 unfoldable pub deviations : State → List Float
 deviations w =
     withTime (w .settings) (differenceDeviations (transformer (w .settings) 0 (w .statistics)))
@@ -265,13 +265,13 @@ shiftOf w =
     withTime (w .settings) (shifts (transformer (w .settings) 0 (w .statistics)))
     (drifted binary32 (w .settings) (ofInt binary32 (pos (lastOr 0 (w .previousTimestamps)))) (narrowed (timedrift (w .settings) (w .statistics))))
 
--- `shingled_point`: the point with the transformed reading behind it
+-- `shingled_point`: the point with the transformed reading after it
 unfoldable pub pointOf : State → Reading → List Float
 pointOf w r = shiftIn (w .lastShingledPoint) (transformedAfter (w .settings) (w .statistics) (w .valuesSeen) (preceding w) r)
 
 -- ---- turn-back
 
--- of each of h blocks of a numbers the first m, and the one behind those
+-- of each of h blocks of a numbers the first m, and the one after those
 abbrev pub fronts : ℕ → ℕ → ℕ → List Float → List Float
 fronts a m zero l = []
 fronts a m (suc h) l = take m l ++ fronts a m h (drop a l)
@@ -329,7 +329,7 @@ isZero (negsuc n) = false
 unfoldable pub blockFrom : ℕ → ℕ → List Float → List Float
 blockFrom d i l = take d (drop (i * d) l)
 
--- `past_values`: the reading itself for index 0, else the block behind the one named
+-- `past_values`: the reading itself for index 0, else the block after the one named
 unfoldable pub pastValues : State → Learn → List Float
 pastValues w l =
     let d = w .settings .d in
@@ -380,15 +380,17 @@ unfoldable pub learnedNothing : Learn → Learned
 learnedNothing l =
     record { written = false; anomaly = none; deviationsOut = l .deviationsOut; pastOut = l .pastOut; expectedOut = l .expectedOut }
 
-unfoldable pub heldAnswer : State → Learn → Learned
-heldAnswer w l =
-    cond (eqb (suc (w .valuesSeen)) (w .settings .start))
-    (record { written = true; anomaly = none; deviationsOut = over (l .deviationsOut) (deviations w); pastOut = l .pastOut; expectedOut = l .expectedOut })
-    (learnedNothing l)
+-- the deviations are written, and there is no anomaly
+abbrev pub deviationsAlone : Learn → List Float → Learned
+deviationsAlone l v =
+    record { written = true; anomaly = none; deviationsOut = over (l .deviationsOut) v; pastOut = l .pastOut; expectedOut = l .expectedOut }
 
--- with y: the deviations after the update; and, where the grade is above 0 and an expected point is given, the anomaly, from before it
-unfoldable pub learnedAnswer : State → Learn → List Float → Bool → Option (List Float) → Learned
-learnedAnswer w l y true (some x) =
+unfoldable pub bufferedAnswer : State → Learn → Learned
+bufferedAnswer w l = cond (eqb (suc (w .valuesSeen)) (w .settings .start)) (deviationsAlone l (deviations w)) (learnedNothing l)
+
+-- with y: the deviations after the update; and, where an anomaly's expected point is given, the anomaly, from before it
+unfoldable pub learnedAnswer : State → Learn → List Float → Option (List Float) → Learned
+learnedAnswer w l y (some x) =
     record {
       written = true;
       anomaly = some (anomalyOf w l);
@@ -396,24 +398,12 @@ learnedAnswer w l y true (some x) =
       pastOut = over (l .pastOut) (pastValues w l);
       expectedOut = over (l .expectedOut) (expectedValues w l x);
     }
-learnedAnswer w l y true none = record {
-  written = true;
-  anomaly = none;
-  deviationsOut = over (l .deviationsOut) (deviations (learned w (reading (l .input) (l .timestamp)) y));
-  pastOut = l .pastOut;
-  expectedOut = l .expectedOut;
-}
-learnedAnswer w l y false e = record {
-  written = true;
-  anomaly = none;
-  deviationsOut = over (l .deviationsOut) (deviations (learned w (reading (l .input) (l .timestamp)) y));
-  pastOut = l .pastOut;
-  expectedOut = l .expectedOut;
-}
+learnedAnswer w l y none = deviationsAlone l (deviations (learned w (reading (l .input) (l .timestamp)) y))
 
 unfoldable pub learnAnswer : State → Learn → Option (List Float) → Learned
 learnAnswer w l none = learnedNothing l
-learnAnswer w l (some y) = learnedAnswer w l y (anomalous l) (l .expectedPoint)
+-- the expected point counts where the grade is above 0
+learnAnswer w l (some y) = learnedAnswer w l y (cond (anomalous l) (l .expectedPoint) none)
 
 -- STANDARD works in place; a mode with a time element writes numbers and times
 unfoldable pub turnedBack : State → Forecast → Forecast
@@ -457,7 +447,7 @@ statusOf w out =
 -- a call that no row refuses
 unfoldable pub reply : State → Call → Answer
 reply w (shingledPoint x t out) = cond (waiting (w .settings) (w .valuesSeen)) absent (wrote (over out (pointOf (drained w) (reading x t))))
-reply w (postProcess l) = learnt (cond (waiting (w .settings) (w .valuesSeen)) (heldAnswer w l) (learnAnswer w l (l .rcfPoint)))
+reply w (postProcess l) = learnt (cond (waiting (w .settings) (w .valuesSeen)) (bufferedAnswer w l) (learnAnswer w l (l .rcfPoint)))
 reply w drain = done
 reply w (transform x t out) = wrote (over out (transformedAfter (w .settings) (w .statistics) (w .valuesSeen) (preceding w) (reading x t)))
 reply w (invertExtrapolation c) = turned (turnedBack w c)

@@ -6,7 +6,7 @@ use mathlib.Core.List.{List, [], _∷_}
 use lib.Dec.{T, ltb, leb, eqb}
 use lib.ListN.{length}
 use lib.Ieee.{Float, Format, binary32, binary64, eq, fits}
-use Rattle.common.specs.Refusal.{firstOf}
+use Rattle.refusal.specs.Refusal.{firstOf}
 use Rattle.common.specs.Deviation.{outsideUnit}
 unfoldable pub use Rattle.trcf.specs.Fit.{All, Fits}
 use Rattle.trcf.specs.Types.{isNone, normalizes, augments}
@@ -46,6 +46,18 @@ waiting s seen = normalizes (s .method) && ltb seen (s .start)
 
 -- ---- rows 1 to 9
 
+-- "d is `input_dimensions`, 1 to 16"
+abbrev pub inputLimit : ℕ
+inputLimit = 16
+
+-- "k is `shingle_size`, 1 to 64"
+abbrev pub shingleLimit : ℕ
+shingleLimit = 64
+
+-- "start ≥ 2000"
+abbrev pub startBound : ℕ
+startBound = 2000
+
 abbrev pub imputes : ForestMode → Bool
 imputes STANDARD = false
 imputes «TIME_AUGMENTED» = false
@@ -61,11 +73,11 @@ settingsTable s =
     (imputes (s .mode), 1)  -- STREAMING_IMPUTE
     ∷ (eqb (s .d) 0, 2)  -- d = 0
     ∷ (eqb (s .k) 0, 3)  -- k = 0
-    ∷ (ltb 16 (s .d) || ltb 64 (s .k), 4)  -- d or k over limit
+    ∷ (ltb inputLimit (s .d) || ltb shingleLimit (s .k), 4)  -- d or k over limit
     ∷ (not (eqb (length (s .weights)) (s .d) && eqb (length (s .codes)) (s .d)), 5)  -- weights or codes not d long
     ∷ (outsideUnit (s .decay), 6)  -- decay outside 0 ≤ it < 1
     ∷ (ltb (s .stop) (s .start), 7)  -- start > stop
-    ∷ (leb 2000 (s .start), 8)  -- start ≥ 2000
+    ∷ (leb startBound (s .start), 8)  -- start ≥ 2000
     ∷ (isNone (s .method) && not (allOne (s .weights)), 9)  -- NONE, a weight not 1.0
     ∷ []
 

@@ -9,7 +9,7 @@ use lib.Ieee.{Float, nan, binary32, binary64, add, sub, mul, div, eq, ofInt, ofB
 use Rattle.numeric.specs.Narrow.{narrowed}
 use Rattle.common.specs.declared.deviation.Deviation.{Deviation}
 use Rattle.common.specs.Deviation.{zero64, one64, statistic, stepOf, meanOf, deviationOf}
-use Rattle.common.specs.RangeVector.{Range, Ranges, shifted, scaled, rangeAt, putAt, cascadeTo}
+use Rattle.ranges.specs.RangeVector.{Range, Ranges, shifted, scaled, rangeAt, putAt, cascadeTo}
 use Rattle.trcf.specs.Lists.{tabulate}
 use Rattle.trcf.specs.Types.{isNone, normalizes, differences, centres}
 use Rattle.trcf.specs.declared.types.TransformMethod.{TransformMethod}

@@ -5,20 +5,20 @@ use mathlib.Core.List.{List, [], _∷_}
 use lib.Dec.{ltb, leb, eqb}
 use lib.ListN.{length, take, replicate}
 use lib.Ieee.{Float}
-use Rattle.common.specs.Refusal.{firstOf}
-use Rattle.common.specs.Lent.{over}
+use Rattle.refusal.specs.Refusal.{firstOf}
+use Rattle.refusal.specs.Lent.{over}
 use Rattle.common.specs.Deviation.{zero64, countLimit, outsideUnit}
-use Rattle.common.specs.RangeVector.{Ranges, Outcome, answered, unblocked}
+use Rattle.ranges.specs.RangeVector.{Ranges, RangeOutcome, rangeOutcomeBy, unblocked}
 use Rattle.trcf.specs.Types.{isNone, differences}
-use Rattle.trcf.specs.Settings.{allOne}
+use Rattle.trcf.specs.Settings.{inputLimit, allOne}
 use Rattle.trcf.specs.Transformer.{Transformer, zero32, updated, transformed, inverted, invertedForecast, scales, shifts, differenceDeviations}
 use Rattle.trcf.specs.declared.types.TransformMethod.{TransformMethod}
 use Rattle.trcf.specs.declared.types.TransformMethod.the-variants.{NONE}
 use Rattle.trcf.specs.declared.transformer.WeightedTransformer.{WeightedTransformer}
 
 -- the abstract transformer: what the head holds, and the numbers of the lent list l
-abbrev pub view : WeightedTransformer → List Float → Transformer
-view h l =
+abbrev pub transformerView : WeightedTransformer → List Float → Transformer
+transformerView h l =
     record {
       method = h .«transform_method»;
       d = h .«input_length»;
@@ -30,7 +30,7 @@ view h l =
 
 -- the numbers of a list that are statistics of d channels: five of three numbers each
 abbrev pub own : WeightedTransformer → List Float → Transformer
-own h l = view h (take (15 * h .«input_length») l)
+own h l = transformerView h (take (15 * h .«input_length») l)
 
 -- ---- rows, over the lengths of what is lent. Rows 2 and 4 ask of a head what `new` asked, since a caller can make one by hand.
 
@@ -42,7 +42,7 @@ unfoldable pub newRow : TransformMethod → ℕ → Float → List Float → ℕ
 newRow m d decay w s =
     firstOf
     ((eqb d 0, 2)
-    ∷ (ltb 16 d, 4)
+    ∷ (ltb inputLimit d, 4)
     ∷ (not (eqb (length w) d), 5)
     ∷ (outsideUnit decay, 6)
     ∷ (isNone m && not (allOne w), 9)
@@ -51,22 +51,22 @@ newRow m d decay w s =
 
 unfoldable pub updateRow : ℕ → ℕ → ℕ → ℕ → ℕ → ℕ
 updateRow d x p count s =
-    firstOf ((eqb d 0, 2) ∷ (ltb 16 d, 4) ∷ (notLong d x p, 10) ∷ (leb countLimit count, 18) ∷ (ltb s (15 * d), 20) ∷ [])
+    firstOf ((eqb d 0, 2) ∷ (ltb inputLimit d, 4) ∷ (notLong d x p, 10) ∷ (leb countLimit count, 18) ∷ (ltb s (15 * d), 20) ∷ [])
 
 -- `transform` and `invert`, into a list of the length o
 unfoldable pub transformRow : ℕ → ℕ → ℕ → ℕ → ℕ → ℕ
-transformRow d x p s o = firstOf ((eqb d 0, 2) ∷ (ltb 16 d, 4) ∷ (notLong d x p, 10) ∷ (ltb s (15 * d) || ltb o d, 20) ∷ [])
+transformRow d x p s o = firstOf ((eqb d 0, 2) ∷ (ltb inputLimit d, 4) ∷ (notLong d x p, 10) ∷ (ltb s (15 * d) || ltb o d, 20) ∷ [])
 
 -- `scale`, `shift` and `difference_deviations`
 unfoldable pub outputRow : ℕ → ℕ → ℕ → ℕ
-outputRow d s o = firstOf ((eqb d 0, 2) ∷ (ltb 16 d, 4) ∷ (ltb s (15 * d) || ltb o d, 20) ∷ [])
+outputRow d s o = firstOf ((eqb d 0, 2) ∷ (ltb inputLimit d, 4) ∷ (ltb s (15 * d) || ltb o d, 20) ∷ [])
 
 -- row 16: "unequal lengths; where blocks are cascaded, none or a broken one"
 unfoldable pub forecastRow : TransformMethod → ℕ → ℕ → ℕ → ℕ → ℕ → ℕ → ℕ
 forecastRow m d p v u l s =
     firstOf
     ((eqb d 0, 2)
-    ∷ (ltb 16 d, 4)
+    ∷ (ltb inputLimit d, 4)
     ∷ (not (eqb p d), 10)
     ∷ (not (eqb v u && eqb v l), 16)
     ∷ (differences m && unblocked d v, 16)
@@ -89,61 +89,61 @@ madeBy zero refused done = done
 madeBy (suc n) refused done = refused
 
 -- a row, and the lent list of the answer
-pub record Written : Type 0 where
+pub record TransformerOutput : Type 0 where
   pub row : ℕ
   pub output : List Float
 
-abbrev pub written : ℕ → List Float → Written
-written n l = record { row = n; output = l }
+abbrev pub transformerOutput : ℕ → List Float → TransformerOutput
+transformerOutput n l = record { row = n; output = l }
 
 -- the answer a stands at the front of the lent list l, unless a row refuses
-abbrev pub writtenBy : ℕ → List Float → List Float → Written
-writtenBy zero l a = written 0 (over l a)
-writtenBy (suc n) l a = written (suc n) l
+abbrev pub transformerOutputBy : ℕ → List Float → List Float → TransformerOutput
+transformerOutputBy zero l a = transformerOutput 0 (over l a)
+transformerOutputBy (suc n) l a = transformerOutput (suc n) l
 
 -- ---- the calls
 
-abbrev pub headOf : TransformMethod → ℕ → Float → List Float → ℕ → WeightedTransformer
-headOf m d decay w n = record { «transform_method» = m; «input_length» = d; «transform_decay» = decay; weights = w; count = n }
+abbrev pub transformerHead : TransformMethod → ℕ → Float → List Float → ℕ → WeightedTransformer
+transformerHead m d decay w n = record { «transform_method» = m; «input_length» = d; «transform_decay» = decay; weights = w; count = n }
 
 -- what stands in a refused answer
-abbrev pub noHead : WeightedTransformer
-noHead = headOf NONE 0 zero64 (replicate 16 zero32) 0
+abbrev pub noTransformer : WeightedTransformer
+noTransformer = transformerHead NONE 0 zero64 (replicate inputLimit zero32) 0
 
 -- all statistics empty
-unfoldable pub newOf : TransformMethod → ℕ → Float → List Float → List Float → Made
-newOf m d decay w l =
+unfoldable pub transformerNew : TransformMethod → ℕ → Float → List Float → List Float → Made
+transformerNew m d decay w l =
     let n = newRow m d decay w (length l) in
-    madeBy n (made n noHead l) (made 0 (headOf m d decay (over (replicate 16 zero32) w) 0) (over l (replicate (15 * d) zero64)))
+    madeBy n (made n noTransformer l) (made 0 (transformerHead m d decay (over (replicate inputLimit zero32) w) 0) (over l (replicate (15 * d) zero64)))
 
-abbrev pub counted : WeightedTransformer → WeightedTransformer
-counted h = headOf (h .«transform_method») (h .«input_length») (h .«transform_decay») (h .weights) (h .count + 1)
+abbrev pub countedUp : WeightedTransformer → WeightedTransformer
+countedUp h = transformerHead (h .«transform_method») (h .«input_length») (h .«transform_decay») (h .weights) (h .count + 1)
 
-unfoldable pub updateOf : WeightedTransformer → List Float → List Float → List Float → Made
-updateOf h l x p =
+unfoldable pub transformerUpdate : WeightedTransformer → List Float → List Float → List Float → Made
+transformerUpdate h l x p =
     let n = updateRow (h .«input_length») (length x) (length p) (h .count) (length l) in
-    madeBy n (made n h l) (made 0 (counted h) (over l (updated (own h l) x p)))
+    madeBy n (made n h l) (made 0 (countedUp h) (over l (updated (own h l) x p)))
 
-unfoldable pub transformOf : WeightedTransformer → List Float → List Float → List Float → List Float → Written
-transformOf h l x p out =
-    writtenBy (transformRow (h .«input_length») (length x) (length p) (length l) (length out)) out (transformed (own h l) x p)
+unfoldable pub transformerTransform : WeightedTransformer → List Float → List Float → List Float → List Float → TransformerOutput
+transformerTransform h l x p out =
+    transformerOutputBy (transformRow (h .«input_length») (length x) (length p) (length l) (length out)) out (transformed (own h l) x p)
 
-unfoldable pub invertOf : WeightedTransformer → List Float → List Float → List Float → List Float → Written
-invertOf h l x p out =
-    writtenBy (transformRow (h .«input_length») (length x) (length p) (length l) (length out)) out (inverted (own h l) x p)
+unfoldable pub transformerInvert : WeightedTransformer → List Float → List Float → List Float → List Float → TransformerOutput
+transformerInvert h l x p out =
+    transformerOutputBy (transformRow (h .«input_length») (length x) (length p) (length l) (length out)) out (inverted (own h l) x p)
 
 -- in place on the three lists
-unfoldable pub invertForecastOf : WeightedTransformer → List Float → List Float → Ranges → Outcome
-invertForecastOf h l p v =
-    answered
+unfoldable pub transformerInvertForecast : WeightedTransformer → List Float → List Float → Ranges → RangeOutcome
+transformerInvertForecast h l p v =
+    rangeOutcomeBy
     (forecastRow (h .«transform_method») (h .«input_length») (length p) (length (v .values)) (length (v .upper)) (length (v .lower)) (length l)) v
     (invertedForecast (own h l) p v)
 
-unfoldable pub scaleOf : WeightedTransformer → List Float → List Float → Written
-scaleOf h l out = writtenBy (outputRow (h .«input_length») (length l) (length out)) out (scales (own h l))
+unfoldable pub transformerScale : WeightedTransformer → List Float → List Float → TransformerOutput
+transformerScale h l out = transformerOutputBy (outputRow (h .«input_length») (length l) (length out)) out (scales (own h l))
 
-unfoldable pub shiftOf : WeightedTransformer → List Float → List Float → Written
-shiftOf h l out = writtenBy (outputRow (h .«input_length») (length l) (length out)) out (shifts (own h l))
+unfoldable pub transformerShift : WeightedTransformer → List Float → List Float → TransformerOutput
+transformerShift h l out = transformerOutputBy (outputRow (h .«input_length») (length l) (length out)) out (shifts (own h l))
 
-unfoldable pub differenceDeviationsOf : WeightedTransformer → List Float → List Float → Written
-differenceDeviationsOf h l out = writtenBy (outputRow (h .«input_length») (length l) (length out)) out (differenceDeviations (own h l))
+unfoldable pub transformerDifferenceDeviations : WeightedTransformer → List Float → List Float → TransformerOutput
+transformerDifferenceDeviations h l out = transformerOutputBy (outputRow (h .«input_length») (length l) (length out)) out (differenceDeviations (own h l))

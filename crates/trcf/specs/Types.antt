@@ -1,4 +1,5 @@
 -- The numbers and letters of the settings' kinds: document 01, 'Trace text'.
+use Prim.Native.Char.{code}
 use Prim.Native.Nat.{ℕ}
 use mathlib.Core.Bool.{Bool, true, false, cond}
 use lib.Dec.{eqb}
@@ -25,14 +26,14 @@ methodOfNumber n =
 
 -- "mode (S STANDARD, T TIME_AUGMENTED)", as a byte, and "letter G in `set`" (request 114); row 1 refuses STREAMING_IMPUTE, which has no letter in a text
 abbrev pub modeLetter : ForestMode → ℕ
-modeLetter STANDARD = 83
-modeLetter «TIME_AUGMENTED» = 84
-modeLetter «STREAMING_IMPUTE» = 73
-modeLetter «GAP_AUGMENTED» = 71
+modeLetter STANDARD = code "S"
+modeLetter «TIME_AUGMENTED» = code "T"
+modeLetter «STREAMING_IMPUTE» = code "I"
+modeLetter «GAP_AUGMENTED» = code "G"
 
 -- and back; whatever is no letter of a text names the mode that row 1 refuses
 abbrev pub modeOfLetter : ℕ → ForestMode
-modeOfLetter n = cond (eqb n 83) STANDARD (cond (eqb n 84) «TIME_AUGMENTED» (cond (eqb n 71) «GAP_AUGMENTED» «STREAMING_IMPUTE»))
+modeOfLetter n = cond (eqb n (code "S")) STANDARD (cond (eqb n (code "T")) «TIME_AUGMENTED» (cond (eqb n (code "G")) «GAP_AUGMENTED» «STREAMING_IMPUTE»))
 
 abbrev pub isNone : TransformMethod → Bool
 isNone NONE = true
@@ -71,7 +72,7 @@ centres «NORMALIZE_DIFFERENCE» = false
 
 -- ---- what depends on the mode
 
--- whether a transformed reading has a time element behind the channels'
+-- whether a transformed reading has a time element after the channels'
 abbrev pub augments : ForestMode → Bool
 augments STANDARD = false
 augments «TIME_AUGMENTED» = true
@@ -79,8 +80,8 @@ augments «STREAMING_IMPUTE» = false
 augments «GAP_AUGMENTED» = true
 
 -- whether that element is the gap from the newest time, to which no drift belongs (request 114: "as in T … but")
-abbrev pub gaps : ForestMode → Bool
-gaps STANDARD = false
-gaps «TIME_AUGMENTED» = false
-gaps «STREAMING_IMPUTE» = false
-gaps «GAP_AUGMENTED» = true
+abbrev pub isGap : ForestMode → Bool
+isGap STANDARD = false
+isGap «TIME_AUGMENTED» = false
+isGap «STREAMING_IMPUTE» = false
+isGap «GAP_AUGMENTED» = true

@@ -10,11 +10,11 @@ use lib.ListN.{length, take, replicate}
 use lib.Ieee.{Float, lt}
 use Rattle.common.specs.Deviation.{zero64, countLimit}
 use Rattle.trcf.specs.Lists.{null, lastOr}
-use Rattle.common.specs.Refusal.{firstOf}
-use Rattle.common.specs.Lent.{over}
+use Rattle.refusal.specs.Refusal.{firstOf}
+use Rattle.refusal.specs.Lent.{over}
 use Rattle.trcf.specs.Transformer.{zero32}
-use Rattle.trcf.specs.Types.{normalizes, methodNumber, modeLetter, gaps}
-use Rattle.trcf.specs.Settings.{Settings, transformer, settingsRow, block, dimension, waiting}
+use Rattle.trcf.specs.Types.{normalizes, methodNumber, modeLetter, isGap}
+use Rattle.trcf.specs.Settings.{Settings, inputLimit, shingleLimit, startBound, transformer, settingsRow, block, dimension, waiting}
 use Rattle.trcf.specs.Calls.{Learn, Call, shingledPoint, postProcess, drain, status, rows, seenLimit, given}
 use Rattle.trcf.specs.Preprocessor.{State, Answer, refused, absent, done, wrote, learnt, turned, told, Status, Anomaly, deviations, statisticsLength, fresh, facts, change, isReady, panelOf, reply, accepted}
 use Rattle.trcf.specs.declared.types.TransformMethod.the-variants.{NONE}
@@ -77,7 +77,7 @@ view h l =
       initialTimestamps = take (h .«initial_len») (l .initialTimestamps);
     }
 
--- ---- a state laid back: its counters into the head, its lists over the lent ones, of which what lies behind stays
+-- ---- a state written back: its counters into the head, its lists over the lent ones, of which what lies past them stays
 
 abbrev pub counting : Preprocessor → ℕ → ℕ → ℕ → ℕ → Preprocessor
 counting h count seen internal n =
@@ -103,8 +103,8 @@ counting h count seen internal n =
 abbrev pub counted : Preprocessor → State → Preprocessor
 counted h w = counting h (w .count) (w .valuesSeen) (w .internalTimestamp) (length (w .initialTimestamps))
 
-unfoldable pub laid : State → Lent → Lent
-laid w l =
+unfoldable pub writtenOver : State → Lent → Lent
+writtenOver w l =
     lent (over (l .statistics) (w .statistics)) (over (l .lastShingledInput) (w .lastShingledInput))
     (over (l .lastShingledPoint) (w .lastShingledPoint)) (over (l .previousTimestamps) (w .previousTimestamps))
     (over (l .initialValues) (w .initialValues)) (over (l .initialTimestamps) (w .initialTimestamps))
@@ -116,8 +116,8 @@ abbrev pub headTable : Settings → List (Bool × ℕ)
 headTable s =
     (eqb (s .d) 0, 2)
     ∷ (eqb (s .k) 0, 3)
-    ∷ (ltb 16 (s .d) || ltb 64 (s .k), 4)
-    ∷ (leb 2000 (s .start), 8)
+    ∷ (ltb inputLimit (s .d) || ltb shingleLimit (s .k), 4)
+    ∷ (leb startBound (s .start), 8)
     ∷ []
 
 unfoldable pub headRow : Settings → ℕ
@@ -151,14 +151,14 @@ miscounted s seen internal count initial =
     || cond (waiting s seen) (not (eqb initial seen) || not (eqb internal 0)) (leftOver s seen internal initial)))
 
 -- the head's counters are such
-unfoldable pub misfit : Preprocessor → Bool
-misfit h = miscounted (settingsOf h) (h .«values_seen») (h .«internal_timestamp») (h .transformer .count) (h .«initial_len»)
+unfoldable pub countersUnfit : Preprocessor → Bool
+countersUnfit h = miscounted (settingsOf h) (h .«values_seen») (h .«internal_timestamp») (h .transformer .count) (h .«initial_len»)
 
 unfoldable pub shortRow : Settings → Lent → ℕ
 shortRow s l = firstOf ((lentShort s l, 20) ∷ [])
 
 unfoldable pub lentRow : Preprocessor → Lent → ℕ
-lentRow h l = cond (misfit h) 20 (shortRow (settingsOf h) l)
+lentRow h l = cond (countersUnfit h) 20 (shortRow (settingsOf h) l)
 
 -- the second only where the first is 0
 abbrev pub orElse : ℕ → ℕ → ℕ
@@ -167,19 +167,19 @@ orElse (suc n) m = suc n
 
 -- a head that comes from outside: rows 1 to 9, and 20 for counters that no preprocessor has
 unfoldable pub outsideRow : Preprocessor → ℕ
-outsideRow h = orElse (settingsRow (settingsOf h)) (cond (misfit h) 20 0)
+outsideRow h = orElse (settingsRow (settingsOf h)) (cond (countersUnfit h) 20 0)
 
 -- the row by which every call refuses the head itself, 0 for none
 unfoldable pub ownRow : Preprocessor → ℕ
-ownRow h = orElse (headRow (settingsOf h)) (cond (misfit h) 20 0)
+ownRow h = orElse (headRow (settingsOf h)) (cond (countersUnfit h) 20 0)
 
 -- what a row 0 says of each
 pub record Bounded (s : Settings) : Type 0 where
   pub d-pos : 0 < s .d
-  pub d-few : s .d ≤ 16
+  pub d-few : s .d ≤ inputLimit
   pub k-pos : 0 < s .k
-  pub k-few : s .k ≤ 64
-  pub start-few : s .start < 2000
+  pub k-few : s .k ≤ shingleLimit
+  pub start-few : s .start < startBound
 
 pub record Roomy (s : Settings) (l : Lent) : Type 0 where
   pub in-statistics : statisticsLength s ≤ length (l .statistics)
@@ -260,7 +260,7 @@ pub record Accepted (s : Settings) : Type 0 where
   pub weighted : length (s .weights) ≡ s .d
   pub coded : length (s .codes) ≡ s .d
 
--- "a fresh watch is what `build` gives"; an array holds the weights, and one the codes, zeros behind them
+-- "a fresh watch is what `build` gives"; an array holds the weights, and one the codes, zeros after them
 abbrev pub headFrom : Settings → Preprocessor
 headFrom s =
     record {
@@ -268,7 +268,7 @@ headFrom s =
         «transform_method» = s .method;
         «input_length» = s .d;
         «transform_decay» = s .decay;
-        weights = over (replicate 16 zero32) (s .weights);
+        weights = over (replicate inputLimit zero32) (s .weights);
         count = 0;
       };
       «forest_mode» = s .mode;
@@ -279,7 +279,7 @@ headFrom s =
       «values_seen» = 0;
       «internal_timestamp» = 0;
       «initial_len» = 0;
-      codes = over (replicate 16 0) (s .codes);
+      codes = over (replicate inputLimit 0) (s .codes);
     }
 
 -- what a refused `build` hands back: every call refuses it
@@ -301,7 +301,7 @@ unfoldable pub buildRow : Settings → Lent → ℕ
 buildRow s l = orElse (settingsRow s) (lentRow (headFrom s) l)
 
 unfoldable pub buildOf : Settings → Lent → Outcome
-buildOf s l = accepted (buildRow s l) (outcome 0 (headFrom s) (laid (fresh s) l)) (outcome (buildRow s l) noHead l)
+buildOf s l = accepted (buildRow s l) (outcome 0 (headFrom s) (writtenOver (fresh s) l)) (outcome (buildRow s l) noHead l)
 
 -- ---- a call on what is held
 
@@ -312,7 +312,7 @@ unfoldable pub headAfter : Preprocessor → Lent → Call → Preprocessor
 headAfter h l c = accepted (rowOf h l c) (counted h (change (view h l) c)) h
 
 unfoldable pub lentAfter : Preprocessor → Lent → Call → Lent
-lentAfter h l c = accepted (rowOf h l c) (laid (change (view h l) c) l) l
+lentAfter h l c = accepted (rowOf h l c) (writtenOver (change (view h l) c) l) l
 
 -- a call that writes one list, read as its row and that list
 pub record Written : Type 0 where
@@ -398,8 +398,8 @@ statusGiven r out =
     }
 
 -- Refused, it tells the row alone: every number is 0, nothing is ready, the two kinds are those of number 0, and the output is left.
-abbrev pub untold : List Float → Status
-untold out =
+abbrev pub noStatus : List Float → Status
+noStatus out =
     record {
       valuesSeen = 0;
       internalTimestamp = 0;
@@ -415,12 +415,12 @@ untold out =
     }
 
 abbrev pub statusRead : List Float → Answer → StatusOutcome
-statusRead out (refused n) = record { row = n; numbers = untold out }
-statusRead out absent = record { row = 0; numbers = untold out }
-statusRead out done = record { row = 0; numbers = untold out }
-statusRead out (wrote v) = record { row = 0; numbers = untold out }
-statusRead out (learnt a) = record { row = 0; numbers = untold out }
-statusRead out (turned a) = record { row = 0; numbers = untold out }
+statusRead out (refused n) = record { row = n; numbers = noStatus out }
+statusRead out absent = record { row = 0; numbers = noStatus out }
+statusRead out done = record { row = 0; numbers = noStatus out }
+statusRead out (wrote v) = record { row = 0; numbers = noStatus out }
+statusRead out (learnt a) = record { row = 0; numbers = noStatus out }
+statusRead out (turned a) = record { row = 0; numbers = noStatus out }
 statusRead out (told s) = record { row = 0; numbers = s }
 
 unfoldable pub statusAfter : Preprocessor → Lent → List Float → StatusOutcome
@@ -487,7 +487,7 @@ newestOf h ts vt = cond (eqb (h .«internal_timestamp») 0) (lastOr 0 (take (h .
 
 -- the time that a point's and a transform's time element is counted from
 unfoldable pub timeBaseOf : Preprocessor → List ℕ → List ℕ → ℕ
-timeBaseOf h ts vt = cond (gaps (h .«forest_mode»)) (newestOf h ts vt) (lastOr 0 (take (h .«shingle_size») ts))
+timeBaseOf h ts vt = cond (isGap (h .«forest_mode»)) (newestOf h ts vt) (lastOr 0 (take (h .«shingle_size») ts))
 
 -- rows 18 and 20 while waiting
 unfoldable pub waitingRow : Preprocessor → ℕ → ℕ

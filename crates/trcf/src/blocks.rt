@@ -4,16 +4,16 @@ use crate::types::TransformMethod;
 use crate::types::is_differencing;
 use crate::types::is_none;
 use crate::types::is_normalizing;
-use common::rangevector::Range32;
+use ranges::rangevector::Range32;
 ghost use mathlib.Core.Path.{_≡_};
 ghost use mathlib.Core.Bool.{cond};
 ghost use Prim.Native.Nat.{_+_, _*_, _≤_, _<_};
 ghost use lib.IntN.{pos};
 ghost use lib.ListN.{length};
 ghost use lib.Ieee.{binary32, ofInt};
-ghost use Rattle.common.specs.RangeVector.{ranges};
+ghost use Rattle.ranges.specs.RangeVector.{ranges};
 ghost use Rattle.trcf.specs.Types.{differences};
-ghost use Rattle.trcf.specs.Steps.Blocks.{plain, placesBy, turnBy, driftPlace, turnPlace, moves, placeOf, Carried};
+ghost use Rattle.trcf.specs.Steps.Blocks.{plain, placesBy, turnBy, driftPlace, turnPlace, moves, invertPlace, Carried};
 
 // The nearest f32; the machine's own conversion is exact up to 2^24.
 fn block_number(i: usize) -> f32
@@ -173,7 +173,7 @@ pub(crate) fn turn_block(
     requires { ⌜ (d ≤ 16) × (i * d + d ≤ length (now values)) × (length (now bases) ≡ 16) ⌝ }
     requires { ⌜ (length (now upper) ≡ length (now values)) × (length (now lower) ≡ length (now values)) ⌝ }
     ensures { λ _. ⌜ ranges (now (values .exit)) (now (upper .exit)) (now (lower .exit))
-        ≡ placesBy (placeOf m i (now (factors .entry)) (now (scales .entry)) (now (drifts .entry)) (now (bases .entry))) (i * d) d
+        ≡ placesBy (invertPlace m i (now (factors .entry)) (now (scales .entry)) (now (drifts .entry)) (now (bases .entry))) (i * d) d
         (ranges (now (values .entry)) (now (upper .entry)) (now (lower .entry))) ⌝ }
     ensures { λ _. ⌜ Carried (differences m) (i * d) d (now (values .exit)) (now (bases .entry)) (now (bases .exit)) ⌝ }
 {

@@ -2,6 +2,9 @@
 // from it, and what the calls answer with it.
 use crate::transformer::WeightedTransformer;
 use crate::types::ForestMode;
+use crate::types::INPUT_LIMIT;
+use crate::types::SHINGLE_LIMIT;
+use crate::types::START_BOUND;
 use crate::types::TransformMethod;
 use crate::types::is_augmented;
 use crate::types::is_normalizing;
@@ -152,13 +155,13 @@ pub fn head_row(head: Preprocessor) -> u64
     if k == 0 {
         return 3;
     }
-    if 16 < d {
+    if INPUT_LIMIT < d {
         return 4;
     }
-    if 64 < k {
+    if SHINGLE_LIMIT < k {
         return 4;
     }
-    if 2000 <= start {
+    if START_BOUND <= start {
         return 8;
     }
     0
@@ -183,7 +186,7 @@ pub fn block_of(m: ForestMode, d: usize) -> usize
     ensures { λ r. ⌜ r ≡ whereFits (within d 16) (d + cond (augments m) 1 0) 0 ⌝ }
     ensures { λ r. ⌜ r ≤ 17 ⌝ }
 {
-    if 16 < d {
+    if INPUT_LIMIT < d {
         return 0;
     }
     if is_augmented(m) { d + 1 } else { d }

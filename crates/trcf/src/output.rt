@@ -1,4 +1,4 @@
-// What the calls write to lent output: the channels' numbers and, where the mode has a time element, the time's behind them.
+// What the calls write to lent output: the channels' numbers and, where the mode has a time element, the time's after them.
 use crate::head::Preprocessor;
 use crate::lengths::output_fits;
 use crate::lengths::transform_fits;
@@ -17,7 +17,7 @@ ghost use mathlib.Core.Path.{_≡_};
 ghost use mathlib.Core.List.{[]};
 ghost use Prim.Native.Nat.{_*_, _≤_};
 ghost use lib.ListN.{length};
-ghost use Rattle.common.specs.Lent.{over};
+ghost use Rattle.refusal.specs.Lent.{over};
 ghost use Rattle.trcf.specs.Settings.{block};
 ghost use Rattle.trcf.specs.Preprocessor.{statisticsLength, reading, transformedAfter, scaleOf, shiftOf, deviations};
 ghost use Rattle.trcf.specs.Lengths.{whereFits, outputFits, transformFits};

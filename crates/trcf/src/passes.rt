@@ -11,7 +11,7 @@ ghost use lib.ListN.{length};
 ghost use Rattle.numeric.specs.Root.{rootOf};
 ghost use Rattle.common.specs.Deviation.{countLimit, factorOf, stepOf};
 ghost use Rattle.trcf.specs.Transformer.{statisticAt, slowDecay, channelsFed};
-ghost use Rattle.trcf.specs.Steps.Passes.{radicandOf, stepAt, firstAt, lastAt, firsts, noted, lasts};
+ghost use Rattle.trcf.specs.Steps.Passes.{radicandOf, stepAt, firstAt, lastAt, firsts, radicands, lasts};
 
 // What the deviation is the root of; 0, which is its own root, where there is nothing to take a root of.
 fn radicand(t: Deviation) -> f64
@@ -105,7 +105,7 @@ fn first_pass(
     requires { ⌜ f ≡ factorOf decay count ⌝ }
     requires { ⌜ g ≡ factorOf (slowDecay decay) count ⌝ }
     ensures { λ _. ⌜ now (s .exit) ≡ firsts d (now (s .entry)) d decay count (now (input .entry)) (now (previous .entry)) ⌝ }
-    ensures { λ _. ⌜ now (a .exit) ≡ noted d (now (a .entry)) (now (s .entry)) d decay count (now (input .entry)) (now (previous .entry)) ⌝ }
+    ensures { λ _. ⌜ now (a .exit) ≡ radicands d (now (a .entry)) (now (s .entry)) d decay count (now (input .entry)) (now (previous .entry)) ⌝ }
 {
     let mut i = 0;
     while i < d {
@@ -160,7 +160,7 @@ pub(crate) fn feed_channels(
     requires { ⌜ f ≡ factorOf decay count ⌝ }
     requires { ⌜ g ≡ factorOf (slowDecay decay) count ⌝ }
     ensures { λ _. ⌜ now (s .exit) ≡ channelsFed d (now (s .entry)) d decay count (now (input .entry)) (now (previous .entry)) ⌝ }
-    ensures { λ _. ⌜ now (a .exit) ≡ map rootOf (noted d (now (a .entry)) (now (s .entry)) d decay count (now (input .entry)) (now (previous .entry))) ⌝ }
+    ensures { λ _. ⌜ now (a .exit) ≡ map rootOf (radicands d (now (a .entry)) (now (s .entry)) d decay count (now (input .entry)) (now (previous .entry))) ⌝ }
 {
     first_pass(s, a, d, decay, count, input, previous, f, g);
     numeric::sqrt_each(a);

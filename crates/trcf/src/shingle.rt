@@ -49,7 +49,7 @@ pub fn copy_in(dst: &mut [f32], at: usize, src: &[f32])
     }
 }
 
-// The front block drops out, and p comes in behind.
+// The front block drops out, and p comes in at the end.
 pub(crate) fn shift_vector_fitting(s: &mut [f32], p: &[f32])
     requires { ⌜ length (now p) ≤ length (now s) ⌝ }
     ensures { λ _. ⌜ now (s .exit) ≡ shiftIn (now (s .entry)) (now (p .entry)) ⌝ }
@@ -73,7 +73,7 @@ pub fn shift_vector(s: &mut [f32], p: &[f32])
     }
 }
 
-// The oldest time drops out, and t comes in behind.
+// The oldest time drops out, and t comes in at the end.
 pub(crate) fn shift_time_fitting(s: &mut [u64], t: u64)
     requires { ⌜ 0 < length (now s) ⌝ }
     ensures { λ _. ⌜ now (s .exit) ≡ shiftIn (now (s .entry)) (t ∷ []) ⌝ }

@@ -8,7 +8,7 @@ ghost use Prim.Native.Nat.{_+_, _*_, _≤_, _<_};
 ghost use lib.ListN.{length};
 ghost use Rattle.common.specs.Deviation.{countLimit, factorOf, stepOf};
 ghost use Rattle.trcf.specs.Transformer.{statisticAt, putStatistic, deviationsAt, putDeviations, slowDecay, fed, meanAt, fedAt};
-ghost use Rattle.trcf.specs.Steps.Timestamps.{listed, gathered, IsFactor, Ready};
+ghost use Rattle.trcf.specs.Steps.Timestamps.{listed, gathered, IsFactor, Feedable};
 
 // The five statistics of one channel, or of the time.
 pub struct Deviations {
@@ -94,7 +94,7 @@ pub(crate) fn step(t: Deviation, f: f64, x: f64) -> Deviation
 
 // f is the factor of the first two and g that of the others.
 pub(crate) fn feed(t: Deviations, x: f64, dx: f64, f: f64, g: f64) -> Deviations
-    requires { ⌜ Ready f g t ⌝ }
+    requires { ⌜ Feedable f g t ⌝ }
     ensures { λ r. ⌜ r ≡ fed t x dx ⌝ }
 {
     let value = step(t.value, f, x);
@@ -113,7 +113,7 @@ pub(crate) fn feed(t: Deviations, x: f64, dx: f64, f: f64, g: f64) -> Deviations
 
 // Each record is read and the five are fed by value; then each is stored back.
 fn update_timestamps(deviations: &mut [Deviation], x: f64, dx: f64, f: f64, g: f64)
-    requires { ⌜ (length (now deviations) ≡ 5) × Ready f g (gathered (now deviations)) ⌝ }
+    requires { ⌜ (length (now deviations) ≡ 5) × Feedable f g (gathered (now deviations)) ⌝ }
     ensures { λ _. ⌜ now (deviations .exit) ≡ listed (fed (gathered (now (deviations .entry))) x dx) ⌝ }
 {
     let t = Deviations {
@@ -139,7 +139,7 @@ fn feed_timestamps(
     f: f64,
     g: f64,
 ) -> [Deviation; 5]
-    requires { ⌜ Ready f g (gathered deviations) ⌝ }
+    requires { ⌜ Feedable f g (gathered deviations) ⌝ }
     ensures { λ r. ⌜ r ≡ listed (fed (gathered deviations) x dx) ⌝ }
 {
     update_timestamps(&mut deviations, x, dx, f, g);

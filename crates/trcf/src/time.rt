@@ -1,4 +1,4 @@
-// What the time's five statistics say: they lie behind the channels' in the lent list.
+// What the time's five statistics say: they lie after the channels' in the lent list.
 use crate::feeding::since;
 use crate::head::Preprocessor;
 use crate::lengths::time_fits;

@@ -2,6 +2,7 @@
 use crate::blocks::turn_block;
 use crate::passes::feed_channels;
 use crate::statistics::mean_at;
+use crate::types::INPUT_LIMIT;
 use crate::types::TransformMethod;
 use crate::types::is_centring;
 use crate::types::is_differencing;
@@ -18,17 +19,17 @@ ghost use Prim.Native.Nat.{_+_, _*_, _≤_, _<_};
 ghost use lib.ListN.{length, getD, replicate};
 ghost use lib.Ieee.{nan, binary32, binary64, add, mul};
 ghost use Rattle.numeric.specs.Narrow.{narrowed};
-ghost use Rattle.common.specs.Refusal.{firstOf};
-ghost use Rattle.common.specs.Lent.{over};
+ghost use Rattle.refusal.specs.Refusal.{firstOf};
+ghost use Rattle.refusal.specs.Lent.{over};
 ghost use Rattle.common.specs.Deviation.{zero64, one64, countLimit, outsideUnit, factorOf};
-ghost use Rattle.common.specs.RangeVector.{ranges, outcome, unblocked};
+ghost use Rattle.ranges.specs.RangeVector.{ranges, rangeOutcome, unblocked};
 ghost use Rattle.trcf.specs.Types.{isNone, normalizes, differences, centres};
 ghost use Rattle.trcf.specs.Settings.{allOne};
 ghost use Rattle.trcf.specs.Transformer.{zero32, slowDecay, updated, meanAt, weightAt, normalizedScale, transformBy, transformed, unweighted, invertBy, inverted, reciprocal, invertedForecast, scales, shifts, differenceDeviations};
 ghost use Rattle.trcf.specs.Lengths.{whereFits, passes};
-ghost use Rattle.trcf.specs.TransformerCalls.{view, made, written, newRow, updateRow, transformRow, outputRow, forecastRow, newOf, updateOf, transformOf, invertOf, invertForecastOf, scaleOf, shiftOf, differenceDeviationsOf};
+ghost use Rattle.trcf.specs.TransformerCalls.{transformerView, made, transformerOutput, newRow, updateRow, transformRow, outputRow, forecastRow, transformerNew, transformerUpdate, transformerTransform, transformerInvert, transformerInvertForecast, transformerScale, transformerShift, transformerDifferenceDeviations};
 ghost use Rattle.trcf.specs.Steps.Sound.{Sound};
-ghost use Rattle.trcf.specs.Steps.Blocks.{Held};
+ghost use Rattle.trcf.specs.Steps.Blocks.{FactorsIn};
 
 // The settings of a transform and how many readings the statistics were fed; the first `input_length` weights count.
 pub struct WeightedTransformer {
@@ -60,7 +61,7 @@ pub(crate) fn update_channels(
     requires { ⌜ length (now previous) ≡ t .«input_length» ⌝ }
     requires { ⌜ f ≡ factorOf (t .«transform_decay») (t .count) ⌝ }
     requires { ⌜ g ≡ factorOf (slowDecay (t .«transform_decay»)) (t .count) ⌝ }
-    ensures { λ _. ⌜ now (s .exit) ≡ updated (view t (now (s .entry))) (now (input .entry)) (now (previous .entry)) ⌝ }
+    ensures { λ _. ⌜ now (s .exit) ≡ updated (transformerView t (now (s .entry))) (now (input .entry)) (now (previous .entry)) ⌝ }
 {
     let d = t.input_length;
     let decay = t.transform_decay;
@@ -84,17 +85,18 @@ fn normalized_scale(s: &[f64], d: usize, i: usize) -> f32
     numeric::to_f32(mean_at(s, i + 2 * d) + 1.0)
 }
 
-// One channel's reading x, after p.
-fn transform_at(t: WeightedTransformer, s: &[f64], i: usize, x: f32, p: f32) -> f32
+// One channel's reading x, after p. The weight is handed over beside the transformer, so that no list of weights is copied for a channel.
+fn transform_at(t: WeightedTransformer, w: f32, s: &[f64], i: usize, x: f32, p: f32) -> f32
     requires { ⌜ Sound t (length (now s)) ⌝ }
     requires { ⌜ i < t .«input_length» ⌝ }
-    ensures { λ r. ⌜ r ≡ transformBy (t .«transform_method») (view t (now (s .entry))) i x p ⌝ }
+    requires { ⌜ w ≡ weightAt (transformerView t (now s)) i ⌝ }
+    ensures { λ r. ⌜ r ≡ transformBy (t .«transform_method») (transformerView t (now (s .entry))) i x p ⌝ }
 {
     let d = t.input_length;
     let m = t.transform_method;
     match m {
         TransformMethod::NONE => x,
-        TransformMethod::WEIGHTED => x * t.weights[i],
+        TransformMethod::WEIGHTED => x * w,
         TransformMethod::DIFFERENCE => x - p,
         TransformMethod::SUBTRACT_MA => x - narrow_mean_at(s, i),
         TransformMethod::NORMALIZE => { (x - narrow_mean_at(s, i)) / normalized_scale(s, d, i) }
@@ -113,12 +115,13 @@ pub(crate) fn transform_into(
     requires { ⌜ length (now input) ≡ t .«input_length» ⌝ }
     requires { ⌜ length (now previous) ≡ t .«input_length» ⌝ }
     requires { ⌜ t .«input_length» ≤ length (now output) ⌝ }
-    ensures { λ _. ⌜ now (output .exit) ≡ over (now (output .entry)) (transformed (view t (now (s .entry))) (now (input .entry)) (now (previous .entry))) ⌝ }
+    ensures { λ _. ⌜ now (output .exit) ≡ over (now (output .entry)) (transformed (transformerView t (now (s .entry))) (now (input .entry)) (now (previous .entry))) ⌝ }
 {
     let d = t.input_length;
     let mut i = 0;
     while i < d {
-        output[i] = transform_at(t, s, i, input[i], previous[i]);
+        let w = t.weights[i];
+        output[i] = transform_at(t, w, s, i, input[i], previous[i]);
         i += 1;
     }
 }
@@ -134,7 +137,7 @@ fn unweigh(w: f32, x: f32) -> f32
 fn invert_at(t: WeightedTransformer, s: &[f64], i: usize, x: f32, p: f32) -> f32
     requires { ⌜ Sound t (length (now s)) ⌝ }
     requires { ⌜ i < t .«input_length» ⌝ }
-    ensures { λ r. ⌜ r ≡ invertBy (t .«transform_method») (view t (now (s .entry))) i x p ⌝ }
+    ensures { λ r. ⌜ r ≡ invertBy (t .«transform_method») (transformerView t (now (s .entry))) i x p ⌝ }
 {
     let d = t.input_length;
     let m = t.transform_method;
@@ -159,7 +162,7 @@ pub(crate) fn invert_fitting(
     requires { ⌜ length (now input) ≡ t .«input_length» ⌝ }
     requires { ⌜ length (now previous) ≡ t .«input_length» ⌝ }
     requires { ⌜ t .«input_length» ≤ length (now output) ⌝ }
-    ensures { λ _. ⌜ now (output .exit) ≡ over (now (output .entry)) (inverted (view t (now (s .entry))) (now (input .entry)) (now (previous .entry))) ⌝ }
+    ensures { λ _. ⌜ now (output .exit) ≡ over (now (output .entry)) (inverted (transformerView t (now (s .entry))) (now (input .entry)) (now (previous .entry))) ⌝ }
 {
     let d = t.input_length;
     let mut i = 0;
@@ -173,7 +176,7 @@ pub(crate) fn invert_fitting(
 fn scale_at(t: WeightedTransformer, s: &[f64], i: usize) -> f32
     requires { ⌜ Sound t (length (now s)) ⌝ }
     requires { ⌜ i < t .«input_length» ⌝ }
-    ensures { λ r. ⌜ r ≡ cond (normalizes (t .«transform_method»)) (mul binary32 (weightAt (view t (now (s .entry))) i) (normalizedScale (view t (now (s .entry))) i)) (weightAt (view t (now (s .entry))) i) ⌝ }
+    ensures { λ r. ⌜ r ≡ cond (normalizes (t .«transform_method»)) (mul binary32 (weightAt (transformerView t (now (s .entry))) i) (normalizedScale (transformerView t (now (s .entry))) i)) (weightAt (transformerView t (now (s .entry))) i) ⌝ }
 {
     let d = t.input_length;
     let w = t.weights[i];
@@ -187,7 +190,7 @@ fn scale_at(t: WeightedTransformer, s: &[f64], i: usize) -> f32
 pub(crate) fn scale_into(t: WeightedTransformer, s: &[f64], output: &mut [f32])
     requires { ⌜ Sound t (length (now s)) ⌝ }
     requires { ⌜ t .«input_length» ≤ length (now output) ⌝ }
-    ensures { λ _. ⌜ now (output .exit) ≡ over (now (output .entry)) (scales (view t (now (s .entry)))) ⌝ }
+    ensures { λ _. ⌜ now (output .exit) ≡ over (now (output .entry)) (scales (transformerView t (now (s .entry)))) ⌝ }
 {
     let d = t.input_length;
     let mut i = 0;
@@ -212,7 +215,7 @@ fn shift_at(m: TransformMethod, s: &[f64], i: usize) -> f32
 pub(crate) fn shift_into(t: WeightedTransformer, s: &[f64], output: &mut [f32])
     requires { ⌜ Sound t (length (now s)) ⌝ }
     requires { ⌜ t .«input_length» ≤ length (now output) ⌝ }
-    ensures { λ _. ⌜ now (output .exit) ≡ over (now (output .entry)) (shifts (view t (now (s .entry)))) ⌝ }
+    ensures { λ _. ⌜ now (output .exit) ≡ over (now (output .entry)) (shifts (transformerView t (now (s .entry)))) ⌝ }
 {
     let d = t.input_length;
     let m = t.transform_method;
@@ -226,7 +229,7 @@ pub(crate) fn shift_into(t: WeightedTransformer, s: &[f64], output: &mut [f32])
 pub(crate) fn difference_deviations_into(t: WeightedTransformer, s: &[f64], output: &mut [f32])
     requires { ⌜ Sound t (length (now s)) ⌝ }
     requires { ⌜ t .«input_length» ≤ length (now output) ⌝ }
-    ensures { λ _. ⌜ now (output .exit) ≡ over (now (output .entry)) (differenceDeviations (view t (now (s .entry)))) ⌝ }
+    ensures { λ _. ⌜ now (output .exit) ≡ over (now (output .entry)) (differenceDeviations (transformerView t (now (s .entry)))) ⌝ }
 {
     let d = t.input_length;
     let mut i = 0;
@@ -268,7 +271,7 @@ fn channels_into(
     requires { ⌜ Sound t (length (now s)) ⌝ }
     requires { ⌜ length (now previous) ≡ t .«input_length» ⌝ }
     requires { ⌜ (length (now factors) ≡ 16) × (length (now scales) ≡ 16) × (length (now drifts) ≡ 16) × (length (now bases) ≡ 16) ⌝ }
-    ensures { λ _. ⌜ Held (view t (now (s .entry))) (now (previous .entry)) (t .«input_length») (now (factors .exit)) (now (scales .exit)) (now (drifts .exit)) (now (bases .exit)) ⌝ }
+    ensures { λ _. ⌜ FactorsIn (transformerView t (now (s .entry))) (now (previous .entry)) (t .«input_length») (now (factors .exit)) (now (scales .exit)) (now (drifts .exit)) (now (bases .exit)) ⌝ }
 {
     let d = t.input_length;
     let m = t.transform_method;
@@ -297,7 +300,7 @@ fn forecast_fitting(
     requires { ⌜ (length (now upper) ≡ length (now values)) × (length (now lower) ≡ length (now values)) ⌝ }
     requires { ⌜ (differences (t .«transform_method») && unblocked (length (now previous)) (length (now values))) ≡ false ⌝ }
     ensures { λ _. ⌜ ranges (now (values .exit)) (now (upper .exit)) (now (lower .exit))
-        ≡ invertedForecast (view t (now (s .entry))) (now (previous .entry)) (ranges (now (values .entry)) (now (upper .entry)) (now (lower .entry))) ⌝ }
+        ≡ invertedForecast (transformerView t (now (s .entry))) (now (previous .entry)) (ranges (now (values .entry)) (now (upper .entry)) (now (lower .entry))) ⌝ }
 {
     let d = t.input_length;
     let m = t.transform_method;
@@ -372,7 +375,7 @@ fn new_row(m: TransformMethod, d: usize, decay: f64, w: &[f32], s: usize) -> u64
     if d == 0 {
         return 2;
     }
-    if 16 < d {
+    if INPUT_LIMIT < d {
         return 4;
     }
     if w.len() != d {
@@ -397,7 +400,7 @@ fn update_row(d: usize, x: usize, p: usize, count: u64, s: usize) -> u64
     if d == 0 {
         return 2;
     }
-    if 16 < d {
+    if INPUT_LIMIT < d {
         return 4;
     }
     if x != d {
@@ -422,7 +425,7 @@ fn transform_row(d: usize, x: usize, p: usize, s: usize, o: usize) -> u64
     if d == 0 {
         return 2;
     }
-    if 16 < d {
+    if INPUT_LIMIT < d {
         return 4;
     }
     if x != d {
@@ -447,7 +450,7 @@ fn output_row(d: usize, s: usize, o: usize) -> u64
     if d == 0 {
         return 2;
     }
-    if 16 < d {
+    if INPUT_LIMIT < d {
         return 4;
     }
     if s < 15 * d {
@@ -488,7 +491,7 @@ fn forecast_row(
     if d == 0 {
         return 2;
     }
-    if 16 < d {
+    if INPUT_LIMIT < d {
         return 4;
     }
     if p != d {
@@ -509,7 +512,7 @@ fn forecast_row(
     0
 }
 
-// The weights, and zeros behind them.
+// The weights, and zeros after them.
 fn padded(w: &[f32]) -> [f32; 16]
     requires { ⌜ length (now w) ≤ 16 ⌝ }
     ensures { λ r. ⌜ r ≡ over (replicate 16 zero32) (now (w .entry)) ⌝ }
@@ -542,7 +545,7 @@ pub fn invert_into(
     previous: &[f32],
     output: &mut [f32],
 )
-    ensures { λ _. ⌜ now (output .exit) ≡ whereFits (passes (transformRow (t .«input_length») (length (now (input .entry))) (length (now (previous .entry))) (length (now (s .entry))) (length (now (output .entry))))) (over (now (output .entry)) (inverted (view t (now (s .entry))) (now (input .entry)) (now (previous .entry)))) (now (output .entry)) ⌝ }
+    ensures { λ _. ⌜ now (output .exit) ≡ whereFits (passes (transformRow (t .«input_length») (length (now (input .entry))) (length (now (previous .entry))) (length (now (s .entry))) (length (now (output .entry))))) (over (now (output .entry)) (inverted (transformerView t (now (s .entry))) (now (input .entry)) (now (previous .entry)))) (now (output .entry)) ⌝ }
 {
     let d = t.input_length;
     let row = transform_row(d, input.len(), previous.len(), s.len(), output.len());
@@ -561,7 +564,7 @@ pub fn invert_forecast_in_place(
     lower: &mut [f32],
 )
     ensures { λ _. ⌜ ranges (now (values .exit)) (now (upper .exit)) (now (lower .exit))
-        ≡ whereFits (passes (forecastRow (t .«transform_method») (t .«input_length») (length (now (previous .entry))) (length (now (values .entry))) (length (now (upper .entry))) (length (now (lower .entry))) (length (now (s .entry))))) (invertedForecast (view t (now (s .entry))) (now (previous .entry)) (ranges (now (values .entry)) (now (upper .entry)) (now (lower .entry)))) (ranges (now (values .entry)) (now (upper .entry)) (now (lower .entry))) ⌝ }
+        ≡ whereFits (passes (forecastRow (t .«transform_method») (t .«input_length») (length (now (previous .entry))) (length (now (values .entry))) (length (now (upper .entry))) (length (now (lower .entry))) (length (now (s .entry))))) (invertedForecast (transformerView t (now (s .entry))) (now (previous .entry)) (ranges (now (values .entry)) (now (upper .entry)) (now (lower .entry)))) (ranges (now (values .entry)) (now (upper .entry)) (now (lower .entry))) ⌝ }
 {
     let m = t.transform_method;
     let d = t.input_length;
@@ -589,7 +592,7 @@ impl WeightedTransformer {
         statistics: &mut [f64],
     ) -> TransformerResult
         ensures { λ r. ⌜ made (r .row) (r .transformer) (now (statistics .exit))
-            ≡ newOf «transform_method» «input_length» «transform_decay» (now (weights .entry)) (now (statistics .entry)) ⌝ }
+            ≡ transformerNew «transform_method» «input_length» «transform_decay» (now (weights .entry)) (now (statistics .entry)) ⌝ }
     {
         let row = new_row(
             transform_method,
@@ -631,7 +634,7 @@ impl WeightedTransformer {
         previous: &[f32],
     ) -> TransformerResult
         ensures { λ r. ⌜ made (r .row) (r .transformer) (now (statistics .exit))
-            ≡ updateOf self (now (statistics .entry)) (now (input .entry)) (now (previous .entry)) ⌝ }
+            ≡ transformerUpdate self (now (statistics .entry)) (now (input .entry)) (now (previous .entry)) ⌝ }
     {
         let d = self.input_length;
         let count = self.count;
@@ -668,8 +671,8 @@ impl WeightedTransformer {
         previous: &[f32],
         output: &mut [f32],
     ) -> u64
-        ensures { λ r. ⌜ written r (now (output .exit))
-            ≡ transformOf self (now (statistics .entry)) (now (input .entry)) (now (previous .entry)) (now (output .entry)) ⌝ }
+        ensures { λ r. ⌜ transformerOutput r (now (output .exit))
+            ≡ transformerTransform self (now (statistics .entry)) (now (input .entry)) (now (previous .entry)) (now (output .entry)) ⌝ }
     {
         let d = self.input_length;
         let row = transform_row(
@@ -694,8 +697,8 @@ impl WeightedTransformer {
         previous: &[f32],
         output: &mut [f32],
     ) -> u64
-        ensures { λ r. ⌜ written r (now (output .exit))
-            ≡ invertOf self (now (statistics .entry)) (now (input .entry)) (now (previous .entry)) (now (output .entry)) ⌝ }
+        ensures { λ r. ⌜ transformerOutput r (now (output .exit))
+            ≡ transformerInvert self (now (statistics .entry)) (now (input .entry)) (now (previous .entry)) (now (output .entry)) ⌝ }
     {
         let d = self.input_length;
         let row = transform_row(
@@ -721,8 +724,8 @@ impl WeightedTransformer {
         upper: &mut [f32],
         lower: &mut [f32],
     ) -> u64
-        ensures { λ r. ⌜ outcome r (ranges (now (values .exit)) (now (upper .exit)) (now (lower .exit)))
-            ≡ invertForecastOf self (now (statistics .entry)) (now (previous .entry)) (ranges (now (values .entry)) (now (upper .entry)) (now (lower .entry))) ⌝ }
+        ensures { λ r. ⌜ rangeOutcome r (ranges (now (values .exit)) (now (upper .exit)) (now (lower .exit)))
+            ≡ transformerInvertForecast self (now (statistics .entry)) (now (previous .entry)) (ranges (now (values .entry)) (now (upper .entry)) (now (lower .entry))) ⌝ }
     {
         let d = self.input_length;
         let m = self.transform_method;
@@ -744,7 +747,7 @@ impl WeightedTransformer {
     }
 
     pub fn scale(self, statistics: &[f64], output: &mut [f32]) -> u64
-        ensures { λ r. ⌜ written r (now (output .exit)) ≡ scaleOf self (now (statistics .entry)) (now (output .entry)) ⌝ }
+        ensures { λ r. ⌜ transformerOutput r (now (output .exit)) ≡ transformerScale self (now (statistics .entry)) (now (output .entry)) ⌝ }
     {
         let d = self.input_length;
         let row = output_row(d, statistics.len(), output.len());
@@ -757,7 +760,7 @@ impl WeightedTransformer {
     }
 
     pub fn shift(self, statistics: &[f64], output: &mut [f32]) -> u64
-        ensures { λ r. ⌜ written r (now (output .exit)) ≡ shiftOf self (now (statistics .entry)) (now (output .entry)) ⌝ }
+        ensures { λ r. ⌜ transformerOutput r (now (output .exit)) ≡ transformerShift self (now (statistics .entry)) (now (output .entry)) ⌝ }
     {
         let d = self.input_length;
         let row = output_row(d, statistics.len(), output.len());
@@ -770,7 +773,7 @@ impl WeightedTransformer {
     }
 
     pub fn difference_deviations(self, statistics: &[f64], output: &mut [f32]) -> u64
-        ensures { λ r. ⌜ written r (now (output .exit)) ≡ differenceDeviationsOf self (now (statistics .entry)) (now (output .entry)) ⌝ }
+        ensures { λ r. ⌜ transformerOutput r (now (output .exit)) ≡ transformerDifferenceDeviations self (now (statistics .entry)) (now (output .entry)) ⌝ }
     {
         let d = self.input_length;
         let row = output_row(d, statistics.len(), output.len());

@@ -1,6 +1,13 @@
 // The kinds that the settings name, under the source's names (trcf/types.rs).
 ghost use mathlib.Core.Path.{_≡_};
-ghost use Rattle.trcf.specs.Types.{methodNumber, methodOfNumber, modeLetter, modeOfLetter, isNone, normalizes, differences, centres, augments, gaps};
+ghost use Rattle.trcf.specs.Types.{methodNumber, methodOfNumber, modeLetter, modeOfLetter, isNone, normalizes, differences, centres, augments, isGap};
+
+// The largest number of channels, the largest number of readings in a point, and the first start that is refused (rows 4 and 8).
+pub const INPUT_LIMIT: usize = 16;
+
+pub const SHINGLE_LIMIT: usize = 64;
+
+pub const START_BOUND: usize = 2000;
 
 pub enum TransformMethod {
     NONE,
@@ -153,7 +160,7 @@ pub fn is_augmented(m: ForestMode) -> bool
 
 // Whether the time element is a gap, to which no drift belongs.
 pub fn is_gap(m: ForestMode) -> bool
-    ensures { λ r. ⌜ r ≡ gaps m ⌝ }
+    ensures { λ r. ⌜ r ≡ isGap m ⌝ }
 {
     match m {
         ForestMode::STANDARD => false,

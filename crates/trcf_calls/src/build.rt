@@ -14,11 +14,11 @@ use trcf_rows::rows::settings_row;
 ghost use mathlib.Core.Path.{_≡_};
 ghost use Prim.Native.Nat.{_≤_};
 ghost use lib.ListN.{length, replicate};
-ghost use Rattle.common.specs.Lent.{over};
+ghost use Rattle.refusal.specs.Lent.{over};
 ghost use Rattle.trcf.specs.Transformer.{zero32};
 ghost use Rattle.trcf.specs.View.{lent, settingsFrom, headFrom, outcome, buildOf};
 
-// The weights in an array, zeros behind them.
+// The weights in an array, zeros after them.
 fn weights_from(weights: &[f32]) -> [f32; 16]
     requires { ⌜ length (now weights) ≤ 16 ⌝ }
     ensures { λ r. ⌜ r ≡ over (replicate 16 zero32) (now (weights .entry)) ⌝ }
@@ -28,7 +28,7 @@ fn weights_from(weights: &[f32]) -> [f32; 16]
     a
 }
 
-// The codes in an array, zeros behind them.
+// The codes in an array, zeros after them.
 fn codes_from(w: &[u16]) -> [u16; 16]
     requires { ⌜ length (now w) ≤ 16 ⌝ }
     ensures { λ r. ⌜ r ≡ over (replicate 16 0) (now (w .entry)) ⌝ }

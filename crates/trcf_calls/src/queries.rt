@@ -18,7 +18,7 @@ ghost use mathlib.Core.List.{List};
 ghost use lib.Ieee.{Float};
 ghost use Rattle.trcf.specs.Types.{methodNumber, modeLetter};
 ghost use Rattle.trcf.specs.Calls.{transform, scale, shift, status};
-ghost use Rattle.trcf.specs.View.{lent, written, writeOf, gettersOf, statusGiven, untold, statusAfter};
+ghost use Rattle.trcf.specs.View.{lent, written, writeOf, gettersOf, statusGiven, noStatus, statusAfter};
 
 pub fn transform(
     head: Preprocessor,
@@ -237,7 +237,7 @@ pub fn start_normalization(head: Preprocessor) -> usize
 
 // A refused status: the row alone.
 fn no_status(row: u64) -> StatusAnswer
-    ensures { λ r. ⌜ ((out : List Float) → statusGiven r out ≡ record { row = row; numbers = untold out }) ⌝ }
+    ensures { λ r. ⌜ ((out : List Float) → statusGiven r out ≡ record { row = row; numbers = noStatus out }) ⌝ }
 {
     StatusAnswer {
         row: row,

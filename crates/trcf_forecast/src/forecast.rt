@@ -1,6 +1,6 @@
 // A forecast of transformed readings turned back into readings and times (the source's Preprocessor::invert_extrapolation).
-use common::rangevector::Range64;
-use common::rangevector::cascaded_add_f64;
+use ranges::rangevector::Range64;
+use ranges::rangevector::cascaded_add_f64;
 use trcf::head::Preprocessor;
 use trcf::head::get_dimension;
 use trcf::head::head_row;
@@ -21,15 +21,15 @@ ghost use Prim.Native.Nat.{_*_, _≤_, _<_};
 ghost use lib.IntN.{pos};
 ghost use lib.ListN.{length};
 ghost use lib.Ieee.{binary64, mul, ofInt};
-ghost use Rattle.common.specs.Refusal.{firstOf};
-ghost use Rattle.common.specs.RangeVector.{range, ranges, scaled, unblocked, cascadeTo, overAll};
+ghost use Rattle.refusal.specs.Refusal.{firstOf};
+ghost use Rattle.ranges.specs.RangeVector.{range, ranges, scaled, unblocked, cascadeTo, overAll};
 ghost use Rattle.trcf.specs.Lists.{lastN};
 ghost use Rattle.trcf.specs.Types.{augments, differences};
 ghost use Rattle.trcf.specs.Transformer.{invertedForecast};
 ghost use Rattle.trcf.specs.Settings.{transformer, dimension};
 ghost use Rattle.trcf.specs.Preprocessor.{statisticsLength, fronts, backs, invertTimes, numbersOf, timesOf, turnedBack};
-ghost use Rattle.trcf.specs.View.{settingsOf, holding, misfit, orElse, Bounded};
-ghost use Rattle.trcf.specs.Extrapolation.{extrapolation, forecast, viewed, extrapolationOf, sizes, brokenAt, shorterAt, shortAt, unread, rowAt};
+ghost use Rattle.trcf.specs.View.{settingsOf, holding, countersUnfit, orElse, Bounded};
+ghost use Rattle.trcf.specs.Extrapolation.{extrapolation, forecast, viewed, extrapolationOf, sizes, brokenAt, shorterAt, shortAt, readShort, rowAt};
 ghost use Rattle.trcf.specs.Steps.Inverting.{Unbroken, Longer, Long, Readable, Invertible, timeFactor, stretched, timeBy, timesBy};
 
 // Whether the values make no blocks of d to cascade.
@@ -136,7 +136,7 @@ fn output_row(
 // Row 20 of what the call reads of the preprocessor.
 fn unread_row(head: Preprocessor, statistics: usize, inputs: usize, times: usize) -> u64
     requires { ⌜ Bounded (settingsOf head) ⌝ }
-    ensures { λ r. ⌜ r ≡ firstOf ((unread (settingsOf head) statistics inputs times, 20) ∷ []) ⌝ }
+    ensures { λ r. ⌜ r ≡ firstOf ((readShort (settingsOf head) statistics inputs times, 20) ∷ []) ⌝ }
     ensures { λ r. ⌜ (r ≡ 0 → Readable (settingsOf head) statistics inputs times) ⌝ }
 {
     let t = head.transformer;
@@ -156,7 +156,7 @@ fn unread_row(head: Preprocessor, statistics: usize, inputs: usize, times: usize
 
 // Row 20 of the head's counters.
 fn counters_row(head: Preprocessor) -> u64
-    ensures { λ r. ⌜ r ≡ firstOf ((misfit head, 20) ∷ []) ⌝ }
+    ensures { λ r. ⌜ r ≡ firstOf ((countersUnfit head, 20) ∷ []) ⌝ }
 {
     if is_misfit(head) { 20 } else { 0 }
 }
@@ -338,7 +338,7 @@ fn invert_time(
     r.shift(drift)
 }
 
-// The time behind the first m numbers of each block of a.
+// The time after the first m numbers of each block of a.
 fn write_times(
     gap: bool,
     factor: f64,

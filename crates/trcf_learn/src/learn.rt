@@ -15,7 +15,7 @@ ghost use lib.Dec.{ltb, eqb};
 ghost use lib.Ieee.{lt};
 ghost use lib.ListN.{length, take, getD};
 ghost use Rattle.common.specs.Deviation.{countLimit};
-ghost use Rattle.common.specs.Lent.{over};
+ghost use Rattle.refusal.specs.Lent.{over};
 ghost use Rattle.trcf.specs.Lists.{shiftIn};
 ghost use Rattle.trcf.specs.Transformer.{inverted, zero32};
 ghost use Rattle.trcf.specs.Settings.{dimension, block, transformer};
@@ -23,7 +23,7 @@ ghost use Rattle.trcf.specs.Preprocessor.{statisticsLength, reading, feed, prev
 ghost use Rattle.trcf.specs.View.{settingsOf, holding, Bounded};
 ghost use Rattle.trcf.specs.Steps.Learning.{Exact, Findable};
 
-// The reading stands behind those that wait.
+// The reading stands after those that wait.
 pub(crate) fn hold(
     head: Preprocessor,
     initial_values: &mut [f32],
@@ -131,7 +131,7 @@ pub(crate) fn update_shingles(
     shift_time(&mut previous_timestamps[..k], timestamp);
 }
 
-// The reading itself, or the block behind the one that lies back readings before the newest.
+// The reading itself, or the block after the one that lies back readings before the newest.
 fn write_past(head: Preprocessor, inputs: &[f32], input: &[f32], back: usize, output: &mut [f32])
     requires { ⌜ Bounded (settingsOf head) ⌝ }
     requires { ⌜ length (now inputs) ≡ head .transformer .«input_length» * head .«shingle_size» ⌝ }

@@ -18,7 +18,7 @@ ghost use lib.Dec.{ltb, eqb};
 ghost use lib.ListN.{length, take};
 ghost use lib.Ieee.{lt};
 ghost use Rattle.common.specs.Deviation.{countLimit};
-ghost use Rattle.common.specs.Lent.{over};
+ghost use Rattle.refusal.specs.Lent.{over};
 ghost use Rattle.trcf.specs.Transformer.{zero32, one32};
 ghost use Rattle.trcf.specs.Settings.{block, dimension};
 ghost use Rattle.trcf.specs.Preprocessor.{statisticsLength, deviations};

@@ -1,11 +1,11 @@
--- The point written once: the blocks that stay first, and the new one behind them.
+-- The point written once: the blocks that stay first, and the new one after them.
 use Prim.Native.Nat.{ℕ, _+_}
 use mathlib.Core.Path.{_≡_, sym, ap, _∙_}
 use mathlib.Core.List.{List, _++_}
 use native.Mathlib.Omega.{arith}
 use lib.ListN.{length, take, drop, length-append, length-drop}
 use lib.Seq.{paste, take-at, take-all, take-length, drop-append-add, drop-drop}
-use Rattle.common.specs.Lent.{over}
+use Rattle.refusal.specs.Lent.{over}
 use Rattle.trcf.specs.Lists.{shiftIn}
 
 module _ {A : Type 0} where

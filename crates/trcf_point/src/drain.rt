@@ -4,12 +4,12 @@ use trcf::head::Changed;
 use trcf::head::Preprocessor;
 use trcf::head::block_of;
 use trcf::head::get_dimension;
+use trcf::head::with_counts;
 use trcf::output::write_transform;
 use trcf::shingle::copy_in;
 use trcf::shingle::shift_time;
 use trcf::shingle::shift_vector;
 use trcf::time::last_time;
-use trcf::transformer::WeightedTransformer;
 use trcf_rows::rows::drain_row;
 use trcf_rows::rows::is_due;
 ghost use mathlib.Core.Path.{_≡_};
@@ -22,7 +22,7 @@ ghost use Rattle.trcf.specs.Lists.{shiftIn};
 ghost use Rattle.trcf.specs.Settings.{dimension};
 ghost use Rattle.trcf.specs.Calls.{due, drainFull};
 ghost use Rattle.trcf.specs.Preprocessor.{statisticsLength, feed, feedAll, blocks, previous, transformedAfter, drainEach, drainAll, drained, facts};
-ghost use Rattle.trcf.specs.View.{settingsOf, holding, view, counted, laid, lent, outcome, Bounded, Ready, drainOf};
+ghost use Rattle.trcf.specs.View.{settingsOf, holding, view, counted, writtenOver, lent, outcome, Bounded, Ready, drainOf};
 ghost use Rattle.trcf.specs.Steps.Learning.{shingling, readingAt, Exact};
 
 // The place of the reading before the one at i; the first stands before itself.
@@ -183,20 +183,16 @@ pub(crate) fn drain_due(
 ) -> Preprocessor
     requires { ⌜ Ready head (lent (now statistics) (now «last_shingled_input») (now «last_shingled_point») (now «previous_timestamps») (now «initial_values») (now «initial_timestamps»)) ⌝ }
     requires { ⌜ (due (settingsOf head) (facts (view head (lent (now statistics) (now «last_shingled_input») (now «last_shingled_point») (now «previous_timestamps») (now «initial_values») (now «initial_timestamps»)))) && drainFull (settingsOf head) (facts (view head (lent (now statistics) (now «last_shingled_input») (now «last_shingled_point») (now «previous_timestamps») (now «initial_values») (now «initial_timestamps»))))) ≡ false ⌝ }
-    ensures { λ r. ⌜ outcome 0 r (lent (now (statistics .exit)) (now («last_shingled_input» .exit)) (now («last_shingled_point» .exit)) (now («previous_timestamps» .exit)) (now («initial_values» .entry)) (now («initial_timestamps» .entry))) ≡ outcome 0 (counted head (drained (view head (lent (now (statistics .entry)) (now («last_shingled_input» .entry)) (now («last_shingled_point» .entry)) (now («previous_timestamps» .entry)) (now («initial_values» .entry)) (now («initial_timestamps» .entry)))))) (laid (drained (view head (lent (now (statistics .entry)) (now («last_shingled_input» .entry)) (now («last_shingled_point» .entry)) (now («previous_timestamps» .entry)) (now («initial_values» .entry)) (now («initial_timestamps» .entry))))) (lent (now (statistics .entry)) (now («last_shingled_input» .entry)) (now («last_shingled_point» .entry)) (now («previous_timestamps» .entry)) (now («initial_values» .entry)) (now («initial_timestamps» .entry)))) ⌝ }
+    ensures { λ r. ⌜ outcome 0 r (lent (now (statistics .exit)) (now («last_shingled_input» .exit)) (now («last_shingled_point» .exit)) (now («previous_timestamps» .exit)) (now («initial_values» .entry)) (now («initial_timestamps» .entry))) ≡ outcome 0 (counted head (drained (view head (lent (now (statistics .entry)) (now («last_shingled_input» .entry)) (now («last_shingled_point» .entry)) (now («previous_timestamps» .entry)) (now («initial_values» .entry)) (now («initial_timestamps» .entry)))))) (writtenOver (drained (view head (lent (now (statistics .entry)) (now («last_shingled_input» .entry)) (now («last_shingled_point» .entry)) (now («previous_timestamps» .entry)) (now («initial_values» .entry)) (now («initial_timestamps» .entry))))) (lent (now (statistics .entry)) (now («last_shingled_input» .entry)) (now («last_shingled_point» .entry)) (now («previous_timestamps» .entry)) (now («initial_values» .entry)) (now («initial_timestamps» .entry)))) ⌝ }
     ensures { λ r. ⌜ view r (lent (now (statistics .exit)) (now («last_shingled_input» .exit)) (now («last_shingled_point» .exit)) (now («previous_timestamps» .exit)) (now («initial_values» .entry)) (now («initial_timestamps» .entry))) ≡ drained (view head (lent (now (statistics .entry)) (now («last_shingled_input» .entry)) (now («last_shingled_point» .entry)) (now («previous_timestamps» .entry)) (now («initial_values» .entry)) (now («initial_timestamps» .entry)))) ⌝ }
 {
     if !is_due(head, initial_timestamps) {
         return head;
     }
     let t = head.transformer;
-    let mode = head.forest_mode;
-    let method = t.transform_method;
     let d = t.input_length;
     let k = head.shingle_size;
     let n = head.initial_len;
-    let weights = t.weights;
-    let codes = head.codes;
     let m = get_dimension(head);
     drain_all(
         head,
@@ -207,24 +203,13 @@ pub(crate) fn drain_due(
         &initial_values[..n * d],
         &initial_timestamps[..n],
     );
-    Preprocessor {
-        transformer: WeightedTransformer {
-            transform_method: method,
-            input_length: d,
-            transform_decay: t.transform_decay,
-            weights: weights,
-            count: t.count + n as u64,
-        },
-        forest_mode: mode,
-        shingle_size: k,
-        start_normalization: head.start_normalization,
-        stop_normalization: head.stop_normalization,
-        weight_time: head.weight_time,
-        values_seen: head.values_seen,
-        internal_timestamp: head.internal_timestamp + n,
-        initial_len: 0,
-        codes: codes,
-    }
+    with_counts(
+        head,
+        t.count + n as u64,
+        head.values_seen,
+        head.internal_timestamp + n,
+        0,
+    )
 }
 
 pub fn drain(

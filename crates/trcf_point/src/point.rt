@@ -1,4 +1,4 @@
-// The point with the transformed reading behind it (the source's shingled_point), after what waits is drained.
+// The point with the transformed reading after it (the source's shingled_point), after what waits is drained.
 use crate::drain::drain_due;
 use trcf::head::Pointed;
 use trcf::head::Preprocessor;
@@ -12,13 +12,13 @@ use trcf_rows::rows::shingled_point_row;
 ghost use mathlib.Core.Path.{_≡_};
 ghost use Prim.Native.Nat.{_*_, _≤_};
 ghost use lib.ListN.{length, take};
-ghost use Rattle.common.specs.Lent.{over};
+ghost use Rattle.refusal.specs.Lent.{over};
 ghost use Rattle.trcf.specs.Settings.{dimension};
 ghost use Rattle.trcf.specs.Lists.{lastN, shiftIn};
 ghost use Rattle.trcf.specs.Preprocessor.{statisticsLength, reading, transformedAfter};
 ghost use Rattle.trcf.specs.View.{settingsOf, lent, Bounded, pointed, pointAfter};
 
-// The point without its front block, and z behind it: each number is written once, where it stays.
+// The point without its front block, and z after it: each number is written once, where it stays.
 fn copy_shifted(output: &mut [f32], point: &[f32], z: &[f32])
     requires { ⌜ (length (now z) ≤ length (now point)) × (length (now point) ≤ length (now output)) ⌝ }
     ensures { λ _. ⌜ now (output .exit) ≡ over (now (output .entry)) (shiftIn (now (point .entry)) (now (z .entry))) ⌝ }
@@ -29,7 +29,7 @@ fn copy_shifted(output: &mut [f32], point: &[f32], z: &[f32])
     copy_in(output, m - b, z);
 }
 
-// The point with the transformed reading behind it, its time counted from `base`.
+// The point with the transformed reading after it, its time counted from `base`.
 pub(crate) fn write_point(
     head: Preprocessor,
     statistics: &[f64],

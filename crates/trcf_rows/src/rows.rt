@@ -11,6 +11,9 @@ use trcf::head::initial_room;
 use trcf::time::newest_of;
 use trcf::transformer::weights_refused;
 use trcf::types::ForestMode;
+use trcf::types::INPUT_LIMIT;
+use trcf::types::SHINGLE_LIMIT;
+use trcf::types::START_BOUND;
 use trcf::types::is_gap;
 use trcf::types::is_normalizing;
 ghost use mathlib.Core.Path.{_≡_};
@@ -21,13 +24,13 @@ ghost use lib.Dec.{ltb, eqb};
 ghost use lib.ListN.{length, take};
 ghost use lib.Ieee.{Float};
 ghost use Rattle.common.specs.Deviation.{countLimit};
-ghost use Rattle.common.specs.Refusal.{firstOf};
+ghost use Rattle.refusal.specs.Refusal.{firstOf};
 ghost use Rattle.trcf.specs.Lists.{null};
-ghost use Rattle.trcf.specs.Types.{gaps};
+ghost use Rattle.trcf.specs.Types.{isGap};
 ghost use Rattle.trcf.specs.Settings.{imputes, waiting, settingsRow, block};
 ghost use Rattle.trcf.specs.Calls.{seenLimit, finite, due, drainFull, scale, transform, drain, shingledPoint};
 ghost use Rattle.trcf.specs.Preprocessor.{facts};
-ghost use Rattle.trcf.specs.View.{settingsOf, settingsFrom, view, leftOver, misfit, outsideRow, headRow, orElse, lentRow, shortRow, rowOf, pastRow, lent, newestOf, Bounded, Accepted, Roomy, Fitted, Ready, Pointing};
+ghost use Rattle.trcf.specs.View.{settingsOf, settingsFrom, view, leftOver, countersUnfit, outsideRow, headRow, orElse, lentRow, shortRow, rowOf, pastRow, lent, newestOf, Bounded, Accepted, Roomy, Fitted, Ready, Pointing};
 
 // The mode that row 1 refuses, which no letter of a text names.
 pub fn is_imputing(m: ForestMode) -> bool
@@ -60,10 +63,10 @@ pub fn settings_row(b: PreprocessorBuilder, weights: &[f32], codes: &[u16]) -> u
     if k == 0 {
         return 3;
     }
-    if 16 < d {
+    if INPUT_LIMIT < d {
         return 4;
     }
-    if 64 < k {
+    if SHINGLE_LIMIT < k {
         return 4;
     }
     if weights.len() != d {
@@ -78,7 +81,7 @@ pub fn settings_row(b: PreprocessorBuilder, weights: &[f32], codes: &[u16]) -> u
     if b.stop_normalization < start {
         return 7;
     }
-    if 2000 <= start {
+    if START_BOUND <= start {
         return 8;
     }
     if weights_refused(method, weights) {
@@ -93,10 +96,10 @@ pub fn used(d: usize) -> usize
     ensures { λ r. ⌜ ((w : List Float) → length w ≡ 16 → take r w ≡ take d w) ⌝ }
     ensures { λ r. ⌜ ((w : List ℕ) → length w ≡ 16 → take r w ≡ take d w) ⌝ }
 {
-    if d <= 16 {
+    if d <= INPUT_LIMIT {
         return d;
     }
-    16
+    INPUT_LIMIT
 }
 
 // Rows 1 to 9 of a head that comes from outside.
@@ -183,7 +186,7 @@ fn is_left(head: Preprocessor) -> bool
 
 // Whether the head's counters are such as no preprocessor has.
 pub fn is_misfit(head: Preprocessor) -> bool
-    ensures { λ r. ⌜ r ≡ misfit head ⌝ }
+    ensures { λ r. ⌜ r ≡ countersUnfit head ⌝ }
 {
     let t = head.transformer;
     let count = t.count;
@@ -368,7 +371,7 @@ fn is_behind(
     initial_timestamps: &[u64],
     timestamp: u64,
 ) -> bool
-    ensures { λ r. ⌜ r ≡ gaps (head .«forest_mode») && ltb timestamp (newestOf head (now («previous_timestamps» .entry)) (now («initial_timestamps» .entry))) ⌝ }
+    ensures { λ r. ⌜ r ≡ isGap (head .«forest_mode») && ltb timestamp (newestOf head (now («previous_timestamps» .entry)) (now («initial_timestamps» .entry))) ⌝ }
 {
     let mode = head.forest_mode;
     if is_gap(mode) {

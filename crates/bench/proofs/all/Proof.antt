@@ -1,4 +1,4 @@
--- `bench::all` is safe, reads behind what is kept, and ends. Assumes nothing.
+-- `bench::all` is safe, reads after what is kept, and ends. Assumes nothing.
 use native.Mathlib.Omega.{arith}
 use Prim.Native.Nat.{ℕ, _≤_}
 use mathlib.Core.Path.{_≡_, ap}

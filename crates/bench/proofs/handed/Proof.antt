@@ -8,7 +8,7 @@ use borrow.Author.Needs.{needs}
 use Rattle.bench.proofs.handed.Statement.{statement}
 use Rattle.bench.proofs.handed.Tie as tie
 
--- a turn behind one that stopped for the output
+-- a turn after one that stopped for the output
 fewer : (f g : Bool) (k n : ℕ) → g ≡ true → (f ≡ true → k < n + 0) → cond f (suc k) 0 < cond g (suc n) 0
 fewer f g k n e h = subst (λ (q : Bool). cond f (suc k) 0 < cond q (suc n) 0) (sym e) (go f h)
   where

@@ -3,7 +3,7 @@ use native.Mathlib.Omega.{arith}
 use lib.ListN.{length-take}
 use Rattle.trcf.specs.View.{lent}
 use Rattle.bench_core.specs.Bench.{output}
-use Rattle.bench_blocks.specs.Turns.{turned}
+use Rattle.bench_blocks.specs.Turns.{turnResult}
 use Rattle.bench_blocks.proofs.TurnLaws.{turn-goes, stand-least}
 use borrow.Author.Needs.{needs}
 use Rattle.bench.proofs.turned.Statement.{statement}
@@ -64,7 +64,7 @@ returns c =
     let t = k2 .before .before .before .before .before .turn in
     let g =
     turn-goes (a .run) (lent (a .statistics .now) (a .last-shingled-input .now) (a .last-shingled-point .now) (a .previous-timestamps .now) (a .initial-values .now) (a .initial-timestamps .now)) (a .point .now) (a .text .now) (a .got) (a .out .now) (omega (arith, k4 .before .before .before .before .before .before .before .before .pre)) (omega (arith, k4 .before .before .before .before .before .before .before .before .pre)) (omega (arith, k4 .before .before .before .before .before .before .before .before .pre))
-    (turned (t .result .row) (t .result .run) (lent (t .last .1 .0) (t .last .1 .1 .0) (t .last .1 .1 .1 .0) (t .last .1 .1 .1 .1 .0) (t .last .1 .1 .1 .1 .1 .0) (t .last .1 .1 .1 .1 .1 .1 .0)) (t .last .1 .1 .1 .1 .1 .1 .1 .0) (t .last .1 .1 .1 .1 .1 .1 .1 .1 .0) (output (t .result .written) (t .last .1 .1 .1 .1 .1 .1 .1 .1 .1 .1 .0))) (t .ensures .0) in
+    (turnResult (t .result .row) (t .result .run) (lent (t .last .1 .0) (t .last .1 .1 .0) (t .last .1 .1 .1 .0) (t .last .1 .1 .1 .1 .0) (t .last .1 .1 .1 .1 .1 .0) (t .last .1 .1 .1 .1 .1 .1 .0)) (t .last .1 .1 .1 .1 .1 .1 .1 .0) (t .last .1 .1 .1 .1 .1 .1 .1 .1 .0) (output (t .result .written) (t .last .1 .1 .1 .1 .1 .1 .1 .1 .1 .1 .0))) (t .ensures .0) in
     (omega (arith, t .kept, t .ensures .1 .1 (g .row)), (λ f. g .rest f, λ f. omega (arith, g .less f, stand-least (a .run .kept) (a .got) (a .run .full))))
 
 pub turned-spec : {M : Type 1} → statement M

@@ -7,6 +7,6 @@ use Rattle.trcf.specs.declared.head.Preprocessor.{Preprocessor}
 use Rattle.capi.specs.Head.{headOf}
 
 -- what the row 0 of words says of the head that was read from them
-pub record Read (w : List ℕ) (h : Preprocessor) : Type 0 where
+pub record HeadRead (w : List ℕ) (h : Preprocessor) : Type 0 where
   pub whole : 44 ≤ length w
   pub is : h ≡ headOf w

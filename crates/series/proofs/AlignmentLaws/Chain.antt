@@ -1,4 +1,4 @@
--- A pairing, pair by pair: every pair stands at or past the fronts i and j, and the pairs behind it past both of its positions.
+-- A pairing, pair by pair: every pair stands at or past the fronts i and j, and the pairs after it past both of its positions.
 use Prim.Native.Nat.{ℕ, zero, suc, _≤_, _<_}
 use mathlib.Core.List.{List, [], _∷_}
 use native.Mathlib.Omega.{arith}

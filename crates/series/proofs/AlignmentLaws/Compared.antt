@@ -6,7 +6,7 @@ use native.Mathlib.Omega.{arith}
 use lib.ListN.{length, getD, set, take, length-set, length-map}
 use lib.Seq.{take-length}
 use lib.Ieee.{Float}
-use Rattle.common.specs.Lent.{over}
+use Rattle.refusal.specs.Lent.{over}
 use Rattle.series.specs.Pairs.{Pair, pair, apart, pairs, lefts, rights}
 use Rattle.series.specs.Gaps.{zero32, perChannel, gaps}
 use Rattle.series.specs.Steps.Comparing.{widened}

@@ -10,7 +10,7 @@ use lib.Seq.{drop-cons}
 use borrow.Author.Tests.{ltb-false}
 use Rattle.series.specs.Alignment.{fallsAfter}
 
--- each time is at most those behind it
+-- each time is at most those after it
 abbrev pub AllFrom : ℕ → List ℕ → Type 0
 AllFrom t [] = Unit {0}
 AllFrom t (x ∷ xs) = (t ≤ x) × AllFrom t xs

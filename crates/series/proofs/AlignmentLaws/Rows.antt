@@ -8,15 +8,15 @@ use borrow.Author.Tests.{eqb-true, not-false}
 use lib.Dec.{eqb, ltb}
 use lib.ListN.{length}
 use lib.Ieee.{Float}
-use Rattle.common.specs.Refusal.{firstOf}
-use Rattle.common.specs.Lent.{over}
+use Rattle.refusal.specs.Refusal.{firstOf}
+use Rattle.refusal.specs.Lent.{over}
 use Rattle.series.specs.Pairs.{pairs, lefts, rights}
 use Rattle.series.specs.Gaps.{gaps}
-use Rattle.series.specs.Alignment.{channelLimit, Readings, Outputs, outputs, Answer, answer, misshapen, unusable, rowOf, asked, refusedOr, written, alignOf}
+use Rattle.series.specs.Alignment.{channelLimit, Readings, Outputs, outputs, AlignOutcome, alignOutcome, readingsMisshapen, unusable, alignRow, alignFacts, refusedOr, outputsWritten, alignOf}
 use Rattle.series.specs.Steps.AlignmentRows.{readingsRow, roomRow}
 
-pub shaped : (d cells n : ℕ) → misshapen d cells n ≡ false → cells ≡ n * d
-unfolding misshapen
+pub shaped : (d cells n : ℕ) → readingsMisshapen d cells n ≡ false → cells ≡ n * d
+unfolding readingsMisshapen
 shaped d cells n e = eqb-true cells (n * d) (not-false (eqb cells (n * d)) e)
 
 -- ---- five rows are four, and then one
@@ -48,25 +48,25 @@ module _ (d : ℕ) (l r : Readings) (n : ℕ) (o : Outputs) where
   abbrev secondStep : ℕ
   secondStep = roomRow d n (length (o .lefts)) (length (o .rights)) (length (o .gaps))
 
-  row-of-readings : (firstStep ≡ 0 → ⊥) → rowOf (asked d l r n o) ≡ firstStep
-  unfolding rowOf readingsRow
+  row-of-readings : (firstStep ≡ 0 → ⊥) → alignRow (alignFacts d l r n o) ≡ firstStep
+  unfolding alignRow readingsRow
   row-of-readings h =
-      of-four (eqb d 0) (ltb channelLimit d) (misshapen d (length (l .cells)) (length (l .times)) || misshapen d (length (r .cells)) (length (r .times)))
+      of-four (eqb d 0) (ltb channelLimit d) (readingsMisshapen d (length (l .cells)) (length (l .times)) || readingsMisshapen d (length (r .cells)) (length (r .times)))
       (unusable (l .times) || unusable (r .times)) (ltb (length (o .lefts)) n || (ltb (length (o .rights)) n || ltb (length (o .gaps)) d)) h
 
-  row-of-room : firstStep ≡ 0 → rowOf (asked d l r n o) ≡ secondStep
-  unfolding rowOf readingsRow roomRow
+  row-of-room : firstStep ≡ 0 → alignRow (alignFacts d l r n o) ≡ secondStep
+  unfolding alignRow readingsRow roomRow
   row-of-room e =
-      then-one (eqb d 0) (ltb channelLimit d) (misshapen d (length (l .cells)) (length (l .times)) || misshapen d (length (r .cells)) (length (r .times)))
+      then-one (eqb d 0) (ltb channelLimit d) (readingsMisshapen d (length (l .cells)) (length (l .times)) || readingsMisshapen d (length (r .cells)) (length (r .times)))
       (unusable (l .times) || unusable (r .times)) (ltb (length (o .lefts)) n || (ltb (length (o .rights)) n || ltb (length (o .gaps)) d)) e
 
 -- ---- the answer
 
-refused : (row k : ℕ) (o : Outputs) (a : Answer) → row ≡ k → (row ≡ 0 → ⊥) → answer row 0 o ≡ refusedOr k o a
+refused : (row k : ℕ) (o : Outputs) (a : AlignOutcome) → row ≡ k → (row ≡ 0 → ⊥) → alignOutcome row 0 o ≡ refusedOr k o a
 refused row zero o a e h = absurd (h e)
-refused row (suc k) o a e h = ap (λ (n : ℕ). answer n 0 o) e
+refused row (suc k) o a e h = ap (λ (n : ℕ). alignOutcome n 0 o) e
 
-done : (k : ℕ) (o : Outputs) (a b : Answer) → k ≡ 0 → a ≡ b → a ≡ refusedOr k o b
+done : (k : ℕ) (o : Outputs) (a b : AlignOutcome) → k ≡ 0 → a ≡ b → a ≡ refusedOr k o b
 done zero o a b e h = h
 done (suc k) o a b e h = absurd (omega arith)
 
@@ -75,18 +75,18 @@ module _ (d : ℕ) (l r : Readings) (w : ℕ) (o : Outputs) where
   count = length (pairs w (l .times) (r .times))
 
   pub refused-by-readings : (row : ℕ) → row ≡ readingsRow d (length (l .cells)) (l .times) (length (r .cells)) (r .times) → (row ≡ 0 → ⊥)
-      → answer row 0 o ≡ alignOf d l r w o
+      → alignOutcome row 0 o ≡ alignOf d l r w o
   unfolding alignOf
   refused-by-readings row e h =
-      refused row (rowOf (asked d l r count o)) o (answer 0 count (written d l r (pairs w (l .times) (r .times)) o))
+      refused row (alignRow (alignFacts d l r count o)) o (alignOutcome 0 count (outputsWritten d l r (pairs w (l .times) (r .times)) o))
       (e ∙ sym (row-of-readings d l r count o (λ z. h (e ∙ z)))) h
 
   pub refused-by-room : (row room : ℕ) → row ≡ readingsRow d (length (l .cells)) (l .times) (length (r .cells)) (r .times) → row ≡ 0
       → room ≡ roomRow d count (length (o .lefts)) (length (o .rights)) (length (o .gaps)) → (room ≡ 0 → ⊥)
-      → answer room 0 o ≡ alignOf d l r w o
+      → alignOutcome room 0 o ≡ alignOf d l r w o
   unfolding alignOf
   refused-by-room row room e z f h =
-      refused room (rowOf (asked d l r count o)) o (answer 0 count (written d l r (pairs w (l .times) (r .times)) o))
+      refused room (alignRow (alignFacts d l r count o)) o (alignOutcome 0 count (outputsWritten d l r (pairs w (l .times) (r .times)) o))
       (f ∙ sym (row-of-room d l r count o (sym e ∙ z))) h
 
   pub taken : (row room n : ℕ) (lo ro : List ℕ) (go : List Float)
@@ -96,9 +96,9 @@ module _ (d : ℕ) (l r : Readings) (w : ℕ) (o : Outputs) where
       → lo ≡ over (o .lefts) (lefts (pairs w (l .times) (r .times)))
       → ro ≡ over (o .rights) (rights (pairs w (l .times) (r .times)))
       → go ≡ over (o .gaps) (gaps d (l .cells) (r .cells) (pairs w (l .times) (r .times)))
-      → answer 0 n (outputs lo ro go) ≡ alignOf d l r w o
-  unfolding alignOf written
+      → alignOutcome 0 n (outputs lo ro go) ≡ alignOf d l r w o
+  unfolding alignOf outputsWritten
   taken row room n lo ro go e z f y c p q g =
-      done (rowOf (asked d l r count o)) o (answer 0 n (outputs lo ro go)) (answer 0 count (written d l r (pairs w (l .times) (r .times)) o))
+      done (alignRow (alignFacts d l r count o)) o (alignOutcome 0 n (outputs lo ro go)) (alignOutcome 0 count (outputsWritten d l r (pairs w (l .times) (r .times)) o))
       (row-of-room d l r count o (sym e ∙ z) ∙ sym f ∙ y)
-      (λ j. answer 0 (c j) (outputs (p j) (q j) (g j)))
+      (λ j. alignOutcome 0 (c j) (outputs (p j) (q j) (g j)))

@@ -12,7 +12,7 @@ use lib.Ieee.{Float, nan, inf, fin, binary32, sub, lt, eq, le, level, fits, ofBi
 use lib.Ieee.Fits.{sub-fits, down-pos}
 use lib.Ieee.Positive.{through}
 use Rattle.series.specs.Pairs.{Pair}
-use Rattle.series.specs.Gaps.{zero32, absolute, sizeOf, larger, largestFrom, largest, cell, sizes, Reached, noneToReach, reachedAt, Largest}
+use Rattle.series.specs.Gaps.{zero32, absolute, differenceSize, larger, largestFrom, largest, cell, differenceSizes, Reached, noneToReach, reachedAt, Largest}
 use Rattle.series.proofs.AlignmentLaws.Absolute.{at-zero}
 
 -- neither a not-a-number nor negative
@@ -145,8 +145,8 @@ record Size (x : Float) : Type 0 where
   unsigned : Unsigned x
   held : T (fits binary32 x)
 
-size-of : (x y : Float) → Size (sizeOf x y)
-unfolding sizeOf
+size-of : (x y : Float) → Size (differenceSize x y)
+unfolding differenceSize
 size-of x y =
     record { unsigned = absolute-unsigned (sub binary32 x y); held = absolute-fits (sub binary32 x y) (sub-fits binary32 x y) }
 
@@ -238,8 +238,8 @@ all-sizes f h [] = tt
 all-sizes f h (p ∷ ps) = (h p, all-sizes f h ps)
 
 -- THEOREM: the size of a channel is the largest over the pairs
-pub largest-of-channel : (d : ℕ) (l r : List Float) (ps : List Pair) (c : ℕ) → Largest (sizes d l r ps c) (largest (sizes d l r ps c))
-unfolding sizes
+pub largest-of-channel : (d : ℕ) (l r : List Float) (ps : List Pair) (c : ℕ) → Largest (differenceSizes d l r ps c) (largest (differenceSizes d l r ps c))
+unfolding differenceSizes
 largest-of-channel d l r ps c =
-    let f : Pair → Float = λ p. sizeOf (cell d l (p .left) c) (cell d r (p .right) c) in
+    let f : Pair → Float = λ p. differenceSize (cell d l (p .left) c) (cell d r (p .right) c) in
     largest-is (map f ps) (all-sizes f (λ p. size-of (cell d l (p .left) c) (cell d r (p .right) c)) ps)

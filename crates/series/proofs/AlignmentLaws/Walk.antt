@@ -7,7 +7,7 @@ use native.Mathlib.Omega.{arith}
 use lib.ListN.{length, getD, drop, length-drop, drop-of-length-le, List·getD-map}
 use lib.Seq.{drop-cons}
 use borrow.Author.Tests.{le-leb, lt-leb, lt-ltb, le-ltb}
-use Rattle.series.specs.Pairs.{Pair, pair, apart, near, turn, pairsFrom, pairs, lefts, rights}
+use Rattle.series.specs.Pairs.{Pair, pair, apart, near, pairStep, pairsFrom, pairs, lefts, rights}
 use Rattle.series.proofs.AlignmentLaws.Fronts.{front}
 
 module _ (w : ℕ) (l r : List ℕ) where
@@ -34,15 +34,15 @@ module _ (w : ℕ) (l r : List ℕ) where
         ∙ ap (λ (b : List ℕ). pairsFrom w i j (getD l i 0 ∷ drop (suc i) l) b) (drop-cons r j 0 hj)
 
     rest-both : apart (getD l i 0) (getD r j 0) ≤ w → rest i j ≡ pair i j ∷ rest (suc i) (suc j)
-    unfolding rest turn near
+    unfolding rest pairStep near
     rest-both h = opened ∙ rw (le-leb (apart (getD l i 0) (getD r j 0)) w h, pairsFrom)
 
     rest-left : w < apart (getD l i 0) (getD r j 0) → getD l i 0 < getD r j 0 → rest i j ≡ rest (suc i) j
-    unfolding rest turn near
+    unfolding rest pairStep near
     rest-left h k = opened ∙ rw (lt-leb (apart (getD l i 0) (getD r j 0)) w h, lt-ltb (getD l i 0) (getD r j 0) k, pairsFrom) (rw (drop-cons r j 0 hj))
 
     rest-right : w < apart (getD l i 0) (getD r j 0) → getD r j 0 ≤ getD l i 0 → rest i j ≡ rest i (suc j)
-    unfolding rest turn near
+    unfolding rest pairStep near
     rest-right h k = opened ∙ rw (lt-leb (apart (getD l i 0) (getD r j 0)) w h, le-ltb (getD l i 0) (getD r j 0) k, pairsFrom) (rw (drop-cons l i 0 hi))
 
 -- n pairs are behind the loop, and the fronts are i and j

@@ -6,7 +6,7 @@ use native.Mathlib.Numerals.{add-one}
 use native.Mathlib.Omega.{arith}
 use lib.ListN.{length, getD, take, drop, set}
 use lib.Seq.{drop-cons, drop-length, take-suc, append-snoc, set-at, getD-at, length-take-le, take-length}
-use Rattle.common.specs.Lent.{over}
+use Rattle.refusal.specs.Lent.{over}
 
 module _ {A : Type 0} where
   unfoldable pub part : List A → List A → ℕ → List A

@@ -5,15 +5,15 @@ use mathlib.Core.Bool.{_||_}
 use mathlib.Core.List.{List, [], _∷_}
 use lib.Dec.{ltb, eqb}
 use lib.ListN.{length}
-use Rattle.common.specs.Refusal.{firstOf}
-use Rattle.series.specs.Alignment.{channelLimit, misshapen, unusable}
+use Rattle.refusal.specs.Refusal.{firstOf}
+use Rattle.series.specs.Alignment.{channelLimit, readingsMisshapen, unusable}
 
 unfoldable pub readingsRow : ℕ → ℕ → List ℕ → ℕ → List ℕ → ℕ
 readingsRow d lc l rc r =
     firstOf (
     (eqb d 0, 2)
     ∷ (ltb channelLimit d, 4)
-    ∷ (misshapen d lc (length l) || misshapen d rc (length r), 10)
+    ∷ (readingsMisshapen d lc (length l) || readingsMisshapen d rc (length r), 10)
     ∷ (unusable l || unusable r, 24)
     ∷ [])
 
@@ -21,13 +21,13 @@ unfoldable pub roomRow : ℕ → ℕ → ℕ → ℕ → ℕ → ℕ
 roomRow d n lo ro go = firstOf ((ltb lo n || (ltb ro n || ltb go d), 20) ∷ [])
 
 -- what is known where no row of the readings refuses
-pub record Shaped (d lc l rc r : ℕ) : Type 0 where
+pub record ReadingsShaped (d lc l rc r : ℕ) : Type 0 where
   pub few : d ≤ channelLimit
   pub left : lc ≡ l * d
   pub right : rc ≡ r * d
 
 -- and where the room suffices
-pub record Roomy (d n lo ro go : ℕ) : Type 0 where
+pub record RoomForPairs (d n lo ro go : ℕ) : Type 0 where
   pub lefts : n ≤ lo
   pub rights : n ≤ ro
   pub gaps : d ≤ go

@@ -23,12 +23,12 @@ Above (At r x) i = i ≤ r
 Above Nowhere i = Unit {0}
 
 -- the place of a cell in its channel's reading lies in the list
-pub record Placed (ch : Channel) (readings cells : ℕ) : Type 0 where
+pub record CellInside (ch : Channel) (readings cells : ℕ) : Type 0 where
   pub channel : ch .c < ch .d
   pub room : readings * ch .d ≤ cells
 
 -- cells, marks and fixed values of one shape, by their numbers
-pub record Shaped (d cells marks fixed : ℕ) : Type 0 where
+pub record CellsShaped (d cells marks fixed : ℕ) : Type 0 where
   pub some : 0 < d
   pub narrow : d ≤ 16
   pub whole : cells / d * d ≡ cells
@@ -60,7 +60,7 @@ pub record Passed : Type 0 where
 abbrev pub passing : Gap → List Float → Passed
 passing g l = record { gap = g; cells = l }
 
--- reading i is passed: a present cell closes the gap before it, and the next gap opens behind it
+-- reading i is passed: a present cell closes the gap before it, and the next gap opens after it
 unfoldable pub passedOf : Channel → Gap → ℕ → List ℕ → List Float → Passed
 passedOf ch gap i marks l =
     let here = At i (getD l (i * ch .d + ch .c) nan) in

@@ -9,6 +9,7 @@ use lib.ListN.{length, take, drop, replicate, getD}
 use lib.Dec.{leb, ltb, eqb}
 use lib.Ieee.{Float, nan, Format, binary32, binary64}
 use Rattle.common.specs.Deviation.{countLimit, outsideUnit}
+use Rattle.refusal.specs.Lent.{over}
 use Rattle.trcf.specs.Types.{isNone, normalizes, modeOfLetter}
 use Rattle.trcf.specs.Settings.{Settings, imputes, allOne}
 use Rattle.trcf.specs.Calls.{finite, seenLimit}
@@ -39,10 +40,10 @@ abbrev pub onto : {A B : Type 0} → Option A → (A → Option B) → Option B
 onto none g = none
 onto (some a) g = g a
 
--- a value, and what is left behind it
-abbrev pub held : {A : Type 0} → A → Option (List ℕ) → Option (A × List ℕ)
-held a none = none
-held a (some z) = some (a, z)
+-- a value, and what is left after it
+abbrev pub withRest : {A : Type 0} → A → Option (List ℕ) → Option (A × List ℕ)
+withRest a none = none
+withRest a (some z) = some (a, z)
 
 -- ---- pieces
 
@@ -58,7 +59,7 @@ abbrev pub fieldLength : List ℕ → ℕ
 fieldLength [] = 0
 fieldLength (b ∷ l) = let r = fieldLength l in cond (leb b 10) 0 (suc r)
 
--- the field behind the tab at the place p, and the place behind it
+-- the field after the tab at the place p, and the place after it
 abbrev pub fieldIn : ℕ → List ℕ → Field
 fieldIn k [] = Bad
 fieldIn k (x ∷ l) = cond (eqb x 9) (fieldOf k (take (fieldLength l) l)) Bad
@@ -68,15 +69,15 @@ endIn p [] = p
 endIn p (x ∷ l) = cond (eqb x 9) (suc p + fieldLength l) p
 
 -- the rest of the text as one field: its tab was read before, as the bench does, which reads its input in pieces
-abbrev pub restOf : ℕ → ℕ → List ℕ → Next
-restOf k p t = record { field = fieldOf k (drop p t); end = length t }
+abbrev pub restField : ℕ → ℕ → List ℕ → Next
+restField k p t = record { field = fieldOf k (drop p t); end = length t }
 
 abbrev pub tabbedOf : ℕ → ℕ → List ℕ → Next
 tabbedOf k p t = record { field = fieldIn k (drop p t); end = endIn p (drop p t) }
 
 -- by the kind, 0 to 2; the same with 4 more for the rest of the text
 abbrev pub nextOf : ℕ → ℕ → List ℕ → Next
-nextOf k p t = cond (leb 4 k) (restOf (k - 4) p t) (tabbedOf k p t)
+nextOf k p t = cond (leb 4 k) (restField (k - 4) p t) (tabbedOf k p t)
 
 module _ {A : Type 0} (p : List ℕ → Option A) where
   abbrev pub one : List ℕ → Option (A × List ℕ)
@@ -87,24 +88,38 @@ abbrev pub before : {A : Type 0} → List A → Option (List A × List ℕ) → 
 before u none = none
 before u (some r) = some (u ++ r .0, r .1)
 
--- n fields, each behind its tab
+-- n fields, each after its tab
 abbrev pub fields : {A : Type 0} → (List ℕ → Option A) → ℕ → List ℕ → Option (List A × List ℕ)
 fields p zero l = some ([], l)
 fields p (suc n) l = onto (one p l) (λ r. before (r .0 ∷ []) (fields p n (r .1)))
 
--- what stands behind the last field
+-- what stands after the last field
 abbrev pub closing : {A : Type 0} → Option (A × List ℕ) → Option (A × List ℕ)
 closing none = none
-closing (some r) = held (r .0) (byte 10 (r .1))
+closing (some r) = withRest (r .0) (byte 10 (r .1))
 
 -- a line of a name and n fields of one kind
 unfoldable pub listLine : {A : Type 0} → (List ℕ → Option A) → ℕ → ℕ → ℕ → ℕ → List ℕ → Option (List A × List ℕ)
 listLine p a b c n l = closing (onto (name a b c l) (fields p n))
 
--- what n fields leave in lent memory of that length
-pub record Filled {A : Type 0} (o : Option (List A × List ℕ)) (t : List ℕ) (old : List A) (r : Place) (new : List A) : Type 0 where
-  pub told : held new (placed r t) ≡ o
+-- n fields up to the first bad one
+abbrev pub led : {A B : Type 0} → Option A → (A → List B) → List B
+led none g = []
+led (some a) g = g a
+
+abbrev pub goodFields : {A : Type 0} → (List ℕ → Option A) → ℕ → List ℕ → List A
+goodFields p zero l = []
+goodFields p (suc n) l = led (one p l) (λ r. r .0 ∷ goodFields p n (r .1))
+
+-- the same of a line: none where it has another name
+abbrev pub lineFirsts : {A : Type 0} → (List ℕ → Option A) → ℕ → ℕ → ℕ → ℕ → List ℕ → List A
+lineFirsts p a b c n l = led (name a b c l) (goodFields p n)
+
+-- what n fields leave in lent memory of that length: the fields; of bad ones, those before the first bad one, and after them what it held before
+pub record Filled {A : Type 0} (o : Option (List A × List ℕ)) (v : List A) (t : List ℕ) (old : List A) (r : Place) (new : List A) : Type 0 where
+  pub told : withRest new (placed r t) ≡ o
   pub kept : length new ≡ length old
+  pub left : new ≡ over old v
 
 -- ---- what is read of a line, where it passes the tests of its kind
 
@@ -136,7 +151,7 @@ eitherOf (some r) o = some (inl (r .0), r .1)
 eitherOf none (some r) = some (inr (r .0), r .1)
 eitherOf none none = none
 
--- how many lines hold codes, the codes, and what is left behind them
+-- how many lines hold codes, the codes, and what is left after them
 pub record Codes : Type 0 where
   pub extra : ℕ
   pub codes : List ℕ
@@ -154,9 +169,9 @@ chnOr d none l = codesRead 0 (replicate d 0) l
 abbrev pub countsOf : List ℕ → Counts
 countsOf w = record { valuesSeen = getD w 0 0; internalTimestamp = getD w 1 0; count = getD w 2 0 }
 
-abbrev pub counted : Option (List ℕ × List ℕ) → Option (Counts × List ℕ)
-counted none = none
-counted (some r) = some (countsOf (r .0), r .1)
+abbrev pub countsIfRead : Option (List ℕ × List ℕ) → Option (Counts × List ℕ)
+countsIfRead none = none
+countsIfRead (some r) = some (countsOf (r .0), r .1)
 
 unfoldable pub cntTest : TransformMethod → ℕ → Counts → Bool
 cntTest m start c =
@@ -165,7 +180,7 @@ cntTest m start c =
     && (leb (c .count) countLimit && (not (normalizes m && ltb (c .valuesSeen) start) || eqb (c .internalTimestamp) 0)))
 
 unfoldable pub cntBy : TransformMethod → ℕ → List ℕ → Option (Counts × List ℕ)
-cntBy m start l = checked (cntTest m start) (counted (listLine asWhole 99 110 116 3 l))
+cntBy m start l = checked (cntTest m start) (countsIfRead (listLine asWhole 99 110 116 3 l))
 
 -- `tim`: "none falling"; "With internal 0 all `tim` are 0."
 unfoldable pub timTest : ℕ → List ℕ → Bool
@@ -191,10 +206,15 @@ bufBy d p l = checked (bufTest p) (bufRaw d l)
 abbrev pub countsRead : ℕ → ℕ → ℕ → Counts
 countsRead a b c = record { valuesSeen = a; internalTimestamp = b; count = c }
 
+-- its numbers up to the first bad one: none where its name or its time is bad
+abbrev pub bufFirsts : ℕ → List ℕ → List Float
+bufFirsts d l = led (name 98 117 102 l) (λ z. led (one asWhole z) (λ t. goodFields (asFloat binary32) d (t .1)))
+
 -- what one `buf` line leaves: its numbers in lent memory, and its time
-pub record FilledWith (o : Option (Reading × List ℕ)) (t : List ℕ) (old : List Float) (p : Place) (r : Reading) : Type 0 where
-  pub told : held r (placed p t) ≡ o
+pub record FilledWith (o : Option (Reading × List ℕ)) (v : List Float) (t : List ℕ) (old : List Float) (p : Place) (r : Reading) : Type 0 where
+  pub told : withRest r (placed p t) ≡ o
   pub kept : length (r .value) ≡ length old
+  pub left : r .value ≡ over old v
 
 -- `dev`
 abbrev pub threeOf : List Float → Three
@@ -239,7 +259,7 @@ setTest d k start stop decay =
     && (not (eqb k 0) && (not (ltb 16 d || ltb 64 k) && (not (outsideUnit decay) && (not (ltb stop start) && not (leb 2000 start)))))
 
 unfoldable pub tailBy : List ℕ → Option ((Float × Float) × List ℕ)
-tailBy l = onto (one (asFloat binary64) l) (λ y. onto (one (asFloat binary32) (y .1)) (λ x. held (y .0, x .0) (byte 10 (x .1))))
+tailBy l = onto (one (asFloat binary64) l) (λ y. onto (one (asFloat binary32) (y .1)) (λ x. withRest (y .0, x .0) (byte 10 (x .1))))
 
 abbrev pub settingsWith : ForestMode → TransformMethod → List ℕ → Float → Float → Settings
 settingsWith m t w y x =
@@ -256,14 +276,14 @@ settingsWith m t w y x =
       codes = [];
     }
 
-abbrev pub settled : ForestMode → TransformMethod → List ℕ → Option ((Float × Float) × List ℕ) → Option (Settings × List ℕ)
-settled m t w none = none
-settled m t w (some r) = cond (setTest (getD w 1 0) (getD w 2 0) (getD w 3 0) (getD w 4 0) (r .0 .0)) (some (settingsWith m t w (r .0 .0) (r .0 .1), r .1)) none
+abbrev pub settingsIfRead : ForestMode → TransformMethod → List ℕ → Option ((Float × Float) × List ℕ) → Option (Settings × List ℕ)
+settingsIfRead m t w none = none
+settingsIfRead m t w (some r) = cond (setTest (getD w 1 0) (getD w 2 0) (getD w 3 0) (getD w 4 0) (r .0 .0)) (some (settingsWith m t w (r .0 .0) (r .0 .1), r .1)) none
 
 unfoldable pub setBy : List ℕ → Option (Settings × List ℕ)
 setBy l =
     onto (onto (name 115 101 116 l) (byte 9))
-    (λ z. onto (modeIn z) (λ m. onto (fields asWhole 5 (drop 1 z)) (λ w. onto (methodIn (getD (w .0) 0 0)) (λ t. settled m t (w .0) (tailBy (w .1))))))
+    (λ z. onto (modeIn z) (λ m. onto (fields asWhole 5 (drop 1 z)) (λ w. onto (methodIn (getD (w .0) 0 0)) (λ t. settingsIfRead m t (w .0) (tailBy (w .1))))))
 
 abbrev pub settingsTold : Set → Settings
 settingsTold r =

@@ -9,12 +9,10 @@ use lib.Ieee.{Float, binary32, binary64}
 use Rattle.trcf.specs.Lists.{null}
 use Rattle.trcf.specs.Settings.{Settings, dimension, waiting}
 use Rattle.trcf.specs.Preprocessor.{State, Reading, statisticsLength}
-use Rattle.trcf.specs.View.{Lent, settingsOf, headFrom, counting, laid}
+use Rattle.trcf.specs.View.{Lent, settingsOf, headFrom, counting, writtenOver}
 use Rattle.trcf.specs.declared.head.Preprocessor.{Preprocessor}
 use Rattle.snapshot.specs.Read.{asFloat, Counts, Read, taken, bad, mayStand, stateOf, withLists}
 use Rattle.snapshot.specs.Steps.Judge.{listLine, Codes, chnOr, chnBy, setBy, wgtBy, cntBy, timBy, bufBy}
-use Rattle.snapshot.specs.declared.lines.Lines.{Lines}
-use Rattle.snapshot.specs.declared.restore.Judged.{Judged}
 
 -- ---- some lines: a value and what is left of the text, or which of them is the first bad one, from 1
 
@@ -27,23 +25,20 @@ abbrev pub oneLine : {A : Type 0} → Option (A × List ℕ) → Ran A
 oneLine none = broke 1
 oneLine (some r) = ran (r .0) (r .1)
 
--- lines behind n others
-abbrev pub behindLines : {A : Type 0} → ℕ → Ran A → Ran A
-behindLines n (ran a z) = ran a z
-behindLines n (broke m) = broke (n + m)
+-- lines after n others
+abbrev pub afterLines : {A : Type 0} → ℕ → Ran A → Ran A
+afterLines n (ran a z) = ran a z
+afterLines n (broke m) = broke (n + m)
 
 -- n lines, then others
-abbrev pub after : {A B : Type 0} → ℕ → Ran A → (A → List ℕ → Ran B) → Ran B
-after n (ran a z) g = behindLines n (g a z)
-after n (broke m) g = broke m
+abbrev pub thenLines : {A B : Type 0} → ℕ → Ran A → (A → List ℕ → Ran B) → Ran B
+thenLines n (ran a z) g = afterLines n (g a z)
+thenLines n (broke m) g = broke m
 
--- as the code tells it: the bad line or 0, and the place behind
-abbrev pub told : {A : Type 0} → ℕ → A → List ℕ → Ran A
-told zero a z = ran a z
-told (suc m) a z = broke (suc m)
-
-abbrev pub lined : {A : Type 0} → Lines → A → List ℕ → Ran A
-lined r a t = told (r .bad) a (drop (r .at) t)
+-- as the code tells it: the bad line or 0, and the place after it
+abbrev pub ranBy : {A : Type 0} → ℕ → A → List ℕ → Ran A
+ranBy zero a z = ran a z
+ranBy (suc m) a z = broke (suc m)
 
 -- what is judged and not kept
 abbrev pub unkept : {A : Type 0} → Ran A → Ran (Unit {0})
@@ -59,14 +54,14 @@ front a (broke m) = broke m
 module _ {A : Type 0} (p : ℕ → List ℕ → Option (A × List ℕ)) (f : A → ℕ) where
   abbrev pub many : ℕ → ℕ → List ℕ → Ran (List A)
   many q zero l = ran [] l
-  many q (suc n) l = after 1 (oneLine (p q l)) (λ a z. front a (many (f a) n z))
+  many q (suc n) l = thenLines 1 (oneLine (p q l)) (λ a z. front a (many (f a) n z))
 
 -- the `dev` lines, three numbers each
-abbrev pub devLine : ℕ → List ℕ → Option (List Float × List ℕ)
-devLine q l = listLine (asFloat binary64) 100 101 118 3 l
+abbrev pub devFields : ℕ → List ℕ → Option (List Float × List ℕ)
+devFields q l = listLine (asFloat binary64) 100 101 118 3 l
 
-abbrev pub unread : List Float → ℕ
-unread v = 0
+abbrev pub noCarry : List Float → ℕ
+noCarry v = 0
 
 abbrev pub flat : List (List Float) → List Float
 flat [] = []
@@ -77,29 +72,29 @@ mapRan f (ran a z) = ran (f a) z
 mapRan f (broke m) = broke m
 
 unfoldable pub devs : ℕ → List ℕ → Ran (List Float)
-devs n l = mapRan flat (many devLine unread 0 n l)
+devs n l = mapRan flat (many devFields noCarry 0 n l)
 
 -- the `buf` lines: "times not falling"
 abbrev pub timeOf : Reading → ℕ
 timeOf r = r .time
 
-abbrev pub valuesOf : List Reading → List Float
-valuesOf [] = []
-valuesOf (r ∷ l) = r .value ++ valuesOf l
+abbrev pub readingValues : List Reading → List Float
+readingValues [] = []
+readingValues (r ∷ l) = r .value ++ readingValues l
 
-abbrev pub timesOf : List Reading → List ℕ
-timesOf [] = []
-timesOf (r ∷ l) = r .time ∷ timesOf l
+abbrev pub readingTimes : List Reading → List ℕ
+readingTimes [] = []
+readingTimes (r ∷ l) = r .time ∷ readingTimes l
 
 pub record Initial : Type 0 where
   pub values : List Float
   pub times : List ℕ
 
-abbrev pub initial : List Float → List ℕ → Initial
-initial v ts = record { values = v; times = ts }
+abbrev pub initialLists : List Float → List ℕ → Initial
+initialLists v ts = record { values = v; times = ts }
 
 abbrev pub initialOf : List Reading → Initial
-initialOf l = initial (valuesOf l) (timesOf l)
+initialOf l = initialLists (readingValues l) (readingTimes l)
 
 unfoldable pub bufs : ℕ → ℕ → List ℕ → Ran Initial
 bufs d n l = mapRan initialOf (many (bufBy d) timeOf 0 n l)
@@ -117,12 +112,12 @@ parts st x y ts = record { statistics = st; input = x; point = y; times = ts }
 
 unfoldable pub partsBy : ℕ → ℕ → ℕ → ℕ → ℕ → List ℕ → Ran Parts
 partsBy internal n x y k l =
-    after n (devs n l)
+    thenLines n (devs n l)
     (λ st l₁.
-    after 1 (oneLine (listLine (asFloat binary32) 105 110 112 x l₁))
+    thenLines 1 (oneLine (listLine (asFloat binary32) 105 110 112 x l₁))
     (λ v l₂.
-    after 1 (oneLine (listLine (asFloat binary32) 112 110 116 y l₂))
-    (λ u l₃. after 1 (oneLine (timBy internal k l₃)) (λ ts l₄. ran (parts st v u ts) l₄))))
+    thenLines 1 (oneLine (listLine (asFloat binary32) 112 110 116 y l₂))
+    (λ u l₃. thenLines 1 (oneLine (timBy internal k l₃)) (λ ts l₄. ran (parts st v u ts) l₄))))
 
 -- ---- `set`, `wgt`, `chn` where it stands, and `cnt`
 
@@ -136,22 +131,22 @@ headRead s c n = record { settings = s; counts = c; extra = n }
 
 abbrev pub thirdBy : Settings → List Float → Codes → Ran Head
 thirdBy s v q =
-    behindLines (q .extra) (after 1 (oneLine (cntBy (s .method) (s .start) (q .rest))) (λ c z. ran (headRead (withLists s v (q .codes)) c (q .extra)) z))
+    afterLines (q .extra) (thenLines 1 (oneLine (cntBy (s .method) (s .start) (q .rest))) (λ c z. ran (headRead (withLists s v (q .codes)) c (q .extra)) z))
 
 unfoldable pub headBy : List ℕ → Ran Head
 headBy l =
-    after 1 (oneLine (setBy l))
+    thenLines 1 (oneLine (setBy l))
     (λ s l₁.
-    after 1 (oneLine (wgtBy (s .method) (s .d) l₁))
+    thenLines 1 (oneLine (wgtBy (s .method) (s .d) l₁))
     (λ v l₂. thirdBy s v (chnOr (s .d) (chnBy (s .d) l₂) l₂)))
 
 -- with no initial values yet
-abbrev pub headOf : Head → Preprocessor
-headOf h = counting (headFrom (h .settings)) (h .counts .count) (h .counts .valuesSeen) (h .counts .internalTimestamp) 0
+abbrev pub headWithCounts : Head → Preprocessor
+headWithCounts h = counting (headFrom (h .settings)) (h .counts .count) (h .counts .valuesSeen) (h .counts .internalTimestamp) 0
 
 -- with how many lines hold codes
 abbrev pub headedOf : Head → Preprocessor × ℕ
-headedOf h = (headOf h, h .extra)
+headedOf h = (headWithCounts h, h .extra)
 
 -- within the limits of rows 4 and 8
 pub record Few (d k start : ℕ) : Type 0 where
@@ -211,8 +206,8 @@ partsOf s c l = partsBy (c .internalTimestamp) (5 * s .d + 5) (s .d * s .k) (dim
 
 unfoldable pub bodyBy : Settings → Counts → List ℕ → Ran Body
 bodyBy s c l =
-    after (5 * s .d + 8) (partsOf s c l)
-    (λ p l₁. after (expected s c l₁) (bufs (s .d) (expected s c l₁) l₁) (λ i l₂. ending (body p i) l₂))
+    thenLines (5 * s .d + 8) (partsOf s c l)
+    (λ p l₁. thenLines (expected s c l₁) (bufs (s .d) (expected s c l₁) l₁) (λ i l₂. ending (body p i) l₂))
 
 abbrev pub stateFrom : Settings → Counts → Body → State
 stateFrom s c b =
@@ -222,9 +217,9 @@ abbrev pub Good : {A : Type 0} → Ran A → Type 0
 Good (ran a z) = Unit {0}
 Good (broke m) = ⊥
 
--- the same lines where n `buf` lines are known to stand and nothing behind them
+-- the same lines where n `buf` lines are known to stand and nothing after them
 unfoldable pub filledBy : Settings → Counts → ℕ → List ℕ → Ran Body
-filledBy s c n l = after (5 * s .d + 8) (partsOf s c l) (λ p l₁. after n (bufs (s .d) n l₁) (λ i l₂. ran (body p i) l₂))
+filledBy s c n l = thenLines (5 * s .d + 8) (partsOf s c l) (λ p l₁. thenLines n (bufs (s .d) n l₁) (λ i l₂. ran (body p i) l₂))
 
 -- what lent lists hold afterwards, where the lines are good
 abbrev pub Fills : Ran Body → Body → Type 0
@@ -232,7 +227,7 @@ Fills r held = (b : Body) (z : List ℕ) → ran b z ≡ r → held ≡ b
 
 -- the same of lists that may be longer
 abbrev pub FillsOver : Settings → Counts → Ran Body → Lent → Lent → Type 0
-FillsOver s c r old new = (b : Body) (z : List ℕ) → ran b z ≡ r → new ≡ laid (stateFrom s c b) old
+FillsOver s c r old new = (b : Body) (z : List ℕ) → ran b z ≡ r → new ≡ writtenOver (stateFrom s c b) old
 
 -- what is in use fits the lent lists
 pub record Room (h : Preprocessor) (n statistics input point times values initial : ℕ) : Type 0 where
@@ -246,13 +241,8 @@ pub record Room (h : Preprocessor) (n statistics input point times values initia
   pub in-values : n * h .transformer .«input_length» ≤ values
   pub in-initial : n ≤ initial
 
--- what a judged text says of these lines: the bad one or 0, and how many initial values there are
-abbrev pub summed : Ran Body → Judged
-summed (ran b z) = record { bad = 0; count = length (b .initial .times) }
-summed (broke m) = record { bad = m; count = 0 }
-
 unfoldable pub readBy : List ℕ → Ran State
-readBy t = after 3 (headBy t) (λ h l. behindLines (h .extra) (mapRan (stateFrom (h .settings) (h .counts)) (bodyBy (h .settings) (h .counts) l)))
+readBy t = thenLines 3 (headBy t) (λ h l. afterLines (h .extra) (mapRan (stateFrom (h .settings) (h .counts)) (bodyBy (h .settings) (h .counts) l)))
 
 abbrev pub asRead : Ran State → Read
 asRead (ran w z) = taken w

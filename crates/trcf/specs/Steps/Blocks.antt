@@ -7,8 +7,8 @@ use mathlib.Core.List.{List}
 use lib.IntN.{pos}
 use lib.ListN.{length, getD}
 use lib.Ieee.{Float, nan, binary32, mul, ofInt}
-use Rattle.common.specs.declared.rangevector.Range32.{Range32}
-use Rattle.common.specs.RangeVector.{Range, range, Ranges, shifted, scaled, rangeAt, putAt}
+use Rattle.ranges.specs.declared.rangevector.Range32.{Range32}
+use Rattle.ranges.specs.RangeVector.{Range, range, Ranges, shifted, scaled, rangeAt, putAt}
 use Rattle.trcf.specs.Types.{isNone, normalizes, differences, centres}
 use Rattle.trcf.specs.Transformer.{Transformer, reciprocal, weightAt, normalizedScale, basicDrift, basicShift, scaledIf, shiftedIf}
 use Rattle.trcf.specs.declared.types.TransformMethod.{TransformMethod}
@@ -42,8 +42,8 @@ turnPlace normal moves i fs ss ds bs j r =
 abbrev pub moves : TransformMethod → Bool
 moves m = centres m || differences m
 
-unfoldable pub placeOf : TransformMethod → ℕ → List Float → List Float → List Float → List Float → ℕ → Range → Range
-placeOf m i fs ss ds bs j r = cond (isNone m) (driftPlace i ds j r) (turnPlace (normalizes m) (moves m) i fs ss ds bs j r)
+unfoldable pub invertPlace : TransformMethod → ℕ → List Float → List Float → List Float → List Float → ℕ → Range → Range
+invertPlace m i fs ss ds bs j r = cond (isNone m) (driftPlace i ds j r) (turnPlace (normalizes m) (moves m) i fs ss ds bs j r)
 
 -- where b says so, the first n bases are the values from `at` on
 abbrev pub CarriedTo : Bool → ℕ → ℕ → List Float → List Float → List Float → Type 0
@@ -54,7 +54,7 @@ pub record Carried (b : Bool) (at n : ℕ) (l old new : List Float) : Type 0 whe
   pub each : CarriedTo b at n l old new
 
 -- the lists hold what the first n channels are scaled and shifted by in the first block
-pub record Held (t : Transformer) (previous : List Float) (n : ℕ) (fs ss ds bs : List Float) : Type 0 where
+pub record FactorsIn (t : Transformer) (previous : List Float) (n : ℕ) (fs ss ds bs : List Float) : Type 0 where
   pub long : length bs ≡ 16
   pub factor : (k : ℕ) → k < n → getD fs k nan ≡ reciprocal (weightAt t k)
   pub scale : (k : ℕ) → k < n → getD ss k nan ≡ normalizedScale t k

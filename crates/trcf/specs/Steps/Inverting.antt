@@ -4,7 +4,7 @@ use mathlib.Core.Path.{_≡_}
 use mathlib.Core.Bool.{Bool, true, false, cond, _&&_}
 use lib.Ieee.{Float, binary64, mul, div, eq}
 use Rattle.common.specs.Deviation.{zero64, one64}
-use Rattle.common.specs.RangeVector.{Range, range, Ranges, ranges, shifted, scaled, rangeAt, unblocked}
+use Rattle.ranges.specs.RangeVector.{Range, range, Ranges, ranges, shifted, scaled, rangeAt, unblocked}
 use Rattle.trcf.specs.Lists.{tabulate}
 use Rattle.trcf.specs.Types.{augments, differences}
 use Rattle.trcf.specs.Transformer.{zero32}
@@ -53,7 +53,7 @@ timeBy gap factor scale drift r =
     cond gap (scaled binary64 (range (mul binary64 (r .value) factor) (mul binary64 (r .upper) factor) (mul binary64 (r .lower) factor)) scale)
     (shifted binary64 (range (stretched factor scale (r .value)) (stretched factor scale (r .upper)) (stretched factor scale (r .lower))) drift)
 
--- the time of block i of a numbers, behind m of them
+-- the time of block i of a numbers, after m of them
 abbrev pub timeAt : Bool → Float → Float → Float → ℕ → ℕ → Ranges → ℕ → Range
 timeAt gap factor scale drift a m v i = timeBy gap factor scale drift (rangeAt v (i * a + m))
 

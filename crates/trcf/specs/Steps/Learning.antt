@@ -8,8 +8,8 @@ use lib.ListN.{length, take, drop, getD}
 use lib.Ieee.{Float, lt}
 use Rattle.common.specs.Deviation.{countLimit}
 use Rattle.trcf.specs.Lists.{shiftIn}
-use Rattle.common.specs.Refusal.{firstOf}
-use Rattle.common.specs.Lent.{over}
+use Rattle.refusal.specs.Refusal.{firstOf}
+use Rattle.refusal.specs.Lent.{over}
 use Rattle.trcf.specs.Transformer.{zero32, one32, inverted}
 use Rattle.trcf.specs.Settings.{Settings, transformer, block, dimension}
 use Rattle.trcf.specs.Calls.{seenLimit, finite}

@@ -41,11 +41,11 @@ firsts (suc n) l d decay count x previous =
     firstAt (firsts n l d decay count x previous) n d decay count (getD x n nan) (differenceOf x previous n)
 
 -- the two radicands of each of n channels, written into a
-unfoldable pub noted : ℕ → List Float → List Float → ℕ → Float → ℕ → List Float → List Float → List Float
-noted zero a l d decay count x previous = a
-noted (suc n) a l d decay count x previous =
+unfoldable pub radicands : ℕ → List Float → List Float → ℕ → Float → ℕ → List Float → List Float → List Float
+radicands zero a l d decay count x previous = a
+radicands (suc n) a l d decay count x previous =
     let s = firsts n l d decay count x previous in
-    set (set (noted n a l d decay count x previous) (2 * n) (radicandOf (stepOf (statisticAt s n decay count) (getD x n nan)))) (2 * n + 1)
+    set (set (radicands n a l d decay count x previous) (2 * n) (radicandOf (stepOf (statisticAt s n decay count) (getD x n nan)))) (2 * n + 1)
     (radicandOf (stepOf (statisticAt s (n + d) decay count) (differenceOf x previous n)))
 
 -- the last pass over n of d channels, with the roots r

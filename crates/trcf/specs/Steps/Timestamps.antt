@@ -40,5 +40,5 @@ abbrev pub Share : Float → Float → Deviations → Type 0
 Share f g t = IsFactor f (t .value) × IsFactor f (t .difference) × IsFactor g (t .deviation) × IsFactor g (t .«difference_mean») × IsFactor g (t .«difference_deviation»)
 
 -- the five can be fed, by these factors
-abbrev pub Ready : Float → Float → Deviations → Type 0
-Ready f g t = Unspent t × Share f g t
+abbrev pub Feedable : Float → Float → Deviations → Type 0
+Feedable f g t = Unspent t × Share f g t

@@ -4,7 +4,7 @@ use mathlib.Core.List.{[], _∷_}
 use borrow.Author.Tests.{not-true, not-false}
 use Rattle.trcf.specs.View.{lent}
 use Rattle.trcf.specs.declared.head.Preprocessor.{Preprocessor}
-use Rattle.snapshot.specs.Restore.{outcome as restored}
+use Rattle.snapshot.specs.Restore.{restoreOutcome as restored}
 use Rattle.access.specs.declared.rights.Right.the-variants.{RESTORE}
 use Rattle.access.proofs.Laws.{guard-shut, guard-open}
 use borrow.Author.Needs.{needs}

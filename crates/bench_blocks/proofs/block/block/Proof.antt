@@ -2,7 +2,7 @@
 use native.Mathlib.Omega.{arith}
 use Rattle.trcf.specs.View.{lent}
 use Rattle.bench_core.specs.Bench.{output}
-use Rattle.bench_blocks.specs.Blocks.{written}
+use Rattle.bench_blocks.specs.Blocks.{blockPrinted}
 use Rattle.bench_blocks.proofs.EndLaws.{block-open, block-full, block-closed}
 use borrow.Author.Needs.{needs}
 use Rattle.bench_blocks.proofs.block.block.Statement.{statement}
@@ -44,7 +44,7 @@ returns c =
     let a = k4 .before .before .before .args in
     let s = k2 .before .cells in (
       block-open (a .b) (lent (a .statistics .now) (a .last-shingled-input .now) (a .last-shingled-point .now) (a .previous-timestamps .now) (a .initial-values .now)
-          (a .initial-timestamps .now)) (a .point .now) (a .text .now) (a .out .now) (a .ends) (written (s .result .bench)
+          (a .initial-timestamps .now)) (a .point .now) (a .text .now) (a .out .now) (a .ends) (blockPrinted (s .result .bench)
           (lent (s .last .1 .0) (s .last .1 .1 .0) (s .last .1 .1 .1 .0) (s .last .1 .1 .1 .1 .0) (s .last .1 .1 .1 .1 .1 .0) (s .last .1 .1 .1 .1 .1 .1 .0))
           (s .last .1 .1 .1 .1 .1 .1 .1 .0) (s .result .read) (output (s .result .written) (s .last .1 .1 .1 .1 .1 .1 .1 .1 .1 .0)) (s .result .full)) (s .ensures) (c .if1 .taken),
       (
@@ -87,7 +87,7 @@ returns-2 c =
     let a = k4 .before .before .before .before .args in
     let s = k2 .before .before .cells in (
       block-full (a .b) (lent (a .statistics .now) (a .last-shingled-input .now) (a .last-shingled-point .now) (a .previous-timestamps .now) (a .initial-values .now)
-          (a .initial-timestamps .now)) (a .point .now) (a .text .now) (a .out .now) (a .ends) (written (s .result .bench)
+          (a .initial-timestamps .now)) (a .point .now) (a .text .now) (a .out .now) (a .ends) (blockPrinted (s .result .bench)
           (lent (s .last .1 .0) (s .last .1 .1 .0) (s .last .1 .1 .1 .0) (s .last .1 .1 .1 .1 .0) (s .last .1 .1 .1 .1 .1 .0) (s .last .1 .1 .1 .1 .1 .1 .0))
           (s .last .1 .1 .1 .1 .1 .1 .1 .0) (s .result .read) (output (s .result .written) (s .last .1 .1 .1 .1 .1 .1 .1 .1 .1 .0)) (s .result .full)) (s .ensures) (c .before .if1
           .left) (c .if2 .taken),
@@ -174,7 +174,7 @@ returns-3 c =
     let s = k3 .before .cells in
     let t = c .before .before .before .before .end-at in (
       block-closed (a .b) (lent (a .statistics .now) (a .last-shingled-input .now) (a .last-shingled-point .now) (a .previous-timestamps .now) (a .initial-values .now)
-          (a .initial-timestamps .now)) (a .point .now) (a .text .now) (a .out .now) (a .ends) (written (s .result .bench)
+          (a .initial-timestamps .now)) (a .point .now) (a .text .now) (a .out .now) (a .ends) (blockPrinted (s .result .bench)
           (lent (s .last .1 .0) (s .last .1 .1 .0) (s .last .1 .1 .1 .0) (s .last .1 .1 .1 .1 .0) (s .last .1 .1 .1 .1 .1 .0) (s .last .1 .1 .1 .1 .1 .1 .0))
           (s .last .1 .1 .1 .1 .1 .1 .1 .0) (s .result .read) (output (s .result .written) (s .last .1 .1 .1 .1 .1 .1 .1 .1 .1 .0)) (s .result .full)) (s .ensures) (c .before .before
           .before .before .before .before .before .before .if1 .left) (c .before .before .before .before .before .before .before .if2 .left) (t .result .bench) (t .last .1 .1 .1 .0) (t

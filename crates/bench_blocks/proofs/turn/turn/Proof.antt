@@ -5,7 +5,7 @@ use borrow.Author.Needs.{needs}
 use lib.ListN.{length, length-take}
 use Rattle.trcf.specs.View.{lent}
 use Rattle.bench_core.specs.Bench.{output}
-use Rattle.bench_blocks.specs.Blocks.{written}
+use Rattle.bench_blocks.specs.Blocks.{blockPrinted}
 use Rattle.bench_blocks.proofs.TurnLaws.{unfit-false, turn-refused, turn-done}
 use Rattle.bench_blocks.proofs.turn.turn.Statement.{statement}
 use Rattle.bench_blocks.proofs.turn.turn.Tie as tie
@@ -120,7 +120,7 @@ returns-2 c =
     let m = c .before .before .before .carry in (
       turn-done (a .run) (lent (a .statistics .now) (a .last-shingled-input .now) (a .last-shingled-point .now) (a .previous-timestamps .now) (a .initial-values .now)
           (a .initial-timestamps .now)) (a .point .now) (a .text .now) (a .got) (a .out .now) (u .result) (u .ensures) (k4 .before .before .if1 .left) (n .result) (n .ensures .0) (q
-          .result) (q .ensures) (written (s .result .bench)
+          .result) (q .ensures) (blockPrinted (s .result .bench)
           (lent (s .last .1 .0) (s .last .1 .1 .0) (s .last .1 .1 .1 .0) (s .last .1 .1 .1 .1 .0) (s .last .1 .1 .1 .1 .1 .0) (s .last .1 .1 .1 .1 .1 .1 .0))
           (s .last .1 .1 .1 .1 .1 .1 .1 .0) (s .result .read) (output (s .result .written) (s .last .1 .1 .1 .1 .1 .1 .1 .1 .1 .1 .0)) (s .result .full)) (s .ensures .0) (k .result) (k
           .ensures .0) (m .last .0) (m .ensures),

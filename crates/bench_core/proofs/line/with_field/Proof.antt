@@ -1,5 +1,5 @@
 use mathlib.Core.Path.{sym, _∙_}
-use Rattle.bench_core.specs.Line.{fieldOf}
+use Rattle.bench_core.specs.Line.{lineWithField}
 use borrow.Author.Needs.{needs}
 use Rattle.bench_core.proofs.line.with_field.Statement.{statement}
 use Rattle.bench_core.proofs.line.with_field.Tie as tie
@@ -71,27 +71,27 @@ other-requires : tie.Need-other-requires
 other-requires c κs = search needs
 
 returns : tie.Need-returns
-unfolding fieldOf
+unfolding lineWithField
 returns c = rw (sym (c .before .before .before .before .place-of .ensures) ∙ c .before .before .enum-told .given .1, ← c .before .letter .ensures) (c .with-whole .ensures)
 
 returns-2 : tie.Need-returns-2
-unfolding fieldOf
+unfolding lineWithField
 returns-2 c = rw (sym (c .before .before .before .before .place-of .ensures) ∙ c .before .before .enum-told2 .given .1, ← c .before .method .ensures) (c .with-whole2 .ensures)
 
 returns-3 : tie.Need-returns-3
-unfolding fieldOf
+unfolding lineWithField
 returns-3 c = rw (sym (c .before .before .before .before .place-of .ensures) ∙ c .before .before .enum-told3 .given .1, ← c .before .whole .ensures) (c .with-whole3 .ensures)
 
 returns-4 : tie.Need-returns-4
-unfolding fieldOf
+unfolding lineWithField
 returns-4 c = rw (sym (c .before .before .before .before .place-of .ensures) ∙ c .before .before .enum-told4 .given .1, ← c .before .double .ensures) (c .with-double .ensures)
 
 returns-5 : tie.Need-returns-5
-unfolding fieldOf
+unfolding lineWithField
 returns-5 c = rw (sym (c .before .before .before .before .place-of .ensures) ∙ c .before .before .enum-told5 .given .1, ← c .before .single .ensures) (c .with-single .ensures)
 
 returns-6 : tie.Need-returns-6
-unfolding fieldOf
+unfolding lineWithField
 returns-6 c = rw (sym (c .before .before .before .place-of .ensures) ∙ c .before .enum-told6 .given .1) (c .other .ensures)
 
 pub with-field-spec : {M : Type 1} → statement M

@@ -1,5 +1,5 @@
 -- `bench_core::step::ended` meets its contract. Assumes nothing.
-use Rattle.bench_core.specs.Bench.{said}
+use Rattle.bench_core.specs.Bench.{endResult}
 use borrow.Author.Needs.{needs}
 use Rattle.bench_core.proofs.step.ended.Statement.{statement}
 use Rattle.bench_core.proofs.step.ended.Tie as tie
@@ -14,7 +14,7 @@ same-length : tie.Need-same-length
 same-length c = search needs
 
 returns : tie.Need-returns
-returns c = λ j. said (c .before .before .before .before .bench-of .ensures j) (c .before .before .print-no .ensures j)
+returns c = λ j. endResult (c .before .before .before .before .bench-of .ensures j) (c .before .before .print-no .ensures j)
 
 pub ended-spec : {M : Type 1} → statement M
 ended-spec = tie.close (tie.spec bench-of-requires print-no-requires same-length returns)

@@ -1,6 +1,6 @@
 -- `bench_core::step::finish` meets its contract. Assumes nothing.
 use Rattle.bench_core.proofs.StepLaws.{finish-short, finish-done}
-use Rattle.bench_core.specs.Bench.{finished, said, output}
+use Rattle.bench_core.specs.Bench.{finished, endResult, output}
 use mathlib.Core.Path.{_∙_}
 use borrow.Author.Needs.{needs}
 use Rattle.bench_core.proofs.step.finish.Statement.{statement}
@@ -13,7 +13,7 @@ returns : tie.Need-returns
 returns c =
     let a = c .before .before .before .before .args in
     let e = c .idle .ensures in
-    (λ j. finished (e .0 j) (e .1 j) (said (e .3 j) (output (e .2 j) (a .out .now))))
+    (λ j. finished (e .0 j) (e .1 j) (endResult (e .3 j) (output (e .2 j) (a .out .now))))
     ∙ finish-short (a .b) (a .rest .now) (a .out .now) (c .before .if1 .taken)
 
 finished-by-requires : tie.Need-finished-by-requires

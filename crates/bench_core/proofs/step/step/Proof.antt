@@ -1,7 +1,7 @@
 -- `bench_core::step::step` meets its contract. Assumes nothing.
 use Rattle.bench_core.proofs.StepLaws.{step-short, step-none, step-tab, step-line}
 use Rattle.trcf.specs.View.{lent}
-use Rattle.bench_core.specs.Bench.{stepped, heard, output}
+use Rattle.bench_core.specs.Bench.{stepped, lineResult, output}
 use mathlib.Core.Path.{_∙_}
 use lib.ListN.{length-take}
 use native.Mathlib.Omega.{arith}
@@ -16,7 +16,7 @@ returns : tie.Need-returns
 returns c =
     let a = c .before .before .before .before .before .before .before .before .before .before .before .args in
     let e = c .idle .ensures in
-    (λ j. stepped (e .0 j) (e .1 j) (heard (e .3 j) (lent (a .statistics .now) (a .last-shingled-input .now) (a .last-shingled-point .now) (a .previous-timestamps .now) (a .initial-values .now) (a .initial-timestamps .now)) (a .point .now) (output (e .2 j) (a .out .now))))
+    (λ j. stepped (e .0 j) (e .1 j) (lineResult (e .3 j) (lent (a .statistics .now) (a .last-shingled-input .now) (a .last-shingled-point .now) (a .previous-timestamps .now) (a .initial-values .now) (a .initial-timestamps .now)) (a .point .now) (output (e .2 j) (a .out .now))))
     ∙ step-short (a .b) (lent (a .statistics .now) (a .last-shingled-input .now) (a .last-shingled-point .now) (a .previous-timestamps .now) (a .initial-values .now) (a .initial-timestamps .now)) (a .point .now) (a .text .now) (a .out .now) (c .before .if1 .taken)
 
 cell-end-requires : tie.Need-cell-end-requires
@@ -29,7 +29,7 @@ returns-2 : tie.Need-returns-2
 returns-2 c =
     let a = c .before .before .before .before .before .before .before .before .before .before .before .before .before .args in
     let e = c .idle2 .ensures in
-    (λ j. stepped (e .0 j) (e .1 j) (heard (e .3 j) (lent (a .statistics .now) (a .last-shingled-input .now) (a .last-shingled-point .now) (a .previous-timestamps .now) (a .initial-values .now) (a .initial-timestamps .now)) (a .point .now) (output (e .2 j) (a .out .now))))
+    (λ j. stepped (e .0 j) (e .1 j) (lineResult (e .3 j) (lent (a .statistics .now) (a .last-shingled-input .now) (a .last-shingled-point .now) (a .previous-timestamps .now) (a .initial-values .now) (a .initial-timestamps .now)) (a .point .now) (output (e .2 j) (a .out .now))))
     ∙ step-none (a .b) (lent (a .statistics .now) (a .last-shingled-input .now) (a .last-shingled-point .now) (a .previous-timestamps .now) (a .initial-values .now) (a .initial-timestamps .now)) (a .point .now) (a .text .now) (a .out .now) (c .before .before .before .if1 .left) (c .before .before .cell-end .result) (c .before .before .cell-end .ensures .0) (c .before .if2 .taken)
 
 cell-of-requires : tie.Need-cell-of-requires

@@ -3,7 +3,7 @@ use Rattle.trcf.specs.View.{lent, learnCall}
 use mir.Syntax.{w32}
 use mir.Val.{toZ, ofZ}
 use mir.ValLaws.{toZ-ofZ}
-use Rattle.capi.specs.Calls.{anomaly, isSet}
+use Rattle.capi.specs.Calls.{anomalyOut, isSet}
 use Rattle.capi.proofs.CallLaws.{opened, learn-refused, learn-done}
 use borrow.Author.Needs.{needs}
 use Rattle.capi.proofs.calls.veerycouch_post_process.Statement.{statement}
@@ -25,7 +25,7 @@ returns c =
     let a = c16 .before .before .args in
     learn-refused (a .table .now) (a .role) (a .head .now) (opened (a .head .now) (c .before .before .before .may .ensures) (c .before .open-head .ensures .0))
     (lent (a .statistics .now) (a .last-shingled-input .now) (a .last-shingled-point .now) (a .previous-timestamps .now) (a .initial-values .now) (a .initial-timestamps .now))
-    (anomaly (a .written .now) (a .has-anomaly .now) (a .past-timestamp .now) (a .likelihood .now))
+    (anomalyOut (a .written .now) (a .has-anomaly .now) (a .past-timestamp .now) (a .likelihood .now))
     (learnCall (a .input .now) (a .timestamp) (isSet (a .has-y)) (a .y .now) (isSet (a .expects)) (a .expected .now) (a .grade) (a .relative-index) (a .deviations-out .now) (a .past-out .now) (a .expected-out .now))
     (c .if1 .taken)
 
@@ -109,7 +109,7 @@ returns-2 c =
     learn-done (a .table .now) (a .role) (a .head .now) (c40 .before .before .before .before .before .before .if1 .left) (h .ensures .1)
     (opened (a .head .now) (m .ensures) (h .ensures .0))
     (lent (a .statistics .now) (a .last-shingled-input .now) (a .last-shingled-point .now) (a .previous-timestamps .now) (a .initial-values .now) (a .initial-timestamps .now))
-    (anomaly (a .written .now) (a .has-anomaly .now) (a .past-timestamp .now) (a .likelihood .now))
+    (anomalyOut (a .written .now) (a .has-anomaly .now) (a .past-timestamp .now) (a .likelihood .now))
     (learnCall (a .input .now) (a .timestamp) (isSet (a .has-y)) (a .y .now) (isSet (a .expects)) (a .expected .now) (a .grade) (a .relative-index) (a .deviations-out .now) (a .past-out .now) (a .expected-out .now))
     (learnCall (a .input .now) (a .timestamp) (c32 .before .before .before .before .before .before .is-set .result) (a .y .now) (c32 .before .before .before .before .before .is-set2 .result) (a .expected .now) (a .grade) (toZ w32 (ofZ w32 (a .relative-index))) (a .deviations-out .now) (a .past-out .now) (a .expected-out .now))
     (c32 .before .post-process .ensures)

@@ -4,8 +4,8 @@ use mathlib.Core.Path.{_≡_, refl, ap, _∙_}
 use native.Mathlib.Omega.{arith}
 use lib.ListN.{length, take, length-set}
 use lib.Seq.{take-length}
-use Rattle.common.specs.Lent.{over}
-use Rattle.common.proofs.RangeSteps.{over-copy}
+use Rattle.refusal.specs.Lent.{over}
+use Rattle.refusal.proofs.LentLaws.{over-copy}
 use Rattle.trcf.proofs.LentLaws.{over-none}
 use Rattle.capi.proofs.CallLaws.{list-many, list-fit}
 use borrow.Author.Needs.{needs}

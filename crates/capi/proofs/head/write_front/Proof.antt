@@ -1,4 +1,4 @@
--- `capi::head::write_front` meets its contract: the numbers, and the weights behind them. Assumes nothing.
+-- `capi::head::write_front` meets its contract: the numbers, and the weights after them. Assumes nothing.
 use Rattle.trcf.proofs.RefusalLaws.{sixteen}
 use mathlib.Core.Path.{_≡_, sym, ap, _∙_}
 use native.Mathlib.Omega.{arith}

@@ -1,4 +1,4 @@
--- `capi::head::write_head` meets its contract: the front, and the codes behind it. Assumes nothing.
+-- `capi::head::write_head` meets its contract: the front, and the codes after it. Assumes nothing.
 use Rattle.trcf.proofs.RefusalLaws.{sixteen}
 use mathlib.Core.Path.{_≡_, sym, ap, _∙_}
 use native.Mathlib.Omega.{arith}

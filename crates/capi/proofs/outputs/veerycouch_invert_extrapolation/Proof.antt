@@ -1,5 +1,5 @@
 -- `capi::outputs::veerycouch_invert_extrapolation` meets its contract: by the promises of the words and of the call. Assumes nothing.
-use Rattle.common.specs.RangeVector.{ranges}
+use Rattle.ranges.specs.RangeVector.{ranges}
 use Rattle.trcf.specs.Extrapolation.{forecast}
 use Rattle.capi.proofs.CallLaws.{opened, extrapolation-refused, extrapolation-done}
 use borrow.Author.Needs.{needs}

@@ -9,7 +9,7 @@ use lib.Dec.{T, leb}
 use lib.IntN.{pos}
 use lib.Ieee.{Float, binary64, lt, eq, ofInt, toUnsigned}
 use Rattle.common.specs.Corrected.{wholeWithin}
-use Rattle.common.specs.Steps.Whole.{sizeOf}
+use Rattle.common.specs.Steps.Whole.{floatSize}
 use Rattle.common.proofs.WholeTests.{wideLimit, whole-by-size, size-above, size-below}
 use Rattle.common.proofs.deviation.whole_within.Statement.{statement}
 use Rattle.common.proofs.deviation.whole_within.Tie as tie
@@ -17,14 +17,14 @@ use Rattle.common.proofs.deviation.whole_within.Tie as tie
 size-of-requires : tie.Need-size-of-requires
 size-of-requires c κs = search needs
 
-cut-allowed : (x a : Float) → a ≡ sizeOf x → lt a wideLimit ≡ true → T (lt (lib.Ieee.fin true 1 (lib.IntN.pos 0)) a) × T (lt a (lib.Ieee.fin false 1 (lib.IntN.pos 64)))
-cut-allowed x a e h = rw e (size-above x (rw e at h), size-below (sizeOf x) (rw e at h))
+cut-allowed : (x a : Float) → a ≡ floatSize x → lt a wideLimit ≡ true → T (lt (lib.Ieee.fin true 1 (lib.IntN.pos 0)) a) × T (lt a (lib.Ieee.fin false 1 (lib.IntN.pos 64)))
+cut-allowed x a e h = rw e (size-above x (rw e at h), size-below (floatSize x) (rw e at h))
 
 truncating-f64-to-u64-requires : tie.Need-truncating-f64-to-u64-requires
 truncating-f64-to-u64-requires c κs = cut-allowed _ _ (c .before .size-of .ensures) (c .if1 .taken)
 
 -- the promise at the size a and its whole part n, in each return's words
-module _ (b n : ℕ) (x a : Float) (B : b ≤ 9007199254740992) (e : a ≡ sizeOf x) where
+module _ (b n : ℕ) (x a : Float) (B : b ≤ 9007199254740992) (e : a ≡ floatSize x) where
   at-size : (n ≡ toUnsigned 64 a) → (lt a wideLimit && (leb n b && eq (ofInt binary64 (pos n)) a)) ≡ wholeWithin b x
   at-size k = rw (k, e) (whole-by-size b x B)
 
@@ -34,7 +34,7 @@ module _ (b n : ℕ) (x a : Float) (B : b ≤ 9007199254740992) (e : a ≡ sizeO
   equal : (n ≡ toUnsigned 64 a) → (y : Float) → lt a wideLimit ≡ true → n ≤ b → y ≡ ofInt binary64 (pos n) → eq y a ≡ wholeWithin b x
   equal k y w h q = ap (λ (v : Float). eq v a) q ∙ (rw (w, le-leb n b h) at (at-size k))
 
-wide : (b : ℕ) (x a : Float) → b ≤ 9007199254740992 → a ≡ sizeOf x → lt a wideLimit ≡ false → false ≡ wholeWithin b x
+wide : (b : ℕ) (x a : Float) → b ≤ 9007199254740992 → a ≡ floatSize x → lt a wideLimit ≡ false → false ≡ wholeWithin b x
 wide b x a B e w = rw w at (at-size b (toUnsigned 64 a) x a B e refl)
 
 returns : tie.Need-returns

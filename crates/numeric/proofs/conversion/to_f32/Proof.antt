@@ -9,7 +9,7 @@ use lib.Ieee.Bits.{toBits-lt}
 use lib.Ieee.Compare.{differs-from-itself}
 use Rattle.numeric.specs.Narrow.{narrowed}
 use Rattle.numeric.proofs.Pack.{Pattern}
-use Rattle.numeric.proofs.Fields.{narrow-pattern, no-nan-fields}
+use Rattle.numeric.proofs.Fields.{narrow-pattern, no-nan-size}
 use Rattle.numeric.proofs.conversion.to_f32.Statement.{statement}
 use Rattle.numeric.proofs.conversion.to_f32.Tie as tie
 
@@ -26,10 +26,10 @@ real x e = go x e
     go (lib.Ieee.inf s) e = tt
     go (lib.Ieee.fin s m n) e = tt
 
-pattern : (c : tie.After-narrow-fields) → Pattern binary32 (narrowed (c .before .before .args .x)) (toBits binary64 (c .before .before .args .x) / 2 ^ 63 * 2 ^ 31 + c .narrow-fields .result)
+pattern : (c : tie.After-narrow-size) → Pattern binary32 (narrowed (c .before .before .args .x)) (toBits binary64 (c .before .before .args .x) / 2 ^ 63 * 2 ^ 31 + c .narrow-size .result)
 pattern c =
     let a = c .before .before in
-    narrow-pattern (a .args .x) (c .narrow-fields .result) (held a) (real (a .args .x) (c .before .if1 .left)) (c .narrow-fields .ensures)
+    narrow-pattern (a .args .x) (c .narrow-size .result) (held a) (real (a .args .x) (c .before .if1 .left)) (c .narrow-size .ensures)
 
 returns : tie.Need-returns
 unfolding div ofBits narrowed
@@ -38,10 +38,8 @@ returns c = sym (ap narrowed (differs-from-itself (c .before .args .x) (subst T 
 float-to-bits-b : tie.Need-float-to-bits-b
 float-to-bits-b c = real (c .before .args .x) (c .if1 .left)
 
-narrow-fields-requires : tie.Need-narrow-fields-requires
-narrow-fields-requires c κs =
-    let x = c .before .args .x in
-    (omega arith, (omega arith, no-nan-fields x (held (c .before)) (real x (c .if1 .left))))
+narrow-size-requires : tie.Need-narrow-size-requires
+narrow-size-requires c κs = let x = c .before .args .x in (omega arith, no-nan-size x (held (c .before)) (real x (c .if1 .left)))
 
 mul-result : tie.Need-mul-result
 mul-result c = let h : toBits binary64 (c .before .before .args .x) < 2 ^ 64 = toBits-lt binary64 (c .before .before .args .x) (held (c .before .before)) in omega arith
@@ -59,4 +57,4 @@ returns-2 : tie.Need-returns-2
 returns-2 c = pattern c .reads
 
 pub to-f32-spec : {M : Type 1} → statement M
-to-f32-spec = tie.close (tie.spec returns float-to-bits-b narrow-fields-requires mul-result add-result cast-result float-from-bits-result returns-2)
+to-f32-spec = tie.close (tie.spec returns float-to-bits-b narrow-size-requires mul-result add-result cast-result float-from-bits-result returns-2)

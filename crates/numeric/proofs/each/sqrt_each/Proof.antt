@@ -13,22 +13,31 @@ use Rattle.numeric.proofs.each.sqrt_each.Statement.{statement}
 use Rattle.numeric.proofs.each.sqrt_each.Tie as tie
 
 abbrev Inv-loop : tie.InvT-loop
-Inv-loop x₀ i₀ x i = (i ≤ length x₀) × (x ≡ rootedTo i x₀) × (length x ≡ length x₀)
+Inv-loop x₀ c i₀ x i = (i ≤ length x₀) × (x ≡ rootedTo i x₀) × (length x ≡ length x₀)
 
 abbrev μ-loop : tie.MeasureT-loop
-μ-loop x₀ i₀ x i = length x₀ - i
+μ-loop x₀ c i₀ x i = length x₀ - i
+
+near-each-requires : tie.Need-near-each-requires Inv-loop μ-loop
+near-each-requires c κs = search needs
 
 loop-holds : tie.Need-loop-holds Inv-loop μ-loop
 loop-holds c = (omega arith, refl, refl)
 
-mul-nearest-root : tie.Need-mul-nearest-root Inv-loop μ-loop
-mul-nearest-root c = omega arith
+mul-root-near : tie.Need-mul-root-near Inv-loop μ-loop
+mul-root-near c = omega arith
 
-slice-read-nearest-root : tie.Need-slice-read-nearest-root Inv-loop μ-loop
-slice-read-nearest-root c = omega arith
+slice-read-root-near : tie.Need-slice-read-root-near Inv-loop μ-loop
+slice-read-root-near c = omega arith
 
-nearest-root-requires : tie.Need-nearest-root-requires Inv-loop μ-loop
-nearest-root-requires c κs = search needs
+mul-root-near-2 : tie.Need-mul-root-near-2 Inv-loop μ-loop
+mul-root-near-2 c = omega arith
+
+array-read-root-near : tie.Need-array-read-root-near Inv-loop μ-loop
+array-read-root-near c = omega arith
+
+root-near-requires : tie.Need-root-near-requires Inv-loop μ-loop
+root-near-requires c κs = search needs
 
 mul-x : tie.Need-mul-x Inv-loop μ-loop
 mul-x c = omega arith
@@ -45,9 +54,9 @@ loop-less c = omega arith
 loop-again : tie.Need-loop-again Inv-loop μ-loop
 loop-again c =
     let L = c .before .before .before .loop in
-    let l = c .before .before .before .before .before .args .x .now in
+    let l = c .before .before .before .before .before .before .before .before .args .x .now in
     let at : List Float → List Float = λ q. set q (L .i) (rootOf (getD q (L .i) nan)) in
-    let put = ap (λ (r : Float). set (L .x) (L .i) r) (c .nearest-root .ensures) in
+    let put = ap (λ (r : Float). set (L .x) (L .i) r) (c .root-near .ensures) in
     (omega arith, rw add-one (put ∙ ap at (L .inv .1) ∙ rooted-next (L .i) l), simp length-set (omega arith))
 
 same-length : tie.Need-same-length Inv-loop μ-loop
@@ -56,7 +65,7 @@ same-length c = omega arith
 returns : tie.Need-returns Inv-loop μ-loop
 returns c =
     let L = c .before .loop in
-    let l = c .before .before .before .args .x .now in
+    let l = c .before .before .before .before .before .before .args .x .now in
     let e : L .i ≡ length l = omega arith in
     L .inv .1 ∙ ap (λ (n : ℕ). rootedTo n l) e ∙ rooted-all l
 
@@ -66,10 +75,13 @@ sqrt-each-spec =
     (tie.spec
     Inv-loop
     μ-loop
+    near-each-requires
     loop-holds
-    mul-nearest-root
-    slice-read-nearest-root
-    nearest-root-requires
+    mul-root-near
+    slice-read-root-near
+    mul-root-near-2
+    array-read-root-near
+    root-near-requires
     mul-x
     slice-write-x
     add-i

@@ -1,19 +1,10 @@
 -- `numeric::root::guess` meets its contract, which says nothing of how near the guess is: the patterns are no NaN's. Assumes nothing.
-use Prim.Native.Nat.{ℕ, _+_, _-_, _*_, _/_, _%_, _^_, _≤_}
-use mathlib.Core.Path.{sym, subst}
-use mathlib.Core.Bool.{Bool, not}
+use Prim.Native.Nat.{_+_, _-_, _*_, _/_, _%_, _^_}
 use native.Mathlib.Omega.{arith}
-use lib.Dec.{T}
-use lib.Arith.{le→nltb}
-use lib.Ieee.{binary64, nanBits, ones, hid, top}
-use lib.Ieee.Bits.{nanBits-above}
 use borrow.Author.Needs.{needs}
-use Rattle.numeric.proofs.Roots.{above-real}
+use Rattle.numeric.proofs.Roots.{above-real, low-pattern}
 use Rattle.numeric.proofs.root.guess.Statement.{statement}
 use Rattle.numeric.proofs.root.guess.Tie as tie
-
-low-pattern : (p : ℕ) → p ≤ 2047 * 2 ^ 52 → T (not (nanBits binary64 p))
-low-pattern p h = subst (λ (t : Bool). T (not t)) (sym (nanBits-above binary64 p)) (le→nltb (ones binary64 * hid binary64) (p % top binary64) (omega arith))
 
 add-b : tie.Need-add-b
 add-b c = search needs

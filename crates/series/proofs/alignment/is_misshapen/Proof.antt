@@ -3,7 +3,7 @@ use mathlib.Core.Path.{refl}
 use native.Mathlib.Omega.{arith}
 use native.Mathlib.Nat.{mul-le-mul-left}
 use lib.ListN.{length}
-use Rattle.series.specs.Alignment.{misshapen}
+use Rattle.series.specs.Alignment.{readingsMisshapen}
 use Rattle.series.proofs.alignment.is_misshapen.Statement.{statement}
 use Rattle.series.proofs.alignment.is_misshapen.Tie as tie
 
@@ -11,7 +11,7 @@ mul-result : tie.Need-mul-result
 mul-result c = omega (arith, mul-le-mul-left (length (c .args .times .now)) (c .pre))
 
 returns : tie.Need-returns
-unfolding misshapen
+unfolding readingsMisshapen
 returns c = refl
 
 pub is-misshapen-spec : {M : Type 1} → statement M

@@ -1,6 +1,6 @@
 -- `imputation::line` meets its contract: the definition's operations in their order. Assumes nothing.
 use borrow.Author.Needs.{needs}
-use Rattle.series.specs.Imputation.{lineOf}
+use Rattle.series.specs.Imputation.{interpolated}
 use Rattle.series.proofs.imputation.line.Statement.{statement}
 use Rattle.series.proofs.imputation.line.Tie as tie
 
@@ -11,7 +11,7 @@ u64-to-f32-requires-2 : tie.Need-u64-to-f32-requires-2
 u64-to-f32-requires-2 c κs = search needs
 
 returns : tie.Need-returns
-unfolding lineOf
+unfolding interpolated
 returns c = rw (c .before .u64-to-f32 .ensures, c .u64-to-f322 .ensures)
 
 pub line-spec : {M : Type 1} → statement M

@@ -18,14 +18,14 @@ loop-holds c = search needs
 next-word-requires : tie.Need-next-word-requires Inv-loop μ-loop
 next-word-requires c κs = search needs
 
-mul-bits32 : tie.Need-mul-bits32 Inv-loop μ-loop
-mul-bits32 c = search needs
+mul-single-bits : tie.Need-mul-single-bits Inv-loop μ-loop
+mul-single-bits c = search needs
 
-shared-slice-read-bits32 : tie.Need-shared-slice-read-bits32 Inv-loop μ-loop
-shared-slice-read-bits32 c = search needs
+shared-slice-read-single-bits : tie.Need-shared-slice-read-single-bits Inv-loop μ-loop
+shared-slice-read-single-bits c = search needs
 
-bits32-requires : tie.Need-bits32-requires Inv-loop μ-loop
-bits32-requires c κs = search needs
+single-bits-requires : tie.Need-single-bits-requires Inv-loop μ-loop
+single-bits-requires c κs = search needs
 
 add-i : tie.Need-add-i Inv-loop μ-loop
 add-i c = search needs
@@ -47,9 +47,9 @@ next-are-singles-spec =
     μ-loop
     loop-holds
     next-word-requires
-    mul-bits32
-    shared-slice-read-bits32
-    bits32-requires
+    mul-single-bits
+    shared-slice-read-single-bits
+    single-bits-requires
     add-i
     loop-less
     loop-again

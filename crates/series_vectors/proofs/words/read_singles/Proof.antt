@@ -18,11 +18,8 @@ loop-holds c = search needs
 next-word-requires : tie.Need-next-word-requires Inv-loop μ-loop
 next-word-requires c κs = search needs
 
-cast-value32 : tie.Need-cast-value32 Inv-loop μ-loop
-cast-value32 c = search needs
-
-value32-requires : tie.Need-value32-requires Inv-loop μ-loop
-value32-requires c κs = search needs
+single-of-requires : tie.Need-single-of-requires Inv-loop μ-loop
+single-of-requires c κs = search needs
 
 mul-out : tie.Need-mul-out Inv-loop μ-loop
 mul-out c = search needs
@@ -53,8 +50,7 @@ read-singles-spec =
     μ-loop
     loop-holds
     next-word-requires
-    cast-value32
-    value32-requires
+    single-of-requires
     mul-out
     slice-write-out
     add-i

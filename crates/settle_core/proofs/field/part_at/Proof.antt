@@ -4,7 +4,7 @@ use native.Mathlib.Omega.{arith}
 use lib.ListN.{length, drop, length-drop}
 use Rattle.bench_core.specs.Bench.{cellLength}
 use Rattle.settling.specs.Steps.{signed}
-use Rattle.settle_core.specs.Steps.{partBy}
+use Rattle.settle_core.specs.Steps.{partIf}
 use mathlib.Core.Bool.{Bool}
 use Rattle.settle_core.proofs.FieldLaws.{part-open, part-other, part-here}
 use Rattle.settle_core.proofs.ScanLaws.{rest-is}
@@ -39,7 +39,7 @@ returns c =
     let a = c .before .before .before .before .before .args in
     let n = c .before .before .cell-end in
     let e : n .result ≡ cellLength (drop (a .at) (a .text .now)) = n .ensures .0 ∙ ap cellLength (rest-is (a .text .now) (a .at)) in (
-      ap (λ (b : Bool). partBy b (signed (c .no-part .result .value)) (drop (c .no-part .result .next) (a .text .now))) (c .no-part .ensures .0)
+      ap (λ (b : Bool). partIf b (signed (c .no-part .result .value)) (drop (c .no-part .result .next) (a .text .now))) (c .no-part .ensures .0)
           ∙ part-open (a .text .now) (a .at) (n .result) (a .end) e (c .before .before .before .before .before .pre) (c .before .if1 .taken),
       omega (arith, c .no-part .ensures .1),
     )
@@ -55,7 +55,7 @@ returns-2 c =
     let a = c .before .before .before .before .before .before .before .args in
     let n = c .before .before .before .before .cell-end in
     let e : n .result ≡ cellLength (drop (a .at) (a .text .now)) = n .ensures .0 ∙ ap cellLength (rest-is (a .text .now) (a .at)) in (
-      ap (λ (b : Bool). partBy b (signed (c .no-part2 .result .value)) (drop (c .no-part2 .result .next) (a .text .now))) (c .no-part2 .ensures .0)
+      ap (λ (b : Bool). partIf b (signed (c .no-part2 .result .value)) (drop (c .no-part2 .result .next) (a .text .now))) (c .no-part2 .ensures .0)
           ∙ part-other (a .text .now) (a .at) (n .result) (a .end) e (c .before .before .before .before .before .before .before .pre) (c .before .before .before .if1 .left) (c .before .if2 .taken),
       omega (arith, c .no-part2 .ensures .1),
     )

@@ -1,7 +1,7 @@
 -- `settle_core::field::signed_of` meets its contract. Assumes nothing.
 use mathlib.Core.Path.{_≡_, refl, sym, ap, _∙_}
 use native.Mathlib.Omega.{arith}
-use Rattle.settle_core.specs.Input.{positive, negative}
+use Rattle.settle_core.specs.Input.{positiveNumber, negativeNumber}
 use Rattle.settle_core.proofs.FieldLaws.{signed-none, signed-minus, signed-plain}
 use borrow.Author.Needs.{needs}
 use Rattle.settle_core.proofs.field.signed_of.Statement.{statement}
@@ -32,7 +32,7 @@ negative-of-requires : tie.Need-negative-of-requires
 negative-of-requires c κs = search needs
 
 returns-2 : tie.Need-returns-2
-returns-2 c = c .negative-of .ensures ∙ ap negative (c .before .whole .ensures) ∙ signed-minus (c .before .before .before .before .before .before .before .args .c .now) (c .before .before .before .before .before .if1 .left) (c .before .before .before .if2 .taken)
+returns-2 c = c .negative-of .ensures ∙ ap negativeNumber (c .before .whole .ensures) ∙ signed-minus (c .before .before .before .before .before .before .before .args .c .now) (c .before .before .before .before .before .if1 .left) (c .before .before .before .if2 .taken)
 
 whole-requires-2 : tie.Need-whole-requires-2
 whole-requires-2 c κs = search needs
@@ -41,7 +41,7 @@ positive-of-requires : tie.Need-positive-of-requires
 positive-of-requires c κs = search needs
 
 returns-3 : tie.Need-returns-3
-returns-3 c = c .positive-of .ensures ∙ ap positive (c .before .whole2 .ensures) ∙ signed-plain (c .before .before .before .before .before .before .args .c .now) (c .before .before .before .before .if1 .left) (c .before .before .if2 .left)
+returns-3 c = c .positive-of .ensures ∙ ap positiveNumber (c .before .whole2 .ensures) ∙ signed-plain (c .before .before .before .before .before .before .args .c .now) (c .before .before .before .before .if1 .left) (c .before .before .if2 .left)
 
 pub signed-of-spec : {M : Type 1} → statement M
 signed-of-spec =

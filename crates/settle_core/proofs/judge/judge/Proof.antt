@@ -7,7 +7,7 @@ use lib.ListN.{length, drop, length-replicate, length-set}
 use Rattle.settle_core.specs.declared.pair.Pair.{Pair}
 use borrow.Author.Tests.{not-true, not-false}
 use Rattle.settle_core.specs.Input.{inputOf}
-use Rattle.settle_core.specs.Steps.{settingsOf}
+use Rattle.settle_core.specs.Steps.{pairSettings}
 use Rattle.settle_core.proofs.JudgeLaws.{input-refused, none-opens, input-begins, refused-in, readSoFar, read-closed, read-all, read-fault, read-pair}
 use borrow.Author.Needs.{needs}
 use Rattle.settle_core.proofs.judge.judge.Statement.{statement}

@@ -9,7 +9,7 @@ use borrow.Author.Tests.{not-true, not-false}
 use Rattle.bench_core.specs.Line.{requestOf, keptOf}
 use Rattle.bench_core.specs.Bench.{builderFrom, zeroCodes}
 use Rattle.trcf.specs.View.{settingsFrom}
-use Rattle.settle_core.specs.Input.{Scanned, lineOf, isSet, isWeights, settingsBy, pairBy}
+use Rattle.settle_core.specs.Input.{Scanned, lineOf, isSetLine, isWeights, settingsBy, pairBy}
 use Rattle.settle_core.specs.Steps.{scannedIn}
 use Rattle.settle_core.proofs.JudgeLaws.{refused-in, set-open, set-other, weights-open, weights-other, both-lines}
 use borrow.Author.Needs.{needs}
@@ -46,7 +46,7 @@ returns-2 c =
     let t = a .text .now in
     let u : List ℕ = drop (a .at) t in
     let s = c .before .before .before .before .before .before .before .line-at in
-    (refused-in (c .refused-by2 .result) 19 (c .refused-by2 .ensures .0) (λ z. absurd (omega arith)) t ∙ set-other u (sym (ap (λ (x : Scanned). x .ended) (s .ensures .0)) ∙ not-false (s .result .ended) (c .before .before .before .before .if1 .left)) (sym (c .before .before .is-set .ensures ∙ ap isSet (c .before .before .before .request .ensures ∙ ap (λ (x : Scanned). requestOf (x .line)) (s .ensures .0))) ∙ not-true (c .before .before .is-set .result) (c .before .if2 .taken)), omega (arith, c .refused-by2 .ensures .1))
+    (refused-in (c .refused-by2 .result) 19 (c .refused-by2 .ensures .0) (λ z. absurd (omega arith)) t ∙ set-other u (sym (ap (λ (x : Scanned). x .ended) (s .ensures .0)) ∙ not-false (s .result .ended) (c .before .before .before .before .if1 .left)) (sym (c .before .before .is-set .ensures ∙ ap isSetLine (c .before .before .before .request .ensures ∙ ap (λ (x : Scanned). requestOf (x .line)) (s .ensures .0))) ∙ not-true (c .before .before .is-set .result) (c .before .if2 .taken)), omega (arith, c .refused-by2 .ensures .1))
 
 line-at-requires-2 : tie.Need-line-at-requires-2
 line-at-requires-2 c κs = c .before .before .before .before .before .before .line-at .ensures .1
@@ -63,7 +63,7 @@ returns-3 c =
     let s = c8 .before .before .before .line-at in
     let w = c .before .before .before .before .line-at2 in
     let w2 : scannedIn (w .result) t ≡ lineOf (lineOf u .rest) = w .ensures .0 ∙ ap (λ (x : Scanned). lineOf (x .rest)) (s .ensures .0) in
-    (refused-in (c .refused-by3 .result) 19 (c .refused-by3 .ensures .0) (λ z. absurd (omega arith)) t ∙ weights-open u (sym (ap (λ (x : Scanned). x .ended) (s .ensures .0)) ∙ not-false (s .result .ended) (c8 .if1 .left)) (sym (c .before .before .before .before .before .before .is-set .ensures ∙ ap isSet (c .before .before .before .before .before .before .before .request .ensures ∙ ap (λ (x : Scanned). requestOf (x .line)) (s .ensures .0))) ∙ not-false (c .before .before .before .before .before .before .is-set .result) (c .before .before .before .before .before .if2 .left)) (sym (ap (λ (x : Scanned). x .ended) w2) ∙ not-true (w .result .ended) (c .before .if3 .taken)), omega (arith, c .refused-by3 .ensures .1))
+    (refused-in (c .refused-by3 .result) 19 (c .refused-by3 .ensures .0) (λ z. absurd (omega arith)) t ∙ weights-open u (sym (ap (λ (x : Scanned). x .ended) (s .ensures .0)) ∙ not-false (s .result .ended) (c8 .if1 .left)) (sym (c .before .before .before .before .before .before .is-set .ensures ∙ ap isSetLine (c .before .before .before .before .before .before .before .request .ensures ∙ ap (λ (x : Scanned). requestOf (x .line)) (s .ensures .0))) ∙ not-false (c .before .before .before .before .before .before .is-set .result) (c .before .before .before .before .before .if2 .left)) (sym (ap (λ (x : Scanned). x .ended) w2) ∙ not-true (w .result .ended) (c .before .if3 .taken)), omega (arith, c .refused-by3 .ensures .1))
 
 request-requires-2 : tie.Need-request-requires-2
 request-requires-2 c κs = search needs
@@ -84,7 +84,7 @@ returns-4 c =
     let s = c8 .before .before .before .before .before .before .line-at in
     let w = c .before .before .before .before .before .before .before .line-at2 in
     let w2 : scannedIn (w .result) t ≡ lineOf (lineOf u .rest) = w .ensures .0 ∙ ap (λ (x : Scanned). lineOf (x .rest)) (s .ensures .0) in
-    (refused-in (c .refused-by4 .result) 19 (c .refused-by4 .ensures .0) (λ z. absurd (omega arith)) t ∙ weights-other u (sym (ap (λ (x : Scanned). x .ended) (s .ensures .0)) ∙ not-false (s .result .ended) (c8 .before .before .before .if1 .left)) (sym (c8 .before .is-set .ensures ∙ ap isSet (c8 .before .before .request .ensures ∙ ap (λ (x : Scanned). requestOf (x .line)) (s .ensures .0))) ∙ not-false (c8 .before .is-set .result) (c8 .if2 .left)) (sym (ap (λ (x : Scanned). x .ended) w2) ∙ not-false (w .result .ended) (c .before .before .before .before .if3 .left)) (sym (c .before .before .is-weights .ensures ∙ ap isWeights (c .before .before .before .request2 .ensures ∙ ap (λ (x : Scanned). requestOf (x .line)) w2)) ∙ not-true (c .before .before .is-weights .result) (c .before .if4 .taken)), omega (arith, c .refused-by4 .ensures .1))
+    (refused-in (c .refused-by4 .result) 19 (c .refused-by4 .ensures .0) (λ z. absurd (omega arith)) t ∙ weights-other u (sym (ap (λ (x : Scanned). x .ended) (s .ensures .0)) ∙ not-false (s .result .ended) (c8 .before .before .before .if1 .left)) (sym (c8 .before .is-set .ensures ∙ ap isSetLine (c8 .before .before .request .ensures ∙ ap (λ (x : Scanned). requestOf (x .line)) (s .ensures .0))) ∙ not-false (c8 .before .is-set .result) (c8 .if2 .left)) (sym (ap (λ (x : Scanned). x .ended) w2) ∙ not-false (w .result .ended) (c .before .before .before .before .if3 .left)) (sym (c .before .before .is-weights .ensures ∙ ap isWeights (c .before .before .before .request2 .ensures ∙ ap (λ (x : Scanned). requestOf (x .line)) w2)) ∙ not-true (c .before .before .is-weights .result) (c .before .if4 .taken)), omega (arith, c .refused-by4 .ensures .1))
 
 builder-from-requires : tie.Need-builder-from-requires
 builder-from-requires c κs = search needs
@@ -105,7 +105,7 @@ returns-5 c =
       c .settings-of .ensures .0 t
           ∙ (λ j. pairBy (settingsFrom (c .before .builder-from .ensures j) (keptOf (w .result .line)) (zeroCodes (c .before .builder-from .ensures j))) (drop (w .result .next) t))
           ∙ (λ j. pairBy (settingsBy (s .ensures .0 j .line) (w2 j .line)) (w2 j .rest))
-          ∙ both-lines u (sym (ap (λ (x : Scanned). x .ended) (s .ensures .0)) ∙ not-false (s .result .ended) (c8 .before .before .before .before .if1 .left)) (sym (c8 .before .before .is-set .ensures ∙ ap isSet (c8 .before .before .before .request .ensures ∙ ap (λ (x : Scanned). requestOf (x .line)) (s .ensures .0))) ∙ not-false (c8 .before .before .is-set .result) (c8 .before .if2 .left)) (sym (ap (λ (x : Scanned). x .ended) w2) ∙ not-false (w .result .ended) (c .before .before .before .before .before .if3 .left)) (sym (c .before .before .before .is-weights .ensures ∙ ap isWeights (c .before .before .before .before .request2 .ensures ∙ ap (λ (x : Scanned). requestOf (x .line)) w2)) ∙ not-false (c .before .before .before .is-weights .result) (c .before .before .if4 .left)),
+          ∙ both-lines u (sym (ap (λ (x : Scanned). x .ended) (s .ensures .0)) ∙ not-false (s .result .ended) (c8 .before .before .before .before .if1 .left)) (sym (c8 .before .before .is-set .ensures ∙ ap isSetLine (c8 .before .before .before .request .ensures ∙ ap (λ (x : Scanned). requestOf (x .line)) (s .ensures .0))) ∙ not-false (c8 .before .before .is-set .result) (c8 .before .if2 .left)) (sym (ap (λ (x : Scanned). x .ended) w2) ∙ not-false (w .result .ended) (c .before .before .before .before .before .if3 .left)) (sym (c .before .before .before .is-weights .ensures ∙ ap isWeights (c .before .before .before .before .request2 .ensures ∙ ap (λ (x : Scanned). requestOf (x .line)) w2)) ∙ not-false (c .before .before .before .is-weights .result) (c .before .before .if4 .left)),
       omega (arith, c .settings-of .ensures .1, w .ensures .1),
     )
 

@@ -5,7 +5,7 @@ use Prim.Native.Nat.{ℕ, _+_, _-_}
 use lib.ListN.{length, take, drop, length-drop}
 use Rattle.bench_core.specs.Line.{nameOf}
 use Rattle.bench_core.specs.Bench.{cellLength}
-use Rattle.settle_core.specs.Input.{isSet, opens}
+use Rattle.settle_core.specs.Input.{isSetLine, opens}
 use Rattle.settle_core.proofs.ScanLaws.{rest-is}
 use borrow.Author.Needs.{needs}
 use Rattle.settle_core.proofs.scan.opens_at.Statement.{statement}
@@ -54,7 +54,7 @@ returns c =
     let n = c .before .before .before .cell-end in
     let e : n .result ≡ cellLength (drop (a .at) (a .text .now)) = n .ensures .0 ∙ ap cellLength (rest-is (a .text .now) (a .at)) in
     let q : a .at + n .result - a .at ≡ cellLength (drop (a .at) (a .text .now)) = omega (arith, e) in
-    c .is-set .ensures ∙ ap isSet (c .before .name-of .ensures ∙ ap (λ (k : ℕ). nameOf (take k (drop (a .at) (a .text .now)))) q)
+    c .is-set .ensures ∙ ap isSetLine (c .before .name-of .ensures ∙ ap (λ (k : ℕ). nameOf (take k (drop (a .at) (a .text .now)))) q)
 
 pub opens-at-spec : {M : Type 1} → statement M
 opens-at-spec =

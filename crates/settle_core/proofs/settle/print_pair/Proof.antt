@@ -11,7 +11,7 @@ use Rattle.snapshot_save.proofs.OptionalLaws.{optional-size}
 use Rattle.settling.specs.Settling.{Run, Noted, runOf}
 use Rattle.settling.specs.Steps.{signalOf}
 use Rattle.settle_core.specs.Settle.{orNever}
-use Rattle.settle_core.specs.Steps.{settingsOf}
+use Rattle.settle_core.specs.Steps.{pairSettings}
 use Rattle.settle_core.proofs.PrintLaws.{noted-line, long-is, line-printed}
 use borrow.Author.Needs.{needs}
 use Rattle.settle_core.proofs.settle.print_pair.Statement.{statement}
@@ -66,7 +66,7 @@ returns c =
     let z = optional-size (49 + a .i) (n .result) (s .result .kept) (s .result .largest) h in
     let t = bytesOfLine (optionalLine (49 + a .i) (n .result) (s .result .kept) (s .result .largest)) in
     let r = ap (λ (x : Run). x .noted) (s .ensures) in (
-      wrote-is (noted-line (a .i) (a .signal .readings) (n .result) (runOf (settingsOf (a .p)) (signalOf (a .signal)) .noted) (s .result .kept) (s .result .largest) (c8 .before .pre .1)
+      wrote-is (noted-line (a .i) (a .signal .readings) (n .result) (runOf (pairSettings (a .p)) (signalOf (a .signal)) .noted) (s .result .kept) (s .result .largest) (c8 .before .pre .1)
           (n .ensures ∙ ap (λ (x : Noted). orNever (a .signal .readings) (x .ready)) r) (sym (ap (λ (x : Noted). x .largest) r)))
           (line-printed (a .out .now) (a .at) t _ _ _ (c8 .before .pre .0) z (o .ensures)),
       omega (arith, z, long-is (a .out .now) (a .at) t _ _ _ (c8 .before .pre .0) z (o .ensures)),

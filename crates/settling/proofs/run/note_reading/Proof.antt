@@ -1,7 +1,7 @@
 -- `settling::run::note_reading` meets its contract. Assumes nothing.
 use mathlib.Core.Path.{_≡_, refl, sym, ap, _∙_}
 use native.Mathlib.Omega.{arith}
-use Rattle.settling.specs.Settling.{Noted, noted, kept, note}
+use Rattle.settling.specs.Settling.{Noted, noted, keepLargerIfAny, note}
 use Rattle.settling.specs.Steps.{optionOf}
 use borrow.Author.Needs.{needs}
 use Rattle.settling.proofs.run.note_reading.Statement.{statement}
@@ -17,7 +17,7 @@ returns : tie.Need-returns
 unfolding note
 returns c =
     let a = c .before .before .args in
-    (c .note-last .ensures .0 ∙ ap (λ (n : Noted). noted (n .ready) (kept (n .largest) (optionOf (a .given) (a .last)))) (c .before .note-ready .ensures .0), c .note-last .ensures .1 ∙ c .before .note-ready .ensures .1)
+    (c .note-last .ensures .0 ∙ ap (λ (n : Noted). noted (n .ready) (keepLargerIfAny (n .largest) (optionOf (a .given) (a .last)))) (c .before .note-ready .ensures .0), c .note-last .ensures .1 ∙ c .before .note-ready .ensures .1)
 
 pub note-reading-spec : {M : Type 1} → statement M
 note-reading-spec =

@@ -2,7 +2,7 @@
 use mathlib.Core.Path.{_≡_, refl, sym, ap, _∙_}
 use native.Mathlib.Omega.{arith}
 use lib.Ieee.{binary32, nan}
-use Rattle.snapshot.proofs.HexLaws.{zero-by-zero}
+use Rattle.numeric.proofs.BitLaws.{zero-by-zero}
 use Rattle.settling.proofs.StepLaws.{last-is, last-none}
 use borrow.Author.Needs.{needs}
 use Rattle.settling.proofs.step.last_of.Statement.{statement}

@@ -2,7 +2,7 @@
 use mathlib.Core.Path.{_≡_, refl, sym, ap, _∙_}
 use native.Mathlib.Omega.{arith}
 use Rattle.trcf.specs.View.{lent}
-use Rattle.settling.specs.Steps.{learnt, learning}
+use Rattle.settling.specs.Steps.{learnedResult, learning}
 use Rattle.settling.proofs.StepLaws.{learn-below}
 use borrow.Author.Needs.{needs}
 use Rattle.settling.proofs.step.learn.Statement.{statement}
@@ -55,7 +55,7 @@ returns c =
     let c32 = c24 .before .before .before .before .before .before .before .before in
     let e = c24 .before .before .before .before .every-right in
     let a = c32 .before .before .before .before .before .args in
-    ap learnt
+    ap learnedResult
     (c16 .post-process .ensures
     ∙ learn-below (e .result) (e .ensures) (a .head)
     (lent (a .statistics .now) (a .last-shingled-input .now) (a .last-shingled-point .now) (a .previous-timestamps .now) (a .initial-values .now) (a .initial-timestamps .now))

@@ -8,7 +8,7 @@ use lib.Seq.{length-take-le}
 use lib.Ieee.{Float}
 use Rattle.trcf.specs.Transformer.{zero32}
 use Rattle.trcf.specs.View.{lent}
-use Rattle.settling.specs.Steps.{turnWith}
+use Rattle.settling.specs.Steps.{readingResultWith}
 use Rattle.settling.proofs.StepLaws.{take-replicate}
 use borrow.Author.Needs.{needs}
 use Rattle.settling.proofs.step.step.Statement.{statement}
@@ -57,7 +57,7 @@ returns c =
     let a = c24 .before .before .before .before .before .args in
     let n = c16 .before .before .before .before .before .before .point-length in
     c8 .before .before .before .before .before .turn-with .ensures
-    ∙ ap (λ (out : List Float). turnWith (a .head) (lent (a .statistics .now) (a .last-shingled-input .now) (a .last-shingled-point .now) (a .previous-timestamps .now) (a .initial-values .now) (a .initial-timestamps .now)) (a .value ∷ []) (a .timestamp) out)
+    ∙ ap (λ (out : List Float). readingResultWith (a .head) (lent (a .statistics .now) (a .last-shingled-input .now) (a .last-shingled-point .now) (a .previous-timestamps .now) (a .initial-values .now) (a .initial-timestamps .now)) (a .value ∷ []) (a .timestamp) out)
     (take-replicate 128 (n .result) zero32 (n .ensures .1) ∙ ap (λ (k : ℕ). replicate k zero32) (n .ensures .0))
 
 pub step-spec : {M : Type 1} → statement M

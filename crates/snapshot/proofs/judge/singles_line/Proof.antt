@@ -4,7 +4,7 @@ use lib.ListN.{length, drop}
 use lib.Ieee.{binary32}
 use Rattle.snapshot.specs.Read.{asFloat}
 use Rattle.snapshot.specs.Steps.Judge.{placed}
-use Rattle.snapshot.proofs.JudgeLaws.{got, lost, got-list, lost-list, line-nameless, line-bad, line-good}
+use Rattle.snapshot.proofs.JudgeLaws.{got, lost, got-list, lost-list, line-nameless, line-bad, line-good, left-nameless, left-named}
 use borrow.Author.Needs.{needs}
 use Rattle.snapshot.proofs.judge.singles_line.Statement.{statement}
 use Rattle.snapshot.proofs.judge.singles_line.Tie as tie
@@ -25,9 +25,13 @@ enum-told c = search needs
 
 returns : tie.Need-returns
 returns c =
+    let a = c .before .before .before .before .before .args in
+    let N = c .before .before .name in
+    let e = lost (N .result) (a .text .now) _ (c .enum-told .given .1) (N .ensures) in
     record {
-      told = line-nameless (asFloat binary32) (c .before .before .before .before .before .args .a) (c .before .before .before .before .before .args .b) (c .before .before .before .before .before .args .c) _ _ (lost (c .before .before .name .result) (c .before .before .before .before .before .args .text .now) _ (c .enum-told .given .1) (c .before .before .name .ensures));
+      told = line-nameless (asFloat binary32) (a .a) (a .b) (a .c) (length (a .out .now)) (drop (a .at) (a .text .now)) e;
       kept = refl;
+      left = left-nameless (asFloat binary32) (a .a) (a .b) (a .c) (length (a .out .now)) (drop (a .at) (a .text .now)) _ e;
     }
 
 singles-requires : tie.Need-singles-requires
@@ -44,11 +48,18 @@ same-length c = search needs
 
 returns-2 : tie.Need-returns-2
 returns-2 c =
-    let t = c .before .before .before .before .before .before .before .before .before .before .before .before .args .text .now in
+    let s = c .before .before .before .before in
+    let u = s .before .before .before in
+    let a = u .before .before .before .before .before .args in
+    let t = a .text .now in
+    let N = u .before .before .name in
+    let S = s .singles in
+    let z = drop (u .p .given .0 .0) t in
+    let e = got (N .result) t _ (u .p .given .0 .0) (u .p .given .1) (N .ensures) in
     record {
-      told = line-bad (asFloat binary32) (c .before .before .before .before .before .before .before .before .before .before .before .before .args .a) (c .before .before .before .before .before .before .before .before .before .before .before .before .args .b) (c .before .before .before .before .before .before .before .before .before .before .before .before .args .c) _ _ (drop (c .before .before .before .before .before .before .before .p .given .0 .0) t) (got (c .before .before .before .before .before .before .before .before .before .name .result) t _ (c .before .before .before .before .before .before .before .p .given .0 .0) (c .before .before .before .before .before .before .before .p .given .1) (c .before .before .before .before .before .before .before .before .before .name .ensures))
-          (lost-list (c .before .before .before .before .singles .result) t _ _ (c .enum-told2 .given .1) (c .before .before .before .before .singles .ensures .told));
-      kept = c .before .before .before .before .singles .ensures .kept;
+      told = line-bad (asFloat binary32) (a .a) (a .b) (a .c) (length (a .out .now)) (drop (a .at) t) z e (lost-list (S .result) t _ _ (c .enum-told2 .given .1) (S .ensures .told));
+      kept = S .ensures .kept;
+      left = left-named (asFloat binary32) (a .a) (a .b) (a .c) (length (a .out .now)) (drop (a .at) t) _ z e _ (S .ensures .left);
     }
 
 byte-requires : tie.Need-byte-requires
@@ -59,11 +70,20 @@ same-length-2 c = search needs
 
 returns-3 : tie.Need-returns-3
 returns-3 c =
-    let t = c .before .before .before .before .before .before .before .before .before .before .before .before .before .before .args .text .now in
+    let q = c .before .before in
+    let s = q .before .before .before .before in
+    let u = s .before .before .before in
+    let a = u .before .before .before .before .before .args in
+    let t = a .text .now in
+    let N = u .before .before .name in
+    let S = s .singles in
+    let z = drop (u .p .given .0 .0) t in
+    let e = got (N .result) t _ (u .p .given .0 .0) (u .p .given .1) (N .ensures) in
+    let h = got-list (S .result) t _ _ (q .q .given .0 .0) (q .q .given .1) (S .ensures .told) in
     record {
-      told = line-good (asFloat binary32) (c .before .before .before .before .before .before .before .before .before .before .before .before .before .before .args .a) (c .before .before .before .before .before .before .before .before .before .before .before .before .before .before .args .b) (c .before .before .before .before .before .before .before .before .before .before .before .before .before .before .args .c) _ _ (drop (c .before .before .before .before .before .before .before .before .before .p .given .0 .0) t) (got (c .before .before .before .before .before .before .before .before .before .before .before .name .result) t _ (c .before .before .before .before .before .before .before .before .before .p .given .0 .0) (c .before .before .before .before .before .before .before .before .before .p .given .1) (c .before .before .before .before .before .before .before .before .before .before .before .name .ensures))
-          _ (drop (c .before .before .q .given .0 .0) t) (placed (c .byte .result) t) (got-list (c .before .before .before .before .before .before .singles .result) t _ _ (c .before .before .q .given .0 .0) (c .before .before .q .given .1) (c .before .before .before .before .before .before .singles .ensures .told)) (c .byte .ensures);
-      kept = c .before .before .before .before .before .before .singles .ensures .kept;
+      told = line-good (asFloat binary32) (a .a) (a .b) (a .c) (length (a .out .now)) (drop (a .at) t) z e _ (drop (q .q .given .0 .0) t) (placed (c .byte .result) t) h (c .byte .ensures);
+      kept = S .ensures .kept;
+      left = left-named (asFloat binary32) (a .a) (a .b) (a .c) (length (a .out .now)) (drop (a .at) t) _ z e _ (S .ensures .left);
     }
 
 pub singles-line-spec : {M : Type 1} → statement M

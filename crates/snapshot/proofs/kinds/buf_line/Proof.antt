@@ -3,7 +3,7 @@ use mathlib.Core.Path.{_≡_, refl, sym, _∙_}
 use lib.ListN.{drop, length}
 use borrow.Author.Tests.{not-true, not-false}
 use Rattle.snapshot.specs.Steps.Judge.{placed}
-use Rattle.snapshot.proofs.JudgeLaws.{got, lost, got-list, lost-list, whole-is, whole-not}
+use Rattle.snapshot.proofs.JudgeLaws.{got, lost, got-list, lost-list, whole-is, whole-not, buf-left-nameless, buf-left-timeless, buf-left}
 use Rattle.snapshot.proofs.LineTests.{buf-nameless, buf-timeless, buf-bad, buf-early, buf-infinite, buf-good}
 use borrow.Author.Needs.{needs}
 use Rattle.snapshot.proofs.kinds.buf_line.Statement.{statement}
@@ -26,11 +26,12 @@ enum-told c = search needs
 
 returns : tie.Need-returns
 returns c =
-    let t = c .before .before .before .before .before .args .text .now in
-    record {
-      told = buf-nameless (length (c .before .before .before .before .before .args .out .now)) (c .before .before .before .before .before .args .past) (drop (c .before .before .before .before .before .args .at) t) (lost (c .before .before .name .result) t _ (c .enum-told .given .1) (c .before .before .name .ensures));
-      kept = refl;
-    }
+    let a = c .before .before .before .before .before .args in
+    let t = a .text .now in
+    let N = c .before .before .name in
+    let l = drop (a .at) t in
+    let e = lost (N .result) t _ (c .enum-told .given .1) (N .ensures) in
+    record { told = buf-nameless (length (a .out .now)) (a .past) l e; kept = refl; left = buf-left-nameless (length (a .out .now)) l _ e }
 
 next-field-requires : tie.Need-next-field-requires
 next-field-requires c κs = search needs
@@ -40,11 +41,16 @@ enum-known-f c = search needs
 
 returns-2 : tie.Need-returns-2
 returns-2 c =
-    let t = c .before .before .before .before .before .before .before .before .args .text .now in
-    record {
-      told = buf-timeless (length (c .before .before .before .before .before .before .before .before .args .out .now)) (c .before .before .before .before .before .before .before .before .args .past) (drop (c .before .before .before .before .before .before .before .before .args .at) t) (drop (c .before .before .before .p .given .0 .0) t) (got (c .before .before .before .before .before .name .result) t _ (c .before .before .before .p .given .0 .0) (c .before .before .before .p .given .1) (c .before .before .before .before .before .name .ensures)) (whole-not t (c .before .before .before .p .given .0 .0) (c .before .next-field .result) (c .before .next-field .ensures) (c .match2 .keys2));
-      kept = refl;
-    }
+    let u = c .before .before .before in
+    let a = u .before .before .before .before .before .args in
+    let t = a .text .now in
+    let l = drop (a .at) t in
+    let N = u .before .before .name in
+    let X = c .before .next-field in
+    let z = drop (u .p .given .0 .0) t in
+    let e = got (N .result) t _ (u .p .given .0 .0) (u .p .given .1) (N .ensures) in
+    let h = whole-not t (u .p .given .0 .0) (X .result) (X .ensures) (c .match2 .keys2) in
+    record { told = buf-timeless (length (a .out .now)) (a .past) l z e h; kept = refl; left = buf-left-timeless (length (a .out .now)) l _ z e h }
 
 singles-requires : tie.Need-singles-requires
 singles-requires c κs = search needs
@@ -60,10 +66,24 @@ same-length c = search needs
 
 returns-3 : tie.Need-returns-3
 returns-3 c =
-    let t = c .before .before .before .before .before .before .before .before .before .before .before .before .before .before .before .before .args .text .now in
+    let s = c .before .before .before .before in
+    let f = s .before .before .before in
+    let u = f .before .before .before .before in
+    let a = u .before .before .before .before .before .args in
+    let t = a .text .now in
+    let l = drop (a .at) t in
+    let d = length (a .out .now) in
+    let N = u .before .before .name in
+    let X = f .before .before .next-field in
+    let S = s .singles in
+    let z = drop (u .p .given .0 .0) t in
+    let e = got (N .result) t _ (u .p .given .0 .0) (u .p .given .1) (N .ensures) in
+    let y = drop (X .result .end) t in
+    let h = whole-is t (u .p .given .0 .0) (X .result) (X .ensures) (f .f .given .0 .0) (f .f .given .1) in
     record {
-      told = buf-bad (length (c .before .before .before .before .before .before .before .before .before .before .before .before .before .before .before .before .args .out .now)) (c .before .before .before .before .before .before .before .before .before .before .before .before .before .before .before .before .args .past) (drop (c .before .before .before .before .before .before .before .before .before .before .before .before .before .before .before .before .args .at) t) (drop (c .before .before .before .before .before .before .before .before .before .before .before .p .given .0 .0) t) (got (c .before .before .before .before .before .before .before .before .before .before .before .before .before .name .result) t _ (c .before .before .before .before .before .before .before .before .before .before .before .p .given .0 .0) (c .before .before .before .before .before .before .before .before .before .before .before .p .given .1) (c .before .before .before .before .before .before .before .before .before .before .before .before .before .name .ensures)) (c .before .before .before .before .before .before .before .f .given .0 .0) (drop (c .before .before .before .before .before .before .before .before .before .next-field .result .end) t) (whole-is t (c .before .before .before .before .before .before .before .before .before .before .before .p .given .0 .0) (c .before .before .before .before .before .before .before .before .before .next-field .result) (c .before .before .before .before .before .before .before .before .before .next-field .ensures) (c .before .before .before .before .before .before .before .f .given .0 .0) (c .before .before .before .before .before .before .before .f .given .1)) (lost-list (c .before .before .before .before .singles .result) t _ _ (c .enum-told2 .given .1) (c .before .before .before .before .singles .ensures .told));
-      kept = c .before .before .before .before .singles .ensures .kept;
+      told = buf-bad d (a .past) l z e (f .f .given .0 .0) y h (lost-list (S .result) t _ _ (c .enum-told2 .given .1) (S .ensures .told));
+      kept = S .ensures .kept;
+      left = buf-left d l _ z e (f .f .given .0 .0) y h _ (S .ensures .left);
     }
 
 same-length-2 : tie.Need-same-length-2
@@ -71,10 +91,26 @@ same-length-2 c = search needs
 
 returns-4 : tie.Need-returns-4
 returns-4 c =
-    let t = c .before .before .before .before .before .before .before .before .before .before .before .before .before .before .before .before .before .before .args .text .now in
+    let q = c .before .before in
+    let s = q .before .before .before .before in
+    let f = s .before .before .before in
+    let u = f .before .before .before .before in
+    let a = u .before .before .before .before .before .args in
+    let t = a .text .now in
+    let l = drop (a .at) t in
+    let d = length (a .out .now) in
+    let N = u .before .before .name in
+    let X = f .before .before .next-field in
+    let S = s .singles in
+    let z = drop (u .p .given .0 .0) t in
+    let e = got (N .result) t _ (u .p .given .0 .0) (u .p .given .1) (N .ensures) in
+    let y = drop (X .result .end) t in
+    let h = whole-is t (u .p .given .0 .0) (X .result) (X .ensures) (f .f .given .0 .0) (f .f .given .1) in
+    let g = got-list (S .result) t _ _ (q .q .given .0 .0) (q .q .given .1) (S .ensures .told) in
     record {
-      told = buf-early (length (c .before .before .before .before .before .before .before .before .before .before .before .before .before .before .before .before .before .before .args .out .now)) (c .before .before .before .before .before .before .before .before .before .before .before .before .before .before .before .before .before .before .args .past) (drop (c .before .before .before .before .before .before .before .before .before .before .before .before .before .before .before .before .before .before .args .at) t) (drop (c .before .before .before .before .before .before .before .before .before .before .before .before .before .p .given .0 .0) t) (got (c .before .before .before .before .before .before .before .before .before .before .before .before .before .before .before .name .result) t _ (c .before .before .before .before .before .before .before .before .before .before .before .before .before .p .given .0 .0) (c .before .before .before .before .before .before .before .before .before .before .before .before .before .p .given .1) (c .before .before .before .before .before .before .before .before .before .before .before .before .before .before .before .name .ensures)) (c .before .before .before .before .before .before .before .before .before .f .given .0 .0) (drop (c .before .before .before .before .before .before .before .before .before .before .before .next-field .result .end) t) (whole-is t (c .before .before .before .before .before .before .before .before .before .before .before .before .before .p .given .0 .0) (c .before .before .before .before .before .before .before .before .before .before .before .next-field .result) (c .before .before .before .before .before .before .before .before .before .before .before .next-field .ensures) (c .before .before .before .before .before .before .before .before .before .f .given .0 .0) (c .before .before .before .before .before .before .before .before .before .f .given .1)) _ (drop (c .before .before .q .given .0 .0) t) (got-list (c .before .before .before .before .before .before .singles .result) t _ _ (c .before .before .q .given .0 .0) (c .before .before .q .given .1) (c .before .before .before .before .before .before .singles .ensures .told)) (c .if1 .taken);
-      kept = c .before .before .before .before .before .before .singles .ensures .kept;
+      told = buf-early d (a .past) l z e (f .f .given .0 .0) y h _ (drop (q .q .given .0 .0) t) g (c .if1 .taken);
+      kept = S .ensures .kept;
+      left = buf-left d l _ z e (f .f .given .0 .0) y h _ (S .ensures .left);
     }
 
 all-finite-requires : tie.Need-all-finite-requires
@@ -85,10 +121,27 @@ same-length-3 c = search needs
 
 returns-5 : tie.Need-returns-5
 returns-5 c =
-    let t = c .before .before .before .before .before .before .before .before .before .before .before .before .before .before .before .before .before .before .before .before .before .args .text .now in
+    let q = c .before .before .before .before .before in
+    let s = q .before .before .before .before in
+    let f = s .before .before .before in
+    let u = f .before .before .before .before in
+    let a = u .before .before .before .before .before .args in
+    let t = a .text .now in
+    let l = drop (a .at) t in
+    let d = length (a .out .now) in
+    let N = u .before .before .name in
+    let X = f .before .before .next-field in
+    let S = s .singles in
+    let z = drop (u .p .given .0 .0) t in
+    let e = got (N .result) t _ (u .p .given .0 .0) (u .p .given .1) (N .ensures) in
+    let y = drop (X .result .end) t in
+    let h = whole-is t (u .p .given .0 .0) (X .result) (X .ensures) (f .f .given .0 .0) (f .f .given .1) in
+    let g = got-list (S .result) t _ _ (q .q .given .0 .0) (q .q .given .1) (S .ensures .told) in
     record {
-      told = buf-infinite (length (c .before .before .before .before .before .before .before .before .before .before .before .before .before .before .before .before .before .before .before .before .before .args .out .now)) (c .before .before .before .before .before .before .before .before .before .before .before .before .before .before .before .before .before .before .before .before .before .args .past) (drop (c .before .before .before .before .before .before .before .before .before .before .before .before .before .before .before .before .before .before .before .before .before .args .at) t) (drop (c .before .before .before .before .before .before .before .before .before .before .before .before .before .before .before .before .p .given .0 .0) t) (got (c .before .before .before .before .before .before .before .before .before .before .before .before .before .before .before .before .before .before .name .result) t _ (c .before .before .before .before .before .before .before .before .before .before .before .before .before .before .before .before .p .given .0 .0) (c .before .before .before .before .before .before .before .before .before .before .before .before .before .before .before .before .p .given .1) (c .before .before .before .before .before .before .before .before .before .before .before .before .before .before .before .before .before .before .name .ensures)) (c .before .before .before .before .before .before .before .before .before .before .before .before .f .given .0 .0) (drop (c .before .before .before .before .before .before .before .before .before .before .before .before .before .before .next-field .result .end) t) (whole-is t (c .before .before .before .before .before .before .before .before .before .before .before .before .before .before .before .before .p .given .0 .0) (c .before .before .before .before .before .before .before .before .before .before .before .before .before .before .next-field .result) (c .before .before .before .before .before .before .before .before .before .before .before .before .before .before .next-field .ensures) (c .before .before .before .before .before .before .before .before .before .before .before .before .f .given .0 .0) (c .before .before .before .before .before .before .before .before .before .before .before .before .f .given .1)) _ (drop (c .before .before .before .before .before .q .given .0 .0) t) (got-list (c .before .before .before .before .before .before .before .before .before .singles .result) t _ _ (c .before .before .before .before .before .q .given .0 .0) (c .before .before .before .before .before .q .given .1) (c .before .before .before .before .before .before .before .before .before .singles .ensures .told)) (c .before .before .before .if1 .left) (sym (c .before .all-finite .ensures) ∙ not-true _ (c .if2 .taken));
-      kept = c .before .before .before .before .before .before .before .before .before .singles .ensures .kept;
+      told = buf-infinite d (a .past) l z e (f .f .given .0 .0) y h _ (drop (q .q .given .0 .0) t) g (c .before .before .before .if1 .left)
+          (sym (c .before .all-finite .ensures) ∙ not-true _ (c .if2 .taken));
+      kept = S .ensures .kept;
+      left = buf-left d l _ z e (f .f .given .0 .0) y h _ (S .ensures .left);
     }
 
 byte-requires : tie.Need-byte-requires
@@ -99,10 +152,27 @@ same-length-4 c = search needs
 
 returns-6 : tie.Need-returns-6
 returns-6 c =
-    let t = c .before .before .before .before .before .before .before .before .before .before .before .before .before .before .before .before .before .before .before .before .before .before .args .text .now in
+    let q = c .before .before .before .before .before .before in
+    let s = q .before .before .before .before in
+    let f = s .before .before .before in
+    let u = f .before .before .before .before in
+    let a = u .before .before .before .before .before .args in
+    let t = a .text .now in
+    let l = drop (a .at) t in
+    let d = length (a .out .now) in
+    let N = u .before .before .name in
+    let X = f .before .before .next-field in
+    let S = s .singles in
+    let z = drop (u .p .given .0 .0) t in
+    let e = got (N .result) t _ (u .p .given .0 .0) (u .p .given .1) (N .ensures) in
+    let y = drop (X .result .end) t in
+    let h = whole-is t (u .p .given .0 .0) (X .result) (X .ensures) (f .f .given .0 .0) (f .f .given .1) in
+    let g = got-list (S .result) t _ _ (q .q .given .0 .0) (q .q .given .1) (S .ensures .told) in
     record {
-      told = buf-good (length (c .before .before .before .before .before .before .before .before .before .before .before .before .before .before .before .before .before .before .before .before .before .before .args .out .now)) (c .before .before .before .before .before .before .before .before .before .before .before .before .before .before .before .before .before .before .before .before .before .before .args .past) (drop (c .before .before .before .before .before .before .before .before .before .before .before .before .before .before .before .before .before .before .before .before .before .before .args .at) t) (drop (c .before .before .before .before .before .before .before .before .before .before .before .before .before .before .before .before .before .p .given .0 .0) t) (got (c .before .before .before .before .before .before .before .before .before .before .before .before .before .before .before .before .before .before .before .name .result) t _ (c .before .before .before .before .before .before .before .before .before .before .before .before .before .before .before .before .before .p .given .0 .0) (c .before .before .before .before .before .before .before .before .before .before .before .before .before .before .before .before .before .p .given .1) (c .before .before .before .before .before .before .before .before .before .before .before .before .before .before .before .before .before .before .before .name .ensures)) (c .before .before .before .before .before .before .before .before .before .before .before .before .before .f .given .0 .0) (drop (c .before .before .before .before .before .before .before .before .before .before .before .before .before .before .before .next-field .result .end) t) (whole-is t (c .before .before .before .before .before .before .before .before .before .before .before .before .before .before .before .before .before .p .given .0 .0) (c .before .before .before .before .before .before .before .before .before .before .before .before .before .before .before .next-field .result) (c .before .before .before .before .before .before .before .before .before .before .before .before .before .before .before .next-field .ensures) (c .before .before .before .before .before .before .before .before .before .before .before .before .before .f .given .0 .0) (c .before .before .before .before .before .before .before .before .before .before .before .before .before .f .given .1)) _ (drop (c .before .before .before .before .before .before .q .given .0 .0) t) (got-list (c .before .before .before .before .before .before .before .before .before .before .singles .result) t _ _ (c .before .before .before .before .before .before .q .given .0 .0) (c .before .before .before .before .before .before .q .given .1) (c .before .before .before .before .before .before .before .before .before .before .singles .ensures .told)) (c .before .before .before .before .if1 .left) (sym (c .before .before .all-finite .ensures) ∙ not-false _ (c .before .if2 .left)) (placed (c .byte .result) t) (c .byte .ensures);
-      kept = c .before .before .before .before .before .before .before .before .before .before .singles .ensures .kept;
+      told = buf-good d (a .past) l z e (f .f .given .0 .0) y h _ (drop (q .q .given .0 .0) t) g (c .before .before .before .before .if1 .left)
+          (sym (c .before .before .all-finite .ensures) ∙ not-false _ (c .before .if2 .left)) (placed (c .byte .result) t) (c .byte .ensures);
+      kept = S .ensures .kept;
+      left = buf-left d l _ z e (f .f .given .0 .0) y h _ (S .ensures .left);
     }
 
 pub buf-line-spec : {M : Type 1} → statement M

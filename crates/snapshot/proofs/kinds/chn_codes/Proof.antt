@@ -23,8 +23,13 @@ same-length c = search needs
 returns : tie.Need-returns
 unfolding chnBy
 returns c =
+    let c8 = c .before .before .before .before .before .before .before .before in
     let W = c .before .before .before .before .before .wholes-line in
-    record { told = check-no allCodes _ (W .result) (c .before .before .before .before .before .before .before .before .before .args .text .now) _ (W .ensures .told) (sym (c .before .codes-fit .ensures) ∙ not-true _ (c .if1 .taken)); kept = W .ensures .kept }
+    record {
+      told = check-no allCodes _ (W .result) (c8 .before .args .text .now) _ (W .ensures .told) (sym (c .before .codes-fit .ensures) ∙ not-true _ (c .if1 .taken));
+      kept = W .ensures .kept;
+      left = W .ensures .left;
+    }
 
 same-length-2 : tie.Need-same-length-2
 same-length-2 c = search needs
@@ -32,8 +37,13 @@ same-length-2 c = search needs
 returns-2 : tie.Need-returns-2
 unfolding chnBy
 returns-2 c =
+    let c8 = c .before .before .before .before .before .before .before .before in
     let W = c .before .before .before .before .before .wholes-line in
-    record { told = check-yes allCodes _ (W .result) (c .before .before .before .before .before .before .before .before .before .args .text .now) _ (W .ensures .told) (sym (c .before .codes-fit .ensures) ∙ not-false _ (c .if1 .left)); kept = W .ensures .kept }
+    record {
+      told = check-yes allCodes _ (W .result) (c8 .before .args .text .now) _ (W .ensures .told) (sym (c .before .codes-fit .ensures) ∙ not-false _ (c .if1 .left));
+      kept = W .ensures .kept;
+      left = W .ensures .left;
+    }
 
 pub chn-codes-spec : {M : Type 1} → statement M
 chn-codes-spec =

@@ -7,7 +7,7 @@ use lib.ListN.{length, take, drop, replicate}
 use lib.Seq.{length-take-le, take-at}
 use Rattle.snapshot.proofs.JudgeLaws.{got-one, lost-one}
 use Rattle.snapshot.proofs.CodeLaws.{none-or, none-over, some-or, codes-pass, front-fits, front-is}
-use Rattle.common.specs.Lent.{over}
+use Rattle.refusal.specs.Lent.{over}
 use Rattle.snapshot.specs.Read.{allCodes}
 use Rattle.snapshot.proofs.kinds.chn_line.Statement.{statement}
 use Rattle.snapshot.proofs.kinds.chn_line.Tie as tie

@@ -24,10 +24,14 @@ same-length c = search needs
 returns : tie.Need-returns
 unfolding timBy
 returns c =
+    let c8 = c .before .before .before .before .before .before .before .before in
+    let wholes-line-at = c .before .before .before .before .before .wholes-line in
+    let args = c8 .before .args in
     record {
-      told = check-no (timTest (c .before .before .before .before .before .before .before .before .before .args .internal)) _ (c .before .before .before .before .before .wholes-line .result) (c .before .before .before .before .before .before .before .before .before .args .text .now) _ (c .before .before .before .before .before .wholes-line .ensures .told)
-          (tim-falls (c .before .before .before .before .before .before .before .before .before .args .internal) _ (sym (c .before .none-falls .ensures) ∙ not-true _ (c .if1 .taken)));
-      kept = c .before .before .before .before .before .wholes-line .ensures .kept;
+      told = check-no (timTest (args .internal)) _ (wholes-line-at .result) (args .text .now) _ (wholes-line-at .ensures .told)
+          (tim-falls (args .internal) _ (sym (c .before .none-falls .ensures) ∙ not-true _ (c .if1 .taken)));
+      kept = wholes-line-at .ensures .kept;
+      left = wholes-line-at .ensures .left;
     }
 
 all-zero-requires : tie.Need-all-zero-requires
@@ -39,10 +43,15 @@ same-length-2 c = search needs
 returns-2 : tie.Need-returns-2
 unfolding timBy
 returns-2 c =
+    let c8 = c .before .before .before .before .before .before .before .before in
+    let args = c8 .before .before .before .before .before .args in
+    let wholes-line-at = c8 .before .wholes-line in
     record {
-      told = check-no (timTest (c .before .before .before .before .before .before .before .before .before .before .before .before .before .args .internal)) _ (c .before .before .before .before .before .before .before .before .before .wholes-line .result) (c .before .before .before .before .before .before .before .before .before .before .before .before .before .args .text .now) _ (c .before .before .before .before .before .before .before .before .before .wholes-line .ensures .told)
-          (tim-not (c .before .before .before .before .before .before .before .before .before .before .before .before .before .args .internal) _ (sym (c .before .before .before .before .before .none-falls .ensures) ∙ not-false _ (c .before .before .before .before .if1 .left)) (c .before .before .before .if2 .taken) (sym (c .before .all-zero .ensures) ∙ not-true _ (c .if3 .taken)));
-      kept = c .before .before .before .before .before .before .before .before .before .wholes-line .ensures .kept;
+      told = check-no (timTest (args .internal)) _ (wholes-line-at .result) (args .text .now) _ (wholes-line-at .ensures .told)
+          (tim-not (args .internal) _ (sym (c .before .before .before .before .before .none-falls .ensures) ∙ not-false _ (c .before .before .before .before .if1 .left))
+          (c .before .before .before .if2 .taken) (sym (c .before .all-zero .ensures) ∙ not-true _ (c .if3 .taken)));
+      kept = wholes-line-at .ensures .kept;
+      left = wholes-line-at .ensures .left;
     }
 
 same-length-3 : tie.Need-same-length-3
@@ -51,10 +60,15 @@ same-length-3 c = search needs
 returns-3 : tie.Need-returns-3
 unfolding timBy
 returns-3 c =
+    let c8 = c .before .before .before .before .before .before .before .before in
+    let args = c8 .before .before .before .before .before .args in
+    let wholes-line-at = c8 .before .wholes-line in
     record {
-      told = check-yes (timTest (c .before .before .before .before .before .before .before .before .before .before .before .before .before .args .internal)) _ (c .before .before .before .before .before .before .before .before .before .wholes-line .result) (c .before .before .before .before .before .before .before .before .before .before .before .before .before .args .text .now) _ (c .before .before .before .before .before .before .before .before .before .wholes-line .ensures .told)
-          (tim-zero (c .before .before .before .before .before .before .before .before .before .before .before .before .before .args .internal) _ (sym (c .before .before .before .before .before .none-falls .ensures) ∙ not-false _ (c .before .before .before .before .if1 .left)) (c .before .before .before .if2 .taken) (sym (c .before .all-zero .ensures) ∙ not-false _ (c .if3 .left)));
-      kept = c .before .before .before .before .before .before .before .before .before .wholes-line .ensures .kept;
+      told = check-yes (timTest (args .internal)) _ (wholes-line-at .result) (args .text .now) _ (wholes-line-at .ensures .told)
+          (tim-zero (args .internal) _ (sym (c .before .before .before .before .before .none-falls .ensures) ∙ not-false _ (c .before .before .before .before .if1 .left))
+          (c .before .before .before .if2 .taken) (sym (c .before .all-zero .ensures) ∙ not-false _ (c .if3 .left)));
+      kept = wholes-line-at .ensures .kept;
+      left = wholes-line-at .ensures .left;
     }
 
 same-length-4 : tie.Need-same-length-4
@@ -63,10 +77,14 @@ same-length-4 c = search needs
 returns-4 : tie.Need-returns-4
 unfolding timBy
 returns-4 c =
+    let c8 = c .before .before .before .before .before .before .before .before in
+    let wholes-line-at = c .before .before .before .before .before .before .wholes-line in
+    let args = c8 .before .before .args in
     record {
-      told = check-yes (timTest (c .before .before .before .before .before .before .before .before .before .before .args .internal)) _ (c .before .before .before .before .before .before .wholes-line .result) (c .before .before .before .before .before .before .before .before .before .before .args .text .now) _ (c .before .before .before .before .before .before .wholes-line .ensures .told)
-          (tim-other (c .before .before .before .before .before .before .before .before .before .before .args .internal) _ (sym (c .before .before .none-falls .ensures) ∙ not-false _ (c .before .if1 .left)) (c .if2 .left));
-      kept = c .before .before .before .before .before .before .wholes-line .ensures .kept;
+      told = check-yes (timTest (args .internal)) _ (wholes-line-at .result) (args .text .now) _ (wholes-line-at .ensures .told)
+          (tim-other (args .internal) _ (sym (c .before .before .none-falls .ensures) ∙ not-false _ (c .before .if1 .left)) (c .if2 .left));
+      kept = wholes-line-at .ensures .kept;
+      left = wholes-line-at .ensures .left;
     }
 
 pub tim-line-spec : {M : Type 1} → statement M

@@ -25,10 +25,15 @@ same-length c = search needs
 returns : tie.Need-returns
 unfolding wgtBy
 returns c =
+    let c8 = c .before .before .before .before .before .before .before .before in
+    let singles-line-at = c .before .before .before .before .before .before .before .singles-line in
+    let args = c8 .before .before .before .args in
     record {
-      told = check-no (wgtTest (c .before .before .before .before .before .before .before .before .before .before .before .args .method)) _ (c .before .before .before .before .before .before .before .singles-line .result) (c .before .before .before .before .before .before .before .before .before .before .before .args .text .now) _ (c .before .before .before .before .before .before .before .singles-line .ensures .told)
-          (wgt-no (c .before .before .before .before .before .before .before .before .before .before .before .args .method) _ (sym (c .before .before .before .before .is-none .ensures) ∙ c .before .before .before .if1 .taken) (sym (c .before .all-one .ensures) ∙ not-true _ (c .if2 .taken)));
-      kept = c .before .before .before .before .before .before .before .singles-line .ensures .kept;
+      told = check-no (wgtTest (args .method)) _ (singles-line-at .result) (args .text .now) _ (singles-line-at .ensures .told)
+          (wgt-no (args .method) _ (sym (c .before .before .before .before .is-none .ensures) ∙ c .before .before .before .if1 .taken)
+          (sym (c .before .all-one .ensures) ∙ not-true _ (c .if2 .taken)));
+      kept = singles-line-at .ensures .kept;
+      left = singles-line-at .ensures .left;
     }
 
 same-length-2 : tie.Need-same-length-2
@@ -37,10 +42,15 @@ same-length-2 c = search needs
 returns-2 : tie.Need-returns-2
 unfolding wgtBy
 returns-2 c =
+    let c8 = c .before .before .before .before .before .before .before .before in
+    let singles-line-at = c .before .before .before .before .before .before .before .singles-line in
+    let args = c8 .before .before .before .args in
     record {
-      told = check-yes (wgtTest (c .before .before .before .before .before .before .before .before .before .before .before .args .method)) _ (c .before .before .before .before .before .before .before .singles-line .result) (c .before .before .before .before .before .before .before .before .before .before .before .args .text .now) _ (c .before .before .before .before .before .before .before .singles-line .ensures .told)
-          (wgt-one (c .before .before .before .before .before .before .before .before .before .before .before .args .method) _ (sym (c .before .before .before .before .is-none .ensures) ∙ c .before .before .before .if1 .taken) (sym (c .before .all-one .ensures) ∙ not-false _ (c .if2 .left)));
-      kept = c .before .before .before .before .before .before .before .singles-line .ensures .kept;
+      told = check-yes (wgtTest (args .method)) _ (singles-line-at .result) (args .text .now) _ (singles-line-at .ensures .told)
+          (wgt-one (args .method) _ (sym (c .before .before .before .before .is-none .ensures) ∙ c .before .before .before .if1 .taken)
+          (sym (c .before .all-one .ensures) ∙ not-false _ (c .if2 .left)));
+      kept = singles-line-at .ensures .kept;
+      left = singles-line-at .ensures .left;
     }
 
 same-length-3 : tie.Need-same-length-3
@@ -49,10 +59,13 @@ same-length-3 c = search needs
 returns-3 : tie.Need-returns-3
 unfolding wgtBy
 returns-3 c =
+    let args = c .before .before .before .before .before .before .before .before .args in
+    let singles-line-at = c .before .before .before .before .singles-line in
     record {
-      told = check-yes (wgtTest (c .before .before .before .before .before .before .before .before .args .method)) _ (c .before .before .before .before .singles-line .result) (c .before .before .before .before .before .before .before .before .args .text .now) _ (c .before .before .before .before .singles-line .ensures .told)
-          (wgt-other (c .before .before .before .before .before .before .before .before .args .method) _ (sym (c .before .is-none .ensures) ∙ c .if1 .left));
-      kept = c .before .before .before .before .singles-line .ensures .kept;
+      told = check-yes (wgtTest (args .method)) _ (singles-line-at .result) (args .text .now) _ (singles-line-at .ensures .told)
+          (wgt-other (args .method) _ (sym (c .before .is-none .ensures) ∙ c .if1 .left));
+      kept = singles-line-at .ensures .kept;
+      left = singles-line-at .ensures .left;
     }
 
 pub wgt-line-spec : {M : Type 1} → statement M

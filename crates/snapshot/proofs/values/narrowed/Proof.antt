@@ -5,11 +5,11 @@ use native.Mathlib.Omega.{arith}
 use Prim.Native.Nat.{ℕ, _≤_, _<_, _-_}
 use lib.ListN.{length, replicate, take, length-set}
 use Rattle.trcf.proofs.LentLaws.{over-none}
-use Rattle.common.specs.Lent.{over}
+use Rattle.refusal.specs.Lent.{over}
 use Rattle.trcf.specs.Settings.{codeMax}
 use Rattle.trcf.proofs.FitLaws.{all-getD}
 use Rattle.snapshot.proofs.ReadKinds.{codes-of}
-use Rattle.common.proofs.RangeSteps.{over-copy}
+use Rattle.refusal.proofs.LentLaws.{over-copy}
 use Rattle.snapshot.proofs.values.narrowed.Statement.{statement}
 use Rattle.snapshot.proofs.values.narrowed.Tie as tie
 

@@ -1,12 +1,12 @@
 -- `trcf::blocks::drift_block` meets its contract: each turn shifts one place. Assumes nothing.
 use lib.Ieee.{Float, nan, binary32, mul}
-use Rattle.common.specs.RangeVector.{rangeAt, putAt, shifted}
+use Rattle.ranges.specs.RangeVector.{rangeAt, putAt, shifted}
 use Rattle.trcf.proofs.BlockLaws.{places-more}
 use Prim.Native.Nat.{_+_, _*_, _-_, _≤_}
 use mathlib.Core.Path.{_≡_, refl, ap, _∙_}
 use native.Mathlib.Omega.{arith}
 use lib.ListN.{length, getD, length-set}
-use Rattle.common.specs.RangeVector.{ranges}
+use Rattle.ranges.specs.RangeVector.{ranges}
 use Rattle.trcf.specs.Steps.Blocks.{placesBy, driftPlace}
 use Rattle.trcf.proofs.blocks.drift_block.Statement.{statement}
 use Rattle.trcf.proofs.blocks.drift_block.Tie as tie

@@ -1,13 +1,13 @@
 -- `trcf::blocks::invert_block` meets its contract: each turn works on one place and one base. Assumes nothing.
 use lib.Ieee.{nan, binary32, mul}
-use Rattle.common.specs.RangeVector.{rangeAt, putAt}
+use Rattle.ranges.specs.RangeVector.{rangeAt, putAt}
 use Rattle.trcf.specs.Steps.Blocks.{turnBy}
 use Rattle.trcf.proofs.BlockLaws.{places-more, carried-more}
 use Prim.Native.Nat.{_+_, _*_, _-_, _≤_}
 use mathlib.Core.Path.{_≡_, refl, sym, _∙_}
 use native.Mathlib.Omega.{arith}
 use lib.ListN.{length, getD, length-set}
-use Rattle.common.specs.RangeVector.{ranges}
+use Rattle.ranges.specs.RangeVector.{ranges}
 use Rattle.trcf.specs.Steps.Blocks.{placesBy, turnPlace}
 use Rattle.trcf.proofs.BlockLaws.{Carrying}
 use Rattle.trcf.proofs.blocks.invert_block.Statement.{statement}

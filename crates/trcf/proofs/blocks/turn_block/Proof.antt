@@ -1,7 +1,7 @@
 -- `trcf::blocks::turn_block` meets its contract: by the method's kind. Assumes nothing.
 use Prim.Native.Nat.{_*_}
 use mathlib.Core.Path.{sym, _∙_}
-use Rattle.common.specs.RangeVector.{ranges}
+use Rattle.ranges.specs.RangeVector.{ranges}
 use Rattle.trcf.proofs.BlockLaws.{none-block, none-carried, other-block, other-carried}
 use borrow.Author.Needs.{needs}
 use Rattle.trcf.proofs.blocks.turn_block.Statement.{statement}

@@ -1,4 +1,4 @@
--- `trcf::output::transform_fitting` meets its contract: by its callees' promises, the time's number behind the channels'. Assumes nothing.
+-- `trcf::output::transform_fitting` meets its contract: by its callees' promises, the time's number after the channels'. Assumes nothing.
 use native.Mathlib.Omega.{arith}
 use mathlib.Core.Path.{_≡_, refl, sym, ap, _∙_}
 use Prim.Native.Nat.{ℕ, _+_, _-_, _*_, _≤_, _<_}

@@ -5,7 +5,7 @@ use native.Mathlib.Omega.{arith}
 use borrow.Author.Needs.{needs}
 use Rattle.numeric.specs.Root.{rootOf}
 use Rattle.trcf.specs.Transformer.{slowDecay}
-use Rattle.trcf.specs.Steps.Passes.{noted, lasts}
+use Rattle.trcf.specs.Steps.Passes.{radicands, lasts}
 use Rattle.trcf.proofs.PassLaws.{fed-in-passes}
 use Rattle.trcf.proofs.passes.feed_channels.Statement.{statement}
 use Rattle.trcf.proofs.passes.feed_channels.Tie as tie

@@ -9,20 +9,20 @@ use lib.Ieee.{Float, nan}
 use borrow.Author.Needs.{needs}
 use Rattle.common.specs.Deviation.{stepOf}
 use Rattle.trcf.specs.Transformer.{statisticAt}
-use Rattle.trcf.specs.Steps.Passes.{radicandOf, differenceOf, firsts, noted}
+use Rattle.trcf.specs.Steps.Passes.{radicandOf, differenceOf, firsts, radicands}
 use Rattle.trcf.proofs.PassLaws.{noted-next}
 use Rattle.trcf.proofs.passes.first_pass.Statement.{statement}
 use Rattle.trcf.proofs.passes.first_pass.Tie as tie
 
 abbrev Inv-loop : tie.InvT-loop
 Inv-loop s₀ a₀ d decay count input previous f g i₀ s a i =
-    (i ≤ d) × (s ≡ firsts i s₀ d decay count input previous) × (a ≡ noted i a₀ s₀ d decay count input previous) × (length s ≡ length s₀) × (length a ≡ length a₀)
+    (i ≤ d) × (s ≡ firsts i s₀ d decay count input previous) × (a ≡ radicands i a₀ s₀ d decay count input previous) × (length s ≡ length s₀) × (length a ≡ length a₀)
 
 abbrev μ-loop : tie.MeasureT-loop
 μ-loop s₀ a₀ d decay count input previous f g i₀ s a i = d - i
 
 loop-holds : tie.Need-loop-holds Inv-loop μ-loop
-unfolding firsts noted
+unfolding firsts radicands
 loop-holds c = (omega arith, refl, refl, refl, refl)
 
 mul-x : tie.Need-mul-x Inv-loop μ-loop
@@ -86,7 +86,7 @@ loop-again c =
     let first = rw (one, two) at (passed .1 .1) in
     let v = rw (one, L .inv .1) at (passed .0) in
     let w = rw (two, L .inv .1) at (passed .1 .0) in
-    let known = noted (L .i) (p .a .now) (p .s .now) (p .d) (p .decay) (p .count) (p .input .now) (p .previous .now) in
+    let known = radicands (L .i) (p .a .now) (p .s .now) (p .d) (p .decay) (p .count) (p .input .now) (p .previous .now) in
     let list = firsts (L .i) (p .s .now) (p .d) (p .decay) (p .count) (p .input .now) (p .previous .now) in
     let x = getD (p .input .now) (L .i) nan in
     let dx = differenceOf (p .input .now) (p .previous .now) (L .i) in

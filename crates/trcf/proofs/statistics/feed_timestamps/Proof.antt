@@ -48,7 +48,7 @@ use denote.Triple.Table.{entered, cited}
 use denote.Triple.Walked.{says, needs, Stays, stay-none, walkOf, goes-none, Walks, ends-at, walked, walk-meets}
 use denote.Exit.{yes}
 use Rattle.trcf.specs.Transformer.{fed}
-use Rattle.trcf.specs.Steps.Timestamps.{listed, gathered, Ready}
+use Rattle.trcf.specs.Steps.Timestamps.{listed, gathered, Feedable}
 use Rattle.common.specs.declared.deviation.Deviation.{Deviation}
 use Rattle.common.proofs.deviation.Deviation as T
 use Rattle.common.proofs.deviation.Deviation.Laws as T′
@@ -129,7 +129,7 @@ module _ {M : Type 1} (𝓤 : URA M) (H : Heap 𝓤) (A : Atoms 𝓤) (W : Given
   abbrev to-update : ℕ → ℕ → GName → Update 𝓤 H A at-mem run .Ghost
   to-update b ν δ = (((ν ∷ [], tt), (fullShare, tt), tt, (lent b δ, (x, (dx, (p, (s, tt))))), (sliceVal (b, 0) 5 ∷ [], (vfloat binary64 x ∷ [], (vfloat binary64 dx ∷ [], (vfloat binary64 p ∷ [], (vfloat binary64 s ∷ [], tt)))))), tt)
 
-  goes : (b ν : ℕ) (δ : GName) → Ready p s (gathered l) → length l ≡ 5
+  goes : (b ν : ℕ) (δ : GName) → Feedable p s (gathered l) → length l ≡ 5
       → ent 𝓤 (sep 𝓤 (A .lft (ν ∷ []) fullShare) (sem 𝓤 H A (MutSlice (named 0) (ν ∷ []) T.the-row .own (lent b δ) (sliceVal (b, 0) 5 ∷ [])))) (Update 𝓤 H A at-mem run .pre (to-update b ν δ))
   goes b ν δ ready long =
       qed W (‵ (flft (ν ∷ []) fullShare) ∷ ‵ (MutSlice (named 0) (ν ∷ []) T.the-row .own (lent b δ) (sliceVal (b, 0) 5 ∷ [])) ∷ []) ∵ says ! (long, ready) $ nothing ! $ move ! (1 ∷ 0 ∷ []) $ join ! $ frame ! $
@@ -145,7 +145,7 @@ module _ {M : Type 1} (𝓤 : URA M) (H : Heap 𝓤) (A : Atoms 𝓤) (W : Given
       owned ! five (Is five) (array-makes 𝓤 H A W T.the-row (LL.makes T.the-type T′.the-plain 𝓤 H A) 5) zs _ is′ $ done !
 
   module _ (C : Calls 𝓤 H) (Λ : Loops 𝓤 H) (fm : FmC 𝓤 H (W .laws) C) (known : Triple 𝓤 (C #trcf·statistics·update-timestamps) (Update 𝓤 H A at-mem run)) where
-    walk : Is five l (array-vals vals-of l) → length l ≡ 5 → Ready p s (gathered l) → ent 𝓤 (onEntry 𝓤 H A f.signature tt tt a vals) (WpFn 𝓤 H C Λ code.function (only (array-vals vals-of l) ∷ vfloat binary64 x ∷ vfloat binary64 dx ∷ vfloat binary64 p ∷ vfloat binary64 s ∷ []) Post)
+    walk : Is five l (array-vals vals-of l) → length l ≡ 5 → Feedable p s (gathered l) → ent 𝓤 (onEntry 𝓤 H A f.signature tt tt a vals) (WpFn 𝓤 H C Λ code.function (only (array-vals vals-of l) ∷ vfloat binary64 x ∷ vfloat binary64 dx ∷ vfloat binary64 p ∷ vfloat binary64 s ∷ []) Post)
     walk is long ready =
         qed W (‵ ftrue ∷ ‵ (owns (five ∷ f64 ∷ f64 ∷ f64 ∷ f64 ∷ []) a vals) ∷ []) ∵ enter ! C Λ code.function (only (array-vals vals-of l) ∷ vfloat binary64 x ∷ vfloat binary64 dx ∷ vfloat binary64 p ∷ vfloat binary64 s ∷ []) _ $
         alloc1 ! (λ l₀. alloc1 ! (λ l₁. alloc1 ! (λ l₂. alloc1 ! (λ l₃. alloc1 ! (λ l₄. alloc1 ! (λ l₅. alloc1 ! (λ l₆. alloc1 ! (λ l₇. alloc1 ! (λ l₈. alloc1 ! (λ l₉. alloc0 ! $
@@ -177,7 +177,7 @@ module _ {M : Type 1} (𝓤 : URA M) (H : Heap 𝓤) (A : Atoms 𝓤) (W : Given
   walks : (C : Calls 𝓤 H) (Λ : Loops 𝓤 H) → FmC 𝓤 H (W .laws) C → Triple 𝓤 (C #trcf·statistics·update-timestamps) (Update 𝓤 H A mem run) → Walks 𝓤 H A f.ended stayed (WpFn 𝓤 H C Λ code.function) (f.clauses 𝓤 H A mem run)
   walks C Λ fm known = walked 𝓤 H A f.ended stayed (f.clauses 𝓤 H A mem run) (WpFn 𝓤 H C Λ code.function)
       (λ κs. (array-vals vals-of, (float-vals binary64, (float-vals binary64, (float-vals binary64, (float-vals binary64, tt)))))) (λ κs. (array-tells T.the-row vals-of (LL.tells T.the-type T′.the-laws) 5, (float-tells binary64, (float-tells binary64, (float-tells binary64, (float-tells binary64, tt))))))
-      (λ κs qs bounds a g are. needs 𝓤 (Ready (a .1 .1 .1 .0) (a .1 .1 .1 .1 .0) (gathered (a .0))) _ (λ ready.
+      (λ κs qs bounds a g are. needs 𝓤 (Feedable (a .1 .1 .1 .0) (a .1 .1 .1 .1 .0) (gathered (a .0))) _ (λ ready.
       walk 𝓤 H A W mem run (a .0) (a .1 .0) (a .1 .1 .0) (a .1 .1 .1 .0) (a .1 .1 .1 .1 .0) (are .1 .0 .1) (are .1 .1 .0 .1) (are .1 .1 .1 .0 .1) (are .1 .1 .1 .1 .0 .1) C Λ fm known (are .0) (are .0 .1 .0 .1) ready))
 
 meets : {M : Type 1} (𝓤 : URA M) (H : Heap 𝓤) (A : Atoms 𝓤) (W : Given 𝓤 H A) (mem : Memory → SProp 𝓤) (run : Routine → Fun 𝓤) (𝓣 : Tables 𝓤 H) → Triple 𝓤 (𝓣 .C #trcf·statistics·update-timestamps) (Update 𝓤 H A mem run)

@@ -46,7 +46,7 @@ use denote.Triple.Table.{entered, cited}
 use denote.Triple.Walked.{says, needs, Stays, stay-slice, stay-none, walkOf, goes-slice, goes-none, Walks, ends-at, walked, walk-meets}
 use denote.Exit.{yes}
 use Rattle.trcf.specs.Transformer.{fed}
-use Rattle.trcf.specs.Steps.Timestamps.{listed, gathered, Ready}
+use Rattle.trcf.specs.Steps.Timestamps.{listed, gathered, Feedable}
 use Rattle.common.specs.declared.deviation.Deviation.{Deviation}
 use Rattle.trcf.specs.declared.statistics.Deviations.{Deviations}
 use Rattle.common.proofs.deviation.Deviation as T
@@ -121,7 +121,7 @@ module _ {M : Type 1} (𝓤 : URA M) (H : Heap 𝓤) (A : Atoms 𝓤) (mem : Mem
   Post = walkOf 𝓤 H A f.ended stayed (f.clauses 𝓤 H A mem run) .post (((κ, tt), (q, tt), tt, a, vals), tt)
 
   abbrev Goal : Calls 𝓤 H → Loops 𝓤 H → Type 1
-  Goal C Λ = Room T.the-row (length l) → Ready p s (gathered l) → ent 𝓤 (onEntry 𝓤 H A f.signature (κ, tt) (q, tt) a vals) (WpFn 𝓤 H C Λ code.function (sliceVal (b, o) (length l) ∷ vfloat binary64 x ∷ vfloat binary64 dx ∷ vfloat binary64 p ∷ vfloat binary64 s ∷ []) Post)
+  Goal C Λ = Room T.the-row (length l) → Feedable p s (gathered l) → ent 𝓤 (onEntry 𝓤 H A f.signature (κ, tt) (q, tt) a vals) (WpFn 𝓤 H C Λ code.function (sliceVal (b, o) (length l) ∷ vfloat binary64 x ∷ vfloat binary64 dx ∷ vfloat binary64 p ∷ vfloat binary64 s ∷ []) Post)
 
 module _ {M : Type 1} (𝓤 : URA M) (H : Heap 𝓤) (A : Atoms 𝓤) (W : Given 𝓤 H A) (mem : Memory → SProp 𝓤) (run : Routine → Fun 𝓤) (κ : Lft) (q : Share) (b o : ℕ) (γ : GName) (x dx p s : Float) (x-fits : fits binary64 x ≡ true) (dx-fits : fits binary64 dx ≡ true) (f-fits : fits binary64 p ≡ true) (g-fits : fits binary64 s ≡ true) (d₀ d₁ d₂ d₃ d₄ : Deviation) where
   abbrev ys : List Deviation
@@ -154,7 +154,7 @@ module _ {M : Type 1} (𝓤 : URA M) (H : Heap 𝓤) (A : Atoms 𝓤) (W : Given
   abbrev to-feed : Feed 𝓤 H A mem run .Ghost
   to-feed = ((tt, tt, tt, (t, (x, (dx, (p, (s, tt))))), (LL.vals D.the-type D′.the-laws t, (vfloat binary64 x ∷ [], (vfloat binary64 dx ∷ [], (vfloat binary64 p ∷ [], (vfloat binary64 s ∷ [], tt)))))), tt)
 
-  goes : Ready p s t → Is D.the-row t (LL.vals D.the-type D′.the-laws t) → ent 𝓤 (emp 𝓤) (Feed 𝓤 H A mem run .pre to-feed)
+  goes : Feedable p s t → Is D.the-row t (LL.vals D.the-type D′.the-laws t) → ent 𝓤 (emp 𝓤) (Feed 𝓤 H A mem run .pre to-feed)
   goes ready is =
       qed W [] ∵ says ! ready $ nothing ! $ frame ! $ nothing ! $ owned ! f64 (Is f64) (float-makes 𝓤 H A W binary64) s _ (refl, g-fits) $ fjoin ! $ owned ! f64 (Is f64) (float-makes 𝓤 H A W binary64) p _ (refl, f-fits) $ fjoin ! $
       owned ! f64 (Is f64) (float-makes 𝓤 H A W binary64) dx _ (refl, dx-fits) $ fjoin ! $
@@ -247,7 +247,7 @@ module _ {M : Type 1} (𝓤 : URA M) (H : Heap 𝓤) (A : Atoms 𝓤) (W : Given
   walks : (C : Calls 𝓤 H) (Λ : Loops 𝓤 H) → FmC 𝓤 H (W .laws) C → Triple 𝓤 (C #trcf·statistics·feed) (Feed 𝓤 H A mem run) → Walks 𝓤 H A f.ended stayed (WpFn 𝓤 H C Λ code.function) (f.clauses 𝓤 H A mem run)
   walks C Λ fm known = walked 𝓤 H A f.ended stayed (f.clauses 𝓤 H A mem run) (WpFn 𝓤 H C Λ code.function)
       (λ κs. (slice-vals, (float-vals binary64, (float-vals binary64, (float-vals binary64, (float-vals binary64, tt)))))) (λ κs. (mut-slice-tells (named 0) (κs .0) T.the-row, (float-tells binary64, (float-tells binary64, (float-tells binary64, (float-tells binary64, tt))))))
-      (λ κs qs bounds a g are. needs 𝓤 ((length (a .0 .now) ≡ 5) × Ready (a .1 .1 .1 .0) (a .1 .1 .1 .1 .0) (gathered (a .0 .now))) _ (λ need.
+      (λ κs qs bounds a g are. needs 𝓤 ((length (a .0 .now) ≡ 5) × Feedable (a .1 .1 .1 .0) (a .1 .1 .1 .1 .0) (gathered (a .0 .now))) _ (λ need.
       of-five (λ l. Goal 𝓤 H A mem run (κs .0) (qs .0) (a .0 .ptr .0) (a .0 .ptr .1) (a .0 .name) (a .1 .0) (a .1 .1 .0) (a .1 .1 .1 .0) (a .1 .1 .1 .1 .0) l C Λ)
       (λ d₀ d₁ d₂ d₃ d₄. walk 𝓤 H A W mem run (κs .0) (qs .0) (a .0 .ptr .0) (a .0 .ptr .1) (a .0 .name) (a .1 .0) (a .1 .1 .0) (a .1 .1 .1 .0) (a .1 .1 .1 .1 .0) (are .1 .0 .1) (are .1 .1 .0 .1) (are .1 .1 .1 .0 .1) (are .1 .1 .1 .1 .0 .1) d₀ d₁ d₂ d₃ d₄ C Λ fm known)
       (a .0 .now) (need .0) (are .0 .0 .1) (need .1)))

@@ -3,7 +3,7 @@ use native.Mathlib.Omega.{arith}
 use Rattle.trcf.proofs.CallLaws.{ne-of}
 use mathlib.Core.Path.{sym, _∙_}
 use borrow.Author.Tests.{eq-eqb, ne-eqb, not-true, not-false}
-use Rattle.common.specs.RangeVector.{unblocked}
+use Rattle.ranges.specs.RangeVector.{unblocked}
 use Rattle.trcf.proofs.transformer.blocks_refused.Statement.{statement}
 use Rattle.trcf.proofs.transformer.blocks_refused.Tie as tie
 

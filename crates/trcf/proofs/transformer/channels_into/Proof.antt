@@ -9,14 +9,14 @@ use Prim.Native.Nat.{_-_, _≤_, _<_}
 use mathlib.Core.Path.{_≡_, sym, ap, _∙_}
 use native.Mathlib.Omega.{arith}
 use lib.ListN.{length, getD, length-set}
-use Rattle.trcf.specs.TransformerCalls.{view}
-use Rattle.trcf.specs.Steps.Blocks.{Held}
+use Rattle.trcf.specs.TransformerCalls.{transformerView}
+use Rattle.trcf.specs.Steps.Blocks.{FactorsIn}
 use Rattle.trcf.proofs.transformer.channels_into.Statement.{statement}
 use Rattle.trcf.proofs.transformer.channels_into.Tie as tie
 
 abbrev Inv-loop : tie.InvT-loop
 Inv-loop s previous factors₀ scales₀ drifts₀ bases₀ t d carries j₀ factors scales drifts bases j =
-    (j ≤ d) × Held (view t s) previous j factors scales drifts bases × (length factors ≡ 16) × (length scales ≡ 16) × (length drifts ≡ 16) × (length bases ≡ 16)
+    (j ≤ d) × FactorsIn (transformerView t s) previous j factors scales drifts bases × (length factors ≡ 16) × (length scales ≡ 16) × (length drifts ≡ 16) × (length bases ≡ 16)
 
 abbrev μ-loop : tie.MeasureT-loop
 μ-loop s previous factors₀ scales₀ drifts₀ bases₀ t d carries j₀ factors scales drifts bases j = d - j
@@ -89,7 +89,7 @@ loop-again c =
     let c6 = c .before .before .before .before .before .before in
     let A = c6 .before .before .before .before .args in
     let L = c6 .loop in
-    let T = view (A .t1) (A .s .now) in
+    let T = transformerView (A .t1) (A .s .now) in
     let H = L .inv .1 in
     let low : L .j < A .t1 .«input_length» = c .before .before .before .before .before .loop-test .taken in (
       omega arith,

@@ -5,8 +5,8 @@ use lib.ListN.{length, replicate, length-set}
 use mathlib.Core.Path.{_≡_, refl}
 use Rattle.trcf.proofs.LentLaws.{over-none}
 use Rattle.common.specs.Deviation.{zero64}
-use Rattle.common.specs.Lent.{over}
-use Rattle.common.proofs.RangeSteps.{over-fill}
+use Rattle.refusal.specs.Lent.{over}
+use Rattle.refusal.proofs.LentLaws.{over-fill}
 use Rattle.trcf.proofs.transformer.clear.Statement.{statement}
 use Rattle.trcf.proofs.transformer.clear.Tie as tie
 

@@ -4,10 +4,10 @@ use mathlib.Core.Path.{_≡_, refl, sym, ap, _∙_}
 use native.Mathlib.Omega.{arith}
 use native.Mathlib.Nat.{div-le-self}
 use lib.ListN.{length}
-use Rattle.common.specs.RangeVector.{ranges}
+use Rattle.ranges.specs.RangeVector.{ranges}
 use Rattle.trcf.specs.Transformer.{Transformer}
-use Rattle.trcf.specs.TransformerCalls.{view}
-use Rattle.trcf.specs.Steps.Blocks.{Held}
+use Rattle.trcf.specs.TransformerCalls.{transformerView}
+use Rattle.trcf.specs.Steps.Blocks.{FactorsIn}
 use Rattle.trcf.proofs.BlockLaws.{turnedTo, Turned, turned-none, turned-more, turned-all, block-room}
 use Rattle.trcf.proofs.transformer.forecast_fitting.Statement.{statement}
 use Rattle.trcf.proofs.transformer.forecast_fitting.Tie as tie
@@ -15,7 +15,7 @@ use Rattle.trcf.proofs.transformer.forecast_fitting.Tie as tie
 abbrev Inv-loop : tie.InvT-loop
 Inv-loop s previous values₀ upper₀ lower₀ d m n factors scales drifts bases₀ i₀ values upper lower bases i =
     (i ≤ n)
-    × ((t : Transformer) → t .method ≡ m → t .d ≡ d → Held t previous (t .d) factors scales drifts bases₀ → Turned t previous i (ranges values₀ upper₀ lower₀) (ranges values upper lower) bases)
+    × ((t : Transformer) → t .method ≡ m → t .d ≡ d → FactorsIn t previous (t .d) factors scales drifts bases₀ → Turned t previous i (ranges values₀ upper₀ lower₀) (ranges values upper lower) bases)
     × (length bases ≡ 16) × (length values ≡ length values₀) × (length upper ≡ length upper₀) × (length lower ≡ length lower₀)
 
 abbrev μ-loop : tie.MeasureT-loop
@@ -101,7 +101,7 @@ returns c =
     let A = c8 .before .before .before .before .args in
     let P = c8 .before .before .before .before .pre in
     let L = c .before .loop in
-    let T = view (A .t) (A .s .now) in
+    let T = transformerView (A .t) (A .s .now) in
     let v = ranges (A .values .now) (A .upper .now) (A .lower .now) in
     let e : L .i ≡ length (A .values .now) / A .t .«input_length» = omega (arith, L .inv .0, c .loop-test .left) in
     L .inv .1 T refl refl (c .before .before .channels-into .ensures) .places

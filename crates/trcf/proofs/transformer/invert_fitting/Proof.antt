@@ -9,14 +9,14 @@ use native.Mathlib.Omega.{arith}
 use native.Mathlib.Numerals.{add-one}
 use mathlib.Core.Path.{_≡_, refl, sym, ap, _∙_}
 use Rattle.trcf.proofs.LentLaws.{over-none, over-more}
-use Rattle.common.specs.Lent.{over}
+use Rattle.refusal.specs.Lent.{over}
 use Rattle.trcf.specs.Lists.{tabulate}
-use Rattle.trcf.specs.TransformerCalls.{view}
+use Rattle.trcf.specs.TransformerCalls.{transformerView}
 use Rattle.trcf.proofs.transformer.invert_fitting.Statement.{statement}
 use Rattle.trcf.proofs.transformer.invert_fitting.Tie as tie
 
 abbrev Inv-loop : tie.InvT-loop
-Inv-loop s input previous output₀ t d i₀ output i = (i ≤ d) × (output ≡ over output₀ (tabulate i (λ k. invertBy (t .«transform_method») (view t s) k (unweighted (weightAt (view t s) k) (getD input k nan)) (getD previous k nan)))) × (length output ≡ length output₀)
+Inv-loop s input previous output₀ t d i₀ output i = (i ≤ d) × (output ≡ over output₀ (tabulate i (λ k. invertBy (t .«transform_method») (transformerView t s) k (unweighted (weightAt (transformerView t s) k) (getD input k nan)) (getD previous k nan)))) × (length output ≡ length output₀)
 
 abbrev μ-loop : tie.MeasureT-loop
 μ-loop s input previous output₀ t d i₀ output i = d - i
@@ -65,8 +65,8 @@ loop-again c = let L = c .before .before .before .before .before .before .loop i
     let a = c .before .before .before .before .before .before .before .before .before .before .before .args in
     let h : L .i < length (a .output .now) = omega arith in
     let x = c .before .before .unweigh .ensures ∙ ap (λ (w : Float). unweighted w (getD (a .input .now) (L .i) nan)) (sym (weightAt-view (a .t1) (a .s .now) (L .i) (c .before .before .before .before .before .loop-test .taken))) in
-    let e = c .invert-at .ensures ∙ ap (λ (y : Float). invertBy (a .t1 .«transform_method») (view (a .t1) (a .s .now)) (L .i) y (getD (a .previous .now) (L .i) nan)) x in
-    (omega arith, rw (add-one, L .inv .1, e) (over-more (a .output .now) (λ k. invertBy ((a .t1) .«transform_method») (view (a .t1) (a .s .now)) k (unweighted (weightAt (view (a .t1) (a .s .now)) k) (getD (a .input .now) k nan)) (getD (a .previous .now) k nan)) (L .i) h), simp length-set (omega arith))
+    let e = c .invert-at .ensures ∙ ap (λ (y : Float). invertBy (a .t1 .«transform_method») (transformerView (a .t1) (a .s .now)) (L .i) y (getD (a .previous .now) (L .i) nan)) x in
+    (omega arith, rw (add-one, L .inv .1, e) (over-more (a .output .now) (λ k. invertBy ((a .t1) .«transform_method») (transformerView (a .t1) (a .s .now)) k (unweighted (weightAt (transformerView (a .t1) (a .s .now)) k) (getD (a .input .now) k nan)) (getD (a .previous .now) k nan)) (L .i) h), simp length-set (omega arith))
 
 same-length : tie.Need-same-length Inv-loop μ-loop
 same-length c = omega arith

@@ -7,8 +7,8 @@ use Prim.Native.Nat.{_≤_, _<_, _-_}
 use lib.ListN.{length, replicate, take, length-set}
 use Rattle.trcf.proofs.LentLaws.{over-none}
 use Rattle.trcf.specs.Transformer.{zero32}
-use Rattle.common.specs.Lent.{over}
-use Rattle.common.proofs.RangeSteps.{over-copy}
+use Rattle.refusal.specs.Lent.{over}
+use Rattle.refusal.proofs.LentLaws.{over-copy}
 use Rattle.trcf.proofs.transformer.padded.Statement.{statement}
 use Rattle.trcf.proofs.transformer.padded.Tie as tie
 

@@ -1,8 +1,7 @@
 -- `trcf::transformer::transform_at` meets its contract: each arm is the definition's case. Assumes nothing.
-use native.Mathlib.Omega.{arith}
-use lib.Ieee.{nan}
-use lib.Seq.{getD-take}
 use Rattle.trcf.specs.Transformer.{weightAt, basicShift, normalizedScale}
+use mathlib.Core.Path.{ap}
+use lib.Ieee.{Float, binary32, mul}
 use borrow.Author.Needs.{needs}
 use Rattle.trcf.proofs.transformer.transform_at.Statement.{statement}
 use Rattle.trcf.proofs.transformer.transform_at.Tie as tie
@@ -12,12 +11,6 @@ enum-told c = search needs
 
 enum-told-2 : tie.Need-enum-told-2
 enum-told-2 c = search needs
-
-mul-result : tie.Need-mul-result
-mul-result c = omega arith
-
-element-copy-out-result : tie.Need-element-copy-out-result
-element-copy-out-result c = search needs
 
 enum-told-3 : tie.Need-enum-told-3
 enum-told-3 c = search needs
@@ -48,7 +41,7 @@ returns c = search needs
 
 returns-2 : tie.Need-returns-2
 unfolding weightAt
-returns-2 c = rw (c .before .enum-told2 .given .1, getD-take (c .before .before .before .before .args .t1 .«input_length») (c .before .before .before .before .args .t1 .weights) (c .before .before .before .before .args .i) nan (c .before .before .before .before .pre .1))
+returns-2 c = let b = c .before .before .before in rw (c .enum-told2 .given .1) (ap (λ (w : Float). mul binary32 (b .args .x) w) (b .pre .1 .1))
 
 returns-3 : tie.Need-returns-3
 returns-3 c = rw (c .enum-told3 .given .1)
@@ -71,8 +64,6 @@ transform-at-spec =
     (tie.spec
     enum-told
     enum-told-2
-    mul-result
-    element-copy-out-result
     enum-told-3
     enum-told-4
     narrow-mean-at-requires

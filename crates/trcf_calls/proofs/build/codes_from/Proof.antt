@@ -5,8 +5,8 @@ use native.Mathlib.Omega.{arith}
 use Prim.Native.Nat.{ℕ, _≤_, _<_, _-_}
 use lib.ListN.{length, replicate, take, length-set}
 use Rattle.trcf.proofs.LentLaws.{over-none}
-use Rattle.common.specs.Lent.{over}
-use Rattle.common.proofs.RangeSteps.{over-copy}
+use Rattle.refusal.specs.Lent.{over}
+use Rattle.refusal.proofs.LentLaws.{over-copy}
 use Rattle.trcf_calls.proofs.build.codes_from.Statement.{statement}
 use Rattle.trcf_calls.proofs.build.codes_from.Tie as tie
 

@@ -3,7 +3,7 @@ use Rattle.trcf.proofs.LengthLaws.{opened, transform-fits}
 use Rattle.trcf.proofs.BoundLaws.{five, five-more, all-statistics, all-inputs}
 use Rattle.trcf.proofs.OutcomeLaws.{write-stays, write-goes}
 use Prim.Native.Nat.{ℕ, _*_}
-use Rattle.common.specs.Lent.{over}
+use Rattle.refusal.specs.Lent.{over}
 use Rattle.trcf.specs.Lists.{lastN}
 use Rattle.trcf.specs.Preprocessor.{reply, facts, timeBase, preceding, reading, transformedAfter, statisticsLength}
 use Rattle.trcf.specs.View.{view, lent, settingsOf, timeBaseOf}

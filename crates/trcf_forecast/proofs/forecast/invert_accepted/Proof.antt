@@ -2,7 +2,7 @@
 use native.Mathlib.Omega.{arith}
 use mathlib.Core.Path.{sym, _∙_, refl}
 use lib.Seq.{length-take-le}
-use Rattle.common.specs.RangeVector.{ranges}
+use Rattle.ranges.specs.RangeVector.{ranges}
 use Rattle.trcf.specs.Preprocessor.{previous, numbersOf, timesOf}
 use Rattle.trcf.specs.View.{view}
 use Rattle.trcf.specs.Extrapolation.{forecast, viewed}

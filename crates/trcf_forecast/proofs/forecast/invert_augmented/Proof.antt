@@ -6,7 +6,7 @@ use mathlib.Core.Path.{_≡_, sym, ap, _∙_}
 use Prim.Native.Nat.{_*_, _/_, _≤_, _<_}
 use lib.ListN.{length}
 use lib.Seq.{length-take-le}
-use Rattle.common.specs.RangeVector.{ranges}
+use Rattle.ranges.specs.RangeVector.{ranges}
 use Rattle.trcf.specs.Settings.{dimension}
 use Rattle.trcf.specs.View.{settingsOf}
 use Rattle.trcf.proofs.ExtrapolationLaws.{dimension-pos, numbers-within, numbers-fit, some-block, room-numbers, room-times, some-blocks, numbers-are, times-are, parts-over}

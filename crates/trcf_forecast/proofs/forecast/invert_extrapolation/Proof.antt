@@ -1,5 +1,5 @@
 -- Refused by its row, or turned back. Assumes nothing.
-use Rattle.common.specs.RangeVector.{ranges}
+use Rattle.ranges.specs.RangeVector.{ranges}
 use Rattle.trcf.specs.Extrapolation.{forecast}
 use Rattle.trcf.proofs.ExtrapolationLaws.{refused-is, done-is}
 use Rattle.trcf_forecast.proofs.forecast.invert_extrapolation.Statement.{statement}

@@ -1,7 +1,7 @@
 -- The three numbers by the factor, scaled together. Assumes nothing.
 use mathlib.Core.Path.{_∙_}
 use lib.Ieee.{binary64, mul}
-use Rattle.common.specs.RangeVector.{range, scaled}
+use Rattle.ranges.specs.RangeVector.{range, scaled}
 use borrow.Author.Needs.{needs}
 use Rattle.trcf_forecast.proofs.forecast.invert_gap.Statement.{statement}
 use Rattle.trcf_forecast.proofs.forecast.invert_gap.Tie as tie

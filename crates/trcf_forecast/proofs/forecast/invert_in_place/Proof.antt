@@ -7,7 +7,7 @@ use Prim.Native.Nat.{ℕ, _≤_}
 use lib.ListN.{length}
 use lib.Ieee.{Float}
 use mathlib.Core.List.{List}
-use Rattle.common.specs.RangeVector.{ranges, unblocked}
+use Rattle.ranges.specs.RangeVector.{ranges, unblocked}
 use Rattle.trcf.specs.Types.{differences}
 use Rattle.trcf.specs.Settings.{transformer}
 use Rattle.trcf.specs.Transformer.{invertedForecast}

@@ -2,7 +2,7 @@
 use Rattle.trcf.proofs.LengthLaws.{dimension-known}
 use native.Mathlib.Omega.{arith}
 use mathlib.Core.Path.{sym, ap, _∙_}
-use Rattle.common.specs.RangeVector.{ranges, unblocked}
+use Rattle.ranges.specs.RangeVector.{ranges, unblocked}
 use Rattle.trcf.specs.Types.{differences}
 use Rattle.trcf.specs.Lists.{lastN}
 use Rattle.trcf.specs.Settings.{transformer}

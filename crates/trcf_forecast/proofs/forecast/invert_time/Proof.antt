@@ -2,7 +2,7 @@
 use mathlib.Core.Path.{sym, ap, _∙_}
 use mathlib.Core.Bool.{Bool}
 use lib.Ieee.{binary64}
-use Rattle.common.specs.RangeVector.{range, shifted}
+use Rattle.ranges.specs.RangeVector.{range, shifted}
 use Rattle.trcf.specs.Steps.Inverting.{timeBy}
 use Rattle.trcf_forecast.proofs.forecast.invert_time.Statement.{statement}
 use Rattle.trcf_forecast.proofs.forecast.invert_time.Tie as tie

@@ -5,7 +5,7 @@ use native.Mathlib.Nat.{mul-le-mul}
 use mathlib.Core.Path.{_∙_}
 use Prim.Native.Nat.{_≤_}
 use lib.ListN.{length}
-use Rattle.common.specs.RangeVector.{ranges}
+use Rattle.ranges.specs.RangeVector.{ranges}
 use Rattle.trcf.specs.View.{settingsOf}
 use Rattle.trcf.proofs.ExtrapolationLaws.{dimension-augmented, times-done}
 use borrow.Author.Needs.{needs}

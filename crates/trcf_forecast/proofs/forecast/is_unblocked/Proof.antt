@@ -1,7 +1,7 @@
 -- Each test in turn. Assumes nothing.
 use native.Mathlib.Omega.{arith}
 use borrow.Author.Tests.{eq-eqb, ne-eqb}
-use Rattle.common.specs.RangeVector.{unblocked}
+use Rattle.ranges.specs.RangeVector.{unblocked}
 use Rattle.trcf_forecast.proofs.forecast.is_unblocked.Statement.{statement}
 use Rattle.trcf_forecast.proofs.forecast.is_unblocked.Tie as tie
 

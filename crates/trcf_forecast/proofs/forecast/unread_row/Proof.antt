@@ -4,7 +4,7 @@ use borrow.Author.Tests.{lt-ltb, le-ltb}
 use native.Mathlib.Omega.{arith}
 use Prim.Native.Nat.{_≤_}
 use native.Mathlib.Nat.{mul-le-mul}
-use Rattle.trcf.specs.Extrapolation.{unread}
+use Rattle.trcf.specs.Extrapolation.{readShort}
 use Rattle.trcf_forecast.proofs.forecast.unread_row.Statement.{statement}
 use Rattle.trcf_forecast.proofs.forecast.unread_row.Tie as tie
 
@@ -18,7 +18,7 @@ mul-if1-2 : tie.Need-mul-if1-2
 mul-if1-2 c = all-statistics (c .before .pre .d-few)
 
 returns : tie.Need-returns
-unfolding unread
+unfolding readShort
 returns c =
     (rw (lt-ltb _ _ (c .if1 .taken)), λ e. absurd (omega (arith, e)))
 
@@ -29,17 +29,17 @@ mul-if2 c =
     omega (arith, mul-le-mul p q)
 
 returns-2 : tie.Need-returns-2
-unfolding unread
+unfolding readShort
 returns-2 c =
     (rw (le-ltb _ _ (c .before .if1 .left), lt-ltb _ _ (c .if2 .taken)), λ e. absurd (omega (arith, e)))
 
 returns-3 : tie.Need-returns-3
-unfolding unread
+unfolding readShort
 returns-3 c =
     (rw (le-ltb _ _ (c .before .before .if1 .left), le-ltb _ _ (c .before .if2 .left), lt-ltb _ _ (c .if3 .taken)), λ e. absurd (omega (arith, e)))
 
 returns-4 : tie.Need-returns-4
-unfolding unread
+unfolding readShort
 returns-4 c =
     (rw (le-ltb _ _ (c .before .before .if1 .left), le-ltb _ _ (c .before .if2 .left), le-ltb _ _ (c .if3 .left)), λ e. record { statistics = omega arith; inputs = omega arith; times = omega arith })
 

@@ -4,8 +4,8 @@ use borrow.Author.Needs.{needs}
 use mathlib.Core.Path.{_≡_, refl, ap}
 use Prim.Native.Nat.{_-_, _≤_, _<_}
 use lib.ListN.{length, length-set}
-use Rattle.common.specs.Lent.{over}
-use Rattle.common.specs.RangeVector.{Range, ranges, rangeAt}
+use Rattle.refusal.specs.Lent.{over}
+use Rattle.ranges.specs.RangeVector.{Range, ranges, rangeAt}
 use Rattle.trcf.specs.Lists.{tabulate}
 use Rattle.trcf.specs.Steps.Inverting.{timeAt, timesBy}
 use Rattle.trcf.proofs.LentLaws.{over-none}

@@ -7,7 +7,7 @@ use Prim.Native.Nat.{ℕ, suc, _+_, _-_, _*_, _≤_, _<_}
 use native.Mathlib.Nat.{mul-le-mul, le-refl, le-mul-of-pos-right, mul-comm}
 use lib.ListN.{length, length-take, length-drop, take, drop}
 use lib.Seq.{length-take-le}
-use Rattle.common.specs.Lent.{over}
+use Rattle.refusal.specs.Lent.{over}
 use Rattle.trcf.proofs.ShingleLaws.{over-part, paste-over}
 use borrow.Author.Needs.{needs}
 use Rattle.trcf_learn.proofs.learn.update_shingles.Statement.{statement}

@@ -6,7 +6,7 @@ use mathlib.Core.Path.{_≡_, refl, sym, ap, _∙_}
 use Prim.Native.Nat.{ℕ, suc, _+_, _-_, _*_, _≤_, _<_}
 use native.Mathlib.Nat.{mul-le-mul, le-refl, le-mul-of-pos-right, mul-comm}
 use lib.ListN.{length, length-take, length-drop, take, drop}
-use Rattle.common.specs.Lent.{over}
+use Rattle.refusal.specs.Lent.{over}
 use Rattle.trcf.specs.Transformer.{inverted}
 use Rattle.trcf.specs.Settings.{transformer}
 use Rattle.trcf.specs.Preprocessor.{blockFrom}

@@ -7,7 +7,7 @@ use borrow.Author.Tests.{not-true, not-false, lt-ltb, le-ltb, eq-eqb, ne-eqb, le
 use Prim.Native.Nat.{ℕ, suc, _+_, _-_, _*_, _≤_, _<_}
 use native.Mathlib.Nat.{mul-le-mul, le-refl, le-mul-of-pos-right, mul-comm}
 use lib.ListN.{length, length-take, length-drop, take, drop}
-use Rattle.common.specs.Lent.{over}
+use Rattle.refusal.specs.Lent.{over}
 use Rattle.trcf.specs.Preprocessor.{blockFrom}
 use Rattle.trcf.proofs.DrainLaws.{block-in, block-cut}
 use Rattle.trcf.proofs.ShingleLaws.{paste-over}

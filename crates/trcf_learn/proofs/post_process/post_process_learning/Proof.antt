@@ -10,7 +10,7 @@ use mathlib.Core.List.{List, []}
 use lib.Ieee.{Float}
 use lib.Seq.{length-take-le}
 use native.Mathlib.Numerals.{add-one}
-use Rattle.common.specs.Lent.{over}
+use Rattle.refusal.specs.Lent.{over}
 use Rattle.trcf.specs.Transformer.{zero32, one32}
 use Rattle.trcf.specs.Preprocessor.{statisticsLength, deviations}
 use Rattle.trcf.specs.View.{settingsOf, counting, holding}

@@ -1,4 +1,4 @@
--- `trcf_point::point::copy_shifted` meets its contract: two copies, the second behind the first. Assumes nothing.
+-- `trcf_point::point::copy_shifted` meets its contract: two copies, the second after the first. Assumes nothing.
 use Prim.Native.Nat.{_-_}
 use mathlib.Core.Path.{_∙_}
 use native.Mathlib.Omega.{arith}

@@ -1,4 +1,4 @@
--- `trcf_point::point::write_point` meets its contract: by its callees' promises, the time's number behind the channels'. Assumes nothing.
+-- `trcf_point::point::write_point` meets its contract: by its callees' promises, the time's number after the channels'. Assumes nothing.
 use Rattle.trcf.proofs.LengthLaws.{block-known, dimension-known, opened, transform-fits}
 use Rattle.trcf.proofs.BoundLaws.{five, five-more, all-statistics, all-inputs}
 use native.Mathlib.Omega.{arith}
@@ -8,7 +8,7 @@ use mathlib.Core.Path.{_≡_, refl, sym, ap, _∙_}
 use Prim.Native.Nat.{ℕ, _+_, _-_, _*_, _≤_, _<_}
 use lib.ListN.{length, length-take, length-drop, take, drop}
 use lib.Seq.{length-take-le}
-use Rattle.common.specs.Lent.{over}
+use Rattle.refusal.specs.Lent.{over}
 use Rattle.trcf.specs.Lists.{lastN, shiftIn}
 use Rattle.trcf.specs.Preprocessor.{transformedAfter, reading, statisticsLength}
 use Rattle.trcf.specs.View.{settingsOf}

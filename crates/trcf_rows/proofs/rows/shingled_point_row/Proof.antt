@@ -3,7 +3,7 @@ use native.Mathlib.Omega.{arith}
 use borrow.Author.Tests.{eq-eqb, ne-eqb}
 use mathlib.Core.Path.{_≡_, refl, sym, _∙_}
 use Prim.Native.Nat.{ℕ}
-use Rattle.trcf.specs.Calls.{rows, table, due, drainFull, behind, newest}
+use Rattle.trcf.specs.Calls.{rows, table, due, drainFull, beforeNewest, newest}
 use Rattle.trcf.specs.Preprocessor.{facts}
 use Rattle.trcf.specs.View.{rowOf, view, pastRow}
 use mathlib.Core.Bool.{Bool, true, false, cond, not}
@@ -50,7 +50,7 @@ first-row-requires : tie.Need-first-row-requires
 first-row-requires c κs = tt
 
 returns-3 : tie.Need-returns-3
-unfolding rowOf rows table due drainFull facts view pastRow behind newest
+unfolding rowOf rows table due drainFull facts view pastRow beforeNewest newest
 returns-3 c =
     let h = sym (c .before .before .before .before .before .before .before .before .head-row .ensures .0) ∙ c .before .before .before .before .before .before .before .if1 .left in
     let d = eq-eqb _ _ (c .before .before .before .before .if2 .left) in (
@@ -64,7 +64,7 @@ past-row-requires : tie.Need-past-row-requires
 past-row-requires c κs = c .before .before .before .before .before .before .before .before .head-row .ensures .1 (c .before .before .before .before .before .before .before .if1 .left)
 
 returns-4 : tie.Need-returns-4
-unfolding rowOf rows table due drainFull facts view pastRow behind newest
+unfolding rowOf rows table due drainFull facts view pastRow beforeNewest newest
 returns-4 c =
     let c8 = c .before .before .before .before .before .before .before .before in
     let f = passes (not (c .before .before .before .before .before .all-finite .result)) (c .before .before .before .before .is-behind .result) (c .before .before .before .first-row .result) (c .before .before .before .first-row .ensures) (c .before .before .if3 .left) in (
@@ -84,7 +84,7 @@ lent-row-requires : tie.Need-lent-row-requires
 lent-row-requires c κs = let c8 = c .before .before .before .before .before .before .before .before in c8 .before .before .head-row .ensures .1 (c8 .before .if1 .left)
 
 returns-5 : tie.Need-returns-5
-unfolding rowOf rows table due drainFull facts view pastRow behind newest
+unfolding rowOf rows table due drainFull facts view pastRow beforeNewest newest
 returns-5 c =
     let c8 = c .before .before .before .before .before .before .before .before in
     let o = c8 .before .before .before .head-row in

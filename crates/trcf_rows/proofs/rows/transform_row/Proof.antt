@@ -4,7 +4,7 @@ use native.Mathlib.Omega.{arith}
 use borrow.Author.Tests.{lt-ltb, le-ltb, eq-eqb, ne-eqb}
 use mathlib.Core.Path.{sym, _∙_}
 use Rattle.trcf.specs.Settings.{block}
-use Rattle.trcf.specs.Calls.{rows, table, behind, newest}
+use Rattle.trcf.specs.Calls.{rows, table, beforeNewest, newest}
 use Rattle.trcf.specs.Preprocessor.{facts}
 use Rattle.trcf.specs.View.{rowOf, view}
 use Rattle.trcf.proofs.RefusalLaws.{orElse-not}
@@ -32,7 +32,7 @@ is-behind-requires : tie.Need-is-behind-requires
 is-behind-requires c κs = tt
 
 returns-3 : tie.Need-returns-3
-unfolding rowOf rows table block behind newest facts view
+unfolding rowOf rows table block beforeNewest newest facts view
 returns-3 c = (
   rw (
     sym (c .before .before .before .before .before .head-row .ensures .0) ∙ c .before .before .before .before .if1 .left,
@@ -46,7 +46,7 @@ block-of-requires : tie.Need-block-of-requires
 block-of-requires c κs = tt
 
 returns-4 : tie.Need-returns-4
-unfolding rowOf rows table block behind newest facts view
+unfolding rowOf rows table block beforeNewest newest facts view
 returns-4 c =
     let o = c .before .before .before .before .before .before .before .head-row in
     let z = c .before .before .before .before .before .before .if1 .left in (
@@ -64,7 +64,7 @@ lent-row-requires : tie.Need-lent-row-requires
 lent-row-requires c κs = c .before .before .before .before .before .before .before .head-row .ensures .1 (c .before .before .before .before .before .before .if1 .left)
 
 returns-5 : tie.Need-returns-5
-unfolding rowOf rows table block behind newest facts view
+unfolding rowOf rows table block beforeNewest newest facts view
 returns-5 c =
     let o = c .before .before .before .before .before .before .before .before .head-row in
     let z = c .before .before .before .before .before .before .before .if1 .left in

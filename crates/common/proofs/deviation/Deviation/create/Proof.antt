@@ -3,7 +3,7 @@ use Prim.Native.Nat.{_≤_, _<_}
 use native.Mathlib.Omega.{arith}
 use borrow.Author.Needs.{needs}
 use borrow.Author.Tests.{lt-ltb, le-ltb}
-use Rattle.common.specs.Deviation.{countLimit, createOf}
+use Rattle.common.specs.Deviation.{countLimit, deviationCreate}
 use Rattle.common.proofs.deviation.Deviation.create.Statement.{statement}
 use Rattle.common.proofs.deviation.Deviation.create.Tie as tie
 
@@ -11,17 +11,17 @@ outside-unit-requires : tie.Need-outside-unit-requires
 outside-unit-requires c κs = search needs
 
 returns : tie.Need-returns
-unfolding createOf
+unfolding deviationCreate
 returns c = rw (← c .before .outside-unit .ensures, c .if1 .taken)
 
 returns-2 : tie.Need-returns-2
-unfolding createOf
+unfolding deviationCreate
 returns-2 c =
     let h : countLimit < c .before .before .before .args .count = omega arith in
     rw (← c .before .before .outside-unit .ensures, c .before .if1 .left, lt-ltb _ _ h)
 
 returns-3 : tie.Need-returns-3
-unfolding createOf
+unfolding deviationCreate
 returns-3 c =
     let h : c .before .before .before .args .count ≤ countLimit = omega arith in
     rw (← c .before .before .outside-unit .ensures, c .before .if1 .left, le-ltb _ _ h)

@@ -1,7 +1,7 @@
 -- `trcf::transformer::WeightedTransformer::invert` meets its contract: refused by its row, or the worker's answer. Assumes nothing.
 use Rattle.trcf.specs.Transformer.{inverted}
 use Prim.Native.Nat.{_*_}
-use Rattle.trcf.specs.TransformerCalls.{invertOf, own}
+use Rattle.trcf.specs.TransformerCalls.{transformerInvert, own}
 use lib.Seq.{length-take-le}
 use native.Mathlib.Omega.{arith}
 use Rattle.trcf.proofs.CallLaws.{sound-part, written-refused, written-done}
@@ -13,7 +13,7 @@ transform-row-requires : tie.Need-transform-row-requires
 transform-row-requires c κs = tt
 
 returns : tie.Need-returns
-unfolding invertOf
+unfolding transformerInvert
 returns c = let a = c .before .before .before .before .before .before .args in
     written-refused (c .before .transform-row .result) _ (a .output .now) _ (c .before .transform-row .ensures .0) (c .if1 .taken)
 
@@ -36,7 +36,7 @@ same-length : tie.Need-same-length
 same-length c = search needs
 
 returns-2 : tie.Need-returns-2
-unfolding invertOf
+unfolding transformerInvert
 returns-2 c = let R = c .before .before .before .before .before .before .transform-row in
     let a = c .before .before .before .before .before .before .before .before .before .before .before .args in
     written-done (R .result) _ (a .output .now) (inverted (own (a .self) (a .statistics .now)) (a .input .now) (a .previous .now)) _ (R .ensures .0) (c .before .before .before .before .before .if1 .left) (c .before .before .invert-fitting .ensures)

@@ -3,10 +3,10 @@ use Prim.Native.Nat.{_*_}
 use lib.Seq.{length-take-le}
 use native.Mathlib.Omega.{arith}
 use Rattle.trcf.specs.Transformer.{invertedForecast}
-use Rattle.trcf.specs.TransformerCalls.{invertForecastOf, own}
+use Rattle.trcf.specs.TransformerCalls.{transformerInvertForecast, own}
 use Rattle.trcf.specs.Types.{differences}
-use Rattle.common.specs.RangeVector.{ranges}
-use Rattle.common.proofs.RangeSteps.{refused, done}
+use Rattle.ranges.specs.RangeVector.{ranges}
+use Rattle.ranges.proofs.RangeSteps.{refused, done}
 use Rattle.trcf.proofs.ForecastLaws.{blocked-base}
 use Rattle.trcf.proofs.CallLaws.{sound-part}
 use borrow.Author.Needs.{needs}
@@ -19,7 +19,7 @@ forecast-row-requires : tie.Need-forecast-row-requires
 forecast-row-requires c κs = tt
 
 returns : tie.Need-returns
-unfolding invertForecastOf
+unfolding transformerInvertForecast
 returns c = let a = c .before .before .before .before .before .before .before .args in
     refused (c .before .forecast-row .result) _ (ranges (a .values .now) (a .upper .now) (a .lower .now)) _ (c .before .forecast-row .ensures .0) (c .if1 .taken)
 
@@ -48,7 +48,7 @@ same-length-3 : tie.Need-same-length-3
 same-length-3 c = search needs
 
 returns-2 : tie.Need-returns-2
-unfolding invertForecastOf
+unfolding transformerInvertForecast
 returns-2 c = let R = c .before .before .before .before .before .before .before .before .before .before .before .before .forecast-row in
     let a = c .before .before .before .before .before .before .before .before .before .before .before .before .before .before .before .before .before .before .args in
     done (R .result) _ (ranges (a .values .now) (a .upper .now) (a .lower .now)) (invertedForecast (own (a .self) (a .statistics .now)) (a .previous .now) (ranges (a .values .now) (a .upper .now) (a .lower .now))) _ (R .ensures .0) (c .before .before .before .before .before .before .before .before .before .before .before .if1 .left) (c .before .before .before .before .before .before .forecast-fitting .ensures)

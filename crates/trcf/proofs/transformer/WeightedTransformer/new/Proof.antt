@@ -6,8 +6,8 @@ use Rattle.trcf.specs.Transformer.{zero32}
 use Rattle.trcf.specs.TransformerCalls.{made}
 use lib.ListN.{replicate}
 use native.Mathlib.Omega.{arith}
-use Rattle.common.specs.Lent.{over}
-use Rattle.trcf.specs.TransformerCalls.{newOf, noHead, headOf}
+use Rattle.refusal.specs.Lent.{over}
+use Rattle.trcf.specs.TransformerCalls.{transformerNew, noTransformer, transformerHead}
 use Rattle.trcf.proofs.CallLaws.{made-refused, made-done}
 use borrow.Author.Needs.{needs}
 use Rattle.trcf.proofs.transformer.WeightedTransformer.new.Statement.{statement}
@@ -17,9 +17,9 @@ new-row-requires : tie.Need-new-row-requires
 new-row-requires c κs = tt
 
 returns : tie.Need-returns
-unfolding newOf
+unfolding transformerNew
 returns c = let a = c .before .before .before .before .args in
-    made-refused (c .before .new-row .result) _ noHead (a .statistics .now) _ (c .before .new-row .ensures .0) (c .if1 .taken)
+    made-refused (c .before .new-row .result) _ noTransformer (a .statistics .now) _ (c .before .new-row .ensures .0) (c .if1 .taken)
 
 padded-requires : tie.Need-padded-requires
 padded-requires c κs = let R = c .before .new-row .ensures .1 (c .if1 .left) in
@@ -40,11 +40,12 @@ same-length : tie.Need-same-length
 same-length c = search needs
 
 returns-2 : tie.Need-returns-2
-unfolding newOf
+unfolding transformerNew
 returns-2 c = let R = c .before .before .before .before .before .before .new-row in
     let a = c .before .before .before .before .before .before .before .before .before .args in
-    ap (λ (w : List Float). made 0 (headOf (a .transform-method) (a .input-length) (a .transform-decay) w 0) (c .before .before .clear .last .0)) (c .before .before .before .before .padded .ensures)
-    ∙ made-done (R .result) _ _ (headOf (a .transform-method) (a .input-length) (a .transform-decay) (over (replicate 16 zero32) (a .weights .now)) 0) _ _ (R .ensures .0) (c .before .before .before .before .before .if1 .left) (c .before .before .clear .ensures)
+    ap (λ (w : List Float). made 0 (transformerHead (a .transform-method) (a .input-length) (a .transform-decay) w 0) (c .before .before .clear .last .0))
+    (c .before .before .before .before .padded .ensures)
+    ∙ made-done (R .result) _ _ (transformerHead (a .transform-method) (a .input-length) (a .transform-decay) (over (replicate 16 zero32) (a .weights .now)) 0) _ _ (R .ensures .0) (c .before .before .before .before .before .if1 .left) (c .before .before .clear .ensures)
 
 pub new-spec : {M : Type 1} → statement M
 new-spec =

@@ -4,9 +4,9 @@ use lib.Seq.{length-take-le}
 use mathlib.Core.Path.{_∙_}
 use native.Mathlib.Omega.{arith}
 use Rattle.common.proofs.DeviationLaws.{next-factor}
-use Rattle.common.specs.Lent.{over}
+use Rattle.refusal.specs.Lent.{over}
 use Rattle.trcf.specs.Transformer.{updated}
-use Rattle.trcf.specs.TransformerCalls.{updateOf, own, counted}
+use Rattle.trcf.specs.TransformerCalls.{transformerUpdate, own, countedUp}
 use Rattle.trcf.proofs.CallLaws.{sound-part, made-refused, made-done, updated-over}
 use borrow.Author.Needs.{needs}
 use Rattle.trcf.proofs.transformer.WeightedTransformer.update.Statement.{statement}
@@ -16,7 +16,7 @@ update-row-requires : tie.Need-update-row-requires
 update-row-requires c κs = tt
 
 returns : tie.Need-returns
-unfolding updateOf
+unfolding transformerUpdate
 returns c = let a = c .before .before .before .before .before .args in
     made-refused (c .before .update-row .result) _ (a .self) (a .statistics .now) _ (c .before .update-row .ensures .0) (c .if1 .taken)
 
@@ -56,11 +56,11 @@ same-length : tie.Need-same-length
 same-length c = search needs
 
 returns-2 : tie.Need-returns-2
-unfolding updateOf
+unfolding transformerUpdate
 returns-2 c = let tested = c .before .before .before .before .before .before .before in
     let R = tested .before .update-row in
     let a = tested .before .before .before .before .before .args in
-    made-done (R .result) _ _ (counted (a .self)) _ (over (a .statistics .now) (updated (own (a .self) (a .statistics .now)) (a .input .now) (a .previous .now))) (R .ensures .0) (tested .if1 .left)
+    made-done (R .result) _ _ (countedUp (a .self)) _ (over (a .statistics .now) (updated (own (a .self) (a .statistics .now)) (a .input .now) (a .previous .now))) (R .ensures .0) (tested .if1 .left)
     (updated-over (a .self) (a .statistics .now) (a .input .now) (a .previous .now) _ (R .ensures .1 (tested .if1 .left) .5) (c .before .before .before .update-channels .ensures))
 
 pub update-spec : {M : Type 1} → statement M

@@ -1,0 +1,2 @@
+// Values with their bounds: what a forecast is turned back in.
+pub mod rangevector;

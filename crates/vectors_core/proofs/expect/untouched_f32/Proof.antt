@@ -1,0 +1,78 @@
+-- `vectors_core::expect::untouched_f32` meets its contract: by its loop's invariant. Assumes nothing.
+use Rattle.vectors_core.specs.Old.{allPass, isOld32}
+use Rattle.vectors_core.proofs.ListLaws.{every-at}
+use mathlib.Core.Bool.{true, false}
+use mathlib.Core.Path.{_≡_, refl, sym, ap, _∙_}
+use lib.ListN.{length, drop, drop-of-length-le}
+use lib.Ieee.{nan}
+use Prim.Native.Nat.{ℕ, _≤_, _<_, _-_}
+use borrow.Author.Tests.{not-true, not-false}
+use native.Mathlib.Numerals.{add-one}
+use native.Mathlib.Omega.{arith}
+use Rattle.vectors_core.proofs.expect.untouched_f32.Statement.{statement}
+use Rattle.vectors_core.proofs.expect.untouched_f32.Tie as tie
+
+abbrev Inv-loop : tie.InvT-loop
+Inv-loop xs i₀ i = (i ≤ length xs) × (allPass isOld32 xs ≡ allPass isOld32 (drop i xs))
+
+abbrev μ-loop : tie.MeasureT-loop
+μ-loop xs i₀ i = length xs - i
+
+loop-holds : tie.Need-loop-holds Inv-loop μ-loop
+loop-holds c = (omega arith, refl)
+
+mul-is-old-f32 : tie.Need-mul-is-old-f32 Inv-loop μ-loop
+mul-is-old-f32 c = omega arith
+
+shared-slice-read-is-old-f32 : tie.Need-shared-slice-read-is-old-f32 Inv-loop μ-loop
+shared-slice-read-is-old-f32 c = omega arith
+
+is-old-f32-requires : tie.Need-is-old-f32-requires Inv-loop μ-loop
+is-old-f32-requires c κs = tt
+
+returns : tie.Need-returns Inv-loop μ-loop
+returns c =
+    let L = c .before .before .before .before .loop in
+    let x = c .before .before .before .before .before .before .args .xs .now in
+    let h : L .i < length x = omega arith in
+    sym (L .inv .1 ∙ every-at isOld32 x (L .i) nan false h (sym (c .before .is-old-f32 .ensures) ∙ not-true _ (c .if1 .taken)))
+
+add-i : tie.Need-add-i Inv-loop μ-loop
+add-i c = omega arith
+
+loop-less : tie.Need-loop-less Inv-loop μ-loop
+loop-less c = omega arith
+
+loop-again : tie.Need-loop-again Inv-loop μ-loop
+loop-again c =
+    let L = c .before .before .before .before .loop in
+    let x = c .before .before .before .before .before .before .args .xs .now in
+    let h : L .i < length x = omega arith in (
+      omega arith,
+      L .inv .1 ∙ every-at isOld32 x (L .i) nan true h (sym (c .before .is-old-f32 .ensures) ∙ not-false _ (c .if1 .left))
+          ∙ ap (λ (k : ℕ). allPass isOld32 (drop k x)) (sym (add-one (L .i))),
+    )
+
+returns-2 : tie.Need-returns-2 Inv-loop μ-loop
+unfolding allPass
+returns-2 c =
+    let L = c .before .loop in
+    let x = c .before .before .before .args .xs .now in
+    let h : length x ≤ L .i = omega arith in
+    sym (L .inv .1 ∙ ap (allPass isOld32) (drop-of-length-le x h))
+
+pub untouched-f32-spec : {M : Type 1} → statement M
+untouched-f32-spec =
+    tie.close
+    (tie.spec
+    Inv-loop
+    μ-loop
+    loop-holds
+    mul-is-old-f32
+    shared-slice-read-is-old-f32
+    is-old-f32-requires
+    returns
+    add-i
+    loop-less
+    loop-again
+    returns-2)
