@@ -10,7 +10,7 @@ use lib.ListN.{length, take, drop, length-drop}
 use lib.Seq.{length-take-le}
 use lib.Ieee.{Float}
 use lib.Dec.{ltb, eqb}
-use borrow.Author.Tests.{ltb-true, le-ltb, eq-eqb, ne-eqb}
+use borrow.Author.Tests.{ltb-true, le-ltb, lt-leb, eq-eqb, ne-eqb}
 use Rattle.trcf.specs.Types.{normalizes, augments}
 use Rattle.trcf.specs.Lists.{null}
 use Rattle.trcf.specs.Settings.{Settings, waiting, block, dimension}
@@ -249,9 +249,9 @@ module _ (h : Preprocessor) (l : Lent) (w : ℕ) (f : HeadFew h) (e : w ≡ cond
       ≡ lentShort (settingsOf h) l
   unfolding lentShort
   short-is =
-      rw (le-ltb 16 (h .transformer .«input_length») (f .d-few), le-ltb 64 (h .«shingle_size») (f .k-few), le-ltb 1999 (initialRoom (settingsOf h)) (few-le (initialRoom (settingsOf h)) (room-start (settingsOf h))), dimension-is (settingsOf h) w e)
+      rw (le-ltb 16 (h .transformer .«input_length») (f .d-few), le-ltb 64 (h .«shingle_size») (f .k-few), lt-leb 2000 (initialRoom (settingsOf h)) (few-le (initialRoom (settingsOf h)) (room-start (settingsOf h))), dimension-is (settingsOf h) w e)
     where
-      few-le : (n : ℕ) → n ≤ h .«start_normalization» → n ≤ 1999
+      few-le : (n : ℕ) → n ≤ h .«start_normalization» → n < 2000
       few-le n k = omega (arith, k, f .start-few)
 
   pub short-by : (n : ℕ) → n ≡ initialRoom (settingsOf h) → past (h .transformer .«input_length») (h .«shingle_size») w n (length (l .statistics)) (length (l .lastShingledInput))

@@ -9,7 +9,7 @@ use lib.ListN.{length, take, replicate}
 use Rattle.trcf.specs.Transformer.{zero32}
 use lib.Dec.{ltb, leb, eqb}
 use lib.Ieee.{Float}
-use borrow.Author.Tests.{eqb-true, ltb-true, ltb-false, le-ltb, leb-false}
+use borrow.Author.Tests.{eqb-true, ltb-true, ltb-false, le-ltb, lt-leb, leb-false}
 use Rattle.trcf.specs.Settings.{Settings, Valid, settingsTable, waiting, dimension}
 use Rattle.trcf.specs.Preprocessor.{State, statisticsLength}
 use Rattle.trcf.specs.Types.{augments, normalizes}
@@ -187,7 +187,7 @@ initial-few w f = omega (arith, initial-room w f, room-start (w .settings))
 
 pub past-not : (d k wide n a b c e f g : ℕ) → Held d k wide n a b c e f g → past d k wide n a b c e f g ≡ false
 past-not d k wide n a b c e f g h =
-    rw (le-ltb 16 d (h .d-few), le-ltb 64 k (h .k-few), le-ltb 1999 n (h .n-few), le-ltb a (3 * (5 * d + 5)) (h .in-statistics), le-ltb b (d * k) (h .in-input), le-ltb c ((d + wide) * k) (h .in-point), le-ltb e k (h .in-times), le-ltb f (n * d) (h .in-values), le-ltb g n (h .in-initial))
+    rw (le-ltb 16 d (h .d-few), le-ltb 64 k (h .k-few), lt-leb 2000 n (omega (arith, h .n-few)), le-ltb a (3 * (5 * d + 5)) (h .in-statistics), le-ltb b (d * k) (h .in-input), le-ltb c ((d + wide) * k) (h .in-point), le-ltb e k (h .in-times), le-ltb f (n * d) (h .in-values), le-ltb g n (h .in-initial))
 
 module _ (w : State) (f : Form w) (l : Lent) (room : lentShort (w .settings) l ≡ false) where
   laid-room : Room (headFrom (w .settings)) (length (w .initialTimestamps)) (length (l .statistics)) (length (l .lastShingledInput)) (length (l .lastShingledPoint)) (length (l .previousTimestamps))

@@ -5,11 +5,11 @@ use native.Mathlib.Omega.{arith}
 use mathlib.Core.Path.{_≡_, refl, sym, ap, _∙_, subst}
 use mathlib.Core.Bool.{Bool, true, false, cond, _||_, true≢false}
 use mathlib.Core.List.{List, [], _∷_, _++_, map, append-assoc}
-use lib.Dec.{ltb}
+use lib.Dec.{ltb, leb}
 use lib.ListN.{length, take, drop, length-append, length-drop, length-take}
 use lib.Seq.{length-take-le}
 use lib.Ieee.{Float}
-use borrow.Author.Tests.{ltb-false, lt-ltb, le-ltb}
+use borrow.Author.Tests.{ltb-false, leb-false, lt-ltb, le-ltb}
 use Rattle.trcf.specs.declared.head.Preprocessor.{Preprocessor}
 use Rattle.trcf.specs.Types.{methodNumber, modeLetter, augments}
 use Rattle.trcf.specs.Settings.{Settings, settingsRow, block, dimension}
@@ -138,7 +138,7 @@ pub held-of : (d k wide n a b c e f g : ℕ) → past d k wide n a b c e f g ≡
 held-of d k wide n a b c e f g h =
     let h₁ = or-right (ltb 16 d) _ h in
     let h₂ = or-right (ltb 64 k) _ h₁ in
-    let h₃ = or-right (ltb 1999 n) _ h₂ in
+    let h₃ = or-right (leb 2000 n) _ h₂ in
     let h₄ = or-right (ltb a (3 * (5 * d + 5))) _ h₃ in
     let h₅ = or-right (ltb b (d * k)) _ h₄ in
     let h₆ = or-right (ltb c ((d + wide) * k)) _ h₅ in
@@ -146,7 +146,7 @@ held-of d k wide n a b c e f g h =
     record {
       d-few = ltb-false _ _ (or-left _ _ h);
       k-few = ltb-false _ _ (or-left _ _ h₁);
-      n-few = ltb-false _ _ (or-left _ _ h₂);
+      n-few = omega (arith, leb-false 2000 n (or-left _ _ h₂));
       in-statistics = ltb-false _ _ (or-left _ _ h₃);
       in-input = ltb-false _ _ (or-left _ _ h₄);
       in-point = ltb-false _ _ (or-left _ _ h₅);

@@ -2,12 +2,12 @@
 use Prim.Native.Nat.{ℕ, _+_, _*_}
 use mathlib.Core.Bool.{Bool, cond, not, _&&_, _||_}
 use mathlib.Core.List.{List}
-use lib.Dec.{ltb, eqb}
+use lib.Dec.{ltb, leb, eqb}
 use lib.ListN.{length}
 use Rattle.refusal.specs.Lent.{over}
 use Rattle.trcf.specs.declared.head.Preprocessor.{Preprocessor}
 use Rattle.trcf.specs.Types.{augments}
-use Rattle.trcf.specs.Settings.{inputLimit, shingleLimit, settingsRow}
+use Rattle.trcf.specs.Settings.{inputLimit, shingleLimit, startBound, settingsRow}
 use Rattle.trcf.specs.Calls.{finite}
 use Rattle.trcf.specs.Preprocessor.{State, accepted}
 use Rattle.trcf.specs.View.{Lent, settingsOf, view, countersUnfit}
@@ -20,7 +20,7 @@ abbrev pub past : ℕ → ℕ → ℕ → ℕ → ℕ → ℕ → ℕ → ℕ �
 past d k wide n statistics input point times values initial =
     ltb inputLimit d
     || (ltb shingleLimit k
-    || (ltb 1999 n
+    || (leb startBound n
     || (ltb statistics (3 * (5 * d + 5))
     || (ltb input (d * k)
     || (ltb point ((d + wide) * k) || (ltb times k || (ltb values (n * d) || ltb initial n)))))))

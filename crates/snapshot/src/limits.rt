@@ -2,6 +2,7 @@
 use trcf::types::ForestMode;
 use trcf::types::INPUT_LIMIT;
 use trcf::types::SHINGLE_LIMIT;
+use trcf::types::START_BOUND;
 use trcf::types::is_augmented;
 ghost use mathlib.Core.Path.{_≡_};
 ghost use mathlib.Core.Bool.{cond, _||_};
@@ -39,7 +40,7 @@ pub(crate) fn past_limits(
     if SHINGLE_LIMIT < k {
         return true;
     }
-    if 1999 < n {
+    if START_BOUND <= n {
         return true;
     }
     if statistics < 3 * (5 * d + 5) {

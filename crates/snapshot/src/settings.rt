@@ -8,6 +8,9 @@ use crate::piece::name;
 use crate::piece::wide;
 use common::deviation::outside_unit;
 use trcf::types::ForestMode;
+use trcf::types::INPUT_LIMIT;
+use trcf::types::SHINGLE_LIMIT;
+use trcf::types::START_BOUND;
 use trcf::types::TransformMethod;
 use trcf::types::mode_of_letter;
 use trcf_rows::rows::is_imputing;
@@ -66,10 +69,10 @@ fn settings_fit(d: u64, k: u64, start: u64, stop: u64, decay: f64) -> bool
     if k == 0 {
         return false;
     }
-    if 16 < d {
+    if (INPUT_LIMIT as u64) < d {
         return false;
     }
-    if 64 < k {
+    if (SHINGLE_LIMIT as u64) < k {
         return false;
     }
     if outside_unit(decay) {
@@ -78,7 +81,7 @@ fn settings_fit(d: u64, k: u64, start: u64, stop: u64, decay: f64) -> bool
     if stop < start {
         return false;
     }
-    start < 2000
+    start < START_BOUND as u64
 }
 
 // The end of the line: decay, weight_time and the place after them.

@@ -11,7 +11,7 @@ use lib.Ieee.{Float, nan, Format, binary32, binary64}
 use Rattle.common.specs.Deviation.{countLimit, outsideUnit}
 use Rattle.refusal.specs.Lent.{over}
 use Rattle.trcf.specs.Types.{isNone, normalizes, modeOfLetter}
-use Rattle.trcf.specs.Settings.{Settings, imputes, allOne}
+use Rattle.trcf.specs.Settings.{Settings, imputes, allOne, inputLimit, shingleLimit, startBound}
 use Rattle.trcf.specs.Calls.{finite, seenLimit}
 use Rattle.trcf.specs.Preprocessor.{Reading, reading}
 use Rattle.trcf.specs.declared.types.TransformMethod.{TransformMethod}
@@ -256,7 +256,7 @@ methodTold NoMethod = none
 unfoldable pub setTest : ℕ → ℕ → ℕ → ℕ → Float → Bool
 setTest d k start stop decay =
     not (eqb d 0)
-    && (not (eqb k 0) && (not (ltb 16 d || ltb 64 k) && (not (outsideUnit decay) && (not (ltb stop start) && not (leb 2000 start)))))
+    && (not (eqb k 0) && (not (ltb inputLimit d || ltb shingleLimit k) && (not (outsideUnit decay) && (not (ltb stop start) && not (leb startBound start)))))
 
 unfoldable pub tailBy : List ℕ → Option ((Float × Float) × List ℕ)
 tailBy l = onto (one (asFloat binary64) l) (λ y. onto (one (asFloat binary32) (y .1)) (λ x. withRest (y .0, x .0) (byte 10 (x .1))))
