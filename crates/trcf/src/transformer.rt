@@ -1,6 +1,7 @@
 // The transform of a reading, channel by channel (the source's trcf/transformer.rs). The statistics lie in a lent list, three numbers each.
 use crate::blocks::turn_block;
 use crate::passes::feed_channels;
+use crate::shingle::copy_in;
 use crate::statistics::mean_at;
 use crate::types::INPUT_LIMIT;
 use crate::types::TransformMethod;
@@ -24,9 +25,9 @@ ghost use Rattle.refusal.specs.Lent.{over};
 ghost use Rattle.common.specs.Deviation.{zero64, one64, countLimit, outsideUnit, factorOf};
 ghost use Rattle.ranges.specs.RangeVector.{ranges, rangeOutcome, unblocked};
 ghost use Rattle.trcf.specs.Types.{isNone, normalizes, differences, centres};
-ghost use Rattle.trcf.specs.Settings.{allOne};
+ghost use Rattle.trcf.specs.Settings.{allOne, inputLimit};
 ghost use Rattle.trcf.specs.Transformer.{zero32, slowDecay, updated, meanAt, weightAt, normalizedScale, transformBy, transformed, unweighted, invertBy, inverted, reciprocal, invertedForecast, scales, shifts, differenceDeviations};
-ghost use Rattle.trcf.specs.Lengths.{whereFits, passes};
+ghost use Rattle.trcf.specs.Lengths.{whereFits, within, passes};
 ghost use Rattle.trcf.specs.TransformerCalls.{transformerView, made, transformerOutput, newRow, updateRow, transformRow, outputRow, forecastRow, transformerNew, transformerUpdate, transformerTransform, transformerInvert, transformerInvertForecast, transformerScale, transformerShift, transformerDifferenceDeviations};
 ghost use Rattle.trcf.specs.Steps.Sound.{Sound};
 ghost use Rattle.trcf.specs.Steps.Blocks.{FactorsIn};
@@ -512,17 +513,12 @@ fn forecast_row(
     0
 }
 
-// The weights, and zeros after them.
-fn padded(w: &[f32]) -> [f32; 16]
-    requires { ⌜ length (now w) ≤ 16 ⌝ }
-    ensures { λ r. ⌜ r ≡ over (replicate 16 zero32) (now (w .entry)) ⌝ }
+// The weights in an array, zeros after them; zeros alone where there are more than it holds.
+pub fn padded(weights: &[f32]) -> [f32; 16]
+    ensures { λ r. ⌜ r ≡ whereFits (within (length (now (weights .entry))) inputLimit) (over (replicate inputLimit zero32) (now (weights .entry))) (replicate inputLimit zero32) ⌝ }
 {
     let mut a = [0.0f32; 16];
-    let mut i = 0;
-    while i < w.len() {
-        a[i] = w[i];
-        i += 1;
-    }
+    copy_in(&mut a, 0, weights);
     a
 }
 

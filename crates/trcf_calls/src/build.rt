@@ -4,29 +4,18 @@ use trcf::head::Preprocessor;
 use trcf::head::PreprocessorBuilder;
 use trcf::head::get_dimension;
 use trcf::head::no_head;
-use trcf::shingle::copy_in;
 use trcf::shingle::zero_f32;
 use trcf::shingle::zero_f64;
 use trcf::shingle::zero_u64;
 use trcf::transformer::WeightedTransformer;
+use trcf::transformer::padded;
 use trcf_rows::rows::held_row;
 use trcf_rows::rows::settings_row;
 ghost use mathlib.Core.Path.{_≡_};
 ghost use Prim.Native.Nat.{_≤_};
 ghost use lib.ListN.{length, replicate};
 ghost use Rattle.refusal.specs.Lent.{over};
-ghost use Rattle.trcf.specs.Transformer.{zero32};
 ghost use Rattle.trcf.specs.View.{lent, settingsFrom, headFrom, outcome, buildOf};
-
-// The weights in an array, zeros after them.
-fn weights_from(weights: &[f32]) -> [f32; 16]
-    requires { ⌜ length (now weights) ≤ 16 ⌝ }
-    ensures { λ r. ⌜ r ≡ over (replicate 16 zero32) (now (weights .entry)) ⌝ }
-{
-    let mut a = [0.0f32; 16];
-    copy_in(&mut a, 0, weights);
-    a
-}
 
 // The codes in an array, zeros after them.
 fn codes_from(w: &[u16]) -> [u16; 16]
@@ -49,7 +38,7 @@ fn head_from(b: PreprocessorBuilder, weights: &[f32], codes: &[u16]) -> Preproce
 {
     let method = b.transform_method;
     let mode = b.forest_mode;
-    let a = weights_from(weights);
+    let a = padded(weights);
     let own = codes_from(codes);
     Preprocessor {
         transformer: WeightedTransformer {

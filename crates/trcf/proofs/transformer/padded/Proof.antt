@@ -1,69 +1,27 @@
--- `trcf::transformer::padded` meets its contract: the invariant is that the first i weights stand over zeros. Assumes nothing.
-use mathlib.Core.Path.{_≡_, refl, ap, _∙_}
-use lib.Ieee.{nan}
-use lib.Seq.{take-length}
+-- `trcf::transformer::padded` meets its contract: the copy over an array of zeros, where it fits. Assumes nothing.
+use mathlib.Core.Path.{_≡_, _∙_}
+use Prim.Native.Nat.{_+_}
 use native.Mathlib.Omega.{arith}
-use Prim.Native.Nat.{_≤_, _<_, _-_}
-use lib.ListN.{length, replicate, take, length-set}
-use Rattle.trcf.proofs.LentLaws.{over-none}
+use lib.ListN.{length, replicate}
 use Rattle.trcf.specs.Transformer.{zero32}
-use Rattle.refusal.specs.Lent.{over}
-use Rattle.refusal.proofs.LentLaws.{over-copy}
+use Rattle.trcf.specs.Lengths.{whereFits, within}
+use Rattle.trcf.proofs.ShingleLaws.{paste-over}
+use borrow.Author.Needs.{needs}
 use Rattle.trcf.proofs.transformer.padded.Statement.{statement}
 use Rattle.trcf.proofs.transformer.padded.Tie as tie
 
-abbrev Inv-loop : tie.InvT-loop
-Inv-loop w a₀ i₀ a i = (i ≤ length w) × (a ≡ over (replicate 16 zero32) (take i w)) × (length a ≡ 16)
+slice-aggregate-copy-in : tie.Need-slice-aggregate-copy-in
+slice-aggregate-copy-in c = search needs
 
-abbrev μ-loop : tie.MeasureT-loop
-μ-loop w a₀ i₀ a i = length w - i
+copy-in-requires : tie.Need-copy-in-requires
+copy-in-requires c κs = tt
 
-loop-holds : tie.Need-loop-holds Inv-loop μ-loop
-loop-holds c = (omega arith, over-none _, refl)
-
-mul-a : tie.Need-mul-a Inv-loop μ-loop
-mul-a c = omega arith
-
-shared-slice-read-a : tie.Need-shared-slice-read-a Inv-loop μ-loop
-shared-slice-read-a c = omega arith
-
-mul-a-2 : tie.Need-mul-a-2 Inv-loop μ-loop
-mul-a-2 c = omega arith
-
-array-write-a : tie.Need-array-write-a Inv-loop μ-loop
-array-write-a c = omega arith
-
-add-i : tie.Need-add-i Inv-loop μ-loop
-add-i c = omega arith
-
-loop-less : tie.Need-loop-less Inv-loop μ-loop
-loop-less c = omega arith
-
-loop-again : tie.Need-loop-again Inv-loop μ-loop
-loop-again c = let L = c .before .before .loop in
-    let w = c .before .before .before .args .w .now in
-    let h : L .i < length w = omega arith in
-    (omega arith, rw (L .inv .1) (over-copy (replicate 16 zero32) w (L .i) nan h (c .before .before .before .pre)), simp length-set (omega arith))
-
-returns : tie.Need-returns Inv-loop μ-loop
-returns c = let L = c .before .loop in
-    let w = c .before .before .args .w .now in
-    let e : L .i ≡ length w = omega arith in
-    let p = rw e at (L .inv .1) in
-    p ∙ ap (over (replicate 16 zero32)) (take-length w)
+returns : tie.Need-returns
+returns c =
+    let w = c .before .before .before .before .args .weights .now in
+    let zeros = replicate 16 zero32 in
+    let e : 0 + length w ≡ length w = omega arith in
+    c .before .copy-in .ensures ∙ (λ i. whereFits (within (e i) 16) (paste-over zeros w i) zeros)
 
 pub padded-spec : {M : Type 1} → statement M
-padded-spec =
-    tie.close
-    (tie.spec
-    Inv-loop
-    μ-loop
-    loop-holds
-    mul-a
-    shared-slice-read-a
-    mul-a-2
-    array-write-a
-    add-i
-    loop-less
-    loop-again
-    returns)
+padded-spec = tie.close (tie.spec slice-aggregate-copy-in copy-in-requires returns)

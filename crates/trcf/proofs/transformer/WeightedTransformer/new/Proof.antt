@@ -9,6 +9,7 @@ use native.Mathlib.Omega.{arith}
 use Rattle.refusal.specs.Lent.{over}
 use Rattle.trcf.specs.TransformerCalls.{transformerNew, noTransformer, transformerHead}
 use Rattle.trcf.proofs.CallLaws.{made-refused, made-done}
+use Rattle.trcf.proofs.LengthLaws.{roomy}
 use borrow.Author.Needs.{needs}
 use Rattle.trcf.proofs.transformer.WeightedTransformer.new.Statement.{statement}
 use Rattle.trcf.proofs.transformer.WeightedTransformer.new.Tie as tie
@@ -22,9 +23,7 @@ returns c = let a = c .before .before .before .before .args in
     made-refused (c .before .new-row .result) _ noTransformer (a .statistics .now) _ (c .before .new-row .ensures .0) (c .if1 .taken)
 
 padded-requires : tie.Need-padded-requires
-padded-requires c κs = let R = c .before .new-row .ensures .1 (c .if1 .left) in
-    let a = c .before .before .before .before .args in
-    omega (arith, R .1, R .2)
+padded-requires c κs = tt
 
 mul-clear : tie.Need-mul-clear
 mul-clear c = let R = c .before .before .before .new-row .ensures .1 (c .before .before .if1 .left) in
@@ -42,9 +41,10 @@ same-length c = search needs
 returns-2 : tie.Need-returns-2
 unfolding transformerNew
 returns-2 c = let R = c .before .before .before .before .before .before .new-row in
+    let f = R .ensures .1 (c .before .before .before .before .before .if1 .left) in
     let a = c .before .before .before .before .before .before .before .before .before .args in
     ap (λ (w : List Float). made 0 (transformerHead (a .transform-method) (a .input-length) (a .transform-decay) w 0) (c .before .before .clear .last .0))
-    (c .before .before .before .before .padded .ensures)
+    (roomy _ (c .before .before .before .before .padded .ensures) (omega (arith, f .1, f .2)))
     ∙ made-done (R .result) _ _ (transformerHead (a .transform-method) (a .input-length) (a .transform-decay) (over (replicate 16 zero32) (a .weights .now)) 0) _ _ (R .ensures .0) (c .before .before .before .before .before .if1 .left) (c .before .before .clear .ensures)
 
 pub new-spec : {M : Type 1} → statement M
