@@ -113,7 +113,7 @@ module _ (s : Settings) (ok : Valid s) (one : s .d ≡ 1) where
   sane : headRow s ≡ 0
   unfolding headRow
   sane =
-      let c = rows-of s (ok .accepted) in
+      let c = rows-of s (ok .unrefused) in
       none-refuses (headTable s) (c .1 .0, (c .1 .1 .0, (c .1 .1 .1 .0, (c .1 .1 .1 .1 .1 .1 .1 .0, tt))))
 
   -- the whole point has room in 128 numbers
@@ -242,5 +242,5 @@ module _ (s : Settings) (g : Signal) where
   unfolding runOf notedOf
   run-done m e f h row q n en =
       let p = pair-parts s e in
-      let ok : Valid s = record { accepted = p .0; machine = m } in
+      let ok : Valid s = record { unrefused = p .0; machine = m } in
       (λ j. runOutcome (q j) ((en ∙ noted-is s ok (p .1) g (g .readings) h) j)) ∙ sym (rw (e, f))

@@ -9,6 +9,7 @@ use lib.ListN.{length, take, drop, getD, replicate}
 use lib.Ieee.{Float, Format, nan, binary32, binary64, add, sub, mul, div, eq, ofInt}
 use Rattle.numeric.specs.Narrow.{narrowed}
 use Rattle.common.specs.Deviation.{zero64, one64}
+pub use Rattle.refusal.specs.Refusal.{accepted}
 use Rattle.refusal.specs.Lent.{over}
 use Rattle.ranges.specs.RangeVector.{Range, Ranges, ranges, settled, cascadeTo, overAll}
 use Rattle.trcf.specs.Lists.{lastN, lastOr, shiftIn, overwrite}
@@ -231,12 +232,6 @@ change w (invertExtrapolation c) = w
 change w (scale out) = w
 change w (shift out) = w
 change w (status out) = w
-
-module _ {ℓ} {A : Type ℓ} where
-  -- by the number of the row, 0 for none
-  abbrev pub accepted : ℕ → A → A → A
-  accepted zero a b = a
-  accepted (suc n) a b = b
 
 -- "a refusal leaves state and lent memory unchanged"
 unfoldable pub next : State → Call → State
