@@ -12,7 +12,7 @@ use Rattle.trcf.specs.Fit.{All}
 use Rattle.trcf.specs.Settings.{Settings, Valid, block}
 use Rattle.trcf.specs.declared.head.PreprocessorBuilder.{PreprocessorBuilder}
 use Rattle.trcf.specs.Calls.{Learn, given, Call, Machine, shingledPoint, postProcess, drain, transform, invertExtrapolation, scale, shift, status}
-use Rattle.trcf.specs.Preprocessor.{accepted, Answer, refused, absent, done, wrote, learnt, turned, told, Anomaly}
+use Rattle.trcf.specs.Preprocessor.{reading, transformOf, scaleOf, shiftOf, accepted, Answer, refused, absent, done, wrote, learnt, turned, told, Anomaly}
 use Rattle.trcf.specs.View.{Lent, settingsFrom, learnCall, lentShort, Getters, gettersOf, buildOf, Written, StatusOutcome, PointOutcome, LearnOutcome, writeOf, statusAfter, drainOf, pointAfter, learnAfter}
 use Rattle.trcf.specs.Extrapolation.{Extrapolation, extrapolationOf}
 use Rattle.snapshot.specs.Restore as restore
@@ -41,10 +41,10 @@ abbrev pub returnOf : Held → Call → Return
 returnOf m (shingledPoint x t out) = pointReturn (pointAfter (m .head) (m .lent) x t out)
 returnOf m (postProcess q) = learnReturn (learnAfter (m .head) (m .lent) q)
 returnOf m drain = drains (drainOf (m .head) (m .lent) .row)
-returnOf m (transform x t out) = writes (writeOf (m .head) (m .lent) (transform x t out) out)
+returnOf m (transform x t out) = writes (writeOf (m .head) (m .lent) (transform x t out) (transformOf (reading x t)) out)
 returnOf m (invertExtrapolation c) = turns (extrapolationOf (m .head) (m .lent .statistics) (m .lent .lastShingledInput) (m .lent .previousTimestamps) c)
-returnOf m (scale out) = writes (writeOf (m .head) (m .lent) (scale out) out)
-returnOf m (shift out) = writes (writeOf (m .head) (m .lent) (shift out) out)
+returnOf m (scale out) = writes (writeOf (m .head) (m .lent) (scale out) scaleOf out)
+returnOf m (shift out) = writes (writeOf (m .head) (m .lent) (shift out) shiftOf out)
 returnOf m (status out) = tells (statusAfter (m .head) (m .lent) out)
 
 -- what the next call is given: three calls hand back a head and have lists lent to be written, the others read

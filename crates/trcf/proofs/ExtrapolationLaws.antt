@@ -26,7 +26,7 @@ use Rattle.trcf.specs.Settings.{Settings, transformer, block, dimension}
 use Rattle.trcf.specs.Calls.{Forecast, invertExtrapolation, rows, table, forecastUnfit, forecastOutputShort, lookahead}
 use Rattle.trcf.specs.Preprocessor.{refused, turned, fronts, backs, invertTime, invertTimes, timescale, timedrift, previous, numbersOf, timesOf, turnedBack, reply, accepted, statisticsLength}
 use Rattle.trcf.specs.View.{Lent, view, holding, settingsOf, headRow, countersUnfit, initialRoom, lentShort, shortRow, lentRow, rowOf, answerOf, orElse}
-use Rattle.trcf.specs.Extrapolation.{Extrapolation, extrapolation, forecast, viewed, readShort, readShortRow, extrapolationRow, extrapolationOf, extrapolationRead, Sizes, sizesOf, brokenAt, shortAt, rowAt}
+use Rattle.trcf.specs.Extrapolation.{Extrapolation, extrapolation, forecast, viewed, readShort, readShortRow, extrapolationRow, extrapolationOf, Sizes, sizesOf, brokenAt, shortAt, rowAt}
 use Rattle.trcf.specs.Steps.Inverting.{Longer, timeFactor, timeBy, timesBy}
 use Rattle.trcf.specs.declared.head.Preprocessor.{Preprocessor}
 use Rattle.trcf.proofs.FitLaws.{tabulate-length}
@@ -422,9 +422,9 @@ module _ (h : Preprocessor) (l : Lent) (c : Forecast) where
   unfolding turnedBack numbersOf timesOf previous viewed view
   turned-same = refl
 
-  by-row : (r : ℕ) → extrapolationRead c (accepted r (turned (turnedBack (view h l) c)) (refused r))
-      ≡ extrapolation r (accepted r (turnedBack (viewed h (l .statistics) (l .lastShingledInput) (l .previousTimestamps)) c) c)
-  by-row zero = ap (extrapolation 0) turned-same
+  by-row : (r : ℕ) → accepted r (turned (turnedBack (view h l) c)) (refused r)
+      ≡ accepted r (turned (accepted r (turnedBack (viewed h (l .statistics) (l .lastShingledInput) (l .previousTimestamps)) c) c)) (refused r)
+  by-row zero = ap turned turned-same
   by-row (suc r) = refl
 
   -- of six tests that fail the three that the call makes
@@ -449,8 +449,8 @@ module _ (h : Preprocessor) (l : Lent) (c : Forecast) where
   same-row e = rw (e, unread-not e)
 
   -- of every head, over lists that are long enough
-  pub extrapolation-answers : lentShort (settingsOf h) l ≡ false → extrapolationRead c (answerOf h l (invertExtrapolation c)) ≡ sees
+  pub extrapolation-answers : lentShort (settingsOf h) l ≡ false → answerOf h l (invertExtrapolation c) ≡ accepted (sees .row) (turned (sees .left)) (refused (sees .row))
   unfolding answerOf reply extrapolationOf
   extrapolation-answers e =
-      ap (λ (r : ℕ). extrapolationRead c (accepted r (turned (turnedBack (view h l) c)) (refused r))) (same-row e)
+      ap (λ (r : ℕ). accepted r (turned (turnedBack (view h l) c)) (refused r)) (same-row e)
       ∙ by-row (extrapolationRow h (l .statistics) (l .lastShingledInput) (l .previousTimestamps) c)

@@ -10,7 +10,7 @@ use Rattle.ranges.specs.RangeVector.{Ranges, unblocked}
 use Rattle.trcf.specs.Types.{augments, differences}
 use Rattle.trcf.specs.Settings.{Settings, dimension}
 use Rattle.trcf.specs.Calls.{Forecast, invertExtrapolation, rows, lookahead}
-use Rattle.trcf.specs.Preprocessor.{State, Answer, refused, absent, done, wrote, learnt, turned, told, statisticsLength, facts, turnedBack, accepted}
+use Rattle.trcf.specs.Preprocessor.{State, statisticsLength, facts, turnedBack, accepted}
 use Rattle.trcf.specs.View.{lent, view, settingsOf, countersUnfit, headRow, orElse}
 use Rattle.trcf.specs.declared.head.Preprocessor.{Preprocessor}
 
@@ -50,16 +50,6 @@ unfoldable pub extrapolationOf : Preprocessor → List Float → List Float → 
 extrapolationOf h st x ts c =
     let n = extrapolationRow h st x ts c in
     extrapolation n (accepted n (turnedBack (viewed h st x ts) c) c)
-
--- an answer of the preprocessor to this call, read as its row and the lists
-abbrev pub extrapolationRead : Forecast → Answer → Extrapolation
-extrapolationRead c (refused n) = extrapolation n c
-extrapolationRead c absent = extrapolation 0 c
-extrapolationRead c done = extrapolation 0 c
-extrapolationRead c (wrote v) = extrapolation 0 c
-extrapolationRead c (learnt l) = extrapolation 0 c
-extrapolationRead c (turned r) = extrapolation 0 r
-extrapolationRead c (told s) = extrapolation 0 c
 
 -- ---- the rows look at lengths alone
 

@@ -260,9 +260,13 @@ shiftOf w =
     withTime (w .settings) (shifts (transformer (w .settings) 0 (w .statistics)))
     (drifted binary32 (w .settings) (ofInt binary32 (pos (lastOr 0 (w .previousTimestamps)))) (narrowed (timedrift (w .settings) (w .statistics))))
 
+-- `transform`
+abbrev pub transformOf : Reading → State → List Float
+transformOf r w = transformedAfter (w .settings) (w .statistics) (w .valuesSeen) (preceding w) r
+
 -- `shingled_point`: the point with the transformed reading after it
 unfoldable pub pointOf : State → Reading → List Float
-pointOf w r = shiftIn (w .lastShingledPoint) (transformedAfter (w .settings) (w .statistics) (w .valuesSeen) (preceding w) r)
+pointOf w r = shiftIn (w .lastShingledPoint) (transformOf r w)
 
 -- ---- turn-back
 
@@ -439,12 +443,19 @@ statusOf w out =
       deviationsOut = over out (deviations w);
     }
 
+-- past waiting
+abbrev pub pointReply : State → List Float → ℕ → List Float → List Float
+pointReply w x t out = over out (pointOf (drained w) (reading x t))
+
+abbrev pub learnReply : State → Learn → Learned
+learnReply w l = cond (waiting (w .settings) (w .valuesSeen)) (bufferedAnswer w l) (learnAnswer w l (l .rcfPoint))
+
 -- a call that no row refuses
 unfoldable pub reply : State → Call → Answer
-reply w (shingledPoint x t out) = cond (waiting (w .settings) (w .valuesSeen)) absent (wrote (over out (pointOf (drained w) (reading x t))))
-reply w (postProcess l) = learnt (cond (waiting (w .settings) (w .valuesSeen)) (bufferedAnswer w l) (learnAnswer w l (l .rcfPoint)))
+reply w (shingledPoint x t out) = cond (waiting (w .settings) (w .valuesSeen)) absent (wrote (pointReply w x t out))
+reply w (postProcess l) = learnt (learnReply w l)
 reply w drain = done
-reply w (transform x t out) = wrote (over out (transformedAfter (w .settings) (w .statistics) (w .valuesSeen) (preceding w) (reading x t)))
+reply w (transform x t out) = wrote (over out (transformOf (reading x t) w))
 reply w (invertExtrapolation c) = turned (turnedBack w c)
 reply w (scale out) = wrote (over out (scaleOf w))
 reply w (shift out) = wrote (over out (shiftOf w))
