@@ -21,7 +21,8 @@ returns c =
     let c8 = c .before .before .before .before .before .before .before .before in
     let a = c8 .before .before .args in
     let l = lent (a .statistics .now) (a .last-shingled-input .now) (a .last-shingled-point .now) (a .previous-timestamps .now) (a .initial-values .now) (a .initial-timestamps .now) in
-    write-stays (a .head) l (status (a .output .now)) deviations (a .output .now) (c .before .write-row .result) (c .before .write-row .ensures .0 ∙ status-row (a .head) l (a .output .now)) (c .if1 .taken)
+    write-stays (a .head) l (status (a .output .now)) deviations (a .output .now) (c .before .write-row .result)
+    (c .before .write-row .ensures .0 ∙ status-row (a .head) l (a .output .now)) (c .if1 .taken)
 
 mul-write-deviations : tie.Need-mul-write-deviations
 mul-write-deviations c = five (c .before .before .write-row .ensures .1 .0 (c .before .if1 .left) .bounded .d-few)
