@@ -5,7 +5,7 @@ use mathlib.Core.Bool.{Bool, false}
 use mathlib.Core.List.{List, [], _∷_}
 use lib.Ieee.{Float}
 use Rattle.trcf.specs.Calls.{Call, Learn, Forecast, shingledPoint, postProcess, drain, invertExtrapolation, status}
-use Rattle.trcf.specs.Preprocessor.{panelOf}
+use Rattle.trcf.specs.Preprocessor.{State, panelOf}
 use Rattle.trcf.specs.View.{Lent, alone, noHead, readyOf, dimensionOf, Outcome, outcome, drainOf, PointOutcome, pointed, pointAfter, LearnOutcome, learnNothing, learnAfter, Written, written, writeOf, StatusOutcome, statusGiven, statusAfter}
 use Rattle.trcf.specs.Extrapolation.{Extrapolation, extrapolation, extrapolationOf}
 use Rattle.trcf.specs.declared.types.TransformMethod.{TransformMethod}
@@ -36,8 +36,8 @@ drainBy table role h l = guarded table role (needs drain) (drainOf h l) (outcome
 
 -- ---- the calls that write lists: transform, scale, shift, the deviations of status; and turn-back
 
-abbrev pub writeBy : List ℕ → ℕ → Preprocessor → Lent → Call → List Float → Written
-writeBy table role h l c out = guarded table role (needs c) (writeOf h l c out) (written 22 out)
+abbrev pub writeBy : List ℕ → ℕ → Preprocessor → Lent → Call → (State → List Float) → List Float → Written
+writeBy table role h l c f out = guarded table role (needs c) (writeOf h l c f out) (written 22 out)
 
 abbrev pub extrapolationBy : List ℕ → ℕ → Preprocessor → List Float → List Float → List ℕ → Forecast → Extrapolation
 extrapolationBy table role h st x ts c = guarded table role (needs (invertExtrapolation c)) (extrapolationOf h st x ts c) (extrapolation 22 c)

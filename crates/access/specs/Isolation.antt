@@ -5,6 +5,7 @@ use mathlib.Core.Bool.{Bool, false}
 use mathlib.Core.List.{List, [], _∷_}
 use lib.Ieee.{Float}
 use Rattle.trcf.specs.Calls.{Call, Learn, Forecast, shingledPoint, postProcess, drain, invertExtrapolation, status}
+use Rattle.trcf.specs.Preprocessor.{State}
 use Rattle.trcf.specs.View.{Lent, lent, noHead, outcome, PointOutcome, pointed, LearnOutcome, learnOutcome, learnNothing, written, statusGiven}
 use Rattle.trcf.specs.Extrapolation.{extrapolation}
 use Rattle.trcf.specs.declared.types.TransformMethod.{TransformMethod}
@@ -22,7 +23,8 @@ pub record Withheld (table : List ℕ) (role : ℕ) : Type 0 where
       → pointBy table role h l x t out ≡ pointed 22 false h l out
   pub learns : (h : Preprocessor) (l : Lent) (c : Learn) → granted table role (needs (postProcess c)) ≡ false → learnBy table role h l c ≡ learnNothing 22 h l c
   pub drains : (h : Preprocessor) (l : Lent) → granted table role (needs drain) ≡ false → drainBy table role h l ≡ outcome 22 h l
-  pub writes : (h : Preprocessor) (l : Lent) (c : Call) (out : List Float) → granted table role (needs c) ≡ false → writeBy table role h l c out ≡ written 22 out
+  pub writes : (h : Preprocessor) (l : Lent) (c : Call) (f : State → List Float) (out : List Float) → granted table role (needs c) ≡ false
+      → writeBy table role h l c f out ≡ written 22 out
   pub extrapolates : (h : Preprocessor) (st x : List Float) (ts : List ℕ) (c : Forecast) → granted table role (needs (invertExtrapolation c)) ≡ false
       → extrapolationBy table role h st x ts c ≡ extrapolation 22 c
   pub tells : (h : Preprocessor) (l : Lent) (out : List Float) → granted table role (needs (status out)) ≡ false
@@ -47,7 +49,8 @@ pub record Isolated (table : List ℕ) (role : ℕ) (h g : Preprocessor) (l m : 
       → pointShown (pointBy table role h l x t out) ≡ pointShown (pointBy table role g m x t out)
   pub learns : (c : Learn) → granted table role (needs (postProcess c)) ≡ false → learnShown (learnBy table role h l c) ≡ learnShown (learnBy table role g m c)
   pub drains : granted table role (needs drain) ≡ false → drainBy table role h l .row ≡ drainBy table role g m .row
-  pub writes : (c : Call) (out : List Float) → granted table role (needs c) ≡ false → writeBy table role h l c out ≡ writeBy table role g m c out
+  pub writes : (c : Call) (f : State → List Float) (out : List Float) → granted table role (needs c) ≡ false
+      → writeBy table role h l c f out ≡ writeBy table role g m c f out
   pub extrapolates : (st sy x y : List Float) (ts us : List ℕ) (c : Forecast) → granted table role (needs (invertExtrapolation c)) ≡ false
       → extrapolationBy table role h st x ts c ≡ extrapolationBy table role g sy y us c
   pub tells : (out : List Float) → granted table role (needs (status out)) ≡ false → statusBy table role h l out ≡ statusBy table role g m out

@@ -8,6 +8,7 @@ use trcf::types::TransformMethod;
 ghost use mathlib.Core.Path.{_≡_};
 ghost use Rattle.ranges.specs.RangeVector.{ranges};
 ghost use Rattle.trcf.specs.Calls.{transform, scale, shift, status};
+ghost use Rattle.trcf.specs.Preprocessor.{reading, transformOf, scaleOf, shiftOf, deviations};
 ghost use Rattle.trcf.specs.View.{lent, written, statusGiven};
 ghost use Rattle.trcf.specs.Extrapolation.{extrapolation, forecast};
 ghost use Rattle.access.specs.Entries.{writeBy, extrapolationBy, withheldStatus, statusBy};
@@ -26,7 +27,7 @@ pub fn transform(
     timestamp: u64,
     output: &mut [f32],
 ) -> u64
-    ensures { λ r. ⌜ written r (now (output .exit)) ≡ writeBy (now (table .entry)) role head (lent (now (statistics .entry)) (now («last_shingled_input» .entry)) (now («last_shingled_point» .entry)) (now («previous_timestamps» .entry)) (now («initial_values» .entry)) (now («initial_timestamps» .entry))) (transform (now (input .entry)) timestamp (now (output .entry))) (now (output .entry)) ⌝ }
+    ensures { λ r. ⌜ written r (now (output .exit)) ≡ writeBy (now (table .entry)) role head (lent (now (statistics .entry)) (now («last_shingled_input» .entry)) (now («last_shingled_point» .entry)) (now («previous_timestamps» .entry)) (now («initial_values» .entry)) (now («initial_timestamps» .entry))) (transform (now (input .entry)) timestamp (now (output .entry))) (transformOf (reading (now (input .entry)) timestamp)) (now (output .entry)) ⌝ }
 {
     if !may(table, role, Right::SEE) {
         return 22;
@@ -57,7 +58,7 @@ pub fn scale(
     initial_timestamps: &[u64],
     output: &mut [f32],
 ) -> u64
-    ensures { λ r. ⌜ written r (now (output .exit)) ≡ writeBy (now (table .entry)) role head (lent (now (statistics .entry)) (now («last_shingled_input» .entry)) (now («last_shingled_point» .entry)) (now («previous_timestamps» .entry)) (now («initial_values» .entry)) (now («initial_timestamps» .entry))) (scale (now (output .entry))) (now (output .entry)) ⌝ }
+    ensures { λ r. ⌜ written r (now (output .exit)) ≡ writeBy (now (table .entry)) role head (lent (now (statistics .entry)) (now («last_shingled_input» .entry)) (now («last_shingled_point» .entry)) (now («previous_timestamps» .entry)) (now («initial_values» .entry)) (now («initial_timestamps» .entry))) (scale (now (output .entry))) scaleOf (now (output .entry)) ⌝ }
 {
     if !may(table, role, Right::SEE) {
         return 22;
@@ -86,7 +87,7 @@ pub fn shift(
     initial_timestamps: &[u64],
     output: &mut [f32],
 ) -> u64
-    ensures { λ r. ⌜ written r (now (output .exit)) ≡ writeBy (now (table .entry)) role head (lent (now (statistics .entry)) (now («last_shingled_input» .entry)) (now («last_shingled_point» .entry)) (now («previous_timestamps» .entry)) (now («initial_values» .entry)) (now («initial_timestamps» .entry))) (shift (now (output .entry))) (now (output .entry)) ⌝ }
+    ensures { λ r. ⌜ written r (now (output .exit)) ≡ writeBy (now (table .entry)) role head (lent (now (statistics .entry)) (now («last_shingled_input» .entry)) (now («last_shingled_point» .entry)) (now («previous_timestamps» .entry)) (now («initial_values» .entry)) (now («initial_timestamps» .entry))) (shift (now (output .entry))) shiftOf (now (output .entry)) ⌝ }
 {
     if !may(table, role, Right::SEE) {
         return 22;
@@ -115,7 +116,7 @@ pub fn difference_deviations(
     initial_timestamps: &[u64],
     output: &mut [f32],
 ) -> u64
-    ensures { λ r. ⌜ written r (now (output .exit)) ≡ writeBy (now (table .entry)) role head (lent (now (statistics .entry)) (now («last_shingled_input» .entry)) (now («last_shingled_point» .entry)) (now («previous_timestamps» .entry)) (now («initial_values» .entry)) (now («initial_timestamps» .entry))) (status (now (output .entry))) (now (output .entry)) ⌝ }
+    ensures { λ r. ⌜ written r (now (output .exit)) ≡ writeBy (now (table .entry)) role head (lent (now (statistics .entry)) (now («last_shingled_input» .entry)) (now («last_shingled_point» .entry)) (now («previous_timestamps» .entry)) (now («initial_values» .entry)) (now («initial_timestamps» .entry))) (status (now (output .entry))) deviations (now (output .entry)) ⌝ }
 {
     if !may(table, role, Right::SEE) {
         return 22;

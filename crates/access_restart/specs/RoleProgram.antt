@@ -12,7 +12,7 @@ use Rattle.trcf.specs.Transformer.{zero32}
 use Rattle.trcf.specs.Settings.{Settings, Valid, block}
 use Rattle.trcf.specs.Calls.{Call, Machine, shingledPoint, postProcess, drain, transform, invertExtrapolation, scale, shift, status}
 use Rattle.trcf.specs.Types.{methodNumber, modeLetter}
-use Rattle.trcf.specs.Preprocessor.{refused, panelOf}
+use Rattle.trcf.specs.Preprocessor.{refused, reading, transformOf, scaleOf, shiftOf, panelOf}
 use Rattle.trcf.specs.View.{Lent, alone, noHead, readyOf, dimensionOf, lentShort, buildOf, written, statusGiven}
 use Rattle.trcf.specs.Extrapolation.{extrapolation}
 use Rattle.trcf.specs.declared.types.TransformMethod.{TransformMethod}
@@ -36,11 +36,11 @@ abbrev pub roleReturn : List ℕ → Held → ℕ → Call → Return
 roleReturn table m r (shingledPoint x t out) = pointReturn (pointBy table r (m .head) (m .lent) x t out)
 roleReturn table m r (postProcess q) = learnReturn (learnBy table r (m .head) (m .lent) q)
 roleReturn table m r drain = drains (drainBy table r (m .head) (m .lent) .row)
-roleReturn table m r (transform x t out) = writes (writeBy table r (m .head) (m .lent) (transform x t out) out)
+roleReturn table m r (transform x t out) = writes (writeBy table r (m .head) (m .lent) (transform x t out) (transformOf (reading x t)) out)
 roleReturn table m r (invertExtrapolation c) =
     turns (extrapolationBy table r (m .head) (m .lent .statistics) (m .lent .lastShingledInput) (m .lent .previousTimestamps) c)
-roleReturn table m r (scale out) = writes (writeBy table r (m .head) (m .lent) (scale out) out)
-roleReturn table m r (shift out) = writes (writeBy table r (m .head) (m .lent) (shift out) out)
+roleReturn table m r (scale out) = writes (writeBy table r (m .head) (m .lent) (scale out) scaleOf out)
+roleReturn table m r (shift out) = writes (writeBy table r (m .head) (m .lent) (shift out) shiftOf out)
 roleReturn table m r (status out) = tells (statusBy table r (m .head) (m .lent) out)
 
 -- what the next call is given: three entries hand back a head and have lists lent to be written, the others read

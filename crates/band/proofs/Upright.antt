@@ -13,13 +13,13 @@ use lib.IntN.{pos}
 use lib.Ieee.{Float, nan, inf, fin, binary64, add, lt, ofInt}
 use Rattle.refusal.specs.Lent.{over}
 use Rattle.refusal.specs.Refusal.{firstOf}
-use Rattle.ranges.specs.RangeVector.{Range, Ranges, ranges, settled, shifted, scaled, rangeAt, overAll, cascadeTo, unequal, shorter}
+use Rattle.ranges.specs.RangeVector.{Range, Ranges, ranges, settled, shifted, scaled, rangeAt, overAll, cascadeTo}
 use Rattle.ranges.proofs.RangeLaws.{Ordered, SameLengths, cascadeTo-lengths, cascadeTo-ordered}
 use Rattle.trcf.specs.Lists.{tabulate}
 use Rattle.trcf.specs.Types.{augments, isGap}
 use Rattle.trcf.specs.Transformer.{Transformer, invertedForecast}
 use Rattle.trcf.specs.Settings.{Settings, transformer, dimension}
-use Rattle.trcf.specs.Calls.{Forecast, invertExtrapolation, lookahead, forecastUnfit, forecastOutputShort, table, rows}
+use Rattle.trcf.specs.Calls.{Forecast, invertExtrapolation, lookahead, sizesOf, forecastUnfit, forecastOutputShort, forecastTable, table, rows}
 use Rattle.trcf.specs.Preprocessor.{State, Answer, refused, turned, accepted, answer, refusal, reply, previous, timescale, timedrift, fronts, backs, invertTimes, numbersOf, timesOf, turnedBack}
 use Rattle.trcf.specs.Steps.Inverting.{timeFactor, timeBy, timesBy, stretched}
 use Rattle.trcf.proofs.FitLaws.{tabulate-length}
@@ -223,9 +223,9 @@ module _ (above : Bool) (w : State) (v u : Ranges) (e : AgreeAll above v u) wher
 -- ---- an accepted call
 
 -- three lists of one length are what row 16 asks for in every mode
-unrefused : (s : Settings) (c : Forecast) → firstOf ((forecastUnfit s (c .forecast), 16) ∷ (forecastOutputShort s c, 20) ∷ []) ≡ 0 → Long (length (c .forecast .values)) (c .forecast)
-unfolding forecastUnfit unequal
-unrefused s c e = go (eqb n u) (eqb n l) _ (forecastOutputShort s c) refl refl e
+unrefused : (s : Settings) (c : Forecast) → firstOf (forecastTable s (sizesOf c)) ≡ 0 → Long (length (c .forecast .values)) (c .forecast)
+unfolding forecastUnfit
+unrefused s c e = go (eqb n u) (eqb n l) _ (forecastOutputShort s (sizesOf c)) refl refl e
   where
     n : ℕ
     n = length (c .forecast .values)
@@ -334,7 +334,7 @@ record Accepted (w : State) (c r : Forecast) : Type 0 where
 accepted-of : (w : State) (c r : Forecast) → Turns w c r → Accepted w c r
 unfolding answer reply refusal rows table
 accepted-of w c r e =
-    let x = by (firstOf ((forecastUnfit (w .settings) (c .forecast), 16) ∷ (forecastOutputShort (w .settings) c, 20) ∷ [])) e in
+    let x = by (firstOf (forecastTable (w .settings) (sizesOf c))) e in
     record { even = unrefused (w .settings) c (x .0); left = x .1 }
   where
     by : (n : ℕ) → accepted n (turned (turnedBack w c)) (refused n) ≡ turned r → (n ≡ 0) × (turnedBack w c ≡ r)
@@ -342,7 +342,7 @@ accepted-of w c r e =
     by (suc n) e = let z : _≡_ {A = ℕ} 0 1 = cc in absurd (omega arith)
 
 pub band : Band
-unfolding refusal rows table forecastUnfit forecastOutputShort unequal shorter
+unfolding refusal rows table forecastUnfit forecastOutputShort
 band =
     record {
       upright = λ w c r e whole. let a = accepted-of w c r e in subst (UprightBand (w .settings) c) (a .left) (turned-upright w c (a .even) whole);

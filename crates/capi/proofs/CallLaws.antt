@@ -10,7 +10,7 @@ use borrow.Author.Tests.{lt-ltb, le-ltb}
 use Rattle.refusal.specs.Lent.{over}
 use Rattle.trcf.specs.Settings.{Settings, settingsRow}
 use Rattle.trcf.specs.Calls.{Call, Learn, Forecast}
-use Rattle.trcf.specs.Preprocessor.{accepted}
+use Rattle.trcf.specs.Preprocessor.{State, accepted}
 use Rattle.trcf.specs.View.{Lent, settingsOf, outcome, orElse, buildOf, drainOf, pointed, pointAfter, learnOutcome, learnNothing, learnAfter, Written, written, writeOf}
 use Rattle.trcf.specs.Extrapolation.{Extrapolation, extrapolation, extrapolationOf}
 use Rattle.trcf.specs.declared.types.TransformMethod.{TransformMethod}
@@ -78,9 +78,10 @@ module _ (t : List ℕ) (role : ℕ) (w : List ℕ) {n : ℕ} where
   learn-refused e l a c z =
       refused (granted t role (LEARN ∷ [])) w (learnTold w a (learnAfter (headOf w) l c)) (λ (r : ℕ). learnCalled r w l a (c .deviationsOut) (c .pastOut) (c .expectedOut)) n e z
 
-  pub write-refused : (l : Lent) (c : Call) (out : List Float) → n ≡ openRow (granted t role (needs c)) w → (n ≡ 0 → ⊥) → written n out ≡ writeAt t role w l c out
+  pub write-refused : (l : Lent) (c : Call) (f : State → List Float) (out : List Float) → n ≡ openRow (granted t role (needs c)) w → (n ≡ 0 → ⊥)
+      → written n out ≡ writeAt t role w l c f out
   unfolding writeAt
-  write-refused l c out e z = refused (granted t role (needs c)) w (writeOf (headOf w) l c out) (λ (r : ℕ). written r out) n e z
+  write-refused l c f out e z = refused (granted t role (needs c)) w (writeOf (headOf w) l c f out) (λ (r : ℕ). written r out) n e z
 
   pub extrapolation-refused : n ≡ openRow (granted t role (SEE ∷ [])) w → (st x : List Float) (ts : List ℕ) (c : Forecast) → (n ≡ 0 → ⊥)
       → extrapolation n c ≡ extrapolationAt t role w st x ts c
@@ -135,13 +136,14 @@ module _ (t : List ℕ) (role : ℕ) (w : List ℕ) {n : ℕ} where
         (p ∙ below t role (LEARN ∷ []) w n e z (learnAfter h l c') (learnNothing 22 h l c') ∙ (λ j. learnAfter (read z .is j) l (s j)))
         ∙ done (granted t role (LEARN ∷ [])) w (learnTold w a (learnAfter (headOf w) l c)) (λ (r : ℕ). learnCalled r w l a (c .deviationsOut) (c .pastOut) (c .expectedOut)) n e z
 
-    pub write-done : (l : Lent) (c : Call) (out : List Float) {o : Written} → n ≡ openRow (granted t role (needs c)) w → o ≡ writeBy t role h l c out → o ≡ writeAt t role w l c out
+    pub write-done : (l : Lent) (c : Call) (f : State → List Float) (out : List Float) {o : Written} → n ≡ openRow (granted t role (needs c)) w
+        → o ≡ writeBy t role h l c f out → o ≡ writeAt t role w l c f out
     unfolding writeAt
-    write-done l c out e p =
+    write-done l c f out e p =
         p
-        ∙ below t role (needs c) w n e z (writeOf h l c out) (written 22 out)
-        ∙ ap (λ (x : Preprocessor). writeOf x l c out) (read z .is)
-        ∙ done (granted t role (needs c)) w (writeOf (headOf w) l c out) (λ (r : ℕ). written r out) n e z
+        ∙ below t role (needs c) w n e z (writeOf h l c f out) (written 22 out)
+        ∙ ap (λ (x : Preprocessor). writeOf x l c f out) (read z .is)
+        ∙ done (granted t role (needs c)) w (writeOf (headOf w) l c f out) (λ (r : ℕ). written r out) n e z
 
     pub extrapolation-done : n ≡ openRow (granted t role (SEE ∷ [])) w → (st x : List Float) (ts : List ℕ) (c : Forecast) {o : Extrapolation}
         → o ≡ extrapolationBy t role h st x ts c → o ≡ extrapolationAt t role w st x ts c

@@ -1,16 +1,14 @@
 -- A preprocessor in words is the one by value: on the words of a head that `build` accepts, a call gives what it gives on the head, and leaves the
 -- words of the head after it. Assumes nothing.
 use Prim.Native.Nat.{ℕ, zero, suc}
-use mathlib.Core.Bool.{Bool, true, false, cond}
+use mathlib.Core.Bool.{true}
 use mathlib.Core.List.{List, [], _∷_, _++_}
 use mathlib.Core.Path.{_≡_, refl, sym, ap, _∙_}
 use lib.ListN.{length}
 use lib.Ieee.{Float}
-use Rattle.refusal.specs.Lent.{over}
-use Rattle.trcf.specs.Settings.{waiting}
 use Rattle.trcf.specs.Calls.{Learn, drain, shingledPoint, postProcess}
-use Rattle.trcf.specs.Preprocessor.{State, Answer, refused, absent, done, wrote, learnt, turned, told, accepted, change, reply, reading, drained, pointOf}
-use Rattle.trcf.specs.View.{outsideRow, Lent, view, counted, rowOf, headAfter, lentAfter, answerOf, drainOf, pointRead, pointAfter, learnRead, learnAfter}
+use Rattle.trcf.specs.Preprocessor.{State, accepted, change}
+use Rattle.trcf.specs.View.{outsideRow, Lent, view, counted, rowOf, headAfter, lentAfter, drainOf, pointAfter, learnAfter}
 use Rattle.trcf.specs.declared.head.Preprocessor.{Preprocessor}
 use Rattle.access.specs.declared.rights.Right.{Right}
 use Rattle.access.specs.declared.rights.Right.the-variants.{SEE, LEARN}
@@ -21,53 +19,11 @@ use Rattle.capi.proofs.HeadLaws.{head-back, in-use, counts-in-words}
 use Rattle.capi.proofs.CallLaws.{done as answered}
 
 module _ (h : Preprocessor) (rest : List ℕ) (v : State) where
+  -- the words after a call of the row r that makes of the head the state v
   after : (r : ℕ)
       → accepted r (countsOver (wordsOf h ++ rest) (accepted r (counted h v) h)) (wordsOf h ++ rest) ≡ wordsOf (accepted r (counted h v) h) ++ rest
   after zero = counts-in-words h rest (v .count) (v .valuesSeen) (v .internalTimestamp) (length (v .initialTimestamps))
   after (suc r) = refl
-
-  -- the words after a call of the row r that makes of the head the state v
-  words-after : {row r : ℕ} {b : Preprocessor} → row ≡ r → b ≡ accepted r (counted h v) h
-      → accepted row (countsOver (wordsOf h ++ rest) b) (wordsOf h ++ rest) ≡ wordsOf b ++ rest
-  words-after {row} {r} {b} e p =
-      (λ j. accepted (e j) (countsOver (wordsOf h ++ rest) (p j)) (wordsOf h ++ rest)) ∙ after r ∙ sym (ap (λ (x : Preprocessor). wordsOf x ++ rest) p)
-
--- ---- the row and the head that an answer is read with are the call's
-
-none-or-wrote : (b : Preprocessor) (k : Lent) (out v : List Float) (w : Bool) → pointRead b k out (cond w absent (wrote v)) .row ≡ 0
-none-or-wrote b k out v true = refl
-none-or-wrote b k out v false = refl
-
-point-row : (b : Preprocessor) (k : Lent) (h : Preprocessor) (l : Lent) (x : List Float) (t : ℕ) (out : List Float) (r : ℕ)
-    → pointRead b k out (accepted r (reply (view h l) (shingledPoint x t out)) (refused r)) .row ≡ r
-unfolding reply
-point-row b k h l x t out zero =
-    none-or-wrote b k out (over out (pointOf (drained (view h l)) (reading x t))) (waiting (view h l .settings) (view h l .valuesSeen))
-point-row b k h l x t out (suc r) = refl
-
-point-head : (b : Preprocessor) (k : Lent) (out : List Float) (a : Answer) → pointRead b k out a .head ≡ b
-point-head b k out (refused n) = refl
-point-head b k out absent = refl
-point-head b k out done = refl
-point-head b k out (wrote v) = refl
-point-head b k out (learnt a) = refl
-point-head b k out (turned a) = refl
-point-head b k out (told a) = refl
-
-learn-row : (b : Preprocessor) (k : Lent) (h : Preprocessor) (l : Lent) (c : Learn) (r : ℕ)
-    → learnRead b k c (accepted r (reply (view h l) (postProcess c)) (refused r)) .row ≡ r
-unfolding reply
-learn-row b k h l c zero = refl
-learn-row b k h l c (suc r) = refl
-
-learn-head : (b : Preprocessor) (k : Lent) (c : Learn) (a : Answer) → learnRead b k c a .head ≡ b
-learn-head b k c (refused n) = refl
-learn-head b k c absent = refl
-learn-head b k c done = refl
-learn-head b k c (wrote v) = refl
-learn-head b k c (learnt a) = refl
-learn-head b k c (turned a) = refl
-learn-head b k c (told a) = refl
 
 -- ---- the calls that change a preprocessor
 
@@ -90,7 +46,7 @@ module _ (table : List ℕ) (role : ℕ) (h : Preprocessor) (held : HeadFits h) 
       → pointAt table role (wordsOf h ++ rest) l x t g out
       ≡ pointCalled (pointAfter h l x t out .row) (wordsOf (pointAfter h l x t out .head) ++ rest) (pointAfter h l x t out .lent)
       (accepted (pointAfter h l x t out .row) (flag (pointAfter h l x t out .given)) g) (pointAfter h l x t out .out)
-  unfolding pointAt pointAfter headAfter answerOf
+  unfolding pointAt pointAfter headAfter
   point-in-words may l x t g out =
       let w = wordsOf h ++ rest in
       let c = shingledPoint x t out in
@@ -98,13 +54,13 @@ module _ (table : List ℕ) (role : ℕ) (h : Preprocessor) (held : HeadFits h) 
       sym (answered (granted table role (SEE ∷ LEARN ∷ [])) w (pointTold w g (pointAfter (headOf w) l x t out)) (λ (r : ℕ). pointCalled r w l g out) 0 (opens (SEE ∷ LEARN ∷ []) may) refl)
       ∙ ap (λ (y : Preprocessor). pointTold w g (pointAfter y l x t out)) (head-back h held rest)
       ∙ ap (λ (u : List ℕ). pointCalled (o .row) u (o .lent) (accepted (o .row) (flag (o .given)) g) (o .out))
-      (words-after h rest (change (view h l) c) (point-row (headAfter h l c) (lentAfter h l c) h l x t out (rowOf h l c)) (point-head (headAfter h l c) (lentAfter h l c) out (answerOf h l c)))
+      (after h rest (change (view h l) c) (rowOf h l c))
 
   pub learn-in-words : granted table role (LEARN ∷ []) ≡ true → (l : Lent) (a : AnomalyOut) (c : Learn)
       → learnAt table role (wordsOf h ++ rest) l a c
       ≡ learnCalled (learnAfter h l c .row) (wordsOf (learnAfter h l c .head) ++ rest) (learnAfter h l c .lent) (anomalyTold a (learnAfter h l c))
       (learnAfter h l c .deviationsOut) (learnAfter h l c .pastOut) (learnAfter h l c .expectedOut)
-  unfolding learnAt learnAfter headAfter answerOf
+  unfolding learnAt learnAfter headAfter
   learn-in-words g l a c =
       let w = wordsOf h ++ rest in
       let q = postProcess c in
@@ -112,4 +68,4 @@ module _ (table : List ℕ) (role : ℕ) (h : Preprocessor) (held : HeadFits h) 
       sym (answered (granted table role (LEARN ∷ [])) w (learnTold w a (learnAfter (headOf w) l c)) (λ (r : ℕ). learnCalled r w l a (c .deviationsOut) (c .pastOut) (c .expectedOut)) 0 (opens (LEARN ∷ []) g) refl)
       ∙ ap (λ (y : Preprocessor). learnTold w a (learnAfter y l c)) (head-back h held rest)
       ∙ ap (λ (u : List ℕ). learnCalled (o .row) u (o .lent) (anomalyTold a o) (o .deviationsOut) (o .pastOut) (o .expectedOut))
-      (words-after h rest (change (view h l) q) (learn-row (headAfter h l q) (lentAfter h l q) h l c (rowOf h l q)) (learn-head (headAfter h l q) (lentAfter h l q) c (answerOf h l q)))
+      (after h rest (change (view h l) q) (rowOf h l q))

@@ -10,7 +10,7 @@ use Rattle.refusal.specs.Lent.{over}
 use Rattle.trcf.specs.Types.{methodNumber}
 use Rattle.trcf.specs.Settings.{Settings, settingsRow}
 use Rattle.trcf.specs.Calls.{Call, Learn, Forecast, shingledPoint, postProcess, drain, invertExtrapolation}
-use Rattle.trcf.specs.Preprocessor.{accepted}
+use Rattle.trcf.specs.Preprocessor.{State, accepted}
 use Rattle.trcf.specs.View.{Lent, settingsOf, Outcome, orElse, buildOf, drainOf, PointOutcome, pointAfter, LearnOutcome, learnAfter, Written, written, writeOf}
 use Rattle.trcf.specs.Extrapolation.{Extrapolation, extrapolation, extrapolationOf}
 use Rattle.trcf.specs.declared.head.StatusAnswer.{StatusAnswer}
@@ -116,8 +116,8 @@ learnAt table role w l a c =
 
 -- ---- calls that write lists and change no state
 
-unfoldable pub writeAt : List ℕ → ℕ → List ℕ → Lent → Call → List Float → Written
-writeAt table role w l c out = onHead (granted table role (needs c)) w (writeOf (headOf w) l c out) (λ n. written n out)
+unfoldable pub writeAt : List ℕ → ℕ → List ℕ → Lent → Call → (State → List Float) → List Float → Written
+writeAt table role w l c f out = onHead (granted table role (needs c)) w (writeOf (headOf w) l c f out) (λ n. written n out)
 
 unfoldable pub extrapolationAt : List ℕ → ℕ → List ℕ → List Float → List Float → List ℕ → Forecast → Extrapolation
 extrapolationAt table role w st x ts c = onHead (granted table role (needs (invertExtrapolation c))) w (extrapolationOf (headOf w) st x ts c) (λ n. extrapolation n c)

@@ -12,6 +12,7 @@ use access::snapshots::save;
 ghost use mathlib.Core.Path.{_≡_};
 ghost use Rattle.ranges.specs.RangeVector.{ranges};
 ghost use Rattle.trcf.specs.Calls.{transform, scale, shift, status};
+ghost use Rattle.trcf.specs.Preprocessor.{reading, transformOf, scaleOf, shiftOf, deviations};
 ghost use Rattle.trcf.specs.View.{lent, written};
 ghost use Rattle.trcf.specs.Extrapolation.{extrapolation, forecast};
 ghost use Rattle.snapshot.specs.Save.{saveOutcome};
@@ -33,7 +34,7 @@ pub extern "C" fn veerycouch_transform(
     timestamp: u64,
     output: &mut [f32],
 ) -> u64
-    ensures { λ r. ⌜ written r (now (output .exit)) ≡ writeAt (now (table .entry)) role (now (head .entry)) (lent (now (statistics .entry)) (now («last_shingled_input» .entry)) (now («last_shingled_point» .entry)) (now («previous_timestamps» .entry)) (now («initial_values» .entry)) (now («initial_timestamps» .entry))) (transform (now (input .entry)) timestamp (now (output .entry))) (now (output .entry)) ⌝ }
+    ensures { λ r. ⌜ written r (now (output .exit)) ≡ writeAt (now (table .entry)) role (now (head .entry)) (lent (now (statistics .entry)) (now («last_shingled_input» .entry)) (now («last_shingled_point» .entry)) (now («previous_timestamps» .entry)) (now («initial_values» .entry)) (now («initial_timestamps» .entry))) (transform (now (input .entry)) timestamp (now (output .entry))) (transformOf (reading (now (input .entry)) timestamp)) (now (output .entry)) ⌝ }
 {
     let read = open_head(may(table, role, Right::SEE), head);
     let bad = read.row;
@@ -71,7 +72,7 @@ pub extern "C" fn veerycouch_scale(
     initial_timestamps: &[u64],
     output: &mut [f32],
 ) -> u64
-    ensures { λ r. ⌜ written r (now (output .exit)) ≡ writeAt (now (table .entry)) role (now (head .entry)) (lent (now (statistics .entry)) (now («last_shingled_input» .entry)) (now («last_shingled_point» .entry)) (now («previous_timestamps» .entry)) (now («initial_values» .entry)) (now («initial_timestamps» .entry))) (scale (now (output .entry))) (now (output .entry)) ⌝ }
+    ensures { λ r. ⌜ written r (now (output .exit)) ≡ writeAt (now (table .entry)) role (now (head .entry)) (lent (now (statistics .entry)) (now («last_shingled_input» .entry)) (now («last_shingled_point» .entry)) (now («previous_timestamps» .entry)) (now («initial_values» .entry)) (now («initial_timestamps» .entry))) (scale (now (output .entry))) scaleOf (now (output .entry)) ⌝ }
 {
     let read = open_head(may(table, role, Right::SEE), head);
     let bad = read.row;
@@ -107,7 +108,7 @@ pub extern "C" fn veerycouch_shift(
     initial_timestamps: &[u64],
     output: &mut [f32],
 ) -> u64
-    ensures { λ r. ⌜ written r (now (output .exit)) ≡ writeAt (now (table .entry)) role (now (head .entry)) (lent (now (statistics .entry)) (now («last_shingled_input» .entry)) (now («last_shingled_point» .entry)) (now («previous_timestamps» .entry)) (now («initial_values» .entry)) (now («initial_timestamps» .entry))) (shift (now (output .entry))) (now (output .entry)) ⌝ }
+    ensures { λ r. ⌜ written r (now (output .exit)) ≡ writeAt (now (table .entry)) role (now (head .entry)) (lent (now (statistics .entry)) (now («last_shingled_input» .entry)) (now («last_shingled_point» .entry)) (now («previous_timestamps» .entry)) (now («initial_values» .entry)) (now («initial_timestamps» .entry))) (shift (now (output .entry))) shiftOf (now (output .entry)) ⌝ }
 {
     let read = open_head(may(table, role, Right::SEE), head);
     let bad = read.row;
@@ -143,7 +144,7 @@ pub extern "C" fn veerycouch_difference_deviations(
     initial_timestamps: &[u64],
     output: &mut [f32],
 ) -> u64
-    ensures { λ r. ⌜ written r (now (output .exit)) ≡ writeAt (now (table .entry)) role (now (head .entry)) (lent (now (statistics .entry)) (now («last_shingled_input» .entry)) (now («last_shingled_point» .entry)) (now («previous_timestamps» .entry)) (now («initial_values» .entry)) (now («initial_timestamps» .entry))) (status (now (output .entry))) (now (output .entry)) ⌝ }
+    ensures { λ r. ⌜ written r (now (output .exit)) ≡ writeAt (now (table .entry)) role (now (head .entry)) (lent (now (statistics .entry)) (now («last_shingled_input» .entry)) (now («last_shingled_point» .entry)) (now («previous_timestamps» .entry)) (now («initial_values» .entry)) (now («initial_timestamps» .entry))) (status (now (output .entry))) deviations (now (output .entry)) ⌝ }
 {
     let read = open_head(may(table, role, Right::SEE), head);
     let bad = read.row;

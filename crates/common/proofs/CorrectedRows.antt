@@ -12,7 +12,7 @@ use lib.Ieee.Fits.{and-l, and-r}
 use Rattle.common.specs.declared.deviation.Deviation.{Deviation}
 use Rattle.common.specs.declared.deviation.DeviationResult.the-variants.{Ok}
 use Rattle.refusal.specs.Refusal.{firstOf}
-use Rattle.common.specs.Deviation.{deviationRow, deviationResultBy, zero64}
+use Rattle.common.specs.Deviation.{deviationRow, deviationAnswer, zero64}
 use Rattle.common.specs.WholeScores.{wholeFloat}
 use Rattle.common.specs.Corrected.{readingLimit, lengthLimit, wholeWithin, correctionRows, correctedStatistic, correctedOf}
 
@@ -36,7 +36,7 @@ passed-rows s wrong right a =
 
 pub accepted : (s : Deviation) (wrong right : Float) → Accepted s wrong right → correctedOf s wrong right ≡ Ok (correctedStatistic s wrong right)
 unfolding correctedOf
-accepted s wrong right a = ap (λ (n : ℕ). deviationResultBy n (correctedStatistic s wrong right)) (sym (passed-rows s wrong right a))
+accepted s wrong right a = ap (λ (n : ℕ). deviationAnswer n (correctedStatistic s wrong right)) (sym (passed-rows s wrong right a))
 
 -- and the other way round
 passed : (b : Bool) (n : ℕ) → cond b 26 n ≡ 0 → (b ≡ false) × (n ≡ 0)
@@ -67,7 +67,7 @@ rows-passed s wrong right h0 =
       squares-up = not-false _ (h9 .0);
     }
 
-answered-row : (n : ℕ) (s : Deviation) → deviationRow (deviationResultBy n s) ≡ n
+answered-row : (n : ℕ) (s : Deviation) → deviationRow (deviationAnswer n s) ≡ n
 answered-row zero s = refl
 answered-row (suc n) s = refl
 

@@ -11,7 +11,7 @@ use Rattle.refusal.specs.Refusal.{firstOf}
 use Rattle.common.specs.declared.deviation.Deviation.{Deviation}
 use Rattle.common.specs.declared.deviation.DeviationResult.{DeviationResult}
 use Rattle.common.specs.declared.deviation.DeviationResult.the-variants.{Ok, Err}
-use Rattle.common.specs.Deviation.{zero64, statistic, deviationResultBy, emptyWith, deviationUpdate, meanOf}
+use Rattle.common.specs.Deviation.{zero64, statistic, deviationAnswer, emptyWith, deviationUpdate, meanOf}
 use Rattle.common.specs.WholeScores.{wholeFloat}
 
 -- "both whole-number f32 of size at most 65,536"
@@ -71,7 +71,7 @@ correctedStatistic s wrong right =
     (s .count)
 
 unfoldable pub correctedOf : Deviation → Float → Float → DeviationResult
-correctedOf s wrong right = deviationResultBy (firstOf (correctionRows s wrong right)) (correctedStatistic s wrong right)
+correctedOf s wrong right = deviationAnswer (firstOf (correctionRows s wrong right)) (correctedStatistic s wrong right)
 
 -- ---- what is proved of it, besides that the code gives `correctedOf`: the theorems stand in proofs/CorrectedTheorems.antt
 

@@ -1,12 +1,12 @@
 -- The running statistic: document 01, 'deviation.rs', in the source's order of operations.
-use Prim.Native.Nat.{ℕ, zero, suc, _+_}
+use Prim.Native.Nat.{ℕ, _+_}
 use mathlib.Core.Bool.{Bool, cond, not, _&&_}
 use mathlib.Core.List.{[], _∷_}
 use lib.Dec.{ltb, leb}
 use lib.IntN.{pos}
 use lib.Ieee.{Float, binary64, add, sub, mul, div, lt, le, eq, ofInt, ofBits}
 use Rattle.numeric.specs.Root.{rootOf}
-use Rattle.refusal.specs.Refusal.{firstOf}
+use Rattle.refusal.specs.Refusal.{firstOf, accepted}
 use Rattle.common.specs.declared.deviation.Deviation.{Deviation}
 use Rattle.common.specs.declared.deviation.DeviationResult.{DeviationResult}
 use Rattle.common.specs.declared.deviation.DeviationResult.the-variants.{Ok, Err}
@@ -31,10 +31,9 @@ abbrev pub deviationRow : DeviationResult → ℕ
 deviationRow (Ok s) = 0
 deviationRow (Err n) = n
 
--- by the number of the row, 0 for none
-abbrev pub deviationResultBy : ℕ → Deviation → DeviationResult
-deviationResultBy zero s = Ok s
-deviationResultBy (suc n) s = Err (suc n)
+-- the statistic, or the number of the row
+abbrev pub deviationAnswer : ℕ → Deviation → DeviationResult
+deviationAnswer n s = accepted n (Ok s) (Err n)
 
 -- row 6: "the discount of a new or (+) created statistic, outside 0 ≤ it < 1"
 unfoldable pub outsideUnit : Float → Bool
@@ -46,11 +45,11 @@ abbrev pub emptyWith : Float → Deviation
 emptyWith d = statistic d zero64 zero64 zero64 0
 
 unfoldable pub deviationNew : Float → DeviationResult
-deviationNew d = deviationResultBy (firstOf ((outsideUnit d, 6) ∷ [])) (emptyWith d)
+deviationNew d = deviationAnswer (firstOf ((outsideUnit d, 6) ∷ [])) (emptyWith d)
 
 -- row 18: "statistic `create`: count outside 0 to" the limit
 unfoldable pub deviationCreate : Float → Float → Float → Float → ℕ → DeviationResult
-deviationCreate d w s q n = deviationResultBy (firstOf ((outsideUnit d, 6) ∷ (ltb countLimit n, 18) ∷ [])) (statistic d w s q n)
+deviationCreate d w s q n = deviationAnswer (firstOf ((outsideUnit d, 6) ∷ (ltb countLimit n, 18) ∷ [])) (statistic d w s q n)
 
 -- the source's `reset`: all but the discount begins anew
 abbrev pub deviationReset : Deviation → Deviation
@@ -82,10 +81,10 @@ stepBy f s x =
 
 -- row 18: "count would pass" the limit
 unfoldable pub updateBy : Float → Deviation → Float → DeviationResult
-updateBy f s x = deviationResultBy (firstOf ((leb countLimit (s .count), 18) ∷ [])) (stepBy f s x)
+updateBy f s x = deviationAnswer (firstOf ((leb countLimit (s .count), 18) ∷ [])) (stepBy f s x)
 
 unfoldable pub deviationUpdate : Deviation → Float → DeviationResult
-deviationUpdate s x = deviationResultBy (firstOf ((leb countLimit (s .count), 18) ∷ [])) (stepOf s x)
+deviationUpdate s x = deviationAnswer (firstOf ((leb countLimit (s .count), 18) ∷ [])) (stepOf s x)
 
 unfoldable pub isEmpty : Deviation → Bool
 isEmpty s = le (s .weight) zero64
@@ -111,4 +110,4 @@ deviationSetDiscount s d = statistic d (s .weight) (s .sum) (s .«sum_squared»)
 
 -- row 18 beyond the limit, as `create` has it
 unfoldable pub deviationSetCount : Deviation → ℕ → DeviationResult
-deviationSetCount s n = deviationResultBy (firstOf ((ltb countLimit n, 18) ∷ [])) (statistic (s .discount) (s .weight) (s .sum) (s .«sum_squared») n)
+deviationSetCount s n = deviationAnswer (firstOf ((ltb countLimit n, 18) ∷ [])) (statistic (s .discount) (s .weight) (s .sum) (s .«sum_squared») n)

@@ -210,7 +210,7 @@ settings =
 settings-valid : Valid settings
 unfolding computing
 settings-valid = record {
-  accepted = refl;
+  unrefused = refl;
   machine = record { stopFits = omega arith; decayFits = tt; weightTimeFits = tt; weightsFit = (tt, (tt, tt)); codesFit = (omega arith, (omega arith, tt)) };
 }
 

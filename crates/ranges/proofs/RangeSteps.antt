@@ -11,15 +11,15 @@ use lib.Dec.{eqb}
 use lib.ListN.{length, getD, drop, drop-of-length-le}
 use lib.Seq.{drop-cons, getD-append-add}
 use lib.Ieee.{Float, nan, Format, le}
-use Rattle.ranges.specs.RangeVector.{Range, Ranges, ranges, rangeAt, putAt, shifted, cascadeTo, rangeOutcome, rangeOutcomeBy, inOrder}
+use Rattle.ranges.specs.RangeVector.{Range, Ranges, ranges, rangeAt, putAt, shifted, cascadeTo, rangeOutcome, rangeAnswer, inOrder}
 
 -- ---- how a call answers: by the number of its refusal, 0 for none
 
-pub refused : (row n : ℕ) (old new : Ranges) → row ≡ n → (row ≡ 0 → ⊥) → rangeOutcome row old ≡ rangeOutcomeBy n old new
+pub refused : (row n : ℕ) (old new : Ranges) → row ≡ n → (row ≡ 0 → ⊥) → rangeOutcome row old ≡ rangeAnswer n old new
 refused row zero old new e taken = absurd (taken e)
 refused row (suc n) old new e taken = ap (λ (k : ℕ). rangeOutcome k old) e
 
-pub done : (row n : ℕ) (old new left : Ranges) → row ≡ n → row ≡ 0 → left ≡ new → rangeOutcome 0 left ≡ rangeOutcomeBy n old new
+pub done : (row n : ℕ) (old new left : Ranges) → row ≡ n → row ≡ 0 → left ≡ new → rangeOutcome 0 left ≡ rangeAnswer n old new
 done row zero old new left e z h = ap (rangeOutcome 0) h
 done row (suc n) old new left e z h = absurd (omega arith)
 

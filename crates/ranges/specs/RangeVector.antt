@@ -5,7 +5,7 @@ use mathlib.Core.List.{List, [], _∷_, _++_}
 use lib.Dec.{ltb, leb, eqb}
 use lib.ListN.{length, getD, set, replicate}
 use lib.Ieee.{Float, nan, Format, add, mul, lt, le, ofBits}
-use Rattle.refusal.specs.Refusal.{firstOf}
+use Rattle.refusal.specs.Refusal.{firstOf, accepted}
 use Rattle.refusal.specs.Lent.{over}
 
 -- ---- one index
@@ -54,19 +54,18 @@ abbrev pub rangeOutcome : ℕ → Ranges → RangeOutcome
 rangeOutcome n v = record { row = n; left = v }
 
 -- a refusal leaves the lists as they were
-abbrev pub rangeOutcomeBy : ℕ → Ranges → Ranges → RangeOutcome
-rangeOutcomeBy zero old new = rangeOutcome 0 new
-rangeOutcomeBy (suc n) old new = rangeOutcome (suc n) old
+abbrev pub rangeAnswer : ℕ → Ranges → Ranges → RangeOutcome
+rangeAnswer n old new = rangeOutcome n (accepted n new old)
 
 -- row 14: "range `shift`, `scale`: index past any of the three lists"
 unfoldable pub pastAny : Ranges → ℕ → Bool
 pastAny v i = leb (length (v .values)) i || (leb (length (v .upper)) i || leb (length (v .lower)) i)
 
 unfoldable pub rangeShift : Format → Ranges → ℕ → Float → RangeOutcome
-rangeShift f v i x = rangeOutcomeBy (firstOf ((pastAny v i, 14) ∷ [])) v (putAt v i (shifted f (rangeAt v i) x))
+rangeShift f v i x = rangeAnswer (firstOf ((pastAny v i, 14) ∷ [])) v (putAt v i (shifted f (rangeAt v i) x))
 
 unfoldable pub rangeScale : Format → Ranges → ℕ → Float → RangeOutcome
-rangeScale f v i x = rangeOutcomeBy (firstOf ((pastAny v i, 14) ∷ [])) v (putAt v i (scaled f (rangeAt v i) x))
+rangeScale f v i x = rangeAnswer (firstOf ((pastAny v i, 14) ∷ [])) v (putAt v i (scaled f (rangeAt v i) x))
 
 -- ---- the cascade
 
@@ -87,7 +86,7 @@ unblocked b n = eqb b 0 || (eqb n 0 || not (eqb (n % b) 0))
 
 unfoldable pub rangeCascadedAdd : Format → List Float → Ranges → RangeOutcome
 rangeCascadedAdd f base v =
-    rangeOutcomeBy (firstOf ((unequal v || unblocked (length base) (length (v .values)), 16) ∷ [])) v
+    rangeAnswer (firstOf ((unequal v || unblocked (length base) (length (v .values)), 16) ∷ [])) v
     (cascadeTo f base (length (v .values)) v)
 
 -- ---- making one, in lent lists
@@ -102,10 +101,10 @@ overAll old new = ranges (over (old .values) (new .values)) (over (old .upper) (
 unfoldable pub rangeNew : Format → ℕ → Ranges → RangeOutcome
 rangeNew f n v =
     let z = replicate n (ofBits f 0) in
-    rangeOutcomeBy (firstOf ((shorter v n, 20) ∷ [])) v (overAll v (ranges z z z))
+    rangeAnswer (firstOf ((shorter v n, 20) ∷ [])) v (overAll v (ranges z z z))
 
 unfoldable pub rangeFrom : List Float → Ranges → RangeOutcome
-rangeFrom x v = rangeOutcomeBy (firstOf ((shorter v (length x), 20) ∷ [])) v (overAll v (ranges x x x))
+rangeFrom x v = rangeAnswer (firstOf ((shorter v (length x), 20) ∷ [])) v (overAll v (ranges x x x))
 
 -- "`create` demands lower ≤ values ≤ upper everywhere."
 unfoldable pub inOrder : List Float → List Float → List Float → Bool
@@ -117,5 +116,5 @@ inOrder (v ∷ vs) (u ∷ us) [] = true
 -- row 17: "bounds crossed or not-a-number"
 unfoldable pub rangeCreate : Ranges → Ranges → RangeOutcome
 rangeCreate x v =
-    rangeOutcomeBy (firstOf ((unequal x, 16) ∷ (not (inOrder (x .values) (x .upper) (x .lower)), 17) ∷ (shorter v (length (x .values)), 20) ∷ [])) v
+    rangeAnswer (firstOf ((unequal x, 16) ∷ (not (inOrder (x .values) (x .upper) (x .lower)), 17) ∷ (shorter v (length (x .values)), 20) ∷ [])) v
     (overAll v x)

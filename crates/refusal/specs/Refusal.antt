@@ -1,5 +1,5 @@
 -- How a call is refused: document 01, 'Numbers the mechanic may see': "Checked in this order".
-use Prim.Native.Nat.{ℕ}
+use Prim.Native.Nat.{ℕ, zero, suc}
 use mathlib.Core.Bool.{Bool, cond}
 use mathlib.Core.List.{List, [], _∷_}
 
@@ -7,3 +7,9 @@ use mathlib.Core.List.{List, [], _∷_}
 abbrev pub firstOf : List (Bool × ℕ) → ℕ
 firstOf [] = 0
 firstOf (r ∷ rs) = cond (r .0) (r .1) (firstOf rs)
+
+module _ {ℓ} {A : Type ℓ} where
+  -- by the number of the row: the first where none refuses, else the second
+  abbrev pub accepted : ℕ → A → A → A
+  accepted zero a b = a
+  accepted (suc n) a b = b

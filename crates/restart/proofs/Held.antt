@@ -50,7 +50,7 @@ module _ (s : Settings) (ok : Valid s) where
   sane : (m : Held) (w : State) → Holds s m w → headRow (settingsOf (m .head)) ≡ 0
   unfolding headRow
   sane m w k =
-      let c = rows-of s (ok .accepted) in
+      let c = rows-of s (ok .unrefused) in
       ap (λ (x : Settings). headRow x) (k .settled) ∙ none-refuses (headTable s) (c .1 .0, (c .1 .1 .0, (c .1 .1 .1 .0, (c .1 .1 .1 .1 .1 .1 .1 .0, tt))))
 
   module _ (m : Held) (w : State) (k : Holds s m w) (f : Form w) (e : w .settings ≡ s) where
@@ -189,7 +189,7 @@ module _ (s : Settings) (ok : Valid s) where
 
     built-as : buildOf s l ≡ outcome 0 (headFrom s) (writtenOver (fresh s) l)
     unfolding buildOf buildRow
-    built-as = rw (ok .accepted, new-row)
+    built-as = rw (ok .unrefused, new-row)
 
     pub built-holds : Holds s (builtOn s l) (fresh s)
     unfolding fresh

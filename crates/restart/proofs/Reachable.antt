@@ -98,7 +98,7 @@ values-length n (r ∷ rs) e = simp (length-append, suc-mul) (omega (arith, e .0
 pub k>0-of : (s : Settings) → Valid s → 0 < s .k
 unfolding settingsRow
 k>0-of s ok =
-    let e : eqb (s .k) 0 ≡ false = clear (settingsTable s) refl (ok .accepted) .1 .1 .0 in
+    let e : eqb (s .k) 0 ≡ false = clear (settingsTable s) refl (ok .unrefused) .1 .1 .0 in
     omega (arith, eqb-false)
 
 -- ---- what the form needs of the entries

@@ -146,7 +146,7 @@ times = record { mode = «TIME_AUGMENTED»; method = NORMALIZE; d = 1; k = 2; st
 times-valid : Valid times
 unfolding computing
 times-valid = record {
-  accepted = refl;
+  unrefused = refl;
   machine = record { stopFits = omega arith; decayFits = tt; weightTimeFits = tt; weightsFit = (tt, tt); codesFit = (omega arith, tt) };
 }
 

@@ -101,7 +101,7 @@ strands = record { mode = STANDARD; method = NORMALIZE; d = 1; k = 2; start = 1;
 pub strands-valid : Valid strands
 unfolding computing
 strands-valid = record {
-  accepted = refl;
+  unrefused = refl;
   machine = record { stopFits = omega arith; decayFits = tt; weightTimeFits = tt; weightsFit = (tt, tt); codesFit = (omega arith, tt) };
 }
 
@@ -322,7 +322,7 @@ drains = record { mode = «TIME_AUGMENTED»; method = «NORMALIZE_DIFFERENCE»; 
 drains-valid : Valid drains
 unfolding computing
 drains-valid = record {
-  accepted = refl;
+  unrefused = refl;
   machine = record { stopFits = omega arith; decayFits = tt; weightTimeFits = tt; weightsFit = (tt, (tt, tt)); codesFit = (omega arith, (omega arith, tt)) };
 }
 
@@ -443,7 +443,7 @@ differs = record { mode = STANDARD; method = DIFFERENCE; d = 1; k = 1; start = 3
 differs-valid : Valid differs
 unfolding computing
 differs-valid = record {
-  accepted = refl;
+  unrefused = refl;
   machine = record { stopFits = omega arith; decayFits = tt; weightTimeFits = tt; weightsFit = (tt, tt); codesFit = (omega arith, tt) };
 }
 
@@ -487,7 +487,7 @@ largest =
 largest-valid : Valid largest
 unfolding computing
 largest-valid = record {
-  accepted = refl;
+  unrefused = refl;
   machine = record {
     stopFits = omega arith;
     decayFits = tt;
@@ -523,7 +523,7 @@ gapped = record { mode = «GAP_AUGMENTED»; method = NORMALIZE; d = 1; k = 2; st
 gapped-valid : Valid gapped
 unfolding computing
 gapped-valid = record {
-  accepted = refl;
+  unrefused = refl;
   machine = record { stopFits = omega arith; decayFits = tt; weightTimeFits = tt; weightsFit = (tt, tt); codesFit = (omega arith, tt) };
 }
 

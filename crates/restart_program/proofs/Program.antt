@@ -2,23 +2,25 @@
 use Prim.Native.Nat.{ℕ, zero, suc, _*_, _≤_}
 use native.Mathlib.Omega.{arith}
 use mathlib.Core.Path.{_≡_, refl, sym, ap, _∙_, subst}
-use mathlib.Core.Bool.{Bool, true, false, _||_, cond}
+use mathlib.Core.Bool.{Bool, true, false, not, _||_, cond}
 use mathlib.Core.List.{List, [], _∷_, _++_, map, head-eq-of-cons-eq, tail-eq-of-cons-eq}
 use mathlib.Core.Option.{Option, none, some}
 use borrow.Author.Tests.{ltb-false, le-ltb}
 use lib.Dec.{ltb}
 use lib.ListN.{length, replicate, length-replicate}
 use lib.Ieee.{Float}
+use Rattle.refusal.specs.Lent.{over}
 use Rattle.trcf.specs.Fit.{All}
 use Rattle.trcf.specs.Transformer.{zero32}
 use Rattle.trcf.specs.Settings.{Settings, Valid, block, dimension, waiting}
-use Rattle.trcf.specs.Calls.{Learn, Call, Machine, shingledPoint, postProcess, drain, transform, invertExtrapolation, scale, shift, status, rows, table, given}
-use Rattle.trcf.specs.Preprocessor.{State, Answer, refused, absent, done, wrote, learnt, turned, told, Anomaly, Learned, Status, statisticsLength, change, reply, accepted, statusOf, facts}
-use Rattle.trcf.specs.View.{Lent, lent, optional, settingsOf, view, counted, writtenOver, headRow, initialRoom, lentShort, gettersOf, countersUnfit, shortRow, lentRow, rowOf, orElse, answerOf, headAfter, lentAfter, Roomy, Fitted, written, writtenOf, writeOf, statusRead, statusAfter, drainOf, pointRead, pointAfter, learnRead, learnAfter, anomalyTime, anomalyLikelihood}
-use Rattle.trcf.specs.Extrapolation.{extrapolationRead}
+use Rattle.trcf.specs.Calls.{Learn, Forecast, Call, Machine, shingledPoint, postProcess, drain, transform, invertExtrapolation, scale, shift, status, rows, table, given}
+use Rattle.trcf.specs.Preprocessor.{State, Answer, refused, absent, done, wrote, learnt, turned, told, Anomaly, Learned, Status, statisticsLength, change, reply, accepted, statusOf, facts, reading, transformOf, scaleOf, shiftOf, pointReply, learnReply, learnedNothing, turnedBack}
+use Rattle.trcf.specs.View.{Lent, lent, optional, settingsOf, view, counted, writtenOver, headRow, initialRoom, lentShort, gettersOf, countersUnfit, shortRow, lentRow, rowOf, orElse, answerOf, headAfter, lentAfter, Roomy, Fitted, written, writeOf, noStatus, statusAfter, drainOf, pointAfter, learnAfter, anomalyTime, anomalyLikelihood}
+use Rattle.trcf.specs.Extrapolation.{extrapolation, viewed, extrapolationRow, extrapolationOf}
 use Rattle.trcf.specs.declared.head.Preprocessor.{Preprocessor}
 use Rattle.trcf.proofs.FitLaws.{all-append}
 use Rattle.trcf.proofs.RefusalLaws.{misfit-few, misfit-room, misfit-counted}
+use Rattle.trcf.proofs.OutcomeLaws.{statusBy}
 use Rattle.trcf.proofs.StateLaws.{same-head, same-lent}
 use Rattle.trcf.proofs.ExtrapolationLaws.{extrapolation-answers}
 use Rattle.snapshot.specs.Save as save
@@ -27,7 +29,7 @@ use Rattle.restart.specs.History.{Entry, entries, enter, historyState, historyR
 use Rattle.restart.specs.Statement.{panelTold}
 use Rattle.restart.specs.Held.{Held, held, builtOn, heldNext, heldRun, heldAnswers, heldPanels, heldShown, savedTo, textIn, restoredOn, HeldRestart}
 use Rattle.restart.proofs.Held.{held-demand-3}
-use Rattle.restart_program.specs.Program.{Return, learn, drains, writes, turns, tells, pointReturn, learnReturn, returnOf, leftBy, leftByAll, returns, anomalyRead, answerRead, returnedPanels, shownGetters, ProgramDemand3, listOf, Arguments}
+use Rattle.restart_program.specs.Program.{Return, point, learn, drains, writes, turns, tells, pointReturn, learnReturn, returnOf, leftBy, leftByAll, returns, anomalyRead, answerRead, returnedPanels, shownGetters, ProgramDemand3, listOf, Arguments}
 
 -- ---- a row 0 of a call says that what is lent is long enough
 
@@ -110,28 +112,10 @@ module _ (m : Held) where
           rw (q, e) (λ j. held (same-head h l f j) (same-lent h l f j))
       go (suc r) q = rw q
 
-  point-head : (a : Preprocessor) (b : Lent) (out : List Float) (v : Answer) → held (pointRead a b out v .head) (pointRead a b out v .lent) ≡ held a b
-  point-head a b out (refused n) = refl
-  point-head a b out absent = refl
-  point-head a b out done = refl
-  point-head a b out (wrote v) = refl
-  point-head a b out (learnt q) = refl
-  point-head a b out (turned q) = refl
-  point-head a b out (told q) = refl
-
-  learn-head : (a : Preprocessor) (b : Lent) (c : Learn) (v : Answer) → held (learnRead a b c v .head) (learnRead a b c v .lent) ≡ held a b
-  learn-head a b c (refused n) = refl
-  learn-head a b c absent = refl
-  learn-head a b c done = refl
-  learn-head a b c (wrote v) = refl
-  learn-head a b c (learnt q) = refl
-  learn-head a b c (turned q) = refl
-  learn-head a b c (told q) = refl
-
   pub left-is : (c : Call) → leftBy m c ≡ heldNext m c
   unfolding pointAfter learnAfter drainOf change
-  left-is (shingledPoint x t out) = point-head _ _ out (answerOf h l (shingledPoint x t out))
-  left-is (postProcess q) = learn-head _ _ q (answerOf h l (postProcess q))
+  left-is (shingledPoint x t out) = refl
+  left-is (postProcess q) = refl
   left-is drain = refl
   left-is (transform x t out) = reads (transform x t out) refl
   left-is (invertExtrapolation c) = reads (invertExtrapolation c) refl
@@ -158,54 +142,105 @@ rowIn (learnt a) = 0
 rowIn (turned a) = 0
 rowIn (told a) = 0
 
-abbrev returned : Preprocessor → Lent → Call → Answer → Return
-returned h l (shingledPoint x t out) a = pointReturn (pointRead h l out a)
-returned h l (postProcess q) a = learnReturn (learnRead h l q a)
-returned h l drain a = drains (rowIn a)
-returned h l (transform x t out) a = writes (writtenOf out a)
-returned h l (invertExtrapolation c) a = turns (extrapolationRead c a)
-returned h l (scale out) a = writes (writtenOf out a)
-returned h l (shift out) a = writes (writtenOf out a)
-returned h l (status out) a = tells (statusRead out a)
+module _ {A : Type 0} where
+  -- by the kind of an answer: refused, without a list, with one, learnt, turned back, told
+  abbrev kinds : (ℕ → A) → A → (List Float → A) → (Learned → A) → (Forecast → A) → (Status → A) → Answer → A
+  kinds r o w l t s (refused n) = r n
+  kinds r o w l t s absent = o
+  kinds r o w l t s done = o
+  kinds r o w l t s (wrote v) = w v
+  kinds r o w l t s (learnt a) = l a
+  kinds r o w l t s (turned a) = t a
+  kinds r o w l t s (told a) = s a
 
--- a point's and a learn's returns look at no head
-point-free : (h k : Preprocessor) (l n : Lent) (out : List Float) (a : Answer) → pointReturn (pointRead h l out a) ≡ pointReturn (pointRead k n out a)
-point-free h k l n out (refused r) = refl
-point-free h k l n out absent = refl
-point-free h k l n out done = refl
-point-free h k l n out (wrote v) = refl
-point-free h k l n out (learnt q) = refl
-point-free h k l n out (turned q) = refl
-point-free h k l n out (told q) = refl
+abbrev learnedReturn : ℕ → Learned → Return
+learnedReturn n a =
+    learn n (a .written) (given (a .anomaly)) (anomalyTime (a .anomaly)) (anomalyLikelihood (a .anomaly)) (a .deviationsOut) (a .pastOut) (a .expectedOut)
 
-learn-free : (h k : Preprocessor) (l n : Lent) (c : Learn) (a : Answer) → learnReturn (learnRead h l c a) ≡ learnReturn (learnRead k n c a)
-learn-free h k l n c (refused r) = refl
-learn-free h k l n c absent = refl
-learn-free h k l n c done = refl
-learn-free h k l n c (wrote v) = refl
-learn-free h k l n c (learnt q) = refl
-learn-free h k l n c (turned q) = refl
-learn-free h k l n c (told q) = refl
+abbrev writtenReturn : List Float → Answer → Return
+writtenReturn out a =
+    kinds (λ n. writes (written n out)) (writes (written 0 out)) (λ v. writes (written 0 v)) (λ q. writes (written 0 out)) (λ q. writes (written 0 out))
+    (λ q. writes (written 0 out)) a
+
+abbrev returned : Call → Answer → Return
+returned (shingledPoint x t out) a =
+    kinds (λ n. point n false out) (point 0 false out) (λ v. point 0 true v) (λ q. point 0 false out) (λ q. point 0 false out) (λ q. point 0 false out) a
+returned (postProcess q) a =
+    let none = learnedReturn 0 (learnedNothing q) in
+    kinds (λ n. learnedReturn n (learnedNothing q)) none (λ v. none) (λ v. learnedReturn 0 v) (λ v. none) (λ v. none) a
+returned drain a = drains (rowIn a)
+returned (transform x t out) a = writtenReturn out a
+returned (invertExtrapolation c) a =
+    let none = turns (extrapolation 0 c) in
+    kinds (λ n. turns (extrapolation n c)) none (λ v. none) (λ q. none) (λ r. turns (extrapolation 0 r)) (λ q. none) a
+returned (scale out) a = writtenReturn out a
+returned (shift out) a = writtenReturn out a
+returned (status out) a =
+    let none = tells (statusBy 0 (noStatus out)) in
+    kinds (λ n. tells (statusBy n (noStatus out))) none (λ v. none) (λ q. none) (λ q. none) (λ s. tells (statusBy 0 s)) a
 
 drain-row : (r : ℕ) → r ≡ rowIn (accepted r done (refused r))
 drain-row zero = refl
 drain-row (suc r) = refl
 
-drain-is : (h : Preprocessor) (l : Lent) → drainOf h l .row ≡ rowIn (answerOf h l drain)
-unfolding drainOf answerOf reply
-drain-is h l = drain-row (rowOf h l drain)
+point-row : (r : ℕ) (w : Bool) (x : List Float) (t : ℕ) (v out : List Float)
+    → point r (accepted r (not w) false) (cond (accepted r (not w) false) v out) ≡ returned (shingledPoint x t out) (accepted r (cond w absent (wrote v)) (refused r))
+point-row zero true x t v out = refl
+point-row zero false x t v out = refl
+point-row (suc r) w x t v out = refl
 
-return-is : (m : Held) → Sound (m .head) (m .lent) → (c : Call) → returnOf m c ≡ returned (m .head) (m .lent) c (answerOf (m .head) (m .lent) c)
-unfolding pointAfter learnAfter drainOf writeOf statusAfter
-return-is m o (shingledPoint x t out) = point-free _ (m .head) _ (m .lent) out (answerOf (m .head) (m .lent) (shingledPoint x t out))
-return-is m o (postProcess q) = learn-free _ (m .head) _ (m .lent) q (answerOf (m .head) (m .lent) (postProcess q))
-return-is m o drain = ap drains (drain-is (m .head) (m .lent))
-return-is m o (transform x t out) = refl
-return-is m o (invertExtrapolation c) =
-    ap turns (sym (extrapolation-answers (m .head) (m .lent) c (fits (m .head) (m .lent) (o .long) .1)))
-return-is m o (scale out) = refl
-return-is m o (shift out) = refl
-return-is m o (status out) = refl
+learn-row : (r : ℕ) (q : Learn) (a : Learned) → learnedReturn r (accepted r a (learnedNothing q)) ≡ returned (postProcess q) (accepted r (learnt a) (refused r))
+learn-row zero q a = refl
+learn-row (suc r) q a = refl
+
+write-row : (r : ℕ) (v out : List Float) → writes (written r (accepted r v out)) ≡ writtenReturn out (accepted r (wrote v) (refused r))
+write-row zero v out = refl
+write-row (suc r) v out = refl
+
+turn-row : (r : ℕ) (t c : Forecast)
+    → turns (extrapolation r (accepted r t c)) ≡ returned (invertExtrapolation c) (accepted r (turned (accepted r t c)) (refused r))
+turn-row zero t c = refl
+turn-row (suc r) t c = refl
+
+status-row : (r : ℕ) (s : Status) (out : List Float) → tells (statusBy r (accepted r s (noStatus out))) ≡ returned (status out) (accepted r (told s) (refused r))
+status-row zero s out = refl
+status-row (suc r) s out = refl
+
+module _ (m : Held) where
+  abbrev row : Call → ℕ
+  row c = rowOf (m .head) (m .lent) c
+
+  abbrev state : State
+  state = view (m .head) (m .lent)
+
+  abbrev answers : Call → Answer
+  answers c = answerOf (m .head) (m .lent) c
+
+  point-is : (x : List Float) (t : ℕ) (out : List Float) → returnOf m (shingledPoint x t out) ≡ returned (shingledPoint x t out) (answers (shingledPoint x t out))
+  unfolding pointAfter answerOf reply view
+  point-is x t out =
+      point-row (row (shingledPoint x t out)) (waiting (settingsOf (m .head)) (m .head .«values_seen»)) x t (pointReply state x t out) out
+
+  turn-is : Sound (m .head) (m .lent) → (c : Forecast) → returnOf m (invertExtrapolation c) ≡ returned (invertExtrapolation c) (answers (invertExtrapolation c))
+  unfolding extrapolationOf
+  turn-is o c =
+      let h = m .head in
+      let st = m .lent .statistics in
+      let x = m .lent .lastShingledInput in
+      let ts = m .lent .previousTimestamps in
+      turn-row (extrapolationRow h st x ts c) (turnedBack (viewed h st x ts) c) c
+      ∙ ap (returned (invertExtrapolation c)) (sym (extrapolation-answers h (m .lent) c (fits h (m .lent) (o .long) .1)))
+
+  return-is : Sound (m .head) (m .lent) → (c : Call) → returnOf m c ≡ returned c (answers c)
+  unfolding learnAfter drainOf writeOf statusAfter answerOf reply
+  return-is o (shingledPoint x t out) = point-is x t out
+  return-is o (postProcess q) = learn-row (row (postProcess q)) q (learnReply state q)
+  return-is o drain = ap drains (drain-row (row drain))
+  return-is o (transform x t out) = write-row (row (transform x t out)) (over out (transformOf (reading x t) state)) out
+  return-is o (invertExtrapolation c) = turn-is o c
+  return-is o (scale out) = write-row (row (scale out)) (over out (scaleOf state)) out
+  return-is o (shift out) = write-row (row (shift out)) (over out (shiftOf state)) out
+  return-is o (status out) = status-row (row (status out)) (statusOf state out) out
 
 -- ---- the answer, from what a caller gets
 
@@ -213,42 +248,41 @@ read-anomaly : (a : Option Anomaly) → anomalyRead (given a) (anomalyTime a) (a
 read-anomaly none = refl
 read-anomaly (some a) = refl
 
-read-learned : (a : Learned) → answerRead (learn 0 (a .written) (given (a .anomaly)) (anomalyTime (a .anomaly)) (anomalyLikelihood (a .anomaly)) (a .deviationsOut) (a .pastOut) (a .expectedOut)) ≡ learnt a
+read-learned : (a : Learned) → answerRead (learnedReturn 0 a) ≡ learnt a
 read-learned a = λ j. learnt (record { written = a .written; anomaly = read-anomaly (a .anomaly) j; deviationsOut = a .deviationsOut; pastOut = a .pastOut; expectedOut = a .expectedOut })
 
-read-refused : (h : Preprocessor) (l : Lent) (c : Call) (r : ℕ) → answerRead (returned h l c (refused (suc r))) ≡ refused (suc r)
-read-refused h l (shingledPoint x t out) r = refl
-read-refused h l (postProcess q) r = refl
-read-refused h l drain r = refl
-read-refused h l (transform x t out) r = refl
-read-refused h l (invertExtrapolation c) r = refl
-read-refused h l (scale out) r = refl
-read-refused h l (shift out) r = refl
-read-refused h l (status out) r = refl
+read-refused : (c : Call) (r : ℕ) → answerRead (returned c (refused (suc r))) ≡ refused (suc r)
+read-refused (shingledPoint x t out) r = refl
+read-refused (postProcess q) r = refl
+read-refused drain r = refl
+read-refused (transform x t out) r = refl
+read-refused (invertExtrapolation c) r = refl
+read-refused (scale out) r = refl
+read-refused (shift out) r = refl
+read-refused (status out) r = refl
 
-read-point : (h : Preprocessor) (l : Lent) (x : List Float) (t : ℕ) (out v : List Float) (b : Bool)
-    → answerRead (returned h l (shingledPoint x t out) (cond b absent (wrote v))) ≡ cond b absent (wrote v)
-read-point h l x t out v true = refl
-read-point h l x t out v false = refl
+read-point : (x : List Float) (t : ℕ) (out v : List Float) (b : Bool) → answerRead (returned (shingledPoint x t out) (cond b absent (wrote v))) ≡ cond b absent (wrote v)
+read-point x t out v true = refl
+read-point x t out v false = refl
 
-read-reply : (h : Preprocessor) (l : Lent) (w : State) (c : Call) → answerRead (returned h l c (reply w c)) ≡ reply w c
+read-reply : (w : State) (c : Call) → answerRead (returned c (reply w c)) ≡ reply w c
 unfolding reply
-read-reply h l w (shingledPoint x t out) = read-point h l x t out _ (waiting (w .settings) (w .valuesSeen))
-read-reply h l w (postProcess q) = read-learned _
-read-reply h l w drain = refl
-read-reply h l w (transform x t out) = refl
-read-reply h l w (invertExtrapolation c) = refl
-read-reply h l w (scale out) = refl
-read-reply h l w (shift out) = refl
-read-reply h l w (status out) = refl
+read-reply w (shingledPoint x t out) = read-point x t out _ (waiting (w .settings) (w .valuesSeen))
+read-reply w (postProcess q) = read-learned _
+read-reply w drain = refl
+read-reply w (transform x t out) = refl
+read-reply w (invertExtrapolation c) = refl
+read-reply w (scale out) = refl
+read-reply w (shift out) = refl
+read-reply w (status out) = refl
 
-read-by : (h : Preprocessor) (l : Lent) (w : State) (c : Call) (r : ℕ) → answerRead (returned h l c (accepted r (reply w c) (refused r))) ≡ accepted r (reply w c) (refused r)
-read-by h l w c zero = read-reply h l w c
-read-by h l w c (suc r) = read-refused h l c r
+read-by : (w : State) (c : Call) (r : ℕ) → answerRead (returned c (accepted r (reply w c) (refused r))) ≡ accepted r (reply w c) (refused r)
+read-by w c zero = read-reply w c
+read-by w c (suc r) = read-refused c r
 
 answer-read : (m : Held) → Sound (m .head) (m .lent) → (c : Call) → answerRead (returnOf m c) ≡ answerOf (m .head) (m .lent) c
 unfolding answerOf
-answer-read m o c = ap answerRead (return-is m o c) ∙ read-by (m .head) (m .lent) (view (m .head) (m .lent)) c (rowOf (m .head) (m .lent) c)
+answer-read m o c = ap answerRead (return-is m o c) ∙ read-by (view (m .head) (m .lent)) c (rowOf (m .head) (m .lent) c)
 
 -- ---- what is held answers as the history rules: so `status` is not refused, so it is sound
 
@@ -304,24 +338,13 @@ module _ (s : Settings) where
 
 -- ---- two that answer by one history return the same, refusals included
 
-returned-same : (h k : Preprocessor) (l n : Lent) (c : Call) (a : Answer) → returned h l c a ≡ returned k n c a
-returned-same h k l n (shingledPoint x t out) a = point-free h k l n out a
-returned-same h k l n (postProcess q) a = learn-free h k l n q a
-returned-same h k l n drain a = refl
-returned-same h k l n (transform x t out) a = refl
-returned-same h k l n (invertExtrapolation c) a = refl
-returned-same h k l n (scale out) a = refl
-returned-same h k l n (shift out) a = refl
-returned-same h k l n (status out) a = refl
-
 module _ (s : Settings) where
   same-return : (m n : Held) (es : List Entry) → Ruled s m es → Ruled s n es → (c : Call) → Machine c → returnOf n c ≡ returnOf m c
   same-return m n es r q c k =
       let a = sound s m es r in
       let b = sound s n es q in
       return-is n b c
-      ∙ ap (returned (n .head) (n .lent) c) (ruled-answer s n es q c k ∙ sym (ruled-answer s m es r c k))
-      ∙ returned-same (n .head) (m .head) (n .lent) (m .lent) c (answerOf (m .head) (m .lent) c)
+      ∙ ap (returned c) (ruled-answer s n es q c k ∙ sym (ruled-answer s m es r c k))
       ∙ sym (return-is m a c)
 
   same-returns : (m n : Held) (es : List Entry) → Ruled s m es → Ruled s n es → (cs : List Call) → All Machine cs → returns n cs ≡ returns m cs

@@ -1,7 +1,7 @@
 -- Demand 3 of the program, composed from what the contracts of its calls state by equation (trcf/src: `pointAfter`, `learnAfter`, `drainOf`, `writeOf`,
 -- `extrapolationOf`, `statusAfter`; snapshot/src: `saveOf`, `restoreOf`): the return of every call, the final contents of its output, and the
 -- head and the lent lists that the next call is given. proofs/Program.antt derives it from `held-demand-3`.
-use Prim.Native.Nat.{ℕ, zero, suc, _≤_}
+use Prim.Native.Nat.{ℕ, _≤_}
 use mathlib.Core.Path.{_≡_}
 use mathlib.Core.Bool.{Bool, true, false}
 use mathlib.Core.List.{List, [], _∷_, _++_, map}
@@ -12,7 +12,7 @@ use Rattle.trcf.specs.Fit.{All}
 use Rattle.trcf.specs.Settings.{Settings, Valid, block}
 use Rattle.trcf.specs.declared.head.PreprocessorBuilder.{PreprocessorBuilder}
 use Rattle.trcf.specs.Calls.{Learn, given, Call, Machine, shingledPoint, postProcess, drain, transform, invertExtrapolation, scale, shift, status}
-use Rattle.trcf.specs.Preprocessor.{Answer, refused, absent, done, wrote, learnt, turned, told, Anomaly}
+use Rattle.trcf.specs.Preprocessor.{reading, transformOf, scaleOf, shiftOf, accepted, Answer, refused, absent, done, wrote, learnt, turned, told, Anomaly}
 use Rattle.trcf.specs.View.{Lent, settingsFrom, learnCall, lentShort, Getters, gettersOf, buildOf, Written, StatusOutcome, PointOutcome, LearnOutcome, writeOf, statusAfter, drainOf, pointAfter, learnAfter}
 use Rattle.trcf.specs.Extrapolation.{Extrapolation, extrapolationOf}
 use Rattle.snapshot.specs.Restore as restore
@@ -41,10 +41,10 @@ abbrev pub returnOf : Held → Call → Return
 returnOf m (shingledPoint x t out) = pointReturn (pointAfter (m .head) (m .lent) x t out)
 returnOf m (postProcess q) = learnReturn (learnAfter (m .head) (m .lent) q)
 returnOf m drain = drains (drainOf (m .head) (m .lent) .row)
-returnOf m (transform x t out) = writes (writeOf (m .head) (m .lent) (transform x t out) out)
+returnOf m (transform x t out) = writes (writeOf (m .head) (m .lent) (transform x t out) (transformOf (reading x t)) out)
 returnOf m (invertExtrapolation c) = turns (extrapolationOf (m .head) (m .lent .statistics) (m .lent .lastShingledInput) (m .lent .previousTimestamps) c)
-returnOf m (scale out) = writes (writeOf (m .head) (m .lent) (scale out) out)
-returnOf m (shift out) = writes (writeOf (m .head) (m .lent) (shift out) out)
+returnOf m (scale out) = writes (writeOf (m .head) (m .lent) (scale out) scaleOf out)
+returnOf m (shift out) = writes (writeOf (m .head) (m .lent) (shift out) shiftOf out)
 returnOf m (status out) = tells (statusAfter (m .head) (m .lent) out)
 
 -- what the next call is given: three calls hand back a head and have lists lent to be written, the others read
@@ -72,22 +72,18 @@ abbrev pub anomalyRead : Bool → ℕ → Float → Option Anomaly
 anomalyRead true t p = some (record { pastTimestamp = t; likelihood = p })
 anomalyRead false t p = none
 
-abbrev pub byRow : ℕ → Answer → Answer
-byRow zero a = a
-byRow (suc n) a = refused (suc n)
-
 abbrev pub pointGiven : Bool → List Float → Answer
 pointGiven true v = wrote v
 pointGiven false v = absent
 
 abbrev pub answerRead : Return → Answer
-answerRead (point n b out) = byRow n (pointGiven b out)
+answerRead (point n b out) = accepted n (pointGiven b out) (refused n)
 answerRead (learn n w b t p deviations past expected) =
-    byRow n (learnt (record { written = w; anomaly = anomalyRead b t p; deviationsOut = deviations; pastOut = past; expectedOut = expected }))
-answerRead (drains n) = byRow n done
-answerRead (writes w) = byRow (w .row) (wrote (w .out))
-answerRead (turns e) = byRow (e .row) (turned (e .left))
-answerRead (tells o) = byRow (o .row) (told (o .numbers))
+    accepted n (learnt (record { written = w; anomaly = anomalyRead b t p; deviationsOut = deviations; pastOut = past; expectedOut = expected })) (refused n)
+answerRead (drains n) = accepted n done (refused n)
+answerRead (writes w) = accepted (w .row) (wrote (w .out)) (refused (w .row))
+answerRead (turns e) = accepted (e .row) (turned (e .left)) (refused (e .row))
+answerRead (tells o) = accepted (o .row) (told (o .numbers)) (refused (o .row))
 
 -- ---- the panel at each place: what status returns, asked with the output `room`; and what each getter returns, by the right side of its contract
 

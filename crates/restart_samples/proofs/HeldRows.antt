@@ -14,10 +14,10 @@ use Rattle.refusal.specs.Lent.{over}
 use Rattle.refusal.specs.Refusal.{firstOf}
 use Rattle.trcf.specs.Transformer.{zero32}
 use Rattle.trcf.specs.Settings.{Settings, settingsRow, allOne, block, dimension, waiting}
-use Rattle.trcf.specs.Calls.{Call, Forecast, invertExtrapolation, postProcess, drain, scale, status, rows, table, finite, due, drainFull, newest, wrongLength, waitingShort, learnFull, learnShort, outside}
+use Rattle.trcf.specs.Calls.{Call, Forecast, sizesOf, forecastTable, postProcess, drain, scale, status, rows, table, finite, due, drainFull, newest, wrongLength, waitingShort, learnFull, learnShort, outside}
 use Rattle.trcf.specs.Preprocessor.{fresh, facts, accepted}
 use Rattle.trcf.specs.View.{Lent, lent, settingsOf, view, writtenOver, counting, headRow, lentShort, countersUnfit, shortRow, lentRow, orElse, outsideRow, rowOf, ownRow, readyOf, noStatus, headFrom, noHead, buildRow, buildOf, answerOf, headAfter, lentAfter, statusAfter}
-use Rattle.trcf.specs.Extrapolation.{viewed, readShortRow, extrapolationRow, extrapolationOf}
+use Rattle.trcf.specs.Extrapolation.{readShortRow, rowAt, extrapolationRow, extrapolationOf}
 use Rattle.trcf.specs.declared.types.TransformMethod.{TransformMethod}
 use Rattle.trcf.specs.declared.types.TransformMethod.the-variants.{NONE, WEIGHTED, DIFFERENCE, «SUBTRACT_MA», NORMALIZE, «NORMALIZE_DIFFERENCE»}
 use Rattle.trcf.specs.declared.types.ForestMode.{ForestMode}
@@ -156,9 +156,9 @@ module _ (h : Preprocessor) (l : Lent) (c : Call) where
 -- turn-back, which is handed three of the lists
 module _ (h : Preprocessor) (st x : List Float) (ts : List ℕ) (c : Forecast) (e : countersUnfit h ≡ true) where
   misfit-row : extrapolationRow h st x ts c ≡ 0 → ⊥
-  unfolding extrapolationRow readShortRow
+  unfolding extrapolationRow rowAt readShortRow
   misfit-row z =
-      let r : ℕ = rows (settingsOf h) (facts (viewed h st x ts)) (invertExtrapolation c) in
+      let r : ℕ = firstOf (forecastTable (settingsOf h) (sizesOf c)) in
       let n : ℕ = readShortRow h (length st) (length x) (length ts) in
       twenty (countersUnfit h) _ e (or-else r n (or-else (headRow (settingsOf h)) (orElse r n) z))
 

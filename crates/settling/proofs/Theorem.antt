@@ -4,7 +4,7 @@ use Prim.Native.Nat.{ℕ, zero, suc, _+_, _*_, _≤_, _<_}
 use native.Mathlib.Nat.{mul-le-mul}
 use native.Mathlib.Omega.{arith}
 use mathlib.Core.Path.{_≡_, refl, sym, ap, _∙_, subst}
-use mathlib.Core.Bool.{Bool, true, false, cond, _||_}
+use mathlib.Core.Bool.{Bool, true, false, cond, not, _||_}
 use mathlib.Core.List.{List, [], _∷_, _++_, head-eq-of-cons-eq}
 use mathlib.Core.Option.{Option, none, some}
 use lib.Dec.{T, ltb, leb, eqb}
@@ -21,8 +21,8 @@ use Rattle.trcf.specs.Types.{augments}
 use Rattle.trcf.specs.Transformer.{zero32}
 use Rattle.trcf.specs.Settings.{Settings, MachineSettings, Valid, settingsRow, block, dimension, waiting, wholeMax}
 use Rattle.trcf.specs.Calls.{Call, Machine, FitsGiven, shingledPoint, postProcess}
-use Rattle.trcf.specs.Preprocessor.{State, fresh, run, next, change, refusal, Answer, refused, absent, done, wrote, learnt, turned, told, answer, reply, accepted, drained, pointOf, transformedAfter, preceding, reading, statusOf, statisticsLength}
-use Rattle.trcf.specs.View.{Lent, lent, view, settingsOf, headRow, headTable, initialRoom, lentShort, readyOf, Getters, answerOf, headAfter, lentAfter, PointOutcome, pointRead, pointAfter, learnAfter, optional}
+use Rattle.trcf.specs.Preprocessor.{State, fresh, run, next, change, refusal, Answer, refused, absent, wrote, answer, pointReply, reply, accepted, drained, pointOf, transformedAfter, preceding, reading, statusOf, statisticsLength}
+use Rattle.trcf.specs.View.{Lent, lent, view, settingsOf, headRow, headTable, initialRoom, lentShort, readyOf, Getters, rowOf, answerOf, PointOutcome, pointAfter, optional}
 use Rattle.trcf.specs.declared.head.Preprocessor.{Preprocessor}
 use Rattle.trcf.proofs.FitLaws.{all-append, all-drop}
 use Rattle.trcf.proofs.OutcomeLaws.{accepted-not, orElse-is}
@@ -45,41 +45,47 @@ use Rattle.settling.specs.Steps.{trackAfter, trackBuilt, trackAt}
 
 -- ---- the answer of point, as the program reads it
 
-given-in : (h : Preprocessor) (l : Lent) (out : List Float) (a : Answer) → optional (pointRead h l out a .given) (pointRead h l out a .out) ≡ pointIn a
-given-in h l out (refused n) = refl
-given-in h l out absent = refl
-given-in h l out done = refl
-given-in h l out (wrote v) = refl
-given-in h l out (learnt q) = refl
-given-in h l out (turned q) = refl
-given-in h l out (told q) = refl
+given-in : (r : ℕ) (w : Bool) (v out : List Float)
+    → optional (accepted r (not w) false) (cond (accepted r (not w) false) v out) ≡ pointIn (accepted r (cond w absent (wrote v)) (refused r))
+given-in zero true v out = refl
+given-in zero false v out = refl
+given-in (suc r) w v out = refl
 
-last-in : (h : Preprocessor) (l : Lent) (out : List Float) (a : Answer) → optionOf (pointRead h l out a .given) (lastOr nan (pointRead h l out a .out)) ≡ lastOf (pointIn a)
-last-in h l out (refused n) = refl
-last-in h l out absent = refl
-last-in h l out done = refl
-last-in h l out (wrote v) = refl
-last-in h l out (learnt q) = refl
-last-in h l out (turned q) = refl
-last-in h l out (told q) = refl
+last-in : (r : ℕ) (w : Bool) (v out : List Float)
+    → optionOf (accepted r (not w) false) (lastOr nan (cond (accepted r (not w) false) v out)) ≡ lastOf (pointIn (accepted r (cond w absent (wrote v)) (refused r)))
+last-in zero true v out = refl
+last-in zero false v out = refl
+last-in (suc r) w v out = refl
+
+module _ (h : Preprocessor) (l : Lent) (x : List Float) (t : ℕ) (out : List Float) where
+  abbrev gave : PointOutcome
+  gave = pointAfter h l x t out
+
+  given-is : optional (gave .given) (gave .out) ≡ pointIn (answerOf h l (shingledPoint x t out))
+  unfolding pointAfter answerOf reply view
+  given-is = given-in (rowOf h l (shingledPoint x t out)) (waiting (settingsOf h) (h .«values_seen»)) (pointReply (view h l) x t out) out
+
+  last-is : optionOf (gave .given) (lastOr nan (gave .out)) ≡ lastOf (pointIn (answerOf h l (shingledPoint x t out)))
+  unfolding pointAfter answerOf reply view
+  last-is = last-in (rowOf h l (shingledPoint x t out)) (waiting (settingsOf h) (h .«values_seen»)) (pointReply (view h l) x t out) out
 
 -- point, and then learn with what it gave, are two calls on what is held
 turn-is : (M : Held) (g : Signal) (i : ℕ) (out : List Float) (a : Answer) → answerOf (M .head) (M .lent) (shingledPoint (valueAt g i ∷ []) i out) ≡ a
     → readingResultWith (M .head) (M .lent) (valueAt g i ∷ []) i out
     ≡ readingResult (heldNext (heldNext M (shingledPoint (valueAt g i ∷ []) i out)) (learnWith g i (pointIn a)) .head)
     (heldNext (heldNext M (shingledPoint (valueAt g i ∷ []) i out)) (learnWith g i (pointIn a)) .lent) (lastOf (pointIn a))
-unfolding readingResultWith pointAfter
+unfolding readingResultWith
 turn-is M g i out a q =
     let c : Call = shingledPoint (valueAt g i ∷ []) i out in
     let o : PointOutcome = pointAfter (M .head) (M .lent) (valueAt g i ∷ []) i out in
     let m : Held = held (o .head) (o .lent) in
     let le : m ≡ heldNext M c = left-is M c in
-    let rc : optional (o .given) (o .out) ≡ pointIn a = given-in (headAfter (M .head) (M .lent) c) (lentAfter (M .head) (M .lent) c) out (answerOf (M .head) (M .lent) c) ∙ ap pointIn q in
+    let rc : optional (o .given) (o .out) ≡ pointIn a = given-is (M .head) (M .lent) (valueAt g i ∷ []) i out ∙ ap pointIn q in
     let lc : learnWith g i (optional (o .given) (o .out)) ≡ learnWith g i (pointIn a) = ap (learnWith g i) rc in
     let H : leftBy m (learnWith g i (optional (o .given) (o .out))) ≡ heldNext (heldNext M c) (learnWith g i (pointIn a)) =
     left-is m (learnWith g i (optional (o .given) (o .out))) ∙ (λ j. heldNext (le j) (lc j)) in
     let K : optionOf (o .given) (lastOr nan (o .out)) ≡ lastOf (pointIn a) =
-    last-in (headAfter (M .head) (M .lent) c) (lentAfter (M .head) (M .lent) c) out (answerOf (M .head) (M .lent) c) ∙ ap (λ (z : Answer). lastOf (pointIn z)) q in
+    last-is (M .head) (M .lent) (valueAt g i ∷ []) i out ∙ ap (λ (z : Answer). lastOf (pointIn z)) q in
     λ j. readingResult (H j .head) (H j .lent) (K j)
 
 -- ---- lengths for d 1
@@ -113,7 +119,7 @@ module _ (s : Settings) (ok : Valid s) (one : s .d ≡ 1) where
   sane : headRow s ≡ 0
   unfolding headRow
   sane =
-      let c = rows-of s (ok .accepted) in
+      let c = rows-of s (ok .unrefused) in
       none-refuses (headTable s) (c .1 .0, (c .1 .1 .0, (c .1 .1 .1 .0, (c .1 .1 .1 .1 .1 .1 .1 .0, tt))))
 
   -- the whole point has room in 128 numbers
@@ -242,5 +248,5 @@ module _ (s : Settings) (g : Signal) where
   unfolding runOf notedOf
   run-done m e f h row q n en =
       let p = pair-parts s e in
-      let ok : Valid s = record { accepted = p .0; machine = m } in
+      let ok : Valid s = record { unrefused = p .0; machine = m } in
       (λ j. runOutcome (q j) ((en ∙ noted-is s ok (p .1) g (g .readings) h) j)) ∙ sym (rw (e, f))

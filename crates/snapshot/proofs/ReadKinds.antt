@@ -95,7 +95,7 @@ to-not b h = rw h refl
 pub set-writes : (s : Settings) → Valid s → Writes setKind (withLists s [] [])
 unfolding setLine
 set-writes s h =
-    let r = rows-of s (h .accepted) in
+    let r = rows-of s (h .unrefused) in
     record {
       clean = (
         omega arith,
@@ -143,19 +143,19 @@ set-writes s h =
 
 -- the two tests of the weights' line that are not of their width
 pub wgt-tests : (s : Settings) → Valid s → Hold (not (isNone (s .method) && not (allOne (s .weights))) ∷ [])
-wgt-tests s h = (to-not _ (rows-of s (h .accepted) .1 .1 .1 .1 .1 .1 .1 .1 .0), tt)
+wgt-tests s h = (to-not _ (rows-of s (h .unrefused) .1 .1 .1 .1 .1 .1 .1 .1 .0), tt)
 
 pub wgt-long : (s : Settings) → Valid s → length (s .weights) ≡ s .d
-wgt-long s h = eqb-true _ _ (and-left _ _ (not-false _ (rows-of s (h .accepted) .1 .1 .1 .1 .0)))
+wgt-long s h = eqb-true _ _ (and-left _ _ (not-false _ (rows-of s (h .unrefused) .1 .1 .1 .1 .0)))
 
 pub chn-long : (s : Settings) → Valid s → length (s .codes) ≡ s .d
-chn-long s h = eqb-true _ _ (and-right (eqb (length (s .weights)) (s .d)) _ (not-false _ (rows-of s (h .accepted) .1 .1 .1 .1 .0)))
+chn-long s h = eqb-true _ _ (and-right (eqb (length (s .weights)) (s .d)) _ (not-false _ (rows-of s (h .unrefused) .1 .1 .1 .1 .0)))
 
 -- lines 1 to 3 make settings that no row refuses
 pub valid-of : (s : Settings) (v : List Float) (cs : List ℕ) → Hold (setKind .tests s) → Hold (wgtKind s .tests v) → Hold (chnKind s .tests cs) → Valid (withLists s v cs)
 valid-of s v cs h g q =
     record {
-      accepted = row-none (withLists s v cs) (
+      unrefused = row-none (withLists s v cs) (
         not-of _ (h .0),
         (
           not-of _ (h .1 .0),

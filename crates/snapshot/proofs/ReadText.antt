@@ -471,7 +471,7 @@ sample =
 
 pub sample-valid : Valid sample
 unfolding settingsRow outsideUnit allOne le lt eq fits ofBits ofFields odd
-sample-valid = record { accepted = refl; machine = record { stopFits = omega arith; decayFits = tt; weightTimeFits = tt; weightsFit = (tt, tt); codesFit = (omega arith, tt) } }
+sample-valid = record { unrefused = refl; machine = record { stopFits = omega arith; decayFits = tt; weightTimeFits = tt; weightsFit = (tt, tt); codesFit = (omega arith, tt) } }
 
 third-live : (s : Settings) (v : List Float) (o : List ℕ ⊎ Counts) → Live (afterThird s v o)
 third-live s v (inl cs) = (

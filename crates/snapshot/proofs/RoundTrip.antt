@@ -45,10 +45,10 @@ not-true true e = refl
 not-true false e = absurd (false≢true (sym e))
 
 pub weights-are : (s : Settings) → Valid s → length (s .weights) ≡ s .d
-weights-are s v = eqb-true (length (s .weights)) (s .d) (and-left _ _ (not-true _ (rows-of s (v .accepted) .1 .1 .1 .1 .0)))
+weights-are s v = eqb-true (length (s .weights)) (s .d) (and-left _ _ (not-true _ (rows-of s (v .unrefused) .1 .1 .1 .1 .0)))
 
 pub codes-are : (s : Settings) → Valid s → length (s .codes) ≡ s .d
-codes-are s v = eqb-true (length (s .codes)) (s .d) (and-right (eqb (length (s .weights)) (s .d)) _ (not-true _ (rows-of s (v .accepted) .1 .1 .1 .1 .0)))
+codes-are s v = eqb-true (length (s .codes)) (s .d) (and-right (eqb (length (s .weights)) (s .d)) _ (not-true _ (rows-of s (v .unrefused) .1 .1 .1 .1 .0)))
 
 pub settings-are : (s : Settings) → Valid s → settingsOf (headFrom s) ≡ s
 settings-are s v = λ i. withLists s (front-over (replicate 16 zero32) (s .weights) (s .d) (weights-are s v) i) (front-over (replicate 16 0) (s .codes) (s .d) (codes-are s v) i)
@@ -154,7 +154,7 @@ module _ (h : Preprocessor) (l : Lent) (out : List ℕ) (held : inUseShort h l �
 
 pub few-of : (s : Settings) → Valid s → Few (s .d) (s .k) (s .start)
 few-of s v =
-    let c = rows-of s (v .accepted) in
+    let c = rows-of s (v .unrefused) in
     let w = neither (ltb 16 (s .d)) (ltb 64 (s .k)) (c .1 .1 .1 .0) in
     record {
       d-few = ltb-false 16 (s .d) (w .0);

@@ -133,7 +133,7 @@ module _ (h : Preprocessor) (l : Lent) where
         let H = holds (k .held) in
         let c = counts (k .counted) in
         record {
-          valid = record { accepted = k .settled; machine = m .settings };
+          valid = record { unrefused = k .settled; machine = m .settings };
           statisticsFit = all-take _ (statisticsLength s) (l .statistics) (m .statistics);
           inputFits = all-take _ (s .d * s .k) (l .lastShingledInput) (m .input);
           pointFits = all-take _ (dimension s) (l .lastShingledPoint) (m .point);
@@ -194,4 +194,4 @@ module _ (h : Preprocessor) (l : Lent) where
 
     pub form-savable : Savable
     unfolding view
-    form-savable = record { settled = f .valid .accepted; counted = counted-form; held = e; formed = formed-form }
+    form-savable = record { settled = f .valid .unrefused; counted = counted-form; held = e; formed = formed-form }

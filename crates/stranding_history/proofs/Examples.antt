@@ -105,7 +105,7 @@ by-drains = refl
 plain-valid : Valid (plain 1)
 unfolding settingsRow outsideUnit allOne le lt eq fits ofBits ofFields odd
 plain-valid = record {
-  accepted = refl;
+  unrefused = refl;
   machine = record { stopFits = omega arith; decayFits = tt; weightTimeFits = tt; weightsFit = (tt, tt); codesFit = (omega arith, tt) };
 }
 

@@ -7,29 +7,30 @@ use native.Mathlib.Omega.{arith}
 use lib.ListN.{length, getD, take, drop}
 use lib.Seq.{drop-cons, length-take-le}
 use lib.Ieee.{Float, nan, eq}
+use Rattle.refusal.specs.Refusal.{accepted}
 use Rattle.refusal.specs.Lent.{over}
-use Rattle.common.specs.Deviation.{deviationRow, deviationResultBy}
+use Rattle.common.specs.Deviation.{deviationRow, deviationAnswer}
 use Rattle.common.specs.declared.deviation.Deviation.{Deviation}
 use Rattle.trcf.specs.Settings.{allOne}
 use Rattle.trcf.specs.Transformer.{one32, updated}
-use Rattle.trcf.specs.TransformerCalls.{Made, made, madeBy, TransformerOutput, transformerOutput, transformerOutputBy, own}
+use Rattle.trcf.specs.TransformerCalls.{Made, made, TransformerOutput, transformerOutput, transformerAnswer, own}
 use Rattle.trcf.specs.Steps.Sound.{Sound}
 use Rattle.trcf.specs.declared.transformer.WeightedTransformer.{WeightedTransformer}
 use Rattle.trcf.proofs.TransformerLaws.{updated-length}
 
-pub written-refused : (r n : ℕ) (l a : List Float) → r ≡ n → (r ≡ 0 → ⊥) → transformerOutput r l ≡ transformerOutputBy n l a
+pub written-refused : (r n : ℕ) (l a : List Float) → r ≡ n → (r ≡ 0 → ⊥) → transformerOutput r l ≡ transformerAnswer n l a
 written-refused r zero l a e taken = absurd (taken e)
 written-refused r (suc n) l a e taken = ap (λ (k : ℕ). transformerOutput k l) e
 
-pub written-done : (r n : ℕ) (l a o : List Float) → r ≡ n → r ≡ 0 → o ≡ over l a → transformerOutput 0 o ≡ transformerOutputBy n l a
+pub written-done : (r n : ℕ) (l a o : List Float) → r ≡ n → r ≡ 0 → o ≡ over l a → transformerOutput 0 o ≡ transformerAnswer n l a
 written-done r zero l a o e z h = ap (transformerOutput 0) h
 written-done r (suc n) l a o e z h = absurd (omega arith)
 
-pub made-refused : (r n : ℕ) (h : WeightedTransformer) (l : List Float) (done : Made) → r ≡ n → (r ≡ 0 → ⊥) → made r h l ≡ madeBy n (made n h l) done
+pub made-refused : (r n : ℕ) (h : WeightedTransformer) (l : List Float) (done : Made) → r ≡ n → (r ≡ 0 → ⊥) → made r h l ≡ accepted n done (made n h l)
 made-refused r zero h l done e taken = absurd (taken e)
 made-refused r (suc n) h l done e taken = ap (λ (k : ℕ). made k h l) e
 
-pub made-done : (r n : ℕ) (refused : Made) (h : WeightedTransformer) (l m : List Float) → r ≡ n → r ≡ 0 → l ≡ m → made 0 h l ≡ madeBy n refused (made 0 h m)
+pub made-done : (r n : ℕ) (refused : Made) (h : WeightedTransformer) (l m : List Float) → r ≡ n → r ≡ 0 → l ≡ m → made 0 h l ≡ accepted n (made 0 h m) refused
 made-done r zero refused h l m e z p = ap (made 0 h) p
 made-done r (suc n) refused h l m e z p = absurd (omega arith)
 
@@ -49,7 +50,7 @@ updated-over h l x p new room e =
 
 -- ---- rows
 
-pub rowOf-answered : (n : ℕ) (s : Deviation) → deviationRow (deviationResultBy n s) ≡ n
+pub rowOf-answered : (n : ℕ) (s : Deviation) → deviationRow (deviationAnswer n s) ≡ n
 rowOf-answered zero s = refl
 rowOf-answered (suc n) s = refl
 

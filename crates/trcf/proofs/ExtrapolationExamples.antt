@@ -8,14 +8,14 @@ use lib.Ieee.{Float, binary32, binary64, add, sub, mul, div, lt, le, eq, ofInt, 
 use Rattle.numeric.specs.Narrow.{narrowed}
 use Rattle.refusal.specs.Lent.{over}
 use Rattle.common.specs.Deviation.{zero64, isEmpty, meanOf}
-use Rattle.ranges.specs.RangeVector.{ranges, unequal, unblocked, shorter, rangeAt, putAt, shifted, scaled, settled, cascadeTo}
+use Rattle.ranges.specs.RangeVector.{ranges, unblocked, rangeAt, putAt, shifted, scaled, settled, cascadeTo}
 use Rattle.trcf.specs.Lists.{lastN}
 use Rattle.trcf.specs.Transformer.{one32, statisticAt, normalizedScale, basicShift, basicDrift, weightAt, reciprocal, forecastAt, forecastTo, invertedForecast}
 use Rattle.trcf.specs.Settings.{block, dimension, waiting}
-use Rattle.trcf.specs.Calls.{Forecast, lookahead, forecastUnfit, forecastOutputShort, table, rows}
-use Rattle.trcf.specs.Preprocessor.{facts, timescale, timedrift, invertTime, previous, numbersOf, timesOf, turnedBack}
+use Rattle.trcf.specs.Calls.{Forecast, lookahead, forecastUnfit, forecastOutputShort}
+use Rattle.trcf.specs.Preprocessor.{timescale, timedrift, invertTime, previous, numbersOf, timesOf, turnedBack}
 use Rattle.trcf.specs.View.{counting, headFrom, view, countersUnfit, headRow}
-use Rattle.trcf.specs.Extrapolation.{Extrapolation, extrapolation, forecast, viewed, readShort, readShortRow, extrapolationRow, extrapolationOf}
+use Rattle.trcf.specs.Extrapolation.{Extrapolation, extrapolation, forecast, viewed, readShort, readShortRow, rowAt, extrapolationRow, extrapolationOf}
 use Rattle.trcf.specs.declared.head.Preprocessor.{Preprocessor}
 use Rattle.trcf.specs.declared.types.TransformMethod.{TransformMethod}
 use Rattle.trcf.specs.declared.types.TransformMethod.the-variants.{NONE, DIFFERENCE}
@@ -24,8 +24,8 @@ use Rattle.trcf.specs.declared.types.ForestMode.the-variants.{STANDARD, 
 
 -- the definitions, opened
 all : Unit {0}
-unfolding extrapolationOf extrapolationRow viewed view readShort readShortRow countersUnfit waiting headRow facts rows table forecastUnfit forecastOutputShort lookahead dimension block unequal
-    unblocked shorter over
+unfolding extrapolationOf extrapolationRow rowAt viewed view readShort readShortRow countersUnfit waiting headRow forecastUnfit forecastOutputShort lookahead dimension block
+    unblocked over
     turnedBack numbersOf timesOf previous lastN timescale timedrift invertTime statisticAt meanOf isEmpty narrowed normalizedScale basicShift basicDrift weightAt reciprocal
     forecastAt forecastTo invertedForecast rangeAt putAt shifted scaled settled cascadeTo add sub mul div lt le eq ofInt ofBits
 all = tt

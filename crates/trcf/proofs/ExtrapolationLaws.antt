@@ -16,17 +16,17 @@ use lib.Ieee.{Float, nan, binary32, binary64, Format, add, mul, div, eq, ofInt}
 use Rattle.common.specs.Deviation.{zero64, one64}
 use Rattle.refusal.specs.Lent.{over}
 use Rattle.refusal.specs.Refusal.{firstOf}
-use Rattle.ranges.specs.RangeVector.{Range, Ranges, range, ranges, settled, shifted, scaled, rangeAt, putAt, overAll, cascadeTo, RangeOutcome, rangeOutcome, unequal, unblocked, shorter}
+use Rattle.ranges.specs.RangeVector.{Range, Ranges, range, ranges, settled, shifted, scaled, rangeAt, putAt, overAll, cascadeTo, RangeOutcome, rangeOutcome, unequal, unblocked}
 use Rattle.ranges.specs.RangeVector.{rangeCascadedAdd}
 use Rattle.trcf.specs.Lists.{tabulate, lastN, lastOr}
 use Rattle.trcf.specs.Types.{augments, isGap, differences}
 use Rattle.trcf.specs.Transformer.{zero32, forecastTo, forecastAt, invertedForecast, weightAt, normalizedScale, basicDrift, basicShift}
 use Rattle.trcf.specs.TransformerCalls.{transformerView as viewTransformer}
 use Rattle.trcf.specs.Settings.{Settings, transformer, block, dimension}
-use Rattle.trcf.specs.Calls.{Forecast, invertExtrapolation, rows, table, forecastUnfit, forecastOutputShort, lookahead}
+use Rattle.trcf.specs.Calls.{Forecast, invertExtrapolation, rows, table, Sizes, sizesOf, forecastUnfit, forecastOutputShort, lookahead}
 use Rattle.trcf.specs.Preprocessor.{refused, turned, fronts, backs, invertTime, invertTimes, timescale, timedrift, previous, numbersOf, timesOf, turnedBack, reply, accepted, statisticsLength}
 use Rattle.trcf.specs.View.{Lent, view, holding, settingsOf, headRow, countersUnfit, initialRoom, lentShort, shortRow, lentRow, rowOf, answerOf, orElse}
-use Rattle.trcf.specs.Extrapolation.{Extrapolation, extrapolation, forecast, viewed, readShort, readShortRow, extrapolationRow, extrapolationOf, extrapolationRead, Sizes, sizesOf, brokenAt, shortAt, rowAt}
+use Rattle.trcf.specs.Extrapolation.{Extrapolation, extrapolation, forecast, viewed, readShort, readShortRow, extrapolationRow, extrapolationOf, rowAt}
 use Rattle.trcf.specs.Steps.Inverting.{Longer, timeFactor, timeBy, timesBy}
 use Rattle.trcf.specs.declared.head.Preprocessor.{Preprocessor}
 use Rattle.trcf.proofs.FitLaws.{tabulate-length}
@@ -339,39 +339,42 @@ last-row false b true n row p q e = absurd (omega arith)
 last-row false true false n row p q e = absurd (omega arith)
 last-row false false false n row p q e = e
 
-module _ (h : Preprocessor) (z : Sizes) (row : ℕ) where
+module _ (h : Preprocessor) (st x ts : ℕ) (z : Sizes) (row : ℕ) where
   abbrev s : Settings
   s = settingsOf h
 
   abbrev broken : Bool
-  broken = brokenAt s (z .values) (z .upper) (z .lower)
+  broken = forecastUnfit s (z .values) (z .upper) (z .lower)
+
+  abbrev short : Bool
+  short = forecastOutputShort s z
 
   abbrev missing : ℕ
-  missing = firstOf ((readShort s (z .statistics) (z .inputs) (z .times), 20) ∷ [])
+  missing = firstOf ((readShort s st x ts, 20) ∷ [])
 
   -- of the forecast and of the counters
   abbrev own : ℕ
   own = orElse (cond broken 16 0) (cond (countersUnfit h) 20 0)
 
-  pub row-head : row ≡ headRow s → (row ≡ 0 → ⊥) → row ≡ rowAt h z
+  pub row-head : row ≡ headRow s → (row ≡ 0 → ⊥) → row ≡ rowAt h st x ts z
   unfolding rowAt
   row-head e taken = by (headRow s) e
     where
-      by : (n : ℕ) → row ≡ n → row ≡ orElse n (orElse (cond broken 16 (cond (shortAt s z) 20 0)) (readShortRow h (z .statistics) (z .inputs) (z .times)))
+      by : (n : ℕ) → row ≡ n → row ≡ orElse n (orElse (cond broken 16 (cond short 20 0)) (readShortRow h st x ts))
       by zero e = absurd (taken e)
       by (suc n) e = e
 
-  pub row-own : headRow s ≡ 0 → row ≡ own → (row ≡ 0 → ⊥) → row ≡ rowAt h z
+  pub row-own : headRow s ≡ 0 → row ≡ own → (row ≡ 0 → ⊥) → row ≡ rowAt h st x ts z
   unfolding rowAt readShortRow
-  row-own n e taken = rw n (own-row broken (shortAt s z) (countersUnfit h) missing row e taken)
+  row-own n e taken = rw n (own-row broken short (countersUnfit h) missing row e taken)
 
-  pub row-output : headRow s ≡ 0 → own ≡ 0 → row ≡ cond (shortAt s z) 20 0 → (row ≡ 0 → ⊥) → row ≡ rowAt h z
+  pub row-output : headRow s ≡ 0 → own ≡ 0 → row ≡ cond short 20 0 → (row ≡ 0 → ⊥) → row ≡ rowAt h st x ts z
   unfolding rowAt readShortRow
-  row-output n p e taken = rw n (output-row broken (shortAt s z) (countersUnfit h) missing row p e taken)
+  row-output n p e taken = rw n (output-row broken short (countersUnfit h) missing row p e taken)
 
-  pub row-unread : headRow s ≡ 0 → own ≡ 0 → _≡_ {A = ℕ} (cond (shortAt s z) 20 0) 0 → row ≡ missing → row ≡ rowAt h z
+  pub row-unread : headRow s ≡ 0 → own ≡ 0 → _≡_ {A = ℕ} (cond short 20 0) 0 → row ≡ missing → row ≡ rowAt h st x ts z
   unfolding rowAt readShortRow
-  row-unread n p q e = rw n (last-row broken (shortAt s z) (countersUnfit h) missing row p q e)
+  row-unread n p q e = rw n (last-row broken short (countersUnfit h) missing row p q e)
 
 pub orElse-first : (a b : ℕ) → orElse a b ≡ 0 → a ≡ 0
 orElse-first zero b e = refl
@@ -379,11 +382,11 @@ orElse-first (suc a) b e = e
 
 module _ (h : Preprocessor) (st x : List Float) (ts : List ℕ) (c : Forecast) where
   -- the rows look at lengths alone
-  pub row-is : rowAt h (sizesOf st x ts c) ≡ extrapolationRow h st x ts c
-  unfolding rowAt brokenAt shortAt extrapolationRow rows table forecastUnfit forecastOutputShort unequal shorter
+  pub row-is : rowAt h (length st) (length x) (length ts) (sizesOf c) ≡ extrapolationRow h st x ts c
+  unfolding extrapolationRow
   row-is = refl
 
-  pub refused-is : (row : ℕ) → row ≡ rowAt h (sizesOf st x ts c) → (row ≡ 0 → ⊥) → extrapolation row c ≡ extrapolationOf h st x ts c
+  pub refused-is : (row : ℕ) → row ≡ rowAt h (length st) (length x) (length ts) (sizesOf c) → (row ≡ 0 → ⊥) → extrapolation row c ≡ extrapolationOf h st x ts c
   unfolding extrapolationOf
   refused-is row e taken =
       ap (extrapolation row) (refusing row taken)
@@ -393,7 +396,7 @@ module _ (h : Preprocessor) (st x : List Float) (ts : List ℕ) (c : Forecast) w
       refusing zero not-zero = absurd (not-zero refl)
       refusing (suc n) not-zero = refl
 
-  pub done-is : (row : ℕ) (left : Forecast) → row ≡ rowAt h (sizesOf st x ts c) → row ≡ 0 → left ≡ turnedBack (viewed h st x ts) c
+  pub done-is : (row : ℕ) (left : Forecast) → row ≡ rowAt h (length st) (length x) (length ts) (sizesOf c) → row ≡ 0 → left ≡ turnedBack (viewed h st x ts) c
       → extrapolation 0 left ≡ extrapolationOf h st x ts c
   unfolding extrapolationOf
   done-is row left e z by =
@@ -422,9 +425,9 @@ module _ (h : Preprocessor) (l : Lent) (c : Forecast) where
   unfolding turnedBack numbersOf timesOf previous viewed view
   turned-same = refl
 
-  by-row : (r : ℕ) → extrapolationRead c (accepted r (turned (turnedBack (view h l) c)) (refused r))
-      ≡ extrapolation r (accepted r (turnedBack (viewed h (l .statistics) (l .lastShingledInput) (l .previousTimestamps)) c) c)
-  by-row zero = ap (extrapolation 0) turned-same
+  by-row : (r : ℕ) → accepted r (turned (turnedBack (view h l) c)) (refused r)
+      ≡ accepted r (turned (accepted r (turnedBack (viewed h (l .statistics) (l .lastShingledInput) (l .previousTimestamps)) c) c)) (refused r)
+  by-row zero = ap turned turned-same
   by-row (suc r) = refl
 
   -- of six tests that fail the three that the call makes
@@ -445,12 +448,12 @@ module _ (h : Preprocessor) (l : Lent) (c : Forecast) where
 
   same-row : lentShort (settingsOf h) l ≡ false
       → rowOf h l (invertExtrapolation c) ≡ extrapolationRow h (l .statistics) (l .lastShingledInput) (l .previousTimestamps) c
-  unfolding rowOf lentRow shortRow rows table extrapolationRow readShortRow
+  unfolding rowOf lentRow shortRow rows table extrapolationRow rowAt readShortRow
   same-row e = rw (e, unread-not e)
 
   -- of every head, over lists that are long enough
-  pub extrapolation-answers : lentShort (settingsOf h) l ≡ false → extrapolationRead c (answerOf h l (invertExtrapolation c)) ≡ sees
+  pub extrapolation-answers : lentShort (settingsOf h) l ≡ false → answerOf h l (invertExtrapolation c) ≡ accepted (sees .row) (turned (sees .left)) (refused (sees .row))
   unfolding answerOf reply extrapolationOf
   extrapolation-answers e =
-      ap (λ (r : ℕ). extrapolationRead c (accepted r (turned (turnedBack (view h l) c)) (refused r))) (same-row e)
+      ap (λ (r : ℕ). accepted r (turned (turnedBack (view h l) c)) (refused r)) (same-row e)
       ∙ by-row (extrapolationRow h (l .statistics) (l .lastShingledInput) (l .previousTimestamps) c)

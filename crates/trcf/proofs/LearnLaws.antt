@@ -19,8 +19,8 @@ use Rattle.trcf.specs.Lists.{lastOr, shiftIn}
 use Rattle.trcf.specs.Transformer.{zero32, one32, inverted, updated}
 use Rattle.trcf.specs.Settings.{Settings, transformer, dimension, block, waiting}
 use Rattle.trcf.specs.Calls.{Learn, Call, postProcess, seenLimit, rows, table, finite, given, wrongLength, newest, outside, learnFull, learnShort, waitingShort}
-use Rattle.trcf.specs.Preprocessor.{State, Answer, refused, learnt, timeFed, Reading, reading, facts, statisticsLength, previous, feed, buffered, learned, learnedWith, change, reply, accepted, deviations, learnedNothing, bufferedAnswer, learnedAnswer, learnAnswer, anomalyOf, pastValues, expectedValues, blockAt, isZero, blockFrom}
-use Rattle.trcf.specs.View.{Lent, lent, settingsOf, view, counted, counting, writtenOver, holding, Fitted, rowOf, headAfter, lentAfter, answerOf, optional, learnCall, backOf, waitingRow, learnRow, learningRow, LearnOutcome, learnOutcome, learnNothing, learnRead, learnAfter, orElse}
+use Rattle.trcf.specs.Preprocessor.{State, Learned, timeFed, Reading, reading, facts, statisticsLength, previous, feed, buffered, learned, learnedWith, change, accepted, deviations, learnedNothing, deviationsAlone, bufferedAnswer, learnedAnswer, learnAnswer, learnReply, anomalyOf, pastValues, expectedValues, blockAt, isZero, blockFrom}
+use Rattle.trcf.specs.View.{Lent, lent, settingsOf, view, counted, counting, writtenOver, holding, Fitted, rowOf, headAfter, lentAfter, optional, learnCall, backOf, waitingRow, learnRow, learningRow, LearnOutcome, learnOutcome, learnedOutcome, learnNothing, learnAfter, orElse}
 use Rattle.trcf.specs.Steps.Learning.{inputRow, Learnable, LearnParts, learnedParts, learnedStatistics}
 use Rattle.trcf.specs.declared.head.Preprocessor.{Preprocessor}
 use Rattle.trcf.specs.Types.{normalizes}
@@ -159,35 +159,35 @@ module _ (h : Preprocessor) (y : ℕ) (hasY : Bool) (ee : ℕ) (expects : Bool) 
 -- ---- outcomes
 
 module _ (h : Preprocessor) (l : Lent) (c : Learn) where
-  learn-at : (r : ℕ) (a : Preprocessor) (b : Lent) (v : Answer) → (r ≡ 0 → ⊥)
-      → learnNothing r h l c ≡ learnRead (accepted r a h) (accepted r b l) c (accepted r v (refused r))
+  learn-at : (r : ℕ) (a : Preprocessor) (b : Lent) (v : Learned) → (r ≡ 0 → ⊥)
+      → learnNothing r h l c ≡ learnedOutcome r (accepted r a h) (accepted r b l) (accepted r v (learnedNothing c))
   learn-at zero a b v n = absurd (n refl)
   learn-at (suc r) a b v n = refl
 
   pub learn-refused : (rowOf h l (postProcess c) ≡ 0 → ⊥) → learnNothing (rowOf h l (postProcess c)) h l c ≡ learnAfter h l c
-  unfolding learnAfter headAfter lentAfter answerOf
+  unfolding learnAfter headAfter lentAfter
   learn-refused n = learn-at (rowOf h l (postProcess c)) _ _ _ n
 
   learn-answered : rowOf h l (postProcess c) ≡ 0
-      → learnRead (counted h (change (view h l) (postProcess c))) (writtenOver (change (view h l) (postProcess c)) l) c (reply (view h l) (postProcess c)) ≡ learnAfter h l c
-  unfolding learnAfter headAfter lentAfter answerOf
+      → learnedOutcome 0 (counted h (change (view h l) (postProcess c))) (writtenOver (change (view h l) (postProcess c)) l) (learnReply (view h l) c) ≡ learnAfter h l c
+  unfolding learnAfter headAfter lentAfter
   learn-answered e =
-      let q = postProcess c in
-      ap (λ (r : ℕ). learnRead (accepted r (counted h (change (view h l) q)) h) (accepted r (writtenOver (change (view h l) q) l) l) c (accepted r (reply (view h l) q) (refused r))) (sym e)
+      let w = change (view h l) (postProcess c) in
+      ap (λ (r : ℕ). learnedOutcome r (accepted r (counted h w) h) (accepted r (writtenOver w l) l) (accepted r (learnReply (view h l) c) (learnedNothing c))) (sym e)
 
   -- past waiting, without a point: nothing
   pub learn-none : rowOf h l (postProcess c) ≡ 0 → waiting (settingsOf h) (h .«values_seen») ≡ false → c .rcfPoint ≡ none → Fitted h l → learnNothing 0 h l c ≡ learnAfter h l c
-  unfolding change reply view learnedWith learnAnswer learnedNothing
+  unfolding change view learnedWith learnAnswer learnedNothing
   learn-none e w p f =
       (λ j. learnNothing 0 (same-head h l f j) (same-lent h l f j) c)
       ∙ (λ j. let s = cond (sym w j) (buffered (view h l) c) (learnedWith (view h l) (reading (c .input) (c .timestamp)) (sym p j)) in
-      learnRead (counted h s) (writtenOver s l) c (learnt (cond (sym w j) (bufferedAnswer (view h l) c) (learnAnswer (view h l) c (sym p j)))))
+      learnedOutcome 0 (counted h s) (writtenOver s l) (cond (sym w j) (bufferedAnswer (view h l) c) (learnAnswer (view h l) c (sym p j))))
       ∙ learn-answered e
 
   -- while waiting
   held-read : (b : Bool) (a : Preprocessor) (m : Lent) (v : List Float)
       → learnOutcome 0 b false 0 zero32 a m (cond b (over (c .deviationsOut) v) (c .deviationsOut)) (c .pastOut) (c .expectedOut)
-      ≡ learnRead a m c (learnt (cond b (record { written = true; anomaly = none; deviationsOut = over (c .deviationsOut) v; pastOut = c .pastOut; expectedOut = c .expectedOut }) (learnedNothing c)))
+      ≡ learnedOutcome 0 a m (cond b (deviationsAlone c v) (learnedNothing c))
   unfolding learnedNothing
   held-read true a m v = refl
   held-read false a m v = refl
@@ -201,7 +201,7 @@ module _ (h : Preprocessor) (l : Lent) (c : Learn) where
       (cond (eqb (suc (h .«values_seen»)) (h .«start_normalization»)) (over (c .deviationsOut) (deviations (holding h (take (statisticsLength (settingsOf h)) (l .statistics)) [] []))) (c .deviationsOut))
       (c .pastOut) (c .expectedOut)
       ≡ learnAfter h l c
-  unfolding change reply view buffered bufferedAnswer deviations writtenOver
+  unfolding change view buffered bufferedAnswer deviations writtenOver
   learn-held e w f =
       let r = f .roomy in
       let n : suc (h .«initial_len») ≡ length (take (h .«initial_len») (l .initialTimestamps) ++ (c .timestamp ∷ [])) =
@@ -217,7 +217,7 @@ module _ (h : Preprocessor) (l : Lent) (c : Learn) where
       (cond (eqb (suc (h .«values_seen»)) (h .«start_normalization»)) (over (c .deviationsOut) (deviations (view h l))) (c .deviationsOut)) (c .pastOut) (c .expectedOut))
       ∙ held-read (eqb (suc (h .«values_seen»)) (h .«start_normalization»)) (counted h (buffered (view h l) c)) (writtenOver (buffered (view h l) c) l) (deviations (view h l))
       ∙ (λ j. let s = cond (sym w j) (buffered (view h l) c) (learnedWith (view h l) (reading (c .input) (c .timestamp)) (c .rcfPoint)) in
-      learnRead (counted h s) (writtenOver s l) c (learnt (cond (sym w j) (bufferedAnswer (view h l) c) (learnAnswer (view h l) c (c .rcfPoint)))))
+      learnedOutcome 0 (counted h s) (writtenOver s l) (cond (sym w j) (bufferedAnswer (view h l) c) (learnAnswer (view h l) c (c .rcfPoint))))
       ∙ learn-answered e
 
   -- past waiting, with a point y
@@ -225,7 +225,7 @@ module _ (h : Preprocessor) (l : Lent) (c : Learn) where
       → learnOutcome 0 true (b && expects) (cond (b && expects) (anomalyOf w c .pastTimestamp) 0) (cond (b && expects) one32 zero32) a m
       (over (c .deviationsOut) (deviations (learned w (reading (c .input) (c .timestamp)) y)))
       (cond (b && expects) (over (c .pastOut) (pastValues w c)) (c .pastOut)) (cond (b && expects) (over (c .expectedOut) (expectedValues w c x)) (c .expectedOut))
-      ≡ learnRead a m c (learnt (learnedAnswer w c y (cond b (optional expects x) none)))
+      ≡ learnedOutcome 0 a m (learnedAnswer w c y (cond b (optional expects x) none))
   unfolding learnedAnswer anomalyOf
   learned-read w y true true x a m = refl
   learned-read w y true false x a m = refl
@@ -240,14 +240,14 @@ module _ (h : Preprocessor) (l : Lent) (c : Learn) where
       (cond (lt zero32 (c .grade) && expects) (over (c .pastOut) (pastValues (view h l) c)) (c .pastOut))
       (cond (lt zero32 (c .grade) && expects) (over (c .expectedOut) (expectedValues (view h l) c x)) (c .expectedOut))
       ≡ learnAfter h l c
-  unfolding change reply learnedWith learnAnswer view
+  unfolding change learnedWith learnAnswer view
   learn-done y expects x e w p q =
       let v = view h l in
       let g = learned v (reading (c .input) (c .timestamp)) y in
       learned-read v y (lt zero32 (c .grade)) expects x (counted h g) (writtenOver g l)
-      ∙ (λ j. learnRead (counted h g) (writtenOver g l) c (learnt (learnedAnswer v c y (cond (lt zero32 (c .grade)) (sym q j) none))))
+      ∙ (λ j. learnedOutcome 0 (counted h g) (writtenOver g l) (learnedAnswer v c y (cond (lt zero32 (c .grade)) (sym q j) none)))
       ∙ (λ j. let s = cond (sym w j) (buffered v c) (learnedWith v (reading (c .input) (c .timestamp)) (sym p j)) in
-      learnRead (counted h s) (writtenOver s l) c (learnt (cond (sym w j) (bufferedAnswer v c) (learnAnswer v c (sym p j)))))
+      learnedOutcome 0 (counted h s) (writtenOver s l) (cond (sym w j) (bufferedAnswer v c) (learnAnswer v c (sym p j))))
       ∙ learn-answered e
 
 pub or-twice : (r m n : ℕ) → (r ≡ 0 → ⊥) → r ≡ orElse (orElse r m) n

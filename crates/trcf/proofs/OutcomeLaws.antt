@@ -12,8 +12,8 @@ use Rattle.common.specs.Deviation.{zero64}
 use Rattle.trcf.specs.Transformer.{zero32}
 use Rattle.trcf.specs.Settings.{Settings, settingsRow, dimension, block}
 use Rattle.trcf.specs.Calls.{Call, scale, shift, status, rows, table}
-use Rattle.trcf.specs.Preprocessor.{Answer, refused, reply, accepted, change, statisticsLength, fresh, facts, isReady, panelOf, Status, statusOf}
-use Rattle.trcf.specs.View.{Lent, lent, view, writtenOver, counted, rowOf, lentRow, orElse, answerOf, headAfter, lentAfter, Written, written, writtenOf, writeOf, Outcome, outcome, headFrom, noHead, buildRow, buildOf, settingsOf, alone, headRow, countersUnfit, shortRow, ownRow, readyOf, dimensionOf, Bounded, StatusOutcome, noStatus, statusRead, statusAfter}
+use Rattle.trcf.specs.Preprocessor.{State, accepted, change, statisticsLength, fresh, facts, isReady, panelOf, deviations, Status, statusOf}
+use Rattle.trcf.specs.View.{Lent, lent, view, writtenOver, counted, rowOf, lentRow, orElse, headAfter, lentAfter, Written, written, writeOf, Outcome, outcome, headFrom, noHead, buildRow, buildOf, settingsOf, alone, headRow, countersUnfit, shortRow, ownRow, readyOf, dimensionOf, Bounded, StatusOutcome, noStatus, statusAfter}
 use Rattle.trcf.specs.declared.head.Preprocessor.{Preprocessor}
 use Rattle.trcf.proofs.ShingleLaws.{over-part}
 
@@ -28,22 +28,22 @@ orElse-is (suc r) m n = refl
 
 -- ---- a call that writes one list
 
-module _ (h : Preprocessor) (l : Lent) (c : Call) (out : List Float) where
-  pub write-refused : (rowOf h l c ≡ 0 → ⊥) → written (rowOf h l c) out ≡ writeOf h l c out
-  unfolding writeOf answerOf
-  write-refused n = sym (ap (writtenOf out) (accepted-not (rowOf h l c) (reply (view h l) c) (refused (rowOf h l c)) n))
+module _ (h : Preprocessor) (l : Lent) (c : Call) (f : State → List Float) (out : List Float) where
+  pub write-refused : (rowOf h l c ≡ 0 → ⊥) → written (rowOf h l c) out ≡ writeOf h l c f out
+  unfolding writeOf
+  write-refused n = ap (written (rowOf h l c)) (sym (accepted-not (rowOf h l c) (over out (f (view h l))) out n))
 
-  pub write-done : rowOf h l c ≡ 0 → writtenOf out (reply (view h l) c) ≡ writeOf h l c out
-  unfolding writeOf answerOf
-  write-done e = ap (λ (r : ℕ). writtenOf out (accepted r (reply (view h l) c) (refused r))) (sym e)
+  pub write-done : rowOf h l c ≡ 0 → written 0 (over out (f (view h l))) ≡ writeOf h l c f out
+  unfolding writeOf
+  write-done e = ap (λ (r : ℕ). written r (accepted r (over out (f (view h l))) out)) (sym e)
 
   -- the same from the row and the output that the program has
   module _ (r : ℕ) (e : r ≡ rowOf h l c) where
-    pub write-stays : (r ≡ 0 → ⊥) → written r out ≡ writeOf h l c out
+    pub write-stays : (r ≡ 0 → ⊥) → written r out ≡ writeOf h l c f out
     write-stays n = ap (λ (q : ℕ). written q out) e ∙ write-refused (λ z. n (e ∙ z))
 
-    pub write-goes : r ≡ 0 → (v w : List Float) → v ≡ w → written 0 w ≡ writtenOf out (reply (view h l) c) → written 0 v ≡ writeOf h l c out
-    write-goes z v w p q = ap (written 0) p ∙ q ∙ write-done (sym e ∙ z)
+    pub write-goes : r ≡ 0 → (v w : List Float) → v ≡ w → w ≡ over out (f (view h l)) → written 0 v ≡ writeOf h l c f out
+    write-goes z v w p q = ap (written 0) (p ∙ q) ∙ write-done (sym e ∙ z)
 
 -- ---- `build`
 
@@ -163,33 +163,28 @@ statusBy n v = record { row = n; numbers = v }
 
 module _ (h : Preprocessor) (l : Lent) (out : List Float) where
   told-at : (r : ℕ) → rowOf h l (status out) ≡ r → r ≡ 0
-      → statusBy r (toldBy h (writtenOf out (accepted r (reply (view h l) (status out)) (refused r)) .out)) ≡ statusRead out (accepted r (reply (view h l) (status out)) (refused r))
-  unfolding reply statusOf view
+      → statusBy r (toldBy h (accepted r (over out (deviations (view h l))) out)) ≡ statusBy r (accepted r (statusOf (view h l) out) (noStatus out))
+  unfolding statusOf view
   told-at zero e z = rw (ready-is h l (status out) e, dimension-of h l (status out) e)
   told-at (suc r) e z = absurd (omega arith)
 
   refused-at : (r : ℕ) → (r ≡ 0 → ⊥)
-      → statusBy r (noStatus (writtenOf out (accepted r (reply (view h l) (status out)) (refused r)) .out)) ≡ statusRead out (accepted r (reply (view h l) (status out)) (refused r))
+      → statusBy r (noStatus (accepted r (over out (deviations (view h l))) out)) ≡ statusBy r (accepted r (statusOf (view h l) out) (noStatus out))
   refused-at zero n = absurd (n refl)
   refused-at (suc r) n = refl
 
-  row-of : (r : ℕ) → writtenOf out (accepted r (reply (view h l) (status out)) (refused r)) .row ≡ r
-  unfolding reply
-  row-of zero = refl
-  row-of (suc r) = refl
-
   -- from the row and the output that `difference_deviations` gives
-  module _ (w : Written) (e : w ≡ writeOf h l (status out) out) where
+  module _ (w : Written) (e : w ≡ writeOf h l (status out) deviations out) where
     row-is : w .row ≡ rowOf h l (status out)
-    unfolding writeOf answerOf
-    row-is = ap (λ (x : Written). x .row) e ∙ row-of (rowOf h l (status out))
+    unfolding writeOf
+    row-is = ap (λ (x : Written). x .row) e
 
     pub status-told : w .row ≡ 0 → statusBy (w .row) (toldBy h (w .out)) ≡ statusAfter h l out
-    unfolding writeOf statusAfter answerOf
+    unfolding writeOf statusAfter
     status-told z =
         (λ j. statusBy (row-is j) (toldBy h (e j .out))) ∙ told-at (rowOf h l (status out)) refl (sym row-is ∙ z)
 
     pub status-refused : (w .row ≡ 0 → ⊥) → statusBy (w .row) (noStatus (w .out)) ≡ statusAfter h l out
-    unfolding writeOf statusAfter answerOf
+    unfolding writeOf statusAfter
     status-refused n =
         (λ j. statusBy (row-is j) (noStatus (e j .out))) ∙ refused-at (rowOf h l (status out)) (λ z. n (row-is ∙ z))

@@ -16,8 +16,8 @@ use Rattle.refusal.specs.Refusal.{firstOf}
 use Rattle.trcf.specs.Lists.{null}
 use Rattle.trcf.specs.Settings.{Settings, dimension, block, waiting}
 use Rattle.trcf.specs.Calls.{due, drainFull, seenLimit, drain, shingledPoint}
-use Rattle.trcf.specs.Preprocessor.{State, Answer, refused, absent, wrote, Reading, reading, facts, statisticsLength, blocks, primed, drainEach, drainAll, drained, pointOf, change, reply, accepted}
-use Rattle.trcf.specs.View.{Lent, lent, settingsOf, view, counted, writtenOver, Outcome, outcome, Roomy, Fitted, rowOf, pastRow, answerOf, headAfter, lentAfter, drainOf, pointed, pointRead}
+use Rattle.trcf.specs.Preprocessor.{State, Reading, reading, facts, statisticsLength, blocks, primed, drainEach, drainAll, drained, pointOf, change, accepted}
+use Rattle.trcf.specs.View.{Lent, lent, settingsOf, view, counted, writtenOver, Outcome, outcome, Roomy, Fitted, rowOf, pastRow, headAfter, lentAfter, drainOf, pointed}
 use Rattle.trcf.specs.View.{pointAfter}
 use Rattle.trcf.specs.Steps.Learning.{shingling, readingAt}
 use Rattle.trcf.specs.declared.head.Preprocessor.{Preprocessor}
@@ -243,41 +243,48 @@ module _ (h : Preprocessor) (l : Lent) where
 -- ---- `shingled_point`
 
 module _ (h : Preprocessor) (l : Lent) (x : List Float) (t : ℕ) (out : List Float) where
-  point-at : (r : ℕ) (a : Preprocessor) (b : Lent) (v : Answer) → (r ≡ 0 → ⊥)
-      → pointed r false h l out ≡ pointRead (accepted r a h) (accepted r b l) out (accepted r v (refused r))
-  point-at zero a b v n = absurd (n refl)
-  point-at (suc r) a b v n = refl
+  -- whether a point is given
+  abbrev gives : Bool
+  gives = not (waiting (settingsOf h) (h .«values_seen»))
+
+  abbrev point : List Float
+  point = over out (pointOf (drained (view h l)) (reading x t))
+
+  point-at : (r : ℕ) (a : Preprocessor) (b : Lent) → (r ≡ 0 → ⊥)
+      → pointed r false h l out ≡ pointed r (accepted r gives false) (accepted r a h) (accepted r b l) (cond (accepted r gives false) point out)
+  point-at zero a b n = absurd (n refl)
+  point-at (suc r) a b n = refl
 
   pub point-refused : (rowOf h l (shingledPoint x t out) ≡ 0 → ⊥) → pointed (rowOf h l (shingledPoint x t out)) false h l out ≡ pointAfter h l x t out
-  unfolding pointAfter headAfter lentAfter answerOf
-  point-refused n = point-at (rowOf h l (shingledPoint x t out)) _ _ _ n
+  unfolding pointAfter headAfter lentAfter
+  point-refused n = point-at (rowOf h l (shingledPoint x t out)) _ _ n
 
   point-answered : rowOf h l (shingledPoint x t out) ≡ 0
-      → pointRead (counted h (change (view h l) (shingledPoint x t out))) (writtenOver (change (view h l) (shingledPoint x t out)) l) out (reply (view h l) (shingledPoint x t out))
+      → pointed 0 gives (counted h (change (view h l) (shingledPoint x t out))) (writtenOver (change (view h l) (shingledPoint x t out)) l) (cond gives point out)
       ≡ pointAfter h l x t out
-  unfolding pointAfter headAfter lentAfter answerOf
+  unfolding pointAfter headAfter lentAfter
   point-answered e =
-      let c = shingledPoint x t out in
-      ap (λ (r : ℕ). pointRead (accepted r (counted h (change (view h l) c)) h) (accepted r (writtenOver (change (view h l) c) l) l) out (accepted r (reply (view h l) c) (refused r))) (sym e)
+      let w = change (view h l) (shingledPoint x t out) in
+      ap (λ (r : ℕ). pointed r (accepted r gives false) (accepted r (counted h w) h) (accepted r (writtenOver w l) l) (cond (accepted r gives false) point out)) (sym e)
 
   pub point-waits : rowOf h l (shingledPoint x t out) ≡ 0 → waiting (settingsOf h) (h .«values_seen») ≡ true → Fitted h l
       → pointed 0 false h l out ≡ pointAfter h l x t out
-  unfolding change reply view
+  unfolding change view
   point-waits e w f =
       (λ j. pointed 0 false (same-head h l f j) (same-lent h l f j) out)
-      ∙ (λ j. pointRead (counted h (cond (sym w j) (view h l) (drained (view h l)))) (writtenOver (cond (sym w j) (view h l) (drained (view h l))) l) out
-      (cond (sym w j) absent (wrote (over out (pointOf (drained (view h l)) (reading x t))))))
+      ∙ (λ j. let s = cond (sym w j) (view h l) (drained (view h l)) in
+      pointed 0 (not (sym w j)) (counted h s) (writtenOver s l) (cond (not (sym w j)) point out))
       ∙ point-answered e
 
   pub point-done : (a : Preprocessor) (b : Lent) (o : List Float) → rowOf h l (shingledPoint x t out) ≡ 0 → waiting (settingsOf h) (h .«values_seen») ≡ false
       → outcome 0 a b ≡ outcome 0 (counted h (drained (view h l))) (writtenOver (drained (view h l)) l)
       → o ≡ over out (pointOf (drained (view h l)) (reading x t))
       → pointed 0 true a b o ≡ pointAfter h l x t out
-  unfolding change reply view
+  unfolding change view
   point-done a b o e w p q =
       (λ j. pointed 0 true (p j .head) (p j .lent) (q j))
-      ∙ (λ j. pointRead (counted h (cond (sym w j) (view h l) (drained (view h l)))) (writtenOver (cond (sym w j) (view h l) (drained (view h l))) l) out
-      (cond (sym w j) absent (wrote (over out (pointOf (drained (view h l)) (reading x t))))))
+      ∙ (λ j. let s = cond (sym w j) (view h l) (drained (view h l)) in
+      pointed 0 (not (sym w j)) (counted h s) (writtenOver s l) (cond (not (sym w j)) point out))
       ∙ point-answered e
 
 firstOf-none : (a b : Bool) → firstOf ((a, 18) ∷ (b, 20) ∷ []) ≡ 0 → (a ≡ false) × (b ≡ false)

@@ -11,7 +11,7 @@ use Rattle.refusal.specs.Lent.{over}
 use Rattle.trcf.specs.Transformer.{zero32}
 use Rattle.trcf.specs.Settings.{waiting, block, dimension}
 use Rattle.trcf.specs.Calls.{drain, shingledPoint, postProcess}
-use Rattle.trcf.specs.Preprocessor.{State, statisticsLength, deviations, drained, reading, pointOf}
+use Rattle.trcf.specs.Preprocessor.{State, statisticsLength, deviations, drained, reading, pointOf, learnedNothing}
 use Rattle.trcf.specs.View.{Lent, lent, settingsOf, initialRoom, rowOf, learningRow, optional, learnCall, backOf, learnOutcome, learnNothing, learnAfter, counting, holding, Bounded, Ready, Fitted, Outcome, outcome, drainOf, pointed, pointAfter, counted, writtenOver, view}
 use Rattle.trcf.specs.Steps.Learning.{LearnParts, learnedParts, answering, answeringRow, Learnable}
 use Rattle.trcf.specs.declared.head.Preprocessor.{Preprocessor}
@@ -71,6 +71,7 @@ module _ (h : Preprocessor) (st xs ps : List Float) (ts : List ℕ) (vs : List F
   pub way-refused : (n ≡ 0 → ⊥) → (r : PostProcessed) → r ≡ answeringRow n h false false 0 zero32
       → learnOutcome (r .row) (r .written) (r .«has_anomaly») (r .«past_timestamp») (r .likelihood) (r .head) (lent st xs ps ts vs vt) deviationsOut pastOut expectedOut
       ≡ learnAfter h (lent st xs ps ts vs vt) (learnCall x t hasY y expects e grade i deviationsOut pastOut expectedOut)
+  unfolding learnedNothing
   way-refused z r p =
       let l = lent st xs ps ts vs vt in
       let q = learnCall x t hasY y expects e grade i deviationsOut pastOut expectedOut in
@@ -96,6 +97,7 @@ module _ (h : Preprocessor) (st xs ps : List Float) (ts : List ℕ) (vs : List F
     pub way-none : (b : Bool) → b ≡ waiting (settingsOf h) (h .«values_seen») → b ≡ false → hasY ≡ false → (r : PostProcessed) → r ≡ answeringRow 0 h false false 0 zero32
         → learnOutcome (r .row) (r .written) (r .«has_anomaly») (r .«past_timestamp») (r .likelihood) (r .head) (lent st xs ps ts vs vt) deviationsOut pastOut expectedOut
         ≡ learnAfter h (lent st xs ps ts vs vt) (learnCall x t hasY y expects e grade i deviationsOut pastOut expectedOut)
+    unfolding learnedNothing
     way-none b w g k r p =
         (λ j. learnOutcome (p j .row) (p j .written) (p j .«has_anomaly») (p j .«past_timestamp») (p j .likelihood) (p j .head) (lent st xs ps ts vs vt) deviationsOut pastOut expectedOut)
         ∙ learn-none h (lent st xs ps ts vs vt) (learnCall x t hasY y expects e grade i deviationsOut pastOut expectedOut) accepted (sym w ∙ g) (ap (λ (z : Bool). optional z y) k) (ready zero .fitted)

@@ -9,7 +9,7 @@ use lib.ListN.{length}
 use lib.Ieee.{Float, nan, inf, fin, binary32, binary64, lt}
 use Rattle.refusal.specs.Refusal.{firstOf}
 use Rattle.common.specs.Deviation.{countLimit}
-use Rattle.ranges.specs.RangeVector.{Ranges, unequal, unblocked, shorter}
+use Rattle.ranges.specs.RangeVector.{Ranges, unblocked}
 use Rattle.trcf.specs.Lists.{lastOr, null}
 use Rattle.trcf.specs.Types.{augments, isGap, differences}
 use Rattle.trcf.specs.Transformer.{zero32}
@@ -108,17 +108,53 @@ learnFull s f = (ltb (f .valuesSeen) (s .stop) && leb countLimit (f .count)) || 
 unfoldable pub lookahead : Settings → ℕ → ℕ
 lookahead s n = n / dimension s
 
+-- the lengths of what is lent to a turn-back: the forecast, and where TIME_AUGMENTED writes numbers and times
+pub record Sizes : Type 0 where
+  pub values : ℕ
+  pub upper : ℕ
+  pub lower : ℕ
+  pub valuesOut : ℕ
+  pub upperOut : ℕ
+  pub lowerOut : ℕ
+  pub timesOut : ℕ
+  pub timesUpperOut : ℕ
+  pub timesLowerOut : ℕ
+
+abbrev pub sizes : ℕ → ℕ → ℕ → ℕ → ℕ → ℕ → ℕ → ℕ → ℕ → Sizes
+sizes v u l vo uo lo t tu tl =
+    record {
+      values = v;
+      upper = u;
+      lower = l;
+      valuesOut = vo;
+      upperOut = uo;
+      lowerOut = lo;
+      timesOut = t;
+      timesUpperOut = tu;
+      timesLowerOut = tl;
+    }
+
+abbrev pub sizesOf : Forecast → Sizes
+sizesOf c =
+    sizes (length (c .forecast .values)) (length (c .forecast .upper)) (length (c .forecast .lower))
+    (length (c .valuesOut .values)) (length (c .valuesOut .upper)) (length (c .valuesOut .lower))
+    (length (c .timesOut .values)) (length (c .timesOut .upper)) (length (c .timesOut .lower))
+
 -- row 16 of a turn-back: "unequal lengths; where blocks are cascaded, none or a broken one; TIME_AUGMENTED under one block of `get_dimension` numbers"
-unfoldable pub forecastUnfit : Settings → Ranges → Bool
-forecastUnfit s v =
-    unequal v
-    || cond (augments (s .mode)) (ltb (length (v .values)) (dimension s)) (differences (s .method) && unblocked (s .d) (length (v .values)))
+unfoldable pub forecastUnfit : Settings → ℕ → ℕ → ℕ → Bool
+forecastUnfit s v u l =
+    not (eqb v u && eqb v l)
+    || cond (augments (s .mode)) (ltb v (dimension s)) (differences (s .method) && unblocked (s .d) v)
+
+abbrev pub shorterAt : ℕ → ℕ → ℕ → ℕ → Bool
+shorterAt v u l n = ltb v n || (ltb u n || ltb l n)
 
 -- row 20 of a turn-back: TIME_AUGMENTED writes d × k numbers and one time a block; STANDARD works in place
-unfoldable pub forecastOutputShort : Settings → Forecast → Bool
-forecastOutputShort s c =
-    let h = lookahead s (length (c .forecast .values)) in
-    augments (s .mode) && (shorter (c .valuesOut) (h * (s .d * s .k)) || shorter (c .timesOut) h)
+unfoldable pub forecastOutputShort : Settings → Sizes → Bool
+forecastOutputShort s z =
+    let h = lookahead s (z .values) in
+    augments (s .mode)
+    && (shorterAt (z .valuesOut) (z .upperOut) (z .lowerOut) (h * (s .d * s .k)) || shorterAt (z .timesOut) (z .timesUpperOut) (z .timesLowerOut) h)
 
 -- row 20 of a learn: the deviations of the waiting reading that completes start, and of every learnt one; past and expected values of an anomaly
 unfoldable pub waitingShort : Settings → Facts → Learn → Bool
@@ -130,6 +166,10 @@ learnShort s l =
     || ((anomalous l && given (l .expectedPoint)) && (ltb (length (l .pastOut)) (s .d) || ltb (length (l .expectedOut)) (s .d)))
 
 -- ---- the rows of each call, in document 01's order, each a test and its number
+
+-- a turn-back's, over lengths alone
+abbrev pub forecastTable : Settings → Sizes → List (Bool × ℕ)
+forecastTable s z = (forecastUnfit s (z .values) (z .upper) (z .lower), 16) ∷ (forecastOutputShort s z, 20) ∷ []
 
 unfoldable pub table : Settings → Facts → Call → List (Bool × ℕ)
 table s f (shingledPoint x t out) =
@@ -153,7 +193,7 @@ table s f (postProcess l) =
     ∷ []
 table s f drain = (eqb (f .valuesSeen) (s .start) && null (f .initialTimestamps), 15) ∷ (due s f && drainFull s f, 18) ∷ []
 table s f (transform x t out) = (not (eqb (length x) (s .d)), 10) ∷ (beforeNewest s f t, 28) ∷ (ltb (length out) (block s), 20) ∷ []
-table s f (invertExtrapolation c) = (forecastUnfit s (c .forecast), 16) ∷ (forecastOutputShort s c, 20) ∷ []
+table s f (invertExtrapolation c) = forecastTable s (sizesOf c)
 table s f (scale out) = (ltb (length out) (block s), 20) ∷ []
 table s f (shift out) = (ltb (length out) (block s), 20) ∷ []
 table s f (status out) = (ltb (length out) (block s), 20) ∷ []

@@ -9,6 +9,7 @@ use lib.ListN.{length, take, drop, getD, replicate}
 use lib.Ieee.{Float, Format, nan, binary32, binary64, add, sub, mul, div, eq, ofInt}
 use Rattle.numeric.specs.Narrow.{narrowed}
 use Rattle.common.specs.Deviation.{zero64, one64}
+pub use Rattle.refusal.specs.Refusal.{accepted}
 use Rattle.refusal.specs.Lent.{over}
 use Rattle.ranges.specs.RangeVector.{Range, Ranges, ranges, settled, cascadeTo, overAll}
 use Rattle.trcf.specs.Lists.{lastN, lastOr, shiftIn, overwrite}
@@ -232,12 +233,6 @@ change w (scale out) = w
 change w (shift out) = w
 change w (status out) = w
 
-module _ {ℓ} {A : Type ℓ} where
-  -- by the number of the row, 0 for none
-  abbrev pub accepted : ℕ → A → A → A
-  accepted zero a b = a
-  accepted (suc n) a b = b
-
 -- "a refusal leaves state and lent memory unchanged"
 unfoldable pub next : State → Call → State
 next w c = accepted (refusal w c) (change w c) w
@@ -265,9 +260,13 @@ shiftOf w =
     withTime (w .settings) (shifts (transformer (w .settings) 0 (w .statistics)))
     (drifted binary32 (w .settings) (ofInt binary32 (pos (lastOr 0 (w .previousTimestamps)))) (narrowed (timedrift (w .settings) (w .statistics))))
 
+-- `transform`
+abbrev pub transformOf : Reading → State → List Float
+transformOf r w = transformedAfter (w .settings) (w .statistics) (w .valuesSeen) (preceding w) r
+
 -- `shingled_point`: the point with the transformed reading after it
 unfoldable pub pointOf : State → Reading → List Float
-pointOf w r = shiftIn (w .lastShingledPoint) (transformedAfter (w .settings) (w .statistics) (w .valuesSeen) (preceding w) r)
+pointOf w r = shiftIn (w .lastShingledPoint) (transformOf r w)
 
 -- ---- turn-back
 
@@ -444,12 +443,19 @@ statusOf w out =
       deviationsOut = over out (deviations w);
     }
 
+-- past waiting
+abbrev pub pointReply : State → List Float → ℕ → List Float → List Float
+pointReply w x t out = over out (pointOf (drained w) (reading x t))
+
+abbrev pub learnReply : State → Learn → Learned
+learnReply w l = cond (waiting (w .settings) (w .valuesSeen)) (bufferedAnswer w l) (learnAnswer w l (l .rcfPoint))
+
 -- a call that no row refuses
 unfoldable pub reply : State → Call → Answer
-reply w (shingledPoint x t out) = cond (waiting (w .settings) (w .valuesSeen)) absent (wrote (over out (pointOf (drained w) (reading x t))))
-reply w (postProcess l) = learnt (cond (waiting (w .settings) (w .valuesSeen)) (bufferedAnswer w l) (learnAnswer w l (l .rcfPoint)))
+reply w (shingledPoint x t out) = cond (waiting (w .settings) (w .valuesSeen)) absent (wrote (pointReply w x t out))
+reply w (postProcess l) = learnt (learnReply w l)
 reply w drain = done
-reply w (transform x t out) = wrote (over out (transformedAfter (w .settings) (w .statistics) (w .valuesSeen) (preceding w) (reading x t)))
+reply w (transform x t out) = wrote (over out (transformOf (reading x t) w))
 reply w (invertExtrapolation c) = turned (turnedBack w c)
 reply w (scale out) = wrote (over out (scaleOf w))
 reply w (shift out) = wrote (over out (shiftOf w))

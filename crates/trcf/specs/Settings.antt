@@ -106,5 +106,5 @@ pub record MachineSettings (s : Settings) : Type 0 where
 
 -- settings that no row refuses
 pub record Valid (s : Settings) : Type 0 where
-  pub accepted : settingsRow s ≡ 0
+  pub unrefused : settingsRow s ≡ 0
   pub machine : MachineSettings s

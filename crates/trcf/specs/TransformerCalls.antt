@@ -1,14 +1,14 @@
 -- The calls of the transformer by themselves: document 01, 'Numbers the mechanic may see', and what each leaves in the memory lent to it.
-use Prim.Native.Nat.{ℕ, zero, suc, _+_, _*_}
+use Prim.Native.Nat.{ℕ, _+_, _*_}
 use mathlib.Core.Bool.{Bool, not, _&&_, _||_}
 use mathlib.Core.List.{List, [], _∷_}
 use lib.Dec.{ltb, leb, eqb}
 use lib.ListN.{length, take, replicate}
 use lib.Ieee.{Float}
-use Rattle.refusal.specs.Refusal.{firstOf}
+use Rattle.refusal.specs.Refusal.{firstOf, accepted}
 use Rattle.refusal.specs.Lent.{over}
 use Rattle.common.specs.Deviation.{zero64, countLimit, outsideUnit}
-use Rattle.ranges.specs.RangeVector.{Ranges, RangeOutcome, rangeOutcomeBy, unblocked}
+use Rattle.ranges.specs.RangeVector.{Ranges, RangeOutcome, rangeAnswer, unblocked}
 use Rattle.trcf.specs.Types.{isNone, differences}
 use Rattle.trcf.specs.Settings.{inputLimit, allOne}
 use Rattle.trcf.specs.Transformer.{Transformer, zero32, updated, transformed, inverted, invertedForecast, scales, shifts, differenceDeviations}
@@ -83,11 +83,6 @@ pub record Made : Type 0 where
 abbrev pub made : ℕ → WeightedTransformer → List Float → Made
 made n h l = record { row = n; transformer = h; statistics = l }
 
--- by the number of the row: what a refusal leaves, and what the call does otherwise
-abbrev pub madeBy : ℕ → Made → Made → Made
-madeBy zero refused done = done
-madeBy (suc n) refused done = refused
-
 -- a row, and the lent list of the answer
 pub record TransformerOutput : Type 0 where
   pub row : ℕ
@@ -97,9 +92,8 @@ abbrev pub transformerOutput : ℕ → List Float → TransformerOutput
 transformerOutput n l = record { row = n; output = l }
 
 -- the answer a stands at the front of the lent list l, unless a row refuses
-abbrev pub transformerOutputBy : ℕ → List Float → List Float → TransformerOutput
-transformerOutputBy zero l a = transformerOutput 0 (over l a)
-transformerOutputBy (suc n) l a = transformerOutput (suc n) l
+abbrev pub transformerAnswer : ℕ → List Float → List Float → TransformerOutput
+transformerAnswer n l a = transformerOutput n (accepted n (over l a) l)
 
 -- ---- the calls
 
@@ -114,7 +108,7 @@ noTransformer = transformerHead NONE 0 zero64 (replicate inputLimit zero32) 0
 unfoldable pub transformerNew : TransformMethod → ℕ → Float → List Float → List Float → Made
 transformerNew m d decay w l =
     let n = newRow m d decay w (length l) in
-    madeBy n (made n noTransformer l) (made 0 (transformerHead m d decay (over (replicate inputLimit zero32) w) 0) (over l (replicate (15 * d) zero64)))
+    accepted n (made 0 (transformerHead m d decay (over (replicate inputLimit zero32) w) 0) (over l (replicate (15 * d) zero64))) (made n noTransformer l)
 
 abbrev pub countedUp : WeightedTransformer → WeightedTransformer
 countedUp h = transformerHead (h .«transform_method») (h .«input_length») (h .«transform_decay») (h .weights) (h .count + 1)
@@ -122,28 +116,28 @@ countedUp h = transformerHead (h .«transform_method») (h .«input_length») (h
 unfoldable pub transformerUpdate : WeightedTransformer → List Float → List Float → List Float → Made
 transformerUpdate h l x p =
     let n = updateRow (h .«input_length») (length x) (length p) (h .count) (length l) in
-    madeBy n (made n h l) (made 0 (countedUp h) (over l (updated (own h l) x p)))
+    accepted n (made 0 (countedUp h) (over l (updated (own h l) x p))) (made n h l)
 
 unfoldable pub transformerTransform : WeightedTransformer → List Float → List Float → List Float → List Float → TransformerOutput
 transformerTransform h l x p out =
-    transformerOutputBy (transformRow (h .«input_length») (length x) (length p) (length l) (length out)) out (transformed (own h l) x p)
+    transformerAnswer (transformRow (h .«input_length») (length x) (length p) (length l) (length out)) out (transformed (own h l) x p)
 
 unfoldable pub transformerInvert : WeightedTransformer → List Float → List Float → List Float → List Float → TransformerOutput
 transformerInvert h l x p out =
-    transformerOutputBy (transformRow (h .«input_length») (length x) (length p) (length l) (length out)) out (inverted (own h l) x p)
+    transformerAnswer (transformRow (h .«input_length») (length x) (length p) (length l) (length out)) out (inverted (own h l) x p)
 
 -- in place on the three lists
 unfoldable pub transformerInvertForecast : WeightedTransformer → List Float → List Float → Ranges → RangeOutcome
 transformerInvertForecast h l p v =
-    rangeOutcomeBy
+    rangeAnswer
     (forecastRow (h .«transform_method») (h .«input_length») (length p) (length (v .values)) (length (v .upper)) (length (v .lower)) (length l)) v
     (invertedForecast (own h l) p v)
 
 unfoldable pub transformerScale : WeightedTransformer → List Float → List Float → TransformerOutput
-transformerScale h l out = transformerOutputBy (outputRow (h .«input_length») (length l) (length out)) out (scales (own h l))
+transformerScale h l out = transformerAnswer (outputRow (h .«input_length») (length l) (length out)) out (scales (own h l))
 
 unfoldable pub transformerShift : WeightedTransformer → List Float → List Float → TransformerOutput
-transformerShift h l out = transformerOutputBy (outputRow (h .«input_length») (length l) (length out)) out (shifts (own h l))
+transformerShift h l out = transformerAnswer (outputRow (h .«input_length») (length l) (length out)) out (shifts (own h l))
 
 unfoldable pub transformerDifferenceDeviations : WeightedTransformer → List Float → List Float → TransformerOutput
-transformerDifferenceDeviations h l out = transformerOutputBy (outputRow (h .«input_length») (length l) (length out)) out (differenceDeviations (own h l))
+transformerDifferenceDeviations h l out = transformerAnswer (outputRow (h .«input_length») (length l) (length out)) out (differenceDeviations (own h l))

@@ -16,7 +16,7 @@ use Rattle.trcf.specs.Transformer.{zero32}
 use Rattle.trcf.specs.Types.{normalizes, methodNumber, modeLetter, isGap}
 use Rattle.trcf.specs.Settings.{Settings, inputLimit, shingleLimit, startBound, transformer, settingsRow, block, dimension, waiting}
 use Rattle.trcf.specs.Calls.{Learn, Call, shingledPoint, postProcess, drain, status, rows, seenLimit, given}
-use Rattle.trcf.specs.Preprocessor.{State, Answer, refused, absent, done, wrote, learnt, turned, told, Status, Anomaly, deviations, statisticsLength, fresh, facts, change, isReady, panelOf, reply, accepted}
+use Rattle.trcf.specs.Preprocessor.{State, Answer, refused, Status, Anomaly, Learned, learnedNothing, statisticsLength, fresh, facts, change, isReady, panelOf, statusOf, pointReply, learnReply, reply, accepted}
 use Rattle.trcf.specs.declared.types.TransformMethod.the-variants.{NONE}
 use Rattle.trcf.specs.declared.types.ForestMode.the-variants.{STANDARD}
 use Rattle.trcf.specs.declared.head.Preprocessor.{Preprocessor}
@@ -322,17 +322,9 @@ pub record Written : Type 0 where
 abbrev pub written : ℕ → List Float → Written
 written n out = record { row = n; out = out }
 
-abbrev pub writtenOf : List Float → Answer → Written
-writtenOf out (refused n) = written n out
-writtenOf out absent = written 0 out
-writtenOf out done = written 0 out
-writtenOf out (wrote v) = written 0 v
-writtenOf out (learnt a) = written 0 out
-writtenOf out (turned a) = written 0 out
-writtenOf out (told s) = written 0 (s .deviationsOut)
-
-unfoldable pub writeOf : Preprocessor → Lent → Call → List Float → Written
-writeOf h l c out = writtenOf out (answerOf h l c)
+-- the numbers f of the state, at the front of the lent list
+unfoldable pub writeOf : Preprocessor → Lent → Call → (State → List Float) → List Float → Written
+writeOf h l c f out = let n = rowOf h l c in written n (accepted n (over out (f (view h l))) out)
 
 -- ---- the getters
 
@@ -414,17 +406,8 @@ noStatus out =
       deviationsOut = out;
     }
 
-abbrev pub statusRead : List Float → Answer → StatusOutcome
-statusRead out (refused n) = record { row = n; numbers = noStatus out }
-statusRead out absent = record { row = 0; numbers = noStatus out }
-statusRead out done = record { row = 0; numbers = noStatus out }
-statusRead out (wrote v) = record { row = 0; numbers = noStatus out }
-statusRead out (learnt a) = record { row = 0; numbers = noStatus out }
-statusRead out (turned a) = record { row = 0; numbers = noStatus out }
-statusRead out (told s) = record { row = 0; numbers = s }
-
 unfoldable pub statusAfter : Preprocessor → Lent → List Float → StatusOutcome
-statusAfter h l out = statusRead out (answerOf h l (status out))
+statusAfter h l out = let n = rowOf h l (status out) in record { row = n; numbers = accepted n (statusOf (view h l) out) (noStatus out) }
 
 unfoldable pub drainOf : Preprocessor → Lent → Outcome
 drainOf h l = outcome (rowOf h l drain) (headAfter h l drain) (lentAfter h l drain)
@@ -440,19 +423,13 @@ pub record PointOutcome : Type 0 where
 abbrev pub pointed : ℕ → Bool → Preprocessor → Lent → List Float → PointOutcome
 pointed n b h l out = record { row = n; given = b; head = h; lent = l; out = out }
 
-abbrev pub pointRead : Preprocessor → Lent → List Float → Answer → PointOutcome
-pointRead h l out (refused n) = pointed n false h l out
-pointRead h l out absent = pointed 0 false h l out
-pointRead h l out done = pointed 0 false h l out
-pointRead h l out (wrote v) = pointed 0 true h l v
-pointRead h l out (learnt a) = pointed 0 false h l out
-pointRead h l out (turned a) = pointed 0 false h l out
-pointRead h l out (told a) = pointed 0 false h l out
-
+-- a point is given past waiting
 unfoldable pub pointAfter : Preprocessor → Lent → List Float → ℕ → List Float → PointOutcome
 pointAfter h l x t out =
     let c = shingledPoint x t out in
-    pointRead (headAfter h l c) (lentAfter h l c) out (answerOf h l c)
+    let n = rowOf h l c in
+    let b = accepted n (not (waiting (settingsOf h) (h .«values_seen»))) false in
+    pointed n b (headAfter h l c) (lentAfter h l c) (cond b (pointReply (view h l) x t out) out)
 
 -- ---- `post_process`
 
@@ -554,21 +531,16 @@ learnOutcome n w b t p h l deviations past expected =
       expectedOut = expected;
     }
 
-abbrev pub learnNothing : ℕ → Preprocessor → Lent → Learn → LearnOutcome
-learnNothing n h l c = learnOutcome n false false 0 zero32 h l (c .deviationsOut) (c .pastOut) (c .expectedOut)
-
-abbrev pub learnRead : Preprocessor → Lent → Learn → Answer → LearnOutcome
-learnRead h l c (refused n) = learnNothing n h l c
-learnRead h l c absent = learnNothing 0 h l c
-learnRead h l c done = learnNothing 0 h l c
-learnRead h l c (wrote v) = learnNothing 0 h l c
-learnRead h l c (learnt a) =
-    learnOutcome 0 (a .written) (given (a .anomaly)) (anomalyTime (a .anomaly)) (anomalyLikelihood (a .anomaly)) h l (a .deviationsOut) (a .pastOut)
+abbrev pub learnedOutcome : ℕ → Preprocessor → Lent → Learned → LearnOutcome
+learnedOutcome n h l a =
+    learnOutcome n (a .written) (given (a .anomaly)) (anomalyTime (a .anomaly)) (anomalyLikelihood (a .anomaly)) h l (a .deviationsOut) (a .pastOut)
     (a .expectedOut)
-learnRead h l c (turned a) = learnNothing 0 h l c
-learnRead h l c (told a) = learnNothing 0 h l c
+
+abbrev pub learnNothing : ℕ → Preprocessor → Lent → Learn → LearnOutcome
+learnNothing n h l c = learnedOutcome n h l (learnedNothing c)
 
 unfoldable pub learnAfter : Preprocessor → Lent → Learn → LearnOutcome
 learnAfter h l c =
     let q = postProcess c in
-    learnRead (headAfter h l q) (lentAfter h l q) c (answerOf h l q)
+    let n = rowOf h l q in
+    learnedOutcome n (headAfter h l q) (lentAfter h l q) (accepted n (learnReply (view h l) c) (learnedNothing c))

@@ -18,6 +18,7 @@ ghost use mathlib.Core.List.{List};
 ghost use lib.Ieee.{Float};
 ghost use Rattle.trcf.specs.Types.{methodNumber, modeLetter};
 ghost use Rattle.trcf.specs.Calls.{transform, scale, shift, status};
+ghost use Rattle.trcf.specs.Preprocessor.{reading, transformOf, scaleOf, shiftOf, deviations};
 ghost use Rattle.trcf.specs.View.{lent, written, writeOf, gettersOf, statusGiven, noStatus, statusAfter};
 
 pub fn transform(
@@ -32,7 +33,7 @@ pub fn transform(
     timestamp: u64,
     output: &mut [f32],
 ) -> u64
-    ensures { λ r. ⌜ written r (now (output .exit)) ≡ writeOf head (lent (now (statistics .entry)) (now («last_shingled_input» .entry)) (now («last_shingled_point» .entry)) (now («previous_timestamps» .entry)) (now («initial_values» .entry)) (now («initial_timestamps» .entry))) (transform (now (input .entry)) timestamp (now (output .entry))) (now (output .entry)) ⌝ }
+    ensures { λ r. ⌜ written r (now (output .exit)) ≡ writeOf head (lent (now (statistics .entry)) (now («last_shingled_input» .entry)) (now («last_shingled_point» .entry)) (now («previous_timestamps» .entry)) (now («initial_values» .entry)) (now («initial_timestamps» .entry))) (transform (now (input .entry)) timestamp (now (output .entry))) (transformOf (reading (now (input .entry)) timestamp)) (now (output .entry)) ⌝ }
 {
     let row = transform_row(
         head,
@@ -75,7 +76,7 @@ pub fn scale(
     initial_timestamps: &[u64],
     output: &mut [f32],
 ) -> u64
-    ensures { λ r. ⌜ written r (now (output .exit)) ≡ writeOf head (lent (now (statistics .entry)) (now («last_shingled_input» .entry)) (now («last_shingled_point» .entry)) (now («previous_timestamps» .entry)) (now («initial_values» .entry)) (now («initial_timestamps» .entry))) (scale (now (output .entry))) (now (output .entry)) ⌝ }
+    ensures { λ r. ⌜ written r (now (output .exit)) ≡ writeOf head (lent (now (statistics .entry)) (now («last_shingled_input» .entry)) (now («last_shingled_point» .entry)) (now («previous_timestamps» .entry)) (now («initial_values» .entry)) (now («initial_timestamps» .entry))) (scale (now (output .entry))) scaleOf (now (output .entry)) ⌝ }
 {
     let row = write_row(
         head,
@@ -106,7 +107,7 @@ pub fn shift(
     initial_timestamps: &[u64],
     output: &mut [f32],
 ) -> u64
-    ensures { λ r. ⌜ written r (now (output .exit)) ≡ writeOf head (lent (now (statistics .entry)) (now («last_shingled_input» .entry)) (now («last_shingled_point» .entry)) (now («previous_timestamps» .entry)) (now («initial_values» .entry)) (now («initial_timestamps» .entry))) (shift (now (output .entry))) (now (output .entry)) ⌝ }
+    ensures { λ r. ⌜ written r (now (output .exit)) ≡ writeOf head (lent (now (statistics .entry)) (now («last_shingled_input» .entry)) (now («last_shingled_point» .entry)) (now («previous_timestamps» .entry)) (now («initial_values» .entry)) (now («initial_timestamps» .entry))) (shift (now (output .entry))) shiftOf (now (output .entry)) ⌝ }
 {
     let row = write_row(
         head,
@@ -143,7 +144,7 @@ pub fn difference_deviations(
     initial_timestamps: &[u64],
     output: &mut [f32],
 ) -> u64
-    ensures { λ r. ⌜ written r (now (output .exit)) ≡ writeOf head (lent (now (statistics .entry)) (now («last_shingled_input» .entry)) (now («last_shingled_point» .entry)) (now («previous_timestamps» .entry)) (now («initial_values» .entry)) (now («initial_timestamps» .entry))) (status (now (output .entry))) (now (output .entry)) ⌝ }
+    ensures { λ r. ⌜ written r (now (output .exit)) ≡ writeOf head (lent (now (statistics .entry)) (now («last_shingled_input» .entry)) (now («last_shingled_point» .entry)) (now («previous_timestamps» .entry)) (now («initial_values» .entry)) (now («initial_timestamps» .entry))) (status (now (output .entry))) deviations (now (output .entry)) ⌝ }
 {
     let row = write_row(
         head,

@@ -29,7 +29,8 @@ ghost use Rattle.trcf.specs.Transformer.{invertedForecast};
 ghost use Rattle.trcf.specs.Settings.{transformer, dimension};
 ghost use Rattle.trcf.specs.Preprocessor.{statisticsLength, fronts, backs, invertTimes, numbersOf, timesOf, turnedBack};
 ghost use Rattle.trcf.specs.View.{settingsOf, holding, countersUnfit, orElse, Bounded};
-ghost use Rattle.trcf.specs.Extrapolation.{extrapolation, forecast, viewed, extrapolationOf, sizes, brokenAt, shorterAt, shortAt, readShort, rowAt};
+ghost use Rattle.trcf.specs.Calls.{sizes, forecastUnfit, shorterAt, forecastOutputShort};
+ghost use Rattle.trcf.specs.Extrapolation.{extrapolation, forecast, viewed, extrapolationOf, readShort, rowAt};
 ghost use Rattle.trcf.specs.Steps.Inverting.{Unbroken, Longer, Long, Readable, Invertible, timeFactor, stretched, timeBy, timesBy};
 
 // Whether the values make no blocks of d to cascade.
@@ -59,7 +60,7 @@ fn is_broken(m: TransformMethod, d: usize, n: usize) -> bool
 // Row 16.
 fn broken_row(head: Preprocessor, values: usize, upper: usize, lower: usize) -> u64
     requires { ⌜ Bounded (settingsOf head) ⌝ }
-    ensures { λ r. ⌜ r ≡ firstOf ((brokenAt (settingsOf head) values upper lower, 16) ∷ []) ⌝ }
+    ensures { λ r. ⌜ r ≡ firstOf ((forecastUnfit (settingsOf head) values upper lower, 16) ∷ []) ⌝ }
     ensures { λ r. ⌜ (r ≡ 0 → Unbroken (settingsOf head) values upper lower) ⌝ }
 {
     let t = head.transformer;
@@ -113,8 +114,8 @@ fn output_row(
     times_lower_out: usize,
 ) -> u64
     requires { ⌜ Bounded (settingsOf head) ⌝ }
-    ensures { λ r. ⌜ r ≡ firstOf ((shortAt (settingsOf head) (sizes 0 0 0 values 0 0 «values_out» «upper_out» «lower_out» «times_out» «times_upper_out» «times_lower_out»), 20) ∷ []) ⌝ }
-    ensures { λ r. ⌜ (r ≡ 0 → augments (head .«forest_mode») ≡ true → Long (settingsOf head) (sizes 0 0 0 values 0 0 «values_out» «upper_out» «lower_out» «times_out» «times_upper_out» «times_lower_out»)) ⌝ }
+    ensures { λ r. ⌜ r ≡ firstOf ((forecastOutputShort (settingsOf head) (sizes values 0 0 «values_out» «upper_out» «lower_out» «times_out» «times_upper_out» «times_lower_out»), 20) ∷ []) ⌝ }
+    ensures { λ r. ⌜ (r ≡ 0 → augments (head .«forest_mode») ≡ true → Long (settingsOf head) (sizes values 0 0 «values_out» «upper_out» «lower_out» «times_out» «times_upper_out» «times_lower_out»)) ⌝ }
 {
     let t = head.transformer;
     let mode = head.forest_mode;
@@ -186,8 +187,8 @@ fn extrapolation_row(
     times_upper_out: usize,
     times_lower_out: usize,
 ) -> u64
-    ensures { λ r. ⌜ r ≡ rowAt head (sizes statistics inputs times values upper lower «values_out» «upper_out» «lower_out» «times_out» «times_upper_out» «times_lower_out») ⌝ }
-    ensures { λ r. ⌜ (r ≡ 0 → Invertible (settingsOf head) (sizes statistics inputs times values upper lower «values_out» «upper_out» «lower_out» «times_out» «times_upper_out» «times_lower_out»)) ⌝ }
+    ensures { λ r. ⌜ r ≡ rowAt head statistics inputs times (sizes values upper lower «values_out» «upper_out» «lower_out» «times_out» «times_upper_out» «times_lower_out») ⌝ }
+    ensures { λ r. ⌜ (r ≡ 0 → Invertible (settingsOf head) statistics inputs times (sizes values upper lower «values_out» «upper_out» «lower_out» «times_out» «times_upper_out» «times_lower_out»)) ⌝ }
 {
     let row = head_row(head);
     if row != 0 {
@@ -440,7 +441,7 @@ fn invert_augmented(
     times_upper_out: &mut [f64],
     times_lower_out: &mut [f64],
 )
-    requires { ⌜ Invertible (settingsOf head) (sizes (length (now s)) (length (now inputs)) (length (now times)) (length (now values)) (length (now upper)) (length (now lower)) (length (now «values_out»)) (length (now «upper_out»)) (length (now «lower_out»)) (length (now «times_out»)) (length (now «times_upper_out»)) (length (now «times_lower_out»))) ⌝ }
+    requires { ⌜ Invertible (settingsOf head) (length (now s)) (length (now inputs)) (length (now times)) (sizes (length (now values)) (length (now upper)) (length (now lower)) (length (now «values_out»)) (length (now «upper_out»)) (length (now «lower_out»)) (length (now «times_out»)) (length (now «times_upper_out»)) (length (now «times_lower_out»))) ⌝ }
     requires { ⌜ length (now inputs) ≡ head .transformer .«input_length» * head .«shingle_size» ⌝ }
     requires { ⌜ augments (head .«forest_mode») ≡ true ⌝ }
     ensures { λ _. ⌜ ranges (now («values_out» .exit)) (now («upper_out» .exit)) (now («lower_out» .exit))
@@ -493,7 +494,7 @@ fn invert_accepted(
     times_upper_out: &mut [f64],
     times_lower_out: &mut [f64],
 )
-    requires { ⌜ Invertible (settingsOf head) (sizes (length (now statistics)) (length (now «last_shingled_input»)) (length (now «previous_timestamps»)) (length (now values)) (length (now upper)) (length (now lower)) (length (now «values_out»)) (length (now «upper_out»)) (length (now «lower_out»)) (length (now «times_out»)) (length (now «times_upper_out»)) (length (now «times_lower_out»))) ⌝ }
+    requires { ⌜ Invertible (settingsOf head) (length (now statistics)) (length (now «last_shingled_input»)) (length (now «previous_timestamps»)) (sizes (length (now values)) (length (now upper)) (length (now lower)) (length (now «values_out»)) (length (now «upper_out»)) (length (now «lower_out»)) (length (now «times_out»)) (length (now «times_upper_out»)) (length (now «times_lower_out»))) ⌝ }
     ensures { λ _. ⌜ forecast (ranges (now (values .exit)) (now (upper .exit)) (now (lower .exit))) (ranges (now («values_out» .exit)) (now («upper_out» .exit)) (now («lower_out» .exit))) (ranges (now («times_out» .exit)) (now («times_upper_out» .exit)) (now («times_lower_out» .exit)))
         ≡ turnedBack (viewed head (now (statistics .entry)) (now («last_shingled_input» .entry)) (now («previous_timestamps» .entry)))
         (forecast (ranges (now (values .entry)) (now (upper .entry)) (now (lower .entry))) (ranges (now («values_out» .entry)) (now («upper_out» .entry)) (now («lower_out» .entry))) (ranges (now («times_out» .entry)) (now («times_upper_out» .entry)) (now («times_lower_out» .entry)))) ⌝ }

@@ -9,10 +9,9 @@ use Rattle.trcf.specs.Lists.{tabulate}
 use Rattle.trcf.specs.Types.{augments, differences}
 use Rattle.trcf.specs.Transformer.{zero32}
 use Rattle.trcf.specs.Settings.{Settings, dimension}
-use Rattle.trcf.specs.Calls.{lookahead}
+use Rattle.trcf.specs.Calls.{Sizes, lookahead}
 use Rattle.trcf.specs.Preprocessor.{statisticsLength}
 use Rattle.trcf.specs.View.{Bounded}
-use Rattle.trcf.specs.Extrapolation.{Sizes}
 
 -- what a row 0 says of each
 pub record Unbroken (s : Settings) (v u l : ℕ) : Type 0 where
@@ -35,11 +34,11 @@ pub record Readable (s : Settings) (st x ts : ℕ) : Type 0 where
   pub inputs : s .d * s .k ≤ x
   pub times : s .k ≤ ts
 
-pub record Invertible (s : Settings) (z : Sizes) : Type 0 where
+pub record Invertible (s : Settings) (st x ts : ℕ) (z : Sizes) : Type 0 where
   pub bounded : Bounded s
   pub unbroken : Unbroken s (z .values) (z .upper) (z .lower)
   pub long : augments (s .mode) ≡ true → Long s z
-  pub readable : Readable s (z .statistics) (z .inputs) (z .times)
+  pub readable : Readable s st x ts
 
 unfoldable pub timeFactor : Float → Float
 timeFactor w = cond (eq w zero32) zero64 (div binary64 one64 w)

@@ -6,6 +6,7 @@ use mir.Syntax.{w32}
 use mir.ValLaws.{toZ-ofZ}
 use Rattle.trcf.specs.Calls.{Learn}
 use borrow.Author.Tests.{not-true, not-false}
+use Rattle.trcf.specs.Preprocessor.{learnedNothing}
 use Rattle.trcf.specs.View.{lent, learnCall, learnNothing, learnAfter}
 use Rattle.access.specs.declared.rights.Right.the-variants.{LEARN}
 use Rattle.access.proofs.Laws.{guard-shut, guard-open}
@@ -17,6 +18,7 @@ may-requires : tie.Need-may-requires
 may-requires c κs = search needs
 
 returns : tie.Need-returns
+unfolding learnedNothing
 returns c = guard-shut _ _ (LEARN ∷ []) (c .before .may .result) (c .before .may .ensures) _ _ (not-true _ (c .if1 .taken))
 
 post-process-requires : tie.Need-post-process-requires

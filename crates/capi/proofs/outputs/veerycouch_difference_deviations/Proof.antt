@@ -1,6 +1,7 @@
 -- `capi::outputs::veerycouch_difference_deviations` meets its contract: by the promises of the words and of the call. Assumes nothing.
 use Rattle.trcf.specs.View.{lent}
 use Rattle.trcf.specs.Calls.{status}
+use Rattle.trcf.specs.Preprocessor.{deviations}
 use Rattle.capi.proofs.CallLaws.{opened, write-refused, write-done}
 use borrow.Author.Needs.{needs}
 use Rattle.capi.proofs.outputs.veerycouch_difference_deviations.Statement.{statement}
@@ -18,7 +19,8 @@ returns c =
     let a = c8 .before .before .before .before .args in
     write-refused (a .table .now) (a .role) (a .head .now)
     (lent (a .statistics .now) (a .last-shingled-input .now) (a .last-shingled-point .now) (a .previous-timestamps .now) (a .initial-values .now) (a .initial-timestamps .now))
-    (status (a .output .now)) (a .output .now) (opened (a .head .now) (c .before .before .may .ensures) (c .before .open-head .ensures .0)) (c .if1 .taken)
+    (status (a .output .now)) deviations (a .output .now)
+    (opened (a .head .now) (c .before .before .may .ensures) (c .before .open-head .ensures .0)) (c .if1 .taken)
 
 difference-deviations-requires : tie.Need-difference-deviations-requires
 difference-deviations-requires c κs = search needs
@@ -35,7 +37,8 @@ returns-2 c =
     let m = c .before .before .before .before .before .before .before .may in
     write-done (a .table .now) (a .role) (a .head .now) (c .before .before .before .before .before .if1 .left) (h .ensures .1)
     (lent (a .statistics .now) (a .last-shingled-input .now) (a .last-shingled-point .now) (a .previous-timestamps .now) (a .initial-values .now) (a .initial-timestamps .now))
-    (status (a .output .now)) (a .output .now) (opened (a .head .now) (m .ensures) (h .ensures .0)) (c .before .before .difference-deviations .ensures)
+    (status (a .output .now)) deviations (a .output .now)
+    (opened (a .head .now) (m .ensures) (h .ensures .0)) (c .before .before .difference-deviations .ensures)
 
 pub veerycouch-difference-deviations-spec : {M : Type 1} → statement M
 veerycouch-difference-deviations-spec = tie.close (tie.spec may-requires open-head-requires returns difference-deviations-requires same-length returns-2)

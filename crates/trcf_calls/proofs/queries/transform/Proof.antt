@@ -5,7 +5,7 @@ use Rattle.trcf.proofs.OutcomeLaws.{write-stays, write-goes}
 use Prim.Native.Nat.{ℕ, _*_}
 use Rattle.refusal.specs.Lent.{over}
 use Rattle.trcf.specs.Lists.{lastN}
-use Rattle.trcf.specs.Preprocessor.{reply, facts, timeBase, preceding, reading, transformedAfter, statisticsLength}
+use Rattle.trcf.specs.Preprocessor.{facts, timeBase, preceding, reading, transformedAfter, transformOf, statisticsLength}
 use Rattle.trcf.specs.View.{view, lent, settingsOf, timeBaseOf}
 use Rattle.trcf.specs.Calls.{transform, newest}
 use mathlib.Core.Path.{refl, sym, ap, _∙_}
@@ -26,7 +26,7 @@ returns c =
     let c8 = c .before .before .before .before .before .before .before .before in
     let a = c8 .before .before .before .args in
     let l = lent (a .statistics .now) (a .last-shingled-input .now) (a .last-shingled-point .now) (a .previous-timestamps .now) (a .initial-values .now) (a .initial-timestamps .now) in
-    write-stays (a .head) l (transform (a .input .now) (a .timestamp) (a .output .now)) (a .output .now) (c .before .transform-row .result)
+    write-stays (a .head) l (transform (a .input .now) (a .timestamp) (a .output .now)) (transformOf (reading (a .input .now) (a .timestamp))) (a .output .now) (c .before .transform-row .result)
     (c .before .transform-row .ensures .0) (c .if1 .taken)
 
 time-base-requires : tie.Need-time-base-requires
@@ -57,7 +57,7 @@ same-length-2 : tie.Need-same-length-2
 same-length-2 c = search needs
 
 returns-2 : tie.Need-returns-2
-unfolding reply view preceding timeBase timeBaseOf newest facts
+unfolding view preceding timeBase timeBaseOf newest facts
 returns-2 c =
     let c8 = c .before .before .before .before .before .before .before .before in
     let c16 = c8 .before .before .before .before .before .before .before .before in
@@ -68,7 +68,7 @@ returns-2 c =
     let z = c8 .if1 .left in
     let r = o .ensures .1 .0 z in
     let f = r .fitted .roomy in
-    write-goes h l (transform (a .input .now) (a .timestamp) (a .output .now)) (a .output .now) (o .result) (o .ensures .0) z _ _
+    write-goes h l (transform (a .input .now) (a .timestamp) (a .output .now)) (transformOf (reading (a .input .now) (a .timestamp))) (a .output .now) (o .result) (o .ensures .0) z _ _
     (opened _ (c .before .before .write-transform .ensures)
     (transform-fits (r .bounded, (length-take-le _ _ (f .in-statistics), (length-take-le _ _ (f .in-input), (o .ensures .1 .1 .0 z, o .ensures .1 .1 .1 z)))))
     ∙ ap

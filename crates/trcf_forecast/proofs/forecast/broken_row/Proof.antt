@@ -3,19 +3,19 @@ use Rattle.trcf.proofs.LengthLaws.{dimension-known}
 use borrow.Author.Tests.{lt-ltb, le-ltb, eq-eqb, ne-eqb}
 use native.Mathlib.Omega.{arith}
 use mathlib.Core.Path.{sym, _∙_}
-use Rattle.trcf.specs.Extrapolation.{brokenAt}
+use Rattle.trcf.specs.Calls.{forecastUnfit}
 use Rattle.trcf.proofs.ExtrapolationLaws.{true-false}
 use borrow.Author.Needs.{needs}
 use Rattle.trcf_forecast.proofs.forecast.broken_row.Statement.{statement}
 use Rattle.trcf_forecast.proofs.forecast.broken_row.Tie as tie
 
 returns : tie.Need-returns
-unfolding brokenAt
+unfolding forecastUnfit
 returns c =
     (rw (ne-eqb _ _ (c .if1 .taken)), λ e. absurd (omega (arith, e)))
 
 returns-2 : tie.Need-returns-2
-unfolding brokenAt
+unfolding forecastUnfit
 returns-2 c =
     (rw (eq-eqb _ _ (c .before .if1 .left), ne-eqb _ _ (c .if2 .taken)), λ e. absurd (omega (arith, e)))
 
@@ -26,14 +26,14 @@ get-dimension-requires : tie.Need-get-dimension-requires
 get-dimension-requires c κs = tt
 
 returns-3 : tie.Need-returns-3
-unfolding brokenAt
+unfolding forecastUnfit
 returns-3 c = (
   rw (← (dimension-known (c .before .get-dimension .ensures) (search needs)) .0, eq-eqb _ _ (c .before .before .before .before .before .if1 .left), eq-eqb _ _ (c .before .before .before .before .if2 .left), sym (c .before .before .before .is-augmented .ensures) ∙ c .before .before .if3 .taken, lt-ltb _ _ (c .if4 .taken)),
   λ e. absurd (omega (arith, e)),
 )
 
 returns-4 : tie.Need-returns-4
-unfolding brokenAt
+unfolding forecastUnfit
 returns-4 c = (
   rw (← (dimension-known (c .before .get-dimension .ensures) (search needs)) .0, eq-eqb _ _ (c .before .before .before .before .before .if1 .left), eq-eqb _ _ (c .before .before .before .before .if2 .left), sym (c .before .before .before .is-augmented .ensures) ∙ c .before .before .if3 .taken, le-ltb _ _ (c .if4 .left)),
   λ e. record { upper = sym (c .before .before .before .before .before .if1 .left); lower = sym (c .before .before .before .before .if2 .left); blocks = λ a. omega (arith, (dimension-known (c .before .get-dimension .ensures) (search needs)) .0); cascades = λ a. absurd (true-false (sym (c .before .before .if3 .taken) ∙ c .before .before .before .is-augmented .ensures ∙ a)) },
@@ -43,14 +43,14 @@ is-broken-requires : tie.Need-is-broken-requires
 is-broken-requires c κs = tt
 
 returns-5 : tie.Need-returns-5
-unfolding brokenAt
+unfolding forecastUnfit
 returns-5 c = (
   rw (eq-eqb _ _ (c .before .before .before .before .before .if1 .left), eq-eqb _ _ (c .before .before .before .before .if2 .left), sym (c .before .before .before .is-augmented .ensures) ∙ c .before .before .if3 .left, sym (c .before .is-broken .ensures) ∙ c .if5 .taken),
   λ e. absurd (omega (arith, e)),
 )
 
 returns-6 : tie.Need-returns-6
-unfolding brokenAt
+unfolding forecastUnfit
 returns-6 c = (
   rw (eq-eqb _ _ (c .before .before .before .before .before .if1 .left), eq-eqb _ _ (c .before .before .before .before .if2 .left), sym (c .before .before .before .is-augmented .ensures) ∙ c .before .before .if3 .left, sym (c .before .is-broken .ensures) ∙ c .if5 .left),
   λ e. record { upper = sym (c .before .before .before .before .before .if1 .left); lower = sym (c .before .before .before .before .if2 .left); blocks = λ a. absurd (true-false (sym a ∙ sym (c .before .before .before .is-augmented .ensures) ∙ c .before .before .if3 .left)); cascades = λ a. sym (c .before .is-broken .ensures) ∙ c .if5 .left },

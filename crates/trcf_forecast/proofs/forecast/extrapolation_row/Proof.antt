@@ -1,7 +1,7 @@
 -- The first row that refuses. Assumes nothing.
 use mathlib.Core.Path.{sym, _∙_}
 use Rattle.trcf.specs.View.{orElse}
-use Rattle.trcf.specs.Extrapolation.{shortAt}
+use Rattle.trcf.specs.Calls.{forecastOutputShort}
 use Rattle.trcf.proofs.ExtrapolationLaws.{row-head, row-own, row-output, row-unread, orElse-first}
 use Rattle.trcf_forecast.proofs.forecast.extrapolation_row.Statement.{statement}
 use Rattle.trcf_forecast.proofs.forecast.extrapolation_row.Tie as tie
@@ -11,7 +11,7 @@ head-row-requires c κs = tt
 
 returns : tie.Need-returns
 returns c =
-    (row-head _ _ _ (c .before .head-row .ensures .0) (c .if1 .taken), λ e. absurd (c .if1 .taken e))
+    (row-head _ _ _ _ _ _ (c .before .head-row .ensures .0) (c .if1 .taken), λ e. absurd (c .if1 .taken e))
 
 broken-row-requires : tie.Need-broken-row-requires
 broken-row-requires c κs =
@@ -27,7 +27,7 @@ returns-2 : tie.Need-returns-2
 returns-2 c =
     let f = c .before in
     let b = f .before .before in (
-      row-own _ _ _ (sym (b .before .before .head-row .ensures .0) ∙ b .before .if1 .left)
+      row-own _ _ _ _ _ _ (sym (b .before .before .head-row .ensures .0) ∙ b .before .if1 .left)
           (f .first-of .ensures ∙ (λ j. orElse (b .broken-row .ensures .0 j) (f .before .counters-row .ensures j))) (c .if2 .taken),
       λ e. absurd (c .if2 .taken e),
     )
@@ -38,11 +38,11 @@ output-row-requires c κs =
     b .before .before .head-row .ensures .1 (b .before .if1 .left)
 
 returns-3 : tie.Need-returns-3
-unfolding shortAt
+unfolding forecastOutputShort
 returns-3 c =
     let f = c .before .before .before in
     let b = f .before .before in (
-      row-output _ _ _ (sym (b .before .before .head-row .ensures .0) ∙ b .before .if1 .left)
+      row-output _ _ _ _ _ _ (sym (b .before .before .head-row .ensures .0) ∙ b .before .if1 .left)
           (sym (f .first-of .ensures ∙ (λ j. orElse (b .broken-row .ensures .0 j) (f .before .counters-row .ensures j))) ∙ c .before .before .if2 .left)
           (c .before .output-row .ensures .0) (c .if3 .taken),
       λ e. absurd (c .if3 .taken e),
@@ -54,12 +54,12 @@ unread-row-requires c κs =
     b .before .before .head-row .ensures .1 (b .before .if1 .left)
 
 returns-4 : tie.Need-returns-4
-unfolding shortAt
+unfolding forecastOutputShort
 returns-4 c =
     let f = c .before .before .before .before in
     let b = f .before .before in
     let none = f .before .before .before .if1 .left in (
-      row-unread _ _ _ (sym (b .before .before .head-row .ensures .0) ∙ b .before .if1 .left)
+      row-unread _ _ _ _ _ _ (sym (b .before .before .head-row .ensures .0) ∙ b .before .if1 .left)
           (sym (f .first-of .ensures ∙ (λ j. orElse (b .broken-row .ensures .0 j) (f .before .counters-row .ensures j))) ∙ c .before .before .before .if2 .left)
           (sym (c .before .before .output-row .ensures .0) ∙ c .before .if3 .left) (c .unread-row .ensures .0),
       λ e. record {

@@ -5,8 +5,7 @@ use mathlib.Core.Path.{sym, _∙_}
 use Prim.Native.Nat.{_*_, _≤_, _<_}
 use native.Mathlib.Nat.{mul-le-mul}
 use Rattle.trcf.specs.View.{settingsOf}
-use Rattle.trcf.specs.Calls.{lookahead}
-use Rattle.trcf.specs.Extrapolation.{shortAt}
+use Rattle.trcf.specs.Calls.{lookahead, forecastOutputShort}
 use Rattle.trcf.proofs.ExtrapolationLaws.{true-false, dimension-pos, numbers-within, numbers-fit}
 use borrow.Author.Needs.{needs}
 use Rattle.trcf_forecast.proofs.forecast.output_row.Statement.{statement}
@@ -42,7 +41,7 @@ is-shorter-requires : tie.Need-is-shorter-requires
 is-shorter-requires c κs = tt
 
 returns : tie.Need-returns
-unfolding shortAt lookahead
+unfolding forecastOutputShort lookahead
 returns c = (
   rw (← (dimension-known (c .before .before .before .before .get-dimension .ensures) (search needs)) .0, sym (c .before .before .before .is-augmented .ensures) ∙ c .before .before .if1 .taken, sym (c .before .is-shorter .ensures .0) ∙ c .if2 .taken),
   λ e. absurd (omega (arith, e)),
@@ -52,21 +51,21 @@ is-shorter-requires-2 : tie.Need-is-shorter-requires-2
 is-shorter-requires-2 c κs = tt
 
 returns-2 : tie.Need-returns-2
-unfolding shortAt lookahead
+unfolding forecastOutputShort lookahead
 returns-2 c = (
   rw (← (dimension-known (c .before .before .before .before .before .before .get-dimension .ensures) (search needs)) .0, sym (c .before .before .before .before .before .is-augmented .ensures) ∙ c .before .before .before .before .if1 .taken, sym (c .before .before .before .is-shorter .ensures .0) ∙ c .before .before .if2 .left, sym (c .before .is-shorter2 .ensures .0) ∙ c .if3 .taken),
   λ e. absurd (omega (arith, e)),
 )
 
 returns-3 : tie.Need-returns-3
-unfolding shortAt lookahead
+unfolding forecastOutputShort lookahead
 returns-3 c = (
   rw (← (dimension-known (c .before .before .before .before .before .before .get-dimension .ensures) (search needs)) .0, sym (c .before .before .before .before .before .is-augmented .ensures) ∙ c .before .before .before .before .if1 .taken, sym (c .before .before .before .is-shorter .ensures .0) ∙ c .before .before .if2 .left, sym (c .before .is-shorter2 .ensures .0) ∙ c .if3 .left),
   λ e a. record { numbers = rw (← (dimension-known (c .before .before .before .before .before .before .get-dimension .ensures) (search needs)) .0) (c .before .before .before .is-shorter .ensures .1 (c .before .before .if2 .left)); times = rw (← (dimension-known (c .before .before .before .before .before .before .get-dimension .ensures) (search needs)) .0) (c .before .is-shorter2 .ensures .1 (c .if3 .left)) },
 )
 
 returns-4 : tie.Need-returns-4
-unfolding shortAt lookahead
+unfolding forecastOutputShort lookahead
 returns-4 c = (
   rw (sym (c .before .is-augmented .ensures) ∙ c .if1 .left),
   λ e a. absurd (true-false (sym a ∙ sym (c .before .is-augmented .ensures) ∙ c .if1 .left)),

@@ -12,7 +12,7 @@ use lib.Ieee.{Float, binary64, mul}
 use Rattle.common.specs.declared.deviation.Deviation.{Deviation}
 use Rattle.common.specs.declared.deviation.DeviationResult.the-variants.{Ok, Err}
 use Rattle.refusal.specs.Refusal.{firstOf}
-use Rattle.common.specs.Deviation.{deviationResultBy, statistic}
+use Rattle.common.specs.Deviation.{deviationAnswer, statistic}
 use Rattle.common.specs.WholeScores.{wholeFloat}
 use Rattle.common.specs.Corrected.{readingLimit, lengthLimit, wholeWithin, integerOf, correctionRows, correctedStatistic, correctedOf}
 use Rattle.common.specs.Steps.Whole.{Summand}
@@ -33,7 +33,7 @@ correction-row-requires c κs = search needs
 
 -- ---- a refusal
 
-err-row : (n : ℕ) (s : Deviation) → 0 < n → Err n ≡ deviationResultBy n s
+err-row : (n : ℕ) (s : Deviation) → 0 < n → Err n ≡ deviationAnswer n s
 err-row zero s h = absurd (omega arith)
 err-row (suc n) s h = refl
 
@@ -41,7 +41,7 @@ refused : (s : Deviation) (wrong right w r : Float) (row : ℕ) → w ≡ wrong 
 unfolding correctedOf
 refused s wrong right w r row p q e h =
     err-row row (correctedStatistic s wrong right) h
-    ∙ λ i. deviationResultBy ((e ∙ λ j. firstOf (correctionRows s (p j) (q j))) i) (correctedStatistic s wrong right)
+    ∙ λ i. deviationAnswer ((e ∙ λ j. firstOf (correctionRows s (p j) (q j))) i) (correctedStatistic s wrong right)
 
 returns : tie.Need-returns
 returns c = let r = c .before in refused _ _ _ _ _ _ (r .before .before .to-f64 .ensures) (r .before .to-f642 .ensures) (r .correction-row .ensures) (c .if1 .taken)
