@@ -20,12 +20,14 @@ use Rattle.trcf.specs.Transformer.{zero32, one32, inverted, updated}
 use Rattle.trcf.specs.Settings.{Settings, transformer, dimension, block, waiting}
 use Rattle.trcf.specs.Calls.{Learn, Call, postProcess, seenLimit, rows, table, finite, given, wrongLength, newest, outside, learnFull, learnShort, waitingShort}
 use Rattle.trcf.specs.Preprocessor.{State, Learned, timeFed, Reading, reading, facts, statisticsLength, previous, feed, buffered, learned, learnedWith, change, accepted, deviations, learnedNothing, deviationsAlone, bufferedAnswer, learnedAnswer, learnAnswer, learnReply, anomalyOf, pastValues, expectedValues, blockAt, isZero, blockFrom}
-use Rattle.trcf.specs.View.{Lent, lent, settingsOf, view, counted, counting, writtenOver, holding, Fitted, rowOf, headAfter, lentAfter, optional, learnCall, backOf, waitingRow, learnRow, learningRow, LearnOutcome, learnOutcome, learnedOutcome, learnNothing, learnAfter, orElse}
-use Rattle.trcf.specs.Steps.Learning.{inputRow, Learnable, LearnParts, learnedParts, learnedStatistics}
+use Rattle.trcf.specs.View.{Lent, lent, settingsOf, view, counted, counting, writtenOver, holding, Fitted, rowOf, headAfter, lentAfter, optional, learnCall, backOf, newestOf, Bounded, LearnOutcome, learnOutcome, learnedOutcome, learnNothing, learnAfter, orElse}
+use Rattle.trcf.specs.Steps.Rows.{inputRow, waitingRow, learnRow, learningRow}
+use Rattle.trcf.specs.Steps.Learning.{Learnable, LearnParts, learnedParts, learnedStatistics}
 use Rattle.trcf.specs.declared.head.Preprocessor.{Preprocessor}
 use Rattle.trcf.specs.Types.{normalizes}
 use Rattle.trcf.proofs.TransformerLaws.{fedAt-length, updated-length}
 use Rattle.trcf.proofs.ShingleLaws.{over-take}
+use Rattle.trcf.proofs.RowLaws.{orElse-none, row-none, whole-first}
 use Rattle.trcf.proofs.StateLaws.{same-head, same-lent, held-initial, held-values}
 
 -- ---- the rows
@@ -56,7 +58,7 @@ split false false false false p13 p14 w18 l18 w20 l20 = refl
 
 module _ (h : Preprocessor) (l : Lent) (x : List Float) (t : ℕ) (hasY : Bool) (y : List Float) (expects : Bool) (e : List Float) (grade : Float) (i : ℤ)
     (deviationsOut pastOut expectedOut : List Float) (k-pos : 0 < h .«shingle_size») (k-few : h .«shingle_size» ≤ 64) where
-  pub post-rows : orElse (inputRow h (l .previousTimestamps) (l .initialTimestamps) x t)
+  pub post-rows : orElse (inputRow h (length x) (finite x) (newestOf h (l .previousTimestamps) (l .initialTimestamps)) t)
       (learningRow h (length y) hasY (length e) expects grade (backOf i) (length deviationsOut) (length pastOut) (length expectedOut))
       ≡ rows (settingsOf h) (facts (view h l)) (postProcess (learnCall x t hasY y expects e grade i deviationsOut pastOut expectedOut))
   unfolding rows table inputRow learningRow waitingRow learnRow facts view newest learnFull learnShort waitingShort
@@ -74,6 +76,26 @@ module _ (h : Preprocessor) (l : Lent) (x : List Float) (t : ℕ) (hasY : Bool) 
       (leb seenLimit (h .«values_seen»)) (hasY && full) (eqb (suc (h .«values_seen»)) (h .«start_normalization») && ltb (length deviationsOut) (block s)) (hasY && short)))
 
 -- ---- what a row 0 leaves room for
+
+module _ (h : Preprocessor) (l : Lent) (x : List Float) (t : ℕ) (hasY : Bool) (y : List Float) (expects : Bool) (e : List Float) (grade : Float) (i : ℤ)
+    (deviationsOut pastOut expectedOut : List Float) (b : Bounded (settingsOf h))
+    (z : rowOf h l (postProcess (learnCall x t hasY y expects e grade i deviationsOut pastOut expectedOut)) ≡ 0) where
+  abbrev learns : ℕ
+  learns = learningRow h (length y) hasY (length e) expects grade (backOf i) (length deviationsOut) (length pastOut) (length expectedOut)
+
+  post-none : (inputRow h (length x) (finite x) (newestOf h (l .previousTimestamps) (l .initialTimestamps)) t ≡ 0) × (learns ≡ 0)
+  post-none =
+      orElse-none (inputRow h (length x) (finite x) (newestOf h (l .previousTimestamps) (l .initialTimestamps)) t) learns
+      (post-rows h l x t hasY y expects e grade i deviationsOut pastOut expectedOut (b .k-pos) (b .k-few)
+      ∙ row-none h l (postProcess (learnCall x t hasY y expects e grade i deviationsOut pastOut expectedOut)) z .rows-none)
+
+  pub post-learns : learns ≡ 0
+  post-learns = post-none .1
+
+  pub post-whole : length x ≡ h .transformer .«input_length»
+  unfolding inputRow
+  post-whole =
+      whole-first (length x) (h .transformer .«input_length») _ (post-none .0)
 
 and-falls : (a b : Bool) → (a && b) ≡ false → a ≡ true → b ≡ false
 and-falls true b e t = e

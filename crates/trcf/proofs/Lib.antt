@@ -9,6 +9,7 @@ pub mod CallLaws
 pub mod TransformerExamples
 pub mod ShingleLaws
 pub mod RefusalLaws
+pub mod RowLaws
 pub mod OutputLaws
 pub mod OutcomeLaws
 pub mod DrainLaws

@@ -12,12 +12,11 @@ use lib.Seq.{length-take-le, take-at}
 use lib.Ieee.{Float}
 use Rattle.refusal.specs.Lent.{over}
 use Rattle.common.specs.Deviation.{countLimit}
-use Rattle.refusal.specs.Refusal.{firstOf}
 use Rattle.trcf.specs.Lists.{null}
 use Rattle.trcf.specs.Settings.{Settings, dimension, block, waiting}
 use Rattle.trcf.specs.Calls.{due, drainFull, seenLimit, drain, shingledPoint}
 use Rattle.trcf.specs.Preprocessor.{State, Reading, reading, facts, statisticsLength, blocks, primed, drainEach, drainAll, drained, pointOf, change, accepted}
-use Rattle.trcf.specs.View.{Lent, lent, settingsOf, view, counted, writtenOver, Outcome, outcome, Roomy, Fitted, rowOf, pastRow, headAfter, lentAfter, drainOf, pointed}
+use Rattle.trcf.specs.View.{Lent, lent, settingsOf, view, counted, writtenOver, Outcome, outcome, Roomy, Fitted, rowOf, headAfter, lentAfter, drainOf, pointed}
 use Rattle.trcf.specs.View.{pointAfter}
 use Rattle.trcf.specs.Steps.Learning.{shingling, readingAt}
 use Rattle.trcf.specs.declared.head.Preprocessor.{Preprocessor}
@@ -286,21 +285,3 @@ module _ (h : Preprocessor) (l : Lent) (x : List Float) (t : ℕ) (out : List Fl
       ∙ (λ j. let s = cond (sym w j) (view h l) (drained (view h l)) in
       pointed 0 (not (sym w j)) (counted h s) (writtenOver s l) (cond (not (sym w j)) point out))
       ∙ point-answered e
-
-firstOf-none : (a b : Bool) → firstOf ((a, 18) ∷ (b, 20) ∷ []) ≡ 0 → (a ≡ false) × (b ≡ false)
-firstOf-none true b e = absurd (omega arith)
-firstOf-none false true e = absurd (omega arith)
-firstOf-none false false e = (refl, refl)
-
-module _ (h : Preprocessor) (l : Lent) (n : ℕ) (e : pastRow h (l .initialTimestamps) n ≡ 0) (w : waiting (settingsOf h) (h .«values_seen») ≡ false) where
-  past-both : ((due (settingsOf h) (facts (view h l)) && drainFull (settingsOf h) (facts (view h l))) ≡ false) × (ltb n (dimension (settingsOf h)) ≡ false)
-  unfolding pastRow due drainFull facts view
-  past-both =
-      let f = firstOf-none _ _ (rw w at e) in
-      (f .0, f .1)
-
-  pub past-room : (due (settingsOf h) (facts (view h l)) && drainFull (settingsOf h) (facts (view h l))) ≡ false
-  past-room = past-both .0
-
-  pub past-long : dimension (settingsOf h) ≤ n
-  past-long = ltb-false n (dimension (settingsOf h)) (past-both .1)

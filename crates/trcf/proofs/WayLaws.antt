@@ -12,14 +12,15 @@ use Rattle.trcf.specs.Transformer.{zero32}
 use Rattle.trcf.specs.Settings.{waiting, block, dimension}
 use Rattle.trcf.specs.Calls.{drain, shingledPoint, postProcess}
 use Rattle.trcf.specs.Preprocessor.{State, statisticsLength, deviations, drained, reading, pointOf, learnedNothing}
-use Rattle.trcf.specs.View.{Lent, lent, settingsOf, initialRoom, rowOf, learningRow, optional, learnCall, backOf, learnOutcome, learnNothing, learnAfter, counting, holding, Bounded, Ready, Fitted, Outcome, outcome, drainOf, pointed, pointAfter, counted, writtenOver, view}
+use Rattle.trcf.specs.View.{Lent, lent, settingsOf, initialRoom, rowOf, optional, learnCall, backOf, learnOutcome, learnNothing, learnAfter, counting, holding, Bounded, Ready, Fitted, Outcome, outcome, drainOf, pointed, pointAfter, counted, writtenOver, view}
+use Rattle.trcf.specs.Steps.Rows.{learningRow}
 use Rattle.trcf.specs.Steps.Learning.{LearnParts, learnedParts, answering, answeringRow, Learnable}
 use Rattle.trcf.specs.declared.head.Preprocessor.{Preprocessor}
 use Rattle.trcf.specs.declared.head.PostProcessed.{PostProcessed}
 use Rattle.trcf.proofs.BoundLaws.{kept-room}
 use Rattle.trcf.proofs.RefusalLaws.{room-waiting}
 use Rattle.trcf.proofs.StateLaws.{drain-refused, drain-done, point-refused, point-waits, point-done}
-use Rattle.trcf.proofs.LearnLaws.{learn-refused, learn-held, learn-none, learn-whole, learnable, waiting-below, waiting-completes, outcomeOf}
+use Rattle.trcf.proofs.LearnLaws.{post-learns, post-whole, learn-refused, learn-held, learn-none, learn-whole, learnable, waiting-below, waiting-completes, outcomeOf}
 
 -- ---- `drain`
 
@@ -102,43 +103,44 @@ module _ (h : Preprocessor) (st xs ps : List Float) (ts : List ℕ) (vs : List F
         (λ j. learnOutcome (p j .row) (p j .written) (p j .«has_anomaly») (p j .«past_timestamp») (p j .likelihood) (p j .head) (lent st xs ps ts vs vt) deviationsOut pastOut expectedOut)
         ∙ learn-none h (lent st xs ps ts vs vt) (learnCall x t hasY y expects e grade i deviationsOut pastOut expectedOut) accepted (sym w ∙ g) (ap (λ (z : Bool). optional z y) k) (ready zero .fitted)
 
-    module _ (learns : n ≡ 0 → learningRow h (length y) hasY (length e) expects grade (backOf i′) (length deviationsOut) (length pastOut) (length expectedOut) ≡ 0) where
-      learns-is : learningRow h (length y) hasY (length e) expects grade (backOf i) (length deviationsOut) (length pastOut) (length expectedOut) ≡ 0
-      learns-is = sym (ap (λ (z : ℤ). learningRow h (length y) hasY (length e) expects grade (backOf z) (length deviationsOut) (length pastOut) (length expectedOut)) u) ∙ learns zero
+    learns-is : learningRow h (length y) hasY (length e) expects grade (backOf i) (length deviationsOut) (length pastOut) (length expectedOut) ≡ 0
+    learns-is = post-learns h (lent st xs ps ts vs vt) x t hasY y expects e grade i deviationsOut pastOut expectedOut (ready zero .bounded) accepted
 
-      pub room-held : (b : Bool) → b ≡ waiting (settingsOf h) (h .«values_seen») → b ≡ true → length x ≡ h .transformer .«input_length»
-          → Bounded (settingsOf h) × ((statisticsLength (settingsOf h) ≤ length st) × ((length x ≡ h .transformer .«input_length») × ((h .«initial_len» ≡ h .«values_seen») × ((h .«values_seen» < h .«start_normalization»)
-          × ((h .«start_normalization» * h .transformer .«input_length» ≤ length vs) × ((h .«start_normalization» ≤ length vt) × (eqb (suc (h .«values_seen»)) (h .«start_normalization») ≡ true → block (settingsOf h) ≤ length deviationsOut)))))))
-      room-held b w g k =
+    whole-is : length x ≡ h .transformer .«input_length»
+    whole-is = post-whole h (lent st xs ps ts vs vt) x t hasY y expects e grade i deviationsOut pastOut expectedOut (ready zero .bounded) accepted
+
+    pub room-held : (b : Bool) → b ≡ waiting (settingsOf h) (h .«values_seen») → b ≡ true
+        → Bounded (settingsOf h) × ((statisticsLength (settingsOf h) ≤ length st) × ((length x ≡ h .transformer .«input_length») × ((h .«initial_len» ≡ h .«values_seen») × ((h .«values_seen» < h .«start_normalization»)
+        × ((h .«start_normalization» * h .transformer .«input_length» ≤ length vs) × ((h .«start_normalization» ≤ length vt) × (eqb (suc (h .«values_seen»)) (h .«start_normalization») ≡ true → block (settingsOf h) ≤ length deviationsOut)))))))
+    room-held b w g =
+        let r = ready zero in
+        let f = r .fitted .roomy in
+        let v = sym w ∙ g in
+        (r .bounded, (f .in-statistics, (whole-is, (r .fitted .counted v, (waiting-below (settingsOf h) (h .«values_seen») v, (values v (f .in-values), (times v (f .in-initial), waiting-completes h (length y) hasY (length e) expects grade (backOf i) (length deviationsOut) (length pastOut) (length expectedOut) learns-is v)))))))
+      where
+        values : waiting (settingsOf h) (h .«values_seen») ≡ true → initialRoom (settingsOf h) * h .transformer .«input_length» ≤ length vs → h .«start_normalization» * h .transformer .«input_length» ≤ length vs
+        values v = subst (λ (r : ℕ). r * h .transformer .«input_length» ≤ length vs) (room-waiting (settingsOf h) (h .«values_seen») v)
+
+        times : waiting (settingsOf h) (h .«values_seen») ≡ true → initialRoom (settingsOf h) ≤ length vt → h .«start_normalization» ≤ length vt
+        times v = subst (λ (r : ℕ). r ≤ length vt) (room-waiting (settingsOf h) (h .«values_seen») v)
+
+    module _ (b : Bool) (w : b ≡ waiting (settingsOf h) (h .«values_seen»)) (g : b ≡ false) (has : hasY ≡ true) (back : ℕ) (placed : back ≡ backOf i′) where
+      can-learn : Learnable h (length y) (length e) expects grade (backOf i) (length deviationsOut) (length pastOut) (length expectedOut)
+      can-learn = learnable h (length y) hasY (length e) expects grade (backOf i) (length deviationsOut) (length pastOut) (length expectedOut) learns-is (sym w ∙ g) has
+
+      back-is : back ≡ backOf i
+      back-is = placed ∙ ap backOf u
+
+      pub room-learnt : Bounded (settingsOf h) × ((statisticsLength (settingsOf h) ≤ length st) × ((h .transformer .«input_length» * h .«shingle_size» ≤ length xs) × ((dimension (settingsOf h) ≤ length ps) × ((h .«shingle_size» ≤ length ts)
+          × ((length x ≡ h .transformer .«input_length») × Learnable h (length y) (length e) expects grade back (length deviationsOut) (length pastOut) (length expectedOut))))))
+      room-learnt =
           let r = ready zero in
           let f = r .fitted .roomy in
-          let v = sym w ∙ g in
-          (r .bounded, (f .in-statistics, (k, (r .fitted .counted v, (waiting-below (settingsOf h) (h .«values_seen») v, (values v (f .in-values), (times v (f .in-initial), waiting-completes h (length y) hasY (length e) expects grade (backOf i) (length deviationsOut) (length pastOut) (length expectedOut) learns-is v)))))))
-        where
-          values : waiting (settingsOf h) (h .«values_seen») ≡ true → initialRoom (settingsOf h) * h .transformer .«input_length» ≤ length vs → h .«start_normalization» * h .transformer .«input_length» ≤ length vs
-          values v = subst (λ (r : ℕ). r * h .transformer .«input_length» ≤ length vs) (room-waiting (settingsOf h) (h .«values_seen») v)
+          (r .bounded, (f .in-statistics, (f .in-input, (f .in-point, (f .in-times, (whole-is, subst (λ (m : ℕ). Learnable h (length y) (length e) expects grade m (length deviationsOut) (length pastOut) (length expectedOut)) (sym back-is) can-learn))))))
 
-          times : waiting (settingsOf h) (h .«values_seen») ≡ true → initialRoom (settingsOf h) ≤ length vt → h .«start_normalization» ≤ length vt
-          times v = subst (λ (r : ℕ). r ≤ length vt) (room-waiting (settingsOf h) (h .«values_seen») v)
-
-      module _ (b : Bool) (w : b ≡ waiting (settingsOf h) (h .«values_seen»)) (g : b ≡ false) (has : hasY ≡ true) (back : ℕ) (placed : back ≡ backOf i′) where
-        can-learn : Learnable h (length y) (length e) expects grade (backOf i) (length deviationsOut) (length pastOut) (length expectedOut)
-        can-learn = learnable h (length y) hasY (length e) expects grade (backOf i) (length deviationsOut) (length pastOut) (length expectedOut) learns-is (sym w ∙ g) has
-
-        back-is : back ≡ backOf i
-        back-is = placed ∙ ap backOf u
-
-        pub room-learnt : length x ≡ h .transformer .«input_length»
-            → Bounded (settingsOf h) × ((statisticsLength (settingsOf h) ≤ length st) × ((h .transformer .«input_length» * h .«shingle_size» ≤ length xs) × ((dimension (settingsOf h) ≤ length ps) × ((h .«shingle_size» ≤ length ts)
-            × ((length x ≡ h .transformer .«input_length») × Learnable h (length y) (length e) expects grade back (length deviationsOut) (length pastOut) (length expectedOut))))))
-        room-learnt k =
-            let r = ready zero in
-            let f = r .fitted .roomy in
-            (r .bounded, (f .in-statistics, (f .in-input, (f .in-point, (f .in-times, (k, subst (λ (m : ℕ). Learnable h (length y) (length e) expects grade m (length deviationsOut) (length pastOut) (length expectedOut)) (sym back-is) can-learn))))))
-
-        pub way-learnt : (p : LearnParts) → p ≡ learnedParts h st xs ps ts x t y e (lt zero32 grade && expects) back deviationsOut pastOut expectedOut
-            → outcomeOf p vs vt ≡ learnAfter h (lent st xs ps ts vs vt) (learnCall x t hasY y expects e grade i deviationsOut pastOut expectedOut)
-        way-learnt p q =
-            ap (λ (p : LearnParts). outcomeOf p vs vt) q
-            ∙ ap (λ (m : ℕ). outcomeOf (learnedParts h st xs ps ts x t y e (lt zero32 grade && expects) m deviationsOut pastOut expectedOut) vs vt) back-is
-            ∙ learn-whole h (lent st xs ps ts vs vt) x t hasY y expects e grade i deviationsOut pastOut expectedOut (ready zero .bounded .k-few) (ready zero .fitted) has (λ z. can-learn .found z .inside) accepted (sym w ∙ g)
+      pub way-learnt : (p : LearnParts) → p ≡ learnedParts h st xs ps ts x t y e (lt zero32 grade && expects) back deviationsOut pastOut expectedOut
+          → outcomeOf p vs vt ≡ learnAfter h (lent st xs ps ts vs vt) (learnCall x t hasY y expects e grade i deviationsOut pastOut expectedOut)
+      way-learnt p q =
+          ap (λ (p : LearnParts). outcomeOf p vs vt) q
+          ∙ ap (λ (m : ℕ). outcomeOf (learnedParts h st xs ps ts x t y e (lt zero32 grade && expects) m deviationsOut pastOut expectedOut) vs vt) back-is
+          ∙ learn-whole h (lent st xs ps ts vs vt) x t hasY y expects e grade i deviationsOut pastOut expectedOut (ready zero .bounded .k-few) (ready zero .fitted) has (λ z. can-learn .found z .inside) accepted (sym w ∙ g)

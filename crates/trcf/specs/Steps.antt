@@ -3,5 +3,6 @@ pub mod Blocks
 pub mod Timestamps
 pub mod Passes
 pub mod Inverting
+pub mod Rows
 pub mod Learning
 pub mod Sound

@@ -1,5 +1,5 @@
 -- The preprocessor as the program holds it, settings and counters by value and six lent lists, and what each call makes of both.
-use Prim.Native.Nat.{ℕ, zero, suc, _+_, _-_, _*_, _≤_, _<_}
+use Prim.Native.Nat.{ℕ, zero, suc, _*_, _≤_, _<_}
 use mathlib.Core.Bool.{Bool, true, false, cond, not, _&&_, _||_}
 use mathlib.Core.List.{List, [], _∷_}
 use mathlib.Core.Option.{Option, none, some}
@@ -7,20 +7,21 @@ use mathlib.Core.Path.{_≡_}
 use lib.Dec.{ltb, leb, eqb}
 use lib.IntN.{ℤ, pos, negsuc}
 use lib.ListN.{length, take, replicate}
-use lib.Ieee.{Float, lt}
+use lib.Ieee.{Float}
 use Rattle.common.specs.Deviation.{zero64, countLimit}
-use Rattle.trcf.specs.Lists.{null, lastOr}
+use Rattle.trcf.specs.Lists.{lastOr}
 use Rattle.refusal.specs.Refusal.{firstOf}
 use Rattle.refusal.specs.Lent.{over}
 use Rattle.trcf.specs.Transformer.{zero32}
 use Rattle.trcf.specs.Types.{normalizes, methodNumber, modeLetter, isGap}
-use Rattle.trcf.specs.Settings.{Settings, inputLimit, shingleLimit, startBound, transformer, settingsRow, block, dimension, waiting}
+use Rattle.trcf.specs.Settings.{Settings, inputLimit, shingleLimit, startBound, transformer, settingsRow, dimension, waiting}
 use Rattle.trcf.specs.Calls.{Learn, Call, shingledPoint, postProcess, drain, status, rows, seenLimit, given}
 use Rattle.trcf.specs.Preprocessor.{State, Answer, refused, Status, Anomaly, Learned, learnedNothing, statisticsLength, fresh, facts, change, isReady, panelOf, statusOf, pointReply, learnReply, reply, accepted}
 use Rattle.trcf.specs.declared.types.TransformMethod.the-variants.{NONE}
 use Rattle.trcf.specs.declared.types.ForestMode.the-variants.{STANDARD}
 use Rattle.trcf.specs.declared.head.Preprocessor.{Preprocessor}
 use Rattle.trcf.specs.declared.head.PreprocessorBuilder.{PreprocessorBuilder}
+use Rattle.trcf.specs.declared.head.LentLengths.{LentLengths}
 use Rattle.trcf.specs.declared.head.StatusAnswer.{StatusAnswer}
 
 -- ---- what is lent
@@ -127,14 +128,29 @@ headRow s = firstOf (headTable s)
 abbrev pub initialRoom : Settings → ℕ
 initialRoom s = cond (normalizes (s .method)) (s .start) 0
 
--- a lent list is shorter than the part in use can grow
+-- how long each lent list is
+abbrev pub lengthsOf : Lent → LentLengths
+lengthsOf l =
+    record {
+      statistics = length (l .statistics);
+      «last_shingled_input» = length (l .lastShingledInput);
+      «last_shingled_point» = length (l .lastShingledPoint);
+      «previous_timestamps» = length (l .previousTimestamps);
+      «initial_values» = length (l .initialValues);
+      «initial_timestamps» = length (l .initialTimestamps);
+    }
+
+-- one of them is less than the part in use can grow to
+abbrev pub lengthsShort : Settings → LentLengths → Bool
+lengthsShort s n =
+    ltb (n .statistics) (statisticsLength s)
+    || (ltb (n .«last_shingled_input») (s .d * s .k)
+    || (ltb (n .«last_shingled_point») (dimension s)
+    || (ltb (n .«previous_timestamps») (s .k)
+    || (ltb (n .«initial_values») (initialRoom s * s .d) || ltb (n .«initial_timestamps») (initialRoom s)))))
+
 unfoldable pub lentShort : Settings → Lent → Bool
-lentShort s l =
-    ltb (length (l .statistics)) (statisticsLength s)
-    || (ltb (length (l .lastShingledInput)) (s .d * s .k)
-    || (ltb (length (l .lastShingledPoint)) (dimension s)
-    || (ltb (length (l .previousTimestamps)) (s .k)
-    || (ltb (length (l .initialValues)) (initialRoom s * s .d) || ltb (length (l .initialTimestamps)) (initialRoom s)))))
+lentShort s l = lengthsShort s (lengthsOf l)
 
 -- Counters that no preprocessor has, by document 01's 'Trace text'. Past waiting: not "none, or start lines under methods 4 and 5 (with such lines,
 -- internal is 0 if values_seen = start)".
@@ -198,23 +214,10 @@ pub record Fitted (h : Preprocessor) (l : Lent) : Type 0 where
 unfoldable pub rowOf : Preprocessor → Lent → Call → ℕ
 rowOf h l c = orElse (headRow (settingsOf h)) (orElse (rows (settingsOf h) (facts (view h l)) c) (lentRow h l))
 
--- rows 18 and 20 of a point: past waiting, a drain inside it that would pass a limit, and an output that is too short
-unfoldable pub pastRow : Preprocessor → List ℕ → ℕ → ℕ
-pastRow h ts n =
-    let past = not (waiting (settingsOf h) (h .«values_seen»)) in
-    let due = eqb (h .«values_seen») (h .«start_normalization») && not (null (take (h .«initial_len») ts)) in
-    let full = ltb countLimit (h .transformer .count + h .«start_normalization»)
-    || ltb seenLimit (h .«internal_timestamp» + h .«start_normalization») in
-    firstOf ((past && (due && full), 18) ∷ (past && ltb n (dimension (settingsOf h)), 20) ∷ [])
-
 -- what the row 0 of a call says
 pub record Ready (h : Preprocessor) (l : Lent) : Type 0 where
   pub bounded : Bounded (settingsOf h)
   pub fitted : Fitted h l
-
-pub record Pointing (h : Preprocessor) (l : Lent) (x n : ℕ) : Type 0 where
-  pub whole : x ≡ h .transformer .«input_length»
-  pub past : pastRow h (l .initialTimestamps) n ≡ 0
 
 -- ---- what the program's parts see
 
@@ -465,35 +468,6 @@ newestOf h ts vt = cond (eqb (h .«internal_timestamp») 0) (lastOr 0 (take (h .
 -- the time that a point's and a transform's time element is counted from
 unfoldable pub timeBaseOf : Preprocessor → List ℕ → List ℕ → ℕ
 timeBaseOf h ts vt = cond (isGap (h .«forest_mode»)) (newestOf h ts vt) (lastOr 0 (take (h .«shingle_size») ts))
-
--- rows 18 and 20 while waiting
-unfoldable pub waitingRow : Preprocessor → ℕ → ℕ
-waitingRow h deviations =
-    firstOf
-    ((leb seenLimit (h .«values_seen»), 18)
-    ∷ (eqb (suc (h .«values_seen»)) (h .«start_normalization») && ltb deviations (block (settingsOf h)), 20)
-    ∷ [])
-
--- rows 13, 14, 18 and 20 past waiting, over the lengths
-unfoldable pub learnRow : Preprocessor → ℕ → Bool → ℕ → Bool → Float → ℕ → ℕ → ℕ → ℕ → ℕ
-learnRow h y hasY e expects grade back deviations past expected =
-    let n = dimension (settingsOf h) in
-    let d = h .transformer .«input_length» in
-    let full =
-    (ltb (h .«values_seen») (h .«stop_normalization») && leb countLimit (h .transformer .count))
-    || (leb seenLimit (h .«values_seen») || leb seenLimit (h .«internal_timestamp»)) in
-    let short =
-    ltb deviations (block (settingsOf h)) || ((lt zero32 grade && expects) && (ltb past d || ltb expected d)) in
-    firstOf
-    (((hasY && not (eqb y n)) || (expects && not (eqb e n)), 13)
-    ∷ (hasY && (lt zero32 grade && leb (h .«shingle_size») back), 14)
-    ∷ (hasY && full, 18)
-    ∷ (hasY && short, 20)
-    ∷ [])
-
-unfoldable pub learningRow : Preprocessor → ℕ → Bool → ℕ → Bool → Float → ℕ → ℕ → ℕ → ℕ → ℕ
-learningRow h y hasY e expects grade back deviations past expected =
-    cond (waiting (settingsOf h) (h .«values_seen»)) (waitingRow h deviations) (learnRow h y hasY e expects grade back deviations past expected)
 
 -- the row; whether the deviations are written; the anomaly, 0 where there is none; the head; what is lent; the outputs
 pub record LearnOutcome : Type 0 where

@@ -28,6 +28,16 @@ pub struct Preprocessor {
     pub codes: [u16; 16],
 }
 
+// How long each of the six lent lists is.
+pub struct LentLengths {
+    pub statistics: usize,
+    pub last_shingled_input: usize,
+    pub last_shingled_point: usize,
+    pub previous_timestamps: usize,
+    pub initial_values: usize,
+    pub initial_timestamps: usize,
+}
+
 // The settings of a new preprocessor; its weights and codes are handed beside it.
 pub struct PreprocessorBuilder {
     pub forest_mode: ForestMode,

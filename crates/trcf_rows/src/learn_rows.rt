@@ -4,6 +4,7 @@ use crate::rows::first_row;
 use crate::rows::is_waiting;
 use crate::rows::lent_row;
 use common::deviation::COUNT_LIMIT;
+use trcf::head::LentLengths;
 use trcf::head::Preprocessor;
 use trcf::head::SEEN_LIMIT;
 use trcf::head::block_of;
@@ -14,12 +15,11 @@ ghost use mathlib.Core.Path.{_≡_};
 ghost use mathlib.Core.Bool.{not, _&&_, _||_};
 ghost use lib.Dec.{ltb, leb, eqb};
 ghost use lib.Ieee.{lt};
-ghost use lib.ListN.{length};
 ghost use Rattle.common.specs.Deviation.{countLimit};
 ghost use Rattle.trcf.specs.Transformer.{zero32};
 ghost use Rattle.trcf.specs.Calls.{seenLimit, postProcess};
-ghost use Rattle.trcf.specs.View.{settingsOf, rowOf, lent, learnCall, backOf, waitingRow, learnRow, learningRow, Bounded, Ready};
-ghost use Rattle.trcf.specs.Steps.Learning.{inputRow};
+ghost use Rattle.trcf.specs.View.{settingsOf, rowOf, lent, learnCall, backOf, Bounded, Ready};
+ghost use Rattle.trcf.specs.Steps.Rows.{inputRow, waitingRow, learnRow, learningRow};
 
 // How many readings before the newest; beyond every shingle for one that is to come.
 pub fn places_back(relative_index: i32) -> usize
@@ -33,23 +33,15 @@ pub fn places_back(relative_index: i32) -> usize
 }
 
 // Rows 10 to 12.
-fn input_row(
-    head: Preprocessor,
-    previous_timestamps: &[u64],
-    initial_timestamps: &[u64],
-    input: &[f32],
-    timestamp: u64,
-) -> u64
-    ensures { λ r. ⌜ r ≡ inputRow head (now («previous_timestamps» .entry)) (now («initial_timestamps» .entry)) (now (input .entry)) timestamp ⌝ }
-    ensures { λ r. ⌜ (r ≡ 0 → length (now (input .entry)) ≡ head .transformer .«input_length») ⌝ }
+fn input_row(head: Preprocessor, n: usize, finite: bool, newest: u64, timestamp: u64) -> u64
+    ensures { λ r. ⌜ r ≡ inputRow head n finite newest timestamp ⌝ }
 {
     let t = head.transformer;
     let d = t.input_length;
-    if input.len() != d {
+    if n != d {
         return 10;
     }
-    let unfit = !all_finite(input);
-    let newest = newest_of(head, previous_timestamps, initial_timestamps);
+    let unfit = !finite;
     let falling = timestamp < newest;
     first_row(unfit, 11, falling, 12)
 }
@@ -237,20 +229,14 @@ pub fn post_process_row(
 ) -> u64
     ensures { λ r. ⌜ r ≡ rowOf head (lent (now (statistics .entry)) (now («last_shingled_input» .entry)) (now («last_shingled_point» .entry)) (now («previous_timestamps» .entry)) (now («initial_values» .entry)) (now («initial_timestamps» .entry))) (postProcess (learnCall (now (input .entry)) timestamp «has_y» (now (y .entry)) expects (now (expected .entry)) grade «relative_index» (now («deviations_out» .entry)) (now («past_out» .entry)) (now («expected_out» .entry)))) ⌝ }
     ensures { λ r. ⌜ (r ≡ 0 → Ready head (lent (now (statistics .entry)) (now («last_shingled_input» .entry)) (now («last_shingled_point» .entry)) (now («previous_timestamps» .entry)) (now («initial_values» .entry)) (now («initial_timestamps» .entry)))) ⌝ }
-    ensures { λ r. ⌜ (r ≡ 0 → length (now (input .entry)) ≡ head .transformer .«input_length») ⌝ }
-    ensures { λ r. ⌜ (r ≡ 0 → learningRow head (length (now (y .entry))) «has_y» (length (now (expected .entry))) expects grade (backOf «relative_index») (length (now («deviations_out» .entry))) (length (now («past_out» .entry))) (length (now («expected_out» .entry))) ≡ 0) ⌝ }
 {
     let row = head_row(head);
     if row != 0 {
         return row;
     }
-    let row = input_row(
-        head,
-        previous_timestamps,
-        initial_timestamps,
-        input,
-        timestamp,
-    );
+    let finite = all_finite(input);
+    let newest = newest_of(head, previous_timestamps, initial_timestamps);
+    let row = input_row(head, input.len(), finite, newest, timestamp);
     if row != 0 {
         return row;
     }
@@ -270,13 +256,13 @@ pub fn post_process_row(
     if row != 0 {
         return row;
     }
-    lent_row(
-        head,
-        statistics,
-        last_shingled_input,
-        last_shingled_point,
-        previous_timestamps,
-        initial_values,
-        initial_timestamps,
-    )
+    let lengths = LentLengths {
+        statistics: statistics.len(),
+        last_shingled_input: last_shingled_input.len(),
+        last_shingled_point: last_shingled_point.len(),
+        previous_timestamps: previous_timestamps.len(),
+        initial_values: initial_values.len(),
+        initial_timestamps: initial_timestamps.len(),
+    };
+    lent_row(head, lengths)
 }

@@ -1,6 +1,7 @@
 // Which row refuses a call, 0 for none. Nothing here writes.
 use common::deviation::COUNT_LIMIT;
 use common::deviation::outside_unit;
+use trcf::head::LentLengths;
 use trcf::head::Preprocessor;
 use trcf::head::PreprocessorBuilder;
 use trcf::head::SEEN_LIMIT;
@@ -17,7 +18,7 @@ use trcf::types::START_BOUND;
 use trcf::types::is_gap;
 use trcf::types::is_normalizing;
 ghost use mathlib.Core.Path.{_≡_};
-ghost use mathlib.Core.Bool.{not, false, _&&_, _||_};
+ghost use mathlib.Core.Bool.{not, _&&_, _||_};
 ghost use mathlib.Core.List.{List, [], _∷_};
 ghost use Prim.Native.Nat.{ℕ, _+_, _≤_};
 ghost use lib.Dec.{ltb, eqb};
@@ -28,9 +29,9 @@ ghost use Rattle.refusal.specs.Refusal.{firstOf};
 ghost use Rattle.trcf.specs.Lists.{null};
 ghost use Rattle.trcf.specs.Types.{isGap};
 ghost use Rattle.trcf.specs.Settings.{imputes, waiting, settingsRow, block};
-ghost use Rattle.trcf.specs.Calls.{seenLimit, finite, due, drainFull, scale, transform, drain, shingledPoint};
-ghost use Rattle.trcf.specs.Preprocessor.{facts};
-ghost use Rattle.trcf.specs.View.{settingsOf, settingsFrom, view, leftOver, countersUnfit, outsideRow, headRow, orElse, lentRow, shortRow, rowOf, pastRow, lent, newestOf, Bounded, Accepted, Roomy, Fitted, Ready, Pointing};
+ghost use Rattle.trcf.specs.Calls.{seenLimit, finite, scale, transform, drain, shingledPoint};
+ghost use Rattle.trcf.specs.View.{settingsOf, settingsFrom, leftOver, countersUnfit, outsideRow, headRow, orElse, lengthsShort, lentRow, rowOf, lent, Bounded, Accepted, Ready};
+ghost use Rattle.trcf.specs.Steps.Rows.{lengthsRow, anyOf, spent, overdue, pastRow};
 
 // The mode that row 1 refuses, which no letter of a text names.
 pub fn is_imputing(m: ForestMode) -> bool
@@ -220,71 +221,45 @@ pub fn outside_row(head: Preprocessor) -> u64
 }
 
 // 20 where a lent list is too short.
-fn short_row(
-    head: Preprocessor,
-    statistics: &[f64],
-    last_shingled_input: &[f32],
-    last_shingled_point: &[f32],
-    previous_timestamps: &[u64],
-    initial_values: &[f32],
-    initial_timestamps: &[u64],
-) -> u64
+fn short_row(head: Preprocessor, lengths: LentLengths) -> u64
     requires { ⌜ Bounded (settingsOf head) ⌝ }
-    ensures { λ r. ⌜ r ≡ shortRow (settingsOf head) (lent (now (statistics .entry)) (now («last_shingled_input» .entry)) (now («last_shingled_point» .entry)) (now («previous_timestamps» .entry)) (now («initial_values» .entry)) (now («initial_timestamps» .entry))) ⌝ }
-    ensures { λ r. ⌜ (r ≡ 0 → Roomy (settingsOf head) (lent (now (statistics .entry)) (now («last_shingled_input» .entry)) (now («last_shingled_point» .entry)) (now («previous_timestamps» .entry)) (now («initial_values» .entry)) (now («initial_timestamps» .entry)))) ⌝ }
+    ensures { λ r. ⌜ r ≡ firstOf ((lengthsShort (settingsOf head) lengths, 20) ∷ []) ⌝ }
 {
     let t = head.transformer;
     let d = t.input_length;
     let k = head.shingle_size;
     let waiting = initial_room(head);
     let n = get_dimension(head);
-    if statistics.len() < 3 * (5 * d + 5) {
+    if lengths.statistics < 3 * (5 * d + 5) {
         return 20;
     }
-    if last_shingled_input.len() < d * k {
+    if lengths.last_shingled_input < d * k {
         return 20;
     }
-    if last_shingled_point.len() < n {
+    if lengths.last_shingled_point < n {
         return 20;
     }
-    if previous_timestamps.len() < k {
+    if lengths.previous_timestamps < k {
         return 20;
     }
-    if initial_values.len() < waiting * d {
+    if lengths.initial_values < waiting * d {
         return 20;
     }
-    if initial_timestamps.len() < waiting {
+    if lengths.initial_timestamps < waiting {
         return 20;
     }
     0
 }
 
 // 20 where the head and what is lent do not go together.
-pub(crate) fn lent_row(
-    head: Preprocessor,
-    statistics: &[f64],
-    last_shingled_input: &[f32],
-    last_shingled_point: &[f32],
-    previous_timestamps: &[u64],
-    initial_values: &[f32],
-    initial_timestamps: &[u64],
-) -> u64
+pub(crate) fn lent_row(head: Preprocessor, lengths: LentLengths) -> u64
     requires { ⌜ Bounded (settingsOf head) ⌝ }
-    ensures { λ r. ⌜ r ≡ lentRow head (lent (now (statistics .entry)) (now («last_shingled_input» .entry)) (now («last_shingled_point» .entry)) (now («previous_timestamps» .entry)) (now («initial_values» .entry)) (now («initial_timestamps» .entry))) ⌝ }
-    ensures { λ r. ⌜ (r ≡ 0 → Fitted head (lent (now (statistics .entry)) (now («last_shingled_input» .entry)) (now («last_shingled_point» .entry)) (now («previous_timestamps» .entry)) (now («initial_values» .entry)) (now («initial_timestamps» .entry)))) ⌝ }
+    ensures { λ r. ⌜ r ≡ lengthsRow head lengths ⌝ }
 {
     if is_misfit(head) {
         return 20;
     }
-    short_row(
-        head,
-        statistics,
-        last_shingled_input,
-        last_shingled_point,
-        previous_timestamps,
-        initial_values,
-        initial_timestamps,
-    )
+    short_row(head, lengths)
 }
 
 // The row of a head, or 20 where what is lent does not go with it.
@@ -304,15 +279,15 @@ pub fn held_row(
     if row != 0 {
         return row;
     }
-    lent_row(
-        head,
-        statistics,
-        last_shingled_input,
-        last_shingled_point,
-        previous_timestamps,
-        initial_values,
-        initial_timestamps,
-    )
+    let lengths = LentLengths {
+        statistics: statistics.len(),
+        last_shingled_input: last_shingled_input.len(),
+        last_shingled_point: last_shingled_point.len(),
+        previous_timestamps: previous_timestamps.len(),
+        initial_values: initial_values.len(),
+        initial_timestamps: initial_timestamps.len(),
+    };
+    lent_row(head, lengths)
 }
 
 // The rows of a call that hands nothing but its output.
@@ -340,15 +315,15 @@ pub fn write_row(
     if output.len() < n {
         return 20;
     }
-    lent_row(
-        head,
-        statistics,
-        last_shingled_input,
-        last_shingled_point,
-        previous_timestamps,
-        initial_values,
-        initial_timestamps,
-    )
+    let lengths = LentLengths {
+        statistics: statistics.len(),
+        last_shingled_input: last_shingled_input.len(),
+        last_shingled_point: last_shingled_point.len(),
+        previous_timestamps: previous_timestamps.len(),
+        initial_values: initial_values.len(),
+        initial_timestamps: initial_timestamps.len(),
+    };
+    lent_row(head, lengths)
 }
 
 // The first of two rows whose test holds, 0 where neither does.
@@ -365,19 +340,15 @@ pub(crate) fn first_row(a: bool, row_a: u64, b: bool, row_b: u64) -> u64
 }
 
 // Row 28: whether a gap would reach back, past the newest time.
-fn is_behind(
-    head: Preprocessor,
-    previous_timestamps: &[u64],
-    initial_timestamps: &[u64],
-    timestamp: u64,
-) -> bool
-    ensures { λ r. ⌜ r ≡ isGap (head .«forest_mode») && ltb timestamp (newestOf head (now («previous_timestamps» .entry)) (now («initial_timestamps» .entry))) ⌝ }
+fn is_behind(head: Preprocessor, newest: u64, timestamp: u64) -> bool
+    ensures { λ r. ⌜ r ≡ isGap (head .«forest_mode») && ltb timestamp newest ⌝ }
 {
     let mode = head.forest_mode;
     if is_gap(mode) {
-        return timestamp < newest_of(head, previous_timestamps, initial_timestamps);
+        timestamp < newest
+    } else {
+        false
     }
-    false
 }
 
 pub fn transform_row(
@@ -406,7 +377,8 @@ pub fn transform_row(
     if input.len() != d {
         return 10;
     }
-    if is_behind(head, previous_timestamps, initial_timestamps, timestamp) {
+    let newest = newest_of(head, previous_timestamps, initial_timestamps);
+    if is_behind(head, newest, timestamp) {
         return 28;
     }
     let mode = head.forest_mode;
@@ -414,36 +386,33 @@ pub fn transform_row(
     if output.len() < n {
         return 20;
     }
-    lent_row(
-        head,
-        statistics,
-        last_shingled_input,
-        last_shingled_point,
-        previous_timestamps,
-        initial_values,
-        initial_timestamps,
-    )
+    let lengths = LentLengths {
+        statistics: statistics.len(),
+        last_shingled_input: last_shingled_input.len(),
+        last_shingled_point: last_shingled_point.len(),
+        previous_timestamps: previous_timestamps.len(),
+        initial_values: initial_values.len(),
+        initial_timestamps: initial_timestamps.len(),
+    };
+    lent_row(head, lengths)
 }
 
-// Whether any of the first n times is lent.
-fn has_initial(initial_timestamps: &[u64], n: usize) -> bool
-    ensures { λ r. ⌜ r ≡ not (null (take n (now («initial_timestamps» .entry)))) ⌝ }
+// Whether one of the first n of m is there.
+fn is_any(n: usize, m: usize) -> bool
+    ensures { λ r. ⌜ r ≡ anyOf n m ⌝ }
 {
-    if n == 0 {
-        return false;
-    }
-    0 < initial_timestamps.len()
+    if n == 0 { false } else { 0 < m }
 }
 
-// Whether a drain comes when nothing waits any more.
-fn is_spent(head: Preprocessor, initial_timestamps: &[u64]) -> bool
-    ensures { λ r. ⌜ r ≡ eqb (head .«values_seen») (head .«start_normalization») && null (take (head .«initial_len») (now («initial_timestamps» .entry))) ⌝ }
+// Whether a drain comes when nothing waits any more; m times are lent.
+fn is_spent(head: Preprocessor, m: usize) -> bool
+    ensures { λ r. ⌜ r ≡ spent head m ⌝ }
 {
     let seen = head.values_seen;
     let start = head.start_normalization;
     let n = head.initial_len;
     if seen == start {
-        return !has_initial(initial_timestamps, n);
+        return !is_any(n, m);
     }
     false
 }
@@ -456,7 +425,7 @@ pub fn is_due(head: Preprocessor, initial_timestamps: &[u64]) -> bool
     let start = head.start_normalization;
     let n = head.initial_len;
     if seen == start {
-        return has_initial(initial_timestamps, n);
+        return is_any(n, initial_timestamps.len());
     }
     false
 }
@@ -482,16 +451,18 @@ fn is_full(head: Preprocessor) -> bool
     SEEN_LIMIT < internal + start
 }
 
-// Whether a drain that has something to do would pass a limit.
-fn is_overdue(head: Preprocessor, initial_timestamps: &[u64]) -> bool
+// Whether a drain that has something to do would pass a limit; m times are lent.
+fn is_overdue(head: Preprocessor, m: usize) -> bool
     requires { ⌜ Bounded (settingsOf head) ⌝ }
-    ensures { λ r. ⌜ r ≡ (eqb (head .«values_seen») (head .«start_normalization») && not (null (take (head .«initial_len») (now («initial_timestamps» .entry)))))
-        && (ltb countLimit (head .transformer .count + head .«start_normalization») || ltb seenLimit (head .«internal_timestamp» + head .«start_normalization»)) ⌝ }
+    ensures { λ r. ⌜ r ≡ overdue head m ⌝ }
 {
-    if is_due(head, initial_timestamps) {
-        return is_full(head);
+    let seen = head.values_seen;
+    let start = head.start_normalization;
+    let n = head.initial_len;
+    if seen != start {
+        return false;
     }
-    false
+    if is_any(n, m) { is_full(head) } else { false }
 }
 
 pub fn drain_row(
@@ -505,27 +476,27 @@ pub fn drain_row(
 ) -> u64
     ensures { λ r. ⌜ r ≡ rowOf head (lent (now (statistics .entry)) (now («last_shingled_input» .entry)) (now («last_shingled_point» .entry)) (now («previous_timestamps» .entry)) (now («initial_values» .entry)) (now («initial_timestamps» .entry))) drain ⌝ }
     ensures { λ r. ⌜ (r ≡ 0 → Ready head (lent (now (statistics .entry)) (now («last_shingled_input» .entry)) (now («last_shingled_point» .entry)) (now («previous_timestamps» .entry)) (now («initial_values» .entry)) (now («initial_timestamps» .entry)))) ⌝ }
-    ensures { λ r. ⌜ (r ≡ 0 → (due (settingsOf head) (facts (view head (lent (now (statistics .entry)) (now («last_shingled_input» .entry)) (now («last_shingled_point» .entry)) (now («previous_timestamps» .entry)) (now («initial_values» .entry)) (now («initial_timestamps» .entry))))) && drainFull (settingsOf head) (facts (view head (lent (now (statistics .entry)) (now («last_shingled_input» .entry)) (now («last_shingled_point» .entry)) (now («previous_timestamps» .entry)) (now («initial_values» .entry)) (now («initial_timestamps» .entry)))))) ≡ false) ⌝ }
 {
     let row = head_row(head);
     if row != 0 {
         return row;
     }
-    if is_spent(head, initial_timestamps) {
+    let m = initial_timestamps.len();
+    if is_spent(head, m) {
         return 15;
     }
-    if is_overdue(head, initial_timestamps) {
+    if is_overdue(head, m) {
         return 18;
     }
-    lent_row(
-        head,
-        statistics,
-        last_shingled_input,
-        last_shingled_point,
-        previous_timestamps,
-        initial_values,
-        initial_timestamps,
-    )
+    let lengths = LentLengths {
+        statistics: statistics.len(),
+        last_shingled_input: last_shingled_input.len(),
+        last_shingled_point: last_shingled_point.len(),
+        previous_timestamps: previous_timestamps.len(),
+        initial_values: initial_values.len(),
+        initial_timestamps: initial_timestamps.len(),
+    };
+    lent_row(head, lengths)
 }
 
 pub fn shingled_point_row(
@@ -542,7 +513,6 @@ pub fn shingled_point_row(
 ) -> u64
     ensures { λ r. ⌜ r ≡ rowOf head (lent (now (statistics .entry)) (now («last_shingled_input» .entry)) (now («last_shingled_point» .entry)) (now («previous_timestamps» .entry)) (now («initial_values» .entry)) (now («initial_timestamps» .entry))) (shingledPoint (now (input .entry)) timestamp (now (output .entry))) ⌝ }
     ensures { λ r. ⌜ (r ≡ 0 → Ready head (lent (now (statistics .entry)) (now («last_shingled_input» .entry)) (now («last_shingled_point» .entry)) (now («previous_timestamps» .entry)) (now («initial_values» .entry)) (now («initial_timestamps» .entry)))) ⌝ }
-    ensures { λ r. ⌜ (r ≡ 0 → Pointing head (lent (now (statistics .entry)) (now («last_shingled_input» .entry)) (now («last_shingled_point» .entry)) (now («previous_timestamps» .entry)) (now («initial_values» .entry)) (now («initial_timestamps» .entry))) (length (now (input .entry))) (length (now (output .entry)))) ⌝ }
 {
     let row = head_row(head);
     if row != 0 {
@@ -553,35 +523,36 @@ pub fn shingled_point_row(
         return 10;
     }
     let unfit = !all_finite(input);
-    let behind = is_behind(head, previous_timestamps, initial_timestamps, timestamp);
+    let newest = newest_of(head, previous_timestamps, initial_timestamps);
+    let behind = is_behind(head, newest, timestamp);
     let row = first_row(unfit, 11, behind, 28);
     if row != 0 {
         return row;
     }
-    let row = past_row(head, initial_timestamps, output.len());
+    let row = past_row(head, initial_timestamps.len(), output.len());
     if row != 0 {
         return row;
     }
-    lent_row(
-        head,
-        statistics,
-        last_shingled_input,
-        last_shingled_point,
-        previous_timestamps,
-        initial_values,
-        initial_timestamps,
-    )
+    let lengths = LentLengths {
+        statistics: statistics.len(),
+        last_shingled_input: last_shingled_input.len(),
+        last_shingled_point: last_shingled_point.len(),
+        previous_timestamps: previous_timestamps.len(),
+        initial_values: initial_values.len(),
+        initial_timestamps: initial_timestamps.len(),
+    };
+    lent_row(head, lengths)
 }
 
-// Rows 18 and 20 of a point, past waiting.
-fn past_row(head: Preprocessor, initial_timestamps: &[u64], n: usize) -> u64
+// Rows 18 and 20 of a point, past waiting; m times are lent, and the output is of n.
+fn past_row(head: Preprocessor, m: usize, n: usize) -> u64
     requires { ⌜ Bounded (settingsOf head) ⌝ }
-    ensures { λ r. ⌜ r ≡ pastRow head (now («initial_timestamps» .entry)) n ⌝ }
+    ensures { λ r. ⌜ r ≡ pastRow head m n ⌝ }
 {
     if is_waiting(head) {
         return 0;
     }
-    if is_overdue(head, initial_timestamps) {
+    if is_overdue(head, m) {
         return 18;
     }
     if n < get_dimension(head) {

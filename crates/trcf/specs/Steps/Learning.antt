@@ -1,6 +1,6 @@
 -- `post_process` in the parts in which the code works it out. Only private contracts and proofs cite this.
 use Prim.Native.Nat.{ℕ, suc, _-_, _*_, _≤_, _<_}
-use mathlib.Core.Bool.{Bool, true, cond, not, _&&_}
+use mathlib.Core.Bool.{Bool, true, cond, _&&_}
 use mathlib.Core.List.{List, [], _∷_}
 use mathlib.Core.Path.{_≡_}
 use lib.Dec.{ltb, eqb}
@@ -8,15 +8,14 @@ use lib.ListN.{length, take, drop, getD}
 use lib.Ieee.{Float, lt}
 use Rattle.common.specs.Deviation.{countLimit}
 use Rattle.trcf.specs.Lists.{shiftIn}
-use Rattle.refusal.specs.Refusal.{firstOf}
 use Rattle.refusal.specs.Lent.{over}
 use Rattle.trcf.specs.Transformer.{zero32, one32, inverted}
 use Rattle.trcf.specs.Settings.{Settings, transformer, block, dimension}
-use Rattle.trcf.specs.Calls.{seenLimit, finite}
+use Rattle.trcf.specs.Calls.{seenLimit}
 use Rattle.trcf.specs.Preprocessor.{State, Reading, reading, feed, previous, deviations, blockFrom, statisticsLength}
 use Rattle.trcf.specs.declared.head.Preprocessor.{Preprocessor}
 use Rattle.trcf.specs.declared.head.PostProcessed.{PostProcessed}
-use Rattle.trcf.specs.View.{settingsOf, counting, holding, written, newestOf}
+use Rattle.trcf.specs.View.{settingsOf, counting, holding, written}
 
 -- the i-th waiting reading, out of the flat lists
 abbrev pub readingAt : ℕ → List Float → List ℕ → ℕ → Reading
@@ -59,15 +58,6 @@ pub record Learnable (h : Preprocessor) (y e : ℕ) (expects : Bool) (grade : Fl
   pub internal-room : h .«internal_timestamp» < seenLimit
   pub deviations-room : block (settingsOf h) ≤ deviations
   pub found : (lt zero32 grade && expects) ≡ true → Findable (settingsOf h) e back past expected
-
--- rows 10 to 12
-unfoldable pub inputRow : Preprocessor → List ℕ → List ℕ → List Float → ℕ → ℕ
-inputRow h ts vt x t =
-    firstOf
-    ((not (eqb (length x) (h .transformer .«input_length»)), 10)
-    ∷ (not (finite x), 11)
-    ∷ (ltb t (newestOf h ts vt), 12)
-    ∷ [])
 
 abbrev pub answeringRow : ℕ → Preprocessor → Bool → Bool → ℕ → Float → PostProcessed
 answeringRow n h w b t p = record { row = n; head = h; written = w; «has_anomaly» = b; «past_timestamp» = t; likelihood = p }

@@ -65,9 +65,8 @@ post-process-waiting-requires c κs =
     let o = c .before .before .before .before .before .before .before .post-process-row in
     room-held (a .head) (a .statistics .now) (a .last-shingled-input .now) (a .last-shingled-point .now) (a .previous-timestamps .now) (a .initial-values .now) (a .initial-timestamps .now)
     (a .input .now) (a .timestamp) (a .has-y) (a .y .now) (a .expects) (a .expected .now) (a .grade) (a .relative-index) (toZ w32 (ofZ w32 (a .relative-index))) (a .deviations-out .now)
-    (a .past-out .now) (a .expected-out .now) u (o .result) (o .ensures .0) (o .ensures .1 .0) (c .before .before .before .before .before .before .if1 .left) (o .ensures .1 .1 .1)
+    (a .past-out .now) (a .expected-out .now) u (o .result) (o .ensures .0) (o .ensures .1) (c .before .before .before .before .before .before .if1 .left)
     (c .before .before .before .before .before .is-waiting .result) (c .before .before .before .before .before .is-waiting .ensures) (c .before .before .before .before .if2 .taken)
-    (o .ensures .1 .1 .0 (c .before .before .before .before .before .before .if1 .left))
 
 same-length-10 : tie.Need-same-length-10
 same-length-10 c = refl
@@ -108,7 +107,7 @@ returns-2 c =
     let w = c .before .before .before .before .before .before .post-process-waiting in
     way-held (a .head) (a .statistics .now) (a .last-shingled-input .now) (a .last-shingled-point .now) (a .previous-timestamps .now) (a .initial-values .now) (a .initial-timestamps .now)
     (a .input .now) (a .timestamp) (a .has-y) (a .y .now) (a .expects) (a .expected .now) (a .grade) (a .relative-index) (toZ w32 (ofZ w32 (a .relative-index))) (a .deviations-out .now)
-    (a .past-out .now) (a .expected-out .now) u (o .result) (o .ensures .0) (o .ensures .1 .0) (c8 .before .before .before .before .before .if1 .left)
+    (a .past-out .now) (a .expected-out .now) u (o .result) (o .ensures .0) (o .ensures .1) (c8 .before .before .before .before .before .if1 .left)
     (c8 .before .before .before .before .is-waiting .result) (c8 .before .before .before .before .is-waiting .ensures) (c8 .before .before .before .if2 .taken) (w .result) _ _ _
     (w .ensures .0) (w .ensures .1 .0) (w .ensures .1 .1 .0) (w .ensures .1 .1 .1)
 
@@ -152,7 +151,7 @@ returns-3 c =
     let o = c .before .before .before .before .before .post-process-row in
     way-none (a .head) (a .statistics .now) (a .last-shingled-input .now) (a .last-shingled-point .now) (a .previous-timestamps .now) (a .initial-values .now) (a .initial-timestamps .now)
     (a .input .now) (a .timestamp) (a .has-y) (a .y .now) (a .expects) (a .expected .now) (a .grade) (a .relative-index) (toZ w32 (ofZ w32 (a .relative-index))) (a .deviations-out .now)
-    (a .past-out .now) (a .expected-out .now) u (o .result) (o .ensures .0) (o .ensures .1 .0) (c .before .before .before .before .if1 .left) (c .before .before .before .is-waiting .result)
+    (a .past-out .now) (a .expected-out .now) u (o .result) (o .ensures .0) (o .ensures .1) (c .before .before .before .before .if1 .left) (c .before .before .before .is-waiting .result)
     (c .before .before .before .is-waiting .ensures) (c .before .before .if2 .left) (not-true (a .has-y) (c .before .if3 .taken)) (c .unlearned2 .result) (c .unlearned2 .ensures)
 
 places-back-requires : tie.Need-places-back-requires
@@ -169,10 +168,10 @@ post-process-learning-requires c κs =
     let o = c8 .before .before .before .before .post-process-row in
     room-learnt (a .head) (a .statistics .now) (a .last-shingled-input .now) (a .last-shingled-point .now) (a .previous-timestamps .now) (a .initial-values .now)
     (a .initial-timestamps .now) (a .input .now) (a .timestamp) (a .has-y) (a .y .now) (a .expects) (a .expected .now) (a .grade) (a .relative-index) (toZ w32 (ofZ w32 (a .relative-index)))
-    (a .deviations-out .now) (a .past-out .now) (a .expected-out .now) u (o .result) (o .ensures .0) (o .ensures .1 .0) (c8 .before .before .before .if1 .left) (o .ensures .1 .1 .1)
+    (a .deviations-out .now) (a .past-out .now) (a .expected-out .now) u (o .result) (o .ensures .0) (o .ensures .1) (c8 .before .before .before .if1 .left)
     (c8 .before .before .is-waiting .result) (c8 .before .before .is-waiting .ensures) (c8 .before .if2 .left)
     (not-false (a .has-y) (c .before .before .before .before .before .before .before .before .if3 .left)) (c .before .before .before .before .before .before .before .places-back .result)
-    (c .before .before .before .before .before .before .before .places-back .ensures) (o .ensures .1 .1 .0 (c8 .before .before .before .if1 .left))
+    (c .before .before .before .before .before .before .before .places-back .ensures)
 
 same-length-28 : tie.Need-same-length-28
 same-length-28 c =
@@ -228,7 +227,7 @@ returns-4 c =
     let o = c24 .before .before .before .post-process-row in
     way-learnt (a .head) (a .statistics .now) (a .last-shingled-input .now) (a .last-shingled-point .now) (a .previous-timestamps .now) (a .initial-values .now) (a .initial-timestamps .now)
     (a .input .now) (a .timestamp) (a .has-y) (a .y .now) (a .expects) (a .expected .now) (a .grade) (a .relative-index) (toZ w32 (ofZ w32 (a .relative-index))) (a .deviations-out .now)
-    (a .past-out .now) (a .expected-out .now) u (o .result) (o .ensures .0) (o .ensures .1 .0) (c24 .before .before .if1 .left) (o .ensures .1 .1 .1) (c24 .before .is-waiting .result)
+    (a .past-out .now) (a .expected-out .now) u (o .result) (o .ensures .0) (o .ensures .1) (c24 .before .before .if1 .left) (c24 .before .is-waiting .result)
     (c24 .before .is-waiting .ensures) (c16 .before .before .before .before .before .before .before .before .if2 .left)
     (not-false (a .has-y) (c16 .before .before .before .before .before .before .before .if3 .left)) (c16 .before .before .before .before .before .before .places-back .result)
     (c16 .before .before .before .before .before .before .places-back .ensures) _ (c8 .before .before .before .before .before .before .post-process-learning .ensures)

@@ -1,6 +1,7 @@
 -- `trcf_point::drain::drain` meets its contract: by its callees' promises and the laws of outcomes. Assumes nothing.
 use mathlib.Core.Path.{_≡_, refl, sym, ap, _∙_}
 use Rattle.trcf.specs.View.{lent}
+use Rattle.trcf.proofs.RowLaws.{drain-room}
 use Rattle.trcf.proofs.WayLaws.{drain-stays, drain-goes}
 use Rattle.trcf_point.proofs.drain.drain.Statement.{statement}
 use Rattle.trcf_point.proofs.drain.drain.Tie as tie
@@ -28,11 +29,14 @@ returns c =
     (a .initial-timestamps .now)) (c .before .drain-row .result) (c .before .drain-row .ensures .0) (c .if1 .taken)
 
 drain-due-requires : tie.Need-drain-due-requires
-drain-due-requires c κs = (
-  c .before .before .before .before .before .drain-row .ensures .1 .0 (c .before .before .before .before .if1 .left),
-  c .before .before .before .before .before .drain-row .ensures .1 .1
-      (c .before .before .before .before .if1 .left),
-)
+drain-due-requires c κs =
+    let c8 = c .before .before .before .before .before .before .before .before in
+    let a = c8 .before .before .before .before .before .before .before .before .args in
+    let l = lent (a .statistics .now) (a .last-shingled-input .now) (a .last-shingled-point .now) (a .previous-timestamps .now) (a .initial-values .now)
+    (a .initial-timestamps .now) in
+    let o = c .before .before .before .before .before .drain-row in
+    let z = c .before .before .before .before .if1 .left in
+    (o .ensures .1 z, drain-room (a .head) l (sym (o .ensures .0) ∙ z))
 
 same-length-5 : tie.Need-same-length-5
 same-length-5 c = c .before .before .before .before .before .before .before .before .drain-due .kept .1 .0

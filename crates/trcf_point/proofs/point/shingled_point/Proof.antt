@@ -12,7 +12,7 @@ use Rattle.trcf.specs.Calls.{newest}
 use Rattle.trcf.specs.Preprocessor.{facts, timeBase, preceding, pointOf, reading, transformedAfter, statisticsLength, drained}
 use Rattle.trcf.specs.View.{lent, view, settingsOf, timeBaseOf, Outcome}
 use Rattle.trcf.specs.declared.head.Preprocessor.{Preprocessor}
-use Rattle.trcf.proofs.StateLaws.{past-room, past-long}
+use Rattle.trcf.proofs.RowLaws.{pointing, past-room, past-long}
 use Rattle.trcf.proofs.WayLaws.{point-stays, point-holds, point-goes, room-point}
 use Rattle.trcf_point.proofs.point.shingled_point.Statement.{statement}
 use Rattle.trcf_point.proofs.point.shingled_point.Tie as tie
@@ -80,7 +80,7 @@ returns-2 c =
     let o = c .before .before .before .shingled-point-row in
     let z = c .before .before .if1 .left in
     point-holds (a .head) l (a .input .now) (a .timestamp) (a .output .now) (o .result) (o .ensures .0) z (c .before .is-waiting .result) (c .before .is-waiting .ensures)
-    (c .if2 .taken) (o .ensures .1 .0 z .fitted)
+    (c .if2 .taken) (o .ensures .1 z .fitted)
 
 drain-due-requires : tie.Need-drain-due-requires
 drain-due-requires c κs =
@@ -89,12 +89,11 @@ drain-due-requires c κs =
     let a = c16 .before .before .before .before .before .args in
     let h = a .head in
     let l = lent (a .statistics .now) (a .last-shingled-input .now) (a .last-shingled-point .now) (a .previous-timestamps .now) (a .initial-values .now) (a .initial-timestamps .now) in
-    let x = a .input .now in
-    let o = a .output .now in (
-      c .before .before .before .before .before .before .before .shingled-point-row .ensures .1 .0 (c .before .before .before .before .before .before .if1 .left),
-      past-room h l (length o)
-          (c .before .before .before .before .before .before .before .shingled-point-row .ensures .1 .1 (c .before .before .before .before .before .before .if1 .left) .past)
-          (sym (c .before .before .before .before .before .is-waiting .ensures) ∙ c .before .before .before .before .if2 .left),
+    let o = c .before .before .before .before .before .before .before .shingled-point-row in
+    let z = c .before .before .before .before .before .before .if1 .left in
+    let q = pointing h l (a .input .now) (a .timestamp) (a .output .now) (sym (o .ensures .0) ∙ z) in (
+      o .ensures .1 z,
+      past-room h l (length (a .output .now)) (q .past) (sym (c .before .before .before .before .before .is-waiting .ensures) ∙ c .before .before .before .before .if2 .left),
     )
 
 time-base-requires : tie.Need-time-base-requires
@@ -111,10 +110,11 @@ write-point-requires c κs =
     let o = c16 .before .before .before .before .before .before .shingled-point-row in
     let z = c16 .before .before .before .before .before .if1 .left in
     let d = c8 .before .before .before .before .before .before .drain-due in
-    let g = past-long (a .head) l (length (a .output .now)) (o .ensures .1 .1 z .past) (sym (c16 .before .before .before .before .is-waiting .ensures) ∙ c16 .before .before .before .if2 .left) in
+    let q = pointing (a .head) l (a .input .now) (a .timestamp) (a .output .now) (sym (o .ensures .0) ∙ z) in
+    let g = past-long (a .head) l (length (a .output .now)) (q .past) (sym (c16 .before .before .before .before .is-waiting .ensures) ∙ c16 .before .before .before .if2 .left) in
     let r =
     room-point (a .head) l (length (a .input .now)) (length (a .output .now)) _ _ _ _ (drained (view (a .head) l)) (d .result) (ap (λ (u : Outcome). u .head) (d .ensures .0))
-    (o .ensures .1 .0 z) (d .kept .1 .0) (d .kept .1 .1 .0) (d .kept .1 .1 .1 .0) (d .kept .1 .1 .1 .1 .0) (o .ensures .1 .1 z .whole) g in
+    (o .ensures .1 z) (d .kept .1 .0) (d .kept .1 .1 .0) (d .kept .1 .1 .1 .0) (d .kept .1 .1 .1 .1 .0) (q .whole) g in
     (r .0, (r .1 .0, (r .1 .1 .0, (r .1 .1 .1 .0, r .1 .1 .1 .1 .1))))
 
 same-length-11 : tie.Need-same-length-11

@@ -3,7 +3,7 @@ use Rattle.trcf.proofs.LengthLaws.{block-known, dimension-known}
 use borrow.Author.Tests.{not-true, not-false, lt-ltb, le-ltb}
 use mathlib.Core.Path.{sym, _∙_}
 use Rattle.trcf.specs.Settings.{block}
-use Rattle.trcf.specs.View.{learnRow}
+use Rattle.trcf.specs.Steps.Rows.{learnRow}
 use borrow.Author.Needs.{needs}
 use Rattle.trcf_rows.proofs.learn_rows.learn_row.Statement.{statement}
 use Rattle.trcf_rows.proofs.learn_rows.learn_row.Tie as tie

@@ -1,6 +1,6 @@
 -- `trcf_rows::learn_rows::learning_row` meets its contract: each return by the tests on the way to it. Assumes nothing.
 use mathlib.Core.Path.{sym, _∙_}
-use Rattle.trcf.specs.View.{learningRow}
+use Rattle.trcf.specs.Steps.Rows.{learningRow}
 use borrow.Author.Needs.{needs}
 use Rattle.trcf_rows.proofs.learn_rows.learning_row.Statement.{statement}
 use Rattle.trcf_rows.proofs.learn_rows.learning_row.Tie as tie

@@ -4,7 +4,7 @@ use native.Mathlib.Omega.{arith}
 use borrow.Author.Tests.{lt-ltb, le-ltb, eq-eqb, ne-eqb, le-leb, lt-leb}
 use Prim.Native.Nat.{suc}
 use Rattle.trcf.specs.Settings.{block}
-use Rattle.trcf.specs.View.{waitingRow}
+use Rattle.trcf.specs.Steps.Rows.{waitingRow}
 use borrow.Author.Needs.{needs}
 use Rattle.trcf_rows.proofs.learn_rows.waiting_row.Statement.{statement}
 use Rattle.trcf_rows.proofs.learn_rows.waiting_row.Tie as tie

@@ -1,6 +1,8 @@
 -- `trcf_rows::rows::held_row` meets its contract: each return by the tests on the way to it. Assumes nothing.
-use mathlib.Core.Path.{sym, _∙_}
+use mathlib.Core.Path.{_≡_, sym, _∙_}
+use Rattle.trcf.specs.View.{lent}
 use Rattle.trcf.proofs.RefusalLaws.{orElse-not}
+use Rattle.trcf.proofs.RowLaws.{lengths-row, fitted-of}
 use Rattle.trcf_rows.proofs.rows.held_row.Statement.{statement}
 use Rattle.trcf_rows.proofs.rows.held_row.Tie as tie
 
@@ -15,9 +17,14 @@ lent-row-requires c κs = c .before .head-row .ensures .1 (c .if1 .left)
 
 returns-2 : tie.Need-returns-2
 returns-2 c =
-    let h = c .before .before .head-row in
+    let o = c .before .before .head-row in
     let z = c .before .if1 .left in
-    (rw (sym (h .ensures .0) ∙ z) (c .lent-row .ensures .0), λ e. record { bounded = h .ensures .1 z; fitted = c .lent-row .ensures .1 e })
+    let a = c .before .before .before .before .before .before .before .before .before .args in
+    let h = a .head in
+    let l = lent (a .statistics .now) (a .last-shingled-input .now) (a .last-shingled-point .now) (a .previous-timestamps .now) (a .initial-values .now)
+    (a .initial-timestamps .now) in
+    let e = c .lent-row .ensures ∙ lengths-row h l in
+    (rw (sym (o .ensures .0) ∙ z) e, λ k. record { bounded = o .ensures .1 z; fitted = fitted-of h l (sym e ∙ k) })
 
 pub held-row-spec : {M : Type 1} → statement M
 held-row-spec = tie.close (tie.spec head-row-requires returns lent-row-requires returns-2)

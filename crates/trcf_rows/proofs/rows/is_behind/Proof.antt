@@ -6,14 +6,11 @@ use Rattle.trcf_rows.proofs.rows.is_behind.Tie as tie
 is-gap-requires : tie.Need-is-gap-requires
 is-gap-requires c κs = tt
 
-newest-of-requires : tie.Need-newest-of-requires
-newest-of-requires c κs = tt
-
 returns : tie.Need-returns
-returns c = rw (sym (c .before .before .is-gap .ensures) ∙ c .before .if1 .taken, c .newest-of .ensures)
+returns c = rw (sym (c .before .is-gap .ensures) ∙ c .if1 .taken)
 
 returns-2 : tie.Need-returns-2
 returns-2 c = rw (sym (c .before .is-gap .ensures) ∙ c .if1 .left)
 
 pub is-behind-spec : {M : Type 1} → statement M
-is-behind-spec = tie.close (tie.spec is-gap-requires newest-of-requires returns returns-2)
+is-behind-spec = tie.close (tie.spec is-gap-requires returns returns-2)

@@ -2,7 +2,7 @@
 use Rattle.trcf.proofs.LengthLaws.{dimension-known}
 use borrow.Author.Tests.{lt-ltb, le-ltb}
 use mathlib.Core.Path.{sym, _∙_}
-use Rattle.trcf.specs.View.{pastRow}
+use Rattle.trcf.specs.Steps.Rows.{pastRow}
 use borrow.Author.Needs.{needs}
 use Rattle.trcf_rows.proofs.rows.past_row.Statement.{statement}
 use Rattle.trcf_rows.proofs.rows.past_row.Tie as tie

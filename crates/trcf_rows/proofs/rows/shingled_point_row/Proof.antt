@@ -3,12 +3,13 @@ use native.Mathlib.Omega.{arith}
 use borrow.Author.Tests.{eq-eqb, ne-eqb}
 use mathlib.Core.Path.{_≡_, refl, sym, _∙_}
 use Prim.Native.Nat.{ℕ}
-use Rattle.trcf.specs.Calls.{rows, table, due, drainFull, beforeNewest, newest}
+use Rattle.trcf.specs.Calls.{rows, shingledPoint}
 use Rattle.trcf.specs.Preprocessor.{facts}
-use Rattle.trcf.specs.View.{rowOf, view, pastRow}
+use Rattle.trcf.specs.View.{lent, settingsOf, view}
 use mathlib.Core.Bool.{Bool, true, false, cond, not}
 use mathlib.Core.Logic.{_⊎_, inl, inr, ⊎-elim}
-use Rattle.trcf.proofs.RefusalLaws.{orElse-not}
+use Rattle.trcf.proofs.RowLaws.{row-head, row-call, row-lent, row-ready, point-rows}
+use Rattle.trcf_rows.proofs.NewestLaws.{behind-is}
 use Rattle.trcf_rows.proofs.rows.shingled_point_row.Statement.{statement}
 use Rattle.trcf_rows.proofs.rows.shingled_point_row.Tie as tie
 
@@ -27,21 +28,33 @@ head-row-requires : tie.Need-head-row-requires
 head-row-requires c κs = tt
 
 returns : tie.Need-returns
-unfolding rowOf rows table due drainFull facts view pastRow
-returns c = (
-  rw (← c .before .head-row .ensures .0) (orElse-not (c .before .head-row .result) _ (c .if1 .taken)),
-  (λ e. absurd (c .if1 .taken e), λ e. absurd (c .if1 .taken e)),
-)
+returns c =
+    let c8 = c .before .before .before .before .before .before .before .before in
+    let a = c8 .before .before .args in
+    let h = a .head in
+    let l = lent (a .statistics .now) (a .last-shingled-input .now) (a .last-shingled-point .now) (a .previous-timestamps .now) (a .initial-values .now)
+    (a .initial-timestamps .now) in
+    let p = shingledPoint (a .input .now) (a .timestamp) (a .output .now) in
+    let o = c .before .head-row in
+    row-ready h l p (o .result) (row-head h l p (o .result) (o .ensures .0) (c .if1 .taken))
 
 returns-2 : tie.Need-returns-2
-unfolding rowOf rows table due drainFull facts view pastRow
-returns-2 c = (
-  rw (sym (c .before .before .before .before .head-row .ensures .0) ∙ c .before .before .before .if1 .left, ne-eqb _ _ (c .if2 .taken)),
-  (λ e. absurd (omega (arith, e)), λ e. absurd (omega (arith, e))),
-)
+returns-2 c =
+    let c8 = c .before .before .before .before .before .before .before .before in
+    let a = c8 .before .before .before .before .before .args in
+    let h = a .head in
+    let l = lent (a .statistics .now) (a .last-shingled-input .now) (a .last-shingled-point .now) (a .previous-timestamps .now) (a .initial-values .now)
+    (a .initial-timestamps .now) in
+    let p = shingledPoint (a .input .now) (a .timestamp) (a .output .now) in
+    let v = point-rows h l (a .input .now) (a .timestamp) (a .output .now) in
+    let q : 10 ≡ rows (settingsOf h) (facts (view h l)) p = rw (v, ne-eqb _ _ (c .if2 .taken)) in
+    row-ready h l p 10 (row-call h l p 10 (sym (c .before .before .before .before .head-row .ensures .0) ∙ c .before .before .before .if1 .left) q (λ e. omega (arith, e)))
 
 all-finite-requires : tie.Need-all-finite-requires
 all-finite-requires c κs = tt
+
+newest-of-requires : tie.Need-newest-of-requires
+newest-of-requires c κs = tt
 
 is-behind-requires : tie.Need-is-behind-requires
 is-behind-requires c κs = tt
@@ -50,61 +63,65 @@ first-row-requires : tie.Need-first-row-requires
 first-row-requires c κs = tt
 
 returns-3 : tie.Need-returns-3
-unfolding rowOf rows table due drainFull facts view pastRow beforeNewest newest
 returns-3 c =
-    let h = sym (c .before .before .before .before .before .before .before .before .head-row .ensures .0) ∙ c .before .before .before .before .before .before .before .if1 .left in
-    let d = eq-eqb _ _ (c .before .before .before .before .if2 .left) in (
-      ⊎-elim (λ e. rw (h, d, ← c .before .before .before .all-finite .ensures, e .0) (e .1))
-          (λ e. rw (h, d, ← c .before .before .before .all-finite .ensures, e .0, ← c .before .before .is-behind .ensures, e .1) (e .2))
-          (refuses (not (c .before .before .before .all-finite .result)) (c .before .before .is-behind .result) (c .before .first-row .result) (c .before .first-row .ensures) (c .if3 .taken)),
-      (λ e. absurd (c .if3 .taken e), λ e. absurd (c .if3 .taken e)),
-    )
+    let c8 = c .before .before .before .before .before .before .before .before in
+    let c16 = c8 .before .before .before .before .before .before .before .before in
+    let a = c16 .before .before .args in
+    let h = a .head in
+    let l = lent (a .statistics .now) (a .last-shingled-input .now) (a .last-shingled-point .now) (a .previous-timestamps .now) (a .initial-values .now)
+    (a .initial-timestamps .now) in
+    let p = shingledPoint (a .input .now) (a .timestamp) (a .output .now) in
+    let v = point-rows h l (a .input .now) (a .timestamp) (a .output .now) in
+    let b = behind-is h l (a .timestamp) (c .before .before .is-behind .result) (c .before .before .before .newest-of .result) (c .before .before .is-behind .ensures) (c .before .before .before .newest-of .ensures) in
+    let d = eq-eqb _ _ (c .before .before .before .before .before .if2 .left) in
+    let f = c .before .before .before .before .all-finite .ensures in
+    let r = c .before .first-row .result in
+    let q : r ≡ rows (settingsOf h) (facts (view h l)) p =
+    ⊎-elim (λ e. rw (v, d, ← f, e .0) (e .1)) (λ e. rw (v, d, ← f, e .0, ← b, e .1) (e .2))
+    (refuses (not (c .before .before .before .before .all-finite .result)) (c .before .before .is-behind .result) r (c .before .first-row .ensures) (c .if3 .taken)) in
+    row-ready h l p r (row-call h l p r (sym (c8 .before .head-row .ensures .0) ∙ c8 .if1 .left) q (c .if3 .taken))
 
 past-row-requires : tie.Need-past-row-requires
-past-row-requires c κs = c .before .before .before .before .before .before .before .before .head-row .ensures .1 (c .before .before .before .before .before .before .before .if1 .left)
+past-row-requires c κs = let c8 = c .before .before .before .before .before .before .before .before in c8 .before .head-row .ensures .1 (c8 .if1 .left)
 
 returns-4 : tie.Need-returns-4
-unfolding rowOf rows table due drainFull facts view pastRow beforeNewest newest
 returns-4 c =
     let c8 = c .before .before .before .before .before .before .before .before in
-    let f = passes (not (c .before .before .before .before .before .all-finite .result)) (c .before .before .before .before .is-behind .result) (c .before .before .before .first-row .result) (c .before .before .before .first-row .ensures) (c .before .before .if3 .left) in (
-      rw (
-        sym (c8 .before .before .head-row .ensures .0) ∙ c8 .before .if1 .left,
-        eq-eqb _ _ (c .before .before .before .before .before .before .if2 .left),
-        ← c .before .before .before .before .before .all-finite .ensures,
-        ← c .before .before .before .before .is-behind .ensures,
-        f .0,
-        f .1,
-      )
-          (rw (← c .before .past-row .ensures) (orElse-not (c .before .past-row .result) _ (c .if4 .taken))),
-      (λ e. absurd (c .if4 .taken e), λ e. absurd (c .if4 .taken e)),
-    )
+    let c16 = c8 .before .before .before .before .before .before .before .before in
+    let a = c16 .before .before .before .before .args in
+    let h = a .head in
+    let l = lent (a .statistics .now) (a .last-shingled-input .now) (a .last-shingled-point .now) (a .previous-timestamps .now) (a .initial-values .now)
+    (a .initial-timestamps .now) in
+    let p = shingledPoint (a .input .now) (a .timestamp) (a .output .now) in
+    let v = point-rows h l (a .input .now) (a .timestamp) (a .output .now) in
+    let b = behind-is h l (a .timestamp) (c .before .before .before .before .is-behind .result) (c .before .before .before .before .before .newest-of .result) (c .before .before .before .before .is-behind .ensures) (c .before .before .before .before .before .newest-of .ensures) in
+    let d = eq-eqb _ _ (c .before .before .before .before .before .before .before .if2 .left) in
+    let f = c .before .before .before .before .before .before .all-finite .ensures in
+    let g = passes (not (c .before .before .before .before .before .before .all-finite .result)) (c .before .before .before .before .is-behind .result) (c .before .before .before .first-row .result) (c .before .before .before .first-row .ensures) (c .before .before .if3 .left) in
+    let r = c .before .past-row .result in
+    let q : r ≡ rows (settingsOf h) (facts (view h l)) p = rw (v, d, ← f, ← b, g .0, g .1) (c .before .past-row .ensures) in
+    row-ready h l p r (row-call h l p r (sym (c8 .before .before .before .head-row .ensures .0) ∙ c8 .before .before .if1 .left) q (c .if4 .taken))
 
 lent-row-requires : tie.Need-lent-row-requires
-lent-row-requires c κs = let c8 = c .before .before .before .before .before .before .before .before in c8 .before .before .head-row .ensures .1 (c8 .before .if1 .left)
+lent-row-requires c κs = let c8 = c .before .before .before .before .before .before .before .before in c8 .before .before .before .head-row .ensures .1 (c8 .before .before .if1 .left)
 
 returns-5 : tie.Need-returns-5
-unfolding rowOf rows table due drainFull facts view pastRow beforeNewest newest
 returns-5 c =
     let c8 = c .before .before .before .before .before .before .before .before in
-    let o = c8 .before .before .before .head-row in
-    let z = c8 .before .before .if1 .left in
-    let f = passes (not (c .before .before .before .before .before .before .all-finite .result)) (c .before .before .before .before .before .is-behind .result) (c .before .before .before .before .first-row .result) (c .before .before .before .before .first-row .ensures) (c .before .before .before .if3 .left) in (
-      rw (
-        sym (o .ensures .0) ∙ z,
-        eq-eqb _ _ (c .before .before .before .before .before .before .before .if2 .left),
-        ← c .before .before .before .before .before .before .all-finite .ensures,
-        ← c .before .before .before .before .before .is-behind .ensures,
-        f .0,
-        f .1,
-        sym (c .before .before .past-row .ensures) ∙ c .before .if4 .left,
-        c .lent-row .ensures .0,
-      ),
-      (
-        λ e. record { bounded = o .ensures .1 z; fitted = c .lent-row .ensures .1 e },
-        λ e. record { whole = c .before .before .before .before .before .before .before .if2 .left; past = sym (c .before .before .past-row .ensures) ∙ c .before .if4 .left },
-      ),
-    )
+    let c16 = c8 .before .before .before .before .before .before .before .before in
+    let a = c16 .before .before .before .before .before .args in
+    let h = a .head in
+    let l = lent (a .statistics .now) (a .last-shingled-input .now) (a .last-shingled-point .now) (a .previous-timestamps .now) (a .initial-values .now)
+    (a .initial-timestamps .now) in
+    let p = shingledPoint (a .input .now) (a .timestamp) (a .output .now) in
+    let v = point-rows h l (a .input .now) (a .timestamp) (a .output .now) in
+    let b = behind-is h l (a .timestamp) (c .before .before .before .before .before .is-behind .result) (c .before .before .before .before .before .before .newest-of .result) (c .before .before .before .before .before .is-behind .ensures) (c .before .before .before .before .before .before .newest-of .ensures) in
+    let d = eq-eqb _ _ (c8 .if2 .left) in
+    let f = c .before .before .before .before .before .before .before .all-finite .ensures in
+    let g = passes (not (c .before .before .before .before .before .before .before .all-finite .result)) (c .before .before .before .before .before .is-behind .result) (c .before .before .before .before .first-row .result) (c .before .before .before .before .first-row .ensures) (c .before .before .before .if3 .left) in
+    let r = c .lent-row .result in
+    let q : rows (settingsOf h) (facts (view h l)) p ≡ 0 = rw (v, d, ← f, ← b, g .0, g .1) (sym (c .before .before .past-row .ensures) ∙ c .before .if4 .left) in
+    row-ready h l p r (row-lent h l p r (sym (c8 .before .before .before .before .head-row .ensures .0) ∙ c8 .before .before .before .if1 .left) q (c .lent-row .ensures))
 
 pub shingled-point-row-spec : {M : Type 1} → statement M
 shingled-point-row-spec =
@@ -114,6 +131,7 @@ shingled-point-row-spec =
     returns
     returns-2
     all-finite-requires
+    newest-of-requires
     is-behind-requires
     first-row-requires
     returns-3

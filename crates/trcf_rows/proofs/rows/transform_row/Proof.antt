@@ -2,12 +2,13 @@
 use Rattle.trcf.proofs.LengthLaws.{block-known}
 use native.Mathlib.Omega.{arith}
 use borrow.Author.Tests.{lt-ltb, le-ltb, eq-eqb, ne-eqb}
-use mathlib.Core.Path.{sym, _∙_}
+use mathlib.Core.Path.{_≡_, sym, _∙_}
 use Rattle.trcf.specs.Settings.{block}
-use Rattle.trcf.specs.Calls.{rows, table, beforeNewest, newest}
+use Rattle.trcf.specs.Calls.{rows, table, transform}
 use Rattle.trcf.specs.Preprocessor.{facts}
-use Rattle.trcf.specs.View.{rowOf, view}
-use Rattle.trcf.proofs.RefusalLaws.{orElse-not}
+use Rattle.trcf.specs.View.{lent, settingsOf, view}
+use Rattle.trcf.proofs.RowLaws.{row-head, row-call, row-lent, lengths-row, fitted-of}
+use Rattle.trcf_rows.proofs.NewestLaws.{behind-is}
 use Rattle.trcf_rows.proofs.rows.transform_row.Statement.{statement}
 use Rattle.trcf_rows.proofs.rows.transform_row.Tie as tie
 
@@ -15,71 +16,91 @@ head-row-requires : tie.Need-head-row-requires
 head-row-requires c κs = tt
 
 returns : tie.Need-returns
-unfolding rowOf rows table block
-returns c = (
-  rw (← c .before .head-row .ensures .0) (orElse-not (c .before .head-row .result) _ (c .if1 .taken)),
-  (λ e. absurd (c .if1 .taken e), (λ e. absurd (c .if1 .taken e), λ e. absurd (c .if1 .taken e))),
-)
+returns c =
+    let c8 = c .before .before .before .before .before .before .before .before in
+    let a = c8 .before .before .args in
+    let h = a .head in
+    let l = lent (a .statistics .now) (a .last-shingled-input .now) (a .last-shingled-point .now) (a .previous-timestamps .now) (a .initial-values .now)
+    (a .initial-timestamps .now) in
+    let p = transform (a .input .now) (a .timestamp) (a .output .now) in
+    let z = c .if1 .taken in
+    (row-head h l p (c .before .head-row .result) (c .before .head-row .ensures .0) z, (λ e. absurd (z e), (λ e. absurd (z e), λ e. absurd (z e))))
 
 returns-2 : tie.Need-returns-2
-unfolding rowOf rows table block
-returns-2 c = (
-  rw (sym (c .before .before .before .head-row .ensures .0) ∙ c .before .before .if1 .left, ne-eqb _ _ (c .if2 .taken)),
-  (λ e. absurd (omega (arith, e)), (λ e. absurd (omega (arith, e)), λ e. absurd (omega (arith, e)))),
-)
+unfolding rows table
+returns-2 c =
+    let c8 = c .before .before .before .before .before .before .before .before in
+    let a = c8 .before .before .before .before .args in
+    let h = a .head in
+    let l = lent (a .statistics .now) (a .last-shingled-input .now) (a .last-shingled-point .now) (a .previous-timestamps .now) (a .initial-values .now)
+    (a .initial-timestamps .now) in
+    let p = transform (a .input .now) (a .timestamp) (a .output .now) in
+    let q : 10 ≡ rows (settingsOf h) (facts (view h l)) p = rw (ne-eqb _ _ (c .if2 .taken)) in
+    (row-call h l p 10 (sym (c .before .before .before .head-row .ensures .0) ∙ c .before .before .if1 .left) q (λ e. omega (arith, e)), (λ e. absurd (omega (arith, e)), (λ e. absurd (omega (arith, e)), λ e. absurd (omega (arith, e)))))
+
+newest-of-requires : tie.Need-newest-of-requires
+newest-of-requires c κs = tt
 
 is-behind-requires : tie.Need-is-behind-requires
 is-behind-requires c κs = tt
 
 returns-3 : tie.Need-returns-3
-unfolding rowOf rows table block beforeNewest newest facts view
-returns-3 c = (
-  rw (
-    sym (c .before .before .before .before .before .head-row .ensures .0) ∙ c .before .before .before .before .if1 .left,
-    eq-eqb _ _ (c .before .before .if2 .left),
-    sym (c .before .is-behind .ensures) ∙ c .if3 .taken,
-  ),
-  (λ e. absurd (omega (arith, e)), (λ e. absurd (omega (arith, e)), λ e. absurd (omega (arith, e)))),
-)
+unfolding rows table
+returns-3 c =
+    let c8 = c .before .before .before .before .before .before .before .before in
+    let a = c8 .before .before .before .before .before .before .before .args in
+    let h = a .head in
+    let l = lent (a .statistics .now) (a .last-shingled-input .now) (a .last-shingled-point .now) (a .previous-timestamps .now) (a .initial-values .now)
+    (a .initial-timestamps .now) in
+    let p = transform (a .input .now) (a .timestamp) (a .output .now) in
+    let b = behind-is h l (a .timestamp) (c .before .is-behind .result) (c .before .before .newest-of .result) (c .before .is-behind .ensures) (c .before .before .newest-of .ensures) in
+    let q : 28 ≡ rows (settingsOf h) (facts (view h l)) p = rw (eq-eqb _ _ (c .before .before .before .if2 .left), sym b ∙ c .if3 .taken) in
+    (row-call h l p 28 (sym (c .before .before .before .before .before .before .head-row .ensures .0) ∙ c .before .before .before .before .before .if1 .left) q (λ e. omega (arith, e)), (λ e. absurd (omega (arith, e)), (λ e. absurd (omega (arith, e)), λ e. absurd (omega (arith, e)))))
 
 block-of-requires : tie.Need-block-of-requires
 block-of-requires c κs = tt
 
 returns-4 : tie.Need-returns-4
-unfolding rowOf rows table block beforeNewest newest facts view
+unfolding rows table block
 returns-4 c =
-    let o = c .before .before .before .before .before .before .before .head-row in
-    let z = c .before .before .before .before .before .before .if1 .left in (
-      rw (
-        sym (o .ensures .0) ∙ z,
-        eq-eqb _ _ (c .before .before .before .before .if2 .left),
-        sym (c .before .before .before .is-behind .ensures) ∙ c .before .before .if3 .left,
-        ← (block-known (c .before .block-of .ensures) (omega (arith, o .ensures .1 z))) .0,
-        lt-ltb _ _ (c .if4 .taken),
-      ),
-      (λ e. absurd (omega (arith, e)), (λ e. absurd (omega (arith, e)), λ e. absurd (omega (arith, e)))),
-    )
+    let c8 = c .before .before .before .before .before .before .before .before in
+    let c16 = c8 .before .before .before .before .before .before .before .before in
+    let a = c16 .before .args in
+    let h = a .head in
+    let l = lent (a .statistics .now) (a .last-shingled-input .now) (a .last-shingled-point .now) (a .previous-timestamps .now) (a .initial-values .now)
+    (a .initial-timestamps .now) in
+    let p = transform (a .input .now) (a .timestamp) (a .output .now) in
+    let o = c8 .head-row in
+    let z = c .before .before .before .before .before .before .before .if1 .left in
+    let b = behind-is h l (a .timestamp) (c .before .before .before .is-behind .result) (c .before .before .before .before .newest-of .result) (c .before .before .before .is-behind .ensures) (c .before .before .before .before .newest-of .ensures) in
+    let k = (block-known (c .before .block-of .ensures) (omega (arith, o .ensures .1 z))) .0 in
+    let q : 20 ≡ rows (settingsOf h) (facts (view h l)) p =
+    rw (eq-eqb _ _ (c .before .before .before .before .before .if2 .left), sym b ∙ c .before .before .if3 .left, ← k, lt-ltb _ _ (c .if4 .taken)) in
+    (row-call h l p 20 (sym (o .ensures .0) ∙ z) q (λ e. omega (arith, e)), (λ e. absurd (omega (arith, e)), (λ e. absurd (omega (arith, e)), λ e. absurd (omega (arith, e)))))
 
 lent-row-requires : tie.Need-lent-row-requires
-lent-row-requires c κs = c .before .before .before .before .before .before .before .head-row .ensures .1 (c .before .before .before .before .before .before .if1 .left)
+lent-row-requires c κs = c .before .before .before .before .before .before .before .before .head-row .ensures .1 (c .before .before .before .before .before .before .before .if1 .left)
 
 returns-5 : tie.Need-returns-5
-unfolding rowOf rows table block beforeNewest newest facts view
+unfolding rows table block
 returns-5 c =
-    let o = c .before .before .before .before .before .before .before .before .head-row in
-    let z = c .before .before .before .before .before .before .before .if1 .left in
-    let b = (block-known (c .before .before .block-of .ensures) (omega (arith, o .ensures .1 z))) .0 in (
-      rw (
-        sym (o .ensures .0) ∙ z,
-        eq-eqb _ _ (c .before .before .before .before .before .if2 .left),
-        sym (c .before .before .before .before .is-behind .ensures) ∙ c .before .before .before .if3 .left,
-        ← b,
-        le-ltb _ _ (c .before .if4 .left),
-        c .lent-row .ensures .0,
-      ),
+    let c8 = c .before .before .before .before .before .before .before .before in
+    let c16 = c8 .before .before .before .before .before .before .before .before in
+    let a = c16 .before .before .args in
+    let h = a .head in
+    let l = lent (a .statistics .now) (a .last-shingled-input .now) (a .last-shingled-point .now) (a .previous-timestamps .now) (a .initial-values .now)
+    (a .initial-timestamps .now) in
+    let p = transform (a .input .now) (a .timestamp) (a .output .now) in
+    let o = c8 .before .head-row in
+    let z = c8 .if1 .left in
+    let b = behind-is h l (a .timestamp) (c .before .before .before .before .is-behind .result) (c .before .before .before .before .before .newest-of .result) (c .before .before .before .before .is-behind .ensures) (c .before .before .before .before .before .newest-of .ensures) in
+    let k = (block-known (c .before .before .block-of .ensures) (omega (arith, o .ensures .1 z))) .0 in
+    let q : rows (settingsOf h) (facts (view h l)) p ≡ 0 =
+    rw (eq-eqb _ _ (c .before .before .before .before .before .before .if2 .left), sym b ∙ c .before .before .before .if3 .left, ← k, le-ltb _ _ (c .before .if4 .left)) in (
+      row-lent h l p (c .lent-row .result) (sym (o .ensures .0) ∙ z) q (c .lent-row .ensures),
       (
-        λ e. record { bounded = o .ensures .1 z; fitted = c .lent-row .ensures .1 e },
-        (λ e. c .before .before .before .before .before .if2 .left, λ e. rw (← b) (c .before .if4 .left)),
+        λ e. record { bounded = o .ensures .1 z; fitted = fitted-of h l (sym (c .lent-row .ensures ∙ lengths-row h l) ∙ e) },
+        (λ e. c .before .before .before .before .before .before .if2 .left, λ e. rw (← k) (c .before .if4 .left)),
       ),
     )
 
@@ -90,6 +111,7 @@ transform-row-spec =
     head-row-requires
     returns
     returns-2
+    newest-of-requires
     is-behind-requires
     returns-3
     block-of-requires

@@ -2,11 +2,12 @@
 use Rattle.trcf.proofs.LengthLaws.{block-known}
 use native.Mathlib.Omega.{arith}
 use borrow.Author.Tests.{lt-ltb, le-ltb}
-use mathlib.Core.Path.{sym, _∙_}
+use mathlib.Core.Path.{_≡_, sym, _∙_}
 use Rattle.trcf.specs.Settings.{block}
-use Rattle.trcf.specs.Calls.{rows, table}
-use Rattle.trcf.specs.View.{rowOf}
-use Rattle.trcf.proofs.RefusalLaws.{orElse-not}
+use Rattle.trcf.specs.Calls.{rows, table, scale}
+use Rattle.trcf.specs.Preprocessor.{facts}
+use Rattle.trcf.specs.View.{lent, settingsOf, view}
+use Rattle.trcf.proofs.RowLaws.{row-head, row-call, row-lent, fitted-of, lengths-row}
 use Rattle.trcf_rows.proofs.rows.write_row.Statement.{statement}
 use Rattle.trcf_rows.proofs.rows.write_row.Tie as tie
 
@@ -14,45 +15,53 @@ head-row-requires : tie.Need-head-row-requires
 head-row-requires c κs = tt
 
 returns : tie.Need-returns
-unfolding rowOf rows table block
-returns c = (rw (← c .before .head-row .ensures .0) (orElse-not (c .before .head-row .result) _ (c .if1 .taken)), (λ e. absurd (c .if1 .taken e), λ e. absurd (c .if1 .taken e)))
+returns c =
+    let o = c .before .head-row in
+    let a = c .before .before .before .before .before .before .before .before .before .args in
+    let h = a .head in
+    let l = lent (a .statistics .now) (a .last-shingled-input .now) (a .last-shingled-point .now) (a .previous-timestamps .now) (a .initial-values .now)
+    (a .initial-timestamps .now) in
+    let z = c .if1 .taken in
+    (row-head h l (scale (a .output .now)) (o .result) (o .ensures .0) z, (λ e. absurd (z e), λ e. absurd (z e)))
 
 block-of-requires : tie.Need-block-of-requires
 block-of-requires c κs = tt
 
 returns-2 : tie.Need-returns-2
-unfolding rowOf rows table block
-returns-2 c = (
-  rw (
-    sym (c .before .before .before .before .head-row .ensures .0) ∙ c .before .before .before .if1 .left,
-    ←
-        (block-known (c .before .block-of .ensures) (omega (arith, c .before .before .before .before .head-row .ensures .1 (c .before .before .before .if1 .left)))) .0,
-    lt-ltb _ _
-        (c .if2 .taken),
-  ),
-  (λ e. absurd (omega (arith, e)), λ e. absurd (omega (arith, e))),
-)
+unfolding rows table block
+returns-2 c =
+    let o = c .before .before .before .before .head-row in
+    let z = c .before .before .before .if1 .left in
+    let k = (block-known (c .before .block-of .ensures) (omega (arith, o .ensures .1 z))) .0 in
+    let a = c .before .before .before .before .before .before .before .before .before .before .before .before .args in
+    let h = a .head in
+    let l = lent (a .statistics .now) (a .last-shingled-input .now) (a .last-shingled-point .now) (a .previous-timestamps .now) (a .initial-values .now)
+    (a .initial-timestamps .now) in
+    let q : 20 ≡ rows (settingsOf h) (facts (view h l)) (scale (a .output .now)) = rw (← k, lt-ltb _ _ (c .if2 .taken)) in (
+      row-call h l (scale (a .output .now)) 20 (sym (o .ensures .0) ∙ z) q (λ e. omega (arith, e)),
+      (λ e. absurd (omega (arith, e)), λ e. absurd (omega (arith, e))),
+    )
 
 lent-row-requires : tie.Need-lent-row-requires
 lent-row-requires c κs = c .before .before .before .before .head-row .ensures .1 (c .before .before .before .if1 .left)
 
 returns-3 : tie.Need-returns-3
-unfolding rowOf rows table block
-returns-3 c = (
-  rw (
-    sym (c .before .before .before .before .before .head-row .ensures .0) ∙ c .before .before .before .before .if1 .left,
-    ←
-        (block-known (c .before .before .block-of .ensures) (omega (arith, c .before .before .before .before .before .head-row .ensures .1 (c .before .before .before .before .if1 .left)))) .0,
-    le-ltb _ _ (c .before .if2 .left),
-    c .lent-row .ensures .0,
-  ),
-  (
-    λ e. record { bounded = c .before .before .before .before .before .head-row .ensures .1 (c .before .before .before .before .if1 .left); fitted = c .lent-row .ensures .1 e },
-    λ e. rw
-        (← (block-known (c .before .before .block-of .ensures)
-        (omega (arith, c .before .before .before .before .before .head-row .ensures .1 (c .before .before .before .before .if1 .left)))) .0) (c .before .if2 .left),
-  ),
-)
+unfolding rows table block
+returns-3 c =
+    let o = c .before .before .before .before .before .head-row in
+    let z = c .before .before .before .before .if1 .left in
+    let k = (block-known (c .before .before .block-of .ensures) (omega (arith, o .ensures .1 z))) .0 in
+    let a = c .before .before .before .before .before .before .before .before .before .before .before .before .before .args in
+    let h = a .head in
+    let l = lent (a .statistics .now) (a .last-shingled-input .now) (a .last-shingled-point .now) (a .previous-timestamps .now) (a .initial-values .now)
+    (a .initial-timestamps .now) in
+    let q : rows (settingsOf h) (facts (view h l)) (scale (a .output .now)) ≡ 0 = rw (← k, le-ltb _ _ (c .before .if2 .left)) in (
+      row-lent h l (scale (a .output .now)) (c .lent-row .result) (sym (o .ensures .0) ∙ z) q (c .lent-row .ensures),
+      (
+        λ e. record { bounded = o .ensures .1 z; fitted = fitted-of h l (sym (c .lent-row .ensures ∙ lengths-row h l) ∙ e) },
+        λ e. rw (← k) (c .before .if2 .left),
+      ),
+    )
 
 pub write-row-spec : {M : Type 1} → statement M
 write-row-spec =
