@@ -47,7 +47,8 @@ returnOf m (scale out) = writes (writeOf (m .head) (m .lent) (scale out) scaleOf
 returnOf m (shift out) = writes (writeOf (m .head) (m .lent) (shift out) shiftOf out)
 returnOf m (status out) = tells (statusAfter (m .head) (m .lent) out)
 
--- what the next call is given: three calls hand back a head and have lists lent to be written, the others read
+-- "Each call works on the watch as the call before left it, and nothing else writes the watch or its lent parts meanwhile.": what the next call is given.
+-- Three calls hand back a head and have lists lent to be written, the others read.
 abbrev pub leftBy : Held → Call → Held
 leftBy m (shingledPoint x t out) = held (pointAfter (m .head) (m .lent) x t out .head) (pointAfter (m .head) (m .lent) x t out .lent)
 leftBy m (postProcess q) = held (learnAfter (m .head) (m .lent) q .head) (learnAfter (m .head) (m .lent) q .lent)
