@@ -48,7 +48,7 @@ module _ (t : List ℕ) (role : ℕ) (h g : Preprocessor) (l m : Lent) where
         points = λ x n out e. ap pointShown (w .points h l x n out e) ∙ sym (ap pointShown (w .points g m x n out e));
         learns = λ c e. ap learnShown (w .learns h l c e) ∙ sym (ap learnShown (w .learns g m c e));
         drains = λ e. ap (λ (o : Outcome). o .row) (w .drains h l e) ∙ sym (ap (λ (o : Outcome). o .row) (w .drains g m e));
-        writes = λ c out e. w .writes h l c out e ∙ sym (w .writes g m c out e);
+        writes = λ c f out e. w .writes h l c f out e ∙ sym (w .writes g m c f out e);
         extrapolates = λ st sy x y ts us c e. w .extrapolates h st x ts c e ∙ sym (w .extrapolates g sy y us c e);
         tells = λ out e. w .tells h l out e ∙ sym (w .tells g m out e);
         numbers = λ e. alike t role (SEE ∷ []) (statusNumbers h) (statusNumbers g) withheldStatus e;
