@@ -54,8 +54,12 @@ returns-2 c =
     let b = o .ensures .1 z in
     let v = post-rows h l (a .input .now) (a .timestamp) (a .has-y) (a .y .now) (a .expects) (a .expected .now) (a .grade) (a .relative-index)
     (a .deviations-out .now) (a .past-out .now) (a .expected-out .now) (b .k-pos) (b .k-few) in
-    let i : c .before .input-row .result ≡ inputRow h (length (a .input .now)) (finite (a .input .now)) (newestOf h (l .previousTimestamps) (l .initialTimestamps)) (a .timestamp) =
-    c .before .input-row .ensures ∙ (λ j. inputRow h (length (a .input .now)) (c .before .before .before .all-finite .ensures j) (c .before .before .newest-of .ensures j) (a .timestamp)) in
+    let x = a .input .now in
+    let f = c .before .before .before .all-finite .ensures in
+    let n = c .before .before .newest-of .ensures in
+    let w = c .before .input-row in
+    let i : w .result ≡ inputRow h (length x) (finite x) (newestOf h (l .previousTimestamps) (l .initialTimestamps)) (a .timestamp) =
+    w .ensures ∙ (λ j. inputRow h (length x) (f j) (n j) (a .timestamp)) in
     let r = c .before .input-row .result in
     let q : r ≡ rows (settingsOf h) (facts (view h l)) p = rw (← v, ← i) (orElse-not r _ (c .if2 .taken)) in
     row-ready h l p r (row-call h l p r (sym (o .ensures .0) ∙ z) q (c .if2 .taken))
@@ -82,13 +86,18 @@ returns-3 c =
     let b = o .ensures .1 z in
     let v = post-rows h l (a .input .now) (a .timestamp) (a .has-y) (a .y .now) (a .expects) (a .expected .now) (a .grade) (a .relative-index)
     (a .deviations-out .now) (a .past-out .now) (a .expected-out .now) (b .k-pos) (b .k-few) in
-    let i : c .before .before .before .before .input-row .result ≡ inputRow h (length (a .input .now)) (finite (a .input .now)) (newestOf h (l .previousTimestamps) (l .initialTimestamps)) (a .timestamp) =
-    c .before .before .before .before .input-row .ensures ∙ (λ j. inputRow h (length (a .input .now)) (c .before .before .before .before .before .before .all-finite .ensures j) (c .before .before .before .before .before .newest-of .ensures j) (a .timestamp)) in
-    let m : c .before .before .places-back .result ≡ backOf (a .relative-index) =
-    c .before .before .places-back .ensures ∙ ap backOf (toZ-ofZ w32 (a .relative-index) (c16 .before .before .before .before .before .fits .relative-index)) in
-    let g : c .before .learning-row .result ≡ learningRow h (length (a .y .now)) (a .has-y) (length (a .expected .now)) (a .expects) (a .grade) (backOf (a .relative-index))
+    let x = a .input .now in
+    let f = c .before .before .before .before .before .before .all-finite .ensures in
+    let n = c .before .before .before .before .before .newest-of .ensures in
+    let w = c .before .before .before .before .input-row in
+    let i : w .result ≡ inputRow h (length x) (finite x) (newestOf h (l .previousTimestamps) (l .initialTimestamps)) (a .timestamp) =
+    w .ensures ∙ (λ j. inputRow h (length x) (f j) (n j) (a .timestamp)) in
+    let k = c .before .before .places-back in
+    let m : k .result ≡ backOf (a .relative-index) = k .ensures ∙ ap backOf (toZ-ofZ w32 (a .relative-index) (c16 .before .before .before .before .before .fits .relative-index)) in
+    let u = c .before .learning-row in
+    let g : u .result ≡ learningRow h (length (a .y .now)) (a .has-y) (length (a .expected .now)) (a .expects) (a .grade) (backOf (a .relative-index))
     (length (a .deviations-out .now)) (length (a .past-out .now)) (length (a .expected-out .now)) =
-    c .before .learning-row .ensures
+    u .ensures
     ∙ (λ j. learningRow h (length (a .y .now)) (a .has-y) (length (a .expected .now)) (a .expects) (a .grade) (m j)
     (length (a .deviations-out .now)) (length (a .past-out .now)) (length (a .expected-out .now))) in
     let r = c .before .learning-row .result in
@@ -114,13 +123,18 @@ returns-4 c =
     let b = o .ensures .1 z in
     let v = post-rows h l (a .input .now) (a .timestamp) (a .has-y) (a .y .now) (a .expects) (a .expected .now) (a .grade) (a .relative-index)
     (a .deviations-out .now) (a .past-out .now) (a .expected-out .now) (b .k-pos) (b .k-few) in
-    let i : c .before .before .before .before .before .input-row .result ≡ inputRow h (length (a .input .now)) (finite (a .input .now)) (newestOf h (l .previousTimestamps) (l .initialTimestamps)) (a .timestamp) =
-    c .before .before .before .before .before .input-row .ensures ∙ (λ j. inputRow h (length (a .input .now)) (c .before .before .before .before .before .before .before .all-finite .ensures j) (c .before .before .before .before .before .before .newest-of .ensures j) (a .timestamp)) in
-    let m : c .before .before .before .places-back .result ≡ backOf (a .relative-index) =
-    c .before .before .before .places-back .ensures ∙ ap backOf (toZ-ofZ w32 (a .relative-index) (c16 .before .before .before .before .before .before .fits .relative-index)) in
-    let g : c .before .before .learning-row .result ≡ learningRow h (length (a .y .now)) (a .has-y) (length (a .expected .now)) (a .expects) (a .grade) (backOf (a .relative-index))
+    let x = a .input .now in
+    let f = c .before .before .before .before .before .before .before .all-finite .ensures in
+    let n = c .before .before .before .before .before .before .newest-of .ensures in
+    let w = c .before .before .before .before .before .input-row in
+    let i : w .result ≡ inputRow h (length x) (finite x) (newestOf h (l .previousTimestamps) (l .initialTimestamps)) (a .timestamp) =
+    w .ensures ∙ (λ j. inputRow h (length x) (f j) (n j) (a .timestamp)) in
+    let k = c .before .before .before .places-back in
+    let m : k .result ≡ backOf (a .relative-index) = k .ensures ∙ ap backOf (toZ-ofZ w32 (a .relative-index) (c16 .before .before .before .before .before .before .fits .relative-index)) in
+    let u = c .before .before .learning-row in
+    let g : u .result ≡ learningRow h (length (a .y .now)) (a .has-y) (length (a .expected .now)) (a .expects) (a .grade) (backOf (a .relative-index))
     (length (a .deviations-out .now)) (length (a .past-out .now)) (length (a .expected-out .now)) =
-    c .before .before .learning-row .ensures
+    u .ensures
     ∙ (λ j. learningRow h (length (a .y .now)) (a .has-y) (length (a .expected .now)) (a .expects) (a .grade) (m j)
     (length (a .deviations-out .now)) (length (a .past-out .now)) (length (a .expected-out .now))) in
     let r = c .lent-row .result in

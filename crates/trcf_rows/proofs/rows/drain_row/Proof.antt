@@ -61,7 +61,8 @@ returns-4 c =
     let q : rows (settingsOf h) (facts (view h l)) drain ≡ 0 =
     rw (drain-rows h l, sym (c .before .before .before .before .is-spent .ensures) ∙ c .before .before .before .if2 .left, sym (c .before .before .is-overdue .ensures) ∙ c .before .if3 .left) in
     let r = c .lent-row .result in
-    row-ready h l drain r (row-lent h l drain r (sym (c .before .before .before .before .before .before .head-row .ensures .0) ∙ c .before .before .before .before .before .if1 .left) q (c .lent-row .ensures))
+    let o = c .before .before .before .before .before .before .head-row in
+    row-ready h l drain r (row-lent h l drain r (sym (o .ensures .0) ∙ c .before .before .before .before .before .if1 .left) q (c .lent-row .ensures))
 
 pub drain-row-spec : {M : Type 1} → statement M
 drain-row-spec =

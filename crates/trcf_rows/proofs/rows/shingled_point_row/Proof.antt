@@ -72,14 +72,18 @@ returns-3 c =
     (a .initial-timestamps .now) in
     let p = shingledPoint (a .input .now) (a .timestamp) (a .output .now) in
     let v = point-rows h l (a .input .now) (a .timestamp) (a .output .now) in
-    let b = behind-is h l (a .timestamp) (c .before .before .is-behind .result) (c .before .before .before .newest-of .result) (c .before .before .is-behind .ensures) (c .before .before .before .newest-of .ensures) in
+    let w = c .before .before .is-behind in
+    let n = c .before .before .before .newest-of in
+    let b = behind-is h l (a .timestamp) (w .result) (n .result) (w .ensures) (n .ensures) in
     let d = eq-eqb _ _ (c .before .before .before .before .before .if2 .left) in
-    let f = c .before .before .before .before .all-finite .ensures in
+    let y = c .before .before .before .before .all-finite in
+    let f = y .ensures in
     let r = c .before .first-row .result in
     let q : r ≡ rows (settingsOf h) (facts (view h l)) p =
     ⊎-elim (λ e. rw (v, d, ← f, e .0) (e .1)) (λ e. rw (v, d, ← f, e .0, ← b, e .1) (e .2))
-    (refuses (not (c .before .before .before .before .all-finite .result)) (c .before .before .is-behind .result) r (c .before .first-row .ensures) (c .if3 .taken)) in
-    row-ready h l p r (row-call h l p r (sym (c8 .before .head-row .ensures .0) ∙ c8 .if1 .left) q (c .if3 .taken))
+    (refuses (not (y .result)) (w .result) r (c .before .first-row .ensures) (c .if3 .taken)) in
+    let o = c8 .before .head-row in
+    row-ready h l p r (row-call h l p r (sym (o .ensures .0) ∙ c8 .if1 .left) q (c .if3 .taken))
 
 past-row-requires : tie.Need-past-row-requires
 past-row-requires c κs = let c8 = c .before .before .before .before .before .before .before .before in c8 .before .head-row .ensures .1 (c8 .if1 .left)
@@ -94,13 +98,18 @@ returns-4 c =
     (a .initial-timestamps .now) in
     let p = shingledPoint (a .input .now) (a .timestamp) (a .output .now) in
     let v = point-rows h l (a .input .now) (a .timestamp) (a .output .now) in
-    let b = behind-is h l (a .timestamp) (c .before .before .before .before .is-behind .result) (c .before .before .before .before .before .newest-of .result) (c .before .before .before .before .is-behind .ensures) (c .before .before .before .before .before .newest-of .ensures) in
+    let w = c .before .before .before .before .is-behind in
+    let n = c .before .before .before .before .before .newest-of in
+    let b = behind-is h l (a .timestamp) (w .result) (n .result) (w .ensures) (n .ensures) in
     let d = eq-eqb _ _ (c .before .before .before .before .before .before .before .if2 .left) in
-    let f = c .before .before .before .before .before .before .all-finite .ensures in
-    let g = passes (not (c .before .before .before .before .before .before .all-finite .result)) (c .before .before .before .before .is-behind .result) (c .before .before .before .first-row .result) (c .before .before .before .first-row .ensures) (c .before .before .if3 .left) in
+    let y = c .before .before .before .before .before .before .all-finite in
+    let f = y .ensures in
+    let u = c .before .before .before .first-row in
+    let g = passes (not (y .result)) (w .result) (u .result) (u .ensures) (c .before .before .if3 .left) in
     let r = c .before .past-row .result in
     let q : r ≡ rows (settingsOf h) (facts (view h l)) p = rw (v, d, ← f, ← b, g .0, g .1) (c .before .past-row .ensures) in
-    row-ready h l p r (row-call h l p r (sym (c8 .before .before .before .head-row .ensures .0) ∙ c8 .before .before .if1 .left) q (c .if4 .taken))
+    let o = c8 .before .before .before .head-row in
+    row-ready h l p r (row-call h l p r (sym (o .ensures .0) ∙ c8 .before .before .if1 .left) q (c .if4 .taken))
 
 lent-row-requires : tie.Need-lent-row-requires
 lent-row-requires c κs = let c8 = c .before .before .before .before .before .before .before .before in c8 .before .before .before .head-row .ensures .1 (c8 .before .before .if1 .left)
@@ -115,13 +124,18 @@ returns-5 c =
     (a .initial-timestamps .now) in
     let p = shingledPoint (a .input .now) (a .timestamp) (a .output .now) in
     let v = point-rows h l (a .input .now) (a .timestamp) (a .output .now) in
-    let b = behind-is h l (a .timestamp) (c .before .before .before .before .before .is-behind .result) (c .before .before .before .before .before .before .newest-of .result) (c .before .before .before .before .before .is-behind .ensures) (c .before .before .before .before .before .before .newest-of .ensures) in
+    let w = c .before .before .before .before .before .is-behind in
+    let n = c .before .before .before .before .before .before .newest-of in
+    let b = behind-is h l (a .timestamp) (w .result) (n .result) (w .ensures) (n .ensures) in
     let d = eq-eqb _ _ (c8 .if2 .left) in
-    let f = c .before .before .before .before .before .before .before .all-finite .ensures in
-    let g = passes (not (c .before .before .before .before .before .before .before .all-finite .result)) (c .before .before .before .before .before .is-behind .result) (c .before .before .before .before .first-row .result) (c .before .before .before .before .first-row .ensures) (c .before .before .before .if3 .left) in
+    let y = c .before .before .before .before .before .before .before .all-finite in
+    let f = y .ensures in
+    let u = c .before .before .before .before .first-row in
+    let g = passes (not (y .result)) (w .result) (u .result) (u .ensures) (c .before .before .before .if3 .left) in
     let r = c .lent-row .result in
     let q : rows (settingsOf h) (facts (view h l)) p ≡ 0 = rw (v, d, ← f, ← b, g .0, g .1) (sym (c .before .before .past-row .ensures) ∙ c .before .if4 .left) in
-    row-ready h l p r (row-lent h l p r (sym (c8 .before .before .before .before .head-row .ensures .0) ∙ c8 .before .before .before .if1 .left) q (c .lent-row .ensures))
+    let o = c8 .before .before .before .before .head-row in
+    row-ready h l p r (row-lent h l p r (sym (o .ensures .0) ∙ c8 .before .before .before .if1 .left) q (c .lent-row .ensures))
 
 pub shingled-point-row-spec : {M : Type 1} → statement M
 shingled-point-row-spec =

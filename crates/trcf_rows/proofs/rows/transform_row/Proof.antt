@@ -36,7 +36,9 @@ returns-2 c =
     (a .initial-timestamps .now) in
     let p = transform (a .input .now) (a .timestamp) (a .output .now) in
     let q : 10 ≡ rows (settingsOf h) (facts (view h l)) p = rw (ne-eqb _ _ (c .if2 .taken)) in
-    (row-call h l p 10 (sym (c .before .before .before .head-row .ensures .0) ∙ c .before .before .if1 .left) q (λ e. omega (arith, e)), (λ e. absurd (omega (arith, e)), (λ e. absurd (omega (arith, e)), λ e. absurd (omega (arith, e)))))
+    let o = c .before .before .before .head-row in
+    let z = c .before .before .if1 .left in
+    (row-call h l p 10 (sym (o .ensures .0) ∙ z) q (λ e. omega (arith, e)), (λ e. absurd (omega (arith, e)), (λ e. absurd (omega (arith, e)), λ e. absurd (omega (arith, e)))))
 
 newest-of-requires : tie.Need-newest-of-requires
 newest-of-requires c κs = tt
@@ -53,9 +55,13 @@ returns-3 c =
     let l = lent (a .statistics .now) (a .last-shingled-input .now) (a .last-shingled-point .now) (a .previous-timestamps .now) (a .initial-values .now)
     (a .initial-timestamps .now) in
     let p = transform (a .input .now) (a .timestamp) (a .output .now) in
-    let b = behind-is h l (a .timestamp) (c .before .is-behind .result) (c .before .before .newest-of .result) (c .before .is-behind .ensures) (c .before .before .newest-of .ensures) in
+    let w = c .before .is-behind in
+    let n = c .before .before .newest-of in
+    let b = behind-is h l (a .timestamp) (w .result) (n .result) (w .ensures) (n .ensures) in
     let q : 28 ≡ rows (settingsOf h) (facts (view h l)) p = rw (eq-eqb _ _ (c .before .before .before .if2 .left), sym b ∙ c .if3 .taken) in
-    (row-call h l p 28 (sym (c .before .before .before .before .before .before .head-row .ensures .0) ∙ c .before .before .before .before .before .if1 .left) q (λ e. omega (arith, e)), (λ e. absurd (omega (arith, e)), (λ e. absurd (omega (arith, e)), λ e. absurd (omega (arith, e)))))
+    let o = c .before .before .before .before .before .before .head-row in
+    let z = c .before .before .before .before .before .if1 .left in
+    (row-call h l p 28 (sym (o .ensures .0) ∙ z) q (λ e. omega (arith, e)), (λ e. absurd (omega (arith, e)), (λ e. absurd (omega (arith, e)), λ e. absurd (omega (arith, e)))))
 
 block-of-requires : tie.Need-block-of-requires
 block-of-requires c κs = tt
@@ -72,7 +78,9 @@ returns-4 c =
     let p = transform (a .input .now) (a .timestamp) (a .output .now) in
     let o = c8 .head-row in
     let z = c .before .before .before .before .before .before .before .if1 .left in
-    let b = behind-is h l (a .timestamp) (c .before .before .before .is-behind .result) (c .before .before .before .before .newest-of .result) (c .before .before .before .is-behind .ensures) (c .before .before .before .before .newest-of .ensures) in
+    let w = c .before .before .before .is-behind in
+    let n = c .before .before .before .before .newest-of in
+    let b = behind-is h l (a .timestamp) (w .result) (n .result) (w .ensures) (n .ensures) in
     let k = (block-known (c .before .block-of .ensures) (omega (arith, o .ensures .1 z))) .0 in
     let q : 20 ≡ rows (settingsOf h) (facts (view h l)) p =
     rw (eq-eqb _ _ (c .before .before .before .before .before .if2 .left), sym b ∙ c .before .before .if3 .left, ← k, lt-ltb _ _ (c .if4 .taken)) in
@@ -93,7 +101,9 @@ returns-5 c =
     let p = transform (a .input .now) (a .timestamp) (a .output .now) in
     let o = c8 .before .head-row in
     let z = c8 .if1 .left in
-    let b = behind-is h l (a .timestamp) (c .before .before .before .before .is-behind .result) (c .before .before .before .before .before .newest-of .result) (c .before .before .before .before .is-behind .ensures) (c .before .before .before .before .before .newest-of .ensures) in
+    let w = c .before .before .before .before .is-behind in
+    let n = c .before .before .before .before .before .newest-of in
+    let b = behind-is h l (a .timestamp) (w .result) (n .result) (w .ensures) (n .ensures) in
     let k = (block-known (c .before .before .block-of .ensures) (omega (arith, o .ensures .1 z))) .0 in
     let q : rows (settingsOf h) (facts (view h l)) p ≡ 0 =
     rw (eq-eqb _ _ (c .before .before .before .before .before .before .if2 .left), sym b ∙ c .before .before .before .if3 .left, ← k, le-ltb _ _ (c .before .if4 .left)) in (
