@@ -2,7 +2,7 @@
 use Prim.Native.Nat.{ℕ, zero, suc, _+_, _≤_, _<_}
 use native.Mathlib.Omega.{arith}
 use mathlib.Core.Path.{_≡_, refl, sym, ap, subst, _∙_}
-use mathlib.Core.Bool.{Bool, true, false, cond}
+use mathlib.Core.Bool.{Bool, true, false, cond, not}
 use mathlib.Core.List.{List, [], _∷_, map}
 use borrow.Author.Tests.{lt-ltb, le-ltb, eq-eqb, ne-eqb}
 use lib.Dec.{T}
@@ -14,7 +14,7 @@ use Rattle.trcf.specs.Settings.{settingsRow}
 use Rattle.trcf.specs.View.{Lent, Outcome, outcome, orElse, noHead, buildOf, settingsFrom}
 use Rattle.trcf.specs.declared.head.Preprocessor.{Preprocessor}
 use Rattle.trcf.specs.declared.head.PreprocessorBuilder.{PreprocessorBuilder}
-use Rattle.bench_core.specs.Line.{cellOf, requestOf, keptCount, keptOf}
+use Rattle.bench_core.specs.Line.{isNamed, isReading, cellOf, requestOf, keptCount, keptOf}
 use Rattle.bench_core.specs.declared.line.Line.{Line}
 use Rattle.bench_core.specs.declared.line.Name.{Name}
 use Rattle.bench_core.specs.declared.line.Name.the-variants.{Unread, Set, Weights, Point, Learn, Drain, Save, Other}
@@ -22,7 +22,7 @@ use Rattle.bench_core.specs.declared.step.Phase.{Phase}
 use Rattle.bench_core.specs.declared.step.Phase.the-variants.{WantsWeights, Running}
 use Rattle.bench_core.specs.declared.step.Bench.{Bench}
 use Rattle.bench_core.specs.Bench.{zeroCodes, builtOf, Output, output, prints, noText, readyFor, goingOn, endOf, builderFrom, CallPrinted, callPrinted, LineResult, lineResult, refusedBy, setGives, limitRow, builtGives, buildGives, weightsGives, lineOfCall, plainGives, callGives, printsCall, pointResult, learnResult, lineBy, lineGives, begun, EndResult, endResult, finishBy, finished, finishOf, cellLength, cellKept, stepped, withLine, cellStep, benchStep}
-use Rattle.bench_core.specs.Steps.Readings.{isReading, isPoint, readingName}
+use Rattle.bench_core.specs.Steps.Readings.{readingName}
 
 pub kept-of : (l : Line) (n : ℕ) → n ≡ keptCount (l .count) → take n (l .singles) ≡ keptOf l
 unfolding keptOf
@@ -121,7 +121,7 @@ module _ (b : Bench) (l : Line) (lists : Lent) (y : List Float) (out : List ℕ)
       call-told b (e ∙ ap (λ (u : List Float). printsCall (learnResult (b .head) (b .given) lists y u (getD (l .wholes) 0 0)) out) k) p q
       ∙ ap (λ (i : Bool). callGives (readingName i) b l lists y out) (sym w)
 
-reading-name : (n : Name) → isReading n ≡ true → readingName (isPoint n) ≡ n
+reading-name : (n : Name) → isReading n ≡ true → readingName (isNamed n Point) ≡ n
 reading-name Unread h = absurd (subst T (sym h) tt)
 reading-name Set h = absurd (subst T (sym h) tt)
 reading-name Weights h = absurd (subst T (sym h) tt)
@@ -146,7 +146,7 @@ module _ (b : Bench) (l : Line) (lists : Lent) (y : List Float) (out : List ℕ)
   plain-call Other h = refl
 
   module _ (n : Name) (e : n ≡ requestOf l) (q : Bool) (r : q ≡ isReading n) where
-    pub reading-by : (p : Bool) → p ≡ isPoint n → q ≡ true → callGives (readingName p) b l lists y out ≡ callGives (requestOf l) b l lists y out
+    pub reading-by : (p : Bool) → p ≡ isNamed n Point → q ≡ true → callGives (readingName p) b l lists y out ≡ callGives (requestOf l) b l lists y out
     reading-by p s t =
         ap (λ (i : Bool). callGives (readingName i) b l lists y out) s
         ∙ ap (λ (m : Name). callGives m b l lists y out) (reading-name n (sym r ∙ t) ∙ e)
@@ -160,9 +160,9 @@ pub begun-more : (n : Name) (rest : List ℕ) → (length rest ≡ 0 → ⊥) �
 begun-more n [] h = absurd (h refl)
 begun-more n (x ∷ rest) h = refl
 
-pub begun-by : (name n : Name) (rest : List ℕ) → length rest ≡ 0 → name ≡ n → begun n [] ≡ begun name rest
-begun-by name n [] h e = ap (λ (m : Name). begun m []) (sym e)
-begun-by name n (x ∷ rest) h e = absurd (omega arith)
+pub begun-none : (n : Name) (rest : List ℕ) → length rest ≡ 0 → not (isNamed n Unread) ≡ begun n rest
+begun-none n [] h = refl
+begun-none n (x ∷ rest) h = absurd (omega arith)
 
 module _ (b : Bench) (rest out : List ℕ) where
   pub finish-by : (p : Phase) → b .phase ≡ p → finishBy p b rest out ≡ finishBy (b .phase) b rest out

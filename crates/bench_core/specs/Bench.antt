@@ -1,7 +1,7 @@
 -- The bench (document 01, 'The bench …'), over what `build`, `shingled_point`, `post_process`, `drain` and `save` promise: what each line makes
 -- of it and prints, and one step, which reads one cell.
 use Prim.Native.Nat.{ℕ, suc, _+_}
-use mathlib.Core.Bool.{Bool, true, false, cond}
+use mathlib.Core.Bool.{Bool, true, false, cond, not}
 use mathlib.Core.List.{List, [], _∷_}
 use lib.Dec.{ltb, eqb}
 use lib.IntN.{pos}
@@ -22,7 +22,7 @@ use Rattle.snapshot.specs.Ascii.{ascii, text}
 use Rattle.snapshot.specs.Text.{whole, named, singles}
 use Rattle.snapshot.specs.Read.{bytesOfLine}
 use Rattle.snapshot.specs.Save.{saveOf, SaveOutcome as Saved}
-use Rattle.bench_core.specs.Line.{blankLine, cellOf, requestOf, keptOf}
+use Rattle.bench_core.specs.Line.{isNamed, blankLine, cellOf, requestOf, keptOf}
 use Rattle.bench_core.specs.declared.line.Line.{Line}
 use Rattle.bench_core.specs.declared.line.Name.{Name}
 use Rattle.bench_core.specs.declared.line.Name.the-variants.{Unread, Set, Weights, Point, Learn, Drain, Save, Other}
@@ -306,14 +306,7 @@ benchStep b lists y text out =
 -- bytes stand after the last LF
 abbrev pub begun : Name → List ℕ → Bool
 begun name (x ∷ rest) = true
-begun Unread [] = false
-begun Set [] = true
-begun Weights [] = true
-begun Point [] = true
-begun Learn [] = true
-begun Drain [] = true
-begun Save [] = true
-begun Other [] = true
+begun name [] = not (isNamed name Unread)
 
 pub record EndResult : Type 0 where
   pub bench : Bench

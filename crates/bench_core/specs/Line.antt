@@ -2,7 +2,7 @@
 -- f32 fields": those past the ones that are needed are checked, and neither kept nor counted.
 use Prim.Native.Char.{code}
 use Prim.Native.Nat.{ℕ, _+_}
-use mathlib.Core.Bool.{cond}
+use mathlib.Core.Bool.{Bool, cond, _||_}
 use mathlib.Core.List.{List, [], _∷_}
 use lib.Dec.{leb, ltb, eqb}
 use lib.ListN.{set, take, replicate}
@@ -24,6 +24,24 @@ use Rattle.bench_core.specs.declared.line.Place.the-variants.{AsLetter, 
 use Rattle.bench_core.specs.declared.line.Line.{Line}
 
 -- ---- names: `set`, `wgt`, `p`, `l`, `d`, `s`
+
+abbrev pub nameNumber : Name → ℕ
+nameNumber Unread = 0
+nameNumber Set = 1
+nameNumber Weights = 2
+nameNumber Point = 3
+nameNumber Learn = 4
+nameNumber Drain = 5
+nameNumber Save = 6
+nameNumber Other = 7
+
+-- whether two names are the same
+abbrev pub isNamed : Name → Name → Bool
+isNamed a b = eqb (nameNumber a) (nameNumber b)
+
+-- `p` and `l` bring a reading
+abbrev pub isReading : Name → Bool
+isReading n = isNamed n Point || isNamed n Learn
 
 abbrev pub shortName : ℕ → Name
 shortName a = cond (eqb a (code "p")) Point (cond (eqb a (code "l")) Learn (cond (eqb a (code "d")) Drain (cond (eqb a (code "s")) Save Other)))

@@ -9,7 +9,7 @@ use trcf_rows::rows::is_imputing;
 ghost use mathlib.Core.Path.{_≡_};
 ghost use Rattle.snapshot.specs.Read.{asWhole};
 ghost use Rattle.snapshot.specs.Scan.{numberOf};
-ghost use Rattle.bench_core.specs.Line.{nameOf, shortName, longName, setPlace, callPlace, placeOf, letterOf, methodField, otherLine, namedLine, afterField, withWhole, withDouble, withSingle, lineWithField, cellOf, requestOf, blankLine};
+ghost use Rattle.bench_core.specs.Line.{nameNumber, isNamed, isReading, nameOf, shortName, longName, setPlace, callPlace, placeOf, letterOf, methodField, otherLine, namedLine, afterField, withWhole, withDouble, withSingle, lineWithField, cellOf, requestOf, blankLine};
 
 // What a line is, by its name; Unread before the name is read, Other for one of no form.
 pub enum Name {
@@ -21,6 +21,39 @@ pub enum Name {
     Drain,
     Save,
     Other,
+}
+
+// The number of a name.
+fn name_number(name: Name) -> u64
+    ensures { λ r. ⌜ r ≡ nameNumber name ⌝ }
+{
+    match name {
+        Name::Unread => 0,
+        Name::Set => 1,
+        Name::Weights => 2,
+        Name::Point => 3,
+        Name::Learn => 4,
+        Name::Drain => 5,
+        Name::Save => 6,
+        Name::Other => 7,
+    }
+}
+
+// Whether two names are the same.
+pub fn is_named(a: Name, b: Name) -> bool
+    ensures { λ r. ⌜ r ≡ isNamed a b ⌝ }
+{
+    name_number(a) == name_number(b)
+}
+
+// Whether a line brings a reading.
+pub(crate) fn is_reading(name: Name) -> bool
+    ensures { λ r. ⌜ r ≡ isReading name ⌝ }
+{
+    if is_named(name, Name::Point) {
+        return true;
+    }
+    is_named(name, Name::Learn)
 }
 
 // What the field at a place of a line has to be.

@@ -9,6 +9,8 @@ use crate::line::Line;
 use crate::line::Name;
 use crate::line::blank;
 use crate::line::cell;
+use crate::line::is_named;
+use crate::line::is_reading;
 use crate::line::request;
 use trcf::head::Changed;
 use trcf::head::Preprocessor;
@@ -30,7 +32,7 @@ ghost use Rattle.trcf.specs.Settings.{settingsRow};
 ghost use Rattle.trcf.specs.View.{Lent, lent, outcome, orElse, settingsFrom};
 ghost use Rattle.bench_core.specs.Line.{requestOf, keptCount};
 ghost use Rattle.bench_core.specs.Bench.{codeCount, builtOf, output, prints, noText, readyFor, goingOn, endOf, builderFrom, noBuilder, freshBench, lineResult, setGives, limitRow, buildGives, weightsGives, plainGives, callGives, lineGives, cellLength, cellKept, stepped, withLine, benchStep, begun, endResult, finishBy, finished, finishOf};
-ghost use Rattle.bench_core.specs.Steps.Readings.{isReading, isPoint, readingName};
+ghost use Rattle.bench_core.specs.Steps.Readings.{readingName};
 
 // The bytes that the output of a step has to have.
 pub const ROOM: usize = 65536;
@@ -312,37 +314,6 @@ fn unchanged(b: Bench, n: usize) -> Printed
     }
 }
 
-// Whether a line brings a reading.
-fn is_reading(name: Name) -> bool
-    ensures { λ r. ⌜ r ≡ isReading name ⌝ }
-{
-    match name {
-        Name::Point => true,
-        Name::Learn => true,
-        Name::Unread => false,
-        Name::Set => false,
-        Name::Weights => false,
-        Name::Drain => false,
-        Name::Save => false,
-        Name::Other => false,
-    }
-}
-
-fn is_point(name: Name) -> bool
-    ensures { λ r. ⌜ r ≡ isPoint name ⌝ }
-{
-    match name {
-        Name::Point => true,
-        Name::Learn => false,
-        Name::Unread => false,
-        Name::Set => false,
-        Name::Weights => false,
-        Name::Drain => false,
-        Name::Save => false,
-        Name::Other => false,
-    }
-}
-
 // A line with a reading: `p`, or else `l`.
 fn read_reading(
     b: Bench,
@@ -474,7 +445,7 @@ fn read_call(
         return read_reading(
             b,
             l,
-            is_point(name),
+            is_named(name, Name::Point),
             statistics,
             last_shingled_input,
             last_shingled_point,
@@ -704,16 +675,7 @@ fn is_begun(name: Name, rest: &[u8]) -> bool
     if rest.len() != 0 {
         return true;
     }
-    match name {
-        Name::Unread => false,
-        Name::Set => true,
-        Name::Weights => true,
-        Name::Point => true,
-        Name::Learn => true,
-        Name::Drain => true,
-        Name::Save => true,
-        Name::Other => true,
-    }
+    !is_named(name, Name::Unread)
 }
 
 // The end of the input, after the bytes of rest, in which no cell ends: a line without its LF, or a missing `set` or `wgt`, is of another form.

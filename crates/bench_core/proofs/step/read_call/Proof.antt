@@ -12,8 +12,8 @@ request-requires c κs = search needs
 is-reading-requires : tie.Need-is-reading-requires
 is-reading-requires c κs = search needs
 
-is-point-requires : tie.Need-is-point-requires
-is-point-requires c κs = search needs
+is-named-requires : tie.Need-is-named-requires
+is-named-requires c κs = search needs
 
 read-reading-requires : tie.Need-read-reading-requires
 read-reading-requires c κs = search needs
@@ -47,7 +47,7 @@ returns c =
     let a = c .before .before .before .before .before .before .before .before .before .before .before .before .before .before .before .before .before .before .before .before .before .before .before .before .before .before .before .before .before .before .before .before .before .before .before .before .before .args in
     let n = c .before .before .before .before .before .before .before .before .before .before .before .before .before .before .before .before .before .before .before .before .before .before .before .before .before .before .before .before .request in
     let q = c .before .before .before .before .before .before .before .before .before .before .before .before .before .before .before .before .before .before .before .before .before .before .before .before .before .before .before .is-reading in
-    c .before .before .before .before .before .before .before .before .before .before .before .before .before .before .before .before .read-reading .ensures ∙ reading-by (a .b) (a .l) (lent (a .statistics .now) (a .last-shingled-input .now) (a .last-shingled-point .now) (a .previous-timestamps .now) (a .initial-values .now) (a .initial-timestamps .now)) (a .point .now) (a .out .now) (n .result) (n .ensures) (q .result) (q .ensures) (c .before .before .before .before .before .before .before .before .before .before .before .before .before .before .before .before .before .before .before .before .before .before .before .before .before .is-point .result) (c .before .before .before .before .before .before .before .before .before .before .before .before .before .before .before .before .before .before .before .before .before .before .before .before .before .is-point .ensures) (c .before .before .before .before .before .before .before .before .before .before .before .before .before .before .before .before .before .before .before .before .before .before .before .before .before .before .if1 .taken)
+    c .before .before .before .before .before .before .before .before .before .before .before .before .before .before .before .before .read-reading .ensures ∙ reading-by (a .b) (a .l) (lent (a .statistics .now) (a .last-shingled-input .now) (a .last-shingled-point .now) (a .previous-timestamps .now) (a .initial-values .now) (a .initial-timestamps .now)) (a .point .now) (a .out .now) (n .result) (n .ensures) (q .result) (q .ensures) (c .before .before .before .before .before .before .before .before .before .before .before .before .before .before .before .before .before .before .before .before .before .before .before .before .before .is-named .result) (c .before .before .before .before .before .before .before .before .before .before .before .before .before .before .before .before .before .before .before .before .before .before .before .before .before .is-named .ensures) (c .before .before .before .before .before .before .before .before .before .before .before .before .before .before .before .before .before .before .before .before .before .before .before .before .before .before .if1 .taken)
 
 read-plain-requires : tie.Need-read-plain-requires
 read-plain-requires c κs = search needs
@@ -86,7 +86,7 @@ read-call-spec =
     (tie.spec
     request-requires
     is-reading-requires
-    is-point-requires
+    is-named-requires
     read-reading-requires
     same-length
     same-length-2
