@@ -69,14 +69,7 @@ abbrev pub callPlace : ℕ → Place
 callPlace i = cond (eqb i 0) AsWhole AsSingle
 
 abbrev pub placeOf : Name → ℕ → Place
-placeOf Unread i = Nowhere
-placeOf Set i = setPlace i
-placeOf Weights i = AsSingle
-placeOf Point i = callPlace i
-placeOf Learn i = callPlace i
-placeOf Drain i = Nowhere
-placeOf Save i = Nowhere
-placeOf Other i = Nowhere
+placeOf n i = cond (isNamed n Set) (setPlace i) (cond (isNamed n Weights) AsSingle (cond (isReading n) (callPlace i) Nowhere))
 
 -- ---- fields
 
@@ -143,33 +136,15 @@ fieldAt Nowhere l c = otherLine l
 unfoldable pub lineWithField : Line → List ℕ → Line
 lineWithField l c = fieldAt (placeOf (l .name) (l .fields)) l c
 
-abbrev pub cellBy : Name → Line → List ℕ → Line
-cellBy Unread l c = namedLine l (nameOf c)
-cellBy Set l c = lineWithField l c
-cellBy Weights l c = lineWithField l c
-cellBy Point l c = lineWithField l c
-cellBy Learn l c = lineWithField l c
-cellBy Drain l c = lineWithField l c
-cellBy Save l c = lineWithField l c
-cellBy Other l c = lineWithField l c
-
 -- the line with one cell more: its name, and then its fields
 unfoldable pub cellOf : Line → List ℕ → Line
-cellOf l c = cellBy (l .name) l c
+cellOf l c = cond (isNamed (l .name) Unread) (namedLine l (nameOf c)) (lineWithField l c)
 
 -- what a line that is ended asks for: `set` has 8 fields, `p` and `l` at least a time
-abbrev pub requestBy : Name → ℕ → Name
-requestBy Unread n = Other
-requestBy Set n = cond (eqb n 8) Set Other
-requestBy Weights n = Weights
-requestBy Point n = cond (eqb n 0) Other Point
-requestBy Learn n = cond (eqb n 0) Other Learn
-requestBy Drain n = Drain
-requestBy Save n = Save
-requestBy Other n = Other
-
 unfoldable pub requestOf : Line → Name
-requestOf l = requestBy (l .name) (l .fields)
+requestOf l =
+    cond (isNamed (l .name) Set) (cond (eqb (l .fields) 8) Set Other)
+    (cond (isReading (l .name)) (cond (eqb (l .fields) 0) Other (l .name)) (cond (isNamed (l .name) Unread) Other (l .name)))
 
 -- the f32 fields that are kept
 abbrev pub keptCount : ℕ → ℕ

@@ -177,16 +177,16 @@ fn call_place(i: usize) -> Place
 fn place_of(name: Name, i: usize) -> Place
     ensures { λ r. ⌜ r ≡ placeOf name i ⌝ }
 {
-    match name {
-        Name::Set => set_place(i),
-        Name::Weights => Place::AsSingle,
-        Name::Point => call_place(i),
-        Name::Learn => call_place(i),
-        Name::Unread => Place::Nowhere,
-        Name::Drain => Place::Nowhere,
-        Name::Save => Place::Nowhere,
-        Name::Other => Place::Nowhere,
+    if is_named(name, Name::Set) {
+        return set_place(i);
     }
+    if is_named(name, Name::Weights) {
+        return Place::AsSingle;
+    }
+    if is_reading(name) {
+        return call_place(i);
+    }
+    Place::Nowhere
 }
 
 fn wide(x: u8) -> u64
@@ -334,16 +334,10 @@ pub fn cell(l: Line, c: &[u8]) -> Line
     ensures { λ r. ⌜ r ≡ cellOf l (now (c .entry)) ⌝ }
 {
     let name = l.name;
-    match name {
-        Name::Unread => named(l, name_of(c)),
-        Name::Set => with_field(l, c),
-        Name::Weights => with_field(l, c),
-        Name::Point => with_field(l, c),
-        Name::Learn => with_field(l, c),
-        Name::Drain => with_field(l, c),
-        Name::Save => with_field(l, c),
-        Name::Other => with_field(l, c),
+    if is_named(name, Name::Unread) {
+        return named(l, name_of(c));
     }
+    with_field(l, c)
 }
 
 // What a line that is ended asks for: Other where fields are missing.
@@ -352,29 +346,20 @@ pub fn request(l: Line) -> Name
 {
     let name = l.name;
     let n = l.fields;
-    match name {
-        Name::Set => {
-            if n == 8 {
-                return Name::Set;
-            }
-            Name::Other
+    if is_named(name, Name::Set) {
+        if n == 8 {
+            return Name::Set;
         }
-        Name::Point => {
-            if n == 0 {
-                return Name::Other;
-            }
-            Name::Point
-        }
-        Name::Learn => {
-            if n == 0 {
-                return Name::Other;
-            }
-            Name::Learn
-        }
-        Name::Weights => Name::Weights,
-        Name::Drain => Name::Drain,
-        Name::Save => Name::Save,
-        Name::Unread => Name::Other,
-        Name::Other => Name::Other,
+        return Name::Other;
     }
+    if is_reading(name) {
+        if n == 0 {
+            return Name::Other;
+        }
+        return name;
+    }
+    if is_named(name, Name::Unread) {
+        return Name::Other;
+    }
+    name
 }

@@ -1,4 +1,4 @@
--- `bench_core::step::read_call` meets its contract. Assumes nothing.
+-- `bench_core::step::read_call` meets its contract: a line with a reading, or one without. Assumes nothing.
 use mathlib.Core.Path.{_∙_}
 use Rattle.trcf.specs.View.{lent}
 use Rattle.bench_core.proofs.StepLaws.{reading-by, plain-read}
@@ -44,10 +44,18 @@ same-length-8 c = search needs
 
 returns : tie.Need-returns
 returns c =
-    let a = c .before .before .before .before .before .before .before .before .before .before .before .before .before .before .before .before .before .before .before .before .before .before .before .before .before .before .before .before .before .before .before .before .before .before .before .before .before .args in
-    let n = c .before .before .before .before .before .before .before .before .before .before .before .before .before .before .before .before .before .before .before .before .before .before .before .before .before .before .before .before .request in
-    let q = c .before .before .before .before .before .before .before .before .before .before .before .before .before .before .before .before .before .before .before .before .before .before .before .before .before .before .before .is-reading in
-    c .before .before .before .before .before .before .before .before .before .before .before .before .before .before .before .before .read-reading .ensures ∙ reading-by (a .b) (a .l) (lent (a .statistics .now) (a .last-shingled-input .now) (a .last-shingled-point .now) (a .previous-timestamps .now) (a .initial-values .now) (a .initial-timestamps .now)) (a .point .now) (a .out .now) (n .result) (n .ensures) (q .result) (q .ensures) (c .before .before .before .before .before .before .before .before .before .before .before .before .before .before .before .before .before .before .before .before .before .before .before .before .before .is-named .result) (c .before .before .before .before .before .before .before .before .before .before .before .before .before .before .before .before .before .before .before .before .before .before .before .before .before .is-named .ensures) (c .before .before .before .before .before .before .before .before .before .before .before .before .before .before .before .before .before .before .before .before .before .before .before .before .before .before .if1 .taken)
+    let c8 = c .before .before .before .before .before .before .before .before in
+    let c16 = c8 .before .before .before .before .before .before .before .before in
+    let c24 = c16 .before .before .before .before .before .before .before .before in
+    let c32 = c24 .before .before .before .before .before .before .before .before in
+    let a = c32 .before .before .before .before .before .args in
+    let lists = lent (a .statistics .now) (a .last-shingled-input .now) (a .last-shingled-point .now) (a .previous-timestamps .now) (a .initial-values .now) (a .initial-timestamps .now) in
+    let n = c24 .before .before .before .before .request in
+    let q = c24 .before .before .before .is-reading in
+    let p = c24 .before .is-named in
+    c16 .read-reading .ensures
+    ∙ reading-by (a .b) (a .l) lists (a .point .now) (a .out .now) (n .result) (n .ensures) (q .result) (q .ensures) (p .result) (p .ensures)
+    (c24 .before .before .if1 .taken)
 
 read-plain-requires : tie.Need-read-plain-requires
 read-plain-requires c κs = search needs
@@ -75,10 +83,15 @@ same-length-15 c = search needs
 
 returns-2 : tie.Need-returns-2
 returns-2 c =
-    let a = c .before .before .before .before .before .before .before .before .before .before .before .before .before .before .before .before .before .before .before .before .before .before .before .before .before .before .before .before .before .args in
-    let n = c .before .before .before .before .before .before .before .before .before .before .before .before .before .before .before .before .before .before .before .before .request in
-    let q = c .before .before .before .before .before .before .before .before .before .before .before .before .before .before .before .before .before .before .before .is-reading in
-    c .before .before .before .before .before .before .before .before .before .before .read-plain .ensures (a .point .now) ∙ plain-read (a .b) (a .l) (lent (a .statistics .now) (a .last-shingled-input .now) (a .last-shingled-point .now) (a .previous-timestamps .now) (a .initial-values .now) (a .initial-timestamps .now)) (a .point .now) (a .out .now) (n .result) (n .ensures) (q .result) (q .ensures) (c .before .before .before .before .before .before .before .before .before .before .before .before .before .before .before .before .before .before .if1 .left)
+    let c8 = c .before .before .before .before .before .before .before .before in
+    let c16 = c8 .before .before .before .before .before .before .before .before in
+    let c24 = c16 .before .before .before .before .before .before .before .before in
+    let a = c24 .before .before .before .before .before .args in
+    let lists = lent (a .statistics .now) (a .last-shingled-input .now) (a .last-shingled-point .now) (a .previous-timestamps .now) (a .initial-values .now) (a .initial-timestamps .now) in
+    let n = c16 .before .before .before .before .request in
+    let q = c16 .before .before .before .is-reading in
+    c8 .before .before .read-plain .ensures (a .point .now)
+    ∙ plain-read (a .b) (a .l) lists (a .point .now) (a .out .now) (n .result) (n .ensures) (q .result) (q .ensures) (c16 .before .before .if1 .left)
 
 pub read-call-spec : {M : Type 1} → statement M
 read-call-spec =
