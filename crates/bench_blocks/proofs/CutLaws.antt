@@ -18,12 +18,11 @@ use Rattle.snapshot.proofs.ScanLaws.{whole-of}
 use Rattle.snapshot.proofs.WriteLaws.{float-length, whole-short}
 use Rattle.snapshot.specs.declared.field.Number.{Number}
 use Rattle.snapshot.specs.declared.field.Number.the-variants.{Is, No}
-use Rattle.bench_core.specs.declared.line.Name.{Name}
-use Rattle.bench_core.specs.declared.line.Name.the-variants.{Unread, Set, Weights, Point, Learn, Drain, Save, Other}
+use Rattle.bench_core.specs.declared.line.Name.the-variants.{Unread, Other}
 use Rattle.bench_core.specs.declared.line.Place.{Place}
 use Rattle.bench_core.specs.declared.line.Place.the-variants.{AsLetter, AsMethod, AsWhole, AsDouble, AsSingle, Nowhere}
 use Rattle.bench_core.specs.declared.line.Line.{Line}
-use Rattle.bench_core.specs.Line.{nameOf, letterOf, methodField, placeOf, otherLine, namedLine, withWhole, withDouble, withSingle, fieldAt, lineWithField, cellBy, cellOf}
+use Rattle.bench_core.specs.Line.{isNamed, nameOf, letterOf, methodField, placeOf, otherLine, namedLine, withWhole, withDouble, withSingle, fieldAt, lineWithField, cellOf}
 use Rattle.bench_core.specs.Bench.{cellKept}
 
 no-float : (f : Format) (c : List ℕ) → width f < length c → asFloat f c ≡ none
@@ -63,17 +62,11 @@ long-field Nowhere l c h = refl
 -- a name or a field of 24 bytes or more makes the line one of another form
 pub long-cell : (l : Line) (c : List ℕ) → 24 ≤ length c → cellOf l c ≡ otherLine l
 unfolding cellOf lineWithField
-long-cell l c h = go (l .name)
+long-cell l c h = go (isNamed (l .name) Unread)
   where
-    go : (n : Name) → cellBy n l c ≡ otherLine l
-    go Unread = ap (namedLine l) (no-name c h)
-    go Set = long-field (placeOf (l .name) (l .fields)) l c h
-    go Weights = long-field (placeOf (l .name) (l .fields)) l c h
-    go Point = long-field (placeOf (l .name) (l .fields)) l c h
-    go Learn = long-field (placeOf (l .name) (l .fields)) l c h
-    go Drain = long-field (placeOf (l .name) (l .fields)) l c h
-    go Save = long-field (placeOf (l .name) (l .fields)) l c h
-    go Other = long-field (placeOf (l .name) (l .fields)) l c h
+    go : (q : Bool) → cond q (namedLine l (nameOf c)) (lineWithField l c) ≡ otherLine l
+    go true = ap (namedLine l) (no-name c h)
+    go false = long-field (placeOf (l .name) (l .fields)) l c h
 
 pub long-alike : (l : Line) (c d : List ℕ) → 24 ≤ length c → 24 ≤ length d → cellOf l c ≡ cellOf l d
 long-alike l c d h k = long-cell l c h ∙ sym (long-cell l d k)

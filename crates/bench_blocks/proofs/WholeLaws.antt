@@ -3,7 +3,7 @@ use Prim.Native.Nat.{ℕ, zero, suc, _+_, _≤_, _<_}
 use native.Mathlib.Omega.{arith}
 use native.Mathlib.Numerals.{add-one}
 use mathlib.Core.Path.{_≡_, refl, sym, ap, subst, _∙_}
-use mathlib.Core.Bool.{Bool, true, false, cond, _||_, false≢true}
+use mathlib.Core.Bool.{Bool, true, false, cond, not, _||_, false≢true}
 use mathlib.Core.List.{List, [], _∷_, _++_, append-assoc, append-nil}
 use borrow.Author.Tests.{ne-eqb, eqb-true, eqb-false}
 use lib.Dec.{T, ltb, leb, eqb}
@@ -26,7 +26,7 @@ use Rattle.bench_core.specs.declared.line.Line.{Line}
 use Rattle.bench_core.specs.declared.step.Bench.{Bench}
 use Rattle.bench_core.specs.declared.step.Phase.{Phase}
 use Rattle.bench_core.specs.declared.step.Phase.the-variants.{WantsSet, WantsWeights, Running, Ended}
-use Rattle.bench_core.specs.Line.{line as lineOf, afterField, shortName, longName, nameOf, letterOf, methodField, placeOf, otherLine, blankLine, withWhole, withDouble, withSingle, fieldAt, lineWithField, cellBy, cellOf, requestOf, keptOf}
+use Rattle.bench_core.specs.Line.{isNamed, namedLine, line as lineOf, afterField, shortName, longName, nameOf, letterOf, methodField, placeOf, otherLine, blankLine, withWhole, withDouble, withSingle, fieldAt, lineWithField, cellOf, requestOf, keptOf}
 use Rattle.bench_core.specs.Bench.{output, noText, LineResult, lineResult, cellLength, endOf, readyFor, refusedBy, builtOf, builtGives, buildGives, setGives, weightsGives, callGives, plainGives, lineBy, lineGives, freshBench, withLine, begun, finishBy, endResult, prints}
 use Rattle.bench_core.specs.Run.{benchMemory, blank, shown, printedFrom, printed}
 use Rattle.bench_blocks.specs.Whole.{pushByte, splitBy, withFields, lineOfText, endText, linesPrint, wholePrints}
@@ -120,17 +120,11 @@ module _ (l : Line) (e : begun (l .name) [] ≡ true) where
 
 cell-begun : (l : Line) (c : List ℕ) → begun (cellOf l c .name) [] ≡ true
 unfolding cellOf lineWithField
-cell-begun l c = go (l .name) refl
+cell-begun l c = go (isNamed (l .name) Unread) refl
   where
-    go : (n : Name) → l .name ≡ n → begun (cellBy n l c .name) [] ≡ true
-    go Unread e = name-begun c
-    go Set e = at-begun l (ap (λ (m : Name). begun m []) e) (placeOf (l .name) (l .fields)) c
-    go Weights e = at-begun l (ap (λ (m : Name). begun m []) e) (placeOf (l .name) (l .fields)) c
-    go Point e = at-begun l (ap (λ (m : Name). begun m []) e) (placeOf (l .name) (l .fields)) c
-    go Learn e = at-begun l (ap (λ (m : Name). begun m []) e) (placeOf (l .name) (l .fields)) c
-    go Drain e = at-begun l (ap (λ (m : Name). begun m []) e) (placeOf (l .name) (l .fields)) c
-    go Save e = at-begun l (ap (λ (m : Name). begun m []) e) (placeOf (l .name) (l .fields)) c
-    go Other e = at-begun l (ap (λ (m : Name). begun m []) e) (placeOf (l .name) (l .fields)) c
+    go : (q : Bool) → isNamed (l .name) Unread ≡ q → begun ((cond q (namedLine l (nameOf c)) (lineWithField l c)) .name) [] ≡ true
+    go true e = name-begun c
+    go false e = at-begun l (ap not e) (placeOf (l .name) (l .fields)) c
 
 -- ---- what a line leaves: nothing of the line before, unless all is over
 

@@ -1,17 +1,15 @@
 -- Names and letters by their bytes. Assumes nothing.
 use Prim.Native.Nat.{ℕ}
 use native.Mathlib.Omega.{arith}
-use mathlib.Core.Path.{_≡_, refl, sym, ap}
+use mathlib.Core.Path.{_≡_, refl}
 use mathlib.Core.Bool.{cond}
 use mathlib.Core.List.{List, [], _∷_}
 use lib.ListN.{length, getD}
 use Rattle.trcf.specs.Types.{modeOfLetter}
 use Rattle.trcf.specs.Settings.{imputes}
 use Rattle.snapshot.specs.declared.field.Number.the-variants.{Is, No}
-use Rattle.bench_core.specs.declared.line.Name.{Name}
 use Rattle.bench_core.specs.declared.line.Name.the-variants.{Other}
-use Rattle.bench_core.specs.declared.line.Line.{Line}
-use Rattle.bench_core.specs.Line.{nameOf, shortName, longName, letterOf, cellBy, cellOf}
+use Rattle.bench_core.specs.Line.{nameOf, shortName, longName, letterOf}
 
 pub name-short : (c : List ℕ) → length c ≡ 1 → shortName (getD c 0 0) ≡ nameOf c
 name-short [] h = absurd (omega arith)
@@ -41,7 +39,3 @@ pub letter-one : (c : List ℕ) → length c ≡ 1 → cond (imputes (modeOfLett
 letter-one [] h = absurd (omega arith)
 letter-one (a ∷ []) h = refl
 letter-one (a ∷ b ∷ r) h = absurd (omega arith)
-
-pub cell-by : (l : Line) (c : List ℕ) (n : Name) → l .name ≡ n → cellBy n l c ≡ cellOf l c
-unfolding cellOf
-cell-by l c n e = ap (λ (m : Name). cellBy m l c) (sym e)

@@ -1,11 +1,10 @@
 -- What each line leaves, from what its parts promise. Assumes nothing.
 use Prim.Native.Nat.{ℕ, zero, suc, _+_, _≤_, _<_}
 use native.Mathlib.Omega.{arith}
-use mathlib.Core.Path.{_≡_, refl, sym, ap, subst, _∙_}
-use mathlib.Core.Bool.{Bool, true, false, cond}
+use mathlib.Core.Path.{_≡_, refl, sym, ap, _∙_}
+use mathlib.Core.Bool.{Bool, true, false, cond, not}
 use mathlib.Core.List.{List, [], _∷_, map}
 use borrow.Author.Tests.{lt-ltb, le-ltb, eq-eqb, ne-eqb}
-use lib.Dec.{T}
 use lib.ListN.{length, take, getD, replicate}
 use lib.Ieee.{Float}
 use Rattle.trcf.specs.Preprocessor.{accepted}
@@ -14,15 +13,14 @@ use Rattle.trcf.specs.Settings.{settingsRow}
 use Rattle.trcf.specs.View.{Lent, Outcome, outcome, orElse, noHead, buildOf, settingsFrom}
 use Rattle.trcf.specs.declared.head.Preprocessor.{Preprocessor}
 use Rattle.trcf.specs.declared.head.PreprocessorBuilder.{PreprocessorBuilder}
-use Rattle.bench_core.specs.Line.{cellOf, requestOf, keptCount, keptOf}
+use Rattle.bench_core.specs.Line.{isNamed, isReading, cellOf, requestOf, keptCount, keptOf}
 use Rattle.bench_core.specs.declared.line.Line.{Line}
 use Rattle.bench_core.specs.declared.line.Name.{Name}
-use Rattle.bench_core.specs.declared.line.Name.the-variants.{Unread, Set, Weights, Point, Learn, Drain, Save, Other}
+use Rattle.bench_core.specs.declared.line.Name.the-variants.{Unread, Set, Weights, Point, Drain, Save}
 use Rattle.bench_core.specs.declared.step.Phase.{Phase}
 use Rattle.bench_core.specs.declared.step.Phase.the-variants.{WantsWeights, Running}
 use Rattle.bench_core.specs.declared.step.Bench.{Bench}
-use Rattle.bench_core.specs.Bench.{zeroCodes, builtOf, Output, output, prints, noText, readyFor, goingOn, endOf, builderFrom, CallPrinted, callPrinted, LineResult, lineResult, refusedBy, setGives, limitRow, builtGives, buildGives, weightsGives, lineOfCall, plainGives, callGives, printsCall, pointResult, learnResult, lineBy, lineGives, begun, EndResult, endResult, finishBy, finished, finishOf, cellLength, cellKept, stepped, withLine, cellStep, benchStep}
-use Rattle.bench_core.specs.Steps.Readings.{isReading, isPoint, readingName}
+use Rattle.bench_core.specs.Bench.{zeroCodes, builtOf, Output, output, prints, noText, readyFor, goingOn, endOf, builderFrom, CallPrinted, callPrinted, LineResult, lineResult, refusedBy, setGives, limitRow, builtGives, buildGives, weightsGives, lineOfCall, otherForm, plainGives, readingGives, callGives, printsCall, pointResult, learnResult, drainResult, savePrints, lineBy, lineGives, begun, EndResult, endResult, finishBy, finished, finishOf, cellLength, cellKept, stepped, withLine, cellStep, benchStep}
 
 pub kept-of : (l : Line) (n : ℕ) → n ≡ keptCount (l .count) → take n (l .singles) ≡ keptOf l
 unfolding keptOf
@@ -80,16 +78,33 @@ module _ (b : Bench) (out : List ℕ) (l : Line) (lists : Lent) (y : List Float)
 -- ---- by the name of the line, and by what the bench waits for
 
 module _ (b : Bench) (l : Line) (lists : Lent) (y : List Float) (out : List ℕ) where
-  pub set-read : {b' : Bench} {q : PreprocessorBuilder} → b' ≡ readyFor WantsWeights q (b .head) (b .given) → q ≡ builderFrom l
-      → lineResult b' lists y (output 0 out) ≡ setGives Set b l lists y out
-  set-read p q = (λ j. lineResult (p j) lists y (output 0 out)) ∙ (λ j. lineResult (readyFor WantsWeights (q j) (b .head) (b .given)) lists y (output 0 out))
+  module _ (n : Name) (e : n ≡ requestOf l) (q : Bool) where
+    -- the test of the name that `request` gave
+    tested : (m : Name) (t : Bool) → q ≡ isNamed n m → q ≡ t → isNamed (requestOf l) m ≡ t
+    tested m t r s = ap (λ (k : Name). isNamed k m) (sym e) ∙ sym r ∙ s
 
-  module _ (n m : Name) (r : n ≡ requestOf l) (e : n ≡ m) where
-    pub set-by : setGives m b l lists y out ≡ setGives (requestOf l) b l lists y out
-    set-by = ap (λ (q : Name). setGives q b l lists y out) (sym e ∙ r)
+    pub set-read : q ≡ isNamed n Set → q ≡ true → {b' : Bench} {p : PreprocessorBuilder}
+        → b' ≡ readyFor WantsWeights p (b .head) (b .given) → p ≡ builderFrom l → lineResult b' lists y (output 0 out) ≡ setGives (requestOf l) b l lists y out
+    set-read r t w p =
+        let h : isNamed (requestOf l) Set ≡ true = tested Set true r t in
+        rw h ((λ j. lineResult (w j) lists y (output 0 out)) ∙ (λ j. lineResult (readyFor WantsWeights (p j) (b .head) (b .given)) lists y (output 0 out)))
 
-    pub weights-by : weightsGives m b l lists y out ≡ weightsGives (requestOf l) b l lists y out
-    weights-by = ap (λ (q : Name). weightsGives q b l lists y out) (sym e ∙ r)
+    pub set-refused : q ≡ isNamed n Set → q ≡ false → {b' : Bench} {o : Output}
+        → endResult b' o ≡ endResult (endOf b) (prints (noText 19) out) → lineResult b' lists y o ≡ setGives (requestOf l) b l lists y out
+    set-refused r t p =
+        let h : isNamed (requestOf l) Set ≡ false = tested Set false r t in
+        rw h (refused-heard b out 19 lists y p)
+
+    pub weights-read : q ≡ isNamed n Weights → q ≡ true → {r : LineResult} → r ≡ buildGives b l lists y out → r ≡ weightsGives (requestOf l) b l lists y out
+    weights-read r t p =
+        let h : isNamed (requestOf l) Weights ≡ true = tested Weights true r t in
+        rw h p
+
+    pub weights-other : q ≡ isNamed n Weights → q ≡ false → {b' : Bench} {o : Output}
+        → endResult b' o ≡ endResult (endOf b) (prints (noText 19) out) → lineResult b' lists y o ≡ weightsGives (requestOf l) b l lists y out
+    weights-other r t p =
+        let h : isNamed (requestOf l) Weights ≡ false = tested Weights false r t in
+        rw h (refused-heard b out 19 lists y p)
 
   pub line-by : (p : Phase) → b .phase ≡ p → lineBy p b l lists y out ≡ lineGives b l lists y out
   unfolding lineGives
@@ -110,49 +125,40 @@ call-told b {b'} {h'} {g'} {l'} {y'} {n} {m} {out'} {t} e p q = (λ j. lineResul
 module _ (b : Bench) (l : Line) (lists : Lent) (y : List Float) (out : List ℕ) (asks : Bool) {v : List Float} (k : v ≡ keptOf l)
     {b' : Bench} {h' : Preprocessor} {g' : Bool} {l' : Lent} {y' : List Float} {n m : ℕ} {out' : List ℕ} where
   pub point-read : asks ≡ true → callPrinted h' g' l' y' (output n out') ≡ printsCall (pointResult (b .head) (b .given) lists y v (getD (l .wholes) 0 0)) out
-      → b' ≡ readyFor Running (b .builder) h' g' → m ≡ n → lineResult b' l' y' (output m out') ≡ callGives (readingName asks) b l lists y out
+      → b' ≡ readyFor Running (b .builder) h' g' → m ≡ n → lineResult b' l' y' (output m out') ≡ readingGives asks b l lists y out
   point-read w e p q =
       call-told b (e ∙ ap (λ (u : List Float). printsCall (pointResult (b .head) (b .given) lists y u (getD (l .wholes) 0 0)) out) k) p q
-      ∙ ap (λ (i : Bool). callGives (readingName i) b l lists y out) (sym w)
+      ∙ ap (λ (i : Bool). readingGives i b l lists y out) (sym w)
 
   pub learn-read : asks ≡ false → callPrinted h' g' l' y' (output n out') ≡ printsCall (learnResult (b .head) (b .given) lists y v (getD (l .wholes) 0 0)) out
-      → b' ≡ readyFor Running (b .builder) h' g' → m ≡ n → lineResult b' l' y' (output m out') ≡ callGives (readingName asks) b l lists y out
+      → b' ≡ readyFor Running (b .builder) h' g' → m ≡ n → lineResult b' l' y' (output m out') ≡ readingGives asks b l lists y out
   learn-read w e p q =
       call-told b (e ∙ ap (λ (u : List Float). printsCall (learnResult (b .head) (b .given) lists y u (getD (l .wholes) 0 0)) out) k) p q
-      ∙ ap (λ (i : Bool). callGives (readingName i) b l lists y out) (sym w)
+      ∙ ap (λ (i : Bool). readingGives i b l lists y out) (sym w)
 
-reading-name : (n : Name) → isReading n ≡ true → readingName (isPoint n) ≡ n
-reading-name Unread h = absurd (subst T (sym h) tt)
-reading-name Set h = absurd (subst T (sym h) tt)
-reading-name Weights h = absurd (subst T (sym h) tt)
-reading-name Point h = refl
-reading-name Learn h = refl
-reading-name Drain h = absurd (subst T (sym h) tt)
-reading-name Save h = absurd (subst T (sym h) tt)
-reading-name Other h = absurd (subst T (sym h) tt)
+-- a line without a reading, by its name
+module _ (b : Bench) (lists : Lent) (y : List Float) (out : List ℕ) (n : Name) {r : LineResult} where
+  pub plain-drain : isNamed n Drain ≡ true → r ≡ lineOfCall b (printsCall (drainResult (b .head) (b .given) lists y) out) → r ≡ plainGives n b lists y out
+  plain-drain h e = rw h e
 
-pub plain-by : (b : Bench) (lists : Lent) (y : List Float) (out : List ℕ) (name n : Name) → name ≡ n → plainGives n b lists y out ≡ plainGives name b lists y out
-plain-by b lists y out name n e = ap (λ (q : Name). plainGives q b lists y out) (sym e)
+  pub plain-save : isNamed n Drain ≡ false → isNamed n Save ≡ true → r ≡ lineResult (goingOn b) lists y (savePrints (b .head) lists out)
+      → r ≡ plainGives n b lists y out
+  plain-save h k e = rw (h, k) e
 
-module _ (b : Bench) (l : Line) (lists : Lent) (y : List Float) (out : List ℕ) where
-  plain-call : (n : Name) → isReading n ≡ false → plainGives n b lists y out ≡ callGives n b l lists y out
-  plain-call Unread h = refl
-  plain-call Set h = refl
-  plain-call Weights h = refl
-  plain-call Point h = absurd (subst T h tt)
-  plain-call Learn h = absurd (subst T h tt)
-  plain-call Drain h = refl
-  plain-call Save h = refl
-  plain-call Other h = refl
+  pub plain-other : isNamed n Drain ≡ false → isNamed n Save ≡ false → r ≡ otherForm b lists y out → r ≡ plainGives n b lists y out
+  plain-other h k e = rw (h, k) e
 
-  module _ (n : Name) (e : n ≡ requestOf l) (q : Bool) (r : q ≡ isReading n) where
-    pub reading-by : (p : Bool) → p ≡ isPoint n → q ≡ true → callGives (readingName p) b l lists y out ≡ callGives (requestOf l) b l lists y out
-    reading-by p s t =
-        ap (λ (i : Bool). callGives (readingName i) b l lists y out) s
-        ∙ ap (λ (m : Name). callGives m b l lists y out) (reading-name n (sym r ∙ t) ∙ e)
+module _ (b : Bench) (l : Line) (lists : Lent) (y : List Float) (out : List ℕ) (n : Name) (e : n ≡ requestOf l) (q : Bool) (r : q ≡ isReading n) where
+  told : (t : Bool) → q ≡ t → cond t (readingGives (isNamed n Point) b l lists y out) (plainGives n b lists y out) ≡ callGives (requestOf l) b l lists y out
+  told t h =
+      ap (λ (i : Bool). cond i (readingGives (isNamed n Point) b l lists y out) (plainGives n b lists y out)) (sym h ∙ r)
+      ∙ ap (λ (m : Name). callGives m b l lists y out) e
 
-    pub plain-read : q ≡ false → plainGives n b lists y out ≡ callGives (requestOf l) b l lists y out
-    plain-read t = plain-call n (sym r ∙ t) ∙ ap (λ (m : Name). callGives m b l lists y out) e
+  pub reading-by : (p : Bool) → p ≡ isNamed n Point → q ≡ true → readingGives p b l lists y out ≡ callGives (requestOf l) b l lists y out
+  reading-by p s t = ap (λ (i : Bool). readingGives i b l lists y out) s ∙ told true t
+
+  pub plain-read : q ≡ false → plainGives n b lists y out ≡ callGives (requestOf l) b l lists y out
+  plain-read t = told false t
 
 -- ---- the end of the input
 
@@ -160,9 +166,9 @@ pub begun-more : (n : Name) (rest : List ℕ) → (length rest ≡ 0 → ⊥) �
 begun-more n [] h = absurd (h refl)
 begun-more n (x ∷ rest) h = refl
 
-pub begun-by : (name n : Name) (rest : List ℕ) → length rest ≡ 0 → name ≡ n → begun n [] ≡ begun name rest
-begun-by name n [] h e = ap (λ (m : Name). begun m []) (sym e)
-begun-by name n (x ∷ rest) h e = absurd (omega arith)
+pub begun-none : (n : Name) (rest : List ℕ) → length rest ≡ 0 → not (isNamed n Unread) ≡ begun n rest
+begun-none n [] h = refl
+begun-none n (x ∷ rest) h = absurd (omega arith)
 
 module _ (b : Bench) (rest out : List ℕ) where
   pub finish-by : (p : Phase) → b .phase ≡ p → finishBy p b rest out ≡ finishBy (b .phase) b rest out

@@ -1,7 +1,7 @@
 -- The bench (document 01, 'The bench …'), over what `build`, `shingled_point`, `post_process`, `drain` and `save` promise: what each line makes
 -- of it and prints, and one step, which reads one cell.
 use Prim.Native.Nat.{ℕ, suc, _+_}
-use mathlib.Core.Bool.{Bool, true, false, cond}
+use mathlib.Core.Bool.{Bool, true, false, cond, not}
 use mathlib.Core.List.{List, [], _∷_}
 use lib.Dec.{ltb, eqb}
 use lib.IntN.{pos}
@@ -22,10 +22,10 @@ use Rattle.snapshot.specs.Ascii.{ascii, text}
 use Rattle.snapshot.specs.Text.{whole, named, singles}
 use Rattle.snapshot.specs.Read.{bytesOfLine}
 use Rattle.snapshot.specs.Save.{saveOf, SaveOutcome as Saved}
-use Rattle.bench_core.specs.Line.{blankLine, cellOf, requestOf, keptOf}
+use Rattle.bench_core.specs.Line.{isNamed, isReading, blankLine, cellOf, requestOf, keptOf}
 use Rattle.bench_core.specs.declared.line.Line.{Line}
 use Rattle.bench_core.specs.declared.line.Name.{Name}
-use Rattle.bench_core.specs.declared.line.Name.the-variants.{Unread, Set, Weights, Point, Learn, Drain, Save, Other}
+use Rattle.bench_core.specs.declared.line.Name.the-variants.{Unread, Set, Weights, Point, Drain, Save}
 use Rattle.bench_core.specs.declared.step.Phase.{Phase}
 use Rattle.bench_core.specs.declared.step.Phase.the-variants.{WantsSet, WantsWeights, Running, Ended}
 use Rattle.bench_core.specs.declared.step.Bench.{Bench}
@@ -180,14 +180,8 @@ refusedBy row b lists y out = lineResult (endOf b) lists y (prints (noText row) 
 
 -- the first line: an accepted `set` prints nothing
 abbrev pub setGives : Name → Bench → Line → Lent → List Float → List ℕ → LineResult
-setGives Unread b l lists y out = refusedBy 19 b lists y out
-setGives Set b l lists y out = lineResult (readyFor WantsWeights (builderFrom l) (b .head) (b .given)) lists y (output 0 out)
-setGives Weights b l lists y out = refusedBy 19 b lists y out
-setGives Point b l lists y out = refusedBy 19 b lists y out
-setGives Learn b l lists y out = refusedBy 19 b lists y out
-setGives Drain b l lists y out = refusedBy 19 b lists y out
-setGives Save b l lists y out = refusedBy 19 b lists y out
-setGives Other b l lists y out = refusedBy 19 b lists y out
+setGives n b l lists y out =
+    cond (isNamed n Set) (lineResult (readyFor WantsWeights (builderFrom l) (b .head) (b .given)) lists y (output 0 out)) (refusedBy 19 b lists y out)
 
 -- "The bench (d ≤ 4, start ≤ 500; beyond these, after rows 1 to 9, `no 20` and the end)"
 abbrev pub limitRow : PreprocessorBuilder → ℕ
@@ -216,14 +210,7 @@ buildGives b l lists y out = builtGives b (builtOf (b .builder) (keptOf l) lists
 
 -- the second line: an accepted `wgt` prints nothing
 abbrev pub weightsGives : Name → Bench → Line → Lent → List Float → List ℕ → LineResult
-weightsGives Unread b l lists y out = refusedBy 19 b lists y out
-weightsGives Set b l lists y out = refusedBy 19 b lists y out
-weightsGives Weights b l lists y out = buildGives b l lists y out
-weightsGives Point b l lists y out = refusedBy 19 b lists y out
-weightsGives Learn b l lists y out = refusedBy 19 b lists y out
-weightsGives Drain b l lists y out = refusedBy 19 b lists y out
-weightsGives Save b l lists y out = refusedBy 19 b lists y out
-weightsGives Other b l lists y out = refusedBy 19 b lists y out
+weightsGives n b l lists y out = cond (isNamed n Weights) (buildGives b l lists y out) (refusedBy 19 b lists y out)
 
 abbrev pub lineOfCall : Bench → CallPrinted → LineResult
 lineOfCall b t = lineResult (readyFor Running (b .builder) (t .head) (t .given)) (t .lent) (t .point) (t .out)
@@ -234,25 +221,19 @@ otherForm b lists y out = lineResult (goingOn b) lists y (prints (noText 19) out
 
 -- `d` and `s`; any other line without a reading is of another form
 abbrev pub plainGives : Name → Bench → Lent → List Float → List ℕ → LineResult
-plainGives Unread b lists y out = otherForm b lists y out
-plainGives Set b lists y out = otherForm b lists y out
-plainGives Weights b lists y out = otherForm b lists y out
-plainGives Point b lists y out = otherForm b lists y out
-plainGives Learn b lists y out = otherForm b lists y out
-plainGives Drain b lists y out = lineOfCall b (printsCall (drainResult (b .head) (b .given) lists y) out)
-plainGives Save b lists y out = lineResult (goingOn b) lists y (savePrints (b .head) lists out)
-plainGives Other b lists y out = otherForm b lists y out
+plainGives n b lists y out =
+    cond (isNamed n Drain) (lineOfCall b (printsCall (drainResult (b .head) (b .given) lists y) out))
+    (cond (isNamed n Save) (lineResult (goingOn b) lists y (savePrints (b .head) lists out)) (otherForm b lists y out))
 
--- every later line; the time stands first among the whole numbers
+-- `p`, or else `l`; the time stands first among the whole numbers
+abbrev pub readingGives : Bool → Bench → Line → Lent → List Float → List ℕ → LineResult
+readingGives asks b l lists y out =
+    let t = getD (l .wholes) 0 0 in
+    lineOfCall b (printsCall (cond asks (pointResult (b .head) (b .given) lists y (keptOf l) t) (learnResult (b .head) (b .given) lists y (keptOf l) t)) out)
+
+-- every later line
 abbrev pub callGives : Name → Bench → Line → Lent → List Float → List ℕ → LineResult
-callGives Unread b l lists y out = plainGives Unread b lists y out
-callGives Set b l lists y out = plainGives Set b lists y out
-callGives Weights b l lists y out = plainGives Weights b lists y out
-callGives Point b l lists y out = lineOfCall b (printsCall (pointResult (b .head) (b .given) lists y (keptOf l) (getD (l .wholes) 0 0)) out)
-callGives Learn b l lists y out = lineOfCall b (printsCall (learnResult (b .head) (b .given) lists y (keptOf l) (getD (l .wholes) 0 0)) out)
-callGives Drain b l lists y out = plainGives Drain b lists y out
-callGives Save b l lists y out = plainGives Save b lists y out
-callGives Other b l lists y out = plainGives Other b lists y out
+callGives n b l lists y out = cond (isReading n) (readingGives (isNamed n Point) b l lists y out) (plainGives n b lists y out)
 
 abbrev pub lineBy : Phase → Bench → Line → Lent → List Float → List ℕ → LineResult
 lineBy WantsSet b l lists y out = setGives (requestOf l) b l lists y out
@@ -306,14 +287,7 @@ benchStep b lists y text out =
 -- bytes stand after the last LF
 abbrev pub begun : Name → List ℕ → Bool
 begun name (x ∷ rest) = true
-begun Unread [] = false
-begun Set [] = true
-begun Weights [] = true
-begun Point [] = true
-begun Learn [] = true
-begun Drain [] = true
-begun Save [] = true
-begun Other [] = true
+begun name [] = not (isNamed name Unread)
 
 pub record EndResult : Type 0 where
   pub bench : Bench

@@ -1,4 +1,3 @@
 pub mod Line
 pub mod Bench
 pub mod Run
-pub mod Steps

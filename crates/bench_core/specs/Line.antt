@@ -2,7 +2,7 @@
 -- f32 fields": those past the ones that are needed are checked, and neither kept nor counted.
 use Prim.Native.Char.{code}
 use Prim.Native.Nat.{ℕ, _+_}
-use mathlib.Core.Bool.{cond}
+use mathlib.Core.Bool.{Bool, cond, _||_}
 use mathlib.Core.List.{List, [], _∷_}
 use lib.Dec.{leb, ltb, eqb}
 use lib.ListN.{set, take, replicate}
@@ -24,6 +24,24 @@ use Rattle.bench_core.specs.declared.line.Place.the-variants.{AsLetter, 
 use Rattle.bench_core.specs.declared.line.Line.{Line}
 
 -- ---- names: `set`, `wgt`, `p`, `l`, `d`, `s`
+
+abbrev pub nameNumber : Name → ℕ
+nameNumber Unread = 0
+nameNumber Set = 1
+nameNumber Weights = 2
+nameNumber Point = 3
+nameNumber Learn = 4
+nameNumber Drain = 5
+nameNumber Save = 6
+nameNumber Other = 7
+
+-- whether two names are the same
+abbrev pub isNamed : Name → Name → Bool
+isNamed a b = eqb (nameNumber a) (nameNumber b)
+
+-- `p` and `l` bring a reading
+abbrev pub isReading : Name → Bool
+isReading n = isNamed n Point || isNamed n Learn
 
 abbrev pub shortName : ℕ → Name
 shortName a = cond (eqb a (code "p")) Point (cond (eqb a (code "l")) Learn (cond (eqb a (code "d")) Drain (cond (eqb a (code "s")) Save Other)))
@@ -51,14 +69,7 @@ abbrev pub callPlace : ℕ → Place
 callPlace i = cond (eqb i 0) AsWhole AsSingle
 
 abbrev pub placeOf : Name → ℕ → Place
-placeOf Unread i = Nowhere
-placeOf Set i = setPlace i
-placeOf Weights i = AsSingle
-placeOf Point i = callPlace i
-placeOf Learn i = callPlace i
-placeOf Drain i = Nowhere
-placeOf Save i = Nowhere
-placeOf Other i = Nowhere
+placeOf n i = cond (isNamed n Set) (setPlace i) (cond (isNamed n Weights) AsSingle (cond (isReading n) (callPlace i) Nowhere))
 
 -- ---- fields
 
@@ -125,33 +136,15 @@ fieldAt Nowhere l c = otherLine l
 unfoldable pub lineWithField : Line → List ℕ → Line
 lineWithField l c = fieldAt (placeOf (l .name) (l .fields)) l c
 
-abbrev pub cellBy : Name → Line → List ℕ → Line
-cellBy Unread l c = namedLine l (nameOf c)
-cellBy Set l c = lineWithField l c
-cellBy Weights l c = lineWithField l c
-cellBy Point l c = lineWithField l c
-cellBy Learn l c = lineWithField l c
-cellBy Drain l c = lineWithField l c
-cellBy Save l c = lineWithField l c
-cellBy Other l c = lineWithField l c
-
 -- the line with one cell more: its name, and then its fields
 unfoldable pub cellOf : Line → List ℕ → Line
-cellOf l c = cellBy (l .name) l c
+cellOf l c = cond (isNamed (l .name) Unread) (namedLine l (nameOf c)) (lineWithField l c)
 
 -- what a line that is ended asks for: `set` has 8 fields, `p` and `l` at least a time
-abbrev pub requestBy : Name → ℕ → Name
-requestBy Unread n = Other
-requestBy Set n = cond (eqb n 8) Set Other
-requestBy Weights n = Weights
-requestBy Point n = cond (eqb n 0) Other Point
-requestBy Learn n = cond (eqb n 0) Other Learn
-requestBy Drain n = Drain
-requestBy Save n = Save
-requestBy Other n = Other
-
 unfoldable pub requestOf : Line → Name
-requestOf l = requestBy (l .name) (l .fields)
+requestOf l =
+    cond (isNamed (l .name) Set) (cond (eqb (l .fields) 8) Set Other)
+    (cond (isReading (l .name)) (cond (eqb (l .fields) 0) Other (l .name)) (cond (isNamed (l .name) Unread) Other (l .name)))
 
 -- the f32 fields that are kept
 abbrev pub keptCount : ℕ → ℕ

@@ -9,7 +9,7 @@ use trcf_rows::rows::is_imputing;
 ghost use mathlib.Core.Path.{_≡_};
 ghost use Rattle.snapshot.specs.Read.{asWhole};
 ghost use Rattle.snapshot.specs.Scan.{numberOf};
-ghost use Rattle.bench_core.specs.Line.{nameOf, shortName, longName, setPlace, callPlace, placeOf, letterOf, methodField, otherLine, namedLine, afterField, withWhole, withDouble, withSingle, lineWithField, cellOf, requestOf, blankLine};
+ghost use Rattle.bench_core.specs.Line.{nameNumber, isNamed, isReading, nameOf, shortName, longName, setPlace, callPlace, placeOf, letterOf, methodField, otherLine, namedLine, afterField, withWhole, withDouble, withSingle, lineWithField, cellOf, requestOf, blankLine};
 
 // What a line is, by its name; Unread before the name is read, Other for one of no form.
 pub enum Name {
@@ -21,6 +21,39 @@ pub enum Name {
     Drain,
     Save,
     Other,
+}
+
+// The number of a name.
+fn name_number(name: Name) -> u64
+    ensures { λ r. ⌜ r ≡ nameNumber name ⌝ }
+{
+    match name {
+        Name::Unread => 0,
+        Name::Set => 1,
+        Name::Weights => 2,
+        Name::Point => 3,
+        Name::Learn => 4,
+        Name::Drain => 5,
+        Name::Save => 6,
+        Name::Other => 7,
+    }
+}
+
+// Whether two names are the same.
+pub fn is_named(a: Name, b: Name) -> bool
+    ensures { λ r. ⌜ r ≡ isNamed a b ⌝ }
+{
+    name_number(a) == name_number(b)
+}
+
+// Whether a line brings a reading.
+pub(crate) fn is_reading(name: Name) -> bool
+    ensures { λ r. ⌜ r ≡ isReading name ⌝ }
+{
+    if is_named(name, Name::Point) {
+        return true;
+    }
+    is_named(name, Name::Learn)
 }
 
 // What the field at a place of a line has to be.
@@ -144,16 +177,16 @@ fn call_place(i: usize) -> Place
 fn place_of(name: Name, i: usize) -> Place
     ensures { λ r. ⌜ r ≡ placeOf name i ⌝ }
 {
-    match name {
-        Name::Set => set_place(i),
-        Name::Weights => Place::AsSingle,
-        Name::Point => call_place(i),
-        Name::Learn => call_place(i),
-        Name::Unread => Place::Nowhere,
-        Name::Drain => Place::Nowhere,
-        Name::Save => Place::Nowhere,
-        Name::Other => Place::Nowhere,
+    if is_named(name, Name::Set) {
+        return set_place(i);
     }
+    if is_named(name, Name::Weights) {
+        return Place::AsSingle;
+    }
+    if is_reading(name) {
+        return call_place(i);
+    }
+    Place::Nowhere
 }
 
 fn wide(x: u8) -> u64
@@ -301,16 +334,10 @@ pub fn cell(l: Line, c: &[u8]) -> Line
     ensures { λ r. ⌜ r ≡ cellOf l (now (c .entry)) ⌝ }
 {
     let name = l.name;
-    match name {
-        Name::Unread => named(l, name_of(c)),
-        Name::Set => with_field(l, c),
-        Name::Weights => with_field(l, c),
-        Name::Point => with_field(l, c),
-        Name::Learn => with_field(l, c),
-        Name::Drain => with_field(l, c),
-        Name::Save => with_field(l, c),
-        Name::Other => with_field(l, c),
+    if is_named(name, Name::Unread) {
+        return named(l, name_of(c));
     }
+    with_field(l, c)
 }
 
 // What a line that is ended asks for: Other where fields are missing.
@@ -319,29 +346,20 @@ pub fn request(l: Line) -> Name
 {
     let name = l.name;
     let n = l.fields;
-    match name {
-        Name::Set => {
-            if n == 8 {
-                return Name::Set;
-            }
-            Name::Other
+    if is_named(name, Name::Set) {
+        if n == 8 {
+            return Name::Set;
         }
-        Name::Point => {
-            if n == 0 {
-                return Name::Other;
-            }
-            Name::Point
-        }
-        Name::Learn => {
-            if n == 0 {
-                return Name::Other;
-            }
-            Name::Learn
-        }
-        Name::Weights => Name::Weights,
-        Name::Drain => Name::Drain,
-        Name::Save => Name::Save,
-        Name::Unread => Name::Other,
-        Name::Other => Name::Other,
+        return Name::Other;
     }
+    if is_reading(name) {
+        if n == 0 {
+            return Name::Other;
+        }
+        return name;
+    }
+    if is_named(name, Name::Unread) {
+        return Name::Other;
+    }
+    name
 }

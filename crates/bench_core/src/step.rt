@@ -9,6 +9,8 @@ use crate::line::Line;
 use crate::line::Name;
 use crate::line::blank;
 use crate::line::cell;
+use crate::line::is_named;
+use crate::line::is_reading;
 use crate::line::request;
 use trcf::head::Changed;
 use trcf::head::Preprocessor;
@@ -29,8 +31,7 @@ ghost use lib.ListN.{length};
 ghost use Rattle.trcf.specs.Settings.{settingsRow};
 ghost use Rattle.trcf.specs.View.{Lent, lent, outcome, orElse, settingsFrom};
 ghost use Rattle.bench_core.specs.Line.{requestOf, keptCount};
-ghost use Rattle.bench_core.specs.Bench.{codeCount, builtOf, output, prints, noText, readyFor, goingOn, endOf, builderFrom, noBuilder, freshBench, lineResult, setGives, limitRow, buildGives, weightsGives, plainGives, callGives, lineGives, cellLength, cellKept, stepped, withLine, benchStep, begun, endResult, finishBy, finished, finishOf};
-ghost use Rattle.bench_core.specs.Steps.Readings.{isReading, isPoint, readingName};
+ghost use Rattle.bench_core.specs.Bench.{codeCount, builtOf, output, prints, noText, readyFor, goingOn, endOf, builderFrom, noBuilder, freshBench, lineResult, setGives, limitRow, buildGives, weightsGives, plainGives, readingGives, callGives, lineGives, cellLength, cellKept, stepped, withLine, benchStep, begun, endResult, finishBy, finished, finishOf};
 
 // The bytes that the output of a step has to have.
 pub const ROOM: usize = 65536;
@@ -150,19 +151,13 @@ fn read_set(b: Bench, l: Line, out: &mut [u8]) -> Printed
 {
     let name = request(l);
     let head = b.head;
-    match name {
-        Name::Set => Printed {
+    if is_named(name, Name::Set) {
+        return Printed {
             bench: bench_of(Phase::WantsWeights, builder_from(l), head, b.given),
             length: 0,
-        },
-        Name::Unread => ended(b, 19, out),
-        Name::Weights => ended(b, 19, out),
-        Name::Point => ended(b, 19, out),
-        Name::Learn => ended(b, 19, out),
-        Name::Drain => ended(b, 19, out),
-        Name::Save => ended(b, 19, out),
-        Name::Other => ended(b, 19, out),
+        };
     }
+    ended(b, 19, out)
 }
 
 // Row 20 past the limits of the bench.
@@ -312,37 +307,6 @@ fn unchanged(b: Bench, n: usize) -> Printed
     }
 }
 
-// Whether a line brings a reading.
-fn is_reading(name: Name) -> bool
-    ensures { λ r. ⌜ r ≡ isReading name ⌝ }
-{
-    match name {
-        Name::Point => true,
-        Name::Learn => true,
-        Name::Unread => false,
-        Name::Set => false,
-        Name::Weights => false,
-        Name::Drain => false,
-        Name::Save => false,
-        Name::Other => false,
-    }
-}
-
-fn is_point(name: Name) -> bool
-    ensures { λ r. ⌜ r ≡ isPoint name ⌝ }
-{
-    match name {
-        Name::Point => true,
-        Name::Learn => false,
-        Name::Unread => false,
-        Name::Set => false,
-        Name::Weights => false,
-        Name::Drain => false,
-        Name::Save => false,
-        Name::Other => false,
-    }
-}
-
 // A line with a reading: `p`, or else `l`.
 fn read_reading(
     b: Bench,
@@ -358,7 +322,7 @@ fn read_reading(
     out: &mut [u8],
 ) -> Printed
     requires { ⌜ 65536 ≤ length (now out) ⌝ }
-    ensures { λ r. ⌜ lineResult (r .bench) (lent (now (statistics .exit)) (now («last_shingled_input» .exit)) (now («last_shingled_point» .exit)) (now («previous_timestamps» .exit)) (now («initial_values» .exit)) (now («initial_timestamps» .exit))) (now (point .exit)) (output (r .length) (now (out .exit))) ≡ callGives (readingName asks) b l (lent (now (statistics .entry)) (now («last_shingled_input» .entry)) (now («last_shingled_point» .entry)) (now («previous_timestamps» .entry)) (now («initial_values» .entry)) (now («initial_timestamps» .entry))) (now (point .entry)) (now (out .entry)) ⌝ }
+    ensures { λ r. ⌜ lineResult (r .bench) (lent (now (statistics .exit)) (now («last_shingled_input» .exit)) (now («last_shingled_point» .exit)) (now («previous_timestamps» .exit)) (now («initial_values» .exit)) (now («initial_timestamps» .exit))) (now (point .exit)) (output (r .length) (now (out .exit))) ≡ readingGives asks b l (lent (now (statistics .entry)) (now («last_shingled_input» .entry)) (now («last_shingled_point» .entry)) (now («previous_timestamps» .entry)) (now («initial_values» .entry)) (now («initial_timestamps» .entry))) (now (point .entry)) (now (out .entry)) ⌝ }
 {
     let head = b.head;
     let given = b.given;
@@ -416,41 +380,34 @@ fn read_plain(
     ensures { λ r. ⌜ ((y : List Float) → lineResult (r .bench) (lent (now (statistics .exit)) (now («last_shingled_input» .exit)) (now («last_shingled_point» .exit)) (now («previous_timestamps» .exit)) (now («initial_values» .entry)) (now («initial_timestamps» .entry))) y (output (r .length) (now (out .exit))) ≡ plainGives name b (lent (now (statistics .entry)) (now («last_shingled_input» .entry)) (now («last_shingled_point» .entry)) (now («previous_timestamps» .entry)) (now («initial_values» .entry)) (now («initial_timestamps» .entry))) y (now (out .entry))) ⌝ }
 {
     let head = b.head;
-    match name {
-        Name::Drain => {
-            let a = call_drain(
-                head,
-                b.given,
-                statistics,
-                last_shingled_input,
-                last_shingled_point,
-                previous_timestamps,
-                initial_values,
-                initial_timestamps,
-                out,
-            );
-            answered(b, a)
-        }
-        Name::Save => {
-            let n = call_save(
-                head,
-                statistics,
-                last_shingled_input,
-                last_shingled_point,
-                previous_timestamps,
-                initial_values,
-                initial_timestamps,
-                out,
-            );
-            unchanged(b, n)
-        }
-        Name::Unread => unchanged(b, print_no(out, 19)),
-        Name::Set => unchanged(b, print_no(out, 19)),
-        Name::Weights => unchanged(b, print_no(out, 19)),
-        Name::Point => unchanged(b, print_no(out, 19)),
-        Name::Learn => unchanged(b, print_no(out, 19)),
-        Name::Other => unchanged(b, print_no(out, 19)),
+    if is_named(name, Name::Drain) {
+        let a = call_drain(
+            head,
+            b.given,
+            statistics,
+            last_shingled_input,
+            last_shingled_point,
+            previous_timestamps,
+            initial_values,
+            initial_timestamps,
+            out,
+        );
+        return answered(b, a);
     }
+    if is_named(name, Name::Save) {
+        let n = call_save(
+            head,
+            statistics,
+            last_shingled_input,
+            last_shingled_point,
+            previous_timestamps,
+            initial_values,
+            initial_timestamps,
+            out,
+        );
+        return unchanged(b, n);
+    }
+    unchanged(b, print_no(out, 19))
 }
 
 // A call line.
@@ -474,7 +431,7 @@ fn read_call(
         return read_reading(
             b,
             l,
-            is_point(name),
+            is_named(name, Name::Point),
             statistics,
             last_shingled_input,
             last_shingled_point,
@@ -514,8 +471,8 @@ fn read_second(
     ensures { λ r. ⌜ ((y : List Float) → lineResult (r .bench) (lent (now (statistics .exit)) (now («last_shingled_input» .exit)) (now («last_shingled_point» .exit)) (now («previous_timestamps» .exit)) (now («initial_values» .entry)) (now («initial_timestamps» .entry))) y (output (r .length) (now (out .exit))) ≡ weightsGives (requestOf l) b l (lent (now (statistics .entry)) (now («last_shingled_input» .entry)) (now («last_shingled_point» .entry)) (now («previous_timestamps» .entry)) (now («initial_values» .entry)) (now («initial_timestamps» .entry))) y (now (out .entry))) ⌝ }
 {
     let name = request(l);
-    match name {
-        Name::Weights => read_weights(
+    if is_named(name, Name::Weights) {
+        return read_weights(
             b,
             l,
             statistics,
@@ -525,15 +482,9 @@ fn read_second(
             initial_values,
             initial_timestamps,
             out,
-        ),
-        Name::Unread => ended(b, 19, out),
-        Name::Set => ended(b, 19, out),
-        Name::Point => ended(b, 19, out),
-        Name::Learn => ended(b, 19, out),
-        Name::Drain => ended(b, 19, out),
-        Name::Save => ended(b, 19, out),
-        Name::Other => ended(b, 19, out),
+        );
     }
+    ended(b, 19, out)
 }
 
 // A line that is ended, by the phase.
@@ -704,16 +655,7 @@ fn is_begun(name: Name, rest: &[u8]) -> bool
     if rest.len() != 0 {
         return true;
     }
-    match name {
-        Name::Unread => false,
-        Name::Set => true,
-        Name::Weights => true,
-        Name::Point => true,
-        Name::Learn => true,
-        Name::Drain => true,
-        Name::Save => true,
-        Name::Other => true,
-    }
+    !is_named(name, Name::Unread)
 }
 
 // The end of the input, after the bytes of rest, in which no cell ends: a line without its LF, or a missing `set` or `wgt`, is of another form.

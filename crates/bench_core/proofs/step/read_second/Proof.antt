@@ -1,7 +1,6 @@
--- `bench_core::step::read_second` meets its contract. Assumes nothing.
-use Rattle.bench_core.proofs.StepLaws.{weights-by, refused-heard}
+-- `bench_core::step::read_second` meets its contract: the line is `wgt`, or the run ends. Assumes nothing.
 use Rattle.trcf.specs.View.{lent}
-use mathlib.Core.Path.{_∙_}
+use Rattle.bench_core.proofs.StepLaws.{weights-read, weights-other}
 use borrow.Author.Needs.{needs}
 use Rattle.bench_core.proofs.step.read_second.Statement.{statement}
 use Rattle.bench_core.proofs.step.read_second.Tie as tie
@@ -9,53 +8,11 @@ use Rattle.bench_core.proofs.step.read_second.Tie as tie
 request-requires : tie.Need-request-requires
 request-requires c κs = search needs
 
-enum-told : tie.Need-enum-told
-enum-told c = search needs
+is-named-requires : tie.Need-is-named-requires
+is-named-requires c κs = search needs
 
 read-weights-requires : tie.Need-read-weights-requires
 read-weights-requires c κs = search needs
-
-enum-told-2 : tie.Need-enum-told-2
-enum-told-2 c = search needs
-
-ended-requires : tie.Need-ended-requires
-ended-requires c κs = search needs
-
-enum-told-3 : tie.Need-enum-told-3
-enum-told-3 c = search needs
-
-ended-requires-2 : tie.Need-ended-requires-2
-ended-requires-2 c κs = search needs
-
-enum-told-4 : tie.Need-enum-told-4
-enum-told-4 c = search needs
-
-ended-requires-3 : tie.Need-ended-requires-3
-ended-requires-3 c κs = search needs
-
-enum-told-5 : tie.Need-enum-told-5
-enum-told-5 c = search needs
-
-ended-requires-4 : tie.Need-ended-requires-4
-ended-requires-4 c κs = search needs
-
-enum-told-6 : tie.Need-enum-told-6
-enum-told-6 c = search needs
-
-ended-requires-5 : tie.Need-ended-requires-5
-ended-requires-5 c κs = search needs
-
-enum-told-7 : tie.Need-enum-told-7
-enum-told-7 c = search needs
-
-ended-requires-6 : tie.Need-ended-requires-6
-ended-requires-6 c κs = search needs
-
-enum-told-8 : tie.Need-enum-told-8
-enum-told-8 c = search needs
-
-ended-requires-7 : tie.Need-ended-requires-7
-ended-requires-7 c κs = search needs
 
 same-length : tie.Need-same-length
 same-length c = search needs
@@ -73,88 +30,47 @@ same-length-5 : tie.Need-same-length-5
 same-length-5 c = search needs
 
 returns : tie.Need-returns
-returns c = λ y. c .before .before .before .before .before .before .before .before .before .before .read-weights .ensures y ∙ weights-by (c .before .before .before .before .before .before .before .before .before .before .before .before .before .before .before .before .before .before .before .before .before .before .before .before .before .before .args .b) (c .before .before .before .before .before .before .before .before .before .before .before .before .before .before .before .before .before .before .before .before .before .before .before .before .before .before .args .l) (lent (c .before .before .before .before .before .before .before .before .before .before .before .before .before .before .before .before .before .before .before .before .before .before .before .before .before .before .args .statistics .now) (c .before .before .before .before .before .before .before .before .before .before .before .before .before .before .before .before .before .before .before .before .before .before .before .before .before .before .args .last-shingled-input .now) (c .before .before .before .before .before .before .before .before .before .before .before .before .before .before .before .before .before .before .before .before .before .before .before .before .before .before .args .last-shingled-point .now) (c .before .before .before .before .before .before .before .before .before .before .before .before .before .before .before .before .before .before .before .before .before .before .before .before .before .before .args .previous-timestamps .now) (c .before .before .before .before .before .before .before .before .before .before .before .before .before .before .before .before .before .before .before .before .before .before .before .before .before .before .args .initial-values .now) (c .before .before .before .before .before .before .before .before .before .before .before .before .before .before .before .before .before .before .before .before .before .before .before .before .before .before .args .initial-timestamps .now)) y (c .before .before .before .before .before .before .before .before .before .before .before .before .before .before .before .before .before .before .before .before .before .before .before .before .before .before .args .out .now) (c .before .before .before .before .before .before .before .before .before .before .before .before .before .before .before .before .before .before .request .result) _ (c .before .before .before .before .before .before .before .before .before .before .before .before .before .before .before .before .before .before .request .ensures) (c .before .before .before .before .before .before .before .before .before .before .before .before .before .before .before .before .enum-told .given .1)
+returns c =
+    let c8 = c .before .before .before .before .before .before .before .before in
+    let c16 = c8 .before .before .before .before .before .before .before .before in
+    let c24 = c16 .before .before .before .before .before .before .before .before in
+    let q = c16 .before .is-named in
+    let n = c16 .before .before .request in
+    let a = c24 .before .before .args in
+    let lists = lent (a .statistics .now) (a .last-shingled-input .now) (a .last-shingled-point .now) (a .previous-timestamps .now) (a .initial-values .now) (a .initial-timestamps .now) in
+    λ y.
+    weights-read (a .b) (a .l) lists y (a .out .now) (n .result) (n .ensures) (q .result) (q .ensures) (c16 .if1 .taken)
+    (c8 .before .before .read-weights .ensures y)
+
+ended-requires : tie.Need-ended-requires
+ended-requires c κs = search needs
 
 same-length-6 : tie.Need-same-length-6
 same-length-6 c = search needs
 
 returns-2 : tie.Need-returns-2
-returns-2 c = λ y. refused-heard (c .before .before .before .before .before .before .before .before .before .before .before .before .before .before .args .b) (c .before .before .before .before .before .before .before .before .before .before .before .before .before .before .args .out .now) 19 (lent (c .before .before .before .before .before .before .before .before .before .before .before .before .before .before .args .statistics .now) (c .before .before .before .before .before .before .before .before .before .before .before .before .before .before .args .last-shingled-input .now) (c .before .before .before .before .before .before .before .before .before .before .before .before .before .before .args .last-shingled-point .now) (c .before .before .before .before .before .before .before .before .before .before .before .before .before .before .args .previous-timestamps .now) (c .before .before .before .before .before .before .before .before .before .before .before .before .before .before .args .initial-values .now) (c .before .before .before .before .before .before .before .before .before .before .before .before .before .before .args .initial-timestamps .now)) y (c .before .before .ended .ensures) ∙ weights-by (c .before .before .before .before .before .before .before .before .before .before .before .before .before .before .args .b) (c .before .before .before .before .before .before .before .before .before .before .before .before .before .before .args .l) (lent (c .before .before .before .before .before .before .before .before .before .before .before .before .before .before .args .statistics .now) (c .before .before .before .before .before .before .before .before .before .before .before .before .before .before .args .last-shingled-input .now) (c .before .before .before .before .before .before .before .before .before .before .before .before .before .before .args .last-shingled-point .now) (c .before .before .before .before .before .before .before .before .before .before .before .before .before .before .args .previous-timestamps .now) (c .before .before .before .before .before .before .before .before .before .before .before .before .before .before .args .initial-values .now) (c .before .before .before .before .before .before .before .before .before .before .before .before .before .before .args .initial-timestamps .now)) y (c .before .before .before .before .before .before .before .before .before .before .before .before .before .before .args .out .now) (c .before .before .before .before .before .before .request .result) _ (c .before .before .before .before .before .before .request .ensures) (c .before .before .before .before .enum-told2 .given .1)
-
-same-length-7 : tie.Need-same-length-7
-same-length-7 c = search needs
-
-returns-3 : tie.Need-returns-3
-returns-3 c = λ y. refused-heard (c .before .before .before .before .before .before .before .before .before .before .before .before .before .before .args .b) (c .before .before .before .before .before .before .before .before .before .before .before .before .before .before .args .out .now) 19 (lent (c .before .before .before .before .before .before .before .before .before .before .before .before .before .before .args .statistics .now) (c .before .before .before .before .before .before .before .before .before .before .before .before .before .before .args .last-shingled-input .now) (c .before .before .before .before .before .before .before .before .before .before .before .before .before .before .args .last-shingled-point .now) (c .before .before .before .before .before .before .before .before .before .before .before .before .before .before .args .previous-timestamps .now) (c .before .before .before .before .before .before .before .before .before .before .before .before .before .before .args .initial-values .now) (c .before .before .before .before .before .before .before .before .before .before .before .before .before .before .args .initial-timestamps .now)) y (c .before .before .ended2 .ensures) ∙ weights-by (c .before .before .before .before .before .before .before .before .before .before .before .before .before .before .args .b) (c .before .before .before .before .before .before .before .before .before .before .before .before .before .before .args .l) (lent (c .before .before .before .before .before .before .before .before .before .before .before .before .before .before .args .statistics .now) (c .before .before .before .before .before .before .before .before .before .before .before .before .before .before .args .last-shingled-input .now) (c .before .before .before .before .before .before .before .before .before .before .before .before .before .before .args .last-shingled-point .now) (c .before .before .before .before .before .before .before .before .before .before .before .before .before .before .args .previous-timestamps .now) (c .before .before .before .before .before .before .before .before .before .before .before .before .before .before .args .initial-values .now) (c .before .before .before .before .before .before .before .before .before .before .before .before .before .before .args .initial-timestamps .now)) y (c .before .before .before .before .before .before .before .before .before .before .before .before .before .before .args .out .now) (c .before .before .before .before .before .before .request .result) _ (c .before .before .before .before .before .before .request .ensures) (c .before .before .before .before .enum-told3 .given .1)
-
-same-length-8 : tie.Need-same-length-8
-same-length-8 c = search needs
-
-returns-4 : tie.Need-returns-4
-returns-4 c = λ y. refused-heard (c .before .before .before .before .before .before .before .before .before .before .before .before .before .before .args .b) (c .before .before .before .before .before .before .before .before .before .before .before .before .before .before .args .out .now) 19 (lent (c .before .before .before .before .before .before .before .before .before .before .before .before .before .before .args .statistics .now) (c .before .before .before .before .before .before .before .before .before .before .before .before .before .before .args .last-shingled-input .now) (c .before .before .before .before .before .before .before .before .before .before .before .before .before .before .args .last-shingled-point .now) (c .before .before .before .before .before .before .before .before .before .before .before .before .before .before .args .previous-timestamps .now) (c .before .before .before .before .before .before .before .before .before .before .before .before .before .before .args .initial-values .now) (c .before .before .before .before .before .before .before .before .before .before .before .before .before .before .args .initial-timestamps .now)) y (c .before .before .ended3 .ensures) ∙ weights-by (c .before .before .before .before .before .before .before .before .before .before .before .before .before .before .args .b) (c .before .before .before .before .before .before .before .before .before .before .before .before .before .before .args .l) (lent (c .before .before .before .before .before .before .before .before .before .before .before .before .before .before .args .statistics .now) (c .before .before .before .before .before .before .before .before .before .before .before .before .before .before .args .last-shingled-input .now) (c .before .before .before .before .before .before .before .before .before .before .before .before .before .before .args .last-shingled-point .now) (c .before .before .before .before .before .before .before .before .before .before .before .before .before .before .args .previous-timestamps .now) (c .before .before .before .before .before .before .before .before .before .before .before .before .before .before .args .initial-values .now) (c .before .before .before .before .before .before .before .before .before .before .before .before .before .before .args .initial-timestamps .now)) y (c .before .before .before .before .before .before .before .before .before .before .before .before .before .before .args .out .now) (c .before .before .before .before .before .before .request .result) _ (c .before .before .before .before .before .before .request .ensures) (c .before .before .before .before .enum-told4 .given .1)
-
-same-length-9 : tie.Need-same-length-9
-same-length-9 c = search needs
-
-returns-5 : tie.Need-returns-5
-returns-5 c = λ y. refused-heard (c .before .before .before .before .before .before .before .before .before .before .before .before .before .before .args .b) (c .before .before .before .before .before .before .before .before .before .before .before .before .before .before .args .out .now) 19 (lent (c .before .before .before .before .before .before .before .before .before .before .before .before .before .before .args .statistics .now) (c .before .before .before .before .before .before .before .before .before .before .before .before .before .before .args .last-shingled-input .now) (c .before .before .before .before .before .before .before .before .before .before .before .before .before .before .args .last-shingled-point .now) (c .before .before .before .before .before .before .before .before .before .before .before .before .before .before .args .previous-timestamps .now) (c .before .before .before .before .before .before .before .before .before .before .before .before .before .before .args .initial-values .now) (c .before .before .before .before .before .before .before .before .before .before .before .before .before .before .args .initial-timestamps .now)) y (c .before .before .ended4 .ensures) ∙ weights-by (c .before .before .before .before .before .before .before .before .before .before .before .before .before .before .args .b) (c .before .before .before .before .before .before .before .before .before .before .before .before .before .before .args .l) (lent (c .before .before .before .before .before .before .before .before .before .before .before .before .before .before .args .statistics .now) (c .before .before .before .before .before .before .before .before .before .before .before .before .before .before .args .last-shingled-input .now) (c .before .before .before .before .before .before .before .before .before .before .before .before .before .before .args .last-shingled-point .now) (c .before .before .before .before .before .before .before .before .before .before .before .before .before .before .args .previous-timestamps .now) (c .before .before .before .before .before .before .before .before .before .before .before .before .before .before .args .initial-values .now) (c .before .before .before .before .before .before .before .before .before .before .before .before .before .before .args .initial-timestamps .now)) y (c .before .before .before .before .before .before .before .before .before .before .before .before .before .before .args .out .now) (c .before .before .before .before .before .before .request .result) _ (c .before .before .before .before .before .before .request .ensures) (c .before .before .before .before .enum-told5 .given .1)
-
-same-length-10 : tie.Need-same-length-10
-same-length-10 c = search needs
-
-returns-6 : tie.Need-returns-6
-returns-6 c = λ y. refused-heard (c .before .before .before .before .before .before .before .before .before .before .before .before .before .before .args .b) (c .before .before .before .before .before .before .before .before .before .before .before .before .before .before .args .out .now) 19 (lent (c .before .before .before .before .before .before .before .before .before .before .before .before .before .before .args .statistics .now) (c .before .before .before .before .before .before .before .before .before .before .before .before .before .before .args .last-shingled-input .now) (c .before .before .before .before .before .before .before .before .before .before .before .before .before .before .args .last-shingled-point .now) (c .before .before .before .before .before .before .before .before .before .before .before .before .before .before .args .previous-timestamps .now) (c .before .before .before .before .before .before .before .before .before .before .before .before .before .before .args .initial-values .now) (c .before .before .before .before .before .before .before .before .before .before .before .before .before .before .args .initial-timestamps .now)) y (c .before .before .ended5 .ensures) ∙ weights-by (c .before .before .before .before .before .before .before .before .before .before .before .before .before .before .args .b) (c .before .before .before .before .before .before .before .before .before .before .before .before .before .before .args .l) (lent (c .before .before .before .before .before .before .before .before .before .before .before .before .before .before .args .statistics .now) (c .before .before .before .before .before .before .before .before .before .before .before .before .before .before .args .last-shingled-input .now) (c .before .before .before .before .before .before .before .before .before .before .before .before .before .before .args .last-shingled-point .now) (c .before .before .before .before .before .before .before .before .before .before .before .before .before .before .args .previous-timestamps .now) (c .before .before .before .before .before .before .before .before .before .before .before .before .before .before .args .initial-values .now) (c .before .before .before .before .before .before .before .before .before .before .before .before .before .before .args .initial-timestamps .now)) y (c .before .before .before .before .before .before .before .before .before .before .before .before .before .before .args .out .now) (c .before .before .before .before .before .before .request .result) _ (c .before .before .before .before .before .before .request .ensures) (c .before .before .before .before .enum-told6 .given .1)
-
-same-length-11 : tie.Need-same-length-11
-same-length-11 c = search needs
-
-returns-7 : tie.Need-returns-7
-returns-7 c = λ y. refused-heard (c .before .before .before .before .before .before .before .before .before .before .before .before .before .before .args .b) (c .before .before .before .before .before .before .before .before .before .before .before .before .before .before .args .out .now) 19 (lent (c .before .before .before .before .before .before .before .before .before .before .before .before .before .before .args .statistics .now) (c .before .before .before .before .before .before .before .before .before .before .before .before .before .before .args .last-shingled-input .now) (c .before .before .before .before .before .before .before .before .before .before .before .before .before .before .args .last-shingled-point .now) (c .before .before .before .before .before .before .before .before .before .before .before .before .before .before .args .previous-timestamps .now) (c .before .before .before .before .before .before .before .before .before .before .before .before .before .before .args .initial-values .now) (c .before .before .before .before .before .before .before .before .before .before .before .before .before .before .args .initial-timestamps .now)) y (c .before .before .ended6 .ensures) ∙ weights-by (c .before .before .before .before .before .before .before .before .before .before .before .before .before .before .args .b) (c .before .before .before .before .before .before .before .before .before .before .before .before .before .before .args .l) (lent (c .before .before .before .before .before .before .before .before .before .before .before .before .before .before .args .statistics .now) (c .before .before .before .before .before .before .before .before .before .before .before .before .before .before .args .last-shingled-input .now) (c .before .before .before .before .before .before .before .before .before .before .before .before .before .before .args .last-shingled-point .now) (c .before .before .before .before .before .before .before .before .before .before .before .before .before .before .args .previous-timestamps .now) (c .before .before .before .before .before .before .before .before .before .before .before .before .before .before .args .initial-values .now) (c .before .before .before .before .before .before .before .before .before .before .before .before .before .before .args .initial-timestamps .now)) y (c .before .before .before .before .before .before .before .before .before .before .before .before .before .before .args .out .now) (c .before .before .before .before .before .before .request .result) _ (c .before .before .before .before .before .before .request .ensures) (c .before .before .before .before .enum-told7 .given .1)
-
-same-length-12 : tie.Need-same-length-12
-same-length-12 c = search needs
-
-returns-8 : tie.Need-returns-8
-returns-8 c = λ y. refused-heard (c .before .before .before .before .before .before .before .before .before .before .before .before .before .before .args .b) (c .before .before .before .before .before .before .before .before .before .before .before .before .before .before .args .out .now) 19 (lent (c .before .before .before .before .before .before .before .before .before .before .before .before .before .before .args .statistics .now) (c .before .before .before .before .before .before .before .before .before .before .before .before .before .before .args .last-shingled-input .now) (c .before .before .before .before .before .before .before .before .before .before .before .before .before .before .args .last-shingled-point .now) (c .before .before .before .before .before .before .before .before .before .before .before .before .before .before .args .previous-timestamps .now) (c .before .before .before .before .before .before .before .before .before .before .before .before .before .before .args .initial-values .now) (c .before .before .before .before .before .before .before .before .before .before .before .before .before .before .args .initial-timestamps .now)) y (c .before .before .ended7 .ensures) ∙ weights-by (c .before .before .before .before .before .before .before .before .before .before .before .before .before .before .args .b) (c .before .before .before .before .before .before .before .before .before .before .before .before .before .before .args .l) (lent (c .before .before .before .before .before .before .before .before .before .before .before .before .before .before .args .statistics .now) (c .before .before .before .before .before .before .before .before .before .before .before .before .before .before .args .last-shingled-input .now) (c .before .before .before .before .before .before .before .before .before .before .before .before .before .before .args .last-shingled-point .now) (c .before .before .before .before .before .before .before .before .before .before .before .before .before .before .args .previous-timestamps .now) (c .before .before .before .before .before .before .before .before .before .before .before .before .before .before .args .initial-values .now) (c .before .before .before .before .before .before .before .before .before .before .before .before .before .before .args .initial-timestamps .now)) y (c .before .before .before .before .before .before .before .before .before .before .before .before .before .before .args .out .now) (c .before .before .before .before .before .before .request .result) _ (c .before .before .before .before .before .before .request .ensures) (c .before .before .before .before .enum-told8 .given .1)
+returns-2 c =
+    let t = c .before .before .before .before in
+    let q = t .before .is-named in
+    let d = t .before .before in
+    let n = d .request in
+    let a = d .before .before .before .before .before .before .before .before .args in
+    let lists = lent (a .statistics .now) (a .last-shingled-input .now) (a .last-shingled-point .now) (a .previous-timestamps .now) (a .initial-values .now) (a .initial-timestamps .now) in
+    λ y. weights-other (a .b) (a .l) lists y (a .out .now) (n .result) (n .ensures) (q .result) (q .ensures) (t .if1 .left) (c .before .before .ended .ensures)
 
 pub read-second-spec : {M : Type 1} → statement M
 read-second-spec =
     tie.close
     (tie.spec
     request-requires
-    enum-told
+    is-named-requires
     read-weights-requires
-    enum-told-2
-    ended-requires
-    enum-told-3
-    ended-requires-2
-    enum-told-4
-    ended-requires-3
-    enum-told-5
-    ended-requires-4
-    enum-told-6
-    ended-requires-5
-    enum-told-7
-    ended-requires-6
-    enum-told-8
-    ended-requires-7
     same-length
     same-length-2
     same-length-3
     same-length-4
     same-length-5
     returns
+    ended-requires
     same-length-6
-    returns-2
-    same-length-7
-    returns-3
-    same-length-8
-    returns-4
-    same-length-9
-    returns-5
-    same-length-10
-    returns-6
-    same-length-11
-    returns-7
-    same-length-12
-    returns-8)
+    returns-2)
