@@ -6,7 +6,7 @@ use mathlib.Core.List.{List, [], _∷_, map}
 use mathlib.Core.Option.{Option, some}
 use lib.Ieee.{Float}
 use Rattle.trcf.specs.Calls.{Call, shingledPoint, postProcess, drain, transform, invertExtrapolation, scale, shift, status}
-use Rattle.trcf.specs.Preprocessor.{Answer, refused}
+use Rattle.trcf.specs.Preprocessor.{Answer, refused, learnedNothing}
 use Rattle.trcf.specs.View.{gettersOf}
 use Rattle.snapshot.specs.Save as save
 use Rattle.snapshot.specs.Restore as restore
@@ -30,6 +30,7 @@ use Rattle.access_restart.proofs.Composed.{shown-places, carried}
 
 module _ (table : List ℕ) (m : Held) (r : ℕ) where
   pub return-withheld : (c : Call) → allowed table (ask r c) ≡ false → roleReturn table m r c ≡ withheldReturn c
+  unfolding learnedNothing
   return-withheld (shingledPoint x t out) e = rw e
   return-withheld (postProcess q) e = rw e
   return-withheld drain e = rw e
