@@ -17,14 +17,15 @@ use Rattle.trcf.specs.View.{settingsFrom}
 use Rattle.trcf.specs.declared.head.PreprocessorBuilder.{PreprocessorBuilder}
 use Rattle.trcf.proofs.OutcomeLaws.{accepted-not}
 use Rattle.snapshot.proofs.Accepted.{rows-of}
-use Rattle.bench_core.specs.Line.{requestOf, keptOf, keptCount}
+use Rattle.bench_core.specs.declared.line.Name.the-variants.{Set, Weights}
+use Rattle.bench_core.specs.Line.{isNamed, requestOf, keptOf, keptCount}
 use Rattle.bench_core.specs.Bench.{builderFrom, codeCount, zeroCodes}
 use Rattle.bench_core.specs.declared.line.Line.{Line}
 use Rattle.settling.specs.Settling.{Signal, pairRow}
 use Rattle.settling.specs.Steps.{signalOf, optionOf}
 use Rattle.settling.proofs.StepLaws.{take-replicate}
 use Rattle.settling.proofs.Theorem.{pair-parts}
-use Rattle.settle_core.specs.Input.{Scanned, lineOf, isSetLine, isWeights, PairRead, faulty, pairTaken, settingsBy, pairBy, pairOf, Input, inputRefused, input, signalled, andThen, opens, thenPair, inputFrom, inputOf, signalRead as signalAt}
+use Rattle.settle_core.specs.Input.{Scanned, lineOf, PairRead, faulty, pairTaken, settingsBy, pairBy, pairOf, Input, inputRefused, input, signalled, andThen, opens, thenPair, inputFrom, inputOf, signalRead as signalAt}
 use Rattle.settle_core.specs.Steps.{pairSettings, pairIn, prefixed, inputIn}
 use Rattle.settle_core.specs.declared.pair.Pair as kept
 use Rattle.settle_core.specs.declared.pair.PairRead as read
@@ -86,20 +87,20 @@ module _ (t : List ℕ) where
   unfolding pairOf
   set-open e = sym (rw e)
 
-  pub set-other : lineOf t .ended ≡ true → isSetLine (requestOf (lineOf t .line)) ≡ false → faulty 19 ≡ pairOf t
+  pub set-other : lineOf t .ended ≡ true → isNamed (requestOf (lineOf t .line)) Set ≡ false → faulty 19 ≡ pairOf t
   unfolding pairOf
   set-other e f = sym (rw (e, f))
 
-  module _ (e : lineOf t .ended ≡ true) (f : isSetLine (requestOf (lineOf t .line)) ≡ true) where
+  module _ (e : lineOf t .ended ≡ true) (f : isNamed (requestOf (lineOf t .line)) Set ≡ true) where
     pub weights-open : lineOf (lineOf t .rest) .ended ≡ false → faulty 19 ≡ pairOf t
     unfolding pairOf
     weights-open g = sym (rw (e, f, g))
 
-    pub weights-other : lineOf (lineOf t .rest) .ended ≡ true → isWeights (requestOf (lineOf (lineOf t .rest) .line)) ≡ false → faulty 19 ≡ pairOf t
+    pub weights-other : lineOf (lineOf t .rest) .ended ≡ true → isNamed (requestOf (lineOf (lineOf t .rest) .line)) Weights ≡ false → faulty 19 ≡ pairOf t
     unfolding pairOf
     weights-other g h = sym (rw (e, f, g, h))
 
-    pub both-lines : lineOf (lineOf t .rest) .ended ≡ true → isWeights (requestOf (lineOf (lineOf t .rest) .line)) ≡ true
+    pub both-lines : lineOf (lineOf t .rest) .ended ≡ true → isNamed (requestOf (lineOf (lineOf t .rest) .line)) Weights ≡ true
         → pairBy (settingsBy (lineOf t .line) (lineOf (lineOf t .rest) .line)) (lineOf (lineOf t .rest) .rest) ≡ pairOf t
     unfolding pairOf
     both-lines g h = sym (rw (e, f, g, h))

@@ -16,11 +16,10 @@ use Rattle.snapshot.specs.Read.{asWhole}
 use Rattle.snapshot.specs.Scan.{numberOf}
 use Rattle.snapshot.specs.declared.field.Number.{Number}
 use Rattle.snapshot.specs.declared.field.Number.the-variants.{Is, No}
-use Rattle.bench_core.specs.Line.{blankLine, nameOf, cellOf, requestOf, keptOf}
+use Rattle.bench_core.specs.Line.{isNamed, blankLine, nameOf, cellOf, requestOf, keptOf}
 use Rattle.bench_core.specs.Bench.{cellLength, builderFrom, zeroCodes}
 use Rattle.bench_core.specs.declared.line.Line.{Line}
-use Rattle.bench_core.specs.declared.line.Name.{Name}
-use Rattle.bench_core.specs.declared.line.Name.the-variants.{Unread, Set, Weights, Point, Learn, Drain, Save, Other}
+use Rattle.bench_core.specs.declared.line.Name.the-variants.{Set, Weights}
 
 -- ---- a line, cell by cell, as the bench reads it
 
@@ -50,26 +49,6 @@ lineOf t = lineFrom (suc (length t)) blankLine t
 
 -- ---- a pair
 
-abbrev pub isSetLine : Name → Bool
-isSetLine Unread = false
-isSetLine Set = true
-isSetLine Weights = false
-isSetLine Point = false
-isSetLine Learn = false
-isSetLine Drain = false
-isSetLine Save = false
-isSetLine Other = false
-
-abbrev pub isWeights : Name → Bool
-isWeights Unread = false
-isWeights Set = false
-isWeights Weights = true
-isWeights Point = false
-isWeights Learn = false
-isWeights Drain = false
-isWeights Save = false
-isWeights Other = false
-
 -- the number that refuses it, or its settings and what follows it
 pub data PairRead : Type 0 where
   faulty : ℕ → PairRead
@@ -87,8 +66,8 @@ unfoldable pub pairOf : List ℕ → PairRead
 pairOf t =
     let a = lineOf t in
     let b = lineOf (a .rest) in
-    cond (a .ended && isSetLine (requestOf (a .line)))
-    (cond (b .ended && isWeights (requestOf (b .line))) (pairBy (settingsBy (a .line) (b .line)) (b .rest)) (faulty 19)) (faulty 19)
+    cond (a .ended && isNamed (requestOf (a .line)) Set)
+    (cond (b .ended && isNamed (requestOf (b .line)) Weights) (pairBy (settingsBy (a .line) (b .line)) (b .rest)) (faulty 19)) (faulty 19)
 
 -- ---- the signal
 
@@ -162,7 +141,7 @@ andThen s (input ss g) = input (s ∷ ss) g
 
 -- "where a pair may begin, a line whose first field is not `set` counts as the signal line"
 unfoldable pub opens : List ℕ → Bool
-opens t = isSetLine (nameOf (take (cellLength t) t))
+opens t = isNamed (nameOf (take (cellLength t) t)) Set
 
 -- "the first pair at fault decides"
 abbrev pub thenPair : PairRead → (List ℕ → Input) → Input

@@ -1,8 +1,8 @@
 // A `set` line and a `wgt` line: their form, rows 1 to 9, and d 1.
-use crate::scan::is_set;
-use crate::scan::is_weights;
 use crate::scan::line_at;
 use bench_core::line::Line as Cells;
+use bench_core::line::Name;
+use bench_core::line::is_named;
 use bench_core::line::request;
 use bench_core::step::builder_from;
 use bench_core::step::code_count;
@@ -94,7 +94,7 @@ pub(crate) fn pair_at(text: &[u8], at: usize) -> PairRead
     if !a.ended {
         return refused_by(19);
     }
-    if !is_set(request(set)) {
+    if !is_named(request(set), Name::Set) {
         return refused_by(19);
     }
     let b = line_at(text, a.next);
@@ -102,7 +102,7 @@ pub(crate) fn pair_at(text: &[u8], at: usize) -> PairRead
     if !b.ended {
         return refused_by(19);
     }
-    if !is_weights(request(weights)) {
+    if !is_named(request(weights), Name::Weights) {
         return refused_by(19);
     }
     settings_of(builder_from(set), weights, b.next)

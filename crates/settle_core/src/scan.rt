@@ -3,12 +3,13 @@ use bench_core::line::Line as Cells;
 use bench_core::line::Name;
 use bench_core::line::blank;
 use bench_core::line::cell;
+use bench_core::line::is_named;
 use bench_core::line::name_of;
 use bench_core::step::cell_end;
 ghost use mathlib.Core.Path.{_≡_};
 ghost use Prim.Native.Nat.{_≤_};
 ghost use lib.ListN.{length, drop};
-ghost use Rattle.settle_core.specs.Input.{lineOf, isSetLine, isWeights, opens};
+ghost use Rattle.settle_core.specs.Input.{lineOf, opens};
 ghost use Rattle.settle_core.specs.Steps.{scannedIn};
 
 // A line: whether an LF ends it, what was read of it, and where the next one begins.
@@ -52,41 +53,11 @@ pub(crate) fn line_at(text: &[u8], from: usize) -> Line
     }
 }
 
-pub(crate) fn is_set(name: Name) -> bool
-    ensures { λ r. ⌜ r ≡ isSetLine name ⌝ }
-{
-    match name {
-        Name::Set => true,
-        Name::Unread => false,
-        Name::Weights => false,
-        Name::Point => false,
-        Name::Learn => false,
-        Name::Drain => false,
-        Name::Save => false,
-        Name::Other => false,
-    }
-}
-
-pub(crate) fn is_weights(name: Name) -> bool
-    ensures { λ r. ⌜ r ≡ isWeights name ⌝ }
-{
-    match name {
-        Name::Weights => true,
-        Name::Unread => false,
-        Name::Set => false,
-        Name::Point => false,
-        Name::Learn => false,
-        Name::Drain => false,
-        Name::Save => false,
-        Name::Other => false,
-    }
-}
-
 // Whether the first field of the next line is `set`.
 pub(crate) fn opens_at(text: &[u8], at: usize) -> bool
     requires { ⌜ at ≤ length (now text) ⌝ }
     ensures { λ r. ⌜ r ≡ opens (drop at (now (text .entry))) ⌝ }
 {
     let n = cell_end(&text[at..]);
-    is_set(name_of(&text[at..at + n]))
+    is_named(name_of(&text[at..at + n]), Name::Set)
 }

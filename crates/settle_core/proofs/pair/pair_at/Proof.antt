@@ -6,10 +6,12 @@ use mathlib.Core.List.{List}
 use mathlib.Core.Bool.{true, false}
 use lib.ListN.{drop}
 use borrow.Author.Tests.{not-true, not-false}
-use Rattle.bench_core.specs.Line.{requestOf, keptOf}
+use Rattle.bench_core.specs.declared.line.Name.{Name}
+use Rattle.bench_core.specs.declared.line.Name.the-variants.{Set, Weights}
+use Rattle.bench_core.specs.Line.{isNamed, requestOf, keptOf}
 use Rattle.bench_core.specs.Bench.{builderFrom, zeroCodes}
 use Rattle.trcf.specs.View.{settingsFrom}
-use Rattle.settle_core.specs.Input.{Scanned, lineOf, isSetLine, isWeights, settingsBy, pairBy}
+use Rattle.settle_core.specs.Input.{Scanned, lineOf, settingsBy, pairBy}
 use Rattle.settle_core.specs.Steps.{scannedIn}
 use Rattle.settle_core.proofs.JudgeLaws.{refused-in, set-open, set-other, weights-open, weights-other, both-lines}
 use borrow.Author.Needs.{needs}
@@ -28,13 +30,14 @@ returns c =
     let t = a .text .now in
     let u : List ℕ = drop (a .at) t in
     let s = c .before .before .before .before .line-at in
-    (refused-in (c .refused-by .result) 19 (c .refused-by .ensures .0) (λ z. absurd (omega arith)) t ∙ set-open u (sym (ap (λ (x : Scanned). x .ended) (s .ensures .0)) ∙ not-true (s .result .ended) (c .before .if1 .taken)), omega (arith, c .refused-by .ensures .1))
+    let opened : lineOf u .ended ≡ false = sym (ap (λ (x : Scanned). x .ended) (s .ensures .0)) ∙ not-true (s .result .ended) (c .before .if1 .taken) in
+    (refused-in (c .refused-by .result) 19 (c .refused-by .ensures .0) (λ z. absurd (omega arith)) t ∙ set-open u opened, omega (arith, c .refused-by .ensures .1))
 
 request-requires : tie.Need-request-requires
 request-requires c κs = search needs
 
-is-set-requires : tie.Need-is-set-requires
-is-set-requires c κs = search needs
+is-named-requires : tie.Need-is-named-requires
+is-named-requires c κs = search needs
 
 refused-by-requires-2 : tie.Need-refused-by-requires-2
 refused-by-requires-2 c κs = search needs
@@ -46,7 +49,12 @@ returns-2 c =
     let t = a .text .now in
     let u : List ℕ = drop (a .at) t in
     let s = c .before .before .before .before .before .before .before .line-at in
-    (refused-in (c .refused-by2 .result) 19 (c .refused-by2 .ensures .0) (λ z. absurd (omega arith)) t ∙ set-other u (sym (ap (λ (x : Scanned). x .ended) (s .ensures .0)) ∙ not-false (s .result .ended) (c .before .before .before .before .if1 .left)) (sym (c .before .before .is-set .ensures ∙ ap isSetLine (c .before .before .before .request .ensures ∙ ap (λ (x : Scanned). requestOf (x .line)) (s .ensures .0))) ∙ not-true (c .before .before .is-set .result) (c .before .if2 .taken)), omega (arith, c .refused-by2 .ensures .1))
+    let ends : lineOf u .ended ≡ true = sym (ap (λ (x : Scanned). x .ended) (s .ensures .0)) ∙ not-false (s .result .ended) (c .before .before .before .before .if1 .left) in
+    let n = c .before .before .before .request in
+    let asks : n .result ≡ requestOf (lineOf u .line) = n .ensures ∙ ap (λ (x : Scanned). requestOf (x .line)) (s .ensures .0) in
+    let k = c .before .before .is-named in
+    let sets : isNamed (requestOf (lineOf u .line)) Set ≡ false = sym (k .ensures ∙ ap (λ (m : Name). isNamed m Set) asks) ∙ not-true (k .result) (c .before .if2 .taken) in
+    (refused-in (c .refused-by2 .result) 19 (c .refused-by2 .ensures .0) (λ z. absurd (omega arith)) t ∙ set-other u ends sets, omega (arith, c .refused-by2 .ensures .1))
 
 line-at-requires-2 : tie.Need-line-at-requires-2
 line-at-requires-2 c κs = c .before .before .before .before .before .before .line-at .ensures .1
@@ -63,13 +71,20 @@ returns-3 c =
     let s = c8 .before .before .before .line-at in
     let w = c .before .before .before .before .line-at2 in
     let w2 : scannedIn (w .result) t ≡ lineOf (lineOf u .rest) = w .ensures .0 ∙ ap (λ (x : Scanned). lineOf (x .rest)) (s .ensures .0) in
-    (refused-in (c .refused-by3 .result) 19 (c .refused-by3 .ensures .0) (λ z. absurd (omega arith)) t ∙ weights-open u (sym (ap (λ (x : Scanned). x .ended) (s .ensures .0)) ∙ not-false (s .result .ended) (c8 .if1 .left)) (sym (c .before .before .before .before .before .before .is-set .ensures ∙ ap isSetLine (c .before .before .before .before .before .before .before .request .ensures ∙ ap (λ (x : Scanned). requestOf (x .line)) (s .ensures .0))) ∙ not-false (c .before .before .before .before .before .before .is-set .result) (c .before .before .before .before .before .if2 .left)) (sym (ap (λ (x : Scanned). x .ended) w2) ∙ not-true (w .result .ended) (c .before .if3 .taken)), omega (arith, c .refused-by3 .ensures .1))
+    let ends : lineOf u .ended ≡ true = sym (ap (λ (x : Scanned). x .ended) (s .ensures .0)) ∙ not-false (s .result .ended) (c8 .if1 .left) in
+    let d = c .before .before .before .before .before in
+    let n = d .before .before .request in
+    let asks : n .result ≡ requestOf (lineOf u .line) = n .ensures ∙ ap (λ (x : Scanned). requestOf (x .line)) (s .ensures .0) in
+    let k = d .before .is-named in
+    let sets : isNamed (requestOf (lineOf u .line)) Set ≡ true = sym (k .ensures ∙ ap (λ (m : Name). isNamed m Set) asks) ∙ not-false (k .result) (d .if2 .left) in
+    let ends2 : lineOf (lineOf u .rest) .ended ≡ false = sym (ap (λ (x : Scanned). x .ended) w2) ∙ not-true (w .result .ended) (c .before .if3 .taken) in
+    (refused-in (c .refused-by3 .result) 19 (c .refused-by3 .ensures .0) (λ z. absurd (omega arith)) t ∙ weights-open u ends sets ends2, omega (arith, c .refused-by3 .ensures .1))
 
 request-requires-2 : tie.Need-request-requires-2
 request-requires-2 c κs = search needs
 
-is-weights-requires : tie.Need-is-weights-requires
-is-weights-requires c κs = search needs
+is-named-requires-2 : tie.Need-is-named-requires-2
+is-named-requires-2 c κs = search needs
 
 refused-by-requires-4 : tie.Need-refused-by-requires-4
 refused-by-requires-4 c κs = search needs
@@ -84,7 +99,18 @@ returns-4 c =
     let s = c8 .before .before .before .before .before .before .line-at in
     let w = c .before .before .before .before .before .before .before .line-at2 in
     let w2 : scannedIn (w .result) t ≡ lineOf (lineOf u .rest) = w .ensures .0 ∙ ap (λ (x : Scanned). lineOf (x .rest)) (s .ensures .0) in
-    (refused-in (c .refused-by4 .result) 19 (c .refused-by4 .ensures .0) (λ z. absurd (omega arith)) t ∙ weights-other u (sym (ap (λ (x : Scanned). x .ended) (s .ensures .0)) ∙ not-false (s .result .ended) (c8 .before .before .before .if1 .left)) (sym (c8 .before .is-set .ensures ∙ ap isSetLine (c8 .before .before .request .ensures ∙ ap (λ (x : Scanned). requestOf (x .line)) (s .ensures .0))) ∙ not-false (c8 .before .is-set .result) (c8 .if2 .left)) (sym (ap (λ (x : Scanned). x .ended) w2) ∙ not-false (w .result .ended) (c .before .before .before .before .if3 .left)) (sym (c .before .before .is-weights .ensures ∙ ap isWeights (c .before .before .before .request2 .ensures ∙ ap (λ (x : Scanned). requestOf (x .line)) w2)) ∙ not-true (c .before .before .is-weights .result) (c .before .if4 .taken)), omega (arith, c .refused-by4 .ensures .1))
+    let ends : lineOf u .ended ≡ true = sym (ap (λ (x : Scanned). x .ended) (s .ensures .0)) ∙ not-false (s .result .ended) (c8 .before .before .before .if1 .left) in
+    let n = c8 .before .before .request in
+    let asks : n .result ≡ requestOf (lineOf u .line) = n .ensures ∙ ap (λ (x : Scanned). requestOf (x .line)) (s .ensures .0) in
+    let k = c8 .before .is-named in
+    let sets : isNamed (requestOf (lineOf u .line)) Set ≡ true = sym (k .ensures ∙ ap (λ (m : Name). isNamed m Set) asks) ∙ not-false (k .result) (c8 .if2 .left) in
+    let ends2 : lineOf (lineOf u .rest) .ended ≡ true = sym (ap (λ (x : Scanned). x .ended) w2) ∙ not-false (w .result .ended) (c .before .before .before .before .if3 .left) in
+    let n2 = c .before .before .before .request2 in
+    let asks2 : n2 .result ≡ requestOf (lineOf (lineOf u .rest) .line) = n2 .ensures ∙ ap (λ (x : Scanned). requestOf (x .line)) w2 in
+    let k2 = c .before .before .is-named2 in
+    let weights : isNamed (requestOf (lineOf (lineOf u .rest) .line)) Weights ≡ false =
+    sym (k2 .ensures ∙ ap (λ (m : Name). isNamed m Weights) asks2) ∙ not-true (k2 .result) (c .before .if4 .taken) in
+    (refused-in (c .refused-by4 .result) 19 (c .refused-by4 .ensures .0) (λ z. absurd (omega arith)) t ∙ weights-other u ends sets ends2 weights, omega (arith, c .refused-by4 .ensures .1))
 
 builder-from-requires : tie.Need-builder-from-requires
 builder-from-requires c κs = search needs
@@ -101,11 +127,23 @@ returns-5 c =
     let u : List ℕ = drop (a .at) t in
     let s = c8 .before .before .before .before .before .before .before .line-at in
     let w = c8 .line-at2 in
-    let w2 : scannedIn (w .result) t ≡ lineOf (lineOf u .rest) = w .ensures .0 ∙ ap (λ (x : Scanned). lineOf (x .rest)) (s .ensures .0) in (
+    let w2 : scannedIn (w .result) t ≡ lineOf (lineOf u .rest) = w .ensures .0 ∙ ap (λ (x : Scanned). lineOf (x .rest)) (s .ensures .0) in
+    let ends : lineOf u .ended ≡ true = sym (ap (λ (x : Scanned). x .ended) (s .ensures .0)) ∙ not-false (s .result .ended) (c8 .before .before .before .before .if1 .left) in
+    let n = c8 .before .before .before .request in
+    let asks : n .result ≡ requestOf (lineOf u .line) = n .ensures ∙ ap (λ (x : Scanned). requestOf (x .line)) (s .ensures .0) in
+    let k = c8 .before .before .is-named in
+    let sets : isNamed (requestOf (lineOf u .line)) Set ≡ true = sym (k .ensures ∙ ap (λ (m : Name). isNamed m Set) asks) ∙ not-false (k .result) (c8 .before .if2 .left) in
+    let ends2 : lineOf (lineOf u .rest) .ended ≡ true = sym (ap (λ (x : Scanned). x .ended) w2) ∙ not-false (w .result .ended) (c .before .before .before .before .before .if3 .left) in
+    let n2 = c .before .before .before .before .request2 in
+    let asks2 : n2 .result ≡ requestOf (lineOf (lineOf u .rest) .line) = n2 .ensures ∙ ap (λ (x : Scanned). requestOf (x .line)) w2 in
+    let k2 = c .before .before .before .is-named2 in
+    let weights : isNamed (requestOf (lineOf (lineOf u .rest) .line)) Weights ≡ true =
+    sym (k2 .ensures ∙ ap (λ (m : Name). isNamed m Weights) asks2) ∙ not-false (k2 .result) (c .before .before .if4 .left) in
+    let b = c .before .builder-from in (
       c .settings-of .ensures .0 t
-          ∙ (λ j. pairBy (settingsFrom (c .before .builder-from .ensures j) (keptOf (w .result .line)) (zeroCodes (c .before .builder-from .ensures j))) (drop (w .result .next) t))
+          ∙ (λ j. pairBy (settingsFrom (b .ensures j) (keptOf (w .result .line)) (zeroCodes (b .ensures j))) (drop (w .result .next) t))
           ∙ (λ j. pairBy (settingsBy (s .ensures .0 j .line) (w2 j .line)) (w2 j .rest))
-          ∙ both-lines u (sym (ap (λ (x : Scanned). x .ended) (s .ensures .0)) ∙ not-false (s .result .ended) (c8 .before .before .before .before .if1 .left)) (sym (c8 .before .before .is-set .ensures ∙ ap isSetLine (c8 .before .before .before .request .ensures ∙ ap (λ (x : Scanned). requestOf (x .line)) (s .ensures .0))) ∙ not-false (c8 .before .before .is-set .result) (c8 .before .if2 .left)) (sym (ap (λ (x : Scanned). x .ended) w2) ∙ not-false (w .result .ended) (c .before .before .before .before .before .if3 .left)) (sym (c .before .before .before .is-weights .ensures ∙ ap isWeights (c .before .before .before .before .request2 .ensures ∙ ap (λ (x : Scanned). requestOf (x .line)) w2)) ∙ not-false (c .before .before .before .is-weights .result) (c .before .before .if4 .left)),
+          ∙ both-lines u ends sets ends2 weights,
       omega (arith, c .settings-of .ensures .1, w .ensures .1),
     )
 
@@ -117,14 +155,14 @@ pair-at-spec =
     refused-by-requires
     returns
     request-requires
-    is-set-requires
+    is-named-requires
     refused-by-requires-2
     returns-2
     line-at-requires-2
     refused-by-requires-3
     returns-3
     request-requires-2
-    is-weights-requires
+    is-named-requires-2
     refused-by-requires-4
     returns-4
     builder-from-requires

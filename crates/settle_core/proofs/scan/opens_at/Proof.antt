@@ -3,9 +3,11 @@ use mathlib.Core.Path.{_≡_, refl, sym, ap, _∙_}
 use native.Mathlib.Omega.{arith}
 use Prim.Native.Nat.{ℕ, _+_, _-_}
 use lib.ListN.{length, take, drop, length-drop}
-use Rattle.bench_core.specs.Line.{nameOf}
+use Rattle.bench_core.specs.declared.line.Name.{Name}
+use Rattle.bench_core.specs.declared.line.Name.the-variants.{Set}
+use Rattle.bench_core.specs.Line.{isNamed, nameOf}
 use Rattle.bench_core.specs.Bench.{cellLength}
-use Rattle.settle_core.specs.Input.{isSetLine, opens}
+use Rattle.settle_core.specs.Input.{opens}
 use Rattle.settle_core.proofs.ScanLaws.{rest-is}
 use borrow.Author.Needs.{needs}
 use Rattle.settle_core.proofs.scan.opens_at.Statement.{statement}
@@ -44,8 +46,8 @@ part-name-of-end c =
 name-of-requires : tie.Need-name-of-requires
 name-of-requires c κs = search needs
 
-is-set-requires : tie.Need-is-set-requires
-is-set-requires c κs = search needs
+is-named-requires : tie.Need-is-named-requires
+is-named-requires c κs = search needs
 
 returns : tie.Need-returns
 unfolding opens
@@ -54,7 +56,8 @@ returns c =
     let n = c .before .before .before .cell-end in
     let e : n .result ≡ cellLength (drop (a .at) (a .text .now)) = n .ensures .0 ∙ ap cellLength (rest-is (a .text .now) (a .at)) in
     let q : a .at + n .result - a .at ≡ cellLength (drop (a .at) (a .text .now)) = omega (arith, e) in
-    c .is-set .ensures ∙ ap isSetLine (c .before .name-of .ensures ∙ ap (λ (k : ℕ). nameOf (take k (drop (a .at) (a .text .now)))) q)
+    c .is-named .ensures
+    ∙ ap (λ (m : Name). isNamed m Set) (c .before .name-of .ensures ∙ ap (λ (k : ℕ). nameOf (take k (drop (a .at) (a .text .now)))) q)
 
 pub opens-at-spec : {M : Type 1} → statement M
 opens-at-spec =
@@ -69,5 +72,5 @@ opens-at-spec =
     part-name-of-start
     part-name-of-end
     name-of-requires
-    is-set-requires
+    is-named-requires
     returns)
