@@ -201,12 +201,16 @@ twelve (x₀ ∷ x₁ ∷ x₂ ∷ x₃ ∷ x₄ ∷ x₅ ∷ x₆ ∷ x₇ ∷ 
 
 pub numbers-stored : (w : List ℕ) (h : Preprocessor) {a b g i : ℕ} → 12 ≤ length w
     → a ≡ modeNumber (h .«forest_mode») → b ≡ methodNumber (h .transformer .«transform_method») → g ≡ toBits binary64 (h .transformer .«transform_decay») → i ≡ toBits binary32 (h .«weight_time»)
-    → set (set (set (set (set (set (set (set (set (set (set (set w 0 a) 1 b) 2 (h .transformer .«input_length»)) 3 (h .«shingle_size»)) 4 (h .«start_normalization»)) 5 (h .«stop_normalization»)) 6 g) 7 i) 8 (h .«values_seen»)) 9 (h .«internal_timestamp»)) 10 (h .transformer .count)) 11 (h .«initial_len»)
+    → set (set (set (set (set
+    (set (set (set (set (set (set (set w 0 a) 1 b) 2 (h .transformer .«input_length»)) 3 (h .«shingle_size»)) 4 (h .«start_normalization»)) 5 (h .«stop_normalization»)) 6 g) 7 i) 8
+    (h .«values_seen»)) 9 (h .«internal_timestamp»)) 10 (h .transformer .count)) 11 (h .«initial_len»)
     ≡ over w (headNumbers h)
 unfolding over headNumbers
 numbers-stored w h {a} {b} {g} {i} n p q r s =
-    twelve w a b (h .transformer .«input_length») (h .«shingle_size») (h .«start_normalization») (h .«stop_normalization») g i (h .«values_seen») (h .«internal_timestamp») (h .transformer .count) (h .«initial_len») n
-    ∙ (λ j. p j ∷ q j ∷ h .transformer .«input_length» ∷ h .«shingle_size» ∷ h .«start_normalization» ∷ h .«stop_normalization» ∷ r j ∷ s j ∷ h .«values_seen» ∷ h .«internal_timestamp» ∷ h .transformer .count ∷ h .«initial_len» ∷ drop 12 w)
+    twelve w a b (h .transformer .«input_length») (h .«shingle_size») (h .«start_normalization») (h .«stop_normalization») g i (h .«values_seen») (h .«internal_timestamp»)
+    (h .transformer .count) (h .«initial_len») n
+    ∙ (λ j. p j ∷ q j ∷ h .transformer .«input_length» ∷ h .«shingle_size» ∷ h .«start_normalization» ∷ h .«stop_normalization» ∷ r j ∷ s j ∷ h .«values_seen» ∷ h .«internal_timestamp» ∷
+    h .transformer .count ∷ h .«initial_len» ∷ drop 12 w)
 
 pub numbers-length : (w w' : List ℕ) (h : Preprocessor) → w' ≡ over w (headNumbers h) → 44 ≤ length w → length w' ≡ length w
 unfolding over headNumbers

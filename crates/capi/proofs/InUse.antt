@@ -65,7 +65,8 @@ module _ (table : List ℕ) (role : ℕ) (h : Preprocessor) (held : HeadFits h) 
       let w = wordsOf h ++ rest in
       let q = postProcess c in
       let o = learnAfter h l c in
-      sym (answered (granted table role (LEARN ∷ [])) w (learnTold w a (learnAfter (headOf w) l c)) (λ (r : ℕ). learnCalled r w l a (c .deviationsOut) (c .pastOut) (c .expectedOut)) 0 (opens (LEARN ∷ []) g) refl)
+      sym (answered (granted table role (LEARN ∷ [])) w (learnTold w a (learnAfter (headOf w) l c)) (λ (r : ℕ). learnCalled r w l a (c .deviationsOut) (c .pastOut) (c .expectedOut)) 0
+      (opens (LEARN ∷ []) g) refl)
       ∙ ap (λ (y : Preprocessor). learnTold w a (learnAfter y l c)) (head-back h held rest)
       ∙ ap (λ (u : List ℕ). learnCalled (o .row) u (o .lent) (anomalyTold a o) (o .deviationsOut) (o .pastOut) (o .expectedOut))
       (after h rest (change (view h l) q) (rowOf h l q))

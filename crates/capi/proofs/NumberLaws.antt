@@ -52,7 +52,8 @@ ten (x₀ ∷ x₁ ∷ x₂ ∷ x₃ ∷ x₄ ∷ x₅ ∷ x₆ ∷ x₇ ∷ [])
 ten (x₀ ∷ x₁ ∷ x₂ ∷ x₃ ∷ x₄ ∷ x₅ ∷ x₆ ∷ x₇ ∷ x₈ ∷ []) a b c d e f g h i j n = absurd (omega arith)
 
 pub numbers-stored : (w : List ℕ) (s : StatusAnswer) {c h i : ℕ} → 10 ≤ length w → c ≡ flag (s .ready) → h ≡ methodNumber (s .«transform_method») → i ≡ modeNumber (s .«forest_mode»)
-    → set (set (set (set (set (set (set (set (set (set w 0 (s .«values_seen»)) 1 (s .«internal_timestamp»)) 2 c) 3 (s .«input_dimensions»)) 4 (s .«shingle_size»)) 5 (s .dimensions)) 6 (s .«start_normalization»)) 7 h) 8 i) 9 (s .panel)
+    → set (set (set (set (set (set (set (set (set (set w 0 (s .«values_seen»)) 1 (s .«internal_timestamp»)) 2 c) 3 (s .«input_dimensions»)) 4 (s .«shingle_size»)) 5 (s .dimensions)) 6
+    (s .«start_normalization»)) 7 h) 8 i) 9 (s .panel)
     ≡ over w (numbersTold s)
 unfolding over
 numbers-stored w s {c} {h} {i} n p q r =

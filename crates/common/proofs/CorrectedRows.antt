@@ -132,7 +132,8 @@ pub by-sum : (s : Deviation) (wrong right : Float) {r : Bool} → r ≡ wholeWit
 unfolding correctionRows
 by-sum s wrong right e h = hit 26 (correctionRows s wrong right) 6 tt (turned e h)
 
-pub by-squares : (s : Deviation) (wrong right : Float) {r : Bool} → r ≡ wholeWithin (readingLimit * readingLimit * s .count) (s .«sum_squared») → not r ≡ true → 26 ≡ firstOf (correctionRows s wrong right)
+pub by-squares : (s : Deviation) (wrong right : Float) {r : Bool} → r ≡ wholeWithin (readingLimit * readingLimit * s .count) (s .«sum_squared») → not r ≡ true → 26 ≡ firstOf
+    (correctionRows s wrong right)
 unfolding correctionRows
 by-squares s wrong right e h = hit 26 (correctionRows s wrong right) 7 tt (turned e h)
 

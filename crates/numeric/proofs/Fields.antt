@@ -26,7 +26,8 @@ back x h = omega arith
 
 mid : (f : Format) (s : Bool) (x t : ℕ) → suc x < ones f → ofFields f s (suc x) t ≡ odd (prec f) s (hid f + t) x (low f)
 unfolding ofFields
-mid f s x t h = cond-no (eqb (suc x) (ones f)) (cond (eqb t 0) (inf s) nan) (odd (prec f) s (hid f + t) x (low f)) (not-T (eqb (suc x) (ones f)) (λ u. no (suc x) (ones f) h (eqb→eq (suc x) (ones f) u)))
+mid f s x t h = cond-no (eqb (suc x) (ones f)) (cond (eqb t 0) (inf s) nan) (odd (prec f) s (hid f + t) x (low f))
+    (not-T (eqb (suc x) (ones f)) (λ u. no (suc x) (ones f) h (eqb→eq (suc x) (ones f) u)))
 
 -- a normal value
 pub value-mid : (f : Format) (s : Bool) (x t : ℕ) → 0 < x → x < ones f → HasValue (ofFields f s x t) s ((t + hid f) * 2 ^ (x - 1)) (2 ^ low f)
@@ -85,7 +86,8 @@ module _ (s : Bool) (t : ℕ) (H : t < 2 ^ 52) where
     pub narrow-sub : x ≤ 896 → cond s (top binary32) 0 + closest (t + 2 ^ 52) (2 ^ (926 - x)) ≡ toBits binary32 (narrowed (ofFields binary64 s x t))
     narrow-sub h =
         sym (ap (toBits binary32) as-round
-        ∙ round-bits binary32 s ((t + 2 ^ 52) * 2 ^ (x - 1)) (2 ^ 1074) (t + 2 ^ 52) (926 - x) 0 (pow-pos 1074) (room (t + 2 ^ 52) (926 - x) sum-lt (omega arith)) (sym (three-powers (t + 2 ^ 52) 0 1074 (x - 1) 149 (926 - x) (omega arith))) (inl refl) (lit< tt)
+        ∙ round-bits binary32 s ((t + 2 ^ 52) * 2 ^ (x - 1)) (2 ^ 1074) (t + 2 ^ 52) (926 - x) 0 (pow-pos 1074) (room (t + 2 ^ 52) (926 - x) sum-lt (omega arith))
+        (sym (three-powers (t + 2 ^ 52) 0 1074 (x - 1) 149 (926 - x) (omega arith))) (inl refl) (lit< tt)
         ∙ plain (cond s (top binary32) 0) (hid binary32) (closest (t + 2 ^ 52) (2 ^ (926 - x))))
 
     pub narrow-zero : x ≤ 872 → cond s (top binary32) 0 + 0 ≡ toBits binary32 (narrowed (ofFields binary64 s x t))
@@ -95,12 +97,14 @@ module _ (s : Bool) (t : ℕ) (H : t < 2 ^ 52) where
     pub narrow-normal : 897 ≤ x → x ≤ 1150 → cond s (top binary32) 0 + ((x - 897) * 0x80_0000 + closest (t + 2 ^ 52) (2 ^ 29)) ≡ toBits binary32 (narrowed (ofFields binary64 s x t))
     narrow-normal h k =
         sym (ap (toBits binary32) as-round
-        ∙ round-bits binary32 s ((t + 2 ^ 52) * 2 ^ (x - 1)) (2 ^ 1074) (t + 2 ^ 52) 29 (x - 897) (pow-pos 1074) (room (t + 2 ^ 52) 29 sum-lt (lit≤ tt)) (sym (three-powers (t + 2 ^ 52) (x - 897) 1074 (x - 1) 149 29 (omega arith))) (inr (omega arith)) (omega arith))
+        ∙ round-bits binary32 s ((t + 2 ^ 52) * 2 ^ (x - 1)) (2 ^ 1074) (t + 2 ^ 52) 29 (x - 897) (pow-pos 1074) (room (t + 2 ^ 52) 29 sum-lt (lit≤ tt))
+        (sym (three-powers (t + 2 ^ 52) (x - 897) 1074 (x - 1) 149 29 (omega arith))) (inr (omega arith)) (omega arith))
 
     pub narrow-over : 1151 ≤ x → cond s (top binary32) 0 + 0x7f80_0000 ≡ toBits binary32 (narrowed (ofFields binary64 s x t))
     narrow-over h =
         sym (ap (toBits binary32) as-round
-        ∙ round-over binary32 s ((t + 2 ^ 52) * 2 ^ (x - 1)) (2 ^ 1074) (t + 2 ^ 52) 29 (x - 897) (pow-pos 1074) (room (t + 2 ^ 52) 29 sum-lt (lit≤ tt)) (sym (three-powers (t + 2 ^ 52) (x - 897) 1074 (x - 1) 149 29 (omega arith))) (omega arith) (omega arith))
+        ∙ round-over binary32 s ((t + 2 ^ 52) * 2 ^ (x - 1)) (2 ^ 1074) (t + 2 ^ 52) 29 (x - 897) (pow-pos 1074) (room (t + 2 ^ 52) 29 sum-lt (lit≤ tt))
+        (sym (three-powers (t + 2 ^ 52) (x - 897) 1074 (x - 1) 149 29 (omega arith))) (omega arith) (omega arith))
 
 -- the bits below the sign, from the exponent's new origin on
 pub narrow-size : (s : Bool) (y : ℕ) → 0x3810_0000_0000_0000 ≤ y → y < 0x47f0_0000_0000_0000

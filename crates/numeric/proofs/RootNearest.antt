@@ -184,10 +184,12 @@ module _ (m e : ℕ) (lo : 2 ^ 52 ≤ m) (hi : m < 2 ^ 53) (E : e < 2098) where
       let under : places * 2 ^ (e / 2 + 485) < 2 ^ (1074 + 1024) =
       lt-of-le-of-lt (le-trans (mul-le-mul-right (2 ^ (e / 2 + 485)) places-hi) (le-of-eq (sym (pow-add 2 53 (e / 2 + 485))))) (pow-lt {i = 53 + (e / 2 + 485)} {j = 2098} (omega arith)) in
       let v : HasValue (units binary64 false places (e / 2 + 485)) false (places * 2 ^ (e / 2 + 485)) (2 ^ 1074) = units-val binary64 false places (e / 2 + 485) under in
-      let is : round binary64 false h (2 ^ 1075) ≡ units binary64 false places (e / 2 + 485) = round-units binary64 false h (2 ^ 1075) h (e / 2 + 486) (e / 2 + 485) (pow-pos 1075) (i .1) scale (inr (i .0)) in
+      let is : round binary64 false h (2 ^ 1075) ≡ units binary64 false places (e / 2 + 485) = round-units binary64 false h (2 ^ 1075) h (e / 2 + 486) (e / 2 + 485) (pow-pos 1075) (i .1)
+      scale (inr (i .0)) in
       record {
         held = round-fits binary64 false h (2 ^ 1075);
-        value = subst (λ (r : Float). HasValue r false (places * (2 * unit e)) (2 ^ 1074)) (sym is) (subst (λ (x : ℕ). HasValue (units binary64 false places (e / 2 + 485)) false (places * x) (2 ^ 1074)) two v);
+        value = subst (λ (r : Float). HasValue r false (places * (2 * unit e)) (2 ^ 1074)) (sym is)
+            (subst (λ (x : ℕ). HasValue (units binary64 false places (e / 2 + 485)) false (places * x) (2 ^ 1074)) two v);
       }
 
   -- the same from the 53 digits of the radicand's own root

@@ -109,7 +109,8 @@ module _ (m e : ℕ) (lo : 2 ^ 52 ≤ m) (hi : m < 2 ^ 53) (E : e < 2098) where
       (ap (λ (x : ℕ). (e / 2 + 485) * 2 ^ 52 + x)
       (z ∙ sym (scaled (part m e) (unit e) unit-pos) ∙ ap (λ (x : ℕ). closest (halves x) (4 * (unit e))) (sym whole) ∙ ap (λ (x : ℕ). closest h x) (sym four-units))
       ∙ sym (zero-add ((e / 2 + 485) * 2 ^ 52 + closest h (2 ^ (e / 2 + 486))))
-      ∙ sym (round-bits binary64 false h (2 ^ 1075) h (e / 2 + 486) (e / 2 + 485) (pow-pos 1075) (halves-in .1) (two-powers h 1074 (e / 2 + 486) (e / 2 + 485) 1075 (omega arith)) (inr (halves-in .0)) (omega arith)))
+      ∙ sym (round-bits binary64 false h (2 ^ 1075) h (e / 2 + 486) (e / 2 + 485) (pow-pos 1075) (halves-in .1) (two-powers h 1074 (e / 2 + 486) (e / 2 + 485) 1075 (omega arith))
+      (inr (halves-in .0)) (omega arith)))
 
   -- ---- the radicand for the digits
   root-size : size (isqrt (m * 2 ^ (e + 1022))) ≡ suc (53 + (e / 2 + 484))
@@ -162,7 +163,8 @@ same-value (fin t m e) s a c b d C w v = (v .0, same-size m e a c b d C (v .1) w
 
 of-scaled : (x : Float) (m e : ℕ) → IsScaled x m e → (rootOf x ≡ rooted (m * 2 ^ (e + 1022))) × (digitsOf x ≡ digitsTried (radicand (m * 2 ^ (e + 1022))))
 of-scaled x m e s =
-    rootOf-value x (m * 2 ^ e) (2 ^ 1126) (m * 2 ^ (e + 1022)) (mul-pos (lt-of-lt-of-le (pow-pos 52) (s .low)) (pow-pos e)) (pow-pos 1126) (s .value) (two-powers m e 2148 (e + 1022) 1126 (omega arith))
+    rootOf-value x (m * 2 ^ e) (2 ^ 1126) (m * 2 ^ (e + 1022)) (mul-pos (lt-of-lt-of-le (pow-pos 52) (s .low)) (pow-pos e)) (pow-pos 1126) (s .value)
+    (two-powers m e 2148 (e + 1022) 1126 (omega arith))
 
 pub rootOf-scaled : (x : Float) (m e : ℕ) → IsScaled x m e → rootOf x ≡ rooted (m * 2 ^ (e + 1022))
 rootOf-scaled x m e s = of-scaled x m e s .0
@@ -234,7 +236,8 @@ module _ (x : Float) (F : T (fits binary64 x)) (P : T (positive x)) where
       let f = toBits binary64 x / 2 ^ 52 in
       let t = toBits binary64 x % 2 ^ 52 in
       let h = field-lt in
-      let v : HasValue x false ((t + 2 ^ 52) * 2 ^ (f - 1)) (2 ^ 1074) = subst (λ (y : Float). HasValue y false ((t + 2 ^ 52) * 2 ^ (f - 1)) (2 ^ 1074)) fields-of (value-mid binary64 false f t (omega arith) h) in
+      let v : HasValue x false ((t + 2 ^ 52) * 2 ^ (f - 1)) (2 ^ 1074) = subst (λ (y : Float). HasValue y false ((t + 2 ^ 52) * 2 ^ (f - 1)) (2 ^ 1074)) fields-of
+      (value-mid binary64 false f t (omega arith) h) in
       record {
         low = omega arith;
         high = omega arith;

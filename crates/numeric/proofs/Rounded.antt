@@ -116,7 +116,8 @@ on-grid f t v c k i (inr g) =
     let j = h .k in
     let e : c ≡ M * 2 ^ j = same-units v t (h .s) c (M * 2 ^ j) (2 ^ low f) (i .value) (h .value) in
     let l : 2 ^ (prec f - 1 + k) < 2 ^ (prec f + j) =
-    lt-of-le-of-lt (le-of-eq (pow-add 2 (prec f - 1) k)) (lt-of-le-of-lt g (lt-of-le-of-lt (le-of-eq e) (lt-of-lt-of-le (mul-lt-mul-of-pos-right (h .small) (pow-pos j)) (le-of-eq (sym (pow-add 2 (prec f) j)))))) in
+    lt-of-le-of-lt (le-of-eq (pow-add 2 (prec f - 1) k)) (lt-of-le-of-lt g
+    (lt-of-le-of-lt (le-of-eq e) (lt-of-lt-of-le (mul-lt-mul-of-pos-right (h .small) (pow-pos j)) (le-of-eq (sym (pow-add 2 (prec f) j)))))) in
     let k-le : k ≤ j = next (prec f) k j (two f) (pow-lt-back (prec f - 1 + k) (prec f + j) l) in
     (M * 2 ^ (j - k), e ∙ ap (λ (x : ℕ). M * 2 ^ x) (sym (back j k k-le)) ∙ ap (λ (x : ℕ). M * x) (pow-add 2 (j - k) k) ∙ sym (mul-assoc M (2 ^ (j - k)) (2 ^ k)))
 
@@ -193,7 +194,8 @@ module _ (f : Format) (s : Bool) (n den k : ℕ) (D : 0 < den) (lead : (k ≡ 0)
       q : ℕ
       q = closest n (den * 2 ^ k)
 
-      go : Dec (d ≡ q) → (distance true n (q * (den * 2 ^ k)) ≤ distance true n (d * (den * 2 ^ k))) × (distance true n (q * (den * 2 ^ k)) ≡ distance true n (d * (den * 2 ^ k)) → (d * 2 ^ k ≡ q * 2 ^ k) ⊎ (q % 2 ≡ 0))
+      go : Dec (d ≡ q) → (distance true n (q * (den * 2 ^ k)) ≤ distance true n (d * (den * 2 ^ k))) ×
+          (distance true n (q * (den * 2 ^ k)) ≡ distance true n (d * (den * 2 ^ k)) → (d * 2 ^ k ≡ q * 2 ^ k) ⊎ (q % 2 ≡ 0))
       go (yes e) = (not-nearer n (den * 2 ^ k) q d is-half, λ x. inl (ap (λ (x : ℕ). x * 2 ^ k) e))
       go (no ne) = let o = others n (den * 2 ^ k) q d is-half ne in (o .0, λ e. inr (o .1 e))
 
@@ -243,7 +245,8 @@ module _ (f : Format) (s : Bool) (n den k : ℕ) (D : 0 < den) (lead : (k ≡ 0)
       near-by true c x = x
       near-by false c x = let z = at-zero .0 in let w = zero-mul den in omega arith
 
-      even-by : (b : Bool) (c : ℕ) → (distance true n (q * 2 ^ k * den) ≡ distance true n (c * den) → (c ≡ q * 2 ^ k) ⊎ (q % 2 ≡ 0)) → distance true n (q * 2 ^ k * den) ≡ distance b n (c * den) → (c ≡ q * 2 ^ k) ⊎ (q % 2 ≡ 0)
+      even-by : (b : Bool) (c : ℕ) → (distance true n (q * 2 ^ k * den) ≡ distance true n (c * den) → (c ≡ q * 2 ^ k) ⊎ (q % 2 ≡ 0)) → distance true n (q * 2 ^ k * den) ≡ distance b n
+          (c * den) → (c ≡ q * 2 ^ k) ⊎ (q % 2 ≡ 0)
       even-by true c x e = x e
       even-by false c x e = x (none c z)
         where
@@ -306,7 +309,8 @@ module _ (f : Format) (s : Bool) (n den k : ℕ) (D : 0 < den) (lead : (k ≡ 0)
         where
           K-le : top-k f ≤ k
           K-le =
-              let a : 2 ^ (prec f + top-k f) ≤ 2 ^ (prec f + k) = le-trans (le-of-eq (pow-add 2 (prec f) (top-k f))) (le-trans g (le-trans (mul-le-mul-right (2 ^ k) q-hi) (le-of-eq (sym (pow-add 2 (prec f) k))))) in
+              let a : 2 ^ (prec f + top-k f) ≤ 2 ^ (prec f + k) = le-trans (le-of-eq (pow-add 2 (prec f) (top-k f)))
+              (le-trans g (le-trans (mul-le-mul-right (2 ^ k) q-hi) (le-of-eq (sym (pow-add 2 (prec f) k))))) in
               lt-suc (prec f) (top-k f) k (lt-of-not-le (λ (h : suc (prec f + k) ≤ prec f + top-k f). not-le-of-lt (pow-lt h) a))
             where
               lt-suc : (p a b : ℕ) → p + a < suc (p + b) → a ≤ b
@@ -342,8 +346,10 @@ module _ (f : Format) (s : Bool) (n den k : ℕ) (D : 0 < den) (lead : (k ≡ 0)
           K-le : top-k f ≤ k
           K-le =
               let a : hid f * 2 ^ top-k f * den < 2 ^ prec f * 2 ^ k * den =
-              lt-of-le-of-lt (le-of-eq (mul-assoc (hid f) (2 ^ top-k f) den ∙ ap (λ (x : ℕ). hid f * x) (mul-comm (2 ^ top-k f) den))) (lt-of-le-of-lt lo (lt-of-lt-of-le small (le-of-eq (sym (shape (2 ^ prec f)))))) in
-              let b : 2 ^ (prec f - 1 + top-k f) < 2 ^ (prec f + k) = lt-of-le-of-lt (le-of-eq (pow-add 2 (prec f - 1) (top-k f))) (lt-of-lt-of-le (lt-of-mul-lt-mul-right den a) (le-of-eq (sym (pow-add 2 (prec f) k)))) in
+              lt-of-le-of-lt (le-of-eq (mul-assoc (hid f) (2 ^ top-k f) den ∙ ap (λ (x : ℕ). hid f * x) (mul-comm (2 ^ top-k f) den)))
+              (lt-of-le-of-lt lo (lt-of-lt-of-le small (le-of-eq (sym (shape (2 ^ prec f)))))) in
+              let b : 2 ^ (prec f - 1 + top-k f) < 2 ^ (prec f + k) = lt-of-le-of-lt (le-of-eq (pow-add 2 (prec f - 1) (top-k f)))
+              (lt-of-lt-of-le (lt-of-mul-lt-mul-right den a) (le-of-eq (sym (pow-add 2 (prec f) k)))) in
               next (prec f) (top-k f) k (two f) (pow-lt-back (prec f - 1 + top-k f) (prec f + k) b)
 
           -- q below 2 ^ prec would be a tie, at an odd number
@@ -417,7 +423,8 @@ module _ (f : Format) (s : Bool) (num den : ℕ) (D : 0 < den) where
       let e = round-is f s num den in
       record {
         over = λ h. e ∙ infinite f s n den k D round-lead round-small h;
-        under = λ h. subst (λ (r : Float). IsNearest f s n den r) (sym e) (value-of f s n den k D round-lead round-small (finite f s n den k D round-lead round-small h) (subst (λ (r : Float). T (fits f r)) e (round-fits f s num den)));
+        under = λ h. subst (λ (r : Float). IsNearest f s n den r) (sym e)
+            (value-of f s n den k D round-lead round-small (finite f s n den k D round-lead round-small h) (subst (λ (r : Float). T (fits f r)) e (round-fits f s num den)));
       }
 
 -- ---- the statements

@@ -24,7 +24,8 @@ square-suc q = let e : suc q * suc q ≡ q * q + q + suc q = suc-mul q (suc q) �
 
 pub square-sum : (a b : ℕ) → (a + b) * (a + b) ≡ a * a + 2 * (a * b) + b * b
 square-sum a b =
-    let e : (a + b) * (a + b) ≡ a * a + a * b + (a * b + b * b) = add-mul a b (a + b) ∙ ap (λ (x : ℕ). x + b * (a + b)) (mul-add a a b) ∙ ap (λ (x : ℕ). a * a + a * b + x) (mul-add b a b ∙ ap (λ (x : ℕ). x + b * b) (mul-comm b a)) in
+    let e : (a + b) * (a + b) ≡ a * a + a * b + (a * b + b * b) = add-mul a b (a + b) ∙ ap (λ (x : ℕ). x + b * (a + b)) (mul-add a a b) ∙ ap (λ (x : ℕ). a * a + a * b + x)
+    (mul-add b a b ∙ ap (λ (x : ℕ). x + b * b) (mul-comm b a)) in
     omega arith
 
 -- a number moved by one, and what its square leaves

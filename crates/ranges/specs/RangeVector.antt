@@ -77,8 +77,11 @@ cascadeTo f base (suc n) v =
     let w = cascadeTo f base n v in
     putAt w n (shifted f (rangeAt w n) (getD (base ++ w .values) n nan))
 
+abbrev pub unequalAt : ℕ → ℕ → ℕ → Bool
+unequalAt v u l = not (eqb v u && eqb v l)
+
 unfoldable pub unequal : Ranges → Bool
-unequal v = not (eqb (length (v .values)) (length (v .upper)) && eqb (length (v .values)) (length (v .lower)))
+unequal v = unequalAt (length (v .values)) (length (v .upper)) (length (v .lower))
 
 -- row 16: "unequal lengths; empty base; where blocks are cascaded, none or a broken one"
 unfoldable pub unblocked : ℕ → ℕ → Bool
@@ -92,8 +95,11 @@ rangeCascadedAdd f base v =
 -- ---- making one, in lent lists
 
 -- row 20: "lent output shorter than the answer to be written"
+abbrev pub shorterAt : ℕ → ℕ → ℕ → ℕ → Bool
+shorterAt v u l n = ltb v n || (ltb u n || ltb l n)
+
 unfoldable pub shorter : Ranges → ℕ → Bool
-shorter v n = ltb (length (v .values)) n || (ltb (length (v .upper)) n || ltb (length (v .lower)) n)
+shorter v n = shorterAt (length (v .values)) (length (v .upper)) (length (v .lower)) n
 
 abbrev pub overAll : Ranges → Ranges → Ranges
 overAll old new = ranges (over (old .values) (new .values)) (over (old .upper) (new .upper)) (over (old .lower) (new .lower))

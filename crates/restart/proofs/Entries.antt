@@ -121,10 +121,12 @@ module _ (s : Settings) (k>0 : 0 < s .k) (es : List Entry) where
     count = fed-length (ltb (seenOf es) (s .stop)) (fedOf s es) (fedAfter (newestReading s es) r) j;
     statistics = fed-stats s (ltb (seenOf es) (s .stop)) (fedOf s es) (fedAfter (newestReading s es) r) j;
     lastShingledInput = (sym (lastN-shift (s .d * s .k) Z x (simp (length-append, length-replicate) (omega arith)) (omega (arith, le-mul-of-pos-right (s .d) k>0)))
-        ∙ ap (lastN (s .d * s .k)) (append-assoc (replicate (s .d * s .k) zero32) (values (shingled es)) x ∙ ap (λ (l : List Float). replicate (s .d * s .k) zero32 ++ l) (sym (values-snoc (shingled es) r) ∙ ap values g))) j;
+        ∙ ap (lastN (s .d * s .k)) (append-assoc (replicate (s .d * s .k) zero32) (values (shingled es)) x ∙ ap (λ (l : List Float). replicate (s .d * s .k) zero32 ++ l)
+        (sym (values-snoc (shingled es) r) ∙ ap values g))) j;
     lastShingledPoint = y;
     previousTimestamps = (sym (lastN-shift (s .k) T (t ∷ []) (simp (length-append, length-replicate) (omega arith)) k>0)
-        ∙ ap (lastN (s .k)) (append-assoc (replicate (s .k) 0) (timestamps (shingled es)) (t ∷ []) ∙ ap (λ (l : List ℕ). replicate (s .k) 0 ++ l) (sym (timestamps-append (shingled es) (r ∷ [])) ∙ ap timestamps g))) j;
+        ∙ ap (lastN (s .k)) (append-assoc (replicate (s .k) 0) (timestamps (shingled es)) (t ∷ []) ∙ ap (λ (l : List ℕ). replicate (s .k) 0 ++ l)
+        (sym (timestamps-append (shingled es) (r ∷ [])) ∙ ap timestamps g))) j;
     initialValues = values (bufferOf es);
     initialTimestamps = timestamps (bufferOf es);
   }

@@ -247,7 +247,8 @@ held-demand-3 s ok before after mb ma first second r₁ r₂ out last long =
       builds = ap (λ (y : Outcome). y .row) (built-as s ok first r₁);
       saves = ap (λ (y : save.SaveOutcome). y .row) (v ∙ o);
       text = t ∙ x;
-      restores = ap (λ (y : restore.RestoreOutcome). y .row) (restored-as (textIn M out) (s .codes) second w f (subst (TextOf w) (sym t) (put-away w)) (ap (λ (y : Settings). y .codes) e) (subst (λ (y : Settings). lentShort y second ≡ false) (sym e) r₂));
+      restores = ap (λ (y : restore.RestoreOutcome). y .row) (restored-as (textIn M out) (s .codes) second w f (subst (TextOf w) (sym t) (put-away w)) (ap (λ (y : Settings). y .codes) e)
+          (subst (λ (y : Settings). lentShort y second ≡ false) (sym e) r₂));
       sameAnswers = q .says ∙ sym (p .says);
       ruledAnswers = q .says ∙ restart s ok before after mb .every w (restorable s ok before mb) .ruledAnswers;
       sameText = saved-by s ok (heldRun N after) (run w after) (q .holds) g d last

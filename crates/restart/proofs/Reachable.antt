@@ -241,7 +241,8 @@ module _ (s : Settings) (k>0 : 0 < s .k) (es : List Entry) (v : Inv s es) (g : G
         countSmall = g .countSmall;
       }
 
-  goodL : (l : Learn) (y : List Float) → Fits binary32 y → Machine (postProcess l) → Passed s (historyFacts s es) l → waiting s (seenOf es) ≡ false → l .rcfPoint ≡ some y → Good s (learnedEntry (l .input) (l .timestamp) y ∷ es)
+  goodL : (l : Learn) (y : List Float) → Fits binary32 y → Machine (postProcess l) → Passed s (historyFacts s es) l → waiting s (seenOf es) ≡ false → l .rcfPoint ≡ some y → Good s
+      (learnedEntry (l .input) (l .timestamp) y ∷ es)
   unfolding bufferOf seenOf internalOf countOf historyFacts
   goodL l y fy m a w e =
       let p : (length y ≡ dimension s) × (seenOf es < seenLimit) × (internalOf es < seenLimit) × (ltb (seenOf es) (s .stop) ≡ true → countOf s es < countLimit) = a .ifLearnt w y e in
@@ -299,7 +300,8 @@ module _ (s : Settings) (k>0 : 0 < s .k) (es : List Entry) (v : Inv s es) (g : G
   unfolding historyRefusal rows table
   drain-at h = drained-at (complete s es) refl (clear (table s (historyFacts s es) drain) refl h .1 .0)
 
-  learn-at : (l : Learn) → Machine (postProcess l) → Passed s (historyFacts s es) l → (b : Bool) → waiting s (seenOf es) ≡ b → (y : Option (List Float)) → l .rcfPoint ≡ y → Good s (adds s es (postProcess l))
+  learn-at : (l : Learn) → Machine (postProcess l) → Passed s (historyFacts s es) l → (b : Bool) → waiting s (seenOf es) ≡ b → (y : Option (List Float)) → l .rcfPoint ≡ y → Good s
+      (adds s es (postProcess l))
   unfolding adds
   learn-at l m a true w y e = rw w (goodW l m a w)
   learn-at l m a false w none e = rw (w, e) g
@@ -331,7 +333,8 @@ module _ (s : Settings) (ok : Valid s) (es : List Entry) (v : Inv s es) (g : Goo
       q : Unmixed s es
       q = unmixed s es o
 
-      go : (b : Bool) → normalizes (s .method) ≡ b → (timestamps (bufferOf es) ≡ []) ⊎ ((normalizes (s .method) ≡ true) × (length (timestamps (bufferOf es)) ≡ s .start) × (seenOf es ≡ s .start → internalOf es ≡ 0))
+      go : (b : Bool) → normalizes (s .method) ≡ b → (timestamps (bufferOf es) ≡ []) ⊎
+          ((normalizes (s .method) ≡ true) × (length (timestamps (bufferOf es)) ≡ s .start) × (seenOf es ≡ s .start → internalOf es ≡ 0))
       go false e = inl (rw (q .noF, nil (initials es) (z e)))
       go true e =
           let h : ltb (length (initials es) + length (learns es)) (s .start) ≡ false = rw e at w in

@@ -116,7 +116,8 @@ module _ (s : Settings) (es : List Entry) where
   more : (x : List Float) (t : ℕ) (y : List Float) → 0 < length (learns (learnedEntry x t y ∷ es))
   more x t y = simp length-append (omega arith)
 
-  pastL : (b : Bool) → normalizes (s .method) ≡ b → waiting s (seenOf es) ≡ false → onlyInitials es ≡ true → length (initials es) ≤ s .start → (normalizes (s .method) ≡ false → length (initials es) ≡ 0)
+  pastL : (b : Bool) → normalizes (s .method) ≡ b → waiting s (seenOf es) ≡ false → onlyInitials es ≡ true → length (initials es) ≤ s .start →
+      (normalizes (s .method) ≡ false → length (initials es) ≡ 0)
       → (x : List Float) (t : ℕ) (y : List Float) → Phase s (learnedEntry x t y ∷ es)
   unfolding waiting seenOf
   pastL false e h o u z x t y = plainly (unmixed s es o .noF) e (z e) (more x t y)

@@ -317,7 +317,19 @@ held-first = held-demand-3 strands strands-valid [] stranding tt stranding-machi
 -- ---- two W's and F by a point, d 2, TIME_AUGMENTED; restarts before the first call, twice in the middle and after the last
 
 abbrev drains : Settings
-drains = record { mode = «TIME_AUGMENTED»; method = «NORMALIZE_DIFFERENCE»; d = 2; k = 1; start = 2; stop = 3; decay = ofBits binary64 0; weightTime = two; weights = one ∷ single 0xbf00_0000 ∷ []; codes = 12 ∷ 65535 ∷ [] }
+drains = record {
+  mode = «TIME_AUGMENTED»;
+  method = «NORMALIZE_DIFFERENCE»;
+  d = 2;
+  k = 1;
+  start = 2;
+  stop = 3;
+  decay = ofBits binary64 0;
+  weightTime = two;
+  weights = one ∷ single
+      0xbf00_0000 ∷ [];
+  codes = 12 ∷ 65535 ∷ [];
+}
 
 drains-valid : Valid drains
 unfolding computing

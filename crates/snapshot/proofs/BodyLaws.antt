@@ -249,7 +249,13 @@ module _ (h : Preprocessor) (l : Lent) (w : ℕ) (f : HeadFew h) (e : w ≡ cond
       ≡ lentShort (settingsOf h) l
   unfolding lentShort
   short-is =
-      rw (le-ltb 16 (h .transformer .«input_length») (f .d-few), le-ltb 64 (h .«shingle_size») (f .k-few), lt-leb 2000 (initialRoom (settingsOf h)) (few-le (initialRoom (settingsOf h)) (room-start (settingsOf h))), dimension-is (settingsOf h) w e)
+      rw (
+        le-ltb 16 (h .transformer .«input_length») (f .d-few),
+        le-ltb 64 (h .«shingle_size») (f .k-few),
+        lt-leb 2000 (initialRoom (settingsOf h))
+            (few-le (initialRoom (settingsOf h)) (room-start (settingsOf h))),
+        dimension-is (settingsOf h) w e,
+      )
     where
       few-le : (n : ℕ) → n ≤ h .«start_normalization» → n < 2000
       few-le n k = omega (arith, k, f .start-few)

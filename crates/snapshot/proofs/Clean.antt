@@ -27,8 +27,13 @@ body-clean : (w : State) → All CleanLine (bodyLines w)
 unfolding bodyLines singles cntLine timLine
 body-clean w = (
   (omega arith, (whole-clean _, (whole-clean _, (whole-clean _, tt)))),
-  all-append _ (devLines (w .statistics)) _ (devs-clean (w .statistics))
-      ((omega arith, floats-clean binary32 (w .lastShingledInput)), ((omega arith, floats-clean binary32 (w .lastShingledPoint)), ((omega arith, wholes-clean (w .previousTimestamps)), bufs-clean (w .settings .d) (w .initialValues) (w .initialTimestamps)))),
+  all-append _ (devLines (w .statistics)) _ (devs-clean (w .statistics)) (
+    (omega arith, floats-clean binary32 (w .lastShingledInput)),
+    (
+      (omega arith, floats-clean binary32 (w .lastShingledPoint)),
+      ((omega arith, wholes-clean (w .previousTimestamps)), bufs-clean (w .settings .d) (w .initialValues) (w .initialTimestamps)),
+    ),
+  ),
 )
 
 set-clean : (s : Settings) → CleanLine (setLine s)

@@ -194,7 +194,8 @@ bytes-inj [] (m ∷ ms) c d e = absurd (ended (m .name) (m .fields) (bytesOf ms)
 bytes-inj (l ∷ ls) [] c d e = absurd (ended (l .name) (l .fields) (bytesOf ls) (sym e))
 bytes-inj (l ∷ ls) (m ∷ ms) c d e =
     let s : (l .name ≡ m .name) × (tabbedFields (l .fields) ++ bytesOf ls ≡ tabbedFields (m .fields) ++ bytesOf ms) =
-    field-split (l .name) (m .name) (tabbedFields (l .fields) ++ bytesOf ls) (tabbedFields (m .fields) ++ bytesOf ms) (c .0 .0) (d .0 .0) (tail-stops (l .fields) (bytesOf ls)) (tail-stops (m .fields) (bytesOf ms))
+    field-split (l .name) (m .name) (tabbedFields (l .fields) ++ bytesOf ls) (tabbedFields (m .fields) ++ bytesOf ms) (c .0 .0) (d .0 .0) (tail-stops (l .fields) (bytesOf ls))
+    (tail-stops (m .fields) (bytesOf ms))
     (sym (append-assoc (l .name) (tabbedFields (l .fields)) (bytesOf ls)) ∙ e ∙ append-assoc (m .name) (tabbedFields (m .fields)) (bytesOf ms)) in
     let i : (l .fields ≡ m .fields) × (bytesOf ls ≡ bytesOf ms) = tail-inj (l .fields) (m .fields) (bytesOf ls) (bytesOf ms) (c .0 .1) (d .0 .1) (s .1) in
     λ t. record { name = s .0 t; fields = i .0 t } ∷ bytes-inj ls ms (c .1) (d .1) (i .1) t

@@ -86,7 +86,8 @@ tim-reads s c = record {
       let h = line-is asWhole whole (λ n. n ≤ wholeMax) whole-codec 116 105 109 (s .k) l r (k .0) in (
         h .0,
         tim-writes s c (r .0) (h .1) (h .2) (climbs-of 0 (r .0) (and-left _ _ (k .1)))
-            (λ z. zeros-of (r .0) (if-of (eqb (c .internalTimestamp) 0) (zeros (r .0)) (and-right (climbs 0 (r .0)) _ (k .1)) (eq-eqb (c .internalTimestamp) 0 z)) ∙ ap (λ (n : ℕ). replicate n 0) (h .1)),
+            (λ z. zeros-of (r .0) (if-of (eqb (c .internalTimestamp) 0) (zeros (r .0)) (and-right (climbs 0 (r .0)) _ (k .1)) (eq-eqb (c .internalTimestamp) 0 z)) ∙ ap
+            (λ (n : ℕ). replicate n 0) (h .1)),
       );
   back = λ ts z h.
       let m : length ts ≡ s .k = eqb-true _ _ (h .0) in
@@ -256,7 +257,8 @@ module _ (d p : ℕ) where
           go (some w) u k =
               let h = fields-are (asFloat binary32) (float binary32) single (float-codec binary32) d (t .1) v q in
               let m : l ≡ bytesOfLine (bufLine (t .0) (v .0)) ++ w =
-              n ∙ ap (λ (x : List ℕ). 98 ∷ 117 ∷ 102 ∷ x) (g .0 ∙ ap (λ (x : List ℕ). 9 ∷ (whole (t .0) ++ x)) (h .0 ∙ ap (λ (x : List ℕ). tabbed (map (float binary32) (v .0)) ++ x) (byte-is 10 (v .1) w u)))
+              n ∙ ap (λ (x : List ℕ). 98 ∷ 117 ∷ 102 ∷ x) (g .0 ∙ ap (λ (x : List ℕ). 9 ∷ (whole (t .0) ++ x))
+              (h .0 ∙ ap (λ (x : List ℕ). tabbed (map (float binary32) (v .0)) ++ x) (byte-is 10 (v .1) w u)))
               ∙ sym (buf-split (t .0) (v .0) w) in
               subst Goal (Option·some-injective (reading (v .0) (t .0), w) r k) (m, h .1, h .2, g .1)
 

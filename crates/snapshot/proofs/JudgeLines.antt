@@ -91,7 +91,8 @@ module _ {A : Type 0} (p : List ℕ → Option A) (w : A → List ℕ) (P : A �
         let q = onto-some (one p l) (λ s. before (s .0 ∷ []) (fields p n (s .1))) r e in
         go (fields p n (q .0 .1)) (q .0) (q .1) (q .2) (λ s h. fields-are n (q .0 .1) s h)
       where
-        go : (o : Option (List A × List ℕ)) (s : A × List ℕ) → one p l ≡ some s → before (s .0 ∷ []) o ≡ some r → ((u : List A × List ℕ) → o ≡ some u → (s .1 ≡ tabbed (map w (u .0)) ++ u .1) × (length (u .0) ≡ n) × All P (u .0))
+        go : (o : Option (List A × List ℕ)) (s : A × List ℕ) → one p l ≡ some s → before (s .0 ∷ []) o ≡ some r →
+            ((u : List A × List ℕ) → o ≡ some u → (s .1 ≡ tabbed (map w (u .0)) ++ u .1) × (length (u .0) ≡ n) × All P (u .0))
             → (l ≡ tabbed (map w (r .0)) ++ r .1) × (length (r .0) ≡ suc n) × All P (r .0)
         go none s f g ih = absurd (Option·none-ne-some r g)
         go (some u) s f g ih =
@@ -120,7 +121,8 @@ module _ {A : Type 0} (p : List ℕ → Option A) (w : A → List ℕ) (P : A �
     unfolding listLine
     line-is a b c n l r e = at (onto (name a b c l) (fields p n)) refl e
       where
-        at : (o : Option (List A × List ℕ)) → onto (name a b c l) (fields p n) ≡ o → closing o ≡ some r → (l ≡ bytesOfLine (named (a ∷ b ∷ c ∷ []) (map w (r .0))) ++ r .1) × (length (r .0) ≡ n) × All P (r .0)
+        at : (o : Option (List A × List ℕ)) → onto (name a b c l) (fields p n) ≡ o → closing o ≡ some r → (l ≡ bytesOfLine (named (a ∷ b ∷ c ∷ []) (map w (r .0))) ++ r .1) ×
+            (length (r .0) ≡ n) × All P (r .0)
         at none f g = absurd (Option·none-ne-some r g)
         at (some s) f g = go (byte 10 (s .1)) refl g
           where

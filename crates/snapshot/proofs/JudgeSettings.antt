@@ -253,7 +253,8 @@ set-back s z h =
     let v = methodNumber (s .method) ∷ s .d ∷ s .k ∷ s .start ∷ s .stop ∷ [] in
     let y = ending (s .decay) (s .weightTime) z in
     let l = tabbed (map whole v) ++ y in
-    let e : tailBy y ≡ some ((s .decay, s .weightTime), z) = tail-back (s .decay) (s .weightTime) z (fit-of binary64 (s .decay) (h .1 .1 .1 .1 .1 .1 .1 .1 .0)) (fit-of binary32 (s .weightTime) (h .1 .1 .1 .1 .1 .1 .1 .1 .1 .0)) in
+    let e : tailBy y ≡ some ((s .decay, s .weightTime), z) = tail-back (s .decay) (s .weightTime) z (fit-of binary64 (s .decay) (h .1 .1 .1 .1 .1 .1 .1 .1 .0))
+    (fit-of binary32 (s .weightTime) (h .1 .1 .1 .1 .1 .1 .1 .1 .1 .0)) in
     let t : settingsIfRead (s .mode) (s .method) v (some ((s .decay, s .weightTime), z)) ≡ some (withLists s [] [], z) = rw (test-of s h) in
     ap setBy (set-split s z)
     ∙ ap (λ (o : Option ForestMode). onto o (λ m. onto (fields asWhole 5 l) (λ w. onto (methodIn (getD (w .0) 0 0)) (λ t. settingsIfRead m t (w .0) (tailBy (w .1))))))

@@ -24,8 +24,15 @@ join-append (x ∷ xs) b = ap (λ (t : List ℕ). x ++ t) (join-append xs b) ∙
 pub begun : (t : List ℕ) (n : ℕ) → read t ≡ bad n → (m : ℕ) → m < n → (w : State) × (u : List ℕ) × Form w × TextOf w u × (r : List ℕ) × (u ≡ join (take m (lines t)) ++ r)
 begun t n e m h =
     let a = read-first-bad t n e .oneBefore m h in
-    let l : List (List ℕ) = lines (a .1) in
-    (a .0, a .1, a .2, a .3, join (drop m l), sym (join-lines (a .1)) ∙ ap join (sym (take-append-drop m l)) ∙ join-append (take m l) (drop m l) ∙ ap (λ (k : List (List ℕ)). join k ++ join (drop m l)) (a .4))
+    let l : List (List ℕ) = lines (a .1) in (
+      a .0,
+      a .1,
+      a .2,
+      a .3,
+      join (drop m l),
+      sym (join-lines (a .1)) ∙ ap join (sym (take-append-drop m l)) ∙ join-append (take m l) (drop m l) ∙ ap
+          (λ (k : List (List ℕ)). join k ++ join (drop m l)) (a .4),
+    )
 
 -- how many lines are ended
 abbrev pub ends : List ℕ → ℕ

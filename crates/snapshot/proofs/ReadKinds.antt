@@ -202,7 +202,8 @@ module _ {A B : Type 0} (n : List ℕ) (p : LineKind A) (q : LineKind B) where
   pub either-right : (b : B) → same (q .write b .name) n ≡ false → Writes q b → Writes (eitherKind n p q) (inr b)
   either-right b e h = record { clean = h .clean; back = rw e (ap inr (h .back)); holds = h .holds }
 
-pub cnt-writes : (s : Settings) (c : Counts) → c .valuesSeen ≤ seenLimit → c .internalTimestamp ≤ seenLimit → c .count ≤ countLimit → (waiting s (c .valuesSeen) ≡ true → c .internalTimestamp ≡ 0) → Writes (cntKind s) c
+pub cnt-writes : (s : Settings) (c : Counts) → c .valuesSeen ≤ seenLimit → c .internalTimestamp ≤ seenLimit → c .count ≤ countLimit →
+    (waiting s (c .valuesSeen) ≡ true → c .internalTimestamp ≡ 0) → Writes (cntKind s) c
 unfolding cntLine
 cnt-writes s c a b d h = record {
   clean = (omega arith, (whole-clean _, (whole-clean _, (whole-clean _, tt))));

@@ -117,7 +117,8 @@ good-before (planLine e A c k) v (suc m) n [] h q = absurd (omega (arith, ended-
 good-before (planLine e A c k) v (suc m) zero (l ∷ ls) h q = absurd (omega arith)
 good-before (planLine e A c k) v (suc m) (suc n) (l ∷ ls) h q = go (judge c l) refl (λ a t. good-before (k a) (v .2 a t) m n ls)
   where
-    go : (o : Option A) → judge c l ≡ o → ((a : A) → Hold (c .tests a) → follow (k a) ls ≡ bad n → m < n → (w : State) × (ms : List (List ℕ)) × (follow (k a) ms ≡ taken w) × (take m ms ≡ take m ls)) → (w : State) × (ms : List (List ℕ)) × (follow (planLine e A c k) ms ≡ taken w) × (take (suc m) ms ≡ take (suc m) (l ∷ ls))
+    go : (o : Option A) → judge c l ≡ o → ((a : A) → Hold (c .tests a) → follow (k a) ls ≡ bad n → m < n → (w : State) × (ms : List (List ℕ)) × (follow (k a) ms ≡ taken w) ×
+        (take m ms ≡ take m ls)) → (w : State) × (ms : List (List ℕ)) × (follow (planLine e A c k) ms ≡ taken w) × (take (suc m) ms ≡ take (suc m) (l ∷ ls))
     go none z ih = absurd (omega (arith, ap lineNo (rw z at h)))
     go (some a) z ih =
         let r = ih a (judged c l a z .1) (later-bad (follow (k a) ls) n (rw z at h)) (omega arith) in

@@ -126,7 +126,8 @@ devs-follow q zero k l = refl
 devs-follow q (suc n) k l = step-dev n k l ∙ go (devFields q l) refl (λ v y. devs-follow 0 n (λ st. k (threeOf v .weight ∷ threeOf v .sum ∷ threeOf v .squares ∷ st)) y)
   where
     go : (o : Option (List Float × List ℕ)) → devFields q l ≡ o
-        → ((v : List Float) (y : List ℕ) → follow (devsPlan n (λ st. k (threeOf v .weight ∷ threeOf v .sum ∷ threeOf v .squares ∷ st))) (lines y) ≡ goOn n (many devFields noCarry 0 n y) (λ u z. follow (k (threeOf v .weight ∷ threeOf v .sum ∷ threeOf v .squares ∷ flat u)) (lines z)))
+        → ((v : List Float) (y : List ℕ) → follow (devsPlan n (λ st. k (threeOf v .weight ∷ threeOf v .sum ∷ threeOf v .squares ∷ st))) (lines y) ≡ goOn n (many devFields noCarry 0 n y)
+        (λ u z. follow (k (threeOf v .weight ∷ threeOf v .sum ∷ threeOf v .squares ∷ flat u)) (lines z)))
         → via (threed o) (λ a z. later (follow (devsPlan n (λ st. k (a .weight ∷ a .sum ∷ a .squares ∷ st))) (lines z)))
         ≡ goOn (suc n) (thenLines 1 (oneLine o) (λ a z. front a (many devFields noCarry (noCarry a) n z))) (λ u z. follow (k (flat u)) (lines z))
     go none e h = refl
@@ -144,7 +145,8 @@ bufs-follow d q zero k l = refl
 bufs-follow d q (suc n) k l = step-buf d q n k l ∙ go (bufBy d q l) (λ r y. bufs-follow d (r .time) n (λ v ts. k (r .value ++ v) (r .time ∷ ts)) y)
   where
     go : (o : Option (Reading × List ℕ))
-        → ((r : Reading) (y : List ℕ) → follow (bufsPlan none d (r .time) n (λ v ts. k (r .value ++ v) (r .time ∷ ts))) (lines y) ≡ goOn n (many (bufBy d) timeOf (r .time) n y) (λ u z. follow (planEnd (k (r .value ++ readingValues u) (r .time ∷ readingTimes u))) (lines z)))
+        → ((r : Reading) (y : List ℕ) → follow (bufsPlan none d (r .time) n (λ v ts. k (r .value ++ v) (r .time ∷ ts))) (lines y) ≡ goOn n (many (bufBy d) timeOf (r .time) n y)
+        (λ u z. follow (planEnd (k (r .value ++ readingValues u) (r .time ∷ readingTimes u))) (lines z)))
         → via o (λ r z. later (follow (bufsPlan none d (r .time) n (λ v ts. k (r .value ++ v) (r .time ∷ ts))) (lines z)))
         ≡ goOn (suc n) (thenLines 1 (oneLine o) (λ a z. front a (many (bufBy d) timeOf (timeOf a) n z))) (λ u z. follow (planEnd (k (readingValues u) (readingTimes u))) (lines z))
     go none h = refl
@@ -186,7 +188,8 @@ module _ (s : Settings) (c : Counts) (k : List Float → List ℕ → State) whe
     where
       go : (w m : Bool) (l : List ℕ)
           → follow (bufPlan w m s c k) (lines l)
-          ≡ goOn (cond w (c .valuesSeen) (cond (m && not (null l)) (s .start) 0)) (many (bufBy (s .d)) timeOf 0 (cond w (c .valuesSeen) (cond (m && not (null l)) (s .start) 0)) l) (λ u z. follow (planEnd (k (readingValues u) (readingTimes u))) (lines z))
+          ≡ goOn (cond w (c .valuesSeen) (cond (m && not (null l)) (s .start) 0)) (many (bufBy (s .d)) timeOf 0 (cond w (c .valuesSeen) (cond (m && not (null l)) (s .start) 0)) l)
+          (λ u z. follow (planEnd (k (readingValues u) (readingTimes u))) (lines z))
       go true m l = bufs-follow (s .d) 0 (c .valuesSeen) k l
       go false true [] = missing (s .d) (s .start) k ∙ bufs-follow (s .d) 0 0 k []
       go false true (x ∷ l) = begun (some (k [] [])) (s .d) (s .start) k x l ∙ bufs-follow (s .d) 0 (s .start) k (x ∷ l)
@@ -225,7 +228,8 @@ module _ (s : Settings) (c : Counts) where
 
   after-dev : (st : List Float) (l : List ℕ) → follow (afterDev s c st) (lines l)
       ≡ goOn 3 (thenLines 1 (oneLine (listLine (asFloat binary32) 105 110 112 (s .d * s .k) l))
-      (λ x l₂. thenLines 1 (oneLine (listLine (asFloat binary32) 112 110 116 (dimension s) l₂)) (λ y l₃. thenLines 1 (oneLine (timBy (c .internalTimestamp) (s .k) l₃)) (λ ts z. ran (parts st x y ts) z)))) Rest
+      (λ x l₂. thenLines 1 (oneLine (listLine (asFloat binary32) 112 110 116 (dimension s) l₂))
+      (λ y l₃. thenLines 1 (oneLine (timBy (c .internalTimestamp) (s .k) l₃)) (λ ts z. ran (parts st x y ts) z)))) Rest
   after-dev st l =
       step-inp s l c st ∙ one-line (listLine (asFloat binary32) 105 110 112 (s .d * s .k) l) (λ x z. follow (afterInp s c st x) (lines z))
       ∙ goOn-same 1 (oneLine (listLine (asFloat binary32) 105 110 112 (s .d * s .k) l)) _ _ (λ x z. after-inp st x z)
@@ -241,7 +245,8 @@ module _ (s : Settings) (c : Counts) where
       devs-follow 0 n (afterDev s c) l
       ∙ goOn-same n (many devFields noCarry 0 n l) _ _ (λ u z. after-dev (flat u) z)
       ∙ goOn-map n (many devFields noCarry 0 n l) flat (λ st l₁. goOn 3 (thenLines 1 (oneLine (listLine (asFloat binary32) 105 110 112 (s .d * s .k) l₁))
-      (λ x l₂. thenLines 1 (oneLine (listLine (asFloat binary32) 112 110 116 (dimension s) l₂)) (λ y l₃. thenLines 1 (oneLine (timBy (c .internalTimestamp) (s .k) l₃)) (λ ts z. ran (parts st x y ts) z)))) Rest)
+      (λ x l₂. thenLines 1 (oneLine (listLine (asFloat binary32) 112 110 116 (dimension s) l₂))
+      (λ y l₃. thenLines 1 (oneLine (timBy (c .internalTimestamp) (s .k) l₃)) (λ ts z. ran (parts st x y ts) z)))) Rest)
       ∙ goOn-after n 3 (mapRan flat (many devFields noCarry 0 n l)) _ Rest
       ∙ ap (λ (m : ℕ). goOn m (partsOf s c l) Rest) e
 
@@ -249,9 +254,11 @@ module _ (s : Settings) (c : Counts) where
   unfolding bodyBy Rest
   body-follow l =
       parts-follow l
-      ∙ goOn-same (5 * s .d + 8) (partsOf s c l) _ _ (λ p l₁. initial-follow s c (stateOf s c (p .statistics) (p .input) (p .point) (p .times)) l₁ ∙ goOn-read (expected s c l₁) (bufs (s .d) (expected s c l₁) l₁) (λ i l₂. ending (stateFrom s c (body p i)) l₂))
+      ∙ goOn-same (5 * s .d + 8) (partsOf s c l) _ _ (λ p l₁. initial-follow s c (stateOf s c (p .statistics) (p .input) (p .point) (p .times)) l₁ ∙ goOn-read (expected s c l₁)
+      (bufs (s .d) (expected s c l₁) l₁) (λ i l₂. ending (stateFrom s c (body p i)) l₂))
       ∙ goOn-read (5 * s .d + 8) (partsOf s c l) (λ p l₁. thenLines (expected s c l₁) (bufs (s .d) (expected s c l₁) l₁) (λ i l₂. ending (stateFrom s c (body p i)) l₂))
-      ∙ ap asRead (sym (map-after (5 * s .d + 8) (partsOf s c l) (stateFrom s c) _ _ (λ p l₁. map-after (expected s c l₁) (bufs (s .d) (expected s c l₁) l₁) (stateFrom s c) _ _ (λ i l₂. map-ending (stateFrom s c) (body p i) l₂))))
+      ∙ ap asRead (sym (map-after (5 * s .d + 8) (partsOf s c l) (stateFrom s c) _ _
+      (λ p l₁. map-after (expected s c l₁) (bufs (s .d) (expected s c l₁) l₁) (stateFrom s c) _ _ (λ i l₂. map-ending (stateFrom s c) (body p i) l₂))))
 
 -- ---- line 3 and what it leads to
 

@@ -65,9 +65,11 @@ devs-put n X ls t = record {
 devs-took : (n : ℕ) (k : List Float → Plan) (w : State) (X : List Float → List (List ℕ) → Type 0) → ((st : List Float) (r : List (List ℕ)) → follow (k st) r ≡ taken w → X st r)
     → (ls : List (List ℕ)) → follow (devsPlan n k) ls ≡ taken w → Devs n X ls
 devs-took zero k w X f ls e = record { st = []; rest = ls; is = refl; long = refl; fit = tt; more = f [] ls e }
-devs-took (suc n) k w X f ls e = devs-put n X ls (took Three devKind (λ a. devsPlan n (onto a k)) w (λ a. Devs n (onto a X)) (λ a. devs-took n (onto a k) w (onto a X) (λ st. f (a .weight ∷ a .sum ∷ a .squares ∷ st))) ls e)
+devs-took (suc n) k w X f ls e = devs-put n X ls (took Three devKind (λ a. devsPlan n (onto a k)) w (λ a. Devs n (onto a X))
+    (λ a. devs-took n (onto a k) w (onto a X) (λ st. f (a .weight ∷ a .sum ∷ a .squares ∷ st))) ls e)
 
-devs-give : (n : ℕ) (k : List Float → Plan) (st : List Float) (ls : List (List ℕ)) (w : State) → length st ≡ 3 * n → Fits binary64 st → follow (k st) ls ≡ taken w → follow (devsPlan n k) (shown (devLines st) ++ ls) ≡ taken w
+devs-give : (n : ℕ) (k : List Float → Plan) (st : List Float) (ls : List (List ℕ)) (w : State) → length st ≡ 3 * n → Fits binary64 st → follow (k st) ls ≡ taken w → follow (devsPlan n k)
+    (shown (devLines st) ++ ls) ≡ taken w
 devs-give zero k [] ls w l f e = e
 devs-give zero k (a ∷ st) ls w l f e = absurd (omega arith)
 devs-give (suc n) k [] ls w l f e = absurd (omega arith)
@@ -125,14 +127,16 @@ bufs-took : (d p n : ℕ) (k : List Float → List ℕ → State) (w : State) (l
 bufs-took d p zero k w [] e = bufs-none d p k w (taken-inj (k [] []) w e)
 bufs-took d p zero k w (l ∷ ls) e = absurd (not-both (bad 1) refl e)
 bufs-took d p (suc n) k w ls e =
-    bufs-put d p n k w ls (took Reading (bufKind d p) (λ r. bufsPlan none d (r .time) n (withReading r k)) w (λ r. Bufs d (r .time) n (withReading r k) w) (λ r. bufs-took d (r .time) n (withReading r k) w) ls e)
+    bufs-put d p n k w ls (took Reading (bufKind d p) (λ r. bufsPlan none d (r .time) n (withReading r k)) w (λ r. Bufs d (r .time) n (withReading r k) w)
+    (λ r. bufs-took d (r .time) n (withReading r k) w) ls e)
 
 -- where the text may end at once
 bufs-may : (d p n : ℕ) (k : List Float → List ℕ → State) (w : State) (ls : List (List ℕ)) → follow (bufsPlan (some (k [] [])) d p n k) ls ≡ taken w → (Bufs d p 0 k w ls) ⊎ (Bufs d p n k w ls)
 bufs-may d p zero k w ls e = inr (bufs-took d p zero k w ls e)
 bufs-may d p (suc n) k w [] e = inl (bufs-none d p k w (taken-inj (k [] []) w e))
 bufs-may d p (suc n) k w (l ∷ ls) e =
-    inr (bufs-put d p n k w (l ∷ ls) (took-cons (some (k [] [])) Reading (bufKind d p) (λ r. bufsPlan none d (r .time) n (withReading r k)) w (λ r. Bufs d (r .time) n (withReading r k) w) (λ r. bufs-took d (r .time) n (withReading r k) w) l ls e))
+    inr (bufs-put d p n k w (l ∷ ls) (took-cons (some (k [] [])) Reading (bufKind d p) (λ r. bufsPlan none d (r .time) n (withReading r k)) w (λ r. Bufs d (r .time) n (withReading r k) w)
+    (λ r. bufs-took d (r .time) n (withReading r k) w) l ls e))
 
 bufs-give : (e : Option State) (d p n : ℕ) (k : List Float → List ℕ → State) (v : List Float) (ts : List ℕ) → Waited d p n v ts → follow (bufsPlan e d p n k) (shown (bufLines d v ts)) ≡ taken (k v ts)
 unfolding bufLine
@@ -246,7 +250,8 @@ ends-form s ok c hc st long fit x y ts hx hy ht n v us q m = record {
   later = λ e. later (m .1 e);
 }
   where
-    later : (n ≡ 0) ⊎ ((normalizes (s .method) ≡ true) × (n ≡ s .start) × (c .valuesSeen ≡ s .start → c .internalTimestamp ≡ 0)) → (us ≡ []) ⊎ ((normalizes (s .method) ≡ true) × (length us ≡ s .start) × (c .valuesSeen ≡ s .start → c .internalTimestamp ≡ 0))
+    later : (n ≡ 0) ⊎ ((normalizes (s .method) ≡ true) × (n ≡ s .start) × (c .valuesSeen ≡ s .start → c .internalTimestamp ≡ 0)) → (us ≡ []) ⊎
+        ((normalizes (s .method) ≡ true) × (length us ≡ s .start) × (c .valuesSeen ≡ s .start → c .internalTimestamp ≡ 0))
     later (inl z) = inl (nil us (q .long ∙ z))
     later (inr z) = inr (z .0, q .long ∙ z .1, z .2)
 
@@ -258,7 +263,8 @@ body-form : (s : Settings) → Valid s → (c : Counts) → Hold (cntKind s .tes
     → Form w × (w .settings ≡ s) × (shown (bodyLines w) ≡ bytesOfLine (cntKind s .write c) ∷ ls)
 unfolding bodyLines
 body-form s ok c hc w ls t = subst (λ (u : State). Form u × (u .settings ≡ s) × (shown (bodyLines u) ≡ bytesOfLine (cntKind s .write c) ∷ ls)) (t .more .more .more .more .bufs .it) (
-  ends-form s ok c hc _ (t .long) (t .fit) _ _ _ (t .more .holds) (t .more .more .holds) (t .more .more .more .holds) _ _ _ (t .more .more .more .more .bufs .waited) (t .more .more .more .more .counted),
+  ends-form s ok c hc _ (t .long) (t .fit) _ _ _ (t .more .holds) (t .more .more .holds) (t .more .more .more .holds) _ _ _ (t .more .more .more .more .bufs .waited)
+      (t .more .more .more .more .counted),
   refl,
   then (shown-append (devLines (t .st)) _ ∙ ap (λ (r : List (List ℕ)). shown (devLines (t .st)) ++ r)
       (then (then (then (t .more .more .more .more .bufs .is) (t .more .more .more .is)) (t .more .more .is)) (t .more .is))
@@ -271,7 +277,8 @@ record Shows (w : State) (ls : List (List ℕ)) : Type 0 where
   allZero : coded ≡ false → w .settings .codes ≡ replicate (w .settings .d) 0
   is : shown (linesBy coded w) ≡ ls
 
-third-form : (s : Settings) (v : List Float) → Hold (setKind .tests s) → Hold (wgtKind s .tests v) → (w : State) (o : List ℕ ⊎ Counts) (ls : List (List ℕ)) → Hold (thirdKind s v .tests o) → Third s v w o ls
+third-form : (s : Settings) (v : List Float) → Hold (setKind .tests s) → Hold (wgtKind s .tests v) → (w : State) (o : List ℕ ⊎ Counts) (ls : List (List ℕ)) → Hold (thirdKind s v .tests o) →
+    Third s v w o ls
     → Form w × Shows w (bytesOfLine (setLine s) ∷ bytesOfLine (singles wgt v) ∷ bytesOfLine (thirdKind s v .write o) ∷ ls)
 unfolding linesBy setLine
 third-form s v h g w (inl cs) ls q t =
@@ -323,7 +330,8 @@ module _ (w : State) (g : Form w) where
   no-values : w .initialTimestamps ≡ [] → w .initialValues ≡ []
   no-values e = nil (w .initialValues) (g .initialLong ∙ ap (λ (l : List ℕ). length l * s .d) e ∙ zero-mul (s .d))
 
-  none-give : (p : Plan) → w .initialTimestamps ≡ [] → follow p [] ≡ taken (k [] []) → follow p (shown (bufLines (s .d) (w .initialValues) (w .initialTimestamps))) ≡ taken (k (w .initialValues) (w .initialTimestamps))
+  none-give : (p : Plan) → w .initialTimestamps ≡ [] → follow p [] ≡ taken (k [] []) → follow p (shown (bufLines (s .d) (w .initialValues) (w .initialTimestamps))) ≡ taken
+      (k (w .initialValues) (w .initialTimestamps))
   none-give p e h = rw (no-values e, e) h
 
   tail-give : (b m : Bool) → waiting s (w .valuesSeen) ≡ b → mayStand s c ≡ m → follow (bufPlan b m s c k) (shown (bufLines (s .d) (w .initialValues) (w .initialTimestamps))) ≡ taken w
@@ -331,7 +339,8 @@ module _ (w : State) (g : Form w) where
   tail-give true m x y = bufs-give none (s .d) 0 (w .valuesSeen) k (w .initialValues) (w .initialTimestamps) (waited (w .valuesSeen) (g .whileWaiting x .0))
   tail-give false m x y = go m y (g .later x)
     where
-      go : (m : Bool) → mayStand s c ≡ m → (w .initialTimestamps ≡ []) ⊎ ((normalizes (s .method) ≡ true) × (length (w .initialTimestamps) ≡ s .start) × (w .valuesSeen ≡ s .start → w .internalTimestamp ≡ 0))
+      go : (m : Bool) → mayStand s c ≡ m → (w .initialTimestamps ≡ []) ⊎
+          ((normalizes (s .method) ≡ true) × (length (w .initialTimestamps) ≡ s .start) × (w .valuesSeen ≡ s .start → w .internalTimestamp ≡ 0))
           → follow (bufPlan false m s c k) (shown (bufLines (s .d) (w .initialValues) (w .initialTimestamps))) ≡ taken w
       go false y (inl e) = none-give (planEnd (k [] [])) e refl
       go true y (inl e) = none-give (bufsPlan (some (k [] [])) (s .d) 0 (s .start) k) e (bufs-empty (s .d) 0 (s .start) k)
@@ -349,9 +358,12 @@ module _ (w : State) (g : Form w) where
 
   ends-give : follow (afterDev s c (w .statistics)) (shown endLines) ≡ taken w
   ends-give =
-      give none (List Float) (inpKind s) (afterInp s c (w .statistics)) w (w .lastShingledInput) (shown pntLines) (singles-write _ _ _ (w .lastShingledInput) (omega arith) (g .inputLong) (g .inputFits) tt)
-      (give none (List Float) (pntKind s) (afterPnt s c (w .statistics) (w .lastShingledInput)) w (w .lastShingledPoint) (shown timLines) (singles-write _ _ _ (w .lastShingledPoint) (omega arith) (g .pointLong) (g .pointFits) tt)
-      (give none (List ℕ) (timKind s c) (afterTim s c (w .statistics) (w .lastShingledInput) (w .lastShingledPoint)) w (w .previousTimestamps) (shown (bufLines (s .d) (w .initialValues) (w .initialTimestamps)))
+      give none (List Float) (inpKind s) (afterInp s c (w .statistics)) w (w .lastShingledInput) (shown pntLines)
+      (singles-write _ _ _ (w .lastShingledInput) (omega arith) (g .inputLong) (g .inputFits) tt)
+      (give none (List Float) (pntKind s) (afterPnt s c (w .statistics) (w .lastShingledInput)) w (w .lastShingledPoint) (shown timLines)
+      (singles-write _ _ _ (w .lastShingledPoint) (omega arith) (g .pointLong) (g .pointFits) tt)
+      (give none (List ℕ) (timKind s c) (afterTim s c (w .statistics) (w .lastShingledInput) (w .lastShingledPoint)) w (w .previousTimestamps)
+      (shown (bufLines (s .d) (w .initialValues) (w .initialTimestamps)))
       (tim-writes s c (w .previousTimestamps) (g .timesLong) (g .timesFit) (g .timesClimb) (g .timesZero)) (tail-give (waiting s (w .valuesSeen)) (mayStand s c) refl refl)))
 
   abbrev midLines : List Line

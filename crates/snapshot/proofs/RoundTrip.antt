@@ -129,7 +129,8 @@ module _ (t cs : List ℕ) (l : Lent) where
       go (bad n) e k = absurd (let q : _≡_ {A = ℕ} 19 27 = k in omega (arith, q))
       go (taken w) e k = fit (same (w .settings .codes) cs) (lentShort (w .settings) l) refl refl
         where
-          fit : (a b : Bool) → same (w .settings .codes) cs ≡ a → lentShort (w .settings) l ≡ b → ((w : State) × Form w × TextOf w t × (w .settings .codes ≡ cs → ⊥)) × (restored (read t) cs l .lent ≡ l)
+          fit : (a b : Bool) → same (w .settings .codes) cs ≡ a → lentShort (w .settings) l ≡ b → ((w : State) × Form w × TextOf w t × (w .settings .codes ≡ cs → ⊥)) ×
+              (restored (read t) cs l .lent ≡ l)
           fit false b u i =
               let f = read-sound t w e in
               ((w, f .0, f .1, λ q. false≢true (sym u ∙ subst (λ (x : List ℕ). same (w .settings .codes) x ≡ true) q (same-refl (w .settings .codes)))), rw (e, u))
@@ -171,7 +172,8 @@ pub initial-room : (w : State) → Form w → length (w .initialTimestamps) ≤ 
 unfolding waiting
 initial-room w f = go (waiting (w .settings) (w .valuesSeen)) refl
   where
-    some-few : (w .initialTimestamps ≡ []) ⊎ ((normalizes (w .settings .method) ≡ true) × (length (w .initialTimestamps) ≡ w .settings .start) × (w .valuesSeen ≡ w .settings .start → w .internalTimestamp ≡ 0))
+    some-few : (w .initialTimestamps ≡ []) ⊎ ((normalizes (w .settings .method) ≡ true) × (length (w .initialTimestamps) ≡ w .settings .start) ×
+        (w .valuesSeen ≡ w .settings .start → w .internalTimestamp ≡ 0))
         → length (w .initialTimestamps) ≤ initialRoom (w .settings)
     some-few (inl e) = rw e (omega arith)
     some-few (inr e) = omega (arith, e .1, room-normalizing (w .settings) (e .0))
@@ -187,7 +189,18 @@ initial-few w f = omega (arith, initial-room w f, room-start (w .settings))
 
 pub past-not : (d k wide n a b c e f g : ℕ) → Held d k wide n a b c e f g → past d k wide n a b c e f g ≡ false
 past-not d k wide n a b c e f g h =
-    rw (le-ltb 16 d (h .d-few), le-ltb 64 k (h .k-few), lt-leb 2000 n (omega (arith, h .n-few)), le-ltb a (3 * (5 * d + 5)) (h .in-statistics), le-ltb b (d * k) (h .in-input), le-ltb c ((d + wide) * k) (h .in-point), le-ltb e k (h .in-times), le-ltb f (n * d) (h .in-values), le-ltb g n (h .in-initial))
+    rw (
+      le-ltb 16 d (h .d-few),
+      le-ltb 64 k (h .k-few),
+      lt-leb 2000 n (omega (arith, h .n-few)),
+      le-ltb a (3 * (5 * d + 5)) (h .in-statistics),
+      le-ltb b (d * k) (h .in-input),
+      le-ltb c
+          ((d + wide) * k) (h .in-point),
+      le-ltb e k (h .in-times),
+      le-ltb f (n * d) (h .in-values),
+      le-ltb g n (h .in-initial),
+    )
 
 module _ (w : State) (f : Form w) (l : Lent) (room : lentShort (w .settings) l ≡ false) where
   laid-room : Room (headFrom (w .settings)) (length (w .initialTimestamps)) (length (l .statistics)) (length (l .lastShingledInput)) (length (l .lastShingledPoint)) (length (l .previousTimestamps))

@@ -156,9 +156,11 @@ module _ (h : Preprocessor) (l : Lent) where
           later = λ z. left (c .later z);
         }
       where
-        left : (h .«initial_len» ≡ 0) ⊎ ((normalizes (settingsOf h .method) ≡ true) × (h .«initial_len» ≡ h .«start_normalization») × (h .«values_seen» ≡ h .«start_normalization» → h .«internal_timestamp» ≡ 0))
+        left : (h .«initial_len» ≡ 0) ⊎ ((normalizes (settingsOf h .method) ≡ true) × (h .«initial_len» ≡ h .«start_normalization») ×
+            (h .«values_seen» ≡ h .«start_normalization» → h .«internal_timestamp» ≡ 0))
             → (take (h .«initial_len») (l .initialTimestamps) ≡ [])
-            ⊎ ((normalizes (settingsOf h .method) ≡ true) × (length (take (h .«initial_len») (l .initialTimestamps)) ≡ h .«start_normalization») × (h .«values_seen» ≡ h .«start_normalization» → h .«internal_timestamp» ≡ 0))
+            ⊎ ((normalizes (settingsOf h .method) ≡ true) × (length (take (h .«initial_len») (l .initialTimestamps)) ≡ h .«start_normalization») ×
+            (h .«values_seen» ≡ h .«start_normalization» → h .«internal_timestamp» ≡ 0))
         left (inl e) = inl (ap (λ (n : ℕ). take n (l .initialTimestamps)) e)
         left (inr e) = inr (e .0, length-take-le (h .«initial_len») (l .initialTimestamps) (holds (k .held) .in-initial) ∙ e .1, e .2)
 
@@ -178,8 +180,10 @@ module _ (h : Preprocessor) (l : Lent) where
         })
       where
         left : (view h l .initialTimestamps ≡ [])
-            ⊎ ((normalizes (settingsOf h .method) ≡ true) × (length (view h l .initialTimestamps) ≡ h .«start_normalization») × (h .«values_seen» ≡ h .«start_normalization» → h .«internal_timestamp» ≡ 0))
-            → (h .«initial_len» ≡ 0) ⊎ ((normalizes (settingsOf h .method) ≡ true) × (h .«initial_len» ≡ h .«start_normalization») × (h .«values_seen» ≡ h .«start_normalization» → h .«internal_timestamp» ≡ 0))
+            ⊎ ((normalizes (settingsOf h .method) ≡ true) × (length (view h l .initialTimestamps) ≡ h .«start_normalization») ×
+            (h .«values_seen» ≡ h .«start_normalization» → h .«internal_timestamp» ≡ 0))
+            → (h .«initial_len» ≡ 0) ⊎ ((normalizes (settingsOf h .method) ≡ true) × (h .«initial_len» ≡ h .«start_normalization») ×
+            (h .«values_seen» ≡ h .«start_normalization» → h .«internal_timestamp» ≡ 0))
         left (inl q) = inl (sym (initial-is e) ∙ ap length q)
         left (inr q) = inr (q .0, sym (initial-is e) ∙ q .1, q .2)
 

@@ -57,7 +57,8 @@ unfolding all
 none-waits = refl
 
 -- an internal time while readings wait; later one of two readings left; both left where the trace has begun with them
-counters : map (λ (h : Preprocessor). rowWith h (memory none (5 ∷ 6 ∷ []))) (headWith 0 1 1 1 ∷ headWith 0 3 1 1 ∷ headWith 0 2 1 2 ∷ headWith 0 2 0 2 ∷ headWith 0 3 1 2 ∷ []) ≡ 19 ∷ 19 ∷ 19 ∷ 0 ∷ 0 ∷ []
+counters : map (λ (h : Preprocessor). rowWith h (memory none (5 ∷ 6 ∷ []))) (headWith 0 1 1 1 ∷ headWith 0 3 1 1 ∷ headWith 0 2 1 2 ∷ headWith 0 2 0 2 ∷ headWith 0 3 1 2 ∷ []) ≡ 19 ∷ 19 ∷
+    19 ∷ 0 ∷ 0 ∷ []
 unfolding all
 counters = refl
 
@@ -86,7 +87,16 @@ held = memory none (5 ∷ 0 ∷ [])
 
 in-memory : InMemory (headWith 0 1 0 1) held
 unfolding all
-in-memory = record { settings = record { stopFits = omega arith; decayFits = tt; weightTimeFits = tt; weightsFit = (tt, tt); codesFit = (omega arith, tt) }; statistics = _; input = _; point = _; times = (omega arith, (omega arith, tt)); initial = _; initialTimes = (omega arith, (omega arith, tt)) }
+in-memory = record {
+  settings = record { stopFits = omega arith; decayFits = tt; weightTimeFits = tt; weightsFit = (tt, tt); codesFit = (omega arith, tt) };
+  statistics = _;
+  input = _;
+  point
+      = _;
+  times = (omega arith, (omega arith, tt));
+  initial = _;
+  initialTimes = (omega arith, (omega arith, tt));
+}
 
 pub taken-again : TakenUp (headWith 0 1 0 1) held room (memory (9 ∷ 9 ∷ []) (9 ∷ 9 ∷ [])) []
 unfolding all

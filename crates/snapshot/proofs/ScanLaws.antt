@@ -126,7 +126,8 @@ first : (f n : ℕ) → n < f → 0 < n → (b : ℕ) × (r : List ℕ) × (deci
 first zero n h k = absurd (omega arith)
 first (suc f) n h k = go (ltb n 10) refl (λ p q. first f (n / 10) p q)
   where
-    go : (t : Bool) → ltb n 10 ≡ t → (n / 10 < f → 0 < n / 10 → (b : ℕ) × (r : List ℕ) × (decimal f (n / 10) ≡ b ∷ r) × (b ≡ 48 → ⊥)) → (b : ℕ) × (r : List ℕ) × (decimal (suc f) n ≡ b ∷ r) × (b ≡ 48 → ⊥)
+    go : (t : Bool) → ltb n 10 ≡ t → (n / 10 < f → 0 < n / 10 → (b : ℕ) × (r : List ℕ) × (decimal f (n / 10) ≡ b ∷ r) × (b ≡ 48 → ⊥)) → (b : ℕ) × (r : List ℕ) × (decimal (suc f) n ≡ b ∷ r)
+        × (b ≡ 48 → ⊥)
     go true e ih = (48 + n, [], rw (e, decimal), λ z. omega arith)
     go false e ih =
         let m : 10 ≤ n = ltb-false _ _ e in

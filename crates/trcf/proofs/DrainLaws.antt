@@ -96,7 +96,8 @@ pub drain-again : (h : Preprocessor) (n : ℕ) (s x p : List Float) (ts : List �
 drain-again h n s x p ts s′ x′ p′ ts′ d v us i m k es ex ep et =
     let a : suc (m + i) ≡ m + (i + 1) = omega arith in
     let b : suc i ≡ i + 1 = omega arith in
-    let f : p′ ≡ shiftIn p (transformedAfter (settingsOf h) s (h .«values_seen») (previous (holding h s x ts)) (readingAt d v us i)) = ep ∙ ap (λ (q : List Float). shiftIn p (transformedAfter (settingsOf h) q (h .«values_seen») (previous (holding h q x ts)) (readingAt d v us i))) es in
+    let f : p′ ≡ shiftIn p (transformedAfter (settingsOf h) s (h .«values_seen») (previous (holding h s x ts)) (readingAt d v us i)) = ep ∙ ap
+    (λ (q : List Float). shiftIn p (transformedAfter (settingsOf h) q (h .«values_seen») (previous (holding h q x ts)) (readingAt d v us i))) es in
     drain-more (settingsOf h) d v us i k (shingling h n s x p ts (m + i))
     ∙ ap (λ (w : State). drainEach w (left d v us (suc i))) (drained-turn h n s x p ts (m + i) (readingAt d v us i))
     ∙ (λ j. drainEach (shingling h n s (sym ex j) (sym f j) (sym et j) (a j)) (left d v us (b j)))
@@ -109,7 +110,8 @@ first-value d v = ap (λ (k : ℕ). take d (drop k v)) (sym (zero-mul d))
 pub drain-both : (h : Preprocessor) (s x p : List Float) (ts : List ℕ) (m : ℕ) (x′ : List Float) (ts′ : List ℕ) (v : List Float) (us : List ℕ) → 0 < length us
     → x′ ≡ overwrite x (take (h .transformer .«input_length») v)
     → ts′ ≡ overwrite ts (getD us 0 0 ∷ [])
-    → drainEach (shingling h (h .transformer .count + length us) (feedAll (settingsOf h) (h .transformer .count) s (readingAt (h .transformer .«input_length») v us 0) (blocks (h .transformer .«input_length») v us)) x′ p ts′ m) (blocks (h .transformer .«input_length») v us)
+    → drainEach (shingling h (h .transformer .count + length us) (feedAll (settingsOf h) (h .transformer .count) s (readingAt (h .transformer .«input_length») v us 0)
+    (blocks (h .transformer .«input_length») v us)) x′ p ts′ m) (blocks (h .transformer .«input_length») v us)
     ≡ drainAll (shingling h (h .transformer .count) s x p ts m) (blocks (h .transformer .«input_length») v us)
 unfolding primed drainAll
 drain-both h s x p ts m x′ ts′ v us k ex et =

@@ -62,10 +62,12 @@ cascades = refl
 
 -- blocks of a number and a time; the fifth number is a broken block; the third place of each output keeps its 9
 augmented : turnedOf «TIME_AUGMENTED» NONE
-    (forecast (ranges (single 7 ∷ single 1 ∷ single 8 ∷ single 2 ∷ single 5 ∷ []) (single 7 ∷ single 0 ∷ single 8 ∷ single 2 ∷ single 5 ∷ []) (single 7 ∷ single 1 ∷ single 8 ∷ single 3 ∷ single 5 ∷ []))
+    (forecast (ranges (single 7 ∷ single 1 ∷ single 8 ∷ single 2 ∷ single 5 ∷ []) (single 7 ∷ single 0 ∷ single 8 ∷ single 2 ∷ single 5 ∷ [])
+    (single 7 ∷ single 1 ∷ single 8 ∷ single 3 ∷ single 5 ∷ []))
     (ranges (replicate 3 (single 9)) (replicate 3 (single 9)) (replicate 3 (single 9))) (ranges (replicate 3 (double 9)) (replicate 3 (double 9)) (replicate 3 (double 9))))
     ≡ extrapolation 0
-    (forecast (ranges (single 7 ∷ single 1 ∷ single 8 ∷ single 2 ∷ single 5 ∷ []) (single 7 ∷ single 0 ∷ single 8 ∷ single 2 ∷ single 5 ∷ []) (single 7 ∷ single 1 ∷ single 8 ∷ single 3 ∷ single 5 ∷ []))
+    (forecast (ranges (single 7 ∷ single 1 ∷ single 8 ∷ single 2 ∷ single 5 ∷ []) (single 7 ∷ single 0 ∷ single 8 ∷ single 2 ∷ single 5 ∷ [])
+    (single 7 ∷ single 1 ∷ single 8 ∷ single 3 ∷ single 5 ∷ []))
     (ranges (single 7 ∷ single 8 ∷ single 9 ∷ []) (single 7 ∷ single 8 ∷ single 9 ∷ []) (single 7 ∷ single 8 ∷ single 9 ∷ []))
     (ranges (double 11 ∷ double 13 ∷ double 9 ∷ []) (double 11 ∷ double 13 ∷ double 9 ∷ []) (double 11 ∷ double 13 ∷ double 9 ∷ [])))
 unfolding all

@@ -164,7 +164,8 @@ module _ (h : Preprocessor) (y : ℕ) (hasY : Bool) (ee : ℕ) (expects : Bool) 
       let iq = or-falls i ((p && expects) && q) (f .3) in
       record {
         all-y = eqb-true y n (not-falls (eqb y n) (ab .0));
-        count-room = λ z. leb-false countLimit (h .transformer .count) (and-falls (ltb (h .«values_seen») (h .«stop_normalization»)) (leb countLimit (h .transformer .count)) (cu .0) (lt-ltb (h .«values_seen») (h .«stop_normalization») z));
+        count-room = λ z. leb-false countLimit (h .transformer .count)
+            (and-falls (ltb (h .«values_seen») (h .«stop_normalization»)) (leb countLimit (h .transformer .count)) (cu .0) (lt-ltb (h .«values_seen») (h .«stop_normalization») z));
         seen-room = leb-false seenLimit (h .«values_seen») (uv .0);
         internal-room = leb-false seenLimit (h .«internal_timestamp») (uv .1);
         deviations-room = ltb-false dev (block s) (iq .0);
@@ -220,7 +221,8 @@ module _ (h : Preprocessor) (l : Lent) (c : Learn) where
       (lent (l .statistics) (l .lastShingledInput) (l .lastShingledPoint) (l .previousTimestamps)
       (over (l .initialValues) (take (h .«initial_len» * h .transformer .«input_length») (l .initialValues) ++ c .input))
       (over (l .initialTimestamps) (take (h .«initial_len») (l .initialTimestamps) ++ (c .timestamp ∷ []))))
-      (cond (eqb (suc (h .«values_seen»)) (h .«start_normalization»)) (over (c .deviationsOut) (deviations (holding h (take (statisticsLength (settingsOf h)) (l .statistics)) [] []))) (c .deviationsOut))
+      (cond (eqb (suc (h .«values_seen»)) (h .«start_normalization»)) (over (c .deviationsOut) (deviations (holding h (take (statisticsLength (settingsOf h)) (l .statistics)) [] [])))
+      (c .deviationsOut))
       (c .pastOut) (c .expectedOut)
       ≡ learnAfter h l c
   unfolding change view buffered bufferedAnswer deviations writtenOver
@@ -321,7 +323,9 @@ module _ (h : Preprocessor) (l : Lent) (x : List Float) (t : ℕ) (hasY : Bool) 
     placed : blockAt (h .«shingle_size») i ≡ h .«shingle_size» - 1 - backOf i
     placed = place-is (h .«shingle_size») i z k-few
 
-    past-same : over pastOut (cond (eqb (backOf i) 0) x (blockFrom (h .transformer .«input_length») (h .«shingle_size» - backOf i) (take (h .transformer .«input_length» * h .«shingle_size») (l .lastShingledInput))))
+    past-same : over pastOut
+        (cond (eqb (backOf i) 0) x (blockFrom (h .transformer .«input_length») (h .«shingle_size» - backOf i)
+        (take (h .transformer .«input_length» * h .«shingle_size») (l .lastShingledInput))))
         ≡ over pastOut (pastValues (view h l) call)
     unfolding pastValues view
     past-same =
@@ -337,7 +341,8 @@ module _ (h : Preprocessor) (l : Lent) (x : List Float) (t : ℕ) (hasY : Bool) 
     unfolding expectedValues view
     expected-same =
         let d = h .transformer .«input_length» in
-        ap (λ (n : ℕ). over expectedOut (inverted (transformer (settingsOf h) 0 (take (statisticsLength (settingsOf h)) (l .statistics))) (blockFrom d n e) (blockFrom d n (take (d * h .«shingle_size») (l .lastShingledInput))))) (sym placed)
+        ap (λ (n : ℕ). over expectedOut (inverted (transformer (settingsOf h) 0 (take (statisticsLength (settingsOf h)) (l .statistics))) (blockFrom d n e)
+        (blockFrom d n (take (d * h .«shingle_size») (l .lastShingledInput))))) (sym placed)
 
     time-same : getD (take (h .«shingle_size») (l .previousTimestamps)) (h .«shingle_size» - 1 - backOf i) 0 ≡ anomalyOf (view h l) call .pastTimestamp
     unfolding anomalyOf view
@@ -358,8 +363,11 @@ module _ (h : Preprocessor) (l : Lent) (x : List Float) (t : ℕ) (hasY : Bool) 
       (lent (p .statistics) (p .lastShingledInput) (p .lastShingledPoint) (p .previousTimestamps)
       (sym (over-take (l .initialValues) (h .«initial_len» * d) (held-values h l f)) j) (sym (over-take (l .initialTimestamps) (h .«initial_len») (held-initial h l f)) j))
       (p .deviationsOut)
-      (cond-when a (over pastOut (cond (eqb (backOf i) 0) x (blockFrom d (h .«shingle_size» - backOf i) (take (d * h .«shingle_size») (l .lastShingledInput))))) (over pastOut (pastValues (view h l) call)) pastOut (λ z. past-same (inside z)) j)
-      (cond-when a (over expectedOut (inverted (transformer (settingsOf h) 0 (take (statisticsLength (settingsOf h)) (l .statistics))) (blockFrom d (h .«shingle_size» - 1 - backOf i) e) (blockFrom d (h .«shingle_size» - 1 - backOf i) (take (d * h .«shingle_size») (l .lastShingledInput))))) (over expectedOut (expectedValues (view h l) call e)) expectedOut (λ z. expected-same (inside z)) j))
+      (cond-when a (over pastOut (cond (eqb (backOf i) 0) x (blockFrom d (h .«shingle_size» - backOf i) (take (d * h .«shingle_size») (l .lastShingledInput)))))
+      (over pastOut (pastValues (view h l) call)) pastOut (λ z. past-same (inside z)) j)
+      (cond-when a (over expectedOut (inverted (transformer (settingsOf h) 0 (take (statisticsLength (settingsOf h)) (l .statistics))) (blockFrom d (h .«shingle_size» - 1 - backOf i) e)
+      (blockFrom d (h .«shingle_size» - 1 - backOf i) (take (d * h .«shingle_size») (l .lastShingledInput))))) (over expectedOut (expectedValues (view h l) call e)) expectedOut
+      (λ z. expected-same (inside z)) j))
       ∙ learn-done h l call y expects e r w (ap (λ (b : Bool). optional b y) g) refl
 
 pub waiting-below : (s : Settings) (seen : ℕ) → waiting s seen ≡ true → seen < s .start

@@ -58,7 +58,14 @@ module _ (s : Settings) (b : Bounded s) where
   pub row-bounded : headRow s ≡ 0
   unfolding headRow
   row-bounded =
-      rw (ne-eqb (s .d) 0 (λ e. omega (arith, b .d-pos, e)), ne-eqb (s .k) 0 (λ e. omega (arith, b .k-pos, e)), le-ltb 16 (s .d) (b .d-few), le-ltb 64 (s .k) (b .k-few), lt-leb 2000 (s .start) (b .start-few))
+      rw (
+        ne-eqb (s .d) 0 (λ e. omega (arith, b .d-pos, e)),
+        ne-eqb (s .k) 0 (λ e. omega (arith, b .k-pos, e)),
+        le-ltb 16 (s .d) (b .d-few),
+        le-ltb 64 (s .k) (b .k-few),
+        lt-leb 2000
+            (s .start) (b .start-few),
+      )
 
 -- a head within its limits, and then what is lent with it
 pub held-known : {s : Settings} {r m : ℕ} → r ≡ orElse (headRow s) m → Bounded s → r ≡ m
@@ -124,4 +131,13 @@ module _ {t : WeightedTransformer} where
       let d = t .«input_length» in
       let h : (differences (t .«transform_method») && unblocked d v) ≡ false =
       ap (λ (k : ℕ). differences (t .«transform_method») && unblocked k v) (sym (f .1 .0)) ∙ f .1 .1 .1 in
-      rw (ne-eqb d 0 (λ e. omega (arith, f .0 .some, e)), le-ltb 16 d (f .0 .few), eq-eqb p d (f .1 .0), eq-eqb v u (sym (f .1 .1 .0 .0)), eq-eqb v l (sym (f .1 .1 .0 .1)), h, le-ltb n (15 * d) (f .0 .room))
+      rw (
+        ne-eqb d 0 (λ e. omega (arith, f .0 .some, e)),
+        le-ltb 16 d (f .0 .few),
+        eq-eqb p d (f .1 .0),
+        eq-eqb v u (sym (f .1 .1 .0 .0)),
+        eq-eqb v l (sym (f .1 .1 .0 .1)),
+        h,
+        le-ltb n
+            (15 * d) (f .0 .room),
+      )

@@ -87,13 +87,15 @@ module _ (h : Preprocessor) (st : List Float) where
   unfolding transformed
   transformed-free x p =
       let t = h .transformer in
-      λ j. tabulate (t .«input_length») (λ i. transformBy-free (t .«transform_method») (t .«input_length») (t .«transform_decay») (take (t .«input_length») (t .weights)) st (t .count) 0 i (t .«transform_method») (getD x i nan) (getD p i nan) j)
+      λ j. tabulate (t .«input_length») (λ i. transformBy-free (t .«transform_method») (t .«input_length») (t .«transform_decay») (take (t .«input_length») (t .weights)) st (t .count) 0 i
+      (t .«transform_method») (getD x i nan) (getD p i nan) j)
 
   pub inverted-free : (x p : List Float) → inverted (viewTransformer (h .transformer) st) x p ≡ inverted (transformer (settingsOf h) 0 st) x p
   unfolding inverted weightAt
   inverted-free x p =
       let t = h .transformer in
-      λ j. tabulate (t .«input_length») (λ i. invertBy-free (t .«transform_method») (t .«input_length») (t .«transform_decay») (take (t .«input_length») (t .weights)) st (t .count) 0 i (t .«transform_method») (unweighted (getD (take (t .«input_length») (t .weights)) i nan) (getD x i nan)) (getD p i nan) j)
+      λ j. tabulate (t .«input_length») (λ i. invertBy-free (t .«transform_method») (t .«input_length») (t .«transform_decay») (take (t .«input_length») (t .weights)) st (t .count) 0 i
+      (t .«transform_method») (unweighted (getD (take (t .«input_length») (t .weights)) i nan) (getD x i nan)) (getD p i nan) j)
 
 -- ---- the newest input
 

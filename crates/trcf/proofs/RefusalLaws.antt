@@ -129,7 +129,8 @@ misfit-room h e = go (waiting (settingsOf h) (h .«values_seen»)) refl
     k : Counted (settingsOf h) (h .«values_seen») (h .«internal_timestamp») (h .transformer .count) (h .«initial_len»)
     k = counted-of (settingsOf h) (h .«values_seen») (h .«internal_timestamp») (h .transformer .count) (h .«initial_len») e
 
-    few : (h .«initial_len» ≡ 0) ⊎ ((normalizes (settingsOf h .method) ≡ true) × (h .«initial_len» ≡ h .«start_normalization») × (h .«values_seen» ≡ h .«start_normalization» → h .«internal_timestamp» ≡ 0))
+    few : (h .«initial_len» ≡ 0) ⊎ ((normalizes (settingsOf h .method) ≡ true) × (h .«initial_len» ≡ h .«start_normalization») ×
+        (h .«values_seen» ≡ h .«start_normalization» → h .«internal_timestamp» ≡ 0))
         → h .«initial_len» ≤ initialRoom (settingsOf h)
     few (inl q) = omega (arith, q)
     few (inr q) = omega (arith, q .1, room-normalizing (settingsOf h) (q .0))

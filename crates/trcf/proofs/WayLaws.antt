@@ -63,7 +63,8 @@ module _ (h : Preprocessor) (l : Lent) (x out : ℕ) where
 
 -- ---- `post_process`
 
-module _ (h : Preprocessor) (st xs ps : List Float) (ts : List ℕ) (vs : List Float) (vt : List ℕ) (x : List Float) (t : ℕ) (hasY : Bool) (y : List Float) (expects : Bool) (e : List Float) (grade : Float) (i i′ : ℤ)
+module _ (h : Preprocessor) (st xs ps : List Float) (ts : List ℕ) (vs : List Float) (vt : List ℕ) (x : List Float) (t : ℕ) (hasY : Bool) (y : List Float) (expects : Bool) (e : List Float)
+    (grade : Float) (i i′ : ℤ)
     (deviationsOut pastOut expectedOut : List Float) (u : i′ ≡ i) (n : ℕ)
     (row : n ≡ rowOf h (lent st xs ps ts vs vt) (postProcess (learnCall x t hasY y expects e grade i′ deviationsOut pastOut expectedOut))) where
   row-is : n ≡ rowOf h (lent st xs ps ts vs vt) (postProcess (learnCall x t hasY y expects e grade i deviationsOut pastOut expectedOut))
@@ -85,7 +86,8 @@ module _ (h : Preprocessor) (st xs ps : List Float) (ts : List ℕ) (vs : List F
     accepted = sym row-is ∙ zero
 
     pub way-held : (b : Bool) → b ≡ waiting (settingsOf h) (h .«values_seen») → b ≡ true → (r : PostProcessed) (vs′ : List Float) (vt′ : List ℕ) (deviationsOut′ : List Float)
-        → r ≡ answering (counting h (h .transformer .count) (suc (h .«values_seen»)) (h .«internal_timestamp») (suc (h .«initial_len»))) (eqb (suc (h .«values_seen»)) (h .«start_normalization»)) false 0 zero32
+        → r ≡ answering (counting h (h .transformer .count) (suc (h .«values_seen»)) (h .«internal_timestamp») (suc (h .«initial_len»)))
+        (eqb (suc (h .«values_seen»)) (h .«start_normalization»)) false 0 zero32
         → vs′ ≡ over vs (take (h .«initial_len» * h .transformer .«input_length») vs ++ x)
         → vt′ ≡ over vt (take (h .«initial_len») vt ++ (t ∷ []))
         → deviationsOut′ ≡ cond (eqb (suc (h .«values_seen»)) (h .«start_normalization»)) (over deviationsOut (deviations (holding h (take (statisticsLength (settingsOf h)) st) [] []))) deviationsOut
@@ -110,15 +112,39 @@ module _ (h : Preprocessor) (st xs ps : List Float) (ts : List ℕ) (vs : List F
     whole-is = post-whole h (lent st xs ps ts vs vt) x t hasY y expects e grade i deviationsOut pastOut expectedOut (ready zero .bounded) accepted
 
     pub room-held : (b : Bool) → b ≡ waiting (settingsOf h) (h .«values_seen») → b ≡ true
-        → Bounded (settingsOf h) × ((statisticsLength (settingsOf h) ≤ length st) × ((length x ≡ h .transformer .«input_length») × ((h .«initial_len» ≡ h .«values_seen») × ((h .«values_seen» < h .«start_normalization»)
-        × ((h .«start_normalization» * h .transformer .«input_length» ≤ length vs) × ((h .«start_normalization» ≤ length vt) × (eqb (suc (h .«values_seen»)) (h .«start_normalization») ≡ true → block (settingsOf h) ≤ length deviationsOut)))))))
+        → Bounded (settingsOf h) × ((statisticsLength (settingsOf h) ≤ length st) ×
+        ((length x ≡ h .transformer .«input_length») × ((h .«initial_len» ≡ h .«values_seen») × ((h .«values_seen» < h .«start_normalization»)
+        × ((h .«start_normalization» * h .transformer .«input_length» ≤ length vs) ×
+        ((h .«start_normalization» ≤ length vt) × (eqb (suc (h .«values_seen»)) (h .«start_normalization») ≡ true → block (settingsOf h) ≤ length deviationsOut)))))))
     room-held b w g =
         let r = ready zero in
         let f = r .fitted .roomy in
-        let v = sym w ∙ g in
-        (r .bounded, (f .in-statistics, (whole-is, (r .fitted .counted v, (waiting-below (settingsOf h) (h .«values_seen») v, (values v (f .in-values), (times v (f .in-initial), waiting-completes h (length y) hasY (length e) expects grade (backOf i) (length deviationsOut) (length pastOut) (length expectedOut) learns-is v)))))))
+        let v = sym w ∙ g in (
+          r .bounded,
+          (
+            f .in-statistics,
+            (
+              whole-is,
+              (
+                r .fitted .counted v,
+                (
+                  waiting-below (settingsOf h) (h .«values_seen») v,
+                  (
+                    values v (f .in-values),
+                    (
+                      times v (f .in-initial),
+                      waiting-completes h (length y) hasY (length e) expects grade (backOf i) (length deviationsOut) (length pastOut)
+                          (length expectedOut) learns-is v,
+                    ),
+                  ),
+                ),
+              ),
+            ),
+          ),
+        )
       where
-        values : waiting (settingsOf h) (h .«values_seen») ≡ true → initialRoom (settingsOf h) * h .transformer .«input_length» ≤ length vs → h .«start_normalization» * h .transformer .«input_length» ≤ length vs
+        values : waiting (settingsOf h) (h .«values_seen») ≡ true → initialRoom (settingsOf h) * h .transformer .«input_length» ≤ length vs → h .«start_normalization» *
+            h .transformer .«input_length» ≤ length vs
         values v = subst (λ (r : ℕ). r * h .transformer .«input_length» ≤ length vs) (room-waiting (settingsOf h) (h .«values_seen») v)
 
         times : waiting (settingsOf h) (h .«values_seen») ≡ true → initialRoom (settingsOf h) ≤ length vt → h .«start_normalization» ≤ length vt
@@ -131,16 +157,36 @@ module _ (h : Preprocessor) (st xs ps : List Float) (ts : List ℕ) (vs : List F
       back-is : back ≡ backOf i
       back-is = placed ∙ ap backOf u
 
-      pub room-learnt : Bounded (settingsOf h) × ((statisticsLength (settingsOf h) ≤ length st) × ((h .transformer .«input_length» * h .«shingle_size» ≤ length xs) × ((dimension (settingsOf h) ≤ length ps) × ((h .«shingle_size» ≤ length ts)
+      pub room-learnt : Bounded (settingsOf h) × ((statisticsLength (settingsOf h) ≤ length st) ×
+          ((h .transformer .«input_length» * h .«shingle_size» ≤ length xs) × ((dimension (settingsOf h) ≤ length ps) × ((h .«shingle_size» ≤ length ts)
           × ((length x ≡ h .transformer .«input_length») × Learnable h (length y) (length e) expects grade back (length deviationsOut) (length pastOut) (length expectedOut))))))
       room-learnt =
           let r = ready zero in
-          let f = r .fitted .roomy in
-          (r .bounded, (f .in-statistics, (f .in-input, (f .in-point, (f .in-times, (whole-is, subst (λ (m : ℕ). Learnable h (length y) (length e) expects grade m (length deviationsOut) (length pastOut) (length expectedOut)) (sym back-is) can-learn))))))
+          let f = r .fitted .roomy in (
+            r .bounded,
+            (
+              f .in-statistics,
+              (
+                f .in-input,
+                (
+                  f .in-point,
+                  (
+                    f .in-times,
+                    (
+                      whole-is,
+                      subst (λ (m : ℕ). Learnable h (length y) (length e) expects grade m (length deviationsOut) (length pastOut) (length expectedOut)) (sym back-is)
+                          can-learn,
+                    ),
+                  ),
+                ),
+              ),
+            ),
+          )
 
       pub way-learnt : (p : LearnParts) → p ≡ learnedParts h st xs ps ts x t y e (lt zero32 grade && expects) back deviationsOut pastOut expectedOut
           → outcomeOf p vs vt ≡ learnAfter h (lent st xs ps ts vs vt) (learnCall x t hasY y expects e grade i deviationsOut pastOut expectedOut)
       way-learnt p q =
           ap (λ (p : LearnParts). outcomeOf p vs vt) q
           ∙ ap (λ (m : ℕ). outcomeOf (learnedParts h st xs ps ts x t y e (lt zero32 grade && expects) m deviationsOut pastOut expectedOut) vs vt) back-is
-          ∙ learn-whole h (lent st xs ps ts vs vt) x t hasY y expects e grade i deviationsOut pastOut expectedOut (ready zero .bounded .k-few) (ready zero .fitted) has (λ z. can-learn .found z .inside) accepted (sym w ∙ g)
+          ∙ learn-whole h (lent st xs ps ts vs vt) x t hasY y expects e grade i deviationsOut pastOut expectedOut (ready zero .bounded .k-few) (ready zero .fitted) has
+          (λ z. can-learn .found z .inside) accepted (sym w ∙ g)

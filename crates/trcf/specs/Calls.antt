@@ -9,7 +9,7 @@ use lib.ListN.{length}
 use lib.Ieee.{Float, nan, inf, fin, binary32, binary64, lt}
 use Rattle.refusal.specs.Refusal.{firstOf}
 use Rattle.common.specs.Deviation.{countLimit}
-use Rattle.ranges.specs.RangeVector.{Ranges, unblocked}
+use Rattle.ranges.specs.RangeVector.{Ranges, unequalAt, unblocked, shorterAt}
 use Rattle.trcf.specs.Lists.{lastOr, null}
 use Rattle.trcf.specs.Types.{augments, isGap, differences}
 use Rattle.trcf.specs.Transformer.{zero32}
@@ -143,11 +143,8 @@ sizesOf c =
 -- row 16 of a turn-back: "unequal lengths; where blocks are cascaded, none or a broken one; TIME_AUGMENTED under one block of `get_dimension` numbers"
 unfoldable pub forecastUnfit : Settings → ℕ → ℕ → ℕ → Bool
 forecastUnfit s v u l =
-    not (eqb v u && eqb v l)
+    unequalAt v u l
     || cond (augments (s .mode)) (ltb v (dimension s)) (differences (s .method) && unblocked (s .d) v)
-
-abbrev pub shorterAt : ℕ → ℕ → ℕ → ℕ → Bool
-shorterAt v u l n = ltb v n || (ltb u n || ltb l n)
 
 -- row 20 of a turn-back: TIME_AUGMENTED writes d × k numbers and one time a block; STANDARD works in place
 unfoldable pub forecastOutputShort : Settings → Sizes → Bool

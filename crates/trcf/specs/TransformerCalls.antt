@@ -8,7 +8,7 @@ use lib.Ieee.{Float}
 use Rattle.refusal.specs.Refusal.{firstOf, accepted}
 use Rattle.refusal.specs.Lent.{over}
 use Rattle.common.specs.Deviation.{zero64, countLimit, outsideUnit}
-use Rattle.ranges.specs.RangeVector.{Ranges, RangeOutcome, rangeAnswer, unblocked}
+use Rattle.ranges.specs.RangeVector.{Ranges, RangeOutcome, rangeAnswer, unequalAt, unblocked}
 use Rattle.trcf.specs.Types.{isNone, differences}
 use Rattle.trcf.specs.Settings.{inputLimit, allOne}
 use Rattle.trcf.specs.Transformer.{Transformer, zero32, updated, transformed, inverted, invertedForecast, scales, shifts, differenceDeviations}
@@ -68,7 +68,7 @@ forecastRow m d p v u l s =
     ((eqb d 0, 2)
     ∷ (ltb inputLimit d, 4)
     ∷ (not (eqb p d), 10)
-    ∷ (not (eqb v u && eqb v l), 16)
+    ∷ (unequalAt v u l, 16)
     ∷ (differences m && unblocked d v, 16)
     ∷ (ltb s (15 * d), 20)
     ∷ [])

@@ -22,14 +22,14 @@ ghost use lib.IntN.{pos};
 ghost use lib.ListN.{length};
 ghost use lib.Ieee.{binary64, mul, ofInt};
 ghost use Rattle.refusal.specs.Refusal.{firstOf};
-ghost use Rattle.ranges.specs.RangeVector.{range, ranges, scaled, unblocked, cascadeTo, overAll};
+ghost use Rattle.ranges.specs.RangeVector.{range, ranges, scaled, unblocked, cascadeTo, overAll, shorterAt};
 ghost use Rattle.trcf.specs.Lists.{lastN};
 ghost use Rattle.trcf.specs.Types.{augments, differences};
 ghost use Rattle.trcf.specs.Transformer.{invertedForecast};
 ghost use Rattle.trcf.specs.Settings.{transformer, dimension};
 ghost use Rattle.trcf.specs.Preprocessor.{statisticsLength, fronts, backs, invertTimes, numbersOf, timesOf, turnedBack};
 ghost use Rattle.trcf.specs.View.{settingsOf, holding, countersUnfit, orElse, Bounded};
-ghost use Rattle.trcf.specs.Calls.{sizes, forecastUnfit, shorterAt, forecastOutputShort};
+ghost use Rattle.trcf.specs.Calls.{sizes, forecastUnfit, forecastOutputShort};
 ghost use Rattle.trcf.specs.Extrapolation.{extrapolation, forecast, viewed, extrapolationOf, readShort, rowAt};
 ghost use Rattle.trcf.specs.Steps.Inverting.{Unbroken, Longer, Long, Readable, Invertible, timeFactor, stretched, timeBy, timesBy};
 

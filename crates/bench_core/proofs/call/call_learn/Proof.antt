@@ -79,12 +79,14 @@ returns c =
     let c24 = c16 .before .before .before .before .before .before .before .before in
     let c32 = c24 .before .before .before .before .before .before .before .before in
     let c40 = c32 .before .before .before .before .before .before .before .before in
+    let at-get-dimension = c32 .before .before .before .get-dimension in
+    let at-least = c32 .before .before .least in
+    let at-every-right = c32 .before .every-right in
     let a = c40 .before .before .before .before .before .args in
-    learn-turn (c32 .before .every-right .result) (c32 .before .every-right .ensures) (a .head) (a .given)
-    (lent (a .statistics .now) (a .last-shingled-input .now) (a .last-shingled-point .now) (a .previous-timestamps .now) (a .initial-values .now) (a .initial-timestamps .now))
-    (a .out .now) (a .input .now) (a .timestamp) (a .point .now)
-    (take-least (c32 .before .before .before .get-dimension .result) (c32 .before .before .least .result) (a .point .now) (c32 .before .before .least .ensures .0) ∙ ap (λ (i : ℕ). take i (a .point .now)) (c32 .before .before .before .get-dimension .ensures))
-    (c16 .before .before .before .before .post-process .ensures) (c .before .before .print-ok .ensures)
+    learn-turn (at-every-right .result) (at-every-right .ensures) (a .head) (a .given)
+    (lent (a .statistics .now) (a .last-shingled-input .now) (a .last-shingled-point .now) (a .previous-timestamps .now) (a .initial-values .now) (a .initial-timestamps .now)) (a .out .now)
+    (a .input .now) (a .timestamp) (a .point .now) (take-least (at-get-dimension .result) (at-least .result) (a .point .now) (at-least .ensures .0) ∙ ap (λ (i : ℕ). take i (a .point .now))
+    (at-get-dimension .ensures)) (c16 .before .before .before .before .post-process .ensures) (c .before .before .print-ok .ensures)
 
 pub call-learn-spec : {M : Type 1} → statement M
 call-learn-spec =

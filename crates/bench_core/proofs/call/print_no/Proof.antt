@@ -14,7 +14,10 @@ same-length c = search needs
 
 returns : tie.Need-returns
 unfolding noText
-returns c = printed (noText (c .before .before .before .before .before .args .row)) (c .before .before .before .before .before .args .out .now) (omega (arith, no-fits (c .before .before .before .before .before .args .row) (omega arith), c .before .before .before .before .before .pre)) (c .before .before .whole-line .ensures)
+returns c =
+    let at-args = c .before .before .before .before .before .args in
+    printed (noText (at-args .row)) (at-args .out .now) (omega (arith, no-fits (at-args .row) (omega arith), c .before .before .before .before .before .pre))
+    (c .before .before .whole-line .ensures)
 
 pub print-no-spec : {M : Type 1} → statement M
 print-no-spec = tie.close (tie.spec whole-line-requires same-length returns)

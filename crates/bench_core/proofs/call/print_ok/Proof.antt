@@ -15,7 +15,9 @@ same-length : tie.Need-same-length
 same-length c = search needs
 
 returns : tie.Need-returns
-returns c = c .before .before .print-no .ensures ∙ done-refused (c .before .before .before .before .before .before .args .row) (c .before .before .before .before .before .before .args .out .now) (c .before .before .before .before .if1 .taken)
+returns c =
+    let at-args = c .before .before .before .before .before .before .args in
+    c .before .before .print-no .ensures ∙ done-refused (at-args .row) (at-args .out .now) (c .before .before .before .before .if1 .taken)
 
 slice-write-out : tie.Need-slice-write-out
 slice-write-out c = search needs

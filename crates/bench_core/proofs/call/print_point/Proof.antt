@@ -24,7 +24,13 @@ same-length c = search needs
 
 returns : tie.Need-returns
 unfolding dimensionOf
-returns c = point-line (c .before .before .before .before .before .before .before .before .before .args .head) (c .before .before .before .before .before .before .before .before .before .args .point .now) (c .before .before .before .before .before .before .before .before .before .args .out .now) (c .before .before .before .before .before .before .get-dimension .result) (c .before .before .before .before .before .least .result) (c .before .before .before .before .before .before .before .before .before .pre) (c .before .before .before .before .before .before .get-dimension .ensures) (c .before .before .before .before .before .least .ensures .0) (c .before .before .singles-line .ensures)
+returns c =
+    let c8 = c .before .before .before .before .before .before .before .before in
+    let at-args = c8 .before .args in
+    let at-get-dimension = c .before .before .before .before .before .before .get-dimension in
+    let at-least = c .before .before .before .before .before .least in
+    point-line (at-args .head) (at-args .point .now) (at-args .out .now) (at-get-dimension .result) (at-least .result) (c8 .before .pre) (at-get-dimension .ensures) (at-least .ensures .0)
+    (c .before .before .singles-line .ensures)
 
 pub print-point-spec : {M : Type 1} → statement M
 print-point-spec =

@@ -22,13 +22,21 @@ shared-slice-read-if1 : tie.Need-shared-slice-read-if1 Inv-loop μ-loop
 shared-slice-read-if1 c = omega arith
 
 returns : tie.Need-returns Inv-loop μ-loop
-returns c = let q = at-tab (c .before .before .before .before .args .text .now) (c .before .before .before .loop .i) (c .before .before .loop-test .taken) (c .if1 .taken) in (omega (arith, c .before .before .before .loop .inv .1, q), (omega (arith, c .before .before .loop-test .taken), omega arith))
+returns c =
+    let at-loop = c .before .before .before .loop in
+    let at-loop-test = c .before .before .loop-test in
+    let q = at-tab (c .before .before .before .before .args .text .now) (at-loop .i) (at-loop-test .taken) (c .if1 .taken) in
+    (omega (arith, at-loop .inv .1, q), (omega (arith, at-loop-test .taken), omega arith))
 
 shared-slice-read-if2 : tie.Need-shared-slice-read-if2 Inv-loop μ-loop
 shared-slice-read-if2 c = omega arith
 
 returns-2 : tie.Need-returns-2 Inv-loop μ-loop
-returns-2 c = let q = at-end (c .before .before .before .before .before .before .args .text .now) (c .before .before .before .before .before .loop .i) (c .before .before .before .before .loop-test .taken) (c .before .before .if1 .left) (c .if2 .taken) in (omega (arith, c .before .before .before .before .before .loop .inv .1, q), (omega (arith, c .before .before .before .before .loop-test .taken), omega arith))
+returns-2 c =
+    let at-loop = c .before .before .before .before .before .loop in
+    let at-loop-test = c .before .before .before .before .loop-test in
+    let q = at-end (c .before .before .before .before .before .before .args .text .now) (at-loop .i) (at-loop-test .taken) (c .before .before .if1 .left) (c .if2 .taken) in
+    (omega (arith, at-loop .inv .1, q), (omega (arith, at-loop-test .taken), omega arith))
 
 add-i : tie.Need-add-i Inv-loop μ-loop
 add-i c = omega arith
@@ -37,7 +45,11 @@ loop-less : tie.Need-loop-less Inv-loop μ-loop
 loop-less c = omega arith
 
 loop-again : tie.Need-loop-again Inv-loop μ-loop
-loop-again c = let q = within (c .before .before .before .before .before .before .args .text .now) (c .before .before .before .before .before .loop .i) (c .before .before .before .before .loop-test .taken) (c .before .before .if1 .left) (c .if2 .left) in (omega (arith, c .before .before .before .before .loop-test .taken), rw (add-one (c .before .before .before .before .before .loop .i)) (omega (arith, c .before .before .before .before .before .loop .inv .1, q)))
+loop-again c =
+    let at-loop = c .before .before .before .before .before .loop in
+    let at-loop-test = c .before .before .before .before .loop-test in
+    let q = within (c .before .before .before .before .before .before .args .text .now) (at-loop .i) (at-loop-test .taken) (c .before .before .if1 .left) (c .if2 .left) in
+    (omega (arith, at-loop-test .taken), rw (add-one (at-loop .i)) (omega (arith, at-loop .inv .1, q)))
 
 returns-3 : tie.Need-returns-3 Inv-loop μ-loop
 returns-3 c = (omega (arith, c .before .loop .inv .1, none-left (c .before .before .args .text .now) (c .before .loop .i) (c .loop-test .left)), (c .before .loop .inv .0, omega arith))

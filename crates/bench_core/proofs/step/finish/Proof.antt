@@ -23,7 +23,10 @@ same-length : tie.Need-same-length
 same-length c = search needs
 
 returns-2 : tie.Need-returns-2
-returns-2 c = finish-done (c .before .before .before .before .before .before .before .before .args .b) (c .before .before .before .before .before .before .before .before .args .rest .now) (c .before .before .before .before .before .before .before .before .args .out .now) (c .before .before .before .before .before .if1 .left) (c .before .before .before .finished-by .ensures)
+returns-2 c =
+    let c8 = c .before .before .before .before .before .before .before .before in
+    let at-args = c8 .args in
+    finish-done (at-args .b) (at-args .rest .now) (at-args .out .now) (c .before .before .before .before .before .if1 .left) (c .before .before .before .finished-by .ensures)
 
 pub finish-spec : {M : Type 1} → statement M
 finish-spec = tie.close (tie.spec idle-requires returns finished-by-requires same-length returns-2)

@@ -30,7 +30,12 @@ same-length : tie.Need-same-length
 same-length c = search needs
 
 returns : tie.Need-returns
-returns c = c .before .before .ended3 .ensures ∙ ends-begun (c .before .before .before .before .before .before .before .before .before .before .before .args .b) (c .before .before .before .before .before .before .before .before .before .before .before .args .rest .now) (c .before .before .before .before .before .before .before .before .before .before .before .args .out .now) (sym (c .before .before .before .before .before .is-begun .ensures) ∙ c .before .before .before .before .if1 .taken) ∙ finish-by (c .before .before .before .before .before .before .before .before .before .before .before .args .b) (c .before .before .before .before .before .before .before .before .before .before .before .args .rest .now) (c .before .before .before .before .before .before .before .before .before .before .before .args .out .now) _ (c .before .before .before .before .before .before .enum-told3 .given .1)
+returns c =
+    let c8 = c .before .before .before .before .before .before .before .before in
+    let at-args = c8 .before .before .before .args in
+    c .before .before .ended3 .ensures ∙ ends-begun (at-args .b) (at-args .rest .now) (at-args .out .now)
+    (sym (c .before .before .before .before .before .is-begun .ensures) ∙ c .before .before .before .before .if1 .taken) ∙ finish-by (at-args .b) (at-args .rest .now) (at-args .out .now) _
+    (c .before .before .before .before .before .before .enum-told3 .given .1)
 
 ended-well-requires : tie.Need-ended-well-requires
 ended-well-requires c κs = search needs
@@ -45,19 +50,33 @@ same-length-2 : tie.Need-same-length-2
 same-length-2 c = search needs
 
 returns-2 : tie.Need-returns-2
-returns-2 c = c .before .before .ended .ensures ∙ finish-by (c .before .before .before .before .before .before .before .before .before .args .b) (c .before .before .before .before .before .before .before .before .before .args .rest .now) (c .before .before .before .before .before .before .before .before .before .args .out .now) _ (c .before .before .before .before .enum-told .given .1)
+returns-2 c =
+    let c8 = c .before .before .before .before .before .before .before .before in
+    let at-args = c8 .before .args in
+    c .before .before .ended .ensures ∙ finish-by (at-args .b) (at-args .rest .now) (at-args .out .now) _ (c .before .before .before .before .enum-told .given .1)
 
 same-length-3 : tie.Need-same-length-3
 same-length-3 c = search needs
 
 returns-3 : tie.Need-returns-3
-returns-3 c = c .before .before .ended2 .ensures ∙ finish-by (c .before .before .before .before .before .before .before .before .before .args .b) (c .before .before .before .before .before .before .before .before .before .args .rest .now) (c .before .before .before .before .before .before .before .before .before .args .out .now) _ (c .before .before .before .before .enum-told2 .given .1)
+returns-3 c =
+    let c8 = c .before .before .before .before .before .before .before .before in
+    let at-args = c8 .before .args in
+    c .before .before .ended2 .ensures ∙ finish-by (at-args .b) (at-args .rest .now) (at-args .out .now) _ (c .before .before .before .before .enum-told2 .given .1)
 
 returns-4 : tie.Need-returns-4
-returns-4 c = ends-well (c .before .before .before .before .before .before .before .before .args .b) (c .before .before .before .before .before .before .before .before .args .rest .now) (c .before .before .before .before .before .before .before .before .args .out .now) (c .ended-well .ensures .0) (c .ended-well .ensures .1) ∙ ends-there (c .before .before .before .before .before .before .before .before .args .b) (c .before .before .before .before .before .before .before .before .args .rest .now) (c .before .before .before .before .before .before .before .before .args .out .now) (sym (c .before .before .is-begun .ensures) ∙ c .before .if1 .left) ∙ finish-by (c .before .before .before .before .before .before .before .before .args .b) (c .before .before .before .before .before .before .before .before .args .rest .now) (c .before .before .before .before .before .before .before .before .args .out .now) _ (c .before .before .before .enum-told3 .given .1)
+returns-4 c =
+    let c8 = c .before .before .before .before .before .before .before .before in
+    let at-args = c8 .args in
+    ends-well (at-args .b) (at-args .rest .now) (at-args .out .now) (c .ended-well .ensures .0) (c .ended-well .ensures .1) ∙ ends-there (at-args .b) (at-args .rest .now)
+    (at-args .out .now) (sym (c .before .before .is-begun .ensures) ∙ c .before .if1 .left) ∙ finish-by (at-args .b) (at-args .rest .now) (at-args .out .now) _
+    (c .before .before .before .enum-told3 .given .1)
 
 returns-5 : tie.Need-returns-5
-returns-5 c = ends-well (c .before .before .before .before .before .before .args .b) (c .before .before .before .before .before .before .args .rest .now) (c .before .before .before .before .before .before .args .out .now) (c .ended-well2 .ensures .0) (c .ended-well2 .ensures .1) ∙ finish-by (c .before .before .before .before .before .before .args .b) (c .before .before .before .before .before .before .args .rest .now) (c .before .before .before .before .before .before .args .out .now) _ (c .before .enum-told4 .given .1)
+returns-5 c =
+    let at-args = c .before .before .before .before .before .before .args in
+    ends-well (at-args .b) (at-args .rest .now) (at-args .out .now) (c .ended-well2 .ensures .0) (c .ended-well2 .ensures .1) ∙ finish-by (at-args .b) (at-args .rest .now)
+    (at-args .out .now) _ (c .before .enum-told4 .given .1)
 
 pub finished-by-spec : {M : Type 1} → statement M
 finished-by-spec =

@@ -17,17 +17,22 @@ array-read-time c = search needs
 
 array-share-prefix-singles : tie.Need-array-share-prefix-singles
 array-share-prefix-singles c =
-    let s = c .before .before .before .before .before .before .before .before .before .before .before .before .before .before .before .before .before .before .before in
+    let c8 = c .before .before .before .before .before .before .before .before in
+    let c16 = c8 .before .before .before .before .before .before .before .before in
+    let s = c16 .before .before .before in
     let w = s .args .l .singles in
     let z : length w ≡ 17 = seventeen w (s .good .1 .0 .1 .1 .1 .1 .1 .1 .1 .0 .1 .0 .1) in
-    omega (arith, z, c .before .before .before .before .before .before .before .before .before .kept .ensures .1)
+    omega (arith, z, c8 .before .kept .ensures .1)
 
 slice-aggregate-call-point : tie.Need-slice-aggregate-call-point
 slice-aggregate-call-point c =
-    let s = c .before .before .before .before .before .before .before .before .before .before .before .before .before .before .before .before .before .before .before .before in
+    let c8 = c .before .before .before .before .before .before .before .before in
+    let c16 = c8 .before .before .before .before .before .before .before .before in
+    let at-kept = c8 .before .before .kept in
+    let s = c16 .before .before .before .before in
     let w = s .args .l .singles in
     let z : length w ≡ 17 = seventeen w (s .good .1 .0 .1 .1 .1 .1 .1 .1 .1 .0 .1 .0 .1) in
-    sym (length-take-le (c .before .before .before .before .before .before .before .before .before .before .kept .result) w (omega (arith, z, c .before .before .before .before .before .before .before .before .before .before .kept .ensures .1)))
+    sym (length-take-le (at-kept .result) w (omega (arith, z, at-kept .ensures .1)))
 
 call-point-requires : tie.Need-call-point-requires
 call-point-requires c κs = search needs
@@ -61,34 +66,35 @@ same-length-8 c = search needs
 
 returns : tie.Need-returns
 returns c =
-    let a = c .before .before .before .before .before .before .before .before .before .before .before .before .before .before .before .before .before .before .before .before .before .before .before .before .before .before .before .before .before .before .before .before .before .before .before .before .args in
-    let k = c .before .before .before .before .before .before .before .before .before .before .before .before .before .before .before .before .before .before .before .before .before .before .before .before .before .before .kept in
-    point-read
-    (a .b)
-    (a .l)
-    (lent (a .statistics .now) (a .last-shingled-input .now) (a .last-shingled-point .now) (a .previous-timestamps .now) (a .initial-values .now) (a .initial-timestamps .now))
-    (a .point .now)
-    (a .out .now)
-    (a .asks)
-    (kept-of (a .l) (k .result) (k .ensures .0))
-    (c .before .before .before .before .before .before .before .before .before .before .before .before .before .before .before .before .before .before .before .before .before .before .before .if1 .taken)
-    (c .before .before .before .before .before .before .before .before .before .before .before .before .before .call-point .ensures)
-    (c .answered .ensures .0)
+    let c8 = c .before .before .before .before .before .before .before .before in
+    let c16 = c8 .before .before .before .before .before .before .before .before in
+    let c24 = c16 .before .before .before .before .before .before .before .before in
+    let c32 = c24 .before .before .before .before .before .before .before .before in
+    let a = c32 .before .before .before .before .args in
+    let k = c24 .before .before .kept in
+    point-read (a .b) (a .l) (lent (a .statistics .now) (a .last-shingled-input .now) (a .last-shingled-point .now) (a .previous-timestamps .now) (a .initial-values .now)
+    (a .initial-timestamps .now)) (a .point .now) (a .out .now) (a .asks) (kept-of (a .l) (k .result) (k .ensures .0))
+    (c16 .before .before .before .before .before .before .before .if1 .taken) (c8 .before .before .before .before .before .call-point .ensures) (c .answered .ensures .0)
     (c .answered .ensures .1)
 
 array-share-prefix-singles-2 : tie.Need-array-share-prefix-singles-2
 array-share-prefix-singles-2 c =
-    let s = c .before .before .before .before .before .before .before .before .before .before .before .before .before .before .before .before .before .before .before in
+    let c8 = c .before .before .before .before .before .before .before .before in
+    let c16 = c8 .before .before .before .before .before .before .before .before in
+    let s = c16 .before .before .before in
     let w = s .args .l .singles in
     let z : length w ≡ 17 = seventeen w (s .good .1 .0 .1 .1 .1 .1 .1 .1 .1 .0 .1 .0 .1) in
-    omega (arith, z, c .before .before .before .before .before .before .before .before .before .kept .ensures .1)
+    omega (arith, z, c8 .before .kept .ensures .1)
 
 slice-aggregate-call-learn : tie.Need-slice-aggregate-call-learn
 slice-aggregate-call-learn c =
-    let s = c .before .before .before .before .before .before .before .before .before .before .before .before .before .before .before .before .before .before .before .before in
+    let c8 = c .before .before .before .before .before .before .before .before in
+    let c16 = c8 .before .before .before .before .before .before .before .before in
+    let at-kept = c8 .before .before .kept in
+    let s = c16 .before .before .before .before in
     let w = s .args .l .singles in
     let z : length w ≡ 17 = seventeen w (s .good .1 .0 .1 .1 .1 .1 .1 .1 .1 .0 .1 .0 .1) in
-    sym (length-take-le (c .before .before .before .before .before .before .before .before .before .before .kept .result) w (omega (arith, z, c .before .before .before .before .before .before .before .before .before .before .kept .ensures .1)))
+    sym (length-take-le (at-kept .result) w (omega (arith, z, at-kept .ensures .1)))
 
 call-learn-requires : tie.Need-call-learn-requires
 call-learn-requires c κs = search needs
@@ -122,20 +128,15 @@ same-length-16 c = search needs
 
 returns-2 : tie.Need-returns-2
 returns-2 c =
-    let a = c .before .before .before .before .before .before .before .before .before .before .before .before .before .before .before .before .before .before .before .before .before .before .before .before .before .before .before .before .before .before .before .before .before .before .before .before .before .before .args in
-    let k = c .before .before .before .before .before .before .before .before .before .before .before .before .before .before .before .before .before .before .before .before .before .before .before .before .before .before .before .before .kept in
-    learn-read
-    (a .b)
-    (a .l)
-    (lent (a .statistics .now) (a .last-shingled-input .now) (a .last-shingled-point .now) (a .previous-timestamps .now) (a .initial-values .now) (a .initial-timestamps .now))
-    (a .point .now)
-    (a .out .now)
-    (a .asks)
-    (kept-of (a .l) (k .result) (k .ensures .0))
-    (c .before .before .before .before .before .before .before .before .before .before .before .before .before .before .before .before .before .before .before .before .before .before .before .before .before .if1 .left)
-    (c .before .before .before .before .before .before .before .before .before .before .before .before .before .before .before .call-learn .ensures)
-    (c .answered2 .ensures .0)
-    (c .answered2 .ensures .1)
+    let c8 = c .before .before .before .before .before .before .before .before in
+    let c16 = c8 .before .before .before .before .before .before .before .before in
+    let c24 = c16 .before .before .before .before .before .before .before .before in
+    let c32 = c24 .before .before .before .before .before .before .before .before in
+    let a = c32 .before .before .before .before .before .before .args in
+    let k = c24 .before .before .before .before .kept in
+    learn-read (a .b) (a .l) (lent (a .statistics .now) (a .last-shingled-input .now) (a .last-shingled-point .now) (a .previous-timestamps .now) (a .initial-values .now)
+    (a .initial-timestamps .now)) (a .point .now) (a .out .now) (a .asks) (kept-of (a .l) (k .result) (k .ensures .0)) (c24 .before .if1 .left)
+    (c8 .before .before .before .before .before .before .before .call-learn .ensures) (c .answered2 .ensures .0) (c .answered2 .ensures .1)
 
 pub read-reading-spec : {M : Type 1} → statement M
 read-reading-spec =

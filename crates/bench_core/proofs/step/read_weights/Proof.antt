@@ -15,21 +15,28 @@ kept-requires c κs = search needs
 
 array-share-prefix-singles : tie.Need-array-share-prefix-singles
 array-share-prefix-singles c =
-    let w = c .before .before .before .before .before .before .before .before .before .before .args .l .singles in
-    let z : length w ≡ 17 = seventeen w (c .before .before .before .before .before .before .before .before .before .before .good .1 .0 .1 .1 .1 .1 .1 .1 .1 .0 .1 .0 .1) in
+    let c8 = c .before .before .before .before .before .before .before .before in
+    let w = c8 .before .before .args .l .singles in
+    let z : length w ≡ 17 = seventeen w (c8 .before .before .good .1 .0 .1 .1 .1 .1 .1 .1 .1 .0 .1 .0 .1) in
     omega (arith, z, c .before .kept .ensures .1)
 
 slice-aggregate-build-bare : tie.Need-slice-aggregate-build-bare
 slice-aggregate-build-bare c =
-    let w = c .before .before .before .before .before .before .before .before .before .before .before .args .l .singles in
-    let z : length w ≡ 17 = seventeen w (c .before .before .before .before .before .before .before .before .before .before .before .good .1 .0 .1 .1 .1 .1 .1 .1 .1 .0 .1 .0 .1) in
-    sym (length-take-le (c .before .before .kept .result) w (omega (arith, z, c .before .before .kept .ensures .1)))
+    let c8 = c .before .before .before .before .before .before .before .before in
+    let at-kept = c .before .before .kept in
+    let w = c8 .before .before .before .args .l .singles in
+    let z : length w ≡ 17 = seventeen w (c8 .before .before .before .good .1 .0 .1 .1 .1 .1 .1 .1 .1 .0 .1 .0 .1) in
+    sym (length-take-le (at-kept .result) w (omega (arith, z, at-kept .ensures .1)))
 
 build-bare-requires : tie.Need-build-bare-requires
 build-bare-requires c κs = search needs
 
 ended-requires : tie.Need-ended-requires
-ended-requires c κs = c .before .before .before .before .before .before .before .before .before .before .before .before .before .before .before .before .before .before .before .before .before .before .before .before .before .before .pre
+ended-requires c κs =
+    let c8 = c .before .before .before .before .before .before .before .before in
+    let c16 = c8 .before .before .before .before .before .before .before .before in
+    let c24 = c16 .before .before .before .before .before .before .before .before in
+    c24 .before .before .pre
 
 same-length : tie.Need-same-length
 same-length c = search needs
@@ -47,7 +54,16 @@ same-length-5 : tie.Need-same-length-5
 same-length-5 c = search needs
 
 returns : tie.Need-returns
-returns c = λ y. weights-refused (c .before .before .before .before .before .before .before .before .before .before .before .before .before .before .before .before .before .before .before .before .before .before .before .before .before .before .before .before .before .args .b) (c .before .before .before .before .before .before .before .before .before .before .before .before .before .before .before .before .before .before .before .before .before .before .before .before .before .before .before .before .before .args .out .now) (c .before .before .before .before .before .before .before .before .before .before .before .before .before .before .before .before .before .before .before .before .before .before .before .before .before .before .before .before .before .args .l) (lent (c .before .before .before .before .before .before .before .before .before .before .before .before .before .before .before .before .before .before .before .before .before .before .before .before .before .before .before .before .before .args .statistics .now) (c .before .before .before .before .before .before .before .before .before .before .before .before .before .before .before .before .before .before .before .before .before .before .before .before .before .before .before .before .before .args .last-shingled-input .now) (c .before .before .before .before .before .before .before .before .before .before .before .before .before .before .before .before .before .before .before .before .before .before .before .before .before .before .before .before .before .args .last-shingled-point .now) (c .before .before .before .before .before .before .before .before .before .before .before .before .before .before .before .before .before .before .before .before .before .before .before .before .before .before .before .before .before .args .previous-timestamps .now) (c .before .before .before .before .before .before .before .before .before .before .before .before .before .before .before .before .before .before .before .before .before .before .before .before .before .before .before .before .before .args .initial-values .now) (c .before .before .before .before .before .before .before .before .before .before .before .before .before .before .before .before .before .before .before .before .before .before .before .before .before .before .before .before .before .args .initial-timestamps .now)) y (kept-of (c .before .before .before .before .before .before .before .before .before .before .before .before .before .before .before .before .before .before .before .before .before .before .before .before .before .before .before .before .before .args .l) (c .before .before .before .before .before .before .before .before .before .before .before .before .before .before .before .before .before .before .before .before .kept .result) (c .before .before .before .before .before .before .before .before .before .before .before .before .before .before .before .before .before .before .before .before .kept .ensures .0)) (c .before .before .before .before .before .before .before .before .before .before .before .before .before .build-bare .ensures) (c .before .before .before .before .if1 .taken) (c .before .before .ended .ensures)
+returns c =
+    let c8 = c .before .before .before .before .before .before .before .before in
+    let c16 = c8 .before .before .before .before .before .before .before .before in
+    let c24 = c16 .before .before .before .before .before .before .before .before in
+    let at-args = c24 .before .before .before .before .before .args in
+    let at-kept = c16 .before .before .before .before .kept in
+    λ y. weights-refused (at-args .b) (at-args .out .now) (at-args .l)
+    (lent (at-args .statistics .now) (at-args .last-shingled-input .now) (at-args .last-shingled-point .now) (at-args .previous-timestamps .now) (at-args .initial-values .now)
+    (at-args .initial-timestamps .now)) y (kept-of (at-args .l) (at-kept .result) (at-kept .ensures .0)) (c8 .before .before .before .before .before .build-bare .ensures)
+    (c .before .before .before .before .if1 .taken) (c .before .before .ended .ensures)
 
 bench-of-requires : tie.Need-bench-of-requires
 bench-of-requires c κs = search needs
@@ -65,7 +81,15 @@ same-length-9 : tie.Need-same-length-9
 same-length-9 c = search needs
 
 returns-2 : tie.Need-returns-2
-returns-2 c = λ y. weights-built (c .before .before .before .before .before .before .before .before .before .before .before .before .before .before .before .before .before .before .before .before .before .before .before .before .before .before .before .args .b) (c .before .before .before .before .before .before .before .before .before .before .before .before .before .before .before .before .before .before .before .before .before .before .before .before .before .before .before .args .out .now) (c .before .before .before .before .before .before .before .before .before .before .before .before .before .before .before .before .before .before .before .before .before .before .before .before .before .before .before .args .l) (lent (c .before .before .before .before .before .before .before .before .before .before .before .before .before .before .before .before .before .before .before .before .before .before .before .before .before .before .before .args .statistics .now) (c .before .before .before .before .before .before .before .before .before .before .before .before .before .before .before .before .before .before .before .before .before .before .before .before .before .before .before .args .last-shingled-input .now) (c .before .before .before .before .before .before .before .before .before .before .before .before .before .before .before .before .before .before .before .before .before .before .before .before .before .before .before .args .last-shingled-point .now) (c .before .before .before .before .before .before .before .before .before .before .before .before .before .before .before .before .before .before .before .before .before .before .before .before .before .before .before .args .previous-timestamps .now) (c .before .before .before .before .before .before .before .before .before .before .before .before .before .before .before .before .before .before .before .before .before .before .before .before .before .before .before .args .initial-values .now) (c .before .before .before .before .before .before .before .before .before .before .before .before .before .before .before .before .before .before .before .before .before .before .before .before .before .before .before .args .initial-timestamps .now)) y (kept-of (c .before .before .before .before .before .before .before .before .before .before .before .before .before .before .before .before .before .before .before .before .before .before .before .before .before .before .before .args .l) (c .before .before .before .before .before .before .before .before .before .before .before .before .before .before .before .before .before .before .kept .result) (c .before .before .before .before .before .before .before .before .before .before .before .before .before .before .before .before .before .before .kept .ensures .0)) (c .before .before .before .before .before .before .before .before .before .before .before .build-bare .ensures) (c .before .before .if1 .left) (c .bench-of .ensures)
+returns-2 c =
+    let c8 = c .before .before .before .before .before .before .before .before in
+    let c16 = c8 .before .before .before .before .before .before .before .before in
+    let c24 = c16 .before .before .before .before .before .before .before .before in
+    let at-args = c24 .before .before .before .args in
+    let at-kept = c16 .before .before .kept in
+    λ y. weights-built (at-args .b) (at-args .out .now) (at-args .l) (lent (at-args .statistics .now) (at-args .last-shingled-input .now) (at-args .last-shingled-point .now)
+    (at-args .previous-timestamps .now) (at-args .initial-values .now) (at-args .initial-timestamps .now)) y (kept-of (at-args .l) (at-kept .result) (at-kept .ensures .0))
+    (c8 .before .before .before .build-bare .ensures) (c .before .before .if1 .left) (c .bench-of .ensures)
 
 pub read-weights-spec : {M : Type 1} → statement M
 read-weights-spec =

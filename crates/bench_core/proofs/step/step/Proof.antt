@@ -14,10 +14,14 @@ idle-requires c κs = search needs
 
 returns : tie.Need-returns
 returns c =
-    let a = c .before .before .before .before .before .before .before .before .before .before .before .args in
+    let c8 = c .before .before .before .before .before .before .before .before in
+    let a = c8 .before .before .before .args in
     let e = c .idle .ensures in
-    (λ j. stepped (e .0 j) (e .1 j) (lineResult (e .3 j) (lent (a .statistics .now) (a .last-shingled-input .now) (a .last-shingled-point .now) (a .previous-timestamps .now) (a .initial-values .now) (a .initial-timestamps .now)) (a .point .now) (output (e .2 j) (a .out .now))))
-    ∙ step-short (a .b) (lent (a .statistics .now) (a .last-shingled-input .now) (a .last-shingled-point .now) (a .previous-timestamps .now) (a .initial-values .now) (a .initial-timestamps .now)) (a .point .now) (a .text .now) (a .out .now) (c .before .if1 .taken)
+    (λ j. stepped (e .0 j) (e .1 j)
+    (lineResult (e .3 j) (lent (a .statistics .now) (a .last-shingled-input .now) (a .last-shingled-point .now) (a .previous-timestamps .now) (a .initial-values .now)
+    (a .initial-timestamps .now)) (a .point .now) (output (e .2 j) (a .out .now)))) ∙ step-short (a .b)
+    (lent (a .statistics .now) (a .last-shingled-input .now) (a .last-shingled-point .now) (a .previous-timestamps .now) (a .initial-values .now) (a .initial-timestamps .now))
+    (a .point .now) (a .text .now) (a .out .now) (c .before .if1 .taken)
 
 cell-end-requires : tie.Need-cell-end-requires
 cell-end-requires c κs = search needs
@@ -27,10 +31,15 @@ idle-requires-2 c κs = search needs
 
 returns-2 : tie.Need-returns-2
 returns-2 c =
-    let a = c .before .before .before .before .before .before .before .before .before .before .before .before .before .args in
+    let c8 = c .before .before .before .before .before .before .before .before in
+    let at-cell-end = c .before .before .cell-end in
+    let a = c8 .before .before .before .before .before .args in
     let e = c .idle2 .ensures in
-    (λ j. stepped (e .0 j) (e .1 j) (lineResult (e .3 j) (lent (a .statistics .now) (a .last-shingled-input .now) (a .last-shingled-point .now) (a .previous-timestamps .now) (a .initial-values .now) (a .initial-timestamps .now)) (a .point .now) (output (e .2 j) (a .out .now))))
-    ∙ step-none (a .b) (lent (a .statistics .now) (a .last-shingled-input .now) (a .last-shingled-point .now) (a .previous-timestamps .now) (a .initial-values .now) (a .initial-timestamps .now)) (a .point .now) (a .text .now) (a .out .now) (c .before .before .before .if1 .left) (c .before .before .cell-end .result) (c .before .before .cell-end .ensures .0) (c .before .if2 .taken)
+    (λ j. stepped (e .0 j) (e .1 j)
+    (lineResult (e .3 j) (lent (a .statistics .now) (a .last-shingled-input .now) (a .last-shingled-point .now) (a .previous-timestamps .now) (a .initial-values .now)
+    (a .initial-timestamps .now)) (a .point .now) (output (e .2 j) (a .out .now)))) ∙ step-none (a .b)
+    (lent (a .statistics .now) (a .last-shingled-input .now) (a .last-shingled-point .now) (a .previous-timestamps .now) (a .initial-values .now) (a .initial-timestamps .now))
+    (a .point .now) (a .text .now) (a .out .now) (c .before .before .before .if1 .left) (at-cell-end .result) (at-cell-end .ensures .0) (c .before .if2 .taken)
 
 cell-of-requires : tie.Need-cell-of-requires
 cell-of-requires c κs = search needs
@@ -45,19 +54,36 @@ shared-slice-read-if3 : tie.Need-shared-slice-read-if3
 shared-slice-read-if3 c = search needs
 
 add-t23 : tie.Need-add-t23
-add-t23 c = omega (arith, c .before .before .before .before .before .before .before .cell-end .ensures .1 .0, c .before .before .before .before .before .before .before .cell-end .ensures .1 .1, c .before .before .before .before .before .before .if2 .left)
+add-t23 c =
+    let at-cell-end = c .before .before .before .before .before .before .before .cell-end in
+    omega (arith, at-cell-end .ensures .1 .0, at-cell-end .ensures .1 .1, c .before .before .before .before .before .before .if2 .left)
 
 with-line-requires : tie.Need-with-line-requires
 with-line-requires c κs = search needs
 
 returns-3 : tie.Need-returns-3
-returns-3 c = step-tab (c .before .before .before .before .before .before .before .before .before .before .before .before .before .before .before .before .before .before .before .args .b) (lent (c .before .before .before .before .before .before .before .before .before .before .before .before .before .before .before .before .before .before .before .args .statistics .now) (c .before .before .before .before .before .before .before .before .before .before .before .before .before .before .before .before .before .before .before .args .last-shingled-input .now) (c .before .before .before .before .before .before .before .before .before .before .before .before .before .before .before .before .before .before .before .args .last-shingled-point .now) (c .before .before .before .before .before .before .before .before .before .before .before .before .before .before .before .before .before .before .before .args .previous-timestamps .now) (c .before .before .before .before .before .before .before .before .before .before .before .before .before .before .before .before .before .before .before .args .initial-values .now) (c .before .before .before .before .before .before .before .before .before .before .before .before .before .before .before .before .before .before .before .args .initial-timestamps .now)) (c .before .before .before .before .before .before .before .before .before .before .before .before .before .before .before .before .before .before .before .args .point .now) (c .before .before .before .before .before .before .before .before .before .before .before .before .before .before .before .before .before .before .before .args .text .now) (c .before .before .before .before .before .before .before .before .before .before .before .before .before .before .before .before .before .before .before .args .out .now) (c .before .before .before .before .before .before .before .before .before .if1 .left) (c .before .before .before .before .before .before .before .before .cell-end .result) (c .before .before .before .before .before .before .before .before .cell-end .ensures .0) (c .before .before .before .before .before .before .before .if2 .left) (c .before .before .before .before .before .before .cell-of .result) (c .before .before .before .before .before .before .cell-of .ensures .0) (c .before .before .before .cell .ensures) (c .before .if3 .taken) (c .with-line .ensures)
+returns-3 c =
+    let c8 = c .before .before .before .before .before .before .before .before in
+    let c16 = c8 .before .before .before .before .before .before .before .before in
+    let at-args = c16 .before .before .before .args in
+    let at-cell-end = c8 .cell-end in
+    let at-cell-of = c .before .before .before .before .before .before .cell-of in
+    step-tab (at-args .b) (lent (at-args .statistics .now) (at-args .last-shingled-input .now) (at-args .last-shingled-point .now) (at-args .previous-timestamps .now)
+    (at-args .initial-values .now) (at-args .initial-timestamps .now)) (at-args .point .now) (at-args .text .now) (at-args .out .now) (c8 .before .if1 .left) (at-cell-end .result)
+    (at-cell-end .ensures .0) (c .before .before .before .before .before .before .before .if2 .left) (at-cell-of .result) (at-cell-of .ensures .0) (c .before .before .before .cell .ensures)
+    (c .before .if3 .taken) (c .with-line .ensures)
 
 read-line-requires : tie.Need-read-line-requires
 read-line-requires c κs = search needs
 
 add-t17 : tie.Need-add-t17
-add-t17 c = omega (arith, c .before .before .before .before .before .before .before .before .before .before .before .before .before .before .before .before .before .before .before .before .before .before .before .before .before .before .before .before .before .before .before .before .before .cell-end .ensures .1 .0, c .before .before .before .before .before .before .before .before .before .before .before .before .before .before .before .before .before .before .before .before .before .before .before .before .before .before .before .before .before .before .before .before .before .cell-end .ensures .1 .1, c .before .before .before .before .before .before .before .before .before .before .before .before .before .before .before .before .before .before .before .before .before .before .before .before .before .before .before .before .before .before .before .before .if2 .left)
+add-t17 c =
+    let c8 = c .before .before .before .before .before .before .before .before in
+    let c16 = c8 .before .before .before .before .before .before .before .before in
+    let c24 = c16 .before .before .before .before .before .before .before .before in
+    let c32 = c24 .before .before .before .before .before .before .before .before in
+    let at-cell-end = c32 .before .cell-end in
+    omega (arith, at-cell-end .ensures .1 .0, at-cell-end .ensures .1 .1, c32 .if2 .left)
 
 same-length : tie.Need-same-length
 same-length c = search needs
@@ -84,7 +110,19 @@ same-length-8 : tie.Need-same-length-8
 same-length-8 c = search needs
 
 returns-4 : tie.Need-returns-4
-returns-4 c = step-line (c .before .before .before .before .before .before .before .before .before .before .before .before .before .before .before .before .before .before .before .before .before .before .before .before .before .before .before .before .before .before .before .before .before .before .before .before .before .before .before .before .before .before .before .before .args .b) (lent (c .before .before .before .before .before .before .before .before .before .before .before .before .before .before .before .before .before .before .before .before .before .before .before .before .before .before .before .before .before .before .before .before .before .before .before .before .before .before .before .before .before .before .before .before .args .statistics .now) (c .before .before .before .before .before .before .before .before .before .before .before .before .before .before .before .before .before .before .before .before .before .before .before .before .before .before .before .before .before .before .before .before .before .before .before .before .before .before .before .before .before .before .before .before .args .last-shingled-input .now) (c .before .before .before .before .before .before .before .before .before .before .before .before .before .before .before .before .before .before .before .before .before .before .before .before .before .before .before .before .before .before .before .before .before .before .before .before .before .before .before .before .before .before .before .before .args .last-shingled-point .now) (c .before .before .before .before .before .before .before .before .before .before .before .before .before .before .before .before .before .before .before .before .before .before .before .before .before .before .before .before .before .before .before .before .before .before .before .before .before .before .before .before .before .before .before .before .args .previous-timestamps .now) (c .before .before .before .before .before .before .before .before .before .before .before .before .before .before .before .before .before .before .before .before .before .before .before .before .before .before .before .before .before .before .before .before .before .before .before .before .before .before .before .before .before .before .before .before .args .initial-values .now) (c .before .before .before .before .before .before .before .before .before .before .before .before .before .before .before .before .before .before .before .before .before .before .before .before .before .before .before .before .before .before .before .before .before .before .before .before .before .before .before .before .before .before .before .before .args .initial-timestamps .now)) (c .before .before .before .before .before .before .before .before .before .before .before .before .before .before .before .before .before .before .before .before .before .before .before .before .before .before .before .before .before .before .before .before .before .before .before .before .before .before .before .before .before .before .before .before .args .point .now) (c .before .before .before .before .before .before .before .before .before .before .before .before .before .before .before .before .before .before .before .before .before .before .before .before .before .before .before .before .before .before .before .before .before .before .before .before .before .before .before .before .before .before .before .before .args .text .now) (c .before .before .before .before .before .before .before .before .before .before .before .before .before .before .before .before .before .before .before .before .before .before .before .before .before .before .before .before .before .before .before .before .before .before .before .before .before .before .before .before .before .before .before .before .args .out .now) (c .before .before .before .before .before .before .before .before .before .before .before .before .before .before .before .before .before .before .before .before .before .before .before .before .before .before .before .before .before .before .before .before .before .before .if1 .left) (c .before .before .before .before .before .before .before .before .before .before .before .before .before .before .before .before .before .before .before .before .before .before .before .before .before .before .before .before .before .before .before .before .before .cell-end .result) (c .before .before .before .before .before .before .before .before .before .before .before .before .before .before .before .before .before .before .before .before .before .before .before .before .before .before .before .before .before .before .before .before .before .cell-end .ensures .0) (c .before .before .before .before .before .before .before .before .before .before .before .before .before .before .before .before .before .before .before .before .before .before .before .before .before .before .before .before .before .before .before .before .if2 .left) (c .before .before .before .before .before .before .before .before .before .before .before .before .before .before .before .before .before .before .before .before .before .before .before .before .before .before .before .before .before .before .before .cell-of .result) (c .before .before .before .before .before .before .before .before .before .before .before .before .before .before .before .before .before .before .before .before .before .before .before .before .before .before .before .before .before .before .before .cell-of .ensures .0) (c .before .before .before .before .before .before .before .before .before .before .before .before .before .before .before .before .before .before .before .before .before .before .before .before .before .before .before .before .cell .ensures) (c .before .before .before .before .before .before .before .before .before .before .before .before .before .before .before .before .before .before .before .before .before .before .before .before .before .before .if3 .left) (c .before .before .before .before .before .before .before .before .before .before .before .before .before .before .before .before .before .read-line .ensures)
+returns-4 c =
+    let c8 = c .before .before .before .before .before .before .before .before in
+    let c16 = c8 .before .before .before .before .before .before .before .before in
+    let c24 = c16 .before .before .before .before .before .before .before .before in
+    let c32 = c24 .before .before .before .before .before .before .before .before in
+    let c40 = c32 .before .before .before .before .before .before .before .before in
+    let at-args = c40 .before .before .before .before .args in
+    let at-cell-end = c32 .before .cell-end in
+    let at-cell-of = c24 .before .before .before .before .before .before .before .cell-of in
+    step-line (at-args .b) (lent (at-args .statistics .now) (at-args .last-shingled-input .now) (at-args .last-shingled-point .now) (at-args .previous-timestamps .now)
+    (at-args .initial-values .now) (at-args .initial-timestamps .now)) (at-args .point .now) (at-args .text .now) (at-args .out .now) (c32 .before .before .if1 .left) (at-cell-end .result)
+    (at-cell-end .ensures .0) (c32 .if2 .left) (at-cell-of .result) (at-cell-of .ensures .0) (c24 .before .before .before .before .cell .ensures) (c24 .before .before .if3 .left)
+    (c16 .before .read-line .ensures)
 
 pub step-spec : {M : Type 1} → statement M
 step-spec =

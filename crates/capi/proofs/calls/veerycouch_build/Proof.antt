@@ -17,8 +17,12 @@ kind-row-requires c κs = search needs
 
 returns : tie.Need-returns
 returns c =
-    let a = c .before .before .before .before .before .before .before .before .before .before .before .args in
-    build-kind (a .forest-mode) (a .transform-method) (settingsGiven (a .forest-mode) (a .transform-method) (a .input-dimensions) (a .shingle-size) (a .start-normalization) (a .stop-normalization) (a .transform-decay) (a .weight-time) (a .weights .now) (a .codes .now)) (a .head .now) (lent (a .statistics .now) (a .last-shingled-input .now) (a .last-shingled-point .now) (a .previous-timestamps .now) (a .initial-values .now) (a .initial-timestamps .now)) (c .before .kind-row .ensures) (c .if1 .taken)
+    let c8 = c .before .before .before .before .before .before .before .before in
+    let a = c8 .before .before .before .args in
+    build-kind (a .forest-mode) (a .transform-method) (settingsGiven (a .forest-mode) (a .transform-method) (a .input-dimensions) (a .shingle-size) (a .start-normalization)
+    (a .stop-normalization) (a .transform-decay) (a .weight-time) (a .weights .now) (a .codes .now)) (a .head .now)
+    (lent (a .statistics .now) (a .last-shingled-input .now) (a .last-shingled-point .now) (a .previous-timestamps .now) (a .initial-values .now) (a .initial-timestamps .now))
+    (c .before .kind-row .ensures) (c .if1 .taken)
 
 mode-of-requires : tie.Need-mode-of-requires
 mode-of-requires c κs = search needs
@@ -31,13 +35,29 @@ settings-row-requires c κs = search needs
 
 returns-2 : tie.Need-returns-2
 returns-2 c =
-    let a = c .before .before .before .before .before .before .before .before .before .before .before .before .before .before .before .args in
-    build-settings (a .forest-mode) (a .transform-method) (settingsGiven (a .forest-mode) (a .transform-method) (a .input-dimensions) (a .shingle-size) (a .start-normalization) (a .stop-normalization) (a .transform-decay) (a .weight-time) (a .weights .now) (a .codes .now)) (a .head .now) (lent (a .statistics .now) (a .last-shingled-input .now) (a .last-shingled-point .now) (a .previous-timestamps .now) (a .initial-values .now) (a .initial-timestamps .now)) (c .before .before .before .before .before .kind-row .ensures) (c .before .before .before .before .if1 .left) (c .before .settings-row .ensures .0 ∙ (λ j. settingsRow (settingsWith (c .before .before .before .mode-of .ensures j) (c .before .before .method-of .ensures j) (a .input-dimensions) (a .shingle-size) (a .start-normalization) (a .stop-normalization) (a .transform-decay) (a .weight-time) (a .weights .now) (a .codes .now)))) (c .if2 .taken)
+    let c8 = c .before .before .before .before .before .before .before .before in
+    let a = c8 .before .before .before .before .before .before .before .args in
+    build-settings (a .forest-mode) (a .transform-method) (settingsGiven (a .forest-mode) (a .transform-method) (a .input-dimensions) (a .shingle-size) (a .start-normalization)
+    (a .stop-normalization) (a .transform-decay) (a .weight-time) (a .weights .now) (a .codes .now)) (a .head .now)
+    (lent (a .statistics .now) (a .last-shingled-input .now) (a .last-shingled-point .now) (a .previous-timestamps .now) (a .initial-values .now) (a .initial-timestamps .now))
+    (c .before .before .before .before .before .kind-row .ensures) (c .before .before .before .before .if1 .left)
+    (c .before .settings-row .ensures .0 ∙
+    (λ j. settingsRow (settingsWith (c .before .before .before .mode-of .ensures j) (c .before .before .method-of .ensures j) (a .input-dimensions) (a .shingle-size)
+    (a .start-normalization) (a .stop-normalization) (a .transform-decay) (a .weight-time) (a .weights .now) (a .codes .now)))) (c .if2 .taken)
 
 returns-3 : tie.Need-returns-3
 returns-3 c =
-    let a = c .before .before .before .before .before .before .before .before .before .before .before .before .before .before .before .before .args in
-    build-few (a .forest-mode) (a .transform-method) (settingsGiven (a .forest-mode) (a .transform-method) (a .input-dimensions) (a .shingle-size) (a .start-normalization) (a .stop-normalization) (a .transform-decay) (a .weight-time) (a .weights .now) (a .codes .now)) (a .head .now) (lent (a .statistics .now) (a .last-shingled-input .now) (a .last-shingled-point .now) (a .previous-timestamps .now) (a .initial-values .now) (a .initial-timestamps .now)) (c .before .before .before .before .before .before .kind-row .ensures) (c .before .before .before .before .before .if1 .left) (c .before .before .settings-row .ensures .0 ∙ (λ j. settingsRow (settingsWith (c .before .before .before .before .mode-of .ensures j) (c .before .before .before .method-of .ensures j) (a .input-dimensions) (a .shingle-size) (a .start-normalization) (a .stop-normalization) (a .transform-decay) (a .weight-time) (a .weights .now) (a .codes .now)))) (c .before .if2 .left) (ap (λ (b : Bool). cond b 20 0) (lt-ltb (length (a .head .now)) 44 (c .if3 .taken)))
+    let c8 = c .before .before .before .before .before .before .before .before in
+    let c16 = c8 .before .before .before .before .before .before .before .before in
+    let a = c16 .args in
+    build-few (a .forest-mode) (a .transform-method) (settingsGiven (a .forest-mode) (a .transform-method) (a .input-dimensions) (a .shingle-size) (a .start-normalization)
+    (a .stop-normalization) (a .transform-decay) (a .weight-time) (a .weights .now) (a .codes .now)) (a .head .now)
+    (lent (a .statistics .now) (a .last-shingled-input .now) (a .last-shingled-point .now) (a .previous-timestamps .now) (a .initial-values .now) (a .initial-timestamps .now))
+    (c .before .before .before .before .before .before .kind-row .ensures) (c .before .before .before .before .before .if1 .left)
+    (c .before .before .settings-row .ensures .0 ∙
+    (λ j. settingsRow (settingsWith (c .before .before .before .before .mode-of .ensures j) (c .before .before .before .method-of .ensures j) (a .input-dimensions) (a .shingle-size)
+    (a .start-normalization) (a .stop-normalization) (a .transform-decay) (a .weight-time) (a .weights .now) (a .codes .now)))) (c .before .if2 .left)
+    (ap (λ (b : Bool). cond b 20 0) (lt-ltb (length (a .head .now)) 44 (c .if3 .taken)))
 
 build-requires : tie.Need-build-requires
 build-requires c κs = search needs
@@ -62,8 +82,25 @@ same-length-5 c = search needs
 
 returns-4 : tie.Need-returns-4
 returns-4 c =
-    let a = c .before .before .before .before .before .before .before .before .before .before .before .before .before .before .before .before .before .before .before .before .before .before .before .before .before .before .before .before .before .before .before .before .before .before .args in
-    build-done (a .forest-mode) (a .transform-method) (settingsGiven (a .forest-mode) (a .transform-method) (a .input-dimensions) (a .shingle-size) (a .start-normalization) (a .stop-normalization) (a .transform-decay) (a .weight-time) (a .weights .now) (a .codes .now)) (a .head .now) (lent (a .statistics .now) (a .last-shingled-input .now) (a .last-shingled-point .now) (a .previous-timestamps .now) (a .initial-values .now) (a .initial-timestamps .now)) (c .before .before .before .before .before .before .before .before .before .before .before .before .before .before .before .before .before .before .before .before .before .before .before .before .kind-row .ensures) (c .before .before .before .before .before .before .before .before .before .before .before .before .before .before .before .before .before .before .before .before .before .before .before .if1 .left) (c .before .before .before .before .before .before .before .before .before .before .before .before .before .before .before .before .before .before .before .before .settings-row .ensures .0 ∙ (λ j. settingsRow (settingsWith (c .before .before .before .before .before .before .before .before .before .before .before .before .before .before .before .before .before .before .before .before .before .before .mode-of .ensures j) (c .before .before .before .before .before .before .before .before .before .before .before .before .before .before .before .before .before .before .before .before .before .method-of .ensures j) (a .input-dimensions) (a .shingle-size) (a .start-normalization) (a .stop-normalization) (a .transform-decay) (a .weight-time) (a .weights .now) (a .codes .now)))) (c .before .before .before .before .before .before .before .before .before .before .before .before .before .before .before .before .before .before .before .if2 .left) (long (a .head .now) (c .before .before .before .before .before .before .before .before .before .before .before .before .before .before .before .before .before .before .if3 .left)) (c .before .before .before .before .before .before .before .before .before .before .before .before .before .build .ensures ∙ (λ j. buildOf (settingsWith (c .before .before .before .before .before .before .before .before .before .before .before .before .before .before .before .before .before .before .before .before .before .before .mode-of .ensures j) (c .before .before .before .before .before .before .before .before .before .before .before .before .before .before .before .before .before .before .before .before .before .method-of .ensures j) (a .input-dimensions) (a .shingle-size) (a .start-normalization) (a .stop-normalization) (a .transform-decay) (a .weight-time) (a .weights .now) (a .codes .now)) (lent (a .statistics .now) (a .last-shingled-input .now) (a .last-shingled-point .now) (a .previous-timestamps .now) (a .initial-values .now) (a .initial-timestamps .now)))) (c .before .before .write-head .ensures)
+    let c8 = c .before .before .before .before .before .before .before .before in
+    let c16 = c8 .before .before .before .before .before .before .before .before in
+    let c24 = c16 .before .before .before .before .before .before .before .before in
+    let c32 = c24 .before .before .before .before .before .before .before .before in
+    let at-mode-of = c16 .before .before .before .before .before .before .mode-of in
+    let at-method-of = c16 .before .before .before .before .before .method-of in
+    let a = c32 .before .before .args in
+    build-done (a .forest-mode) (a .transform-method) (settingsGiven (a .forest-mode) (a .transform-method) (a .input-dimensions) (a .shingle-size) (a .start-normalization)
+    (a .stop-normalization) (a .transform-decay) (a .weight-time) (a .weights .now) (a .codes .now)) (a .head .now)
+    (lent (a .statistics .now) (a .last-shingled-input .now) (a .last-shingled-point .now) (a .previous-timestamps .now) (a .initial-values .now) (a .initial-timestamps .now))
+    (c24 .kind-row .ensures) (c16 .before .before .before .before .before .before .before .if1 .left)
+    (c16 .before .before .before .before .settings-row .ensures .0 ∙ (λ j. settingsRow
+    (settingsWith (at-mode-of .ensures j) (at-method-of .ensures j) (a .input-dimensions) (a .shingle-size) (a .start-normalization) (a .stop-normalization) (a .transform-decay)
+    (a .weight-time) (a .weights .now) (a .codes .now)))) (c16 .before .before .before .if2 .left) (long (a .head .now) (c16 .before .before .if3 .left))
+    (c8 .before .before .before .before .before .build .ensures ∙ (λ j. buildOf
+    (settingsWith (at-mode-of .ensures j) (at-method-of .ensures j) (a .input-dimensions) (a .shingle-size) (a .start-normalization) (a .stop-normalization) (a .transform-decay)
+    (a .weight-time) (a .weights .now) (a .codes .now)) (lent (a .statistics .now) (a .last-shingled-input .now) (a .last-shingled-point .now) (a .previous-timestamps .now)
+    (a .initial-values .now) (a .initial-timestamps .now)))) (c .before .before .write-head .ensures)
 
 pub veerycouch-build-spec : {M : Type 1} → statement M
-veerycouch-build-spec = tie.close (tie.spec kind-row-requires returns mode-of-requires method-of-requires settings-row-requires returns-2 returns-3 build-requires write-head-requires same-length same-length-2 same-length-3 same-length-4 same-length-5 returns-4)
+veerycouch-build-spec = tie.close (tie.spec kind-row-requires returns mode-of-requires method-of-requires settings-row-requires returns-2 returns-3 build-requires write-head-requires
+    same-length same-length-2 same-length-3 same-length-4 same-length-5 returns-4)

@@ -59,4 +59,5 @@ returns-2 c =
     (c8 .before .before .before .before .before .drain .ensures) (c .before .before .write-counts .ensures)
 
 pub veerycouch-drain-spec : {M : Type 1} → statement M
-veerycouch-drain-spec = tie.close (tie.spec may-requires open-head-requires same-length returns drain-requires write-counts-requires same-length-2 same-length-3 same-length-4 same-length-5 same-length-6 returns-2)
+veerycouch-drain-spec = tie.close (tie.spec may-requires open-head-requires same-length returns drain-requires write-counts-requires same-length-2 same-length-3 same-length-4 same-length-5
+    same-length-6 returns-2)

@@ -70,4 +70,5 @@ returns-2 c =
     (c .before .flag-of .ensures) (c .tell .ensures)
 
 pub veerycouch-shingled-point-spec : {M : Type 1} → statement M
-veerycouch-shingled-point-spec = tie.close (tie.spec may-point-requires open-head-requires same-length returns shingled-point-requires write-counts-requires flag-of-requires tell-requires same-length-2 same-length-3 same-length-4 same-length-5 same-length-6 same-length-7 returns-2)
+veerycouch-shingled-point-spec = tie.close (tie.spec may-point-requires open-head-requires same-length returns shingled-point-requires write-counts-requires flag-of-requires tell-requires
+    same-length-2 same-length-3 same-length-4 same-length-5 same-length-6 same-length-7 returns-2)

@@ -66,4 +66,5 @@ returns-2 c =
 pub tell-numbers-spec : {M : Type 1} → statement M
 tell-numbers-spec =
     tie.close
-    (tie.spec returns slice-write-output slice-write-output-2 flag-of-requires slice-write-output-3 slice-write-output-4 slice-write-output-5 slice-write-output-6 slice-write-output-7 method-number-requires slice-write-output-8 mode-number-requires slice-write-output-9 slice-write-output-10 same-length returns-2)
+    (tie.spec returns slice-write-output slice-write-output-2 flag-of-requires slice-write-output-3 slice-write-output-4 slice-write-output-5 slice-write-output-6 slice-write-output-7
+    method-number-requires slice-write-output-8 mode-number-requires slice-write-output-9 slice-write-output-10 same-length returns-2)

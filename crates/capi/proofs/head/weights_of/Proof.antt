@@ -42,11 +42,18 @@ loop-less c = omega arith
 
 loop-again : tie.Need-loop-again Inv-loop μ-loop
 loop-again c =
-    let L = c .before .before .before .loop in
-    (omega arith, filled-more single (L .i) (L .a) (c .before .before .before .before .before .args .words .now) _ 0 (L .inv .1) (omega arith) (omega (arith, c .before .before .before .before .before .pre)) (c .single-of .ensures), simp length-set (omega arith))
+    let L = c .before .before .before .loop in (
+      omega arith,
+      filled-more single (L .i) (L .a) (c .before .before .before .before .before .args .words .now) _ 0 (L .inv .1) (omega arith)
+          (omega (arith, c .before .before .before .before .before .pre)) (c .single-of .ensures),
+      simp length-set (omega arith),
+    )
 
 returns : tie.Need-returns Inv-loop μ-loop
-returns c = let e : c .before .loop .i ≡ 16 = omega arith in filled-whole single 16 (c .before .loop .a) (c .before .before .before .args .words .now) (rw e at (c .before .loop .inv .1)) (c .before .loop .inv .2) (c .before .before .before .pre)
+returns c =
+    let at-loop = c .before .loop in
+    let e : at-loop .i ≡ 16 = omega arith in
+    filled-whole single 16 (at-loop .a) (c .before .before .before .args .words .now) (rw e at (at-loop .inv .1)) (at-loop .inv .2) (c .before .before .before .pre)
 
 pub weights-of-spec : {M : Type 1} → statement M
 weights-of-spec = tie.close (tie.spec Inv-loop μ-loop loop-holds mul-single-of shared-slice-read-single-of single-of-requires mul-a array-write-a add-i loop-less loop-again returns)

@@ -61,7 +61,10 @@ same-length c = simp length-set refl
 returns : tie.Need-returns
 returns c =
     let a = c .before .before .before .before .before .before .args in
-    numbers-stored (a .words .now) (a .head) (omega (arith, c .before .before .before .before .before .before .pre)) (c .before .before .before .mode-number .ensures) (c .before .before .method-number .ensures) (c .before .double-bits .ensures) (c .single-bits .ensures)
+    numbers-stored (a .words .now) (a .head) (omega (arith, c .before .before .before .before .before .before .pre)) (c .before .before .before .mode-number .ensures)
+    (c .before .before .method-number .ensures) (c .before .double-bits .ensures) (c .single-bits .ensures)
 
 pub write-numbers-spec : {M : Type 1} → statement M
-write-numbers-spec = tie.close (tie.spec mode-number-requires slice-write-words method-number-requires slice-write-words-2 slice-write-words-3 slice-write-words-4 slice-write-words-5 slice-write-words-6 double-bits-requires slice-write-words-7 single-bits-requires slice-write-words-8 slice-write-words-9 slice-write-words-10 slice-write-words-11 slice-write-words-12 same-length returns)
+write-numbers-spec = tie.close (tie.spec mode-number-requires slice-write-words method-number-requires slice-write-words-2 slice-write-words-3 slice-write-words-4 slice-write-words-5
+    slice-write-words-6 double-bits-requires slice-write-words-7 single-bits-requires slice-write-words-8 slice-write-words-9 slice-write-words-10 slice-write-words-11 slice-write-words-12
+    same-length returns)

@@ -42,14 +42,23 @@ loop-less c = omega arith
 
 loop-again : tie.Need-loop-again Inv-loop μ-loop
 loop-again c =
-    let L = c .before .before .before .loop in
-    (omega arith, filled-more (toBits binary32) (L .i) (L .words) (c .before .before .before .before .before .before .args .weights .now) _ nan (L .inv .1) (omega arith) (omega (arith, c .before .before .before .before .before .before .pre)) (c .single-bits .ensures), simp length-set (omega arith))
+    let L = c .before .before .before .loop in (
+      omega arith,
+      filled-more (toBits binary32) (L .i) (L .words) (c .before .before .before .before .before .before .args .weights .now) _ nan (L .inv .1) (omega arith)
+          (omega (arith, c .before .before .before .before .before .before .pre)) (c .single-bits .ensures),
+      simp length-set (omega arith),
+    )
 
 same-length : tie.Need-same-length Inv-loop μ-loop
 same-length c = omega arith
 
 returns : tie.Need-returns Inv-loop μ-loop
-returns c = let e : c .before .loop .i ≡ 16 = omega arith in filled-whole (toBits binary32) 16 (c .before .loop .words) (c .before .before .before .before .args .weights .now) (rw e at (c .before .loop .inv .1)) (c .before .loop .inv .2) (c .before .before .before .before .pre .1)
+returns c =
+    let at-loop = c .before .loop in
+    let e : at-loop .i ≡ 16 = omega arith in
+    filled-whole (toBits binary32) 16 (at-loop .words) (c .before .before .before .before .args .weights .now) (rw e at (at-loop .inv .1)) (at-loop .inv .2)
+    (c .before .before .before .before .pre .1)
 
 pub write-weights-spec : {M : Type 1} → statement M
-write-weights-spec = tie.close (tie.spec Inv-loop μ-loop loop-holds mul-single-bits shared-slice-read-single-bits single-bits-requires mul-words slice-write-words add-i loop-less loop-again same-length returns)
+write-weights-spec = tie.close (tie.spec Inv-loop μ-loop loop-holds mul-single-bits shared-slice-read-single-bits single-bits-requires mul-words slice-write-words add-i loop-less loop-again
+    same-length returns)

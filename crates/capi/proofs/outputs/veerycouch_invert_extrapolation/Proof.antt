@@ -18,9 +18,8 @@ returns c =
     let c16 = c8 .before .before .before .before .before .before .before .before in
     let a = c16 .before .args in
     extrapolation-refused (a .table .now) (a .role) (a .head .now) (opened (a .head .now) (c .before .before .may .ensures) (c .before .open-head .ensures .0)) (a .statistics .now)
-    (a .last-shingled-input .now) (a .previous-timestamps .now)
-    (forecast (ranges (a .values .now) (a .upper .now) (a .lower .now)) (ranges (a .values-out .now) (a .upper-out .now) (a .lower-out .now)) (ranges (a .times-out .now) (a .times-upper-out .now) (a .times-lower-out .now)))
-    (c .if1 .taken)
+    (a .last-shingled-input .now) (a .previous-timestamps .now) (forecast (ranges (a .values .now) (a .upper .now) (a .lower .now))
+    (ranges (a .values-out .now) (a .upper-out .now) (a .lower-out .now)) (ranges (a .times-out .now) (a .times-upper-out .now) (a .times-lower-out .now))) (c .if1 .taken)
 
 invert-extrapolation-requires : tie.Need-invert-extrapolation-requires
 invert-extrapolation-requires c κs = search needs
@@ -62,10 +61,11 @@ returns-2 c =
     let a = c40 .before .before .before .before .before .before .args in
     let h = c24 .before .before .before .before .before .before .open-head in
     let m = c24 .before .before .before .before .before .before .before .may in
-    extrapolation-done (a .table .now) (a .role) (a .head .now) (c24 .before .before .before .before .before .if1 .left) (h .ensures .1)
-    (opened (a .head .now) (m .ensures) (h .ensures .0)) (a .statistics .now) (a .last-shingled-input .now) (a .previous-timestamps .now)
-    (forecast (ranges (a .values .now) (a .upper .now) (a .lower .now)) (ranges (a .values-out .now) (a .upper-out .now) (a .lower-out .now)) (ranges (a .times-out .now) (a .times-upper-out .now) (a .times-lower-out .now)))
-    (c16 .before .before .invert-extrapolation .ensures)
+    extrapolation-done (a .table .now) (a .role) (a .head .now) (c24 .before .before .before .before .before .if1 .left) (h .ensures .1) (opened (a .head .now) (m .ensures) (h .ensures .0))
+    (a .statistics .now) (a .last-shingled-input .now) (a .previous-timestamps .now)
+    (forecast (ranges (a .values .now) (a .upper .now) (a .lower .now)) (ranges (a .values-out .now) (a .upper-out .now) (a .lower-out .now))
+    (ranges (a .times-out .now) (a .times-upper-out .now) (a .times-lower-out .now))) (c16 .before .before .invert-extrapolation .ensures)
 
 pub veerycouch-invert-extrapolation-spec : {M : Type 1} → statement M
-veerycouch-invert-extrapolation-spec = tie.close (tie.spec may-requires open-head-requires returns invert-extrapolation-requires same-length same-length-2 same-length-3 same-length-4 same-length-5 same-length-6 same-length-7 same-length-8 same-length-9 returns-2)
+veerycouch-invert-extrapolation-spec = tie.close (tie.spec may-requires open-head-requires returns invert-extrapolation-requires same-length same-length-2 same-length-3 same-length-4
+    same-length-5 same-length-6 same-length-7 same-length-8 same-length-9 returns-2)

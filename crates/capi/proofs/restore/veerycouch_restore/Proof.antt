@@ -68,8 +68,8 @@ returns-2 c =
     let a = c24 .before .before .before .before .args in
     restore-few (a .table .now) (a .role) (a .text .now) (a .codes .now) (a .head .now)
     (lent (a .statistics .now) (a .last-shingled-input .now) (a .last-shingled-point .now) (a .previous-timestamps .now) (a .initial-values .now) (a .initial-timestamps .now))
-    (a .line .now) (c16 .before .may .ensures) (not-false _ (c8 .before .before .before .before .before .before .before .before .if1 .left)) (c8 .before .before .before .before .before .before .before .if2 .taken)
-    (c .before .before .before .before .before .before .before .before .restore .ensures) (c .tell-line .ensures)
+    (a .line .now) (c16 .before .may .ensures) (not-false _ (c16 .if1 .left)) (c8 .before .before .before .before .before .before .before .if2 .taken) (c8 .restore .ensures)
+    (c .tell-line .ensures)
 
 restore-requires-2 : tie.Need-restore-requires-2
 restore-requires-2 c κs = search needs

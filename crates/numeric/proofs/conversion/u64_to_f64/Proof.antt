@@ -20,7 +20,8 @@ counts : (n : ℕ) → n ≤ 2 ^ 53 → T (inFloat binary64 (pos n))
 unfolding inFloat
 counts n h = le→leb n (2 ^ 53) h
 
-pattern : (c : tie.After-nearest) → Pattern binary64 (ofInt binary64 (pos (c .before .before .args .n))) ((1085 - leadingZeros 64 (c .before .before .args .n)) * 0x10_0000_0000_0000 + c .nearest .result)
+pattern : (c : tie.After-nearest) → Pattern binary64 (ofInt binary64 (pos (c .before .before .args .n)))
+    ((1085 - leadingZeros 64 (c .before .before .args .n)) * 0x10_0000_0000_0000 + c .nearest .result)
 pattern c =
     let a = c .before .before in
     made (a .args .n) (beyond (a .args .n) (c .before .if1 .left)) (a .fits .n .fits) binary64 (c .nearest .result) (c .nearest .ensures)

@@ -85,7 +85,8 @@ module _ (n s : ℕ) (N : 2 ^ 52 ≤ n) (M : n < 2 ^ 54) (R : (s * s ≤ n) × (
     where
       go : (p : ℕ) → s * 2 ^ 27 + shifted n s / (s * 2) ≡ suc p → (s * 2 ^ 27 + shifted n s / (s * 2)) * 2 - 1 ≡ halves (n * 2 ^ 54)
       go p e =
-          let i : suc p * suc p + shifted n s % (s * 2) * 2 ^ 27 ≡ n * 2 ^ 54 + shifted n s / (s * 2) * (shifted n s / (s * 2)) = ap (λ (x : ℕ). x * x + shifted n s % (s * 2) * 2 ^ 27) (sym e) ∙ identity in
+          let i : suc p * suc p + shifted n s % (s * 2) * 2 ^ 27 ≡ n * 2 ^ 54 + shifted n s / (s * 2) * (shifted n s / (s * 2)) = ap (λ (x : ℕ). x * x + shifted n s % (s * 2) * 2 ^ 27)
+          (sym e) ∙ identity in
           let j = square-suc p in
           let k = square-le in
           let l : 0 < shifted n s / (s * 2) = square-back 0 (shifted n s / (s * 2)) (omega arith) in

@@ -75,13 +75,10 @@ sub-result : tie.Need-sub-result
 sub-result c = let h = small (how (c .before .before)) in omega arith
 
 returns-2 : tie.Need-returns-2
-returns-2 c = λ p.
-    let j = c .before .before in
-    let a = j .before .before .before in
-    let z = j .before .before .if1 .left in
-    let near : 0 < a .remainder .result = omega arith in
-    let s = a .remainder .ensures in
-    answer (a .before .args .n) (a .remainder .result) (a .before .args .c) (j .before .if2 .up) (j .if3 .down) (a .before .pre .1 .0) (a .before .pre .1 .1) (s .0 near) (s .1 .0 near) (s .1 .1) (how j)
+returns-2 c =
+    λ p. let j = c .before .before in let a = j .before .before .before in let z = j .before .before .if1 .left in let near : 0 < a .remainder .result = omega arith in let s =
+    a .remainder .ensures in answer (a .before .args .n) (a .remainder .result) (a .before .args .c) (j .before .if2 .up) (j .if3 .down) (a .before .pre .1 .0) (a .before .pre .1 .1)
+    (s .0 near) (s .1 .0 near) (s .1 .1) (how j)
 
 pub mended-spec : {M : Type 1} → statement M
 mended-spec = tie.close (tie.spec remainder-requires returns add-if2 add-if3 add-result sub-result returns-2)

@@ -20,7 +20,11 @@ returns : tie.Need-returns
 returns c = number-not (asWhole (c .before .before .before .args .c .now)) (c .before .next-field .result .field) (ap (λ (r : Next). r .field) (c .before .next-field .ensures)) (c .match .keys2)
 
 returns-2 : tie.Need-returns-2
-returns-2 c = number-is (asWhole (c .before .before .before .before .before .args .c .now)) (c .before .before .before .next-field .result .field) (ap (λ (r : Next). r .field) (c .before .before .before .next-field .ensures)) (c .before .field .given .0 .0) (c .before .field .given .1)
+returns-2 c =
+    let at-next-field = c .before .before .before .next-field in
+    let at-field = c .before .field in
+    number-is (asWhole (c .before .before .before .before .before .args .c .now)) (at-next-field .result .field) (ap (λ (r : Next). r .field) (at-next-field .ensures))
+    (at-field .given .0 .0) (at-field .given .1)
 
 pub whole-spec : {M : Type 1} → statement M
 whole-spec = tie.close (tie.spec next-field-requires enum-known-field returns returns-2)

@@ -52,7 +52,9 @@ float-from-bits-t12 : tie.Need-float-from-bits-t12
 float-from-bits-t12 c = rw (nanBits-above binary64 (c .before .before .h .given .0 .0) ∙ le-ltb _ _ (c .if2 .left)) tt
 
 returns-4 : tie.Need-returns-4
-returns-4 c = sym (ap doubleOf (bad-hex binary64 (c .before .before .before .before .before .args .c .now) (c .before .before .before .if1 .left) (sym (c .enum-told .given .1) ∙ c .before .before .hex .ensures)))
+returns-4 c =
+    sym (ap doubleOf (bad-hex binary64 (c .before .before .before .before .before .args .c .now) (c .before .before .before .if1 .left)
+    (sym (c .enum-told .given .1) ∙ c .before .before .hex .ensures)))
 
 returns-5 : tie.Need-returns-5
 returns-5 c =

@@ -26,13 +26,17 @@ single-requires : tie.Need-single-requires
 single-requires c κs = search needs
 
 returns : tie.Need-returns
-returns c = c .single .ensures ∙ as-single (c .before .before .before .before .args .kind) (take (c .before .before .before .before .args .to - c .before .before .before .before .args .from) (drop (c .before .before .before .before .args .from) (c .before .before .before .before .args .text .now))) (c .before .if1 .taken)
+returns c =
+    let at-args = c .before .before .before .before .args in
+    c .single .ensures ∙ as-single (at-args .kind) (take (at-args .to - at-args .from) (drop (at-args .from) (at-args .text .now))) (c .before .if1 .taken)
 
 double-requires : tie.Need-double-requires
 double-requires c κs = search needs
 
 returns-2 : tie.Need-returns-2
-returns-2 c = c .double .ensures ∙ as-double (c .before .before .before .before .before .args .kind) (take (c .before .before .before .before .before .args .to - c .before .before .before .before .before .args .from) (drop (c .before .before .before .before .before .args .from) (c .before .before .before .before .before .args .text .now))) (c .before .if2 .taken)
+returns-2 c =
+    let at-args = c .before .before .before .before .before .args in
+    c .double .ensures ∙ as-double (at-args .kind) (take (at-args .to - at-args .from) (drop (at-args .from) (at-args .text .now))) (c .before .if2 .taken)
 
 whole-requires : tie.Need-whole-requires
 whole-requires c κs = search needs
@@ -44,10 +48,19 @@ enum-known-w : tie.Need-enum-known-w
 enum-known-w c = search needs
 
 returns-3 : tie.Need-returns-3
-returns-3 c = whole-bad (asWhole (take (c .before .before .before .before .before .before .before .args .to - c .before .before .before .before .before .before .before .args .from) (drop (c .before .before .before .before .before .before .before .args .from) (c .before .before .before .before .before .before .before .args .text .now)))) (sym (c .enum-told .given .1) ∙ c .before .before .whole .ensures) ∙ as-whole (c .before .before .before .before .before .before .before .args .kind) (take (c .before .before .before .before .before .before .before .args .to - c .before .before .before .before .before .before .before .args .from) (drop (c .before .before .before .before .before .before .before .args .from) (c .before .before .before .before .before .before .before .args .text .now))) (c .before .before .before .before .if1 .left) (c .before .before .before .if2 .left)
+returns-3 c =
+    let at-args = c .before .before .before .before .before .before .before .args in
+    whole-bad (asWhole (take (at-args .to - at-args .from) (drop (at-args .from) (at-args .text .now)))) (sym (c .enum-told .given .1) ∙ c .before .before .whole .ensures) ∙ as-whole
+    (at-args .kind) (take (at-args .to - at-args .from) (drop (at-args .from) (at-args .text .now))) (c .before .before .before .before .if1 .left) (c .before .before .before .if2 .left)
 
 returns-4 : tie.Need-returns-4
-returns-4 c = whole-good (asWhole (take (c .before .before .before .before .before .before .before .before .args .to - c .before .before .before .before .before .before .before .before .args .from) (drop (c .before .before .before .before .before .before .before .before .args .from) (c .before .before .before .before .before .before .before .before .args .text .now)))) (c .before .w .given .0 .0) (sym (c .before .w .given .1) ∙ c .before .before .before .whole .ensures) ∙ as-whole (c .before .before .before .before .before .before .before .before .args .kind) (take (c .before .before .before .before .before .before .before .before .args .to - c .before .before .before .before .before .before .before .before .args .from) (drop (c .before .before .before .before .before .before .before .before .args .from) (c .before .before .before .before .before .before .before .before .args .text .now))) (c .before .before .before .before .before .if1 .left) (c .before .before .before .before .if2 .left)
+returns-4 c =
+    let c8 = c .before .before .before .before .before .before .before .before in
+    let at-args = c8 .args in
+    let at-w = c .before .w in
+    whole-good (asWhole (take (at-args .to - at-args .from) (drop (at-args .from) (at-args .text .now)))) (at-w .given .0 .0)
+    (sym (at-w .given .1) ∙ c .before .before .before .whole .ensures) ∙ as-whole (at-args .kind) (take (at-args .to - at-args .from) (drop (at-args .from) (at-args .text .now)))
+    (c .before .before .before .before .before .if1 .left) (c .before .before .before .before .if2 .left)
 
 pub parse-spec : {M : Type 1} → statement M
 parse-spec =

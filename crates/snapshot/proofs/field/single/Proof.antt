@@ -42,19 +42,23 @@ returns-2 c =
 returns-3 : tie.Need-returns-3
 unfolding toBits
 returns-3 c =
-    let v = c .before .before .before .before .before .before .before .before .before .args .c .now in
-    let n = c .before .before .before .before .h .given .0 .0 in
+    let c8 = c .before .before .before .before .before .before .before .before in
+    let at-h = c .before .before .before .before .h in
+    let v = c8 .before .args .c .now in
+    let n = at-h .given .0 .0 in
     let l : length v ≡ 8 = c .before .before .before .before .before .before .before .if1 .left in
-    let e : Is n ≡ numberOf (hscan 0 v) = sym (c .before .before .before .before .h .given .1) ∙ c .before .before .before .before .before .before .hex .ensures in
+    let e : Is n ≡ numberOf (hscan 0 v) = sym (at-h .given .1) ∙ c .before .before .before .before .before .before .hex .ensures in
     ap Single (zero-by-zero binary32) ∙ sym (ap singleOf (the-nan binary32 v l n e (nanBits-above binary32 n ∙ lt-ltb _ _ (c .before .if3 .taken)) (c .if4 .taken)))
 
 returns-4 : tie.Need-returns-4
 unfolding toBits
 returns-4 c =
-    let v = c .before .before .before .before .before .before .before .before .before .args .c .now in
-    let n = c .before .before .before .before .h .given .0 .0 in
+    let c8 = c .before .before .before .before .before .before .before .before in
+    let at-h = c .before .before .before .before .h in
+    let v = c8 .before .args .c .now in
+    let n = at-h .given .0 .0 in
     let l : length v ≡ 8 = c .before .before .before .before .before .before .before .if1 .left in
-    let e : Is n ≡ numberOf (hscan 0 v) = sym (c .before .before .before .before .h .given .1) ∙ c .before .before .before .before .before .before .hex .ensures in
+    let e : Is n ≡ numberOf (hscan 0 v) = sym (at-h .given .1) ∙ c .before .before .before .before .before .before .hex .ensures in
     sym (ap singleOf (other-nan binary32 v l n e (nanBits-above binary32 n ∙ lt-ltb _ _ (c .before .if3 .taken)) (c .if4 .left)))
 
 cast-t12 : tie.Need-cast-t12
@@ -64,7 +68,9 @@ float-from-bits-t13 : tie.Need-float-from-bits-t13
 float-from-bits-t13 c = rw (nanBits-above binary32 (c .before .before .before .h .given .0 .0) ∙ le-ltb _ _ (c .if3 .left)) tt
 
 returns-5 : tie.Need-returns-5
-returns-5 c = sym (ap singleOf (bad-hex binary32 (c .before .before .before .before .before .args .c .now) (c .before .before .before .if1 .left) (sym (c .enum-told .given .1) ∙ c .before .before .hex .ensures)))
+returns-5 c =
+    sym (ap singleOf (bad-hex binary32 (c .before .before .before .before .before .args .c .now) (c .before .before .before .if1 .left)
+    (sym (c .enum-told .given .1) ∙ c .before .before .hex .ensures)))
 
 returns-6 : tie.Need-returns-6
 returns-6 c =

@@ -50,21 +50,27 @@ returns-2 c =
 
 returns-3 : tie.Need-returns-3 Inv-loop μ-loop
 returns-3 c =
-    let v = c .before .before .before .before .before .before .before .before .before .args .c .now in
-    let n = c .before .before .before .before .before .loop .n in
-    let i = c .before .before .before .before .before .loop .i in
+    let c8 = c .before .before .before .before .before .before .before .before in
+    let at-loop = c .before .before .before .before .before .loop in
+    let at-wide = c .before .before .wide in
+    let v = c8 .before .args .c .now in
+    let n = at-loop .n in
+    let i = at-loop .i in
     let h : i < length v = c .before .before .before .before .loop-test .taken in
-    let b : c .before .before .wide .result ≡ getD v i 0 = c .before .before .wide .ensures in
-    none-at v n i (c .before .before .before .before .before .loop .inv .1) (c .before .before .before .before .before .loop .inv .2) (scan-high n i v h (omega (arith, c .if3 .taken)))
+    let b : at-wide .result ≡ getD v i 0 = at-wide .ensures in
+    none-at v n i (at-loop .inv .1) (at-loop .inv .2) (scan-high n i v h (omega (arith, c .if3 .taken)))
 
 returns-4 : tie.Need-returns-4 Inv-loop μ-loop
 returns-4 c =
-    let v = c .before .before .before .before .before .before .before .before .before .before .args .c .now in
-    let n = c .before .before .before .before .before .before .loop .n in
-    let i = c .before .before .before .before .before .before .loop .i in
+    let c8 = c .before .before .before .before .before .before .before .before in
+    let at-loop = c .before .before .before .before .before .before .loop in
+    let at-wide = c .before .before .before .wide in
+    let v = c8 .before .before .args .c .now in
+    let n = at-loop .n in
+    let i = at-loop .i in
     let h : i < length v = c .before .before .before .before .before .loop-test .taken in
-    let b : c .before .before .before .wide .result ≡ getD v i 0 = c .before .before .before .wide .ensures in
-    none-at v n i (c .before .before .before .before .before .before .loop .inv .1) (c .before .before .before .before .before .before .loop .inv .2) (scan-big n i v h (omega arith) (omega arith) (omega arith))
+    let b : at-wide .result ≡ getD v i 0 = at-wide .ensures in
+    none-at v n i (at-loop .inv .1) (at-loop .inv .2) (scan-big n i v h (omega arith) (omega arith) (omega arith))
 
 mul-m : tie.Need-mul-m Inv-loop μ-loop
 mul-m c = search needs
@@ -74,12 +80,15 @@ sub-if5 c = search needs
 
 returns-5 : tie.Need-returns-5 Inv-loop μ-loop
 returns-5 c =
-    let v = c .before .before .before .before .before .before .before .before .before .before .before .args .c .now in
-    let n = c .before .before .before .before .before .before .before .loop .n in
-    let i = c .before .before .before .before .before .before .before .loop .i in
+    let c8 = c .before .before .before .before .before .before .before .before in
+    let at-loop = c .before .before .before .before .before .before .before .loop in
+    let at-wide = c .before .before .before .before .wide in
+    let v = c8 .before .before .before .args .c .now in
+    let n = at-loop .n in
+    let i = at-loop .i in
     let h : i < length v = c .before .before .before .before .before .before .loop-test .taken in
-    let b : c .before .before .before .before .wide .result ≡ getD v i 0 = c .before .before .before .before .wide .ensures in
-    none-at v n i (c .before .before .before .before .before .before .before .loop .inv .1) (c .before .before .before .before .before .before .before .loop .inv .2) (scan-big n i v h (omega arith) (omega arith) (omega arith))
+    let b : at-wide .result ≡ getD v i 0 = at-wide .ensures in
+    none-at v n i (at-loop .inv .1) (at-loop .inv .2) (scan-big n i v h (omega arith) (omega arith) (omega arith))
 
 add-n : tie.Need-add-n Inv-loop μ-loop
 add-n c = search needs
@@ -92,12 +101,15 @@ loop-less c = search needs
 
 loop-again : tie.Need-loop-again Inv-loop μ-loop
 loop-again c =
-    let v = c .before .before .before .before .before .before .before .before .before .before .before .args .c .now in
-    let n = c .before .before .before .before .before .before .before .loop .n in
-    let i = c .before .before .before .before .before .before .before .loop .i in
+    let c8 = c .before .before .before .before .before .before .before .before in
+    let at-loop = c .before .before .before .before .before .before .before .loop in
+    let at-wide = c .before .before .before .before .wide in
+    let v = c8 .before .before .before .args .c .now in
+    let n = at-loop .n in
+    let i = at-loop .i in
     let h : i < length v = c .before .before .before .before .before .before .loop-test .taken in
-    let b : c .before .before .before .before .wide .result ≡ getD v i 0 = c .before .before .before .before .wide .ensures in
-    (omega arith, (c .before .before .before .before .before .before .before .loop .inv .1), (c .before .before .before .before .before .before .before .loop .inv .2) ∙ scan-yes n i v h (omega arith) (omega arith) (omega arith) ∙ rw (add-one i) (ap (λ (x : ℕ). scan x (drop (suc i) v)) (omega arith)))
+    let b : at-wide .result ≡ getD v i 0 = at-wide .ensures in
+    (omega arith, (at-loop .inv .1), (at-loop .inv .2) ∙ scan-yes n i v h (omega arith) (omega arith) (omega arith) ∙ rw (add-one i) (ap (λ (x : ℕ). scan x (drop (suc i) v)) (omega arith)))
 
 returns-6 : tie.Need-returns-6 Inv-loop μ-loop
 returns-6 c = some-at (c .before .before .before .before .before .args .c .now) (c .before .loop .n) (c .before .loop .i) (c .before .loop .inv .1) (c .before .loop .inv .2) (c .loop-test .left)

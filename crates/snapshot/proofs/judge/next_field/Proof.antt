@@ -72,7 +72,8 @@ module _ {M : Type 1} (𝓤 : URA M) (H : Heap 𝓤) (A : Atoms 𝓤) (mem : Mem
   abbrev Go : Contract 𝓤
   Go = tripleOf 𝓤 H A next.signature (next.spec 𝓤 H A mem run)
 
-module _ {M : Type 1} (𝓤 : URA M) (H : Heap 𝓤) (A : Atoms 𝓤) (W : Given 𝓤 H A) (mem : Memory → SProp 𝓤) (run : Routine → Fun 𝓤) (κ : Lft) (q : Share) (s : RefT (List ℕ)) (n k : ℕ) (n-fits : n < 2 ^ 64) (k-fits : k < 2 ^ 64) where
+module _ {M : Type 1} (𝓤 : URA M) (H : Heap 𝓤) (A : Atoms 𝓤) (W : Given 𝓤 H A) (mem : Memory → SProp 𝓤) (run : Routine → Fun 𝓤) (κ : Lft) (q : Share) (s : RefT (List ℕ)) (n k : ℕ)
+    (n-fits : n < 2 ^ 64) (k-fits : k < 2 ^ 64) where
   -- the machine value that s has
   abbrev v : Val
   v = sliceVal (s .ptr) (length (s .now))
@@ -108,7 +109,8 @@ module _ {M : Type 1} (𝓤 : URA M) (H : Heap 𝓤) (A : Atoms 𝓤) (W : Given
       qed W ((‵ (flft κ q) ⊛ ‵ ftrue) ∷ ‵ (owns (ShrSlice (named 0) κ u8 ∷ usize ∷ u64 ∷ []) a at) ∷ []) ∵
       move ! (1 ∷ []) $ fsplit ! $ move ! (1 ∷ []) $ drop ! $ use1 W (‵ Own ⊛ ‵ Own) (shr-slice-copy 𝓤 H A W (named 0) κ u8 .twice s (v ∷ [])) $ split ! $
       nothing ! $ owned ! usize (Is usize) (uint-makes 𝓤 H A W w64) n _ (refl, n-fits) $ fjoin ! $ move ! (1 ∷ 0 ∷ []) $ fjoin ! $
-      move ! (2 ∷ 0 ∷ []) $ use2 W (raw (New 𝓤 H A mem run .pre to-new)) (qed W ((‵ (flft κ q) ⊛ ‵ ftrue) ∷ ‵ (owns (ShrSlice (named 0) κ u8 ∷ usize ∷ []) (s, (n, tt)) (v ∷ [], (vint w64 n ∷ [], tt))) ∷ []) ∵ join ! $ frame ! $ done !) $ frame ! $ done !
+      move ! (2 ∷ 0 ∷ []) $ use2 W (raw (New 𝓤 H A mem run .pre to-new))
+      (qed W ((‵ (flft κ q) ⊛ ‵ ftrue) ∷ ‵ (owns (ShrSlice (named 0) κ u8 ∷ usize ∷ []) (s, (n, tt)) (v ∷ [], (vint w64 n ∷ [], tt))) ∷ []) ∵ join ! $ frame ! $ done !) $ frame ! $ done !
 
   new-said : (r : FieldReader) → ent 𝓤 (ensured 𝓤 H A new.ended (new.clauses 𝓤 H A mem run) (κ, tt) (s, (n, tt)) tt r) (fact 𝓤 ((r .text ≡ s) × (r .at ≡ n)))
   new-said r = exE 𝓤 _ (λ ws. snd∗ 𝓤 (sem 𝓤 H A (lasts new.ended (κ, tt) (s, (n, tt)) ws)) (fact 𝓤 ((r .text ≡ s) × (r .at ≡ n))))
@@ -128,25 +130,30 @@ module _ {M : Type 1} (𝓤 : URA M) (H : Heap 𝓤) (A : Atoms 𝓤) (W : Given
   exits t u e =
       qed W (‵ (S.the-row .own t (u ∷ [])) ∷ (‵ (flft κ q) ⊛ ‵ ftrue) ∷ ‵ Own ∷ []) ∵
       suffices ! _ (ends-at 𝓤 H A f.ended stayed (f.clauses 𝓤 H A mem run) W (((κ, tt), (q, tt), tt, a, at), tt) u t (tt, (tt, (tt, tt))) (tt, (tt, (tt, tt)))) $ says ! e $
-      move ! (1 ∷ []) $ frame ! $ nothing ! $ owned ! u64 (Is u64) (uint-makes 𝓤 H A W w64) k _ (refl, k-fits) $ fjoin ! $ owned ! usize (Is usize) (uint-makes 𝓤 H A W w64) n _ (refl, n-fits) $ fjoin ! $
+      move ! (1 ∷ []) $ frame ! $ nothing ! $ owned ! u64 (Is u64) (uint-makes 𝓤 H A W w64) k _ (refl, k-fits) $ fjoin ! $ owned ! usize (Is usize) (uint-makes 𝓤 H A W w64) n _
+      (refl, n-fits) $ fjoin ! $
       move ! (2 ∷ 0 ∷ []) $ fjoin ! $ frame ! $ done !
 
-  module _ (C : Calls 𝓤 H) (Λ : Loops 𝓤 H) (fm : FmC 𝓤 H (W .laws) C) (known-new : Triple 𝓤 (C #snapshot·reader·new) (New 𝓤 H A mem run)) (known-next : Triple 𝓤 (C #snapshot·reader·next) (Go 𝓤 H A mem run)) where
+  module _ (C : Calls 𝓤 H) (Λ : Loops 𝓤 H) (fm : FmC 𝓤 H (W .laws) C) (known-new : Triple 𝓤 (C #snapshot·reader·new) (New 𝓤 H A mem run))
+      (known-next : Triple 𝓤 (C #snapshot·reader·next) (Go 𝓤 H A mem run)) where
     walk : Is (ShrSlice (named 0) κ u8) s (v ∷ []) → ent 𝓤 (onEntry 𝓤 H A f.signature (κ, tt) (q, tt) a at) (WpFn 𝓤 H C Λ code.function (v ∷ vint w64 n ∷ vint w64 k ∷ []) Post)
     walk p =
         qed W (raw (onEntry 𝓤 H A f.signature (κ, tt) (q, tt) a at) ∷ []) ∵ enter ! C Λ code.function (v ∷ vint w64 n ∷ vint w64 k ∷ []) _ $
-        alloc1 ! (λ l₀. alloc1 ! (λ l₁. alloc1 ! (λ l₂. alloc1 ! (λ l₃. alloc1 ! (λ l₄. alloc0 ! $ params1 ! $ pass1 ! (init ! 6 refl (shr-slice-lawful 𝓤 H A W (named 0) κ u8 .typed s (v ∷ []) p .0)) $
+        alloc1 ! (λ l₀. alloc1 !
+        (λ l₁. alloc1 ! (λ l₂. alloc1 ! (λ l₃. alloc1 ! (λ l₄. alloc0 ! $ params1 ! $ pass1 ! (init ! 6 refl (shr-slice-lawful 𝓤 H A W (named 0) κ u8 .typed s (v ∷ []) p .0)) $
         pass1 ! (init ! 4 refl (tt, record { fits = n-fits })) $ pass1 ! (init ! 2 refl (tt, record { fits = k-fits })) $ pass0 ! $
         move ! (10 ∷ []) $ use1 W (raw (New 𝓤 H A mem run .pre to-new) ⊛ ‵ Own) goes-new $ split ! $
         calls-at ! fm (New 𝓤 H A mem run) known-new to-new (and-then ! (load ! (from ! (stop !)) (look ! 8 refl)) (and-then ! (load ! (from ! (stop !)) (look ! 6 refl)) (no-more !))) (λ u.
-        use1 W (later (some (λ (r : FieldReader). ((‵ (flft κ q) ⊛ ‵ ftrue) ⊛ ‵ (B (κ, tt) .own r (u ∷ []))) ⊛ raw (ensured 𝓤 H A new.ended (new.clauses 𝓤 H A mem run) (κ, tt) (s, (n, tt)) tt r)))) (id⊢ 𝓤 _) $ await ! tt $ pick ! (λ r.
+        use1 W (later (some (λ (r : FieldReader). ((‵ (flft κ q) ⊛ ‵ ftrue) ⊛ ‵ (B (κ, tt) .own r (u ∷ []))) ⊛ raw
+        (ensured 𝓤 H A new.ended (new.clauses 𝓤 H A mem run) (κ, tt) (s, (n, tt)) tt r)))) (id⊢ 𝓤 _) $ await ! tt $ pick ! (λ r.
         split ! $ move ! (1 ∷ []) $ use1 W (raw (fact 𝓤 ((r .text ≡ s) × (r .at ≡ n)))) (new-said r) $ heard ! ((r .text ≡ s) × (r .at ≡ n)) (λ e. split ! $ move ! (1 ∷ []) $
         -- [what the struct owns; the token; what s owns; room for _4; …; _3; …; _2; …; _1; …; room for _0; …]
         peeks ! (B (κ, tt)) (Is (B (κ, tt))) (shows 𝓤 H A (B (κ, tt))) r (u ∷ []) (λ is.
         land ! (from ! (stop !)) (init ! 3 refl (LL.lawful (T.the-type αᵉ) (T′.the-laws αᵉ) 𝓤 H A W .typed r _ is .0)) $
         use2 W (raw (Go 𝓤 H A mem run .pre (to-next r u))) (goes-next r u) $
         calls-at ! fm (Go 𝓤 H A mem run) known-next (to-next r u) (and-then ! (load ! (from ! (stop !)) (look ! 2 refl)) (and-then ! (load ! (from ! (stop !)) (look ! 4 refl)) (no-more !))) (λ u′.
-        use1 W (later (some (λ (t : Next). ((‵ (flft κ q) ⊛ ‵ ftrue) ⊛ ‵ (S.the-row .own t (u′ ∷ []))) ⊛ raw (ensured 𝓤 H A next.ended (next.clauses 𝓤 H A mem run) (κ, tt) (r, (k, tt)) tt t)))) (id⊢ 𝓤 _) $ await ! tt $ pick ! (λ t.
+        use1 W (later (some (λ (t : Next). ((‵ (flft κ q) ⊛ ‵ ftrue) ⊛ ‵ (S.the-row .own t (u′ ∷ []))) ⊛ raw
+        (ensured 𝓤 H A next.ended (next.clauses 𝓤 H A mem run) (κ, tt) (r, (k, tt)) tt t)))) (id⊢ 𝓤 _) $ await ! tt $ pick ! (λ t.
         split ! $ move ! (1 ∷ []) $ use1 W (raw (fact 𝓤 (t ≡ nextOf k (r .at) (now (r .text))))) (next-said r t) $ heard ! (t ≡ nextOf k (r .at) (now (r .text))) (λ e′. split ! $ move ! (1 ∷ []) $
         -- [the result; the token; what s owns; _4; …; _3; …; _2; …; _1; …; room for _0; …]
         peeks ! S.the-row (Is S.the-row) (shows 𝓤 H A S.the-row) t (u′ ∷ []) (λ is′.
@@ -158,13 +165,16 @@ module _ {M : Type 1} (𝓤 : URA M) (H : Heap 𝓤) (A : Atoms 𝓤) (W : Given
 module _ {M : Type 1} (𝓤 : URA M) (H : Heap 𝓤) (A : Atoms 𝓤) (W : Given 𝓤 H A) (mem : Memory → SProp 𝓤) (run : Routine → Fun 𝓤) where
   next-field-walks : (C : Calls 𝓤 H) (Λ : Loops 𝓤 H) → FmC 𝓤 H (W .laws) C → Triple 𝓤 (C #snapshot·reader·new) (New 𝓤 H A mem run) → Triple 𝓤 (C #snapshot·reader·next) (Go 𝓤 H A mem run)
       → Walks 𝓤 H A f.ended stayed (WpFn 𝓤 H C Λ code.function) (f.clauses 𝓤 H A mem run)
-  next-field-walks C Λ fm known-new known-next = walked 𝓤 H A f.ended stayed (f.clauses 𝓤 H A mem run) (WpFn 𝓤 H C Λ code.function) (λ κs. (slice-vals, (uint-vals w64, (uint-vals w64, tt)))) (λ κs. (shr-slice-tells (named 0) (κs .0) u8, (uint-tells w64, (uint-tells w64, tt))))
+  next-field-walks C Λ fm known-new known-next = walked 𝓤 H A f.ended stayed (f.clauses 𝓤 H A mem run) (WpFn 𝓤 H C Λ code.function)
+      (λ κs. (slice-vals, (uint-vals w64, (uint-vals w64, tt)))) (λ κs. (shr-slice-tells (named 0) (κs .0) u8, (uint-tells w64, (uint-tells w64, tt))))
       (λ κs qs bounds a g are. via 𝓤 _ (fst∗ 𝓤 _ (emp 𝓤)) (walk 𝓤 H A W mem run (κs .0) (qs .0) (a .0) (a .1 .0) (a .1 .1 .0) (are .1 .0 .1) (are .1 .1 .0 .1) C Λ fm known-new known-next (are .0)))
 
 next-field-meets : {M : Type 1} (𝓤 : URA M) (H : Heap 𝓤) (A : Atoms 𝓤) (W : Given 𝓤 H A) (mem : Memory → SProp 𝓤) (run : Routine → Fun 𝓤) (𝓣 : Tables 𝓤 H)
     → Triple 𝓤 (𝓣 .C #snapshot·reader·new) (New 𝓤 H A mem run) → Triple 𝓤 (𝓣 .C #snapshot·reader·next) (Go 𝓤 H A mem run)
     → Meets 𝓤 H A f.signature (WpFn 𝓤 H (𝓣 .C) (𝓣 .Λ) code.function) (f.spec 𝓤 H A mem run)
-next-field-meets 𝓤 H A W mem run 𝓣 known-new known-next = walk-meets 𝓤 H A f.ended stayed W (goes-none-slice 𝓤 H A W 1 (0 ∷ []) tt (plain (λ _. u8)) yes, (goes-none 𝓤 H A W 1 (λ _. usize) yes (λ κs x f. refl), (goes-none 𝓤 H A W 1 (λ _. u64) yes (λ κs x f. refl), tt))) (f.clauses 𝓤 H A mem run) (WpFn 𝓤 H (𝓣 .C) (𝓣 .Λ) code.function) (WpFn-mono 𝓤 H (W .laws) 𝓣 code.function)
+next-field-meets 𝓤 H A W mem run 𝓣 known-new known-next = walk-meets 𝓤 H A f.ended stayed W
+    (goes-none-slice 𝓤 H A W 1 (0 ∷ []) tt (plain (λ _. u8)) yes, (goes-none 𝓤 H A W 1 (λ _. usize) yes (λ κs x f. refl), (goes-none 𝓤 H A W 1 (λ _. u64) yes (λ κs x f. refl), tt)))
+    (f.clauses 𝓤 H A mem run) (WpFn 𝓤 H (𝓣 .C) (𝓣 .Λ) code.function) (WpFn-mono 𝓤 H (W .laws) 𝓣 code.function)
     (next-field-walks 𝓤 H A W mem run (𝓣 .C) (𝓣 .Λ) (fmOf 𝓤 H (W .laws) 𝓣) known-new known-next)
 
 pub next-field-spec : {M : Type 1} → stated.statement M

@@ -33,15 +33,15 @@ enum-told c = search needs
 
 returns : tie.Need-returns
 returns c =
-    let d = c .before .before .before .before .before .before .args .d in
-    let t = c .before .before .before .before .before .before .args .text .now in
+    let at-args = c .before .before .before .before .before .before .args in
+    let at-pre = c .before .before .before .before .before .before .pre in
+    let d = at-args .d in
+    let t = at-args .text .now in
     let C = c .before .before .before .chn-codes in
     let v = C .last .1 .1 .0 in
-    let m = length-take-le d (replicate {A = ℕ} 16 0) (c .before .before .before .before .before .before .pre) in
-    let n : length v ≡ d = C .ensures .kept ∙ m in (
-      none-or d _ (drop (c .before .before .before .before .before .before .args .at) t) (c .before .before .before .before .before .before .pre) m (lost-one (C .result) t v _ (c .enum-told .given .1) (C .ensures .told)),
-      (none-over d (c .before .before .before .before .before .before .pre), omega arith),
-    )
+    let m = length-take-le d (replicate {A = ℕ} 16 0) (at-pre) in
+    let n : length v ≡ d = C .ensures .kept ∙ m in
+    (none-or d _ (drop (at-args .at) t) (at-pre) m (lost-one (C .result) t v _ (c .enum-told .given .1) (C .ensures .told)), (none-over d (at-pre), omega arith))
 
 array-share-prefix-w : tie.Need-array-share-prefix-w
 array-share-prefix-w c =
@@ -65,25 +65,32 @@ slice-aggregate-narrowed c =
 
 narrowed-requires : tie.Need-narrowed-requires
 narrowed-requires c κs =
-    let d = c .before .before .before .before .before .before .before .before .args .d in
-    let t = c .before .before .before .before .before .before .before .before .args .text .now in
+    let c8 = c .before .before .before .before .before .before .before .before in
+    let at-args = c8 .args in
+    let at-pre = c8 .pre in
+    let at-p = c .before .before .p in
+    let d = at-args .d in
+    let t = at-args .text .now in
     let C = c .before .before .before .before .before .chn-codes in
     let v = C .last .1 .1 .0 in
-    let m = length-take-le d (replicate {A = ℕ} 16 0) (c .before .before .before .before .before .before .before .before .pre) in
+    let m = length-take-le d (replicate {A = ℕ} 16 0) (at-pre) in
     let n : length v ≡ d = C .ensures .kept ∙ m in
-    let q = got-one (C .result) t v _ (c .before .before .p .given .0 .0) (c .before .before .p .given .1) (C .ensures .told) in
+    let q = got-one (C .result) t v _ (at-p .given .0 .0) (at-p .given .1) (C .ensures .told) in
     let f = front-is v (drop d (replicate {A = ℕ} 16 0)) d n in
-    (omega (arith, ap length f, n, c .before .before .before .before .before .before .before .before .pre), ap allCodes f ∙ codes-pass _ (drop (c .before .before .before .before .before .before .before .before .args .at) t) v (drop (c .before .before .p .given .0 .0) t) q)
+    (omega (arith, ap length f, n, at-pre), ap allCodes f ∙ codes-pass _ (drop (at-args .at) t) v (drop (at-p .given .0 .0) t) q)
 
 returns-2 : tie.Need-returns-2
 returns-2 c =
-    let d = c .before .before .before .before .before .before .before .before .before .args .d in
-    let t = c .before .before .before .before .before .before .before .before .before .args .text .now in
+    let c8 = c .before .before .before .before .before .before .before .before in
+    let at-args = c8 .before .args in
+    let at-p = c .before .before .before .p in
+    let d = at-args .d in
+    let t = at-args .text .now in
     let C = c .before .before .before .before .before .before .chn-codes in
     let v = C .last .1 .1 .0 in
-    let m = length-take-le d (replicate {A = ℕ} 16 0) (c .before .before .before .before .before .before .before .before .before .pre) in
+    let m = length-take-le d (replicate {A = ℕ} 16 0) (c8 .before .pre) in
     let n : length v ≡ d = C .ensures .kept ∙ m in
-    let q = got-one (C .result) t v _ (c .before .before .before .p .given .0 .0) (c .before .before .before .p .given .1) (C .ensures .told) in
+    let q = got-one (C .result) t v _ (at-p .given .0 .0) (at-p .given .1) (C .ensures .told) in
     let r = some-or d _ _ _ v (c .narrowed .result) m n q (c .narrowed .ensures ∙ ap (over (replicate 16 0)) (front-is v (drop d (replicate {A = ℕ} 16 0)) d n)) in
     (r .0, (r .1, omega arith))
 

@@ -30,10 +30,18 @@ counts-fit-requires : tie.Need-counts-fit-requires
 counts-fit-requires c κs = search needs
 
 returns : tie.Need-returns
-returns c = cnt-bad (c .before .before .before .before .before .before .args .method) (c .before .before .before .before .before .before .args .start) (c .before .before .before .wholes-line .result) (c .before .before .before .before .before .before .args .text .now) (drop (c .before .before .before .before .before .before .args .at) (c .before .before .before .before .before .before .args .text .now)) _ (c .before .before .before .wholes-line .ensures .told) (sym (c .before .counts-fit .ensures) ∙ not-true _ (c .if1 .taken))
+returns c =
+    let at-args = c .before .before .before .before .before .before .args in
+    let at-wholes-line = c .before .before .before .wholes-line in
+    cnt-bad (at-args .method) (at-args .start) (at-wholes-line .result) (at-args .text .now) (drop (at-args .at) (at-args .text .now)) _ (at-wholes-line .ensures .told)
+    (sym (c .before .counts-fit .ensures) ∙ not-true _ (c .if1 .taken))
 
 returns-2 : tie.Need-returns-2
-returns-2 c = cnt-good (c .before .before .before .before .before .before .args .method) (c .before .before .before .before .before .before .args .start) (c .before .before .before .wholes-line .result) (c .before .before .before .before .before .before .args .text .now) (drop (c .before .before .before .before .before .before .args .at) (c .before .before .before .before .before .before .args .text .now)) _ (c .before .before .before .wholes-line .ensures .told) (sym (c .before .counts-fit .ensures) ∙ not-false _ (c .if1 .left))
+returns-2 c =
+    let at-args = c .before .before .before .before .before .before .args in
+    let at-wholes-line = c .before .before .before .wholes-line in
+    cnt-good (at-args .method) (at-args .start) (at-wholes-line .result) (at-args .text .now) (drop (at-args .at) (at-args .text .now)) _ (at-wholes-line .ensures .told)
+    (sym (c .before .counts-fit .ensures) ∙ not-false _ (c .if1 .left))
 
 pub cnt-line-spec : {M : Type 1} → statement M
 cnt-line-spec =

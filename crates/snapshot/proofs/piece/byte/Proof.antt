@@ -18,10 +18,14 @@ add-t10 : tie.Need-add-t10
 add-t10 c = search needs
 
 returns : tie.Need-returns
-returns c = byte-yes (c .before .before .before .before .before .args .b) (c .before .before .before .before .before .args .text .now) (c .before .before .before .before .before .args .at) (c .before .before .before .if1 .taken) (sym (c .before .wide .ensures) ∙ c .if2 .taken)
+returns c =
+    let at-args = c .before .before .before .before .before .args in
+    byte-yes (at-args .b) (at-args .text .now) (at-args .at) (c .before .before .before .if1 .taken) (sym (c .before .wide .ensures) ∙ c .if2 .taken)
 
 returns-2 : tie.Need-returns-2
-returns-2 c = byte-no (c .before .before .before .before .before .args .b) (c .before .before .before .before .before .args .text .now) (c .before .before .before .before .before .args .at) (c .before .before .before .if1 .taken) (λ q. c .if2 .left (c .before .wide .ensures ∙ q))
+returns-2 c =
+    let at-args = c .before .before .before .before .before .args in
+    byte-no (at-args .b) (at-args .text .now) (at-args .at) (c .before .before .before .if1 .taken) (λ q. c .if2 .left (c .before .wide .ensures ∙ q))
 
 returns-3 : tie.Need-returns-3
 returns-3 c = byte-end (c .before .before .args .b) (c .before .before .args .text .now) (c .before .before .args .at) (c .if1 .left)

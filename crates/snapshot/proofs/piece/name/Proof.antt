@@ -22,7 +22,10 @@ enum-told : tie.Need-enum-told
 enum-told c = search needs
 
 returns : tie.Need-returns
-returns c = ap (λ (o : Option (List ℕ)). onto (onto o (byte (c .before .before .before .before .args .b))) (byte (c .before .before .before .before .args .c))) (lost (c .before .before .byte .result) (c .before .before .before .before .args .text .now) _ (c .enum-told .given .1) (c .before .before .byte .ensures))
+returns c =
+    let at-args = c .before .before .before .before .args in
+    let at-byte = c .before .before .byte in
+    ap (λ (o : Option (List ℕ)). onto (onto o (byte (at-args .b))) (byte (at-args .c))) (lost (at-byte .result) (at-args .text .now) _ (c .enum-told .given .1) (at-byte .ensures))
 
 byte-requires-2 : tie.Need-byte-requires-2
 byte-requires-2 c κs = search needs
@@ -35,19 +38,29 @@ enum-told-2 c = search needs
 
 returns-2 : tie.Need-returns-2
 returns-2 c =
-    let t = c .before .before .before .before .before .before .before .before .args .text .now in
-    ap (λ (o : Option (List ℕ)). onto o (byte (c .before .before .before .before .before .before .before .before .args .c))) (lost (c .before .before .byte2 .result) t _ (c .enum-told2 .given .1) (c .before .before .byte2 .ensures))
-    ∙ ap (λ (o : Option (List ℕ)). onto (onto o (byte (c .before .before .before .before .before .before .before .before .args .b))) (byte (c .before .before .before .before .before .before .before .before .args .c))) (got (c .before .before .before .before .before .before .byte .result) t _ (c .before .before .before .before .p .given .0 .0) (c .before .before .before .before .p .given .1) (c .before .before .before .before .before .before .byte .ensures))
+    let c8 = c .before .before .before .before .before .before .before .before in
+    let at-args = c8 .args in
+    let at-byte = c .before .before .before .before .before .before .byte in
+    let at-p = c .before .before .before .before .p in
+    let at-byte2 = c .before .before .byte2 in
+    let t = at-args .text .now in
+    ap (λ (o : Option (List ℕ)). onto o (byte (at-args .c))) (lost (at-byte2 .result) t _ (c .enum-told2 .given .1) (at-byte2 .ensures)) ∙ ap
+    (λ (o : Option (List ℕ)). onto (onto o (byte (at-args .b))) (byte (at-args .c))) (got (at-byte .result) t _ (at-p .given .0 .0) (at-p .given .1) (at-byte .ensures))
 
 byte-requires-3 : tie.Need-byte-requires-3
 byte-requires-3 c κs = search needs
 
 returns-3 : tie.Need-returns-3
 returns-3 c =
-    let t = c .before .before .before .before .before .before .before .before .before .before .args .text .now in
-    c .byte3 .ensures
-    ∙ ap (λ (o : Option (List ℕ)). onto o (byte (c .before .before .before .before .before .before .before .before .before .before .args .c))) (got (c .before .before .before .before .byte2 .result) t _ (c .before .before .q .given .0 .0) (c .before .before .q .given .1) (c .before .before .before .before .byte2 .ensures))
-    ∙ ap (λ (o : Option (List ℕ)). onto (onto o (byte (c .before .before .before .before .before .before .before .before .before .before .args .b))) (byte (c .before .before .before .before .before .before .before .before .before .before .args .c))) (got (c .before .before .before .before .before .before .before .before .byte .result) t _ (c .before .before .before .before .before .before .p .given .0 .0) (c .before .before .before .before .before .before .p .given .1) (c .before .before .before .before .before .before .before .before .byte .ensures))
+    let c8 = c .before .before .before .before .before .before .before .before in
+    let at-args = c8 .before .before .args in
+    let at-byte = c8 .byte in
+    let at-p = c .before .before .before .before .before .before .p in
+    let at-byte2 = c .before .before .before .before .byte2 in
+    let at-q = c .before .before .q in
+    let t = at-args .text .now in
+    c .byte3 .ensures ∙ ap (λ (o : Option (List ℕ)). onto o (byte (at-args .c))) (got (at-byte2 .result) t _ (at-q .given .0 .0) (at-q .given .1) (at-byte2 .ensures)) ∙ ap
+    (λ (o : Option (List ℕ)). onto (onto o (byte (at-args .b))) (byte (at-args .c))) (got (at-byte .result) t _ (at-p .given .0 .0) (at-p .given .1) (at-byte .ensures))
 
 pub name-spec : {M : Type 1} → statement M
 name-spec =

@@ -16,13 +16,18 @@ parse-requires : tie.Need-parse-requires
 parse-requires c κs = search needs
 
 returns : tie.Need-returns
-returns c = rest-is (c .before .before .before .args .kind) (c .before .before .before .args .text .now) (c .before .before .before .args .at) (c .before .before .before .args .at) (c .parse .result) refl (omega (arith, c .before .if1 .taken)) (c .parse .ensures)
+returns c =
+    let at-args = c .before .before .before .args in
+    rest-is (at-args .kind) (at-args .text .now) (at-args .at) (at-args .at) (c .parse .result) refl (omega (arith, c .before .if1 .taken)) (c .parse .ensures)
 
 parse-requires-2 : tie.Need-parse-requires-2
 parse-requires-2 c κs = search needs
 
 returns-2 : tie.Need-returns-2
-returns-2 c = rest-is (c .before .before .before .args .kind) (c .before .before .before .args .text .now) (c .before .before .before .args .at) (length (c .before .before .before .args .text .now)) (c .parse2 .result) (drop-length (c .before .before .before .args .text .now) ∙ sym (drop-of-length-le (c .before .before .before .args .text .now) (c .before .if1 .left))) (omega arith) (c .parse2 .ensures)
+returns-2 c =
+    let at-args = c .before .before .before .args in
+    rest-is (at-args .kind) (at-args .text .now) (at-args .at) (length (at-args .text .now)) (c .parse2 .result)
+    (drop-length (at-args .text .now) ∙ sym (drop-of-length-le (at-args .text .now) (c .before .if1 .left))) (omega arith) (c .parse2 .ensures)
 
 pub rest-at-spec : {M : Type 1} → statement M
 rest-at-spec = tie.close (tie.spec parse-requires returns parse-requires-2 returns-2)

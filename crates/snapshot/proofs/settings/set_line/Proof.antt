@@ -33,8 +33,9 @@ no-set-requires c κs = search needs
 
 returns : tie.Need-returns
 returns c =
+    let at-name = c .before .before .before .name in
     let t = c .before .before .before .before .before .args .text .now in
-    no-settings (c .no-set .result) t (c .no-set .ensures) ∙ set-nameless t (lost (c .before .before .before .name .result) t _ (c .before .enum-told .given .1) (c .before .before .before .name .ensures))
+    no-settings (c .no-set .result) t (c .no-set .ensures) ∙ set-nameless t (lost (at-name .result) t _ (c .before .enum-told .given .1) (at-name .ensures))
 
 byte-requires : tie.Need-byte-requires
 byte-requires c κs = search needs
@@ -50,8 +51,13 @@ no-set-requires-2 c κs = search needs
 
 returns-2 : tie.Need-returns-2
 returns-2 c =
-    let t = c .before .before .before .before .before .before .before .before .before .args .text .now in
-    no-settings (c .no-set2 .result) t (c .no-set2 .ensures) ∙ set-tabless t (drop (c .before .before .before .before .before .p .given .0 .0) t) (got (c .before .before .before .before .before .before .before .name .result) t _ (c .before .before .before .before .before .p .given .0 .0) (c .before .before .before .before .before .p .given .1) (c .before .before .before .before .before .before .before .name .ensures)) (lost (c .before .before .before .byte .result) t _ (c .before .enum-told2 .given .1) (c .before .before .before .byte .ensures))
+    let c8 = c .before .before .before .before .before .before .before .before in
+    let at-name = c .before .before .before .before .before .before .before .name in
+    let at-p = c .before .before .before .before .before .p in
+    let at-byte = c .before .before .before .byte in
+    let t = c8 .before .args .text .now in
+    no-settings (c .no-set2 .result) t (c .no-set2 .ensures) ∙ set-tabless t (drop (at-p .given .0 .0) t) (got (at-name .result) t _ (at-p .given .0 .0) (at-p .given .1) (at-name .ensures))
+    (lost (at-byte .result) t _ (c .before .enum-told2 .given .1) (at-byte .ensures))
 
 mode-at-requires : tie.Need-mode-at-requires
 mode-at-requires c κs = search needs
@@ -67,11 +73,27 @@ no-set-requires-3 c κs = search needs
 
 returns-3 : tie.Need-returns-3
 returns-3 c =
-    let t = c .before .before .before .before .before .before .before .before .before .before .before .before .before .args .text .now in
-    no-settings (c .no-set3 .result) t (c .no-set3 .ensures) ∙ set-modeless t (drop (c .before .before .before .before .before .before .before .before .before .p .given .0 .0) t) (got (c .before .before .before .before .before .before .before .before .before .before .before .name .result) t _ (c .before .before .before .before .before .before .before .before .before .p .given .0 .0) (c .before .before .before .before .before .before .before .before .before .p .given .1) (c .before .before .before .before .before .before .before .before .before .before .before .name .ensures)) (c .before .before .before .before .before .q .given .0 .0) (got (c .before .before .before .before .before .before .before .byte .result) t _ (c .before .before .before .before .before .q .given .0 .0) (c .before .before .before .before .before .q .given .1) (c .before .before .before .before .before .before .before .byte .ensures)) (c .before .before .before .mode-at .result) (c .before .enum-told3 .given .1) (c .before .before .before .mode-at .ensures)
+    let c8 = c .before .before .before .before .before .before .before .before in
+    let at-name = c8 .before .before .before .name in
+    let at-p = c8 .before .p in
+    let at-byte = c .before .before .before .before .before .before .before .byte in
+    let at-q = c .before .before .before .before .before .q in
+    let at-mode-at = c .before .before .before .mode-at in
+    let t = c8 .before .before .before .before .before .args .text .now in
+    no-settings (c .no-set3 .result) t (c .no-set3 .ensures) ∙ set-modeless t (drop (at-p .given .0 .0) t)
+    (got (at-name .result) t _ (at-p .given .0 .0) (at-p .given .1) (at-name .ensures)) (at-q .given .0 .0)
+    (got (at-byte .result) t _ (at-q .given .0 .0) (at-q .given .1) (at-byte .ensures)) (at-mode-at .result) (c .before .enum-told3 .given .1) (at-mode-at .ensures)
 
 add-wholes : tie.Need-add-wholes
-add-wholes c = omega (arith, mode-inside (c .before .before .before .before .before .before .before .before .before .before .before .before .before .args .text .now) (c .before .before .before .before .before .q .given .0 .0) (c .before .before .before .mode-at .result) (c .before .letter .given .0 .0) (c .before .letter .given .1) (c .before .before .before .mode-at .ensures))
+add-wholes c =
+    let c8 = c .before .before .before .before .before .before .before .before in
+    let at-mode-at = c .before .before .before .mode-at in
+    let at-letter = c .before .letter in
+    omega (
+      arith,
+      mode-inside (c8 .before .before .before .before .before .args .text .now) (c .before .before .before .before .before .q .given .0 .0) (at-mode-at .result)
+          (at-letter .given .0 .0) (at-letter .given .1) (at-mode-at .ensures),
+    )
 
 slice-aggregate-wholes : tie.Need-slice-aggregate-wholes
 slice-aggregate-wholes c = search needs
@@ -90,8 +112,20 @@ no-set-requires-4 c κs = search needs
 
 returns-4 : tie.Need-returns-4
 returns-4 c =
-    let t = c .before .before .before .before .before .before .before .before .before .before .before .before .before .before .before .before .before .before .before .args .text .now in
-    no-settings (c .no-set4 .result) t (c .no-set4 .ensures) ∙ set-wholeless t (drop (c .before .before .before .before .before .before .before .before .before .before .before .before .before .before .before .p .given .0 .0) t) (got (c .before .before .before .before .before .before .before .before .before .before .before .before .before .before .before .before .before .name .result) t _ (c .before .before .before .before .before .before .before .before .before .before .before .before .before .before .before .p .given .0 .0) (c .before .before .before .before .before .before .before .before .before .before .before .before .before .before .before .p .given .1) (c .before .before .before .before .before .before .before .before .before .before .before .before .before .before .before .before .before .name .ensures)) (c .before .before .before .before .before .before .before .before .before .before .before .q .given .0 .0) (got (c .before .before .before .before .before .before .before .before .before .before .before .before .before .byte .result) t _ (c .before .before .before .before .before .before .before .before .before .before .before .q .given .0 .0) (c .before .before .before .before .before .before .before .before .before .before .before .q .given .1) (c .before .before .before .before .before .before .before .before .before .before .before .before .before .byte .ensures)) (c .before .before .before .before .before .before .before .before .before .mode-at .result) (c .before .before .before .before .before .before .before .letter .given .0 .0) (c .before .before .before .before .before .before .before .letter .given .1) (c .before .before .before .before .before .before .before .before .before .mode-at .ensures) (lost-list (c .before .before .before .before .wholes .result) t _ _ (c .before .enum-told4 .given .1) (c .before .before .before .before .wholes .ensures .told))
+    let c8 = c .before .before .before .before .before .before .before .before in
+    let c16 = c8 .before .before .before .before .before .before .before .before in
+    let at-name = c16 .before .name in
+    let at-p = c8 .before .before .before .before .before .before .before .p in
+    let at-byte = c8 .before .before .before .before .before .byte in
+    let at-q = c8 .before .before .before .q in
+    let at-mode-at = c8 .before .mode-at in
+    let at-letter = c .before .before .before .before .before .before .before .letter in
+    let at-wholes = c .before .before .before .before .wholes in
+    let t = c16 .before .before .before .args .text .now in
+    no-settings (c .no-set4 .result) t (c .no-set4 .ensures) ∙ set-wholeless t (drop (at-p .given .0 .0) t)
+    (got (at-name .result) t _ (at-p .given .0 .0) (at-p .given .1) (at-name .ensures)) (at-q .given .0 .0)
+    (got (at-byte .result) t _ (at-q .given .0 .0) (at-q .given .1) (at-byte .ensures)) (at-mode-at .result) (at-letter .given .0 .0) (at-letter .given .1) (at-mode-at .ensures)
+    (lost-list (at-wholes .result) t _ _ (c .before .enum-told4 .given .1) (at-wholes .ensures .told))
 
 array-read-method-of : tie.Need-array-read-method-of
 array-read-method-of c = search needs
@@ -110,8 +144,23 @@ no-set-requires-5 c κs = search needs
 
 returns-5 : tie.Need-returns-5
 returns-5 c =
-    let t = c .before .before .before .before .before .before .before .before .before .before .before .before .before .before .before .before .before .before .before .before .before .before .before .args .text .now in
-    no-settings (c .no-set5 .result) t (c .no-set5 .ensures) ∙ set-methodless t (drop (c .before .before .before .before .before .before .before .before .before .before .before .before .before .before .before .before .before .before .before .p .given .0 .0) t) (got (c .before .before .before .before .before .before .before .before .before .before .before .before .before .before .before .before .before .before .before .before .before .name .result) t _ (c .before .before .before .before .before .before .before .before .before .before .before .before .before .before .before .before .before .before .before .p .given .0 .0) (c .before .before .before .before .before .before .before .before .before .before .before .before .before .before .before .before .before .before .before .p .given .1) (c .before .before .before .before .before .before .before .before .before .before .before .before .before .before .before .before .before .before .before .before .before .name .ensures)) (c .before .before .before .before .before .before .before .before .before .before .before .before .before .before .before .q .given .0 .0) (got (c .before .before .before .before .before .before .before .before .before .before .before .before .before .before .before .before .before .byte .result) t _ (c .before .before .before .before .before .before .before .before .before .before .before .before .before .before .before .q .given .0 .0) (c .before .before .before .before .before .before .before .before .before .before .before .before .before .before .before .q .given .1) (c .before .before .before .before .before .before .before .before .before .before .before .before .before .before .before .before .before .byte .ensures)) (c .before .before .before .before .before .before .before .before .before .before .before .before .before .mode-at .result) (c .before .before .before .before .before .before .before .before .before .before .before .letter .given .0 .0) (c .before .before .before .before .before .before .before .before .before .before .before .letter .given .1) (c .before .before .before .before .before .before .before .before .before .before .before .before .before .mode-at .ensures) _ (drop (c .before .before .before .before .before .s .given .0 .0) t) (got-list (c .before .before .before .before .before .before .before .before .wholes .result) t _ _ (c .before .before .before .before .before .s .given .0 .0) (c .before .before .before .before .before .s .given .1) (c .before .before .before .before .before .before .before .before .wholes .ensures .told)) (c .before .before .before .method-of .result) (c .before .enum-told5 .given .1) (c .before .before .before .method-of .ensures)
+    let c8 = c .before .before .before .before .before .before .before .before in
+    let c16 = c8 .before .before .before .before .before .before .before .before in
+    let at-name = c16 .before .before .before .before .before .name in
+    let at-p = c16 .before .before .before .p in
+    let at-byte = c16 .before .byte in
+    let at-q = c8 .before .before .before .before .before .before .before .q in
+    let at-mode-at = c8 .before .before .before .before .before .mode-at in
+    let at-letter = c8 .before .before .before .letter in
+    let at-wholes = c8 .wholes in
+    let at-s = c .before .before .before .before .before .s in
+    let at-method-of = c .before .before .before .method-of in
+    let t = c16 .before .before .before .before .before .before .before .args .text .now in
+    no-settings (c .no-set5 .result) t (c .no-set5 .ensures) ∙ set-methodless t (drop (at-p .given .0 .0) t)
+    (got (at-name .result) t _ (at-p .given .0 .0) (at-p .given .1) (at-name .ensures)) (at-q .given .0 .0)
+    (got (at-byte .result) t _ (at-q .given .0 .0) (at-q .given .1) (at-byte .ensures)) (at-mode-at .result) (at-letter .given .0 .0) (at-letter .given .1) (at-mode-at .ensures) _
+    (drop (at-s .given .0 .0) t) (got-list (at-wholes .result) t _ _ (at-s .given .0 .0) (at-s .given .1) (at-wholes .ensures .told)) (at-method-of .result)
+    (c .before .enum-told5 .given .1) (at-method-of .ensures)
 
 set-tail-requires : tie.Need-set-tail-requires
 set-tail-requires c κs = search needs
@@ -136,8 +185,26 @@ no-set-requires-6 c κs = search needs
 
 returns-6 : tie.Need-returns-6
 returns-6 c =
-    let t = c .before .before .before .before .before .before .before .before .before .before .before .before .before .before .before .before .before .before .before .before .before .before .before .before .before .before .before .args .text .now in
-    no-settings (c .no-set6 .result) t (c .no-set6 .ensures) ∙ set-unfit t (drop (c .before .before .before .before .before .before .before .before .before .before .before .before .before .before .before .before .before .before .before .before .before .before .before .p .given .0 .0) t) (got (c .before .before .before .before .before .before .before .before .before .before .before .before .before .before .before .before .before .before .before .before .before .before .before .before .before .name .result) t _ (c .before .before .before .before .before .before .before .before .before .before .before .before .before .before .before .before .before .before .before .before .before .before .before .p .given .0 .0) (c .before .before .before .before .before .before .before .before .before .before .before .before .before .before .before .before .before .before .before .before .before .before .before .p .given .1) (c .before .before .before .before .before .before .before .before .before .before .before .before .before .before .before .before .before .before .before .before .before .before .before .before .before .name .ensures)) (c .before .before .before .before .before .before .before .before .before .before .before .before .before .before .before .before .before .before .before .q .given .0 .0) (got (c .before .before .before .before .before .before .before .before .before .before .before .before .before .before .before .before .before .before .before .before .before .byte .result) t _ (c .before .before .before .before .before .before .before .before .before .before .before .before .before .before .before .before .before .before .before .q .given .0 .0) (c .before .before .before .before .before .before .before .before .before .before .before .before .before .before .before .before .before .before .before .q .given .1) (c .before .before .before .before .before .before .before .before .before .before .before .before .before .before .before .before .before .before .before .before .before .byte .ensures)) (c .before .before .before .before .before .before .before .before .before .before .before .before .before .before .before .before .before .mode-at .result) (c .before .before .before .before .before .before .before .before .before .before .before .before .before .before .before .letter .given .0 .0) (c .before .before .before .before .before .before .before .before .before .before .before .before .before .before .before .letter .given .1) (c .before .before .before .before .before .before .before .before .before .before .before .before .before .before .before .before .before .mode-at .ensures) _ (drop (c .before .before .before .before .before .before .before .before .before .s .given .0 .0) t) (got-list (c .before .before .before .before .before .before .before .before .before .before .before .before .wholes .result) t _ _ (c .before .before .before .before .before .before .before .before .before .s .given .0 .0) (c .before .before .before .before .before .before .before .before .before .s .given .1) (c .before .before .before .before .before .before .before .before .before .before .before .before .wholes .ensures .told)) (c .before .before .before .before .before .before .before .method-of .result) (c .before .before .before .before .before .number .given .0 .0) (c .before .before .before .before .before .number .given .1) (c .before .before .before .before .before .before .before .method-of .ensures) (c .before .before .before .set-tail .result .place) (c .before .before .before .set-tail .result .decay) (c .before .before .before .set-tail .result .«weight_time») (c .before .before .before .set-tail .ensures) (sym (c .before .before .settings-fit .ensures) ∙ not-true _ (c .before .if1 .taken))
+    let c8 = c .before .before .before .before .before .before .before .before in
+    let c16 = c8 .before .before .before .before .before .before .before .before in
+    let c24 = c16 .before .before .before .before .before .before .before .before in
+    let at-name = c24 .before .name in
+    let at-p = c16 .before .before .before .before .before .before .before .p in
+    let at-byte = c16 .before .before .before .before .before .byte in
+    let at-q = c16 .before .before .before .q in
+    let at-mode-at = c16 .before .mode-at in
+    let at-letter = c8 .before .before .before .before .before .before .before .letter in
+    let at-wholes = c8 .before .before .before .before .wholes in
+    let at-s = c8 .before .s in
+    let at-method-of = c .before .before .before .before .before .before .before .method-of in
+    let at-number = c .before .before .before .before .before .number in
+    let at-set-tail = c .before .before .before .set-tail in
+    let t = c24 .before .before .before .args .text .now in
+    no-settings (c .no-set6 .result) t (c .no-set6 .ensures) ∙ set-unfit t (drop (at-p .given .0 .0) t) (got (at-name .result) t _ (at-p .given .0 .0) (at-p .given .1) (at-name .ensures))
+    (at-q .given .0 .0) (got (at-byte .result) t _ (at-q .given .0 .0) (at-q .given .1) (at-byte .ensures)) (at-mode-at .result) (at-letter .given .0 .0) (at-letter .given .1)
+    (at-mode-at .ensures) _ (drop (at-s .given .0 .0) t) (got-list (at-wholes .result) t _ _ (at-s .given .0 .0) (at-s .given .1) (at-wholes .ensures .told)) (at-method-of .result)
+    (at-number .given .0 .0) (at-number .given .1) (at-method-of .ensures) (at-set-tail .result .place) (at-set-tail .result .decay) (at-set-tail .result .«weight_time»)
+    (at-set-tail .ensures) (sym (c .before .before .settings-fit .ensures) ∙ not-true _ (c .before .if1 .taken))
 
 array-read-t20 : tie.Need-array-read-t20
 array-read-t20 c = search needs
@@ -153,8 +220,26 @@ array-read-t29 c = search needs
 
 returns-7 : tie.Need-returns-7
 returns-7 c =
-    let t = c .before .before .before .before .before .before .before .before .before .before .before .before .before .before .before .before .before .before .before .before .before .before .before .before .before .before .args .text .now in
-    set-good t (drop (c .before .before .before .before .before .before .before .before .before .before .before .before .before .before .before .before .before .before .before .before .before .before .p .given .0 .0) t) (got (c .before .before .before .before .before .before .before .before .before .before .before .before .before .before .before .before .before .before .before .before .before .before .before .before .name .result) t _ (c .before .before .before .before .before .before .before .before .before .before .before .before .before .before .before .before .before .before .before .before .before .before .p .given .0 .0) (c .before .before .before .before .before .before .before .before .before .before .before .before .before .before .before .before .before .before .before .before .before .before .p .given .1) (c .before .before .before .before .before .before .before .before .before .before .before .before .before .before .before .before .before .before .before .before .before .before .before .before .name .ensures)) (c .before .before .before .before .before .before .before .before .before .before .before .before .before .before .before .before .before .before .q .given .0 .0) (got (c .before .before .before .before .before .before .before .before .before .before .before .before .before .before .before .before .before .before .before .before .byte .result) t _ (c .before .before .before .before .before .before .before .before .before .before .before .before .before .before .before .before .before .before .q .given .0 .0) (c .before .before .before .before .before .before .before .before .before .before .before .before .before .before .before .before .before .before .q .given .1) (c .before .before .before .before .before .before .before .before .before .before .before .before .before .before .before .before .before .before .before .before .byte .ensures)) (c .before .before .before .before .before .before .before .before .before .before .before .before .before .before .before .before .mode-at .result) (c .before .before .before .before .before .before .before .before .before .before .before .before .before .before .letter .given .0 .0) (c .before .before .before .before .before .before .before .before .before .before .before .before .before .before .letter .given .1) (c .before .before .before .before .before .before .before .before .before .before .before .before .before .before .before .before .mode-at .ensures) _ (drop (c .before .before .before .before .before .before .before .before .s .given .0 .0) t) (got-list (c .before .before .before .before .before .before .before .before .before .before .before .wholes .result) t _ _ (c .before .before .before .before .before .before .before .before .s .given .0 .0) (c .before .before .before .before .before .before .before .before .s .given .1) (c .before .before .before .before .before .before .before .before .before .before .before .wholes .ensures .told)) (c .before .before .before .before .before .before .method-of .result) (c .before .before .before .before .number .given .0 .0) (c .before .before .before .before .number .given .1) (c .before .before .before .before .before .before .method-of .ensures) (c .before .before .set-tail .result .place) (c .before .before .set-tail .result .decay) (c .before .before .set-tail .result .«weight_time») (c .before .before .set-tail .ensures) (sym (c .before .settings-fit .ensures) ∙ not-false _ (c .if1 .left))
+    let c8 = c .before .before .before .before .before .before .before .before in
+    let c16 = c8 .before .before .before .before .before .before .before .before in
+    let c24 = c16 .before .before .before .before .before .before .before .before in
+    let at-name = c24 .name in
+    let at-p = c16 .before .before .before .before .before .before .p in
+    let at-byte = c16 .before .before .before .before .byte in
+    let at-q = c16 .before .before .q in
+    let at-mode-at = c16 .mode-at in
+    let at-letter = c8 .before .before .before .before .before .before .letter in
+    let at-wholes = c8 .before .before .before .wholes in
+    let at-s = c8 .s in
+    let at-method-of = c .before .before .before .before .before .before .method-of in
+    let at-number = c .before .before .before .before .number in
+    let at-set-tail = c .before .before .set-tail in
+    let t = c24 .before .before .args .text .now in
+    set-good t (drop (at-p .given .0 .0) t) (got (at-name .result) t _ (at-p .given .0 .0) (at-p .given .1) (at-name .ensures)) (at-q .given .0 .0)
+    (got (at-byte .result) t _ (at-q .given .0 .0) (at-q .given .1) (at-byte .ensures)) (at-mode-at .result) (at-letter .given .0 .0) (at-letter .given .1) (at-mode-at .ensures) _
+    (drop (at-s .given .0 .0) t) (got-list (at-wholes .result) t _ _ (at-s .given .0 .0) (at-s .given .1) (at-wholes .ensures .told)) (at-method-of .result) (at-number .given .0 .0)
+    (at-number .given .1) (at-method-of .ensures) (at-set-tail .result .place) (at-set-tail .result .decay) (at-set-tail .result .«weight_time») (at-set-tail .ensures)
+    (sym (c .before .settings-fit .ensures) ∙ not-false _ (c .if1 .left))
 
 pub set-line-spec : {M : Type 1} → statement M
 set-line-spec =

@@ -19,7 +19,10 @@ enum-known-f : tie.Need-enum-known-f
 enum-known-f c = search needs
 
 returns : tie.Need-returns
-returns c = tail-first (drop (c .before .before .before .args .at) (c .before .before .before .args .text .now)) (double-not (c .before .before .before .args .text .now) (c .before .before .before .args .at) (c .before .next-field .result) (c .before .next-field .ensures) (c .match .keys2))
+returns c =
+    let at-args = c .before .before .before .args in
+    let at-next-field = c .before .next-field in
+    tail-first (drop (at-args .at) (at-args .text .now)) (double-not (at-args .text .now) (at-args .at) (at-next-field .result) (at-next-field .ensures) (c .match .keys2))
 
 next-field-requires-2 : tie.Need-next-field-requires-2
 next-field-requires-2 c κs = search needs
@@ -29,19 +32,30 @@ enum-known-g c = search needs
 
 returns-2 : tie.Need-returns-2
 returns-2 c =
-    let t = c .before .before .before .before .before .before .before .args .text .now in
-    tail-second (drop (c .before .before .before .before .before .before .before .args .at) t) (c .before .before .before .f .given .0 .0) (drop (c .before .before .before .before .before .next-field .result .end) t) (double-is t (c .before .before .before .before .before .before .before .args .at) (c .before .before .before .before .before .next-field .result) (c .before .before .before .before .before .next-field .ensures) (c .before .before .before .f .given .0 .0) (c .before .before .before .f .given .1))
-    (single-not t (c .before .before .before .before .before .next-field .result .end) (c .before .next-field2 .result) (c .before .next-field2 .ensures) (c .match2 .keys2))
+    let at-args = c .before .before .before .before .before .before .before .args in
+    let at-next-field = c .before .before .before .before .before .next-field in
+    let at-f = c .before .before .before .f in
+    let at-next-field2 = c .before .next-field2 in
+    let t = at-args .text .now in
+    tail-second (drop (at-args .at) t) (at-f .given .0 .0) (drop (at-next-field .result .end) t)
+    (double-is t (at-args .at) (at-next-field .result) (at-next-field .ensures) (at-f .given .0 .0) (at-f .given .1))
+    (single-not t (at-next-field .result .end) (at-next-field2 .result) (at-next-field2 .ensures) (c .match2 .keys2))
 
 byte-requires : tie.Need-byte-requires
 byte-requires c κs = search needs
 
 returns-3 : tie.Need-returns-3
 returns-3 c =
-    let t = c .before .before .before .before .before .before .before .before .before .before .args .text .now in
-    tail-good (drop (c .before .before .before .before .before .before .before .before .before .before .args .at) t) (c .before .before .before .before .before .before .f .given .0 .0) (drop (c .before .before .before .before .before .before .before .before .next-field .result .end) t) (double-is t (c .before .before .before .before .before .before .before .before .before .before .args .at) (c .before .before .before .before .before .before .before .before .next-field .result) (c .before .before .before .before .before .before .before .before .next-field .ensures) (c .before .before .before .before .before .before .f .given .0 .0) (c .before .before .before .before .before .before .f .given .1))
-    (c .before .before .g .given .0 .0) (drop (c .before .before .before .before .next-field2 .result .end) t) (placed (c .byte .result) t)
-    (single-is t (c .before .before .before .before .before .before .before .before .next-field .result .end) (c .before .before .before .before .next-field2 .result) (c .before .before .before .before .next-field2 .ensures) (c .before .before .g .given .0 .0) (c .before .before .g .given .1)) (c .byte .ensures)
+    let c8 = c .before .before .before .before .before .before .before .before in
+    let at-args = c8 .before .before .args in
+    let at-next-field = c8 .next-field in
+    let at-f = c .before .before .before .before .before .before .f in
+    let at-next-field2 = c .before .before .before .before .next-field2 in
+    let at-g = c .before .before .g in
+    let t = at-args .text .now in
+    tail-good (drop (at-args .at) t) (at-f .given .0 .0) (drop (at-next-field .result .end) t)
+    (double-is t (at-args .at) (at-next-field .result) (at-next-field .ensures) (at-f .given .0 .0) (at-f .given .1)) (at-g .given .0 .0) (drop (at-next-field2 .result .end) t)
+    (placed (c .byte .result) t) (single-is t (at-next-field .result .end) (at-next-field2 .result) (at-next-field2 .ensures) (at-g .given .0 .0) (at-g .given .1)) (c .byte .ensures)
 
 pub set-tail-spec : {M : Type 1} → statement M
 set-tail-spec =

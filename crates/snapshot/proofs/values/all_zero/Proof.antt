@@ -28,7 +28,9 @@ shared-slice-read-if1 : tie.Need-shared-slice-read-if1 Inv-loop μ-loop
 shared-slice-read-if1 c = search needs
 
 returns : tie.Need-returns Inv-loop μ-loop
-returns c = sym (c .before .before .before .loop .inv .1 ∙ zeros-not (c .before .before .before .before .args .times .now) (c .before .before .before .loop .i) (c .before .before .loop-test .taken) (c .if1 .taken))
+returns c =
+    let at-loop = c .before .before .before .loop in
+    sym (at-loop .inv .1 ∙ zeros-not (c .before .before .before .before .args .times .now) (at-loop .i) (c .before .before .loop-test .taken) (c .if1 .taken))
 
 add-i : tie.Need-add-i Inv-loop μ-loop
 add-i c = search needs
@@ -37,7 +39,13 @@ loop-less : tie.Need-loop-less Inv-loop μ-loop
 loop-less c = search needs
 
 loop-again : tie.Need-loop-again Inv-loop μ-loop
-loop-again c = (omega arith, c .before .before .before .loop .inv .1 ∙ zeros-on (c .before .before .before .before .args .times .now) (c .before .before .before .loop .i) (c .before .before .loop-test .taken) (omega (arith, c .if1 .left)) ∙ ap (λ (k : ℕ). zeros (drop k (c .before .before .before .before .args .times .now))) (sym (add-one (c .before .before .before .loop .i))))
+loop-again c =
+    let at-args = c .before .before .before .before .args in
+    let at-loop = c .before .before .before .loop in (
+      omega arith,
+      at-loop .inv .1 ∙ zeros-on (at-args .times .now) (at-loop .i) (c .before .before .loop-test .taken) (omega (arith, c .if1 .left)) ∙ ap
+          (λ (k : ℕ). zeros (drop k (at-args .times .now))) (sym (add-one (at-loop .i))),
+    )
 
 returns-2 : tie.Need-returns-2 Inv-loop μ-loop
 returns-2 c = sym (c .before .loop .inv .1 ∙ ap zeros (drop-of-length-le (c .before .before .args .times .now) (c .loop-test .left)))

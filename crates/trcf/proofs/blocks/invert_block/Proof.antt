@@ -127,9 +127,10 @@ loop-again c =
       omega arith,
       places-more (turnPlace (A .normalizes) (A .moves) (A .i) (A .factors .now) (A .scales .now) (A .drifts .now) (A .bases .now)) (A .i * A .d) (L .j)
           (ranges (A .values .now) (A .upper .now) (A .lower .now)) w _ (L .inv .1)
-          (c .before .turn .ensures
-          ∙ (λ k. turnBy (A .normalizes) (A .moves) (getD (A .factors .now) (L .j) nan) (getD (A .scales .now) (L .j) nan) (mul binary32 (B k) (getD (A .drifts .now) (L .j) nan)) (R k) (rangeAt w at))),
-      carried-more (A .carries) (A .i * A .d) (L .j) (L .values) (A .bases .now) (L .bases) _ _ (omega arith) (omega arith) (c .chosen .ensures) (L .inv .2),
+          (c .before .turn .ensures ∙ (λ k. turnBy (A .normalizes) (A .moves) (getD (A .factors .now) (L .j) nan) (getD (A .scales .now) (L .j) nan)
+          (mul binary32 (B k) (getD (A .drifts .now) (L .j) nan)) (R k) (rangeAt w at))),
+      carried-more (A .carries) (A .i * A .d) (L .j) (L .values) (A .bases .now) (L .bases) _ _ (omega arith)
+          (omega arith) (c .chosen .ensures) (L .inv .2),
       simp length-set (L .inv .3),
       simp length-set (L .inv .4),
       simp length-set (L .inv .5),

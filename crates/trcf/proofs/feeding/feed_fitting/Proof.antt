@@ -41,7 +41,15 @@ same-length c = search needs
 
 returns : tie.Need-returns
 unfolding feed timeFed
-returns c = rw (c .before .before .feed-at .ensures, c .before .before .before .before .before .before .before .before .before .update-channels .ensures, c .before .before .before .before .before .before .u64-to-f64 .ensures, c .before .before .before .before .u64-to-f642 .ensures, c .before .before .before .before .before .since .ensures)
+returns c =
+    let c8 = c .before .before .before .before .before .before .before .before in
+    rw (
+      c .before .before .feed-at .ensures,
+      c8 .before .update-channels .ensures,
+      c .before .before .before .before .before .before .u64-to-f64 .ensures,
+      c .before .before .before .before .u64-to-f642 .ensures,
+      c .before .before .before .before .before .since .ensures,
+    )
 
 pub feed-fitting-spec : {M : Type 1} → statement M
 feed-fitting-spec =

@@ -25,7 +25,10 @@ mul-result c =
 
 returns-2 : tie.Need-returns-2
 unfolding dimension block
-returns-2 c = rw (sym (c .before .before .before .before .head-row .ensures .0) ∙ c .before .before .before .if1 .left, block-known (c .before .block-of .ensures) (c .before .before .before .before .head-row .ensures .1 (c .before .before .before .if1 .left) .d-few) .0)
+returns-2 c =
+    let at-head-row = c .before .before .before .before .head-row in
+    let at-if1 = c .before .before .before .if1 in
+    rw (sym (at-head-row .ensures .0) ∙ at-if1 .left, block-known (c .before .block-of .ensures) (at-head-row .ensures .1 (at-if1 .left) .d-few) .0)
 
 pub get-dimension-spec : {M : Type 1} → statement M
 get-dimension-spec = tie.close (tie.spec head-row-requires returns block-of-requires mul-result returns-2)

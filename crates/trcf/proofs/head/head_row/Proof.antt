@@ -19,15 +19,39 @@ returns-3 c = (rw (ne-eqb _ _ (c .before .before .if1 .left), ne-eqb _ _ (c .bef
 
 returns-4 : tie.Need-returns-4
 unfolding headRow
-returns-4 c = (rw (ne-eqb _ _ (c .before .before .before .if1 .left), ne-eqb _ _ (c .before .before .if2 .left), le-ltb _ _ (c .before .if3 .left), lt-ltb _ _ (c .if4 .taken)), λ e. absurd (omega (arith, e)))
+returns-4 c = (
+  rw (ne-eqb _ _ (c .before .before .before .if1 .left), ne-eqb _ _ (c .before .before .if2 .left), le-ltb _ _ (c .before .if3 .left), lt-ltb _ _ (c .if4 .taken)),
+  λ e. absurd
+      (omega (arith, e)),
+)
 
 returns-5 : tie.Need-returns-5
 unfolding headRow
-returns-5 c = (rw (ne-eqb _ _ (c .before .before .before .before .if1 .left), ne-eqb _ _ (c .before .before .before .if2 .left), le-ltb _ _ (c .before .before .if3 .left), le-ltb _ _ (c .before .if4 .left), le-leb _ _ (c .if5 .taken)), λ e. absurd (omega (arith, e)))
+returns-5 c = (
+  rw (
+    ne-eqb _ _ (c .before .before .before .before .if1 .left),
+    ne-eqb _ _ (c .before .before .before .if2 .left),
+    le-ltb _ _ (c .before .before .if3 .left),
+    le-ltb _ _
+        (c .before .if4 .left),
+    le-leb _ _ (c .if5 .taken),
+  ),
+  λ e. absurd (omega (arith, e)),
+)
 
 returns-6 : tie.Need-returns-6
 unfolding headRow
-returns-6 c = (rw (ne-eqb _ _ (c .before .before .before .before .if1 .left), ne-eqb _ _ (c .before .before .before .if2 .left), le-ltb _ _ (c .before .before .if3 .left), le-ltb _ _ (c .before .if4 .left), lt-leb _ _ (c .if5 .left)), λ e. omega arith)
+returns-6 c = (
+  rw (
+    ne-eqb _ _ (c .before .before .before .before .if1 .left),
+    ne-eqb _ _ (c .before .before .before .if2 .left),
+    le-ltb _ _ (c .before .before .if3 .left),
+    le-ltb _ _
+        (c .before .if4 .left),
+    lt-leb _ _ (c .if5 .left),
+  ),
+  λ e. omega arith,
+)
 
 pub head-row-spec : {M : Type 1} → statement M
 head-row-spec = tie.close (tie.spec returns returns-2 returns-3 returns-4 returns-5 returns-6)

@@ -33,19 +33,47 @@ mul-if2-2 c = all-statistics (c .before .before .before .head-row .ensures .1 (c
 
 returns-2 : tie.Need-returns-2
 unfolding outputFits
-returns-2 c = (rw (eq-eqb (headRow (settingsOf (c .before .before .before .before .before .args .head))) 0 (sym (c .before .before .before .before .head-row .ensures .0) ∙ c .before .before .before .if1 .left), ne-eqb _ _ (c .if2 .taken)), λ e. absurd (true-false (sym e)))
+returns-2 c = (
+  rw (
+    eq-eqb (headRow (settingsOf (c .before .before .before .before .before .args .head))) 0
+        (sym (c .before .before .before .before .head-row .ensures .0) ∙ c .before .before .before .if1 .left),
+    ne-eqb _ _ (c .if2 .taken),
+  ),
+  λ e. absurd (true-false (sym e)),
+)
 
 returns-3 : tie.Need-returns-3
 unfolding outputFits
 returns-3 c =
-    let b = block-known (c .before .before .block-of .ensures) (c .before .before .before .before .before .head-row .ensures .1 (c .before .before .before .before .if1 .left) .d-few) .0 ∙ sym (block-is (settingsOf (c .before .before .before .before .before .before .args .head))) in
-    (rw (eq-eqb (headRow (settingsOf (c .before .before .before .before .before .before .args .head))) 0 (sym (c .before .before .before .before .before .head-row .ensures .0) ∙ c .before .before .before .before .if1 .left), eq-eqb _ _ (c .before .if2 .left), lt-leb (block (settingsOf (c .before .before .before .before .before .before .args .head))) (c .before .before .before .before .before .before .args .output) (omega (arith, b))), λ e. absurd (true-false (sym e)))
+    let at-args = c .before .before .before .before .before .before .args in
+    let at-head-row = c .before .before .before .before .before .head-row in
+    let at-if1 = c .before .before .before .before .if1 in
+    let b = block-known (c .before .before .block-of .ensures) (at-head-row .ensures .1 (at-if1 .left) .d-few) .0 ∙ sym (block-is (settingsOf (at-args .head))) in (
+      rw (
+        eq-eqb (headRow (settingsOf (at-args .head))) 0 (sym (at-head-row .ensures .0) ∙ at-if1 .left),
+        eq-eqb _ _ (c .before .if2 .left),
+        lt-leb (block (settingsOf (at-args .head)))
+            (at-args .output) (omega (arith, b)),
+      ),
+      λ e. absurd (true-false (sym e)),
+    )
 
 returns-4 : tie.Need-returns-4
 unfolding outputFits
 returns-4 c =
-    let b = block-known (c .before .before .block-of .ensures) (c .before .before .before .before .before .head-row .ensures .1 (c .before .before .before .before .if1 .left) .d-few) .0 ∙ sym (block-is (settingsOf (c .before .before .before .before .before .before .args .head))) in
-    (rw (eq-eqb (headRow (settingsOf (c .before .before .before .before .before .before .args .head))) 0 (sym (c .before .before .before .before .before .head-row .ensures .0) ∙ c .before .before .before .before .if1 .left), eq-eqb _ _ (c .before .if2 .left), le-leb (block (settingsOf (c .before .before .before .before .before .before .args .head))) (c .before .before .before .before .before .before .args .output) (omega (arith, b))), λ e. (c .before .before .before .before .before .head-row .ensures .1 (c .before .before .before .before .if1 .left), c .before .if2 .left, omega (arith, b)))
+    let at-args = c .before .before .before .before .before .before .args in
+    let at-head-row = c .before .before .before .before .before .head-row in
+    let at-if1 = c .before .before .before .before .if1 in
+    let at-if2 = c .before .if2 in
+    let b = block-known (c .before .before .block-of .ensures) (at-head-row .ensures .1 (at-if1 .left) .d-few) .0 ∙ sym (block-is (settingsOf (at-args .head))) in (
+      rw (
+        eq-eqb (headRow (settingsOf (at-args .head))) 0 (sym (at-head-row .ensures .0) ∙ at-if1 .left),
+        eq-eqb _ _ (at-if2 .left),
+        le-leb (block (settingsOf (at-args .head)))
+            (at-args .output) (omega (arith, b)),
+      ),
+      λ e. (at-head-row .ensures .1 (at-if1 .left), at-if2 .left, omega (arith, b)),
+    )
 
 pub output-fits-spec : {M : Type 1} → statement M
 output-fits-spec = tie.close (tie.spec head-row-requires returns block-of-requires mul-if2 add-if2 mul-if2-2 returns-2 returns-3 returns-4)

@@ -27,11 +27,24 @@ mul-if2-2 c = all-statistics (c .before .before .before .head-row .ensures .1 (c
 
 returns-2 : tie.Need-returns-2
 unfolding timeFits
-returns-2 c = (rw (eq-eqb (headRow (settingsOf (c .before .before .before .before .before .args .head))) 0 (sym (c .before .before .before .before .head-row .ensures .0) ∙ c .before .before .before .if1 .left), lt-leb _ _ (c .if2 .taken)), λ e. absurd (true-false (sym e)))
+returns-2 c = (
+  rw (
+    eq-eqb (headRow (settingsOf (c .before .before .before .before .before .args .head))) 0
+        (sym (c .before .before .before .before .head-row .ensures .0) ∙ c .before .before .before .if1 .left),
+    lt-leb _ _ (c .if2 .taken),
+  ),
+  λ e. absurd (true-false (sym e)),
+)
 
 returns-3 : tie.Need-returns-3
 unfolding timeFits
-returns-3 c = (rw (eq-eqb (headRow (settingsOf (c .before .before .before .before .before .args .head))) 0 (sym (c .before .before .before .before .head-row .ensures .0) ∙ c .before .before .before .if1 .left), le-leb _ _ (c .if2 .left)), λ e. (c .before .before .before .before .head-row .ensures .1 (c .before .before .before .if1 .left) .d-few, c .if2 .left))
+returns-3 c =
+    let at-head-row = c .before .before .before .before .head-row in
+    let at-if1 = c .before .before .before .if1 in (
+      rw (eq-eqb (headRow (settingsOf (c .before .before .before .before .before .args .head))) 0 (sym (at-head-row .ensures .0) ∙ at-if1 .left), le-leb _ _ (c .if2 .left)),
+      λ e.
+          (at-head-row .ensures .1 (at-if1 .left) .d-few, c .if2 .left),
+    )
 
 pub time-fits-spec : {M : Type 1} → statement M
 time-fits-spec = tie.close (tie.spec head-row-requires returns mul-if2 add-if2 mul-if2-2 returns-2 returns-3)

@@ -24,7 +24,15 @@ returns-2 c = (rw (sym (c .before .before .before .output-fits .ensures .0) ∙ 
 
 returns-3 : tie.Need-returns-3
 unfolding transformFits
-returns-3 c = (rw (sym (c .before .before .before .before .output-fits .ensures .0) ∙ not-false _ (c .before .before .before .if1 .left), eq-eqb _ _ (c .before .if2 .left), ne-eqb _ _ (c .if3 .taken)), λ e. absurd (true-false (sym e)))
+returns-3 c = (
+  rw (
+    sym (c .before .before .before .before .output-fits .ensures .0) ∙ not-false _ (c .before .before .before .if1 .left),
+    eq-eqb _ _ (c .before .if2 .left),
+    ne-eqb _ _
+        (c .if3 .taken),
+  ),
+  λ e. absurd (true-false (sym e)),
+)
 
 returns-4 : tie.Need-returns-4
 unfolding transformFits

@@ -54,8 +54,10 @@ same-length-2 c = search needs
 returns-2 : tie.Need-returns-2
 unfolding shiftOf
 returns-2 c =
-    let a = c .before .before .before .before .before .before .before .before .before .before .args in
-    rw (c .before .before .before .before .shift-into .ensures) (untimed (settingsOf (a .head)) (a .output .now) _ _ _ (shifts-free (a .head) (a .s .now)) (sym (c .before .is-augmented .ensures) ∙ c .if1 .left))
+    let c8 = c .before .before .before .before .before .before .before .before in
+    let a = c8 .before .before .args in
+    rw (c .before .before .before .before .shift-into .ensures) (untimed (settingsOf (a .head)) (a .output .now) _ _ _ (shifts-free (a .head) (a .s .now))
+    (sym (c .before .is-augmented .ensures) ∙ c .if1 .left))
 
 pub shift-fitting-spec : {M : Type 1} → statement M
 shift-fitting-spec =

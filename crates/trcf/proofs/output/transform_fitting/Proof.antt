@@ -15,7 +15,10 @@ use Rattle.trcf.proofs.output.transform_fitting.Statement.{statement}
 use Rattle.trcf.proofs.output.transform_fitting.Tie as tie
 
 sub-transform-into : tie.Need-sub-transform-into
-sub-transform-into c = let m = le-mul-of-pos-right (c .before .before .before .before .before .args .head .transformer .«input_length») (c .before .before .before .before .before .pre .0 .k-pos) in omega (arith, c .before .before .before .before .before .pre)
+sub-transform-into c =
+    let at-pre = c .before .before .before .before .before .pre in
+    let m = le-mul-of-pos-right (c .before .before .before .before .before .args .head .transformer .«input_length») (at-pre .0 .k-pos) in
+    omega (arith, at-pre)
 
 mul-transform-into : tie.Need-mul-transform-into
 mul-transform-into c = omega arith
@@ -31,7 +34,12 @@ part-transform-into-end c = omega arith
 
 transform-into-requires : tie.Need-transform-into-requires
 unfolding block
-transform-into-requires c κs = let m = le-mul-of-pos-right (c .before .before .before .before .before .before .before .args .head .transformer .«input_length») (c .before .before .before .before .before .before .before .pre .0 .k-pos) in (record { some = omega (arith, c .before .before .before .before .before .before .before .pre); few = omega (arith, c .before .before .before .before .before .before .before .pre); room = omega (arith, c .before .before .before .before .before .before .before .pre) }, (omega (arith, c .before .before .before .before .before .before .before .pre), (simp (length-drop, length-take) (omega (arith, c .before .before .before .before .before .before .before .pre)), omega (arith, c .before .before .before .before .before .before .before .pre))))
+transform-into-requires c κs =
+    let at-pre = c .before .before .before .before .before .before .before .pre in
+    let m = le-mul-of-pos-right (c .before .before .before .before .before .before .before .args .head .transformer .«input_length») (at-pre .0 .k-pos) in (
+      record { some = omega (arith, at-pre); few = omega (arith, at-pre); room = omega (arith, at-pre) },
+      (omega (arith, at-pre), (simp (length-drop, length-take) (omega (arith, at-pre)), omega (arith, at-pre))),
+    )
 
 is-augmented-requires : tie.Need-is-augmented-requires
 is-augmented-requires c κs = tt
@@ -46,7 +54,11 @@ mul-output : tie.Need-mul-output
 mul-output c = omega arith
 
 slice-write-output : tie.Need-slice-write-output
-slice-write-output c = let b = block-augmented (settingsOf (c .before .before .before .before .before .before .before .before .before .before .before .before .before .before .args .head)) (sym (c .before .before .before .is-augmented .ensures) ∙ c .before .before .if1 .taken) in omega (arith, c .before .before .before .before .before .before .transform-into .kept, c .before .before .before .before .before .before .before .before .before .before .before .before .before .before .pre)
+slice-write-output c =
+    let c8 = c .before .before .before .before .before .before .before .before in
+    let b = block-augmented (settingsOf (c8 .before .before .before .before .before .before .args .head))
+    (sym (c .before .before .before .is-augmented .ensures) ∙ c .before .before .if1 .taken) in
+    omega (arith, c .before .before .before .before .before .before .transform-into .kept, c8 .before .before .before .before .before .before .pre)
 
 same-length : tie.Need-same-length
 same-length c = search needs
@@ -54,13 +66,17 @@ same-length c = search needs
 returns : tie.Need-returns
 unfolding transformedAfter
 returns c =
-    let a = c .before .before .before .before .before .before .before .before .before .before .before .before .before .before .args in
-    let m = le-mul-of-pos-right (a .head .transformer .«input_length») (c .before .before .before .before .before .before .before .before .before .before .before .before .before .before .pre .0 .k-pos) in
-    let k : a .head .transformer .«input_length» ≤ length (a .inputs .now) = omega (arith, c .before .before .before .before .before .before .before .before .before .before .before .before .before .before .pre) in
+    let c8 = c .before .before .before .before .before .before .before .before in
+    let at-pre = c8 .before .before .before .before .before .before .pre in
+    let a = c8 .before .before .before .before .before .before .args in
+    let m = le-mul-of-pos-right (a .head .transformer .«input_length») (at-pre .0 .k-pos) in
+    let k : a .head .transformer .«input_length» ≤ length (a .inputs .now) = omega (arith, at-pre) in
     let g = sym (c .before .before .before .is-augmented .ensures) ∙ c .before .before .if1 .taken in
     let b = block-augmented (settingsOf (a .head)) g in
-    let h : a .head .transformer .«input_length» < length (a .output .now) = omega (arith, c .before .before .before .before .before .before .before .before .before .before .before .before .before .before .pre) in
-    rw (c .before .before .before .before .before .before .transform-into .ensures, c .time-element .ensures, c .before .previous-time .ensures) (timed (settingsOf (a .head)) (a .output .now) _ _ _ (transformed-free (a .head) (a .s .now) (a .input .now) _ ∙ ap (transformed (transformer (settingsOf (a .head)) 0 (a .s .now)) (a .input .now)) (newest-part (a .inputs .now) (a .head .transformer .«input_length») k)) (transformed-length _ _ _) g h)
+    let h : a .head .transformer .«input_length» < length (a .output .now) = omega (arith, at-pre) in
+    rw (c .before .before .before .before .before .before .transform-into .ensures, c .time-element .ensures, c .before .previous-time .ensures)
+    (timed (settingsOf (a .head)) (a .output .now) _ _ _ (transformed-free (a .head) (a .s .now) (a .input .now) _ ∙ ap
+    (transformed (transformer (settingsOf (a .head)) 0 (a .s .now)) (a .input .now)) (newest-part (a .inputs .now) (a .head .transformer .«input_length») k)) (transformed-length _ _ _) g h)
 
 same-length-2 : tie.Need-same-length-2
 same-length-2 c = search needs
@@ -68,10 +84,14 @@ same-length-2 c = search needs
 returns-2 : tie.Need-returns-2
 unfolding transformedAfter
 returns-2 c =
-    let a = c .before .before .before .before .before .before .before .before .before .before .before .before .args in
-    let m = le-mul-of-pos-right (a .head .transformer .«input_length») (c .before .before .before .before .before .before .before .before .before .before .before .before .pre .0 .k-pos) in
-    let k : a .head .transformer .«input_length» ≤ length (a .inputs .now) = omega (arith, c .before .before .before .before .before .before .before .before .before .before .before .before .pre) in
-    rw (c .before .before .before .before .transform-into .ensures) (untimed (settingsOf (a .head)) (a .output .now) _ _ _ (transformed-free (a .head) (a .s .now) (a .input .now) _ ∙ ap (transformed (transformer (settingsOf (a .head)) 0 (a .s .now)) (a .input .now)) (newest-part (a .inputs .now) (a .head .transformer .«input_length») k)) (sym (c .before .is-augmented .ensures) ∙ c .if1 .left))
+    let c8 = c .before .before .before .before .before .before .before .before in
+    let at-pre = c8 .before .before .before .before .pre in
+    let a = c8 .before .before .before .before .args in
+    let m = le-mul-of-pos-right (a .head .transformer .«input_length») (at-pre .0 .k-pos) in
+    let k : a .head .transformer .«input_length» ≤ length (a .inputs .now) = omega (arith, at-pre) in
+    rw (c .before .before .before .before .transform-into .ensures) (untimed (settingsOf (a .head)) (a .output .now) _ _ _
+    (transformed-free (a .head) (a .s .now) (a .input .now) _ ∙ ap (transformed (transformer (settingsOf (a .head)) 0 (a .s .now)) (a .input .now))
+    (newest-part (a .inputs .now) (a .head .transformer .«input_length») k)) (sym (c .before .is-augmented .ensures) ∙ c .if1 .left))
 
 pub transform-fitting-spec : {M : Type 1} → statement M
 transform-fitting-spec =

@@ -27,9 +27,11 @@ same-length-2 c = search needs
 
 returns : tie.Need-returns
 returns c =
-    let p = c .before .before .before .before .before .before .before .before .before .before .before .before .before .before .before .before .before .before .before .before .args in
-    let h = c .before .before .before .before .before .before .before .before .before .before .before .before .before .before .before .before .before .before .before .before .pre in
-    let first = c .before .before .before .before .before .before .before .before .before .before .before .before .before .first-pass .ensures in
+    let c8 = c .before .before .before .before .before .before .before .before in
+    let c16 = c8 .before .before .before .before .before .before .before .before in
+    let p = c16 .before .before .before .before .args in
+    let h = c16 .before .before .before .before .pre in
+    let first = c8 .before .before .before .before .before .first-pass .ensures in
     let roots = c .before .before .before .before .before .before .before .sqrt-each .ensures ∙ ap (map rootOf) (first .1) in
     let law = fed-in-passes (p .d) (p .decay) (p .count) (p .input .now) (p .previous .now) (p .a .now) (p .s .now) (h .0 .2) in
     (c .before .before .last-pass .ensures ∙ (λ t. lasts (p .d) (first .0 t) (p .d) (slowDecay (p .decay)) (p .count) (roots t)) ∙ sym law, roots)

@@ -46,18 +46,19 @@ same-length c = search needs
 returns : tie.Need-returns
 unfolding firstAt
 returns c =
-    let a = c .before .before .before .before .before .before .before .before .before .before .before .before .before .before .before .before .args in
-    let one = c .before .before .before .before .before .before .before .before .before .before .before .before .before .feed-one .ensures in
-    let two = c .before .before .before .before .before .before .before .before .before .feed-one2 .ensures in
+    let c8 = c .before .before .before .before .before .before .before .before in
+    let c16 = c8 .before .before .before .before .before .before .before .before in
+    let a = c16 .args in
+    let one = c8 .before .before .before .before .before .feed-one .ensures in
+    let two = c8 .before .feed-one2 .ensures in
     let three = c .before .before .before .before .feed-one3 .ensures in
     let after : List Float → Float = λ q. radicandOf (stepOf (statisticAt q (a .i + a .d) (a .decay) (a .count)) (a .dx)) in (
       rw (c .before .radicand .ensures, one .0),
       (
-        c .radicand2 .ensures
-            ∙ ap radicandOf (two .0)
-            ∙ ap after (one .1)
-            ∙ ap (λ (q : Deviation). radicandOf (stepOf q (a .dx))) (step-other (a .s .now) (a .i) (a .decay) (a .count) (a .x) (a .i + a .d) (a .decay) (λ e. omega arith)),
-        rw (three .1, c .before .before .before .before .before .before .mean .ensures, two .0, two .1, one .1),
+        c .radicand2 .ensures ∙ ap radicandOf (two .0) ∙ ap after (one .1) ∙ ap (λ (q : Deviation). radicandOf (stepOf q (a .dx)))
+            (step-other (a .s .now) (a .i) (a .decay) (a .count) (a .x) (a .i + a .d) (a .decay) (λ e. omega arith)),
+        rw
+            (three .1, c .before .before .before .before .before .before .mean .ensures, two .0, two .1, one .1),
       ),
     )
 

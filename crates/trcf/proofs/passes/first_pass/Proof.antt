@@ -45,7 +45,8 @@ to-f64-requires-2 c κs = search needs
 
 feed-first-requires : tie.Need-feed-first-requires Inv-loop μ-loop
 feed-first-requires c κs =
-    let h = c .before .before .before .before .before .before .before .before .before .before .before .pre in
+    let c8 = c .before .before .before .before .before .before .before .before in
+    let h = c8 .before .before .before .pre in
     (omega arith, (omega arith, (h .1 .1 .0, (h .1 .1 .1 .0, h .1 .1 .1 .1))))
 
 mul-a : tie.Need-mul-a Inv-loop μ-loop
@@ -78,11 +79,13 @@ loop-less c = omega arith
 loop-again : tie.Need-loop-again Inv-loop μ-loop
 unfolding firsts
 loop-again c =
-    let L = c .before .before .before .before .before .before .before .before .before .loop in
-    let p = c .before .before .before .before .before .before .before .before .before .before .before .before .before .before .args in
+    let c8 = c .before .before .before .before .before .before .before .before in
+    let at-feed-first = c .before .before .feed-first in
+    let L = c8 .before .loop in
+    let p = c8 .before .before .before .before .before .before .args in
     let one = c .before .before .before .before .to-f64 .ensures in
     let two = c .before .before .before .to-f642 .ensures in
-    let passed = c .before .before .feed-first .ensures in
+    let passed = at-feed-first .ensures in
     let first = rw (one, two) at (passed .1 .1) in
     let v = rw (one, L .inv .1) at (passed .0) in
     let w = rw (two, L .inv .1) at (passed .1 .0) in
@@ -92,9 +95,9 @@ loop-again c =
     let dx = differenceOf (p .input .now) (p .previous .now) (L .i) in
     let y = radicandOf (stepOf (statisticAt list (L .i) (p .decay) (p .count)) x) in
     let z = radicandOf (stepOf (statisticAt list (L .i + p .d) (p .decay) (p .count)) dx) in
-    let r = c .before .before .feed-first .result in
-    let noting : set (set (L .a) (2 * L .i) (r .value)) (2 * L .i + 1) (r .difference) ≡ set (set known (2 * L .i) y) (2 * L .i + 1) z =
-    λ t. set (set (L .inv .2 t) (2 * L .i) (v t)) (2 * L .i + 1) (w t) in (
+    let r = at-feed-first .result in
+    let noting : set (set (L .a) (2 * L .i) (r .value)) (2 * L .i + 1) (r .difference) ≡ set (set known (2 * L .i) y) (2 * L .i + 1) z = λ t. set (set (L .inv .2 t) (2 * L .i) (v t))
+    (2 * L .i + 1) (w t) in (
       omega arith,
       rw (add-one, ← L .inv .1) first,
       noting ∙ sym (noted-next (p .d) (p .decay) (p .count) (p .input .now) (p .previous .now) (L .i) (p .a .now) (p .s .now)),

@@ -51,8 +51,9 @@ loop-less c = omega arith
 
 loop-again : tie.Need-loop-again Inv-loop μ-loop
 loop-again c =
+    let c8 = c .before .before .before .before .before .before .before .before in
     let L = c .before .before .before .before .before .before .before .loop in
-    let p = c .before .before .before .before .before .before .before .before .before .before .args in
+    let p = c8 .before .before .args in
     (omega arith, rw (lasts-next (L .i) (p .s .now) (p .d) (p .slow) (p .count) (p .a .now), ← L .inv .1) (c .before .before .feed-last .ensures), omega arith)
 
 same-length : tie.Need-same-length Inv-loop μ-loop

@@ -34,7 +34,14 @@ same-length c = c .before .before .put-deviations .kept .0
 
 returns : tie.Need-returns
 unfolding fedAt
-returns c = rw (c .before .before .put-deviations .ensures, c .before .before .before .before .gather .ensures, c .before .before .before .before .before .feed-timestamps .ensures, c .before .before .before .before .before .before .list .ensures, c .before .before .before .before .before .before .before .deviations-at .ensures)
+returns c =
+    rw (
+      c .before .before .put-deviations .ensures,
+      c .before .before .before .before .gather .ensures,
+      c .before .before .before .before .before .feed-timestamps .ensures,
+      c .before .before .before .before .before .before .list .ensures,
+      c .before .before .before .before .before .before .before .deviations-at .ensures,
+    )
 
 pub feed-at-spec : {M : Type 1} → statement M
 feed-at-spec =

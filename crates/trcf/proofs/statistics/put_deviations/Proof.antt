@@ -43,11 +43,24 @@ put-statistic-requires-5 : tie.Need-put-statistic-requires-5
 put-statistic-requires-5 c κs = search needs
 
 same-length : tie.Need-same-length
-same-length c = c .before .before .put-statistic5 .kept .0 ∙ c .before .before .before .before .before .before .put-statistic4 .kept .0 ∙ c .before .before .before .before .before .before .before .before .before .before .put-statistic3 .kept .0 ∙ c .before .before .before .before .before .before .before .before .before .before .before .before .before .before .put-statistic2 .kept .0 ∙ c .before .before .before .before .before .before .before .before .before .before .before .before .before .before .before .before .before .before .put-statistic .kept .0
+same-length c =
+    let c8 = c .before .before .before .before .before .before .before .before in
+    let c16 = c8 .before .before .before .before .before .before .before .before in
+    c .before .before .put-statistic5 .kept .0 ∙ c .before .before .before .before .before .before .put-statistic4 .kept .0 ∙ c8 .before .before .put-statistic3 .kept .0 ∙
+    c8 .before .before .before .before .before .before .put-statistic2 .kept .0 ∙ c16 .before .before .put-statistic .kept .0
 
 returns : tie.Need-returns
 unfolding putDeviations
-returns c = rw (c .before .before .put-statistic5 .ensures, c .before .before .before .before .before .before .put-statistic4 .ensures, c .before .before .before .before .before .before .before .before .before .before .put-statistic3 .ensures, c .before .before .before .before .before .before .before .before .before .before .before .before .before .before .put-statistic2 .ensures, c .before .before .before .before .before .before .before .before .before .before .before .before .before .before .before .before .before .before .put-statistic .ensures)
+returns c =
+    let c8 = c .before .before .before .before .before .before .before .before in
+    let c16 = c8 .before .before .before .before .before .before .before .before in
+    rw (
+      c .before .before .put-statistic5 .ensures,
+      c .before .before .before .before .before .before .put-statistic4 .ensures,
+      c8 .before .before .put-statistic3 .ensures,
+      c8 .before .before .before .before .before .before .put-statistic2 .ensures,
+      c16 .before .before .put-statistic .ensures,
+    )
 
 pub put-deviations-spec : {M : Type 1} → statement M
 put-deviations-spec =

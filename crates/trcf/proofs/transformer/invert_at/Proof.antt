@@ -51,7 +51,10 @@ returns c = search needs
 
 returns-2 : tie.Need-returns-2
 unfolding weightAt
-returns-2 c = rw (c .before .before .enum-told2 .given .1, getD-take (c .before .before .before .before .before .args .t1 .«input_length») (c .before .before .before .before .before .args .t1 .weights) (c .before .before .before .before .before .args .i) nan (c .before .before .before .before .before .pre .1)) (c .unweigh .ensures)
+returns-2 c =
+    let at-args = c .before .before .before .before .before .args in
+    rw (c .before .before .enum-told2 .given .1, getD-take (at-args .t1 .«input_length») (at-args .t1 .weights) (at-args .i) nan (c .before .before .before .before .before .pre .1))
+    (c .unweigh .ensures)
 
 returns-3 : tie.Need-returns-3
 returns-3 c = rw (c .enum-told3 .given .1)

@@ -16,7 +16,9 @@ use Rattle.trcf.proofs.transformer.invert_fitting.Statement.{statement}
 use Rattle.trcf.proofs.transformer.invert_fitting.Tie as tie
 
 abbrev Inv-loop : tie.InvT-loop
-Inv-loop s input previous output₀ t d i₀ output i = (i ≤ d) × (output ≡ over output₀ (tabulate i (λ k. invertBy (t .«transform_method») (transformerView t s) k (unweighted (weightAt (transformerView t s) k) (getD input k nan)) (getD previous k nan)))) × (length output ≡ length output₀)
+Inv-loop s input previous output₀ t d i₀ output i = (i ≤ d) × (output ≡ over output₀
+    (tabulate i (λ k. invertBy (t .«transform_method») (transformerView t s) k (unweighted (weightAt (transformerView t s) k) (getD input k nan)) (getD previous k nan)))) ×
+    (length output ≡ length output₀)
 
 abbrev μ-loop : tie.MeasureT-loop
 μ-loop s input previous output₀ t d i₀ output i = d - i
@@ -46,7 +48,9 @@ shared-slice-read-invert-at : tie.Need-shared-slice-read-invert-at Inv-loop μ-l
 shared-slice-read-invert-at c = omega arith
 
 invert-at-requires : tie.Need-invert-at-requires Inv-loop μ-loop
-invert-at-requires c κs = (c .before .before .before .before .before .before .before .before .before .before .pre .0, c .before .before .before .before .loop-test .taken)
+invert-at-requires c κs =
+    let c8 = c .before .before .before .before .before .before .before .before in
+    (c8 .before .before .pre .0, c .before .before .before .before .loop-test .taken)
 
 mul-output : tie.Need-mul-output Inv-loop μ-loop
 mul-output c = omega arith
@@ -61,12 +65,20 @@ loop-less : tie.Need-loop-less Inv-loop μ-loop
 loop-less c = omega arith
 
 loop-again : tie.Need-loop-again Inv-loop μ-loop
-loop-again c = let L = c .before .before .before .before .before .before .loop in
-    let a = c .before .before .before .before .before .before .before .before .before .before .before .args in
+loop-again c =
+    let c8 = c .before .before .before .before .before .before .before .before in
+    let L = c .before .before .before .before .before .before .loop in
+    let a = c8 .before .before .before .args in
     let h : L .i < length (a .output .now) = omega arith in
-    let x = c .before .before .unweigh .ensures ∙ ap (λ (w : Float). unweighted w (getD (a .input .now) (L .i) nan)) (sym (weightAt-view (a .t1) (a .s .now) (L .i) (c .before .before .before .before .before .loop-test .taken))) in
-    let e = c .invert-at .ensures ∙ ap (λ (y : Float). invertBy (a .t1 .«transform_method») (transformerView (a .t1) (a .s .now)) (L .i) y (getD (a .previous .now) (L .i) nan)) x in
-    (omega arith, rw (add-one, L .inv .1, e) (over-more (a .output .now) (λ k. invertBy ((a .t1) .«transform_method») (transformerView (a .t1) (a .s .now)) k (unweighted (weightAt (transformerView (a .t1) (a .s .now)) k) (getD (a .input .now) k nan)) (getD (a .previous .now) k nan)) (L .i) h), simp length-set (omega arith))
+    let x = c .before .before .unweigh .ensures ∙ ap (λ (w : Float). unweighted w (getD (a .input .now) (L .i) nan))
+    (sym (weightAt-view (a .t1) (a .s .now) (L .i) (c .before .before .before .before .before .loop-test .taken))) in
+    let e = c .invert-at .ensures ∙ ap (λ (y : Float). invertBy (a .t1 .«transform_method») (transformerView (a .t1) (a .s .now)) (L .i) y (getD (a .previous .now) (L .i) nan)) x in (
+      omega arith,
+      rw (add-one, L .inv .1, e) (over-more (a .output .now)
+          (λ k. invertBy ((a .t1) .«transform_method») (transformerView (a .t1) (a .s .now)) k (unweighted (weightAt (transformerView (a .t1) (a .s .now)) k) (getD (a .input .now) k nan))
+          (getD (a .previous .now) k nan)) (L .i) h),
+      simp length-set (omega arith),
+    )
 
 same-length : tie.Need-same-length Inv-loop μ-loop
 same-length c = omega arith

@@ -11,11 +11,10 @@ forecast-row-requires c κs = tt
 
 forecast-fitting-requires : tie.Need-forecast-fitting-requires
 forecast-fitting-requires c κs =
-    let a = c .before .before .before .before .before .before .before .before .before .before .args in
-    let f = c .before .before .before .before .forecast-row .ensures .1 (c .before .before .before .if1 .taken) in (
-      record { some = f .0; few = f .1; room = f .6 },
-      (f .2, ((f .3, f .4), blocked-base (differences (a .t .«transform_method»)) _ _ _ (f .2) (f .5))),
-    )
+    let c8 = c .before .before .before .before .before .before .before .before in
+    let a = c8 .before .before .args in
+    let f = c .before .before .before .before .forecast-row .ensures .1 (c .before .before .before .if1 .taken) in
+    (record { some = f .0; few = f .1; room = f .6 }, (f .2, ((f .3, f .4), blocked-base (differences (a .t .«transform_method»)) _ _ _ (f .2) (f .5))))
 
 same-length : tie.Need-same-length
 same-length c = c .before .before .before .before .before .before .forecast-fitting .kept .1 .1 .1 .0

@@ -15,7 +15,9 @@ same-length : tie.Need-same-length
 same-length c = search needs
 
 returns : tie.Need-returns
-returns c = fitting _ (c .before .before .invert-fitting .ensures) (passes-zero (sym (c .before .before .before .before .before .transform-row .ensures .0) ∙ c .before .before .before .before .if1 .taken))
+returns c =
+    fitting _ (c .before .before .invert-fitting .ensures) (passes-zero
+    (sym (c .before .before .before .before .before .transform-row .ensures .0) ∙ c .before .before .before .before .if1 .taken))
 
 returns-2 : tie.Need-returns-2
 returns-2 c = unfit _ refl (passes-not (λ e. c .if1 .left (c .before .transform-row .ensures .0 ∙ e)))

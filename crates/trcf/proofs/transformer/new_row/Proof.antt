@@ -25,25 +25,76 @@ decay-row-requires c κs = tt
 
 returns-4 : tie.Need-returns-4
 unfolding newRow
-returns-4 c = (rw (ne-eqb _ _ (c .before .before .before .before .if1 .left), le-ltb _ _ (c .before .before .before .if2 .left), eq-eqb _ _ (c .before .before .if3 .left), row-taken (outsideUnit (c .before .before .before .before .before .before .args .decay)) (c .before .decay-row .result) (c .before .decay-row .ensures) (c .if4 .taken)), λ e. absurd (omega arith))
+returns-4 c =
+    let at-decay-row = c .before .decay-row in (
+      rw (
+        ne-eqb _ _ (c .before .before .before .before .if1 .left),
+        le-ltb _ _ (c .before .before .before .if2 .left),
+        eq-eqb _ _ (c .before .before .if3 .left),
+        row-taken
+            (outsideUnit (c .before .before .before .before .before .before .args .decay)) (at-decay-row .result) (at-decay-row .ensures) (c .if4 .taken),
+      ),
+      λ e. absurd (omega arith),
+    )
 
 weights-refused-requires : tie.Need-weights-refused-requires
 weights-refused-requires c κs = tt
 
 returns-5 : tie.Need-returns-5
 unfolding newRow
-returns-5 c = (rw (ne-eqb _ _ (c .before .before .before .before .before .before .if1 .left), le-ltb _ _ (c .before .before .before .before .before .if2 .left), eq-eqb _ _ (c .before .before .before .before .if3 .left), row-left (outsideUnit (c .before .before .before .before .before .before .before .before .args .decay)) (c .before .before .before .decay-row .result) (c .before .before .before .decay-row .ensures) (c .before .before .if4 .left), sym (c .before .weights-refused .ensures) ∙ c .if5 .taken), λ e. absurd (omega arith))
+returns-5 c =
+    let c8 = c .before .before .before .before .before .before .before .before in
+    let at-decay-row = c .before .before .before .decay-row in (
+      rw (
+        ne-eqb _ _ (c .before .before .before .before .before .before .if1 .left),
+        le-ltb _ _ (c .before .before .before .before .before .if2 .left),
+        eq-eqb _ _
+            (c .before .before .before .before .if3 .left),
+        row-left (outsideUnit (c8 .args .decay)) (at-decay-row .result) (at-decay-row .ensures) (c .before .before .if4 .left),
+        sym
+            (c .before .weights-refused .ensures) ∙ c .if5 .taken,
+      ),
+      λ e. absurd (omega arith),
+    )
 
 mul-if6 : tie.Need-mul-if6
 mul-if6 c = omega arith
 
 returns-6 : tie.Need-returns-6
 unfolding newRow
-returns-6 c = (rw (ne-eqb _ _ (c .before .before .before .before .before .before .before .if1 .left), le-ltb _ _ (c .before .before .before .before .before .before .if2 .left), eq-eqb _ _ (c .before .before .before .before .before .if3 .left), row-left (outsideUnit (c .before .before .before .before .before .before .before .before .before .args .decay)) (c .before .before .before .before .decay-row .result) (c .before .before .before .before .decay-row .ensures) (c .before .before .before .if4 .left), sym (c .before .before .weights-refused .ensures) ∙ c .before .if5 .left, lt-ltb _ _ (c .if6 .taken)), λ e. absurd (omega arith))
+returns-6 c =
+    let c8 = c .before .before .before .before .before .before .before .before in
+    let at-decay-row = c .before .before .before .before .decay-row in (
+      rw (
+        ne-eqb _ _ (c .before .before .before .before .before .before .before .if1 .left),
+        le-ltb _ _ (c .before .before .before .before .before .before .if2 .left),
+        eq-eqb _ _
+            (c .before .before .before .before .before .if3 .left),
+        row-left (outsideUnit (c8 .before .args .decay)) (at-decay-row .result) (at-decay-row .ensures)
+            (c .before .before .before .if4 .left),
+        sym (c .before .before .weights-refused .ensures) ∙ c .before .if5 .left,
+        lt-ltb _ _ (c .if6 .taken),
+      ),
+      λ e. absurd (omega arith),
+    )
 
 returns-7 : tie.Need-returns-7
 unfolding newRow
-returns-7 c = (rw (ne-eqb _ _ (c .before .before .before .before .before .before .before .if1 .left), le-ltb _ _ (c .before .before .before .before .before .before .if2 .left), eq-eqb _ _ (c .before .before .before .before .before .if3 .left), row-left (outsideUnit (c .before .before .before .before .before .before .before .before .before .args .decay)) (c .before .before .before .before .decay-row .result) (c .before .before .before .before .decay-row .ensures) (c .before .before .before .if4 .left), sym (c .before .before .weights-refused .ensures) ∙ c .before .if5 .left, le-ltb _ _ (c .if6 .left)), λ e. omega arith)
+returns-7 c =
+    let c8 = c .before .before .before .before .before .before .before .before in
+    let at-decay-row = c .before .before .before .before .decay-row in (
+      rw (
+        ne-eqb _ _ (c .before .before .before .before .before .before .before .if1 .left),
+        le-ltb _ _ (c .before .before .before .before .before .before .if2 .left),
+        eq-eqb _ _
+            (c .before .before .before .before .before .if3 .left),
+        row-left (outsideUnit (c8 .before .args .decay)) (at-decay-row .result) (at-decay-row .ensures)
+            (c .before .before .before .if4 .left),
+        sym (c .before .before .weights-refused .ensures) ∙ c .before .if5 .left,
+        le-ltb _ _ (c .if6 .left),
+      ),
+      λ e. omega arith,
+    )
 
 pub new-row-spec : {M : Type 1} → statement M
 new-row-spec =

@@ -22,7 +22,11 @@ returns-3 c = (rw (ne-eqb _ _ (c .before .before .if1 .left), le-ltb _ _ (c .bef
 
 returns-4 : tie.Need-returns-4
 unfolding outputRow
-returns-4 c = (rw (ne-eqb _ _ (c .before .before .before .if1 .left), le-ltb _ _ (c .before .before .if2 .left), le-ltb _ _ (c .before .if3 .left), lt-ltb _ _ (c .if4 .taken)), λ e. absurd (omega arith))
+returns-4 c = (
+  rw (ne-eqb _ _ (c .before .before .before .if1 .left), le-ltb _ _ (c .before .before .if2 .left), le-ltb _ _ (c .before .if3 .left), lt-ltb _ _ (c .if4 .taken)),
+  λ e. absurd
+      (omega arith),
+)
 
 returns-5 : tie.Need-returns-5
 unfolding outputRow

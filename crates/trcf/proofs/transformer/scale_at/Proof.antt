@@ -21,10 +21,18 @@ normalized-scale-requires c κs = search needs
 
 returns : tie.Need-returns
 unfolding normalizedScale
-returns c = rw (sym (c .before .before .is-normalizing .ensures) ∙ c .before .if1 .taken, weightAt-view (c .before .before .before .before .before .args .t1) (c .before .before .before .before .before .args .s .now) (c .before .before .before .before .before .args .i) (c .before .before .before .before .before .pre .1)) (rw (c .normalized-scale .ensures))
+returns c =
+    let at-args = c .before .before .before .before .before .args in
+    rw (
+      sym (c .before .before .is-normalizing .ensures) ∙ c .before .if1 .taken,
+      weightAt-view (at-args .t1) (at-args .s .now) (at-args .i)
+          (c .before .before .before .before .before .pre .1),
+    ) (rw (c .normalized-scale .ensures))
 
 returns-2 : tie.Need-returns-2
-returns-2 c = rw (sym (c .before .is-normalizing .ensures) ∙ c .if1 .left, weightAt-view (c .before .before .before .before .args .t1) (c .before .before .before .before .args .s .now) (c .before .before .before .before .args .i) (c .before .before .before .before .pre .1))
+returns-2 c =
+    let at-args = c .before .before .before .before .args in
+    rw (sym (c .before .is-normalizing .ensures) ∙ c .if1 .left, weightAt-view (at-args .t1) (at-args .s .now) (at-args .i) (c .before .before .before .before .pre .1))
 
 pub scale-at-spec : {M : Type 1} → statement M
 scale-at-spec =

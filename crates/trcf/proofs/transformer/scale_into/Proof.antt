@@ -16,7 +16,10 @@ use Rattle.trcf.proofs.transformer.scale_into.Statement.{statement}
 use Rattle.trcf.proofs.transformer.scale_into.Tie as tie
 
 abbrev Inv-loop : tie.InvT-loop
-Inv-loop t s output₀ d i₀ output i = (i ≤ d) × (output ≡ over output₀ (tabulate i (λ k. cond (normalizes (t .«transform_method»)) (mul binary32 (weightAt (transformerView t s) k) (normalizedScale (transformerView t s) k)) (weightAt (transformerView t s) k)))) × (length output ≡ length output₀)
+Inv-loop t s output₀ d i₀ output i = (i ≤ d) ×
+    (output ≡ over output₀
+    (tabulate i (λ k. cond (normalizes (t .«transform_method»)) (mul binary32 (weightAt (transformerView t s) k) (normalizedScale (transformerView t s) k))
+    (weightAt (transformerView t s) k)))) × (length output ≡ length output₀)
 
 abbrev μ-loop : tie.MeasureT-loop
 μ-loop t s output₀ d i₀ output i = d - i
@@ -40,10 +43,16 @@ loop-less : tie.Need-loop-less Inv-loop μ-loop
 loop-less c = omega arith
 
 loop-again : tie.Need-loop-again Inv-loop μ-loop
-loop-again c = let L = c .before .before .loop in
+loop-again c =
+    let L = c .before .before .loop in
     let a = c .before .before .before .before .before .args in
-    let h : L .i < length (a .output .now) = omega arith in
-    (omega arith, rw (add-one, L .inv .1, c .scale-at .ensures) (over-more (a .output .now) (λ k. cond (normalizes ((a .t) .«transform_method»)) (mul binary32 (weightAt (transformerView (a .t) (a .s .now)) k) (normalizedScale (transformerView (a .t) (a .s .now)) k)) (weightAt (transformerView (a .t) (a .s .now)) k)) (L .i) h), simp length-set (omega arith))
+    let h : L .i < length (a .output .now) = omega arith in (
+      omega arith,
+      rw (add-one, L .inv .1, c .scale-at .ensures) (over-more (a .output .now)
+          (λ k. cond (normalizes ((a .t) .«transform_method»)) (mul binary32 (weightAt (transformerView (a .t) (a .s .now)) k) (normalizedScale (transformerView (a .t) (a .s .now)) k))
+          (weightAt (transformerView (a .t) (a .s .now)) k)) (L .i) h),
+      simp length-set (omega arith),
+    )
 
 same-length : tie.Need-same-length Inv-loop μ-loop
 same-length c = omega arith

@@ -19,22 +19,56 @@ returns-3 c = (rw (ne-eqb _ _ (c .before .before .if1 .left), le-ltb _ _ (c .bef
 
 returns-4 : tie.Need-returns-4
 unfolding updateRow notLong
-returns-4 c = (rw (ne-eqb _ _ (c .before .before .before .if1 .left), le-ltb _ _ (c .before .before .if2 .left), eq-eqb _ _ (c .before .if3 .left), ne-eqb _ _ (c .if4 .taken)), λ e. absurd (omega arith))
+returns-4 c = (
+  rw (ne-eqb _ _ (c .before .before .before .if1 .left), le-ltb _ _ (c .before .before .if2 .left), eq-eqb _ _ (c .before .if3 .left), ne-eqb _ _ (c .if4 .taken)),
+  λ e. absurd
+      (omega arith),
+)
 
 returns-5 : tie.Need-returns-5
 unfolding updateRow notLong
-returns-5 c = (rw (ne-eqb _ _ (c .before .before .before .before .if1 .left), le-ltb _ _ (c .before .before .before .if2 .left), eq-eqb _ _ (c .before .before .if3 .left), eq-eqb _ _ (c .before .if4 .left), le-leb _ _ (c .if5 .taken)), λ e. absurd (omega arith))
+returns-5 c = (
+  rw (
+    ne-eqb _ _ (c .before .before .before .before .if1 .left),
+    le-ltb _ _ (c .before .before .before .if2 .left),
+    eq-eqb _ _ (c .before .before .if3 .left),
+    eq-eqb _ _
+        (c .before .if4 .left),
+    le-leb _ _ (c .if5 .taken),
+  ),
+  λ e. absurd (omega arith),
+)
 
 mul-if6 : tie.Need-mul-if6
 mul-if6 c = omega arith
 
 returns-6 : tie.Need-returns-6
 unfolding updateRow notLong
-returns-6 c = (rw (ne-eqb _ _ (c .before .before .before .before .before .if1 .left), le-ltb _ _ (c .before .before .before .before .if2 .left), eq-eqb _ _ (c .before .before .before .if3 .left), eq-eqb _ _ (c .before .before .if4 .left), lt-leb _ _ (c .before .if5 .left), lt-ltb _ _ (c .if6 .taken)), λ e. absurd (omega arith))
+returns-6 c = (
+  rw (
+    ne-eqb _ _ (c .before .before .before .before .before .if1 .left),
+    le-ltb _ _ (c .before .before .before .before .if2 .left),
+    eq-eqb _ _ (c .before .before .before .if3 .left),
+    eq-eqb _ _ (c .before .before .if4 .left),
+    lt-leb _ _ (c .before .if5 .left),
+    lt-ltb _ _ (c .if6 .taken),
+  ),
+  λ e. absurd (omega arith),
+)
 
 returns-7 : tie.Need-returns-7
 unfolding updateRow notLong
-returns-7 c = (rw (ne-eqb _ _ (c .before .before .before .before .before .if1 .left), le-ltb _ _ (c .before .before .before .before .if2 .left), eq-eqb _ _ (c .before .before .before .if3 .left), eq-eqb _ _ (c .before .before .if4 .left), lt-leb _ _ (c .before .if5 .left), le-ltb _ _ (c .if6 .left)), λ e. omega arith)
+returns-7 c = (
+  rw (
+    ne-eqb _ _ (c .before .before .before .before .before .if1 .left),
+    le-ltb _ _ (c .before .before .before .before .if2 .left),
+    eq-eqb _ _ (c .before .before .before .if3 .left),
+    eq-eqb _ _ (c .before .before .if4 .left),
+    lt-leb _ _ (c .before .if5 .left),
+    le-ltb _ _ (c .if6 .left),
+  ),
+  λ e. omega arith,
+)
 
 pub update-row-spec : {M : Type 1} → statement M
 update-row-spec =

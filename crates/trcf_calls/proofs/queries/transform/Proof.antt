@@ -48,7 +48,8 @@ mul-write-transform-3 : tie.Need-mul-write-transform-3
 mul-write-transform-3 c = let r = c .before .before .before .before .transform-row .ensures .1 .0 (c .before .before .before .if1 .left) in all-inputs (r .bounded .d-few) (r .bounded .k-few)
 
 slice-aggregate-write-transform-2 : tie.Need-slice-aggregate-write-transform-2
-slice-aggregate-write-transform-2 c = sym (length-take-le _ _ (c .before .before .before .before .before .transform-row .ensures .1 .0 (c .before .before .before .before .if1 .left) .fitted .roomy .in-input))
+slice-aggregate-write-transform-2 c =
+    sym (length-take-le _ _ (c .before .before .before .before .before .transform-row .ensures .1 .0 (c .before .before .before .before .if1 .left) .fitted .roomy .in-input))
 
 write-transform-requires : tie.Need-write-transform-requires
 write-transform-requires c κs = tt

@@ -28,16 +28,41 @@ get-dimension-requires c κs = tt
 returns-3 : tie.Need-returns-3
 unfolding forecastUnfit
 returns-3 c = (
-  rw (← (dimension-known (c .before .get-dimension .ensures) (search needs)) .0, eq-eqb _ _ (c .before .before .before .before .before .if1 .left), eq-eqb _ _ (c .before .before .before .before .if2 .left), sym (c .before .before .before .is-augmented .ensures) ∙ c .before .before .if3 .taken, lt-ltb _ _ (c .if4 .taken)),
-  λ e. absurd (omega (arith, e)),
+  rw (
+    ← (dimension-known (c .before .get-dimension .ensures) (search needs)) .0,
+    eq-eqb _ _ (c .before .before .before .before .before .if1 .left),
+    eq-eqb _ _
+        (c .before .before .before .before .if2 .left),
+    sym (c .before .before .before .is-augmented .ensures) ∙ c .before .before .if3 .taken,
+    lt-ltb _ _ (c .if4 .taken),
+  ),
+  λ e. absurd
+      (omega (arith, e)),
 )
 
 returns-4 : tie.Need-returns-4
 unfolding forecastUnfit
-returns-4 c = (
-  rw (← (dimension-known (c .before .get-dimension .ensures) (search needs)) .0, eq-eqb _ _ (c .before .before .before .before .before .if1 .left), eq-eqb _ _ (c .before .before .before .before .if2 .left), sym (c .before .before .before .is-augmented .ensures) ∙ c .before .before .if3 .taken, le-ltb _ _ (c .if4 .left)),
-  λ e. record { upper = sym (c .before .before .before .before .before .if1 .left); lower = sym (c .before .before .before .before .if2 .left); blocks = λ a. omega (arith, (dimension-known (c .before .get-dimension .ensures) (search needs)) .0); cascades = λ a. absurd (true-false (sym (c .before .before .if3 .taken) ∙ c .before .before .before .is-augmented .ensures ∙ a)) },
-)
+returns-4 c =
+    let at-if1 = c .before .before .before .before .before .if1 in
+    let at-if2 = c .before .before .before .before .if2 in
+    let at-is-augmented = c .before .before .before .is-augmented in
+    let at-if3 = c .before .before .if3 in
+    let at-get-dimension = c .before .get-dimension in (
+      rw (
+        ← (dimension-known (at-get-dimension .ensures) (search needs)) .0,
+        eq-eqb _ _ (at-if1 .left),
+        eq-eqb _ _ (at-if2 .left),
+        sym (at-is-augmented .ensures) ∙ at-if3 .taken,
+        le-ltb _ _
+            (c .if4 .left),
+      ),
+      λ e. record {
+        upper = sym (at-if1 .left);
+        lower = sym (at-if2 .left);
+        blocks = λ a. omega (arith, (dimension-known (at-get-dimension .ensures) (search needs)) .0);
+        cascades = λ a. absurd (true-false (sym (at-if3 .taken) ∙ at-is-augmented .ensures ∙ a));
+      },
+    )
 
 is-broken-requires : tie.Need-is-broken-requires
 is-broken-requires c κs = tt
@@ -45,16 +70,33 @@ is-broken-requires c κs = tt
 returns-5 : tie.Need-returns-5
 unfolding forecastUnfit
 returns-5 c = (
-  rw (eq-eqb _ _ (c .before .before .before .before .before .if1 .left), eq-eqb _ _ (c .before .before .before .before .if2 .left), sym (c .before .before .before .is-augmented .ensures) ∙ c .before .before .if3 .left, sym (c .before .is-broken .ensures) ∙ c .if5 .taken),
+  rw (
+    eq-eqb _ _ (c .before .before .before .before .before .if1 .left),
+    eq-eqb _ _ (c .before .before .before .before .if2 .left),
+    sym
+        (c .before .before .before .is-augmented .ensures) ∙ c .before .before .if3 .left,
+    sym (c .before .is-broken .ensures) ∙ c .if5 .taken,
+  ),
   λ e. absurd (omega (arith, e)),
 )
 
 returns-6 : tie.Need-returns-6
 unfolding forecastUnfit
-returns-6 c = (
-  rw (eq-eqb _ _ (c .before .before .before .before .before .if1 .left), eq-eqb _ _ (c .before .before .before .before .if2 .left), sym (c .before .before .before .is-augmented .ensures) ∙ c .before .before .if3 .left, sym (c .before .is-broken .ensures) ∙ c .if5 .left),
-  λ e. record { upper = sym (c .before .before .before .before .before .if1 .left); lower = sym (c .before .before .before .before .if2 .left); blocks = λ a. absurd (true-false (sym a ∙ sym (c .before .before .before .is-augmented .ensures) ∙ c .before .before .if3 .left)); cascades = λ a. sym (c .before .is-broken .ensures) ∙ c .if5 .left },
-)
+returns-6 c =
+    let at-if1 = c .before .before .before .before .before .if1 in
+    let at-if2 = c .before .before .before .before .if2 in
+    let at-is-augmented = c .before .before .before .is-augmented in
+    let at-if3 = c .before .before .if3 in
+    let at-is-broken = c .before .is-broken in (
+      rw (eq-eqb _ _ (at-if1 .left), eq-eqb _ _ (at-if2 .left), sym (at-is-augmented .ensures) ∙ at-if3 .left, sym (at-is-broken .ensures) ∙ c .if5 .left),
+      λ e. record {
+        upper = sym (at-if1 .left);
+        lower = sym (at-if2 .left);
+        blocks = λ a. absurd (true-false (sym a ∙ sym (at-is-augmented .ensures) ∙ at-if3 .left));
+        cascades = λ a. sym
+            (at-is-broken .ensures) ∙ c .if5 .left;
+      },
+    )
 
 pub broken-row-spec : {M : Type 1} → statement M
 broken-row-spec =

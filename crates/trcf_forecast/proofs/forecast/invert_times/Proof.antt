@@ -37,13 +37,12 @@ timedrift-of-requires c κs = tt
 write-times-requires : tie.Need-write-times-requires
 write-times-requires c κs =
     let c8 = c .before .before .before .before .before .before .before .before in
-    let A = c8 .before .before .before .before .before .before .before .before .before .args in
-    let P = c8 .before .before .before .before .before .before .before .before .before .pre in
+    let c16 = c8 .before .before .before .before .before .before .before .before in
+    let A = c16 .before .args in
+    let P = c16 .before .pre in
     let e = (dimension-known (c .before .before .before .before .before .before .before .get-dimension .ensures) (search needs)) .0 in
-    let f = dimension-augmented (settingsOf (A .head)) (P .1 .1 .0) in (
-      omega (arith, e, f, P .0 .k-pos),
-      (P .1 .1 .1 .1 .0, (rw e (P .1 .1 .1 .1 .1 .0), rw e (P .1 .1 .1 .1 .1 .1), rw e (P .1 .1 .1 .1 .1 .2))),
-    )
+    let f = dimension-augmented (settingsOf (A .head)) (P .1 .1 .0) in
+    (omega (arith, e, f, P .0 .k-pos), (P .1 .1 .1 .1 .0, (rw e (P .1 .1 .1 .1 .1 .0), rw e (P .1 .1 .1 .1 .1 .1), rw e (P .1 .1 .1 .1 .1 .2))))
 
 u64-to-f64-requires : tie.Need-u64-to-f64-requires
 u64-to-f64-requires c κs = search needs
@@ -78,20 +77,22 @@ returns c =
     let c16 = c8 .before .before .before .before .before .before .before .before in
     let c24 = c16 .before .before .before .before .before .before .before .before in
     let c32 = c24 .before .before .before .before .before .before .before .before in
+    let at-get-dimension = c24 .before .before .get-dimension in
+    let at-is-gap = c24 .before .is-gap in
+    let at-time-factor = c24 .time-factor in
+    let at-timescale-of = c16 .before .before .before .before .before .before .before .timescale-of in
+    let at-timedrift-of = c16 .before .before .before .before .before .before .timedrift-of in
+    let at-u64-to-f64 = c8 .before .before .before .u64-to-f64 in
     let A = c32 .before .before .before .before .args in
     let P = c32 .before .before .before .before .pre in
     let W = c16 .before .before .write-times in
     let n = length (A .«values-out» .now) in
     times-done (settingsOf (A .head)) (A .s .now) (ranges (A .values .now) (A .upper .now) (A .lower .now))
-    (ranges (W .last .1 .1 .1 .1 .1 .1 .1 .1 .1 .0) (W .last .1 .1 .1 .1 .1 .1 .1 .1 .1 .1 .0) (W .last .1 .1 .1 .1 .1 .1 .1 .1 .1 .1 .1 .0)) _
-    (c24 .before .is-gap .result) (c16 .before .before .before .before .before .before .before .before .time-factor .result) (c16 .before .before .before .before .before .before .before .timescale-of .result)
-    (c16 .before .before .before .before .before .before .timedrift-of .result) (c8 .before .before .before .u64-to-f64 .result) (A .last) (c24 .before .before .get-dimension .result) _ n _
-    (c24 .before .is-gap .ensures)
-    (c16 .before .before .before .before .before .before .before .before .time-factor .ensures)
-    ((opened _ (c16 .before .before .before .before .before .before .before .timescale-of .ensures) (time-fits (P .0) (P .1 .0))))
-    ((opened _ (c16 .before .before .before .before .before .before .timedrift-of .ensures) (time-fits (P .0) (P .1 .0))))
-    ((dimension-known (c24 .before .before .get-dimension .ensures) (search needs)) .0) (c8 .before .before .before .u64-to-f64 .ensures) (W .ensures) (P .1 .1 .1 .0)
-    (W .kept .1 .1 .1 .1 .1 .1 .1 .1 .1 .0) (W .kept .1 .1 .1 .1 .1 .1 .1 .1 .1 .1 .0 ∙ P .1 .1 .1 .1 .0 .0) (W .kept .1 .1 .1 .1 .1 .1 .1 .1 .1 .1 .1 .0 ∙ P .1 .1 .1 .1 .0 .1)
+    (ranges (W .last .1 .1 .1 .1 .1 .1 .1 .1 .1 .0) (W .last .1 .1 .1 .1 .1 .1 .1 .1 .1 .1 .0) (W .last .1 .1 .1 .1 .1 .1 .1 .1 .1 .1 .1 .0)) _ (at-is-gap .result) (at-time-factor .result)
+    (at-timescale-of .result) (at-timedrift-of .result) (at-u64-to-f64 .result) (A .last) (at-get-dimension .result) _ n _ (at-is-gap .ensures) (at-time-factor .ensures)
+    ((opened _ (at-timescale-of .ensures) (time-fits (P .0) (P .1 .0)))) ((opened _ (at-timedrift-of .ensures) (time-fits (P .0) (P .1 .0))))
+    ((dimension-known (at-get-dimension .ensures) (search needs)) .0) (at-u64-to-f64 .ensures) (W .ensures) (P .1 .1 .1 .0) (W .kept .1 .1 .1 .1 .1 .1 .1 .1 .1 .0)
+    (W .kept .1 .1 .1 .1 .1 .1 .1 .1 .1 .1 .0 ∙ P .1 .1 .1 .1 .0 .0) (W .kept .1 .1 .1 .1 .1 .1 .1 .1 .1 .1 .1 .0 ∙ P .1 .1 .1 .1 .0 .1)
     (c .before .before .before .before .before .before .cascaded-add-f64 .ensures)
 
 pub invert-times-spec : {M : Type 1} → statement M

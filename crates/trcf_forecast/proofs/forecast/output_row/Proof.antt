@@ -43,7 +43,12 @@ is-shorter-requires c κs = tt
 returns : tie.Need-returns
 unfolding forecastOutputShort lookahead
 returns c = (
-  rw (← (dimension-known (c .before .before .before .before .get-dimension .ensures) (search needs)) .0, sym (c .before .before .before .is-augmented .ensures) ∙ c .before .before .if1 .taken, sym (c .before .is-shorter .ensures .0) ∙ c .if2 .taken),
+  rw (
+    ← (dimension-known (c .before .before .before .before .get-dimension .ensures) (search needs)) .0,
+    sym (c .before .before .before .is-augmented .ensures) ∙
+        c .before .before .if1 .taken,
+    sym (c .before .is-shorter .ensures .0) ∙ c .if2 .taken,
+  ),
   λ e. absurd (omega (arith, e)),
 )
 
@@ -53,16 +58,37 @@ is-shorter-requires-2 c κs = tt
 returns-2 : tie.Need-returns-2
 unfolding forecastOutputShort lookahead
 returns-2 c = (
-  rw (← (dimension-known (c .before .before .before .before .before .before .get-dimension .ensures) (search needs)) .0, sym (c .before .before .before .before .before .is-augmented .ensures) ∙ c .before .before .before .before .if1 .taken, sym (c .before .before .before .is-shorter .ensures .0) ∙ c .before .before .if2 .left, sym (c .before .is-shorter2 .ensures .0) ∙ c .if3 .taken),
+  rw (
+    ← (dimension-known (c .before .before .before .before .before .before .get-dimension .ensures) (search needs)) .0,
+    sym
+        (c .before .before .before .before .before .is-augmented .ensures) ∙ c .before .before .before .before .if1 .taken,
+    sym (c .before .before .before .is-shorter .ensures .0) ∙
+        c .before .before .if2 .left,
+    sym (c .before .is-shorter2 .ensures .0) ∙ c .if3 .taken,
+  ),
   λ e. absurd (omega (arith, e)),
 )
 
 returns-3 : tie.Need-returns-3
 unfolding forecastOutputShort lookahead
-returns-3 c = (
-  rw (← (dimension-known (c .before .before .before .before .before .before .get-dimension .ensures) (search needs)) .0, sym (c .before .before .before .before .before .is-augmented .ensures) ∙ c .before .before .before .before .if1 .taken, sym (c .before .before .before .is-shorter .ensures .0) ∙ c .before .before .if2 .left, sym (c .before .is-shorter2 .ensures .0) ∙ c .if3 .left),
-  λ e a. record { numbers = rw (← (dimension-known (c .before .before .before .before .before .before .get-dimension .ensures) (search needs)) .0) (c .before .before .before .is-shorter .ensures .1 (c .before .before .if2 .left)); times = rw (← (dimension-known (c .before .before .before .before .before .before .get-dimension .ensures) (search needs)) .0) (c .before .is-shorter2 .ensures .1 (c .if3 .left)) },
-)
+returns-3 c =
+    let at-get-dimension = c .before .before .before .before .before .before .get-dimension in
+    let at-is-shorter = c .before .before .before .is-shorter in
+    let at-if2 = c .before .before .if2 in
+    let at-is-shorter2 = c .before .is-shorter2 in (
+      rw (
+        ← (dimension-known (at-get-dimension .ensures) (search needs)) .0,
+        sym (c .before .before .before .before .before .is-augmented .ensures) ∙
+            c .before .before .before .before .if1 .taken,
+        sym (at-is-shorter .ensures .0) ∙ at-if2 .left,
+        sym (at-is-shorter2 .ensures .0) ∙ c .if3 .left,
+      ),
+      λ e a. record {
+        numbers = rw (← (dimension-known (at-get-dimension .ensures) (search needs)) .0) (at-is-shorter .ensures .1 (at-if2 .left));
+        times = rw
+            (← (dimension-known (at-get-dimension .ensures) (search needs)) .0) (at-is-shorter2 .ensures .1 (c .if3 .left));
+      },
+    )
 
 returns-4 : tie.Need-returns-4
 unfolding forecastOutputShort lookahead

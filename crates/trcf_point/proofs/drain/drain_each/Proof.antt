@@ -17,7 +17,8 @@ use Rattle.trcf_point.proofs.drain.drain_each.Tie as tie
 
 -- the statistics with all of them fed
 abbrev full : Preprocessor → List Float → List Float → List ℕ → List Float
-full head s values stamps = feedAll (settingsOf head) (head .transformer .count) s (readingAt (head .transformer .«input_length») values stamps 0) (blocks (head .transformer .«input_length») values stamps)
+full head s values stamps = feedAll (settingsOf head) (head .transformer .count) s (readingAt (head .transformer .«input_length») values stamps 0)
+    (blocks (head .transformer .«input_length») values stamps)
 
 abbrev Inv-loop : tie.InvT-loop
 Inv-loop head s₀ inputs₀ points₀ times₀ values stamps n fed₀ i₀ s inputs points times fed i =
@@ -140,4 +141,5 @@ returns c =
     ∙ (λ j. shingling (a .head) n (sym (L .inv .6 some) j) (L .inputs) (L .points) (L .times) (a .head .«internal_timestamp» + e j)))
 
 pub drain-each-spec : {M : Type 1} → statement M
-drain-each-spec = tie.close (tie.spec Inv-loop μ-loop loop-holds add-next slice-aggregate-feed-initial feed-initial-requires drain-turn-requires loop-less loop-again same-length same-length-2 same-length-3 same-length-4 returns)
+drain-each-spec = tie.close (tie.spec Inv-loop μ-loop loop-holds add-next slice-aggregate-feed-initial feed-initial-requires drain-turn-requires loop-less loop-again same-length
+    same-length-2 same-length-3 same-length-4 returns)

@@ -33,29 +33,32 @@ last-time-requires c κs = tt
 mul-write-transform : tie.Need-mul-write-transform
 mul-write-transform c =
     let c8 = c .before .before .before .before .before .before .before .before in
+    let at-pre = c8 .before .before .before .before .pre in
     let a = c8 .before .before .before .before .args in
     let d = a .head .transformer .«input_length» in
     let n = length (a .stamps .now) in
     let m = length (a .values .now) in
-    block-at (a .i) n d m (c8 .before .before .before .before .pre .1 .1 .1 .1) (flat-of n d m (c8 .before .before .before .before .pre .1 .1 .1 .0)) (c8 .before .before .before .before .good .1 .1 .1 .1 .1 .0 .1)
+    block-at (a .i) n d m (at-pre .1 .1 .1 .1) (flat-of n d m (at-pre .1 .1 .1 .0)) (c8 .before .before .before .before .good .1 .1 .1 .1 .1 .0 .1)
 
 mul-write-transform-2 : tie.Need-mul-write-transform-2
 mul-write-transform-2 c =
     let c8 = c .before .before .before .before .before .before .before .before in
+    let at-pre = c8 .before .before .before .before .pre in
     let a = c8 .before .before .before .before .args in
     let d = a .head .transformer .«input_length» in
     let n = length (a .stamps .now) in
     let m = length (a .values .now) in
-    block-at (a .i) n d m (c8 .before .before .before .before .pre .1 .1 .1 .1) (flat-of n d m (c8 .before .before .before .before .pre .1 .1 .1 .0)) (c8 .before .before .before .before .good .1 .1 .1 .1 .1 .0 .1)
+    block-at (a .i) n d m (at-pre .1 .1 .1 .1) (flat-of n d m (at-pre .1 .1 .1 .0)) (c8 .before .before .before .before .good .1 .1 .1 .1 .1 .0 .1)
 
 add-write-transform : tie.Need-add-write-transform
 add-write-transform c =
     let c8 = c .before .before .before .before .before .before .before .before in
+    let at-pre = c8 .before .before .before .before .pre in
     let a = c8 .before .before .before .before .args in
     let d = a .head .transformer .«input_length» in
     let n = length (a .stamps .now) in
     let m = length (a .values .now) in
-    block-to (a .i) n d m (c8 .before .before .before .before .pre .1 .1 .1 .1) (flat-of n d m (c8 .before .before .before .before .pre .1 .1 .1 .0)) (c8 .before .before .before .before .good .1 .1 .1 .1 .1 .0 .1)
+    block-to (a .i) n d m (at-pre .1 .1 .1 .1) (flat-of n d m (at-pre .1 .1 .1 .0)) (c8 .before .before .before .before .good .1 .1 .1 .1 .1 .0 .1)
 
 mul-write-transform-3 : tie.Need-mul-write-transform-3
 mul-write-transform-3 c =
@@ -78,11 +81,12 @@ part-write-transform-start c =
 part-write-transform-end : tie.Need-part-write-transform-end
 part-write-transform-end c =
     let c8 = c .before .before .before .before .before .before .before .before in
+    let at-pre = c8 .before .before .before .before .pre in
     let a = c8 .before .before .before .before .args in
     let d = a .head .transformer .«input_length» in
     let n = length (a .stamps .now) in
     let m = length (a .values .now) in
-    block-end (a .i) n d m (c8 .before .before .before .before .pre .1 .1 .1 .1) (flat-of n d m (c8 .before .before .before .before .pre .1 .1 .1 .0)) (c8 .before .before .before .before .good .1 .1 .1 .1 .1 .0 .1)
+    block-end (a .i) n d m (at-pre .1 .1 .1 .1) (flat-of n d m (at-pre .1 .1 .1 .0)) (c8 .before .before .before .before .good .1 .1 .1 .1 .1 .0 .1)
 
 slice-aggregate-write-transform : tie.Need-slice-aggregate-write-transform
 slice-aggregate-write-transform c = search needs
@@ -93,46 +97,46 @@ write-transform-requires c κs = tt
 mul-shift-vector : tie.Need-mul-shift-vector
 mul-shift-vector c =
     let c8 = c .before .before .before .before .before .before .before .before in
-    let a = c8 .before .before .before .before .before .before .before .before .before .args in
+    let c16 = c8 .before .before .before .before .before .before .before .before in
+    let at-pre = c16 .before .pre in
+    let a = c16 .before .args in
     let d = a .head .transformer .«input_length» in
     let n = length (a .stamps .now) in
     let m = length (a .values .now) in
-    block-at (a .i) n d m (c8 .before .before .before .before .before .before .before .before .before .pre .1 .1 .1 .1)
-    (flat-of n d m (c8 .before .before .before .before .before .before .before .before .before .pre .1 .1 .1 .0))
-    (c8 .before .before .before .before .before .before .before .before .before .good .1 .1 .1 .1 .1 .0 .1)
+    block-at (a .i) n d m (at-pre .1 .1 .1 .1) (flat-of n d m (at-pre .1 .1 .1 .0)) (c16 .before .good .1 .1 .1 .1 .1 .0 .1)
 
 mul-shift-vector-2 : tie.Need-mul-shift-vector-2
 mul-shift-vector-2 c =
     let c8 = c .before .before .before .before .before .before .before .before in
-    let a = c8 .before .before .before .before .before .before .before .before .before .args in
+    let c16 = c8 .before .before .before .before .before .before .before .before in
+    let at-pre = c16 .before .pre in
+    let a = c16 .before .args in
     let d = a .head .transformer .«input_length» in
     let n = length (a .stamps .now) in
     let m = length (a .values .now) in
-    block-at (a .i) n d m (c8 .before .before .before .before .before .before .before .before .before .pre .1 .1 .1 .1)
-    (flat-of n d m (c8 .before .before .before .before .before .before .before .before .before .pre .1 .1 .1 .0))
-    (c8 .before .before .before .before .before .before .before .before .before .good .1 .1 .1 .1 .1 .0 .1)
+    block-at (a .i) n d m (at-pre .1 .1 .1 .1) (flat-of n d m (at-pre .1 .1 .1 .0)) (c16 .before .good .1 .1 .1 .1 .1 .0 .1)
 
 add-shift-vector : tie.Need-add-shift-vector
 add-shift-vector c =
     let c8 = c .before .before .before .before .before .before .before .before in
-    let a = c8 .before .before .before .before .before .before .before .before .before .args in
+    let c16 = c8 .before .before .before .before .before .before .before .before in
+    let at-pre = c16 .before .pre in
+    let a = c16 .before .args in
     let d = a .head .transformer .«input_length» in
     let n = length (a .stamps .now) in
     let m = length (a .values .now) in
-    block-to (a .i) n d m (c8 .before .before .before .before .before .before .before .before .before .pre .1 .1 .1 .1)
-    (flat-of n d m (c8 .before .before .before .before .before .before .before .before .before .pre .1 .1 .1 .0))
-    (c8 .before .before .before .before .before .before .before .before .before .good .1 .1 .1 .1 .1 .0 .1)
+    block-to (a .i) n d m (at-pre .1 .1 .1 .1) (flat-of n d m (at-pre .1 .1 .1 .0)) (c16 .before .good .1 .1 .1 .1 .1 .0 .1)
 
 mul-shift-vector-3 : tie.Need-mul-shift-vector-3
 mul-shift-vector-3 c =
     let c8 = c .before .before .before .before .before .before .before .before in
-    let a = c8 .before .before .before .before .before .before .before .before .before .args in
+    let c16 = c8 .before .before .before .before .before .before .before .before in
+    let at-pre = c16 .before .pre in
+    let a = c16 .before .args in
     let d = a .head .transformer .«input_length» in
     let n = length (a .stamps .now) in
     let m = length (a .values .now) in
-    block-bytes (a .i) n d m (c8 .before .before .before .before .before .before .before .before .before .pre .1 .1 .1 .1)
-    (flat-of n d m (c8 .before .before .before .before .before .before .before .before .before .pre .1 .1 .1 .0))
-    (c8 .before .before .before .before .before .before .before .before .before .good .1 .1 .1 .1 .1 .0 .1)
+    block-bytes (a .i) n d m (at-pre .1 .1 .1 .1) (flat-of n d m (at-pre .1 .1 .1 .0)) (c16 .before .good .1 .1 .1 .1 .1 .0 .1)
 
 sub-shift-vector : tie.Need-sub-shift-vector
 sub-shift-vector c = omega arith
@@ -140,18 +144,20 @@ sub-shift-vector c = omega arith
 part-shift-vector-start : tie.Need-part-shift-vector-start
 part-shift-vector-start c =
     let c8 = c .before .before .before .before .before .before .before .before in
-    let a = c8 .before .before .before .before .before .before .before .before .before .args in block-start (a .i) (a .head .transformer .«input_length»)
+    let c16 = c8 .before .before .before .before .before .before .before .before in
+    let a = c16 .before .args in
+    block-start (a .i) (a .head .transformer .«input_length»)
 
 part-shift-vector-end : tie.Need-part-shift-vector-end
 part-shift-vector-end c =
     let c8 = c .before .before .before .before .before .before .before .before in
-    let a = c8 .before .before .before .before .before .before .before .before .before .args in
+    let c16 = c8 .before .before .before .before .before .before .before .before in
+    let at-pre = c16 .before .pre in
+    let a = c16 .before .args in
     let d = a .head .transformer .«input_length» in
     let n = length (a .stamps .now) in
     let m = length (a .values .now) in
-    block-end (a .i) n d m (c8 .before .before .before .before .before .before .before .before .before .pre .1 .1 .1 .1)
-    (flat-of n d m (c8 .before .before .before .before .before .before .before .before .before .pre .1 .1 .1 .0))
-    (c8 .before .before .before .before .before .before .before .before .before .good .1 .1 .1 .1 .1 .0 .1)
+    block-end (a .i) n d m (at-pre .1 .1 .1 .1) (flat-of n d m (at-pre .1 .1 .1 .0)) (c16 .before .good .1 .1 .1 .1 .1 .0 .1)
 
 shift-vector-requires : tie.Need-shift-vector-requires
 shift-vector-requires c κs = tt

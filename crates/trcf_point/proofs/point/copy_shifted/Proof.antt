@@ -36,8 +36,9 @@ same-length c = search needs
 
 returns : tie.Need-returns
 returns c =
-    let a = c .before .before .before .before .before .before .before .before .before .before .before .before .args in
-    let h = c .before .before .before .before .before .before .before .before .before .before .before .before .pre in
+    let c8 = c .before .before .before .before .before .before .before .before in
+    let a = c8 .before .before .before .before .args in
+    let h = c8 .before .before .before .before .pre in
     let m = length (a .point .now) - length (a .z .now) in
     let first = c .before .before .before .before .before .before .copy-in in
     let stays = roomy _ (first .ensures) (simp (length-drop, length-take) (omega (arith, h))) ∙ paste-over (a .output .now) (take m (drop (length (a .z .now)) (a .point .now))) in

@@ -120,22 +120,26 @@ write-point-requires c κs =
 same-length-11 : tie.Need-same-length-11
 same-length-11 c =
     let c8 = c .before .before .before .before .before .before .before .before in
-    c8 .before .before .before .before .before .before .before .before .before .drain-due .kept .1 .0
+    let c16 = c8 .before .before .before .before .before .before .before .before in
+    c16 .before .drain-due .kept .1 .0
 
 same-length-12 : tie.Need-same-length-12
 same-length-12 c =
     let c8 = c .before .before .before .before .before .before .before .before in
-    c8 .before .before .before .before .before .before .before .before .before .drain-due .kept .1 .1 .0
+    let c16 = c8 .before .before .before .before .before .before .before .before in
+    c16 .before .drain-due .kept .1 .1 .0
 
 same-length-13 : tie.Need-same-length-13
 same-length-13 c =
     let c8 = c .before .before .before .before .before .before .before .before in
-    c8 .before .before .before .before .before .before .before .before .before .drain-due .kept .1 .1 .1 .0
+    let c16 = c8 .before .before .before .before .before .before .before .before in
+    c16 .before .drain-due .kept .1 .1 .1 .0
 
 same-length-14 : tie.Need-same-length-14
 same-length-14 c =
     let c8 = c .before .before .before .before .before .before .before .before in
-    c8 .before .before .before .before .before .before .before .before .before .drain-due .kept .1 .1 .1 .1 .0
+    let c16 = c8 .before .before .before .before .before .before .before .before in
+    c16 .before .drain-due .kept .1 .1 .1 .1 .0
 
 same-length-15 : tie.Need-same-length-15
 same-length-15 c = c .before .before .write-point .kept .1 .1 .1 .1 .1 .1 .1 .0
@@ -146,14 +150,15 @@ returns-3 c =
     let c16 = c8 .before .before .before .before .before .before .before .before in
     let c24 = c16 .before .before .before .before .before .before .before .before in
     let c32 = c24 .before .before .before .before .before .before .before .before in
+    let at-is-waiting = c16 .before .before .before .before .before .before .before .is-waiting in
     let a = c32 .before .before .before .before .before .before .before .args in
     let l = lent (a .statistics .now) (a .last-shingled-input .now) (a .last-shingled-point .now) (a .previous-timestamps .now) (a .initial-values .now) (a .initial-timestamps .now) in
-    let o = c16 .before .before .before .before .before .before .before .before .before .shingled-point-row in
-    let d = c8 .before .before .before .before .before .before .before .before .before .drain-due in
-    point-goes (a .head) l (a .input .now) (a .timestamp) (a .output .now) (o .result) (o .ensures .0)
-    (c16 .before .before .before .before .before .before .before .before .if1 .left) (c16 .before .before .before .before .before .before .before .is-waiting .result)
-    (c16 .before .before .before .before .before .before .before .is-waiting .ensures) (c16 .before .before .before .before .before .before .if2 .left) _ _ _ _ (d .ensures .0) (d .ensures .1)
-    (based _ _ _ _ _ _ _ (a .input .now) (a .output .now) _ (a .timestamp) _ (c .before .before .before .before .before .before .before .time-base .ensures) (c .before .before .write-point .ensures))
+    let o = c24 .before .shingled-point-row in
+    let d = c16 .before .drain-due in
+    point-goes (a .head) l (a .input .now) (a .timestamp) (a .output .now) (o .result) (o .ensures .0) (c24 .if1 .left) (at-is-waiting .result) (at-is-waiting .ensures)
+    (c16 .before .before .before .before .before .before .if2 .left) _ _ _ _ (d .ensures .0) (d .ensures .1)
+    (based _ _ _ _ _ _ _ (a .input .now) (a .output .now) _ (a .timestamp) _ (c .before .before .before .before .before .before .before .time-base .ensures)
+    (c .before .before .write-point .ensures))
 
 pub shingled-point-spec : {M : Type 1} → statement M
 shingled-point-spec =

@@ -64,11 +64,8 @@ array-share-prefix-z c = search needs
 
 slice-aggregate-copy-shifted-2 : tie.Need-slice-aggregate-copy-shifted-2
 slice-aggregate-copy-shifted-2 c =
-    simp length-take (omega (
-      arith,
-      (block-known (c .before .before .before .before .before .before .before .before .before .block-of .ensures) (search needs)),
-      c .before .before .before .before .write-transform .kept,
-    ))
+    let c8 = c .before .before .before .before .before .before .before .before in
+    simp length-take (omega (arith, (block-known (c8 .before .block-of .ensures) (search needs)), c .before .before .before .before .write-transform .kept))
 
 copy-shifted-requires : tie.Need-copy-shifted-requires
 copy-shifted-requires c κs =

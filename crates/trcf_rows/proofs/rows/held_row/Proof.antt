@@ -17,12 +17,12 @@ lent-row-requires c κs = c .before .head-row .ensures .1 (c .if1 .left)
 
 returns-2 : tie.Need-returns-2
 returns-2 c =
+    let c8 = c .before .before .before .before .before .before .before .before in
     let o = c .before .before .head-row in
     let z = c .before .if1 .left in
-    let a = c .before .before .before .before .before .before .before .before .before .args in
+    let a = c8 .before .args in
     let h = a .head in
-    let l = lent (a .statistics .now) (a .last-shingled-input .now) (a .last-shingled-point .now) (a .previous-timestamps .now) (a .initial-values .now)
-    (a .initial-timestamps .now) in
+    let l = lent (a .statistics .now) (a .last-shingled-input .now) (a .last-shingled-point .now) (a .previous-timestamps .now) (a .initial-values .now) (a .initial-timestamps .now) in
     let e = c .lent-row .ensures ∙ lengths-row h l in
     (rw (sym (o .ensures .0) ∙ z) e, λ k. record { bounded = o .ensures .1 z; fitted = fitted-of h l (sym e ∙ k) })
 

@@ -27,19 +27,39 @@ returns-4 : tie.Need-returns-4
 unfolding countersUnfit
 returns-4 c =
     let e = c .before .before .before in
-    rw (le-ltb _ _ (e .before .before .if1 .left), le-ltb _ _ (e .before .if2 .left), le-ltb _ _ (e .if3 .left), sym (c .before .before .is-waiting .ensures) ∙ not-true _ (c .before .if4 .taken)) (c .is-left .ensures)
+    rw (
+      le-ltb _ _ (e .before .before .if1 .left),
+      le-ltb _ _ (e .before .if2 .left),
+      le-ltb _ _ (e .if3 .left),
+      sym (c .before .before .is-waiting .ensures) ∙ not-true _
+          (c .before .if4 .taken),
+    ) (c .is-left .ensures)
 
 returns-5 : tie.Need-returns-5
 unfolding countersUnfit
 returns-5 c =
     let e = c .before .before .before in
-    rw (le-ltb _ _ (e .before .before .if1 .left), le-ltb _ _ (e .before .if2 .left), le-ltb _ _ (e .if3 .left), sym (c .before .before .is-waiting .ensures) ∙ not-false _ (c .before .if4 .left), eq-eqb _ _ (c .if5 .taken))
+    rw (
+      le-ltb _ _ (e .before .before .if1 .left),
+      le-ltb _ _ (e .before .if2 .left),
+      le-ltb _ _ (e .if3 .left),
+      sym (c .before .before .is-waiting .ensures) ∙ not-false _
+          (c .before .if4 .left),
+      eq-eqb _ _ (c .if5 .taken),
+    )
 
 returns-6 : tie.Need-returns-6
 unfolding countersUnfit
 returns-6 c =
     let e = c .before .before .before in
-    rw (le-ltb _ _ (e .before .before .if1 .left), le-ltb _ _ (e .before .if2 .left), le-ltb _ _ (e .if3 .left), sym (c .before .before .is-waiting .ensures) ∙ not-false _ (c .before .if4 .left), ne-eqb _ _ (c .if5 .left))
+    rw (
+      le-ltb _ _ (e .before .before .if1 .left),
+      le-ltb _ _ (e .before .if2 .left),
+      le-ltb _ _ (e .if3 .left),
+      sym (c .before .before .is-waiting .ensures) ∙ not-false _
+          (c .before .if4 .left),
+      ne-eqb _ _ (c .if5 .left),
+    )
 
 pub is-misfit-spec : {M : Type 1} → statement M
 is-misfit-spec = tie.close (tie.spec returns returns-2 returns-3 is-waiting-requires is-left-requires returns-4 returns-5 returns-6)

@@ -39,9 +39,12 @@ same-length c = search needs
 
 returns-2 : tie.Need-returns-2
 unfolding transformerDifferenceDeviations
-returns-2 c = let R = c .before .before .before .before .before .before .output-row in
-    let a = c .before .before .before .before .before .before .before .before .before .args in
-    written-done (R .result) _ (a .output .now) (differenceDeviations (own (a .self) (a .statistics .now))) _ (R .ensures .0) (c .before .before .before .before .before .if1 .left) (c .before .before .difference-deviations-into .ensures)
+returns-2 c =
+    let c8 = c .before .before .before .before .before .before .before .before in
+    let R = c .before .before .before .before .before .before .output-row in
+    let a = c8 .before .args in
+    written-done (R .result) _ (a .output .now) (differenceDeviations (own (a .self) (a .statistics .now))) _ (R .ensures .0) (c .before .before .before .before .before .if1 .left)
+    (c .before .before .difference-deviations-into .ensures)
 
 pub difference-deviations-spec : {M : Type 1} → statement M
 difference-deviations-spec =

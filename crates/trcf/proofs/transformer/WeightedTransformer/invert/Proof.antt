@@ -37,9 +37,12 @@ same-length c = search needs
 
 returns-2 : tie.Need-returns-2
 unfolding transformerInvert
-returns-2 c = let R = c .before .before .before .before .before .before .transform-row in
-    let a = c .before .before .before .before .before .before .before .before .before .before .before .args in
-    written-done (R .result) _ (a .output .now) (inverted (own (a .self) (a .statistics .now)) (a .input .now) (a .previous .now)) _ (R .ensures .0) (c .before .before .before .before .before .if1 .left) (c .before .before .invert-fitting .ensures)
+returns-2 c =
+    let c8 = c .before .before .before .before .before .before .before .before in
+    let R = c .before .before .before .before .before .before .transform-row in
+    let a = c8 .before .before .before .args in
+    written-done (R .result) _ (a .output .now) (inverted (own (a .self) (a .statistics .now)) (a .input .now) (a .previous .now)) _ (R .ensures .0)
+    (c .before .before .before .before .before .if1 .left) (c .before .before .invert-fitting .ensures)
 
 pub invert-spec : {M : Type 1} → statement M
 invert-spec =

@@ -34,8 +34,10 @@ slice-aggregate-forecast-fitting c = let R = c .before .before .forecast-row .en
     omega (arith, length-take-le (15 * a .self .«input_length») (a .statistics .now) (R .6))
 
 forecast-fitting-requires : tie.Need-forecast-fitting-requires
-forecast-fitting-requires c κs = let R = c .before .before .before .before .before .forecast-row .ensures .1 (c .before .before .before .before .if1 .left) in
-    let a = c .before .before .before .before .before .before .before .before .before .before .before .args in
+forecast-fitting-requires c κs =
+    let c8 = c .before .before .before .before .before .before .before .before in
+    let R = c .before .before .before .before .before .forecast-row .ensures .1 (c .before .before .before .before .if1 .left) in
+    let a = c8 .before .before .before .args in
     (sound-part (a .self) (a .statistics .now) (R .0) (R .1) (R .6), (R .2, ((R .3, R .4), blocked-base (differences (a .self .«transform_method»)) _ _ _ (R .2) (R .5))))
 
 same-length : tie.Need-same-length
@@ -49,9 +51,14 @@ same-length-3 c = search needs
 
 returns-2 : tie.Need-returns-2
 unfolding transformerInvertForecast
-returns-2 c = let R = c .before .before .before .before .before .before .before .before .before .before .before .before .forecast-row in
-    let a = c .before .before .before .before .before .before .before .before .before .before .before .before .before .before .before .before .before .before .args in
-    done (R .result) _ (ranges (a .values .now) (a .upper .now) (a .lower .now)) (invertedForecast (own (a .self) (a .statistics .now)) (a .previous .now) (ranges (a .values .now) (a .upper .now) (a .lower .now))) _ (R .ensures .0) (c .before .before .before .before .before .before .before .before .before .before .before .if1 .left) (c .before .before .before .before .before .before .forecast-fitting .ensures)
+returns-2 c =
+    let c8 = c .before .before .before .before .before .before .before .before in
+    let c16 = c8 .before .before .before .before .before .before .before .before in
+    let R = c8 .before .before .before .before .forecast-row in
+    let a = c16 .before .before .args in
+    done (R .result) _ (ranges (a .values .now) (a .upper .now) (a .lower .now))
+    (invertedForecast (own (a .self) (a .statistics .now)) (a .previous .now) (ranges (a .values .now) (a .upper .now) (a .lower .now))) _ (R .ensures .0)
+    (c8 .before .before .before .if1 .left) (c .before .before .before .before .before .before .forecast-fitting .ensures)
 
 pub invert-forecast-spec : {M : Type 1} → statement M
 invert-forecast-spec =

@@ -40,12 +40,16 @@ same-length c = search needs
 
 returns-2 : tie.Need-returns-2
 unfolding transformerNew
-returns-2 c = let R = c .before .before .before .before .before .before .new-row in
-    let f = R .ensures .1 (c .before .before .before .before .before .if1 .left) in
-    let a = c .before .before .before .before .before .before .before .before .before .args in
-    ap (λ (w : List Float). made 0 (transformerHead (a .transform-method) (a .input-length) (a .transform-decay) w 0) (c .before .before .clear .last .0))
-    (roomy _ (c .before .before .before .before .padded .ensures) (omega (arith, f .1, f .2)))
-    ∙ made-done (R .result) _ _ (transformerHead (a .transform-method) (a .input-length) (a .transform-decay) (over (replicate 16 zero32) (a .weights .now)) 0) _ _ (R .ensures .0) (c .before .before .before .before .before .if1 .left) (c .before .before .clear .ensures)
+returns-2 c =
+    let c8 = c .before .before .before .before .before .before .before .before in
+    let at-if1 = c .before .before .before .before .before .if1 in
+    let at-clear = c .before .before .clear in
+    let R = c .before .before .before .before .before .before .new-row in
+    let f = R .ensures .1 (at-if1 .left) in
+    let a = c8 .before .args in
+    ap (λ (w : List Float). made 0 (transformerHead (a .transform-method) (a .input-length) (a .transform-decay) w 0) (at-clear .last .0))
+    (roomy _ (c .before .before .before .before .padded .ensures) (omega (arith, f .1, f .2))) ∙ made-done (R .result) _ _
+    (transformerHead (a .transform-method) (a .input-length) (a .transform-decay) (over (replicate 16 zero32) (a .weights .now)) 0) _ _ (R .ensures .0) (at-if1 .left) (at-clear .ensures)
 
 pub new-spec : {M : Type 1} → statement M
 new-spec =
