@@ -211,7 +211,8 @@ module _ (s : Settings) (ok : Valid s) (one : s .d ≡ 1) where
             (subst (λ (u : ReadingResult). Holds s (held (u .head) (u .lent)) (run W (c ∷ d ∷ []))) (sym t) (R .holds));
         same = (λ k. note (p .same k) i (readyOf (t k .head)) (t k .last))
             ∙ ap (λ (r : Bool). note (q₀ .noted) i r (lastOf y)) b
-            ∙ ap (λ (v : State). note (q₀ .noted) i (leb (next (next v c) (learnWith g i (pointIn (answer v c))) .settings .k) (next (next v c) (learnWith g i (pointIn (answer v c))) .internalTimestamp)) (lastOf (pointIn (answer v c)))) (p .ran);
+            ∙ ap (λ (v : State). note (q₀ .noted) i (leb (next (next v c) (learnWith g i (pointIn (answer v c))) .settings .k)
+            (next (next v c) (learnWith g i (pointIn (answer v c))) .internalTimestamp)) (lastOf (pointIn (answer v c)))) (p .ran);
       }
 
   at : (g : Signal) (n : ℕ) → n ≤ wholeMax → At g n

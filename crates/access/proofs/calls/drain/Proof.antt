@@ -30,9 +30,10 @@ same-length-4 c = search needs
 
 returns-2 : tie.Need-returns-2
 returns-2 c =
+    let c8 = c .before .before .before .before .before .before .before .before in
     let e0 = c .before .before .before .before .before .before .before .before in
     let e = e0 .before .before .before .before .before in
-    guard-open _ _ (LEARN ∷ []) (e .before .may .result) (e .before .may .ensures) _ _ (not-false _ (e .if1 .left)) _ (c .before .before .before .before .before .before .before .before .drain .ensures)
+    guard-open _ _ (LEARN ∷ []) (e .before .may .result) (e .before .may .ensures) _ _ (not-false _ (e .if1 .left)) _ (c8 .drain .ensures)
 
 pub drain-spec : {M : Type 1} → statement M
 drain-spec = tie.close (tie.spec may-requires returns drain-requires same-length same-length-2 same-length-3 same-length-4 returns-2)

@@ -71,4 +71,5 @@ returns-2 c =
     (c16 .before .before .post-process .ensures ∙ ap (λ (i : ℤ). learnAfter (a .head) l (q i)) u)
 
 pub post-process-spec : {M : Type 1} → statement M
-post-process-spec = tie.close (tie.spec may-requires returns post-process-requires same-length same-length-2 same-length-3 same-length-4 same-length-5 same-length-6 same-length-7 same-length-8 same-length-9 returns-2)
+post-process-spec = tie.close (tie.spec may-requires returns post-process-requires same-length same-length-2 same-length-3 same-length-4 same-length-5 same-length-6 same-length-7
+    same-length-8 same-length-9 returns-2)

@@ -62,4 +62,5 @@ returns-2 c =
 pub numbers-spec : {M : Type 1} → statement M
 numbers-spec =
     tie.close
-    (tie.spec may-requires untold-requires returns values-seen-requires internal-timestamp-requires is-ready-requires input-dimensions-requires shingle-size-requires get-dimension-requires transformation-method-requires forest-mode-requires start-normalization-requires panel-requires returns-2)
+    (tie.spec may-requires untold-requires returns values-seen-requires internal-timestamp-requires is-ready-requires input-dimensions-requires shingle-size-requires get-dimension-requires
+    transformation-method-requires forest-mode-requires start-normalization-requires panel-requires returns-2)

@@ -54,4 +54,5 @@ returns-2 c =
     guard-open _ _ (SEE ∷ []) (e .before .may .result) (e .before .may .ensures) _ _ (not-false _ (e .if1 .left)) _ (f1 .before .before .invert-extrapolation .ensures)
 
 pub invert-extrapolation-spec : {M : Type 1} → statement M
-invert-extrapolation-spec = tie.close (tie.spec may-requires returns invert-extrapolation-requires same-length same-length-2 same-length-3 same-length-4 same-length-5 same-length-6 same-length-7 same-length-8 same-length-9 returns-2)
+invert-extrapolation-spec = tie.close (tie.spec may-requires returns invert-extrapolation-requires same-length same-length-2 same-length-3 same-length-4 same-length-5 same-length-6
+    same-length-7 same-length-8 same-length-9 returns-2)

@@ -26,7 +26,11 @@ returns-2 : tie.Need-returns-2
 unfolding isSignal
 returns-2 c =
     let t = c .before .before .before .before .before .args .t .now in
-    sym (rw (eq-eqb (getD t 0 0) 115 (sym (c .before .before .before .byte-at .ensures) ∙ c .before .before .if1 .left), ne-eqb (getD t 1 0) 105 (λ z. c .if2 .taken (c .before .byte-at2 .ensures ∙ z))))
+    sym (rw (
+      eq-eqb (getD t 0 0) 115 (sym (c .before .before .before .byte-at .ensures) ∙ c .before .before .if1 .left),
+      ne-eqb (getD t 1 0) 105
+          (λ z. c .if2 .taken (c .before .byte-at2 .ensures ∙ z)),
+    ))
 
 byte-at-requires-3 : tie.Need-byte-at-requires-3
 byte-at-requires-3 c κs = search needs
@@ -35,7 +39,12 @@ returns-3 : tie.Need-returns-3
 unfolding isSignal
 returns-3 c =
     let t = c .before .before .before .before .before .before .before .args .t .now in
-    sym (rw (eq-eqb (getD t 0 0) 115 (sym (c .before .before .before .before .before .byte-at .ensures) ∙ c .before .before .before .before .if1 .left), eq-eqb (getD t 1 0) 105 (sym (c .before .before .before .byte-at2 .ensures) ∙ c .before .before .if2 .left), ne-eqb (getD t 2 0) 103 (λ z. c .if3 .taken (c .before .byte-at3 .ensures ∙ z))))
+    sym (rw (
+      eq-eqb (getD t 0 0) 115 (sym (c .before .before .before .before .before .byte-at .ensures) ∙ c .before .before .before .before .if1 .left),
+      eq-eqb (getD t 1 0) 105
+          (sym (c .before .before .before .byte-at2 .ensures) ∙ c .before .before .if2 .left),
+      ne-eqb (getD t 2 0) 103 (λ z. c .if3 .taken (c .before .byte-at3 .ensures ∙ z)),
+    ))
 
 byte-at-requires-4 : tie.Need-byte-at-requires-4
 byte-at-requires-4 c κs = search needs
@@ -45,7 +54,14 @@ unfolding isSignal
 returns-4 c =
     let c8 = c .before .before .before .before .before .before .before .before in
     let t = c8 .args .t .now in
-    ap (λ (n : ℕ). eqb n 9) (c .byte-at4 .ensures) ∙ sym (rw (eq-eqb (getD t 0 0) 115 (sym (c .before .before .before .before .before .before .byte-at .ensures) ∙ c .before .before .before .before .before .if1 .left), eq-eqb (getD t 1 0) 105 (sym (c .before .before .before .before .byte-at2 .ensures) ∙ c .before .before .before .if2 .left), eq-eqb (getD t 2 0) 103 (sym (c .before .before .byte-at3 .ensures) ∙ c .before .if3 .left)))
+    ap (λ (n : ℕ). eqb n 9) (c .byte-at4 .ensures) ∙ sym
+    (rw (
+      eq-eqb (getD t 0 0) 115 (sym (c .before .before .before .before .before .before .byte-at .ensures) ∙ c .before .before .before .before .before .if1 .left),
+      eq-eqb (getD t 1 0) 105
+          (sym (c .before .before .before .before .byte-at2 .ensures) ∙ c .before .before .before .if2 .left),
+      eq-eqb (getD t 2 0) 103
+          (sym (c .before .before .byte-at3 .ensures) ∙ c .before .if3 .left),
+    ))
 
 pub is-signal-spec : {M : Type 1} → statement M
 is-signal-spec =

@@ -83,12 +83,14 @@ add-t9 c =
 returns-3 : tie.Need-returns-3
 returns-3 c =
     let c8 = c .before .before .before .before .before .before .before .before in
+    let at-if1 = c .before .before .before .before .before .if1 in
     let a = c8 .before .args in
     let n = c .before .before .before .before .before .before .cell-end in
     let e : n .result ≡ cellLength (drop (a .at) (a .text .now)) = n .ensures .0 ∙ ap cellLength (rest-is (a .text .now) (a .at)) in
     let v = c .before .signed-of in (
-      part-here (a .text .now) (a .at) (n .result) (a .end) e (c8 .before .pre) (c .before .before .before .before .before .if1 .left) (c .before .before .before .if2 .left) (v .result .found) (signed (v .result .value)) (v .ensures),
-      omega (arith, n .ensures .1 .0, c .before .before .before .before .before .if1 .left, length-drop (a .at) (a .text .now)),
+      part-here (a .text .now) (a .at) (n .result) (a .end) e (c8 .before .pre) (at-if1 .left) (c .before .before .before .if2 .left) (v .result .found) (signed (v .result .value))
+          (v .ensures),
+      omega (arith, n .ensures .1 .0, at-if1 .left, length-drop (a .at) (a .text .now)),
     )
 
 pub part-at-spec : {M : Type 1} → statement M

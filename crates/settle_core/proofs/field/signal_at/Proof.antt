@@ -21,7 +21,8 @@ no-signal-requires c κs = search needs
 returns : tie.Need-returns
 returns c =
     let a = c .before .before .before .args in
-    ap (λ (b : Bool). optionOf b (signalOf (c .no-signal .result .signal))) (c .no-signal .ensures) ∙ short-signal (drop (a .at) (a .text .now)) (simp length-drop (omega (arith, c .before .if1 .taken)))
+    ap (λ (b : Bool). optionOf b (signalOf (c .no-signal .result .signal))) (c .no-signal .ensures) ∙ short-signal (drop (a .at) (a .text .now))
+    (simp length-drop (omega (arith, c .before .if1 .taken)))
 
 sub-is-signal : tie.Need-sub-is-signal
 sub-is-signal c = search needs
@@ -42,7 +43,8 @@ returns-2 : tie.Need-returns-2
 returns-2 c =
     let a = c .before .before .before .before .before .before .args in
     let s = c .before .before .is-signal in
-    ap (λ (b : Bool). optionOf b (signalOf (c .no-signal2 .result .signal))) (c .no-signal2 .ensures) ∙ not-signal (drop (a .at) (a .text .now)) (sym (s .ensures ∙ ap isSignal (rest-is (a .text .now) (a .at))) ∙ not-true (s .result) (c .before .if2 .taken))
+    ap (λ (b : Bool). optionOf b (signalOf (c .no-signal2 .result .signal))) (c .no-signal2 .ensures) ∙ not-signal (drop (a .at) (a .text .now))
+    (sym (s .ensures ∙ ap isSignal (rest-is (a .text .now) (a .at))) ∙ not-true (s .result) (c .before .if2 .taken))
 
 add-fields-at : tie.Need-add-fields-at
 add-fields-at c = omega (arith, c .before .before .before .if1 .left)

@@ -18,7 +18,8 @@ no-signal-requires c κs = search needs
 returns : tie.Need-returns
 returns c =
     let a = c .before .before .before .args in
-    ap (λ (b : Bool). optionOf b (signalOf (c .no-signal .result .signal))) (c .no-signal .ensures) ∙ limited-place (signed (a .base)) (signed (a .ramp)) (signed (a .ripple)) (signed (a .jump)) (signed (a .place)) (signed (a .readings)) (sym (c .before .before .below-zero .ensures) ∙ c .before .if1 .taken)
+    ap (λ (b : Bool). optionOf b (signalOf (c .no-signal .result .signal))) (c .no-signal .ensures) ∙ limited-place (signed (a .base)) (signed (a .ramp)) (signed (a .ripple))
+    (signed (a .jump)) (signed (a .place)) (signed (a .readings)) (sym (c .before .before .below-zero .ensures) ∙ c .before .if1 .taken)
 
 below-zero-requires-2 : tie.Need-below-zero-requires-2
 below-zero-requires-2 c κs = search needs
@@ -29,7 +30,9 @@ no-signal-requires-2 c κs = search needs
 returns-2 : tie.Need-returns-2
 returns-2 c =
     let a = c .before .before .before .before .before .args in
-    ap (λ (b : Bool). optionOf b (signalOf (c .no-signal2 .result .signal))) (c .no-signal2 .ensures) ∙ limited-readings (signed (a .base)) (signed (a .ramp)) (signed (a .ripple)) (signed (a .jump)) (signed (a .place)) (signed (a .readings)) (sym (c .before .before .before .before .below-zero .ensures) ∙ c .before .before .before .if1 .left) (sym (c .before .before .below-zero2 .ensures) ∙ c .before .if2 .taken)
+    ap (λ (b : Bool). optionOf b (signalOf (c .no-signal2 .result .signal))) (c .no-signal2 .ensures) ∙ limited-readings (signed (a .base)) (signed (a .ramp)) (signed (a .ripple))
+    (signed (a .jump)) (signed (a .place)) (signed (a .readings)) (sym (c .before .before .before .before .below-zero .ensures) ∙ c .before .before .before .if1 .left)
+    (sym (c .before .before .below-zero2 .ensures) ∙ c .before .if2 .taken)
 
 in-limits-requires : tie.Need-in-limits-requires
 in-limits-requires c κs = search needs
@@ -41,13 +44,17 @@ returns-3 : tie.Need-returns-3
 returns-3 c =
     let a = c .before .before .before .before .before .before .before .args in
     let l = c .before .before .in-limits in
-    ap (λ (b : Bool). optionOf b (signalOf (c .no-signal3 .result .signal))) (c .no-signal3 .ensures) ∙ limited-out (signed (a .base)) (signed (a .ramp)) (signed (a .ripple)) (signed (a .jump)) (a .place) (a .readings) (sym (c .before .before .before .before .before .before .below-zero .ensures) ∙ c .before .before .before .before .before .if1 .left) (sym (c .before .before .before .before .below-zero2 .ensures) ∙ c .before .before .before .if2 .left) (sym (l .ensures) ∙ not-true (l .result) (c .before .if3 .taken))
+    ap (λ (b : Bool). optionOf b (signalOf (c .no-signal3 .result .signal))) (c .no-signal3 .ensures) ∙ limited-out (signed (a .base)) (signed (a .ramp)) (signed (a .ripple))
+    (signed (a .jump)) (a .place) (a .readings) (sym (c .before .before .before .before .before .before .below-zero .ensures) ∙ c .before .before .before .before .before .if1 .left)
+    (sym (c .before .before .before .before .below-zero2 .ensures) ∙ c .before .before .before .if2 .left) (sym (l .ensures) ∙ not-true (l .result) (c .before .if3 .taken))
 
 returns-4 : tie.Need-returns-4
 returns-4 c =
     let a = c .before .before .before .before .before .before .args in
     let l = c .before .in-limits in
-    limited-in (signed (a .base)) (signed (a .ramp)) (signed (a .ripple)) (signed (a .jump)) (a .place) (a .readings) (sym (c .before .before .before .before .before .below-zero .ensures) ∙ c .before .before .before .before .if1 .left) (sym (c .before .before .before .below-zero2 .ensures) ∙ c .before .before .if2 .left) (sym (l .ensures) ∙ not-false (l .result) (c .if3 .left))
+    limited-in (signed (a .base)) (signed (a .ramp)) (signed (a .ripple)) (signed (a .jump)) (a .place) (a .readings)
+    (sym (c .before .before .before .before .before .below-zero .ensures) ∙ c .before .before .before .before .if1 .left)
+    (sym (c .before .before .before .below-zero2 .ensures) ∙ c .before .before .if2 .left) (sym (l .ensures) ∙ not-false (l .result) (c .if3 .left))
 
 pub signal-of-spec : {M : Type 1} → statement M
 signal-of-spec =

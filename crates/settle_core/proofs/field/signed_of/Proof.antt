@@ -32,7 +32,9 @@ negative-of-requires : tie.Need-negative-of-requires
 negative-of-requires c κs = search needs
 
 returns-2 : tie.Need-returns-2
-returns-2 c = c .negative-of .ensures ∙ ap negativeNumber (c .before .whole .ensures) ∙ signed-minus (c .before .before .before .before .before .before .before .args .c .now) (c .before .before .before .before .before .if1 .left) (c .before .before .before .if2 .taken)
+returns-2 c =
+    c .negative-of .ensures ∙ ap negativeNumber (c .before .whole .ensures) ∙ signed-minus (c .before .before .before .before .before .before .before .args .c .now)
+    (c .before .before .before .before .before .if1 .left) (c .before .before .before .if2 .taken)
 
 whole-requires-2 : tie.Need-whole-requires-2
 whole-requires-2 c κs = search needs
@@ -41,7 +43,9 @@ positive-of-requires : tie.Need-positive-of-requires
 positive-of-requires c κs = search needs
 
 returns-3 : tie.Need-returns-3
-returns-3 c = c .positive-of .ensures ∙ ap positiveNumber (c .before .whole2 .ensures) ∙ signed-plain (c .before .before .before .before .before .before .args .c .now) (c .before .before .before .before .if1 .left) (c .before .before .if2 .left)
+returns-3 c =
+    c .positive-of .ensures ∙ ap positiveNumber (c .before .whole2 .ensures) ∙ signed-plain (c .before .before .before .before .before .before .args .c .now)
+    (c .before .before .before .before .if1 .left) (c .before .before .if2 .left)
 
 pub signed-of-spec : {M : Type 1} → statement M
 signed-of-spec =

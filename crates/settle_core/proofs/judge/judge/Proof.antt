@@ -27,16 +27,21 @@ refused-by-requires c κs = search needs
 
 returns : tie.Need-returns Inv-loop μ-loop
 returns c =
-    let t = c .before .before .before .before .args .text .now in
-    (input-refused (c .refused-by .result) 23 (c .refused-by .ensures .0) (λ z. absurd (omega arith)) ∙ none-opens t (sym (c .before .before .opens-at .ensures) ∙ not-true (c .before .before .opens-at .result) (c .before .if1 .taken)), omega (arith, c .refused-by .ensures .1))
+    let at-opens-at = c .before .before .opens-at in
+    let t = c .before .before .before .before .args .text .now in (
+      input-refused (c .refused-by .result) 23 (c .refused-by .ensures .0) (λ z. absurd (omega arith)) ∙ none-opens t
+          (sym (at-opens-at .ensures) ∙ not-true (at-opens-at .result) (c .before .if1 .taken)),
+      omega (arith, c .refused-by .ensures .1),
+    )
 
 no-pair-requires : tie.Need-no-pair-requires Inv-loop μ-loop
 no-pair-requires c κs = search needs
 
 loop-holds : tie.Need-loop-holds Inv-loop μ-loop
 loop-holds c =
+    let at-opens-at = c .before .before .opens-at in
     let t = c .before .before .before .before .args .text .now in
-    (input-begins t (sym (c .before .before .opens-at .ensures) ∙ not-false (c .before .before .opens-at .result) (c .before .if1 .left)), omega arith, omega arith, length-replicate {A = Pair} 8 (c .no-pair .result))
+    (input-begins t (sym (at-opens-at .ensures) ∙ not-false (at-opens-at .result) (c .before .if1 .left)), omega arith, omega arith, length-replicate {A = Pair} 8 (c .no-pair .result))
 
 opens-at-requires-2 : tie.Need-opens-at-requires-2 Inv-loop μ-loop
 opens-at-requires-2 c κs = c .before .loop .inv .1
@@ -47,9 +52,12 @@ signalled-requires c κs = c .before .before .before .loop .inv .1
 returns-2 : tie.Need-returns-2 Inv-loop μ-loop
 returns-2 c =
     let c8 = c .before .before .before .before .before .before .before .before in
+    let at-opens-at2 = c .before .before .opens-at2 in
     let t = c8 .before .args .text .now in
-    let l = c .before .before .before .before .loop in
-    (c .signalled .ensures .0 ∙ read-closed (l .pairs) (l .n) (drop (l .at) t) (sym (c .before .before .opens-at2 .ensures) ∙ not-true (c .before .before .opens-at2 .result) (c .before .if2 .taken)) ∙ sym (l .inv .0), omega (arith, c .signalled .ensures .1, l .inv .2))
+    let l = c .before .before .before .before .loop in (
+      c .signalled .ensures .0 ∙ read-closed (l .pairs) (l .n) (drop (l .at) t) (sym (at-opens-at2 .ensures) ∙ not-true (at-opens-at2 .result) (c .before .if2 .taken)) ∙ sym (l .inv .0),
+      omega (arith, c .signalled .ensures .1, l .inv .2),
+    )
 
 pair-at-requires : tie.Need-pair-at-requires Inv-loop μ-loop
 pair-at-requires c κs = c .before .before .before .loop .inv .1
@@ -60,12 +68,14 @@ refused-by-requires-2 c κs = search needs
 returns-3 : tie.Need-returns-3 Inv-loop μ-loop
 returns-3 c =
     let c8 = c .before .before .before .before .before .before .before .before in
+    let at-opens-at2 = c .before .before .before .before .before .opens-at2 in
+    let at-if3 = c .before .if3 in
     let t = c8 .before .before .before .before .args .text .now in
     let l = c .before .before .before .before .before .before .before .loop in
     let p = c .before .before .before .pair-at in (
-      input-refused (c .refused-by2 .result) (p .result .row) (c .refused-by2 .ensures .0) (c .before .if3 .taken)
-          ∙ read-fault (l .pairs) (l .n) (drop (l .at) t) (c .before .before .before .before .before .before .loop-test .taken) (sym (c .before .before .before .before .before .opens-at2 .ensures) ∙ not-false (c .before .before .before .before .before .opens-at2 .result) (c .before .before .before .before .if2 .left)) (p .result .row)
-          (sym (refused-in (p .result) (p .result .row) refl (c .before .if3 .taken) t) ∙ p .ensures .0) ∙ sym (l .inv .0),
+      input-refused (c .refused-by2 .result) (p .result .row) (c .refused-by2 .ensures .0) (at-if3 .taken) ∙ read-fault (l .pairs) (l .n) (drop (l .at) t)
+          (c .before .before .before .before .before .before .loop-test .taken) (sym (at-opens-at2 .ensures) ∙ not-false (at-opens-at2 .result) (c .before .before .before .before .if2 .left))
+          (p .result .row) (sym (refused-in (p .result) (p .result .row) refl (at-if3 .taken) t) ∙ p .ensures .0) ∙ sym (l .inv .0),
       omega (arith, c .refused-by2 .ensures .1),
     )
 
@@ -84,13 +94,16 @@ loop-less c = omega (arith, c .before .before .before .before .before .before .l
 loop-again : tie.Need-loop-again Inv-loop μ-loop
 loop-again c =
     let c8 = c .before .before .before .before .before .before .before .before in
+    let at-loop-test = c .before .before .before .before .before .before .loop-test in
+    let at-opens-at2 = c .before .before .before .before .before .opens-at2 in
     let t = c8 .before .before .before .before .args .text .now in
     let l = c .before .before .before .before .before .before .before .loop in
     let p = c .before .before .before .pair-at in (
-      l .inv .0 ∙ sym (read-pair (l .pairs) (l .n) (drop (l .at) t) (c .before .before .before .before .before .before .loop-test .taken) (sym (c .before .before .before .before .before .opens-at2 .ensures) ∙ not-false (c .before .before .before .before .before .opens-at2 .result) (c .before .before .before .before .if2 .left)) (omega (arith, c .before .before .before .before .before .before .loop-test .taken, l .inv .3)) (p .result .pair) (drop (p .result .next) t)
-          (sym (rw (c .before .if3 .left)) ∙ p .ensures .0)),
+      l .inv .0 ∙ sym (read-pair (l .pairs) (l .n) (drop (l .at) t) (at-loop-test .taken)
+          (sym (at-opens-at2 .ensures) ∙ not-false (at-opens-at2 .result) (c .before .before .before .before .if2 .left)) (omega (arith, at-loop-test .taken, l .inv .3)) (p .result .pair)
+          (drop (p .result .next) t) (sym (rw (c .before .if3 .left)) ∙ p .ensures .0)),
       p .ensures .1,
-      omega (arith, c .before .before .before .before .before .before .loop-test .taken),
+      omega (arith, at-loop-test .taken),
       length-set (l .pairs) (l .n) _ ∙ l .inv .3,
     )
 

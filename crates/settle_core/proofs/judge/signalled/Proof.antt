@@ -21,8 +21,11 @@ refused-by-requires c κs = search needs
 
 returns : tie.Need-returns
 returns c =
-    let a = c .before .before .before .before .args in
-    (input-refused (c .refused-by .result) 23 (c .refused-by .ensures .0) (λ z. absurd (omega arith)) ∙ ninth (map pairSettings (take (a .n) (a .pairs))) (drop (a .at) (a .text .now)) (sym (c .before .before .opens-at .ensures) ∙ c .before .if1 .taken), omega (arith, c .refused-by .ensures .1))
+    let a = c .before .before .before .before .args in (
+      input-refused (c .refused-by .result) 23 (c .refused-by .ensures .0) (λ z. absurd (omega arith)) ∙ ninth (map pairSettings (take (a .n) (a .pairs))) (drop (a .at) (a .text .now))
+          (sym (c .before .before .opens-at .ensures) ∙ c .before .if1 .taken),
+      omega (arith, c .refused-by .ensures .1),
+    )
 
 signal-at-requires : tie.Need-signal-at-requires
 signal-at-requires c κs = search needs
@@ -34,7 +37,8 @@ returns-2 : tie.Need-returns-2
 returns-2 c =
     let a = c .before .before .before .before .before .before .before .args in
     let g = c .before .before .before .signal-at in (
-      input-refused (c .refused-by2 .result) 23 (c .refused-by2 .ensures .0) (λ z. absurd (omega arith)) ∙ no-signal-there (map pairSettings (take (a .n) (a .pairs))) (drop (a .at) (a .text .now)) (sym (c .before .before .before .before .before .opens-at .ensures) ∙ c .before .before .before .before .if1 .left)
+      input-refused (c .refused-by2 .result) 23 (c .refused-by2 .ensures .0) (λ z. absurd (omega arith)) ∙ no-signal-there (map pairSettings (take (a .n) (a .pairs)))
+          (drop (a .at) (a .text .now)) (sym (c .before .before .before .before .before .opens-at .ensures) ∙ c .before .before .before .before .if1 .left)
           (sym (ap (λ (b : Bool). optionOf b (signalOf (g .result .signal))) (not-true (g .result .found) (c .before .if2 .taken))) ∙ g .ensures),
       omega (arith, c .refused-by2 .ensures .1),
     )
@@ -43,7 +47,8 @@ returns-3 : tie.Need-returns-3
 returns-3 c =
     let a = c .before .before .before .before .before .before .before .args in
     let g = c .before .before .before .signal-at in (
-      signal-there (map pairSettings (take (a .n) (a .pairs))) (drop (a .at) (a .text .now)) (sym (c .before .before .before .before .before .opens-at .ensures) ∙ c .before .before .before .before .if1 .left) (signalOf (g .result .signal))
+      signal-there (map pairSettings (take (a .n) (a .pairs))) (drop (a .at) (a .text .now))
+          (sym (c .before .before .before .before .before .opens-at .ensures) ∙ c .before .before .before .before .if1 .left) (signalOf (g .result .signal))
           (sym (ap (λ (b : Bool). optionOf b (signalOf (g .result .signal))) (not-false (g .result .found) (c .before .if2 .left))) ∙ g .ensures),
       omega arith,
     )

@@ -48,21 +48,28 @@ refused-by-requires c κs = search needs
 returns : tie.Need-returns
 returns c =
     let c8 = c .before .before .before .before .before .before .before .before in
+    let at-pair-row = c .before .before .pair-row in
     let a = c8 .args in
     let k = c .before .before .before .before .before .before .kept in
     let m = c .before .before .before .before .before .code-count in
-    let q : c .before .before .pair-row .result ≡ pairRow (settingsFrom (a .builder) (keptOf (a .w)) (zeroCodes (a .builder))) = c .before .before .pair-row .ensures ∙ ap pairRow (handed-is (a .builder) (a .w) (k .result) (m .result) (k .ensures .0) (m .ensures .0) (m .ensures .1)) in
-    (λ t. pair-refused (settingsFrom (a .builder) (keptOf (a .w)) (zeroCodes (a .builder))) (c .before .before .pair-row .result) q (c .before .if1 .taken) (c .refused-by .result) (c .refused-by .ensures .0) t (drop (a .next) t), omega (arith, c .refused-by .ensures .1))
+    let q : at-pair-row .result ≡ pairRow (settingsFrom (a .builder) (keptOf (a .w)) (zeroCodes (a .builder))) = at-pair-row .ensures ∙ ap pairRow
+    (handed-is (a .builder) (a .w) (k .result) (m .result) (k .ensures .0) (m .ensures .0) (m .ensures .1)) in (
+      λ t. pair-refused (settingsFrom (a .builder) (keptOf (a .w)) (zeroCodes (a .builder))) (at-pair-row .result) q (c .before .if1 .taken) (c .refused-by .result)
+          (c .refused-by .ensures .0) t (drop (a .next) t),
+      omega (arith, c .refused-by .ensures .1),
+    )
 
 array-read-t16 : tie.Need-array-read-t16
 array-read-t16 c = search needs
 
 returns-2 : tie.Need-returns-2
 returns-2 c =
+    let at-pair-row = c .before .pair-row in
     let a = c .before .before .before .before .before .before .before .args in
     let k = c .before .before .before .before .before .kept in
     let m = c .before .before .before .before .code-count in
-    let q : c .before .pair-row .result ≡ pairRow (settingsFrom (a .builder) (keptOf (a .w)) (zeroCodes (a .builder))) = c .before .pair-row .ensures ∙ ap pairRow (handed-is (a .builder) (a .w) (k .result) (m .result) (k .ensures .0) (m .ensures .0) (m .ensures .1)) in
+    let q : at-pair-row .result ≡ pairRow (settingsFrom (a .builder) (keptOf (a .w)) (zeroCodes (a .builder))) = at-pair-row .ensures ∙ ap pairRow
+    (handed-is (a .builder) (a .w) (k .result) (m .result) (k .ensures .0) (m .ensures .0) (m .ensures .1)) in
     (λ t. pair-taken (a .builder) (a .w) (k .result) (m .result) (k .ensures .0) (m .ensures .0) (m .ensures .1) (sym q ∙ c .if1 .left) _ (drop (a .next) t), omega arith)
 
 pub settings-of-spec : {M : Type 1} → statement M

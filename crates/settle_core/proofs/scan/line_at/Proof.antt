@@ -107,12 +107,16 @@ shared-slice-read-if2 c =
 returns-2 : tie.Need-returns-2 Inv-loop μ-loop
 returns-2 c =
     let c8 = c .before .before .before .before .before .before .before .before in
+    let at-if1 = c .before .before .before .before .if1 in
     let a = c8 .before .before .before .args in
     let l = c8 .loop in
     let n = c .before .before .before .before .before .cell-end in
     let t = a .text .now in
-    let e : n .result ≡ cellLength (drop (l .at) t) = n .ensures .0 ∙ ap cellLength (rest-is t (l .at)) in
-    (at-end t (l .at) (n .result) (l .l) e (l .inv .0) (c .before .before .before .before .if1 .left) _ (c .before .before .cell .ensures) (c .if2 .taken) ∙ sym (l .inv .1), omega (arith, n .ensures .1 .0, length-drop (l .at) t, l .inv .0, c .before .before .before .before .if1 .left))
+    let e : n .result ≡ cellLength (drop (l .at) t) = n .ensures .0 ∙ ap cellLength (rest-is t (l .at)) in (
+      at-end t (l .at) (n .result) (l .l) e (l .inv .0) (at-if1 .left) _ (c .before .before .cell .ensures) (c .if2 .taken) ∙ sym (l .inv .1),
+      omega
+          (arith, n .ensures .1 .0, length-drop (l .at) t, l .inv .0, at-if1 .left),
+    )
 
 loop-less : tie.Need-loop-less Inv-loop μ-loop
 loop-less c =
@@ -127,12 +131,16 @@ loop-less c =
 loop-again : tie.Need-loop-again Inv-loop μ-loop
 loop-again c =
     let c8 = c .before .before .before .before .before .before .before .before in
+    let at-if1 = c .before .before .before .before .if1 in
     let a = c8 .before .before .before .args in
     let l = c8 .loop in
     let n = c .before .before .before .before .before .cell-end in
     let t = a .text .now in
-    let e : n .result ≡ cellLength (drop (l .at) t) = n .ensures .0 ∙ ap cellLength (rest-is t (l .at)) in
-    (omega (arith, n .ensures .1 .0, length-drop (l .at) t, l .inv .0, c .before .before .before .before .if1 .left), l .inv .1 ∙ sym (at-tab t (l .at) (n .result) (l .l) e (l .inv .0) (c .before .before .before .before .if1 .left) _ (c .before .before .cell .ensures) (c .if2 .left)))
+    let e : n .result ≡ cellLength (drop (l .at) t) = n .ensures .0 ∙ ap cellLength (rest-is t (l .at)) in (
+      omega (arith, n .ensures .1 .0, length-drop (l .at) t, l .inv .0, at-if1 .left),
+      l .inv .1 ∙ sym
+          (at-tab t (l .at) (n .result) (l .l) e (l .inv .0) (at-if1 .left) _ (c .before .before .cell .ensures) (c .if2 .left)),
+    )
 
 returns-3 : tie.Need-returns-3 Inv-loop μ-loop
 returns-3 c =

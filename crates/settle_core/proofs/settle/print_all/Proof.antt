@@ -28,8 +28,10 @@ array-copy-out-p c = search needs
 
 print-pair-requires : tie.Need-print-pair-requires Inv-loop μ-loop
 print-pair-requires c κs =
+    let at-pre = c .before .before .before .before .before .pre in
+    let at-loop-test = c .before .before .loop-test in
     let l = c .before .before .before .loop in
-    (omega (arith, l .inv .1, l .inv .0 .kept, c .before .before .loop-test .taken, c .before .before .before .before .before .pre .0, c .before .before .before .before .before .pre .1), omega (arith, c .before .before .loop-test .taken, c .before .before .before .before .before .pre .0))
+    (omega (arith, l .inv .1, l .inv .0 .kept, at-loop-test .taken, at-pre .0, at-pre .1), omega (arith, at-loop-test .taken, at-pre .0))
 
 add-i : tie.Need-add-i Inv-loop μ-loop
 add-i c =

@@ -44,13 +44,14 @@ optional-line-requires c κs = search needs
 add-result : tie.Need-add-result
 add-result c =
     let c8 = c .before .before .before .before .before .before .before .before in
+    let at-pre = c8 .before .pre in
     let a = c8 .before .args in
     let s = c .before .before .before .before .before .before .run in
     let n = c .before .before .before .before .before .ready-of in
     let o = c .before .before .before .optional-line in
     let h : n .result ≤ wholeMax = omega arith in
     let z = optional-size (49 + a .i) (n .result) (s .result .kept) (s .result .largest) h in
-    omega (arith, z, long-is (a .out .now) (a .at) (bytesOfLine (optionalLine (49 + a .i) (n .result) (s .result .kept) (s .result .largest))) _ _ _ (c8 .before .pre .0) z (o .ensures), c8 .before .pre .0)
+    omega (arith, z, long-is (a .out .now) (a .at) (bytesOfLine (optionalLine (49 + a .i) (n .result) (s .result .kept) (s .result .largest))) _ _ _ (at-pre .0) z (o .ensures), at-pre .0)
 
 same-length : tie.Need-same-length
 same-length c = search needs

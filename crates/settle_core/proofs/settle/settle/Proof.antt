@@ -29,9 +29,19 @@ returns-2 : tie.Need-returns-2
 unfolding settledOn noText
 returns-2 c =
     let c8 = c .before .before .before .before .before .before .before .before in
+    let at-if1 = c .before .before .before .before .before .before .if1 in
+    let at-whole-line = c .before .before .whole-line in
     let a = c8 .before .args in
-    let j = c .before .before .before .before .before .judge in
-    (refusal-printed (noText (j .result .row)) (a .output .now) _ _ _ (c .before .before .whole-line .ensures) (no-short (j .result .row) (omega arith)) (omega (arith, c .before .before .before .before .before .before .if1 .left)) (settleOf (a .input .now)) (refusal-is (a .input .now) (j .result) (j .ensures .0) (c .before .before .before .before .if2 .taken)), omega (arith, refusal-length (noText (j .result .row)) (a .output .now) _ _ _ (c .before .before .whole-line .ensures) (no-short (j .result .row) (omega arith)) (omega (arith, c .before .before .before .before .before .before .if1 .left)), c .before .before .whole-line .kept, c .before .before .before .before .before .before .if1 .left))
+    let j = c .before .before .before .before .before .judge in (
+      refusal-printed (noText (j .result .row)) (a .output .now) _ _ _ (at-whole-line .ensures) (no-short (j .result .row) (omega arith)) (omega (arith, at-if1 .left))
+          (settleOf (a .input .now)) (refusal-is (a .input .now) (j .result) (j .ensures .0) (c .before .before .before .before .if2 .taken)),
+      omega (
+        arith,
+        refusal-length (noText (j .result .row)) (a .output .now) _ _ _ (at-whole-line .ensures) (no-short (j .result .row) (omega arith)) (omega (arith, at-if1 .left)),
+        at-whole-line .kept,
+        at-if1 .left,
+      ),
+    )
 
 print-all-requires : tie.Need-print-all-requires
 print-all-requires c κs = (c .before .before .before .before .judge .ensures .1, omega (arith, c .before .before .before .before .before .if1 .left))

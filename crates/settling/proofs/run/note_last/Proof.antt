@@ -15,13 +15,23 @@ exceeds-requires c κs = search needs
 
 returns-2 : tie.Need-returns-2
 returns-2 c =
-    let s = c .before .before .before .args .s in
-    (rw (not-false (c .before .before .before .args .given) (c .before .before .if1 .left)) (kept-not (s .found) (s .ready) (s .kept) (s .largest) (c .before .before .before .args .last) (sym (c .before .exceeds .ensures) ∙ not-true (c .before .exceeds .result) (c .if2 .taken))), refl)
+    let at-args = c .before .before .before .args in
+    let at-exceeds = c .before .exceeds in
+    let s = at-args .s in (
+      rw (not-false (at-args .given) (c .before .before .if1 .left)) (kept-not (s .found) (s .ready) (s .kept) (s .largest) (at-args .last)
+          (sym (at-exceeds .ensures) ∙ not-true (at-exceeds .result) (c .if2 .taken))),
+      refl,
+    )
 
 returns-3 : tie.Need-returns-3
 returns-3 c =
-    let s = c .before .before .before .args .s in
-    (rw (not-false (c .before .before .before .args .given) (c .before .before .if1 .left)) (kept-new (s .found) (s .ready) (s .kept) (s .largest) (c .before .before .before .args .last) (sym (c .before .exceeds .ensures) ∙ not-false (c .before .exceeds .result) (c .if2 .left))), refl)
+    let at-args = c .before .before .before .args in
+    let at-exceeds = c .before .exceeds in
+    let s = at-args .s in (
+      rw (not-false (at-args .given) (c .before .before .if1 .left)) (kept-new (s .found) (s .ready) (s .kept) (s .largest) (at-args .last)
+          (sym (at-exceeds .ensures) ∙ not-false (at-exceeds .result) (c .if2 .left))),
+      refl,
+    )
 
 pub note-last-spec : {M : Type 1} → statement M
 note-last-spec =

@@ -16,8 +16,12 @@ note-last-requires c κs = search needs
 returns : tie.Need-returns
 unfolding note
 returns c =
-    let a = c .before .before .args in
-    (c .note-last .ensures .0 ∙ ap (λ (n : Noted). noted (n .ready) (keepLargerIfAny (n .largest) (optionOf (a .given) (a .last)))) (c .before .note-ready .ensures .0), c .note-last .ensures .1 ∙ c .before .note-ready .ensures .1)
+    let at-note-ready = c .before .note-ready in
+    let a = c .before .before .args in (
+      c .note-last .ensures .0 ∙ ap (λ (n : Noted). noted (n .ready) (keepLargerIfAny (n .largest) (optionOf (a .given) (a .last)))) (at-note-ready .ensures .0),
+      c .note-last .ensures .1 ∙
+          at-note-ready .ensures .1,
+    )
 
 pub note-reading-spec : {M : Type 1} → statement M
 note-reading-spec =

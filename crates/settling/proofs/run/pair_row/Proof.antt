@@ -19,11 +19,21 @@ returns c =
 
 returns-2 : tie.Need-returns-2
 unfolding pairRow
-returns-2 c = sym (rw (sym (c .before .before .before .settings-row .ensures .0) ∙ c .before .before .if1 .left, ne-eqb (c .before .before .before .before .before .before .args .builder .«input_dimensions») 1 (c .if2 .taken)))
+returns-2 c =
+    sym (rw (
+      sym (c .before .before .before .settings-row .ensures .0) ∙ c .before .before .if1 .left,
+      ne-eqb
+          (c .before .before .before .before .before .before .args .builder .«input_dimensions») 1 (c .if2 .taken),
+    ))
 
 returns-3 : tie.Need-returns-3
 unfolding pairRow
-returns-3 c = sym (rw (sym (c .before .before .before .settings-row .ensures .0) ∙ c .before .before .if1 .left, eq-eqb (c .before .before .before .before .before .before .args .builder .«input_dimensions») 1 (c .if2 .left)))
+returns-3 c =
+    sym (rw (
+      sym (c .before .before .before .settings-row .ensures .0) ∙ c .before .before .if1 .left,
+      eq-eqb
+          (c .before .before .before .before .before .before .args .builder .«input_dimensions») 1 (c .if2 .left),
+    ))
 
 pub pair-row-spec : {M : Type 1} → statement M
 pair-row-spec =

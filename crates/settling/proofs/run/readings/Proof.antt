@@ -90,7 +90,15 @@ value-at-requires : tie.Need-value-at-requires Inv-loop μ-loop
 value-at-requires c κs =
     let c8 = c .before .before .before .before .before .before .before .before in
     let c16 = c8 .before .before .before .before .before .before .before .before in
-    (c16 .before .before .before .before .before .before .before .pre, omega (arith, c .before .before .before .before .before .before .loop-test .taken, limited (c16 .before .before .before .before .before .before .before .args .signal) (c16 .before .before .before .before .before .before .before .pre) .readings))
+    let at-pre = c16 .before .before .before .before .before .before .before .pre in (
+      at-pre,
+      omega (
+        arith,
+        c .before .before .before .before .before .before .loop-test .taken,
+        limited (c16 .before .before .before .before .before .before .before .args .signal)
+            (at-pre) .readings,
+      ),
+    )
 
 step-requires : tie.Need-step-requires Inv-loop μ-loop
 step-requires c κs = search needs
@@ -121,10 +129,12 @@ loop-again c =
     let c16 = c8 .before .before .before .before .before .before .before .before in
     let c24 = c16 .before .before .before .before .before .before .before .before in
     let c32 = c24 .before .before .before .before .before .before .before .before in
+    let at-step = c8 .before .step in
     let l = c16 .before .before .loop in
-    let k = c8 .before .step .kept in
+    let k = at-step .kept in
     let z = l .inv .3 in (
-      track-again (signalOf (c32 .before .before .args .signal)) _ (l .i) (l .head) _ _ (l .inv .0) _ (c8 .before .before .value-at .ensures) _ _ _ (c8 .before .step .ensures) _ (c .before .is-ready .ensures) _ (c .note-reading .ensures .0),
+      track-again (signalOf (c32 .before .before .args .signal)) _ (l .i) (l .head) _ _ (l .inv .0) _ (c8 .before .before .value-at .ensures) _ _ _ (at-step .ensures) _
+          (c .before .is-ready .ensures) _ (c .note-reading .ensures .0),
       omega (arith, c16 .before .loop-test .taken),
       c .note-reading .ensures .1 ∙ l .inv .2,
       record {
@@ -132,7 +142,8 @@ loop-again c =
         input = omega (arith, k, z .input);
         point = omega (arith, k, z .point);
         times = omega (arith, k, z .times);
-        values = omega (arith, k, z .values);
+        values = omega
+            (arith, k, z .values);
         initial = omega (arith, k, z .initial);
       },
     )
@@ -141,11 +152,14 @@ returns : tie.Need-returns Inv-loop μ-loop
 returns c =
     let c8 = c .before .before .before .before .before .before .before .before in
     let c16 = c8 .before .before .before .before .before .before .before .before in
+    let at-build = c8 .build in
+    let at-nothing = c .before .before .nothing in
     let a = c16 .before .args in
     let l = c .before .loop in (
       track-done (settingsFrom (a .builder) (a .weight ∷ []) (0 ∷ [])) (signalOf (a .signal)) _
-          (λ j. track (c8 .build .ensures j .head) (c8 .build .ensures j .lent) (c .before .before .nothing .ensures .0 j)) (l .i) (a .signal .readings) (omega (arith, c .loop-test .left, l .inv .1)) (l .head) _ _ (l .inv .0),
-      l .inv .2 ∙ c .before .before .nothing .ensures .1,
+          (λ j. track (at-build .ensures j .head) (at-build .ensures j .lent) (at-nothing .ensures .0 j)) (l .i) (a .signal .readings) (omega (arith, c .loop-test .left, l .inv .1)) (l .head) _ _
+          (l .inv .0),
+      l .inv .2 ∙ at-nothing .ensures .1,
     )
 
 pub readings-spec : {M : Type 1} → statement M

@@ -60,8 +60,9 @@ returns-3 c =
     let a = c8 .before .before .args in
     let l = c .before .before .before .before .before .in-limits in
     let e = sym (l .ensures) ∙ not-false (l .result) (c .before .before .before .before .if2 .left) in
-    run-done (settingsFrom (a .builder) (a .weight ∷ []) (0 ∷ [])) (signalOf (a .signal)) (c .before .build-arguments .ensures) (sym (c .before .before .before .before .before .before .before .pair-row .ensures) ∙ c .before .before .before .before .before .before .if1 .left)
-    e (omega (arith, limited (a .signal) e .readings)) _ (c .readings .ensures .1) _ (c .readings .ensures .0)
+    run-done (settingsFrom (a .builder) (a .weight ∷ []) (0 ∷ [])) (signalOf (a .signal)) (c .before .build-arguments .ensures)
+    (sym (c .before .before .before .before .before .before .before .pair-row .ensures) ∙ c .before .before .before .before .before .before .if1 .left) e
+    (omega (arith, limited (a .signal) e .readings)) _ (c .readings .ensures .1) _ (c .readings .ensures .0)
 
 pub run-spec : {M : Type 1} → statement M
 run-spec =

@@ -23,15 +23,23 @@ sub-t6 c = search needs
 
 returns-2 : tie.Need-returns-2
 returns-2 c =
-    let a = c .before .before .before .before .before .before .before .args .a in
-    let b = c .before .before .before .before .before .before .before .args .b in
-    (add-below (a .negative) (b .negative) (a .size) (b .size) (sym (c .before .before .before .before .before .before .alike .ensures) ∙ c .before .before .before .before .before .if1 .left) (c .before .before .if2 .taken), omega arith)
+    let at-args = c .before .before .before .before .before .before .before .args in
+    let a = at-args .a in
+    let b = at-args .b in (
+      add-below (a .negative) (b .negative) (a .size) (b .size) (sym (c .before .before .before .before .before .before .alike .ensures) ∙
+          c .before .before .before .before .before .if1 .left) (c .before .before .if2 .taken),
+      omega arith,
+    )
 
 returns-3 : tie.Need-returns-3
 returns-3 c =
-    let a = c .before .before .before .before .before .before .before .args .a in
-    let b = c .before .before .before .before .before .before .before .args .b in
-    (add-above (a .negative) (b .negative) (a .size) (b .size) (sym (c .before .before .before .before .before .before .alike .ensures) ∙ c .before .before .before .before .before .if1 .left) (c .before .before .if2 .left), omega arith)
+    let at-args = c .before .before .before .before .before .before .before .args in
+    let a = at-args .a in
+    let b = at-args .b in (
+      add-above (a .negative) (b .negative) (a .size) (b .size) (sym (c .before .before .before .before .before .before .alike .ensures) ∙
+          c .before .before .before .before .before .if1 .left) (c .before .before .if2 .left),
+      omega arith,
+    )
 
 pub add-spec : {M : Type 1} → statement M
 add-spec =

@@ -22,13 +22,24 @@ returns-3 : tie.Need-returns-3
 returns-3 c =
     let c8 = c .before .before .before .before .before .before .before .before in
     let g = c8 .before .before .args .g in
-    sym (limits-are g ∙ rw (le-leb (g .base .size) 1000 (c .before .before .before .before .if1 .left), le-leb (g .ramp .size) 1000 (c .before .before .if2 .left), lt-leb (g .ripple .size) 1000 (c .if3 .taken)))
+    sym (limits-are g ∙ rw (
+      le-leb (g .base .size) 1000 (c .before .before .before .before .if1 .left),
+      le-leb (g .ramp .size) 1000 (c .before .before .if2 .left),
+      lt-leb (g .ripple .size)
+          1000 (c .if3 .taken),
+    ))
 
 returns-4 : tie.Need-returns-4
 returns-4 c =
     let c8 = c .before .before .before .before .before .before .before .before in
     let g = c8 .before .before .before .before .args .g in
-    sym (limits-are g ∙ rw (le-leb (g .base .size) 1000 (c .before .before .before .before .before .before .if1 .left), le-leb (g .ramp .size) 1000 (c .before .before .before .before .if2 .left), le-leb (g .ripple .size) 1000 (c .before .before .if3 .left), lt-leb (g .jump .size) 1000 (c .if4 .taken)))
+    sym (limits-are g ∙ rw (
+      le-leb (g .base .size) 1000 (c .before .before .before .before .before .before .if1 .left),
+      le-leb (g .ramp .size) 1000
+          (c .before .before .before .before .if2 .left),
+      le-leb (g .ripple .size) 1000 (c .before .before .if3 .left),
+      lt-leb (g .jump .size) 1000 (c .if4 .taken),
+    ))
 
 counts-in-limits-requires : tie.Need-counts-in-limits-requires
 counts-in-limits-requires c κs = search needs
@@ -37,7 +48,14 @@ returns-5 : tie.Need-returns-5
 returns-5 c =
     let c8 = c .before .before .before .before .before .before .before .before in
     let g = c8 .before .before .before .before .before .args .g in
-    c .counts-in-limits .ensures ∙ sym (limits-are g ∙ rw (le-leb (g .base .size) 1000 (c .before .before .before .before .before .before .before .if1 .left), le-leb (g .ramp .size) 1000 (c .before .before .before .before .before .if2 .left), le-leb (g .ripple .size) 1000 (c .before .before .before .if3 .left), le-leb (g .jump .size) 1000 (c .before .if4 .left)))
+    c .counts-in-limits .ensures ∙ sym
+    (limits-are g ∙ rw (
+      le-leb (g .base .size) 1000 (c .before .before .before .before .before .before .before .if1 .left),
+      le-leb (g .ramp .size) 1000
+          (c .before .before .before .before .before .if2 .left),
+      le-leb (g .ripple .size) 1000 (c .before .before .before .if3 .left),
+      le-leb (g .jump .size) 1000 (c .before .if4 .left),
+    ))
 
 pub in-limits-spec : {M : Type 1} → statement M
 in-limits-spec =

@@ -13,10 +13,16 @@ u64-to-f32-requires : tie.Need-u64-to-f32-requires
 u64-to-f32-requires c κs = search needs
 
 returns : tie.Need-returns
-returns c = ap neg (c .before .before .before .u64-to-f32 .ensures) ∙ float-above (c .before .before .before .before .args .a .size) (c .if2 .taken) ∙ ap (λ (b : Bool). ofInt binary32 (withSign b (c .before .before .before .before .args .a .size))) (sym (c .before .before .if1 .taken))
+returns c =
+    let at-args = c .before .before .before .before .args in
+    ap neg (c .before .before .before .u64-to-f32 .ensures) ∙ float-above (at-args .a .size) (c .if2 .taken) ∙ ap (λ (b : Bool). ofInt binary32 (withSign b (at-args .a .size)))
+    (sym (c .before .before .if1 .taken))
 
 returns-2 : tie.Need-returns-2
-returns-2 c = c .before .before .before .u64-to-f32 .ensures ∙ float-zero (c .before .before .before .before .args .a .size) (c .if2 .left) ∙ ap (λ (b : Bool). ofInt binary32 (withSign b (c .before .before .before .before .args .a .size))) (sym (c .before .before .if1 .taken))
+returns-2 c =
+    let at-args = c .before .before .before .before .args in
+    c .before .before .before .u64-to-f32 .ensures ∙ float-zero (at-args .a .size) (c .if2 .left) ∙ ap (λ (b : Bool). ofInt binary32 (withSign b (at-args .a .size)))
+    (sym (c .before .before .if1 .taken))
 
 returns-3 : tie.Need-returns-3
 returns-3 c = c .before .u64-to-f32 .ensures ∙ ap (λ (b : Bool). ofInt binary32 (withSign b (c .before .before .args .a .size))) (sym (c .if1 .left))

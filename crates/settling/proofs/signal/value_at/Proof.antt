@@ -32,7 +32,17 @@ add-requires-3 : tie.Need-add-requires-3
 add-requires-3 c κs =
     let c8 = c .before .before .before .before .before .before .before .before in
     let l = limited (c8 .before .before .args .g) (c8 .before .before .pre .0) in
-    omega (arith, l .base, l .ripple, l .jump, c .before .before .before .before .before .times .ensures .1, c .before .before .before .before .add .ensures .1, c .before .before .before .only-if .ensures .1, c .before .before .add2 .ensures .1, c .only-if2 .ensures .1)
+    omega (
+      arith,
+      l .base,
+      l .ripple,
+      l .jump,
+      c .before .before .before .before .before .times .ensures .1,
+      c .before .before .before .before .add .ensures .1,
+      c .before .before .before .only-if .ensures .1,
+      c .before .before .add2 .ensures .1,
+      c .only-if2 .ensures .1,
+    )
 
 to-f32-requires : tie.Need-to-f32-requires
 to-f32-requires c κs = search needs
@@ -41,7 +51,9 @@ returns : tie.Need-returns
 returns c =
     let c8 = c .before .before .before .before .before .before .before .before in
     let a = c8 .before .before .before .before .args in
-    reading-is (signalOf (a .g)) (a .i) _ _ _ _ _ _ (c .before .before .before .before .before .before .before .times .ensures .0) (c .before .before .before .before .before .before .add .ensures .0) (c .before .before .before .before .before .only-if .ensures .0) (c .before .before .before .before .add2 .ensures .0) (c .before .before .only-if2 .ensures .0) (c .before .add3 .ensures .0) _ (c .to-f32 .ensures)
+    reading-is (signalOf (a .g)) (a .i) _ _ _ _ _ _ (c .before .before .before .before .before .before .before .times .ensures .0)
+    (c .before .before .before .before .before .before .add .ensures .0) (c .before .before .before .before .before .only-if .ensures .0)
+    (c .before .before .before .before .add2 .ensures .0) (c .before .before .only-if2 .ensures .0) (c .before .add3 .ensures .0) _ (c .to-f32 .ensures)
 
 pub value-at-spec : {M : Type 1} → statement M
 value-at-spec =

@@ -56,8 +56,9 @@ returns c =
     let c24 = c16 .before .before .before .before .before .before .before .before in
     let a = c24 .before .before .before .before .before .args in
     let n = c16 .before .before .before .before .before .before .point-length in
-    c8 .before .before .before .before .before .turn-with .ensures
-    ∙ ap (λ (out : List Float). readingResultWith (a .head) (lent (a .statistics .now) (a .last-shingled-input .now) (a .last-shingled-point .now) (a .previous-timestamps .now) (a .initial-values .now) (a .initial-timestamps .now)) (a .value ∷ []) (a .timestamp) out)
+    c8 .before .before .before .before .before .turn-with .ensures ∙ ap
+    (λ (out : List Float). readingResultWith (a .head) (lent (a .statistics .now) (a .last-shingled-input .now) (a .last-shingled-point .now) (a .previous-timestamps .now)
+    (a .initial-values .now) (a .initial-timestamps .now)) (a .value ∷ []) (a .timestamp) out)
     (take-replicate 128 (n .result) zero32 (n .ensures .1) ∙ ap (λ (k : ℕ). replicate k zero32) (n .ensures .0))
 
 pub step-spec : {M : Type 1} → statement M
