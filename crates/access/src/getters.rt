@@ -10,25 +10,25 @@ use trcf::head::{Preprocessor, StatusAnswer};
 use trcf::types::{ForestMode, TransformMethod};
 
 // The row, 0 for none, and what was asked for: 0, false, NONE or STANDARD where the right is withheld.
-#[derive(Drop)]
+#[derive(Clone, Copy)]
 pub struct Number {
     pub row: u64,
     pub number: u64,
 }
 
-#[derive(Drop)]
+#[derive(Clone, Copy)]
 pub struct Ready {
     pub row: u64,
     pub ready: bool,
 }
 
-#[derive(Drop)]
+#[derive(Clone, Copy)]
 pub struct Method {
     pub row: u64,
     pub transform_method: TransformMethod,
 }
 
-#[derive(Drop)]
+#[derive(Clone, Copy)]
 pub struct Mode {
     pub row: u64,
     pub forest_mode: ForestMode,

@@ -4,7 +4,7 @@ ghost use Rattle.access.specs.Access.{place, bits, table_fits, table_entry, gran
 ghost use Rattle.access.specs.declared.rights.Right.TheVariants.{SEE, LEARN};
 
 // In the order of a role's cells: see (point, transform, turn-back, scale, shift, status and the getters), learn (learn, drain), save, restore.
-#[derive(Drop)]
+#[derive(Clone, Copy)]
 pub enum Right {
     SEE,
     LEARN,

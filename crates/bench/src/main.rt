@@ -1,6 +1,8 @@
 // The bench: reads standard input block by block until it ends, hands each block to `bench_blocks`, and writes what that prints. Proved are what each
 // call does, that turns follow until one had room before the next read, that a read leaves what is kept, and that the memory does. That `filled` and
 // `turned` read and write, and that `all` hands on the number of bytes that were read, is seen by reading: then a run is one of `Program` (bench_blocks/specs).
+#![tactic(auto)]
+
 ghost use Rattle.std.specs.Prelude.{◌+◌, ◌≤◌, ◌<◌, ◌≡◌, true, false, length, take};
 
 use bench_blocks::turn::{Run, first_run, turn};

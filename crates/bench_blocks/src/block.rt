@@ -8,7 +8,7 @@ ghost use Rattle.bench_blocks.specs.Steps.{Placed, Closed, Handed};
 use bench_core::step::{Bench, ROOM, finish, step};
 
 // What a cell leaves: the bench, and how many bytes are read and written.
-#[derive(Drop)]
+#[derive(Clone, Copy)]
 pub struct CellResult {
     pub bench: Bench,
     pub next: usize,
@@ -16,7 +16,7 @@ pub struct CellResult {
 }
 
 // What a block leaves: the bench, how many bytes are read and written, and whether less than ROOM of the output is left for what is not read.
-#[derive(Drop)]
+#[derive(Clone, Copy)]
 pub struct BlockResult {
     pub bench: Bench,
     pub read: usize,

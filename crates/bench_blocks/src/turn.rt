@@ -10,7 +10,7 @@ use bench_core::step::{Bench, LONGEST, ROOM, start};
 
 // Between two turns: the bench, how many bytes are kept at the front of the text, and whether the last turn stopped because the output was
 // nearly full. The next one then takes no new bytes.
-#[derive(Drop)]
+#[derive(Clone, Copy)]
 pub struct Run {
     pub bench: Bench,
     pub kept: usize,
@@ -18,7 +18,7 @@ pub struct Run {
 }
 
 // What a turn leaves: the row, 20 where nothing was done; the run; and how many bytes are to be written.
-#[derive(Drop)]
+#[derive(Clone, Copy)]
 pub struct TurnResult {
     pub row: u64,
     pub run: Run,

@@ -10,7 +10,7 @@ use snapshot_save::line::{singles_line, whole_line};
 use trcf::head::{Preprocessor, get_dimension};
 
 // The head after a line, whether a point was ever given, and how many bytes are written.
-#[derive(Drop)]
+#[derive(Clone, Copy)]
 pub struct Answered {
     pub head: Preprocessor,
     pub given: bool,

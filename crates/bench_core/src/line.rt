@@ -10,7 +10,7 @@ use trcf::types::mode_of_letter;
 use trcf_rows::rows::is_imputing;
 
 // What a line is, by its name; Unread before the name is read, Other for one of no form.
-#[derive(Drop)]
+#[derive(Clone, Copy)]
 pub enum Name {
     Unread,
     Set,
@@ -56,7 +56,7 @@ pub(crate) fn is_reading(name: Name) -> bool
 }
 
 // What the field at a place of a line has to be.
-#[derive(Drop)]
+#[derive(Clone, Copy)]
 pub enum Place {
     AsLetter,
     AsMethod,
@@ -66,7 +66,7 @@ pub enum Place {
     Nowhere,
 }
 
-#[derive(Drop)]
+#[derive(Clone, Copy)]
 pub struct Line {
     pub name: Name,
     // fields after the name, counted to 9

@@ -19,7 +19,7 @@ pub const ROOM: usize = 65536;
 pub const LONGEST: usize = 24;
 
 // What the next line has to be: `set`, `wgt`, a call; or the run is over.
-#[derive(Drop)]
+#[derive(Clone, Copy)]
 pub enum Phase {
     WantsSet,
     WantsWeights,
@@ -27,7 +27,7 @@ pub enum Phase {
     Ended,
 }
 
-#[derive(Drop)]
+#[derive(Clone, Copy)]
 pub struct Bench {
     pub phase: Phase,
     // the line that is being read
@@ -41,7 +41,7 @@ pub struct Bench {
 }
 
 // What a step leaves: the row, 20 where nothing was done; how many bytes are read and written; and the bench.
-#[derive(Drop)]
+#[derive(Clone, Copy)]
 pub struct StepResult {
     pub row: u64,
     pub next: usize,
@@ -109,7 +109,7 @@ fn bench_of(phase: Phase, builder: PreprocessorBuilder, head: Preprocessor, give
 }
 
 // What a line leaves and how many bytes it printed.
-#[derive(Drop)]
+#[derive(Clone, Copy)]
 struct Printed {
     bench: Bench,
     length: usize,

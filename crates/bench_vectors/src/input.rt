@@ -2,7 +2,7 @@
 ghost use Rattle.std.specs.Prelude.{◌≤◌, length};
 
 // The input stands at from..middle and its output at middle..next; next is 0 where the file ends before it does.
-#[derive(Drop)]
+#[derive(Clone, Copy)]
 pub(crate) struct Case {
     pub from: usize,
     pub middle: usize,
@@ -10,7 +10,7 @@ pub(crate) struct Case {
 }
 
 // A decimal number, and the byte after the one that ends it.
-#[derive(Drop)]
+#[derive(Clone, Copy)]
 struct Length {
     value: usize,
     next: usize,

@@ -1,4 +1,6 @@
 // Replays inputs of the bench (inputs.py makes them) on `bench_blocks`, and prints how many outputs agree with the Rust's and how many differ.
+#![tactic(auto)]
+
 mod input;
 
 ghost use Rattle.std.specs.Prelude.{◌≡◌, ◌≤◌, length};
@@ -44,7 +46,7 @@ fn agrees(text: &[u8], expected: &[u8], out: &mut [u8]) -> bool {
 }
 
 // How many inputs agree with the Rust and how many do not.
-#[derive(Drop)]
+#[derive(Clone, Copy)]
 struct Tally {
     agree: u64,
     differ: u64,

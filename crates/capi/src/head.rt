@@ -71,7 +71,7 @@ fn head_of(words: &[u64]) -> Preprocessor
 // ---- the row of words
 
 // The row of the words, 0 for none, and the head that they hold.
-#[derive(Drop)]
+#[derive(Clone, Copy)]
 pub(crate) struct Reading {
     pub row: u64,
     pub head: Preprocessor,

@@ -1,6 +1,8 @@
 // The static library: the calls of the preprocessor and of its text, and those that take none, with C's calling convention, on numbers and lent parts
 // (pointer, then length).
 // include/veerycouch.h describes it for C.
+#![tactic(auto)]
+
 mod answer;
 pub mod calls;
 mod codes;

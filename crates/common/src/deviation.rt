@@ -17,7 +17,7 @@ pub const READING_LIMIT: u64 = 65_536;
 // and one of a list of at most so many.
 pub const LENGTH_LIMIT: u64 = 1_048_576;
 
-#[derive(Drop)]
+#[derive(Clone, Copy)]
 pub struct Deviation {
     pub discount: f64,
     pub weight: f64,
@@ -27,7 +27,7 @@ pub struct Deviation {
 }
 
 // A statistic, or the number of the refusal.
-#[derive(Drop)]
+#[derive(Clone, Copy)]
 pub enum DeviationResult {
     Ok(Deviation),
     Err(u64),

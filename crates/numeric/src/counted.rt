@@ -39,7 +39,7 @@ fn digits(x: f64) -> u64
 }
 
 // A root, and how many of its binary digits are tried.
-#[derive(Drop)]
+#[derive(Clone, Copy)]
 pub struct SquareRoot {
     pub root: f64,
     pub digits: u64,

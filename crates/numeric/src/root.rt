@@ -9,7 +9,7 @@ ghost use Rattle.numeric.specs.Steps.Scaled.{IsScaled};
 use crate::rounding::nearest;
 
 // m and e of x = m * 2^(e - 1126).
-#[derive(Drop)]
+#[derive(Clone, Copy)]
 pub(crate) struct Scaled {
     pub(crate) m: u64,
     pub(crate) e: u64,

@@ -1,5 +1,7 @@
 // Replays data/vectors, the machine's own answers and the oracle's counts of digits (docs/VECTORS.md), on the functions of `numeric`, and prints for each function how many agree and how many differ.
 // A line is a letter, a tab, 16 hexadecimal digits, a tab, 16 hexadecimal digits and an LF: the function, the argument's bits and the answer's.
+#![tactic(auto)]
+
 use libc::STDOUT_FILENO;
 
 // The number of a letter's function, in the order of the report; 6 for any other letter.
@@ -35,7 +37,7 @@ fn digit(b: u8) -> u64 {
     }
 }
 
-#[derive(Drop)]
+#[derive(Clone, Copy)]
 struct Digits {
     good: bool,
     value: u64,

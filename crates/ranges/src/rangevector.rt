@@ -84,7 +84,7 @@ fn cascade_row(base: usize, values: usize, upper: usize, lower: usize) -> u64
 // ---- f32
 
 // What the three lists of f32 hold at one index.
-#[derive(Drop)]
+#[derive(Clone, Copy)]
 pub struct Range32 {
     pub value: f32,
     pub upper: f32,
@@ -360,7 +360,7 @@ pub fn create_f32(
 // ---- f64
 
 // What the three lists of f64 hold at one index.
-#[derive(Drop)]
+#[derive(Clone, Copy)]
 pub struct Range64 {
     pub value: f64,
     pub upper: f64,

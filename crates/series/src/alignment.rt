@@ -13,7 +13,7 @@ pub const LIMIT: usize = 4096;
 pub const CHANNEL_LIMIT: u64 = 16;
 
 // The row that refuses, 0 for none, and the number of pairs.
-#[derive(Drop)]
+#[derive(Clone, Copy)]
 pub struct Aligned {
     pub row: u64,
     pub pairs: u64,

@@ -12,7 +12,7 @@ const DIMENSIONS_LIMIT: u64 = 16;
 const READINGS_LIMIT: usize = 2_000;
 
 // The source's USE_RCF is dropped with the forests.
-#[derive(Drop)]
+#[derive(Clone, Copy)]
 pub enum ImputationMethod {
     FIXED,
     PREVIOUS,
@@ -21,14 +21,14 @@ pub enum ImputationMethod {
 }
 
 // The nearest present cell on one side of a missing one in its channel: its reading, and what stands there.
-#[derive(Drop)]
+#[derive(Clone, Copy)]
 pub enum Nearest {
     At(usize, f32),
     Nowhere,
 }
 
 // One channel of the readings: its number c of d, its fixed value, and the rule that fills it.
-#[derive(Drop)]
+#[derive(Clone, Copy)]
 struct Channel {
     method: ImputationMethod,
     d: usize,
@@ -37,7 +37,7 @@ struct Channel {
 }
 
 // The readings of a channel from `start` on that no present cell has closed yet, and the present cell before them.
-#[derive(Drop)]
+#[derive(Clone, Copy)]
 struct Gap {
     start: usize,
     before: Nearest,

@@ -12,7 +12,7 @@ const MARK: u64 = 0x5a5a;
 const MARK32: u64 = 0x40f0_0000;
 
 // A list of readings as it was read: how many cells, how many times.
-#[derive(Drop)]
+#[derive(Clone, Copy)]
 struct Lengths {
     cells: usize,
     times: usize,

@@ -1,5 +1,7 @@
 // Replays answers that the oracle worked out from the requests' words (docs/VECTORS.md) on `series`, and prints how many agree and how many differ.
 // The last line of a file is wrong by purpose: the one that differs.
+#![tactic(auto)]
+
 mod alignment;
 mod imputation;
 mod words;

@@ -2,7 +2,7 @@
 ghost use Rattle.std.specs.Prelude.{◌≤◌};
 
 // How many cases agree, how many differ, and how many cannot be read.
-#[derive(Drop)]
+#[derive(Clone, Copy)]
 pub(crate) struct Tally {
     pub agree: u64,
     pub differ: u64,
@@ -46,7 +46,7 @@ pub(crate) fn counted(tally: Tally, verdict: u64) -> Tally {
 }
 
 // A word's value; `good` is false where there is none, or none of the form.
-#[derive(Drop)]
+#[derive(Clone, Copy)]
 pub(crate) struct Word {
     pub value: u64,
     pub good: bool,
@@ -98,7 +98,7 @@ pub(crate) fn next_word(fd: i32) -> Word {
 }
 
 // A length of at most `most`.
-#[derive(Drop)]
+#[derive(Clone, Copy)]
 pub(crate) struct Length {
     pub value: usize,
     pub good: bool,

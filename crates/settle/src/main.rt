@@ -1,5 +1,7 @@
 // The settling program (request 106): reads standard input, hands it to `settle_core`, and writes what that prints. Of an input longer than the text has room
 // for, the front is judged: it is refused, since nothing of the form is so long.
+#![tactic(auto)]
+
 ghost use Rattle.std.specs.Prelude.{◌≡◌, length};
 
 use libc::{STDIN_FILENO, STDOUT_FILENO};

@@ -10,21 +10,21 @@ use snapshot::cells::whole;
 use snapshot::field::Number;
 
 // A number, or none.
-#[derive(Drop)]
+#[derive(Clone, Copy)]
 pub(crate) struct Value {
     pub found: bool,
     pub value: Signed,
 }
 
 // A field: a number or none, and where the next one begins.
-#[derive(Drop)]
+#[derive(Clone, Copy)]
 pub(crate) struct Part {
     pub found: bool,
     pub value: Signed,
     pub next: usize,
 }
 
-#[derive(Drop)]
+#[derive(Clone, Copy)]
 pub(crate) struct SignalRead {
     pub found: bool,
     pub signal: Signal,

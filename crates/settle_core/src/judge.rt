@@ -9,7 +9,7 @@ use crate::scan::opens_at;
 use settling::signal::{Signal, Signed};
 
 // The row that refuses the input; or how many pairs there are, their settings, and the signal.
-#[derive(Drop)]
+#[derive(Clone, Copy)]
 pub(crate) struct Judged {
     pub row: u64,
     pub count: usize,

@@ -14,14 +14,14 @@ use trcf::head::PreprocessorBuilder;
 use trcf::types::{ForestMode, TransformMethod};
 
 // The settings of a pair: of d 1 and so of one weight.
-#[derive(Drop)]
+#[derive(Clone, Copy)]
 pub(crate) struct Pair {
     pub builder: PreprocessorBuilder,
     pub weight: f32,
 }
 
 // What is read of a pair: the row that refuses it, or where the next line begins, and the settings.
-#[derive(Drop)]
+#[derive(Clone, Copy)]
 pub(crate) struct PairRead {
     pub row: u64,
     pub next: usize,

@@ -7,7 +7,7 @@ use bench_core::line::{Line as Cells, Name, blank, cell, is_named, name_of};
 use bench_core::step::cell_end;
 
 // A line: whether an LF ends it, what was read of it, and where the next one begins.
-#[derive(Drop)]
+#[derive(Clone, Copy)]
 pub(crate) struct Line {
     pub ended: bool,
     pub line: Cells,

@@ -1,4 +1,6 @@
 // Replays inputs of the settling program (the oracle makes them) on `settle_core`, and prints how many outputs agree with the oracle's and how many differ.
+#![tactic(auto)]
+
 mod input;
 
 ghost use Rattle.std.specs.Prelude.{◌≡◌, ◌≤◌, length};
@@ -24,7 +26,7 @@ fn agrees(text: &[u8], expected: &[u8], out: &mut [u8]) -> bool {
 }
 
 // How many inputs agree with the oracle and how many do not.
-#[derive(Drop)]
+#[derive(Clone, Copy)]
 struct Tally {
     agree: u64,
     differ: u64,

@@ -15,7 +15,7 @@ use trcf_rows::rows::settings_row;
 
 // What is noted of a run: the row, 0 for none; whether the preprocessor was found ready, and after which reading first; whether a point's last element was
 // kept, and the largest one.
-#[derive(Drop)]
+#[derive(Clone, Copy)]
 pub struct Settled {
     pub row: u64,
     pub found: bool,

@@ -9,13 +9,13 @@ ghost use Rattle.settling.specs.Steps.{signed, signal_of};
 use numeric::u64_to_f32;
 
 // The number size, or below 0 by it.
-#[derive(Drop)]
+#[derive(Clone, Copy)]
 pub struct Signed {
     pub negative: bool,
     pub size: u64,
 }
 
-#[derive(Drop)]
+#[derive(Clone, Copy)]
 pub struct Signal {
     pub base: Signed,
     pub ramp: Signed,

@@ -11,7 +11,7 @@ use access::rights::every_right;
 use trcf::head::{Preprocessor, get_dimension};
 
 // The head after a reading, whether a point was given, and its last element.
-#[derive(Drop)]
+#[derive(Clone, Copy)]
 pub(crate) struct Turned {
     pub head: Preprocessor,
     pub given: bool,

@@ -12,7 +12,7 @@ fn wide(x: u8) -> u64
 }
 
 // A whole number, or none.
-#[derive(Drop)]
+#[derive(Clone, Copy)]
 pub enum Number {
     Is(u64),
     No,
@@ -97,7 +97,7 @@ fn hex(c: &[u8]) -> Number
 }
 
 // A field by the kind that its place calls for.
-#[derive(Drop)]
+#[derive(Clone, Copy)]
 pub enum Field {
     Single(f32),
     Double(f64),

@@ -11,7 +11,7 @@ use trcf::transformer::WeightedTransformer;
 
 // The first bad line of the first three or four or 0, how many of them hold codes, the place after them, and the head that they give,
 // with no initial values yet.
-#[derive(Drop)]
+#[derive(Clone, Copy)]
 pub struct Header {
     pub bad: usize,
     pub extra: usize,

@@ -31,7 +31,7 @@ pub(crate) fn wgt_line(text: &[u8], at: usize, method: TransformMethod, out: &mu
 }
 
 // Line 3: the codes where they stand there, and the place after them; else zeros, and the place before the line.
-#[derive(Drop)]
+#[derive(Clone, Copy)]
 pub(crate) struct Coded {
     pub extra: usize,
     pub at: usize,
@@ -118,7 +118,7 @@ fn counts_fit(method: TransformMethod, start: usize, seen: u64, internal: u64, c
 }
 
 // The place after the line of the counters, and what it says.
-#[derive(Drop)]
+#[derive(Clone, Copy)]
 pub(crate) struct Counters {
     pub place: Place,
     pub seen: u64,
@@ -152,7 +152,7 @@ pub(crate) fn cnt_line(text: &[u8], at: usize, method: TransformMethod, start: u
 }
 
 // The place after a line of one initial value, and its time.
-#[derive(Drop)]
+#[derive(Clone, Copy)]
 pub struct Timed {
     pub place: Place,
     pub time: u64,

@@ -12,7 +12,7 @@ pub(crate) fn wide(x: u8) -> u64
 }
 
 // A place in the text, or nowhere: what was to be read is not there.
-#[derive(Drop)]
+#[derive(Clone, Copy)]
 pub enum Place {
     At(usize),
     Nowhere,
@@ -59,7 +59,7 @@ fn field_end(text: &[u8], from: usize) -> usize
 }
 
 // A field, and the place after it.
-#[derive(Drop)]
+#[derive(Clone, Copy)]
 pub(crate) struct Next {
     pub field: Field,
     pub end: usize,

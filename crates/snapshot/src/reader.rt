@@ -5,7 +5,7 @@ ghost use Rattle.snapshot.specs.Steps.Judge.{next_of};
 
 use crate::piece::{Next, field_at};
 
-#[derive(Drop)]
+#[derive(Clone, Copy)]
 pub(crate) struct FieldReader<'a> {
     pub text: &'a [u8],
     pub at: usize,

@@ -13,7 +13,7 @@ use trcf::types::{
 use trcf_rows::rows::is_imputing;
 
 // A mode, or none.
-#[derive(Drop)]
+#[derive(Clone, Copy)]
 pub(crate) enum Mode {
     OfMode(ForestMode),
     NoMode,
@@ -33,7 +33,7 @@ fn mode_at(text: &[u8], at: usize) -> Mode
 }
 
 // A method, or none.
-#[derive(Drop)]
+#[derive(Clone, Copy)]
 pub(crate) enum Method {
     OfMethod(TransformMethod),
     NoMethod,
@@ -80,7 +80,7 @@ fn settings_fit(d: u64, k: u64, start: u64, stop: u64, decay: f64) -> bool
 }
 
 // The end of the line: decay, weight_time and the place after them.
-#[derive(Drop)]
+#[derive(Clone, Copy)]
 pub(crate) struct Tail {
     pub place: Place,
     pub decay: f64,
@@ -117,7 +117,7 @@ fn set_tail(text: &[u8], at: usize) -> Tail
 }
 
 // The settings but for the weights, and the place after their line.
-#[derive(Drop)]
+#[derive(Clone, Copy)]
 pub(crate) struct Set {
     pub place: Place,
     pub mode: ForestMode,

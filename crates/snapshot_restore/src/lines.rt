@@ -8,7 +8,7 @@ use snapshot::kinds::{buf_line, tim_line};
 use snapshot::piece::Place;
 
 // The first bad line among some, from 1, or 0 for none; and the place after them.
-#[derive(Drop)]
+#[derive(Clone, Copy)]
 pub(crate) struct Lines {
     pub bad: usize,
     pub at: usize,

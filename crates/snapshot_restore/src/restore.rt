@@ -44,7 +44,7 @@ fn initial_count(head: Preprocessor, text: &[u8], at: usize) -> usize
 }
 
 // The first bad line after `cnt` or 0, and how many initial values there are.
-#[derive(Drop)]
+#[derive(Clone, Copy)]
 pub(crate) struct Judged {
     pub bad: usize,
     pub count: usize,
@@ -237,7 +237,7 @@ fn codes_agree(head: Preprocessor, codes: &[u16]) -> bool
 }
 
 // What taking up gives: 0 and the head; 19 and the bad line; 27; or 20.
-#[derive(Drop)]
+#[derive(Clone, Copy)]
 pub struct Restored {
     pub row: u64,
     pub line: usize,

@@ -19,7 +19,7 @@ use trcf::types::{method_number, mode_letter};
 use trcf_rows::rows::{all_finite, head_settings_row, is_misfit};
 
 // The row, 0 for none, and the length of the text.
-#[derive(Drop)]
+#[derive(Clone, Copy)]
 pub struct Saved {
     pub row: u64,
     pub length: usize,

@@ -1,11 +1,13 @@
 // Request #110: how many of the lists of some number of calls leave the initial values waiting, drained or stranded. It knows no preprocessor:
 // the crate stranding_history proves that the numbers are those of the history.
+#![tactic(auto)]
+
 ghost use Rattle.std.specs.Prelude.{◌≡◌, ◌≤◌};
 ghost use Rattle.stranding.specs.Counts.{out_of_range, refused_counts, strandings_of};
 ghost use Rattle.stranding.specs.Steps.Table.{Small, Swept};
 
 // The answer: the row that refuses, 0 for none, and the three numbers, each 0 where a row refuses.
-#[derive(Drop)]
+#[derive(Clone, Copy)]
 pub struct StrandingCounts {
     pub row: u64,
     pub waiting: u64,

@@ -1,6 +1,8 @@
 // Replays data/vectors, the oracle's numbers (docs/VECTORS.md), on `strandings`, and prints how many lines agree and how many differ.
 // A line is six fields of 16 hexadecimal digits, a tab after each and an LF after the last: start, calls, row, waiting, drained, stranded.
 // Its last line is wrong on purpose: a program that reports no difference compares nothing.
+#![tactic(auto)]
+
 use libc::STDOUT_FILENO;
 
 // A hexadecimal digit's value; 16 for any other byte.
@@ -12,7 +14,7 @@ fn digit(b: u8) -> u64 {
     }
 }
 
-#[derive(Drop)]
+#[derive(Clone, Copy)]
 struct Digits {
     good: bool,
     value: u64,

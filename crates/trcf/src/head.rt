@@ -11,7 +11,7 @@ use crate::types::{
     is_normalizing,
 };
 
-#[derive(Drop)]
+#[derive(Clone, Copy)]
 pub struct Preprocessor {
     pub transformer: WeightedTransformer,
     pub forest_mode: ForestMode,
@@ -26,7 +26,7 @@ pub struct Preprocessor {
 }
 
 // How long each of the six lent lists is.
-#[derive(Drop)]
+#[derive(Clone, Copy)]
 pub struct LentLengths {
     pub statistics: usize,
     pub last_shingled_input: usize,
@@ -37,7 +37,7 @@ pub struct LentLengths {
 }
 
 // The settings of a new preprocessor; its weights and codes are handed beside it.
-#[derive(Drop)]
+#[derive(Clone, Copy)]
 pub struct PreprocessorBuilder {
     pub forest_mode: ForestMode,
     pub transform_method: TransformMethod,
@@ -50,7 +50,7 @@ pub struct PreprocessorBuilder {
 }
 
 // What shingled_point answers: whether a point stands in the output.
-#[derive(Drop)]
+#[derive(Clone, Copy)]
 pub struct Pointed {
     pub row: u64,
     pub given: bool,
@@ -58,7 +58,7 @@ pub struct Pointed {
 }
 
 // What post_process answers: whether the deviations stand in their output; whether there is an anomaly, its time and its likelihood.
-#[derive(Drop)]
+#[derive(Clone, Copy)]
 pub struct PostProcessed {
     pub row: u64,
     pub head: Preprocessor,
@@ -69,14 +69,14 @@ pub struct PostProcessed {
 }
 
 // The row of a call, 0 for none, and the head that it leaves.
-#[derive(Drop)]
+#[derive(Clone, Copy)]
 pub struct Changed {
     pub row: u64,
     pub head: Preprocessor,
 }
 
 // What the getters say together.
-#[derive(Drop)]
+#[derive(Clone, Copy)]
 pub struct StatusAnswer {
     pub row: u64,
     pub values_seen: usize,

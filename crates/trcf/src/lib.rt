@@ -1,4 +1,6 @@
 // The preprocessor of a stream of readings: its settings and statistics, the transform of a reading, and the definitions and laws of all its calls.
+#![tactic(auto)]
+
 mod blocks;
 pub mod feeding;
 pub mod head;

@@ -36,7 +36,7 @@ fn feed_one(s: &mut [f64], n: usize, discount: f64, count: u64, x: f64, f: f64) 
 }
 
 // The radicands of a channel's first two statistics.
-#[derive(Drop)]
+#[derive(Clone, Copy)]
 struct Radicands {
     value: f64,
     difference: f64,

@@ -9,7 +9,7 @@ ghost use Rattle.trcf.specs.Steps.Timestamps.{listed, gathered, IsFactor, Feedab
 use common::deviation::{Deviation, DeviationResult};
 
 // The five statistics of one channel, or of the time.
-#[derive(Drop)]
+#[derive(Clone, Copy)]
 pub struct Deviations {
     pub value: Deviation,
     pub difference: Deviation,

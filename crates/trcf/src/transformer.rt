@@ -25,7 +25,7 @@ use crate::types::{
 use common::deviation::{COUNT_LIMIT, Deviation, DeviationResult, next_factor};
 
 // The settings of a transform and how many readings the statistics were fed; the first `input_length` weights count.
-#[derive(Drop)]
+#[derive(Clone, Copy)]
 pub struct WeightedTransformer {
     pub transform_method: TransformMethod,
     pub input_length: usize,
@@ -35,7 +35,7 @@ pub struct WeightedTransformer {
 }
 
 // The number of the refusal, 0 for none, and a transformer.
-#[derive(Drop)]
+#[derive(Clone, Copy)]
 pub struct TransformerResult {
     pub row: u64,
     pub transformer: WeightedTransformer,

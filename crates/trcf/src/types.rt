@@ -9,7 +9,7 @@ pub const SHINGLE_LIMIT: usize = 64;
 
 pub const START_BOUND: usize = 2000;
 
-#[derive(Drop)]
+#[derive(Clone, Copy)]
 pub enum TransformMethod {
     NONE,
     WEIGHTED,
@@ -19,7 +19,7 @@ pub enum TransformMethod {
     NORMALIZE_DIFFERENCE,
 }
 
-#[derive(Drop)]
+#[derive(Clone, Copy)]
 pub enum ForestMode {
     STANDARD,
     TIME_AUGMENTED,

@@ -1,2 +1,4 @@
 // The call that turns a forecast back.
+#![tactic(auto)]
+
 pub mod forecast;

@@ -183,7 +183,7 @@ pub(crate) fn write_anomaly(
 }
 
 // Whether an anomaly was written, and its time, 0 where none was.
-#[derive(Drop)]
+#[derive(Clone, Copy)]
 pub struct Found {
     pub given: bool,
     pub past_timestamp: u64,

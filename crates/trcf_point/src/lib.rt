@@ -1,3 +1,5 @@
 // The calls that drain, and the point.
+#![tactic(auto)]
+
 pub mod drain;
 pub mod point;

@@ -5,7 +5,7 @@ use vectors_core::field::{Cursor, begin, done, name, read_double, read_single, r
 use vectors_core::lines::{Tally, counted, line_end, no_lines};
 
 // The row of a call, the statistic after it, and the cursor after the call's arguments.
-#[derive(Drop)]
+#[derive(Clone, Copy)]
 struct Called {
     row: u64,
     statistic: Deviation,

@@ -1,4 +1,6 @@
 // Replays answers of the Rust (docs/VECTORS.md) on `common`, and prints how many lines agree and how many differ.
+#![tactic(auto)]
+
 mod deviation;
 mod range32;
 mod range64;

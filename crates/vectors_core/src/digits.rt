@@ -11,7 +11,7 @@ fn digit(b: u8) -> u64 {
     }
 }
 
-#[derive(Drop)]
+#[derive(Clone, Copy)]
 pub(crate) struct Digits {
     pub good: bool,
     pub value: u64,

@@ -5,32 +5,32 @@ ghost use Rattle.vectors_core.specs.Line.{line_finished};
 use crate::digits::{decimal, hexadecimal, value32, value64};
 
 // A place in a line, and whether everything before it was as it should be.
-#[derive(Drop)]
+#[derive(Clone, Copy)]
 pub struct Cursor {
     pub at: usize,
     pub good: bool,
 }
 
-#[derive(Drop)]
+#[derive(Clone, Copy)]
 pub struct Whole {
     pub value: u64,
     pub cursor: Cursor,
 }
 
-#[derive(Drop)]
+#[derive(Clone, Copy)]
 pub struct Single {
     pub value: f32,
     pub cursor: Cursor,
 }
 
-#[derive(Drop)]
+#[derive(Clone, Copy)]
 pub struct Double {
     pub value: f64,
     pub cursor: Cursor,
 }
 
 // A field's bytes, from `from` to `to`; none where there is no field.
-#[derive(Drop)]
+#[derive(Clone, Copy)]
 struct Span {
     from: usize,
     to: usize,
@@ -185,7 +185,7 @@ pub fn read_double(line: &[u8], c: Cursor) -> Double
 }
 
 // The one byte of a field that is a letter, and the cursor after it.
-#[derive(Drop)]
+#[derive(Clone, Copy)]
 pub struct Letter {
     pub value: u8,
     pub cursor: Cursor,
@@ -206,7 +206,7 @@ pub fn read_letter(line: &[u8], c: Cursor) -> Letter
 }
 
 // A whole number within i32, with `-` in front where it is negative.
-#[derive(Drop)]
+#[derive(Clone, Copy)]
 pub struct Signed {
     pub value: i32,
     pub cursor: Cursor,

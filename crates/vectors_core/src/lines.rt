@@ -30,7 +30,7 @@ pub fn line_end(text: &[u8], from: usize) -> usize
 }
 
 // How many lines agree with the Rust and how many do not.
-#[derive(Drop)]
+#[derive(Clone, Copy)]
 pub struct Tally {
     pub agree: u64,
     pub differ: u64,

@@ -4,13 +4,13 @@ ghost use Rattle.std.specs.Prelude.{◌≡◌, ◌≤◌, length};
 use crate::field::{Cursor, also, read_double, read_single, read_whole};
 
 // How many were read, and the cursor after them.
-#[derive(Drop)]
+#[derive(Clone, Copy)]
 pub struct List {
     pub len: usize,
     pub cursor: Cursor,
 }
 
-#[derive(Drop)]
+#[derive(Clone, Copy)]
 struct Code {
     value: u16,
     cursor: Cursor,
@@ -154,7 +154,7 @@ pub fn read_codes(line: &[u8], c: Cursor, out: &mut [u16]) -> List
 }
 
 // A list that may be given: flag 0, or flag 1 and the list.
-#[derive(Drop)]
+#[derive(Clone, Copy)]
 pub struct Optional {
     pub given: bool,
     pub len: usize,

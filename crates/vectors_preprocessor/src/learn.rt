@@ -9,7 +9,7 @@ use vectors_core::field::{Cursor, also, begin, done, read_signed, read_single, r
 use vectors_core::list::{length_within, read_optional, read_singles};
 
 // The arguments beside the lists, the lists' lengths, and the cursor after all of them.
-#[derive(Drop)]
+#[derive(Clone, Copy)]
 struct Given {
     time: u64,
     has_y: bool,

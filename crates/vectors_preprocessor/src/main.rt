@@ -1,4 +1,6 @@
 // Replays lists of calls that the Rust has answered (docs/VECTORS.md) on the preprocessor's calls, and prints how many lines agree and how many differ.
+#![tactic(auto)]
+
 mod learn;
 mod lists;
 mod preprocessor;

@@ -337,7 +337,7 @@ fn line_step(
 }
 
 // What a turn leaves: the head, the tally, and the place of the next line.
-#[derive(Drop)]
+#[derive(Clone, Copy)]
 struct Turn {
     head: Preprocessor,
     tally: Tally,

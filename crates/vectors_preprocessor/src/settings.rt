@@ -10,7 +10,7 @@ use vectors_core::forget::{forget_f32, forget_f64, forget_u64};
 use vectors_core::list::{read_codes, read_singles};
 
 // Whether a line agrees, and the head after it.
-#[derive(Drop)]
+#[derive(Clone, Copy)]
 pub(crate) struct Step {
     pub good: bool,
     pub head: Preprocessor,
@@ -24,7 +24,7 @@ pub(crate) fn kept(head: Preprocessor, good: bool) -> Step {
 }
 
 // The settings of a line but for the weights and codes.
-#[derive(Drop)]
+#[derive(Clone, Copy)]
 struct Settings {
     builder: PreprocessorBuilder,
     cursor: Cursor,

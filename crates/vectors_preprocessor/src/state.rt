@@ -10,7 +10,7 @@ use vectors_core::list::{
 };
 
 // A cursor, and the place of the next initial value.
-#[derive(Drop)]
+#[derive(Clone, Copy)]
 struct Initial {
     cursor: Cursor,
     at: usize,
@@ -123,7 +123,7 @@ fn read_all_initial(
 }
 
 // The counters of a state, and the cursor after them.
-#[derive(Drop)]
+#[derive(Clone, Copy)]
 struct Counts {
     values_seen: u64,
     internal: u64,

@@ -1,4 +1,6 @@
 // Replays texts that the Rust has judged (docs/VECTORS.md) on taking up and putting away, and prints how many agree and how many differ.
+#![tactic(auto)]
+
 mod texts;
 
 use vectors_core::lines::{read_file, report, room};

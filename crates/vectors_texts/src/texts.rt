@@ -228,7 +228,7 @@ fn rest_untouched(
 // ---- every text
 
 // The row by which a text is refused and its bad line, or zeros.
-#[derive(Drop)]
+#[derive(Clone, Copy)]
 struct Outcome {
     row: u64,
     line: u64,
@@ -367,7 +367,7 @@ fn text_step(
 // ---- the places of the texts
 
 // What the line before a text says: how long the text is, how many codes are expected, how many times are lent, and what comes of it.
-#[derive(Drop)]
+#[derive(Clone, Copy)]
 struct Announced {
     good: bool,
     len: usize,
@@ -436,7 +436,7 @@ fn announcement(line: &[u8], most: usize, room: usize, codes: &mut [u16]) -> Ann
 }
 
 // Where a text stands, what the line before it says, and the place after it.
-#[derive(Drop)]
+#[derive(Clone, Copy)]
 struct Found {
     good: bool,
     bare: bool,
@@ -496,7 +496,7 @@ fn expected(text: &[u8], bare: bool, count: usize) -> usize
 }
 
 // What a turn leaves: the tally, and the place of the next text.
-#[derive(Drop)]
+#[derive(Clone, Copy)]
 struct Turn {
     tally: Tally,
     at: usize,

@@ -1,4 +1,6 @@
 // Replays answers of the Rust (docs/VECTORS.md) on the transformer of `trcf`, and prints how many lines agree and how many differ.
+#![tactic(auto)]
+
 mod transformer;
 
 use vectors_core::lines::{read_file, report, room};

@@ -9,7 +9,7 @@ use vectors_core::lines::{Tally, counted, line_end, no_lines};
 use vectors_core::list::{length_within, read_singles};
 
 // Whether a line agrees, and the transformer after it.
-#[derive(Drop)]
+#[derive(Clone, Copy)]
 struct Step {
     good: bool,
     transformer: WeightedTransformer,
