@@ -2,7 +2,7 @@
 use Prim.Native.Nat.{ℕ, ◌≤◌}
 use mathlib.Core.Path.{◌≡◌, refl, sym, ap, ◌∙◌, subst}
 use mathlib.Core.Bool.{Bool, true, false, cond}
-use mathlib.Core.List.{List, [], ◌∷◌, ◌++◌, map, append_nil}
+use mathlib.Core.List.{List, [], ◌∷◌, ◌++◌, map, append-nil}
 use mathlib.Core.Option.{some}
 use lib.ListN.{length}
 use lib.Ieee.{Float}
@@ -219,7 +219,7 @@ module _ (table : List ℕ) where
         by true e m r =
             let n : All Machine (a.call ∷ []) = subst (λ (x : Bool). All Machine (cond x (a.call ∷ []) [] ++ [])) e m in
             rw e (calling a.call n.0 r)
-        by false e m r = rw e (subst (λ (cs : List Call). Reaches s cs w) (sym (append_nil (granted_calls table l))) r)
+        by false e m r = rw e (subst (λ (cs : List Call). Reaches s cs w) (sym (append-nil (granted_calls table l))) r)
     granted_reach (role_restoring saver restorer p q u k r) = restoring₀ u k (granted_reach r)
 
     reached : {l : List Asked} {w : State} → RoleReaches table s l w → w ≡ role_run table (fresh s) l

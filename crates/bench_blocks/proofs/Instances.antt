@@ -4,7 +4,7 @@ use native.Mathlib.Omega.{arith}
 use Prim.Native.String.{String, ◌++◌ as ◌·◌}
 use mathlib.Core.Path.{◌≡◌, refl, sym, ap, ◌∙◌}
 use mathlib.Core.Bool.{Bool, true, false}
-use mathlib.Core.List.{List, [], ◌∷◌, ◌++◌, append_nil}
+use mathlib.Core.List.{List, [], ◌∷◌, ◌++◌, append-nil}
 use lib.ListN.{length, take, drop, replicate}
 use lib.Ieee.{Float}
 use Rattle.trcf.specs.Transformer.{zero32}
@@ -155,7 +155,7 @@ two_blocks : Program first_run bench_memory lent320 (replicate 32 0) (120 ∷ 10
 two_blocks =
     reads first second (stored (replicate 32 0) 0 first) blank (no_text 19) one refl (omega arith) refl one_read refl one_row (ap (λ (u : List ℕ). u ++ no_text 19) (sym one_shows))
     (reads second [] (stored one.text one.run.kept second) blank [] two one_full (omega arith) refl two_read refl two_row
-    (sym two_shows ∙ sym (append_nil (shown two.out))) (stops two_over refl))
+    (sym two_shows ∙ sym (append-nil (shown two.out))) (stops two_over refl))
 
 two_blocks_print : no_text 19 ≡ whole_prints (120 ∷ 10 ∷ [])
 two_blocks_print = blocks_print (replicate 32 0) (120 ∷ 10 ∷ []) (no_text 19) two_blocks

@@ -3,7 +3,7 @@ use Prim.Native.Nat.{ℕ, zero, suc, ◌+◌, ◌-◌, ◌≤◌, ◌<◌}
 use native.Mathlib.Omega.{arith}
 use mathlib.Core.Path.{◌≡◌, refl, sym, ap, subst, ◌∙◌}
 use mathlib.Core.Bool.{Bool, true, false, cond, false≢true}
-use mathlib.Core.List.{List, [], ◌∷◌, ◌++◌, append_nil}
+use mathlib.Core.List.{List, [], ◌∷◌, ◌++◌, append-nil}
 use borrow.Author.Tests.{eqb-true, eqb-false, eq-eqb, ne_eqb, le-ltb, lt-ltb}
 use lib.Dec.{ltb, eqb}
 use lib.ListN.{length, take, drop, length-drop, take-append-drop}
@@ -116,7 +116,7 @@ module _ (b₀ : Bench) (lists₀ : Lent) (y₀ : List Float) (text out₀ : Lis
           let i : m ≡ 0 = p.count ∙ ap (λ (s : Stepped). length (shown s.left.out)) f in
           let j : at + m ≡ at = omega arith in
           let t : take at out' ≡ take at out =
-          ap (λ (u : ℕ). take u out') (sym j) ∙ p.text ∙ ap (λ (s : Stepped). take at out ++ shown s.left.out) f ∙ append_nil (take at out) in
+          ap (λ (u : ℕ). take u out') (sym j) ∙ p.text ∙ ap (λ (s : Stepped). take at out ++ shown s.left.out) f ∙ append-nil (take at out) in
           let d : drop at out' ≡ drop at out = ap (λ (u : ℕ). drop u out') (sym j) ∙ p.behind ∙ ap (λ (u : ℕ). drop u out) j in
           let o : out' ≡ out = sym (take-append-drop at out') ∙ (λ v. t v ++ d v) ∙ take-append-drop at out in
           let x : b' ≡ b = p.bench ∙ ap (λ (s : Stepped). s.left.bench) f in

@@ -3,7 +3,7 @@ use Prim.Native.Nat.{ℕ, zero, suc, ◌+◌, ◌-◌, ◌≤◌, ◌<◌}
 use native.Mathlib.Omega.{arith}
 use mathlib.Core.Path.{◌≡◌, refl, sym, ap, subst, ◌∙◌}
 use mathlib.Core.Bool.{Bool, true, false, cond, false≢true}
-use mathlib.Core.List.{List, [], ◌∷◌, ◌++◌, append_assoc, append_nil}
+use mathlib.Core.List.{List, [], ◌∷◌, ◌++◌, append_assoc, append-nil}
 use borrow.Author.Tests.{ltb-true, ltb-false, ne_eqb}
 use lib.Dec.{T, ltb, eqb}
 use lib.ListN.{length, take, drop, replicate, length-take, length-drop}
@@ -138,7 +138,7 @@ module _ (r : Run) (lists : Lent) (y : List Float) (text out : List ℕ) where
           record {
             all =
                 end_law r.bench lists y (take n text) (length out) g refl e
-                ∙ sym (append_nil g.text)
+                ∙ sym (append-nil g.text)
                 ∙ ap (λ (u : List ℕ). g.text ++ u)
                 (sym (over_reads g.lent g.point (take (bytes_kept (n - g.read) g.full) (over text (take (bytes_kept (n - g.read) g.full) (drop g.read text))) ++ []) g.bench []
                 (end_over r.bench lists y (take n text) (length out) e)));
@@ -203,7 +203,7 @@ program_law {r} {lists} {y} {text} {input} {all} (ends out w t f i e z a p) =
     let c : k ≡ r.kept = omega arith in
     turn_prints r lists y g.text (take k text) [] t l all w a (program_law p)
     ∙ ap (reads_on r.bench lists y [])
-    (ap (λ (q : ℕ). take q text) c ∙ sym (append_nil (take r.kept text)) ∙ ap (λ (u : List ℕ). take r.kept text ++ u) (sym i))
+    (ap (λ (q : ℕ). take q text) c ∙ sym (append-nil (take r.kept text)) ∙ ap (λ (u : List ℕ). take r.kept text ++ u) (sym i))
 program_law {r} {lists} {y} {text} {input} {all} (again got out w t f e z a p) =
     let d = done r lists y text got out t e z in
     let k : ℕ = r.kept in

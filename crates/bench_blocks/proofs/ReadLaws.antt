@@ -4,7 +4,7 @@ use native.Mathlib.Omega.{arith}
 use native.Mathlib.Numerals.{add-one}
 use mathlib.Core.Path.{◌≡◌, refl, sym, ap, ◌∙◌}
 use mathlib.Core.Bool.{Bool, true, false, cond, ◌||◌}
-use mathlib.Core.List.{List, [], ◌∷◌, ◌++◌, append_assoc, append_nil}
+use mathlib.Core.List.{List, [], ◌∷◌, ◌++◌, append_assoc, append-nil}
 use borrow.Author.Tests.{ne_eqb, eq-eqb, le-ltb, ltb-true, ltb-false}
 use lib.Dec.{ltb, eqb}
 use lib.ListN.{length, take, drop, get_or, replicate, length-append, length-take, length-replicate}
@@ -118,7 +118,7 @@ module _ (b : Bench) (lists : Lent) (y : List Float) where
   -- ---- bytes in which no cell ends
 
   reads_open : (d c t : List ℕ) → cell_length d ≡ length d → reads_on b lists y c (d ++ t) ≡ reads_on b lists y (c ++ d) t
-  reads_open [] c t h = ap (λ (u : List ℕ). reads_on b lists y u t) (sym (append_nil c))
+  reads_open [] c t h = ap (λ (u : List ℕ). reads_on b lists y u t) (sym (append-nil c))
   reads_open (x ∷ d) c t h =
       let k = open_first (eqb x 9) (eqb x 10) (cell_length d) (length d) h in
       rw k.0 (reads_open d (c ++ x ∷ []) t k.1 ∙ ap (λ (u : List ℕ). reads_on b lists y u t) (append_assoc c (x ∷ []) d))
@@ -136,7 +136,7 @@ module _ (b : Bench) (lists : Lent) (y : List Float) where
       ∙ rw k.1
 
   pub reads_end : (t : List ℕ) → cell_length t ≡ length t → reads_on b lists y [] t ≡ shown (finish_by b.phase b t blank).out
-  reads_end t e = ap (reads_on b lists y []) (sym (append_nil t)) ∙ reads_open t [] [] e
+  reads_end t e = ap (reads_on b lists y []) (sym (append-nil t)) ∙ reads_open t [] [] e
 
   -- ---- a long cell
 

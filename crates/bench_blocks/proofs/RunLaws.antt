@@ -4,7 +4,7 @@ use native.Mathlib.Omega.{arith}
 use native.Mathlib.Numerals.{add-one}
 use mathlib.Core.Path.{◌≡◌, refl, sym, ap, subst, ◌∙◌}
 use mathlib.Core.Bool.{Bool, true, false, cond, false≢true}
-use mathlib.Core.List.{List, [], ◌∷◌, ◌++◌, append_assoc, append_nil}
+use mathlib.Core.List.{List, [], ◌∷◌, ◌++◌, append_assoc, append-nil}
 use borrow.Author.Tests.{eqb-true, eqb-false, ne_eqb}
 use lib.Dec.{ltb, eqb}
 use lib.ListN.{length, take, drop, get_or, replicate, length-replicate}
@@ -89,7 +89,7 @@ module _ (b : Bench) (lists : Lent) (y : List Float) (text : List ℕ) (m : ℕ)
       go : (s : TextBlock) (q : Bool) → r ≡ ends_with true q s text → Splits (reads_on b lists y [] (text ++ [])) text [] s
           → reads_on b lists y [] text ≡ r.text ++ reads_on r.bench r.lent r.point [] (drop r.read text ++ [])
       go s true i l =
-          ap (reads_on b lists y []) (sym (append_nil text))
+          ap (reads_on b lists y []) (sym (append-nil text))
           ∙ l.all
           ∙ ap (λ (u : TextBlock). u.text ++ reads_on u.bench u.lent u.point [] (drop u.read text ++ [])) (sym i)
       go s false i l = absurd (false≢true (sym (ap (λ (u : TextBlock). u.full) i) ∙ f))
@@ -102,8 +102,8 @@ module _ (b : Bench) (lists : Lent) (y : List Float) (text : List ℕ) (m : ℕ)
           → reads_on b lists y [] text ≡ r.text
       go s true k i l = absurd (false≢true (sym f ∙ ap (λ (u : TextBlock). u.full) i ∙ k))
       go s false k i l =
-          ap (reads_on b lists y []) (sym (append_nil text))
+          ap (reads_on b lists y []) (sym (append-nil text))
           ∙ l.all
-          ∙ ap (λ (u : List ℕ). s.text ++ reads_on s.bench s.lent s.point [] u) (append_nil (drop s.read text))
+          ∙ ap (λ (u : List ℕ). s.text ++ reads_on s.bench s.lent s.point [] u) (append-nil (drop s.read text))
           ∙ ap (λ (u : List ℕ). s.text ++ u) (reads_end s.bench s.lent s.point (drop s.read text) (l.none k) ∙ sym (ended s.bench (drop s.read text)))
           ∙ ap (λ (u : TextBlock). u.text) (sym i)

@@ -4,7 +4,7 @@ use native.Mathlib.Omega.{arith}
 use native.Mathlib.Numerals.{add-one}
 use mathlib.Core.Path.{◌≡◌, refl, sym, ap, subst, ◌∙◌}
 use mathlib.Core.Bool.{Bool, true, false, cond, not, ◌||◌, false≢true}
-use mathlib.Core.List.{List, [], ◌∷◌, ◌++◌, append_assoc, append_nil}
+use mathlib.Core.List.{List, [], ◌∷◌, ◌++◌, append_assoc, append-nil}
 use borrow.Author.Tests.{ne_eqb, eqb-true, eqb-false}
 use lib.Dec.{T, ltb, leb, eqb}
 use lib.ListN.{length, set, take, drop, get_or, replicate, length-drop}
@@ -257,7 +257,7 @@ along_tab : (l : Line) (c p : List ℕ) → Along l c p → Along (cell_of l c) 
 along_tab l c p a =
     record {
       line = λ u.
-          ap (λ (d : List ℕ). with_fields (cell_of l d) (split_by 9 u)) (sym (append_nil c))
+          ap (λ (d : List ℕ). with_fields (cell_of l d) (split_by 9 u)) (sym (append-nil c))
           ∙ ap (with_fields l) (sym (a.free (9 ∷ u)))
           ∙ a.line (9 ∷ u)
           ∙ ap line_of_text (sym (append_assoc p (9 ∷ []) u));
@@ -278,7 +278,7 @@ along_byte l c p x e a =
     }
 
 along_line : (l : Line) (c p : List ℕ) → Along l c p → line_of_text (p ++ []) ≡ cell_of l c
-along_line l c p a = sym (a.line []) ∙ ap (with_fields l) (a.free []) ∙ ap (cell_of l) (append_nil c)
+along_line l c p a = sym (a.line []) ∙ ap (with_fields l) (a.free []) ∙ ap (cell_of l) (append-nil c)
 
 along_end : (b : Bench) (c p : List ℕ) → begun b.line.name c ≡ some p → (q : Phase) → shown (finish_by q b c blank).out ≡ end_text q p
 along_end b c p e WantsSet = shown_prints (no_text 19) blank
@@ -309,7 +309,7 @@ reads_lines [] b lists y c p a = go (is_ended b.phase) refl
   where
     go : (q : Bool) → is_ended b.phase ≡ q → Reads [] b lists y c p
     go true e = over_reads lists y [] b c (is_ended_lem b.phase e) ∙ sym (over_prints lists y (prefix p (split_by 10 [])) b (is_ended_lem b.phase e))
-    go false e = along_end b c p (a e).begins b.phase ∙ ap (end_text b.phase) (sym (append_nil p))
+    go false e = along_end b c p (a e).begins b.phase ∙ ap (end_text b.phase) (sym (append-nil p))
 reads_lines (x ∷ t) b lists y c p a = top (is_ended b.phase) refl (λ c' l z d q k. reads_lines t c' l z d q k)
   where
     go : is_ended b.phase ≡ false → (r : Bool) → eqb x 9 ≡ r → (s : Bool) → eqb x 10 ≡ s
@@ -361,11 +361,11 @@ printed_from_lem (suc n) b lists y t h = go (eqb (cell_length t) (length t)) ref
         let k : cell_length t < length t = omega (arith, at_most t, eqb-false (cell_length t) (length t) e) in
         let g : LineResult = cell_heard b lists y blank (take (cell_length t) t) (get_or t (cell_length t) 0) in
         let i = ih g.bench g.lent g.point (drop (cell_length t + 1) t) (simp length-drop (omega arith)) in
-        let d : drop (cell_length t + 1) t ≡ drop (suc (cell_length t)) t ++ [] = ap (λ (j : ℕ). drop j t) (add-one (cell_length t)) ∙ sym (append_nil (drop (suc (cell_length t)) t)) in
+        let d : drop (cell_length t + 1) t ≡ drop (suc (cell_length t)) t ++ [] = ap (λ (j : ℕ). drop j t) (add-one (cell_length t)) ∙ sym (append-nil (drop (suc (cell_length t)) t)) in
         let p : shown g.out ++ printed_from n g.bench g.lent g.point (drop (cell_length t + 1) t) ≡ reads_on b lists y [] t =
         ap (λ (u : List ℕ). shown g.out ++ u) (i ∙ ap (reads_on g.bench g.lent g.point []) d)
         ∙ sym (reads_cell b lists y t [] k)
-        ∙ ap (reads_on b lists y []) (append_nil t) in
+        ∙ ap (reads_on b lists y []) (append-nil t) in
         rw (step_read b lists y blank roomy t k, printed_from, ne_eqb (cell_length t + 1) 0 (λ f. omega arith)) (rw (step_read b lists y blank roomy t k) p)
 
 pub printed_whole : (t : List ℕ) → printed t ≡ whole_prints t

@@ -5,7 +5,7 @@ use mathlib.Core.List.{List, [], ◌∷◌, ◌++◌, map, append_assoc}
 use mathlib.Core.Path.{◌≡◌, refl, sym, ap, ◌∙◌}
 use native.Mathlib.Omega.{arith}
 use lib.Dec.{ltb}
-use lib.ListN.{length, take, drop, get_or, set, length-drop, length-append, length_map, drop_of_length-le}
+use lib.ListN.{length, take, drop, get_or, set, length-drop, length-append, length-map, drop_of_length-le}
 use lib.Seq.{length-take-le, take_at, drop_at, drop-drop}
 use lib.Ieee.{Float, binary32, binary64, of_bits, to_bits}
 use lib.Ieee.Bits.{of_bits-to_bits}
@@ -84,7 +84,7 @@ head_back h g rest =
     }
   where
     sixteen_bits : length (map (to_bits binary32) h.transformer.weights) ≡ 16
-    sixteen_bits = length_map h.transformer.weights (to_bits binary32) ∙ g.sixteen
+    sixteen_bits = length-map h.transformer.weights (to_bits binary32) ∙ g.sixteen
 
     weights_back : map single (take 16 ((map (to_bits binary32) h.transformer.weights ++ h.codes) ++ rest)) ≡ h.transformer.weights
     weights_back =
@@ -242,7 +242,7 @@ front_length : (h : Preprocessor) → length h.transformer.weights ≡ 16 → le
 unfolding front_of
 front_length h e =
     let v = map (to_bits binary32) h.transformer.weights in
-    omega (arith, length-append (head_numbers h) v, twelve_numbers h, length_map h.transformer.weights (to_bits binary32), e)
+    omega (arith, length-append (head_numbers h) v, twelve_numbers h, length-map h.transformer.weights (to_bits binary32), e)
 
 pub front_kept : (w w' : List ℕ) (h : Preprocessor) → length h.transformer.weights ≡ 16 → w' ≡ over w (front_of h) → 44 ≤ length w → length w' ≡ length w
 unfolding over

@@ -1,7 +1,7 @@
 -- Bits and kinds, and lists filled from the front. Assumes nothing.
 use Prim.Native.Nat.{ℕ, zero, suc, ◌+◌, ◌≤◌, ◌<◌}
 use mathlib.Core.Bool.{true}
-use mathlib.Core.List.{List, [], ◌∷◌, ◌++◌, map, append_nil}
+use mathlib.Core.List.{List, [], ◌∷◌, ◌++◌, map, append-nil}
 use mathlib.Core.Path.{◌≡◌, refl, sym, ap, ◌∙◌, subst}
 use native.Mathlib.Omega.{arith}
 use native.Mathlib.Numerals.{add-one}
@@ -67,4 +67,4 @@ module _ {A B : Type 0} (f : B → A) where
 
 pub over_whole : (old new : List ℕ) → length old ≤ length new → over old new ≡ new
 unfolding over
-over_whole old new h = ap (λ (r : List ℕ). new ++ r) (drop_of_length-le old h) ∙ append_nil new
+over_whole old new h = ap (λ (r : List ℕ). new ++ r) (drop_of_length-le old h) ∙ append-nil new

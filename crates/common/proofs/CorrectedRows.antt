@@ -1,6 +1,6 @@
 -- Row 26 of `corrected`: what an accepted call has passed, and that each of its tests refuses by itself. Assumes nothing.
 use Rattle.std.proofs.Common.{◌≡◌, ℕ, zero, suc, ◌*◌, ◌<◌, Bool, true, false, cond, not, ◌&&◌, T, eqb, ltb, List, [], ◌∷◌, pos, sym, refl, ap, ◌∙◌, true≢false, arith, eqb→eq, lt-ltb}
-use borrow.Author.Tests.{not_false}
+use borrow.Author.Tests.{not-false}
 use lib.Ieee.{Float, le, eq}
 use lib.Ieee.Fits.{and_l, and_r}
 use Rattle.common.specs.declared.deviation.Deviation.{Deviation}
@@ -50,15 +50,15 @@ rows_passed s wrong right h0 =
     let h8 = passed _ _ h7.1 in
     let h9 = passed _ _ h8.1 in
     record {
-      decay = not_false _ h1.0;
-      wrong_whole = not_false _ h2.0;
-      right_whole = not_false _ h3.0;
+      decay = not-false _ h1.0;
+      wrong_whole = not-false _ h2.0;
+      right_whole = not-false _ h3.0;
       some = h4.0;
       few = h5.0;
-      weighed = not_false _ h6.0;
-      sum_whole = not_false _ h7.0;
-      squares_whole = not_false _ h8.0;
-      squares_up = not_false _ h9.0;
+      weighed = not-false _ h6.0;
+      sum_whole = not-false _ h7.0;
+      squares_whole = not-false _ h8.0;
+      squares_up = not-false _ h9.0;
     }
 
 answered_row : (n : ℕ) (s : Deviation) → deviation_row (deviation_answer n s) ≡ n
@@ -96,7 +96,7 @@ turned : {r w : Bool} {b : Bool} → r ≡ w → not r ≡ b → not w ≡ b
 turned e h = rw e at h
 
 pub told : {r w : Bool} → r ≡ w → not r ≡ false → w ≡ true
-told e h = not_false _ (turned e h)
+told e h = not-false _ (turned e h)
 
 pub by_decay : (s : Deviation) (wrong right : Float) → not (eq s.discount zero64) ≡ true → 26 ≡ first_of (correction_rows s wrong right)
 unfolding correction_rows

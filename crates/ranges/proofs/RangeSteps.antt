@@ -6,7 +6,7 @@ use mathlib.Core.Bool.{Bool, true, false, not, ◌&&◌}
 use mathlib.Core.List.{List, [], ◌∷◌, ◌++◌}
 use native.Mathlib.Numerals.{add-one}
 use native.Mathlib.Omega.{arith}
-use borrow.Author.Tests.{eqb-true, not_false}
+use borrow.Author.Tests.{eqb-true, not-false}
 use lib.Dec.{eqb}
 use lib.ListN.{length, get_or, drop, drop_of_length-le}
 use lib.Seq.{drop-cons, get_or-append-add}
@@ -31,7 +31,7 @@ both false t h = (h, (cc))
 
 pub equal_lengths : (a b c : ℕ) → not (eqb a b && eqb a c) ≡ false → (a ≡ b) × (a ≡ c)
 equal_lengths a b c e =
-    let h = both (eqb a b) (eqb a c) (not_false _ e) in
+    let h = both (eqb a b) (eqb a c) (not-false _ e) in
     (eqb-true a b h.0, eqb-true a c h.1)
 
 -- ---- one index, and three lists

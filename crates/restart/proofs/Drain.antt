@@ -3,7 +3,7 @@ use Prim.Native.Nat.{ℕ, suc, ◌+◌, ◌*◌, ◌≤◌, ◌<◌}
 use native.Mathlib.Nat.{add-zero, suc-add, add-suc, le-mul_of_pos_right}
 use native.Mathlib.Omega.{arith}
 use mathlib.Core.Path.{◌≡◌, sym, ap, ◌∙◌}
-use mathlib.Core.List.{List, [], ◌∷◌, ◌++◌, append_assoc, append_nil}
+use mathlib.Core.List.{List, [], ◌∷◌, ◌++◌, append_assoc, append-nil}
 use lib.ListN.{length, length-append}
 use lib.Ieee.{Float}
 use Rattle.restart.specs.History.{values, timestamps, each_after, transforms}
@@ -67,7 +67,7 @@ module _ (s : Settings) (k>0 : 0 < s.k) (seen c : ℕ) (st : List Float) where
       → last_n s.d (last_n (s.d * s.k) A) ≡ p.value → last_or 0 (last_n s.k B) ≡ p.time → Each s.d rs
       → drain_each (mid s seen i c st A C B) rs
       ≡ mid s seen (i + length rs) c st (A ++ values rs) (C ++ transforms s st seen (each_after p rs)) (B ++ timestamps rs)
-  pass [] i A C B p hA hC hB pv pt e = simp (add-zero, append_nil)
+  pass [] i A C B p hA hC hB pv pt e = simp (add-zero, append-nil)
   pass (r ∷ rs) i A C B p hA hC hB pv pt e =
       ap (λ (w : State). drain_each w rs) (one i A C B p r hA hC hB pv pt e.0)
       ∙ pass rs (suc i) (A ++ r.value) (C ++ z) (B ++ (r.time ∷ [])) r

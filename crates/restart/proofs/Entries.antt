@@ -5,7 +5,7 @@ use native.Mathlib.Numerals.{add-one}
 use native.Mathlib.Omega.{arith}
 use mathlib.Core.Path.{◌≡◌, refl, sym, ap, ◌∙◌}
 use mathlib.Core.Bool.{Bool, true, false, cond, false≢true}
-use mathlib.Core.List.{List, [], ◌∷◌, ◌++◌, append_assoc, append_nil}
+use mathlib.Core.List.{List, [], ◌∷◌, ◌++◌, append_assoc, append-nil}
 use lib.Dec.{ltb}
 use lib.ListN.{length, replicate, length-append, length-replicate}
 use lib.Ieee.{Float}
@@ -68,7 +68,7 @@ module _ (s : Settings) (k>0 : 0 < s.k) (es : List Entry) (r : Reading) (rs : Li
       (last_n_newest s.d (s.d * s.k) (replicate (s.d * s.k) zero32) r.value (simp length-replicate (omega arith)) e.0 (le-mul_of_pos_right s.d k>0))
       (last_or_newest 0 s.k (replicate s.k 0) r.time (simp length-replicate (omega arith)) k>0) e
       ∙ rw (q.no_l, q.no_fed, q.zeros, ew) (cc (
-        append_nil rs,
+        append-nil rs,
         statistics_fed s (each_after r (r ∷ rs)),
         length_after r rs,
         append_assoc (replicate (s.d * s.k) zero32) r.value (r.value ++ values rs),
@@ -101,7 +101,7 @@ module _ (s : Settings) (es : List Entry) (no_f : is_drained es ≡ false) where
 -- a reading that is fed or not
 fed_length : (b : Bool) (ps : List Fed) (p : Fed) → cond b (suc (length ps)) (length ps) ≡ length (ps ++ cond b (p ∷ []) [])
 fed_length true ps p = simp length-append (omega arith)
-fed_length false ps p = simp append_nil
+fed_length false ps p = simp append-nil
 
 fed_stats : (s : Settings) (b : Bool) (ps : List Fed) (p : Fed)
     → cond b (feed s (length ps) (statistics_from s ps) p.before p.now) (statistics_from s ps) ≡ statistics_from s (ps ++ cond b (p ∷ []) [])
@@ -109,7 +109,7 @@ fed_stats s true ps p =
     let st = replicate (statistics_length s) zero64 in
     let fed : feed s (length ps) (feed_each s 0 st ps) p.before p.now ≡ feed_each s 0 st (ps ++ (p ∷ [])) = sym (feed_each_append s 0 st ps (p ∷ []) ∙ rw zero-add) in
     ap (λ (l : List Float). feed s (length ps) l p.before p.now) (statistics_fed s ps) ∙ fed ∙ sym (statistics_fed s (ps ++ (p ∷ [])))
-fed_stats s false ps p = simp append_nil
+fed_stats s false ps p = simp append-nil
 
 module _ (s : Settings) (k>0 : 0 < s.k) (es : List Entry) where
   pub learned_state : (x : List Float) (t : ℕ) (y : List Float) → length x ≡ s.d → learnedState (history_state s es) (reading x t) y ≡ history_state s (learned_entry x t y ∷ es)

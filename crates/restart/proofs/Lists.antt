@@ -3,7 +3,7 @@ use Prim.Native.Nat.{ℕ, zero, suc, ◌+◌, ◌-◌, ◌≤◌}
 use native.Mathlib.Nat.{add-zero, zero-add, suc-add, add-suc}
 use native.Mathlib.Omega.{arith}
 use mathlib.Core.Path.{◌≡◌, refl, sym, ap, ◌∙◌}
-use mathlib.Core.List.{List, [], ◌∷◌, ◌++◌, append_assoc, append_nil}
+use mathlib.Core.List.{List, [], ◌∷◌, ◌++◌, append_assoc, append-nil}
 use lib.ListN.{length, take, drop, replicate, length-append, length-drop, length-replicate}
 use lib.Seq.{drop-drop, drop-append-le, drop_at, take_at}
 use lib.Ieee.{Float}
@@ -84,7 +84,7 @@ timestamps_append [] b = refl
 timestamps_append (r ∷ rs) b = ap (λ (l : List ℕ). r.time ∷ l) (timestamps_append rs b)
 
 pub values_snoc : (a : List Reading) (r : Reading) → values (a ++ (r ∷ [])) ≡ values a ++ r.value
-values_snoc a r = values_append a (r ∷ []) ∙ ap (λ (l : List Float). values a ++ l) (append_nil r.value)
+values_snoc a r = values_append a (r ∷ []) ∙ ap (λ (l : List Float). values a ++ l) (append-nil r.value)
 
 pub length_timestamps : (a : List Reading) → length (timestamps a) ≡ length a
 length_timestamps [] = refl
@@ -150,4 +150,4 @@ module _ {A : Type 0} where
 
   pub overwrite_fresh : (n : ℕ) (a : A) (x : List A) → length x ≤ n → overwrite (last_n n (replicate n a ++ [])) x ≡ last_n n (replicate n a ++ x)
   overwrite_fresh n a x h =
-      ap (λ (l : List A). overwrite l x) (ap (last_n n) (append_nil (replicate n a)) ∙ last_n_all n (replicate n a) (length-replicate n a)) ∙ overwrite_zeros n a x h
+      ap (λ (l : List A). overwrite l x) (ap (last_n n) (append-nil (replicate n a)) ∙ last_n_all n (replicate n a) (length-replicate n a)) ∙ overwrite_zeros n a x h

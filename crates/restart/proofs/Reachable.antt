@@ -4,14 +4,14 @@ use native.Mathlib.Nat.{suc-mul, zero-mul}
 use native.Mathlib.Omega.{arith}
 use mathlib.Core.Path.{◌≡◌, refl, sym, ap, ◌∙◌, subst}
 use mathlib.Core.Bool.{Bool, true, false, ◌&&◌, ◌||◌, cond, true≢false}
-use mathlib.Core.List.{List, [], ◌∷◌, ◌++◌, append_assoc, append_nil}
+use mathlib.Core.List.{List, [], ◌∷◌, ◌++◌, append_assoc, append-nil}
 use mathlib.Core.Option.{Option, none, some}
 use mathlib.Core.Logic.{◌⊎◌, inl, inr}
 use lib.Dec.{leb, ltb, eqb}
 use lib.ListN.{length, drop, replicate, length-append, length-replicate}
 use lib.Ieee.{Float, binary32, binary64}
 use lib.Ieee.Bits.{of_bits-fits}
-use borrow.Author.Tests.{ltb-false, leb-false, eqb-true, eqb-false, not_false}
+use borrow.Author.Tests.{ltb-false, leb-false, eqb-true, eqb-false, not-false}
 use Rattle.restart.specs.Statistics.{Fed}
 use Rattle.restart.specs.History.{Entry, initial_entry, learned_entry, drained_entry, initials, learns, is_drained, only_initials, values, timestamps, seen_of, internal_of, buffer_of, first_and_all, shingled, inputs_of, timestamps_of, each_after, fed_pairs, fed_of, count_of, statistics_of, transforms, points_of, history_state, history_facts, history_refusal, complete, adds, enter, entries_from, entries}
 use Rattle.restart.proofs.Scores.{statistics_fed}
@@ -168,8 +168,8 @@ unfolding rows table learn_full wrong_length
 passed s f l e =
     let c = clear (table s f (post_process l)) refl e in
     record {
-      as_wide = eqb-true _ _ (not_false _ c.0);
-      is_finite = not_false _ c.1.0;
+      as_wide = eqb-true _ _ (not-false _ c.0);
+      is_finite = not-false _ c.1.0;
       not_before = ltb-false _ _ c.1.1.0;
       if_waiting = λ w. leb-false _ _ (rw w at c.1.1.1.1.1.0);
       if_learnt = λ w y ey.
@@ -178,7 +178,7 @@ passed s f l e =
           let n : learn_full s f ≡ false = rw (w, ey) at c.1.1.1.1.1.0 in
           let m : leb seen_limit f.values_seen || leb seen_limit f.internal_timestamp ≡ false = or_right (ltb f.values_seen s.stop && leb count_limit f.count) _ n in
           let o : ltb f.values_seen s.stop && leb count_limit f.count ≡ false = or_left _ _ n in (
-            eqb-true _ _ (not_false _ (rw ey at b)),
+            eqb-true _ _ (not-false _ (rw ey at b)),
             leb-false _ _ (or_left _ _ m),
             leb-false _ _ (or_right (leb seen_limit f.values_seen) _ m),
             λ st. leb-false _ _ (rw st at o),
@@ -188,7 +188,7 @@ passed s f l e =
 -- the statistics are fed, or not
 count_one : (b : Bool) (ps : List Fed) (p : Fed) → (b ≡ true → length ps < count_limit) → length ps ≤ count_limit → length (ps ++ cond b (p ∷ []) []) ≤ count_limit
 count_one true ps p h k = simp length-append (omega (arith, h refl))
-count_one false ps p h k = simp append_nil k
+count_one false ps p h k = simp append-nil k
 
 -- internal 0: nothing after the zeros
 empty : (b : Bool) (ws ls : List Reading) → length ls + cond b (length ws) 0 ≡ 0 → cond b (first_and_all ws) [] ++ ls ≡ []
@@ -272,7 +272,7 @@ module _ (s : Settings) (k>0 : 0 < s.k) (es : List Entry) (v : Inv s es) (g : Go
         points_fit = all_last_n _ (dimension s) (points_of s es ++ transforms s (statistics_of s (drained_entry ∷ es)) (seen_of es) (fed_pairs (initials es)))
             (all_append _ (points_of s es) _ g.points_fit (paired_fit s (statistics_of s (drained_entry ∷ es)) (seen_of es) (initials es) g.sane_w));
         buf_up = tt;
-        line_up = rw (q.no_l, append_nil) (climbs_first (initials es) (rw (buf_is q) at g.buf_up));
+        line_up = rw (q.no_l, append-nil) (climbs_first (initials es) (rw (buf_is q) at g.buf_up));
         finite_buf = refl;
         points_wide = last_n_length (dimension s) _ (simp length-append (omega (arith, g.points_wide)));
         seen_small = g.seen_small;
@@ -386,7 +386,7 @@ module _ (s : Settings) (ok : Valid s) (es : List Entry) (v : Inv s es) (g : Goo
     internal_fits = g.internal_small;
     count_fits = g.count_small;
     times_climb = climbs_last_n s.k (replicate s.k 0 ++ timestamps (shingled es)) (climbs_zeros s.k (timestamps (shingled es)) g.line_up);
-    times_zero = λ z. rw (empty_line es z, append_nil) (last_n_all s.k (replicate s.k 0) (length-replicate s.k 0));
+    times_zero = λ z. rw (empty_line es z, append-nil) (last_n_all s.k (replicate s.k 0) (length-replicate s.k 0));
     initial_long = values_length s.d (buffer_of es) (wide_buf (is_drained es) refl);
     initial_finite = g.finite_buf;
     initial_climb = g.buf_up;

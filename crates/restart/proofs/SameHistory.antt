@@ -1,7 +1,7 @@
 -- The history read from its oldest entry is the history.
 use mathlib.Core.Path.{◌≡◌, refl, sym, ap, ◌∙◌}
 use mathlib.Core.Bool.{Bool, true, false, cond}
-use mathlib.Core.List.{List, [], ◌∷◌, ◌++◌, append_assoc, append_nil, reverse, reverse-cons}
+use mathlib.Core.List.{List, [], ◌∷◌, ◌++◌, append_assoc, append-nil, reverse, reverse-cons}
 use lib.ListN.{replicate}
 use lib.Ieee.{Float}
 use Rattle.restart.specs.Statistics.{Fed}
@@ -32,27 +32,27 @@ stands_append (learned_entry x t y ∷ a) b = stands_append a b
 stands_append (drained_entry ∷ a) b = refl
 
 fed_snoc : (s : Settings) (pre es : List Entry) (e : Entry) → fed_from s pre (es ++ (e ∷ [])) ≡ fed_from s pre es ++ fed_by s (pre ++ es) e
-fed_snoc s pre [] e = append_nil (fed_by s pre e) ∙ ap (λ (l : List Entry). fed_by s l e) (sym (append_nil pre))
+fed_snoc s pre [] e = append-nil (fed_by s pre e) ∙ ap (λ (l : List Entry). fed_by s l e) (sym (append-nil pre))
 fed_snoc s pre (c ∷ es) e =
     ap (λ (l : List Fed). fed_by s pre c ++ l) (fed_snoc s (pre ++ (c ∷ [])) es e ∙ ap (λ (l : List Entry). fed_from s (pre ++ (c ∷ [])) es ++ fed_by s l e) (append_assoc pre (c ∷ []) es))
     ∙ sym (append_assoc (fed_by s pre c) (fed_from s (pre ++ (c ∷ [])) es) (fed_by s (pre ++ (c ∷ es)) e))
 
 points_snoc : (s : Settings) (pre : List Entry) (p : List Float) (es : List Entry) (e : Entry) → points_from s pre p (es ++ (e ∷ [])) ≡ points_by s (pre ++ es) (points_from s pre p es) e
-points_snoc s pre p [] e = ap (λ (l : List Entry). points_by s l p e) (sym (append_nil pre))
+points_snoc s pre p [] e = ap (λ (l : List Entry). points_by s l p e) (sym (append-nil pre))
 points_snoc s pre p (c ∷ es) e =
     points_snoc s (pre ++ (c ∷ [])) (points_by s pre p c) es e ∙ ap (λ (l : List Entry). points_by s l (points_from s (pre ++ (c ∷ [])) (points_by s pre p c) es) e) (append_assoc pre (c ∷ []) es)
 
 same_W : (es : List Entry) → Ws (reverse es) ≡ initials es
 same_W [] = refl
 same_W (initial_entry x t ∷ es) = ap Ws (reverse-cons (initial_entry x t) es) ∙ Ws-append (reverse es) (initial_entry x t ∷ []) ∙ ap (λ (l : List Reading). l ++ (reading x t ∷ [])) (same_W es)
-same_W (learned_entry x t y ∷ es) = ap Ws (reverse-cons (learned_entry x t y) es) ∙ Ws-append (reverse es) (learned_entry x t y ∷ []) ∙ append_nil (Ws (reverse es)) ∙ same_W es
-same_W (drained_entry ∷ es) = ap Ws (reverse-cons drained_entry es) ∙ Ws-append (reverse es) (drained_entry ∷ []) ∙ append_nil (Ws (reverse es)) ∙ same_W es
+same_W (learned_entry x t y ∷ es) = ap Ws (reverse-cons (learned_entry x t y) es) ∙ Ws-append (reverse es) (learned_entry x t y ∷ []) ∙ append-nil (Ws (reverse es)) ∙ same_W es
+same_W (drained_entry ∷ es) = ap Ws (reverse-cons drained_entry es) ∙ Ws-append (reverse es) (drained_entry ∷ []) ∙ append-nil (Ws (reverse es)) ∙ same_W es
 
 same_L : (es : List Entry) → Ls (reverse es) ≡ learns es
 same_L [] = refl
-same_L (initial_entry x t ∷ es) = ap Ls (reverse-cons (initial_entry x t) es) ∙ Ls-append (reverse es) (initial_entry x t ∷ []) ∙ append_nil (Ls (reverse es)) ∙ same_L es
+same_L (initial_entry x t ∷ es) = ap Ls (reverse-cons (initial_entry x t) es) ∙ Ls-append (reverse es) (initial_entry x t ∷ []) ∙ append-nil (Ls (reverse es)) ∙ same_L es
 same_L (learned_entry x t y ∷ es) = ap Ls (reverse-cons (learned_entry x t y) es) ∙ Ls-append (reverse es) (learned_entry x t y ∷ []) ∙ ap (λ (l : List Reading). l ++ (reading x t ∷ [])) (same_L es)
-same_L (drained_entry ∷ es) = ap Ls (reverse-cons drained_entry es) ∙ Ls-append (reverse es) (drained_entry ∷ []) ∙ append_nil (Ls (reverse es)) ∙ same_L es
+same_L (drained_entry ∷ es) = ap Ls (reverse-cons drained_entry es) ∙ Ls-append (reverse es) (drained_entry ∷ []) ∙ append-nil (Ls (reverse es)) ∙ same_L es
 
 or_else_lem : (b c : Bool) → c ≡ false → cond b true c ≡ b
 or_else_lem true c h = refl
@@ -70,7 +70,7 @@ same_F (drained_entry ∷ es) = ap stands (reverse-cons drained_entry es) ∙ st
 
 same_fed_by : (s : Settings) (es : List Entry) (e : Entry) → fed_of s es ++ fed_by s (reverse es) e ≡ fed_of s (e ∷ es)
 unfolding seen_of newest_reading inputs_of timestamps_of shingled
-same_fed_by s es (initial_entry x t) = append_nil (fed_of s es)
+same_fed_by s es (initial_entry x t) = append-nil (fed_of s es)
 same_fed_by s es (learned_entry x t y) = rw (same_W es, same_L es, same_F es)
 same_fed_by s es drained_entry = rw (same_W es)
 

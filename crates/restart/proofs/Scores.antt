@@ -2,7 +2,7 @@
 use Prim.Native.Nat.{ℕ, zero, suc, ◌+◌, ◌-◌, ◌*◌, ◌≤◌, ◌<◌}
 use mathlib.Core.Path.{◌≡◌, refl, sym, ap, ◌∙◌}
 use mathlib.Core.Bool.{Bool, true, false}
-use mathlib.Core.List.{List, [], ◌∷◌, ◌++◌, map, append_nil}
+use mathlib.Core.List.{List, [], ◌∷◌, ◌++◌, map, append-nil}
 use native.Mathlib.Omega.{arith}
 use native.Mathlib.Numerals.{add-one}
 use borrow.Author.Tests.{ltb-true, ltb-false}
@@ -366,7 +366,7 @@ module _ (s : Settings) (ps : List Fed) where
       ∙ take_line fed_list b fed_count (5 * s.d + 2) (5 * s.d + 3) _ (omega arith) (omega arith)
       ∙ take_line fed_list b fed_count (5 * s.d + 3) (5 * s.d + 4) _ (omega arith) (omega arith)
       ∙ take_line fed_list b fed_count (5 * s.d + 4) (5 * s.d + 5) [] (omega arith) (omega arith)
-      ∙ append_nil (take (3 * (5 * s.d + 5)) fed_list)
+      ∙ append-nil (take (3 * (5 * s.d + 5)) fed_list)
       ∙ take_all (3 * (5 * s.d + 5)) fed_list (omega arith))
 
   pub statistics_fed : statistics_from s ps ≡ feed_each s 0 (replicate (statistics_length s) zero64) ps

@@ -3,13 +3,13 @@ use Prim.Native.Nat.{ℕ, zero, suc, ◌+◌, ◌*◌, ◌≤◌, ◌<◌}
 use native.Mathlib.Nat.{add-zero}
 use native.Mathlib.Omega.{arith}
 use mathlib.Core.Path.{◌≡◌, refl, sym, ap, ◌∙◌}
-use mathlib.Core.Bool.{Bool, true, false, not, ◌&&◌, cond, true≢false, false≢true, and_false}
-use mathlib.Core.List.{List, [], ◌∷◌, ◌++◌, append_nil}
+use mathlib.Core.Bool.{Bool, true, false, not, ◌&&◌, cond, true≢false, false≢true, and-false}
+use mathlib.Core.List.{List, [], ◌∷◌, ◌++◌, append-nil}
 use mathlib.Core.Option.{Option, none, some}
 use lib.Dec.{ltb, eqb, eqb-zero-suc, eqb-suc-zero, leb-suc-suc, leb-zero}
 use lib.ListN.{length, replicate, length-append, length-replicate}
 use lib.Ieee.{Float}
-use borrow.Author.Tests.{ltb-true, ltb-false, eqb-true, ne_eqb, not_false}
+use borrow.Author.Tests.{ltb-true, ltb-false, eqb-true, ne_eqb, not-false}
 use Rattle.restart.specs.History.{Entry, initial_entry, learned_entry, drained_entry, initials, learns, is_drained, only_initials, values, timestamps, seen_of, internal_of, buffer_of, shingled, inputs_of, timestamps_of, count_of, statistics_of, history_state, history_facts, history_refusal, complete, adds, enter, entries_from, entries, history_answer, history_answers}
 use Rattle.trcf.specs.Lists.{last_n, null}
 use Rattle.trcf.specs.Types.{normalizes}
@@ -74,9 +74,9 @@ unfolding due complete history_facts seen_of buffer_of
 due_full s es (filling o u z) =
     let q : Unmixed s es = unmixed s es o in
     rw (q.no_f, q.no_l, o, q.long, null_timestamps (initials es), add-zero (length (initials es))) (count_test (initials es) s.start)
-due_full s es (drained_by f m n p) = rw (f, and_false) (sym (mixed s es (λ q. true≢false (sym f ∙ q.no_f))))
+due_full s es (drained_by f m n p) = rw (f, and-false) (sym (mixed s es (λ q. true≢false (sym f ∙ q.no_f))))
 due_full s es (plainly f m n p) =
-    rw (f, nil (initials es) n, and_false) (sym (mixed s es (λ q. no_learns s es q p)))
+    rw (f, nil (initials es) n, and-false) (sym (mixed s es (λ q. no_learns s es q p)))
 due_full s es (stranded f m n p) =
     rw (ne_eqb (length (initials es) + length (learns es)) s.start (λ h. omega arith)) (sym (mixed s es (λ q. no_learns s es q p)))
 
@@ -176,7 +176,7 @@ module _ (s : Settings) (k>0 : 0 < s.k) where
   change_at : (es : List Entry) → Inv s es → (c : Call) → history_refusal s es c ≡ 0 → Kept (change (history_state s es) c) (adds s es c)
   unfolding change adds history_refusal rows table history_state
   change_at es v (shingled_point x t out) e = point_at_lem es v (waiting s (seen_of es)) refl
-  change_at es v (post_process l) e = learn_at_lem es v l (eqb-true _ _ (not_false _ (clear (table s (history_facts s es) (post_process l)) refl e).0)) (waiting s (seen_of es)) refl l.rcf_point refl
+  change_at es v (post_process l) e = learn_at_lem es v l (eqb-true _ _ (not-false _ (clear (table s (history_facts s es) (post_process l)) refl e).0)) (waiting s (seen_of es)) refl l.rcf_point refl
   change_at es v drain e = drain_step es v
   change_at es v (transform x t out) e = (refl, v)
   change_at es v (invert_extrapolation f) e = (refl, v)
@@ -218,7 +218,7 @@ module _ (s : Settings) (k>0 : 0 < s.k) where
   }
     where
       zeros : {A : Type 0} (n : ℕ) (a : A) → replicate n a ≡ last_n n (replicate n a ++ [])
-      zeros n a = sym (ap (last_n n) (append_nil (replicate n a)) ∙ last_n_all n (replicate n a) (length-replicate n a))
+      zeros n a = sym (ap (last_n n) (append-nil (replicate n a)) ∙ last_n_all n (replicate n a) (length-replicate n a))
 
   pub runs : (es : List Entry) → Inv s es → (cs : List Call) → Kept (run (history_state s es) cs) (entries_from s es cs)
   runs es v [] = (refl, v)

@@ -6,7 +6,7 @@ use mathlib.Core.Path.{◌≡◌, refl, sym, ap, ◌∙◌}
 use native.Mathlib.Numerals.{add-one}
 use native.Mathlib.Omega.{arith}
 use native.Mathlib.Nat.{div-add-mod'}
-use borrow.Author.Tests.{eqb-true, not_false}
+use borrow.Author.Tests.{eqb-true, not-false}
 use lib.Dec.{ltb, eqb}
 use lib.ListN.{length, get_or, drop, drop_of_length-le}
 use lib.Seq.{drop-cons}
@@ -81,13 +81,13 @@ unfolding cells_misshapen
 shaped d cells marks fixed some narrow e =
     let h = either_not (not (eqb (cells % d) 0)) (not (eqb marks cells) || not (eqb fixed d)) e in
     let k = either_not (not (eqb marks cells)) (not (eqb fixed d)) h.1 in
-    let z : cells % d ≡ 0 = eqb-true (cells % d) 0 (not_false (eqb (cells % d) 0) h.0) in
+    let z : cells % d ≡ 0 = eqb-true (cells % d) 0 (not-false (eqb (cells % d) 0) h.0) in
     record {
       some = some;
       narrow = narrow;
       whole = omega (arith, div-add-mod' cells d);
-      marked = eqb-true marks cells (not_false (eqb marks cells) k.0);
-      fixes = eqb-true fixed d (not_false (eqb fixed d) k.1);
+      marked = eqb-true marks cells (not-false (eqb marks cells) k.0);
+      fixes = eqb-true fixed d (not-false (eqb fixed d) k.1);
     }
 
 -- ---- how a call answers: by the number of its refusal, 0 for none

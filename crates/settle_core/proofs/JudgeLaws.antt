@@ -6,7 +6,7 @@ use mathlib.Core.Path.{◌≡◌, refl, sym, ap, ◌∙◌}
 use mathlib.Core.Bool.{Bool, true, false, cond, ◌&&◌}
 use mathlib.Core.List.{List, [], ◌∷◌, ◌++◌, map}
 use mathlib.Core.Option.{Option, none, some}
-use borrow.Author.Tests.{eqb-true, not_false}
+use borrow.Author.Tests.{eqb-true, not-false}
 use lib.Dec.{ltb, eqb}
 use lib.ListN.{length, take, drop, set, get_or, replicate}
 use lib.Seq.{take-suc-set, length-take-le}
@@ -56,7 +56,7 @@ and_first false b h = h
 weights_long : (s : Settings) → settings_row s ≡ 0 → length s.weights ≡ s.d
 weights_long s e =
     let c = rows_of s e in
-    eqb-true _ _ (and_first (eqb (length s.weights) s.d) _ (not_false _ c.1.1.1.1.0))
+    eqb-true _ _ (and_first (eqb (length s.weights) s.d) _ (not-false _ c.1.1.1.1.0))
 
 module _ (b : PreprocessorBuilder) (w : Line) (n m : ℕ) (en : n ≡ kept_count w.count) (em : m ≡ code_count b.input_dimensions) (hm : m ≤ 16) where
   abbrev s : Settings

@@ -5,7 +5,7 @@ use native.Mathlib.Numerals.{add-one}
 use native.Mathlib.Nat.{add-zero}
 use mathlib.Core.Path.{◌≡◌, refl, sym, ap, ◌∙◌, subst}
 use mathlib.Core.Bool.{Bool, true, false, cond}
-use mathlib.Core.List.{List, [], ◌∷◌, ◌++◌, map, append_nil, append_assoc}
+use mathlib.Core.List.{List, [], ◌∷◌, ◌++◌, map, append-nil, append_assoc}
 use mathlib.Core.Option.{none, some}
 use borrow.Author.Tests.{le-ltb}
 use lib.ListN.{length, take, drop, get_or, length-append, length-drop, drop_of_length-le}
@@ -75,7 +75,7 @@ module _ (out : List ℕ) (at : ℕ) (t bytes : List ℕ) (row n : ℕ) (room : 
       let y : length (drop at out) ≤ length out - at = simp length-drop (omega arith) in
       let z : drop (length out - at) (drop at out) ≡ [] = drop_of_length-le (drop at out) y in
       (λ j. take at out ++ (b j ++ z j))
-      ∙ ap (λ (l : List ℕ). take at out ++ l) (append_nil (t ++ drop (length t) (drop at out)))
+      ∙ ap (λ (l : List ℕ). take at out ++ l) (append-nil (t ++ drop (length t) (drop at out)))
       ∙ ap (λ (l : List ℕ). take at out ++ (t ++ l)) (drop-drop (length t) at out)
       ∙ sym (append_assoc (take at out) t (drop (at + length t) out))
       ∙ sym (sets-eq t out at (omega arith))
@@ -92,7 +92,7 @@ module _ (out : List ℕ) (at : ℕ) (t bytes : List ℕ) (row n : ℕ) (room : 
 
 lines_snoc : (k : ℕ) (a : List Settings) (s : Settings) (g : Signal)
     → line_texts k (a ++ (s ∷ [])) g ≡ line_texts k a g ++ noted_line (k + length a) g.readings (run_of s g).noted
-lines_snoc k [] s g = append_nil _ ∙ ap (λ (i : ℕ). noted_line i g.readings (run_of s g).noted) (sym (add-zero k))
+lines_snoc k [] s g = append-nil _ ∙ ap (λ (i : ℕ). noted_line i g.readings (run_of s g).noted) (sym (add-zero k))
 lines_snoc k (x ∷ a) s g =
     let e : suc k + length a ≡ k + suc (length a) = omega arith in
     ap (λ (l : List ℕ). noted_line k g.readings (run_of x g).noted ++ l)

@@ -3,7 +3,7 @@ use Prim.Native.Nat.{ℕ, zero, suc, ◌+◌, ◌≤◌, ◌<◌}
 use native.Mathlib.Omega.{arith}
 use mathlib.Core.Path.{◌≡◌, refl, sym, ap, ◌∙◌, subst}
 use mathlib.Core.Bool.{Bool, true, false}
-use mathlib.Core.List.{List, [], ◌∷◌, ◌++◌, map, append_nil}
+use mathlib.Core.List.{List, [], ◌∷◌, ◌++◌, map, append-nil}
 use mathlib.Core.Option.{Option, none, some}
 use lib.ListN.{length, take, drop, replicate, length-append}
 use lib.Seq.{take_at}
@@ -41,7 +41,7 @@ codes_pass m l v z e = (checked_some all_codes (list_line as_whole 99 104 110 m 
 -- a list as long as the one that it is laid over
 pub over_all_lem : (w : List ℕ) → length w ≡ 16 → over (replicate 16 0) w ≡ w
 unfolding over
-over_all_lem w e = rw e (append_nil w)
+over_all_lem w e = rw e (append-nil w)
 
 -- a list in front of others
 pub front_fits : (v z : List ℕ) (d : ℕ) → length v ≡ d → d ≤ length (v ++ z)

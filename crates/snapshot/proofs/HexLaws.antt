@@ -4,7 +4,7 @@ use native.Mathlib.Nat.{mod-lt, mul-le-mul_right, pow-succ', mul_assoc, mul_comm
 use native.Mathlib.Omega.{arith}
 use mathlib.Core.Path.{◌≡◌, refl, sym, ap, ◌∙◌, subst}
 use mathlib.Core.Bool.{Bool, true, false, not, ◌&&◌, ◌||◌, cond, false≢true}
-use mathlib.Core.List.{List, [], ◌∷◌, ◌++◌, append_nil, append_assoc}
+use mathlib.Core.List.{List, [], ◌∷◌, ◌++◌, append-nil, append_assoc}
 use mathlib.Core.Logic.{◌⊎◌, inl, inr}
 use mathlib.Core.Option.{Option, none, some, some-injective, none-ne-some}
 use lib.ListN.{length, take, drop, get_or, drop_of_length-le, length-append}
@@ -12,7 +12,7 @@ use lib.Seq.{drop-cons}
 use lib.Dec.{T, leb, ltb, eqb}
 use lib.Ieee.{Float, nan, inf, fin, Format, div, binary32, binary64, of_bits, to_bits, nan_bits, is_nan, fits, top}
 use lib.Ieee.Bits.{of_bits-to_bits, to_bits-lt, of_bits-fits, to_bits-of_bits, nan_bits_is, nan_bits_above, is_true}
-use borrow.Author.Tests.{ltb-true, ltb-false, leb-true, leb-false, eqb-true, lt-ltb, le-ltb, le-leb, lt-leb, ne_eqb, eq-eqb, not_true, eqb-false}
+use borrow.Author.Tests.{ltb-true, ltb-false, leb-true, leb-false, eqb-true, lt-ltb, le-ltb, le-leb, lt-leb, ne_eqb, eq-eqb, not-true, eqb-false}
 use Rattle.trcf.specs.Settings.{whole_max}
 use Rattle.snapshot.specs.Text.{digit, hex, width, float}
 use Rattle.snapshot.specs.Read.{same, as_float, float_from}
@@ -86,7 +86,7 @@ hex_snoc w m d h =
     rw (q, r)
 
 hscan_hex : (w m n : ℕ) (cs : List ℕ) → hscan m cs ≡ some n → hex (w + length cs) n ≡ hex w m ++ cs
-hscan_hex w m n [] e = let q : m ≡ n = some-injective m n e in rw (add-zero w, append_nil, q)
+hscan_hex w m n [] e = let q : m ≡ n = some-injective m n e in rw (add-zero w, append-nil, q)
 hscan_hex w m n (b ∷ bs) e =
     let s = hscan_cons m b n bs e in
     ap (λ (k : ℕ). hex k n) (add-suc w (length bs) ∙ sym (suc-add w (length bs)))

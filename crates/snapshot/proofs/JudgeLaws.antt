@@ -4,7 +4,7 @@ use native.Mathlib.Omega.{arith}
 use native.Mathlib.Numerals.{add-one}
 use mathlib.Core.Path.{◌≡◌, refl, sym, ap, ◌∙◌, subst}
 use mathlib.Core.Bool.{Bool, true, false, cond}
-use mathlib.Core.List.{List, [], ◌∷◌, ◌++◌, append_assoc, append_nil}
+use mathlib.Core.List.{List, [], ◌∷◌, ◌++◌, append_assoc, append-nil}
 use mathlib.Core.Option.{Option, none, some}
 use lib.ListN.{length, take, drop, get_or, set, drop_of_length-le, length-drop, length-set, take-append-drop}
 use lib.Seq.{drop-cons, drop-drop, take-suc-set, take_all, take-length, length-take-le, drop-set-lt}
@@ -202,7 +202,7 @@ module _ {A : Type 0} (p : List ℕ → Option A) where
 
     left_of : good_fields p (n - i) z ≡ [] → out ≡ over old (good_fields p n l)
     left_of e =
-        let q : good_fields p n l ≡ take i out = s.came ∙ ap (λ (u : List A). take i out ++ u) e ∙ append_nil (take i out) in
+        let q : good_fields p n l ≡ take i out = s.came ∙ ap (λ (u : List A). take i out ++ u) e ∙ append-nil (take i out) in
         let k : length (take i out) ≡ i = length-take-le i out (omega (arith, s.some_left_lem, s.long)) in
         sym (take-append-drop i out) ∙ ap (λ (u : List A). take i out ++ u) s.behind ∙ over_part old (take i out) i k ∙ ap (over old) (sym q)
 
@@ -219,7 +219,7 @@ module _ {A : Type 0} (p : List ℕ → Option A) where
     sofar_done e =
         let m : n - i ≡ 0 = omega arith in
         let q : take i out ≡ out = take_all i out (omega (arith, s.long)) in
-        sym (s.so ∙ rw (m, q) (ap (λ (w : List A). some (w, z)) (append_nil out)))
+        sym (s.so ∙ rw (m, q) (ap (λ (w : List A). some (w, z)) (append-nil out)))
 
 -- ---- by the kind of the field
 

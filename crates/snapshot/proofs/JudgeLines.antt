@@ -5,7 +5,7 @@ use mathlib.Core.Path.{◌≡◌, refl, sym, ap, ◌∙◌, subst}
 use mathlib.Core.Bool.{Bool, true, false, cond}
 use mathlib.Core.List.{List, [], ◌∷◌, ◌++◌, map, append_assoc}
 use mathlib.Core.Option.{Option, none, some, some-injective, none-ne-some}
-use lib.ListN.{length, take, drop, length-append, length_map, take-append-drop}
+use lib.ListN.{length, take, drop, length-append, length-map, take-append-drop}
 use lib.Seq.{take_at, drop_at}
 use lib.Dec.{T, eqb, leb}
 use lib.Ieee.{Float, Format, binary32, binary64, fits}

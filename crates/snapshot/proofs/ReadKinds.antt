@@ -10,7 +10,7 @@ use lib.Dec.{T, leb, ltb, eqb}
 use lib.Ieee.{Float, Format, binary32, binary64, fits, fin, eq}
 use lib.Ieee.Bits.{is_true}
 use lib.IntN.{pos}
-use borrow.Author.Tests.{ltb-true, leb-true, eqb-true, eqb-false, lt-ltb, le-leb, eq-eqb, ne_eqb, not_true, not_false}
+use borrow.Author.Tests.{ltb-true, leb-true, eqb-true, eqb-false, lt-ltb, le-leb, eq-eqb, ne_eqb, not-true, not-false}
 use Rattle.common.specs.Deviation.{count_limit, outside_unit}
 use Rattle.trcf.specs.Types.{is_none, method_number, mode_letter}
 use Rattle.trcf.specs.Settings.{Settings, Valid, Fits, Whole, settings_table, waiting, whole_max, code_max, All, imputes, all_one}
@@ -146,10 +146,10 @@ pub wgt_tests : (s : Settings) → Valid s → Hold (not (is_none s.method && no
 wgt_tests s h = (to_not _ (rows_of s h.unrefused).1.1.1.1.1.1.1.1.0, tt)
 
 pub wgt_long : (s : Settings) → Valid s → length s.weights ≡ s.d
-wgt_long s h = eqb-true _ _ (and_left _ _ (not_false _ (rows_of s h.unrefused).1.1.1.1.0))
+wgt_long s h = eqb-true _ _ (and_left _ _ (not-false _ (rows_of s h.unrefused).1.1.1.1.0))
 
 pub chn_long : (s : Settings) → Valid s → length s.codes ≡ s.d
-chn_long s h = eqb-true _ _ (and_right (eqb (length s.weights) s.d) _ (not_false _ (rows_of s h.unrefused).1.1.1.1.0))
+chn_long s h = eqb-true _ _ (and_right (eqb (length s.weights) s.d) _ (not-false _ (rows_of s h.unrefused).1.1.1.1.0))
 
 -- lines 1 to 3 make settings that no row refuses
 pub valid_of : (s : Settings) (v : List Float) (cs : List ℕ) → Hold (set_kind.tests s) → Hold ((wgt_kind s).tests v) → Hold ((chn_kind s).tests cs) → Valid (with_lists s v cs)

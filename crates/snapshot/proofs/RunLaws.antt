@@ -4,7 +4,7 @@ use native.Mathlib.Omega.{arith}
 use native.Mathlib.Numerals.{add-one}
 use native.Mathlib.Nat.{mul-le-mul, mul-le-mul_right, add-mul, one-mul, zero-mul}
 use mathlib.Core.Path.{◌≡◌, refl, sym, ap, ◌∙◌}
-use mathlib.Core.List.{List, [], ◌∷◌, ◌++◌, append_assoc, append_nil}
+use mathlib.Core.List.{List, [], ◌∷◌, ◌++◌, append_assoc, append-nil}
 use mathlib.Core.Option.{Option, none, some}
 use lib.ListN.{length, take, drop, set, length-append, length-set}
 use lib.Seq.{take_at, take_all, length-take-le, take-suc-set}
@@ -65,7 +65,7 @@ module _ {A : Type 0} where
       pub ahead_done : i ≡ n → many p f 0 n l ≡ ran u z
       ahead_done h =
           let m : n - i ≡ 0 = omega (arith, h) in
-          s.so ∙ ap (λ (k : ℕ). after_lines i (fronts u (many p f q k z))) m ∙ ap (λ (v : List A). ran v z) (append_nil u)
+          s.so ∙ ap (λ (k : ℕ). after_lines i (fronts u (many p f q k z))) m ∙ ap (λ (v : List A). ran v z) (append-nil u)
 
 -- ---- what is kept of them
 
@@ -149,7 +149,7 @@ module _ (n : ℕ) (l : List ℕ) (out : List Float) (i : ℕ) (z : List ℕ) (s
         read = s.read ++ (v ∷ []);
         ahead = ahead_step dev_fields no_carry n l s.read i 0 z s.ahead h v y (q ∙ line_is h);
         kept = block_kept 3 i n out s.long h v e ∙ ap (λ (u : List Float). u ++ v) s.kept
-            ∙ sym (flat_append s.read (v ∷ []) ∙ ap (λ (u : List Float). flat s.read ++ u) (append_nil v));
+            ∙ sym (flat_append s.read (v ∷ []) ∙ ap (λ (u : List Float). flat s.read ++ u) (append-nil v));
         long = block_long 3 i n out s.long h v e;
         few = s.few;
       }
@@ -227,7 +227,7 @@ module _ (d n : ℕ) (l : List ℕ) (values : List Float) (times : List ℕ) (i 
       record {
         so = unkept_step d n l i q z s.so h (length Part) r y (block_part d i n values s.long h) k;
         kept = block_kept d i n values s.long h r.value e ∙ ap (λ (u : List Float). u ++ r.value) s.kept
-            ∙ sym (values_append s.so.read (r ∷ []) ∙ ap (λ (u : List Float). reading_values s.so.read ++ u) (append_nil r.value));
+            ∙ sym (values_append s.so.read (r ∷ []) ∙ ap (λ (u : List Float). reading_values s.so.read ++ u) (append-nil r.value));
         kept_times = ap (λ (m : ℕ). take m (set times i r.time)) (add-one i) ∙ take-suc-set times i r.time (omega (arith, s.long_times, h))
             ∙ ap (λ (u : List ℕ). u ++ (r.time ∷ [])) s.kept_times ∙ sym (times_append s.so.read (r ∷ []));
         long = block_long d i n values s.long h r.value e;

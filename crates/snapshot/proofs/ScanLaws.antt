@@ -4,12 +4,12 @@ use native.Mathlib.Nat.{mod-lt}
 use native.Mathlib.Omega.{arith}
 use mathlib.Core.Path.{◌≡◌, refl, sym, ap, ◌∙◌, subst}
 use mathlib.Core.Bool.{Bool, true, false, not, ◌&&◌, ◌||◌, cond, false≢true}
-use mathlib.Core.List.{List, [], ◌∷◌, ◌++◌, append_nil, append_assoc}
+use mathlib.Core.List.{List, [], ◌∷◌, ◌++◌, append-nil, append_assoc}
 use mathlib.Core.Option.{Option, none, some, some-injective, none-ne-some}
 use lib.ListN.{length, take, drop, get_or, drop_of_length-le}
 use lib.Seq.{drop-cons}
 use lib.Dec.{leb, ltb, eqb}
-use borrow.Author.Tests.{ltb-true, ltb-false, leb-true, eqb-true, lt-ltb, le-ltb, le-leb, lt-leb, ne_eqb, not_true, eqb-false}
+use borrow.Author.Tests.{ltb-true, ltb-false, leb-true, eqb-true, lt-ltb, le-ltb, le-leb, lt-leb, ne_eqb, not-true, eqb-false}
 use Rattle.trcf.specs.Settings.{whole_max}
 use Rattle.snapshot.specs.Text.{decimal, whole}
 use Rattle.snapshot.specs.Read.{whole_from, same, as_whole}
@@ -74,7 +74,7 @@ scan_cons a b n bs h = go (digits b && leb (10 * a + (b - 48)) whole_max) refl
     go false e = absurd (none-ne-some n (rw e at h))
 
 scan_more : (m n : ℕ) (cs : List ℕ) → 0 < m → m ≤ whole_max → scan m cs ≡ some n → (whole n ≡ whole m ++ cs) × (n ≤ whole_max)
-scan_more m n [] h k e = let q : m ≡ n = some-injective m n e in (rw (append_nil, q), rw q at k)
+scan_more m n [] h k e = let q : m ≡ n = some-injective m n e in (rw (append-nil, q), rw q at k)
 scan_more m n (b ∷ bs) h k e =
     let s = scan_cons m b n bs e in
     let i = scan_more (10 * m + (b - 48)) n bs (omega arith) s.2 s.3 in
@@ -90,7 +90,7 @@ scan_whole (b ∷ []) n l e =
     (whole_digit n (omega arith) ∙ rw r, omega arith)
 scan_whole (b ∷ x ∷ xs) n l e =
     let s = scan_cons 0 b n (x ∷ xs) e in
-    let z : b ≡ 48 → ⊥ = eqb-false _ _ (not_true _ l) in
+    let z : b ≡ 48 → ⊥ = eqb-false _ _ (not-true _ l) in
     let q : 48 + (10 * 0 + (b - 48)) ≡ b = omega arith in
     let i = scan_more (10 * 0 + (b - 48)) n (x ∷ xs) (omega arith) s.2 s.3 in
     (i.0 ∙ ap (λ (l : List ℕ). l ++ (x ∷ xs)) (whole_digit (10 * 0 + (b - 48)) (omega arith) ∙ ap (λ (y : ℕ). y ∷ []) q), i.1)

@@ -5,7 +5,7 @@ use mathlib.Core.Path.{◌≡◌, refl, ap, ◌∙◌}
 use mathlib.Core.Bool.{Bool, true, false, cond}
 use mathlib.Core.List.{List, [], ◌∷◌, ◌++◌, map}
 use lib.Dec.{T, eqb, eqb-zero-suc, eqb-suc-zero, eqb-suc-suc}
-use lib.ListN.{length, length-append, length_map}
+use lib.ListN.{length, length-append, length-map}
 use Rattle.stranding.specs.Orders.{Kind, point_kind, learn_kind, drain_kind, orders, same_order}
 use Rattle.stranding.specs.Counts.{count}
 
@@ -29,7 +29,7 @@ count_none (x ∷ xs) = omega (arith, count_none xs)
 -- THEOREM: there are 3^n of them
 pub orders_long : (n : ℕ) → length (orders n) ≡ 3 ^ n
 orders_long zero = refl
-orders_long (suc n) = simp (length-append, length_map) (omega (arith, orders_long n))
+orders_long (suc n) = simp (length-append, length-map) (omega (arith, orders_long n))
 
 -- `same_order` is equality
 pub same_order_lem : (w v : List Kind) → T (same_order w v) → w ≡ v

@@ -4,13 +4,13 @@ use native.Mathlib.Nat.{add-zero}
 use native.Mathlib.Numerals.{add-one}
 use native.Mathlib.Omega.{arith}
 use mathlib.Core.Path.{◌≡◌, refl, sym, ap, ◌∙◌}
-use mathlib.Core.Bool.{Bool, true, false, cond, not, ◌&&◌, true≢false, and_false, and_true}
+use mathlib.Core.Bool.{Bool, true, false, cond, not, ◌&&◌, true≢false, and-false, and-true}
 use mathlib.Core.List.{List, [], ◌∷◌}
 use mathlib.Core.Option.{some}
 use lib.Dec.{ltb, eqb}
 use lib.ListN.{length, length-append}
 use lib.Ieee.{Float}
-use borrow.Author.Tests.{lt-ltb, le-ltb, eqb-true, not_true, ltb-false}
+use borrow.Author.Tests.{lt-ltb, le-ltb, eqb-true, not-true, ltb-false}
 use Rattle.common.specs.Deviation.{count_limit}
 use Rattle.trcf.specs.Lists.{null}
 use Rattle.trcf.specs.Types.{normalizes}
@@ -53,7 +53,7 @@ module _ (s : Settings) (m : normalizes s.method ≡ true) (pos : 0 < s.start) (
 
   complete_filling : (es : List Entry) → only_initials es ≡ true → complete s es ≡ eqb (length (initials es)) s.start
   unfolding complete
-  complete_filling es o = let u = unmixed s es o in rw (o, lt-ltb 0 s.start pos, u.long) (and_true _)
+  complete_filling es o = let u = unmixed s es o in rw (o, lt-ltb 0 s.start pos, u.long) (and-true _)
 
   complete_drained : (es : List Entry) → is_drained es ≡ true → complete s es ≡ false
   complete_drained es f = is_false (complete s es) (λ h. true≢false (sym f ∙ (unmixed s es (is_full s es h).0).no_f))
@@ -114,7 +114,7 @@ module _ (s : Settings) (m : normalizes s.method ≡ true) (pos : 0 < s.start) (
   never_full es v = rw (due_full s es v) (go (complete s es) refl)
     where
       go : (b : Bool) → complete s es ≡ b → complete s es && drain_full s (history_facts s es) ≡ false
-      go true h = rw (room es (unmixed s es (is_full s es h).0), and_false)
+      go true h = rw (room es (unmixed s es (is_full s es h).0), and-false)
       go false h = rw h
 
   not_met : (es : List Entry) → Phase s es → complete s es ≡ true → history_refusal s es drain ≡ 0
@@ -122,8 +122,8 @@ module _ (s : Settings) (m : normalizes s.method ≡ true) (pos : 0 < s.start) (
   not_met es v h =
       let f = history_facts s es in
       let d : eqb f.values_seen s.start && not (null f.initial_timestamps) ≡ true = unfold isDue in (due_full s es v ∙ h) in
-      let n : null f.initial_timestamps ≡ false = not_true _ (and_right (eqb f.values_seen s.start) _ d) in
-      rw (n, and_false, never_full es v)
+      let n : null f.initial_timestamps ≡ false = not-true _ (and_right (eqb f.values_seen s.start) _ d) in
+      rw (n, and-false, never_full es v)
 
   drain_adds : (es : List Entry) → Phase s es → (b : Bool) → complete s es ≡ b → enter s es drain ≡ cond b (F ∷ es) es
   unfolding enter adds

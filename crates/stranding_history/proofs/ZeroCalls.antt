@@ -3,7 +3,7 @@ use Prim.Native.Nat.{ℕ, zero, suc, ◌+◌, ◌*◌, ◌≤◌, ◌<◌}
 use native.Mathlib.Nat.{mul-le-mul}
 use native.Mathlib.Omega.{arith}
 use mathlib.Core.Path.{◌≡◌, refl}
-use mathlib.Core.Bool.{Bool, true, false, cond, not, ◌||◌, and_false}
+use mathlib.Core.Bool.{Bool, true, false, cond, not, ◌||◌, and-false}
 use mathlib.Core.List.{List, [], ◌∷◌, ◌++◌}
 use mathlib.Core.Option.{none, some}
 use lib.Dec.{ltb, leb, eqb}
@@ -63,13 +63,13 @@ module _ (s : Settings) (m : normalizes s.method ≡ true) (pos : 0 < s.start) (
 
   row_28 : before_newest s (history_facts s es) (newest (history_facts s es)) ≡ false
   unfolding before_newest
-  row_28 = rw (row_12, and_false)
+  row_28 = rw (row_12, and-false)
 
   pub point_accepted : history_refusal s es (zero_call s es point_kind) ≡ 0
   unfolding history_refusal rows table
   point_accepted =
       none_refuses (table s (history_facts s es) (zero_call s es point_kind))
-      (wide s.d, (rw (zeros_finite s.d), (row_28, (rw (never_full s m pos few es v, and_false), (rw (roomy (dimension s), and_false), tt)))))
+      (wide s.d, (rw (zeros_finite s.d), (row_28, (rw (never_full s m pos few es v, and-false), (rw (roomy (dimension s), and-false), tt)))))
 
   seen_few : seen_of es ≤ 20
   unfolding seen_of
@@ -94,7 +94,7 @@ module _ (s : Settings) (m : normalizes s.method ≡ true) (pos : 0 < s.start) (
         lt-leb count_limit (count_of s es) (omega (arith, count_few)),
         lt-leb seen_limit (seen_of es) (omega (arith, seen_few)),
         lt-leb seen_limit (internal_of es) (omega (arith, internal_few)),
-        and_false,
+        and-false,
       )
 
   same_either : {A : Type 0} (b : Bool) (x : A) → cond b x x ≡ x
@@ -116,7 +116,7 @@ module _ (s : Settings) (m : normalizes s.method ≡ true) (pos : 0 < s.start) (
 
   row_20 : (waiting_short s (history_facts s es) (zero_learn s es) ≡ false) × (learn_short s (zero_learn s es) ≡ false)
   unfolding waiting_short learn_short
-  row_20 = (rw (roomy (block s), and_false), rw (roomy (block s), and_false))
+  row_20 = (rw (roomy (block s), and-false), rw (roomy (block s), and-false))
 
   pub learn_accepted : history_refusal s es (zero_call s es learn_kind) ≡ 0
   unfolding history_refusal rows table
@@ -128,8 +128,8 @@ module _ (s : Settings) (m : normalizes s.method ≡ true) (pos : 0 < s.start) (
           (
             row_12,
             (
-              rw (row_13, and_false),
-              (rw (row_14, and_false, and_false), (rw (row_18, not_full, same_either), (rw (row_20.0, row_20.1, same_either), tt))),
+              rw (row_13, and-false),
+              (rw (row_14, and-false, and-false), (rw (row_18, not_full, same_either), (rw (row_20.0, row_20.1, same_either), tt))),
             ),
           ),
         ),

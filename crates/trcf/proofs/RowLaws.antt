@@ -1,7 +1,7 @@
 -- The rows of a call over the lists and over their lengths, and what a row 0 says of the head and of what is lent. Assumes nothing.
 use Prim.Native.Nat.{ℕ, zero, suc, ◌*◌, ◌≤◌, ◌<◌}
 use mathlib.Core.Path.{◌≡◌, refl, sym, ap, ◌∙◌}
-use mathlib.Core.Bool.{Bool, true, false, cond, not, not_not, ◌&&◌, ◌||◌}
+use mathlib.Core.Bool.{Bool, true, false, cond, not, not-not, ◌&&◌, ◌||◌}
 use mathlib.Core.List.{List}
 use native.Mathlib.Omega.{arith}
 use borrow.Author.Tests.{ltb-false, leb-false, eqb-true, eqb-false, ne_eqb}
@@ -161,7 +161,7 @@ module _ (h : Preprocessor) (l : Lent) where
   pub spent_is : spent h (length l.initial_timestamps)
       ≡ (eqb (facts (view h l)).values_seen (settings_of h).start && null (facts (view h l)).initial_timestamps)
   unfolding spent facts view
-  spent_is = rw (any_of_lem h.initial_len l.initial_timestamps) (ap (λ (b : Bool). eqb h.values_seen h.start_normalization && b) (not_not _))
+  spent_is = rw (any_of_lem h.initial_len l.initial_timestamps) (ap (λ (b : Bool). eqb h.values_seen h.start_normalization && b) (not-not _))
 
   pub overdue_is : overdue h (length l.initial_timestamps) ≡ (due (settings_of h) (facts (view h l)) && drain_full (settings_of h) (facts (view h l)))
   unfolding overdue due drain_full facts view

@@ -3,7 +3,7 @@ use Prim.Native.Nat.{ℕ, ◌+◌, ◌*◌, ◌≤◌, ◌<◌}
 use mathlib.Core.Path.{◌≡◌, refl, sym, ap, ◌∙◌}
 use mathlib.Core.List.{List}
 use native.Mathlib.Omega.{arith}
-use lib.ListN.{length, get_or, set, take, length-set, length_map}
+use lib.ListN.{length, get_or, set, take, length-set, length-map}
 use lib.Seq.{take-length}
 use lib.Ieee.{Float}
 use Rattle.refusal.specs.Lent.{over}
@@ -96,8 +96,8 @@ module _ (s : Lists) (lo ro : List ℕ) (g : List Float) (n i j : ℕ) (q : Comp
         let m = met s.tolerance s.left_times s.right_times n i j q.walked hi hj h in
         let f = q.fitting in
         let ps = all s in
-        let hl : n < length (lefts ps) = simp length_map m.room in
-        let hr : n < length (rights ps) = simp length_map m.room in
+        let hl : n < length (lefts ps) = simp length-map m.room in
+        let hr : n < length (rights ps) = simp length-map m.room in
         record {
           fitting = f;
           walked = m.on;
@@ -149,7 +149,7 @@ pub record Finished (s : Lists) (lo ro : List ℕ) (g : List Float) : Type 0 whe
 pub finished : (s : Lists) (lo ro : List ℕ) (g : List Float) (n i j : ℕ) → Compared s lo ro g n i j → n ≡ length (all s) → Finished s lo ro g
 finished s lo ro g n i j q e =
     record {
-      left = q.left_is ∙ part_all s.left_out (lefts (all s)) n (simp length_map e);
-      right = q.right_is ∙ part_all s.right_out (rights (all s)) n (simp length_map e);
+      left = q.left_is ∙ part_all s.left_out (lefts (all s)) n (simp length-map e);
+      right = q.right_is ∙ part_all s.right_out (rights (all s)) n (simp length-map e);
       gaps_are = q.gaps_are ∙ ap (gaps s.d s.left s.right) (ap (λ (k : ℕ). take k (all s)) e ∙ take-length (all s));
     }

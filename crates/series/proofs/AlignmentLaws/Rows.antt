@@ -4,7 +4,7 @@ use mathlib.Core.Path.{◌≡◌, refl, sym, ap, ◌∙◌}
 use mathlib.Core.Bool.{Bool, true, false, ◌||◌}
 use mathlib.Core.List.{List, [], ◌∷◌}
 use native.Mathlib.Omega.{arith}
-use borrow.Author.Tests.{eqb-true, not_false}
+use borrow.Author.Tests.{eqb-true, not-false}
 use lib.Dec.{eqb, ltb}
 use lib.ListN.{length}
 use lib.Ieee.{Float}
@@ -17,7 +17,7 @@ use Rattle.series.specs.Steps.AlignmentRows.{readings_row, room_row}
 
 pub shaped : (d cells n : ℕ) → readings_misshapen d cells n ≡ false → cells ≡ n * d
 unfolding readings_misshapen
-shaped d cells n e = eqb-true cells (n * d) (not_false (eqb cells (n * d)) e)
+shaped d cells n e = eqb-true cells (n * d) (not-false (eqb cells (n * d)) e)
 
 -- ---- five rows are four, and then one
 

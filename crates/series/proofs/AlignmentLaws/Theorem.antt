@@ -5,7 +5,7 @@ use mathlib.Core.Bool.{Bool, true, false, ◌||◌}
 use mathlib.Core.List.{List, [], ◌∷◌, map}
 use native.Mathlib.Omega.{arith}
 use lib.Dec.{ltb, eqb}
-use lib.ListN.{length, get_or, take, length_map, get_or-append}
+use lib.ListN.{length, get_or, take, length-map, get_or-append}
 use lib.Seq.{take_at}
 use lib.Ieee.{Float, nan}
 use Rattle.refusal.specs.Refusal.{first_of}
@@ -64,8 +64,8 @@ module _ (d : ℕ) (l r : Readings) (w : ℕ) (o : Outputs) where
   told_is : pairs_told full ≡ ps
   unfolding pairs_told outputs_written
   told_is =
-      ap (λ (a : List ℕ). zipped a (take (length ps) (over o.rights (rights ps)))) (front o.lefts (lefts ps) (length ps) (simp length_map refl))
-      ∙ ap (zipped (lefts ps)) (front o.rights (rights ps) (length ps) (simp length_map refl))
+      ap (λ (a : List ℕ). zipped a (take (length ps) (over o.rights (rights ps)))) (front o.lefts (lefts ps) (length ps) (simp length-map refl))
+      ∙ ap (zipped (lefts ps)) (front o.rights (rights ps) (length ps) (simp length-map refl))
       ∙ zipped_pairs ps
 
   size_told : (c : ℕ) → c < d → get_or full.outs.gaps c nan ≡ largest (difference_sizes d l.cells r.cells ps c)

@@ -1,7 +1,7 @@
 -- Lent memory with the first n of the new written.
 use Prim.Native.Nat.{ℕ, suc, ◌+◌, ◌<◌}
 use mathlib.Core.Path.{◌≡◌, refl, sym, ap, ◌∙◌}
-use mathlib.Core.List.{List, ◌++◌, append_nil}
+use mathlib.Core.List.{List, ◌++◌, append-nil}
 use native.Mathlib.Numerals.{add-one}
 use native.Mathlib.Omega.{arith}
 use lib.ListN.{length, get_or, take, drop, set}
@@ -26,7 +26,7 @@ module _ {A : Type 0} where
   part_whole old new n e h =
       ap (λ (k : ℕ). take k new ++ drop n old) e
       ∙ ap (λ (k : ℕ). take (length new) new ++ drop k old) h
-      ∙ rw (take-length, drop-length, append_nil)
+      ∙ rw (take-length, drop-length, append-nil)
 
   module _ (old new : List A) (n : ℕ) (z : A) (hn : n < length new) (ho : n < length old) where
     pub part_more : (v : A) → get_or new n z ≡ v → set (part old new n) n v ≡ part old new (n + 1)

@@ -1,6 +1,6 @@
 -- `access::calls::drain` meets its contract: 22 by the table's test, else the promise of the entry below. Assumes nothing.
 use mathlib.Core.List.{[], ◌∷◌}
-use borrow.Author.Tests.{not_true, not_false}
+use borrow.Author.Tests.{not-true, not-false}
 use Rattle.access.specs.declared.rights.Right.TheVariants.{LEARN}
 use Rattle.access.proofs.Laws.{guard_shut, guard_open}
 use borrow.Author.Rules.{rules}
@@ -11,7 +11,7 @@ may-requires : tie.Need-may-requires
 may-requires c κs = search rules
 
 returns : tie.Need-returns
-returns c = guard_shut _ _ (LEARN ∷ []) c.before.may.result c.before.may.ensures _ _ (not_true _ c.if1.true)
+returns c = guard_shut _ _ (LEARN ∷ []) c.before.may.result c.before.may.ensures _ _ (not-true _ c.if1.true)
 
 drain-requires : tie.Need-drain-requires
 drain-requires c κs = search rules
@@ -33,7 +33,7 @@ returns-2 c =
     let c8 = c.before.before.before.before.before.before.before.before in
     let e0 = c.before.before.before.before.before.before.before.before in
     let e = e0.before.before.before.before.before in
-    guard_open _ _ (LEARN ∷ []) e.before.may.result e.before.may.ensures _ _ (not_false _ e.if1.false) _ c8.drain.ensures
+    guard_open _ _ (LEARN ∷ []) e.before.may.result e.before.may.ensures _ _ (not-false _ e.if1.false) _ c8.drain.ensures
 
 pub drain-spec : {M : Type 1} → statement M
 drain-spec = tie.close (tie.spec may-requires returns drain-requires same_length same-length-2 same-length-3 same-length-4 returns-2)

@@ -5,7 +5,7 @@ use lib.IntN.{ℤ}
 use mir.Syntax.{w32}
 use mir.ValLaws.{to_z-of_z}
 use Rattle.trcf.specs.Calls.{Learn}
-use borrow.Author.Tests.{not_true, not_false}
+use borrow.Author.Tests.{not-true, not-false}
 use Rattle.trcf.specs.Preprocessor.{learned_nothing}
 use Rattle.trcf.specs.View.{lent, learn_call, learn_nothing, learn_after}
 use Rattle.access.specs.declared.rights.Right.TheVariants.{LEARN}
@@ -19,7 +19,7 @@ may-requires c κs = search rules
 
 returns : tie.Need-returns
 unfolding learned_nothing
-returns c = guard_shut _ _ (LEARN ∷ []) c.before.may.result c.before.may.ensures _ _ (not_true _ c.if1.true)
+returns c = guard_shut _ _ (LEARN ∷ []) c.before.may.result c.before.may.ensures _ _ (not-true _ c.if1.true)
 
 post-process-requires : tie.Need-post-process-requires
 post-process-requires c κs = search rules
@@ -67,7 +67,7 @@ returns-2 c =
     a.expected-out.now in
     let r = a.relative-index in
     guard_open a.table.now a.role (LEARN ∷ []) e.before.may.result e.before.may.ensures (learn_after a.head l (q r))
-    (learn_nothing 22 a.head l (q r)) (not_false _ e.if1.false) _
+    (learn_nothing 22 a.head l (q r)) (not-false _ e.if1.false) _
     (c16.before.before.post-process.ensures ∙ ap (λ (i : ℤ). learn_after a.head l (q i)) u)
 
 pub post-process-spec : {M : Type 1} → statement M

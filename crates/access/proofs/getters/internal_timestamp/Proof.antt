@@ -1,7 +1,7 @@
 -- `access::getters::internal_timestamp` meets its contract: 22 by the table's test, else the promise of the getter below. Assumes nothing.
 use mathlib.Core.Path.{ap}
 use mathlib.Core.List.{[], ◌∷◌}
-use borrow.Author.Tests.{not_true, not_false}
+use borrow.Author.Tests.{not-true, not-false}
 use Rattle.access.specs.declared.rights.Right.TheVariants.{SEE}
 use Rattle.access.specs.Entries.{number}
 use Rattle.access.proofs.Laws.{guard_shut, guard_open}
@@ -13,7 +13,7 @@ may-requires : tie.Need-may-requires
 may-requires c κs = search rules
 
 returns : tie.Need-returns
-returns c = guard_shut _ _ (SEE ∷ []) c.before.may.result c.before.may.ensures _ _ (not_true _ c.if1.true)
+returns c = guard_shut _ _ (SEE ∷ []) c.before.may.result c.before.may.ensures _ _ (not-true _ c.if1.true)
 
 internal-timestamp-requires : tie.Need-internal-timestamp-requires
 internal-timestamp-requires c κs = search rules
@@ -21,7 +21,7 @@ internal-timestamp-requires c κs = search rules
 returns-2 : tie.Need-returns-2
 returns-2 c =
     let e = c.before in
-    guard_open _ _ (SEE ∷ []) e.before.may.result e.before.may.ensures _ _ (not_false _ e.if1.false) _ (ap (number 0) c.internal-timestamp.ensures)
+    guard_open _ _ (SEE ∷ []) e.before.may.result e.before.may.ensures _ _ (not-false _ e.if1.false) _ (ap (number 0) c.internal-timestamp.ensures)
 
 pub internal-timestamp-spec : {M : Type 1} → statement M
 internal-timestamp-spec = tie.close (tie.spec may-requires returns internal-timestamp-requires returns-2)

@@ -1,7 +1,7 @@
 -- `access::getters::numbers` meets its contract: 22 by the table's test, else the promises of the getters below. Assumes nothing.
 use mathlib.Core.Path.{◌∙◌}
 use mathlib.Core.List.{[], ◌∷◌}
-use borrow.Author.Tests.{not_true, not_false}
+use borrow.Author.Tests.{not-true, not-false}
 use Rattle.access.specs.declared.rights.Right.TheVariants.{SEE}
 use Rattle.access.proofs.Laws.{guard_shut, guard_open, numbers_are}
 use borrow.Author.Rules.{rules}
@@ -17,7 +17,7 @@ untold-requires c κs = search rules
 returns : tie.Need-returns
 returns c =
     c.untold.ensures
-    ∙ guard_shut _ _ (SEE ∷ []) c.before.before.may.result c.before.before.may.ensures _ _ (not_true _ c.before.if1.true)
+    ∙ guard_shut _ _ (SEE ∷ []) c.before.before.may.result c.before.before.may.ensures _ _ (not-true _ c.before.if1.true)
 
 values-seen-requires : tie.Need-values-seen-requires
 values-seen-requires c κs = search rules
@@ -53,7 +53,7 @@ returns-2 : tie.Need-returns-2
 returns-2 c =
     let p = c.before.before.before.before.before in
     let e = p.before.before.before.before.before in
-    guard_open _ _ (SEE ∷ []) e.before.may.result e.before.may.ensures _ _ (not_false _ e.if1.false) _
+    guard_open _ _ (SEE ∷ []) e.before.may.result e.before.may.ensures _ _ (not-false _ e.if1.false) _
     (numbers_are e.before.before.before.args.head c.before.before.before.transformation-method.result c.before.before.forest-mode.result
     p.before.before.before.before.values_seen.ensures p.before.before.before.internal-timestamp.ensures p.before.before.is-ready.ensures
     p.before.input-dimensions.ensures p.shingle-size.ensures c.before.before.before.before.get-dimension.ensures

@@ -1,7 +1,7 @@
 -- `access::getters::transformation_method` meets its contract: 22 by the table's test, else the promise of the getter below. Assumes nothing.
 use mathlib.Core.Path.{ap}
 use mathlib.Core.List.{[], ◌∷◌}
-use borrow.Author.Tests.{not_true, not_false}
+use borrow.Author.Tests.{not-true, not-false}
 use Rattle.access.specs.declared.rights.Right.TheVariants.{SEE}
 use Rattle.access.specs.Entries.{method}
 use Rattle.access.proofs.Laws.{guard_shut, guard_open, same_method}
@@ -13,7 +13,7 @@ may-requires : tie.Need-may-requires
 may-requires c κs = search rules
 
 returns : tie.Need-returns
-returns c = guard_shut _ _ (SEE ∷ []) c.before.may.result c.before.may.ensures _ _ (not_true _ c.if1.true)
+returns c = guard_shut _ _ (SEE ∷ []) c.before.may.result c.before.may.ensures _ _ (not-true _ c.if1.true)
 
 transformation-method-requires : tie.Need-transformation-method-requires
 transformation-method-requires c κs = search rules
@@ -21,7 +21,7 @@ transformation-method-requires c κs = search rules
 returns-2 : tie.Need-returns-2
 returns-2 c =
     let e = c.before in
-    guard_open _ _ (SEE ∷ []) e.before.may.result e.before.may.ensures _ _ (not_false _ e.if1.false) _ (ap (method 0) (same_method _ _ c.transformation-method.ensures))
+    guard_open _ _ (SEE ∷ []) e.before.may.result e.before.may.ensures _ _ (not-false _ e.if1.false) _ (ap (method 0) (same_method _ _ c.transformation-method.ensures))
 
 pub transformation-method-spec : {M : Type 1} → statement M
 transformation-method-spec = tie.close (tie.spec may-requires returns transformation-method-requires returns-2)

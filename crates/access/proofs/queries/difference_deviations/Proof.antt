@@ -1,6 +1,6 @@
 -- `access::queries::difference_deviations` meets its contract: 22 by the table's test, else the promise of the entry below. Assumes nothing.
 use mathlib.Core.List.{[], ◌∷◌}
-use borrow.Author.Tests.{not_true, not_false}
+use borrow.Author.Tests.{not-true, not-false}
 use Rattle.access.specs.declared.rights.Right.TheVariants.{SEE}
 use Rattle.access.proofs.Laws.{guard_shut, guard_open}
 use borrow.Author.Rules.{rules}
@@ -11,7 +11,7 @@ may-requires : tie.Need-may-requires
 may-requires c κs = search rules
 
 returns : tie.Need-returns
-returns c = guard_shut _ _ (SEE ∷ []) c.before.may.result c.before.may.ensures _ _ (not_true _ c.if1.true)
+returns c = guard_shut _ _ (SEE ∷ []) c.before.may.result c.before.may.ensures _ _ (not-true _ c.if1.true)
 
 difference-deviations-requires : tie.Need-difference-deviations-requires
 difference-deviations-requires c κs = search rules
@@ -22,7 +22,7 @@ same_length c = search rules
 returns-2 : tie.Need-returns-2
 returns-2 c =
     let e = c.before.before.before.before in
-    guard_open _ _ (SEE ∷ []) e.before.may.result e.before.may.ensures _ _ (not_false _ e.if1.false) _ c.before.before.difference-deviations.ensures
+    guard_open _ _ (SEE ∷ []) e.before.may.result e.before.may.ensures _ _ (not-false _ e.if1.false) _ c.before.before.difference-deviations.ensures
 
 pub difference-deviations-spec : {M : Type 1} → statement M
 difference-deviations-spec = tie.close (tie.spec may-requires returns difference-deviations-requires same_length returns-2)

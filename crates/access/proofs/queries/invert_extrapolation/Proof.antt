@@ -1,6 +1,6 @@
 -- `access::queries::invert_extrapolation` meets its contract: 22 by the table's test, else the promise of the entry below. Assumes nothing.
 use mathlib.Core.List.{[], ◌∷◌}
-use borrow.Author.Tests.{not_true, not_false}
+use borrow.Author.Tests.{not-true, not-false}
 use Rattle.access.specs.declared.rights.Right.TheVariants.{SEE}
 use Rattle.access.proofs.Laws.{guard_shut, guard_open}
 use borrow.Author.Rules.{rules}
@@ -11,7 +11,7 @@ may-requires : tie.Need-may-requires
 may-requires c κs = search rules
 
 returns : tie.Need-returns
-returns c = guard_shut _ _ (SEE ∷ []) c.before.may.result c.before.may.ensures _ _ (not_true _ c.if1.true)
+returns c = guard_shut _ _ (SEE ∷ []) c.before.may.result c.before.may.ensures _ _ (not-true _ c.if1.true)
 
 invert-extrapolation-requires : tie.Need-invert-extrapolation-requires
 invert-extrapolation-requires c κs = search rules
@@ -51,7 +51,7 @@ returns-2 c =
     let e = e2.before.before.before.before in
     let f0 = c.before.before.before.before.before.before.before.before in
     let f1 = f0.before.before.before.before.before.before.before.before in
-    guard_open _ _ (SEE ∷ []) e.before.may.result e.before.may.ensures _ _ (not_false _ e.if1.false) _ f1.before.before.invert-extrapolation.ensures
+    guard_open _ _ (SEE ∷ []) e.before.may.result e.before.may.ensures _ _ (not-false _ e.if1.false) _ f1.before.before.invert-extrapolation.ensures
 
 pub invert-extrapolation-spec : {M : Type 1} → statement M
 invert-extrapolation-spec = tie.close (tie.spec may-requires returns invert-extrapolation-requires same_length same-length-2 same-length-3 same-length-4 same-length-5 same-length-6

@@ -1,7 +1,7 @@
 -- `access::snapshots::restore` meets its contract: 22 by the table's test, else the promise of the entry below. Assumes nothing.
 use mathlib.Core.Path.{ap, ◌∙◌}
 use mathlib.Core.List.{[], ◌∷◌}
-use borrow.Author.Tests.{not_true, not_false}
+use borrow.Author.Tests.{not-true, not-false}
 use Rattle.trcf.specs.View.{lent}
 use Rattle.trcf.specs.declared.head.Preprocessor.{Preprocessor}
 use Rattle.snapshot.specs.Restore.{restore_outcome as restored}
@@ -23,7 +23,7 @@ returns c =
     let a = s.before.before.before.before.args in
     let l = lent a.statistics.now a.last-shingled-input.now a.last-shingled-point.now a.previous-timestamps.now a.initial-values.now a.initial-timestamps.now in
     ap (λ (h : Preprocessor). restored 22 0 h l) c.no-head.ensures
-    ∙ guard_shut _ _ (RESTORE ∷ []) c.before.before.may.result c.before.before.may.ensures _ _ (not_true _ c.before.if1.true)
+    ∙ guard_shut _ _ (RESTORE ∷ []) c.before.before.may.result c.before.before.may.ensures _ _ (not-true _ c.before.if1.true)
 
 restore-requires : tie.Need-restore-requires
 restore-requires c κs = search rules
@@ -52,7 +52,7 @@ returns-2 c =
     let e1 = e0.before.before.before.before.before.before.before.before in
     let e = e1.before.before.before in
     let f0 = c.before.before.before.before.before.before.before.before in
-    guard_open _ _ (RESTORE ∷ []) e.before.may.result e.before.may.ensures _ _ (not_false _ e.if1.false) _ f0.before.before.before.before.restore.ensures
+    guard_open _ _ (RESTORE ∷ []) e.before.may.result e.before.may.ensures _ _ (not-false _ e.if1.false) _ f0.before.before.before.before.restore.ensures
 
 pub restore-spec : {M : Type 1} → statement M
 restore-spec = tie.close (tie.spec may-requires no-head-requires returns restore-requires same_length same-length-2 same-length-3 same-length-4 same-length-5 same-length-6 returns-2)

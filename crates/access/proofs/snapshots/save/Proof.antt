@@ -1,6 +1,6 @@
 -- `access::snapshots::save` meets its contract: 22 by the table's test, else the promise of the entry below. Assumes nothing.
 use mathlib.Core.List.{[], ◌∷◌}
-use borrow.Author.Tests.{not_true, not_false}
+use borrow.Author.Tests.{not-true, not-false}
 use Rattle.access.specs.declared.rights.Right.TheVariants.{SAVE}
 use Rattle.access.proofs.Laws.{guard_shut, guard_open}
 use borrow.Author.Rules.{rules}
@@ -11,7 +11,7 @@ may-requires : tie.Need-may-requires
 may-requires c κs = search rules
 
 returns : tie.Need-returns
-returns c = guard_shut _ _ (SAVE ∷ []) c.before.may.result c.before.may.ensures _ _ (not_true _ c.if1.true)
+returns c = guard_shut _ _ (SAVE ∷ []) c.before.may.result c.before.may.ensures _ _ (not-true _ c.if1.true)
 
 save-requires : tie.Need-save-requires
 save-requires c κs = search rules
@@ -22,7 +22,7 @@ same_length c = search rules
 returns-2 : tie.Need-returns-2
 returns-2 c =
     let e = c.before.before.before.before in
-    guard_open _ _ (SAVE ∷ []) e.before.may.result e.before.may.ensures _ _ (not_false _ e.if1.false) _ c.before.before.save.ensures
+    guard_open _ _ (SAVE ∷ []) e.before.may.result e.before.may.ensures _ _ (not-false _ e.if1.false) _ c.before.before.save.ensures
 
 pub save-spec : {M : Type 1} → statement M
 save-spec = tie.close (tie.spec may-requires returns save-requires same_length returns-2)

@@ -1,5 +1,5 @@
 -- `bench_core::call::call_point` meets its contract. Assumes nothing.
-use borrow.Author.Tests.{not_true, not_false}
+use borrow.Author.Tests.{not-true, not-false}
 use Rattle.bench_core.proofs.TurnLaws.{point_refused, point_absent, point_given_lem}
 use Rattle.trcf.specs.View.{lent}
 use borrow.Author.Rules.{rules}
@@ -88,7 +88,7 @@ returns-2 c =
     point_absent c24.before.every-right.result c24.before.every-right.ensures a.head a.given
     (lent a.statistics.now a.last-shingled-input.now a.last-shingled-point.now a.previous-timestamps.now a.initial-values.now a.initial-timestamps.now)
     a.out.now a.input.now a.timestamp a.point.now c16.before.before.shingled-point.ensures c.before.before.before.before.before.before.if1.false
-    (not_true _ c.before.before.before.before.if2.true) c.before.before.print-none.ensures
+    (not-true _ c.before.before.before.before.if2.true) c.before.before.print-none.ensures
 
 print-point-requires : tie.Need-print-point-requires
 print-point-requires c κs =
@@ -126,7 +126,7 @@ returns-3 c =
     point_given_lem c24.before.before.every-right.result c24.before.before.every-right.ensures a.head a.given
     (lent a.statistics.now a.last-shingled-input.now a.last-shingled-point.now a.previous-timestamps.now a.initial-values.now a.initial-timestamps.now)
     a.out.now a.input.now a.timestamp a.point.now c16.before.before.before.shingled-point.ensures
-    c.before.before.before.before.before.before.before.if1.false (not_false _ c.before.before.before.before.before.if2.false) c.before.before.print-point.ensures
+    c.before.before.before.before.before.before.before.if1.false (not-false _ c.before.before.before.before.before.if2.false) c.before.before.print-point.ensures
 
 pub call-point-spec : {M : Type 1} → statement M
 call-point-spec =

@@ -1,5 +1,5 @@
 -- `capi::head::closed_row` meets its contract: each row by its law. Assumes nothing.
-use borrow.Author.Tests.{not_true, not_false}
+use borrow.Author.Tests.{not-true, not-false}
 use Rattle.capi.proofs.HeadLaws.{form_few, form_kind, form_codes}
 use Rattle.capi.proofs.NumberLaws.{form_shut, form_asked}
 use borrow.Author.Rules.{rules}
@@ -9,12 +9,12 @@ use Rattle.capi.proofs.head.closed_row.Tie as tie
 returns : tie.Need-returns
 returns c =
     let a = c.before.before.args in
-    form_shut a.words.now a.allowed (not_true _ c.if1.true)
+    form_shut a.words.now a.allowed (not-true _ c.if1.true)
 
 returns-2 : tie.Need-returns-2
 returns-2 c =
     let a = c.before.before.before.args in
-    form_asked a.words.now a.allowed (not_false _ c.before.if1.false) (form_few a.words.now c.if2.true)
+    form_asked a.words.now a.allowed (not-false _ c.before.if1.false) (form_few a.words.now c.if2.true)
 
 shared-slice-read-kind-row : tie.Need-shared-slice-read-kind-row
 shared-slice-read-kind-row c = search rules
@@ -31,7 +31,7 @@ returns-3 c =
     let s = c.before.before.before.before in
     let a = s.before.before.before.args in
     let f = form_kind a.words.now k.result s.if2.false k.ensures c.if3.true in
-    form_asked a.words.now a.allowed (not_false _ s.before.if1.false) f
+    form_asked a.words.now a.allowed (not-false _ s.before.if1.false) f
 
 sub-codes-row : tie.Need-overflow-sub-codes-row
 sub-codes-row c = search rules
@@ -52,7 +52,7 @@ returns-4 c =
     let a = s.before.before.before.args in
     let v = c.codes-row in
     let f = form_codes a.words.now k.result s.if2.false k.ensures c.before.before.if3.false v.result v.ensures in
-    form_asked a.words.now a.allowed (not_false _ s.before.if1.false) f
+    form_asked a.words.now a.allowed (not-false _ s.before.if1.false) f
 
 pub closed-row-spec : {M : Type 1} → statement M
 closed-row-spec =

@@ -2,7 +2,7 @@
 use Rattle.trcf.proofs.RefusalLaws.{sixteen}
 use mathlib.Core.Path.{◌≡◌, sym, ap, ◌∙◌}
 use native.Mathlib.Omega.{arith}
-use lib.ListN.{length, drop, length-drop, length_map}
+use lib.ListN.{length, drop, length-drop, length-map}
 use lib.Seq.{length-take-le}
 use lib.Ieee.{binary32, to_bits}
 use borrow.Rule.Slice.PartMut.{same_len_mid}
@@ -56,7 +56,7 @@ same_length c =
     let z : length w ≡ 16 = sixteen w s.well-formed.1.0.1.1.0.1.1.1.1.1.0.1.0.1 in
     let k : length xs ≡ length s.args.words.now = numbers_length s.args.words.now _ s.args.head n.ensures s.requires in
     let m = length-take-le 16 (drop 12 xs) (omega (arith, length-drop 12 xs, k, s.requires)) in
-    same_len_mid 12 16 xs v.new.0 (ap length v.ensures ∙ length_map w (to_bits binary32) ∙ z ∙ sym m) ∙ k
+    same_len_mid 12 16 xs v.new.0 (ap length v.ensures ∙ length-map w (to_bits binary32) ∙ z ∙ sym m) ∙ k
 
 returns : tie.Need-returns
 returns c =
@@ -66,7 +66,7 @@ returns c =
     let v = c.before.before.write-weights in
     let w = s.args.head.transformer.weights in
     let z : length w ≡ 16 = sixteen w s.well-formed.1.0.1.1.0.1.1.1.1.1.0.1.0.1 in
-    weights_stored s.args.words.now _ s.args.head _ n.ensures v.ensures (ap length v.ensures ∙ length_map w (to_bits binary32) ∙ z)
+    weights_stored s.args.words.now _ s.args.head _ n.ensures v.ensures (ap length v.ensures ∙ length-map w (to_bits binary32) ∙ z)
 
 pub write-front-spec : {M : Type 1} → statement M
 write-front-spec =

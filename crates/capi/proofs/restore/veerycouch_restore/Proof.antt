@@ -1,7 +1,7 @@
 -- `capi::restore::veerycouch_restore` meets its contract. Assumes nothing.
 use borrow.Author.Rules.{rules}
 use native.Mathlib.Omega.{arith}
-use borrow.Author.Tests.{not_true, not_false}
+use borrow.Author.Tests.{not-true, not-false}
 use Rattle.trcf.specs.View.{lent}
 use Rattle.capi.proofs.RestoreLaws.{restore_withheld, restore_few, restore_done}
 use Rattle.capi.proofs.restore.veerycouch_restore.Statement.{statement}
@@ -16,7 +16,7 @@ returns c =
     let a = c8.before.before.before.before.args in
     restore_withheld a.table.now a.role a.text.now a.codes.now a.head.now
     (lent a.statistics.now a.last-shingled-input.now a.last-shingled-point.now a.previous-timestamps.now a.initial-values.now a.initial-timestamps.now)
-    a.line.now c.before.may.ensures (not_true _ c.if1.true)
+    a.line.now c.before.may.ensures (not-true _ c.if1.true)
 
 array-borrow-prefix-numbers : tie.Need-array-borrow-prefix-numbers
 array-borrow-prefix-numbers c = search rules
@@ -68,7 +68,7 @@ returns-2 c =
     let a = c24.before.before.before.before.args in
     restore_few a.table.now a.role a.text.now a.codes.now a.head.now
     (lent a.statistics.now a.last-shingled-input.now a.last-shingled-point.now a.previous-timestamps.now a.initial-values.now a.initial-timestamps.now)
-    a.line.now c16.before.may.ensures (not_false _ c16.if1.false) c8.before.before.before.before.before.before.before.if2.true c8.restore.ensures
+    a.line.now c16.before.may.ensures (not-false _ c16.if1.false) c8.before.before.before.before.before.before.before.if2.true c8.restore.ensures
     c.tell-line.ensures
 
 restore-requires-2 : tie.Need-restore-requires-2
@@ -110,7 +110,7 @@ returns-3 c =
     let a = c32.before.before.before.before.before.before.before.args in
     restore_done a.table.now a.role a.text.now a.codes.now a.head.now
     (lent a.statistics.now a.last-shingled-input.now a.last-shingled-point.now a.previous-timestamps.now a.initial-values.now a.initial-timestamps.now)
-    a.line.now c24.before.before.before.before.may.ensures (not_false _ c24.before.before.before.if1.false) (omega arith)
+    a.line.now c24.before.before.before.before.may.ensures (not-false _ c24.before.before.before.if1.false) (omega arith)
     c16.before.before.before.restore2.ensures c.before.before.before.before.write-head.ensures c.tell-line2.ensures
 
 pub veerycouch-restore-spec : {M : Type 1} → statement M

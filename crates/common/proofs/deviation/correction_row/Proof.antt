@@ -1,6 +1,6 @@
 -- `common::deviation::correction_row` meets its contract: every row is 26, so a refused return shows its own test alone, and the last one all of them. Assumes nothing.
 use Rattle.std.proofs.Common.{ℕ, ◌^◌, ◌≤◌, T, pos, arith, le→leb, rules, le-ltb}
-use borrow.Author.Tests.{not_false}
+use borrow.Author.Tests.{not-false}
 use lib.Ieee.{binary64, in_float}
 use Rattle.common.proofs.CorrectedRows.{passed_rows, told, by_decay, by_wrong, by_right, by_none, by_many, by_weight, by_sum, by_squares, by_negative}
 use Rattle.common.proofs.deviation.correction_row.Statement.{statement}
@@ -74,15 +74,15 @@ returns-10 c =
     let e1 = e2.before.before in
     passed_rows _ _ _
     (record {
-      decay = not_false _ e1.if1.false;
+      decay = not-false _ e1.if1.false;
       wrong_whole = told e2.before.whole_within_lem.ensures e2.if2.false;
       right_whole = told e3.before.whole-within2.ensures e3.if3.false;
       some = le-ltb _ _ e4.if4.false;
       few = le-ltb _ _ e5.if5.false;
-      weighed = not_false _ e6.if6.false;
+      weighed = not-false _ e6.if6.false;
       sum_whole = told e7.before.whole-within3.ensures e7.if7.false;
       squares_whole = told e8.before.whole-within4.ensures e8.if8.false;
-      squares_up = not_false _ c.if9.false;
+      squares_up = not-false _ c.if9.false;
     })
 
 pub correction-row-spec : {M : Type 1} → statement M

@@ -1,6 +1,6 @@
 -- `rangevector::create_row_f32` meets its contract. The rows in their order. Assumes nothing.
 use mathlib.Core.Path.{sym, ◌∙◌}
-use borrow.Author.Tests.{not_true, not_false}
+use borrow.Author.Tests.{not-true, not-false}
 use lib.ListN.{length}
 use Rattle.ranges.specs.RangeVector.{unequal}
 use Rattle.ranges.proofs.RangeSteps.{equal_lengths}
@@ -22,7 +22,7 @@ in-order-f32-requires c κs = equal_lengths _ _ _ (sym c.before.unequal-lengths.
 returns-2 : tie.Need-returns-2
 unfolding unequal
 returns-2 c = (
-  rw (sym c.before.before.before.unequal-lengths.ensures ∙ c.before.before.if1.left, sym c.before.in-order-f32.ensures ∙ not_true _ c.if2.taken),
+  rw (sym c.before.before.before.unequal-lengths.ensures ∙ c.before.before.if1.left, sym c.before.in-order-f32.ensures ∙ not-true _ c.if2.taken),
   λ e. absurd (omega (arith, e)),
 )
 
@@ -34,7 +34,7 @@ unfolding unequal
 returns-3 c =
     let unequal-told = sym c.before.before.before.before.unequal-lengths.ensures ∙ c.before.before.before.if1.left in
     let a = c.before.before.before.before.before.before.before.before.args in (
-      rw (unequal-told, sym c.before.before.in-order-f32.ensures ∙ not_false _ c.before.if2.left) c.Room-row.ensures.0,
+      rw (unequal-told, sym c.before.before.in-order-f32.ensures ∙ not-false _ c.before.if2.left) c.Room-row.ensures.0,
       λ e.
           let r = c.Room-row.ensures.1 e in
           let q = equal_lengths (length a.v.now) (length a.u.now) (length a.l.now) unequal-told in

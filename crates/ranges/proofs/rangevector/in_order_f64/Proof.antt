@@ -2,7 +2,7 @@
 use Prim.Native.Nat.{◌≤◌, ◌<◌, ◌-◌}
 use mathlib.Core.Path.{◌≡◌, refl, sym, ◌∙◌}
 use mathlib.Core.Bool.{true, false}
-use borrow.Author.Tests.{not_true, not_false}
+use borrow.Author.Tests.{not-true, not-false}
 use lib.ListN.{length, drop}
 use Rattle.ranges.specs.RangeVector.{in_order}
 use Rattle.ranges.proofs.RangeSteps.{in_order_at, in_order_end}
@@ -47,7 +47,7 @@ returns c =
     let turn = c.before.before.before.before.before.before in
     let L = turn.loop in
     let h : L.i < length turn.before.before.before.before.args.values.now = omega arith in
-    sym (L.invariant.1 ∙ in_order_at _ _ _ _ false h L.invariant.2 L.invariant.3 (sym c.before.ordered-f64.ensures ∙ not_true _ c.if1.true))
+    sym (L.invariant.1 ∙ in_order_at _ _ _ _ false h L.invariant.2 L.invariant.3 (sym c.before.ordered-f64.ensures ∙ not-true _ c.if1.true))
 
 add-i : tie.Need-overflow-add-i invariant-loop decreases-loop
 add-i c = omega arith
@@ -61,7 +61,7 @@ loop-again c =
     let L = turn.loop in
     let h : L.i < length turn.before.before.before.before.args.values.now = omega arith in (
       omega arith,
-      L.invariant.1 ∙ in_order_at _ _ _ _ true h L.invariant.2 L.invariant.3 (sym c.before.ordered-f64.ensures ∙ not_false _ c.if1.false),
+      L.invariant.1 ∙ in_order_at _ _ _ _ true h L.invariant.2 L.invariant.3 (sym c.before.ordered-f64.ensures ∙ not-false _ c.if1.false),
       L.invariant.2,
       L.invariant.3,
     )

@@ -3,7 +3,7 @@ use Prim.Native.Nat.{ℕ, ◌≤◌, ◌<◌, ◌-◌}
 use mathlib.Core.Bool.{true, false}
 use mathlib.Core.Path.{◌≡◌, refl, sym, ◌∙◌}
 use lib.ListN.{length, drop}
-use borrow.Author.Tests.{not_true, not_false}
+use borrow.Author.Tests.{not-true, not-false}
 use native.Mathlib.Omega.{arith}
 use Rattle.series.specs.Imputation.{all_finite}
 use Rattle.series.proofs.ImputationRows.{finite_at, finite_end}
@@ -33,7 +33,7 @@ returns c =
     let L = c.before.before.before.before.loop in
     let x = c.before.before.before.before.before.before.args.x.now in
     let h : L.i < length x = omega arith in
-    sym (L.invariant.1 ∙ finite_at x L.i false h (sym c.before.is_finite.ensures ∙ not_true _ c.if1.true))
+    sym (L.invariant.1 ∙ finite_at x L.i false h (sym c.before.is_finite.ensures ∙ not-true _ c.if1.true))
 
 add-i : tie.Need-overflow-add-i invariant-loop decreases-loop
 add-i c = omega arith
@@ -46,7 +46,7 @@ loop-again c =
     let L = c.before.before.before.before.loop in
     let x = c.before.before.before.before.before.before.args.x.now in
     let h : L.i < length x = omega arith in
-    (omega arith, L.invariant.1 ∙ finite_at x L.i true h (sym c.before.is_finite.ensures ∙ not_false _ c.if1.false))
+    (omega arith, L.invariant.1 ∙ finite_at x L.i true h (sym c.before.is_finite.ensures ∙ not-false _ c.if1.false))
 
 returns-2 : tie.Need-returns-2 invariant-loop decreases-loop
 returns-2 c =

@@ -4,7 +4,7 @@ use mathlib.Core.Path.{refl, sym, ◌∙◌}
 use lib.ListN.{length}
 use native.Mathlib.Omega.{arith}
 use borrow.Author.Rules.{rules}
-use borrow.Author.Tests.{eq-eqb, ne_eqb, lt-ltb, le-ltb, not_true, not_false}
+use borrow.Author.Tests.{eq-eqb, ne_eqb, lt-ltb, le-ltb, not-true, not-false}
 use Rattle.series.proofs.ImputationRows.{row_as, shaped}
 use Rattle.series.proofs.imputation.impute_row.Statement.{statement}
 use Rattle.series.proofs.imputation.impute_row.Tie as tie
@@ -84,7 +84,7 @@ returns-5 c =
           (le-ltb 16 a.d c.before.before.before.before.before.if2.false)
           (sym c.before.before.before.before.is-misshapen.ensures ∙ c.before.before.before.if3.false)
           (le-ltb 2000 _ c.before.before.if4.false)
-          (sym c.before.marks-known.ensures ∙ not_true _ c.if5.true)
+          (sym c.before.marks-known.ensures ∙ not-true _ c.if5.true)
           refl
           refl),
       λ z. absurd (omega arith),
@@ -109,8 +109,8 @@ returns-6 c =
           (le-ltb 16 a.d c.before.before.before.before.before.before.before.if2.false)
           (sym c.before.before.before.before.before.before.is-misshapen.ensures ∙ c.before.before.before.before.before.if3.false)
           (le-ltb 2000 _ c.before.before.before.before.if4.false)
-          (sym c.before.before.before.marks-known.ensures ∙ not_false _ c.before.before.if5.false)
-          (sym c.before.present-finite.ensures ∙ not_true _ c.if6.true)
+          (sym c.before.before.before.marks-known.ensures ∙ not-false _ c.before.before.if5.false)
+          (sym c.before.present-finite.ensures ∙ not-true _ c.if6.true)
           refl),
       λ z. absurd (omega arith),
     )
@@ -127,9 +127,9 @@ returns-7 c =
           (le-ltb 16 a.d u.before.before.if2.false)
           (sym u.before.is-misshapen.ensures ∙ c.before.before.before.before.before.before.before.if3.false)
           (le-ltb 2000 _ c.before.before.before.before.before.before.if4.false)
-          (sym c.before.before.before.before.before.marks-known.ensures ∙ not_false _ c.before.before.before.before.if5.false)
-          (sym c.before.before.before.present-finite.ensures ∙ not_false _ c.before.before.if6.false)
-          (sym c.before.all-finite.ensures ∙ not_true _ c.if7.true)),
+          (sym c.before.before.before.before.before.marks-known.ensures ∙ not-false _ c.before.before.before.before.if5.false)
+          (sym c.before.before.before.present-finite.ensures ∙ not-false _ c.before.before.if6.false)
+          (sym c.before.all-finite.ensures ∙ not-true _ c.if7.true)),
       λ z. absurd (omega arith),
     )
 
@@ -146,9 +146,9 @@ returns-8 c =
           (le-ltb 16 a.d u.before.before.if2.false)
           (sym u.before.is-misshapen.ensures ∙ c.before.before.before.before.before.before.before.if3.false)
           (le-ltb 2000 _ c.before.before.before.before.before.before.if4.false)
-          (sym c.before.before.before.before.before.marks-known.ensures ∙ not_false _ c.before.before.before.before.if5.false)
-          (sym c.before.before.before.present-finite.ensures ∙ not_false _ c.before.before.if6.false)
-          (sym c.before.all-finite.ensures ∙ not_false _ c.if7.false)),
+          (sym c.before.before.before.before.before.marks-known.ensures ∙ not-false _ c.before.before.before.before.if5.false)
+          (sym c.before.before.before.present-finite.ensures ∙ not-false _ c.before.before.if6.false)
+          (sym c.before.all-finite.ensures ∙ not-false _ c.if7.false)),
       λ z. shaped a.d (length a.cells.now) (length a.marks.now) (length a.fixed.now) some few bad,
     )
 

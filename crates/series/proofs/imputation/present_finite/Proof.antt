@@ -3,7 +3,7 @@ use Prim.Native.Nat.{ℕ, ◌≤◌, ◌<◌, ◌-◌}
 use mathlib.Core.Bool.{true, false}
 use mathlib.Core.Path.{◌≡◌, refl, sym, ◌∙◌}
 use lib.ListN.{length, drop}
-use borrow.Author.Tests.{not_true, not_false}
+use borrow.Author.Tests.{not-true, not-false}
 use native.Mathlib.Omega.{arith}
 use Rattle.series.specs.Imputation.{finite_present}
 use Rattle.series.proofs.ImputationRows.{present_at, present_end}
@@ -37,7 +37,7 @@ returns c =
     let s = c.before.before.before.before.before.before.before.before in
     let h : L.i < length s.args.cells.now = omega arith in
     sym (L.invariant.1
-    ∙ present_at s.args.cells.now s.args.marks.now L.i false h s.requires (sym c.before.fits-mark.ensures ∙ not_true _ c.if1.true))
+    ∙ present_at s.args.cells.now s.args.marks.now L.i false h s.requires (sym c.before.fits-mark.ensures ∙ not-true _ c.if1.true))
 
 add-i : tie.Need-overflow-add-i invariant-loop decreases-loop
 add-i c = omega arith
@@ -51,7 +51,7 @@ loop-again c =
     let s = c.before.before.before.before.before.before.before.before in
     let h : L.i < length s.args.cells.now = omega arith in (
       omega arith,
-      L.invariant.1 ∙ present_at s.args.cells.now s.args.marks.now L.i true h s.requires (sym c.before.fits-mark.ensures ∙ not_false _ c.if1.false),
+      L.invariant.1 ∙ present_at s.args.cells.now s.args.marks.now L.i true h s.requires (sym c.before.fits-mark.ensures ∙ not-false _ c.if1.false),
     )
 
 returns-2 : tie.Need-returns-2 invariant-loop decreases-loop

@@ -3,7 +3,7 @@ use mathlib.Core.Path.{◌≡◌, refl, sym, ap, ◌∙◌}
 use native.Mathlib.Omega.{arith}
 use mathlib.Core.Bool.{Bool}
 use Rattle.settling.specs.Steps.{signed, signal_of, option_of}
-use borrow.Author.Tests.{not_true, not_false}
+use borrow.Author.Tests.{not-true, not-false}
 use Rattle.settle_core.specs.Input.{fields_of}
 use Rattle.settle_core.proofs.FieldLaws.{stops, goes_on, null_end, null_not}
 use borrow.Author.Rules.{rules}
@@ -23,7 +23,7 @@ returns c =
     let t = a.text.now in
     let p1 = c.before.before.before.part_at in
     ap (λ (b : Bool). option_of b (signal_of c.no-signal.result.signal)) c.no-signal.ensures
-    ∙ sym (stops t a.at 9 p1.result p1.ensures.0 _ (not_true p1.result.found c.before.if1.true))
+    ∙ sym (stops t a.at 9 p1.result p1.ensures.0 _ (not-true p1.result.found c.before.if1.true))
 
 part-at-requires-2 : tie.Need-part-at-requires-2
 part-at-requires-2 c κs = c.before.before.part_at.ensures.1
@@ -40,8 +40,8 @@ returns-2 c =
     let p1 = c.before.before.before.before.before.before.part_at in
     let p2 = c.before.before.before.part-at2 in
     ap (λ (b : Bool). option_of b (signal_of c.no-signal2.result.signal)) c.no-signal2.ensures
-    ∙ sym (goes_on t a.at 9 p1.result p1.ensures.0 _ (not_false p1.result.found c.before.before.before.before.if1.false)
-    ∙ stops t p1.result.next 9 p2.result p2.ensures.0 _ (not_true p2.result.found c.before.if2.true))
+    ∙ sym (goes_on t a.at 9 p1.result p1.ensures.0 _ (not-false p1.result.found c.before.before.before.before.if1.false)
+    ∙ stops t p1.result.next 9 p2.result p2.ensures.0 _ (not-true p2.result.found c.before.if2.true))
 
 part-at-requires-3 : tie.Need-part-at-requires-3
 part-at-requires-3 c κs = c.before.before.part-at2.ensures.1
@@ -59,9 +59,9 @@ returns-3 c =
     let p2 = c.before.before.before.before.before.before.part-at2 in
     let p3 = c.before.before.before.part-at3 in
     ap (λ (b : Bool). option_of b (signal_of c.no-signal3.result.signal)) c.no-signal3.ensures
-    ∙ sym (goes_on t a.at 9 p1.result p1.ensures.0 _ (not_false p1.result.found c.before.before.before.before.before.before.before.if1.false)
-    ∙ goes_on t p1.result.next 9 p2.result p2.ensures.0 _ (not_false p2.result.found c.before.before.before.before.if2.false)
-    ∙ stops t p2.result.next 9 p3.result p3.ensures.0 _ (not_true p3.result.found c.before.if3.true))
+    ∙ sym (goes_on t a.at 9 p1.result p1.ensures.0 _ (not-false p1.result.found c.before.before.before.before.before.before.before.if1.false)
+    ∙ goes_on t p1.result.next 9 p2.result p2.ensures.0 _ (not-false p2.result.found c.before.before.before.before.if2.false)
+    ∙ stops t p2.result.next 9 p3.result p3.ensures.0 _ (not-true p3.result.found c.before.if3.true))
 
 part-at-requires-4 : tie.Need-part-at-requires-4
 part-at-requires-4 c κs = c.before.before.part-at3.ensures.1
@@ -80,10 +80,10 @@ returns-4 c =
     let p3 = c.before.before.before.before.before.before.part-at3 in
     let p4 = c.before.before.before.part-at4 in
     ap (λ (b : Bool). option_of b (signal_of c.no-signal4.result.signal)) c.no-signal4.ensures
-    ∙ sym (goes_on t a.at 9 p1.result p1.ensures.0 _ (not_false p1.result.found c8.before.before.if1.false)
-    ∙ goes_on t p1.result.next 9 p2.result p2.ensures.0 _ (not_false p2.result.found c.before.before.before.before.before.before.before.if2.false)
-    ∙ goes_on t p2.result.next 9 p3.result p3.ensures.0 _ (not_false p3.result.found c.before.before.before.before.if3.false)
-    ∙ stops t p3.result.next 9 p4.result p4.ensures.0 _ (not_true p4.result.found c.before.if4.true))
+    ∙ sym (goes_on t a.at 9 p1.result p1.ensures.0 _ (not-false p1.result.found c8.before.before.if1.false)
+    ∙ goes_on t p1.result.next 9 p2.result p2.ensures.0 _ (not-false p2.result.found c.before.before.before.before.before.before.before.if2.false)
+    ∙ goes_on t p2.result.next 9 p3.result p3.ensures.0 _ (not-false p3.result.found c.before.before.before.before.if3.false)
+    ∙ stops t p3.result.next 9 p4.result p4.ensures.0 _ (not-true p4.result.found c.before.if4.true))
 
 part-at-requires-5 : tie.Need-part-at-requires-5
 part-at-requires-5 c κs = c.before.before.part-at4.ensures.1
@@ -104,11 +104,11 @@ returns-5 c =
     let p4 = c.before.before.before.before.before.before.part-at4 in
     let p5 = c.before.before.before.part-at5 in
     ap (λ (b : Bool). option_of b (signal_of c.no-signal5.result.signal)) c.no-signal5.ensures
-    ∙ sym (goes_on t a.at 9 p1.result p1.ensures.0 _ (not_false p1.result.found c8.before.before.before.before.before.if1.false)
-    ∙ goes_on t p1.result.next 9 p2.result p2.ensures.0 _ (not_false p2.result.found c8.before.before.if2.false)
-    ∙ goes_on t p2.result.next 9 p3.result p3.ensures.0 _ (not_false p3.result.found c.before.before.before.before.before.before.before.if3.false)
-    ∙ goes_on t p3.result.next 9 p4.result p4.ensures.0 _ (not_false p4.result.found c.before.before.before.before.if4.false)
-    ∙ stops t p4.result.next 9 p5.result p5.ensures.0 _ (not_true p5.result.found c.before.if5.true))
+    ∙ sym (goes_on t a.at 9 p1.result p1.ensures.0 _ (not-false p1.result.found c8.before.before.before.before.before.if1.false)
+    ∙ goes_on t p1.result.next 9 p2.result p2.ensures.0 _ (not-false p2.result.found c8.before.before.if2.false)
+    ∙ goes_on t p2.result.next 9 p3.result p3.ensures.0 _ (not-false p3.result.found c.before.before.before.before.before.before.before.if3.false)
+    ∙ goes_on t p3.result.next 9 p4.result p4.ensures.0 _ (not-false p4.result.found c.before.before.before.before.if4.false)
+    ∙ stops t p4.result.next 9 p5.result p5.ensures.0 _ (not-true p5.result.found c.before.if5.true))
 
 part-at-requires-6 : tie.Need-part-at-requires-6
 part-at-requires-6 c κs = c.before.before.part-at5.ensures.1
@@ -130,12 +130,12 @@ returns-6 c =
     let p5 = c.before.before.before.before.before.before.part-at5 in
     let p6 = c.before.before.before.part-at6 in
     ap (λ (b : Bool). option_of b (signal_of c.no-signal6.result.signal)) c.no-signal6.ensures
-    ∙ sym (goes_on t a.at 9 p1.result p1.ensures.0 _ (not_false p1.result.found c16.if1.false)
-    ∙ goes_on t p1.result.next 9 p2.result p2.ensures.0 _ (not_false p2.result.found c8.before.before.before.before.before.if2.false)
-    ∙ goes_on t p2.result.next 9 p3.result p3.ensures.0 _ (not_false p3.result.found c8.before.before.if3.false)
-    ∙ goes_on t p3.result.next 9 p4.result p4.ensures.0 _ (not_false p4.result.found c.before.before.before.before.before.before.before.if4.false)
-    ∙ goes_on t p4.result.next 9 p5.result p5.ensures.0 _ (not_false p5.result.found c.before.before.before.before.if5.false)
-    ∙ stops t p5.result.next 10 p6.result p6.ensures.0 _ (not_true p6.result.found c.before.if6.true))
+    ∙ sym (goes_on t a.at 9 p1.result p1.ensures.0 _ (not-false p1.result.found c16.if1.false)
+    ∙ goes_on t p1.result.next 9 p2.result p2.ensures.0 _ (not-false p2.result.found c8.before.before.before.before.before.if2.false)
+    ∙ goes_on t p2.result.next 9 p3.result p3.ensures.0 _ (not-false p3.result.found c8.before.before.if3.false)
+    ∙ goes_on t p3.result.next 9 p4.result p4.ensures.0 _ (not-false p4.result.found c.before.before.before.before.before.before.before.if4.false)
+    ∙ goes_on t p4.result.next 9 p5.result p5.ensures.0 _ (not-false p5.result.found c.before.before.before.before.if5.false)
+    ∙ stops t p5.result.next 10 p6.result p6.ensures.0 _ (not-true p6.result.found c.before.if6.true))
 
 no-signal-requires-7 : tie.Need-no-signal-requires-7
 no-signal-requires-7 c κs = search rules
@@ -154,12 +154,12 @@ returns-7 c =
     let p5 = c8.part-at5 in
     let p6 = c.before.before.before.before.before.part-at6 in
     ap (λ (b : Bool). option_of b (signal_of c.no-signal7.result.signal)) c.no-signal7.ensures
-    ∙ sym (goes_on t a.at 9 p1.result p1.ensures.0 _ (not_false p1.result.found c16.before.before.if1.false)
-    ∙ goes_on t p1.result.next 9 p2.result p2.ensures.0 _ (not_false p2.result.found c8.before.before.before.before.before.before.before.if2.false)
-    ∙ goes_on t p2.result.next 9 p3.result p3.ensures.0 _ (not_false p3.result.found c8.before.before.before.before.if3.false)
-    ∙ goes_on t p3.result.next 9 p4.result p4.ensures.0 _ (not_false p4.result.found c8.before.if4.false)
-    ∙ goes_on t p4.result.next 9 p5.result p5.ensures.0 _ (not_false p5.result.found c.before.before.before.before.before.before.if5.false)
-    ∙ goes_on t p5.result.next 10 p6.result p6.ensures.0 _ (not_false p6.result.found c.before.before.before.if6.false)
+    ∙ sym (goes_on t a.at 9 p1.result p1.ensures.0 _ (not-false p1.result.found c16.before.before.if1.false)
+    ∙ goes_on t p1.result.next 9 p2.result p2.ensures.0 _ (not-false p2.result.found c8.before.before.before.before.before.before.before.if2.false)
+    ∙ goes_on t p2.result.next 9 p3.result p3.ensures.0 _ (not-false p3.result.found c8.before.before.before.before.if3.false)
+    ∙ goes_on t p3.result.next 9 p4.result p4.ensures.0 _ (not-false p4.result.found c8.before.if4.false)
+    ∙ goes_on t p4.result.next 9 p5.result p5.ensures.0 _ (not-false p5.result.found c.before.before.before.before.before.before.if5.false)
+    ∙ goes_on t p5.result.next 10 p6.result p6.ensures.0 _ (not-false p6.result.found c.before.before.before.if6.false)
     ∙ rw (null_not t p6.result.next c.before.if7.true p6.ensures.1))
 
 signal-of-requires : tie.Need-signal-of-requires
@@ -179,12 +179,12 @@ returns-8 c =
     let p5 = c8.part-at5 in
     let p6 = c.before.before.before.before.before.part-at6 in
     c.signal-of.ensures
-    ∙ sym (goes_on t a.at 9 p1.result p1.ensures.0 _ (not_false p1.result.found c16.before.before.if1.false)
-    ∙ goes_on t p1.result.next 9 p2.result p2.ensures.0 _ (not_false p2.result.found c8.before.before.before.before.before.before.before.if2.false)
-    ∙ goes_on t p2.result.next 9 p3.result p3.ensures.0 _ (not_false p3.result.found c8.before.before.before.before.if3.false)
-    ∙ goes_on t p3.result.next 9 p4.result p4.ensures.0 _ (not_false p4.result.found c8.before.if4.false)
-    ∙ goes_on t p4.result.next 9 p5.result p5.ensures.0 _ (not_false p5.result.found c.before.before.before.before.before.before.if5.false)
-    ∙ goes_on t p5.result.next 10 p6.result p6.ensures.0 _ (not_false p6.result.found c.before.before.before.if6.false)
+    ∙ sym (goes_on t a.at 9 p1.result p1.ensures.0 _ (not-false p1.result.found c16.before.before.if1.false)
+    ∙ goes_on t p1.result.next 9 p2.result p2.ensures.0 _ (not-false p2.result.found c8.before.before.before.before.before.before.before.if2.false)
+    ∙ goes_on t p2.result.next 9 p3.result p3.ensures.0 _ (not-false p3.result.found c8.before.before.before.before.if3.false)
+    ∙ goes_on t p3.result.next 9 p4.result p4.ensures.0 _ (not-false p4.result.found c8.before.if4.false)
+    ∙ goes_on t p4.result.next 9 p5.result p5.ensures.0 _ (not-false p5.result.found c.before.before.before.before.before.before.if5.false)
+    ∙ goes_on t p5.result.next 10 p6.result p6.ensures.0 _ (not-false p6.result.found c.before.before.before.if6.false)
     ∙ rw (null_end t p6.result.next c.before.if7.false))
 
 pub fields-at-spec : {M : Type 1} → statement M

@@ -4,7 +4,7 @@ use native.Mathlib.Omega.{arith}
 use mathlib.Core.Bool.{Bool}
 use Rattle.settling.specs.Steps.{signed, signal_of, option_of}
 use lib.ListN.{drop, length-drop}
-use borrow.Author.Tests.{not_true, not_false}
+use borrow.Author.Tests.{not-true, not-false}
 use Rattle.settle_core.specs.Input.{is_signal}
 use Rattle.settle_core.proofs.FieldLaws.{short_signal, not_signal, named_signal}
 use Rattle.settle_core.proofs.ScanLaws.{rest_is}
@@ -44,7 +44,7 @@ returns-2 c =
     let a = c.before.before.before.before.before.before.args in
     let s = c.before.before.is-signal in
     ap (λ (b : Bool). option_of b (signal_of c.no-signal2.result.signal)) c.no-signal2.ensures ∙ not_signal (drop a.at a.text.now)
-    (sym (s.ensures ∙ ap is_signal (rest_is a.text.now a.at)) ∙ not_true s.result c.before.if2.true)
+    (sym (s.ensures ∙ ap is_signal (rest_is a.text.now a.at)) ∙ not-true s.result c.before.if2.true)
 
 add-fields-at : tie.Need-overflow-add-fields-at
 add-fields-at c = omega (arith, c.before.before.before.if1.false)
@@ -56,7 +56,7 @@ returns-3 : tie.Need-returns-3
 returns-3 c =
     let a = c.before.before.before.before.before.before.args in
     let s = c.before.before.is-signal in
-    c.fields_at.ensures ∙ named_signal a.text.now a.at (sym (s.ensures ∙ ap is_signal (rest_is a.text.now a.at)) ∙ not_false s.result c.before.if2.false)
+    c.fields_at.ensures ∙ named_signal a.text.now a.at (sym (s.ensures ∙ ap is_signal (rest_is a.text.now a.at)) ∙ not-false s.result c.before.if2.false)
 
 pub signal-at-spec : {M : Type 1} → statement M
 signal-at-spec =

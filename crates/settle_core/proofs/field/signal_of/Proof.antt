@@ -3,7 +3,7 @@ use mathlib.Core.Path.{◌≡◌, refl, sym, ap, ◌∙◌}
 use native.Mathlib.Omega.{arith}
 use mathlib.Core.Bool.{Bool}
 use Rattle.settling.specs.Steps.{signed, signal_of, option_of}
-use borrow.Author.Tests.{not_true, not_false}
+use borrow.Author.Tests.{not-true, not-false}
 use Rattle.settle_core.proofs.FieldLaws.{limited_place, limited_readings, limited_out, limited_in}
 use borrow.Author.Rules.{rules}
 use Rattle.settle_core.proofs.field.signal_of.Statement.{statement}
@@ -46,7 +46,7 @@ returns-3 c =
     let l = c.before.before.in-limits in
     ap (λ (b : Bool). option_of b (signal_of c.no-signal3.result.signal)) c.no-signal3.ensures ∙ limited_out (signed a.base) (signed a.ramp) (signed a.ripple)
     (signed a.jump) a.place a.readings (sym c.before.before.before.before.before.before.below_zero.ensures ∙ c.before.before.before.before.before.if1.false)
-    (sym c.before.before.before.before.below-zero2.ensures ∙ c.before.before.before.if2.false) (sym l.ensures ∙ not_true l.result c.before.if3.true)
+    (sym c.before.before.before.before.below-zero2.ensures ∙ c.before.before.before.if2.false) (sym l.ensures ∙ not-true l.result c.before.if3.true)
 
 returns-4 : tie.Need-returns-4
 returns-4 c =
@@ -54,7 +54,7 @@ returns-4 c =
     let l = c.before.in-limits in
     limited_in (signed a.base) (signed a.ramp) (signed a.ripple) (signed a.jump) a.place a.readings
     (sym c.before.before.before.before.before.below_zero.ensures ∙ c.before.before.before.before.if1.false)
-    (sym c.before.before.before.below-zero2.ensures ∙ c.before.before.if2.false) (sym l.ensures ∙ not_false l.result c.if3.false)
+    (sym c.before.before.before.below-zero2.ensures ∙ c.before.before.if2.false) (sym l.ensures ∙ not-false l.result c.if3.false)
 
 pub signal-of-spec : {M : Type 1} → statement M
 signal-of-spec =

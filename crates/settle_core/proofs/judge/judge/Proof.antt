@@ -5,7 +5,7 @@ use Prim.Native.Nat.{◌-◌, ◌≤◌}
 use mathlib.Core.List.{map}
 use lib.ListN.{length, drop, length-replicate, length-set}
 use Rattle.settle_core.specs.declared.pair.Pair.{Pair}
-use borrow.Author.Tests.{not_true, not_false}
+use borrow.Author.Tests.{not-true, not-false}
 use Rattle.settle_core.specs.Input.{input_of}
 use Rattle.settle_core.specs.Steps.{pair_settings}
 use Rattle.settle_core.proofs.JudgeLaws.{input_refused_lem, none_opens, input_begins, refused_in, read_so_far, read_closed, read_all_lem, read_fault, read_pair}
@@ -30,7 +30,7 @@ returns c =
     let at-opens-at = c.before.before.Opens-at in
     let t = c.before.before.before.before.args.text.now in (
       input_refused_lem c.refused-by.result 23 c.refused-by.ensures.0 (λ z. absurd (omega arith)) ∙ none_opens t
-          (sym at-opens-at.ensures ∙ not_true at-opens-at.result c.before.if1.true),
+          (sym at-opens-at.ensures ∙ not-true at-opens-at.result c.before.if1.true),
       omega (arith, c.refused-by.ensures.1),
     )
 
@@ -41,7 +41,7 @@ loop-holds : tie.Need-loop-init invariant-loop decreases-loop
 loop-holds c =
     let at-opens-at = c.before.before.Opens-at in
     let t = c.before.before.before.before.args.text.now in
-    (input_begins t (sym at-opens-at.ensures ∙ not_false at-opens-at.result c.before.if1.false), omega arith, omega arith, length-replicate {A = Pair} 8 c.no-pair.result)
+    (input_begins t (sym at-opens-at.ensures ∙ not-false at-opens-at.result c.before.if1.false), omega arith, omega arith, length-replicate {A = Pair} 8 c.no-pair.result)
 
 opens-at-requires-2 : tie.Need-opens-at-requires-2 invariant-loop decreases-loop
 opens-at-requires-2 c κs = c.before.loop.invariant.1
@@ -55,7 +55,7 @@ returns-2 c =
     let at-opens-at2 = c.before.before.opens-at2 in
     let t = c8.before.args.text.now in
     let l = c.before.before.before.before.loop in (
-      c.signalled.ensures.0 ∙ read_closed l.pairs l.n (drop l.at t) (sym at-opens-at2.ensures ∙ not_true at-opens-at2.result c.before.if2.true) ∙ sym l.invariant.0,
+      c.signalled.ensures.0 ∙ read_closed l.pairs l.n (drop l.at t) (sym at-opens-at2.ensures ∙ not-true at-opens-at2.result c.before.if2.true) ∙ sym l.invariant.0,
       omega (arith, c.signalled.ensures.1, l.invariant.2),
     )
 
@@ -74,7 +74,7 @@ returns-3 c =
     let l = c.before.before.before.before.before.before.before.loop in
     let p = c.before.before.before.pair-at in (
       input_refused_lem c.refused-by2.result p.result.row c.refused-by2.ensures.0 at-if3.true ∙ read_fault l.pairs l.n (drop l.at t)
-          c.before.before.before.before.before.before.loop-test.true (sym at-opens-at2.ensures ∙ not_false at-opens-at2.result c.before.before.before.before.if2.false)
+          c.before.before.before.before.before.before.loop-test.true (sym at-opens-at2.ensures ∙ not-false at-opens-at2.result c.before.before.before.before.if2.false)
           p.result.row (sym (refused_in p.result p.result.row refl at-if3.true t) ∙ p.ensures.0) ∙ sym l.invariant.0,
       omega (arith, c.refused-by2.ensures.1),
     )
@@ -100,7 +100,7 @@ loop-again c =
     let l = c.before.before.before.before.before.before.before.loop in
     let p = c.before.before.before.pair-at in (
       l.invariant.0 ∙ sym (read_pair l.pairs l.n (drop l.at t) at-loop-test.true
-          (sym at-opens-at2.ensures ∙ not_false at-opens-at2.result c.before.before.before.before.if2.false) (omega (arith, at-loop-test.true, l.invariant.3)) p.result.pair
+          (sym at-opens-at2.ensures ∙ not-false at-opens-at2.result c.before.before.before.before.if2.false) (omega (arith, at-loop-test.true, l.invariant.3)) p.result.pair
           (drop p.result.next t) (sym (rw c.before.if3.false) ∙ p.ensures.0)),
       p.ensures.1,
       omega (arith, at-loop-test.true),

@@ -6,7 +6,7 @@ use Rattle.settling.specs.Steps.{signed, signal_of, option_of}
 use mathlib.Core.List.{map}
 use mathlib.Core.Option.{Option, none, some}
 use lib.ListN.{take, drop}
-use borrow.Author.Tests.{not_true, not_false}
+use borrow.Author.Tests.{not-true, not-false}
 use Rattle.settle_core.specs.Steps.{pair_settings}
 use Rattle.settle_core.proofs.JudgeLaws.{input_refused_lem, ninth, no_signal_there, signal_there}
 use borrow.Author.Rules.{rules}
@@ -39,7 +39,7 @@ returns-2 c =
     let g = c.before.before.before.signal-at in (
       input_refused_lem c.refused-by2.result 23 c.refused-by2.ensures.0 (λ z. absurd (omega arith)) ∙ no_signal_there (map pair_settings (take a.n a.pairs))
           (drop a.at a.text.now) (sym c.before.before.before.before.before.Opens-at.ensures ∙ c.before.before.before.before.if1.false)
-          (sym (ap (λ (b : Bool). option_of b (signal_of g.result.signal)) (not_true g.result.found c.before.if2.true)) ∙ g.ensures),
+          (sym (ap (λ (b : Bool). option_of b (signal_of g.result.signal)) (not-true g.result.found c.before.if2.true)) ∙ g.ensures),
       omega (arith, c.refused-by2.ensures.1),
     )
 
@@ -49,7 +49,7 @@ returns-3 c =
     let g = c.before.before.before.signal-at in (
       signal_there (map pair_settings (take a.n a.pairs)) (drop a.at a.text.now)
           (sym c.before.before.before.before.before.Opens-at.ensures ∙ c.before.before.before.before.if1.false) (signal_of g.result.signal)
-          (sym (ap (λ (b : Bool). option_of b (signal_of g.result.signal)) (not_false g.result.found c.before.if2.false)) ∙ g.ensures),
+          (sym (ap (λ (b : Bool). option_of b (signal_of g.result.signal)) (not-false g.result.found c.before.if2.false)) ∙ g.ensures),
       omega arith,
     )
 

@@ -2,7 +2,7 @@
 use mathlib.Core.Path.{◌≡◌, refl, sym, ap, ◌∙◌}
 use mathlib.Core.List.{[], ◌∷◌}
 use native.Mathlib.Omega.{arith}
-use borrow.Author.Tests.{not_true, not_false}
+use borrow.Author.Tests.{not-true, not-false}
 use Rattle.trcf.specs.View.{settings_from}
 use Rattle.settling.specs.Steps.{signal_of}
 use Rattle.settling.proofs.SignalLaws.{limited}
@@ -40,7 +40,7 @@ returns-2 c =
     let a = c.before.before.before.before.before.before.before.args in
     let l = c.before.before.in-limits in
     run_outside (settings_from a.builder (a.weight ∷ []) (0 ∷ [])) (signal_of a.signal) (sym c.before.before.before.before.pair_row.ensures ∙ c.before.before.before.if1.false)
-    (sym l.ensures ∙ not_true l.result c.before.if2.true) _ c.nothing2.ensures.1 _ c.nothing2.ensures.0
+    (sym l.ensures ∙ not-true l.result c.before.if2.true) _ c.nothing2.ensures.1 _ c.nothing2.ensures.0
 
 slice-aggregate-build-arguments : tie.Need-slice-aggregate-build-arguments
 slice-aggregate-build-arguments c = search rules
@@ -52,14 +52,14 @@ build-arguments-requires : tie.Need-build-arguments-requires
 build-arguments-requires c κs = search rules
 
 readings-requires : tie.Need-readings-requires
-readings-requires c κs = sym c.before.before.before.before.in-limits.ensures ∙ not_false c.before.before.before.before.in-limits.result c.before.before.before.if2.false
+readings-requires c κs = sym c.before.before.before.before.in-limits.ensures ∙ not-false c.before.before.before.before.in-limits.result c.before.before.before.if2.false
 
 returns-3 : tie.Need-returns-3
 returns-3 c =
     let c8 = c.before.before.before.before.before.before.before.before in
     let a = c8.before.before.args in
     let l = c.before.before.before.before.before.in-limits in
-    let e = sym l.ensures ∙ not_false l.result c.before.before.before.before.if2.false in
+    let e = sym l.ensures ∙ not-false l.result c.before.before.before.before.if2.false in
     run_done (settings_from a.builder (a.weight ∷ []) (0 ∷ [])) (signal_of a.signal) c.before.build-arguments.ensures
     (sym c.before.before.before.before.before.before.before.pair_row.ensures ∙ c.before.before.before.before.before.before.if1.false) e
     (omega (arith, (limited a.signal e).readings)) _ c.readings.ensures.1 _ c.readings.ensures.0

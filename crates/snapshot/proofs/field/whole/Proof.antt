@@ -7,7 +7,7 @@ use mathlib.Core.Bool.{true, false}
 use mathlib.Core.Option.{none, some}
 use lib.ListN.{length, drop, get_or}
 use borrow.Author.Rules.{rules}
-use borrow.Author.Tests.{not_true, not_false}
+use borrow.Author.Tests.{not-true, not-false}
 use Rattle.snapshot.specs.Scan.{number_of}
 use Rattle.snapshot.specs.Steps.Scan.{lead, scan}
 use Rattle.snapshot.proofs.ScanLaws.{none_at, some_at, none_lead, scan_is, no_lead, scan_yes, scan_low, scan_high, scan_big, scan_end}
@@ -28,10 +28,10 @@ leads-requires : tie.Need-leads-requires invariant-loop decreases-loop
 leads-requires c κs = search rules
 
 returns : tie.Need-returns invariant-loop decreases-loop
-returns c = none_lead c.before.before.before.args.c.now (sym c.before.leads.ensures ∙ not_true _ c.if1.true)
+returns c = none_lead c.before.before.before.args.c.now (sym c.before.leads.ensures ∙ not-true _ c.if1.true)
 
 loop-holds : tie.Need-loop-init invariant-loop decreases-loop
-loop-holds c = (omega arith, sym c.before.leads.ensures ∙ not_false _ c.if1.false, refl)
+loop-holds c = (omega arith, sym c.before.leads.ensures ∙ not-false _ c.if1.false, refl)
 
 shared-slice-read-wide : tie.Need-shared-slice-read-wide invariant-loop decreases-loop
 shared-slice-read-wide c = search rules

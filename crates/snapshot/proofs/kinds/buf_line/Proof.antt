@@ -1,7 +1,7 @@
 -- `snapshot::kinds::buf_line` meets its contract. Assumes nothing.
 use mathlib.Core.Path.{◌≡◌, refl, sym, ◌∙◌}
 use lib.ListN.{drop, length}
-use borrow.Author.Tests.{not_true, not_false}
+use borrow.Author.Tests.{not-true, not-false}
 use Rattle.snapshot.specs.Steps.Judge.{placed}
 use Rattle.snapshot.proofs.JudgeLaws.{got, lost, got_list, lost_list, whole_is, whole_not, buf_left_nameless, buf_left_timeless, buf_left}
 use Rattle.snapshot.proofs.LineTests.{buf_nameless, buf_timeless, buf_bad, buf_early, buf_infinite, buf_good}
@@ -139,7 +139,7 @@ returns-5 c =
     let g = got_list S.result t _ _ q.q.given.0.0 q.q.given.1 S.ensures.told in
     record {
       told = buf_infinite d a.past l z e f.f.given.0.0 y h _ (drop q.q.given.0.0 t) g c.before.before.before.if1.false
-          (sym c.before.all-finite.ensures ∙ not_true _ c.if2.true);
+          (sym c.before.all-finite.ensures ∙ not-true _ c.if2.true);
       kept = S.ensures.kept;
       left = buf_left d l _ z e f.f.given.0.0 y h _ S.ensures.left;
     }
@@ -170,7 +170,7 @@ returns-6 c =
     let g = got_list S.result t _ _ q.q.given.0.0 q.q.given.1 S.ensures.told in
     record {
       told = buf_good d a.past l z e f.f.given.0.0 y h _ (drop q.q.given.0.0 t) g c.before.before.before.before.if1.false
-          (sym c.before.before.all-finite.ensures ∙ not_false _ c.before.if2.false) (placed c.byte.result t) c.byte.ensures;
+          (sym c.before.before.all-finite.ensures ∙ not-false _ c.before.if2.false) (placed c.byte.result t) c.byte.ensures;
       kept = S.ensures.kept;
       left = buf_left d l _ z e f.f.given.0.0 y h _ S.ensures.left;
     }

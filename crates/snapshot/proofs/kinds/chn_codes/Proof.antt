@@ -1,6 +1,6 @@
 -- `snapshot::kinds::chn_codes` meets its contract. Assumes nothing.
 use mathlib.Core.Path.{◌≡◌, refl, sym, ◌∙◌}
-use borrow.Author.Tests.{not_true, not_false}
+use borrow.Author.Tests.{not-true, not-false}
 use Rattle.snapshot.specs.Read.{all_codes}
 use Rattle.snapshot.specs.Steps.Judge.{chn_by}
 use Rattle.snapshot.proofs.LineTests.{check_yes, check_no}
@@ -26,7 +26,7 @@ returns c =
     let c8 = c.before.before.before.before.before.before.before.before in
     let W = c.before.before.before.before.before.wholes-line in
     record {
-      told = check_no all_codes _ W.result c8.before.args.text.now _ W.ensures.told (sym c.before.codes-fit.ensures ∙ not_true _ c.if1.true);
+      told = check_no all_codes _ W.result c8.before.args.text.now _ W.ensures.told (sym c.before.codes-fit.ensures ∙ not-true _ c.if1.true);
       kept = W.ensures.kept;
       left = W.ensures.left;
     }
@@ -40,7 +40,7 @@ returns-2 c =
     let c8 = c.before.before.before.before.before.before.before.before in
     let W = c.before.before.before.before.before.wholes-line in
     record {
-      told = check_yes all_codes _ W.result c8.before.args.text.now _ W.ensures.told (sym c.before.codes-fit.ensures ∙ not_false _ c.if1.false);
+      told = check_yes all_codes _ W.result c8.before.args.text.now _ W.ensures.told (sym c.before.codes-fit.ensures ∙ not-false _ c.if1.false);
       kept = W.ensures.kept;
       left = W.ensures.left;
     }

@@ -1,7 +1,7 @@
 -- `snapshot::kinds::cnt_line` meets its contract. Assumes nothing.
 use mathlib.Core.Path.{◌≡◌, refl, sym, ◌∙◌}
 use lib.ListN.{drop}
-use borrow.Author.Tests.{not_true, not_false}
+use borrow.Author.Tests.{not-true, not-false}
 use Rattle.snapshot.proofs.LineTests.{cnt_good, cnt_bad}
 use borrow.Author.Rules.{rules}
 use Rattle.snapshot.proofs.kinds.cnt_line.Statement.{statement}
@@ -34,14 +34,14 @@ returns c =
     let at-args = c.before.before.before.before.before.before.args in
     let at-wholes-line = c.before.before.before.wholes-line in
     cnt_bad at-args.method at-args.start at-wholes-line.result at-args.text.now (drop at-args.at at-args.text.now) _ at-wholes-line.ensures.told
-    (sym c.before.counts-fit.ensures ∙ not_true _ c.if1.true)
+    (sym c.before.counts-fit.ensures ∙ not-true _ c.if1.true)
 
 returns-2 : tie.Need-returns-2
 returns-2 c =
     let at-args = c.before.before.before.before.before.before.args in
     let at-wholes-line = c.before.before.before.wholes-line in
     cnt_good at-args.method at-args.start at-wholes-line.result at-args.text.now (drop at-args.at at-args.text.now) _ at-wholes-line.ensures.told
-    (sym c.before.counts-fit.ensures ∙ not_false _ c.if1.false)
+    (sym c.before.counts-fit.ensures ∙ not-false _ c.if1.false)
 
 pub cnt-line-spec : {M : Type 1} → statement M
 cnt-line-spec =

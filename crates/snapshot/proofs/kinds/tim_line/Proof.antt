@@ -1,6 +1,6 @@
 -- `snapshot::kinds::tim_line` meets its contract. Assumes nothing.
 use mathlib.Core.Path.{◌≡◌, refl, sym, ◌∙◌}
-use borrow.Author.Tests.{not_true, not_false}
+use borrow.Author.Tests.{not-true, not-false}
 use Rattle.snapshot.specs.Steps.Judge.{tim_by, tim_test}
 use Rattle.snapshot.proofs.LineTests.{check_yes, check_no, tim_falls, tim_not, tim_zero, tim_other}
 use borrow.Author.Rules.{rules}
@@ -29,7 +29,7 @@ returns c =
     let args = c8.before.args in
     record {
       told = check_no (tim_test args.internal) _ wholes-line-at.result args.text.now _ wholes-line-at.ensures.told
-          (tim_falls args.internal _ (sym c.before.none-falls.ensures ∙ not_true _ c.if1.true));
+          (tim_falls args.internal _ (sym c.before.none-falls.ensures ∙ not-true _ c.if1.true));
       kept = wholes-line-at.ensures.kept;
       left = wholes-line-at.ensures.left;
     }
@@ -48,8 +48,8 @@ returns-2 c =
     let wholes-line-at = c8.before.wholes-line in
     record {
       told = check_no (tim_test args.internal) _ wholes-line-at.result args.text.now _ wholes-line-at.ensures.told
-          (tim_not args.internal _ (sym c.before.before.before.before.before.none-falls.ensures ∙ not_false _ c.before.before.before.before.if1.false)
-          c.before.before.before.if2.true (sym c.before.all-zero.ensures ∙ not_true _ c.if3.true));
+          (tim_not args.internal _ (sym c.before.before.before.before.before.none-falls.ensures ∙ not-false _ c.before.before.before.before.if1.false)
+          c.before.before.before.if2.true (sym c.before.all-zero.ensures ∙ not-true _ c.if3.true));
       kept = wholes-line-at.ensures.kept;
       left = wholes-line-at.ensures.left;
     }
@@ -65,8 +65,8 @@ returns-3 c =
     let wholes-line-at = c8.before.wholes-line in
     record {
       told = check_yes (tim_test args.internal) _ wholes-line-at.result args.text.now _ wholes-line-at.ensures.told
-          (tim_zero args.internal _ (sym c.before.before.before.before.before.none-falls.ensures ∙ not_false _ c.before.before.before.before.if1.false)
-          c.before.before.before.if2.true (sym c.before.all-zero.ensures ∙ not_false _ c.if3.false));
+          (tim_zero args.internal _ (sym c.before.before.before.before.before.none-falls.ensures ∙ not-false _ c.before.before.before.before.if1.false)
+          c.before.before.before.if2.true (sym c.before.all-zero.ensures ∙ not-false _ c.if3.false));
       kept = wholes-line-at.ensures.kept;
       left = wholes-line-at.ensures.left;
     }
@@ -82,7 +82,7 @@ returns-4 c =
     let args = c8.before.before.args in
     record {
       told = check_yes (tim_test args.internal) _ wholes-line-at.result args.text.now _ wholes-line-at.ensures.told
-          (tim_other args.internal _ (sym c.before.before.none-falls.ensures ∙ not_false _ c.before.if1.false) c.if2.false);
+          (tim_other args.internal _ (sym c.before.before.none-falls.ensures ∙ not-false _ c.before.if1.false) c.if2.false);
       kept = wholes-line-at.ensures.kept;
       left = wholes-line-at.ensures.left;
     }

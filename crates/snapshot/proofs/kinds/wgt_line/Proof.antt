@@ -1,6 +1,6 @@
 -- `snapshot::kinds::wgt_line` meets its contract. Assumes nothing.
 use mathlib.Core.Path.{◌≡◌, refl, sym, ◌∙◌}
-use borrow.Author.Tests.{not_true, not_false}
+use borrow.Author.Tests.{not-true, not-false}
 use Rattle.snapshot.specs.Steps.Judge.{wgt_by, wgt_test}
 use Rattle.snapshot.proofs.LineTests.{check_yes, check_no, wgt_no, wgt_one, wgt_other}
 use borrow.Author.Rules.{rules}
@@ -31,7 +31,7 @@ returns c =
     record {
       told = check_no (wgt_test args.method) _ singles-line-at.result args.text.now _ singles-line-at.ensures.told
           (wgt_no args.method _ (sym c.before.before.before.before.is_none.ensures ∙ c.before.before.before.if1.true)
-          (sym c.before.all_one.ensures ∙ not_true _ c.if2.true));
+          (sym c.before.all_one.ensures ∙ not-true _ c.if2.true));
       kept = singles-line-at.ensures.kept;
       left = singles-line-at.ensures.left;
     }
@@ -48,7 +48,7 @@ returns-2 c =
     record {
       told = check_yes (wgt_test args.method) _ singles-line-at.result args.text.now _ singles-line-at.ensures.told
           (wgt_one args.method _ (sym c.before.before.before.before.is_none.ensures ∙ c.before.before.before.if1.true)
-          (sym c.before.all_one.ensures ∙ not_false _ c.if2.false));
+          (sym c.before.all_one.ensures ∙ not-false _ c.if2.false));
       kept = singles-line-at.ensures.kept;
       left = singles-line-at.ensures.left;
     }

@@ -2,7 +2,7 @@
 use mathlib.Core.Path.{◌≡◌, sym, ap, ◌∙◌}
 use mathlib.Core.Bool.{Bool, cond}
 use mathlib.Core.Option.{Option, none, some}
-use borrow.Author.Tests.{not_true, not_false}
+use borrow.Author.Tests.{not-true, not-false}
 use borrow.Author.Rules.{rules}
 use Rattle.trcf.specs.Types.{mode_of_letter}
 use Rattle.snapshot.proofs.SettingsLaws.{mode_named_lem, mode_end}
@@ -25,7 +25,7 @@ returns : tie.Need-returns
 returns c =
     let q = c.before.before in
     let a = q.before.before.before.before.before.args in
-    ap (λ (b : Bool). cond b none (some q.mode-of-letter.result)) (sym (sym c.before.is-imputing.ensures ∙ not_true _ c.if2.true))
+    ap (λ (b : Bool). cond b none (some q.mode-of-letter.result)) (sym (sym c.before.is-imputing.ensures ∙ not-true _ c.if2.true))
     ∙ mode_named_lem a.text.now a.at q.mode-of-letter.result q.before.before.before.if1.true
     (q.mode-of-letter.ensures ∙ ap mode_of_letter q.before.wide.ensures)
 
@@ -33,7 +33,7 @@ returns-2 : tie.Need-returns-2
 returns-2 c =
     let q = c.before.before in
     let a = q.before.before.before.before.before.args in
-    ap (λ (b : Bool). cond b none (some q.mode-of-letter.result)) (sym (sym c.before.is-imputing.ensures ∙ not_false _ c.if2.false))
+    ap (λ (b : Bool). cond b none (some q.mode-of-letter.result)) (sym (sym c.before.is-imputing.ensures ∙ not-false _ c.if2.false))
     ∙ mode_named_lem a.text.now a.at q.mode-of-letter.result q.before.before.before.if1.true
     (q.mode-of-letter.ensures ∙ ap mode_of_letter q.before.wide.ensures)
 

@@ -2,7 +2,7 @@
 use mathlib.Core.Path.{◌≡◌, sym, ◌∙◌}
 use native.Mathlib.Omega.{arith}
 use lib.ListN.{drop, length}
-use borrow.Author.Tests.{not_true, not_false}
+use borrow.Author.Tests.{not-true, not-false}
 use Rattle.snapshot.proofs.JudgeLaws.{got, lost, got_list, lost_list}
 use Rattle.snapshot.proofs.SettingsLaws.{mode_inside, no_settings, set_nameless, set_tabless, set_modeless, set_wholeless, set_methodless, set_unfit, set_good}
 use borrow.Author.Rules.{rules}
@@ -204,7 +204,7 @@ returns-6 c =
     at-q.given.0.0 (got at_byte.result t _ at-q.given.0.0 at-q.given.1 at_byte.ensures) at-mode-at.result at-letter.given.0.0 at-letter.given.1
     at-mode-at.ensures _ (drop at-s.given.0.0 t) (got_list at_wholes.result t _ _ at-s.given.0.0 at-s.given.1 at_wholes.ensures.told) at-method-of.result
     at-number.given.0.0 at-number.given.1 at-method-of.ensures at-set-tail.result.place at-set-tail.result.decay at-set-tail.result.weight_time
-    at-set-tail.ensures (sym c.before.before.settings-fit.ensures ∙ not_true _ c.before.if1.true)
+    at-set-tail.ensures (sym c.before.before.settings-fit.ensures ∙ not-true _ c.before.if1.true)
 
 array-read-t20 : tie.Need-array-read-t20
 array-read-t20 c = search rules
@@ -239,7 +239,7 @@ returns-7 c =
     (got at_byte.result t _ at-q.given.0.0 at-q.given.1 at_byte.ensures) at-mode-at.result at-letter.given.0.0 at-letter.given.1 at-mode-at.ensures _
     (drop at-s.given.0.0 t) (got_list at_wholes.result t _ _ at-s.given.0.0 at-s.given.1 at_wholes.ensures.told) at-method-of.result at-number.given.0.0
     at-number.given.1 at-method-of.ensures at-set-tail.result.place at-set-tail.result.decay at-set-tail.result.weight_time at-set-tail.ensures
-    (sym c.before.settings-fit.ensures ∙ not_false _ c.if1.false)
+    (sym c.before.settings-fit.ensures ∙ not-false _ c.if1.false)
 
 pub set-line-spec : {M : Type 1} → statement M
 set-line-spec =

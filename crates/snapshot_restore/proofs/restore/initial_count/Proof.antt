@@ -7,7 +7,7 @@ use mathlib.Core.Bool.{Bool, true, false}
 use lib.ListN.{length, drop, length-drop}
 use Rattle.trcf.specs.View.{settings_of}
 use Rattle.snapshot.specs.Steps.Runs.{counts_in}
-use borrow.Author.Tests.{not_true, not_false}
+use borrow.Author.Tests.{not-true, not-false}
 use Rattle.snapshot.proofs.BodyLaws.{waiting_is, expected_waiting, expected_plain, expected_end, expected_none, expected_seen, expected_internal}
 use Rattle.snapshot_restore.proofs.restore.initial_count.Statement.{statement}
 use Rattle.snapshot_restore.proofs.restore.initial_count.Tie as tie
@@ -36,7 +36,7 @@ returns-2 c =
     let k = counts_in a.head in
     let l = drop a.at a.text.now in
     let w = waiting_is s a.head.values_seen c.before.before.before.is-waiting.result false c.before.before.before.is-waiting.ensures c.before.before.if1.false in
-    expected_plain s k l w (sym c.before.is-normalizing.ensures ∙ not_true _ c.if2.true)
+    expected_plain s k l w (sym c.before.is-normalizing.ensures ∙ not-true _ c.if2.true)
 
 returns-3 : tie.Need-returns-3
 returns-3 c =
@@ -57,7 +57,7 @@ returns-4 c =
     let l = drop a.at a.text.now in
     let w = waiting_is s a.head.values_seen is-waiting-at.result false is-waiting-at.ensures c.before.before.before.before.if1.false in
     let n : 0 < length l = omega (arith, length-drop a.at a.text.now, c.before.if3.false) in
-    expected_seen s k l w (sym c.before.before.before.is-normalizing.ensures ∙ not_false _ c.before.before.if2.false) n c.if4.true
+    expected_seen s k l w (sym c.before.before.before.is-normalizing.ensures ∙ not-false _ c.before.before.if2.false) n c.if4.true
 
 returns-5 : tie.Need-returns-5
 returns-5 c =
@@ -69,7 +69,7 @@ returns-5 c =
     let l = drop a.at a.text.now in
     let w = waiting_is s a.head.values_seen is-waiting-at.result false is-waiting-at.ensures c.before.before.before.before.before.before.if1.false in
     let n : 0 < length l = omega (arith, length-drop a.at a.text.now, c.before.before.before.if3.false) in
-    expected_internal s k l w (sym c.before.before.before.before.before.is-normalizing.ensures ∙ not_false _ c.before.before.before.before.if2.false) n
+    expected_internal s k l w (sym c.before.before.before.before.before.is-normalizing.ensures ∙ not-false _ c.before.before.before.before.if2.false) n
     (omega (arith, c.if5.true))
 
 returns-6 : tie.Need-returns-6
@@ -81,7 +81,7 @@ returns-6 c =
     let k = counts_in a.head in
     let l = drop a.at a.text.now in
     let w = waiting_is s a.head.values_seen is-waiting-at.result false is-waiting-at.ensures c.before.before.before.before.before.before.if1.false in
-    expected_none s k l w (sym c.before.before.before.before.before.is-normalizing.ensures ∙ not_false _ c.before.before.before.before.if2.false)
+    expected_none s k l w (sym c.before.before.before.before.before.is-normalizing.ensures ∙ not-false _ c.before.before.before.before.if2.false)
     (omega (arith, c.before.before.if4.false)) c.if5.false
 
 pub initial-count-spec : {M : Type 1} → statement M

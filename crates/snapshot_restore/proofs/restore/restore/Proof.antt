@@ -2,7 +2,7 @@
 use borrow.Author.Rules.{rules}
 use mathlib.Core.Path.{◌≡◌, refl, sym, ap, ◌∙◌}
 use lib.ListN.{length, drop}
-use borrow.Author.Tests.{not_true, not_false}
+use borrow.Author.Tests.{not-true, not-false}
 use Rattle.trcf.specs.View.{lent}
 use Rattle.trcf.specs.declared.head.Preprocessor.{Preprocessor}
 use Rattle.snapshot.specs.Restore.{restore_outcome}
@@ -98,7 +98,7 @@ returns-3 c =
     let o = J.ensures.1.1.1 i2.if2.false in
     ap (λ (r : Restored). restore_outcome r.row r.line r.head l) c.refused3.ensures
     ∙ restore_other t a.codes.now l h H.result.extra z e J.result J.ensures.0 o
-    (sym i3.before.codes-agree.ensures ∙ not_true _ i3.if3.true)
+    (sym i3.before.codes-agree.ensures ∙ not-true _ i3.if3.true)
 
 is-short-requires : tie.Need-is-short-requires
 is-short-requires c κs = search rules
@@ -124,7 +124,7 @@ returns-4 c =
     let e = told_ran H.result.bad (h, H.result.extra) z _ i1.if1.false H.ensures.0 in
     let J = i2.before.before.judge-body in
     let o = J.ensures.1.1.1 i2.if2.false in
-    let s = sym i3.before.codes-agree.ensures ∙ not_false _ i3.if3.false in
+    let s = sym i3.before.codes-agree.ensures ∙ not-false _ i3.if3.false in
     let w = sym (short_is h l _ (H.ensures.1.0 i1.if1.false) refl) ∙ sym i4.before.is-short.ensures ∙ i4.if4.true in
     ap (λ (r : Restored). restore_outcome r.row r.line r.head l) c.refused4.ensures
     ∙ restore_short t a.codes.now l h H.result.extra z e J.result J.ensures.0 o s w
@@ -189,7 +189,7 @@ returns-5 c =
     let e = told_ran H.result.bad (h, H.result.extra) z _ i1.if1.false H.ensures.0 in
     let J = i2.before.before.judge-body in
     let o = J.ensures.1.1.1 i2.if2.false in
-    let s = sym i3.before.codes-agree.ensures ∙ not_false _ i3.if3.false in
+    let s = sym i3.before.codes-agree.ensures ∙ not-false _ i3.if3.false in
     let w = sym (short_is h l _ (H.ensures.1.0 i1.if1.false) refl) ∙ sym i4.before.is-short.ensures ∙ i4.if4.false in
     let G = g.fill in
     let m = G.new.1.1.1.1 in

@@ -1,6 +1,6 @@
 -- `trcf::head::block_of` meets its contract: each return by the tests on the way to it. Assumes nothing.
 use native.Mathlib.Omega.{arith}
-use borrow.Author.Tests.{not_true, not_false, lt-ltb, le-ltb, eq-eqb, ne_eqb, le-leb, lt-leb}
+use borrow.Author.Tests.{not-true, not-false, lt-ltb, le-ltb, eq-eqb, ne_eqb, le-leb, lt-leb}
 use mathlib.Core.Path.{◌≡◌, refl, sym, ap, ◌∙◌}
 use native.Mathlib.Nat.{add-zero}
 use Rattle.trcf.specs.Lengths.{where_fits, within}

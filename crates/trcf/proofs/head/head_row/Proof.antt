@@ -1,6 +1,6 @@
 -- `trcf::head::head_row` meets its contract: each return by the tests on the way to it. Assumes nothing.
 use native.Mathlib.Omega.{arith}
-use borrow.Author.Tests.{not_true, not_false, lt-ltb, le-ltb, eq-eqb, ne_eqb, le-leb, lt-leb}
+use borrow.Author.Tests.{not-true, not-false, lt-ltb, le-ltb, eq-eqb, ne_eqb, le-leb, lt-leb}
 use Rattle.trcf.specs.View.{head_row}
 use Rattle.trcf.proofs.head.head_row.Statement.{statement}
 use Rattle.trcf.proofs.head.head_row.Tie as tie

@@ -1,6 +1,6 @@
 -- `trcf::lengths::has_room` meets its contract: each return by the tests on the way to it. Assumes nothing.
 use Prim.Native.Nat.{◌+◌}
-use borrow.Author.Tests.{not_true, not_false, lt-ltb, le-ltb, eq-eqb, ne_eqb, le-leb, lt-leb}
+use borrow.Author.Tests.{not-true, not-false, lt-ltb, le-ltb, eq-eqb, ne_eqb, le-leb, lt-leb}
 use native.Mathlib.Omega.{arith}
 use Rattle.trcf.specs.Lengths.{within}
 use Rattle.trcf.proofs.lengths.has_room.Statement.{statement}

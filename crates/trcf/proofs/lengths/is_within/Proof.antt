@@ -1,5 +1,5 @@
 -- `trcf::lengths::is_within` meets its contract: each return by the test on the way to it. Assumes nothing.
-use borrow.Author.Tests.{not_true, not_false, lt-ltb, le-ltb, eq-eqb, ne_eqb, le-leb, lt-leb}
+use borrow.Author.Tests.{not-true, not-false, lt-ltb, le-ltb, eq-eqb, ne_eqb, le-leb, lt-leb}
 use Rattle.trcf.specs.Lengths.{within}
 use Rattle.trcf.proofs.lengths.is_within.Statement.{statement}
 use Rattle.trcf.proofs.lengths.is_within.Tie as tie

@@ -1,6 +1,6 @@
 -- `trcf::lengths::output_fits` meets its contract: each return by the tests on the way to it. Assumes nothing.
 use mathlib.Core.Path.{◌≡◌, refl, sym, ap, ◌∙◌}
-use borrow.Author.Tests.{not_true, not_false, lt-ltb, le-ltb, eq-eqb, ne_eqb, le-leb, lt-leb}
+use borrow.Author.Tests.{not-true, not-false, lt-ltb, le-ltb, eq-eqb, ne_eqb, le-leb, lt-leb}
 use native.Mathlib.Omega.{arith}
 use Rattle.trcf.proofs.BoundLaws.{five, five_more, all_statistics, all_inputs}
 use Rattle.trcf.proofs.ExtrapolationLaws.{true_false}

@@ -1,5 +1,5 @@
 -- `trcf::time::newest_of` meets its contract: each return by the tests on the way to it. Assumes nothing.
-use borrow.Author.Tests.{not_true, not_false, lt-ltb, le-ltb, eq-eqb, ne_eqb, le-leb, lt-leb}
+use borrow.Author.Tests.{not-true, not-false, lt-ltb, le-ltb, eq-eqb, ne_eqb, le-leb, lt-leb}
 use Rattle.trcf.proofs.time.newest_of.Statement.{statement}
 use Rattle.trcf.proofs.time.newest_of.Tie as tie
 

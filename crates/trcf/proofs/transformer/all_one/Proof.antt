@@ -1,7 +1,7 @@
 -- `trcf::transformer::all_one` meets its contract: the invariant is that the answer is that of what is left. Assumes nothing.
 use native.Mathlib.Omega.{arith}
 use native.Mathlib.Numerals.{add-one}
-use borrow.Author.Tests.{not_true, not_false}
+use borrow.Author.Tests.{not-true, not-false}
 use Prim.Native.Nat.{ℕ, ◌≤◌, ◌<◌, ◌-◌}
 use lib.ListN.{length, drop, drop_of_length-le}
 use mathlib.Core.Path.{◌≡◌, refl, sym, ap, ◌∙◌}
@@ -32,7 +32,7 @@ unfolding ne
 returns c = let L = c.before.before.before.loop in
     let w = c.before.before.before.before.args.w.now in
     let h : L.i < length w = omega arith in
-    sym (L.invariant.1 ∙ all_one_at w L.i false h (not_true _ c.if1.true))
+    sym (L.invariant.1 ∙ all_one_at w L.i false h (not-true _ c.if1.true))
 
 add-i : tie.Need-overflow-add-i invariant-loop decreases-loop
 add-i c = omega arith
@@ -46,7 +46,7 @@ loop-again c = let L = c.before.before.before.loop in
     let w = c.before.before.before.before.args.w.now in
     let h : L.i < length w = omega arith in (
       omega arith,
-      L.invariant.1 ∙ all_one_at w L.i true h (not_false _ c.if1.false) ∙ ap (λ (k : ℕ). all_one (drop k w)) (sym (add-one L.i)),
+      L.invariant.1 ∙ all_one_at w L.i true h (not-false _ c.if1.false) ∙ ap (λ (k : ℕ). all_one (drop k w)) (sym (add-one L.i)),
     )
 
 returns-2 : tie.Need-returns-2 invariant-loop decreases-loop

@@ -2,7 +2,7 @@
 use Rattle.trcf.proofs.LengthLaws.{opened, output_fits_lem}
 use native.Mathlib.Omega.{arith}
 use mathlib.Core.Path.{◌≡◌, refl, sym, ap, ◌∙◌}
-use borrow.Author.Tests.{not_true, not_false, lt-ltb, le-ltb, eq-eqb, ne_eqb, le-leb, lt-leb}
+use borrow.Author.Tests.{not-true, not-false, lt-ltb, le-ltb, eq-eqb, ne_eqb, le-leb, lt-leb}
 use Prim.Native.Nat.{ℕ, suc, ◌+◌, ◌-◌, ◌*◌, ◌≤◌, ◌<◌}
 use Rattle.trcf_learn.proofs.learn.write_completing.Statement.{statement}
 use Rattle.trcf_learn.proofs.learn.write_completing.Tie as tie

@@ -3,7 +3,7 @@ use Rattle.trcf.proofs.LengthLaws.{roomy}
 use Rattle.trcf.proofs.BoundLaws.{block_start, block_end, block_at, block_to, block_bytes, flat_turned, place_back, back_inside, flat_wide}
 use native.Mathlib.Omega.{arith}
 use mathlib.Core.Path.{◌≡◌, refl, sym, ap, ◌∙◌}
-use borrow.Author.Tests.{not_true, not_false, lt-ltb, le-ltb, eq-eqb, ne_eqb, le-leb, lt-leb}
+use borrow.Author.Tests.{not-true, not-false, lt-ltb, le-ltb, eq-eqb, ne_eqb, le-leb, lt-leb}
 use Prim.Native.Nat.{ℕ, suc, ◌+◌, ◌-◌, ◌*◌, ◌≤◌, ◌<◌}
 use native.Mathlib.Nat.{mul-le-mul, le_refl, le-mul_of_pos_right, mul_comm}
 use lib.ListN.{length, length-take, length-drop, take, drop}

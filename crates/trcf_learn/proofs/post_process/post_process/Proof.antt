@@ -1,5 +1,5 @@
 -- `trcf_learn::post_process::post_process` meets its contract: by its callees' promises and the laws of outcomes. Assumes nothing.
-use borrow.Author.Tests.{not_true, not_false}
+use borrow.Author.Tests.{not-true, not-false}
 use mir.Val.{to_z, of_z}
 use mathlib.Core.Path.{refl}
 use mir.Syntax.{w32}
@@ -152,7 +152,7 @@ returns-3 c =
     way_none a.head a.statistics.now a.last-shingled-input.now a.last-shingled-point.now a.previous-timestamps.now a.initial-values.now a.initial-timestamps.now
     a.input.now a.timestamp a.has-y a.y.now a.expects a.expected.now a.grade a.relative-index (to_z w32 (of_z w32 a.relative-index)) a.deviations-out.now
     a.past-out.now a.expected-out.now u o.result o.ensures.0 o.ensures.1 c.before.before.before.before.if1.false c.before.before.before.is-waiting.result
-    c.before.before.before.is-waiting.ensures c.before.before.if2.false (not_true a.has-y c.before.if3.true) c.unlearned2.result c.unlearned2.ensures
+    c.before.before.before.is-waiting.ensures c.before.before.if2.false (not-true a.has-y c.before.if3.true) c.unlearned2.result c.unlearned2.ensures
 
 places-back-requires : tie.Need-places-back-requires
 places-back-requires c κs = tt
@@ -170,7 +170,7 @@ post-process-learning-requires c κs =
     a.initial-timestamps.now a.input.now a.timestamp a.has-y a.y.now a.expects a.expected.now a.grade a.relative-index (to_z w32 (of_z w32 a.relative-index))
     a.deviations-out.now a.past-out.now a.expected-out.now u o.result o.ensures.0 o.ensures.1 c8.before.before.before.if1.false
     c8.before.before.is-waiting.result c8.before.before.is-waiting.ensures c8.before.if2.false
-    (not_false a.has-y c.before.before.before.before.before.before.before.before.if3.false) c.before.before.before.before.before.before.before.places-back.result
+    (not-false a.has-y c.before.before.before.before.before.before.before.before.if3.false) c.before.before.before.before.before.before.before.places-back.result
     c.before.before.before.before.before.before.before.places-back.ensures
 
 same-length-28 : tie.Need-same-length-28
@@ -229,7 +229,7 @@ returns-4 c =
     a.input.now a.timestamp a.has-y a.y.now a.expects a.expected.now a.grade a.relative-index (to_z w32 (of_z w32 a.relative-index)) a.deviations-out.now
     a.past-out.now a.expected-out.now u o.result o.ensures.0 o.ensures.1 c24.before.before.if1.false c24.before.is-waiting.result
     c24.before.is-waiting.ensures c16.before.before.before.before.before.before.before.before.if2.false
-    (not_false a.has-y c16.before.before.before.before.before.before.before.if3.false) c16.before.before.before.before.before.before.places-back.result
+    (not-false a.has-y c16.before.before.before.before.before.before.before.if3.false) c16.before.before.before.before.before.before.places-back.result
     c16.before.before.before.before.before.before.places-back.ensures _ c8.before.before.before.before.before.before.post-process-learning.ensures
 
 pub post-process-spec : {M : Type 1} → statement M

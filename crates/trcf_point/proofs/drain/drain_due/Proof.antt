@@ -7,7 +7,7 @@ use Prim.Native.Nat.{ℕ, ◌+◌, ◌-◌, ◌*◌, ◌≤◌, ◌<◌}
 use native.Mathlib.Nat.{mul-le-mul, le_refl, le-mul_of_pos_right}
 use lib.ListN.{length, length-take, length-drop, take, drop}
 use mathlib.Core.Bool.{true, false}
-use borrow.Author.Tests.{not_true, not_false}
+use borrow.Author.Tests.{not-true, not-false}
 use lib.Seq.{length-take-le}
 use Rattle.trcf.specs.Calls.{due}
 use Rattle.trcf.specs.Preprocessor.{facts}
@@ -28,7 +28,7 @@ returns c =
     let l = lent a.statistics.now a.last-shingled-input.now a.last-shingled-point.now a.previous-timestamps.now a.initial-values.now a.initial-timestamps.now in
     let f = c.before.before.before.before.before.before.before.before.requires.0.fitted in
     let r = f.roomy in
-    let e : due (settings_of h) (facts (view h l)) ≡ false = sym c.before.is-due.ensures ∙ not_true _ c.if1.true in
+    let e : due (settings_of h) (facts (view h l)) ≡ false = sym c.before.is-due.ensures ∙ not-true _ c.if1.true in
     (undrained h l f e, undrained_is h l f e)
 
 get-dimension-requires : tie.Need-get-dimension-requires
@@ -165,7 +165,7 @@ drain-all-requires c κs =
     let r = f.roomy in
     let m = mul-le-mul f.in_room (le_refl h.transformer.input_length) in
     let b = mul-le-mul f.few c16.requires.0.bounded.d_few in
-    let e : due (settings_of h) (facts (view h l)) ≡ true = sym c8.before.is-due.ensures ∙ not_false _ c8.if1.false in
+    let e : due (settings_of h) (facts (view h l)) ≡ true = sym c8.before.is-due.ensures ∙ not-false _ c8.if1.false in
     let u = count_room h l c16.requires.1 e in
     let n = length-take-le h.initial_len a.initial-timestamps.now (omega (arith, f.in_room, r)) in
     let v = length-take-le (h.initial_len * h.transformer.input_length) a.initial-values.now (omega (arith, m, r)) in (
@@ -192,7 +192,7 @@ add-with-counts c =
     let l = lent a.statistics.now a.last-shingled-input.now a.last-shingled-point.now a.previous-timestamps.now a.initial-values.now a.initial-timestamps.now in
     let f = c24.before.before.requires.0.fitted in
     let r = f.roomy in
-    let e : due (settings_of h) (facts (view h l)) ≡ true = sym c16.before.before.before.is-due.ensures ∙ not_false _ c16.before.before.if1.false in
+    let e : due (settings_of h) (facts (view h l)) ≡ true = sym c16.before.before.before.is-due.ensures ∙ not-false _ c16.before.before.if1.false in
     let u = count_room h l c24.before.before.requires.1 e in
     let i = internal_room h l c24.before.before.requires.1 e in
     omega (arith, f.few)
@@ -208,7 +208,7 @@ add-with-counts-2 c =
     let l = lent a.statistics.now a.last-shingled-input.now a.last-shingled-point.now a.previous-timestamps.now a.initial-values.now a.initial-timestamps.now in
     let f = c24.before.before.before.requires.0.fitted in
     let r = f.roomy in
-    let e : due (settings_of h) (facts (view h l)) ≡ true = sym c16.before.before.before.before.is-due.ensures ∙ not_false _
+    let e : due (settings_of h) (facts (view h l)) ≡ true = sym c16.before.before.before.before.is-due.ensures ∙ not-false _
     c16.before.before.before.if1.false in
     let u = count_room h l c24.before.before.before.requires.1 e in
     let i = internal_room h l c24.before.before.before.requires.1 e in
@@ -240,7 +240,7 @@ returns-2 c =
     let l = lent a.statistics.now a.last-shingled-input.now a.last-shingled-point.now a.previous-timestamps.now a.initial-values.now a.initial-timestamps.now in
     let f = c24.before.before.before.before.requires.0.fitted in
     let r = f.roomy in
-    let e : due (settings_of h) (facts (view h l)) ≡ true = sym c16.before.before.before.before.before.is-due.ensures ∙ not_false _
+    let e : due (settings_of h) (facts (view h l)) ≡ true = sym c16.before.before.before.before.before.is-due.ensures ∙ not-false _
     c16.before.before.before.before.if1.false in
     let K = c8.before.before.before.drain_all_lem.auto in rw c.with-counts.ensures (
       drained_out_at h l f (omega (arith, due_some h l e, length-take-le h.initial_len a.initial-timestamps.now (omega (arith, f.in_room, r)))) e c16.before.before.get-dimension.result

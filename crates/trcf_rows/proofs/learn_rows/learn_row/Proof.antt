@@ -1,6 +1,6 @@
 -- `trcf_rows::learn_rows::learn_row` meets its contract: each return by the tests on the way to it. Assumes nothing.
 use Rattle.trcf.proofs.LengthLaws.{block_known, dimension_known}
-use borrow.Author.Tests.{not_true, not_false, lt-ltb, le-ltb}
+use borrow.Author.Tests.{not-true, not-false, lt-ltb, le-ltb}
 use mathlib.Core.Path.{sym, ◌∙◌}
 use Rattle.trcf.specs.Settings.{block}
 use Rattle.trcf.specs.Steps.Rows.{learn_row}
@@ -52,7 +52,7 @@ returns-3 c =
       sym c.before.before.before.before.is-wrong.ensures ∙
           c.before.before.before.if1.false,
       sym c.before.before.is-wrong2.ensures ∙ c.before.if2.false,
-      not_true
+      not-true
           c.before.before.before.before.before.before.before.before.args.has-y c.if3.true,
     )
 
@@ -71,7 +71,7 @@ returns-4 c =
           c.before.before.before.before.before.before.is-wrong.ensures ∙ c.before.before.before.before.before.if1.false,
       sym
           c.before.before.before.before.is-wrong2.ensures ∙ c.before.before.before.if2.false,
-      not_false c8.before.before.args.has-y c.before.before.if3.false,
+      not-false c8.before.before.args.has-y c.before.before.if3.false,
       sym
           c.before.is-misplaced.ensures ∙ c.if4.true,
     )
@@ -90,7 +90,7 @@ returns-5 c =
           c.before.before.before.before.before.before.before.before.is-wrong.ensures ∙ c.before.before.before.before.before.before.before.if1.false,
       sym
           c.before.before.before.before.before.before.is-wrong2.ensures ∙ c.before.before.before.before.before.if2.false,
-      not_false
+      not-false
           c8.before.before.before.before.args.has-y c.before.before.before.before.if3.false,
       sym c.before.before.before.is-misplaced.ensures ∙ c.before.before.if4.false,
       sym c.before.is-full.ensures ∙ c.if5.true,
@@ -107,7 +107,7 @@ returns-6 c =
           c8.before.is-wrong.ensures ∙ c.before.before.before.before.before.before.before.before.if1.false,
       sym
           c.before.before.before.before.before.before.before.is-wrong2.ensures ∙ c.before.before.before.before.before.before.if2.false,
-      not_false
+      not-false
           c8.before.before.before.before.before.args.has-y c.before.before.before.before.before.if3.false,
       sym c.before.before.before.before.is-misplaced.ensures ∙
           c.before.before.before.if4.false,
@@ -129,7 +129,7 @@ returns-7 c =
       sym c8.before.before.before.is-wrong.ensures ∙ c8.before.before.if1.false,
       sym
           c8.before.is-wrong2.ensures ∙ c.before.before.before.before.before.before.before.before.if2.false,
-      not_false
+      not-false
           c8.before.before.before.before.before.before.before.args.has-y c.before.before.before.before.before.before.before.if3.false,
       sym
           c.before.before.before.before.before.before.is-misplaced.ensures ∙ c.before.before.before.before.before.if4.false,
@@ -151,7 +151,7 @@ returns-8 c =
       sym c8.before.before.before.is-wrong.ensures ∙ c8.before.before.if1.false,
       sym
           c8.before.is-wrong2.ensures ∙ c.before.before.before.before.before.before.before.before.if2.false,
-      not_false
+      not-false
           c8.before.before.before.before.before.before.before.args.has-y c.before.before.before.before.before.before.before.if3.false,
       sym
           c.before.before.before.before.before.before.is-misplaced.ensures ∙ c.before.before.before.before.before.if4.false,

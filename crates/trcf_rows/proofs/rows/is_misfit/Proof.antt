@@ -1,6 +1,6 @@
 -- `trcf_rows::rows::is_misfit` meets its contract: each return by the tests on the way to it. Assumes nothing.
 use mathlib.Core.Path.{sym, ◌∙◌}
-use borrow.Author.Tests.{not_true, not_false, lt-ltb, le-ltb, eq-eqb, ne_eqb}
+use borrow.Author.Tests.{not-true, not-false, lt-ltb, le-ltb, eq-eqb, ne_eqb}
 use Rattle.trcf.specs.View.{counters_unfit}
 use Rattle.trcf_rows.proofs.rows.is_misfit.Statement.{statement}
 use Rattle.trcf_rows.proofs.rows.is_misfit.Tie as tie
@@ -31,7 +31,7 @@ returns-4 c =
       le-ltb _ _ e.before.before.if1.false,
       le-ltb _ _ e.before.if2.false,
       le-ltb _ _ e.if3.false,
-      sym c.before.before.is-waiting.ensures ∙ not_true _
+      sym c.before.before.is-waiting.ensures ∙ not-true _
           c.before.if4.true,
     ) c.is-left.ensures
 
@@ -43,7 +43,7 @@ returns-5 c =
       le-ltb _ _ e.before.before.if1.false,
       le-ltb _ _ e.before.if2.false,
       le-ltb _ _ e.if3.false,
-      sym c.before.before.is-waiting.ensures ∙ not_false _
+      sym c.before.before.is-waiting.ensures ∙ not-false _
           c.before.if4.false,
       eq-eqb _ _ c.if5.true,
     )
@@ -56,7 +56,7 @@ returns-6 c =
       le-ltb _ _ e.before.before.if1.false,
       le-ltb _ _ e.before.if2.false,
       le-ltb _ _ e.if3.false,
-      sym c.before.before.is-waiting.ensures ∙ not_false _
+      sym c.before.before.is-waiting.ensures ∙ not-false _
           c.before.if4.false,
       ne_eqb _ _ c.if5.false,
     )

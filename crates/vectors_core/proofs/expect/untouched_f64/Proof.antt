@@ -6,7 +6,7 @@ use mathlib.Core.Path.{◌≡◌, refl, sym, ap, ◌∙◌}
 use lib.ListN.{length, drop, drop_of_length-le}
 use lib.Ieee.{nan}
 use Prim.Native.Nat.{ℕ, ◌≤◌, ◌<◌, ◌-◌}
-use borrow.Author.Tests.{not_true, not_false}
+use borrow.Author.Tests.{not-true, not-false}
 use native.Mathlib.Numerals.{add-one}
 use native.Mathlib.Omega.{arith}
 use Rattle.vectors_core.proofs.expect.untouched_f64.Statement.{statement}
@@ -35,7 +35,7 @@ returns c =
     let L = c.before.before.before.before.loop in
     let x = c.before.before.before.before.before.before.args.xs.now in
     let h : L.i < length x = omega arith in
-    sym (L.invariant.1 ∙ every_at is_old64 x L.i nan false h (sym c.before.is-old-f64.ensures ∙ not_true _ c.if1.true))
+    sym (L.invariant.1 ∙ every_at is_old64 x L.i nan false h (sym c.before.is-old-f64.ensures ∙ not-true _ c.if1.true))
 
 add-i : tie.Need-overflow-add-i invariant-loop decreases-loop
 add-i c = omega arith
@@ -49,7 +49,7 @@ loop-again c =
     let x = c.before.before.before.before.before.before.args.xs.now in
     let h : L.i < length x = omega arith in (
       omega arith,
-      L.invariant.1 ∙ every_at is_old64 x L.i nan true h (sym c.before.is-old-f64.ensures ∙ not_false _ c.if1.false)
+      L.invariant.1 ∙ every_at is_old64 x L.i nan true h (sym c.before.is-old-f64.ensures ∙ not-false _ c.if1.false)
           ∙ ap (λ (k : ℕ). all_pass is_old64 (drop k x)) (sym (add-one L.i)),
     )
 
