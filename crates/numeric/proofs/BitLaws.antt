@@ -10,8 +10,8 @@ a_number nan h = subst T h tt
 a_number (inf s) h = tt
 a_number (fin s m e) h = tt
 
-pub nan_bits : (f : Format) (x : Float) → ne x x ≡ true → to_bits f nan ≡ to_bits f x
-nan_bits f x h = ap (to_bits f) (sym (differs_from_itself x (subst T (sym h) tt)))
+pub nan_bits_lem : (f : Format) (x : Float) → ne x x ≡ true → to_bits f nan ≡ to_bits f x
+nan_bits_lem f x h = ap (to_bits f) (sym (differs_from_itself x (subst T (sym h) tt)))
 
 pub zero_by_zero : (f : Format) → div f (of_bits f 0) (of_bits f 0) ≡ nan
 unfolding div of_bits

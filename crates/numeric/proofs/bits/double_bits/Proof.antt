@@ -1,5 +1,5 @@
 -- `numeric::bits::double_bits` meets its contract: a not-a-number in the one pattern, else its bits. Assumes nothing.
-use Rattle.numeric.proofs.BitLaws.{a_number, nan_bits}
+use Rattle.numeric.proofs.BitLaws.{a_number, nan_bits_lem}
 use lib.Ieee.{binary64, to_bits}
 use Rattle.std.proofs.Common.{rules}
 use Rattle.numeric.proofs.bits.double_bits.Statement.{statement}
@@ -7,7 +7,7 @@ use Rattle.numeric.proofs.bits.double_bits.Tie as tie
 
 returns : tie.Need-returns
 unfolding to_bits
-returns c = nan_bits binary64 c.before.args.x c.if1.true
+returns c = nan_bits_lem binary64 c.before.args.x c.if1.true
 
 float-to-bits-result : tie.Need-float-to-bits-result
 float-to-bits-result c = a_number c.before.args.x c.if1.false

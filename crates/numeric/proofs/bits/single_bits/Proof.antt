@@ -1,14 +1,14 @@
 -- `numeric::bits::single_bits` meets its contract: a not-a-number in the one pattern, else its bits. Assumes nothing.
 use lib.Ieee.Bits.{to_bits-lt}
 use Rattle.std.proofs.Common.{T, sym, subst, arith, rules}
-use Rattle.numeric.proofs.BitLaws.{a_number, nan_bits}
+use Rattle.numeric.proofs.BitLaws.{a_number, nan_bits_lem}
 use lib.Ieee.{binary32, to_bits}
 use Rattle.numeric.proofs.bits.single_bits.Statement.{statement}
 use Rattle.numeric.proofs.bits.single_bits.Tie as tie
 
 returns : tie.Need-returns
 unfolding to_bits
-returns c = nan_bits binary32 c.before.args.x c.if1.true
+returns c = nan_bits_lem binary32 c.before.args.x c.if1.true
 
 float-to-bits-result : tie.Need-float-to-bits-result
 float-to-bits-result c = a_number c.before.args.x c.if1.false
