@@ -1,0 +1,190 @@
+-- `bench_blocks::block::cells` meets its contract. Assumes nothing.
+use Prim.Native.Nat.{◌-◌}
+use native.Mathlib.Omega.{arith}
+use mathlib.Core.Path.{refl}
+use lib.ListN.{length, length-drop}
+use Rattle.trcf.specs.View.{lent}
+use Rattle.bench_blocks.proofs.LoopLaws.{stands_first, stands_full, stands_idle, stands_next}
+use Rattle.bench_blocks.proofs.block.cells.Goals as goal
+
+pub loop-out-init : goal.loop-out-init
+loop-out-init c =
+    let k1 : tie.After-slice-known invariant-loop decreases-loop = c in
+    let a = k1.before.args in (
+      (refl, refl, refl, refl, refl, refl, refl, refl),
+      stands_first a.b
+          (lent a.statistics.now a.last-shingled-input.now a.last-shingled-point.now a.previous-timestamps.now a.initial-values.now a.initial-timestamps.now)
+          a.point.now a.text.now a.out.now,
+    )
+
+pub overflow_sub-out : goal.overflow_sub-out
+overflow_sub-out c = omega (arith, c.loop-out.invariant.1.fits)
+
+pub cell_at-s-requires : goal.cell_at-s-requires
+cell_at-s-requires c =
+    let k1 : tie.In-loop invariant-loop decreases-loop = c in
+    record { next_in_bounds = k1.before.loop.invariant.1.read; at_in_bounds = omega (arith, k1.before.loop.invariant.1.fits, c.loop-out-test.true) }
+
+pub shape_of-statistics-then-s-eq0 : goal.shape_of-statistics-then-s-eq0
+shape_of-statistics-then-s-eq0 c =
+    let k1 : tie.After-initial-timestamps invariant-loop decreases-loop = c in
+    let k2 : tie.After-last-shingled-input invariant-loop decreases-loop = k1.before.before.before.before.before.before.before.before in
+    let k3 : tie.After-cell-at-arg4 invariant-loop decreases-loop = k2.before.before.before.before.before.before.before.before in
+    omega (arith, k2.before.before.before.Cell-at.auto, k3.before.before.before.before.before.loop.invariant.0)
+
+pub shape_of-last_shingled_input-then-s-eq0 : goal.shape_of-last_shingled_input-then-s-eq0
+shape_of-last_shingled_input-then-s-eq0 c =
+    let k1 : tie.After-initial-timestamps invariant-loop decreases-loop = c in
+    let k2 : tie.After-last-shingled-input invariant-loop decreases-loop = k1.before.before.before.before.before.before.before.before in
+    let k3 : tie.After-cell-at-arg4 invariant-loop decreases-loop = k2.before.before.before.before.before.before.before.before in
+    omega (arith, k2.before.before.before.Cell-at.auto, k3.before.before.before.before.before.loop.invariant.0)
+
+pub shape_of-last_shingled_point-then-s-eq0 : goal.shape_of-last_shingled_point-then-s-eq0
+shape_of-last_shingled_point-then-s-eq0 c =
+    let k1 : tie.After-initial-timestamps invariant-loop decreases-loop = c in
+    let k2 : tie.After-last-shingled-input invariant-loop decreases-loop = k1.before.before.before.before.before.before.before.before in
+    let k3 : tie.After-cell-at-arg4 invariant-loop decreases-loop = k2.before.before.before.before.before.before.before.before in
+    omega (arith, k2.before.before.before.Cell-at.auto, k3.before.before.before.before.before.loop.invariant.0)
+
+pub shape_of-previous_timestamps-then-s-eq0 : goal.shape_of-previous_timestamps-then-s-eq0
+shape_of-previous_timestamps-then-s-eq0 c =
+    let k1 : tie.After-initial-timestamps invariant-loop decreases-loop = c in
+    let k2 : tie.After-last-shingled-input invariant-loop decreases-loop = k1.before.before.before.before.before.before.before.before in
+    let k3 : tie.After-cell-at-arg4 invariant-loop decreases-loop = k2.before.before.before.before.before.before.before.before in
+    omega (arith, k2.before.before.before.Cell-at.auto, k3.before.before.before.before.before.loop.invariant.0)
+
+pub shape_of-initial_values-then-s-eq0 : goal.shape_of-initial_values-then-s-eq0
+shape_of-initial_values-then-s-eq0 c =
+    let k1 : tie.After-initial-timestamps invariant-loop decreases-loop = c in
+    let k2 : tie.After-last-shingled-input invariant-loop decreases-loop = k1.before.before.before.before.before.before.before.before in
+    let k3 : tie.After-cell-at-arg4 invariant-loop decreases-loop = k2.before.before.before.before.before.before.before.before in
+    omega (arith, k2.before.before.before.Cell-at.auto, k3.before.before.before.before.before.loop.invariant.0)
+
+pub shape_of-initial_timestamps-then-s-eq0 : goal.shape_of-initial_timestamps-then-s-eq0
+shape_of-initial_timestamps-then-s-eq0 c =
+    let k1 : tie.After-initial-timestamps invariant-loop decreases-loop = c in
+    let k2 : tie.After-last-shingled-input invariant-loop decreases-loop = k1.before.before.before.before.before.before.before.before in
+    let k3 : tie.After-cell-at-arg4 invariant-loop decreases-loop = k2.before.before.before.before.before.before.before.before in
+    omega (arith, k2.before.before.before.Cell-at.auto, k3.before.before.before.before.before.loop.invariant.0)
+
+pub shape_of-point-then-s-eq0 : goal.shape_of-point-then-s-eq0
+shape_of-point-then-s-eq0 c =
+    let k1 : tie.After-initial-timestamps invariant-loop decreases-loop = c in
+    let k2 : tie.After-last-shingled-input invariant-loop decreases-loop = k1.before.before.before.before.before.before.before.before in
+    let k3 : tie.After-cell-at-arg4 invariant-loop decreases-loop = k2.before.before.before.before.before.before.before.before in
+    omega (arith, k2.before.before.before.Cell-at.auto, k3.before.before.before.before.before.loop.invariant.0)
+
+pub shape_of-out-then-s-eq0 : goal.shape_of-out-then-s-eq0
+shape_of-out-then-s-eq0 c =
+    let k1 : tie.After-initial-timestamps invariant-loop decreases-loop = c in
+    let k2 : tie.After-last-shingled-input invariant-loop decreases-loop = k1.before.before.before.before.before.before.before.before in
+    let k3 : tie.After-cell-at-arg4 invariant-loop decreases-loop = k2.before.before.before.before.before.before.before.before in
+    omega (arith, k2.before.before.before.Cell-at.auto, k3.before.before.before.before.before.loop.invariant.0)
+
+pub returns-then-s-eq0 : goal.returns-then-s-eq0
+returns-then-s-eq0 c =
+    let k1 : tie.After-initial-timestamps invariant-loop decreases-loop = c in
+    let k2 : tie.After-last-shingled-input invariant-loop decreases-loop = k1.before.before.before.before.before.before.before.before in
+    let k3 : tie.After-cell-at-arg4 invariant-loop decreases-loop = k2.before.before.before.before.before.before.before.before in
+    let k4 : tie.After-slice-known7 invariant-loop decreases-loop = k3.before.before.before.before.before.before.before.before in
+    let a = k4.before.before.before.before.before.before.before.args in
+    let l = k3.before.before.before.before.before.loop in
+    let s = k2.before.before.before.Cell-at in
+    stands_idle a.b
+    (lent a.statistics.now a.last-shingled-input.now a.last-shingled-point.now a.previous-timestamps.now a.initial-values.now a.initial-timestamps.now)
+    a.point.now a.text.now a.out.now l.bench
+    (lent l.statistics l.last-shingled-input l.last-shingled-point l.previous-timestamps l.initial-values l.initial-timestamps) l.point l.out l.next
+    l.at l.invariant.1 k3.before.before.before.before.loop-test.true s.result.bench
+    (lent s.new.1.0 s.new.1.1.0 s.new.1.1.1.0 s.new.1.1.1.1.0 s.new.1.1.1.1.1.0 s.new.1.1.1.1.1.1.0)
+    s.new.1.1.1.1.1.1.1.0 s.new.1.1.1.1.1.1.1.1.1.1.0 s.result.next s.result.length s.ensures (omega (arith, s.auto)) c.if-s-eq0.true
+
+pub overflow_add-next : goal.overflow_add-next
+overflow_add-next c =
+    let k1 : tie.After-slice-known14 invariant-loop decreases-loop = c in
+    let k2 : tie.After-slice-known10 invariant-loop decreases-loop = k1.before.before.before.before.before.before.before.before in
+    let k3 : tie.After-cell-at-arg5 invariant-loop decreases-loop = k2.before.before.before.before.before.before.before.before in
+    let k4 : tie.After-shared-slice-known invariant-loop decreases-loop = k3.before.before.before.before.before.before.before.before in
+    let a = k4.before.before.before.before.before.before.before.before.args in
+    let l = k3.before.before.before.before.before.before.loop in
+    let s = k2.before.before.before.before.Cell-at in
+    omega (arith, l.invariant.1.read, s.ensures.within, length-drop l.next a.text.now, k4.before.before.before.before.before.before.before.before.well-formed)
+
+pub overflow_add-at : goal.overflow_add-at
+overflow_add-at c =
+    let k1 : tie.After-point invariant-loop decreases-loop = c in
+    let k2 : tie.After-last-shingled-point invariant-loop decreases-loop = k1.before.before.before.before.before.before.before.before in
+    let k3 : tie.After-cell-at-arg6 invariant-loop decreases-loop = k2.before.before.before.before.before.before.before.before in
+    let k4 : tie.After-slice-known8 invariant-loop decreases-loop = k3.before.before.before.before.before.before.before.before in
+    let k5 : tie.After-slice-known invariant-loop decreases-loop = k4.before.before.before.before.before.before.before.before in
+    let a = k5.before.args in
+    let l = k3.before.before.before.before.before.before.before.loop in
+    let s = k2.before.before.before.before.before.Cell-at in
+    omega (arith, l.invariant.1.fits, s.ensures.fits, k3.before.before.before.before.before.before.loop-test.true, l.invariant.0, k5.before.well-formed)
+
+pub loop-out-smaller : goal.loop-out-smaller
+loop-out-smaller c =
+    let k1 : tie.After-point invariant-loop decreases-loop = c in
+    let k2 : tie.After-last-shingled-point invariant-loop decreases-loop = k1.before.before.before.before.before.before.before.before in
+    let k3 : tie.After-cell-at-arg6 invariant-loop decreases-loop = k2.before.before.before.before.before.before.before.before in
+    let k4 : tie.After-slice-known8 invariant-loop decreases-loop = k3.before.before.before.before.before.before.before.before in
+    let k5 : tie.After-slice-known invariant-loop decreases-loop = k4.before.before.before.before.before.before.before.before in
+    let a = k5.before.args in
+    let l = k3.before.before.before.before.before.before.before.loop in
+    let s = k2.before.before.before.before.before.Cell-at in
+    omega (arith, l.invariant.1.read, s.ensures.within, length-drop l.next a.text.now, c.if-s-eq0.false)
+
+pub loop-out-preserved : goal.loop-out-preserved
+loop-out-preserved c =
+    let k1 : tie.After-point invariant-loop decreases-loop = c in
+    let k2 : tie.After-last-shingled-point invariant-loop decreases-loop = k1.before.before.before.before.before.before.before.before in
+    let k3 : tie.After-cell-at-arg6 invariant-loop decreases-loop = k2.before.before.before.before.before.before.before.before in
+    let k4 : tie.After-slice-known8 invariant-loop decreases-loop = k3.before.before.before.before.before.before.before.before in
+    let k5 : tie.After-slice-known invariant-loop decreases-loop = k4.before.before.before.before.before.before.before.before in
+    let a = k5.before.args in
+    let l = k3.before.before.before.before.before.before.before.loop in
+    let s = k2.before.before.before.before.before.Cell-at in (
+      omega (arith, s.auto, l.invariant.0),
+      stands_next a.b
+          (lent a.statistics.now a.last-shingled-input.now a.last-shingled-point.now a.previous-timestamps.now a.initial-values.now a.initial-timestamps.now)
+          a.point.now a.text.now a.out.now l.bench
+          (lent l.statistics l.last-shingled-input l.last-shingled-point l.previous-timestamps l.initial-values l.initial-timestamps) l.point l.out l.next
+          l.at l.invariant.1 k3.before.before.before.before.before.before.loop-test.true s.result.bench
+          (lent s.new.1.0 s.new.1.1.0 s.new.1.1.1.0 s.new.1.1.1.1.0 s.new.1.1.1.1.1.0 s.new.1.1.1.1.1.1.0)
+          s.new.1.1.1.1.1.1.1.0 s.new.1.1.1.1.1.1.1.1.1.1.0 s.result.next s.result.length s.ensures (omega (arith, s.auto))
+          c.if-s-eq0.false,
+    )
+
+pub shape_of-statistics : goal.shape_of-statistics
+shape_of-statistics c = omega (arith, c.loop-out.invariant.0)
+
+pub shape_of-last_shingled_input : goal.shape_of-last_shingled_input
+shape_of-last_shingled_input c = omega (arith, c.loop-out.invariant.0)
+
+pub shape_of-last_shingled_point : goal.shape_of-last_shingled_point
+shape_of-last_shingled_point c = omega (arith, c.loop-out.invariant.0)
+
+pub shape_of-previous_timestamps : goal.shape_of-previous_timestamps
+shape_of-previous_timestamps c = omega (arith, c.loop-out.invariant.0)
+
+pub shape_of-initial_values : goal.shape_of-initial_values
+shape_of-initial_values c = omega (arith, c.loop-out.invariant.0)
+
+pub shape_of-initial_timestamps : goal.shape_of-initial_timestamps
+shape_of-initial_timestamps c = omega (arith, c.loop-out.invariant.0)
+
+pub shape_of-point : goal.shape_of-point
+shape_of-point c = omega (arith, c.loop-out.invariant.0)
+
+pub shape_of-out : goal.shape_of-out
+shape_of-out c = omega (arith, c.loop-out.invariant.0)
+
+pub returns : goal.returns
+returns c =
+    let k1 : tie.After-slice-known3 invariant-loop decreases-loop = c in
+    let a = k1.before.before.before.args in
+    let l = c.loop-out in
+    stands_full a.b
+    (lent a.statistics.now a.last-shingled-input.now a.last-shingled-point.now a.previous-timestamps.now a.initial-values.now a.initial-timestamps.now)
+    a.point.now a.text.now a.out.now l.bench
+    (lent l.statistics l.last-shingled-input l.last-shingled-point l.previous-timestamps l.initial-values l.initial-timestamps) l.point l.out l.next
+    l.at l.invariant.1 c.loop-out-test.false

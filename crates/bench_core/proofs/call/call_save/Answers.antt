@@ -1,0 +1,21 @@
+-- `bench_core::call::call_save` meets its contract. Assumes nothing.
+use Rattle.bench_core.proofs.TurnLaws.{save_refused, save_done}
+use Rattle.trcf.specs.View.{lent}
+use Rattle.bench_core.proofs.call.call_save.Goals as goal
+
+pub returns-then-row-ne0 : goal.returns-then-row-ne0
+returns-then-row-ne0 c =
+    let c8 = c in
+    let c16 = c in
+    let a = c.args in
+    save_refused c.every_right-table.result c.every_right-table.ensures a.head
+    (lent a.statistics.now a.last-shingled-input.now a.last-shingled-point.now a.previous-timestamps.now a.initial-values.now a.initial-timestamps.now)
+    a.out.now c.save-r.ensures c.if-row-ne0.true c.print_no.ensures
+
+pub returns : goal.returns
+returns c =
+    let c8 = c in
+    let a = c.args in
+    save_done c.every_right-table.result c.every_right-table.ensures a.head
+    (lent a.statistics.now a.last-shingled-input.now a.last-shingled-point.now a.previous-timestamps.now a.initial-values.now a.initial-timestamps.now)
+    a.out.now c.save-r.ensures c.if-row-ne0.false

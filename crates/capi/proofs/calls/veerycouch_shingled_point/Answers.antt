@@ -1,0 +1,32 @@
+-- `capi::calls::veerycouch_shingled_point` meets its contract: by the promises of the words and of the call. Assumes nothing.
+use Rattle.trcf.specs.View.{lent}
+use Rattle.capi.proofs.CallLaws.{opened, point_refused, point_done}
+use Rattle.capi.proofs.calls.veerycouch_shingled_point.Goals as goal
+
+pub returns-then-bad-ne0 : goal.returns-then-bad-ne0
+returns-then-bad-ne0 c =
+    let c8 = c in
+    let a = c.args in
+    point_refused a.table.now a.role a.head.now (opened a.head.now c.may_point.ensures c.open_head-read.ensures.row_value)
+    (lent a.statistics.now a.last-shingled-input.now a.last-shingled-point.now a.previous-timestamps.now a.initial-values.now a.initial-timestamps.now)
+    a.input.now a.timestamp a.given.now a.output.now c.if-bad-ne0.true
+
+pub write_counts-requires : goal.write_counts-requires
+write_counts-requires c =
+    let c8 = c in
+    let c16 = c in
+    (c.open_head-read.ensures.head_read c.if-bad-ne0.false).whole
+
+pub returns : goal.returns
+returns c =
+    let c8 = c in
+    let c16 = c in
+    let c24 = c in
+    let c32 = c in
+    let a = c.args in
+    let h = c.open_head-read in
+    let m = c.may_point in
+    point_done a.table.now a.role a.head.now c.if-bad-ne0.false h.ensures.head_read (opened a.head.now m.ensures h.ensures.row_value)
+    (lent a.statistics.now a.last-shingled-input.now a.last-shingled-point.now a.previous-timestamps.now a.initial-values.now a.initial-timestamps.now)
+    a.input.now a.timestamp a.given.now a.output.now c.shingled_point-r.ensures c.write_counts.ensures
+    c.flag_of.ensures c.tell.ensures

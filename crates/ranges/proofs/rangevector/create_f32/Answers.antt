@@ -1,0 +1,30 @@
+-- `rangevector::create_f32` meets its contract. Refused by its row, or written to the front of each list. Assumes nothing.
+use Rattle.ranges.specs.RangeVector.{range_create, shorter}
+use Rattle.ranges.proofs.RangeSteps.{refused, done, all_three}
+use Rattle.ranges.proofs.rangevector.create_f32.Goals as goal
+
+pub returns-then-row-ne0 : goal.returns-then-row-ne0
+unfolding range_create shorter
+returns-then-row-ne0 c = refused _ _ _ _ c.create_row_f32-row.ensures.value c.if-row-ne0.true
+
+pub copy_f32-requires : goal.copy_f32-requires
+copy_f32-requires c = (c.create_row_f32-row.ensures.v_len_bound c.if-row-ne0.false).0
+
+pub copy_f32-requires-2 : goal.copy_f32-requires-2
+copy_f32-requires-2 c = (c.create_row_f32-row.ensures.v_len_bound c.if-row-ne0.false).1
+
+pub copy_f32-requires-3 : goal.copy_f32-requires-3
+copy_f32-requires-3 c =
+    let second = c in
+    let tested = c in
+    (c.create_row_f32-row.ensures.v_len_bound c.if-row-ne0.false).2
+
+pub returns : goal.returns
+unfolding range_create shorter
+returns c =
+    let third = c in
+    let second = c in
+    let first = c in
+    let tested = c in
+    done _ _ _ _ _ c.create_row_f32-row.ensures.value c.if-row-ne0.false
+    (all_three c.copy_f32.ensures c.copy_f32-2.ensures c.copy_f32-3.ensures)

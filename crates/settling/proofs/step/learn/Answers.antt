@@ -1,0 +1,20 @@
+-- `settling::step::learn` meets its contract. Assumes nothing.
+use mathlib.Core.Path.{ap, ◌∙◌}
+use Rattle.trcf.specs.View.{lent}
+use Rattle.settling.specs.Steps.{learned_result, learning}
+use Rattle.settling.proofs.StepLaws.{learn_below}
+use Rattle.settling.proofs.step.learn.Goals as goal
+
+pub returns : goal.returns
+returns c =
+    let c8 = c in
+    let c16 = c in
+    let c24 = c in
+    let c32 = c in
+    let e = c.every_right-table in
+    let a = c.args in
+    ap learned_result
+    (c.post_process-r.ensures
+    ∙ learn_below e.result e.ensures a.head
+    (lent a.statistics.now a.last-shingled-input.now a.last-shingled-point.now a.previous-timestamps.now a.initial-values.now a.initial-timestamps.now)
+    (learning a.input.now a.timestamp a.given a.point.now))

@@ -1,0 +1,77 @@
+-- `snapshot::field::whole` meets its contract. Assumes nothing.
+use Prim.Native.Nat.{ℕ, suc, ◌-◌, ◌<◌}
+use native.Mathlib.Omega.{arith}
+use native.Mathlib.Numerals.{add-one}
+use mathlib.Core.Path.{◌≡◌, refl, sym, ap, ◌∙◌}
+use mathlib.Core.Bool.{true, false}
+use lib.ListN.{length, drop, get_or}
+use borrow.Author.Tests.{not-true, not-false}
+use Rattle.snapshot.specs.Steps.Scan.{scan}
+use Rattle.snapshot.proofs.ScanLaws.{none_at, some_at, none_lead, scan_yes, scan_low, scan_high, scan_big}
+use Rattle.snapshot.proofs.field.whole.Goals as goal
+
+pub returns-then-not-leads : goal.returns-then-not-leads
+returns-then-not-leads c = none_lead c.args.c.now (sym c.leads.ensures ∙ not-true _ c.if-not-leads.true-raw)
+
+pub loop-i-init : goal.loop-i-init
+loop-i-init c = (omega arith, sym c.leads.ensures ∙ not-false _ c.if-not-leads.false-raw, refl)
+
+pub returns-then-b-lt48 : goal.returns-then-b-lt48
+returns-then-b-lt48 c =
+    let v = c.args.c.now in
+    let n = c.loop-i.n in
+    let i = c.loop-i.i in
+    let h : i < length v = c.loop-i-test.true in
+    let b : c.wide-b.result ≡ get_or v i 0 = c.wide-b.ensures in
+    none_at v n i c.loop-i.invariant.1 c.loop-i.invariant.2 (scan_low n i v h (omega (arith, c.if-b-lt48.true)))
+
+pub returns-then-b-gt57 : goal.returns-then-b-gt57
+returns-then-b-gt57 c =
+    let c8 = c in
+    let at-loop = c.loop-i in
+    let at_wide = c.wide-b in
+    let v = c.args.c.now in
+    let n = at-loop.n in
+    let i = at-loop.i in
+    let h : i < length v = c.loop-i-test.true in
+    let b : at_wide.result ≡ get_or v i 0 = at_wide.ensures in
+    none_at v n i at-loop.invariant.1 at-loop.invariant.2 (scan_high n i v h (omega (arith, c.if-b-gt57.true)))
+
+pub returns-then-n-gt1844674407370955161 : goal.returns-then-n-gt1844674407370955161
+returns-then-n-gt1844674407370955161 c =
+    let c8 = c in
+    let at-loop = c.loop-i in
+    let at_wide = c.wide-b in
+    let v = c.args.c.now in
+    let n = at-loop.n in
+    let i = at-loop.i in
+    let h : i < length v = c.loop-i-test.true in
+    let b : at_wide.result ≡ get_or v i 0 = at_wide.ensures in
+    none_at v n i at-loop.invariant.1 at-loop.invariant.2 (scan_big n i v h (omega arith) (omega arith) (omega arith))
+
+pub returns-then-m-d : goal.returns-then-m-d
+returns-then-m-d c =
+    let c8 = c in
+    let at-loop = c.loop-i in
+    let at_wide = c.wide-b in
+    let v = c.args.c.now in
+    let n = at-loop.n in
+    let i = at-loop.i in
+    let h : i < length v = c.loop-i-test.true in
+    let b : at_wide.result ≡ get_or v i 0 = at_wide.ensures in
+    none_at v n i at-loop.invariant.1 at-loop.invariant.2 (scan_big n i v h (omega arith) (omega arith) (omega arith))
+
+pub loop-i-preserved : goal.loop-i-preserved
+loop-i-preserved c =
+    let c8 = c in
+    let at-loop = c.loop-i in
+    let at_wide = c.wide-b in
+    let v = c.args.c.now in
+    let n = at-loop.n in
+    let i = at-loop.i in
+    let h : i < length v = c.loop-i-test.true in
+    let b : at_wide.result ≡ get_or v i 0 = at_wide.ensures in
+    (omega arith, at-loop.invariant.1, at-loop.invariant.2 ∙ scan_yes n i v h (omega arith) (omega arith) (omega arith) ∙ rw (add-one i) (ap (λ (x : ℕ). scan x (drop (suc i) v)) (omega arith)))
+
+pub returns : goal.returns
+returns c = some_at c.args.c.now c.loop-i.n c.loop-i.i c.loop-i.invariant.1 c.loop-i.invariant.2 c.loop-i-test.false

@@ -1,0 +1,46 @@
+-- `snapshot::kinds::wgt_line` meets its contract. Assumes nothing.
+use mathlib.Core.Path.{sym, ◌∙◌}
+use borrow.Author.Tests.{not-true, not-false}
+use Rattle.snapshot.specs.Steps.Judge.{wgt_by, wgt_test}
+use Rattle.snapshot.proofs.LineTests.{check_yes, check_no, wgt_no, wgt_one, wgt_other}
+use Rattle.snapshot.proofs.kinds.wgt_line.Goals as goal
+
+pub returns-then-not-all_one : goal.returns-then-not-all_one
+unfolding wgt_by
+returns-then-not-all_one c =
+    let c8 = c in
+    let singles-line-at = c.singles_line-place in
+    let args = c.args in
+    record {
+      told = check_no (wgt_test args.method) _ singles-line-at.result args.text.now _ singles-line-at.ensures.told
+          (wgt_no args.method _ (sym c.is_none.ensures ∙ c.if-is_none.true)
+          (sym c.all_one.ensures ∙ not-true _ c.if-not-all_one.true-raw));
+      kept = singles-line-at.ensures.kept;
+      left = singles-line-at.ensures.left;
+    }
+
+pub returns-else-not-all_one : goal.returns-else-not-all_one
+unfolding wgt_by
+returns-else-not-all_one c =
+    let c8 = c in
+    let singles-line-at = c.singles_line-place in
+    let args = c.args in
+    record {
+      told = check_yes (wgt_test args.method) _ singles-line-at.result args.text.now _ singles-line-at.ensures.told
+          (wgt_one args.method _ (sym c.is_none.ensures ∙ c.if-is_none.true)
+          (sym c.all_one.ensures ∙ not-false _ c.if-not-all_one.false-raw));
+      kept = singles-line-at.ensures.kept;
+      left = singles-line-at.ensures.left;
+    }
+
+pub returns-else-is_none : goal.returns-else-is_none
+unfolding wgt_by
+returns-else-is_none c =
+    let args = c.args in
+    let singles-line-at = c.singles_line-place in
+    record {
+      told = check_yes (wgt_test args.method) _ singles-line-at.result args.text.now _ singles-line-at.ensures.told
+          (wgt_other args.method _ (sym c.is_none.ensures ∙ c.if-is_none.false));
+      kept = singles-line-at.ensures.kept;
+      left = singles-line-at.ensures.left;
+    }

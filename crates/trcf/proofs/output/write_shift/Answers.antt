@@ -1,0 +1,16 @@
+-- `trcf::output::write_shift` meets its contract: by its worker's promise where all fits. Assumes nothing.
+use mathlib.Core.Path.{refl, sym, ◌∙◌}
+use Rattle.trcf.proofs.LengthLaws.{fitting, unfit}
+use Rattle.trcf.proofs.output.write_shift.Goals as goal
+
+pub output_fits-requires : goal.output_fits-requires
+output_fits-requires c = tt
+
+pub shift_fitting-requires : goal.shift_fitting-requires
+shift_fitting-requires c = let f = c.output_fits_lem.ensures.1 c.if-output_fits.true in record { bounded = f.0; s_len = f.1; head_in_bounds = f.2 }
+
+pub returns-then-output_fits : goal.returns-then-output_fits
+returns-then-output_fits c = fitting _ c.shift_fitting.ensures (sym c.output_fits_lem.ensures.0 ∙ c.if-output_fits.true)
+
+pub returns-else-output_fits : goal.returns-else-output_fits
+returns-else-output_fits c = unfit _ refl (sym c.output_fits_lem.ensures.0 ∙ c.if-output_fits.false)

@@ -1,0 +1,14 @@
+-- What holds in the loops of `trcf::transformer::channels_into`.
+use Prim.Native.Nat.{◌-◌, ◌≤◌}
+use mathlib.Core.Path.{◌≡◌}
+use lib.ListN.{length}
+use Rattle.trcf.specs.TransformerCalls.{transformer_view}
+use Rattle.trcf.specs.Steps.Blocks.{FactorsIn}
+use Rattle.trcf.proofs.transformer.channels_into.Given as goal
+
+abbrev pub invariant-loop-j : goal.invariant-loop-j
+invariant-loop-j l =
+    (l.j ≤ l.d) × FactorsIn (transformer_view l.t l.s) l.previous l.j l.factors l.scales l.drifts l.bases × (length l.factors ≡ 16) × (length l.scales ≡ 16) × (length l.drifts ≡ 16) × (length l.bases ≡ 16)
+
+abbrev pub decreases-loop-j : goal.decreases-loop-j
+decreases-loop-j l = l.d - l.j

@@ -1,0 +1,94 @@
+-- `trcf::transformer::forecast_fitting` meets its contract: the invariant is that of the first i blocks, for every transformer that the lists hold. Assumes nothing.
+use Prim.Native.Nat.{ℕ, ◌*◌, ◌/◌, ◌-◌}
+use mathlib.Core.Path.{◌≡◌, refl, sym, ap, ◌∙◌}
+use native.Mathlib.Omega.{arith}
+use native.Mathlib.Nat.{div-le_self}
+use lib.ListN.{length}
+use Rattle.ranges.specs.RangeVector.{ranges}
+use Rattle.trcf.specs.TransformerCalls.{transformer_view}
+use Rattle.trcf.proofs.BlockLaws.{turned_to, turned_none, turned_more, turned_all, block_room}
+use Rattle.trcf.proofs.transformer.forecast_fitting.Goals as goal
+
+pub nonzero_div-n : goal.nonzero_div-n
+nonzero_div-n c = omega (arith, c.requires.sound.some)
+
+pub channels_into-requires : goal.channels_into-requires
+channels_into-requires c =
+    let c8 = c in
+    record { sound = c.requires.sound; previous_len = c.requires.previous_len; factors_len = (refl, refl, refl, refl) }
+
+pub loop-i-init : goal.loop-i-init
+loop-i-init c =
+    let c8 = c in
+    let A = c.args in
+    let H = c.channels_into.ensures in (
+      omega arith,
+      λ t em ed h. turned_none t A.previous.now (ranges A.values.now A.upper.now A.lower.now) _ _ _ _ (c.requires.previous_len ∙ sym ed) h,
+      H.long,
+      refl,
+      refl,
+      refl,
+    )
+
+pub turn_block-requires : goal.turn_block-requires
+turn_block-requires c =
+    let c8 = c in
+    let c16 = c in
+    let A = c.args in
+    let L = c.loop-i in
+    let P = c.requires in
+    let x = block_room L.i A.t.input_length (length A.values.now) c.loop-i-test.true in record { d_bound = (P.sound.few, omega (arith, x, L.invariant.3), L.invariant.2); upper_len = (L.invariant.4 ∙ P.upper_len.0 ∙ sym L.invariant.3, L.invariant.5 ∙ P.upper_len.1 ∙ sym L.invariant.3) }
+
+pub overflow_add-i : goal.overflow_add-i
+overflow_add-i c =
+    let c8 = c in
+    let c16 = c in
+    let c24 = c in
+    let A = c.args in
+    omega (arith, c.loop-i-test.true, div-le_self (length A.values.now) A.t.input_length, c.well_formed.1.1.1.0)
+
+pub loop-i-smaller : goal.loop-i-smaller
+loop-i-smaller c =
+    let c8 = c in
+    omega (arith, c.loop-i-test.true)
+
+pub loop-i-preserved : goal.loop-i-preserved
+loop-i-preserved c =
+    let c8 = c in
+    let c16 = c in
+    let c24 = c in
+    let A = c.args in
+    let L = c.loop-i in
+    let P = c.requires in
+    let B = c.turn_block in (
+      omega (arith, c.loop-i-test.true),
+      λ t em ed h. turned_more t A.previous.now L.i (ranges A.values.now A.upper.now A.lower.now) (ranges L.values L.upper L.lower) _
+          A.t.transform_method A.t.input_length _ _ _ _ L.bases _ em ed (omega (arith, ed, P.sound.some)) (P.previous_len ∙ sym ed) h
+          (L.invariant.1 t em ed h) B.ensures.lower_after B.ensures.carried,
+      B.ensures.carried.long ∙ L.invariant.2,
+      B.auto.1.1.1.1.1.1.1.0 ∙ L.invariant.3,
+      B.auto.1.1.1.1.1.1.1.1.0 ∙ L.invariant.4,
+      B.auto.1.1.1.1.1.1.1.1.1.0 ∙ L.invariant.5,
+    )
+
+pub shape_of-values : goal.shape_of-values
+shape_of-values c = c.loop-i.invariant.3
+
+pub shape_of-upper : goal.shape_of-upper
+shape_of-upper c = c.loop-i.invariant.4
+
+pub shape_of-lower : goal.shape_of-lower
+shape_of-lower c = c.loop-i.invariant.5
+
+pub returns : goal.returns
+returns c =
+    let c8 = c in
+    let A = c.args in
+    let P = c.requires in
+    let L = c.loop-i in
+    let T = transformer_view A.t A.s.now in
+    let v = ranges A.values.now A.upper.now A.lower.now in
+    let e : L.i ≡ length A.values.now / A.t.input_length = omega (arith, L.invariant.0, c.loop-i-test.false) in
+    (L.invariant.1 T refl refl c.channels_into.ensures).places
+    ∙ ap (λ (n : ℕ). turned_to T A.previous.now (n * A.t.input_length) v) e
+    ∙ turned_all T A.previous.now v (record { upper = P.upper_len.0; lower = P.upper_len.1 }) P.sound.some P.previous_len P.values_value

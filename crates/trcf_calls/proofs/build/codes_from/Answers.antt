@@ -1,0 +1,44 @@
+-- `trcf_calls::build::codes_from` meets its contract: the invariant is that the first i codes stand over zeros. Assumes nothing.
+use mathlib.Core.Path.{◌≡◌, refl, ap, ◌∙◌}
+use lib.Seq.{take-length}
+use native.Mathlib.Omega.{arith}
+use Prim.Native.Nat.{ℕ, ◌<◌, ◌-◌}
+use lib.ListN.{length, replicate, length-set}
+use Rattle.trcf.proofs.LentLaws.{over_none}
+use Rattle.refusal.specs.Lent.{over}
+use Rattle.refusal.proofs.LentLaws.{over_copy}
+use Rattle.trcf_calls.proofs.build.codes_from.Goals as goal
+
+pub loop-i-init : goal.loop-i-init
+loop-i-init c = (omega arith, over_none _, refl)
+
+pub offset_bounds-w-i : goal.offset_bounds-w-i
+offset_bounds-w-i c = omega arith
+
+pub bounds-w-i : goal.bounds-w-i
+bounds-w-i c = omega arith
+
+pub offset_bounds-a-i : goal.offset_bounds-a-i
+offset_bounds-a-i c = omega arith
+
+pub bounds-a-i : goal.bounds-a-i
+bounds-a-i c = omega arith
+
+pub overflow_add-i : goal.overflow_add-i
+overflow_add-i c = omega arith
+
+pub loop-i-smaller : goal.loop-i-smaller
+loop-i-smaller c = omega arith
+
+pub loop-i-preserved : goal.loop-i-preserved
+loop-i-preserved c = let L = c.loop-i in
+    let w = c.args.w.now in
+    let h : L.i < length w = omega arith in
+    (omega arith, rw L.invariant.1 (over_copy (replicate {A = ℕ} 16 0) w L.i 0 h c.requires), simp length-set (omega arith))
+
+pub returns : goal.returns
+returns c = let L = c.loop-i in
+    let w = c.args.w.now in
+    let e : L.i ≡ length w = omega arith in
+    let p = rw e at L.invariant.1 in
+    p ∙ ap (over (replicate {A = ℕ} 16 0)) (take-length w)

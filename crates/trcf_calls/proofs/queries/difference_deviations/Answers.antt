@@ -1,0 +1,61 @@
+-- `trcf_calls::queries::difference_deviations` meets its contract: by its callees' promises and the laws of outcomes. Assumes nothing.
+use Rattle.trcf.proofs.LengthLaws.{opened, output_fits_lem}
+use Rattle.trcf.proofs.BoundLaws.{five, five_more, all_statistics}
+use Rattle.trcf.proofs.OutcomeLaws.{write_stays, write_goes, status_row}
+use Rattle.trcf.specs.Preprocessor.{deviations}
+use Rattle.trcf.specs.View.{view, lent}
+use Rattle.trcf.specs.Calls.{status}
+use mathlib.Core.Path.{refl, sym, ◌∙◌}
+use lib.Seq.{length-take-le}
+use Rattle.trcf_calls.proofs.queries.difference_deviations.Goals as goal
+
+pub write_row-row-requires : goal.write_row-row-requires
+write_row-row-requires c = tt
+
+pub shape_of-output-then-row-ne0 : goal.shape_of-output-then-row-ne0
+shape_of-output-then-row-ne0 c = refl
+
+pub returns-then-row-ne0 : goal.returns-then-row-ne0
+returns-then-row-ne0 c =
+    let c8 = c in
+    let a = c.args in
+    let l = lent a.statistics.now a.last-shingled-input.now a.last-shingled-point.now a.previous-timestamps.now a.initial-values.now a.initial-timestamps.now in
+    write_stays a.head l (status a.output.now) deviations a.output.now c.write_row-row.result
+    (c.write_row-row.ensures.value ∙ status_row a.head l a.output.now) c.if-row-ne0.true
+
+pub overflow_mul-d : goal.overflow_mul-d
+overflow_mul-d c = five (c.write_row-row.ensures.ready c.if-row-ne0.false).bounded.d_few
+
+pub overflow_add-d : goal.overflow_add-d
+overflow_add-d c = five_more (c.write_row-row.ensures.ready c.if-row-ne0.false).bounded.d_few
+
+pub overflow_mul-d-2 : goal.overflow_mul-d-2
+overflow_mul-d-2 c = all_statistics (c.write_row-row.ensures.ready c.if-row-ne0.false).bounded.d_few
+
+pub slice_bounds-write_deviations-end : goal.slice_bounds-write_deviations-end
+slice_bounds-write_deviations-end c = sym (length-take-le _ _ (c.write_row-row.ensures.ready c.if-row-ne0.false).fitted.roomy.in_statistics)
+
+pub write_deviations-requires : goal.write_deviations-requires
+write_deviations-requires c = tt
+
+pub shape_of-output : goal.shape_of-output
+shape_of-output c = c.write_deviations.auto.1.1.0
+
+pub returns : goal.returns
+unfolding view deviations
+returns c =
+    let c8 = c in
+    let a = c.args in
+    let l = lent a.statistics.now a.last-shingled-input.now a.last-shingled-point.now a.previous-timestamps.now a.initial-values.now a.initial-timestamps.now in
+    write_goes a.head l (status a.output.now) deviations a.output.now c.write_row-row.result
+    (c.write_row-row.ensures.value ∙ status_row a.head l a.output.now)
+    c.if-row-ne0.false _ _
+    ((opened _ c.write_deviations.ensures
+    (output_fits_lem (let r = c.write_row-row.ensures.ready c.if-row-ne0.false in (
+      r.bounded,
+      (
+        length-take-le _ _ r.fitted.roomy.in_statistics,
+        c.write_row-row.ensures.head_in_bounds
+            c.if-row-ne0.false,
+      ),
+    ))))) refl

@@ -1,0 +1,165 @@
+-- By the mode, over the parts in use. Assumes nothing.
+use native.Mathlib.Omega.{arith}
+use mathlib.Core.Path.{sym, ◌∙◌, refl}
+use lib.Seq.{length-take-le}
+use Rattle.ranges.specs.RangeVector.{ranges}
+use Rattle.trcf.specs.Preprocessor.{previous, numbers_of, times_of}
+use Rattle.trcf.specs.View.{view}
+use Rattle.trcf.specs.Extrapolation.{forecast, viewed}
+use Rattle.trcf.proofs.ExtrapolationLaws.{augmented_is, standard_is}
+use Rattle.trcf_forecast.proofs.forecast.invert_accepted.Goals as goal
+
+pub overflow_mul-m : goal.overflow_mul-m
+overflow_mul-m c = omega arith
+
+pub overflow_add-m : goal.overflow_add-m
+overflow_add-m c = omega arith
+
+pub overflow_mul-m-2 : goal.overflow_mul-m-2
+overflow_mul-m-2 c = omega arith
+
+pub overflow_mul-n : goal.overflow_mul-n
+overflow_mul-n c = omega arith
+
+pub is_augmented-requires : goal.is_augmented-requires
+is_augmented-requires c = tt
+
+pub slice_bounds-invert_augmented-end : goal.slice_bounds-invert_augmented-end
+slice_bounds-invert_augmented-end c =
+    let c8 = c in
+    sym (length-take-le _ c.args.statistics.now
+    c.pre.readable.statistics)
+
+pub slice_bounds-invert_augmented-end-then-is_augmented : goal.slice_bounds-invert_augmented-end-then-is_augmented
+slice_bounds-invert_augmented-end-then-is_augmented c =
+    let c8 = c in
+    let c16 = c in
+    sym (length-take-le _ c.args.«last-shingled-input».now c.pre.readable.inputs)
+
+pub slice_bounds-invert_augmented-end-then-is_augmented-2 : goal.slice_bounds-invert_augmented-end-then-is_augmented-2
+slice_bounds-invert_augmented-end-then-is_augmented-2 c =
+    let c8 = c in
+    let c16 = c in
+    sym (length-take-le _ c.args.«previous-timestamps».now c.pre.readable.times)
+
+pub invert_augmented-requires : goal.invert_augmented-requires
+invert_augmented-requires c =
+    let c8 = c in
+    let c16 = c in
+    let c24 = c in
+    let A = c.args in
+    let P = c.pre in
+    let ls = length-take-le _ A.statistics.now P.readable.statistics in
+    let lx = length-take-le _ A.«last-shingled-input».now P.readable.inputs in
+    let lt = length-take-le _ A.«previous-timestamps».now P.readable.times in record {
+      invertible = record {
+        bounded = P.bounded;
+        unbroken = P.unbroken;
+        long = λ a. let l = P.long a in record { numbers = l.numbers; times = l.times };
+        readable = record { statistics = omega (arith, ls); inputs = omega (arith, lx); times = omega (arith, lt) };
+      };
+      inputs_len = lx;
+      forest_mode_value = sym c.is_augmented.ensures ∙ c.if-is_augmented.true;
+    }
+
+pub slice_bounds-invert_in_place-end : goal.slice_bounds-invert_in_place-end
+slice_bounds-invert_in_place-end c =
+    let c8 = c in
+    sym (length-take-le _ c.args.statistics.now
+    c.pre.readable.statistics)
+
+pub slice_bounds-invert_in_place-end-else-is_augmented : goal.slice_bounds-invert_in_place-end-else-is_augmented
+slice_bounds-invert_in_place-end-else-is_augmented c =
+    let c8 = c in
+    let c16 = c in
+    sym (length-take-le _ c.args.«last-shingled-input».now c.pre.readable.inputs)
+
+pub invert_in_place-requires : goal.invert_in_place-requires
+invert_in_place-requires c =
+    let c8 = c in
+    let c16 = c in
+    let A = c.args in
+    let P = c.pre in
+    let ls = length-take-le _ A.statistics.now P.readable.statistics in
+    let lx = length-take-le _ A.«last-shingled-input».now P.readable.inputs in record {
+      bounded = P.bounded;
+      head_in_bounds = (omega (arith, ls), lx);
+      upper_len = (P.unbroken.upper, P.unbroken.lower);
+      values_value = P.unbroken.cascades
+          (sym c.is_augmented.ensures ∙ c.if-is_augmented.false);
+    }
+
+pub shape_of-values-then-is_augmented : goal.shape_of-values-then-is_augmented
+shape_of-values-then-is_augmented c = refl
+
+pub shape_of-upper-then-is_augmented : goal.shape_of-upper-then-is_augmented
+shape_of-upper-then-is_augmented c = refl
+
+pub shape_of-lower-then-is_augmented : goal.shape_of-lower-then-is_augmented
+shape_of-lower-then-is_augmented c = refl
+
+pub shape_of-values_out : goal.shape_of-values_out
+shape_of-values_out c =
+    let c8 = c in
+    c.invert_augmented.kept.1.1.1.1.1.1.1.0
+
+pub shape_of-upper_out : goal.shape_of-upper_out
+shape_of-upper_out c =
+    let c8 = c in
+    c.invert_augmented.kept.1.1.1.1.1.1.1.1.0
+
+pub shape_of-lower_out : goal.shape_of-lower_out
+shape_of-lower_out c =
+    let c8 = c in
+    c.invert_augmented.kept.1.1.1.1.1.1.1.1.1.0
+
+pub shape_of-times_out : goal.shape_of-times_out
+shape_of-times_out c =
+    let c8 = c in
+    c.invert_augmented.kept.1.1.1.1.1.1.1.1.1.1.0
+
+pub shape_of-times_upper_out : goal.shape_of-times_upper_out
+shape_of-times_upper_out c =
+    let c8 = c in
+    c.invert_augmented.kept.1.1.1.1.1.1.1.1.1.1.1.0
+
+pub shape_of-times_lower_out : goal.shape_of-times_lower_out
+shape_of-times_lower_out c =
+    let c8 = c in
+    c.invert_augmented.kept.1.1.1.1.1.1.1.1.1.1.1.1.0
+
+pub returns-then-is_augmented : goal.returns-then-is_augmented
+unfolding numbers_of times_of previous viewed view
+returns-then-is_augmented c =
+    let c8 = c in
+    let c16 = c in
+    let c24 = c in
+    let c32 = c in
+    let A = c.args in
+    let I = c.invert_augmented.ensures in
+    augmented_is A.head A.statistics.now A.«last-shingled-input».now A.«previous-timestamps».now
+    (forecast (ranges A.values.now A.upper.now A.lower.now) (ranges A.«values-out».now A.«upper-out».now A.«lower-out».now)
+    (ranges A.«times-out».now A.«times-upper-out».now A.«times-lower-out».now))
+    _ _ (sym c.is_augmented.ensures ∙ c.if-is_augmented.true) I.lower_out_after I.times_lower_out_after
+
+pub shape_of-values-else-is_augmented : goal.shape_of-values-else-is_augmented
+shape_of-values-else-is_augmented c = c.invert_in_place.kept.1.1.1.0
+
+pub shape_of-upper-else-is_augmented : goal.shape_of-upper-else-is_augmented
+shape_of-upper-else-is_augmented c = c.invert_in_place.kept.1.1.1.1.0
+
+pub shape_of-lower-else-is_augmented : goal.shape_of-lower-else-is_augmented
+shape_of-lower-else-is_augmented c = c.invert_in_place.kept.1.1.1.1.1.0
+
+pub returns-else-is_augmented : goal.returns-else-is_augmented
+unfolding previous viewed view
+returns-else-is_augmented c =
+    let c8 = c in
+    let c16 = c in
+    let c24 = c in
+    let A = c.args in
+    standard_is A.head A.statistics.now A.«last-shingled-input».now A.«previous-timestamps».now
+    (forecast (ranges A.values.now A.upper.now A.lower.now) (ranges A.«values-out».now A.«upper-out».now A.«lower-out».now)
+    (ranges A.«times-out».now A.«times-upper-out».now A.«times-lower-out».now))
+    _ (sym c.is_augmented.ensures ∙ c.if-is_augmented.false)
+    c.invert_in_place.ensures

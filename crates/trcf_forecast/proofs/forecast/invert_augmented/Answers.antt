@@ -1,0 +1,258 @@
+-- The numbers and the times, each written to the front of its lists. Assumes nothing.
+use Rattle.trcf.proofs.LengthLaws.{dimension_known}
+use native.Mathlib.Omega.{arith}
+use native.Mathlib.Nat.{div-mul-le_self}
+use mathlib.Core.Path.{◌≡◌, sym, ap, ◌∙◌}
+use Prim.Native.Nat.{◌*◌, ◌/◌, ◌≤◌, ◌<◌}
+use lib.ListN.{length}
+use lib.Seq.{length-take-le}
+use Rattle.ranges.specs.RangeVector.{ranges}
+use Rattle.trcf.specs.Settings.{dimension}
+use Rattle.trcf.specs.View.{settings_of}
+use Rattle.trcf.proofs.ExtrapolationLaws.{dimension_pos, numbers_within, numbers_fit, some_block, room_numbers, room_times, some_blocks, numbers_are, times_are, parts_over}
+use borrow.Author.Rules.{rules}
+use Rattle.trcf_forecast.proofs.forecast.invert_augmented.Goals as goal
+
+pub get_dimension-a-requires : goal.get_dimension-a-requires
+get_dimension-a-requires c = tt
+
+pub nonzero_div-h : goal.nonzero_div-h
+nonzero_div-h c =
+    let c8 = c in
+    let P = c.pre in
+    let p = dimension_pos (settings_of c.args.head) P.0.bounded.d_pos P.0.bounded.k_pos in
+    let q : 0 < c.get_dimension-a.result = omega (arith, (dimension_known c.get_dimension-a.ensures (search rules)).0) in
+    search rules
+
+pub overflow_mul-n : goal.overflow_mul-n
+overflow_mul-n c =
+    let c8 = c in
+    let A = c.args in
+    let P = c.pre in
+    let w = numbers_within (settings_of A.head) in
+    let q = numbers_fit (length A.values.now) c.get_dimension-a.result (length A.inputs.now) (omega (arith, w, P.1.0, (dimension_known c.get_dimension-a.ensures (search rules)).0)) in
+    let g : length A.values.now < 18446744073709551616 = omega arith in
+    omega arith
+
+pub last_time-last-requires : goal.last_time-last-requires
+last_time-last-requires c = tt
+
+pub slice_bounds-invert_numbers-end : goal.slice_bounds-invert_numbers-end
+slice_bounds-invert_numbers-end c =
+    let c8 = c in
+    let A = c.args in
+    let P = c.pre in
+    let r = room_numbers (settings_of A.head) (length A.values.now) c.get_dimension-a.result (length A.inputs.now) (length A.«values-out».now)
+    (length A.«upper-out».now) (length A.«lower-out».now) (dimension_known c.get_dimension-a.ensures (search rules)).0 P.1.0 (P.0.long P.1.1).numbers in
+    r.values
+
+pub slice_bounds-invert_numbers-end-2 : goal.slice_bounds-invert_numbers-end-2
+slice_bounds-invert_numbers-end-2 c =
+    let c8 = c in
+    let A = c.args in
+    let P = c.pre in
+    let r = room_numbers (settings_of A.head) (length A.values.now) c.get_dimension-a.result (length A.inputs.now) (length A.«values-out».now)
+    (length A.«upper-out».now) (length A.«lower-out».now) (dimension_known c.get_dimension-a.ensures (search rules)).0 P.1.0 (P.0.long P.1.1).numbers
+    in
+    sym (length-take-le _ A.«values-out».now r.values)
+
+pub slice_bounds-invert_numbers-end-3 : goal.slice_bounds-invert_numbers-end-3
+slice_bounds-invert_numbers-end-3 c =
+    let c8 = c in
+    let A = c.args in
+    let P = c.pre in
+    let r = room_numbers (settings_of A.head) (length A.values.now) c.get_dimension-a.result (length A.inputs.now) (length A.«values-out».now)
+    (length A.«upper-out».now) (length A.«lower-out».now) (dimension_known c.get_dimension-a.ensures (search rules)).0 P.1.0 (P.0.long P.1.1).numbers
+    in
+    r.upper
+
+pub slice_bounds-invert_numbers-end-4 : goal.slice_bounds-invert_numbers-end-4
+slice_bounds-invert_numbers-end-4 c =
+    let c8 = c in
+    let A = c.args in
+    let P = c.pre in
+    let r = room_numbers (settings_of A.head) (length A.values.now) c.get_dimension-a.result (length A.inputs.now) (length A.«values-out».now)
+    (length A.«upper-out».now) (length A.«lower-out».now) (dimension_known c.get_dimension-a.ensures (search rules)).0 P.1.0
+    (P.0.long P.1.1).numbers in
+    sym (length-take-le _ A.«upper-out».now r.upper)
+
+pub slice_bounds-invert_numbers-end-5 : goal.slice_bounds-invert_numbers-end-5
+slice_bounds-invert_numbers-end-5 c =
+    let c8 = c in
+    let A = c.args in
+    let P = c.pre in
+    let r = room_numbers (settings_of A.head) (length A.values.now) c.get_dimension-a.result (length A.inputs.now) (length A.«values-out».now)
+    (length A.«upper-out».now) (length A.«lower-out».now) (dimension_known c.get_dimension-a.ensures (search rules)).0 P.1.0
+    (P.0.long P.1.1).numbers in
+    r.lower
+
+pub slice_bounds-invert_numbers-end-6 : goal.slice_bounds-invert_numbers-end-6
+slice_bounds-invert_numbers-end-6 c =
+    let c8 = c in
+    let c16 = c in
+    let A = c.args in
+    let P = c.pre in
+    let r = room_numbers (settings_of A.head) (length A.values.now) c.get_dimension-a.result (length A.inputs.now)
+    (length A.«values-out».now) (length A.«upper-out».now) (length A.«lower-out».now)
+    (dimension_known c.get_dimension-a.ensures (search rules)).0 P.1.0 (P.0.long P.1.1).numbers in
+    sym (length-take-le _ A.«lower-out».now r.lower)
+
+pub invert_numbers-requires : goal.invert_numbers-requires
+invert_numbers-requires c =
+    let c8 = c in
+    let c16 = c in
+    let A = c.args in
+    let P = c.pre in
+    let r = room_numbers (settings_of A.head) (length A.values.now) c.get_dimension-a.result (length A.inputs.now)
+    (length A.«values-out».now) (length A.«upper-out».now) (length A.«lower-out».now)
+    (dimension_known c.get_dimension-a.ensures (search rules)).0 P.1.0 (P.0.long P.1.1).numbers in
+    let e = (dimension_known c.get_dimension-a.ensures (search rules)).0 in
+    let s = settings_of A.head in
+    let n = length A.values.now in
+    let h = n / c.get_dimension-a.result in
+    let some : 0 < h = some_blocks n c.get_dimension-a.result s e
+    (some_block s n (dimension_pos s P.0.bounded.d_pos P.0.bounded.k_pos) (P.0.unbroken.blocks P.1.1)) in
+    let within : h * dimension s ≤ n = rw (← e) (div-mul-le_self n c.get_dimension-a.result) in
+    let wu : h * dimension s ≤ length A.upper.now = rw P.0.unbroken.upper within in
+    let wl : h * dimension s ≤ length A.lower.now = rw P.0.unbroken.lower within in
+    let m : h * length A.inputs.now ≡ h * (A.head.transformer.input_length * A.head.shingle_size) = ap (λ k. h * k) P.1.0 in record {
+      bounded = P.0.bounded;
+      head_in_bounds = (P.0.readable.statistics, P.1.0);
+      h_nonzero = some;
+      head_in_bounds_2 = (within, wu, wl);
+      values_out_len = (
+        length-take-le _ A.«values-out».now r.values ∙ m,
+        length-take-le _ A.«upper-out».now r.upper ∙ m,
+        length-take-le _ A.«lower-out».now r.lower ∙
+            m,
+      );
+    }
+
+pub slice_bounds-invert_times-end : goal.slice_bounds-invert_times-end
+slice_bounds-invert_times-end c =
+    let c8 = c in
+    let c16 = c in
+    let A = c.args in
+    let P = c.pre in
+    let r = room_times (settings_of A.head) (length A.values.now) c.get_dimension-a.result (length A.«times-out».now)
+    (length A.«times-upper-out».now) (length A.«times-lower-out».now) (dimension_known c.get_dimension-a.ensures (search rules)).0
+    (P.0.long P.1.1).times in
+    r.values
+
+pub slice_bounds-invert_times-end-2 : goal.slice_bounds-invert_times-end-2
+slice_bounds-invert_times-end-2 c =
+    let c8 = c in
+    let c16 = c in
+    let c24 = c in
+    let A = c.args in
+    let P = c.pre in
+    let r = room_times (settings_of A.head) (length A.values.now) c.get_dimension-a.result (length A.«times-out».now)
+    (length A.«times-upper-out».now) (length A.«times-lower-out».now) (dimension_known c.get_dimension-a.ensures (search rules)).0
+    (P.0.long P.1.1).times in
+    sym (length-take-le _ A.«times-out».now r.values)
+
+pub slice_bounds-invert_times-end-3 : goal.slice_bounds-invert_times-end-3
+slice_bounds-invert_times-end-3 c =
+    let c8 = c in
+    let c16 = c in
+    let c24 = c in
+    let A = c.args in
+    let P = c.pre in
+    let r = room_times (settings_of A.head) (length A.values.now) c.get_dimension-a.result (length A.«times-out».now)
+    (length A.«times-upper-out».now) (length A.«times-lower-out».now) (dimension_known c.get_dimension-a.ensures (search rules)).0
+    (P.0.long P.1.1).times in
+    r.upper
+
+pub slice_bounds-invert_times-end-4 : goal.slice_bounds-invert_times-end-4
+slice_bounds-invert_times-end-4 c =
+    let c8 = c in
+    let c16 = c in
+    let c24 = c in
+    let A = c.args in
+    let P = c.pre in
+    let r = room_times (settings_of A.head) (length A.values.now) c.get_dimension-a.result (length A.«times-out».now)
+    (length A.«times-upper-out».now) (length A.«times-lower-out».now) (dimension_known c.get_dimension-a.ensures (search rules)).0
+    (P.0.long P.1.1).times in
+    sym (length-take-le _ A.«times-upper-out».now r.upper)
+
+pub slice_bounds-invert_times-end-5 : goal.slice_bounds-invert_times-end-5
+slice_bounds-invert_times-end-5 c =
+    let c8 = c in
+    let c16 = c in
+    let c24 = c in
+    let A = c.args in
+    let P = c.pre in
+    let r = room_times (settings_of A.head) (length A.values.now) c.get_dimension-a.result (length A.«times-out».now)
+    (length A.«times-upper-out».now) (length A.«times-lower-out».now) (dimension_known c.get_dimension-a.ensures (search rules)).0
+    (P.0.long P.1.1).times in
+    r.lower
+
+pub slice_bounds-invert_times-end-6 : goal.slice_bounds-invert_times-end-6
+slice_bounds-invert_times-end-6 c =
+    let c8 = c in
+    let c16 = c in
+    let c24 = c in
+    let A = c.args in
+    let P = c.pre in
+    let r = room_times (settings_of A.head) (length A.values.now) c.get_dimension-a.result (length A.«times-out».now)
+    (length A.«times-upper-out».now) (length A.«times-lower-out».now)
+    (dimension_known c.get_dimension-a.ensures (search rules)).0 (P.0.long P.1.1).times in
+    sym (length-take-le _ A.«times-lower-out».now r.lower)
+
+pub invert_times-requires : goal.invert_times-requires
+invert_times-requires c =
+    let c8 = c in
+    let c16 = c in
+    let c24 = c in
+    let A = c.args in
+    let P = c.pre in
+    let r = room_times (settings_of A.head) (length A.values.now) c.get_dimension-a.result (length A.«times-out».now)
+    (length A.«times-upper-out».now) (length A.«times-lower-out».now)
+    (dimension_known c.get_dimension-a.ensures (search rules)).0 (P.0.long P.1.1).times in
+    let e = (dimension_known c.get_dimension-a.ensures (search rules)).0 in
+    let s = settings_of A.head in
+    let n = length A.values.now in
+    let h = n / c.get_dimension-a.result in
+    let some : 0 < h = some_blocks n c.get_dimension-a.result s e
+    (some_block s n (dimension_pos s P.0.bounded.d_pos P.0.bounded.k_pos) (P.0.unbroken.blocks P.1.1)) in
+    let within : h * dimension s ≤ n = rw (← e) (div-mul-le_self n c.get_dimension-a.result) in
+    let wu : h * dimension s ≤ length A.upper.now = rw P.0.unbroken.upper within in
+    let wl : h * dimension s ≤ length A.lower.now = rw P.0.unbroken.lower within in
+    let lv = length-take-le h A.«times-out».now r.values in
+    let lu = length-take-le h A.«times-upper-out».now r.upper in
+    let ll = length-take-le h A.«times-lower-out».now r.lower in record { bounded = P.0.bounded; head_in_bounds = P.0.readable.statistics; forest_mode_value = P.1.1; nonzero = rw lv some; upper_out_len = (lu ∙ sym lv, ll ∙ sym lv); head_in_bounds_2 = (rw lv within, rw lv wu, rw lv wl) }
+
+pub returns : goal.returns
+returns c =
+    let c8 = c in
+    let c16 = c in
+    let c24 = c in
+    let c32 = c in
+    let A = c.args in
+    let P = c.pre in
+    let r = room_times (settings_of A.head) (length A.values.now) c.get_dimension-a.result (length A.«times-out».now)
+    (length A.«times-upper-out».now) (length A.«times-lower-out».now) (dimension_known c.get_dimension-a.ensures (search rules)).0
+    (P.0.long P.1.1).times in
+    let q = room_numbers (settings_of A.head) (length A.values.now) c.get_dimension-a.result (length A.inputs.now)
+    (length A.«values-out».now) (length A.«upper-out».now) (length A.«lower-out».now)
+    (dimension_known c.get_dimension-a.ensures (search rules)).0 P.1.0 (P.0.long P.1.1).numbers in
+    let v = ranges A.values.now A.upper.now A.lower.now in
+    let h = length A.values.now / c.get_dimension-a.result in
+    let n = h * length A.inputs.now in
+    let N = c.invert_numbers in
+    let T = c.invert_times in
+    let lv = length-take-le h A.«times-out».now r.values in record {
+      lower_out_after = parts_over (ranges A.«values-out».now A.«upper-out».now A.«lower-out».now) _ N.last.1.1.1.1.1.1.1.0 N.last.1.1.1.1.1.1.1.1.0
+          N.last.1.1.1.1.1.1.1.1.1.0 n
+          (N.kept.1.1.1.1.1.1.1.0 ∙ length-take-le n A.«values-out».now q.values) (N.kept.1.1.1.1.1.1.1.1.0 ∙ length-take-le n A.«upper-out».now q.upper)
+          (N.kept.1.1.1.1.1.1.1.1.1.0 ∙ length-take-le n A.«lower-out».now q.lower)
+          (N.ensures ∙ numbers_are A.head A.s.now A.inputs.now A.times.now v c.get_dimension-a.result
+          (dimension_known c.get_dimension-a.ensures (search rules)).0);
+      times_lower_out_after = parts_over (ranges A.«times-out».now A.«times-upper-out».now A.«times-lower-out».now) _ T.last.1.1.1.1.1.1.0 T.last.1.1.1.1.1.1.1.0
+          T.last.1.1.1.1.1.1.1.1.0 h
+          (T.kept.1.1.1.1.1.1.0 ∙ lv) (T.kept.1.1.1.1.1.1.1.0 ∙ length-take-le h A.«times-upper-out».now r.upper)
+          (T.kept.1.1.1.1.1.1.1.1.0 ∙ length-take-le h A.«times-lower-out».now r.lower)
+          ((rw lv at T.ensures) ∙ times_are A.head A.s.now A.inputs.now A.times.now v c.get_dimension-a.result
+          (dimension_known c.get_dimension-a.ensures (search rules)).0 c.last_time-last.result
+          c.last_time-last.ensures);
+    }

@@ -1,0 +1,67 @@
+-- The newest input is the last part of the inputs. Assumes nothing.
+use Rattle.trcf.proofs.LengthLaws.{passing, forecast_row_zero}
+use native.Mathlib.Omega.{arith}
+use mathlib.Core.Path.{ap, ◌∙◌}
+use mathlib.Core.Bool.{◌&&◌}
+use Prim.Native.Nat.{ℕ, ◌≤◌}
+use lib.ListN.{length}
+use lib.Ieee.{Float}
+use mathlib.Core.List.{List}
+use Rattle.ranges.specs.RangeVector.{ranges, unblocked}
+use Rattle.trcf.specs.Types.{differences}
+use Rattle.trcf.specs.Settings.{transformer}
+use Rattle.trcf.specs.Transformer.{inverted_forecast}
+use Rattle.trcf.specs.View.{settings_of}
+use Rattle.trcf.proofs.ExtrapolationLaws.{input_within, newest_is, newest_length, inverted_free}
+use Rattle.trcf_forecast.proofs.forecast.invert_in_place.Goals as goal
+
+pub overflow_sub-b : goal.overflow_sub-b
+overflow_sub-b c =
+    let A = c.args in
+    let w = input_within A.head.transformer.input_length A.head.shingle_size c.pre.0.k_pos in
+    omega (arith, c.pre.1.0.1)
+
+pub offset_bounds-inputs-b : goal.offset_bounds-inputs-b
+offset_bounds-inputs-b c = omega arith
+
+pub slice_bounds-invert_forecast_in_place-count : goal.slice_bounds-invert_forecast_in_place-count
+slice_bounds-invert_forecast_in_place-count c = omega arith
+
+pub slice_bounds-invert_forecast_in_place-start : goal.slice_bounds-invert_forecast_in_place-start
+slice_bounds-invert_forecast_in_place-start c = omega arith
+
+pub slice_bounds-invert_forecast_in_place-end : goal.slice_bounds-invert_forecast_in_place-end
+slice_bounds-invert_forecast_in_place-end c = omega arith
+
+pub invert_forecast_in_place-requires : goal.invert_forecast_in_place-requires
+invert_forecast_in_place-requires c = tt
+
+pub shape_of-values : goal.shape_of-values
+shape_of-values c = c.invert_forecast_in_place.kept.1.1.1.0
+
+pub shape_of-upper : goal.shape_of-upper
+shape_of-upper c = c.invert_forecast_in_place.kept.1.1.1.1.0
+
+pub shape_of-lower : goal.shape_of-lower
+shape_of-lower c = c.invert_forecast_in_place.kept.1.1.1.1.1.0
+
+pub returns : goal.returns
+returns c =
+    let c8 = c in
+    let c16 = c in
+    let A = c.args in
+    let P = c.pre in
+    let d = A.head.transformer.input_length in
+    let w = input_within d A.head.shingle_size P.0.k_pos in
+    let n : d ≤ length A.inputs.now = omega (arith, P.1.0.1) in
+    let v = ranges A.values.now A.upper.now A.lower.now in
+    (passing _ c.invert_forecast_in_place.ensures
+    (forecast_row_zero {t = A.head.transformer} (
+      record { some = P.0.d_pos; few = P.0.d_few; room = omega (arith, P.1.0.0) },
+      (
+        newest_length A.inputs.now d n,
+        (P.1.1.0, ap (λ (k : ℕ). differences A.head.transformer.transform_method && unblocked k (length A.values.now)) (newest_length A.inputs.now d n) ∙ P.1.1.1),
+      ),
+    )))
+    ∙ inverted_free A.head A.s.now _ v
+    ∙ ap (λ (p : List Float). inverted_forecast (transformer (settings_of A.head) 0 A.s.now) p v) (newest_is A.inputs.now d n)

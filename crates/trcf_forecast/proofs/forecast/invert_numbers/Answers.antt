@@ -1,0 +1,90 @@
+-- The numbers of each block copied, then turned back. Assumes nothing.
+use Rattle.trcf.proofs.LengthLaws.{dimension_known}
+use native.Mathlib.Omega.{arith}
+use mathlib.Core.Path.{sym, ap, ◌∙◌}
+use Rattle.ranges.specs.RangeVector.{ranges, unblocked}
+use Rattle.trcf.specs.Types.{differences}
+use Rattle.trcf.specs.Lists.{last_n}
+use Rattle.trcf.specs.Settings.{transformer}
+use Rattle.trcf.specs.Transformer.{inverted_forecast}
+use Rattle.trcf.specs.Preprocessor.{fronts}
+use Rattle.trcf.specs.View.{settings_of}
+use Rattle.trcf.proofs.ExtrapolationLaws.{numbers_within, blocks_whole, and_false}
+use borrow.Author.Rules.{rules}
+use Rattle.trcf_forecast.proofs.forecast.invert_numbers.Goals as goal
+
+pub get_dimension-a-requires : goal.get_dimension-a-requires
+get_dimension-a-requires c = tt
+
+pub copy_fronts-requires : goal.copy_fronts-requires
+copy_fronts-requires c =
+    let c8 = c in
+    let P = c.pre in
+    let e = (dimension_known c.get_dimension-a.ensures (search rules)).0 in
+    let w = numbers_within (settings_of c.args.head) in
+    (rw e P.1.1.1.0.0, omega (arith, P.1.0.1, e, w), rw P.1.0.1 P.1.1.1.1.0)
+
+pub copy_fronts-requires-2 : goal.copy_fronts-requires-2
+copy_fronts-requires-2 c =
+    let c8 = c in
+    let P = c.pre in
+    let e = (dimension_known c.get_dimension-a.ensures (search rules)).0 in
+    let w = numbers_within (settings_of c.args.head) in
+    (rw e P.1.1.1.0.1, omega (arith, P.1.0.1, e, w), rw P.1.0.1 P.1.1.1.1.1)
+
+pub copy_fronts-requires-3 : goal.copy_fronts-requires-3
+copy_fronts-requires-3 c =
+    let c8 = c in
+    let c16 = c in
+    let P = c.pre in
+    let e = (dimension_known c.get_dimension-a.ensures (search rules)).0 in
+    let w = numbers_within (settings_of c.args.head) in
+    (rw e P.1.1.1.0.2, omega (arith, P.1.0.1, e, w), rw P.1.0.1 P.1.1.1.1.2)
+
+pub invert_in_place-requires : goal.invert_in_place-requires
+invert_in_place-requires c =
+    let c8 = c in
+    let c16 = c in
+    let A = c.args in
+    let P = c.pre in
+    let v = c.copy_fronts.kept.1.1.1.1.0 ∙ P.1.1.1.1.0 in
+    let u = c.copy_fronts-2.kept.1.1.1.1.0 ∙ P.1.1.1.1.1 in
+    let l = c.copy_fronts-3.kept.1.1.1.1.0 ∙ P.1.1.1.1.2 in record {
+      bounded = P.0;
+      head_in_bounds = P.1.0;
+      upper_len = (u ∙ sym v, l ∙ sym v);
+      values_value = and_false (differences A.head.transformer.transform_method) _
+          (ap (unblocked A.head.transformer.input_length) v ∙ blocks_whole A.h A.head.transformer.input_length A.head.shingle_size P.1.1.0 P.0.d_pos
+          P.0.k_pos);
+    }
+
+pub shape_of-values_out : goal.shape_of-values_out
+shape_of-values_out c =
+    let c8 = c in
+    let c16 = c in
+    c.invert_in_place.kept.1.1.1.0 ∙ c.copy_fronts.kept.1.1.1.1.0
+
+pub shape_of-upper_out : goal.shape_of-upper_out
+shape_of-upper_out c =
+    let c8 = c in
+    c.invert_in_place.kept.1.1.1.1.0 ∙ c.copy_fronts-2.kept.1.1.1.1.0
+
+pub shape_of-lower_out : goal.shape_of-lower_out
+shape_of-lower_out c =
+    let c8 = c in
+    c.invert_in_place.kept.1.1.1.1.1.0 ∙ c.copy_fronts-3.kept.1.1.1.1.0
+
+pub returns : goal.returns
+returns c =
+    let c8 = c in
+    let c16 = c in
+    let c24 = c in
+    let A = c.args in
+    let P = c.pre in
+    let e = (dimension_known c.get_dimension-a.ensures (search rules)).0 in
+    let f = P.1.0.1 in
+    c.invert_in_place.ensures
+    ∙ (λ j. inverted_forecast (transformer (settings_of A.head) 0 A.s.now) (last_n A.head.transformer.input_length A.inputs.now)
+    (ranges ((c.copy_fronts.ensures ∙ (λ i. fronts (e i) (f i) A.h A.values.now)) j)
+    ((c.copy_fronts-2.ensures ∙ (λ i. fronts (e i) (f i) A.h A.upper.now)) j)
+    ((c.copy_fronts-3.ensures ∙ (λ i. fronts (e i) (f i) A.h A.lower.now)) j)))

@@ -1,0 +1,182 @@
+-- Before the turn at i the times of the first i blocks are written. Assumes nothing.
+use native.Mathlib.Omega.{arith}
+use mathlib.Core.Path.{◌≡◌, refl, ap}
+use Prim.Native.Nat.{◌-◌, ◌<◌}
+use lib.ListN.{length, length-set}
+use Rattle.ranges.specs.RangeVector.{Range, ranges, range_at}
+use Rattle.trcf.specs.Steps.Inverting.{time_at, times_by}
+use Rattle.trcf.proofs.LentLaws.{over_none}
+use Rattle.trcf.proofs.ExtrapolationLaws.{turn_within, written_more, written_all}
+use Rattle.trcf_forecast.proofs.forecast.write_times.Goals as goal
+
+pub loop-i-init : goal.loop-i-init
+loop-i-init c =
+    let A = c.args in
+    (omega arith, over_none A.«values-out».now, over_none A.«upper-out».now, over_none A.«lower-out».now, refl, refl, refl)
+
+pub overflow_mul-at : goal.overflow_mul-at
+overflow_mul-at c =
+    let A = c.args in
+    let L = c.loop-i in
+    let P = c.requires in
+    let x = turn_within L.i (length A.«values-out».now) A.a (length A.values.now) c.loop-i-test.true P.a_in_bounds.0 in
+    let y = turn_within L.i (length A.«values-out».now) A.a (length A.upper.now) c.loop-i-test.true P.a_in_bounds.1 in
+    let z = turn_within L.i (length A.«values-out».now) A.a (length A.lower.now) c.loop-i-test.true P.a_in_bounds.2 in
+    omega (arith, P.m_lt_a, c.well_formed)
+
+pub overflow_add-at : goal.overflow_add-at
+overflow_add-at c =
+    let A = c.args in
+    let L = c.loop-i in
+    let P = c.requires in
+    let x = turn_within L.i (length A.«values-out».now) A.a (length A.values.now) c.loop-i-test.true P.a_in_bounds.0 in
+    let y = turn_within L.i (length A.«values-out».now) A.a (length A.upper.now) c.loop-i-test.true P.a_in_bounds.1 in
+    let z = turn_within L.i (length A.«values-out».now) A.a (length A.lower.now) c.loop-i-test.true P.a_in_bounds.2 in
+    omega (arith, P.m_lt_a, c.well_formed)
+
+pub offset_bounds-values-at : goal.offset_bounds-values-at
+offset_bounds-values-at c =
+    let A = c.args in
+    let L = c.loop-i in
+    let P = c.requires in
+    let x = turn_within L.i (length A.«values-out».now) A.a (length A.values.now) c.loop-i-test.true P.a_in_bounds.0 in
+    let y = turn_within L.i (length A.«values-out».now) A.a (length A.upper.now) c.loop-i-test.true P.a_in_bounds.1 in
+    let z = turn_within L.i (length A.«values-out».now) A.a (length A.lower.now) c.loop-i-test.true P.a_in_bounds.2 in
+    omega (arith, P.m_lt_a, c.well_formed)
+
+pub bounds-values-at : goal.bounds-values-at
+bounds-values-at c =
+    let c8 = c in
+    let A = c.args in
+    let L = c.loop-i in
+    let P = c.requires in
+    let x = turn_within L.i (length A.«values-out».now) A.a (length A.values.now) c.loop-i-test.true P.a_in_bounds.0 in
+    let y = turn_within L.i (length A.«values-out».now) A.a (length A.upper.now) c.loop-i-test.true P.a_in_bounds.1 in
+    let z = turn_within L.i (length A.«values-out».now) A.a (length A.lower.now) c.loop-i-test.true P.a_in_bounds.2 in
+    omega (arith, P.m_lt_a, c.well_formed)
+
+pub offset_bounds-upper-at : goal.offset_bounds-upper-at
+offset_bounds-upper-at c =
+    let c8 = c in
+    let A = c.args in
+    let L = c.loop-i in
+    let P = c.requires in
+    let x = turn_within L.i (length A.«values-out».now) A.a (length A.values.now) c.loop-i-test.true P.a_in_bounds.0 in
+    let y = turn_within L.i (length A.«values-out».now) A.a (length A.upper.now) c.loop-i-test.true P.a_in_bounds.1 in
+    let z = turn_within L.i (length A.«values-out».now) A.a (length A.lower.now) c.loop-i-test.true P.a_in_bounds.2 in
+    omega (arith, P.m_lt_a, c.well_formed)
+
+pub bounds-upper-at : goal.bounds-upper-at
+bounds-upper-at c =
+    let c8 = c in
+    let A = c.args in
+    let L = c.loop-i in
+    let P = c.requires in
+    let x = turn_within L.i (length A.«values-out».now) A.a (length A.values.now) c.loop-i-test.true P.a_in_bounds.0 in
+    let y = turn_within L.i (length A.«values-out».now) A.a (length A.upper.now) c.loop-i-test.true P.a_in_bounds.1 in
+    let z = turn_within L.i (length A.«values-out».now) A.a (length A.lower.now) c.loop-i-test.true P.a_in_bounds.2 in
+    omega (arith, P.m_lt_a, c.well_formed)
+
+pub offset_bounds-lower-at : goal.offset_bounds-lower-at
+offset_bounds-lower-at c =
+    let c8 = c in
+    let A = c.args in
+    let L = c.loop-i in
+    let P = c.requires in
+    let x = turn_within L.i (length A.«values-out».now) A.a (length A.values.now) c.loop-i-test.true P.a_in_bounds.0 in
+    let y = turn_within L.i (length A.«values-out».now) A.a (length A.upper.now) c.loop-i-test.true P.a_in_bounds.1 in
+    let z = turn_within L.i (length A.«values-out».now) A.a (length A.lower.now) c.loop-i-test.true P.a_in_bounds.2 in
+    omega (arith, P.m_lt_a, c.well_formed)
+
+pub bounds-lower-at : goal.bounds-lower-at
+bounds-lower-at c =
+    let c8 = c in
+    let A = c.args in
+    let L = c.loop-i in
+    let P = c.requires in
+    let x = turn_within L.i (length A.«values-out».now) A.a (length A.values.now) c.loop-i-test.true P.a_in_bounds.0 in
+    let y = turn_within L.i (length A.«values-out».now) A.a (length A.upper.now) c.loop-i-test.true P.a_in_bounds.1 in
+    let z = turn_within L.i (length A.«values-out».now) A.a (length A.lower.now) c.loop-i-test.true P.a_in_bounds.2 in
+    omega (arith, P.m_lt_a, c.well_formed)
+
+pub offset_bounds-values_out-i : goal.offset_bounds-values_out-i
+offset_bounds-values_out-i c =
+    let c8 = c in
+    omega (arith, c.well_formed, c.loop-i-test.true, c.requires)
+
+pub bounds-values_out-i : goal.bounds-values_out-i
+bounds-values_out-i c =
+    let c8 = c in
+    omega (arith, c.loop-i.invariant, c.loop-i-test.true, c.requires)
+
+pub offset_bounds-upper_out-i : goal.offset_bounds-upper_out-i
+offset_bounds-upper_out-i c =
+    let c8 = c in
+    omega (arith, c.well_formed, c.loop-i-test.true, c.requires)
+
+pub bounds-upper_out-i : goal.bounds-upper_out-i
+bounds-upper_out-i c =
+    let c8 = c in
+    omega (arith, c.loop-i.invariant, c.loop-i-test.true, c.requires)
+
+pub offset_bounds-lower_out-i : goal.offset_bounds-lower_out-i
+offset_bounds-lower_out-i c =
+    let c8 = c in
+    omega (arith, c.well_formed, c.loop-i-test.true, c.requires)
+
+pub bounds-lower_out-i : goal.bounds-lower_out-i
+bounds-lower_out-i c =
+    let c8 = c in
+    omega (arith, c.loop-i.invariant, c.loop-i-test.true, c.requires)
+
+pub overflow_add-i : goal.overflow_add-i
+overflow_add-i c =
+    omega (arith, c.loop-i-test.true)
+
+pub loop-i-smaller : goal.loop-i-smaller
+loop-i-smaller c =
+    omega (arith, c.loop-i-test.true)
+
+pub loop-i-preserved : goal.loop-i-preserved
+unfolding range_at
+loop-i-preserved c =
+    let c8 = c in
+    let A = c.args in
+    let L = c.loop-i in
+    let P = c.requires in
+    let R = c.invert_time-r.ensures in
+    let i : L.i < length A.«values-out».now = c.loop-i-test.true in (
+      omega arith,
+      written_more A.«values-out».now _ L.i L.«values-out» _ i L.invariant.1 (ap (λ (q : Range). q.value) R),
+      written_more A.«upper-out».now _ L.i L.«upper-out» _ (omega (arith, P.upper_out_len.0)) L.invariant.2 (ap (λ (q : Range). q.upper) R),
+      written_more A.«lower-out».now _ L.i L.«lower-out» _ (omega (arith, P.upper_out_len.1)) L.invariant.3 (ap (λ (q : Range). q.lower) R),
+      simp length-set L.invariant.4,
+      simp length-set L.invariant.5,
+      simp length-set L.invariant.6,
+    )
+
+pub shape_of-values_out : goal.shape_of-values_out
+shape_of-values_out c =
+    c.loop-i.invariant.4
+
+pub shape_of-upper_out : goal.shape_of-upper_out
+shape_of-upper_out c =
+    c.loop-i.invariant.5
+
+pub shape_of-lower_out : goal.shape_of-lower_out
+shape_of-lower_out c =
+    c.loop-i.invariant.6
+
+pub returns : goal.returns
+unfolding times_by
+returns c =
+    let A = c.args in
+    let L = c.loop-i in
+    let P = c.requires in
+    let n = length A.«values-out».now in
+    let e : L.i ≡ n = omega (arith, L.invariant.0, c.loop-i-test.false) in
+    let v = ranges A.values.now A.upper.now A.lower.now in
+    λ j. ranges
+    (written_all A.«values-out».now (λ i. (time_at A.gap A.factor A.scale A.drift A.a A.m v i).value) L.i n L.«values-out» e refl L.invariant.1 j)
+    (written_all A.«upper-out».now (λ i. (time_at A.gap A.factor A.scale A.drift A.a A.m v i).upper) L.i n L.«upper-out» e P.upper_out_len.0 L.invariant.2 j)
+    (written_all A.«lower-out».now (λ i. (time_at A.gap A.factor A.scale A.drift A.a A.m v i).lower) L.i n L.«lower-out» e P.upper_out_len.1 L.invariant.3 j)

@@ -1,0 +1,72 @@
+-- `trcf_learn::learn::feed_newest` meets its contract: by its callees' promises and the laws of lists. Assumes nothing.
+use Rattle.trcf.proofs.LengthLaws.{feed_fits_lem, opened}
+use native.Mathlib.Omega.{arith}
+use mathlib.Core.Path.{◌∙◌}
+use borrow.Author.Tests.{lt-ltb, le-ltb}
+use Prim.Native.Nat.{◌-◌, ◌≤◌}
+use native.Mathlib.Nat.{le-mul_of_pos_right}
+use lib.ListN.{length, length-take, length-drop}
+use Rattle.trcf.specs.Preprocessor.{feed, reading, previous}
+use Rattle.trcf.specs.View.{settings_of}
+use Rattle.trcf.proofs.OutputLaws.{newest_part}
+use Rattle.trcf_learn.proofs.learn.feed_newest.Goals as goal
+
+pub last_time-p-requires : goal.last_time-p-requires
+last_time-p-requires c = tt
+
+pub overflow_sub-n : goal.overflow_sub-n
+overflow_sub-n c =
+    let a = c.args in
+    let h = a.head in
+    let q = c.requires in
+    let d = h.transformer.input_length in
+    let m = le-mul_of_pos_right d q.bounded.k_pos in
+    omega (arith, q.exact)
+
+pub offset_bounds-inputs-n : goal.offset_bounds-inputs-n
+offset_bounds-inputs-n c = omega arith
+
+pub slice_bounds-feed_reading-count : goal.slice_bounds-feed_reading-count
+slice_bounds-feed_reading-count c = omega arith
+
+pub slice_bounds-feed_reading-start : goal.slice_bounds-feed_reading-start
+slice_bounds-feed_reading-start c = omega arith
+
+pub slice_bounds-feed_reading-end : goal.slice_bounds-feed_reading-end
+slice_bounds-feed_reading-end c = omega arith
+
+pub feed_reading-requires : goal.feed_reading-requires
+feed_reading-requires c = tt
+
+pub shape_of-s : goal.shape_of-s
+shape_of-s c = c.feed_reading.auto.1.1.0
+
+pub returns-then-seen-stop : goal.returns-then-seen-stop
+unfolding previous
+returns-then-seen-stop c =
+    let c8 = c in
+    let a = c.args in
+    let h = a.head in
+    let q = c.requires in
+    let d = h.transformer.input_length in
+    let m = le-mul_of_pos_right d q.bounded.k_pos in
+    let k : d ≤ length a.inputs.now = omega (arith, q.exact) in
+    rw (lt-ltb _ _ c.if-seen-stop.true)
+    ((opened _ c.feed_reading.ensures
+    (feed_fits_lem (let a = c.args in let h = a.head in let q = c.requires in let d = h.transformer.input_length in let m =
+    le-mul_of_pos_right d q.bounded.k_pos in (
+      q.bounded,
+      (
+        q.exact.all_statistics,
+        (
+          q.count_lt_count_limit c.if-seen-stop.true,
+          (simp (length-drop, length-take) (omega (arith, q.exact)), q.input_len),
+        ),
+      ),
+    )))) ∙
+    (λ j. feed (settings_of h) h.transformer.count a.s.now (reading (newest_part a.inputs.now d k j) (c.last_time-p.ensures j))
+    (reading a.input.now a.timestamp)))
+
+pub returns-else-seen-stop : goal.returns-else-seen-stop
+unfolding previous
+returns-else-seen-stop c = rw (le-ltb _ _ c.if-seen-stop.false)

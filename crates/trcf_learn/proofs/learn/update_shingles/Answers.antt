@@ -1,0 +1,109 @@
+-- `trcf_learn::learn::update_shingles` meets its contract: by its callees' promises and the laws of lists. Assumes nothing.
+use Rattle.trcf.proofs.LengthLaws.{roomy}
+use Rattle.trcf.proofs.BoundLaws.{five, five_more, all_statistics, all_inputs}
+use native.Mathlib.Omega.{arith}
+use mathlib.Core.Path.{ap, ◌∙◌}
+use Prim.Native.Nat.{◌-◌}
+use native.Mathlib.Nat.{le-mul_of_pos_right}
+use lib.ListN.{length-take}
+use lib.Seq.{length-take-le}
+use Rattle.refusal.specs.Lent.{over}
+use Rattle.trcf.proofs.ShingleLaws.{over_part, paste_over}
+use borrow.Author.Rules.{rules}
+use Rattle.trcf_learn.proofs.learn.update_shingles.Goals as goal
+
+pub overflow_mul-d : goal.overflow_mul-d
+overflow_mul-d c = five c.requires.bounded.d_few
+
+pub overflow_add-d : goal.overflow_add-d
+overflow_add-d c = five_more c.requires.bounded.d_few
+
+pub overflow_mul-d-2 : goal.overflow_mul-d-2
+overflow_mul-d-2 c = all_statistics c.requires.bounded.d_few
+
+pub slice_bounds-feed_newest-end-2 : goal.slice_bounds-feed_newest-end-2
+slice_bounds-feed_newest-end-2 c =
+    let a = c.args in
+    let h = a.head in
+    let q = c.requires in
+    let d = h.transformer.input_length in
+    simp length-take (omega (arith, q))
+
+pub overflow_mul-d-3 : goal.overflow_mul-d-3
+overflow_mul-d-3 c = let b = c.requires.bounded in all_inputs b.d_few b.k_few
+
+pub slice_bounds-feed_newest-end-4 : goal.slice_bounds-feed_newest-end-4
+slice_bounds-feed_newest-end-4 c =
+    let c8 = c in
+    let a = c.args in let h = a.head in let q = c.requires in let d = h.transformer.input_length in simp length-take (omega (arith, q))
+
+pub slice_bounds-feed_newest-end-6 : goal.slice_bounds-feed_newest-end-6
+slice_bounds-feed_newest-end-6 c =
+    let c8 = c in
+    let a = c.args in let h = a.head in let q = c.requires in let d = h.transformer.input_length in simp length-take (omega (arith, q))
+
+pub feed_newest-requires : goal.feed_newest-requires
+feed_newest-requires c =
+    let c8 = c in
+    let a = c.args in
+    let h = a.head in
+    let q = c.requires in
+    let d = h.transformer.input_length in record { bounded = q.bounded; exact = record { all_statistics = length-take-le _ _ q.head_in_bounds; all_input = length-take-le _ _ q.shingle_size_in_bounds; all_times = length-take-le _ _ q.shingle_size_in_bounds_2 }; input_len = q.input_len; count_lt_count_limit = q.count_lt_count_limit }
+
+pub overflow_mul-d-4 : goal.overflow_mul-d-4
+overflow_mul-d-4 c =
+    let c8 = c in
+    let b = c.requires.bounded in all_inputs b.d_few b.k_few
+
+pub slice_bounds-shift_vector-end-2 : goal.slice_bounds-shift_vector-end-2
+slice_bounds-shift_vector-end-2 c =
+    let c8 = c in
+    let a = c.args in
+    let h = a.head in
+    let q = c.requires in
+    let d = h.transformer.input_length in
+    simp length-take (omega (arith, q))
+
+pub shift_vector-requires : goal.shift_vector-requires
+shift_vector-requires c = tt
+
+pub copy_in-requires : goal.copy_in-requires
+copy_in-requires c = tt
+
+pub slice_bounds-shift_time-end-2 : goal.slice_bounds-shift_time-end-2
+slice_bounds-shift_time-end-2 c =
+    let c8 = c in
+    let c16 = c in
+    let a = c.args in
+    let h = a.head in
+    let q = c.requires in
+    let d = h.transformer.input_length in
+    simp length-take (omega (arith, q))
+
+pub shift_time-requires : goal.shift_time-requires
+shift_time-requires c = tt
+
+pub shape_of-last_shingled_point : goal.shape_of-last_shingled_point
+shape_of-last_shingled_point c = c.copy_in.auto.0
+
+pub returns : goal.returns
+returns c =
+    let c8 = c in
+    let c16 = c in
+    let c24 = c in
+    let a = c.args in
+    let h = a.head in
+    let q = c.requires in
+    let d = h.transformer.input_length in record {
+      statistics_after = over_part a.statistics.now _ _ (c.feed_newest.auto.1.0 ∙ length-take-le _ _ q.head_in_bounds) ∙ ap (over a.statistics.now)
+          c.feed_newest.ensures;
+      last_shingled_input_after = over_part a.last-shingled-input.now _ _ (c.shift_vector.auto.0 ∙ length-take-le _ _ q.shingle_size_in_bounds) ∙ ap (over a.last-shingled-input.now)
+          ((roomy _ c.shift_vector.ensures
+          (let a = c.args in let h = a.head in let q = c.requires in let d = h.transformer.input_length in let m = le-mul_of_pos_right d q.bounded.k_pos in simp length-take
+          (omega (arith, q)))));
+      last_shingled_point_after = (roomy _ c.copy_in.ensures (search rules)) ∙ paste_over _ _;
+      previous_timestamps_after = over_part a.previous-timestamps.now _ _
+          (c.shift_time.auto.0 ∙ length-take-le _ _ q.shingle_size_in_bounds_2) ∙ ap (over a.previous-timestamps.now)
+          ((roomy _ c.shift_time.ensures
+          (let a = c.args in let h = a.head in let q = c.requires in let d = h.transformer.input_length in simp length-take (omega (arith, q, q.bounded)))));
+    }

@@ -1,0 +1,216 @@
+-- `trcf_learn::post_process::post_process_learning` meets its contract: by its callees' promises and the laws of outcomes. Assumes nothing.
+use Rattle.trcf.proofs.LengthLaws.{opened, output_fits_lem}
+use Rattle.trcf.proofs.BoundLaws.{five, five_more, all_statistics, all_inputs}
+use native.Mathlib.Omega.{arith}
+use mathlib.Core.Path.{◌≡◌, sym, ap, ◌∙◌}
+use Prim.Native.Nat.{◌-◌, ◌*◌}
+use lib.ListN.{length, length-take, take}
+use mathlib.Core.Bool.{Bool, true, cond}
+use mathlib.Core.List.{List, []}
+use lib.Ieee.{Float}
+use lib.Seq.{length-take-le}
+use native.Mathlib.Numerals.{add-one}
+use Rattle.refusal.specs.Lent.{over}
+use Rattle.trcf.specs.Transformer.{zero32, one32}
+use Rattle.trcf.specs.Preprocessor.{statistics_length, deviations}
+use Rattle.trcf.specs.View.{settings_of, counting, holding}
+use Rattle.trcf.specs.Steps.Learning.{learn_parts, learned_statistics}
+use Rattle.trcf.proofs.DrainLaws.{front_over}
+use Rattle.trcf.proofs.LearnLaws.{learned_length}
+use Rattle.trcf_learn.proofs.post_process.post_process_learning.Goals as goal
+
+pub overflow_mul-d : goal.overflow_mul-d
+overflow_mul-d c =
+    let c8 = c in
+    five c.requires.bounded.d_few
+
+pub overflow_add-d : goal.overflow_add-d
+overflow_add-d c =
+    let c8 = c in
+    five_more c.requires.bounded.d_few
+
+pub overflow_mul-d-2 : goal.overflow_mul-d-2
+overflow_mul-d-2 c =
+    let c8 = c in
+    all_statistics c.requires.bounded.d_few
+
+pub slice_bounds-write_found-end-2 : goal.slice_bounds-write_found-end-2
+slice_bounds-write_found-end-2 c =
+    let c8 = c in
+    sym (length-take-le _ _ c.requires.head_in_bounds)
+
+pub overflow_mul-d-3 : goal.overflow_mul-d-3
+overflow_mul-d-3 c =
+    let c8 = c in
+    let b = c.requires.bounded in all_inputs b.d_few b.k_few
+
+pub slice_bounds-write_found-end-4 : goal.slice_bounds-write_found-end-4
+slice_bounds-write_found-end-4 c =
+    let c8 = c in
+    sym (length-take-le _ _ c.requires.shingle_size_in_bounds)
+
+pub slice_bounds-write_found-end-6 : goal.slice_bounds-write_found-end-6
+slice_bounds-write_found-end-6 c =
+    let c8 = c in
+    sym (length-take-le _ _ c.requires.shingle_size_in_bounds_2)
+
+pub write_found-found-requires : goal.write_found-found-requires
+write_found-found-requires c =
+    let c8 = c in
+    let a = c.args in
+    let h = a.head in
+    let q = c.requires in record { bounded = q.bounded; exact = record { all_statistics = length-take-le _ _ q.head_in_bounds; all_input = length-take-le _ _ q.shingle_size_in_bounds; all_times = length-take-le _ _ q.shingle_size_in_bounds_2 }; input_len = q.input_len; findable = q.learnable.found }
+
+pub update_shingles-requires : goal.update_shingles-requires
+update_shingles-requires c =
+    let c8 = c in
+    let c16 = c in
+    let c24 = c in
+    let a = c.args in
+    let h = a.head in
+    let q = c.requires in
+    record { bounded = q.bounded; head_in_bounds = q.head_in_bounds; shingle_size_in_bounds = q.shingle_size_in_bounds; head_in_bounds_2 = q.head_in_bounds_2; shingle_size_in_bounds_2 = q.shingle_size_in_bounds_2; input_len = q.input_len; y_len = q.learnable.all_y; count_lt_count_limit = q.learnable.count_room }
+
+pub overflow_mul-d-4 : goal.overflow_mul-d-4
+overflow_mul-d-4 c =
+    let c8 = c in
+    let c16 = c in
+    let c24 = c in
+    let c32 = c in
+    five c.requires.bounded.d_few
+
+pub overflow_add-d-2 : goal.overflow_add-d-2
+overflow_add-d-2 c =
+    let c8 = c in
+    let c16 = c in
+    let c24 = c in
+    let c32 = c in
+    five_more c.requires.bounded.d_few
+
+pub overflow_mul-d-5 : goal.overflow_mul-d-5
+overflow_mul-d-5 c =
+    let c8 = c in
+    let c16 = c in
+    let c24 = c in
+    let c32 = c in
+    all_statistics c.requires.bounded.d_few
+
+pub slice_bounds-write_deviations-end : goal.slice_bounds-write_deviations-end
+slice_bounds-write_deviations-end c =
+    let c8 = c in
+    let c16 = c in
+    let c24 = c in
+    let c32 = c in
+    let a = c.args in
+    let h = a.head in
+    let q = c.requires in
+    omega (arith, c.update_shingles.auto, q.head_in_bounds)
+
+pub slice_bounds-write_deviations-end-2 : goal.slice_bounds-write_deviations-end-2
+slice_bounds-write_deviations-end-2 c =
+    let c8 = c in
+    let c16 = c in
+    let c24 = c in
+    let c32 = c in
+    let a = c.args in let h = a.head in let q = c.requires in simp length-take (omega (arith, c.update_shingles.auto, q.head_in_bounds))
+
+pub write_deviations-requires : goal.write_deviations-requires
+write_deviations-requires c = tt
+
+pub next_count-count-requires : goal.next_count-count-requires
+next_count-count-requires c =
+    let c8 = c in
+    let c16 = c in
+    let c24 = c in
+    let c32 = c in
+    c.requires.learnable.count_room
+
+pub overflow_add-seen : goal.overflow_add-seen
+overflow_add-seen c =
+    let c8 = c in
+    let c16 = c in
+    let c24 = c in
+    let c32 = c in
+    let a = c.args in
+    let h = a.head in
+    let q = c.requires in
+    omega (arith, q.learnable.seen_room)
+
+pub overflow_add-internal : goal.overflow_add-internal
+overflow_add-internal c =
+    let c8 = c in
+    let c16 = c in
+    let c24 = c in
+    let c32 = c in
+    let a = c.args in
+    let h = a.head in
+    let q = c.requires in
+    omega (arith, q.learnable.internal_room)
+
+pub with_counts-next-requires : goal.with_counts-next-requires
+with_counts-next-requires c = tt
+
+pub likelihood_of-requires : goal.likelihood_of-requires
+likelihood_of-requires c = tt
+
+pub shape_of-statistics : goal.shape_of-statistics
+shape_of-statistics c =
+    let c8 = c in
+    c.update_shingles.auto.1.0
+
+pub shape_of-last_shingled_input : goal.shape_of-last_shingled_input
+shape_of-last_shingled_input c =
+    let c8 = c in
+    c.update_shingles.auto.1.1.0
+
+pub shape_of-last_shingled_point : goal.shape_of-last_shingled_point
+shape_of-last_shingled_point c =
+    let c8 = c in
+    c.update_shingles.auto.1.1.1.0
+
+pub shape_of-previous_timestamps : goal.shape_of-previous_timestamps
+shape_of-previous_timestamps c =
+    let c8 = c in
+    c.update_shingles.auto.1.1.1.1.0
+
+pub shape_of-deviations_out : goal.shape_of-deviations_out
+shape_of-deviations_out c = c.write_deviations.auto.1.1.0
+
+pub shape_of-past_out : goal.shape_of-past_out
+shape_of-past_out c =
+    let c8 = c in
+    let c16 = c in
+    let c24 = c in
+    omega (arith, c.write_found-found.auto)
+
+pub shape_of-expected_out : goal.shape_of-expected_out
+shape_of-expected_out c =
+    let c8 = c in
+    let c16 = c in
+    let c24 = c in
+    omega (arith, c.write_found-found.auto)
+
+pub returns : goal.returns
+returns c =
+    let c8 = c in
+    let c16 = c in
+    let c24 = c in
+    let c32 = c in
+    let c40 = c in
+    let a = c.args in
+    let h = a.head in
+    let q = c.requires in
+    let s = settings_of h in
+    let n = statistics_length s in
+    let S = learned_statistics h (take n a.statistics.now) (take (h.transformer.input_length * h.shingle_size) a.last-shingled-input.now)
+    (take h.shingle_size a.previous-timestamps.now) a.input.now a.timestamp in
+    let e : length S ≡ n = learned_length h _ _ _ _ _ ∙ length-take-le n a.statistics.now q.head_in_bounds in
+    let F = c.write_found-found.ensures in
+    let U = c.update_shingles.ensures in
+    let W = c.with_counts-next.ensures ∙ (λ j. counting h (c.next_count-count.ensures j) (add-one h.values_seen j) (add-one h.internal_timestamp j) h.initial_len) in
+    let K = c.likelihood_of.ensures ∙ ap (λ (b : Bool). cond b one32 zero32) F.given_value in
+    let G = (opened _ c.write_deviations.ensures
+    (output_fits_lem (let a = c.args in let h = a.head in let q = c.requires in
+    (q.bounded, (length-take-le _ _ (omega (arith, c.update_shingles.auto, q.head_in_bounds)), q.learnable.deviations_room)))))
+    ∙ ap (λ (u : List Float). over a.deviations-out.now (deviations (holding h u [] []))) (ap (take n) U.statistics_after ∙ front_over a.statistics.now S n e) in
+    λ j. learn_parts 0 true (F.given_value j) (F.past_timestamp_value j) (K j) (W j) (U.statistics_after j) (U.last_shingled_input_after j) (U.last_shingled_point_after j) (U.previous_timestamps_after j) (G j) (F.past_out_after j) (F.expected_out_after j)

@@ -1,0 +1,79 @@
+-- `trcf_learn::post_process::post_process_waiting` meets its contract: by its callees' promises and the laws of outcomes. Assumes nothing.
+use Rattle.trcf.proofs.BoundLaws.{five, five_more, all_statistics}
+use native.Mathlib.Omega.{arith}
+use mathlib.Core.Path.{sym}
+use Prim.Native.Nat.{suc, ◌-◌}
+use mathlib.Core.Bool.{false}
+use lib.Dec.{eqb}
+use lib.Seq.{length-take-le}
+use native.Mathlib.Numerals.{add-one}
+use Rattle.trcf.specs.Transformer.{zero32}
+use Rattle.trcf.specs.View.{counting}
+use Rattle.trcf.specs.Steps.Learning.{answering}
+use Rattle.trcf_learn.proofs.post_process.post_process_waiting.Goals as goal
+
+pub overflow_mul-d : goal.overflow_mul-d
+overflow_mul-d c =
+    let c8 = c in
+    five c.requires.bounded.d_few
+
+pub overflow_add-d : goal.overflow_add-d
+overflow_add-d c =
+    let c8 = c in
+    five_more c.requires.bounded.d_few
+
+pub overflow_mul-d-2 : goal.overflow_mul-d-2
+overflow_mul-d-2 c =
+    let c8 = c in
+    all_statistics c.requires.bounded.d_few
+
+pub slice_bounds-write_completing-end : goal.slice_bounds-write_completing-end
+slice_bounds-write_completing-end c =
+    let c8 = c in
+    sym (length-take-le _ _ c.requires.head_in_bounds)
+
+pub write_completing-written-requires : goal.write_completing-written-requires
+write_completing-written-requires c =
+    let c8 = c in
+    let a = c.args in
+    let h = a.head in
+    let q = c.requires in
+    record { bounded = q.bounded; s_len = length-take-le _ _ q.head_in_bounds; values_seen_bound = q.values_seen_bound; head_in_bounds = q.head_in_bounds_2 }
+
+pub overflow_add-seen : goal.overflow_add-seen
+overflow_add-seen c = omega arith
+
+pub overflow_add-n : goal.overflow_add-n
+overflow_add-n c = omega arith
+
+pub with_counts-next-requires : goal.with_counts-next-requires
+with_counts-next-requires c = tt
+
+pub shape_of-initial_values : goal.shape_of-initial_values
+shape_of-initial_values c =
+    let c8 = c in
+    c.hold.auto.1.0
+
+pub shape_of-initial_timestamps : goal.shape_of-initial_timestamps
+shape_of-initial_timestamps c =
+    let c8 = c in
+    c.hold.auto.1.1.0
+
+pub shape_of-deviations_out : goal.shape_of-deviations_out
+shape_of-deviations_out c = c.write_completing-written.auto.1.1.0
+
+pub returns : goal.returns
+returns c =
+    let c8 = c in
+    let c16 = c in
+    let a = c.args in
+    let h = a.head in
+    let q = c.requires in
+    let W = c.write_completing-written.ensures in
+    let H = c.hold.ensures in record {
+      value = (rw (c.with_counts-next.ensures, W.value) (λ j. answering (counting h h.transformer.count (add-one h.values_seen j) h.internal_timestamp (add-one h.initial_len j))
+          (eqb (suc h.values_seen) h.start_normalization) false 0 zero32));
+      initial_values_after = H.initial_values_after;
+      initial_timestamps_after = H.initial_timestamps_after;
+      deviations_out_after = W.output_after;
+    }

@@ -1,0 +1,60 @@
+-- `trcf_point::drain::drain` meets its contract: by its callees' promises and the laws of outcomes. Assumes nothing.
+use mathlib.Core.Path.{refl, sym, ◌∙◌}
+use Rattle.trcf.specs.View.{lent}
+use Rattle.trcf.proofs.RowLaws.{drain_room}
+use Rattle.trcf.proofs.WayLaws.{drain_stays, drain_goes}
+use Rattle.trcf_point.proofs.drain.drain.Goals as goal
+
+pub drain_row-row-requires : goal.drain_row-row-requires
+drain_row-row-requires c = tt
+
+pub shape_of-statistics-then-row-ne0 : goal.shape_of-statistics-then-row-ne0
+shape_of-statistics-then-row-ne0 c = refl
+
+pub shape_of-last_shingled_input-then-row-ne0 : goal.shape_of-last_shingled_input-then-row-ne0
+shape_of-last_shingled_input-then-row-ne0 c = refl
+
+pub shape_of-last_shingled_point-then-row-ne0 : goal.shape_of-last_shingled_point-then-row-ne0
+shape_of-last_shingled_point-then-row-ne0 c = refl
+
+pub shape_of-previous_timestamps-then-row-ne0 : goal.shape_of-previous_timestamps-then-row-ne0
+shape_of-previous_timestamps-then-row-ne0 c = refl
+
+pub returns-then-row-ne0 : goal.returns-then-row-ne0
+returns-then-row-ne0 c =
+    let c8 = c in
+    let a = c.args in
+    drain_stays a.head (lent a.statistics.now a.last-shingled-input.now a.last-shingled-point.now a.previous-timestamps.now a.initial-values.now
+    a.initial-timestamps.now) c.drain_row-row.result c.drain_row-row.ensures.value c.if-row-ne0.true
+
+pub drain_due-next-requires : goal.drain_due-next-requires
+drain_due-next-requires c =
+    let c8 = c in
+    let a = c.args in
+    let l = lent a.statistics.now a.last-shingled-input.now a.last-shingled-point.now a.previous-timestamps.now a.initial-values.now
+    a.initial-timestamps.now in
+    let o = c.drain_row-row in
+    let z = c.if-row-ne0.false in
+    record { ready = o.ensures.ready z; initial_timestamps_value = drain_room a.head l (sym o.ensures.value ∙ z) }
+
+pub shape_of-statistics : goal.shape_of-statistics
+shape_of-statistics c = c.drain_due-next.auto.1.0
+
+pub shape_of-last_shingled_input : goal.shape_of-last_shingled_input
+shape_of-last_shingled_input c = c.drain_due-next.auto.1.1.0
+
+pub shape_of-last_shingled_point : goal.shape_of-last_shingled_point
+shape_of-last_shingled_point c = c.drain_due-next.auto.1.1.1.0
+
+pub shape_of-previous_timestamps : goal.shape_of-previous_timestamps
+shape_of-previous_timestamps c = c.drain_due-next.auto.1.1.1.1.0
+
+pub returns : goal.returns
+returns c =
+    let c8 = c in
+    let c16 = c in
+    let c24 = c in
+    let a = c.args in
+    drain_goes a.head (lent a.statistics.now a.last-shingled-input.now a.last-shingled-point.now a.previous-timestamps.now a.initial-values.now
+    a.initial-timestamps.now) c.drain_row-row.result c.drain_row-row.ensures.value
+    c.if-row-ne0.false _ c.drain_due-next.ensures.initial_timestamps_after

@@ -1,0 +1,156 @@
+-- `trcf_point::point::shingled_point` meets its contract: by its callees' promises and the laws of outcomes. Assumes nothing.
+use mathlib.Core.Path.{◌≡◌, refl, sym, ap, ◌∙◌}
+use mathlib.Core.List.{List}
+use Prim.Native.Nat.{ℕ, ◌*◌}
+use lib.ListN.{length, take}
+use lib.Ieee.{Float}
+use Rattle.refusal.specs.Lent.{over}
+use Rattle.trcf.specs.Lists.{last_n, shift_in}
+use Rattle.trcf.specs.Settings.{dimension}
+use Rattle.trcf.specs.Calls.{newest}
+use Rattle.trcf.specs.Preprocessor.{facts, time_base, preceding, point_of, reading, transformed_after, statistics_length, drained}
+use Rattle.trcf.specs.View.{lent, view, settings_of, time_base_of, Outcome}
+use Rattle.trcf.specs.declared.head.Preprocessor.{Preprocessor}
+use Rattle.trcf.proofs.RowLaws.{pointing, past_room, past_long}
+use Rattle.trcf.proofs.WayLaws.{point_stays, point_holds, point_goes, room_point}
+use Rattle.trcf_point.proofs.point.shingled_point.Goals as goal
+
+-- the point that is written, its base the state's
+based : (h : Preprocessor) (st xs ps : List Float) (ts : List ℕ) (vs : List Float) (vt : List ℕ) (x out o : List Float) (t b : ℕ) → b ≡ time_base_of h ts vt
+    → o ≡ over out (shift_in (take (dimension (settings_of h)) ps) (transformed_after (settings_of h) (take (statistics_length (settings_of h)) st) h.values_seen
+    (reading (last_n h.transformer.input_length (take (h.transformer.input_length * h.shingle_size) xs)) b) (reading x t)))
+    → o ≡ over out (point_of (view h (lent st xs ps ts vs vt)) (reading x t))
+unfolding point_of view preceding time_base time_base_of newest facts
+based h st xs ps ts vs vt x out o t b e f =
+    f
+    ∙ ap (λ (n : ℕ). over out (shift_in (take (dimension (settings_of h)) ps) (transformed_after (settings_of h) (take (statistics_length (settings_of h)) st) h.values_seen
+    (reading (last_n h.transformer.input_length (take (h.transformer.input_length * h.shingle_size) xs)) n) (reading x t)))) e
+
+pub shingled_point_row-row-requires : goal.shingled_point_row-row-requires
+shingled_point_row-row-requires c = tt
+
+pub shape_of-statistics-then-row-ne0 : goal.shape_of-statistics-then-row-ne0
+shape_of-statistics-then-row-ne0 c = refl
+
+pub shape_of-last_shingled_input-then-row-ne0 : goal.shape_of-last_shingled_input-then-row-ne0
+shape_of-last_shingled_input-then-row-ne0 c = refl
+
+pub shape_of-last_shingled_point-then-row-ne0 : goal.shape_of-last_shingled_point-then-row-ne0
+shape_of-last_shingled_point-then-row-ne0 c = refl
+
+pub shape_of-previous_timestamps-then-row-ne0 : goal.shape_of-previous_timestamps-then-row-ne0
+shape_of-previous_timestamps-then-row-ne0 c = refl
+
+pub shape_of-output-then-row-ne0 : goal.shape_of-output-then-row-ne0
+shape_of-output-then-row-ne0 c = refl
+
+pub returns-then-row-ne0 : goal.returns-then-row-ne0
+returns-then-row-ne0 c =
+    let c8 = c in
+    let a = c.args in
+    let l = lent a.statistics.now a.last-shingled-input.now a.last-shingled-point.now a.previous-timestamps.now a.initial-values.now a.initial-timestamps.now in
+    point_stays a.head l a.input.now a.timestamp a.output.now c.shingled_point_row-row.result c.shingled_point_row-row.ensures.value c.if-row-ne0.true
+
+pub is_waiting-requires : goal.is_waiting-requires
+is_waiting-requires c = tt
+
+pub shape_of-statistics-then-is_waiting : goal.shape_of-statistics-then-is_waiting
+shape_of-statistics-then-is_waiting c = refl
+
+pub shape_of-last_shingled_input-then-is_waiting : goal.shape_of-last_shingled_input-then-is_waiting
+shape_of-last_shingled_input-then-is_waiting c = refl
+
+pub shape_of-last_shingled_point-then-is_waiting : goal.shape_of-last_shingled_point-then-is_waiting
+shape_of-last_shingled_point-then-is_waiting c = refl
+
+pub shape_of-previous_timestamps-then-is_waiting : goal.shape_of-previous_timestamps-then-is_waiting
+shape_of-previous_timestamps-then-is_waiting c = refl
+
+pub shape_of-output-then-is_waiting : goal.shape_of-output-then-is_waiting
+shape_of-output-then-is_waiting c = refl
+
+pub returns-then-is_waiting : goal.returns-then-is_waiting
+returns-then-is_waiting c =
+    let c8 = c in
+    let c16 = c in
+    let a = c.args in
+    let l = lent a.statistics.now a.last-shingled-input.now a.last-shingled-point.now a.previous-timestamps.now a.initial-values.now a.initial-timestamps.now in
+    let o = c.shingled_point_row-row in
+    let z = c.if-row-ne0.false in
+    point_holds a.head l a.input.now a.timestamp a.output.now o.result o.ensures.value z c.is_waiting.result c.is_waiting.ensures
+    c.if-is_waiting.true (o.ensures.ready z).fitted
+
+pub drain_due-next-requires : goal.drain_due-next-requires
+drain_due-next-requires c =
+    let c8 = c in
+    let c16 = c in
+    let a = c.args in
+    let h = a.head in
+    let l = lent a.statistics.now a.last-shingled-input.now a.last-shingled-point.now a.previous-timestamps.now a.initial-values.now a.initial-timestamps.now in
+    let o = c.shingled_point_row-row in
+    let z = c.if-row-ne0.false in
+    let q = pointing h l a.input.now a.timestamp a.output.now (sym o.ensures.value ∙ z) in record { ready = o.ensures.ready z; initial_timestamps_value = past_room h l (length a.output.now) q.past (sym c.is_waiting.ensures ∙ c.if-is_waiting.false) }
+
+pub time_base-base-requires : goal.time_base-base-requires
+time_base-base-requires c = tt
+
+pub write_point-requires : goal.write_point-requires
+write_point-requires c =
+    let c8 = c in
+    let c16 = c in
+    let c24 = c in
+    let c32 = c in
+    let a = c.args in
+    let l = lent a.statistics.now a.last-shingled-input.now a.last-shingled-point.now a.previous-timestamps.now a.initial-values.now a.initial-timestamps.now in
+    let o = c.shingled_point_row-row in
+    let z = c.if-row-ne0.false in
+    let d = c.drain_due-next in
+    let q = pointing a.head l a.input.now a.timestamp a.output.now (sym o.ensures.value ∙ z) in
+    let g = past_long a.head l (length a.output.now) q.past (sym c.is_waiting.ensures ∙ c.if-is_waiting.false) in
+    let r =
+    room_point a.head l (length a.input.now) (length a.output.now) _ _ _ _ (drained (view a.head l)) d.result (ap (λ (u : Outcome). u.head) d.ensures.initial_timestamps_after)
+    (o.ensures.ready z) d.auto.1.0 d.auto.1.1.0 d.auto.1.1.1.0 d.auto.1.1.1.1.0 q.whole g in
+    (r.0, (r.1.0, (r.1.1.0, (r.1.1.1.0, r.1.1.1.1.1))))
+
+pub shape_of-statistics : goal.shape_of-statistics
+shape_of-statistics c =
+    let c8 = c in
+    let c16 = c in
+    c.drain_due-next.auto.1.0
+
+pub shape_of-last_shingled_input : goal.shape_of-last_shingled_input
+shape_of-last_shingled_input c =
+    let c8 = c in
+    let c16 = c in
+    c.drain_due-next.auto.1.1.0
+
+pub shape_of-last_shingled_point : goal.shape_of-last_shingled_point
+shape_of-last_shingled_point c =
+    let c8 = c in
+    let c16 = c in
+    c.drain_due-next.auto.1.1.1.0
+
+pub shape_of-previous_timestamps : goal.shape_of-previous_timestamps
+shape_of-previous_timestamps c =
+    let c8 = c in
+    let c16 = c in
+    c.drain_due-next.auto.1.1.1.1.0
+
+pub shape_of-output : goal.shape_of-output
+shape_of-output c = c.write_point.auto.1.1.1.1.1.1.1.0
+
+pub returns : goal.returns
+returns c =
+    let c8 = c in
+    let c16 = c in
+    let c24 = c in
+    let c32 = c in
+    let at-is-waiting = c.is_waiting in
+    let a = c.args in
+    let l = lent a.statistics.now a.last-shingled-input.now a.last-shingled-point.now a.previous-timestamps.now a.initial-values.now a.initial-timestamps.now in
+    let o = c.shingled_point_row-row in
+    let d = c.drain_due-next in
+    point_goes a.head l a.input.now a.timestamp a.output.now o.result o.ensures.value c.if-row-ne0.false at-is-waiting.result at-is-waiting.ensures
+    c.if-is_waiting.false _ _ _ _ d.ensures.initial_timestamps_after d.ensures.initial_timestamps_after_2
+    (based _ _ _ _ _ _ _ a.input.now a.output.now _ a.timestamp _ c.time_base-base.ensures
+    c.write_point.ensures)
