@@ -1005,4 +1005,4 @@ unfolding piece0
 returns-in-249 c = arm 0 249 _ 0x3fef_df5c_d010_5198 c.in-249.is tt tt refl
 
 pub returns-in_default : goal.returns-in_default
-returns-in_default c = rest 0 c.args.i c.in_default.rest
+returns-in_default c = rest 0 c.args.i c.in_default.in_default-own.rest

@@ -1005,4 +1005,4 @@ unfolding piece1
 returns-in-249 c = arm 1 249 _ 0x3fef_efa6_115f_8d8a c.in-249.is tt tt refl
 
 pub returns-in_default : goal.returns-in_default
-returns-in_default c = rest 1 c.args.i c.in_default.rest
+returns-in_default c = rest 1 c.args.i c.in_default.in_default-own.rest

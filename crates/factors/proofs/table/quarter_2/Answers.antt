@@ -1005,4 +1005,4 @@ unfolding piece2
 returns-in-249 c = arm 2 249 _ 0x3fef_f517_8548_9b71 c.in-249.is tt tt refl
 
 pub returns-in_default : goal.returns-in_default
-returns-in_default c = rest 2 c.args.i c.in_default.rest
+returns-in_default c = rest 2 c.args.i c.in_default.in_default-own.rest

@@ -1005,4 +1005,4 @@ unfolding piece3
 returns-in-249 c = arm 3 249 _ 0x3fef_f7d0_f16c_2e09 c.in-249.is tt tt refl
 
 pub returns-in_default : goal.returns-in_default
-returns-in_default c = rest 3 c.args.i c.in_default.rest
+returns-in_default c = rest 3 c.args.i c.in_default.in_default-own.rest

@@ -24,8 +24,7 @@ real x e = go x e
 
 pattern : (c : After-narrow_size-low) → Pattern binary32 (narrowed c.args.x) (to_bits binary64 c.args.x / 2 ^ 63 * 2 ^ 31 + c.narrow_size-low.result)
 pattern c =
-    let a = c in
-    narrow_pattern c.args.x c.narrow_size-low.result (held a) (real c.args.x c.if-x.false) c.narrow_size-low.ensures
+    narrow_pattern c.args.x c.narrow_size-low.result (subst T (sym c.well_formed.0.1) tt) (real c.args.x c.if-x.false) c.narrow_size-low.ensures
 
 pub returns-then-x : goal.returns-then-x
 unfolding div of_bits narrowed

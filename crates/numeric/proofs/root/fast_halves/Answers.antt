@@ -1,11 +1,11 @@
 -- `numeric::root::fast_halves` meets its contract. With b = 2 ^ 27 and n = s * s + r, the division r * b = low * 2 * s + u gives q = s * b + low, and then q * q + u * b = n * b * b + low * low.
 -- So u * b against low * low says whether q is the root, exact or not, or one too large. Assumes nothing.
-use Rattle.std.proofs.Common.{◌≡◌, ℕ, suc, ◌+◌, ◌-◌, ◌*◌, ◌/◌, ◌%◌, ◌^◌, ◌<◌, ◌≤◌, ◌⊎◌, sym, ap, ◌∙◌, subst, inl, inr, ⊎_elim, le_of_suc-le-suc, lt_of_le_of_lt, mod-lt, mul_assoc, mul_comm, div-lt_iff_lt-mul, mul-le-mul, div-add-mod', mul_right_comm, mul_left_comm, add-one, arith}
+use Rattle.std.proofs.Common.{◌≡◌, ℕ, suc, ◌+◌, ◌-◌, ◌*◌, ◌/◌, ◌%◌, ◌^◌, ◌<◌, ◌≤◌, ◌⊎◌, sym, ap, ◌∙◌, subst, inl, inr, le_of_suc-le-suc, lt_of_le_of_lt, mod-lt, mul_assoc, mul_comm, div-lt_iff_lt-mul, mul-le-mul, div-add-mod', mul_right_comm, mul_left_comm, add-one, arith}
 use lib.Arith.{lt_of_le-ne}
 use Rattle.numeric.specs.Root.{halves}
 use Rattle.numeric.proofs.Squares.{square_suc, square_sum, square_back, halves_exact, halves_between, halves_rest}
 use Rattle.numeric.proofs.root.fast_halves.Goals as goal
-use Rattle.numeric.proofs.root.fast_halves.Goals.{After-small_root-s, Joined-left-square-2}
+use Rattle.numeric.proofs.root.fast_halves.Goals.{After-small_root-s, Joined-left-square-2, then-left-square, else-left-square, then-left-square-2, else-left-square-2}
 
 square_shift : (s : ℕ) → s * 2 ^ 27 * (s * 2 ^ 27) ≡ s * s * 2 ^ 54
 square_shift s = mul_assoc s (2 ^ 27) (s * 2 ^ 27) ∙ ap (λ (x : ℕ). s * x) (mul_left_comm (2 ^ 27) s (2 ^ 27)) ∙ sym (mul_assoc s s (2 ^ 54))
@@ -165,7 +165,8 @@ how c =
     let n = c.args.n in
     let s = c.small_root-s.result in
     came (shifted n s % (s * 2) * 2 ^ 27) (shifted n s / (s * 2) * (shifted n s / (s * 2))) c.if-left-square.over c.if-left-square-2.rest
-    (⊎_elim (λ w. inl (w.0.taken, w.1)) (λ w. inr (w.0.left, w.1)) c.if-left-square.branch) (⊎_elim (λ w. inl (w.0.taken, w.1)) (λ w. inr (w.0.left, w.1)) c.if-left-square-2.branch)
+    (elim c.if-left-square.branch [ then-left-square w ↦ inl (w.if-left-square.true, w.over-is) | else-left-square w ↦ inr (w.if-left-square.false, w.over-is) ])
+    (elim c.if-left-square-2.branch [ then-left-square-2 w ↦ inl (w.if-left-square-2.true, w.rest-is) | else-left-square-2 w ↦ inr (w.if-left-square-2.false, w.rest-is) ])
 
 pub overflow_mul-result : goal.overflow_mul-result
 overflow_mul-result c = let b = root_hi (goal.at.overflow_mul-result c).After-small_root-s in let l = low_hi (goal.at.overflow_mul-result c).After-small_root-s in omega arith

@@ -1,10 +1,10 @@
 -- `numeric::root::mended` meets its contract: `closest_root`, where the remainder of a number moved by one is that of the first and the difference of the two squares. Assumes nothing.
-use Rattle.std.proofs.Common.{◌≡◌, ℕ, ◌+◌, ◌-◌, ◌*◌, ◌^◌, ◌<◌, ◌≤◌, ◌⊎◌, sym, ap, ◌∙◌, inl, inr, ⊎_elim, arith}
+use Rattle.std.proofs.Common.{◌≡◌, ℕ, ◌+◌, ◌-◌, ◌*◌, ◌^◌, ◌<◌, ◌≤◌, ◌⊎◌, sym, ap, ◌∙◌, inl, inr, arith}
 use lib.Ieee.Nearest.{closest}
 use Rattle.numeric.specs.Root.{halves}
 use Rattle.numeric.proofs.Squares.{square_up, square_down_one, closest_root}
 use Rattle.numeric.proofs.root.mended.Goals as goal
-use Rattle.numeric.proofs.root.mended.Goals.{Joined-w-c-le1152921504606846976}
+use Rattle.numeric.proofs.root.mended.Goals.{Joined-w-c-le1152921504606846976, then-c-w, else-c-w, then-w-c-le1152921504606846976, else-w-c-le1152921504606846976}
 
 -- which way the number moves
 data Step (w c up down : ℕ) : Type 0 where
@@ -50,7 +50,11 @@ how : (j : Joined-w-c-le1152921504606846976) → let a = j in Step j.remainder-w
 how j =
     let a = j in
     step j.remainder-w.result j.args.c j.if-c-w.up j.if-w-c-le1152921504606846976.down
-    (⊎_elim (λ w. inl (w.0.taken, w.1)) (λ w. inr (w.0.left, w.1)) j.if-c-w.branch) (⊎_elim (λ w. inl (w.0.taken, w.1)) (λ w. inr (w.0.left, w.1)) j.if-w-c-le1152921504606846976.branch)
+    (elim j.if-c-w.branch [ then-c-w w ↦ inl (w.if-c-w.true, w.up-is) | else-c-w w ↦ inr (w.if-c-w.false, w.up-is) ])
+    (elim j.if-w-c-le1152921504606846976.branch [
+      | then-w-c-le1152921504606846976 w ↦ inl (w.if-w-c-le1152921504606846976.true, w.down-is)
+      | else-w-c-le1152921504606846976 w ↦ inr (w.if-w-c-le1152921504606846976.false, w.down-is)
+    ])
 
 pub overflow_add-result : goal.overflow_add-result
 overflow_add-result c = let h = small (how (goal.at.overflow_add-result c).Joined-w-c-le1152921504606846976) in omega arith
@@ -62,4 +66,4 @@ pub returns : goal.returns
 returns c =
     λ p. let j = c in let a = c in let z = c.if-w-eq0.false in let near : 0 < c.remainder-w.result = omega arith in let s =
     c.remainder-w.ensures in answer c.args.n c.remainder-w.result c.args.c c.if-c-w.up c.if-w-c-le1152921504606846976.down c.requires.bound c.requires.c_bound
-    (s.0 near) (s.1.0 near) s.1.1 (how (goal.at.returns c).Joined-w-c-le1152921504606846976)
+    (s.c_value near) (s.bound_2 near) s.upper_bound (how (goal.at.returns c).Joined-w-c-le1152921504606846976)

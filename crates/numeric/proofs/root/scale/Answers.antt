@@ -11,7 +11,7 @@ held : (c : Start) → T (fits binary64 c.args.x)
 held c = subst T (sym c.well_formed.0.1) tt
 
 inside : (c : Then-field-eq0) → (11 ≤ count_leading_zeros 64 (to_bits binary64 c.args.x % 2 ^ 52)) × (count_leading_zeros 64 (to_bits binary64 c.args.x % 2 ^ 52) ≤ 63)
-inside c = let x = c.args.x in leading_in (to_bits binary64 x % 2 ^ 52) (digits_pos x (held c) c.requires c.if-field-eq0.true) (omega arith)
+inside c = let x = c.args.x in leading_in (to_bits binary64 x % 2 ^ 52) (digits_pos x (subst T (sym c.well_formed.0.1) tt) c.requires c.if-field-eq0.true) (omega arith)
 
 pub float_to_bits-b : goal.float_to_bits-b
 float_to_bits-b c = positive_real c.args.x c.requires

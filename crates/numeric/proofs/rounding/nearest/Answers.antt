@@ -1,9 +1,9 @@
 -- `numeric::rounding::nearest` meets its contract: `1 << d` is 2 ^ d, and the one test settles `closest`'s three cases. Assumes nothing.
-use Rattle.std.proofs.Common.{◌≡◌, ℕ, ◌+◌, ◌*◌, ◌/◌, ◌%◌, ◌^◌, ◌<◌, ap, ◌∙◌, subst, ⊎_elim, arith, pow_pos}
+use Rattle.std.proofs.Common.{◌≡◌, ℕ, ◌+◌, ◌*◌, ◌/◌, ◌%◌, ◌^◌, ◌<◌, ap, ◌∙◌, subst, arith, pow_pos}
 use lib.Ieee.Nearest.{closest}
 use Rattle.numeric.proofs.Near.{closest_up_one, closest_stay, one_shl, room, twice_rest}
 use Rattle.numeric.proofs.rounding.nearest.Goals as goal
-use Rattle.numeric.proofs.rounding.nearest.Goals.{After-row_known-1, Start}
+use Rattle.numeric.proofs.rounding.nearest.Goals.{After-row_known-1, Start, then-u-t, else-u-t}
 
 -- the divisor, as the machine has it
 abbrev shl : ℕ → ℕ
@@ -39,7 +39,7 @@ overflow_add-t c = let h = twice_lt (goal.at.overflow_add-t c).Start in omega ar
 
 -- what was added is 0 or 1
 up_lt : (c : After-row_known-1) → c.if-u-t.up < 2
-up_lt c = ⊎_elim (λ w. let e = w.1 in omega arith) (λ w. let e = w.1 in omega arith) c.if-u-t.branch
+up_lt c = elim c.if-u-t.branch [ then-u-t w ↦ let e = w.up-is in omega arith | else-u-t w ↦ let e = w.up-is in omega arith ]
 
 pub overflow_add-result : goal.overflow_add-result
 overflow_add-result c = let h = next_lt (goal.at.overflow_add-result c).Start in let k = up_lt (goal.at.overflow_add-result c).After-row_known-1 in omega arith
@@ -50,4 +50,7 @@ returns c =
     let m = c.args.m in
     let u = shl c.args.d in
     at (goal.at.returns c).Start (m / u + c.if-u-t.up)
-    (⊎_elim (λ w. ap (λ (x : ℕ). m / u + x) w.1 ∙ closest_up_one m u w.0.taken) (λ w. ap (λ (x : ℕ). m / u + x) w.1 ∙ closest_stay m u w.0.left) c.if-u-t.branch)
+    (elim c.if-u-t.branch [
+      | then-u-t w ↦ ap (λ (x : ℕ). m / u + x) w.up-is ∙ closest_up_one m u w.if-u-t.true
+      | else-u-t w ↦ ap (λ (x : ℕ). m / u + x) w.up-is ∙ closest_stay m u w.if-u-t.false
+    ])
