@@ -93,7 +93,7 @@ returns c =
       );
       readings_shaped = λ e. record {
         few = few;
-        left = shaped a.d a.left-cells (length a.left-times.now) l;
-        right = shaped a.d a.right-cells (length a.right-times.now) r;
+        left = shaped a.d a.left_cells (length a.left_times.now) l;
+        right = shaped a.d a.right_cells (length a.right_times.now) r;
       };
     }

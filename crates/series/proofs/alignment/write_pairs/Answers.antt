@@ -14,15 +14,15 @@ loop-i-init c =
     let new = c.clear.new.gaps in
     let near = c in
     let a = c.args in
-    let s = lists (length new) a.left.now a.left-times.now a.right.now a.right-times.now a.tolerance a.left_out.now a.right-out.now in
-    let e : length new ≡ length a.gaps-out.now = cleared_length a.gaps-out.now new c.clear.ensures in
+    let s = lists (length new) a.left.now a.left_times.now a.right.now a.right_times.now a.tolerance a.left_out.now a.right_out.now in
+    let e : length new ≡ length a.gaps_out.now = cleared_length a.gaps_out.now new c.clear.ensures in
     let pre = c.requires in
-    let lp : length a.left.now ≡ length a.left-times.now * length a.gaps-out.now = pre.left_len in
-    let rp : length a.right.now ≡ length a.right-times.now * length a.gaps-out.now = pre.right_len in
+    let lp : length a.left.now ≡ length a.left_times.now * length a.gaps_out.now = pre.left_len in
+    let rp : length a.right.now ≡ length a.right_times.now * length a.gaps_out.now = pre.right_len in
     let f : Fitting s =
     record {
-      left = lp ∙ ap (λ (k : ℕ). length a.left-times.now * k) (sym e);
-      right = rp ∙ ap (λ (k : ℕ). length a.right-times.now * k) (sym e);
+      left = lp ∙ ap (λ (k : ℕ). length a.left_times.now * k) (sym e);
+      right = rp ∙ ap (λ (k : ℕ). length a.right_times.now * k) (sym e);
       left_room = pre.right_times_in_bounds;
       right_room = pre.right_times_in_bounds_2;
     } in
@@ -40,8 +40,8 @@ shape_of-gaps_out-then-j-right_times c =
     let new = c.clear.new.gaps in
     let near = c in
     let a = c.args in
-    let s = lists (length new) a.left.now a.left-times.now a.right.now a.right-times.now a.tolerance a.left_out.now a.right-out.now in
-    let e : length new ≡ length a.gaps-out.now = cleared_length a.gaps-out.now new c.clear.ensures in
+    let s = lists (length new) a.left.now a.left_times.now a.right.now a.right_times.now a.tolerance a.left_out.now a.right_out.now in
+    let e : length new ≡ length a.gaps_out.now = cleared_length a.gaps_out.now new c.clear.ensures in
     omega (arith, L.invariant.gaps_length, e)
 
 pub returns-then-j-right_times : goal.returns-then-j-right_times
@@ -50,10 +50,10 @@ returns-then-j-right_times c =
     let new = c.clear.new.gaps in
     let near = c in
     let a = c.args in
-    let s = lists (length new) a.left.now a.left-times.now a.right.now a.right-times.now a.tolerance a.left_out.now a.right-out.now in
-    let e : length new ≡ length a.gaps-out.now = cleared_length a.gaps-out.now new c.clear.ensures in
-    let f = finished s L.left_out L.right-out L.gaps-out L.n L.i L.j L.invariant
-    (all_right a.tolerance a.left-times.now a.right-times.now L.n L.i L.j L.invariant.walked (omega arith)) in
+    let s = lists (length new) a.left.now a.left_times.now a.right.now a.right_times.now a.tolerance a.left_out.now a.right_out.now in
+    let e : length new ≡ length a.gaps_out.now = cleared_length a.gaps_out.now new c.clear.ensures in
+    let f = finished s L.left_out L.right_out L.gaps_out L.n L.i L.j L.invariant
+    (all_right a.tolerance a.left_times.now a.right_times.now L.n L.i L.j L.invariant.walked (omega arith)) in
     record { left_out_after = f.left; right_out_after = f.right; gaps_out_after = f.gaps_are ∙ ap (λ (k : ℕ). gaps k a.left.now a.right.now (all s)) e }
 
 pub offset_bounds-left_times-i : goal.offset_bounds-left_times-i
@@ -78,11 +78,11 @@ bounds-left_out-n c =
     let new = c.clear.new.gaps in
     let far = c in
     let a = c.args in
-    let s = lists (length new) a.left.now a.left-times.now a.right.now a.right-times.now a.tolerance a.left_out.now a.right-out.now in
-    let hi : L.i < length a.left-times.now = omega arith in
-    let hj : L.j < length a.right-times.now = omega arith in
-    let h : apart (get_or a.left-times.now L.i 0) (get_or a.right-times.now L.j 0) ≤ a.tolerance = omega arith in
-    let y = ready s L.left_out L.right-out L.gaps-out L.n L.i L.j L.invariant hi hj h in
+    let s = lists (length new) a.left.now a.left_times.now a.right.now a.right_times.now a.tolerance a.left_out.now a.right_out.now in
+    let hi : L.i < length a.left_times.now = omega arith in
+    let hj : L.j < length a.right_times.now = omega arith in
+    let h : apart (get_or a.left_times.now L.i 0) (get_or a.right_times.now L.j 0) ≤ a.tolerance = omega arith in
+    let y = ready s L.left_out L.right_out L.gaps_out L.n L.i L.j L.invariant hi hj h in
     y.left_room
 
 pub offset_bounds-right_out-n : goal.offset_bounds-right_out-n
@@ -95,11 +95,11 @@ bounds-right_out-n c =
     let new = c.clear.new.gaps in
     let far = c in
     let a = c.args in
-    let s = lists (length new) a.left.now a.left-times.now a.right.now a.right-times.now a.tolerance a.left_out.now a.right-out.now in
-    let hi : L.i < length a.left-times.now = omega arith in
-    let hj : L.j < length a.right-times.now = omega arith in
-    let h : apart (get_or a.left-times.now L.i 0) (get_or a.right-times.now L.j 0) ≤ a.tolerance = omega arith in
-    let y = ready s L.left_out L.right-out L.gaps-out L.n L.i L.j L.invariant hi hj h in
+    let s = lists (length new) a.left.now a.left_times.now a.right.now a.right_times.now a.tolerance a.left_out.now a.right_out.now in
+    let hi : L.i < length a.left_times.now = omega arith in
+    let hj : L.j < length a.right_times.now = omega arith in
+    let h : apart (get_or a.left_times.now L.i 0) (get_or a.right_times.now L.j 0) ≤ a.tolerance = omega arith in
+    let y = ready s L.left_out L.right_out L.gaps_out L.n L.i L.j L.invariant hi hj h in
     y.right_room
 
 pub overflow_mul-i : goal.overflow_mul-i
@@ -109,11 +109,11 @@ overflow_mul-i c =
     let new = c.clear.new.gaps in
     let far = c in
     let a = c.args in
-    let s = lists (length new) a.left.now a.left-times.now a.right.now a.right-times.now a.tolerance a.left_out.now a.right-out.now in
-    let hi : L.i < length a.left-times.now = omega arith in
-    let hj : L.j < length a.right-times.now = omega arith in
-    let h : apart (get_or a.left-times.now L.i 0) (get_or a.right-times.now L.j 0) ≤ a.tolerance = omega arith in
-    let y = ready s L.left_out L.right-out L.gaps-out L.n L.i L.j L.invariant hi hj h in
+    let s = lists (length new) a.left.now a.left_times.now a.right.now a.right_times.now a.tolerance a.left_out.now a.right_out.now in
+    let hi : L.i < length a.left_times.now = omega arith in
+    let hj : L.j < length a.right_times.now = omega arith in
+    let h : apart (get_or a.left_times.now L.i 0) (get_or a.right_times.now L.j 0) ≤ a.tolerance = omega arith in
+    let y = ready s L.left_out L.right_out L.gaps_out L.n L.i L.j L.invariant hi hj h in
     omega (arith, y.left_cells)
 
 pub overflow_mul-j : goal.overflow_mul-j
@@ -123,11 +123,11 @@ overflow_mul-j c =
     let new = c.clear.new.gaps in
     let far = c in
     let a = c.args in
-    let s = lists (length new) a.left.now a.left-times.now a.right.now a.right-times.now a.tolerance a.left_out.now a.right-out.now in
-    let hi : L.i < length a.left-times.now = omega arith in
-    let hj : L.j < length a.right-times.now = omega arith in
-    let h : apart (get_or a.left-times.now L.i 0) (get_or a.right-times.now L.j 0) ≤ a.tolerance = omega arith in
-    let y = ready s L.left_out L.right-out L.gaps-out L.n L.i L.j L.invariant hi hj h in
+    let s = lists (length new) a.left.now a.left_times.now a.right.now a.right_times.now a.tolerance a.left_out.now a.right_out.now in
+    let hi : L.i < length a.left_times.now = omega arith in
+    let hj : L.j < length a.right_times.now = omega arith in
+    let h : apart (get_or a.left_times.now L.i 0) (get_or a.right_times.now L.j 0) ≤ a.tolerance = omega arith in
+    let y = ready s L.left_out L.right_out L.gaps_out L.n L.i L.j L.invariant hi hj h in
     omega (arith, y.right_cells)
 
 pub widen-requires : goal.widen-requires
@@ -137,11 +137,11 @@ widen-requires c =
     let new = c.clear.new.gaps in
     let far = c in
     let a = c.args in
-    let s = lists (length new) a.left.now a.left-times.now a.right.now a.right-times.now a.tolerance a.left_out.now a.right-out.now in
-    let hi : L.i < length a.left-times.now = omega arith in
-    let hj : L.j < length a.right-times.now = omega arith in
-    let h : apart (get_or a.left-times.now L.i 0) (get_or a.right-times.now L.j 0) ≤ a.tolerance = omega arith in
-    let y = ready s L.left_out L.right-out L.gaps-out L.n L.i L.j L.invariant hi hj h in
+    let s = lists (length new) a.left.now a.left_times.now a.right.now a.right_times.now a.tolerance a.left_out.now a.right_out.now in
+    let hi : L.i < length a.left_times.now = omega arith in
+    let hj : L.j < length a.right_times.now = omega arith in
+    let h : apart (get_or a.left_times.now L.i 0) (get_or a.right_times.now L.j 0) ≤ a.tolerance = omega arith in
+    let y = ready s L.left_out L.right_out L.gaps_out L.n L.i L.j L.invariant hi hj h in
     record { gaps_in_bounds = omega (arith, y.left_cells); gaps_in_bounds_2 = omega (arith, y.right_cells) }
 
 pub overflow_add-n : goal.overflow_add-n
@@ -163,11 +163,11 @@ loop-i-preserved-then-distance-tolerance c =
     let new = c.clear.new.gaps in
     let far = c in
     let a = c.args in
-    let s = lists (length new) a.left.now a.left-times.now a.right.now a.right-times.now a.tolerance a.left_out.now a.right-out.now in
-    let hi : L.i < length a.left-times.now = omega arith in
-    let hj : L.j < length a.right-times.now = omega arith in
-    let h : apart (get_or a.left-times.now L.i 0) (get_or a.right-times.now L.j 0) ≤ a.tolerance = omega arith in
-    compared_both s L.left_out L.right-out L.gaps-out L.n L.i L.j L.invariant hi hj h _ _ c.widen.new.gaps
+    let s = lists (length new) a.left.now a.left_times.now a.right.now a.right_times.now a.tolerance a.left_out.now a.right_out.now in
+    let hi : L.i < length a.left_times.now = omega arith in
+    let hj : L.j < length a.right_times.now = omega arith in
+    let h : apart (get_or a.left_times.now L.i 0) (get_or a.right_times.now L.j 0) ≤ a.tolerance = omega arith in
+    compared_both s L.left_out L.right_out L.gaps_out L.n L.i L.j L.invariant hi hj h _ _ c.widen.new.gaps
     (omega arith) (omega arith) c.widen.ensures
 
 pub overflow_add-i-then-at_left-at_right : goal.overflow_add-i-then-at_left-at_right
@@ -183,11 +183,11 @@ loop-i-preserved-then-at_left-at_right c =
     let new = c.clear.new.gaps in
     let far = c in
     let a = c.args in
-    let s = lists (length new) a.left.now a.left-times.now a.right.now a.right-times.now a.tolerance a.left_out.now a.right-out.now in
-    let hi : L.i < length a.left-times.now = omega arith in
-    let hj : L.j < length a.right-times.now = omega arith in
-    let h : a.tolerance < apart (get_or a.left-times.now L.i 0) (get_or a.right-times.now L.j 0) = omega arith in
-    compared_left s L.left_out L.right-out L.gaps-out L.n L.i L.j L.invariant hi hj h (omega (arith, c.if-at_left-at_right.true))
+    let s = lists (length new) a.left.now a.left_times.now a.right.now a.right_times.now a.tolerance a.left_out.now a.right_out.now in
+    let hi : L.i < length a.left_times.now = omega arith in
+    let hj : L.j < length a.right_times.now = omega arith in
+    let h : a.tolerance < apart (get_or a.left_times.now L.i 0) (get_or a.right_times.now L.j 0) = omega arith in
+    compared_left s L.left_out L.right_out L.gaps_out L.n L.i L.j L.invariant hi hj h (omega (arith, c.if-at_left-at_right.true))
 
 pub overflow_add-j-else-at_left-at_right : goal.overflow_add-j-else-at_left-at_right
 overflow_add-j-else-at_left-at_right c = omega arith
@@ -202,11 +202,11 @@ loop-i-preserved c =
     let new = c.clear.new.gaps in
     let far = c in
     let a = c.args in
-    let s = lists (length new) a.left.now a.left-times.now a.right.now a.right-times.now a.tolerance a.left_out.now a.right-out.now in
-    let hi : L.i < length a.left-times.now = omega arith in
-    let hj : L.j < length a.right-times.now = omega arith in
-    let h : a.tolerance < apart (get_or a.left-times.now L.i 0) (get_or a.right-times.now L.j 0) = omega arith in
-    compared_right s L.left_out L.right-out L.gaps-out L.n L.i L.j L.invariant hi hj h (omega (arith, c.if-at_left-at_right.false))
+    let s = lists (length new) a.left.now a.left_times.now a.right.now a.right_times.now a.tolerance a.left_out.now a.right_out.now in
+    let hi : L.i < length a.left_times.now = omega arith in
+    let hj : L.j < length a.right_times.now = omega arith in
+    let h : a.tolerance < apart (get_or a.left_times.now L.i 0) (get_or a.right_times.now L.j 0) = omega arith in
+    compared_right s L.left_out L.right_out L.gaps_out L.n L.i L.j L.invariant hi hj h (omega (arith, c.if-at_left-at_right.false))
 
 pub shape_of-left_out : goal.shape_of-left_out
 shape_of-left_out c = omega (arith, c.loop-i.invariant.left_length)
@@ -220,8 +220,8 @@ shape_of-gaps_out c =
     let new = c.clear.new.gaps in
     let near = c in
     let a = c.args in
-    let s = lists (length new) a.left.now a.left-times.now a.right.now a.right-times.now a.tolerance a.left_out.now a.right-out.now in
-    let e : length new ≡ length a.gaps-out.now = cleared_length a.gaps-out.now new c.clear.ensures in
+    let s = lists (length new) a.left.now a.left_times.now a.right.now a.right_times.now a.tolerance a.left_out.now a.right_out.now in
+    let e : length new ≡ length a.gaps_out.now = cleared_length a.gaps_out.now new c.clear.ensures in
     omega (arith, L.invariant.gaps_length, e)
 
 pub returns : goal.returns
@@ -230,8 +230,8 @@ returns c =
     let new = c.clear.new.gaps in
     let near = c in
     let a = c.args in
-    let s = lists (length new) a.left.now a.left-times.now a.right.now a.right-times.now a.tolerance a.left_out.now a.right-out.now in
-    let e : length new ≡ length a.gaps-out.now = cleared_length a.gaps-out.now new c.clear.ensures in
-    let f = finished s L.left_out L.right-out L.gaps-out L.n L.i L.j L.invariant
-    (all_left a.tolerance a.left-times.now a.right-times.now L.n L.i L.j L.invariant.walked (omega arith)) in
+    let s = lists (length new) a.left.now a.left_times.now a.right.now a.right_times.now a.tolerance a.left_out.now a.right_out.now in
+    let e : length new ≡ length a.gaps_out.now = cleared_length a.gaps_out.now new c.clear.ensures in
+    let f = finished s L.left_out L.right_out L.gaps_out L.n L.i L.j L.invariant
+    (all_left a.tolerance a.left_times.now a.right_times.now L.n L.i L.j L.invariant.walked (omega arith)) in
     record { left_out_after = f.left; right_out_after = f.right; gaps_out_after = f.gaps_are ∙ ap (λ (k : ℕ). gaps k a.left.now a.right.now (all s)) e }

@@ -17,7 +17,7 @@ pub filled-requires : goal.filled-requires
 filled-requires c =
     let s = c in
     let j = c.loop-j.j in (
-      under_more c.args.gap c.args.gap.start j c.requires.start_le_end.1 c.loop-j.invariant.0,
+      under_more c.args.gap.before c.args.gap.start j c.requires.start_le_end.1 c.loop-j.invariant.0,
       above_less c.args.after j c.args.end c.requires.start_le_end.2 c.loop-j.invariant.1,
     )
 
