@@ -9,8 +9,6 @@ use lib.ListN.{length, take, drop, get_or, length-drop}
 use lib.Seq.{length-take-le, get_or-drop}
 use lib.Dec.{eqb, leb, ltb}
 use lib.Ieee.{Float, Format, binary32, binary64}
-use types.Run.{OneOf, miss}
-use denote.Enum.Declared.{tag_of}
 use borrow.Author.Tests.{eqb-true, eqb-false, leb-true, ltb-true, lt-ltb, le-ltb, le-leb, lt-leb}
 use Rattle.snapshot.specs.Text.{width}
 use Rattle.snapshot.specs.Read.{as_float}
@@ -20,7 +18,6 @@ use Rattle.snapshot.specs.Steps.Judge.{field_length}
 use Rattle.snapshot.specs.Steps.Likely.{likely, from_of}
 use Rattle.snapshot.specs.declared.field.Field.{Field}
 use Rattle.snapshot.specs.declared.field.Field.TheVariants.{Single, Double, Bad}
-use Rattle.snapshot.specs.contracts.field.Field.{the_type}
 use Rattle.snapshot.proofs.Fields.{Clean, float_clean}
 use Rattle.snapshot.proofs.HexLaws.{float_of_lem, bad_length}
 use Rattle.snapshot.proofs.JudgeLaws.{field_short}
@@ -35,9 +32,9 @@ clean_length (suc w) (b ∷ l) c h e = rw (lt-leb b 10 c.0) (ap suc (clean_lengt
 
 -- ---- a float, of either width
 
--- it is a float or a whole number
+-- it is a float or a whole number, and not bad
 abbrev Good : Field → Type 0
-Good f = OneOf (0 ∷ 1 ∷ 2 ∷ []) (tag_of the_type f)
+Good f = f ≡ Bad → ⊥
 
 abbrev guess : Format → List ℕ → ℕ
 guess f l = cond (ltb (width f) (length l) && leb (get_or l (width f) 0) 10) (width f) (field_length l)
@@ -86,7 +83,7 @@ module _ (f : Format) (l : List ℕ) where
 -- ---- a field by its kind
 
 not_good : Good Bad → ⊥
-not_good e = miss (0 ∷ 1 ∷ 2 ∷ []) 3 tt e
+not_good e = e refl
 
 single_bad : (x : Float) → Single x ≡ Bad → ⊥
 single_bad x e = let z : ◌≡◌ {A = ℕ} 0 1 = cc in absurd (omega arith)

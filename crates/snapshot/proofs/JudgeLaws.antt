@@ -9,9 +9,6 @@ use mathlib.Core.Option.{Option, none, some}
 use lib.ListN.{length, take, drop, get_or, set, drop_of_length-le, length-drop, length-set, take-append-drop}
 use lib.Seq.{drop-cons, drop-drop, take-suc-set, take_all, take-length, length-take-le, drop-set-lt}
 use lib.Dec.{eqb, leb}
-use types.Run.{OneOf, miss}
-use denote.Enum.Declared.{tag_of}
-use Rattle.snapshot.specs.contracts.field.Field.{the_type}
 use lib.Ieee.{Float, binary32, binary64}
 use borrow.Author.Tests.{eqb-true, eq-eqb, ne_eqb, le-leb, lt-leb}
 use Rattle.refusal.specs.Lent.{over}
@@ -235,12 +232,12 @@ module _ (t : List ℕ) (i : ℕ) (r : Next) where
         go none q = let z : ◌≡◌ {A = ℕ} 0 1 = cc in absurd (omega arith)
         go (some y) q = cc
 
-    pub single_not : OneOf (1 ∷ 2 ∷ 3 ∷ []) (tag_of the_type r.field) → one (as_float binary32) (drop i t) ≡ none
+    pub single_not : ((x : Float) → r.field ≡ Single x → ⊥) → one (as_float binary32) (drop i t) ≡ none
     single_not e = one_none (as_float binary32) (drop i t) (go (first (one (as_float binary32) (drop i t))) single_told)
       where
         go : (o : Option Float) → r.field ≡ single_of o → o ≡ none
         go none q = refl
-        go (some x) q = absurd (miss (1 ∷ 2 ∷ 3 ∷ []) 0 tt (subst (λ (f : Field). OneOf (1 ∷ 2 ∷ 3 ∷ []) (tag_of the_type f)) q e))
+        go (some x) q = absurd (e x q)
 
   module _ (h : r ≡ next_of 1 i t) where
     double_told : r.field ≡ double_of (first (one (as_float binary64) (drop i t)))
@@ -253,12 +250,12 @@ module _ (t : List ℕ) (i : ℕ) (r : Next) where
         go none q = let z : ◌≡◌ {A = ℕ} 0 1 = cc in absurd (omega arith)
         go (some y) q = cc
 
-    pub double_not : OneOf (0 ∷ 2 ∷ 3 ∷ []) (tag_of the_type r.field) → one (as_float binary64) (drop i t) ≡ none
+    pub double_not : ((x : Float) → r.field ≡ Double x → ⊥) → one (as_float binary64) (drop i t) ≡ none
     double_not e = one_none (as_float binary64) (drop i t) (go (first (one (as_float binary64) (drop i t))) double_told)
       where
         go : (o : Option Float) → r.field ≡ double_of o → o ≡ none
         go none q = refl
-        go (some x) q = absurd (miss (0 ∷ 2 ∷ 3 ∷ []) 1 tt (subst (λ (f : Field). OneOf (0 ∷ 2 ∷ 3 ∷ []) (tag_of the_type f)) q e))
+        go (some x) q = absurd (e x q)
 
   module _ (h : r ≡ next_of 2 i t) where
     whole_told : r.field ≡ whole_of (first (one as_whole (drop i t)))
@@ -271,12 +268,12 @@ module _ (t : List ℕ) (i : ℕ) (r : Next) where
         go none q = let z : ◌≡◌ {A = ℕ} 0 1 = cc in absurd (omega arith)
         go (some y) q = cc
 
-    pub whole_not : OneOf (0 ∷ 1 ∷ 3 ∷ []) (tag_of the_type r.field) → one as_whole (drop i t) ≡ none
+    pub whole_not : ((x : ℕ) → r.field ≡ Whole x → ⊥) → one as_whole (drop i t) ≡ none
     whole_not e = one_none as_whole (drop i t) (go (first (one as_whole (drop i t))) whole_told)
       where
         go : (o : Option ℕ) → r.field ≡ whole_of o → o ≡ none
         go none q = refl
-        go (some x) q = absurd (miss (0 ∷ 1 ∷ 3 ∷ []) 2 tt (subst (λ (f : Field). OneOf (0 ∷ 1 ∷ 3 ∷ []) (tag_of the_type f)) q e))
+        go (some x) q = absurd (e x q)
 
 -- a whole number, or none
 module _ (o : Option ℕ) (f : Field) (h : f ≡ whole_of o) where
@@ -287,12 +284,12 @@ module _ (o : Option ℕ) (f : Field) (h : f ≡ whole_of o) where
       go none k = let z : ◌≡◌ {A = ℕ} 0 1 = cc in absurd (omega arith)
       go (some y) k = let e : n ≡ y = cc in ap Is e
 
-  pub number_not : OneOf (0 ∷ 1 ∷ 3 ∷ []) (tag_of the_type f) → No ≡ number_of o
+  pub number_not : ((x : ℕ) → f ≡ Whole x → ⊥) → No ≡ number_of o
   number_not e = go o h
     where
       go : (q : Option ℕ) → f ≡ whole_of q → No ≡ number_of q
       go none k = refl
-      go (some y) k = absurd (miss (0 ∷ 1 ∷ 3 ∷ []) 2 tt (subst (λ (x : Field). OneOf (0 ∷ 1 ∷ 3 ∷ []) (tag_of the_type x)) k e))
+      go (some y) k = absurd (e y k)
 
 -- ---- a line of fields of one kind
 

@@ -2,22 +2,21 @@
 use Prim.Native.Nat.{◌-◌, ◌≤◌, ◌<◌}
 use native.Mathlib.Omega.{arith}
 use native.Mathlib.Numerals.{add-one}
-use mathlib.Core.Logic.{inl, inr, ⊎_elim}
+use mathlib.Core.Logic.{inl, inr}
 use lib.ListN.{length}
 use Rattle.snapshot.proofs.HexLaws.{Larger, told_first, told_next, room, hnone_at, hsome_at}
 use Rattle.snapshot.proofs.field.hex.Goals as goal
+use Rattle.snapshot.proofs.field.hex.Goals.{then-largest-d, else-largest-d}
 
 pub loop-i-init : goal.loop-i-init
 loop-i-init c = (omega arith, told_first c.args.c.now)
 
 pub overflow_mul-n : goal.overflow_mul-n
 overflow_mul-n c =
-    let s = c in
     omega (arith, room c.args.c.now c.loop-i.n c.loop-i.largest c.loop-i.i c.requires c.loop-i-test.true c.loop-i.invariant.1)
 
 pub overflow_add-n : goal.overflow_add-n
 overflow_add-n c =
-    let s = c in
     omega (arith, room c.args.c.now c.loop-i.n c.loop-i.largest c.loop-i.i c.requires c.loop-i-test.true c.loop-i.invariant.1)
 
 pub loop-i-preserved : goal.loop-i-preserved
@@ -26,7 +25,7 @@ loop-i-preserved c =
     let s = c.loop-i in
     let d = c.digit-d in
     let h : s.i < length v = c.loop-i-test.true in
-    let w : Larger s.largest d.result c.if-largest-d.largest = ⊎_elim (λ w. inl (w.0.taken, w.1)) (λ w. inr (w.0.left, w.1)) c.if-largest-d.branch in
+    let w : Larger s.largest d.result c.if-largest-d.largest = elim c.if-largest-d.branch [ then-largest-d w ↦ inl (w.if-largest-d.true, w.largest-is) | else-largest-d w ↦ inr (w.if-largest-d.false, w.largest-is) ] in
     let few : length v ≤ 16 = c.requires in
     (omega arith, rw (add-one s.i) (told_next v s.n s.i d.result s.largest c.if-largest-d.largest few h d.ensures s.invariant.1 w))
 

@@ -24,9 +24,7 @@ returns-in-No c =
 
 pub returns-in-Is : goal.returns-in-Is
 returns-in-Is c =
-    let c8 = c in
     let at-args = c.args in
-    let at-w = c.w-1 in
     whole_good (as_whole (take (at-args.to - at-args.from) (drop at-args.from at-args.text.now))) c.in-Is.n
     (sym c.in-Is.is ∙ c.whole-w.ensures) ∙ as_whole_lem at-args.kind (take (at-args.to - at-args.from) (drop at-args.from at-args.text.now))
     c.if-kind-eq0.false c.if-kind-eq1.false

@@ -27,8 +27,6 @@ returns-then-n-gt4294967295 c =
 pub returns-then-n-eq2143289344 : goal.returns-then-n-eq2143289344
 unfolding to_bits
 returns-then-n-eq2143289344 c =
-    let c8 = c in
-    let at-h = c.h-1 in
     let v = c.args.c.now in
     let n = c.in-Is.n in
     let l : length v ≡ 8 = c.if-c-ne8.false in
@@ -38,8 +36,6 @@ returns-then-n-eq2143289344 c =
 pub returns-then-n-gt2139095040 : goal.returns-then-n-gt2139095040
 unfolding to_bits
 returns-then-n-gt2139095040 c =
-    let c8 = c in
-    let at-h = c.h-1 in
     let v = c.args.c.now in
     let n = c.in-Is.n in
     let l : length v ≡ 8 = c.if-c-ne8.false in

@@ -27,7 +27,6 @@ returns-then-b-lt48 c =
 
 pub returns-then-b-gt57 : goal.returns-then-b-gt57
 returns-then-b-gt57 c =
-    let c8 = c in
     let at-loop = c.loop-i in
     let at_wide = c.wide-b in
     let v = c.args.c.now in
@@ -39,7 +38,6 @@ returns-then-b-gt57 c =
 
 pub returns-then-n-gt1844674407370955161 : goal.returns-then-n-gt1844674407370955161
 returns-then-n-gt1844674407370955161 c =
-    let c8 = c in
     let at-loop = c.loop-i in
     let at_wide = c.wide-b in
     let v = c.args.c.now in
@@ -51,7 +49,6 @@ returns-then-n-gt1844674407370955161 c =
 
 pub returns-then-m-d : goal.returns-then-m-d
 returns-then-m-d c =
-    let c8 = c in
     let at-loop = c.loop-i in
     let at_wide = c.wide-b in
     let v = c.args.c.now in
@@ -63,7 +60,6 @@ returns-then-m-d c =
 
 pub loop-i-preserved : goal.loop-i-preserved
 loop-i-preserved c =
-    let c8 = c in
     let at-loop = c.loop-i in
     let at_wide = c.wide-b in
     let v = c.args.c.now in

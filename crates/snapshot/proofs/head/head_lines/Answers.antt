@@ -39,8 +39,6 @@ slice_bounds-wgt_line-end c =
 
 pub returns-in_default-wgt_line : goal.returns-in_default-wgt_line
 returns-in_default-wgt_line c =
-    let c8 = c in
-    let first-at = c.first-1 in
     let t = c.args.text.now in
     let S = c.set_line-set in
     let e = got_one S.result.place t (settings_told S.result) _ c.in-At.p c.in-At.is S.ensures in
@@ -55,8 +53,6 @@ returns-in_default-wgt_line c =
 
 pub chn_line-third-requires : goal.chn_line-third-requires
 chn_line-third-requires c =
-    let c8 = c in
-    let first-at = c.first-1 in
     let t = c.args.text.now in
     let S = c.set_line-set in
     let e = got_one S.result.place t (settings_told S.result) _ c.in-At.p c.in-At.is S.ensures in
@@ -64,10 +60,6 @@ chn_line-third-requires c =
 
 pub returns-in_default-last : goal.returns-in_default-last
 returns-in_default-last c =
-    let c8 = c in
-    let c16 = c in
-    let q-at = c.q-1 in
-    let first-at = c.first-1 in
     let t = c.args.text.now in
     let S = c.set_line-set in
     let e = got_one S.result.place t (settings_told S.result) _ c.in-At.p c.in-At.is S.ensures in
@@ -86,11 +78,6 @@ returns-in_default-last c =
 
 pub returns : goal.returns
 returns c =
-    let c8 = c in
-    let c16 = c in
-    let q-at = c.q-1 in
-    let first-at = c.first-1 in
-    let last-at = c.last-1 in
     let t = c.args.text.now in
     let S = c.set_line-set in
     let e = got_one S.result.place t (settings_told S.result) _ c.in-At.p c.in-At.is S.ensures in

@@ -20,8 +20,6 @@ returns-in_default c =
 
 pub returns-in_default-doubles : goal.returns-in_default-doubles
 returns-in_default-doubles c =
-    let s = c in
-    let u = c in
     let a = c.args in
     let t = a.text.now in
     let N = c.name in
@@ -37,8 +35,6 @@ returns-in_default-doubles c =
 pub returns : goal.returns
 returns c =
     let q = c in
-    let s = c in
-    let u = c in
     let a = c.args in
     let t = a.text.now in
     let N = c.name in

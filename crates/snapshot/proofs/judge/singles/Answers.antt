@@ -11,20 +11,20 @@ pub fields-init : goal.fields-init
 fields-init c = sofar_none (as_float binary32) (drop c.args.at c.args.text.now) c.args.out.now
 
 pub bounds-out-i : goal.bounds-out-i
-bounds-out-i c = omega (arith, c.fields.invariant.some_left, c.fields.invariant.long)
+bounds-out-i c = omega (arith, c.fields.invariant.some_left_lem, c.fields.invariant.long)
 
 pub overflow_add-i : goal.overflow_add-i
-overflow_add-i c = omega (arith, c.fields.invariant.some_left, c.fields.invariant.long)
+overflow_add-i c = omega (arith, c.fields.invariant.some_left_lem, c.fields.invariant.long)
 
 pub fields-smaller : goal.fields-smaller
-fields-smaller c = omega (arith, c.fields.invariant.some_left, c.fields.invariant.long)
+fields-smaller c = omega (arith, c.fields.invariant.some_left_lem, c.fields.invariant.long)
 
 pub fields-preserved : goal.fields-preserved
 fields-preserved c =
     let next-field-at = c.next_field-next in
     let t = c.args.text.now in
     let L = c.fields in
-    sofar_step (as_float binary32) _ _ _ L.out L.i (drop L.p t) L.invariant (omega (arith, L.invariant.some_left, L.invariant.long)) c.in-Single.x (drop next-field-at.result.end t)
+    sofar_step (as_float binary32) _ _ _ L.out L.i (drop L.p t) L.invariant (omega (arith, L.invariant.some_left_lem, L.invariant.long)) c.in-Single.x (drop next-field-at.result.end t)
     (single_is t L.p next-field-at.result next-field-at.ensures c.in-Single.x c.in-Single.is)
 
 pub shape_of-out-then-i-out : goal.shape_of-out-then-i-out
@@ -48,9 +48,9 @@ returns-in_default c =
     let L = c.fields in
     let t = c.args.text.now in
     let N = c.next_field-next in
-    let e = single_not t L.p N.result N.ensures c.in_default.keys2 in
+    let e = single_not t L.p N.result N.ensures c.in_default.not-Single in
     record {
-      told = sofar_stop (as_float binary32) _ _ _ L.out L.i (drop L.p t) L.invariant (omega (arith, L.invariant.some_left, L.invariant.long)) e;
+      told = sofar_stop (as_float binary32) _ _ _ L.out L.i (drop L.p t) L.invariant (omega (arith, L.invariant.some_left_lem, L.invariant.long)) e;
       kept = L.invariant.long;
-      left = left_stop (as_float binary32) _ _ _ L.out L.i (drop L.p t) L.invariant (omega (arith, L.invariant.some_left, L.invariant.long)) e;
+      left = left_stop (as_float binary32) _ _ _ L.out L.i (drop L.p t) L.invariant (omega (arith, L.invariant.some_left_lem, L.invariant.long)) e;
     }

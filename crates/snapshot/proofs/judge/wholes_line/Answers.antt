@@ -19,8 +19,6 @@ returns-in_default c =
 
 pub returns-in_default-wholes : goal.returns-in_default-wholes
 returns-in_default-wholes c =
-    let s = c in
-    let u = c in
     let a = c.args in
     let t = a.text.now in
     let N = c.name in
@@ -36,8 +34,6 @@ returns-in_default-wholes c =
 pub returns : goal.returns
 returns c =
     let q = c in
-    let s = c in
-    let u = c in
     let a = c.args in
     let t = a.text.now in
     let N = c.name in

@@ -18,7 +18,6 @@ returns-in_default c =
 
 pub returns-in_default-f : goal.returns-in_default-f
 returns-in_default-f c =
-    let u = c in
     let a = c.args in
     let t = a.text.now in
     let l = drop a.at t in
@@ -26,14 +25,11 @@ returns-in_default-f c =
     let X = c.next_field-next in
     let z = drop c.in-At.p t in
     let e = got N.result t _ c.in-At.p c.in-At.is N.ensures in
-    let h = whole_not t c.in-At.p X.result X.ensures c.in_default-f.keys2 in
+    let h = whole_not t c.in-At.p X.result X.ensures c.in_default-f.not-Whole in
     record { told = buf_timeless (length a.out.now) a.past l z e h; kept = refl; left = buf_left_timeless (length a.out.now) l _ z e h }
 
 pub returns-in_default-singles : goal.returns-in_default-singles
 returns-in_default-singles c =
-    let s = c in
-    let f = c in
-    let u = c in
     let a = c.args in
     let t = a.text.now in
     let l = drop a.at t in
@@ -54,9 +50,6 @@ returns-in_default-singles c =
 pub returns-then-time-past : goal.returns-then-time-past
 returns-then-time-past c =
     let q = c in
-    let s = c in
-    let f = c in
-    let u = c in
     let a = c.args in
     let t = a.text.now in
     let l = drop a.at t in
@@ -78,9 +71,6 @@ returns-then-time-past c =
 pub returns-then-not-all_finite : goal.returns-then-not-all_finite
 returns-then-not-all_finite c =
     let q = c in
-    let s = c in
-    let f = c in
-    let u = c in
     let a = c.args in
     let t = a.text.now in
     let l = drop a.at t in
@@ -103,9 +93,6 @@ returns-then-not-all_finite c =
 pub returns : goal.returns
 returns c =
     let q = c in
-    let s = c in
-    let f = c in
-    let u = c in
     let a = c.args in
     let t = a.text.now in
     let l = drop a.at t in

@@ -9,7 +9,6 @@ use Rattle.snapshot.proofs.kinds.chn_codes.Goals as goal
 pub returns-then-not-codes_fit : goal.returns-then-not-codes_fit
 unfolding chn_by
 returns-then-not-codes_fit c =
-    let c8 = c in
     let W = c.wholes_line-place in
     record {
       told = check_no all_codes _ W.result c.args.text.now _ W.ensures.told (sym c.codes_fit.ensures ∙ not-true _ c.if-not-codes_fit.true-raw);
@@ -20,7 +19,6 @@ returns-then-not-codes_fit c =
 pub returns : goal.returns
 unfolding chn_by
 returns c =
-    let c8 = c in
     let W = c.wholes_line-place in
     record {
       told = check_yes all_codes _ W.result c.args.text.now _ W.ensures.told (sym c.codes_fit.ensures ∙ not-false _ c.if-not-codes_fit.false-raw);

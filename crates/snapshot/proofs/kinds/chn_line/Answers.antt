@@ -47,10 +47,8 @@ slice_bounds-narrowed-end c =
 
 pub narrowed-own-requires : goal.narrowed-own-requires
 narrowed-own-requires c =
-    let c8 = c in
     let at-args = c.args in
     let at_pre = c.requires in
-    let at_p = c.p-1 in
     let d = at-args.d in
     let t = at-args.text.now in
     let C = c.chn_codes in
@@ -63,9 +61,7 @@ narrowed-own-requires c =
 
 pub returns : goal.returns
 returns c =
-    let c8 = c in
     let at-args = c.args in
-    let at_p = c.p-1 in
     let d = at-args.d in
     let t = at-args.text.now in
     let C = c.chn_codes in

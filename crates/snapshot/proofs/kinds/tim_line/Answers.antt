@@ -8,7 +8,6 @@ use Rattle.snapshot.proofs.kinds.tim_line.Goals as goal
 pub returns-then-not-none_falls : goal.returns-then-not-none_falls
 unfolding tim_by
 returns-then-not-none_falls c =
-    let c8 = c in
     let wholes-line-at = c.wholes_line-place in
     let args = c.args in
     record {
@@ -21,7 +20,6 @@ returns-then-not-none_falls c =
 pub returns-then-not-all_zero : goal.returns-then-not-all_zero
 unfolding tim_by
 returns-then-not-all_zero c =
-    let c8 = c in
     let args = c.args in
     let wholes-line-at = c.wholes_line-place in
     record {
@@ -35,7 +33,6 @@ returns-then-not-all_zero c =
 pub returns-else-not-all_zero : goal.returns-else-not-all_zero
 unfolding tim_by
 returns-else-not-all_zero c =
-    let c8 = c in
     let args = c.args in
     let wholes-line-at = c.wholes_line-place in
     record {
@@ -49,7 +46,6 @@ returns-else-not-all_zero c =
 pub returns-else-internal-eq0 : goal.returns-else-internal-eq0
 unfolding tim_by
 returns-else-internal-eq0 c =
-    let c8 = c in
     let wholes-line-at = c.wholes_line-place in
     let args = c.args in
     record {

@@ -8,7 +8,6 @@ use Rattle.snapshot.proofs.kinds.wgt_line.Goals as goal
 pub returns-then-not-all_one : goal.returns-then-not-all_one
 unfolding wgt_by
 returns-then-not-all_one c =
-    let c8 = c in
     let singles-line-at = c.singles_line-place in
     let args = c.args in
     record {
@@ -22,7 +21,6 @@ returns-then-not-all_one c =
 pub returns-else-not-all_one : goal.returns-else-not-all_one
 unfolding wgt_by
 returns-else-not-all_one c =
-    let c8 = c in
     let singles-line-at = c.singles_line-place in
     let args = c.args in
     record {

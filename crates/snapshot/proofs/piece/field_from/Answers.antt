@@ -17,7 +17,7 @@ pub returns-in_default : goal.returns-in_default
 returns-in_default c =
     let s = c.args in
     let e = c.likely_end-end in
-    from_good s.kind s.from s.text.now c.parse-field.result e.result e.ensures c.parse-field.ensures c.in_default.keys2
+    from_good s.kind s.from s.text.now c.parse-field.result e.result e.ensures c.parse-field.ensures c.in_default.not-Bad
 
 pub returns : goal.returns
 returns c =

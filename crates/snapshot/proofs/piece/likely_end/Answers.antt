@@ -2,12 +2,12 @@
 use Prim.Native.Nat.{ℕ, ◌+◌, ◌*◌}
 use native.Mathlib.Omega.{arith}
 use mathlib.Core.Path.{◌≡◌, sym, ap, ◌∙◌}
-use mathlib.Core.Logic.{⊎_elim}
 use lib.ListN.{drop, get_or}
 use Rattle.snapshot.specs.Steps.Judge.{field_length}
 use Rattle.snapshot.specs.Steps.Likely.{likely}
 use Rattle.snapshot.proofs.FieldEnds.{likely_here, likely_inside, likely_past, likely_never}
 use Rattle.snapshot.proofs.piece.likely_end.Goals as goal
+use Rattle.snapshot.proofs.piece.likely_end.Goals.{then-kind-lt2+then-width-text+else-wide-le10, then-kind-lt2+else-width-text, else-kind-lt2}
 
 pub returns-then-wide-le10 : goal.returns-then-wide-le10
 returns-then-wide-le10 c =
@@ -20,9 +20,10 @@ pub returns : goal.returns
 returns c =
     let s = c.args in
     let e : likely s.kind (drop s.from s.text.now) ≡ field_length (drop s.from s.text.now) =
-    ⊎_elim
-    (λ w. likely_inside s.kind s.from s.text.now w.0.taken w.1.taken (omega (arith, w.3.ensures, w.4.left)))
-    (λ v. ⊎_elim (λ w. likely_past s.kind s.from s.text.now w.0.taken w.1.left) (λ w. likely_never s.kind s.from s.text.now w.left) v)
-    c.if-kind-lt2.branch
+    elim c.if-kind-lt2.branch [
+      then-kind-lt2+then-width-text+else-wide-le10 w ↦ likely_inside s.kind s.from s.text.now w.if-kind-lt2.true w.if-width-text.true (omega (arith, w.wide.ensures, w.if-wide-le10.false))
+    | then-kind-lt2+else-width-text w ↦ likely_past s.kind s.from s.text.now w.if-kind-lt2.true w.if-width-text.false
+    | else-kind-lt2 w ↦ likely_never s.kind s.from s.text.now w.if-kind-lt2.false
+    ]
     in
     c.field_end.ensures ∙ ap (λ (n : ℕ). s.from + n) (sym e)

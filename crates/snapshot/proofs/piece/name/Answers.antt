@@ -15,10 +15,8 @@ returns-in_default c =
 
 pub returns-in_default-byte : goal.returns-in_default-byte
 returns-in_default-byte c =
-    let c8 = c in
     let at-args = c.args in
     let at_byte = c.byte in
-    let at_p = c.p-1 in
     let at-byte2 = c.byte-2 in
     let t = at-args.text.now in
     ap (λ (o : Option (List ℕ)). onto o (byte at-args.c)) (lost at-byte2.result t _ c.in_default-byte.is at-byte2.ensures) ∙ ap
@@ -26,12 +24,9 @@ returns-in_default-byte c =
 
 pub returns : goal.returns
 returns c =
-    let c8 = c in
     let at-args = c.args in
     let at_byte = c.byte in
-    let at_p = c.p-1 in
     let at-byte2 = c.byte-2 in
-    let at-q = c.q-1 in
     let t = at-args.text.now in
     c.byte-3.ensures ∙ ap (λ (o : Option (List ℕ)). onto o (byte at-args.c)) (got at-byte2.result t _ c.in-At-byte.q c.in-At-byte.is at-byte2.ensures) ∙ ap
     (λ (o : Option (List ℕ)). onto (onto o (byte at-args.b)) (byte at-args.c)) (got at_byte.result t _ c.in-At.p c.in-At.is at_byte.ensures)

@@ -18,7 +18,6 @@ is_imputing-requires c = tt
 
 pub returns-then-not-is_imputing : goal.returns-then-not-is_imputing
 returns-then-not-is_imputing c =
-    let q = c in
     let a = c.args in
     ap (λ (b : Bool). cond b none (some c.mode_of_letter-mode.result)) (sym (sym c.is_imputing.ensures ∙ not-true _ c.if-not-is_imputing.true-raw))
     ∙ mode_named_lem a.text.now a.at c.mode_of_letter-mode.result c.if-at-text.true
@@ -26,7 +25,6 @@ returns-then-not-is_imputing c =
 
 pub returns-else-not-is_imputing : goal.returns-else-not-is_imputing
 returns-else-not-is_imputing c =
-    let q = c in
     let a = c.args in
     ap (λ (b : Bool). cond b none (some c.mode_of_letter-mode.result)) (sym (sym c.is_imputing.ensures ∙ not-false _ c.if-not-is_imputing.false-raw))
     ∙ mode_named_lem a.text.now a.at c.mode_of_letter-mode.result c.if-at-text.true

@@ -15,9 +15,7 @@ returns-in_default c =
 
 pub returns-in_default-byte : goal.returns-in_default-byte
 returns-in_default-byte c =
-    let c8 = c in
     let at_name = c.name in
-    let at_p = c.p-1 in
     let at_byte = c.byte in
     let t = c.args.text.now in
     no_settings c.no_set-in_default-byte.result t c.no_set-in_default-byte.ensures ∙ set_tabless t (drop c.in-At.p t) (got at_name.result t _ c.in-At.p c.in-At.is at_name.ensures)
@@ -25,11 +23,8 @@ returns-in_default-byte c =
 
 pub returns-in_default-letter : goal.returns-in_default-letter
 returns-in_default-letter c =
-    let c8 = c in
     let at_name = c.name in
-    let at_p = c.p-1 in
     let at_byte = c.byte in
-    let at-q = c.q-1 in
     let at-mode-at = c.mode_at-letter in
     let t = c.args.text.now in
     no_settings c.no_set-in_default-letter.result t c.no_set-in_default-letter.ensures ∙ set_modeless t (drop c.in-At.p t)
@@ -38,9 +33,7 @@ returns-in_default-letter c =
 
 pub overflow_add-q : goal.overflow_add-q
 overflow_add-q c =
-    let c8 = c in
     let at-mode-at = c.mode_at-letter in
-    let at-letter = c.letter-1 in
     omega (
       arith,
       mode_inside c.args.text.now c.in-At-byte.q at-mode-at.result
@@ -49,14 +42,9 @@ overflow_add-q c =
 
 pub returns-in_default-wholes : goal.returns-in_default-wholes
 returns-in_default-wholes c =
-    let c8 = c in
-    let c16 = c in
     let at_name = c.name in
-    let at_p = c.p-1 in
     let at_byte = c.byte in
-    let at-q = c.q-1 in
     let at-mode-at = c.mode_at-letter in
-    let at-letter = c.letter-1 in
     let at_wholes = c.wholes in
     let t = c.args.text.now in
     no_settings c.no_set-in_default-wholes.result t c.no_set-in_default-wholes.ensures ∙ set_wholeless t (drop c.in-At.p t)
@@ -66,16 +54,10 @@ returns-in_default-wholes c =
 
 pub returns-in_default-number : goal.returns-in_default-number
 returns-in_default-number c =
-    let c8 = c in
-    let c16 = c in
     let at_name = c.name in
-    let at_p = c.p-1 in
     let at_byte = c.byte in
-    let at-q = c.q-1 in
     let at-mode-at = c.mode_at-letter in
-    let at-letter = c.letter-1 in
     let at_wholes = c.wholes in
-    let at-s = c.s-1 in
     let at-method-of = c.method_of_lem in
     let t = c.args.text.now in
     no_settings c.no_set-in_default-number.result t c.no_set-in_default-number.ensures ∙ set_methodless t (drop c.in-At.p t)
@@ -86,19 +68,11 @@ returns-in_default-number c =
 
 pub returns-then-not-settings_fit : goal.returns-then-not-settings_fit
 returns-then-not-settings_fit c =
-    let c8 = c in
-    let c16 = c in
-    let c24 = c in
     let at_name = c.name in
-    let at_p = c.p-1 in
     let at_byte = c.byte in
-    let at-q = c.q-1 in
     let at-mode-at = c.mode_at-letter in
-    let at-letter = c.letter-1 in
     let at_wholes = c.wholes in
-    let at-s = c.s-1 in
     let at-method-of = c.method_of_lem in
-    let at-number = c.number-1 in
     let at-set-tail = c.set_tail-tail in
     let t = c.args.text.now in
     no_settings c.no_set-then-not-settings_fit.result t c.no_set-then-not-settings_fit.ensures ∙ set_unfit t (drop c.in-At.p t) (got at_name.result t _ c.in-At.p c.in-At.is at_name.ensures)
@@ -109,19 +83,11 @@ returns-then-not-settings_fit c =
 
 pub returns : goal.returns
 returns c =
-    let c8 = c in
-    let c16 = c in
-    let c24 = c in
     let at_name = c.name in
-    let at_p = c.p-1 in
     let at_byte = c.byte in
-    let at-q = c.q-1 in
     let at-mode-at = c.mode_at-letter in
-    let at-letter = c.letter-1 in
     let at_wholes = c.wholes in
-    let at-s = c.s-1 in
     let at-method-of = c.method_of_lem in
-    let at-number = c.number-1 in
     let at-set-tail = c.set_tail-tail in
     let t = c.args.text.now in
     set_good t (drop c.in-At.p t) (got at_name.result t _ c.in-At.p c.in-At.is at_name.ensures) c.in-At-byte.q
