@@ -14,7 +14,7 @@ pub returns-then-not-s : goal.returns-then-not-s
 returns-then-not-s c = by_decay _ _ _ c.if-not-s.true-raw
 
 pub returns-then-not-whole_within : goal.returns-then-not-whole_within
-returns-then-not-whole_within c = by_wrong _ _ _ c.whole_within_lem.ensures c.if-not-whole_within.true-raw
+returns-then-not-whole_within c = by_wrong _ _ _ c.whole_within.ensures c.if-not-whole_within.true-raw
 
 pub returns-then-not-whole_within-2 : goal.returns-then-not-whole_within-2
 returns-then-not-whole_within-2 c = by_right _ _ _ c.whole_within-2.ensures c.if-not-whole_within-2.true-raw
@@ -53,7 +53,7 @@ returns c =
     passed_rows _ _ _
     (record {
       decay = not-false _ c.if-not-s.false-raw;
-      wrong_whole = told c.whole_within_lem.ensures c.if-not-whole_within.false-raw;
+      wrong_whole = told c.whole_within.ensures c.if-not-whole_within.false-raw;
       right_whole = told c.whole_within-2.ensures c.if-not-whole_within-2.false-raw;
       some = le-ltb _ _ c.if-count-lt1.false;
       few = le-ltb _ _ c.if-count-gt-LENGTH_LIMIT.false;
