@@ -22,6 +22,8 @@ eq_self : (x : Float) (s : Bool) (a c : ℕ) → HasValue x s a c → eq x x ≡
 unfolding eq
 eq_self (fin true m e) s a c v = rw (eq-eqb (m * up e * down e) (m * up e * down e) refl)
 eq_self (fin false m e) s a c v = rw (eq-eqb (m * up e * down e) (m * up e * down e) refl)
+eq_self lib.Ieee.nan s a c v = elim v [ ]
+eq_self (lib.Ieee.inf _) s a c v = elim v [ ]
 
 -- a list's statistic passes row 26
 list_accepted : (d : Float) (xs : List Float) (wrong right : Float) → eq d zero64 ≡ true → 1 ≤ length xs → length xs ≤ length_limit → AllWhole xs

@@ -35,6 +35,10 @@ same_value (fin false m e) (fin false p d) n N h v =
     let b : A ≡ B = eqb→eq A B (and_l (eqb A B) true (subst T (sym h) tt)) in
     let q : p * up d ≡ n * down d = sym (mul-one (p * up d)) ∙ v.1 in
     (refl, mul-one (m * up e) ∙ eq_of_mul-eq-mul_right (down d) (down_pos d) (m * up e) (n * down e) (b ∙ ap (λ (c : ℕ). c * down e) q ∙ mul_right_comm n (down d) (down e)))
+same_value (inf t) nan n N h v = elim v [ ]
+same_value (inf t) (inf _) n N h v = elim v [ ]
+same_value (fin t m e) nan n N h v = elim v [ ]
+same_value (fin t m e) (inf _) n N h v = elim v [ ]
 
 pub size_negated : (z : ℤ) → nat_abs (neg_ℤ z) ≡ nat_abs z
 size_negated (pos zero) = refl
@@ -146,3 +150,7 @@ raised x y w v h =
         let p : m * up e * down d ≡ a * c = ap (λ (z : ℕ). z * down d) (sym (mul-one (m * up e)) ∙ v.1) ∙ mul_assoc a (down e) (down d) in
         let q : n * up d * down e ≡ b * c = ap (λ (z : ℕ). z * down e) (sym (mul-one (n * up d)) ∙ w.1) ∙ mul_right_comm b (down d) (down e) ∙ mul_assoc b (down e) (down d) in
         ordered s' t' a b c (mul-pos (down_pos e) (down_pos d)) (subst T (λ i. below (v.0 i) (p i) (w.0 i) (q i) || level (v.0 i) (p i) (w.0 i) (q i)) h)
+    go nan _ s' t' a b v w h = elim v [ ]
+    go (inf _) _ s' t' a b v w h = elim v [ ]
+    go (fin s m e) nan s' t' a b v w h = elim w [ ]
+    go (fin s m e) (inf _) s' t' a b v w h = elim w [ ]

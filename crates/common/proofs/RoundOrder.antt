@@ -176,3 +176,7 @@ div_value f (fin s m e) (fin t (suc n) d) s' t' a b B v w =
     rw (eqb-suc-zero n)
     ((λ i. round f (unlike (v.0 i) (w.0 i)) (p i * down d) (q i * down e))
     ∙ round_same f (unlike s' t') (a * down e * down d) (b * down d * down e) a b (mul-pos (mul-pos B (down_pos d)) (down_pos e)) B r)
+div_value f nan y s' t' a b B v w = elim v [ ]
+div_value f (inf _) y s' t' a b B v w = elim v [ ]
+div_value f (fin s m e) nan s' t' a b B v w = elim w [ ]
+div_value f (fin s m e) (inf _) s' t' a b B v w = elim w [ ]

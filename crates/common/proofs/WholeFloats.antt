@@ -42,6 +42,10 @@ add_value f (fin s m e) (fin t n d) s' t' a b v w =
     let p : m * up e * down d ≡ a * c = ap (λ (z : ℕ). z * down d) (sym (mul-one (m * up e)) ∙ v.1) ∙ mul_assoc a (down e) (down d) in
     let q : n * up d * down e ≡ b * c = ap (λ (z : ℕ). z * down e) (sym (mul-one (n * up d)) ∙ w.1) ∙ mul_right_comm b (down d) (down e) ∙ mul_assoc b (down e) (down d) in
     (λ i. sum f (v.0 i) (p i) (w.0 i) (q i) c) ∙ sum_scale f s' t' a b c (mul-pos (down_pos e) (down_pos d))
+add_value f lib.Ieee.nan y s' t' a b v w = elim v [ ]
+add_value f (lib.Ieee.inf _) y s' t' a b v w = elim v [ ]
+add_value f (fin s m e) lib.Ieee.nan s' t' a b v w = elim w [ ]
+add_value f (fin s m e) (lib.Ieee.inf _) s' t' a b v w = elim w [ ]
 
 pub mul_value : (f : Format) (x y : Float) (s t : Bool) (a b : ℕ) → HasValue x s a 1 → HasValue y t b 1 → mul f x y ≡ round f (unlike s t) (a * b) 1
 unfolding mul
@@ -51,6 +55,10 @@ mul_value f (fin s m e) (fin t n d) s' t' a b v w =
     let q : n * up d ≡ b * down d = sym (mul-one (n * up d)) ∙ w.1 in
     let r : a * down e * (b * down d) * 1 ≡ a * b * c = simp (mul-one, mul_assoc, mul_left_comm) in
     (λ i. round f (unlike (v.0 i) (w.0 i)) (p i * q i) c) ∙ round_same f (unlike s' t') (a * down e * (b * down d)) c (a * b) 1 (mul-pos (down_pos e) (down_pos d)) (zero-lt-suc 0) r
+mul_value f lib.Ieee.nan y s' t' a b v w = elim v [ ]
+mul_value f (lib.Ieee.inf _) y s' t' a b v w = elim v [ ]
+mul_value f (fin s m e) lib.Ieee.nan s' t' a b v w = elim w [ ]
+mul_value f (fin s m e) (lib.Ieee.inf _) s' t' a b v w = elim w [ ]
 
 -- ---- integers within the precision
 

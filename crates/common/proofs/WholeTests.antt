@@ -57,6 +57,8 @@ part_equal (fin false p d) m e v =
   where
     none : {a n r : ℕ} → a ≡ n → a + r ≡ n → r ≡ 0
     none p q = omega arith
+part_equal nan m e v = elim v [ ]
+part_equal (inf _) m e v = elim v [ ]
 
 and_false : (b : Bool) → (b && false) ≡ false
 and_false true = refl

@@ -52,12 +52,16 @@ whole_of b (fin t m e) s n v h =
     let c : m * up e / down e ≡ n = ap (λ (x : ℕ). x / down e) q ∙ mul-div_cancel n (down_pos e) in
     let r : m * up e % down e ≡ 0 = ap (λ (x : ℕ). x % down e) q ∙ mul-mod_left n (down e) in
     and_i (eqb (m * up e % down e) 0) (leb (m * up e / down e) b) (eq→eqb r) (le→leb (m * up e / down e) b (subst (λ (k : ℕ). k ≤ b) (sym c) h))
+whole_of b nan s n v h = elim v [ ]
+whole_of b (inf _) s n v h = elim v [ ]
 
 pub integer_of_lem : (x : Float) (s : Bool) (n : ℕ) → HasValue x s n 1 → integer_of x ≡ signed_integer s n
 unfolding integer_of
 integer_of_lem (fin t m e) s n v =
     let q : m * up e ≡ n * down e = sym (mul-one (m * up e)) ∙ v.1 in
     λ i. signed_integer (v.0 i) ((ap (λ (x : ℕ). x / down e) q ∙ mul-div_cancel n (down_pos e)) i)
+integer_of_lem nan s n v = elim v [ ]
+integer_of_lem (inf _) s n v = elim v [ ]
 
 -- a larger bound
 pub whole_wider : (b c : ℕ) (x : Float) → T (whole_within b x) → b ≤ c → T (whole_within c x)

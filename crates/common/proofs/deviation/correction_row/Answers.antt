@@ -11,13 +11,13 @@ unfolding in_float
 counts n h = le→leb n (2 ^ 53) h
 
 pub returns-then-not-s : goal.returns-then-not-s
-returns-then-not-s c = by_decay _ _ _ c.if-not-s.true-raw
+returns-then-not-s c = by_decay _ _ _ (cc)
 
 pub returns-then-not-whole_within : goal.returns-then-not-whole_within
-returns-then-not-whole_within c = by_wrong _ _ _ c.whole_within_lem.ensures c.if-not-whole_within.true-raw
+returns-then-not-whole_within c = by_wrong _ _ _ c.whole_within.ensures (cc)
 
 pub returns-then-not-whole_within-2 : goal.returns-then-not-whole_within-2
-returns-then-not-whole_within-2 c = by_right _ _ _ c.whole_within-2.ensures c.if-not-whole_within-2.true-raw
+returns-then-not-whole_within-2 c = by_right _ _ _ c.whole_within-2.ensures (cc)
 
 pub returns-then-count-lt1 : goal.returns-then-count-lt1
 returns-then-count-lt1 c = by_none _ _ _ c.if-count-lt1.true
@@ -29,16 +29,16 @@ pub int_to_float-count : goal.int_to_float-count
 int_to_float-count c = counts _ (omega arith)
 
 pub returns-then-not-s-count : goal.returns-then-not-s-count
-returns-then-not-s-count c = by_weight _ _ _ c.if-not-s-count.true-raw
+returns-then-not-s-count c = by_weight _ _ _ (cc)
 
 pub returns-then-not-whole_within-3 : goal.returns-then-not-whole_within-3
-returns-then-not-whole_within-3 c = by_sum _ _ _ c.whole_within-3.ensures c.if-not-whole_within-3.true-raw
+returns-then-not-whole_within-3 c = by_sum _ _ _ c.whole_within-3.ensures (cc)
 
 pub returns-then-not-whole_within-4 : goal.returns-then-not-whole_within-4
-returns-then-not-whole_within-4 c = by_squares _ _ _ c.whole_within-4.ensures c.if-not-whole_within-4.true-raw
+returns-then-not-whole_within-4 c = by_squares _ _ _ c.whole_within-4.ensures (cc)
 
 pub returns-then-not-s-2 : goal.returns-then-not-s-2
-returns-then-not-s-2 c = by_negative _ _ _ c.if-not-s-2.true-raw
+returns-then-not-s-2 c = by_negative _ _ _ (cc)
 
 pub returns : goal.returns
 returns c =
@@ -52,13 +52,13 @@ returns c =
     let e1 = c in
     passed_rows _ _ _
     (record {
-      decay = not-false _ c.if-not-s.false-raw;
-      wrong_whole = told c.whole_within_lem.ensures c.if-not-whole_within.false-raw;
-      right_whole = told c.whole_within-2.ensures c.if-not-whole_within-2.false-raw;
+      decay = not-false _ (cc);
+      wrong_whole = told c.whole_within.ensures (cc);
+      right_whole = told c.whole_within-2.ensures (cc);
       some = le-ltb _ _ c.if-count-lt1.false;
       few = le-ltb _ _ c.if-count-gt-LENGTH_LIMIT.false;
-      weighed = not-false _ c.if-not-s-count.false-raw;
-      sum_whole = told c.whole_within-3.ensures c.if-not-whole_within-3.false-raw;
-      squares_whole = told c.whole_within-4.ensures c.if-not-whole_within-4.false-raw;
-      squares_up = not-false _ c.if-not-s-2.false-raw;
+      weighed = not-false _ (cc);
+      sum_whole = told c.whole_within-3.ensures (cc);
+      squares_whole = told c.whole_within-4.ensures (cc);
+      squares_up = not-false _ (cc);
     })

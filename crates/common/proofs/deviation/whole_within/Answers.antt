@@ -11,7 +11,9 @@ cut_allowed : (x a : Float) → a ≡ float_size x → lt a wide_limit ≡ true 
 cut_allowed x a e h = rw e (size_above x (rw e at h), size_below (float_size x) (rw e at h))
 
 pub truncating_f64_to_u64-n-requires : goal.truncating_f64_to_u64-n-requires
-truncating_f64_to_u64-n-requires c = cut_allowed _ _ c.size_of-a.ensures c.if-a.true
+truncating_f64_to_u64-n-requires c =
+    let h = cut_allowed _ _ c.size_of-a.ensures c.if-a.true in
+    record { lower_bound = h.0; upper_bound = h.1 }
 
 -- the promise at the size a and its whole part n, in each return's words
 module _ (b n : ℕ) (x a : Float) (B : b ≤ 9007199254740992) (e : a ≡ float_size x) where

@@ -9,4 +9,4 @@ pub update_by-requires : goal.update_by-requires
 update_by-requires c = tt
 
 pub returns : goal.returns
-returns c = let a = c.args in rw (← update_by_next a.self a.score, ← c.next_factor_lem.ensures) c.update_by.ensures
+returns c = let a = c.args in rw (← update_by_next a.self a.score, ← c.next_factor.ensures) c.update_by.ensures
