@@ -1,7 +1,7 @@
 -- What lent memory holds before a call, and whether a list still holds nothing else. Floats are compared by their patterns, every not-a-number by the one
 -- that the vectors have.
 use Rattle.std.specs.Prelude.{ℕ, Bool, true, cond, ◌&&◌, List, [], ◌∷◌, eqb, Float}
-use Rattle.std.specs.Float.{Format, binary32, binary64}
+use Rattle.std.specs.Float.{binary32, binary64}
 use Rattle.std.specs.Float.Ieee.{of_bits, to_bits, ne}
 
 -- 12345.678 in either width

@@ -1,8 +1,10 @@
 // The lines of a file: where each ends, how many agree, and the report.
-ghost use Rattle.std.specs.Prelude.{◌≡◌, cond, not, ◌<◌, ◌≤◌, ◌+◌, ◌-◌, length};
+ghost use Rattle.std.specs.Prelude.{◌≡◌, cond, not, ◌<◌, ◌≤◌, ◌+◌, ◌-◌, length, IfOk, slice_set};
 ghost use Rattle.vectors_core.specs.Tally.{one_more};
 
-use libc::STDOUT_FILENO;
+use std::io::Read;
+use std::rt::Files;
+use std::{fs, io};
 
 // Room for a file.
 pub fn room() -> [u8; 524288]
@@ -29,6 +31,16 @@ pub fn line_end(text: &[u8], from: usize) -> usize
     i + 1
 }
 
+// A line that differs: its number and its letter.
+#[derive(Clone, Copy)]
+pub struct Named {
+    pub number: u64,
+    pub letter: u8,
+}
+
+// How many of the lines that differ are named.
+const NAMED: usize = 5;
+
 // How many lines agree with the Rust and how many do not.
 #[derive(Clone, Copy)]
 pub struct Tally {
@@ -36,6 +48,8 @@ pub struct Tally {
     pub differ: u64,
     // the number of the next line
     pub number: u64,
+    // the first lines that differ, at the front
+    pub named: [Named; NAMED],
 }
 
 pub fn no_lines() -> Tally
@@ -45,17 +59,11 @@ pub fn no_lines() -> Tally
         agree: 0,
         differ: 0,
         number: 1,
+        named: [Named {
+            number: 0,
+            letter: 0,
+        }; NAMED],
     }
-}
-
-// How many of the lines that differ are named.
-const NAMED: u64 = 5;
-
-fn name_line(letter: u8, number: u64) {
-    io::write_all(STDOUT_FILENO, b"differs: line ");
-    io::print_decimal(STDOUT_FILENO, number);
-    let name = [b' ', letter, b'\n'];
-    io::write_all(STDOUT_FILENO, &name);
 }
 
 fn one_more(n: u64) -> u64
@@ -70,13 +78,20 @@ fn raised(n: u64, by_one: bool) -> u64
     if by_one { one_more(n) } else { n }
 }
 
-// A line that differs is named, where not too many were.
-fn told(t: Tally, good: bool, letter: u8) {
+// A line that differs is kept to be named, where not too many were.
+fn told(t: Tally, good: bool, letter: u8) -> [Named; NAMED]
+    ensures { result ≡ cond good t.named (slice_set t.named t.differ (record { number = t.number; letter = letter })) }
+{
+    let mut named = t.named;
     if !good {
-        if t.differ < NAMED {
-            name_line(letter, t.number);
+        if t.differ < NAMED as u64 {
+            named[t.differ as usize] = Named {
+                number: t.number,
+                letter: letter,
+            };
         }
     }
+    named
 }
 
 // The tally with one line more, of this letter.
@@ -84,37 +99,55 @@ pub fn counted(t: Tally, good: bool, letter: u8) -> Tally
     ensures agree_value { result.agree ≡ cond good (one_more t.agree) t.agree }
     ensures differ_value { result.differ ≡ cond (not good) (one_more t.differ) t.differ }
     ensures number_value { result.number ≡ one_more t.number }
+    ensures named_value { result.named ≡ cond good t.named (slice_set t.named t.differ (record { number = t.number; letter = letter })) }
 {
-    told(t, good, letter);
+    let named = told(t, good, letter);
     Tally {
         agree: raised(t.agree, good),
         differ: raised(t.differ, !good),
         number: one_more(t.number),
+        named: named,
     }
 }
 
-// A line of the report: the file, and both numbers.
-pub fn report(kind: &[u8], t: Tally)
-    ensures { result ≡ tt }
-{
-    io::write_all(STDOUT_FILENO, kind);
-    io::write_all(STDOUT_FILENO, b": agree ");
-    io::print_decimal(STDOUT_FILENO, t.agree);
-    io::write_all(STDOUT_FILENO, b", differ ");
-    io::print_decimal(STDOUT_FILENO, t.differ);
-    io::write_all(STDOUT_FILENO, b"\n");
+// A letter may be any byte.
+fn name_line<P: Print>(rt: &P, line: Named) -> io::Result<()> {
+    let number = line.number;
+    print!(rt; "differs: line {number}")?;
+    rt.write_all(&[b' ', line.letter, b'\n'])
 }
 
-// Reads a file to the front of `text`, and answers how much was read: nothing where there is no such file.
-pub fn read_file(path: &[u8], text: &mut [u8]) -> usize
-    ensures { result ≤ length text.new }
+// The first lines that differ, and then a line with the file and both numbers.
+pub fn report<P: Print>(rt: &P, kind: &str, t: Tally) -> io::Result<()>
+    ensures { IfOk result (λ x. x ≡ tt) }
 {
-    let fd = os::open_read(path);
-    if fd < 0 {
-        os::fail(path);
-        return 0;
+    for line in t.named.iter().take(t.differ as usize) {
+        name_line(rt, *line)?;
     }
-    let n = io::read_full(fd, text);
-    libc::close(fd);
-    n
+    let agree = t.agree;
+    let differ = t.differ;
+    println!(rt; "{kind}: agree {agree}, differ {differ}")
+}
+
+// Reads until `text` is full or the input ends, and answers how much was read.
+fn read_full<F: Read>(file: &mut F, text: &mut [u8]) -> io::Result<usize>
+    ensures { IfOk result (λ n. n ≤ length text.new) }
+{
+    let mut done = 0usize;
+    while done < text.len() {
+        let n = file.read(&mut text[done..])?;
+        if n == 0 {
+            break;
+        }
+        done += n;
+    }
+    Ok(done)
+}
+
+// Reads a file to the front of `text`, and answers how much was read.
+pub fn read_file<R: Files>(rt: &R, path: &str, text: &mut [u8]) -> io::Result<usize>
+    ensures { IfOk result (λ n. n ≤ length text.new) }
+{
+    let mut file = fs::open(rt, path)?;
+    read_full(&mut file, text)
 }
