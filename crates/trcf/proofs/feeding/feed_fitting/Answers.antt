@@ -15,7 +15,7 @@ next_factor-g-requires c = tt
 pub update_channels-requires : goal.update_channels-requires
 update_channels-requires c = let first = c in
     let h = c.requires.count_lt_count_limit in
-    record { sound = search rules; count_lt_count_limit = h; input_len = search rules; previous_len = search rules; f_value = c.next_factor_lem.ensures ∙ next_factor_lem _ _ h; g_value = c.next_factor-g.ensures ∙ next_factor_lem _ _ h }
+    record { sound = search rules; count_lt_count_limit = h; input_len = search rules; previous_len = search rules; f_value = c.next_factor-f.ensures ∙ next_factor_lem _ _ h; g_value = c.next_factor-g.ensures ∙ next_factor_lem _ _ h }
 
 pub since-requires : goal.since-requires
 since-requires c = tt
@@ -27,7 +27,7 @@ pub feed_at-requires : goal.feed_at-requires
 feed_at-requires c = let made = c in
     let first = c in
     let h = c.requires.count_lt_count_limit in
-    record { w_in_bounds = search rules; count_lt_count_limit = h; f_value = c.next_factor_lem.ensures ∙ next_factor_lem _ _ h; g_value = c.next_factor-g.ensures ∙ next_factor_lem _ _ h }
+    record { w_in_bounds = search rules; count_lt_count_limit = h; f_value = c.next_factor-f.ensures ∙ next_factor_lem _ _ h; g_value = c.next_factor-g.ensures ∙ next_factor_lem _ _ h }
 
 pub returns : goal.returns
 unfolding feed time_fed

@@ -27,4 +27,4 @@ unfolding dimension block
 returns c =
     let at-head-row = c.head_row-row in
     let at-if1 = c.if-row-ne0 in
-    rw (sym at-head-row.ensures.value ∙ at-if1.false, (block_known c.block_of-b.ensures (at-head-row.ensures.bounded at-if1.false).d_few).0)
+    rw (sym at-head-row.ensures.value ∙ at-if1.false, (block_known (c.block_of-b.ensures.value, c.block_of-b.ensures.upper_bound) (at-head-row.ensures.bounded at-if1.false).d_few).0)

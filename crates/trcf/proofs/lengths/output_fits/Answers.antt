@@ -47,7 +47,7 @@ returns-then-output-b c =
     let at-args = c.args in
     let at-head-row = c.head_row-row in
     let at-if1 = c.if-row-ne0 in
-    let b = (block_known c.block_of-b.ensures (at-head-row.ensures.bounded at-if1.false).d_few).0 ∙ sym (block_is (settings_of at-args.head)) in record {
+    let b = (block_known (c.block_of-b.ensures.value, c.block_of-b.ensures.upper_bound) (at-head-row.ensures.bounded at-if1.false).d_few).0 ∙ sym (block_is (settings_of at-args.head)) in record {
       value = rw (
         eq-eqb (head_row (settings_of at-args.head)) 0 (sym at-head-row.ensures.value ∙ at-if1.false),
         eq-eqb _ _ c.if-statistics-d.false,
@@ -64,7 +64,7 @@ returns c =
     let at-head-row = c.head_row-row in
     let at-if1 = c.if-row-ne0 in
     let at-if2 = c.if-statistics-d in
-    let b = (block_known c.block_of-b.ensures (at-head-row.ensures.bounded at-if1.false).d_few).0 ∙ sym (block_is (settings_of at-args.head)) in record {
+    let b = (block_known (c.block_of-b.ensures.value, c.block_of-b.ensures.upper_bound) (at-head-row.ensures.bounded at-if1.false).d_few).0 ∙ sym (block_is (settings_of at-args.head)) in record {
       value = rw (
         eq-eqb (head_row (settings_of at-args.head)) 0 (sym at-head-row.ensures.value ∙ at-if1.false),
         eq-eqb _ _ at-if2.false,

@@ -7,10 +7,10 @@ pub output_fits-requires : goal.output_fits-requires
 output_fits-requires c = tt
 
 pub scale_fitting-requires : goal.scale_fitting-requires
-scale_fitting-requires c = let f = c.output_fits_lem.ensures.1 c.if-output_fits.true in record { bounded = f.0; s_len = f.1; head_in_bounds = f.2 }
+scale_fitting-requires c = let f = c.output_fits.ensures.bounded c.if-output_fits.true in record { bounded = f.0; s_len = f.1; head_in_bounds = f.2 }
 
 pub returns-then-output_fits : goal.returns-then-output_fits
-returns-then-output_fits c = fitting _ c.scale_fitting.ensures (sym c.output_fits_lem.ensures.0 ∙ c.if-output_fits.true)
+returns-then-output_fits c = fitting _ c.scale_fitting.ensures (sym c.output_fits.ensures.value ∙ c.if-output_fits.true)
 
 pub returns-else-output_fits : goal.returns-else-output_fits
-returns-else-output_fits c = unfit _ refl (sym c.output_fits_lem.ensures.0 ∙ c.if-output_fits.false)
+returns-else-output_fits c = unfit _ refl (sym c.output_fits.ensures.value ∙ c.if-output_fits.false)

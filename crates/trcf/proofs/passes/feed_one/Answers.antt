@@ -5,7 +5,8 @@ use Rattle.trcf.proofs.passes.feed_one.Goals as goal
 
 pub step-u-requires : goal.step-u-requires
 unfolding statistic_at
-step-u-requires c = let h = c.requires in rw c.statistic_at-t.ensures (h.count_lt_count_limit, h.f_value)
+step-u-requires c = let h = c.requires in
+    record { count_lt_count_limit = rw c.statistic_at-t.ensures h.count_lt_count_limit; factor = rw c.statistic_at-t.ensures h.f_value }
 
 pub returns : goal.returns
 unfolding step_at

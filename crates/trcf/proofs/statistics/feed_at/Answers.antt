@@ -15,7 +15,7 @@ pub gather-v-requires : goal.gather-v-requires
 gather-v-requires c = tt
 
 pub shape_of-s : goal.shape_of-s
-shape_of-s c = c.put_deviations.auto.0
+shape_of-s c = c.put_deviations.auto.s
 
 pub returns : goal.returns
 unfolding fed_at

@@ -29,8 +29,8 @@ pub shape_of-s : goal.shape_of-s
 shape_of-s c =
     let c8 = c in
     let c16 = c in
-    c.put_statistic-5.auto.0 ∙ c.put_statistic-4.auto.0 ∙ c.put_statistic-3.auto.0 ∙
-    c.put_statistic-2.auto.0 ∙ c.put_statistic.auto.0
+    c.put_statistic-5.auto.s ∙ c.put_statistic-4.auto.s ∙ c.put_statistic-3.auto.s ∙
+    c.put_statistic-2.auto.s ∙ c.put_statistic.auto.s
 
 pub returns : goal.returns
 unfolding put_deviations

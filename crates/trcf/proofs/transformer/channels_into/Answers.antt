@@ -80,18 +80,18 @@ loop-j-preserved c =
     let c6 = c in
     let A = c.args in
     let L = c.loop-j in
-    let T = transformer_view A.t1 A.s.now in
+    let T = transformer_view A.t A.s.now in
     let H = L.invariant.1 in
-    let low : L.j < A.t1.input_length = c.loop-j-test.true in (
+    let low : L.j < A.t.input_length = c.loop-j-test.true in (
       omega arith,
       record {
         long = simp length-set L.invariant.5;
         factor = held_more (λ k. reciprocal (weight_at T k)) L.factors L.j _ (omega arith)
-            (c.reciprocal_of.ensures ∙ ap reciprocal (sym (weight_at_view A.t1 A.s.now L.j low))) H.factor;
+            (c.reciprocal_of.ensures ∙ ap reciprocal (sym (weight_at_view A.t A.s.now L.j low))) H.factor;
         scale = held_more (normalized_scale T) L.scales L.j _ (omega arith)
             c.normalized_scale.ensures H.scale;
         drift = held_more (basic_drift T) L.drifts L.j _ (omega arith) c.narrow_mean_at.ensures H.drift;
-        base = held_more (λ k. cond (differences A.t1.transform_method) (get_or A.previous.now k nan) (basic_shift T k)) L.bases L.j _ (omega arith)
+        base = held_more (λ k. cond (differences A.t.transform_method) (get_or A.previous.now k nan) (basic_shift T k)) L.bases L.j _ (omega arith)
             (c.base_at.ensures ∙ ap (λ (x : Bool). cond x (get_or A.previous.now L.j nan) (basic_shift T L.j)) c.is_differencing-carries.ensures) H.base;
       },
       simp length-set L.invariant.2,
@@ -104,5 +104,5 @@ pub returns : goal.returns
 returns c =
     let A = c.args in
     let L = c.loop-j in
-    let e : L.j ≡ A.t1.input_length = omega arith in
+    let e : L.j ≡ A.t.input_length = omega arith in
     rw e at L.invariant.1

@@ -66,9 +66,9 @@ loop-i-preserved c =
           A.t.transform_method A.t.input_length _ _ _ _ L.bases _ em ed (omega (arith, ed, P.sound.some)) (P.previous_len ∙ sym ed) h
           (L.invariant.1 t em ed h) B.ensures.lower_after B.ensures.carried,
       B.ensures.carried.long ∙ L.invariant.2,
-      B.auto.1.1.1.1.1.1.1.0 ∙ L.invariant.3,
-      B.auto.1.1.1.1.1.1.1.1.0 ∙ L.invariant.4,
-      B.auto.1.1.1.1.1.1.1.1.1.0 ∙ L.invariant.5,
+      B.auto.values ∙ L.invariant.3,
+      B.auto.upper ∙ L.invariant.4,
+      B.auto.lower ∙ L.invariant.5,
     )
 
 pub shape_of-values : goal.shape_of-values

@@ -15,7 +15,7 @@ pub returns-in-WEIGHTED : goal.returns-in-WEIGHTED
 unfolding weight_at
 returns-in-WEIGHTED c =
     let at-args = c.args in
-    rw (c.in-WEIGHTED.is, get_or-take at-args.t1.input_length at-args.t1.weights at-args.i nan c.requires.i_bound)
+    rw (c.in-WEIGHTED.is, get_or-take at-args.t.input_length at-args.t.weights at-args.i nan c.requires.i_bound)
     c.unweigh.ensures
 
 pub returns-in-DIFFERENCE : goal.returns-in-DIFFERENCE

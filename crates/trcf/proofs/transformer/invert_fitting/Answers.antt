@@ -60,11 +60,11 @@ loop-i-preserved c =
     let a = c.args in
     let h : L.i < length a.output.now = omega arith in
     let x = c.unweigh-x.ensures ∙ ap (λ (w : Float). unweighted w (get_or a.input.now L.i nan))
-    (sym (weight_at_view a.t1 a.s.now L.i c.loop-i-test.true)) in
-    let e = c.invert_at.ensures ∙ ap (λ (y : Float). invert_by a.t1.transform_method (transformer_view a.t1 a.s.now) L.i y (get_or a.previous.now L.i nan)) x in (
+    (sym (weight_at_view a.t a.s.now L.i c.loop-i-test.true)) in
+    let e = c.invert_at.ensures ∙ ap (λ (y : Float). invert_by a.t.transform_method (transformer_view a.t a.s.now) L.i y (get_or a.previous.now L.i nan)) x in (
       omega arith,
       rw (add-one, L.invariant.1, e) (over_more a.output.now
-          (λ k. invert_by a.t1.transform_method (transformer_view a.t1 a.s.now) k (unweighted (weight_at (transformer_view a.t1 a.s.now) k) (get_or a.input.now k nan))
+          (λ k. invert_by a.t.transform_method (transformer_view a.t a.s.now) k (unweighted (weight_at (transformer_view a.t a.s.now) k) (get_or a.input.now k nan))
           (get_or a.previous.now k nan)) L.i h),
       simp length-set (omega arith),
     )
@@ -75,5 +75,5 @@ shape_of-output c = omega arith
 pub returns : goal.returns
 unfolding inverted
 returns c = let L = c.loop-i in
-    let e : L.i ≡ c.args.t1.input_length = omega arith in
+    let e : L.i ≡ c.args.t.input_length = omega arith in
     rw e at L.invariant.1

@@ -16,13 +16,13 @@ forecast_fitting-requires c =
     record { sound = record { some = f.0; few = f.1; room = f.6 }; previous_len = f.2; upper_len = (f.3, f.4); values_value = blocked_base (differences a.t.transform_method) _ _ _ f.2 f.5 }
 
 pub shape_of-values : goal.shape_of-values
-shape_of-values c = c.forecast_fitting.auto.1.1.1.0
+shape_of-values c = c.forecast_fitting.auto.values
 
 pub shape_of-upper : goal.shape_of-upper
-shape_of-upper c = c.forecast_fitting.auto.1.1.1.1.0
+shape_of-upper c = c.forecast_fitting.auto.upper
 
 pub shape_of-lower : goal.shape_of-lower
-shape_of-lower c = c.forecast_fitting.auto.1.1.1.1.1.0
+shape_of-lower c = c.forecast_fitting.auto.lower
 
 pub returns-then-row-eq0 : goal.returns-then-row-eq0
 returns-then-row-eq0 c =

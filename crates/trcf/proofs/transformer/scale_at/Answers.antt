@@ -17,11 +17,11 @@ returns-then-is_normalizing c =
     let at-args = c.args in
     rw (
       sym c.is_normalizing.ensures ∙ c.if-is_normalizing.true,
-      weight_at_view at-args.t1 at-args.s.now at-args.i
+      weight_at_view at-args.t at-args.s.now at-args.i
           c.requires.i_bound,
     ) (rw c.normalized_scale.ensures)
 
 pub returns-else-is_normalizing : goal.returns-else-is_normalizing
 returns-else-is_normalizing c =
     let at-args = c.args in
-    rw (sym c.is_normalizing.ensures ∙ c.if-is_normalizing.false, weight_at_view at-args.t1 at-args.s.now at-args.i c.requires.i_bound)
+    rw (sym c.is_normalizing.ensures ∙ c.if-is_normalizing.false, weight_at_view at-args.t at-args.s.now at-args.i c.requires.i_bound)

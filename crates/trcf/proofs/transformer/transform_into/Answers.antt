@@ -38,7 +38,7 @@ transform_at-requires c =
     let b = c in
     let p = c in
     let l = c.loop-i-test.true in
-    record { sound = c.requires.sound; i_bound = l; w_value = sym (get_or-take c.args.t1.input_length c.args.t1.weights c.loop-i.i nan l) }
+    record { sound = c.requires.sound; i_bound = l; w_value = sym (get_or-take c.args.t.input_length c.args.t.weights c.loop-i.i nan l) }
 
 pub offset_bounds-output-i : goal.offset_bounds-output-i
 offset_bounds-output-i c = omega arith
@@ -59,7 +59,7 @@ loop-i-preserved c =
     let L = c.loop-i in
     let a = c.args in
     let h : L.i < length a.output.now = omega (arith, c.requires.sound) in
-    let at = over_more a.output.now (λ k. transform_by a.t1.transform_method (transformer_view a.t1 a.s.now) k (get_or a.input.now k nan) (get_or a.previous.now k nan)) L.i h in
+    let at = over_more a.output.now (λ k. transform_by a.t.transform_method (transformer_view a.t a.s.now) k (get_or a.input.now k nan) (get_or a.previous.now k nan)) L.i h in
     (omega arith, rw (add-one, L.invariant.1, c.transform_at.ensures) at, simp length-set (omega arith))
 
 pub shape_of-output : goal.shape_of-output
@@ -68,5 +68,5 @@ shape_of-output c = omega arith
 pub returns : goal.returns
 unfolding transformed
 returns c = let L = c.loop-i in
-    let e : L.i ≡ c.args.t1.input_length = omega arith in
+    let e : L.i ≡ c.args.t.input_length = omega arith in
     rw e at L.invariant.1

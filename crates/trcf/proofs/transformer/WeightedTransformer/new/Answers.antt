@@ -42,6 +42,6 @@ returns c =
     let R = c.new_row-row in
     let f = R.ensures.d_nonzero at-if1.false in
     let a = c.args in
-    ap (λ (w : List Float). made 0 (transformer_head a.transform-method a.input_length a.transform-decay w 0) at_clear.new.s)
+    ap (λ (w : List Float). made 0 (transformer_head a.transform_method a.input_length a.transform_decay w 0) at_clear.new.s)
     (roomy _ c.padded-own.ensures (omega (arith, f.1, f.2))) ∙ made_done R.result _ _
-    (transformer_head a.transform-method a.input_length a.transform-decay (over (replicate 16 zero32) a.weights.now) 0) _ _ R.ensures.value at-if1.false at_clear.ensures
+    (transformer_head a.transform_method a.input_length a.transform_decay (over (replicate 16 zero32) a.weights.now) 0) _ _ R.ensures.value at-if1.false at_clear.ensures

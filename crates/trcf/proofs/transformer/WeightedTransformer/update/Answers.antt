@@ -41,7 +41,7 @@ slice_bounds-update_channels-end-2 c = let R = c.update_row-row.ensures.d_nonzer
 pub update_channels-requires : goal.update_channels-requires
 update_channels-requires c = let R = c.update_row-row.ensures.d_nonzero c.if-row-ne0.false in
     let a = c.args in
-    let f = c.next_factor_lem.ensures ∙ next_factor_lem _ _ R.4 in
+    let f = c.next_factor-f.ensures ∙ next_factor_lem _ _ R.4 in
     let g = c.next_factor-g.ensures ∙ next_factor_lem _ _ R.4 in
     record { sound = sound_part a.self a.statistics.now R.0 R.1 R.5; count_lt_count_limit = R.4; input_len = R.2; previous_len = R.3; f_value = f; g_value = g }
 
