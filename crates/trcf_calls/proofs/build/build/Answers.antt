@@ -19,10 +19,9 @@ no_head-requires c = tt
 
 pub returns-then-row-ne0 : goal.returns-then-row-ne0
 returns-then-row-ne0 c =
-    let c8 = c in
     let a = c.args in
     let s = settings_from a.builder a.weights.now a.codes.now in
-    let l = lent a.statistics.now a.last-shingled-input.now a.last-shingled-point.now a.previous-timestamps.now a.initial-values.now a.initial-timestamps.now in
+    let l = lent a.statistics.now a.last_shingled_input.now a.last_shingled_point.now a.previous_timestamps.now a.initial_values.now a.initial_timestamps.now in
     let e = c.settings_row-row.ensures.value in
     rw (c.no_head.ensures, e) (build_refused s l (λ z. c.if-row-ne0.true (e ∙ z)))
 
@@ -49,11 +48,10 @@ shape_of-previous_timestamps-then-short-ne0 c = refl
 
 pub returns-then-short-ne0 : goal.returns-then-short-ne0
 returns-then-short-ne0 c =
-    let c8 = c in
     let c16 = c in
     let a = c.args in
     let s = settings_from a.builder a.weights.now a.codes.now in
-    let l = lent a.statistics.now a.last-shingled-input.now a.last-shingled-point.now a.previous-timestamps.now a.initial-values.now a.initial-timestamps.now in
+    let l = lent a.statistics.now a.last_shingled_input.now a.last_shingled_point.now a.previous_timestamps.now a.initial_values.now a.initial_timestamps.now in
     let e = c.settings_row-row.ensures.value in
     let f : c.held_row-short.result ≡ lent_row (head_from s) l = held_known c.held_row-short.ensures.value
     (rw c.head_from-head.ensures
@@ -66,17 +64,14 @@ get_dimension-n-requires c = tt
 
 pub overflow_mul-d : goal.overflow_mul-d
 overflow_mul-d c =
-    let c8 = c in
     five (c.settings_row-row.ensures.accepted c.if-row-ne0.false).bounded.d_few
 
 pub overflow_add-d : goal.overflow_add-d
 overflow_add-d c =
-    let c8 = c in
     five_more (c.settings_row-row.ensures.accepted c.if-row-ne0.false).bounded.d_few
 
 pub overflow_mul-d-2 : goal.overflow_mul-d-2
 overflow_mul-d-2 c =
-    let c8 = c in
     all_statistics (c.settings_row-row.ensures.accepted c.if-row-ne0.false).bounded.d_few
 
 pub slice_bounds-zero_f64-end : goal.slice_bounds-zero_f64-end
@@ -95,19 +90,16 @@ zero_f64-requires c = tt
 
 pub overflow_mul-d-3 : goal.overflow_mul-d-3
 overflow_mul-d-3 c =
-    let c8 = c in
     let r = c.settings_row-row.ensures.accepted c.if-row-ne0.false in all_inputs r.bounded.d_few r.bounded.k_few
 
 pub slice_bounds-zero_f32-end : goal.slice_bounds-zero_f32-end
 slice_bounds-zero_f32-end c =
-    let c8 = c in
     let r = (rw c.head_from-head.ensures at
     (c.held_row-short.ensures.ready c.if-short-ne0.false).fitted) in
     omega (arith, r.roomy)
 
 pub slice_bounds-zero_f32-end-2 : goal.slice_bounds-zero_f32-end-2
 slice_bounds-zero_f32-end-2 c =
-    let c8 = c in
     let r = (rw c.head_from-head.ensures at
     (c.held_row-short.ensures.ready c.if-short-ne0.false).fitted) in
     simp length-take (omega (arith, r.roomy))
@@ -117,7 +109,6 @@ zero_f32-requires c = tt
 
 pub slice_bounds-zero_f32-end-3 : goal.slice_bounds-zero_f32-end-3
 slice_bounds-zero_f32-end-3 c =
-    let c8 = c in
     let c16 = c in
     let c24 = c in
     let r = (rw c.head_from-head.ensures at (c.held_row-short.ensures.ready c.if-short-ne0.false).fitted) in
@@ -126,15 +117,14 @@ slice_bounds-zero_f32-end-3 c =
       r.roomy,
       (rw c.head_from-head.ensures at
           (dimension_known c.get_dimension-n.ensures
-          (let a = c.args in let s = settings_from a.builder a.weights.now a.codes.now in let l = lent a.statistics.now a.last-shingled-input.now
-          a.last-shingled-point.now a.previous-timestamps.now a.initial-values.now a.initial-timestamps.now in rw
+          (let a = c.args in let s = settings_from a.builder a.weights.now a.codes.now in let l = lent a.statistics.now a.last_shingled_input.now
+          a.last_shingled_point.now a.previous_timestamps.now a.initial_values.now a.initial_timestamps.now in rw
           c.head_from-head.ensures
           (bounded_from s (c.settings_row-row.ensures.accepted c.if-row-ne0.false).bounded))).0),
     )
 
 pub slice_bounds-zero_f32-end-4 : goal.slice_bounds-zero_f32-end-4
 slice_bounds-zero_f32-end-4 c =
-    let c8 = c in
     let c16 = c in
     let c24 = c in
     let r = (rw c.head_from-head.ensures at
@@ -144,8 +134,8 @@ slice_bounds-zero_f32-end-4 c =
       r.roomy,
       (rw c.head_from-head.ensures at
           (dimension_known c.get_dimension-n.ensures
-          (let a = c.args in let s = settings_from a.builder a.weights.now a.codes.now in let l = lent a.statistics.now a.last-shingled-input.now
-          a.last-shingled-point.now a.previous-timestamps.now a.initial-values.now a.initial-timestamps.now in rw
+          (let a = c.args in let s = settings_from a.builder a.weights.now a.codes.now in let l = lent a.statistics.now a.last_shingled_input.now
+          a.last_shingled_point.now a.previous_timestamps.now a.initial_values.now a.initial_timestamps.now in rw
           c.head_from-head.ensures
           (bounded_from s (c.settings_row-row.ensures.accepted c.if-row-ne0.false).bounded))).0),
     ))
@@ -155,7 +145,6 @@ zero_f32-requires-2 c = tt
 
 pub slice_bounds-zero_u64-end : goal.slice_bounds-zero_u64-end
 slice_bounds-zero_u64-end c =
-    let c8 = c in
     let c16 = c in
     let r = (rw c.head_from-head.ensures at
     (c.held_row-short.ensures.ready c.if-short-ne0.false).fitted) in
@@ -163,7 +152,6 @@ slice_bounds-zero_u64-end c =
 
 pub slice_bounds-zero_u64-end-2 : goal.slice_bounds-zero_u64-end-2
 slice_bounds-zero_u64-end-2 c =
-    let c8 = c in
     let c16 = c in
     let r = (rw c.head_from-head.ensures at
     (c.held_row-short.ensures.ready c.if-short-ne0.false).fitted) in
@@ -174,13 +162,12 @@ zero_u64-requires c = tt
 
 pub returns : goal.returns
 returns c =
-    let c8 = c in
     let c16 = c in
     let c24 = c in
     let c32 = c in
     let a = c.args in
     let s = settings_from a.builder a.weights.now a.codes.now in
-    let l = lent a.statistics.now a.last-shingled-input.now a.last-shingled-point.now a.previous-timestamps.now a.initial-values.now a.initial-timestamps.now in
+    let l = lent a.statistics.now a.last_shingled_input.now a.last_shingled_point.now a.previous_timestamps.now a.initial_values.now a.initial_timestamps.now in
     let e = c.settings_row-row.ensures.value in
     let f : c.held_row-short.result ≡ lent_row (head_from s) l = held_known c.held_row-short.ensures.value
     (rw c.head_from-head.ensures
@@ -190,8 +177,8 @@ returns c =
     let n : c.get_dimension-n.result ≡ dimension s =
     (rw c.head_from-head.ensures at
     (dimension_known c.get_dimension-n.ensures
-    (let a = c.args in let s = settings_from a.builder a.weights.now a.codes.now in let l = lent a.statistics.now a.last-shingled-input.now
-    a.last-shingled-point.now a.previous-timestamps.now a.initial-values.now a.initial-timestamps.now in rw
+    (let a = c.args in let s = settings_from a.builder a.weights.now a.codes.now in let l = lent a.statistics.now a.last_shingled_input.now
+    a.last_shingled_point.now a.previous_timestamps.now a.initial_values.now a.initial_timestamps.now in rw
     c.head_from-head.ensures
     (bounded_from s (c.settings_row-row.ensures.accepted c.if-row-ne0.false).bounded))).0) ∙ dimension_from s in
     rw (

@@ -17,9 +17,8 @@ shape_of-output-then-row-ne0 c = refl
 
 pub returns-then-row-ne0 : goal.returns-then-row-ne0
 returns-then-row-ne0 c =
-    let c8 = c in
     let a = c.args in
-    let l = lent a.statistics.now a.last-shingled-input.now a.last-shingled-point.now a.previous-timestamps.now a.initial-values.now a.initial-timestamps.now in
+    let l = lent a.statistics.now a.last_shingled_input.now a.last_shingled_point.now a.previous_timestamps.now a.initial_values.now a.initial_timestamps.now in
     write_stays a.head l (shift a.output.now) shift_of a.output.now c.write_row-row.result (c.write_row-row.ensures.value ∙ shift_row a.head l a.output.now) c.if-row-ne0.true
 
 pub overflow_mul-d : goal.overflow_mul-d
@@ -46,10 +45,9 @@ shape_of-output c = c.write_shift.auto.1.1.1.0
 pub returns : goal.returns
 unfolding view shift_of
 returns c =
-    let c8 = c in
     let c16 = c in
     let a = c.args in
-    let l = lent a.statistics.now a.last-shingled-input.now a.last-shingled-point.now a.previous-timestamps.now a.initial-values.now a.initial-timestamps.now in
+    let l = lent a.statistics.now a.last_shingled_input.now a.last_shingled_point.now a.previous_timestamps.now a.initial_values.now a.initial_timestamps.now in
     write_goes a.head l (shift a.output.now) shift_of a.output.now c.write_row-row.result
     (c.write_row-row.ensures.value ∙ shift_row a.head l a.output.now)
     c.if-row-ne0.false _ _

@@ -18,9 +18,8 @@ transform_row-row-requires c = tt
 
 pub returns-then-row-ne0 : goal.returns-then-row-ne0
 returns-then-row-ne0 c =
-    let c8 = c in
     let a = c.args in
-    let l = lent a.statistics.now a.last-shingled-input.now a.last-shingled-point.now a.previous-timestamps.now a.initial-values.now a.initial-timestamps.now in
+    let l = lent a.statistics.now a.last_shingled_input.now a.last_shingled_point.now a.previous_timestamps.now a.initial_values.now a.initial_timestamps.now in
     write_stays a.head l (transform a.input.now a.timestamp a.output.now) (transform_of (reading a.input.now a.timestamp)) a.output.now c.transform_row-row.result
     c.transform_row-row.ensures.value c.if-row-ne0.true
 
@@ -52,11 +51,10 @@ write_transform-requires c = tt
 pub returns : goal.returns
 unfolding view preceding time_base time_base_of newest facts
 returns c =
-    let c8 = c in
     let c16 = c in
     let a = c.args in
     let h = a.head in
-    let l = lent a.statistics.now a.last-shingled-input.now a.last-shingled-point.now a.previous-timestamps.now a.initial-values.now a.initial-timestamps.now in
+    let l = lent a.statistics.now a.last_shingled_input.now a.last_shingled_point.now a.previous_timestamps.now a.initial_values.now a.initial_timestamps.now in
     let o = c.transform_row-row in
     let z = c.if-row-ne0.false in
     let r = o.ensures.ready z in
@@ -67,5 +65,5 @@ returns c =
     ∙ ap
     (λ (n : ℕ). over a.output.now
     (transformed_after (settings_of h) (take (statistics_length (settings_of h)) a.statistics.now) h.values_seen
-    (reading (last_n h.transformer.input_length (take (h.transformer.input_length * h.shingle_size) a.last-shingled-input.now)) n)
+    (reading (last_n h.transformer.input_length (take (h.transformer.input_length * h.shingle_size) a.last_shingled_input.now)) n)
     (reading a.input.now a.timestamp))) c.time_base-base.ensures) refl

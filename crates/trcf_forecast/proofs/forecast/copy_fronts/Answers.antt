@@ -88,7 +88,6 @@ loop-i-smaller c =
 
 pub loop-i-preserved : goal.loop-i-preserved
 loop-i-preserved c =
-    let c8 = c in
     let A = c.args in
     let L = c.loop-i in
     let P = c.requires in

@@ -26,32 +26,28 @@ is_augmented-requires c = tt
 
 pub slice_bounds-invert_augmented-end : goal.slice_bounds-invert_augmented-end
 slice_bounds-invert_augmented-end c =
-    let c8 = c in
     sym (length-take-le _ c.args.statistics.now
     c.pre.readable.statistics)
 
 pub slice_bounds-invert_augmented-end-then-is_augmented : goal.slice_bounds-invert_augmented-end-then-is_augmented
 slice_bounds-invert_augmented-end-then-is_augmented c =
-    let c8 = c in
     let c16 = c in
-    sym (length-take-le _ c.args.«last-shingled-input».now c.pre.readable.inputs)
+    sym (length-take-le _ c.args.«last_shingled_input».now c.pre.readable.inputs)
 
 pub slice_bounds-invert_augmented-end-then-is_augmented-2 : goal.slice_bounds-invert_augmented-end-then-is_augmented-2
 slice_bounds-invert_augmented-end-then-is_augmented-2 c =
-    let c8 = c in
     let c16 = c in
-    sym (length-take-le _ c.args.«previous-timestamps».now c.pre.readable.times)
+    sym (length-take-le _ c.args.«previous_timestamps».now c.pre.readable.times)
 
 pub invert_augmented-requires : goal.invert_augmented-requires
 invert_augmented-requires c =
-    let c8 = c in
     let c16 = c in
     let c24 = c in
     let A = c.args in
     let P = c.pre in
     let ls = length-take-le _ A.statistics.now P.readable.statistics in
-    let lx = length-take-le _ A.«last-shingled-input».now P.readable.inputs in
-    let lt = length-take-le _ A.«previous-timestamps».now P.readable.times in record {
+    let lx = length-take-le _ A.«last_shingled_input».now P.readable.inputs in
+    let lt = length-take-le _ A.«previous_timestamps».now P.readable.times in record {
       invertible = record {
         bounded = P.bounded;
         unbroken = P.unbroken;
@@ -64,24 +60,21 @@ invert_augmented-requires c =
 
 pub slice_bounds-invert_in_place-end : goal.slice_bounds-invert_in_place-end
 slice_bounds-invert_in_place-end c =
-    let c8 = c in
     sym (length-take-le _ c.args.statistics.now
     c.pre.readable.statistics)
 
 pub slice_bounds-invert_in_place-end-else-is_augmented : goal.slice_bounds-invert_in_place-end-else-is_augmented
 slice_bounds-invert_in_place-end-else-is_augmented c =
-    let c8 = c in
     let c16 = c in
-    sym (length-take-le _ c.args.«last-shingled-input».now c.pre.readable.inputs)
+    sym (length-take-le _ c.args.«last_shingled_input».now c.pre.readable.inputs)
 
 pub invert_in_place-requires : goal.invert_in_place-requires
 invert_in_place-requires c =
-    let c8 = c in
     let c16 = c in
     let A = c.args in
     let P = c.pre in
     let ls = length-take-le _ A.statistics.now P.readable.statistics in
-    let lx = length-take-le _ A.«last-shingled-input».now P.readable.inputs in record {
+    let lx = length-take-le _ A.«last_shingled_input».now P.readable.inputs in record {
       bounded = P.bounded;
       head_in_bounds = (omega (arith, ls), lx);
       upper_len = (P.unbroken.upper, P.unbroken.lower);
@@ -100,44 +93,37 @@ shape_of-lower-then-is_augmented c = refl
 
 pub shape_of-values_out : goal.shape_of-values_out
 shape_of-values_out c =
-    let c8 = c in
     c.invert_augmented.kept.1.1.1.1.1.1.1.0
 
 pub shape_of-upper_out : goal.shape_of-upper_out
 shape_of-upper_out c =
-    let c8 = c in
     c.invert_augmented.kept.1.1.1.1.1.1.1.1.0
 
 pub shape_of-lower_out : goal.shape_of-lower_out
 shape_of-lower_out c =
-    let c8 = c in
     c.invert_augmented.kept.1.1.1.1.1.1.1.1.1.0
 
 pub shape_of-times_out : goal.shape_of-times_out
 shape_of-times_out c =
-    let c8 = c in
     c.invert_augmented.kept.1.1.1.1.1.1.1.1.1.1.0
 
 pub shape_of-times_upper_out : goal.shape_of-times_upper_out
 shape_of-times_upper_out c =
-    let c8 = c in
     c.invert_augmented.kept.1.1.1.1.1.1.1.1.1.1.1.0
 
 pub shape_of-times_lower_out : goal.shape_of-times_lower_out
 shape_of-times_lower_out c =
-    let c8 = c in
     c.invert_augmented.kept.1.1.1.1.1.1.1.1.1.1.1.1.0
 
 pub returns-then-is_augmented : goal.returns-then-is_augmented
 unfolding numbers_of times_of previous viewed view
 returns-then-is_augmented c =
-    let c8 = c in
     let c16 = c in
     let c24 = c in
     let c32 = c in
     let A = c.args in
     let I = c.invert_augmented.ensures in
-    augmented_is A.head A.statistics.now A.«last-shingled-input».now A.«previous-timestamps».now
+    augmented_is A.head A.statistics.now A.«last_shingled_input».now A.«previous_timestamps».now
     (forecast (ranges A.values.now A.upper.now A.lower.now) (ranges A.«values-out».now A.«upper-out».now A.«lower-out».now)
     (ranges A.«times-out».now A.«times-upper-out».now A.«times-lower-out».now))
     _ _ (sym c.is_augmented.ensures ∙ c.if-is_augmented.true) I.lower_out_after I.times_lower_out_after
@@ -154,11 +140,10 @@ shape_of-lower-else-is_augmented c = c.invert_in_place.kept.1.1.1.1.1.0
 pub returns-else-is_augmented : goal.returns-else-is_augmented
 unfolding previous viewed view
 returns-else-is_augmented c =
-    let c8 = c in
     let c16 = c in
     let c24 = c in
     let A = c.args in
-    standard_is A.head A.statistics.now A.«last-shingled-input».now A.«previous-timestamps».now
+    standard_is A.head A.statistics.now A.«last_shingled_input».now A.«previous_timestamps».now
     (forecast (ranges A.values.now A.upper.now A.lower.now) (ranges A.«values-out».now A.«upper-out».now A.«lower-out».now)
     (ranges A.«times-out».now A.«times-upper-out».now A.«times-lower-out».now))
     _ (sym c.is_augmented.ensures ∙ c.if-is_augmented.false)

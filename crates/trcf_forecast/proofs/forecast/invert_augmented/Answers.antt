@@ -18,7 +18,6 @@ get_dimension-a-requires c = tt
 
 pub nonzero_div-h : goal.nonzero_div-h
 nonzero_div-h c =
-    let c8 = c in
     let P = c.pre in
     let p = dimension_pos (settings_of c.args.head) P.0.bounded.d_pos P.0.bounded.k_pos in
     let q : 0 < c.get_dimension-a.result = omega (arith, (dimension_known c.get_dimension-a.ensures (search rules)).0) in
@@ -26,7 +25,6 @@ nonzero_div-h c =
 
 pub overflow_mul-n : goal.overflow_mul-n
 overflow_mul-n c =
-    let c8 = c in
     let A = c.args in
     let P = c.pre in
     let w = numbers_within (settings_of A.head) in
@@ -39,7 +37,6 @@ last_time-last-requires c = tt
 
 pub slice_bounds-invert_numbers-end : goal.slice_bounds-invert_numbers-end
 slice_bounds-invert_numbers-end c =
-    let c8 = c in
     let A = c.args in
     let P = c.pre in
     let r = room_numbers (settings_of A.head) (length A.values.now) c.get_dimension-a.result (length A.inputs.now) (length A.«values-out».now)
@@ -48,7 +45,6 @@ slice_bounds-invert_numbers-end c =
 
 pub slice_bounds-invert_numbers-end-2 : goal.slice_bounds-invert_numbers-end-2
 slice_bounds-invert_numbers-end-2 c =
-    let c8 = c in
     let A = c.args in
     let P = c.pre in
     let r = room_numbers (settings_of A.head) (length A.values.now) c.get_dimension-a.result (length A.inputs.now) (length A.«values-out».now)
@@ -58,7 +54,6 @@ slice_bounds-invert_numbers-end-2 c =
 
 pub slice_bounds-invert_numbers-end-3 : goal.slice_bounds-invert_numbers-end-3
 slice_bounds-invert_numbers-end-3 c =
-    let c8 = c in
     let A = c.args in
     let P = c.pre in
     let r = room_numbers (settings_of A.head) (length A.values.now) c.get_dimension-a.result (length A.inputs.now) (length A.«values-out».now)
@@ -68,7 +63,6 @@ slice_bounds-invert_numbers-end-3 c =
 
 pub slice_bounds-invert_numbers-end-4 : goal.slice_bounds-invert_numbers-end-4
 slice_bounds-invert_numbers-end-4 c =
-    let c8 = c in
     let A = c.args in
     let P = c.pre in
     let r = room_numbers (settings_of A.head) (length A.values.now) c.get_dimension-a.result (length A.inputs.now) (length A.«values-out».now)
@@ -78,7 +72,6 @@ slice_bounds-invert_numbers-end-4 c =
 
 pub slice_bounds-invert_numbers-end-5 : goal.slice_bounds-invert_numbers-end-5
 slice_bounds-invert_numbers-end-5 c =
-    let c8 = c in
     let A = c.args in
     let P = c.pre in
     let r = room_numbers (settings_of A.head) (length A.values.now) c.get_dimension-a.result (length A.inputs.now) (length A.«values-out».now)
@@ -88,7 +81,6 @@ slice_bounds-invert_numbers-end-5 c =
 
 pub slice_bounds-invert_numbers-end-6 : goal.slice_bounds-invert_numbers-end-6
 slice_bounds-invert_numbers-end-6 c =
-    let c8 = c in
     let c16 = c in
     let A = c.args in
     let P = c.pre in
@@ -99,7 +91,6 @@ slice_bounds-invert_numbers-end-6 c =
 
 pub invert_numbers-requires : goal.invert_numbers-requires
 invert_numbers-requires c =
-    let c8 = c in
     let c16 = c in
     let A = c.args in
     let P = c.pre in
@@ -130,7 +121,6 @@ invert_numbers-requires c =
 
 pub slice_bounds-invert_times-end : goal.slice_bounds-invert_times-end
 slice_bounds-invert_times-end c =
-    let c8 = c in
     let c16 = c in
     let A = c.args in
     let P = c.pre in
@@ -141,7 +131,6 @@ slice_bounds-invert_times-end c =
 
 pub slice_bounds-invert_times-end-2 : goal.slice_bounds-invert_times-end-2
 slice_bounds-invert_times-end-2 c =
-    let c8 = c in
     let c16 = c in
     let c24 = c in
     let A = c.args in
@@ -153,7 +142,6 @@ slice_bounds-invert_times-end-2 c =
 
 pub slice_bounds-invert_times-end-3 : goal.slice_bounds-invert_times-end-3
 slice_bounds-invert_times-end-3 c =
-    let c8 = c in
     let c16 = c in
     let c24 = c in
     let A = c.args in
@@ -165,7 +153,6 @@ slice_bounds-invert_times-end-3 c =
 
 pub slice_bounds-invert_times-end-4 : goal.slice_bounds-invert_times-end-4
 slice_bounds-invert_times-end-4 c =
-    let c8 = c in
     let c16 = c in
     let c24 = c in
     let A = c.args in
@@ -177,7 +164,6 @@ slice_bounds-invert_times-end-4 c =
 
 pub slice_bounds-invert_times-end-5 : goal.slice_bounds-invert_times-end-5
 slice_bounds-invert_times-end-5 c =
-    let c8 = c in
     let c16 = c in
     let c24 = c in
     let A = c.args in
@@ -189,7 +175,6 @@ slice_bounds-invert_times-end-5 c =
 
 pub slice_bounds-invert_times-end-6 : goal.slice_bounds-invert_times-end-6
 slice_bounds-invert_times-end-6 c =
-    let c8 = c in
     let c16 = c in
     let c24 = c in
     let A = c.args in
@@ -201,7 +186,6 @@ slice_bounds-invert_times-end-6 c =
 
 pub invert_times-requires : goal.invert_times-requires
 invert_times-requires c =
-    let c8 = c in
     let c16 = c in
     let c24 = c in
     let A = c.args in
@@ -224,7 +208,6 @@ invert_times-requires c =
 
 pub returns : goal.returns
 returns c =
-    let c8 = c in
     let c16 = c in
     let c24 = c in
     let c32 = c in

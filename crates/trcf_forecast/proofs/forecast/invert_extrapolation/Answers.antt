@@ -9,81 +9,69 @@ extrapolation_row-row-requires c = tt
 
 pub returns-then-row-ne0 : goal.returns-then-row-ne0
 returns-then-row-ne0 c =
-    let c8 = c in
     let A = c.args in
-    refused_is A.head A.statistics.now A.«last-shingled-input».now A.«previous-timestamps».now
+    refused_is A.head A.statistics.now A.«last_shingled_input».now A.«previous_timestamps».now
     (forecast (ranges A.values.now A.upper.now A.lower.now) (ranges A.«values-out».now A.«upper-out».now A.«lower-out».now)
     (ranges A.«times-out».now A.«times-upper-out».now A.«times-lower-out».now))
     c.extrapolation_row-row.result c.extrapolation_row-row.ensures.value c.if-row-ne0.true
 
 pub invert_accepted-requires : goal.invert_accepted-requires
 invert_accepted-requires c =
-    let c8 = c in
     c.extrapolation_row-row.ensures.invertible c.if-row-ne0.false
 
 pub shape_of-values : goal.shape_of-values
 shape_of-values c =
-    let c8 = c in
     let c16 = c in
     c.invert_accepted.kept.1.1.1.1.0
 
 pub shape_of-upper : goal.shape_of-upper
 shape_of-upper c =
-    let c8 = c in
     let c16 = c in
     c.invert_accepted.kept.1.1.1.1.1.0
 
 pub shape_of-lower : goal.shape_of-lower
 shape_of-lower c =
-    let c8 = c in
     let c16 = c in
     c.invert_accepted.kept.1.1.1.1.1.1.0
 
 pub shape_of-values_out : goal.shape_of-values_out
 shape_of-values_out c =
-    let c8 = c in
     let c16 = c in
     c.invert_accepted.kept.1.1.1.1.1.1.1.0
 
 pub shape_of-upper_out : goal.shape_of-upper_out
 shape_of-upper_out c =
-    let c8 = c in
     let c16 = c in
     c.invert_accepted.kept.1.1.1.1.1.1.1.1.0
 
 pub shape_of-lower_out : goal.shape_of-lower_out
 shape_of-lower_out c =
-    let c8 = c in
     let c16 = c in
     c.invert_accepted.kept.1.1.1.1.1.1.1.1.1.0
 
 pub shape_of-times_out : goal.shape_of-times_out
 shape_of-times_out c =
-    let c8 = c in
     let c16 = c in
     c.invert_accepted.kept.1.1.1.1.1.1.1.1.1.1.0
 
 pub shape_of-times_upper_out : goal.shape_of-times_upper_out
 shape_of-times_upper_out c =
-    let c8 = c in
     let c16 = c in
     c.invert_accepted.kept.1.1.1.1.1.1.1.1.1.1.1.0
 
 pub shape_of-times_lower_out : goal.shape_of-times_lower_out
 shape_of-times_lower_out c =
-    let c8 = c in
     let c16 = c in
     c.invert_accepted.kept.1.1.1.1.1.1.1.1.1.1.1.1.0
 
 pub returns : goal.returns
 returns c =
-    let c8 = c in
     let c16 = c in
     let c24 = c in
     let c32 = c in
     let c40 = c in
     let A = c.args in
-    done_is A.head A.statistics.now A.«last-shingled-input».now A.«previous-timestamps».now
+    done_is A.head A.statistics.now A.«last_shingled_input».now A.«previous_timestamps».now
     (forecast (ranges A.values.now A.upper.now A.lower.now) (ranges A.«values-out».now A.«upper-out».now A.«lower-out».now)
     (ranges A.«times-out».now A.«times-upper-out».now A.«times-lower-out».now))
     c.extrapolation_row-row.result _ c.extrapolation_row-row.ensures.value

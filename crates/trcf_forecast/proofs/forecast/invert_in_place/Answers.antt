@@ -47,7 +47,6 @@ shape_of-lower c = c.invert_forecast_in_place.kept.1.1.1.1.1.0
 
 pub returns : goal.returns
 returns c =
-    let c8 = c in
     let c16 = c in
     let A = c.args in
     let P = c.pre in

@@ -18,7 +18,6 @@ get_dimension-a-requires c = tt
 
 pub copy_fronts-requires : goal.copy_fronts-requires
 copy_fronts-requires c =
-    let c8 = c in
     let P = c.pre in
     let e = (dimension_known c.get_dimension-a.ensures (search rules)).0 in
     let w = numbers_within (settings_of c.args.head) in
@@ -26,7 +25,6 @@ copy_fronts-requires c =
 
 pub copy_fronts-requires-2 : goal.copy_fronts-requires-2
 copy_fronts-requires-2 c =
-    let c8 = c in
     let P = c.pre in
     let e = (dimension_known c.get_dimension-a.ensures (search rules)).0 in
     let w = numbers_within (settings_of c.args.head) in
@@ -34,7 +32,6 @@ copy_fronts-requires-2 c =
 
 pub copy_fronts-requires-3 : goal.copy_fronts-requires-3
 copy_fronts-requires-3 c =
-    let c8 = c in
     let c16 = c in
     let P = c.pre in
     let e = (dimension_known c.get_dimension-a.ensures (search rules)).0 in
@@ -43,7 +40,6 @@ copy_fronts-requires-3 c =
 
 pub invert_in_place-requires : goal.invert_in_place-requires
 invert_in_place-requires c =
-    let c8 = c in
     let c16 = c in
     let A = c.args in
     let P = c.pre in
@@ -60,23 +56,19 @@ invert_in_place-requires c =
 
 pub shape_of-values_out : goal.shape_of-values_out
 shape_of-values_out c =
-    let c8 = c in
     let c16 = c in
     c.invert_in_place.kept.1.1.1.0 ∙ c.copy_fronts.kept.1.1.1.1.0
 
 pub shape_of-upper_out : goal.shape_of-upper_out
 shape_of-upper_out c =
-    let c8 = c in
     c.invert_in_place.kept.1.1.1.1.0 ∙ c.copy_fronts-2.kept.1.1.1.1.0
 
 pub shape_of-lower_out : goal.shape_of-lower_out
 shape_of-lower_out c =
-    let c8 = c in
     c.invert_in_place.kept.1.1.1.1.1.0 ∙ c.copy_fronts-3.kept.1.1.1.1.0
 
 pub returns : goal.returns
 returns c =
-    let c8 = c in
     let c16 = c in
     let c24 = c in
     let A = c.args in

@@ -13,7 +13,6 @@ use Rattle.trcf_forecast.proofs.forecast.invert_times.Goals as goal
 
 pub overflow_mul-m : goal.overflow_mul-m
 overflow_mul-m c =
-    let c8 = c in
     let p : c.args.head.transformer.input_length ≤ 16 = c.pre.0.d_few in
     let q : c.args.head.shingle_size ≤ 64 = c.pre.0.k_few in
     omega (arith, mul-le-mul p q)
@@ -35,7 +34,6 @@ timedrift_of-drift-requires c = tt
 
 pub write_times-requires : goal.write_times-requires
 write_times-requires c =
-    let c8 = c in
     let c16 = c in
     let A = c.args in
     let P = c.pre in
@@ -45,25 +43,21 @@ write_times-requires c =
 
 pub shape_of-values_out : goal.shape_of-values_out
 shape_of-values_out c =
-    let c8 = c in
     let c16 = c in
     c.cascaded_add_f64.kept.0 ∙ c.write_times.kept.1.1.1.1.1.1.1.1.1.0
 
 pub shape_of-upper_out : goal.shape_of-upper_out
 shape_of-upper_out c =
-    let c8 = c in
     let c16 = c in
     c.cascaded_add_f64.kept.1.0 ∙ c.write_times.kept.1.1.1.1.1.1.1.1.1.1.0
 
 pub shape_of-lower_out : goal.shape_of-lower_out
 shape_of-lower_out c =
-    let c8 = c in
     let c16 = c in
     c.cascaded_add_f64.kept.1.1.0 ∙ c.write_times.kept.1.1.1.1.1.1.1.1.1.1.1.0
 
 pub returns : goal.returns
 returns c =
-    let c8 = c in
     let c16 = c in
     let c24 = c in
     let c32 = c in

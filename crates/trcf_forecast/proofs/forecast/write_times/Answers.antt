@@ -46,7 +46,6 @@ offset_bounds-values-at c =
 
 pub bounds-values-at : goal.bounds-values-at
 bounds-values-at c =
-    let c8 = c in
     let A = c.args in
     let L = c.loop-i in
     let P = c.requires in
@@ -57,7 +56,6 @@ bounds-values-at c =
 
 pub offset_bounds-upper-at : goal.offset_bounds-upper-at
 offset_bounds-upper-at c =
-    let c8 = c in
     let A = c.args in
     let L = c.loop-i in
     let P = c.requires in
@@ -68,7 +66,6 @@ offset_bounds-upper-at c =
 
 pub bounds-upper-at : goal.bounds-upper-at
 bounds-upper-at c =
-    let c8 = c in
     let A = c.args in
     let L = c.loop-i in
     let P = c.requires in
@@ -79,7 +76,6 @@ bounds-upper-at c =
 
 pub offset_bounds-lower-at : goal.offset_bounds-lower-at
 offset_bounds-lower-at c =
-    let c8 = c in
     let A = c.args in
     let L = c.loop-i in
     let P = c.requires in
@@ -90,7 +86,6 @@ offset_bounds-lower-at c =
 
 pub bounds-lower-at : goal.bounds-lower-at
 bounds-lower-at c =
-    let c8 = c in
     let A = c.args in
     let L = c.loop-i in
     let P = c.requires in
@@ -101,32 +96,26 @@ bounds-lower-at c =
 
 pub offset_bounds-values_out-i : goal.offset_bounds-values_out-i
 offset_bounds-values_out-i c =
-    let c8 = c in
     omega (arith, c.well_formed, c.loop-i-test.true, c.requires)
 
 pub bounds-values_out-i : goal.bounds-values_out-i
 bounds-values_out-i c =
-    let c8 = c in
     omega (arith, c.loop-i.invariant, c.loop-i-test.true, c.requires)
 
 pub offset_bounds-upper_out-i : goal.offset_bounds-upper_out-i
 offset_bounds-upper_out-i c =
-    let c8 = c in
     omega (arith, c.well_formed, c.loop-i-test.true, c.requires)
 
 pub bounds-upper_out-i : goal.bounds-upper_out-i
 bounds-upper_out-i c =
-    let c8 = c in
     omega (arith, c.loop-i.invariant, c.loop-i-test.true, c.requires)
 
 pub offset_bounds-lower_out-i : goal.offset_bounds-lower_out-i
 offset_bounds-lower_out-i c =
-    let c8 = c in
     omega (arith, c.well_formed, c.loop-i-test.true, c.requires)
 
 pub bounds-lower_out-i : goal.bounds-lower_out-i
 bounds-lower_out-i c =
-    let c8 = c in
     omega (arith, c.loop-i.invariant, c.loop-i-test.true, c.requires)
 
 pub overflow_add-i : goal.overflow_add-i
@@ -140,7 +129,6 @@ loop-i-smaller c =
 pub loop-i-preserved : goal.loop-i-preserved
 unfolding range_at
 loop-i-preserved c =
-    let c8 = c in
     let A = c.args in
     let L = c.loop-i in
     let P = c.requires in

@@ -44,7 +44,6 @@ shape_of-s c = c.feed_reading.auto.1.1.0
 pub returns-then-seen-stop : goal.returns-then-seen-stop
 unfolding previous
 returns-then-seen-stop c =
-    let c8 = c in
     let a = c.args in
     let h = a.head in
     let q = c.requires in

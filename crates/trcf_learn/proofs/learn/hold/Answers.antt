@@ -29,7 +29,6 @@ shape_of-initial_values c = c.copy_in.auto.0
 
 pub returns : goal.returns
 returns c =
-    let c8 = c in
     let a = c.args in
     let h = a.head in
     let q = c.requires in
@@ -37,7 +36,7 @@ returns c =
     let b = block_in h.initial_len h.start_normalization d q.initial_len_bound in record {
       initial_values_after = (roomy _ c.copy_in.ensures
           (let a = c.args in let h = a.head in let q = c.requires in let d = h.transformer.input_length in let b = block_in h.initial_len h.start_normalization d
-          q.initial_len_bound in omega (arith, q))) ∙ paste_behind a.initial-values.now a.input.now (h.initial_len * d) (omega (arith, q));
-      initial_timestamps_after = set_behind a.initial-timestamps.now
+          q.initial_len_bound in omega (arith, q))) ∙ paste_behind a.initial_values.now a.input.now (h.initial_len * d) (omega (arith, q));
+      initial_timestamps_after = set_behind a.initial_timestamps.now
           a.timestamp h.initial_len (omega (arith, q));
     }

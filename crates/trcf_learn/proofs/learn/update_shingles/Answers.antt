@@ -34,17 +34,14 @@ overflow_mul-d-3 c = let b = c.requires.bounded in all_inputs b.d_few b.k_few
 
 pub slice_bounds-feed_newest-end-4 : goal.slice_bounds-feed_newest-end-4
 slice_bounds-feed_newest-end-4 c =
-    let c8 = c in
     let a = c.args in let h = a.head in let q = c.requires in let d = h.transformer.input_length in simp length-take (omega (arith, q))
 
 pub slice_bounds-feed_newest-end-6 : goal.slice_bounds-feed_newest-end-6
 slice_bounds-feed_newest-end-6 c =
-    let c8 = c in
     let a = c.args in let h = a.head in let q = c.requires in let d = h.transformer.input_length in simp length-take (omega (arith, q))
 
 pub feed_newest-requires : goal.feed_newest-requires
 feed_newest-requires c =
-    let c8 = c in
     let a = c.args in
     let h = a.head in
     let q = c.requires in
@@ -52,12 +49,10 @@ feed_newest-requires c =
 
 pub overflow_mul-d-4 : goal.overflow_mul-d-4
 overflow_mul-d-4 c =
-    let c8 = c in
     let b = c.requires.bounded in all_inputs b.d_few b.k_few
 
 pub slice_bounds-shift_vector-end-2 : goal.slice_bounds-shift_vector-end-2
 slice_bounds-shift_vector-end-2 c =
-    let c8 = c in
     let a = c.args in
     let h = a.head in
     let q = c.requires in
@@ -72,7 +67,6 @@ copy_in-requires c = tt
 
 pub slice_bounds-shift_time-end-2 : goal.slice_bounds-shift_time-end-2
 slice_bounds-shift_time-end-2 c =
-    let c8 = c in
     let c16 = c in
     let a = c.args in
     let h = a.head in
@@ -88,7 +82,6 @@ shape_of-last_shingled_point c = c.copy_in.auto.0
 
 pub returns : goal.returns
 returns c =
-    let c8 = c in
     let c16 = c in
     let c24 = c in
     let a = c.args in
@@ -97,13 +90,13 @@ returns c =
     let d = h.transformer.input_length in record {
       statistics_after = over_part a.statistics.now _ _ (c.feed_newest.auto.1.0 ∙ length-take-le _ _ q.head_in_bounds) ∙ ap (over a.statistics.now)
           c.feed_newest.ensures;
-      last_shingled_input_after = over_part a.last-shingled-input.now _ _ (c.shift_vector.auto.0 ∙ length-take-le _ _ q.shingle_size_in_bounds) ∙ ap (over a.last-shingled-input.now)
+      last_shingled_input_after = over_part a.last_shingled_input.now _ _ (c.shift_vector.auto.0 ∙ length-take-le _ _ q.shingle_size_in_bounds) ∙ ap (over a.last_shingled_input.now)
           ((roomy _ c.shift_vector.ensures
           (let a = c.args in let h = a.head in let q = c.requires in let d = h.transformer.input_length in let m = le-mul_of_pos_right d q.bounded.k_pos in simp length-take
           (omega (arith, q)))));
       last_shingled_point_after = (roomy _ c.copy_in.ensures (search rules)) ∙ paste_over _ _;
-      previous_timestamps_after = over_part a.previous-timestamps.now _ _
-          (c.shift_time.auto.0 ∙ length-take-le _ _ q.shingle_size_in_bounds_2) ∙ ap (over a.previous-timestamps.now)
+      previous_timestamps_after = over_part a.previous_timestamps.now _ _
+          (c.shift_time.auto.0 ∙ length-take-le _ _ q.shingle_size_in_bounds_2) ∙ ap (over a.previous_timestamps.now)
           ((roomy _ c.shift_time.ensures
           (let a = c.args in let h = a.head in let q = c.requires in let d = h.transformer.input_length in simp length-take (omega (arith, q, q.bounded)))));
     }

@@ -24,7 +24,6 @@ overflow_sub-b-2 c = omega arith
 
 pub overflow_mul-b : goal.overflow_mul-b
 overflow_mul-b c =
-    let c8 = c in
     let a = c.args in
     let h = a.head in
     let d = h.transformer.input_length in
@@ -35,7 +34,6 @@ overflow_mul-b c =
 
 pub overflow_mul-b-2 : goal.overflow_mul-b-2
 overflow_mul-b-2 c =
-    let c8 = c in
     let a = c.args in
     let h = a.head in
     let d = h.transformer.input_length in
@@ -46,7 +44,6 @@ overflow_mul-b-2 c =
 
 pub overflow_add-b : goal.overflow_add-b
 overflow_add-b c =
-    let c8 = c in
     let a = c.args in
     let h = a.head in
     let d = h.transformer.input_length in
@@ -57,7 +54,6 @@ overflow_add-b c =
 
 pub offset_bounds-expected-b : goal.offset_bounds-expected-b
 offset_bounds-expected-b c =
-    let c8 = c in
     let a = c.args in
     let h = a.head in
     let d = h.transformer.input_length in
@@ -71,12 +67,10 @@ slice_bounds-invert_into-count c = omega arith
 
 pub slice_bounds-invert_into-start : goal.slice_bounds-invert_into-start
 slice_bounds-invert_into-start c =
-    let c8 = c in
     let a = c.args in block_start (a.head.shingle_size - 1 - a.back) a.head.transformer.input_length
 
 pub slice_bounds-invert_into-end : goal.slice_bounds-invert_into-end
 slice_bounds-invert_into-end c =
-    let c8 = c in
     let a = c.args in
     let h = a.head in
     let d = h.transformer.input_length in
@@ -87,7 +81,6 @@ slice_bounds-invert_into-end c =
 
 pub overflow_mul-b-3 : goal.overflow_mul-b-3
 overflow_mul-b-3 c =
-    let c8 = c in
     let a = c.args in
     let h = a.head in
     let d = h.transformer.input_length in
@@ -98,7 +91,6 @@ overflow_mul-b-3 c =
 
 pub overflow_mul-b-4 : goal.overflow_mul-b-4
 overflow_mul-b-4 c =
-    let c8 = c in
     let a = c.args in
     let h = a.head in
     let d = h.transformer.input_length in
@@ -109,7 +101,6 @@ overflow_mul-b-4 c =
 
 pub overflow_add-b-2 : goal.overflow_add-b-2
 overflow_add-b-2 c =
-    let c8 = c in
     let a = c.args in
     let h = a.head in
     let d = h.transformer.input_length in
@@ -120,7 +111,6 @@ overflow_add-b-2 c =
 
 pub offset_bounds-inputs-b : goal.offset_bounds-inputs-b
 offset_bounds-inputs-b c =
-    let c8 = c in
     let a = c.args in
     let h = a.head in
     let d = h.transformer.input_length in
@@ -134,12 +124,10 @@ slice_bounds-invert_into-count-2 c = omega arith
 
 pub slice_bounds-invert_into-start-2 : goal.slice_bounds-invert_into-start-2
 slice_bounds-invert_into-start-2 c =
-    let c8 = c in
     let a = c.args in block_start (a.head.shingle_size - 1 - a.back) a.head.transformer.input_length
 
 pub slice_bounds-invert_into-end-2 : goal.slice_bounds-invert_into-end-2
 slice_bounds-invert_into-end-2 c =
-    let c8 = c in
     let a = c.args in
     let h = a.head in
     let d = h.transformer.input_length in
@@ -153,7 +141,6 @@ invert_into-requires c = tt
 
 pub offset_bounds-times-b : goal.offset_bounds-times-b
 offset_bounds-times-b c =
-    let c8 = c in
     let c16 = c in
     let a = c.args in
     let h = a.head in
@@ -168,13 +155,11 @@ offset_bounds-times-b c =
 
 pub bounds-times-b : goal.bounds-times-b
 bounds-times-b c =
-    let c8 = c in
     let c16 = c in
     let a = c.args in let h = a.head in let q = c.requires in let d = h.transformer.input_length in omega (arith, q, q.exact)
 
 pub shape_of-past_out : goal.shape_of-past_out
 shape_of-past_out c =
-    let c8 = c in
     c.write_past.auto.1.1.1.1.0
 
 pub shape_of-expected_out : goal.shape_of-expected_out
@@ -183,7 +168,6 @@ shape_of-expected_out c = c.invert_into.auto.1.1.1.1.0
 pub returns : goal.returns
 unfolding block_from
 returns c =
-    let c8 = c in
     let c16 = c in
     let a = c.args in
     let h = a.head in
@@ -198,6 +182,6 @@ returns c =
           (omega (arith, q)) in let w = wide (settings_of h) in (
             record { some = omega (arith, q); few = omega (arith, q); room = omega (arith, q.exact) },
             (simp (length-drop, length-take) (omega (arith, q, q.exact)), (simp (length-drop, length-take) (omega (arith, q, q.exact)), omega (arith, q))),
-          )))) ∙ ap (over a.expected-out.now)
+          )))) ∙ ap (over a.expected_out.now)
           (inverted_free h a.s.now _ _ ∙ (λ j. inverted (transformer (settings_of h) 0 a.s.now) (block_cut n d a.expected.now j) (block_cut n d a.inputs.now j)));
     }

@@ -11,7 +11,6 @@ returns-then-not-is_anomaly c = let e = sym c.is_anomaly.ensures ∙ not-true _ 
 
 pub write_anomaly-time-requires : goal.write_anomaly-time-requires
 write_anomaly-time-requires c =
-    let c8 = c in
     let q = c.requires in
     let f = q.findable (sym c.is_anomaly.ensures ∙ not-false _ c.if-not-is_anomaly.false-raw) in
     record { bounded = q.bounded; exact = q.exact; input_len = q.input_len; expected_len = f.all_expected; back_bound = f.inside; input_length_in_bounds = f.past_room; input_length_in_bounds_2 = f.expected_room }

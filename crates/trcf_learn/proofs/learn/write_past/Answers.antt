@@ -95,7 +95,6 @@ shape_of-output-else-back-eq0 c = c.copy_in-else-back-eq0.auto.0
 pub returns-else-back-eq0 : goal.returns-else-back-eq0
 unfolding block_from
 returns-else-back-eq0 c =
-    let c8 = c in
     let a = c.args in
     let h = a.head in
     let q = c.requires in

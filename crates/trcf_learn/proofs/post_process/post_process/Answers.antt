@@ -42,29 +42,27 @@ shape_of-expected_out-then-row-ne0 c = refl
 
 pub returns-then-row-ne0 : goal.returns-then-row-ne0
 returns-then-row-ne0 c =
-    let c8 = c in
     let c16 = c in
     let a = c.args in
-    let u = to_z-of_z w32 a.relative-index c.ranges.relative-index in
+    let u = to_z-of_z w32 a.relative_index c.ranges.relative_index in
     let o = c.post_process_row-row in
-    way_refused a.head a.statistics.now a.last-shingled-input.now a.last-shingled-point.now a.previous-timestamps.now a.initial-values.now
-    a.initial-timestamps.now a.input.now a.timestamp a.has-y a.y.now a.expects a.expected.now a.grade a.relative-index (to_z w32 (of_z w32 a.relative-index))
-    a.deviations-out.now a.past-out.now a.expected-out.now u o.result o.ensures.value c.if-row-ne0.true c.unlearned.result c.unlearned.ensures
+    way_refused a.head a.statistics.now a.last_shingled_input.now a.last_shingled_point.now a.previous_timestamps.now a.initial_values.now
+    a.initial_timestamps.now a.input.now a.timestamp a.has_y a.y.now a.expects a.expected.now a.grade a.relative_index (to_z w32 (of_z w32 a.relative_index))
+    a.deviations_out.now a.past_out.now a.expected_out.now u o.result o.ensures.value c.if-row-ne0.true c.unlearned.result c.unlearned.ensures
 
 pub is_waiting-requires : goal.is_waiting-requires
 is_waiting-requires c = tt
 
 pub post_process_waiting-requires : goal.post_process_waiting-requires
 post_process_waiting-requires c =
-    let c8 = c in
     let c16 = c in
     let c24 = c in
     let a = c.args in
-    let u = to_z-of_z w32 a.relative-index c.ranges.relative-index in
+    let u = to_z-of_z w32 a.relative_index c.ranges.relative_index in
     let o = c.post_process_row-row in
-    room_held a.head a.statistics.now a.last-shingled-input.now a.last-shingled-point.now a.previous-timestamps.now a.initial-values.now a.initial-timestamps.now
-    a.input.now a.timestamp a.has-y a.y.now a.expects a.expected.now a.grade a.relative-index (to_z w32 (of_z w32 a.relative-index)) a.deviations-out.now
-    a.past-out.now a.expected-out.now u o.result o.ensures.value o.ensures.ready c.if-row-ne0.false
+    room_held a.head a.statistics.now a.last_shingled_input.now a.last_shingled_point.now a.previous_timestamps.now a.initial_values.now a.initial_timestamps.now
+    a.input.now a.timestamp a.has_y a.y.now a.expects a.expected.now a.grade a.relative_index (to_z w32 (of_z w32 a.relative_index)) a.deviations_out.now
+    a.past_out.now a.expected_out.now u o.result o.ensures.value o.ensures.ready c.if-row-ne0.false
     c.is_waiting.result c.is_waiting.ensures c.if-is_waiting.true
 
 pub shape_of-statistics-then-is_waiting : goal.shape_of-statistics-then-is_waiting
@@ -96,17 +94,16 @@ shape_of-expected_out-then-is_waiting c = refl
 
 pub returns-then-is_waiting : goal.returns-then-is_waiting
 returns-then-is_waiting c =
-    let c8 = c in
     let c16 = c in
     let c24 = c in
     let c32 = c in
     let a = c.args in
-    let u = to_z-of_z w32 a.relative-index c.ranges.relative-index in
+    let u = to_z-of_z w32 a.relative_index c.ranges.relative_index in
     let o = c.post_process_row-row in
     let w = c.post_process_waiting in
-    way_held a.head a.statistics.now a.last-shingled-input.now a.last-shingled-point.now a.previous-timestamps.now a.initial-values.now a.initial-timestamps.now
-    a.input.now a.timestamp a.has-y a.y.now a.expects a.expected.now a.grade a.relative-index (to_z w32 (of_z w32 a.relative-index)) a.deviations-out.now
-    a.past-out.now a.expected-out.now u o.result o.ensures.value o.ensures.ready c.if-row-ne0.false
+    way_held a.head a.statistics.now a.last_shingled_input.now a.last_shingled_point.now a.previous_timestamps.now a.initial_values.now a.initial_timestamps.now
+    a.input.now a.timestamp a.has_y a.y.now a.expects a.expected.now a.grade a.relative_index (to_z w32 (of_z w32 a.relative_index)) a.deviations_out.now
+    a.past_out.now a.expected_out.now u o.result o.ensures.value o.ensures.ready c.if-row-ne0.false
     c.is_waiting.result c.is_waiting.ensures c.if-is_waiting.true w.result _ _ _
     w.ensures.value w.ensures.initial_values_after w.ensures.initial_timestamps_after w.ensures.deviations_out_after
 
@@ -142,54 +139,48 @@ shape_of-expected_out-then-not-has_y c = refl
 
 pub returns-then-not-has_y : goal.returns-then-not-has_y
 returns-then-not-has_y c =
-    let c8 = c in
     let c16 = c in
     let c24 = c in
     let a = c.args in
-    let u = to_z-of_z w32 a.relative-index c.ranges.relative-index in
+    let u = to_z-of_z w32 a.relative_index c.ranges.relative_index in
     let o = c.post_process_row-row in
-    way_none a.head a.statistics.now a.last-shingled-input.now a.last-shingled-point.now a.previous-timestamps.now a.initial-values.now a.initial-timestamps.now
-    a.input.now a.timestamp a.has-y a.y.now a.expects a.expected.now a.grade a.relative-index (to_z w32 (of_z w32 a.relative-index)) a.deviations-out.now
-    a.past-out.now a.expected-out.now u o.result o.ensures.value o.ensures.ready c.if-row-ne0.false c.is_waiting.result
-    c.is_waiting.ensures c.if-is_waiting.false (not-true a.has-y c.if-not-has_y.true-raw) c.unlearned-then-not-has_y.result c.unlearned-then-not-has_y.ensures
+    way_none a.head a.statistics.now a.last_shingled_input.now a.last_shingled_point.now a.previous_timestamps.now a.initial_values.now a.initial_timestamps.now
+    a.input.now a.timestamp a.has_y a.y.now a.expects a.expected.now a.grade a.relative_index (to_z w32 (of_z w32 a.relative_index)) a.deviations_out.now
+    a.past_out.now a.expected_out.now u o.result o.ensures.value o.ensures.ready c.if-row-ne0.false c.is_waiting.result
+    c.is_waiting.ensures c.if-is_waiting.false (not-true a.has_y c.if-not-has_y.true-raw) c.unlearned-then-not-has_y.result c.unlearned-then-not-has_y.ensures
 
 pub places_back-back-requires : goal.places_back-back-requires
 places_back-back-requires c = tt
 
 pub post_process_learning-requires : goal.post_process_learning-requires
 post_process_learning-requires c =
-    let c8 = c in
     let c16 = c in
     let c24 = c in
     let c32 = c in
     let a = c.args in
-    let u = to_z-of_z w32 a.relative-index c.ranges.relative-index in
+    let u = to_z-of_z w32 a.relative_index c.ranges.relative_index in
     let o = c.post_process_row-row in
-    room_learnt a.head a.statistics.now a.last-shingled-input.now a.last-shingled-point.now a.previous-timestamps.now a.initial-values.now
-    a.initial-timestamps.now a.input.now a.timestamp a.has-y a.y.now a.expects a.expected.now a.grade a.relative-index (to_z w32 (of_z w32 a.relative-index))
-    a.deviations-out.now a.past-out.now a.expected-out.now u o.result o.ensures.value o.ensures.ready c.if-row-ne0.false
+    room_learnt a.head a.statistics.now a.last_shingled_input.now a.last_shingled_point.now a.previous_timestamps.now a.initial_values.now
+    a.initial_timestamps.now a.input.now a.timestamp a.has_y a.y.now a.expects a.expected.now a.grade a.relative_index (to_z w32 (of_z w32 a.relative_index))
+    a.deviations_out.now a.past_out.now a.expected_out.now u o.result o.ensures.value o.ensures.ready c.if-row-ne0.false
     c.is_waiting.result c.is_waiting.ensures c.if-is_waiting.false
-    (not-false a.has-y c.if-not-has_y.false-raw) c.places_back-back.result
+    (not-false a.has_y c.if-not-has_y.false-raw) c.places_back-back.result
     c.places_back-back.ensures
 
 pub shape_of-statistics : goal.shape_of-statistics
 shape_of-statistics c =
-    let c8 = c in
     c.post_process_learning.auto.1.0
 
 pub shape_of-last_shingled_input : goal.shape_of-last_shingled_input
 shape_of-last_shingled_input c =
-    let c8 = c in
     c.post_process_learning.auto.1.1.0
 
 pub shape_of-last_shingled_point : goal.shape_of-last_shingled_point
 shape_of-last_shingled_point c =
-    let c8 = c in
     c.post_process_learning.auto.1.1.1.0
 
 pub shape_of-previous_timestamps : goal.shape_of-previous_timestamps
 shape_of-previous_timestamps c =
-    let c8 = c in
     c.post_process_learning.auto.1.1.1.1.0
 
 pub shape_of-initial_values : goal.shape_of-initial_values
@@ -200,33 +191,29 @@ shape_of-initial_timestamps c = refl
 
 pub shape_of-deviations_out : goal.shape_of-deviations_out
 shape_of-deviations_out c =
-    let c8 = c in
     c.post_process_learning.auto.1.1.1.1.1.1.1.1.1.1.1.1.0
 
 pub shape_of-past_out : goal.shape_of-past_out
 shape_of-past_out c =
-    let c8 = c in
     c.post_process_learning.auto.1.1.1.1.1.1.1.1.1.1.1.1.1.0
 
 pub shape_of-expected_out : goal.shape_of-expected_out
 shape_of-expected_out c =
-    let c8 = c in
     c.post_process_learning.auto.1.1.1.1.1.1.1.1.1.1.1.1.1.1.0
 
 pub returns : goal.returns
 returns c =
-    let c8 = c in
     let c16 = c in
     let c24 = c in
     let c32 = c in
     let c40 = c in
     let c48 = c in
     let a = c.args in
-    let u = to_z-of_z w32 a.relative-index c.ranges.relative-index in
+    let u = to_z-of_z w32 a.relative_index c.ranges.relative_index in
     let o = c.post_process_row-row in
-    way_learnt a.head a.statistics.now a.last-shingled-input.now a.last-shingled-point.now a.previous-timestamps.now a.initial-values.now a.initial-timestamps.now
-    a.input.now a.timestamp a.has-y a.y.now a.expects a.expected.now a.grade a.relative-index (to_z w32 (of_z w32 a.relative-index)) a.deviations-out.now
-    a.past-out.now a.expected-out.now u o.result o.ensures.value o.ensures.ready c.if-row-ne0.false c.is_waiting.result
+    way_learnt a.head a.statistics.now a.last_shingled_input.now a.last_shingled_point.now a.previous_timestamps.now a.initial_values.now a.initial_timestamps.now
+    a.input.now a.timestamp a.has_y a.y.now a.expects a.expected.now a.grade a.relative_index (to_z w32 (of_z w32 a.relative_index)) a.deviations_out.now
+    a.past_out.now a.expected_out.now u o.result o.ensures.value o.ensures.ready c.if-row-ne0.false c.is_waiting.result
     c.is_waiting.ensures c.if-is_waiting.false
-    (not-false a.has-y c.if-not-has_y.false-raw) c.places_back-back.result
+    (not-false a.has_y c.if-not-has_y.false-raw) c.places_back-back.result
     c.places_back-back.ensures _ c.post_process_learning.ensures

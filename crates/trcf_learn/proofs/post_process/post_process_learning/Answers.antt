@@ -21,49 +21,40 @@ use Rattle.trcf_learn.proofs.post_process.post_process_learning.Goals as goal
 
 pub overflow_mul-d : goal.overflow_mul-d
 overflow_mul-d c =
-    let c8 = c in
     five c.requires.bounded.d_few
 
 pub overflow_add-d : goal.overflow_add-d
 overflow_add-d c =
-    let c8 = c in
     five_more c.requires.bounded.d_few
 
 pub overflow_mul-d-2 : goal.overflow_mul-d-2
 overflow_mul-d-2 c =
-    let c8 = c in
     all_statistics c.requires.bounded.d_few
 
 pub slice_bounds-write_found-end-2 : goal.slice_bounds-write_found-end-2
 slice_bounds-write_found-end-2 c =
-    let c8 = c in
     sym (length-take-le _ _ c.requires.head_in_bounds)
 
 pub overflow_mul-d-3 : goal.overflow_mul-d-3
 overflow_mul-d-3 c =
-    let c8 = c in
     let b = c.requires.bounded in all_inputs b.d_few b.k_few
 
 pub slice_bounds-write_found-end-4 : goal.slice_bounds-write_found-end-4
 slice_bounds-write_found-end-4 c =
-    let c8 = c in
     sym (length-take-le _ _ c.requires.shingle_size_in_bounds)
 
 pub slice_bounds-write_found-end-6 : goal.slice_bounds-write_found-end-6
 slice_bounds-write_found-end-6 c =
-    let c8 = c in
     sym (length-take-le _ _ c.requires.shingle_size_in_bounds_2)
 
 pub write_found-found-requires : goal.write_found-found-requires
 write_found-found-requires c =
-    let c8 = c in
     let a = c.args in
     let h = a.head in
     let q = c.requires in record { bounded = q.bounded; exact = record { all_statistics = length-take-le _ _ q.head_in_bounds; all_input = length-take-le _ _ q.shingle_size_in_bounds; all_times = length-take-le _ _ q.shingle_size_in_bounds_2 }; input_len = q.input_len; findable = q.learnable.found }
 
 pub update_shingles-requires : goal.update_shingles-requires
 update_shingles-requires c =
-    let c8 = c in
     let c16 = c in
     let c24 = c in
     let a = c.args in
@@ -73,7 +64,6 @@ update_shingles-requires c =
 
 pub overflow_mul-d-4 : goal.overflow_mul-d-4
 overflow_mul-d-4 c =
-    let c8 = c in
     let c16 = c in
     let c24 = c in
     let c32 = c in
@@ -81,7 +71,6 @@ overflow_mul-d-4 c =
 
 pub overflow_add-d-2 : goal.overflow_add-d-2
 overflow_add-d-2 c =
-    let c8 = c in
     let c16 = c in
     let c24 = c in
     let c32 = c in
@@ -89,7 +78,6 @@ overflow_add-d-2 c =
 
 pub overflow_mul-d-5 : goal.overflow_mul-d-5
 overflow_mul-d-5 c =
-    let c8 = c in
     let c16 = c in
     let c24 = c in
     let c32 = c in
@@ -97,7 +85,6 @@ overflow_mul-d-5 c =
 
 pub slice_bounds-write_deviations-end : goal.slice_bounds-write_deviations-end
 slice_bounds-write_deviations-end c =
-    let c8 = c in
     let c16 = c in
     let c24 = c in
     let c32 = c in
@@ -108,7 +95,6 @@ slice_bounds-write_deviations-end c =
 
 pub slice_bounds-write_deviations-end-2 : goal.slice_bounds-write_deviations-end-2
 slice_bounds-write_deviations-end-2 c =
-    let c8 = c in
     let c16 = c in
     let c24 = c in
     let c32 = c in
@@ -119,7 +105,6 @@ write_deviations-requires c = tt
 
 pub next_count-count-requires : goal.next_count-count-requires
 next_count-count-requires c =
-    let c8 = c in
     let c16 = c in
     let c24 = c in
     let c32 = c in
@@ -127,7 +112,6 @@ next_count-count-requires c =
 
 pub overflow_add-seen : goal.overflow_add-seen
 overflow_add-seen c =
-    let c8 = c in
     let c16 = c in
     let c24 = c in
     let c32 = c in
@@ -138,7 +122,6 @@ overflow_add-seen c =
 
 pub overflow_add-internal : goal.overflow_add-internal
 overflow_add-internal c =
-    let c8 = c in
     let c16 = c in
     let c24 = c in
     let c32 = c in
@@ -155,22 +138,18 @@ likelihood_of-requires c = tt
 
 pub shape_of-statistics : goal.shape_of-statistics
 shape_of-statistics c =
-    let c8 = c in
     c.update_shingles.auto.1.0
 
 pub shape_of-last_shingled_input : goal.shape_of-last_shingled_input
 shape_of-last_shingled_input c =
-    let c8 = c in
     c.update_shingles.auto.1.1.0
 
 pub shape_of-last_shingled_point : goal.shape_of-last_shingled_point
 shape_of-last_shingled_point c =
-    let c8 = c in
     c.update_shingles.auto.1.1.1.0
 
 pub shape_of-previous_timestamps : goal.shape_of-previous_timestamps
 shape_of-previous_timestamps c =
-    let c8 = c in
     c.update_shingles.auto.1.1.1.1.0
 
 pub shape_of-deviations_out : goal.shape_of-deviations_out
@@ -178,21 +157,18 @@ shape_of-deviations_out c = c.write_deviations.auto.1.1.0
 
 pub shape_of-past_out : goal.shape_of-past_out
 shape_of-past_out c =
-    let c8 = c in
     let c16 = c in
     let c24 = c in
     omega (arith, c.write_found-found.auto)
 
 pub shape_of-expected_out : goal.shape_of-expected_out
 shape_of-expected_out c =
-    let c8 = c in
     let c16 = c in
     let c24 = c in
     omega (arith, c.write_found-found.auto)
 
 pub returns : goal.returns
 returns c =
-    let c8 = c in
     let c16 = c in
     let c24 = c in
     let c32 = c in
@@ -202,8 +178,8 @@ returns c =
     let q = c.requires in
     let s = settings_of h in
     let n = statistics_length s in
-    let S = learned_statistics h (take n a.statistics.now) (take (h.transformer.input_length * h.shingle_size) a.last-shingled-input.now)
-    (take h.shingle_size a.previous-timestamps.now) a.input.now a.timestamp in
+    let S = learned_statistics h (take n a.statistics.now) (take (h.transformer.input_length * h.shingle_size) a.last_shingled_input.now)
+    (take h.shingle_size a.previous_timestamps.now) a.input.now a.timestamp in
     let e : length S ≡ n = learned_length h _ _ _ _ _ ∙ length-take-le n a.statistics.now q.head_in_bounds in
     let F = c.write_found-found.ensures in
     let U = c.update_shingles.ensures in
@@ -212,5 +188,5 @@ returns c =
     let G = (opened _ c.write_deviations.ensures
     (output_fits_lem (let a = c.args in let h = a.head in let q = c.requires in
     (q.bounded, (length-take-le _ _ (omega (arith, c.update_shingles.auto, q.head_in_bounds)), q.learnable.deviations_room)))))
-    ∙ ap (λ (u : List Float). over a.deviations-out.now (deviations (holding h u [] []))) (ap (take n) U.statistics_after ∙ front_over a.statistics.now S n e) in
+    ∙ ap (λ (u : List Float). over a.deviations_out.now (deviations (holding h u [] []))) (ap (take n) U.statistics_after ∙ front_over a.statistics.now S n e) in
     λ j. learn_parts 0 true (F.given_value j) (F.past_timestamp_value j) (K j) (W j) (U.statistics_after j) (U.last_shingled_input_after j) (U.last_shingled_point_after j) (U.previous_timestamps_after j) (G j) (F.past_out_after j) (F.expected_out_after j)

@@ -14,27 +14,22 @@ use Rattle.trcf_learn.proofs.post_process.post_process_waiting.Goals as goal
 
 pub overflow_mul-d : goal.overflow_mul-d
 overflow_mul-d c =
-    let c8 = c in
     five c.requires.bounded.d_few
 
 pub overflow_add-d : goal.overflow_add-d
 overflow_add-d c =
-    let c8 = c in
     five_more c.requires.bounded.d_few
 
 pub overflow_mul-d-2 : goal.overflow_mul-d-2
 overflow_mul-d-2 c =
-    let c8 = c in
     all_statistics c.requires.bounded.d_few
 
 pub slice_bounds-write_completing-end : goal.slice_bounds-write_completing-end
 slice_bounds-write_completing-end c =
-    let c8 = c in
     sym (length-take-le _ _ c.requires.head_in_bounds)
 
 pub write_completing-written-requires : goal.write_completing-written-requires
 write_completing-written-requires c =
-    let c8 = c in
     let a = c.args in
     let h = a.head in
     let q = c.requires in
@@ -51,12 +46,10 @@ with_counts-next-requires c = tt
 
 pub shape_of-initial_values : goal.shape_of-initial_values
 shape_of-initial_values c =
-    let c8 = c in
     c.hold.auto.1.0
 
 pub shape_of-initial_timestamps : goal.shape_of-initial_timestamps
 shape_of-initial_timestamps c =
-    let c8 = c in
     c.hold.auto.1.1.0
 
 pub shape_of-deviations_out : goal.shape_of-deviations_out
@@ -64,7 +57,6 @@ shape_of-deviations_out c = c.write_completing-written.auto.1.1.0
 
 pub returns : goal.returns
 returns c =
-    let c8 = c in
     let c16 = c in
     let a = c.args in
     let h = a.head in

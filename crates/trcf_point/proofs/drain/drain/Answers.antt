@@ -22,17 +22,15 @@ shape_of-previous_timestamps-then-row-ne0 c = refl
 
 pub returns-then-row-ne0 : goal.returns-then-row-ne0
 returns-then-row-ne0 c =
-    let c8 = c in
     let a = c.args in
-    drain_stays a.head (lent a.statistics.now a.last-shingled-input.now a.last-shingled-point.now a.previous-timestamps.now a.initial-values.now
-    a.initial-timestamps.now) c.drain_row-row.result c.drain_row-row.ensures.value c.if-row-ne0.true
+    drain_stays a.head (lent a.statistics.now a.last_shingled_input.now a.last_shingled_point.now a.previous_timestamps.now a.initial_values.now
+    a.initial_timestamps.now) c.drain_row-row.result c.drain_row-row.ensures.value c.if-row-ne0.true
 
 pub drain_due-next-requires : goal.drain_due-next-requires
 drain_due-next-requires c =
-    let c8 = c in
     let a = c.args in
-    let l = lent a.statistics.now a.last-shingled-input.now a.last-shingled-point.now a.previous-timestamps.now a.initial-values.now
-    a.initial-timestamps.now in
+    let l = lent a.statistics.now a.last_shingled_input.now a.last_shingled_point.now a.previous_timestamps.now a.initial_values.now
+    a.initial_timestamps.now in
     let o = c.drain_row-row in
     let z = c.if-row-ne0.false in
     record { ready = o.ensures.ready z; initial_timestamps_value = drain_room a.head l (sym o.ensures.value ∙ z) }
@@ -51,10 +49,9 @@ shape_of-previous_timestamps c = c.drain_due-next.auto.1.1.1.1.0
 
 pub returns : goal.returns
 returns c =
-    let c8 = c in
     let c16 = c in
     let c24 = c in
     let a = c.args in
-    drain_goes a.head (lent a.statistics.now a.last-shingled-input.now a.last-shingled-point.now a.previous-timestamps.now a.initial-values.now
-    a.initial-timestamps.now) c.drain_row-row.result c.drain_row-row.ensures.value
+    drain_goes a.head (lent a.statistics.now a.last_shingled_input.now a.last_shingled_point.now a.previous_timestamps.now a.initial_values.now
+    a.initial_timestamps.now) c.drain_row-row.result c.drain_row-row.ensures.value
     c.if-row-ne0.false _ c.drain_due-next.ensures.initial_timestamps_after

@@ -22,7 +22,6 @@ overflow_sub-n c =
 
 pub slice_bounds-copy_in-end : goal.slice_bounds-copy_in-end
 slice_bounds-copy_in-end c =
-    let c8 = c in
     let a = c.args in
     let d = a.head.transformer.input_length in
     let q = c.requires in
@@ -44,7 +43,6 @@ offset_bounds-times-k c = omega arith
 
 pub drain_each-requires : goal.drain_each-requires
 drain_each-requires c =
-    let c8 = c in
     let c16 = c in
     let a = c.args in
     let d = a.head.transformer.input_length in
@@ -68,7 +66,6 @@ shape_of-s c = c.drain_each.auto.1.0
 
 pub shape_of-inputs : goal.shape_of-inputs
 shape_of-inputs c =
-    let c8 = c in
     c.drain_each.auto.1.1.0 ∙ c.copy_in.auto.0
 
 pub shape_of-points : goal.shape_of-points
@@ -79,7 +76,6 @@ shape_of-times c = c.drain_each.auto.1.1.1.1.0 ∙ simp length-set
 
 pub returns : goal.returns
 returns c =
-    let c8 = c in
     let c16 = c in
     let c24 = c in
     let a = c.args in

@@ -24,7 +24,7 @@ unfolding due facts view
 returns-then-not-is_due c =
     let a = c.args in
     let h = a.head in
-    let l = lent a.statistics.now a.last-shingled-input.now a.last-shingled-point.now a.previous-timestamps.now a.initial-values.now a.initial-timestamps.now in
+    let l = lent a.statistics.now a.last_shingled_input.now a.last_shingled_point.now a.previous_timestamps.now a.initial_values.now a.initial_timestamps.now in
     let f = c.requires.ready.fitted in
     let r = f.roomy in
     let e : due (settings_of h) (facts (view h l)) ≡ false = sym c.is_due.ensures ∙ not-true _ c.if-not-is_due.true-raw in
@@ -35,60 +35,50 @@ get_dimension-m-requires c = tt
 
 pub overflow_mul-d : goal.overflow_mul-d
 overflow_mul-d c =
-    let c8 = c in
     five c.requires.ready.bounded.d_few
 
 pub overflow_add-d : goal.overflow_add-d
 overflow_add-d c =
-    let c8 = c in
     five_more c.requires.ready.bounded.d_few
 
 pub overflow_mul-d-2 : goal.overflow_mul-d-2
 overflow_mul-d-2 c =
-    let c8 = c in
     all_statistics c.requires.ready.bounded.d_few
 
 pub slice_bounds-drain_all-end : goal.slice_bounds-drain_all-end
 slice_bounds-drain_all-end c =
-    let c8 = c in
     c.requires.ready.fitted.roomy.in_statistics
 
 pub slice_bounds-drain_all-end-2 : goal.slice_bounds-drain_all-end-2
 slice_bounds-drain_all-end-2 c =
-    let c8 = c in
     sym (length-take-le _ _ c.requires.ready.fitted.roomy.in_statistics)
 
 pub overflow_mul-d-3 : goal.overflow_mul-d-3
 overflow_mul-d-3 c =
-    let c8 = c in
     let b = c.requires.ready.bounded in all_inputs b.d_few b.k_few
 
 pub slice_bounds-drain_all-end-3 : goal.slice_bounds-drain_all-end-3
 slice_bounds-drain_all-end-3 c =
-    let c8 = c in
     c.requires.ready.fitted.roomy.in_input
 
 pub slice_bounds-drain_all-end-4 : goal.slice_bounds-drain_all-end-4
 slice_bounds-drain_all-end-4 c =
-    let c8 = c in
     sym (length-take-le _ _ c.requires.ready.fitted.roomy.in_input)
 
 pub slice_bounds-drain_all-end-5 : goal.slice_bounds-drain_all-end-5
 slice_bounds-drain_all-end-5 c =
-    let c8 = c in
     let a = c.args in
     let h = a.head in
-    let l = lent a.statistics.now a.last-shingled-input.now a.last-shingled-point.now a.previous-timestamps.now a.initial-values.now a.initial-timestamps.now in
+    let l = lent a.statistics.now a.last_shingled_input.now a.last_shingled_point.now a.previous_timestamps.now a.initial_values.now a.initial_timestamps.now in
     let f = c.requires.ready.fitted in
     let r = f.roomy in
     omega (arith, r, (dimension_known c.get_dimension-m.ensures (search rules)))
 
 pub slice_bounds-drain_all-end-6 : goal.slice_bounds-drain_all-end-6
 slice_bounds-drain_all-end-6 c =
-    let c8 = c in
     let a = c.args in
     let h = a.head in
-    let l = lent a.statistics.now a.last-shingled-input.now a.last-shingled-point.now a.previous-timestamps.now a.initial-values.now a.initial-timestamps.now in
+    let l = lent a.statistics.now a.last_shingled_input.now a.last_shingled_point.now a.previous_timestamps.now a.initial_values.now a.initial_timestamps.now in
     let f = c.requires.ready.fitted in
     let r = f.roomy in
     let m = mul-le-mul f.in_room (le_refl h.transformer.input_length) in
@@ -104,20 +94,17 @@ slice_bounds-drain_all-end-6 c =
 
 pub slice_bounds-drain_all-end-7 : goal.slice_bounds-drain_all-end-7
 slice_bounds-drain_all-end-7 c =
-    let c8 = c in
     c.requires.ready.fitted.roomy.in_times
 
 pub slice_bounds-drain_all-end-8 : goal.slice_bounds-drain_all-end-8
 slice_bounds-drain_all-end-8 c =
-    let c8 = c in
     sym (length-take-le _ _ c.requires.ready.fitted.roomy.in_times)
 
 pub overflow_mul-n : goal.overflow_mul-n
 overflow_mul-n c =
-    let c8 = c in
     let a = c.args in
     let h = a.head in
-    let l = lent a.statistics.now a.last-shingled-input.now a.last-shingled-point.now a.previous-timestamps.now a.initial-values.now a.initial-timestamps.now in
+    let l = lent a.statistics.now a.last_shingled_input.now a.last_shingled_point.now a.previous_timestamps.now a.initial_values.now a.initial_timestamps.now in
     let f = c.requires.ready.fitted in
     let r = f.roomy in
     let m = mul-le-mul f.in_room (le_refl h.transformer.input_length) in
@@ -128,10 +115,9 @@ overflow_mul-n c =
 
 pub slice_bounds-drain_all-end-9 : goal.slice_bounds-drain_all-end-9
 slice_bounds-drain_all-end-9 c =
-    let c8 = c in
     let a = c.args in
     let h = a.head in
-    let l = lent a.statistics.now a.last-shingled-input.now a.last-shingled-point.now a.previous-timestamps.now a.initial-values.now a.initial-timestamps.now in
+    let l = lent a.statistics.now a.last_shingled_input.now a.last_shingled_point.now a.previous_timestamps.now a.initial_values.now a.initial_timestamps.now in
     let f = c.requires.ready.fitted in
     let r = f.roomy in
     let m = mul-le-mul f.in_room (le_refl h.transformer.input_length) in
@@ -141,11 +127,10 @@ slice_bounds-drain_all-end-9 c =
 
 pub slice_bounds-drain_all-end-10 : goal.slice_bounds-drain_all-end-10
 slice_bounds-drain_all-end-10 c =
-    let c8 = c in
     let c16 = c in
     let a = c.args in
     let h = a.head in
-    let l = lent a.statistics.now a.last-shingled-input.now a.last-shingled-point.now a.previous-timestamps.now a.initial-values.now a.initial-timestamps.now in
+    let l = lent a.statistics.now a.last_shingled_input.now a.last_shingled_point.now a.previous_timestamps.now a.initial_values.now a.initial_timestamps.now in
     let f = c.requires.ready.fitted in
     let r = f.roomy in
     let m = mul-le-mul f.in_room (le_refl h.transformer.input_length) in
@@ -155,19 +140,18 @@ slice_bounds-drain_all-end-10 c =
 pub drain_all-requires : goal.drain_all-requires
 unfolding due facts view
 drain_all-requires c =
-    let c8 = c in
     let c16 = c in
     let a = c.args in
     let h = a.head in
-    let l = lent a.statistics.now a.last-shingled-input.now a.last-shingled-point.now a.previous-timestamps.now a.initial-values.now a.initial-timestamps.now in
+    let l = lent a.statistics.now a.last_shingled_input.now a.last_shingled_point.now a.previous_timestamps.now a.initial_values.now a.initial_timestamps.now in
     let f = c.requires.ready.fitted in
     let r = f.roomy in
     let m = mul-le-mul f.in_room (le_refl h.transformer.input_length) in
     let b = mul-le-mul f.few c.requires.ready.bounded.d_few in
     let e : due (settings_of h) (facts (view h l)) ≡ true = sym c.is_due.ensures ∙ not-false _ c.if-not-is_due.false-raw in
     let u = count_room h l c.requires.initial_timestamps_value e in
-    let n = length-take-le h.initial_len a.initial-timestamps.now (omega (arith, f.in_room, r)) in
-    let v = length-take-le (h.initial_len * h.transformer.input_length) a.initial-values.now (omega (arith, m, r)) in record {
+    let n = length-take-le h.initial_len a.initial_timestamps.now (omega (arith, f.in_room, r)) in
+    let v = length-take-le (h.initial_len * h.transformer.input_length) a.initial_values.now (omega (arith, m, r)) in record {
       bounded = c.requires.ready.bounded;
       exact = record
           { all_statistics = length-take-le _ _ r.in_statistics; all_input = length-take-le _ _ r.in_input; all_times = length-take-le _ _ r.in_times };
@@ -181,12 +165,11 @@ drain_all-requires c =
 pub overflow_add-t : goal.overflow_add-t
 unfolding due facts view
 overflow_add-t c =
-    let c8 = c in
     let c16 = c in
     let c24 = c in
     let a = c.args in
     let h = a.head in
-    let l = lent a.statistics.now a.last-shingled-input.now a.last-shingled-point.now a.previous-timestamps.now a.initial-values.now a.initial-timestamps.now in
+    let l = lent a.statistics.now a.last_shingled_input.now a.last_shingled_point.now a.previous_timestamps.now a.initial_values.now a.initial_timestamps.now in
     let f = c.requires.ready.fitted in
     let r = f.roomy in
     let e : due (settings_of h) (facts (view h l)) ≡ true = sym c.is_due.ensures ∙ not-false _ c.if-not-is_due.false-raw in
@@ -197,12 +180,11 @@ overflow_add-t c =
 pub overflow_add-head : goal.overflow_add-head
 unfolding due facts view
 overflow_add-head c =
-    let c8 = c in
     let c16 = c in
     let c24 = c in
     let a = c.args in
     let h = a.head in
-    let l = lent a.statistics.now a.last-shingled-input.now a.last-shingled-point.now a.previous-timestamps.now a.initial-values.now a.initial-timestamps.now in
+    let l = lent a.statistics.now a.last_shingled_input.now a.last_shingled_point.now a.previous_timestamps.now a.initial_values.now a.initial_timestamps.now in
     let f = c.requires.ready.fitted in
     let r = f.roomy in
     let e : due (settings_of h) (facts (view h l)) ≡ true = sym c.is_due.ensures ∙ not-false _
@@ -217,26 +199,25 @@ with_counts-requires c = tt
 pub returns : goal.returns
 unfolding due facts view
 returns c =
-    let c8 = c in
     let c16 = c in
     let c24 = c in
     let a = c.args in
     let h = a.head in
-    let l = lent a.statistics.now a.last-shingled-input.now a.last-shingled-point.now a.previous-timestamps.now a.initial-values.now a.initial-timestamps.now in
+    let l = lent a.statistics.now a.last_shingled_input.now a.last_shingled_point.now a.previous_timestamps.now a.initial_values.now a.initial_timestamps.now in
     let f = c.requires.ready.fitted in
     let r = f.roomy in
     let e : due (settings_of h) (facts (view h l)) ≡ true = sym c.is_due.ensures ∙ not-false _
     c.if-not-is_due.false-raw in
-    let K = c.drain_all_lem.auto in rw c.with_counts.ensures (
-      drained_out_at h l f (omega (arith, due_some h l e, length-take-le h.initial_len a.initial-timestamps.now (omega (arith, f.in_room, r)))) e c.get_dimension-m.result
+    let K = c.drain_all.auto in rw c.with_counts.ensures (
+      drained_out_at h l f (omega (arith, due_some h l e, length-take-le h.initial_len a.initial_timestamps.now (omega (arith, f.in_room, r)))) e c.get_dimension-m.result
           (dimension_known c.get_dimension-m.ensures c.requires.ready.bounded).0 _ _ _ _ (K.1.0 ∙ length-take-le _ _ r.in_statistics)
           (K.1.1.0 ∙ length-take-le _ _ r.in_input)
           (K.1.1.1.0 ∙ length-take-le _ _ (omega (arith, (dimension_known c.get_dimension-m.ensures c.requires.ready.bounded), r.in_point)))
-          (K.1.1.1.1.0 ∙ length-take-le _ _ r.in_times) c.drain_all_lem.ensures,
+          (K.1.1.1.1.0 ∙ length-take-le _ _ r.in_times) c.drain_all.ensures,
       drained_view_at h l f
-          (omega (arith, due_some h l e, length-take-le h.initial_len a.initial-timestamps.now (omega (arith, f.in_room, r)))) e c.get_dimension-m.result
+          (omega (arith, due_some h l e, length-take-le h.initial_len a.initial_timestamps.now (omega (arith, f.in_room, r)))) e c.get_dimension-m.result
           (dimension_known c.get_dimension-m.ensures c.requires.ready.bounded).0 _ _ _ _ (K.1.0 ∙ length-take-le _ _ r.in_statistics)
           (K.1.1.0 ∙ length-take-le _ _ r.in_input)
           (K.1.1.1.0 ∙ length-take-le _ _ (omega (arith, (dimension_known c.get_dimension-m.ensures c.requires.ready.bounded), r.in_point)))
-          (K.1.1.1.1.0 ∙ length-take-le _ _ r.in_times) c.drain_all_lem.ensures,
+          (K.1.1.1.1.0 ∙ length-take-le _ _ r.in_times) c.drain_all.ensures,
     )

@@ -38,7 +38,6 @@ slice_bounds-feed_initial-end c = sym (length-take-le _ _ (omega arith))
 
 pub feed_initial-requires : goal.feed_initial-requires
 feed_initial-requires c =
-    let c8 = c in
     let q = c.requires in
     let L = c.loop-i in
     let e = slice-aggregate-feed-initial c in
@@ -46,7 +45,6 @@ feed_initial-requires c =
 
 pub drain_turn-requires : goal.drain_turn-requires
 drain_turn-requires c =
-    let c8 = c in
     let c16 = c in
     let q = c.requires in
     let L = c.loop-i in
@@ -58,7 +56,6 @@ loop-i-smaller c = omega arith
 -- k is how many of them the call is given; these must be all
 pub loop-i-preserved : goal.loop-i-preserved
 loop-i-preserved c =
-    let c8 = c in
     let c16 = c in
     let a = c.args in
     let d = a.head.transformer.input_length in

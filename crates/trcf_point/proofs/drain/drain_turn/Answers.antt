@@ -31,7 +31,6 @@ last_time-before-requires c = tt
 
 pub overflow_mul-i : goal.overflow_mul-i
 overflow_mul-i c =
-    let c8 = c in
     let at_pre = c.requires in
     let a = c.args in
     let d = a.head.transformer.input_length in
@@ -41,7 +40,6 @@ overflow_mul-i c =
 
 pub overflow_mul-i-2 : goal.overflow_mul-i-2
 overflow_mul-i-2 c =
-    let c8 = c in
     let at_pre = c.requires in
     let a = c.args in
     let d = a.head.transformer.input_length in
@@ -51,7 +49,6 @@ overflow_mul-i-2 c =
 
 pub overflow_add-i : goal.overflow_add-i
 overflow_add-i c =
-    let c8 = c in
     let at_pre = c.requires in
     let a = c.args in
     let d = a.head.transformer.input_length in
@@ -61,7 +58,6 @@ overflow_add-i c =
 
 pub offset_bounds-values-i : goal.offset_bounds-values-i
 offset_bounds-values-i c =
-    let c8 = c in
     let a = c.args in
     let d = a.head.transformer.input_length in
     let n = length a.stamps.now in
@@ -74,12 +70,10 @@ slice_bounds-write_transform-count c = omega arith
 
 pub slice_bounds-write_transform-start : goal.slice_bounds-write_transform-start
 slice_bounds-write_transform-start c =
-    let c8 = c in
     let a = c.args in block_start a.i a.head.transformer.input_length
 
 pub slice_bounds-write_transform-end : goal.slice_bounds-write_transform-end
 slice_bounds-write_transform-end c =
-    let c8 = c in
     let at_pre = c.requires in
     let a = c.args in
     let d = a.head.transformer.input_length in
@@ -92,7 +86,6 @@ write_transform-requires c = tt
 
 pub overflow_mul-i-3 : goal.overflow_mul-i-3
 overflow_mul-i-3 c =
-    let c8 = c in
     let c16 = c in
     let at_pre = c.requires in
     let a = c.args in
@@ -103,7 +96,6 @@ overflow_mul-i-3 c =
 
 pub overflow_mul-i-4 : goal.overflow_mul-i-4
 overflow_mul-i-4 c =
-    let c8 = c in
     let c16 = c in
     let at_pre = c.requires in
     let a = c.args in
@@ -114,7 +106,6 @@ overflow_mul-i-4 c =
 
 pub overflow_add-i-2 : goal.overflow_add-i-2
 overflow_add-i-2 c =
-    let c8 = c in
     let c16 = c in
     let at_pre = c.requires in
     let a = c.args in
@@ -125,7 +116,6 @@ overflow_add-i-2 c =
 
 pub offset_bounds-values-i-2 : goal.offset_bounds-values-i-2
 offset_bounds-values-i-2 c =
-    let c8 = c in
     let c16 = c in
     let at_pre = c.requires in
     let a = c.args in
@@ -139,14 +129,12 @@ slice_bounds-shift_vector-count c = omega arith
 
 pub slice_bounds-shift_vector-start : goal.slice_bounds-shift_vector-start
 slice_bounds-shift_vector-start c =
-    let c8 = c in
     let c16 = c in
     let a = c.args in
     block_start a.i a.head.transformer.input_length
 
 pub slice_bounds-shift_vector-end : goal.slice_bounds-shift_vector-end
 slice_bounds-shift_vector-end c =
-    let c8 = c in
     let c16 = c in
     let at_pre = c.requires in
     let a = c.args in
@@ -160,10 +148,9 @@ shift_vector-requires c = tt
 
 pub slice_bounds-shift_vector-end-2 : goal.slice_bounds-shift_vector-end-2
 slice_bounds-shift_vector-end-2 c =
-    let c8 = c in
     let c16 = c in
     let few = c.requires.bounded.d_few in
-    simp length-take (omega (arith, c.write_transform.auto, block_known c.block_of-b.ensures few))
+    simp length-take (omega (arith, c.write_transform.auto, block_known (c.block_of-b.ensures.value, c.block_of-b.ensures.upper_bound) few))
 
 pub shift_vector-requires-2 : goal.shift_vector-requires-2
 shift_vector-requires-2 c = tt
@@ -173,7 +160,6 @@ shift_time-requires c = tt
 
 pub shape_of-inputs : goal.shape_of-inputs
 shape_of-inputs c =
-    let c8 = c in
     c.shift_vector.auto.0
 
 pub shape_of-points : goal.shape_of-points
@@ -185,7 +171,6 @@ shape_of-times c = c.shift_time.auto.0
 pub returns : goal.returns
 unfolding previous
 returns c =
-    let c8 = c in
     let c16 = c in
     let c24 = c in
     let a = c.args in
@@ -193,7 +178,7 @@ returns c =
     let s = settings_of a.head in
     let d = a.head.transformer.input_length in
     let n = length a.stamps.now in
-    let w = block_known c.block_of-b.ensures q.bounded.d_few in
+    let w = block_known (c.block_of-b.ensures.value, c.block_of-b.ensures.upper_bound) q.bounded.d_few in
     let e = w.0 ∙ sym (block_is s) in
     let t = c.write_transform in
     let l = c.last_time-before in

@@ -23,7 +23,6 @@ loop-fed-smaller c = omega arith
 
 pub loop-fed-preserved : goal.loop-fed-preserved
 loop-fed-preserved c =
-    let c8 = c in
     let a = c.args in
     let d = a.head.transformer.input_length in
     let v = a.values.now in

@@ -143,7 +143,6 @@ shape_of-s c = c.feed_reading.auto.1.1.0
 
 pub returns : goal.returns
 returns c =
-    let c8 = c in
     let a = c.args in
     let d = a.head.transformer.input_length in
     let n = length a.stamps.now in

@@ -10,7 +10,6 @@ use Rattle.trcf_point.proofs.point.copy_shifted.Goals as goal
 
 pub returns : goal.returns
 returns c =
-    let c8 = c in
     let a = c.args in
     let h = c.requires in
     let m = length a.point.now - length a.z.now in

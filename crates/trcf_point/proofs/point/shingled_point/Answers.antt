@@ -46,9 +46,8 @@ shape_of-output-then-row-ne0 c = refl
 
 pub returns-then-row-ne0 : goal.returns-then-row-ne0
 returns-then-row-ne0 c =
-    let c8 = c in
     let a = c.args in
-    let l = lent a.statistics.now a.last-shingled-input.now a.last-shingled-point.now a.previous-timestamps.now a.initial-values.now a.initial-timestamps.now in
+    let l = lent a.statistics.now a.last_shingled_input.now a.last_shingled_point.now a.previous_timestamps.now a.initial_values.now a.initial_timestamps.now in
     point_stays a.head l a.input.now a.timestamp a.output.now c.shingled_point_row-row.result c.shingled_point_row-row.ensures.value c.if-row-ne0.true
 
 pub is_waiting-requires : goal.is_waiting-requires
@@ -71,10 +70,9 @@ shape_of-output-then-is_waiting c = refl
 
 pub returns-then-is_waiting : goal.returns-then-is_waiting
 returns-then-is_waiting c =
-    let c8 = c in
     let c16 = c in
     let a = c.args in
-    let l = lent a.statistics.now a.last-shingled-input.now a.last-shingled-point.now a.previous-timestamps.now a.initial-values.now a.initial-timestamps.now in
+    let l = lent a.statistics.now a.last_shingled_input.now a.last_shingled_point.now a.previous_timestamps.now a.initial_values.now a.initial_timestamps.now in
     let o = c.shingled_point_row-row in
     let z = c.if-row-ne0.false in
     point_holds a.head l a.input.now a.timestamp a.output.now o.result o.ensures.value z c.is_waiting.result c.is_waiting.ensures
@@ -82,11 +80,10 @@ returns-then-is_waiting c =
 
 pub drain_due-next-requires : goal.drain_due-next-requires
 drain_due-next-requires c =
-    let c8 = c in
     let c16 = c in
     let a = c.args in
     let h = a.head in
-    let l = lent a.statistics.now a.last-shingled-input.now a.last-shingled-point.now a.previous-timestamps.now a.initial-values.now a.initial-timestamps.now in
+    let l = lent a.statistics.now a.last_shingled_input.now a.last_shingled_point.now a.previous_timestamps.now a.initial_values.now a.initial_timestamps.now in
     let o = c.shingled_point_row-row in
     let z = c.if-row-ne0.false in
     let q = pointing h l a.input.now a.timestamp a.output.now (sym o.ensures.value ∙ z) in record { ready = o.ensures.ready z; initial_timestamps_value = past_room h l (length a.output.now) q.past (sym c.is_waiting.ensures ∙ c.if-is_waiting.false) }
@@ -96,12 +93,11 @@ time_base-base-requires c = tt
 
 pub write_point-requires : goal.write_point-requires
 write_point-requires c =
-    let c8 = c in
     let c16 = c in
     let c24 = c in
     let c32 = c in
     let a = c.args in
-    let l = lent a.statistics.now a.last-shingled-input.now a.last-shingled-point.now a.previous-timestamps.now a.initial-values.now a.initial-timestamps.now in
+    let l = lent a.statistics.now a.last_shingled_input.now a.last_shingled_point.now a.previous_timestamps.now a.initial_values.now a.initial_timestamps.now in
     let o = c.shingled_point_row-row in
     let z = c.if-row-ne0.false in
     let d = c.drain_due-next in
@@ -114,25 +110,21 @@ write_point-requires c =
 
 pub shape_of-statistics : goal.shape_of-statistics
 shape_of-statistics c =
-    let c8 = c in
     let c16 = c in
     c.drain_due-next.auto.1.0
 
 pub shape_of-last_shingled_input : goal.shape_of-last_shingled_input
 shape_of-last_shingled_input c =
-    let c8 = c in
     let c16 = c in
     c.drain_due-next.auto.1.1.0
 
 pub shape_of-last_shingled_point : goal.shape_of-last_shingled_point
 shape_of-last_shingled_point c =
-    let c8 = c in
     let c16 = c in
     c.drain_due-next.auto.1.1.1.0
 
 pub shape_of-previous_timestamps : goal.shape_of-previous_timestamps
 shape_of-previous_timestamps c =
-    let c8 = c in
     let c16 = c in
     c.drain_due-next.auto.1.1.1.1.0
 
@@ -141,13 +133,12 @@ shape_of-output c = c.write_point.auto.1.1.1.1.1.1.1.0
 
 pub returns : goal.returns
 returns c =
-    let c8 = c in
     let c16 = c in
     let c24 = c in
     let c32 = c in
     let at-is-waiting = c.is_waiting in
     let a = c.args in
-    let l = lent a.statistics.now a.last-shingled-input.now a.last-shingled-point.now a.previous-timestamps.now a.initial-values.now a.initial-timestamps.now in
+    let l = lent a.statistics.now a.last_shingled_input.now a.last_shingled_point.now a.previous_timestamps.now a.initial_values.now a.initial_timestamps.now in
     let o = c.shingled_point_row-row in
     let d = c.drain_due-next in
     point_goes a.head l a.input.now a.timestamp a.output.now o.result o.ensures.value c.if-row-ne0.false at-is-waiting.result at-is-waiting.ensures

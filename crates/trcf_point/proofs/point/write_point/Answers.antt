@@ -33,17 +33,14 @@ overflow_mul-d-2 c = all_statistics c.requires.bounded.d_few
 
 pub slice_bounds-write_transform-end : goal.slice_bounds-write_transform-end
 slice_bounds-write_transform-end c =
-    let c8 = c in
     sym (length-take-le _ _ c.requires.head_in_bounds)
 
 pub overflow_mul-d-3 : goal.overflow_mul-d-3
 overflow_mul-d-3 c =
-    let c8 = c in
     let b = c.requires.bounded in all_inputs b.d_few b.k_few
 
 pub slice_bounds-write_transform-end-2 : goal.slice_bounds-write_transform-end-2
 slice_bounds-write_transform-end-2 c =
-    let c8 = c in
     sym (length-take-le _ _ c.requires.shingle_size_in_bounds)
 
 pub write_transform-requires : goal.write_transform-requires
@@ -51,29 +48,25 @@ write_transform-requires c = tt
 
 pub slice_bounds-copy_shifted-end : goal.slice_bounds-copy_shifted-end
 slice_bounds-copy_shifted-end c =
-    let c8 = c in
     let q = c.requires in
     simp length-take (omega (arith, q, (dimension_known c.get_dimension-m.ensures (search rules))))
 
 pub slice_bounds-copy_shifted-end-2 : goal.slice_bounds-copy_shifted-end-2
 slice_bounds-copy_shifted-end-2 c =
-    let c8 = c in
-    simp length-take (omega (arith, (block_known c.block_of-b.ensures (search rules)), c.write_transform.auto))
+    simp length-take (omega (arith, (block_known (c.block_of-b.ensures.value, c.block_of-b.ensures.upper_bound) (search rules)), c.write_transform.auto))
 
 pub copy_shifted-requires : goal.copy_shifted-requires
 copy_shifted-requires c =
-    let c8 = c in
     let c16 = c in
     let q = c.requires in
     let s = settings_of c.args.head in
     let n = dimension_known c.get_dimension-m.ensures (search rules) in
-    let w = block_known c.block_of-b.ensures (search rules) in
+    let w = block_known (c.block_of-b.ensures.value, c.block_of-b.ensures.upper_bound) (search rules) in
     let m = block_fits s q.bounded.k_pos in
     (simp length-take (omega (arith, q, w, block_is s, n, m, c.write_transform.auto)), simp length-take (omega (arith, q, n)))
 
 pub returns : goal.returns
 returns c =
-    let c8 = c in
     let c16 = c in
     let start = c in
     let a = c.args in
@@ -84,16 +77,16 @@ returns c =
     let s = settings_of a.head in
     let d = a.head.transformer.input_length in
     let n = dimension_known o.ensures (search rules) in
-    let w = block_known b.ensures (search rules) in
+    let w = block_known (b.ensures.value, b.ensures.upper_bound) (search rules) in
     let e = w.0 ∙ sym (block_is s) in
     let v =
     transformed_after s (take (statistics_length s) a.statistics.now) a.head.values_seen
-    (reading (last_n d (take (d * a.head.shingle_size) a.last-shingled-input.now)) a.base) (reading a.input.now a.timestamp) in
+    (reading (last_n d (take (d * a.head.shingle_size) a.last_shingled_input.now)) a.base) (reading a.input.now a.timestamp) in
     let behind =
     ap (take b.result)
     (opened _ t.ensures
     (transform_fits_lem (q.bounded, (length-take-le _ _ q.head_in_bounds, (length-take-le _ _ q.shingle_size_in_bounds, (q.input_len, omega (arith, w, block_is s)))))))
     ∙ front_over _ v b.result (transformed_after_length _ _ _ _ _ ∙ sym e) in
     c.copy_shifted.ensures
-    ∙ ap (λ (z : List Float). over a.output.now (shift_in (take o.result a.last-shingled-point.now) z)) behind
-    ∙ ap (λ (k : ℕ). over a.output.now (shift_in (take k a.last-shingled-point.now) v)) n.0
+    ∙ ap (λ (z : List Float). over a.output.now (shift_in (take o.result a.last_shingled_point.now) z)) behind
+    ∙ ap (λ (k : ℕ). over a.output.now (shift_in (take k a.last_shingled_point.now) v)) n.0

@@ -21,7 +21,7 @@ unfolding learn_row block
 returns-then-is_wrong c =
     rw (
       ← (dimension_known c.get_dimension-m.ensures (search rules)).0,
-      ← (block_known c.block_of-b.ensures (search rules)).0,
+      ← (block_known (c.block_of-b.ensures.value, c.block_of-b.ensures.upper_bound) (search rules)).0,
       sym
           c.is_wrong.ensures ∙ c.if-is_wrong.true,
     )
@@ -35,7 +35,7 @@ returns-then-is_wrong-2 c =
     rw (
       ← (dimension_known c.get_dimension-m.ensures (search rules)).0,
       ←
-          (block_known c.block_of-b.ensures (search rules)).0,
+          (block_known (c.block_of-b.ensures.value, c.block_of-b.ensures.upper_bound) (search rules)).0,
       sym c.is_wrong.ensures ∙ c.if-is_wrong.false,
       sym
           c.is_wrong-2.ensures ∙ c.if-is_wrong-2.true,
@@ -47,12 +47,12 @@ returns-then-not-has_y c =
     rw (
       ← (dimension_known c.get_dimension-m.ensures (search rules)).0,
       ←
-          (block_known c.block_of-b.ensures (search rules)).0,
+          (block_known (c.block_of-b.ensures.value, c.block_of-b.ensures.upper_bound) (search rules)).0,
       sym c.is_wrong.ensures ∙
           c.if-is_wrong.false,
       sym c.is_wrong-2.ensures ∙ c.if-is_wrong-2.false,
       not-true
-          c.args.has-y c.if-not-has_y.true-raw,
+          c.args.has_y c.if-not-has_y.true-raw,
     )
 
 pub is_misplaced-requires : goal.is_misplaced-requires
@@ -61,16 +61,15 @@ is_misplaced-requires c = tt
 pub returns-then-is_misplaced : goal.returns-then-is_misplaced
 unfolding learn_row block
 returns-then-is_misplaced c =
-    let c8 = c in
     rw (
       ← (dimension_known c.get_dimension-m.ensures (search rules)).0,
       ←
-          (block_known c.block_of-b.ensures (search rules)).0,
+          (block_known (c.block_of-b.ensures.value, c.block_of-b.ensures.upper_bound) (search rules)).0,
       sym
           c.is_wrong.ensures ∙ c.if-is_wrong.false,
       sym
           c.is_wrong-2.ensures ∙ c.if-is_wrong-2.false,
-      not-false c.args.has-y c.if-not-has_y.false-raw,
+      not-false c.args.has_y c.if-not-has_y.false-raw,
       sym
           c.is_misplaced.ensures ∙ c.if-is_misplaced.true,
     )
@@ -78,16 +77,15 @@ returns-then-is_misplaced c =
 pub returns-then-is_full : goal.returns-then-is_full
 unfolding learn_row block
 returns-then-is_full c =
-    let c8 = c in
     rw (
       ← (dimension_known c.get_dimension-m.ensures (search rules)).0,
-      ← (block_known c.block_of-b.ensures (search rules)).0,
+      ← (block_known (c.block_of-b.ensures.value, c.block_of-b.ensures.upper_bound) (search rules)).0,
       sym
           c.is_wrong.ensures ∙ c.if-is_wrong.false,
       sym
           c.is_wrong-2.ensures ∙ c.if-is_wrong-2.false,
       not-false
-          c.args.has-y c.if-not-has_y.false-raw,
+          c.args.has_y c.if-not-has_y.false-raw,
       sym c.is_misplaced.ensures ∙ c.if-is_misplaced.false,
       sym c.is_full.ensures ∙ c.if-is_full.true,
     )
@@ -95,16 +93,15 @@ returns-then-is_full c =
 pub returns-then-deviations_out-b : goal.returns-then-deviations_out-b
 unfolding learn_row block
 returns-then-deviations_out-b c =
-    let c8 = c in
     rw (
       ← (dimension_known c.get_dimension-m.ensures (search rules)).0,
-      ← (block_known c.block_of-b.ensures (search rules)).0,
+      ← (block_known (c.block_of-b.ensures.value, c.block_of-b.ensures.upper_bound) (search rules)).0,
       sym
           c.is_wrong.ensures ∙ c.if-is_wrong.false,
       sym
           c.is_wrong-2.ensures ∙ c.if-is_wrong-2.false,
       not-false
-          c.args.has-y c.if-not-has_y.false-raw,
+          c.args.has_y c.if-not-has_y.false-raw,
       sym c.is_misplaced.ensures ∙
           c.if-is_misplaced.false,
       sym c.is_full.ensures ∙ c.if-is_full.false,
@@ -117,16 +114,15 @@ is_anomaly_short-requires c = tt
 pub returns-then-is_anomaly_short : goal.returns-then-is_anomaly_short
 unfolding learn_row block
 returns-then-is_anomaly_short c =
-    let c8 = c in
     rw (
       ← (dimension_known c.get_dimension-m.ensures (search rules)).0,
       ←
-          (block_known c.block_of-b.ensures (search rules)).0,
+          (block_known (c.block_of-b.ensures.value, c.block_of-b.ensures.upper_bound) (search rules)).0,
       sym c.is_wrong.ensures ∙ c.if-is_wrong.false,
       sym
           c.is_wrong-2.ensures ∙ c.if-is_wrong-2.false,
       not-false
-          c.args.has-y c.if-not-has_y.false-raw,
+          c.args.has_y c.if-not-has_y.false-raw,
       sym
           c.is_misplaced.ensures ∙ c.if-is_misplaced.false,
       sym
@@ -139,16 +135,15 @@ returns-then-is_anomaly_short c =
 pub returns : goal.returns
 unfolding learn_row block
 returns c =
-    let c8 = c in
     rw (
       ← (dimension_known c.get_dimension-m.ensures (search rules)).0,
       ←
-          (block_known c.block_of-b.ensures (search rules)).0,
+          (block_known (c.block_of-b.ensures.value, c.block_of-b.ensures.upper_bound) (search rules)).0,
       sym c.is_wrong.ensures ∙ c.if-is_wrong.false,
       sym
           c.is_wrong-2.ensures ∙ c.if-is_wrong-2.false,
       not-false
-          c.args.has-y c.if-not-has_y.false-raw,
+          c.args.has_y c.if-not-has_y.false-raw,
       sym
           c.is_misplaced.ensures ∙ c.if-is_misplaced.false,
       sym

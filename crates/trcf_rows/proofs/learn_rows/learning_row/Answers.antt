@@ -12,4 +12,4 @@ returns-then-is_waiting c = rw (sym c.is_waiting.ensures ∙ c.if-is_waiting.tru
 
 pub returns : goal.returns
 unfolding learning_row
-returns c = rw (sym c.is_waiting.ensures ∙ c.if-is_waiting.false) c.learn_row_lem.ensures
+returns c = rw (sym c.is_waiting.ensures ∙ c.if-is_waiting.false) c.learn_row.ensures

@@ -35,16 +35,16 @@ back_small (negsuc n) h = omega arith
 
 module _ (c : Else-relative_index-gt0) where
   abbrev index : ℤ
-  index = c.args.relative-index
+  index = c.args.relative_index
 
   plain : to_z w32 (of_z w32 index) ≡ index
-  plain = to_z-of_z w32 index c.ranges.relative-index
+  plain = to_z-of_z w32 index c.ranges.relative_index
 
   not_ahead : lt_z (pos 0) index ≡ false
   not_ahead = ap (lt_z (pos 0)) (sym plain) ∙ c.if-relative_index-gt0.false
 
   small : mag index < 2 ^ 31
-  small = c.ranges.relative-index.sfits
+  small = c.ranges.relative_index.sfits
 
   widened : SFits w64 (to_z w32 (of_z w32 index))
   widened = subst (SFits w64) (sym plain) (record { sfits = omega (arith, small) })
@@ -62,8 +62,8 @@ module _ (c : Else-relative_index-gt0) where
 
 pub returns-then-relative_index-gt0 : goal.returns-then-relative_index-gt0
 returns-then-relative_index-gt0 c =
-    let i = c.args.relative-index in
-    ahead_is i (ap (lt_z (pos 0)) (sym (to_z-of_z w32 i c.ranges.relative-index)) ∙ c.if-relative_index-gt0.true)
+    let i = c.args.relative_index in
+    ahead_is i (ap (lt_z (pos 0)) (sym (to_z-of_z w32 i c.ranges.relative_index)) ∙ c.if-relative_index-gt0.true)
 
 pub overflow_cast-wide : goal.overflow_cast-wide
 overflow_cast-wide c = widened (goal.at.overflow_cast-wide c).Else-relative_index-gt0

@@ -17,16 +17,16 @@ head_row-row-requires c = tt
 
 pub returns-then-row-ne0 : goal.returns-then-row-ne0
 returns-then-row-ne0 c =
-    let c8 = c in
     let a = c.args in
     let h = a.head in
-    let l = lent a.statistics.now a.last-shingled-input.now a.last-shingled-point.now a.previous-timestamps.now a.initial-values.now
-    a.initial-timestamps.now in
+    let l = lent a.statistics.now a.last_shingled_input.now a.last_shingled_point.now a.previous_timestamps.now a.initial_values.now
+    a.initial_timestamps.now in
     let p =
-    post_process (learn_call a.input.now a.timestamp a.has-y a.y.now a.expects a.expected.now a.grade a.relative-index
-    a.deviations-out.now a.past-out.now a.expected-out.now) in
+    post_process (learn_call a.input.now a.timestamp a.has_y a.y.now a.expects a.expected.now a.grade a.relative_index
+    a.deviations_out.now a.past_out.now a.expected_out.now) in
     let o = c.head_row-row in
-    row_ready h l p o.result (row_head h l p o.result o.ensures.value c.if-row-ne0.true)
+    let ready = row_ready h l p o.result (row_head h l p o.result o.ensures.value c.if-row-ne0.true) in
+    record { value = ready.0; ready = ready.1 }
 
 pub all_finite-finite-requires : goal.all_finite-finite-requires
 all_finite-finite-requires c = tt
@@ -39,20 +39,19 @@ input_row-row-requires c = tt
 
 pub returns-then-row-ne0-2 : goal.returns-then-row-ne0-2
 returns-then-row-ne0-2 c =
-    let c8 = c in
     let c16 = c in
     let a = c.args in
     let h = a.head in
-    let l = lent a.statistics.now a.last-shingled-input.now a.last-shingled-point.now a.previous-timestamps.now a.initial-values.now
-    a.initial-timestamps.now in
+    let l = lent a.statistics.now a.last_shingled_input.now a.last_shingled_point.now a.previous_timestamps.now a.initial_values.now
+    a.initial_timestamps.now in
     let p =
-    post_process (learn_call a.input.now a.timestamp a.has-y a.y.now a.expects a.expected.now a.grade a.relative-index
-    a.deviations-out.now a.past-out.now a.expected-out.now) in
+    post_process (learn_call a.input.now a.timestamp a.has_y a.y.now a.expects a.expected.now a.grade a.relative_index
+    a.deviations_out.now a.past_out.now a.expected_out.now) in
     let o = c.head_row-row in
     let z = c.if-row-ne0.false in
     let b = o.ensures.bounded z in
-    let v = post_rows h l a.input.now a.timestamp a.has-y a.y.now a.expects a.expected.now a.grade a.relative-index
-    a.deviations-out.now a.past-out.now a.expected-out.now b.k_pos b.k_few in
+    let v = post_rows h l a.input.now a.timestamp a.has_y a.y.now a.expects a.expected.now a.grade a.relative_index
+    a.deviations_out.now a.past_out.now a.expected_out.now b.k_pos b.k_few in
     let x = a.input.now in
     let f = c.all_finite-finite.ensures in
     let n = c.newest_of-newest.ensures in
@@ -61,7 +60,8 @@ returns-then-row-ne0-2 c =
     w.ensures ∙ (λ j. input_row h (length x) (f j) (n j) a.timestamp) in
     let r = c.input_row-row.result in
     let q : r ≡ rows (settings_of h) (facts (view h l)) p = rw (← v, ← i) (or_else_not r _ c.if-row-ne0-2.true) in
-    row_ready h l p r (row_call h l p r (sym o.ensures.value ∙ z) q c.if-row-ne0-2.true)
+    let ready = row_ready h l p r (row_call h l p r (sym o.ensures.value ∙ z) q c.if-row-ne0-2.true) in
+    record { value = ready.0; ready = ready.1 }
 
 pub places_back-back-requires : goal.places_back-back-requires
 places_back-back-requires c = tt
@@ -71,20 +71,19 @@ learning_row-row-requires c = c.head_row-row.ensures.bounded c.if-row-ne0.false
 
 pub returns-then-row-ne0-3 : goal.returns-then-row-ne0-3
 returns-then-row-ne0-3 c =
-    let c8 = c in
     let c16 = c in
     let a = c.args in
     let h = a.head in
-    let l = lent a.statistics.now a.last-shingled-input.now a.last-shingled-point.now a.previous-timestamps.now a.initial-values.now
-    a.initial-timestamps.now in
+    let l = lent a.statistics.now a.last_shingled_input.now a.last_shingled_point.now a.previous_timestamps.now a.initial_values.now
+    a.initial_timestamps.now in
     let p =
-    post_process (learn_call a.input.now a.timestamp a.has-y a.y.now a.expects a.expected.now a.grade a.relative-index
-    a.deviations-out.now a.past-out.now a.expected-out.now) in
+    post_process (learn_call a.input.now a.timestamp a.has_y a.y.now a.expects a.expected.now a.grade a.relative_index
+    a.deviations_out.now a.past_out.now a.expected_out.now) in
     let o = c.head_row-row in
     let z = c.if-row-ne0.false in
     let b = o.ensures.bounded z in
-    let v = post_rows h l a.input.now a.timestamp a.has-y a.y.now a.expects a.expected.now a.grade a.relative-index
-    a.deviations-out.now a.past-out.now a.expected-out.now b.k_pos b.k_few in
+    let v = post_rows h l a.input.now a.timestamp a.has_y a.y.now a.expects a.expected.now a.grade a.relative_index
+    a.deviations_out.now a.past_out.now a.expected_out.now b.k_pos b.k_few in
     let x = a.input.now in
     let f = c.all_finite-finite.ensures in
     let n = c.newest_of-newest.ensures in
@@ -92,36 +91,36 @@ returns-then-row-ne0-3 c =
     let i : w.result ≡ input_row h (length x) (finite x) (newest_of h l.previous_timestamps l.initial_timestamps) a.timestamp =
     w.ensures ∙ (λ j. input_row h (length x) (f j) (n j) a.timestamp) in
     let k = c.places_back-back in
-    let m : k.result ≡ back_of a.relative-index = k.ensures ∙ ap back_of (to_z-of_z w32 a.relative-index c.ranges.relative-index) in
+    let m : k.result ≡ back_of a.relative_index = k.ensures ∙ ap back_of (to_z-of_z w32 a.relative_index c.ranges.relative_index) in
     let u = c.learning_row-row in
-    let g : u.result ≡ learning_row h (length a.y.now) a.has-y (length a.expected.now) a.expects a.grade (back_of a.relative-index)
-    (length a.deviations-out.now) (length a.past-out.now) (length a.expected-out.now) =
+    let g : u.result ≡ learning_row h (length a.y.now) a.has_y (length a.expected.now) a.expects a.grade (back_of a.relative_index)
+    (length a.deviations_out.now) (length a.past_out.now) (length a.expected_out.now) =
     u.ensures
-    ∙ (λ j. learning_row h (length a.y.now) a.has-y (length a.expected.now) a.expects a.grade (m j)
-    (length a.deviations-out.now) (length a.past-out.now) (length a.expected-out.now)) in
+    ∙ (λ j. learning_row h (length a.y.now) a.has_y (length a.expected.now) a.expects a.grade (m j)
+    (length a.deviations_out.now) (length a.past_out.now) (length a.expected_out.now)) in
     let r = c.learning_row-row.result in
     let q : r ≡ rows (settings_of h) (facts (view h l)) p = rw (← v, sym i ∙ c.if-row-ne0-2.false) g in
-    row_ready h l p r (row_call h l p r (sym o.ensures.value ∙ z) q c.if-row-ne0-3.true)
+    let ready = row_ready h l p r (row_call h l p r (sym o.ensures.value ∙ z) q c.if-row-ne0-3.true) in
+    record { value = ready.0; ready = ready.1 }
 
 pub lent_row-requires : goal.lent_row-requires
 lent_row-requires c = c.head_row-row.ensures.bounded c.if-row-ne0.false
 
 pub returns : goal.returns
 returns c =
-    let c8 = c in
     let c16 = c in
     let a = c.args in
     let h = a.head in
-    let l = lent a.statistics.now a.last-shingled-input.now a.last-shingled-point.now a.previous-timestamps.now a.initial-values.now
-    a.initial-timestamps.now in
+    let l = lent a.statistics.now a.last_shingled_input.now a.last_shingled_point.now a.previous_timestamps.now a.initial_values.now
+    a.initial_timestamps.now in
     let p =
-    post_process (learn_call a.input.now a.timestamp a.has-y a.y.now a.expects a.expected.now a.grade a.relative-index
-    a.deviations-out.now a.past-out.now a.expected-out.now) in
+    post_process (learn_call a.input.now a.timestamp a.has_y a.y.now a.expects a.expected.now a.grade a.relative_index
+    a.deviations_out.now a.past_out.now a.expected_out.now) in
     let o = c.head_row-row in
     let z = c.if-row-ne0.false in
     let b = o.ensures.bounded z in
-    let v = post_rows h l a.input.now a.timestamp a.has-y a.y.now a.expects a.expected.now a.grade a.relative-index
-    a.deviations-out.now a.past-out.now a.expected-out.now b.k_pos b.k_few in
+    let v = post_rows h l a.input.now a.timestamp a.has_y a.y.now a.expects a.expected.now a.grade a.relative_index
+    a.deviations_out.now a.past_out.now a.expected_out.now b.k_pos b.k_few in
     let x = a.input.now in
     let f = c.all_finite-finite.ensures in
     let n = c.newest_of-newest.ensures in
@@ -129,13 +128,14 @@ returns c =
     let i : w.result ≡ input_row h (length x) (finite x) (newest_of h l.previous_timestamps l.initial_timestamps) a.timestamp =
     w.ensures ∙ (λ j. input_row h (length x) (f j) (n j) a.timestamp) in
     let k = c.places_back-back in
-    let m : k.result ≡ back_of a.relative-index = k.ensures ∙ ap back_of (to_z-of_z w32 a.relative-index c.ranges.relative-index) in
+    let m : k.result ≡ back_of a.relative_index = k.ensures ∙ ap back_of (to_z-of_z w32 a.relative_index c.ranges.relative_index) in
     let u = c.learning_row-row in
-    let g : u.result ≡ learning_row h (length a.y.now) a.has-y (length a.expected.now) a.expects a.grade (back_of a.relative-index)
-    (length a.deviations-out.now) (length a.past-out.now) (length a.expected-out.now) =
+    let g : u.result ≡ learning_row h (length a.y.now) a.has_y (length a.expected.now) a.expects a.grade (back_of a.relative_index)
+    (length a.deviations_out.now) (length a.past_out.now) (length a.expected_out.now) =
     u.ensures
-    ∙ (λ j. learning_row h (length a.y.now) a.has-y (length a.expected.now) a.expects a.grade (m j)
-    (length a.deviations-out.now) (length a.past-out.now) (length a.expected-out.now)) in
+    ∙ (λ j. learning_row h (length a.y.now) a.has_y (length a.expected.now) a.expects a.grade (m j)
+    (length a.deviations_out.now) (length a.past_out.now) (length a.expected_out.now)) in
     let r = c.lent_row.result in
     let q : rows (settings_of h) (facts (view h l)) p ≡ 0 = rw (← v, sym i ∙ c.if-row-ne0-2.false) (sym g ∙ c.if-row-ne0-3.false) in
-    row_ready h l p r (row_lent h l p r (sym o.ensures.value ∙ z) q c.lent_row.ensures)
+    let ready = row_ready h l p r (row_lent h l p r (sym o.ensures.value ∙ z) q c.lent_row.ensures) in
+    record { value = ready.0; ready = ready.1 }

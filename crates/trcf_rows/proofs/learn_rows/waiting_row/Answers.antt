@@ -32,7 +32,7 @@ returns-then-deviations_out-b c =
       lt-leb _ _ c.if-seen-ge-SEEN_LIMIT.false,
       eq-eqb (suc a.values_seen) a.start_normalization (omega arith),
       ←
-          (block_known c.block_of-b.ensures (search rules)).0,
+          (block_known (c.block_of-b.ensures.value, c.block_of-b.ensures.upper_bound) (search rules)).0,
       lt-ltb _ _ c.if-deviations_out-b.true,
     )
 
@@ -44,6 +44,6 @@ returns c =
       lt-leb _ _ c.if-seen-ge-SEEN_LIMIT.false,
       eq-eqb (suc a.values_seen) a.start_normalization (omega arith),
       ←
-          (block_known c.block_of-b.ensures (search rules)).0,
+          (block_known (c.block_of-b.ensures.value, c.block_of-b.ensures.upper_bound) (search rules)).0,
       le-ltb _ _ c.if-deviations_out-b.false,
     )

@@ -16,11 +16,10 @@ lent_row-requires c = c.head_row-row.ensures.bounded c.if-row-ne0.false
 
 pub returns : goal.returns
 returns c =
-    let c8 = c in
     let o = c.head_row-row in
     let z = c.if-row-ne0.false in
     let a = c.args in
     let h = a.head in
-    let l = lent a.statistics.now a.last-shingled-input.now a.last-shingled-point.now a.previous-timestamps.now a.initial-values.now a.initial-timestamps.now in
+    let l = lent a.statistics.now a.last_shingled_input.now a.last_shingled_point.now a.previous_timestamps.now a.initial_values.now a.initial_timestamps.now in
     let e = c.lent_row.ensures ∙ lengths_row_lem h l in
     record { value = rw (sym o.ensures.value ∙ z) e; ready = λ k. record { bounded = o.ensures.bounded z; fitted = fitted_of h l (sym e ∙ k) } }

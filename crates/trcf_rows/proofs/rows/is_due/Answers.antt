@@ -10,7 +10,7 @@ is_any-requires c = tt
 pub returns-then-seen-start : goal.returns-then-seen-start
 returns-then-seen-start c =
     let a = c.args in
-    rw (eq-eqb _ _ c.if-seen-start.true) (c.is_any.ensures ∙ any_of_lem a.head.initial_len a.initial-timestamps.now)
+    rw (eq-eqb _ _ c.if-seen-start.true) (c.is_any.ensures ∙ any_of_lem a.head.initial_len a.initial_timestamps.now)
 
 pub returns : goal.returns
 returns c = rw (ne_eqb _ _ c.if-seen-start.false)

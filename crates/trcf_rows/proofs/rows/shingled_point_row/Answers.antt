@@ -28,26 +28,26 @@ head_row-row-requires c = tt
 
 pub returns-then-row-ne0 : goal.returns-then-row-ne0
 returns-then-row-ne0 c =
-    let c8 = c in
     let a = c.args in
     let h = a.head in
-    let l = lent a.statistics.now a.last-shingled-input.now a.last-shingled-point.now a.previous-timestamps.now a.initial-values.now
-    a.initial-timestamps.now in
+    let l = lent a.statistics.now a.last_shingled_input.now a.last_shingled_point.now a.previous_timestamps.now a.initial_values.now
+    a.initial_timestamps.now in
     let p = shingled_point a.input.now a.timestamp a.output.now in
     let o = c.head_row-row in
-    row_ready h l p o.result (row_head h l p o.result o.ensures.value c.if-row-ne0.true)
+    let ready = row_ready h l p o.result (row_head h l p o.result o.ensures.value c.if-row-ne0.true) in
+    record { value = ready.0; ready = ready.1 }
 
 pub returns-then-input-t : goal.returns-then-input-t
 returns-then-input-t c =
-    let c8 = c in
     let a = c.args in
     let h = a.head in
-    let l = lent a.statistics.now a.last-shingled-input.now a.last-shingled-point.now a.previous-timestamps.now a.initial-values.now
-    a.initial-timestamps.now in
+    let l = lent a.statistics.now a.last_shingled_input.now a.last_shingled_point.now a.previous_timestamps.now a.initial_values.now
+    a.initial_timestamps.now in
     let p = shingled_point a.input.now a.timestamp a.output.now in
     let v = point_rows h l a.input.now a.timestamp a.output.now in
     let q : 10 ≡ rows (settings_of h) (facts (view h l)) p = rw (v, ne_eqb _ _ c.if-input-t.true) in
-    row_ready h l p 10 (row_call h l p 10 (sym c.head_row-row.ensures.value ∙ c.if-row-ne0.false) q (λ e. omega (arith, e)))
+    let ready = row_ready h l p 10 (row_call h l p 10 (sym c.head_row-row.ensures.value ∙ c.if-row-ne0.false) q (λ e. omega (arith, e))) in
+    record { value = ready.0; ready = ready.1 }
 
 pub all_finite-unfit-requires : goal.all_finite-unfit-requires
 all_finite-unfit-requires c = tt
@@ -63,12 +63,11 @@ first_row-row-requires c = tt
 
 pub returns-then-row-ne0-2 : goal.returns-then-row-ne0-2
 returns-then-row-ne0-2 c =
-    let c8 = c in
     let c16 = c in
     let a = c.args in
     let h = a.head in
-    let l = lent a.statistics.now a.last-shingled-input.now a.last-shingled-point.now a.previous-timestamps.now a.initial-values.now
-    a.initial-timestamps.now in
+    let l = lent a.statistics.now a.last_shingled_input.now a.last_shingled_point.now a.previous_timestamps.now a.initial_values.now
+    a.initial_timestamps.now in
     let p = shingled_point a.input.now a.timestamp a.output.now in
     let v = point_rows h l a.input.now a.timestamp a.output.now in
     let w = c.is_behind-behind in
@@ -82,19 +81,19 @@ returns-then-row-ne0-2 c =
     ⊎_elim (λ e. rw (v, d, ← f, e.0) e.1) (λ e. rw (v, d, ← f, e.0, ← b, e.1) e.2)
     (refuses (not y.result) w.result r c.first_row-row.ensures c.if-row-ne0-2.true) in
     let o = c.head_row-row in
-    row_ready h l p r (row_call h l p r (sym o.ensures.value ∙ c.if-row-ne0.false) q c.if-row-ne0-2.true)
+    let ready = row_ready h l p r (row_call h l p r (sym o.ensures.value ∙ c.if-row-ne0.false) q c.if-row-ne0-2.true) in
+    record { value = ready.0; ready = ready.1 }
 
 pub past_row-row-requires : goal.past_row-row-requires
-past_row-row-requires c = let c8 = c in c.head_row-row.ensures.bounded c.if-row-ne0.false
+past_row-row-requires c = c.head_row-row.ensures.bounded c.if-row-ne0.false
 
 pub returns-then-row-ne0-3 : goal.returns-then-row-ne0-3
 returns-then-row-ne0-3 c =
-    let c8 = c in
     let c16 = c in
     let a = c.args in
     let h = a.head in
-    let l = lent a.statistics.now a.last-shingled-input.now a.last-shingled-point.now a.previous-timestamps.now a.initial-values.now
-    a.initial-timestamps.now in
+    let l = lent a.statistics.now a.last_shingled_input.now a.last_shingled_point.now a.previous_timestamps.now a.initial_values.now
+    a.initial_timestamps.now in
     let p = shingled_point a.input.now a.timestamp a.output.now in
     let v = point_rows h l a.input.now a.timestamp a.output.now in
     let w = c.is_behind-behind in
@@ -108,19 +107,19 @@ returns-then-row-ne0-3 c =
     let r = c.past_row-row.result in
     let q : r ≡ rows (settings_of h) (facts (view h l)) p = rw (v, d, ← f, ← b, g.0, g.1) c.past_row-row.ensures in
     let o = c.head_row-row in
-    row_ready h l p r (row_call h l p r (sym o.ensures.value ∙ c.if-row-ne0.false) q c.if-row-ne0-3.true)
+    let ready = row_ready h l p r (row_call h l p r (sym o.ensures.value ∙ c.if-row-ne0.false) q c.if-row-ne0-3.true) in
+    record { value = ready.0; ready = ready.1 }
 
 pub lent_row-requires : goal.lent_row-requires
-lent_row-requires c = let c8 = c in c.head_row-row.ensures.bounded c.if-row-ne0.false
+lent_row-requires c = c.head_row-row.ensures.bounded c.if-row-ne0.false
 
 pub returns : goal.returns
 returns c =
-    let c8 = c in
     let c16 = c in
     let a = c.args in
     let h = a.head in
-    let l = lent a.statistics.now a.last-shingled-input.now a.last-shingled-point.now a.previous-timestamps.now a.initial-values.now
-    a.initial-timestamps.now in
+    let l = lent a.statistics.now a.last_shingled_input.now a.last_shingled_point.now a.previous_timestamps.now a.initial_values.now
+    a.initial_timestamps.now in
     let p = shingled_point a.input.now a.timestamp a.output.now in
     let v = point_rows h l a.input.now a.timestamp a.output.now in
     let w = c.is_behind-behind in
@@ -134,4 +133,5 @@ returns c =
     let r = c.lent_row.result in
     let q : rows (settings_of h) (facts (view h l)) p ≡ 0 = rw (v, d, ← f, ← b, g.0, g.1) (sym c.past_row-row.ensures ∙ c.if-row-ne0-3.false) in
     let o = c.head_row-row in
-    row_ready h l p r (row_lent h l p r (sym o.ensures.value ∙ c.if-row-ne0.false) q c.lent_row.ensures)
+    let ready = row_ready h l p r (row_lent h l p r (sym o.ensures.value ∙ c.if-row-ne0.false) q c.lent_row.ensures) in
+    record { value = ready.0; ready = ready.1 }

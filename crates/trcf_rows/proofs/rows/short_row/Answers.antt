@@ -52,7 +52,6 @@ returns-then-lengths-n c =
 
 pub returns-then-lengths-k : goal.returns-then-lengths-k
 returns-then-lengths-k c =
-    let c8 = c in
     rw (
       ← (dimension_known c.get_dimension-n.ensures (search rules)).0,
       le-ltb _ _ c.if-lengths-d.false,
@@ -63,18 +62,16 @@ returns-then-lengths-k c =
 
 pub overflow_mul-waiting : goal.overflow_mul-waiting
 overflow_mul-waiting c =
-    let c8 = c in
-    let i = c.initial_room_lem in
+    let i = c.initial_room-waiting in
     let s = c in
-    let a : i.result ≤ 2000 = omega (arith, i.ensures.1, c.requires.start_few) in
+    let a : i.result ≤ 2000 = omega (arith, i.ensures.upper_bound, c.requires.start_few) in
     let b : c.args.head.transformer.input_length ≤ 16 = omega (arith, c.requires.d_few) in
     omega (arith, mul-le-mul a b)
 
 pub returns-then-lengths-waiting : goal.returns-then-lengths-waiting
 returns-then-lengths-waiting c =
-    let c8 = c in
     rw (
-      ← c.initial_room_lem.ensures.0,
+      ← c.initial_room-waiting.ensures.value,
       ← (dimension_known c.get_dimension-n.ensures (search rules)).0,
       le-ltb _ _ c.if-lengths-d.false,
       le-ltb _ _ c.if-lengths-d-2.false,
@@ -85,9 +82,8 @@ returns-then-lengths-waiting c =
 
 pub returns-then-lengths-waiting-2 : goal.returns-then-lengths-waiting-2
 returns-then-lengths-waiting-2 c =
-    let c8 = c in
     rw (
-      ← c.initial_room_lem.ensures.0,
+      ← c.initial_room-waiting.ensures.value,
       ← (dimension_known c.get_dimension-n.ensures (search rules)).0,
       le-ltb _ _ c.if-lengths-d.false,
       le-ltb _ _ c.if-lengths-d-2.false,
@@ -99,9 +95,8 @@ returns-then-lengths-waiting-2 c =
 
 pub returns : goal.returns
 returns c =
-    let c8 = c in
     rw (
-      ← c.initial_room_lem.ensures.0,
+      ← c.initial_room-waiting.ensures.value,
       ← (dimension_known c.get_dimension-n.ensures (search rules)).0,
       le-ltb _ _ c.if-lengths-d.false,
       le-ltb _ _ c.if-lengths-d-2.false,

@@ -15,11 +15,10 @@ head_row-row-requires c = tt
 
 pub returns-then-row-ne0 : goal.returns-then-row-ne0
 returns-then-row-ne0 c =
-    let c8 = c in
     let o = c.head_row-row in
     let a = c.args in
     let h = a.head in
-    let l = lent a.statistics.now a.last-shingled-input.now a.last-shingled-point.now a.previous-timestamps.now a.initial-values.now a.initial-timestamps.now in
+    let l = lent a.statistics.now a.last_shingled_input.now a.last_shingled_point.now a.previous_timestamps.now a.initial_values.now a.initial_timestamps.now in
     let z = c.if-row-ne0.true in
     record { value = row_head h l (scale a.output.now) o.result o.ensures.value z; ready = λ e. absurd (z e); head_in_bounds = λ e. absurd (z e) }
 
@@ -29,13 +28,12 @@ block_of-n-requires c = tt
 pub returns-then-output-n : goal.returns-then-output-n
 unfolding rows table block
 returns-then-output-n c =
-    let c8 = c in
     let o = c.head_row-row in
     let z = c.if-row-ne0.false in
-    let k = (block_known c.block_of-n.ensures (omega (arith, o.ensures.bounded z))).0 in
+    let k = (block_known (c.block_of-n.ensures.value, c.block_of-n.ensures.upper_bound) (omega (arith, o.ensures.bounded z))).0 in
     let a = c.args in
     let h = a.head in
-    let l = lent a.statistics.now a.last-shingled-input.now a.last-shingled-point.now a.previous-timestamps.now a.initial-values.now a.initial-timestamps.now in
+    let l = lent a.statistics.now a.last_shingled_input.now a.last_shingled_point.now a.previous_timestamps.now a.initial_values.now a.initial_timestamps.now in
     let q : 20 ≡ rows (settings_of h) (facts (view h l)) (scale a.output.now) = rw (← k, lt-ltb _ _ c.if-output-n.true) in
     record { value = row_call h l (scale a.output.now) 20 (sym o.ensures.value ∙ z) q (λ e. omega (arith, e)); ready = λ e. absurd (omega (arith, e)); head_in_bounds = λ e. absurd (omega (arith, e)) }
 
@@ -45,12 +43,11 @@ lent_row-requires c = c.head_row-row.ensures.bounded c.if-row-ne0.false
 pub returns : goal.returns
 unfolding rows table block
 returns c =
-    let c8 = c in
     let at-if2 = c.if-output-n in
     let o = c.head_row-row in
     let z = c.if-row-ne0.false in
-    let k = (block_known c.block_of-n.ensures (omega (arith, o.ensures.bounded z))).0 in
+    let k = (block_known (c.block_of-n.ensures.value, c.block_of-n.ensures.upper_bound) (omega (arith, o.ensures.bounded z))).0 in
     let a = c.args in
     let h = a.head in
-    let l = lent a.statistics.now a.last-shingled-input.now a.last-shingled-point.now a.previous-timestamps.now a.initial-values.now a.initial-timestamps.now in
+    let l = lent a.statistics.now a.last_shingled_input.now a.last_shingled_point.now a.previous_timestamps.now a.initial_values.now a.initial_timestamps.now in
     let q : rows (settings_of h) (facts (view h l)) (scale a.output.now) ≡ 0 = rw (← k, le-ltb _ _ at-if2.false) in record { value = row_lent h l (scale a.output.now) c.lent_row.result (sym o.ensures.value ∙ z) q c.lent_row.ensures; ready = λ e. record { bounded = o.ensures.bounded z; fitted = fitted_of h l (sym (c.lent_row.ensures ∙ lengths_row_lem h l) ∙ e) }; head_in_bounds = λ e. rw (← k) at-if2.false }
