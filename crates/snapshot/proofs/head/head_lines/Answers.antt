@@ -45,7 +45,7 @@ returns-in_default-wgt_line c =
     let W = c.wgt_line in record {
       text_value = told_bad c.no_header-in_default-wgt_line.result.bad 2 (c.no_header-in_default-wgt_line.result.head, c.no_header-in_default-wgt_line.result.extra) (drop c.no_header-in_default-wgt_line.result.at t) c.no_header-in_default-wgt_line.ensures.bad_value (omega arith) ∙ ap
           (λ (r : Ran Head). map_ran headed_of r)
-          (head_wgt t (settings_told S.result) _ e _ (lost_one W.result t W.new.out.0 _ c.in_default-wgt_line.is W.ensures.told)
+          (head_wgt t (settings_told S.result) _ e _ (lost_one W.result t W.new.out _ c.in_default-wgt_line.is W.ensures.told)
           (length-take-le S.result.d _ (set_few t (settings_told S.result) _ e).d_few));
       head_few = λ e. absurd (omega (arith, e, c.no_header-in_default-wgt_line.ensures.bad_value));
       extra_bound = omega (arith, c.no_header-in_default-wgt_line.ensures.extra_value);
@@ -64,7 +64,7 @@ returns-in_default-last c =
     let S = c.set_line-set in
     let e = got_one S.result.place t (settings_told S.result) _ c.in-At.p c.in-At.is S.ensures in
     let W = c.wgt_line in
-    let f = got_one W.result t W.new.out.0 _ c.in-At-wgt_line.q c.in-At-wgt_line.is W.ensures.told in
+    let f = got_one W.result t W.new.out _ c.in-At-wgt_line.q c.in-At-wgt_line.is W.ensures.told in
     let N = c.chn_line-third in
     let K = c.cnt_line-counters in record {
       text_value = told_bad c.no_header-in_default-last.result.bad (3 + N.result.extra) (c.no_header-in_default-last.result.head, c.no_header-in_default-last.result.extra) (drop c.no_header-in_default-last.result.at t) c.no_header-in_default-last.ensures.bad_value
@@ -82,11 +82,11 @@ returns c =
     let S = c.set_line-set in
     let e = got_one S.result.place t (settings_told S.result) _ c.in-At.p c.in-At.is S.ensures in
     let W = c.wgt_line in
-    let f = got_one W.result t W.new.out.0 _ c.in-At-wgt_line.q c.in-At-wgt_line.is W.ensures.told in
+    let f = got_one W.result t W.new.out _ c.in-At-wgt_line.q c.in-At-wgt_line.is W.ensures.told in
     let N = c.chn_line-third in
     let K = c.cnt_line-counters in
     let g = got_one K.result.place t (counts_read K.result.seen K.result.internal K.result.count) _ c.in-At-last.r c.in-At-last.is K.ensures in
-    let h = c.head_with.ensures ∙ head_is (settings_told S.result) W.new.out.0 (take S.result.d N.result.codes) N.result.codes
+    let h = c.head_with.ensures ∙ head_is (settings_told S.result) W.new.out (take S.result.d N.result.codes) N.result.codes
     (counts_read K.result.seen K.result.internal K.result.count) N.result.extra
     (W.ensures.kept ∙ length-take-le S.result.d _ (set_few t (settings_told S.result) _ e).d_few) N.ensures.codes_value in record {
       text_value = ap (λ (p : Preprocessor). ran (p, N.result.extra) (drop c.in-At-last.r t)) h

@@ -20,7 +20,7 @@ returns-in_default c =
     let d = at-args.d in
     let t = at-args.text.now in
     let C = c.chn_codes in
-    let v = C.new.out.0 in
+    let v = C.new.out in
     let m = length-take-le d (replicate {A = ℕ} 16 0) (at_pre) in
     let n : length v ≡ d = C.ensures.kept ∙ m in
     record { text_value = none_or d _ (drop at-args.at t) (at_pre) m (lost_one C.result t v _ c.in_default.is C.ensures.told); codes_value = none_over d (at_pre); extra_bound = omega arith }
@@ -30,7 +30,7 @@ slice_bounds-w-end-2 c =
     let d = c.args.d in
     let t = c.args.text.now in
     let C = c.chn_codes in
-    let v = C.new.out.0 in
+    let v = C.new.out in
     let m = length-take-le d (replicate {A = ℕ} 16 0) c.requires in
     let n : length v ≡ d = C.ensures.kept ∙ m in
     front_fits v _ d n
@@ -40,7 +40,7 @@ slice_bounds-narrowed-end c =
     let d = c.args.d in
     let t = c.args.text.now in
     let C = c.chn_codes in
-    let v = C.new.out.0 in
+    let v = C.new.out in
     let m = length-take-le d (replicate {A = ℕ} 16 0) c.requires in
     let n : length v ≡ d = C.ensures.kept ∙ m in
     sym (ap length (front_is v (drop d (replicate {A = ℕ} 16 0)) d n) ∙ n)
@@ -52,7 +52,7 @@ narrowed-own-requires c =
     let d = at-args.d in
     let t = at-args.text.now in
     let C = c.chn_codes in
-    let v = C.new.out.0 in
+    let v = C.new.out in
     let m = length-take-le d (replicate {A = ℕ} 16 0) (at_pre) in
     let n : length v ≡ d = C.ensures.kept ∙ m in
     let q = got_one C.result t v _ c.in-At.p c.in-At.is C.ensures.told in
@@ -65,7 +65,7 @@ returns c =
     let d = at-args.d in
     let t = at-args.text.now in
     let C = c.chn_codes in
-    let v = C.new.out.0 in
+    let v = C.new.out in
     let m = length-take-le d (replicate {A = ℕ} 16 0) c.requires in
     let n : length v ≡ d = C.ensures.kept ∙ m in
     let q = got_one C.result t v _ c.in-At.p c.in-At.is C.ensures.told in

@@ -1,4 +1,5 @@
 -- `snapshot::settings::method_of` meets its contract. Assumes nothing.
+use Rattle.std.proofs.Common.{arith}
 use Rattle.snapshot.proofs.SettingsLaws.{method_none}
 use Rattle.snapshot.proofs.settings.method_of.Goals as goal
 
@@ -21,6 +22,4 @@ pub returns-in-5 : goal.returns-in-5
 returns-in-5 c = rw c.in-5.is
 
 pub returns-in_default : goal.returns-in_default
-returns-in_default c =
-    method_none c.args.n c.in_default.rest.0.0.0.0.0.1 c.in_default.rest.0.0.0.0.1 c.in_default.rest.0.0.0.1 c.in_default.rest.0.0.1 c.in_default.rest.0.1
-    c.in_default.rest.1
+returns-in_default c = method_none c.args.n (omega arith) (omega arith) (omega arith) (omega arith) (omega arith) (omega arith)

@@ -58,7 +58,7 @@ returns-in_default-number c =
     let at_byte = c.byte in
     let at-mode-at = c.mode_at-letter in
     let at_wholes = c.wholes in
-    let at-method-of = c.method_of_lem in
+    let at-method-of = c.method_of-number in
     let t = c.args.text.now in
     no_settings c.no_set-in_default-number.result t c.no_set-in_default-number.ensures ∙ set_methodless t (drop c.in-At.p t)
     (got at_name.result t _ c.in-At.p c.in-At.is at_name.ensures) c.in-At-byte.q
@@ -72,7 +72,7 @@ returns-then-not-settings_fit c =
     let at_byte = c.byte in
     let at-mode-at = c.mode_at-letter in
     let at_wholes = c.wholes in
-    let at-method-of = c.method_of_lem in
+    let at-method-of = c.method_of-number in
     let at-set-tail = c.set_tail-tail in
     let t = c.args.text.now in
     no_settings c.no_set-then-not-settings_fit.result t c.no_set-then-not-settings_fit.ensures ∙ set_unfit t (drop c.in-At.p t) (got at_name.result t _ c.in-At.p c.in-At.is at_name.ensures)
@@ -87,7 +87,7 @@ returns c =
     let at_byte = c.byte in
     let at-mode-at = c.mode_at-letter in
     let at_wholes = c.wholes in
-    let at-method-of = c.method_of_lem in
+    let at-method-of = c.method_of-number in
     let at-set-tail = c.set_tail-tail in
     let t = c.args.text.now in
     set_good t (drop c.in-At.p t) (got at_name.result t _ c.in-At.p c.in-At.is at_name.ensures) c.in-At-byte.q
