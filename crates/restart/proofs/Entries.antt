@@ -42,13 +42,13 @@ unmixed s (drained_entry ∷ es) h = absurd (false≢true h)
 -- ---- F
 
 module _ (s : Settings) (k>0 : 0 < s.k) (es : List Entry) (r : Reading) (rs : List Reading) (ew : initials es ≡ r ∷ rs) (q : Unmixed s es) (e : Each s.d (r ∷ rs)) where
-  ready : primed (history_state s es) r (r ∷ rs)
-      ≡ mid s (seen_of es) 0 (length (r ∷ rs)) (feed_each s 0 (replicate (statistics_length s) zero64) (each_after r (r ∷ rs)))
+  ready : (n : ℕ) → seen_of es ≡ n → primed (history_state s es) r (r ∷ rs)
+      ≡ mid s n 0 (length (r ∷ rs)) (feed_each s 0 (replicate (statistics_length s) zero64) (each_after r (r ∷ rs)))
       (replicate (s.d * s.k) zero32 ++ r.value) (replicate (dimension s) zero32) (replicate s.k 0 ++ (r.time ∷ []))
   unfolding primed history_state internal_of count_of statistics_of inputs_of timestamps_of shingled
-  ready = rw (q.no_f, q.no_l, q.no_fed, q.zeros) (λ j. record {
+  ready n en = rw (q.no_f, q.no_l, q.no_fed, q.zeros) (λ j. record {
     settings = s;
-    values_seen = seen_of es;
+    values_seen = en j;
     internal_timestamp = 0;
     count = zero-add (suc (length rs)) j;
     statistics = (ap (λ (st : List Float). feed_all s 0 st r (r ∷ rs)) (statistics_fed s []) ∙ feed_all_after s 0 (replicate (statistics_length s) zero64) r (r ∷ rs)) j;
@@ -62,8 +62,8 @@ module _ (s : Settings) (k>0 : 0 < s.k) (es : List Entry) (r : Reading) (rs : Li
   -- drain makes the state of the history with F
   pub drained_state : drain_all (history_state s es) (r ∷ rs) ≡ history_state s (drained_entry ∷ es)
   unfolding drain_all history_state internal_of count_of statistics_of inputs_of timestamps_of shingled seen_of buffer_of
-  drained_state = ap (λ (w : State). drain_each w (r ∷ rs)) ready
-      ∙ pass s k>0 (seen_of es) (length (r ∷ rs)) _ (r ∷ rs) 0 _ _ _ r
+  drained_state = ap (λ (w : State). drain_each w (r ∷ rs)) (ready (length (r ∷ rs) + length {A = Reading} []) (rw (ew, q.no_l) refl))
+      ∙ pass s k>0 (length (r ∷ rs) + length {A = Reading} []) (length (r ∷ rs)) _ (r ∷ rs) 0 _ _ _ r
       (simp (length-append, length-replicate) (omega arith)) (simp length-replicate (omega arith)) (simp (length-append, length-replicate) (omega arith))
       (last_n_newest s.d (s.d * s.k) (replicate (s.d * s.k) zero32) r.value (simp length-replicate (omega arith)) e.0 (le-mul_of_pos_right s.d k>0))
       (last_or_newest 0 s.k (replicate s.k 0) r.time (simp length-replicate (omega arith)) k>0) e
