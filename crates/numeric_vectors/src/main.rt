@@ -2,7 +2,10 @@
 // A line is a letter, a tab, 16 hexadecimal digits, a tab, 16 hexadecimal digits and an LF: the function, the argument's bits and the answer's.
 #![tactic(auto)]
 
-use libc::STDOUT_FILENO;
+ghost use Rattle.std.specs.Prelude.{◌≤◌, length, IfOk};
+
+use std::io::Read;
+use std::{fs, io};
 
 // The number of a letter's function, in the order of the report; 6 for any other letter.
 fn number_of(letter: u8) -> usize {
@@ -95,51 +98,56 @@ fn judge(line: &[u8], counts: &mut [u64]) {
     }
 }
 
+// Reads until `text` is full or the file ends, and answers how much was read.
+fn read_full<F: Read>(file: &mut F, text: &mut [u8]) -> io::Result<usize>
+    ensures { IfOk result (λ n. n ≤ length text.new) }
+{
+    let mut done = 0usize;
+    while done < text.len() {
+        let n = file.read(&mut text[done..])?;
+        if n == 0 {
+            break;
+        }
+        done += n;
+    }
+    Ok(done)
+}
+
 // Reads a line and counts it, and answers whether to go on.
-fn step(fd: i32, counts: &mut [u64]) -> bool {
+fn step<F: Read>(file: &mut F, counts: &mut [u64]) -> io::Result<bool> {
     let mut line = [0u8; LINE];
-    let n = io::read_full(fd, &mut line);
+    let n = read_full(file, &mut line)?;
     if n == 0 {
-        return false;
+        return Ok(false);
     }
     judge(&line[..n], counts);
-    true
+    Ok(true)
 }
 
-// A proved loop has to end, and nothing says that a file does: the turns are counted down, from a number that no run uses up.
-fn replay(fd: i32, counts: &mut [u64]) {
-    let mut turns = u64::MAX;
-    while turns > 0 && step(fd, counts) {
-        turns -= 1;
+// A proved loop has to end, and nothing says that a file does: the turns are counted, to a number that no run uses up.
+fn replay<F: Read>(file: &mut F, counts: &mut [u64]) -> io::Result<()> {
+    for _ in 0..u64::MAX {
+        if !step(file, counts)? {
+            break;
+        }
     }
+    Ok(())
 }
 
-fn report(name: &[u8], agree: u64, differ: u64) {
-    io::write_all(STDOUT_FILENO, name);
-    io::write_all(STDOUT_FILENO, b": agree ");
-    io::print_decimal(STDOUT_FILENO, agree);
-    io::write_all(STDOUT_FILENO, b", differ ");
-    io::print_decimal(STDOUT_FILENO, differ);
-    io::write_all(STDOUT_FILENO, b"\n");
+fn report<P: Print>(rt: &P, name: &str, agree: u64, differ: u64) -> io::Result<()> {
+    println!(rt; "{name}: agree {agree}, differ {differ}")
 }
 
-fn main() {
-    let path = b"vectors";
-    let fd = os::open_read(path);
-    if fd < 0 {
-        os::fail(path);
-        return;
-    }
+fn main(rt: HostRuntime) -> io::Result<()> {
+    let mut file = fs::open(&rt, "vectors")?;
     let mut counts = [0u64; 13];
-    replay(fd, &mut counts);
-    libc::close(fd);
-    report(b"sqrt", counts[0], counts[1]);
-    report(b"to_f32", counts[2], counts[3]);
-    report(b"to_f64", counts[4], counts[5]);
-    report(b"u64_to_f64", counts[6], counts[7]);
-    report(b"u64_to_f32", counts[8], counts[9]);
-    report(b"digits of sqrt", counts[10], counts[11]);
-    io::write_all(STDOUT_FILENO, b"broken lines: ");
-    io::print_decimal(STDOUT_FILENO, counts[12]);
-    io::write_all(STDOUT_FILENO, b"\n");
+    replay(&mut file, &mut counts)?;
+    report(&rt, "sqrt", counts[0], counts[1])?;
+    report(&rt, "to_f32", counts[2], counts[3])?;
+    report(&rt, "to_f64", counts[4], counts[5])?;
+    report(&rt, "u64_to_f64", counts[6], counts[7])?;
+    report(&rt, "u64_to_f32", counts[8], counts[9])?;
+    report(&rt, "digits of sqrt", counts[10], counts[11])?;
+    let broken = counts[BROKEN];
+    println!(rt; "broken lines: {broken}")
 }

@@ -3,7 +3,10 @@
 // Its last line is wrong on purpose: a program that reports no difference compares nothing.
 #![tactic(auto)]
 
-use libc::STDOUT_FILENO;
+ghost use Rattle.std.specs.Prelude.{◌≤◌, length, IfOk};
+
+use std::io::Read;
+use std::{fs, io};
 
 // A hexadecimal digit's value; 16 for any other byte.
 fn digit(b: u8) -> u64 {
@@ -89,40 +92,49 @@ fn judged(line: &[u8]) -> usize {
     BROKEN
 }
 
+// Reads until `text` is full or the file ends, and answers how much was read.
+fn read_full<F: Read>(file: &mut F, text: &mut [u8]) -> io::Result<usize>
+    ensures { IfOk result (λ n. n ≤ length text.new) }
+{
+    let mut done = 0usize;
+    while done < text.len() {
+        let n = file.read(&mut text[done..])?;
+        if n == 0 {
+            break;
+        }
+        done += n;
+    }
+    Ok(done)
+}
+
 // Reads a line and counts it, and answers whether to go on.
-fn step(fd: i32, counts: &mut [u64]) -> bool {
+fn step<F: Read>(file: &mut F, counts: &mut [u64]) -> io::Result<bool> {
     let mut line = [0u8; LINE];
-    let n = io::read_full(fd, &mut line);
+    let n = read_full(file, &mut line)?;
     if n == 0 {
-        return false;
+        return Ok(false);
     }
     count(counts, judged(&line[..n]));
-    true
+    Ok(true)
 }
 
-// A proved loop has to end, and nothing says that a file does: the turns are counted down, from a number that no run uses up.
-fn replay(fd: i32, counts: &mut [u64]) {
-    let mut turns = u64::MAX;
-    while turns > 0 && step(fd, counts) {
-        turns -= 1;
+// A proved loop has to end, and nothing says that a file does: the turns are counted, to a number that no run uses up.
+fn replay<F: Read>(file: &mut F, counts: &mut [u64]) -> io::Result<()> {
+    for _ in 0..u64::MAX {
+        if !step(file, counts)? {
+            break;
+        }
     }
+    Ok(())
 }
 
-fn main() {
-    let path = b"vectors";
-    let fd = os::open_read(path);
-    if fd < 0 {
-        os::fail(path);
-        return;
-    }
+fn main(rt: HostRuntime) -> io::Result<()> {
+    let mut file = fs::open(&rt, "vectors")?;
     let mut counts = [0u64; 3];
-    replay(fd, &mut counts);
-    libc::close(fd);
-    io::write_all(STDOUT_FILENO, b"strandings: agree ");
-    io::print_decimal(STDOUT_FILENO, counts[0]);
-    io::write_all(STDOUT_FILENO, b", differ ");
-    io::print_decimal(STDOUT_FILENO, counts[1]);
-    io::write_all(STDOUT_FILENO, b"\nbroken lines: ");
-    io::print_decimal(STDOUT_FILENO, counts[2]);
-    io::write_all(STDOUT_FILENO, b"\n");
+    replay(&mut file, &mut counts)?;
+    let agree = counts[AGREE];
+    let differ = counts[DIFFER];
+    let broken = counts[BROKEN];
+    println!(rt; "strandings: agree {agree}, differ {differ}")?;
+    println!(rt; "broken lines: {broken}")
 }
