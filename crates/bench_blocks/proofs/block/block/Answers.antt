@@ -14,8 +14,8 @@ returns-then-not-ends c =
     let k4 : tie.After-slice-known3 = k3.before.before.before.before.before.before.before.before in
     let a = k4.before.before.before.args in
     let s = k2.before.cells in record {
-      full_after = block_open a.b (lent a.statistics.now a.last-shingled-input.now a.last-shingled-point.now a.previous-timestamps.now a.initial-values.now
-          a.initial-timestamps.now) a.point.now a.text.now a.out.now a.ends (block_printed s.result.bench
+      full_after = block_open a.b (lent a.statistics.now a.last_shingled_input.now a.last_shingled_point.now a.previous_timestamps.now a.initial_values.now
+          a.initial_timestamps.now) a.point.now a.text.now a.out.now a.ends (block_printed s.result.bench
           (lent s.new.1.0 s.new.1.1.0 s.new.1.1.1.0 s.new.1.1.1.1.0 s.new.1.1.1.1.1.0 s.new.1.1.1.1.1.1.0)
           s.new.1.1.1.1.1.1.1.0 s.result.read (output s.result.written s.new.1.1.1.1.1.1.1.1.1.0) s.result.full) s.ensures c.if-not-ends.true-raw;
       read_in_bounds = s.ensures.read;
@@ -30,8 +30,8 @@ returns-then-r c =
     let k4 : tie.After-slice-known4 = k3.before.before.before.before.before.before.before.before in
     let a = k4.before.before.before.before.args in
     let s = k2.before.before.cells in record {
-      full_after = block_full a.b (lent a.statistics.now a.last-shingled-input.now a.last-shingled-point.now a.previous-timestamps.now a.initial-values.now
-          a.initial-timestamps.now) a.point.now a.text.now a.out.now a.ends (block_printed s.result.bench
+      full_after = block_full a.b (lent a.statistics.now a.last_shingled_input.now a.last_shingled_point.now a.previous_timestamps.now a.initial_values.now
+          a.initial_timestamps.now) a.point.now a.text.now a.out.now a.ends (block_printed s.result.bench
           (lent s.new.1.0 s.new.1.1.0 s.new.1.1.1.0 s.new.1.1.1.1.0 s.new.1.1.1.1.1.0 s.new.1.1.1.1.1.1.0)
           s.new.1.1.1.1.1.1.1.0 s.result.read (output s.result.written s.new.1.1.1.1.1.1.1.1.1.0) s.result.full) s.ensures c.if-not-ends.false-raw c.if-r.true;
       read_in_bounds = s.ensures.read;
@@ -111,8 +111,8 @@ returns c =
     let a = k5.before.before.before.args in
     let s = k3.before.cells in
     let t = c.end_at-s in record {
-      full_after = block_closed a.b (lent a.statistics.now a.last-shingled-input.now a.last-shingled-point.now a.previous-timestamps.now a.initial-values.now
-          a.initial-timestamps.now) a.point.now a.text.now a.out.now a.ends (block_printed s.result.bench
+      full_after = block_closed a.b (lent a.statistics.now a.last_shingled_input.now a.last_shingled_point.now a.previous_timestamps.now a.initial_values.now
+          a.initial_timestamps.now) a.point.now a.text.now a.out.now a.ends (block_printed s.result.bench
           (lent s.new.1.0 s.new.1.1.0 s.new.1.1.1.0 s.new.1.1.1.1.0 s.new.1.1.1.1.1.0 s.new.1.1.1.1.1.1.0)
           s.new.1.1.1.1.1.1.1.0 s.result.read (output s.result.written s.new.1.1.1.1.1.1.1.1.1.0) s.result.full) s.ensures c.if-not-ends.false-raw c.if-r.false t.result.bench t.new.out t.result.length t.ensures;
       read_in_bounds = omega arith;

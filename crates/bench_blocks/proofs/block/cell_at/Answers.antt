@@ -18,6 +18,6 @@ returns c =
     let a = k4.before.before.before.before.args in
     let s = k2.before.step in
     placed_at a.b
-    (lent a.statistics.now a.last-shingled-input.now a.last-shingled-point.now a.previous-timestamps.now a.initial-values.now a.initial-timestamps.now)
+    (lent a.statistics.now a.last_shingled_input.now a.last_shingled_point.now a.previous_timestamps.now a.initial_values.now a.initial_timestamps.now)
     a.point.now a.text.now a.next a.out.now a.at
     k4.before.before.before.before.requires.1 s.new.1.1.1.1.1.1.1.1.1.0 s.ensures (omega (arith, s.auto))

@@ -13,7 +13,7 @@ loop-out-init c =
     let a = k1.before.args in (
       (refl, refl, refl, refl, refl, refl, refl, refl),
       stands_first a.b
-          (lent a.statistics.now a.last-shingled-input.now a.last-shingled-point.now a.previous-timestamps.now a.initial-values.now a.initial-timestamps.now)
+          (lent a.statistics.now a.last_shingled_input.now a.last_shingled_point.now a.previous_timestamps.now a.initial_values.now a.initial_timestamps.now)
           a.point.now a.text.now a.out.now,
     )
 
@@ -91,9 +91,9 @@ returns-then-s-eq0 c =
     let l = k3.before.before.before.before.before.loop in
     let s = k2.before.before.before.Cell-at in
     stands_idle a.b
-    (lent a.statistics.now a.last-shingled-input.now a.last-shingled-point.now a.previous-timestamps.now a.initial-values.now a.initial-timestamps.now)
+    (lent a.statistics.now a.last_shingled_input.now a.last_shingled_point.now a.previous_timestamps.now a.initial_values.now a.initial_timestamps.now)
     a.point.now a.text.now a.out.now l.bench
-    (lent l.statistics l.last-shingled-input l.last-shingled-point l.previous-timestamps l.initial-values l.initial-timestamps) l.point l.out l.next
+    (lent l.statistics l.last_shingled_input l.last_shingled_point l.previous_timestamps l.initial_values l.initial_timestamps) l.point l.out l.next
     l.at l.invariant.1 k3.before.before.before.before.loop-test.true s.result.bench
     (lent s.new.1.0 s.new.1.1.0 s.new.1.1.1.0 s.new.1.1.1.1.0 s.new.1.1.1.1.1.0 s.new.1.1.1.1.1.1.0)
     s.new.1.1.1.1.1.1.1.0 s.new.1.1.1.1.1.1.1.1.1.1.0 s.result.next s.result.length s.ensures (omega (arith, s.auto)) c.if-s-eq0.true
@@ -145,9 +145,9 @@ loop-out-preserved c =
     let s = k2.before.before.before.before.before.Cell-at in (
       omega (arith, s.auto, l.invariant.0),
       stands_next a.b
-          (lent a.statistics.now a.last-shingled-input.now a.last-shingled-point.now a.previous-timestamps.now a.initial-values.now a.initial-timestamps.now)
+          (lent a.statistics.now a.last_shingled_input.now a.last_shingled_point.now a.previous_timestamps.now a.initial_values.now a.initial_timestamps.now)
           a.point.now a.text.now a.out.now l.bench
-          (lent l.statistics l.last-shingled-input l.last-shingled-point l.previous-timestamps l.initial-values l.initial-timestamps) l.point l.out l.next
+          (lent l.statistics l.last_shingled_input l.last_shingled_point l.previous_timestamps l.initial_values l.initial_timestamps) l.point l.out l.next
           l.at l.invariant.1 k3.before.before.before.before.before.before.loop-test.true s.result.bench
           (lent s.new.1.0 s.new.1.1.0 s.new.1.1.1.0 s.new.1.1.1.1.0 s.new.1.1.1.1.1.0 s.new.1.1.1.1.1.1.0)
           s.new.1.1.1.1.1.1.1.0 s.new.1.1.1.1.1.1.1.1.1.1.0 s.result.next s.result.length s.ensures (omega (arith, s.auto))
@@ -184,7 +184,7 @@ returns c =
     let a = k1.before.before.before.args in
     let l = c.loop-out in
     stands_full a.b
-    (lent a.statistics.now a.last-shingled-input.now a.last-shingled-point.now a.previous-timestamps.now a.initial-values.now a.initial-timestamps.now)
+    (lent a.statistics.now a.last_shingled_input.now a.last_shingled_point.now a.previous_timestamps.now a.initial_values.now a.initial_timestamps.now)
     a.point.now a.text.now a.out.now l.bench
-    (lent l.statistics l.last-shingled-input l.last-shingled-point l.previous-timestamps l.initial-values l.initial-timestamps) l.point l.out l.next
+    (lent l.statistics l.last_shingled_input l.last_shingled_point l.previous_timestamps l.initial_values l.initial_timestamps) l.point l.out l.next
     l.at l.invariant.1 c.loop-out-test.false

@@ -14,7 +14,7 @@ returns-then-is_unfit c =
     let a = k1.before.before.before.before.args in
     let u = c.is_unfit in record {
       out_after = turn_refused a.run
-          (lent a.statistics.now a.last-shingled-input.now a.last-shingled-point.now a.previous-timestamps.now a.initial-values.now a.initial-timestamps.now)
+          (lent a.statistics.now a.last_shingled_input.now a.last_shingled_point.now a.previous_timestamps.now a.initial_values.now a.initial_timestamps.now)
           a.point.now a.text.now a.got a.out.now u.result u.ensures c.if-is_unfit.true;
       written_in_bounds = omega arith;
       kept_in_bounds = λ z. absurd (omega (arith, z));
@@ -78,8 +78,8 @@ returns c =
     let s = k2.before.before.before.before.before.before.block in
     let k = c.rest_of-rest in
     let m = c.carry in record {
-      out_after = turn_done a.run (lent a.statistics.now a.last-shingled-input.now a.last-shingled-point.now a.previous-timestamps.now a.initial-values.now
-          a.initial-timestamps.now) a.point.now a.text.now a.got a.out.now u.result u.ensures k4.before.before.if1.false n.result n.ensures.0 q.result q.ensures (block_printed s.result.bench
+      out_after = turn_done a.run (lent a.statistics.now a.last_shingled_input.now a.last_shingled_point.now a.previous_timestamps.now a.initial_values.now
+          a.initial_timestamps.now) a.point.now a.text.now a.got a.out.now u.result u.ensures k4.before.before.if1.false n.result n.ensures.0 q.result q.ensures (block_printed s.result.bench
           (lent s.new.1.0 s.new.1.1.0 s.new.1.1.1.0 s.new.1.1.1.1.0 s.new.1.1.1.1.1.0 s.new.1.1.1.1.1.1.0)
           s.new.1.1.1.1.1.1.1.0 s.result.read (output s.result.written s.new.1.1.1.1.1.1.1.1.1.1.0) s.result.full) s.ensures.0 k.result k.ensures.value m.new.text m.ensures;
       written_in_bounds = omega (arith, s.auto, s.ensures.1.1);

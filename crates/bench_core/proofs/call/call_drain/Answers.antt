@@ -5,10 +5,7 @@ use Rattle.bench_core.proofs.call.call_drain.Goals as goal
 
 pub returns : goal.returns
 returns c =
-    let c8 = c in
-    let c16 = c in
-    let c24 = c in
     let a = c.args in
     λ y. drain_turn c.every_right-table.result c.every_right-table.ensures a.head a.given
-    (lent a.statistics.now a.last-shingled-input.now a.last-shingled-point.now a.previous-timestamps.now a.initial-values.now a.initial-timestamps.now)
+    (lent a.statistics.now a.last_shingled_input.now a.last_shingled_point.now a.previous_timestamps.now a.initial_values.now a.initial_timestamps.now)
     a.out.now y c.drain-r.ensures c.print_ok.ensures

@@ -14,26 +14,16 @@ slice_bounds-post_process-end-2 c = simp length-take (omega arith)
 
 pub print_ok-requires : goal.print_ok-requires
 print_ok-requires c =
-    let c8 = c in
-    let c16 = c in
-    let c24 = c in
-    let c32 = c in
-    let c40 = c in
     c.requires
 
 pub returns : goal.returns
 unfolding dimension_of
 returns c =
-    let c8 = c in
-    let c16 = c in
-    let c24 = c in
-    let c32 = c in
-    let c40 = c in
     let at-get-dimension = c.get_dimension in
     let at_least_lem = c.least-n in
     let at-every-right = c.every_right-table in
     let a = c.args in
     learn_turn at-every-right.result at-every-right.ensures a.head a.given
-    (lent a.statistics.now a.last-shingled-input.now a.last-shingled-point.now a.previous-timestamps.now a.initial-values.now a.initial-timestamps.now) a.out.now
+    (lent a.statistics.now a.last_shingled_input.now a.last_shingled_point.now a.previous_timestamps.now a.initial_values.now a.initial_timestamps.now) a.out.now
     a.input.now a.timestamp a.point.now (take_least at-get-dimension.result at_least_lem.result a.point.now at_least_lem.ensures.value ∙ ap (λ (i : ℕ). take i a.point.now)
     at-get-dimension.ensures) c.post_process-r.ensures c.print_ok.ensures

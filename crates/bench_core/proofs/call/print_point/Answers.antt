@@ -11,7 +11,6 @@ slice_bounds-singles_line-end c = simp length-take (omega arith)
 pub returns : goal.returns
 unfolding dimension_of
 returns c =
-    let c8 = c in
     let at-args = c.args in
     let at-get-dimension = c.get_dimension in
     let at_least_lem = c.least-n in

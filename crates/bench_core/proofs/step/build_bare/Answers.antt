@@ -22,7 +22,7 @@ returns-then-row-ne0 c =
     let a = s.before.before.before.before.before.before.before.before.args in
     let n = s.code-count in
     let h = c.head_row-row in
-    let l = lent a.statistics.now a.last-shingled-input.now a.last-shingled-point.now a.previous-timestamps.now a.initial-values.now a.initial-timestamps.now in
+    let l = lent a.statistics.now a.last_shingled_input.now a.last_shingled_point.now a.previous_timestamps.now a.initial_values.now a.initial_timestamps.now in
     bare_refused a.builder a.weights.now l h.result (take n.result (replicate {A = ℕ} 16 0))
     (zeros a.builder.input_dimensions n.result n.ensures.0 n.ensures.1) h.ensures c.no_head.result c.no_head.ensures c.if-row-ne0.true
 
@@ -43,6 +43,6 @@ returns c =
     let n = s.code-count in
     let h = t.before.before.head-row in
     let b = r.build in
-    let l = lent a.statistics.now a.last-shingled-input.now a.last-shingled-point.now a.previous-timestamps.now a.initial-values.now a.initial-timestamps.now in
+    let l = lent a.statistics.now a.last_shingled_input.now a.last_shingled_point.now a.previous_timestamps.now a.initial_values.now a.initial_timestamps.now in
     bare_built a.builder a.weights.now l h.result (take n.result (replicate {A = ℕ} 16 0))
     (zeros a.builder.input_dimensions n.result n.ensures.0 n.ensures.1) h.ensures _ t.before.if1.false b.ensures

@@ -13,6 +13,5 @@ returns-then-out-lt-ROOM c =
 
 pub returns : goal.returns
 returns c =
-    let c8 = c in
     let at-args = c.args in
     finish_done at-args.b at-args.rest.now at-args.out.now c.if-out-lt-ROOM.false c.finished_by-p.ensures

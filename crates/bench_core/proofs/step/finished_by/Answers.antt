@@ -5,7 +5,6 @@ use Rattle.bench_core.proofs.step.finished_by.Goals as goal
 
 pub returns-then-is_begun : goal.returns-then-is_begun
 returns-then-is_begun c =
-    let c8 = c in
     let at-args = c.args in
     c.ended-then-is_begun.ensures ∙ ends_begun at-args.b at-args.rest.now at-args.out.now
     (sym c.is_begun.ensures ∙ c.if-is_begun.true) ∙ finish_by_lem at-args.b at-args.rest.now at-args.out.now _
@@ -13,19 +12,16 @@ returns-then-is_begun c =
 
 pub returns-in-WantsSet : goal.returns-in-WantsSet
 returns-in-WantsSet c =
-    let c8 = c in
     let at-args = c.args in
     c.ended.ensures ∙ finish_by_lem at-args.b at-args.rest.now at-args.out.now _ c.in-WantsSet.is
 
 pub returns-in-WantsWeights : goal.returns-in-WantsWeights
 returns-in-WantsWeights c =
-    let c8 = c in
     let at-args = c.args in
     c.ended-in-WantsWeights.ensures ∙ finish_by_lem at-args.b at-args.rest.now at-args.out.now _ c.in-WantsWeights.is
 
 pub returns-else-is_begun : goal.returns-else-is_begun
 returns-else-is_begun c =
-    let c8 = c in
     let at-args = c.args in
     ends_well at-args.b at-args.rest.now at-args.out.now c.ended_well.ensures.bench_value c.ended_well.ensures.length_value ∙ ends_there at-args.b at-args.rest.now
     at-args.out.now (sym c.is_begun.ensures ∙ c.if-is_begun.false) ∙ finish_by_lem at-args.b at-args.rest.now at-args.out.now _

@@ -6,12 +6,8 @@ use Rattle.bench_core.proofs.step.read_call.Goals as goal
 
 pub returns-then-is_reading : goal.returns-then-is_reading
 returns-then-is_reading c =
-    let c8 = c in
-    let c16 = c in
-    let c24 = c in
-    let c32 = c in
     let a = c.args in
-    let lists = lent a.statistics.now a.last-shingled-input.now a.last-shingled-point.now a.previous-timestamps.now a.initial-values.now a.initial-timestamps.now in
+    let lists = lent a.statistics.now a.last_shingled_input.now a.last_shingled_point.now a.previous_timestamps.now a.initial_values.now a.initial_timestamps.now in
     let n = c.request-name in
     let q = c.is_reading in
     let p = c.is_named in
@@ -21,11 +17,8 @@ returns-then-is_reading c =
 
 pub returns : goal.returns
 returns c =
-    let c8 = c in
-    let c16 = c in
-    let c24 = c in
     let a = c.args in
-    let lists = lent a.statistics.now a.last-shingled-input.now a.last-shingled-point.now a.previous-timestamps.now a.initial-values.now a.initial-timestamps.now in
+    let lists = lent a.statistics.now a.last_shingled_input.now a.last_shingled_point.now a.previous_timestamps.now a.initial_values.now a.initial_timestamps.now in
     let n = c.request-name in
     let q = c.is_reading in
     c.read_plain.ensures a.point.now

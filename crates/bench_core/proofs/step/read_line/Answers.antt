@@ -6,36 +6,27 @@ use Rattle.bench_core.proofs.step.read_line.Goals as goal
 
 pub returns-in-WantsSet : goal.returns-in-WantsSet
 returns-in-WantsSet c =
-    let c8 = c in
     let at-args = c.args in
-    c.read_set.ensures (lent at-args.statistics.now at-args.last-shingled-input.now at-args.last-shingled-point.now at-args.previous-timestamps.now
-    at-args.initial-values.now at-args.initial-timestamps.now) at-args.point.now ∙ line_by_lem at-args.b at-args.l
-    (lent at-args.statistics.now at-args.last-shingled-input.now at-args.last-shingled-point.now at-args.previous-timestamps.now at-args.initial-values.now
-    at-args.initial-timestamps.now) at-args.point.now at-args.out.now _ c.in-WantsSet.is
+    c.read_set.ensures (lent at-args.statistics.now at-args.last_shingled_input.now at-args.last_shingled_point.now at-args.previous_timestamps.now
+    at-args.initial_values.now at-args.initial_timestamps.now) at-args.point.now ∙ line_by_lem at-args.b at-args.l
+    (lent at-args.statistics.now at-args.last_shingled_input.now at-args.last_shingled_point.now at-args.previous_timestamps.now at-args.initial_values.now
+    at-args.initial_timestamps.now) at-args.point.now at-args.out.now _ c.in-WantsSet.is
 
 pub returns-in-WantsWeights : goal.returns-in-WantsWeights
 returns-in-WantsWeights c =
-    let c8 = c in
-    let c16 = c in
-    let c24 = c in
     let at-args = c.args in
     c.read_second.ensures at-args.point.now ∙ line_by_lem at-args.b at-args.l
-    (lent at-args.statistics.now at-args.last-shingled-input.now at-args.last-shingled-point.now at-args.previous-timestamps.now at-args.initial-values.now
-    at-args.initial-timestamps.now) at-args.point.now at-args.out.now _ c.in-WantsWeights.is
+    (lent at-args.statistics.now at-args.last_shingled_input.now at-args.last_shingled_point.now at-args.previous_timestamps.now at-args.initial_values.now
+    at-args.initial_timestamps.now) at-args.point.now at-args.out.now _ c.in-WantsWeights.is
 
 pub returns-in-Running : goal.returns-in-Running
 returns-in-Running c =
-    let c8 = c in
-    let c16 = c in
-    let c24 = c in
-    let c32 = c in
     let at-args = c.args in
-    c.read_call.ensures ∙ line_by_lem at-args.b at-args.l (lent at-args.statistics.now at-args.last-shingled-input.now at-args.last-shingled-point.now
-    at-args.previous-timestamps.now at-args.initial-values.now at-args.initial-timestamps.now) at-args.point.now at-args.out.now _ c.in-Running.is
+    c.read_call.ensures ∙ line_by_lem at-args.b at-args.l (lent at-args.statistics.now at-args.last_shingled_input.now at-args.last_shingled_point.now
+    at-args.previous_timestamps.now at-args.initial_values.now at-args.initial_timestamps.now) at-args.point.now at-args.out.now _ c.in-Running.is
 
 pub returns-in-Ended : goal.returns-in-Ended
 returns-in-Ended c =
-    let c8 = c in
     let at-args = c.args in
-    line_by_lem at-args.b at-args.l (lent at-args.statistics.now at-args.last-shingled-input.now at-args.last-shingled-point.now at-args.previous-timestamps.now
-    at-args.initial-values.now at-args.initial-timestamps.now) at-args.point.now at-args.out.now _ c.in-Ended.is
+    line_by_lem at-args.b at-args.l (lent at-args.statistics.now at-args.last_shingled_input.now at-args.last_shingled_point.now at-args.previous_timestamps.now
+    at-args.initial_values.now at-args.initial_timestamps.now) at-args.point.now at-args.out.now _ c.in-Ended.is

@@ -9,12 +9,9 @@ use Rattle.bench_core.proofs.step.read_plain.Goals as goal
 
 pub returns-then-is_named : goal.returns-then-is_named
 returns-then-is_named c =
-    let c8 = c in
-    let c16 = c in
-    let c24 = c in
     let t = c in
     let a = c.args in
-    let lists = lent a.statistics.now a.last-shingled-input.now a.last-shingled-point.now a.previous-timestamps.now a.initial-values.now a.initial-timestamps.now in
+    let lists = lent a.statistics.now a.last_shingled_input.now a.last_shingled_point.now a.previous_timestamps.now a.initial_values.now a.initial_timestamps.now in
     let drains : is_named a.name Drain ≡ true = sym c.is_named.ensures ∙ c.if-is_named.true in
     λ y.
     plain_drain a.b lists y a.out.now a.name drains
@@ -22,12 +19,11 @@ returns-then-is_named c =
 
 pub returns-then-is_named-2 : goal.returns-then-is_named-2
 returns-then-is_named-2 c =
-    let c8 = c in
     let s = c in
     let t = c in
     let h = c in
     let a = c.args in
-    let lists = lent a.statistics.now a.last-shingled-input.now a.last-shingled-point.now a.previous-timestamps.now a.initial-values.now a.initial-timestamps.now in
+    let lists = lent a.statistics.now a.last_shingled_input.now a.last_shingled_point.now a.previous_timestamps.now a.initial_values.now a.initial_timestamps.now in
     let stays : is_named a.name Drain ≡ false = sym c.is_named.ensures ∙ c.if-is_named.false in
     let saves : is_named a.name Save ≡ true = sym c.is_named-2.ensures ∙ c.if-is_named-2.true in
     λ y.
@@ -40,7 +36,7 @@ returns c =
     let t = c in
     let h = c in
     let a = c.args in
-    let lists = lent a.statistics.now a.last-shingled-input.now a.last-shingled-point.now a.previous-timestamps.now a.initial-values.now a.initial-timestamps.now in
+    let lists = lent a.statistics.now a.last_shingled_input.now a.last_shingled_point.now a.previous_timestamps.now a.initial_values.now a.initial_timestamps.now in
     let stays : is_named a.name Drain ≡ false = sym c.is_named.ensures ∙ c.if-is_named.false in
     let keeps : is_named a.name Save ≡ false = sym c.is_named-2.ensures ∙ c.if-is_named-2.false in
     λ y.

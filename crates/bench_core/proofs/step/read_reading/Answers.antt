@@ -9,8 +9,6 @@ use Rattle.bench_core.proofs.step.read_reading.Goals as goal
 
 pub slice_bounds-singles-end : goal.slice_bounds-singles-end
 slice_bounds-singles-end c =
-    let c8 = c in
-    let c16 = c in
     let s = c in
     let w = c.args.l.singles in
     let z : length w ≡ 17 = seventeen w c.well_formed.1.0.1.1.1.1.1.1.1.0.1.0.1 in
@@ -18,8 +16,6 @@ slice_bounds-singles-end c =
 
 pub slice_bounds-call_point-end : goal.slice_bounds-call_point-end
 slice_bounds-call_point-end c =
-    let c8 = c in
-    let c16 = c in
     let at-kept = c.kept-n in
     let s = c in
     let w = c.args.l.singles in
@@ -28,21 +24,15 @@ slice_bounds-call_point-end c =
 
 pub returns-then-asks : goal.returns-then-asks
 returns-then-asks c =
-    let c8 = c in
-    let c16 = c in
-    let c24 = c in
-    let c32 = c in
     let a = c.args in
     let k = c.kept-n in
-    point_read a.b a.l (lent a.statistics.now a.last-shingled-input.now a.last-shingled-point.now a.previous-timestamps.now a.initial-values.now
-    a.initial-timestamps.now) a.point.now a.out.now a.asks (kept_of_lem a.l k.result k.ensures.value)
+    point_read a.b a.l (lent a.statistics.now a.last_shingled_input.now a.last_shingled_point.now a.previous_timestamps.now a.initial_values.now
+    a.initial_timestamps.now) a.point.now a.out.now a.asks (kept_of_lem a.l k.result k.ensures.value)
     c.if-asks.true c.call_point-a.ensures c.answered.ensures.bench_value
     c.answered.ensures.length_value
 
 pub slice_bounds-singles-end-2 : goal.slice_bounds-singles-end-2
 slice_bounds-singles-end-2 c =
-    let c8 = c in
-    let c16 = c in
     let s = c in
     let w = c.args.l.singles in
     let z : length w ≡ 17 = seventeen w c.well_formed.1.0.1.1.1.1.1.1.1.0.1.0.1 in
@@ -50,8 +40,6 @@ slice_bounds-singles-end-2 c =
 
 pub slice_bounds-call_learn-end : goal.slice_bounds-call_learn-end
 slice_bounds-call_learn-end c =
-    let c8 = c in
-    let c16 = c in
     let at-kept = c.kept-n in
     let s = c in
     let w = c.args.l.singles in
@@ -60,12 +48,8 @@ slice_bounds-call_learn-end c =
 
 pub returns : goal.returns
 returns c =
-    let c8 = c in
-    let c16 = c in
-    let c24 = c in
-    let c32 = c in
     let a = c.args in
     let k = c.kept-n in
-    learn_read a.b a.l (lent a.statistics.now a.last-shingled-input.now a.last-shingled-point.now a.previous-timestamps.now a.initial-values.now
-    a.initial-timestamps.now) a.point.now a.out.now a.asks (kept_of_lem a.l k.result k.ensures.value) c.if-asks.false
+    learn_read a.b a.l (lent a.statistics.now a.last_shingled_input.now a.last_shingled_point.now a.previous_timestamps.now a.initial_values.now
+    a.initial_timestamps.now) a.point.now a.out.now a.asks (kept_of_lem a.l k.result k.ensures.value) c.if-asks.false
     c.call_learn-a.ensures c.answered-2.ensures.bench_value c.answered-2.ensures.length_value

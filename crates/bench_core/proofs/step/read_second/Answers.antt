@@ -5,13 +5,10 @@ use Rattle.bench_core.proofs.step.read_second.Goals as goal
 
 pub returns-then-is_named : goal.returns-then-is_named
 returns-then-is_named c =
-    let c8 = c in
-    let c16 = c in
-    let c24 = c in
     let q = c.is_named in
     let n = c.request-name in
     let a = c.args in
-    let lists = lent a.statistics.now a.last-shingled-input.now a.last-shingled-point.now a.previous-timestamps.now a.initial-values.now a.initial-timestamps.now in
+    let lists = lent a.statistics.now a.last_shingled_input.now a.last_shingled_point.now a.previous_timestamps.now a.initial_values.now a.initial_timestamps.now in
     λ y.
     weights_read a.b a.l lists y a.out.now n.result n.ensures q.result q.ensures c.if-is_named.true
     (c.read_weights.ensures y)
@@ -23,5 +20,5 @@ returns c =
     let d = c in
     let n = c.request-name in
     let a = c.args in
-    let lists = lent a.statistics.now a.last-shingled-input.now a.last-shingled-point.now a.previous-timestamps.now a.initial-values.now a.initial-timestamps.now in
+    let lists = lent a.statistics.now a.last_shingled_input.now a.last_shingled_point.now a.previous_timestamps.now a.initial_values.now a.initial_timestamps.now in
     λ y. weights_other a.b a.l lists y a.out.now n.result n.ensures q.result q.ensures c.if-is_named.false c.ended.ensures

@@ -22,7 +22,6 @@ part_at-b-requires c = c.part_at-a.ensures.next_in_bounds
 pub returns-then-not-b : goal.returns-then-not-b
 unfolding fields_of
 returns-then-not-b c =
-    let c8 = c in
     let a = c.args in
     let t = a.text.now in
     let p1 = c.part_at-a in
@@ -37,7 +36,6 @@ part_at-c-requires c = c.part_at-b.ensures.next_in_bounds
 pub returns-then-not-c : goal.returns-then-not-c
 unfolding fields_of
 returns-then-not-c c =
-    let c8 = c in
     let a = c.args in
     let t = a.text.now in
     let p1 = c.part_at-a in
@@ -54,7 +52,6 @@ part_at-d-requires c = c.part_at-c.ensures.next_in_bounds
 pub returns-then-not-d : goal.returns-then-not-d
 unfolding fields_of
 returns-then-not-d c =
-    let c8 = c in
     let a = c.args in
     let t = a.text.now in
     let p1 = c.part_at-a in
@@ -73,8 +70,6 @@ part_at-e-requires c = c.part_at-d.ensures.next_in_bounds
 pub returns-then-not-e : goal.returns-then-not-e
 unfolding fields_of
 returns-then-not-e c =
-    let c8 = c in
-    let c16 = c in
     let a = c.args in
     let t = a.text.now in
     let p1 = c.part_at-a in
@@ -95,8 +90,6 @@ part_at-f-requires c = c.part_at-e.ensures.next_in_bounds
 pub returns-then-not-f : goal.returns-then-not-f
 unfolding fields_of
 returns-then-not-f c =
-    let c8 = c in
-    let c16 = c in
     let a = c.args in
     let t = a.text.now in
     let p1 = c.part_at-a in
@@ -116,8 +109,6 @@ returns-then-not-f c =
 pub returns-then-f-text : goal.returns-then-f-text
 unfolding fields_of
 returns-then-f-text c =
-    let c8 = c in
-    let c16 = c in
     let a = c.args in
     let t = a.text.now in
     let p1 = c.part_at-a in
@@ -138,8 +129,6 @@ returns-then-f-text c =
 pub returns : goal.returns
 unfolding fields_of
 returns c =
-    let c8 = c in
-    let c16 = c in
     let a = c.args in
     let t = a.text.now in
     let p1 = c.part_at-a in

@@ -37,7 +37,6 @@ returns-then-byte_at-ne103 c =
 pub returns : goal.returns
 unfolding is_signal
 returns c =
-    let c8 = c in
     let t = c.args.t.now in
     ap (λ (n : ℕ). eqb n 9) c.byte_at-4.ensures ∙ sym
     (rw (

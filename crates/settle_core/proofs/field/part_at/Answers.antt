@@ -39,7 +39,6 @@ returns-then-text-e c =
 
 pub overflow_add-result : goal.overflow_add-result
 overflow_add-result c =
-    let c8 = c in
     let a = c.args in
     let n = c.cell_end-n in
     let e : n.result ≡ cell_length (drop a.at a.text.now) = n.ensures.value ∙ ap cell_length (rest_is a.text.now a.at) in
@@ -47,7 +46,6 @@ overflow_add-result c =
 
 pub returns : goal.returns
 returns c =
-    let c8 = c in
     let at-if1 = c.if-e-text in
     let a = c.args in
     let n = c.cell_end-n in

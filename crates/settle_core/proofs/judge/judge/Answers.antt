@@ -31,7 +31,6 @@ signalled-requires c = c.loop-n.invariant.1
 
 pub returns-then-not-opens_at-2 : goal.returns-then-not-opens_at-2
 returns-then-not-opens_at-2 c =
-    let c8 = c in
     let at-opens-at2 = c.opens_at-in-loop-n in
     let t = c.args.text.now in
     let l = c.loop-n in record { result_value = c.signalled.ensures.result_value ∙ read_closed l.pairs l.n (drop l.at t) (sym at-opens-at2.ensures ∙ not-true at-opens-at2.result c.if-not-opens_at-2.true-raw) ∙ sym l.invariant.0; count_bound = omega (arith, c.signalled.ensures.count_le_n, l.invariant.2) }
@@ -41,7 +40,6 @@ pair_at-p-requires c = c.loop-n.invariant.1
 
 pub returns-then-p-ne0 : goal.returns-then-p-ne0
 returns-then-p-ne0 c =
-    let c8 = c in
     let at-opens-at2 = c.opens_at-in-loop-n in
     let at-if3 = c.if-p-ne0 in
     let t = c.args.text.now in
@@ -61,7 +59,6 @@ loop-n-smaller c = omega (arith, c.loop-n-test.true)
 
 pub loop-n-preserved : goal.loop-n-preserved
 loop-n-preserved c =
-    let c8 = c in
     let at-loop-test = c.loop-n-test in
     let at-opens-at2 = c.opens_at-in-loop-n in
     let t = c.args.text.now in

@@ -27,7 +27,6 @@ returns-then-not-a c =
 
 pub returns-then-not-is_named : goal.returns-then-not-is_named
 returns-then-not-is_named c =
-    let c8 = c in
     let a = c.args in
     let t = a.text.now in
     let u : List ℕ = drop a.at t in
@@ -44,7 +43,6 @@ line_at-b-requires c = c.line_at_lem.ensures.1
 
 pub returns-then-not-b : goal.returns-then-not-b
 returns-then-not-b c =
-    let c8 = c in
     let a = c.args in
     let t = a.text.now in
     let u : List ℕ = drop a.at t in
@@ -62,8 +60,6 @@ returns-then-not-b c =
 
 pub returns-then-not-is_named-2 : goal.returns-then-not-is_named-2
 returns-then-not-is_named-2 c =
-    let c8 = c in
-    let c16 = c in
     let a = c.args in
     let t = a.text.now in
     let u : List ℕ = drop a.at t in
@@ -85,8 +81,6 @@ returns-then-not-is_named-2 c =
 
 pub returns : goal.returns
 returns c =
-    let c8 = c in
-    let c16 = c in
     let a = c.args in
     let t = a.text.now in
     let u : List ℕ = drop a.at t in

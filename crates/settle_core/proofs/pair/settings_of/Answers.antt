@@ -28,7 +28,6 @@ slice_bounds-pair_row-end-2 c = sym (length-take-le c.code_count-m.result (repli
 
 pub returns-then-row-ne0 : goal.returns-then-row-ne0
 returns-then-row-ne0 c =
-    let c8 = c in
     let at-pair-row = c.pair_row-row in
     let a = c.args in
     let k = c.kept-n in

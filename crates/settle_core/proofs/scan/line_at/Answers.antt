@@ -59,7 +59,6 @@ slice_bounds-cell-end c =
 
 pub overflow_add-at : goal.overflow_add-at
 overflow_add-at c =
-    let c8 = c in
     let a = c.args in
     let l = c.loop-at in
     let n = c.cell_end-n in
@@ -69,7 +68,6 @@ overflow_add-at c =
 
 pub bounds-text-e : goal.bounds-text-e
 bounds-text-e c =
-    let c8 = c in
     let a = c.args in
     let l = c.loop-at in
     let n = c.cell_end-n in
@@ -79,7 +77,6 @@ bounds-text-e c =
 
 pub returns-then-text-e-ne9 : goal.returns-then-text-e-ne9
 returns-then-text-e-ne9 c =
-    let c8 = c in
     let at-if1 = c.if-e-text in
     let a = c.args in
     let l = c.loop-at in
@@ -93,7 +90,6 @@ returns-then-text-e-ne9 c =
 
 pub loop-at-smaller : goal.loop-at-smaller
 loop-at-smaller c =
-    let c8 = c in
     let a = c.args in
     let l = c.loop-at in
     let n = c.cell_end-n in
@@ -103,7 +99,6 @@ loop-at-smaller c =
 
 pub loop-at-preserved : goal.loop-at-preserved
 loop-at-preserved c =
-    let c8 = c in
     let at-if1 = c.if-e-text in
     let a = c.args in
     let l = c.loop-at in

@@ -19,7 +19,6 @@ print_pair-at-requires c =
 
 pub overflow_add-i : goal.overflow_add-i
 overflow_add-i c =
-    let c8 = c in
     omega (arith, c.loop-i-test.true, c.requires.count_bound)
 
 pub loop-i-smaller : goal.loop-i-smaller
@@ -27,7 +26,6 @@ loop-i-smaller c = omega (arith, c.loop-i-test.true)
 
 pub loop-i-preserved : goal.loop-i-preserved
 loop-i-preserved c =
-    let c8 = c in
     let a = c.args in
     let l = c.loop-i in
     let p = c.print_pair-at in (

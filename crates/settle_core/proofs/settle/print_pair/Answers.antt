@@ -22,7 +22,6 @@ overflow_cast-i c = omega (arith, c.requires.i_bound)
 
 pub overflow_add-result : goal.overflow_add-result
 overflow_add-result c =
-    let c8 = c in
     let at_pre = c.requires in
     let a = c.args in
     let s = c.run-s in
@@ -34,7 +33,6 @@ overflow_add-result c =
 
 pub returns : goal.returns
 returns c =
-    let c8 = c in
     let a = c.args in
     let s = c.run-s in
     let n = c.ready_of-n in

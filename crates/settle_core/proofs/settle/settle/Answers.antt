@@ -15,7 +15,6 @@ returns-then-output-lt-ROOM c =
 pub returns-then-row-ne0 : goal.returns-then-row-ne0
 unfolding settled_on no_text
 returns-then-row-ne0 c =
-    let c8 = c in
     let at-if1 = c.if-output-lt-ROOM in
     let at-whole-line = c.whole_line-w in
     let a = c.args in
@@ -36,7 +35,6 @@ print_all-n-requires c = record { count_bound = c.judge-j.ensures.count_bound; i
 pub returns : goal.returns
 unfolding settled_on
 returns c =
-    let c8 = c in
     let a = c.args in
     let j = c.judge-j in
     let p = c.print_all-n in

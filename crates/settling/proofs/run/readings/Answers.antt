@@ -48,8 +48,6 @@ slice_bounds-step-end-in-loop-i-5 c = omega (arith, c.loop-i.invariant.3.initial
 
 pub value_at-requires : goal.value_at-requires
 value_at-requires c =
-    let c8 = c in
-    let c16 = c in
     let at_pre = c.requires in record {
       g_value = at_pre;
       i_bound = omega (
@@ -62,24 +60,14 @@ value_at-requires c =
 
 pub overflow_add-i : goal.overflow_add-i
 overflow_add-i c =
-    let c8 = c in
-    let c16 = c in
-    let c24 = c in
-    let c32 = c in
     omega (arith, c.loop-i-test.true, (limited c.args.signal c.requires).readings)
 
 pub loop-i-smaller : goal.loop-i-smaller
 loop-i-smaller c =
-    let c8 = c in
-    let c16 = c in
     omega (arith, c.loop-i-test.true)
 
 pub loop-i-preserved : goal.loop-i-preserved
 loop-i-preserved c =
-    let c8 = c in
-    let c16 = c in
-    let c24 = c in
-    let c32 = c in
     let at-step = c.step-t in
     let l = c.loop-i in
     let k = at-step.auto in
@@ -101,8 +89,6 @@ loop-i-preserved c =
 
 pub returns : goal.returns
 returns c =
-    let c8 = c in
-    let c16 = c in
     let at-build = c.build-built in
     let at-nothing = c.nothing-s in
     let a = c.args in

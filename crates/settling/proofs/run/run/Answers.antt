@@ -27,7 +27,6 @@ readings-requires c = sym c.in_limits.ensures ∙ not-false c.in_limits.result c
 
 pub returns : goal.returns
 returns c =
-    let c8 = c in
     let a = c.args in
     let l = c.in_limits in
     let e = sym l.ensures ∙ not-false l.result c.if-not-in_limits.false-raw in

@@ -11,13 +11,11 @@ returns-then-base-gt1000 c =
 
 pub returns-then-ramp-gt1000 : goal.returns-then-ramp-gt1000
 returns-then-ramp-gt1000 c =
-    let c8 = c in
     let g = c.args.g in
     sym (limits_are g ∙ rw (le-leb g.base.size 1000 c.if-base-gt1000.false, lt-leb g.ramp.size 1000 c.if-ramp-gt1000.true))
 
 pub returns-then-ripple-gt1000 : goal.returns-then-ripple-gt1000
 returns-then-ripple-gt1000 c =
-    let c8 = c in
     let g = c.args.g in
     sym (limits_are g ∙ rw (
       le-leb g.base.size 1000 c.if-base-gt1000.false,
@@ -28,7 +26,6 @@ returns-then-ripple-gt1000 c =
 
 pub returns-then-jump-gt1000 : goal.returns-then-jump-gt1000
 returns-then-jump-gt1000 c =
-    let c8 = c in
     let g = c.args.g in
     sym (limits_are g ∙ rw (
       le-leb g.base.size 1000 c.if-base-gt1000.false,
@@ -40,7 +37,6 @@ returns-then-jump-gt1000 c =
 
 pub returns : goal.returns
 returns c =
-    let c8 = c in
     let g = c.args.g in
     c.counts_in_limits.ensures ∙ sym
     (limits_are g ∙ rw (

@@ -21,7 +21,6 @@ add-rippled-requires c =
 
 pub add-requires : goal.add-requires
 add-requires c =
-    let c8 = c in
     let l = limited c.args.g c.requires.g_value in
     omega (
       arith,
@@ -37,7 +36,6 @@ add-requires c =
 
 pub returns : goal.returns
 returns c =
-    let c8 = c in
     let a = c.args in
     reading_is (signal_of a.g) a.i _ _ _ _ _ _ c.times.ensures.result_value
     c.add-risen.ensures.result_value c.only_if.ensures.result_value

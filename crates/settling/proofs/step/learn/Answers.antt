@@ -7,14 +7,10 @@ use Rattle.settling.proofs.step.learn.Goals as goal
 
 pub returns : goal.returns
 returns c =
-    let c8 = c in
-    let c16 = c in
-    let c24 = c in
-    let c32 = c in
     let e = c.every_right-table in
     let a = c.args in
     ap learned_result
     (c.post_process-r.ensures
     ∙ learn_below e.result e.ensures a.head
-    (lent a.statistics.now a.last-shingled-input.now a.last-shingled-point.now a.previous-timestamps.now a.initial-values.now a.initial-timestamps.now)
+    (lent a.statistics.now a.last_shingled_input.now a.last_shingled_point.now a.previous_timestamps.now a.initial_values.now a.initial_timestamps.now)
     (learning a.input.now a.timestamp a.given a.point.now))

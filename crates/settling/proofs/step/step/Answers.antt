@@ -13,17 +13,13 @@ use Rattle.settling.proofs.step.step.Goals as goal
 
 pub slice_bounds-turn_with-end-2 : goal.slice_bounds-turn_with-end-2
 slice_bounds-turn_with-end-2 c =
-    let c8 = c in
-    sym (length-take-le c.point_length_lem.result (replicate 128 zero32) c.point_length_lem.ensures.1)
+    sym (length-take-le c.point_length-n.result (replicate 128 zero32) c.point_length-n.ensures.upper_bound)
 
 pub returns : goal.returns
 returns c =
-    let c8 = c in
-    let c16 = c in
-    let c24 = c in
     let a = c.args in
-    let n = c.point_length_lem in
+    let n = c.point_length-n in
     c.turn_with.ensures ∙ ap
-    (λ (out : List Float). reading_result_with a.head (lent a.statistics.now a.last-shingled-input.now a.last-shingled-point.now a.previous-timestamps.now
-    a.initial-values.now a.initial-timestamps.now) (a.value ∷ []) a.timestamp out)
-    (take_replicate 128 n.result zero32 n.ensures.1 ∙ ap (λ (k : ℕ). replicate k zero32) n.ensures.0)
+    (λ (out : List Float). reading_result_with a.head (lent a.statistics.now a.last_shingled_input.now a.last_shingled_point.now a.previous_timestamps.now
+    a.initial_values.now a.initial_timestamps.now) (a.value ∷ []) a.timestamp out)
+    (take_replicate 128 n.result zero32 n.ensures.upper_bound ∙ ap (λ (k : ℕ). replicate k zero32) n.ensures.value)
