@@ -45,7 +45,7 @@ overflow_add-i c =
     let c16 = c in
     let c24 = c in
     let A = c.args in
-    omega (arith, c.loop-i-test.true, div-le_self (length A.values.now) A.t.input_length, c.well_formed.1.1.1.0)
+    omega (arith, c.loop-i-test.true, div-le_self (length A.values.now) A.t.input_length)
 
 pub loop-i-smaller : goal.loop-i-smaller
 loop-i-smaller c =
