@@ -34,18 +34,6 @@ held_row-short-requires c = tt
 pub no_head-requires-then-short-ne0 : goal.no_head-requires-then-short-ne0
 no_head-requires-then-short-ne0 c = tt
 
-pub shape_of-statistics-then-short-ne0 : goal.shape_of-statistics-then-short-ne0
-shape_of-statistics-then-short-ne0 c = refl
-
-pub shape_of-last_shingled_input-then-short-ne0 : goal.shape_of-last_shingled_input-then-short-ne0
-shape_of-last_shingled_input-then-short-ne0 c = refl
-
-pub shape_of-last_shingled_point-then-short-ne0 : goal.shape_of-last_shingled_point-then-short-ne0
-shape_of-last_shingled_point-then-short-ne0 c = refl
-
-pub shape_of-previous_timestamps-then-short-ne0 : goal.shape_of-previous_timestamps-then-short-ne0
-shape_of-previous_timestamps-then-short-ne0 c = refl
-
 pub returns-then-short-ne0 : goal.returns-then-short-ne0
 returns-then-short-ne0 c =
     let c16 = c in

@@ -12,9 +12,6 @@ use Rattle.trcf_calls.proofs.queries.difference_deviations.Goals as goal
 pub write_row-row-requires : goal.write_row-row-requires
 write_row-row-requires c = tt
 
-pub shape_of-output-then-row-ne0 : goal.shape_of-output-then-row-ne0
-shape_of-output-then-row-ne0 c = refl
-
 pub returns-then-row-ne0 : goal.returns-then-row-ne0
 returns-then-row-ne0 c =
     let a = c.args in
@@ -36,9 +33,6 @@ slice_bounds-write_deviations-end c = sym (length-take-le _ _ (c.write_row-row.e
 
 pub write_deviations-requires : goal.write_deviations-requires
 write_deviations-requires c = tt
-
-pub shape_of-output : goal.shape_of-output
-shape_of-output c = c.write_deviations.auto.1.1.0
 
 pub returns : goal.returns
 unfolding view deviations

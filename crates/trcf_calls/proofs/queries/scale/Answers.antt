@@ -12,9 +12,6 @@ use Rattle.trcf_calls.proofs.queries.scale.Goals as goal
 pub write_row-row-requires : goal.write_row-row-requires
 write_row-row-requires c = tt
 
-pub shape_of-output-then-row-ne0 : goal.shape_of-output-then-row-ne0
-shape_of-output-then-row-ne0 c = refl
-
 pub returns-then-row-ne0 : goal.returns-then-row-ne0
 returns-then-row-ne0 c =
     let a = c.args in
@@ -35,9 +32,6 @@ slice_bounds-write_scale-end c = sym (length-take-le _ _ (c.write_row-row.ensure
 
 pub write_scale-requires : goal.write_scale-requires
 write_scale-requires c = tt
-
-pub shape_of-output : goal.shape_of-output
-shape_of-output c = c.write_scale.auto.1.1.0
 
 pub returns : goal.returns
 unfolding view scale_of

@@ -12,9 +12,6 @@ use Rattle.trcf_calls.proofs.queries.shift.Goals as goal
 pub write_row-row-requires : goal.write_row-row-requires
 write_row-row-requires c = tt
 
-pub shape_of-output-then-row-ne0 : goal.shape_of-output-then-row-ne0
-shape_of-output-then-row-ne0 c = refl
-
 pub returns-then-row-ne0 : goal.returns-then-row-ne0
 returns-then-row-ne0 c =
     let a = c.args in
@@ -38,9 +35,6 @@ slice_bounds-write_shift-end-2 c = sym (length-take-le _ _ (c.write_row-row.ensu
 
 pub write_shift-requires : goal.write_shift-requires
 write_shift-requires c = tt
-
-pub shape_of-output : goal.shape_of-output
-shape_of-output c = c.write_shift.auto.1.1.1.0
 
 pub returns : goal.returns
 unfolding view shift_of

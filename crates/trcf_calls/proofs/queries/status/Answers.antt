@@ -10,9 +10,6 @@ difference_deviations-row-requires c = tt
 pub no_status-requires : goal.no_status-requires
 no_status-requires c = tt
 
-pub shape_of-output-then-row-ne0 : goal.shape_of-output-then-row-ne0
-shape_of-output-then-row-ne0 c = c.difference_deviations-row.auto.1.1.1.1.1.1.1.0
-
 pub returns-then-row-ne0 : goal.returns-then-row-ne0
 returns-then-row-ne0 c =
     let d = c.difference_deviations-row in
@@ -26,9 +23,6 @@ get_dimension-requires c = tt
 
 pub panel-requires : goal.panel-requires
 panel-requires c = tt
-
-pub shape_of-output : goal.shape_of-output
-shape_of-output c = c.difference_deviations-row.auto.1.1.1.1.1.1.1.0
 
 pub returns : goal.returns
 returns c =

@@ -103,10 +103,6 @@ loop-i-preserved c =
       omega arith,
     )
 
-pub shape_of-dst : goal.shape_of-dst
-shape_of-dst c =
-    omega arith
-
 pub returns : goal.returns
 returns c =
     let A = c.args in

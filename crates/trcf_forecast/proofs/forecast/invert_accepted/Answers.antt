@@ -82,39 +82,6 @@ invert_in_place-requires c =
           (sym c.is_augmented.ensures ∙ c.if-is_augmented.false);
     }
 
-pub shape_of-values-then-is_augmented : goal.shape_of-values-then-is_augmented
-shape_of-values-then-is_augmented c = refl
-
-pub shape_of-upper-then-is_augmented : goal.shape_of-upper-then-is_augmented
-shape_of-upper-then-is_augmented c = refl
-
-pub shape_of-lower-then-is_augmented : goal.shape_of-lower-then-is_augmented
-shape_of-lower-then-is_augmented c = refl
-
-pub shape_of-values_out : goal.shape_of-values_out
-shape_of-values_out c =
-    c.invert_augmented.kept.1.1.1.1.1.1.1.0
-
-pub shape_of-upper_out : goal.shape_of-upper_out
-shape_of-upper_out c =
-    c.invert_augmented.kept.1.1.1.1.1.1.1.1.0
-
-pub shape_of-lower_out : goal.shape_of-lower_out
-shape_of-lower_out c =
-    c.invert_augmented.kept.1.1.1.1.1.1.1.1.1.0
-
-pub shape_of-times_out : goal.shape_of-times_out
-shape_of-times_out c =
-    c.invert_augmented.kept.1.1.1.1.1.1.1.1.1.1.0
-
-pub shape_of-times_upper_out : goal.shape_of-times_upper_out
-shape_of-times_upper_out c =
-    c.invert_augmented.kept.1.1.1.1.1.1.1.1.1.1.1.0
-
-pub shape_of-times_lower_out : goal.shape_of-times_lower_out
-shape_of-times_lower_out c =
-    c.invert_augmented.kept.1.1.1.1.1.1.1.1.1.1.1.1.0
-
 pub returns-then-is_augmented : goal.returns-then-is_augmented
 unfolding numbers_of times_of previous viewed view
 returns-then-is_augmented c =
@@ -127,15 +94,6 @@ returns-then-is_augmented c =
     (forecast (ranges A.values.now A.upper.now A.lower.now) (ranges A.«values-out».now A.«upper-out».now A.«lower-out».now)
     (ranges A.«times-out».now A.«times-upper-out».now A.«times-lower-out».now))
     _ _ (sym c.is_augmented.ensures ∙ c.if-is_augmented.true) I.lower_out_after I.times_lower_out_after
-
-pub shape_of-values-else-is_augmented : goal.shape_of-values-else-is_augmented
-shape_of-values-else-is_augmented c = c.invert_in_place.kept.1.1.1.0
-
-pub shape_of-upper-else-is_augmented : goal.shape_of-upper-else-is_augmented
-shape_of-upper-else-is_augmented c = c.invert_in_place.kept.1.1.1.1.0
-
-pub shape_of-lower-else-is_augmented : goal.shape_of-lower-else-is_augmented
-shape_of-lower-else-is_augmented c = c.invert_in_place.kept.1.1.1.1.1.0
 
 pub returns-else-is_augmented : goal.returns-else-is_augmented
 unfolding previous viewed view

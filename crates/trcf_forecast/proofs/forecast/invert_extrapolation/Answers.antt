@@ -19,51 +19,6 @@ pub invert_accepted-requires : goal.invert_accepted-requires
 invert_accepted-requires c =
     c.extrapolation_row-row.ensures.invertible c.if-row-ne0.false
 
-pub shape_of-values : goal.shape_of-values
-shape_of-values c =
-    let c16 = c in
-    c.invert_accepted.kept.1.1.1.1.0
-
-pub shape_of-upper : goal.shape_of-upper
-shape_of-upper c =
-    let c16 = c in
-    c.invert_accepted.kept.1.1.1.1.1.0
-
-pub shape_of-lower : goal.shape_of-lower
-shape_of-lower c =
-    let c16 = c in
-    c.invert_accepted.kept.1.1.1.1.1.1.0
-
-pub shape_of-values_out : goal.shape_of-values_out
-shape_of-values_out c =
-    let c16 = c in
-    c.invert_accepted.kept.1.1.1.1.1.1.1.0
-
-pub shape_of-upper_out : goal.shape_of-upper_out
-shape_of-upper_out c =
-    let c16 = c in
-    c.invert_accepted.kept.1.1.1.1.1.1.1.1.0
-
-pub shape_of-lower_out : goal.shape_of-lower_out
-shape_of-lower_out c =
-    let c16 = c in
-    c.invert_accepted.kept.1.1.1.1.1.1.1.1.1.0
-
-pub shape_of-times_out : goal.shape_of-times_out
-shape_of-times_out c =
-    let c16 = c in
-    c.invert_accepted.kept.1.1.1.1.1.1.1.1.1.1.0
-
-pub shape_of-times_upper_out : goal.shape_of-times_upper_out
-shape_of-times_upper_out c =
-    let c16 = c in
-    c.invert_accepted.kept.1.1.1.1.1.1.1.1.1.1.1.0
-
-pub shape_of-times_lower_out : goal.shape_of-times_lower_out
-shape_of-times_lower_out c =
-    let c16 = c in
-    c.invert_accepted.kept.1.1.1.1.1.1.1.1.1.1.1.1.0
-
 pub returns : goal.returns
 returns c =
     let c16 = c in

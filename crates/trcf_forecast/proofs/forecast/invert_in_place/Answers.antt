@@ -36,15 +36,6 @@ slice_bounds-invert_forecast_in_place-end c = omega arith
 pub invert_forecast_in_place-requires : goal.invert_forecast_in_place-requires
 invert_forecast_in_place-requires c = tt
 
-pub shape_of-values : goal.shape_of-values
-shape_of-values c = c.invert_forecast_in_place.kept.1.1.1.0
-
-pub shape_of-upper : goal.shape_of-upper
-shape_of-upper c = c.invert_forecast_in_place.kept.1.1.1.1.0
-
-pub shape_of-lower : goal.shape_of-lower
-shape_of-lower c = c.invert_forecast_in_place.kept.1.1.1.1.1.0
-
 pub returns : goal.returns
 returns c =
     let c16 = c in

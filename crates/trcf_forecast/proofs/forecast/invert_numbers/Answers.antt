@@ -54,19 +54,6 @@ invert_in_place-requires c =
           P.0.k_pos);
     }
 
-pub shape_of-values_out : goal.shape_of-values_out
-shape_of-values_out c =
-    let c16 = c in
-    c.invert_in_place.kept.1.1.1.0 ∙ c.copy_fronts.kept.1.1.1.1.0
-
-pub shape_of-upper_out : goal.shape_of-upper_out
-shape_of-upper_out c =
-    c.invert_in_place.kept.1.1.1.1.0 ∙ c.copy_fronts-2.kept.1.1.1.1.0
-
-pub shape_of-lower_out : goal.shape_of-lower_out
-shape_of-lower_out c =
-    c.invert_in_place.kept.1.1.1.1.1.0 ∙ c.copy_fronts-3.kept.1.1.1.1.0
-
 pub returns : goal.returns
 returns c =
     let c16 = c in

@@ -41,21 +41,6 @@ write_times-requires c =
     let f = dimension_augmented (settings_of A.head) P.1.1.0 in
     record { m_lt_a = omega (arith, e, f, P.0.k_pos); upper_out_len = P.1.1.1.1.0; a_in_bounds = (rw e P.1.1.1.1.1.0, rw e P.1.1.1.1.1.1, rw e P.1.1.1.1.1.2) }
 
-pub shape_of-values_out : goal.shape_of-values_out
-shape_of-values_out c =
-    let c16 = c in
-    c.cascaded_add_f64.kept.0 ∙ c.write_times.kept.1.1.1.1.1.1.1.1.1.0
-
-pub shape_of-upper_out : goal.shape_of-upper_out
-shape_of-upper_out c =
-    let c16 = c in
-    c.cascaded_add_f64.kept.1.0 ∙ c.write_times.kept.1.1.1.1.1.1.1.1.1.1.0
-
-pub shape_of-lower_out : goal.shape_of-lower_out
-shape_of-lower_out c =
-    let c16 = c in
-    c.cascaded_add_f64.kept.1.1.0 ∙ c.write_times.kept.1.1.1.1.1.1.1.1.1.1.1.0
-
 pub returns : goal.returns
 returns c =
     let c16 = c in

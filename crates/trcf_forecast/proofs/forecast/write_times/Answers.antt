@@ -143,18 +143,6 @@ loop-i-preserved c =
       simp length-set L.invariant.6,
     )
 
-pub shape_of-values_out : goal.shape_of-values_out
-shape_of-values_out c =
-    c.loop-i.invariant.4
-
-pub shape_of-upper_out : goal.shape_of-upper_out
-shape_of-upper_out c =
-    c.loop-i.invariant.5
-
-pub shape_of-lower_out : goal.shape_of-lower_out
-shape_of-lower_out c =
-    c.loop-i.invariant.6
-
 pub returns : goal.returns
 unfolding times_by
 returns c =

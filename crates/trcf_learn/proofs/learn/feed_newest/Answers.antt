@@ -38,9 +38,6 @@ slice_bounds-feed_reading-end c = omega arith
 pub feed_reading-requires : goal.feed_reading-requires
 feed_reading-requires c = tt
 
-pub shape_of-s : goal.shape_of-s
-shape_of-s c = c.feed_reading.auto.1.1.0
-
 pub returns-then-seen-stop : goal.returns-then-seen-stop
 unfolding previous
 returns-then-seen-stop c =

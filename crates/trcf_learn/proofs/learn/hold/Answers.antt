@@ -24,9 +24,6 @@ copy_in-requires c = tt
 pub offset_bounds-initial_timestamps-n : goal.offset_bounds-initial_timestamps-n
 offset_bounds-initial_timestamps-n c = omega arith
 
-pub shape_of-initial_values : goal.shape_of-initial_values
-shape_of-initial_values c = c.copy_in.auto.0
-
 pub returns : goal.returns
 returns c =
     let a = c.args in

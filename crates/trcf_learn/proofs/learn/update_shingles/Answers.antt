@@ -77,9 +77,6 @@ slice_bounds-shift_time-end-2 c =
 pub shift_time-requires : goal.shift_time-requires
 shift_time-requires c = tt
 
-pub shape_of-last_shingled_point : goal.shape_of-last_shingled_point
-shape_of-last_shingled_point c = c.copy_in.auto.0
-
 pub returns : goal.returns
 returns c =
     let c16 = c in

@@ -158,13 +158,6 @@ bounds-times-b c =
     let c16 = c in
     let a = c.args in let h = a.head in let q = c.requires in let d = h.transformer.input_length in omega (arith, q, q.exact)
 
-pub shape_of-past_out : goal.shape_of-past_out
-shape_of-past_out c =
-    c.write_past.auto.1.1.1.1.0
-
-pub shape_of-expected_out : goal.shape_of-expected_out
-shape_of-expected_out c = c.invert_into.auto.1.1.1.1.0
-
 pub returns : goal.returns
 unfolding block_from
 returns c =

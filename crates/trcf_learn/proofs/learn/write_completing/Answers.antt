@@ -12,9 +12,6 @@ overflow_add-seen c = omega arith
 pub write_deviations-requires : goal.write_deviations-requires
 write_deviations-requires c = tt
 
-pub shape_of-output-then-seen-start : goal.shape_of-output-then-seen-start
-shape_of-output-then-seen-start c = c.write_deviations.auto.1.1.0
-
 pub returns-then-seen-start : goal.returns-then-seen-start
 returns-then-seen-start c =
     let a = c.args in

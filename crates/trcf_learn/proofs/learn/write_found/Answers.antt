@@ -15,12 +15,6 @@ write_anomaly-time-requires c =
     let f = q.findable (sym c.is_anomaly.ensures ∙ not-false _ c.if-not-is_anomaly.false-raw) in
     record { bounded = q.bounded; exact = q.exact; input_len = q.input_len; expected_len = f.all_expected; back_bound = f.inside; input_length_in_bounds = f.past_room; input_length_in_bounds_2 = f.expected_room }
 
-pub shape_of-past_out : goal.shape_of-past_out
-shape_of-past_out c = c.write_anomaly-time.auto.1.1.1.1.1.1.1.0
-
-pub shape_of-expected_out : goal.shape_of-expected_out
-shape_of-expected_out c = c.write_anomaly-time.auto.1.1.1.1.1.1.1.1.0
-
 pub returns : goal.returns
 returns c =
     let e = sym c.is_anomaly.ensures ∙ not-false _ c.if-not-is_anomaly.false-raw

@@ -83,14 +83,8 @@ slice_bounds-copy_in-end c =
 pub copy_in-requires-else-back-eq0 : goal.copy_in-requires-else-back-eq0
 copy_in-requires-else-back-eq0 c = tt
 
-pub shape_of-output-then-back-eq0 : goal.shape_of-output-then-back-eq0
-shape_of-output-then-back-eq0 c = c.copy_in.auto.0
-
 pub returns-then-back-eq0 : goal.returns-then-back-eq0
 returns-then-back-eq0 c = rw (eq-eqb _ _ c.if-back-eq0.true) ((roomy _ c.copy_in.ensures (search rules)) ∙ paste_over _ _)
-
-pub shape_of-output-else-back-eq0 : goal.shape_of-output-else-back-eq0
-shape_of-output-else-back-eq0 c = c.copy_in-else-back-eq0.auto.0
 
 pub returns-else-back-eq0 : goal.returns-else-back-eq0
 unfolding block_from

@@ -13,33 +13,6 @@ post_process_row-row-requires c = tt
 pub unlearned-requires : goal.unlearned-requires
 unlearned-requires c = tt
 
-pub shape_of-statistics-then-row-ne0 : goal.shape_of-statistics-then-row-ne0
-shape_of-statistics-then-row-ne0 c = refl
-
-pub shape_of-last_shingled_input-then-row-ne0 : goal.shape_of-last_shingled_input-then-row-ne0
-shape_of-last_shingled_input-then-row-ne0 c = refl
-
-pub shape_of-last_shingled_point-then-row-ne0 : goal.shape_of-last_shingled_point-then-row-ne0
-shape_of-last_shingled_point-then-row-ne0 c = refl
-
-pub shape_of-previous_timestamps-then-row-ne0 : goal.shape_of-previous_timestamps-then-row-ne0
-shape_of-previous_timestamps-then-row-ne0 c = refl
-
-pub shape_of-initial_values-then-row-ne0 : goal.shape_of-initial_values-then-row-ne0
-shape_of-initial_values-then-row-ne0 c = refl
-
-pub shape_of-initial_timestamps-then-row-ne0 : goal.shape_of-initial_timestamps-then-row-ne0
-shape_of-initial_timestamps-then-row-ne0 c = refl
-
-pub shape_of-deviations_out-then-row-ne0 : goal.shape_of-deviations_out-then-row-ne0
-shape_of-deviations_out-then-row-ne0 c = refl
-
-pub shape_of-past_out-then-row-ne0 : goal.shape_of-past_out-then-row-ne0
-shape_of-past_out-then-row-ne0 c = refl
-
-pub shape_of-expected_out-then-row-ne0 : goal.shape_of-expected_out-then-row-ne0
-shape_of-expected_out-then-row-ne0 c = refl
-
 pub returns-then-row-ne0 : goal.returns-then-row-ne0
 returns-then-row-ne0 c =
     let c16 = c in
@@ -65,33 +38,6 @@ post_process_waiting-requires c =
     a.past_out.now a.expected_out.now u o.result o.ensures.value o.ensures.ready c.if-row-ne0.false
     c.is_waiting.result c.is_waiting.ensures c.if-is_waiting.true
 
-pub shape_of-statistics-then-is_waiting : goal.shape_of-statistics-then-is_waiting
-shape_of-statistics-then-is_waiting c = refl
-
-pub shape_of-last_shingled_input-then-is_waiting : goal.shape_of-last_shingled_input-then-is_waiting
-shape_of-last_shingled_input-then-is_waiting c = refl
-
-pub shape_of-last_shingled_point-then-is_waiting : goal.shape_of-last_shingled_point-then-is_waiting
-shape_of-last_shingled_point-then-is_waiting c = refl
-
-pub shape_of-previous_timestamps-then-is_waiting : goal.shape_of-previous_timestamps-then-is_waiting
-shape_of-previous_timestamps-then-is_waiting c = refl
-
-pub shape_of-initial_values-then-is_waiting : goal.shape_of-initial_values-then-is_waiting
-shape_of-initial_values-then-is_waiting c = c.post_process_waiting.auto.1.1.0
-
-pub shape_of-initial_timestamps-then-is_waiting : goal.shape_of-initial_timestamps-then-is_waiting
-shape_of-initial_timestamps-then-is_waiting c = c.post_process_waiting.auto.1.1.1.0
-
-pub shape_of-deviations_out-then-is_waiting : goal.shape_of-deviations_out-then-is_waiting
-shape_of-deviations_out-then-is_waiting c = c.post_process_waiting.auto.1.1.1.1.1.1.0
-
-pub shape_of-past_out-then-is_waiting : goal.shape_of-past_out-then-is_waiting
-shape_of-past_out-then-is_waiting c = refl
-
-pub shape_of-expected_out-then-is_waiting : goal.shape_of-expected_out-then-is_waiting
-shape_of-expected_out-then-is_waiting c = refl
-
 pub returns-then-is_waiting : goal.returns-then-is_waiting
 returns-then-is_waiting c =
     let c16 = c in
@@ -109,33 +55,6 @@ returns-then-is_waiting c =
 
 pub unlearned-requires-then-not-has_y : goal.unlearned-requires-then-not-has_y
 unlearned-requires-then-not-has_y c = tt
-
-pub shape_of-statistics-then-not-has_y : goal.shape_of-statistics-then-not-has_y
-shape_of-statistics-then-not-has_y c = refl
-
-pub shape_of-last_shingled_input-then-not-has_y : goal.shape_of-last_shingled_input-then-not-has_y
-shape_of-last_shingled_input-then-not-has_y c = refl
-
-pub shape_of-last_shingled_point-then-not-has_y : goal.shape_of-last_shingled_point-then-not-has_y
-shape_of-last_shingled_point-then-not-has_y c = refl
-
-pub shape_of-previous_timestamps-then-not-has_y : goal.shape_of-previous_timestamps-then-not-has_y
-shape_of-previous_timestamps-then-not-has_y c = refl
-
-pub shape_of-initial_values-then-not-has_y : goal.shape_of-initial_values-then-not-has_y
-shape_of-initial_values-then-not-has_y c = refl
-
-pub shape_of-initial_timestamps-then-not-has_y : goal.shape_of-initial_timestamps-then-not-has_y
-shape_of-initial_timestamps-then-not-has_y c = refl
-
-pub shape_of-deviations_out-then-not-has_y : goal.shape_of-deviations_out-then-not-has_y
-shape_of-deviations_out-then-not-has_y c = refl
-
-pub shape_of-past_out-then-not-has_y : goal.shape_of-past_out-then-not-has_y
-shape_of-past_out-then-not-has_y c = refl
-
-pub shape_of-expected_out-then-not-has_y : goal.shape_of-expected_out-then-not-has_y
-shape_of-expected_out-then-not-has_y c = refl
 
 pub returns-then-not-has_y : goal.returns-then-not-has_y
 returns-then-not-has_y c =
@@ -166,40 +85,6 @@ post_process_learning-requires c =
     c.is_waiting.result c.is_waiting.ensures c.if-is_waiting.false
     (not-false a.has_y c.if-not-has_y.false-raw) c.places_back-back.result
     c.places_back-back.ensures
-
-pub shape_of-statistics : goal.shape_of-statistics
-shape_of-statistics c =
-    c.post_process_learning.auto.1.0
-
-pub shape_of-last_shingled_input : goal.shape_of-last_shingled_input
-shape_of-last_shingled_input c =
-    c.post_process_learning.auto.1.1.0
-
-pub shape_of-last_shingled_point : goal.shape_of-last_shingled_point
-shape_of-last_shingled_point c =
-    c.post_process_learning.auto.1.1.1.0
-
-pub shape_of-previous_timestamps : goal.shape_of-previous_timestamps
-shape_of-previous_timestamps c =
-    c.post_process_learning.auto.1.1.1.1.0
-
-pub shape_of-initial_values : goal.shape_of-initial_values
-shape_of-initial_values c = refl
-
-pub shape_of-initial_timestamps : goal.shape_of-initial_timestamps
-shape_of-initial_timestamps c = refl
-
-pub shape_of-deviations_out : goal.shape_of-deviations_out
-shape_of-deviations_out c =
-    c.post_process_learning.auto.1.1.1.1.1.1.1.1.1.1.1.1.0
-
-pub shape_of-past_out : goal.shape_of-past_out
-shape_of-past_out c =
-    c.post_process_learning.auto.1.1.1.1.1.1.1.1.1.1.1.1.1.0
-
-pub shape_of-expected_out : goal.shape_of-expected_out
-shape_of-expected_out c =
-    c.post_process_learning.auto.1.1.1.1.1.1.1.1.1.1.1.1.1.1.0
 
 pub returns : goal.returns
 returns c =

@@ -136,37 +136,6 @@ with_counts-next-requires c = tt
 pub likelihood_of-requires : goal.likelihood_of-requires
 likelihood_of-requires c = tt
 
-pub shape_of-statistics : goal.shape_of-statistics
-shape_of-statistics c =
-    c.update_shingles.auto.1.0
-
-pub shape_of-last_shingled_input : goal.shape_of-last_shingled_input
-shape_of-last_shingled_input c =
-    c.update_shingles.auto.1.1.0
-
-pub shape_of-last_shingled_point : goal.shape_of-last_shingled_point
-shape_of-last_shingled_point c =
-    c.update_shingles.auto.1.1.1.0
-
-pub shape_of-previous_timestamps : goal.shape_of-previous_timestamps
-shape_of-previous_timestamps c =
-    c.update_shingles.auto.1.1.1.1.0
-
-pub shape_of-deviations_out : goal.shape_of-deviations_out
-shape_of-deviations_out c = c.write_deviations.auto.1.1.0
-
-pub shape_of-past_out : goal.shape_of-past_out
-shape_of-past_out c =
-    let c16 = c in
-    let c24 = c in
-    omega (arith, c.write_found-found.auto)
-
-pub shape_of-expected_out : goal.shape_of-expected_out
-shape_of-expected_out c =
-    let c16 = c in
-    let c24 = c in
-    omega (arith, c.write_found-found.auto)
-
 pub returns : goal.returns
 returns c =
     let c16 = c in

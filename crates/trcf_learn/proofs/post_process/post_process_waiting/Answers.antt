@@ -44,17 +44,6 @@ overflow_add-n c = omega arith
 pub with_counts-next-requires : goal.with_counts-next-requires
 with_counts-next-requires c = tt
 
-pub shape_of-initial_values : goal.shape_of-initial_values
-shape_of-initial_values c =
-    c.hold.auto.1.0
-
-pub shape_of-initial_timestamps : goal.shape_of-initial_timestamps
-shape_of-initial_timestamps c =
-    c.hold.auto.1.1.0
-
-pub shape_of-deviations_out : goal.shape_of-deviations_out
-shape_of-deviations_out c = c.write_completing-written.auto.1.1.0
-
 pub returns : goal.returns
 returns c =
     let c16 = c in

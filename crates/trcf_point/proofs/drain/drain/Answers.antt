@@ -8,18 +8,6 @@ use Rattle.trcf_point.proofs.drain.drain.Goals as goal
 pub drain_row-row-requires : goal.drain_row-row-requires
 drain_row-row-requires c = tt
 
-pub shape_of-statistics-then-row-ne0 : goal.shape_of-statistics-then-row-ne0
-shape_of-statistics-then-row-ne0 c = refl
-
-pub shape_of-last_shingled_input-then-row-ne0 : goal.shape_of-last_shingled_input-then-row-ne0
-shape_of-last_shingled_input-then-row-ne0 c = refl
-
-pub shape_of-last_shingled_point-then-row-ne0 : goal.shape_of-last_shingled_point-then-row-ne0
-shape_of-last_shingled_point-then-row-ne0 c = refl
-
-pub shape_of-previous_timestamps-then-row-ne0 : goal.shape_of-previous_timestamps-then-row-ne0
-shape_of-previous_timestamps-then-row-ne0 c = refl
-
 pub returns-then-row-ne0 : goal.returns-then-row-ne0
 returns-then-row-ne0 c =
     let a = c.args in
@@ -34,18 +22,6 @@ drain_due-next-requires c =
     let o = c.drain_row-row in
     let z = c.if-row-ne0.false in
     record { ready = o.ensures.ready z; initial_timestamps_value = drain_room a.head l (sym o.ensures.value ∙ z) }
-
-pub shape_of-statistics : goal.shape_of-statistics
-shape_of-statistics c = c.drain_due-next.auto.1.0
-
-pub shape_of-last_shingled_input : goal.shape_of-last_shingled_input
-shape_of-last_shingled_input c = c.drain_due-next.auto.1.1.0
-
-pub shape_of-last_shingled_point : goal.shape_of-last_shingled_point
-shape_of-last_shingled_point c = c.drain_due-next.auto.1.1.1.0
-
-pub shape_of-previous_timestamps : goal.shape_of-previous_timestamps
-shape_of-previous_timestamps c = c.drain_due-next.auto.1.1.1.1.0
 
 pub returns : goal.returns
 returns c =

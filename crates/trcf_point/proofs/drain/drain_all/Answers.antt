@@ -61,19 +61,6 @@ drain_each-requires c =
       ),
     )
 
-pub shape_of-s : goal.shape_of-s
-shape_of-s c = c.drain_each.auto.1.0
-
-pub shape_of-inputs : goal.shape_of-inputs
-shape_of-inputs c =
-    c.drain_each.auto.1.1.0 ∙ c.copy_in.auto.0
-
-pub shape_of-points : goal.shape_of-points
-shape_of-points c = c.drain_each.auto.1.1.1.0
-
-pub shape_of-times : goal.shape_of-times
-shape_of-times c = c.drain_each.auto.1.1.1.1.0 ∙ simp length-set
-
 pub returns : goal.returns
 returns c =
     let c16 = c in

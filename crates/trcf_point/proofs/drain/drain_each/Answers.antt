@@ -81,18 +81,6 @@ loop-i-preserved c =
           D.ensures.points_after D.ensures.times_after,
     )
 
-pub shape_of-s : goal.shape_of-s
-shape_of-s c = omega arith
-
-pub shape_of-inputs : goal.shape_of-inputs
-shape_of-inputs c = omega arith
-
-pub shape_of-points : goal.shape_of-points
-shape_of-points c = omega arith
-
-pub shape_of-times : goal.shape_of-times
-shape_of-times c = omega arith
-
 pub returns : goal.returns
 returns c =
     let a = c.args in

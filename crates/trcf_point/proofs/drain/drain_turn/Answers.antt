@@ -158,16 +158,6 @@ shift_vector-requires-2 c = tt
 pub shift_time-requires : goal.shift_time-requires
 shift_time-requires c = tt
 
-pub shape_of-inputs : goal.shape_of-inputs
-shape_of-inputs c =
-    c.shift_vector.auto.0
-
-pub shape_of-points : goal.shape_of-points
-shape_of-points c = c.shift_vector-2.auto.0
-
-pub shape_of-times : goal.shape_of-times
-shape_of-times c = c.shift_time.auto.0
-
 pub returns : goal.returns
 unfolding previous
 returns c =

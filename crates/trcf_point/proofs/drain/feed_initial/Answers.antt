@@ -34,9 +34,6 @@ loop-fed-preserved c =
           c.feed_turn.ensures,
     )
 
-pub shape_of-s : goal.shape_of-s
-shape_of-s c = omega arith
-
 pub returns : goal.returns
 returns c =
     let a = c.args in

@@ -138,9 +138,6 @@ bounds-stamps-i c = omega arith
 pub feed_reading-requires : goal.feed_reading-requires
 feed_reading-requires c = tt
 
-pub shape_of-s : goal.shape_of-s
-shape_of-s c = c.feed_reading.auto.1.1.0
-
 pub returns : goal.returns
 returns c =
     let a = c.args in

@@ -29,21 +29,6 @@ based h st xs ps ts vs vt x out o t b e f =
 pub shingled_point_row-row-requires : goal.shingled_point_row-row-requires
 shingled_point_row-row-requires c = tt
 
-pub shape_of-statistics-then-row-ne0 : goal.shape_of-statistics-then-row-ne0
-shape_of-statistics-then-row-ne0 c = refl
-
-pub shape_of-last_shingled_input-then-row-ne0 : goal.shape_of-last_shingled_input-then-row-ne0
-shape_of-last_shingled_input-then-row-ne0 c = refl
-
-pub shape_of-last_shingled_point-then-row-ne0 : goal.shape_of-last_shingled_point-then-row-ne0
-shape_of-last_shingled_point-then-row-ne0 c = refl
-
-pub shape_of-previous_timestamps-then-row-ne0 : goal.shape_of-previous_timestamps-then-row-ne0
-shape_of-previous_timestamps-then-row-ne0 c = refl
-
-pub shape_of-output-then-row-ne0 : goal.shape_of-output-then-row-ne0
-shape_of-output-then-row-ne0 c = refl
-
 pub returns-then-row-ne0 : goal.returns-then-row-ne0
 returns-then-row-ne0 c =
     let a = c.args in
@@ -52,21 +37,6 @@ returns-then-row-ne0 c =
 
 pub is_waiting-requires : goal.is_waiting-requires
 is_waiting-requires c = tt
-
-pub shape_of-statistics-then-is_waiting : goal.shape_of-statistics-then-is_waiting
-shape_of-statistics-then-is_waiting c = refl
-
-pub shape_of-last_shingled_input-then-is_waiting : goal.shape_of-last_shingled_input-then-is_waiting
-shape_of-last_shingled_input-then-is_waiting c = refl
-
-pub shape_of-last_shingled_point-then-is_waiting : goal.shape_of-last_shingled_point-then-is_waiting
-shape_of-last_shingled_point-then-is_waiting c = refl
-
-pub shape_of-previous_timestamps-then-is_waiting : goal.shape_of-previous_timestamps-then-is_waiting
-shape_of-previous_timestamps-then-is_waiting c = refl
-
-pub shape_of-output-then-is_waiting : goal.shape_of-output-then-is_waiting
-shape_of-output-then-is_waiting c = refl
 
 pub returns-then-is_waiting : goal.returns-then-is_waiting
 returns-then-is_waiting c =
@@ -107,29 +77,6 @@ write_point-requires c =
     room_point a.head l (length a.input.now) (length a.output.now) _ _ _ _ (drained (view a.head l)) d.result (ap (λ (u : Outcome). u.head) d.ensures.initial_timestamps_after)
     (o.ensures.ready z) d.auto.1.0 d.auto.1.1.0 d.auto.1.1.1.0 d.auto.1.1.1.1.0 q.whole g in
     (r.0, (r.1.0, (r.1.1.0, (r.1.1.1.0, r.1.1.1.1.1))))
-
-pub shape_of-statistics : goal.shape_of-statistics
-shape_of-statistics c =
-    let c16 = c in
-    c.drain_due-next.auto.1.0
-
-pub shape_of-last_shingled_input : goal.shape_of-last_shingled_input
-shape_of-last_shingled_input c =
-    let c16 = c in
-    c.drain_due-next.auto.1.1.0
-
-pub shape_of-last_shingled_point : goal.shape_of-last_shingled_point
-shape_of-last_shingled_point c =
-    let c16 = c in
-    c.drain_due-next.auto.1.1.1.0
-
-pub shape_of-previous_timestamps : goal.shape_of-previous_timestamps
-shape_of-previous_timestamps c =
-    let c16 = c in
-    c.drain_due-next.auto.1.1.1.1.0
-
-pub shape_of-output : goal.shape_of-output
-shape_of-output c = c.write_point.auto.1.1.1.1.1.1.1.0
 
 pub returns : goal.returns
 returns c =
