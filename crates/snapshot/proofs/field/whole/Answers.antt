@@ -5,16 +5,15 @@ use native.Mathlib.Numerals.{add-one}
 use mathlib.Core.Path.{◌≡◌, refl, sym, ap, ◌∙◌}
 use mathlib.Core.Bool.{true, false}
 use lib.ListN.{length, drop, get_or}
-use borrow.Author.Tests.{not-true, not-false}
 use Rattle.snapshot.specs.Steps.Scan.{scan}
 use Rattle.snapshot.proofs.ScanLaws.{none_at, some_at, none_lead, scan_yes, scan_low, scan_high, scan_big}
 use Rattle.snapshot.proofs.field.whole.Goals as goal
 
 pub returns-then-not-leads : goal.returns-then-not-leads
-returns-then-not-leads c = none_lead c.args.c.now (sym c.leads.ensures ∙ not-true _ c.if-not-leads.true-raw)
+returns-then-not-leads c = none_lead c.args.c.now (sym c.leads.ensures ∙ c.if-not-leads.true)
 
 pub loop-i-init : goal.loop-i-init
-loop-i-init c = (omega arith, sym c.leads.ensures ∙ not-false _ c.if-not-leads.false-raw, refl)
+loop-i-init c = (omega arith, sym c.leads.ensures ∙ c.if-not-leads.false, refl)
 
 pub returns-then-b-lt48 : goal.returns-then-b-lt48
 returns-then-b-lt48 c =

@@ -1,7 +1,6 @@
 -- `snapshot::kinds::buf_line` meets its contract. Assumes nothing.
 use mathlib.Core.Path.{refl, sym, ◌∙◌}
 use lib.ListN.{drop, length}
-use borrow.Author.Tests.{not-true, not-false}
 use Rattle.snapshot.specs.Steps.Judge.{placed}
 use Rattle.snapshot.proofs.JudgeLaws.{got, lost, got_list, lost_list, whole_is, whole_not, buf_left_nameless, buf_left_timeless, buf_left}
 use Rattle.snapshot.proofs.LineTests.{buf_nameless, buf_timeless, buf_bad, buf_early, buf_infinite, buf_good}
@@ -85,7 +84,7 @@ returns-then-not-all_finite c =
     let g = got_list S.result t _ _ c.in-At-singles.q c.in-At-singles.is S.ensures.told in
     record {
       told = buf_infinite d a.past l z e c.in-Whole.time y h _ (drop c.in-At-singles.q t) g c.if-time-past.false
-          (sym c.all_finite.ensures ∙ not-true _ c.if-not-all_finite.true-raw);
+          (sym c.all_finite.ensures ∙ c.if-not-all_finite.true);
       kept = S.ensures.kept;
       left = buf_left d l _ z e c.in-Whole.time y h _ S.ensures.left;
     }
@@ -107,7 +106,7 @@ returns c =
     let g = got_list S.result t _ _ c.in-At-singles.q c.in-At-singles.is S.ensures.told in
     record {
       told = buf_good d a.past l z e c.in-Whole.time y h _ (drop c.in-At-singles.q t) g c.if-time-past.false
-          (sym c.all_finite.ensures ∙ not-false _ c.if-not-all_finite.false-raw) (placed c.byte.result t) c.byte.ensures;
+          (sym c.all_finite.ensures ∙ c.if-not-all_finite.false) (placed c.byte.result t) c.byte.ensures;
       kept = S.ensures.kept;
       left = buf_left d l _ z e c.in-Whole.time y h _ S.ensures.left;
     }

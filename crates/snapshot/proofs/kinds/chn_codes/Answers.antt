@@ -1,6 +1,5 @@
 -- `snapshot::kinds::chn_codes` meets its contract. Assumes nothing.
 use mathlib.Core.Path.{sym, ◌∙◌}
-use borrow.Author.Tests.{not-true, not-false}
 use Rattle.snapshot.specs.Read.{all_codes}
 use Rattle.snapshot.specs.Steps.Judge.{chn_by}
 use Rattle.snapshot.proofs.LineTests.{check_yes, check_no}
@@ -11,7 +10,7 @@ unfolding chn_by
 returns-then-not-codes_fit c =
     let W = c.wholes_line-place in
     record {
-      told = check_no all_codes _ W.result c.args.text.now _ W.ensures.told (sym c.codes_fit.ensures ∙ not-true _ c.if-not-codes_fit.true-raw);
+      told = check_no all_codes _ W.result c.args.text.now _ W.ensures.told (sym c.codes_fit.ensures ∙ c.if-not-codes_fit.true);
       kept = W.ensures.kept;
       left = W.ensures.left;
     }
@@ -21,7 +20,7 @@ unfolding chn_by
 returns c =
     let W = c.wholes_line-place in
     record {
-      told = check_yes all_codes _ W.result c.args.text.now _ W.ensures.told (sym c.codes_fit.ensures ∙ not-false _ c.if-not-codes_fit.false-raw);
+      told = check_yes all_codes _ W.result c.args.text.now _ W.ensures.told (sym c.codes_fit.ensures ∙ c.if-not-codes_fit.false);
       kept = W.ensures.kept;
       left = W.ensures.left;
     }

@@ -1,6 +1,5 @@
 -- `snapshot::kinds::tim_line` meets its contract. Assumes nothing.
 use mathlib.Core.Path.{sym, ◌∙◌}
-use borrow.Author.Tests.{not-true, not-false}
 use Rattle.snapshot.specs.Steps.Judge.{tim_by, tim_test}
 use Rattle.snapshot.proofs.LineTests.{check_yes, check_no, tim_falls, tim_not, tim_zero, tim_other}
 use Rattle.snapshot.proofs.kinds.tim_line.Goals as goal
@@ -12,7 +11,7 @@ returns-then-not-none_falls c =
     let args = c.args in
     record {
       told = check_no (tim_test args.internal) _ wholes-line-at.result args.text.now _ wholes-line-at.ensures.told
-          (tim_falls args.internal _ (sym c.none_falls.ensures ∙ not-true _ c.if-not-none_falls.true-raw));
+          (tim_falls args.internal _ (sym c.none_falls.ensures ∙ c.if-not-none_falls.true));
       kept = wholes-line-at.ensures.kept;
       left = wholes-line-at.ensures.left;
     }
@@ -24,8 +23,8 @@ returns-then-not-all_zero c =
     let wholes-line-at = c.wholes_line-place in
     record {
       told = check_no (tim_test args.internal) _ wholes-line-at.result args.text.now _ wholes-line-at.ensures.told
-          (tim_not args.internal _ (sym c.none_falls.ensures ∙ not-false _ c.if-not-none_falls.false-raw)
-          c.if-internal-eq0.true (sym c.all_zero.ensures ∙ not-true _ c.if-not-all_zero.true-raw));
+          (tim_not args.internal _ (sym c.none_falls.ensures ∙ c.if-not-none_falls.false)
+          c.if-internal-eq0.true (sym c.all_zero.ensures ∙ c.if-not-all_zero.true));
       kept = wholes-line-at.ensures.kept;
       left = wholes-line-at.ensures.left;
     }
@@ -37,8 +36,8 @@ returns-else-not-all_zero c =
     let wholes-line-at = c.wholes_line-place in
     record {
       told = check_yes (tim_test args.internal) _ wholes-line-at.result args.text.now _ wholes-line-at.ensures.told
-          (tim_zero args.internal _ (sym c.none_falls.ensures ∙ not-false _ c.if-not-none_falls.false-raw)
-          c.if-internal-eq0.true (sym c.all_zero.ensures ∙ not-false _ c.if-not-all_zero.false-raw));
+          (tim_zero args.internal _ (sym c.none_falls.ensures ∙ c.if-not-none_falls.false)
+          c.if-internal-eq0.true (sym c.all_zero.ensures ∙ c.if-not-all_zero.false));
       kept = wholes-line-at.ensures.kept;
       left = wholes-line-at.ensures.left;
     }
@@ -50,7 +49,7 @@ returns-else-internal-eq0 c =
     let args = c.args in
     record {
       told = check_yes (tim_test args.internal) _ wholes-line-at.result args.text.now _ wholes-line-at.ensures.told
-          (tim_other args.internal _ (sym c.none_falls.ensures ∙ not-false _ c.if-not-none_falls.false-raw) c.if-internal-eq0.false);
+          (tim_other args.internal _ (sym c.none_falls.ensures ∙ c.if-not-none_falls.false) c.if-internal-eq0.false);
       kept = wholes-line-at.ensures.kept;
       left = wholes-line-at.ensures.left;
     }

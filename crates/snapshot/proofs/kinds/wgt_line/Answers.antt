@@ -1,6 +1,5 @@
 -- `snapshot::kinds::wgt_line` meets its contract. Assumes nothing.
 use mathlib.Core.Path.{sym, ◌∙◌}
-use borrow.Author.Tests.{not-true, not-false}
 use Rattle.snapshot.specs.Steps.Judge.{wgt_by, wgt_test}
 use Rattle.snapshot.proofs.LineTests.{check_yes, check_no, wgt_no, wgt_one, wgt_other}
 use Rattle.snapshot.proofs.kinds.wgt_line.Goals as goal
@@ -13,7 +12,7 @@ returns-then-not-all_one c =
     record {
       told = check_no (wgt_test args.method) _ singles-line-at.result args.text.now _ singles-line-at.ensures.told
           (wgt_no args.method _ (sym c.is_none.ensures ∙ c.if-is_none.true)
-          (sym c.all_one.ensures ∙ not-true _ c.if-not-all_one.true-raw));
+          (sym c.all_one.ensures ∙ c.if-not-all_one.true));
       kept = singles-line-at.ensures.kept;
       left = singles-line-at.ensures.left;
     }
@@ -26,7 +25,7 @@ returns-else-not-all_one c =
     record {
       told = check_yes (wgt_test args.method) _ singles-line-at.result args.text.now _ singles-line-at.ensures.told
           (wgt_one args.method _ (sym c.is_none.ensures ∙ c.if-is_none.true)
-          (sym c.all_one.ensures ∙ not-false _ c.if-not-all_one.false-raw));
+          (sym c.all_one.ensures ∙ c.if-not-all_one.false));
       kept = singles-line-at.ensures.kept;
       left = singles-line-at.ensures.left;
     }

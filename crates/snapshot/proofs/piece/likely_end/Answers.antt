@@ -21,9 +21,9 @@ returns c =
     let s = c.args in
     let e : likely s.kind (drop s.from s.text.now) ≡ field_length (drop s.from s.text.now) =
     elim c.if-kind-lt2.branch [
-      then-kind-lt2+then-width-text+else-wide-le10 w ↦ likely_inside s.kind s.from s.text.now w.if-kind-lt2.true w.if-width-text.true (omega (arith, w.wide.ensures, w.if-wide-le10.false))
-    | then-kind-lt2+else-width-text w ↦ likely_past s.kind s.from s.text.now w.if-kind-lt2.true w.if-width-text.false
-    | else-kind-lt2 w ↦ likely_never s.kind s.from s.text.now w.if-kind-lt2.false
+      | then-kind-lt2+then-width-text+else-wide-le10 w ↦ likely_inside s.kind s.from s.text.now w.if-kind-lt2.true w.if-width-text.true (omega (arith, w.wide.ensures, w.if-wide-le10.false))
+      | then-kind-lt2+else-width-text w ↦ likely_past s.kind s.from s.text.now w.if-kind-lt2.true w.if-width-text.false
+      | else-kind-lt2 w ↦ likely_never s.kind s.from s.text.now w.if-kind-lt2.false
     ]
     in
     c.field_end.ensures ∙ ap (λ (n : ℕ). s.from + n) (sym e)

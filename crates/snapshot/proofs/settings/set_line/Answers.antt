@@ -2,7 +2,6 @@
 use mathlib.Core.Path.{sym, ◌∙◌}
 use native.Mathlib.Omega.{arith}
 use lib.ListN.{drop}
-use borrow.Author.Tests.{not-true, not-false}
 use Rattle.snapshot.proofs.JudgeLaws.{got, lost, got_list, lost_list}
 use Rattle.snapshot.proofs.SettingsLaws.{mode_inside, no_settings, set_nameless, set_tabless, set_modeless, set_wholeless, set_methodless, set_unfit, set_good}
 use Rattle.snapshot.proofs.settings.set_line.Goals as goal
@@ -79,7 +78,7 @@ returns-then-not-settings_fit c =
     c.in-At-byte.q (got at_byte.result t _ c.in-At-byte.q c.in-At-byte.is at_byte.ensures) at-mode-at.result c.in-OfMode.mode c.in-OfMode.is
     at-mode-at.ensures _ (drop c.in-At-wholes.s t) (got_list at_wholes.result t _ _ c.in-At-wholes.s c.in-At-wholes.is at_wholes.ensures.told) at-method-of.result
     c.in-OfMethod.method c.in-OfMethod.is at-method-of.ensures at-set-tail.result.place at-set-tail.result.decay at-set-tail.result.weight_time
-    at-set-tail.ensures (sym c.settings_fit.ensures ∙ not-true _ c.if-not-settings_fit.true-raw)
+    at-set-tail.ensures (sym c.settings_fit.ensures ∙ c.if-not-settings_fit.true)
 
 pub returns : goal.returns
 returns c =
@@ -94,4 +93,4 @@ returns c =
     (got at_byte.result t _ c.in-At-byte.q c.in-At-byte.is at_byte.ensures) at-mode-at.result c.in-OfMode.mode c.in-OfMode.is at-mode-at.ensures _
     (drop c.in-At-wholes.s t) (got_list at_wholes.result t _ _ c.in-At-wholes.s c.in-At-wholes.is at_wholes.ensures.told) at-method-of.result c.in-OfMethod.method
     c.in-OfMethod.is at-method-of.ensures at-set-tail.result.place at-set-tail.result.decay at-set-tail.result.weight_time at-set-tail.ensures
-    (sym c.settings_fit.ensures ∙ not-false _ c.if-not-settings_fit.false-raw)
+    (sym c.settings_fit.ensures ∙ c.if-not-settings_fit.false)
