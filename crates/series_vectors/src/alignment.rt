@@ -1,10 +1,12 @@
 // Replays calls of `align`: d, tolerance, the two lists (cells, times), the outputs' lengths; then the row, the number of pairs, the positions and the sizes.
-ghost use Rattle.std.specs.Prelude.{◌≤◌, length};
+ghost use Rattle.std.specs.Prelude.{◌≤◌, length, IfOk};
 
 use crate::words::{
     AGREES, BROKEN, DIFFERS, Tally, counted, fill_singles, fill_wholes, next_are_singles,
     next_are_wholes, next_length, next_word, read_singles, read_wholes,
 };
+use std::io;
+use std::io::Read;
 
 // What the outputs hold before a call, and must hold past the answer after it.
 const MARK: u64 = 0x5a5a;
@@ -19,35 +21,35 @@ struct Lengths {
     good: bool,
 }
 
-fn read_list(fd: i32, cells: &mut [f32], times: &mut [u64]) -> Lengths
-    ensures { (result.cells ≤ length cells.new) × (result.times ≤ length times.new) }
+fn read_list<F: Read>(file: &mut F, cells: &mut [f32], times: &mut [u64]) -> io::Result<Lengths>
+    ensures { IfOk result (λ r. (r.cells ≤ length cells.new) × (r.times ≤ length times.new)) }
 {
-    let n = next_length(fd, cells.len());
+    let n = next_length(file, cells.len())?;
     let c = n.value;
-    let good_cells = read_singles(fd, &mut cells[..c]);
-    let m = next_length(fd, times.len());
+    let good_cells = read_singles(file, &mut cells[..c])?;
+    let m = next_length(file, times.len())?;
     let t = m.value;
-    let good_times = read_wholes(fd, &mut times[..t]);
-    Lengths {
+    let good_times = read_wholes(file, &mut times[..t])?;
+    Ok(Lengths {
         cells: c,
         times: t,
         good: n.good && good_cells && m.good && good_times,
-    }
+    })
 }
 
 // Compares a call's answer with the words that follow it, the outputs being as long as they were lent.
-fn expect(
-    fd: i32,
+fn expect<F: Read>(
+    file: &mut F,
     answer: series::alignment::Aligned,
     d: u64,
     left_out: &[u64],
     right_out: &[u64],
     gaps_out: &[f32],
-) -> u64 {
-    let row = next_word(fd);
-    let pairs = next_word(fd);
+) -> io::Result<u64> {
+    let row = next_word(file)?;
+    let pairs = next_word(file)?;
     if !(row.good && pairs.good && pairs.value <= 4096) {
-        return BROKEN;
+        return Ok(BROKEN);
     }
     let n = pairs.value as usize;
     let k = if row.value == 0 && d <= 16 {
@@ -55,19 +57,19 @@ fn expect(
     } else {
         0
     };
-    let lefts = next_are_wholes(fd, left_out, n, MARK);
-    let rights = next_are_wholes(fd, right_out, n, MARK);
-    let gaps = next_are_singles(fd, gaps_out, k, MARK32);
+    let lefts = next_are_wholes(file, left_out, n, MARK)?;
+    let rights = next_are_wholes(file, right_out, n, MARK)?;
+    let gaps = next_are_singles(file, gaps_out, k, MARK32)?;
     if answer.row == row.value && answer.pairs == pairs.value && lefts && rights && gaps {
-        AGREES
+        Ok(AGREES)
     } else {
-        DIFFERS
+        Ok(DIFFERS)
     }
 }
 
 // Makes the call, on outputs that hold the marks, and compares.
-fn called(
-    fd: i32,
+fn called<F: Read>(
+    file: &mut F,
     d: u64,
     tolerance: u64,
     left: &[f32],
@@ -77,7 +79,7 @@ fn called(
     left_out: &mut [u64],
     right_out: &mut [u64],
     gaps_out: &mut [f32],
-) -> u64 {
+) -> io::Result<u64> {
     fill_wholes(left_out, MARK);
     fill_wholes(right_out, MARK);
     fill_singles(gaps_out, 7.5);
@@ -92,12 +94,12 @@ fn called(
         right_out,
         gaps_out,
     );
-    expect(fd, answer, d, left_out, right_out, gaps_out)
+    expect(file, answer, d, left_out, right_out, gaps_out)
 }
 
 // A case after its lists: the outputs' lengths, then the call.
-fn lent(
-    fd: i32,
+fn lent<F: Read>(
+    file: &mut F,
     d: u64,
     tolerance: u64,
     left: &[f32],
@@ -107,18 +109,18 @@ fn lent(
     left_out: &mut [u64],
     right_out: &mut [u64],
     gaps_out: &mut [f32],
-) -> u64 {
-    let a = next_length(fd, left_out.len());
-    let b = next_length(fd, right_out.len());
-    let c = next_length(fd, gaps_out.len());
+) -> io::Result<u64> {
+    let a = next_length(file, left_out.len())?;
+    let b = next_length(file, right_out.len())?;
+    let c = next_length(file, gaps_out.len())?;
     if !(a.good && b.good && c.good) {
-        return BROKEN;
+        return Ok(BROKEN);
     }
     let lefts = a.value;
     let rights = b.value;
     let gaps = c.value;
     called(
-        fd,
+        file,
         d,
         tolerance,
         left,
@@ -132,8 +134,8 @@ fn lent(
 }
 
 // A case after its d.
-fn one(
-    fd: i32,
+fn one<F: Read>(
+    file: &mut F,
     d: u64,
     left: &mut [f32],
     left_times: &mut [u64],
@@ -142,19 +144,19 @@ fn one(
     left_out: &mut [u64],
     right_out: &mut [u64],
     gaps_out: &mut [f32],
-) -> u64 {
-    let tolerance = next_word(fd);
-    let l = read_list(fd, left, left_times);
-    let r = read_list(fd, right, right_times);
+) -> io::Result<u64> {
+    let tolerance = next_word(file)?;
+    let l = read_list(file, left, left_times)?;
+    let r = read_list(file, right, right_times)?;
     if !(tolerance.good && l.good && r.good) {
-        return BROKEN;
+        return Ok(BROKEN);
     }
     let left_cells = l.cells;
     let left_length = l.times;
     let right_cells = r.cells;
     let right_length = r.times;
     lent(
-        fd,
+        file,
         d,
         tolerance.value,
         &left[..left_cells],
@@ -168,8 +170,8 @@ fn one(
 }
 
 // A case that cannot be read ends the replay: nobody knows where the next one begins. A proved loop has to end: the turns are counted down.
-fn replay_all(
-    fd: i32,
+fn replay_all<F: Read>(
+    file: &mut F,
     left: &mut [f32],
     left_times: &mut [u64],
     right: &mut [f32],
@@ -177,7 +179,7 @@ fn replay_all(
     left_out: &mut [u64],
     right_out: &mut [u64],
     gaps_out: &mut [f32],
-) -> Tally {
+) -> io::Result<Tally> {
     let mut tally = Tally {
         agree: 0,
         differ: 0,
@@ -185,15 +187,15 @@ fn replay_all(
     };
     let mut turns = u64::MAX;
     while turns > 0 {
-        let d = next_word(fd);
+        let d = next_word(file)?;
         if d.ended {
-            return tally;
+            return Ok(tally);
         }
         if !d.good {
-            return counted(tally, BROKEN);
+            return Ok(counted(tally, BROKEN));
         }
         let verdict = one(
-            fd,
+            file,
             d.value,
             left,
             left_times,
@@ -202,17 +204,17 @@ fn replay_all(
             left_out,
             right_out,
             gaps_out,
-        );
+        )?;
         tally = counted(tally, verdict);
         if verdict == BROKEN {
-            return tally;
+            return Ok(tally);
         }
         turns -= 1;
     }
-    tally
+    Ok(tally)
 }
 
-pub(crate) fn replay(fd: i32) -> Tally {
+pub(crate) fn replay<F: Read>(file: &mut F) -> io::Result<Tally> {
     let mut left = [0.0f32; 65600];
     let mut left_times = [0u64; 4100];
     let mut right = [0.0f32; 65600];
@@ -221,7 +223,7 @@ pub(crate) fn replay(fd: i32) -> Tally {
     let mut right_out = [0u64; 4100];
     let mut gaps_out = [0.0f32; 20];
     replay_all(
-        fd,
+        file,
         &mut left,
         &mut left_times,
         &mut right,

@@ -4,6 +4,8 @@ use crate::words::{
     read_singles,
 };
 use series::imputation::ImputationMethod;
+use std::io;
+use std::io::Read;
 
 fn method(n: u64) -> ImputationMethod {
     match n {
@@ -15,42 +17,67 @@ fn method(n: u64) -> ImputationMethod {
 }
 
 // Makes the call and compares: a refused one leaves every cell, so all cells are compared in any case.
-fn called(fd: i32, rule: u64, d: u64, cells: &mut [f32], marks: &[u8], fixed: &[f32]) -> u64 {
+fn called<F: Read>(
+    file: &mut F,
+    rule: u64,
+    d: u64,
+    cells: &mut [f32],
+    marks: &[u8],
+    fixed: &[f32],
+) -> io::Result<u64> {
     let answer = series::imputation::impute(method(rule), d, cells, marks, fixed);
-    let row = next_word(fd);
+    let row = next_word(file)?;
     let n = cells.len();
-    let same = next_are_singles(fd, cells, n, 0);
+    let same = next_are_singles(file, cells, n, 0)?;
     if !row.good {
-        return BROKEN;
+        return Ok(BROKEN);
     }
     if answer == row.value && same {
-        AGREES
+        Ok(AGREES)
     } else {
-        DIFFERS
+        Ok(DIFFERS)
     }
 }
 
 // A case after its rule.
-fn one(fd: i32, rule: u64, cells: &mut [f32], marks: &mut [u8], fixed: &mut [f32]) -> u64 {
-    let d = next_word(fd);
-    let a = next_length(fd, cells.len());
+fn one<F: Read>(
+    file: &mut F,
+    rule: u64,
+    cells: &mut [f32],
+    marks: &mut [u8],
+    fixed: &mut [f32],
+) -> io::Result<u64> {
+    let d = next_word(file)?;
+    let a = next_length(file, cells.len())?;
     let n = a.value;
-    let good_cells = read_singles(fd, &mut cells[..n]);
-    let b = next_length(fd, marks.len());
+    let good_cells = read_singles(file, &mut cells[..n])?;
+    let b = next_length(file, marks.len())?;
     let m = b.value;
-    let good_marks = read_bytes(fd, &mut marks[..m]);
-    let c = next_length(fd, fixed.len());
+    let good_marks = read_bytes(file, &mut marks[..m])?;
+    let c = next_length(file, fixed.len())?;
     let f = c.value;
-    let good_fixed = read_singles(fd, &mut fixed[..f]);
+    let good_fixed = read_singles(file, &mut fixed[..f])?;
     let lengths = a.good && b.good && c.good;
     if !(rule < 4 && d.good && lengths && good_cells && good_marks && good_fixed) {
-        return BROKEN;
+        return Ok(BROKEN);
     }
-    called(fd, rule, d.value, &mut cells[..n], &marks[..m], &fixed[..f])
+    called(
+        file,
+        rule,
+        d.value,
+        &mut cells[..n],
+        &marks[..m],
+        &fixed[..f],
+    )
 }
 
 // A case that cannot be read ends the replay: nobody knows where the next one begins. A proved loop has to end: the turns are counted down.
-fn replay_all(fd: i32, cells: &mut [f32], marks: &mut [u8], fixed: &mut [f32]) -> Tally {
+fn replay_all<F: Read>(
+    file: &mut F,
+    cells: &mut [f32],
+    marks: &mut [u8],
+    fixed: &mut [f32],
+) -> io::Result<Tally> {
     let mut tally = Tally {
         agree: 0,
         differ: 0,
@@ -58,26 +85,26 @@ fn replay_all(fd: i32, cells: &mut [f32], marks: &mut [u8], fixed: &mut [f32]) -
     };
     let mut turns = u64::MAX;
     while turns > 0 {
-        let rule = next_word(fd);
+        let rule = next_word(file)?;
         if rule.ended {
-            return tally;
+            return Ok(tally);
         }
         if !rule.good {
-            return counted(tally, BROKEN);
+            return Ok(counted(tally, BROKEN));
         }
-        let verdict = one(fd, rule.value, cells, marks, fixed);
+        let verdict = one(file, rule.value, cells, marks, fixed)?;
         tally = counted(tally, verdict);
         if verdict == BROKEN {
-            return tally;
+            return Ok(tally);
         }
         turns -= 1;
     }
-    tally
+    Ok(tally)
 }
 
-pub(crate) fn replay(fd: i32) -> Tally {
+pub(crate) fn replay<F: Read>(file: &mut F) -> io::Result<Tally> {
     let mut cells = [0.0f32; 32000];
     let mut marks = [0u8; 32000];
     let mut fixed = [0.0f32; 20];
-    replay_all(fd, &mut cells, &mut marks, &mut fixed)
+    replay_all(file, &mut cells, &mut marks, &mut fixed)
 }

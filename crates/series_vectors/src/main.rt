@@ -6,44 +6,31 @@ mod alignment;
 mod imputation;
 mod words;
 
-use libc::STDOUT_FILENO;
+use std::rt::Files;
+use std::{fs, io};
 
-fn report(name: &[u8], tally: words::Tally) {
-    io::write_all(STDOUT_FILENO, name);
-    io::write_all(STDOUT_FILENO, b": agree ");
-    io::print_decimal(STDOUT_FILENO, tally.agree);
-    io::write_all(STDOUT_FILENO, b", differ ");
-    io::print_decimal(STDOUT_FILENO, tally.differ);
-    io::write_all(STDOUT_FILENO, b" (the wrong line), broken ");
-    io::print_decimal(STDOUT_FILENO, tally.broken);
-    io::write_all(STDOUT_FILENO, b"\n");
+fn report<P: Print>(rt: &P, name: &str, tally: words::Tally) -> io::Result<()> {
+    let agree = tally.agree;
+    let differ = tally.differ;
+    let broken = tally.broken;
+    println!(rt; "{name}: agree {agree}, differ {differ} (the wrong line), broken {broken}")
 }
 
-fn alignments() {
-    let path = b"alignment";
-    let fd = os::open_read(path);
-    if fd < 0 {
-        os::fail(path);
-        return;
-    }
-    let tally = alignment::replay(fd);
-    libc::close(fd);
-    report(path, tally);
+fn alignments<R: Files + Print>(rt: &R) -> io::Result<()> {
+    let path = "alignment";
+    let mut file = fs::open(rt, path)?;
+    let tally = alignment::replay(&mut file)?;
+    report(rt, path, tally)
 }
 
-fn imputations() {
-    let path = b"imputation";
-    let fd = os::open_read(path);
-    if fd < 0 {
-        os::fail(path);
-        return;
-    }
-    let tally = imputation::replay(fd);
-    libc::close(fd);
-    report(path, tally);
+fn imputations<R: Files + Print>(rt: &R) -> io::Result<()> {
+    let path = "imputation";
+    let mut file = fs::open(rt, path)?;
+    let tally = imputation::replay(&mut file)?;
+    report(rt, path, tally)
 }
 
-fn main() {
-    alignments();
-    imputations();
+fn main(rt: HostRuntime) -> io::Result<()> {
+    alignments(&rt)?;
+    imputations(&rt)
 }

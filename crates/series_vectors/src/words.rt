@@ -1,5 +1,8 @@
 // The words of a data file: hexadecimal numbers below 2^64, each ended by a blank or an LF. Lists are read into lent memory.
-ghost use Rattle.std.specs.Prelude.{◌≤◌};
+ghost use Rattle.std.specs.Prelude.{◌≤◌, IfOk};
+
+use std::io;
+use std::io::Read;
 
 // How many cases agree, how many differ, and how many cannot be read.
 #[derive(Clone, Copy)]
@@ -71,30 +74,30 @@ fn broken(ended: bool) -> Word {
 }
 
 // Digits up to a blank or an LF. A file that ends before the first digit has ended.
-pub(crate) fn next_word(fd: i32) -> Word {
+pub(crate) fn next_word<F: Read>(file: &mut F) -> io::Result<Word> {
     let mut value = 0u64;
     let mut i = 0u64;
     while i < 17 {
         let mut b = [0u8; 1];
-        if io::read_full(fd, &mut b) == 0 {
-            return broken(i == 0);
+        if file.read(&mut b)? == 0 {
+            return Ok(broken(i == 0));
         }
         let x = b[0];
         if x == b' ' || x == b'\n' {
-            return Word {
+            return Ok(Word {
                 value: value,
                 good: i > 0,
                 ended: false,
-            };
+            });
         }
         let n = digit(x);
         if n > 15 {
-            return broken(false);
+            return Ok(broken(false));
         }
         value = value % 0x1000_0000_0000_0000 * 16 + n;
         i += 1;
     }
-    broken(false)
+    Ok(broken(false))
 }
 
 // A length of at most `most`.
@@ -104,58 +107,58 @@ pub(crate) struct Length {
     pub good: bool,
 }
 
-pub(crate) fn next_length(fd: i32, most: usize) -> Length
-    ensures { result.value ≤ most }
+pub(crate) fn next_length<F: Read>(file: &mut F, most: usize) -> io::Result<Length>
+    ensures { IfOk result (λ r. r.value ≤ most) }
 {
-    let w = next_word(fd);
+    let w = next_word(file)?;
     let value = w.value;
     if value <= most as u64 {
-        return Length {
+        return Ok(Length {
             value: value as usize,
             good: w.good,
-        };
+        });
     }
-    Length {
+    Ok(Length {
         value: 0,
         good: false,
-    }
+    })
 }
 
 // As many numbers as `out` is long.
-pub(crate) fn read_wholes(fd: i32, out: &mut [u64]) -> bool {
+pub(crate) fn read_wholes<F: Read>(file: &mut F, out: &mut [u64]) -> io::Result<bool> {
     let mut good = true;
     let mut i = 0usize;
     while i < out.len() {
-        let w = next_word(fd);
+        let w = next_word(file)?;
         out[i] = w.value;
         good = good && w.good;
         i += 1;
     }
-    good
+    Ok(good)
 }
 
-pub(crate) fn read_singles(fd: i32, out: &mut [f32]) -> bool {
+pub(crate) fn read_singles<F: Read>(file: &mut F, out: &mut [f32]) -> io::Result<bool> {
     let mut good = true;
     let mut i = 0usize;
     while i < out.len() {
-        let w = next_word(fd);
+        let w = next_word(file)?;
         out[i] = numeric::single_of(w.value);
         good = good && w.good && w.value < 0x1_0000_0000;
         i += 1;
     }
-    good
+    Ok(good)
 }
 
-pub(crate) fn read_bytes(fd: i32, out: &mut [u8]) -> bool {
+pub(crate) fn read_bytes<F: Read>(file: &mut F, out: &mut [u8]) -> io::Result<bool> {
     let mut good = true;
     let mut i = 0usize;
     while i < out.len() {
-        let w = next_word(fd);
+        let w = next_word(file)?;
         out[i] = (w.value % 0x100) as u8;
         good = good && w.good && w.value < 0x100;
         i += 1;
     }
-    good
+    Ok(good)
 }
 
 pub(crate) fn fill_wholes(out: &mut [u64], x: u64) {
@@ -175,34 +178,44 @@ pub(crate) fn fill_singles(out: &mut [f32], x: f32) {
 }
 
 // Whether the next words are the first `n` of the list, and whether all after them are `x`. Every word is read.
-pub(crate) fn next_are_wholes(fd: i32, list: &[u64], n: usize, x: u64) -> bool {
+pub(crate) fn next_are_wholes<F: Read>(
+    file: &mut F,
+    list: &[u64],
+    n: usize,
+    x: u64,
+) -> io::Result<bool> {
     let mut same = true;
     let mut i = 0usize;
     while i < list.len() {
         let mut wanted = x;
         if i < n {
-            let w = next_word(fd);
+            let w = next_word(file)?;
             wanted = w.value;
             same = same && w.good;
         }
         same = same && list[i] == wanted;
         i += 1;
     }
-    same
+    Ok(same)
 }
 
-pub(crate) fn next_are_singles(fd: i32, list: &[f32], n: usize, x: u64) -> bool {
+pub(crate) fn next_are_singles<F: Read>(
+    file: &mut F,
+    list: &[f32],
+    n: usize,
+    x: u64,
+) -> io::Result<bool> {
     let mut same = true;
     let mut i = 0usize;
     while i < list.len() {
         let mut wanted = x;
         if i < n {
-            let w = next_word(fd);
+            let w = next_word(file)?;
             wanted = w.value;
             same = same && w.good;
         }
         same = same && numeric::single_bits(list[i]) == wanted;
         i += 1;
     }
-    same
+    Ok(same)
 }

@@ -3,18 +3,21 @@
 
 mod transformer;
 
+use std::io;
+use std::rt::Files;
 use vectors_core::lines::{read_file, report, room};
 
-fn replay_transformer() {
+fn replay_transformer<R: Files + Print>(rt: &R) -> io::Result<()> {
     let mut text = room();
     let mut statistics = [0.0f64; 260];
-    let n = read_file(b"transformer", &mut text);
+    let n = read_file(rt, "transformer", &mut text)?;
     report(
-        b"transformer",
+        rt,
+        "transformer",
         transformer::replay(&text[..n], &mut statistics),
-    );
+    )
 }
 
-fn main() {
-    replay_transformer();
+fn main(rt: HostRuntime) -> io::Result<()> {
+    replay_transformer(&rt)
 }
