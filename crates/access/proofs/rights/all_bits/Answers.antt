@@ -2,7 +2,6 @@
 use Prim.Native.Nat.{ℕ, ◌≤◌, ◌<◌, ◌-◌}
 use mathlib.Core.Bool.{◌&&◌}
 use mathlib.Core.List.{List}
-use mathlib.Core.Logic.{⊎_elim}
 use mathlib.Core.Path.{refl, sym, ap, ◌∙◌}
 use lib.Dec.{ltb}
 use lib.ListN.{length, drop_of_length-le}
@@ -10,6 +9,7 @@ use native.Mathlib.Omega.{arith}
 use Rattle.access.specs.Access.{bits}
 use Rattle.access.proofs.Laws.{and_true, larger_met, none_larger}
 use Rattle.access.proofs.rights.all_bits.Goals as goal
+use Rattle.access.proofs.rights.all_bits.Goals.{then-largest-table, else-largest-table}
 
 pub loop-i-init : goal.loop-i-init
 loop-i-init c = (omega arith, refl)
@@ -32,8 +32,10 @@ loop-i-preserved c =
     let t = c.args.table.now in
     let h : L.i < length t = omega arith in (
       omega arith,
-      ⊎_elim (λ w. larger_met t L.i h L.largest c.if-largest-table.largest L.invariant.1 (omega (arith, w.0.taken)) w.2)
-          (λ w. none_larger t L.i h L.largest c.if-largest-table.largest L.invariant.1 (omega (arith, w.0.left)) w.1) c.if-largest-table.branch,
+      elim c.if-largest-table.branch [
+        then-largest-table w ↦ larger_met t L.i h L.largest c.if-largest-table.largest L.invariant.1 (omega arith) w.largest-is
+        | else-largest-table w ↦ none_larger t L.i h L.largest c.if-largest-table.largest L.invariant.1 (omega arith) w.largest-is
+      ],
     )
 
 pub returns : goal.returns
