@@ -1,5 +1,4 @@
 -- `snapshot_save::save::codes_length` meets its contract. Assumes nothing.
-use Rattle.trcf.proofs.RefusalLaws.{sixteen}
 use native.Mathlib.Omega.{arith}
 use mathlib.Core.Path.{◌≡◌, sym, ap, ◌∙◌}
 use Prim.Native.Nat.{ℕ}
@@ -15,7 +14,7 @@ slice_bounds-wholes_length-end c =
     let h = c.args.head in
     let d = h.transformer.input_length in
     let W = c.widened-wide in
-    let z : length W.result ≡ 16 = ap length W.ensures ∙ sixteen h.codes c.well_formed.0.1.1.1.1.1.1.1.1.1.1.1.0.1.0.1 in
+    let z : length W.result ≡ 16 = ap length W.ensures ∙ c.well_formed.0.1.1.1.1.1.1.1.1.1.1.1.0.1.0.1 in
     let m = length-take-le d W.result (omega (arith, z, c.requires)) in
     sym m
 
@@ -24,7 +23,7 @@ wholes_length-requires c =
     let h = c.args.head in
     let d = h.transformer.input_length in
     let W = c.widened-wide in
-    let z : length W.result ≡ 16 = ap length W.ensures ∙ sixteen h.codes c.well_formed.0.1.1.1.1.1.1.1.1.1.1.1.0.1.0.1 in
+    let z : length W.result ≡ 16 = ap length W.ensures ∙ c.well_formed.0.1.1.1.1.1.1.1.1.1.1.1.0.1.0.1 in
     let m = length-take-le d W.result (omega (arith, z, c.requires)) in
     omega (arith, m, c.requires)
 

@@ -1,5 +1,4 @@
 -- `snapshot_save::save::head_length` meets its contract. Assumes nothing.
-use Rattle.trcf.proofs.RefusalLaws.{sixteen}
 use Rattle.snapshot.proofs.SaveLaws.{head_size}
 use Rattle.snapshot.specs.Text.{whole}
 use Rattle.trcf.specs.View.{settings_of}
@@ -15,7 +14,7 @@ returns c =
     let h = c.args.head in
     let w = h.transformer.weights in
     let d = h.transformer.input_length in
-    let z : length w ≡ 16 = sixteen w c.well_formed.0.1.1.0.1.1.1.1.1.0.1.0.1 in
+    let z : length w ≡ 16 = c.well_formed.0.1.1.0.1.1.1.1.1.0.1.0.1 in
     omega (
       arith,
       head_size (settings_of h) h.values_seen h.internal_timestamp h.transformer.count,

@@ -23,7 +23,7 @@ returns-then-is_past c =
     let n = h.initial_len in
     let w = c.time_width-w.result in
     let o : w ≤ 1 = wide_of (augments h.forest_mode) w c.time_width-w.ensures in
-    saved_not h (lent a.statistics.now a.last-shingled-input.now a.last-shingled-point.now a.previous-timestamps.now a.initial-values.now a.initial-timestamps.now) w c.time_width-w.ensures a.out.now (sym (narrow_past c.is_past.ensures o) ∙ c.if-is_past.true)
+    saved_not h (lent a.statistics.now a.last_shingled_input.now a.last_shingled_point.now a.previous_timestamps.now a.initial_values.now a.initial_timestamps.now) w c.time_width-w.ensures a.out.now (sym (narrow_past c.is_past.ensures o) ∙ c.if-is_past.true)
 
 pub overflow_mul-st : goal.overflow_mul-st
 overflow_mul-st c =
@@ -34,7 +34,7 @@ overflow_mul-st c =
     let n = h.initial_len in
     let w = c.time_width-w.result in
     let o : w ≤ 1 = wide_of (augments h.forest_mode) w c.time_width-w.ensures in
-    let H = held_of d k w n (length a.statistics.now) (length a.last-shingled-input.now) (length a.last-shingled-point.now) (length a.previous-timestamps.now) (length a.initial-values.now) (length a.initial-timestamps.now) (sym (narrow_past c.is_past.ensures o) ∙ c.if-is_past.false) in
+    let H = held_of d k w n (length a.statistics.now) (length a.last_shingled_input.now) (length a.last_shingled_point.now) (length a.previous_timestamps.now) (length a.initial_values.now) (length a.initial_timestamps.now) (sym (narrow_past c.is_past.ensures o) ∙ c.if-is_past.false) in
     omega (arith, H.d_few)
 
 pub overflow_add-st : goal.overflow_add-st
@@ -46,7 +46,7 @@ overflow_add-st c =
     let n = h.initial_len in
     let w = c.time_width-w.result in
     let o : w ≤ 1 = wide_of (augments h.forest_mode) w c.time_width-w.ensures in
-    let H = held_of d k w n (length a.statistics.now) (length a.last-shingled-input.now) (length a.last-shingled-point.now) (length a.previous-timestamps.now) (length a.initial-values.now) (length a.initial-timestamps.now) (sym (narrow_past c.is_past.ensures o) ∙ c.if-is_past.false) in
+    let H = held_of d k w n (length a.statistics.now) (length a.last_shingled_input.now) (length a.last_shingled_point.now) (length a.previous_timestamps.now) (length a.initial_values.now) (length a.initial_timestamps.now) (sym (narrow_past c.is_past.ensures o) ∙ c.if-is_past.false) in
     omega (arith, H.d_few)
 
 pub overflow_mul-st-2 : goal.overflow_mul-st-2
@@ -58,7 +58,7 @@ overflow_mul-st-2 c =
     let n = h.initial_len in
     let w = c.time_width-w.result in
     let o : w ≤ 1 = wide_of (augments h.forest_mode) w c.time_width-w.ensures in
-    let H = held_of d k w n (length a.statistics.now) (length a.last-shingled-input.now) (length a.last-shingled-point.now) (length a.previous-timestamps.now) (length a.initial-values.now) (length a.initial-timestamps.now) (sym (narrow_past c.is_past.ensures o) ∙ c.if-is_past.false) in
+    let H = held_of d k w n (length a.statistics.now) (length a.last_shingled_input.now) (length a.last_shingled_point.now) (length a.previous_timestamps.now) (length a.initial_values.now) (length a.initial_timestamps.now) (sym (narrow_past c.is_past.ensures o) ∙ c.if-is_past.false) in
     omega (arith, H.d_few)
 
 pub slice_bounds-st-end : goal.slice_bounds-st-end
@@ -70,7 +70,7 @@ slice_bounds-st-end c =
     let n = h.initial_len in
     let w = c.time_width-w.result in
     let o : w ≤ 1 = wide_of (augments h.forest_mode) w c.time_width-w.ensures in
-    let H = held_of d k w n (length a.statistics.now) (length a.last-shingled-input.now) (length a.last-shingled-point.now) (length a.previous-timestamps.now) (length a.initial-values.now) (length a.initial-timestamps.now) (sym (narrow_past c.is_past.ensures o) ∙ c.if-is_past.false) in
+    let H = held_of d k w n (length a.statistics.now) (length a.last_shingled_input.now) (length a.last_shingled_point.now) (length a.previous_timestamps.now) (length a.initial_values.now) (length a.initial_timestamps.now) (sym (narrow_past c.is_past.ensures o) ∙ c.if-is_past.false) in
     sym (length-take-le (3 * (5 * d + 5)) a.statistics.now H.in_statistics)
 
 pub overflow_mul-x : goal.overflow_mul-x
@@ -82,7 +82,7 @@ overflow_mul-x c =
     let n = h.initial_len in
     let w = c.time_width-w.result in
     let o : w ≤ 1 = wide_of (augments h.forest_mode) w c.time_width-w.ensures in
-    let H = held_of d k w n (length a.statistics.now) (length a.last-shingled-input.now) (length a.last-shingled-point.now) (length a.previous-timestamps.now) (length a.initial-values.now) (length a.initial-timestamps.now) (sym (narrow_past c.is_past.ensures o) ∙ c.if-is_past.false) in
+    let H = held_of d k w n (length a.statistics.now) (length a.last_shingled_input.now) (length a.last_shingled_point.now) (length a.previous_timestamps.now) (length a.initial_values.now) (length a.initial_timestamps.now) (sym (narrow_past c.is_past.ensures o) ∙ c.if-is_past.false) in
     omega (arith, few d k H.d_few H.k_few)
 
 pub slice_bounds-x-end : goal.slice_bounds-x-end
@@ -94,8 +94,8 @@ slice_bounds-x-end c =
     let n = h.initial_len in
     let w = c.time_width-w.result in
     let o : w ≤ 1 = wide_of (augments h.forest_mode) w c.time_width-w.ensures in
-    let H = held_of d k w n (length a.statistics.now) (length a.last-shingled-input.now) (length a.last-shingled-point.now) (length a.previous-timestamps.now) (length a.initial-values.now) (length a.initial-timestamps.now) (sym (narrow_past c.is_past.ensures o) ∙ c.if-is_past.false) in
-    sym (length-take-le (d * k) a.last-shingled-input.now H.in_input)
+    let H = held_of d k w n (length a.statistics.now) (length a.last_shingled_input.now) (length a.last_shingled_point.now) (length a.previous_timestamps.now) (length a.initial_values.now) (length a.initial_timestamps.now) (sym (narrow_past c.is_past.ensures o) ∙ c.if-is_past.false) in
+    sym (length-take-le (d * k) a.last_shingled_input.now H.in_input)
 
 pub overflow_add-y : goal.overflow_add-y
 overflow_add-y c =
@@ -106,7 +106,7 @@ overflow_add-y c =
     let n = h.initial_len in
     let w = c.time_width-w.result in
     let o : w ≤ 1 = wide_of (augments h.forest_mode) w c.time_width-w.ensures in
-    let H = held_of d k w n (length a.statistics.now) (length a.last-shingled-input.now) (length a.last-shingled-point.now) (length a.previous-timestamps.now) (length a.initial-values.now) (length a.initial-timestamps.now) (sym (narrow_past c.is_past.ensures o) ∙ c.if-is_past.false) in
+    let H = held_of d k w n (length a.statistics.now) (length a.last_shingled_input.now) (length a.last_shingled_point.now) (length a.previous_timestamps.now) (length a.initial_values.now) (length a.initial_timestamps.now) (sym (narrow_past c.is_past.ensures o) ∙ c.if-is_past.false) in
     omega (arith, H.d_few)
 
 pub overflow_mul-y : goal.overflow_mul-y
@@ -118,7 +118,7 @@ overflow_mul-y c =
     let n = h.initial_len in
     let w = c.time_width-w.result in
     let o : w ≤ 1 = wide_of (augments h.forest_mode) w c.time_width-w.ensures in
-    let H = held_of d k w n (length a.statistics.now) (length a.last-shingled-input.now) (length a.last-shingled-point.now) (length a.previous-timestamps.now) (length a.initial-values.now) (length a.initial-timestamps.now) (sym (narrow_past c.is_past.ensures o) ∙ c.if-is_past.false) in
+    let H = held_of d k w n (length a.statistics.now) (length a.last_shingled_input.now) (length a.last_shingled_point.now) (length a.previous_timestamps.now) (length a.initial_values.now) (length a.initial_timestamps.now) (sym (narrow_past c.is_past.ensures o) ∙ c.if-is_past.false) in
     omega (arith, few_wide (d + w) k (omega (arith, H.d_few)) H.k_few)
 
 pub slice_bounds-y-end : goal.slice_bounds-y-end
@@ -130,8 +130,8 @@ slice_bounds-y-end c =
     let n = h.initial_len in
     let w = c.time_width-w.result in
     let o : w ≤ 1 = wide_of (augments h.forest_mode) w c.time_width-w.ensures in
-    let H = held_of d k w n (length a.statistics.now) (length a.last-shingled-input.now) (length a.last-shingled-point.now) (length a.previous-timestamps.now) (length a.initial-values.now) (length a.initial-timestamps.now) (sym (narrow_past c.is_past.ensures o) ∙ c.if-is_past.false) in
-    sym (length-take-le ((d + w) * k) a.last-shingled-point.now H.in_point)
+    let H = held_of d k w n (length a.statistics.now) (length a.last_shingled_input.now) (length a.last_shingled_point.now) (length a.previous_timestamps.now) (length a.initial_values.now) (length a.initial_timestamps.now) (sym (narrow_past c.is_past.ensures o) ∙ c.if-is_past.false) in
+    sym (length-take-le ((d + w) * k) a.last_shingled_point.now H.in_point)
 
 pub slice_bounds-ts-end : goal.slice_bounds-ts-end
 slice_bounds-ts-end c =
@@ -142,8 +142,8 @@ slice_bounds-ts-end c =
     let n = h.initial_len in
     let w = c.time_width-w.result in
     let o : w ≤ 1 = wide_of (augments h.forest_mode) w c.time_width-w.ensures in
-    let H = held_of d k w n (length a.statistics.now) (length a.last-shingled-input.now) (length a.last-shingled-point.now) (length a.previous-timestamps.now) (length a.initial-values.now) (length a.initial-timestamps.now) (sym (narrow_past c.is_past.ensures o) ∙ c.if-is_past.false) in
-    sym (length-take-le (k) a.previous-timestamps.now H.in_times)
+    let H = held_of d k w n (length a.statistics.now) (length a.last_shingled_input.now) (length a.last_shingled_point.now) (length a.previous_timestamps.now) (length a.initial_values.now) (length a.initial_timestamps.now) (sym (narrow_past c.is_past.ensures o) ∙ c.if-is_past.false) in
+    sym (length-take-le (k) a.previous_timestamps.now H.in_times)
 
 pub overflow_mul-v : goal.overflow_mul-v
 overflow_mul-v c =
@@ -154,7 +154,7 @@ overflow_mul-v c =
     let n = h.initial_len in
     let w = c.time_width-w.result in
     let o : w ≤ 1 = wide_of (augments h.forest_mode) w c.time_width-w.ensures in
-    let H = held_of d k w n (length a.statistics.now) (length a.last-shingled-input.now) (length a.last-shingled-point.now) (length a.previous-timestamps.now) (length a.initial-values.now) (length a.initial-timestamps.now) (sym (narrow_past c.is_past.ensures o) ∙ c.if-is_past.false) in
+    let H = held_of d k w n (length a.statistics.now) (length a.last_shingled_input.now) (length a.last_shingled_point.now) (length a.previous_timestamps.now) (length a.initial_values.now) (length a.initial_timestamps.now) (sym (narrow_past c.is_past.ensures o) ∙ c.if-is_past.false) in
     omega (arith, few_values n d H.n_few H.d_few)
 
 pub slice_bounds-v-end : goal.slice_bounds-v-end
@@ -166,8 +166,8 @@ slice_bounds-v-end c =
     let n = h.initial_len in
     let w = c.time_width-w.result in
     let o : w ≤ 1 = wide_of (augments h.forest_mode) w c.time_width-w.ensures in
-    let H = held_of d k w n (length a.statistics.now) (length a.last-shingled-input.now) (length a.last-shingled-point.now) (length a.previous-timestamps.now) (length a.initial-values.now) (length a.initial-timestamps.now) (sym (narrow_past c.is_past.ensures o) ∙ c.if-is_past.false) in
-    sym (length-take-le (n * d) a.initial-values.now H.in_values)
+    let H = held_of d k w n (length a.statistics.now) (length a.last_shingled_input.now) (length a.last_shingled_point.now) (length a.previous_timestamps.now) (length a.initial_values.now) (length a.initial_timestamps.now) (sym (narrow_past c.is_past.ensures o) ∙ c.if-is_past.false) in
+    sym (length-take-le (n * d) a.initial_values.now H.in_values)
 
 pub slice_bounds-us-end : goal.slice_bounds-us-end
 slice_bounds-us-end c =
@@ -178,8 +178,8 @@ slice_bounds-us-end c =
     let n = h.initial_len in
     let w = c.time_width-w.result in
     let o : w ≤ 1 = wide_of (augments h.forest_mode) w c.time_width-w.ensures in
-    let H = held_of d k w n (length a.statistics.now) (length a.last-shingled-input.now) (length a.last-shingled-point.now) (length a.previous-timestamps.now) (length a.initial-values.now) (length a.initial-timestamps.now) (sym (narrow_past c.is_past.ensures o) ∙ c.if-is_past.false) in
-    sym (length-take-le (n) a.initial-timestamps.now H.in_initial)
+    let H = held_of d k w n (length a.statistics.now) (length a.last_shingled_input.now) (length a.last_shingled_point.now) (length a.previous_timestamps.now) (length a.initial_values.now) (length a.initial_timestamps.now) (sym (narrow_past c.is_past.ensures o) ∙ c.if-is_past.false) in
+    sym (length-take-le (n) a.initial_timestamps.now H.in_initial)
 
 pub returns-then-is_unformed : goal.returns-then-is_unformed
 unfolding unformed view
@@ -190,7 +190,7 @@ returns-then-is_unformed c =
     let h = a.head in
     let w = c.time_width-w.result in
     let o : w ≤ 1 = wide_of (augments h.forest_mode) w c.time_width-w.ensures in
-    let l = lent a.statistics.now a.last-shingled-input.now a.last-shingled-point.now a.previous-timestamps.now a.initial-values.now a.initial-timestamps.now in
+    let l = lent a.statistics.now a.last_shingled_input.now a.last_shingled_point.now a.previous_timestamps.now a.initial_values.now a.initial_timestamps.now in
     saved_unformed h l w c.time_width-w.ensures a.out.now (sym (narrow_past c.is_past.ensures o) ∙ c.if-is_past.false) (sym c.is_unformed.ensures ∙ c.if-is_unformed.true)
 
 pub save_parts-requires : goal.save_parts-requires
@@ -203,13 +203,13 @@ save_parts-requires e =
     let n = h.initial_len in
     let w = e.time_width-w.result in
     let o : w ≤ 1 = wide_of (augments h.forest_mode) w e.time_width-w.ensures in
-    let H = held_of d k w n (length a.statistics.now) (length a.last-shingled-input.now) (length a.last-shingled-point.now) (length a.previous-timestamps.now) (length a.initial-values.now) (length a.initial-timestamps.now) (sym (narrow_past e.is_past.ensures o) ∙ e.if-is_past.false) in
+    let H = held_of d k w n (length a.statistics.now) (length a.last_shingled_input.now) (length a.last_shingled_point.now) (length a.previous_timestamps.now) (length a.initial_values.now) (length a.initial_timestamps.now) (sym (narrow_past e.is_past.ensures o) ∙ e.if-is_past.false) in
     let l₁ = length-take-le (3 * (5 * d + 5)) a.statistics.now H.in_statistics in
-    let l₂ = length-take-le (d * k) a.last-shingled-input.now H.in_input in
-    let l₃ = length-take-le ((d + w) * k) a.last-shingled-point.now H.in_point in
-    let l₄ = length-take-le k a.previous-timestamps.now H.in_times in
-    let l₅ = length-take-le (n * d) a.initial-values.now H.in_values in
-    let l₆ = length-take-le n a.initial-timestamps.now H.in_initial in record { input_length_bound = H.d_few; statistics_len_bound = omega (arith, l₁, H.d_few); input_len_bound = omega (arith, l₂, few d k H.d_few H.k_few); point_len_bound = omega (arith, l₃, few_wide (d + w) k (omega (arith, H.d_few)) H.k_few); times_len_bound = omega (arith, l₄, H.k_few); initial_len_bound = omega (arith, l₆, H.n_few); input_length_in_bounds = le_of_eq (ap (λ (x : ℕ). x * d) l₆ ∙ sym l₅) }
+    let l₂ = length-take-le (d * k) a.last_shingled_input.now H.in_input in
+    let l₃ = length-take-le ((d + w) * k) a.last_shingled_point.now H.in_point in
+    let l₄ = length-take-le k a.previous_timestamps.now H.in_times in
+    let l₅ = length-take-le (n * d) a.initial_values.now H.in_values in
+    let l₆ = length-take-le n a.initial_timestamps.now H.in_initial in record { input_length_bound = H.d_few; statistics_len_bound = omega (arith, l₁, H.d_few); input_len_bound = omega (arith, l₂, few d k H.d_few H.k_few); point_len_bound = omega (arith, l₃, few_wide (d + w) k (omega (arith, H.d_few)) H.k_few); times_len_bound = omega (arith, l₄, H.k_few); initial_len_bound = omega (arith, l₆, H.n_few); input_length_in_bounds = le_of_eq (ap (λ (x : ℕ). x * d) l₆ ∙ sym l₅) }
 
 pub returns : goal.returns
 unfolding unformed view
@@ -221,6 +221,6 @@ returns c =
     let h = a.head in
     let w = c.time_width-w.result in
     let o : w ≤ 1 = wide_of (augments h.forest_mode) w c.time_width-w.ensures in
-    let l = lent a.statistics.now a.last-shingled-input.now a.last-shingled-point.now a.previous-timestamps.now a.initial-values.now a.initial-timestamps.now in
+    let l = lent a.statistics.now a.last_shingled_input.now a.last_shingled_point.now a.previous_timestamps.now a.initial_values.now a.initial_timestamps.now in
     saved_is h l w c.time_width-w.ensures a.out.now _ (sym (narrow_past c.is_past.ensures o) ∙ c.if-is_past.false)
     (sym c.is_unformed.ensures ∙ c.if-is_unformed.false) c.save_parts.ensures

@@ -16,7 +16,7 @@ loop-i-init c = (omega arith, over_none _, refl)
 pub loop-i-preserved : goal.loop-i-preserved
 loop-i-preserved c =
     let L = c.loop-i in
-    let w = c.args.t1 in
+    let w = c.args.codes in
     let n : length w ≡ 16 = c.well_formed.0.1.0.1 in
     let h : L.i < length w = omega arith in
     let k : length w ≤ 16 = omega arith in
@@ -25,7 +25,7 @@ loop-i-preserved c =
 pub returns : goal.returns
 returns c =
     let L = c.loop-i in
-    let w = c.args.t1 in
+    let w = c.args.codes in
     let n : length w ≡ 16 = c.well_formed.0.1.0.1 in
     let e : L.i ≡ length w = omega arith in
     let p = rw e at L.invariant.1 in

@@ -1,5 +1,4 @@
 -- `snapshot_save::save::write_codes` meets its contract. Assumes nothing.
-use Rattle.trcf.proofs.RefusalLaws.{sixteen}
 use native.Mathlib.Omega.{arith}
 use mathlib.Core.Path.{◌≡◌, sym, ap, ◌∙◌}
 use Prim.Native.Nat.{ℕ}
@@ -16,7 +15,7 @@ slice_bounds-chn_line-end c =
     let h = c.args.head in
     let d = h.transformer.input_length in
     let W = c.widened-wide in
-    let z : length W.result ≡ 16 = ap length W.ensures ∙ sixteen h.codes c.well_formed.1.1.0.1.1.1.1.1.1.1.1.1.1.1.0.1.0.1 in
+    let z : length W.result ≡ 16 = ap length W.ensures ∙ c.well_formed.1.1.0.1.1.1.1.1.1.1.1.1.1.1.0.1.0.1 in
     let m = length-take-le d W.result (omega (arith, z, c.requires.input_length_bound)) in
     sym m
 

@@ -1,5 +1,4 @@
 -- `snapshot_save::save::write_head` meets its contract. Assumes nothing.
-use Rattle.trcf.proofs.RefusalLaws.{sixteen}
 use Rattle.snapshot.proofs.SaveLaws.{set_lined, head_split}
 use Rattle.snapshot.proofs.WriteLaws.{wrote_then, wrote_is}
 use Rattle.snapshot.specs.Steps.TwoParts.{head_bytes}
@@ -15,7 +14,7 @@ set_line-p-requires c =
     let h = c.args.head in
     let w = h.transformer.weights in
     let d = h.transformer.input_length in
-    let z : length w ≡ 16 = sixteen w c.well_formed.1.0.1.1.0.1.1.1.1.1.0.1.0.1 in
+    let z : length w ≡ 16 = c.well_formed.1.0.1.1.0.1.1.1.1.1.0.1.0.1 in
     let e = set_lined (settings_of h) c.mode_letter-letter.result c.method_number-method.result c.mode_letter-letter.ensures c.method_number-method.ensures in
     omega (arith, head_split (settings_of h) h.values_seen h.internal_timestamp h.transformer.count, ap length e, c.requires.count_in_bounds)
 
@@ -24,7 +23,7 @@ slice_bounds-weights-end c =
     let h = c.args.head in
     let w = h.transformer.weights in
     let d = h.transformer.input_length in
-    let z : length w ≡ 16 = sixteen w c.well_formed.1.0.1.1.0.1.1.1.1.1.0.1.0.1 in
+    let z : length w ≡ 16 = c.well_formed.1.0.1.1.0.1.1.1.1.1.0.1.0.1 in
     omega (arith, z)
 
 pub slice_bounds-singles_line-end : goal.slice_bounds-singles_line-end
@@ -32,7 +31,7 @@ slice_bounds-singles_line-end c =
     let h = c.args.head in
     let w = h.transformer.weights in
     let d = h.transformer.input_length in
-    let z : length w ≡ 16 = sixteen w c.well_formed.1.0.1.1.0.1.1.1.1.1.0.1.0.1 in
+    let z : length w ≡ 16 = c.well_formed.1.0.1.1.0.1.1.1.1.1.0.1.0.1 in
     sym (length-take-le d w (omega (arith, z)))
 
 pub singles_line-q-requires : goal.singles_line-q-requires
@@ -40,7 +39,7 @@ singles_line-q-requires c =
     let h = c.args.head in
     let w = h.transformer.weights in
     let d = h.transformer.input_length in
-    let z : length w ≡ 16 = sixteen w c.well_formed.1.0.1.1.0.1.1.1.1.1.0.1.0.1 in
+    let z : length w ≡ 16 = c.well_formed.1.0.1.1.0.1.1.1.1.1.0.1.0.1 in
     let e = set_lined (settings_of h) c.mode_letter-letter.result c.method_number-method.result c.mode_letter-letter.ensures c.method_number-method.ensures in
     omega (arith, head_split (settings_of h) h.values_seen h.internal_timestamp h.transformer.count, ap length e, c.requires.count_in_bounds, c.set_line-p.ensures.place, c.set_line-p.ensures.kept)
 
@@ -49,7 +48,7 @@ write_codes-r-requires c =
     let h = c.args.head in
     let w = h.transformer.weights in
     let d = h.transformer.input_length in
-    let z : length w ≡ 16 = sixteen w c.well_formed.1.0.1.1.0.1.1.1.1.1.0.1.0.1 in
+    let z : length w ≡ 16 = c.well_formed.1.0.1.1.0.1.1.1.1.1.0.1.0.1 in
     let e = set_lined (settings_of h) c.mode_letter-letter.result c.method_number-method.result c.mode_letter-letter.ensures c.method_number-method.ensures in
     record { input_length_bound = c.requires.input_length_bound; head_in_bounds = omega (arith, head_split (settings_of h) h.values_seen h.internal_timestamp h.transformer.count, ap length e, c.requires.count_in_bounds, c.set_line-p.ensures.place, c.set_line-p.ensures.kept, c.singles_line-q.ensures.place, c.singles_line-q.ensures.kept) }
 
@@ -58,7 +57,7 @@ cnt_line-requires c =
     let h = c.args.head in
     let w = h.transformer.weights in
     let d = h.transformer.input_length in
-    let z : length w ≡ 16 = sixteen w c.well_formed.1.0.1.1.0.1.1.1.1.1.0.1.0.1 in
+    let z : length w ≡ 16 = c.well_formed.1.0.1.1.0.1.1.1.1.1.0.1.0.1 in
     let e = set_lined (settings_of h) c.mode_letter-letter.result c.method_number-method.result c.mode_letter-letter.ensures c.method_number-method.ensures in
     omega (arith, head_split (settings_of h) h.values_seen h.internal_timestamp h.transformer.count, ap length e, c.requires.count_in_bounds, c.set_line-p.ensures.place, c.set_line-p.ensures.kept, c.singles_line-q.ensures.place, c.singles_line-q.ensures.kept, c.write_codes-r.ensures.place, c.write_codes-r.ensures.kept)
 
@@ -68,6 +67,6 @@ returns c =
     let h = c.args.head in
     let w = h.transformer.weights in
     let d = h.transformer.input_length in
-    let z : length w ≡ 16 = sixteen w c.well_formed.1.0.1.1.0.1.1.1.1.1.0.1.0.1 in
+    let z : length w ≡ 16 = c.well_formed.1.0.1.1.0.1.1.1.1.1.0.1.0.1 in
     let e = set_lined (settings_of h) c.mode_letter-letter.result c.method_number-method.result c.mode_letter-letter.ensures c.method_number-method.ensures in
     wrote_then (wrote_is e c.set_line-p.ensures) (wrote_then c.singles_line-q.ensures (wrote_then c.write_codes-r.ensures c.cnt_line.ensures))
