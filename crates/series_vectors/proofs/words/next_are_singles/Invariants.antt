@@ -1,0 +1,10 @@
+-- What holds in the loops of `series_vectors::words::next_are_singles`.
+use Prim.Native.Nat.{◌-◌, ◌≤◌}
+use lib.ListN.{length}
+use Rattle.series_vectors.proofs.words.next_are_singles.Given as goal
+
+abbrev pub invariant-loop-i : goal.invariant-loop-i
+invariant-loop-i l = i ≤ length list
+
+abbrev pub decreases-loop-i : goal.decreases-loop-i
+decreases-loop-i l = length list - i

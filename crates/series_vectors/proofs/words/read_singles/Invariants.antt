@@ -1,0 +1,11 @@
+-- What holds in the loops of `series_vectors::words::read_singles`.
+use mathlib.Core.Path.{◌≡◌}
+use Prim.Native.Nat.{◌-◌}
+use lib.ListN.{length}
+use Rattle.series_vectors.proofs.words.read_singles.Given as goal
+
+abbrev pub invariant-loop-i : goal.invariant-loop-i
+invariant-loop-i l = (length out ≡ length out₀)
+
+abbrev pub decreases-loop-i : goal.decreases-loop-i
+decreases-loop-i l = length out₀ - i

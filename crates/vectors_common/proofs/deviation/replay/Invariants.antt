@@ -1,0 +1,10 @@
+-- What holds in the loops of `vectors_common::deviation::replay`.
+use Prim.Native.Nat.{◌-◌}
+use lib.ListN.{length}
+use Rattle.vectors_common.proofs.deviation.replay.Given as goal
+
+abbrev pub invariant-loop-at : goal.invariant-loop-at
+invariant-loop-at l = Unit {0}
+
+abbrev pub decreases-loop-at : goal.decreases-loop-at
+decreases-loop-at l = length l.text - l.at
