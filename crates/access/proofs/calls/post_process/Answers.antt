@@ -25,12 +25,12 @@ returns c =
     let s = c in
     let z = c in
     let a = c.args in
-    let u = to_z-of_z w32 a.relative-index c.ranges.relative-index in
-    let l = lent a.statistics.now a.last-shingled-input.now a.last-shingled-point.now a.previous-timestamps.now a.initial-values.now a.initial-timestamps.now in
+    let u = to_z-of_z w32 a.relative_index c.ranges.relative_index in
+    let l = lent a.statistics.now a.last_shingled_input.now a.last_shingled_point.now a.previous_timestamps.now a.initial_values.now a.initial_timestamps.now in
     let q : ℤ → Learn =
-    λ i. learn_call a.input.now a.timestamp a.has-y a.y.now a.expects a.expected.now a.grade i a.deviations-out.now a.past-out.now
-    a.expected-out.now in
-    let r = a.relative-index in
+    λ i. learn_call a.input.now a.timestamp a.has_y a.y.now a.expects a.expected.now a.grade i a.deviations_out.now a.past_out.now
+    a.expected_out.now in
+    let r = a.relative_index in
     guard_open a.table.now a.role (LEARN ∷ []) c.may.result c.may.ensures (learn_after a.head l (q r))
     (learn_nothing 22 a.head l (q r)) (not-false _ c.if-not-may.false-raw) _
     (c.post_process.ensures ∙ ap (λ (i : ℤ). learn_after a.head l (q i)) u)

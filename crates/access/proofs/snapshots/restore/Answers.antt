@@ -13,7 +13,7 @@ pub returns-then-not-may : goal.returns-then-not-may
 returns-then-not-may c =
     let s = c in
     let a = c.args in
-    let l = lent a.statistics.now a.last-shingled-input.now a.last-shingled-point.now a.previous-timestamps.now a.initial-values.now a.initial-timestamps.now in
+    let l = lent a.statistics.now a.last_shingled_input.now a.last_shingled_point.now a.previous_timestamps.now a.initial_values.now a.initial_timestamps.now in
     ap (λ (h : Preprocessor). restored 22 0 h l) c.no_head.ensures
     ∙ guard_shut _ _ (RESTORE ∷ []) c.may.result c.may.ensures _ _ (not-true _ c.if-not-may.true-raw)
 

@@ -13,10 +13,10 @@ returns-then-bad-ne0 c =
     let c16 = c in
     let a = c.args in
     learn_refused a.table.now a.role a.head.now (opened a.head.now c.may.ensures c.open_head-read.ensures.row_value)
-    (lent a.statistics.now a.last-shingled-input.now a.last-shingled-point.now a.previous-timestamps.now a.initial-values.now a.initial-timestamps.now)
-    (anomaly_out a.written.now a.has-anomaly.now a.past-timestamp.now a.likelihood.now)
-    (learn_call a.input.now a.timestamp (is_set a.has-y) a.y.now (is_set a.expects) a.expected.now a.grade a.relative-index a.deviations-out.now
-    a.past-out.now a.expected-out.now) c.if-bad-ne0.true
+    (lent a.statistics.now a.last_shingled_input.now a.last_shingled_point.now a.previous_timestamps.now a.initial_values.now a.initial_timestamps.now)
+    (anomaly_out a.written.now a.has_anomaly.now a.past_timestamp.now a.likelihood.now)
+    (learn_call a.input.now a.timestamp (is_set a.has_y) a.y.now (is_set a.expects) a.expected.now a.grade a.relative_index a.deviations_out.now
+    a.past_out.now a.expected_out.now) c.if-bad-ne0.true
 
 pub write_counts-requires : goal.write_counts-requires
 write_counts-requires c =
@@ -41,12 +41,12 @@ returns c =
     let h = c.open_head-read in
     let m = c.may in
     learn_done a.table.now a.role a.head.now c.if-bad-ne0.false h.ensures.head_read (opened a.head.now m.ensures h.ensures.row_value)
-    (lent a.statistics.now a.last-shingled-input.now a.last-shingled-point.now a.previous-timestamps.now a.initial-values.now a.initial-timestamps.now)
-    (anomaly_out a.written.now a.has-anomaly.now a.past-timestamp.now a.likelihood.now)
-    (learn_call a.input.now a.timestamp (is_set a.has-y) a.y.now (is_set a.expects) a.expected.now a.grade a.relative-index a.deviations-out.now
-    a.past-out.now a.expected-out.now) (learn_call a.input.now a.timestamp at-is-set.result a.y.now at-is-set2.result a.expected.now a.grade
-    (to_z w32 (of_z w32 a.relative-index)) a.deviations-out.now a.past-out.now a.expected-out.now) c.post_process-r.ensures
+    (lent a.statistics.now a.last_shingled_input.now a.last_shingled_point.now a.previous_timestamps.now a.initial_values.now a.initial_timestamps.now)
+    (anomaly_out a.written.now a.has_anomaly.now a.past_timestamp.now a.likelihood.now)
+    (learn_call a.input.now a.timestamp (is_set a.has_y) a.y.now (is_set a.expects) a.expected.now a.grade a.relative_index a.deviations_out.now
+    a.past_out.now a.expected_out.now) (learn_call a.input.now a.timestamp at-is-set.result a.y.now at-is-set2.result a.expected.now a.grade
+    (to_z w32 (of_z w32 a.relative_index)) a.deviations_out.now a.past_out.now a.expected_out.now) c.post_process-r.ensures
     (λ j. (learn_call a.input.now a.timestamp (at-is-set.ensures j) a.y.now (at-is-set2.ensures j) a.expected.now a.grade
-    (to_z-of_z w32 a.relative-index c.ranges.relative-index j) a.deviations-out.now a.past-out.now
-    a.expected-out.now)) c.write_counts.ensures c.flag_of.ensures c.tell.ensures
+    (to_z-of_z w32 a.relative_index c.ranges.relative_index j) a.deviations_out.now a.past_out.now
+    a.expected_out.now)) c.write_counts.ensures c.flag_of.ensures c.tell.ensures
     c.flag_of-2.ensures c.tell-2.ensures c.tell-3.ensures c.tell_f32.ensures

@@ -8,5 +8,5 @@ returns c =
     let u = c in
     let near = c in
     let a = c.args in
-    align_done a.d (readings a.left.now a.left-times.now) (readings a.right.now a.right-times.now) a.tolerance a.pairs.now
-    (outputs a.left_out.now a.right-out.now a.gaps-out.now) c.align-r.ensures c.tell.ensures
+    align_done a.d (readings a.left.now a.left_times.now) (readings a.right.now a.right_times.now) a.tolerance a.pairs.now
+    (outputs a.left_out.now a.right_out.now a.gaps_out.now) c.align-r.ensures c.tell.ensures

@@ -10,8 +10,8 @@ returns-then-bad-ne0 c =
     let c16 = c in
     let a = c.args in
     extrapolation_refused a.table.now a.role a.head.now (opened a.head.now c.may.ensures c.open_head-read.ensures.row_value) a.statistics.now
-    a.last-shingled-input.now a.previous-timestamps.now (forecast (ranges a.values.now a.upper.now a.lower.now)
-    (ranges a.values-out.now a.upper-out.now a.lower-out.now) (ranges a.times-out.now a.times-upper-out.now a.times-lower-out.now)) c.if-bad-ne0.true
+    a.last_shingled_input.now a.previous_timestamps.now (forecast (ranges a.values.now a.upper.now a.lower.now)
+    (ranges a.values_out.now a.upper_out.now a.lower_out.now) (ranges a.times_out.now a.times_upper_out.now a.times_lower_out.now)) c.if-bad-ne0.true
 
 pub returns : goal.returns
 returns c =
@@ -24,6 +24,6 @@ returns c =
     let h = c.open_head-read in
     let m = c.may in
     extrapolation_done a.table.now a.role a.head.now c.if-bad-ne0.false h.ensures.head_read (opened a.head.now m.ensures h.ensures.row_value)
-    a.statistics.now a.last-shingled-input.now a.previous-timestamps.now
-    (forecast (ranges a.values.now a.upper.now a.lower.now) (ranges a.values-out.now a.upper-out.now a.lower-out.now)
-    (ranges a.times-out.now a.times-upper-out.now a.times-lower-out.now)) c.invert_extrapolation.ensures
+    a.statistics.now a.last_shingled_input.now a.previous_timestamps.now
+    (forecast (ranges a.values.now a.upper.now a.lower.now) (ranges a.values_out.now a.upper_out.now a.lower_out.now)
+    (ranges a.times_out.now a.times_upper_out.now a.times_lower_out.now)) c.invert_extrapolation.ensures

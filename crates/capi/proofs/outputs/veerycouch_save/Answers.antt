@@ -8,7 +8,7 @@ returns-then-bad-ne0 c =
     let c8 = c in
     let a = c.args in
     save_refused a.table.now a.role a.head.now (opened a.head.now c.may.ensures c.open_head-read.ensures.row_value)
-    (lent a.statistics.now a.last-shingled-input.now a.last-shingled-point.now a.previous-timestamps.now a.initial-values.now a.initial-timestamps.now)
+    (lent a.statistics.now a.last_shingled_input.now a.last_shingled_point.now a.previous_timestamps.now a.initial_values.now a.initial_timestamps.now)
     a.length.now a.output.now c.if-bad-ne0.true
 
 pub returns : goal.returns
@@ -20,5 +20,5 @@ returns c =
     let m = c.may in
     save_done a.table.now a.role a.head.now c.if-bad-ne0.false h.ensures.head_read
     (opened a.head.now m.ensures h.ensures.row_value)
-    (lent a.statistics.now a.last-shingled-input.now a.last-shingled-point.now a.previous-timestamps.now a.initial-values.now a.initial-timestamps.now)
+    (lent a.statistics.now a.last_shingled_input.now a.last_shingled_point.now a.previous_timestamps.now a.initial_values.now a.initial_timestamps.now)
     a.length.now a.output.now c.save-r.ensures c.tell.ensures

@@ -10,7 +10,7 @@ returns-then-bad-ne0 c =
     let c8 = c in
     let a = c.args in
     write_refused a.table.now a.role a.head.now
-    (lent a.statistics.now a.last-shingled-input.now a.last-shingled-point.now a.previous-timestamps.now a.initial-values.now a.initial-timestamps.now)
+    (lent a.statistics.now a.last_shingled_input.now a.last_shingled_point.now a.previous_timestamps.now a.initial_values.now a.initial_timestamps.now)
     (scale a.output.now) scale_of a.output.now
     (opened a.head.now c.may.ensures c.open_head-read.ensures.row_value) c.if-bad-ne0.true
 
@@ -22,6 +22,6 @@ returns c =
     let h = c.open_head-read in
     let m = c.may in
     write_done a.table.now a.role a.head.now c.if-bad-ne0.false h.ensures.head_read
-    (lent a.statistics.now a.last-shingled-input.now a.last-shingled-point.now a.previous-timestamps.now a.initial-values.now a.initial-timestamps.now)
+    (lent a.statistics.now a.last_shingled_input.now a.last_shingled_point.now a.previous_timestamps.now a.initial_values.now a.initial_timestamps.now)
     (scale a.output.now) scale_of a.output.now
     (opened a.head.now m.ensures h.ensures.row_value) c.scale.ensures

@@ -10,7 +10,7 @@ returns-then-not-may c =
     let c8 = c in
     let a = c.args in
     restore_withheld a.table.now a.role a.text.now a.codes.now a.head.now
-    (lent a.statistics.now a.last-shingled-input.now a.last-shingled-point.now a.previous-timestamps.now a.initial-values.now a.initial-timestamps.now)
+    (lent a.statistics.now a.last_shingled_input.now a.last_shingled_point.now a.previous_timestamps.now a.initial_values.now a.initial_timestamps.now)
     a.line.now c.may.ensures (not-true _ c.if-not-may.true-raw)
 
 pub returns-then-head-lt44 : goal.returns-then-head-lt44
@@ -20,7 +20,7 @@ returns-then-head-lt44 c =
     let c24 = c in
     let a = c.args in
     restore_few a.table.now a.role a.text.now a.codes.now a.head.now
-    (lent a.statistics.now a.last-shingled-input.now a.last-shingled-point.now a.previous-timestamps.now a.initial-values.now a.initial-timestamps.now)
+    (lent a.statistics.now a.last_shingled_input.now a.last_shingled_point.now a.previous_timestamps.now a.initial_values.now a.initial_timestamps.now)
     a.line.now c.may.ensures (not-false _ c.if-not-may.false-raw) c.if-head-lt44.true c.restore-few.ensures
     c.tell_line.ensures
 
@@ -32,6 +32,6 @@ returns c =
     let c32 = c in
     let a = c.args in
     restore_done a.table.now a.role a.text.now a.codes.now a.head.now
-    (lent a.statistics.now a.last-shingled-input.now a.last-shingled-point.now a.previous-timestamps.now a.initial-values.now a.initial-timestamps.now)
+    (lent a.statistics.now a.last_shingled_input.now a.last_shingled_point.now a.previous_timestamps.now a.initial_values.now a.initial_timestamps.now)
     a.line.now c.may.ensures (not-false _ c.if-not-may.false-raw) (omega arith)
     c.restore-r.ensures c.write_head.ensures c.tell_line-2.ensures

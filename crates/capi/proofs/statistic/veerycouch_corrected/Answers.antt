@@ -8,12 +8,12 @@ returns-in-Ok c =
     let m = c in
     let u = c in
     let a = c.args in
-    corrected_done (statistic a.discount a.weight a.sum a.sum-squared a.count) a.wrong a.right a.output.now c.corrected-r.ensures
+    corrected_done (statistic a.discount a.weight a.sum a.sum_squared a.count) a.wrong a.right a.output.now c.corrected-r.ensures
     c.in-Ok.is c.tell_statistic.ensures
 
 pub returns-in-Err : goal.returns-in-Err
 returns-in-Err c =
     let u = c in
     let a = c.args in
-    corrected_refused (statistic a.discount a.weight a.sum a.sum-squared a.count) a.wrong a.right a.output.now c.corrected-r.ensures
+    corrected_refused (statistic a.discount a.weight a.sum a.sum_squared a.count) a.wrong a.right a.output.now c.corrected-r.ensures
     c.in-Err.is
