@@ -1,6 +1,5 @@
 // The five statistics of a channel, or of the time, in the lent list, three numbers each. A time is fed to its five in one pass over a list of records (the
-// source's update_timestamps). The borrow checker covers no function over a lent list of records: the two that hold one are proved by hand, and callers use
-// `feed_at`, whose parameters are plain.
+// source's update_timestamps); callers use `feed_at`, whose parameters are plain.
 ghost use Rattle.std.specs.Prelude.{◌≡◌, ◌+◌, ◌*◌, ◌≤◌, ◌<◌, length};
 ghost use Rattle.common.specs.Deviation.{count_limit, factor_of, step_of};
 ghost use Rattle.trcf.specs.Transformer.{statistic_at, put_statistic, deviations_at, put_deviations, slow_decay, fed, mean_at, fed_at};
