@@ -36,7 +36,6 @@ no_head-requires-then-short-ne0 c = tt
 
 pub returns-then-short-ne0 : goal.returns-then-short-ne0
 returns-then-short-ne0 c =
-    let c16 = c in
     let a = c.args in
     let s = settings_from a.builder a.weights.now a.codes.now in
     let l = lent a.statistics.now a.last_shingled_input.now a.last_shingled_point.now a.previous_timestamps.now a.initial_values.now a.initial_timestamps.now in
@@ -97,7 +96,6 @@ zero_f32-requires c = tt
 
 pub slice_bounds-zero_f32-end-3 : goal.slice_bounds-zero_f32-end-3
 slice_bounds-zero_f32-end-3 c =
-    let c16 = c in
     let c24 = c in
     let r = (rw c.head_from-head.ensures at (c.held_row-short.ensures.ready c.if-short-ne0.false).fitted) in
     omega (
@@ -113,7 +111,6 @@ slice_bounds-zero_f32-end-3 c =
 
 pub slice_bounds-zero_f32-end-4 : goal.slice_bounds-zero_f32-end-4
 slice_bounds-zero_f32-end-4 c =
-    let c16 = c in
     let c24 = c in
     let r = (rw c.head_from-head.ensures at
     (c.held_row-short.ensures.ready c.if-short-ne0.false).fitted) in
@@ -133,14 +130,12 @@ zero_f32-requires-2 c = tt
 
 pub slice_bounds-zero_u64-end : goal.slice_bounds-zero_u64-end
 slice_bounds-zero_u64-end c =
-    let c16 = c in
     let r = (rw c.head_from-head.ensures at
     (c.held_row-short.ensures.ready c.if-short-ne0.false).fitted) in
     omega (arith, r.roomy)
 
 pub slice_bounds-zero_u64-end-2 : goal.slice_bounds-zero_u64-end-2
 slice_bounds-zero_u64-end-2 c =
-    let c16 = c in
     let r = (rw c.head_from-head.ensures at
     (c.held_row-short.ensures.ready c.if-short-ne0.false).fitted) in
     simp length-take (omega (arith, r.roomy))
@@ -150,7 +145,6 @@ zero_u64-requires c = tt
 
 pub returns : goal.returns
 returns c =
-    let c16 = c in
     let c24 = c in
     let c32 = c in
     let a = c.args in

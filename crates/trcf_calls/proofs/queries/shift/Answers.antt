@@ -39,7 +39,6 @@ write_shift-requires c = tt
 pub returns : goal.returns
 unfolding view shift_of
 returns c =
-    let c16 = c in
     let a = c.args in
     let l = lent a.statistics.now a.last_shingled_input.now a.last_shingled_point.now a.previous_timestamps.now a.initial_values.now a.initial_timestamps.now in
     write_goes a.head l (shift a.output.now) shift_of a.output.now c.write_row-row.result

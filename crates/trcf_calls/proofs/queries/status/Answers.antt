@@ -26,7 +26,6 @@ panel-requires c = tt
 
 pub returns : goal.returns
 returns c =
-    let c4 = c in
     let d = c.difference_deviations-row in
     rw (c.panel.ensures, c.get_dimension.ensures, c.is_ready.ensures)
     (status_told _ _ _ (written d.result _) d.ensures c.if-row-ne0.false)

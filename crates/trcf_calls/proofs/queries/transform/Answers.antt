@@ -51,7 +51,6 @@ write_transform-requires c = tt
 pub returns : goal.returns
 unfolding view preceding time_base time_base_of newest facts
 returns c =
-    let c16 = c in
     let a = c.args in
     let h = a.head in
     let l = lent a.statistics.now a.last_shingled_input.now a.last_shingled_point.now a.previous_timestamps.now a.initial_values.now a.initial_timestamps.now in

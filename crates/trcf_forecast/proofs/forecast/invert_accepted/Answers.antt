@@ -31,17 +31,14 @@ slice_bounds-invert_augmented-end c =
 
 pub slice_bounds-invert_augmented-end-then-is_augmented : goal.slice_bounds-invert_augmented-end-then-is_augmented
 slice_bounds-invert_augmented-end-then-is_augmented c =
-    let c16 = c in
     sym (length-take-le _ c.args.«last_shingled_input».now c.pre.readable.inputs)
 
 pub slice_bounds-invert_augmented-end-then-is_augmented-2 : goal.slice_bounds-invert_augmented-end-then-is_augmented-2
 slice_bounds-invert_augmented-end-then-is_augmented-2 c =
-    let c16 = c in
     sym (length-take-le _ c.args.«previous_timestamps».now c.pre.readable.times)
 
 pub invert_augmented-requires : goal.invert_augmented-requires
 invert_augmented-requires c =
-    let c16 = c in
     let c24 = c in
     let A = c.args in
     let P = c.pre in
@@ -65,12 +62,10 @@ slice_bounds-invert_in_place-end c =
 
 pub slice_bounds-invert_in_place-end-else-is_augmented : goal.slice_bounds-invert_in_place-end-else-is_augmented
 slice_bounds-invert_in_place-end-else-is_augmented c =
-    let c16 = c in
     sym (length-take-le _ c.args.«last_shingled_input».now c.pre.readable.inputs)
 
 pub invert_in_place-requires : goal.invert_in_place-requires
 invert_in_place-requires c =
-    let c16 = c in
     let A = c.args in
     let P = c.pre in
     let ls = length-take-le _ A.statistics.now P.readable.statistics in
@@ -85,7 +80,6 @@ invert_in_place-requires c =
 pub returns-then-is_augmented : goal.returns-then-is_augmented
 unfolding numbers_of times_of previous viewed view
 returns-then-is_augmented c =
-    let c16 = c in
     let c24 = c in
     let c32 = c in
     let A = c.args in
@@ -98,7 +92,6 @@ returns-then-is_augmented c =
 pub returns-else-is_augmented : goal.returns-else-is_augmented
 unfolding previous viewed view
 returns-else-is_augmented c =
-    let c16 = c in
     let c24 = c in
     let A = c.args in
     standard_is A.head A.statistics.now A.«last_shingled_input».now A.«previous_timestamps».now

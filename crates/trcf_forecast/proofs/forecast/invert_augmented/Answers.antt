@@ -81,7 +81,6 @@ slice_bounds-invert_numbers-end-5 c =
 
 pub slice_bounds-invert_numbers-end-6 : goal.slice_bounds-invert_numbers-end-6
 slice_bounds-invert_numbers-end-6 c =
-    let c16 = c in
     let A = c.args in
     let P = c.pre in
     let r = room_numbers (settings_of A.head) (length A.values.now) c.get_dimension-a.result (length A.inputs.now)
@@ -91,7 +90,6 @@ slice_bounds-invert_numbers-end-6 c =
 
 pub invert_numbers-requires : goal.invert_numbers-requires
 invert_numbers-requires c =
-    let c16 = c in
     let A = c.args in
     let P = c.pre in
     let r = room_numbers (settings_of A.head) (length A.values.now) c.get_dimension-a.result (length A.inputs.now)
@@ -121,7 +119,6 @@ invert_numbers-requires c =
 
 pub slice_bounds-invert_times-end : goal.slice_bounds-invert_times-end
 slice_bounds-invert_times-end c =
-    let c16 = c in
     let A = c.args in
     let P = c.pre in
     let r = room_times (settings_of A.head) (length A.values.now) c.get_dimension-a.result (length A.«times-out».now)
@@ -131,7 +128,6 @@ slice_bounds-invert_times-end c =
 
 pub slice_bounds-invert_times-end-2 : goal.slice_bounds-invert_times-end-2
 slice_bounds-invert_times-end-2 c =
-    let c16 = c in
     let c24 = c in
     let A = c.args in
     let P = c.pre in
@@ -142,7 +138,6 @@ slice_bounds-invert_times-end-2 c =
 
 pub slice_bounds-invert_times-end-3 : goal.slice_bounds-invert_times-end-3
 slice_bounds-invert_times-end-3 c =
-    let c16 = c in
     let c24 = c in
     let A = c.args in
     let P = c.pre in
@@ -153,7 +148,6 @@ slice_bounds-invert_times-end-3 c =
 
 pub slice_bounds-invert_times-end-4 : goal.slice_bounds-invert_times-end-4
 slice_bounds-invert_times-end-4 c =
-    let c16 = c in
     let c24 = c in
     let A = c.args in
     let P = c.pre in
@@ -164,7 +158,6 @@ slice_bounds-invert_times-end-4 c =
 
 pub slice_bounds-invert_times-end-5 : goal.slice_bounds-invert_times-end-5
 slice_bounds-invert_times-end-5 c =
-    let c16 = c in
     let c24 = c in
     let A = c.args in
     let P = c.pre in
@@ -175,7 +168,6 @@ slice_bounds-invert_times-end-5 c =
 
 pub slice_bounds-invert_times-end-6 : goal.slice_bounds-invert_times-end-6
 slice_bounds-invert_times-end-6 c =
-    let c16 = c in
     let c24 = c in
     let A = c.args in
     let P = c.pre in
@@ -186,7 +178,6 @@ slice_bounds-invert_times-end-6 c =
 
 pub invert_times-requires : goal.invert_times-requires
 invert_times-requires c =
-    let c16 = c in
     let c24 = c in
     let A = c.args in
     let P = c.pre in
@@ -208,7 +199,6 @@ invert_times-requires c =
 
 pub returns : goal.returns
 returns c =
-    let c16 = c in
     let c24 = c in
     let c32 = c in
     let A = c.args in

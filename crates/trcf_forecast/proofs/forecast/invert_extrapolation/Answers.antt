@@ -21,7 +21,6 @@ invert_accepted-requires c =
 
 pub returns : goal.returns
 returns c =
-    let c16 = c in
     let c24 = c in
     let c32 = c in
     let c40 = c in

@@ -38,7 +38,6 @@ invert_forecast_in_place-requires c = tt
 
 pub returns : goal.returns
 returns c =
-    let c16 = c in
     let A = c.args in
     let P = c.pre in
     let d = A.head.transformer.input_length in

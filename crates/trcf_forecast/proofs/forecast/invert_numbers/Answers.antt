@@ -32,7 +32,6 @@ copy_fronts-requires-2 c =
 
 pub copy_fronts-requires-3 : goal.copy_fronts-requires-3
 copy_fronts-requires-3 c =
-    let c16 = c in
     let P = c.pre in
     let e = (dimension_known c.get_dimension-a.ensures (search rules)).0 in
     let w = numbers_within (settings_of c.args.head) in
@@ -40,7 +39,6 @@ copy_fronts-requires-3 c =
 
 pub invert_in_place-requires : goal.invert_in_place-requires
 invert_in_place-requires c =
-    let c16 = c in
     let A = c.args in
     let P = c.pre in
     let v = c.copy_fronts.kept.1.1.1.1.0 ∙ P.1.1.1.1.0 in
@@ -56,7 +54,6 @@ invert_in_place-requires c =
 
 pub returns : goal.returns
 returns c =
-    let c16 = c in
     let c24 = c in
     let A = c.args in
     let P = c.pre in

@@ -34,7 +34,6 @@ timedrift_of-drift-requires c = tt
 
 pub write_times-requires : goal.write_times-requires
 write_times-requires c =
-    let c16 = c in
     let A = c.args in
     let P = c.pre in
     let e = (dimension_known c.get_dimension-a.ensures (search rules)).0 in
@@ -43,7 +42,6 @@ write_times-requires c =
 
 pub returns : goal.returns
 returns c =
-    let c16 = c in
     let c24 = c in
     let c32 = c in
     let at-get-dimension = c.get_dimension-a in

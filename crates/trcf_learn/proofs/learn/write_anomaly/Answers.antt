@@ -141,7 +141,6 @@ invert_into-requires c = tt
 
 pub offset_bounds-times-b : goal.offset_bounds-times-b
 offset_bounds-times-b c =
-    let c16 = c in
     let a = c.args in
     let h = a.head in
     let q = c.requires in
@@ -155,13 +154,11 @@ offset_bounds-times-b c =
 
 pub bounds-times-b : goal.bounds-times-b
 bounds-times-b c =
-    let c16 = c in
     let a = c.args in let h = a.head in let q = c.requires in let d = h.transformer.input_length in omega (arith, q, q.exact)
 
 pub returns : goal.returns
 unfolding block_from
 returns c =
-    let c16 = c in
     let a = c.args in
     let h = a.head in
     let q = c.requires in

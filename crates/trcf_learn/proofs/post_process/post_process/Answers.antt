@@ -15,7 +15,6 @@ unlearned-requires c = tt
 
 pub returns-then-row-ne0 : goal.returns-then-row-ne0
 returns-then-row-ne0 c =
-    let c16 = c in
     let a = c.args in
     let u = to_z-of_z w32 a.relative_index c.ranges.relative_index in
     let o = c.post_process_row-row in
@@ -28,7 +27,6 @@ is_waiting-requires c = tt
 
 pub post_process_waiting-requires : goal.post_process_waiting-requires
 post_process_waiting-requires c =
-    let c16 = c in
     let c24 = c in
     let a = c.args in
     let u = to_z-of_z w32 a.relative_index c.ranges.relative_index in
@@ -40,7 +38,6 @@ post_process_waiting-requires c =
 
 pub returns-then-is_waiting : goal.returns-then-is_waiting
 returns-then-is_waiting c =
-    let c16 = c in
     let c24 = c in
     let c32 = c in
     let a = c.args in
@@ -58,7 +55,6 @@ unlearned-requires-then-not-has_y c = tt
 
 pub returns-then-not-has_y : goal.returns-then-not-has_y
 returns-then-not-has_y c =
-    let c16 = c in
     let c24 = c in
     let a = c.args in
     let u = to_z-of_z w32 a.relative_index c.ranges.relative_index in
@@ -73,7 +69,6 @@ places_back-back-requires c = tt
 
 pub post_process_learning-requires : goal.post_process_learning-requires
 post_process_learning-requires c =
-    let c16 = c in
     let c24 = c in
     let c32 = c in
     let a = c.args in
@@ -88,7 +83,6 @@ post_process_learning-requires c =
 
 pub returns : goal.returns
 returns c =
-    let c16 = c in
     let c24 = c in
     let c32 = c in
     let c40 = c in

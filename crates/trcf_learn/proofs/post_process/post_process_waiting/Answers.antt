@@ -46,7 +46,6 @@ with_counts-next-requires c = tt
 
 pub returns : goal.returns
 returns c =
-    let c16 = c in
     let a = c.args in
     let h = a.head in
     let q = c.requires in

@@ -25,7 +25,6 @@ drain_due-next-requires c =
 
 pub returns : goal.returns
 returns c =
-    let c16 = c in
     let c24 = c in
     let a = c.args in
     drain_goes a.head (lent a.statistics.now a.last_shingled_input.now a.last_shingled_point.now a.previous_timestamps.now a.initial_values.now

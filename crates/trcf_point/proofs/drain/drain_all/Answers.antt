@@ -43,27 +43,26 @@ offset_bounds-times-k c = omega arith
 
 pub drain_each-requires : goal.drain_each-requires
 drain_each-requires c =
-    let c16 = c in
     let a = c.args in
     let d = a.head.transformer.input_length in
     let q = c.requires in
     let m = le-mul_of_pos_right d q.bounded.k_pos in
-    let f = block_in 0 (length a.stamps.now) d (omega (arith, q)) in (
-      q.bounded,
-      (
-        record {
-          all_statistics = omega (arith, q.exact);
-          all_input = omega (arith, c.copy_in.auto, q.exact);
-          all_times = simp
-              length-set (omega (arith, q.exact));
-        },
-        q.1.1,
-      ),
-    )
+    let f = block_in 0 (length a.stamps.now) d (omega (arith, q)) in
+    record {
+      bounded = q.bounded;
+      exact = record {
+        all_statistics = omega (arith, q.exact);
+        all_input = omega (arith, c.copy_in.auto, q.exact);
+        all_times = simp length-set (omega (arith, q.exact));
+      };
+      points_len = q.points_len;
+      values_len = q.values_len;
+      stamps_bound = q.stamps_bound;
+      stamps_nonzero = q.stamps_nonzero;
+    }
 
 pub returns : goal.returns
 returns c =
-    let c16 = c in
     let c24 = c in
     let a = c.args in
     let d = a.head.transformer.input_length in

@@ -127,7 +127,6 @@ slice_bounds-drain_all-end-9 c =
 
 pub slice_bounds-drain_all-end-10 : goal.slice_bounds-drain_all-end-10
 slice_bounds-drain_all-end-10 c =
-    let c16 = c in
     let a = c.args in
     let h = a.head in
     let l = lent a.statistics.now a.last_shingled_input.now a.last_shingled_point.now a.previous_timestamps.now a.initial_values.now a.initial_timestamps.now in
@@ -140,7 +139,6 @@ slice_bounds-drain_all-end-10 c =
 pub drain_all-requires : goal.drain_all-requires
 unfolding due facts view
 drain_all-requires c =
-    let c16 = c in
     let a = c.args in
     let h = a.head in
     let l = lent a.statistics.now a.last_shingled_input.now a.last_shingled_point.now a.previous_timestamps.now a.initial_values.now a.initial_timestamps.now in
@@ -165,7 +163,6 @@ drain_all-requires c =
 pub overflow_add-t : goal.overflow_add-t
 unfolding due facts view
 overflow_add-t c =
-    let c16 = c in
     let c24 = c in
     let a = c.args in
     let h = a.head in
@@ -180,7 +177,6 @@ overflow_add-t c =
 pub overflow_add-head : goal.overflow_add-head
 unfolding due facts view
 overflow_add-head c =
-    let c16 = c in
     let c24 = c in
     let a = c.args in
     let h = a.head in
@@ -199,7 +195,6 @@ with_counts-requires c = tt
 pub returns : goal.returns
 unfolding due facts view
 returns c =
-    let c16 = c in
     let c24 = c in
     let a = c.args in
     let h = a.head in
@@ -208,16 +203,17 @@ returns c =
     let r = f.roomy in
     let e : due (settings_of h) (facts (view h l)) ≡ true = sym c.is_due.ensures ∙ not-false _
     c.if-not-is_due.false-raw in
-    let K = c.drain_all.auto in rw c.with_counts.ensures (
-      drained_out_at h l f (omega (arith, due_some h l e, length-take-le h.initial_len a.initial_timestamps.now (omega (arith, f.in_room, r)))) e c.get_dimension-m.result
-          (dimension_known c.get_dimension-m.ensures c.requires.ready.bounded).0 _ _ _ _ (K.1.0 ∙ length-take-le _ _ r.in_statistics)
-          (K.1.1.0 ∙ length-take-le _ _ r.in_input)
-          (K.1.1.1.0 ∙ length-take-le _ _ (omega (arith, (dimension_known c.get_dimension-m.ensures c.requires.ready.bounded), r.in_point)))
-          (K.1.1.1.1.0 ∙ length-take-le _ _ r.in_times) c.drain_all.ensures,
-      drained_view_at h l f
+    let K = c.drain_all.auto in
+    record {
+      initial_timestamps_after = rw c.with_counts.ensures (drained_out_at h l f (omega (arith, due_some h l e, length-take-le h.initial_len a.initial_timestamps.now (omega (arith, f.in_room, r)))) e c.get_dimension-m.result
+          (dimension_known c.get_dimension-m.ensures c.requires.ready.bounded).0 _ _ _ _ (K.s ∙ length-take-le _ _ r.in_statistics)
+          (K.inputs ∙ length-take-le _ _ r.in_input)
+          (K.points ∙ length-take-le _ _ (omega (arith, (dimension_known c.get_dimension-m.ensures c.requires.ready.bounded), r.in_point)))
+          (K.times ∙ length-take-le _ _ r.in_times) c.drain_all.ensures);
+      initial_timestamps_after_2 = rw c.with_counts.ensures (drained_view_at h l f
           (omega (arith, due_some h l e, length-take-le h.initial_len a.initial_timestamps.now (omega (arith, f.in_room, r)))) e c.get_dimension-m.result
-          (dimension_known c.get_dimension-m.ensures c.requires.ready.bounded).0 _ _ _ _ (K.1.0 ∙ length-take-le _ _ r.in_statistics)
-          (K.1.1.0 ∙ length-take-le _ _ r.in_input)
-          (K.1.1.1.0 ∙ length-take-le _ _ (omega (arith, (dimension_known c.get_dimension-m.ensures c.requires.ready.bounded), r.in_point)))
-          (K.1.1.1.1.0 ∙ length-take-le _ _ r.in_times) c.drain_all.ensures,
-    )
+          (dimension_known c.get_dimension-m.ensures c.requires.ready.bounded).0 _ _ _ _ (K.s ∙ length-take-le _ _ r.in_statistics)
+          (K.inputs ∙ length-take-le _ _ r.in_input)
+          (K.points ∙ length-take-le _ _ (omega (arith, (dimension_known c.get_dimension-m.ensures c.requires.ready.bounded), r.in_point)))
+          (K.times ∙ length-take-le _ _ r.in_times) c.drain_all.ensures);
+    }

@@ -40,12 +40,12 @@ pub feed_initial-requires : goal.feed_initial-requires
 feed_initial-requires c =
     let q = c.requires in
     let L = c.loop-i in
-    let e = slice-aggregate-feed-initial c in
+    let ts = c.args.stamps.now in
+    let e : length ts ≡ length (take (length ts) ts) = sym (length-take-le _ _ (omega arith)) in
     record { bounded = q.bounded; s_len = omega (arith, L.invariant.1, q.exact); stamps_bound = omega (arith, e, q.stamps_bound); input_length_in_bounds = flat_part _ _ _ _ q.values_len (omega (arith, e)) }
 
 pub drain_turn-requires : goal.drain_turn-requires
 drain_turn-requires c =
-    let c16 = c in
     let q = c.requires in
     let L = c.loop-i in
     let fed = c.feed_initial in record { bounded = q.bounded; exact = record { all_statistics = omega (arith, fed.auto, L.invariant.1, q.exact); all_input = omega (arith, L.invariant.2, q.exact); all_times = omega (arith, L.invariant.4, q.exact) }; points_len = omega (arith, L.invariant.3, q.points_len); values_len = q.values_len; i_in_bounds = omega arith }
@@ -56,7 +56,6 @@ loop-i-smaller c = omega arith
 -- k is how many of them the call is given; these must be all
 pub loop-i-preserved : goal.loop-i-preserved
 loop-i-preserved c =
-    let c16 = c in
     let a = c.args in
     let d = a.head.transformer.input_length in
     let v = a.values.now in
@@ -67,7 +66,7 @@ loop-i-preserved c =
     let F = c.feed_initial in
     let D = c.drain_turn in
     let more : L.i < length ts = omega arith in
-    let k = slice-aggregate-feed-initial c 0 in
+    let k = length ts in
     let all : take k ts ≡ ts = take-length ts in
     let fed : F.new.s ≡ f = feed_rest (settings_of a.head) d v ts k L.fed a.head.transformer.count L.s F.new.s f L.invariant.5 F.ensures all in (
       omega arith,

@@ -86,7 +86,6 @@ write_transform-requires c = tt
 
 pub overflow_mul-i-3 : goal.overflow_mul-i-3
 overflow_mul-i-3 c =
-    let c16 = c in
     let at_pre = c.requires in
     let a = c.args in
     let d = a.head.transformer.input_length in
@@ -96,7 +95,6 @@ overflow_mul-i-3 c =
 
 pub overflow_mul-i-4 : goal.overflow_mul-i-4
 overflow_mul-i-4 c =
-    let c16 = c in
     let at_pre = c.requires in
     let a = c.args in
     let d = a.head.transformer.input_length in
@@ -106,7 +104,6 @@ overflow_mul-i-4 c =
 
 pub overflow_add-i-2 : goal.overflow_add-i-2
 overflow_add-i-2 c =
-    let c16 = c in
     let at_pre = c.requires in
     let a = c.args in
     let d = a.head.transformer.input_length in
@@ -116,7 +113,6 @@ overflow_add-i-2 c =
 
 pub offset_bounds-values-i-2 : goal.offset_bounds-values-i-2
 offset_bounds-values-i-2 c =
-    let c16 = c in
     let at_pre = c.requires in
     let a = c.args in
     let d = a.head.transformer.input_length in
@@ -129,13 +125,11 @@ slice_bounds-shift_vector-count c = omega arith
 
 pub slice_bounds-shift_vector-start : goal.slice_bounds-shift_vector-start
 slice_bounds-shift_vector-start c =
-    let c16 = c in
     let a = c.args in
     block_start a.i a.head.transformer.input_length
 
 pub slice_bounds-shift_vector-end : goal.slice_bounds-shift_vector-end
 slice_bounds-shift_vector-end c =
-    let c16 = c in
     let at_pre = c.requires in
     let a = c.args in
     let d = a.head.transformer.input_length in
@@ -148,7 +142,6 @@ shift_vector-requires c = tt
 
 pub slice_bounds-shift_vector-end-2 : goal.slice_bounds-shift_vector-end-2
 slice_bounds-shift_vector-end-2 c =
-    let c16 = c in
     let few = c.requires.bounded.d_few in
     simp length-take (omega (arith, c.write_transform.auto, block_known (c.block_of-b.ensures.value, c.block_of-b.ensures.upper_bound) few))
 
@@ -161,7 +154,6 @@ shift_time-requires c = tt
 pub returns : goal.returns
 unfolding previous
 returns c =
-    let c16 = c in
     let c24 = c in
     let a = c.args in
     let q = c.requires in

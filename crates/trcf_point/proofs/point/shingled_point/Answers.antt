@@ -40,7 +40,6 @@ is_waiting-requires c = tt
 
 pub returns-then-is_waiting : goal.returns-then-is_waiting
 returns-then-is_waiting c =
-    let c16 = c in
     let a = c.args in
     let l = lent a.statistics.now a.last_shingled_input.now a.last_shingled_point.now a.previous_timestamps.now a.initial_values.now a.initial_timestamps.now in
     let o = c.shingled_point_row-row in
@@ -50,7 +49,6 @@ returns-then-is_waiting c =
 
 pub drain_due-next-requires : goal.drain_due-next-requires
 drain_due-next-requires c =
-    let c16 = c in
     let a = c.args in
     let h = a.head in
     let l = lent a.statistics.now a.last_shingled_input.now a.last_shingled_point.now a.previous_timestamps.now a.initial_values.now a.initial_timestamps.now in
@@ -63,7 +61,6 @@ time_base-base-requires c = tt
 
 pub write_point-requires : goal.write_point-requires
 write_point-requires c =
-    let c16 = c in
     let c24 = c in
     let c32 = c in
     let a = c.args in
@@ -75,12 +72,18 @@ write_point-requires c =
     let g = past_long a.head l (length a.output.now) q.past (sym c.is_waiting.ensures ∙ c.if-is_waiting.false) in
     let r =
     room_point a.head l (length a.input.now) (length a.output.now) _ _ _ _ (drained (view a.head l)) d.result (ap (λ (u : Outcome). u.head) d.ensures.initial_timestamps_after)
-    (o.ensures.ready z) d.auto.1.0 d.auto.1.1.0 d.auto.1.1.1.0 d.auto.1.1.1.1.0 q.whole g in
-    (r.0, (r.1.0, (r.1.1.0, (r.1.1.1.0, r.1.1.1.1.1))))
+    (o.ensures.ready z) d.auto.statistics d.auto.last_shingled_input d.auto.last_shingled_point d.auto.previous_timestamps q.whole g in
+    record {
+      bounded = r.0;
+      head_in_bounds = r.1.0;
+      shingle_size_in_bounds = r.1.1.0;
+      head_in_bounds_2 = r.1.1.1.0;
+      input_len = r.1.1.1.1.1.0;
+      head_in_bounds_3 = r.1.1.1.1.1.1;
+    }
 
 pub returns : goal.returns
 returns c =
-    let c16 = c in
     let c24 = c in
     let c32 = c in
     let at-is-waiting = c.is_waiting in

@@ -57,7 +57,6 @@ slice_bounds-copy_shifted-end-2 c =
 
 pub copy_shifted-requires : goal.copy_shifted-requires
 copy_shifted-requires c =
-    let c16 = c in
     let q = c.requires in
     let s = settings_of c.args.head in
     let n = dimension_known c.get_dimension-m.ensures (search rules) in
@@ -67,7 +66,6 @@ copy_shifted-requires c =
 
 pub returns : goal.returns
 returns c =
-    let c16 = c in
     let start = c in
     let a = c.args in
     let q = c.requires in

@@ -39,7 +39,6 @@ input_row-row-requires c = tt
 
 pub returns-then-row-ne0-2 : goal.returns-then-row-ne0-2
 returns-then-row-ne0-2 c =
-    let c16 = c in
     let a = c.args in
     let h = a.head in
     let l = lent a.statistics.now a.last_shingled_input.now a.last_shingled_point.now a.previous_timestamps.now a.initial_values.now
@@ -71,7 +70,6 @@ learning_row-row-requires c = c.head_row-row.ensures.bounded c.if-row-ne0.false
 
 pub returns-then-row-ne0-3 : goal.returns-then-row-ne0-3
 returns-then-row-ne0-3 c =
-    let c16 = c in
     let a = c.args in
     let h = a.head in
     let l = lent a.statistics.now a.last_shingled_input.now a.last_shingled_point.now a.previous_timestamps.now a.initial_values.now
@@ -108,7 +106,6 @@ lent_row-requires c = c.head_row-row.ensures.bounded c.if-row-ne0.false
 
 pub returns : goal.returns
 returns c =
-    let c16 = c in
     let a = c.args in
     let h = a.head in
     let l = lent a.statistics.now a.last_shingled_input.now a.last_shingled_point.now a.previous_timestamps.now a.initial_values.now

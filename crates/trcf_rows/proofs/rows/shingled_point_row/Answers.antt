@@ -63,7 +63,6 @@ first_row-row-requires c = tt
 
 pub returns-then-row-ne0-2 : goal.returns-then-row-ne0-2
 returns-then-row-ne0-2 c =
-    let c16 = c in
     let a = c.args in
     let h = a.head in
     let l = lent a.statistics.now a.last_shingled_input.now a.last_shingled_point.now a.previous_timestamps.now a.initial_values.now
@@ -89,7 +88,6 @@ past_row-row-requires c = c.head_row-row.ensures.bounded c.if-row-ne0.false
 
 pub returns-then-row-ne0-3 : goal.returns-then-row-ne0-3
 returns-then-row-ne0-3 c =
-    let c16 = c in
     let a = c.args in
     let h = a.head in
     let l = lent a.statistics.now a.last_shingled_input.now a.last_shingled_point.now a.previous_timestamps.now a.initial_values.now
@@ -115,7 +113,6 @@ lent_row-requires c = c.head_row-row.ensures.bounded c.if-row-ne0.false
 
 pub returns : goal.returns
 returns c =
-    let c16 = c in
     let a = c.args in
     let h = a.head in
     let l = lent a.statistics.now a.last_shingled_input.now a.last_shingled_point.now a.previous_timestamps.now a.initial_values.now

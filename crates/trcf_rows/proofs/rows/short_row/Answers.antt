@@ -63,7 +63,6 @@ returns-then-lengths-k c =
 pub overflow_mul-waiting : goal.overflow_mul-waiting
 overflow_mul-waiting c =
     let i = c.initial_room-waiting in
-    let s = c in
     let a : i.result ≤ 2000 = omega (arith, i.ensures.upper_bound, c.requires.start_few) in
     let b : c.args.head.transformer.input_length ≤ 16 = omega (arith, c.requires.d_few) in
     omega (arith, mul-le-mul a b)

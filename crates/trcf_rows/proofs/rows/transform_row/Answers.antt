@@ -65,7 +65,6 @@ block_of-n-requires c = tt
 pub returns-then-output-n : goal.returns-then-output-n
 unfolding rows table block
 returns-then-output-n c =
-    let c16 = c in
     let a = c.args in
     let h = a.head in
     let l = lent a.statistics.now a.last_shingled_input.now a.last_shingled_point.now a.previous_timestamps.now a.initial_values.now
@@ -87,7 +86,6 @@ lent_row-requires c = c.head_row-row.ensures.bounded c.if-row-ne0.false
 pub returns : goal.returns
 unfolding rows table block
 returns c =
-    let c16 = c in
     let a = c.args in
     let h = a.head in
     let l = lent a.statistics.now a.last_shingled_input.now a.last_shingled_point.now a.previous_timestamps.now a.initial_values.now
