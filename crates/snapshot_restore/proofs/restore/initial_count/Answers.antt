@@ -51,7 +51,6 @@ returns-then-seen-start c =
 
 pub returns-then-head-eq0 : goal.returns-then-head-eq0
 returns-then-head-eq0 c =
-    let c8 = c in
     let is-waiting-at = c.is_waiting in
     let a = c.args in
     let s = settings_of a.head in
@@ -64,7 +63,6 @@ returns-then-head-eq0 c =
 
 pub returns : goal.returns
 returns c =
-    let c8 = c in
     let is-waiting-at = c.is_waiting in
     let a = c.args in
     let s = settings_of a.head in

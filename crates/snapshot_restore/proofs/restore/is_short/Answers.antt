@@ -7,8 +7,7 @@ use Rattle.snapshot_restore.proofs.restore.is_short.Goals as goal
 
 pub returns : goal.returns
 returns c =
-    let w = c in
-    let n = c.initial_room_lem in
+    let n = c.initial_room-waiting in
     let a = c.args in
     let h = a.head in
     c.is_past.ensures

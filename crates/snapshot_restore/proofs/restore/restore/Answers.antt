@@ -13,13 +13,11 @@ use Rattle.snapshot_restore.proofs.restore.restore.Goals as goal
 
 pub returns-then-h-ne0 : goal.returns-then-h-ne0
 returns-then-h-ne0 c =
-    let i1 = c in
-    let b = c in
     let a = c.args in
     let t = a.text.now in
     let l =
-    lent a.statistics.now a.last-shingled-input.now a.last-shingled-point.now a.previous-timestamps.now a.initial-values.now
-    a.initial-timestamps.now in
+    lent a.statistics.now a.last_shingled_input.now a.last_shingled_point.now a.previous_timestamps.now a.initial_values.now
+    a.initial_timestamps.now in
     let H = c.head_lines-h in
     let h = H.result.head in
     let z = drop H.result.at t in
@@ -32,14 +30,11 @@ judge_body-judged-requires c = c.head_lines-h.ensures.head_few c.if-h-ne0.false
 
 pub returns-then-judged-ne0 : goal.returns-then-judged-ne0
 returns-then-judged-ne0 c =
-    let i2 = c in
-    let i1 = c in
-    let b = c in
     let a = c.args in
     let t = a.text.now in
     let l =
-    lent a.statistics.now a.last-shingled-input.now a.last-shingled-point.now a.previous-timestamps.now a.initial-values.now
-    a.initial-timestamps.now in
+    lent a.statistics.now a.last_shingled_input.now a.last_shingled_point.now a.previous_timestamps.now a.initial_values.now
+    a.initial_timestamps.now in
     let H = c.head_lines-h in
     let h = H.result.head in
     let z = drop H.result.at t in
@@ -53,15 +48,11 @@ codes_agree-requires c = c.head_lines-h.ensures.head_few c.if-h-ne0.false
 
 pub returns-then-not-codes_agree : goal.returns-then-not-codes_agree
 returns-then-not-codes_agree c =
-    let i3 = c in
-    let i2 = c in
-    let i1 = c in
-    let b = c in
     let a = c.args in
     let t = a.text.now in
     let l =
-    lent a.statistics.now a.last-shingled-input.now a.last-shingled-point.now a.previous-timestamps.now a.initial-values.now
-    a.initial-timestamps.now in
+    lent a.statistics.now a.last_shingled_input.now a.last_shingled_point.now a.previous_timestamps.now a.initial_values.now
+    a.initial_timestamps.now in
     let H = c.head_lines-h in
     let h = H.result.head in
     let z = drop H.result.at t in
@@ -74,16 +65,11 @@ returns-then-not-codes_agree c =
 
 pub returns-then-is_short : goal.returns-then-is_short
 returns-then-is_short c =
-    let i4 = c in
-    let i3 = c in
-    let i2 = c in
-    let i1 = c in
-    let b = c in
     let a = c.args in
     let t = a.text.now in
     let l =
-    lent a.statistics.now a.last-shingled-input.now a.last-shingled-point.now a.previous-timestamps.now a.initial-values.now
-    a.initial-timestamps.now in
+    lent a.statistics.now a.last_shingled_input.now a.last_shingled_point.now a.previous_timestamps.now a.initial_values.now
+    a.initial_timestamps.now in
     let H = c.head_lines-h in
     let h = H.result.head in
     let z = drop H.result.at t in
@@ -97,16 +83,11 @@ returns-then-is_short c =
 
 pub fill-requires : goal.fill-requires
 fill-requires c =
-    let i4 = c in
-    let i3 = c in
-    let i2 = c in
-    let i1 = c in
-    let b = c in
     let a = c.args in
     let t = a.text.now in
     let l =
-    lent a.statistics.now a.last-shingled-input.now a.last-shingled-point.now a.previous-timestamps.now a.initial-values.now
-    a.initial-timestamps.now in
+    lent a.statistics.now a.last_shingled_input.now a.last_shingled_point.now a.previous_timestamps.now a.initial_values.now
+    a.initial_timestamps.now in
     let H = c.head_lines-h in
     let h = H.result.head in
     let z = drop H.result.at t in
@@ -116,18 +97,11 @@ fill-requires c =
 
 pub returns : goal.returns
 returns c =
-    let d = c in
-    let g = c in
-    let i4 = c in
-    let i3 = c in
-    let i2 = c in
-    let i1 = c in
-    let b = c in
     let a = c.args in
     let t = a.text.now in
     let l =
-    lent a.statistics.now a.last-shingled-input.now a.last-shingled-point.now a.previous-timestamps.now a.initial-values.now
-    a.initial-timestamps.now in
+    lent a.statistics.now a.last_shingled_input.now a.last_shingled_point.now a.previous_timestamps.now a.initial_values.now
+    a.initial_timestamps.now in
     let H = c.head_lines-h in
     let h = H.result.head in
     let z = drop H.result.at t in
