@@ -1,7 +1,6 @@
 -- `snapshot_restore::restore::restore` meets its contract: each return by the tests on the way to it. Assumes nothing.
 use mathlib.Core.Path.{refl, sym, ap, ◌∙◌}
 use lib.ListN.{drop}
-use borrow.Author.Tests.{not-true, not-false}
 use Rattle.trcf.specs.View.{lent}
 use Rattle.trcf.specs.declared.head.Preprocessor.{Preprocessor}
 use Rattle.snapshot.specs.Restore.{restore_outcome}
@@ -61,7 +60,7 @@ returns-then-not-codes_agree c =
     let o = J.ensures.good c.if-judged-ne0.false in
     ap (λ (r : Restored). restore_outcome r.row r.line r.head l) c.refused-then-not-codes_agree.ensures
     ∙ restore_other t a.codes.now l h H.result.extra z e J.result J.ensures.value o
-    (sym c.codes_agree.ensures ∙ not-true _ c.if-not-codes_agree.true-raw)
+    (sym c.codes_agree.ensures ∙ c.if-not-codes_agree.true)
 
 pub returns-then-is_short : goal.returns-then-is_short
 returns-then-is_short c =
@@ -76,7 +75,7 @@ returns-then-is_short c =
     let e = told_ran H.result.bad (h, H.result.extra) z _ c.if-h-ne0.false H.ensures.text_value in
     let J = c.judge_body-judged in
     let o = J.ensures.good c.if-judged-ne0.false in
-    let s = sym c.codes_agree.ensures ∙ not-false _ c.if-not-codes_agree.false-raw in
+    let s = sym c.codes_agree.ensures ∙ c.if-not-codes_agree.false in
     let w = sym (short_is h l _ (H.ensures.head_few c.if-h-ne0.false) refl) ∙ sym c.is_short.ensures ∙ c.if-is_short.true in
     ap (λ (r : Restored). restore_outcome r.row r.line r.head l) c.refused-then-is_short.ensures
     ∙ restore_short t a.codes.now l h H.result.extra z e J.result J.ensures.value o s w
@@ -108,10 +107,9 @@ returns c =
     let e = told_ran H.result.bad (h, H.result.extra) z _ c.if-h-ne0.false H.ensures.text_value in
     let J = c.judge_body-judged in
     let o = J.ensures.good c.if-judged-ne0.false in
-    let s = sym c.codes_agree.ensures ∙ not-false _ c.if-not-codes_agree.false-raw in
+    let s = sym c.codes_agree.ensures ∙ c.if-not-codes_agree.false in
     let w = sym (short_is h l _ (H.ensures.head_few c.if-h-ne0.false) refl) ∙ sym c.is_short.ensures ∙ c.if-is_short.false in
     let G = c.fill in
-    let m = G.new.1.1.1.1 in
-    let new = lent c.fill.new.statistics c.fill.new.last_shingled_input c.fill.new.last_shingled_point c.fill.new.previous_timestamps c.fill.new.initial_values c.fill.new.initial_timestamps.0 in
+    let new = lent c.fill.new.statistics c.fill.new.last_shingled_input c.fill.new.last_shingled_point c.fill.new.previous_timestamps c.fill.new.initial_values c.fill.new.initial_timestamps in
     ap (λ (x : Preprocessor). restore_outcome 0 0 x new) c.with_initial.ensures
     ∙ restore_all t a.codes.now l h H.result.extra z e J.result J.ensures.value o s w new G.ensures
