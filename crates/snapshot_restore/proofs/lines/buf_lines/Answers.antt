@@ -18,7 +18,7 @@ overflow_mul-from c =
     let a = c.args in
     let L = c.lines in
     let h = bufs_few a.d a.n (drop a.at a.text.now) L.values L.times L.i L.past (drop L.p a.text.now) L.invariant
-    (omega (arith, L.invariant.so.ahead.some_left, c.if-i-n.false)) in
+    (omega (arith, L.invariant.so.ahead.some_left_lem, c.if-i-n.false)) in
     omega (arith, h)
 
 pub overflow_add-from : goal.overflow_add-from
@@ -26,7 +26,7 @@ overflow_add-from c =
     let a = c.args in
     let L = c.lines in
     let h = bufs_few a.d a.n (drop a.at a.text.now) L.values L.times L.i L.past (drop L.p a.text.now) L.invariant
-    (omega (arith, L.invariant.so.ahead.some_left, c.if-i-n.false)) in
+    (omega (arith, L.invariant.so.ahead.some_left_lem, c.if-i-n.false)) in
     omega (arith, h)
 
 pub offset_bounds-values-from : goal.offset_bounds-values-from
@@ -34,7 +34,7 @@ offset_bounds-values-from c =
     let a = c.args in
     let L = c.lines in
     let h = bufs_few a.d a.n (drop a.at a.text.now) L.values L.times L.i L.past (drop L.p a.text.now) L.invariant
-    (omega (arith, L.invariant.so.ahead.some_left, c.if-i-n.false)) in
+    (omega (arith, L.invariant.so.ahead.some_left_lem, c.if-i-n.false)) in
     omega (arith, h)
 
 pub slice_bounds-buf_line-count : goal.slice_bounds-buf_line-count
@@ -44,40 +44,39 @@ pub slice_bounds-buf_line-end : goal.slice_bounds-buf_line-end
 slice_bounds-buf_line-end c =
     let a = c.args in
     let L = c.lines in
-    block_room a.d L.i a.n L.values L.invariant.long (omega (arith, L.invariant.so.ahead.some_left, c.if-i-n.false))
+    block_room a.d L.i a.n L.values L.invariant.long (omega (arith, L.invariant.so.ahead.some_left_lem, c.if-i-n.false))
 
 pub overflow_add-result : goal.overflow_add-result
 overflow_add-result c =
     let lines_at = c.lines in
-    omega (arith, lines_at.invariant.so.few, lines_at.invariant.so.ahead.some_left)
+    omega (arith, lines_at.invariant.so.few, lines_at.invariant.so.ahead.some_left_lem)
 
 pub offset_bounds-times-i : goal.offset_bounds-times-i
 offset_bounds-times-i c =
     let lines_at = c.lines in
-    omega (arith, lines_at.invariant.so.few, lines_at.invariant.so.ahead.some_left)
+    omega (arith, lines_at.invariant.so.few, lines_at.invariant.so.ahead.some_left_lem)
 
 pub bounds-times-i : goal.bounds-times-i
 bounds-times-i c =
     let lines_at = c.lines in
-    omega (arith, lines_at.invariant.so.ahead.some_left, lines_at.invariant.long_times)
+    omega (arith, lines_at.invariant.so.ahead.some_left_lem, lines_at.invariant.long_times)
 
 pub overflow_add-i : goal.overflow_add-i
 overflow_add-i c =
     let lines_at = c.lines in
-    omega (arith, lines_at.invariant.so.few, lines_at.invariant.so.ahead.some_left)
+    omega (arith, lines_at.invariant.so.few, lines_at.invariant.so.ahead.some_left_lem)
 
 pub lines-smaller : goal.lines-smaller
-lines-smaller c = omega (arith, c.lines.invariant.so.ahead.some_left)
+lines-smaller c = omega (arith, c.lines.invariant.so.ahead.some_left_lem)
 
 pub lines-preserved : goal.lines-preserved
 lines-preserved c =
-    let c8 = c in
     let a = c.args in
     let L = c.lines in
     let b = c.buf_line-line in
-    bufs_step a.d a.n (drop a.at a.text.now) L.values L.times L.i L.past (drop L.p a.text.now) L.invariant (omega (arith, L.invariant.so.ahead.some_left))
-    (reading b.new.out.0 b.result.time) (drop c.in-At.q a.text.now) b.ensures.kept
-    (got_one b.result.place a.text.now (reading b.new.out.0 b.result.time) _ c.in-At.q c.in-At.is b.ensures.told)
+    bufs_step a.d a.n (drop a.at a.text.now) L.values L.times L.i L.past (drop L.p a.text.now) L.invariant (omega (arith, L.invariant.so.ahead.some_left_lem))
+    (reading b.new.out b.result.time) (drop c.in-At.q a.text.now) b.ensures.kept
+    (got_one b.result.place a.text.now (reading b.new.out b.result.time) _ c.in-At.q c.in-At.is b.ensures.told)
 
 pub shape_of-values-then-i-n : goal.shape_of-values-then-i-n
 shape_of-values-then-i-n c = c.lines.invariant.long ∙ sym (omega arith)
@@ -93,21 +92,19 @@ returns-then-i-n c =
 
 pub shape_of-values-in_default : goal.shape_of-values-in_default
 shape_of-values-in_default c =
-    let c8 = c in
     let a = c.args in
     let L = c.lines in
     let b = c.buf_line-line in
-    block_long a.d L.i a.n L.values L.invariant.long (omega (arith, L.invariant.so.ahead.some_left)) b.new.out.0 b.ensures.kept ∙ sym (omega arith)
+    block_long a.d L.i a.n L.values L.invariant.long (omega (arith, L.invariant.so.ahead.some_left_lem)) b.new.out b.ensures.kept ∙ sym (omega arith)
 
 pub shape_of-times-in_default : goal.shape_of-times-in_default
 shape_of-times-in_default c = c.lines.invariant.long_times ∙ sym (omega arith)
 
 pub returns-in_default : goal.returns-in_default
 returns-in_default c =
-    let c8 = c in
     let a = c.args in
     let L = c.lines in
     let b = c.buf_line-line in
     told_broke (L.i + 1) _ (drop L.p a.text.now) (omega arith)
-    ∙ bufs_stop a.d a.n (drop a.at a.text.now) L.values L.times L.i L.past (drop L.p a.text.now) L.invariant (omega (arith, L.invariant.so.ahead.some_left))
-    (lost_one b.result.place a.text.now (reading b.new.out.0 b.result.time) _ c.in_default.is b.ensures.told)
+    ∙ bufs_stop a.d a.n (drop a.at a.text.now) L.values L.times L.i L.past (drop L.p a.text.now) L.invariant (omega (arith, L.invariant.so.ahead.some_left_lem))
+    (lost_one b.result.place a.text.now (reading b.new.out b.result.time) _ c.in_default.is b.ensures.told)

@@ -24,24 +24,23 @@ slice_bounds-buf_line-end c =
     sym (length-take-le c.args.d L.values (omega (arith, L.invariant.0, L.invariant.1.narrow)))
 
 pub overflow_add-result : goal.overflow_add-result
-overflow_add-result c = omega (arith, c.lines.invariant.1.few, c.lines.invariant.1.ahead.some_left)
+overflow_add-result c = omega (arith, c.lines.invariant.1.few, c.lines.invariant.1.ahead.some_left_lem)
 
 pub overflow_add-i : goal.overflow_add-i
-overflow_add-i c = omega (arith, c.lines.invariant.1.few, c.lines.invariant.1.ahead.some_left)
+overflow_add-i c = omega (arith, c.lines.invariant.1.few, c.lines.invariant.1.ahead.some_left_lem)
 
 pub lines-smaller : goal.lines-smaller
-lines-smaller c = omega (arith, c.lines.invariant.1.ahead.some_left)
+lines-smaller c = omega (arith, c.lines.invariant.1.ahead.some_left_lem)
 
 pub lines-preserved : goal.lines-preserved
 lines-preserved c =
-    let c8 = c in
     let a = c.args in
     let L = c.lines in
     let b = c.buf_line-line in (
-      length_front L.values b.new.out.0 a.d b.ensures.kept ∙ L.invariant.0,
-      unkept_step a.d a.n (drop a.at a.text.now) L.i L.past (drop L.p a.text.now) L.invariant.1 (omega (arith, L.invariant.1.ahead.some_left)) _
-          (reading b.new.out.0 b.result.time) (drop c.in-At.q a.text.now) (length-take-le a.d L.values (omega (arith, L.invariant.1.narrow, L.invariant.0)))
-          (got_one b.result.place a.text.now (reading b.new.out.0 b.result.time) _ c.in-At.q c.in-At.is b.ensures.told),
+      length_front L.values b.new.out a.d b.ensures.kept ∙ L.invariant.0,
+      unkept_step a.d a.n (drop a.at a.text.now) L.i L.past (drop L.p a.text.now) L.invariant.1 (omega (arith, L.invariant.1.ahead.some_left_lem)) _
+          (reading b.new.out b.result.time) (drop c.in-At.q a.text.now) (length-take-le a.d L.values (omega (arith, L.invariant.1.narrow, L.invariant.0)))
+          (got_one b.result.place a.text.now (reading b.new.out b.result.time) _ c.in-At.q c.in-At.is b.ensures.told),
     )
 
 pub returns-then-i-n : goal.returns-then-i-n
@@ -60,7 +59,7 @@ returns-in_default c =
     let b = c.buf_line-line in record {
       text_value = told_broke (L.i + 1) _ (drop L.p a.text.now) (omega arith)
           ∙ ap (λ (r : Ran Initial). unkept r) (unkept_stop a.d a.n (drop a.at a.text.now) L.i L.past (drop L.p a.text.now) L.invariant.1
-          (omega (arith, L.invariant.1.ahead.some_left)) _ (length-take-le a.d L.values (omega (arith, L.invariant.1.narrow, L.invariant.0)))
-          (lost_one b.result.place a.text.now (reading b.new.out.0 b.result.time) _ c.in_default.is b.ensures.told));
-      bad_le_n = omega (arith, L.invariant.1.ahead.some_left);
+          (omega (arith, L.invariant.1.ahead.some_left_lem)) _ (length-take-le a.d L.values (omega (arith, L.invariant.1.narrow, L.invariant.0)))
+          (lost_one b.result.place a.text.now (reading b.new.out b.result.time) _ c.in_default.is b.ensures.told));
+      bad_le_n = omega (arith, L.invariant.1.ahead.some_left_lem);
     }

@@ -13,24 +13,20 @@ use Rattle.snapshot_restore.proofs.restore.fill.Goals as goal
 
 pub overflow_add-w : goal.overflow_add-w
 overflow_add-w c =
-    let c8 = c in
     let w = wide_of (augments c.args.head.forest_mode) c.time_width.result c.time_width.ensures in
     omega (arith, w, c.requires.d_few)
 
 pub slice_bounds-fill_body-end-2 : goal.slice_bounds-fill_body-end-2
 slice_bounds-fill_body-end-2 c =
-    let c8 = c in
     sym (length-take-le (3 * (5 * c.args.head.transformer.input_length + 5)) c.args.statistics.now c.requires.in_statistics)
 
 pub slice_bounds-fill_body-end-4 : goal.slice_bounds-fill_body-end-4
 slice_bounds-fill_body-end-4 c =
-    let c8 = c in
     let args = c.args in
-    sym (length-take-le (args.head.transformer.input_length * args.head.shingle_size) args.last-shingled-input.now c.requires.in_input)
+    sym (length-take-le (args.head.transformer.input_length * args.head.shingle_size) args.last_shingled_input.now c.requires.in_input)
 
 pub overflow_mul-w : goal.overflow_mul-w
 overflow_mul-w c =
-    let c8 = c in
     let args = c.args in
     let pre = c.requires in
     let time-width-at = c.time_width in
@@ -40,42 +36,36 @@ overflow_mul-w c =
 
 pub slice_bounds-fill_body-end-5 : goal.slice_bounds-fill_body-end-5
 slice_bounds-fill_body-end-5 c =
-    let c8 = c in
     let args = c.args in
     let time-width-at = c.time_width in
-    subst (λ (m : ℕ). m ≤ length args.last-shingled-point.now) (sym (dimension_is (settings_of args.head) time-width-at.result time-width-at.ensures))
+    subst (λ (m : ℕ). m ≤ length args.last_shingled_point.now) (sym (dimension_is (settings_of args.head) time-width-at.result time-width-at.ensures))
     c.requires.in_point
 
 pub slice_bounds-fill_body-end-6 : goal.slice_bounds-fill_body-end-6
 slice_bounds-fill_body-end-6 c =
-    let c8 = c in
     let args = c.args in
     let time-width-at = c.time_width in
-    sym (length-take-le ((args.head.transformer.input_length + time-width-at.result) * args.head.shingle_size) args.last-shingled-point.now
-    (subst (λ (m : ℕ). m ≤ length args.last-shingled-point.now) (sym (dimension_is (settings_of args.head) time-width-at.result time-width-at.ensures))
+    sym (length-take-le ((args.head.transformer.input_length + time-width-at.result) * args.head.shingle_size) args.last_shingled_point.now
+    (subst (λ (m : ℕ). m ≤ length args.last_shingled_point.now) (sym (dimension_is (settings_of args.head) time-width-at.result time-width-at.ensures))
     c.requires.in_point))
 
 pub slice_bounds-fill_body-end-8 : goal.slice_bounds-fill_body-end-8
 slice_bounds-fill_body-end-8 c =
-    let c8 = c in
     let args = c.args in
-    sym (length-take-le args.head.shingle_size args.previous-timestamps.now c.requires.in_times)
+    sym (length-take-le args.head.shingle_size args.previous_timestamps.now c.requires.in_times)
 
 pub slice_bounds-fill_body-end-10 : goal.slice_bounds-fill_body-end-10
 slice_bounds-fill_body-end-10 c =
-    let c8 = c in
     let args = c.args in
-    sym (length-take-le (args.n * args.head.transformer.input_length) args.initial-values.now c.requires.in_values)
+    sym (length-take-le (args.n * args.head.transformer.input_length) args.initial_values.now c.requires.in_values)
 
 pub slice_bounds-fill_body-end-12 : goal.slice_bounds-fill_body-end-12
 slice_bounds-fill_body-end-12 c =
-    let c8 = c in
     let args = c.args in
-    sym (length-take-le args.n args.initial-timestamps.now c.requires.in_initial)
+    sym (length-take-le args.n args.initial_timestamps.now c.requires.in_initial)
 
 pub fill_body-requires : goal.fill_body-requires
 fill_body-requires c =
-    let c8 = c in
     let args = c.args in
     let pre = c.requires in
     let time-width-at = c.time_width in
@@ -85,20 +75,17 @@ fill_body-requires c =
       input_length_bound = q.d_few;
       n_bound = q.n_few;
       statistics_len = length-take-le (3 * (5 * d + 5)) a.statistics.now q.in_statistics ∙ omega arith;
-      input_len = length-take-le (d * a.head.shingle_size) a.last-shingled-input.now q.in_input;
-      point_len = length-take-le ((d + time-width-at.result) * a.head.shingle_size) a.last-shingled-point.now
-          (subst (λ (m : ℕ). m ≤ length args.last-shingled-point.now) (sym (dimension_is (settings_of args.head) time-width-at.result time-width-at.ensures)) pre.in_point) ∙
+      input_len = length-take-le (d * a.head.shingle_size) a.last_shingled_input.now q.in_input;
+      point_len = length-take-le ((d + time-width-at.result) * a.head.shingle_size) a.last_shingled_point.now
+          (subst (λ (m : ℕ). m ≤ length args.last_shingled_point.now) (sym (dimension_is (settings_of args.head) time-width-at.result time-width-at.ensures)) pre.in_point) ∙
           dimension_is (settings_of a.head) time-width-at.result time-width-at.ensures;
-      times_len = length-take-le a.head.shingle_size a.previous-timestamps.now q.in_times;
-      values_len = length-take-le (a.n * d) a.initial-values.now q.in_values;
-      initial_times_len = length-take-le a.n a.initial-timestamps.now q.in_initial;
+      times_len = length-take-le a.head.shingle_size a.previous_timestamps.now q.in_times;
+      values_len = length-take-le (a.n * d) a.initial_values.now q.in_values;
+      initial_times_len = length-take-le a.n a.initial_timestamps.now q.in_initial;
     }
 
 pub returns : goal.returns
 returns c = λ b z e.
-    let c8 = c in
-    let c16 = c in
-    let c24 = c in
     let args = c.args in
     let pre = c.requires in
     let time-width-at = c.time_width in
@@ -107,17 +94,17 @@ returns c = λ b z e.
     let d = a.head.transformer.input_length in
     let s = settings_of a.head in
     let k = counts_in a.head in
-    let l = lent a.statistics.now a.last-shingled-input.now a.last-shingled-point.now a.previous-timestamps.now a.initial-values.now a.initial-timestamps.now in
+    let l = lent a.statistics.now a.last_shingled_input.now a.last_shingled_point.now a.previous_timestamps.now a.initial_values.now a.initial_timestamps.now in
     let G = c.fill_body in
     let p = parts G.new.statistics G.new.input G.new.point G.new.times in
-    let i = initial_lists G.new.values G.new.initial_times.0 in
+    let i = initial_lists G.new.values G.new.initial_times in
     laid_is s k (body p i) l _ _ _ _ _ _
     (over_back a.statistics.now p.statistics (3 * (5 * d + 5)) q.in_statistics c.statistics-1.given.0)
-    (over_back a.last-shingled-input.now p.input (d * a.head.shingle_size) q.in_input c.last_shingled_input-1.given.0)
-    (over_back a.last-shingled-point.now p.point ((d + time-width-at.result) * a.head.shingle_size)
-    (subst (λ (m : ℕ). m ≤ length args.last-shingled-point.now) (sym (dimension_is (settings_of args.head) time-width-at.result time-width-at.ensures)) pre.in_point)
+    (over_back a.last_shingled_input.now p.input (d * a.head.shingle_size) q.in_input c.last_shingled_input-1.given.0)
+    (over_back a.last_shingled_point.now p.point ((d + time-width-at.result) * a.head.shingle_size)
+    (subst (λ (m : ℕ). m ≤ length args.last_shingled_point.now) (sym (dimension_is (settings_of args.head) time-width-at.result time-width-at.ensures)) pre.in_point)
     c.last_shingled_point-1.given.0)
-    (over_back a.previous-timestamps.now p.times a.head.shingle_size q.in_times c.previous_timestamps-1.given.0)
-    (over_back a.initial-values.now i.values (a.n * d) q.in_values c.initial_values-1.given.0)
-    (over_back a.initial-timestamps.now i.times a.n q.in_initial c.initial_timestamps-1.given.0)
+    (over_back a.previous_timestamps.now p.times a.head.shingle_size q.in_times c.previous_timestamps-1.given.0)
+    (over_back a.initial_values.now i.values (a.n * d) q.in_values c.initial_values-1.given.0)
+    (over_back a.initial_timestamps.now i.times a.n q.in_initial c.initial_timestamps-1.given.0)
     ∙ ap (λ (x : Body). written_over (state_from s k x) l) (G.ensures b z e)

@@ -7,10 +7,9 @@ use Rattle.snapshot_restore.proofs.restore.is_short.Goals as goal
 
 pub returns : goal.returns
 returns c =
-    let w = c in
-    let n = c.initial_room_lem in
+    let n = c.initial_room-waiting in
     let a = c.args in
     let h = a.head in
     c.is_past.ensures
     ∙ short_past (augments h.forest_mode) c.time_width-wide.result n.result (initial_room (settings_of h)) h.transformer.input_length h.shingle_size
-    a.statistics a.input a.point a.times a.values a.initial c.time_width-wide.ensures n.ensures.0
+    a.statistics a.input a.point a.times a.values a.initial c.time_width-wide.ensures n.ensures.value

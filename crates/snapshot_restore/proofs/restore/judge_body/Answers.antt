@@ -32,7 +32,6 @@ buf_lines_unkept-b-requires c =
 
 pub overflow_add-result : goal.overflow_add-result
 overflow_add-result c =
-    let c8 = c in
     let a = c.args in
     let s = settings_of a.head in
     let k = counts_in a.head in
@@ -46,7 +45,6 @@ overflow_add-result c =
 
 pub returns-then-b-ne0 : goal.returns-then-b-ne0
 returns-then-b-ne0 c =
-    let c8 = c in
     let pre = c.requires in
     let a = c.args in
     let s = settings_of a.head in
@@ -61,7 +59,6 @@ returns-then-b-ne0 c =
 
 pub overflow_add-result-then-b-text : goal.overflow_add-result-then-b-text
 overflow_add-result-then-b-text c =
-    let c8 = c in
     let a = c.args in
     let s = settings_of a.head in
     let k = counts_in a.head in
@@ -74,7 +71,6 @@ overflow_add-result-then-b-text c =
 
 pub overflow_add-result-then-b-text-2 : goal.overflow_add-result-then-b-text-2
 overflow_add-result-then-b-text-2 c =
-    let c8 = c in
     let a = c.args in
     let s = settings_of a.head in
     let k = counts_in a.head in
@@ -87,7 +83,6 @@ overflow_add-result-then-b-text-2 c =
 
 pub returns-then-b-text : goal.returns-then-b-text
 returns-then-b-text c =
-    let c8 = c in
     let pre = c.requires in
     let a = c.args in
     let s = settings_of a.head in
@@ -103,7 +98,6 @@ returns-then-b-text c =
 
 pub returns : goal.returns
 returns c =
-    let c8 = c in
     let a = c.args in
     let s = settings_of a.head in
     let k = counts_in a.head in

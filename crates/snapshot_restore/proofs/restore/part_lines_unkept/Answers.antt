@@ -76,7 +76,6 @@ part_lines-requires c =
 
 pub returns : goal.returns
 returns c =
-    let c8 = c in
     let args = c.args in
     let pre = c.requires in
     let time-width-at = c.time_width in

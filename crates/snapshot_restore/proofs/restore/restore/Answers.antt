@@ -1,7 +1,6 @@
 -- `snapshot_restore::restore::restore` meets its contract: each return by the tests on the way to it. Assumes nothing.
 use mathlib.Core.Path.{refl, sym, ap, ◌∙◌}
 use lib.ListN.{drop}
-use borrow.Author.Tests.{not-true, not-false}
 use Rattle.trcf.specs.View.{lent}
 use Rattle.trcf.specs.declared.head.Preprocessor.{Preprocessor}
 use Rattle.snapshot.specs.Restore.{restore_outcome}
@@ -13,13 +12,11 @@ use Rattle.snapshot_restore.proofs.restore.restore.Goals as goal
 
 pub returns-then-h-ne0 : goal.returns-then-h-ne0
 returns-then-h-ne0 c =
-    let i1 = c in
-    let b = c in
     let a = c.args in
     let t = a.text.now in
     let l =
-    lent a.statistics.now a.last-shingled-input.now a.last-shingled-point.now a.previous-timestamps.now a.initial-values.now
-    a.initial-timestamps.now in
+    lent a.statistics.now a.last_shingled_input.now a.last_shingled_point.now a.previous_timestamps.now a.initial_values.now
+    a.initial_timestamps.now in
     let H = c.head_lines-h in
     let h = H.result.head in
     let z = drop H.result.at t in
@@ -32,14 +29,11 @@ judge_body-judged-requires c = c.head_lines-h.ensures.head_few c.if-h-ne0.false
 
 pub returns-then-judged-ne0 : goal.returns-then-judged-ne0
 returns-then-judged-ne0 c =
-    let i2 = c in
-    let i1 = c in
-    let b = c in
     let a = c.args in
     let t = a.text.now in
     let l =
-    lent a.statistics.now a.last-shingled-input.now a.last-shingled-point.now a.previous-timestamps.now a.initial-values.now
-    a.initial-timestamps.now in
+    lent a.statistics.now a.last_shingled_input.now a.last_shingled_point.now a.previous_timestamps.now a.initial_values.now
+    a.initial_timestamps.now in
     let H = c.head_lines-h in
     let h = H.result.head in
     let z = drop H.result.at t in
@@ -53,15 +47,11 @@ codes_agree-requires c = c.head_lines-h.ensures.head_few c.if-h-ne0.false
 
 pub returns-then-not-codes_agree : goal.returns-then-not-codes_agree
 returns-then-not-codes_agree c =
-    let i3 = c in
-    let i2 = c in
-    let i1 = c in
-    let b = c in
     let a = c.args in
     let t = a.text.now in
     let l =
-    lent a.statistics.now a.last-shingled-input.now a.last-shingled-point.now a.previous-timestamps.now a.initial-values.now
-    a.initial-timestamps.now in
+    lent a.statistics.now a.last_shingled_input.now a.last_shingled_point.now a.previous_timestamps.now a.initial_values.now
+    a.initial_timestamps.now in
     let H = c.head_lines-h in
     let h = H.result.head in
     let z = drop H.result.at t in
@@ -70,43 +60,33 @@ returns-then-not-codes_agree c =
     let o = J.ensures.good c.if-judged-ne0.false in
     ap (λ (r : Restored). restore_outcome r.row r.line r.head l) c.refused-then-not-codes_agree.ensures
     ∙ restore_other t a.codes.now l h H.result.extra z e J.result J.ensures.value o
-    (sym c.codes_agree.ensures ∙ not-true _ c.if-not-codes_agree.true-raw)
+    (sym c.codes_agree.ensures ∙ c.if-not-codes_agree.true)
 
 pub returns-then-is_short : goal.returns-then-is_short
 returns-then-is_short c =
-    let i4 = c in
-    let i3 = c in
-    let i2 = c in
-    let i1 = c in
-    let b = c in
     let a = c.args in
     let t = a.text.now in
     let l =
-    lent a.statistics.now a.last-shingled-input.now a.last-shingled-point.now a.previous-timestamps.now a.initial-values.now
-    a.initial-timestamps.now in
+    lent a.statistics.now a.last_shingled_input.now a.last_shingled_point.now a.previous_timestamps.now a.initial_values.now
+    a.initial_timestamps.now in
     let H = c.head_lines-h in
     let h = H.result.head in
     let z = drop H.result.at t in
     let e = told_ran H.result.bad (h, H.result.extra) z _ c.if-h-ne0.false H.ensures.text_value in
     let J = c.judge_body-judged in
     let o = J.ensures.good c.if-judged-ne0.false in
-    let s = sym c.codes_agree.ensures ∙ not-false _ c.if-not-codes_agree.false-raw in
+    let s = sym c.codes_agree.ensures ∙ c.if-not-codes_agree.false in
     let w = sym (short_is h l _ (H.ensures.head_few c.if-h-ne0.false) refl) ∙ sym c.is_short.ensures ∙ c.if-is_short.true in
     ap (λ (r : Restored). restore_outcome r.row r.line r.head l) c.refused-then-is_short.ensures
     ∙ restore_short t a.codes.now l h H.result.extra z e J.result J.ensures.value o s w
 
 pub fill-requires : goal.fill-requires
 fill-requires c =
-    let i4 = c in
-    let i3 = c in
-    let i2 = c in
-    let i1 = c in
-    let b = c in
     let a = c.args in
     let t = a.text.now in
     let l =
-    lent a.statistics.now a.last-shingled-input.now a.last-shingled-point.now a.previous-timestamps.now a.initial-values.now
-    a.initial-timestamps.now in
+    lent a.statistics.now a.last_shingled_input.now a.last_shingled_point.now a.previous_timestamps.now a.initial_values.now
+    a.initial_timestamps.now in
     let H = c.head_lines-h in
     let h = H.result.head in
     let z = drop H.result.at t in
@@ -116,28 +96,20 @@ fill-requires c =
 
 pub returns : goal.returns
 returns c =
-    let d = c in
-    let g = c in
-    let i4 = c in
-    let i3 = c in
-    let i2 = c in
-    let i1 = c in
-    let b = c in
     let a = c.args in
     let t = a.text.now in
     let l =
-    lent a.statistics.now a.last-shingled-input.now a.last-shingled-point.now a.previous-timestamps.now a.initial-values.now
-    a.initial-timestamps.now in
+    lent a.statistics.now a.last_shingled_input.now a.last_shingled_point.now a.previous_timestamps.now a.initial_values.now
+    a.initial_timestamps.now in
     let H = c.head_lines-h in
     let h = H.result.head in
     let z = drop H.result.at t in
     let e = told_ran H.result.bad (h, H.result.extra) z _ c.if-h-ne0.false H.ensures.text_value in
     let J = c.judge_body-judged in
     let o = J.ensures.good c.if-judged-ne0.false in
-    let s = sym c.codes_agree.ensures ∙ not-false _ c.if-not-codes_agree.false-raw in
+    let s = sym c.codes_agree.ensures ∙ c.if-not-codes_agree.false in
     let w = sym (short_is h l _ (H.ensures.head_few c.if-h-ne0.false) refl) ∙ sym c.is_short.ensures ∙ c.if-is_short.false in
     let G = c.fill in
-    let m = G.new.1.1.1.1 in
-    let new = lent c.fill.new.statistics c.fill.new.last_shingled_input c.fill.new.last_shingled_point c.fill.new.previous_timestamps c.fill.new.initial_values c.fill.new.initial_timestamps.0 in
+    let new = lent c.fill.new.statistics c.fill.new.last_shingled_input c.fill.new.last_shingled_point c.fill.new.previous_timestamps c.fill.new.initial_values c.fill.new.initial_timestamps in
     ap (λ (x : Preprocessor). restore_outcome 0 0 x new) c.with_initial.ensures
     ∙ restore_all t a.codes.now l h H.result.extra z e J.result J.ensures.value o s w new G.ensures
