@@ -15,4 +15,4 @@ fits_given false y h = tt
 pub returns : goal.returns
 returns c =
     let a = c.args in
-    (c.singles.ensures, omega arith, fits_given a.has-rcf-point a.rcf-point.now c.singles-2.ensures)
+    (c.singles.ensures, omega arith, fits_given a.has_rcf_point a.rcf_point.now c.singles-2.ensures)
