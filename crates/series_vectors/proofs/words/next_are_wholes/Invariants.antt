@@ -4,7 +4,7 @@ use lib.ListN.{length}
 use Rattle.series_vectors.proofs.words.next_are_wholes.Given as goal
 
 abbrev pub invariant-loop-i : goal.invariant-loop-i
-invariant-loop-i l = i ≤ length list
+invariant-loop-i g l = l.i ≤ length l.list
 
 abbrev pub decreases-loop-i : goal.decreases-loop-i
-decreases-loop-i l = length list - i
+decreases-loop-i g l = length l.list - l.i

@@ -3,7 +3,7 @@ use Prim.Native.Nat.{◌-◌, ◌≤◌}
 use Rattle.series_vectors.proofs.words.next_word.Given as goal
 
 abbrev pub invariant-loop-i : goal.invariant-loop-i
-invariant-loop-i l = i ≤ 17
+invariant-loop-i g l = l.i ≤ 17
 
 abbrev pub decreases-loop-i : goal.decreases-loop-i
-decreases-loop-i l = 17 - i
+decreases-loop-i g l = 17 - l.i

@@ -5,7 +5,7 @@ use lib.ListN.{length}
 use Rattle.series_vectors.proofs.words.read_wholes.Given as goal
 
 abbrev pub invariant-loop-i : goal.invariant-loop-i
-invariant-loop-i l = (length out ≡ length out₀)
+invariant-loop-i g l = (length l.out ≡ length l.initial.out)
 
 abbrev pub decreases-loop-i : goal.decreases-loop-i
-decreases-loop-i l = length out₀ - i
+decreases-loop-i g l = length l.initial.out - l.i
