@@ -7,20 +7,21 @@ ghost use Rattle.std.specs.Prelude.{◌+◌, ◌≤◌, ◌<◌, ◌≡◌, true
 
 use bench_blocks::turn::{Run, first_run, turn};
 use bench_core::step::Phase;
-use libc::{STDIN_FILENO, STDOUT_FILENO};
+use std::io::Read;
 
-// Reads the next bytes of the input to the text, after those that are kept; answers how many, none at the end of the input.
-fn filled(text: &mut [u8], kept: usize) -> usize
+// Reads the next bytes of the input to the text, after those that are kept; answers how many, none at the end of the input or where the read fails.
+fn filled<R: Read>(input: &mut R, text: &mut [u8], kept: usize) -> usize
     requires { kept < length text.old }
     ensures result_in_bounds { kept + result ≤ length text.new }
     ensures text_unchanged { take kept text.new ≡ take kept text.old }
 {
-    let got = libc::read(STDIN_FILENO, &mut text[kept..]);
-    io::count(got, &text[kept..])
+    let got = input.read(&mut text[kept..]);
+    got.unwrap_or(0)
 }
 
-// One turn, and what it prints written.
+// One turn, and what it prints written. The run goes on where a write fails.
 fn turned(
+    rt: &impl Print,
     run: Run,
     statistics: &mut [f64],
     last_shingled_input: &mut [f32],
@@ -54,12 +55,13 @@ fn turned(
         out,
     );
     let n = t.written;
-    io::write_all(STDOUT_FILENO, &out[..n]);
+    let _ = rt.write_all(&out[..n]);
     t.run
 }
 
 // A block: turn after turn, until one has room for all that it prints. Each has read a byte at least, or it would not end.
 fn handed(
+    rt: &impl Print,
     run: Run,
     statistics: &mut [f64],
     last_shingled_input: &mut [f32],
@@ -78,6 +80,7 @@ fn handed(
     ensures { (result.full ≡ false) × (result.kept ≤ 24) }
 {
     let mut r = turned(
+        rt,
         run,
         statistics,
         last_shingled_input,
@@ -92,6 +95,7 @@ fn handed(
     );
     while r.full {
         r = turned(
+            rt,
             r,
             statistics,
             last_shingled_input,
@@ -123,7 +127,9 @@ fn left(reads: u64, phase: Phase) -> u64
 
 // The whole input. A proved loop has to end, and nothing says that an input does: the loop counts its reads down, from a number that no
 // run uses up.
-fn all(
+fn all<R: Read>(
+    rt: &impl Print,
+    input: &mut R,
     statistics: &mut [f64],
     last_shingled_input: &mut [f32],
     last_shingled_point: &mut [f32],
@@ -141,8 +147,9 @@ fn all(
     let mut reads = u64::MAX;
     while reads > 0 {
         let kept = run.kept;
-        let got = filled(text, kept);
+        let got = filled(input, text, kept);
         run = handed(
+            rt,
             run,
             statistics,
             last_shingled_input,
@@ -162,7 +169,8 @@ fn all(
 }
 
 // The memory that is lent: room for 4 values a reading, 64 readings a point and 500 readings that wait, which are the bench's limits.
-fn main() {
+fn main(rt: HostRuntime) {
+    let mut input = rt.stdin();
     let mut statistics = [0.0f64; 75];
     let mut last_shingled_input = [0.0f32; 256];
     let mut last_shingled_point = [0.0f32; 320];
@@ -173,6 +181,8 @@ fn main() {
     let mut text = [0u8; 131072];
     let mut out = [0u8; 262144];
     all(
+        &rt,
+        &mut input,
         &mut statistics,
         &mut last_shingled_input,
         &mut last_shingled_point,

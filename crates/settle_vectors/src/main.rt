@@ -3,16 +3,25 @@
 
 mod input;
 
-ghost use Rattle.std.specs.Prelude.{◌≡◌, ◌≤◌, length};
+ghost use Rattle.std.specs.Prelude.{◌≡◌, ◌≤◌, true, length};
 
-use libc::STDOUT_FILENO;
 use settle_core::settle::settle;
+use std::fs;
+use std::io::Read;
+use std::rt::Files;
 
 // Room for a file.
 fn room() -> [u8; 524288]
     ensures { 524288 ≡ length result }
 {
     [0; 524288]
+}
+
+// Whether two lists hold the same bytes.
+fn same(a: &[u8], b: &[u8]) -> bool
+    ensures { (result ≡ true → a.now ≡ b.now) × (a.now ≡ b.now → result ≡ true) }
+{
+    a == b
 }
 
 // Whether the settling program prints just this for an input.
@@ -22,7 +31,7 @@ fn agrees(text: &[u8], expected: &[u8], out: &mut [u8]) -> bool {
         return false;
     }
     let n = r.length;
-    check::same(&out[..n], expected)
+    same(&out[..n], expected)
 }
 
 // How many inputs agree with the oracle and how many do not.
@@ -49,13 +58,10 @@ fn counted(t: Tally, good: bool) -> Tally {
     }
 }
 
-fn report(path: &[u8], t: Tally) {
-    io::write_all(STDOUT_FILENO, path);
-    io::write_all(STDOUT_FILENO, b": agree ");
-    io::print_decimal(STDOUT_FILENO, t.agree);
-    io::write_all(STDOUT_FILENO, b", differ ");
-    io::print_decimal(STDOUT_FILENO, t.differ);
-    io::write_all(STDOUT_FILENO, b"\n");
+fn report(rt: &impl Print, path: &str, t: Tally) {
+    let agree = t.agree;
+    let differ = t.differ;
+    let _ = println!(rt; "{path}: agree {agree}, differ {differ}");
 }
 
 // Every input of the file, in order. What is left of a file that is cut counts as one that differs.
@@ -80,29 +86,43 @@ fn replay(text: &[u8], out: &mut [u8]) -> Tally {
     tally
 }
 
-// Reads a file to the front of `text`, and answers how much was read: nothing where there is no such file.
-fn read_file(path: &[u8], text: &mut [u8]) -> usize
+// Reads until the text is full, the input ends or a read fails, and answers how many bytes stand at the front of the text.
+fn read_full<R: Read>(input: &mut R, text: &mut [u8]) -> usize
     ensures { result ≤ length text.new }
 {
-    let fd = os::open_read(path);
-    if fd < 0 {
-        os::fail(path);
-        return 0;
+    let mut done = 0;
+    while done < text.len() {
+        let n = input.read(&mut text[done..]).unwrap_or(0);
+        if n == 0 {
+            return done;
+        }
+        done += n;
     }
-    let n = io::read_full(fd, text);
-    libc::close(fd);
-    n
+    done
 }
 
-fn replay_file(path: &[u8]) {
+// Reads a file to the front of `text`, and answers how much was read: nothing where there is no such file.
+fn read_file(rt: &(impl Files + Eprint), path: &str, text: &mut [u8]) -> usize
+    ensures { result ≤ length text.new }
+{
+    match fs::open(rt, path) {
+        Ok(mut file) => read_full(&mut file, text),
+        Err(e) => {
+            let _ = eprintln!(rt; "{path}: {e}");
+            0
+        }
+    }
+}
+
+fn replay_file(rt: &(impl Files + Print + Eprint), path: &str) {
     let mut text = room();
     let mut out = room();
-    let n = read_file(path, &mut text);
-    report(path, replay(&text[..n], &mut out));
+    let n = read_file(rt, path, &mut text);
+    report(rt, path, replay(&text[..n], &mut out));
 }
 
-fn main() {
-    replay_file(b"inputs");
-    replay_file(b"gap");
-    replay_file(b"wrong");
+fn main(rt: HostRuntime) {
+    replay_file(&rt, "inputs");
+    replay_file(&rt, "gap");
+    replay_file(&rt, "wrong");
 }

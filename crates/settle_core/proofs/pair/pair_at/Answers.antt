@@ -39,7 +39,7 @@ returns-then-not-is_named c =
     record { text_value = refused_in c.refused_by-then-not-is_named.result 19 c.refused_by-then-not-is_named.ensures.row_value (λ z. absurd (omega arith)) t ∙ set_other u ends sets; next_in_bounds = omega (arith, c.refused_by-then-not-is_named.ensures.next_value) }
 
 pub line_at-b-requires : goal.line_at-b-requires
-line_at-b-requires c = c.line_at_lem.ensures.1
+line_at-b-requires c = c.line_at_lem.ensures.FIXME
 
 pub returns-then-not-b : goal.returns-then-not-b
 returns-then-not-b c =
