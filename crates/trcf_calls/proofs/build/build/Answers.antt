@@ -96,7 +96,6 @@ zero_f32-requires c = tt
 
 pub slice_bounds-zero_f32-end-3 : goal.slice_bounds-zero_f32-end-3
 slice_bounds-zero_f32-end-3 c =
-    let c24 = c in
     let r = (rw c.head_from-head.ensures at (c.held_row-short.ensures.ready c.if-short-ne0.false).fitted) in
     omega (
       arith,
@@ -111,7 +110,6 @@ slice_bounds-zero_f32-end-3 c =
 
 pub slice_bounds-zero_f32-end-4 : goal.slice_bounds-zero_f32-end-4
 slice_bounds-zero_f32-end-4 c =
-    let c24 = c in
     let r = (rw c.head_from-head.ensures at
     (c.held_row-short.ensures.ready c.if-short-ne0.false).fitted) in
     simp length-take (omega (
@@ -145,8 +143,6 @@ zero_u64-requires c = tt
 
 pub returns : goal.returns
 returns c =
-    let c24 = c in
-    let c32 = c in
     let a = c.args in
     let s = settings_from a.builder a.weights.now a.codes.now in
     let l = lent a.statistics.now a.last_shingled_input.now a.last_shingled_point.now a.previous_timestamps.now a.initial_values.now a.initial_timestamps.now in

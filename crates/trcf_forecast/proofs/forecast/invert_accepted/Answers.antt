@@ -39,7 +39,6 @@ slice_bounds-invert_augmented-end-then-is_augmented-2 c =
 
 pub invert_augmented-requires : goal.invert_augmented-requires
 invert_augmented-requires c =
-    let c24 = c in
     let A = c.args in
     let P = c.pre in
     let ls = length-take-le _ A.statistics.now P.readable.statistics in
@@ -80,8 +79,6 @@ invert_in_place-requires c =
 pub returns-then-is_augmented : goal.returns-then-is_augmented
 unfolding numbers_of times_of previous viewed view
 returns-then-is_augmented c =
-    let c24 = c in
-    let c32 = c in
     let A = c.args in
     let I = c.invert_augmented.ensures in
     augmented_is A.head A.statistics.now A.«last_shingled_input».now A.«previous_timestamps».now
@@ -92,7 +89,6 @@ returns-then-is_augmented c =
 pub returns-else-is_augmented : goal.returns-else-is_augmented
 unfolding previous viewed view
 returns-else-is_augmented c =
-    let c24 = c in
     let A = c.args in
     standard_is A.head A.statistics.now A.«last_shingled_input».now A.«previous_timestamps».now
     (forecast (ranges A.values.now A.upper.now A.lower.now) (ranges A.«values-out».now A.«upper-out».now A.«lower-out».now)

@@ -128,7 +128,6 @@ slice_bounds-invert_times-end c =
 
 pub slice_bounds-invert_times-end-2 : goal.slice_bounds-invert_times-end-2
 slice_bounds-invert_times-end-2 c =
-    let c24 = c in
     let A = c.args in
     let P = c.pre in
     let r = room_times (settings_of A.head) (length A.values.now) c.get_dimension-a.result (length A.«times-out».now)
@@ -138,7 +137,6 @@ slice_bounds-invert_times-end-2 c =
 
 pub slice_bounds-invert_times-end-3 : goal.slice_bounds-invert_times-end-3
 slice_bounds-invert_times-end-3 c =
-    let c24 = c in
     let A = c.args in
     let P = c.pre in
     let r = room_times (settings_of A.head) (length A.values.now) c.get_dimension-a.result (length A.«times-out».now)
@@ -148,7 +146,6 @@ slice_bounds-invert_times-end-3 c =
 
 pub slice_bounds-invert_times-end-4 : goal.slice_bounds-invert_times-end-4
 slice_bounds-invert_times-end-4 c =
-    let c24 = c in
     let A = c.args in
     let P = c.pre in
     let r = room_times (settings_of A.head) (length A.values.now) c.get_dimension-a.result (length A.«times-out».now)
@@ -158,7 +155,6 @@ slice_bounds-invert_times-end-4 c =
 
 pub slice_bounds-invert_times-end-5 : goal.slice_bounds-invert_times-end-5
 slice_bounds-invert_times-end-5 c =
-    let c24 = c in
     let A = c.args in
     let P = c.pre in
     let r = room_times (settings_of A.head) (length A.values.now) c.get_dimension-a.result (length A.«times-out».now)
@@ -168,7 +164,6 @@ slice_bounds-invert_times-end-5 c =
 
 pub slice_bounds-invert_times-end-6 : goal.slice_bounds-invert_times-end-6
 slice_bounds-invert_times-end-6 c =
-    let c24 = c in
     let A = c.args in
     let P = c.pre in
     let r = room_times (settings_of A.head) (length A.values.now) c.get_dimension-a.result (length A.«times-out».now)
@@ -178,7 +173,6 @@ slice_bounds-invert_times-end-6 c =
 
 pub invert_times-requires : goal.invert_times-requires
 invert_times-requires c =
-    let c24 = c in
     let A = c.args in
     let P = c.pre in
     let r = room_times (settings_of A.head) (length A.values.now) c.get_dimension-a.result (length A.«times-out».now)
@@ -199,8 +193,6 @@ invert_times-requires c =
 
 pub returns : goal.returns
 returns c =
-    let c24 = c in
-    let c32 = c in
     let A = c.args in
     let P = c.pre in
     let r = room_times (settings_of A.head) (length A.values.now) c.get_dimension-a.result (length A.«times-out».now)

@@ -21,9 +21,6 @@ invert_accepted-requires c =
 
 pub returns : goal.returns
 returns c =
-    let c24 = c in
-    let c32 = c in
-    let c40 = c in
     let A = c.args in
     done_is A.head A.statistics.now A.«last_shingled_input».now A.«previous_timestamps».now
     (forecast (ranges A.values.now A.upper.now A.lower.now) (ranges A.«values-out».now A.«upper-out».now A.«lower-out».now)

@@ -54,7 +54,6 @@ invert_in_place-requires c =
 
 pub returns : goal.returns
 returns c =
-    let c24 = c in
     let A = c.args in
     let P = c.pre in
     let e = (dimension_known c.get_dimension-a.ensures (search rules)).0 in

@@ -42,8 +42,6 @@ write_times-requires c =
 
 pub returns : goal.returns
 returns c =
-    let c24 = c in
-    let c32 = c in
     let at-get-dimension = c.get_dimension-a in
     let at-is-gap = c.is_gap-gap in
     let at-time-factor = c.time_factor-factor in

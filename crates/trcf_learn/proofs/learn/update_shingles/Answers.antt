@@ -78,20 +78,19 @@ shift_time-requires c = tt
 
 pub returns : goal.returns
 returns c =
-    let c24 = c in
     let a = c.args in
     let h = a.head in
     let q = c.requires in
     let d = h.transformer.input_length in record {
-      statistics_after = over_part a.statistics.now _ _ (c.feed_newest.auto.statistics ∙ length-take-le _ _ q.head_in_bounds) ∙ ap (over a.statistics.now)
+      statistics_after = over_part a.statistics.now _ _ (c.feed_newest.auto.s ∙ length-take-le _ _ q.head_in_bounds) ∙ ap (over a.statistics.now)
           c.feed_newest.ensures;
-      last_shingled_input_after = over_part a.last_shingled_input.now _ _ (c.shift_vector.auto.last_shingled_input ∙ length-take-le _ _ q.shingle_size_in_bounds) ∙ ap (over a.last_shingled_input.now)
+      last_shingled_input_after = over_part a.last_shingled_input.now _ _ (c.shift_vector.auto.s ∙ length-take-le _ _ q.shingle_size_in_bounds) ∙ ap (over a.last_shingled_input.now)
           ((roomy _ c.shift_vector.ensures
           (let a = c.args in let h = a.head in let q = c.requires in let d = h.transformer.input_length in let m = le-mul_of_pos_right d q.bounded.k_pos in simp length-take
           (omega (arith, q)))));
       last_shingled_point_after = (roomy _ c.copy_in.ensures (search rules)) ∙ paste_over _ _;
       previous_timestamps_after = over_part a.previous_timestamps.now _ _
-          (c.shift_time.auto.previous_timestamps ∙ length-take-le _ _ q.shingle_size_in_bounds_2) ∙ ap (over a.previous_timestamps.now)
+          (c.shift_time.auto.s ∙ length-take-le _ _ q.shingle_size_in_bounds_2) ∙ ap (over a.previous_timestamps.now)
           ((roomy _ c.shift_time.ensures
           (let a = c.args in let h = a.head in let q = c.requires in let d = h.transformer.input_length in simp length-take (omega (arith, q, q.bounded)))));
     }

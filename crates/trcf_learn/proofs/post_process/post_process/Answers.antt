@@ -27,19 +27,26 @@ is_waiting-requires c = tt
 
 pub post_process_waiting-requires : goal.post_process_waiting-requires
 post_process_waiting-requires c =
-    let c24 = c in
     let a = c.args in
     let u = to_z-of_z w32 a.relative_index c.ranges.relative_index in
     let o = c.post_process_row-row in
-    room_held a.head a.statistics.now a.last_shingled_input.now a.last_shingled_point.now a.previous_timestamps.now a.initial_values.now a.initial_timestamps.now
+    let r = room_held a.head a.statistics.now a.last_shingled_input.now a.last_shingled_point.now a.previous_timestamps.now a.initial_values.now a.initial_timestamps.now
     a.input.now a.timestamp a.has_y a.y.now a.expects a.expected.now a.grade a.relative_index (to_z w32 (of_z w32 a.relative_index)) a.deviations_out.now
     a.past_out.now a.expected_out.now u o.result o.ensures.value o.ensures.ready c.if-row-ne0.false
-    c.is_waiting.result c.is_waiting.ensures c.if-is_waiting.true
+    c.is_waiting.result c.is_waiting.ensures c.if-is_waiting.true in
+    record {
+      bounded = r.0;
+      head_in_bounds = r.1.0;
+      input_len = r.1.1.0;
+      initial_len_value = r.1.1.1.0;
+      values_seen_bound = r.1.1.1.1.0;
+      input_length_in_bounds = r.1.1.1.1.1.0;
+      start_normalization_in_bounds = r.1.1.1.1.1.1.0;
+      head_in_bounds_2 = r.1.1.1.1.1.1.1;
+    }
 
 pub returns-then-is_waiting : goal.returns-then-is_waiting
 returns-then-is_waiting c =
-    let c24 = c in
-    let c32 = c in
     let a = c.args in
     let u = to_z-of_z w32 a.relative_index c.ranges.relative_index in
     let o = c.post_process_row-row in
@@ -55,7 +62,6 @@ unlearned-requires-then-not-has_y c = tt
 
 pub returns-then-not-has_y : goal.returns-then-not-has_y
 returns-then-not-has_y c =
-    let c24 = c in
     let a = c.args in
     let u = to_z-of_z w32 a.relative_index c.ranges.relative_index in
     let o = c.post_process_row-row in
@@ -69,24 +75,27 @@ places_back-back-requires c = tt
 
 pub post_process_learning-requires : goal.post_process_learning-requires
 post_process_learning-requires c =
-    let c24 = c in
-    let c32 = c in
     let a = c.args in
     let u = to_z-of_z w32 a.relative_index c.ranges.relative_index in
     let o = c.post_process_row-row in
-    room_learnt a.head a.statistics.now a.last_shingled_input.now a.last_shingled_point.now a.previous_timestamps.now a.initial_values.now
+    let r = room_learnt a.head a.statistics.now a.last_shingled_input.now a.last_shingled_point.now a.previous_timestamps.now a.initial_values.now
     a.initial_timestamps.now a.input.now a.timestamp a.has_y a.y.now a.expects a.expected.now a.grade a.relative_index (to_z w32 (of_z w32 a.relative_index))
     a.deviations_out.now a.past_out.now a.expected_out.now u o.result o.ensures.value o.ensures.ready c.if-row-ne0.false
     c.is_waiting.result c.is_waiting.ensures c.if-is_waiting.false
     (not-false a.has_y c.if-not-has_y.false-raw) c.places_back-back.result
-    c.places_back-back.ensures
+    c.places_back-back.ensures in
+    record {
+      bounded = r.0;
+      head_in_bounds = r.1.0;
+      shingle_size_in_bounds = r.1.1.0;
+      head_in_bounds_2 = r.1.1.1.0;
+      shingle_size_in_bounds_2 = r.1.1.1.1.0;
+      input_len = r.1.1.1.1.1.0;
+      learnable = r.1.1.1.1.1.1;
+    }
 
 pub returns : goal.returns
 returns c =
-    let c24 = c in
-    let c32 = c in
-    let c40 = c in
-    let c48 = c in
     let a = c.args in
     let u = to_z-of_z w32 a.relative_index c.ranges.relative_index in
     let o = c.post_process_row-row in

@@ -55,7 +55,6 @@ write_found-found-requires c =
 
 pub update_shingles-requires : goal.update_shingles-requires
 update_shingles-requires c =
-    let c24 = c in
     let a = c.args in
     let h = a.head in
     let q = c.requires in
@@ -63,26 +62,18 @@ update_shingles-requires c =
 
 pub overflow_mul-d-4 : goal.overflow_mul-d-4
 overflow_mul-d-4 c =
-    let c24 = c in
-    let c32 = c in
     five c.requires.bounded.d_few
 
 pub overflow_add-d-2 : goal.overflow_add-d-2
 overflow_add-d-2 c =
-    let c24 = c in
-    let c32 = c in
     five_more c.requires.bounded.d_few
 
 pub overflow_mul-d-5 : goal.overflow_mul-d-5
 overflow_mul-d-5 c =
-    let c24 = c in
-    let c32 = c in
     all_statistics c.requires.bounded.d_few
 
 pub slice_bounds-write_deviations-end : goal.slice_bounds-write_deviations-end
 slice_bounds-write_deviations-end c =
-    let c24 = c in
-    let c32 = c in
     let a = c.args in
     let h = a.head in
     let q = c.requires in
@@ -90,8 +81,6 @@ slice_bounds-write_deviations-end c =
 
 pub slice_bounds-write_deviations-end-2 : goal.slice_bounds-write_deviations-end-2
 slice_bounds-write_deviations-end-2 c =
-    let c24 = c in
-    let c32 = c in
     let a = c.args in let h = a.head in let q = c.requires in simp length-take (omega (arith, c.update_shingles.auto, q.head_in_bounds))
 
 pub write_deviations-requires : goal.write_deviations-requires
@@ -99,14 +88,10 @@ write_deviations-requires c = tt
 
 pub next_count-count-requires : goal.next_count-count-requires
 next_count-count-requires c =
-    let c24 = c in
-    let c32 = c in
     c.requires.learnable.count_room
 
 pub overflow_add-seen : goal.overflow_add-seen
 overflow_add-seen c =
-    let c24 = c in
-    let c32 = c in
     let a = c.args in
     let h = a.head in
     let q = c.requires in
@@ -114,8 +99,6 @@ overflow_add-seen c =
 
 pub overflow_add-internal : goal.overflow_add-internal
 overflow_add-internal c =
-    let c24 = c in
-    let c32 = c in
     let a = c.args in
     let h = a.head in
     let q = c.requires in
@@ -129,9 +112,6 @@ likelihood_of-requires c = tt
 
 pub returns : goal.returns
 returns c =
-    let c24 = c in
-    let c32 = c in
-    let c40 = c in
     let a = c.args in
     let h = a.head in
     let q = c.requires in

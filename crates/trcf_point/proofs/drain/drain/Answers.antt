@@ -25,7 +25,6 @@ drain_due-next-requires c =
 
 pub returns : goal.returns
 returns c =
-    let c24 = c in
     let a = c.args in
     drain_goes a.head (lent a.statistics.now a.last_shingled_input.now a.last_shingled_point.now a.previous_timestamps.now a.initial_values.now
     a.initial_timestamps.now) c.drain_row-row.result c.drain_row-row.ensures.value

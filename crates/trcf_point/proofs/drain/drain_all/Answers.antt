@@ -63,7 +63,6 @@ drain_each-requires c =
 
 pub returns : goal.returns
 returns c =
-    let c24 = c in
     let a = c.args in
     let d = a.head.transformer.input_length in
     let q = c.requires in

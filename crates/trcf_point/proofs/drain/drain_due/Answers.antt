@@ -163,7 +163,6 @@ drain_all-requires c =
 pub overflow_add-t : goal.overflow_add-t
 unfolding due facts view
 overflow_add-t c =
-    let c24 = c in
     let a = c.args in
     let h = a.head in
     let l = lent a.statistics.now a.last_shingled_input.now a.last_shingled_point.now a.previous_timestamps.now a.initial_values.now a.initial_timestamps.now in
@@ -177,7 +176,6 @@ overflow_add-t c =
 pub overflow_add-head : goal.overflow_add-head
 unfolding due facts view
 overflow_add-head c =
-    let c24 = c in
     let a = c.args in
     let h = a.head in
     let l = lent a.statistics.now a.last_shingled_input.now a.last_shingled_point.now a.previous_timestamps.now a.initial_values.now a.initial_timestamps.now in
@@ -195,7 +193,6 @@ with_counts-requires c = tt
 pub returns : goal.returns
 unfolding due facts view
 returns c =
-    let c24 = c in
     let a = c.args in
     let h = a.head in
     let l = lent a.statistics.now a.last_shingled_input.now a.last_shingled_point.now a.previous_timestamps.now a.initial_values.now a.initial_timestamps.now in

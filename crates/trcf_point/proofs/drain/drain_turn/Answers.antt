@@ -154,7 +154,6 @@ shift_time-requires c = tt
 pub returns : goal.returns
 unfolding previous
 returns c =
-    let c24 = c in
     let a = c.args in
     let q = c.requires in
     let s = settings_of a.head in

@@ -61,8 +61,6 @@ time_base-base-requires c = tt
 
 pub write_point-requires : goal.write_point-requires
 write_point-requires c =
-    let c24 = c in
-    let c32 = c in
     let a = c.args in
     let l = lent a.statistics.now a.last_shingled_input.now a.last_shingled_point.now a.previous_timestamps.now a.initial_values.now a.initial_timestamps.now in
     let o = c.shingled_point_row-row in
@@ -84,8 +82,6 @@ write_point-requires c =
 
 pub returns : goal.returns
 returns c =
-    let c24 = c in
-    let c32 = c in
     let at-is-waiting = c.is_waiting in
     let a = c.args in
     let l = lent a.statistics.now a.last_shingled_input.now a.last_shingled_point.now a.previous_timestamps.now a.initial_values.now a.initial_timestamps.now in

@@ -85,7 +85,7 @@ outside_unit-requires c = tt
 pub returns-then-outside_unit : goal.returns-then-outside_unit
 unfolding settings_row
 returns-then-outside_unit c =
-    let c8 = c in record {
+    record {
       value = rw (
         sym c.is_imputing.ensures ∙ c.if-is_imputing.false,
         ne_eqb _ _
@@ -105,7 +105,7 @@ returns-then-outside_unit c =
 pub returns-then-b-start : goal.returns-then-b-start
 unfolding settings_row
 returns-then-b-start c =
-    let c8 = c in record {
+    record {
       value = rw (
         sym c.is_imputing.ensures ∙ c.if-is_imputing.false,
         ne_eqb _ _ c.if-d-eq0.false,
@@ -127,7 +127,7 @@ returns-then-b-start c =
 pub returns-then-start-ge-START_BOUND : goal.returns-then-start-ge-START_BOUND
 unfolding settings_row
 returns-then-start-ge-START_BOUND c =
-    let c8 = c in record {
+    record {
       value = rw (
         sym c.is_imputing.ensures ∙ c.if-is_imputing.false,
         ne_eqb _ _ c.if-d-eq0.false,
@@ -153,7 +153,7 @@ weights_refused-requires c = tt
 pub returns-then-weights_refused : goal.returns-then-weights_refused
 unfolding settings_row
 returns-then-weights_refused c =
-    let c8 = c in record {
+    record {
       value = rw (
         sym c.is_imputing.ensures ∙ c.if-is_imputing.false,
         ne_eqb _ _
@@ -175,7 +175,7 @@ returns-then-weights_refused c =
 pub returns : goal.returns
 unfolding settings_row
 returns c =
-    let c8 = c in record {
+    record {
       value = rw (
         sym c.is_imputing.ensures ∙ c.if-is_imputing.false,
         ne_eqb _ _
