@@ -27,23 +27,23 @@ is_augmented-requires c = tt
 pub slice_bounds-invert_augmented-end : goal.slice_bounds-invert_augmented-end
 slice_bounds-invert_augmented-end c =
     sym (length-take-le _ c.args.statistics.now
-    c.pre.readable.statistics)
+    c.requires.readable.statistics)
 
 pub slice_bounds-invert_augmented-end-then-is_augmented : goal.slice_bounds-invert_augmented-end-then-is_augmented
 slice_bounds-invert_augmented-end-then-is_augmented c =
-    sym (length-take-le _ c.args.«last_shingled_input».now c.pre.readable.inputs)
+    sym (length-take-le _ c.args.last_shingled_input.now c.requires.readable.inputs)
 
 pub slice_bounds-invert_augmented-end-then-is_augmented-2 : goal.slice_bounds-invert_augmented-end-then-is_augmented-2
 slice_bounds-invert_augmented-end-then-is_augmented-2 c =
-    sym (length-take-le _ c.args.«previous_timestamps».now c.pre.readable.times)
+    sym (length-take-le _ c.args.previous_timestamps.now c.requires.readable.times)
 
 pub invert_augmented-requires : goal.invert_augmented-requires
 invert_augmented-requires c =
     let A = c.args in
-    let P = c.pre in
+    let P = c.requires in
     let ls = length-take-le _ A.statistics.now P.readable.statistics in
-    let lx = length-take-le _ A.«last_shingled_input».now P.readable.inputs in
-    let lt = length-take-le _ A.«previous_timestamps».now P.readable.times in record {
+    let lx = length-take-le _ A.last_shingled_input.now P.readable.inputs in
+    let lt = length-take-le _ A.previous_timestamps.now P.readable.times in record {
       invertible = record {
         bounded = P.bounded;
         unbroken = P.unbroken;
@@ -57,18 +57,18 @@ invert_augmented-requires c =
 pub slice_bounds-invert_in_place-end : goal.slice_bounds-invert_in_place-end
 slice_bounds-invert_in_place-end c =
     sym (length-take-le _ c.args.statistics.now
-    c.pre.readable.statistics)
+    c.requires.readable.statistics)
 
 pub slice_bounds-invert_in_place-end-else-is_augmented : goal.slice_bounds-invert_in_place-end-else-is_augmented
 slice_bounds-invert_in_place-end-else-is_augmented c =
-    sym (length-take-le _ c.args.«last_shingled_input».now c.pre.readable.inputs)
+    sym (length-take-le _ c.args.last_shingled_input.now c.requires.readable.inputs)
 
 pub invert_in_place-requires : goal.invert_in_place-requires
 invert_in_place-requires c =
     let A = c.args in
-    let P = c.pre in
+    let P = c.requires in
     let ls = length-take-le _ A.statistics.now P.readable.statistics in
-    let lx = length-take-le _ A.«last_shingled_input».now P.readable.inputs in record {
+    let lx = length-take-le _ A.last_shingled_input.now P.readable.inputs in record {
       bounded = P.bounded;
       head_in_bounds = (omega (arith, ls), lx);
       upper_len = (P.unbroken.upper, P.unbroken.lower);
@@ -81,17 +81,17 @@ unfolding numbers_of times_of previous viewed view
 returns-then-is_augmented c =
     let A = c.args in
     let I = c.invert_augmented.ensures in
-    augmented_is A.head A.statistics.now A.«last_shingled_input».now A.«previous_timestamps».now
-    (forecast (ranges A.values.now A.upper.now A.lower.now) (ranges A.«values-out».now A.«upper-out».now A.«lower-out».now)
-    (ranges A.«times-out».now A.«times-upper-out».now A.«times-lower-out».now))
+    augmented_is A.head A.statistics.now A.last_shingled_input.now A.previous_timestamps.now
+    (forecast (ranges A.values.now A.upper.now A.lower.now) (ranges A.values_out.now A.upper_out.now A.lower_out.now)
+    (ranges A.times_out.now A.times_upper_out.now A.times_lower_out.now))
     _ _ (sym c.is_augmented.ensures ∙ c.if-is_augmented.true) I.lower_out_after I.times_lower_out_after
 
 pub returns-else-is_augmented : goal.returns-else-is_augmented
 unfolding previous viewed view
 returns-else-is_augmented c =
     let A = c.args in
-    standard_is A.head A.statistics.now A.«last_shingled_input».now A.«previous_timestamps».now
-    (forecast (ranges A.values.now A.upper.now A.lower.now) (ranges A.«values-out».now A.«upper-out».now A.«lower-out».now)
-    (ranges A.«times-out».now A.«times-upper-out».now A.«times-lower-out».now))
+    standard_is A.head A.statistics.now A.last_shingled_input.now A.previous_timestamps.now
+    (forecast (ranges A.values.now A.upper.now A.lower.now) (ranges A.values_out.now A.upper_out.now A.lower_out.now)
+    (ranges A.times_out.now A.times_upper_out.now A.times_lower_out.now))
     _ (sym c.is_augmented.ensures ∙ c.if-is_augmented.false)
     c.invert_in_place.ensures

@@ -18,17 +18,17 @@ get_dimension-a-requires c = tt
 
 pub nonzero_div-h : goal.nonzero_div-h
 nonzero_div-h c =
-    let P = c.pre in
-    let p = dimension_pos (settings_of c.args.head) P.0.bounded.d_pos P.0.bounded.k_pos in
+    let P = c.requires in
+    let p = dimension_pos (settings_of c.args.head) P.invertible.bounded.d_pos P.invertible.bounded.k_pos in
     let q : 0 < c.get_dimension-a.result = omega (arith, (dimension_known c.get_dimension-a.ensures (search rules)).0) in
     search rules
 
 pub overflow_mul-n : goal.overflow_mul-n
 overflow_mul-n c =
     let A = c.args in
-    let P = c.pre in
+    let P = c.requires in
     let w = numbers_within (settings_of A.head) in
-    let q = numbers_fit (length A.values.now) c.get_dimension-a.result (length A.inputs.now) (omega (arith, w, P.1.0, (dimension_known c.get_dimension-a.ensures (search rules)).0)) in
+    let q = numbers_fit (length A.values.now) c.get_dimension-a.result (length A.inputs.now) (omega (arith, w, P.inputs_len, (dimension_known c.get_dimension-a.ensures (search rules)).0)) in
     let g : length A.values.now < 18446744073709551616 = omega arith in
     omega arith
 
@@ -38,81 +38,81 @@ last_time-last-requires c = tt
 pub slice_bounds-invert_numbers-end : goal.slice_bounds-invert_numbers-end
 slice_bounds-invert_numbers-end c =
     let A = c.args in
-    let P = c.pre in
-    let r = room_numbers (settings_of A.head) (length A.values.now) c.get_dimension-a.result (length A.inputs.now) (length A.«values-out».now)
-    (length A.«upper-out».now) (length A.«lower-out».now) (dimension_known c.get_dimension-a.ensures (search rules)).0 P.1.0 (P.0.long P.1.1).numbers in
+    let P = c.requires in
+    let r = room_numbers (settings_of A.head) (length A.values.now) c.get_dimension-a.result (length A.inputs.now) (length A.values_out.now)
+    (length A.upper_out.now) (length A.lower_out.now) (dimension_known c.get_dimension-a.ensures (search rules)).0 P.inputs_len (P.invertible.long P.forest_mode_value).numbers in
     r.values
 
 pub slice_bounds-invert_numbers-end-2 : goal.slice_bounds-invert_numbers-end-2
 slice_bounds-invert_numbers-end-2 c =
     let A = c.args in
-    let P = c.pre in
-    let r = room_numbers (settings_of A.head) (length A.values.now) c.get_dimension-a.result (length A.inputs.now) (length A.«values-out».now)
-    (length A.«upper-out».now) (length A.«lower-out».now) (dimension_known c.get_dimension-a.ensures (search rules)).0 P.1.0 (P.0.long P.1.1).numbers
+    let P = c.requires in
+    let r = room_numbers (settings_of A.head) (length A.values.now) c.get_dimension-a.result (length A.inputs.now) (length A.values_out.now)
+    (length A.upper_out.now) (length A.lower_out.now) (dimension_known c.get_dimension-a.ensures (search rules)).0 P.inputs_len (P.invertible.long P.forest_mode_value).numbers
     in
-    sym (length-take-le _ A.«values-out».now r.values)
+    sym (length-take-le _ A.values_out.now r.values)
 
 pub slice_bounds-invert_numbers-end-3 : goal.slice_bounds-invert_numbers-end-3
 slice_bounds-invert_numbers-end-3 c =
     let A = c.args in
-    let P = c.pre in
-    let r = room_numbers (settings_of A.head) (length A.values.now) c.get_dimension-a.result (length A.inputs.now) (length A.«values-out».now)
-    (length A.«upper-out».now) (length A.«lower-out».now) (dimension_known c.get_dimension-a.ensures (search rules)).0 P.1.0 (P.0.long P.1.1).numbers
+    let P = c.requires in
+    let r = room_numbers (settings_of A.head) (length A.values.now) c.get_dimension-a.result (length A.inputs.now) (length A.values_out.now)
+    (length A.upper_out.now) (length A.lower_out.now) (dimension_known c.get_dimension-a.ensures (search rules)).0 P.inputs_len (P.invertible.long P.forest_mode_value).numbers
     in
     r.upper
 
 pub slice_bounds-invert_numbers-end-4 : goal.slice_bounds-invert_numbers-end-4
 slice_bounds-invert_numbers-end-4 c =
     let A = c.args in
-    let P = c.pre in
-    let r = room_numbers (settings_of A.head) (length A.values.now) c.get_dimension-a.result (length A.inputs.now) (length A.«values-out».now)
-    (length A.«upper-out».now) (length A.«lower-out».now) (dimension_known c.get_dimension-a.ensures (search rules)).0 P.1.0
-    (P.0.long P.1.1).numbers in
-    sym (length-take-le _ A.«upper-out».now r.upper)
+    let P = c.requires in
+    let r = room_numbers (settings_of A.head) (length A.values.now) c.get_dimension-a.result (length A.inputs.now) (length A.values_out.now)
+    (length A.upper_out.now) (length A.lower_out.now) (dimension_known c.get_dimension-a.ensures (search rules)).0 P.inputs_len
+    (P.invertible.long P.forest_mode_value).numbers in
+    sym (length-take-le _ A.upper_out.now r.upper)
 
 pub slice_bounds-invert_numbers-end-5 : goal.slice_bounds-invert_numbers-end-5
 slice_bounds-invert_numbers-end-5 c =
     let A = c.args in
-    let P = c.pre in
-    let r = room_numbers (settings_of A.head) (length A.values.now) c.get_dimension-a.result (length A.inputs.now) (length A.«values-out».now)
-    (length A.«upper-out».now) (length A.«lower-out».now) (dimension_known c.get_dimension-a.ensures (search rules)).0 P.1.0
-    (P.0.long P.1.1).numbers in
+    let P = c.requires in
+    let r = room_numbers (settings_of A.head) (length A.values.now) c.get_dimension-a.result (length A.inputs.now) (length A.values_out.now)
+    (length A.upper_out.now) (length A.lower_out.now) (dimension_known c.get_dimension-a.ensures (search rules)).0 P.inputs_len
+    (P.invertible.long P.forest_mode_value).numbers in
     r.lower
 
 pub slice_bounds-invert_numbers-end-6 : goal.slice_bounds-invert_numbers-end-6
 slice_bounds-invert_numbers-end-6 c =
     let A = c.args in
-    let P = c.pre in
+    let P = c.requires in
     let r = room_numbers (settings_of A.head) (length A.values.now) c.get_dimension-a.result (length A.inputs.now)
-    (length A.«values-out».now) (length A.«upper-out».now) (length A.«lower-out».now)
-    (dimension_known c.get_dimension-a.ensures (search rules)).0 P.1.0 (P.0.long P.1.1).numbers in
-    sym (length-take-le _ A.«lower-out».now r.lower)
+    (length A.values_out.now) (length A.upper_out.now) (length A.lower_out.now)
+    (dimension_known c.get_dimension-a.ensures (search rules)).0 P.inputs_len (P.invertible.long P.forest_mode_value).numbers in
+    sym (length-take-le _ A.lower_out.now r.lower)
 
 pub invert_numbers-requires : goal.invert_numbers-requires
 invert_numbers-requires c =
     let A = c.args in
-    let P = c.pre in
+    let P = c.requires in
     let r = room_numbers (settings_of A.head) (length A.values.now) c.get_dimension-a.result (length A.inputs.now)
-    (length A.«values-out».now) (length A.«upper-out».now) (length A.«lower-out».now)
-    (dimension_known c.get_dimension-a.ensures (search rules)).0 P.1.0 (P.0.long P.1.1).numbers in
+    (length A.values_out.now) (length A.upper_out.now) (length A.lower_out.now)
+    (dimension_known c.get_dimension-a.ensures (search rules)).0 P.inputs_len (P.invertible.long P.forest_mode_value).numbers in
     let e = (dimension_known c.get_dimension-a.ensures (search rules)).0 in
     let s = settings_of A.head in
     let n = length A.values.now in
     let h = n / c.get_dimension-a.result in
     let some : 0 < h = some_blocks n c.get_dimension-a.result s e
-    (some_block s n (dimension_pos s P.0.bounded.d_pos P.0.bounded.k_pos) (P.0.unbroken.blocks P.1.1)) in
+    (some_block s n (dimension_pos s P.invertible.bounded.d_pos P.invertible.bounded.k_pos) (P.invertible.unbroken.blocks P.forest_mode_value)) in
     let within : h * dimension s ≤ n = rw (← e) (div-mul-le_self n c.get_dimension-a.result) in
-    let wu : h * dimension s ≤ length A.upper.now = rw P.0.unbroken.upper within in
-    let wl : h * dimension s ≤ length A.lower.now = rw P.0.unbroken.lower within in
-    let m : h * length A.inputs.now ≡ h * (A.head.transformer.input_length * A.head.shingle_size) = ap (λ k. h * k) P.1.0 in record {
-      bounded = P.0.bounded;
-      head_in_bounds = (P.0.readable.statistics, P.1.0);
+    let wu : h * dimension s ≤ length A.upper.now = rw P.invertible.unbroken.upper within in
+    let wl : h * dimension s ≤ length A.lower.now = rw P.invertible.unbroken.lower within in
+    let m : h * length A.inputs.now ≡ h * (A.head.transformer.input_length * A.head.shingle_size) = ap (λ k. h * k) P.inputs_len in record {
+      bounded = P.invertible.bounded;
+      head_in_bounds = (P.invertible.readable.statistics, P.inputs_len);
       h_nonzero = some;
       head_in_bounds_2 = (within, wu, wl);
       values_out_len = (
-        length-take-le _ A.«values-out».now r.values ∙ m,
-        length-take-le _ A.«upper-out».now r.upper ∙ m,
-        length-take-le _ A.«lower-out».now r.lower ∙
+        length-take-le _ A.values_out.now r.values ∙ m,
+        length-take-le _ A.upper_out.now r.upper ∙ m,
+        length-take-le _ A.lower_out.now r.lower ∙
             m,
       );
     }
@@ -120,103 +120,103 @@ invert_numbers-requires c =
 pub slice_bounds-invert_times-end : goal.slice_bounds-invert_times-end
 slice_bounds-invert_times-end c =
     let A = c.args in
-    let P = c.pre in
-    let r = room_times (settings_of A.head) (length A.values.now) c.get_dimension-a.result (length A.«times-out».now)
-    (length A.«times-upper-out».now) (length A.«times-lower-out».now) (dimension_known c.get_dimension-a.ensures (search rules)).0
-    (P.0.long P.1.1).times in
+    let P = c.requires in
+    let r = room_times (settings_of A.head) (length A.values.now) c.get_dimension-a.result (length A.times_out.now)
+    (length A.times_upper_out.now) (length A.times_lower_out.now) (dimension_known c.get_dimension-a.ensures (search rules)).0
+    (P.invertible.long P.forest_mode_value).times in
     r.values
 
 pub slice_bounds-invert_times-end-2 : goal.slice_bounds-invert_times-end-2
 slice_bounds-invert_times-end-2 c =
     let A = c.args in
-    let P = c.pre in
-    let r = room_times (settings_of A.head) (length A.values.now) c.get_dimension-a.result (length A.«times-out».now)
-    (length A.«times-upper-out».now) (length A.«times-lower-out».now) (dimension_known c.get_dimension-a.ensures (search rules)).0
-    (P.0.long P.1.1).times in
-    sym (length-take-le _ A.«times-out».now r.values)
+    let P = c.requires in
+    let r = room_times (settings_of A.head) (length A.values.now) c.get_dimension-a.result (length A.times_out.now)
+    (length A.times_upper_out.now) (length A.times_lower_out.now) (dimension_known c.get_dimension-a.ensures (search rules)).0
+    (P.invertible.long P.forest_mode_value).times in
+    sym (length-take-le _ A.times_out.now r.values)
 
 pub slice_bounds-invert_times-end-3 : goal.slice_bounds-invert_times-end-3
 slice_bounds-invert_times-end-3 c =
     let A = c.args in
-    let P = c.pre in
-    let r = room_times (settings_of A.head) (length A.values.now) c.get_dimension-a.result (length A.«times-out».now)
-    (length A.«times-upper-out».now) (length A.«times-lower-out».now) (dimension_known c.get_dimension-a.ensures (search rules)).0
-    (P.0.long P.1.1).times in
+    let P = c.requires in
+    let r = room_times (settings_of A.head) (length A.values.now) c.get_dimension-a.result (length A.times_out.now)
+    (length A.times_upper_out.now) (length A.times_lower_out.now) (dimension_known c.get_dimension-a.ensures (search rules)).0
+    (P.invertible.long P.forest_mode_value).times in
     r.upper
 
 pub slice_bounds-invert_times-end-4 : goal.slice_bounds-invert_times-end-4
 slice_bounds-invert_times-end-4 c =
     let A = c.args in
-    let P = c.pre in
-    let r = room_times (settings_of A.head) (length A.values.now) c.get_dimension-a.result (length A.«times-out».now)
-    (length A.«times-upper-out».now) (length A.«times-lower-out».now) (dimension_known c.get_dimension-a.ensures (search rules)).0
-    (P.0.long P.1.1).times in
-    sym (length-take-le _ A.«times-upper-out».now r.upper)
+    let P = c.requires in
+    let r = room_times (settings_of A.head) (length A.values.now) c.get_dimension-a.result (length A.times_out.now)
+    (length A.times_upper_out.now) (length A.times_lower_out.now) (dimension_known c.get_dimension-a.ensures (search rules)).0
+    (P.invertible.long P.forest_mode_value).times in
+    sym (length-take-le _ A.times_upper_out.now r.upper)
 
 pub slice_bounds-invert_times-end-5 : goal.slice_bounds-invert_times-end-5
 slice_bounds-invert_times-end-5 c =
     let A = c.args in
-    let P = c.pre in
-    let r = room_times (settings_of A.head) (length A.values.now) c.get_dimension-a.result (length A.«times-out».now)
-    (length A.«times-upper-out».now) (length A.«times-lower-out».now) (dimension_known c.get_dimension-a.ensures (search rules)).0
-    (P.0.long P.1.1).times in
+    let P = c.requires in
+    let r = room_times (settings_of A.head) (length A.values.now) c.get_dimension-a.result (length A.times_out.now)
+    (length A.times_upper_out.now) (length A.times_lower_out.now) (dimension_known c.get_dimension-a.ensures (search rules)).0
+    (P.invertible.long P.forest_mode_value).times in
     r.lower
 
 pub slice_bounds-invert_times-end-6 : goal.slice_bounds-invert_times-end-6
 slice_bounds-invert_times-end-6 c =
     let A = c.args in
-    let P = c.pre in
-    let r = room_times (settings_of A.head) (length A.values.now) c.get_dimension-a.result (length A.«times-out».now)
-    (length A.«times-upper-out».now) (length A.«times-lower-out».now)
-    (dimension_known c.get_dimension-a.ensures (search rules)).0 (P.0.long P.1.1).times in
-    sym (length-take-le _ A.«times-lower-out».now r.lower)
+    let P = c.requires in
+    let r = room_times (settings_of A.head) (length A.values.now) c.get_dimension-a.result (length A.times_out.now)
+    (length A.times_upper_out.now) (length A.times_lower_out.now)
+    (dimension_known c.get_dimension-a.ensures (search rules)).0 (P.invertible.long P.forest_mode_value).times in
+    sym (length-take-le _ A.times_lower_out.now r.lower)
 
 pub invert_times-requires : goal.invert_times-requires
 invert_times-requires c =
     let A = c.args in
-    let P = c.pre in
-    let r = room_times (settings_of A.head) (length A.values.now) c.get_dimension-a.result (length A.«times-out».now)
-    (length A.«times-upper-out».now) (length A.«times-lower-out».now)
-    (dimension_known c.get_dimension-a.ensures (search rules)).0 (P.0.long P.1.1).times in
+    let P = c.requires in
+    let r = room_times (settings_of A.head) (length A.values.now) c.get_dimension-a.result (length A.times_out.now)
+    (length A.times_upper_out.now) (length A.times_lower_out.now)
+    (dimension_known c.get_dimension-a.ensures (search rules)).0 (P.invertible.long P.forest_mode_value).times in
     let e = (dimension_known c.get_dimension-a.ensures (search rules)).0 in
     let s = settings_of A.head in
     let n = length A.values.now in
     let h = n / c.get_dimension-a.result in
     let some : 0 < h = some_blocks n c.get_dimension-a.result s e
-    (some_block s n (dimension_pos s P.0.bounded.d_pos P.0.bounded.k_pos) (P.0.unbroken.blocks P.1.1)) in
+    (some_block s n (dimension_pos s P.invertible.bounded.d_pos P.invertible.bounded.k_pos) (P.invertible.unbroken.blocks P.forest_mode_value)) in
     let within : h * dimension s ≤ n = rw (← e) (div-mul-le_self n c.get_dimension-a.result) in
-    let wu : h * dimension s ≤ length A.upper.now = rw P.0.unbroken.upper within in
-    let wl : h * dimension s ≤ length A.lower.now = rw P.0.unbroken.lower within in
-    let lv = length-take-le h A.«times-out».now r.values in
-    let lu = length-take-le h A.«times-upper-out».now r.upper in
-    let ll = length-take-le h A.«times-lower-out».now r.lower in record { bounded = P.0.bounded; head_in_bounds = P.0.readable.statistics; forest_mode_value = P.1.1; nonzero = rw lv some; upper_out_len = (lu ∙ sym lv, ll ∙ sym lv); head_in_bounds_2 = (rw lv within, rw lv wu, rw lv wl) }
+    let wu : h * dimension s ≤ length A.upper.now = rw P.invertible.unbroken.upper within in
+    let wl : h * dimension s ≤ length A.lower.now = rw P.invertible.unbroken.lower within in
+    let lv = length-take-le h A.times_out.now r.values in
+    let lu = length-take-le h A.times_upper_out.now r.upper in
+    let ll = length-take-le h A.times_lower_out.now r.lower in record { bounded = P.invertible.bounded; head_in_bounds = P.invertible.readable.statistics; forest_mode_value = P.forest_mode_value; nonzero = rw lv some; upper_out_len = (lu ∙ sym lv, ll ∙ sym lv); head_in_bounds_2 = (rw lv within, rw lv wu, rw lv wl) }
 
 pub returns : goal.returns
 returns c =
     let A = c.args in
-    let P = c.pre in
-    let r = room_times (settings_of A.head) (length A.values.now) c.get_dimension-a.result (length A.«times-out».now)
-    (length A.«times-upper-out».now) (length A.«times-lower-out».now) (dimension_known c.get_dimension-a.ensures (search rules)).0
-    (P.0.long P.1.1).times in
+    let P = c.requires in
+    let r = room_times (settings_of A.head) (length A.values.now) c.get_dimension-a.result (length A.times_out.now)
+    (length A.times_upper_out.now) (length A.times_lower_out.now) (dimension_known c.get_dimension-a.ensures (search rules)).0
+    (P.invertible.long P.forest_mode_value).times in
     let q = room_numbers (settings_of A.head) (length A.values.now) c.get_dimension-a.result (length A.inputs.now)
-    (length A.«values-out».now) (length A.«upper-out».now) (length A.«lower-out».now)
-    (dimension_known c.get_dimension-a.ensures (search rules)).0 P.1.0 (P.0.long P.1.1).numbers in
+    (length A.values_out.now) (length A.upper_out.now) (length A.lower_out.now)
+    (dimension_known c.get_dimension-a.ensures (search rules)).0 P.inputs_len (P.invertible.long P.forest_mode_value).numbers in
     let v = ranges A.values.now A.upper.now A.lower.now in
     let h = length A.values.now / c.get_dimension-a.result in
     let n = h * length A.inputs.now in
     let N = c.invert_numbers in
     let T = c.invert_times in
-    let lv = length-take-le h A.«times-out».now r.values in record {
-      lower_out_after = parts_over (ranges A.«values-out».now A.«upper-out».now A.«lower-out».now) _ N.last.1.1.1.1.1.1.1.0 N.last.1.1.1.1.1.1.1.1.0
-          N.last.1.1.1.1.1.1.1.1.1.0 n
-          (N.kept.1.1.1.1.1.1.1.0 ∙ length-take-le n A.«values-out».now q.values) (N.kept.1.1.1.1.1.1.1.1.0 ∙ length-take-le n A.«upper-out».now q.upper)
-          (N.kept.1.1.1.1.1.1.1.1.1.0 ∙ length-take-le n A.«lower-out».now q.lower)
+    let lv = length-take-le h A.times_out.now r.values in record {
+      lower_out_after = parts_over (ranges A.values_out.now A.upper_out.now A.lower_out.now) _ N.new.values_out N.new.upper_out
+          N.new.lower_out n
+          (N.auto.values_out ∙ length-take-le n A.values_out.now q.values) (N.auto.upper_out ∙ length-take-le n A.upper_out.now q.upper)
+          (N.auto.lower_out ∙ length-take-le n A.lower_out.now q.lower)
           (N.ensures ∙ numbers_are A.head A.s.now A.inputs.now A.times.now v c.get_dimension-a.result
           (dimension_known c.get_dimension-a.ensures (search rules)).0);
-      times_lower_out_after = parts_over (ranges A.«times-out».now A.«times-upper-out».now A.«times-lower-out».now) _ T.last.1.1.1.1.1.1.0 T.last.1.1.1.1.1.1.1.0
-          T.last.1.1.1.1.1.1.1.1.0 h
-          (T.kept.1.1.1.1.1.1.0 ∙ lv) (T.kept.1.1.1.1.1.1.1.0 ∙ length-take-le h A.«times-upper-out».now r.upper)
-          (T.kept.1.1.1.1.1.1.1.1.0 ∙ length-take-le h A.«times-lower-out».now r.lower)
+      times_lower_out_after = parts_over (ranges A.times_out.now A.times_upper_out.now A.times_lower_out.now) _ T.new.values_out T.new.upper_out
+          T.new.lower_out h
+          (T.auto.values_out ∙ lv) (T.auto.upper_out ∙ length-take-le h A.times_upper_out.now r.upper)
+          (T.auto.lower_out ∙ length-take-le h A.times_lower_out.now r.lower)
           ((rw lv at T.ensures) ∙ times_are A.head A.s.now A.inputs.now A.times.now v c.get_dimension-a.result
           (dimension_known c.get_dimension-a.ensures (search rules)).0 c.last_time-last.result
           c.last_time-last.ensures);

@@ -18,8 +18,8 @@ use Rattle.trcf_forecast.proofs.forecast.invert_in_place.Goals as goal
 pub overflow_sub-b : goal.overflow_sub-b
 overflow_sub-b c =
     let A = c.args in
-    let w = input_within A.head.transformer.input_length A.head.shingle_size c.pre.0.k_pos in
-    omega (arith, c.pre.1.0.1)
+    let w = input_within A.head.transformer.input_length A.head.shingle_size c.requires.bounded.k_pos in
+    omega (arith, c.requires.head_in_bounds.1)
 
 pub offset_bounds-inputs-b : goal.offset_bounds-inputs-b
 offset_bounds-inputs-b c = omega arith
@@ -39,17 +39,17 @@ invert_forecast_in_place-requires c = tt
 pub returns : goal.returns
 returns c =
     let A = c.args in
-    let P = c.pre in
+    let P = c.requires in
     let d = A.head.transformer.input_length in
-    let w = input_within d A.head.shingle_size P.0.k_pos in
-    let n : d ≤ length A.inputs.now = omega (arith, P.1.0.1) in
+    let w = input_within d A.head.shingle_size P.bounded.k_pos in
+    let n : d ≤ length A.inputs.now = omega (arith, P.head_in_bounds.1) in
     let v = ranges A.values.now A.upper.now A.lower.now in
     (passing _ c.invert_forecast_in_place.ensures
     (forecast_row_zero {t = A.head.transformer} (
-      record { some = P.0.d_pos; few = P.0.d_few; room = omega (arith, P.1.0.0) },
+      record { some = P.bounded.d_pos; few = P.bounded.d_few; room = omega (arith, P.head_in_bounds.0) },
       (
         newest_length A.inputs.now d n,
-        (P.1.1.0, ap (λ (k : ℕ). differences A.head.transformer.transform_method && unblocked k (length A.values.now)) (newest_length A.inputs.now d n) ∙ P.1.1.1),
+        (P.upper_len, ap (λ (k : ℕ). differences A.head.transformer.transform_method && unblocked k (length A.values.now)) (newest_length A.inputs.now d n) ∙ P.values_value),
       ),
     )))
     ∙ inverted_free A.head A.s.now _ v

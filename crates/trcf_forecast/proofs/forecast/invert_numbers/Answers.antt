@@ -18,46 +18,46 @@ get_dimension-a-requires c = tt
 
 pub copy_fronts-requires : goal.copy_fronts-requires
 copy_fronts-requires c =
-    let P = c.pre in
+    let P = c.requires in
     let e = (dimension_known c.get_dimension-a.ensures (search rules)).0 in
     let w = numbers_within (settings_of c.args.head) in
-    (rw e P.1.1.1.0.0, omega (arith, P.1.0.1, e, w), rw P.1.0.1 P.1.1.1.1.0)
+    (rw e P.head_in_bounds_2.0, omega (arith, P.head_in_bounds.1, e, w), rw P.head_in_bounds.1 P.values_out_len.0)
 
 pub copy_fronts-requires-2 : goal.copy_fronts-requires-2
 copy_fronts-requires-2 c =
-    let P = c.pre in
+    let P = c.requires in
     let e = (dimension_known c.get_dimension-a.ensures (search rules)).0 in
     let w = numbers_within (settings_of c.args.head) in
-    (rw e P.1.1.1.0.1, omega (arith, P.1.0.1, e, w), rw P.1.0.1 P.1.1.1.1.1)
+    (rw e P.head_in_bounds_2.1, omega (arith, P.head_in_bounds.1, e, w), rw P.head_in_bounds.1 P.values_out_len.1)
 
 pub copy_fronts-requires-3 : goal.copy_fronts-requires-3
 copy_fronts-requires-3 c =
-    let P = c.pre in
+    let P = c.requires in
     let e = (dimension_known c.get_dimension-a.ensures (search rules)).0 in
     let w = numbers_within (settings_of c.args.head) in
-    (rw e P.1.1.1.0.2, omega (arith, P.1.0.1, e, w), rw P.1.0.1 P.1.1.1.1.2)
+    (rw e P.head_in_bounds_2.2, omega (arith, P.head_in_bounds.1, e, w), rw P.head_in_bounds.1 P.values_out_len.2)
 
 pub invert_in_place-requires : goal.invert_in_place-requires
 invert_in_place-requires c =
     let A = c.args in
-    let P = c.pre in
-    let v = c.copy_fronts.kept.1.1.1.1.0 ∙ P.1.1.1.1.0 in
-    let u = c.copy_fronts-2.kept.1.1.1.1.0 ∙ P.1.1.1.1.1 in
-    let l = c.copy_fronts-3.kept.1.1.1.1.0 ∙ P.1.1.1.1.2 in record {
-      bounded = P.0;
-      head_in_bounds = P.1.0;
+    let P = c.requires in
+    let v = c.copy_fronts.auto.dst ∙ P.values_out_len.0 in
+    let u = c.copy_fronts-2.auto.dst ∙ P.values_out_len.1 in
+    let l = c.copy_fronts-3.auto.dst ∙ P.values_out_len.2 in record {
+      bounded = P.bounded;
+      head_in_bounds = P.head_in_bounds;
       upper_len = (u ∙ sym v, l ∙ sym v);
       values_value = and_false (differences A.head.transformer.transform_method) _
-          (ap (unblocked A.head.transformer.input_length) v ∙ blocks_whole A.h A.head.transformer.input_length A.head.shingle_size P.1.1.0 P.0.d_pos
-          P.0.k_pos);
+          (ap (unblocked A.head.transformer.input_length) v ∙ blocks_whole A.h A.head.transformer.input_length A.head.shingle_size P.h_nonzero P.bounded.d_pos
+          P.bounded.k_pos);
     }
 
 pub returns : goal.returns
 returns c =
     let A = c.args in
-    let P = c.pre in
+    let P = c.requires in
     let e = (dimension_known c.get_dimension-a.ensures (search rules)).0 in
-    let f = P.1.0.1 in
+    let f = P.head_in_bounds.1 in
     c.invert_in_place.ensures
     ∙ (λ j. inverted_forecast (transformer (settings_of A.head) 0 A.s.now) (last_n A.head.transformer.input_length A.inputs.now)
     (ranges ((c.copy_fronts.ensures ∙ (λ i. fronts (e i) (f i) A.h A.values.now)) j)

@@ -13,8 +13,8 @@ use Rattle.trcf_forecast.proofs.forecast.invert_times.Goals as goal
 
 pub overflow_mul-m : goal.overflow_mul-m
 overflow_mul-m c =
-    let p : c.args.head.transformer.input_length ≤ 16 = c.pre.0.d_few in
-    let q : c.args.head.shingle_size ≤ 64 = c.pre.0.k_few in
+    let p : c.args.head.transformer.input_length ≤ 16 = c.requires.bounded.d_few in
+    let q : c.args.head.shingle_size ≤ 64 = c.requires.bounded.k_few in
     omega (arith, mul-le-mul p q)
 
 pub get_dimension-a-requires : goal.get_dimension-a-requires
@@ -35,10 +35,10 @@ timedrift_of-drift-requires c = tt
 pub write_times-requires : goal.write_times-requires
 write_times-requires c =
     let A = c.args in
-    let P = c.pre in
+    let P = c.requires in
     let e = (dimension_known c.get_dimension-a.ensures (search rules)).0 in
-    let f = dimension_augmented (settings_of A.head) P.1.1.0 in
-    record { m_lt_a = omega (arith, e, f, P.0.k_pos); upper_out_len = P.1.1.1.1.0; a_in_bounds = (rw e P.1.1.1.1.1.0, rw e P.1.1.1.1.1.1, rw e P.1.1.1.1.1.2) }
+    let f = dimension_augmented (settings_of A.head) P.forest_mode_value in
+    record { m_lt_a = omega (arith, e, f, P.bounded.k_pos); upper_out_len = P.upper_out_len; a_in_bounds = (rw e P.head_in_bounds_2.0, rw e P.head_in_bounds_2.1, rw e P.head_in_bounds_2.2) }
 
 pub returns : goal.returns
 returns c =
@@ -49,13 +49,13 @@ returns c =
     let at-timedrift-of = c.timedrift_of-drift in
     let at-u64-to-f64 = c.u64_to_f64 in
     let A = c.args in
-    let P = c.pre in
+    let P = c.requires in
     let W = c.write_times in
-    let n = length A.«values-out».now in
+    let n = length A.values_out.now in
     times_done (settings_of A.head) A.s.now (ranges A.values.now A.upper.now A.lower.now)
-    (ranges W.last.1.1.1.1.1.1.1.1.1.0 W.last.1.1.1.1.1.1.1.1.1.1.0 W.last.1.1.1.1.1.1.1.1.1.1.1.0) _ at-is-gap.result at-time-factor.result
+    (ranges W.new.values_out W.new.upper_out W.new.lower_out) _ at-is-gap.result at-time-factor.result
     at-timescale-of.result at-timedrift-of.result at-u64-to-f64.result A.last at-get-dimension.result _ n _ at-is-gap.ensures at-time-factor.ensures
-    ((opened _ at-timescale-of.ensures (time_fits_lem P.0 P.1.0))) ((opened _ at-timedrift-of.ensures (time_fits_lem P.0 P.1.0)))
-    (dimension_known at-get-dimension.ensures (search rules)).0 at-u64-to-f64.ensures W.ensures P.1.1.1.0 W.kept.1.1.1.1.1.1.1.1.1.0
-    (W.kept.1.1.1.1.1.1.1.1.1.1.0 ∙ P.1.1.1.1.0.0) (W.kept.1.1.1.1.1.1.1.1.1.1.1.0 ∙ P.1.1.1.1.0.1)
+    ((opened _ at-timescale-of.ensures (time_fits_lem P.bounded P.head_in_bounds))) ((opened _ at-timedrift-of.ensures (time_fits_lem P.bounded P.head_in_bounds)))
+    (dimension_known at-get-dimension.ensures (search rules)).0 at-u64-to-f64.ensures W.ensures P.nonzero W.auto.values_out
+    (W.auto.upper_out ∙ P.upper_out_len.0) (W.auto.lower_out ∙ P.upper_out_len.1)
     c.cascaded_add_f64.ensures
