@@ -1,5 +1,5 @@
-// A field reader holds the lent text and a position (document 01, 'Forms to follow'). The borrow checker covers no function over such a struct,
-// so each is thin and proved by hand: `next` takes it apart and leaves the work to `field_at`, which takes the text and the place and is covered.
+// A field reader holds the lent text and a position (document 01, 'Forms to follow'). Its functions are thin: `next` takes it apart and leaves the
+// work to `field_at`, which takes the text and the place.
 ghost use Rattle.std.specs.Prelude.{◌≡◌};
 ghost use Rattle.snapshot.specs.Steps.Judge.{next_of};
 
