@@ -10,11 +10,18 @@ use std::fs;
 use std::io::Read;
 use std::rt::Files;
 
+// Zeros of any number: the check does not look into half a million at once.
+fn zeros<const N: usize>() -> [u8; N]
+    ensures { N ≡ length result }
+{
+    [0; N]
+}
+
 // Room for a file.
 fn room() -> [u8; 524288]
     ensures { 524288 ≡ length result }
 {
-    [0; 524288]
+    zeros::<524288>()
 }
 
 // Whether two lists hold the same bytes.

@@ -8,113 +8,73 @@ use Rattle.bench_blocks.proofs.block.block.Goals as goal
 
 pub returns-then-not-ends : goal.returns-then-not-ends
 returns-then-not-ends c =
-    let k1 : tie.After-initial-values = c in
-    let k2 : tie.After-statistics = k1.before.before.before.before.before.before.before.before in
-    let k3 : tie.After-cells-arg2 = k2.before.before.before.before.before.before.before.before in
-    let k4 : tie.After-slice-known3 = k3.before.before.before.before.before.before.before.before in
-    let a = k4.before.before.before.args in
-    let s = k2.before.cells in record {
+    let a = c.args in
+    let s = c.cells-r in record {
       full_after = block_open a.b (lent a.statistics.now a.last_shingled_input.now a.last_shingled_point.now a.previous_timestamps.now a.initial_values.now
           a.initial_timestamps.now) a.point.now a.text.now a.out.now a.ends (block_printed s.result.bench
-          (lent s.new.1.0 s.new.1.1.0 s.new.1.1.1.0 s.new.1.1.1.1.0 s.new.1.1.1.1.1.0 s.new.1.1.1.1.1.1.0)
-          s.new.1.1.1.1.1.1.1.0 s.result.read (output s.result.written s.new.1.1.1.1.1.1.1.1.1.0) s.result.full) s.ensures c.if-not-ends.true-raw;
+          (lent s.new.statistics s.new.last_shingled_input s.new.last_shingled_point s.new.previous_timestamps s.new.initial_values s.new.initial_timestamps)
+          s.new.point s.result.read (output s.result.written s.new.out) s.result.full) s.ensures c.if-not-ends.true-raw;
       read_in_bounds = s.ensures.read;
       written_in_bounds = omega (arith, s.auto, s.ensures.fits);
     }
 
 pub returns-then-r : goal.returns-then-r
 returns-then-r c =
-    let k1 : tie.After-slice-known13 = c in
-    let k2 : tie.After-slice-known9 = k1.before.before.before.before.before.before.before.before in
-    let k3 : tie.After-cells-arg3 = k2.before.before.before.before.before.before.before.before in
-    let k4 : tie.After-slice-known4 = k3.before.before.before.before.before.before.before.before in
-    let a = k4.before.before.before.before.args in
-    let s = k2.before.before.cells in record {
+    let a = c.args in
+    let s = c.cells-r in record {
       full_after = block_full a.b (lent a.statistics.now a.last_shingled_input.now a.last_shingled_point.now a.previous_timestamps.now a.initial_values.now
           a.initial_timestamps.now) a.point.now a.text.now a.out.now a.ends (block_printed s.result.bench
-          (lent s.new.1.0 s.new.1.1.0 s.new.1.1.1.0 s.new.1.1.1.1.0 s.new.1.1.1.1.1.0 s.new.1.1.1.1.1.1.0)
-          s.new.1.1.1.1.1.1.1.0 s.result.read (output s.result.written s.new.1.1.1.1.1.1.1.1.1.0) s.result.full) s.ensures c.if-not-ends.false-raw c.if-r.true;
+          (lent s.new.statistics s.new.last_shingled_input s.new.last_shingled_point s.new.previous_timestamps s.new.initial_values s.new.initial_timestamps)
+          s.new.point s.result.read (output s.result.written s.new.out) s.result.full) s.ensures c.if-not-ends.false-raw c.if-r.true;
       read_in_bounds = s.ensures.read;
       written_in_bounds = omega (arith, s.auto, s.ensures.fits);
     }
 
 pub end_at-s-requires : goal.end_at-s-requires
 end_at-s-requires c =
-    let k1 : tie.After-slice-known14 = c in
-    let k2 : tie.After-slice-known10 = k1.before.before.before.before.before.before.before.before in
-    let k3 : tie.After-cells-arg5 = k2.before.before.before.before.before.before.before.before in
-    let k4 : tie.After-slice-known6 = k3.before.before.before.before.before.before.before.before in
-    let a = k4.before.before.before.before.before.before.args in
-    let s = k2.before.before.before.before.cells in
+    let a = c.args in
+    let s = c.cells-r in
     record { next_in_bounds = s.ensures.read; at_in_bounds = omega (arith, s.auto, s.ensures.room c.if-r.false) }
 
 pub overflow_add-result : goal.overflow_add-result
 overflow_add-result c =
-    let k1 : tie.Else1 = c in
-    let k2 : tie.After-initial-values = k1.before.before.before.before.before.before.before.before in
-    let k3 : tie.After-statistics = k2.before.before.before.before.before.before.before.before in
-    let k4 : tie.After-cells-arg2 = k3.before.before.before.before.before.before.before.before in
-    let k5 : tie.After-slice-known3 = k4.before.before.before.before.before.before.before.before in
-    let a = k5.before.before.before.args in
-    let s = k3.before.cells in
-    omega (arith, s.ensures.room c.if-r.false, c.end_at-s.ensures.fits, k5.before.before.before.well-formed)
+    let a = c.args in
+    let s = c.cells-r in
+    omega (arith, s.ensures.room c.if-r.false, c.end_at-s.ensures.fits, c.well_formed)
 
 pub shape_of-statistics : goal.shape_of-statistics
 shape_of-statistics c =
-    let k1 : tie.Else1 = c in
-    let k2 : tie.After-initial-values = k1.before.before.before.before.before.before.before.before in
-    let k3 : tie.After-statistics = k2.before.before.before.before.before.before.before.before in
-    omega (arith, k3.before.cells.auto)
+    omega (arith, c.cells-r.auto)
 
 pub shape_of-last_shingled_input : goal.shape_of-last_shingled_input
 shape_of-last_shingled_input c =
-    let k1 : tie.Else1 = c in
-    let k2 : tie.After-initial-values = k1.before.before.before.before.before.before.before.before in
-    let k3 : tie.After-statistics = k2.before.before.before.before.before.before.before.before in
-    omega (arith, k3.before.cells.auto)
+    omega (arith, c.cells-r.auto)
 
 pub shape_of-last_shingled_point : goal.shape_of-last_shingled_point
 shape_of-last_shingled_point c =
-    let k1 : tie.Else1 = c in
-    let k2 : tie.After-initial-values = k1.before.before.before.before.before.before.before.before in
-    let k3 : tie.After-statistics = k2.before.before.before.before.before.before.before.before in
-    omega (arith, k3.before.cells.auto)
+    omega (arith, c.cells-r.auto)
 
 pub shape_of-previous_timestamps : goal.shape_of-previous_timestamps
 shape_of-previous_timestamps c =
-    let k1 : tie.Else1 = c in
-    let k2 : tie.After-initial-values = k1.before.before.before.before.before.before.before.before in
-    let k3 : tie.After-statistics = k2.before.before.before.before.before.before.before.before in
-    omega (arith, k3.before.cells.auto)
+    omega (arith, c.cells-r.auto)
 
 pub shape_of-initial_values : goal.shape_of-initial_values
 shape_of-initial_values c =
-    let k1 : tie.Else1 = c in
-    let k2 : tie.After-initial-values = k1.before.before.before.before.before.before.before.before in
-    let k3 : tie.After-statistics = k2.before.before.before.before.before.before.before.before in
-    omega (arith, k3.before.cells.auto)
+    omega (arith, c.cells-r.auto)
 
 pub shape_of-initial_timestamps : goal.shape_of-initial_timestamps
 shape_of-initial_timestamps c =
-    let k1 : tie.Else1 = c in
-    let k2 : tie.After-initial-values = k1.before.before.before.before.before.before.before.before in
-    let k3 : tie.After-statistics = k2.before.before.before.before.before.before.before.before in
-    omega (arith, k3.before.cells.auto)
+    omega (arith, c.cells-r.auto)
 
 pub returns : goal.returns
 returns c =
-    let k1 : tie.Else1 = c in
-    let k2 : tie.After-initial-values = k1.before.before.before.before.before.before.before.before in
-    let k3 : tie.After-statistics = k2.before.before.before.before.before.before.before.before in
-    let k4 : tie.After-cells-arg2 = k3.before.before.before.before.before.before.before.before in
-    let k5 : tie.After-slice-known3 = k4.before.before.before.before.before.before.before.before in
-    let a = k5.before.before.before.args in
-    let s = k3.before.cells in
+    let a = c.args in
+    let s = c.cells-r in
     let t = c.end_at-s in record {
       full_after = block_closed a.b (lent a.statistics.now a.last_shingled_input.now a.last_shingled_point.now a.previous_timestamps.now a.initial_values.now
           a.initial_timestamps.now) a.point.now a.text.now a.out.now a.ends (block_printed s.result.bench
-          (lent s.new.1.0 s.new.1.1.0 s.new.1.1.1.0 s.new.1.1.1.1.0 s.new.1.1.1.1.1.0 s.new.1.1.1.1.1.1.0)
-          s.new.1.1.1.1.1.1.1.0 s.result.read (output s.result.written s.new.1.1.1.1.1.1.1.1.1.0) s.result.full) s.ensures c.if-not-ends.false-raw c.if-r.false t.result.bench t.new.out t.result.length t.ensures;
+          (lent s.new.statistics s.new.last_shingled_input s.new.last_shingled_point s.new.previous_timestamps s.new.initial_values s.new.initial_timestamps)
+          s.new.point s.result.read (output s.result.written s.new.out) s.result.full) s.ensures c.if-not-ends.false-raw c.if-r.false t.result.bench t.new.out t.result.length t.ensures;
       read_in_bounds = omega arith;
       written_in_bounds = omega
           (arith, s.auto, t.auto, t.ensures.fits, s.ensures.room c.if-r.false);

@@ -9,8 +9,7 @@ use Rattle.bench_blocks.proofs.block.cells.Goals as goal
 
 pub loop-out-init : goal.loop-out-init
 loop-out-init c =
-    let k1 : tie.After-slice-known invariant-loop decreases-loop = c in
-    let a = k1.before.args in (
+    let a = c.args in (
       (refl, refl, refl, refl, refl, refl, refl, refl),
       stands_first a.b
           (lent a.statistics.now a.last_shingled_input.now a.last_shingled_point.now a.previous_timestamps.now a.initial_values.now a.initial_timestamps.now)
@@ -22,135 +21,87 @@ overflow_sub-out c = omega (arith, c.loop-out.invariant.1.fits)
 
 pub cell_at-s-requires : goal.cell_at-s-requires
 cell_at-s-requires c =
-    let k1 : tie.In-loop invariant-loop decreases-loop = c in
-    record { next_in_bounds = k1.before.loop.invariant.1.read; at_in_bounds = omega (arith, k1.before.loop.invariant.1.fits, c.loop-out-test.true) }
+    record { next_in_bounds = c.loop-out.invariant.1.read; at_in_bounds = omega (arith, c.loop-out.invariant.1.fits, c.loop-out-test.true) }
 
 pub shape_of-statistics-then-s-eq0 : goal.shape_of-statistics-then-s-eq0
 shape_of-statistics-then-s-eq0 c =
-    let k1 : tie.After-initial-timestamps invariant-loop decreases-loop = c in
-    let k2 : tie.After-last-shingled-input invariant-loop decreases-loop = k1.before.before.before.before.before.before.before.before in
-    let k3 : tie.After-cell-at-arg4 invariant-loop decreases-loop = k2.before.before.before.before.before.before.before.before in
-    omega (arith, k2.before.before.before.Cell-at.auto, k3.before.before.before.before.before.loop.invariant.0)
+    omega (arith, c.cell_at-s.auto, c.loop-out.invariant.0)
 
 pub shape_of-last_shingled_input-then-s-eq0 : goal.shape_of-last_shingled_input-then-s-eq0
 shape_of-last_shingled_input-then-s-eq0 c =
-    let k1 : tie.After-initial-timestamps invariant-loop decreases-loop = c in
-    let k2 : tie.After-last-shingled-input invariant-loop decreases-loop = k1.before.before.before.before.before.before.before.before in
-    let k3 : tie.After-cell-at-arg4 invariant-loop decreases-loop = k2.before.before.before.before.before.before.before.before in
-    omega (arith, k2.before.before.before.Cell-at.auto, k3.before.before.before.before.before.loop.invariant.0)
+    omega (arith, c.cell_at-s.auto, c.loop-out.invariant.0)
 
 pub shape_of-last_shingled_point-then-s-eq0 : goal.shape_of-last_shingled_point-then-s-eq0
 shape_of-last_shingled_point-then-s-eq0 c =
-    let k1 : tie.After-initial-timestamps invariant-loop decreases-loop = c in
-    let k2 : tie.After-last-shingled-input invariant-loop decreases-loop = k1.before.before.before.before.before.before.before.before in
-    let k3 : tie.After-cell-at-arg4 invariant-loop decreases-loop = k2.before.before.before.before.before.before.before.before in
-    omega (arith, k2.before.before.before.Cell-at.auto, k3.before.before.before.before.before.loop.invariant.0)
+    omega (arith, c.cell_at-s.auto, c.loop-out.invariant.0)
 
 pub shape_of-previous_timestamps-then-s-eq0 : goal.shape_of-previous_timestamps-then-s-eq0
 shape_of-previous_timestamps-then-s-eq0 c =
-    let k1 : tie.After-initial-timestamps invariant-loop decreases-loop = c in
-    let k2 : tie.After-last-shingled-input invariant-loop decreases-loop = k1.before.before.before.before.before.before.before.before in
-    let k3 : tie.After-cell-at-arg4 invariant-loop decreases-loop = k2.before.before.before.before.before.before.before.before in
-    omega (arith, k2.before.before.before.Cell-at.auto, k3.before.before.before.before.before.loop.invariant.0)
+    omega (arith, c.cell_at-s.auto, c.loop-out.invariant.0)
 
 pub shape_of-initial_values-then-s-eq0 : goal.shape_of-initial_values-then-s-eq0
 shape_of-initial_values-then-s-eq0 c =
-    let k1 : tie.After-initial-timestamps invariant-loop decreases-loop = c in
-    let k2 : tie.After-last-shingled-input invariant-loop decreases-loop = k1.before.before.before.before.before.before.before.before in
-    let k3 : tie.After-cell-at-arg4 invariant-loop decreases-loop = k2.before.before.before.before.before.before.before.before in
-    omega (arith, k2.before.before.before.Cell-at.auto, k3.before.before.before.before.before.loop.invariant.0)
+    omega (arith, c.cell_at-s.auto, c.loop-out.invariant.0)
 
 pub shape_of-initial_timestamps-then-s-eq0 : goal.shape_of-initial_timestamps-then-s-eq0
 shape_of-initial_timestamps-then-s-eq0 c =
-    let k1 : tie.After-initial-timestamps invariant-loop decreases-loop = c in
-    let k2 : tie.After-last-shingled-input invariant-loop decreases-loop = k1.before.before.before.before.before.before.before.before in
-    let k3 : tie.After-cell-at-arg4 invariant-loop decreases-loop = k2.before.before.before.before.before.before.before.before in
-    omega (arith, k2.before.before.before.Cell-at.auto, k3.before.before.before.before.before.loop.invariant.0)
+    omega (arith, c.cell_at-s.auto, c.loop-out.invariant.0)
 
 pub shape_of-point-then-s-eq0 : goal.shape_of-point-then-s-eq0
 shape_of-point-then-s-eq0 c =
-    let k1 : tie.After-initial-timestamps invariant-loop decreases-loop = c in
-    let k2 : tie.After-last-shingled-input invariant-loop decreases-loop = k1.before.before.before.before.before.before.before.before in
-    let k3 : tie.After-cell-at-arg4 invariant-loop decreases-loop = k2.before.before.before.before.before.before.before.before in
-    omega (arith, k2.before.before.before.Cell-at.auto, k3.before.before.before.before.before.loop.invariant.0)
+    omega (arith, c.cell_at-s.auto, c.loop-out.invariant.0)
 
 pub shape_of-out-then-s-eq0 : goal.shape_of-out-then-s-eq0
 shape_of-out-then-s-eq0 c =
-    let k1 : tie.After-initial-timestamps invariant-loop decreases-loop = c in
-    let k2 : tie.After-last-shingled-input invariant-loop decreases-loop = k1.before.before.before.before.before.before.before.before in
-    let k3 : tie.After-cell-at-arg4 invariant-loop decreases-loop = k2.before.before.before.before.before.before.before.before in
-    omega (arith, k2.before.before.before.Cell-at.auto, k3.before.before.before.before.before.loop.invariant.0)
+    omega (arith, c.cell_at-s.auto, c.loop-out.invariant.0)
 
 pub returns-then-s-eq0 : goal.returns-then-s-eq0
 returns-then-s-eq0 c =
-    let k1 : tie.After-initial-timestamps invariant-loop decreases-loop = c in
-    let k2 : tie.After-last-shingled-input invariant-loop decreases-loop = k1.before.before.before.before.before.before.before.before in
-    let k3 : tie.After-cell-at-arg4 invariant-loop decreases-loop = k2.before.before.before.before.before.before.before.before in
-    let k4 : tie.After-slice-known7 invariant-loop decreases-loop = k3.before.before.before.before.before.before.before.before in
-    let a = k4.before.before.before.before.before.before.before.args in
-    let l = k3.before.before.before.before.before.loop in
-    let s = k2.before.before.before.Cell-at in
+    let a = c.args in
+    let l = c.loop-out in
+    let s = c.cell_at-s in
     stands_idle a.b
     (lent a.statistics.now a.last_shingled_input.now a.last_shingled_point.now a.previous_timestamps.now a.initial_values.now a.initial_timestamps.now)
     a.point.now a.text.now a.out.now l.bench
     (lent l.statistics l.last_shingled_input l.last_shingled_point l.previous_timestamps l.initial_values l.initial_timestamps) l.point l.out l.next
-    l.at l.invariant.1 k3.before.before.before.before.loop-test.true s.result.bench
-    (lent s.new.1.0 s.new.1.1.0 s.new.1.1.1.0 s.new.1.1.1.1.0 s.new.1.1.1.1.1.0 s.new.1.1.1.1.1.1.0)
-    s.new.1.1.1.1.1.1.1.0 s.new.1.1.1.1.1.1.1.1.1.1.0 s.result.next s.result.length s.ensures (omega (arith, s.auto)) c.if-s-eq0.true
+    l.at l.invariant.1 c.loop-out-test.true s.result.bench
+    (lent s.new.statistics s.new.last_shingled_input s.new.last_shingled_point s.new.previous_timestamps s.new.initial_values s.new.initial_timestamps)
+    s.new.point s.new.out s.result.next s.result.length s.ensures (omega (arith, s.auto)) c.if-s-eq0.true
 
 pub overflow_add-next : goal.overflow_add-next
 overflow_add-next c =
-    let k1 : tie.After-slice-known14 invariant-loop decreases-loop = c in
-    let k2 : tie.After-slice-known10 invariant-loop decreases-loop = k1.before.before.before.before.before.before.before.before in
-    let k3 : tie.After-cell-at-arg5 invariant-loop decreases-loop = k2.before.before.before.before.before.before.before.before in
-    let k4 : tie.After-shared-slice-known invariant-loop decreases-loop = k3.before.before.before.before.before.before.before.before in
-    let a = k4.before.before.before.before.before.before.before.before.args in
-    let l = k3.before.before.before.before.before.before.loop in
-    let s = k2.before.before.before.before.Cell-at in
-    omega (arith, l.invariant.1.read, s.ensures.within, length-drop l.next a.text.now, k4.before.before.before.before.before.before.before.before.well-formed)
+    let a = c.args in
+    let l = c.loop-out in
+    let s = c.cell_at-s in
+    omega (arith, l.invariant.1.read, s.ensures.within, length-drop l.next a.text.now, c.well_formed)
 
 pub overflow_add-at : goal.overflow_add-at
 overflow_add-at c =
-    let k1 : tie.After-point invariant-loop decreases-loop = c in
-    let k2 : tie.After-last-shingled-point invariant-loop decreases-loop = k1.before.before.before.before.before.before.before.before in
-    let k3 : tie.After-cell-at-arg6 invariant-loop decreases-loop = k2.before.before.before.before.before.before.before.before in
-    let k4 : tie.After-slice-known8 invariant-loop decreases-loop = k3.before.before.before.before.before.before.before.before in
-    let k5 : tie.After-slice-known invariant-loop decreases-loop = k4.before.before.before.before.before.before.before.before in
-    let a = k5.before.args in
-    let l = k3.before.before.before.before.before.before.before.loop in
-    let s = k2.before.before.before.before.before.Cell-at in
-    omega (arith, l.invariant.1.fits, s.ensures.fits, k3.before.before.before.before.before.before.loop-test.true, l.invariant.0, k5.before.well-formed)
+    let a = c.args in
+    let l = c.loop-out in
+    let s = c.cell_at-s in
+    omega (arith, l.invariant.1.fits, s.ensures.fits, c.loop-out-test.true, l.invariant.0, c.well_formed)
 
 pub loop-out-smaller : goal.loop-out-smaller
 loop-out-smaller c =
-    let k1 : tie.After-point invariant-loop decreases-loop = c in
-    let k2 : tie.After-last-shingled-point invariant-loop decreases-loop = k1.before.before.before.before.before.before.before.before in
-    let k3 : tie.After-cell-at-arg6 invariant-loop decreases-loop = k2.before.before.before.before.before.before.before.before in
-    let k4 : tie.After-slice-known8 invariant-loop decreases-loop = k3.before.before.before.before.before.before.before.before in
-    let k5 : tie.After-slice-known invariant-loop decreases-loop = k4.before.before.before.before.before.before.before.before in
-    let a = k5.before.args in
-    let l = k3.before.before.before.before.before.before.before.loop in
-    let s = k2.before.before.before.before.before.Cell-at in
+    let a = c.args in
+    let l = c.loop-out in
+    let s = c.cell_at-s in
     omega (arith, l.invariant.1.read, s.ensures.within, length-drop l.next a.text.now, c.if-s-eq0.false)
 
 pub loop-out-preserved : goal.loop-out-preserved
 loop-out-preserved c =
-    let k1 : tie.After-point invariant-loop decreases-loop = c in
-    let k2 : tie.After-last-shingled-point invariant-loop decreases-loop = k1.before.before.before.before.before.before.before.before in
-    let k3 : tie.After-cell-at-arg6 invariant-loop decreases-loop = k2.before.before.before.before.before.before.before.before in
-    let k4 : tie.After-slice-known8 invariant-loop decreases-loop = k3.before.before.before.before.before.before.before.before in
-    let k5 : tie.After-slice-known invariant-loop decreases-loop = k4.before.before.before.before.before.before.before.before in
-    let a = k5.before.args in
-    let l = k3.before.before.before.before.before.before.before.loop in
-    let s = k2.before.before.before.before.before.Cell-at in (
+    let a = c.args in
+    let l = c.loop-out in
+    let s = c.cell_at-s in (
       omega (arith, s.auto, l.invariant.0),
       stands_next a.b
           (lent a.statistics.now a.last_shingled_input.now a.last_shingled_point.now a.previous_timestamps.now a.initial_values.now a.initial_timestamps.now)
           a.point.now a.text.now a.out.now l.bench
           (lent l.statistics l.last_shingled_input l.last_shingled_point l.previous_timestamps l.initial_values l.initial_timestamps) l.point l.out l.next
-          l.at l.invariant.1 k3.before.before.before.before.before.before.loop-test.true s.result.bench
-          (lent s.new.1.0 s.new.1.1.0 s.new.1.1.1.0 s.new.1.1.1.1.0 s.new.1.1.1.1.1.0 s.new.1.1.1.1.1.1.0)
-          s.new.1.1.1.1.1.1.1.0 s.new.1.1.1.1.1.1.1.1.1.1.0 s.result.next s.result.length s.ensures (omega (arith, s.auto))
+          l.at l.invariant.1 c.loop-out-test.true s.result.bench
+          (lent s.new.statistics s.new.last_shingled_input s.new.last_shingled_point s.new.previous_timestamps s.new.initial_values s.new.initial_timestamps)
+          s.new.point s.new.out s.result.next s.result.length s.ensures (omega (arith, s.auto))
           c.if-s-eq0.false,
     )
 
@@ -180,8 +131,7 @@ shape_of-out c = omega (arith, c.loop-out.invariant.0)
 
 pub returns : goal.returns
 returns c =
-    let k1 : tie.After-slice-known3 invariant-loop decreases-loop = c in
-    let a = k1.before.before.before.args in
+    let a = c.args in
     let l = c.loop-out in
     stands_full a.b
     (lent a.statistics.now a.last_shingled_input.now a.last_shingled_point.now a.previous_timestamps.now a.initial_values.now a.initial_timestamps.now)

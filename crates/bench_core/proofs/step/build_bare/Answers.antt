@@ -18,13 +18,12 @@ slice_bounds-head_row-end c = sym (length-take-le c.code_count-n.result (replica
 
 pub returns-then-row-ne0 : goal.returns-then-row-ne0
 returns-then-row-ne0 c =
-    let s : tie.After-code-count = c in
-    let a = s.before.before.before.before.before.before.before.before.args in
-    let n = s.code-count in
+    let a = c.args in
+    let n = c.code_count-n in
     let h = c.head_row-row in
     let l = lent a.statistics.now a.last_shingled_input.now a.last_shingled_point.now a.previous_timestamps.now a.initial_values.now a.initial_timestamps.now in
     bare_refused a.builder a.weights.now l h.result (take n.result (replicate {A = ℕ} 16 0))
-    (zeros a.builder.input_dimensions n.result n.ensures.0 n.ensures.1) h.ensures c.no_head.result c.no_head.ensures c.if-row-ne0.true
+    (zeros a.builder.input_dimensions n.result n.ensures.value n.ensures.upper_bound) h.ensures c.no_head.result c.no_head.ensures c.if-row-ne0.true
 
 pub slice_bounds-zeros-end-2 : goal.slice_bounds-zeros-end-2
 slice_bounds-zeros-end-2 c = omega (arith, c.code_count-n.ensures.upper_bound)
@@ -36,13 +35,9 @@ slice_bounds-build-end c =
 
 pub returns : goal.returns
 returns c =
-    let r : tie.After-build = c in
-    let t : tie.After-zeros2 = r.before.before.before.before.before in
-    let s : tie.After-code-count = t.before.before.before.before in
-    let a = s.before.before.before.before.before.before.before.before.args in
-    let n = s.code-count in
-    let h = t.before.before.head-row in
-    let b = r.build in
+    let a = c.args in
+    let n = c.code_count-n in
+    let h = c.head_row-row in
     let l = lent a.statistics.now a.last_shingled_input.now a.last_shingled_point.now a.previous_timestamps.now a.initial_values.now a.initial_timestamps.now in
     bare_built a.builder a.weights.now l h.result (take n.result (replicate {A = ℕ} 16 0))
-    (zeros a.builder.input_dimensions n.result n.ensures.0 n.ensures.1) h.ensures _ t.before.if1.false b.ensures
+    (zeros a.builder.input_dimensions n.result n.ensures.value n.ensures.upper_bound) h.ensures _ c.if-row-ne0.false c.build.ensures

@@ -4,14 +4,14 @@ use mathlib.Core.Path.{◌≡◌, sym}
 use lib.ListN.{length}
 use lib.Seq.{length-take-le}
 use Rattle.trcf.specs.View.{lent}
-use Rattle.bench_core.proofs.StepLaws.{kept_of_lem, point_read, learn_read, seventeen}
+use Rattle.bench_core.proofs.StepLaws.{kept_of_lem, point_read, learn_read}
 use Rattle.bench_core.proofs.step.read_reading.Goals as goal
 
 pub slice_bounds-singles-end : goal.slice_bounds-singles-end
 slice_bounds-singles-end c =
     let s = c in
     let w = c.args.l.singles in
-    let z : length w ≡ 17 = seventeen w c.well_formed.1.0.1.1.1.1.1.1.1.0.1.0.1 in
+    let z : length w ≡ 17 = c.well_formed.1.0.1.1.1.1.1.1.1.0.1.0.1 in
     omega (arith, z, c.kept-n.ensures.upper_bound)
 
 pub slice_bounds-call_point-end : goal.slice_bounds-call_point-end
@@ -19,7 +19,7 @@ slice_bounds-call_point-end c =
     let at-kept = c.kept-n in
     let s = c in
     let w = c.args.l.singles in
-    let z : length w ≡ 17 = seventeen w c.well_formed.1.0.1.1.1.1.1.1.1.0.1.0.1 in
+    let z : length w ≡ 17 = c.well_formed.1.0.1.1.1.1.1.1.1.0.1.0.1 in
     sym (length-take-le at-kept.result w (omega (arith, z, at-kept.ensures.upper_bound)))
 
 pub returns-then-asks : goal.returns-then-asks
@@ -35,7 +35,7 @@ pub slice_bounds-singles-end-2 : goal.slice_bounds-singles-end-2
 slice_bounds-singles-end-2 c =
     let s = c in
     let w = c.args.l.singles in
-    let z : length w ≡ 17 = seventeen w c.well_formed.1.0.1.1.1.1.1.1.1.0.1.0.1 in
+    let z : length w ≡ 17 = c.well_formed.1.0.1.1.1.1.1.1.1.0.1.0.1 in
     omega (arith, z, c.kept-n.ensures.upper_bound)
 
 pub slice_bounds-call_learn-end : goal.slice_bounds-call_learn-end
@@ -43,7 +43,7 @@ slice_bounds-call_learn-end c =
     let at-kept = c.kept-n in
     let s = c in
     let w = c.args.l.singles in
-    let z : length w ≡ 17 = seventeen w c.well_formed.1.0.1.1.1.1.1.1.1.0.1.0.1 in
+    let z : length w ≡ 17 = c.well_formed.1.0.1.1.1.1.1.1.1.0.1.0.1 in
     sym (length-take-le at-kept.result w (omega (arith, z, at-kept.ensures.upper_bound)))
 
 pub returns : goal.returns

@@ -1,5 +1,4 @@
 -- `bench_core::step::read_weights` meets its contract. Assumes nothing.
-use Rattle.bench_core.proofs.StepLaws.{seventeen}
 use lib.Seq.{length-take-le}
 use lib.ListN.{length}
 use Rattle.bench_core.proofs.StepLaws.{kept_of_lem, weights_refused, weights_built}
@@ -11,14 +10,14 @@ use Rattle.bench_core.proofs.step.read_weights.Goals as goal
 pub slice_bounds-singles-end : goal.slice_bounds-singles-end
 slice_bounds-singles-end c =
     let w = c.args.l.singles in
-    let z : length w ≡ 17 = seventeen w c.well_formed.1.0.1.1.1.1.1.1.1.0.1.0.1 in
+    let z : length w ≡ 17 = c.well_formed.1.0.1.1.1.1.1.1.1.0.1.0.1 in
     omega (arith, z, c.kept-n.ensures.upper_bound)
 
 pub slice_bounds-build_bare-end : goal.slice_bounds-build_bare-end
 slice_bounds-build_bare-end c =
     let at-kept = c.kept-n in
     let w = c.args.l.singles in
-    let z : length w ≡ 17 = seventeen w c.well_formed.1.0.1.1.1.1.1.1.1.0.1.0.1 in
+    let z : length w ≡ 17 = c.well_formed.1.0.1.1.1.1.1.1.1.0.1.0.1 in
     sym (length-take-le at-kept.result w (omega (arith, z, at-kept.ensures.upper_bound)))
 
 pub ended-requires : goal.ended-requires

@@ -21,8 +21,8 @@ returns-then-not-a c =
     let a = c.args in
     let t = a.text.now in
     let u : List ℕ = drop a.at t in
-    let s = c.line_at_lem in
-    let opened : (line_of u).ended ≡ false = sym (ap (λ (x : Scanned). x.ended) s.ensures.0) ∙ not-true s.result.ended c.if-not-a.true in
+    let s = c.line_at-a in
+    let opened : (line_of u).ended ≡ false = sym (ap (λ (x : Scanned). x.ended) s.ensures.text_value) ∙ not-true s.result.ended c.if-not-a.true in
     record { text_value = refused_in c.refused_by.result 19 c.refused_by.ensures.row_value (λ z. absurd (omega arith)) t ∙ set_open u opened; next_in_bounds = omega (arith, c.refused_by.ensures.next_value) }
 
 pub returns-then-not-is_named : goal.returns-then-not-is_named
@@ -30,29 +30,29 @@ returns-then-not-is_named c =
     let a = c.args in
     let t = a.text.now in
     let u : List ℕ = drop a.at t in
-    let s = c.line_at_lem in
-    let ends : (line_of u).ended ≡ true = sym (ap (λ (x : Scanned). x.ended) s.ensures.0) ∙ not-false s.result.ended c.if-not-a.false in
+    let s = c.line_at-a in
+    let ends : (line_of u).ended ≡ true = sym (ap (λ (x : Scanned). x.ended) s.ensures.text_value) ∙ not-false s.result.ended c.if-not-a.false in
     let n = c.request in
-    let asks : n.result ≡ request_of (line_of u).line = n.ensures ∙ ap (λ (x : Scanned). request_of x.line) s.ensures.0 in
+    let asks : n.result ≡ request_of (line_of u).line = n.ensures ∙ ap (λ (x : Scanned). request_of x.line) s.ensures.text_value in
     let k = c.is_named in
     let sets : is_named (request_of (line_of u).line) Set ≡ false = sym (k.ensures ∙ ap (λ (m : Name). is_named m Set) asks) ∙ not-true k.result c.if-not-is_named.true-raw in
     record { text_value = refused_in c.refused_by-then-not-is_named.result 19 c.refused_by-then-not-is_named.ensures.row_value (λ z. absurd (omega arith)) t ∙ set_other u ends sets; next_in_bounds = omega (arith, c.refused_by-then-not-is_named.ensures.next_value) }
 
 pub line_at-b-requires : goal.line_at-b-requires
-line_at-b-requires c = c.line_at_lem.ensures.FIXME
+line_at-b-requires c = c.line_at-a.ensures.next_in_bounds
 
 pub returns-then-not-b : goal.returns-then-not-b
 returns-then-not-b c =
     let a = c.args in
     let t = a.text.now in
     let u : List ℕ = drop a.at t in
-    let s = c.line_at_lem in
+    let s = c.line_at-a in
     let w = c.line_at-b in
-    let w2 : scanned_in w.result t ≡ line_of (line_of u).rest = w.ensures.text_value ∙ ap (λ (x : Scanned). line_of x.rest) s.ensures.0 in
-    let ends : (line_of u).ended ≡ true = sym (ap (λ (x : Scanned). x.ended) s.ensures.0) ∙ not-false s.result.ended c.if-not-a.false in
+    let w2 : scanned_in w.result t ≡ line_of (line_of u).rest = w.ensures.text_value ∙ ap (λ (x : Scanned). line_of x.rest) s.ensures.text_value in
+    let ends : (line_of u).ended ≡ true = sym (ap (λ (x : Scanned). x.ended) s.ensures.text_value) ∙ not-false s.result.ended c.if-not-a.false in
     let d = c in
     let n = c.request in
-    let asks : n.result ≡ request_of (line_of u).line = n.ensures ∙ ap (λ (x : Scanned). request_of x.line) s.ensures.0 in
+    let asks : n.result ≡ request_of (line_of u).line = n.ensures ∙ ap (λ (x : Scanned). request_of x.line) s.ensures.text_value in
     let k = c.is_named in
     let sets : is_named (request_of (line_of u).line) Set ≡ true = sym (k.ensures ∙ ap (λ (m : Name). is_named m Set) asks) ∙ not-false k.result c.if-not-is_named.false-raw in
     let ends2 : (line_of (line_of u).rest).ended ≡ false = sym (ap (λ (x : Scanned). x.ended) w2) ∙ not-true w.result.ended c.if-not-b.true in
@@ -63,12 +63,12 @@ returns-then-not-is_named-2 c =
     let a = c.args in
     let t = a.text.now in
     let u : List ℕ = drop a.at t in
-    let s = c.line_at_lem in
+    let s = c.line_at-a in
     let w = c.line_at-b in
-    let w2 : scanned_in w.result t ≡ line_of (line_of u).rest = w.ensures.text_value ∙ ap (λ (x : Scanned). line_of x.rest) s.ensures.0 in
-    let ends : (line_of u).ended ≡ true = sym (ap (λ (x : Scanned). x.ended) s.ensures.0) ∙ not-false s.result.ended c.if-not-a.false in
+    let w2 : scanned_in w.result t ≡ line_of (line_of u).rest = w.ensures.text_value ∙ ap (λ (x : Scanned). line_of x.rest) s.ensures.text_value in
+    let ends : (line_of u).ended ≡ true = sym (ap (λ (x : Scanned). x.ended) s.ensures.text_value) ∙ not-false s.result.ended c.if-not-a.false in
     let n = c.request in
-    let asks : n.result ≡ request_of (line_of u).line = n.ensures ∙ ap (λ (x : Scanned). request_of x.line) s.ensures.0 in
+    let asks : n.result ≡ request_of (line_of u).line = n.ensures ∙ ap (λ (x : Scanned). request_of x.line) s.ensures.text_value in
     let k = c.is_named in
     let sets : is_named (request_of (line_of u).line) Set ≡ true = sym (k.ensures ∙ ap (λ (m : Name). is_named m Set) asks) ∙ not-false k.result c.if-not-is_named.false-raw in
     let ends2 : (line_of (line_of u).rest).ended ≡ true = sym (ap (λ (x : Scanned). x.ended) w2) ∙ not-false w.result.ended c.if-not-b.false in
@@ -84,12 +84,12 @@ returns c =
     let a = c.args in
     let t = a.text.now in
     let u : List ℕ = drop a.at t in
-    let s = c.line_at_lem in
+    let s = c.line_at-a in
     let w = c.line_at-b in
-    let w2 : scanned_in w.result t ≡ line_of (line_of u).rest = w.ensures.text_value ∙ ap (λ (x : Scanned). line_of x.rest) s.ensures.0 in
-    let ends : (line_of u).ended ≡ true = sym (ap (λ (x : Scanned). x.ended) s.ensures.0) ∙ not-false s.result.ended c.if-not-a.false in
+    let w2 : scanned_in w.result t ≡ line_of (line_of u).rest = w.ensures.text_value ∙ ap (λ (x : Scanned). line_of x.rest) s.ensures.text_value in
+    let ends : (line_of u).ended ≡ true = sym (ap (λ (x : Scanned). x.ended) s.ensures.text_value) ∙ not-false s.result.ended c.if-not-a.false in
     let n = c.request in
-    let asks : n.result ≡ request_of (line_of u).line = n.ensures ∙ ap (λ (x : Scanned). request_of x.line) s.ensures.0 in
+    let asks : n.result ≡ request_of (line_of u).line = n.ensures ∙ ap (λ (x : Scanned). request_of x.line) s.ensures.text_value in
     let k = c.is_named in
     let sets : is_named (request_of (line_of u).line) Set ≡ true = sym (k.ensures ∙ ap (λ (m : Name). is_named m Set) asks) ∙ not-false k.result c.if-not-is_named.false-raw in
     let ends2 : (line_of (line_of u).rest).ended ≡ true = sym (ap (λ (x : Scanned). x.ended) w2) ∙ not-false w.result.ended c.if-not-b.false in
@@ -101,7 +101,7 @@ returns c =
     let b = c.builder_from in record {
       text_value = c.settings_of.ensures.by_index t
           ∙ (λ j. pair_by (settings_from (b.ensures j) (kept_of w.result.line) (zero_codes (b.ensures j))) (drop w.result.next t))
-          ∙ (λ j. pair_by (settings_by (s.ensures.0 j).line (w2 j).line) (w2 j).rest)
+          ∙ (λ j. pair_by (settings_by (s.ensures.text_value j).line (w2 j).line) (w2 j).rest)
           ∙ both_lines u ends sets ends2 weights;
       next_in_bounds = omega (arith, c.settings_of.ensures.next_le_next, w.ensures.next_in_bounds);
     }

@@ -6,7 +6,6 @@ use lib.ListN.{drop, replicate}
 use lib.Seq.{length-take-le}
 use Rattle.bench_core.specs.Line.{kept_of}
 use Rattle.bench_core.specs.Bench.{zero_codes}
-use Rattle.bench_core.proofs.StepLaws.{seventeen}
 use Rattle.trcf.specs.View.{settings_from}
 use Rattle.settling.specs.Settling.{pair_row}
 use Rattle.settle_core.proofs.JudgeLaws.{pair_refused, handed_is, pair_taken_lem}
@@ -14,13 +13,13 @@ use Rattle.settle_core.proofs.pair.settings_of.Goals as goal
 
 pub slice_bounds-singles-end : goal.slice_bounds-singles-end
 slice_bounds-singles-end c =
-    let z = seventeen c.args.w.singles c.well_formed.1.0.1.1.1.1.1.1.1.0.1.0.1 in
+    let z = c.well_formed.1.0.1.1.1.1.1.1.1.0.1.0.1 in
     omega (arith, z, c.kept-n.ensures.upper_bound)
 
 pub slice_bounds-pair_row-end : goal.slice_bounds-pair_row-end
 slice_bounds-pair_row-end c =
     let v = c.args.w.singles in
-    let z = seventeen v c.well_formed.1.0.1.1.1.1.1.1.1.0.1.0.1 in
+    let z = c.well_formed.1.0.1.1.1.1.1.1.1.0.1.0.1 in
     sym (length-take-le c.kept-n.result v (omega (arith, z, c.kept-n.ensures.upper_bound)))
 
 pub slice_bounds-pair_row-end-2 : goal.slice_bounds-pair_row-end-2
