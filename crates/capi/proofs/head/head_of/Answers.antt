@@ -26,5 +26,5 @@ returns c =
     let p = c in
     let q = c in
     let w = c.args.words.now in
-    head_made w c.mode_of-mode.ensures c.method_of_lem.ensures c.double_of-decay.ensures c.single_of-weight_time.ensures
+    head_made w c.mode_of-mode.ensures c.method_of-method.ensures c.double_of-decay.ensures c.single_of-weight_time.ensures
     c.weights_of-weights.ensures c.codes_of-codes.ensures

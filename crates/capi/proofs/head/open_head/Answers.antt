@@ -14,7 +14,8 @@ pub head_of-head-requires : goal.head_of-head-requires
 head_of-head-requires c =
     let k = c.closed_row-closed in
     let a = c.args in
-    formed a.words.now (open_formed a.words.now a.allowed k.result k.ensures c.if-closed-ne0.false).1
+    let f = formed a.words.now (open_formed a.words.now a.allowed k.result k.ensures c.if-closed-ne0.false).1 in
+    record { in_bounds = f.0; words_value = f.1 }
 
 pub returns : goal.returns
 returns c =

@@ -1,5 +1,4 @@
 -- `capi::head::write_front` meets its contract: the numbers, and the weights after them. Assumes nothing.
-use Rattle.trcf.proofs.RefusalLaws.{sixteen}
 use mathlib.Core.Path.{◌≡◌, sym, ap, ◌∙◌}
 use native.Mathlib.Omega.{arith}
 use lib.ListN.{length, drop, length-drop, length-map}
@@ -20,7 +19,7 @@ slice_bounds-write_weights-end-2 c =
     let r = c in
     let s = c in
     let w = c.args.head.transformer.weights in
-    let z : length w ≡ 16 = sixteen w c.well_formed.1.0.1.1.0.1.1.1.1.1.0.1.0.1 in
+    let z : length w ≡ 16 = c.well_formed.1.0.1.1.0.1.1.1.1.1.0.1.0.1 in
     sym z
 
 pub write_weights-requires : goal.write_weights-requires
@@ -30,7 +29,7 @@ write_weights-requires c =
     let n = c.write_numbers in
     let w = c.args.head.transformer.weights in
     let xs = n.new.words in
-    let z : length w ≡ 16 = sixteen w c.well_formed.1.0.1.1.0.1.1.1.1.1.0.1.0.1 in
+    let z : length w ≡ 16 = c.well_formed.1.0.1.1.0.1.1.1.1.1.0.1.0.1 in
     let k = numbers_length c.args.words.now _ c.args.head n.ensures c.requires in
     record { words_len = length-take-le 16 (drop 12 xs) (omega (arith, length-drop 12 xs, k, c.requires)); weights_len = z }
 
@@ -42,7 +41,7 @@ shape_of-words c =
     let v = c.write_weights in
     let w = c.args.head.transformer.weights in
     let xs = n.new.words in
-    let z : length w ≡ 16 = sixteen w c.well_formed.1.0.1.1.0.1.1.1.1.1.0.1.0.1 in
+    let z : length w ≡ 16 = c.well_formed.1.0.1.1.0.1.1.1.1.1.0.1.0.1 in
     let k : length xs ≡ length c.args.words.now = numbers_length c.args.words.now _ c.args.head n.ensures c.requires in
     let m = length-take-le 16 (drop 12 xs) (omega (arith, length-drop 12 xs, k, c.requires)) in
     same_len_mid 12 16 xs v.new.words (ap length v.ensures ∙ length-map w (to_bits binary32) ∙ z ∙ sym m) ∙ k
@@ -54,5 +53,5 @@ returns c =
     let n = c.write_numbers in
     let v = c.write_weights in
     let w = c.args.head.transformer.weights in
-    let z : length w ≡ 16 = sixteen w c.well_formed.1.0.1.1.0.1.1.1.1.1.0.1.0.1 in
+    let z : length w ≡ 16 = c.well_formed.1.0.1.1.0.1.1.1.1.1.0.1.0.1 in
     weights_stored c.args.words.now _ c.args.head _ n.ensures v.ensures (ap length v.ensures ∙ length-map w (to_bits binary32) ∙ z)
