@@ -1,10 +1,10 @@
 // The lines of a file: where each ends, how many agree, and the report.
-ghost use Rattle.std.specs.Prelude.{◌≡◌, cond, not, ◌<◌, ◌≤◌, ◌+◌, ◌-◌, length, IfOk, slice_set};
+ghost use Rattle.std.specs.Prelude.{◌≡◌, cond, not, ◌<◌, ◌≤◌, ◌+◌, ◌-◌, length, slice_set};
 ghost use Rattle.vectors_core.specs.Tally.{one_more};
 
+use std::fs;
 use std::io::Read;
 use std::rt::Files;
-use std::{fs, io};
 
 // Room for a file.
 pub fn room() -> [u8; 524288]
@@ -111,43 +111,53 @@ pub fn counted(t: Tally, good: bool, letter: u8) -> Tally
 }
 
 // A letter may be any byte.
-fn name_line<P: Print>(rt: &P, line: Named) -> io::Result<()> {
+fn name_line(rt: &impl Print, line: Named) {
     let number = line.number;
-    print!(rt; "differs: line {number}")?;
-    rt.write_all(&[b' ', line.letter, b'\n'])
+    let _ = print!(rt; "differs: line {number}");
+    let _ = rt.write_all(&[b' ', line.letter, b'\n']);
 }
 
 // The first lines that differ, and then a line with the file and both numbers.
-pub fn report<P: Print>(rt: &P, kind: &str, t: Tally) -> io::Result<()>
-    ensures { IfOk result (λ x. x ≡ tt) }
+pub fn report(rt: &impl Print, kind: &[u8], t: Tally)
+    ensures { result ≡ tt }
 {
     for line in t.named.iter().take(t.differ as usize) {
-        name_line(rt, *line)?;
+        name_line(rt, *line);
     }
     let agree = t.agree;
     let differ = t.differ;
-    println!(rt; "{kind}: agree {agree}, differ {differ}")
+    let _ = rt.write_all(kind);
+    let _ = println!(rt; ": agree {agree}, differ {differ}");
 }
 
-// Reads until `text` is full or the input ends, and answers how much was read.
-fn read_full<F: Read>(file: &mut F, text: &mut [u8]) -> io::Result<usize>
-    ensures { IfOk result (λ n. n ≤ length text.new) }
+// Reads until `text` is full or the input ends, and answers how much was read. A failed read ends the input.
+fn read_full<R: Read>(input: &mut R, text: &mut [u8]) -> usize
+    ensures { result ≤ length text.new }
 {
-    let mut done = 0usize;
+    let mut done = 0;
     while done < text.len() {
-        let n = file.read(&mut text[done..])?;
+        let n = input.read(&mut text[done..]).unwrap_or(0);
         if n == 0 {
-            break;
+            return done;
         }
         done += n;
     }
-    Ok(done)
+    done
 }
 
-// Reads a file to the front of `text`, and answers how much was read.
-pub fn read_file<R: Files>(rt: &R, path: &str, text: &mut [u8]) -> io::Result<usize>
-    ensures { IfOk result (λ n. n ≤ length text.new) }
+// Reads a file to the front of `text`, and answers how much was read: nothing where there is no such file. A path that is no text names no file.
+pub fn read_file(rt: &(impl Files + Eprint), path: &[u8], text: &mut [u8]) -> usize
+    ensures { result ≤ length text.new }
 {
-    let mut file = fs::open(rt, path)?;
-    read_full(&mut file, text)
+    let Ok(name) = str::from_utf8(path) else {
+        let _ = eprintln!(rt; "a file whose path is no text");
+        return 0;
+    };
+    match fs::open(rt, name) {
+        Ok(mut file) => read_full(&mut file, text),
+        Err(e) => {
+            let _ = eprintln!(rt; "{name}: {e}");
+            0
+        }
+    }
 }

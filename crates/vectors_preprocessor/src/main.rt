@@ -8,11 +8,10 @@ mod settings;
 mod state;
 mod text;
 
-use std::io;
 use std::rt::Files;
 use vectors_core::lines::{read_file, report, room};
 
-fn replay_preprocessor<R: Files + Print>(rt: &R, path: &str) -> io::Result<()> {
+fn replay_preprocessor(rt: &(impl Files + Print + Eprint), path: &[u8]) {
     let mut text = room();
     let mut statistics = [0.0f64; 260];
     let mut inputs = [0.0f32; 1030];
@@ -20,7 +19,7 @@ fn replay_preprocessor<R: Files + Print>(rt: &R, path: &str) -> io::Result<()> {
     let mut times = [0u64; 70];
     let mut initial_values = [0.0f32; 32000];
     let mut initial_timestamps = [0u64; 2000];
-    let n = read_file(rt, path, &mut text)?;
+    let n = read_file(rt, path, &mut text);
     let tally = preprocessor::replay(
         &text[..n],
         &mut statistics,
@@ -30,13 +29,13 @@ fn replay_preprocessor<R: Files + Print>(rt: &R, path: &str) -> io::Result<()> {
         &mut initial_values,
         &mut initial_timestamps,
     );
-    report(rt, path, tally)
+    report(rt, path, tally);
 }
 
-fn main(rt: HostRuntime) -> io::Result<()> {
-    replay_preprocessor(&rt, "preprocessor_1")?;
-    replay_preprocessor(&rt, "preprocessor_6")?;
-    replay_preprocessor(&rt, "preprocessor_far")?;
-    replay_preprocessor(&rt, "preprocessor_gap")?;
-    replay_preprocessor(&rt, "preprocessor_edges")
+fn main(rt: HostRuntime) {
+    replay_preprocessor(&rt, b"preprocessor_1");
+    replay_preprocessor(&rt, b"preprocessor_6");
+    replay_preprocessor(&rt, b"preprocessor_far");
+    replay_preprocessor(&rt, b"preprocessor_gap");
+    replay_preprocessor(&rt, b"preprocessor_edges");
 }

@@ -3,11 +3,10 @@
 
 mod texts;
 
-use std::io;
 use std::rt::Files;
 use vectors_core::lines::{read_file, report, room};
 
-fn replay_texts<R: Files + Print>(rt: &R, path: &str) -> io::Result<()> {
+fn replay_texts(rt: &(impl Files + Print + Eprint), path: &[u8]) {
     let mut text = room();
     let mut statistics = [0.0f64; 260];
     let mut inputs = [0.0f32; 1030];
@@ -15,7 +14,7 @@ fn replay_texts<R: Files + Print>(rt: &R, path: &str) -> io::Result<()> {
     let mut times = [0u64; 70];
     let mut initial_values = [0.0f32; 4000];
     let mut initial_timestamps = [0u64; 2000];
-    let n = read_file(rt, path, &mut text)?;
+    let n = read_file(rt, path, &mut text);
     let tally = texts::replay(
         &text[..n],
         &mut statistics,
@@ -25,17 +24,17 @@ fn replay_texts<R: Files + Print>(rt: &R, path: &str) -> io::Result<()> {
         &mut initial_values,
         &mut initial_timestamps,
     );
-    report(rt, path, tally)
+    report(rt, path, tally);
 }
 
-fn main(rt: HostRuntime) -> io::Result<()> {
-    replay_texts(&rt, "texts_1")?;
-    replay_texts(&rt, "texts_2")?;
-    replay_texts(&rt, "texts_3")?;
-    replay_texts(&rt, "texts_4")?;
-    replay_texts(&rt, "texts_5")?;
-    replay_texts(&rt, "texts_6")?;
-    replay_texts(&rt, "texts_far")?;
-    replay_texts(&rt, "texts_gap")?;
-    replay_texts(&rt, "texts_edges")
+fn main(rt: HostRuntime) {
+    replay_texts(&rt, b"texts_1");
+    replay_texts(&rt, b"texts_2");
+    replay_texts(&rt, b"texts_3");
+    replay_texts(&rt, b"texts_4");
+    replay_texts(&rt, b"texts_5");
+    replay_texts(&rt, b"texts_6");
+    replay_texts(&rt, b"texts_far");
+    replay_texts(&rt, b"texts_gap");
+    replay_texts(&rt, b"texts_edges");
 }

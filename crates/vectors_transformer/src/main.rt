@@ -3,21 +3,20 @@
 
 mod transformer;
 
-use std::io;
 use std::rt::Files;
 use vectors_core::lines::{read_file, report, room};
 
-fn replay_transformer<R: Files + Print>(rt: &R) -> io::Result<()> {
+fn replay_transformer(rt: &(impl Files + Print + Eprint)) {
     let mut text = room();
     let mut statistics = [0.0f64; 260];
-    let n = read_file(rt, "transformer", &mut text)?;
+    let n = read_file(rt, b"transformer", &mut text);
     report(
         rt,
-        "transformer",
+        b"transformer",
         transformer::replay(&text[..n], &mut statistics),
-    )
+    );
 }
 
-fn main(rt: HostRuntime) -> io::Result<()> {
-    replay_transformer(&rt)
+fn main(rt: HostRuntime) {
+    replay_transformer(&rt);
 }
