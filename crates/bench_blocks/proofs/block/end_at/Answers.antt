@@ -7,4 +7,4 @@ pub returns : goal.returns
 returns c =
     let a = c.args in
     let s = c.finish-s in
-    closed_at a.b a.text.now a.next a.out.now a.at c.requires.at_in_bounds s.new.out.0 s.ensures (omega (arith, s.auto))
+    closed_at a.b a.text.now a.next a.out.now a.at c.requires.at_in_bounds s.new.out s.ensures (omega (arith, s.auto))
