@@ -33,7 +33,7 @@ loop-i-preserved c =
     let h : L.i < length t = omega arith in (
       omega arith,
       elim c.if-largest-table.branch [
-        then-largest-table w ↦ larger_met t L.i h L.largest c.if-largest-table.largest L.invariant.1 (omega arith) w.largest-is
+        | then-largest-table w ↦ larger_met t L.i h L.largest c.if-largest-table.largest L.invariant.1 (omega arith) w.largest-is
         | else-largest-table w ↦ none_larger t L.i h L.largest c.if-largest-table.largest L.invariant.1 (omega arith) w.largest-is
       ],
     )

@@ -28,7 +28,7 @@ returns-then-bad-ne0 c =
     (lent a.statistics.now a.last_shingled_input.now a.last_shingled_point.now a.previous_timestamps.now a.initial_values.now a.initial_timestamps.now)
     c.kind_row-kind.ensures c.if-kind-ne0.false
     (c.settings_row-bad.ensures.value ∙
-    (λ j. settings_row (settings_with (c.mode_of-mode.ensures j) (c.method_of_lem.ensures j) a.input_dimensions a.shingle_size
+    (λ j. settings_row (settings_with (c.mode_of-mode.ensures j) (c.method_of-method.ensures j) a.input_dimensions a.shingle_size
     a.start_normalization a.stop_normalization a.transform_decay a.weight_time a.weights.now a.codes.now))) c.if-bad-ne0.true
 
 pub returns-then-head-lt44 : goal.returns-then-head-lt44
@@ -41,7 +41,7 @@ returns-then-head-lt44 c =
     (lent a.statistics.now a.last_shingled_input.now a.last_shingled_point.now a.previous_timestamps.now a.initial_values.now a.initial_timestamps.now)
     c.kind_row-kind.ensures c.if-kind-ne0.false
     (c.settings_row-bad.ensures.value ∙
-    (λ j. settings_row (settings_with (c.mode_of-mode.ensures j) (c.method_of_lem.ensures j) a.input_dimensions a.shingle_size
+    (λ j. settings_row (settings_with (c.mode_of-mode.ensures j) (c.method_of-method.ensures j) a.input_dimensions a.shingle_size
     a.start_normalization a.stop_normalization a.transform_decay a.weight_time a.weights.now a.codes.now))) c.if-bad-ne0.false
     (ap (λ (b : Bool). cond b 20 0) (lt-ltb (length a.head.now) 44 c.if-head-lt44.true))
 
@@ -52,7 +52,7 @@ returns c =
     let c24 = c in
     let c32 = c in
     let at-mode-of = c.mode_of-mode in
-    let at-method-of = c.method_of_lem in
+    let at-method-of = c.method_of-method in
     let a = c.args in
     build_done a.forest_mode a.transform_method (settings_given a.forest_mode a.transform_method a.input_dimensions a.shingle_size a.start_normalization
     a.stop_normalization a.transform_decay a.weight_time a.weights.now a.codes.now) a.head.now

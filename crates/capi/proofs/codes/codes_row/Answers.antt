@@ -21,10 +21,10 @@ loop-i-preserved c =
     let k = ap (λ (n : ℕ). or_else c.if-words-i-gt65535.row (codes_row (drop n w))) (sym (add-one L.i)) in (
       omega arith,
       (elim c.if-words-i-gt65535.branch [
-        then-words-i-gt65535 v ↦ code_bad w L.i h L.row c.if-words-i-gt65535.row L.invariant.1 (omega arith) v.row-is
+        | then-words-i-gt65535 v ↦ code_bad w L.i h L.row c.if-words-i-gt65535.row L.invariant.1 (omega arith) v.row-is
         | else-words-i-gt65535 v ↦ code_good w L.i h L.row c.if-words-i-gt65535.row L.invariant.1 (omega arith) v.row-is
       ])
-      ∙ k,
+          ∙ k,
     )
 
 pub returns : goal.returns
