@@ -29,7 +29,7 @@ loop-i-preserved c =
     let a = c.args in
     let l = c.loop-i in
     let p = c.print_pair-at in (
-      wrote_is (lines_more a.t1 (signal_of a.signal) l.i _ (omega (arith, c.loop-i-test.true, c.requires.count_bound))) (wrote_then l.invariant.0 p.ensures.wrote),
+      wrote_is (lines_more a.pairs (signal_of a.signal) l.i _ (omega (arith, c.loop-i-test.true, c.requires.count_bound))) (wrote_then l.invariant.0 p.ensures.wrote),
       omega (arith, p.ensures.upper_bound, l.invariant.1),
       omega (arith, c.loop-i-test.true),
     )
@@ -42,4 +42,4 @@ returns c =
     let a = c.args in
     let l = c.loop-i in
     let e : l.i ≡ a.count = omega (arith, c.loop-i-test.false, l.invariant.2) in
-    record { wrote = wrote_is (ap (λ (n : ℕ). lines_of a.t1 (signal_of a.signal) n) e) l.invariant.0; upper_bound = omega (arith, l.invariant.1, l.invariant.2, c.requires.count_bound) }
+    record { wrote = wrote_is (ap (λ (n : ℕ). lines_of a.pairs (signal_of a.signal) n) e) l.invariant.0; upper_bound = omega (arith, l.invariant.1, l.invariant.2, c.requires.count_bound) }
