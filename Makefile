@@ -21,7 +21,7 @@ EXAMPLES = $(basename $(notdir $(wildcard examples/*.c)))
 
 all: $(ARCHIVE) target/lib/pkgconfig/veerycouch.pc
 
-# rt writes it, and nothing else does
+# a copy of what rt wrote: nothing else writes it
 target/staticlib/libcapi.a: $(PROVED)
 	tools/build-program --library capi
 	@touch $@

@@ -1,5 +1,5 @@
 //! Finds the archive: libveerycouch.a (or libcapi.a) in the folder that VEERYCOUCH_LIB names, else libcapi.a in target/staticlib of the repository, where
-//! `rt staticlib capi` writes it.
+//! `tools/build-program --library capi` leaves it.
 use std::env;
 use std::path::{Path, PathBuf};
 
@@ -11,7 +11,7 @@ fn main() {
     };
     let names = ["veerycouch", "capi"];
     let Some(name) = names.into_iter().find(|name| folder.join(format!("lib{name}.a")).is_file()) else {
-        eprintln!("veerycouch: no archive in {}: run `rt staticlib capi`, or set VEERYCOUCH_LIB to its folder", folder.display());
+        eprintln!("veerycouch: no archive in {}: run tools/build-program --library capi, or set VEERYCOUCH_LIB to its folder", folder.display());
         std::process::exit(1);
     };
     let archive = folder.join(format!("lib{name}.a"));
