@@ -9,13 +9,13 @@ use crate::snapshot::{read, Snapshot};
 use crate::texts;
 use crate::vectors::gap::short;
 
-const METHODS: [&str; 6] = ["NONE", "WEIGHTED", "DIFFERENCE", "«SUBTRACT_MA»", "NORMALIZE", "«NORMALIZE_DIFFERENCE»"];
+const METHODS: [&str; 6] = ["NONE", "WEIGHTED", "DIFFERENCE", "SUBTRACT_MA", "NORMALIZE", "NORMALIZE_DIFFERENCE"];
 
 fn mode(s: &Settings) -> &'static str {
     match s.mode {
         Mode::Standard => "STANDARD",
-        Mode::TimeAugmented => "«TIME_AUGMENTED»",
-        Mode::GapAugmented => "«GAP_AUGMENTED»",
+        Mode::TimeAugmented => "TIME_AUGMENTED",
+        Mode::GapAugmented => "GAP_AUGMENTED",
         Mode::StreamingImpute => panic!("row 1 refuses this mode"),
     }
 }
@@ -24,7 +24,7 @@ fn single(x: f32) -> String {
     if x.is_nan() {
         "nan".to_string()
     } else {
-        format!("(ofBits binary32 {:#x})", bits32(x))
+        format!("(of_bits binary32 {:#x})", bits32(x))
     }
 }
 
@@ -32,7 +32,7 @@ fn double(x: f64) -> String {
     if x.is_nan() {
         "nan".to_string()
     } else {
-        format!("(ofBits binary64 {:#x})", bits64(x))
+        format!("(of_bits binary64 {:#x})", bits64(x))
     }
 }
 
@@ -47,7 +47,7 @@ fn singles(l: &[f32]) -> String {
 
 /// A lent output before the call: zeros.
 fn lent(n: usize) -> String {
-    format!("(replicate {n} (ofBits binary32 0))")
+    format!("(replicate {n} (of_bits binary32 0))")
 }
 
 /// A lent output after the call: the answer, then zeros.
@@ -75,7 +75,7 @@ fn integer(n: i32) -> String {
 
 fn settings_term(s: &Settings) -> String {
     format!(
-        "record {{ mode = {}; method = {}; d = {}; k = {}; start = {}; stop = {}; decay = {}; weightTime = {}; weights = {}; codes = {} }}",
+        "record {{ mode = {}; method = {}; d = {}; k = {}; start = {}; stop = {}; decay = {}; weight_time = {}; weights = {}; codes = {} }}",
         mode(s),
         METHODS[s.method as usize],
         s.d,
@@ -91,7 +91,7 @@ fn settings_term(s: &Settings) -> String {
 
 fn learn_term(c: &Learn) -> String {
     format!(
-        "record {{ input = {}; timestamp = {}; rcfPoint = {}; expectedPoint = {}; grade = {}; relativeIndex = {}; deviationsOut = {}; pastOut = {}; expectedOut = {} }}",
+        "record {{ input = {}; timestamp = {}; rcf_point = {}; expected_point = {}; grade = {}; relative_index = {}; deviations_out = {}; past_out = {}; expected_out = {} }}",
         singles(&c.input), c.timestamp, option(&c.point), option(&c.expected), single(c.grade), integer(c.relative_index),
         lent(c.deviations_out), lent(c.past_out), lent(c.expected_out)
     )
@@ -103,12 +103,12 @@ fn lent_ranges(outs: &[usize]) -> String {
 
 fn call_term(call: &Call) -> String {
     match call {
-        Call::Point { input, timestamp, out } => format!("shingledPoint {} {timestamp} {}", singles(input), lent(*out)),
-        Call::Learn(c) => format!("postProcess ({})", learn_term(c)),
+        Call::Point { input, timestamp, out } => format!("shingled_point {} {timestamp} {}", singles(input), lent(*out)),
+        Call::Learn(c) => format!("post_process ({})", learn_term(c)),
         Call::Drain => "drain".to_string(),
         Call::Transform { input, timestamp, out } => format!("transform {} {timestamp} {}", singles(input), lent(*out)),
         Call::TurnBack { values, upper, lower, outs } => format!(
-            "invertExtrapolation (record {{ forecast = ranges {} {} {}; valuesOut = {}; timesOut = {} }})",
+            "invert_extrapolation (record {{ forecast = ranges {} {} {}; values_out = {}; times_out = {} }})",
             singles(values),
             singles(upper),
             singles(lower),
@@ -135,7 +135,7 @@ fn turned_term(call: &Call, numbers: &[Vec<u32>; 3], times: &Option<[Vec<u64>; 3
             three((0..3).map(|i| written64(&times[i], outs[i + 3])).collect()),
         ),
     };
-    format!("turned (record {{ forecast = {forecast}; valuesOut = {values_out}; timesOut = {times_out} }})")
+    format!("turned (record {{ forecast = {forecast}; values_out = {values_out}; times_out = {times_out} }})")
 }
 
 fn answer_term(s: &Settings, call: &Call, answer: &Answer) -> String {
@@ -154,16 +154,16 @@ fn answer_term(s: &Settings, call: &Call, answer: &Answer) -> String {
             let given = deviations.as_ref().map_or(&[][..], |d| &d[..]);
             let (past, expected) = anomaly.as_ref().map_or((&[][..], &[][..]), |a| (&a.past_values[..], &a.expected_values[..]));
             let anomaly = anomaly.as_ref().map_or("none".to_string(), |a| {
-                format!("some (record {{ pastTimestamp = {}; likelihood = {} }})", a.past_timestamp, single(1.0))
+                format!("some (record {{ past_timestamp = {}; likelihood = {} }})", a.past_timestamp, single(1.0))
             });
             format!(
-                "learnt (record {{ written = {}; anomaly = {anomaly}; deviationsOut = {}; pastOut = {}; expectedOut = {} }})",
+                "learnt (record {{ written = {}; anomaly = {anomaly}; deviations_out = {}; past_out = {}; expected_out = {} }})",
                 deviations.is_some(), written(given, c.deviations_out), written(past, c.past_out), written(expected, c.expected_out)
             )
         }
         Answer::Ranges { numbers, times } => turned_term(call, numbers, times),
         Answer::Status { values_seen, internal, ready, d, k, dimension, start, panel, deviations } => format!(
-            "told (record {{ valuesSeen = {values_seen}; internalTimestamp = {internal}; ready = {ready}; inputDimensions = {d}; shingleSize = {k}; dimensions = {dimension}; method = {}; mode = {}; start = {start}; panel = {panel}; deviationsOut = {} }})",
+            "told (record {{ values_seen = {values_seen}; internal_timestamp = {internal}; ready = {ready}; input_dimensions = {d}; shingle_size = {k}; dimensions = {dimension}; method = {}; mode = {}; start = {start}; panel = {panel}; deviations_out = {} }})",
             METHODS[s.method as usize], mode(s), written(deviations, out)
         ),
     }
@@ -176,9 +176,9 @@ fn theorems(n: u64, s: &Settings, calls: &[Call], answers: &[Answer], text: &str
     let lines = list(text.lines().map(|l| format!("\n    \"{}\"", l.replace('\t', "\\t"))));
     format!(
         "\nabbrev s{n} : Settings\ns{n} = {}\n\nabbrev c{n} : List Call\nc{n} = {calls_term}\n\nabbrev t{n} : List ℕ\nt{n} = text {lines}\n\n\
-         run{n} : render (run (fresh s{n}) c{n}) ≡ t{n}\nunfolding trace·all\nrun{n} = refl\n\n\
-         history{n} : historyText s{n} c{n} ≡ t{n}\nunfolding trace·all\nhistory{n} = refl\n\n\
-         answers{n} : answers (fresh s{n}) c{n} ≡ {answers_term}\nunfolding trace·all\nanswers{n} = refl\n",
+         run{n} : render (run (fresh s{n}) c{n}) ≡ t{n}\nunfolding trace_all\nrun{n} = refl\n\n\
+         history{n} : history_text s{n} c{n} ≡ t{n}\nunfolding trace_all\nhistory{n} = refl\n\n\
+         answers{n} : answers (fresh s{n}) c{n} ≡ {answers_term}\nunfolding trace_all\nanswers{n} = refl\n",
         settings_term(s)
     )
 }
@@ -190,36 +190,36 @@ const FAR_TITLE: &str = "-- Texts whose count is around the Rust's last one or a
 
 const USES: &str = "\
 use Prim.Native.Nat.{ℕ}
-use mathlib.Core.Path.{_≡_, refl}
+use mathlib.Core.Path.{◌≡◌, refl}
 use mathlib.Core.Bool.{true, false}
-use mathlib.Core.List.{List, [], _∷_}
+use mathlib.Core.List.{List, [], ◌∷◌}
 use mathlib.Core.Option.{none, some}
 use lib.IntN.{pos, negsuc}
 use lib.ListN.{replicate}
-use lib.Ieee.{Float, nan, binary32, binary64, ofBits}
+use lib.Ieee.{Float, nan, binary32, binary64, of_bits}
 use lib.Ieee as Ieee
-use Rattle·numeric.specs.Narrow as Narrow
-use Rattle·numeric.specs.Root as Root
-use Rattle·common.specs.Deviation as Deviation
-use Rattle·refusal.specs.Lent as Lent
-use Rattle·ranges.specs.RangeVector as RangeVector
-use Rattle·ranges.specs.RangeVector.{ranges}
-use Rattle·trcf.specs.Lists as Lists
-use Rattle·trcf.specs.Settings as Settings
-use Rattle·trcf.specs.Calls as Calls
-use Rattle·trcf.specs.Transformer as Transformer
-use Rattle·trcf.specs.Preprocessor as Preprocessor
-use Rattle·trcf.specs.Settings.{Settings}
-use Rattle·trcf.specs.Calls.{Learn, Forecast, Call, shingledPoint, postProcess, drain, transform, invertExtrapolation, scale, shift, status}
-use Rattle·trcf.specs.Preprocessor.{fresh, run, answers, Answer, refused, absent, done, wrote, learnt, turned, told, Anomaly, Learned, Status}
-use Rattle·trcf.specs.declared.types.TransformMethod.the-variants.{NONE, WEIGHTED, DIFFERENCE, «SUBTRACT_MA», NORMALIZE, «NORMALIZE_DIFFERENCE»}
-use Rattle·trcf.specs.declared.types.ForestMode.the-variants.{STANDARD, «TIME_AUGMENTED»}
-use Rattle·snapshot.specs.Text as Text
-use Rattle·snapshot.specs.Text.{render}
-use Rattle·snapshot.specs.Ascii.{text}
-use Rattle·restart.specs.Statistics as Statistics
-use Rattle·restart.specs.History as History
-use Rattle·restart.specs.History.{historyText}
+use Rattle.numeric.specs.Narrow as Narrow
+use Rattle.numeric.specs.Root as Root
+use Rattle.common.specs.Deviation as Deviation
+use Rattle.refusal.specs.Lent as Lent
+use Rattle.ranges.specs.RangeVector as RangeVector
+use Rattle.ranges.specs.RangeVector.{ranges}
+use Rattle.trcf.specs.Lists as Lists
+use Rattle.trcf.specs.Settings as Settings
+use Rattle.trcf.specs.Calls as Calls
+use Rattle.trcf.specs.Transformer as Transformer
+use Rattle.trcf.specs.Preprocessor as Preprocessor
+use Rattle.trcf.specs.Settings.{Settings}
+use Rattle.trcf.specs.Calls.{Learn, Forecast, Call, shingled_point, post_process, drain, transform, invert_extrapolation, scale, shift, status}
+use Rattle.trcf.specs.Preprocessor.{fresh, run, answers, Answer, refused, absent, done, wrote, learnt, turned, told, Anomaly, Learned, Status}
+use Rattle.trcf.specs.declared.types.TransformMethod.TheVariants.{NONE, WEIGHTED, DIFFERENCE, SUBTRACT_MA, NORMALIZE, NORMALIZE_DIFFERENCE}
+use Rattle.trcf.specs.declared.types.ForestMode.TheVariants.{STANDARD, TIME_AUGMENTED}
+use Rattle.snapshot.specs.Text as Text
+use Rattle.snapshot.specs.Text.{render}
+use Rattle.snapshot.specs.Ascii.{text}
+use Rattle.restart.specs.Statistics as Statistics
+use Rattle.restart.specs.History as History
+use Rattle.restart.specs.History.{history_text}
 ";
 
 /// The specs whose definitions the theorems compute with.
@@ -240,7 +240,7 @@ const SPECS: [&str; 13] = [
 ];
 
 /// The float operations of the proof library that must be unfolded.
-const IEEE: &str = "span climb size odd units round neg sum add sub mul div lt eq le ne ofInt fits ofFields ofBits toBits";
+const IEEE: &str = "span climb size odd units round neg sum add sub mul div lt eq le ne of_int fits of_fields of_bits to_bits";
 
 /// Brings in the definitions, and names all that are to be unfolded, as the repository's specs have them.
 fn head(crates: &Path, title: &str, uses: &str, more: &[&str]) -> String {
@@ -257,19 +257,19 @@ fn head(crates: &Path, title: &str, uses: &str, more: &[&str]) -> String {
         }
     }
     format!(
-        "{title}\n{USES}{uses}\n-- to unfold this is to unfold whatever its line names\ntrace·all : Unit {{0}}\nunfolding {}\ntrace·all = tt\n",
+        "{title}\n{USES}{uses}\n-- to unfold this is to unfold whatever its line names\ntrace_all : Unit {{0}}\nunfolding {}\ntrace_all = tt\n",
         names.join(" ")
     )
 }
 
 const READ_USES: &str = "\
-use Rattle·snapshot.specs.Read as Read
-use Rattle·snapshot.specs.Read.{Read, taken, bad, read}
+use Rattle.snapshot.specs.Read as Read
+use Rattle.snapshot.specs.Read.{Read, taken, bad, read}
 
 -- the first bad line, 0 for none
-abbrev lineOf : Read → ℕ
-lineOf (taken w) = 0
-lineOf (bad n) = n
+abbrev line_of : Read → ℕ
+line_of (taken w) = 0
+line_of (bad n) = n
 
 -- what was read, written again
 abbrev again : Read → List ℕ
@@ -293,19 +293,19 @@ pub fn read_file(seed: u64, count: u64, crates: &Path) -> String {
             _ => texts::damaged(&mut r, &good),
         };
         let bytes = list(text.iter().map(|b| b.to_string()));
-        out += &format!("\nabbrev t{n} : List ℕ\nt{n} = {bytes}\n\nline{n} : lineOf (read t{n}) ≡ {line}\nunfolding trace·all\nline{n} = refl\n");
+        out += &format!("\nabbrev t{n} : List ℕ\nt{n} = {bytes}\n\nline{n} : line_of (read t{n}) ≡ {line}\nunfolding trace_all\nline{n} = refl\n");
         if line == 0 {
             let d = read(&text).expect("a text of the form").settings.d as usize;
             let away = list(texts::put_away(&text, d).iter().map(|b| b.to_string()));
-            out += &format!("\nagain{n} : again (read t{n}) ≡ {away}\nunfolding trace·all\nagain{n} = refl\n");
+            out += &format!("\nagain{n} : again (read t{n}) ≡ {away}\nunfolding trace_all\nagain{n} = refl\n");
         }
     }
     out
 }
 
 const FAR_USES: &str = "\
-use Rattle·snapshot.specs.Read as Read
-use Rattle·snapshot.specs.Read.{Read, taken, bad, read}
+use Rattle.snapshot.specs.Read as Read
+use Rattle.snapshot.specs.Read.{Read, taken, bad, read}
 
 -- the text after the calls, of what was taken up
 abbrev away : Read → List Call → List ℕ
@@ -350,8 +350,8 @@ pub fn far_file(seed: u64, count: u64, crates: &Path) -> String {
         let s = &first.settings;
         out += &format!(
             "\nabbrev f{n} : List ℕ\nf{n} = text {}\n\nabbrev c{n} : List Call\nc{n} = {}\n\nabbrev t{n} : List ℕ\nt{n} = text {}\n\n\
-             away{n} : away (read f{n}) c{n} ≡ t{n}\nunfolding trace·all\naway{n} = refl\n\n\
-             answers{n} : answered (read f{n}) c{n} ≡ {}\nunfolding trace·all\nanswers{n} = refl\n",
+             away{n} : away (read f{n}) c{n} ≡ t{n}\nunfolding trace_all\naway{n} = refl\n\n\
+             answers{n} : answered (read f{n}) c{n} ≡ {}\nunfolding trace_all\nanswers{n} = refl\n",
             lines(&first.text()),
             list(calls.iter().map(|c| format!("\n    {}", call_term(c)))),
             lines(&last),
@@ -365,7 +365,7 @@ pub fn far_file(seed: u64, count: u64, crates: &Path) -> String {
 const GAP_TITLE: &str = "-- Lists of calls in mode G (document 02, #114), whose texts and answers the oracle gave (traces SEED COUNT gap: the Rust, and the written rule
 -- where G is another), computed by the definitions.";
 
-const GAP_USES: &str = "use Rattle·trcf.specs.declared.types.ForestMode.the-variants.{«GAP_AUGMENTED»}\n";
+const GAP_USES: &str = "use Rattle.trcf.specs.declared.types.ForestMode.TheVariants.{GAP_AUGMENTED}\n";
 
 /// `count` lists in mode G.
 pub fn gap_file(seed: u64, count: u64, crates: &Path) -> String {
