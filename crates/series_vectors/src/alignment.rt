@@ -1,11 +1,10 @@
 // Replays calls of `align`: d, tolerance, the two lists (cells, times), the outputs' lengths; then the row, the number of pairs, the positions and the sizes.
-ghost use Rattle.std.specs.Prelude.{◌≤◌, length, IfOk};
+ghost use Rattle.std.specs.Prelude.{◌≤◌, length};
 
 use crate::words::{
     AGREES, BROKEN, DIFFERS, Tally, counted, fill_singles, fill_wholes, next_are_singles,
     next_are_wholes, next_length, next_word, read_singles, read_wholes,
 };
-use std::io;
 use std::io::Read;
 
 // What the outputs hold before a call, and must hold past the answer after it.
@@ -21,20 +20,20 @@ struct Lengths {
     good: bool,
 }
 
-fn read_list<F: Read>(file: &mut F, cells: &mut [f32], times: &mut [u64]) -> io::Result<Lengths>
-    ensures { IfOk result (λ r. (r.cells ≤ length cells.new) × (r.times ≤ length times.new)) }
+fn read_list<F: Read>(file: &mut F, cells: &mut [f32], times: &mut [u64]) -> Lengths
+    ensures { (result.cells ≤ length cells.new) × (result.times ≤ length times.new) }
 {
-    let n = next_length(file, cells.len())?;
+    let n = next_length(file, cells.len());
     let c = n.value;
-    let good_cells = read_singles(file, &mut cells[..c])?;
-    let m = next_length(file, times.len())?;
+    let good_cells = read_singles(file, &mut cells[..c]);
+    let m = next_length(file, times.len());
     let t = m.value;
-    let good_times = read_wholes(file, &mut times[..t])?;
-    Ok(Lengths {
+    let good_times = read_wholes(file, &mut times[..t]);
+    Lengths {
         cells: c,
         times: t,
         good: n.good && good_cells && m.good && good_times,
-    })
+    }
 }
 
 // Compares a call's answer with the words that follow it, the outputs being as long as they were lent.
@@ -45,11 +44,11 @@ fn expect<F: Read>(
     left_out: &[u64],
     right_out: &[u64],
     gaps_out: &[f32],
-) -> io::Result<u64> {
-    let row = next_word(file)?;
-    let pairs = next_word(file)?;
+) -> u64 {
+    let row = next_word(file);
+    let pairs = next_word(file);
     if !(row.good && pairs.good && pairs.value <= 4096) {
-        return Ok(BROKEN);
+        return BROKEN;
     }
     let n = pairs.value as usize;
     let k = if row.value == 0 && d <= 16 {
@@ -57,13 +56,13 @@ fn expect<F: Read>(
     } else {
         0
     };
-    let lefts = next_are_wholes(file, left_out, n, MARK)?;
-    let rights = next_are_wholes(file, right_out, n, MARK)?;
-    let gaps = next_are_singles(file, gaps_out, k, MARK32)?;
+    let lefts = next_are_wholes(file, left_out, n, MARK);
+    let rights = next_are_wholes(file, right_out, n, MARK);
+    let gaps = next_are_singles(file, gaps_out, k, MARK32);
     if answer.row == row.value && answer.pairs == pairs.value && lefts && rights && gaps {
-        Ok(AGREES)
+        AGREES
     } else {
-        Ok(DIFFERS)
+        DIFFERS
     }
 }
 
@@ -79,7 +78,7 @@ fn called<F: Read>(
     left_out: &mut [u64],
     right_out: &mut [u64],
     gaps_out: &mut [f32],
-) -> io::Result<u64> {
+) -> u64 {
     fill_wholes(left_out, MARK);
     fill_wholes(right_out, MARK);
     fill_singles(gaps_out, 7.5);
@@ -109,12 +108,12 @@ fn lent<F: Read>(
     left_out: &mut [u64],
     right_out: &mut [u64],
     gaps_out: &mut [f32],
-) -> io::Result<u64> {
-    let a = next_length(file, left_out.len())?;
-    let b = next_length(file, right_out.len())?;
-    let c = next_length(file, gaps_out.len())?;
+) -> u64 {
+    let a = next_length(file, left_out.len());
+    let b = next_length(file, right_out.len());
+    let c = next_length(file, gaps_out.len());
     if !(a.good && b.good && c.good) {
-        return Ok(BROKEN);
+        return BROKEN;
     }
     let lefts = a.value;
     let rights = b.value;
@@ -144,12 +143,12 @@ fn one<F: Read>(
     left_out: &mut [u64],
     right_out: &mut [u64],
     gaps_out: &mut [f32],
-) -> io::Result<u64> {
-    let tolerance = next_word(file)?;
-    let l = read_list(file, left, left_times)?;
-    let r = read_list(file, right, right_times)?;
+) -> u64 {
+    let tolerance = next_word(file);
+    let l = read_list(file, left, left_times);
+    let r = read_list(file, right, right_times);
     if !(tolerance.good && l.good && r.good) {
-        return Ok(BROKEN);
+        return BROKEN;
     }
     let left_cells = l.cells;
     let left_length = l.times;
@@ -179,7 +178,7 @@ fn replay_all<F: Read>(
     left_out: &mut [u64],
     right_out: &mut [u64],
     gaps_out: &mut [f32],
-) -> io::Result<Tally> {
+) -> Tally {
     let mut tally = Tally {
         agree: 0,
         differ: 0,
@@ -187,12 +186,12 @@ fn replay_all<F: Read>(
     };
     let mut turns = u64::MAX;
     while turns > 0 {
-        let d = next_word(file)?;
+        let d = next_word(file);
         if d.ended {
-            return Ok(tally);
+            return tally;
         }
         if !d.good {
-            return Ok(counted(tally, BROKEN));
+            return counted(tally, BROKEN);
         }
         let verdict = one(
             file,
@@ -204,17 +203,17 @@ fn replay_all<F: Read>(
             left_out,
             right_out,
             gaps_out,
-        )?;
+        );
         tally = counted(tally, verdict);
         if verdict == BROKEN {
-            return Ok(tally);
+            return tally;
         }
         turns -= 1;
     }
-    Ok(tally)
+    tally
 }
 
-pub(crate) fn replay<F: Read>(file: &mut F) -> io::Result<Tally> {
+pub(crate) fn replay<F: Read>(file: &mut F) -> Tally {
     let mut left = [0.0f32; 65600];
     let mut left_times = [0u64; 4100];
     let mut right = [0.0f32; 65600];

@@ -4,7 +4,6 @@ use crate::words::{
     read_singles,
 };
 use series::imputation::ImputationMethod;
-use std::io;
 use std::io::Read;
 
 fn method(n: u64) -> ImputationMethod {
@@ -24,18 +23,18 @@ fn called<F: Read>(
     cells: &mut [f32],
     marks: &[u8],
     fixed: &[f32],
-) -> io::Result<u64> {
+) -> u64 {
     let answer = series::imputation::impute(method(rule), d, cells, marks, fixed);
-    let row = next_word(file)?;
+    let row = next_word(file);
     let n = cells.len();
-    let same = next_are_singles(file, cells, n, 0)?;
+    let same = next_are_singles(file, cells, n, 0);
     if !row.good {
-        return Ok(BROKEN);
+        return BROKEN;
     }
     if answer == row.value && same {
-        Ok(AGREES)
+        AGREES
     } else {
-        Ok(DIFFERS)
+        DIFFERS
     }
 }
 
@@ -46,20 +45,20 @@ fn one<F: Read>(
     cells: &mut [f32],
     marks: &mut [u8],
     fixed: &mut [f32],
-) -> io::Result<u64> {
-    let d = next_word(file)?;
-    let a = next_length(file, cells.len())?;
+) -> u64 {
+    let d = next_word(file);
+    let a = next_length(file, cells.len());
     let n = a.value;
-    let good_cells = read_singles(file, &mut cells[..n])?;
-    let b = next_length(file, marks.len())?;
+    let good_cells = read_singles(file, &mut cells[..n]);
+    let b = next_length(file, marks.len());
     let m = b.value;
-    let good_marks = read_bytes(file, &mut marks[..m])?;
-    let c = next_length(file, fixed.len())?;
+    let good_marks = read_bytes(file, &mut marks[..m]);
+    let c = next_length(file, fixed.len());
     let f = c.value;
-    let good_fixed = read_singles(file, &mut fixed[..f])?;
+    let good_fixed = read_singles(file, &mut fixed[..f]);
     let lengths = a.good && b.good && c.good;
     if !(rule < 4 && d.good && lengths && good_cells && good_marks && good_fixed) {
-        return Ok(BROKEN);
+        return BROKEN;
     }
     called(
         file,
@@ -77,7 +76,7 @@ fn replay_all<F: Read>(
     cells: &mut [f32],
     marks: &mut [u8],
     fixed: &mut [f32],
-) -> io::Result<Tally> {
+) -> Tally {
     let mut tally = Tally {
         agree: 0,
         differ: 0,
@@ -85,24 +84,24 @@ fn replay_all<F: Read>(
     };
     let mut turns = u64::MAX;
     while turns > 0 {
-        let rule = next_word(file)?;
+        let rule = next_word(file);
         if rule.ended {
-            return Ok(tally);
+            return tally;
         }
         if !rule.good {
-            return Ok(counted(tally, BROKEN));
+            return counted(tally, BROKEN);
         }
-        let verdict = one(file, rule.value, cells, marks, fixed)?;
+        let verdict = one(file, rule.value, cells, marks, fixed);
         tally = counted(tally, verdict);
         if verdict == BROKEN {
-            return Ok(tally);
+            return tally;
         }
         turns -= 1;
     }
-    Ok(tally)
+    tally
 }
 
-pub(crate) fn replay<F: Read>(file: &mut F) -> io::Result<Tally> {
+pub(crate) fn replay<F: Read>(file: &mut F) -> Tally {
     let mut cells = [0.0f32; 32000];
     let mut marks = [0u8; 32000];
     let mut fixed = [0.0f32; 20];

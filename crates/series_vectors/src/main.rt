@@ -6,31 +6,39 @@ mod alignment;
 mod imputation;
 mod words;
 
+use std::fs;
 use std::rt::Files;
-use std::{fs, io};
 
-fn report<P: Print>(rt: &P, name: &str, tally: words::Tally) -> io::Result<()> {
+fn report(rt: &impl Print, name: &str, tally: words::Tally) {
     let agree = tally.agree;
     let differ = tally.differ;
     let broken = tally.broken;
-    println!(rt; "{name}: agree {agree}, differ {differ} (the wrong line), broken {broken}")
+    let _ = println!(rt;
+        "{name}: agree {agree}, differ {differ} (the wrong line), broken {broken}"
+    );
 }
 
-fn alignments<R: Files + Print>(rt: &R) -> io::Result<()> {
+fn alignments(rt: &(impl Files + Print + Eprint)) {
     let path = "alignment";
-    let mut file = fs::open(rt, path)?;
-    let tally = alignment::replay(&mut file)?;
-    report(rt, path, tally)
+    match fs::open(rt, path) {
+        Ok(mut file) => report(rt, path, alignment::replay(&mut file)),
+        Err(e) => {
+            let _ = eprintln!(rt; "{path}: {e}");
+        }
+    }
 }
 
-fn imputations<R: Files + Print>(rt: &R) -> io::Result<()> {
+fn imputations(rt: &(impl Files + Print + Eprint)) {
     let path = "imputation";
-    let mut file = fs::open(rt, path)?;
-    let tally = imputation::replay(&mut file)?;
-    report(rt, path, tally)
+    match fs::open(rt, path) {
+        Ok(mut file) => report(rt, path, imputation::replay(&mut file)),
+        Err(e) => {
+            let _ = eprintln!(rt; "{path}: {e}");
+        }
+    }
 }
 
-fn main(rt: HostRuntime) -> io::Result<()> {
-    alignments(&rt)?;
-    imputations(&rt)
+fn main(rt: HostRuntime) {
+    alignments(&rt);
+    imputations(&rt);
 }
