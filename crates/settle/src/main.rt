@@ -7,18 +7,11 @@ ghost use Rattle.std.specs.Prelude.{◌≡◌, ◌≤◌, length};
 use settle_core::settle::settle;
 use std::io::Read;
 
-// Zeros of any number: the check does not look into half a million at once.
-fn zeros<const N: usize>() -> [u8; N]
-    ensures { N ≡ length result }
-{
-    [0; N]
-}
-
 // Room for an input.
 fn room() -> [u8; 524288]
     ensures { 524288 ≡ length result }
 {
-    zeros::<524288>()
+    [0; 524288]
 }
 
 // Reads until the text is full, the input ends or a read fails, and answers how many bytes stand at the front of the text.

@@ -10,18 +10,11 @@ use std::fs;
 use std::io::Read;
 use std::rt::Files;
 
-// Zeros of any number: the check does not look into half a million at once.
-fn zeros<const N: usize>() -> [u8; N]
-    ensures { N ≡ length result }
-{
-    [0; N]
-}
-
 // Room for a file.
 fn room() -> [u8; 524288]
     ensures { 524288 ≡ length result }
 {
-    zeros::<524288>()
+    [0; 524288]
 }
 
 // Whether two lists hold the same bytes.
@@ -65,10 +58,11 @@ fn counted(t: Tally, good: bool) -> Tally {
     }
 }
 
-fn report(rt: &impl Print, path: &str, t: Tally) {
+fn report(rt: &impl Print, path: &[u8], t: Tally) {
     let agree = t.agree;
     let differ = t.differ;
-    let _ = println!(rt; "{path}: agree {agree}, differ {differ}");
+    let _ = rt.write_all(path);
+    let _ = println!(rt; ": agree {agree}, differ {differ}");
 }
 
 // Every input of the file, in order. What is left of a file that is cut counts as one that differs.
@@ -108,20 +102,24 @@ fn read_full<R: Read>(input: &mut R, text: &mut [u8]) -> usize
     done
 }
 
-// Reads a file to the front of `text`, and answers how much was read: nothing where there is no such file.
-fn read_file(rt: &(impl Files + Eprint), path: &str, text: &mut [u8]) -> usize
+// Reads a file to the front of `text`, and answers how much was read: nothing where there is no such file. A path that is no text names no file.
+fn read_file(rt: &(impl Files + Eprint), path: &[u8], text: &mut [u8]) -> usize
     ensures { result ≤ length text.new }
 {
-    match fs::open(rt, path) {
+    let Ok(name) = str::from_utf8(path) else {
+        let _ = eprintln!(rt; "a file whose path is no text");
+        return 0;
+    };
+    match fs::open(rt, name) {
         Ok(mut file) => read_full(&mut file, text),
         Err(e) => {
-            let _ = eprintln!(rt; "{path}: {e}");
+            let _ = eprintln!(rt; "{name}: {e}");
             0
         }
     }
 }
 
-fn replay_file(rt: &(impl Files + Print + Eprint), path: &str) {
+fn replay_file(rt: &(impl Files + Print + Eprint), path: &[u8]) {
     let mut text = room();
     let mut out = room();
     let n = read_file(rt, path, &mut text);
@@ -129,7 +127,7 @@ fn replay_file(rt: &(impl Files + Print + Eprint), path: &str) {
 }
 
 fn main(rt: HostRuntime) {
-    replay_file(&rt, "inputs");
-    replay_file(&rt, "gap");
-    replay_file(&rt, "wrong");
+    replay_file(&rt, b"inputs");
+    replay_file(&rt, b"gap");
+    replay_file(&rt, b"wrong");
 }
