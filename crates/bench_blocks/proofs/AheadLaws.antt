@@ -1,19 +1,19 @@
 -- With an output of ROOM bytes or more a call that stops for the output has read a byte at least. Assumes nothing.
-use Prim.Native.Nat.{ℕ, zero, suc, ◌+◌, ◌-◌, ◌≤◌, ◌<◌}
+use Prim.Native.Nat.{ℕ, zero, suc, ◌+◌, ◌≤◌, ◌<◌}
 use native.Mathlib.Omega.{arith}
-use mathlib.Core.Path.{◌≡◌, refl, sym, ap, subst, ◌∙◌}
+use mathlib.Core.Path.{◌≡◌, refl}
 use mathlib.Core.Bool.{Bool, true, false, cond, false≢true}
-use mathlib.Core.List.{List, [], ◌∷◌, ◌++◌, append-nil}
+use mathlib.Core.List.{List, [], ◌++◌}
 use borrow.Author.Tests.{eqb-false, le-ltb}
 use lib.Dec.{ltb, eqb}
-use lib.ListN.{length, take, drop, length-drop}
+use lib.ListN.{length, drop}
 use lib.Ieee.{Float}
 use Rattle.trcf.specs.View.{Lent}
 use Rattle.bench_core.specs.declared.step.Bench.{Bench}
-use Rattle.bench_core.specs.Bench.{cell_length, room, Stepped, bench_step}
+use Rattle.bench_core.specs.Bench.{room, Stepped, bench_step}
 use Rattle.bench_core.specs.Run.{blank, shown}
 use Rattle.bench_blocks.specs.Blocks.{TextBlock, text_block, cells_of, ends_with, block_of}
-use Rattle.bench_blocks.proofs.RunLaws.{long_blank, splits}
+use Rattle.bench_blocks.proofs.RunLaws.{long_blank}
 use Rattle.bench_blocks.proofs.PlaceLaws.{step_out}
 
 -- no byte is given back

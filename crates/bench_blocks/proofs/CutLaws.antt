@@ -1,23 +1,22 @@
 -- A field of 24 bytes or more is none, whatever its place: it is read like any other of 24 bytes or more. Assumes nothing.
-use Prim.Native.Nat.{ℕ, zero, suc, ◌+◌, ◌≤◌, ◌<◌}
+use Prim.Native.Nat.{ℕ, ◌≤◌, ◌<◌}
 use native.Mathlib.Omega.{arith}
 use mathlib.Core.Path.{◌≡◌, refl, sym, ap, ◌∙◌}
 use mathlib.Core.Bool.{Bool, true, false, cond}
-use mathlib.Core.List.{List, [], ◌∷◌, ◌++◌}
+use mathlib.Core.List.{List, [], ◌∷◌}
 use mathlib.Core.Option.{Option, none, some}
 use lib.Dec.{ltb}
 use lib.ListN.{length, take, length-take}
 use lib.Seq.{take-length}
 use borrow.Author.Tests.{ltb-true}
 use lib.Ieee.{Float, Format, binary32, binary64}
-use Rattle.snapshot.specs.Text.{whole, float, width}
+use Rattle.snapshot.specs.Text.{width}
 use Rattle.snapshot.specs.Read.{as_whole, as_float}
 use Rattle.snapshot.specs.Scan.{number_of, single_of, double_of}
 use Rattle.snapshot.proofs.HexLaws.{float_of_lem}
 use Rattle.snapshot.proofs.ScanLaws.{whole_of}
 use Rattle.snapshot.proofs.WriteLaws.{float_length, whole_short}
-use Rattle.snapshot.specs.declared.field.Number.{Number}
-use Rattle.snapshot.specs.declared.field.Number.TheVariants.{Is, No}
+use Rattle.snapshot.specs.declared.field.Number.TheVariants.{No}
 use Rattle.bench_core.specs.declared.line.Name.TheVariants.{Unread, Other}
 use Rattle.bench_core.specs.declared.line.Place.{Place}
 use Rattle.bench_core.specs.declared.line.Place.TheVariants.{AsLetter, AsMethod, AsWhole, AsDouble, AsSingle, Nowhere}

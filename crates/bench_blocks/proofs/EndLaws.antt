@@ -1,20 +1,19 @@
 -- The end of the input at its place, and a whole block. Assumes nothing.
-use Prim.Native.Nat.{ℕ, zero, suc, ◌+◌, ◌-◌, ◌≤◌, ◌<◌}
+use Prim.Native.Nat.{ℕ, suc, ◌+◌, ◌-◌, ◌≤◌}
 use native.Mathlib.Omega.{arith}
 use mathlib.Core.Path.{◌≡◌, refl, sym, ap, subst, ◌∙◌}
-use mathlib.Core.Bool.{Bool, true, false, cond, not, false≢true}
-use mathlib.Core.List.{List, [], ◌∷◌, ◌++◌, append_assoc}
+use mathlib.Core.Bool.{Bool, true, false, not, false≢true}
+use mathlib.Core.List.{List, [], ◌++◌}
 use borrow.Author.Tests.{le-ltb}
-use lib.Dec.{ltb}
 use lib.ListN.{length, take, drop, length-append, length-take, length-drop, take-append-drop}
 use lib.Seq.{take_all, take-append_seam, drop-append_seam, drop-drop}
 use lib.Ieee.{Float}
 use Rattle.refusal.specs.Lent.{over}
 use Rattle.trcf.specs.View.{Lent}
 use Rattle.bench_core.specs.declared.step.Bench.{Bench}
-use Rattle.bench_core.specs.Bench.{Output, output, prints, room, end_result, finish_by, Finished, finished, finish_of}
+use Rattle.bench_core.specs.Bench.{output, prints, end_result, Finished, finished, finish_of}
 use Rattle.bench_core.specs.Run.{bench_memory, blank, shown}
-use Rattle.bench_blocks.specs.Blocks.{TextBlock, text_block, cells_of, ends_with, block_of, BlockPrinted, block_printed, prints_block}
+use Rattle.bench_blocks.specs.Blocks.{TextBlock, cells_of, ends_with, block_of, BlockPrinted, block_printed, prints_block}
 use Rattle.bench_blocks.specs.Steps.{Handed, Closed}
 use Rattle.bench_blocks.proofs.OutLaws.{end_out}
 use Rattle.bench_blocks.proofs.RunLaws.{long_blank}

@@ -1,7 +1,7 @@
 -- The claim of specs/Program at concrete arguments, worked out by computation: an input cut at every place into two blocks. Assumes nothing.
-use Prim.Native.Nat.{ℕ, zero, suc, ◌+◌, ◌<◌}
+use Prim.Native.Nat.{ℕ, zero, suc, ◌+◌}
 use native.Mathlib.Omega.{arith}
-use Prim.Native.String.{String, ◌++◌ as ◌·◌}
+use Prim.Native.String.{String}
 use mathlib.Core.Path.{◌≡◌, refl, sym, ap, ◌∙◌}
 use mathlib.Core.Bool.{Bool, true, false}
 use mathlib.Core.List.{List, [], ◌∷◌, ◌++◌, append-nil}
@@ -15,7 +15,7 @@ use Rattle.bench_core.specs.declared.step.Phase.TheVariants.{WantsSet, WantsWeig
 use Rattle.bench_blocks.specs.declared.turn.Run.{Run}
 use Rattle.bench_blocks.specs.Blocks.{block_of}
 use Rattle.bench_blocks.specs.Turns.{first_run, TurnResult, turn_of}
-use Rattle.bench_blocks.specs.Program.{Program, reads, ends, program_ends as stops}
+use Rattle.bench_blocks.specs.Program.{Program, reads, program_ends as stops}
 use Rattle.bench_blocks.proofs.ProgramLaws.{blocks_print}
 use Rattle.bench_blocks.specs.Whole.{whole_prints}
 use lib.Ieee.{to_bits, of_bits, of_fields, odd, fits, size, round, le, lt, eq, add, sub, mul, div, of_int}

@@ -3,7 +3,7 @@ use Prim.Native.Nat.{ℕ, zero, suc, ◌+◌, ◌-◌, ◌≤◌, ◌<◌}
 use native.Mathlib.Omega.{arith}
 use mathlib.Core.Path.{◌≡◌, refl, sym, ap, subst, ◌∙◌}
 use mathlib.Core.Bool.{Bool, true, false, cond, false≢true}
-use mathlib.Core.List.{List, [], ◌∷◌, ◌++◌, append-nil}
+use mathlib.Core.List.{List, [], ◌++◌, append-nil}
 use borrow.Author.Tests.{eqb-true, eqb-false, eq-eqb, ne_eqb, le-ltb, lt-ltb}
 use lib.Dec.{ltb, eqb}
 use lib.ListN.{length, take, drop, length-drop, take-append-drop}
@@ -12,9 +12,9 @@ use lib.Ieee.{Float}
 use Rattle.refusal.specs.Lent.{over}
 use Rattle.trcf.specs.View.{Lent}
 use Rattle.bench_core.specs.declared.step.Bench.{Bench}
-use Rattle.bench_core.specs.Bench.{Output, output, prints, LineResult, line_result, cell_length, room, Stepped, stepped, bench_step}
+use Rattle.bench_core.specs.Bench.{output, prints, line_result, cell_length, room, Stepped, stepped, bench_step}
 use Rattle.bench_core.specs.Run.{blank, shown}
-use Rattle.bench_blocks.specs.Blocks.{TextBlock, text_block, cells_of, BlockPrinted, block_printed, prints_block}
+use Rattle.bench_blocks.specs.Blocks.{TextBlock, text_block, cells_of, block_printed, prints_block}
 use Rattle.bench_blocks.specs.Steps.{Placed, Handed}
 use Rattle.bench_blocks.proofs.ReadLaws.{at_most, step_none, step_read}
 use Rattle.bench_blocks.proofs.RunLaws.{roomy, long_blank}

@@ -1,11 +1,10 @@
 -- What a line leaves does not depend on what stood in the output, and what it prints is laid over that. Assumes nothing.
-use Prim.Native.Nat.{ℕ, zero, suc, ◌+◌, ◌≤◌, ◌<◌}
-use native.Mathlib.Omega.{arith}
-use mathlib.Core.Path.{◌≡◌, refl, sym, ap, subst, ◌∙◌}
+use Prim.Native.Nat.{ℕ, zero, suc}
+use mathlib.Core.Path.{◌≡◌, refl, sym, ap, subst}
 use mathlib.Core.Bool.{Bool, true, false, cond}
-use mathlib.Core.List.{List, [], ◌∷◌, ◌++◌}
+use mathlib.Core.List.{List}
 use lib.Dec.{T, ltb}
-use lib.ListN.{length, take, drop, get_or}
+use lib.ListN.{length, drop, get_or}
 use lib.Seq.{take-append_seam}
 use lib.Ieee.{Float}
 use Rattle.refusal.specs.Lent.{over}
@@ -22,7 +21,7 @@ use Rattle.bench_core.specs.declared.step.Bench.{Bench}
 use Rattle.bench_core.specs.declared.step.Phase.{Phase}
 use Rattle.bench_core.specs.declared.step.Phase.TheVariants.{WantsSet, WantsWeights, Running, Ended}
 use Rattle.bench_core.specs.Line.{request_of, kept_of}
-use Rattle.bench_core.specs.Bench.{Output, output, prints, no_text, LineResult, line_result, refused_by, end_of, ready_for, set_gives, built_of, built_gives, build_gives, weights_gives, other_form, going_on, plain_gives, call_gives, save_printed, save_prints, line_by, line_gives, builder_from, CallResult, line_of_call, prints_call, point_result, learn_result, drain_result, begun, EndResult, end_result, finish_by}
+use Rattle.bench_core.specs.Bench.{output, prints, no_text, LineResult, line_result, refused_by, end_of, ready_for, set_gives, built_of, built_gives, build_gives, weights_gives, going_on, call_gives, save_printed, save_prints, line_by, line_gives, builder_from, CallResult, line_of_call, prints_call, point_result, learn_result, drain_result, begun, end_result, finish_by}
 use Rattle.bench_core.specs.Run.{shown}
 
 -- what a line leaves, and the text that it prints

@@ -1,19 +1,19 @@
 -- A cell at its place in a text, printed at its place in an output. Assumes nothing.
-use Prim.Native.Nat.{ℕ, zero, suc, ◌+◌, ◌-◌, ◌≤◌, ◌<◌}
+use Prim.Native.Nat.{ℕ, ◌+◌, ◌-◌, ◌≤◌, ◌<◌}
 use native.Mathlib.Omega.{arith}
 use mathlib.Core.Path.{◌≡◌, refl, sym, ap, subst, ◌∙◌}
 use mathlib.Core.Bool.{Bool, true, false, cond}
-use mathlib.Core.List.{List, [], ◌∷◌, ◌++◌, append_assoc}
+use mathlib.Core.List.{List, ◌++◌, append_assoc}
 use borrow.Author.Tests.{eqb-true, eqb-false}
-use lib.Dec.{ltb, eqb}
-use lib.ListN.{length, take, drop, get_or, length-append, length-take, length-drop, length-replicate, take-append-drop}
+use lib.Dec.{eqb}
+use lib.ListN.{length, take, drop, get_or, length-append, length-take, length-drop, take-append-drop}
 use lib.Seq.{take-append-add, drop-append-add, take-append_seam, drop-append_seam, drop-append-le, drop-drop, length-take-le, take_all}
 use lib.Ieee.{Float}
 use Rattle.refusal.specs.Lent.{over}
 use Rattle.trcf.specs.View.{Lent}
 use Rattle.bench_core.specs.Line.{cell_of}
 use Rattle.bench_core.specs.declared.step.Bench.{Bench}
-use Rattle.bench_core.specs.Bench.{Output, output, prints, LineResult, line_result, line_gives, cell_length, room, Stepped, stepped, bench_step, with_line}
+use Rattle.bench_core.specs.Bench.{output, prints, line_result, line_gives, cell_length, Stepped, stepped, bench_step, with_line}
 use Rattle.bench_core.specs.Run.{blank, shown}
 use Rattle.bench_blocks.specs.Steps.{Placed}
 use Rattle.bench_blocks.proofs.OutLaws.{reply_of, speaks}

@@ -1,25 +1,24 @@
 -- Whatever blocks an input arrives in, the program writes what the input prints. Assumes nothing.
-use Prim.Native.Nat.{ℕ, zero, suc, ◌+◌, ◌-◌, ◌≤◌, ◌<◌}
+use Prim.Native.Nat.{ℕ, zero, suc, ◌+◌, ◌-◌, ◌≤◌}
 use native.Mathlib.Omega.{arith}
 use mathlib.Core.Path.{◌≡◌, refl, sym, ap, subst, ◌∙◌}
 use mathlib.Core.Bool.{Bool, true, false, cond, false≢true}
 use mathlib.Core.List.{List, [], ◌∷◌, ◌++◌, append_assoc, append-nil}
-use borrow.Author.Tests.{ltb-true, ltb-false, ne_eqb}
-use lib.Dec.{T, ltb, eqb}
-use lib.ListN.{length, take, drop, replicate, length-take, length-drop}
-use lib.Seq.{length-take-le, take_all, take-nil, drop-nil, take-take, take_at}
+use borrow.Author.Tests.{ltb-true, ne_eqb}
+use lib.Dec.{ltb}
+use lib.ListN.{length, take, drop, replicate, length-drop}
+use lib.Seq.{length-take-le, take_all, take-nil, take-take, take_at}
 use lib.Ieee.{Float}
 use Rattle.refusal.specs.Lent.{over}
 use Rattle.trcf.specs.Transformer.{zero32}
 use Rattle.trcf.specs.View.{Lent}
-use Rattle.bench_core.specs.Bench.{Output, cell_length, cell_kept, room, finish_by, finish_of, Finished, begun, prints, no_text, output, end_result, EndResult, end_of}
+use Rattle.bench_core.specs.Bench.{cell_length, room, finish_by, finish_of, begun, prints, no_text, output, end_result, end_of}
 use Rattle.bench_core.specs.Run.{bench_memory, blank, shown, printed}
 use Rattle.bench_core.specs.declared.step.Bench.{Bench}
 use Rattle.bench_core.specs.declared.step.Phase.{Phase}
 use Rattle.bench_core.specs.declared.step.Phase.TheVariants.{WantsSet, WantsWeights, Running, Ended}
 use Rattle.bench_blocks.specs.Blocks.{TextBlock, cells_of, ends_with, block_of, prints_block}
 use Rattle.bench_blocks.specs.Turns.{first_run, unfit, bytes_in_text, ends_at, bytes_kept, TurnResult, turn_result, carried, turn_of}
-use Rattle.bench_blocks.specs.Whole.{whole_prints}
 use Rattle.bench_blocks.specs.Program.{Program, reads, ends, again, program_ends as stops, BlocksPrint}
 use Rattle.bench_blocks.specs.declared.turn.Run.{Run}
 use Rattle.bench_blocks.proofs.OutLaws.{shown_prints}

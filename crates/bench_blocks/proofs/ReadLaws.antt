@@ -1,13 +1,12 @@
 -- An input byte by byte: what a step reads, and what it leaves to be read. Assumes nothing.
 use Prim.Native.Nat.{ℕ, zero, suc, ◌+◌, ◌≤◌, ◌<◌}
 use native.Mathlib.Omega.{arith}
-use native.Mathlib.Numerals.{add-one}
 use mathlib.Core.Path.{◌≡◌, refl, sym, ap, ◌∙◌}
 use mathlib.Core.Bool.{Bool, true, false, cond, ◌||◌}
 use mathlib.Core.List.{List, [], ◌∷◌, ◌++◌, append_assoc, append-nil}
 use borrow.Author.Tests.{ne_eqb, eq-eqb, le-ltb, ltb-true, ltb-false}
 use lib.Dec.{ltb, eqb}
-use lib.ListN.{length, take, drop, get_or, replicate, length-append, length-take, length-replicate}
+use lib.ListN.{length, take, drop, get_or, length-append, length-take}
 use lib.Seq.{take_all, take-take, length-take-le, split_at}
 use lib.Ieee.{Float}
 use Rattle.trcf.specs.View.{Lent}
@@ -16,7 +15,7 @@ use Rattle.bench_core.specs.declared.line.Line.{Line}
 use Rattle.bench_core.specs.declared.step.Bench.{Bench}
 use Rattle.bench_core.specs.declared.step.Phase.{Phase}
 use Rattle.bench_core.specs.declared.step.Phase.TheVariants.{WantsSet, WantsWeights, Running, Ended}
-use Rattle.bench_core.specs.Bench.{output, LineResult, line_result, line_gives, cell_length, cell_kept, cell_step, room, Stepped, stepped, with_line, bench_step, begun, finish_by, finish_of}
+use Rattle.bench_core.specs.Bench.{output, LineResult, line_result, line_gives, cell_length, cell_kept, cell_step, room, stepped, with_line, bench_step, finish_by}
 use Rattle.bench_core.specs.Run.{blank, shown}
 use Rattle.bench_blocks.proofs.CutLaws.{cut_cell, long_alike}
 

@@ -4,18 +4,18 @@ use native.Mathlib.Omega.{arith}
 use native.Mathlib.Numerals.{add-one}
 use mathlib.Core.Path.{◌≡◌, refl, sym, ap, subst, ◌∙◌}
 use mathlib.Core.Bool.{Bool, true, false, cond, false≢true}
-use mathlib.Core.List.{List, [], ◌∷◌, ◌++◌, append_assoc, append-nil}
+use mathlib.Core.List.{List, [], ◌++◌, append_assoc, append-nil}
 use borrow.Author.Tests.{eqb-true, eqb-false, ne_eqb}
 use lib.Dec.{ltb, eqb}
-use lib.ListN.{length, take, drop, get_or, replicate, length-replicate}
+use lib.ListN.{length, take, drop, get_or, length-replicate}
 use lib.Seq.{drop-drop}
 use lib.Ieee.{Float}
 use Rattle.trcf.specs.View.{Lent}
 use Rattle.bench_core.specs.declared.step.Bench.{Bench}
-use Rattle.bench_core.specs.Bench.{output, LineResult, line_result, cell_length, room, Stepped, stepped, bench_step, finish_by, finished, finish_of}
+use Rattle.bench_core.specs.Bench.{LineResult, cell_length, room, bench_step, finish_by, finish_of}
 use Rattle.bench_core.specs.Run.{blank, shown}
 use Rattle.bench_blocks.specs.Blocks.{TextBlock, text_block, cells_of, ends_with, block_of}
-use Rattle.bench_blocks.proofs.ReadLaws.{cell_heard, reads_on, at_most, step_none, step_read, reads_cell, reads_end, reads_cut}
+use Rattle.bench_blocks.proofs.ReadLaws.{cell_heard, reads_on, at_most, step_none, step_read, reads_cell, reads_end}
 
 pub long_blank : length blank ≡ 65536
 long_blank = length-replicate {A = ℕ} 65536 0

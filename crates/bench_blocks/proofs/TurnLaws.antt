@@ -1,19 +1,18 @@
 -- A turn, from what its parts promise; and what it leaves for the next one. Assumes nothing.
-use Prim.Native.Nat.{ℕ, zero, suc, ◌+◌, ◌-◌, ◌≤◌, ◌<◌}
+use Prim.Native.Nat.{ℕ, ◌+◌, ◌-◌, ◌≤◌, ◌<◌}
 use native.Mathlib.Omega.{arith}
 use mathlib.Core.Path.{◌≡◌, refl, sym, ap, subst, ◌∙◌}
 use mathlib.Core.Bool.{Bool, true, false, cond, false≢true}
-use mathlib.Core.List.{List, []}
+use mathlib.Core.List.{List}
 use borrow.Author.Tests.{ltb-false, leb-false, le-ltb, lt-leb}
 use lib.Dec.{ltb, leb}
-use lib.ListN.{length, take, drop, length-take}
+use lib.ListN.{length, take, drop}
 use lib.Seq.{length-take-le}
 use lib.Ieee.{Float}
 use Rattle.refusal.specs.Lent.{over}
 use Rattle.trcf.specs.View.{Lent}
-use Rattle.bench_core.specs.Bench.{Output, output, room, cell_kept}
-use Rattle.bench_core.specs.declared.step.Bench.{Bench}
-use Rattle.bench_blocks.specs.Blocks.{TextBlock, cells_of, ends_with, block_of, BlockPrinted, prints_block}
+use Rattle.bench_core.specs.Bench.{output, room}
+use Rattle.bench_blocks.specs.Blocks.{TextBlock, block_of, BlockPrinted, prints_block}
 use Rattle.bench_blocks.specs.Turns.{run_with, unfit, bytes_in_text, ends_at, bytes_kept, TurnResult, turn_result, carried, turn_of}
 use Rattle.bench_blocks.specs.declared.turn.Run.{Run}
 use Rattle.bench_blocks.proofs.AheadLaws.{block_ahead}

@@ -1,12 +1,12 @@
 -- Byte by byte and line by line the bench prints the same; and so it does block by block. Assumes nothing.
-use Prim.Native.Nat.{ℕ, zero, suc, ◌+◌, ◌≤◌, ◌<◌}
+use Prim.Native.Nat.{ℕ, zero, suc, ◌+◌, ◌<◌}
 use native.Mathlib.Omega.{arith}
 use native.Mathlib.Numerals.{add-one}
 use mathlib.Core.Path.{◌≡◌, refl, sym, ap, subst, ◌∙◌}
 use mathlib.Core.Bool.{Bool, true, false, cond, not, ◌||◌, false≢true}
 use mathlib.Core.List.{List, [], ◌∷◌, ◌++◌, append_assoc, append-nil}
 use borrow.Author.Tests.{ne_eqb, eqb-true, eqb-false}
-use lib.Dec.{T, ltb, leb, eqb}
+use lib.Dec.{leb, eqb}
 use lib.ListN.{length, set, take, drop, get_or, replicate, length-drop}
 use lib.Ieee.{Float, binary32, binary64}
 use Rattle.trcf.specs.Transformer.{zero32}
@@ -27,7 +27,7 @@ use Rattle.bench_core.specs.declared.step.Bench.{Bench}
 use Rattle.bench_core.specs.declared.step.Phase.{Phase}
 use Rattle.bench_core.specs.declared.step.Phase.TheVariants.{WantsSet, WantsWeights, Running, Ended}
 use Rattle.bench_core.specs.Line.{is_named, named_line, line as line_of, after_field, short_name, long_name, name_of, letter_of, method_field, place_of, other_line, blank_line, with_whole, with_double, with_single, field_at, line_with_field, cell_of, request_of, kept_of}
-use Rattle.bench_core.specs.Bench.{output, no_text, LineResult, line_result, cell_length, end_of, ready_for, refused_by, built_of, built_gives, build_gives, set_gives, weights_gives, call_gives, plain_gives, line_by, line_gives, fresh_bench, with_line, begun, finish_by, end_result, prints}
+use Rattle.bench_core.specs.Bench.{output, no_text, LineResult, line_result, cell_length, end_of, ready_for, refused_by, built_of, built_gives, build_gives, set_gives, weights_gives, call_gives, line_by, line_gives, fresh_bench, with_line, begun, finish_by, end_result, prints}
 use Rattle.bench_core.specs.Run.{bench_memory, blank, shown, printed_from, printed}
 use Rattle.bench_blocks.specs.Whole.{push_byte, split_by, with_fields, line_of_text, end_text, lines_print, whole_prints}
 use Rattle.bench_blocks.proofs.OutLaws.{shown_prints}

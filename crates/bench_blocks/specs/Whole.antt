@@ -1,9 +1,9 @@
 -- What the bench prints for a whole input, by its lines and their fields, as document 01 says it: no blocks, no steps, and no field cut.
-use Rattle.std.specs.Prelude.{ℕ, zero, suc, Bool, true, false, cond, List, [], ◌∷◌, ◌++◌, eqb, replicate, Float}
+use Rattle.std.specs.Prelude.{ℕ, cond, List, [], ◌∷◌, ◌++◌, eqb, replicate, Float}
 use Rattle.trcf.specs.Transformer.{zero32}
 use Rattle.trcf.specs.View.{Lent}
 use Rattle.bench_core.specs.Line.{blank_line, cell_of}
-use Rattle.bench_core.specs.Bench.{LineResult, fresh_bench, line_gives, no_text}
+use Rattle.bench_core.specs.Bench.{fresh_bench, line_gives, no_text}
 use Rattle.bench_core.specs.Run.{bench_memory, blank, shown}
 use Rattle.bench_core.specs.declared.line.Line.{Line}
 use Rattle.bench_core.specs.declared.step.Bench.{Bench}

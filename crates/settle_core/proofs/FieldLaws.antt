@@ -7,7 +7,7 @@ use mathlib.Core.List.{List, [], ◌∷◌}
 use mathlib.Core.Option.{Option, none, some}
 use borrow.Author.Tests.{eq-eqb, ne_eqb, lt-ltb}
 use lib.Dec.{ltb, eqb}
-use lib.IntN.{ℤ, pos, negsuc, neg_ℤ}
+use lib.IntN.{ℤ, pos, negsuc}
 use lib.ListN.{length, take, drop, get_or, length-drop}
 use lib.Seq.{get_or-drop, drop-drop}
 use Rattle.trcf.specs.Lists.{null}
@@ -19,7 +19,7 @@ use Rattle.settling.specs.Settling.{Signal, signal, integer_size, in_limits}
 use Rattle.settling.specs.Steps.{with_sign, signed, option_of}
 use Rattle.settling.specs.declared.signal.Signed.{Signed}
 use Rattle.settling.proofs.SignalLaws.{size_signed}
-use Rattle.settle_core.specs.Input.{positive_number, negative_number, signed_of, Part, no_part, part, part_by as readPart, part_of, with_part, limited, fields_of, is_signal, signal_read as signalAt}
+use Rattle.settle_core.specs.Input.{positive_number, negative_number, signed_of, Part, no_part, part_by as readPart, part_of, with_part, limited, fields_of, is_signal, signal_read as signalAt}
 use Rattle.settle_core.specs.Steps.{is_negative, part_if, part_in}
 use Rattle.settle_core.specs.declared.field.Part as held
 use Rattle.settle_core.proofs.ScanLaws.{rest_is}

@@ -5,27 +5,25 @@ use native.Mathlib.Numerals.{add-one}
 use mathlib.Core.Path.{◌≡◌, refl, sym, ap, ◌∙◌}
 use mathlib.Core.Bool.{Bool, true, false, cond, ◌&&◌}
 use mathlib.Core.List.{List, [], ◌∷◌, ◌++◌, map}
-use mathlib.Core.Option.{Option, none, some}
+use mathlib.Core.Option.{none, some}
 use borrow.Author.Tests.{eqb-true, not-false}
-use lib.Dec.{ltb, eqb}
-use lib.ListN.{length, take, drop, set, get_or, replicate}
-use lib.Seq.{take-suc-set, length-take-le}
-use lib.Ieee.{Float, nan}
+use lib.Dec.{eqb}
+use lib.ListN.{length, take, set, get_or, replicate}
+use lib.Seq.{take-suc-set}
+use lib.Ieee.{Float}
 use Rattle.trcf.specs.Settings.{Settings, settings_row}
-use Rattle.trcf.specs.Preprocessor.{accepted}
 use Rattle.trcf.specs.View.{settings_from}
 use Rattle.trcf.specs.declared.head.PreprocessorBuilder.{PreprocessorBuilder}
 use Rattle.trcf.proofs.OutcomeLaws.{accepted_not}
 use Rattle.snapshot.proofs.Accepted.{rows_of}
 use Rattle.bench_core.specs.declared.line.Name.TheVariants.{Set, Weights}
 use Rattle.bench_core.specs.Line.{is_named, request_of, kept_of, kept_count}
-use Rattle.bench_core.specs.Bench.{builder_from, code_count, zero_codes}
+use Rattle.bench_core.specs.Bench.{code_count, zero_codes}
 use Rattle.bench_core.specs.declared.line.Line.{Line}
 use Rattle.settling.specs.Settling.{Signal, pair_row}
-use Rattle.settling.specs.Steps.{signal_of, option_of}
 use Rattle.settling.proofs.StepLaws.{take_replicate}
 use Rattle.settling.proofs.Theorem.{pair_parts}
-use Rattle.settle_core.specs.Input.{Scanned, line_of, PairRead, faulty, pair_taken, settings_by, pair_by, pair_of, Input, input_refused, input, signalled, and_then, opens, then_pair, input_from, input_of, signal_read as signalAt}
+use Rattle.settle_core.specs.Input.{line_of, PairRead, faulty, pair_taken, settings_by, pair_by, pair_of, Input, input_refused, input, signalled, and_then, opens, then_pair, input_from, input_of, signal_read as signalAt}
 use Rattle.settle_core.specs.Steps.{pair_settings, pair_in, prefixed, input_in}
 use Rattle.settle_core.specs.declared.pair.Pair as kept
 use Rattle.settle_core.specs.declared.pair.PairRead as read

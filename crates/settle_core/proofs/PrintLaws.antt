@@ -1,31 +1,28 @@
 -- Lines printed one after the other. Assumes nothing.
-use Prim.Native.Nat.{ℕ, zero, suc, ◌+◌, ◌-◌, ◌*◌, ◌≤◌, ◌<◌}
+use Prim.Native.Nat.{ℕ, suc, ◌+◌, ◌-◌, ◌≤◌, ◌<◌}
 use native.Mathlib.Omega.{arith}
 use native.Mathlib.Numerals.{add-one}
 use native.Mathlib.Nat.{add-zero}
-use mathlib.Core.Path.{◌≡◌, refl, sym, ap, ◌∙◌, subst}
-use mathlib.Core.Bool.{Bool, true, false, cond}
+use mathlib.Core.Path.{◌≡◌, refl, sym, ap, ◌∙◌}
+use mathlib.Core.Bool.{Bool, true, false}
 use mathlib.Core.List.{List, [], ◌∷◌, ◌++◌, map, append-nil, append_assoc}
-use mathlib.Core.Option.{none, some}
 use borrow.Author.Tests.{le-ltb}
-use lib.ListN.{length, take, drop, get_or, length-append, length-drop, drop_of_length-le}
+use lib.ListN.{length, take, drop, get_or, length-drop, drop_of_length-le}
 use lib.Seq.{length-sets, sets-eq, drop-drop, take-suc, length-take-le}
-use lib.Ieee.{Float, binary32}
+use lib.Ieee.{Float}
 use Rattle.refusal.specs.Lent.{over}
 use Rattle.trcf.specs.Settings.{Settings, whole_max}
-use Rattle.trcf.specs.Preprocessor.{accepted}
-use Rattle.trcf.proofs.OutcomeLaws.{accepted_not}
-use Rattle.snapshot.specs.Text.{whole, float, named}
+use Rattle.snapshot.specs.Text.{whole, named}
 use Rattle.snapshot.specs.Read.{bytes_of_line}
 use Rattle.snapshot.specs.Save.{SaveOutcome, save_outcome, fitted}
 use Rattle.snapshot.specs.Steps.Write.{stored, Wrote}
-use Rattle.snapshot.proofs.WriteLaws.{wrote_then, wrote_is, whole_less, whole_short}
+use Rattle.snapshot.proofs.WriteLaws.{whole_less, whole_short}
 use Rattle.snapshot.proofs.PairLines.{number_size}
 use Rattle.snapshot_save.specs.Line.{text_within, optional_field, optional_line}
 use Rattle.bench_core.specs.Bench.{no_text}
-use Rattle.settling.specs.Settling.{Signal, Noted, noted, run_of}
+use Rattle.settling.specs.Settling.{Signal, Noted, run_of}
 use Rattle.settling.specs.Steps.{option_of, signal_of}
-use Rattle.settle_core.specs.Input.{Input, input_refused, input, input_of}
+use Rattle.settle_core.specs.Input.{input, input_of}
 use Rattle.settle_core.specs.Settle.{or_never, largest_field, noted_line, line_texts, printed_by, settle_of}
 use Rattle.settle_core.specs.Steps.{pair_settings, input_in}
 use Rattle.settle_core.specs.declared.pair.Pair as kept

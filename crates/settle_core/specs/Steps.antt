@@ -1,12 +1,9 @@
 -- What the program's own parts promise, in the terms of Input and Settle.
-use Rattle.std.specs.Prelude.{ℕ, zero, suc, ◌-◌, Bool, true, false, cond, List, [], ◌∷◌, map, ℤ, pos, negsuc, drop, take}
-use Rattle.std.proofs.Math.Option.{Option, none, some}
+use Rattle.std.specs.Prelude.{ℕ, Bool, true, false, List, [], ◌∷◌, map, ℤ, pos, negsuc, drop, take}
 use Rattle.trcf.specs.Settings.{Settings}
 use Rattle.trcf.specs.Preprocessor.{accepted}
 use Rattle.trcf.specs.View.{settings_from}
-use Rattle.settling.specs.Settling.{Signal}
-use Rattle.settling.specs.Steps.{signed, signal_of, option_of}
-use Rattle.settling.specs.declared.signal.Signed.{Signed}
+use Rattle.settling.specs.Steps.{signed, signal_of}
 use Rattle.settle_core.specs.Input.{Scanned, scanned, PairRead, faulty, pair_taken, Part, no_part, part, Input, input_refused, input, and_then}
 use Rattle.settle_core.specs.declared.scan.Line as held
 use Rattle.settle_core.specs.declared.pair.Pair as kept

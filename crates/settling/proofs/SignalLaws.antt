@@ -5,8 +5,8 @@ use native.Mathlib.Nat.{zero-mul}
 use mathlib.Core.Path.{◌≡◌, refl, sym, ap, ◌∙◌}
 use mathlib.Core.Bool.{Bool, true, false, cond, ◌&&◌, beq, true≢false}
 use lib.Dec.{leb, ltb, eqb}
-use lib.IntN.{ℤ, pos, negsuc, neg_ℤ, sub_ℕ, ◌+ℤ◌, ◌*ℤ◌}
-use lib.Ieee.{Float, Format, binary32, of_int, neg, round}
+use lib.IntN.{ℤ, pos, neg_ℤ, sub_ℕ, ◌+ℤ◌, ◌*ℤ◌}
+use lib.Ieee.{Float, binary32, of_int, neg}
 use borrow.Author.Tests.{lt-ltb, le-ltb, ltb-true, ltb-false, leb-true}
 use Rattle.common.proofs.RoundOrder.{round_negated}
 use Rattle.settling.specs.Settling.{Signal, integer_size, counts_in_limits, in_limits, signal_value, value_at}

@@ -13,7 +13,7 @@ use lib.Ieee.{Float, nan}
 use Rattle.trcf.specs.Lists.{last_or}
 use Rattle.trcf.specs.Settings.{Settings}
 use Rattle.trcf.specs.Calls.{Learn}
-use Rattle.trcf.specs.View.{Lent, ready_of, PointOutcome, pointed, point_after, LearnOutcome, learn_nothing, learn_after}
+use Rattle.trcf.specs.View.{Lent, ready_of, PointOutcome, pointed, point_after, learn_nothing, learn_after}
 use Rattle.access.specs.declared.rights.Right.TheVariants.{SEE, LEARN}
 use Rattle.access.specs.declared.getters.Ready.{Ready}
 use Rattle.access.specs.Access.{every_right}

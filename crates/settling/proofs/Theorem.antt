@@ -1,28 +1,27 @@
 -- What the program's run notes is what the definitions note, for settings of d 1 that no row refuses. Rests on `runs_held`: whatever calls are made, what the
 -- program holds is the state that they lead to.
-use Prim.Native.Nat.{ℕ, zero, suc, ◌+◌, ◌*◌, ◌≤◌, ◌<◌}
+use Prim.Native.Nat.{ℕ, zero, suc, ◌+◌, ◌*◌, ◌≤◌}
 use native.Mathlib.Nat.{mul-le-mul}
 use native.Mathlib.Omega.{arith}
 use mathlib.Core.Path.{◌≡◌, refl, sym, ap, ◌∙◌, subst}
 use mathlib.Core.Bool.{Bool, true, false, cond, not, ◌||◌}
 use mathlib.Core.List.{List, [], ◌∷◌, ◌++◌, head-eq_of_cons-eq}
-use mathlib.Core.Option.{Option, none, some}
-use lib.Dec.{T, ltb, leb, eqb}
-use lib.IntN.{pos}
-use lib.ListN.{length, drop, get_or, replicate, length-replicate}
-use lib.Ieee.{Float, nan, binary32, fits, of_int}
+use mathlib.Core.Option.{Option, none}
+use lib.Dec.{ltb, leb, eqb}
+use lib.ListN.{length, drop, get_or, replicate}
+use lib.Ieee.{Float, nan, binary32}
 use lib.Ieee.Fits.{of_int-fits}
 use lib.Ieee.Bits.{of_bits-fits}
-use borrow.Author.Tests.{le-ltb, lt-ltb, ltb-true, ltb-false, eqb-true}
+use borrow.Author.Tests.{le-ltb, ltb-false, eqb-true}
 use Rattle.refusal.specs.Lent.{over}
 use Rattle.trcf.specs.Lists.{last_or, shift_in}
 use Rattle.trcf.specs.Fit.{All, Fits}
 use Rattle.trcf.specs.Types.{augments}
 use Rattle.trcf.specs.Transformer.{zero32}
 use Rattle.trcf.specs.Settings.{Settings, MachineSettings, Valid, settings_row, block, dimension, waiting, whole_max}
-use Rattle.trcf.specs.Calls.{Call, Machine, FitsGiven, shingled_point, post_process}
+use Rattle.trcf.specs.Calls.{Call, Machine, FitsGiven, shingled_point}
 use Rattle.trcf.specs.Preprocessor.{State, fresh, run, next, change, refusal, Answer, refused, absent, wrote, answer, point_reply, reply, accepted, drained, point_of, transformed_after, preceding, reading, status_of, statistics_length}
-use Rattle.trcf.specs.View.{Lent, lent, view, settings_of, head_row, head_table, initial_room, lent_short, ready_of, Getters, row_of, answer_of, PointOutcome, point_after, optional}
+use Rattle.trcf.specs.View.{Lent, view, settings_of, head_row, head_table, initial_room, lent_short, ready_of, Getters, row_of, answer_of, PointOutcome, point_after, optional}
 use Rattle.trcf.specs.declared.head.Preprocessor.{Preprocessor}
 use Rattle.trcf.proofs.FitLaws.{all_append, all_drop}
 use Rattle.trcf.proofs.OutcomeLaws.{accepted_not, or_else_is}
@@ -31,7 +30,7 @@ use Rattle.snapshot.specs.Form.{Form}
 use Rattle.snapshot.proofs.Accepted.{rows_of, none_refuses}
 use Rattle.snapshot.proofs.Lists.{all_replicate}
 use Rattle.snapshot.proofs.RoundTrip.{few_of}
-use Rattle.restart.specs.Held.{Held, held, built_on, held_next, held_run, held_answers}
+use Rattle.restart.specs.Held.{Held, held, held_next}
 use Rattle.restart.proofs.Held.{Holds, Runs, runs_held, built_holds}
 use Rattle.restart.proofs.Panel.{getters_at}
 use Rattle.restart.proofs.Reachable.{run_form}
@@ -40,8 +39,8 @@ use Rattle.restart.proofs.FeedLaws.{transformed_after_fits}
 use Rattle.restart_program.specs.Program.{left_by}
 use Rattle.restart_program.proofs.Program.{left_is_lem}
 use Rattle.settling.specs.Settling.{Signal, value_at, Noted, noted, note, point_call, learn_with, point_in, last_of, Settling, settling_after, settling_at, noted_of, in_limits, pair_row, run_outcome, run_row, run_of}
-use Rattle.settling.specs.Steps.{option_of, point_length, learning, ReadingResult, reading_result, reading_result_with, reading_result_of, Track, track, settling_memory, track_with as trackTurned}
-use Rattle.settling.specs.Steps.{track_after, track_built, track_at}
+use Rattle.settling.specs.Steps.{option_of, point_length, ReadingResult, reading_result, reading_result_with, reading_result_of, Track, settling_memory}
+use Rattle.settling.specs.Steps.{track_after, track_at}
 
 -- ---- the answer of point, as the program reads it
 

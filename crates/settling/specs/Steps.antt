@@ -1,5 +1,5 @@
 -- The run as the program makes it, over a head and six lent lists: what the program's own parts promise. proofs/Theorem.antt: it is the run of the definitions.
-use Rattle.std.specs.Prelude.{ℕ, zero, suc, Bool, true, false, cond, List, [], ◌∷◌, ltb, ℤ, pos, negsuc, neg_ℤ, replicate, Float}
+use Rattle.std.specs.Prelude.{ℕ, zero, suc, Bool, true, false, cond, List, [], ◌∷◌, ltb, ℤ, pos, neg_ℤ, replicate, Float}
 use Rattle.std.proofs.Math.Option.{Option, none, some}
 use Rattle.std.specs.Float.{nan}
 use Rattle.std.specs.Float.Ieee.{eq, lt}
@@ -9,9 +9,8 @@ use Rattle.trcf.specs.Transformer.{zero32}
 use Rattle.trcf.specs.Settings.{Settings, dimension}
 use Rattle.trcf.specs.Calls.{Learn}
 use Rattle.trcf.specs.Preprocessor.{accepted}
-use Rattle.trcf.specs.View.{Lent, lent, settings_of, settings_from, head_row, ready_of, build_of, learn_call, PointOutcome, point_after, LearnOutcome, learn_after}
+use Rattle.trcf.specs.View.{Lent, lent, settings_of, head_row, ready_of, build_of, learn_call, point_after, LearnOutcome, learn_after}
 use Rattle.trcf.specs.declared.head.Preprocessor.{Preprocessor}
-use Rattle.trcf.specs.declared.head.PreprocessorBuilder.{PreprocessorBuilder}
 use Rattle.settling.specs.Settling.{Signal, signal, value_at, Noted, noted, note}
 use Rattle.settling.specs.declared.signal.Signed.{Signed}
 use Rattle.settling.specs.declared.signal.Signal as held

@@ -1,8 +1,7 @@
 -- `bench_blocks::block::cells` meets its contract. Assumes nothing.
-use Prim.Native.Nat.{◌-◌}
 use native.Mathlib.Omega.{arith}
 use mathlib.Core.Path.{refl}
-use lib.ListN.{length, length-drop}
+use lib.ListN.{length-drop}
 use Rattle.trcf.specs.View.{lent}
 use Rattle.bench_blocks.proofs.LoopLaws.{stands_first, stands_full, stands_idle, stands_next}
 use Rattle.bench_blocks.proofs.block.cells.Goals as goal

@@ -1,5 +1,5 @@
 -- `bench_blocks::turn::carry` meets its contract. Assumes nothing.
-use Prim.Native.Nat.{ℕ, ◌-◌}
+use Prim.Native.Nat.{ℕ}
 use mathlib.Core.Path.{◌≡◌, subst}
 use native.Mathlib.Omega.{arith}
 use Rattle.bench_blocks.proofs.CarryLaws.{Moved, moved_none, moved_one, moved_all}

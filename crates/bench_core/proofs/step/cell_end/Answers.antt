@@ -1,7 +1,6 @@
 -- `bench_core::step::cell_end` meets its contract. Assumes nothing.
 use Rattle.bench_core.proofs.CellLaws.{at_tab, at_end, within, none_left}
 use native.Mathlib.Numerals.{add-one}
-use Prim.Native.Nat.{◌-◌}
 use native.Mathlib.Omega.{arith}
 use Rattle.bench_core.proofs.step.cell_end.Goals as goal
 

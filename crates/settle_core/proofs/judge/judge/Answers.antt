@@ -1,7 +1,6 @@
 -- `settle_core::judge::judge` meets its contract. Assumes nothing.
 use mathlib.Core.Path.{refl, sym, ◌∙◌}
 use native.Mathlib.Omega.{arith}
-use Prim.Native.Nat.{◌-◌}
 use lib.ListN.{drop, length-replicate, length-set}
 use Rattle.settle_core.specs.declared.pair.Pair.{Pair}
 use borrow.Author.Tests.{not-true, not-false}

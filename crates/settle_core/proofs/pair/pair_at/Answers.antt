@@ -9,7 +9,7 @@ use borrow.Author.Tests.{not-true, not-false}
 use Rattle.bench_core.specs.declared.line.Name.{Name}
 use Rattle.bench_core.specs.declared.line.Name.TheVariants.{Set, Weights}
 use Rattle.bench_core.specs.Line.{is_named, request_of, kept_of}
-use Rattle.bench_core.specs.Bench.{builder_from, zero_codes}
+use Rattle.bench_core.specs.Bench.{zero_codes}
 use Rattle.trcf.specs.View.{settings_from}
 use Rattle.settle_core.specs.Input.{Scanned, line_of, settings_by, pair_by}
 use Rattle.settle_core.specs.Steps.{scanned_in}

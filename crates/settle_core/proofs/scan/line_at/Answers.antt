@@ -1,7 +1,6 @@
 -- `settle_core::scan::line_at` meets its contract. Assumes nothing.
 use mathlib.Core.Path.{◌≡◌, sym, ap, ◌∙◌}
 use native.Mathlib.Omega.{arith}
-use Prim.Native.Nat.{◌-◌}
 use lib.ListN.{drop, length-drop}
 use Rattle.bench_core.specs.Bench.{cell_length}
 use Rattle.settle_core.proofs.ScanLaws.{rest_is, line_starts, at_open, at_end, at_tab, ends_there}

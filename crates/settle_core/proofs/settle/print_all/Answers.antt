@@ -1,7 +1,7 @@
 -- `settle_core::settle::print_all` meets its contract. Assumes nothing.
 use mathlib.Core.Path.{◌≡◌, ap}
 use native.Mathlib.Omega.{arith}
-use Prim.Native.Nat.{ℕ, ◌-◌}
+use Prim.Native.Nat.{ℕ}
 use Rattle.snapshot.proofs.WriteLaws.{wrote_then, wrote_is}
 use Rattle.settling.specs.Steps.{signal_of}
 use Rattle.settle_core.proofs.PrintLaws.{wrote_none, lines_of, lines_more}

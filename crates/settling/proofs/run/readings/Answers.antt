@@ -1,12 +1,12 @@
 -- `settling::run::readings` meets its contract. Assumes nothing.
 use mathlib.Core.Path.{refl, ◌∙◌}
 use native.Mathlib.Omega.{arith}
-use Prim.Native.Nat.{ℕ, ◌-◌}
+use Prim.Native.Nat.{ℕ}
 use mathlib.Core.List.{[], ◌∷◌}
 use lib.ListN.{length-replicate}
 use Rattle.common.specs.Deviation.{zero64}
 use Rattle.trcf.specs.Transformer.{zero32}
-use Rattle.trcf.specs.View.{lent, settings_from}
+use Rattle.trcf.specs.View.{settings_from}
 use Rattle.settling.specs.Steps.{signal_of, track}
 use Rattle.settling.proofs.SignalLaws.{limited}
 use Rattle.settling.proofs.StepLaws.{track_again, track_done}
