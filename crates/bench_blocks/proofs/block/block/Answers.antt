@@ -13,7 +13,7 @@ returns-then-not-ends c =
       full_after = block_open a.b (lent a.statistics.now a.last_shingled_input.now a.last_shingled_point.now a.previous_timestamps.now a.initial_values.now
           a.initial_timestamps.now) a.point.now a.text.now a.out.now a.ends (block_printed s.result.bench
           (lent s.new.statistics s.new.last_shingled_input s.new.last_shingled_point s.new.previous_timestamps s.new.initial_values s.new.initial_timestamps)
-          s.new.point s.result.read (output s.result.written s.new.out) s.result.full) s.ensures c.if-not-ends.true-raw;
+          s.new.point s.result.read (output s.result.written s.new.out) s.result.full) s.ensures (cc);
       read_in_bounds = s.ensures.read;
       written_in_bounds = omega (arith, s.auto, s.ensures.fits);
     }
@@ -25,7 +25,7 @@ returns-then-r c =
       full_after = block_full a.b (lent a.statistics.now a.last_shingled_input.now a.last_shingled_point.now a.previous_timestamps.now a.initial_values.now
           a.initial_timestamps.now) a.point.now a.text.now a.out.now a.ends (block_printed s.result.bench
           (lent s.new.statistics s.new.last_shingled_input s.new.last_shingled_point s.new.previous_timestamps s.new.initial_values s.new.initial_timestamps)
-          s.new.point s.result.read (output s.result.written s.new.out) s.result.full) s.ensures c.if-not-ends.false-raw c.if-r.true;
+          s.new.point s.result.read (output s.result.written s.new.out) s.result.full) s.ensures (cc) c.if-r.true;
       read_in_bounds = s.ensures.read;
       written_in_bounds = omega (arith, s.auto, s.ensures.fits);
     }
@@ -74,7 +74,7 @@ returns c =
       full_after = block_closed a.b (lent a.statistics.now a.last_shingled_input.now a.last_shingled_point.now a.previous_timestamps.now a.initial_values.now
           a.initial_timestamps.now) a.point.now a.text.now a.out.now a.ends (block_printed s.result.bench
           (lent s.new.statistics s.new.last_shingled_input s.new.last_shingled_point s.new.previous_timestamps s.new.initial_values s.new.initial_timestamps)
-          s.new.point s.result.read (output s.result.written s.new.out) s.result.full) s.ensures c.if-not-ends.false-raw c.if-r.false t.result.bench t.new.out t.result.length t.ensures;
+          s.new.point s.result.read (output s.result.written s.new.out) s.result.full) s.ensures (cc) c.if-r.false t.result.bench t.new.out t.result.length t.ensures;
       read_in_bounds = omega arith;
       written_in_bounds = omega
           (arith, s.auto, t.auto, t.ensures.fits, s.ensures.room c.if-r.false);

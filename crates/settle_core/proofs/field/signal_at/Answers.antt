@@ -21,7 +21,7 @@ returns-then-not-is_signal c =
     let a = c.args in
     let s = c.is_signal in
     ap (λ (b : Bool). option_of b (signal_of c.no_signal-then-not-is_signal.result.signal)) c.no_signal-then-not-is_signal.ensures ∙ not_signal (drop a.at a.text.now)
-    (sym (s.ensures ∙ ap is_signal (rest_is a.text.now a.at)) ∙ not-true s.result c.if-not-is_signal.true-raw)
+    (sym (s.ensures ∙ ap is_signal (rest_is a.text.now a.at)) ∙ not-true s.result (cc))
 
 pub overflow_add-at : goal.overflow_add-at
 overflow_add-at c = omega (arith, c.if-text-at-lt4.false)
@@ -33,4 +33,4 @@ pub returns : goal.returns
 returns c =
     let a = c.args in
     let s = c.is_signal in
-    c.fields_at.ensures ∙ named_signal a.text.now a.at (sym (s.ensures ∙ ap is_signal (rest_is a.text.now a.at)) ∙ not-false s.result c.if-not-is_signal.false-raw)
+    c.fields_at.ensures ∙ named_signal a.text.now a.at (sym (s.ensures ∙ ap is_signal (rest_is a.text.now a.at)) ∙ not-false s.result (cc))

@@ -25,7 +25,7 @@ returns-then-not-in_limits c =
     let l = c.in_limits in
     ap (λ (b : Bool). option_of b (signal_of c.no_signal-then-not-in_limits.result.signal)) c.no_signal-then-not-in_limits.ensures ∙ limited_out (signed a.base) (signed a.ramp) (signed a.ripple)
     (signed a.jump) a.place a.readings (sym c.below_zero.ensures ∙ c.if-below_zero.false)
-    (sym c.below_zero-2.ensures ∙ c.if-below_zero-2.false) (sym l.ensures ∙ not-true l.result c.if-not-in_limits.true-raw)
+    (sym c.below_zero-2.ensures ∙ c.if-below_zero-2.false) (sym l.ensures ∙ not-true l.result (cc))
 
 pub returns : goal.returns
 returns c =
@@ -33,4 +33,4 @@ returns c =
     let l = c.in_limits in
     limited_in (signed a.base) (signed a.ramp) (signed a.ripple) (signed a.jump) a.place a.readings
     (sym c.below_zero.ensures ∙ c.if-below_zero.false)
-    (sym c.below_zero-2.ensures ∙ c.if-below_zero-2.false) (sym l.ensures ∙ not-false l.result c.if-not-in_limits.false-raw)
+    (sym c.below_zero-2.ensures ∙ c.if-below_zero-2.false) (sym l.ensures ∙ not-false l.result (cc))

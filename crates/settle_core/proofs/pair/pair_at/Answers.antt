@@ -35,7 +35,7 @@ returns-then-not-is_named c =
     let n = c.request in
     let asks : n.result ≡ request_of (line_of u).line = n.ensures ∙ ap (λ (x : Scanned). request_of x.line) s.ensures.text_value in
     let k = c.is_named in
-    let sets : is_named (request_of (line_of u).line) Set ≡ false = sym (k.ensures ∙ ap (λ (m : Name). is_named m Set) asks) ∙ not-true k.result c.if-not-is_named.true-raw in
+    let sets : is_named (request_of (line_of u).line) Set ≡ false = sym (k.ensures ∙ ap (λ (m : Name). is_named m Set) asks) ∙ not-true k.result (cc) in
     record { text_value = refused_in c.refused_by-then-not-is_named.result 19 c.refused_by-then-not-is_named.ensures.row_value (λ z. absurd (omega arith)) t ∙ set_other u ends sets; next_in_bounds = omega (arith, c.refused_by-then-not-is_named.ensures.next_value) }
 
 pub line_at-b-requires : goal.line_at-b-requires
@@ -54,7 +54,7 @@ returns-then-not-b c =
     let n = c.request in
     let asks : n.result ≡ request_of (line_of u).line = n.ensures ∙ ap (λ (x : Scanned). request_of x.line) s.ensures.text_value in
     let k = c.is_named in
-    let sets : is_named (request_of (line_of u).line) Set ≡ true = sym (k.ensures ∙ ap (λ (m : Name). is_named m Set) asks) ∙ not-false k.result c.if-not-is_named.false-raw in
+    let sets : is_named (request_of (line_of u).line) Set ≡ true = sym (k.ensures ∙ ap (λ (m : Name). is_named m Set) asks) ∙ not-false k.result (cc) in
     let ends2 : (line_of (line_of u).rest).ended ≡ false = sym (ap (λ (x : Scanned). x.ended) w2) ∙ not-true w.result.ended c.if-not-b.true in
     record { text_value = refused_in c.refused_by-then-not-b.result 19 c.refused_by-then-not-b.ensures.row_value (λ z. absurd (omega arith)) t ∙ weights_open u ends sets ends2; next_in_bounds = omega (arith, c.refused_by-then-not-b.ensures.next_value) }
 
@@ -70,13 +70,13 @@ returns-then-not-is_named-2 c =
     let n = c.request in
     let asks : n.result ≡ request_of (line_of u).line = n.ensures ∙ ap (λ (x : Scanned). request_of x.line) s.ensures.text_value in
     let k = c.is_named in
-    let sets : is_named (request_of (line_of u).line) Set ≡ true = sym (k.ensures ∙ ap (λ (m : Name). is_named m Set) asks) ∙ not-false k.result c.if-not-is_named.false-raw in
+    let sets : is_named (request_of (line_of u).line) Set ≡ true = sym (k.ensures ∙ ap (λ (m : Name). is_named m Set) asks) ∙ not-false k.result (cc) in
     let ends2 : (line_of (line_of u).rest).ended ≡ true = sym (ap (λ (x : Scanned). x.ended) w2) ∙ not-false w.result.ended c.if-not-b.false in
     let n2 = c.request-2 in
     let asks2 : n2.result ≡ request_of (line_of (line_of u).rest).line = n2.ensures ∙ ap (λ (x : Scanned). request_of x.line) w2 in
     let k2 = c.is_named-2 in
     let weights : is_named (request_of (line_of (line_of u).rest).line) Weights ≡ false =
-    sym (k2.ensures ∙ ap (λ (m : Name). is_named m Weights) asks2) ∙ not-true k2.result c.if-not-is_named-2.true-raw in
+    sym (k2.ensures ∙ ap (λ (m : Name). is_named m Weights) asks2) ∙ not-true k2.result (cc) in
     record { text_value = refused_in c.refused_by-then-not-is_named-2.result 19 c.refused_by-then-not-is_named-2.ensures.row_value (λ z. absurd (omega arith)) t ∙ weights_other u ends sets ends2 weights; next_in_bounds = omega (arith, c.refused_by-then-not-is_named-2.ensures.next_value) }
 
 pub returns : goal.returns
@@ -91,13 +91,13 @@ returns c =
     let n = c.request in
     let asks : n.result ≡ request_of (line_of u).line = n.ensures ∙ ap (λ (x : Scanned). request_of x.line) s.ensures.text_value in
     let k = c.is_named in
-    let sets : is_named (request_of (line_of u).line) Set ≡ true = sym (k.ensures ∙ ap (λ (m : Name). is_named m Set) asks) ∙ not-false k.result c.if-not-is_named.false-raw in
+    let sets : is_named (request_of (line_of u).line) Set ≡ true = sym (k.ensures ∙ ap (λ (m : Name). is_named m Set) asks) ∙ not-false k.result (cc) in
     let ends2 : (line_of (line_of u).rest).ended ≡ true = sym (ap (λ (x : Scanned). x.ended) w2) ∙ not-false w.result.ended c.if-not-b.false in
     let n2 = c.request-2 in
     let asks2 : n2.result ≡ request_of (line_of (line_of u).rest).line = n2.ensures ∙ ap (λ (x : Scanned). request_of x.line) w2 in
     let k2 = c.is_named-2 in
     let weights : is_named (request_of (line_of (line_of u).rest).line) Weights ≡ true =
-    sym (k2.ensures ∙ ap (λ (m : Name). is_named m Weights) asks2) ∙ not-false k2.result c.if-not-is_named-2.false-raw in
+    sym (k2.ensures ∙ ap (λ (m : Name). is_named m Weights) asks2) ∙ not-false k2.result (cc) in
     let b = c.builder_from in record {
       text_value = c.settings_of.ensures.by_index t
           ∙ (λ j. pair_by (settings_from (b.ensures j) (kept_of w.result.line) (zero_codes (b.ensures j))) (drop w.result.next t))

@@ -5,15 +5,15 @@ use borrow.Author.Tests.{not-true, not-false}
 use Rattle.settling.proofs.run.note_last.Goals as goal
 
 pub returns-then-not-given : goal.returns-then-not-given
-returns-then-not-given c = record { result_value = rw (not-true c.args.given c.if-not-given.true-raw); row_value = refl }
+returns-then-not-given c = record { result_value = rw (not-true c.args.given (cc)); row_value = refl }
 
 pub returns-then-not-exceeds : goal.returns-then-not-exceeds
 returns-then-not-exceeds c =
     let at-args = c.args in
     let at-exceeds = c.exceeds in
     let s = at-args.s in record {
-      result_value = rw (not-false at-args.given c.if-not-given.false-raw) (kept_not s.found s.ready s.kept s.largest at-args.last
-          (sym at-exceeds.ensures ∙ not-true at-exceeds.result c.if-not-exceeds.true-raw));
+      result_value = rw (not-false at-args.given (cc)) (kept_not s.found s.ready s.kept s.largest at-args.last
+          (sym at-exceeds.ensures ∙ not-true at-exceeds.result (cc)));
       row_value = refl;
     }
 
@@ -22,7 +22,7 @@ returns c =
     let at-args = c.args in
     let at-exceeds = c.exceeds in
     let s = at-args.s in record {
-      result_value = rw (not-false at-args.given c.if-not-given.false-raw) (kept_new s.found s.ready s.kept s.largest at-args.last
-          (sym at-exceeds.ensures ∙ not-false at-exceeds.result c.if-not-exceeds.false-raw));
+      result_value = rw (not-false at-args.given (cc)) (kept_new s.found s.ready s.kept s.largest at-args.last
+          (sym at-exceeds.ensures ∙ not-false at-exceeds.result (cc)));
       row_value = refl;
     }

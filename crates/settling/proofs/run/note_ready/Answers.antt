@@ -7,7 +7,7 @@ pub returns-then-s : goal.returns-then-s
 returns-then-s c = record { result_value = rw c.if-s.true; row_value = refl }
 
 pub returns-then-not-ready : goal.returns-then-not-ready
-returns-then-not-ready c = record { result_value = rw (c.if-s.false, not-true c.args.ready c.if-not-ready.true-raw); row_value = refl }
+returns-then-not-ready c = record { result_value = rw (c.if-s.false, not-true c.args.ready (cc)); row_value = refl }
 
 pub returns : goal.returns
-returns c = record { result_value = rw (c.if-s.false, not-false c.args.ready c.if-not-ready.false-raw); row_value = refl }
+returns c = record { result_value = rw (c.if-s.false, not-false c.args.ready (cc)); row_value = refl }

@@ -20,16 +20,16 @@ returns-then-not-in_limits c =
     let a = c.args in
     let l = c.in_limits in
     run_outside (settings_from a.builder (a.weight ∷ []) (0 ∷ [])) (signal_of a.signal) (sym c.pair_row-row.ensures ∙ c.if-row-ne0.false)
-    (sym l.ensures ∙ not-true l.result c.if-not-in_limits.true-raw) _ c.nothing-then-not-in_limits.ensures.row_value _ c.nothing-then-not-in_limits.ensures.result_value
+    (sym l.ensures ∙ not-true l.result (cc)) _ c.nothing-then-not-in_limits.ensures.row_value _ c.nothing-then-not-in_limits.ensures.result_value
 
 pub readings-requires : goal.readings-requires
-readings-requires c = sym c.in_limits.ensures ∙ not-false c.in_limits.result c.if-not-in_limits.false-raw
+readings-requires c = sym c.in_limits.ensures ∙ not-false c.in_limits.result (cc)
 
 pub returns : goal.returns
 returns c =
     let a = c.args in
     let l = c.in_limits in
-    let e = sym l.ensures ∙ not-false l.result c.if-not-in_limits.false-raw in
+    let e = sym l.ensures ∙ not-false l.result (cc) in
     run_done (settings_from a.builder (a.weight ∷ []) (0 ∷ [])) (signal_of a.signal) c.build_arguments.ensures
     (sym c.pair_row-row.ensures ∙ c.if-row-ne0.false) e
     (omega (arith, (limited a.signal e).readings)) _ c.readings.ensures.row_value _ c.readings.ensures.result_value
