@@ -50,3 +50,8 @@ module _ {A : Type 0} where
   abbrev pub row_of : Result A Refusal → ℕ
   row_of (Ok a) = 0
   row_of (Err r) = number_of r
+
+  -- an answer with the number in place of the refusal
+  abbrev pub numbered : Result A Refusal → Result A ℕ
+  numbered (Ok a) = Ok a
+  numbered (Err r) = Err (number_of r)
