@@ -180,6 +180,13 @@ impl<T: Width> Range<T> {
             self.lower.times(scale),
         )
     }
+
+    // Whether lower ≤ value ≤ upper, which no not-a-number meets.
+    fn is_ordered(self) -> bool
+        ensures { result ≡ (T.operations.at_most self.value self.upper && T.operations.at_most self.lower self.value) }
+    {
+        self.value.is_at_most(self.upper) && self.lower.is_at_most(self.value)
+    }
 }
 
 // What stands at index i.
@@ -335,19 +342,13 @@ pub fn from<T: Width>(
     Ok(())
 }
 
-fn is_ordered<T: Width>(value: T, upper: T, lower: T) -> bool
-    ensures { result ≡ (T.operations.at_most value upper && T.operations.at_most lower value) }
-{
-    value.is_at_most(upper) && lower.is_at_most(value)
-}
-
-// Whether lower ≤ values ≤ upper everywhere, which no not-a-number meets.
+// Whether lower ≤ values ≤ upper everywhere.
 fn are_in_order<T: Width>(values: &[T], upper: &[T], lower: &[T]) -> bool
     requires { (length values.now ≡ length upper.now) × (length values.now ≡ length lower.now) }
     ensures { result ≡ in_order_by T.operations.at_most values.now upper.now lower.now }
 {
     for i in 0..values.len() {
-        if !is_ordered(values[i], upper[i], lower[i]) {
+        if !at(values, upper, lower, i).is_ordered() {
             return false;
         }
     }
