@@ -28,10 +28,18 @@ pub trait Width: Copy {
 
     fn is_at_most(self, other: Self) -> bool
         ensures { result ≡ operations.at_most self other };
+
+    // A clone is the number itself, and is always to be had.
+    ghost clone_is: { (x y : Self) → Self.is_clone x y → y ≡ x };
+    ghost clones: { (x : Self) → Self.is_infallible x };
 }
 
 impl Width for f32 {
     ghost operations = { operations_of binary32 };
+
+    ghost clone_is = { λ x y e. e };
+
+    ghost clones = { λ x. tt };
 
     fn zero() -> f32 {
         0.0
@@ -56,6 +64,10 @@ impl Width for f32 {
 
 impl Width for f64 {
     ghost operations = { operations_of binary64 };
+
+    ghost clone_is = { λ x y e. e };
+
+    ghost clones = { λ x. tt };
 
     fn zero() -> f64 {
         0.0
@@ -297,9 +309,7 @@ fn zero_front<T: Width>(list: &mut [T], n: usize)
     requires { n ≤ length list.old }
     ensures { list.new ≡ over list.old (replicate n T.operations.zero_value) }
 {
-    for i in 0..n {
-        list[i] = T::zero();
-    }
+    list[..n].fill(T::zero());
 }
 
 // All of source stands at the front of list.
