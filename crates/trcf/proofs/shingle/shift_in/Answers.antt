@@ -1,7 +1,7 @@
 -- `trcf::shingle::shift_vector` meets its contract: by its worker's promise where all fits. Assumes nothing.
 use mathlib.Core.Path.{refl, sym, ◌∙◌}
 use Rattle.trcf.proofs.LengthLaws.{fitting, unfit, within_le}
-use Rattle.trcf.proofs.shingle.shift_vector.Goals as goal
+use Rattle.trcf.proofs.shingle.shift_in.Goals as goal
 
 pub is_within-requires : goal.is_within-requires
 is_within-requires c = tt

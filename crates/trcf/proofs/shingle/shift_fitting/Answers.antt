@@ -8,7 +8,7 @@ use lib.ListN.{length, length-set, set, get_or}
 use Prim.Native.Nat.{◌+◌, ◌<◌, ◌-◌}
 use native.Mathlib.Numerals.{add-one}
 use native.Mathlib.Omega.{arith}
-use Rattle.trcf.proofs.shingle.shift_vector_fitting.Goals as goal
+use Rattle.trcf.proofs.shingle.shift_fitting.Goals as goal
 
 pub overflow_sub-m : goal.overflow_sub-m
 overflow_sub-m c = omega arith
