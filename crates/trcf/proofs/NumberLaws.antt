@@ -1,5 +1,5 @@
 -- The number of a refusal goes before the rows that are tested after it. Assumes nothing.
-use Rattle.std.proofs.Common.{◌≡◌, ℕ, ⊥, sym, ◌∙◌, arith}
+use Rattle.std.proofs.Common.{◌≡◌, ℕ, sym, ◌∙◌, arith}
 use Rattle.std.specs.Prelude.{Result}
 use Rattle.std.specs.Result.{IsErrAnd}
 use Rattle.refusal.specs.declared.Refusal.{Refusal}
