@@ -1,14 +1,13 @@
 -- Computed: the enumeration itself, run.
 use mathlib.Core.Path.{◌≡◌, refl}
-use mathlib.Core.Bool.{true}
 use mathlib.Core.List.{List, [], ◌∷◌}
 use lib.ListN.{length}
 use Prim.Native.Nat.{ℕ, ◌+◌, ◌^◌}
-use Rattle.stranding.specs.Orders.{Kind, point_kind, learn_kind, drain_kind, orders, same_order}
+use Rattle.stranding.specs.Orders.{point_kind, learn_kind, drain_kind, orders, same_order}
 use Rattle.stranding.specs.Standing.{still_waiting, now_drained, now_stranded, after_drain, after_learn, standing_after}
 use Rattle.stranding.specs.Counts.{RowCounts, count, row_counts, refused_counts, counts_by, counts, out_of_range, strandings_of}
 use Rattle.stranding.proofs.Orders.{orders_long, orders_once}
-use Rattle.stranding.proofs.Recurrence.{counts_add_up, counts_from_table, table}
+use Rattle.stranding.proofs.Recurrence.{counts_add_up}
 
 -- "For n 2 and s 1 they are 6, 2 and 1."
 two_calls : strandings_of 1 2 ≡ row_counts 0 6 2 1
