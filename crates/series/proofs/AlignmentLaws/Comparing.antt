@@ -1,11 +1,11 @@
 -- The sizes after each pair: none for no pairs, and one pair more widens them.
-use Prim.Native.Nat.{ℕ, suc, ◌+◌, ◌*◌, ◌≤◌, ◌<◌}
+use Prim.Native.Nat.{ℕ, zero, suc, ◌+◌, ◌*◌, ◌≤◌, ◌<◌}
 use mathlib.Core.Path.{◌≡◌, refl, sym, ap, ◌∙◌}
 use mathlib.Core.List.{List, [], ◌∷◌, ◌++◌, map, map-append}
 use native.Mathlib.Numerals.{add-one}
 use native.Mathlib.Nat.{mul-le-mul_right}
 use native.Mathlib.Omega.{arith}
-use lib.ListN.{length, get_or, set, take, drop}
+use lib.ListN.{length, get_or, set, take, drop, replicate}
 use lib.Seq.{take-suc, length-take-le}
 use lib.Ieee.{Float, nan}
 use Rattle.refusal.specs.Lent.{over}
@@ -22,9 +22,13 @@ inside i n d len h e =
     let m : suc i * d ≡ i * d + d = omega arith in
     omega arith
 
-pub gaps_none : (d : ℕ) (l r : List Float) → per_channel d (λ _. zero32) ≡ gaps d l r []
+zeros : (d : ℕ) → replicate d zero32 ≡ per_channel d (λ _. zero32)
+zeros zero = refl
+zeros (suc d) = ap (zero32 ∷◌) (zeros d)
+
+pub gaps_none : (d : ℕ) (l r : List Float) → replicate d zero32 ≡ gaps d l r []
 unfolding gaps largest difference_sizes
-gaps_none d l r = refl
+gaps_none d l r = zeros d
 
 pub gaps_length_lem : (d : ℕ) (l r : List Float) (ps : List Pair) → length (gaps d l r ps) ≡ d
 unfolding gaps
