@@ -3,11 +3,10 @@ use Prim.Native.Nat.{ℕ, zero, suc, ◌+◌, ◌-◌, ◌*◌, ◌/◌, ◌%◌
 use mathlib.Core.Bool.{Bool, true, false, cond}
 use mathlib.Core.List.{List}
 use mathlib.Core.Path.{◌≡◌, refl, sym, ap, ◌∙◌, subst}
-use mathlib.Core.Logic.{⊎_elim}
 use native.Mathlib.Numerals.{add-one}
 use native.Mathlib.Omega.{arith}
 use native.Mathlib.Nat.{mod-lt, div-lt_iff_lt-mul}
-use borrow.Author.Tests.{eqb-true, eqb-false, ltb-true, ltb-false, leb-true, leb-false, eq-eqb, ne_eqb, lt-ltb, le-ltb}
+use borrow.Author.Tests.{eqb-true, eqb-false, ltb-true, ltb-false, leb-true, leb-false, lt-ltb, le-ltb}
 use lib.Dec.{ltb, leb, eqb}
 use lib.ListN.{length, get_or, set, length-set, get_or-eq_default}
 use lib.Seq.{get_or-set_same, get_or-set_other}
@@ -20,7 +19,7 @@ use Rattle.series.specs.declared.imputation.Gap.{Gap}
 use Rattle.series.specs.Imputation.{is_present, present_at, nearest_before, nearest_from, fill_of, present_in, cell_in, missing_of, imputed_at, by_place, imputed}
 use Rattle.series.specs.Steps.ImputationSteps.{Under, Above, inside, gap_at, gap_of, gap_from, Passed, passing, passed_of, channel, done_at, channel_of, below_at}
 use Rattle.series.proofs.ImputationLists.{cond_same, cond_on, cond_off, length_by_place, get_d_by_place, is_by_place}
-use Rattle.series.proofs.ImputationLists.{place_channel, place_reading, place_below, place_of, inside_yes, inside_off, inside_low, inside_high}
+use Rattle.series.proofs.ImputationLists.{place_channel, place_reading, place_of, inside_yes, inside_off, inside_low, inside_high}
 
 -- ---- before and after
 

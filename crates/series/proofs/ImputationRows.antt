@@ -1,8 +1,8 @@
 -- What is tested of each mark and cell, and how a call answers. Assumes nothing.
-use Prim.Native.Nat.{ℕ, zero, suc, ◌+◌, ◌*◌, ◌/◌, ◌%◌, ◌≤◌, ◌<◌}
-use mathlib.Core.Bool.{Bool, true, false, cond, not, ◌&&◌, ◌||◌}
+use Prim.Native.Nat.{ℕ, zero, suc, ◌%◌, ◌≤◌, ◌<◌}
+use mathlib.Core.Bool.{Bool, true, false, not, ◌&&◌, ◌||◌}
 use mathlib.Core.List.{List, [], ◌∷◌}
-use mathlib.Core.Path.{◌≡◌, refl, sym, ap, ◌∙◌}
+use mathlib.Core.Path.{◌≡◌, refl, sym, ap}
 use native.Mathlib.Omega.{arith}
 use native.Mathlib.Nat.{div-add-mod'}
 use borrow.Author.Tests.{eqb-true, not-false}
@@ -12,8 +12,7 @@ use lib.Ieee.{Float, nan, inf, fin}
 use Rattle.std.specs.Prelude.{MatchBool}
 use Rattle.std.specs.Float.{float_is_finite}
 use Rattle.std.specs.List.{AllWithin, HoldsAt, zip}
-use Rattle.series.specs.Imputation.{is_present, known_marks, is_finite, finite_present, all_finite, cells_misshapen, impute_row, imputation, impute_answer}
-use Rattle.refusal.specs.Refusal.{first_of}
+use Rattle.series.specs.Imputation.{is_present, known_marks, is_finite, finite_present, all_finite, cells_misshapen, imputation, impute_answer}
 use Rattle.series.specs.Steps.ImputationSteps.{CellsShaped}
 
 -- ---- what is tested of each element of a list

@@ -5,7 +5,7 @@ use mathlib.Core.Bool.{Bool, true, false, cond, not, ◌&&◌, ◌||◌}
 use mathlib.Core.List.{List, [], ◌∷◌}
 use mathlib.Core.Path.{◌≡◌, refl, sym, ap, ◌∙◌, subst}
 use native.Mathlib.Omega.{arith}
-use native.Mathlib.Nat.{mod-lt, div-lt_iff_lt-mul}
+use native.Mathlib.Nat.{div-lt_iff_lt-mul}
 use borrow.Author.Tests.{ltb-true, ltb-false}
 use lib.Dec.{ltb, eqb}
 use lib.ListN.{length, get_or, get_or-eq_default}
@@ -15,10 +15,10 @@ use Rattle.series.specs.declared.imputation.ImputationMethod.{ImputationMethod}
 use Rattle.series.specs.declared.imputation.ImputationMethod.TheVariants.{FIXED, PREVIOUS, NEXT, LINEAR}
 use Rattle.std.specs.Prelude.{Option, Some, None}
 use Rattle.series.specs.declared.imputation.Present.{Present}
-use Rattle.series.specs.Imputation.{is_present, present_at, nearest_before, nearest_from, copy_of, interpolated, between_of, fill_of, present_in, cell_in, missing_of, imputed_at, by_place, imputed}
-use Rattle.series.specs.Imputation.{cells_misshapen, known_marks, is_finite, finite_present, all_finite, impute_row, Imputation, imputation, impute_answer, impute_of, Origin, copy, constant, on_line}
+use Rattle.series.specs.Imputation.{is_present, present_at, nearest_before, nearest_from, copy_of, interpolated, fill_of, present_in, cell_in, missing_of, imputed_at, by_place, imputed}
+use Rattle.series.specs.Imputation.{cells_misshapen, known_marks, is_finite, finite_present, all_finite, impute_row, imputation, impute_answer, impute_of, Origin, copy, constant, on_line}
 use Rattle.series.specs.Imputation.{Agree}
-use Rattle.series.proofs.ImputationLists.{cond_same, cond_on, cond_off, length_by_place, get_d_by_place, is_by_place, place_of}
+use Rattle.series.proofs.ImputationLists.{cond_same, cond_on, length_by_place, get_d_by_place, is_by_place, place_of}
 use Rattle.series.proofs.ImputationLaws.{missing_same}
 
 -- ---- present cells

@@ -4,7 +4,7 @@ use mathlib.Core.Path.{◌≡◌, refl, ap, ◌∙◌}
 use mathlib.Core.List.{List, ◌∷◌}
 use native.Mathlib.Omega.{arith}
 use lib.ListN.{length, get_or}
-use lib.Ieee.{Float, nan}
+use lib.Ieee.{Float}
 use Rattle.series.specs.Gaps.{per_channel}
 
 pub channels_length : (d : ℕ) (f : ℕ → Float) → length (per_channel d f) ≡ d

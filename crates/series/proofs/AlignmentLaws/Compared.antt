@@ -1,19 +1,19 @@
 -- The loop that writes: what holds before each turn, and what a turn does to it.
 use Prim.Native.Nat.{ℕ, ◌+◌, ◌*◌, ◌≤◌, ◌<◌}
-use mathlib.Core.Path.{◌≡◌, refl, sym, ap, ◌∙◌}
+use mathlib.Core.Path.{◌≡◌, refl, ap, ◌∙◌}
 use mathlib.Core.List.{List, []}
 use native.Mathlib.Omega.{arith}
 use lib.ListN.{length, set, take, replicate, length-set, length-map}
 use lib.Seq.{take-length}
 use lib.Ieee.{Float}
 use Rattle.refusal.specs.Lent.{over}
-use Rattle.series.specs.Pairs.{Pair, pair, pairs, lefts, rights}
+use Rattle.series.specs.Pairs.{Pair, pairs, lefts, rights}
 use Rattle.series.specs.Gaps.{zero32, gaps}
 use Rattle.series.specs.Steps.Comparing.{widened}
 use Rattle.series.specs.Steps.Walking.{rest, NextPair}
 use Rattle.series.proofs.AlignmentLaws.Walk.{Walked, start, all_made, met}
 use Rattle.series.proofs.AlignmentLaws.Written.{part, part_none, part_all, part_more}
-use Rattle.series.proofs.AlignmentLaws.Comparing.{inside, gaps_none, gaps_one_more, widened_length}
+use Rattle.series.proofs.AlignmentLaws.Comparing.{gaps_none, gaps_one_more, widened_length}
 
 -- cells and times of the two lists, the tolerance, the outputs as they were lent
 pub record Lists : Type 0 where
@@ -66,24 +66,6 @@ compared_start s g f e h =
 
 module _ (s : Lists) (lo ro : List ℕ) (g : List Float) (n f h : ℕ) (q : Compared s lo ro g n f h)
     (i j : ℕ) (p : NextPair s.tolerance s.left_times s.right_times f h i j) where
-  -- the next pair: there is room for it, and its cells are there
-  pub record Ready : Type 0 where
-    pub left_room : n < length lo
-    pub right_room : n < length ro
-    pub left_cells : i * s.d + length g ≤ length s.left
-    pub right_cells : j * s.d + length g ≤ length s.right
-
-  pub ready : Ready
-  ready =
-      let m = met s.tolerance s.left_times s.right_times n f h i j q.walked p in
-      let t = q.fitting in
-      record {
-        left_room = omega (arith, m.room, q.left_length, t.left_room);
-        right_room = omega (arith, m.room, q.right_length, t.right_room);
-        left_cells = omega (arith, inside i (length s.left_times) s.d (length s.left) p.in_left t.left, q.gaps_length);
-        right_cells = omega (arith, inside j (length s.right_times) s.d (length s.right) p.in_right t.right, q.gaps_length);
-      }
-
   -- the pair's cells begin at a and at b
   pub compared_more : (a b : ℕ) (k : List Float) → a ≡ i * s.d → b ≡ j * s.d → k ≡ widened s.left a s.right b g
       → Compared s (set lo n i) (set ro n j) k (n + 1) (i + 1) (j + 1)

@@ -6,11 +6,10 @@ use Rattle.series.specs.Alignment.{readings, outputs}
 use Rattle.series.specs.Pairs.{pairs}
 use Rattle.refusal.proofs.RefusalLaws.{is_numbered}
 use Rattle.std.proofs.lemmas.Result.{err_from_is_err_and}
-use lib.Seq.{length-take-le}
-use lib.ListN.{length, take}
+use lib.ListN.{length}
 use native.Mathlib.Omega.{arith}
-use mathlib.Core.Path.{◌≡◌, refl, sym, ap, ◌∙◌}
-use Prim.Native.Nat.{ℕ, ◌*◌}
+use mathlib.Core.Path.{ap, ◌∙◌}
+use Prim.Native.Nat.{ℕ}
 use Rattle.series.proofs.alignment.align.Goals as goal
 
 pub returns-in_err-readings_row : goal.returns-in_err-readings_row

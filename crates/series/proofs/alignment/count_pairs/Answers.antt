@@ -1,5 +1,4 @@
 -- `alignment::count_pairs` meets its contract. Invariant: `Walked`. The measure is what is left of the first list.
-use native.Mathlib.Omega.{arith}
 use Rattle.series.proofs.AlignmentLaws.Walk.{start, all_made, met}
 use Rattle.series.proofs.alignment.count_pairs.Goals as goal
 
