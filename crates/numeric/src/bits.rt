@@ -3,6 +3,8 @@
 ghost use Rattle.std.specs.Prelude.{◌≡◌, ◌%◌, from_bits, to_bits};
 ghost use Rattle.std.specs.Float.{binary32, binary64};
 
+// Kept: (d) two formats, two functions each way: a trait over f32 and f64 would have these four bodies in two impls, for which only a cast and two constants differ, and its
+// declaration besides.
 pub fn single_bits(x: f32) -> u64
     ensures { result ≡ to_bits binary32 x }
 {

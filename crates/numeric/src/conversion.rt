@@ -83,6 +83,7 @@ pub fn u64_to_f64(n: u64) -> f64
 }
 
 // The f32 nearest to n, rounded once: by way of an f64 it would be rounded twice.
+// Kept: (d) it shares `nearest` with u64_to_f64; a function of the last line alone would be handed the format's three constants, and each has its own short way.
 pub fn u64_to_f32(n: u64) -> f32
     ensures { result ≡ of_int binary32 (pos n) }
 {
