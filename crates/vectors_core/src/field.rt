@@ -1,8 +1,14 @@
 // What may stand in a field, and the memory that is lent to a call. That memory is filled with one value before; what lies past an answer must still be this value.
-ghost use Rattle.std.specs.Prelude.{◌≡◌, eqb, Bool};
-ghost use Rattle.vectors_core.specs.Old.{all_pass, old32, old64, old_whole, pattern32, pattern64};
+ghost use Rattle.std.specs.Float.Ieee.{to_bits};
+ghost use Rattle.std.specs.Float.{binary32, binary64};
+ghost use Rattle.std.specs.Prelude.{◌≡◌, ◌↔◌, eqb, All, Bool, IsTrue};
+ghost use Rattle.vectors_core.specs.Old.{old32, old64, old_whole};
 
-// A digit's value; 16 for any other byte.
+use std::num::{
+    f32_from_bits_with_nan, f32_to_bits_with_nan, f64_from_bits_with_nan, f64_to_bits_with_nan,
+};
+
+// A digit's value.
 fn digit(b: u8) -> Option<u64> {
     match b {
         b'0'..=b'9' => Some((b - b'0') as u64),
@@ -35,33 +41,27 @@ fn pattern(text: &[u8], n: usize) -> Option<u64> {
     whole(text, 16)
 }
 
-/// A kind of answer that stands in a field. A float is compared by its pattern, every not-a-number by the one that the vectors have.
+/// A kind of number that stands in a field.
 pub trait Field: Copy {
-    ghost same: { Self → Self → Bool };
-
     fn read(text: &[u8]) -> Option<Self>;
-
-    fn same(self, other: Self) -> bool
-        ensures { result ≡ same self other };
 }
 
-/// A kind of number that lent memory holds.
+/// A kind of number that lent memory holds. A float is compared by its pattern, every not-a-number by the one that the vectors have.
 pub trait Lent: Field {
     /// What lent memory holds before a call.
     const OLD: Self;
 
     ghost OLD: { Self };
+
+    ghost same: { Self → Self → Bool };
+
+    fn same(self, other: Self) -> bool
+        ensures { result ≡ same self other };
 }
 
 impl Field for u64 {
-    ghost same = { eqb };
-
     fn read(text: &[u8]) -> Option<u64> {
         whole(text, 10)
-    }
-
-    fn same(self, other: u64) -> bool {
-        self == other
     }
 }
 
@@ -69,30 +69,44 @@ impl Lent for u64 {
     const OLD: u64 = 12345678;
 
     ghost OLD = { old_whole };
-}
 
-/// A number of 16 bits.
-impl Field for u16 {
     ghost same = { eqb };
 
-    fn read(text: &[u8]) -> Option<u16> {
-        u16::try_from(whole(text, 10)?).ok()
-    }
-
-    fn same(self, other: u16) -> bool {
+    fn same(self, other: u64) -> bool {
         self == other
     }
 }
 
-impl Field for f64 {
-    ghost same = { λ x y. eqb (pattern64 x) (pattern64 y) };
-
-    fn read(text: &[u8]) -> Option<f64> {
-        Some(double(pattern(text, 16)?))
+impl Field for u16 {
+    fn read(text: &[u8]) -> Option<u16> {
+        u16::try_from(whole(text, 10)?).ok()
     }
+}
 
-    fn same(self, other: f64) -> bool {
-        bits64(self) == bits64(other)
+/// With `-` in front where it is negative.
+impl Field for i32 {
+    fn read(text: &[u8]) -> Option<i32> {
+        match text {
+            [b'-', digits @ ..] => i32::try_from(-i64::try_from(whole(digits, 10)?).ok()?).ok(),
+            digits => i32::try_from(whole(digits, 10)?).ok(),
+        }
+    }
+}
+
+/// A flag.
+impl Field for bool {
+    fn read(text: &[u8]) -> Option<bool> {
+        match text {
+            b"0" => Some(false),
+            b"1" => Some(true),
+            _ => None,
+        }
+    }
+}
+
+impl Field for f64 {
+    fn read(text: &[u8]) -> Option<f64> {
+        Some(f64_from_bits_with_nan(pattern(text, 16)?))
     }
 }
 
@@ -100,17 +114,18 @@ impl Lent for f64 {
     const OLD: f64 = 12345.678;
 
     ghost OLD = { old64 };
+
+    ghost same = { λ x y. eqb (to_bits binary64 x) (to_bits binary64 y) };
+
+    fn same(self, other: f64) -> bool {
+        f64_to_bits_with_nan(self) == f64_to_bits_with_nan(other)
+    }
 }
 
 impl Field for f32 {
-    ghost same = { λ x y. eqb (pattern32 x) (pattern32 y) };
-
     fn read(text: &[u8]) -> Option<f32> {
-        Some(single(u32::try_from(pattern(text, 8)?).ok()?))
-    }
-
-    fn same(self, other: f32) -> bool {
-        bits32(self) == bits32(other)
+        let bits = u32::try_from(pattern(text, 8)?).ok()?;
+        Some(f32_from_bits_with_nan(bits))
     }
 }
 
@@ -118,49 +133,17 @@ impl Lent for f32 {
     const OLD: f32 = 12345.678;
 
     ghost OLD = { old32 };
-}
 
-// A pattern as a float. `from_bits` is undefined at a not-a-number's.
-fn double(b: u64) -> f64 {
-    if b % 0x8000_0000_0000_0000 > 0x7ff0_0000_0000_0000 {
-        0.0 / 0.0
-    } else {
-        f64::from_bits(b)
-    }
-}
+    ghost same = { λ x y. eqb (to_bits binary32 x) (to_bits binary32 y) };
 
-fn single(b: u32) -> f32 {
-    if b % 0x8000_0000 > 0x7f80_0000 {
-        0.0 / 0.0
-    } else {
-        f32::from_bits(b)
-    }
-}
-
-// A float's pattern, with every not-a-number as the one that the vectors have.
-fn bits64(x: f64) -> u64
-    ensures { result ≡ pattern64 x }
-{
-    if x.is_nan() {
-        0x7ff8_0000_0000_0000
-    } else {
-        x.to_bits()
-    }
-}
-
-fn bits32(x: f32) -> u32
-    ensures { result ≡ pattern32 x }
-{
-    if x.is_nan() {
-        0x7fc0_0000
-    } else {
-        x.to_bits()
+    fn same(self, other: f32) -> bool {
+        f32_to_bits_with_nan(self) == f32_to_bits_with_nan(other)
     }
 }
 
 /// Whether lent memory holds what it held before a call.
 pub fn is_untouched<T: Lent>(xs: &[T]) -> bool
-    ensures { result ≡ all_pass (λ x. T.same x T.OLD) xs.now }
+    ensures { IsTrue result ↔ All (λ x. IsTrue (T.same x T.OLD)) xs.now }
 {
     xs.iter().all(|x| x.same(T::OLD))
 }

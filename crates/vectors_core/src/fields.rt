@@ -1,5 +1,5 @@
 // The fields of a line, one after another.
-ghost use Rattle.std.specs.Prelude.{◌≡◌, ◌≤◌, ◌+◌, ◌∷◌, ◌++◌, ◌↔◌, [], length, get_or, IfOk, IsOk, vec_len};
+ghost use Rattle.std.specs.Prelude.{◌≡◌, ◌<◌, ◌≤◌, ◌+◌, ◌↔◌, [], length, take, drop, All, IfOk, IsOk, IsTrue, OnErr, vec_len};
 
 use crate::field::{Field, Lent, is_untouched};
 use std::alloc::{AllocError, AllocFailed, Global};
@@ -39,7 +39,11 @@ impl<'a> Fields<'a> {
         }
     }
 
-    fn next(&mut self) -> Result<&'a [u8], Differs> {
+    // A field, and what is left after the byte that ends it. Where nothing ends it, nothing is read.
+    fn next(&mut self) -> Result<&'a [u8], Differs>
+        ensures field { IfOk result (λ field. (field.now ≡ take (length field.now) self.old.rest.now) × (self.new.rest.now ≡ drop (length field.now + 1) self.old.rest.now) × (length field.now < length self.old.rest.now)) }
+        ensures kept { OnErr result (self.new.rest.now ≡ self.old.rest.now) }
+    {
         let rest = self.rest;
         let end = rest
             .iter()
@@ -66,30 +70,20 @@ impl<'a> Fields<'a> {
         T::read(self.next()?).ok_or(Differs)
     }
 
-    pub fn flag(&mut self) -> Result<bool, Differs> {
-        match self.read::<u64>()? {
-            0 => Ok(false),
-            1 => Ok(true),
-            _ => Err(Differs),
-        }
-    }
-
     /// The one byte of a field that is a letter.
-    pub fn letter(&mut self) -> Result<u8, Differs> {
+    pub fn letter(&mut self) -> Result<u8, Differs>
+        ensures { length self.new.rest.now ≤ length self.old.rest.now }
+    {
         match self.next()? {
             [letter] => Ok(*letter),
             _ => Err(Differs),
         }
     }
 
-    /// A whole number within i32, with `-` in front where it is negative.
-    pub fn signed(&mut self) -> Result<i32, Differs> {
-        Err(Differs)
-    }
-
     /// The length of a list.
     pub fn length(&mut self) -> Result<usize, Differs>
-        ensures { IfOk result (λ n. n ≤ 4096) }
+        ensures behind { length self.new.rest.now ≤ length self.old.rest.now }
+        ensures longest { IfOk result (λ n. n ≤ 4096) }
     {
         let n = self.read::<u64>()?;
         if n > LONGEST {
@@ -99,7 +93,9 @@ impl<'a> Fields<'a> {
     }
 
     /// As many numbers as `out` is long.
-    pub fn read_each<T: Field>(&mut self, out: &mut [T]) -> Result<(), Differs> {
+    pub fn read_each<T: Field>(&mut self, out: &mut [T]) -> Result<(), Differs>
+        ensures { length self.new.rest.now ≤ length self.old.rest.now }
+    {
         for x in out.iter_mut() {
             *x = self.read()?;
         }
@@ -108,7 +104,8 @@ impl<'a> Fields<'a> {
 
     /// A list, to the front of `out`; how long it is.
     pub fn read_list<T: Field>(&mut self, out: &mut [T]) -> Result<usize, Differs>
-        ensures { IfOk result (λ n. n ≤ length out.new) }
+        ensures behind { length self.new.rest.now ≤ length self.old.rest.now }
+        ensures within { IfOk result (λ n. n ≤ length out.new) }
     {
         let n = self.length()?;
         if n > out.len() {
@@ -119,7 +116,9 @@ impl<'a> Fields<'a> {
     }
 
     /// A list.
-    pub fn list<T: Field>(&mut self) -> Result<Vec<T>, Differs> {
+    pub fn list<T: Field>(&mut self) -> Result<Vec<T>, Differs>
+        ensures { length self.new.rest.now ≤ length self.old.rest.now }
+    {
         let mut list = Vec::new(self.alloc);
         for _ in 0..self.length()? {
             list.push(self.read()?)?;
@@ -128,7 +127,9 @@ impl<'a> Fields<'a> {
     }
 
     /// Memory to be lent, of which the line gives the length.
-    pub fn lent<T: Lent>(&mut self) -> Result<Vec<T>, Differs> {
+    pub fn lent<T: Lent>(&mut self) -> Result<Vec<T>, Differs>
+        ensures { length self.new.rest.now ≤ length self.old.rest.now }
+    {
         let mut list = Vec::new(self.alloc);
         for _ in 0..self.length()? {
             list.push(T::OLD)?;
@@ -136,7 +137,10 @@ impl<'a> Fields<'a> {
         Ok(list)
     }
 
-    pub fn expect<T: Field>(&mut self, value: T) -> Result<(), Differs> {
+    /// The next field is this answer.
+    pub fn expect<T: Lent>(&mut self, value: T) -> Result<(), Differs>
+        ensures { length self.new.rest.now ≤ length self.old.rest.now }
+    {
         if self.read::<T>()?.same(value) {
             Ok(())
         } else {
@@ -144,7 +148,16 @@ impl<'a> Fields<'a> {
         }
     }
 
-    pub fn expect_each<T: Field>(&mut self, xs: &[T]) -> Result<(), Differs> {
+    pub fn expect_flag(&mut self, value: bool) -> Result<(), Differs>
+        ensures { length self.new.rest.now ≤ length self.old.rest.now }
+    {
+        self.expect(u64::from(value))
+    }
+
+    /// As many fields as there are numbers.
+    pub fn expect_each<T: Lent>(&mut self, xs: &[T]) -> Result<(), Differs>
+        ensures { length self.new.rest.now ≤ length self.old.rest.now }
+    {
         for x in xs {
             self.expect(*x)?;
         }
@@ -152,7 +165,9 @@ impl<'a> Fields<'a> {
     }
 
     /// A list that stands at the front of `xs`, with the rest of `xs` untouched.
-    pub fn expect_list<T: Lent>(&mut self, xs: &[T]) -> Result<(), Differs> {
+    pub fn expect_list<T: Lent>(&mut self, xs: &[T]) -> Result<(), Differs>
+        ensures { length self.new.rest.now ≤ length self.old.rest.now }
+    {
         let n = self.length()?;
         let (front, rest) = xs.split_at_checked(n).ok_or(Differs)?;
         self.expect_each(front)?;
@@ -160,7 +175,10 @@ impl<'a> Fields<'a> {
     }
 }
 
-pub fn expect_untouched<T: Lent>(xs: &[T]) -> Result<(), Differs> {
+/// Whether lent memory holds what it held before a call.
+pub fn expect_untouched<T: Lent>(xs: &[T]) -> Result<(), Differs>
+    ensures { IsOk result ↔ All (λ x. IsTrue (T.same x T.OLD)) xs.now }
+{
     if is_untouched(xs) {
         Ok(())
     } else {

@@ -1,5 +1,5 @@
 // How many lines of a file agree, and the report.
-ghost use Rattle.std.specs.Prelude.{◌≡◌, cond, not, ◌<◌, ◌≤◌, ◌+◌, ◌-◌, length, vec_len};
+ghost use Rattle.std.specs.Prelude.{◌≡◌, ◌||◌, ◌++◌, ◌∷◌, [], leb, OnOk, vec_len};
 ghost use Rattle.vectors_core.specs.Tally.{one_more};
 
 use crate::fields::Differs;
@@ -27,7 +27,9 @@ pub struct Tally {
 }
 
 impl Tally {
-    pub fn new(alloc: Global) -> Tally {
+    pub fn new(alloc: Global) -> Tally
+        ensures { (result.agree ≡ 0) × (result.differ ≡ 0) × (result.named.items ≡ []) }
+    {
         Tally {
             agree: 0,
             differ: 0,
@@ -37,8 +39,9 @@ impl Tally {
 
     /// One line more.
     pub fn count(&mut self, line: Named, agrees: bool) -> Result<(), AllocError>
-        ensures agree { self.new.agree ≡ cond agrees (one_more self.old.agree) self.old.agree }
-        ensures differ { self.new.differ ≡ cond (not agrees) (one_more self.old.differ) self.old.differ }
+        ensures agree { self.new.agree ≡ (if agrees then one_more self.old.agree else self.old.agree) }
+        ensures differ { self.new.differ ≡ (if agrees then self.old.differ else one_more self.old.differ) }
+        ensures named { OnOk result (self.new.named.items ≡ (if agrees || leb 5 (vec_len self.old.named) then self.old.named.items else self.old.named.items ++ line ∷ [])) }
     {
         if agrees {
             self.agree = self.agree.saturating_add(1);
