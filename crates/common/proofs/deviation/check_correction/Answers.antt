@@ -1,9 +1,9 @@
--- `common::deviation::correction_row` meets its contract: every row is 26, so a refused return shows its own test alone, and the last one all of them. Assumes nothing.
+-- `common::deviation::check_correction` meets its contract: every row is 26, so a refused return shows its own test alone, and the last one all of them. Assumes nothing.
 use Rattle.std.proofs.Common.{ℕ, ◌^◌, ◌≤◌, T, pos, arith, le→leb, le-ltb}
 use borrow.Author.Tests.{not-false}
 use lib.Ieee.{binary64, in_float}
 use Rattle.common.proofs.CorrectedRows.{passed_rows, told, by_decay, by_wrong, by_right, by_none, by_many, by_weight, by_sum, by_squares, by_negative}
-use Rattle.common.proofs.deviation.correction_row.Goals as goal
+use Rattle.common.proofs.deviation.check_correction.Goals as goal
 
 -- every whole number up to 2 ^ 53 is an f64
 counts : (n : ℕ) → n ≤ 2 ^ 53 → T (in_float binary64 (pos n))
