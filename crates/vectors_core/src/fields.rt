@@ -24,6 +24,7 @@ impl<T: Drop> From<AllocFailed<T>> for Differs {
 const LONGEST: u64 = 4096;
 
 /// The fields of a line that are still to be read. Each is ended by a blank, the last by the line's LF.
+#[derive(Clone, Copy)]
 pub struct Fields<'a> {
     pub rest: &'a [u8],
     pub alloc: Global,
@@ -33,8 +34,10 @@ impl<'a> Fields<'a> {
     /// A line's letter, and the fields after it.
     pub fn of(alloc: Global, line: &'a [u8]) -> Result<(u8, Fields<'a>), Differs> {
         match line {
-            [letter, b' ' | b'\n', rest @ ..] if line.ends_with(b"\n") =>
-                Ok((*letter, Fields { rest, alloc })),
+            [letter, b' ' | b'\n', rest @ ..] if line.ends_with(b"\n") => Ok((
+                *letter,
+                Fields { rest, alloc },
+            )),
             _ => Err(Differs),
         }
     }
@@ -172,6 +175,18 @@ impl<'a> Fields<'a> {
         let (front, rest) = xs.split_at_checked(n).ok_or(Differs)?;
         self.expect_each(front)?;
         expect_untouched(rest)
+    }
+
+    /// The row of a call that writes one list, and what it wrote.
+    pub fn expect_written<T: Lent>(&mut self, row: u64, out: &[T]) -> Result<(), Differs>
+        ensures { length self.new.rest.now ≤ length self.old.rest.now }
+    {
+        self.expect(row)?;
+        if row == 0 {
+            self.expect_list(out)
+        } else {
+            expect_untouched(out)
+        }
     }
 }
 

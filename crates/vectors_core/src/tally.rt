@@ -1,12 +1,11 @@
 // How many lines of a file agree, and the report.
-ghost use Rattle.std.specs.Prelude.{◌≡◌, ◌||◌, ◌++◌, ◌∷◌, [], leb, OnOk, vec_len};
+ghost use Rattle.std.specs.Prelude.{if◌then◌else◌, ◌≡◌, ◌||◌, ◌++◌, ◌∷◌, [], leb, OnOk, vec_len};
 ghost use Rattle.vectors_core.specs.Tally.{one_more};
 
 use crate::fields::Differs;
 use std::alloc::{AllocError, Global};
-use std::fs;
-use std::io;
 use std::rt::Files;
+use std::{fs, io};
 
 /// A line that differs: its number, from 1 on, and its letter, which may be any byte.
 #[derive(Clone, Copy, Debug, PartialEq, Eq)]
