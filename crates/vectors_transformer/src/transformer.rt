@@ -29,7 +29,7 @@ impl Transformed {
     }
 
     // The row of a call that gives the next transformer; a refused one leaves it as it was.
-    fn become(&mut self, answer: Result<WeightedTransformer, Refusal>) -> u64 {
+    fn take(&mut self, answer: Result<WeightedTransformer, Refusal>) -> u64 {
         match answer {
             Ok(next) => {
                 self.transformer = next;
@@ -47,7 +47,7 @@ impl Transformed {
         self.statistics.fill(f64::OLD);
         let answer =
             WeightedTransformer::new(method, d, decay, &weights, &mut self.statistics);
-        let row = self.become(answer);
+        let row = self.take(answer);
         fields.expect(row)?;
         if row != 0 {
             expect_untouched(&self.statistics)?;
@@ -61,7 +61,7 @@ impl Transformed {
         let answer = self
             .transformer
             .update(&mut self.statistics, &input, &previous);
-        let row = self.become(answer);
+        let row = self.take(answer);
         fields.expect(row)?;
         fields.finish()
     }
