@@ -129,6 +129,17 @@ impl<'a> Fields<'a> {
         Ok(list)
     }
 
+    /// A list that may be given: flag 0, or flag 1 and the list.
+    pub fn optional<T: Field>(&mut self) -> Result<Option<Vec<T>>, Differs>
+        ensures { length self.new.rest.now ≤ length self.old.rest.now }
+    {
+        if self.read()? {
+            Ok(Some(self.list()?))
+        } else {
+            Ok(None)
+        }
+    }
+
     /// Memory to be lent, of which the line gives the length.
     pub fn lent<T: Lent>(&mut self) -> Result<Vec<T>, Differs>
         ensures { length self.new.rest.now ≤ length self.old.rest.now }
@@ -175,6 +186,18 @@ impl<'a> Fields<'a> {
         let (front, rest) = xs.split_at_checked(n).ok_or(Differs)?;
         self.expect_each(front)?;
         expect_untouched(rest)
+    }
+
+    /// Whether a list is written, and the list; where none is, its memory stays.
+    pub fn expect_given<T: Lent>(&mut self, given: bool, out: &[T]) -> Result<(), Differs>
+        ensures { length self.new.rest.now ≤ length self.old.rest.now }
+    {
+        self.expect_flag(given)?;
+        if given {
+            self.expect_list(out)
+        } else {
+            expect_untouched(out)
+        }
     }
 
     /// The row of a call that writes one list, and what it wrote.

@@ -5,4 +5,5 @@
 pub mod bounded;
 pub mod field;
 pub mod fields;
+pub mod memory;
 pub mod tally;

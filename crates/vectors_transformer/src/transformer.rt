@@ -8,6 +8,7 @@ use vectors_core::field::Lent;
 use vectors_core::fields::{Differs, Fields, expect_untouched};
 
 // What is carried from line to line.
+#[derive(Drop)]
 pub(crate) struct Transformed {
     transformer: WeightedTransformer,
     statistics: [f64; 260],
