@@ -10,13 +10,7 @@ fn create(fields: &mut Fields<'_>) -> Result<Result<Deviation, Refusal>, Differs
     let sum = fields.read()?;
     let sum_squared = fields.read()?;
     let count = fields.read()?;
-    Ok(Deviation::create(
-        discount,
-        weight,
-        sum,
-        sum_squared,
-        count,
-    ))
+    Ok(Deviation::create(discount, weight, sum, sum_squared, count))
 }
 
 // One reading put right.

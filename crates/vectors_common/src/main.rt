@@ -14,6 +14,14 @@ fn main(rt: HostRuntime) -> io::Result<()> {
     replay(&rt, "deviation", |line| {
         deviation::replay_line(alloc, line, &mut statistic)
     })?;
-    replay(&rt, "range32", |line| range::replay_line::<f32>(alloc, line))?;
-    replay(&rt, "range64", |line| range::replay_line::<f64>(alloc, line))
+    replay(
+        &rt,
+        "range32",
+        |line| range::replay_line::<f32>(alloc, line),
+    )?;
+    replay(
+        &rt,
+        "range64",
+        |line| range::replay_line::<f64>(alloc, line),
+    )
 }

@@ -24,12 +24,7 @@ fn create_line<T: Lent + Width>(mut fields: Fields<'_>) -> Result<(), Differs> {
 fn new_line<T: Lent + Width>(mut fields: Fields<'_>) -> Result<(), Differs> {
     let dimensions = fields.read::<u64>()? as usize;
     let mut out = Bounded::<T>::lent(&mut fields)?;
-    let answer = new(
-        &mut out.values,
-        &mut out.upper,
-        &mut out.lower,
-        dimensions,
-    );
+    let answer = new(&mut out.values, &mut out.upper, &mut out.lower, dimensions);
     out.expect_written(&mut fields, row_of(answer))?;
     fields.finish()
 }
@@ -66,12 +61,7 @@ fn cascade_line<T: Lent + Width>(given: Fields<'_>) -> Result<(), Differs> {
     let mut fields = given;
     let mut lists = Bounded::<T>::read(&mut fields)?;
     let base = fields.list::<T>()?;
-    let answer = cascaded_add(
-        &mut lists.values,
-        &mut lists.upper,
-        &mut lists.lower,
-        &base,
-    );
+    let answer = cascaded_add(&mut lists.values, &mut lists.upper, &mut lists.lower, &base);
     lists.expect_changed(given, &mut fields, row_of(answer))?;
     fields.finish()
 }

@@ -49,12 +49,7 @@ pub(crate) fn state_line(state: &Replayed, mut fields: Fields<'_>) -> Result<(),
 fn read_initial(fields: &mut Fields<'_>, d: usize, memory: &mut Memory) -> Result<usize, Differs> {
     let n = fields.length()?;
     let readings = memory.initial_values.chunks_exact_mut(d.max(1));
-    for (time, reading) in memory
-        .initial_timestamps
-        .iter_mut()
-        .zip(readings)
-        .take(n)
-    {
+    for (time, reading) in memory.initial_timestamps.iter_mut().zip(readings).take(n) {
         *time = fields.read()?;
         fields.read_each(reading)?;
     }

@@ -46,8 +46,7 @@ impl Transformed {
         let decay = fields.read()?;
         let weights = fields.list::<f32>()?;
         self.statistics.fill(f64::OLD);
-        let answer =
-            WeightedTransformer::new(method, d, decay, &weights, &mut self.statistics);
+        let answer = WeightedTransformer::new(method, d, decay, &weights, &mut self.statistics);
         let row = self.take(answer);
         fields.expect(row)?;
         if row != 0 {
