@@ -138,6 +138,7 @@ pub fn with_counts(
 }
 
 // What no head that `build` made is refused by.
+#[tactic(auto, unfolding(crate::specs::View::head_row))]
 pub fn head_row(head: Preprocessor) -> Result<(), Refusal>
     ensures value { row_of result ≡ head_row (settings_of head) }
     ensures bounded { OnOk result (Bounded (settings_of head)) }
@@ -183,6 +184,11 @@ pub fn block_of(m: ForestMode, d: usize) -> usize
 }
 
 // The numbers in a point; 0 for a head that no build made.
+#[tactic(
+    auto,
+    using(crate::proofs::LengthLaws::block_known),
+    unfolding(crate::specs::Settings::dimension, crate::specs::Settings::block)
+)]
 pub fn get_dimension(head: Preprocessor) -> usize
     ensures { result ≡ dimension_of head }
 {
