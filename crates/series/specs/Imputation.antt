@@ -1,12 +1,11 @@
 -- Filling in missing cells: request #104, "Channels that drop out for a second".
-use Rattle.std.specs.Prelude.{ℕ, zero, suc, ◌+◌, ◌-◌, ◌*◌, ◌/◌, ◌%◌, ◌<◌, Bool, true, false, cond, not, ◌&&◌, ◌||◌, List, [], ◌∷◌, ◌≡◌, ltb, eqb, pos, length, get_or, Float}
+use Rattle.std.specs.Prelude.{ℕ, zero, suc, ◌+◌, ◌-◌, ◌*◌, ◌/◌, ◌%◌, ◌<◌, Bool, true, false, cond, not, ◌&&◌, ◌||◌, List, [], ◌∷◌, ◌≡◌, ltb, eqb, pos, length, get_or, Float, Option, Some, None}
 use Rattle.std.specs.Float.{nan, inf, fin, binary32}
 use Rattle.std.specs.Float.Ieee.{add, sub, mul, div, of_int}
 use Rattle.refusal.specs.Refusal.{first_of}
 use Rattle.series.specs.declared.imputation.ImputationMethod.{ImputationMethod}
 use Rattle.series.specs.declared.imputation.ImputationMethod.TheVariants.{FIXED, PREVIOUS, NEXT, LINEAR}
-use Rattle.series.specs.declared.imputation.Nearest.{Nearest}
-use Rattle.series.specs.declared.imputation.Nearest.TheVariants.{At, Nowhere}
+use Rattle.series.specs.declared.imputation.Present.{Present}
 
 -- "a mark beside each cell (0 present, 1 missing)"
 abbrev pub is_present : ℕ → Bool
@@ -14,22 +13,26 @@ is_present mark = eqb mark 0
 
 -- ---- one channel: which readings are present, and what stands in each
 
+-- the present cell of reading r, where x stands
+abbrev pub present_at : ℕ → Float → Option Present
+present_at r x = Some (record { reading = r; value = x })
+
 -- the nearest present cell before reading i: of the readings i − 1, i − 2, .. 0 the first that is present
-abbrev pub nearest_before : (ℕ → Bool) → (ℕ → Float) → ℕ → Nearest
-nearest_before present value zero = Nowhere
-nearest_before present value (suc i) = cond (present i) (At i (value i)) (nearest_before present value i)
+abbrev pub nearest_before : (ℕ → Bool) → (ℕ → Float) → ℕ → Option Present
+nearest_before present value zero = None
+nearest_before present value (suc i) = cond (present i) (present_at i (value i)) (nearest_before present value i)
 
 -- the nearest present cell from reading i on: of the n readings i, i + 1, .. the first that is present
-abbrev pub nearest_from : (ℕ → Bool) → (ℕ → Float) → ℕ → ℕ → Nearest
-nearest_from present value zero i = Nowhere
-nearest_from present value (suc n) i = cond (present i) (At i (value i)) (nearest_from present value n (suc i))
+abbrev pub nearest_from : (ℕ → Bool) → (ℕ → Float) → ℕ → ℕ → Option Present
+nearest_from present value zero i = None
+nearest_from present value (suc n) i = cond (present i) (present_at i (value i)) (nearest_from present value n (suc i))
 
 -- ---- the four rules
 
 -- "copy the nearest present cell on their side in that channel, and fall to FIXED if there is none"
-abbrev pub copy_of : Nearest → Float → Float
-copy_of (At r x) fixed = x
-copy_of Nowhere fixed = fixed
+abbrev pub copy_of : Option Present → Float → Float
+copy_of (Some p) fixed = p.value
+copy_of None fixed = fixed
 
 -- "a + (b − a) × (p / q) in f32"
 unfoldable pub interpolated : Float → Float → ℕ → ℕ → Float
@@ -37,13 +40,13 @@ interpolated a b p q = add binary32 a (mul binary32 (sub binary32 b a) (div bina
 
 -- "LINEAR with nearest present cells a before and b after gives .., p steps from a, q from a to b; with one side only it copies that side,
 -- with neither it is FIXED": at reading i, a at reading r and b at reading s
-abbrev pub between_of : Nearest → Nearest → ℕ → Float → Float
-between_of (At r a) (At s b) i fixed = interpolated a b (i - r) (s - r)
-between_of (At r a) Nowhere i fixed = a
-between_of Nowhere after i fixed = copy_of after fixed
+abbrev pub between_of : Option Present → Option Present → ℕ → Float → Float
+between_of (Some a) (Some b) i fixed = interpolated a.value b.value (i - a.reading) (b.reading - a.reading)
+between_of (Some a) None i fixed = a.value
+between_of None after i fixed = copy_of after fixed
 
 -- "four rules: FIXED; PREVIOUS; NEXT; LINEAR": what a missing cell of reading i becomes
-abbrev pub fill_of : ImputationMethod → Nearest → Nearest → ℕ → Float → Float
+abbrev pub fill_of : ImputationMethod → Option Present → Option Present → ℕ → Float → Float
 fill_of FIXED before after i fixed = fixed
 fill_of PREVIOUS before after i fixed = copy_of before fixed
 fill_of NEXT before after i fixed = copy_of after fixed

@@ -1,5 +1,7 @@
 // Two lists of readings compared: paired from both fronts by their times, and the largest size of difference per channel.
-ghost use Rattle.std.specs.Prelude.{◌≡◌, ◌+◌, ◌*◌, ◌≤◌, length};
+ghost use Rattle.std.specs.Prelude.{◌≡◌, ◌+◌, ◌*◌, ◌≤◌, length, OnOk};
+ghost use Rattle.std.specs.Result.{result_unwrap_or};
+ghost use Rattle.refusal.specs.Refusal.{row_of};
 ghost use Rattle.refusal.specs.Lent.{over};
 ghost use Rattle.series.specs.Pairs.{apart, lefts, rights, pairs};
 ghost use Rattle.series.specs.Gaps.{zero32, difference_size, larger, per_channel, gaps};
@@ -7,23 +9,12 @@ ghost use Rattle.series.specs.Alignment.{channel_limit, readings_misshapen, unus
 ghost use Rattle.series.specs.Steps.AlignmentRows.{readings_row, room_row, ReadingsShaped, RoomForPairs};
 ghost use Rattle.series.specs.Steps.Comparing.{widened};
 
+use refusal::Refusal;
+
 // The longest list.
 pub const LIMIT: usize = 4096;
 // The largest number of channels.
 pub const CHANNEL_LIMIT: u64 = 16;
-
-// The row that refuses, 0 for none, and the number of pairs.
-#[derive(Clone, Copy)]
-pub struct Aligned {
-    pub row: u64,
-    pub pairs: u64,
-}
-
-fn distance(x: u64, y: u64) -> u64
-    ensures { result ≡ apart x y }
-{
-    if x < y { y - x } else { x - y }
-}
 
 // ---- the rows
 
@@ -39,20 +30,7 @@ fn is_misshapen(d: usize, cells: usize, times: &[u64]) -> bool
 fn is_unusable(times: &[u64]) -> bool
     ensures { result ≡ unusable times.now }
 {
-    if LIMIT < times.len() {
-        return true;
-    }
-    let mut last: u64 = 0;
-    let mut i = 0;
-    while i < times.len() {
-        let t = times[i];
-        if t < last {
-            return true;
-        }
-        last = t;
-        i += 1;
-    }
-    false
+    LIMIT < times.len() || !times.is_sorted()
 }
 
 // Rows 2, 4, 10 and 24. d is judged before it is narrowed.
@@ -62,46 +40,44 @@ fn readings_row(
     left_times: &[u64],
     right_cells: usize,
     right_times: &[u64],
-) -> u64
-    ensures value { result ≡ readings_row d left_cells left_times.now right_cells right_times.now }
-    ensures readings_shaped { result ≡ 0 → ReadingsShaped d left_cells (length left_times.now) right_cells (length right_times.now) }
+) -> Result<(), Refusal>
+    ensures value { row_of result ≡ readings_row d left_cells left_times.now right_cells right_times.now }
+    ensures readings_shaped { OnOk result (ReadingsShaped d left_cells (length left_times.now) right_cells (length right_times.now)) }
 {
     if d == 0 {
-        return 2;
+        return Err(Refusal::NoChannels);
     }
     if CHANNEL_LIMIT < d {
-        return 4;
+        return Err(Refusal::TooLarge);
     }
-    if is_misshapen(d as usize, left_cells, left_times) {
-        return 10;
+    let channels = d as usize;
+    if is_misshapen(channels, left_cells, left_times)
+        || is_misshapen(channels, right_cells, right_times)
+    {
+        return Err(Refusal::InputLength);
     }
-    if is_misshapen(d as usize, right_cells, right_times) {
-        return 10;
+    if is_unusable(left_times) || is_unusable(right_times) {
+        return Err(Refusal::AlignTimes);
     }
-    if is_unusable(left_times) {
-        return 24;
-    }
-    if is_unusable(right_times) {
-        return 24;
-    }
-    0
+    Ok(())
 }
 
 // Row 20: an output is shorter than what is to be written.
-fn room_row(d: u64, number: u64, left_out: usize, right_out: usize, gaps_out: usize) -> u64
-    ensures value { result ≡ room_row d number left_out right_out gaps_out }
-    ensures room_for_pairs { result ≡ 0 → RoomForPairs d number left_out right_out gaps_out }
+fn room_row(
+    d: u64,
+    number: u64,
+    left_out: usize,
+    right_out: usize,
+    gaps_out: usize,
+) -> Result<(), Refusal>
+    ensures value { row_of result ≡ room_row d number left_out right_out gaps_out }
+    ensures room_for_pairs { OnOk result (RoomForPairs d number left_out right_out gaps_out) }
 {
-    if (left_out as u64) < number {
-        return 20;
+    if (left_out as u64) < number || (right_out as u64) < number || (gaps_out as u64) < d {
+        Err(Refusal::TooShort)
+    } else {
+        Ok(())
     }
-    if (right_out as u64) < number {
-        return 20;
-    }
-    if (gaps_out as u64) < d {
-        return 20;
-    }
-    0
 }
 
 // ---- one pass to count
@@ -118,7 +94,7 @@ fn count_pairs(left: &[u64], right: &[u64], tolerance: u64) -> u64
         }
         let x = left[i];
         let y = right[j];
-        if distance(x, y) <= tolerance {
+        if x.abs_diff(y) <= tolerance {
             n += 1;
             i += 1;
             j += 1;
@@ -147,7 +123,7 @@ fn size(x: f32, y: f32) -> f32
     if z == 0.0 {
         return 0.0;
     }
-    1.0 / 0.0
+    f32::INFINITY
 }
 
 fn larger_of(g: f32, s: f32) -> f32
@@ -162,20 +138,8 @@ fn widen(gaps: &mut [f32], left: &[f32], a: usize, right: &[f32], b: usize)
     requires gaps_in_bounds_2 { b + length gaps.old ≤ length right.now }
     ensures { gaps.new ≡ widened left.now a right.now b gaps.old }
 {
-    let mut c = 0;
-    while c < gaps.len() {
+    for c in 0..gaps.len() {
         gaps[c] = larger_of(gaps[c], size(left[a + c], right[b + c]));
-        c += 1;
-    }
-}
-
-fn clear(gaps: &mut [f32])
-    ensures { gaps.new ≡ per_channel (length gaps.old) (λ _. zero32) }
-{
-    let mut c = 0;
-    while c < gaps.len() {
-        gaps[c] = 0.0;
-        c += 1;
     }
 }
 
@@ -198,7 +162,7 @@ fn write_pairs(
     ensures right_out_after { right_out.new ≡ over right_out.old (rights (pairs tolerance left_times.now right_times.now)) }
     ensures gaps_out_after { gaps_out.new ≡ gaps (length gaps_out.old) left.now right.now (pairs tolerance left_times.now right_times.now) }
 {
-    clear(gaps_out);
+    gaps_out.fill(0.0);
     let d = gaps_out.len();
     let mut n: usize = 0;
     let mut i = 0;
@@ -209,7 +173,7 @@ fn write_pairs(
         }
         let at_left = left_times[i];
         let at_right = right_times[j];
-        if distance(at_left, at_right) <= tolerance {
+        if at_left.abs_diff(at_right) <= tolerance {
             left_out[n] = i as u64;
             right_out[n] = j as u64;
             widen(gaps_out, left, i * d, right, j * d);
@@ -224,7 +188,7 @@ fn write_pairs(
     }
 }
 
-// A refusal writes nothing.
+// Answers the number of pairs. A refusal writes nothing.
 pub fn align(
     d: u64,
     left: &[f32],
@@ -235,23 +199,14 @@ pub fn align(
     left_out: &mut [u64],
     right_out: &mut [u64],
     gaps_out: &mut [f32],
-) -> Aligned
-    ensures { align_outcome result.row result.pairs (outputs left_out.new right_out.new gaps_out.new)
+) -> Result<u64, Refusal>
+    ensures { align_outcome (row_of result) (result_unwrap_or result 0) (outputs left_out.new right_out.new gaps_out.new)
         ≡ align_of d (readings left.now left_times.now) (readings right.now right_times.now) tolerance
         (outputs left_out.old right_out.old gaps_out.old) }
 {
-    let row = readings_row(d, left.len(), left_times, right.len(), right_times);
-    if row != 0 {
-        return Aligned { row: row, pairs: 0 };
-    }
+    readings_row(d, left.len(), left_times, right.len(), right_times)?;
     let number = count_pairs(left_times, right_times, tolerance);
-    let room = room_row(d, number, left_out.len(), right_out.len(), gaps_out.len());
-    if room != 0 {
-        return Aligned {
-            row: room,
-            pairs: 0,
-        };
-    }
+    room_row(d, number, left_out.len(), right_out.len(), gaps_out.len())?;
     let channels = d as usize;
     write_pairs(
         left,
@@ -263,8 +218,5 @@ pub fn align(
         right_out,
         &mut gaps_out[..channels],
     );
-    Aligned {
-        row: 0,
-        pairs: number,
-    }
+    Ok(number)
 }

@@ -1,10 +1,12 @@
 // Fills in the missing cells of a list of readings, by one of the source's four rules (trcf/types.rs, ImputationMethod). Request #104.
-ghost use Rattle.std.specs.Prelude.{◌≡◌, not, ◌&&◌, ◌||◌, ◌+◌, ◌*◌, ◌/◌, ◌≤◌, ◌<◌, length};
+ghost use Rattle.std.specs.Prelude.{◌≡◌, not, ◌&&◌, ◌||◌, ◌+◌, ◌*◌, ◌/◌, ◌≤◌, ◌<◌, length, OnOk};
+ghost use Rattle.refusal.specs.Refusal.{row_of};
 ghost use Rattle.series.specs.Imputation.{copy_of, interpolated, is_present, between_of, fill_of, cells_misshapen, known_marks, is_finite, finite_present, all_finite, imputed, impute_row, imputation};
 ghost use Rattle.series.specs.Imputation.{impute_of};
 ghost use Rattle.series.specs.Steps.ImputationSteps.{Under, Above, CellInside, CellsShaped, gap_of, passing, passed_of, channel_of};
 
 use numeric::u64_to_f32;
+use refusal::Refusal;
 
 // The most channels, and the most readings of one call.
 const DIMENSIONS_LIMIT: u64 = 16;
@@ -12,7 +14,7 @@ const DIMENSIONS_LIMIT: u64 = 16;
 const READINGS_LIMIT: usize = 2_000;
 
 // The source's USE_RCF is dropped with the forests.
-#[derive(Clone, Copy)]
+#[derive(Clone, Copy, Debug, PartialEq, Eq)]
 pub enum ImputationMethod {
     FIXED,
     PREVIOUS,
@@ -20,11 +22,11 @@ pub enum ImputationMethod {
     LINEAR,
 }
 
-// The nearest present cell on one side of a missing one in its channel: its reading, and what stands there.
+// A present cell of a channel: its reading, and what stands there.
 #[derive(Clone, Copy)]
-pub enum Nearest {
-    At(usize, f32),
-    Nowhere,
+struct Present {
+    reading: usize,
+    value: f32,
 }
 
 // One channel of the readings: its number c of d, its fixed value, and the rule that fills it.
@@ -40,17 +42,17 @@ struct Channel {
 #[derive(Clone, Copy)]
 struct Gap {
     start: usize,
-    before: Nearest,
+    before: Option<Present>,
 }
 
 // ---- one missing cell
 
-fn copied(side: Nearest, fixed: f32) -> f32
+fn copied(side: Option<Present>, fixed: f32) -> f32
     ensures { result ≡ copy_of side fixed }
 {
     match side {
-        Nearest::At(_, x) => x,
-        Nearest::Nowhere => fixed,
+        Some(present) => present.value,
+        None => fixed,
     }
 }
 
@@ -61,20 +63,24 @@ fn line(a: f32, b: f32, p: usize, q: usize) -> f32
     a + (b - a) * (u64_to_f32(p as u64) / u64_to_f32(q as u64))
 }
 
-fn between(before: Nearest, after: Nearest, i: usize, fixed: f32) -> f32
+fn between(before: Option<Present>, after: Option<Present>, i: usize, fixed: f32) -> f32
     requires { Under before i × Above after i }
     ensures { result ≡ between_of before after i fixed }
 {
-    match before {
-        Nearest::At(r, a) => match after {
-            Nearest::At(s, b) => line(a, b, i - r, s - r),
-            Nearest::Nowhere => a,
-        },
-        Nearest::Nowhere => copied(after, fixed),
+    match (before, after) {
+        (Some(a), Some(b)) => line(a.value, b.value, i - a.reading, b.reading - a.reading),
+        (Some(a), None) => a.value,
+        (None, _) => copied(after, fixed),
     }
 }
 
-fn filled(method: ImputationMethod, before: Nearest, after: Nearest, i: usize, fixed: f32) -> f32
+fn filled(
+    method: ImputationMethod,
+    before: Option<Present>,
+    after: Option<Present>,
+    i: usize,
+    fixed: f32,
+) -> f32
     requires { Under before i × Above after i }
     ensures { result ≡ fill_of method before after i fixed }
 {
@@ -89,20 +95,13 @@ fn filled(method: ImputationMethod, before: Nearest, after: Nearest, i: usize, f
 // ---- one channel
 
 // Fills the readings of the gap up to `end`, after which `after` stands.
-fn fill_gap(ch: Channel, gap: Gap, end: usize, after: Nearest, cells: &mut [f32])
+fn fill_gap(ch: Channel, gap: Gap, end: usize, after: Option<Present>, cells: &mut [f32])
     requires cell_inside { CellInside ch end (length cells.old) }
     requires start_le_end { (gap.start ≤ end) × Under gap.before gap.start × Above after end }
     ensures { cells.new ≡ gap_of ch gap end after cells.old }
 {
-    let method = ch.method;
-    let d = ch.d;
-    let c = ch.c;
-    let fixed = ch.fixed;
-    let before = gap.before;
-    let mut j = gap.start;
-    while j < end {
-        cells[j * d + c] = filled(method, before, after, j, fixed);
-        j += 1;
+    for j in gap.start..end {
+        cells[j * ch.d + ch.c] = filled(ch.method, gap.before, after, j, ch.fixed);
     }
 }
 
@@ -116,7 +115,10 @@ fn passed(ch: Channel, gap: Gap, i: usize, cells: &mut [f32], marks: &[u8]) -> G
     if marks[at] != 0 {
         return gap;
     }
-    let here = Nearest::At(i, cells[at]);
+    let here = Some(Present {
+        reading: i,
+        value: cells[at],
+    });
     fill_gap(ch, gap, i, here, cells);
     Gap {
         start: i + 1,
@@ -132,14 +134,12 @@ fn impute_channel(ch: Channel, cells: &mut [f32], marks: &[u8])
     let n = cells.len() / ch.d;
     let mut gap = Gap {
         start: 0,
-        before: Nearest::Nowhere,
+        before: None,
     };
-    let mut i = 0;
-    while i < n {
+    for i in 0..n {
         gap = passed(ch, gap, i, cells, marks);
-        i += 1;
     }
-    fill_gap(ch, gap, n, Nearest::Nowhere, cells);
+    fill_gap(ch, gap, n, None, cells);
 }
 
 // ---- all channels
@@ -154,75 +154,41 @@ fn impute_channels(
     requires { CellsShaped d (length cells.old) (length marks.now) (length fixed.now) }
     ensures { cells.new ≡ imputed method d cells.old marks.now fixed.now }
 {
-    let mut c = 0;
-    while c < d {
+    for c in 0..d {
         let ch = Channel {
-            method: method,
-            d: d,
-            c: c,
+            method,
+            d,
+            c,
             fixed: fixed[c],
         };
         impute_channel(ch, cells, marks);
-        c += 1;
     }
 }
 
 // ---- refusals
 
-fn is_finite(v: f32) -> bool
-    ensures { result ≡ is_finite v }
-{
-    let top = 1.0f32 / 0.0f32;
-    if v < top { -top < v } else { false }
-}
-
 fn all_finite(x: &[f32]) -> bool
     ensures { result ≡ all_finite x.now }
 {
-    let mut i = 0;
-    while i < x.len() {
-        if !is_finite(x[i]) {
-            return false;
-        }
-        i += 1;
-    }
-    true
+    x.iter().all(|v| v.is_finite())
 }
 
-// Missing, or a number: what stands in a missing cell is not asked.
-fn fits_mark(x: f32, mark: u8) -> bool
-    ensures { result ≡ (not (is_present mark) || is_finite x) }
-{
-    if mark == 0 { is_finite(x) } else { true }
-}
-
-// Whether every present cell is finite.
+// Whether every present cell is finite: what stands in a missing one is not asked.
 fn present_finite(cells: &[f32], marks: &[u8]) -> bool
     requires { length marks.now ≡ length cells.now }
     ensures { result ≡ finite_present cells.now marks.now }
 {
-    let mut i = 0;
-    while i < cells.len() {
-        if !fits_mark(cells[i], marks[i]) {
-            return false;
-        }
-        i += 1;
-    }
-    true
+    cells
+        .iter()
+        .zip(marks)
+        .all(|(x, &mark)| mark != 0 || x.is_finite())
 }
 
 // Whether every mark is 0 or 1.
 fn marks_known(marks: &[u8]) -> bool
     ensures { result ≡ known_marks marks.now }
 {
-    let mut i = 0;
-    while i < marks.len() {
-        if 1 < marks[i] {
-            return false;
-        }
-        i += 1;
-    }
-    true
+    marks.iter().all(|&mark| mark < 2)
 }
 
 // Row 10: cells, marks and fixed values are not of one shape.
@@ -230,62 +196,47 @@ fn is_misshapen(d: usize, cells: usize, marks: usize, fixed: usize) -> bool
     requires { 0 < d }
     ensures { result ≡ cells_misshapen d cells marks fixed }
 {
-    if cells % d != 0 {
-        return true;
-    }
-    if marks != cells {
-        return true;
-    }
-    fixed != d
+    cells % d != 0 || marks != cells || fixed != d
 }
 
-// The row that refuses the call, 0 for none: 2, 4, 10, 21, 11. It reads and never writes.
-fn impute_row(d: u64, cells: &[f32], marks: &[u8], fixed: &[f32]) -> u64
-    ensures value { result ≡ impute_row d cells.now marks.now fixed.now }
-    ensures cells_shaped { result ≡ 0 → CellsShaped d (length cells.now) (length marks.now) (length fixed.now) }
+// Rows 2, 4, 10, 21 and 11, in this order. It reads and never writes.
+fn impute_row(d: u64, cells: &[f32], marks: &[u8], fixed: &[f32]) -> Result<(), Refusal>
+    ensures value { row_of result ≡ impute_row d cells.now marks.now fixed.now }
+    ensures cells_shaped { OnOk result (CellsShaped d (length cells.now) (length marks.now) (length fixed.now)) }
 {
     if d == 0 {
-        return 2;
+        return Err(Refusal::NoChannels);
     }
     if DIMENSIONS_LIMIT < d {
-        return 4;
+        return Err(Refusal::TooLarge);
     }
     let n = d as usize;
     if is_misshapen(n, cells.len(), marks.len(), fixed.len()) {
-        return 10;
+        return Err(Refusal::InputLength);
     }
-    if READINGS_LIMIT < cells.len() / n {
-        return 21;
+    if READINGS_LIMIT < cells.len() / n || !marks_known(marks) {
+        return Err(Refusal::ImputeMarks);
     }
-    if !marks_known(marks) {
-        return 21;
+    if !present_finite(cells, marks) || !all_finite(fixed) {
+        return Err(Refusal::NotFinite);
     }
-    if !present_finite(cells, marks) {
-        return 11;
-    }
-    if !all_finite(fixed) {
-        return 11;
-    }
-    0
+    Ok(())
 }
 
 // ---- the call
 
 // n readings of d cells, reading by reading, in `cells`; a mark for each cell in the same order, 0 present and 1 missing; d fixed values.
-// Fills the missing cells in place and answers 0, or answers the row that refuses and changes nothing.
+// Fills the missing cells in place. A refusal changes nothing.
 pub fn impute(
     method: ImputationMethod,
     d: u64,
     cells: &mut [f32],
     marks: &[u8],
     fixed: &[f32],
-) -> u64
-    ensures { imputation result cells.new ≡ impute_of method d cells.old marks.now fixed.now }
+) -> Result<(), Refusal>
+    ensures { imputation (row_of result) cells.new ≡ impute_of method d cells.old marks.now fixed.now }
 {
-    let row = impute_row(d, cells, marks, fixed);
-    if row != 0 {
-        return row;
-    }
+    impute_row(d, cells, marks, fixed)?;
     impute_channels(method, d as usize, cells, marks, fixed);
-    0
+    Ok(())
 }

@@ -1,15 +1,13 @@
 -- Computed: the enumeration itself, run.
 use mathlib.Core.Path.{◌≡◌, refl}
-use mathlib.Core.Bool.{true}
 use mathlib.Core.List.{List, [], ◌∷◌}
 use lib.ListN.{length}
 use Prim.Native.Nat.{ℕ, ◌+◌, ◌^◌}
-use Rattle.stranding.specs.declared.StrandingCounts.{StrandingCounts}
-use Rattle.stranding.specs.Orders.{Kind, point_kind, learn_kind, drain_kind, orders, same_order}
+use Rattle.stranding.specs.Orders.{point_kind, learn_kind, drain_kind, orders, same_order}
 use Rattle.stranding.specs.Standing.{still_waiting, now_drained, now_stranded, after_drain, after_learn, standing_after}
-use Rattle.stranding.specs.Counts.{count, row_counts, refused_counts, counts_by, counts, out_of_range, strandings_of}
+use Rattle.stranding.specs.Counts.{RowCounts, count, row_counts, refused_counts, counts_by, counts, out_of_range, strandings_of}
 use Rattle.stranding.proofs.Orders.{orders_long, orders_once}
-use Rattle.stranding.proofs.Recurrence.{counts_add_up, counts_from_table, table}
+use Rattle.stranding.proofs.Recurrence.{counts_add_up}
 
 -- "For n 2 and s 1 they are 6, 2 and 1."
 two_calls : strandings_of 1 2 ≡ row_counts 0 6 2 1
@@ -18,7 +16,7 @@ two_calls = refl
 
 -- ---- 1 to 6 calls, for a start of 1 to 5
 
-abbrev up_to_six : ℕ → List StrandingCounts
+abbrev up_to_six : ℕ → List RowCounts
 up_to_six s = strandings_of s 1 ∷ strandings_of s 2 ∷ strandings_of s 3 ∷ strandings_of s 4 ∷ strandings_of s 5 ∷ strandings_of s 6 ∷ []
 
 start_one : up_to_six 1 ≡ row_counts 0 3 0 0 ∷ row_counts 0 6 2 1 ∷ row_counts 0 12 10 5 ∷ row_counts 0 24 38 19 ∷ row_counts 0 48 130 65 ∷ row_counts 0 96 422 211 ∷ []

@@ -25,14 +25,7 @@ fn block_number(i: usize) -> f32
 fn is_moving(m: TransformMethod) -> bool
     ensures { result ≡ moves m }
 {
-    match m {
-        TransformMethod::NONE => false,
-        TransformMethod::WEIGHTED => false,
-        TransformMethod::DIFFERENCE => true,
-        TransformMethod::SUBTRACT_MA => true,
-        TransformMethod::NORMALIZE => true,
-        TransformMethod::NORMALIZE_DIFFERENCE => true,
-    }
+    !matches!(m, TransformMethod::NONE | TransformMethod::WEIGHTED)
 }
 
 fn chosen(b: bool, x: f32, y: f32) -> f32
@@ -86,8 +79,7 @@ fn drift_block(
 {
     let b = block_number(i);
     let at = i * d;
-    let mut j = 0;
-    while j < d {
+    for j in 0..d {
         let p = at + j;
         let r = Range32 {
             value: values[p],
@@ -98,7 +90,6 @@ fn drift_block(
         values[p] = q.value;
         upper[p] = q.upper;
         lower[p] = q.lower;
-        j += 1;
     }
 }
 
@@ -126,8 +117,7 @@ fn invert_block(
 {
     let b = block_number(i);
     let at = i * d;
-    let mut j = 0;
-    while j < d {
+    for j in 0..d {
         let p = at + j;
         let x = bases[j];
         let r = Range32 {
@@ -148,7 +138,6 @@ fn invert_block(
         values[p] = q.value;
         upper[p] = q.upper;
         lower[p] = q.lower;
-        j += 1;
     }
 }
 

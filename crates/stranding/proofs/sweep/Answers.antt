@@ -1,5 +1,5 @@
 -- `stranding::sweep` meets its contract: before j the cells are swept, the others as they were.
-use Prim.Native.Nat.{◌+◌, ◌-◌}
+use Prim.Native.Nat.{◌+◌}
 use native.Mathlib.Omega.{arith}
 use Rattle.stranding.proofs.Rows.{begin, cell_small, on, ends}
 use Rattle.stranding.proofs.sweep.Goals as goal
@@ -7,51 +7,21 @@ use Rattle.stranding.proofs.sweep.Goals as goal
 pub loop-j-init : goal.loop-j-init
 loop-j-init c = begin _ _
 
-pub offset_bounds-table-j : goal.offset_bounds-table-j
-offset_bounds-table-j c = omega arith
-
-pub bounds-table-j : goal.bounds-table-j
-bounds-table-j c = omega arith
-
 pub overflow_mul-table : goal.overflow_mul-table
 overflow_mul-table c =
     let L = c.loop-j in
-    let A = c in
     omega (arith, cell_small _ _ L.j L.table c.requires.small.cells L.invariant L.j (omega arith) (omega (arith, L.invariant.up_to)))
-
-pub overflow_add-table : goal.overflow_add-table
-overflow_add-table c = omega arith
-
-pub offset_bounds-table-j-in-loop-j : goal.offset_bounds-table-j-in-loop-j
-offset_bounds-table-j-in-loop-j c = omega arith
-
-pub bounds-table-j-in-loop-j : goal.bounds-table-j-in-loop-j
-bounds-table-j-in-loop-j c = omega arith
 
 pub overflow_add-table-in-loop-j : goal.overflow_add-table-in-loop-j
 overflow_add-table-in-loop-j c =
     let L = c.loop-j in
-    let A = c in
     let x = cell_small _ _ L.j L.table c.requires.small.cells L.invariant L.j (omega arith) (omega (arith, L.invariant.up_to)) in
     let y = cell_small _ _ L.j L.table c.requires.small.cells L.invariant (L.j + 1) (omega arith) (omega arith) in
     omega (arith, x, y)
 
-pub offset_bounds-table-j-in-loop-j-2 : goal.offset_bounds-table-j-in-loop-j-2
-offset_bounds-table-j-in-loop-j-2 c = omega arith
-
-pub bounds-table-j-in-loop-j-2 : goal.bounds-table-j-in-loop-j-2
-bounds-table-j-in-loop-j-2 c = omega arith
-
-pub overflow_add-j : goal.overflow_add-j
-overflow_add-j c = omega arith
-
-pub loop-j-smaller : goal.loop-j-smaller
-loop-j-smaller c = omega arith
-
 pub loop-j-preserved : goal.loop-j-preserved
 loop-j-preserved c =
     let L = c.loop-j in
-    let A = c in
     on c.args.start c.args.table.now L.j L.table (omega (arith, c.requires.small.long, c.requires.start_bound)) L.invariant (omega arith)
 
 pub returns : goal.returns

@@ -3,7 +3,6 @@
 use Rattle.std.proofs.Common.{◌≡◌, ℕ, zero, suc, ◌*◌, ◌<◌, ◌≤◌, true, T, ◌+ℤ◌, ◌-ℤ◌, ◌*ℤ◌, sym, refl, ap, ◌∙◌, subst, arith, lit≤, ltb-false}
 use lib.Ieee.{Float, binary64, mul}
 use Rattle.common.specs.declared.deviation.Deviation.{Deviation}
-use Rattle.common.specs.declared.deviation.DeviationResult.TheVariants.{Ok, Err}
 use Rattle.refusal.specs.Refusal.{first_of}
 use Rattle.common.specs.Deviation.{deviation_answer, statistic}
 use Rattle.common.specs.WholeScores.{whole_float}

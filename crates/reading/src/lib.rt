@@ -1,0 +1,23 @@
+// A buffer filled from a file or from the standard input. It uses nothing of the port.
+#![tactic(auto)]
+
+ghost use Rattle.std.specs.Io.KnownBytes.{Consumes};
+ghost use Rattle.std.specs.Prelude.{◌≡◌, ◌≤◌, length, take};
+
+use std::io::Read;
+
+/// Reads until `text` is full, the input ends or a read fails, and answers how many bytes stand at the front of `text`: those are the next ones of the input, and no other byte of it is
+/// lost. A failed read ends the input. (`read_to_end` would want memory of its own, and `read_exact` answers no count where the input is shorter than the buffer.)
+pub fn read_full<R: Read>(input: &mut R, text: &mut [u8]) -> usize
+    ensures within { result ≤ length text.new }
+    ensures bytes { Consumes (R.remaining input.old) (R.remaining input.new) (take result text.new) }
+{
+    let mut done = 0;
+    while done < text.len() {
+        match input.read(&mut text[done..]) {
+            Ok(n) if n > 0 => done += n,
+            _ => return done,
+        }
+    }
+    done
+}
