@@ -5,7 +5,7 @@ ghost use Rattle.snapshot.specs.Scan.{number_of};
 ghost use Rattle.bench_core.specs.Line.{is_reading, name_of, set_place, call_place, place_of, letter_of, method_field, other_line, named_line, after_field, with_whole, with_double, with_single, line_with_field, cell_of, request_of, blank_line};
 
 use snapshot::cells::{double, single, whole};
-use snapshot::field::{Field, Number};
+use snapshot::field::Field;
 use trcf::types::mode_of_letter;
 use trcf_rows::rows::is_imputing;
 
@@ -112,40 +112,21 @@ fn place_of(name: Name, i: usize) -> Place
     }
 }
 
-fn wide(x: u8) -> u64
-    ensures { result ≡ x }
-{
-    x as u64
-}
-
 // The letter of a mode that a text can have.
-fn letter(c: &[u8]) -> Number
+fn letter(c: &[u8]) -> Option<u64>
     ensures { result ≡ letter_of c.now }
 {
-    if c.len() != 1 {
-        return Number::No;
+    match c {
+        [byte] if !is_imputing(mode_of_letter(u64::from(*byte))) => Some(u64::from(*byte)),
+        _ => None,
     }
-    let byte = wide(c[0]);
-    if is_imputing(mode_of_letter(byte)) {
-        return Number::No;
-    }
-    Number::Is(byte)
 }
 
 // The number of a method, at most 5.
-fn method(c: &[u8]) -> Number
+fn method(c: &[u8]) -> Option<u64>
     ensures { result ≡ method_field (number_of (as_whole c.now)) }
 {
-    let w = whole(c);
-    match w {
-        Number::No => Number::No,
-        Number::Is(n) => {
-            if n <= 5 {
-                return Number::Is(n);
-            }
-            Number::No
-        }
-    }
+    whole(c).filter(|n| *n <= 5)
 }
 
 // A line of another form stays one.
@@ -162,21 +143,17 @@ fn after(i: usize) -> usize
     if i < 9 { i + 1 } else { i }
 }
 
-fn with_whole(l: Line, n: Number) -> Line
+fn with_whole(l: Line, n: Option<u64>) -> Line
     ensures { result ≡ with_whole l n }
 {
     match n {
-        Number::No => other(l),
-        Number::Is(v) => {
-            let i = l.fields;
-            if 6 <= i {
-                return other(l);
-            }
+        Some(v) if l.fields < 6 => {
             let mut next = l;
-            next.wholes[i] = v;
-            next.fields = i + 1;
+            next.wholes[l.fields] = v;
+            next.fields += 1;
             next
         }
+        _ => other(l),
     }
 }
 
@@ -184,15 +161,12 @@ fn with_double(l: Line, f: Field) -> Line
     ensures { result ≡ with_double l f }
 {
     match f {
-        Field::Double(x) => {
-            let mut next = l;
-            next.double = x;
-            next.fields = after(l.fields);
-            next
-        }
-        Field::Single(_) => other(l),
-        Field::Whole(_) => other(l),
-        Field::Bad => other(l),
+        Field::Double(double) => Line {
+            fields: after(l.fields),
+            double,
+            ..l
+        },
+        _ => other(l),
     }
 }
 
@@ -200,22 +174,16 @@ fn with_double(l: Line, f: Field) -> Line
 fn with_single(l: Line, f: Field) -> Line
     ensures { result ≡ with_single l f }
 {
-    match f {
-        Field::Single(x) => {
-            let k = l.count;
-            let mut next = l;
-            next.fields = after(l.fields);
-            if 17 <= k {
-                return next;
-            }
-            next.singles[k] = x;
-            next.count = k + 1;
-            next
-        }
-        Field::Double(_) => other(l),
-        Field::Whole(_) => other(l),
-        Field::Bad => other(l),
+    let Field::Single(x) = f else {
+        return other(l);
+    };
+    let mut next = l;
+    next.fields = after(l.fields);
+    if l.count < 17 {
+        next.singles[l.count] = x;
+        next.count += 1;
     }
+    next
 }
 
 #[tactic(auto, unfolding(crate::specs::Line::line_with_field))]

@@ -1,14 +1,15 @@
 // The bench, cell by cell: a step reads one cell of the input, and prints what the line asks for where the cell ends it.
 ghost use Rattle.std.specs.Prelude.{◌≡◌, List, Float, ◌≤◌, length};
+ghost use Rattle.refusal.specs.Refusal.{number_of, row_of};
 ghost use Rattle.trcf.specs.Settings.{settings_row};
-ghost use Rattle.trcf.specs.View.{Lent, lent, outcome, or_else, settings_from};
+ghost use Rattle.trcf.specs.View.{Lent, lent, head_outcome, no_head, or_else, settings_from};
 ghost use Rattle.bench_core.specs.Line.{request_of, kept_count};
 ghost use Rattle.bench_core.specs.Bench.{code_count, built_of, output, prints, no_text, ready_for, going_on, end_of, builder_from, no_builder, fresh_bench, line_result, set_gives, limit_row, build_gives, weights_gives, plain_gives, reading_gives, call_gives, line_gives, cell_length, cell_kept, stepped_by, with_line, bench_step, begun, end_result, finish_by, finished_from, finish_of};
 
 use crate::call::{Answered, call_drain, call_learn, call_point, call_save, print_no};
 use crate::line::{Line, Name, blank, cell, is_reading, request};
 use refusal::Refusal;
-use trcf::head::{Changed, Preprocessor, PreprocessorBuilder, no_head};
+use trcf::head::{Preprocessor, PreprocessorBuilder, no_head};
 use trcf::types::{ForestMode, INPUT_LIMIT, TransformMethod, method_of_number, mode_of_letter};
 use trcf_calls::build::build;
 use trcf_rows::rows::settings_row;
@@ -81,17 +82,15 @@ fn no_builder() -> PreprocessorBuilder
 pub fn builder_from(l: Line) -> PreprocessorBuilder
     ensures { result ≡ builder_from l }
 {
-    let wholes = l.wholes;
-    let singles = l.singles;
     PreprocessorBuilder {
-        forest_mode: mode_of_letter(wholes[0]),
-        transform_method: method_of_number(wholes[1]),
-        input_dimensions: wholes[2] as usize,
-        shingle_size: wholes[3] as usize,
-        start_normalization: wholes[4] as usize,
-        stop_normalization: wholes[5] as usize,
+        forest_mode: mode_of_letter(l.wholes[0]),
+        transform_method: method_of_number(l.wholes[1]),
+        input_dimensions: l.wholes[2] as usize,
+        shingle_size: l.wholes[3] as usize,
+        start_normalization: l.wholes[4] as usize,
+        stop_normalization: l.wholes[5] as usize,
         transform_decay: l.double,
-        weight_time: singles[0],
+        weight_time: l.singles[0],
     }
 }
 
@@ -113,13 +112,13 @@ pub struct Printed {
     pub length: usize,
 }
 
-fn ended(b: Bench, row: u64, out: &mut [u8]) -> Printed
+fn ended(b: Bench, refusal: Refusal, out: &mut [u8]) -> Printed
     requires { 65536 ≤ length out.old }
-    ensures { end_result result.bench (output result.length out.new) ≡ end_result (end_of b) (prints (no_text row) out.old) }
+    ensures { end_result result.bench (output result.length out.new) ≡ end_result (end_of b) (prints (no_text (number_of refusal)) out.old) }
 {
     Printed {
         bench: ready(b, Phase::Ended),
-        length: print_no(out, row),
+        length: print_no(out, refusal),
     }
 }
 
@@ -129,7 +128,7 @@ fn read_set(b: Bench, l: Line, out: &mut [u8]) -> Printed
     ensures { (lists : Lent) (y : List Float) → line_result result.bench lists y (output result.length out.new) ≡ set_gives (request_of l) b l lists y out.old }
 {
     if request(l) != Name::Set {
-        return ended(b, 19, out);
+        return ended(b, Refusal::Form, out);
     }
     Printed {
         bench: Bench {
@@ -140,17 +139,14 @@ fn read_set(b: Bench, l: Line, out: &mut [u8]) -> Printed
     }
 }
 
-// Row 20 past the limits of the bench.
-fn limit_row(b: PreprocessorBuilder) -> u64
-    ensures { result ≡ limit_row b }
+// The row that refuses what is past the limits of the bench.
+fn limit_row(b: PreprocessorBuilder) -> Result<(), Refusal>
+    ensures { row_of result ≡ limit_row b }
 {
-    if 4 < b.input_dimensions {
-        return 20;
+    if 4 < b.input_dimensions || 500 < b.start_normalization {
+        return Err(Refusal::TooShort);
     }
-    if 500 < b.start_normalization {
-        return 20;
-    }
-    0
+    Ok(())
 }
 
 // How many codes a bench has.
@@ -162,13 +158,10 @@ pub fn code_count(d: usize) -> usize
 }
 
 // Rows 1 to 9, and then the limits.
-fn head_row(builder: PreprocessorBuilder, weights: &[f32], codes: &[u16]) -> u64
-    ensures { result ≡ or_else (settings_row (settings_from builder weights.now codes.now)) (limit_row builder) }
+fn head_row(builder: PreprocessorBuilder, weights: &[f32], codes: &[u16]) -> Result<(), Refusal>
+    ensures { row_of result ≡ or_else (settings_row (settings_from builder weights.now codes.now)) (limit_row builder) }
 {
-    let row = settings_row(builder, weights, codes);
-    if row != 0 {
-        return row;
-    }
+    settings_row(builder, weights, codes)?;
     limit_row(builder)
 }
 
@@ -182,19 +175,13 @@ fn build_bare(
     previous_timestamps: &mut [u64],
     initial_values: &[f32],
     initial_timestamps: &[u64],
-) -> Changed
-    ensures { outcome result.row result.head (lent statistics.new last_shingled_input.new last_shingled_point.new previous_timestamps.new initial_values.now initial_timestamps.now)
+) -> Result<Preprocessor, Refusal>
+    ensures { head_outcome result no_head (lent statistics.new last_shingled_input.new last_shingled_point.new previous_timestamps.new initial_values.now initial_timestamps.now)
         ≡ built_of builder weights.now (lent statistics.old last_shingled_input.old last_shingled_point.old previous_timestamps.old initial_values.now initial_timestamps.now) }
 {
     let zeros = [0u16; 16];
     let n = code_count(builder.input_dimensions);
-    let row = head_row(builder, weights, &zeros[..n]);
-    if row != 0 {
-        return Changed {
-            row: row,
-            head: no_head(),
-        };
-    }
+    head_row(builder, weights, &zeros[..n])?;
     build(
         builder,
         weights,
@@ -223,12 +210,10 @@ fn read_weights(
     requires { 65536 ≤ length out.old }
     ensures { (y : List Float) → line_result result.bench (lent statistics.new last_shingled_input.new last_shingled_point.new previous_timestamps.new initial_values.now initial_timestamps.now) y (output result.length out.new) ≡ build_gives b l (lent statistics.old last_shingled_input.old last_shingled_point.old previous_timestamps.old initial_values.now initial_timestamps.now) y out.old }
 {
-    let builder = b.builder;
     let n = kept(l);
-    let singles = l.singles;
-    let r = build_bare(
-        builder,
-        &singles[..n],
+    let built = build_bare(
+        b.builder,
+        &l.singles[..n],
         statistics,
         last_shingled_input,
         last_shingled_point,
@@ -236,17 +221,15 @@ fn read_weights(
         initial_values,
         initial_timestamps,
     );
-    let row = r.row;
-    if row != 0 {
-        return ended(b, row, out);
-    }
-    let head = r.head;
-    Printed {
-        bench: Bench {
-            head,
-            ..ready(b, Phase::Running)
+    match built {
+        Ok(head) => Printed {
+            bench: Bench {
+                head,
+                ..ready(b, Phase::Running)
+            },
+            length: 0,
         },
-        length: 0,
+        Err(refusal) => ended(b, refusal, out),
     }
 }
 
@@ -300,44 +283,39 @@ fn read_reading(
     requires { 65536 ≤ length out.old }
     ensures { line_result result.bench (lent statistics.new last_shingled_input.new last_shingled_point.new previous_timestamps.new initial_values.new initial_timestamps.new) point.new (output result.length out.new) ≡ reading_gives asks b l (lent statistics.old last_shingled_input.old last_shingled_point.old previous_timestamps.old initial_values.old initial_timestamps.old) point.old out.old }
 {
-    let head = b.head;
-    let given = b.given;
     let n = kept(l);
-    let singles = l.singles;
-    let wholes = l.wholes;
-    let time = wholes[0];
-    if asks {
-        let a = call_point(
-            head,
-            given,
+    let answer = if asks {
+        call_point(
+            b.head,
+            b.given,
             statistics,
             last_shingled_input,
             last_shingled_point,
             previous_timestamps,
             initial_values,
             initial_timestamps,
-            &singles[..n],
-            time,
+            &l.singles[..n],
+            l.wholes[0],
             point,
             out,
-        );
-        return answered(b, a);
-    }
-    let a = call_learn(
-        head,
-        given,
-        statistics,
-        last_shingled_input,
-        last_shingled_point,
-        previous_timestamps,
-        initial_values,
-        initial_timestamps,
-        &singles[..n],
-        time,
-        point,
-        out,
-    );
-    answered(b, a)
+        )
+    } else {
+        call_learn(
+            b.head,
+            b.given,
+            statistics,
+            last_shingled_input,
+            last_shingled_point,
+            previous_timestamps,
+            initial_values,
+            initial_timestamps,
+            &l.singles[..n],
+            l.wholes[0],
+            point,
+            out,
+        )
+    };
+    answered(b, answer)
 }
 
 // A line without a reading: `d`, `s`, or one of another form.
@@ -383,7 +361,7 @@ fn read_plain(
             );
             unchanged(b, n)
         }
-        _ => unchanged(b, print_no(out, 19)),
+        _ => unchanged(b, print_no(out, Refusal::Form)),
     }
 }
 
@@ -448,7 +426,7 @@ fn read_second(
     ensures { (y : List Float) → line_result result.bench (lent statistics.new last_shingled_input.new last_shingled_point.new previous_timestamps.new initial_values.now initial_timestamps.now) y (output result.length out.new) ≡ weights_gives (request_of l) b l (lent statistics.old last_shingled_input.old last_shingled_point.old previous_timestamps.old initial_values.now initial_timestamps.now) y out.old }
 {
     if request(l) != Name::Weights {
-        return ended(b, 19, out);
+        return ended(b, Refusal::Form, out);
     }
     read_weights(
         b,
@@ -611,8 +589,8 @@ fn finished_by(b: Bench, rest: &[u8], out: &mut [u8]) -> Printed
     ensures { end_result result.bench (output result.length out.new) ≡ finish_by b.phase b rest.now out.old }
 {
     match b.phase {
-        Phase::WantsSet | Phase::WantsWeights => ended(b, 19, out),
-        Phase::Running if is_begun(b.line.name, rest) => ended(b, 19, out),
+        Phase::WantsSet | Phase::WantsWeights => ended(b, Refusal::Form, out),
+        Phase::Running if is_begun(b.line.name, rest) => ended(b, Refusal::Form, out),
         Phase::Running | Phase::Ended => ended_well(b),
     }
 }
