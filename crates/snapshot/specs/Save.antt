@@ -1,6 +1,8 @@
 -- `save` (document 01: put away): "the bytes are the rendered text", or a row with nothing written: what could not be taken up again is not put away.
-use Rattle.std.specs.Prelude.{ℕ, ◌+◌, ◌*◌, Bool, cond, not, ◌&&◌, ◌||◌, List, ltb, leb, eqb, length}
+use Rattle.std.specs.Prelude.{Result, Ok, Err, ℕ, ◌+◌, ◌*◌, Bool, cond, not, ◌&&◌, ◌||◌, List, ltb, leb, eqb, length}
 use Rattle.refusal.specs.Lent.{over}
+use Rattle.refusal.specs.Refusal.{number_of}
+use Rattle.refusal.specs.declared.Refusal.{Refusal}
 use Rattle.trcf.specs.declared.head.Preprocessor.{Preprocessor}
 use Rattle.trcf.specs.Types.{augments}
 use Rattle.trcf.specs.Settings.{input_limit, shingle_limit, start_bound, settings_row}
@@ -35,6 +37,11 @@ pub record SaveOutcome : Type 0 where
 
 abbrev pub save_outcome : ℕ → ℕ → List ℕ → SaveOutcome
 save_outcome row n bytes = record { row = row; length = n; bytes = bytes }
+
+-- as the code answers it: the length of the text, or the refusal
+abbrev pub saved_told : Result ℕ Refusal → List ℕ → SaveOutcome
+saved_told (Ok n) bytes = save_outcome 0 n bytes
+saved_told (Err r) bytes = save_outcome (number_of r) 0 bytes
 
 -- row 20: "lent output shorter than the answer to be written"; what lies past the text keeps its contents
 unfoldable pub fitted : List ℕ → List ℕ → SaveOutcome

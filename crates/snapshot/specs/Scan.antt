@@ -1,14 +1,16 @@
--- A field as the code tells it.
-use Rattle.std.specs.Prelude.{ℕ, Float}
+-- What the code answers, an `Option` of its own kind, as the definitions say it; and a field as the code tells it.
+use Rattle.std.specs.Prelude.{ℕ, Float, Option as Answer, Some, None}
 use Rattle.std.proofs.Math.Option.{Option, none, some}
-use Rattle.snapshot.specs.declared.field.Number.{Number}
-use Rattle.snapshot.specs.declared.field.Number.TheVariants.{Is, No}
 use Rattle.snapshot.specs.declared.field.Field.{Field}
 use Rattle.snapshot.specs.declared.field.Field.TheVariants.{Single, Double, Bad}
 
-abbrev pub number_of : Option ℕ → Number
-number_of none = No
-number_of (some n) = Is n
+abbrev pub told : {A : Type 0} → Answer A → Option A
+told None = none
+told (Some a) = some a
+
+abbrev pub number_of : Option ℕ → Answer ℕ
+number_of none = None
+number_of (some n) = Some n
 
 abbrev pub single_of : Option Float → Field
 single_of none = Bad

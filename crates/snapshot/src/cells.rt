@@ -4,7 +4,7 @@ ghost use Rattle.std.specs.Float.{binary32, binary64};
 ghost use Rattle.snapshot.specs.Read.{as_whole, as_float};
 ghost use Rattle.snapshot.specs.Scan.{number_of, single_of, double_of};
 
-use crate::field::{Field, Number};
+use crate::field::Field;
 use crate::judge::next_field;
 
 pub fn single(c: &[u8]) -> Field
@@ -23,13 +23,13 @@ pub fn double(c: &[u8]) -> Field
     field
 }
 
-pub fn whole(c: &[u8]) -> Number
+pub fn whole(c: &[u8]) -> Option<u64>
     ensures { result ≡ number_of (as_whole c.now) }
 {
     let next = next_field(c, 0, 6);
     let field = next.field;
     let Field::Whole(n) = field else {
-        return Number::No;
+        return None;
     };
-    Number::Is(n)
+    Some(n)
 }

@@ -11,13 +11,6 @@ fn wide(x: u8) -> u64
     x as u64
 }
 
-// A whole number, or none.
-#[derive(Clone, Copy)]
-pub enum Number {
-    Is(u64),
-    No,
-}
-
 // Not empty, and no zero before another digit.
 fn leads(c: &[u8]) -> bool
     ensures { result ≡ lead c.now }
@@ -32,34 +25,32 @@ fn leads(c: &[u8]) -> bool
 }
 
 // A whole number: decimal, without leading zeros, at most 2^64 - 1.
-pub fn whole(c: &[u8]) -> Number
+pub fn whole(c: &[u8]) -> Option<u64>
     ensures { result ≡ number_of (as_whole c.now) }
 {
     if !leads(c) {
-        return Number::No;
+        return None;
     }
     let mut n: u64 = 0;
-    let mut i = 0;
-    while i < c.len() {
-        let b = wide(c[i]);
+    for x in c {
+        let b = wide(*x);
         if b < 48 {
-            return Number::No;
+            return None;
         }
         if 57 < b {
-            return Number::No;
+            return None;
         }
         let d = b - 48;
         if 1844674407370955161 < n {
-            return Number::No;
+            return None;
         }
         let m = n * 10;
         if 18446744073709551615 - m < d {
-            return Number::No;
+            return None;
         }
         n = m + d;
-        i += 1;
     }
-    Number::Is(n)
+    Some(n)
 }
 
 // A lower-case hexadecimal digit, 16 for no digit. Each of its four choices is among values at hand, so that it takes no branch, which for
@@ -75,29 +66,28 @@ fn digit(b: u8) -> u8
 
 // The number that up to 16 lower-case hexadecimal digits write. The largest tells at the end whether each of them is a digit: with no way out of
 // the loop the machine reads them side by side.
-fn hex(c: &[u8]) -> Number
+fn hex(c: &[u8]) -> Option<u64>
     requires { length c.now ≤ 16 }
     ensures { result ≡ number_of (hscan 0 c.now) }
 {
     let mut n: u64 = 0;
     let mut largest: u8 = 0;
-    let mut i = 0;
-    while i < c.len() {
-        let d = digit(c[i]);
+    for x in c {
+        let d = digit(*x);
         if largest < d {
             largest = d;
         }
         n = n * 16 + (d % 16) as u64;
-        i += 1;
     }
     if 15 < largest {
-        return Number::No;
+        return None;
     }
-    Number::Is(n)
+    Some(n)
 }
 
 // A field by the kind that its place calls for.
-#[derive(Clone, Copy)]
+// Kept: (a) the project's form of a field is this enum, "a single, a double, a whole number or bad", with bad as a case of its own.
+#[derive(Clone, Copy, Debug, PartialEq)]
 pub enum Field {
     Single(f32),
     Double(f64),
@@ -114,8 +104,8 @@ pub fn single(c: &[u8]) -> Field
     }
     let h = hex(c);
     match h {
-        Number::No => Field::Bad,
-        Number::Is(n) => {
+        None => Field::Bad,
+        Some(n) => {
             if 0xffff_ffff < n {
                 return Field::Bad;
             }
@@ -140,8 +130,8 @@ pub fn double(c: &[u8]) -> Field
     }
     let h = hex(c);
     match h {
-        Number::No => Field::Bad,
-        Number::Is(n) => {
+        None => Field::Bad,
+        Some(n) => {
             if 0x7ff0_0000_0000_0000 < n % 0x8000_0000_0000_0000 {
                 if n == 0x7ff8_0000_0000_0000 {
                     let z = 0.0f64;
@@ -169,7 +159,7 @@ pub(crate) fn parse(text: &[u8], from: usize, to: usize, kind: u64) -> Field
     }
     let w = whole(c);
     match w {
-        Number::No => Field::Bad,
-        Number::Is(n) => Field::Whole(n),
+        None => Field::Bad,
+        Some(n) => Field::Whole(n),
     }
 }

@@ -1,19 +1,22 @@
 // The first lines of a snapshot (document 01, 'Trace text'): `set`, `wgt`, `chn` where it stands, and `cnt`, and the head that they give.
-ghost use Rattle.std.specs.Prelude.{◌≡◌, ◌≤◌, drop};
+ghost use Rattle.std.specs.Prelude.{◌≡◌, ◌≤◌, IfOk, IfErr};
 ghost use Rattle.snapshot.specs.Steps.Judge.{counts_read, settings_told};
-ghost use Rattle.snapshot.specs.Steps.Runs.{ran_by, map_ran, headed_of, head_with, head_by, HeadFew};
+ghost use Rattle.snapshot.specs.Steps.Runs.{header_told, map_ran, headed_of, head_with, head_by, HeadFew};
 
 use crate::kinds::{chn_line, cnt_line, wgt_line};
-use crate::piece::Place;
 use crate::settings::{Set, set_line};
-use trcf::head::{Preprocessor, no_head};
+use trcf::head::Preprocessor;
 use trcf::transformer::WeightedTransformer;
 
-// The first bad line of the first three or four or 0, how many of them hold codes, the place after them, and the head that they give,
-// with no initial values yet.
+/// The first bad line of a text, counted from 1.
+#[derive(Clone, Copy, Debug, PartialEq, Eq)]
+pub struct BadLine {
+    pub line: usize,
+}
+
+// How many of the first three or four lines hold codes, the place after them, and the head that they give, with no initial values yet.
 #[derive(Clone, Copy)]
 pub struct Header {
-    pub bad: usize,
     pub extra: usize,
     pub at: usize,
     pub head: Preprocessor,
@@ -30,17 +33,15 @@ fn head_with(
 ) -> Preprocessor
     ensures { result ≡ head_with (settings_told set) weights codes (counts_read seen internal count) }
 {
-    let method = set.method;
-    let mode = set.mode;
     Preprocessor {
         transformer: WeightedTransformer {
-            transform_method: method,
+            transform_method: set.method,
             input_length: set.d as usize,
             transform_decay: set.decay,
-            weights: weights,
-            count: count,
+            weights,
+            count,
         },
-        forest_mode: mode,
+        forest_mode: set.mode,
         shingle_size: set.k as usize,
         start_normalization: set.start as usize,
         stop_normalization: set.stop as usize,
@@ -48,57 +49,36 @@ fn head_with(
         values_seen: seen as usize,
         internal_timestamp: internal as usize,
         initial_len: 0,
-        codes: codes,
-    }
-}
-
-fn no_header(bad: usize) -> Header
-    ensures bad_value { result.bad ≡ bad }
-    ensures extra_value { result.extra ≡ 0 }
-{
-    Header {
-        bad: bad,
-        extra: 0,
-        at: 0,
-        head: no_head(),
+        codes,
     }
 }
 
 // The lines of the settings, the weights, the codes and the counters.
-pub fn head_lines(text: &[u8]) -> Header
-    ensures text_value { ran_by result.bad (result.head, result.extra) (drop result.at text.now) ≡ map_ran headed_of (head_by text.now) }
-    ensures head_few { result.bad ≡ 0 → HeadFew result.head }
-    ensures extra_bound { result.extra ≤ 1 }
+pub fn head_lines(text: &[u8]) -> Result<Header, BadLine>
+    ensures text_value { header_told result text.now ≡ map_ran headed_of (head_by text.now) }
+    ensures head_few { IfOk result (λ header. HeadFew header.head) }
+    ensures extra_bound { IfOk result (λ header. header.extra ≤ 1) }
 {
-    let set = set_line(text);
-    let first = set.place;
-    let Place::At(p) = first else {
-        return no_header(1);
-    };
+    let set = set_line(text).ok_or(BadLine { line: 1 })?;
     let d = set.d as usize;
-    let method = set.method;
     let mut weights = [0.0f32; 16];
-    let Place::At(q) = wgt_line(text, p, method, &mut weights[..d]) else {
-        return no_header(2);
+    let p = wgt_line(text, set.end, set.method, &mut weights[..d]).ok_or(BadLine { line: 2 })?;
+    let third = chn_line(text, p, d);
+    let last = BadLine {
+        line: 3 + third.extra,
     };
-    let third = chn_line(text, q, d);
-    let counters = cnt_line(text, third.at, method, set.start as usize);
-    let last = counters.place;
-    let Place::At(r) = last else {
-        return no_header(3 + third.extra);
-    };
-    let codes = third.codes;
-    Header {
-        bad: 0,
+    let counters = cnt_line(text, third.at, set.method, set.start as usize).ok_or(last)?;
+    let head = head_with(
+        set,
+        weights,
+        third.codes,
+        counters.seen,
+        counters.internal,
+        counters.count,
+    );
+    Ok(Header {
         extra: third.extra,
-        at: r,
-        head: head_with(
-            set,
-            weights,
-            codes,
-            counters.seen,
-            counters.internal,
-            counters.count,
-        ),
-    }
+        at: counters.end,
+        head,
+    })
 }

@@ -11,35 +11,24 @@ pub(crate) fn wide(x: u8) -> u64
     x as u64
 }
 
-// A place in the text, or nowhere: what was to be read is not there.
-#[derive(Clone, Copy)]
-pub enum Place {
-    At(usize),
-    Nowhere,
-}
-
-// After the byte b.
-pub(crate) fn byte(text: &[u8], at: usize, b: u64) -> Place
+// The place after the byte b, or none where another stands there.
+pub(crate) fn byte(text: &[u8], at: usize, b: u64) -> Option<usize>
     ensures { placed result text.now ≡ byte b (drop at text.now) }
 {
     if at < text.len() {
         if wide(text[at]) == b {
-            return Place::At(at + 1);
+            return Some(at + 1);
         }
     }
-    Place::Nowhere
+    None
 }
 
-// After the name of a line.
-pub(crate) fn name(text: &[u8], at: usize, a: u64, b: u64, c: u64) -> Place
+// The place after the name of a line, or none.
+pub(crate) fn name(text: &[u8], at: usize, a: u64, b: u64, c: u64) -> Option<usize>
     ensures { placed result text.now ≡ name a b c (drop at text.now) }
 {
-    let Place::At(p) = byte(text, at, a) else {
-        return Place::Nowhere;
-    };
-    let Place::At(q) = byte(text, p, b) else {
-        return Place::Nowhere;
-    };
+    let p = byte(text, at, a)?;
+    let q = byte(text, p, b)?;
     byte(text, q, c)
 }
 
@@ -48,14 +37,12 @@ fn field_end(text: &[u8], from: usize) -> usize
     requires { from ≤ length text.now }
     ensures { result ≡ from + field_length (drop from text.now) }
 {
-    let mut i = from;
-    while i < text.len() {
+    for i in from..text.len() {
         if wide(text[i]) <= 10 {
             return i;
         }
-        i += 1;
     }
-    i
+    text.len()
 }
 
 // A field, and the place after it.

@@ -8,14 +8,11 @@ pub fn none_falls(times: &[u64]) -> bool
     ensures { result ≡ climbs 0 times.now }
 {
     let mut past: u64 = 0;
-    let mut i = 0;
-    while i < times.len() {
-        let t = times[i];
-        if t < past {
+    for t in times {
+        if *t < past {
             return false;
         }
-        past = t;
-        i += 1;
+        past = *t;
     }
     true
 }
@@ -24,28 +21,14 @@ pub fn none_falls(times: &[u64]) -> bool
 pub fn all_zero(times: &[u64]) -> bool
     ensures { result ≡ zeros times.now }
 {
-    let mut i = 0;
-    while i < times.len() {
-        if times[i] != 0 {
-            return false;
-        }
-        i += 1;
-    }
-    true
+    times.iter().all(|t| *t == 0)
 }
 
 // Whether every number is a code: 16 bits.
 pub(crate) fn codes_fit(w: &[u64]) -> bool
     ensures { result ≡ all_codes w.now }
 {
-    let mut i = 0;
-    while i < w.len() {
-        if 65535 < w[i] {
-            return false;
-        }
-        i += 1;
-    }
-    true
+    w.iter().all(|n| *n <= 65535)
 }
 
 // The codes in an array, zeros after them.
@@ -55,10 +38,8 @@ pub(crate) fn narrowed(w: &[u64]) -> [u16; 16]
     ensures { result ≡ over (replicate 16 0) w.now }
 {
     let mut a = [0u16; 16];
-    let mut i = 0;
-    while i < w.len() {
+    for i in 0..w.len() {
         a[i] = w[i] as u16;
-        i += 1;
     }
     a
 }

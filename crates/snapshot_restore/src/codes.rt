@@ -6,15 +6,5 @@ ghost use Rattle.snapshot.specs.Read.{same};
 pub(crate) fn same_codes(a: &[u16], b: &[u16]) -> bool
     ensures { result ≡ same a.now b.now }
 {
-    if a.len() != b.len() {
-        return false;
-    }
-    let mut i = 0;
-    while i < a.len() {
-        if a[i] != b[i] {
-            return false;
-        }
-        i += 1;
-    }
-    true
+    a == b
 }

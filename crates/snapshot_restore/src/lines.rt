@@ -1,40 +1,27 @@
 // Runs of lines of a snapshot (document 01: taking up), one after the other: each is left at its first bad line.
-ghost use Rattle.std.specs.Prelude.{◌≡◌, ◌+◌, ◌*◌, ◌≤◌, ◌<◌, length, drop};
-ghost use Rattle.snapshot.specs.Steps.Runs.{devs, bufs, initial_lists, unkept, parts, parts_by};
-ghost use Rattle.snapshot_restore.specs.Steps.{lined};
+ghost use Rattle.std.specs.Prelude.{◌≡◌, ◌+◌, ◌*◌, ◌≤◌, ◌<◌, length, drop, IfErr};
+ghost use Rattle.snapshot.specs.Steps.Runs.{ran_by, devs, bufs, initial_lists, unkept, parts, parts_by};
 
+use snapshot::head::BadLine;
 use snapshot::judge::{doubles_line, singles_line};
 use snapshot::kinds::{buf_line, tim_line};
-use snapshot::piece::Place;
-
-// The first bad line among some, from 1, or 0 for none; and the place after them.
-#[derive(Clone, Copy)]
-pub(crate) struct Lines {
-    pub bad: usize,
-    pub at: usize,
-}
 
 // n `dev` lines, three numbers each.
-fn dev_lines(text: &[u8], at: usize, n: usize, statistics: &mut [f64]) -> Lines
+fn dev_lines(text: &[u8], at: usize, n: usize, statistics: &mut [f64]) -> Result<usize, BadLine>
     requires statistics_len { length statistics.old ≡ n * 3 }
     requires n_bound { n ≤ 2000 }
-    ensures text_after { lined result statistics.new text.now ≡ devs n (drop at text.now) }
-    ensures bad_le_n { result.bad ≤ n }
+    ensures text_after { ran_by result statistics.new text.now ≡ devs n (drop at text.now) }
+    ensures bad_le_n { IfErr result (λ bad. bad.line ≤ n) }
 {
     let mut p = at;
-    let mut i = 0;
-    'lines: loop {
-        if i == n {
-            break 'lines Lines { bad: 0, at: p };
-        }
+    'lines: for i in 0..n {
         let from = i * 3;
-        let Place::At(q) = doubles_line(text, p, 100, 101, 118, &mut statistics[from..from + 3])
-        else {
-            break 'lines Lines { bad: i + 1, at: p };
+        let Some(q) = doubles_line(text, p, 100, 101, 118, &mut statistics[from..from + 3]) else {
+            return Err(BadLine { line: i + 1 });
         };
         p = q;
-        i += 1;
     }
+    Ok(p)
 }
 
 // The lines from `dev` to `tim`, each list as long as what is in use of it.
@@ -47,26 +34,23 @@ pub(crate) fn part_lines(
     input: &mut [f32],
     point: &mut [f32],
     times: &mut [u64],
-) -> Lines
+) -> Result<usize, BadLine>
     requires statistics_len { length statistics.old ≡ n * 3 }
     requires n_bound { n ≤ 2000 }
-    ensures text_after { lined result (parts statistics.new input.new point.new times.new) text.now ≡ parts_by internal n (length input.old) (length point.old) (length times.old) (drop at text.now) }
-    ensures bad_bound { result.bad ≤ n + 3 }
+    ensures text_after { ran_by result (parts statistics.new input.new point.new times.new) text.now ≡ parts_by internal n (length input.old) (length point.old) (length times.old) (drop at text.now) }
+    ensures bad_bound { IfErr result (λ bad. bad.line ≤ n + 3) }
 {
-    let a = dev_lines(text, at, n, statistics);
-    if a.bad != 0 {
-        return a;
-    }
-    let Place::At(p) = singles_line(text, a.at, 105, 110, 112, input) else {
-        return Lines { bad: n + 1, at: at };
+    let p = dev_lines(text, at, n, statistics)?;
+    let Some(q) = singles_line(text, p, 105, 110, 112, input) else {
+        return Err(BadLine { line: n + 1 });
     };
-    let Place::At(q) = singles_line(text, p, 112, 110, 116, point) else {
-        return Lines { bad: n + 2, at: at };
+    let Some(r) = singles_line(text, q, 112, 110, 116, point) else {
+        return Err(BadLine { line: n + 2 });
     };
-    let Place::At(r) = tim_line(text, q, internal, times) else {
-        return Lines { bad: n + 3, at: at };
+    let Some(s) = tim_line(text, r, internal, times) else {
+        return Err(BadLine { line: n + 3 });
     };
-    Lines { bad: 0, at: r }
+    Ok(s)
 }
 
 // n `buf` lines, d numbers each, into lists of that length.
@@ -77,55 +61,43 @@ pub(crate) fn buf_lines(
     n: usize,
     values: &mut [f32],
     times: &mut [u64],
-) -> Lines
+) -> Result<usize, BadLine>
     requires values_len { length values.old ≡ n * d }
     requires times_len { length times.old ≡ n }
     requires d_bound { d ≤ 16 }
     requires n_bound { n ≤ 2000 }
-    ensures { lined result (initial_lists values.new times.new) text.now ≡ bufs d n (drop at text.now) }
+    ensures { ran_by result (initial_lists values.new times.new) text.now ≡ bufs d n (drop at text.now) }
 {
     let mut p = at;
     let mut past = 0;
-    let mut i = 0;
-    'lines: loop {
-        if i == n {
-            break 'lines Lines { bad: 0, at: p };
-        }
+    'lines: for i in 0..n {
         let from = i * d;
-        let line = buf_line(text, p, past, &mut values[from..from + d]);
-        let place = line.place;
-        let Place::At(q) = place else {
-            break 'lines Lines { bad: i + 1, at: p };
+        let Some(line) = buf_line(text, p, past, &mut values[from..from + d]) else {
+            return Err(BadLine { line: i + 1 });
         };
         past = line.time;
         times[i] = past;
-        p = q;
-        i += 1;
+        p = line.end;
     }
+    Ok(p)
 }
 
 // The same lines, of which nothing is kept.
-pub(crate) fn buf_lines_unkept(text: &[u8], at: usize, d: usize, n: usize) -> Lines
+pub(crate) fn buf_lines_unkept(text: &[u8], at: usize, d: usize, n: usize) -> Result<usize, BadLine>
     requires d_bound { d ≤ 16 }
     requires n_bound { n ≤ 2000 }
-    ensures text_value { lined result tt text.now ≡ unkept (bufs d n (drop at text.now)) }
-    ensures bad_le_n { result.bad ≤ n }
+    ensures text_value { ran_by result tt text.now ≡ unkept (bufs d n (drop at text.now)) }
+    ensures bad_le_n { IfErr result (λ bad. bad.line ≤ n) }
 {
     let mut values = [0.0f32; 16];
     let mut p = at;
     let mut past = 0;
-    let mut i = 0;
-    'lines: loop {
-        if i == n {
-            break 'lines Lines { bad: 0, at: p };
-        }
-        let line = buf_line(text, p, past, &mut values[..d]);
-        let place = line.place;
-        let Place::At(q) = place else {
-            break 'lines Lines { bad: i + 1, at: p };
+    'lines: for i in 0..n {
+        let Some(line) = buf_line(text, p, past, &mut values[..d]) else {
+            return Err(BadLine { line: i + 1 });
         };
         past = line.time;
-        p = q;
-        i += 1;
+        p = line.end;
     }
+    Ok(p)
 }

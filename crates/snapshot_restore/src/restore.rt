@@ -1,20 +1,24 @@
 // `restore` (document 01: taking up): the whole text is judged first, and then the lent lists are filled.
-ghost use Rattle.std.specs.Prelude.{◌≡◌, cond, ◌+◌, ◌*◌, ◌≤◌, length, drop};
+ghost use Rattle.std.specs.Prelude.{◌≡◌, cond, ◌+◌, ◌*◌, ◌≤◌, length, drop, IfOk, IfErr, OnOk};
 ghost use Rattle.trcf.specs.Types.{augments};
-ghost use Rattle.trcf.specs.View.{lent, settings_of, no_head, counting, initial_room};
+ghost use Rattle.refusal.specs.Refusal.{number_of};
+ghost use Rattle.trcf.specs.View.{lent, settings_of, counting, initial_room};
 ghost use Rattle.trcf.specs.Settings.{dimension};
 ghost use Rattle.snapshot.specs.Read.{same};
 ghost use Rattle.snapshot.specs.Save.{past};
-ghost use Rattle.snapshot.specs.Restore.{restore_outcome, restore_of};
-ghost use Rattle.snapshot.specs.Steps.Runs.{Fills, Room, FillsOver, HeadFew, counts_in, expected, unkept, parts, initial_lists, body, parts_of, body_by, Good, filled_by};
-ghost use Rattle.snapshot_restore.specs.Steps.{lined, summed};
+ghost use Rattle.snapshot.specs.Restore.{restore_of};
+ghost use Rattle.snapshot.specs.Steps.Runs.{ran_by, Fills, Room, FillsOver, HeadFew, counts_in, expected, unkept, parts, initial_lists, body, parts_of, body_by, Good, filled_by};
+ghost use Rattle.snapshot_restore.specs.Steps.{summed};
+ghost use Rattle.snapshot_restore.specs.Told.{restore_told, row_told, line_told};
+ghost use Rattle.snapshot_restore.specs.declared.restore.RestoreError.TheVariants.{Form, Refused};
 
 use crate::codes::same_codes;
-use crate::lines::{Lines, buf_lines, buf_lines_unkept, part_lines};
-use snapshot::head::head_lines;
+use crate::lines::{buf_lines, buf_lines_unkept, part_lines};
+use refusal::Refusal;
+use snapshot::head::{BadLine, head_lines};
 use snapshot::kinds::is_waiting;
 use snapshot::limits::{is_past, time_width};
-use trcf::head::{Preprocessor, initial_room, no_head, with_counts};
+use trcf::head::{Preprocessor, initial_room, with_counts};
 use trcf::types::is_normalizing;
 
 // How many `buf` lines are to come, from the place after `tim` on.
@@ -43,19 +47,12 @@ fn initial_count(head: Preprocessor, text: &[u8], at: usize) -> usize
     0
 }
 
-// The first bad line after `cnt` or 0, and how many initial values there are.
-#[derive(Clone, Copy)]
-pub(crate) struct Judged {
-    pub bad: usize,
-    pub count: usize,
-}
-
 // The lines from `dev` to `tim`, of which nothing is kept.
-fn part_lines_unkept(text: &[u8], at: usize, head: Preprocessor) -> Lines
+fn part_lines_unkept(text: &[u8], at: usize, head: Preprocessor) -> Result<usize, BadLine>
     requires input_length_bound { head.transformer.input_length ≤ 16 }
     requires shingle_size_bound { head.shingle_size ≤ 64 }
-    ensures text_value { lined result tt text.now ≡ unkept (parts_of (settings_of head) (counts_in head) (drop at text.now)) }
-    ensures bad_bound { result.bad ≤ 88 }
+    ensures text_value { ran_by result tt text.now ≡ unkept (parts_of (settings_of head) (counts_in head) (drop at text.now)) }
+    ensures bad_bound { IfErr result (λ bad. bad.line ≤ 88) }
 {
     let t = head.transformer;
     let d = t.input_length;
@@ -79,39 +76,31 @@ fn part_lines_unkept(text: &[u8], at: usize, head: Preprocessor) -> Lines
     )
 }
 
-// Judges the lines after `cnt`.
-fn judge_body(text: &[u8], at: usize, head: Preprocessor) -> Judged
+// Judges the lines after `cnt`: how many initial values there are, or the first bad line.
+fn judge_body(text: &[u8], at: usize, head: Preprocessor) -> Result<usize, BadLine>
     requires { HeadFew head }
     ensures value { result ≡ summed (body_by (settings_of head) (counts_in head) (drop at text.now)) }
-    ensures bad_bound { result.bad ≤ 3000 }
-    ensures count_bound { result.count ≤ initial_room (settings_of head) }
-    ensures good { result.bad ≡ 0 → Good (body_by (settings_of head) (counts_in head) (drop at text.now)) }
+    ensures bad_bound { IfErr result (λ bad. bad.line ≤ 3000) }
+    ensures count_bound { IfOk result (λ count. count ≤ initial_room (settings_of head)) }
+    ensures good { OnOk result (Good (body_by (settings_of head) (counts_in head) (drop at text.now))) }
 {
-    let a = part_lines_unkept(text, at, head);
-    if a.bad != 0 {
-        return Judged {
-            bad: a.bad,
-            count: 0,
-        };
-    }
-    let t = head.transformer;
-    let d = t.input_length;
+    let p = part_lines_unkept(text, at, head)?;
+    let d = head.transformer.input_length;
     let before = 5 * d + 8;
-    let n = initial_count(head, text, a.at);
-    let b = buf_lines_unkept(text, a.at, d, n);
-    if b.bad != 0 {
-        return Judged {
-            bad: before + b.bad,
-            count: 0,
-        };
+    let n = initial_count(head, text, p);
+    match buf_lines_unkept(text, p, d, n) {
+        Err(bad) => Err(BadLine {
+            line: before + bad.line,
+        }),
+        Ok(end) => {
+            if end < text.len() {
+                return Err(BadLine {
+                    line: before + n + 1,
+                });
+            }
+            Ok(n)
+        }
     }
-    if b.at < text.len() {
-        return Judged {
-            bad: before + n + 1,
-            count: 0,
-        };
-    }
-    Judged { bad: 0, count: n }
 }
 
 // The lines after `cnt` of a text that was judged, into lists of which all is in use.
@@ -137,9 +126,8 @@ fn fill_body(
     requires initial_times_len { length initial_times.old ≡ n }
     ensures { Fills (filled_by (settings_of head) (counts_in head) n (drop at text.now)) (body (parts statistics.new input.new point.new times.new) (initial_lists values.new initial_times.new)) }
 {
-    let t = head.transformer;
-    let d = t.input_length;
-    let a = part_lines(
+    let d = head.transformer.input_length;
+    let parts = part_lines(
         text,
         at,
         head.internal_timestamp,
@@ -149,7 +137,9 @@ fn fill_body(
         point,
         times,
     );
-    buf_lines(text, a.at, d, n, values, initial_times);
+    if let Ok(p) = parts {
+        let _lines = buf_lines(text, p, d, n, values, initial_times);
+    }
 }
 
 // The same into lent lists, of which what lies after the part in use stays.
@@ -236,26 +226,55 @@ fn codes_agree(head: Preprocessor, codes: &[u16]) -> bool
     same_codes(&own[..d], codes)
 }
 
-// What taking up gives: 0 and the head; 19 and the bad line; 27; or 20.
-#[derive(Clone, Copy)]
-pub struct Restored {
-    pub row: u64,
-    pub line: usize,
-    pub head: Preprocessor,
+/// Why a text is not taken up.
+#[derive(Clone, Copy, Debug, PartialEq, Eq)]
+pub enum RestoreError {
+    /// it has not the form of a text, from this line on
+    Form(BadLine),
+    /// its codes are others than those expected, or a lent list is too short for it, or whoever asks may not
+    Refused(Refusal),
 }
 
-fn refused(row: u64, line: usize) -> Restored
-    ensures { result ≡ record { row = row; line = line; head = no_head } }
-{
-    Restored {
-        row: row,
-        line: line,
-        head: no_head(),
+impl From<BadLine> for RestoreError {
+    ghost from_gives = { λ bad e. e ≡ Form bad };
+
+    fn from(bad: BadLine) -> RestoreError {
+        RestoreError::Form(bad)
     }
 }
 
-// Takes up a text: the head and the filled lists; or 19 with the bad line, or 27 where the codes are others than those expected, or 20 where
-// a lent list is too short, with everything lent unchanged.
+impl From<Refusal> for RestoreError {
+    ghost from_gives = { λ refusal e. e ≡ Refused refusal };
+
+    fn from(refusal: Refusal) -> RestoreError {
+        RestoreError::Refused(refusal)
+    }
+}
+
+impl RestoreError {
+    /// The row of the table of refusals.
+    pub fn refusal(self) -> Refusal
+        ensures { number_of result ≡ row_told self }
+    {
+        match self {
+            RestoreError::Form(_) => Refusal::Form,
+            RestoreError::Refused(refusal) => refusal,
+        }
+    }
+
+    /// The first bad line, counted from 1; 0 where no line is bad, as a number outside says it.
+    pub fn line(self) -> usize
+        ensures { result ≡ line_told self }
+    {
+        match self {
+            RestoreError::Form(bad) => bad.line,
+            RestoreError::Refused(_) => 0,
+        }
+    }
+}
+
+// Takes up a text: the head and the filled lists; or Form with the bad line, or OtherCodes where the codes are others than those expected, or
+// TooShort where a lent list is too short, with everything lent unchanged.
 pub fn restore(
     text: &[u8],
     codes: &[u16],
@@ -265,20 +284,19 @@ pub fn restore(
     previous_timestamps: &mut [u64],
     initial_values: &mut [f32],
     initial_timestamps: &mut [u64],
-) -> Restored
-    ensures { restore_outcome result.row result.line result.head (lent statistics.new last_shingled_input.new last_shingled_point.new previous_timestamps.new initial_values.new initial_timestamps.new) ≡ restore_of text.now codes.now (lent statistics.old last_shingled_input.old last_shingled_point.old previous_timestamps.old initial_values.old initial_timestamps.old) }
+) -> Result<Preprocessor, RestoreError>
+    ensures { restore_told result (lent statistics.new last_shingled_input.new last_shingled_point.new previous_timestamps.new initial_values.new initial_timestamps.new) ≡ restore_of text.now codes.now (lent statistics.old last_shingled_input.old last_shingled_point.old previous_timestamps.old initial_values.old initial_timestamps.old) }
 {
-    let h = head_lines(text);
-    if h.bad != 0 {
-        return refused(19, h.bad);
-    }
+    let h = head_lines(text)?;
     let head = h.head;
-    let judged = judge_body(text, h.at, head);
-    if judged.bad != 0 {
-        return refused(19, 3 + h.extra + judged.bad);
-    }
+    let n = match judge_body(text, h.at, head) {
+        Ok(n) => n,
+        Err(bad) => return Err(RestoreError::Form(BadLine {
+            line: 3 + h.extra + bad.line,
+        })),
+    };
     if !codes_agree(head, codes) {
-        return refused(27, 0);
+        return Err(RestoreError::Refused(Refusal::OtherCodes));
     }
     if is_short(
         head,
@@ -289,13 +307,13 @@ pub fn restore(
         initial_values.len(),
         initial_timestamps.len(),
     ) {
-        return refused(20, 0);
+        return Err(RestoreError::Refused(Refusal::TooShort));
     }
     fill(
         text,
         h.at,
         head,
-        judged.count,
+        n,
         statistics,
         last_shingled_input,
         last_shingled_point,
@@ -303,9 +321,5 @@ pub fn restore(
         initial_values,
         initial_timestamps,
     );
-    Restored {
-        row: 0,
-        line: 0,
-        head: with_initial(head, judged.count),
-    }
+    Ok(with_initial(head, n))
 }

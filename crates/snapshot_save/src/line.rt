@@ -2,44 +2,44 @@
 ghost use Rattle.std.specs.Prelude.{◌≡◌, [], ◌∷◌, ◌+◌, ◌≤◌, length};
 ghost use Rattle.snapshot.specs.Text.{whole, named, singles};
 ghost use Rattle.snapshot.specs.Read.{bytes_of_line};
-ghost use Rattle.snapshot.specs.Save.{save_outcome, fitted};
+ghost use Rattle.snapshot.specs.Save.{saved_told, fitted};
 ghost use Rattle.snapshot.specs.Steps.Write.{Wrote};
 ghost use Rattle.snapshot_save.specs.Line.{text_within, optional_field, optional_line};
 
-use crate::save::Saved;
 use crate::write::{tab_single, tab_singles, tab_whole, whole_length, write_byte};
+use refusal::Refusal;
 
-// A line of f32, and its length; or row 20 with nothing written, where out is shorter than the line.
-pub fn singles_line(out: &mut [u8], a: u8, b: u8, v: &[f32]) -> Saved
-    ensures { save_outcome result.row result.length out.new ≡ fitted (bytes_of_line (singles (a ∷ b ∷ []) v.now)) out.old }
+// A line of f32, and its length; or TooShort with nothing written, where out is shorter than the line.
+pub fn singles_line(out: &mut [u8], a: u8, b: u8, v: &[f32]) -> Result<usize, Refusal>
+    ensures { saved_told result out.new ≡ fitted (bytes_of_line (singles (a ∷ b ∷ []) v.now)) out.old }
 {
     let n = out.len();
     if n < 3 {
-        return Saved { row: 20, length: 0 };
+        return Err(Refusal::TooShort);
     }
     if (n - 3) / 9 < v.len() {
-        return Saved { row: 20, length: 0 };
+        return Err(Refusal::TooShort);
     }
     let p = write_byte(out, 0, a);
     let q = write_byte(out, p, b);
     let r = tab_singles(out, q, v);
     let e = write_byte(out, r, 10);
-    Saved { row: 0, length: e }
+    Ok(e)
 }
 
 // A line of one whole number, in the same way.
-pub fn whole_line(out: &mut [u8], a: u8, b: u8, n: u64) -> Saved
-    ensures { save_outcome result.row result.length out.new ≡ fitted (bytes_of_line (named (a ∷ b ∷ []) (whole n ∷ []))) out.old }
+pub fn whole_line(out: &mut [u8], a: u8, b: u8, n: u64) -> Result<usize, Refusal>
+    ensures { saved_told result out.new ≡ fitted (bytes_of_line (named (a ∷ b ∷ []) (whole n ∷ []))) out.old }
 {
     let l = whole_length(n);
     if out.len() < l + 4 {
-        return Saved { row: 20, length: 0 };
+        return Err(Refusal::TooShort);
     }
     let p = write_byte(out, 0, a);
     let q = write_byte(out, p, b);
     let r = tab_whole(out, q, n);
     let e = write_byte(out, r, 10);
-    Saved { row: 0, length: e }
+    Ok(e)
 }
 
 // An f32 after its tab, or `-` in its place.
@@ -54,16 +54,16 @@ fn tab_optional(out: &mut [u8], at: usize, given: bool, x: f32) -> usize
     write_byte(out, p, 45)
 }
 
-// A line of a whole number and an f32, or `-` in its place, named by one letter; row 20 with nothing written, where out has less than 32 bytes.
-pub fn optional_line(out: &mut [u8], a: u8, n: u64, given: bool, x: f32) -> Saved
-    ensures { save_outcome result.row result.length out.new ≡ text_within 32 (bytes_of_line (optional_line a n given x)) out.old }
+// A line of a whole number and an f32, or `-` in its place, named by one letter; TooShort with nothing written, where out has less than 32 bytes.
+pub fn optional_line(out: &mut [u8], a: u8, n: u64, given: bool, x: f32) -> Result<usize, Refusal>
+    ensures { saved_told result out.new ≡ text_within 32 (bytes_of_line (optional_line a n given x)) out.old }
 {
     if out.len() < 32 {
-        return Saved { row: 20, length: 0 };
+        return Err(Refusal::TooShort);
     }
     let p = write_byte(out, 0, a);
     let q = tab_whole(out, p, n);
     let r = tab_optional(out, q, given, x);
     let e = write_byte(out, r, 10);
-    Saved { row: 0, length: e }
+    Ok(e)
 }

@@ -6,24 +6,17 @@ ghost use Rattle.snapshot.specs.Text.{whole, chn_line};
 ghost use Rattle.trcf.specs.Calls.{finite};
 ghost use Rattle.snapshot.specs.Read.{bytes_of_line, climbs, zeros};
 ghost use Rattle.snapshot.specs.Steps.Write.{Wrote, tabbed};
-ghost use Rattle.snapshot.specs.Save.{save_outcome, fitted, held_save, save_of};
+ghost use Rattle.snapshot.specs.Save.{saved_told, fitted, held_save, save_of};
 ghost use Rattle.snapshot.specs.Steps.TwoParts.{head_bytes, list_bytes};
 
 use crate::write::{
     buf_lines, chn_line, cnt_line, dev_lines, set_line, singles_line, tim_line, whole_length,
 };
+use refusal::Refusal;
 use snapshot::limits::{is_past, time_width};
 use snapshot::values::{all_zero, none_falls};
 use trcf::head::Preprocessor;
-use trcf::types::{method_number, mode_letter};
 use trcf_rows::rows::{all_finite, head_settings_row, is_misfit};
-
-// The row, 0 for none, and the length of the text.
-#[derive(Clone, Copy)]
-pub struct Saved {
-    pub row: u64,
-    pub length: usize,
-}
 
 // How many bytes whole numbers take, each after its tab.
 fn wholes_length(v: &[u64]) -> usize
@@ -32,10 +25,8 @@ fn wholes_length(v: &[u64]) -> usize
     ensures upper_bound { result ≤ 42000 }
 {
     let mut l: usize = 0;
-    let mut i = 0;
-    while i < v.len() {
-        l += 1 + whole_length(v[i]);
-        i += 1;
+    for n in v {
+        l += 1 + whole_length(*n);
     }
     l
 }
@@ -45,10 +36,8 @@ fn widened(codes: [u16; 16]) -> [u64; 16]
     ensures { result ≡ codes }
 {
     let mut a = [0u64; 16];
-    let mut i = 0;
-    while i < 16 {
+    for i in 0..16 {
         a[i] = codes[i] as u64;
-        i += 1;
     }
     a
 }
@@ -75,7 +64,7 @@ fn head_length(head: Preprocessor) -> usize
     let t = head.transformer;
     let d = t.input_length;
     let method = t.transform_method;
-    let a = whole_length(method_number(method))
+    let a = whole_length(u64::from(method))
         + whole_length(d as u64)
         + whole_length(head.shingle_size as u64);
     let b = whole_length(head.start_normalization as u64)
@@ -135,8 +124,8 @@ fn write_head(out: &mut [u8], head: Preprocessor) -> usize
     let weights = t.weights;
     let mode = head.forest_mode;
     let kind = t.transform_method;
-    let letter = mode_letter(mode);
-    let method = method_number(kind);
+    let letter = u8::from(mode);
+    let method = u64::from(kind);
     let start = head.start_normalization as u64;
     let stop = head.stop_normalization as u64;
     let p = set_line(
@@ -195,7 +184,7 @@ fn save_parts(
     values: &[f32],
     initial: &[u64],
     out: &mut [u8],
-) -> Saved
+) -> Result<usize, Refusal>
     requires input_length_bound { head.transformer.input_length ≤ 16 }
     requires statistics_len_bound { length statistics.now ≤ 2000 }
     requires input_len_bound { length input.now ≤ 2000 }
@@ -203,17 +192,17 @@ fn save_parts(
     requires times_len_bound { length times.now ≤ 2000 }
     requires initial_len_bound { length initial.now ≤ 2000 }
     requires input_length_in_bounds { length initial.now * head.transformer.input_length ≤ length values.now }
-    ensures { save_outcome result.row result.length out.new ≡ fitted (head_bytes (settings_of head) head.values_seen head.internal_timestamp head.transformer.count ++ list_bytes head.transformer.input_length statistics.now input.now point.now times.now values.now initial.now) out.old }
+    ensures { saved_told result out.new ≡ fitted (head_bytes (settings_of head) head.values_seen head.internal_timestamp head.transformer.count ++ list_bytes head.transformer.input_length statistics.now input.now point.now times.now values.now initial.now) out.old }
 {
     let t = head.transformer;
     let d = t.input_length;
     let l = head_length(head) + lists_length(d, statistics, input, point, times, values, initial);
     if out.len() < l {
-        return Saved { row: 20, length: 0 };
+        return Err(Refusal::TooShort);
     }
     let p = write_head(out, head);
     write_lists(out, p, d, statistics, input, point, times, values, initial);
-    Saved { row: 0, length: l }
+    Ok(l)
 }
 
 // Whether a time stands where none was counted.
@@ -243,8 +232,8 @@ fn is_unformed(internal: usize, times: &[u64], values: &[f32], initial: &[u64]) 
     !none_falls(initial)
 }
 
-// The text of a head whose own rows are 0, and its length; row 20 where out is shorter than the text, or a lent list shorter than what is in use of it;
-// row 19 where that has not the form of a text.
+// The text of a head whose own rows are 0, and its length; TooShort where out is shorter than the text, or a lent list shorter than what is in use of it;
+// Form where that has not the form of a text.
 fn save_held(
     head: Preprocessor,
     statistics: &[f64],
@@ -254,8 +243,8 @@ fn save_held(
     initial_values: &[f32],
     initial_timestamps: &[u64],
     out: &mut [u8],
-) -> Saved
-    ensures { save_outcome result.row result.length out.new ≡ held_save head (lent statistics.now last_shingled_input.now last_shingled_point.now previous_timestamps.now initial_values.now initial_timestamps.now) out.old }
+) -> Result<usize, Refusal>
+    ensures { saved_told result out.new ≡ held_save head (lent statistics.now last_shingled_input.now last_shingled_point.now previous_timestamps.now initial_values.now initial_timestamps.now) out.old }
 {
     let t = head.transformer;
     let mode = head.forest_mode;
@@ -276,7 +265,7 @@ fn save_held(
         initial_values.len(),
         initial_timestamps.len(),
     ) {
-        return Saved { row: 20, length: 0 };
+        return Err(Refusal::TooShort);
     }
     let st = &statistics[..3 * (5 * d + 5)];
     let x = &last_shingled_input[..d * k];
@@ -285,13 +274,13 @@ fn save_held(
     let v = &initial_values[..n * d];
     let us = &initial_timestamps[..n];
     if is_unformed(internal, ts, v, us) {
-        return Saved { row: 19, length: 0 };
+        return Err(Refusal::Form);
     }
     save_parts(head, st, x, y, ts, v, us, out)
 }
 
-// The snapshot of what head and the lent lists hold, and its length. What could not be taken up again is not put away: the row of the settings, 19 for
-// counters, times or initial values that no text has, 20 where a lent list or out is too short; nothing is written then.
+// The snapshot of what head and the lent lists hold, and its length. What could not be taken up again is not put away: the refusal of the settings, Form
+// for counters, times or initial values that no text has, TooShort where a lent list or out is too short; nothing is written then.
 pub fn save(
     head: Preprocessor,
     statistics: &[f64],
@@ -301,18 +290,12 @@ pub fn save(
     initial_values: &[f32],
     initial_timestamps: &[u64],
     out: &mut [u8],
-) -> Saved
-    ensures { save_outcome result.row result.length out.new ≡ save_of head (lent statistics.now last_shingled_input.now last_shingled_point.now previous_timestamps.now initial_values.now initial_timestamps.now) out.old }
+) -> Result<usize, Refusal>
+    ensures { saved_told result out.new ≡ save_of head (lent statistics.now last_shingled_input.now last_shingled_point.now previous_timestamps.now initial_values.now initial_timestamps.now) out.old }
 {
-    let row = head_settings_row(head);
-    if row != 0 {
-        return Saved {
-            row: row,
-            length: 0,
-        };
-    }
+    head_settings_row(head)?;
     if is_misfit(head) {
-        return Saved { row: 19, length: 0 };
+        return Err(Refusal::Form);
     }
     save_held(
         head,

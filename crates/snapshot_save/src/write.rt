@@ -23,12 +23,10 @@ fn write_hex(out: &mut [u8], at: usize, w: usize, n: u64) -> usize
     requires { at + w ≤ length out.old }
     ensures { Wrote at (hex w n) out.old result out.new }
 {
-    let mut i = w;
     let mut m = n;
-    while 0 < i {
-        i -= 1;
+    for i in (0..w).rev() {
         out[at + i] = hex_digit(m % 16);
-        m = m / 16;
+        m /= 16;
     }
     at + w
 }
@@ -114,10 +112,8 @@ pub(crate) fn tab_singles(out: &mut [u8], at: usize, v: &[f32]) -> usize
     ensures { Wrote at (tabbed (map (float binary32) v.now)) out.old result out.new }
 {
     let mut p = at;
-    let mut i = 0;
-    while i < v.len() {
-        p = tab_single(out, p, v[i]);
-        i += 1;
+    for x in v {
+        p = tab_single(out, p, *x);
     }
     p
 }
@@ -128,10 +124,8 @@ fn tab_wholes(out: &mut [u8], at: usize, v: &[u64]) -> usize
     ensures { Wrote at (tabbed (map whole v.now)) out.old result out.new }
 {
     let mut p = at;
-    let mut i = 0;
-    while i < v.len() {
-        p = tab_whole(out, p, v[i]);
-        i += 1;
+    for n in v {
+        p = tab_whole(out, p, *n);
     }
     p
 }
@@ -248,12 +242,8 @@ pub(crate) fn buf_lines(out: &mut [u8], at: usize, d: usize, v: &[f32], times: &
     ensures { Wrote at (bytes_of (buf_lines d v.now times.now)) out.old result out.new }
 {
     let mut p = at;
-    let mut i = 0;
-    let mut k = 0;
-    while i < times.len() {
-        p = buf_line(out, p, times[i], &v[k..k + d]);
-        i += 1;
-        k += d;
+    for i in 0..times.len() {
+        p = buf_line(out, p, times[i], &v[i * d..i * d + d]);
     }
     p
 }

@@ -10,6 +10,7 @@ use crate::head::{Preprocessor, block_of, head_row};
 use common::deviation::COUNT_LIMIT;
 
 // Whether n numbers have room.
+#[tactic(auto, unfolding(crate::specs::Lengths::within))]
 pub(crate) fn is_within(n: usize, room: usize) -> bool
     ensures { result ≡ within n room }
 {
@@ -17,12 +18,14 @@ pub(crate) fn is_within(n: usize, room: usize) -> bool
 }
 
 // Whether n numbers have room from a place on.
+#[tactic(auto, unfolding(crate::specs::Lengths::within))]
 pub(crate) fn has_room(at: usize, n: usize, room: usize) -> bool
     ensures { result ≡ within (at + n) room }
 {
     at <= room && n <= room - at
 }
 
+#[tactic(auto, unfolding(crate::specs::Lengths::time_fits))]
 pub(crate) fn time_fits(head: Preprocessor, statistics: usize) -> bool
     ensures value { result ≡ time_fits (settings_of head) statistics }
     ensures input_length_bound { result ≡ true → (head.transformer.input_length ≤ 16) × (statistics_length (settings_of head) ≤ statistics) }
@@ -30,6 +33,11 @@ pub(crate) fn time_fits(head: Preprocessor, statistics: usize) -> bool
     head_row(head).is_ok() && 3 * (5 * head.transformer.input_length + 5) <= statistics
 }
 
+#[tactic(
+    auto,
+    using(crate::proofs::LengthLaws::block_known),
+    unfolding(crate::specs::Lengths::output_fits, crate::specs::Settings::block)
+)]
 pub(crate) fn output_fits(head: Preprocessor, statistics: usize, output: usize) -> bool
     ensures value { result ≡ output_fits (settings_of head) statistics output }
     ensures bounded { result ≡ true → Bounded (settings_of head) × (statistics ≡ statistics_length (settings_of head)) × (block (settings_of head) ≤ output) }
@@ -41,6 +49,7 @@ pub(crate) fn output_fits(head: Preprocessor, statistics: usize, output: usize) 
     statistics == 3 * (5 * d + 5) && block_of(head.forest_mode, d) <= output
 }
 
+#[tactic(auto, unfolding(crate::specs::Lengths::transform_fits))]
 pub(crate) fn transform_fits(
     head: Preprocessor,
     statistics: usize,
@@ -55,6 +64,7 @@ pub(crate) fn transform_fits(
     output_fits(head, statistics, output) && inputs == d * head.shingle_size && input == d
 }
 
+#[tactic(auto, unfolding(crate::specs::Lengths::feed_fits))]
 pub(crate) fn feed_fits(
     head: Preprocessor,
     count: u64,

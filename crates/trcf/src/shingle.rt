@@ -22,6 +22,7 @@ pub(crate) fn copy_fitting<T: Copy>(dst: &mut [T], at: usize, src: &[T])
 }
 
 // The same; where src has no room there, nothing changes.
+#[tactic(auto, unfolding(crate::specs::Lengths::where_fits, crate::specs::Lengths::within))]
 pub fn copy_in<T: Copy>(dst: &mut [T], at: usize, src: &[T])
     ensures { dst.new ≡ where_fits (within (at + length src.now) (length dst.old)) (paste dst.old at src.now (length src.now)) dst.old }
 {
@@ -42,6 +43,7 @@ pub(crate) fn shift_fitting<T: Copy>(s: &mut [T], p: &[T])
 }
 
 // The same; where p is the longer, nothing changes.
+#[tactic(auto, unfolding(crate::specs::Lengths::where_fits, crate::specs::Lengths::within))]
 pub fn shift_in<T: Copy>(s: &mut [T], p: &[T])
     ensures { s.new ≡ where_fits (within (length p.now) (length s.old)) (shift_in s.old p.now) s.old }
 {

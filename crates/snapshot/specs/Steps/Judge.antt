@@ -1,5 +1,5 @@
 -- A line as the code reads it: piece by piece from a place of the text on, and none where a piece is bad.
-use Rattle.std.specs.Prelude.{ℕ, zero, suc, ◌+◌, ◌-◌, Bool, true, false, not, ◌&&◌, ◌||◌, cond, ◌≡◌, List, [], ◌∷◌, ◌++◌, ◌⊎◌, length, take, drop, replicate, get_or, leb, ltb, eqb, Float}
+use Rattle.std.specs.Prelude.{Option as Answer, Some, None, ℕ, zero, suc, ◌+◌, ◌-◌, Bool, true, false, not, ◌&&◌, ◌||◌, cond, ◌≡◌, List, [], ◌∷◌, ◌++◌, ◌⊎◌, length, take, drop, replicate, get_or, leb, ltb, eqb, Float}
 use Rattle.std.proofs.Math.Option.{Option, none, some}
 use Rattle.std.proofs.Common.{inl, inr}
 use Rattle.std.specs.Float.{nan, Format, binary32, binary64}
@@ -12,24 +12,21 @@ use Rattle.trcf.specs.Preprocessor.{Reading, reading}
 use Rattle.trcf.specs.declared.types.TransformMethod.{TransformMethod}
 use Rattle.trcf.specs.declared.types.TransformMethod.TheVariants.{NONE, WEIGHTED, DIFFERENCE, SUBTRACT_MA, NORMALIZE, NORMALIZE_DIFFERENCE}
 use Rattle.trcf.specs.declared.types.ForestMode.{ForestMode}
-use Rattle.snapshot.specs.declared.settings.Mode.{Mode}
-use Rattle.snapshot.specs.declared.settings.Mode.TheVariants.{OfMode, NoMode}
-use Rattle.snapshot.specs.declared.settings.Method.{Method}
-use Rattle.snapshot.specs.declared.settings.Method.TheVariants.{OfMethod, NoMethod}
 use Rattle.snapshot.specs.declared.settings.Set.{Set}
+use Rattle.snapshot.specs.declared.settings.Tail.{Tail}
+use Rattle.snapshot.specs.declared.kinds.Counters.{Counters}
+use Rattle.snapshot.specs.declared.kinds.Timed.{Timed}
 use Rattle.snapshot.specs.Read.{as_whole, as_float, every, all_codes, climbs, zeros, Counts, Three, Read, bad}
 use Rattle.snapshot.specs.Steps.Scan.{field_of}
 use Rattle.snapshot.specs.declared.field.Field.{Field}
 use Rattle.snapshot.specs.declared.field.Field.TheVariants.{Bad}
-use Rattle.snapshot.specs.declared.piece.Place.{Place}
-use Rattle.snapshot.specs.declared.piece.Place.TheVariants.{At, Nowhere}
 use Rattle.snapshot.specs.declared.piece.Next.{Next}
 
 -- ---- places: what is left of the text from there on
 
-abbrev pub placed : Place → List ℕ → Option (List ℕ)
-placed (At n) t = some (drop n t)
-placed Nowhere t = none
+abbrev pub placed : Answer ℕ → List ℕ → Option (List ℕ)
+placed (Some n) t = some (drop n t)
+placed None t = none
 
 abbrev pub onto : {A B : Type 0} → Option A → (A → Option B) → Option B
 onto none g = none
@@ -111,7 +108,7 @@ abbrev pub line_firsts : {A : Type 0} → (List ℕ → Option A) → ℕ → �
 line_firsts p a b c n l = led (name a b c l) (good_fields p n)
 
 -- what n fields leave in lent memory of that length: the fields; of bad ones, those before the first bad one, and after them what it held before
-pub record Filled {A : Type 0} (o : Option (List A × List ℕ)) (v : List A) (t : List ℕ) (old : List A) (r : Place) (new : List A) : Type 0 where
+pub record Filled {A : Type 0} (o : Option (List A × List ℕ)) (v : List A) (t : List ℕ) (old : List A) (r : Answer ℕ) (new : List A) : Type 0 where
   pub told : with_rest new (placed r t) ≡ o
   pub kept : length new ≡ length old
   pub left : new ≡ over old v
@@ -174,6 +171,14 @@ cnt_test m start c =
     && (leb c.internal_timestamp seen_limit
     && (leb c.count count_limit && (not (normalizes m && ltb c.values_seen start) || eqb c.internal_timestamp 0)))
 
+abbrev pub counts_read : ℕ → ℕ → ℕ → Counts
+counts_read a b c = record { values_seen = a; internal_timestamp = b; count = c }
+
+-- as the code answers it: what the line says, and what is left after it
+abbrev pub cnt_told : Answer Counters → List ℕ → Option (Counts × List ℕ)
+cnt_told None t = none
+cnt_told (Some r) t = some (counts_read r.seen r.internal r.count, drop r.end t)
+
 unfoldable pub cnt_by : TransformMethod → ℕ → List ℕ → Option (Counts × List ℕ)
 cnt_by m start l = checked (cnt_test m start) (counts_if_read (list_line as_whole 99 110 116 3 l))
 
@@ -198,18 +203,20 @@ buf_raw d l = onto (name 98 117 102 l) (λ z. onto (one as_whole z) (λ t. closi
 unfoldable pub buf_by : ℕ → ℕ → List ℕ → Option (Reading × List ℕ)
 buf_by d p l = checked (buf_test p) (buf_raw d l)
 
-abbrev pub counts_read : ℕ → ℕ → ℕ → Counts
-counts_read a b c = record { values_seen = a; internal_timestamp = b; count = c }
-
 -- its numbers up to the first bad one: none where its name or its time is bad
 abbrev pub buf_firsts : ℕ → List ℕ → List Float
 buf_firsts d l = led (name 98 117 102 l) (λ z. led (one as_whole z) (λ t. good_fields (as_float binary32) d t.1))
 
+-- as the code answers it, beside the numbers in lent memory
+abbrev pub buf_told : List Float → Answer Timed → List ℕ → Option (Reading × List ℕ)
+buf_told v None t = none
+buf_told v (Some r) t = some (reading v r.time, drop r.end t)
+
 -- what one `buf` line leaves: its numbers in lent memory, and its time
-pub record FilledWith (o : Option (Reading × List ℕ)) (v : List Float) (t : List ℕ) (old : List Float) (p : Place) (r : Reading) : Type 0 where
-  pub told : with_rest r (placed p t) ≡ o
-  pub kept : length r.value ≡ length old
-  pub left : r.value ≡ over old v
+pub record FilledWith (o : Option (Reading × List ℕ)) (v : List Float) (t : List ℕ) (old : List Float) (r : Answer Timed) (new : List Float) : Type 0 where
+  pub told : buf_told new r t ≡ o
+  pub kept : length new ≡ length old
+  pub left : new ≡ over old v
 
 -- `dev`
 abbrev pub three_of : List Float → Three
@@ -230,10 +237,6 @@ abbrev pub mode_in : List ℕ → Option ForestMode
 mode_in [] = none
 mode_in (x ∷ l) = mode_named (mode_of_letter x)
 
-abbrev pub mode_told : Mode → Option ForestMode
-mode_told (OfMode m) = some m
-mode_told NoMode = none
-
 abbrev pub method_in : ℕ → Option TransformMethod
 method_in zero = some NONE
 method_in (suc zero) = some WEIGHTED
@@ -243,10 +246,6 @@ method_in (suc (suc (suc (suc zero)))) = some NORMALIZE
 method_in (suc (suc (suc (suc (suc zero))))) = some NORMALIZE_DIFFERENCE
 method_in (suc (suc (suc (suc (suc (suc n)))))) = none
 
-abbrev pub method_told : Method → Option TransformMethod
-method_told (OfMethod m) = some m
-method_told NoMethod = none
-
 -- rows 2, 3, 4, 6, 7 and 8
 unfoldable pub set_test : ℕ → ℕ → ℕ → ℕ → Float → Bool
 set_test d k start stop decay =
@@ -255,6 +254,11 @@ set_test d k start stop decay =
 
 unfoldable pub tail_by : List ℕ → Option ((Float × Float) × List ℕ)
 tail_by l = onto (one (as_float binary64) l) (λ y. onto (one (as_float binary32) y.1) (λ x. with_rest (y.0, x.0) (byte 10 x.1)))
+
+-- as the code answers it
+abbrev pub tail_told : Answer Tail → List ℕ → Option ((Float × Float) × List ℕ)
+tail_told None t = none
+tail_told (Some r) t = some ((r.decay, r.weight_time), drop r.end t)
 
 abbrev pub settings_with : ForestMode → TransformMethod → List ℕ → Float → Float → Settings
 settings_with m t w y x =
@@ -294,3 +298,8 @@ settings_told r =
       weights = [];
       codes = [];
     }
+
+-- as the code answers it
+abbrev pub set_told : Answer Set → List ℕ → Option (Settings × List ℕ)
+set_told None t = none
+set_told (Some r) t = some (settings_told r, drop r.end t)

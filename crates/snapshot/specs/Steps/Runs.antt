@@ -1,5 +1,5 @@
 -- The lines of a text one after the other, run by run, as the code reads them; proofs/ReadRuns ties them to `read`.
-use Rattle.std.specs.Prelude.{ℕ, zero, suc, ◌+◌, ◌*◌, ◌≤◌, ◌<◌, Bool, true, false, not, ◌&&◌, cond, ◌≡◌, List, [], ◌∷◌, ◌++◌, length, drop, Float}
+use Rattle.std.specs.Prelude.{Result, Ok, Err, ℕ, zero, suc, ◌+◌, ◌*◌, ◌≤◌, ◌<◌, Bool, true, false, not, ◌&&◌, cond, ◌≡◌, List, [], ◌∷◌, ◌++◌, length, drop, Float}
 use Rattle.std.proofs.Math.Option.{Option, none, some}
 use Rattle.std.specs.Float.{binary32, binary64}
 use Rattle.trcf.specs.Lists.{null}
@@ -7,6 +7,8 @@ use Rattle.trcf.specs.Settings.{Settings, dimension, waiting}
 use Rattle.trcf.specs.Preprocessor.{State, Reading, statistics_length}
 use Rattle.trcf.specs.View.{Lent, settings_of, head_from, counting, written_over}
 use Rattle.trcf.specs.declared.head.Preprocessor.{Preprocessor}
+use Rattle.snapshot.specs.declared.head.BadLine.{BadLine}
+use Rattle.snapshot.specs.declared.head.Header.{Header}
 use Rattle.snapshot.specs.Read.{as_float, Counts, Read, taken, bad, may_stand, state_of, with_lists}
 use Rattle.snapshot.specs.Steps.Judge.{list_line, Codes, chn_or, chn_by, set_by, wgt_by, cnt_by, tim_by, buf_by}
 
@@ -31,10 +33,10 @@ abbrev pub then_lines : {A B : Type 0} → ℕ → Ran A → (A → List ℕ →
 then_lines n (ran a z) g = after_lines n (g a z)
 then_lines n (broke m) g = broke m
 
--- as the code tells it: the bad line or 0, and the place after it
-abbrev pub ran_by : {A : Type 0} → ℕ → A → List ℕ → Ran A
-ran_by zero a z = ran a z
-ran_by (suc m) a z = broke (suc m)
+-- as the code answers it: the place after the lines, or the bad one
+abbrev pub ran_by : {A : Type 0} → Result ℕ BadLine → A → List ℕ → Ran A
+ran_by (Ok at) a t = ran a (drop at t)
+ran_by (Err bad) a t = broke bad.line
 
 -- what is judged and not kept
 abbrev pub unkept : {A : Type 0} → Ran A → Ran (Unit {0})
@@ -143,6 +145,11 @@ head_with_counts h = counting (head_from h.settings) h.counts.count h.counts.val
 -- with how many lines hold codes
 abbrev pub headed_of : Head → Preprocessor × ℕ
 headed_of h = (head_with_counts h, h.extra)
+
+-- as the code answers it
+abbrev pub header_told : Result Header BadLine → List ℕ → Ran (Preprocessor × ℕ)
+header_told (Ok h) t = ran (h.head, h.extra) (drop h.at t)
+header_told (Err bad) t = broke bad.line
 
 -- within the limits of rows 4 and 8
 pub record Few (d k start : ℕ) : Type 0 where
