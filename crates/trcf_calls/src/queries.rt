@@ -146,9 +146,7 @@ pub fn difference_deviations(
 pub fn is_ready(head: Preprocessor) -> bool
     ensures { result ≡ (getters_of head).ready }
 {
-    head_row(head).is_ok()
-        && !is_misfit(head)
-        && head.shingle_size <= head.internal_timestamp
+    head_row(head).is_ok() && !is_misfit(head) && head.shingle_size <= head.internal_timestamp
 }
 
 pub fn values_seen(head: Preprocessor) -> usize
