@@ -1,5 +1,6 @@
 // What each call line does and prints, on a preprocessor and the last point. The bench runs as role 0 of a table with every right.
-ghost use Rattle.std.specs.Prelude.{◌≡◌, List, ◌≤◌, Float, length, take, result_unwrap_or};
+ghost use Rattle.std.specs.Prelude.{◌≡◌, List, ◌≤◌, Float, length, take};
+ghost use Rattle.std.specs.Result.{result_unwrap_or};
 ghost use Rattle.refusal.specs.Refusal.{number_of, row_of};
 ghost use Rattle.trcf.specs.View.{lent};
 ghost use Rattle.bench_core.specs.Bench.{no_text, done_text, point_text, dimension_of, output, prints, call_printed, prints_call, point_result, learn_result, drain_result, save_prints};
@@ -152,10 +153,8 @@ pub(crate) fn call_learn(
         initial_timestamps,
         input,
         timestamp,
-        &point[..n],
-        given,
-        &point[..0],
-        false,
+        given.then_some(&point[..n]),
+        None,
         0.0,
         0,
         &mut deviations,
