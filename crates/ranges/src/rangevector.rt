@@ -28,10 +28,18 @@ pub trait Width: Copy {
 
     fn is_at_most(self, other: Self) -> bool
         ensures { result ≡ operations.at_most self other };
+
+    // A clone is the number itself, and is always to be had.
+    ghost clone_is: { (x y : Self) → Self.is_clone x y → y ≡ x };
+    ghost clones: { (x : Self) → Self.is_infallible x };
 }
 
 impl Width for f32 {
     ghost operations = { operations_of binary32 };
+
+    ghost clone_is = { λ x y e. e };
+
+    ghost clones = { λ x. tt };
 
     fn zero() -> f32 {
         0.0
@@ -56,6 +64,10 @@ impl Width for f32 {
 
 impl Width for f64 {
     ghost operations = { operations_of binary64 };
+
+    ghost clone_is = { λ x y e. e };
+
+    ghost clones = { λ x. tt };
 
     fn zero() -> f64 {
         0.0
@@ -180,6 +192,13 @@ impl<T: Width> Range<T> {
             self.lower.times(scale),
         )
     }
+
+    // Whether lower ≤ value ≤ upper, which no not-a-number meets.
+    fn is_ordered(self) -> bool
+        ensures { result ≡ (T.operations.at_most self.value self.upper && T.operations.at_most self.lower self.value) }
+    {
+        self.value.is_at_most(self.upper) && self.lower.is_at_most(self.value)
+    }
 }
 
 // What stands at index i.
@@ -290,9 +309,7 @@ fn zero_front<T: Width>(list: &mut [T], n: usize)
     requires { n ≤ length list.old }
     ensures { list.new ≡ over list.old (replicate n T.operations.zero_value) }
 {
-    for i in 0..n {
-        list[i] = T::zero();
-    }
+    list[..n].fill(T::zero());
 }
 
 // All of source stands at the front of list.
@@ -335,19 +352,13 @@ pub fn from<T: Width>(
     Ok(())
 }
 
-fn is_ordered<T: Width>(value: T, upper: T, lower: T) -> bool
-    ensures { result ≡ (T.operations.at_most value upper && T.operations.at_most lower value) }
-{
-    value.is_at_most(upper) && lower.is_at_most(value)
-}
-
-// Whether lower ≤ values ≤ upper everywhere, which no not-a-number meets.
+// Whether lower ≤ values ≤ upper everywhere.
 fn are_in_order<T: Width>(values: &[T], upper: &[T], lower: &[T]) -> bool
     requires { (length values.now ≡ length upper.now) × (length values.now ≡ length lower.now) }
     ensures { result ≡ in_order_by T.operations.at_most values.now upper.now lower.now }
 {
     for i in 0..values.len() {
-        if !is_ordered(values[i], upper[i], lower[i]) {
+        if !at(values, upper, lower, i).is_ordered() {
             return false;
         }
     }
