@@ -37,7 +37,11 @@ fn place_of(right: Right) -> usize
 fn all_bits(table: &[u8]) -> bool
     ensures { result ≡ bits table.now }
 {
-    table.iter().copied().max().unwrap_or(0) < 2
+    let mut largest = 0;
+    for cell in table {
+        largest = largest.max(*cell);
+    }
+    largest < 2
 }
 
 // Whether the table is one, and the role one of its four.

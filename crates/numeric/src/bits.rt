@@ -6,7 +6,7 @@ ghost use Rattle.std.specs.Float.{binary32, binary64};
 pub fn single_bits(x: f32) -> u64
     ensures { result ≡ to_bits binary32 x }
 {
-    if x != x {
+    if x.is_nan() {
         return 0x7fc0_0000;
     }
     f32::to_bits(x) as u64
@@ -15,7 +15,7 @@ pub fn single_bits(x: f32) -> u64
 pub fn double_bits(x: f64) -> u64
     ensures { result ≡ to_bits binary64 x }
 {
-    if x != x {
+    if x.is_nan() {
         return 0x7ff8_0000_0000_0000;
     }
     f64::to_bits(x)
@@ -27,8 +27,7 @@ pub fn single_of(n: u64) -> f32
 {
     let b = n % 0x1_0000_0000;
     if 0x7f80_0000 < b % 0x8000_0000 {
-        let z = 0.0f32;
-        return z / z;
+        return f32::NAN;
     }
     f32::from_bits(b as u32)
 }
@@ -37,8 +36,7 @@ pub fn double_of(n: u64) -> f64
     ensures { result ≡ from_bits binary64 n }
 {
     if 0x7ff0_0000_0000_0000 < n % 0x8000_0000_0000_0000 {
-        let z = 0.0f64;
-        return z / z;
+        return f64::NAN;
     }
     f64::from_bits(n)
 }

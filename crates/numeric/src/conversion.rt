@@ -34,11 +34,7 @@ fn narrow_fields(x: u64, t: u64) -> u64
 fn is_normal(y: u64) -> bool
     ensures { result ≡ true → (0x3810_0000_0000_0000 ≤ y) × (y < 0x47f0_0000_0000_0000) }
 {
-    if y < 0x3810_0000_0000_0000 {
-        false
-    } else {
-        y < 0x47f0_0000_0000_0000
-    }
+    0x3810_0000_0000_0000 <= y && y < 0x47f0_0000_0000_0000
 }
 
 // The same of the bits y below the sign. Nearly every number is normal, and is settled by one comparison: the bits, counted from the exponent's new origin, are rounded as they stand.
@@ -58,8 +54,8 @@ fn narrow_size(y: u64) -> u64
 pub fn to_f32(x: f64) -> f32
     ensures { result ≡ narrowed x }
 {
-    if x != x {
-        return 0.0 / 0.0;
+    if x.is_nan() {
+        return f32::NAN;
     }
     let b = f64::to_bits(x);
     let low = narrow_size(b % 0x8000_0000_0000_0000);

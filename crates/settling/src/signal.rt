@@ -1,5 +1,5 @@
 // The made-up signal, and its readings: whole numbers with a sign, each exact as f32.
-ghost use Rattle.std.specs.Prelude.{◌≡◌, true, ◌≤◌, leb};
+ghost use Rattle.std.specs.Prelude.{◌≡◌, true, cond, ◌≤◌, leb, pos, ◌*ℤ◌};
 ghost use Rattle.settling.specs.Settling.{integer_size, in_limits, counts_in_limits, value_at};
 ghost use Rattle.settling.specs.Steps.{signal_of};
 
@@ -39,14 +39,31 @@ fn counts_in_limits(place: u64, readings: u64) -> bool
     place <= 1000 && 1 <= readings && readings <= 1000
 }
 
+fn times(x: i128, i: u64) -> i128
+    requires size_bound { integer_size x ≤ 1000 }
+    requires i_bound { i ≤ 1000 }
+    ensures value { result ≡ x *ℤ pos i }
+    ensures size_bound { integer_size result ≤ 1000000 }
+{
+    x * i128::from(i)
+}
+
+// The number where it is asked for, and 0 elsewhere.
+fn only_if(asked: bool, x: i128) -> i128
+    ensures value { result ≡ cond asked x (pos 0) }
+    ensures size_le_size { integer_size result ≤ integer_size x }
+{
+    if asked { x } else { 0 }
+}
+
 // Reading i.
 pub(crate) fn value_at(g: Signal, i: u64) -> f32
     requires g_value { in_limits (signal_of g) ≡ true }
     requires i_bound { i ≤ 1000 }
     ensures { result ≡ value_at (signal_of g) i }
 {
-    let ripple = if i % 2 == 1 { g.ripple } else { 0 };
-    let jump = if g.place <= i { g.jump } else { 0 };
-    let value = g.base + g.ramp * i128::from(i) + ripple + jump;
+    let ripple = only_if(i % 2 == 1, g.ripple);
+    let jump = only_if(g.place <= i, g.jump);
+    let value = g.base + times(g.ramp, i) + ripple + jump;
     nearest_i64_to_f32(value as i64)
 }

@@ -4,7 +4,7 @@ use mathlib.Core.Bool.{Bool, true, false, cond, ◌&&◌}
 use mathlib.Core.Path.{◌≡◌, refl, sym, ap, ◌∙◌}
 use mathlib.Core.List.{List, [], ◌∷◌, ◌++◌}
 use native.Mathlib.Omega.{arith}
-use lib.ListN.{length, get_or, take, drop}
+use lib.ListN.{length, get_or, take, drop, replicate, length-replicate}
 use lib.Seq.{drop-cons, length-take-le}
 use lib.Ieee.{Float, nan, eq}
 use Rattle.std.specs.Prelude.{Result, Ok, Err}
@@ -38,9 +38,9 @@ pub written_done : (n : ℕ) (l a o : List Float) → 0 ≡ n → o ≡ over l a
 written_done zero l a o e h = ap (transformer_output 0) h
 written_done (suc n) l a o e h = absurd (omega arith)
 
-pub made_done : (n : ℕ) (refused : Made) (h : WeightedTransformer) (l m : List Float) → 0 ≡ n → l ≡ m → made 0 h l ≡ accepted n (made 0 h m) refused
-made_done zero refused h l m e p = ap (made 0 h) p
-made_done (suc n) refused h l m e p = absurd (omega arith)
+pub made_done : (n : ℕ) (refused : Made) (t u : WeightedTransformer) (l m : List Float) → 0 ≡ n → t ≡ u → l ≡ m → made 0 t l ≡ accepted n (made 0 u m) refused
+made_done zero refused t u l m e h p = λ i. made 0 (h i) (p i)
+made_done (suc n) refused t u l m e h p = absurd (omega arith)
 
 pub ranges_done : (n : ℕ) (old new left : Ranges) → 0 ≡ n → left ≡ new → range_outcome 0 left ≡ range_answer n old new
 ranges_done n old new left e h = done 0 n old new left e refl h
@@ -58,6 +58,14 @@ made_err e (Err d) n t l done h k = made_refused (number_of d) n t l done (ap nu
 pub ranges_err : (e : Refusal) (r : Result (Unit {0}) Refusal) (n : ℕ) (old new : Ranges) → IsErrAnd r (λ d. d ≡ e) → number_of e ≡ n
     → range_outcome (row_of r) old ≡ range_answer n old new
 ranges_err e r n old new h k = refused (row_of r) n old new (handed_on e r h ∙ k) (handed_not e r h)
+
+-- the front of a list, filled
+pub cleared : (n : ℕ) (l ys : List Float) (x : Float) → n ≤ length l → ys ≡ replicate (length (take n l)) x → ys ++ drop n l ≡ over l (replicate n x)
+unfolding over
+cleared n l ys x h e =
+    let k : length (take n l) ≡ n = length-take-le n l h in
+    ap (λ (q : List Float). q ++ drop n l) (e ∙ ap (λ (m : ℕ). replicate m x) k)
+    ∙ ap (λ (m : ℕ). replicate n x ++ drop m l) (sym (length-replicate n x))
 
 -- the statistics of the channels, cut out of a longer list
 pub sound_part : (h : WeightedTransformer) (l : List Float) → 0 < h.input_length → h.input_length ≤ 16 → 15 * h.input_length ≤ length l

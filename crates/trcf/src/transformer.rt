@@ -331,7 +331,7 @@ fn channels_row(d: usize) -> Result<(), Refusal>
     Ok(())
 }
 
-#[tactic(auto, using(refusal::proofs::RefusalLaws::is_numbered), unfolding(crate::specs::TransformerCalls::new_row))]
+#[tactic(auto, using(refusal::proofs::RefusalLaws::is_numbered), unfolding(crate::specs::TransformerCalls::new_row, common::specs::Deviation::deviation_new))]
 fn new_row(
     m: TransformMethod,
     d: usize,

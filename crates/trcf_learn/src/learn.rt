@@ -48,11 +48,11 @@ pub(crate) fn write_completing(head: Preprocessor, s: &[f64], output: &mut [f32]
     ensures value { result ≡ eqb (suc head.values_seen) head.start_normalization }
     ensures output_after { output.new ≡ cond (eqb (suc head.values_seen) head.start_normalization) (over output.old (deviations (holding head s.now [] []))) output.old }
 {
-    let completes = head.values_seen + 1 == head.start_normalization;
-    if completes {
-        write_deviations(head, s, output);
+    if head.values_seen + 1 != head.start_normalization {
+        return false;
     }
-    completes
+    write_deviations(head, s, output);
+    true
 }
 
 // Feeds the reading to the statistics, before stop.

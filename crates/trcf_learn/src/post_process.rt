@@ -1,15 +1,14 @@
 // A reading is learnt: it waits, or it comes into the statistics and the shingles (the source's post_process).
 ghost use Rattle.std.specs.Prelude.{◌≡◌, true, false, cond, ◌&&◌, [], ◌∷◌, ◌++◌, suc, ◌*◌, ◌≤◌, ◌<◌, ltb, eqb, length, take, is_some, None};
-ghost use Rattle.std.specs.Option.{option_copied};
 ghost use Rattle.std.specs.Float.Ieee.{lt};
 ghost use Rattle.common.specs.Deviation.{count_limit};
 ghost use Rattle.refusal.specs.Lent.{over};
 ghost use Rattle.trcf.specs.Transformer.{zero32};
 ghost use Rattle.trcf.specs.Settings.{block, dimension};
 ghost use Rattle.trcf.specs.Preprocessor.{statistics_length, deviations};
-ghost use Rattle.trcf.specs.View.{lent, settings_of, holding, counting, processed_outcome, learn_after, Bounded};
+ghost use Rattle.trcf.specs.View.{lent, settings_of, holding, counting, learn_call, processed_outcome, learn_after, Bounded};
 ghost use Rattle.trcf.specs.Steps.Learning.{learn_parts, learned_parts, answering, Learnable};
-ghost use Rattle.trcf_learn.specs.Given.{list_in, learn_with};
+ghost use Rattle.trcf_learn.specs.Given.{list_in};
 
 use crate::learn::{hold, update_shingles, write_completing, write_found};
 use refusal::Refusal;
@@ -153,7 +152,7 @@ pub fn post_process(
     expected_out: &mut [f32],
 ) -> Result<PostProcessed, Refusal>
     ensures { processed_outcome result head (lent statistics.new last_shingled_input.new last_shingled_point.new previous_timestamps.new initial_values.new initial_timestamps.new) deviations_out.new past_out.new expected_out.new
-        ≡ learn_after head (lent statistics.old last_shingled_input.old last_shingled_point.old previous_timestamps.old initial_values.old initial_timestamps.old) (learn_with input.now timestamp (option_copied y.entry) (option_copied expected.entry) grade relative_index deviations_out.old past_out.old expected_out.old) }
+        ≡ learn_after head (lent statistics.old last_shingled_input.old last_shingled_point.old previous_timestamps.old initial_values.old initial_timestamps.old) (learn_call input.now timestamp (is_some y.entry) (list_in y.entry) (is_some expected.entry) (list_in expected.entry) grade relative_index deviations_out.old past_out.old expected_out.old) }
 {
     post_process_row(
         head,

@@ -46,10 +46,10 @@ module _ (n w c up down : ℕ) (C : 2 ^ 52 ≤ c) (D : c < 2 ^ 53) (e : w + c * 
       a ∙ certified n c w e h k
 
 -- ---- the needs
-how : (j : Joined-w-c-le1152921504606846976) → let a = j in Step j.remainder-w.result j.args.c j.if-c-w.up j.if-w-c-le1152921504606846976.down
+how : (j : Joined-w-c-le1152921504606846976) → let a = j in Step j.in_ok-w.w j.args.c j.if-c-w.up j.if-w-c-le1152921504606846976.down
 how j =
     let a = j in
-    step j.remainder-w.result j.args.c j.if-c-w.up j.if-w-c-le1152921504606846976.down
+    step j.in_ok-w.w j.args.c j.if-c-w.up j.if-w-c-le1152921504606846976.down
     (elim j.if-c-w.branch [ then-c-w w ↦ inl (w.if-c-w.true, w.up-is) | else-c-w w ↦ inr (w.if-c-w.false, w.up-is) ])
     (elim j.if-w-c-le1152921504606846976.branch [
       | then-w-c-le1152921504606846976 w ↦ inl (w.if-w-c-le1152921504606846976.true, w.down-is)
@@ -64,6 +64,6 @@ overflow_sub-result c = let h = small (how (goal.at.overflow_sub-result c).Joine
 
 pub returns : goal.returns
 returns c =
-    λ p. let j = c in let a = c in let z = c.if-w-eq0.false in let near : 0 < c.remainder-w.result = omega arith in let s =
-    c.remainder-w.ensures in answer c.args.n c.remainder-w.result c.args.c c.if-c-w.up c.if-w-c-le1152921504606846976.down c.requires.bound c.requires.c_bound
-    (s.c_value near) (s.bound_2 near) s.upper_bound (how (goal.at.returns c).Joined-w-c-le1152921504606846976)
+    let s = c.in_ok-w.ensures in
+    answer c.args.n c.in_ok-w.w c.args.c c.if-c-w.up c.if-w-c-le1152921504606846976.down c.requires.bound c.requires.c_bound
+    s.c_value s.bound_2 s.upper_bound (how (goal.at.returns c).Joined-w-c-le1152921504606846976)

@@ -11,12 +11,6 @@ use Rattle.trcf.specs.declared.head.Preprocessor.{Preprocessor}
 use Rattle.trcf.proofs.OutcomeLaws.{build_refused, build_short, build_done, bounded_from, dimension_from}
 use Rattle.trcf_calls.proofs.build.build.Goals as goal
 
-pub settings_row-row-requires : goal.settings_row-row-requires
-settings_row-row-requires c = tt
-
-pub no_head-requires : goal.no_head-requires
-no_head-requires c = tt
-
 pub returns-then-row-ne0 : goal.returns-then-row-ne0
 returns-then-row-ne0 c =
     let a = c.args in
@@ -27,12 +21,6 @@ returns-then-row-ne0 c =
 
 pub head_from-head-requires : goal.head_from-head-requires
 head_from-head-requires c = let r = c.settings_row-row.ensures.accepted c.if-row-ne0.false in record { weights_len_bound = omega (arith, r.bounded, r.weighted); codes_len_bound = omega (arith, r.bounded, r.coded) }
-
-pub held_row-short-requires : goal.held_row-short-requires
-held_row-short-requires c = tt
-
-pub no_head-requires-then-short-ne0 : goal.no_head-requires-then-short-ne0
-no_head-requires-then-short-ne0 c = tt
 
 pub returns-then-short-ne0 : goal.returns-then-short-ne0
 returns-then-short-ne0 c =
@@ -45,9 +33,6 @@ returns-then-short-ne0 c =
     (bounded_from s (c.settings_row-row.ensures.accepted c.if-row-ne0.false).bounded)) ∙ ap (λ (h : Preprocessor). lent_row h l)
     c.head_from-head.ensures in
     rw (c.no_head-then-short-ne0.ensures, f) (build_short s l (sym e ∙ c.if-row-ne0.false) (λ z. c.if-short-ne0.true (f ∙ z)))
-
-pub get_dimension-n-requires : goal.get_dimension-n-requires
-get_dimension-n-requires c = tt
 
 pub overflow_mul-d : goal.overflow_mul-d
 overflow_mul-d c =
@@ -72,9 +57,6 @@ slice_bounds-zero_f64-end-2 c =
     (c.held_row-short.ensures.ready c.if-short-ne0.false).fitted) in
     simp length-take (omega (arith, r.roomy))
 
-pub zero_f64-requires : goal.zero_f64-requires
-zero_f64-requires c = tt
-
 pub overflow_mul-d-3 : goal.overflow_mul-d-3
 overflow_mul-d-3 c =
     let r = c.settings_row-row.ensures.accepted c.if-row-ne0.false in all_inputs r.bounded.d_few r.bounded.k_few
@@ -90,9 +72,6 @@ slice_bounds-zero_f32-end-2 c =
     let r = (rw c.head_from-head.ensures at
     (c.held_row-short.ensures.ready c.if-short-ne0.false).fitted) in
     simp length-take (omega (arith, r.roomy))
-
-pub zero_f32-requires : goal.zero_f32-requires
-zero_f32-requires c = tt
 
 pub slice_bounds-zero_f32-end-3 : goal.slice_bounds-zero_f32-end-3
 slice_bounds-zero_f32-end-3 c =
@@ -123,9 +102,6 @@ slice_bounds-zero_f32-end-4 c =
           (bounded_from s (c.settings_row-row.ensures.accepted c.if-row-ne0.false).bounded))).0),
     ))
 
-pub zero_f32-requires-2 : goal.zero_f32-requires-2
-zero_f32-requires-2 c = tt
-
 pub slice_bounds-zero_u64-end : goal.slice_bounds-zero_u64-end
 slice_bounds-zero_u64-end c =
     let r = (rw c.head_from-head.ensures at
@@ -137,9 +113,6 @@ slice_bounds-zero_u64-end-2 c =
     let r = (rw c.head_from-head.ensures at
     (c.held_row-short.ensures.ready c.if-short-ne0.false).fitted) in
     simp length-take (omega (arith, r.roomy))
-
-pub zero_u64-requires : goal.zero_u64-requires
-zero_u64-requires c = tt
 
 pub returns : goal.returns
 returns c =

@@ -3,8 +3,5 @@ use borrow.Author.Rules.{rules}
 use Rattle.trcf.proofs.LengthLaws.{roomy}
 use Rattle.trcf_calls.proofs.build.head_from.Goals as goal
 
-pub padded-a-requires : goal.padded-a-requires
-padded-a-requires c = tt
-
 pub returns : goal.returns
 returns c = rw (roomy _ c.padded-a.ensures (search rules), c.codes_from-own.ensures)

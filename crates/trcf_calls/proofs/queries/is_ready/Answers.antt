@@ -10,15 +10,9 @@ refused_not : (r m : ℕ) (b : Bool) → (r ≡ 0 → ⊥) → false ≡ accepte
 refused_not zero m b n = absurd (n refl)
 refused_not (suc r) m b n = refl
 
-pub head_row-row-requires : goal.head_row-row-requires
-head_row-row-requires c = tt
-
 pub returns-then-row-ne0 : goal.returns-then-row-ne0
 unfolding ready_of own_row
 returns-then-row-ne0 c = refused_not _ _ _ (λ e. c.if-row-ne0.true (c.head_row-row.ensures.value ∙ e))
-
-pub is_misfit-requires : goal.is_misfit-requires
-is_misfit-requires c = tt
 
 pub returns-then-is_misfit : goal.returns-then-is_misfit
 unfolding ready_of own_row

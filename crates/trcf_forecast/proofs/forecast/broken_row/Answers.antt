@@ -18,12 +18,6 @@ unfolding forecast_unfit
 returns-then-values-lower c =
     record { value = rw (eq-eqb _ _ c.if-values-upper.false, ne_eqb _ _ c.if-values-lower.true); unbroken = λ e. absurd (omega (arith, e)) }
 
-pub is_augmented-requires : goal.is_augmented-requires
-is_augmented-requires c = tt
-
-pub get_dimension-requires : goal.get_dimension-requires
-get_dimension-requires c = tt
-
 pub returns-then-values-get_dimension : goal.returns-then-values-get_dimension
 unfolding forecast_unfit
 returns-then-values-get_dimension c = record {
@@ -62,9 +56,6 @@ returns-then-is_augmented c =
         cascades = λ a. absurd (true_false (sym at-if3.true ∙ at-is-augmented.ensures ∙ a));
       };
     }
-
-pub is_broken-requires : goal.is_broken-requires
-is_broken-requires c = tt
 
 pub returns-then-is_broken : goal.returns-then-is_broken
 unfolding forecast_unfit

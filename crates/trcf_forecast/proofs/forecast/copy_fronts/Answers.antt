@@ -75,9 +75,6 @@ slice_bounds-copy_in-end c =
     let v = turn_within L.i A.h A.m (length A.dst.now) c.loop-i-test.true (omega (arith, P.2)) in
     omega (arith, P.1, c.well_formed)
 
-pub copy_in-requires : goal.copy_in-requires
-copy_in-requires c = tt
-
 pub overflow_add-i : goal.overflow_add-i
 overflow_add-i c =
     omega arith

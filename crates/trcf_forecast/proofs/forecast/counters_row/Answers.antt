@@ -2,9 +2,6 @@
 use mathlib.Core.Path.{sym, ◌∙◌}
 use Rattle.trcf_forecast.proofs.forecast.counters_row.Goals as goal
 
-pub is_misfit-requires : goal.is_misfit-requires
-is_misfit-requires c = tt
-
 pub returns-then-is_misfit : goal.returns-then-is_misfit
 returns-then-is_misfit c = rw (sym c.is_misfit.ensures ∙ c.if-is_misfit.true)
 

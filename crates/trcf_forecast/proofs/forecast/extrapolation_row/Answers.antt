@@ -5,9 +5,6 @@ use Rattle.trcf.specs.Calls.{forecast_output_short}
 use Rattle.trcf.proofs.ExtrapolationLaws.{row_head, row_own, row_output, row_unread, or_else_first}
 use Rattle.trcf_forecast.proofs.forecast.extrapolation_row.Goals as goal
 
-pub head_row-row-requires : goal.head_row-row-requires
-head_row-row-requires c = tt
-
 pub returns-then-row-ne0 : goal.returns-then-row-ne0
 returns-then-row-ne0 c =
     record { value = row_head _ _ _ _ _ _ c.head_row-row.ensures.value c.if-row-ne0.true; invertible = λ e. absurd (c.if-row-ne0.true e) }
@@ -15,12 +12,6 @@ returns-then-row-ne0 c =
 pub broken_row-broken-requires : goal.broken_row-broken-requires
 broken_row-broken-requires c =
     c.head_row-row.ensures.bounded c.if-row-ne0.false
-
-pub counters_row-unfit-requires : goal.counters_row-unfit-requires
-counters_row-unfit-requires c = tt
-
-pub first_of-own-requires : goal.first_of-own-requires
-first_of-own-requires c = tt
 
 pub returns-then-own-ne0 : goal.returns-then-own-ne0
 returns-then-own-ne0 c =

@@ -4,9 +4,6 @@ use Rattle.trcf.specs.Extrapolation.{forecast}
 use Rattle.trcf.proofs.ExtrapolationLaws.{refused_is, done_is}
 use Rattle.trcf_forecast.proofs.forecast.invert_extrapolation.Goals as goal
 
-pub extrapolation_row-row-requires : goal.extrapolation_row-row-requires
-extrapolation_row-row-requires c = tt
-
 pub returns-then-row-ne0 : goal.returns-then-row-ne0
 returns-then-row-ne0 c =
     let A = c.args in

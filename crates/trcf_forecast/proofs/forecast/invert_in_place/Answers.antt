@@ -33,9 +33,6 @@ slice_bounds-invert_forecast_in_place-start c = omega arith
 pub slice_bounds-invert_forecast_in_place-end : goal.slice_bounds-invert_forecast_in_place-end
 slice_bounds-invert_forecast_in_place-end c = omega arith
 
-pub invert_forecast_in_place-requires : goal.invert_forecast_in_place-requires
-invert_forecast_in_place-requires c = tt
-
 pub returns : goal.returns
 returns c =
     let A = c.args in

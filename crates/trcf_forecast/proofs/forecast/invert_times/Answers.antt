@@ -17,21 +17,6 @@ overflow_mul-m c =
     let q : c.args.head.shingle_size ≤ 64 = c.requires.bounded.k_few in
     omega (arith, mul-le-mul p q)
 
-pub get_dimension-a-requires : goal.get_dimension-a-requires
-get_dimension-a-requires c = tt
-
-pub is_gap-gap-requires : goal.is_gap-gap-requires
-is_gap-gap-requires c = tt
-
-pub time_factor-factor-requires : goal.time_factor-factor-requires
-time_factor-factor-requires c = tt
-
-pub timescale_of-scale-requires : goal.timescale_of-scale-requires
-timescale_of-scale-requires c = tt
-
-pub timedrift_of-drift-requires : goal.timedrift_of-drift-requires
-timedrift_of-drift-requires c = tt
-
 pub write_times-requires : goal.write_times-requires
 write_times-requires c =
     let A = c.args in

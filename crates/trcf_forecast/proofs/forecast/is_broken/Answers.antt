@@ -2,12 +2,6 @@
 use mathlib.Core.Path.{sym, ◌∙◌}
 use Rattle.trcf_forecast.proofs.forecast.is_broken.Goals as goal
 
-pub is_differencing-requires : goal.is_differencing-requires
-is_differencing-requires c = tt
-
-pub is_unblocked-requires : goal.is_unblocked-requires
-is_unblocked-requires c = tt
-
 pub returns-then-is_differencing : goal.returns-then-is_differencing
 returns-then-is_differencing c =
     rw (sym c.is_differencing.ensures ∙ c.if-is_differencing.true) c.is_unblocked.ensures

@@ -10,12 +10,6 @@ use Rattle.trcf.proofs.ExtrapolationLaws.{true_false, dimension_pos, numbers_wit
 use borrow.Author.Rules.{rules}
 use Rattle.trcf_forecast.proofs.forecast.output_row.Goals as goal
 
-pub get_dimension-a-requires : goal.get_dimension-a-requires
-get_dimension-a-requires c = tt
-
-pub is_augmented-requires : goal.is_augmented-requires
-is_augmented-requires c = tt
-
 pub nonzero_div-h : goal.nonzero_div-h
 nonzero_div-h c =
     let p = dimension_pos (settings_of c.args.head) c.requires.d_pos c.requires.k_pos in
@@ -36,9 +30,6 @@ overflow_mul-h c =
     (rw (dimension_known c.get_dimension-a.ensures (search rules)).0 p) in
     omega (arith, c.ranges.values)
 
-pub is_shorter-requires : goal.is_shorter-requires
-is_shorter-requires c = tt
-
 pub returns-then-is_shorter : goal.returns-then-is_shorter
 unfolding forecast_output_short lookahead
 returns-then-is_shorter c = record {
@@ -50,9 +41,6 @@ returns-then-is_shorter c = record {
   );
   long = λ e. absurd (omega (arith, e));
 }
-
-pub is_shorter-requires-then-is_augmented : goal.is_shorter-requires-then-is_augmented
-is_shorter-requires-then-is_augmented c = tt
 
 pub returns-then-is_shorter-2 : goal.returns-then-is_shorter-2
 unfolding forecast_output_short lookahead

@@ -11,9 +11,6 @@ use Rattle.trcf.specs.View.{settings_of}
 use Rattle.trcf.proofs.OutputLaws.{newest_part}
 use Rattle.trcf_learn.proofs.learn.feed_newest.Goals as goal
 
-pub last_time-p-requires : goal.last_time-p-requires
-last_time-p-requires c = tt
-
 pub overflow_sub-n : goal.overflow_sub-n
 overflow_sub-n c =
     let a = c.args in
@@ -34,9 +31,6 @@ slice_bounds-feed_reading-start c = omega arith
 
 pub slice_bounds-feed_reading-end : goal.slice_bounds-feed_reading-end
 slice_bounds-feed_reading-end c = omega arith
-
-pub feed_reading-requires : goal.feed_reading-requires
-feed_reading-requires c = tt
 
 pub returns-then-seen-stop : goal.returns-then-seen-stop
 unfolding previous

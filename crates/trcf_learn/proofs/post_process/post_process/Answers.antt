@@ -7,12 +7,6 @@ use mir.ValLaws.{to_z-of_z}
 use Rattle.trcf.proofs.WayLaws.{way_refused, way_held, way_none, way_learnt, room_held, room_learnt}
 use Rattle.trcf_learn.proofs.post_process.post_process.Goals as goal
 
-pub post_process_row-row-requires : goal.post_process_row-row-requires
-post_process_row-row-requires c = tt
-
-pub unlearned-requires : goal.unlearned-requires
-unlearned-requires c = tt
-
 pub returns-then-row-ne0 : goal.returns-then-row-ne0
 returns-then-row-ne0 c =
     let a = c.args in
@@ -21,9 +15,6 @@ returns-then-row-ne0 c =
     way_refused a.head a.statistics.now a.last_shingled_input.now a.last_shingled_point.now a.previous_timestamps.now a.initial_values.now
     a.initial_timestamps.now a.input.now a.timestamp a.has_y a.y.now a.expects a.expected.now a.grade a.relative_index (to_z w32 (of_z w32 a.relative_index))
     a.deviations_out.now a.past_out.now a.expected_out.now u o.result o.ensures.value c.if-row-ne0.true c.unlearned.result c.unlearned.ensures
-
-pub is_waiting-requires : goal.is_waiting-requires
-is_waiting-requires c = tt
 
 pub post_process_waiting-requires : goal.post_process_waiting-requires
 post_process_waiting-requires c =
@@ -57,9 +48,6 @@ returns-then-is_waiting c =
     c.is_waiting.result c.is_waiting.ensures c.if-is_waiting.true w.result _ _ _
     w.ensures.value w.ensures.initial_values_after w.ensures.initial_timestamps_after w.ensures.deviations_out_after
 
-pub unlearned-requires-then-not-has_y : goal.unlearned-requires-then-not-has_y
-unlearned-requires-then-not-has_y c = tt
-
 pub returns-then-not-has_y : goal.returns-then-not-has_y
 returns-then-not-has_y c =
     let a = c.args in
@@ -69,9 +57,6 @@ returns-then-not-has_y c =
     a.input.now a.timestamp a.has_y a.y.now a.expects a.expected.now a.grade a.relative_index (to_z w32 (of_z w32 a.relative_index)) a.deviations_out.now
     a.past_out.now a.expected_out.now u o.result o.ensures.value o.ensures.ready c.if-row-ne0.false c.is_waiting.result
     c.is_waiting.ensures c.if-is_waiting.false (not-true a.has_y c.if-not-has_y.true-raw) c.unlearned-then-not-has_y.result c.unlearned-then-not-has_y.ensures
-
-pub places_back-back-requires : goal.places_back-back-requires
-places_back-back-requires c = tt
 
 pub post_process_learning-requires : goal.post_process_learning-requires
 post_process_learning-requires c =

@@ -83,9 +83,6 @@ pub slice_bounds-write_deviations-end-2 : goal.slice_bounds-write_deviations-end
 slice_bounds-write_deviations-end-2 c =
     let a = c.args in let h = a.head in let q = c.requires in simp length-take (omega (arith, c.update_shingles.auto, q.head_in_bounds))
 
-pub write_deviations-requires : goal.write_deviations-requires
-write_deviations-requires c = tt
-
 pub next_count-count-requires : goal.next_count-count-requires
 next_count-count-requires c =
     c.requires.learnable.count_room
@@ -103,12 +100,6 @@ overflow_add-internal c =
     let h = a.head in
     let q = c.requires in
     omega (arith, q.learnable.internal_room)
-
-pub with_counts-next-requires : goal.with_counts-next-requires
-with_counts-next-requires c = tt
-
-pub likelihood_of-requires : goal.likelihood_of-requires
-likelihood_of-requires c = tt
 
 pub returns : goal.returns
 returns c =

@@ -41,9 +41,6 @@ overflow_add-seen c = omega arith
 pub overflow_add-n : goal.overflow_add-n
 overflow_add-n c = omega arith
 
-pub with_counts-next-requires : goal.with_counts-next-requires
-with_counts-next-requires c = tt
-
 pub returns : goal.returns
 returns c =
     let a = c.args in

@@ -5,9 +5,6 @@ use Rattle.trcf.proofs.RowLaws.{drain_room}
 use Rattle.trcf.proofs.WayLaws.{drain_stays, drain_goes}
 use Rattle.trcf_point.proofs.drain.drain.Goals as goal
 
-pub drain_row-row-requires : goal.drain_row-row-requires
-drain_row-row-requires c = tt
-
 pub returns-then-row-ne0 : goal.returns-then-row-ne0
 returns-then-row-ne0 c =
     let a = c.args in

@@ -14,9 +14,6 @@ use Rattle.trcf.specs.Lists.{last_n, shift_in}
 use borrow.Author.Rules.{scaled_Fits}
 use Rattle.trcf_point.proofs.drain.drain_turn.Goals as goal
 
-pub block_of-b-requires : goal.block_of-b-requires
-block_of-b-requires c = tt
-
 pub offset_bounds-stamps-i : goal.offset_bounds-stamps-i
 offset_bounds-stamps-i c =
     let a = c.args in
@@ -25,9 +22,6 @@ offset_bounds-stamps-i c =
 
 pub bounds-stamps-i : goal.bounds-stamps-i
 bounds-stamps-i c = omega arith
-
-pub last_time-before-requires : goal.last_time-before-requires
-last_time-before-requires c = tt
 
 pub overflow_mul-i : goal.overflow_mul-i
 overflow_mul-i c =
@@ -80,9 +74,6 @@ slice_bounds-write_transform-end c =
     let n = length a.stamps.now in
     let m = length a.values.now in
     block_end a.i n d m at_pre.i_in_bounds (flat_of n d m at_pre.values_len) c.well_formed.1.1.1.1.1.0.1
-
-pub write_transform-requires : goal.write_transform-requires
-write_transform-requires c = tt
 
 pub overflow_mul-i-3 : goal.overflow_mul-i-3
 overflow_mul-i-3 c =
@@ -137,19 +128,10 @@ slice_bounds-shift_vector-end c =
     let m = length a.values.now in
     block_end a.i n d m at_pre.i_in_bounds (flat_of n d m at_pre.values_len) c.well_formed.1.1.1.1.1.0.1
 
-pub shift_vector-requires : goal.shift_vector-requires
-shift_vector-requires c = tt
-
 pub slice_bounds-shift_vector-end-2 : goal.slice_bounds-shift_vector-end-2
 slice_bounds-shift_vector-end-2 c =
     let few = c.requires.bounded.d_few in
     simp length-take (omega (arith, c.write_transform.auto, block_known (c.block_of-b.ensures.value, c.block_of-b.ensures.upper_bound) few))
-
-pub shift_vector-requires-2 : goal.shift_vector-requires-2
-shift_vector-requires-2 c = tt
-
-pub shift_time-requires : goal.shift_time-requires
-shift_time-requires c = tt
 
 pub returns : goal.returns
 unfolding previous

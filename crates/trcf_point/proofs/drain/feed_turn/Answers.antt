@@ -10,9 +10,6 @@ use Rattle.trcf.specs.View.{settings_of}
 use borrow.Author.Rules.{rules}
 use Rattle.trcf_point.proofs.drain.feed_turn.Goals as goal
 
-pub place_before-p-requires : goal.place_before-p-requires
-place_before-p-requires c = tt
-
 pub overflow_add-count : goal.overflow_add-count
 overflow_add-count c = omega arith
 
@@ -134,9 +131,6 @@ offset_bounds-stamps-i c = omega arith
 
 pub bounds-stamps-i : goal.bounds-stamps-i
 bounds-stamps-i c = omega arith
-
-pub feed_reading-requires : goal.feed_reading-requires
-feed_reading-requires c = tt
 
 pub returns : goal.returns
 returns c =

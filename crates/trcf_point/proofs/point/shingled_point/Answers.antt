@@ -26,17 +26,11 @@ based h st xs ps ts vs vt x out o t b e f =
     ∙ ap (λ (n : ℕ). over out (shift_in (take (dimension (settings_of h)) ps) (transformed_after (settings_of h) (take (statistics_length (settings_of h)) st) h.values_seen
     (reading (last_n h.transformer.input_length (take (h.transformer.input_length * h.shingle_size) xs)) n) (reading x t)))) e
 
-pub shingled_point_row-row-requires : goal.shingled_point_row-row-requires
-shingled_point_row-row-requires c = tt
-
 pub returns-then-row-ne0 : goal.returns-then-row-ne0
 returns-then-row-ne0 c =
     let a = c.args in
     let l = lent a.statistics.now a.last_shingled_input.now a.last_shingled_point.now a.previous_timestamps.now a.initial_values.now a.initial_timestamps.now in
     point_stays a.head l a.input.now a.timestamp a.output.now c.shingled_point_row-row.result c.shingled_point_row-row.ensures.value c.if-row-ne0.true
-
-pub is_waiting-requires : goal.is_waiting-requires
-is_waiting-requires c = tt
 
 pub returns-then-is_waiting : goal.returns-then-is_waiting
 returns-then-is_waiting c =
@@ -55,9 +49,6 @@ drain_due-next-requires c =
     let o = c.shingled_point_row-row in
     let z = c.if-row-ne0.false in
     let q = pointing h l a.input.now a.timestamp a.output.now (sym o.ensures.value ∙ z) in record { ready = o.ensures.ready z; initial_timestamps_value = past_room h l (length a.output.now) q.past (sym c.is_waiting.ensures ∙ c.if-is_waiting.false) }
-
-pub time_base-base-requires : goal.time_base-base-requires
-time_base-base-requires c = tt
 
 pub write_point-requires : goal.write_point-requires
 write_point-requires c =

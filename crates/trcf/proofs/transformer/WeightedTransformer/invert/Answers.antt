@@ -5,7 +5,7 @@ use Rattle.trcf.proofs.transformer.WeightedTransformer.invert.Goals as goal
 
 pub returns-in_err-transform_row : goal.returns-in_err-transform_row
 unfolding transformer_invert
-returns-in_err-transform_row c = written_err _ _ _ _ _ c.from_residual.ensures c.in_err-transform_row.ensures.value
+returns-in_err-transform_row c = written_err _ _ _ _ _ c.from_residual.ensures.1 c.in_err-transform_row.ensures.value
 
 pub returns : goal.returns
 unfolding transformer_invert

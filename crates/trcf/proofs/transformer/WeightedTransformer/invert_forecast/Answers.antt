@@ -5,7 +5,7 @@ use Rattle.trcf.proofs.transformer.WeightedTransformer.invert_forecast.Goals as 
 
 pub returns-in_err-forecast_row : goal.returns-in_err-forecast_row
 unfolding transformer_invert_forecast
-returns-in_err-forecast_row c = ranges_err _ _ _ _ _ c.from_residual.ensures c.in_err-forecast_row.ensures.value
+returns-in_err-forecast_row c = ranges_err _ _ _ _ _ c.from_residual.ensures.1 c.in_err-forecast_row.ensures.value
 
 pub returns : goal.returns
 unfolding transformer_invert_forecast

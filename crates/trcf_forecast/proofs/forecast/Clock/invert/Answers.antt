@@ -5,24 +5,9 @@ use Rattle.ranges.specs.RangeVector.{range, shifted}
 use Rattle.trcf.specs.Steps.Inverting.{time_by}
 use Rattle.trcf_forecast.proofs.forecast.invert_time.Goals as goal
 
-pub invert_gap-requires : goal.invert_gap-requires
-invert_gap-requires c = tt
-
 pub returns-then-gap : goal.returns-then-gap
 unfolding time_by
 returns-then-gap c = rw c.if-gap.true c.invert_gap.ensures
-
-pub stretch-requires : goal.stretch-requires
-stretch-requires c = tt
-
-pub stretch-requires-2 : goal.stretch-requires-2
-stretch-requires-2 c = tt
-
-pub stretch-requires-3 : goal.stretch-requires-3
-stretch-requires-3 c = tt
-
-pub shift-requires : goal.shift-requires
-shift-requires c = tt
 
 pub returns : goal.returns
 unfolding time_by
