@@ -3,7 +3,7 @@ ghost use Rattle.std.specs.Prelude.{◌≡◌, ◌+◌, ◌*◌, ◌≤◌, ◌<
 ghost use Rattle.snapshot.specs.Steps.Runs.{ran_by, devs, bufs, initial_lists, unkept, parts, parts_by};
 
 use snapshot::head::BadLine;
-use snapshot::judge::{doubles_line, singles_line};
+use snapshot::judge::list_line;
 use snapshot::kinds::{buf_line, tim_line};
 
 // n `dev` lines, three numbers each.
@@ -16,7 +16,7 @@ fn dev_lines(text: &[u8], at: usize, n: usize, statistics: &mut [f64]) -> Result
     let mut p = at;
     'lines: for i in 0..n {
         let from = i * 3;
-        let Some(q) = doubles_line(text, p, 100, 101, 118, &mut statistics[from..from + 3]) else {
+        let Some(q) = list_line(text, p, 100, 101, 118, &mut statistics[from..from + 3]) else {
             return Err(BadLine { line: i + 1 });
         };
         p = q;
@@ -41,10 +41,10 @@ pub(crate) fn part_lines(
     ensures bad_bound { IfErr result (λ bad. bad.line ≤ n + 3) }
 {
     let p = dev_lines(text, at, n, statistics)?;
-    let Some(q) = singles_line(text, p, 105, 110, 112, input) else {
+    let Some(q) = list_line(text, p, 105, 110, 112, input) else {
         return Err(BadLine { line: n + 1 });
     };
-    let Some(r) = singles_line(text, q, 112, 110, 116, point) else {
+    let Some(r) = list_line(text, q, 112, 110, 116, point) else {
         return Err(BadLine { line: n + 2 });
     };
     let Some(s) = tim_line(text, r, internal, times) else {
