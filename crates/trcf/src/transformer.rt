@@ -332,13 +332,7 @@ fn channels_row(d: usize) -> Result<(), Refusal>
 }
 
 #[tactic(auto, using(refusal::proofs::RefusalLaws::is_numbered), unfolding(crate::specs::TransformerCalls::new_row, common::specs::Deviation::deviation_new))]
-fn new_row(
-    m: TransformMethod,
-    d: usize,
-    decay: f64,
-    w: &[f32],
-    s: usize,
-) -> Result<(), Refusal>
+fn new_row(m: TransformMethod, d: usize, decay: f64, w: &[f32], s: usize) -> Result<(), Refusal>
     ensures value { row_of result ≡ new_row m d decay w.now s }
     ensures d_nonzero { OnOk result ((0 < d) × (d ≤ 16) × (length w.now ≡ d) × (15 * d ≤ s)) }
 {
@@ -631,7 +625,11 @@ impl WeightedTransformer {
         Ok(())
     }
 
-    pub fn difference_deviations(self, statistics: &[f64], output: &mut [f32]) -> Result<(), Refusal>
+    pub fn difference_deviations(
+        self,
+        statistics: &[f64],
+        output: &mut [f32],
+    ) -> Result<(), Refusal>
         ensures { transformer_output (row_of result) output.new ≡ transformer_difference_deviations self statistics.now output.old }
     {
         let d = self.input_length;

@@ -3,9 +3,6 @@ use mathlib.Core.Path.{refl, sym, ◌∙◌}
 use Rattle.trcf.proofs.LengthLaws.{fitting, unfit}
 use Rattle.trcf.proofs.feeding.feed_reading.Goals as goal
 
-pub feed_fits-requires : goal.feed_fits-requires
-feed_fits-requires c = tt
-
 pub feed_fitting-requires : goal.feed_fitting-requires
 feed_fitting-requires c = let f = c.feed_fits.ensures.bounded c.if-feed_fits.true in record { bounded = f.0; s_len = f.1; count_lt_count_limit = f.2; before_len = f.3; input_len = f.4 }
 

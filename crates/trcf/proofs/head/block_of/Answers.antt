@@ -10,12 +10,6 @@ pub returns-then-d-gt-INPUT_LIMIT : goal.returns-then-d-gt-INPUT_LIMIT
 unfolding where_fits within
 returns-then-d-gt-INPUT_LIMIT c = record { value = rw (lt-leb c.args.d 16 c.if-d-gt-INPUT_LIMIT.true); upper_bound = omega arith }
 
-pub is_augmented-requires : goal.is_augmented-requires
-is_augmented-requires c = tt
-
-pub overflow_add-result : goal.overflow_add-result
-overflow_add-result c = omega arith
-
 pub returns-then-is_augmented : goal.returns-then-is_augmented
 unfolding where_fits within
 returns-then-is_augmented c = record { value = rw (le-leb c.args.d 16 c.if-d-gt-INPUT_LIMIT.false, sym c.is_augmented.ensures ∙ c.if-is_augmented.true); upper_bound = omega arith }

@@ -3,9 +3,6 @@ use mathlib.Core.Path.{refl, sym, ◌∙◌}
 use Rattle.trcf.proofs.LengthLaws.{fitting, unfit}
 use Rattle.trcf.proofs.output.write_deviations.Goals as goal
 
-pub output_fits-requires : goal.output_fits-requires
-output_fits-requires c = tt
-
 pub deviations_fitting-requires : goal.deviations_fitting-requires
 deviations_fitting-requires c = let f = c.output_fits.ensures.bounded c.if-output_fits.true in record { bounded = f.0; s_len = f.1; head_in_bounds = f.2 }
 

@@ -3,9 +3,6 @@ use mathlib.Core.Path.{refl, sym, ◌∙◌}
 use Rattle.trcf.proofs.LengthLaws.{fitting, unfit}
 use Rattle.trcf.proofs.output.write_transform.Goals as goal
 
-pub transform_fits-requires : goal.transform_fits-requires
-transform_fits-requires c = tt
-
 pub transform_fitting-requires : goal.transform_fitting-requires
 transform_fitting-requires c = let f = c.transform_fits.ensures.bounded c.if-transform_fits.true in record { bounded = f.0; s_len = f.1; inputs_len = f.2; input_len = f.3; head_in_bounds = f.4 }
 

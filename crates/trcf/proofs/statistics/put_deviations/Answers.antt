@@ -4,27 +4,6 @@ use mathlib.Core.Path.{◌∙◌}
 use Rattle.trcf.specs.Transformer.{put_deviations}
 use Rattle.trcf.proofs.statistics.put_deviations.Goals as goal
 
-pub overflow_add-b : goal.overflow_add-b
-overflow_add-b c = omega arith
-
-pub overflow_mul-w : goal.overflow_mul-w
-overflow_mul-w c = omega arith
-
-pub overflow_add-b-2 : goal.overflow_add-b-2
-overflow_add-b-2 c = omega arith
-
-pub overflow_mul-w-2 : goal.overflow_mul-w-2
-overflow_mul-w-2 c = omega arith
-
-pub overflow_add-b-3 : goal.overflow_add-b-3
-overflow_add-b-3 c = omega arith
-
-pub overflow_mul-w-3 : goal.overflow_mul-w-3
-overflow_mul-w-3 c = omega arith
-
-pub overflow_add-b-4 : goal.overflow_add-b-4
-overflow_add-b-4 c = omega arith
-
 pub shape_of-s : goal.shape_of-s
 shape_of-s c =
     let c8 = c in

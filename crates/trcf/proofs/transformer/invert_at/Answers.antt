@@ -5,12 +5,6 @@ use lib.Seq.{get_or-take}
 use Rattle.trcf.specs.Transformer.{weight_at, basic_shift, normalized_scale}
 use Rattle.trcf.proofs.transformer.invert_at.Goals as goal
 
-pub offset_bounds-t-i : goal.offset_bounds-t-i
-offset_bounds-t-i c = omega arith
-
-pub unweigh-requires : goal.unweigh-requires
-unweigh-requires c = tt
-
 pub returns-in-WEIGHTED : goal.returns-in-WEIGHTED
 unfolding weight_at
 returns-in-WEIGHTED c =

@@ -2,11 +2,5 @@
 use native.Mathlib.Omega.{arith}
 use Rattle.trcf.proofs.transformer.normalized_scale.Goals as goal
 
-pub overflow_mul-d : goal.overflow_mul-d
-overflow_mul-d c = omega arith
-
-pub overflow_add-i : goal.overflow_add-i
-overflow_add-i c = omega arith
-
 pub returns : goal.returns
 returns c = rw (← c.mean_at.ensures) c.to_f32.ensures

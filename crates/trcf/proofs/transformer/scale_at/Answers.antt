@@ -5,12 +5,6 @@ use Rattle.trcf.proofs.TransformerLaws.{weight_at_view}
 use Rattle.trcf.specs.Transformer.{normalized_scale}
 use Rattle.trcf.proofs.transformer.scale_at.Goals as goal
 
-pub offset_bounds-t-i : goal.offset_bounds-t-i
-offset_bounds-t-i c = omega arith
-
-pub is_normalizing-requires : goal.is_normalizing-requires
-is_normalizing-requires c = tt
-
 pub returns-then-is_normalizing : goal.returns-then-is_normalizing
 unfolding normalized_scale
 returns-then-is_normalizing c =
