@@ -1,5 +1,6 @@
 // A quantity with its upper and lower bounds (the source's common/rangevector.rs), at f32 and at f64: three lent lists,
 // and by value what stands at one index of them. A call that is refused leaves the lists as they were.
+// Kept: the three lists stay parameters of each call (d): a struct of lent lists needs the ghost names of its loans in each contract.
 ghost use Rattle.std.specs.Prelude.{◌≡◌, not, ◌&&◌, ◌||◌, cond, [], ◌∷◌, ◌++◌, ◌+◌, ◌≤◌, ◌<◌, ltb, leb, eqb, length, get_or, replicate, OnOk};
 ghost use Rattle.std.specs.Float.{binary32, binary64};
 ghost use Rattle.refusal.specs.Refusal.{first_of, row_of};
@@ -11,6 +12,7 @@ ghost use Rattle.ranges.specs.RangeVector.{unequal_at, unequal, unblocked, short
 use refusal::Refusal;
 
 /// A width of floats, with what a range asks of its numbers.
+// Kept: five methods and not std's operators as bounds (d): of those each width has to prove nine laws in the place of these lines.
 pub trait Width: Copy {
     ghost operations: { Operations Self };
 
@@ -28,10 +30,19 @@ pub trait Width: Copy {
 
     fn is_at_most(self, other: Self) -> bool
         ensures { result ≡ operations.at_most self other };
+
+    // A clone is the number itself, and is always to be had.
+    ghost clone_is: { (x y : Self) → Self.is_clone x y → y ≡ x };
+
+    ghost clones: { (x : Self) → Self.is_infallible x };
 }
 
 impl Width for f32 {
     ghost operations = { operations_of binary32 };
+
+    ghost clone_is = { λ x y e. e };
+
+    ghost clones = { λ x. tt };
 
     fn zero() -> f32 {
         0.0
@@ -56,6 +67,10 @@ impl Width for f32 {
 
 impl Width for f64 {
     ghost operations = { operations_of binary64 };
+
+    ghost clone_is = { λ x y e. e };
+
+    ghost clones = { λ x. tt };
 
     fn zero() -> f64 {
         0.0
@@ -180,6 +195,13 @@ impl<T: Width> Range<T> {
             self.lower.times(scale),
         )
     }
+
+    // Whether lower ≤ value ≤ upper, which no not-a-number meets.
+    fn is_ordered(self) -> bool
+        ensures { result ≡ (T.operations.at_most self.value self.upper && T.operations.at_most self.lower self.value) }
+    {
+        self.value.is_at_most(self.upper) && self.lower.is_at_most(self.value)
+    }
 }
 
 // What stands at index i.
@@ -290,9 +312,7 @@ fn zero_front<T: Width>(list: &mut [T], n: usize)
     requires { n ≤ length list.old }
     ensures { list.new ≡ over list.old (replicate n T.operations.zero_value) }
 {
-    for i in 0..n {
-        list[i] = T::zero();
-    }
+    list[..n].fill(T::zero());
 }
 
 // All of source stands at the front of list.
@@ -335,19 +355,13 @@ pub fn from<T: Width>(
     Ok(())
 }
 
-fn is_ordered<T: Width>(value: T, upper: T, lower: T) -> bool
-    ensures { result ≡ (T.operations.at_most value upper && T.operations.at_most lower value) }
-{
-    value.is_at_most(upper) && lower.is_at_most(value)
-}
-
-// Whether lower ≤ values ≤ upper everywhere, which no not-a-number meets.
+// Whether lower ≤ values ≤ upper everywhere.
 fn are_in_order<T: Width>(values: &[T], upper: &[T], lower: &[T]) -> bool
     requires { (length values.now ≡ length upper.now) × (length values.now ≡ length lower.now) }
     ensures { result ≡ in_order_by T.operations.at_most values.now upper.now lower.now }
 {
     for i in 0..values.len() {
-        if !is_ordered(values[i], upper[i], lower[i]) {
+        if !at(values, upper, lower, i).is_ordered() {
             return false;
         }
     }

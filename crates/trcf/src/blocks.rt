@@ -5,10 +5,10 @@ ghost use Rattle.std.specs.Float.{binary32};
 ghost use Rattle.std.specs.Float.Ieee.{of_int};
 ghost use Rattle.ranges.specs.RangeVector.{ranges};
 ghost use Rattle.trcf.specs.Types.{differences};
-ghost use Rattle.trcf.specs.Steps.Blocks.{plain, places_by, turn_by, drift_place, turn_place, moves, invert_place, Carried};
+ghost use Rattle.trcf.specs.Steps.Blocks.{places_by, turn_by, drift_place, turn_place, moves, invert_place, Carried};
 
 use crate::types::{TransformMethod, is_differencing, is_none, is_normalizing};
-use ranges::rangevector::Range32;
+use ranges::rangevector::Range;
 
 // The nearest f32; the machine's own conversion is exact up to 2^24.
 fn block_number(i: usize) -> f32
@@ -35,10 +35,10 @@ fn chosen(b: bool, x: f32, y: f32) -> f32
 }
 
 // Number by number, so that no branch is left.
-fn chosen_range(b: bool, q: Range32, r: Range32) -> Range32
-    ensures { plain result ≡ cond b (plain q) (plain r) }
+fn chosen_range(b: bool, q: Range<f32>, r: Range<f32>) -> Range<f32>
+    ensures { result ≡ cond b q r }
 {
-    Range32 {
+    Range {
         value: chosen(b, q.value, r.value),
         upper: chosen(b, q.upper, r.upper),
         lower: chosen(b, q.lower, r.lower),
@@ -53,9 +53,9 @@ fn turn(
     scale: f32,
     drift: f32,
     base: f32,
-    r: Range32,
-) -> Range32
-    ensures { plain result ≡ turn_by normalizes moves factor scale drift base (plain r) }
+    r: Range<f32>,
+) -> Range<f32>
+    ensures { result ≡ turn_by normalizes moves factor scale drift base r }
 {
     let a = r.scale(factor);
     let e = chosen_range(normalizes, a.scale(scale), a);
@@ -81,7 +81,7 @@ fn drift_block(
     let at = i * d;
     for j in 0..d {
         let p = at + j;
-        let r = Range32 {
+        let r = Range {
             value: values[p],
             upper: upper[p],
             lower: lower[p],
@@ -120,7 +120,7 @@ fn invert_block(
     for j in 0..d {
         let p = at + j;
         let x = bases[j];
-        let r = Range32 {
+        let r = Range {
             value: values[p],
             upper: upper[p],
             lower: lower[p],

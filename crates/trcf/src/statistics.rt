@@ -5,7 +5,7 @@ ghost use Rattle.common.specs.Deviation.{count_limit, factor_of, step_of};
 ghost use Rattle.trcf.specs.Transformer.{statistic_at, put_statistic, deviations_at, put_deviations, slow_decay, fed, mean_at, fed_at};
 ghost use Rattle.trcf.specs.Steps.Timestamps.{listed, gathered, IsFactor, Feedable};
 
-use common::deviation::{Deviation, DeviationResult};
+use common::deviation::Deviation;
 
 // The five statistics of one channel, or of the time.
 #[derive(Clone, Copy)]
@@ -83,11 +83,7 @@ pub(crate) fn step(t: Deviation, f: f64, x: f64) -> Deviation
     requires factor { IsFactor f t }
     ensures { result ≡ step_of t x }
 {
-    let r = t.update_by(f, x);
-    match r {
-        DeviationResult::Ok(next) => next,
-        DeviationResult::Err(_) => t,
-    }
+    t.update_by(f, x).unwrap_or(t)
 }
 
 // f is the factor of the first two and g that of the others.

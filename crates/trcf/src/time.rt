@@ -24,6 +24,7 @@ pub fn last_time(times: &[u64]) -> u64
 }
 
 // The mean of the fifth, plus 1.
+#[tactic(auto, unfolding(crate::specs::Preprocessor::timescale))]
 pub(crate) fn timescale_fitting(head: Preprocessor, s: &[f64]) -> f64
     requires input_length_bound { head.transformer.input_length ≤ 16 }
     requires input_length_in_bounds { 3 * (5 * head.transformer.input_length + 5) ≤ length s.now }
@@ -33,6 +34,7 @@ pub(crate) fn timescale_fitting(head: Preprocessor, s: &[f64]) -> f64
 }
 
 // The same; 0 where the head or the list does not fit.
+#[tactic(auto, unfolding(crate::specs::Lengths::where_fits))]
 pub fn timescale_of(head: Preprocessor, s: &[f64]) -> f64
     ensures { result ≡ where_fits (time_fits (settings_of head) (length s.now)) (timescale (settings_of head) s.now) zero64 }
 {
@@ -43,6 +45,7 @@ pub fn timescale_of(head: Preprocessor, s: &[f64]) -> f64
     }
 }
 
+#[tactic(auto, unfolding(crate::specs::Preprocessor::timedrift))]
 pub(crate) fn timedrift_fitting(head: Preprocessor, s: &[f64]) -> f64
     requires input_length_bound { head.transformer.input_length ≤ 16 }
     requires input_length_in_bounds { 3 * (5 * head.transformer.input_length + 5) ≤ length s.now }
@@ -52,6 +55,7 @@ pub(crate) fn timedrift_fitting(head: Preprocessor, s: &[f64]) -> f64
 }
 
 // The same; 0 where the head or the list does not fit.
+#[tactic(auto, unfolding(crate::specs::Lengths::where_fits))]
 pub fn timedrift_of(head: Preprocessor, s: &[f64]) -> f64
     ensures { result ≡ where_fits (time_fits (settings_of head) (length s.now)) (timedrift (settings_of head) s.now) zero64 }
 {
@@ -98,6 +102,7 @@ pub fn newest_of(head: Preprocessor, previous_timestamps: &[u64], initial_timest
 }
 
 // The time that the element of a point and of a transform is counted from.
+#[tactic(auto, unfolding(crate::specs::View::time_base_of))]
 pub fn time_base(head: Preprocessor, previous_timestamps: &[u64], initial_timestamps: &[u64]) -> u64
     ensures { result ≡ time_base_of head previous_timestamps.now initial_timestamps.now }
 {
@@ -114,6 +119,7 @@ pub(crate) fn previous_time(head: Preprocessor, base: u64, timestamp: u64) -> u6
     if head.values_seen == 0 { timestamp } else { base }
 }
 
+#[tactic(auto, unfolding(crate::specs::Preprocessor::time_element))]
 pub(crate) fn time_element(head: Preprocessor, s: &[f64], timestamp: u64, previous: u64) -> f32
     requires input_length_bound { head.transformer.input_length ≤ 16 }
     requires input_length_in_bounds { 3 * (5 * head.transformer.input_length + 5) ≤ length s.now }

@@ -1,5 +1,5 @@
 // The transform of a reading, channel by channel (the source's trcf/transformer.rs). The statistics lie in a lent list, three numbers each.
-ghost use Rattle.std.specs.Prelude.{◌≡◌, false, cond, not, ◌&&◌, [], ◌∷◌, ◌+◌, ◌*◌, ◌≤◌, ◌<◌, length, get_or, replicate, OnOk};
+ghost use Rattle.std.specs.Prelude.{◌≡◌, false, cond, not, ◌&&◌, [], ◌∷◌, ◌+◌, ◌*◌, ◌≤◌, ◌<◌, length, eqb, ltb, get_or, replicate, OnOk};
 ghost use Rattle.std.specs.Float.{nan, binary32, binary64};
 ghost use Rattle.std.specs.Float.Ieee.{add, mul};
 ghost use Rattle.numeric.specs.Narrow.{narrowed};
@@ -22,7 +22,7 @@ use crate::statistics::mean_at;
 use crate::types::{
     INPUT_LIMIT, TransformMethod, is_centring, is_differencing, is_none, is_normalizing,
 };
-use common::deviation::{COUNT_LIMIT, Deviation, DeviationResult, next_factor};
+use common::deviation::{COUNT_LIMIT, Deviation, next_factor};
 use refusal::Refusal;
 
 // The settings of a transform and how many readings the statistics were fed; the first `input_length` weights count.
@@ -93,6 +93,7 @@ fn transform_at(t: WeightedTransformer, w: f32, s: &[f64], i: usize, x: f32, p: 
     }
 }
 
+#[tactic(auto, using(crate::proofs::TransformerLaws::weight_at_view))]
 pub(crate) fn transform_into(
     t: WeightedTransformer,
     s: &[f64],
@@ -302,16 +303,6 @@ fn forecast_fitting(
     }
 }
 
-// Row 6 as the source has it: what makes a statistic with this discount refuses it.
-fn decay_row(decay: f64) -> Result<(), Refusal>
-    ensures { row_of result ≡ first_of ((outside_unit decay, 6) ∷ []) }
-{
-    match Deviation::new(decay) {
-        DeviationResult::Ok(_) => Ok(()),
-        DeviationResult::Err(_) => Err(Refusal::Decay),
-    }
-}
-
 // Whether every weight is 1.0.
 pub fn all_one(w: &[f32]) -> bool
     ensures { result ≡ all_one w.now }
@@ -340,6 +331,7 @@ fn channels_row(d: usize) -> Result<(), Refusal>
     Ok(())
 }
 
+#[tactic(auto, using(refusal::proofs::RefusalLaws::is_numbered), unfolding(crate::specs::TransformerCalls::new_row, common::specs::Deviation::deviation_new))]
 fn new_row(
     m: TransformMethod,
     d: usize,
@@ -354,7 +346,8 @@ fn new_row(
     if w.len() != d {
         return Err(Refusal::WeightsOrCodes);
     }
-    decay_row(decay)?;
+    // row 6 as the source has it: what makes a statistic with this discount refuses it
+    Deviation::new(decay)?;
     if weights_refused(m, w) {
         return Err(Refusal::WeightWithoutMethod);
     }
@@ -364,6 +357,7 @@ fn new_row(
     Ok(())
 }
 
+#[tactic(auto, using(refusal::proofs::RefusalLaws::is_numbered), unfolding(crate::specs::TransformerCalls::update_row, crate::specs::TransformerCalls::not_long))]
 fn update_row(d: usize, x: usize, p: usize, count: u64, s: usize) -> Result<(), Refusal>
     ensures value { row_of result ≡ update_row d x p count s }
     ensures d_nonzero { OnOk result ((0 < d) × (d ≤ 16) × (x ≡ d) × (p ≡ d) × (count < count_limit) × (15 * d ≤ s)) }
@@ -381,6 +375,7 @@ fn update_row(d: usize, x: usize, p: usize, count: u64, s: usize) -> Result<(), 
     Ok(())
 }
 
+#[tactic(auto, using(refusal::proofs::RefusalLaws::is_numbered), unfolding(crate::specs::TransformerCalls::transform_row, crate::specs::TransformerCalls::not_long))]
 fn transform_row(d: usize, x: usize, p: usize, s: usize, o: usize) -> Result<(), Refusal>
     ensures value { row_of result ≡ transform_row d x p s o }
     ensures d_nonzero { OnOk result ((0 < d) × (d ≤ 16) × (x ≡ d) × (p ≡ d) × (15 * d ≤ s) × (d ≤ o)) }
@@ -395,6 +390,7 @@ fn transform_row(d: usize, x: usize, p: usize, s: usize, o: usize) -> Result<(),
     Ok(())
 }
 
+#[tactic(auto, using(refusal::proofs::RefusalLaws::is_numbered), unfolding(crate::specs::TransformerCalls::output_row))]
 fn output_row(d: usize, s: usize, o: usize) -> Result<(), Refusal>
     ensures value { row_of result ≡ output_row d s o }
     ensures d_nonzero { OnOk result ((0 < d) × (d ≤ 16) × (15 * d ≤ s) × (d ≤ o)) }
@@ -407,6 +403,7 @@ fn output_row(d: usize, s: usize, o: usize) -> Result<(), Refusal>
 }
 
 // Row 16 of the cascade: no block, or a broken one.
+#[tactic(auto, unfolding(ranges::specs::RangeVector::unblocked))]
 fn blocks_refused(m: TransformMethod, d: usize, n: usize) -> bool
     requires { 0 < d }
     ensures { result ≡ (differences m && unblocked d n) }
@@ -414,6 +411,7 @@ fn blocks_refused(m: TransformMethod, d: usize, n: usize) -> bool
     is_differencing(m) && (n == 0 || n % d != 0)
 }
 
+#[tactic(auto, using(refusal::proofs::RefusalLaws::is_numbered), unfolding(crate::specs::TransformerCalls::forecast_row))]
 fn forecast_row(
     m: TransformMethod,
     d: usize,
@@ -449,6 +447,7 @@ pub fn padded<T: Copy>(values: &[T], empty: T) -> [T; 16]
 }
 
 // The same as the worker; where a row refuses, nothing changes.
+#[tactic(auto, unfolding(crate::specs::Lengths::where_fits, crate::specs::Lengths::passes))]
 pub fn invert_into(
     t: WeightedTransformer,
     s: &[f64],
@@ -465,6 +464,7 @@ pub fn invert_into(
 }
 
 // The same as the worker; where a row refuses, nothing changes.
+#[tactic(auto, unfolding(crate::specs::Lengths::where_fits, crate::specs::Lengths::passes))]
 pub fn invert_forecast_in_place(
     t: WeightedTransformer,
     s: &[f64],

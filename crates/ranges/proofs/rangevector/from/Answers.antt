@@ -1,0 +1,14 @@
+-- `rangevector::from` meets its contract. Refused by its row, or written to the front of each list. Assumes nothing.
+use mathlib.Core.Path.{refl}
+use Rattle.ranges.specs.RangeVector.{range_from, shorter}
+use Rattle.ranges.proofs.RangeSteps.{refused_by, done, all_three}
+use Rattle.ranges.proofs.rangevector.from.Goals as goal
+
+pub returns-in_err-check_room : goal.returns-in_err-check_room
+unfolding range_from shorter
+returns-in_err-check_room g c = refused_by _ _ _ _ _ c.from_residual.ensures.1 c.in_err-check_room.ensures.value
+
+pub returns : goal.returns
+unfolding range_from shorter
+returns g c =
+    done _ _ _ _ _ c.in_ok-check_room.ensures.value refl (all_three c.copy_front.ensures c.copy_front-2.ensures c.copy_front-3.ensures)
