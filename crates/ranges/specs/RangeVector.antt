@@ -169,7 +169,7 @@ unfoldable pub range_cascaded_add : Format → List Float → Ranges → RangeOu
 range_cascaded_add f = range_cascaded_add_by (operations_of f)
 
 unfoldable pub range_new : Format → ℕ → Ranges → RangeOutcome
-range_new f = range_new_by (of_bits f 0)
+range_new f = range_new_by (operations_of f).zero_value
 
 unfoldable pub in_order : List Float → List Float → List Float → Bool
 in_order = in_order_by le
