@@ -3,7 +3,7 @@
 use Rattle.std.proofs.Common.{◌≡◌, ℕ, zero, suc, ◌+◌, ◌-◌, ◌*◌, ◌/◌, ◌%◌, ◌^◌, ◌<◌, ◌≤◌, Bool, true, false, ◌&&◌, T, eqb, ltb, leb, ◌⊎◌, ℤ, pos, negsuc, sym, refl, ap, ◌∙◌, subst, inl, inr, true≢false, le_trans, le_of_eq, lt_of_lt_of_le, le_of_suc-le-suc, lt_of_le_of_lt, lt_irrefl, zero-lt-suc, mul_assoc, mul-pos, zero-mul, mul_right_comm, arith, eqb→eq, lt→ltb, pow_pos, pow-add}
 use native.Mathlib.Nat.{eq_of_mul-eq-mul_right}
 use lib.Count.{count_trailing_zeros}
-use lib.Ieee.{Float, nan, inf, fin, binary64, low, up, down, span, climb, size, fits}
+use lib.Ieee.{Float, nan, inf, fin, binary64, up, down, span, climb, size, fits}
 use lib.Ieee.Exact.{HasValue}
 use lib.Ieee.Fits.{down_pos, and_l, round-fits}
 use lib.Ieee.Nearest.{closest}

@@ -6,7 +6,7 @@ use mathlib.Core.Bool.{beq, false≢true}
 use lib.Dec.{nleb→lt}
 use lib.Arith.{lt→nleb, le→nltb}
 use lib.Count.{count_leading_zeros, leading_top}
-use lib.Ieee.{Float, nan, inf, fin, binary64, low, up, down, size, odd, is_nan, fits, hid, ones, top, div, lt, eq, of_fields, of_bits, nan_bits, to_bits}
+use lib.Ieee.{Float, nan, inf, fin, binary64, up, down, size, odd, is_nan, fits, hid, ones, top, lt, eq, of_fields, of_bits, nan_bits, to_bits}
 use lib.Ieee.Bits.{is_false, nan_bits_is, nan_bits_above, to_bits-of_bits}
 use lib.Ieee.Fits.{down_pos, up_pos}
 use lib.Ieee.Exact.{HasValue}
@@ -372,21 +372,18 @@ positive_below (fin false zero e) y h k =
     absurd (lt_irrefl 0 (subst (λ (b : ℕ). 0 < b) (ap (λ (a : ℕ). a * 1) (zero-mul (up e))) (lt_of_le_of_lt zero-le (ltb→lt (0 * 1 * down e) (0 * up e * 1) (subst T (sym h) tt)))))
 positive_below (fin false (suc m) e) y h k = lt→ltb 0 (suc m) (zero-lt-suc m)
 
-pub positive_by : (x : Float) → lt (of_bits binary64 0) x ≡ true → lt x (div binary64 (of_bits binary64 0x3ff0_0000_0000_0000) (of_bits binary64 0)) ≡ true → T (positive x)
-positive_by x h k = positive_below x (div binary64 (of_bits binary64 0x3ff0_0000_0000_0000) (of_bits binary64 0)) h k
-
-infinite : (x : Float) → lt (of_bits binary64 0) x ≡ true → lt x (div binary64 (of_bits binary64 0x3ff0_0000_0000_0000) (of_bits binary64 0)) ≡ false → x ≡ inf false
-unfolding lt of_bits div
+infinite : (x : Float) → lt (of_bits binary64 0) x ≡ true → lt x (of_bits binary64 0x7ff0_0000_0000_0000) ≡ false → x ≡ inf false
+unfolding lt of_bits
 infinite nan h k = absurd (false≢true h)
 infinite (inf true) h k = absurd (false≢true h)
 infinite (inf false) h k = refl
 infinite (fin s m e) h k = absurd (true≢false k)
 
-pub root_infinite : (x : Float) → lt (of_bits binary64 0) x ≡ true → lt x (div binary64 (of_bits binary64 0x3ff0_0000_0000_0000) (of_bits binary64 0)) ≡ false → x ≡ root_of x
+pub root_infinite : (x : Float) → lt (of_bits binary64 0) x ≡ true → lt x (of_bits binary64 0x7ff0_0000_0000_0000) ≡ false → x ≡ root_of x
 unfolding root_of
 root_infinite x h k = let e = infinite x h k in e ∙ sym (ap root_of e)
 
-pub digits_infinite : (x : Float) → lt (of_bits binary64 0) x ≡ true → lt x (div binary64 (of_bits binary64 0x3ff0_0000_0000_0000) (of_bits binary64 0)) ≡ false → 0 ≡ digits_of x
+pub digits_infinite : (x : Float) → lt (of_bits binary64 0) x ≡ true → lt x (of_bits binary64 0x7ff0_0000_0000_0000) ≡ false → 0 ≡ digits_of x
 unfolding digits_of
 digits_infinite x h k = sym (ap digits_of (infinite x h k))
 

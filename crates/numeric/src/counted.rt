@@ -25,21 +25,17 @@ fn tried(n: u64, a: u64) -> u64
 fn digits(x: f64) -> u64
     ensures { result ≡ digits_of x }
 {
-    if x > 0.0 {
-        if x < 1.0 / 0.0 {
-            let s = scale(x);
-            let upper = f64::to_bits(nearest_root(x)) % 0x10_0000_0000_0000 / 0x400_0000;
-            tried(s.m * (1 + s.e % 2), upper + 0x400_0000)
-        } else {
-            0
-        }
+    if x > 0.0 && x < f64::INFINITY {
+        let s = scale(x);
+        let upper = f64::to_bits(nearest_root(x)) % 0x10_0000_0000_0000 / 0x400_0000;
+        tried(s.radicand(), upper + 0x400_0000)
     } else {
         0
     }
 }
 
 // A root, and how many of its binary digits are tried.
-#[derive(Clone, Copy)]
+#[derive(Clone, Copy, Debug, PartialEq)]
 pub struct SquareRoot {
     pub root: f64,
     pub digits: u64,
@@ -50,10 +46,8 @@ pub fn sqrt(x: f64) -> SquareRoot
     ensures root_value { result.root ≡ root_of x }
     ensures digits_value { result.digits ≡ digits_of x }
 {
-    let root = nearest_root(x);
-    let count = digits(x);
     SquareRoot {
-        root: root,
-        digits: count,
+        root: nearest_root(x),
+        digits: digits(x),
     }
 }

@@ -11,9 +11,7 @@ pub fn sqrt_each(x: &mut [f64])
 {
     let mut c = [0.0f64; 32];
     near_each(x, &mut c);
-    let mut i = 0;
-    while i < x.len() {
+    for i in 0..x.len() {
         x[i] = root_near(x[i], c[i % 32]);
-        i += 1;
     }
 }

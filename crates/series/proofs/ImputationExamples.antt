@@ -1,17 +1,16 @@
 -- Worked examples of the filler by computation, and an instance of each of its theorems. Assumes nothing.
-use Prim.Native.Nat.{ℕ, zero, suc, ◌≤◌, ◌<◌}
-use mathlib.Core.Bool.{Bool, true, false}
+use Prim.Native.Nat.{ℕ, zero, suc, ◌<◌}
+use mathlib.Core.Bool.{true, false}
 use mathlib.Core.List.{List, [], ◌∷◌}
 use mathlib.Core.Path.{◌≡◌, refl}
 use native.Mathlib.Omega.{arith}
-use lib.IntN.{pos, negsuc}
+use lib.IntN.{pos}
 use lib.ListN.{length, get_or, replicate}
-use lib.Ieee.{Float, nan, inf, fin, binary32, add, sub, mul, div, of_int, of_bits}
-use Rattle.series.specs.declared.imputation.ImputationMethod.{ImputationMethod}
+use lib.Ieee.{Float, nan, inf, binary32, add, sub, mul, div, of_int, of_bits}
 use Rattle.series.specs.declared.imputation.ImputationMethod.TheVariants.{FIXED, PREVIOUS, NEXT, LINEAR}
 use Rattle.series.specs.Imputation.{is_present, interpolated, missing_of, imputed_at, by_place, imputed}
 use Rattle.series.specs.Imputation.{cells_misshapen, known_marks, finite_present, all_finite, impute_row, Imputation, imputation, impute_of, Origin, Agree}
-use Rattle.series.proofs.ImputationTheorems.{present_kept, missing_unread, accepted, origin}
+use Rattle.series.proofs.ImputationTheorems.{present_kept, missing_unread, origin}
 
 -- opens what a call computes by
 all : Unit {0}

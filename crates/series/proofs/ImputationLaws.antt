@@ -3,40 +3,33 @@ use Prim.Native.Nat.{ℕ, zero, suc, ◌+◌, ◌-◌, ◌*◌, ◌/◌, ◌%◌
 use mathlib.Core.Bool.{Bool, true, false, cond}
 use mathlib.Core.List.{List}
 use mathlib.Core.Path.{◌≡◌, refl, sym, ap, ◌∙◌, subst}
-use mathlib.Core.Logic.{⊎_elim}
 use native.Mathlib.Numerals.{add-one}
 use native.Mathlib.Omega.{arith}
 use native.Mathlib.Nat.{mod-lt, div-lt_iff_lt-mul}
-use borrow.Author.Tests.{eqb-true, eqb-false, ltb-true, ltb-false, leb-true, leb-false, eq-eqb, ne_eqb, lt-ltb, le-ltb}
+use borrow.Author.Tests.{eqb-true, eqb-false, ltb-true, ltb-false, leb-true, leb-false, lt-ltb, le-ltb}
 use lib.Dec.{ltb, leb, eqb}
 use lib.ListN.{length, get_or, set, length-set, get_or-eq_default}
 use lib.Seq.{get_or-set_same, get_or-set_other}
 use lib.Ieee.{Float, nan}
 use Rattle.series.specs.declared.imputation.ImputationMethod.{ImputationMethod}
-use Rattle.series.specs.declared.imputation.Nearest.{Nearest}
-use Rattle.series.specs.declared.imputation.Nearest.TheVariants.{At, Nowhere}
+use Rattle.std.specs.Prelude.{Option, Some, None}
+use Rattle.series.specs.declared.imputation.Present.{Present}
 use Rattle.series.specs.declared.imputation.Channel.{Channel}
 use Rattle.series.specs.declared.imputation.Gap.{Gap}
-use Rattle.series.specs.Imputation.{is_present, nearest_before, nearest_from, fill_of, present_in, cell_in, missing_of, imputed_at, by_place, imputed}
+use Rattle.series.specs.Imputation.{is_present, present_at, nearest_before, nearest_from, fill_of, present_in, cell_in, missing_of, imputed_at, by_place, imputed}
 use Rattle.series.specs.Steps.ImputationSteps.{Under, Above, inside, gap_at, gap_of, gap_from, Passed, passing, passed_of, channel, done_at, channel_of, below_at}
 use Rattle.series.proofs.ImputationLists.{cond_same, cond_on, cond_off, length_by_place, get_d_by_place, is_by_place}
-use Rattle.series.proofs.ImputationLists.{place_channel, place_reading, place_below, place_of, inside_yes, inside_off, inside_low, inside_high}
+use Rattle.series.proofs.ImputationLists.{place_channel, place_reading, place_of, inside_yes, inside_off, inside_low, inside_high}
 
 -- ---- before and after
 
-pub under_at : {n : Nearest} {r : ℕ} {x : Float} (i : ℕ) (e : n ≡ At r x) → Under n i → r ≤ i
-under_at i e h = rw e at h
+pub under_more : (n : Option Present) (i j : ℕ) → Under n i → i ≤ j → Under n j
+under_more (Some p) i j h k = omega arith
+under_more None i j h k = tt
 
-pub above_at : {n : Nearest} {r : ℕ} {x : Float} (i : ℕ) (e : n ≡ At r x) → Above n i → i ≤ r
-above_at i e h = rw e at h
-
-pub under_more : (n : Nearest) (i j : ℕ) → Under n i → i ≤ j → Under n j
-under_more (At r x) i j h k = omega arith
-under_more Nowhere i j h k = tt
-
-pub above_less : (n : Nearest) (i j : ℕ) → Above n j → i ≤ j → Above n i
-above_less (At r x) i j h k = omega arith
-above_less Nowhere i j h k = tt
+pub above_less : (n : Option Present) (i j : ℕ) → Above n j → i ≤ j → Above n i
+above_less (Some p) i j h k = omega arith
+above_less None i j h k = tt
 
 -- ---- a turn of the loop over a gap
 
@@ -71,7 +64,7 @@ inside_none d c s k = by (ltb (k / d) s) refl
     by true t = inside_low d c s s k (ltb-true (k / d) s t)
     by false t = inside_high d c s s k (ltb-false (k / d) s t)
 
-module _ (ch : Channel) (gap : Gap) (end : ℕ) (after : Nearest) (k : ℕ) (x : Float) where
+module _ (ch : Channel) (gap : Gap) (end : ℕ) (after : Option Present) (k : ℕ) (x : Float) where
   gap_in : inside ch.d ch.c gap.start end k ≡ true → gap_at ch gap end after k x ≡ fill_of ch.method gap.before after (k / ch.d) ch.fixed
   unfolding gap_at
   gap_in e = cond_on (fill_of ch.method gap.before after (k / ch.d) ch.fixed) x (inside ch.d ch.c gap.start end k) e
@@ -81,19 +74,19 @@ module _ (ch : Channel) (gap : Gap) (end : ℕ) (after : Nearest) (k : ℕ) (x :
   gap_out e = cond_off (fill_of ch.method gap.before after (k / ch.d) ch.fixed) x (inside ch.d ch.c gap.start end k) e
 
 -- reading j changes nothing at any other place
-gap_same : (ch : Channel) (gap : Gap) (j : ℕ) (after : Nearest) (k : ℕ) (x : Float) → (k ≡ j * ch.d + ch.c → ⊥)
+gap_same : (ch : Channel) (gap : Gap) (j : ℕ) (after : Option Present) (k : ℕ) (x : Float) → (k ≡ j * ch.d + ch.c → ⊥)
     → gap_at ch gap j after k x ≡ gap_at ch gap (j + 1) after k x
 unfolding gap_at
 gap_same ch gap j after k x h =
     ap (λ (b : Bool). cond b (fill_of ch.method gap.before after (k / ch.d) ch.fixed) x)
     (sym (inside_more ch.d ch.c gap.start j k h))
 
-pub gap_start : (ch : Channel) (gap : Gap) (after : Nearest) (l : List Float) → l ≡ gap_of ch gap gap.start after l
+pub gap_start : (ch : Channel) (gap : Gap) (after : Option Present) (l : List Float) → l ≡ gap_of ch gap gap.start after l
 gap_start ch gap after l =
     is_by_place (gap_at ch gap gap.start after) l l refl
     (λ (k : ℕ) (h : k < length l). sym (gap_out ch gap gap.start after k (get_or l k nan) (inside_none ch.d ch.c gap.start k)))
 
-pub gap_more : (ch : Channel) (gap : Gap) (j : ℕ) (after : Nearest) (l m : List Float) (y : Float)
+pub gap_more : (ch : Channel) (gap : Gap) (j : ℕ) (after : Option Present) (l m : List Float) (y : Float)
     → ch.c < ch.d → gap.start ≤ j → j * ch.d + ch.c < length l → y ≡ fill_of ch.method gap.before after j ch.fixed
     → m ≡ gap_of ch gap j after l → set m (j * ch.d + ch.c) y ≡ gap_of ch gap (j + 1) after l
 gap_more ch gap j after l m y hc hs hp ey em =
@@ -131,7 +124,7 @@ pub nearest_before_under : (p : ℕ → Bool) (v : ℕ → Float) (i : ℕ) → 
 nearest_before_under p v zero = tt
 nearest_before_under p v (suc i) = by (p i) (nearest_before_under p v i)
   where
-    by : (b : Bool) → Under (nearest_before p v i) i → Under (cond b (At i (v i)) (nearest_before p v i)) (suc i)
+    by : (b : Bool) → Under (nearest_before p v i) i → Under (cond b (present_at i (v i)) (nearest_before p v i)) (suc i)
     by true h = omega arith
     by false h = under_more (nearest_before p v i) i (suc i) h (omega arith)
 
@@ -144,7 +137,7 @@ nearest_before_gap p v s (suc r) h g =
     by : (b : Bool) → leb s r ≡ b → (s ≤ r → nearest_before p v r ≡ nearest_before p v s) → nearest_before p v (suc r) ≡ nearest_before p v s
     by true t rest =
         let k : s ≤ r = leb-true s r t in
-        cond_off (At r (v r)) (nearest_before p v r) (p r) (g r k (omega arith)) ∙ rest k
+        cond_off (present_at r (v r)) (nearest_before p v r) (p r) (g r k (omega arith)) ∙ rest k
     by false t rest =
         let k : r < s = leb-false s r t in
         let e : s ≡ suc r = omega arith in
@@ -160,19 +153,19 @@ nearest_from_gap p v zero n m j i a b g =
 nearest_from_gap p v (suc f) n m j i a b g =
     let a' : n ≡ suc (f + m) = omega arith in
     ap (λ (z : ℕ). nearest_from p v z j) a'
-    ∙ cond_off (At j (v j)) (nearest_from p v (f + m) (suc j)) (p j) (g j (omega arith) (omega arith))
+    ∙ cond_off (present_at j (v j)) (nearest_from p v (f + m) (suc j)) (p j) (g j (omega arith) (omega arith))
     ∙ nearest_from_gap p v f (f + m) m (suc j) i refl (omega arith) (λ (q : ℕ) (x : suc j ≤ q) (y : q < i). g q (omega arith) y)
 
 -- only present cells are looked at
 nearest_before_same : (p : ℕ → Bool) (v w : ℕ → Float) → ((r : ℕ) → p r ≡ true → v r ≡ w r) → (i : ℕ) → nearest_before p v i ≡ nearest_before p w i
 nearest_before_same p v w h zero = refl
 nearest_before_same p v w h (suc i) =
-    cond_same (p i) (λ (t : p i ≡ true). ap (At i) (h i t)) (λ (t : p i ≡ false). nearest_before_same p v w h i)
+    cond_same (p i) (λ (t : p i ≡ true). ap (present_at i) (h i t)) (λ (t : p i ≡ false). nearest_before_same p v w h i)
 
 nearest_from_same : (p : ℕ → Bool) (v w : ℕ → Float) → ((r : ℕ) → p r ≡ true → v r ≡ w r) → (m i : ℕ) → nearest_from p v m i ≡ nearest_from p w m i
 nearest_from_same p v w h zero i = refl
 nearest_from_same p v w h (suc m) i =
-    cond_same (p i) (λ (t : p i ≡ true). ap (At i) (h i t)) (λ (t : p i ≡ false). nearest_from_same p v w h m (suc i))
+    cond_same (p i) (λ (t : p i ≡ true). ap (present_at i) (h i t)) (λ (t : p i ≡ false). nearest_from_same p v w h m (suc i))
 
 pub missing_same : (m : ImputationMethod) (d : ℕ) (l k : List Float) (marks : List ℕ) (f : Float) (c i : ℕ) → length l ≡ length k
     → ((r : ℕ) → present_in d marks c r ≡ true → cell_in d l c r ≡ cell_in d k c r)
@@ -219,7 +212,7 @@ done_same ch marks l i k x h =
     (sym (inside_more ch.d ch.c 0 i k h))
 
 -- before a gap of no readings nothing is done
-pub walked_start : (ch : Channel) (marks : List ℕ) (l : List Float) → Walked ch marks l 0 (gap_from 0 Nowhere) l
+pub walked_start : (ch : Channel) (marks : List ℕ) (l : List Float) → Walked ch marks l 0 (gap_from 0 None) l
 walked_start ch marks l =
     record {
       start = omega arith;
@@ -230,7 +223,7 @@ walked_start ch marks l =
     }
 
 -- what fills a reading of the gap is what its definition says
-gap_value : (ch : Channel) (marks : List ℕ) (l : List Float) (i : ℕ) (gap : Gap) (now : List Float) (after : Nearest) (r : ℕ)
+gap_value : (ch : Channel) (marks : List ℕ) (l : List Float) (i : ℕ) (gap : Gap) (now : List Float) (after : Option Present) (r : ℕ)
     → Walked ch marks l i gap now → i ≤ length l / ch.d
     → after ≡ nearest_from (present_in ch.d marks ch.c) (cell_in ch.d l ch.c) (length l / ch.d - i) i
     → gap.start ≤ r → r < i
@@ -249,7 +242,7 @@ gap_value ch marks l i gap now after r W hi ea low high =
 
 module _ (ch : Channel) (marks : List ℕ) (l : List Float) (hc : ch.c < ch.d) where
   -- a gap whose end is known is filled, and the channel is done up to there
-  closed : (i : ℕ) (gap : Gap) (now : List Float) (after : Nearest) → Walked ch marks l i gap now → i ≤ length l / ch.d
+  closed : (i : ℕ) (gap : Gap) (now : List Float) (after : Option Present) → Walked ch marks l i gap now → i ≤ length l / ch.d
       → after ≡ nearest_from (present_in ch.d marks ch.c) (cell_in ch.d l ch.c) (length l / ch.d - i) i
       → gap_of ch gap i after now ≡ by_place (done_at ch marks l i) l
   closed i gap now after W hi ea =
@@ -343,20 +336,20 @@ module _ (ch : Channel) (marks : List ℕ) (l : List Float) (hc : ch.c < ch.d) w
 
   present_next : (i : ℕ) (gap : Gap) (now : List Float) → Walked ch marks l i gap now → i < length l / ch.d → i * ch.d + ch.c < length l
       → present_in ch.d marks ch.c i ≡ true
-      → Walked ch marks l (i + 1) (gap_from (i + 1) (At i (get_or now (i * ch.d + ch.c) nan))) (gap_of ch gap i (At i (get_or now (i * ch.d + ch.c) nan)) now)
+      → Walked ch marks l (i + 1) (gap_from (i + 1) (present_at i (get_or now (i * ch.d + ch.c) nan))) (gap_of ch gap i (present_at i (get_or now (i * ch.d + ch.c) nan)) now)
   present_next i gap now W hi hp e =
       let p = present_in ch.d marks ch.c in
       let v = cell_in ch.d l ch.c in
       let x = still i gap now W hp in
       let n : length l / ch.d - i ≡ suc (length l / ch.d - suc i) = omega arith in
-      let after : At i (get_or now (i * ch.d + ch.c) nan) ≡ nearest_from p v (length l / ch.d - i) i =
-      ap (At i) x
-      ∙ sym (ap (λ (z : ℕ). nearest_from p v z i) n ∙ cond_on (At i (v i)) (nearest_from p v (length l / ch.d - suc i) (suc i)) (p i) e) in
+      let after : present_at i (get_or now (i * ch.d + ch.c) nan) ≡ nearest_from p v (length l / ch.d - i) i =
+      ap (present_at i) x
+      ∙ sym (ap (λ (z : ℕ). nearest_from p v z i) n ∙ cond_on (present_at i (v i)) (nearest_from p v (length l / ch.d - suc i) (suc i)) (p i) e) in
       record {
         start = omega arith;
         missing = λ (r : ℕ) (a : i + 1 ≤ r) (b : r < i + 1). absurd (omega arith);
-        before = ap (At i) x ∙ sym (ap (nearest_before p v) (add-one i) ∙ cond_on (At i (v i)) (nearest_before p v i) (p i) e);
-        cells = closed i gap now (At i (get_or now (i * ch.d + ch.c) nan)) W (omega arith) after ∙ done_more i e;
+        before = ap (present_at i) x ∙ sym (ap (nearest_before p v) (add-one i) ∙ cond_on (present_at i (v i)) (nearest_before p v i) (p i) e);
+        cells = closed i gap now (present_at i (get_or now (i * ch.d + ch.c) nan)) W (omega arith) after ∙ done_more i e;
       }
 
   missing_next : (i : ℕ) (gap : Gap) (now : List Float) → Walked ch marks l i gap now → present_in ch.d marks ch.c i ≡ false
@@ -385,31 +378,31 @@ module _ (ch : Channel) (marks : List ℕ) (l : List Float) (hc : ch.c < ch.d) w
     where
       by : (b : Bool) → present_in ch.d marks ch.c i ≡ b → Walked ch marks l (i + 1) gap' now'
       by true t =
-          let x = At i (get_or now (i * ch.d + ch.c) nan) in
+          let x = present_at i (get_or now (i * ch.d + ch.c) nan) in
           let q : passing gap' now' ≡ passing (gap_from (i + 1) x) (gap_of ch gap i x now) =
           e ∙ cond_on (passing (gap_from (i + 1) x) (gap_of ch gap i x now)) (passing gap now) (present_in ch.d marks ch.c i) t in
           subst (λ (z : Passed). Walked ch marks l (i + 1) z.gap z.cells) (sym q) (present_next i gap now W hi hp t)
       by false t =
-          let x = At i (get_or now (i * ch.d + ch.c) nan) in
+          let x = present_at i (get_or now (i * ch.d + ch.c) nan) in
           let q : passing gap' now' ≡ passing gap now =
           e ∙ cond_off (passing (gap_from (i + 1) x) (gap_of ch gap i x now)) (passing gap now) (present_in ch.d marks ch.c i) t in
           subst (λ (z : Passed). Walked ch marks l (i + 1) z.gap z.cells) (sym q) (missing_next i gap now W t)
 
   -- and its end: after the last reading there is no present cell
   pub walked_end : (gap : Gap) (now : List Float) → Walked ch marks l (length l / ch.d) gap now
-      → gap_of ch gap (length l / ch.d) Nowhere now ≡ channel_of ch marks l
+      → gap_of ch gap (length l / ch.d) None now ≡ channel_of ch marks l
   walked_end gap now W =
       let p = present_in ch.d marks ch.c in
       let v = cell_in ch.d l ch.c in
       let n = length l / ch.d in
       let z : n - n ≡ 0 = omega arith in
-      let after : Nowhere ≡ nearest_from p v (n - n) n = sym (ap (λ (m : ℕ). nearest_from p v m n) z) in
-      closed n gap now Nowhere W (omega arith) after
+      let after : None ≡ nearest_from p v (n - n) n = sym (ap (λ (m : ℕ). nearest_from p v m n) z) in
+      closed n gap now None W (omega arith) after
 
 pub walked_under : {ch : Channel} {marks : List ℕ} {l : List Float} {i : ℕ} {gap : Gap} {now : List Float}
     → Walked ch marks l i gap now → Under gap.before gap.start
 walked_under {ch} {marks} {l} {i} {gap} {now} W =
-    subst (λ (n : Nearest). Under n gap.start) (sym W.before)
+    subst (λ (n : Option Present). Under n gap.start) (sym W.before)
     (nearest_before_under (present_in ch.d marks ch.c) (cell_in ch.d l ch.c) gap.start)
 
 pub walked_length : {ch : Channel} {marks : List ℕ} {l : List Float} {i : ℕ} {gap : Gap} {now : List Float}

@@ -1,74 +1,69 @@
--- Turns of the loops that judge marks and cells, and how a call answers. Assumes nothing.
-use Prim.Native.Nat.{ℕ, zero, suc, ◌+◌, ◌*◌, ◌/◌, ◌%◌, ◌≤◌, ◌<◌}
-use mathlib.Core.Bool.{Bool, true, false, cond, not, ◌&&◌, ◌||◌}
+-- What is tested of each mark and cell, and how a call answers. Assumes nothing.
+use Prim.Native.Nat.{ℕ, zero, suc, ◌%◌, ◌≤◌, ◌<◌}
+use mathlib.Core.Bool.{Bool, true, false, not, ◌&&◌, ◌||◌}
 use mathlib.Core.List.{List, [], ◌∷◌}
-use mathlib.Core.Path.{◌≡◌, refl, sym, ap, ◌∙◌}
-use native.Mathlib.Numerals.{add-one}
+use mathlib.Core.Path.{◌≡◌, refl, sym, ap}
 use native.Mathlib.Omega.{arith}
 use native.Mathlib.Nat.{div-add-mod'}
 use borrow.Author.Tests.{eqb-true, not-false}
 use lib.Dec.{ltb, eqb}
-use lib.ListN.{length, get_or, drop, drop_of_length-le}
-use lib.Seq.{drop-cons}
-use lib.Ieee.{Float, nan, inf, fin, lt}
-use Rattle.series.specs.Imputation.{is_present, known_marks, is_finite, finite_present, all_finite, cells_misshapen, impute_row, imputation, impute_answer}
-use Rattle.refusal.specs.Refusal.{first_of}
+use lib.ListN.{length}
+use lib.Ieee.{Float, nan, inf, fin}
+use Rattle.std.specs.Prelude.{MatchBool}
+use Rattle.std.specs.Float.{float_is_finite}
+use Rattle.std.specs.List.{AllWithin, HoldsAt, zip}
+use Rattle.series.specs.Imputation.{is_present, known_marks, is_finite, finite_present, all_finite, cells_misshapen, imputation, impute_answer}
 use Rattle.series.specs.Steps.ImputationSteps.{CellsShaped}
 
--- ---- finite
+-- ---- what is tested of each element of a list
 
--- below +∞ it is a number where it is above −∞; not below +∞ it is none
-pub below_top : (v : Float) → lt v (inf false) ≡ true → lt (inf true) v ≡ is_finite v
-unfolding lt
-below_top nan h = refl
-below_top (inf true) h = refl
-below_top (inf false) h = sym h
-below_top (fin s m e) h = refl
+module _ {A : Type 0} (p : A → Bool) where
+  abbrev every : List A → Bool
+  every [] = true
+  every (x ∷ xs) = p x && every xs
 
-pub not_below_top : (v : Float) → lt v (inf false) ≡ false → false ≡ is_finite v
-unfolding lt
-not_below_top nan h = refl
-not_below_top (inf s) h = refl
-not_below_top (fin s m e) h = sym h
+  and_false : (b : Bool) → (b && false) ≡ false
+  and_false true = refl
+  and_false false = refl
 
--- ---- turns of the loops
+  passed : (l : List A) → AllWithin (λ y. p y ≡ true) l 0 (length l) → every l ≡ true
+  passed [] h = refl
+  passed (x ∷ l) h = rw (h 0 x (omega arith) (omega arith)) (passed l (λ k d a b. h (suc k) d (omega arith) (omega arith)))
 
-pub finite_at : (x : List Float) (i : ℕ) (b : Bool) → i < length x → is_finite (get_or x i nan) ≡ b → all_finite (drop i x) ≡ b && all_finite (drop (i + 1) x)
+  failed : (l : List A) (k : ℕ) → k < length l → HoldsAt (λ y. p y ≡ false) l k → every l ≡ false
+  failed [] k h f = absurd (omega arith)
+  failed (x ∷ l) zero h f = rw (f x)
+  failed (x ∷ l) (suc k) h f = rw (failed l k (omega arith) f) (and_false (p x))
+
+  -- what `all` answers of a list
+  pub every_is : (l : List A) (r : Bool) → MatchBool r (AllWithin (λ y. p y ≡ true) l 0 (length l)) ((k : ℕ) × (k < length l) × HoldsAt (λ y. p y ≡ false) l k) → r ≡ every l
+  every_is l true h = sym (passed l h)
+  every_is l false h = sym (failed l h.0 h.1 h.2)
+
+pub finite_is : (x : Float) → float_is_finite x ≡ is_finite x
+unfolding float_is_finite
+finite_is nan = refl
+finite_is (inf s) = refl
+finite_is (fin s m e) = refl
+
+pub every_finite : (x : List Float) → every float_is_finite x ≡ all_finite x
 unfolding all_finite
-finite_at x i b h e =
-    ap all_finite (drop-cons x i nan h)
-    ∙ ap (λ (c : Bool). c && all_finite (drop (suc i) x)) e
-    ∙ ap (λ (k : ℕ). b && all_finite (drop k x)) (sym (add-one i))
+every_finite [] = refl
+every_finite (x ∷ l) = rw (finite_is x, every_finite l)
 
-pub finite_end : (x : List Float) (i : ℕ) → length x ≤ i → all_finite (drop i x) ≡ true
-unfolding all_finite
-finite_end x i h = ap all_finite (drop_of_length-le x h)
-
-pub marks_at : (m : List ℕ) (i : ℕ) (b : Bool) → i < length m → ltb (get_or m i 0) 2 ≡ b → known_marks (drop i m) ≡ b && known_marks (drop (i + 1) m)
+pub every_mark : (m : List ℕ) → every (λ n. ltb n 2) m ≡ known_marks m
 unfolding known_marks
-marks_at m i b h e =
-    ap known_marks (drop-cons m i 0 h)
-    ∙ ap (λ (c : Bool). c && known_marks (drop (suc i) m)) e
-    ∙ ap (λ (k : ℕ). b && known_marks (drop k m)) (sym (add-one i))
+every_mark [] = refl
+every_mark (n ∷ m) = ap (λ (b : Bool). ltb n 2 && b) (every_mark m)
 
-pub marks_end : (m : List ℕ) (i : ℕ) → length m ≤ i → known_marks (drop i m) ≡ true
-unfolding known_marks
-marks_end m i h = ap known_marks (drop_of_length-le m h)
+abbrev pub fits_mark : Float × ℕ → Bool
+fits_mark p = not (is_present p.1) || is_finite p.0
 
-pub present_at : (x : List Float) (m : List ℕ) (i : ℕ) (b : Bool) → i < length x → length m ≡ length x
-    → not (is_present (get_or m i 0)) || is_finite (get_or x i nan) ≡ b
-    → finite_present (drop i x) (drop i m) ≡ b && finite_present (drop (i + 1) x) (drop (i + 1) m)
+pub every_present : (x : List Float) (m : List ℕ) → every fits_mark (zip x m) ≡ finite_present x m
 unfolding finite_present
-present_at x m i b h q e =
-    let g : i < length m = omega arith in
-    ap (λ (z : List Float). finite_present z (drop i m)) (drop-cons x i nan h)
-    ∙ ap (finite_present (get_or x i nan ∷ drop (suc i) x)) (drop-cons m i 0 g)
-    ∙ ap (λ (c : Bool). c && finite_present (drop (suc i) x) (drop (suc i) m)) e
-    ∙ ap (λ (k : ℕ). b && finite_present (drop k x) (drop k m)) (sym (add-one i))
-
-pub present_end : (x : List Float) (m : List ℕ) (i : ℕ) → length x ≤ i → finite_present (drop i x) (drop i m) ≡ true
-unfolding finite_present
-present_end x m i h = ap (λ (z : List Float). finite_present z (drop i m)) (drop_of_length-le x h)
+every_present [] m = refl
+every_present (x ∷ l) [] = refl
+every_present (x ∷ l) (n ∷ m) = ap (λ (b : Bool). (not (is_present n) || is_finite x) && b) (every_present l m)
 
 -- ---- the shape
 
@@ -96,16 +91,6 @@ pub refused : (row n : ℕ) (old new : List Float) → row ≡ n → (row ≡ 0 
 refused row zero old new e taken = absurd (taken e)
 refused row (suc n) old new e taken = ap (λ (k : ℕ). imputation k old) e
 
-pub done : (row n : ℕ) (old new left : List Float) → row ≡ n → row ≡ 0 → left ≡ new → imputation 0 left ≡ impute_answer n old new
-done row zero old new left e z h = ap (imputation 0) h
-done row (suc n) old new left e z h = absurd (omega arith)
-
--- ---- the rows in their order, each by its test
-
-module _ (d : ℕ) (cells : List Float) (marks : List ℕ) (fixed : List Float) where
-  pub row_as : {a b c r m p f : Bool} → eqb d 0 ≡ a → ltb 16 d ≡ b → cells_misshapen d (length cells) (length marks) (length fixed) ≡ c
-      → ltb 2000 (length cells / d) ≡ r → known_marks marks ≡ m → finite_present cells marks ≡ p → all_finite fixed ≡ f
-      → impute_row d cells marks fixed ≡ first_of ((a, 2) ∷ (b, 4) ∷ (c, 10) ∷ (r || not m, 21) ∷ (not (p && f), 11) ∷ [])
-  unfolding impute_row
-  row_as ea eb ec er em ep ef =
-      λ t. first_of ((ea t, 2) ∷ (eb t, 4) ∷ (ec t, 10) ∷ (er t || not (em t), 21) ∷ (not (ep t && ef t), 11) ∷ [])
+pub done : (n : ℕ) (old new left : List Float) → 0 ≡ n → left ≡ new → imputation 0 left ≡ impute_answer n old new
+done zero old new left e h = ap (imputation 0) h
+done (suc n) old new left e h = absurd (omega arith)

@@ -5,7 +5,7 @@ use mathlib.Core.Bool.{Bool, true, false, cond, not, ◌&&◌, ◌||◌}
 use mathlib.Core.List.{List, [], ◌∷◌}
 use mathlib.Core.Path.{◌≡◌, refl, sym, ap, ◌∙◌, subst}
 use native.Mathlib.Omega.{arith}
-use native.Mathlib.Nat.{mod-lt, div-lt_iff_lt-mul}
+use native.Mathlib.Nat.{div-lt_iff_lt-mul}
 use borrow.Author.Tests.{ltb-true, ltb-false}
 use lib.Dec.{ltb, eqb}
 use lib.ListN.{length, get_or, get_or-eq_default}
@@ -13,12 +13,12 @@ use lib.Ieee.{Float, nan}
 use Rattle.refusal.specs.Refusal.{first_of}
 use Rattle.series.specs.declared.imputation.ImputationMethod.{ImputationMethod}
 use Rattle.series.specs.declared.imputation.ImputationMethod.TheVariants.{FIXED, PREVIOUS, NEXT, LINEAR}
-use Rattle.series.specs.declared.imputation.Nearest.{Nearest}
-use Rattle.series.specs.declared.imputation.Nearest.TheVariants.{At, Nowhere}
-use Rattle.series.specs.Imputation.{is_present, nearest_before, nearest_from, copy_of, interpolated, between_of, fill_of, present_in, cell_in, missing_of, imputed_at, by_place, imputed}
-use Rattle.series.specs.Imputation.{cells_misshapen, known_marks, is_finite, finite_present, all_finite, impute_row, Imputation, imputation, impute_answer, impute_of, Origin, copy, constant, on_line}
+use Rattle.std.specs.Prelude.{Option, Some, None}
+use Rattle.series.specs.declared.imputation.Present.{Present}
+use Rattle.series.specs.Imputation.{is_present, present_at, nearest_before, nearest_from, copy_of, interpolated, fill_of, present_in, cell_in, missing_of, imputed_at, by_place, imputed}
+use Rattle.series.specs.Imputation.{cells_misshapen, known_marks, is_finite, finite_present, all_finite, impute_row, imputation, impute_answer, impute_of, Origin, copy, constant, on_line}
 use Rattle.series.specs.Imputation.{Agree}
-use Rattle.series.proofs.ImputationLists.{cond_same, cond_on, cond_off, length_by_place, get_d_by_place, is_by_place, place_of}
+use Rattle.series.proofs.ImputationLists.{cond_same, cond_on, length_by_place, get_d_by_place, is_by_place, place_of}
 use Rattle.series.proofs.ImputationLaws.{missing_same}
 
 -- ---- present cells
@@ -124,21 +124,21 @@ missing_unread m d marks fixed cells others A =
 -- ---- origins
 
 -- what a search found
-abbrev Earlier : (ℕ → Bool) → (ℕ → Float) → ℕ → Nearest → Type 0
-Earlier p v i (At r x) = (r < i) × (p r ≡ true) × (x ≡ v r) × ((q : ℕ) → r < q → q < i → p q ≡ false)
-Earlier p v i Nowhere = Unit {0}
+abbrev Earlier : (ℕ → Bool) → (ℕ → Float) → ℕ → Option Present → Type 0
+Earlier p v i (Some s) = (s.reading < i) × (p s.reading ≡ true) × (s.value ≡ v s.reading) × ((q : ℕ) → s.reading < q → q < i → p q ≡ false)
+Earlier p v i None = Unit {0}
 
-abbrev Later : (ℕ → Bool) → (ℕ → Float) → ℕ → ℕ → Nearest → Type 0
-Later p v n i (At s x) = (i ≤ s) × (s < i + n) × (p s ≡ true) × (x ≡ v s) × ((q : ℕ) → i ≤ q → q < s → p q ≡ false)
-Later p v n i Nowhere = Unit {0}
+abbrev Later : (ℕ → Bool) → (ℕ → Float) → ℕ → ℕ → Option Present → Type 0
+Later p v n i (Some s) = (i ≤ s.reading) × (s.reading < i + n) × (p s.reading ≡ true) × (s.value ≡ v s.reading) × ((q : ℕ) → i ≤ q → q < s.reading → p q ≡ false)
+Later p v n i None = Unit {0}
 
-earlier_more : (p : ℕ → Bool) (v : ℕ → Float) (i : ℕ) (n : Nearest) → p i ≡ false → Earlier p v i n → Earlier p v (suc i) n
-earlier_more p v i Nowhere e h = tt
-earlier_more p v i (At r x) e h =
-    let g : r < suc i = omega (arith, h.0) in
-    (g, h.1, h.2, λ (q : ℕ) (a : r < q) (b : q < suc i). by q a b (ltb q i) refl)
+earlier_more : (p : ℕ → Bool) (v : ℕ → Float) (i : ℕ) (n : Option Present) → p i ≡ false → Earlier p v i n → Earlier p v (suc i) n
+earlier_more p v i None e h = tt
+earlier_more p v i (Some s) e h =
+    let g : s.reading < suc i = omega (arith, h.0) in
+    (g, h.1, h.2, λ (q : ℕ) (a : s.reading < q) (b : q < suc i). by q a b (ltb q i) refl)
   where
-    by : (q : ℕ) → r < q → q < suc i → (t : Bool) → ltb q i ≡ t → p q ≡ false
+    by : (q : ℕ) → s.reading < q → q < suc i → (t : Bool) → ltb q i ≡ t → p q ≡ false
     by q a b true t = h.3 q a (ltb-true q i t)
     by q a b false t =
         let k : i ≤ q = ltb-false q i t in
@@ -149,18 +149,18 @@ earlier : (p : ℕ → Bool) (v : ℕ → Float) (i : ℕ) → Earlier p v i (ne
 earlier p v zero = tt
 earlier p v (suc i) = by (p i) refl (earlier p v i)
   where
-    by : (b : Bool) → p i ≡ b → Earlier p v i (nearest_before p v i) → Earlier p v (suc i) (cond b (At i (v i)) (nearest_before p v i))
+    by : (b : Bool) → p i ≡ b → Earlier p v i (nearest_before p v i) → Earlier p v (suc i) (cond b (present_at i (v i)) (nearest_before p v i))
     by true t h = (omega arith, t, refl, λ (q : ℕ) (a : i < q) (b : q < suc i). absurd (omega arith))
     by false t h = earlier_more p v i (nearest_before p v i) t h
 
-later_more : (p : ℕ → Bool) (v : ℕ → Float) (n i : ℕ) (m : Nearest) → p i ≡ false → Later p v n (suc i) m → Later p v (suc n) i m
-later_more p v n i Nowhere e h = tt
-later_more p v n i (At s x) e h =
-    let a : i ≤ s = omega (arith, h.0) in
-    let b : s < i + suc n = omega (arith, h.1) in
-    (a, b, h.2, h.3, λ (q : ℕ) (c : i ≤ q) (d : q < s). by q c d (ltb i q) refl)
+later_more : (p : ℕ → Bool) (v : ℕ → Float) (n i : ℕ) (m : Option Present) → p i ≡ false → Later p v n (suc i) m → Later p v (suc n) i m
+later_more p v n i None e h = tt
+later_more p v n i (Some s) e h =
+    let a : i ≤ s.reading = omega (arith, h.0) in
+    let b : s.reading < i + suc n = omega (arith, h.1) in
+    (a, b, h.2, h.3, λ (q : ℕ) (c : i ≤ q) (d : q < s.reading). by q c d (ltb i q) refl)
   where
-    by : (q : ℕ) → i ≤ q → q < s → (t : Bool) → ltb i q ≡ t → p q ≡ false
+    by : (q : ℕ) → i ≤ q → q < s.reading → (t : Bool) → ltb i q ≡ t → p q ≡ false
     by q c d true t = let g : i < q = ltb-true i q t in h.4 q (omega arith) d
     by q c d false t =
         let k : q ≤ i = ltb-false i q t in
@@ -171,26 +171,26 @@ later : (p : ℕ → Bool) (v : ℕ → Float) (n i : ℕ) → Later p v n i (ne
 later p v zero i = tt
 later p v (suc n) i = by (p i) refl (later p v n (suc i))
   where
-    by : (b : Bool) → p i ≡ b → Later p v n (suc i) (nearest_from p v n (suc i)) → Later p v (suc n) i (cond b (At i (v i)) (nearest_from p v n (suc i)))
+    by : (b : Bool) → p i ≡ b → Later p v n (suc i) (nearest_from p v n (suc i)) → Later p v (suc n) i (cond b (present_at i (v i)) (nearest_from p v n (suc i)))
     by true t h = (omega arith, omega arith, t, refl, λ (q : ℕ) (a : i ≤ q) (b : q < i). absurd (omega arith))
     by false t h = later_more p v n i (nearest_from p v n (suc i)) t h
 
 module _ (d : ℕ) (cells : List Float) (marks : List ℕ) (fixed : Float) (c i : ℕ) (hi : i < length cells / d) where
-  copied_before : (b : Nearest) → Earlier (present_in d marks c) (cell_in d cells c) i b → Origin d cells marks fixed c i (copy_of b fixed)
-  copied_before Nowhere h = constant
-  copied_before (At r x) h =
-      let g : r < length cells / d = omega (arith, h.0) in
-      subst (λ (y : Float). Origin d cells marks fixed c i y) (sym h.2) (copy r g h.1)
+  copied_before : (b : Option Present) → Earlier (present_in d marks c) (cell_in d cells c) i b → Origin d cells marks fixed c i (copy_of b fixed)
+  copied_before None h = constant
+  copied_before (Some s) h =
+      let g : s.reading < length cells / d = omega (arith, h.0) in
+      subst (λ (y : Float). Origin d cells marks fixed c i y) (sym h.2) (copy s.reading g h.1)
 
-  copied_after : (a : Nearest) → Later (present_in d marks c) (cell_in d cells c) (length cells / d - suc i) (suc i) a
+  copied_after : (a : Option Present) → Later (present_in d marks c) (cell_in d cells c) (length cells / d - suc i) (suc i) a
       → Origin d cells marks fixed c i (copy_of a fixed)
-  copied_after Nowhere h = constant
-  copied_after (At s x) h =
-      let g : s < length cells / d = omega (arith, h.1) in
-      subst (λ (y : Float). Origin d cells marks fixed c i y) (sym h.3) (copy s g h.2)
+  copied_after None h = constant
+  copied_after (Some s) h =
+      let g : s.reading < length cells / d = omega (arith, h.1) in
+      subst (λ (y : Float). Origin d cells marks fixed c i y) (sym h.3) (copy s.reading g h.2)
 
-  on_line_lem : (r s : ℕ) (x y : Float) → Earlier (present_in d marks c) (cell_in d cells c) i (At r x)
-      → Later (present_in d marks c) (cell_in d cells c) (length cells / d - suc i) (suc i) (At s y)
+  on_line_lem : (r s : ℕ) (x y : Float) → Earlier (present_in d marks c) (cell_in d cells c) i (present_at r x)
+      → Later (present_in d marks c) (cell_in d cells c) (length cells / d - suc i) (suc i) (present_at s y)
       → Origin d cells marks fixed c i (interpolated x y (i - r) (s - r))
   on_line_lem r s x y e l =
       let high : i < s = omega (arith, l.0) in
@@ -206,14 +206,14 @@ module _ (d : ℕ) (cells : List Float) (marks : List ℕ) (fixed : Float) (c i 
           let g : suc i ≤ q = omega arith in
           l.4 q g b
 
-  filled_origin : (m : ImputationMethod) (b a : Nearest) → Earlier (present_in d marks c) (cell_in d cells c) i b
+  filled_origin : (m : ImputationMethod) (b a : Option Present) → Earlier (present_in d marks c) (cell_in d cells c) i b
       → Later (present_in d marks c) (cell_in d cells c) (length cells / d - suc i) (suc i) a → Origin d cells marks fixed c i (fill_of m b a i fixed)
   filled_origin FIXED b a e l = constant
   filled_origin PREVIOUS b a e l = copied_before b e
   filled_origin NEXT b a e l = copied_after a l
-  filled_origin LINEAR Nowhere a e l = copied_after a l
-  filled_origin LINEAR (At r x) Nowhere e l = copied_before (At r x) e
-  filled_origin LINEAR (At r x) (At s y) e l = on_line_lem r s x y e l
+  filled_origin LINEAR None a e l = copied_after a l
+  filled_origin LINEAR (Some r) None e l = copied_before (Some r) e
+  filled_origin LINEAR (Some r) (Some s) e l = on_line_lem r.reading s.reading r.value s.value e l
 
   missing_origin : (m : ImputationMethod) → Origin d cells marks fixed c i (missing_of m d cells marks fixed c i)
   unfolding missing_of

@@ -2,3 +2,4 @@
 pub mod Comparing
 pub mod AlignmentRows
 pub mod ImputationSteps
+pub mod Walking

@@ -1,13 +1,14 @@
 // Two lists of readings compared: paired from both fronts by their times, and the largest size of difference per channel.
-ghost use Rattle.std.specs.Prelude.{◌≡◌, ◌+◌, ◌*◌, ◌≤◌, length, OnOk};
+ghost use Rattle.std.specs.Prelude.{◌≡◌, ◌+◌, ◌*◌, ◌≤◌, [], length, OnOk, MatchOption};
 ghost use Rattle.std.specs.Result.{result_unwrap_or};
 ghost use Rattle.refusal.specs.Refusal.{row_of};
 ghost use Rattle.refusal.specs.Lent.{over};
-ghost use Rattle.series.specs.Pairs.{apart, lefts, rights, pairs};
-ghost use Rattle.series.specs.Gaps.{zero32, difference_size, larger, per_channel, gaps};
+ghost use Rattle.series.specs.Pairs.{lefts, rights, pairs};
+ghost use Rattle.series.specs.Gaps.{difference_size, larger, gaps};
 ghost use Rattle.series.specs.Alignment.{channel_limit, readings_misshapen, unusable, readings, outputs, align_outcome, align_of};
 ghost use Rattle.series.specs.Steps.AlignmentRows.{readings_row, room_row, ReadingsShaped, RoomForPairs};
 ghost use Rattle.series.specs.Steps.Comparing.{widened};
+ghost use Rattle.series.specs.Steps.Walking.{rest, NextPair};
 
 use refusal::Refusal;
 
@@ -80,29 +81,50 @@ fn room_row(
     }
 }
 
+// ---- the pairs, one after the other
+
+// A place in either list: of a pair, or of the fronts of what is behind it.
+#[derive(Clone, Copy)]
+struct Places {
+    left: usize,
+    right: usize,
+}
+
+// The first pair from the fronts on: if the times at the fronts differ by at most the tolerance they are paired, otherwise the earlier is skipped.
+fn next_pair(left: &[u64], right: &[u64], tolerance: u64, front: Places) -> Option<Places>
+    ensures { MatchOption result (rest tolerance left.now right.now front.left front.right ≡ [])
+        (λ p. NextPair tolerance left.now right.now front.left front.right p.left p.right) }
+{
+    let mut i = front.left;
+    let mut j = front.right;
+    while i < left.len() && j < right.len() {
+        let x = left[i];
+        let y = right[j];
+        if x.abs_diff(y) <= tolerance {
+            return Some(Places { left: i, right: j });
+        }
+        if x < y {
+            i += 1;
+        } else {
+            j += 1;
+        }
+    }
+    None
+}
+
 // ---- one pass to count
 
 fn count_pairs(left: &[u64], right: &[u64], tolerance: u64) -> u64
     ensures { result ≡ length (pairs tolerance left.now right.now) }
 {
     let mut n: u64 = 0;
-    let mut i = 0;
-    let mut j = 0;
-    while i < left.len() {
-        if j == right.len() {
-            return n;
-        }
-        let x = left[i];
-        let y = right[j];
-        if x.abs_diff(y) <= tolerance {
-            n += 1;
-            i += 1;
-            j += 1;
-        } else if x < y {
-            i += 1;
-        } else {
-            j += 1;
-        }
+    let mut front = Places { left: 0, right: 0 };
+    while let Some(pair) = next_pair(left, right, tolerance, front) {
+        n += 1;
+        front = Places {
+            left: pair.left + 1,
+            right: pair.right + 1,
+        };
     }
     n
 }
@@ -165,26 +187,16 @@ fn write_pairs(
     gaps_out.fill(0.0);
     let d = gaps_out.len();
     let mut n: usize = 0;
-    let mut i = 0;
-    let mut j = 0;
-    while i < left_times.len() {
-        if j == right_times.len() {
-            return;
-        }
-        let at_left = left_times[i];
-        let at_right = right_times[j];
-        if at_left.abs_diff(at_right) <= tolerance {
-            left_out[n] = i as u64;
-            right_out[n] = j as u64;
-            widen(gaps_out, left, i * d, right, j * d);
-            n += 1;
-            i += 1;
-            j += 1;
-        } else if at_left < at_right {
-            i += 1;
-        } else {
-            j += 1;
-        }
+    let mut front = Places { left: 0, right: 0 };
+    while let Some(pair) = next_pair(left_times, right_times, tolerance, front) {
+        left_out[n] = pair.left as u64;
+        right_out[n] = pair.right as u64;
+        widen(gaps_out, left, pair.left * d, right, pair.right * d);
+        n += 1;
+        front = Places {
+            left: pair.left + 1,
+            right: pair.right + 1,
+        };
     }
 }
 

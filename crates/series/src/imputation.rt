@@ -175,7 +175,6 @@ fn all_finite(x: &[f32]) -> bool
 
 // Whether every present cell is finite: what stands in a missing one is not asked.
 fn present_finite(cells: &[f32], marks: &[u8]) -> bool
-    requires { length marks.now ≡ length cells.now }
     ensures { result ≡ finite_present cells.now marks.now }
 {
     cells

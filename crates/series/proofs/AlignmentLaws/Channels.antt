@@ -1,12 +1,11 @@
 -- Lists of one number for each channel.
-use Prim.Native.Nat.{ℕ, zero, suc, ◌+◌, ◌<◌}
+use Prim.Native.Nat.{ℕ, zero, suc, ◌<◌}
 use mathlib.Core.Path.{◌≡◌, refl, ap, ◌∙◌}
 use mathlib.Core.List.{List, ◌∷◌}
 use native.Mathlib.Omega.{arith}
-use lib.ListN.{length, get_or, set}
-use lib.Ieee.{Float, nan}
+use lib.ListN.{length, get_or}
+use lib.Ieee.{Float}
 use Rattle.series.specs.Gaps.{per_channel}
-use Rattle.series.proofs.AlignmentLaws.Written.{part, part_more, part_whole}
 
 pub channels_length : (d : ℕ) (f : ℕ → Float) → length (per_channel d f) ≡ d
 channels_length zero f = refl
@@ -22,14 +21,3 @@ channels_same zero f g h = refl
 channels_same (suc d) f g h =
     ap (λ (x : Float). x ∷ per_channel d (λ c. f (suc c))) (h 0 (omega arith))
     ∙ ap (λ (l : List Float). g 0 ∷ l) (channels_same d (λ c. f (suc c)) (λ c. g (suc c)) (λ c k. h (suc c) (omega arith)))
-
--- ---- written one after the other over lent memory of as many
-
-module _ (old : List Float) (f : ℕ → Float) (c : ℕ) where
-  pub part_channel : c < length old → (x : Float) → f c ≡ x → set (part old (per_channel (length old) f) c) c x ≡ part old (per_channel (length old) f) (c + 1)
-  part_channel h x e =
-      part_more old (per_channel (length old) f) c nan (omega (arith, channels_length (length old) f)) h x
-      (channels_at (length old) f c nan h ∙ e)
-
-  pub part_channels : c ≡ length old → part old (per_channel (length old) f) c ≡ per_channel (length old) f
-  part_channels e = part_whole old (per_channel (length old) f) c (omega (arith, channels_length (length old) f)) e

@@ -1,19 +1,19 @@
 -- The loop that writes: what holds before each turn, and what a turn does to it.
 use Prim.Native.Nat.{ℕ, ◌+◌, ◌*◌, ◌≤◌, ◌<◌}
-use mathlib.Core.Path.{◌≡◌, refl, sym, ap, ◌∙◌}
-use mathlib.Core.List.{List}
+use mathlib.Core.Path.{◌≡◌, refl, ap, ◌∙◌}
+use mathlib.Core.List.{List, []}
 use native.Mathlib.Omega.{arith}
-use lib.ListN.{length, get_or, set, take, length-set, length-map}
+use lib.ListN.{length, set, take, replicate, length-set, length-map}
 use lib.Seq.{take-length}
 use lib.Ieee.{Float}
 use Rattle.refusal.specs.Lent.{over}
-use Rattle.series.specs.Pairs.{Pair, pair, apart, pairs, lefts, rights}
-use Rattle.series.specs.Gaps.{zero32, per_channel, gaps}
+use Rattle.series.specs.Pairs.{Pair, pairs, lefts, rights}
+use Rattle.series.specs.Gaps.{zero32, gaps}
 use Rattle.series.specs.Steps.Comparing.{widened}
-use Rattle.series.proofs.AlignmentLaws.Walk.{Walked, start, met, past_left_lem, past_right_lem}
+use Rattle.series.specs.Steps.Walking.{rest, NextPair}
+use Rattle.series.proofs.AlignmentLaws.Walk.{Walked, start, all_made, met}
 use Rattle.series.proofs.AlignmentLaws.Written.{part, part_none, part_all, part_more}
-use Rattle.series.proofs.AlignmentLaws.Channels.{channels_length}
-use Rattle.series.proofs.AlignmentLaws.Comparing.{inside, gaps_none, gaps_one_more, widened_length}
+use Rattle.series.proofs.AlignmentLaws.Comparing.{gaps_none, gaps_one_more, widened_length}
 
 -- cells and times of the two lists, the tolerance, the outputs as they were lent
 pub record Lists : Type 0 where
@@ -50,11 +50,7 @@ pub record Compared (s : Lists) (lo ro : List ℕ) (g : List Float) (n i j : ℕ
   pub right_length : length ro ≡ length s.right_out
   pub gaps_length : length g ≡ s.d
 
--- what is cleared is as long as before
-pub cleared_length : (old new : List Float) → new ≡ per_channel (length old) (λ _. zero32) → length new ≡ length old
-cleared_length old new e = ap length e ∙ channels_length (length old) (λ _. zero32)
-
-pub compared_start : (s : Lists) (g : List Float) → Fitting s → g ≡ per_channel s.d (λ _. zero32) → length g ≡ s.d
+pub compared_start : (s : Lists) (g : List Float) → Fitting s → g ≡ replicate s.d zero32 → length g ≡ s.d
     → Compared s s.left_out s.right_out g 0 0 0
 compared_start s g f e h =
     record {
@@ -68,77 +64,31 @@ compared_start s g f e h =
       gaps_length = h;
     }
 
-module _ (s : Lists) (lo ro : List ℕ) (g : List Float) (n i j : ℕ) (q : Compared s lo ro g n i j)
-    (hi : i < length s.left_times) (hj : j < length s.right_times) where
-  -- the pair at the fronts: there is room for it, and its cells are there
-  pub record Ready : Type 0 where
-    pub left_room : n < length lo
-    pub right_room : n < length ro
-    pub left_cells : i * s.d + length g ≤ length s.left
-    pub right_cells : j * s.d + length g ≤ length s.right
-
-  module _ (h : apart (get_or s.left_times i 0) (get_or s.right_times j 0) ≤ s.tolerance) where
-    pub ready : Ready
-    ready =
-        let m = met s.tolerance s.left_times s.right_times n i j q.walked hi hj h in
-        let f = q.fitting in
-        record {
-          left_room = omega (arith, m.room, q.left_length, f.left_room);
-          right_room = omega (arith, m.room, q.right_length, f.right_room);
-          left_cells = omega (arith, inside i (length s.left_times) s.d (length s.left) hi f.left, q.gaps_length);
-          right_cells = omega (arith, inside j (length s.right_times) s.d (length s.right) hj f.right, q.gaps_length);
-        }
-
-    -- the pair's cells begin at a and at b
-    pub compared_both : (a b : ℕ) (k : List Float) → a ≡ i * s.d → b ≡ j * s.d → k ≡ widened s.left a s.right b g
-        → Compared s (set lo n i) (set ro n j) k (n + 1) (i + 1) (j + 1)
-    compared_both a b k ea eb e =
-        let m = met s.tolerance s.left_times s.right_times n i j q.walked hi hj h in
-        let f = q.fitting in
-        let ps = all s in
-        let hl : n < length (lefts ps) = simp length-map m.room in
-        let hr : n < length (rights ps) = simp length-map m.room in
-        record {
-          fitting = f;
-          walked = m.on;
-          left_is = rw q.left_is (part_more s.left_out (lefts ps) n 0 hl (omega (arith, m.room, f.left_room)) i m.left_is);
-          right_is = rw q.right_is (part_more s.right_out (rights ps) n 0 hr (omega (arith, m.room, f.right_room)) j m.right_is);
-          gaps_are = e
-              ∙ ap (λ (x : ℕ). widened s.left x s.right b g) ea
-              ∙ ap (λ (x : ℕ). widened s.left (i * s.d) s.right x g) eb
-              ∙ ap (widened s.left (i * s.d) s.right (j * s.d)) q.gaps_are
-              ∙ gaps_one_more s.d s.left s.right ps n i j m.room m.pair_is;
-          left_length = simp length-set q.left_length;
-          right_length = simp length-set q.right_length;
-          gaps_length = ap length e ∙ widened_length s.left a s.right b g ∙ q.gaps_length;
-        }
-
-  module _ (h : s.tolerance < apart (get_or s.left_times i 0) (get_or s.right_times j 0)) where
-    pub compared_left : get_or s.left_times i 0 < get_or s.right_times j 0 → Compared s lo ro g n (i + 1) j
-    compared_left k =
-        record {
-          fitting = q.fitting;
-          walked = past_left_lem s.tolerance s.left_times s.right_times n i j q.walked hi hj h k;
-          left_is = q.left_is;
-          right_is = q.right_is;
-          gaps_are = q.gaps_are;
-          left_length = q.left_length;
-          right_length = q.right_length;
-          gaps_length = q.gaps_length;
-        }
-
-    pub compared_right : get_or s.right_times j 0 ≤ get_or s.left_times i 0 → Compared s lo ro g n i (j + 1)
-    compared_right k =
-        record {
-          fitting = q.fitting;
-          walked = past_right_lem s.tolerance s.left_times s.right_times n i j q.walked hi hj h k;
-          left_is = q.left_is;
-          right_is = q.right_is;
-          gaps_are = q.gaps_are;
-          left_length = q.left_length;
-          right_length = q.right_length;
-          gaps_length = q.gaps_length;
-        }
+module _ (s : Lists) (lo ro : List ℕ) (g : List Float) (n f h : ℕ) (q : Compared s lo ro g n f h)
+    (i j : ℕ) (p : NextPair s.tolerance s.left_times s.right_times f h i j) where
+  -- the pair's cells begin at a and at b
+  pub compared_more : (a b : ℕ) (k : List Float) → a ≡ i * s.d → b ≡ j * s.d → k ≡ widened s.left a s.right b g
+      → Compared s (set lo n i) (set ro n j) k (n + 1) (i + 1) (j + 1)
+  compared_more a b k ea eb e =
+      let m = met s.tolerance s.left_times s.right_times n f h i j q.walked p in
+      let t = q.fitting in
+      let ps = all s in
+      let hl : n < length (lefts ps) = simp length-map m.room in
+      let hr : n < length (rights ps) = simp length-map m.room in
+      record {
+        fitting = t;
+        walked = m.on;
+        left_is = rw q.left_is (part_more s.left_out (lefts ps) n 0 hl (omega (arith, m.room, t.left_room)) i m.left_is);
+        right_is = rw q.right_is (part_more s.right_out (rights ps) n 0 hr (omega (arith, m.room, t.right_room)) j m.right_is);
+        gaps_are = e
+            ∙ ap (λ (x : ℕ). widened s.left x s.right b g) ea
+            ∙ ap (λ (x : ℕ). widened s.left (i * s.d) s.right x g) eb
+            ∙ ap (widened s.left (i * s.d) s.right (j * s.d)) q.gaps_are
+            ∙ gaps_one_more s.d s.left s.right ps n i j m.room m.pair_is;
+        left_length = simp length-set q.left_length;
+        right_length = simp length-set q.right_length;
+        gaps_length = ap length e ∙ widened_length s.left a s.right b g ∙ q.gaps_length;
+      }
 
 -- all pairs are made
 pub record Finished (s : Lists) (lo ro : List ℕ) (g : List Float) : Type 0 where
@@ -146,8 +96,10 @@ pub record Finished (s : Lists) (lo ro : List ℕ) (g : List Float) : Type 0 whe
   pub right : ro ≡ over s.right_out (rights (all s))
   pub gaps_are : g ≡ gaps s.d s.left s.right (all s)
 
-pub finished : (s : Lists) (lo ro : List ℕ) (g : List Float) (n i j : ℕ) → Compared s lo ro g n i j → n ≡ length (all s) → Finished s lo ro g
-finished s lo ro g n i j q e =
+pub finished : (s : Lists) (lo ro : List ℕ) (g : List Float) (n i j : ℕ) → Compared s lo ro g n i j
+    → rest s.tolerance s.left_times s.right_times i j ≡ [] → Finished s lo ro g
+finished s lo ro g n i j q z =
+    let e = all_made s.tolerance s.left_times s.right_times n i j q.walked z in
     record {
       left = q.left_is ∙ part_all s.left_out (lefts (all s)) n (simp length-map e);
       right = q.right_is ∙ part_all s.right_out (rights (all s)) n (simp length-map e);

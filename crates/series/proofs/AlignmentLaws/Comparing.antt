@@ -1,11 +1,10 @@
 -- The sizes after each pair: none for no pairs, and one pair more widens them.
-use Prim.Native.Nat.{ℕ, suc, ◌+◌, ◌*◌, ◌≤◌, ◌<◌}
+use Prim.Native.Nat.{ℕ, zero, suc, ◌+◌, ◌*◌, ◌≤◌, ◌<◌}
 use mathlib.Core.Path.{◌≡◌, refl, sym, ap, ◌∙◌}
 use mathlib.Core.List.{List, [], ◌∷◌, ◌++◌, map, map-append}
 use native.Mathlib.Numerals.{add-one}
-use native.Mathlib.Nat.{mul-le-mul_right}
 use native.Mathlib.Omega.{arith}
-use lib.ListN.{length, get_or, set, take, drop}
+use lib.ListN.{length, get_or, set, take, drop, replicate}
 use lib.Seq.{take-suc, length-take-le}
 use lib.Ieee.{Float, nan}
 use Rattle.refusal.specs.Lent.{over}
@@ -15,16 +14,13 @@ use Rattle.series.specs.Steps.Comparing.{widened}
 use Rattle.series.proofs.AlignmentLaws.Channels.{channels_length, channels_at, channels_same}
 use Rattle.series.proofs.AlignmentLaws.Written.{part, part_at, part_more, part_whole}
 
--- a reading's cells lie inside the list
-pub inside : (i n d len : ℕ) → i < n → len ≡ n * d → i * d + d ≤ len
-inside i n d len h e =
-    let k : suc i * d ≤ n * d = mul-le-mul_right d h in
-    let m : suc i * d ≡ i * d + d = omega arith in
-    omega arith
+zeros : (d : ℕ) → replicate d zero32 ≡ per_channel d (λ _. zero32)
+zeros zero = refl
+zeros (suc d) = ap (zero32 ∷◌) (zeros d)
 
-pub gaps_none : (d : ℕ) (l r : List Float) → per_channel d (λ _. zero32) ≡ gaps d l r []
+pub gaps_none : (d : ℕ) (l r : List Float) → replicate d zero32 ≡ gaps d l r []
 unfolding gaps largest difference_sizes
-gaps_none d l r = refl
+gaps_none d l r = zeros d
 
 pub gaps_length_lem : (d : ℕ) (l r : List Float) (ps : List Pair) → length (gaps d l r ps) ≡ d
 unfolding gaps

@@ -1,9 +1,7 @@
 -- Computed examples, each row once, and the theorem at one of them.
-use Prim.Native.Nat.{ℕ}
 use mathlib.Core.Path.{◌≡◌, refl}
 use mathlib.Core.Bool.{false}
-use mathlib.Core.List.{List, [], ◌∷◌}
-use lib.Dec.{T}
+use mathlib.Core.List.{[], ◌∷◌}
 use lib.ListN.{replicate}
 use lib.Ieee.{Float, nan, inf, binary32, of_bits, sub, lt}
 use Rattle.refusal.specs.Lent.{over}

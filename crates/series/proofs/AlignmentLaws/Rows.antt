@@ -81,24 +81,24 @@ module _ (d : ℕ) (l r : Readings) (w : ℕ) (o : Outputs) where
       refused row (align_row (align_facts d l r count o)) o (align_outcome 0 count (outputs_written d l r (pairs w l.times r.times) o))
       (e ∙ sym (row_of_readings d l r count o (λ z. h (e ∙ z)))) h
 
-  pub refused_by_room : (row room : ℕ) → row ≡ readings_row d (length l.cells) l.times (length r.cells) r.times → row ≡ 0
+  pub refused_by_room : (room : ℕ) → 0 ≡ readings_row d (length l.cells) l.times (length r.cells) r.times
       → room ≡ room_row d count (length o.lefts) (length o.rights) (length o.gaps) → (room ≡ 0 → ⊥)
       → align_outcome room 0 o ≡ align_of d l r w o
   unfolding align_of
-  refused_by_room row room e z f h =
+  refused_by_room room e f h =
       refused room (align_row (align_facts d l r count o)) o (align_outcome 0 count (outputs_written d l r (pairs w l.times r.times) o))
-      (f ∙ sym (row_of_room d l r count o (sym e ∙ z))) h
+      (f ∙ sym (row_of_room d l r count o (sym e))) h
 
-  pub taken : (row room n : ℕ) (lo ro : List ℕ) (go : List Float)
-      → row ≡ readings_row d (length l.cells) l.times (length r.cells) r.times → row ≡ 0
-      → room ≡ room_row d count (length o.lefts) (length o.rights) (length o.gaps) → room ≡ 0
+  pub taken : (n : ℕ) (lo ro : List ℕ) (go : List Float)
+      → 0 ≡ readings_row d (length l.cells) l.times (length r.cells) r.times
+      → 0 ≡ room_row d count (length o.lefts) (length o.rights) (length o.gaps)
       → n ≡ count
       → lo ≡ over o.lefts (lefts (pairs w l.times r.times))
       → ro ≡ over o.rights (rights (pairs w l.times r.times))
       → go ≡ over o.gaps (gaps d l.cells r.cells (pairs w l.times r.times))
       → align_outcome 0 n (outputs lo ro go) ≡ align_of d l r w o
   unfolding align_of outputs_written
-  taken row room n lo ro go e z f y c p q g =
+  taken n lo ro go e f c p q g =
       done (align_row (align_facts d l r count o)) o (align_outcome 0 n (outputs lo ro go)) (align_outcome 0 count (outputs_written d l r (pairs w l.times r.times) o))
-      (row_of_room d l r count o (sym e ∙ z) ∙ sym f ∙ y)
+      (row_of_room d l r count o (sym e) ∙ sym f)
       (λ j. align_outcome 0 (c j) (outputs (p j) (q j) (g j)))

@@ -1,11 +1,11 @@
 -- The largest of sizes is the largest: none is above it, and it is one of them, or 0 where there is none.
-use Prim.Native.Nat.{ℕ, zero, suc, ◌+◌, ◌*◌, ◌≤◌, ◌<◌}
+use Prim.Native.Nat.{ℕ, zero, suc, ◌*◌, ◌≤◌, ◌<◌}
 use mathlib.Core.Path.{◌≡◌, refl, sym, ap, ◌∙◌, subst}
 use mathlib.Core.Bool.{Bool, true, false, cond, ◌||◌}
 use mathlib.Core.List.{List, [], ◌∷◌, map}
 use native.Mathlib.Nat.{le_refl}
 use native.Mathlib.Omega.{arith}
-use borrow.Author.Tests.{ltb-false, lt-ltb, le-ltb, eq-eqb, eqb-true, ltb-true}
+use borrow.Author.Tests.{ltb-false, eq-eqb, eqb-true, ltb-true}
 use lib.Dec.{T, ltb, eqb}
 use lib.ListN.{length, get_or}
 use lib.Ieee.{Float, nan, inf, fin, binary32, sub, lt, eq, le, level, fits, of_bits, up, down}

@@ -2,15 +2,15 @@
 use Prim.Native.Nat.{ℕ, zero, suc, ◌<◌}
 use mathlib.Core.Path.{◌≡◌, refl, sym, ap, ◌∙◌, subst}
 use mathlib.Core.Bool.{Bool, true, false, ◌||◌}
-use mathlib.Core.List.{List, [], ◌∷◌, map}
+use mathlib.Core.List.{List, [], ◌∷◌}
 use native.Mathlib.Omega.{arith}
 use lib.Dec.{ltb, eqb}
 use lib.ListN.{length, get_or, take, length-map, get_or-append}
 use lib.Seq.{take_at}
-use lib.Ieee.{Float, nan}
+use lib.Ieee.{nan}
 use Rattle.refusal.specs.Refusal.{first_of}
 use Rattle.refusal.specs.Lent.{over}
-use Rattle.series.specs.Pairs.{Pair, pair, pairs, lefts, rights}
+use Rattle.series.specs.Pairs.{Pair, pairs, lefts, rights}
 use Rattle.series.specs.Pairing.{BestPairing}
 use Rattle.series.specs.Gaps.{difference_sizes, largest, gaps, Largest}
 use Rattle.series.specs.Alignment.{align_limit, channel_limit, falls_after, unusable, readings_misshapen, Readings, Outputs, AlignOutcome, align_outcome, AlignFacts, align_row, align_facts}

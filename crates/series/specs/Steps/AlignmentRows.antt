@@ -1,5 +1,5 @@
 -- The rows of `align` in two steps, as the code asks them: of the readings, and, with the pairs counted, of the room.
-use Rattle.std.specs.Prelude.{ℕ, ◌*◌, ◌≤◌, ◌<◌, ◌≡◌, ◌||◌, List, [], ◌∷◌, ltb, eqb, length}
+use Rattle.std.specs.Prelude.{ℕ, ◌*◌, ◌≤◌, ◌≡◌, ◌||◌, List, [], ◌∷◌, ltb, eqb, length}
 use Rattle.refusal.specs.Refusal.{first_of}
 use Rattle.series.specs.Alignment.{channel_limit, readings_misshapen, unusable}
 

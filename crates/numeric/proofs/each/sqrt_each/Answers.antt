@@ -1,36 +1,12 @@
 -- `numeric::each::sqrt_each` meets its contract: the invariant is that the first i numbers have become their roots. Assumes nothing.
-use Rattle.std.proofs.Common.{◌≡◌, ℕ, ◌-◌, List, length, get_or, set, refl, ap, ◌∙◌, add-one, arith, length-set}
+use Rattle.std.proofs.Common.{◌≡◌, ℕ, List, length, get_or, set, refl, ap, ◌∙◌, add-one, arith, length-set}
 use lib.Ieee.{Float, nan}
 use Rattle.numeric.specs.Root.{root_of}
 use Rattle.numeric.proofs.EachLaws.{rooted_to, rooted_next, rooted_all}
 use Rattle.numeric.proofs.each.sqrt_each.Goals as goal
 
 pub loop-i-init : goal.loop-i-init
-loop-i-init c = (omega arith, refl, refl)
-
-pub offset_bounds-x-i : goal.offset_bounds-x-i
-offset_bounds-x-i c = omega arith
-
-pub bounds-x-i : goal.bounds-x-i
-bounds-x-i c = omega arith
-
-pub offset_bounds-c-i : goal.offset_bounds-c-i
-offset_bounds-c-i c = omega arith
-
-pub bounds-c-i : goal.bounds-c-i
-bounds-c-i c = omega arith
-
-pub offset_bounds-x-i-in-loop-i : goal.offset_bounds-x-i-in-loop-i
-offset_bounds-x-i-in-loop-i c = omega arith
-
-pub bounds-x-i-in-loop-i : goal.bounds-x-i-in-loop-i
-bounds-x-i-in-loop-i c = omega arith
-
-pub overflow_add-i : goal.overflow_add-i
-overflow_add-i c = omega arith
-
-pub loop-i-smaller : goal.loop-i-smaller
-loop-i-smaller c = omega arith
+loop-i-init c = (refl, refl)
 
 pub loop-i-preserved : goal.loop-i-preserved
 loop-i-preserved c =
@@ -38,14 +14,11 @@ loop-i-preserved c =
     let l = c.args.x.now in
     let at : List Float → List Float = λ q. set q L.i (root_of (get_or q L.i nan)) in
     let put = ap (λ (r : Float). set L.x L.i r) c.root_near.ensures in
-    (omega arith, rw add-one (put ∙ ap at L.invariant.1 ∙ rooted_next L.i l), simp length-set (omega arith))
-
-pub shape_of-x : goal.shape_of-x
-shape_of-x c = omega arith
+    (rw add-one (put ∙ ap at L.invariant.0 ∙ rooted_next L.i l), simp length-set L.invariant.1)
 
 pub returns : goal.returns
 returns c =
     let L = c.loop-i in
     let l = c.args.x.now in
     let e : L.i ≡ length l = omega arith in
-    L.invariant.1 ∙ ap (λ (n : ℕ). rooted_to n l) e ∙ rooted_all l
+    L.invariant.0 ∙ ap (λ (n : ℕ). rooted_to n l) e ∙ rooted_all l

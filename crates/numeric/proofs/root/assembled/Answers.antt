@@ -7,8 +7,8 @@ use Rattle.numeric.proofs.Roots.{rooted_pattern}
 use Rattle.numeric.proofs.root.assembled.Goals as goal
 use Rattle.numeric.proofs.root.assembled.Goals.{Start}
 
-pattern : (c : Start) → Pattern binary64 (rooted (c.args.m * 2 ^ (c.args.e + 1022))) ((c.args.e / 2 + 485) * 2 ^ 52 + c.args.low)
-pattern c = rooted_pattern c.args.m c.args.e c.requires.bound c.requires.m_bound c.requires.e_bound c.args.low c.requires.low_value
+pattern : (c : Start) → Pattern binary64 (rooted (c.args.s.m * 2 ^ (c.args.s.e + 1022))) ((c.args.s.e / 2 + 485) * 2 ^ 52 + c.args.low)
+pattern c = let s = c.args.s in rooted_pattern s.m s.e s.low s.high s.room c.args.low c.requires
 
 pub overflow_add-result-2 : goal.overflow_add-result-2
 overflow_add-result-2 c = let h = (pattern (goal.at.overflow_add-result-2 c).Start).below in omega arith

@@ -1,5 +1,5 @@
 -- `numeric::root::raised` meets its contract: the number grows while the square of the next is not above n. Assumes nothing.
-use Rattle.std.proofs.Common.{ℕ, ◌+◌, ◌-◌, ◌*◌, ◌^◌, ◌<◌, ◌≤◌, sym, le_trans, le_of_eq, lt_of_le_of_lt, mul-le-mul, mul-le-mul_left, mul-one, arith}
+use Rattle.std.proofs.Common.{ℕ, ◌+◌, ◌*◌, ◌^◌, ◌<◌, ◌≤◌, sym, le_trans, le_of_eq, lt_of_le_of_lt, mul-le-mul, mul-le-mul_left, mul-one, arith}
 use Rattle.numeric.proofs.Squares.{square_back}
 use Rattle.numeric.proofs.root.raised.Goals as goal
 use Rattle.numeric.proofs.root.raised.Goals.{At-loop-r}

@@ -48,10 +48,9 @@ overflow_sub-result c = let s = c in let h = low_le c.args.c c.requires.c_bound 
 
 pub returns : goal.returns
 returns c =
-    let s = c in
     let n = c.args.n in
     let k = c.args.c in
     let h = low_le k c.requires.c_bound in
     let d = n + 0x4000_0100 - k / 2 ^ 26 * (k / 2 ^ 26) in
     let v = d * 2 ^ 26 - (k / 2 ^ 26 * (k % 2 ^ 26) * 2 + 2 ^ 56) in
-    record { c_value = λ p. identity n k (k / 2 ^ 26) (k % 2 ^ 26) d v (v * 2 ^ 26 - k % 2 ^ 26 * (k % 2 ^ 26)) (omega arith) (omega arith) (omega arith) (omega arith); bound_2 = λ p. omega arith; upper_bound = omega arith }
+    record { c_value = identity n k (k / 2 ^ 26) (k % 2 ^ 26) d v (v * 2 ^ 26 - k % 2 ^ 26 * (k % 2 ^ 26)) (omega arith) (omega arith) (omega arith) (omega arith); bound_2 = omega arith; upper_bound = omega arith }

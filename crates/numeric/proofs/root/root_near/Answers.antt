@@ -6,12 +6,7 @@ use Rattle.numeric.proofs.root.root_near.Goals as goal
 pub scale-s-requires : goal.scale-s-requires
 scale-s-requires c = positive_below c.args.x _ c.if-x.true c.if-x-2.true
 
-pub assembled-requires : goal.assembled-requires
-assembled-requires c =
-    let s = c.scale-s.ensures in
-    record { bound = s.low; m_bound = s.high; e_bound = s.room; low_value = c.digits_near-low.ensures c.if-low-gt0.true }
-
-pub returns-then-low-gt0 : goal.returns-then-low-gt0
-returns-then-low-gt0 c =
+pub returns-in-Some : goal.returns-in-Some
+returns-in-Some c =
     let s = c.scale-s in
     c.assembled.ensures ∙ sym (root_of_scaled c.args.x s.result.m s.result.e s.ensures)

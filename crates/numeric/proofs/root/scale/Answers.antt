@@ -28,11 +28,21 @@ overflow_shl-result c = let h = inside (goal.at.overflow_shl-result c).Then-fiel
 pub overflow_sub-result-then-field-eq0 : goal.overflow_sub-result-then-field-eq0
 overflow_sub-result-then-field-eq0 c = (inside (goal.at.overflow_sub-result-then-field-eq0 c).Then-field-eq0).1
 
-pub overflow_add-result-else-field-eq0 : goal.overflow_add-result-else-field-eq0
-overflow_add-result-else-field-eq0 c = let h = no_sign c.args.x (held (goal.at.overflow_add-result-else-field-eq0 c).Start) c.requires in omega arith
+pub overflow_add-result-2 : goal.overflow_add-result-2
+overflow_add-result-2 c = let h = no_sign c.args.x (held (goal.at.overflow_add-result-2 c).Start) c.requires in omega arith
+
+pub invariant_of-result : goal.invariant_of-result
+invariant_of-result c =
+    let i = scaled_low c.args.x (held (goal.at.invariant_of-result c).Start) c.requires c.if-field-eq0.true in
+    record { low = i.low; high = i.high; room = i.room }
+
+pub invariant_of-result-2 : goal.invariant_of-result-2
+invariant_of-result-2 c =
+    let i = scaled_mid c.args.x (held (goal.at.invariant_of-result-2 c).Start) c.requires c.if-field-eq0.false in
+    record { low = i.low; high = i.high; room = i.room }
 
 pub returns-then-field-eq0 : goal.returns-then-field-eq0
 returns-then-field-eq0 c = scaled_low c.args.x (held (goal.at.returns-then-field-eq0 c).Start) c.requires c.if-field-eq0.true
 
-pub returns-else-field-eq0 : goal.returns-else-field-eq0
-returns-else-field-eq0 c = scaled_mid c.args.x (held (goal.at.returns-else-field-eq0 c).Start) c.requires c.if-field-eq0.false
+pub returns : goal.returns
+returns c = scaled_mid c.args.x (held (goal.at.returns c).Start) c.requires c.if-field-eq0.false

@@ -1,99 +1,37 @@
 -- `alignment::readings_row` meets its contract: each test on the way decides a part of the row.
+use Rattle.std.proofs.lemmas.Bool.Decides.{nat_tests}
 use Rattle.series.proofs.AlignmentLaws.Rows.{shaped}
 use Rattle.series.specs.Steps.AlignmentRows.{readings_row}
-use Rattle.series.specs.Alignment.{channel_limit}
 use lib.ListN.{length}
-use borrow.Author.Tests.{lt-ltb, le-ltb, eq-eqb, ne_eqb}
 use native.Mathlib.Omega.{arith}
 use mathlib.Core.Path.{sym, ◌∙◌}
-use Prim.Native.Nat.{◌≤◌}
 use Rattle.series.proofs.alignment.readings_row.Goals as goal
 
-pub returns-then-d-eq0 : goal.returns-then-d-eq0
+pub returns-then-d-eq0-clause-value : goal.returns-then-d-eq0-clause-value
 unfolding readings_row
-returns-then-d-eq0 c = record { value = rw (eq-eqb _ _ c.if-d-eq0.true); readings_shaped = λ e. absurd (omega arith) }
+returns-then-d-eq0-clause-value c = grind (arith, nat_tests)
 
-pub returns-then-d-gt-CHANNEL_LIMIT : goal.returns-then-d-gt-CHANNEL_LIMIT
+pub returns-then-d-gt-CHANNEL_LIMIT-clause-value : goal.returns-then-d-gt-CHANNEL_LIMIT-clause-value
 unfolding readings_row
-returns-then-d-gt-CHANNEL_LIMIT c = record {
-  value = rw (
-    ne_eqb _ _ c.if-d-eq0.false,
-    lt-ltb _ _ c.if-d-gt-CHANNEL_LIMIT.true,
-  );
-  readings_shaped = λ e. absurd (omega arith);
-}
+returns-then-d-gt-CHANNEL_LIMIT-clause-value c = grind (arith, nat_tests)
 
-pub returns-then-is_misshapen : goal.returns-then-is_misshapen
+pub returns-then-is_misshapen-clause-value : goal.returns-then-is_misshapen-clause-value
 unfolding readings_row
-returns-then-is_misshapen c = record {
-  value = rw (
-    ne_eqb _ _ c.if-d-eq0.false,
-    le-ltb _ _ c.if-d-gt-CHANNEL_LIMIT.false,
-    sym c.is_misshapen.ensures ∙ c.if-is_misshapen.true,
-  );
-  readings_shaped = λ e. absurd (omega arith);
-}
+returns-then-is_misshapen-clause-value c = grind (arith, nat_tests)
 
-pub returns-then-is_misshapen-2 : goal.returns-then-is_misshapen-2
+pub returns-then-is_unusable-clause-value : goal.returns-then-is_unusable-clause-value
 unfolding readings_row
-returns-then-is_misshapen-2 c = record {
-  value = rw (
-    ne_eqb _ _ c.if-d-eq0.false,
-    le-ltb _ _ c.if-d-gt-CHANNEL_LIMIT.false,
-    sym c.is_misshapen.ensures ∙ c.if-is_misshapen.false,
-    sym c.is_misshapen-2.ensures ∙ c.if-is_misshapen-2.true,
-  );
-  readings_shaped = λ e. absurd (omega arith);
-}
+returns-then-is_unusable-clause-value c = grind (arith, nat_tests)
 
-pub returns-then-is_unusable : goal.returns-then-is_unusable
+pub returns-clause-value : goal.returns-clause-value
 unfolding readings_row
-returns-then-is_unusable c =
-    let m = c in record {
-      value = rw (
-        ne_eqb _ _ c.if-d-eq0.false,
-        le-ltb _ _ c.if-d-gt-CHANNEL_LIMIT.false,
-        sym c.is_misshapen.ensures ∙ c.if-is_misshapen.false,
-        sym c.is_misshapen-2.ensures ∙ c.if-is_misshapen-2.false,
-        sym c.is_unusable.ensures ∙ c.if-is_unusable.true,
-      );
-      readings_shaped = λ e. absurd (omega arith);
-    }
+returns-clause-value c = grind (arith, nat_tests)
 
-pub returns-then-is_unusable-2 : goal.returns-then-is_unusable-2
-unfolding readings_row
-returns-then-is_unusable-2 c =
-    let m = c in record {
-      value = rw (
-        ne_eqb _ _ c.if-d-eq0.false,
-        le-ltb _ _ c.if-d-gt-CHANNEL_LIMIT.false,
-        sym c.is_misshapen.ensures ∙ c.if-is_misshapen.false,
-        sym c.is_misshapen-2.ensures ∙ c.if-is_misshapen-2.false,
-        sym c.is_unusable.ensures ∙ c.if-is_unusable.false,
-        sym c.is_unusable-2.ensures ∙ c.if-is_unusable-2.true,
-      );
-      readings_shaped = λ e. absurd (omega arith);
-    }
-
-pub returns : goal.returns
-unfolding readings_row
-returns c =
-    let m = c in
+pub returns-clause-readings_shaped : goal.returns-clause-readings_shaped
+returns-clause-readings_shaped c =
     let a = c.args in
-    let few : a.d ≤ channel_limit = c.if-d-gt-CHANNEL_LIMIT.false in
-    let l = sym c.is_misshapen.ensures ∙ c.if-is_misshapen.false in
-    let r = sym c.is_misshapen-2.ensures ∙ c.if-is_misshapen-2.false in record {
-      value = rw (
-        ne_eqb _ _ c.if-d-eq0.false,
-        le-ltb _ _ c.if-d-gt-CHANNEL_LIMIT.false,
-        l,
-        r,
-        sym c.is_unusable.ensures ∙ c.if-is_unusable.false,
-        sym c.is_unusable-2.ensures ∙ c.if-is_unusable-2.false,
-      );
-      readings_shaped = λ e. record {
-        few = few;
-        left = shaped a.d a.left_cells (length a.left_times.now) l;
-        right = shaped a.d a.right_cells (length a.right_times.now) r;
-      };
+    record {
+      few = omega arith;
+      left = shaped a.d a.left_cells (length a.left_times.now) (sym c.is_misshapen.ensures ∙ c.if-is_misshapen.false);
+      right = shaped a.d a.right_cells (length a.right_times.now) (sym c.is_misshapen-else-is_misshapen.ensures ∙ c.if-is_misshapen-2.false);
     }

@@ -1,5 +1,4 @@
 -- What holds in the loops of `series::alignment::widen`.
-use Prim.Native.Nat.{◌≤◌, ◌-◌}
 use mathlib.Core.Path.{◌≡◌}
 use lib.ListN.{length}
 use Rattle.series.specs.Steps.Comparing.{widened}
@@ -7,7 +6,4 @@ use Rattle.series.proofs.AlignmentLaws.Written.{part}
 use Rattle.series.proofs.alignment.widen.Given as goal
 
 abbrev pub invariant-loop-c : goal.invariant-loop-c
-invariant-loop-c l = (l.c ≤ length l.initial.gaps) × (l.gaps ≡ part l.initial.gaps (widened l.left l.a l.right l.b l.initial.gaps) l.c) × (length l.gaps ≡ length l.initial.gaps)
-
-abbrev pub decreases-loop-c : goal.decreases-loop-c
-decreases-loop-c l = length l.initial.gaps - l.c
+invariant-loop-c l = (l.gaps ≡ part l.initial.gaps (widened l.left l.a l.right l.b l.initial.gaps) l.c) × (length l.gaps ≡ length l.initial.gaps)

@@ -1,48 +1,15 @@
--- `imputation::all_finite` meets its contract: by its loop's invariant. Assumes nothing.
-use Prim.Native.Nat.{◌≤◌, ◌<◌, ◌-◌}
+-- `imputation::all_finite` meets its contract: `all` tests each element. Assumes nothing.
 use mathlib.Core.Bool.{true, false}
-use mathlib.Core.Path.{refl, sym, ◌∙◌}
-use lib.ListN.{length}
-use borrow.Author.Tests.{not-true, not-false}
-use native.Mathlib.Omega.{arith}
-use Rattle.series.proofs.ImputationRows.{finite_at, finite_end}
+use mathlib.Core.Path.{◌≡◌, ◌∙◌}
+use Rattle.std.specs.Float.{float_is_finite}
+use Rattle.std.proofs.Common.{rules}
+use Rattle.std.proofs.lemmas.Iterator.{YieldsList-from_slice, cases_from_all}
+use Rattle.series.proofs.ImputationRows.{every_is, every_finite}
 use Rattle.series.proofs.imputation.all_finite.Goals as goal
-
-pub loop-i-init : goal.loop-i-init
-loop-i-init c = (omega arith, refl)
-
-pub offset_bounds-x-i : goal.offset_bounds-x-i
-offset_bounds-x-i c = omega arith
-
-pub bounds-x-i : goal.bounds-x-i
-bounds-x-i c = omega arith
-
-pub is_finite-requires : goal.is_finite-requires
-is_finite-requires c = tt
-
-pub returns-then-not-is_finite : goal.returns-then-not-is_finite
-returns-then-not-is_finite c =
-    let L = c.loop-i in
-    let x = c.args.x.now in
-    let h : L.i < length x = omega arith in
-    sym (L.invariant.1 ∙ finite_at x L.i false h (sym c.is_finite.ensures ∙ not-true _ c.if-not-is_finite.true-raw))
-
-pub overflow_add-i : goal.overflow_add-i
-overflow_add-i c = omega arith
-
-pub loop-i-smaller : goal.loop-i-smaller
-loop-i-smaller c = omega arith
-
-pub loop-i-preserved : goal.loop-i-preserved
-loop-i-preserved c =
-    let L = c.loop-i in
-    let x = c.args.x.now in
-    let h : L.i < length x = omega arith in
-    (omega arith, L.invariant.1 ∙ finite_at x L.i true h (sym c.is_finite.ensures ∙ not-false _ c.if-not-is_finite.false-raw))
 
 pub returns : goal.returns
 returns c =
-    let L = c.loop-i in
     let x = c.args.x.now in
-    let h : length x ≤ L.i = omega arith in
-    sym (L.invariant.1 ∙ finite_end x L.i h)
+    every_is float_is_finite x c.all.result
+    (cases_from_all _ _ _ (λ y. float_is_finite y ≡ true) (λ y. float_is_finite y ≡ false) c.all.ensures.ran (YieldsList-from_slice x cc) (λ x q k. search rules) (λ x q k. search rules))
+    ∙ every_finite x

@@ -1,23 +1,23 @@
--- `imputation::impute` meets its contract: refused by its row, or done by the channels. Assumes nothing.
-use Rattle.series.specs.Imputation.{imputed, impute_row, impute_of}
+-- `imputation::impute` meets its contract: a refusal leaves the cells, else all channels are filled. Assumes nothing.
+use native.Mathlib.Omega.{arith}
+use Rattle.refusal.proofs.RefusalLaws.{is_numbered}
+use Rattle.std.proofs.lemmas.Result.{err_from_is_err_and}
+use Rattle.series.specs.Imputation.{impute_row, imputed, impute_of}
 use Rattle.series.proofs.ImputationRows.{refused, done}
 use Rattle.series.proofs.imputation.impute.Goals as goal
 
-pub returns-then-row-ne0 : goal.returns-then-row-ne0
+pub returns-in_err-impute_row : goal.returns-in_err-impute_row
 unfolding impute_of
-returns-then-row-ne0 c =
+returns-in_err-impute_row c =
     let a = c.args in
-    refused c.impute_row-row.result (impute_row a.d a.cells.now a.marks.now a.fixed.now) a.cells.now
-    (imputed a.method a.d a.cells.now a.marks.now a.fixed.now) c.impute_row-row.ensures.value c.if-row-ne0.true
-
-pub impute_channels-requires : goal.impute_channels-requires
-impute_channels-requires c = c.impute_row-row.ensures.cells_shaped c.if-row-ne0.false
+    let p = err_from_is_err_and c.from_residual.result c.from_residual.ensures.1 in
+    rw (p.1, p.2)
+    (refused _ (impute_row a.d a.cells.now a.marks.now a.fixed.now) a.cells.now (imputed a.method a.d a.cells.now a.marks.now a.fixed.now)
+    c.in_err-impute_row.ensures.value (λ z. absurd (omega (arith, is_numbered c.in_err-impute_row.field-0.0, z))))
 
 pub returns : goal.returns
 unfolding impute_of
 returns c =
-    let u = c in
     let a = c.args in
-    done c.impute_row-row.result (impute_row a.d a.cells.now a.marks.now a.fixed.now) a.cells.now
-    (imputed a.method a.d a.cells.now a.marks.now a.fixed.now) _ c.impute_row-row.ensures.value
-    c.if-row-ne0.false c.impute_channels.ensures
+    done (impute_row a.d a.cells.now a.marks.now a.fixed.now) a.cells.now (imputed a.method a.d a.cells.now a.marks.now a.fixed.now) _
+    c.in_ok-impute_row.ensures.value c.impute_channels.ensures

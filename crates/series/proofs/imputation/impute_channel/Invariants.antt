@@ -1,5 +1,4 @@
 -- What holds in the loops of `series::imputation::impute_channel`.
-use Prim.Native.Nat.{◌-◌, ◌≤◌}
 use mathlib.Core.Path.{◌≡◌}
 use lib.ListN.{length}
 use Rattle.series.proofs.ImputationLaws.{Walked}
@@ -7,7 +6,4 @@ use Rattle.series.proofs.imputation.impute_channel.Given as goal
 
 abbrev pub invariant-loop-i : goal.invariant-loop-i
 invariant-loop-i l =
-    (l.i ≤ l.n) × (length l.cells ≡ length l.initial.cells) × Walked l.ch l.marks l.initial.cells l.i l.gap l.cells
-
-abbrev pub decreases-loop-i : goal.decreases-loop-i
-decreases-loop-i l = l.n - l.i
+    (length l.cells ≡ length l.initial.cells) × Walked l.ch l.marks l.initial.cells l.i l.gap l.cells

@@ -1,5 +1,5 @@
 -- `imputation::impute_channels` meets its contract. Before the turn at c the channels below c are done. Assumes nothing.
-use Prim.Native.Nat.{ℕ, ◌+◌, ◌-◌, ◌*◌, ◌/◌}
+use Prim.Native.Nat.{ℕ, ◌+◌, ◌*◌, ◌/◌}
 use mathlib.Core.Path.{◌≡◌, refl, sym, ap, ◌∙◌}
 use lib.ListN.{length}
 use native.Mathlib.Omega.{arith}
@@ -11,51 +11,31 @@ use Rattle.series.proofs.imputation.impute_channels.Goals as goal
 
 pub loop-c-init : goal.loop-c-init
 loop-c-init c =
-    let s = c in
     let a = c.args in
-    (omega arith, refl, below_start a.method a.d a.cells.now a.marks.now a.fixed.now c.requires.some)
-
-pub offset_bounds-fixed-c : goal.offset_bounds-fixed-c
-offset_bounds-fixed-c c = omega (arith, c.requires.fixes)
-
-pub bounds-fixed-c : goal.bounds-fixed-c
-bounds-fixed-c c = omega (arith, c.requires.fixes)
+    (refl, below_start a.method a.d a.cells.now a.marks.now a.fixed.now c.requires.some)
 
 pub impute_channel-requires : goal.impute_channel-requires
 impute_channel-requires c =
-    let s = c in
     let L = c.loop-c in (
       c.loop-c-test.true,
-      c.requires.marked ∙ sym L.invariant.1,
-      ap (λ (n : ℕ). n / c.args.d * c.args.d) L.invariant.1 ∙ c.requires.whole ∙ sym L.invariant.1,
+      c.requires.marked ∙ sym L.invariant.0,
+      ap (λ (n : ℕ). n / c.args.d * c.args.d) L.invariant.0 ∙ c.requires.whole ∙ sym L.invariant.0,
     )
-
-pub overflow_add-c : goal.overflow_add-c
-overflow_add-c c = omega arith
-
-pub loop-c-smaller : goal.loop-c-smaller
-loop-c-smaller c = omega arith
 
 pub loop-c-preserved : goal.loop-c-preserved
 loop-c-preserved c =
-    let u = c in
-    let s = c in
     let L = c.loop-c in
     let a = c.args in
     let e = c.impute_channel.ensures
     ∙ below_more a.method a.d a.cells.now a.marks.now a.fixed.now c.requires.some c.requires.whole L.c
-    c.loop-c-test.true L.cells L.invariant.2 in
-    (omega arith, ap length e ∙ length_by_place (below_at a.method a.d a.cells.now a.marks.now a.fixed.now (L.c + 1)) a.cells.now, e)
-
-pub shape_of-cells : goal.shape_of-cells
-shape_of-cells c = omega arith
+    c.loop-c-test.true L.cells L.invariant.1 in
+    (ap length e ∙ length_by_place (below_at a.method a.d a.cells.now a.marks.now a.fixed.now (L.c + 1)) a.cells.now, e)
 
 pub returns : goal.returns
 returns c =
-    let s = c in
     let L = c.loop-c in
     let a = c.args in
     let e : L.c ≡ a.d = omega arith in
-    L.invariant.2
+    L.invariant.1
     ∙ ap (λ (k : ℕ). by_place (below_at a.method a.d a.cells.now a.marks.now a.fixed.now k) a.cells.now) e
     ∙ below_end a.method a.d a.cells.now a.marks.now a.fixed.now c.requires.some

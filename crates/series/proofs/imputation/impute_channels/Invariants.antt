@@ -1,5 +1,4 @@
 -- What holds in the loops of `series::imputation::impute_channels`.
-use Prim.Native.Nat.{◌-◌, ◌≤◌}
 use mathlib.Core.Path.{◌≡◌}
 use lib.ListN.{length}
 use Rattle.series.specs.Imputation.{by_place}
@@ -8,7 +7,4 @@ use Rattle.series.proofs.imputation.impute_channels.Given as goal
 
 abbrev pub invariant-loop-c : goal.invariant-loop-c
 invariant-loop-c l =
-    (l.c ≤ l.d) × (length l.cells ≡ length l.initial.cells) × (l.cells ≡ by_place (below_at l.method l.d l.initial.cells l.marks l.fixed l.c) l.initial.cells)
-
-abbrev pub decreases-loop-c : goal.decreases-loop-c
-decreases-loop-c l = l.d - l.c
+    (length l.cells ≡ length l.initial.cells) × (l.cells ≡ by_place (below_at l.method l.d l.initial.cells l.marks l.fixed l.c) l.initial.cells)

@@ -1,16 +1,13 @@
--- `imputation::is_misshapen` meets its contract: by its tests. Assumes nothing.
-use borrow.Author.Tests.{eq-eqb, ne_eqb}
+-- `imputation::is_misshapen` meets its contract. Assumes nothing.
+use native.Mathlib.Omega.{arith}
+use Rattle.std.proofs.lemmas.Bool.Decides.{nat_tests}
 use Rattle.series.specs.Imputation.{cells_misshapen}
 use Rattle.series.proofs.imputation.is_misshapen.Goals as goal
 
-pub returns-then-cells-d-ne0 : goal.returns-then-cells-d-ne0
-unfolding cells_misshapen
-returns-then-cells-d-ne0 c = rw (ne_eqb _ _ c.if-cells-d-ne0.true)
-
 pub returns-then-marks-cells : goal.returns-then-marks-cells
 unfolding cells_misshapen
-returns-then-marks-cells c = rw (eq-eqb _ _ c.if-cells-d-ne0.false, ne_eqb _ _ c.if-marks-cells.true)
+returns-then-marks-cells c = grind (arith, nat_tests)
 
-pub returns : goal.returns
+pub returns-else-marks-cells : goal.returns-else-marks-cells
 unfolding cells_misshapen
-returns c = rw (eq-eqb _ _ c.if-cells-d-ne0.false, eq-eqb _ _ c.if-marks-cells.false)
+returns-else-marks-cells c = grind (arith, nat_tests)
