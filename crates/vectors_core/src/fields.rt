@@ -1,5 +1,5 @@
 // The fields of a line, one after another.
-ghost use Rattle.std.specs.Prelude.{◌≡◌, ◌<◌, ◌≤◌, ◌+◌, ◌↔◌, [], length, take, drop, All, IfOk, IsOk, IsTrue, OnErr, vec_len};
+ghost use Rattle.std.specs.Prelude.{◌≡◌, ◌<◌, ◌≤◌, ◌+◌, ◌-◌, ◌↔◌, [], length, take, drop, slice_index, All, IfOk, IsOk, IsTrue, OnErr, OnOk};
 
 use crate::field::{Field, Lent, is_untouched};
 use std::alloc::{AllocError, AllocFailed, Global};
@@ -31,10 +31,14 @@ pub struct Fields<'a> {
 }
 
 impl<'a> Fields<'a> {
-    /// A line's letter, and the fields after it.
-    pub fn of(alloc: Global, line: &'a [u8]) -> Result<(u8, Fields<'a>), Differs> {
+    /// A line's letter, and the fields after it. A line that no LF ends is none.
+    pub fn of(alloc: Global, line: &'a [u8]) -> Result<(u8, Fields<'a>), Differs>
+        ensures letter { IfOk result (λ r. r.0 ≡ slice_index line.now 0) }
+        ensures rest { IfOk result (λ r. r.1.rest.now ≡ drop 2 line.now) }
+        ensures ended { OnOk result (slice_index line.now (length line.now - 1) ≡ 10) }
+    {
         match line {
-            [letter, b' ' | b'\n', rest @ ..] if line.ends_with(b"\n") => Ok((
+            [letter, b' ' | b'\n', rest @ ..] if matches!(line, [.., b'\n']) => Ok((
                 *letter,
                 Fields { rest, alloc },
             )),

@@ -9,7 +9,7 @@ use std::{fs, io};
 use trcf::head::Preprocessor;
 use vectors_core::fields::Differs;
 use vectors_core::memory::Memory;
-use vectors_core::tally::{Named, Tally};
+use vectors_core::tally::{Named, Tally, read_file};
 
 // Takes up a text, into memory that holds something else.
 fn restored(
@@ -59,11 +59,11 @@ fn replay_text(alloc: Global, placed: Placed<'_>, memory: &mut Memory) -> Result
 
 // Every text of the file, in order. Behind one that has no place in it the file is not read.
 pub(crate) fn replay_file(
-    rt: &(impl Files + Alloc<A = Global> + Print),
+    rt: &(impl Files + Alloc<A = Global> + Print + Eprint),
     name: &str,
 ) -> io::Result<()> {
     let alloc = rt.alloc();
-    let file = fs::read(rt, name)?;
+    let file = read_file(rt, name);
     let mut memory = Memory::new(alloc, 4000)?;
     let mut tally = Tally::new(alloc);
     let mut rest = file.as_slice();
