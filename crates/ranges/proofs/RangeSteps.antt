@@ -1,13 +1,11 @@
 -- What the proofs of `rangevector` cite at both widths: how a call answers, and a turn of each loop, over the numbers and the element.
 -- Assumes nothing.
 use Prim.Native.Nat.{ℕ, zero, suc, ◌+◌, ◌-◌, ◌≤◌, ◌<◌}
-use mathlib.Core.Path.{◌≡◌, refl, sym, ap, ◌∙◌}
-use mathlib.Core.Bool.{Bool, true, false, not, ◌&&◌}
-use mathlib.Core.List.{List, [], ◌∷◌, ◌++◌}
+use mathlib.Core.Path.{◌≡◌, sym, ap, ◌∙◌}
+use mathlib.Core.Bool.{Bool, true, ◌&&◌}
+use mathlib.Core.List.{List, ◌∷◌, ◌++◌}
 use native.Mathlib.Numerals.{add-one}
 use native.Mathlib.Omega.{arith}
-use borrow.Author.Tests.{eqb-true, not-false}
-use lib.Dec.{eqb}
 use lib.ListN.{length, get_or, drop, drop_of_length-le}
 use lib.Seq.{drop-cons, get_or-append-add}
 use Rattle.std.specs.Prelude.{Result, IsErrAnd}
@@ -32,17 +30,6 @@ module _ {A : Type 0} where
       → IsErrAnd r (λ (d : Refusal). d ≡ e) → number_of e ≡ n → range_outcome (row_of r) old ≡ range_answer n old new
   refused_by e r n old new handed h =
       refused (row_of r) n old new (handed_on e r handed ∙ h) (λ z. absurd (omega (arith, z, handed_on e r handed, is_numbered e)))
-
--- ---- the lengths
-
-both : (s t : Bool) → s && t ≡ true → (s ≡ true) × (t ≡ true)
-both true t h = (refl, h)
-both false t h = (h, (cc))
-
-pub equal_lengths : (a b c : ℕ) → not (eqb a b && eqb a c) ≡ false → (a ≡ b) × (a ≡ c)
-equal_lengths a b c e =
-    let h = both (eqb a b) (eqb a c) (not-false _ e) in
-    (eqb-true a b h.0, eqb-true a c h.1)
 
 module _ {A : Type 0} where
   -- ---- three lists

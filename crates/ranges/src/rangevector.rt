@@ -1,5 +1,6 @@
 // A quantity with its upper and lower bounds (the source's common/rangevector.rs), at f32 and at f64: three lent lists,
 // and by value what stands at one index of them. A call that is refused leaves the lists as they were.
+// Kept: the three lists stay parameters of each call (d): a struct of lent lists needs the ghost names of its loans in each contract.
 ghost use Rattle.std.specs.Prelude.{◌≡◌, not, ◌&&◌, ◌||◌, cond, [], ◌∷◌, ◌++◌, ◌+◌, ◌≤◌, ◌<◌, ltb, leb, eqb, length, get_or, replicate, OnOk};
 ghost use Rattle.std.specs.Float.{binary32, binary64};
 ghost use Rattle.refusal.specs.Refusal.{first_of, row_of};
@@ -11,6 +12,7 @@ ghost use Rattle.ranges.specs.RangeVector.{unequal_at, unequal, unblocked, short
 use refusal::Refusal;
 
 /// A width of floats, with what a range asks of its numbers.
+// Kept: five methods and not std's operators as bounds (d): of those each width has to prove seven laws in the place of these lines.
 pub trait Width: Copy {
     ghost operations: { Operations Self };
 
@@ -31,6 +33,7 @@ pub trait Width: Copy {
 
     // A clone is the number itself, and is always to be had.
     ghost clone_is: { (x y : Self) → Self.is_clone x y → y ≡ x };
+
     ghost clones: { (x : Self) → Self.is_infallible x };
 }
 

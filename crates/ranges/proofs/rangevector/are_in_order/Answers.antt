@@ -1,10 +1,7 @@
 -- `rangevector::are_in_order` meets its contract. Before the turn at i what is left decides. Assumes nothing.
-use Prim.Native.Nat.{◌<◌, ◌≤◌}
 use mathlib.Core.Path.{◌≡◌, sym, ◌∙◌}
 use mathlib.Core.Bool.{Bool, true, false, ◌&&◌}
 use borrow.Author.Tests.{not-true, not-false}
-use lib.ListN.{length}
-use native.Mathlib.Omega.{arith}
 use Rattle.ranges.specs.declared.rangevector.Range.{Range as RangeOf}
 use Rattle.ranges.proofs.RangeSteps.{in_order_at, in_order_end}
 use Rattle.ranges.proofs.rangevector.are_in_order.Goals as goal

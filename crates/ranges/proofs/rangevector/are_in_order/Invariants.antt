@@ -1,6 +1,6 @@
 -- What holds in the loop of `ranges::rangevector::are_in_order`.
 use mathlib.Core.Path.{◌≡◌}
-use lib.ListN.{length, drop}
+use lib.ListN.{drop}
 use Rattle.ranges.specs.RangeVector.{in_order_by}
 use Rattle.ranges.proofs.rangevector.are_in_order.Given as goal
 

@@ -1,6 +1,5 @@
 -- What holds in the loop of `ranges::rangevector::cascade`.
 use mathlib.Core.Path.{◌≡◌}
-use lib.ListN.{length}
 use Rattle.ranges.specs.RangeVector.{ranges, cascade_by}
 use Rattle.ranges.proofs.rangevector.cascade.Given as goal
 
