@@ -26,6 +26,7 @@ pub fn places_back(relative_index: i32) -> usize
 }
 
 // Rows 10 to 12.
+#[tactic(auto, unfolding(trcf::specs::Steps::Rows::input_row))]
 fn input_row(
     head: Preprocessor,
     n: usize,
@@ -84,6 +85,7 @@ fn is_anomaly_short(grade: f32, expects: bool, d: usize, past: usize, expected: 
 }
 
 // Rows 13, 14, 18 and 20, past waiting.
+#[tactic(auto, using(trcf::proofs::LengthLaws::block_known, trcf::proofs::LengthLaws::dimension_known), unfolding(trcf::specs::Steps::Rows::learn_row, trcf::specs::Settings::block))]
 fn learn_row(
     head: Preprocessor,
     y: usize,
@@ -122,6 +124,7 @@ fn learn_row(
 }
 
 // Rows 18 and 20 while waiting.
+#[tactic(auto, using(trcf::proofs::LengthLaws::block_known), unfolding(trcf::specs::Steps::Rows::waiting_row, trcf::specs::Settings::block))]
 fn waiting_row(head: Preprocessor, deviations_out: usize) -> Result<(), Refusal>
     requires { Bounded (settings_of head) }
     ensures { row_of result ≡ waiting_row head deviations_out }
@@ -137,6 +140,7 @@ fn waiting_row(head: Preprocessor, deviations_out: usize) -> Result<(), Refusal>
 }
 
 // Rows 13 to 20.
+#[tactic(auto, unfolding(trcf::specs::Steps::Rows::learning_row))]
 fn learning_row(
     head: Preprocessor,
     y: usize,
