@@ -133,6 +133,13 @@ fn post_process_learning(
     }
 }
 
+// What is given, and the empty list where nothing is.
+fn given(list: Option<&[f32]>) -> &[f32]
+    ensures { result.now ≡ list_in list.entry }
+{
+    list.unwrap_or(&[])
+}
+
 pub fn post_process(
     head: Preprocessor,
     statistics: &mut [f64],
@@ -164,9 +171,9 @@ pub fn post_process(
         initial_timestamps,
         input,
         timestamp,
-        y.unwrap_or(&[]),
+        given(y),
         y.is_some(),
-        expected.unwrap_or(&[]),
+        given(expected),
         expected.is_some(),
         grade,
         relative_index,
