@@ -21,6 +21,8 @@ use Rattle.snapshot.specs.Steps.Runs.{Ran, ran, broke, ran_by, then_lines, after
 use Rattle.refusal.specs.Lent.{over}
 use Rattle.trcf.specs.View.{Lent, lent, settings_of, written_over, initial_room, lent_short}
 use Rattle.trcf.specs.declared.head.Preprocessor.{Preprocessor}
+use Rattle.std.specs.Prelude.{Result, Ok, Err}
+use Rattle.snapshot.specs.declared.head.BadLine.{BadLine}
 use Rattle.trcf.proofs.ShingleLaws.{over_part}
 use Rattle.trcf.proofs.RefusalLaws.{room_start, room_normalizing}
 use Rattle.snapshot.specs.Save.{past}
@@ -196,9 +198,9 @@ module _ (s : Settings) (c : Counts) (l : List ℕ) where
 
 -- ---- by the places that are lent
 
-pub unkept_of : {A : Type 0} (m : ℕ) (a : A) (z : List ℕ) (q : Ran A) → ran_by m a z ≡ q → ran_by m tt z ≡ unkept q
-unkept_of zero a z q e = ap unkept e
-unkept_of (suc m) a z q e = ap unkept e
+pub unkept_of : {A : Type 0} (r : Result ℕ BadLine) (a : A) (t : List ℕ) (q : Ran A) → ran_by r a t ≡ q → ran_by r tt t ≡ unkept q
+unkept_of (Ok n) a t q e = ap unkept e
+unkept_of (Err b) a t q e = ap unkept e
 
 pub dimension_is : (s : Settings) (w : ℕ) → w ≡ cond (augments s.mode) 1 0 → (s.d + w) * s.k ≡ dimension s
 unfolding dimension block
@@ -224,11 +226,18 @@ unfolding held
 ran_value a b y z e = ap (held a) e
 
 module _ (s : Settings) (c : Counts) (n : ℕ) (l : List ℕ) (p : Parts) (i : Initial) where
-  pub fills_of : (m k : ℕ) (y z : List ℕ) → ran_by m p y ≡ parts_of s c l → ran_by k i z ≡ bufs s.d n y → Fills (filled_by s c n l) (body p i)
+  pub fills_broke : (m : ℕ) → broke m ≡ parts_of s c l → Fills (filled_by s c n l) (body p i)
   unfolding filled_by
-  fills_of (suc m) k y z e f b x h = absurd (ran_not_broke b x (suc m) (rw (sym e) at h))
-  fills_of zero (suc k) y z e f b x h = absurd (ran_not_broke b x (5 * s.d + 8 + suc k) (rw (sym e, sym f) at h))
-  fills_of zero zero y z e f b x h = sym (ran_value b (body p i) x z (rw (sym e, sym f) at h))
+  fills_broke m e b x h = absurd (ran_not_broke b x m (rw (sym e) at h))
+
+  pub fills_not : (r : Result ℕ BadLine) (t : List ℕ) → ran_by r p t ≡ parts_of s c l → ((m : ℕ) → r ≡ Ok m → ⊥) → Fills (filled_by s c n l) (body p i)
+  fills_not (Ok m) t e h = absurd (h m refl)
+  fills_not (Err k) t e h = fills_broke k.line e
+
+  pub fills_of : (r : Result ℕ BadLine) (y t : List ℕ) → ran p y ≡ parts_of s c l → ran_by r i t ≡ bufs s.d n y → Fills (filled_by s c n l) (body p i)
+  unfolding filled_by
+  fills_of (Ok m) y t e f b x h = sym (ran_value b (body p i) x (drop m t) (rw (sym e, sym f) at h))
+  fills_of (Err k) y t e f b x h = absurd (ran_not_broke b x (5 * s.d + 8 + k.line) (rw (sym e, sym f) at h))
 
 -- a part that came back
 pub over_back : {A : Type 0} (l v : List A) (n : ℕ) → n ≤ length l → length v ≡ length (take n l) → v ++ drop n l ≡ over l v

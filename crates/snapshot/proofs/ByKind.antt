@@ -1,4 +1,5 @@
 -- A field by its kind.
+use Rattle.std.specs.Prelude.{Some, None}
 use Prim.Native.Nat.{ℕ, zero, suc, ◌≤◌, ◌<◌}
 use native.Mathlib.Omega.{arith}
 use mathlib.Core.Path.{◌≡◌, refl, sym, ap, ◌∙◌}
@@ -8,8 +9,6 @@ use lib.Ieee.{binary32, binary64}
 use Rattle.snapshot.specs.Read.{as_whole, as_float}
 use Rattle.snapshot.specs.Scan.{number_of, single_of, double_of}
 use Rattle.snapshot.specs.Steps.Scan.{whole_of, field_of}
-use Rattle.snapshot.specs.declared.field.Number.{Number}
-use Rattle.snapshot.specs.declared.field.Number.TheVariants.{Is, No}
 use Rattle.snapshot.specs.declared.field.Field.{Field}
 use Rattle.snapshot.specs.declared.field.Field.TheVariants.{Single, Double, Whole, Bad}
 use Rattle.snapshot.proofs.HexLaws.{is_of, no_of}
@@ -25,8 +24,8 @@ as_whole_lem zero c h g = absurd (h refl)
 as_whole_lem (suc zero) c h g = absurd (g refl)
 as_whole_lem (suc (suc k)) c h g = refl
 
-pub whole_bad : (o : Option ℕ) → No ≡ number_of o → Bad ≡ whole_of o
+pub whole_bad : (o : Option ℕ) → None ≡ number_of o → Bad ≡ whole_of o
 whole_bad o e = sym (ap whole_of (no_of o e))
 
-pub whole_good : (o : Option ℕ) (n : ℕ) → Is n ≡ number_of o → Whole n ≡ whole_of o
+pub whole_good : (o : Option ℕ) (n : ℕ) → Some n ≡ number_of o → Whole n ≡ whole_of o
 whole_good o n e = sym (ap whole_of (is_of o n e))

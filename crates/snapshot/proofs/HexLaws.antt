@@ -1,4 +1,5 @@
 -- Scanning hexadecimal digits gives the bit pattern that they write, and nothing else.
+use Rattle.std.specs.Prelude.{Some, None}
 use Prim.Native.Nat.{ℕ, zero, suc, ◌+◌, ◌-◌, ◌*◌, ◌/◌, ◌%◌, ◌^◌, ◌≤◌, ◌<◌}
 use native.Mathlib.Nat.{mod-lt, mul-le-mul_right, pow-succ', mul_assoc, mul_comm, pow-suc, pow-le-pow_right, zero-add, add-zero, suc-add, add-suc}
 use native.Mathlib.Omega.{arith}
@@ -21,8 +22,6 @@ use Rattle.snapshot.proofs.Lists.{and_left, and_right}
 use Rattle.snapshot.proofs.ReadLine.{same_refl, same_eq}
 use Rattle.snapshot.specs.Scan.{number_of, single_of, double_of}
 use Rattle.snapshot.specs.Steps.Scan.{hex_of, hscan, bits_of, float_of}
-use Rattle.snapshot.specs.declared.field.Number.{Number}
-use Rattle.snapshot.specs.declared.field.Number.TheVariants.{Is, No}
 use Rattle.snapshot.specs.declared.field.Field.{Field}
 use Rattle.snapshot.specs.declared.field.Field.TheVariants.{Single, Double, Whole, Bad}
 
@@ -245,19 +244,19 @@ module _ (c : List ℕ) (n i d old new : ℕ) (few : length c ≤ 16) (h : i < l
 
 -- ---- the answers
 
-pub hnone_at : (c : List ℕ) (n largest i : ℕ) → Told c n largest i → 15 < largest → No ≡ number_of (hscan 0 c)
+pub hnone_at : (c : List ℕ) (n largest i : ℕ) → Told c n largest i → 15 < largest → None ≡ number_of (hscan 0 c)
 hnone_at c n largest i t h = sym (ap number_of (t.2 h))
 
-pub hsome_at : (c : List ℕ) (n largest i : ℕ) → Told c n largest i → largest ≤ 15 → length c ≤ i → Is n ≡ number_of (hscan 0 c)
+pub hsome_at : (c : List ℕ) (n largest i : ℕ) → Told c n largest i → largest ≤ 15 → length c ≤ i → Some n ≡ number_of (hscan 0 c)
 hsome_at c n largest i t h k = sym (ap number_of (t.1 h ∙ ap (hscan n) (drop_of_length-le c k)))
 
 -- ---- a float's answers, for either width
 
-pub is_of : (o : Option ℕ) (n : ℕ) → Is n ≡ number_of o → o ≡ some n
+pub is_of : (o : Option ℕ) (n : ℕ) → Some n ≡ number_of o → o ≡ some n
 is_of none n e = let z : ◌≡◌ {A = ℕ} 0 1 = cc in absurd (omega arith)
 is_of (some m) n e = cc
 
-pub no_of : (o : Option ℕ) → No ≡ number_of o → o ≡ none
+pub no_of : (o : Option ℕ) → None ≡ number_of o → o ≡ none
 no_of none e = refl
 no_of (some m) e = let z : ◌≡◌ {A = ℕ} 0 1 = cc in absurd (omega arith)
 
@@ -266,10 +265,10 @@ module _ (f : Format) (c : List ℕ) where
   bad_length h = float_is f c ∙ rw (ne_eqb (length c) (width f) h)
 
   module _ (l : length c ≡ width f) where
-    pub bad_hex : No ≡ number_of (hscan 0 c) → as_float f c ≡ none
+    pub bad_hex : None ≡ number_of (hscan 0 c) → as_float f c ≡ none
     bad_hex e = float_is f c ∙ rw (eq-eqb (length c) (width f) l, no_of (hscan 0 c) e)
 
-    module _ (n : ℕ) (e : Is n ≡ number_of (hscan 0 c)) where
+    module _ (n : ℕ) (e : Some n ≡ number_of (hscan 0 c)) where
       pub in_width : n < 2 * top f
       in_width = let z : 16 ^ length c ≡ 2 * top f = ap (λ (k : ℕ). 16 ^ k) l ∙ (bits f).0 in omega (arith, hscan_lt 0 n c (is_of (hscan 0 c) n e))
 

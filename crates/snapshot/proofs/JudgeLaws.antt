@@ -1,4 +1,5 @@
 -- Laws of the pieces of a line as the code meets them: a byte, a field, a list of fields.
+use Rattle.std.specs.Prelude.{Option as Answer, Some, None}
 use Prim.Native.Nat.{ℕ, zero, suc, ◌+◌, ◌-◌, ◌≤◌, ◌<◌}
 use native.Mathlib.Omega.{arith}
 use native.Mathlib.Numerals.{add-one}
@@ -15,35 +16,34 @@ use Rattle.refusal.specs.Lent.{over}
 use Rattle.trcf.proofs.ShingleLaws.{over_part}
 use Rattle.snapshot.specs.Read.{as_whole, as_float}
 use Rattle.snapshot.specs.Scan.{single_of, double_of, number_of}
-use Rattle.snapshot.specs.Steps.Scan.{field_of, whole_of}
-use Rattle.snapshot.specs.declared.field.Number.TheVariants.{No, Is}
+use Rattle.snapshot.specs.Steps.Scan.{kind_number, field_of, whole_of}
+use Rattle.snapshot.specs.declared.field.Kind.{Kind}
+use Rattle.snapshot.specs.declared.field.Kind.TheVariants.{Single as Single32, Double as Double64, Whole as Whole64}
 use Rattle.snapshot.specs.Steps.Judge.{placed, onto, with_rest, byte, name, field_length, field_in, end_in, rest_field, tabbed_of, next_of}
 use Rattle.snapshot.specs.Steps.Judge.{one, before, fields, led, good_fields, line_firsts, buf_firsts, closing, list_line}
 use Rattle.snapshot.specs.Steps.Likely.{from_of}
 use Rattle.snapshot.specs.declared.field.Field.{Field}
 use Rattle.snapshot.specs.declared.field.Field.TheVariants.{Single, Double, Whole, Bad}
-use Rattle.snapshot.specs.declared.piece.Place.{Place}
-use Rattle.snapshot.specs.declared.piece.Place.TheVariants.{At, Nowhere}
 use Rattle.snapshot.specs.declared.piece.Next.{Next}
 
 -- ---- places
 
-pub got : (r : Place) (t : List ℕ) (o : Option (List ℕ)) (n : ℕ) → r ≡ At n → placed r t ≡ o → some (drop n t) ≡ o
+pub got : (r : Answer ℕ) (t : List ℕ) (o : Option (List ℕ)) (n : ℕ) → r ≡ Some n → placed r t ≡ o → some (drop n t) ≡ o
 got r t o n e h = rw e at h
 
-pub lost : (r : Place) (t : List ℕ) (o : Option (List ℕ)) → r ≡ Nowhere → placed r t ≡ o → none ≡ o
+pub lost : (r : Answer ℕ) (t : List ℕ) (o : Option (List ℕ)) → r ≡ None → placed r t ≡ o → none ≡ o
 lost r t o e h = rw e at h
 
 -- ---- a byte
 
 module _ (b : ℕ) (t : List ℕ) (i : ℕ) where
-  pub byte_yes : i < length t → get_or t i 0 ≡ b → placed (At (i + 1)) t ≡ byte b (drop i t)
+  pub byte_yes : i < length t → get_or t i 0 ≡ b → placed (Some (i + 1)) t ≡ byte b (drop i t)
   byte_yes h e = rw (drop-cons t i 0 h, eq-eqb (get_or t i 0) b e, add-one i)
 
-  pub byte_no : i < length t → (get_or t i 0 ≡ b → ⊥) → placed Nowhere t ≡ byte b (drop i t)
+  pub byte_no : i < length t → (get_or t i 0 ≡ b → ⊥) → placed None t ≡ byte b (drop i t)
   byte_no h e = rw (drop-cons t i 0 h, ne_eqb (get_or t i 0) b e)
 
-  pub byte_end : length t ≤ i → placed Nowhere t ≡ byte b (drop i t)
+  pub byte_end : length t ≤ i → placed None t ≡ byte b (drop i t)
   byte_end h = rw (drop_of_length-le t h)
 
 -- ---- where a field ends
@@ -67,6 +67,11 @@ field_short (b ∷ l) = go (leb b 10) refl (field_short l)
     go false e ih = rw e (omega arith)
 
 -- ---- a field
+
+pub few_kinds : (k : Kind) → kind_number k < 4
+few_kinds Single32 = omega arith
+few_kinds Double64 = omega arith
+few_kinds Whole64 = omega arith
 
 module _ (k : ℕ) (t : List ℕ) (i : ℕ) where
   pub next_yes : i < length t → get_or t i 0 ≡ 9 → from_of k (i + 1) t ≡ tabbed_of k i t
@@ -277,33 +282,33 @@ module _ (t : List ℕ) (i : ℕ) (r : Next) where
 
 -- a whole number, or none
 module _ (o : Option ℕ) (f : Field) (h : f ≡ whole_of o) where
-  pub number_is : (n : ℕ) → f ≡ Whole n → Is n ≡ number_of o
+  pub number_is : (n : ℕ) → f ≡ Whole n → Some n ≡ number_of o
   number_is n e = go o (sym e ∙ h)
     where
-      go : (q : Option ℕ) → Whole n ≡ whole_of q → Is n ≡ number_of q
+      go : (q : Option ℕ) → Whole n ≡ whole_of q → Some n ≡ number_of q
       go none k = let z : ◌≡◌ {A = ℕ} 0 1 = cc in absurd (omega arith)
-      go (some y) k = let e : n ≡ y = cc in ap Is e
+      go (some y) k = let e : n ≡ y = cc in ap Some e
 
-  pub number_not : ((x : ℕ) → f ≡ Whole x → ⊥) → No ≡ number_of o
+  pub number_not : ((x : ℕ) → f ≡ Whole x → ⊥) → None ≡ number_of o
   number_not e = go o h
     where
-      go : (q : Option ℕ) → f ≡ whole_of q → No ≡ number_of q
+      go : (q : Option ℕ) → f ≡ whole_of q → None ≡ number_of q
       go none k = refl
       go (some y) k = absurd (e y k)
 
 -- ---- a line of fields of one kind
 
 module _ {A : Type 0} where
-  pub got_list : (r : Place) (t : List ℕ) (v : List A) (o : Option (List A × List ℕ)) (n : ℕ) → r ≡ At n → with_rest v (placed r t) ≡ o → some (v, drop n t) ≡ o
+  pub got_list : (r : Answer ℕ) (t : List ℕ) (v : List A) (o : Option (List A × List ℕ)) (n : ℕ) → r ≡ Some n → with_rest v (placed r t) ≡ o → some (v, drop n t) ≡ o
   got_list r t v o n e h = rw e at h
 
-  pub got_one : (r : Place) (t : List ℕ) (v : A) (o : Option (A × List ℕ)) (n : ℕ) → r ≡ At n → with_rest v (placed r t) ≡ o → some (v, drop n t) ≡ o
+  pub got_one : (r : Answer ℕ) (t : List ℕ) (v : A) (o : Option (A × List ℕ)) (n : ℕ) → r ≡ Some n → with_rest v (placed r t) ≡ o → some (v, drop n t) ≡ o
   got_one r t v o n e h = rw e at h
 
-  pub lost_one : (r : Place) (t : List ℕ) (v : A) (o : Option (A × List ℕ)) → r ≡ Nowhere → with_rest v (placed r t) ≡ o → none ≡ o
+  pub lost_one : (r : Answer ℕ) (t : List ℕ) (v : A) (o : Option (A × List ℕ)) → r ≡ None → with_rest v (placed r t) ≡ o → none ≡ o
   lost_one r t v o e h = rw e at h
 
-  pub lost_list : (r : Place) (t : List ℕ) (v : List A) (o : Option (List A × List ℕ)) → r ≡ Nowhere → with_rest v (placed r t) ≡ o → none ≡ o
+  pub lost_list : (r : Answer ℕ) (t : List ℕ) (v : List A) (o : Option (List A × List ℕ)) → r ≡ None → with_rest v (placed r t) ≡ o → none ≡ o
   lost_list r t v o e h = rw e at h
 
 over_none : {A : Type 0} (old : List A) → old ≡ over old []

@@ -1,4 +1,5 @@
 -- What the tests of a line make of what was read.
+use Rattle.std.specs.Prelude.{Option as Answer, Some, None}
 use Prim.Native.Nat.{ℕ, zero, suc, ◌+◌, ◌≤◌, ◌<◌}
 use mathlib.Core.Path.{◌≡◌, refl, sym, ap, ◌∙◌}
 use mathlib.Core.Bool.{Bool, true, false, not, ◌&&◌, ◌||◌, cond}
@@ -16,23 +17,21 @@ use Rattle.trcf.specs.Preprocessor.{Reading, reading}
 use Rattle.trcf.specs.declared.types.TransformMethod.{TransformMethod}
 use Rattle.snapshot.specs.Read.{as_whole, as_float, climbs, zeros, Counts}
 use Rattle.snapshot.specs.Steps.Judge.{placed, onto, with_rest, byte, name, one, fields, closing, list_line, checked, wgt_test, cnt_test, cnt_by, counts_of, counts_read, counts_if_read, tim_test, timed, buf_test, buf_raw, buf_by}
-use Rattle.snapshot.specs.declared.piece.Place.{Place}
-use Rattle.snapshot.specs.declared.piece.Place.TheVariants.{At, Nowhere}
 
-module _ {A : Type 0} (q : A → Bool) (a : A) (r : Place) (t : List ℕ) (o : Option (A × List ℕ)) (e : with_rest a (placed r t) ≡ o) where
+module _ {A : Type 0} (q : A → Bool) (a : A) (r : Answer ℕ) (t : List ℕ) (o : Option (A × List ℕ)) (e : with_rest a (placed r t) ≡ o) where
   pub check_yes : q a ≡ true → with_rest a (placed r t) ≡ checked q o
   check_yes h = go r ∙ ap (checked q) e
     where
-      go : (p : Place) → with_rest a (placed p t) ≡ checked q (with_rest a (placed p t))
-      go (At n) = rw h
-      go Nowhere = refl
+      go : (p : Answer ℕ) → with_rest a (placed p t) ≡ checked q (with_rest a (placed p t))
+      go (Some n) = rw h
+      go None = refl
 
   pub check_no : q a ≡ false → none ≡ checked q o
   check_no h = go r ∙ ap (checked q) e
     where
-      go : (p : Place) → none ≡ checked q (with_rest a (placed p t))
-      go (At n) = rw h
-      go Nowhere = refl
+      go : (p : Answer ℕ) → none ≡ checked q (with_rest a (placed p t))
+      go (Some n) = rw h
+      go None = refl
 
 -- ---- the weights
 
@@ -94,21 +93,19 @@ module _ (m : TransformMethod) (start seen internal count : ℕ) where
         unfolding cnt_test
         cnt_past d = rw (le-leb seen seen_limit a, le-leb internal seen_limit b, le-leb count count_limit c, d)
 
-module _ (m : TransformMethod) (start : ℕ) (r : Place) (t l new : List ℕ) (e : with_rest new (placed r t) ≡ list_line as_whole 99 110 116 3 l) where
-  count_told : with_rest (counts_of new) (placed r t) ≡ counts_if_read (list_line as_whole 99 110 116 3 l)
-  count_told = go r ∙ ap counts_if_read e
-    where
-      go : (p : Place) → with_rest (counts_of new) (placed p t) ≡ counts_if_read (with_rest new (placed p t))
-      go (At n) = refl
-      go Nowhere = refl
-
-  pub cnt_good : cnt_test m start (counts_of new) ≡ true → with_rest (counts_of new) (placed r t) ≡ cnt_by m start l
+module _ (m : TransformMethod) (start : ℕ) (l : List ℕ) where
+  pub cnt_lineless : none ≡ list_line as_whole 99 110 116 3 l → none ≡ cnt_by m start l
   unfolding cnt_by
-  cnt_good h = check_yes (cnt_test m start) (counts_of new) r t (counts_if_read (list_line as_whole 99 110 116 3 l)) count_told h
+  cnt_lineless e = rw (sym e)
 
-  pub cnt_bad : cnt_test m start (counts_of new) ≡ false → none ≡ cnt_by m start l
-  unfolding cnt_by
-  cnt_bad h = check_no (cnt_test m start) (counts_of new) r t (counts_if_read (list_line as_whole 99 110 116 3 l)) count_told h
+  module _ (new z : List ℕ) (e : some (new, z) ≡ list_line as_whole 99 110 116 3 l) where
+    pub cnt_good : cnt_test m start (counts_of new) ≡ true → some (counts_of new, z) ≡ cnt_by m start l
+    unfolding cnt_by
+    cnt_good h = rw (sym e, h)
+
+    pub cnt_bad : cnt_test m start (counts_of new) ≡ false → none ≡ cnt_by m start l
+    unfolding cnt_by
+    cnt_bad h = rw (sym e, h)
 
 -- ---- one initial value
 
@@ -153,12 +150,8 @@ module _ (d p : ℕ) (l : List ℕ) where
         unfolding buf_test
         buf_infinite h i = fails (rw (le-leb p time h, i))
 
-        pub buf_good : p ≤ time → finite v ≡ true → (o : Option (List ℕ)) → o ≡ byte 10 x → with_rest (reading v time) o ≡ buf_by d p l
-        buf_good h i o q = ap (with_rest (reading v time)) q ∙ go (byte 10 x) ∙ at_end
-          where
-            test : buf_test p (reading v time) ≡ true
-            test = good p time v h i
+        pub buf_endless : none ≡ byte 10 x → none ≡ buf_by d p l
+        buf_endless q = ap (λ (o : Option (List ℕ)). checked (buf_test p) (with_rest (reading v time) o)) q ∙ at_end
 
-            go : (o : Option (List ℕ)) → with_rest (reading v time) o ≡ checked (buf_test p) (with_rest (reading v time) o)
-            go none = refl
-            go (some w) = rw test
+        pub buf_good : p ≤ time → finite v ≡ true → (w : List ℕ) → some w ≡ byte 10 x → some (reading v time, w) ≡ buf_by d p l
+        buf_good h i w q = rw (good p time v h i) at (ap (λ (o : Option (List ℕ)). checked (buf_test p) (with_rest (reading v time) o)) q ∙ at_end)

@@ -6,13 +6,12 @@ use mathlib.Core.Option.{Option, none, some}
 use lib.Ieee.{Float, binary32}
 use Rattle.snapshot.specs.Read.{as_float}
 use Rattle.snapshot.specs.Steps.Judge.{list_line, tim_by}
-use Rattle.snapshot.specs.Steps.Runs.{Ran, ran, broke, ran_by, then_lines, one_line, after_lines, devs, Parts, parts, parts_by}
+use Rattle.snapshot.specs.Steps.Runs.{Ran, ran, broke, then_lines, one_line, after_lines, devs, Parts, parts, parts_by}
 
 module _ (internal n x y k : ℕ) (l : List ℕ) where
-  pub parts_broke : (m : ℕ) (st : List Float) (b : Parts) (z : List ℕ) → ran_by m st z ≡ devs n l → (m ≡ 0 → ⊥) → ran_by m b z ≡ parts_by internal n x y k l
+  pub parts_broke : (m : ℕ) → broke m ≡ devs n l → broke m ≡ parts_by internal n x y k l
   unfolding parts_by
-  parts_broke zero st b z e h = absurd (h refl)
-  parts_broke (suc m) st b z e h = rw (sym e)
+  parts_broke m e = rw (sym e)
 
   module _ (st : List Float) (l₁ : List ℕ) (e : ran st l₁ ≡ devs n l) where
     pub parts_inp : none ≡ list_line (as_float binary32) 105 110 112 x l₁ → broke (n + 1) ≡ parts_by internal n x y k l

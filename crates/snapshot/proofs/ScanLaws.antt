@@ -1,4 +1,5 @@
 -- Scanning a field from left to right gives what it was written from, and nothing else.
+use Rattle.std.specs.Prelude.{Some, None}
 use Prim.Native.Nat.{ℕ, zero, suc, ◌+◌, ◌-◌, ◌*◌, ◌/◌, ◌%◌, ◌^◌, ◌≤◌, ◌<◌}
 use native.Mathlib.Nat.{mod-lt}
 use native.Mathlib.Omega.{arith}
@@ -18,8 +19,6 @@ use Rattle.snapshot.proofs.Lists.{and_left, and_right}
 use Rattle.snapshot.proofs.ReadLine.{same_refl, same_eq}
 use Rattle.snapshot.specs.Scan.{number_of}
 use Rattle.snapshot.specs.Steps.Scan.{lead, digits, scan}
-use Rattle.snapshot.specs.declared.field.Number.{Number}
-use Rattle.snapshot.specs.declared.field.Number.TheVariants.{Is, No}
 
 -- ---- what `as_whole` says
 
@@ -196,11 +195,11 @@ lead_many [] b h k e = absurd (h refl)
 lead_many (x ∷ []) b h k e = absurd (k refl)
 lead_many (x ∷ y ∷ ys) b h k e = rw e
 
-pub none_at : (c : List ℕ) (n i : ℕ) → lead c ≡ true → scan 0 c ≡ scan n (drop i c) → scan n (drop i c) ≡ none → No ≡ number_of (as_whole c)
+pub none_at : (c : List ℕ) (n i : ℕ) → lead c ≡ true → scan 0 c ≡ scan n (drop i c) → scan n (drop i c) ≡ none → None ≡ number_of (as_whole c)
 none_at c n i l e z = sym (ap number_of (scan_is c l ∙ e ∙ z))
 
-pub some_at : (c : List ℕ) (n i : ℕ) → lead c ≡ true → scan 0 c ≡ scan n (drop i c) → length c ≤ i → Is n ≡ number_of (as_whole c)
+pub some_at : (c : List ℕ) (n i : ℕ) → lead c ≡ true → scan 0 c ≡ scan n (drop i c) → length c ≤ i → Some n ≡ number_of (as_whole c)
 some_at c n i l e h = sym (ap number_of (scan_is c l ∙ e ∙ scan_end n i c h))
 
-pub none_lead : (c : List ℕ) → lead c ≡ false → No ≡ number_of (as_whole c)
+pub none_lead : (c : List ℕ) → lead c ≡ false → None ≡ number_of (as_whole c)
 none_lead c l = sym (ap number_of (no_lead c l))

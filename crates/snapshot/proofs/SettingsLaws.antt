@@ -15,14 +15,7 @@ use Rattle.trcf.specs.Types.{mode_of_letter}
 use Rattle.snapshot.specs.Read.{as_whole, as_float}
 use Rattle.trcf.specs.declared.types.ForestMode.{ForestMode}
 use Rattle.trcf.specs.declared.types.TransformMethod.{TransformMethod}
-use Rattle.snapshot.specs.Steps.Judge.{placed, onto, with_rest, byte, name, one, fields, mode_named, mode_in, mode_told, method_in, method_told, set_test, tail_by, settings_with, settings_if_read, set_by, settings_told}
-use Rattle.snapshot.specs.declared.piece.Place.{Place}
-use Rattle.snapshot.specs.declared.piece.Place.TheVariants.{At, Nowhere}
-use Rattle.snapshot.specs.declared.settings.Mode.{Mode}
-use Rattle.snapshot.specs.declared.settings.Mode.TheVariants.{OfMode, NoMode}
-use Rattle.snapshot.specs.declared.settings.Method.{Method}
-use Rattle.snapshot.specs.declared.settings.Method.TheVariants.{OfMethod, NoMethod}
-use Rattle.snapshot.specs.declared.settings.Set.{Set}
+use Rattle.snapshot.specs.Steps.Judge.{placed, onto, with_rest, byte, name, one, fields, mode_named, mode_in, method_in, set_test, tail_by, settings_with, settings_if_read, set_by, settings_told}
 
 module _ (t : List ℕ) (i : ℕ) where
   -- a letter, judged by the mode that it names
@@ -95,17 +88,14 @@ method_none (suc (suc (suc (suc (suc (suc n)))))) a b c d e f = refl
 
 -- ---- the whole line, where it ends
 
-pub mode_inside : (t : List ℕ) (i : ℕ) (r : Mode) (m : ForestMode) → r ≡ OfMode m → mode_told r ≡ mode_in (drop i t) → i < length t
-mode_inside t i r m e h = go (leb (length t) i) refl
+pub mode_inside : (t : List ℕ) (i : ℕ) (m : ForestMode) → some m ≡ mode_in (drop i t) → i < length t
+mode_inside t i m h = go (leb (length t) i) refl
   where
     go : (b : Bool) → leb (length t) i ≡ b → i < length t
     go false q = leb-false (length t) i q
     go true q =
-        let z : some m ≡ none = (rw e at h) ∙ sym (mode_end t i (leb-true (length t) i q)) in
+        let z : some m ≡ none = h ∙ sym (mode_end t i (leb-true (length t) i q)) in
         absurd (none-ne-some m (sym z))
-
-pub no_settings : (r : Set) (t : List ℕ) → r.place ≡ Nowhere → with_rest (settings_told r) (placed r.place t) ≡ none
-no_settings r t e = ap (λ (p : Place). with_rest (settings_told r) (placed p t)) e
 
 module _ (t : List ℕ) where
   pub set_nameless : none ≡ name 115 101 116 t → none ≡ set_by t
@@ -118,42 +108,41 @@ module _ (t : List ℕ) where
     set_tabless f = rw (sym e, sym f)
 
     module _ (q : ℕ) (f : some (drop q t) ≡ byte 9 z) where
-      pub set_modeless : (r : Mode) → r ≡ NoMode → mode_told r ≡ mode_in (drop q t) → none ≡ set_by t
+      pub set_modeless : none ≡ mode_in (drop q t) → none ≡ set_by t
       unfolding set_by
-      set_modeless r n h = let g : none ≡ mode_in (drop q t) = rw n at h in rw (sym e, sym f, sym g)
+      set_modeless g = rw (sym e, sym f, sym g)
 
-      module _ (r : Mode) (m : ForestMode) (n : r ≡ OfMode m) (h : mode_told r ≡ mode_in (drop q t)) where
+      module _ (m : ForestMode) (g : some m ≡ mode_in (drop q t)) where
         at_wholes : onto (fields as_whole 5 (drop (q + 1) t)) (λ w. onto (method_in (get_or w.0 0 0)) (λ k. settings_if_read m k w.0 (tail_by w.1))) ≡ set_by t
         unfolding set_by
-        at_wholes = let g : some m ≡ mode_in (drop q t) = rw n at h in rw (sym e, sym f, sym g, drop-drop 1 q t)
+        at_wholes = rw (sym e, sym f, sym g, drop-drop 1 q t)
 
         pub set_wholeless : none ≡ fields as_whole 5 (drop (q + 1) t) → none ≡ set_by t
-        set_wholeless g = ap (λ (o : Option (List ℕ × List ℕ)). onto o (λ w. onto (method_in (get_or w.0 0 0)) (λ k. settings_if_read m k w.0 (tail_by w.1)))) g ∙ at_wholes
+        set_wholeless h = ap (λ (o : Option (List ℕ × List ℕ)). onto o (λ w. onto (method_in (get_or w.0 0 0)) (λ k. settings_if_read m k w.0 (tail_by w.1)))) h ∙ at_wholes
 
-        module _ (w : List ℕ) (x : List ℕ) (g : some (w, x) ≡ fields as_whole 5 (drop (q + 1) t)) where
+        module _ (w : List ℕ) (x : List ℕ) (h : some (w, x) ≡ fields as_whole 5 (drop (q + 1) t)) where
           at_method : onto (method_in (get_or w 0 0)) (λ k. settings_if_read m k w (tail_by x)) ≡ set_by t
-          at_method = ap (λ (o : Option (List ℕ × List ℕ)). onto o (λ v. onto (method_in (get_or v.0 0 0)) (λ k. settings_if_read m k v.0 (tail_by v.1)))) g ∙ at_wholes
+          at_method = ap (λ (o : Option (List ℕ × List ℕ)). onto o (λ v. onto (method_in (get_or v.0 0 0)) (λ k. settings_if_read m k v.0 (tail_by v.1)))) h ∙ at_wholes
 
-          pub set_methodless : (s : Method) → s ≡ NoMethod → method_told s ≡ method_in (get_or w 0 0) → none ≡ set_by t
-          set_methodless s a b = let c : none ≡ method_in (get_or w 0 0) = rw a at b in ap (λ (o : Option TransformMethod). onto o (λ k. settings_if_read m k w (tail_by x))) c ∙ at_method
+          pub set_methodless : none ≡ method_in (get_or w 0 0) → none ≡ set_by t
+          set_methodless b = ap (λ (o : Option TransformMethod). onto o (λ k. settings_if_read m k w (tail_by x))) b ∙ at_method
 
-          module _ (s : Method) (k : TransformMethod) (a : s ≡ OfMethod k) (b : method_told s ≡ method_in (get_or w 0 0))
-              (p : Place) (y u : Float) (c : with_rest (y, u) (placed p t) ≡ tail_by x) where
-            at_tail : settings_if_read m k w (with_rest (y, u) (placed p t)) ≡ set_by t
-            at_tail =
-                let d : some k ≡ method_in (get_or w 0 0) = rw a at b in
-                ap (settings_if_read m k w) c ∙ ap (λ (o : Option TransformMethod). onto o (λ k. settings_if_read m k w (tail_by x))) d ∙ at_method
+          module _ (k : TransformMethod) (b : some k ≡ method_in (get_or w 0 0)) where
+            at_tail : settings_if_read m k w (tail_by x) ≡ set_by t
+            at_tail = ap (λ (o : Option TransformMethod). onto o (λ k. settings_if_read m k w (tail_by x))) b ∙ at_method
 
-            pub set_unfit : set_test (get_or w 1 0) (get_or w 2 0) (get_or w 3 0) (get_or w 4 0) y ≡ false → none ≡ set_by t
-            set_unfit h = go p ∙ at_tail
-              where
-                go : (p : Place) → none ≡ settings_if_read m k w (with_rest (y, u) (placed p t))
-                go (At n) = rw h
-                go Nowhere = refl
+            pub set_tailless : none ≡ tail_by x → none ≡ set_by t
+            set_tailless c = ap (settings_if_read m k w) c ∙ at_tail
 
-            pub set_good : set_test (get_or w 1 0) (get_or w 2 0) (get_or w 3 0) (get_or w 4 0) y ≡ true → with_rest (settings_with m k w y u) (placed p t) ≡ set_by t
-            set_good h = go p ∙ at_tail
-              where
-                go : (p : Place) → with_rest (settings_with m k w y u) (placed p t) ≡ settings_if_read m k w (with_rest (y, u) (placed p t))
-                go (At n) = rw h
-                go Nowhere = refl
+            module _ (y u : Float) (v : List ℕ) (c : some ((y, u), v) ≡ tail_by x) where
+              pub set_unfit : set_test (get_or w 1 0) (get_or w 2 0) (get_or w 3 0) (get_or w 4 0) y ≡ false → none ≡ set_by t
+              set_unfit i = go i ∙ ap (settings_if_read m k w) c ∙ at_tail
+                where
+                  go : set_test (get_or w 1 0) (get_or w 2 0) (get_or w 3 0) (get_or w 4 0) y ≡ false → none ≡ settings_if_read m k w (some ((y, u), v))
+                  go i = rw i
+
+              pub set_good : set_test (get_or w 1 0) (get_or w 2 0) (get_or w 3 0) (get_or w 4 0) y ≡ true → some (settings_with m k w y u, v) ≡ set_by t
+              set_good i = go i ∙ ap (settings_if_read m k w) c ∙ at_tail
+                where
+                  go : set_test (get_or w 1 0) (get_or w 2 0) (get_or w 3 0) (get_or w 4 0) y ≡ true → some (settings_with m k w y u, v) ≡ settings_if_read m k w (some ((y, u), v))
+                  go i = rw i

@@ -3,30 +3,36 @@ ghost use Rattle.std.specs.Prelude.{◌≡◌};
 ghost use Rattle.std.specs.Float.{binary32, binary64};
 ghost use Rattle.snapshot.specs.Read.{as_whole, as_float};
 ghost use Rattle.snapshot.specs.Scan.{number_of, single_of, double_of};
+ghost use Rattle.snapshot.specs.Steps.Scan.{kind_number};
+ghost use Rattle.snapshot.specs.Steps.Judge.{rest_field};
 
-use crate::field::Field;
-use crate::judge::next_field;
+use crate::field::{Field, Kind};
+use crate::piece::Next;
+use crate::reader::{new, rest};
+
+// The whole cell as one field.
+fn cell(c: &[u8], kind: Kind) -> Next
+    ensures { result ≡ rest_field (kind_number kind) 0 c.now }
+{
+    rest(new(c, 0), kind)
+}
 
 pub fn single(c: &[u8]) -> Field
     ensures { result ≡ single_of (as_float binary32 c.now) }
 {
-    let next = next_field(c, 0, 4);
-    let field = next.field;
-    field
+    cell(c, Kind::Single).field
 }
 
 pub fn double(c: &[u8]) -> Field
     ensures { result ≡ double_of (as_float binary64 c.now) }
 {
-    let next = next_field(c, 0, 5);
-    let field = next.field;
-    field
+    cell(c, Kind::Double).field
 }
 
 pub fn whole(c: &[u8]) -> Option<u64>
     ensures { result ≡ number_of (as_whole c.now) }
 {
-    let next = next_field(c, 0, 6);
+    let next = cell(c, Kind::Whole);
     let field = next.field;
     let Field::Whole(n) = field else {
         return None;

@@ -2,14 +2,10 @@
 ghost use Rattle.std.specs.Prelude.{◌≡◌, ◌+◌, ◌-◌, ◌*◌, ◌≤◌, ◌<◌, length, take, drop};
 ghost use Rattle.std.specs.Float.{binary32, binary64};
 ghost use Rattle.snapshot.specs.Scan.{number_of, single_of, double_of};
-ghost use Rattle.snapshot.specs.Steps.Scan.{lead, hex_of, hscan, field_of};
+ghost use Rattle.snapshot.specs.Steps.Scan.{lead, hex_of, hscan, whole_of, kind_number, field_of};
 ghost use Rattle.snapshot.specs.Read.{as_whole, as_float};
 
-fn wide(x: u8) -> u64
-    ensures { result ≡ x }
-{
-    x as u64
-}
+use crate::piece::wide;
 
 // Not empty, and no zero before another digit.
 fn leads(c: &[u8]) -> bool
@@ -144,22 +140,35 @@ pub fn double(c: &[u8]) -> Field
     }
 }
 
-// The field from..to of the text, by the kind that its place calls for: 0 a single, 1 a double, else a whole number.
-pub(crate) fn parse(text: &[u8], from: usize, to: usize, kind: u64) -> Field
-    requires from_le_to { from ≤ to }
-    requires to_in_bounds { to ≤ length text.now }
-    ensures { result ≡ field_of kind (take (to - from) (drop from text.now)) }
+// A whole number as a field.
+fn whole_field(c: &[u8]) -> Field
+    ensures { result ≡ whole_of (as_whole c.now) }
 {
-    let c = &text[from..to];
-    if kind == 0 {
-        return single(c);
-    }
-    if kind == 1 {
-        return double(c);
-    }
     let w = whole(c);
     match w {
         None => Field::Bad,
         Some(n) => Field::Whole(n),
+    }
+}
+
+// What its place calls for.
+#[derive(Clone, Copy, Debug, PartialEq, Eq)]
+pub(crate) enum Kind {
+    Single,
+    Double,
+    Whole,
+}
+
+// The field from..to of the text, by the kind that its place calls for.
+pub(crate) fn parse(text: &[u8], from: usize, to: usize, kind: Kind) -> Field
+    requires from_le_to { from ≤ to }
+    requires to_in_bounds { to ≤ length text.now }
+    ensures { result ≡ field_of (kind_number kind) (take (to - from) (drop from text.now)) }
+{
+    let c = &text[from..to];
+    match kind {
+        Kind::Single => single(c),
+        Kind::Double => double(c),
+        Kind::Whole => whole_field(c),
     }
 }

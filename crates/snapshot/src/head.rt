@@ -59,15 +59,20 @@ pub fn head_lines(text: &[u8]) -> Result<Header, BadLine>
     ensures head_few { IfOk result (λ header. HeadFew header.head) }
     ensures extra_bound { IfOk result (λ header. header.extra ≤ 1) }
 {
-    let set = set_line(text).ok_or(BadLine { line: 1 })?;
+    let Some(set) = set_line(text) else {
+        return Err(BadLine { line: 1 });
+    };
     let d = set.d as usize;
     let mut weights = [0.0f32; 16];
-    let p = wgt_line(text, set.end, set.method, &mut weights[..d]).ok_or(BadLine { line: 2 })?;
-    let third = chn_line(text, p, d);
-    let last = BadLine {
-        line: 3 + third.extra,
+    let Some(p) = wgt_line(text, set.end, set.method, &mut weights[..d]) else {
+        return Err(BadLine { line: 2 });
     };
-    let counters = cnt_line(text, third.at, set.method, set.start as usize).ok_or(last)?;
+    let third = chn_line(text, p, d);
+    let Some(counters) = cnt_line(text, third.at, set.method, set.start as usize) else {
+        return Err(BadLine {
+            line: 3 + third.extra,
+        });
+    };
     let head = head_with(
         set,
         weights,

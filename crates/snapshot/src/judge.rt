@@ -1,116 +1,101 @@
 // Reading a snapshot from left to right (document 01, 'Trace text'): its lists, its lines, and the loops over them. "The first bad field ends
 // the whole reading."
-ghost use Rattle.std.specs.Prelude.{◌≡◌, length, drop};
+ghost use Rattle.std.specs.Prelude.{◌≡◌, ℕ, List, length, drop};
+ghost use Rattle.std.proofs.Math.Option.{Option as Perhaps};
 ghost use Rattle.std.specs.Float.{binary32, binary64};
 ghost use Rattle.snapshot.specs.Read.{as_whole, as_float};
-ghost use Rattle.snapshot.specs.Steps.Judge.{byte, name, next_of, fields, good_fields, list_line, line_firsts, Filled};
+ghost use Rattle.snapshot.specs.Steps.Scan.{kind_number};
+ghost use Rattle.snapshot.specs.Steps.Judge.{byte, name, next_of, one, celled, fields, good_fields, list_line, line_firsts, Filled};
 
-use crate::field::Field;
+use crate::field::{Field, Kind};
 use crate::piece::{Next, byte, name};
 use crate::reader::{new, next};
 
 // The same by a field reader, which holds the text and the place: what reads a field calls this.
-pub(crate) fn next_field(text: &[u8], at: usize, kind: u64) -> Next
-    ensures { result ≡ next_of kind at text.now }
+fn next_field(text: &[u8], at: usize, kind: Kind) -> Next
+    ensures { result ≡ next_of (kind_number kind) at text.now }
 {
     next(new(text, at), kind)
 }
 
-// As many f32 fields as `out` is long.
-pub(crate) fn singles(text: &[u8], at: usize, out: &mut [f32]) -> Option<usize>
-    ensures { Filled (fields (as_float binary32) (length out.old) (drop at text.now)) (good_fields (as_float binary32) (length out.old) (drop at text.now)) text.now out.old result out.new }
-{
-    let mut p = at;
-    'fields: for i in 0..out.len() {
-        let next = next_field(text, p, 0);
-        let f = next.field;
-        let Field::Single(x) = f else {
-            return None;
-        };
-        out[i] = x;
-        p = next.end;
-    }
-    Some(p)
+// A number that a field holds, of the kind that its place calls for.
+pub trait Cell: Copy {
+    // How the definitions read it.
+    ghost read: { List ℕ → Perhaps Self };
+
+    // The number after the tab at a place, and the place after its field; none where the field is bad.
+    fn cell(text: &[u8], at: usize) -> Option<(Self, usize)>
+        ensures { celled result text.now ≡ one read (drop at text.now) };
 }
 
-// As many f64 fields as `out` is long.
-fn doubles(text: &[u8], at: usize, out: &mut [f64]) -> Option<usize>
-    ensures { Filled (fields (as_float binary64) (length out.old) (drop at text.now)) (good_fields (as_float binary64) (length out.old) (drop at text.now)) text.now out.old result out.new }
-{
-    let mut p = at;
-    'fields: for i in 0..out.len() {
-        let next = next_field(text, p, 1);
-        let f = next.field;
-        let Field::Double(x) = f else {
+impl Cell for f32 {
+    ghost read = { as_float binary32 };
+
+    fn cell(text: &[u8], at: usize) -> Option<(f32, usize)> {
+        let next = next_field(text, at, Kind::Single);
+        let field = next.field;
+        let Field::Single(x) = field else {
             return None;
         };
-        out[i] = x;
-        p = next.end;
+        Some((x, next.end))
     }
-    Some(p)
 }
 
-// As many whole numbers as `out` is long.
-pub(crate) fn wholes(text: &[u8], at: usize, out: &mut [u64]) -> Option<usize>
-    ensures { Filled (fields as_whole (length out.old) (drop at text.now)) (good_fields as_whole (length out.old) (drop at text.now)) text.now out.old result out.new }
-{
-    let mut p = at;
-    'fields: for i in 0..out.len() {
-        let next = next_field(text, p, 2);
-        let f = next.field;
-        let Field::Whole(x) = f else {
+impl Cell for f64 {
+    ghost read = { as_float binary64 };
+
+    fn cell(text: &[u8], at: usize) -> Option<(f64, usize)> {
+        let next = next_field(text, at, Kind::Double);
+        let field = next.field;
+        let Field::Double(x) = field else {
             return None;
         };
-        out[i] = x;
-        p = next.end;
+        Some((x, next.end))
     }
-    Some(p)
 }
 
-// A line of f32 fields.
-pub fn singles_line(
+impl Cell for u64 {
+    ghost read = { as_whole };
+
+    fn cell(text: &[u8], at: usize) -> Option<(u64, usize)> {
+        let next = next_field(text, at, Kind::Whole);
+        let field = next.field;
+        let Field::Whole(x) = field else {
+            return None;
+        };
+        Some((x, next.end))
+    }
+}
+
+// As many fields as `out` is long, and the place after them.
+pub(crate) fn fields<T: Cell>(text: &[u8], at: usize, out: &mut [T]) -> Option<usize>
+    ensures { Filled (fields T.read (length out.old) (drop at text.now)) (good_fields T.read (length out.old) (drop at text.now)) text.now out.old result out.new }
+{
+    let mut p = at;
+    'fields: {
+        for slot in out.iter_mut() {
+            let Some((x, end)) = T::cell(text, p) else {
+                break 'fields None;
+            };
+            *slot = x;
+            p = end;
+        }
+        Some(p)
+    }
+}
+
+// A line of a name and as many fields as `out` is long, and the place after it.
+pub fn list_line<T: Cell>(
     text: &[u8],
     at: usize,
     a: u64,
     b: u64,
     c: u64,
-    out: &mut [f32],
+    out: &mut [T],
 ) -> Option<usize>
-    ensures { Filled (list_line (as_float binary32) a b c (length out.old) (drop at text.now)) (line_firsts (as_float binary32) a b c (length out.old) (drop at text.now)) text.now out.old result out.new }
+    ensures { Filled (list_line T.read a b c (length out.old) (drop at text.now)) (line_firsts T.read a b c (length out.old) (drop at text.now)) text.now out.old result out.new }
 {
     let p = name(text, at, a, b, c)?;
-    let q = singles(text, p, out)?;
-    byte(text, q, 10)
-}
-
-// A line of f64 fields.
-pub fn doubles_line(
-    text: &[u8],
-    at: usize,
-    a: u64,
-    b: u64,
-    c: u64,
-    out: &mut [f64],
-) -> Option<usize>
-    ensures { Filled (list_line (as_float binary64) a b c (length out.old) (drop at text.now)) (line_firsts (as_float binary64) a b c (length out.old) (drop at text.now)) text.now out.old result out.new }
-{
-    let p = name(text, at, a, b, c)?;
-    let q = doubles(text, p, out)?;
-    byte(text, q, 10)
-}
-
-// A line of whole numbers.
-pub(crate) fn wholes_line(
-    text: &[u8],
-    at: usize,
-    a: u64,
-    b: u64,
-    c: u64,
-    out: &mut [u64],
-) -> Option<usize>
-    ensures { Filled (list_line as_whole a b c (length out.old) (drop at text.now)) (line_firsts as_whole a b c (length out.old) (drop at text.now)) text.now out.old result out.new }
-{
-    let p = name(text, at, a, b, c)?;
-    let q = wholes(text, p, out)?;
+    let q = fields(text, p, out)?;
     byte(text, q, 10)
 }

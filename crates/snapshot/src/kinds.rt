@@ -6,8 +6,7 @@ ghost use Rattle.trcf.specs.Types.{normalizes};
 ghost use Rattle.snapshot.specs.Read.{as_whole, as_float};
 ghost use Rattle.snapshot.specs.Steps.Judge.{line_firsts, buf_firsts, Filled, codes_read, chn_or, chn_by, wgt_by, cnt_test, cnt_told, cnt_by, tim_by, buf_by, counts_read, FilledWith};
 
-use crate::field::Field;
-use crate::judge::{next_field, singles, singles_line, wholes_line};
+use crate::judge::{Cell, fields, list_line};
 use crate::piece::{byte, name};
 use crate::values::{all_zero, codes_fit, narrowed, none_falls};
 use common::deviation::COUNT_LIMIT;
@@ -25,7 +24,7 @@ pub(crate) fn wgt_line(
 ) -> Option<usize>
     ensures { Filled (wgt_by method (length out.old) (drop at text.now)) (line_firsts (as_float binary32) 119 103 116 (length out.old) (drop at text.now)) text.now out.old result out.new }
 {
-    let place = singles_line(text, at, 119, 103, 116, out);
+    let place = list_line(text, at, 119, 103, 116, out);
     if is_none(method) {
         if !all_one(out) {
             return None;
@@ -46,7 +45,7 @@ pub(crate) struct Coded {
 fn chn_codes(text: &[u8], at: usize, out: &mut [u64]) -> Option<usize>
     ensures { Filled (chn_by (length out.old) (drop at text.now)) (line_firsts as_whole 99 104 110 (length out.old) (drop at text.now)) text.now out.old result out.new }
 {
-    let place = wholes_line(text, at, 99, 104, 110, out);
+    let place = list_line(text, at, 99, 104, 110, out);
     if !codes_fit(out) {
         return None;
     }
@@ -79,7 +78,7 @@ pub(crate) fn chn_line(text: &[u8], at: usize, d: usize) -> Coded
 pub fn tim_line(text: &[u8], at: usize, internal: usize, out: &mut [u64]) -> Option<usize>
     ensures { Filled (tim_by internal (length out.old) (drop at text.now)) (line_firsts as_whole 116 105 109 (length out.old) (drop at text.now)) text.now out.old result out.new }
 {
-    let place = wholes_line(text, at, 116, 105, 109, out);
+    let place = list_line(text, at, 116, 105, 109, out);
     if !none_falls(out) {
         return None;
     }
@@ -140,7 +139,7 @@ pub(crate) fn cnt_line(
     ensures { cnt_told result text.now ≡ cnt_by method start (drop at text.now) }
 {
     let mut n = [0u64; 3];
-    let end = wholes_line(text, at, 99, 110, 116, &mut n[..])?;
+    let end = list_line(text, at, 99, 110, 116, &mut n[..])?;
     let seen = n[0];
     let internal = n[1];
     let count = n[2];
@@ -167,18 +166,14 @@ pub fn buf_line(text: &[u8], at: usize, past: u64, out: &mut [f32]) -> Option<Ti
     ensures { FilledWith (buf_by (length out.old) past (drop at text.now)) (buf_firsts (length out.old) (drop at text.now)) text.now out.old result out.new }
 {
     let p = name(text, at, 98, 117, 102)?;
-    let next = next_field(text, p, 2);
-    let f = next.field;
-    let Field::Whole(time) = f else {
-        return None;
-    };
-    let q = singles(text, next.end, out)?;
+    let (time, q) = u64::cell(text, p)?;
+    let r = fields(text, q, out)?;
     if time < past {
         return None;
     }
     if !all_finite(out) {
         return None;
     }
-    let end = byte(text, q, 10)?;
+    let end = byte(text, r, 10)?;
     Some(Timed { end, time })
 }

@@ -1,9 +1,10 @@
 // The pieces of a line (document 01, 'Trace text'): a byte, a name, and the field after a tab.
 ghost use Rattle.std.specs.Prelude.{◌≡◌, ◌+◌, ◌≤◌, ◌<◌, length, drop};
-ghost use Rattle.snapshot.specs.Steps.Judge.{placed, byte, name, field_length, rest_field, tabbed_of, next_of};
+ghost use Rattle.snapshot.specs.Steps.Judge.{placed, byte, name, field_length, rest_field, next_of};
 ghost use Rattle.snapshot.specs.Steps.Likely.{likely, from_of};
+ghost use Rattle.snapshot.specs.Steps.Scan.{kind_number};
 
-use crate::field::{Field, parse};
+use crate::field::{Field, Kind, parse};
 
 pub(crate) fn wide(x: u8) -> u64
     ensures { result ≡ x }
@@ -46,40 +47,39 @@ fn field_end(text: &[u8], from: usize) -> usize
 }
 
 // A field, and the place after it.
-#[derive(Clone, Copy)]
+#[derive(Clone, Copy, Debug, PartialEq)]
 pub(crate) struct Next {
     pub field: Field,
     pub end: usize,
 }
 
 // Where the field ends if a single has its 8 bytes and a double its 16; else the next tab or LF.
-fn likely_end(text: &[u8], from: usize, kind: u64) -> usize
+fn likely_end(text: &[u8], from: usize, kind: Kind) -> usize
     requires { from ≤ length text.now }
-    ensures { result ≡ from + likely kind (drop from text.now) }
+    ensures { result ≡ from + likely (kind_number kind) (drop from text.now) }
 {
-    if kind < 2 {
-        let width = (kind * 8 + 8) as usize;
-        if width < text.len() - from {
-            if wide(text[from + width]) <= 10 {
-                return from + width;
-            }
+    let width = match kind {
+        Kind::Single => 8,
+        Kind::Double => 16,
+        Kind::Whole => return field_end(text, from),
+    };
+    if width < text.len() - from {
+        if wide(text[from + width]) <= 10 {
+            return from + width;
         }
     }
     field_end(text, from)
 }
 
 // The field that begins at a place. A good one has no tab and no LF in it, so that its likely end is its end; the end of a bad one is looked for.
-fn field_from(text: &[u8], from: usize, kind: u64) -> Next
+fn field_from(text: &[u8], from: usize, kind: Kind) -> Next
     requires { from ≤ length text.now }
-    ensures { result ≡ from_of kind from text.now }
+    ensures { result ≡ from_of (kind_number kind) from text.now }
 {
     let end = likely_end(text, from, kind);
     let field = parse(text, from, end, kind);
     let Field::Bad = field else {
-        return Next {
-            field: field,
-            end: end,
-        };
+        return Next { field, end };
     };
     Next {
         field: Field::Bad,
@@ -88,27 +88,21 @@ fn field_from(text: &[u8], from: usize, kind: u64) -> Next
 }
 
 // The rest of the text as one field.
-fn rest_at(text: &[u8], at: usize, kind: u64) -> Next
-    ensures { result ≡ rest_field kind at text.now }
+pub(crate) fn rest_at(text: &[u8], at: usize, kind: Kind) -> Next
+    ensures { result ≡ rest_field (kind_number kind) at text.now }
 {
     let end = text.len();
     if at < end {
         let field = parse(text, at, end, kind);
-        return Next {
-            field: field,
-            end: end,
-        };
+        return Next { field, end };
     }
     let field = parse(text, end, end, kind);
-    Next {
-        field: field,
-        end: end,
-    }
+    Next { field, end }
 }
 
 // The field after the tab at a place, by the kind that its place calls for.
-fn tabbed_at(text: &[u8], at: usize, kind: u64) -> Next
-    ensures { result ≡ tabbed_of kind at text.now }
+pub(crate) fn field_at(text: &[u8], at: usize, kind: Kind) -> Next
+    ensures { result ≡ next_of (kind_number kind) at text.now }
 {
     if at < text.len() {
         if wide(text[at]) == 9 {
@@ -119,14 +113,4 @@ fn tabbed_at(text: &[u8], at: usize, kind: u64) -> Next
         field: Field::Bad,
         end: at,
     }
-}
-
-// By the kind: below 4 the field after a tab, from 4 on the rest of the text.
-pub(crate) fn field_at(text: &[u8], at: usize, kind: u64) -> Next
-    ensures { result ≡ next_of kind at text.now }
-{
-    if kind < 4 {
-        return tabbed_at(text, at, kind);
-    }
-    rest_at(text, at, kind - 4)
 }

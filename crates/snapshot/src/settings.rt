@@ -3,8 +3,7 @@ ghost use Rattle.std.specs.Prelude.{◌≡◌, length, drop};
 ghost use Rattle.snapshot.specs.Scan.{told};
 ghost use Rattle.snapshot.specs.Steps.Judge.{mode_in, method_in, set_test, tail_told, tail_by, set_told, set_by};
 
-use crate::field::Field;
-use crate::judge::{next_field, wholes};
+use crate::judge::{Cell, fields};
 use crate::piece::{byte, name, wide};
 use common::deviation::outside_unit;
 use trcf::types::{
@@ -68,17 +67,9 @@ pub(crate) struct Tail {
 fn set_tail(text: &[u8], at: usize) -> Option<Tail>
     ensures { tail_told result text.now ≡ tail_by (drop at text.now) }
 {
-    let first = next_field(text, at, 1);
-    let f = first.field;
-    let Field::Double(decay) = f else {
-        return None;
-    };
-    let second = next_field(text, first.end, 0);
-    let g = second.field;
-    let Field::Single(weight_time) = g else {
-        return None;
-    };
-    let end = byte(text, second.end, 10)?;
+    let (decay, p) = f64::cell(text, at)?;
+    let (weight_time, q) = f32::cell(text, p)?;
+    let end = byte(text, q, 10)?;
     Some(Tail {
         end,
         decay,
@@ -108,7 +99,7 @@ pub(crate) fn set_line(text: &[u8]) -> Option<Set>
     let q = byte(text, p, 9)?;
     let mode = mode_at(text, q)?;
     let mut n = [0u64; 5];
-    let s = wholes(text, q + 1, &mut n[..])?;
+    let s = fields(text, q + 1, &mut n[..])?;
     let method = method_of(n[0])?;
     let tail = set_tail(text, s)?;
     if !settings_fit(n[1], n[2], n[3], n[4], tail.decay) {

@@ -76,6 +76,11 @@ module _ {A : Type 0} (p : List ℕ → Option A) where
   one [] = none
   one (x ∷ l) = cond (eqb x 9) (onto (p (take (field_length l) l)) (λ a. some (a, drop (field_length l) l))) none
 
+-- as the code answers it: the number, and the place after its field
+abbrev pub celled : {A : Type 0} → Answer (A × ℕ) → List ℕ → Option (A × List ℕ)
+celled None t = none
+celled (Some r) t = some (r.0, drop r.1 t)
+
 abbrev pub before : {A : Type 0} → List A → Option (List A × List ℕ) → Option (List A × List ℕ)
 before u none = none
 before u (some r) = some (u ++ r.0, r.1)

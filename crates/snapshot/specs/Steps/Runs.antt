@@ -36,7 +36,7 @@ then_lines n (broke m) g = broke m
 -- as the code answers it: the place after the lines, or the bad one
 abbrev pub ran_by : {A : Type 0} → Result ℕ BadLine → A → List ℕ → Ran A
 ran_by (Ok at) a t = ran a (drop at t)
-ran_by (Err bad) a t = broke bad.line
+ran_by (Err e) a t = broke e.line
 
 -- what is judged and not kept
 abbrev pub unkept : {A : Type 0} → Ran A → Ran (Unit {0})
@@ -149,7 +149,7 @@ headed_of h = (head_with_counts h, h.extra)
 -- as the code answers it
 abbrev pub header_told : Result Header BadLine → List ℕ → Ran (Preprocessor × ℕ)
 header_told (Ok h) t = ran (h.head, h.extra) (drop h.at t)
-header_told (Err bad) t = broke bad.line
+header_told (Err e) t = broke e.line
 
 -- within the limits of rows 4 and 8
 pub record Few (d k start : ℕ) : Type 0 where

@@ -3,7 +3,9 @@ use Rattle.std.specs.Prelude.{ℕ, zero, suc, ◌+◌, ◌-◌, ◌*◌, Bool, t
 use Rattle.std.proofs.Math.Option.{Option, none, some}
 use Rattle.trcf.specs.Settings.{whole_max}
 use Rattle.snapshot.specs.declared.field.Field.{Field}
-use Rattle.snapshot.specs.declared.field.Field.TheVariants.{Whole, Bad}
+use Rattle.snapshot.specs.declared.field.Field.TheVariants.{Whole as WholeField, Bad}
+use Rattle.snapshot.specs.declared.field.Kind.{Kind}
+use Rattle.snapshot.specs.declared.field.Kind.TheVariants.{Single, Double, Whole}
 use Rattle.std.specs.Float.{nan, Format, binary32, binary64}
 use Rattle.std.specs.Float.Ieee.{of_bits, to_bits, nan_bits}
 use Rattle.snapshot.specs.Text.{width}
@@ -41,7 +43,12 @@ float_of f c = cond (eqb (length c) (width f)) (bits_of f (hscan 0 c)) none
 
 abbrev pub whole_of : Option ℕ → Field
 whole_of none = Bad
-whole_of (some n) = Whole n
+whole_of (some n) = WholeField n
+
+abbrev pub kind_number : Kind → ℕ
+kind_number Single = 0
+kind_number Double = 1
+kind_number Whole = 2
 
 -- a field by the kind that its place calls for: 0 a single, 1 a double, else a whole number
 abbrev pub field_of : ℕ → List ℕ → Field

@@ -8,7 +8,7 @@ use Rattle.snapshot.proofs.kinds.chn_codes.Goals as goal
 pub returns-then-not-codes_fit : goal.returns-then-not-codes_fit
 unfolding chn_by
 returns-then-not-codes_fit c =
-    let W = c.wholes_line-place in
+    let W = c.list_line-place in
     record {
       told = check_no all_codes _ W.result c.args.text.now _ W.ensures.told (sym c.codes_fit.ensures ∙ c.if-not-codes_fit.true);
       kept = W.ensures.kept;
@@ -18,7 +18,7 @@ returns-then-not-codes_fit c =
 pub returns : goal.returns
 unfolding chn_by
 returns c =
-    let W = c.wholes_line-place in
+    let W = c.list_line-place in
     record {
       told = check_yes all_codes _ W.result c.args.text.now _ W.ensures.told (sym c.codes_fit.ensures ∙ c.if-not-codes_fit.false);
       kept = W.ensures.kept;

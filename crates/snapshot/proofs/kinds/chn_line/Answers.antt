@@ -55,9 +55,9 @@ narrowed-own-requires c =
     let v = C.new.out in
     let m = length-take-le d (replicate {A = ℕ} 16 0) (at_pre) in
     let n : length v ≡ d = C.ensures.kept ∙ m in
-    let q = got_one C.result t v _ c.in-At.p c.in-At.is C.ensures.told in
+    let q = got_one C.result t v _ c.in-Some.p c.in-Some.is C.ensures.told in
     let f = front_is v (drop d (replicate {A = ℕ} 16 0)) d n in
-    record { w_len_bound = omega (arith, ap length f, n, at_pre); w_value = ap all_codes f ∙ codes_pass _ (drop at-args.at t) v (drop c.in-At.p t) q }
+    record { w_len_bound = omega (arith, ap length f, n, at_pre); w_value = ap all_codes f ∙ codes_pass _ (drop at-args.at t) v (drop c.in-Some.p t) q }
 
 pub returns : goal.returns
 returns c =
@@ -68,6 +68,6 @@ returns c =
     let v = C.new.out in
     let m = length-take-le d (replicate {A = ℕ} 16 0) c.requires in
     let n : length v ≡ d = C.ensures.kept ∙ m in
-    let q = got_one C.result t v _ c.in-At.p c.in-At.is C.ensures.told in
+    let q = got_one C.result t v _ c.in-Some.p c.in-Some.is C.ensures.told in
     let r = some_or d _ _ _ v c.narrowed-own.result m n q (c.narrowed-own.ensures ∙ ap (over (replicate 16 0)) (front_is v (drop d (replicate {A = ℕ} 16 0)) d n)) in
     record { text_value = r.0; codes_value = r.1; extra_bound = omega arith }

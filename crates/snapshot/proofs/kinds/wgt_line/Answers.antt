@@ -7,37 +7,37 @@ use Rattle.snapshot.proofs.kinds.wgt_line.Goals as goal
 pub returns-then-not-all_one : goal.returns-then-not-all_one
 unfolding wgt_by
 returns-then-not-all_one c =
-    let singles-line-at = c.singles_line-place in
+    let line-at = c.list_line-place in
     let args = c.args in
     record {
-      told = check_no (wgt_test args.method) _ singles-line-at.result args.text.now _ singles-line-at.ensures.told
+      told = check_no (wgt_test args.method) _ line-at.result args.text.now _ line-at.ensures.told
           (wgt_no args.method _ (sym c.is_none.ensures ∙ c.if-is_none.true)
           (sym c.all_one.ensures ∙ c.if-not-all_one.true));
-      kept = singles-line-at.ensures.kept;
-      left = singles-line-at.ensures.left;
+      kept = line-at.ensures.kept;
+      left = line-at.ensures.left;
     }
 
 pub returns-else-not-all_one : goal.returns-else-not-all_one
 unfolding wgt_by
 returns-else-not-all_one c =
-    let singles-line-at = c.singles_line-place in
+    let line-at = c.list_line-place in
     let args = c.args in
     record {
-      told = check_yes (wgt_test args.method) _ singles-line-at.result args.text.now _ singles-line-at.ensures.told
+      told = check_yes (wgt_test args.method) _ line-at.result args.text.now _ line-at.ensures.told
           (wgt_one args.method _ (sym c.is_none.ensures ∙ c.if-is_none.true)
           (sym c.all_one.ensures ∙ c.if-not-all_one.false));
-      kept = singles-line-at.ensures.kept;
-      left = singles-line-at.ensures.left;
+      kept = line-at.ensures.kept;
+      left = line-at.ensures.left;
     }
 
 pub returns-else-is_none : goal.returns-else-is_none
 unfolding wgt_by
 returns-else-is_none c =
     let args = c.args in
-    let singles-line-at = c.singles_line-place in
+    let line-at = c.list_line-place in
     record {
-      told = check_yes (wgt_test args.method) _ singles-line-at.result args.text.now _ singles-line-at.ensures.told
+      told = check_yes (wgt_test args.method) _ line-at.result args.text.now _ line-at.ensures.told
           (wgt_other args.method _ (sym c.is_none.ensures ∙ c.if-is_none.false));
-      kept = singles-line-at.ensures.kept;
-      left = singles-line-at.ensures.left;
+      kept = line-at.ensures.kept;
+      left = line-at.ensures.left;
     }

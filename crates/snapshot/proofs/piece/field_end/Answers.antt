@@ -8,16 +8,13 @@ use Rattle.snapshot.specs.Steps.Judge.{field_length}
 use Rattle.snapshot.proofs.JudgeLaws.{stops, goes, none_left}
 use Rattle.snapshot.proofs.piece.field_end.Goals as goal
 
-pub loop-i-init : goal.loop-i-init
-loop-i-init c = (omega arith, refl)
-
 pub returns-then-wide-le10 : goal.returns-then-wide-le10
 returns-then-wide-le10 c =
     let t = c.args.text.now in
     let i = c.loop-i.i in
     let h : i < length t = c.loop-i-test.true in
     let b : c.wide.result ≡ get_or t i 0 = c.wide.ensures in
-    omega (arith, c.loop-i.invariant.1, stops t i h (omega (arith, c.if-wide-le10.true)))
+    omega (arith, c.loop-i.invariant, stops t i h (omega (arith, c.if-wide-le10.true)))
 
 pub loop-i-preserved : goal.loop-i-preserved
 loop-i-preserved c =
@@ -26,7 +23,7 @@ loop-i-preserved c =
     let h : i < length t = c.loop-i-test.true in
     let b : c.wide.result ≡ get_or t i 0 = c.wide.ensures in
     let z : field_length (drop i t) ≡ suc (field_length (drop (suc i) t)) = goes t i h (omega (arith, c.if-wide-le10.false)) in
-    (omega arith, rw (add-one i) (omega (arith, c.loop-i.invariant.1)))
+    rw (add-one i) (omega (arith, c.loop-i.invariant))
 
 pub returns : goal.returns
-returns c = omega (arith, c.loop-i.invariant.1, none_left c.args.text.now c.loop-i.i c.loop-i-test.false)
+returns c = omega (arith, c.loop-i.invariant, none_left c.args.text.now c.loop-i.i c.loop-i-test.false)

@@ -13,13 +13,7 @@ use Rattle.refusal.proofs.LentLaws.{over_copy}
 use Rattle.snapshot.proofs.values.narrowed.Goals as goal
 
 pub loop-i-init : goal.loop-i-init
-loop-i-init c = (omega arith, over_none _, refl)
-
-pub offset_bounds-w-i : goal.offset_bounds-w-i
-offset_bounds-w-i c = omega arith
-
-pub bounds-w-i : goal.bounds-w-i
-bounds-w-i c = omega arith
+loop-i-init c = (over_none _, refl)
 
 pub overflow_cast-a : goal.overflow_cast-a
 overflow_cast-a c =
@@ -28,27 +22,15 @@ overflow_cast-a c =
     let b = all_get_d {A = ℕ} (λ n. n ≤ code_max) w L.i 0 (omega arith) (codes_of w c.requires.w_value) in
     omega (arith, b)
 
-pub offset_bounds-a-i : goal.offset_bounds-a-i
-offset_bounds-a-i c = omega arith
-
-pub bounds-a-i : goal.bounds-a-i
-bounds-a-i c = omega arith
-
-pub overflow_add-i : goal.overflow_add-i
-overflow_add-i c = omega arith
-
-pub loop-i-smaller : goal.loop-i-smaller
-loop-i-smaller c = omega arith
-
 pub loop-i-preserved : goal.loop-i-preserved
 loop-i-preserved c = let L = c.loop-i in
     let w = c.args.w.now in
     let h : L.i < length w = omega arith in
-    (omega arith, rw L.invariant.1 (over_copy (replicate {A = ℕ} 16 0) w L.i 0 h c.requires.w_len_bound), simp length-set (omega arith))
+    (rw L.invariant.0 (over_copy (replicate {A = ℕ} 16 0) w L.i 0 h c.requires.w_len_bound), simp length-set (omega arith))
 
 pub returns : goal.returns
 returns c = let L = c.loop-i in
     let w = c.args.w.now in
     let e : L.i ≡ length w = omega arith in
-    let p = rw e at L.invariant.1 in
+    let p = rw e at L.invariant.0 in
     p ∙ ap (over (replicate {A = ℕ} 16 0)) (take-length w)

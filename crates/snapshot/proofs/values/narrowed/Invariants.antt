@@ -6,7 +6,4 @@ use Rattle.refusal.specs.Lent.{over}
 use Rattle.snapshot.proofs.values.narrowed.Given as goal
 
 abbrev pub invariant-loop-i : goal.invariant-loop-i
-invariant-loop-i l = (l.i ≤ length l.w) × (l.a ≡ over (replicate {A = ℕ} 16 0) (take l.i l.w)) × (length l.a ≡ 16)
-
-abbrev pub decreases-loop-i : goal.decreases-loop-i
-decreases-loop-i l = length l.w - l.i
+invariant-loop-i l = (l.a ≡ over (replicate {A = ℕ} 16 0) (take l.i l.w)) × (length l.a ≡ 16)
