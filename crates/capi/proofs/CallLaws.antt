@@ -8,6 +8,9 @@ use lib.ListN.{length}
 use lib.Ieee.{Float}
 use borrow.Author.Tests.{lt-ltb, le-ltb}
 use Rattle.refusal.specs.Lent.{over}
+use Rattle.std.specs.Prelude.{Result, Ok, Err}
+use Rattle.refusal.specs.declared.Refusal.{Refusal}
+use Rattle.refusal.specs.declared.Refusal.TheVariants.{Withheld}
 use Rattle.trcf.specs.Settings.{Settings, settings_row}
 use Rattle.trcf.specs.Calls.{Call, Learn, Forecast}
 use Rattle.trcf.specs.Preprocessor.{State, accepted}
@@ -16,7 +19,7 @@ use Rattle.trcf.specs.Extrapolation.{Extrapolation, extrapolation, extrapolation
 use Rattle.trcf.specs.declared.types.TransformMethod.{TransformMethod}
 use Rattle.trcf.specs.declared.types.ForestMode.{ForestMode}
 use Rattle.trcf.specs.declared.head.Preprocessor.{Preprocessor}
-use Rattle.trcf.specs.declared.head.StatusAnswer.{StatusAnswer}
+use Rattle.trcf.specs.declared.head.Status.{Status}
 use Rattle.trcf.proofs.OutcomeLaws.{accepted_not, or_else_is}
 use Rattle.snapshot.specs.Save.{save_of, save_outcome as saved}
 use Rattle.capi.specs.Head.{head_of, words_of, counts_over, kind_row, words_short_row}
@@ -24,7 +27,7 @@ use Rattle.capi.specs.Steps.Reading.{HeadRead}
 use Rattle.access.specs.declared.rights.Right.{Right}
 use Rattle.access.specs.declared.rights.Right.TheVariants.{SEE, LEARN, SAVE}
 use Rattle.access.specs.Access.{needs, granted, guarded}
-use Rattle.access.specs.Entries.{point_by, learn_by, drain_by, write_by, extrapolation_by, save_by, status_numbers, numbers_by, withheld_status}
+use Rattle.access.specs.Entries.{point_by, learn_by, drain_by, write_by, extrapolation_by, save_by, seen_by, status_numbers}
 use Rattle.capi.specs.Calls.{open_row, on_head, flag, called, drain_told, drain_at, build_told, build_at, point_called, point_told, point_at, AnomalyOut, anomaly_out}
 use Rattle.capi.specs.Calls.{learn_called, learn_told, learn_at, write_at, extrapolation_at, save_told, save_at, ListGot, list_got, list_told, numbers_told, numbers_at, codes_at}
 
@@ -162,12 +165,20 @@ module _ (t : List ℕ) (role : ℕ) (w : List ℕ) {n : ℕ} where
         ∙ ap (save_told m) (p ∙ below t role (SAVE ∷ []) w n e z (save_of h l out) (saved 22 0 out) ∙ ap (λ (x : Preprocessor). save_of x l out) (read z).is)
         ∙ done (granted t role (SAVE ∷ [])) w (save_told m (save_of (head_of w) l out)) (λ (r : ℕ). saved r m out) n e z
 
-    pub numbers_done : n ≡ open_row (granted t role (SEE ∷ [])) w → (out : List ℕ) {a : StatusAnswer} {o : ListGot}
-        → a ≡ numbers_by t role h → o ≡ list_told (numbers_told a) out → o ≡ numbers_at t role w out
+    -- what a getter says is said, since the role may see
+    seen : n ≡ open_row (granted t role (SEE ∷ [])) w → {r : Result Status Refusal} → r ≡ seen_by t role (status_numbers h) → r ≡ Ok (status_numbers (head_of w))
+    seen e i = i ∙ below t role (SEE ∷ []) w n e z (Ok (status_numbers h)) (Err Withheld) ∙ ap (λ (x : Preprocessor). Ok (status_numbers x)) (read z).is
+
+    pub numbers_shut : n ≡ open_row (granted t role (SEE ∷ [])) w → {r : Refusal} → Err r ≡ seen_by t role (status_numbers h) → ⊥
+    numbers_shut e i = (let k = seen e i in cc)
+
+    pub numbers_done : n ≡ open_row (granted t role (SEE ∷ [])) w → (out : List ℕ) {a : Status} {o : ListGot}
+        → Ok a ≡ seen_by t role (status_numbers h) → o ≡ list_told (numbers_told a) out → o ≡ numbers_at t role w out
     unfolding numbers_at
-    numbers_done e out i p =
+    numbers_done e out {a} {o} i p =
+        let k : a ≡ status_numbers (head_of w) = (let k = seen e i in cc) in
         p
-        ∙ ap (λ (x : StatusAnswer). list_told (numbers_told x) out) (i ∙ below t role (SEE ∷ []) w n e z (status_numbers h) withheld_status ∙ ap status_numbers (read z).is)
+        ∙ ap (λ (x : Status). list_told (numbers_told x) out) k
         ∙ done (granted t role (SEE ∷ [])) w (list_told (numbers_told (status_numbers (head_of w))) out) (λ (r : ℕ). list_got r out) n e z
 
     pub codes_done : n ≡ open_row (granted t role (SEE ∷ [])) w → (cs out : List ℕ) {o : ListGot} → cs ≡ (settings_of h).codes → o ≡ list_told cs out → o ≡ codes_at t role w out
