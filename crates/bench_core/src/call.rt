@@ -1,9 +1,8 @@
 // What each call line does and prints, on a preprocessor and the last point. The bench runs as role 0 of a table with every right.
 ghost use Rattle.std.specs.Prelude.{◌≡◌, List, ◌≤◌, Float, length, take};
-ghost use Rattle.std.specs.Result.{result_unwrap_or};
-ghost use Rattle.refusal.specs.Refusal.{number_of, row_of};
-ghost use Rattle.trcf.specs.View.{lent};
-ghost use Rattle.bench_core.specs.Bench.{no_text, done_text, point_text, dimension_of, output, prints, call_printed, prints_call, point_result, learn_result, drain_result, save_prints};
+ghost use Rattle.refusal.specs.Refusal.{number_of};
+ghost use Rattle.trcf.specs.View.{Lent, lent};
+ghost use Rattle.bench_core.specs.Bench.{no_text, ok_text, point_text, dimension_of, output, prints, call_result, call_printed, prints_call, point_result, learn_result, drain_result, save_prints};
 
 use access::calls::{drain, post_process, shingled_point};
 use access::rights::every_right;
@@ -45,24 +44,27 @@ fn print_point(head: Preprocessor, point: &[f32], out: &mut [u8]) -> usize
     singles_line(out, b'p', b't', &point[..n]).unwrap_or(0)
 }
 
-// A call that leaves a head prints `ok`; refused, it leaves the head as it was and prints `no` with the row.
-fn done(out: &mut [u8], head: Preprocessor, given: bool, next: Result<Preprocessor, Refusal>) -> Answered
+// After a call that leaves a head and prints no more than that it went well.
+fn accepted(out: &mut [u8], head: Preprocessor, given: bool) -> Answered
     requires { 65536 ≤ length out.old }
-    ensures printed { output result.length out.new ≡ prints (done_text (row_of next)) out.old }
-    ensures head_value { result.head ≡ result_unwrap_or next head }
-    ensures given_value { result.given ≡ given }
+    ensures { (l : Lent) (y : List Float) → call_printed result.head result.given l y (output result.length out.new) ≡ prints_call (call_result head given l y ok_text) out.old }
 {
-    match next {
-        Ok(head) => Answered {
-            head,
-            given,
-            length: print_text(out, b"ok\n"),
-        },
-        Err(refusal) => Answered {
-            head,
-            given,
-            length: print_no(out, refusal),
-        },
+    Answered {
+        head,
+        given,
+        length: print_text(out, b"ok\n"),
+    }
+}
+
+// After a call that is refused, and leaves the head as it was.
+fn refused(out: &mut [u8], head: Preprocessor, given: bool, refusal: Refusal) -> Answered
+    requires { 65536 ≤ length out.old }
+    ensures { (l : Lent) (y : List Float) → call_printed result.head result.given l y (output result.length out.new) ≡ prints_call (call_result head given l y (no_text (number_of refusal))) out.old }
+{
+    Answered {
+        head,
+        given,
+        length: print_no(out, refusal),
     }
 }
 
@@ -110,11 +112,7 @@ pub(crate) fn call_point(
             given,
             length: print_text(out, b"none\n"),
         },
-        Err(refusal) => Answered {
-            head,
-            given,
-            length: print_no(out, refusal),
-        },
+        Err(refusal) => refused(out, head, given, refusal),
     }
 }
 
@@ -161,7 +159,10 @@ pub(crate) fn call_learn(
         &mut past,
         &mut expected,
     );
-    done(out, head, given, answer.map(|processed| processed.head))
+    match answer {
+        Ok(next) => accepted(out, next.head, given),
+        Err(refusal) => refused(out, head, given, refusal),
+    }
 }
 
 // `d`.
@@ -180,7 +181,7 @@ pub(crate) fn call_drain(
     ensures { (y : List Float) → call_printed result.head result.given (lent statistics.new last_shingled_input.new last_shingled_point.new previous_timestamps.new initial_values.now initial_timestamps.now) y (output result.length out.new)
         ≡ prints_call (drain_result head given (lent statistics.old last_shingled_input.old last_shingled_point.old previous_timestamps.old initial_values.now initial_timestamps.now) y) out.old }
 {
-    let next = drain(
+    let answer = drain(
         &every_right(),
         0,
         head,
@@ -191,7 +192,10 @@ pub(crate) fn call_drain(
         initial_values,
         initial_timestamps,
     );
-    done(out, head, given, next)
+    match answer {
+        Ok(next) => accepted(out, next, given),
+        Err(refusal) => refused(out, head, given, refusal),
+    }
 }
 
 // `s`: the text.

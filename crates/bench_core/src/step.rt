@@ -284,8 +284,8 @@ fn read_reading(
     ensures { line_result result.bench (lent statistics.new last_shingled_input.new last_shingled_point.new previous_timestamps.new initial_values.new initial_timestamps.new) point.new (output result.length out.new) ≡ reading_gives asks b l (lent statistics.old last_shingled_input.old last_shingled_point.old previous_timestamps.old initial_values.old initial_timestamps.old) point.old out.old }
 {
     let n = kept(l);
-    let answer = if asks {
-        call_point(
+    if asks {
+        let a = call_point(
             b.head,
             b.given,
             statistics,
@@ -298,24 +298,24 @@ fn read_reading(
             l.wholes[0],
             point,
             out,
-        )
-    } else {
-        call_learn(
-            b.head,
-            b.given,
-            statistics,
-            last_shingled_input,
-            last_shingled_point,
-            previous_timestamps,
-            initial_values,
-            initial_timestamps,
-            &l.singles[..n],
-            l.wholes[0],
-            point,
-            out,
-        )
-    };
-    answered(b, answer)
+        );
+        return answered(b, a);
+    }
+    let a = call_learn(
+        b.head,
+        b.given,
+        statistics,
+        last_shingled_input,
+        last_shingled_point,
+        previous_timestamps,
+        initial_values,
+        initial_timestamps,
+        &l.singles[..n],
+        l.wholes[0],
+        point,
+        out,
+    );
+    answered(b, a)
 }
 
 // A line without a reading: `d`, `s`, or one of another form.
@@ -490,12 +490,18 @@ fn read_line(
 }
 
 // Where the first cell ends: at a tab or an LF, or with the text.
+#[tactic(auto, using(crate::proofs::CellLaws::cell_next, crate::proofs::CellLaws::none_left))]
 pub fn cell_end(text: &[u8]) -> usize
     ensures value { result ≡ cell_length text.now }
     ensures upper_bound { result ≤ length text.now }
     ensures text_len_bound { length text.now ≤ 18446744073709551615 }
 {
-    text.iter().position(|b| matches!(b, b'\t' | b'\n')).unwrap_or(text.len())
+    for (i, byte) in text.iter().enumerate() {
+        if matches!(*byte, b'\t' | b'\n') {
+            return i;
+        }
+    }
+    text.len()
 }
 
 // The part of a cell that is looked at.
