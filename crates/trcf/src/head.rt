@@ -184,11 +184,7 @@ pub fn block_of(m: ForestMode, d: usize) -> usize
 }
 
 // The numbers in a point; 0 for a head that no build made.
-#[tactic(
-    auto,
-    using(crate::proofs::LengthLaws::block_known),
-    unfolding(crate::specs::Settings::dimension, crate::specs::Settings::block)
-)]
+#[tactic(auto, using(crate::proofs::LengthLaws::block_known), unfolding(crate::specs::Settings::dimension, crate::specs::Settings::block))]
 pub fn get_dimension(head: Preprocessor) -> usize
     ensures { result ≡ dimension_of head }
 {

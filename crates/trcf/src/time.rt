@@ -116,7 +116,11 @@ pub fn time_base(head: Preprocessor, previous_timestamps: &[u64], initial_timest
 pub(crate) fn previous_time(head: Preprocessor, base: u64, timestamp: u64) -> u64
     ensures { result ≡ cond (eqb head.values_seen 0) timestamp base }
 {
-    if head.values_seen == 0 { timestamp } else { base }
+    if head.values_seen == 0 {
+        timestamp
+    } else {
+        base
+    }
 }
 
 #[tactic(auto, unfolding(crate::specs::Preprocessor::time_element))]
