@@ -37,6 +37,7 @@ pub struct WeightedTransformer {
 }
 
 // Each channel's five statistics are fed its reading and its difference from the one before, by the factors of the decay and of a tenth of it.
+#[tactic(auto, unfolding(crate::specs::Transformer::updated))]
 pub(crate) fn update_channels(
     t: WeightedTransformer,
     s: &mut [f64],
@@ -76,6 +77,7 @@ fn normalized_scale(s: &[f64], d: usize, i: usize) -> f32
 }
 
 // One channel's reading x, after p. The weight is handed over beside the transformer, so that no list of weights is copied for a channel.
+#[tactic(auto, unfolding(crate::specs::Transformer::basic_shift, crate::specs::Transformer::normalized_scale))]
 fn transform_at(t: WeightedTransformer, w: f32, s: &[f64], i: usize, x: f32, p: f32) -> f32
     requires sound { Sound t (length s.now) }
     requires i_bound { i < t.input_length }
@@ -116,6 +118,7 @@ pub(crate) fn transform_into(
 }
 
 // Divided by the weight; by 0 it gives 0.
+#[tactic(auto, unfolding(crate::specs::Transformer::unweighted))]
 fn unweigh(w: f32, x: f32) -> f32
     ensures { result ≡ unweighted w x }
 {
@@ -123,6 +126,7 @@ fn unweigh(w: f32, x: f32) -> f32
 }
 
 // One channel's x, after p, once it was divided by the weight.
+#[tactic(auto, using(crate::proofs::TransformerLaws::weight_at_view), unfolding(crate::specs::Transformer::basic_shift, crate::specs::Transformer::normalized_scale))]
 fn invert_at(t: WeightedTransformer, s: &[f64], i: usize, x: f32, p: f32) -> f32
     requires sound { Sound t (length s.now) }
     requires i_bound { i < t.input_length }
@@ -160,6 +164,7 @@ pub(crate) fn invert_fitting(
     }
 }
 
+#[tactic(auto, using(crate::proofs::TransformerLaws::weight_at_view), unfolding(crate::specs::Transformer::normalized_scale))]
 fn scale_at(t: WeightedTransformer, s: &[f64], i: usize) -> f32
     requires sound { Sound t (length s.now) }
     requires i_bound { i < t.input_length }
@@ -221,6 +226,7 @@ pub(crate) fn difference_deviations_into(t: WeightedTransformer, s: &[f64], outp
 }
 
 // 1 / weight, 0 for weight 0.
+#[tactic(auto, unfolding(crate::specs::Transformer::reciprocal))]
 fn reciprocal_of(w: f32) -> f32
     ensures { result ≡ reciprocal w }
 {
