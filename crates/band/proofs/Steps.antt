@@ -204,7 +204,7 @@ pub real_sound : Sound real
 real_sound = record { shift_orders = shifted_ordered; scale_agrees = scaled_agrees; shift_agrees = shifted_agrees; bases_agree = λ v w e. e }
 
 cascade_real : (f : Format) (base : List Float) (n : ℕ) (v : Ranges) → cascade_by real f base n v ≡ cascade_to f base n v
-unfolding walk_to cascade_to
+unfolding walk_to cascade_to range_at shifted
 cascade_real f base zero v = refl
 cascade_real f base (suc n) v = ap (λ (w : Ranges). put_at w n (cascade_step real f base n w)) (cascade_real f base n v)
 

@@ -1,10 +1,10 @@
 -- Row 26 of `corrected`: what an accepted call has passed, and that each of its tests refuses by itself. Assumes nothing.
+use Rattle.std.specs.Prelude.{Ok}
 use Rattle.std.proofs.Common.{◌≡◌, ℕ, zero, suc, ◌*◌, ◌<◌, Bool, true, false, cond, not, ◌&&◌, T, eqb, ltb, List, [], ◌∷◌, pos, sym, refl, ap, ◌∙◌, true≢false, arith, eqb→eq, lt-ltb}
 use borrow.Author.Tests.{not-false}
 use lib.Ieee.{Float, le, eq}
 use lib.Ieee.Fits.{and_l, and_r}
 use Rattle.common.specs.declared.deviation.Deviation.{Deviation}
-use Rattle.common.specs.declared.deviation.DeviationResult.TheVariants.{Ok}
 use Rattle.refusal.specs.Refusal.{first_of}
 use Rattle.common.specs.Deviation.{deviation_row, deviation_answer, zero64}
 use Rattle.common.specs.WholeScores.{whole_float}

@@ -1,9 +1,8 @@
 -- Row 26 on both sides of each border, answers, and the theorems at 3, 5, −7 with the 5 put right, by computation. Assumes nothing.
+use Rattle.std.specs.Prelude.{Result, Ok, Err}
 use Rattle.std.proofs.Common.{◌≡◌, ℕ, T, List, [], ◌∷◌, ◌++◌, map, ℤ, pos, negsuc, refl, lit≤}
 use lib.Ieee.{Float, binary64, round, add, sub, mul, div, lt, le, eq, of_int, of_bits, to_bits}
 use Rattle.common.specs.declared.deviation.Deviation.{Deviation}
-use Rattle.common.specs.declared.deviation.DeviationResult.{DeviationResult}
-use Rattle.common.specs.declared.deviation.DeviationResult.TheVariants.{Ok, Err}
 use Rattle.common.specs.Deviation.{deviation_row, zero64, statistic, empty_with, factor_of, step_of, deviation_update, mean_of}
 use Rattle.common.specs.WholeScores.{whole_float}
 use Rattle.common.specs.Corrected.{reading_limit, whole_within, integer_of, correction_rows, corrected_statistic, corrected_of, AllWhole, updates, Moved}
@@ -77,11 +76,11 @@ abbrev minus : Float
 minus = of_bits binary64 0x8000_0000_0000_0000
 
 -- discount, weight, sum and squares as bits, and the count
-abbrev numbers : DeviationResult → List ℕ
+abbrev numbers : Result Deviation ℕ → List ℕ
 numbers (Ok s) = map (to_bits binary64) (s.discount ∷ s.weight ∷ s.sum ∷ s.sum_squared ∷ []) ++ s.count ∷ []
 numbers (Err n) = n ∷ []
 
-abbrev listed : List ℤ → DeviationResult
+abbrev listed : List ℤ → Result Deviation ℕ
 listed zs = updates (empty_with zero64) (map whole_float zs)
 
 -- 3, 5, −7 with 5 put right to 65,536: the statistic of 3, 65,536, −7, each computed by its own road

@@ -1,11 +1,11 @@
 -- The theorems on one odd reading put right, as specs/Corrected.antt states them: the answer is the list's, what moves and what stays, and the mean. Assumes nothing.
+use Rattle.std.specs.Prelude.{Ok}
 use Rattle.std.proofs.Common.{◌≡◌, ℕ, ◌+◌, ◌*◌, ◌^◌, ◌≤◌, Bool, true, false, T, List, [], ◌∷◌, ◌++◌, length, ℤ, pos, ◌+ℤ◌, ◌-ℤ◌, ◌*ℤ◌, neg_ℤ, nat_abs, sym, refl, ap, ◌∙◌, subst, arith, lit≤, ltb-false, le-ltb, eq-eqb}
 use lib.Ieee.{Float, fin, binary64, up, down, le, eq}
 use lib.Ieee.Exact.{HasValue}
 use lib.Ieee.Bits.{is_true}
 use lib.Ieee.Order.{le_of_values}
 use Rattle.common.specs.declared.deviation.Deviation.{Deviation}
-use Rattle.common.specs.declared.deviation.DeviationResult.TheVariants.{Ok}
 use Rattle.common.specs.Deviation.{count_limit, zero64, empty_with, step_of, mean_of}
 use Rattle.common.specs.WholeScores.{whole_float, statistic_after}
 use Rattle.common.specs.Corrected.{reading_limit, length_limit, whole_within, integer_of, corrected_statistic, corrected_of, AllWhole, updates, CorrectedIsTheLists}

@@ -1,5 +1,6 @@
 -- Laws of the running statistic for the crates above: what an update does to discount and count and when it is refused, that every number of a step
 -- fits binary64, and `exact_sums`: with discount 0, whole-number scores are summed exactly. Assumes nothing.
+use Rattle.std.specs.Prelude.{Ok, Err}
 use Rattle.std.proofs.Common.{◌≡◌, ℕ, suc, ◌+◌, ◌*◌, ◌^◌, ◌<◌, ◌≤◌, true, T, List, [], ◌∷◌, map, length, ℤ, pos, ◌+ℤ◌, ◌*ℤ◌, nat_abs, sym, refl, ap, ◌∙◌, subst, le_trans, add-zero, mul-le-mul, zero-add, arith, lit≤, lt-ltb, le-leb}
 use native.Mathlib.Decide.{dec_lt}
 use borrow.Author.Tests.{lt-leb}
@@ -7,7 +8,6 @@ use lib.IntN.{+ℤ_assoc, +ℤ_idr, +ℤ_idl}
 use lib.Ieee.{Float, binary64, add, mul, eq, of_int, of_bits, round, fits}
 use lib.Ieee.Fits.{add-fits}
 use Rattle.common.specs.declared.deviation.Deviation.{Deviation}
-use Rattle.common.specs.declared.deviation.DeviationResult.TheVariants.{Ok, Err}
 use Rattle.common.specs.Deviation.{zero64, one64, count_limit, statistic, empty_with, factor_of, next_factor, step_by, update_by, step_of, deviation_update}
 use Rattle.common.specs.WholeScores.{whole_float, statistic_after, total, total_of_squares, AllWithin}
 use Rattle.common.proofs.WholeFloats.{add_whole, mul_whole_one, square_whole, size_sum, size_square}

@@ -1,10 +1,9 @@
 -- Document 01's starred samples of the running statistic, and closed cases of the refusals, by computation. Assumes nothing.
+use Rattle.std.specs.Prelude.{Result, Ok, Err}
 use Rattle.std.proofs.Common.{◌≡◌, ℕ, ◌+◌, false, List, [], ◌∷◌, ◌++◌, map, pos, negsuc, refl}
 use lib.Ieee.{binary64, round, add, sub, mul, div, lt, le, eq, of_int, of_bits, to_bits}
 use Rattle.numeric.specs.Root.{root_within, halves, rooted, root_of}
 use Rattle.common.specs.declared.deviation.Deviation.{Deviation}
-use Rattle.common.specs.declared.deviation.DeviationResult.{DeviationResult}
-use Rattle.common.specs.declared.deviation.DeviationResult.TheVariants.{Ok, Err}
 use Rattle.common.specs.Deviation.{zero64, one64, statistic, empty_with, deviation_row, outside_unit, deviation_new, deviation_create, factor_of, next_factor, step_of, deviation_update, is_empty, mean_of, root_above, deviation_of, deviation_set_count}
 use Rattle.common.specs.WholeScores.{whole_float, statistic_after}
 
@@ -60,7 +59,7 @@ unfolding deviation_create deviation_set_count deviation_update outside_unit lt 
 limits = refl
 
 -- an answer's row, weight, sum and squares as bits, and count
-abbrev told : DeviationResult → List ℕ
+abbrev told : Result Deviation ℕ → List ℕ
 told (Ok s) = 0 ∷ map (to_bits binary64) (s.weight ∷ s.sum ∷ s.sum_squared ∷ []) ++ s.count ∷ []
 told (Err n) = n ∷ []
 

@@ -1,11 +1,9 @@
 -- One odd reading put right (document 02, #111): the statistic of a list with one reading changed, from the statistic alone, and what is proved of it. Definitions only.
-use Rattle.std.specs.Prelude.{◌≡◌, ℕ, ◌*◌, ◌/◌, ◌%◌, ◌^◌, ◌≤◌, Bool, true, false, not, ◌&&◌, T, List, [], ◌∷◌, ◌++◌, length, ℤ, pos, ◌+ℤ◌, ◌-ℤ◌, ◌*ℤ◌, neg_ℤ, ◌==◌, nat_le, nat_lt, Float}
+use Rattle.std.specs.Prelude.{◌≡◌, Result, Ok, Err, ℕ, ◌*◌, ◌/◌, ◌%◌, ◌^◌, ◌≤◌, Bool, true, false, not, ◌&&◌, T, List, [], ◌∷◌, ◌++◌, length, ℤ, pos, ◌+ℤ◌, ◌-ℤ◌, ◌*ℤ◌, neg_ℤ, ◌==◌, nat_le, nat_lt, Float}
 use Rattle.std.specs.Float.{nan, inf, fin}
 use Rattle.std.specs.Float.Ieee.{up, down, eq, le}
 use Rattle.refusal.specs.Refusal.{first_of}
 use Rattle.common.specs.declared.deviation.Deviation.{Deviation}
-use Rattle.common.specs.declared.deviation.DeviationResult.{DeviationResult}
-use Rattle.common.specs.declared.deviation.DeviationResult.TheVariants.{Ok, Err}
 use Rattle.common.specs.Deviation.{zero64, statistic, deviation_answer, empty_with, deviation_update, mean_of}
 use Rattle.common.specs.WholeScores.{whole_float}
 
@@ -65,7 +63,7 @@ corrected_statistic s wrong right =
     (whole_float (integer_of s.sum_squared +ℤ (r *ℤ r -ℤ w *ℤ w)))
     s.count
 
-unfoldable pub corrected_of : Deviation → Float → Float → DeviationResult
+unfoldable pub corrected_of : Deviation → Float → Float → Result Deviation ℕ
 corrected_of s wrong right = deviation_answer (first_of (correction_rows s wrong right)) (corrected_statistic s wrong right)
 
 -- ---- what is proved of it, besides that the code gives `corrected_of`: the theorems stand in proofs/CorrectedTheorems.antt
@@ -75,12 +73,12 @@ abbrev pub AllWhole : List Float → Type 0
 AllWhole [] = Unit {0}
 AllWhole (x ∷ xs) = T (whole_within reading_limit x) × AllWhole xs
 
-abbrev pub onward : DeviationResult → (Deviation → DeviationResult) → DeviationResult
+abbrev pub onward : Result Deviation ℕ → (Deviation → Result Deviation ℕ) → Result Deviation ℕ
 onward (Ok s) next = next s
 onward (Err n) next = Err n
 
 -- a list's statistic: one call of `update` for each reading, the first one first; a refusal ends it
-unfoldable pub updates : Deviation → List Float → DeviationResult
+unfoldable pub updates : Deviation → List Float → Result Deviation ℕ
 updates s [] = Ok s
 updates s (x ∷ xs) = onward (deviation_update s x) (λ t. updates t xs)
 

@@ -1,12 +1,10 @@
 -- The running statistic: document 01, 'deviation.rs', in the source's order of operations.
-use Rattle.std.specs.Prelude.{ℕ, ◌+◌, Bool, cond, not, ◌&&◌, [], ◌∷◌, pos, from_bits, nat_le, nat_lt, Float}
+use Rattle.std.specs.Prelude.{ℕ, ◌+◌, Result, Ok, Err, Bool, cond, not, ◌&&◌, [], ◌∷◌, pos, from_bits, nat_le, nat_lt, Float}
 use Rattle.std.specs.Float.{binary64}
 use Rattle.std.specs.Float.Ieee.{add, sub, mul, div, lt, le, eq, of_int}
 use Rattle.numeric.specs.Root.{root_of}
 use Rattle.refusal.specs.Refusal.{first_of, accepted}
 use Rattle.common.specs.declared.deviation.Deviation.{Deviation}
-use Rattle.common.specs.declared.deviation.DeviationResult.{DeviationResult}
-use Rattle.common.specs.declared.deviation.DeviationResult.TheVariants.{Ok, Err}
 
 abbrev pub zero64 : Float
 zero64 = from_bits binary64 0
@@ -24,12 +22,12 @@ statistic d w s q n = record { discount = d; weight = w; sum_squared = q; sum = 
 
 -- ---- answers: the number of an answer, 0 for a statistic
 
-abbrev pub deviation_row : DeviationResult → ℕ
+abbrev pub deviation_row : Result Deviation ℕ → ℕ
 deviation_row (Ok s) = 0
 deviation_row (Err n) = n
 
 -- the statistic, or the number of the row
-abbrev pub deviation_answer : ℕ → Deviation → DeviationResult
+abbrev pub deviation_answer : ℕ → Deviation → Result Deviation ℕ
 deviation_answer n s = accepted n (Ok s) (Err n)
 
 -- row 6: "the discount of a new or (+) created statistic, outside 0 ≤ it < 1"
@@ -41,11 +39,11 @@ outside_unit d = not (le zero64 d && lt d one64)
 abbrev pub empty_with : Float → Deviation
 empty_with d = statistic d zero64 zero64 zero64 0
 
-unfoldable pub deviation_new : Float → DeviationResult
+unfoldable pub deviation_new : Float → Result Deviation ℕ
 deviation_new d = deviation_answer (first_of ((outside_unit d, 6) ∷ [])) (empty_with d)
 
 -- row 18: "statistic `create`: count outside 0 to" the limit
-unfoldable pub deviation_create : Float → Float → Float → Float → ℕ → DeviationResult
+unfoldable pub deviation_create : Float → Float → Float → Float → ℕ → Result Deviation ℕ
 deviation_create d w s q n = deviation_answer (first_of ((outside_unit d, 6) ∷ (nat_lt count_limit n, 18) ∷ [])) (statistic d w s q n)
 
 -- the source's `reset`: all but the discount begins anew
@@ -77,10 +75,10 @@ step_by f s x =
     (add binary64 (mul binary64 s.sum_squared f) (mul binary64 x x)) (s.count + 1)
 
 -- row 18: "count would pass" the limit
-unfoldable pub update_by : Float → Deviation → Float → DeviationResult
+unfoldable pub update_by : Float → Deviation → Float → Result Deviation ℕ
 update_by f s x = deviation_answer (first_of ((nat_le count_limit s.count, 18) ∷ [])) (step_by f s x)
 
-unfoldable pub deviation_update : Deviation → Float → DeviationResult
+unfoldable pub deviation_update : Deviation → Float → Result Deviation ℕ
 deviation_update s x = deviation_answer (first_of ((nat_le count_limit s.count, 18) ∷ [])) (step_of s x)
 
 unfoldable pub is_empty : Deviation → Bool
@@ -106,5 +104,5 @@ abbrev pub deviation_set_discount : Deviation → Float → Deviation
 deviation_set_discount s d = statistic d s.weight s.sum s.sum_squared s.count
 
 -- row 18 beyond the limit, as `create` has it
-unfoldable pub deviation_set_count : Deviation → ℕ → DeviationResult
+unfoldable pub deviation_set_count : Deviation → ℕ → Result Deviation ℕ
 deviation_set_count s n = deviation_answer (first_of ((nat_lt count_limit n, 18) ∷ [])) (statistic s.discount s.weight s.sum s.sum_squared n)

@@ -1,12 +1,14 @@
 // A discounted statistic of a stream of numbers (the source's common/deviation.rs), by value.
 ghost use Rattle.std.specs.Prelude.{◌≡◌, ◌<◌, ◌≤◌, ◌+ℤ◌, ◌-ℤ◌};
-ghost use Rattle.common.specs.Deviation.{zero64, count_limit, empty_with, outside_unit, deviation_new, deviation_create, deviation_reset};
+ghost use Rattle.common.specs.Deviation.{count_limit, outside_unit, deviation_new, deviation_create, deviation_reset};
 ghost use Rattle.common.specs.Deviation.{factor_of, next_factor, update_by, deviation_update, is_empty, mean_of, deviation_of, deviation_set_discount, deviation_set_count};
 ghost use Rattle.factors.specs.Factors.{table_length, growing_at};
-ghost use Rattle.refusal.specs.Refusal.{first_of};
+ghost use Rattle.refusal.specs.Refusal.{first_of, row_of, numbered};
 ghost use Rattle.common.specs.WholeScores.{whole_float};
 ghost use Rattle.common.specs.Corrected.{whole_within, integer_of, correction_rows, corrected_of};
 ghost use Rattle.common.specs.Steps.Whole.{float_size, Summand};
+
+use refusal::Refusal;
 
 // The largest count of a statistic: count + 2 is then 2^53, the last up to which every whole number is an f64.
 pub const COUNT_LIMIT: u64 = 9_007_199_254_740_990;
@@ -17,20 +19,14 @@ pub const READING_LIMIT: u64 = 65_536;
 // and one of a list of at most so many.
 pub const LENGTH_LIMIT: u64 = 1_048_576;
 
-#[derive(Clone, Copy)]
+/// The statistic; its default is the empty one that keeps all.
+#[derive(Clone, Copy, Debug, Default, PartialEq)]
 pub struct Deviation {
     pub discount: f64,
     pub weight: f64,
     pub sum_squared: f64,
     pub sum: f64,
     pub count: u64,
-}
-
-// A statistic, or the number of the refusal.
-#[derive(Clone, Copy)]
-pub enum DeviationResult {
-    Ok(Deviation),
-    Err(u64),
 }
 
 // Whether a discount is refused; a not-a-number is.
@@ -73,6 +69,7 @@ fn factor(discount: f64, count: u64) -> f64
 }
 
 // The factor of the next update, one for all statistics of this discount and this count; 0 where the count is spent, so that there is none.
+// Kept: no Option (d): a caller only hands it on to update_by, which refuses at a count that is spent and does not look at it.
 pub fn next_factor(discount: f64, count: u64) -> f64
     ensures { result ≡ next_factor discount count }
 {
@@ -105,39 +102,39 @@ fn whole_within(limit: u64, x: f64) -> bool
     false
 }
 
-// Row 26, or 0: whether a statistic and two readings are such that the one reading can be put right by the other.
-fn correction_row(s: Deviation, wrong: f64, right: f64) -> u64
-    ensures { result ≡ first_of (correction_rows s wrong right) }
+// Row 26, unless a statistic and two readings are such that the one reading can be put right by the other.
+fn check_correction(s: Deviation, wrong: f64, right: f64) -> Result<(), Refusal>
+    ensures { row_of result ≡ first_of (correction_rows s wrong right) }
 {
     let count = s.count;
     if !(s.discount == 0.0) {
-        return 26;
+        return Err(Refusal::NotCorrectable);
     }
     if !whole_within(READING_LIMIT, wrong) {
-        return 26;
+        return Err(Refusal::NotCorrectable);
     }
     if !whole_within(READING_LIMIT, right) {
-        return 26;
+        return Err(Refusal::NotCorrectable);
     }
     if count < 1 {
-        return 26;
+        return Err(Refusal::NotCorrectable);
     }
     if LENGTH_LIMIT < count {
-        return 26;
+        return Err(Refusal::NotCorrectable);
     }
     if !(s.weight == count as f64) {
-        return 26;
+        return Err(Refusal::NotCorrectable);
     }
     if !whole_within(READING_LIMIT * count, s.sum) {
-        return 26;
+        return Err(Refusal::NotCorrectable);
     }
     if !whole_within(READING_LIMIT * READING_LIMIT * count, s.sum_squared) {
-        return 26;
+        return Err(Refusal::NotCorrectable);
     }
     if !(0.0 <= s.sum_squared) {
-        return 26;
+        return Err(Refusal::NotCorrectable);
     }
-    0
+    Ok(())
 }
 
 // A whole number with one summand put in and one taken out. Each step is exact; and as it begins at +0, a zero is +0.
@@ -149,31 +146,16 @@ fn moved(x: f64, put: f64, taken: f64) -> f64
 }
 
 impl Deviation {
-    pub fn new(discount: f64) -> DeviationResult
-        ensures { result ≡ deviation_new discount }
+    pub fn new(discount: f64) -> Result<Deviation, Refusal>
+        ensures { numbered result ≡ deviation_new discount }
     {
         if outside_unit(discount) {
-            return DeviationResult::Err(6);
+            return Err(Refusal::Decay);
         }
-        DeviationResult::Ok(Deviation {
-            discount: discount,
-            weight: 0.0,
-            sum_squared: 0.0,
-            sum: 0.0,
-            count: 0,
+        Ok(Deviation {
+            discount,
+            ..Deviation::default()
         })
-    }
-
-    pub fn default() -> Deviation
-        ensures { result ≡ empty_with zero64 }
-    {
-        Deviation {
-            discount: 0.0,
-            weight: 0.0,
-            sum_squared: 0.0,
-            sum: 0.0,
-            count: 0,
-        }
     }
 
     pub fn create(
@@ -182,21 +164,21 @@ impl Deviation {
         sum: f64,
         sum_squared: f64,
         count: u64,
-    ) -> DeviationResult
-        ensures { result ≡ deviation_create discount weight sum sum_squared count }
+    ) -> Result<Deviation, Refusal>
+        ensures { numbered result ≡ deviation_create discount weight sum sum_squared count }
     {
         if outside_unit(discount) {
-            return DeviationResult::Err(6);
+            return Err(Refusal::Decay);
         }
         if COUNT_LIMIT < count {
-            return DeviationResult::Err(18);
+            return Err(Refusal::CounterLimit);
         }
-        DeviationResult::Ok(Deviation {
-            discount: discount,
-            weight: weight,
-            sum_squared: sum_squared,
-            sum: sum,
-            count: count,
+        Ok(Deviation {
+            discount,
+            weight,
+            sum_squared,
+            sum,
+            count,
         })
     }
 
@@ -205,10 +187,7 @@ impl Deviation {
     {
         Deviation {
             discount: self.discount,
-            weight: 0.0,
-            sum_squared: 0.0,
-            sum: 0.0,
-            count: 0,
+            ..Deviation::default()
         }
     }
 
@@ -222,46 +201,40 @@ impl Deviation {
         }
     }
 
-    pub fn update(self, score: f64) -> DeviationResult
-        ensures { result ≡ deviation_update self score }
+    pub fn update(self, score: f64) -> Result<Deviation, Refusal>
+        ensures { numbered result ≡ deviation_update self score }
     {
         self.update_by(next_factor(self.discount, self.count), score)
     }
 
     // The same by a factor that is given, for a caller whose statistics share it.
-    pub fn update_by(self, f: f64, score: f64) -> DeviationResult
-        ensures { result ≡ update_by f self score }
+    pub fn update_by(self, f: f64, score: f64) -> Result<Deviation, Refusal>
+        ensures { numbered result ≡ update_by f self score }
     {
         let count = self.count;
         if COUNT_LIMIT <= count {
-            return DeviationResult::Err(18);
+            return Err(Refusal::CounterLimit);
         }
-        DeviationResult::Ok(Deviation {
-            discount: self.discount,
+        Ok(Deviation {
             weight: self.weight * f + 1.0,
             sum_squared: self.sum_squared * f + score * score,
             sum: self.sum * f + score,
             count: count + 1,
+            ..self
         })
     }
 
     // Of a list's statistic, the statistic of the list with `right` in a place that held `wrong`: one odd reading put right, without the list.
-    pub fn corrected(self, wrong: f32, right: f32) -> DeviationResult
-        ensures { result ≡ corrected_of self wrong right }
+    pub fn corrected(self, wrong: f32, right: f32) -> Result<Deviation, Refusal>
+        ensures { numbered result ≡ corrected_of self wrong right }
     {
         let w = numeric::to_f64(wrong);
         let r = numeric::to_f64(right);
-        let row = correction_row(self, w, r);
-        if 0 < row {
-            return DeviationResult::Err(row);
-        }
-        let weight = self.weight;
-        DeviationResult::Ok(Deviation {
-            discount: self.discount,
-            weight: weight,
+        check_correction(self, w, r)?;
+        Ok(Deviation {
             sum_squared: moved(self.sum_squared, r * r, w * w),
             sum: moved(self.sum, r, w),
-            count: self.count,
+            ..self
         })
     }
 
@@ -296,13 +269,7 @@ impl Deviation {
     pub fn set_discount(self, discount: f64) -> Deviation
         ensures { result ≡ deviation_set_discount self discount }
     {
-        Deviation {
-            discount: discount,
-            weight: self.weight,
-            sum_squared: self.sum_squared,
-            sum: self.sum,
-            count: self.count,
-        }
+        Deviation { discount, ..self }
     }
 
     pub fn sum(self) -> f64
@@ -329,18 +296,12 @@ impl Deviation {
         self.count
     }
 
-    pub fn set_count(self, count: u64) -> DeviationResult
-        ensures { result ≡ deviation_set_count self count }
+    pub fn set_count(self, count: u64) -> Result<Deviation, Refusal>
+        ensures { numbered result ≡ deviation_set_count self count }
     {
         if count > COUNT_LIMIT {
-            return DeviationResult::Err(18);
+            return Err(Refusal::CounterLimit);
         }
-        DeviationResult::Ok(Deviation {
-            discount: self.discount,
-            weight: self.weight,
-            sum_squared: self.sum_squared,
-            sum: self.sum,
-            count: count,
-        })
+        Ok(Deviation { count, ..self })
     }
 }

@@ -42,7 +42,7 @@ settled_ordered v u l = record { upper_not_below = raised (lt u v) refl; lower_n
     lowered false e = e
 
 pub shifted_ordered : (f : Format) (r : Range) (x : Float) → Ordered (shifted f r x)
-unfolding shifted
+unfolding shifted settled
 shifted_ordered f r x = settled_ordered (add f r.value x) (add f r.upper x) (add f r.lower x)
 
 -- the value depends on the value alone
@@ -112,7 +112,7 @@ put_at_ordered v i r o =
 -- ---- the cascade
 
 pub cascade_to_lengths : (f : Format) (base : List Float) (n : ℕ) (v : Ranges) → SameLengths (cascade_to f base n v) v
-unfolding cascade_to
+unfolding cascade_to put_at range_at shifted
 cascade_to_lengths f base zero v = record { values = refl; upper = refl; lower = refl }
 cascade_to_lengths f base (suc n) v =
     let w = cascade_to f base n v in
@@ -146,7 +146,7 @@ cascade_to_upper f base (suc n) v w e g =
 
 -- an index that the cascade has not reached
 pub cascade_to_later : (f : Format) (base : List Float) (n : ℕ) (v : Ranges) (i : ℕ) → n ≤ i → range_at (cascade_to f base n v) i ≡ range_at v i
-unfolding cascade_to
+unfolding cascade_to put_at range_at shifted
 cascade_to_later f base zero v i h = refl
 cascade_to_later f base (suc n) v i h =
     let w = cascade_to f base n v in
@@ -157,7 +157,7 @@ cascade_to_later f base (suc n) v i h =
 module _ (f : Format) (base : List Float) (P : Range → Type 0)
     (made : (w : Ranges) (i : ℕ) (r : Range) (x : Float) → P (range_at (put_at w i (shifted f r x)) i)) where
   cascade_to_made : (n : ℕ) (v : Ranges) (i : ℕ) → i < n → P (range_at (cascade_to f base n v) i)
-  unfolding cascade_to
+  unfolding cascade_to put_at range_at shifted
   cascade_to_made zero v i h = absurd (omega arith)
   cascade_to_made (suc n) v i h =
       let w = cascade_to f base n v in
@@ -195,7 +195,7 @@ range_at_same v i r a b c = λ k.
 pub cascade_to_at : (f : Format) (base : List Float) (n : ℕ) (v : Ranges) (i : ℕ) → 0 < length base
     → n ≤ length v.values → n ≤ length v.upper → n ≤ length v.lower → i < n
     → range_at (cascade_to f base n v) i ≡ shifted f (range_at v i) (get_or (base ++ (cascade_to f base n v).values) i nan)
-unfolding cascade_to put_at
+unfolding cascade_to put_at range_at shifted
 cascade_to_at f base zero v i b hv hu hl h = absurd (omega arith)
 cascade_to_at f base (suc n) v i b hv hu hl h =
     at (eqb i n) refl (λ k. cascade_to_at f base n v i b (omega arith) (omega arith) (omega arith) k)

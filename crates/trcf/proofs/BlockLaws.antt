@@ -242,7 +242,7 @@ put_read w i r a b c = λ k.
 
 -- a place that the cascade has not reached may be stored first
 cascade_put : (p : List Float) (n m : ℕ) (v : Ranges) (r : Range) → n ≤ m → cascade_to binary32 p n (put_at v m r) ≡ put_at (cascade_to binary32 p n v) m r
-unfolding cascade_to put_at
+unfolding cascade_to put_at shifted range_at
 cascade_put p zero m v r h = refl
 cascade_put p (suc n) m v r h =
     let w = cascade_to binary32 p n v in
@@ -267,7 +267,7 @@ module _ (t : Transformer) (p : List Float) (v : Ranges) where
 
   turned_cascade : Even v → 0 < length p → differences t.method ≡ true → (n : ℕ) → n ≤ length v.values
       → turned_to t p n v ≡ cascade_to binary32 p n (forecast_to t n v)
-  unfolding turned_to forecast_to cascade_to put_at
+  unfolding turned_to forecast_to cascade_to put_at shifted range_at
   turned_cascade even some e zero h = refl
   turned_cascade even some e (suc n) h =
       let w = turned_to t p n v in

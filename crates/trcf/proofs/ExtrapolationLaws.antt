@@ -126,7 +126,7 @@ module _ (s : Settings) (st : List Float) where
 
   -- the shift by the drift puts the bounds in order
   time_by_is : (x y z : Float) → time_by (is_gap s.mode) (time_factor s.weight_time) (timescale s st) (timedrift s st) (range x y z) ≡ inverse x y z
-  unfolding time_by time_factor shifted scaled invert_time
+  unfolding time_by time_factor shifted scaled invert_time settled
   time_by_is x y z = by (is_gap s.mode)
     where
       factor : Float
@@ -200,7 +200,7 @@ module _ (h : Preprocessor) (st : List Float) where
 
 pub cascade_taken : (f : Format) (base : List Float) (v w : Ranges) (row : ℕ) → length v.upper ≡ length v.values → length v.lower ≡ length v.values
     → unblocked (length base) (length v.values) ≡ false → range_outcome row w ≡ range_cascaded_add f base v → w ≡ cascade_to f base (length v.values) v
-unfolding range_cascaded_add unequal
+unfolding range_cascaded_add unequal cascade_to
 cascade_taken f base v w row p q blocks e =
     ap (λ (o : RangeOutcome). o.left) (rw (eq-eqb _ _ (sym p), eq-eqb _ _ (sym q), blocks) at e)
 

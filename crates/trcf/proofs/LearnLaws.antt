@@ -12,6 +12,7 @@ use lib.IntN.{ℤ, pos, negsuc}
 use lib.ListN.{length, take, drop, get_or, length-append}
 use lib.Seq.{length-take-le}
 use lib.Ieee.{Float, binary64, lt, of_int}
+use Rattle.std.specs.Prelude.{Ok, Some, None}
 use Rattle.refusal.specs.Lent.{over}
 use Rattle.common.specs.Deviation.{count_limit}
 use Rattle.refusal.specs.Refusal.{first_of}
@@ -19,8 +20,8 @@ use Rattle.trcf.specs.Lists.{last_or, shift_in}
 use Rattle.trcf.specs.Transformer.{zero32, one32, inverted, updated}
 use Rattle.trcf.specs.Settings.{Settings, transformer, dimension, block, waiting}
 use Rattle.trcf.specs.Calls.{Learn, Call, post_process, seen_limit, rows, table, finite, given, wrong_length, newest, outside, learn_full, learn_short, waiting_short}
-use Rattle.trcf.specs.Preprocessor.{State, Learned, time_fed, Reading, reading, facts, statistics_length, previous, feed, buffered, learned, learned_with, change, accepted, deviations, learned_nothing, deviations_alone, buffered_answer, learned_answer, learn_answer, learn_reply, anomaly_of, past_values, expected_values, block_at, is_zero, block_from}
-use Rattle.trcf.specs.View.{Lent, lent, settings_of, view, counted, counting, written_over, holding, Fitted, row_of, head_after, lent_after, optional, learn_call, back_of, newest_of, Bounded, LearnOutcome, learn_outcome, learned_outcome, learn_nothing, learn_after, or_else}
+use Rattle.trcf.specs.Preprocessor.{State, Learned, time_fed, Reading, reading, facts, statistics_length, previous, feed, buffered, learned, learned_with, change, accepted, deviations, learned_nothing, deviations_alone, buffered_answer, learned_answer, learn_answer, learn_reply, anomaly_of, past_values, expected_values, block_at, is_zero, block_from, Anomaly}
+use Rattle.trcf.specs.View.{Lent, lent, settings_of, view, counted, counting, written_over, holding, Fitted, row_of, head_after, lent_after, optional, learn_call, back_of, newest_of, Bounded, LearnOutcome, learn_outcome, learned_outcome, learn_nothing, learn_after, or_else, anomaly_held, anomaly_time, anomaly_likelihood, processed_outcome}
 use Rattle.trcf.specs.Steps.Rows.{input_row, waiting_row, learn_row, learning_row}
 use Rattle.trcf.specs.Steps.Learning.{Learnable, LearnParts, learned_parts, learned_statistics}
 use Rattle.trcf.specs.declared.head.Preprocessor.{Preprocessor}
@@ -304,9 +305,22 @@ module _ {A : Type 0} where
 
 abbrev pub outcome_of : LearnParts → List Float → List ℕ → LearnOutcome
 outcome_of p v vt =
-    let a = p.answer in
-    learn_outcome a.row a.written a.has_anomaly a.past_timestamp a.likelihood a.head
-    (lent p.statistics p.last_shingled_input p.last_shingled_point p.previous_timestamps v vt) p.deviations_out p.past_out p.expected_out
+    let r = p.answer in
+    processed_outcome (Ok r) r.head (lent p.statistics p.last_shingled_input p.last_shingled_point p.previous_timestamps v vt) p.deviations_out p.past_out p.expected_out
+
+-- an anomaly that is there where b says so
+module _ (x : Anomaly) where
+  held_given : (b : Bool) → given (anomaly_held (cond b (Some x) None)) ≡ b
+  held_given true = refl
+  held_given false = refl
+
+  held_time : (b : Bool) → anomaly_time (anomaly_held (cond b (Some x) None)) ≡ cond b x.past_timestamp 0
+  held_time true = refl
+  held_time false = refl
+
+  held_likelihood : (b : Bool) → anomaly_likelihood (anomaly_held (cond b (Some x) None)) ≡ cond b x.likelihood zero32
+  held_likelihood true = refl
+  held_likelihood false = refl
 
 module _ (h : Preprocessor) (l : Lent) (x : List Float) (t : ℕ) (hasY : Bool) (y : List Float) (expects : Bool) (e : List Float) (grade : Float) (i : ℤ)
     (deviations_out past_out expected_out : List Float) (k_few : h.shingle_size ≤ 64) (f : Fitted h l) (g : hasY ≡ true)
@@ -355,7 +369,10 @@ module _ (h : Preprocessor) (l : Lent) (x : List Float) (t : ℕ) (hasY : Bool) 
       let a = lt zero32 grade && expects in
       let d = h.transformer.input_length in
       let p = parts in
-      (λ j. learn_outcome 0 true a
+      let x₀ : Anomaly = record { past_timestamp = get_or (take h.shingle_size l.previous_timestamps) (h.shingle_size - 1 - back_of i) 0; likelihood = one32 } in
+      (λ j. learn_outcome 0 true (held_given x₀ a j) (held_time x₀ a j) (held_likelihood x₀ a j) p.answer.head
+      (lent p.statistics p.last_shingled_input p.last_shingled_point p.previous_timestamps l.initial_values l.initial_timestamps) p.deviations_out p.past_out p.expected_out)
+      ∙ (λ j. learn_outcome 0 true a
       (cond_when a (get_or (take h.shingle_size l.previous_timestamps) (h.shingle_size - 1 - back_of i) 0) (anomaly_of (view h l) call).past_timestamp 0 (λ z. time_same (inside z)) j)
       (cond a one32 zero32)
       (counting h (cond (ltb h.values_seen h.stop_normalization) (suc h.transformer.count) h.transformer.count) (suc h.values_seen) (suc h.internal_timestamp)

@@ -10,6 +10,7 @@ pub mod TransformerExamples
 pub mod ShingleLaws
 pub mod RefusalLaws
 pub mod RowLaws
+pub mod NumberLaws
 pub mod OutputLaws
 pub mod OutcomeLaws
 pub mod DrainLaws

@@ -1,6 +1,6 @@
 -- Laws of the lists that the calls work on: a block shifted in, a block overwritten, an answer written over lent memory, the last time.
 -- Assumes nothing.
-use Prim.Native.Nat.{ℕ, zero, suc, ◌+◌, ◌-◌, ◌*◌, ◌≤◌, ◌<◌}
+use Prim.Native.Nat.{ℕ, zero, suc, min, ◌+◌, ◌-◌, ◌*◌, ◌≤◌, ◌<◌}
 use mathlib.Core.Path.{◌≡◌, refl, sym, ap, ◌∙◌}
 use mathlib.Core.Bool.{Bool, true, false, ◌&&◌}
 use mathlib.Core.List.{List, [], ◌∷◌, ◌++◌}
@@ -10,6 +10,12 @@ use native.Mathlib.Numerals.{add-one}
 use lib.ListN.{length, get_or, set, take, drop, replicate, length-append, length-drop, length-take, take-append-drop, length-replicate}
 use lib.Seq.{length-take-le, get_or-take, take-nil, get_or-append-add, get_or-drop, take-suc, drop-cons, set_at, append_snoc, take_at, take-length, take_all, drop-append-add, drop-drop, drop-length, set_split, paste}
 use lib.Ieee.{Float, nan, inf, fin, lt}
+use Rattle.std.specs.List.{copy_within, slice_get}
+use Rattle.std.specs.Option.{unwrap_or}
+use Rattle.std.proofs.lemmas.List.{take_min}
+use Rattle.std.proofs.lemmas.Option.{unwrap_or-slice_get}
+use Rattle.std.proofs.lemmas.Slice.{put_mid-paste}
+use borrow.Rule.Slice.PartMut.{put_mid}
 use Rattle.refusal.specs.Lent.{over}
 use Rattle.trcf.specs.Lists.{last_or, last_n, shift_in, overwrite}
 use Rattle.trcf.specs.Calls.{finite}
@@ -80,6 +86,17 @@ module _ {A : Type 0} where
       ∙ ap (λ (q : List A). q ++ x)
       (take_at (take m (drop (length x) l)) (drop m l) m (length_moved (length x) l m le)
       ∙ take_all m (drop (length x) l) (omega (arith, length-drop (length x) l)))
+
+  -- the end, by two copies within the list
+  pub shift_in_place : (l x s y : List A) → length x ≤ length l → length s ≡ length l → s ≡ copy_within l (length x) (length l) 0 → y ≡ x
+      → put_mid (length l - length x) (length s - (length l - length x)) s y ≡ shift_in l x
+  unfolding slid
+  shift_in_place l x s y h k e f =
+      let m = length l - length x in
+      let n : 0 + m ≡ m = omega arith in
+      put_mid-paste m (length s - m) s y x (length x) f (omega arith) refl
+      ∙ ap (λ (q : List A). paste q m x (length x)) (e ∙ ap (λ (j : ℕ). take m (drop (length x) l) ++ drop j l) n)
+      ∙ slid_paste l x m (omega arith)
 
   -- the end, where the block is one element
   pub slid_put : (d : A) (l : List A) (t : A) (m : ℕ) → suc m ≡ length l → set (slid 1 l m) m t ≡ shift_in l (t ∷ [])
@@ -190,6 +207,17 @@ finite_at x i b h e =
     ap finite (drop-cons x i nan h)
     ∙ finite_cons (get_or x i nan) (drop (suc i) x)
     ∙ ap (λ (c : Bool). c && finite (drop (suc i) x)) e
+
+last_get : (l : List ℕ) → get_or l (length l - 1) 0 ≡ last_or 0 l
+last_get [] = refl
+last_get (x ∷ l) = sym (last_or_is 0 0 (x ∷ l) (length (x ∷ l) - 1) (omega arith))
+
+-- the last of the first n
+pub last_of_first : (l : List ℕ) (n k : ℕ) → k ≡ min n (length l) → unwrap_or (slice_get (take k l) (length (take k l) - 1)) 0 ≡ last_or 0 (take n l)
+last_of_first l n k e =
+    unwrap_or-slice_get (take k l) (length (take k l) - 1) 0
+    ∙ last_get (take k l)
+    ∙ ap (last_or 0) (ap (λ (j : ℕ). take j l) e ∙ take_min n l)
 
 -- the last of the first n, read at its place
 pub last_within : (l : List ℕ) (n : ℕ) → 0 < n → n ≤ length l → get_or l (n - 1) 0 ≡ last_or 0 (take n l)

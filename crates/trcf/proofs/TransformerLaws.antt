@@ -10,8 +10,10 @@ use lib.Ieee.{Float, nan, Format, binary32, binary64, fits, add, sub, mul, div, 
 use lib.Ieee.Fits.{add-fits, sub-fits, mul-fits, div-fits, cond-fits, nan-fits}
 use lib.Ieee.Bits.{of_bits-fits}
 use Rattle.common.specs.declared.deviation.Deviation.{Deviation}
-use Rattle.common.specs.declared.deviation.DeviationResult.{DeviationResult}
-use Rattle.common.specs.declared.deviation.DeviationResult.TheVariants.{Ok}
+use Rattle.std.specs.Prelude.{Result, Ok, Err}
+use Rattle.std.specs.Result.{result_unwrap_or}
+use Rattle.refusal.specs.declared.Refusal.{Refusal}
+use Rattle.refusal.specs.Refusal.{numbered}
 use Rattle.common.specs.Deviation.{count_limit, update_by, step_of}
 use Rattle.common.proofs.DeviationLaws.{update_by_accepted, step_fits}
 use Rattle.common.proofs.DeviationLaws as deviation
@@ -30,8 +32,14 @@ use Rattle.trcf.proofs.FitLaws.{all_set, all_get_d, all_tabulate, tabulate_lengt
 abbrev fit : Format → Float → Type 0
 fit f x = T (fits f x)
 
-pub taken_step : (s : Deviation) (f x : Float) (r : DeviationResult) (next : Deviation) → s.count < count_limit → IsFactor f s → r ≡ update_by f s x → r ≡ Ok next → next ≡ step_of s x
-taken_step s f x r next h e p q = let k = update_by_accepted f s x e h in cc
+taken : (r : Result Deviation Refusal) (d next : Deviation) → numbered r ≡ Ok next → result_unwrap_or r d ≡ next
+taken (Ok a) d next h = cc
+taken (Err e) d next h = absurd (cc h)
+
+-- an update that is not refused
+pub taken_step : (s : Deviation) (f x : Float) (r : Result Deviation Refusal) → s.count < count_limit → IsFactor f s → numbered r ≡ update_by f s x
+    → result_unwrap_or r s ≡ step_of s x
+taken_step s f x r h e p = taken r s (step_of s x) (p ∙ update_by_accepted f s x e h)
 
 -- the weight that a head holds for channel i
 pub weight_at_view : (t : WeightedTransformer) (l : List Float) (i : ℕ) → i < t.input_length → weight_at (transformer_view t l) i ≡ get_or t.weights i nan

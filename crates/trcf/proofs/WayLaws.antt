@@ -7,16 +7,21 @@ use lib.Dec.{eqb}
 use lib.IntN.{ℤ}
 use lib.Ieee.{Float, lt}
 use lib.ListN.{length, take}
+use Rattle.std.specs.Prelude.{Result, Ok, None}
+use Rattle.std.specs.Result.{IsErrAnd}
+use Rattle.refusal.specs.declared.Refusal.{Refusal}
+use Rattle.refusal.specs.Refusal.{number_of}
 use Rattle.refusal.specs.Lent.{over}
 use Rattle.trcf.specs.Transformer.{zero32}
 use Rattle.trcf.specs.Settings.{waiting, block, dimension}
 use Rattle.trcf.specs.Calls.{drain, shingled_point, post_process}
 use Rattle.trcf.specs.Preprocessor.{State, statistics_length, deviations, drained, reading, point_of, learned_nothing}
-use Rattle.trcf.specs.View.{Lent, lent, settings_of, initial_room, row_of, optional, learn_call, back_of, learn_outcome, learn_nothing, learn_after, counting, holding, Bounded, Ready, Fitted, Outcome, outcome, drain_of, pointed, point_after, counted, written_over, view}
+use Rattle.trcf.specs.View.{Lent, lent, settings_of, initial_room, row_of, optional, learn_call, back_of, processed_outcome, learn_nothing, learn_after, counting, holding, Bounded, Ready, Fitted, Outcome, outcome, drain_of, pointed, point_after, counted, written_over, view}
 use Rattle.trcf.specs.Steps.Rows.{learning_row}
-use Rattle.trcf.specs.Steps.Learning.{LearnParts, learned_parts, answering, answering_row, Learnable}
+use Rattle.trcf.specs.Steps.Learning.{LearnParts, learned_parts, answering, Learnable}
 use Rattle.trcf.specs.declared.head.Preprocessor.{Preprocessor}
 use Rattle.trcf.specs.declared.head.PostProcessed.{PostProcessed}
+use Rattle.trcf.proofs.NumberLaws.{number_zero, processed_err}
 use Rattle.trcf.proofs.BoundLaws.{kept_room}
 use Rattle.trcf.proofs.RefusalLaws.{room_waiting}
 use Rattle.trcf.proofs.StateLaws.{drain_refused, drain_done, point_refused, point_waits, point_done}
@@ -70,16 +75,16 @@ module _ (h : Preprocessor) (st xs ps : List Float) (ts : List ℕ) (vs : List F
   row_is : n ≡ row_of h (lent st xs ps ts vs vt) (post_process (learn_call x t hasY y expects e grade i deviations_out past_out expected_out))
   row_is = row ∙ ap (λ (z : ℤ). row_of h (lent st xs ps ts vs vt) (post_process (learn_call x t hasY y expects e grade z deviations_out past_out expected_out))) u
 
-  pub way_refused : (n ≡ 0 → ⊥) → (r : PostProcessed) → r ≡ answering_row n h false false 0 zero32
-      → learn_outcome r.row r.written r.has_anomaly r.past_timestamp r.likelihood r.head (lent st xs ps ts vs vt) deviations_out past_out expected_out
+  pub way_refused : (e' : Refusal) (r : Result PostProcessed Refusal) → IsErrAnd r (λ d. d ≡ e') → number_of e' ≡ n
+      → processed_outcome r h (lent st xs ps ts vs vt) deviations_out past_out expected_out
       ≡ learn_after h (lent st xs ps ts vs vt) (learn_call x t hasY y expects e grade i deviations_out past_out expected_out)
   unfolding learned_nothing
-  way_refused z r p =
+  way_refused e' r p m =
       let l = lent st xs ps ts vs vt in
       let q = learn_call x t hasY y expects e grade i deviations_out past_out expected_out in
-      (λ j. learn_outcome (p j).row (p j).written (p j).has_anomaly (p j).past_timestamp (p j).likelihood (p j).head l deviations_out past_out expected_out)
-      ∙ ap (λ (m : ℕ). learn_nothing m h l q) row_is
-      ∙ learn_refused h l q (λ w. z (row_is ∙ w))
+      processed_err e' h l r deviations_out past_out expected_out p
+      ∙ ap (λ (k : ℕ). learn_nothing k h l q) (m ∙ row_is)
+      ∙ learn_refused h l q (λ w. number_zero e' (m ∙ row_is ∙ w))
 
   module _ (ready : n ≡ 0 → Ready h (lent st xs ps ts vs vt)) (zero : n ≡ 0) where
     accepted : row_of h (lent st xs ps ts vs vt) (post_process (learn_call x t hasY y expects e grade i deviations_out past_out expected_out)) ≡ 0
@@ -87,23 +92,22 @@ module _ (h : Preprocessor) (st xs ps : List Float) (ts : List ℕ) (vs : List F
 
     pub way_held : (b : Bool) → b ≡ waiting (settings_of h) h.values_seen → b ≡ true → (r : PostProcessed) (vs' : List Float) (vt' : List ℕ) (deviationsOut' : List Float)
         → r ≡ answering (counting h h.transformer.count (suc h.values_seen) h.internal_timestamp (suc h.initial_len))
-        (eqb (suc h.values_seen) h.start_normalization) false 0 zero32
+        (eqb (suc h.values_seen) h.start_normalization) None
         → vs' ≡ over vs (take (h.initial_len * h.transformer.input_length) vs ++ x)
         → vt' ≡ over vt (take h.initial_len vt ++ (t ∷ []))
         → deviationsOut' ≡ cond (eqb (suc h.values_seen) h.start_normalization) (over deviations_out (deviations (holding h (take (statistics_length (settings_of h)) st) [] []))) deviations_out
-        → learn_outcome r.row r.written r.has_anomaly r.past_timestamp r.likelihood r.head (lent st xs ps ts vs' vt') deviationsOut' past_out expected_out
+        → processed_outcome (Ok r) h (lent st xs ps ts vs' vt') deviationsOut' past_out expected_out
         ≡ learn_after h (lent st xs ps ts vs vt) (learn_call x t hasY y expects e grade i deviations_out past_out expected_out)
     way_held b w g r vs' vt' deviationsOut' p₀ p₁ p₂ p₃ =
-        (λ j. learn_outcome (p₀ j).row (p₀ j).written (p₀ j).has_anomaly (p₀ j).past_timestamp (p₀ j).likelihood (p₀ j).head (lent st xs ps ts (p₁ j) (p₂ j)) (p₃ j) past_out expected_out)
+        (λ j. processed_outcome (Ok (p₀ j)) h (lent st xs ps ts (p₁ j) (p₂ j)) (p₃ j) past_out expected_out)
         ∙ learn_held h (lent st xs ps ts vs vt) (learn_call x t hasY y expects e grade i deviations_out past_out expected_out) accepted (sym w ∙ g) (ready zero).fitted
 
-    pub way_none : (b : Bool) → b ≡ waiting (settings_of h) h.values_seen → b ≡ false → hasY ≡ false → (r : PostProcessed) → r ≡ answering_row 0 h false false 0 zero32
-        → learn_outcome r.row r.written r.has_anomaly r.past_timestamp r.likelihood r.head (lent st xs ps ts vs vt) deviations_out past_out expected_out
+    pub way_none : (b : Bool) → b ≡ waiting (settings_of h) h.values_seen → b ≡ false → hasY ≡ false
+        → processed_outcome (Ok (answering h false None)) h (lent st xs ps ts vs vt) deviations_out past_out expected_out
         ≡ learn_after h (lent st xs ps ts vs vt) (learn_call x t hasY y expects e grade i deviations_out past_out expected_out)
     unfolding learned_nothing
-    way_none b w g k r p =
-        (λ j. learn_outcome (p j).row (p j).written (p j).has_anomaly (p j).past_timestamp (p j).likelihood (p j).head (lent st xs ps ts vs vt) deviations_out past_out expected_out)
-        ∙ learn_none h (lent st xs ps ts vs vt) (learn_call x t hasY y expects e grade i deviations_out past_out expected_out) accepted (sym w ∙ g) (ap (λ (z : Bool). optional z y) k) (ready zero).fitted
+    way_none b w g k =
+        learn_none h (lent st xs ps ts vs vt) (learn_call x t hasY y expects e grade i deviations_out past_out expected_out) accepted (sym w ∙ g) (ap (λ (z : Bool). optional z y) k) (ready zero).fitted
 
     learns_is : learning_row h (length y) hasY (length e) expects grade (back_of i) (length deviations_out) (length past_out) (length expected_out) ≡ 0
     learns_is = post_learns h (lent st xs ps ts vs vt) x t hasY y expects e grade i deviations_out past_out expected_out (ready zero).bounded accepted

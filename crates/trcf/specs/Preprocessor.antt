@@ -15,6 +15,7 @@ use Rattle.trcf.specs.Settings.{Settings, transformer, block, dimension, waiting
 use Rattle.trcf.specs.Calls.{Learn, Forecast, Call, shingled_point, post_process, drain, transform, invert_extrapolation, scale, shift, status, Facts, rows, due, newest, given, anomalous, lookahead}
 use Rattle.trcf.specs.declared.types.TransformMethod.{TransformMethod}
 use Rattle.trcf.specs.declared.types.ForestMode.{ForestMode}
+pub use Rattle.trcf.specs.declared.head.Anomaly.{Anomaly}
 
 -- ---- the state (document 01: watch): exactly what the snapshot holds
 
@@ -307,10 +308,6 @@ times_of w v =
     (invert_times s w.statistics (cut v.values) (cut v.upper) (cut v.lower))
 
 -- ---- learn's anomaly: `last_anomaly`
-
-pub record Anomaly : Type 0 where
-  pub past_timestamp : ℕ
-  pub likelihood : Float
 
 -- k + relative_index − 1
 abbrev pub block_at : ℕ → ℤ → ℕ

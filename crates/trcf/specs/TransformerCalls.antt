@@ -1,6 +1,7 @@
 -- The calls of the transformer by themselves: document 01, 'Numbers the mechanic may see', and what each leaves in the memory lent to it.
-use Rattle.std.specs.Prelude.{ℕ, ◌+◌, ◌*◌, Bool, not, ◌&&◌, ◌||◌, List, [], ◌∷◌, ltb, leb, eqb, length, take, replicate, Float}
-use Rattle.refusal.specs.Refusal.{first_of, accepted}
+use Rattle.std.specs.Prelude.{ℕ, ◌+◌, ◌*◌, Bool, not, ◌&&◌, ◌||◌, List, [], ◌∷◌, ltb, leb, eqb, length, take, replicate, Float, Result, Ok, Err}
+use Rattle.refusal.specs.Refusal.{number_of, first_of, accepted}
+use Rattle.refusal.specs.declared.Refusal.{Refusal}
 use Rattle.refusal.specs.Lent.{over}
 use Rattle.common.specs.Deviation.{zero64, count_limit, outside_unit}
 use Rattle.ranges.specs.RangeVector.{Ranges, RangeOutcome, range_answer, unequal_at, unblocked}
@@ -77,6 +78,11 @@ pub record Made : Type 0 where
 
 abbrev pub made : ℕ → WeightedTransformer → List Float → Made
 made n h l = record { row = n; transformer = h; statistics = l }
+
+-- an answer of the head alone; refused, the head is h
+abbrev pub made_from : Result WeightedTransformer Refusal → WeightedTransformer → List Float → Made
+made_from (Ok next) h l = made 0 next l
+made_from (Err r) h l = made (number_of r) h l
 
 -- a row, and the lent list of the answer
 pub record TransformerOutput : Type 0 where

@@ -1,6 +1,8 @@
 -- The numbers and letters of the settings' kinds: document 01, 'Trace text'.
 use Prim.Native.Char.{code}
-use Rattle.std.specs.Prelude.{ℕ, Bool, true, false, cond, eqb}
+use Rattle.std.specs.Prelude.{ℕ, ◌<◌, ◌≡◌, Bool, true, false, cond, eqb, Result, MatchResult}
+use Rattle.refusal.specs.declared.Refusal.{Refusal}
+use Rattle.refusal.specs.declared.Refusal.TheVariants.{Form}
 use Rattle.trcf.specs.declared.types.TransformMethod.{TransformMethod}
 use Rattle.trcf.specs.declared.types.TransformMethod.TheVariants.{NONE, WEIGHTED, DIFFERENCE, SUBTRACT_MA, NORMALIZE, NORMALIZE_DIFFERENCE}
 use Rattle.trcf.specs.declared.types.ForestMode.{ForestMode}
@@ -14,6 +16,10 @@ method_number DIFFERENCE = 2
 method_number SUBTRACT_MA = 3
 method_number NORMALIZE = 4
 method_number NORMALIZE_DIFFERENCE = 5
+
+-- what a number names; one above 5 names none
+abbrev pub MethodNumbered : ℕ → Result TransformMethod Refusal → Type 0
+MethodNumbered n r = MatchResult r (λ m. method_number m ≡ n) (λ e. (e ≡ Form) × (5 < n))
 
 -- and back; a number above 5 names none, and whoever asks has refused it
 abbrev pub method_of_number : ℕ → TransformMethod

@@ -1,9 +1,11 @@
 -- The preprocessor as the program holds it, settings and counters by value and six lent lists, and what each call makes of both.
-use Rattle.std.specs.Prelude.{ℕ, zero, suc, ◌*◌, ◌≤◌, ◌<◌, Bool, true, false, cond, not, ◌&&◌, ◌||◌, List, [], ◌∷◌, ◌≡◌, ltb, leb, eqb, ℤ, pos, negsuc, length, take, replicate, Float}
+use Rattle.std.specs.Prelude.{ℕ, zero, suc, ◌*◌, ◌≤◌, ◌<◌, Bool, true, false, cond, not, ◌&&◌, ◌||◌, List, [], ◌∷◌, ◌≡◌, ltb, leb, eqb, ℤ, pos, negsuc, length, take, replicate, Float, Result, Ok, Err}
 use Rattle.std.proofs.Math.Option.{Option, none, some}
+use Rattle.std.specs.Prelude.{Option as Held, Some, None}
 use Rattle.common.specs.Deviation.{zero64, count_limit}
 use Rattle.trcf.specs.Lists.{last_or}
-use Rattle.refusal.specs.Refusal.{first_of}
+use Rattle.refusal.specs.Refusal.{number_of, first_of}
+use Rattle.refusal.specs.declared.Refusal.{Refusal}
 use Rattle.refusal.specs.Lent.{over}
 use Rattle.trcf.specs.Transformer.{zero32}
 use Rattle.trcf.specs.Types.{normalizes, method_number, mode_letter, is_gap}
@@ -15,7 +17,9 @@ use Rattle.trcf.specs.declared.types.ForestMode.TheVariants.{STANDARD}
 use Rattle.trcf.specs.declared.head.Preprocessor.{Preprocessor}
 use Rattle.trcf.specs.declared.head.PreprocessorBuilder.{PreprocessorBuilder}
 use Rattle.trcf.specs.declared.head.LentLengths.{LentLengths}
-use Rattle.trcf.specs.declared.head.StatusAnswer.{StatusAnswer}
+use Rattle.trcf.specs.declared.head.Pointed.{Pointed}
+use Rattle.trcf.specs.declared.head.PostProcessed.{PostProcessed}
+use Rattle.trcf.specs.declared.head.Status.{Status as Told}
 
 -- ---- what is lent
 
@@ -293,6 +297,11 @@ pub record Outcome : Type 0 where
 abbrev pub outcome : ℕ → Preprocessor → Lent → Outcome
 outcome n h l = record { row = n; head = h; lent = l }
 
+-- an answer of the head alone; refused, the head is h
+abbrev pub head_outcome : Result Preprocessor Refusal → Preprocessor → Lent → Outcome
+head_outcome (Ok next) h l = outcome 0 next l
+head_outcome (Err r) h l = outcome (number_of r) h l
+
 unfoldable pub build_row : Settings → Lent → ℕ
 build_row s l = or_else (settings_row s) (lent_row (head_from s) l)
 
@@ -366,25 +375,6 @@ pub record StatusOutcome : Type 0 where
   pub row : ℕ
   pub numbers : Status
 
-abbrev pub status_given : StatusAnswer → List Float → StatusOutcome
-status_given r out =
-    record {
-      row = r.row;
-      numbers = record {
-        values_seen = r.values_seen;
-        internal_timestamp = r.internal_timestamp;
-        ready = r.ready;
-        input_dimensions = r.input_dimensions;
-        shingle_size = r.shingle_size;
-        dimensions = r.dimensions;
-        method = r.transform_method;
-        mode = r.forest_mode;
-        start = r.start_normalization;
-        panel = r.panel;
-        deviations_out = out;
-      };
-    }
-
 -- Refused, it tells the row alone: every number is 0, nothing is ready, the two kinds are those of number 0, and the output is left.
 abbrev pub no_status : List Float → Status
 no_status out =
@@ -402,6 +392,26 @@ no_status out =
       deviations_out = out;
     }
 
+abbrev pub status_given : Result Told Refusal → List Float → StatusOutcome
+status_given (Ok r) out =
+    record {
+      row = 0;
+      numbers = record {
+        values_seen = r.values_seen;
+        internal_timestamp = r.internal_timestamp;
+        ready = r.ready;
+        input_dimensions = r.input_dimensions;
+        shingle_size = r.shingle_size;
+        dimensions = r.dimensions;
+        method = r.transform_method;
+        mode = r.forest_mode;
+        start = r.start_normalization;
+        panel = r.panel;
+        deviations_out = out;
+      };
+    }
+status_given (Err r) out = record { row = number_of r; numbers = no_status out }
+
 unfoldable pub status_after : Preprocessor → Lent → List Float → StatusOutcome
 status_after h l out = let n = row_of h l (status out) in record { row = n; numbers = accepted n (status_of (view h l) out) (no_status out) }
 
@@ -418,6 +428,11 @@ pub record PointOutcome : Type 0 where
 
 abbrev pub pointed : ℕ → Bool → Preprocessor → Lent → List Float → PointOutcome
 pointed n b h l out = record { row = n; given = b; head = h; lent = l; out = out }
+
+-- an answer with the head that it leaves; refused, the head is h, and no point is given
+abbrev pub point_outcome : Result Pointed Refusal → Preprocessor → Lent → List Float → PointOutcome
+point_outcome (Ok p) h l out = pointed 0 p.given p.head l out
+point_outcome (Err r) h l out = pointed (number_of r) false h l out
 
 -- a point is given past waiting
 unfoldable pub point_after : Preprocessor → Lent → List Float → ℕ → List Float → PointOutcome
@@ -497,6 +512,18 @@ learn_outcome n w b t p h l deviations past expected =
       past_out = past;
       expected_out = expected;
     }
+
+-- the anomaly that the program holds
+abbrev pub anomaly_held : Held Anomaly → Option Anomaly
+anomaly_held (Some a) = some a
+anomaly_held None = none
+
+-- an answer with the head that it leaves; refused, the head is h, and there is no anomaly
+abbrev pub processed_outcome : Result PostProcessed Refusal → Preprocessor → Lent → List Float → List Float → List Float → LearnOutcome
+processed_outcome (Ok p) h l deviations past expected =
+    let a = anomaly_held p.anomaly in
+    learn_outcome 0 p.written (given a) (anomaly_time a) (anomaly_likelihood a) p.head l deviations past expected
+processed_outcome (Err r) h l deviations past expected = learn_outcome (number_of r) false false 0 zero32 h l deviations past expected
 
 abbrev pub learned_outcome : ℕ → Preprocessor → Lent → Learned → LearnOutcome
 learned_outcome n h l a =

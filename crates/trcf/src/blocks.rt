@@ -5,10 +5,10 @@ ghost use Rattle.std.specs.Float.{binary32};
 ghost use Rattle.std.specs.Float.Ieee.{of_int};
 ghost use Rattle.ranges.specs.RangeVector.{ranges};
 ghost use Rattle.trcf.specs.Types.{differences};
-ghost use Rattle.trcf.specs.Steps.Blocks.{plain, places_by, turn_by, drift_place, turn_place, moves, invert_place, Carried};
+ghost use Rattle.trcf.specs.Steps.Blocks.{places_by, turn_by, drift_place, turn_place, moves, invert_place, Carried};
 
 use crate::types::{TransformMethod, is_differencing, is_none, is_normalizing};
-use ranges::rangevector::Range32;
+use ranges::rangevector::Range;
 
 // The nearest f32; the machine's own conversion is exact up to 2^24.
 fn block_number(i: usize) -> f32
@@ -25,14 +25,7 @@ fn block_number(i: usize) -> f32
 fn is_moving(m: TransformMethod) -> bool
     ensures { result ≡ moves m }
 {
-    match m {
-        TransformMethod::NONE => false,
-        TransformMethod::WEIGHTED => false,
-        TransformMethod::DIFFERENCE => true,
-        TransformMethod::SUBTRACT_MA => true,
-        TransformMethod::NORMALIZE => true,
-        TransformMethod::NORMALIZE_DIFFERENCE => true,
-    }
+    !matches!(m, TransformMethod::NONE | TransformMethod::WEIGHTED)
 }
 
 fn chosen(b: bool, x: f32, y: f32) -> f32
@@ -42,10 +35,10 @@ fn chosen(b: bool, x: f32, y: f32) -> f32
 }
 
 // Number by number, so that no branch is left.
-fn chosen_range(b: bool, q: Range32, r: Range32) -> Range32
-    ensures { plain result ≡ cond b (plain q) (plain r) }
+fn chosen_range(b: bool, q: Range<f32>, r: Range<f32>) -> Range<f32>
+    ensures { result ≡ cond b q r }
 {
-    Range32 {
+    Range {
         value: chosen(b, q.value, r.value),
         upper: chosen(b, q.upper, r.upper),
         lower: chosen(b, q.lower, r.lower),
@@ -60,9 +53,9 @@ fn turn(
     scale: f32,
     drift: f32,
     base: f32,
-    r: Range32,
-) -> Range32
-    ensures { plain result ≡ turn_by normalizes moves factor scale drift base (plain r) }
+    r: Range<f32>,
+) -> Range<f32>
+    ensures { result ≡ turn_by normalizes moves factor scale drift base r }
 {
     let a = r.scale(factor);
     let e = chosen_range(normalizes, a.scale(scale), a);
@@ -86,10 +79,9 @@ fn drift_block(
 {
     let b = block_number(i);
     let at = i * d;
-    let mut j = 0;
-    while j < d {
+    for j in 0..d {
         let p = at + j;
-        let r = Range32 {
+        let r = Range {
             value: values[p],
             upper: upper[p],
             lower: lower[p],
@@ -98,7 +90,6 @@ fn drift_block(
         values[p] = q.value;
         upper[p] = q.upper;
         lower[p] = q.lower;
-        j += 1;
     }
 }
 
@@ -126,11 +117,10 @@ fn invert_block(
 {
     let b = block_number(i);
     let at = i * d;
-    let mut j = 0;
-    while j < d {
+    for j in 0..d {
         let p = at + j;
         let x = bases[j];
-        let r = Range32 {
+        let r = Range {
             value: values[p],
             upper: upper[p],
             lower: lower[p],
@@ -148,7 +138,6 @@ fn invert_block(
         values[p] = q.value;
         upper[p] = q.upper;
         lower[p] = q.lower;
-        j += 1;
     }
 }
 

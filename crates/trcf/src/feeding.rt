@@ -35,21 +35,15 @@ pub(crate) fn feed_fitting(
     requires input_len { length input.now ≡ head.transformer.input_length }
     ensures { s.new ≡ feed (settings_of head) count s.old (reading before.now previous) (reading input.now timestamp) }
 {
-    let t = head.transformer;
-    let method = t.transform_method;
+    let t = WeightedTransformer {
+        count,
+        ..head.transformer
+    };
     let d = t.input_length;
     let decay = t.transform_decay;
-    let weights = t.weights;
-    let u = WeightedTransformer {
-        transform_method: method,
-        input_length: d,
-        transform_decay: decay,
-        weights: weights,
-        count: count,
-    };
     let f = next_factor(decay, count);
     let g = next_factor(0.1 * decay, count);
-    update_channels(u, s, input, before, f, g);
+    update_channels(t, s, input, before, f, g);
     let x = numeric::u64_to_f64(timestamp);
     let dx = numeric::u64_to_f64(since(timestamp, previous));
     feed_at(s, 5 * d, 1, decay, count, x, dx, f, g);

@@ -1,6 +1,7 @@
 // The head: settings and counters by value (the source's trcf/preprocessor.rs); six lent lists go beside it. What every head must keep, the sizes that follow
 // from it, and what the calls answer with it.
-ghost use Rattle.std.specs.Prelude.{◌≡◌, cond, ◌+◌, ◌≤◌};
+ghost use Rattle.std.specs.Prelude.{◌≡◌, cond, ◌+◌, ◌≤◌, OnOk};
+ghost use Rattle.refusal.specs.Refusal.{row_of};
 ghost use Rattle.trcf.specs.Lengths.{where_fits, within};
 ghost use Rattle.trcf.specs.View.{settings_of, head_row, initial_room, dimension_of, no_head, counting, Bounded};
 ghost use Rattle.trcf.specs.Types.{augments};
@@ -10,6 +11,7 @@ use crate::types::{
     ForestMode, INPUT_LIMIT, SHINGLE_LIMIT, START_BOUND, TransformMethod, is_augmented,
     is_normalizing,
 };
+use refusal::Refusal;
 
 #[derive(Clone, Copy)]
 pub struct Preprocessor {
@@ -52,33 +54,28 @@ pub struct PreprocessorBuilder {
 // What shingled_point answers: whether a point stands in the output.
 #[derive(Clone, Copy)]
 pub struct Pointed {
-    pub row: u64,
     pub given: bool,
     pub head: Preprocessor,
 }
 
-// What post_process answers: whether the deviations stand in their output; whether there is an anomaly, its time and its likelihood.
+// When an anomaly was, and how likely it is one.
 #[derive(Clone, Copy)]
-pub struct PostProcessed {
-    pub row: u64,
-    pub head: Preprocessor,
-    pub written: bool,
-    pub has_anomaly: bool,
+pub struct Anomaly {
     pub past_timestamp: u64,
     pub likelihood: f32,
 }
 
-// The row of a call, 0 for none, and the head that it leaves.
+// What post_process answers: whether the deviations stand in their output, and the anomaly, if there is one.
 #[derive(Clone, Copy)]
-pub struct Changed {
-    pub row: u64,
+pub struct PostProcessed {
     pub head: Preprocessor,
+    pub written: bool,
+    pub anomaly: Option<Anomaly>,
 }
 
 // What the getters say together.
 #[derive(Clone, Copy)]
-pub struct StatusAnswer {
-    pub row: u64,
+pub struct Status {
     pub values_seen: usize,
     pub internal_timestamp: usize,
     pub ready: bool,
@@ -128,56 +125,39 @@ pub fn with_counts(
 ) -> Preprocessor
     ensures { result ≡ counting head count values_seen internal_timestamp initial_len }
 {
-    let t = head.transformer;
-    let mode = head.forest_mode;
-    let method = t.transform_method;
-    let weights = t.weights;
-    let codes = head.codes;
     Preprocessor {
         transformer: WeightedTransformer {
-            transform_method: method,
-            input_length: t.input_length,
-            transform_decay: t.transform_decay,
-            weights: weights,
-            count: count,
+            count,
+            ..head.transformer
         },
-        forest_mode: mode,
-        shingle_size: head.shingle_size,
-        start_normalization: head.start_normalization,
-        stop_normalization: head.stop_normalization,
-        weight_time: head.weight_time,
-        values_seen: values_seen,
-        internal_timestamp: internal_timestamp,
-        initial_len: initial_len,
-        codes: codes,
+        values_seen,
+        internal_timestamp,
+        initial_len,
+        ..head
     }
 }
 
 // What no head that `build` made is refused by.
-pub fn head_row(head: Preprocessor) -> u64
-    ensures value { result ≡ head_row (settings_of head) }
-    ensures bounded { result ≡ 0 → Bounded (settings_of head) }
+#[tactic(auto, unfolding(crate::specs::View::head_row))]
+pub fn head_row(head: Preprocessor) -> Result<(), Refusal>
+    ensures value { row_of result ≡ head_row (settings_of head) }
+    ensures bounded { OnOk result (Bounded (settings_of head)) }
 {
-    let t = head.transformer;
-    let d = t.input_length;
+    let d = head.transformer.input_length;
     let k = head.shingle_size;
-    let start = head.start_normalization;
     if d == 0 {
-        return 2;
+        return Err(Refusal::NoChannels);
     }
     if k == 0 {
-        return 3;
+        return Err(Refusal::NoShingle);
     }
-    if INPUT_LIMIT < d {
-        return 4;
+    if INPUT_LIMIT < d || SHINGLE_LIMIT < k {
+        return Err(Refusal::TooLarge);
     }
-    if SHINGLE_LIMIT < k {
-        return 4;
+    if START_BOUND <= head.start_normalization {
+        return Err(Refusal::StartTooLarge);
     }
-    if START_BOUND <= start {
-        return 8;
-    }
-    0
+    Ok(())
 }
 
 // How many readings can come to wait: none under a method that never waits.
@@ -185,9 +165,7 @@ pub fn initial_room(head: Preprocessor) -> usize
     ensures value { result ≡ initial_room (settings_of head) }
     ensures upper_bound { result ≤ head.start_normalization }
 {
-    let t = head.transformer;
-    let method = t.transform_method;
-    if is_normalizing(method) {
+    if is_normalizing(head.transformer.transform_method) {
         head.start_normalization
     } else {
         0
@@ -206,15 +184,16 @@ pub fn block_of(m: ForestMode, d: usize) -> usize
 }
 
 // The numbers in a point; 0 for a head that no build made.
+#[tactic(
+    auto,
+    using(crate::proofs::LengthLaws::block_known),
+    unfolding(crate::specs::Settings::dimension, crate::specs::Settings::block)
+)]
 pub fn get_dimension(head: Preprocessor) -> usize
     ensures { result ≡ dimension_of head }
 {
-    let row = head_row(head);
-    if row != 0 {
+    if head_row(head).is_err() {
         return 0;
     }
-    let t = head.transformer;
-    let mode = head.forest_mode;
-    let b = block_of(mode, t.input_length);
-    b * head.shingle_size
+    block_of(head.forest_mode, head.transformer.input_length) * head.shingle_size
 }

@@ -10,64 +10,46 @@ use crate::head::{Preprocessor, block_of, head_row};
 use common::deviation::COUNT_LIMIT;
 
 // Whether n numbers have room.
+#[tactic(auto, unfolding(crate::specs::Lengths::within))]
 pub(crate) fn is_within(n: usize, room: usize) -> bool
     ensures { result ≡ within n room }
 {
-    if room < n {
-        return false;
-    }
-    true
+    n <= room
 }
 
 // Whether n numbers have room from a place on.
+#[tactic(auto, unfolding(crate::specs::Lengths::within))]
 pub(crate) fn has_room(at: usize, n: usize, room: usize) -> bool
     ensures { result ≡ within (at + n) room }
 {
-    if room < at {
-        return false;
-    }
-    if room - at < n {
-        return false;
-    }
-    true
+    at <= room && n <= room - at
 }
 
+#[tactic(auto, unfolding(crate::specs::Lengths::time_fits))]
 pub(crate) fn time_fits(head: Preprocessor, statistics: usize) -> bool
     ensures value { result ≡ time_fits (settings_of head) statistics }
     ensures input_length_bound { result ≡ true → (head.transformer.input_length ≤ 16) × (statistics_length (settings_of head) ≤ statistics) }
 {
-    let row = head_row(head);
-    if row != 0 {
-        return false;
-    }
-    let t = head.transformer;
-    if statistics < 3 * (5 * t.input_length + 5) {
-        return false;
-    }
-    true
+    head_row(head).is_ok() && 3 * (5 * head.transformer.input_length + 5) <= statistics
 }
 
+#[tactic(
+    auto,
+    using(crate::proofs::LengthLaws::block_known),
+    unfolding(crate::specs::Lengths::output_fits, crate::specs::Settings::block)
+)]
 pub(crate) fn output_fits(head: Preprocessor, statistics: usize, output: usize) -> bool
     ensures value { result ≡ output_fits (settings_of head) statistics output }
     ensures bounded { result ≡ true → Bounded (settings_of head) × (statistics ≡ statistics_length (settings_of head)) × (block (settings_of head) ≤ output) }
 {
-    let row = head_row(head);
-    if row != 0 {
+    if head_row(head).is_err() {
         return false;
     }
-    let t = head.transformer;
-    let mode = head.forest_mode;
-    let d = t.input_length;
-    let b = block_of(mode, d);
-    if statistics != 3 * (5 * d + 5) {
-        return false;
-    }
-    if output < b {
-        return false;
-    }
-    true
+    let d = head.transformer.input_length;
+    statistics == 3 * (5 * d + 5) && block_of(head.forest_mode, d) <= output
 }
 
+#[tactic(auto, unfolding(crate::specs::Lengths::transform_fits))]
 pub(crate) fn transform_fits(
     head: Preprocessor,
     statistics: usize,
@@ -78,22 +60,11 @@ pub(crate) fn transform_fits(
     ensures value { result ≡ transform_fits (settings_of head) statistics inputs input output }
     ensures bounded { result ≡ true → Bounded (settings_of head) × (statistics ≡ statistics_length (settings_of head)) × (inputs ≡ head.transformer.input_length * head.shingle_size) × (input ≡ head.transformer.input_length) × (block (settings_of head) ≤ output) }
 {
-    let fits = output_fits(head, statistics, output);
-    if !fits {
-        return false;
-    }
-    let t = head.transformer;
-    let d = t.input_length;
-    let k = head.shingle_size;
-    if inputs != d * k {
-        return false;
-    }
-    if input != d {
-        return false;
-    }
-    true
+    let d = head.transformer.input_length;
+    output_fits(head, statistics, output) && inputs == d * head.shingle_size && input == d
 }
 
+#[tactic(auto, unfolding(crate::specs::Lengths::feed_fits))]
 pub(crate) fn feed_fits(
     head: Preprocessor,
     count: u64,
@@ -104,23 +75,9 @@ pub(crate) fn feed_fits(
     ensures value { result ≡ feed_fits (settings_of head) count statistics before input }
     ensures bounded { result ≡ true → Bounded (settings_of head) × (statistics ≡ statistics_length (settings_of head)) × (count < count_limit) × (before ≡ head.transformer.input_length) × (input ≡ head.transformer.input_length) }
 {
-    let row = head_row(head);
-    if row != 0 {
+    if head_row(head).is_err() {
         return false;
     }
-    let t = head.transformer;
-    let d = t.input_length;
-    if statistics != 3 * (5 * d + 5) {
-        return false;
-    }
-    if COUNT_LIMIT <= count {
-        return false;
-    }
-    if before != d {
-        return false;
-    }
-    if input != d {
-        return false;
-    }
-    true
+    let d = head.transformer.input_length;
+    statistics == 3 * (5 * d + 5) && count < COUNT_LIMIT && before == d && input == d
 }

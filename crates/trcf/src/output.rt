@@ -31,11 +31,10 @@ pub(crate) fn transform_fitting(
     ensures { output.new ≡ over output.old (transformed_after (settings_of head) s.now head.values_seen (reading (last_n head.transformer.input_length inputs.now) base) (reading input.now timestamp)) }
 {
     let t = head.transformer;
-    let mode = head.forest_mode;
     let d = t.input_length;
     let n = inputs.len();
     transform_into(t, s, input, &inputs[n - d..n], output);
-    if is_augmented(mode) {
+    if is_augmented(head.forest_mode) {
         let p = previous_time(head, base, timestamp);
         output[d] = time_element(head, s, timestamp, p);
     }
@@ -65,10 +64,9 @@ pub(crate) fn scale_fitting(head: Preprocessor, s: &[f64], output: &mut [f32])
     ensures { output.new ≡ over output.old (scale_of (holding head s.now [] [])) }
 {
     let t = head.transformer;
-    let mode = head.forest_mode;
     let d = t.input_length;
     scale_into(t, s, output);
-    if is_augmented(mode) {
+    if is_augmented(head.forest_mode) {
         output[d] = time_scale(head, s);
     }
 }
@@ -89,10 +87,9 @@ pub(crate) fn shift_fitting(head: Preprocessor, s: &[f64], times: &[u64], output
     ensures { output.new ≡ over output.old (shift_of (holding head s.now [] times.now)) }
 {
     let t = head.transformer;
-    let mode = head.forest_mode;
     let d = t.input_length;
     shift_into(t, s, output);
-    if is_augmented(mode) {
+    if is_augmented(head.forest_mode) {
         output[d] = time_shift(head, s, last_time(times));
     }
 }
@@ -113,10 +110,9 @@ pub(crate) fn deviations_fitting(head: Preprocessor, s: &[f64], output: &mut [f3
     ensures { output.new ≡ over output.old (deviations (holding head s.now [] [])) }
 {
     let t = head.transformer;
-    let mode = head.forest_mode;
     let d = t.input_length;
     difference_deviations_into(t, s, output);
-    if is_augmented(mode) {
+    if is_augmented(head.forest_mode) {
         output[d] = time_deviation(head, s);
     }
 }

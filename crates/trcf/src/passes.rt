@@ -104,8 +104,7 @@ fn first_pass(
     ensures s_after { s.new ≡ firsts d s.old d decay count input.now previous.now }
     ensures a_after { a.new ≡ radicands d a.old s.old d decay count input.now previous.now }
 {
-    let mut i = 0;
-    while i < d {
+    for i in 0..d {
         let x = input[i];
         let dx = x - previous[i];
         let r = feed_first(
@@ -121,7 +120,6 @@ fn first_pass(
         );
         a[2 * i] = r.value;
         a[2 * i + 1] = r.difference;
-        i += 1;
     }
 }
 
@@ -132,10 +130,8 @@ fn last_pass(s: &mut [f64], a: &[f64], d: usize, slow: f64, count: u64, g: f64)
     requires g_value { g ≡ factor_of slow count }
     ensures { s.new ≡ lasts d s.old d slow count a.now }
 {
-    let mut i = 0;
-    while i < d {
+    for i in 0..d {
         feed_last(s, i, d, slow, count, a[2 * i], a[2 * i + 1], g);
-        i += 1;
     }
 }
 

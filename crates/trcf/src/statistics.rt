@@ -5,7 +5,7 @@ ghost use Rattle.common.specs.Deviation.{count_limit, factor_of, step_of};
 ghost use Rattle.trcf.specs.Transformer.{statistic_at, put_statistic, deviations_at, put_deviations, slow_decay, fed, mean_at, fed_at};
 ghost use Rattle.trcf.specs.Steps.Timestamps.{listed, gathered, IsFactor, Feedable};
 
-use common::deviation::{Deviation, DeviationResult};
+use common::deviation::Deviation;
 
 // The five statistics of one channel, or of the time.
 #[derive(Clone, Copy)]
@@ -23,11 +23,11 @@ pub(crate) fn statistic_at(s: &[f64], n: usize, discount: f64, count: u64) -> De
 {
     let at = 3 * n;
     Deviation {
-        discount: discount,
+        discount,
         weight: s[at],
         sum_squared: s[at + 2],
         sum: s[at + 1],
-        count: count,
+        count,
     }
 }
 
@@ -53,11 +53,11 @@ pub(crate) fn deviations_at(s: &[f64], b: usize, w: usize, decay: f64, count: u6
     let difference_mean = statistic_at(s, b + 3 * w, slow, count);
     let difference_deviation = statistic_at(s, b + 4 * w, slow, count);
     Deviations {
-        value: value,
-        difference: difference,
-        deviation: deviation,
-        difference_mean: difference_mean,
-        difference_deviation: difference_deviation,
+        value,
+        difference,
+        deviation,
+        difference_mean,
+        difference_deviation,
     }
 }
 
@@ -83,11 +83,7 @@ pub(crate) fn step(t: Deviation, f: f64, x: f64) -> Deviation
     requires factor { IsFactor f t }
     ensures { result ≡ step_of t x }
 {
-    let r = t.update_by(f, x);
-    match r {
-        DeviationResult::Ok(next) => next,
-        DeviationResult::Err(_) => t,
-    }
+    t.update_by(f, x).unwrap_or(t)
 }
 
 // f is the factor of the first two and g that of the others.
@@ -101,11 +97,11 @@ pub(crate) fn feed(t: Deviations, x: f64, dx: f64, f: f64, g: f64) -> Deviations
     let difference_mean = step(t.difference_mean, g, difference.mean());
     let difference_deviation = step(t.difference_deviation, g, difference.deviation());
     Deviations {
-        value: value,
-        difference: difference,
-        deviation: deviation,
-        difference_mean: difference_mean,
-        difference_deviation: difference_deviation,
+        value,
+        difference,
+        deviation,
+        difference_mean,
+        difference_deviation,
     }
 }
 
@@ -170,11 +166,11 @@ fn gather(deviations: [Deviation; 5]) -> Deviations
     let difference_mean = deviations[3];
     let difference_deviation = deviations[4];
     Deviations {
-        value: value,
-        difference: difference,
-        deviation: deviation,
-        difference_mean: difference_mean,
-        difference_deviation: difference_deviation,
+        value,
+        difference,
+        deviation,
+        difference_mean,
+        difference_deviation,
     }
 }
 

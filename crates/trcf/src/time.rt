@@ -24,16 +24,17 @@ pub fn last_time(times: &[u64]) -> u64
 }
 
 // The mean of the fifth, plus 1.
+#[tactic(auto, unfolding(crate::specs::Preprocessor::timescale))]
 pub(crate) fn timescale_fitting(head: Preprocessor, s: &[f64]) -> f64
     requires input_length_bound { head.transformer.input_length ≤ 16 }
     requires input_length_in_bounds { 3 * (5 * head.transformer.input_length + 5) ≤ length s.now }
     ensures { result ≡ timescale (settings_of head) s.now }
 {
-    let t = head.transformer;
-    mean_at(s, 5 * t.input_length + 4) + 1.0
+    mean_at(s, 5 * head.transformer.input_length + 4) + 1.0
 }
 
 // The same; 0 where the head or the list does not fit.
+#[tactic(auto, unfolding(crate::specs::Lengths::where_fits))]
 pub fn timescale_of(head: Preprocessor, s: &[f64]) -> f64
     ensures { result ≡ where_fits (time_fits (settings_of head) (length s.now)) (timescale (settings_of head) s.now) zero64 }
 {
@@ -44,16 +45,17 @@ pub fn timescale_of(head: Preprocessor, s: &[f64]) -> f64
     }
 }
 
+#[tactic(auto, unfolding(crate::specs::Preprocessor::timedrift))]
 pub(crate) fn timedrift_fitting(head: Preprocessor, s: &[f64]) -> f64
     requires input_length_bound { head.transformer.input_length ≤ 16 }
     requires input_length_in_bounds { 3 * (5 * head.transformer.input_length + 5) ≤ length s.now }
     ensures { result ≡ timedrift (settings_of head) s.now }
 {
-    let t = head.transformer;
-    mean_at(s, 5 * t.input_length + 3)
+    mean_at(s, 5 * head.transformer.input_length + 3)
 }
 
 // The same; 0 where the head or the list does not fit.
+#[tactic(auto, unfolding(crate::specs::Lengths::where_fits))]
 pub fn timedrift_of(head: Preprocessor, s: &[f64]) -> f64
     ensures { result ≡ where_fits (time_fits (settings_of head) (length s.now)) (timedrift (settings_of head) s.now) zero64 }
 {
@@ -70,10 +72,8 @@ pub(crate) fn time_deviation(head: Preprocessor, s: &[f64]) -> f32
     requires input_length_in_bounds { 3 * (5 * head.transformer.input_length + 5) ≤ length s.now }
     ensures { result ≡ mul binary32 head.weight_time (narrowed (deviation_at s.now (5 * head.transformer.input_length + 1))) }
 {
-    let t = head.transformer;
-    let weight = head.weight_time;
-    let second = statistic_at(s, 5 * t.input_length + 1, 0.0, 0);
-    weight * numeric::to_f32(second.deviation())
+    let second = statistic_at(s, 5 * head.transformer.input_length + 1, 0.0, 0);
+    head.weight_time * numeric::to_f32(second.deviation())
 }
 
 // The timescale over weight_time; for weight_time 0 it is multiplied by 0.
@@ -95,21 +95,18 @@ pub(crate) fn time_scale(head: Preprocessor, s: &[f64]) -> f32
 pub fn newest_of(head: Preprocessor, previous_timestamps: &[u64], initial_timestamps: &[u64]) -> u64
     ensures { result ≡ newest_of head previous_timestamps.now initial_timestamps.now }
 {
-    let internal = head.internal_timestamp;
-    let n = head.initial_len;
-    let k = head.shingle_size;
-    if internal == 0 {
-        return last_of(initial_timestamps, n);
+    if head.internal_timestamp == 0 {
+        return last_of(initial_timestamps, head.initial_len);
     }
-    last_of(previous_timestamps, k)
+    last_of(previous_timestamps, head.shingle_size)
 }
 
 // The time that the element of a point and of a transform is counted from.
+#[tactic(auto, unfolding(crate::specs::View::time_base_of))]
 pub fn time_base(head: Preprocessor, previous_timestamps: &[u64], initial_timestamps: &[u64]) -> u64
     ensures { result ≡ time_base_of head previous_timestamps.now initial_timestamps.now }
 {
-    let mode = head.forest_mode;
-    if is_gap(mode) {
+    if is_gap(head.forest_mode) {
         return newest_of(head, previous_timestamps, initial_timestamps);
     }
     last_of(previous_timestamps, head.shingle_size)
@@ -119,19 +116,18 @@ pub fn time_base(head: Preprocessor, previous_timestamps: &[u64], initial_timest
 pub(crate) fn previous_time(head: Preprocessor, base: u64, timestamp: u64) -> u64
     ensures { result ≡ cond (eqb head.values_seen 0) timestamp base }
 {
-    let seen = head.values_seen;
-    if seen == 0 { timestamp } else { base }
+    if head.values_seen == 0 { timestamp } else { base }
 }
 
+#[tactic(auto, unfolding(crate::specs::Preprocessor::time_element))]
 pub(crate) fn time_element(head: Preprocessor, s: &[f64], timestamp: u64, previous: u64) -> f32
     requires input_length_bound { head.transformer.input_length ≤ 16 }
     requires input_length_in_bounds { 3 * (5 * head.transformer.input_length + 5) ≤ length s.now }
     ensures { result ≡ time_element (settings_of head) s.now timestamp previous }
 {
-    let mode = head.forest_mode;
     let weight = numeric::to_f64(head.weight_time);
     let scale = timescale_fitting(head, s);
-    if is_gap(mode) {
+    if is_gap(head.forest_mode) {
         let gap = numeric::u64_to_f64(since(timestamp, previous));
         return numeric::to_f32(gap * weight / scale);
     }
@@ -146,9 +142,8 @@ pub(crate) fn time_shift(head: Preprocessor, s: &[f64], last: u64) -> f32
     requires input_length_in_bounds { 3 * (5 * head.transformer.input_length + 5) ≤ length s.now }
     ensures { result ≡ drifted binary32 (settings_of head) (of_int binary32 (pos last)) (narrowed (timedrift (settings_of head) s.now)) }
 {
-    let mode = head.forest_mode;
     let newest = numeric::u64_to_f32(last);
-    if is_gap(mode) {
+    if is_gap(head.forest_mode) {
         return newest;
     }
     newest + numeric::to_f32(timedrift_fitting(head, s))

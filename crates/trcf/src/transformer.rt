@@ -1,9 +1,9 @@
 // The transform of a reading, channel by channel (the source's trcf/transformer.rs). The statistics lie in a lent list, three numbers each.
-ghost use Rattle.std.specs.Prelude.{◌≡◌, false, cond, not, ◌&&◌, [], ◌∷◌, ◌+◌, ◌*◌, ◌≤◌, ◌<◌, length, get_or, replicate};
+ghost use Rattle.std.specs.Prelude.{◌≡◌, false, cond, not, ◌&&◌, [], ◌∷◌, ◌+◌, ◌*◌, ◌≤◌, ◌<◌, length, eqb, ltb, get_or, replicate, OnOk};
 ghost use Rattle.std.specs.Float.{nan, binary32, binary64};
 ghost use Rattle.std.specs.Float.Ieee.{add, mul};
 ghost use Rattle.numeric.specs.Narrow.{narrowed};
-ghost use Rattle.refusal.specs.Refusal.{first_of};
+ghost use Rattle.refusal.specs.Refusal.{row_of, first_of};
 ghost use Rattle.refusal.specs.Lent.{over};
 ghost use Rattle.common.specs.Deviation.{zero64, one64, count_limit, outside_unit, factor_of};
 ghost use Rattle.ranges.specs.RangeVector.{ranges, range_outcome, unblocked};
@@ -11,7 +11,7 @@ ghost use Rattle.trcf.specs.Types.{is_none, normalizes, differences, centres};
 ghost use Rattle.trcf.specs.Settings.{all_one, input_limit};
 ghost use Rattle.trcf.specs.Transformer.{zero32, slow_decay, updated, mean_at, weight_at, normalized_scale, transform_by, transformed, unweighted, invert_by, inverted, reciprocal, inverted_forecast, scales, shifts, difference_deviations};
 ghost use Rattle.trcf.specs.Lengths.{where_fits, within, passes};
-ghost use Rattle.trcf.specs.TransformerCalls.{transformer_view, made, transformer_output, new_row, update_row, transform_row, output_row, forecast_row, transformer_new, transformer_update, transformer_transform, transformer_invert, transformer_invert_forecast, transformer_scale, transformer_shift, transformer_difference_deviations};
+ghost use Rattle.trcf.specs.TransformerCalls.{transformer_view, no_transformer, made_from, transformer_output, new_row, update_row, transform_row, output_row, forecast_row, transformer_new, transformer_update, transformer_transform, transformer_invert, transformer_invert_forecast, transformer_scale, transformer_shift, transformer_difference_deviations};
 ghost use Rattle.trcf.specs.Steps.Sound.{Sound};
 ghost use Rattle.trcf.specs.Steps.Blocks.{FactorsIn};
 
@@ -22,7 +22,8 @@ use crate::statistics::mean_at;
 use crate::types::{
     INPUT_LIMIT, TransformMethod, is_centring, is_differencing, is_none, is_normalizing,
 };
-use common::deviation::{COUNT_LIMIT, Deviation, DeviationResult, next_factor};
+use common::deviation::{COUNT_LIMIT, Deviation, next_factor};
+use refusal::Refusal;
 
 // The settings of a transform and how many readings the statistics were fed; the first `input_length` weights count.
 #[derive(Clone, Copy)]
@@ -32,13 +33,6 @@ pub struct WeightedTransformer {
     pub transform_decay: f64,
     pub weights: [f32; 16],
     pub count: u64,
-}
-
-// The number of the refusal, 0 for none, and a transformer.
-#[derive(Clone, Copy)]
-pub struct TransformerResult {
-    pub row: u64,
-    pub transformer: WeightedTransformer,
 }
 
 // Each channel's five statistics are fed its reading and its difference from the one before, by the factors of the decay and of a tenth of it.
@@ -99,6 +93,7 @@ fn transform_at(t: WeightedTransformer, w: f32, s: &[f64], i: usize, x: f32, p: 
     }
 }
 
+#[tactic(auto, using(crate::proofs::TransformerLaws::weight_at_view))]
 pub(crate) fn transform_into(
     t: WeightedTransformer,
     s: &[f64],
@@ -113,11 +108,9 @@ pub(crate) fn transform_into(
     ensures { output.new ≡ over output.old (transformed (transformer_view t s.now) input.now previous.now) }
 {
     let d = t.input_length;
-    let mut i = 0;
-    while i < d {
+    for i in 0..d {
         let w = t.weights[i];
         output[i] = transform_at(t, w, s, i, input[i], previous[i]);
-        i += 1;
     }
 }
 
@@ -160,11 +153,9 @@ pub(crate) fn invert_fitting(
     ensures { output.new ≡ over output.old (inverted (transformer_view t s.now) input.now previous.now) }
 {
     let d = t.input_length;
-    let mut i = 0;
-    while i < d {
+    for i in 0..d {
         let x = unweigh(t.weights[i], input[i]);
         output[i] = invert_at(t, s, i, x, previous[i]);
-        i += 1;
     }
 }
 
@@ -188,10 +179,8 @@ pub(crate) fn scale_into(t: WeightedTransformer, s: &[f64], output: &mut [f32])
     ensures { output.new ≡ over output.old (scales (transformer_view t s.now)) }
 {
     let d = t.input_length;
-    let mut i = 0;
-    while i < d {
+    for i in 0..d {
         output[i] = scale_at(t, s, i);
-        i += 1;
     }
 }
 
@@ -214,10 +203,8 @@ pub(crate) fn shift_into(t: WeightedTransformer, s: &[f64], output: &mut [f32])
 {
     let d = t.input_length;
     let m = t.transform_method;
-    let mut i = 0;
-    while i < d {
+    for i in 0..d {
         output[i] = shift_at(m, s, i);
-        i += 1;
     }
 }
 
@@ -227,10 +214,8 @@ pub(crate) fn difference_deviations_into(t: WeightedTransformer, s: &[f64], outp
     ensures { output.new ≡ over output.old (difference_deviations (transformer_view t s.now)) }
 {
     let d = t.input_length;
-    let mut i = 0;
-    while i < d {
+    for i in 0..d {
         output[i] = narrow_mean_at(s, i + 4 * d);
-        i += 1;
     }
 }
 
@@ -271,13 +256,11 @@ fn channels_into(
     let d = t.input_length;
     let m = t.transform_method;
     let carries = is_differencing(m);
-    let mut j = 0;
-    while j < d {
+    for j in 0..d {
         factors[j] = reciprocal_of(t.weights[j]);
         scales[j] = normalized_scale(s, d, j);
         drifts[j] = narrow_mean_at(s, j + 3 * d);
         bases[j] = base_at(carries, s, previous, j);
-        j += 1;
     }
 }
 
@@ -313,23 +296,10 @@ fn forecast_fitting(
         &mut drifts,
         &mut bases,
     );
-    let mut i = 0;
-    while i < n {
+    for i in 0..n {
         turn_block(
             m, &factors, &scales, &drifts, &mut bases, d, i, values, upper, lower,
         );
-        i += 1;
-    }
-}
-
-// Row 6 as the source has it: what makes a statistic with this discount refuses it.
-fn decay_row(decay: f64) -> u64
-    ensures { result ≡ first_of ((outside_unit decay, 6) ∷ []) }
-{
-    let r = Deviation::new(decay);
-    match r {
-        DeviationResult::Ok(_) => 0,
-        DeviationResult::Err(row) => row,
     }
 }
 
@@ -337,131 +307,111 @@ fn decay_row(decay: f64) -> u64
 pub fn all_one(w: &[f32]) -> bool
     ensures { result ≡ all_one w.now }
 {
-    let mut i = 0;
-    while i < w.len() {
-        if w[i] != 1.0 {
-            return false;
-        }
-        i += 1;
-    }
-    true
+    w.iter().all(|x| *x == 1.0)
 }
 
 // Row 9: NONE takes no weight but 1.
 pub fn weights_refused(m: TransformMethod, w: &[f32]) -> bool
     ensures { result ≡ (is_none m && not (all_one w.now)) }
 {
-    if is_none(m) { !all_one(w) } else { false }
+    is_none(m) && !all_one(w)
 }
 
-fn new_row(m: TransformMethod, d: usize, decay: f64, w: &[f32], s: usize) -> u64
-    ensures value { result ≡ new_row m d decay w.now s }
-    ensures d_nonzero { result ≡ 0 → (0 < d) × (d ≤ 16) × (length w.now ≡ d) × (15 * d ≤ s) }
+// Rows 2 and 4, which every call tests first.
+fn channels_row(d: usize) -> Result<(), Refusal>
+    ensures value { row_of result ≡ first_of ((eqb d 0, 2) ∷ (ltb input_limit d, 4) ∷ []) }
+    ensures d_nonzero { OnOk result ((0 < d) × (d ≤ 16)) }
 {
     if d == 0 {
-        return 2;
+        return Err(Refusal::NoChannels);
     }
     if INPUT_LIMIT < d {
-        return 4;
+        return Err(Refusal::TooLarge);
     }
+    Ok(())
+}
+
+#[tactic(auto, using(refusal::proofs::RefusalLaws::is_numbered), unfolding(crate::specs::TransformerCalls::new_row, common::specs::Deviation::deviation_new))]
+fn new_row(
+    m: TransformMethod,
+    d: usize,
+    decay: f64,
+    w: &[f32],
+    s: usize,
+) -> Result<(), Refusal>
+    ensures value { row_of result ≡ new_row m d decay w.now s }
+    ensures d_nonzero { OnOk result ((0 < d) × (d ≤ 16) × (length w.now ≡ d) × (15 * d ≤ s)) }
+{
+    channels_row(d)?;
     if w.len() != d {
-        return 5;
+        return Err(Refusal::WeightsOrCodes);
     }
-    if decay_row(decay) != 0 {
-        return 6;
-    }
+    // row 6 as the source has it: what makes a statistic with this discount refuses it
+    Deviation::new(decay)?;
     if weights_refused(m, w) {
-        return 9;
+        return Err(Refusal::WeightWithoutMethod);
     }
     if s < 15 * d {
-        return 20;
+        return Err(Refusal::TooShort);
     }
-    0
+    Ok(())
 }
 
-fn update_row(d: usize, x: usize, p: usize, count: u64, s: usize) -> u64
-    ensures value { result ≡ update_row d x p count s }
-    ensures d_nonzero { result ≡ 0 → (0 < d) × (d ≤ 16) × (x ≡ d) × (p ≡ d) × (count < count_limit) × (15 * d ≤ s) }
+#[tactic(auto, using(refusal::proofs::RefusalLaws::is_numbered), unfolding(crate::specs::TransformerCalls::update_row, crate::specs::TransformerCalls::not_long))]
+fn update_row(d: usize, x: usize, p: usize, count: u64, s: usize) -> Result<(), Refusal>
+    ensures value { row_of result ≡ update_row d x p count s }
+    ensures d_nonzero { OnOk result ((0 < d) × (d ≤ 16) × (x ≡ d) × (p ≡ d) × (count < count_limit) × (15 * d ≤ s)) }
 {
-    if d == 0 {
-        return 2;
-    }
-    if INPUT_LIMIT < d {
-        return 4;
-    }
-    if x != d {
-        return 10;
-    }
-    if p != d {
-        return 10;
+    channels_row(d)?;
+    if x != d || p != d {
+        return Err(Refusal::InputLength);
     }
     if COUNT_LIMIT <= count {
-        return 18;
+        return Err(Refusal::CounterLimit);
     }
     if s < 15 * d {
-        return 20;
+        return Err(Refusal::TooShort);
     }
-    0
+    Ok(())
 }
 
-fn transform_row(d: usize, x: usize, p: usize, s: usize, o: usize) -> u64
-    ensures value { result ≡ transform_row d x p s o }
-    ensures d_nonzero { result ≡ 0 → (0 < d) × (d ≤ 16) × (x ≡ d) × (p ≡ d) × (15 * d ≤ s) × (d ≤ o) }
+#[tactic(auto, using(refusal::proofs::RefusalLaws::is_numbered), unfolding(crate::specs::TransformerCalls::transform_row, crate::specs::TransformerCalls::not_long))]
+fn transform_row(d: usize, x: usize, p: usize, s: usize, o: usize) -> Result<(), Refusal>
+    ensures value { row_of result ≡ transform_row d x p s o }
+    ensures d_nonzero { OnOk result ((0 < d) × (d ≤ 16) × (x ≡ d) × (p ≡ d) × (15 * d ≤ s) × (d ≤ o)) }
 {
-    if d == 0 {
-        return 2;
+    channels_row(d)?;
+    if x != d || p != d {
+        return Err(Refusal::InputLength);
     }
-    if INPUT_LIMIT < d {
-        return 4;
+    if s < 15 * d || o < d {
+        return Err(Refusal::TooShort);
     }
-    if x != d {
-        return 10;
-    }
-    if p != d {
-        return 10;
-    }
-    if s < 15 * d {
-        return 20;
-    }
-    if o < d {
-        return 20;
-    }
-    0
+    Ok(())
 }
 
-fn output_row(d: usize, s: usize, o: usize) -> u64
-    ensures value { result ≡ output_row d s o }
-    ensures d_nonzero { result ≡ 0 → (0 < d) × (d ≤ 16) × (15 * d ≤ s) × (d ≤ o) }
+#[tactic(auto, using(refusal::proofs::RefusalLaws::is_numbered), unfolding(crate::specs::TransformerCalls::output_row))]
+fn output_row(d: usize, s: usize, o: usize) -> Result<(), Refusal>
+    ensures value { row_of result ≡ output_row d s o }
+    ensures d_nonzero { OnOk result ((0 < d) × (d ≤ 16) × (15 * d ≤ s) × (d ≤ o)) }
 {
-    if d == 0 {
-        return 2;
+    channels_row(d)?;
+    if s < 15 * d || o < d {
+        return Err(Refusal::TooShort);
     }
-    if INPUT_LIMIT < d {
-        return 4;
-    }
-    if s < 15 * d {
-        return 20;
-    }
-    if o < d {
-        return 20;
-    }
-    0
+    Ok(())
 }
 
 // Row 16 of the cascade: no block, or a broken one.
+#[tactic(auto, unfolding(ranges::specs::RangeVector::unblocked))]
 fn blocks_refused(m: TransformMethod, d: usize, n: usize) -> bool
     requires { 0 < d }
     ensures { result ≡ (differences m && unblocked d n) }
 {
-    if !is_differencing(m) {
-        return false;
-    }
-    if n == 0 {
-        return true;
-    }
-    n % d != 0
+    is_differencing(m) && (n == 0 || n % d != 0)
 }
 
+#[tactic(auto, using(refusal::proofs::RefusalLaws::is_numbered), unfolding(crate::specs::TransformerCalls::forecast_row))]
 fn forecast_row(
     m: TransformMethod,
     d: usize,
@@ -470,55 +420,34 @@ fn forecast_row(
     u: usize,
     l: usize,
     s: usize,
-) -> u64
-    ensures value { result ≡ forecast_row m d p v u l s }
-    ensures d_nonzero { result ≡ 0 → (0 < d) × (d ≤ 16) × (p ≡ d) × (u ≡ v) × (l ≡ v) × ((differences m && unblocked d v) ≡ false) × (15 * d ≤ s) }
+) -> Result<(), Refusal>
+    ensures value { row_of result ≡ forecast_row m d p v u l s }
+    ensures d_nonzero { OnOk result ((0 < d) × (d ≤ 16) × (p ≡ d) × (u ≡ v) × (l ≡ v) × ((differences m && unblocked d v) ≡ false) × (15 * d ≤ s)) }
 {
-    if d == 0 {
-        return 2;
-    }
-    if INPUT_LIMIT < d {
-        return 4;
-    }
+    channels_row(d)?;
     if p != d {
-        return 10;
+        return Err(Refusal::InputLength);
     }
-    if v != u {
-        return 16;
-    }
-    if v != l {
-        return 16;
-    }
-    if blocks_refused(m, d, v) {
-        return 16;
+    if v != u || v != l || blocks_refused(m, d, v) {
+        return Err(Refusal::ForecastShape);
     }
     if s < 15 * d {
-        return 20;
+        return Err(Refusal::TooShort);
     }
-    0
+    Ok(())
 }
 
-// The weights in an array, zeros after them; zeros alone where there are more than it holds.
-pub fn padded(weights: &[f32]) -> [f32; 16]
-    ensures { result ≡ where_fits (within (length weights.now) input_limit) (over (replicate input_limit zero32) weights.now) (replicate input_limit zero32) }
+// The weights or codes in an array, `empty` after them; that alone where there are more than it holds.
+pub fn padded<T: Copy>(values: &[T], empty: T) -> [T; 16]
+    ensures { result ≡ where_fits (within (length values.now) input_limit) (over (replicate input_limit empty) values.now) (replicate input_limit empty) }
 {
-    let mut a = [0.0f32; 16];
-    copy_in(&mut a, 0, weights);
+    let mut a = [empty; 16];
+    copy_in(&mut a, 0, values);
     a
 }
 
-fn clear(s: &mut [f64], n: usize)
-    requires { n ≤ length s.old }
-    ensures { s.new ≡ over s.old (replicate n zero64) }
-{
-    let mut i = 0;
-    while i < n {
-        s[i] = 0.0;
-        i += 1;
-    }
-}
-
 // The same as the worker; where a row refuses, nothing changes.
+#[tactic(auto, unfolding(crate::specs::Lengths::where_fits, crate::specs::Lengths::passes))]
 pub fn invert_into(
     t: WeightedTransformer,
     s: &[f64],
@@ -529,13 +458,13 @@ pub fn invert_into(
     ensures { output.new ≡ where_fits (passes (transform_row t.input_length (length input.now) (length previous.now) (length s.now) (length output.old))) (over output.old (inverted (transformer_view t s.now) input.now previous.now)) output.old }
 {
     let d = t.input_length;
-    let row = transform_row(d, input.len(), previous.len(), s.len(), output.len());
-    if row == 0 {
+    if transform_row(d, input.len(), previous.len(), s.len(), output.len()).is_ok() {
         invert_fitting(t, s, input, previous, output);
     }
 }
 
 // The same as the worker; where a row refuses, nothing changes.
+#[tactic(auto, unfolding(crate::specs::Lengths::where_fits, crate::specs::Lengths::passes))]
 pub fn invert_forecast_in_place(
     t: WeightedTransformer,
     s: &[f64],
@@ -558,7 +487,7 @@ pub fn invert_forecast_in_place(
         lower.len(),
         s.len(),
     );
-    if row == 0 {
+    if row.is_ok() {
         forecast_fitting(t, s, previous, values, upper, lower);
     }
 }
@@ -571,41 +500,25 @@ impl WeightedTransformer {
         transform_decay: f64,
         weights: &[f32],
         statistics: &mut [f64],
-    ) -> TransformerResult
-        ensures { made result.row result.transformer statistics.new
+    ) -> Result<WeightedTransformer, Refusal>
+        ensures { made_from result no_transformer statistics.new
             ≡ transformer_new transform_method input_length transform_decay weights.now statistics.old }
     {
-        let row = new_row(
+        new_row(
             transform_method,
             input_length,
             transform_decay,
             weights,
             statistics.len(),
-        );
-        if row != 0 {
-            return TransformerResult {
-                row: row,
-                transformer: WeightedTransformer {
-                    transform_method: TransformMethod::NONE,
-                    input_length: 0,
-                    transform_decay: 0.0,
-                    weights: [0.0f32; 16],
-                    count: 0,
-                },
-            };
-        }
-        let own = padded(weights);
-        clear(statistics, 15 * input_length);
-        TransformerResult {
-            row: 0,
-            transformer: WeightedTransformer {
-                transform_method: transform_method,
-                input_length: input_length,
-                transform_decay: transform_decay,
-                weights: own,
-                count: 0,
-            },
-        }
+        )?;
+        statistics[..15 * input_length].fill(0.0);
+        Ok(WeightedTransformer {
+            transform_method,
+            input_length,
+            transform_decay,
+            weights: padded(weights, 0.0),
+            count: 0,
+        })
     }
 
     pub fn update(
@@ -613,36 +526,21 @@ impl WeightedTransformer {
         statistics: &mut [f64],
         input: &[f32],
         previous: &[f32],
-    ) -> TransformerResult
-        ensures { made result.row result.transformer statistics.new
+    ) -> Result<WeightedTransformer, Refusal>
+        ensures { made_from result self statistics.new
             ≡ transformer_update self statistics.old input.now previous.now }
     {
         let d = self.input_length;
         let count = self.count;
-        let row = update_row(d, input.len(), previous.len(), count, statistics.len());
-        if row != 0 {
-            return TransformerResult {
-                row: row,
-                transformer: self,
-            };
-        }
-        let n = 15 * d;
         let decay = self.transform_decay;
+        update_row(d, input.len(), previous.len(), count, statistics.len())?;
         let f = next_factor(decay, count);
         let g = next_factor(0.1 * decay, count);
-        update_channels(self, &mut statistics[..n], input, previous, f, g);
-        let m = self.transform_method;
-        let w = self.weights;
-        TransformerResult {
-            row: 0,
-            transformer: WeightedTransformer {
-                transform_method: m,
-                input_length: d,
-                transform_decay: self.transform_decay,
-                weights: w,
-                count: count + 1,
-            },
-        }
+        update_channels(self, &mut statistics[..15 * d], input, previous, f, g);
+        Ok(WeightedTransformer {
+            count: count + 1,
+            ..self
+        })
     }
 
     pub fn transform(
@@ -651,24 +549,20 @@ impl WeightedTransformer {
         input: &[f32],
         previous: &[f32],
         output: &mut [f32],
-    ) -> u64
-        ensures { transformer_output result output.new
+    ) -> Result<(), Refusal>
+        ensures { transformer_output (row_of result) output.new
             ≡ transformer_transform self statistics.now input.now previous.now output.old }
     {
         let d = self.input_length;
-        let row = transform_row(
+        transform_row(
             d,
             input.len(),
             previous.len(),
             statistics.len(),
             output.len(),
-        );
-        if row != 0 {
-            return row;
-        }
-        let n = 15 * d;
-        transform_into(self, &statistics[..n], input, previous, output);
-        0
+        )?;
+        transform_into(self, &statistics[..15 * d], input, previous, output);
+        Ok(())
     }
 
     pub fn invert(
@@ -677,24 +571,20 @@ impl WeightedTransformer {
         input: &[f32],
         previous: &[f32],
         output: &mut [f32],
-    ) -> u64
-        ensures { transformer_output result output.new
+    ) -> Result<(), Refusal>
+        ensures { transformer_output (row_of result) output.new
             ≡ transformer_invert self statistics.now input.now previous.now output.old }
     {
         let d = self.input_length;
-        let row = transform_row(
+        transform_row(
             d,
             input.len(),
             previous.len(),
             statistics.len(),
             output.len(),
-        );
-        if row != 0 {
-            return row;
-        }
-        let n = 15 * d;
-        invert_fitting(self, &statistics[..n], input, previous, output);
-        0
+        )?;
+        invert_fitting(self, &statistics[..15 * d], input, previous, output);
+        Ok(())
     }
 
     pub fn invert_forecast(
@@ -704,13 +594,13 @@ impl WeightedTransformer {
         values: &mut [f32],
         upper: &mut [f32],
         lower: &mut [f32],
-    ) -> u64
-        ensures { range_outcome result (ranges values.new upper.new lower.new)
+    ) -> Result<(), Refusal>
+        ensures { range_outcome (row_of result) (ranges values.new upper.new lower.new)
             ≡ transformer_invert_forecast self statistics.now previous.now (ranges values.old upper.old lower.old) }
     {
         let d = self.input_length;
         let m = self.transform_method;
-        let row = forecast_row(
+        forecast_row(
             m,
             d,
             previous.len(),
@@ -718,51 +608,35 @@ impl WeightedTransformer {
             upper.len(),
             lower.len(),
             statistics.len(),
-        );
-        if row != 0 {
-            return row;
-        }
-        let n = 15 * d;
-        forecast_fitting(self, &statistics[..n], previous, values, upper, lower);
-        0
+        )?;
+        forecast_fitting(self, &statistics[..15 * d], previous, values, upper, lower);
+        Ok(())
     }
 
-    pub fn scale(self, statistics: &[f64], output: &mut [f32]) -> u64
-        ensures { transformer_output result output.new ≡ transformer_scale self statistics.now output.old }
+    pub fn scale(self, statistics: &[f64], output: &mut [f32]) -> Result<(), Refusal>
+        ensures { transformer_output (row_of result) output.new ≡ transformer_scale self statistics.now output.old }
     {
         let d = self.input_length;
-        let row = output_row(d, statistics.len(), output.len());
-        if row != 0 {
-            return row;
-        }
-        let n = 15 * d;
-        scale_into(self, &statistics[..n], output);
-        0
+        output_row(d, statistics.len(), output.len())?;
+        scale_into(self, &statistics[..15 * d], output);
+        Ok(())
     }
 
-    pub fn shift(self, statistics: &[f64], output: &mut [f32]) -> u64
-        ensures { transformer_output result output.new ≡ transformer_shift self statistics.now output.old }
+    pub fn shift(self, statistics: &[f64], output: &mut [f32]) -> Result<(), Refusal>
+        ensures { transformer_output (row_of result) output.new ≡ transformer_shift self statistics.now output.old }
     {
         let d = self.input_length;
-        let row = output_row(d, statistics.len(), output.len());
-        if row != 0 {
-            return row;
-        }
-        let n = 15 * d;
-        shift_into(self, &statistics[..n], output);
-        0
+        output_row(d, statistics.len(), output.len())?;
+        shift_into(self, &statistics[..15 * d], output);
+        Ok(())
     }
 
-    pub fn difference_deviations(self, statistics: &[f64], output: &mut [f32]) -> u64
-        ensures { transformer_output result output.new ≡ transformer_difference_deviations self statistics.now output.old }
+    pub fn difference_deviations(self, statistics: &[f64], output: &mut [f32]) -> Result<(), Refusal>
+        ensures { transformer_output (row_of result) output.new ≡ transformer_difference_deviations self statistics.now output.old }
     {
         let d = self.input_length;
-        let row = output_row(d, statistics.len(), output.len());
-        if row != 0 {
-            return row;
-        }
-        let n = 15 * d;
-        difference_deviations_into(self, &statistics[..n], output);
-        0
+        output_row(d, statistics.len(), output.len())?;
+        difference_deviations_into(self, &statistics[..15 * d], output);
+        Ok(())
     }
 }

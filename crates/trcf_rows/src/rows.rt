@@ -1,15 +1,16 @@
-// Which row refuses a call, 0 for none. Nothing here writes.
-ghost use Rattle.std.specs.Prelude.{◌≡◌, not, ◌&&◌, ◌||◌, List, [], ◌∷◌, ℕ, ◌+◌, ◌≤◌, ltb, eqb, length, take, Float};
+// Which row refuses a call. Nothing here writes.
+ghost use Rattle.std.specs.Prelude.{◌≡◌, not, ◌&&◌, ◌||◌, List, [], ◌∷◌, ℕ, ◌+◌, ◌≤◌, ltb, eqb, length, take, Float, OnOk};
 ghost use Rattle.common.specs.Deviation.{count_limit};
-ghost use Rattle.refusal.specs.Refusal.{first_of};
+ghost use Rattle.refusal.specs.Refusal.{row_of, first_of};
 ghost use Rattle.trcf.specs.Lists.{null};
 ghost use Rattle.trcf.specs.Types.{is_gap};
 ghost use Rattle.trcf.specs.Settings.{imputes, waiting, settings_row, block};
 ghost use Rattle.trcf.specs.Calls.{seen_limit, finite, scale, transform, drain, shingled_point};
-ghost use Rattle.trcf.specs.View.{settings_of, settings_from, left_over, counters_unfit, outside_row, head_row, or_else, lengths_short, lent_row, row_of, lent, Bounded, Accepted, Ready};
+ghost use Rattle.trcf.specs.View.{settings_of, settings_from, left_over, counters_unfit, outside_row, head_row, or_else, lengths_short, lent_row, row_of as call_row, lent, lengths_of, Bounded, Accepted, Ready};
 ghost use Rattle.trcf.specs.Steps.Rows.{lengths_row, any_of, spent, overdue, past_row};
 
 use common::deviation::{COUNT_LIMIT, outside_unit};
+use refusal::Refusal;
 use trcf::head::{
     LentLengths, Preprocessor, PreprocessorBuilder, SEEN_LIMIT, block_of, get_dimension, head_row,
     initial_room,
@@ -22,58 +23,50 @@ use trcf::types::{ForestMode, INPUT_LIMIT, SHINGLE_LIMIT, START_BOUND, is_gap, i
 pub fn is_imputing(m: ForestMode) -> bool
     ensures { result ≡ imputes m }
 {
-    match m {
-        ForestMode::STANDARD => false,
-        ForestMode::TIME_AUGMENTED => false,
-        ForestMode::STREAMING_IMPUTE => true,
-        ForestMode::GAP_AUGMENTED => false,
-    }
+    m == ForestMode::STREAMING_IMPUTE
 }
 
 // Rows 1 to 9, also of a head that comes from outside.
-pub fn settings_row(b: PreprocessorBuilder, weights: &[f32], codes: &[u16]) -> u64
-    ensures value { result ≡ settings_row (settings_from b weights.now codes.now) }
-    ensures accepted { result ≡ 0 → Accepted (settings_from b weights.now codes.now) }
+#[tactic(auto, unfolding(trcf::specs::Settings::settings_row))]
+pub fn settings_row(
+    b: PreprocessorBuilder,
+    weights: &[f32],
+    codes: &[u16],
+) -> Result<(), Refusal>
+    ensures value { row_of result ≡ settings_row (settings_from b weights.now codes.now) }
+    ensures accepted { OnOk result (Accepted (settings_from b weights.now codes.now)) }
 {
-    let mode = b.forest_mode;
-    let method = b.transform_method;
     let d = b.input_dimensions;
     let k = b.shingle_size;
     let start = b.start_normalization;
-    if is_imputing(mode) {
-        return 1;
+    if is_imputing(b.forest_mode) {
+        return Err(Refusal::StreamingImpute);
     }
     if d == 0 {
-        return 2;
+        return Err(Refusal::NoChannels);
     }
     if k == 0 {
-        return 3;
+        return Err(Refusal::NoShingle);
     }
-    if INPUT_LIMIT < d {
-        return 4;
+    if INPUT_LIMIT < d || SHINGLE_LIMIT < k {
+        return Err(Refusal::TooLarge);
     }
-    if SHINGLE_LIMIT < k {
-        return 4;
-    }
-    if weights.len() != d {
-        return 5;
-    }
-    if codes.len() != d {
-        return 5;
+    if weights.len() != d || codes.len() != d {
+        return Err(Refusal::WeightsOrCodes);
     }
     if outside_unit(b.transform_decay) {
-        return 6;
+        return Err(Refusal::Decay);
     }
     if b.stop_normalization < start {
-        return 7;
+        return Err(Refusal::StartAboveStop);
     }
     if START_BOUND <= start {
-        return 8;
+        return Err(Refusal::StartTooLarge);
     }
-    if weights_refused(method, weights) {
-        return 9;
+    if weights_refused(b.transform_method, weights) {
+        return Err(Refusal::WeightWithoutMethod);
     }
-    0
+    Ok(())
 }
 
 // How many of 16 weights and codes are in use.
@@ -82,27 +75,21 @@ pub fn used(d: usize) -> usize
     ensures w_value { (w : List Float) → length w ≡ 16 → take result w ≡ take d w }
     ensures by_index { (w : List ℕ) → length w ≡ 16 → take result w ≡ take d w }
 {
-    if d <= INPUT_LIMIT {
-        return d;
-    }
-    INPUT_LIMIT
+    d.min(INPUT_LIMIT)
 }
 
 // Rows 1 to 9 of a head that comes from outside.
-pub fn head_settings_row(head: Preprocessor) -> u64
-    ensures { result ≡ settings_row (settings_of head) }
+pub fn head_settings_row(head: Preprocessor) -> Result<(), Refusal>
+    ensures { row_of result ≡ settings_row (settings_of head) }
 {
     let t = head.transformer;
-    let mode = head.forest_mode;
-    let method = t.transform_method;
     let weights = t.weights;
     let codes = head.codes;
-    let d = t.input_length;
-    let n = used(d);
+    let n = used(t.input_length);
     let builder = PreprocessorBuilder {
-        forest_mode: mode,
-        transform_method: method,
-        input_dimensions: d,
+        forest_mode: head.forest_mode,
+        transform_method: t.transform_method,
+        input_dimensions: t.input_length,
         shingle_size: head.shingle_size,
         start_normalization: head.start_normalization,
         stop_normalization: head.stop_normalization,
@@ -112,137 +99,121 @@ pub fn head_settings_row(head: Preprocessor) -> u64
     settings_row(builder, &weights[..n], &codes[..n])
 }
 
+#[tactic(auto, using(trcf::proofs::ShingleLaws::below_top, trcf::proofs::ShingleLaws::not_below_top))]
 fn is_finite(v: f32) -> bool
     ensures { result ≡ finite (v ∷ []) }
 {
     let top = 1.0f32 / 0.0f32;
-    if v < top { -top < v } else { false }
+    v < top && -top < v
 }
 
 // Whether every number is finite.
 pub fn all_finite(x: &[f32]) -> bool
     ensures { result ≡ finite x.now }
 {
-    let mut i = 0;
-    while i < x.len() {
-        if !is_finite(x[i]) {
-            return false;
-        }
-        i += 1;
-    }
-    true
+    x.iter().all(|v| is_finite(*v))
 }
 
 // Whether a reading is to wait until the statistics have begun.
+#[tactic(auto, unfolding(trcf::specs::Settings::waiting))]
 pub fn is_waiting(head: Preprocessor) -> bool
     ensures { result ≡ waiting (settings_of head) head.values_seen }
 {
-    let t = head.transformer;
-    let method = t.transform_method;
-    let seen = head.values_seen;
-    let start = head.start_normalization;
-    if is_normalizing(method) {
-        seen < start
-    } else {
-        false
-    }
+    is_normalizing(head.transformer.transform_method) && head.values_seen < head.start_normalization
 }
 
 // Whether initial values are left that a preprocessor past waiting cannot have.
 fn is_left(head: Preprocessor) -> bool
     ensures { result ≡ left_over (settings_of head) head.values_seen head.internal_timestamp head.initial_len }
 {
-    let t = head.transformer;
-    let method = t.transform_method;
     let n = head.initial_len;
     let start = head.start_normalization;
-    let seen = head.values_seen;
-    let internal = head.internal_timestamp;
     if n == 0 {
         return false;
     }
-    if !is_normalizing(method) {
-        return true;
-    }
-    if n != start {
-        return true;
-    }
-    if seen == start { internal != 0 } else { false }
+    !is_normalizing(head.transformer.transform_method)
+        || n != start
+        || (head.values_seen == start && head.internal_timestamp != 0)
 }
 
 // Whether the head's counters are such as no preprocessor has.
+#[tactic(auto, unfolding(trcf::specs::View::counters_unfit))]
 pub fn is_misfit(head: Preprocessor) -> bool
     ensures { result ≡ counters_unfit head }
 {
-    let t = head.transformer;
-    let count = t.count;
-    let n = head.initial_len;
     let seen = head.values_seen;
     let internal = head.internal_timestamp;
-    if SEEN_LIMIT < seen {
-        return true;
-    }
-    if SEEN_LIMIT < internal {
-        return true;
-    }
-    if COUNT_LIMIT < count {
+    if SEEN_LIMIT < seen || SEEN_LIMIT < internal || COUNT_LIMIT < head.transformer.count {
         return true;
     }
     if !is_waiting(head) {
         return is_left(head);
     }
-    if n == seen { internal != 0 } else { true }
+    head.initial_len != seen || internal != 0
 }
 
 // Every row of a head that comes from outside.
-pub fn outside_row(head: Preprocessor) -> u64
-    ensures { result ≡ outside_row head }
+#[tactic(auto, using(trcf::proofs::NumberLaws::refused_first), unfolding(trcf::specs::View::outside_row))]
+pub fn outside_row(head: Preprocessor) -> Result<(), Refusal>
+    ensures { row_of result ≡ outside_row head }
 {
-    let row = head_settings_row(head);
-    if row != 0 {
-        return row;
+    head_settings_row(head)?;
+    if is_misfit(head) {
+        return Err(Refusal::TooShort);
     }
-    if is_misfit(head) { 20 } else { 0 }
+    Ok(())
 }
 
-// 20 where a lent list is too short.
-fn short_row(head: Preprocessor, lengths: LentLengths) -> u64
-    requires { Bounded (settings_of head) }
-    ensures { result ≡ first_of ((lengths_short (settings_of head) lengths, 20) ∷ []) }
+// How long each lent list is.
+pub(crate) fn lengths_of(
+    statistics: &[f64],
+    last_shingled_input: &[f32],
+    last_shingled_point: &[f32],
+    previous_timestamps: &[u64],
+    initial_values: &[f32],
+    initial_timestamps: &[u64],
+) -> LentLengths
+    ensures { result ≡ lengths_of (lent statistics.now last_shingled_input.now last_shingled_point.now previous_timestamps.now initial_values.now initial_timestamps.now) }
 {
-    let t = head.transformer;
-    let d = t.input_length;
+    LentLengths {
+        statistics: statistics.len(),
+        last_shingled_input: last_shingled_input.len(),
+        last_shingled_point: last_shingled_point.len(),
+        previous_timestamps: previous_timestamps.len(),
+        initial_values: initial_values.len(),
+        initial_timestamps: initial_timestamps.len(),
+    }
+}
+
+// Refused where a lent list is too short.
+#[tactic(auto, using(trcf::proofs::LengthLaws::dimension_known))]
+fn short_row(head: Preprocessor, lengths: LentLengths) -> Result<(), Refusal>
+    requires { Bounded (settings_of head) }
+    ensures { row_of result ≡ first_of ((lengths_short (settings_of head) lengths, 20) ∷ []) }
+{
+    let d = head.transformer.input_length;
     let k = head.shingle_size;
     let waiting = initial_room(head);
-    let n = get_dimension(head);
-    if lengths.statistics < 3 * (5 * d + 5) {
-        return 20;
+    if lengths.statistics < 3 * (5 * d + 5)
+        || lengths.last_shingled_input < d * k
+        || lengths.last_shingled_point < get_dimension(head)
+        || lengths.previous_timestamps < k
+        || lengths.initial_values < waiting * d
+        || lengths.initial_timestamps < waiting
+    {
+        return Err(Refusal::TooShort);
     }
-    if lengths.last_shingled_input < d * k {
-        return 20;
-    }
-    if lengths.last_shingled_point < n {
-        return 20;
-    }
-    if lengths.previous_timestamps < k {
-        return 20;
-    }
-    if lengths.initial_values < waiting * d {
-        return 20;
-    }
-    if lengths.initial_timestamps < waiting {
-        return 20;
-    }
-    0
+    Ok(())
 }
 
-// 20 where the head and what is lent do not go together.
-pub(crate) fn lent_row(head: Preprocessor, lengths: LentLengths) -> u64
+// Refused where the head and what is lent do not go together.
+#[tactic(auto, unfolding(trcf::specs::Steps::Rows::lengths_row))]
+pub(crate) fn lent_row(head: Preprocessor, lengths: LentLengths) -> Result<(), Refusal>
     requires { Bounded (settings_of head) }
-    ensures { result ≡ lengths_row head lengths }
+    ensures { row_of result ≡ lengths_row head lengths }
 {
     if is_misfit(head) {
-        return 20;
+        return Err(Refusal::TooShort);
     }
     short_row(head, lengths)
 }
@@ -256,22 +227,19 @@ pub fn held_row(
     previous_timestamps: &[u64],
     initial_values: &[f32],
     initial_timestamps: &[u64],
-) -> u64
-    ensures value { result ≡ or_else (head_row (settings_of head)) (lent_row head (lent statistics.now last_shingled_input.now last_shingled_point.now previous_timestamps.now initial_values.now initial_timestamps.now)) }
-    ensures ready { result ≡ 0 → Ready head (lent statistics.now last_shingled_input.now last_shingled_point.now previous_timestamps.now initial_values.now initial_timestamps.now) }
+) -> Result<(), Refusal>
+    ensures value { row_of result ≡ or_else (head_row (settings_of head)) (lent_row head (lent statistics.now last_shingled_input.now last_shingled_point.now previous_timestamps.now initial_values.now initial_timestamps.now)) }
+    ensures ready { OnOk result (Ready head (lent statistics.now last_shingled_input.now last_shingled_point.now previous_timestamps.now initial_values.now initial_timestamps.now)) }
 {
-    let row = head_row(head);
-    if row != 0 {
-        return row;
-    }
-    let lengths = LentLengths {
-        statistics: statistics.len(),
-        last_shingled_input: last_shingled_input.len(),
-        last_shingled_point: last_shingled_point.len(),
-        previous_timestamps: previous_timestamps.len(),
-        initial_values: initial_values.len(),
-        initial_timestamps: initial_timestamps.len(),
-    };
+    head_row(head)?;
+    let lengths = lengths_of(
+        statistics,
+        last_shingled_input,
+        last_shingled_point,
+        previous_timestamps,
+        initial_values,
+        initial_timestamps,
+    );
     lent_row(head, lengths)
 }
 
@@ -285,55 +253,32 @@ pub fn write_row(
     initial_values: &[f32],
     initial_timestamps: &[u64],
     output: &[f32],
-) -> u64
-    ensures value { result ≡ row_of head (lent statistics.now last_shingled_input.now last_shingled_point.now previous_timestamps.now initial_values.now initial_timestamps.now) (scale output.now) }
-    ensures ready { result ≡ 0 → Ready head (lent statistics.now last_shingled_input.now last_shingled_point.now previous_timestamps.now initial_values.now initial_timestamps.now) }
-    ensures head_in_bounds { result ≡ 0 → block (settings_of head) ≤ length output.now }
+) -> Result<(), Refusal>
+    ensures value { row_of result ≡ call_row head (lent statistics.now last_shingled_input.now last_shingled_point.now previous_timestamps.now initial_values.now initial_timestamps.now) (scale output.now) }
+    ensures ready { OnOk result (Ready head (lent statistics.now last_shingled_input.now last_shingled_point.now previous_timestamps.now initial_values.now initial_timestamps.now)) }
+    ensures head_in_bounds { OnOk result (block (settings_of head) ≤ length output.now) }
 {
-    let row = head_row(head);
-    if row != 0 {
-        return row;
-    }
-    let t = head.transformer;
-    let mode = head.forest_mode;
-    let n = block_of(mode, t.input_length);
+    head_row(head)?;
+    let n = block_of(head.forest_mode, head.transformer.input_length);
     if output.len() < n {
-        return 20;
+        return Err(Refusal::TooShort);
     }
-    let lengths = LentLengths {
-        statistics: statistics.len(),
-        last_shingled_input: last_shingled_input.len(),
-        last_shingled_point: last_shingled_point.len(),
-        previous_timestamps: previous_timestamps.len(),
-        initial_values: initial_values.len(),
-        initial_timestamps: initial_timestamps.len(),
-    };
+    let lengths = lengths_of(
+        statistics,
+        last_shingled_input,
+        last_shingled_point,
+        previous_timestamps,
+        initial_values,
+        initial_timestamps,
+    );
     lent_row(head, lengths)
-}
-
-// The first of two rows whose test holds, 0 where neither does.
-pub(crate) fn first_row(a: bool, row_a: u64, b: bool, row_b: u64) -> u64
-    ensures { result ≡ first_of ((a, row_a) ∷ (b, row_b) ∷ []) }
-{
-    if a {
-        return row_a;
-    }
-    if b {
-        return row_b;
-    }
-    0
 }
 
 // Row 28: whether a gap would reach back, past the newest time.
 fn is_behind(head: Preprocessor, newest: u64, timestamp: u64) -> bool
     ensures { result ≡ is_gap head.forest_mode && ltb timestamp newest }
 {
-    let mode = head.forest_mode;
-    if is_gap(mode) {
-        timestamp < newest
-    } else {
-        false
-    }
+    is_gap(head.forest_mode) && timestamp < newest
 }
 
 pub fn transform_row(
@@ -347,72 +292,59 @@ pub fn transform_row(
     input: &[f32],
     timestamp: u64,
     output: &[f32],
-) -> u64
-    ensures value { result ≡ row_of head (lent statistics.now last_shingled_input.now last_shingled_point.now previous_timestamps.now initial_values.now initial_timestamps.now) (transform input.now timestamp output.now) }
-    ensures ready { result ≡ 0 → Ready head (lent statistics.now last_shingled_input.now last_shingled_point.now previous_timestamps.now initial_values.now initial_timestamps.now) }
-    ensures input_len { result ≡ 0 → length input.now ≡ head.transformer.input_length }
-    ensures head_in_bounds { result ≡ 0 → block (settings_of head) ≤ length output.now }
+) -> Result<(), Refusal>
+    ensures value { row_of result ≡ call_row head (lent statistics.now last_shingled_input.now last_shingled_point.now previous_timestamps.now initial_values.now initial_timestamps.now) (transform input.now timestamp output.now) }
+    ensures ready { OnOk result (Ready head (lent statistics.now last_shingled_input.now last_shingled_point.now previous_timestamps.now initial_values.now initial_timestamps.now)) }
+    ensures input_len { OnOk result (length input.now ≡ head.transformer.input_length) }
+    ensures head_in_bounds { OnOk result (block (settings_of head) ≤ length output.now) }
 {
-    let row = head_row(head);
-    if row != 0 {
-        return row;
-    }
-    let t = head.transformer;
-    let d = t.input_length;
+    head_row(head)?;
+    let d = head.transformer.input_length;
     if input.len() != d {
-        return 10;
+        return Err(Refusal::InputLength);
     }
     let newest = newest_of(head, previous_timestamps, initial_timestamps);
     if is_behind(head, newest, timestamp) {
-        return 28;
+        return Err(Refusal::GapFalls);
     }
-    let mode = head.forest_mode;
-    let n = block_of(mode, d);
+    let n = block_of(head.forest_mode, d);
     if output.len() < n {
-        return 20;
+        return Err(Refusal::TooShort);
     }
-    let lengths = LentLengths {
-        statistics: statistics.len(),
-        last_shingled_input: last_shingled_input.len(),
-        last_shingled_point: last_shingled_point.len(),
-        previous_timestamps: previous_timestamps.len(),
-        initial_values: initial_values.len(),
-        initial_timestamps: initial_timestamps.len(),
-    };
+    let lengths = lengths_of(
+        statistics,
+        last_shingled_input,
+        last_shingled_point,
+        previous_timestamps,
+        initial_values,
+        initial_timestamps,
+    );
     lent_row(head, lengths)
 }
 
 // Whether one of the first n of m is there.
+#[tactic(auto, unfolding(trcf::specs::Steps::Rows::any_of))]
 fn is_any(n: usize, m: usize) -> bool
     ensures { result ≡ any_of n m }
 {
-    if n == 0 { false } else { 0 < m }
+    n != 0 && 0 < m
 }
 
 // Whether a drain comes when nothing waits any more; m times are lent.
+#[tactic(auto, unfolding(trcf::specs::Steps::Rows::spent))]
 fn is_spent(head: Preprocessor, m: usize) -> bool
     ensures { result ≡ spent head m }
 {
-    let seen = head.values_seen;
-    let start = head.start_normalization;
-    let n = head.initial_len;
-    if seen == start {
-        return !is_any(n, m);
-    }
-    false
+    head.values_seen == head.start_normalization && !is_any(head.initial_len, m)
 }
 
 // Whether a drain has something to do.
+#[tactic(auto, using(trcf::proofs::RowLaws::any_of_lem))]
 pub fn is_due(head: Preprocessor, initial_timestamps: &[u64]) -> bool
     ensures { result ≡ eqb head.values_seen head.start_normalization && not (null (take head.initial_len initial_timestamps.now)) }
 {
-    let seen = head.values_seen;
-    let start = head.start_normalization;
-    let n = head.initial_len;
-    if seen == start {
-        return is_any(n, initial_timestamps.len());
-    }
-    false
+    head.values_seen == head.start_normalization
+        && is_any(head.initial_len, initial_timestamps.len())
 }
 
 // Whether a drain would pass a limit.
@@ -420,34 +352,22 @@ fn is_full(head: Preprocessor) -> bool
     requires { Bounded (settings_of head) }
     ensures { result ≡ ltb count_limit (head.transformer.count + head.start_normalization) || ltb seen_limit (head.internal_timestamp + head.start_normalization) }
 {
-    let t = head.transformer;
-    let count = t.count;
+    let count = head.transformer.count;
     let internal = head.internal_timestamp;
     let start = head.start_normalization;
-    if COUNT_LIMIT < count {
-        return true;
-    }
-    if COUNT_LIMIT < count + start as u64 {
-        return true;
-    }
-    if SEEN_LIMIT < internal {
-        return true;
-    }
-    SEEN_LIMIT < internal + start
+    COUNT_LIMIT < count
+        || COUNT_LIMIT < count + start as u64
+        || SEEN_LIMIT < internal
+        || SEEN_LIMIT < internal + start
 }
 
 // Whether a drain that has something to do would pass a limit; m times are lent.
+#[tactic(auto, unfolding(trcf::specs::Steps::Rows::overdue))]
 fn is_overdue(head: Preprocessor, m: usize) -> bool
     requires { Bounded (settings_of head) }
     ensures { result ≡ overdue head m }
 {
-    let seen = head.values_seen;
-    let start = head.start_normalization;
-    let n = head.initial_len;
-    if seen != start {
-        return false;
-    }
-    if is_any(n, m) { is_full(head) } else { false }
+    head.values_seen == head.start_normalization && is_any(head.initial_len, m) && is_full(head)
 }
 
 pub fn drain_row(
@@ -458,29 +378,26 @@ pub fn drain_row(
     previous_timestamps: &[u64],
     initial_values: &[f32],
     initial_timestamps: &[u64],
-) -> u64
-    ensures value { result ≡ row_of head (lent statistics.now last_shingled_input.now last_shingled_point.now previous_timestamps.now initial_values.now initial_timestamps.now) drain }
-    ensures ready { result ≡ 0 → Ready head (lent statistics.now last_shingled_input.now last_shingled_point.now previous_timestamps.now initial_values.now initial_timestamps.now) }
+) -> Result<(), Refusal>
+    ensures value { row_of result ≡ call_row head (lent statistics.now last_shingled_input.now last_shingled_point.now previous_timestamps.now initial_values.now initial_timestamps.now) drain }
+    ensures ready { OnOk result (Ready head (lent statistics.now last_shingled_input.now last_shingled_point.now previous_timestamps.now initial_values.now initial_timestamps.now)) }
 {
-    let row = head_row(head);
-    if row != 0 {
-        return row;
-    }
+    head_row(head)?;
     let m = initial_timestamps.len();
     if is_spent(head, m) {
-        return 15;
+        return Err(Refusal::NothingToDrain);
     }
     if is_overdue(head, m) {
-        return 18;
+        return Err(Refusal::CounterLimit);
     }
-    let lengths = LentLengths {
-        statistics: statistics.len(),
-        last_shingled_input: last_shingled_input.len(),
-        last_shingled_point: last_shingled_point.len(),
-        previous_timestamps: previous_timestamps.len(),
-        initial_values: initial_values.len(),
-        initial_timestamps: initial_timestamps.len(),
-    };
+    let lengths = lengths_of(
+        statistics,
+        last_shingled_input,
+        last_shingled_point,
+        previous_timestamps,
+        initial_values,
+        initial_timestamps,
+    );
     lent_row(head, lengths)
 }
 
@@ -495,53 +412,47 @@ pub fn shingled_point_row(
     input: &[f32],
     timestamp: u64,
     output: &[f32],
-) -> u64
-    ensures value { result ≡ row_of head (lent statistics.now last_shingled_input.now last_shingled_point.now previous_timestamps.now initial_values.now initial_timestamps.now) (shingled_point input.now timestamp output.now) }
-    ensures ready { result ≡ 0 → Ready head (lent statistics.now last_shingled_input.now last_shingled_point.now previous_timestamps.now initial_values.now initial_timestamps.now) }
+) -> Result<(), Refusal>
+    ensures value { row_of result ≡ call_row head (lent statistics.now last_shingled_input.now last_shingled_point.now previous_timestamps.now initial_values.now initial_timestamps.now) (shingled_point input.now timestamp output.now) }
+    ensures ready { OnOk result (Ready head (lent statistics.now last_shingled_input.now last_shingled_point.now previous_timestamps.now initial_values.now initial_timestamps.now)) }
 {
-    let row = head_row(head);
-    if row != 0 {
-        return row;
+    head_row(head)?;
+    if input.len() != head.transformer.input_length {
+        return Err(Refusal::InputLength);
     }
-    let t = head.transformer;
-    if input.len() != t.input_length {
-        return 10;
-    }
-    let unfit = !all_finite(input);
     let newest = newest_of(head, previous_timestamps, initial_timestamps);
-    let behind = is_behind(head, newest, timestamp);
-    let row = first_row(unfit, 11, behind, 28);
-    if row != 0 {
-        return row;
+    if !all_finite(input) {
+        return Err(Refusal::NotFinite);
     }
-    let row = past_row(head, initial_timestamps.len(), output.len());
-    if row != 0 {
-        return row;
+    if is_behind(head, newest, timestamp) {
+        return Err(Refusal::GapFalls);
     }
-    let lengths = LentLengths {
-        statistics: statistics.len(),
-        last_shingled_input: last_shingled_input.len(),
-        last_shingled_point: last_shingled_point.len(),
-        previous_timestamps: previous_timestamps.len(),
-        initial_values: initial_values.len(),
-        initial_timestamps: initial_timestamps.len(),
-    };
+    past_row(head, initial_timestamps.len(), output.len())?;
+    let lengths = lengths_of(
+        statistics,
+        last_shingled_input,
+        last_shingled_point,
+        previous_timestamps,
+        initial_values,
+        initial_timestamps,
+    );
     lent_row(head, lengths)
 }
 
 // Rows 18 and 20 of a point, past waiting; m times are lent, and the output is of n.
-fn past_row(head: Preprocessor, m: usize, n: usize) -> u64
+#[tactic(auto, using(trcf::proofs::LengthLaws::dimension_known), unfolding(trcf::specs::Steps::Rows::past_row))]
+fn past_row(head: Preprocessor, m: usize, n: usize) -> Result<(), Refusal>
     requires { Bounded (settings_of head) }
-    ensures { result ≡ past_row head m n }
+    ensures { row_of result ≡ past_row head m n }
 {
     if is_waiting(head) {
-        return 0;
+        return Ok(());
     }
     if is_overdue(head, m) {
-        return 18;
+        return Err(Refusal::CounterLimit);
     }
     if n < get_dimension(head) {
-        return 20;
+        return Err(Refusal::TooShort);
     }
-    0
+    Ok(())
 }

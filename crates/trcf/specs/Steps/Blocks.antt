@@ -3,14 +3,10 @@
 use Rattle.std.specs.Prelude.{ℕ, zero, suc, ◌+◌, ◌<◌, ◌≡◌, Bool, cond, ◌||◌, List, pos, length, get_or, Float}
 use Rattle.std.specs.Float.{nan, binary32}
 use Rattle.std.specs.Float.Ieee.{mul, of_int}
-use Rattle.ranges.specs.declared.rangevector.Range32.{Range32}
-use Rattle.ranges.specs.RangeVector.{Range, range, Ranges, shifted, scaled, range_at, put_at}
+use Rattle.ranges.specs.RangeVector.{Range, Ranges, shifted, scaled, range_at, put_at}
 use Rattle.trcf.specs.Types.{is_none, normalizes, differences, centres}
 use Rattle.trcf.specs.Transformer.{Transformer, reciprocal, weight_at, normalized_scale, basic_drift, basic_shift, scaled_if, shifted_if}
 use Rattle.trcf.specs.declared.types.TransformMethod.{TransformMethod}
-
-abbrev pub plain : Range32 → Range
-plain r = range r.value r.upper r.lower
 
 -- n places from `at` on, each on its own: place at + j by g j
 unfoldable pub places_by : (ℕ → Range → Range) → ℕ → ℕ → Ranges → Ranges

@@ -1,5 +1,5 @@
 -- `post_process` in the parts in which the code works it out. Only private contracts and proofs cite this.
-use Rattle.std.specs.Prelude.{ℕ, suc, ◌-◌, ◌*◌, ◌≤◌, ◌<◌, Bool, true, cond, ◌&&◌, List, [], ◌∷◌, ◌≡◌, ltb, eqb, length, take, drop, get_or, Float}
+use Rattle.std.specs.Prelude.{ℕ, suc, ◌-◌, ◌*◌, ◌≤◌, ◌<◌, Bool, true, cond, ◌&&◌, List, [], ◌∷◌, ◌≡◌, ltb, eqb, length, take, drop, get_or, Float, Option, Some, None}
 use Rattle.std.specs.Float.Ieee.{lt}
 use Rattle.common.specs.Deviation.{count_limit}
 use Rattle.trcf.specs.Lists.{shift_in}
@@ -9,6 +9,7 @@ use Rattle.trcf.specs.Settings.{Settings, transformer, block, dimension}
 use Rattle.trcf.specs.Calls.{seen_limit}
 use Rattle.trcf.specs.Preprocessor.{State, Reading, reading, feed, previous, deviations, block_from, statistics_length}
 use Rattle.trcf.specs.declared.head.Preprocessor.{Preprocessor}
+use Rattle.trcf.specs.declared.head.Anomaly.{Anomaly}
 use Rattle.trcf.specs.declared.head.PostProcessed.{PostProcessed}
 use Rattle.trcf.specs.View.{settings_of, counting, holding, written}
 
@@ -54,11 +55,8 @@ pub record Learnable (h : Preprocessor) (y e : ℕ) (expects : Bool) (grade : Fl
   pub deviations_room : block (settings_of h) ≤ deviations
   pub found : (lt zero32 grade && expects) ≡ true → Findable (settings_of h) e back past expected
 
-abbrev pub answering_row : ℕ → Preprocessor → Bool → Bool → ℕ → Float → PostProcessed
-answering_row n h w b t p = record { row = n; head = h; written = w; has_anomaly = b; past_timestamp = t; likelihood = p }
-
-abbrev pub answering : Preprocessor → Bool → Bool → ℕ → Float → PostProcessed
-answering h w b t p = answering_row 0 h w b t p
+abbrev pub answering : Preprocessor → Bool → Option Anomaly → PostProcessed
+answering h w a = record { head = h; written = w; anomaly = a }
 
 -- an answer and four of the lent lists, the initial ones left out
 pub record LearnParts : Type 0 where
@@ -71,10 +69,10 @@ pub record LearnParts : Type 0 where
   pub past_out : List Float
   pub expected_out : List Float
 
-abbrev pub learn_parts : ℕ → Bool → Bool → ℕ → Float → Preprocessor → List Float → List Float → List Float → List ℕ → List Float → List Float → List Float → LearnParts
-learn_parts n w b t p h st x y ts deviations past expected =
+abbrev pub learn_parts : PostProcessed → List Float → List Float → List Float → List ℕ → List Float → List Float → List Float → LearnParts
+learn_parts r st x y ts deviations past expected =
     record {
-      answer = answering_row n h w b t p;
+      answer = r;
       statistics = st;
       last_shingled_input = x;
       last_shingled_point = y;
@@ -97,8 +95,10 @@ learned_parts h st x p ts input t y e found back deviations_out past_out expecte
     let x₁ = take (d * s.k) x in
     let ts₁ = take s.k ts in
     let b = s.k - 1 - back in
-    learn_parts 0 true found (cond found (get_or ts₁ b 0) 0) (cond found one32 zero32)
+    learn_parts
+    (answering
     (counting h (cond (ltb h.values_seen h.stop_normalization) (suc h.transformer.count) h.transformer.count) (suc h.values_seen) (suc h.internal_timestamp) h.initial_len)
+    true (cond found (Some (record { past_timestamp = get_or ts₁ b 0; likelihood = one32 })) None))
     (over st (learned_statistics h st₁ x₁ ts₁ input t)) (over x (shift_in x₁ input)) (over p y) (over ts (shift_in ts₁ (t ∷ [])))
     (over deviations_out (deviations (holding h (learned_statistics h st₁ x₁ ts₁ input t) [] [])))
     (cond found (over past_out (cond (eqb back 0) input (block_from d (s.k - back) x₁))) past_out)

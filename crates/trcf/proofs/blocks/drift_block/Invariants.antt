@@ -8,9 +8,4 @@ use Rattle.trcf.proofs.blocks.drift_block.Given as goal
 
 abbrev pub invariant-loop-j : goal.invariant-loop-j
 invariant-loop-j l =
-    (l.j ≤ l.d)
-    × (ranges l.values l.upper l.lower ≡ places_by (drift_place l.i l.drifts) (l.i * l.d) l.j (ranges l.initial.values l.initial.upper l.initial.lower))
-    × (length l.values ≡ length l.initial.values) × (length l.upper ≡ length l.initial.upper) × (length l.lower ≡ length l.initial.lower)
-
-abbrev pub decreases-loop-j : goal.decreases-loop-j
-decreases-loop-j l = l.d - l.j
+    ranges l.values l.upper l.lower ≡ places_by (drift_place l.i l.drifts) (l.i * l.d) l.j (ranges l.initial.values l.initial.upper l.initial.lower)

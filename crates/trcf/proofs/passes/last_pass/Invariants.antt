@@ -6,7 +6,4 @@ use Rattle.trcf.specs.Steps.Passes.{lasts}
 use Rattle.trcf.proofs.passes.last_pass.Given as goal
 
 abbrev pub invariant-loop-i : goal.invariant-loop-i
-invariant-loop-i l = (l.i ≤ l.d) × (l.s ≡ lasts l.i l.initial.s l.d l.slow l.count l.a) × (length l.s ≡ length l.initial.s)
-
-abbrev pub decreases-loop-i : goal.decreases-loop-i
-decreases-loop-i l = l.d - l.i
+invariant-loop-i l = l.s ≡ lasts l.i l.initial.s l.d l.slow l.count l.a

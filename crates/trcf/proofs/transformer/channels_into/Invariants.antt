@@ -8,7 +8,5 @@ use Rattle.trcf.proofs.transformer.channels_into.Given as goal
 
 abbrev pub invariant-loop-j : goal.invariant-loop-j
 invariant-loop-j l =
-    (l.j ≤ l.d) × FactorsIn (transformer_view l.t l.s) l.previous l.j l.factors l.scales l.drifts l.bases × (length l.factors ≡ 16) × (length l.scales ≡ 16) × (length l.drifts ≡ 16) × (length l.bases ≡ 16)
-
-abbrev pub decreases-loop-j : goal.decreases-loop-j
-decreases-loop-j l = l.d - l.j
+    FactorsIn (transformer_view l.t l.s) l.previous l.j l.factors l.scales l.drifts l.bases
+    × (length l.factors ≡ 16) × (length l.scales ≡ 16) × (length l.drifts ≡ 16)

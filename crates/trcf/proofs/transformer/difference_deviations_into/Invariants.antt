@@ -9,7 +9,4 @@ use Rattle.trcf.specs.Lists.{tabulate}
 use Rattle.trcf.proofs.transformer.difference_deviations_into.Given as goal
 
 abbrev pub invariant-loop-i : goal.invariant-loop-i
-invariant-loop-i l = (l.i ≤ l.d) × (l.output ≡ over l.initial.output (tabulate l.i (λ k. narrowed (mean_at l.s (k + 4 * l.d))))) × (length l.output ≡ length l.initial.output)
-
-abbrev pub decreases-loop-i : goal.decreases-loop-i
-decreases-loop-i l = l.d - l.i
+invariant-loop-i l = l.output ≡ over l.initial.output (tabulate l.i (λ k. narrowed (mean_at l.s (k + 4 * l.d))))

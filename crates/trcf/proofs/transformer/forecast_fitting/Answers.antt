@@ -22,12 +22,8 @@ loop-i-init c =
     let c8 = c in
     let A = c.args in
     let H = c.channels_into.ensures in (
-      omega arith,
       λ t em ed h. turned_none t A.previous.now (ranges A.values.now A.upper.now A.lower.now) _ _ _ _ (c.requires.previous_len ∙ sym ed) h,
       H.long,
-      refl,
-      refl,
-      refl,
     )
 
 pub turn_block-requires : goal.turn_block-requires
@@ -37,20 +33,7 @@ turn_block-requires c =
     let A = c.args in
     let L = c.loop-i in
     let P = c.requires in
-    let x = block_room L.i A.t.input_length (length A.values.now) c.loop-i-test.true in record { d_bound = (P.sound.few, omega (arith, x, L.invariant.3), L.invariant.2); upper_len = (L.invariant.4 ∙ P.upper_len.0 ∙ sym L.invariant.3, L.invariant.5 ∙ P.upper_len.1 ∙ sym L.invariant.3) }
-
-pub overflow_add-i : goal.overflow_add-i
-overflow_add-i c =
-    let c8 = c in
-    let c16 = c in
-    let c24 = c in
-    let A = c.args in
-    omega (arith, c.loop-i-test.true, div-le_self (length A.values.now) A.t.input_length)
-
-pub loop-i-smaller : goal.loop-i-smaller
-loop-i-smaller c =
-    let c8 = c in
-    omega (arith, c.loop-i-test.true)
+    let x = block_room L.i A.t.input_length (length A.values.now) (omega arith) in record { d_bound = (P.sound.few, omega (arith, x), L.invariant.1); upper_len = (omega (arith, P.upper_len.0), omega (arith, P.upper_len.1)) }
 
 pub loop-i-preserved : goal.loop-i-preserved
 loop-i-preserved c =
@@ -61,24 +44,11 @@ loop-i-preserved c =
     let L = c.loop-i in
     let P = c.requires in
     let B = c.turn_block in (
-      omega (arith, c.loop-i-test.true),
       λ t em ed h. turned_more t A.previous.now L.i (ranges A.values.now A.upper.now A.lower.now) (ranges L.values L.upper L.lower) _
           A.t.transform_method A.t.input_length _ _ _ _ L.bases _ em ed (omega (arith, ed, P.sound.some)) (P.previous_len ∙ sym ed) h
-          (L.invariant.1 t em ed h) B.ensures.lower_after B.ensures.carried,
-      B.ensures.carried.long ∙ L.invariant.2,
-      B.auto.values ∙ L.invariant.3,
-      B.auto.upper ∙ L.invariant.4,
-      B.auto.lower ∙ L.invariant.5,
+          (L.invariant.0 t em ed h) B.ensures.lower_after B.ensures.carried,
+      B.ensures.carried.long ∙ L.invariant.1,
     )
-
-pub shape_of-values : goal.shape_of-values
-shape_of-values c = c.loop-i.invariant.3
-
-pub shape_of-upper : goal.shape_of-upper
-shape_of-upper c = c.loop-i.invariant.4
-
-pub shape_of-lower : goal.shape_of-lower
-shape_of-lower c = c.loop-i.invariant.5
 
 pub returns : goal.returns
 returns c =
@@ -88,7 +58,7 @@ returns c =
     let L = c.loop-i in
     let T = transformer_view A.t A.s.now in
     let v = ranges A.values.now A.upper.now A.lower.now in
-    let e : L.i ≡ length A.values.now / A.t.input_length = omega (arith, L.invariant.0, c.loop-i-test.false) in
-    (L.invariant.1 T refl refl c.channels_into.ensures).places
+    let e : L.i ≡ length A.values.now / A.t.input_length = omega arith in
+    (L.invariant.0 T refl refl c.channels_into.ensures).places
     ∙ ap (λ (n : ℕ). turned_to T A.previous.now (n * A.t.input_length) v) e
     ∙ turned_all T A.previous.now v (record { upper = P.upper_len.0; lower = P.upper_len.1 }) P.sound.some P.previous_len P.values_value

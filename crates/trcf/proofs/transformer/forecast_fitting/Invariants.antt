@@ -10,9 +10,5 @@ use Rattle.trcf.proofs.transformer.forecast_fitting.Given as goal
 
 abbrev pub invariant-loop-i : goal.invariant-loop-i
 invariant-loop-i l =
-    (l.i ≤ l.n)
-    × ((t : Transformer) → t.method ≡ l.m → t.d ≡ l.d → FactorsIn t l.previous t.d l.factors l.scales l.drifts l.initial.bases → Turned t l.previous l.i (ranges l.initial.values l.initial.upper l.initial.lower) (ranges l.values l.upper l.lower) l.bases)
-    × (length l.bases ≡ 16) × (length l.values ≡ length l.initial.values) × (length l.upper ≡ length l.initial.upper) × (length l.lower ≡ length l.initial.lower)
-
-abbrev pub decreases-loop-i : goal.decreases-loop-i
-decreases-loop-i l = l.n - l.i
+    ((t : Transformer) → t.method ≡ l.m → t.d ≡ l.d → FactorsIn t l.previous t.d l.factors l.scales l.drifts l.initial.bases → Turned t l.previous l.i (ranges l.initial.values l.initial.upper l.initial.lower) (ranges l.values l.upper l.lower) l.bases)
+    × (length l.bases ≡ 16)

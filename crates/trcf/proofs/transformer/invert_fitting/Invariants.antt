@@ -10,9 +10,5 @@ use Rattle.trcf.specs.TransformerCalls.{transformer_view}
 use Rattle.trcf.proofs.transformer.invert_fitting.Given as goal
 
 abbrev pub invariant-loop-i : goal.invariant-loop-i
-invariant-loop-i l = (l.i ≤ l.d) × (l.output ≡ over l.initial.output
-    (tabulate l.i (λ k. invert_by l.t.transform_method (transformer_view l.t l.s) k (unweighted (weight_at (transformer_view l.t l.s) k) (get_or l.input k nan)) (get_or l.previous k nan)))) ×
-    (length l.output ≡ length l.initial.output)
-
-abbrev pub decreases-loop-i : goal.decreases-loop-i
-decreases-loop-i l = l.d - l.i
+invariant-loop-i l = l.output ≡ over l.initial.output
+    (tabulate l.i (λ k. invert_by l.t.transform_method (transformer_view l.t l.s) k (unweighted (weight_at (transformer_view l.t l.s) k) (get_or l.input k nan)) (get_or l.previous k nan)))

@@ -13,40 +13,19 @@ use Rattle.trcf.specs.TransformerCalls.{transformer_view}
 use Rattle.trcf.proofs.transformer.scale_into.Goals as goal
 
 pub loop-i-init : goal.loop-i-init
-loop-i-init c = (omega arith, over_none _, refl)
-
-pub scale_at-requires : goal.scale_at-requires
-scale_at-requires c = record { sound = c.requires.sound; i_bound = c.loop-i-test.true }
-
-pub offset_bounds-output-i : goal.offset_bounds-output-i
-offset_bounds-output-i c = omega arith
-
-pub bounds-output-i : goal.bounds-output-i
-bounds-output-i c = omega arith
-
-pub overflow_add-i : goal.overflow_add-i
-overflow_add-i c = omega arith
-
-pub loop-i-smaller : goal.loop-i-smaller
-loop-i-smaller c = omega arith
+loop-i-init c = over_none _
 
 pub loop-i-preserved : goal.loop-i-preserved
 loop-i-preserved c =
     let L = c.loop-i in
     let a = c.args in
-    let h : L.i < length a.output.now = omega arith in (
-      omega arith,
-      rw (add-one, L.invariant.1, c.scale_at.ensures) (over_more a.output.now
-          (λ k. cond (normalizes a.t.transform_method) (mul binary32 (weight_at (transformer_view a.t a.s.now) k) (normalized_scale (transformer_view a.t a.s.now) k))
-          (weight_at (transformer_view a.t a.s.now) k)) L.i h),
-      simp length-set (omega arith),
-    )
-
-pub shape_of-output : goal.shape_of-output
-shape_of-output c = omega arith
+    let h : L.i < length a.output.now = omega arith in
+    rw (add-one, L.invariant, c.scale_at.ensures) (over_more a.output.now
+        (λ k. cond (normalizes a.t.transform_method) (mul binary32 (weight_at (transformer_view a.t a.s.now) k) (normalized_scale (transformer_view a.t a.s.now) k))
+        (weight_at (transformer_view a.t a.s.now) k)) L.i h)
 
 pub returns : goal.returns
 unfolding scales
 returns c = let L = c.loop-i in
     let e : L.i ≡ c.args.t.input_length = omega arith in
-    rw e at L.invariant.1
+    rw e at L.invariant

@@ -12,10 +12,6 @@ use Rattle.trcf.specs.TransformerCalls.{transformer_view}
 use Rattle.trcf.proofs.transformer.scale_into.Given as goal
 
 abbrev pub invariant-loop-i : goal.invariant-loop-i
-invariant-loop-i l = (l.i ≤ l.d) ×
-    (l.output ≡ over l.initial.output
+invariant-loop-i l = l.output ≡ over l.initial.output
     (tabulate l.i (λ k. cond (normalizes l.t.transform_method) (mul binary32 (weight_at (transformer_view l.t l.s) k) (normalized_scale (transformer_view l.t l.s) k))
-    (weight_at (transformer_view l.t l.s) k)))) × (length l.output ≡ length l.initial.output)
-
-abbrev pub decreases-loop-i : goal.decreases-loop-i
-decreases-loop-i l = l.d - l.i
+    (weight_at (transformer_view l.t l.s) k)))

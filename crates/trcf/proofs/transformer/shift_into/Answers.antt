@@ -13,39 +13,18 @@ use Rattle.trcf.proofs.LentLaws.{over_none, over_more}
 use Rattle.trcf.proofs.transformer.shift_into.Goals as goal
 
 pub loop-i-init : goal.loop-i-init
-loop-i-init c = (omega arith, over_none _, refl)
-
-pub shift_at-requires : goal.shift_at-requires
-shift_at-requires c = omega arith
-
-pub offset_bounds-output-i : goal.offset_bounds-output-i
-offset_bounds-output-i c = omega arith
-
-pub bounds-output-i : goal.bounds-output-i
-bounds-output-i c = omega arith
-
-pub overflow_add-i : goal.overflow_add-i
-overflow_add-i c = omega arith
-
-pub loop-i-smaller : goal.loop-i-smaller
-loop-i-smaller c = omega arith
+loop-i-init c = over_none _
 
 pub loop-i-preserved : goal.loop-i-preserved
 loop-i-preserved c =
     let L = c.loop-i in
     let a = c.args in
-    let h : L.i < length a.output.now = omega arith in (
-      omega arith,
-      rw (add-one, L.invariant.1, c.shift_at.ensures) (over_more a.output.now
-          (λ k. cond (centres a.t.transform_method) (add binary32 zero32 (narrowed (mean_at a.s.now k))) zero32) L.i h),
-      simp length-set (omega arith),
-    )
-
-pub shape_of-output : goal.shape_of-output
-shape_of-output c = omega arith
+    let h : L.i < length a.output.now = omega arith in
+    rw (add-one, L.invariant, c.shift_at.ensures) (over_more a.output.now
+        (λ k. cond (centres a.t.transform_method) (add binary32 zero32 (narrowed (mean_at a.s.now k))) zero32) L.i h)
 
 pub returns : goal.returns
 unfolding shifts basic_shift
 returns c = let L = c.loop-i in
     let e : L.i ≡ c.args.t.input_length = omega arith in
-    rw e at L.invariant.1
+    rw e at L.invariant

@@ -12,7 +12,4 @@ use Rattle.trcf.specs.Lists.{tabulate}
 use Rattle.trcf.proofs.transformer.shift_into.Given as goal
 
 abbrev pub invariant-loop-i : goal.invariant-loop-i
-invariant-loop-i l = (l.i ≤ l.d) × (l.output ≡ over l.initial.output (tabulate l.i (λ k. cond (centres l.m) (add binary32 zero32 (narrowed (mean_at l.s k))) zero32))) × (length l.output ≡ length l.initial.output)
-
-abbrev pub decreases-loop-i : goal.decreases-loop-i
-decreases-loop-i l = l.d - l.i
+invariant-loop-i l = l.output ≡ over l.initial.output (tabulate l.i (λ k. cond (centres l.m) (add binary32 zero32 (narrowed (mean_at l.s k))) zero32))

@@ -12,45 +12,7 @@ use Rattle.trcf.specs.Transformer.{weight_at, transform_by, transformed}
 use Rattle.trcf.proofs.transformer.transform_into.Goals as goal
 
 pub loop-i-init : goal.loop-i-init
-loop-i-init c = (omega arith, over_none _, refl)
-
-pub offset_bounds-t-i : goal.offset_bounds-t-i
-offset_bounds-t-i c = omega arith
-
-pub bounds-t-i : goal.bounds-t-i
-bounds-t-i c = omega arith
-
-pub offset_bounds-input-i : goal.offset_bounds-input-i
-offset_bounds-input-i c = omega arith
-
-pub bounds-input-i : goal.bounds-input-i
-bounds-input-i c = omega arith
-
-pub offset_bounds-previous-i : goal.offset_bounds-previous-i
-offset_bounds-previous-i c = omega arith
-
-pub bounds-previous-i : goal.bounds-previous-i
-bounds-previous-i c = omega arith
-
-pub transform_at-requires : goal.transform_at-requires
-unfolding weight_at
-transform_at-requires c =
-    let b = c in
-    let p = c in
-    let l = c.loop-i-test.true in
-    record { sound = c.requires.sound; i_bound = l; w_value = sym (get_or-take c.args.t.input_length c.args.t.weights c.loop-i.i nan l) }
-
-pub offset_bounds-output-i : goal.offset_bounds-output-i
-offset_bounds-output-i c = omega arith
-
-pub bounds-output-i : goal.bounds-output-i
-bounds-output-i c = omega arith
-
-pub overflow_add-i : goal.overflow_add-i
-overflow_add-i c = omega arith
-
-pub loop-i-smaller : goal.loop-i-smaller
-loop-i-smaller c = omega arith
+loop-i-init c = over_none _
 
 pub loop-i-preserved : goal.loop-i-preserved
 loop-i-preserved c =
@@ -60,13 +22,10 @@ loop-i-preserved c =
     let a = c.args in
     let h : L.i < length a.output.now = omega (arith, c.requires.sound) in
     let at = over_more a.output.now (λ k. transform_by a.t.transform_method (transformer_view a.t a.s.now) k (get_or a.input.now k nan) (get_or a.previous.now k nan)) L.i h in
-    (omega arith, rw (add-one, L.invariant.1, c.transform_at.ensures) at, simp length-set (omega arith))
-
-pub shape_of-output : goal.shape_of-output
-shape_of-output c = omega arith
+    rw (add-one, L.invariant, c.transform_at.ensures) at
 
 pub returns : goal.returns
 unfolding transformed
 returns c = let L = c.loop-i in
     let e : L.i ≡ c.args.t.input_length = omega arith in
-    rw e at L.invariant.1
+    rw e at L.invariant

@@ -11,7 +11,4 @@ use Rattle.trcf.proofs.transformer.transform_into.Given as goal
 
 abbrev pub invariant-loop-i : goal.invariant-loop-i
 invariant-loop-i l =
-    (l.i ≤ l.d) × (l.output ≡ over l.initial.output (tabulate l.i (λ k. transform_by l.t.transform_method (transformer_view l.t l.s) k (get_or l.input k nan) (get_or l.previous k nan)))) × (length l.output ≡ length l.initial.output)
-
-abbrev pub decreases-loop-i : goal.decreases-loop-i
-decreases-loop-i l = l.d - l.i
+    l.output ≡ over l.initial.output (tabulate l.i (λ k. transform_by l.t.transform_method (transformer_view l.t l.s) k (get_or l.input k nan) (get_or l.previous k nan)))

@@ -1,11 +1,13 @@
 -- `common::deviation::Deviation::corrected` meets its contract: past row 26 the sum and the squares are whole numbers that `moved` may move, and the squares of the readings are exact.
 -- Assumes nothing.
-use Rattle.std.proofs.Common.{◌≡◌, ℕ, zero, suc, ◌*◌, ◌<◌, ◌≤◌, true, T, ◌+ℤ◌, ◌-ℤ◌, ◌*ℤ◌, sym, refl, ap, ◌∙◌, subst, arith, lit≤, ltb-false}
+use Rattle.std.specs.Prelude.{Result, Ok, Err, IsErrAnd}
+use Rattle.std.proofs.Common.{◌≡◌, ◌*◌, ◌≤◌, true, T, ◌+ℤ◌, ◌-ℤ◌, ◌*ℤ◌, sym, ap, ◌∙◌, subst, arith, lit≤, ltb-false}
 use lib.Ieee.{Float, binary64, mul}
 use Rattle.common.specs.declared.deviation.Deviation.{Deviation}
-use Rattle.common.specs.declared.deviation.DeviationResult.TheVariants.{Ok, Err}
-use Rattle.refusal.specs.Refusal.{first_of}
-use Rattle.common.specs.Deviation.{deviation_answer, statistic}
+use Rattle.refusal.specs.declared.Refusal.{Refusal}
+use Rattle.refusal.specs.Refusal.{first_of, number_of, numbered}
+use Rattle.refusal.proofs.RefusalLaws.{refused_is, handed_on_numbered}
+use Rattle.common.specs.Deviation.{statistic}
 use Rattle.common.specs.WholeScores.{whole_float}
 use Rattle.common.specs.Corrected.{reading_limit, length_limit, whole_within, integer_of, correction_rows, corrected_statistic, corrected_of}
 use Rattle.common.specs.Steps.Whole.{Summand}
@@ -16,23 +18,18 @@ use Rattle.common.proofs.deviation.Deviation.corrected.Goals as goal
 
 -- ---- a refusal
 
-err_row : (n : ℕ) (s : Deviation) → 0 < n → Err n ≡ deviation_answer n s
-err_row zero s h = absurd (omega arith)
-err_row (suc n) s h = refl
-
-refused : (s : Deviation) (wrong right w r : Float) (row : ℕ) → w ≡ wrong → r ≡ right → row ≡ first_of (correction_rows s w r) → 0 < row → Err row ≡ corrected_of s wrong right
+refused : (s : Deviation) (wrong right w r : Float) (e : Refusal) (q : Result Deviation Refusal) → w ≡ wrong → r ≡ right
+    → number_of e ≡ first_of (correction_rows s w r) → IsErrAnd q (λ (d : Refusal). d ≡ e) → numbered q ≡ corrected_of s wrong right
 unfolding corrected_of
-refused s wrong right w r row p q e h =
-    err_row row (corrected_statistic s wrong right) h
-    ∙ λ i. deviation_answer ((e ∙ λ j. first_of (correction_rows s (p j) (q j))) i) (corrected_statistic s wrong right)
+refused s wrong right w r e q k l row handed =
+    let n : number_of e ≡ first_of (correction_rows s wrong right) = row ∙ λ j. first_of (correction_rows s (k j) (l j)) in
+    handed_on_numbered e q handed ∙ ap Err n ∙ sym (refused_is e _ _ _ n)
 
-pub returns-then-row-gt0 : goal.returns-then-row-gt0
-returns-then-row-gt0 c = let r = c in refused _ _ _ _ _ _ c.to_f64-w.ensures c.to_f64-r.ensures c.correction_row-row.ensures c.if-row-gt0.true
+pub returns-in_err-check_correction : goal.returns-in_err-check_correction
+returns-in_err-check_correction c =
+    refused _ _ _ _ _ _ _ c.to_f64-w.ensures c.to_f64-r.ensures c.in_err-check_correction.ensures c.from_residual.ensures.1
 
 -- ---- past row 26
-
-passed : (s : Deviation) (w r : Float) (row : ℕ) → row ≡ first_of (correction_rows s w r) → row ≤ 0 → Accepted s w r
-passed s w r row e h = rows_passed s w r (sym e ∙ omega arith)
 
 -- a reading's square is a summand, and the square of the whole number
 square_summand : (x : Float) → whole_within reading_limit x ≡ true → Summand (mul binary64 x x)
@@ -61,10 +58,10 @@ summands_sum s w r a =
     (whole_wider (65536 * s.count) 4503599627370496 s.sum (subst T (sym a.sum_whole) tt) (omega arith), reading r a.right_whole, reading w a.wrong_whole)
 
 pub moved-requires : goal.moved-requires
-moved-requires c = summands_squares _ _ _ (passed _ _ _ _ c.correction_row-row.ensures c.if-row-gt0.false)
+moved-requires c = summands_squares _ _ _ (rows_passed _ _ _ (sym c.in_ok-check_correction.ensures))
 
 pub moved-requires-2 : goal.moved-requires-2
-moved-requires-2 c = let e = c in summands_sum _ _ _ (passed _ _ _ _ c.correction_row-row.ensures c.if-row-gt0.false)
+moved-requires-2 c = summands_sum _ _ _ (rows_passed _ _ _ (sym c.in_ok-check_correction.ensures))
 
 done : (s : Deviation) (wrong right w r : Float) (q a : Float) → w ≡ wrong → r ≡ right → Accepted s w r
     → q ≡ whole_float (integer_of s.sum_squared +ℤ (integer_of (mul binary64 r r) -ℤ integer_of (mul binary64 w w)))
@@ -80,6 +77,4 @@ done s wrong right w r q a p p' h Q A =
 
 pub returns : goal.returns
 returns c =
-    let e = c in
-    let r = c in
-    done _ _ _ _ _ _ _ c.to_f64-w.ensures c.to_f64-r.ensures (passed _ _ _ _ c.correction_row-row.ensures c.if-row-gt0.false) c.moved.ensures c.moved-2.ensures
+    done _ _ _ _ _ _ _ c.to_f64-w.ensures c.to_f64-r.ensures (rows_passed _ _ _ (sym c.in_ok-check_correction.ensures)) c.moved.ensures c.moved-2.ensures

@@ -8,4 +8,4 @@ returns-then-outside_unit c = rw (← c.outside_unit.ensures, c.if-outside_unit.
 
 pub returns : goal.returns
 unfolding deviation_new
-returns c = rw (← c.outside_unit.ensures, c.if-outside_unit.false)
+returns c = rw (← c.outside_unit.ensures, c.if-outside_unit.false) cc

@@ -1,7 +1,0 @@
--- `rangevector::Range64::scale` meets its contract. The products, settled. Assumes nothing.
-use Rattle.ranges.specs.RangeVector.{scaled}
-use Rattle.ranges.proofs.rangevector.Range64.scale.Goals as goal
-
-pub returns : goal.returns
-unfolding scaled
-returns c = c.settled_f64.ensures
