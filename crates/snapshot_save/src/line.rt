@@ -6,7 +6,7 @@ ghost use Rattle.snapshot.specs.Save.{saved_told, fitted};
 ghost use Rattle.snapshot.specs.Steps.Write.{Wrote};
 ghost use Rattle.snapshot_save.specs.Line.{text_within, optional_field, optional_line};
 
-use crate::write::{tab_single, tab_singles, tab_whole, whole_length, write_byte};
+use crate::write::{tab_single, tab_whole, tabs, whole_length, write_byte};
 use refusal::Refusal;
 
 // A line of f32, and its length; or TooShort with nothing written, where out is shorter than the line.
@@ -22,7 +22,7 @@ pub fn singles_line(out: &mut [u8], a: u8, b: u8, v: &[f32]) -> Result<usize, Re
     }
     let p = write_byte(out, 0, a);
     let q = write_byte(out, p, b);
-    let r = tab_singles(out, q, v);
+    let r = tabs(out, q, v);
     let e = write_byte(out, r, 10);
     Ok(e)
 }
