@@ -2,9 +2,9 @@
 use mir.Syntax.{w32}
 use mir.ValLaws.{to_z-of_z}
 use Rattle.std.proofs.Common.{◌≡◌, length, sym, ap, ◌∙◌}
-use Rattle.trcf.specs.Calls.{rows, post_process}
+use Rattle.trcf.specs.Calls.{rows, post_process, finite}
 use Rattle.trcf.specs.Preprocessor.{facts}
-use Rattle.trcf.specs.View.{lent, settings_of, view, learn_call, back_of}
+use Rattle.trcf.specs.View.{lent, settings_of, view, learn_call, back_of, newest_of}
 use Rattle.trcf.specs.Steps.Rows.{input_row, learning_row}
 use Rattle.trcf.proofs.NumberLaws.{refused_first}
 use Rattle.trcf.proofs.LearnLaws.{post_rows}
@@ -35,7 +35,8 @@ returns-in_err-input_row c =
     a.deviations_out.now a.past_out.now a.expected_out.now o.bounded.k_pos o.bounded.k_few in
     let f = c.all_finite-finite.ensures in
     let n = c.newest_of-newest.ensures in
-    let i = λ j. input_row h (length a.input.now) (f j) (n j) a.timestamp in
+    let i : input_row h (length a.input.now) c.all_finite-finite.result c.newest_of-newest.result a.timestamp
+    ≡ input_row h (length a.input.now) (finite a.input.now) (newest_of h l.previous_timestamps l.initial_timestamps) a.timestamp = λ j. input_row h (length a.input.now) (f j) (n j) a.timestamp in
     let x = c.from_residual-in_err-input_row.ensures.1 in
     let q = refused_first _ _ _ (c.in_err-input_row.ensures ∙ i) ∙ v in
     record { value = call_refuses h l p _ _ x o.value q; ready = not_ok _ _ _ x }
@@ -53,9 +54,11 @@ returns-in_err-learning_row c =
     a.deviations_out.now a.past_out.now a.expected_out.now o.bounded.k_pos o.bounded.k_few in
     let f = c.all_finite-finite.ensures in
     let n = c.newest_of-newest.ensures in
-    let i = λ j. input_row h (length a.input.now) (f j) (n j) a.timestamp in
+    let i : input_row h (length a.input.now) c.all_finite-finite.result c.newest_of-newest.result a.timestamp
+    ≡ input_row h (length a.input.now) (finite a.input.now) (newest_of h l.previous_timestamps l.initial_timestamps) a.timestamp = λ j. input_row h (length a.input.now) (f j) (n j) a.timestamp in
     let m = c.places_back-back.ensures ∙ ap back_of (to_z-of_z w32 a.relative_index c.ranges.relative_index) in
-    let g = λ j. learning_row h (length a.y.now) a.has_y (length a.expected.now) a.expects a.grade (m j) (length a.deviations_out.now) (length a.past_out.now) (length a.expected_out.now) in
+    let g : learning_row h (length a.y.now) a.has_y (length a.expected.now) a.expects a.grade c.places_back-back.result (length a.deviations_out.now) (length a.past_out.now) (length a.expected_out.now)
+    ≡ learning_row h (length a.y.now) a.has_y (length a.expected.now) a.expects a.grade (back_of a.relative_index) (length a.deviations_out.now) (length a.past_out.now) (length a.expected_out.now) = λ j. learning_row h (length a.y.now) a.has_y (length a.expected.now) a.expects a.grade (m j) (length a.deviations_out.now) (length a.past_out.now) (length a.expected_out.now) in
     let x = c.from_residual-in_err-learning_row.ensures.1 in
     record { value = call_refuses h l p _ _ x o.value (rw (← v, sym (c.in_ok-input_row.ensures ∙ i)) (c.in_err-learning_row.ensures ∙ g)); ready = not_ok _ _ _ x }
 
@@ -72,9 +75,11 @@ returns c =
     a.deviations_out.now a.past_out.now a.expected_out.now o.bounded.k_pos o.bounded.k_few in
     let f = c.all_finite-finite.ensures in
     let n = c.newest_of-newest.ensures in
-    let i = λ j. input_row h (length a.input.now) (f j) (n j) a.timestamp in
+    let i : input_row h (length a.input.now) c.all_finite-finite.result c.newest_of-newest.result a.timestamp
+    ≡ input_row h (length a.input.now) (finite a.input.now) (newest_of h l.previous_timestamps l.initial_timestamps) a.timestamp = λ j. input_row h (length a.input.now) (f j) (n j) a.timestamp in
     let m = c.places_back-back.ensures ∙ ap back_of (to_z-of_z w32 a.relative_index c.ranges.relative_index) in
-    let g = λ j. learning_row h (length a.y.now) a.has_y (length a.expected.now) a.expects a.grade (m j) (length a.deviations_out.now) (length a.past_out.now) (length a.expected_out.now) in
+    let g : learning_row h (length a.y.now) a.has_y (length a.expected.now) a.expects a.grade c.places_back-back.result (length a.deviations_out.now) (length a.past_out.now) (length a.expected_out.now)
+    ≡ learning_row h (length a.y.now) a.has_y (length a.expected.now) a.expects a.grade (back_of a.relative_index) (length a.deviations_out.now) (length a.past_out.now) (length a.expected_out.now) = λ j. learning_row h (length a.y.now) a.has_y (length a.expected.now) a.expects a.grade (m j) (length a.deviations_out.now) (length a.past_out.now) (length a.expected_out.now) in
     let d = c.lengths_of-lengths.ensures in
     let z = c.lent_row.ensures in
     let q : rows (settings_of h) (facts (view h l)) p ≡ 0 = rw (← v, sym (c.in_ok-input_row.ensures ∙ i)) (sym (c.in_ok-learning_row.ensures ∙ g)) in
