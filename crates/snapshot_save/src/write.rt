@@ -39,7 +39,7 @@ pub(crate) fn whole_length(n: u64) -> usize
     let mut l: usize = 1;
     let mut m = n;
     while 10 <= m {
-        m = m / 10;
+        m /= 10;
         l += 1;
     }
     l
@@ -51,12 +51,10 @@ fn write_whole(out: &mut [u8], at: usize, n: u64) -> usize
     ensures { Wrote at (whole n) out.old result out.new }
 {
     let l = whole_length(n);
-    let mut i = l;
     let mut m = n;
-    while 10 <= m {
-        i -= 1;
+    for i in (1..l).rev() {
         out[at + i] = (48 + m % 10) as u8;
-        m = m / 10;
+        m /= 10;
     }
     out[at] = (48 + m) as u8;
     at + l
@@ -246,10 +244,9 @@ pub(crate) fn dev_lines(out: &mut [u8], at: usize, v: &[f64]) -> usize
     ensures { Wrote at (bytes_of (dev_lines v.now)) out.old result out.new }
 {
     let mut p = at;
-    let mut i = 0;
-    while i + 2 < v.len() {
-        p = dev_line(out, p, v[i], v[i + 1], v[i + 2]);
-        i += 3;
+    for i in 0..v.len() / 3 {
+        let k = i * 3;
+        p = dev_line(out, p, v[k], v[k + 1], v[k + 2]);
     }
     p
 }
