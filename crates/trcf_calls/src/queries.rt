@@ -1,11 +1,14 @@
 // The calls that change nothing: what a reading would be transformed to, what the statistics say, and what the head holds.
-ghost use Rattle.std.specs.Prelude.{◌≡◌, List, Float};
+ghost use Rattle.std.specs.Prelude.{◌≡◌, List, Float, Ok};
+ghost use Rattle.refusal.specs.Refusal.{row_of};
 ghost use Rattle.trcf.specs.Types.{method_number, mode_letter};
 ghost use Rattle.trcf.specs.Calls.{transform, scale, shift, status};
 ghost use Rattle.trcf.specs.Preprocessor.{reading, transform_of, scale_of, shift_of, deviations};
-ghost use Rattle.trcf.specs.View.{lent, written, write_of, getters_of, status_given, no_status, status_after};
+ghost use Rattle.trcf.specs.View.{lent, written, write_of, getters_of, status_given, status_after};
+ghost use Rattle.trcf.proofs.OutcomeLaws.{told_by};
 
-use trcf::head::{Preprocessor, StatusAnswer, get_dimension, head_row};
+use refusal::Refusal;
+use trcf::head::{Preprocessor, Status, get_dimension, head_row};
 use trcf::output::{write_deviations, write_scale, write_shift, write_transform};
 use trcf::time::time_base;
 use trcf::types::{ForestMode, TransformMethod};
@@ -22,10 +25,10 @@ pub fn transform(
     input: &[f32],
     timestamp: u64,
     output: &mut [f32],
-) -> u64
-    ensures { written result output.new ≡ write_of head (lent statistics.now last_shingled_input.now last_shingled_point.now previous_timestamps.now initial_values.now initial_timestamps.now) (transform input.now timestamp output.old) (transform_of (reading input.now timestamp)) output.old }
+) -> Result<(), Refusal>
+    ensures { written (row_of result) output.new ≡ write_of head (lent statistics.now last_shingled_input.now last_shingled_point.now previous_timestamps.now initial_values.now initial_timestamps.now) (transform input.now timestamp output.old) (transform_of (reading input.now timestamp)) output.old }
 {
-    let row = transform_row(
+    transform_row(
         head,
         statistics,
         last_shingled_input,
@@ -36,12 +39,8 @@ pub fn transform(
         input,
         timestamp,
         output,
-    );
-    if row != 0 {
-        return row;
-    }
-    let t = head.transformer;
-    let d = t.input_length;
+    )?;
+    let d = head.transformer.input_length;
     let k = head.shingle_size;
     let base = time_base(head, previous_timestamps, initial_timestamps);
     write_transform(
@@ -53,7 +52,7 @@ pub fn transform(
         timestamp,
         output,
     );
-    0
+    Ok(())
 }
 
 pub fn scale(
@@ -65,10 +64,10 @@ pub fn scale(
     initial_values: &[f32],
     initial_timestamps: &[u64],
     output: &mut [f32],
-) -> u64
-    ensures { written result output.new ≡ write_of head (lent statistics.now last_shingled_input.now last_shingled_point.now previous_timestamps.now initial_values.now initial_timestamps.now) (scale output.old) scale_of output.old }
+) -> Result<(), Refusal>
+    ensures { written (row_of result) output.new ≡ write_of head (lent statistics.now last_shingled_input.now last_shingled_point.now previous_timestamps.now initial_values.now initial_timestamps.now) (scale output.old) scale_of output.old }
 {
-    let row = write_row(
+    write_row(
         head,
         statistics,
         last_shingled_input,
@@ -77,14 +76,10 @@ pub fn scale(
         initial_values,
         initial_timestamps,
         output,
-    );
-    if row != 0 {
-        return row;
-    }
-    let t = head.transformer;
-    let d = t.input_length;
+    )?;
+    let d = head.transformer.input_length;
     write_scale(head, &statistics[..3 * (5 * d + 5)], output);
-    0
+    Ok(())
 }
 
 pub fn shift(
@@ -96,10 +91,10 @@ pub fn shift(
     initial_values: &[f32],
     initial_timestamps: &[u64],
     output: &mut [f32],
-) -> u64
-    ensures { written result output.new ≡ write_of head (lent statistics.now last_shingled_input.now last_shingled_point.now previous_timestamps.now initial_values.now initial_timestamps.now) (shift output.old) shift_of output.old }
+) -> Result<(), Refusal>
+    ensures { written (row_of result) output.new ≡ write_of head (lent statistics.now last_shingled_input.now last_shingled_point.now previous_timestamps.now initial_values.now initial_timestamps.now) (shift output.old) shift_of output.old }
 {
-    let row = write_row(
+    write_row(
         head,
         statistics,
         last_shingled_input,
@@ -108,12 +103,8 @@ pub fn shift(
         initial_values,
         initial_timestamps,
         output,
-    );
-    if row != 0 {
-        return row;
-    }
-    let t = head.transformer;
-    let d = t.input_length;
+    )?;
+    let d = head.transformer.input_length;
     let k = head.shingle_size;
     write_shift(
         head,
@@ -121,7 +112,7 @@ pub fn shift(
         &previous_timestamps[..k],
         output,
     );
-    0
+    Ok(())
 }
 
 pub fn difference_deviations(
@@ -133,10 +124,10 @@ pub fn difference_deviations(
     initial_values: &[f32],
     initial_timestamps: &[u64],
     output: &mut [f32],
-) -> u64
-    ensures { written result output.new ≡ write_of head (lent statistics.now last_shingled_input.now last_shingled_point.now previous_timestamps.now initial_values.now initial_timestamps.now) (status output.old) deviations output.old }
+) -> Result<(), Refusal>
+    ensures { written (row_of result) output.new ≡ write_of head (lent statistics.now last_shingled_input.now last_shingled_point.now previous_timestamps.now initial_values.now initial_timestamps.now) (status output.old) deviations output.old }
 {
-    let row = write_row(
+    write_row(
         head,
         statistics,
         last_shingled_input,
@@ -145,31 +136,18 @@ pub fn difference_deviations(
         initial_values,
         initial_timestamps,
         output,
-    );
-    if row != 0 {
-        return row;
-    }
-    let t = head.transformer;
-    let d = t.input_length;
+    )?;
+    let d = head.transformer.input_length;
     write_deviations(head, &statistics[..3 * (5 * d + 5)], output);
-    0
+    Ok(())
 }
 
 // Whether the shingle is full; never of a head that every call refuses.
+#[tactic(auto, unfolding(trcf::specs::View::ready_of, trcf::specs::View::own_row))]
 pub fn is_ready(head: Preprocessor) -> bool
     ensures { result ≡ (getters_of head).ready }
 {
-    let k = head.shingle_size;
-    let internal = head.internal_timestamp;
-    let row = head_row(head);
-    if row != 0 {
-        return false;
-    }
-    if is_misfit(head) {
-        false
-    } else {
-        k <= internal
-    }
+    head_row(head).is_ok() && !is_misfit(head) && head.shingle_size <= head.internal_timestamp
 }
 
 pub fn values_seen(head: Preprocessor) -> usize
@@ -182,8 +160,7 @@ pub fn values_seen(head: Preprocessor) -> usize
 pub fn panel(head: Preprocessor) -> u64
     ensures { result ≡ (getters_of head).panel }
 {
-    let t = head.transformer;
-    t.count
+    head.transformer.count
 }
 
 pub fn internal_timestamp(head: Preprocessor) -> usize
@@ -195,8 +172,7 @@ pub fn internal_timestamp(head: Preprocessor) -> usize
 pub fn input_dimensions(head: Preprocessor) -> usize
     ensures { result ≡ (getters_of head).input_dimensions }
 {
-    let t = head.transformer;
-    t.input_length
+    head.transformer.input_length
 }
 
 pub fn shingle_size(head: Preprocessor) -> usize
@@ -208,16 +184,13 @@ pub fn shingle_size(head: Preprocessor) -> usize
 pub fn transformation_method(head: Preprocessor) -> TransformMethod
     ensures { method_number result ≡ (getters_of head).method }
 {
-    let t = head.transformer;
-    let method = t.transform_method;
-    method
+    head.transformer.transform_method
 }
 
 pub fn forest_mode(head: Preprocessor) -> ForestMode
     ensures { mode_letter result ≡ (getters_of head).mode }
 {
-    let mode = head.forest_mode;
-    mode
+    head.forest_mode
 }
 
 pub fn start_normalization(head: Preprocessor) -> usize
@@ -226,26 +199,25 @@ pub fn start_normalization(head: Preprocessor) -> usize
     head.start_normalization
 }
 
-// A refused status: the row alone.
-fn no_status(row: u64) -> StatusAnswer
-    ensures { (out : List Float) → status_given result out ≡ record { row = row; numbers = no_status out } }
+// What the getters say together.
+fn told(head: Preprocessor) -> Status
+    ensures { (out : List Float) → status_given (Ok result) out ≡ record { row = 0; numbers = told_by head out } }
 {
-    StatusAnswer {
-        row: row,
-        values_seen: 0,
-        internal_timestamp: 0,
-        ready: false,
-        input_dimensions: 0,
-        shingle_size: 0,
-        dimensions: 0,
-        transform_method: TransformMethod::NONE,
-        forest_mode: ForestMode::STANDARD,
-        start_normalization: 0,
-        panel: 0,
+    Status {
+        values_seen: head.values_seen,
+        internal_timestamp: head.internal_timestamp,
+        ready: is_ready(head),
+        input_dimensions: head.transformer.input_length,
+        shingle_size: head.shingle_size,
+        dimensions: get_dimension(head),
+        transform_method: head.transformer.transform_method,
+        forest_mode: head.forest_mode,
+        start_normalization: head.start_normalization,
+        panel: panel(head),
     }
 }
 
-// What the getters say, and the deviations; where a row refuses it, the row and nothing else.
+// What the getters say, and the deviations; where it is refused, nothing but why.
 pub fn status(
     head: Preprocessor,
     statistics: &[f64],
@@ -255,10 +227,10 @@ pub fn status(
     initial_values: &[f32],
     initial_timestamps: &[u64],
     output: &mut [f32],
-) -> StatusAnswer
+) -> Result<Status, Refusal>
     ensures { status_given result output.new ≡ status_after head (lent statistics.now last_shingled_input.now last_shingled_point.now previous_timestamps.now initial_values.now initial_timestamps.now) output.old }
 {
-    let row = difference_deviations(
+    let deviations = difference_deviations(
         head,
         statistics,
         last_shingled_input,
@@ -268,24 +240,6 @@ pub fn status(
         initial_timestamps,
         output,
     );
-    if row != 0 {
-        return no_status(row);
-    }
-    let t = head.transformer;
-    let method = t.transform_method;
-    let mode = head.forest_mode;
-    let seen = head.values_seen;
-    StatusAnswer {
-        row: row,
-        values_seen: seen,
-        internal_timestamp: head.internal_timestamp,
-        ready: is_ready(head),
-        input_dimensions: t.input_length,
-        shingle_size: head.shingle_size,
-        dimensions: get_dimension(head),
-        transform_method: method,
-        forest_mode: mode,
-        start_normalization: head.start_normalization,
-        panel: panel(head),
-    }
+    deviations?;
+    Ok(told(head))
 }

@@ -1,20 +1,22 @@
 // A forecast of transformed readings turned back into readings and times (the source's Preprocessor::invert_extrapolation).
-ghost use Rattle.std.specs.Prelude.{◌≡◌, true, false, ◌&&◌, [], ◌∷◌, ◌*◌, ◌≤◌, ◌<◌, pos, length};
+ghost use Rattle.std.specs.Prelude.{◌≡◌, true, false, ◌&&◌, [], ◌∷◌, ◌*◌, ◌≤◌, ◌<◌, pos, length, OnOk};
 ghost use Rattle.std.specs.Float.{binary64};
 ghost use Rattle.std.specs.Float.Ieee.{mul, of_int};
-ghost use Rattle.refusal.specs.Refusal.{first_of};
+ghost use Rattle.refusal.specs.Refusal.{first_of, row_of};
 ghost use Rattle.ranges.specs.RangeVector.{range, ranges, scaled, unblocked, cascade_to, over_all, shorter_at};
 ghost use Rattle.trcf.specs.Lists.{last_n};
 ghost use Rattle.trcf.specs.Types.{augments, differences};
 ghost use Rattle.trcf.specs.Transformer.{inverted_forecast};
 ghost use Rattle.trcf.specs.Settings.{transformer, dimension};
 ghost use Rattle.trcf.specs.Preprocessor.{statistics_length, fronts, backs, invert_times, numbers_of, times_of, turned_back};
-ghost use Rattle.trcf.specs.View.{settings_of, holding, counters_unfit, or_else, Bounded};
+ghost use Rattle.trcf.specs.View.{settings_of, holding, counters_unfit, Bounded};
 ghost use Rattle.trcf.specs.Calls.{sizes, forecast_unfit, forecast_output_short};
 ghost use Rattle.trcf.specs.Extrapolation.{extrapolation, forecast, viewed, extrapolation_of, read_short, row_at};
-ghost use Rattle.trcf.specs.Steps.Inverting.{Unbroken, Longer, Long, Readable, Invertible, time_factor, stretched, time_by, times_by};
+ghost use Rattle.trcf.specs.Steps.Inverting.{Unbroken, Longer, Long, Readable, Invertible, time_factor, time_by, times_by};
+ghost use Rattle.trcf_forecast.specs.Lengths.{sizes_in};
 
-use ranges::rangevector::{Range64, cascaded_add_f64};
+use ranges::rangevector::{Range, cascaded_add};
+use refusal::Refusal;
 use trcf::head::{Preprocessor, get_dimension, head_row};
 use trcf::shingle::copy_in;
 use trcf::time::{last_time, timedrift_of, timescale_of};
@@ -22,150 +24,9 @@ use trcf::transformer::invert_forecast_in_place;
 use trcf::types::{TransformMethod, is_augmented, is_differencing, is_gap};
 use trcf_rows::rows::is_misfit;
 
-// Whether the values make no blocks of d to cascade.
-fn is_unblocked(d: usize, n: usize) -> bool
-    ensures { result ≡ unblocked d n }
-{
-    if d == 0 {
-        return true;
-    }
-    if n == 0 {
-        return true;
-    }
-    n % d != 0
-}
-
-// Whether blocks are to be cascaded and cannot be.
-fn is_broken(m: TransformMethod, d: usize, n: usize) -> bool
-    ensures { result ≡ (differences m && unblocked d n) }
-{
-    if is_differencing(m) {
-        is_unblocked(d, n)
-    } else {
-        false
-    }
-}
-
-// Row 16.
-fn broken_row(head: Preprocessor, values: usize, upper: usize, lower: usize) -> u64
-    requires { Bounded (settings_of head) }
-    ensures value { result ≡ first_of ((forecast_unfit (settings_of head) values upper lower, 16) ∷ []) }
-    ensures unbroken { result ≡ 0 → Unbroken (settings_of head) values upper lower }
-{
-    let t = head.transformer;
-    let mode = head.forest_mode;
-    let method = t.transform_method;
-    let d = t.input_length;
-    if values != upper {
-        return 16;
-    }
-    if values != lower {
-        return 16;
-    }
-    if is_augmented(mode) {
-        if values < get_dimension(head) {
-            return 16;
-        }
-        return 0;
-    }
-    if is_broken(method, d, values) {
-        return 16;
-    }
-    0
-}
-
-// Whether one of three lists is shorter than n.
-fn is_shorter(values: usize, upper: usize, lower: usize, n: usize) -> bool
-    ensures value { result ≡ shorter_at values upper lower n }
-    ensures longer { result ≡ false → Longer n values upper lower }
-{
-    if values < n {
-        return true;
-    }
-    if upper < n {
-        return true;
-    }
-    if lower < n {
-        return true;
-    }
-    false
-}
-
-// Row 20 of the output.
-fn output_row(
-    head: Preprocessor,
-    values: usize,
-    values_out: usize,
-    upper_out: usize,
-    lower_out: usize,
-    times_out: usize,
-    times_upper_out: usize,
-    times_lower_out: usize,
-) -> u64
-    requires { Bounded (settings_of head) }
-    ensures value { result ≡ first_of ((forecast_output_short (settings_of head) (sizes values 0 0 values_out upper_out lower_out times_out times_upper_out times_lower_out), 20) ∷ []) }
-    ensures long { result ≡ 0 → augments head.forest_mode ≡ true → Long (settings_of head) (sizes values 0 0 values_out upper_out lower_out times_out times_upper_out times_lower_out) }
-{
-    let t = head.transformer;
-    let mode = head.forest_mode;
-    let d = t.input_length;
-    let k = head.shingle_size;
-    let a = get_dimension(head);
-    if is_augmented(mode) {
-        let h = values / a;
-        if is_shorter(values_out, upper_out, lower_out, h * (d * k)) {
-            return 20;
-        }
-        if is_shorter(times_out, times_upper_out, times_lower_out, h) {
-            return 20;
-        }
-    }
-    0
-}
-
-// Row 20 of what the call reads of the preprocessor.
-fn unread_row(head: Preprocessor, statistics: usize, inputs: usize, times: usize) -> u64
-    requires { Bounded (settings_of head) }
-    ensures value { result ≡ first_of ((read_short (settings_of head) statistics inputs times, 20) ∷ []) }
-    ensures readable { result ≡ 0 → Readable (settings_of head) statistics inputs times }
-{
-    let t = head.transformer;
-    let d = t.input_length;
-    let k = head.shingle_size;
-    if statistics < 3 * (5 * d + 5) {
-        return 20;
-    }
-    if inputs < d * k {
-        return 20;
-    }
-    if times < k {
-        return 20;
-    }
-    0
-}
-
-// Row 20 of the head's counters.
-fn counters_row(head: Preprocessor) -> u64
-    ensures { result ≡ first_of ((counters_unfit head, 20) ∷ []) }
-{
-    if is_misfit(head) { 20 } else { 0 }
-}
-
-// The first of two rows that refuses.
-fn first_of(a: u64, b: u64) -> u64
-    ensures { result ≡ or_else a b }
-{
-    if a != 0 {
-        return a;
-    }
-    b
-}
-
-fn extrapolation_row(
-    head: Preprocessor,
-    statistics: usize,
-    inputs: usize,
-    times: usize,
+// How long each list of a forecast and of its outputs is.
+#[derive(Clone, Copy)]
+struct Lengths {
     values: usize,
     upper: usize,
     lower: usize,
@@ -175,33 +36,131 @@ fn extrapolation_row(
     times_out: usize,
     times_upper_out: usize,
     times_lower_out: usize,
-) -> u64
-    ensures value { result ≡ row_at head statistics inputs times (sizes values upper lower values_out upper_out lower_out times_out times_upper_out times_lower_out) }
-    ensures invertible { result ≡ 0 → Invertible (settings_of head) statistics inputs times (sizes values upper lower values_out upper_out lower_out times_out times_upper_out times_lower_out) }
+}
+
+// Whether the values make no blocks of d to cascade.
+#[tactic(auto, unfolding(ranges::specs::RangeVector::unblocked))]
+fn is_unblocked(d: usize, n: usize) -> bool
+    ensures { result ≡ unblocked d n }
 {
-    let row = head_row(head);
-    if row != 0 {
-        return row;
+    d == 0 || n == 0 || n % d != 0
+}
+
+// Whether blocks are to be cascaded and cannot be.
+fn is_broken(m: TransformMethod, d: usize, n: usize) -> bool
+    ensures { result ≡ (differences m && unblocked d n) }
+{
+    is_differencing(m) && is_unblocked(d, n)
+}
+
+// Row 16.
+#[tactic(auto, unfolding(trcf::specs::Calls::forecast_unfit), using(trcf::proofs::LengthLaws::dimension_known))]
+fn broken_row(head: Preprocessor, values: usize, upper: usize, lower: usize) -> Result<(), Refusal>
+    requires { Bounded (settings_of head) }
+    ensures value { row_of result ≡ first_of ((forecast_unfit (settings_of head) values upper lower, 16) ∷ []) }
+    ensures unbroken { OnOk result (Unbroken (settings_of head) values upper lower) }
+{
+    if values != upper || values != lower {
+        return Err(Refusal::ForecastShape);
     }
-    let broken = broken_row(head, values, upper, lower);
-    let unfit = counters_row(head);
-    let own = first_of(broken, unfit);
-    if own != 0 {
-        return own;
+    let broken = if is_augmented(head.forest_mode) {
+        values < get_dimension(head)
+    } else {
+        is_broken(
+            head.transformer.transform_method,
+            head.transformer.input_length,
+            values,
+        )
+    };
+    if broken {
+        return Err(Refusal::ForecastShape);
     }
-    let short = output_row(
-        head,
-        values,
-        values_out,
-        upper_out,
-        lower_out,
-        times_out,
-        times_upper_out,
-        times_lower_out,
-    );
-    if short != 0 {
-        return short;
+    Ok(())
+}
+
+// Whether one of three lists is shorter than n.
+fn is_shorter(values: usize, upper: usize, lower: usize, n: usize) -> bool
+    ensures value { result ≡ shorter_at values upper lower n }
+    ensures longer { result ≡ false → Longer n values upper lower }
+{
+    values < n || upper < n || lower < n
+}
+
+// Row 20 of the output.
+fn output_row(head: Preprocessor, lengths: Lengths) -> Result<(), Refusal>
+    requires { Bounded (settings_of head) }
+    ensures value { row_of result ≡ first_of ((forecast_output_short (settings_of head) (sizes_in lengths), 20) ∷ []) }
+    ensures long { OnOk result (augments head.forest_mode ≡ true → Long (settings_of head) (sizes_in lengths)) }
+{
+    let d = head.transformer.input_length;
+    let k = head.shingle_size;
+    let a = get_dimension(head);
+    if is_augmented(head.forest_mode) {
+        let h = lengths.values / a;
+        if is_shorter(
+            lengths.values_out,
+            lengths.upper_out,
+            lengths.lower_out,
+            h * (d * k),
+        ) {
+            return Err(Refusal::TooShort);
+        }
+        if is_shorter(
+            lengths.times_out,
+            lengths.times_upper_out,
+            lengths.times_lower_out,
+            h,
+        ) {
+            return Err(Refusal::TooShort);
+        }
     }
+    Ok(())
+}
+
+// Row 20 of what the call reads of the preprocessor.
+#[tactic(auto, unfolding(trcf::specs::Extrapolation::read_short))]
+fn unread_row(
+    head: Preprocessor,
+    statistics: usize,
+    inputs: usize,
+    times: usize,
+) -> Result<(), Refusal>
+    requires { Bounded (settings_of head) }
+    ensures value { row_of result ≡ first_of ((read_short (settings_of head) statistics inputs times, 20) ∷ []) }
+    ensures readable { OnOk result (Readable (settings_of head) statistics inputs times) }
+{
+    let d = head.transformer.input_length;
+    let k = head.shingle_size;
+    if statistics < 3 * (5 * d + 5) || inputs < d * k || times < k {
+        return Err(Refusal::TooShort);
+    }
+    Ok(())
+}
+
+// Row 20 of the head's counters.
+fn counters_row(head: Preprocessor) -> Result<(), Refusal>
+    ensures { row_of result ≡ first_of ((counters_unfit head, 20) ∷ []) }
+{
+    if is_misfit(head) {
+        return Err(Refusal::TooShort);
+    }
+    Ok(())
+}
+
+fn extrapolation_row(
+    head: Preprocessor,
+    statistics: usize,
+    inputs: usize,
+    times: usize,
+    lengths: Lengths,
+) -> Result<(), Refusal>
+    ensures value { row_of result ≡ row_at head statistics inputs times (sizes_in lengths) }
+    ensures invertible { OnOk result (Invertible (settings_of head) statistics inputs times (sizes_in lengths)) }
+{
+    head_row(head)?;
+    broken_row(head, lengths.values, lengths.upper, lengths.lower)?;
+    counters_row(head)?;
+    output_row(head, lengths)?;
     unread_row(head, statistics, inputs, times)
 }
 
@@ -222,10 +181,8 @@ fn invert_in_place(
         ≡ inverted_forecast (transformer (settings_of head) 0 s.now) (last_n head.transformer.input_length inputs.now) (ranges values.old upper.old lower.old) }
 {
     let t = head.transformer;
-    let d = t.input_length;
-    let n = inputs.len();
-    let b = n - d;
-    invert_forecast_in_place(t, s, &inputs[b..n], values, upper, lower);
+    let newest = &inputs[inputs.len() - t.input_length..];
+    invert_forecast_in_place(t, s, newest, values, upper, lower);
 }
 
 // Of each of h blocks of a numbers the first m.
@@ -233,13 +190,11 @@ fn copy_fronts(src: &[f32], a: usize, m: usize, h: usize, dst: &mut [f32])
     requires { (h * a ≤ length src.now) × (m ≤ a) × (length dst.old ≡ h * m) }
     ensures { dst.new ≡ fronts a m h src.now }
 {
-    let mut i = 0;
-    while i < h {
+    for i in 0..h {
         let from = i * a;
         let to = from + m;
         let at = i * m;
         copy_in(dst, at, &src[from..to]);
-        i += 1;
     }
 }
 
@@ -277,6 +232,7 @@ fn invert_numbers(
 }
 
 // 1 / weight_time, 0 for weight_time 0.
+#[tactic(auto, unfolding(trcf::specs::Steps::Inverting::time_factor))]
 fn time_factor(weight: f32) -> f64
     ensures { result ≡ time_factor weight }
 {
@@ -287,53 +243,40 @@ fn time_factor(weight: f32) -> f64
     }
 }
 
-fn stretch(factor: f64, scale: f64, x: f32) -> f64
-    ensures { result ≡ stretched factor scale x }
-{
-    numeric::to_f64(x) * factor * scale
-}
-
-// A gap with its bounds, to which no drift belongs; the scale puts them in order.
-fn invert_gap(factor: f64, scale: f64, value: f32, upper: f32, lower: f32) -> Range64
-    ensures { range result.value result.upper result.lower ≡ scaled binary64 (range (mul binary64 value factor) (mul binary64 upper factor) (mul binary64 lower factor)) scale }
-{
-    let r = Range64 {
-        value: numeric::to_f64(value) * factor,
-        upper: numeric::to_f64(upper) * factor,
-        lower: numeric::to_f64(lower) * factor,
-    };
-    r.scale(scale)
-}
-
-// A time with its bounds; the shift puts them in order.
-fn invert_time(
+// What a time is turned back by; to a gap no drift belongs.
+#[derive(Clone, Copy)]
+struct Clock {
     gap: bool,
     factor: f64,
     scale: f64,
     drift: f64,
-    value: f32,
-    upper: f32,
-    lower: f32,
-) -> Range64
-    ensures { range result.value result.upper result.lower ≡ time_by gap factor scale drift (range value upper lower) }
-{
-    if gap {
-        return invert_gap(factor, scale, value, upper, lower);
+}
+
+impl Clock {
+    // A time with its bounds; the last step puts them in order: of a gap the scale, of another time the shift.
+    fn invert(self, value: f32, upper: f32, lower: f32) -> Range<f64>
+        ensures { result ≡ time_by self.gap self.factor self.scale self.drift (range value upper lower) }
+    {
+        let r = Range {
+            value: numeric::to_f64(value) * self.factor,
+            upper: numeric::to_f64(upper) * self.factor,
+            lower: numeric::to_f64(lower) * self.factor,
+        };
+        if self.gap {
+            return r.scale(self.scale);
+        }
+        let stretched = Range {
+            value: r.value * self.scale,
+            upper: r.upper * self.scale,
+            lower: r.lower * self.scale,
+        };
+        stretched.shift(self.drift)
     }
-    let r = Range64 {
-        value: stretch(factor, scale, value),
-        upper: stretch(factor, scale, upper),
-        lower: stretch(factor, scale, lower),
-    };
-    r.shift(drift)
 }
 
 // The time after the first m numbers of each block of a.
 fn write_times(
-    gap: bool,
-    factor: f64,
-    scale: f64,
-    drift: f64,
+    clock: Clock,
     a: usize,
     m: usize,
     values: &[f32],
@@ -347,17 +290,14 @@ fn write_times(
     requires upper_out_len { (length upper_out.old ≡ length values_out.old) × (length lower_out.old ≡ length values_out.old) }
     requires a_in_bounds { (length values_out.old * a ≤ length values.now) × (length values_out.old * a ≤ length upper.now) × (length values_out.old * a ≤ length lower.now) }
     ensures { ranges values_out.new upper_out.new lower_out.new
-        ≡ times_by gap factor scale drift a m (ranges values.now upper.now lower.now) (length values_out.old) }
+        ≡ times_by clock.gap clock.factor clock.scale clock.drift a m (ranges values.now upper.now lower.now) (length values_out.old) }
 {
-    let n = values_out.len();
-    let mut i = 0;
-    while i < n {
+    for i in 0..values_out.len() {
         let at = i * a + m;
-        let r = invert_time(gap, factor, scale, drift, values[at], upper[at], lower[at]);
+        let r = clock.invert(values[at], upper[at], lower[at]);
         values_out[i] = r.value;
         upper_out[i] = r.upper;
         lower_out[i] = r.lower;
-        i += 1;
     }
 }
 
@@ -387,20 +327,19 @@ fn invert_times(
         (backs (dimension (settings_of head)) (head.transformer.input_length * head.shingle_size) (length values_out.old) upper.now)
         (backs (dimension (settings_of head)) (head.transformer.input_length * head.shingle_size) (length values_out.old) lower.now)) }
 {
-    let t = head.transformer;
-    let mode = head.forest_mode;
-    let d = t.input_length;
-    let m = d * head.shingle_size;
+    let m = head.transformer.input_length * head.shingle_size;
     let a = get_dimension(head);
-    let gap = is_gap(mode);
-    let factor = time_factor(head.weight_time);
-    let scale = timescale_of(head, s);
-    let drift = timedrift_of(head, s);
+    let clock = Clock {
+        gap: is_gap(head.forest_mode),
+        factor: time_factor(head.weight_time),
+        scale: timescale_of(head, s),
+        drift: timedrift_of(head, s),
+    };
     write_times(
-        gap, factor, scale, drift, a, m, values, upper, lower, values_out, upper_out, lower_out,
+        clock, a, m, values, upper, lower, values_out, upper_out, lower_out,
     );
     let base = [numeric::u64_to_f64(last)];
-    cascaded_add_f64(values_out, upper_out, lower_out, &base);
+    cascaded_add(values_out, upper_out, lower_out, &base).unwrap();
 }
 
 // A mode with a time element: numbers and times to the front of the lists lent for them.
@@ -477,13 +416,11 @@ fn invert_accepted(
         ≡ turned_back (viewed head statistics.now last_shingled_input.now previous_timestamps.now)
         (forecast (ranges values.old upper.old lower.old) (ranges values_out.old upper_out.old lower_out.old) (ranges times_out.old times_upper_out.old times_lower_out.old)) }
 {
-    let t = head.transformer;
-    let mode = head.forest_mode;
-    let d = t.input_length;
+    let d = head.transformer.input_length;
     let k = head.shingle_size;
     let m = 3 * (5 * d + 5);
     let n = d * k;
-    if is_augmented(mode) {
+    if is_augmented(head.forest_mode) {
         invert_augmented(
             head,
             &statistics[..m],
@@ -526,29 +463,29 @@ pub fn invert_extrapolation(
     times_out: &mut [f64],
     times_upper_out: &mut [f64],
     times_lower_out: &mut [f64],
-) -> u64
-    ensures { extrapolation result (forecast (ranges values.new upper.new lower.new) (ranges values_out.new upper_out.new lower_out.new) (ranges times_out.new times_upper_out.new times_lower_out.new))
+) -> Result<(), Refusal>
+    ensures { extrapolation (row_of result) (forecast (ranges values.new upper.new lower.new) (ranges values_out.new upper_out.new lower_out.new) (ranges times_out.new times_upper_out.new times_lower_out.new))
         ≡ extrapolation_of head statistics.now last_shingled_input.now previous_timestamps.now
         (forecast (ranges values.old upper.old lower.old) (ranges values_out.old upper_out.old lower_out.old) (ranges times_out.old times_upper_out.old times_lower_out.old)) }
 {
-    let row = extrapolation_row(
+    let lengths = Lengths {
+        values: values.len(),
+        upper: upper.len(),
+        lower: lower.len(),
+        values_out: values_out.len(),
+        upper_out: upper_out.len(),
+        lower_out: lower_out.len(),
+        times_out: times_out.len(),
+        times_upper_out: times_upper_out.len(),
+        times_lower_out: times_lower_out.len(),
+    };
+    extrapolation_row(
         head,
         statistics.len(),
         last_shingled_input.len(),
         previous_timestamps.len(),
-        values.len(),
-        upper.len(),
-        lower.len(),
-        values_out.len(),
-        upper_out.len(),
-        lower_out.len(),
-        times_out.len(),
-        times_upper_out.len(),
-        times_lower_out.len(),
-    );
-    if row != 0 {
-        return row;
-    }
+        lengths,
+    )?;
     invert_accepted(
         head,
         statistics,
@@ -564,5 +501,5 @@ pub fn invert_extrapolation(
         times_upper_out,
         times_lower_out,
     );
-    0
+    Ok(())
 }

@@ -1,19 +1,20 @@
 // Learning: what post_process does to the lists, and what it writes.
-ghost use Rattle.std.specs.Prelude.{◌≡◌, true, cond, ◌&&◌, [], ◌∷◌, ◌++◌, suc, ◌-◌, ◌*◌, ◌≤◌, ◌<◌, ltb, eqb, length, take, get_or};
+ghost use Rattle.std.specs.Prelude.{◌≡◌, true, cond, ◌&&◌, [], ◌∷◌, ◌++◌, suc, ◌-◌, ◌*◌, ◌≤◌, ◌<◌, ltb, eqb, length, take, get_or, is_some, Some, None};
 ghost use Rattle.std.specs.Float.Ieee.{lt};
 ghost use Rattle.common.specs.Deviation.{count_limit};
 ghost use Rattle.refusal.specs.Lent.{over};
 ghost use Rattle.trcf.specs.Lists.{shift_in};
-ghost use Rattle.trcf.specs.Transformer.{inverted, zero32};
+ghost use Rattle.trcf.specs.Transformer.{inverted, zero32, one32};
 ghost use Rattle.trcf.specs.Settings.{dimension, block, transformer};
 ghost use Rattle.trcf.specs.Preprocessor.{statistics_length, reading, feed, previous, block_from, deviations};
 ghost use Rattle.trcf.specs.View.{settings_of, holding, Bounded};
 ghost use Rattle.trcf.specs.Steps.Learning.{Exact, Findable};
+ghost use Rattle.trcf_learn.specs.Given.{list_in};
 
 use trcf::feeding::feed_reading;
-use trcf::head::Preprocessor;
+use trcf::head::{Anomaly, Preprocessor};
 use trcf::output::write_deviations;
-use trcf::shingle::{copy_in, shift_time, shift_vector};
+use trcf::shingle::{copy_in, shift_in};
 use trcf::time::last_time;
 use trcf::transformer::invert_into;
 
@@ -33,9 +34,8 @@ pub(crate) fn hold(
     ensures initial_values_after { initial_values.new ≡ over initial_values.old (take (head.initial_len * head.transformer.input_length) initial_values.old ++ input.now) }
     ensures initial_timestamps_after { initial_timestamps.new ≡ over initial_timestamps.old (take head.initial_len initial_timestamps.old ++ (timestamp ∷ [])) }
 {
-    let t = head.transformer;
     let n = head.initial_len;
-    copy_in(initial_values, n * t.input_length, input);
+    copy_in(initial_values, n * head.transformer.input_length, input);
     initial_timestamps[n] = timestamp;
 }
 
@@ -48,13 +48,11 @@ pub(crate) fn write_completing(head: Preprocessor, s: &[f64], output: &mut [f32]
     ensures value { result ≡ eqb (suc head.values_seen) head.start_normalization }
     ensures output_after { output.new ≡ cond (eqb (suc head.values_seen) head.start_normalization) (over output.old (deviations (holding head s.now [] []))) output.old }
 {
-    let seen = head.values_seen;
-    let start = head.start_normalization;
-    if seen + 1 == start {
-        write_deviations(head, s, output);
-        return true;
+    if head.values_seen + 1 != head.start_normalization {
+        return false;
     }
-    false
+    write_deviations(head, s, output);
+    true
 }
 
 // Feeds the reading to the statistics, before stop.
@@ -72,14 +70,18 @@ pub(crate) fn feed_newest(
     requires count_lt_count_limit { head.values_seen < head.stop_normalization → head.transformer.count < count_limit }
     ensures { s.new ≡ cond (ltb head.values_seen head.stop_normalization) (feed (settings_of head) head.transformer.count s.old (previous (holding head s.old inputs.now times.now)) (reading input.now timestamp)) s.old }
 {
-    let seen = head.values_seen;
-    let stop = head.stop_normalization;
-    if seen < stop {
-        let t = head.transformer;
-        let d = t.input_length;
-        let n = inputs.len();
+    if head.values_seen < head.stop_normalization {
+        let d = head.transformer.input_length;
         let p = last_time(times);
-        feed_reading(head, t.count, s, &inputs[n - d..n], p, input, timestamp);
+        feed_reading(
+            head,
+            head.transformer.count,
+            s,
+            &inputs[inputs.len() - d..],
+            p,
+            input,
+            timestamp,
+        );
     }
 }
 
@@ -109,8 +111,7 @@ pub(crate) fn update_shingles(
     ensures last_shingled_point_after { last_shingled_point.new ≡ over last_shingled_point.old y.now }
     ensures previous_timestamps_after { previous_timestamps.new ≡ over previous_timestamps.old (shift_in (take head.shingle_size previous_timestamps.old) (timestamp ∷ [])) }
 {
-    let t = head.transformer;
-    let d = t.input_length;
+    let d = head.transformer.input_length;
     let k = head.shingle_size;
     feed_newest(
         head,
@@ -120,9 +121,9 @@ pub(crate) fn update_shingles(
         input,
         timestamp,
     );
-    shift_vector(&mut last_shingled_input[..d * k], input);
+    shift_in(&mut last_shingled_input[..d * k], input);
     copy_in(last_shingled_point, 0, y);
-    shift_time(&mut previous_timestamps[..k], timestamp);
+    shift_in(&mut previous_timestamps[..k], &[timestamp]);
 }
 
 // The reading itself, or the block after the one that lies back readings before the newest.
@@ -134,13 +135,11 @@ fn write_past(head: Preprocessor, inputs: &[f32], input: &[f32], back: usize, ou
     requires input_length_in_bounds { head.transformer.input_length ≤ length output.old }
     ensures { output.new ≡ over output.old (cond (eqb back 0) input.now (block_from head.transformer.input_length (head.shingle_size - back) inputs.now)) }
 {
-    let t = head.transformer;
-    let d = t.input_length;
-    let k = head.shingle_size;
+    let d = head.transformer.input_length;
     if back == 0 {
         copy_in(output, 0, input);
     } else {
-        let at = k - back;
+        let at = head.shingle_size - back;
         copy_in(output, 0, &inputs[at * d..at * d + d]);
     }
 }
@@ -168,25 +167,17 @@ pub(crate) fn write_anomaly(
     ensures past_out_after { past_out.new ≡ over past_out.old (cond (eqb back 0) input.now (block_from head.transformer.input_length (head.shingle_size - back) inputs.now)) }
     ensures expected_out_after { expected_out.new ≡ over expected_out.old (inverted (transformer (settings_of head) 0 s.now) (block_from head.transformer.input_length (head.shingle_size - 1 - back) expected.now) (block_from head.transformer.input_length (head.shingle_size - 1 - back) inputs.now)) }
 {
-    let t = head.transformer;
-    let d = t.input_length;
+    let d = head.transformer.input_length;
     let b = head.shingle_size - 1 - back;
     write_past(head, inputs, input, back, past_out);
     invert_into(
-        t,
+        head.transformer,
         s,
         &expected[b * d..b * d + d],
         &inputs[b * d..b * d + d],
         expected_out,
     );
     times[b]
-}
-
-// Whether an anomaly was written, and its time, 0 where none was.
-#[derive(Clone, Copy)]
-pub struct Found {
-    pub given: bool,
-    pub past_timestamp: u64,
 }
 
 // The anomaly, where the grade is above 0 and an expected point is given.
@@ -196,47 +187,38 @@ pub(crate) fn write_found(
     inputs: &[f32],
     times: &[u64],
     input: &[f32],
-    expected: &[f32],
-    expects: bool,
+    expected: Option<&[f32]>,
     grade: f32,
     back: usize,
     past_out: &mut [f32],
     expected_out: &mut [f32],
-) -> Found
+) -> Option<Anomaly>
     requires bounded { Bounded (settings_of head) }
     requires exact { Exact (settings_of head) (length s.now) (length inputs.now) (length times.now) }
     requires input_len { length input.now ≡ head.transformer.input_length }
-    requires findable { (lt zero32 grade && expects) ≡ true → Findable (settings_of head) (length expected.now) back (length past_out.old) (length expected_out.old) }
-    ensures given_value { result.given ≡ (lt zero32 grade && expects) }
-    ensures past_timestamp_value { result.past_timestamp ≡ cond (lt zero32 grade && expects) (get_or times.now (head.shingle_size - 1 - back) 0) 0 }
-    ensures past_out_after { past_out.new ≡ cond (lt zero32 grade && expects) (over past_out.old (cond (eqb back 0) input.now (block_from head.transformer.input_length (head.shingle_size - back) inputs.now))) past_out.old }
-    ensures expected_out_after { expected_out.new ≡ cond (lt zero32 grade && expects) (over expected_out.old (inverted (transformer (settings_of head) 0 s.now) (block_from head.transformer.input_length (head.shingle_size - 1 - back) expected.now) (block_from head.transformer.input_length (head.shingle_size - 1 - back) inputs.now))) expected_out.old }
+    requires findable { (lt zero32 grade && is_some expected) ≡ true → Findable (settings_of head) (length (list_in expected)) back (length past_out.old) (length expected_out.old) }
+    ensures value { result ≡ cond (lt zero32 grade && is_some expected.entry) (Some (record { past_timestamp = get_or times.now (head.shingle_size - 1 - back) 0; likelihood = one32 })) None }
+    ensures past_out_after { past_out.new ≡ cond (lt zero32 grade && is_some expected.entry) (over past_out.old (cond (eqb back 0) input.now (block_from head.transformer.input_length (head.shingle_size - back) inputs.now))) past_out.old }
+    ensures expected_out_after { expected_out.new ≡ cond (lt zero32 grade && is_some expected.entry) (over expected_out.old (inverted (transformer (settings_of head) 0 s.now) (block_from head.transformer.input_length (head.shingle_size - 1 - back) (list_in expected.entry)) (block_from head.transformer.input_length (head.shingle_size - 1 - back) inputs.now))) expected_out.old }
 {
-    if !is_anomaly(grade, expects) {
-        return Found {
-            given: false,
-            past_timestamp: 0,
-        };
+    let point = expected?;
+    if grade > 0.0 {
+        let past_timestamp = write_anomaly(
+            head,
+            s,
+            inputs,
+            times,
+            input,
+            point,
+            back,
+            past_out,
+            expected_out,
+        );
+        Some(Anomaly {
+            past_timestamp,
+            likelihood: 1.0,
+        })
+    } else {
+        None
     }
-    let time = write_anomaly(
-        head,
-        s,
-        inputs,
-        times,
-        input,
-        expected,
-        back,
-        past_out,
-        expected_out,
-    );
-    Found {
-        given: true,
-        past_timestamp: time,
-    }
-}
-
-fn is_anomaly(grade: f32, expects: bool) -> bool
-    ensures { result ≡ (lt zero32 grade && expects) }
-{
-    if grade > 0.0 { expects } else { false }
 }

@@ -1,15 +1,17 @@
 // A reading is learnt: it waits, or it comes into the statistics and the shingles (the source's post_process).
-ghost use Rattle.std.specs.Prelude.{◌≡◌, true, false, cond, ◌&&◌, [], ◌∷◌, ◌++◌, suc, ◌*◌, ◌≤◌, ◌<◌, ltb, eqb, length, take};
+ghost use Rattle.std.specs.Prelude.{◌≡◌, true, false, cond, ◌&&◌, [], ◌∷◌, ◌++◌, suc, ◌*◌, ◌≤◌, ◌<◌, ltb, eqb, length, take, is_some, None};
 ghost use Rattle.std.specs.Float.Ieee.{lt};
 ghost use Rattle.common.specs.Deviation.{count_limit};
 ghost use Rattle.refusal.specs.Lent.{over};
-ghost use Rattle.trcf.specs.Transformer.{zero32, one32};
+ghost use Rattle.trcf.specs.Transformer.{zero32};
 ghost use Rattle.trcf.specs.Settings.{block, dimension};
 ghost use Rattle.trcf.specs.Preprocessor.{statistics_length, deviations};
-ghost use Rattle.trcf.specs.View.{lent, settings_of, holding, counting, learn_call, learn_outcome, learn_after, Bounded};
-ghost use Rattle.trcf.specs.Steps.Learning.{learn_parts, learned_parts, answering, answering_row, Learnable};
+ghost use Rattle.trcf.specs.View.{lent, settings_of, holding, counting, learn_call, processed_outcome, learn_after, Bounded};
+ghost use Rattle.trcf.specs.Steps.Learning.{learn_parts, learned_parts, answering, Learnable};
+ghost use Rattle.trcf_learn.specs.Given.{list_in};
 
 use crate::learn::{hold, update_shingles, write_completing, write_found};
+use refusal::Refusal;
 use trcf::head::{PostProcessed, Preprocessor, with_counts};
 use trcf::output::write_deviations;
 use trcf_rows::learn_rows::{places_back, post_process_row};
@@ -33,25 +35,22 @@ fn post_process_waiting(
     requires input_length_in_bounds { head.start_normalization * head.transformer.input_length ≤ length initial_values.old }
     requires start_normalization_in_bounds { head.start_normalization ≤ length initial_timestamps.old }
     requires head_in_bounds_2 { eqb (suc head.values_seen) head.start_normalization ≡ true → block (settings_of head) ≤ length deviations_out.old }
-    ensures value { result ≡ answering (counting head head.transformer.count (suc head.values_seen) head.internal_timestamp (suc head.initial_len)) (eqb (suc head.values_seen) head.start_normalization) false 0 zero32 }
+    ensures value { result ≡ answering (counting head head.transformer.count (suc head.values_seen) head.internal_timestamp (suc head.initial_len)) (eqb (suc head.values_seen) head.start_normalization) None }
     ensures initial_values_after { initial_values.new ≡ over initial_values.old (take (head.initial_len * head.transformer.input_length) initial_values.old ++ input.now) }
     ensures initial_timestamps_after { initial_timestamps.new ≡ over initial_timestamps.old (take head.initial_len initial_timestamps.old ++ (timestamp ∷ [])) }
     ensures deviations_out_after { deviations_out.new ≡ cond (eqb (suc head.values_seen) head.start_normalization) (over deviations_out.old (deviations (holding head (take (statistics_length (settings_of head)) statistics.now) [] []))) deviations_out.old }
 {
-    let t = head.transformer;
-    let d = t.input_length;
-    let seen = head.values_seen;
-    let n = head.initial_len;
+    let d = head.transformer.input_length;
     hold(head, initial_values, initial_timestamps, input, timestamp);
     let written = write_completing(head, &statistics[..3 * (5 * d + 5)], deviations_out);
-    let next = with_counts(head, t.count, seen + 1, head.internal_timestamp, n + 1);
     PostProcessed {
-        row: 0,
-        head: next,
-        written: written,
-        has_anomaly: false,
-        past_timestamp: 0,
-        likelihood: 0.0,
+        head: Preprocessor {
+            values_seen: head.values_seen + 1,
+            initial_len: head.initial_len + 1,
+            ..head
+        },
+        written,
+        anomaly: None,
     }
 }
 
@@ -60,17 +59,12 @@ fn next_count(head: Preprocessor) -> u64
     requires { head.values_seen < head.stop_normalization → head.transformer.count < count_limit }
     ensures { result ≡ cond (ltb head.values_seen head.stop_normalization) (suc head.transformer.count) head.transformer.count }
 {
-    let t = head.transformer;
-    let count = t.count;
-    let seen = head.values_seen;
-    let stop = head.stop_normalization;
-    if seen < stop { count + 1 } else { count }
-}
-
-fn likelihood_of(given: bool) -> f32
-    ensures { result ≡ cond given one32 zero32 }
-{
-    if given { 1.0 } else { 0.0 }
+    let count = head.transformer.count;
+    if head.values_seen < head.stop_normalization {
+        count + 1
+    } else {
+        count
+    }
 }
 
 // The anomaly from before the update, the update, and the deviations after it.
@@ -83,8 +77,7 @@ fn post_process_learning(
     input: &[f32],
     timestamp: u64,
     y: &[f32],
-    expected: &[f32],
-    expects: bool,
+    expected: Option<&[f32]>,
     grade: f32,
     back: usize,
     deviations_out: &mut [f32],
@@ -97,29 +90,24 @@ fn post_process_learning(
     requires head_in_bounds_2 { dimension (settings_of head) ≤ length last_shingled_point.old }
     requires shingle_size_in_bounds_2 { head.shingle_size ≤ length previous_timestamps.old }
     requires input_len { length input.now ≡ head.transformer.input_length }
-    requires learnable { Learnable head (length y.now) (length expected.now) expects grade back (length deviations_out.old) (length past_out.old) (length expected_out.old) }
-    ensures { learn_parts result.row result.written result.has_anomaly result.past_timestamp result.likelihood result.head statistics.new last_shingled_input.new last_shingled_point.new previous_timestamps.new deviations_out.new past_out.new expected_out.new
-        ≡ learned_parts head statistics.old last_shingled_input.old last_shingled_point.old previous_timestamps.old input.now timestamp y.now expected.now (lt zero32 grade && expects) back deviations_out.old past_out.old expected_out.old }
+    requires learnable { Learnable head (length y.now) (length (list_in expected)) (is_some expected) grade back (length deviations_out.old) (length past_out.old) (length expected_out.old) }
+    ensures { learn_parts result statistics.new last_shingled_input.new last_shingled_point.new previous_timestamps.new deviations_out.new past_out.new expected_out.new
+        ≡ learned_parts head statistics.old last_shingled_input.old last_shingled_point.old previous_timestamps.old input.now timestamp y.now (list_in expected.entry) (lt zero32 grade && is_some expected.entry) back deviations_out.old past_out.old expected_out.old }
 {
-    let t = head.transformer;
-    let d = t.input_length;
+    let d = head.transformer.input_length;
     let k = head.shingle_size;
-    let seen = head.values_seen;
-    let internal = head.internal_timestamp;
-    let found = write_found(
+    let anomaly = write_found(
         head,
         &statistics[..3 * (5 * d + 5)],
         &last_shingled_input[..d * k],
         &previous_timestamps[..k],
         input,
         expected,
-        expects,
         grade,
         back,
         past_out,
         expected_out,
     );
-    let given = found.given;
     update_shingles(
         head,
         statistics,
@@ -132,15 +120,24 @@ fn post_process_learning(
     );
     write_deviations(head, &statistics[..3 * (5 * d + 5)], deviations_out);
     let count = next_count(head);
-    let next = with_counts(head, count, seen + 1, internal + 1, head.initial_len);
     PostProcessed {
-        row: 0,
-        head: next,
+        head: with_counts(
+            head,
+            count,
+            head.values_seen + 1,
+            head.internal_timestamp + 1,
+            head.initial_len,
+        ),
         written: true,
-        has_anomaly: given,
-        past_timestamp: found.past_timestamp,
-        likelihood: likelihood_of(given),
+        anomaly,
     }
+}
+
+// What is given, and the empty list where nothing is.
+fn given(list: Option<&[f32]>) -> &[f32]
+    ensures { result.now ≡ list_in list.entry }
+{
+    list.unwrap_or(&[])
 }
 
 pub fn post_process(
@@ -153,20 +150,18 @@ pub fn post_process(
     initial_timestamps: &mut [u64],
     input: &[f32],
     timestamp: u64,
-    y: &[f32],
-    has_y: bool,
-    expected: &[f32],
-    expects: bool,
+    y: Option<&[f32]>,
+    expected: Option<&[f32]>,
     grade: f32,
     relative_index: i32,
     deviations_out: &mut [f32],
     past_out: &mut [f32],
     expected_out: &mut [f32],
-) -> PostProcessed
-    ensures { learn_outcome result.row result.written result.has_anomaly result.past_timestamp result.likelihood result.head (lent statistics.new last_shingled_input.new last_shingled_point.new previous_timestamps.new initial_values.new initial_timestamps.new) deviations_out.new past_out.new expected_out.new
-        ≡ learn_after head (lent statistics.old last_shingled_input.old last_shingled_point.old previous_timestamps.old initial_values.old initial_timestamps.old) (learn_call input.now timestamp has_y y.now expects expected.now grade relative_index deviations_out.old past_out.old expected_out.old) }
+) -> Result<PostProcessed, Refusal>
+    ensures { processed_outcome result head (lent statistics.new last_shingled_input.new last_shingled_point.new previous_timestamps.new initial_values.new initial_timestamps.new) deviations_out.new past_out.new expected_out.new
+        ≡ learn_after head (lent statistics.old last_shingled_input.old last_shingled_point.old previous_timestamps.old initial_values.old initial_timestamps.old) (learn_call input.now timestamp (is_some y.entry) (list_in y.entry) (is_some expected.entry) (list_in expected.entry) grade relative_index deviations_out.old past_out.old expected_out.old) }
 {
-    let row = post_process_row(
+    post_process_row(
         head,
         statistics,
         last_shingled_input,
@@ -176,21 +171,18 @@ pub fn post_process(
         initial_timestamps,
         input,
         timestamp,
-        y,
-        has_y,
-        expected,
-        expects,
+        given(y),
+        y.is_some(),
+        given(expected),
+        expected.is_some(),
         grade,
         relative_index,
         deviations_out,
         past_out,
         expected_out,
-    );
-    if row != 0 {
-        return unlearned(row, head);
-    }
+    )?;
     if is_waiting(head) {
-        return post_process_waiting(
+        return Ok(post_process_waiting(
             head,
             statistics,
             initial_values,
@@ -198,13 +190,17 @@ pub fn post_process(
             input,
             timestamp,
             deviations_out,
-        );
+        ));
     }
-    if !has_y {
-        return unlearned(0, head);
-    }
+    let Some(point) = y else {
+        return Ok(PostProcessed {
+            head,
+            written: false,
+            anomaly: None,
+        });
+    };
     let back = places_back(relative_index);
-    post_process_learning(
+    Ok(post_process_learning(
         head,
         statistics,
         last_shingled_input,
@@ -212,27 +208,12 @@ pub fn post_process(
         previous_timestamps,
         input,
         timestamp,
-        y,
+        point,
         expected,
-        expects,
         grade,
         back,
         deviations_out,
         past_out,
         expected_out,
-    )
-}
-
-// The answer of a call that learnt nothing.
-fn unlearned(row: u64, same: Preprocessor) -> PostProcessed
-    ensures { result ≡ answering_row row same false false 0 zero32 }
-{
-    PostProcessed {
-        row: row,
-        head: same,
-        written: false,
-        has_anomaly: false,
-        past_timestamp: 0,
-        likelihood: 0.0,
-    }
+    ))
 }

@@ -1,27 +1,22 @@
 // Draining: the initial values are fed to the statistics and then come into the shingles. The workers' lists are of just the length in use.
-ghost use Rattle.std.specs.Prelude.{◌≡◌, false, ◌&&◌, [], ◌∷◌, ◌+◌, ◌-◌, ◌*◌, ◌≤◌, ◌<◌, length, get_or, drop};
+ghost use Rattle.std.specs.Prelude.{◌≡◌, false, ◌&&◌, [], ◌∷◌, ◌+◌, ◌-◌, ◌*◌, ◌≤◌, ◌<◌, length, get_or};
 ghost use Rattle.common.specs.Deviation.{count_limit};
 ghost use Rattle.trcf.specs.Lists.{shift_in};
 ghost use Rattle.trcf.specs.Settings.{dimension};
 ghost use Rattle.trcf.specs.Calls.{due, drain_full};
 ghost use Rattle.trcf.specs.Preprocessor.{statistics_length, feed, feed_all, blocks, previous, transformed_after, drain_each, drain_all, drained, facts};
-ghost use Rattle.trcf.specs.View.{settings_of, holding, view, counted, written_over, lent, outcome, Bounded, Ready, drain_of};
+ghost use Rattle.trcf.specs.View.{settings_of, holding, view, counted, written_over, lent, outcome, head_outcome, Bounded, Ready, drain_of};
 ghost use Rattle.trcf.specs.Steps.Learning.{shingling, reading_at, Exact};
 
+use refusal::Refusal;
 use trcf::feeding::feed_reading;
-use trcf::head::{Changed, Preprocessor, block_of, get_dimension, with_counts};
+use trcf::head::{Preprocessor, block_of, get_dimension, with_counts};
 use trcf::output::write_transform;
-use trcf::shingle::{copy_in, shift_time, shift_vector};
+use trcf::shingle::{copy_in, shift_in};
 use trcf::time::last_time;
 use trcf_rows::rows::{drain_row, is_due};
 
-// The place of the reading before the one at i; the first stands before itself.
-fn place_before(i: usize) -> usize
-    ensures { result ≡ i - 1 }
-{
-    if i == 0 { 0 } else { i - 1 }
-}
-
+// The reading at i is fed after the one before it; the first stands before itself.
 fn feed_turn(head: Preprocessor, s: &mut [f64], values: &[f32], stamps: &[u64], i: usize)
     requires bounded { Bounded (settings_of head) }
     requires s_len { length s.old ≡ statistics_length (settings_of head) }
@@ -30,13 +25,11 @@ fn feed_turn(head: Preprocessor, s: &mut [f64], values: &[f32], stamps: &[u64], 
     requires i_in_bounds { i < length stamps.now }
     ensures { s.new ≡ feed (settings_of head) (head.transformer.count + i) s.old (reading_at head.transformer.input_length values.now stamps.now (i - 1)) (reading_at head.transformer.input_length values.now stamps.now i) }
 {
-    let t = head.transformer;
-    let d = t.input_length;
-    let count = t.count;
-    let p = place_before(i);
+    let d = head.transformer.input_length;
+    let p = i.saturating_sub(1);
     feed_reading(
         head,
-        count + i as u64,
+        head.transformer.count + i as u64,
         s,
         &values[p * d..p * d + d],
         stamps[p],
@@ -45,18 +38,16 @@ fn feed_turn(head: Preprocessor, s: &mut [f64], values: &[f32], stamps: &[u64], 
     );
 }
 
-// The first pass, from a place on: each is fed after the one before it.
-fn feed_initial(head: Preprocessor, s: &mut [f64], values: &[f32], stamps: &[u64], from: usize)
+// The first pass: each is fed after the one before it.
+fn feed_initial(head: Preprocessor, s: &mut [f64], values: &[f32], stamps: &[u64])
     requires bounded { Bounded (settings_of head) }
     requires s_len { length s.old ≡ statistics_length (settings_of head) }
     requires stamps_bound { head.transformer.count + length stamps.now ≤ count_limit }
     requires input_length_in_bounds { length stamps.now * head.transformer.input_length ≤ length values.now }
-    ensures { s.new ≡ feed_all (settings_of head) (head.transformer.count + from) s.old (reading_at head.transformer.input_length values.now stamps.now (from - 1)) (blocks head.transformer.input_length (drop (from * head.transformer.input_length) values.now) (drop from stamps.now)) }
+    ensures { s.new ≡ feed_all (settings_of head) head.transformer.count s.old (reading_at head.transformer.input_length values.now stamps.now 0) (blocks head.transformer.input_length values.now stamps.now) }
 {
-    let mut fed = from;
-    while fed < stamps.len() {
-        feed_turn(head, s, values, stamps, fed);
-        fed += 1;
+    for i in 0..stamps.len() {
+        feed_turn(head, s, values, stamps, i);
     }
 }
 
@@ -80,12 +71,10 @@ fn drain_turn(
     ensures points_after { points.new ≡ shift_in points.old (transformed_after (settings_of head) s.now head.values_seen (previous (holding head s.now inputs.old times.old)) (reading_at head.transformer.input_length values.now stamps.now i)) }
     ensures times_after { times.new ≡ shift_in times.old (get_or stamps.now i 0 ∷ []) }
 {
-    let t = head.transformer;
-    let mode = head.forest_mode;
-    let d = t.input_length;
-    let b = block_of(mode, d);
+    let d = head.transformer.input_length;
+    let b = block_of(head.forest_mode, d);
     let y = stamps[i];
-    let mut z = [0.0f32; 17];
+    let mut z = [0.0; 17];
     let before = last_time(times);
     write_transform(
         head,
@@ -96,12 +85,12 @@ fn drain_turn(
         y,
         &mut z,
     );
-    shift_vector(inputs, &values[i * d..i * d + d]);
-    shift_vector(points, &z[..b]);
-    shift_time(times, y);
+    shift_in(inputs, &values[i * d..i * d + d]);
+    shift_in(points, &z[..b]);
+    shift_in(times, &[y]);
 }
 
-// Both passes; the second begins when all of them are fed.
+// Both passes: all of them are fed before any comes into the shingles.
 fn drain_each(
     head: Preprocessor,
     s: &mut [f64],
@@ -120,16 +109,9 @@ fn drain_each(
     ensures { shingling head (head.transformer.count + length stamps.now) s.new inputs.new points.new times.new (head.internal_timestamp + length stamps.now)
         ≡ drain_each (shingling head (head.transformer.count + length stamps.now) (feed_all (settings_of head) head.transformer.count s.old (reading_at head.transformer.input_length values.now stamps.now 0) (blocks head.transformer.input_length values.now stamps.now)) inputs.old points.old times.old head.internal_timestamp) (blocks head.transformer.input_length values.now stamps.now) }
 {
-    let n = stamps.len();
-    let mut fed = 0;
-    let mut i = 0;
-    while i < n {
-        let next = i + 1;
-        // The first turn feeds all of them, before any comes into the shingles; the later ones find none left.
-        feed_initial(head, s, values, &stamps[..n], fed);
-        fed = n;
+    feed_initial(head, s, values, stamps);
+    for i in 0..stamps.len() {
         drain_turn(head, s, inputs, points, times, values, stamps, i);
-        i = next;
     }
 }
 
@@ -152,8 +134,7 @@ pub(crate) fn drain_all(
     ensures { shingling head (head.transformer.count + length stamps.now) s.new inputs.new points.new times.new (head.internal_timestamp + length stamps.now)
         ≡ drain_all (shingling head head.transformer.count s.old inputs.old points.old times.old head.internal_timestamp) (blocks head.transformer.input_length values.now stamps.now) }
 {
-    let t = head.transformer;
-    let d = t.input_length;
+    let d = head.transformer.input_length;
     let n = inputs.len();
     let k = times.len();
     copy_in(inputs, n - d, &values[..d]);
@@ -179,8 +160,7 @@ pub(crate) fn drain_due(
     if !is_due(head, initial_timestamps) {
         return head;
     }
-    let t = head.transformer;
-    let d = t.input_length;
+    let d = head.transformer.input_length;
     let k = head.shingle_size;
     let n = head.initial_len;
     let m = get_dimension(head);
@@ -195,7 +175,7 @@ pub(crate) fn drain_due(
     );
     with_counts(
         head,
-        t.count + n as u64,
+        head.transformer.count + n as u64,
         head.values_seen,
         head.internal_timestamp + n,
         0,
@@ -210,10 +190,10 @@ pub fn drain(
     previous_timestamps: &mut [u64],
     initial_values: &[f32],
     initial_timestamps: &[u64],
-) -> Changed
-    ensures { outcome result.row result.head (lent statistics.new last_shingled_input.new last_shingled_point.new previous_timestamps.new initial_values.now initial_timestamps.now) ≡ drain_of head (lent statistics.old last_shingled_input.old last_shingled_point.old previous_timestamps.old initial_values.now initial_timestamps.now) }
+) -> Result<Preprocessor, Refusal>
+    ensures { head_outcome result head (lent statistics.new last_shingled_input.new last_shingled_point.new previous_timestamps.new initial_values.now initial_timestamps.now) ≡ drain_of head (lent statistics.old last_shingled_input.old last_shingled_point.old previous_timestamps.old initial_values.now initial_timestamps.now) }
 {
-    let row = drain_row(
+    drain_row(
         head,
         statistics,
         last_shingled_input,
@@ -221,14 +201,8 @@ pub fn drain(
         previous_timestamps,
         initial_values,
         initial_timestamps,
-    );
-    if row != 0 {
-        return Changed {
-            row: row,
-            head: head,
-        };
-    }
-    let next = drain_due(
+    )?;
+    Ok(drain_due(
         head,
         statistics,
         last_shingled_input,
@@ -236,6 +210,5 @@ pub fn drain(
         previous_timestamps,
         initial_values,
         initial_timestamps,
-    );
-    Changed { row: 0, head: next }
+    ))
 }

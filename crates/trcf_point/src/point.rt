@@ -4,9 +4,10 @@ ghost use Rattle.refusal.specs.Lent.{over};
 ghost use Rattle.trcf.specs.Settings.{dimension};
 ghost use Rattle.trcf.specs.Lists.{last_n, shift_in};
 ghost use Rattle.trcf.specs.Preprocessor.{statistics_length, reading, transformed_after};
-ghost use Rattle.trcf.specs.View.{settings_of, lent, Bounded, pointed, point_after};
+ghost use Rattle.trcf.specs.View.{settings_of, lent, Bounded, point_outcome, point_after};
 
 use crate::drain::drain_due;
+use refusal::Refusal;
 use trcf::head::{Pointed, Preprocessor, block_of, get_dimension};
 use trcf::output::write_transform;
 use trcf::shingle::copy_in;
@@ -19,9 +20,8 @@ fn copy_shifted(output: &mut [f32], point: &[f32], z: &[f32])
     ensures { output.new ≡ over output.old (shift_in point.now z.now) }
 {
     let b = z.len();
-    let m = point.len();
-    copy_in(output, 0, &point[b..m]);
-    copy_in(output, m - b, z);
+    copy_in(output, 0, &point[b..]);
+    copy_in(output, point.len() - b, z);
 }
 
 // The point with the transformed reading after it, its time counted from `base`.
@@ -46,13 +46,11 @@ pub(crate) fn write_point(
         (reading (last_n head.transformer.input_length (take (head.transformer.input_length * head.shingle_size) last_shingled_input.now)) base)
         (reading input.now timestamp))) }
 {
-    let t = head.transformer;
-    let mode = head.forest_mode;
-    let d = t.input_length;
+    let d = head.transformer.input_length;
     let k = head.shingle_size;
-    let b = block_of(mode, d);
+    let b = block_of(head.forest_mode, d);
     let m = get_dimension(head);
-    let mut z = [0.0f32; 17];
+    let mut z = [0.0; 17];
     write_transform(
         head,
         &statistics[..3 * (5 * d + 5)],
@@ -76,10 +74,10 @@ pub fn shingled_point(
     input: &[f32],
     timestamp: u64,
     output: &mut [f32],
-) -> Pointed
-    ensures { pointed result.row result.given result.head (lent statistics.new last_shingled_input.new last_shingled_point.new previous_timestamps.new initial_values.now initial_timestamps.now) output.new ≡ point_after head (lent statistics.old last_shingled_input.old last_shingled_point.old previous_timestamps.old initial_values.now initial_timestamps.now) input.now timestamp output.old }
+) -> Result<Pointed, Refusal>
+    ensures { point_outcome result head (lent statistics.new last_shingled_input.new last_shingled_point.new previous_timestamps.new initial_values.now initial_timestamps.now) output.new ≡ point_after head (lent statistics.old last_shingled_input.old last_shingled_point.old previous_timestamps.old initial_values.now initial_timestamps.now) input.now timestamp output.old }
 {
-    let row = shingled_point_row(
+    shingled_point_row(
         head,
         statistics,
         last_shingled_input,
@@ -90,20 +88,9 @@ pub fn shingled_point(
         input,
         timestamp,
         output,
-    );
-    if row != 0 {
-        return Pointed {
-            row: row,
-            given: false,
-            head: head,
-        };
-    }
+    )?;
     if is_waiting(head) {
-        return Pointed {
-            row: 0,
-            given: false,
-            head: head,
-        };
+        return Ok(Pointed { given: false, head });
     }
     // what waits is fed, and never the reading that a point is asked for
     let fed = initial_values;
@@ -127,9 +114,8 @@ pub fn shingled_point(
         timestamp,
         output,
     );
-    Pointed {
-        row: 0,
+    Ok(Pointed {
         given: true,
         head: next,
-    }
+    })
 }

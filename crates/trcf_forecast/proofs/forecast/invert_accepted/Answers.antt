@@ -21,9 +21,6 @@ overflow_mul-m-2 c = omega arith
 pub overflow_mul-n : goal.overflow_mul-n
 overflow_mul-n c = omega arith
 
-pub is_augmented-requires : goal.is_augmented-requires
-is_augmented-requires c = tt
-
 pub slice_bounds-invert_augmented-end : goal.slice_bounds-invert_augmented-end
 slice_bounds-invert_augmented-end c =
     sym (length-take-le _ c.args.statistics.now

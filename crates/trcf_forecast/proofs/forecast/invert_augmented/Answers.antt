@@ -13,9 +13,6 @@ use Rattle.trcf.proofs.ExtrapolationLaws.{dimension_pos, numbers_within, numbers
 use borrow.Author.Rules.{rules}
 use Rattle.trcf_forecast.proofs.forecast.invert_augmented.Goals as goal
 
-pub get_dimension-a-requires : goal.get_dimension-a-requires
-get_dimension-a-requires c = tt
-
 pub nonzero_div-h : goal.nonzero_div-h
 nonzero_div-h c =
     let P = c.requires in
@@ -31,9 +28,6 @@ overflow_mul-n c =
     let q = numbers_fit (length A.values.now) c.get_dimension-a.result (length A.inputs.now) (omega (arith, w, P.inputs_len, (dimension_known c.get_dimension-a.ensures (search rules)).0)) in
     let g : length A.values.now < 18446744073709551616 = omega arith in
     omega arith
-
-pub last_time-last-requires : goal.last_time-last-requires
-last_time-last-requires c = tt
 
 pub slice_bounds-invert_numbers-end : goal.slice_bounds-invert_numbers-end
 slice_bounds-invert_numbers-end c =

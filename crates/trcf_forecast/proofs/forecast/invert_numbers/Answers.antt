@@ -13,9 +13,6 @@ use Rattle.trcf.proofs.ExtrapolationLaws.{numbers_within, blocks_whole, and_fals
 use borrow.Author.Rules.{rules}
 use Rattle.trcf_forecast.proofs.forecast.invert_numbers.Goals as goal
 
-pub get_dimension-a-requires : goal.get_dimension-a-requires
-get_dimension-a-requires c = tt
-
 pub copy_fronts-requires : goal.copy_fronts-requires
 copy_fronts-requires c =
     let P = c.requires in

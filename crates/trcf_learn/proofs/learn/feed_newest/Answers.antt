@@ -11,43 +11,16 @@ use Rattle.trcf.specs.View.{settings_of}
 use Rattle.trcf.proofs.OutputLaws.{newest_part}
 use Rattle.trcf_learn.proofs.learn.feed_newest.Goals as goal
 
-pub last_time-p-requires : goal.last_time-p-requires
-last_time-p-requires c = tt
-
-pub overflow_sub-n : goal.overflow_sub-n
-overflow_sub-n c =
-    let a = c.args in
-    let h = a.head in
-    let q = c.requires in
-    let d = h.transformer.input_length in
-    let m = le-mul_of_pos_right d q.bounded.k_pos in
-    omega (arith, q.exact)
-
-pub offset_bounds-inputs-n : goal.offset_bounds-inputs-n
-offset_bounds-inputs-n c = omega arith
-
-pub slice_bounds-feed_reading-count : goal.slice_bounds-feed_reading-count
-slice_bounds-feed_reading-count c = omega arith
-
-pub slice_bounds-feed_reading-start : goal.slice_bounds-feed_reading-start
-slice_bounds-feed_reading-start c = omega arith
-
-pub slice_bounds-feed_reading-end : goal.slice_bounds-feed_reading-end
-slice_bounds-feed_reading-end c = omega arith
-
-pub feed_reading-requires : goal.feed_reading-requires
-feed_reading-requires c = tt
-
-pub returns-then-seen-stop : goal.returns-then-seen-stop
+pub returns-then-head : goal.returns-then-head
 unfolding previous
-returns-then-seen-stop c =
+returns-then-head c =
     let a = c.args in
     let h = a.head in
     let q = c.requires in
     let d = h.transformer.input_length in
     let m = le-mul_of_pos_right d q.bounded.k_pos in
     let k : d ≤ length a.inputs.now = omega (arith, q.exact) in
-    rw (lt-ltb _ _ c.if-seen-stop.true)
+    rw (lt-ltb _ _ c.if-head.true)
     ((opened _ c.feed_reading.ensures
     (feed_fits_lem (let a = c.args in let h = a.head in let q = c.requires in let d = h.transformer.input_length in let m =
     le-mul_of_pos_right d q.bounded.k_pos in (
@@ -55,7 +28,7 @@ returns-then-seen-stop c =
       (
         q.exact.all_statistics,
         (
-          q.count_lt_count_limit c.if-seen-stop.true,
+          q.count_lt_count_limit c.if-head.true,
           (simp (length-drop, length-take) (omega (arith, q.exact)), q.input_len),
         ),
       ),
@@ -63,6 +36,6 @@ returns-then-seen-stop c =
     (λ j. feed (settings_of h) h.transformer.count a.s.now (reading (newest_part a.inputs.now d k j) (c.last_time-p.ensures j))
     (reading a.input.now a.timestamp)))
 
-pub returns-else-seen-stop : goal.returns-else-seen-stop
+pub returns-else-head : goal.returns-else-head
 unfolding previous
-returns-else-seen-stop c = rw (le-ltb _ _ c.if-seen-stop.false)
+returns-else-head c = rw (le-ltb _ _ c.if-head.false)

@@ -18,9 +18,6 @@ overflow_mul-n c =
     let m = mul-le-mul (le_refl h.start_normalization) q.bounded.d_few in
     omega (arith, q.bounded)
 
-pub copy_in-requires : goal.copy_in-requires
-copy_in-requires c = tt
-
 pub offset_bounds-initial_timestamps-n : goal.offset_bounds-initial_timestamps-n
 offset_bounds-initial_timestamps-n c = omega arith
 

@@ -51,30 +51,21 @@ pub overflow_mul-d-4 : goal.overflow_mul-d-4
 overflow_mul-d-4 c =
     let b = c.requires.bounded in all_inputs b.d_few b.k_few
 
-pub slice_bounds-shift_vector-end-2 : goal.slice_bounds-shift_vector-end-2
-slice_bounds-shift_vector-end-2 c =
+pub slice_bounds-shift_in-end-2 : goal.slice_bounds-shift_in-end-2
+slice_bounds-shift_in-end-2 c =
     let a = c.args in
     let h = a.head in
     let q = c.requires in
     let d = h.transformer.input_length in
     simp length-take (omega (arith, q))
 
-pub shift_vector-requires : goal.shift_vector-requires
-shift_vector-requires c = tt
-
-pub copy_in-requires : goal.copy_in-requires
-copy_in-requires c = tt
-
-pub slice_bounds-shift_time-end-2 : goal.slice_bounds-shift_time-end-2
-slice_bounds-shift_time-end-2 c =
+pub slice_bounds-shift_in-end-4 : goal.slice_bounds-shift_in-end-4
+slice_bounds-shift_in-end-4 c =
     let a = c.args in
     let h = a.head in
     let q = c.requires in
     let d = h.transformer.input_length in
     simp length-take (omega (arith, q))
-
-pub shift_time-requires : goal.shift_time-requires
-shift_time-requires c = tt
 
 pub returns : goal.returns
 returns c =
@@ -84,13 +75,13 @@ returns c =
     let d = h.transformer.input_length in record {
       statistics_after = over_part a.statistics.now _ _ (c.feed_newest.auto.s ∙ length-take-le _ _ q.head_in_bounds) ∙ ap (over a.statistics.now)
           c.feed_newest.ensures;
-      last_shingled_input_after = over_part a.last_shingled_input.now _ _ (c.shift_vector.auto.s ∙ length-take-le _ _ q.shingle_size_in_bounds) ∙ ap (over a.last_shingled_input.now)
-          ((roomy _ c.shift_vector.ensures
+      last_shingled_input_after = over_part a.last_shingled_input.now _ _ (c.shift_in.auto.s ∙ length-take-le _ _ q.shingle_size_in_bounds) ∙ ap (over a.last_shingled_input.now)
+          ((roomy _ c.shift_in.ensures
           (let a = c.args in let h = a.head in let q = c.requires in let d = h.transformer.input_length in let m = le-mul_of_pos_right d q.bounded.k_pos in simp length-take
           (omega (arith, q)))));
       last_shingled_point_after = (roomy _ c.copy_in.ensures (search rules)) ∙ paste_over _ _;
       previous_timestamps_after = over_part a.previous_timestamps.now _ _
-          (c.shift_time.auto.s ∙ length-take-le _ _ q.shingle_size_in_bounds_2) ∙ ap (over a.previous_timestamps.now)
-          ((roomy _ c.shift_time.ensures
+          (c.shift_in-2.auto.s ∙ length-take-le _ _ q.shingle_size_in_bounds_2) ∙ ap (over a.previous_timestamps.now)
+          ((roomy _ c.shift_in-2.ensures
           (let a = c.args in let h = a.head in let q = c.requires in let d = h.transformer.input_length in simp length-take (omega (arith, q, q.bounded)))));
     }

@@ -136,9 +136,6 @@ slice_bounds-invert_into-end-2 c =
     block_end (a.head.shingle_size - 1 - a.back) k d m (place_back h.shingle_size a.back c.requires.back_bound)
     (flat_turned k d m c.requires.exact.all_input) c.well_formed.1.1.0.1
 
-pub invert_into-requires : goal.invert_into-requires
-invert_into-requires c = tt
-
 pub offset_bounds-times-b : goal.offset_bounds-times-b
 offset_bounds-times-b c =
     let a = c.args in

@@ -13,9 +13,6 @@ use Rattle.trcf.proofs.ShingleLaws.{paste_over}
 use borrow.Author.Rules.{rules}
 use Rattle.trcf_learn.proofs.learn.write_past.Goals as goal
 
-pub copy_in-requires : goal.copy_in-requires
-copy_in-requires c = tt
-
 pub overflow_sub-at : goal.overflow_sub-at
 overflow_sub-at c = omega arith
 
@@ -79,9 +76,6 @@ slice_bounds-copy_in-end c =
     block_end (a.head.shingle_size - a.back) k d m
     (back_inside h.shingle_size a.back c.if-back-eq0.false c.requires.back_bound)
     (flat_turned k d m c.requires.inputs_len) c.well_formed.1.0.1
-
-pub copy_in-requires-else-back-eq0 : goal.copy_in-requires-else-back-eq0
-copy_in-requires-else-back-eq0 c = tt
 
 pub returns-then-back-eq0 : goal.returns-then-back-eq0
 returns-then-back-eq0 c = rw (eq-eqb _ _ c.if-back-eq0.true) ((roomy _ c.copy_in.ensures (search rules)) ∙ paste_over _ _)

@@ -5,16 +5,15 @@ use native.Mathlib.Omega.{arith}
 use mathlib.Core.Path.{◌≡◌, sym, ap, ◌∙◌}
 use Prim.Native.Nat.{◌-◌, ◌*◌}
 use lib.ListN.{length, length-take, take}
-use mathlib.Core.Bool.{Bool, true, cond}
+use mathlib.Core.Bool.{true}
 use mathlib.Core.List.{List, []}
 use lib.Ieee.{Float}
 use lib.Seq.{length-take-le}
 use native.Mathlib.Numerals.{add-one}
 use Rattle.refusal.specs.Lent.{over}
-use Rattle.trcf.specs.Transformer.{zero32, one32}
 use Rattle.trcf.specs.Preprocessor.{statistics_length, deviations}
 use Rattle.trcf.specs.View.{settings_of, counting, holding}
-use Rattle.trcf.specs.Steps.Learning.{learn_parts, learned_statistics}
+use Rattle.trcf.specs.Steps.Learning.{answering, learn_parts, learned_statistics}
 use Rattle.trcf.proofs.DrainLaws.{front_over}
 use Rattle.trcf.proofs.LearnLaws.{learned_length}
 use Rattle.trcf_learn.proofs.post_process.post_process_learning.Goals as goal
@@ -47,8 +46,8 @@ pub slice_bounds-write_found-end-6 : goal.slice_bounds-write_found-end-6
 slice_bounds-write_found-end-6 c =
     sym (length-take-le _ _ c.requires.shingle_size_in_bounds_2)
 
-pub write_found-found-requires : goal.write_found-found-requires
-write_found-found-requires c =
+pub write_found-anomaly-requires : goal.write_found-anomaly-requires
+write_found-anomaly-requires c =
     let a = c.args in
     let h = a.head in
     let q = c.requires in record { bounded = q.bounded; exact = record { all_statistics = length-take-le _ _ q.head_in_bounds; all_input = length-take-le _ _ q.shingle_size_in_bounds; all_times = length-take-le _ _ q.shingle_size_in_bounds_2 }; input_len = q.input_len; findable = q.learnable.found }
@@ -83,32 +82,9 @@ pub slice_bounds-write_deviations-end-2 : goal.slice_bounds-write_deviations-end
 slice_bounds-write_deviations-end-2 c =
     let a = c.args in let h = a.head in let q = c.requires in simp length-take (omega (arith, c.update_shingles.auto, q.head_in_bounds))
 
-pub write_deviations-requires : goal.write_deviations-requires
-write_deviations-requires c = tt
-
 pub next_count-count-requires : goal.next_count-count-requires
 next_count-count-requires c =
     c.requires.learnable.count_room
-
-pub overflow_add-seen : goal.overflow_add-seen
-overflow_add-seen c =
-    let a = c.args in
-    let h = a.head in
-    let q = c.requires in
-    omega (arith, q.learnable.seen_room)
-
-pub overflow_add-internal : goal.overflow_add-internal
-overflow_add-internal c =
-    let a = c.args in
-    let h = a.head in
-    let q = c.requires in
-    omega (arith, q.learnable.internal_room)
-
-pub with_counts-next-requires : goal.with_counts-next-requires
-with_counts-next-requires c = tt
-
-pub likelihood_of-requires : goal.likelihood_of-requires
-likelihood_of-requires c = tt
 
 pub returns : goal.returns
 returns c =
@@ -120,12 +96,11 @@ returns c =
     let S = learned_statistics h (take n a.statistics.now) (take (h.transformer.input_length * h.shingle_size) a.last_shingled_input.now)
     (take h.shingle_size a.previous_timestamps.now) a.input.now a.timestamp in
     let e : length S ≡ n = learned_length h _ _ _ _ _ ∙ length-take-le n a.statistics.now q.head_in_bounds in
-    let F = c.write_found-found.ensures in
+    let F = c.write_found-anomaly.ensures in
     let U = c.update_shingles.ensures in
-    let W = c.with_counts-next.ensures ∙ (λ j. counting h (c.next_count-count.ensures j) (add-one h.values_seen j) (add-one h.internal_timestamp j) h.initial_len) in
-    let K = c.likelihood_of.ensures ∙ ap (λ (b : Bool). cond b one32 zero32) F.given_value in
+    let W = c.with_counts.ensures ∙ (λ j. counting h (c.next_count-count.ensures j) (add-one h.values_seen j) (add-one h.internal_timestamp j) h.initial_len) in
     let G = (opened _ c.write_deviations.ensures
     (output_fits_lem (let a = c.args in let h = a.head in let q = c.requires in
     (q.bounded, (length-take-le _ _ (omega (arith, c.update_shingles.auto, q.head_in_bounds)), q.learnable.deviations_room)))))
     ∙ ap (λ (u : List Float). over a.deviations_out.now (deviations (holding h u [] []))) (ap (take n) U.statistics_after ∙ front_over a.statistics.now S n e) in
-    λ j. learn_parts 0 true (F.given_value j) (F.past_timestamp_value j) (K j) (W j) (U.statistics_after j) (U.last_shingled_input_after j) (U.last_shingled_point_after j) (U.previous_timestamps_after j) (G j) (F.past_out_after j) (F.expected_out_after j)
+    λ j. learn_parts (answering (W j) true (F.value j)) (U.statistics_after j) (U.last_shingled_input_after j) (U.last_shingled_point_after j) (U.previous_timestamps_after j) (G j) (F.past_out_after j) (F.expected_out_after j)

@@ -3,11 +3,10 @@ use Rattle.trcf.proofs.BoundLaws.{five, five_more, all_statistics}
 use native.Mathlib.Omega.{arith}
 use mathlib.Core.Path.{sym}
 use Prim.Native.Nat.{suc, ◌-◌}
-use mathlib.Core.Bool.{false}
+use Rattle.std.specs.Prelude.{None}
 use lib.Dec.{eqb}
 use lib.Seq.{length-take-le}
 use native.Mathlib.Numerals.{add-one}
-use Rattle.trcf.specs.Transformer.{zero32}
 use Rattle.trcf.specs.View.{counting}
 use Rattle.trcf.specs.Steps.Learning.{answering}
 use Rattle.trcf_learn.proofs.post_process.post_process_waiting.Goals as goal
@@ -35,15 +34,6 @@ write_completing-written-requires c =
     let q = c.requires in
     record { bounded = q.bounded; s_len = length-take-le _ _ q.head_in_bounds; values_seen_bound = q.values_seen_bound; head_in_bounds = q.head_in_bounds_2 }
 
-pub overflow_add-seen : goal.overflow_add-seen
-overflow_add-seen c = omega arith
-
-pub overflow_add-n : goal.overflow_add-n
-overflow_add-n c = omega arith
-
-pub with_counts-next-requires : goal.with_counts-next-requires
-with_counts-next-requires c = tt
-
 pub returns : goal.returns
 returns c =
     let a = c.args in
@@ -51,8 +41,8 @@ returns c =
     let q = c.requires in
     let W = c.write_completing-written.ensures in
     let H = c.hold.ensures in record {
-      value = (rw (c.with_counts-next.ensures, W.value) (λ j. answering (counting h h.transformer.count (add-one h.values_seen j) h.internal_timestamp (add-one h.initial_len j))
-          (eqb (suc h.values_seen) h.start_normalization) false 0 zero32));
+      value = (rw W.value (λ j. answering (counting h h.transformer.count (add-one h.values_seen j) h.internal_timestamp (add-one h.initial_len j))
+          (eqb (suc h.values_seen) h.start_normalization) None));
       initial_values_after = H.initial_values_after;
       initial_timestamps_after = H.initial_timestamps_after;
       deviations_out_after = W.output_after;

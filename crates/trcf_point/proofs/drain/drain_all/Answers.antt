@@ -29,9 +29,6 @@ slice_bounds-copy_in-end c =
     let f = block_in 0 (length a.stamps.now) d (omega (arith, q)) in
     simp length-take (omega (arith, q))
 
-pub copy_in-requires : goal.copy_in-requires
-copy_in-requires c = tt
-
 pub bounds-stamps-0 : goal.bounds-stamps-0
 bounds-stamps-0 c = omega arith
 

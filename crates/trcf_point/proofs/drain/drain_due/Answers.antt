@@ -16,9 +16,6 @@ use Rattle.trcf.proofs.StateLaws.{undrained, undrained_is, count_room, internal_
 use borrow.Author.Rules.{rules}
 use Rattle.trcf_point.proofs.drain.drain_due.Goals as goal
 
-pub is_due-requires : goal.is_due-requires
-is_due-requires c = tt
-
 pub returns-then-not-is_due : goal.returns-then-not-is_due
 unfolding due facts view
 returns-then-not-is_due c =
@@ -29,9 +26,6 @@ returns-then-not-is_due c =
     let r = f.roomy in
     let e : due (settings_of h) (facts (view h l)) ≡ false = sym c.is_due.ensures ∙ not-true _ c.if-not-is_due.true-raw in
     record { initial_timestamps_after = undrained h l f e; initial_timestamps_after_2 = undrained_is h l f e }
-
-pub get_dimension-m-requires : goal.get_dimension-m-requires
-get_dimension-m-requires c = tt
 
 pub overflow_mul-d : goal.overflow_mul-d
 overflow_mul-d c =
@@ -160,9 +154,9 @@ drain_all-requires c =
       stamps_nonzero = due_some h l e;
     }
 
-pub overflow_add-t : goal.overflow_add-t
+pub overflow_add-head : goal.overflow_add-head
 unfolding due facts view
-overflow_add-t c =
+overflow_add-head c =
     let a = c.args in
     let h = a.head in
     let l = lent a.statistics.now a.last_shingled_input.now a.last_shingled_point.now a.previous_timestamps.now a.initial_values.now a.initial_timestamps.now in
@@ -173,9 +167,9 @@ overflow_add-t c =
     let i = internal_room h l c.requires.initial_timestamps_value e in
     omega (arith, f.few)
 
-pub overflow_add-head : goal.overflow_add-head
+pub overflow_add-head-2 : goal.overflow_add-head-2
 unfolding due facts view
-overflow_add-head c =
+overflow_add-head-2 c =
     let a = c.args in
     let h = a.head in
     let l = lent a.statistics.now a.last_shingled_input.now a.last_shingled_point.now a.previous_timestamps.now a.initial_values.now a.initial_timestamps.now in
@@ -186,9 +180,6 @@ overflow_add-head c =
     let u = count_room h l c.requires.initial_timestamps_value e in
     let i = internal_room h l c.requires.initial_timestamps_value e in
     omega (arith, f.few)
-
-pub with_counts-requires : goal.with_counts-requires
-with_counts-requires c = tt
 
 pub returns : goal.returns
 unfolding due facts view

@@ -16,12 +16,6 @@ use Rattle.trcf.proofs.DrainLaws.{block_is, block_fits, front_over, transformed_
 use borrow.Author.Rules.{rules}
 use Rattle.trcf_point.proofs.point.write_point.Goals as goal
 
-pub block_of-b-requires : goal.block_of-b-requires
-block_of-b-requires c = tt
-
-pub get_dimension-m-requires : goal.get_dimension-m-requires
-get_dimension-m-requires c = tt
-
 pub overflow_mul-d : goal.overflow_mul-d
 overflow_mul-d c = five c.requires.bounded.d_few
 
@@ -42,9 +36,6 @@ overflow_mul-d-3 c =
 pub slice_bounds-write_transform-end-2 : goal.slice_bounds-write_transform-end-2
 slice_bounds-write_transform-end-2 c =
     sym (length-take-le _ _ c.requires.shingle_size_in_bounds)
-
-pub write_transform-requires : goal.write_transform-requires
-write_transform-requires c = tt
 
 pub slice_bounds-copy_shifted-end : goal.slice_bounds-copy_shifted-end
 slice_bounds-copy_shifted-end c =
