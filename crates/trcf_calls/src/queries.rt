@@ -143,6 +143,7 @@ pub fn difference_deviations(
 }
 
 // Whether the shingle is full; never of a head that every call refuses.
+#[tactic(auto, unfolding(trcf::specs::View::ready_of, trcf::specs::View::own_row))]
 pub fn is_ready(head: Preprocessor) -> bool
     ensures { result ≡ (getters_of head).ready }
 {
