@@ -36,6 +36,7 @@ pub struct WeightedTransformer {
 }
 
 // Each channel's five statistics are fed its reading and its difference from the one before, by the factors of the decay and of a tenth of it.
+#[tactic(auto, unfolding(crate::specs::Transformer::updated))]
 pub(crate) fn update_channels(
     t: WeightedTransformer,
     s: &mut [f64],
@@ -75,6 +76,7 @@ fn normalized_scale(s: &[f64], d: usize, i: usize) -> f32
 }
 
 // One channel's reading x, after p. The weight is handed over beside the transformer, so that no list of weights is copied for a channel.
+#[tactic(auto, unfolding(crate::specs::Transformer::basic_shift, crate::specs::Transformer::normalized_scale))]
 fn transform_at(t: WeightedTransformer, w: f32, s: &[f64], i: usize, x: f32, p: f32) -> f32
     requires sound { Sound t (length s.now) }
     requires i_bound { i < t.input_length }
@@ -115,6 +117,7 @@ pub(crate) fn transform_into(
 }
 
 // Divided by the weight; by 0 it gives 0.
+#[tactic(auto, unfolding(crate::specs::Transformer::unweighted))]
 fn unweigh(w: f32, x: f32) -> f32
     ensures { result ≡ unweighted w x }
 {
@@ -122,6 +125,7 @@ fn unweigh(w: f32, x: f32) -> f32
 }
 
 // One channel's x, after p, once it was divided by the weight.
+#[tactic(auto, using(crate::proofs::TransformerLaws::weight_at_view), unfolding(crate::specs::Transformer::basic_shift, crate::specs::Transformer::normalized_scale))]
 fn invert_at(t: WeightedTransformer, s: &[f64], i: usize, x: f32, p: f32) -> f32
     requires sound { Sound t (length s.now) }
     requires i_bound { i < t.input_length }
@@ -159,6 +163,7 @@ pub(crate) fn invert_fitting(
     }
 }
 
+#[tactic(auto, using(crate::proofs::TransformerLaws::weight_at_view), unfolding(crate::specs::Transformer::normalized_scale))]
 fn scale_at(t: WeightedTransformer, s: &[f64], i: usize) -> f32
     requires sound { Sound t (length s.now) }
     requires i_bound { i < t.input_length }
@@ -220,6 +225,7 @@ pub(crate) fn difference_deviations_into(t: WeightedTransformer, s: &[f64], outp
 }
 
 // 1 / weight, 0 for weight 0.
+#[tactic(auto, unfolding(crate::specs::Transformer::reciprocal))]
 fn reciprocal_of(w: f32) -> f32
     ensures { result ≡ reciprocal w }
 {
@@ -332,13 +338,7 @@ fn channels_row(d: usize) -> Result<(), Refusal>
 }
 
 #[tactic(auto, using(refusal::proofs::RefusalLaws::is_numbered), unfolding(crate::specs::TransformerCalls::new_row, common::specs::Deviation::deviation_new))]
-fn new_row(
-    m: TransformMethod,
-    d: usize,
-    decay: f64,
-    w: &[f32],
-    s: usize,
-) -> Result<(), Refusal>
+fn new_row(m: TransformMethod, d: usize, decay: f64, w: &[f32], s: usize) -> Result<(), Refusal>
     ensures value { row_of result ≡ new_row m d decay w.now s }
     ensures d_nonzero { OnOk result ((0 < d) × (d ≤ 16) × (length w.now ≡ d) × (15 * d ≤ s)) }
 {
@@ -631,7 +631,11 @@ impl WeightedTransformer {
         Ok(())
     }
 
-    pub fn difference_deviations(self, statistics: &[f64], output: &mut [f32]) -> Result<(), Refusal>
+    pub fn difference_deviations(
+        self,
+        statistics: &[f64],
+        output: &mut [f32],
+    ) -> Result<(), Refusal>
         ensures { transformer_output (row_of result) output.new ≡ transformer_difference_deviations self statistics.now output.old }
     {
         let d = self.input_length;

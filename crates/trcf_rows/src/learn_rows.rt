@@ -72,9 +72,7 @@ fn is_count_full(head: Preprocessor) -> bool
 fn is_full(head: Preprocessor) -> bool
     ensures { result ≡ (ltb head.values_seen head.stop_normalization && leb count_limit head.transformer.count) || (leb seen_limit head.values_seen || leb seen_limit head.internal_timestamp) }
 {
-    is_count_full(head)
-        || SEEN_LIMIT <= head.values_seen
-        || SEEN_LIMIT <= head.internal_timestamp
+    is_count_full(head) || SEEN_LIMIT <= head.values_seen || SEEN_LIMIT <= head.internal_timestamp
 }
 
 // Whether the outputs of an anomaly are too short.

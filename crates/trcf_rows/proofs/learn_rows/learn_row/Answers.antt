@@ -20,7 +20,7 @@ returns-then-deviations_out-block_of c =
       sym c.is_full.ensures ∙ c.if-is_full.false,
     )
     (elim c.then-deviations_out-block_of.branch [
-      then-deviations_out-block_of-via-then-deviations_out-block_of w ↦ rw (lt-ltb _ _ w.if-deviations_out-block_of.true)
+      | then-deviations_out-block_of-via-then-deviations_out-block_of w ↦ rw (lt-ltb _ _ w.if-deviations_out-block_of.true)
       | then-deviations_out-block_of-via-else-deviations_out-block_of+then-is_anomaly_short w ↦
           rw (le-ltb _ _ w.if-deviations_out-block_of.false, sym w.is_anomaly_short.ensures ∙ w.if-is_anomaly_short.true)
     ])

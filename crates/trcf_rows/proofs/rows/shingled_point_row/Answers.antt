@@ -51,8 +51,11 @@ returns-in_err-past_row c =
     let p = shingled_point a.input.now a.timestamp a.output.now in
     let b = behind_is a.head l a.timestamp c.is_behind.result c.newest_of-newest.result c.is_behind.ensures c.newest_of-newest.ensures in
     let x = c.from_residual-in_err-past_row.ensures.1 in
-    record { value = call_refuses a.head l p _ _ x c.in_ok-head_row.ensures.value
-        (rw (point_rows a.head l a.input.now a.timestamp a.output.now, eq-eqb _ _ c.if-input-head.false, sym c.all_finite.ensures ∙ c.if-not-all_finite.false, sym b ∙ c.if-is_behind.false) c.in_err-past_row.ensures); ready = not_ok _ _ _ x }
+    record {
+      value = call_refuses a.head l p _ _ x c.in_ok-head_row.ensures.value
+          (rw (point_rows a.head l a.input.now a.timestamp a.output.now, eq-eqb _ _ c.if-input-head.false, sym c.all_finite.ensures ∙ c.if-not-all_finite.false, sym b ∙ c.if-is_behind.false) c.in_err-past_row.ensures);
+      ready = not_ok _ _ _ x;
+    }
 
 pub returns : goal.returns
 returns c =
