@@ -1,22 +1,24 @@
 // Replays a line of the kinds range32 and range64; each stands for itself.
-use ranges::rangevector::{Width, cascaded_add, create, from, new, scale, shift};
+use ranges::rangevector::{RangeVector, Width};
 use refusal::row_of;
 use std::alloc::Global;
 use vectors_core::bounded::Bounded;
 use vectors_core::field::Lent;
 use vectors_core::fields::{Differs, Fields};
 
+// The three lists as a call takes them.
+fn vector<T: Lent + Width>(lists: &mut Bounded<T>) -> RangeVector<'_, T> {
+    RangeVector {
+        values: &mut lists.values,
+        upper: &mut lists.upper,
+        lower: &mut lists.lower,
+    }
+}
+
 fn create_line<T: Lent + Width>(mut fields: Fields<'_>) -> Result<(), Differs> {
     let x = Bounded::<T>::read(&mut fields)?;
     let mut out = Bounded::<T>::lent(&mut fields)?;
-    let answer = create(
-        &mut out.values,
-        &mut out.upper,
-        &mut out.lower,
-        &x.values,
-        &x.upper,
-        &x.lower,
-    );
+    let answer = vector(&mut out).create(&x.values, &x.upper, &x.lower);
     out.expect_written(&mut fields, row_of(answer))?;
     fields.finish()
 }
@@ -24,7 +26,7 @@ fn create_line<T: Lent + Width>(mut fields: Fields<'_>) -> Result<(), Differs> {
 fn new_line<T: Lent + Width>(mut fields: Fields<'_>) -> Result<(), Differs> {
     let dimensions = fields.read::<u64>()? as usize;
     let mut out = Bounded::<T>::lent(&mut fields)?;
-    let answer = new(&mut out.values, &mut out.upper, &mut out.lower, dimensions);
+    let answer = vector(&mut out).new(dimensions);
     out.expect_written(&mut fields, row_of(answer))?;
     fields.finish()
 }
@@ -32,7 +34,7 @@ fn new_line<T: Lent + Width>(mut fields: Fields<'_>) -> Result<(), Differs> {
 fn from_line<T: Lent + Width>(mut fields: Fields<'_>) -> Result<(), Differs> {
     let x = fields.list::<T>()?;
     let mut out = Bounded::<T>::lent(&mut fields)?;
-    let answer = from(&mut out.values, &mut out.upper, &mut out.lower, &x);
+    let answer = vector(&mut out).from(&x);
     out.expect_written(&mut fields, row_of(answer))?;
     fields.finish()
 }
@@ -41,8 +43,7 @@ fn shift_line<T: Lent + Width>(given: Fields<'_>) -> Result<(), Differs> {
     let mut fields = given;
     let mut lists = Bounded::<T>::read(&mut fields)?;
     let i = fields.read::<u64>()? as usize;
-    let by = fields.read::<T>()?;
-    let answer = shift(&mut lists.values, &mut lists.upper, &mut lists.lower, i, by);
+    let answer = vector(&mut lists).shift(i, fields.read()?);
     lists.expect_changed(given, &mut fields, row_of(answer))?;
     fields.finish()
 }
@@ -51,8 +52,7 @@ fn scale_line<T: Lent + Width>(given: Fields<'_>) -> Result<(), Differs> {
     let mut fields = given;
     let mut lists = Bounded::<T>::read(&mut fields)?;
     let i = fields.read::<u64>()? as usize;
-    let by = fields.read::<T>()?;
-    let answer = scale(&mut lists.values, &mut lists.upper, &mut lists.lower, i, by);
+    let answer = vector(&mut lists).scale(i, fields.read()?);
     lists.expect_changed(given, &mut fields, row_of(answer))?;
     fields.finish()
 }
@@ -61,7 +61,7 @@ fn cascade_line<T: Lent + Width>(given: Fields<'_>) -> Result<(), Differs> {
     let mut fields = given;
     let mut lists = Bounded::<T>::read(&mut fields)?;
     let base = fields.list::<T>()?;
-    let answer = cascaded_add(&mut lists.values, &mut lists.upper, &mut lists.lower, &base);
+    let answer = vector(&mut lists).cascaded_add(&base);
     lists.expect_changed(given, &mut fields, row_of(answer))?;
     fields.finish()
 }
