@@ -10,11 +10,8 @@ use lib.Dec.{ltb, eqb}
 use lib.ListN.{length, get_or, drop}
 use lib.Seq.{drop-cons}
 use borrow.Author.Tests.{eqb-true, ltb-true}
-use Rattle.std.specs.Prelude.{Result, Ok, Err}
 use Rattle.std.proofs.Common.{Less, Equal, Greater}
 use Rattle.std.specs.Ordering.{nat_cmp, ord_max, is_lt}
-use Rattle.refusal.specs.declared.Refusal.{Refusal}
-use Rattle.refusal.specs.declared.Refusal.TheVariants.{Withheld}
 use Rattle.snapshot.proofs.Lists.{and_left, and_right}
 use Rattle.trcf.specs.Preprocessor.{panel_of}
 use Rattle.trcf.specs.Types.{method_number, method_of_number, mode_letter, mode_of_letter}
@@ -26,7 +23,7 @@ use Rattle.trcf.specs.declared.head.Preprocessor.{Preprocessor}
 use Rattle.trcf.specs.declared.head.Status.{Status}
 use Rattle.access.specs.declared.rights.Right.{Right}
 use Rattle.access.specs.declared.rights.Right.TheVariants.{SEE, LEARN, SAVE, RESTORE}
-use Rattle.access.specs.Access.{bits, table_fits, table_entry, has, granted, allowed, guarded, every_right}
+use Rattle.access.specs.Access.{bits, table_fits, table_entry, has, granted, guarded, every_right}
 use Rattle.access.specs.Entries.{status_numbers}
 
 -- ---- the cells, one by one
@@ -90,24 +87,6 @@ module _ (t : List ℕ) (role : ℕ) where
 
   pub by_second : (r q : Right) → eqb (table_entry t role r) 1 ≡ true → eqb (table_entry t role q) 1 ≡ has t role (r ∷ q ∷ [])
   by_second r q e = and_true (eqb (table_entry t role q) 1) ∙ ap (λ (b : Bool). b && (eqb (table_entry t role q) 1 && true)) (sym e)
-
--- ---- an entry behind its guard: what the demand answers is what is left to do
-
-module _ {A : Type 0} (t : List ℕ) (role : ℕ) (rs : List Right) (below withheld : A) where
-  -- refused: what is said of the refusal is what is said of a withheld right
-  pub guard_shut : (r : Refusal) → Err r ≡ allowed (granted t role rs) → (f : Refusal → A) → f Withheld ≡ withheld → f r ≡ guarded t role rs below withheld
-  guard_shut r e f w = go (granted t role rs) e
-    where
-      go : (b : Bool) → Err r ≡ allowed b → f r ≡ cond b below withheld
-      go true q = absurd (cc)
-      go false q = (let k : r ≡ Withheld = cc in ap f k ∙ w)
-
-  pub guard_open : (u : Unit {0}) → Ok u ≡ allowed (granted t role rs) → (x : A) → x ≡ below → x ≡ guarded t role rs below withheld
-  guard_open u e x y = go (granted t role rs) e
-    where
-      go : (b : Bool) → Ok u ≡ allowed b → x ≡ cond b below withheld
-      go true q = y
-      go false q = absurd (cc)
 
 -- ---- a program: role 0 of the table with every right
 

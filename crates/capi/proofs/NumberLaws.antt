@@ -15,9 +15,6 @@ use Rattle.capi.proofs.HeadLaws.{row_form}
 -- ---- 22 before the words are looked at
 
 module _ (w : List ℕ) where
-  pub form_shut : (b : Bool) → b ≡ false → 22 ≡ cond b (form_row w) 22
-  form_shut b e = rw e
-
   pub form_asked : (b : Bool) {n : ℕ} → b ≡ true → n ≡ form_row w → n ≡ cond b (form_row w) 22
   form_asked b e p = rw e p
 
