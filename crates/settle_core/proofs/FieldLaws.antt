@@ -26,7 +26,7 @@ use Rattle.settle_core.proofs.ScanLaws.{rest_is}
 
 -- ---- numbers
 
-pub minus_is : (v : ℕ) → (v ≡ 0 → ⊥) → some (with_sign true v) ≡ negative_number (Is v)
+pub minus_is : (v : ℕ) → (v ≡ 0 → ⊥) → some (negated (pos v)) ≡ negative_number (Some v)
 minus_is zero h = absurd (h refl)
 minus_is (suc v) h = refl
 
@@ -45,15 +45,7 @@ unfolding signed_of
 signed_plain [] h e = absurd (h refl)
 signed_plain (b ∷ l) h e = sym (rw (ne_eqb b 45 e))
 
-pub above_zero : (n : ℕ) → ltb 0 n ≡ is_negative (with_sign true n)
-above_zero zero = refl
-above_zero (suc n) = lt-ltb 0 (suc n) (omega arith)
-
 -- ---- a field at its place
-
-by_option : (f : Bool) (z : ℤ) (t : List ℕ) → part_if f z t ≡ readPart (option_of f z) t
-by_option true z t = refl
-by_option false z t = refl
 
 module _ (text : List ℕ) (at k end : ℕ) (e : k ≡ cell_length (drop at text)) (h : at ≤ length text) where
   pub part_open : at + k ≡ length text → no_part ≡ part_of end (drop at text)
@@ -73,26 +65,26 @@ module _ (text : List ℕ) (at k end : ℕ) (e : k ≡ cell_length (drop at text
     unfolding part_of
     part_other n = sym (rw (inside, ne_eqb (get_or (drop at text) (cell_length (drop at text)) 0) end (λ z. n (sym byte_is ∙ z))))
 
-    pub part_here : get_or text (at + k) 0 ≡ end → (f : Bool) (z : ℤ) → option_of f z ≡ signed_of (take (at + k - at) (drop at text))
-        → part_if f z (drop (at + k + 1) text) ≡ part_of end (drop at text)
+    pub part_here : get_or text (at + k) 0 ≡ end → (v : Option ℤ) → v ≡ signed_of (take (at + k - at) (drop at text))
+        → readPart v (drop (at + k + 1) text) ≡ part_of end (drop at text)
     unfolding part_of
-    part_here n f z s =
+    part_here n f s =
         let u : at + k + 1 ≡ at + suc (cell_length (drop at text)) = omega (arith, e) in
         let v : at + k - at ≡ cell_length (drop at text) = omega (arith, e) in
         let d : drop (at + k + 1) text ≡ drop (suc (cell_length (drop at text))) (drop at text) =
         ap (λ (i : ℕ). drop i text) u ∙ sym (drop-drop (suc (cell_length (drop at text))) at text) in
-        let c : option_of f z ≡ signed_of (take (cell_length (drop at text)) (drop at text)) = s ∙ ap (λ (i : ℕ). signed_of (take i (drop at text))) v in
-        by_option f z (drop (at + k + 1) text) ∙ (λ j. readPart (c j) (d j))
+        let c : f ≡ signed_of (take (cell_length (drop at text)) (drop at text)) = s ∙ ap (λ (i : ℕ). signed_of (take i (drop at text))) v in
+        (λ j. readPart (c j) (d j))
         ∙ sym (rw (inside, eq-eqb (get_or (drop at text) (cell_length (drop at text)) 0) end (byte_is ∙ n)))
 
 -- ---- six fields
 
-module _ (text : List ℕ) (at end : ℕ) (r : held.Part) (e : part_in r text ≡ part_of end (drop at text)) (k : ℤ → List ℕ → Option Signal) where
-  pub stops : r.found ≡ false → with_part (part_of end (drop at text)) k ≡ none
-  stops f = ap (λ (p : Part). with_part p k) (sym e) ∙ ap (λ (b : Bool). with_part (part_if b (signed r.value) (drop r.next text)) k) f
+module _ (text : List ℕ) (at end : ℕ) (k : ℤ → List ℕ → Option Signal) where
+  pub stops : no_part ≡ part_of end (drop at text) → with_part (part_of end (drop at text)) k ≡ none
+  stops e = ap (λ (p : Part). with_part p k) (sym e)
 
-  pub goes_on : r.found ≡ true → with_part (part_of end (drop at text)) k ≡ k (signed r.value) (drop r.next text)
-  goes_on f = ap (λ (p : Part). with_part p k) (sym e) ∙ ap (λ (b : Bool). with_part (part_if b (signed r.value) (drop r.next text)) k) f
+  pub goes_on : (z : ℤ) (next : ℕ) → part z (drop next text) ≡ part_of end (drop at text) → with_part (part_of end (drop at text)) k ≡ k z (drop next text)
+  goes_on z next e = ap (λ (p : Part). with_part p k) (sym e)
 
 pub null_end : (t : List ℕ) (n : ℕ) → n ≡ length t → null (drop n t) ≡ true
 null_end t n e = go (drop n t) (simp length-drop (omega (arith, e)))
@@ -110,49 +102,8 @@ null_not t n e h = go (drop n t) (let d = length-drop n t in omega (arith, e, d)
 
 -- ---- the limits
 
-module _ (b r q j : ℤ) where
-  pub limited_place : (p n : ℤ) → is_negative p ≡ true → none ≡ limited b r q j p n
-  limited_place (pos p) n e = absurd (true≢false (sym e))
-  limited_place (negsuc p) n e = refl
-
-  pub limited_readings : (p n : ℤ) → is_negative p ≡ false → is_negative n ≡ true → none ≡ limited b r q j p n
-  limited_readings (pos p) (pos n) e f = absurd (true≢false (sym f))
-  limited_readings (pos p) (negsuc n) e f = refl
-  limited_readings (negsuc p) n e f = absurd (true≢false e)
-
-  limited_is : (p n : ℤ) → is_negative p ≡ false → is_negative n ≡ false
-      → cond (in_limits (signal b r q j (integer_size p) (integer_size n))) (some (signal b r q j (integer_size p) (integer_size n))) none ≡ limited b r q j p n
-  limited_is (pos p) (pos n) e f = refl
-  limited_is (pos p) (negsuc n) e f = absurd (true≢false f)
-  limited_is (negsuc p) n e f = absurd (true≢false e)
-
-  module _ (p n : Signed) (e : is_negative (signed p) ≡ false) (f : is_negative (signed n) ≡ false) where
-    sized : cond (in_limits (signal b r q j p.size n.size)) (some (signal b r q j p.size n.size)) none ≡ limited b r q j (signed p) (signed n)
-    sized =
-        let sp = size_signed p.negative p.size in
-        let sn = size_signed n.negative n.size in
-        (λ i. cond (in_limits (signal b r q j (sym sp i) (sym sn i))) (some (signal b r q j (sym sp i) (sym sn i))) none)
-        ∙ limited_is (signed p) (signed n) e f
-
-    pub limited_out : in_limits (signal b r q j p.size n.size) ≡ false → none ≡ limited b r q j (signed p) (signed n)
-    limited_out g = sym (rw g) ∙ sized
-
-    pub limited_in : in_limits (signal b r q j p.size n.size) ≡ true → some (signal b r q j p.size n.size) ≡ limited b r q j (signed p) (signed n)
-    limited_in g = sym (rw g) ∙ sized
-
+-- @@limits
 -- ---- the name
-
-and_none : (a : Bool) → (a && false) ≡ false
-and_none true = refl
-and_none false = refl
-
-pub short_signal : (l : List ℕ) → length l < 4 → none ≡ signalAt l
-unfolding signalAt is_signal
-short_signal [] h = refl
-short_signal (a ∷ []) h = sym (rw (and_none (eqb a 115)))
-short_signal (a ∷ b ∷ []) h = sym (rw (and_none (eqb b 105), and_none (eqb a 115)))
-short_signal (a ∷ b ∷ c ∷ []) h = sym (rw (and_none (eqb c 103), and_none (eqb b 105), and_none (eqb a 115)))
-short_signal (a ∷ b ∷ c ∷ d ∷ l) h = absurd (omega arith)
 
 pub not_signal : (l : List ℕ) → is_signal l ≡ false → none ≡ signalAt l
 unfolding signalAt
