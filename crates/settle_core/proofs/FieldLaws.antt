@@ -5,45 +5,23 @@ use mathlib.Core.Path.{◌≡◌, refl, sym, ap, ◌∙◌}
 use mathlib.Core.Bool.{Bool, true, false, cond, ◌&&◌, true≢false}
 use mathlib.Core.List.{List, [], ◌∷◌}
 use mathlib.Core.Option.{Option, none, some}
-use borrow.Author.Tests.{eq-eqb, ne_eqb, lt-ltb}
-use lib.Dec.{ltb, eqb}
+use borrow.Author.Tests.{leb-true, leb-false, eq-eqb, ne_eqb, lt-ltb, lt-leb}
+use lib.Dec.{ltb, eqb, leb}
 use lib.IntN.{ℤ, pos, negsuc}
 use lib.ListN.{length, take, drop, get_or, length-drop}
 use lib.Seq.{get_or-drop, drop-drop}
+use mir.Syntax.{w64}
+use Rattle.std.specs.Int.{FitsUnsigned, unsigned_abs}
+use Rattle.std.proofs.Common.{rules}
+use Rattle.std.proofs.lemmas.Option.{none-some, same_Some}
+use Rattle.std.proofs.lemmas.Result.{OkIff-at_ok, OkIff-at_err}
+use Rattle.std.specs.Result.{OkIff, result_ok}
+use Rattle.std.specs.Prelude.{Result, Ok, Err, Some, None}
 use Rattle.trcf.specs.Lists.{null}
-use Rattle.snapshot.specs.Read.{as_whole}
-use Rattle.snapshot.specs.Scan.{number_of}
-use Rattle.snapshot.specs.declared.field.Number.TheVariants.{Is}
 use Rattle.bench_core.specs.Bench.{cell_length}
 use Rattle.settling.specs.Settling.{Signal, signal, integer_size, in_limits}
-use Rattle.settling.specs.Steps.{with_sign, signed, option_of}
-use Rattle.settling.specs.declared.signal.Signed.{Signed}
-use Rattle.settling.proofs.SignalLaws.{size_signed}
-use Rattle.settle_core.specs.Input.{positive_number, negative_number, signed_of, Part, no_part, part_by as readPart, part_of, with_part, limited, fields_of, is_signal, signal_read as signalAt}
-use Rattle.settle_core.specs.Steps.{is_negative, part_if, part_in}
-use Rattle.settle_core.specs.declared.field.Part as held
+use Rattle.settle_core.specs.Input.{signed_of, Part, no_part, part_by as readPart, part_of, with_part, limited, fields_of, is_signal, signal_read as signalAt, part}
 use Rattle.settle_core.proofs.ScanLaws.{rest_is}
-
--- ---- numbers
-
-pub minus_is : (v : ℕ) → (v ≡ 0 → ⊥) → some (negated (pos v)) ≡ negative_number (Some v)
-minus_is zero h = absurd (h refl)
-minus_is (suc v) h = refl
-
-pub signed_none : (l : List ℕ) → length l ≡ 0 → none ≡ signed_of l
-unfolding signed_of
-signed_none [] h = refl
-signed_none (b ∷ l) h = absurd (omega arith)
-
-pub signed_minus : (l : List ℕ) → (length l ≡ 0 → ⊥) → get_or l 0 0 ≡ 45 → negative_number (number_of (as_whole (take (length l - 1) (drop 1 l)))) ≡ signed_of l
-unfolding signed_of
-signed_minus [] h e = absurd (h refl)
-signed_minus (b ∷ l) h e = ap (λ (c : List ℕ). negative_number (number_of (as_whole c))) (rest_is (b ∷ l) 1) ∙ sym (rw (eq-eqb b 45 e))
-
-pub signed_plain : (l : List ℕ) → (length l ≡ 0 → ⊥) → (get_or l 0 0 ≡ 45 → ⊥) → positive_number (number_of (as_whole l)) ≡ signed_of l
-unfolding signed_of
-signed_plain [] h e = absurd (h refl)
-signed_plain (b ∷ l) h e = sym (rw (ne_eqb b 45 e))
 
 -- ---- a field at its place
 
@@ -102,8 +80,75 @@ null_not t n e h = go (drop n t) (let d = length-drop n t in omega (arith, e, d)
 
 -- ---- the limits
 
--- @@limits
+and_none : (a : Bool) → (a && false) ≡ false
+and_none true = refl
+and_none false = refl
+
+-- outside 64 bits is outside the limits
+past_word : (n : ℕ) → (FitsUnsigned w64 (pos n) → ⊥) → 1000 < n
+past_word n h = go (leb n 1000) refl
+  where
+    go : (b : Bool) → leb n 1000 ≡ b → 1000 < n
+    go true e = let k : n ≤ 1000 = leb-true n 1000 e in absurd (h (search rules, search rules))
+    go false e = leb-false n 1000 e
+
+module _ (b r q j : ℤ) where
+  far_place : (p n : ℕ) → 1000 < p → in_limits (signal b r q j p n) ≡ false
+  unfolding in_limits
+  far_place p n h =
+      rw (lt-leb p 1000 h, and_none (leb (integer_size j) 1000), and_none (leb (integer_size q) 1000), and_none (leb (integer_size r) 1000), and_none (leb (integer_size b) 1000))
+
+  many_readings : (p n : ℕ) → 1000 < n → in_limits (signal b r q j p n) ≡ false
+  unfolding in_limits
+  many_readings p n h =
+      rw (
+        lt-leb n 1000 h, and_none (leb 1 n), and_none (leb p 1000),
+        and_none (leb (integer_size j) 1000), and_none (leb (integer_size q) 1000), and_none (leb (integer_size r) 1000), and_none (leb (integer_size b) 1000),
+      )
+
+  module _ {E : Type 0} where
+    pub no_place : (p n : ℤ) (x : Result ℕ E) → OkIff x (FitsUnsigned w64 p) (unsigned_abs p) → None ≡ result_ok x → none ≡ limited b r q j p n
+    no_place (negsuc p) n x k e = refl
+    no_place (pos p) (negsuc n) x k e = refl
+    no_place (pos p) (pos n) (Ok v) k e = absurd (none-some v e)
+    no_place (pos p) (pos n) (Err d) k e =
+        let h : 1000 < p = past_word p (OkIff-at_err (Err d) (FitsUnsigned w64 (pos p)) (unsigned_abs (pos p)) d k refl) in
+        sym (rw (far_place p n h))
+
+    pub no_readings : (p n : ℤ) (y : Result ℕ E) → OkIff y (FitsUnsigned w64 n) (unsigned_abs n) → None ≡ result_ok y → none ≡ limited b r q j p n
+    no_readings (negsuc p) n y k e = refl
+    no_readings (pos p) (negsuc n) y k e = refl
+    no_readings (pos p) (pos n) (Ok v) k e = absurd (none-some v e)
+    no_readings (pos p) (pos n) (Err d) k e =
+        let h : 1000 < n = past_word n (OkIff-at_err (Err d) (FitsUnsigned w64 (pos n)) (unsigned_abs (pos n)) d k refl) in
+        sym (rw (many_readings p n h))
+
+    unsigned_is : (z : ℤ) (x : Result ℕ E) (u : ℕ) → OkIff x (FitsUnsigned w64 z) (unsigned_abs z) → Some u ≡ result_ok x → FitsUnsigned w64 z × (u ≡ unsigned_abs z)
+    unsigned_is z (Ok a) u k e =
+        let f = OkIff-at_ok (Ok a) (FitsUnsigned w64 z) (unsigned_abs z) a k refl in
+        (f.0, same_Some u a e ∙ f.1)
+    unsigned_is z (Err d) u k e = absurd (none-some u (sym e))
+
+    pub limited_is : (p n : ℤ) (x y : Result ℕ E) (u v : ℕ)
+        → OkIff x (FitsUnsigned w64 p) (unsigned_abs p) → OkIff y (FitsUnsigned w64 n) (unsigned_abs n) → Some u ≡ result_ok x → Some v ≡ result_ok y
+        → cond (in_limits (signal b r q j u v)) (some (signal b r q j u v)) none ≡ limited b r q j p n
+    limited_is p n x y u v k m e f = go p n (unsigned_is p x u k e) (unsigned_is n y v m f)
+      where
+        go : (p n : ℤ) → FitsUnsigned w64 p × (u ≡ unsigned_abs p) → FitsUnsigned w64 n × (v ≡ unsigned_abs n)
+            → cond (in_limits (signal b r q j u v)) (some (signal b r q j u v)) none ≡ limited b r q j p n
+        go (pos p) (pos n) g h = λ i. cond (in_limits (signal b r q j (g.1 i) (h.1 i))) (some (signal b r q j (g.1 i) (h.1 i))) none
+        go (pos p) (negsuc n) g h = absurd (search (rules, h.0))
+        go (negsuc p) n g h = absurd (search (rules, g.0))
+
 -- ---- the name
+
+pub signal_long : (l : List ℕ) → is_signal l ≡ true → 4 ≤ length l
+unfolding is_signal
+signal_long [] h = absurd (true≢false (sym h))
+signal_long (a ∷ []) h = absurd (true≢false (sym (sym (and_none (eqb a 115)) ∙ h)))
+signal_long (a ∷ b ∷ []) h = absurd (true≢false (sym (sym (rw (and_none (eqb b 105), and_none (eqb a 115))) ∙ h)))
+signal_long (a ∷ b ∷ c ∷ []) h = absurd (true≢false (sym (sym (rw (and_none (eqb c 103), and_none (eqb b 105), and_none (eqb a 115))) ∙ h)))
+signal_long (a ∷ b ∷ c ∷ d ∷ l) h = omega arith
 
 pub not_signal : (l : List ℕ) → is_signal l ≡ false → none ≡ signalAt l
 unfolding signalAt
