@@ -11,12 +11,12 @@ use lib.IntN.{ℤ, pos, negsuc}
 use lib.ListN.{length, take, drop, get_or, length-drop}
 use lib.Seq.{get_or-drop, drop-drop}
 use mir.Syntax.{w64}
-use Rattle.std.specs.Int.{FitsUnsigned, unsigned_abs}
+use Rattle.std.specs.Int.{FitsUnsigned}
 use Rattle.std.proofs.Common.{rules}
 use Rattle.std.proofs.lemmas.Option.{none-some, same_Some}
 use Rattle.std.proofs.lemmas.Result.{OkIff-at_ok, OkIff-at_err}
 use Rattle.std.specs.Result.{OkIff, result_ok}
-use Rattle.std.specs.Prelude.{Result, Ok, Err, Some, None}
+use Rattle.std.specs.Prelude.{Result, Ok, Err, Some, None, unsigned_abs}
 use Rattle.trcf.specs.Lists.{null}
 use Rattle.bench_core.specs.Bench.{cell_length}
 use Rattle.settling.specs.Settling.{Signal, signal, integer_size, in_limits}

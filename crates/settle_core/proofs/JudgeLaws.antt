@@ -25,7 +25,7 @@ use Rattle.bench_core.specs.Line.{is_named, request_of, kept_of, kept_count}
 use Rattle.bench_core.specs.Bench.{code_count, zero_codes}
 use Rattle.bench_core.specs.declared.line.Line.{Line}
 use Rattle.settling.specs.Settling.{Signal, pair_row}
-use Rattle.settling.proofs.StepLaws.{take_replicate}
+use Rattle.bench_core.proofs.StepLaws.{take_zeros}
 use Rattle.settling.proofs.Theorem.{pair_parts}
 use Rattle.settle_core.specs.Input.{line_of, PairRead, faulty, pair_taken, settings_by, pair_by, pair_of, Input, input_refused, input, signalled, and_then, opens, then_pair, input_from, input_of, signal_read as signalAt}
 use Rattle.settle_core.specs.Steps.{pair_settings, pair_in, prefixed, input_in}
@@ -73,7 +73,7 @@ module _ (b : PreprocessorBuilder) (w : Line) (n m : ℕ) (en : n ≡ kept_count
   unfolding kept_of
   handed_is =
       let a : take n w.singles ≡ take (kept_count w.count) w.singles = ap (λ (k : ℕ). take k w.singles) en in
-      let c : take m (replicate {A = ℕ} 16 0) ≡ zero_codes b = take_replicate 16 m 0 hm ∙ ap (λ (k : ℕ). replicate {A = ℕ} k 0) em in
+      let c : take m (replicate {A = ℕ} 16 0) ≡ zero_codes b = take_zeros 16 m hm ∙ ap (λ (k : ℕ). replicate {A = ℕ} k 0) em in
       λ j. settings_from b (a j) (c j)
 
   -- of d 1: one weight, and one code

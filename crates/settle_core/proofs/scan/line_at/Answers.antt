@@ -10,7 +10,7 @@ use Rattle.settle_core.proofs.scan.line_at.Goals as goal
 pub loop-at-init : goal.loop-at-init
 loop-at-init c =
     let a = c.args in
-    (c.requires, line_starts (drop a.from a.text.now) _ c.blank.ensures)
+    (c.requires, line_starts (drop a.from a.text.now) _ c.blank-line.ensures)
 
 pub overflow_add-end : goal.overflow_add-end
 overflow_add-end c =
