@@ -35,7 +35,7 @@ fn cell_at(
     requires at_in_bounds { at + 65536 ≤ length out.old }
     ensures { Placed b (lent statistics.old last_shingled_input.old last_shingled_point.old previous_timestamps.old initial_values.old initial_timestamps.old) point.old (drop next text.now) out.old at result.bench (lent statistics.new last_shingled_input.new last_shingled_point.new previous_timestamps.new initial_values.new initial_timestamps.new) point.new out.new result.next result.length }
 {
-    // the output has the room that a step asks for
+    let end = at + ROOM;
     let cell = step(
         b,
         statistics,
@@ -46,7 +46,7 @@ fn cell_at(
         initial_timestamps,
         point,
         &text[next..],
-        &mut out[at..at + ROOM],
+        &mut out[at..end],
     );
     cell.unwrap()
 }
@@ -110,7 +110,9 @@ fn end_at(b: Bench, text: &[u8], next: usize, out: &mut [u8], at: usize) -> Prin
     requires at_in_bounds { at + 65536 ≤ length out.old }
     ensures { Closed b (drop next text.now) out.old at result.bench out.new result.length }
 {
-    finish(b, &text[next..], &mut out[at..at + ROOM]).unwrap()
+    let end = at + ROOM;
+    let last = finish(b, &text[next..], &mut out[at..end]);
+    last.unwrap()
 }
 
 // A block of the input: every cell that ends in it, as long as ROOM bytes of the output are left, and where no cell is left and the input ends
@@ -144,7 +146,10 @@ pub fn block(
         text,
         out,
     );
-    if !ends || r.full {
+    if !ends {
+        return r;
+    }
+    if r.full {
         return r;
     }
     let last = end_at(r.bench, text, r.read, out, r.written);
@@ -152,6 +157,6 @@ pub fn block(
         bench: last.bench,
         read: text.len(),
         written: r.written + last.length,
-        ..r
+        full: false,
     }
 }

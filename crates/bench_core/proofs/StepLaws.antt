@@ -57,22 +57,22 @@ module _ (q : PreprocessorBuilder) (w : List Float) (lists : Lent) (cs : List �
       ∙ ap (λ (u : List ℕ). build_of (settings_from q w u) lists) k
       ∙ ap (λ (i : ℕ). accepted i (build_of (settings_from q w (zero_codes q)) lists) (outcome i no_head lists)) (bare_row 0 e)
 
-module _ (b : Bench) (out : List ℕ) (l : Line) (lists : Lent) (y : List Float) {l' : Lent} {v : List Float} (k : v ≡ kept_of l) where
+module _ (b : Bench) (out : List ℕ) (l : Line) (lists : Lent) (y : List Float) {v : List Float} (k : v ≡ kept_of l) where
   built : (o : Outcome) → o ≡ built_of b.builder v lists → o ≡ built_of b.builder (kept_of l) lists
   built o e = e ∙ ap (λ (u : List Float). built_of b.builder u lists) k
 
-  pub weights_refused : (c : Refusal) {b' : Bench} {o : Output} → outcome (number_of c) no_head l' ≡ built_of b.builder v lists
+  pub weights_refused : (c : Refusal) {l' : Lent} {b' : Bench} {o : Output} → outcome (number_of c) no_head l' ≡ built_of b.builder v lists
       → end_result b' o ≡ end_result (end_of b) (prints (no_text (number_of c)) out)
       → line_result b' l' y o ≡ build_gives b l lists y out
   unfolding build_gives
-  weights_refused c e p =
+  weights_refused c {l'} e p =
       refused_heard b out (number_of c) l' y p ∙ sym (refused_is c (number_of c) _ (refused_by (number_of c) b l' y out) refl)
       ∙ ap (λ (q : Outcome). built_gives b q y out) (built _ e)
 
-  pub weights_built : (h' : Preprocessor) {b' : Bench} → outcome 0 h' l' ≡ built_of b.builder v lists → b' ≡ ready_for Running b.builder b.head b.given
+  pub weights_built : (h' : Preprocessor) {l' : Lent} {b' : Bench} → outcome 0 h' l' ≡ built_of b.builder v lists → b' ≡ ready_for Running b.builder b.head b.given
       → line_result (bench b'.phase b'.line b'.builder h' b'.given) l' y (output 0 out) ≡ build_gives b l lists y out
   unfolding build_gives
-  weights_built h' e p =
+  weights_built h' {l'} e p =
       ap (λ (r : Bench). line_result (bench r.phase r.line r.builder h' r.given) l' y (output 0 out)) p
       ∙ ap (λ (u : Outcome). built_gives b u y out) (built _ e)
 

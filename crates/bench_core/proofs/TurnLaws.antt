@@ -33,10 +33,16 @@ unfolding done_text
 refused_text k = sym (refused_is k (number_of k) ok_text (no_text (number_of k)) refl)
 
 -- a list that is given, or none
-given_list : (x : List Float) (t : ℕ) (g : Bool) (v : Bor (List Float)) (a b c : List Float)
-    → learn_call x t (is_some (then_some g v)) (list_in (then_some g v)) false [] zero32 (pos 0) a b c ≡ learn_call x t g v.now false [] zero32 (pos 0) a b c
-given_list x t true v a b c = refl
-given_list x t false v a b c = refl
+pub same_learn : (x : List Float) (t : ℕ) (g : Bool) (s : Option (Bor (List Float))) (v : Bor (List Float)) (u a b c : List Float) → s ≡ then_some g v → v.now ≡ u
+    → learn_call x t (is_some s) (list_in s) false [] zero32 (pos 0) a b c ≡ learn_call x t g u false [] zero32 (pos 0) a b c
+same_learn x t g s v u a b c q w =
+    ap (λ (o : Option (Bor (List Float))). learn_call x t (is_some o) (list_in o) false [] zero32 (pos 0) a b c) q
+    ∙ given g
+    ∙ ap (λ (n : List Float). learn_call x t g n false [] zero32 (pos 0) a b c) w
+  where
+    given : (p : Bool) → learn_call x t (is_some (then_some p v)) (list_in (then_some p v)) false [] zero32 (pos 0) a b c ≡ learn_call x t p v.now false [] zero32 (pos 0) a b c
+    given true = refl
+    given false = refl
 
 -- the table has every right, so the guarded calls are the ones below
 point_below : (table : List ℕ) → table ≡ every_right → (h : Preprocessor) (l : Lent) (x : List Float) (t : ℕ) (y : List Float)
@@ -82,34 +88,23 @@ module _ (table : List ℕ) (every : table ≡ every_right) (h : Preprocessor) (
         let q = ap (point_result_by g) ((λ j. pointed 0 (sym f j) n l' y') ∙ e ∙ point_below table every h l x t y) in
         (λ j. call_printed n true l' y' (p j)) ∙ ap (λ (v : CallResult). prints_call v out) q
 
-  -- the list that is given is the point's part in use
-  module _ (x : List Float) (t : ℕ) (y : List Float) (s : Option (Bor (List Float))) (v : Bor (List Float)) (q : s ≡ then_some g v) (w : v.now ≡ take (dimension_of h) y) where
-    abbrev learn : Bool → List Float → Learn
-    learn b u = learn_call x t b u false [] zero32 (pos 0) (replicate 17 zero32) (replicate 1 zero32) (replicate 1 zero32)
-
-    same_learn : learn (is_some s) (list_in s) ≡ learn g (take (dimension_of h) y)
-    same_learn =
-        ap (λ (o : Option (Bor (List Float))). learn (is_some o) (list_in o)) q
-        ∙ given_list x t g v (replicate 17 zero32) (replicate 1 zero32) (replicate 1 zero32)
-        ∙ ap (learn g) w
-
-    learn_turn : {row : ℕ} {n : Preprocessor} {b a : Bool} {pt : ℕ} {lk : Float} {dv ps ex : List Float}
-        → learn_outcome row b a pt lk n l' dv ps ex ≡ learn_by table 0 h l (learn (is_some s) (list_in s))
-        → prints_call (call_result n g l' y (done_text row)) out ≡ prints_call (learn_result h g l y x t) out
+  module _ (x : List Float) (t : ℕ) (y : List Float) (c : Learn)
+      (m : c ≡ learn_call x t g (take (dimension_of h) y) false [] zero32 (pos 0) (replicate 17 zero32) (replicate 1 zero32) (replicate 1 zero32)) where
+    learn_turn : (o : LearnOutcome) → o ≡ learn_by table 0 h l c → prints_call (call_result o.head g o.lent y (done_text o.row)) out ≡ prints_call (learn_result h g l y x t) out
     unfolding learn_result
-    learn_turn e =
-        let c : Learn = learn (is_some s) (list_in s) in
+    learn_turn o e =
         ap (λ (o : LearnOutcome). prints_call (call_result o.head g o.lent y (done_text o.row)) out)
-        (e ∙ as_every table (LEARN ∷ []) (learn_after h l c) (learn_nothing 22 h l c) every ∙ ap (learn_after h l) same_learn)
+        (e ∙ as_every table (LEARN ∷ []) (learn_after h l c) (learn_nothing 22 h l c) every ∙ ap (learn_after h l) m)
 
-    pub learn_accepted : (p : PostProcessed) {dv ps ex : List Float} → processed_outcome (Ok p) h l' dv ps ex ≡ learn_by table 0 h l (learn (is_some s) (list_in s))
+    pub learn_accepted : (p : PostProcessed) {dv ps ex : List Float} → processed_outcome (Ok p) h l' dv ps ex ≡ learn_by table 0 h l c
         → prints_call (call_result p.head g l' y ok_text) out ≡ prints_call (learn_result h g l y x t) out
     unfolding done_text
-    learn_accepted p e = learn_turn e
+    learn_accepted p {dv} {ps} {ex} e = learn_turn (processed_outcome (Ok p) h l' dv ps ex) e
 
-    pub learn_refused : (k : Refusal) {dv ps ex : List Float} → processed_outcome (Err k) h l' dv ps ex ≡ learn_by table 0 h l (learn (is_some s) (list_in s))
+    pub learn_refused : (k : Refusal) {dv ps ex : List Float} → processed_outcome (Err k) h l' dv ps ex ≡ learn_by table 0 h l c
         → prints_call (call_result h g l' y (no_text (number_of k))) out ≡ prints_call (learn_result h g l y x t) out
-    learn_refused k e = ap (λ (u : List ℕ). prints_call (call_result h g l' y u) out) (refused_text k) ∙ learn_turn e
+    learn_refused k {dv} {ps} {ex} e =
+        ap (λ (u : List ℕ). prints_call (call_result h g l' y u) out) (refused_text k) ∙ learn_turn (processed_outcome (Err k) h l' dv ps ex) e
 
 pub save_refused : (table : List ℕ) → table ≡ every_right → (h : Preprocessor) (l : Lent) (out : List ℕ) {new : List ℕ} {row n : ℕ} {o : Output}
     → saved row n new ≡ save_by table 0 h l out → (row ≡ 0 → ⊥) → o ≡ prints (no_text row) new → o ≡ save_prints h l out

@@ -31,6 +31,7 @@ fn negative_of(n: Option<u64>) -> Option<i128>
     }
 }
 
+#[tactic(auto, unfolding(crate::specs::Input::signed_of))]
 fn signed_of(c: &[u8]) -> Option<i128>
     ensures { option_of result ≡ signed_of c.now }
 {
@@ -101,10 +102,11 @@ fn fields_at(text: &[u8], at: usize) -> Option<Signal>
     )
 }
 
+#[tactic(auto, unfolding(crate::specs::Input::is_signal))]
 fn is_signal(t: &[u8]) -> bool
     ensures { result ≡ is_signal t.now }
 {
-    t.starts_with(b"sig\t")
+    matches!(t, [b's', b'i', b'g', b'\t', ..])
 }
 
 // The rest of the text as the signal line.
