@@ -5,6 +5,7 @@ ghost use Rattle.factors.specs.Factors.{listed_of};
 pub const LENGTH: u64 = 1000;
 
 // The bits of 1 - 1/(count + 2), and 0 for a count that the table does not reach.
+// Kept: (d) no caller reads the 0: `common` asks below LENGTH alone, and would take an Option apart to no end.
 pub fn listed(count: u64) -> u64
     ensures { result ≡ listed_of count }
 {
