@@ -17,7 +17,7 @@ use Rattle.series.specs.declared.imputation.ImputationMethod.{ImputationMethod}
 use Rattle.series.specs.declared.imputation.ImputationMethod.TheVariants.{FIXED, PREVIOUS, NEXT, LINEAR}
 use Rattle.std.specs.Prelude.{Option, Some, None}
 use Rattle.series.specs.declared.imputation.Present.{Present}
-use Rattle.series.specs.Imputation.{is_present, present_at, nearest_before, nearest_from, copy_of, interpolated, between_of, fill_of, present_in, cell_in, missing_of, imputed_at, by_place, imputed}
+use Rattle.series.specs.Imputation.{is_present, present_at, nearest_before, nearest_from, copy_of, interpolated, fill_of, present_in, cell_in, missing_of, imputed_at, by_place, imputed}
 use Rattle.series.specs.Imputation.{impute_row, Imputation, impute_answer, impute_of}
 use Rattle.series.proofs.ImputationTheorems.{accepted}
 use Rattle.restart_program.proofs.Program.{program_demand_3}
