@@ -1,7 +1,7 @@
 -- What the proofs of `rangevector` cite at both widths: how a call answers, and a turn of each loop, over the numbers and the element.
 -- Assumes nothing.
 use Prim.Native.Nat.{ℕ, zero, suc, ◌+◌, ◌-◌, ◌≤◌, ◌<◌}
-use mathlib.Core.Path.{◌≡◌, sym, ap, ◌∙◌}
+use mathlib.Core.Path.{◌≡◌, refl, sym, ap, ◌∙◌}
 use mathlib.Core.Bool.{Bool, true, ◌&&◌}
 use mathlib.Core.List.{List, ◌∷◌, ◌++◌}
 use native.Mathlib.Numerals.{add-one}
@@ -37,6 +37,9 @@ module _ {A : Type 0} where
 
   pub all_three : {v u l a b c : List A} → v ≡ a → u ≡ b → l ≡ c → ranges v u l ≡ ranges a b c
   all_three p q r = λ j. ranges (p j) (q j) (r j)
+
+  pub same_loans : (v : RangeVector A) → AreSameLoans v v
+  same_loans v = record { values = refl; upper = refl; lower = refl; values_length = refl; upper_length = refl; lower_length = refl }
 
   pub same_since : {u v w : RangeVector A} → AreSameLoans u v → AreSameLoans v w → AreSameLoans u w
   same_since p q = record {

@@ -230,7 +230,7 @@ pub fn status(
 ) -> Result<Status, Refusal>
     ensures { status_given result output.new ≡ status_after head (lent statistics.now last_shingled_input.now last_shingled_point.now previous_timestamps.now initial_values.now initial_timestamps.now) output.old }
 {
-    difference_deviations(
+    let deviations = difference_deviations(
         head,
         statistics,
         last_shingled_input,
@@ -239,6 +239,7 @@ pub fn status(
         initial_values,
         initial_timestamps,
         output,
-    )
-    .map(|()| told(head))
+    );
+    deviations?;
+    Ok(told(head))
 }

@@ -45,5 +45,5 @@ returns c =
     let f = held_known c.in_ok-held_row.ensures.value b ∙ ap (λ (h : Preprocessor). lent_row h l) h in
     let r = (rw h at c.in_ok-held_row.ensures.ready.fitted).roomy in
     let n : c.get_dimension-n.result ≡ dimension s = (rw h at (dimension_known c.get_dimension-n.ensures b).0) ∙ dimension_from s in
-    rw (h, n, c.fill.ensures.after (λ y e. e), c.fill-2.ensures.after (λ y e. e), c.fill-3.ensures.after (λ y e. e), c.fill-4.ensures.after (λ y e. e))
+    rw (c.fill.ensures.after (λ y e. e), c.fill-2.ensures.after (λ y e. e), c.fill-3.ensures.after (λ y e. e), c.fill-4.ensures.after (λ y e. e), n, h)
     (build_done s l (sym c.in_ok-settings_row.ensures.value) (sym f) r.in_statistics r.in_input (rw (← dimension_from s) r.in_point) r.in_times)
