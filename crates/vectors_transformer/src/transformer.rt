@@ -1,4 +1,5 @@
 // Replays a line of the kind transformer on one transformer, which is carried from line to line beside its statistics.
+use ranges::rangevector::RangeVector;
 use refusal::{Refusal, row_of};
 use std::alloc::Global;
 use trcf::transformer::WeightedTransformer;
@@ -99,13 +100,14 @@ impl Transformed {
         let mut fields = given;
         let mut lists = Bounded::<f32>::read(&mut fields)?;
         let previous = fields.list::<f32>()?;
-        let answer = self.transformer.invert_forecast(
-            &self.statistics,
-            &previous,
-            &mut lists.values,
-            &mut lists.upper,
-            &mut lists.lower,
-        );
+        let mut range = RangeVector {
+            values: &mut lists.values,
+            upper: &mut lists.upper,
+            lower: &mut lists.lower,
+        };
+        let answer = self
+            .transformer
+            .invert_forecast(&self.statistics, &previous, &mut range);
         lists.expect_changed(given, &mut fields, row_of(answer))?;
         fields.finish()
     }
