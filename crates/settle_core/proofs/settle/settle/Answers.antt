@@ -22,13 +22,10 @@ returns-in-Err c =
     let l = c.whole_line in
     let few = no_short n (omega arith) in
     record {
-      output_after = refusal_printed (no_text n) a.output.now l.result l.ensures few (omega (arith, c.if-output-lt-ROOM.false))
+      output_after = refusal_printed (no_text n) a.output.now l.new.out l.result l.ensures few (omega (arith, c.if-output-lt-ROOM.false))
           (settle_of a.input.now) (ap no_text c.from.ensures ∙ refusal_is a.input.now _ c.in-Err.ensures.result_value);
       length_in_bounds = refusal_length (no_text n) a.output.now l.new.out l.result l.ensures few (omega (arith, c.if-output-lt-ROOM.false)) (omega (arith, l.auto));
     }
-
-pub print_all-requires : goal.print_all-requires
-print_all-requires c = record { count_bound = ?; in_bounds = omega (arith, c.if-output-lt-ROOM.false) }
 
 pub returns-in-Ok : goal.returns-in-Ok
 unfolding settled_on
