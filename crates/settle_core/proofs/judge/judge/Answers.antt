@@ -1,9 +1,10 @@
 -- `settle_core::judge::judge` meets its contract. Assumes nothing.
-use mathlib.Core.Path.{refl, sym, ◌∙◌}
+use Prim.Native.Nat.{ℕ}
+use mathlib.Core.Path.{refl, sym, ap, ◌∙◌}
 use native.Mathlib.Omega.{arith}
 use lib.ListN.{drop, length-set}
 use borrow.Author.Tests.{not-true, not-false}
-use Rattle.settle_core.proofs.JudgeLaws.{none_opens, handed_refusal, first_fault, first_pair, read_fault, read_pair}
+use Rattle.settle_core.proofs.JudgeLaws.{none_opens, handed_refusal, first_fault, first_pair, read_so_far, read_closed, read_all_lem, read_fault, read_pair}
 use Rattle.settle_core.proofs.judge.judge.Goals as goal
 
 pub returns-then-not-opens_at-clause-result_value : goal.returns-then-not-opens_at-clause-result_value
@@ -23,6 +24,12 @@ loop-n-init c =
     let t = c.args.text.now in
     let p = c.in_ok-first in
     (first_pair t (sym o.ensures ∙ not-false o.result (cc)) p.first.pair _ (drop p.first.next t) refl p.ensures.text_value, p.ensures.next_in_bounds, refl)
+
+pub returns-then-not-opens_at-2-clause-result_value : goal.returns-then-not-opens_at-2-clause-result_value
+returns-then-not-opens_at-2-clause-result_value c =
+    let o = c.opens_at-in-loop-n in
+    let l = c.loop-n in
+    c.signalled.ensures.result_value ∙ read_closed l.pairs l.n (drop l.at c.args.text.now) (sym o.ensures ∙ not-true o.result (cc)) ∙ sym l.invariant.0
 
 pub returns-in_err-read-clause-result_value : goal.returns-in_err-read-clause-result_value
 returns-in_err-read-clause-result_value c =
@@ -44,3 +51,9 @@ loop-n-preserved c =
       p.ensures.next_in_bounds,
       length-set l.pairs l.n _ ∙ l.invariant.2,
     )
+
+pub returns-clause-result_value : goal.returns-clause-result_value
+returns-clause-result_value c =
+    let l = c.loop-n in
+    c.signalled-2.ensures.result_value ∙ read_all_lem l.pairs 8 (drop l.at c.args.text.now) (omega arith)
+    ∙ ap (λ (n : ℕ). read_so_far l.pairs n (drop l.at c.args.text.now)) (omega arith) ∙ sym l.invariant.0
