@@ -108,13 +108,19 @@ pub fn is_none(m: TransformMethod) -> bool
 pub fn is_normalizing(m: TransformMethod) -> bool
     ensures { result ≡ normalizes m }
 {
-    matches!(m, TransformMethod::NORMALIZE | TransformMethod::NORMALIZE_DIFFERENCE)
+    matches!(
+        m,
+        TransformMethod::NORMALIZE | TransformMethod::NORMALIZE_DIFFERENCE
+    )
 }
 
 pub fn is_differencing(m: TransformMethod) -> bool
     ensures { result ≡ differences m }
 {
-    matches!(m, TransformMethod::DIFFERENCE | TransformMethod::NORMALIZE_DIFFERENCE)
+    matches!(
+        m,
+        TransformMethod::DIFFERENCE | TransformMethod::NORMALIZE_DIFFERENCE
+    )
 }
 
 pub(crate) fn is_centring(m: TransformMethod) -> bool

@@ -18,6 +18,7 @@ ghost use Rattle.trcf_forecast.specs.Lengths.{sizes_in};
 use ranges::rangevector::{Range, cascaded_add};
 use refusal::Refusal;
 use trcf::head::{Preprocessor, get_dimension, head_row};
+use trcf::shingle::copy_in;
 use trcf::time::{last_time, timedrift_of, timescale_of};
 use trcf::transformer::invert_forecast_in_place;
 use trcf::types::{TransformMethod, is_augmented, is_differencing, is_gap};
@@ -38,6 +39,7 @@ struct Lengths {
 }
 
 // Whether the values make no blocks of d to cascade.
+#[tactic(auto, unfolding(ranges::specs::RangeVector::unblocked))]
 fn is_unblocked(d: usize, n: usize) -> bool
     ensures { result ≡ unblocked d n }
 {
@@ -52,6 +54,7 @@ fn is_broken(m: TransformMethod, d: usize, n: usize) -> bool
 }
 
 // Row 16.
+#[tactic(auto, unfolding(trcf::specs::Calls::forecast_unfit), using(trcf::proofs::LengthLaws::dimension_known))]
 fn broken_row(head: Preprocessor, values: usize, upper: usize, lower: usize) -> Result<(), Refusal>
     requires { Bounded (settings_of head) }
     ensures value { row_of result ≡ first_of ((forecast_unfit (settings_of head) values upper lower, 16) ∷ []) }
@@ -89,25 +92,33 @@ fn output_row(head: Preprocessor, lengths: Lengths) -> Result<(), Refusal>
     ensures value { row_of result ≡ first_of ((forecast_output_short (settings_of head) (sizes_in lengths), 20) ∷ []) }
     ensures long { OnOk result (augments head.forest_mode ≡ true → Long (settings_of head) (sizes_in lengths)) }
 {
-    if !is_augmented(head.forest_mode) {
-        return Ok(());
-    }
-    let h = lengths.values / get_dimension(head);
-    let n = h * (head.transformer.input_length * head.shingle_size);
-    if is_shorter(lengths.values_out, lengths.upper_out, lengths.lower_out, n)
-        || is_shorter(
+    let d = head.transformer.input_length;
+    let k = head.shingle_size;
+    let a = get_dimension(head);
+    if is_augmented(head.forest_mode) {
+        let h = lengths.values / a;
+        if is_shorter(
+            lengths.values_out,
+            lengths.upper_out,
+            lengths.lower_out,
+            h * (d * k),
+        ) {
+            return Err(Refusal::TooShort);
+        }
+        if is_shorter(
             lengths.times_out,
             lengths.times_upper_out,
             lengths.times_lower_out,
             h,
-        )
-    {
-        return Err(Refusal::TooShort);
+        ) {
+            return Err(Refusal::TooShort);
+        }
     }
     Ok(())
 }
 
 // Row 20 of what the call reads of the preprocessor.
+#[tactic(auto, unfolding(trcf::specs::Extrapolation::read_short))]
 fn unread_row(
     head: Preprocessor,
     statistics: usize,
@@ -180,7 +191,10 @@ fn copy_fronts(src: &[f32], a: usize, m: usize, h: usize, dst: &mut [f32])
     ensures { dst.new ≡ fronts a m h src.now }
 {
     for i in 0..h {
-        dst[i * m..i * m + m].copy_from_slice(&src[i * a..i * a + m]);
+        let from = i * a;
+        let to = from + m;
+        let at = i * m;
+        copy_in(dst, at, &src[from..to]);
     }
 }
 
@@ -218,6 +232,7 @@ fn invert_numbers(
 }
 
 // 1 / weight_time, 0 for weight_time 0.
+#[tactic(auto, unfolding(trcf::specs::Steps::Inverting::time_factor))]
 fn time_factor(weight: f32) -> f64
     ensures { result ≡ time_factor weight }
 {

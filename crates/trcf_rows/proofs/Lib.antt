@@ -1,1 +1,2 @@
 pub mod NewestLaws
+pub mod RowWays

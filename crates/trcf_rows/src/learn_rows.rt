@@ -26,6 +26,7 @@ pub fn places_back(relative_index: i32) -> usize
 }
 
 // Rows 10 to 12.
+#[tactic(auto, unfolding(trcf::specs::Steps::Rows::input_row))]
 fn input_row(
     head: Preprocessor,
     n: usize,
@@ -71,9 +72,7 @@ fn is_count_full(head: Preprocessor) -> bool
 fn is_full(head: Preprocessor) -> bool
     ensures { result ≡ (ltb head.values_seen head.stop_normalization && leb count_limit head.transformer.count) || (leb seen_limit head.values_seen || leb seen_limit head.internal_timestamp) }
 {
-    is_count_full(head)
-        || SEEN_LIMIT <= head.values_seen
-        || SEEN_LIMIT <= head.internal_timestamp
+    is_count_full(head) || SEEN_LIMIT <= head.values_seen || SEEN_LIMIT <= head.internal_timestamp
 }
 
 // Whether the outputs of an anomaly are too short.
@@ -84,6 +83,7 @@ fn is_anomaly_short(grade: f32, expects: bool, d: usize, past: usize, expected: 
 }
 
 // Rows 13, 14, 18 and 20, past waiting.
+#[tactic(auto, using(trcf::proofs::LengthLaws::block_known, trcf::proofs::LengthLaws::dimension_known), unfolding(trcf::specs::Steps::Rows::learn_row, trcf::specs::Settings::block))]
 fn learn_row(
     head: Preprocessor,
     y: usize,
@@ -122,6 +122,7 @@ fn learn_row(
 }
 
 // Rows 18 and 20 while waiting.
+#[tactic(auto, using(trcf::proofs::LengthLaws::block_known), unfolding(trcf::specs::Steps::Rows::waiting_row, trcf::specs::Settings::block))]
 fn waiting_row(head: Preprocessor, deviations_out: usize) -> Result<(), Refusal>
     requires { Bounded (settings_of head) }
     ensures { row_of result ≡ waiting_row head deviations_out }
@@ -137,6 +138,7 @@ fn waiting_row(head: Preprocessor, deviations_out: usize) -> Result<(), Refusal>
 }
 
 // Rows 13 to 20.
+#[tactic(auto, unfolding(trcf::specs::Steps::Rows::learning_row))]
 fn learning_row(
     head: Preprocessor,
     y: usize,

@@ -27,11 +27,8 @@ pub fn is_imputing(m: ForestMode) -> bool
 }
 
 // Rows 1 to 9, also of a head that comes from outside.
-pub fn settings_row(
-    b: PreprocessorBuilder,
-    weights: &[f32],
-    codes: &[u16],
-) -> Result<(), Refusal>
+#[tactic(auto, unfolding(trcf::specs::Settings::settings_row))]
+pub fn settings_row(b: PreprocessorBuilder, weights: &[f32], codes: &[u16]) -> Result<(), Refusal>
     ensures value { row_of result ≡ settings_row (settings_from b weights.now codes.now) }
     ensures accepted { OnOk result (Accepted (settings_from b weights.now codes.now)) }
 {
@@ -98,6 +95,7 @@ pub fn head_settings_row(head: Preprocessor) -> Result<(), Refusal>
     settings_row(builder, &weights[..n], &codes[..n])
 }
 
+#[tactic(auto, using(trcf::proofs::ShingleLaws::below_top, trcf::proofs::ShingleLaws::not_below_top))]
 fn is_finite(v: f32) -> bool
     ensures { result ≡ finite (v ∷ []) }
 {
@@ -113,6 +111,7 @@ pub fn all_finite(x: &[f32]) -> bool
 }
 
 // Whether a reading is to wait until the statistics have begun.
+#[tactic(auto, unfolding(trcf::specs::Settings::waiting))]
 pub fn is_waiting(head: Preprocessor) -> bool
     ensures { result ≡ waiting (settings_of head) head.values_seen }
 {
@@ -134,6 +133,7 @@ fn is_left(head: Preprocessor) -> bool
 }
 
 // Whether the head's counters are such as no preprocessor has.
+#[tactic(auto, unfolding(trcf::specs::View::counters_unfit))]
 pub fn is_misfit(head: Preprocessor) -> bool
     ensures { result ≡ counters_unfit head }
 {
@@ -149,6 +149,7 @@ pub fn is_misfit(head: Preprocessor) -> bool
 }
 
 // Every row of a head that comes from outside.
+#[tactic(auto, using(trcf::proofs::NumberLaws::refused_first), unfolding(trcf::specs::View::outside_row))]
 pub fn outside_row(head: Preprocessor) -> Result<(), Refusal>
     ensures { row_of result ≡ outside_row head }
 {
@@ -181,6 +182,7 @@ pub(crate) fn lengths_of(
 }
 
 // Refused where a lent list is too short.
+#[tactic(auto, using(trcf::proofs::LengthLaws::dimension_known))]
 fn short_row(head: Preprocessor, lengths: LentLengths) -> Result<(), Refusal>
     requires { Bounded (settings_of head) }
     ensures { row_of result ≡ first_of ((lengths_short (settings_of head) lengths, 20) ∷ []) }
@@ -201,6 +203,7 @@ fn short_row(head: Preprocessor, lengths: LentLengths) -> Result<(), Refusal>
 }
 
 // Refused where the head and what is lent do not go together.
+#[tactic(auto, unfolding(trcf::specs::Steps::Rows::lengths_row))]
 pub(crate) fn lent_row(head: Preprocessor, lengths: LentLengths) -> Result<(), Refusal>
     requires { Bounded (settings_of head) }
     ensures { row_of result ≡ lengths_row head lengths }
@@ -316,6 +319,7 @@ pub fn transform_row(
 }
 
 // Whether one of the first n of m is there.
+#[tactic(auto, unfolding(trcf::specs::Steps::Rows::any_of))]
 fn is_any(n: usize, m: usize) -> bool
     ensures { result ≡ any_of n m }
 {
@@ -323,6 +327,7 @@ fn is_any(n: usize, m: usize) -> bool
 }
 
 // Whether a drain comes when nothing waits any more; m times are lent.
+#[tactic(auto, unfolding(trcf::specs::Steps::Rows::spent))]
 fn is_spent(head: Preprocessor, m: usize) -> bool
     ensures { result ≡ spent head m }
 {
@@ -330,6 +335,7 @@ fn is_spent(head: Preprocessor, m: usize) -> bool
 }
 
 // Whether a drain has something to do.
+#[tactic(auto, using(trcf::proofs::RowLaws::any_of_lem))]
 pub fn is_due(head: Preprocessor, initial_timestamps: &[u64]) -> bool
     ensures { result ≡ eqb head.values_seen head.start_normalization && not (null (take head.initial_len initial_timestamps.now)) }
 {
@@ -352,6 +358,7 @@ fn is_full(head: Preprocessor) -> bool
 }
 
 // Whether a drain that has something to do would pass a limit; m times are lent.
+#[tactic(auto, unfolding(trcf::specs::Steps::Rows::overdue))]
 fn is_overdue(head: Preprocessor, m: usize) -> bool
     requires { Bounded (settings_of head) }
     ensures { result ≡ overdue head m }
@@ -429,6 +436,7 @@ pub fn shingled_point_row(
 }
 
 // Rows 18 and 20 of a point, past waiting; m times are lent, and the output is of n.
+#[tactic(auto, using(trcf::proofs::LengthLaws::dimension_known), unfolding(trcf::specs::Steps::Rows::past_row))]
 fn past_row(head: Preprocessor, m: usize, n: usize) -> Result<(), Refusal>
     requires { Bounded (settings_of head) }
     ensures { row_of result ≡ past_row head m n }

@@ -14,12 +14,6 @@ pub scale_into-requires : goal.scale_into-requires
 unfolding block
 scale_into-requires c = record { sound = record { some = omega arith; few = omega arith; room = omega arith }; input_length_in_bounds = omega arith }
 
-pub is_augmented-requires : goal.is_augmented-requires
-is_augmented-requires c = tt
-
-pub offset_bounds-output-d : goal.offset_bounds-output-d
-offset_bounds-output-d c = omega arith
-
 pub bounds-output-d : goal.bounds-output-d
 bounds-output-d c =
     let c8 = c in

@@ -14,15 +14,6 @@ pub shift_into-requires : goal.shift_into-requires
 unfolding block
 shift_into-requires c = record { sound = record { some = omega arith; few = omega arith; room = omega arith }; input_length_in_bounds = omega arith }
 
-pub is_augmented-requires : goal.is_augmented-requires
-is_augmented-requires c = tt
-
-pub last_time-requires : goal.last_time-requires
-last_time-requires c = tt
-
-pub offset_bounds-output-d : goal.offset_bounds-output-d
-offset_bounds-output-d c = omega arith
-
 pub bounds-output-d : goal.bounds-output-d
 bounds-output-d c =
     let c8 = c in

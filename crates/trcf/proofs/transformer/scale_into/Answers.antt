@@ -21,8 +21,8 @@ loop-i-preserved c =
     let a = c.args in
     let h : L.i < length a.output.now = omega arith in
     rw (add-one, L.invariant, c.scale_at.ensures) (over_more a.output.now
-        (λ k. cond (normalizes a.t.transform_method) (mul binary32 (weight_at (transformer_view a.t a.s.now) k) (normalized_scale (transformer_view a.t a.s.now) k))
-        (weight_at (transformer_view a.t a.s.now) k)) L.i h)
+    (λ k. cond (normalizes a.t.transform_method) (mul binary32 (weight_at (transformer_view a.t a.s.now) k) (normalized_scale (transformer_view a.t a.s.now) k))
+    (weight_at (transformer_view a.t a.s.now) k)) L.i h)
 
 pub returns : goal.returns
 unfolding scales

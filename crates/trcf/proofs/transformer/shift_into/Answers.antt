@@ -21,7 +21,7 @@ loop-i-preserved c =
     let a = c.args in
     let h : L.i < length a.output.now = omega arith in
     rw (add-one, L.invariant, c.shift_at.ensures) (over_more a.output.now
-        (λ k. cond (centres a.t.transform_method) (add binary32 zero32 (narrowed (mean_at a.s.now k))) zero32) L.i h)
+    (λ k. cond (centres a.t.transform_method) (add binary32 zero32 (narrowed (mean_at a.s.now k))) zero32) L.i h)
 
 pub returns : goal.returns
 unfolding shifts basic_shift

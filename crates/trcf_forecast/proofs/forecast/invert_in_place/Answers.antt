@@ -15,23 +15,11 @@ use Rattle.trcf.specs.View.{settings_of}
 use Rattle.trcf.proofs.ExtrapolationLaws.{input_within, newest_is, newest_length, inverted_free}
 use Rattle.trcf_forecast.proofs.forecast.invert_in_place.Goals as goal
 
-pub overflow_sub-b : goal.overflow_sub-b
-overflow_sub-b c =
+pub overflow_sub-newest : goal.overflow_sub-newest
+overflow_sub-newest c =
     let A = c.args in
     let w = input_within A.head.transformer.input_length A.head.shingle_size c.requires.bounded.k_pos in
     omega (arith, c.requires.head_in_bounds.1)
-
-pub offset_bounds-inputs-b : goal.offset_bounds-inputs-b
-offset_bounds-inputs-b c = omega arith
-
-pub slice_bounds-invert_forecast_in_place-count : goal.slice_bounds-invert_forecast_in_place-count
-slice_bounds-invert_forecast_in_place-count c = omega arith
-
-pub slice_bounds-invert_forecast_in_place-start : goal.slice_bounds-invert_forecast_in_place-start
-slice_bounds-invert_forecast_in_place-start c = omega arith
-
-pub slice_bounds-invert_forecast_in_place-end : goal.slice_bounds-invert_forecast_in_place-end
-slice_bounds-invert_forecast_in_place-end c = omega arith
 
 pub returns : goal.returns
 returns c =

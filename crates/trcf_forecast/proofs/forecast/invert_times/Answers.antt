@@ -2,14 +2,38 @@
 use Rattle.trcf.proofs.LengthLaws.{dimension_known, opened, time_fits_lem}
 use native.Mathlib.Omega.{arith}
 use native.Mathlib.Nat.{mul-le-mul}
-use mathlib.Core.Path.{◌∙◌}
-use Prim.Native.Nat.{◌≤◌}
+use mathlib.Core.Path.{◌≡◌, refl, sym, ap, ◌∙◌}
+use Prim.Native.Nat.{ℕ, ◌≤◌}
+use mathlib.Core.Bool.{false}
+use mathlib.Core.List.{List, [], ◌∷◌}
+use lib.Ieee.{Float, binary64}
+use borrow.Author.Tests.{eq-eqb}
 use lib.ListN.{length}
-use Rattle.ranges.specs.RangeVector.{ranges}
+use Rattle.ranges.specs.RangeVector.{Ranges, RangeOutcome, ranges, operations_of, range_outcome, range_cascaded_add, range_cascaded_add_by, unequal, unblocked}
+use Rattle.std.specs.Prelude.{Result, Ok, Err, IsOk}
+use Rattle.refusal.specs.declared.Refusal.{Refusal}
+use Rattle.refusal.specs.Refusal.{row_of}
+use Rattle.trcf.proofs.NumberLaws.{number_zero}
 use Rattle.trcf.specs.View.{settings_of}
-use Rattle.trcf.proofs.ExtrapolationLaws.{dimension_augmented, times_done}
+use Rattle.trcf.proofs.ExtrapolationLaws.{dimension_augmented, one_whole, times_done}
 use borrow.Author.Rules.{rules}
 use Rattle.trcf_forecast.proofs.forecast.invert_times.Goals as goal
+
+-- what the code says of every width, at the format
+at_format : (base : List Float) (row : ℕ) (x w : Ranges) → range_outcome row x ≡ range_cascaded_add_by (operations_of binary64) base w
+    → range_outcome row x ≡ range_cascaded_add binary64 base w
+unfolding range_cascaded_add
+at_format base row x w e = e
+
+-- the cascade is not refused
+taken : (base : List Float) (row : ℕ) (x w : Ranges) → length w.upper ≡ length w.values → length w.lower ≡ length w.values → unblocked (length base) (length w.values) ≡ false
+    → range_outcome row x ≡ range_cascaded_add_by (operations_of binary64) base w → row ≡ 0
+unfolding unequal
+taken base row x w u l b e = ap (λ (o : RangeOutcome). o.row) (rw (eq-eqb _ _ (sym u), eq-eqb _ _ (sym l), b) at e)
+
+ok_of : {A : Type 0} (r : Result A Refusal) → row_of r ≡ 0 → IsOk r
+ok_of (Ok a) z = refl
+ok_of (Err e) z = absurd (number_zero e z)
 
 pub overflow_mul-m : goal.overflow_mul-m
 overflow_mul-m c =
@@ -25,13 +49,21 @@ write_times-requires c =
     let f = dimension_augmented (settings_of A.head) P.forest_mode_value in
     record { m_lt_a = omega (arith, e, f, P.bounded.k_pos); upper_out_len = P.upper_out_len; a_in_bounds = (rw e P.head_in_bounds_2.0, rw e P.head_in_bounds_2.1, rw e P.head_in_bounds_2.2) }
 
+pub unwrap-requires : goal.unwrap-requires
+unwrap-requires c =
+    let P = c.requires in
+    let W = c.write_times in
+    let v = W.auto.values_out in
+    ok_of c.cascaded_add.result (taken (c.u64_to_f64.result ∷ []) _ (ranges c.cascaded_add.new.values c.cascaded_add.new.upper c.cascaded_add.new.lower) (ranges W.new.values_out W.new.upper_out W.new.lower_out) (W.auto.upper_out ∙ P.upper_out_len.0 ∙ sym v) (W.auto.lower_out ∙ P.upper_out_len.1 ∙ sym v)
+    (ap (unblocked 1) v ∙ one_whole _ P.nonzero) c.cascaded_add.ensures)
+
 pub returns : goal.returns
 returns c =
     let at-get-dimension = c.get_dimension-a in
-    let at-is-gap = c.is_gap-gap in
-    let at-time-factor = c.time_factor-factor in
-    let at-timescale-of = c.timescale_of-scale in
-    let at-timedrift-of = c.timedrift_of-drift in
+    let at-is-gap = c.is_gap in
+    let at-time-factor = c.time_factor in
+    let at-timescale-of = c.timescale_of in
+    let at-timedrift-of = c.timedrift_of in
     let at-u64-to-f64 = c.u64_to_f64 in
     let A = c.args in
     let P = c.requires in
@@ -43,4 +75,4 @@ returns c =
     ((opened _ at-timescale-of.ensures (time_fits_lem P.bounded P.head_in_bounds))) ((opened _ at-timedrift-of.ensures (time_fits_lem P.bounded P.head_in_bounds)))
     (dimension_known at-get-dimension.ensures (search rules)).0 at-u64-to-f64.ensures W.ensures P.nonzero W.auto.values_out
     (W.auto.upper_out ∙ P.upper_out_len.0) (W.auto.lower_out ∙ P.upper_out_len.1)
-    c.cascaded_add_f64.ensures
+    (at_format _ _ _ _ c.cascaded_add.ensures)

@@ -25,10 +25,10 @@ overflow_mul-d c =
 pub overflow_mul-h : goal.overflow_mul-h
 overflow_mul-h c =
     let p = numbers_within (settings_of c.args.head) in
-    let q = numbers_fit c.args.values c.get_dimension-a.result
+    let q = numbers_fit c.args.lengths.values c.get_dimension-a.result
     (c.args.head.transformer.input_length * c.args.head.shingle_size)
     (rw (dimension_known c.get_dimension-a.ensures (search rules)).0 p) in
-    omega (arith, c.ranges.values)
+    omega arith
 
 pub returns-then-is_shorter : goal.returns-then-is_shorter
 unfolding forecast_output_short lookahead
@@ -39,7 +39,7 @@ returns-then-is_shorter c = record {
         c.if-is_augmented.true,
     sym c.is_shorter.ensures.value ∙ c.if-is_shorter.true,
   );
-  long = λ e. absurd (omega (arith, e));
+  long = tt;
 }
 
 pub returns-then-is_shorter-2 : goal.returns-then-is_shorter-2
@@ -53,7 +53,7 @@ returns-then-is_shorter-2 c = record {
         c.if-is_shorter.false,
     sym c.is_shorter-then-is_augmented.ensures.value ∙ c.if-is_shorter-2.true,
   );
-  long = λ e. absurd (omega (arith, e));
+  long = tt;
 }
 
 pub returns-else-is_shorter-2 : goal.returns-else-is_shorter-2
@@ -70,7 +70,7 @@ returns-else-is_shorter-2 c =
         sym at-is-shorter.ensures.value ∙ at-if2.false,
         sym at-is-shorter2.ensures.value ∙ c.if-is_shorter-2.false,
       );
-      long = λ e a. record {
+      long = λ a. record {
         numbers = rw (← (dimension_known at-get-dimension.ensures (search rules)).0) (at-is-shorter.ensures.longer at-if2.false);
         times = rw
             (← (dimension_known at-get-dimension.ensures (search rules)).0) (at-is-shorter2.ensures.longer c.if-is_shorter-2.false);
@@ -79,4 +79,4 @@ returns-else-is_shorter-2 c =
 
 pub returns-else-is_augmented : goal.returns-else-is_augmented
 unfolding forecast_output_short lookahead
-returns-else-is_augmented c = record { value = rw (sym c.is_augmented.ensures ∙ c.if-is_augmented.false); long = λ e a. absurd (true_false (sym a ∙ sym c.is_augmented.ensures ∙ c.if-is_augmented.false)) }
+returns-else-is_augmented c = record { value = rw (sym c.is_augmented.ensures ∙ c.if-is_augmented.false); long = λ a. absurd (true_false (sym a ∙ sym c.is_augmented.ensures ∙ c.if-is_augmented.false)) }

@@ -8,7 +8,7 @@ use mir.ValLaws.{to_z-of_z}
 use denote.Bor.{Bor}
 use lib.Ieee.{Float, lt}
 use lib.ListN.{length}
-use Rattle.std.specs.Prelude.{Option, is_some}
+use Rattle.std.specs.Prelude.{Option, Some, None, is_some}
 use Rattle.trcf.specs.Transformer.{zero32}
 use Rattle.trcf.specs.Calls.{post_process}
 use Rattle.trcf.specs.View.{lent, learn_call, row_of}
@@ -16,6 +16,10 @@ use Rattle.trcf.specs.Steps.Learning.{Learnable, learned_parts}
 use Rattle.trcf.proofs.WayLaws.{way_refused, way_held, way_none, way_learnt, room_held, room_learnt}
 use Rattle.trcf_learn.specs.Given.{list_in}
 use Rattle.trcf_learn.proofs.post_process.post_process.Goals as goal
+
+none_given : (y : Option (Bor (List Float))) → ((p : Bor (List Float)) → y ≡ Some p → ⊥) → is_some y ≡ false
+none_given None n = refl
+none_given (Some p) n = absurd (n p refl)
 
 pub returns-in_err-post_process_row : goal.returns-in_err-post_process_row
 returns-in_err-post_process_row c =
@@ -64,14 +68,14 @@ returns-then-is_waiting c =
 pub returns-in_default : goal.returns-in_default
 returns-in_default c =
     let a = c.args in
-    let has : is_some a.y ≡ false = let h = c.in_default in ? in
+    let has : is_some a.y ≡ false = none_given a.y c.in_default.not-Some in
     way_none a.head a.statistics.now a.last_shingled_input.now a.last_shingled_point.now a.previous_timestamps.now a.initial_values.now
     a.initial_timestamps.now a.input.now a.timestamp (is_some a.y) (list_in a.y) (is_some a.expected) (list_in a.expected) a.grade a.relative_index
     (to_z w32 (of_z w32 a.relative_index)) a.deviations_out.now a.past_out.now a.expected_out.now (to_z-of_z w32 a.relative_index c.ranges.relative_index) 0
     (c.in_ok-post_process_row.ensures.value ∙ (λ j. row_of a.head (lent a.statistics.now a.last_shingled_input.now a.last_shingled_point.now a.previous_timestamps.now a.initial_values.now a.initial_timestamps.now)
     (post_process (learn_call a.input.now a.timestamp (c.is_some.ensures j) (c.given.ensures j) (c.is_some-2.ensures j) (c.given-2.ensures j) a.grade
     (to_z w32 (of_z w32 a.relative_index)) a.deviations_out.now a.past_out.now a.expected_out.now)))) (λ z. c.in_ok-post_process_row.ensures.ready) refl
-    c.is_waiting.result c.is_waiting.ensures c.if-is_waiting.false has _ refl
+    c.is_waiting.result c.is_waiting.ensures c.if-is_waiting.false has
 
 pub post_process_learning-requires : goal.post_process_learning-requires
 post_process_learning-requires c =

@@ -154,9 +154,9 @@ drain_all-requires c =
       stamps_nonzero = due_some h l e;
     }
 
-pub overflow_add-t : goal.overflow_add-t
+pub overflow_add-head : goal.overflow_add-head
 unfolding due facts view
-overflow_add-t c =
+overflow_add-head c =
     let a = c.args in
     let h = a.head in
     let l = lent a.statistics.now a.last_shingled_input.now a.last_shingled_point.now a.previous_timestamps.now a.initial_values.now a.initial_timestamps.now in
@@ -167,9 +167,9 @@ overflow_add-t c =
     let i = internal_room h l c.requires.initial_timestamps_value e in
     omega (arith, f.few)
 
-pub overflow_add-head : goal.overflow_add-head
+pub overflow_add-head-2 : goal.overflow_add-head-2
 unfolding due facts view
-overflow_add-head c =
+overflow_add-head-2 c =
     let a = c.args in
     let h = a.head in
     let l = lent a.statistics.now a.last_shingled_input.now a.last_shingled_point.now a.previous_timestamps.now a.initial_values.now a.initial_timestamps.now in

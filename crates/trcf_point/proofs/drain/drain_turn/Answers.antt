@@ -111,16 +111,16 @@ offset_bounds-values-i-2 c =
     let m = length a.values.now in
     block_bytes a.i n d m at_pre.i_in_bounds (flat_of n d m at_pre.values_len) c.well_formed.1.1.1.1.1.0.1
 
-pub slice_bounds-shift_vector-count : goal.slice_bounds-shift_vector-count
-slice_bounds-shift_vector-count c = omega arith
+pub slice_bounds-shift_in-count : goal.slice_bounds-shift_in-count
+slice_bounds-shift_in-count c = omega arith
 
-pub slice_bounds-shift_vector-start : goal.slice_bounds-shift_vector-start
-slice_bounds-shift_vector-start c =
+pub slice_bounds-shift_in-start : goal.slice_bounds-shift_in-start
+slice_bounds-shift_in-start c =
     let a = c.args in
     block_start a.i a.head.transformer.input_length
 
-pub slice_bounds-shift_vector-end : goal.slice_bounds-shift_vector-end
-slice_bounds-shift_vector-end c =
+pub slice_bounds-shift_in-end : goal.slice_bounds-shift_in-end
+slice_bounds-shift_in-end c =
     let at_pre = c.requires in
     let a = c.args in
     let d = a.head.transformer.input_length in
@@ -128,8 +128,8 @@ slice_bounds-shift_vector-end c =
     let m = length a.values.now in
     block_end a.i n d m at_pre.i_in_bounds (flat_of n d m at_pre.values_len) c.well_formed.1.1.1.1.1.0.1
 
-pub slice_bounds-shift_vector-end-2 : goal.slice_bounds-shift_vector-end-2
-slice_bounds-shift_vector-end-2 c =
+pub slice_bounds-shift_in-end-2 : goal.slice_bounds-shift_in-end-2
+slice_bounds-shift_in-end-2 c =
     let few = c.requires.bounded.d_few in
     simp length-take (omega (arith, c.write_transform.auto, block_known (c.block_of-b.ensures.value, c.block_of-b.ensures.upper_bound) few))
 
@@ -146,9 +146,9 @@ returns c =
     let t = c.write_transform in
     let l = c.last_time-before in
     let b = block_in a.i n d (omega (arith, q)) in record {
-      inputs_after = (roomy _ c.shift_vector.ensures
+      inputs_after = (roomy _ c.shift_in.ensures
           (let m = le-mul_of_pos_right d q.bounded.k_pos in simp (length-drop, length-take) (omega (arith, q)))) ∙ ap (shift_in a.inputs.now) (block_cut a.i d a.values.now);
-      points_after = (roomy _ c.shift_vector-2.ensures
+      points_after = (roomy _ c.shift_in-2.ensures
           (let m = block_fits s q.bounded.k_pos in simp length-take (omega (arith, t.auto, w, block_is s, q))))
           ∙ point_cut s a.s.now a.head.values_seen (reading (last_n d a.inputs.now) l.result) d a.values.now a.i _ _ _ a.points.now
           c.block_of-b.result e
@@ -157,5 +157,5 @@ returns c =
           (q.bounded, (q.exact.all_statistics, (q.exact.all_input, (simp (length-drop, length-take) (omega (arith, q)), omega (arith, w, block_is s)))))))
           ∙ ap (λ (k : ℕ). shift_in a.points.now (transformed_after s a.s.now a.head.values_seen (reading (last_n d a.inputs.now) k)
           (reading_at d a.values.now a.stamps.now a.i))) l.ensures;
-      times_after = (roomy _ c.shift_time.ensures (omega (arith, q.bounded.k_pos, q.exact.all_times)));
+      times_after = (roomy _ c.shift_in-3.ensures (omega (arith, q.bounded.k_pos, q.exact.all_times)));
     }

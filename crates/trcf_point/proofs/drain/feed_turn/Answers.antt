@@ -10,17 +10,14 @@ use Rattle.trcf.specs.View.{settings_of}
 use borrow.Author.Rules.{rules}
 use Rattle.trcf_point.proofs.drain.feed_turn.Goals as goal
 
-pub overflow_add-count : goal.overflow_add-count
-overflow_add-count c = omega arith
-
 pub overflow_mul-p : goal.overflow_mul-p
 overflow_mul-p c =
     let a = c.args in
     let d = a.head.transformer.input_length in
     let n = length a.stamps.now in
     let m = length a.values.now in
-    block_at c.place_before-p.result n d m
-    (place_inside a.i n c.place_before-p.result c.place_before-p.ensures c.requires.i_in_bounds)
+    block_at c.saturating_sub-p.result n d m
+    (place_inside a.i n c.saturating_sub-p.result c.saturating_sub-p.ensures c.requires.i_in_bounds)
     c.requires.input_length_in_bounds c.well_formed.1.1.0.1
 
 pub overflow_mul-p-2 : goal.overflow_mul-p-2
@@ -29,8 +26,8 @@ overflow_mul-p-2 c =
     let d = a.head.transformer.input_length in
     let n = length a.stamps.now in
     let m = length a.values.now in
-    block_at c.place_before-p.result n d m
-    (place_inside a.i n c.place_before-p.result c.place_before-p.ensures c.requires.i_in_bounds)
+    block_at c.saturating_sub-p.result n d m
+    (place_inside a.i n c.saturating_sub-p.result c.saturating_sub-p.ensures c.requires.i_in_bounds)
     c.requires.input_length_in_bounds c.well_formed.1.1.0.1
 
 pub overflow_add-p : goal.overflow_add-p
@@ -39,8 +36,8 @@ overflow_add-p c =
     let d = a.head.transformer.input_length in
     let n = length a.stamps.now in
     let m = length a.values.now in
-    block_to c.place_before-p.result n d m
-    (place_inside a.i n c.place_before-p.result c.place_before-p.ensures c.requires.i_in_bounds)
+    block_to c.saturating_sub-p.result n d m
+    (place_inside a.i n c.saturating_sub-p.result c.saturating_sub-p.ensures c.requires.i_in_bounds)
     c.requires.input_length_in_bounds c.well_formed.1.1.0.1
 
 pub offset_bounds-values-p : goal.offset_bounds-values-p
@@ -49,8 +46,8 @@ offset_bounds-values-p c =
     let d = a.head.transformer.input_length in
     let n = length a.stamps.now in
     let m = length a.values.now in
-    block_bytes c.place_before-p.result n d m
-    (place_inside a.i n c.place_before-p.result c.place_before-p.ensures c.requires.i_in_bounds)
+    block_bytes c.saturating_sub-p.result n d m
+    (place_inside a.i n c.saturating_sub-p.result c.saturating_sub-p.ensures c.requires.i_in_bounds)
     c.requires.input_length_in_bounds c.well_formed.1.1.0.1
 
 pub slice_bounds-feed_reading-count : goal.slice_bounds-feed_reading-count
@@ -65,8 +62,8 @@ slice_bounds-feed_reading-end c =
     let d = a.head.transformer.input_length in
     let n = length a.stamps.now in
     let m = length a.values.now in
-    block_end c.place_before-p.result n d m
-    (place_inside a.i n c.place_before-p.result c.place_before-p.ensures c.requires.i_in_bounds)
+    block_end c.saturating_sub-p.result n d m
+    (place_inside a.i n c.saturating_sub-p.result c.saturating_sub-p.ensures c.requires.i_in_bounds)
     c.requires.input_length_in_bounds c.well_formed.1.1.0.1
 
 pub offset_bounds-stamps-p : goal.offset_bounds-stamps-p
@@ -138,5 +135,5 @@ returns c =
     let d = a.head.transformer.input_length in
     let n = length a.stamps.now in
     (opened _ c.feed_reading.ensures (feed_fits_lem (search rules))) ∙ feed_cut (settings_of a.head) (a.head.transformer.count + a.i) a.s.now d a.values.now
-    a.stamps.now c.place_before-p.result a.i
-    c.place_before-p.ensures
+    a.stamps.now c.saturating_sub-p.result a.i
+    c.saturating_sub-p.ensures

@@ -1,101 +1,72 @@
--- `trcf_rows::rows::transform_row` meets its contract: each return by the tests on the way to it. Assumes nothing.
-use Rattle.trcf.proofs.LengthLaws.{block_known}
-use native.Mathlib.Omega.{arith}
+-- The head's row, those of the transform, or that of what is lent.
+use Rattle.std.proofs.Common.{◌≡◌, ◌≤◌, length, sym, ◌∙◌}
 use borrow.Author.Tests.{lt-ltb, le-ltb, eq-eqb, ne_eqb}
-use mathlib.Core.Path.{◌≡◌, sym, ◌∙◌}
+use Rattle.refusal.specs.declared.Refusal.TheVariants.{InputLength, GapFalls, TooShort}
 use Rattle.trcf.specs.Settings.{block}
 use Rattle.trcf.specs.Calls.{rows, table, transform}
 use Rattle.trcf.specs.Preprocessor.{facts}
 use Rattle.trcf.specs.View.{lent, settings_of, view}
-use Rattle.trcf.proofs.RowLaws.{row_head, row_call, row_lent, lengths_row_lem, fitted_of}
+use Rattle.trcf.proofs.LengthLaws.{block_known}
 use Rattle.trcf_rows.proofs.NewestLaws.{behind_is}
+use Rattle.trcf_rows.proofs.RowWays.{head_refuses, test_refuses, lent_decides, lent_ready, not_ok, when_ok}
 use Rattle.trcf_rows.proofs.rows.transform_row.Goals as goal
 
-pub head_row-row-requires : goal.head_row-row-requires
-head_row-row-requires c = tt
-
-pub returns-then-row-ne0 : goal.returns-then-row-ne0
-returns-then-row-ne0 c =
+pub returns-in_err-head_row : goal.returns-in_err-head_row
+returns-in_err-head_row c =
     let a = c.args in
-    let h = a.head in
-    let l = lent a.statistics.now a.last_shingled_input.now a.last_shingled_point.now a.previous_timestamps.now a.initial_values.now
-    a.initial_timestamps.now in
+    let l = lent a.statistics.now a.last_shingled_input.now a.last_shingled_point.now a.previous_timestamps.now a.initial_values.now a.initial_timestamps.now in
     let p = transform a.input.now a.timestamp a.output.now in
-    let z = c.if-row-ne0.true in
-    record { value = row_head h l p c.head_row-row.result c.head_row-row.ensures.value z; ready = λ e. absurd (z e); input_len = λ e. absurd (z e); head_in_bounds = λ e. absurd (z e) }
+    let x = c.from_residual.ensures.1 in
+    record { value = head_refuses a.head l p _ _ x c.in_err-head_row.ensures.value; ready = not_ok _ _ _ x; input_len = not_ok _ _ _ x; head_in_bounds = not_ok _ _ _ x }
 
 pub returns-then-input-d : goal.returns-then-input-d
 unfolding rows table
 returns-then-input-d c =
     let a = c.args in
-    let h = a.head in
-    let l = lent a.statistics.now a.last_shingled_input.now a.last_shingled_point.now a.previous_timestamps.now a.initial_values.now
-    a.initial_timestamps.now in
+    let l = lent a.statistics.now a.last_shingled_input.now a.last_shingled_point.now a.previous_timestamps.now a.initial_values.now a.initial_timestamps.now in
     let p = transform a.input.now a.timestamp a.output.now in
-    let q : 10 ≡ rows (settings_of h) (facts (view h l)) p = rw (ne_eqb _ _ c.if-input-d.true) in
-    let o = c.head_row-row in
-    let z = c.if-row-ne0.false in
-    record { value = row_call h l p 10 (sym o.ensures.value ∙ z) q (λ e. omega (arith, e)); ready = λ e. absurd (omega (arith, e)); input_len = λ e. absurd (omega (arith, e)); head_in_bounds = λ e. absurd (omega (arith, e)) }
-
-pub newest_of-newest-requires : goal.newest_of-newest-requires
-newest_of-newest-requires c = tt
-
-pub is_behind-requires : goal.is_behind-requires
-is_behind-requires c = tt
+    let q : 10 ≡ rows (settings_of a.head) (facts (view a.head l)) p = rw (ne_eqb _ _ c.if-input-d.true) in
+    record { value = test_refuses a.head l p InputLength c.in_ok-head_row.ensures.value q; ready = tt; input_len = tt; head_in_bounds = tt }
 
 pub returns-then-is_behind : goal.returns-then-is_behind
 unfolding rows table
 returns-then-is_behind c =
     let a = c.args in
-    let h = a.head in
-    let l = lent a.statistics.now a.last_shingled_input.now a.last_shingled_point.now a.previous_timestamps.now a.initial_values.now
-    a.initial_timestamps.now in
+    let l = lent a.statistics.now a.last_shingled_input.now a.last_shingled_point.now a.previous_timestamps.now a.initial_values.now a.initial_timestamps.now in
     let p = transform a.input.now a.timestamp a.output.now in
-    let w = c.is_behind in
-    let n = c.newest_of-newest in
-    let b = behind_is h l a.timestamp w.result n.result w.ensures n.ensures in
-    let q : 28 ≡ rows (settings_of h) (facts (view h l)) p = rw (eq-eqb _ _ c.if-input-d.false, sym b ∙ c.if-is_behind.true) in
-    let o = c.head_row-row in
-    let z = c.if-row-ne0.false in
-    record { value = row_call h l p 28 (sym o.ensures.value ∙ z) q (λ e. omega (arith, e)); ready = λ e. absurd (omega (arith, e)); input_len = λ e. absurd (omega (arith, e)); head_in_bounds = λ e. absurd (omega (arith, e)) }
-
-pub block_of-n-requires : goal.block_of-n-requires
-block_of-n-requires c = tt
+    let b = behind_is a.head l a.timestamp c.is_behind.result c.newest_of-newest.result c.is_behind.ensures c.newest_of-newest.ensures in
+    let q : 28 ≡ rows (settings_of a.head) (facts (view a.head l)) p = rw (eq-eqb _ _ c.if-input-d.false, sym b ∙ c.if-is_behind.true) in
+    record { value = test_refuses a.head l p GapFalls c.in_ok-head_row.ensures.value q; ready = tt; input_len = tt; head_in_bounds = tt }
 
 pub returns-then-output-n : goal.returns-then-output-n
 unfolding rows table block
 returns-then-output-n c =
     let a = c.args in
-    let h = a.head in
-    let l = lent a.statistics.now a.last_shingled_input.now a.last_shingled_point.now a.previous_timestamps.now a.initial_values.now
-    a.initial_timestamps.now in
+    let l = lent a.statistics.now a.last_shingled_input.now a.last_shingled_point.now a.previous_timestamps.now a.initial_values.now a.initial_timestamps.now in
     let p = transform a.input.now a.timestamp a.output.now in
-    let o = c.head_row-row in
-    let z = c.if-row-ne0.false in
-    let w = c.is_behind in
-    let n = c.newest_of-newest in
-    let b = behind_is h l a.timestamp w.result n.result w.ensures n.ensures in
-    let k = (block_known (c.block_of-n.ensures.value, c.block_of-n.ensures.upper_bound) (omega (arith, o.ensures.bounded z))).0 in
-    let q : 20 ≡ rows (settings_of h) (facts (view h l)) p =
+    let o = c.in_ok-head_row.ensures in
+    let b = behind_is a.head l a.timestamp c.is_behind.result c.newest_of-newest.result c.is_behind.ensures c.newest_of-newest.ensures in
+    let k = (block_known (c.block_of-n.ensures.value, c.block_of-n.ensures.upper_bound) o.bounded.d_few).0 in
+    let q : 20 ≡ rows (settings_of a.head) (facts (view a.head l)) p =
     rw (eq-eqb _ _ c.if-input-d.false, sym b ∙ c.if-is_behind.false, ← k, lt-ltb _ _ c.if-output-n.true) in
-    record { value = row_call h l p 20 (sym o.ensures.value ∙ z) q (λ e. omega (arith, e)); ready = λ e. absurd (omega (arith, e)); input_len = λ e. absurd (omega (arith, e)); head_in_bounds = λ e. absurd (omega (arith, e)) }
-
-pub lent_row-requires : goal.lent_row-requires
-lent_row-requires c = c.head_row-row.ensures.bounded c.if-row-ne0.false
+    record { value = test_refuses a.head l p TooShort o.value q; ready = tt; input_len = tt; head_in_bounds = tt }
 
 pub returns : goal.returns
 unfolding rows table block
 returns c =
     let a = c.args in
-    let h = a.head in
-    let l = lent a.statistics.now a.last_shingled_input.now a.last_shingled_point.now a.previous_timestamps.now a.initial_values.now
-    a.initial_timestamps.now in
+    let l = lent a.statistics.now a.last_shingled_input.now a.last_shingled_point.now a.previous_timestamps.now a.initial_values.now a.initial_timestamps.now in
     let p = transform a.input.now a.timestamp a.output.now in
-    let o = c.head_row-row in
-    let z = c.if-row-ne0.false in
-    let w = c.is_behind in
-    let n = c.newest_of-newest in
-    let b = behind_is h l a.timestamp w.result n.result w.ensures n.ensures in
-    let k = (block_known (c.block_of-n.ensures.value, c.block_of-n.ensures.upper_bound) (omega (arith, o.ensures.bounded z))).0 in
-    let q : rows (settings_of h) (facts (view h l)) p ≡ 0 =
-    rw (eq-eqb _ _ c.if-input-d.false, sym b ∙ c.if-is_behind.false, ← k, le-ltb _ _ c.if-output-n.false) in record { value = row_lent h l p c.lent_row.result (sym o.ensures.value ∙ z) q c.lent_row.ensures; ready = λ e. record { bounded = o.ensures.bounded z; fitted = fitted_of h l (sym (c.lent_row.ensures ∙ lengths_row_lem h l) ∙ e) }; input_len = λ e. c.if-input-d.false; head_in_bounds = λ e. rw (← k) c.if-output-n.false }
+    let o = c.in_ok-head_row.ensures in
+    let n = c.lengths_of-lengths.ensures in
+    let z = c.lent_row.ensures in
+    let b = behind_is a.head l a.timestamp c.is_behind.result c.newest_of-newest.result c.is_behind.ensures c.newest_of-newest.ensures in
+    let k = (block_known (c.block_of-n.ensures.value, c.block_of-n.ensures.upper_bound) o.bounded.d_few).0 in
+    let q : rows (settings_of a.head) (facts (view a.head l)) p ≡ 0 =
+    rw (eq-eqb _ _ c.if-input-d.false, sym b ∙ c.if-is_behind.false, ← k, le-ltb _ _ c.if-output-n.false) in
+    record {
+      value = lent_decides a.head l p _ _ o.value q n z;
+      ready = lent_ready a.head l _ _ o.bounded n z;
+      input_len = when_ok (length a.input.now ≡ a.head.transformer.input_length) _ c.if-input-d.false;
+      head_in_bounds = when_ok (block (settings_of a.head) ≤ length a.output.now) _ (rw (← k) c.if-output-n.false);
+    }

@@ -1,13 +1,13 @@
 -- `common::deviation::Deviation::corrected` meets its contract: past row 26 the sum and the squares are whole numbers that `moved` may move, and the squares of the readings are exact.
 -- Assumes nothing.
 use Rattle.std.specs.Prelude.{Result, Ok, Err, IsErrAnd}
-use Rattle.std.proofs.Common.{◌≡◌, ℕ, zero, suc, ◌*◌, ◌<◌, ◌≤◌, true, T, ◌+ℤ◌, ◌-ℤ◌, ◌*ℤ◌, sym, refl, ap, ◌∙◌, subst, arith, lit≤, ltb-false}
+use Rattle.std.proofs.Common.{◌≡◌, ◌*◌, ◌≤◌, true, T, ◌+ℤ◌, ◌-ℤ◌, ◌*ℤ◌, sym, ap, ◌∙◌, subst, arith, lit≤, ltb-false}
 use lib.Ieee.{Float, binary64, mul}
 use Rattle.common.specs.declared.deviation.Deviation.{Deviation}
 use Rattle.refusal.specs.declared.Refusal.{Refusal}
 use Rattle.refusal.specs.Refusal.{first_of, number_of, numbered}
 use Rattle.refusal.proofs.RefusalLaws.{refused_is, handed_on_numbered}
-use Rattle.common.specs.Deviation.{deviation_answer, statistic}
+use Rattle.common.specs.Deviation.{statistic}
 use Rattle.common.specs.WholeScores.{whole_float}
 use Rattle.common.specs.Corrected.{reading_limit, length_limit, whole_within, integer_of, correction_rows, corrected_statistic, corrected_of}
 use Rattle.common.specs.Steps.Whole.{Summand}
