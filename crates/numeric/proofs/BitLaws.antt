@@ -1,7 +1,6 @@
 -- Laws of the bits of a not-a-number, which the language leaves undefined: `to_bits` is asked only where a float is a number, `from_bits` only for a number's bits.
-use Rattle.std.proofs.Common.{◌≡◌, ℕ, true, T, sym, refl, ◌∙◌, subst}
-use lib.Ieee.{Float, nan, inf, fin, Format, binary32, binary64, div, is_nan, nan_bits, of_bits}
-use lib.Ieee.Bits.{nan_bits_is}
+use Rattle.std.proofs.Common.{◌≡◌, true, T, sym, refl, subst}
+use lib.Ieee.{Float, nan, inf, fin, Format, binary32, binary64, div, is_nan, of_bits}
 
 pub the_nan : (x : Float) → is_nan x ≡ true → x ≡ nan
 unfolding is_nan
@@ -13,7 +12,3 @@ pub zero_by_zero : (f : Format) → div f (of_bits f 0) (of_bits f 0) ≡ nan
 unfolding div of_bits
 zero_by_zero binary32 = refl
 zero_by_zero binary64 = refl
-
--- every pattern of a not-a-number is read as the one
-pub read_nan : (f : Format) (n : ℕ) → nan_bits f n ≡ true → nan ≡ of_bits f n
-read_nan f n h = sym (the_nan (of_bits f n) (sym (nan_bits_is f n) ∙ h))

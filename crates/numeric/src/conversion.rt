@@ -51,6 +51,7 @@ fn narrow_size(y: u64) -> u64
 }
 
 // The f32 nearest to x. A not-a-number is tested first, because its bits are undefined.
+// Kept: (b) `std::num::nearest_f64_to_f32_with_nan` in its place takes 84 instructions for 40, and 8.5 ns for 5.7.
 pub fn to_f32(x: f64) -> f32
     ensures { result ≡ narrowed x }
 {
@@ -70,19 +71,15 @@ pub fn to_f64(x: f32) -> f64
     std::num::f32_to_f64_with_nan(x)
 }
 
-// The f64 nearest to n: n's 64 digits from the leading one on, rounded to 53. The leading digit adds one to the exponent's field.
-// std::num::nearest_u64_to_f64 promises the same, proved too, by float arithmetic; this one shares its law with u64_to_f32.
+// The f64 nearest to n.
 pub fn u64_to_f64(n: u64) -> f64
     ensures { result ≡ of_int binary64 (pos n) }
 {
-    if n <= 0x20_0000_0000_0000 {
-        return n as f64;
-    }
-    let z = u64::leading_zeros(n) as u64;
-    f64::from_bits((1085 - z) * 0x10_0000_0000_0000 + nearest(n << z, 11))
+    std::num::nearest_u64_to_f64(n)
 }
 
 // The f32 nearest to n, rounded once: by way of an f64 it would be rounded twice.
+// Kept: (b) `std::num::nearest_u64_to_f32` in its place takes 51 instructions for 40, and 6.0 ns for 4.0.
 pub fn u64_to_f32(n: u64) -> f32
     ensures { result ≡ of_int binary32 (pos n) }
 {

@@ -143,16 +143,8 @@ fn mended(n: u64, c: u64) -> Option<u64>
 {
     let w = remainder(n, c)?;
     // no branches, since a guess is often off by one
-    let up = if 0x1000_0000_0000_0000 + c < w {
-        1u64
-    } else {
-        0u64
-    };
-    let down = if w + c <= 0x1000_0000_0000_0000 {
-        1u64
-    } else {
-        0u64
-    };
+    let up = u64::from(0x1000_0000_0000_0000 + c < w);
+    let down = u64::from(w + c <= 0x1000_0000_0000_0000);
     Some(c + up - down)
 }
 
@@ -204,9 +196,9 @@ fn fast_halves(n: u64, near: u64) -> u64
     let square = low * low;
     let q = s * 0x800_0000 + low;
     // no branches, since each answer is as likely
-    let over = if left < square { 2u64 } else { 0u64 };
-    let rest = if left == square { 0u64 } else { 1u64 };
-    q * 2 + rest - over
+    let over = u64::from(left < square);
+    let rest = u64::from(left != square);
+    (q - over) * 2 + rest
 }
 
 // The root of s to 53 digits: the guess, mended, and the division only for a guess too far off, of which none is known.

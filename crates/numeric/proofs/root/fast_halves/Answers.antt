@@ -3,9 +3,10 @@
 use Rattle.std.proofs.Common.{◌≡◌, ℕ, suc, ◌+◌, ◌-◌, ◌*◌, ◌/◌, ◌%◌, ◌^◌, ◌<◌, ◌≤◌, ◌⊎◌, sym, ap, ◌∙◌, subst, inl, inr, le_of_suc-le-suc, lt_of_le_of_lt, mod-lt, mul_assoc, mul_comm, div-lt_iff_lt-mul, mul-le-mul, div-add-mod', mul_right_comm, mul_left_comm, add-one, arith}
 use lib.Arith.{lt_of_le-ne}
 use Rattle.numeric.specs.Root.{halves}
+use Rattle.numeric.proofs.Flags.{lower, differs}
 use Rattle.numeric.proofs.Squares.{square_suc, square_sum, square_back, halves_exact, halves_between, halves_rest}
 use Rattle.numeric.proofs.root.fast_halves.Goals as goal
-use Rattle.numeric.proofs.root.fast_halves.Goals.{After-small_root-s, Joined-left-square-2, then-left-square, else-left-square, then-left-square-2, else-left-square-2}
+use Rattle.numeric.proofs.root.fast_halves.Goals.{After-small_root-s, After-from-rest}
 
 square_shift : (s : ℕ) → s * 2 ^ 27 * (s * 2 ^ 27) ≡ s * s * 2 ^ 54
 square_shift s = mul_assoc s (2 ^ 27) (s * 2 ^ 27) ∙ ap (λ (x : ℕ). s * x) (mul_left_comm (2 ^ 27) s (2 ^ 27)) ∙ sym (mul_assoc s s (2 ^ 54))
@@ -15,11 +16,11 @@ shifted n s = (n - s * s) * 2 ^ 27
 
 -- ---- the two tests
 data Came (left square over rest : ℕ) : Type 0 where
-  above : left < square → over ≡ 2 → rest ≡ 1 → Came left square over rest
+  above : left < square → over ≡ 1 → rest ≡ 1 → Came left square over rest
   same : left ≡ square → over ≡ 0 → rest ≡ 0 → Came left square over rest
   below : square < left → over ≡ 0 → rest ≡ 1 → Came left square over rest
 
-came : (left square over rest : ℕ) → ((left < square) × (over ≡ 2)) ⊎ ((square ≤ left) × (over ≡ 0)) → ((left ≡ square) × (rest ≡ 0)) ⊎ ((left ≡ square → ⊥) × (rest ≡ 1)) → Came left square over rest
+came : (left square over rest : ℕ) → ((left < square) × (over ≡ 1)) ⊎ ((square ≤ left) × (over ≡ 0)) → ((left ≡ square) × (rest ≡ 0)) ⊎ ((left ≡ square → ⊥) × (rest ≡ 1)) → Came left square over rest
 came l s o r (inl x) (inl y) = absurd (no l s x.0 y.0)
   where
     no : (a b : ℕ) → a < b → a ≡ b → ⊥
@@ -28,7 +29,7 @@ came l s o r (inl x) (inr y) = above x.0 x.1 y.1
 came l s o r (inr x) (inl y) = same y.0 x.1 y.1
 came l s o r (inr x) (inr y) = below (lt_of_le-ne x.0 (λ e. y.0 (sym e))) x.1 y.1
 
-small : {l s o r : ℕ} → Came l s o r → (o ≤ 2) × (r ≤ 1)
+small : {l s o r : ℕ} → Came l s o r → (o ≤ 1) × (r ≤ 1)
 small (above a b c) = omega arith
 small (same a b c) = omega arith
 small (below a b c) = omega arith
@@ -102,18 +103,18 @@ module _ (n s : ℕ) (N : 2 ^ 52 ≤ n) (M : n < 2 ^ 54) (R : (s * s ≤ n) × (
       ap (λ (x : ℕ). x + 1) (mul_comm q 2)
       ∙ sym (halves_rest (n * 2 ^ 54) q (shifted n s % (s * 2) * 2 ^ 27 - shifted n s / (s * 2) * (shifted n s / (s * 2))) (omega arith) (omega arith) (omega arith))
 
-  answer : (o r : ℕ) → Came (shifted n s % (s * 2) * 2 ^ 27) (shifted n s / (s * 2) * (shifted n s / (s * 2))) o r → (s * 2 ^ 27 + shifted n s / (s * 2)) * 2 + r - o ≡ halves (n * 2 ^ 54)
-  answer o r (above a b c) = let l = s_lo in minus ((s * 2 ^ 27 + shifted n s / (s * 2)) * 2) o r b c (omega arith) ∙ over a
+  answer : (o r : ℕ) → Came (shifted n s % (s * 2) * 2 ^ 27) (shifted n s / (s * 2) * (shifted n s / (s * 2))) o r → (s * 2 ^ 27 + shifted n s / (s * 2) - o) * 2 + r ≡ halves (n * 2 ^ 54)
+  answer o r (above a b c) = let l = s_lo in minus (s * 2 ^ 27 + shifted n s / (s * 2)) o r b c (omega arith) ∙ over a
     where
-      minus : (q o r : ℕ) → o ≡ 2 → r ≡ 1 → 2 ≤ q → q + r - o ≡ q - 1
+      minus : (q o r : ℕ) → o ≡ 1 → r ≡ 1 → 1 ≤ q → (q - o) * 2 + r ≡ q * 2 - 1
       minus q o r a b h = omega arith
-  answer o r (same a b c) = none ((s * 2 ^ 27 + shifted n s / (s * 2)) * 2) o r b c ∙ exact a
+  answer o r (same a b c) = none (s * 2 ^ 27 + shifted n s / (s * 2)) o r b c ∙ exact a
     where
-      none : (q o r : ℕ) → o ≡ 0 → r ≡ 0 → q + r - o ≡ q
+      none : (q o r : ℕ) → o ≡ 0 → r ≡ 0 → (q - o) * 2 + r ≡ q * 2
       none q o r a b = omega arith
-  answer o r (below a b c) = plus ((s * 2 ^ 27 + shifted n s / (s * 2)) * 2) o r b c ∙ under a
+  answer o r (below a b c) = plus (s * 2 ^ 27 + shifted n s / (s * 2)) o r b c ∙ under a
     where
-      plus : (q o r : ℕ) → o ≡ 0 → r ≡ 1 → q + r - o ≡ q + 1
+      plus : (q o r : ℕ) → o ≡ 0 → r ≡ 1 → (q - o) * 2 + r ≡ q * 2 + 1
       plus q o r a b = omega arith
 
 -- ---- the needs
@@ -158,27 +159,24 @@ overflow_mul-q c = let b = root_hi (goal.at.overflow_mul-q c).After-small_root-s
 pub overflow_add-q : goal.overflow_add-q
 overflow_add-q c = let b = root_hi (goal.at.overflow_add-q c).After-small_root-s in let l = low_hi (goal.at.overflow_add-q c).After-small_root-s in omega arith
 
-how : (c : Joined-left-square-2) → let a = c in let n = c.args.n in let s = c.small_root-s.result in
-    Came (shifted n s % (s * 2) * 2 ^ 27) (shifted n s / (s * 2) * (shifted n s / (s * 2))) c.if-left-square.over c.if-left-square-2.rest
+how : (c : After-from-rest) → let n = c.args.n in let s = c.small_root-s.result in
+    Came (shifted n s % (s * 2) * 2 ^ 27) (shifted n s / (s * 2) * (shifted n s / (s * 2))) c.from-over.result c.from-rest.result
 how c =
-    let a = c in
     let n = c.args.n in
     let s = c.small_root-s.result in
-    came (shifted n s % (s * 2) * 2 ^ 27) (shifted n s / (s * 2) * (shifted n s / (s * 2))) c.if-left-square.over c.if-left-square-2.rest
-    (elim c.if-left-square.branch [ then-left-square w ↦ inl (w.if-left-square.true, w.over-is) | else-left-square w ↦ inr (w.if-left-square.false, w.over-is) ])
-    (elim c.if-left-square-2.branch [ then-left-square-2 w ↦ inl (w.if-left-square-2.true, w.rest-is) | else-left-square-2 w ↦ inr (w.if-left-square-2.false, w.rest-is) ])
+    let left = shifted n s % (s * 2) * 2 ^ 27 in
+    let square = shifted n s / (s * 2) * (shifted n s / (s * 2)) in
+    came left square c.from-over.result c.from-rest.result (lower left square c.from-over.result c.from-over.ensures) (differs left square c.from-rest.result c.from-rest.ensures)
+
+pub overflow_sub-result : goal.overflow_sub-result
+overflow_sub-result c = let b = root_lo (goal.at.overflow_sub-result c).After-small_root-s in let m = small (how (goal.at.overflow_sub-result c).After-from-rest) in omega arith
 
 pub overflow_mul-result : goal.overflow_mul-result
 overflow_mul-result c = let b = root_hi (goal.at.overflow_mul-result c).After-small_root-s in let l = low_hi (goal.at.overflow_mul-result c).After-small_root-s in omega arith
 
 pub overflow_add-result : goal.overflow_add-result
-overflow_add-result c = let a = c in let b = root_hi (goal.at.overflow_add-result c).After-small_root-s in let l = low_hi (goal.at.overflow_add-result c).After-small_root-s in let m = small (how (goal.at.overflow_add-result c).Joined-left-square-2) in omega arith
-
-pub overflow_sub-result : goal.overflow_sub-result
-overflow_sub-result c = let a = c in let b = root_lo (goal.at.overflow_sub-result c).After-small_root-s in let m = small (how (goal.at.overflow_sub-result c).Joined-left-square-2) in omega arith
+overflow_add-result c = let b = root_hi (goal.at.overflow_add-result c).After-small_root-s in let l = low_hi (goal.at.overflow_add-result c).After-small_root-s in let m = small (how (goal.at.overflow_add-result c).After-from-rest) in omega arith
 
 pub returns : goal.returns
 returns c =
-    let j = c in
-    let a = c in
-    answer c.args.n c.small_root-s.result c.requires.bound c.requires.n_bound c.small_root-s.ensures c.if-left-square.over c.if-left-square-2.rest (how (goal.at.returns c).Joined-left-square-2)
+    answer c.args.n c.small_root-s.result c.requires.bound c.requires.n_bound c.small_root-s.ensures c.from-over.result c.from-rest.result (how (goal.at.returns c).After-from-rest)

@@ -2,9 +2,10 @@
 use Rattle.std.proofs.Common.{◌≡◌, ℕ, ◌+◌, ◌-◌, ◌*◌, ◌^◌, ◌<◌, ◌≤◌, ◌⊎◌, sym, ap, ◌∙◌, inl, inr, arith}
 use lib.Ieee.Nearest.{closest}
 use Rattle.numeric.specs.Root.{halves}
+use Rattle.numeric.proofs.Flags.{lower, no_higher}
 use Rattle.numeric.proofs.Squares.{square_up, square_down_one, closest_root}
 use Rattle.numeric.proofs.root.mended.Goals as goal
-use Rattle.numeric.proofs.root.mended.Goals.{Joined-w-c-le1152921504606846976, then-c-w, else-c-w, then-w-c-le1152921504606846976, else-w-c-le1152921504606846976}
+use Rattle.numeric.proofs.root.mended.Goals.{After-from-down}
 
 -- which way the number moves
 data Step (w c up down : ℕ) : Type 0 where
@@ -46,24 +47,20 @@ module _ (n w c up down : ℕ) (C : 2 ^ 52 ≤ c) (D : c < 2 ^ 53) (e : w + c * 
       a ∙ certified n c w e h k
 
 -- ---- the needs
-how : (j : Joined-w-c-le1152921504606846976) → let a = j in Step j.in_ok-w.w j.args.c j.if-c-w.up j.if-w-c-le1152921504606846976.down
-how j =
-    let a = j in
-    step j.in_ok-w.w j.args.c j.if-c-w.up j.if-w-c-le1152921504606846976.down
-    (elim j.if-c-w.branch [ then-c-w w ↦ inl (w.if-c-w.true, w.up-is) | else-c-w w ↦ inr (w.if-c-w.false, w.up-is) ])
-    (elim j.if-w-c-le1152921504606846976.branch [
-      | then-w-c-le1152921504606846976 w ↦ inl (w.if-w-c-le1152921504606846976.true, w.down-is)
-      | else-w-c-le1152921504606846976 w ↦ inr (w.if-w-c-le1152921504606846976.false, w.down-is)
-    ])
+how : (c : After-from-down) → Step c.in_ok-w.w c.args.c c.from-up.result c.from-down.result
+how c =
+    let w = c.in_ok-w.w in
+    step w c.args.c c.from-up.result c.from-down.result
+    (lower (2 ^ 60 + c.args.c) w c.from-up.result c.from-up.ensures) (no_higher (w + c.args.c) (2 ^ 60) c.from-down.result c.from-down.ensures)
 
 pub overflow_add-result : goal.overflow_add-result
-overflow_add-result c = let h = small (how (goal.at.overflow_add-result c).Joined-w-c-le1152921504606846976) in omega arith
+overflow_add-result c = let h = small (how (goal.at.overflow_add-result c).After-from-down) in omega arith
 
 pub overflow_sub-result : goal.overflow_sub-result
-overflow_sub-result c = let h = small (how (goal.at.overflow_sub-result c).Joined-w-c-le1152921504606846976) in omega arith
+overflow_sub-result c = let h = small (how (goal.at.overflow_sub-result c).After-from-down) in omega arith
 
 pub returns : goal.returns
 returns c =
     let s = c.in_ok-w.ensures in
-    answer c.args.n c.in_ok-w.w c.args.c c.if-c-w.up c.if-w-c-le1152921504606846976.down c.requires.bound c.requires.c_bound
-    s.c_value s.bound_2 s.upper_bound (how (goal.at.returns c).Joined-w-c-le1152921504606846976)
+    answer c.args.n c.in_ok-w.w c.args.c c.from-up.result c.from-down.result c.requires.bound c.requires.c_bound
+    s.c_value s.bound_2 s.upper_bound (how (goal.at.returns c).After-from-down)

@@ -1,9 +1,11 @@
 -- `numeric::rounding::nearest` meets its contract: `1 << d` is 2 ^ d, and the one test settles `closest`'s three cases. Assumes nothing.
-use Rattle.std.proofs.Common.{◌≡◌, ℕ, ◌+◌, ◌*◌, ◌/◌, ◌%◌, ◌^◌, ◌<◌, ap, ◌∙◌, subst, arith, pow_pos}
+use Rattle.std.proofs.Common.{⊎_elim, ltb, ◌≡◌, ℕ, ◌+◌, ◌*◌, ◌/◌, ◌%◌, ◌^◌, ◌<◌, ap, ◌∙◌, subst, arith, pow_pos}
+use Rattle.std.specs.Int.{from_bool}
 use lib.Ieee.Nearest.{closest}
+use Rattle.numeric.proofs.Flags.{lower}
 use Rattle.numeric.proofs.Near.{closest_up_one, closest_stay, one_shl, room, twice_rest}
 use Rattle.numeric.proofs.rounding.nearest.Goals as goal
-use Rattle.numeric.proofs.rounding.nearest.Goals.{After-row_known-1, Start, then-u-t, else-u-t}
+use Rattle.numeric.proofs.rounding.nearest.Goals.{Start}
 
 -- the divisor, as the machine has it
 abbrev shl : ℕ → ℕ
@@ -38,19 +40,18 @@ pub overflow_add-t : goal.overflow_add-t
 overflow_add-t c = let h = twice_lt (goal.at.overflow_add-t c).Start in omega arith
 
 -- what was added is 0 or 1
-up_lt : (c : After-row_known-1) → c.if-u-t.up < 2
-up_lt c = elim c.if-u-t.branch [ then-u-t w ↦ let e = w.up-is in omega arith | else-u-t w ↦ let e = w.up-is in omega arith ]
+up_lt : (a b x : ℕ) → x ≡ from_bool (ltb a b) → x < 2
+up_lt a b x e = ⊎_elim (λ h. omega (arith, h.1)) (λ h. omega (arith, h.1)) (lower a b x e)
 
 pub overflow_add-result : goal.overflow_add-result
-overflow_add-result c = let h = next_lt (goal.at.overflow_add-result c).Start in let k = up_lt (goal.at.overflow_add-result c).After-row_known-1 in omega arith
+overflow_add-result c = let h = next_lt (goal.at.overflow_add-result c).Start in let k = up_lt _ _ c.from-up.result c.from-up.ensures in omega arith
 
 pub returns : goal.returns
 returns c =
-    let a = c in
     let m = c.args.m in
     let u = shl c.args.d in
-    at (goal.at.returns c).Start (m / u + c.if-u-t.up)
-    (elim c.if-u-t.branch [
-      | then-u-t w ↦ ap (λ (x : ℕ). m / u + x) w.up-is ∙ closest_up_one m u w.if-u-t.true
-      | else-u-t w ↦ ap (λ (x : ℕ). m / u + x) w.up-is ∙ closest_stay m u w.if-u-t.false
-    ])
+    at (goal.at.returns c).Start (m / u + c.from-up.result)
+    (⊎_elim
+    (λ h. ap (λ (x : ℕ). m / u + x) h.1 ∙ closest_up_one m u h.0)
+    (λ h. ap (λ (x : ℕ). m / u + x) h.1 ∙ closest_stay m u h.0)
+    (lower u (m % u * 2 + m / u % 2) c.from-up.result c.from-up.ensures))
