@@ -230,6 +230,10 @@ module _ (s : Settings) (c : Counts) (n : ℕ) (l : List ℕ) (p : Parts) (i : I
   unfolding filled_by
   fills_broke m e b x h = absurd (ran_not_broke b x m (rw (sym e) at h))
 
+  pub fills_not : (r : Result ℕ BadLine) (t : List ℕ) → ran_by r p t ≡ parts_of s c l → ((m : ℕ) → r ≡ Ok m → ⊥) → Fills (filled_by s c n l) (body p i)
+  fills_not (Ok m) t e h = absurd (h m refl)
+  fills_not (Err k) t e h = fills_broke k.line e
+
   pub fills_of : (r : Result ℕ BadLine) (y t : List ℕ) → ran p y ≡ parts_of s c l → ran_by r i t ≡ bufs s.d n y → Fills (filled_by s c n l) (body p i)
   unfolding filled_by
   fills_of (Ok m) y t e f b x h = sym (ran_value b (body p i) x (drop m t) (rw (sym e, sym f) at h))

@@ -11,9 +11,11 @@ use lib.Seq.{take_at, take_all, length-take-le, take-suc-set}
 use lib.Ieee.{Float, binary64}
 use borrow.Rule.Slice.PartMut.{mid_of, post_of, put_mid, same_len_mid, mid_len}
 use Rattle.trcf.specs.Preprocessor.{Reading}
+use Rattle.std.specs.Prelude.{Result, Ok, Err, IsErrAnd}
+use Rattle.snapshot.specs.declared.head.BadLine.{BadLine}
 use Rattle.snapshot.specs.Read.{as_float}
 use Rattle.snapshot.specs.Steps.Judge.{list_line, buf_by}
-use Rattle.snapshot.specs.Steps.Runs.{map_ran, devs, bufs, time_of, Initial, initial_lists, initial_of, Ran, ran, broke, one_line, after_lines, then_lines, front, many, flat, reading_values, reading_times, dev_fields, no_carry}
+use Rattle.snapshot.specs.Steps.Runs.{map_ran, ran_by, devs, bufs, time_of, Initial, initial_lists, initial_of, Ran, ran, broke, one_line, after_lines, then_lines, front, many, flat, reading_values, reading_times, dev_fields, no_carry}
 
 abbrev pub fronts : {A : Type 0} → List A → Ran (List A) → Ran (List A)
 fronts u (ran l z) = ran (u ++ l) z
@@ -83,6 +85,11 @@ times_append (r ∷ a) b = ap (λ (w : List ℕ). r.time ∷ w) (times_append a 
 
 block_next : (w i : ℕ) → (i + 1) * w ≡ i * w + w
 block_next w i = add-mul i 1 w ∙ ap (λ (m : ℕ). i * w + m) (one-mul w)
+
+-- what `?` hands on of lines that broke
+pub broken : {A : Type 0} (r : Result ℕ BadLine) (b : BadLine) (a : A) (t : List ℕ) (q : Ran A) → IsErrAnd r (λ d. d ≡ b) → broke b.line ≡ q → ran_by r a t ≡ q
+broken (Ok n) b a t q e h = absurd e
+broken (Err d) b a t q e h = ap (λ (x : BadLine). broke x.line) e ∙ h
 
 -- ---- n blocks of w numbers in a list: the i-th is lent, and comes back
 

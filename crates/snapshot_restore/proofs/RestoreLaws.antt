@@ -21,7 +21,11 @@ use Rattle.snapshot.specs.Restore.{restore_outcome, restored, restore_of}
 use Rattle.snapshot.specs.Steps.Runs.{Ran, ran, broke, one_line, after_lines, then_lines, map_ran, Head, head_read, third_by, head_by, head_with_counts, headed_of, HeadFew, counts_in}
 use Rattle.snapshot.specs.Steps.Runs.{Parts, Initial, Body, body_by, expected, parts_of, bufs, ending, body, filled_by, FillsOver, state_from, Good, read_by, as_read}
 use Rattle.snapshot_restore.specs.Steps.{summed}
-use Rattle.snapshot_restore.specs.declared.restore.Judged.{Judged}
+use Rattle.snapshot.specs.declared.head.BadLine.{BadLine}
+use Rattle.std.specs.Prelude.{Result, Ok, Err, IsErrAnd}
+use Rattle.snapshot_restore.specs.Told.{restore_told}
+use Rattle.snapshot_restore.specs.declared.restore.RestoreError.{RestoreError}
+use Rattle.snapshot_restore.specs.declared.restore.RestoreError.TheVariants.{Form}
 use Rattle.snapshot.proofs.JudgeLines.{float_codec, whole_codec, line_is}
 use Rattle.snapshot.proofs.JudgeKinds.{checked_some}
 use Rattle.snapshot.proofs.BodyLaws.{ran_not_broke, ran_value, bufs_length}
@@ -141,6 +145,19 @@ short_past b w n m d k s x y t v i e f =
 
 -- ---- the text
 
+abbrev line_in : Result ℕ BadLine → ℕ
+line_in (Ok n) = 0
+line_in (Err b) = b.line
+
+abbrev count_in : Result ℕ BadLine → ℕ
+count_in (Ok n) = n
+count_in (Err b) = 0
+
+-- what `?` hands on of a head that broke
+pub told_head : (r : Result Preprocessor RestoreError) (b : BadLine) (l : Lent) → IsErrAnd r (λ d. d ≡ Form b) → restore_told r l ≡ restore_outcome 19 b.line no_head l
+told_head (Ok h) b l e = absurd e
+told_head (Err d) b l e = ap (λ (x : RestoreError). restore_told (Err x) l) e
+
 module _ (t cs : List ℕ) (l : Lent) where
   read_broke : (m : ℕ) → read_by t ≡ broke m → restore_outcome 19 m no_head l ≡ restore_of t cs l
   unfolding restore_of restored
@@ -168,17 +185,18 @@ module _ (t cs : List ℕ) (l : Lent) where
     read_is : read_by t ≡ after_lines 3 (after_lines n (map_ran (state_from (settings_of h) (counts_in h)) (body_by (settings_of h) (counts_in h) z)))
     read_is = let k = head_of (head_by t) h n z e in read_of k.0 k.1 k.2 k.3
 
-    pub restore_body : (r : Judged) → r ≡ summed (body_by (settings_of h) (counts_in h) z) → (r.bad ≡ 0 → ⊥) → restore_outcome 19 (3 + n + r.bad) no_head l ≡ restore_of t cs l
-    restore_body r f g = go (body_by (settings_of h) (counts_in h) z) refl
+    pub restore_body : (m : ℕ) → Err (record { line = m }) ≡ summed (body_by (settings_of h) (counts_in h) z) → restore_outcome 19 (3 + n + m) no_head l ≡ restore_of t cs l
+    restore_body m f = go (body_by (settings_of h) (counts_in h) z) refl
       where
-        go : (q : Ran Body) → body_by (settings_of h) (counts_in h) z ≡ q → restore_outcome 19 (3 + n + r.bad) no_head l ≡ restore_of t cs l
-        go (ran b y) i = absurd (g (ap (λ (j : Judged). j.bad) (f ∙ ap summed i)))
-        go (broke m) i =
-            let k : r.bad ≡ m = ap (λ (j : Judged). j.bad) (f ∙ ap summed i) in
-            let v : 3 + (n + m) ≡ 3 + n + r.bad = omega (arith, k) in
-            read_broke (3 + n + r.bad) (read_is ∙ ap (λ (q : Ran Body). after_lines 3 (after_lines n (map_ran (state_from (settings_of h) (counts_in h)) q))) i ∙ ap broke v)
+        go : (q : Ran Body) → body_by (settings_of h) (counts_in h) z ≡ q → restore_outcome 19 (3 + n + m) no_head l ≡ restore_of t cs l
+        go (ran b y) i = let e : ◌≡◌ {A = Result ℕ BadLine} (Err (record { line = m })) (Ok (length b.initial.times)) = f ∙ ap summed i in absurd (cc)
+        go (broke k) i =
+            let e : ◌≡◌ {A = Result ℕ BadLine} (Err (record { line = m })) (Err (record { line = k })) = f ∙ ap summed i in
+            let u : m ≡ k = ap line_in e in
+            let v : 3 + (n + k) ≡ 3 + n + m = omega (arith, u) in
+            read_broke (3 + n + m) (read_is ∙ ap (λ (q : Ran Body). after_lines 3 (after_lines n (map_ran (state_from (settings_of h) (counts_in h)) q))) i ∙ ap broke v)
 
-    module _ (r : Judged) (f : r ≡ summed (body_by (settings_of h) (counts_in h) z)) (g : Good (body_by (settings_of h) (counts_in h) z)) where
+    module _ (m : ℕ) (f : Ok m ≡ summed (body_by (settings_of h) (counts_in h) z)) (g : Good (body_by (settings_of h) (counts_in h) z)) where
       good : (b : Body) × (y : List ℕ) × (body_by (settings_of h) (counts_in h) z ≡ ran b y)
       good = go (body_by (settings_of h) (counts_in h) z) refl
         where
@@ -189,8 +207,8 @@ module _ (t cs : List ℕ) (l : Lent) where
       read_taken : read t ≡ taken (state_from (settings_of h) (counts_in h) good.0)
       read_taken = read_runs t ∙ ap as_read (read_is ∙ ap (λ (q : Ran Body). after_lines 3 (after_lines n (map_ran (state_from (settings_of h) (counts_in h)) q))) good.2)
 
-      count_is : r.count ≡ length good.0.initial.times
-      count_is = ap (λ (j : Judged). j.count) (f ∙ ap summed good.2)
+      count_is : m ≡ length good.0.initial.times
+      count_is = ap count_in (f ∙ ap summed good.2)
 
       pub restore_other : same (settings_of h).codes cs ≡ false → restore_outcome 27 0 no_head l ≡ restore_of t cs l
       unfolding restore_of restored
@@ -201,18 +219,18 @@ module _ (t cs : List ℕ) (l : Lent) where
       restore_short u i = rw (read_taken, u, i)
 
       pub restore_all : same (settings_of h).codes cs ≡ true → lent_short (settings_of h) l ≡ false → (new : Lent) → FillsOver (settings_of h) (counts_in h)
-          (filled_by (settings_of h) (counts_in h) r.count z) l new
-          → restore_outcome 0 0 (counting h h.transformer.count h.values_seen h.internal_timestamp r.count) new ≡ restore_of t cs l
+          (filled_by (settings_of h) (counts_in h) m z) l new
+          → restore_outcome 0 0 (counting h h.transformer.count h.values_seen h.internal_timestamp m) new ≡ restore_of t cs l
       unfolding restore_of restored
       restore_all u i new o =
           let b = good.0 in
-          let w = filled_of (settings_of h) (counts_in h) z b good.1 r.count good.2 count_is in
+          let w = filled_of (settings_of h) (counts_in h) z b good.1 m good.2 count_is in
           let k = head_of (head_by t) h n z e in
-          let a : counting h h.transformer.count h.values_seen h.internal_timestamp r.count
-          ≡ counting (head_from (settings_of h)) h.transformer.count h.values_seen h.internal_timestamp r.count =
-          subst (λ (x : Preprocessor). counting x h.transformer.count h.values_seen h.internal_timestamp r.count ≡ counting (head_from (settings_of x)) h.transformer.count
-          h.values_seen h.internal_timestamp r.count)
-          (sym k.2) (head_again k.0 (lists_long t k.0 z k.1) h.transformer.count h.values_seen h.internal_timestamp r.count) in
+          let a : counting h h.transformer.count h.values_seen h.internal_timestamp m
+          ≡ counting (head_from (settings_of h)) h.transformer.count h.values_seen h.internal_timestamp m =
+          subst (λ (x : Preprocessor). counting x h.transformer.count h.values_seen h.internal_timestamp m ≡ counting (head_from (settings_of x)) h.transformer.count
+          h.values_seen h.internal_timestamp m)
+          (sym k.2) (head_again k.0 (lists_long t k.0 z k.1) h.transformer.count h.values_seen h.internal_timestamp m) in
           ap (λ (x : Preprocessor). restore_outcome 0 0 x new) a
           ∙ ap (λ (n : ℕ). restore_outcome 0 0 (counting (head_from (settings_of h)) h.transformer.count h.values_seen h.internal_timestamp n) new) count_is
           ∙ ap (λ (x : Lent). restore_outcome 0 0 (counting (head_from (settings_of h)) h.transformer.count h.values_seen h.internal_timestamp (length b.initial.times)) x)

@@ -14,14 +14,16 @@ fn dev_lines(text: &[u8], at: usize, n: usize, statistics: &mut [f64]) -> Result
     ensures bad_le_n { IfErr result (λ bad. bad.line ≤ n) }
 {
     let mut p = at;
-    'lines: for i in 0..n {
-        let from = i * 3;
-        let Some(q) = list_line(text, p, 100, 101, 118, &mut statistics[from..from + 3]) else {
-            return Err(BadLine { line: i + 1 });
-        };
-        p = q;
+    'lines: {
+        for i in 0..n {
+            let from = i * 3;
+            let Some(q) = list_line(text, p, 100, 101, 118, &mut statistics[from..from + 3]) else {
+                break 'lines Err(BadLine { line: i + 1 });
+            };
+            p = q;
+        }
+        Ok(p)
     }
-    Ok(p)
 }
 
 // The lines from `dev` to `tim`, each list as long as what is in use of it.
@@ -70,16 +72,18 @@ pub(crate) fn buf_lines(
 {
     let mut p = at;
     let mut past = 0;
-    'lines: for i in 0..n {
-        let from = i * d;
-        let Some(line) = buf_line(text, p, past, &mut values[from..from + d]) else {
-            return Err(BadLine { line: i + 1 });
-        };
-        past = line.time;
-        times[i] = past;
-        p = line.end;
+    'lines: {
+        for i in 0..n {
+            let from = i * d;
+            let Some(line) = buf_line(text, p, past, &mut values[from..from + d]) else {
+                break 'lines Err(BadLine { line: i + 1 });
+            };
+            past = line.time;
+            times[i] = past;
+            p = line.end;
+        }
+        Ok(p)
     }
-    Ok(p)
 }
 
 // The same lines, of which nothing is kept.
@@ -92,12 +96,14 @@ pub(crate) fn buf_lines_unkept(text: &[u8], at: usize, d: usize, n: usize) -> Re
     let mut values = [0.0f32; 16];
     let mut p = at;
     let mut past = 0;
-    'lines: for i in 0..n {
-        let Some(line) = buf_line(text, p, past, &mut values[..d]) else {
-            return Err(BadLine { line: i + 1 });
-        };
-        past = line.time;
-        p = line.end;
+    'lines: {
+        for i in 0..n {
+            let Some(line) = buf_line(text, p, past, &mut values[..d]) else {
+                break 'lines Err(BadLine { line: i + 1 });
+            };
+            past = line.time;
+            p = line.end;
+        }
+        Ok(p)
     }
-    Ok(p)
 }

@@ -3,115 +3,95 @@ use native.Mathlib.Omega.{arith}
 use lib.ListN.{drop, length-drop}
 use Rattle.trcf.specs.View.{settings_of}
 use Rattle.snapshot.specs.Steps.Runs.{counts_in}
-use Rattle.snapshot.proofs.RunLaws.{told_ran}
 use Rattle.snapshot.proofs.BodyLaws.{expected_few, expected_room}
-use Rattle.snapshot_restore.proofs.JudgedLaws.{judged_parts, judged_bufs, judged_behind, judged_all, judged_good}
+use Rattle.snapshot_restore.proofs.JudgedLaws.{handed, judged_parts, judged_bufs, judged_behind, judged_all, judged_good}
 use Rattle.snapshot_restore.proofs.restore.judge_body.Goals as goal
 
-pub returns-then-a-ne0 : goal.returns-then-a-ne0
-returns-then-a-ne0 c =
+pub returns-in_err-p : goal.returns-in_err-p
+returns-in_err-p c =
     let a = c.args in
     let s = settings_of a.head in
     let k = counts_in a.head in
     let t = a.text.now in
     let l = drop a.at t in
-    let P = c.part_lines_unkept-a in
-    record { value = judged_parts s k l P.result.bad (drop P.result.at t) c.if-a-ne0.true P.ensures.text_value; bad_bound = omega (arith, P.ensures.bad_bound); count_bound = omega arith; good = λ e. absurd (c.if-a-ne0.true e) }
+    let e = c.in_err-p.ensures in
+    rw (handed c.from_residual.result _ c.from_residual.ensures.1) (record { value = judged_parts s k l _ e.text_value; bad_bound = omega (arith, e.bad_bound); count_bound = tt; good = tt })
 
-pub buf_lines_unkept-b-requires : goal.buf_lines_unkept-b-requires
-buf_lines_unkept-b-requires c =
+pub buf_lines_unkept-requires : goal.buf_lines_unkept-requires
+buf_lines_unkept-requires c =
     let a = c.args in
-    let s = settings_of a.head in
-    let k = counts_in a.head in
-    let t = a.text.now in
-    let l = drop a.at t in
-    let P = c.part_lines_unkept-a in
-    let N = c.initial_count-n in
-    let n = expected_few s k (drop P.result.at t) c.requires.start_few in
-    record { d_bound = c.requires.d_few; n_bound = omega (arith, n, N.ensures, c.requires.start_few) }
+    let n = expected_few (settings_of a.head) (counts_in a.head) (drop c.in_ok-p.p a.text.now) c.requires.start_few in
+    record { d_bound = c.requires.d_few; n_bound = omega (arith, n, c.initial_count-n.ensures, c.requires.start_few) }
 
 pub overflow_add-result : goal.overflow_add-result
 overflow_add-result c =
     let a = c.args in
-    let s = settings_of a.head in
-    let k = counts_in a.head in
-    let t = a.text.now in
-    let l = drop a.at t in
-    let P = c.part_lines_unkept-a in
-    let N = c.initial_count-n in
-    let n = expected_few s k (drop P.result.at t) c.requires.start_few in
-    let U = c.buf_lines_unkept-b in
-    omega (arith, n, N.ensures, U.ensures.bad_le_n, c.requires.d_few, c.requires.start_few)
+    let n = expected_few (settings_of a.head) (counts_in a.head) (drop c.in_ok-p.p a.text.now) c.requires.start_few in
+    omega (arith, n, c.initial_count-n.ensures, c.in-Err.ensures.bad_le_n, c.requires.d_few, c.requires.start_few)
 
-pub returns-then-b-ne0 : goal.returns-then-b-ne0
-returns-then-b-ne0 c =
-    let pre = c.requires in
+pub returns-in-Err : goal.returns-in-Err
+returns-in-Err c =
     let a = c.args in
     let s = settings_of a.head in
     let k = counts_in a.head in
     let t = a.text.now in
     let l = drop a.at t in
-    let P = c.part_lines_unkept-a in
     let N = c.initial_count-n in
-    let n = expected_few s k (drop P.result.at t) pre.start_few in
-    let e = told_ran P.result.bad tt (drop P.result.at t) _ (omega (arith, c.if-a-ne0.false)) P.ensures.text_value in
-    let U = c.buf_lines_unkept-b in record { value = judged_bufs s k l (drop P.result.at t) e N.result N.ensures U.result.bad (drop U.result.at t) c.if-b-ne0.true U.ensures.text_value; bad_bound = omega (arith, n, N.ensures, U.ensures.bad_le_n, pre.d_few, pre.start_few); count_bound = omega arith; good = λ e. absurd (c.if-b-ne0.true (omega (arith, e))) }
+    let z = drop c.in_ok-p.p t in
+    let n = expected_few s k z c.requires.start_few in
+    let f = c.in-Err.ensures in
+    record {
+      value = judged_bufs s k l z c.in_ok-p.ensures.text_value N.result N.ensures _ f.text_value;
+      bad_bound = omega (arith, n, N.ensures, f.bad_le_n, c.requires.d_few, c.requires.start_few);
+      count_bound = tt;
+      good = tt;
+    }
 
-pub overflow_add-result-then-b-text : goal.overflow_add-result-then-b-text
-overflow_add-result-then-b-text c =
+pub overflow_add-result-then-end-text : goal.overflow_add-result-then-end-text
+overflow_add-result-then-end-text c =
+    let a = c.args in
+    let n = expected_few (settings_of a.head) (counts_in a.head) (drop c.in_ok-p.p a.text.now) c.requires.start_few in
+    omega (arith, n, c.initial_count-n.ensures, c.requires.d_few, c.requires.start_few)
+
+pub overflow_add-result-then-end-text-2 : goal.overflow_add-result-then-end-text-2
+overflow_add-result-then-end-text-2 c =
+    let a = c.args in
+    let n = expected_few (settings_of a.head) (counts_in a.head) (drop c.in_ok-p.p a.text.now) c.requires.start_few in
+    omega (arith, n, c.initial_count-n.ensures, c.requires.d_few, c.requires.start_few)
+
+pub returns-then-end-text : goal.returns-then-end-text
+returns-then-end-text c =
     let a = c.args in
     let s = settings_of a.head in
     let k = counts_in a.head in
     let t = a.text.now in
     let l = drop a.at t in
-    let P = c.part_lines_unkept-a in
     let N = c.initial_count-n in
-    let n = expected_few s k (drop P.result.at t) c.requires.start_few in
-    omega (arith, n, N.ensures, c.requires.d_few, c.requires.start_few)
+    let z = drop c.in_ok-p.p t in
+    let n = expected_few s k z c.requires.start_few in
+    let end = c.in-Ok.end in
+    record {
+      value = judged_behind s k l z c.in_ok-p.ensures.text_value N.result N.ensures (drop end t) c.in-Ok.ensures.text_value (omega (arith, length-drop end t, c.if-end-text.true));
+      bad_bound = omega (arith, n, N.ensures, c.requires.d_few, c.requires.start_few);
+      count_bound = tt;
+      good = tt;
+    }
 
-pub overflow_add-result-then-b-text-2 : goal.overflow_add-result-then-b-text-2
-overflow_add-result-then-b-text-2 c =
+pub returns-else-end-text : goal.returns-else-end-text
+returns-else-end-text c =
     let a = c.args in
     let s = settings_of a.head in
     let k = counts_in a.head in
     let t = a.text.now in
     let l = drop a.at t in
-    let P = c.part_lines_unkept-a in
     let N = c.initial_count-n in
-    let n = expected_few s k (drop P.result.at t) c.requires.start_few in
-    omega (arith, n, N.ensures, c.requires.d_few, c.requires.start_few)
-
-pub returns-then-b-text : goal.returns-then-b-text
-returns-then-b-text c =
-    let pre = c.requires in
-    let a = c.args in
-    let s = settings_of a.head in
-    let k = counts_in a.head in
-    let t = a.text.now in
-    let l = drop a.at t in
-    let P = c.part_lines_unkept-a in
-    let N = c.initial_count-n in
-    let n = expected_few s k (drop P.result.at t) pre.start_few in
-    let e = told_ran P.result.bad tt (drop P.result.at t) _ (omega (arith, c.if-a-ne0.false)) P.ensures.text_value in
-    let U = c.buf_lines_unkept-b in
-    let f = told_ran U.result.bad tt (drop U.result.at t) _ (omega (arith, c.if-b-ne0.false)) U.ensures.text_value in record { value = judged_behind s k l (drop P.result.at t) e N.result N.ensures (drop U.result.at t) f (omega (arith, length-drop U.result.at t, c.if-b-text.true)); bad_bound = omega (arith, n, N.ensures, pre.d_few, pre.start_few); count_bound = omega arith; good = λ e. absurd (omega (arith, e)) }
-
-pub returns : goal.returns
-returns c =
-    let a = c.args in
-    let s = settings_of a.head in
-    let k = counts_in a.head in
-    let t = a.text.now in
-    let l = drop a.at t in
-    let P = c.part_lines_unkept-a in
-    let N = c.initial_count-n in
-    let n = expected_room s k (drop P.result.at t) in
-    let e = told_ran P.result.bad tt (drop P.result.at t) _ (omega (arith, c.if-a-ne0.false)) P.ensures.text_value in
-    let U = c.buf_lines_unkept-b in
-    let f = told_ran U.result.bad tt (drop U.result.at t) _ (omega (arith, c.if-b-ne0.false)) U.ensures.text_value in record {
-      value = judged_all s k l (drop P.result.at t) e N.result N.ensures (drop U.result.at t) f (omega (arith, length-drop U.result.at t, c.if-b-text.false));
-      bad_bound = omega arith;
-      count_bound = omega (arith, n, N.ensures);
-      good = λ i. judged_good s k l (drop P.result.at t) e N.result N.ensures (drop U.result.at t) f
-          (omega (arith, length-drop U.result.at t, c.if-b-text.false));
+    let z = drop c.in_ok-p.p t in
+    let e = c.in_ok-p.ensures.text_value in
+    let f = c.in-Ok.ensures.text_value in
+    let h = expected_room s k z in
+    record {
+      value = judged_all s k l z e N.result N.ensures (drop c.in-Ok.end t) f (omega (arith, length-drop c.in-Ok.end t, c.if-end-text.false));
+      bad_bound = tt;
+      count_bound = omega (arith, h, N.ensures);
+      good = judged_good s k l z e N.result N.ensures (drop c.in-Ok.end t) f (omega (arith, length-drop c.in-Ok.end t, c.if-end-text.false));
     }

@@ -9,6 +9,7 @@ use Rattle.trcf.specs.View.{settings_of}
 use Rattle.snapshot.specs.Steps.Runs.{counts_in}
 use Rattle.snapshot.proofs.SaveLaws.{few, few_wide, wide_of}
 use Rattle.snapshot.proofs.BodyLaws.{parts_of_lem, unkept_of, dimension_is}
+use Rattle.snapshot_restore.proofs.JudgedLaws.{few_lines}
 use Rattle.snapshot_restore.proofs.restore.part_lines_unkept.Goals as goal
 
 pub overflow_add-w : goal.overflow_add-w
@@ -83,12 +84,12 @@ returns c =
     let s = settings_of a.head in
     let P = c.part_lines in
     let w = wide_of (augments args.head.forest_mode) time-width-at.result time-width-at.ensures in record {
-      text_value = unkept_of P.result.bad _ (drop P.result.at a.text.now) _
+      text_value = unkept_of P.result _ a.text.now _
           (parts_of_lem s (counts_in a.head) (drop a.at a.text.now) _ _ _ _
           (length-take-le (s.d * s.k) _ (few s.d s.k pre.input_length_bound pre.shingle_size_bound))
           (length-take-le ((s.d + time-width-at.result) * s.k) _ (few_wide (s.d + time-width-at.result) s.k (omega (arith, w, pre.input_length_bound)) pre.shingle_size_bound) ∙ dimension_is s time-width-at.result
           time-width-at.ensures)
           (length-take-le s.k _ pre.shingle_size_bound)
           P.ensures.text_after);
-      bad_bound = omega (arith, P.ensures.bad_bound, pre.input_length_bound);
+      bad_bound = few_lines P.result _ 88 (omega (arith, pre.input_length_bound)) P.ensures.bad_bound;
     }
