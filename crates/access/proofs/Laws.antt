@@ -1,5 +1,5 @@
 -- Laws of the table's test, and of an entry behind it. Assumes nothing.
-use Prim.Native.Nat.{ℕ, ◌+◌, ◌≤◌, ◌<◌, max}
+use Prim.Native.Nat.{ℕ, ◌+◌, ◌≤◌, ◌<◌}
 use Rattle.std.proofs.lemmas.Bool.Decides.{nat_tests}
 use mathlib.Core.Path.{◌≡◌, refl, sym, ap, ◌∙◌}
 use mathlib.Core.Bool.{Bool, true, false, cond, ◌&&◌}
@@ -10,6 +10,8 @@ use lib.Dec.{ltb, eqb}
 use lib.ListN.{length, get_or, drop}
 use lib.Seq.{drop-cons}
 use borrow.Author.Tests.{eqb-true, ltb-true}
+use Rattle.std.proofs.Common.{Less, Equal, Greater}
+use Rattle.std.specs.Ordering.{nat_cmp, ord_max, is_lt}
 use Rattle.snapshot.proofs.Lists.{and_left, and_right}
 use Rattle.trcf.specs.Preprocessor.{panel_of}
 use Rattle.trcf.specs.Types.{method_number, method_of_number, mode_letter, mode_of_letter}
@@ -18,7 +20,7 @@ use Rattle.trcf.proofs.TypeLaws.{method_back, mode_back}
 use Rattle.trcf.specs.declared.types.TransformMethod.{TransformMethod}
 use Rattle.trcf.specs.declared.types.ForestMode.{ForestMode}
 use Rattle.trcf.specs.declared.head.Preprocessor.{Preprocessor}
-use Rattle.trcf.specs.declared.head.StatusAnswer.{StatusAnswer}
+use Rattle.trcf.specs.declared.head.Status.{Status}
 use Rattle.access.specs.declared.rights.Right.{Right}
 use Rattle.access.specs.declared.rights.Right.TheVariants.{SEE, LEARN, SAVE, RESTORE}
 use Rattle.access.specs.Access.{bits, table_fits, table_entry, has, granted, guarded, every_right}
@@ -33,9 +35,18 @@ pub and_true : (b : Bool) → b ≡ b && true
 and_true true = refl
 and_true false = refl
 
--- of a number and a larger one, the larger decides
-ltb_max : (a b : ℕ) → ltb (max a b) 2 ≡ ltb a 2 && ltb b 2
-ltb_max a b = grind (arith, nat_tests)
+-- of two numbers the larger decides
+module _ (a b : ℕ) where
+  larger_is : ord_max nat_cmp a b ≡ cond (ltb b a) a b
+  larger_is = go (ltb b a) (eqb b a)
+    where
+      go : (s t : Bool) → cond (is_lt (cond s Less (cond t Equal Greater))) a b ≡ cond s a b
+      go true t = refl
+      go false true = refl
+      go false false = refl
+
+  ltb_larger : ltb (cond (ltb b a) a b) 2 ≡ ltb a 2 && ltb b 2
+  ltb_larger = grind (arith, nat_tests)
 
 and_assoc : (a b c : Bool) → a && (b && c) ≡ (a && b) && c
 and_assoc true b c = refl
@@ -43,12 +54,13 @@ and_assoc false b c = refl
 
 -- one step of the walk over them: `largest` of those before i
 pub largest_step : (l : List ℕ) (i : ℕ) → i < length l → (largest : ℕ) → bits l ≡ ltb largest 2 && bits (drop i l)
-    → bits l ≡ ltb (max largest (get_or l i 0)) 2 && bits (drop (i + 1) l)
+    → bits l ≡ ltb (ord_max nat_cmp largest (get_or l i 0)) 2 && bits (drop (i + 1) l)
 largest_step l i h largest inv =
     inv
     ∙ ap (λ (b : Bool). ltb largest 2 && b) (bits_step l i h)
     ∙ and_assoc (ltb largest 2) (ltb (get_or l i 0) 2) (bits (drop (i + 1) l))
-    ∙ ap (λ (b : Bool). b && bits (drop (i + 1) l)) (sym (ltb_max largest (get_or l i 0)))
+    ∙ ap (λ (b : Bool). b && bits (drop (i + 1) l)) (sym (ltb_larger largest (get_or l i 0)))
+    ∙ ap (λ (n : ℕ). ltb n 2 && bits (drop (i + 1) l)) (sym (larger_is largest (get_or l i 0)))
 
 -- ---- whether the table is one, and the role one of its four
 
@@ -76,15 +88,6 @@ module _ (t : List ℕ) (role : ℕ) where
   pub by_second : (r q : Right) → eqb (table_entry t role r) 1 ≡ true → eqb (table_entry t role q) 1 ≡ has t role (r ∷ q ∷ [])
   by_second r q e = and_true (eqb (table_entry t role q) 1) ∙ ap (λ (b : Bool). b && (eqb (table_entry t role q) 1 && true)) (sym e)
 
--- ---- an entry behind its guard: b is what the test said
-
-module _ {A : Type 0} (t : List ℕ) (role : ℕ) (rs : List Right) (b : Bool) (m : b ≡ granted t role rs) (below withheld : A) where
-  pub guard_shut : b ≡ false → withheld ≡ guarded t role rs below withheld
-  guard_shut e = ap (λ (x : Bool). cond x below withheld) (sym e ∙ m)
-
-  pub guard_open : b ≡ true → (x : A) → x ≡ below → x ≡ guarded t role rs below withheld
-  guard_open e x y = y ∙ ap (λ (q : Bool). cond q below withheld) (sym e ∙ m)
-
 -- ---- a program: role 0 of the table with every right
 
 has_every : (rs : List Right) → has every_right 0 rs ≡ true
@@ -104,10 +107,9 @@ module _ {A : Type 0} where
 
 -- ---- the getters' numbers together
 
-abbrev answered : ℕ → ℕ → Bool → ℕ → ℕ → ℕ → TransformMethod → ForestMode → ℕ → ℕ → StatusAnswer
+abbrev answered : ℕ → ℕ → Bool → ℕ → ℕ → ℕ → TransformMethod → ForestMode → ℕ → ℕ → Status
 answered a b r d e f k m i n =
     record {
-      row = 0;
       values_seen = a;
       internal_timestamp = b;
       ready = r;

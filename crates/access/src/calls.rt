@@ -1,8 +1,7 @@
 // The calls that may change the trace, for a role that has their rights.
-ghost use Rattle.std.specs.Prelude.{◌≡◌};
-ghost use Rattle.std.specs.Option.{option_copied};
-ghost use Rattle.trcf.specs.View.{lent, head_outcome, point_outcome, processed_outcome};
-ghost use Rattle.trcf_learn.specs.Given.{learn_with};
+ghost use Rattle.std.specs.Prelude.{◌≡◌, is_some};
+ghost use Rattle.trcf.specs.View.{lent, head_outcome, point_outcome, learn_call, processed_outcome};
+ghost use Rattle.trcf_learn.specs.Given.{list_in};
 ghost use Rattle.access.specs.Entries.{point_by, learn_by, drain_by};
 
 use crate::rights::{Right, demand, demand_point};
@@ -64,7 +63,7 @@ pub fn post_process(
     expected_out: &mut [f32],
 ) -> Result<PostProcessed, Refusal>
     ensures { processed_outcome result head (lent statistics.new last_shingled_input.new last_shingled_point.new previous_timestamps.new initial_values.new initial_timestamps.new) deviations_out.new past_out.new expected_out.new
-        ≡ learn_by table.now role head (lent statistics.old last_shingled_input.old last_shingled_point.old previous_timestamps.old initial_values.old initial_timestamps.old) (learn_with input.now timestamp (option_copied y.entry) (option_copied expected.entry) grade relative_index deviations_out.old past_out.old expected_out.old) }
+        ≡ learn_by table.now role head (lent statistics.old last_shingled_input.old last_shingled_point.old previous_timestamps.old initial_values.old initial_timestamps.old) (learn_call input.now timestamp (is_some y.entry) (list_in y.entry) (is_some expected.entry) (list_in expected.entry) grade relative_index deviations_out.old past_out.old expected_out.old) }
 {
     // Withheld, it tells of no anomaly.
     demand(table, role, Right::LEARN)?;
