@@ -1,7 +1,7 @@
 -- Bytes moved to the front of the memory that they stand in. Assumes nothing.
 use Prim.Native.Nat.{ℕ, ◌+◌, ◌-◌, ◌≤◌}
 use native.Mathlib.Omega.{arith}
-use mathlib.Core.Path.{◌≡◌, sym, ap, ◌∙◌}
+use mathlib.Core.Path.{◌≡◌, ap, ◌∙◌}
 use mathlib.Core.List.{List, ◌++◌}
 use lib.ListN.{length, take, drop, length-drop}
 use lib.Seq.{length-take-le}
@@ -12,5 +12,6 @@ pub moved_front : (text : List ℕ) (from n : ℕ) → from + n ≤ length text 
 unfolding over
 moved_front text from n h =
     let k : from + n - from ≡ n = omega arith in
-    let e : n ≡ length (take n (drop from text)) = sym (length-take-le n (drop from text) (simp length-drop (omega arith))) in
-    ap (λ (i : ℕ). take i (drop from text) ++ drop i text) k ∙ ap (λ (i : ℕ). take n (drop from text) ++ drop i text) e
+    let l : length (take n (drop from text)) ≡ n = length-take-le n (drop from text) (simp length-drop (omega arith)) in
+    let e : 0 + n ≡ length (take n (drop from text)) = omega (arith, l) in
+    ap (λ (i : ℕ). take i (drop from text) ++ drop (0 + i) text) k ∙ ap (λ (i : ℕ). take n (drop from text) ++ drop i text) e

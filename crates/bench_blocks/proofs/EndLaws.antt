@@ -57,10 +57,10 @@ module _ (b : Bench) (text : List ℕ) (next : ℕ) (out : List ℕ) (at : ℕ) 
       }
 
   -- the part of the output has room, so the end is taken
-  pub finish_taken : (r : Result Printed Refusal) {bytes : List ℕ}
+  pub finish_taken : (r : Result Printed Refusal) (bytes : List ℕ)
       → finished_from r b bytes ≡ finish_of b (take (length text - next) (drop next text)) (take (at + 65536 - at) (drop at out)) → IsOk r
-  finish_taken (Ok p) e = refl
-  finish_taken (Err k) e =
+  finish_taken (Ok p) bytes e = refl
+  finish_taken (Err k) bytes e =
       let m : at + 65536 - at ≡ 65536 = omega arith in
       let z : length (take (at + 65536 - at) (drop at out)) ≡ 65536 = rw m (simp (length-take, length-drop) (omega arith)) in
       let f : number_of k ≡ 0 =

@@ -127,10 +127,10 @@ module _ (b : Bench) (lists : Lent) (y : List Float) (t out : List ℕ) (at : �
 -- the same, over the parts as the code lends them
 module _ (b : Bench) (lists : Lent) (y : List Float) (text : List ℕ) (next : ℕ) (out : List ℕ) (at : ℕ) (h : at + 65536 ≤ length out) where
   -- the part of the output has room, so the step is taken
-  pub step_taken : (r : Result StepResult Refusal) {lists' : Lent} {y' : List Float} {bytes : List ℕ}
+  pub step_taken : (r : Result StepResult Refusal) (lists' : Lent) (y' : List Float) (bytes : List ℕ)
       → stepped_by r b lists' y' bytes ≡ bench_step b lists y (take (length text - next) (drop next text)) (take (at + 65536 - at) (drop at out)) → IsOk r
-  step_taken (Ok s) e = refl
-  step_taken (Err k) e =
+  step_taken (Ok s) lists' y' bytes e = refl
+  step_taken (Err k) lists' y' bytes e =
       let m : at + 65536 - at ≡ 65536 = omega arith in
       let z : length (take (at + 65536 - at) (drop at out)) ≡ 65536 = rw m (simp (length-take, length-drop) (omega arith)) in
       let q = step_out b lists y (take (length text - next) (drop next text)) (take (at + 65536 - at) (drop at out)) z in

@@ -112,9 +112,9 @@ turn_goes r lists y text got out a b c t e = subst (Goes r got) (sym s) goes
 
 -- the memory does, so the turn is done
 pub turn_taken : (r : Run) (lists : Lent) (y : List Float) (text : List ℕ) (got : ℕ) (out : List ℕ)
-    → room ≤ length out → 24 < length text → r.kept + got ≤ length text → (t : Result Turned Refusal) {lists' : Lent} {y' : List Float} {text' out' : List ℕ}
+    → room ≤ length out → 24 < length text → r.kept + got ≤ length text → (t : Result Turned Refusal) (lists' : Lent) (y' : List Float) (text' out' : List ℕ)
     → turn_by t r lists' y' text' out' ≡ turn_of r lists y text got out → IsOk t
-turn_taken r lists y text got out a b c (Ok t) e = refl
-turn_taken r lists y text got out a b c (Err k) {lists'} {y'} {text'} {out'} e =
+turn_taken r lists y text got out a b c (Ok t) lists' y' text' out' e = refl
+turn_taken r lists y text got out a b c (Err k) lists' y' text' out' e =
     let f : number_of k ≡ 0 = (turn_goes r lists y text got out a b c (turn_by (Err k) r lists' y' text' out') e).row in
     absurd (omega (arith, is_numbered k, f))

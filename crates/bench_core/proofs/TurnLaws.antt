@@ -88,23 +88,23 @@ module _ (table : List ℕ) (every : table ≡ every_right) (h : Preprocessor) (
         let q = ap (point_result_by g) ((λ j. pointed 0 (sym f j) n l' y') ∙ e ∙ point_below table every h l x t y) in
         (λ j. call_printed n true l' y' (p j)) ∙ ap (λ (v : CallResult). prints_call v out) q
 
-  module _ (x : List Float) (t : ℕ) (y : List Float) (c : Learn)
-      (m : c ≡ learn_call x t g (take (dimension_of h) y) false [] zero32 (pos 0) (replicate 17 zero32) (replicate 1 zero32) (replicate 1 zero32)) where
-    learn_turn : (o : LearnOutcome) → o ≡ learn_by table 0 h l c → prints_call (call_result o.head g o.lent y (done_text o.row)) out ≡ prints_call (learn_result h g l y x t) out
-    unfolding learn_result
-    learn_turn o e =
-        ap (λ (o : LearnOutcome). prints_call (call_result o.head g o.lent y (done_text o.row)) out)
-        (e ∙ as_every table (LEARN ∷ []) (learn_after h l c) (learn_nothing 22 h l c) every ∙ ap (learn_after h l) m)
+module _ (table : List ℕ) (every : table ≡ every_right) (h : Preprocessor) (g : Bool) (l : Lent) (out : List ℕ) (x : List Float) (t : ℕ) (y : List Float) (c : Learn)
+    (m : c ≡ learn_call x t g (take (dimension_of h) y) false [] zero32 (pos 0) (replicate 17 zero32) (replicate 1 zero32) (replicate 1 zero32)) where
+  learn_turn : (o : LearnOutcome) → o ≡ learn_by table 0 h l c → prints_call (call_result o.head g o.lent y (done_text o.row)) out ≡ prints_call (learn_result h g l y x t) out
+  unfolding learn_result
+  learn_turn o e =
+      ap (λ (o : LearnOutcome). prints_call (call_result o.head g o.lent y (done_text o.row)) out)
+      (e ∙ as_every table (LEARN ∷ []) (learn_after h l c) (learn_nothing 22 h l c) every ∙ ap (learn_after h l) m)
 
-    pub learn_accepted : (p : PostProcessed) {dv ps ex : List Float} → processed_outcome (Ok p) h l' dv ps ex ≡ learn_by table 0 h l c
-        → prints_call (call_result p.head g l' y ok_text) out ≡ prints_call (learn_result h g l y x t) out
-    unfolding done_text
-    learn_accepted p {dv} {ps} {ex} e = learn_turn (processed_outcome (Ok p) h l' dv ps ex) e
+  pub learn_accepted : (p : PostProcessed) {l' : Lent} {dv ps ex : List Float} → processed_outcome (Ok p) h l' dv ps ex ≡ learn_by table 0 h l c
+      → prints_call (call_result p.head g l' y ok_text) out ≡ prints_call (learn_result h g l y x t) out
+  unfolding done_text
+  learn_accepted p {l'} {dv} {ps} {ex} e = learn_turn (processed_outcome (Ok p) h l' dv ps ex) e
 
-    pub learn_refused : (k : Refusal) {dv ps ex : List Float} → processed_outcome (Err k) h l' dv ps ex ≡ learn_by table 0 h l c
-        → prints_call (call_result h g l' y (no_text (number_of k))) out ≡ prints_call (learn_result h g l y x t) out
-    learn_refused k {dv} {ps} {ex} e =
-        ap (λ (u : List ℕ). prints_call (call_result h g l' y u) out) (refused_text k) ∙ learn_turn (processed_outcome (Err k) h l' dv ps ex) e
+  pub learn_refused : (k : Refusal) {l' : Lent} {dv ps ex : List Float} → processed_outcome (Err k) h l' dv ps ex ≡ learn_by table 0 h l c
+      → prints_call (call_result h g l' y (no_text (number_of k))) out ≡ prints_call (learn_result h g l y x t) out
+  learn_refused k {l'} {dv} {ps} {ex} e =
+      ap (λ (u : List ℕ). prints_call (call_result h g l' y u) out) (refused_text k) ∙ learn_turn (processed_outcome (Err k) h l' dv ps ex) e
 
 pub save_refused : (table : List ℕ) → table ≡ every_right → (h : Preprocessor) (l : Lent) (out : List ℕ) {new : List ℕ} {row n : ℕ} {o : Output}
     → saved row n new ≡ save_by table 0 h l out → (row ≡ 0 → ⊥) → o ≡ prints (no_text row) new → o ≡ save_prints h l out

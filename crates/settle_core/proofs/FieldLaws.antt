@@ -14,7 +14,6 @@ use mir.Syntax.{w64}
 use Rattle.std.specs.Int.{FitsUnsigned}
 use Rattle.std.proofs.Common.{rules}
 use Rattle.std.proofs.lemmas.Option.{none-some, same_Some}
-use Rattle.std.proofs.lemmas.Result.{OkIff-at_ok, OkIff-at_err}
 use Rattle.std.specs.Result.{OkIff, result_ok}
 use Rattle.std.specs.Prelude.{Result, Ok, Err, Some, None, unsigned_abs}
 use Rattle.trcf.specs.Lists.{null}
@@ -111,22 +110,16 @@ module _ (b r q j : ℤ) where
     no_place (negsuc p) n x k e = refl
     no_place (pos p) (negsuc n) x k e = refl
     no_place (pos p) (pos n) (Ok v) k e = absurd (none-some v e)
-    no_place (pos p) (pos n) (Err d) k e =
-        let h : 1000 < p = past_word p (OkIff-at_err (Err d) (FitsUnsigned w64 (pos p)) (unsigned_abs (pos p)) d k refl) in
-        sym (rw (far_place p n h))
+    no_place (pos p) (pos n) (Err d) k e = let h : 1000 < p = past_word p k in sym (rw (far_place p n h))
 
     pub no_readings : (p n : ℤ) (y : Result ℕ E) → OkIff y (FitsUnsigned w64 n) (unsigned_abs n) → None ≡ result_ok y → none ≡ limited b r q j p n
     no_readings (negsuc p) n y k e = refl
     no_readings (pos p) (negsuc n) y k e = refl
     no_readings (pos p) (pos n) (Ok v) k e = absurd (none-some v e)
-    no_readings (pos p) (pos n) (Err d) k e =
-        let h : 1000 < n = past_word n (OkIff-at_err (Err d) (FitsUnsigned w64 (pos n)) (unsigned_abs (pos n)) d k refl) in
-        sym (rw (many_readings p n h))
+    no_readings (pos p) (pos n) (Err d) k e = let h : 1000 < n = past_word n k in sym (rw (many_readings p n h))
 
     unsigned_is : (z : ℤ) (x : Result ℕ E) (u : ℕ) → OkIff x (FitsUnsigned w64 z) (unsigned_abs z) → Some u ≡ result_ok x → FitsUnsigned w64 z × (u ≡ unsigned_abs z)
-    unsigned_is z (Ok a) u k e =
-        let f = OkIff-at_ok (Ok a) (FitsUnsigned w64 z) (unsigned_abs z) a k refl in
-        (f.0, same_Some u a e ∙ f.1)
+    unsigned_is z (Ok a) u k e = (k.0, same_Some u a e ∙ k.1)
     unsigned_is z (Err d) u k e = absurd (none-some u (sym e))
 
     pub limited_is : (p n : ℤ) (x y : Result ℕ E) (u v : ℕ)

@@ -166,14 +166,16 @@ module _ (ss : List Settings) (t : List ℕ) (e : opens t ≡ false) where
 
 -- ---- the loop
 
-abbrev pub read_so_far : List kept.Pair → ℕ → List ℕ → Input
+unfoldable pub read_so_far : List kept.Pair → ℕ → List ℕ → Input
 read_so_far pairs n t = prefixed (map pair_settings (take n pairs)) (input_from (8 - n) t)
 
 module _ (pairs : List kept.Pair) (n : ℕ) (t : List ℕ) where
   pub read_closed : opens t ≡ false → prefixed (map pair_settings (take n pairs)) (input_from 0 t) ≡ read_so_far pairs n t
+  unfolding read_so_far
   read_closed e = ap (prefixed (map pair_settings (take n pairs))) (sym (closed (8 - n) t e))
 
   pub read_all_lem : 8 ≤ n → prefixed (map pair_settings (take n pairs)) (input_from 0 t) ≡ read_so_far pairs n t
+  unfolding read_so_far
   read_all_lem h = let z : 0 ≡ 8 - n = omega arith in ap (λ (k : ℕ). prefixed (map pair_settings (take n pairs)) (input_from k t)) z
 
   module _ (h : n < 8) (o : opens t ≡ true) where
@@ -183,11 +185,13 @@ module _ (pairs : List kept.Pair) (n : ℕ) (t : List ℕ) where
         ap (λ (k : ℕ). input_from k t) a ∙ ap (from (8 - (n + 1)) t) o
 
     pub read_fault : (k : ℕ) → faulty k ≡ pair_of t → input_refused k ≡ read_so_far pairs n t
+    unfolding read_so_far
     read_fault k q =
         sym (prefixed_refused (map pair_settings (take n pairs)) k)
         ∙ ap (prefixed (map pair_settings (take n pairs))) (ap (λ (p : PairRead). then_pair p (input_from (8 - (n + 1)))) q ∙ sym next_pair)
 
     pub read_pair : n < length pairs → (p : kept.Pair) (rest : List ℕ) → pair_taken (pair_settings p) rest ≡ pair_of t → read_so_far (set pairs n p) (n + 1) rest ≡ read_so_far pairs n t
+    unfolding read_so_far
     read_pair l p rest q =
         let a : take (n + 1) (set pairs n p) ≡ take n pairs ++ (p ∷ []) = ap (λ (k : ℕ). take k (set pairs n p)) (add-one n) ∙ take-suc-set pairs n p l in
         ap (λ (ps : List kept.Pair). prefixed (map pair_settings ps) (input_from (8 - (n + 1)) rest)) a
@@ -204,6 +208,7 @@ module _ (t : List ℕ) (o : opens t ≡ true) where
   -- eight times the first pair, of which one is read
   pub first_pair : (p : kept.Pair) (pairs : List kept.Pair) (rest : List ℕ) → take 1 pairs ≡ p ∷ [] → pair_taken (pair_settings p) rest ≡ pair_of t
       → input_of t ≡ read_so_far pairs 1 rest
+  unfolding read_so_far
   first_pair p pairs rest e q =
       input_begins t o
       ∙ ap (from 7 t) o

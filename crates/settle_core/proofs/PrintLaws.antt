@@ -136,20 +136,20 @@ lines_more pairs g i d h =
 -- ---- the whole
 
 -- a line that fits is printed whole
-refusal_fits : (t out : List ℕ) {new : List ℕ} (r : Result ℕ Refusal) → saved_told r new ≡ fitted t out → length t ≤ 256 → 256 ≤ length out
+refusal_fits : (t out new : List ℕ) (r : Result ℕ Refusal) → saved_told r new ≡ fitted t out → length t ≤ 256 → 256 ≤ length out
     → saved_told r new ≡ save_outcome 0 (length t) (over out t)
 unfolding fitted
-refusal_fits t out r e few room = e ∙ rw (le-ltb (length out) (length t) (omega arith))
+refusal_fits t out new r e few room = e ∙ rw (le-ltb (length out) (length t) (omega arith))
 
-pub refusal_printed : (t out : List ℕ) {new : List ℕ} (r : Result ℕ Refusal) → saved_told r new ≡ fitted t out → length t ≤ 256 → 256 ≤ length out
+pub refusal_printed : (t out new : List ℕ) (r : Result ℕ Refusal) → saved_told r new ≡ fitted t out → length t ≤ 256 → 256 ≤ length out
     → (u : List ℕ) → t ≡ u → saved_told r new ≡ text_within 256 u out
 unfolding text_within
-refusal_printed t out r e few room u q =
-    refusal_fits t out r e few room ∙ ap (λ (x : List ℕ). save_outcome 0 (length x) (over out x)) q ∙ sym (rw (le-ltb (length out) 256 room))
+refusal_printed t out new r e few room u q =
+    refusal_fits t out new r e few room ∙ ap (λ (x : List ℕ). save_outcome 0 (length x) (over out x)) q ∙ sym (rw (le-ltb (length out) 256 room))
 
 pub refusal_length : (t out new : List ℕ) (r : Result ℕ Refusal) → saved_told r new ≡ fitted t out → length t ≤ 256 → 256 ≤ length out → length new ≡ length out
     → IfOk r (λ n. n ≤ length new)
-refusal_length t out new (Ok n) e few room z = let q : n ≡ length t = ap (λ (o : SaveOutcome). o.length) (refusal_fits t out (Ok n) e few room) in omega arith
+refusal_length t out new (Ok n) e few room z = let q : n ≡ length t = ap (λ (o : SaveOutcome). o.length) (refusal_fits t out new (Ok n) e few room) in omega arith
 refusal_length t out new (Err k) e few room z = tt
 
 pub no_short : (row : ℕ) → row ≤ whole_max → length (no_text row) ≤ 256

@@ -1,5 +1,5 @@
 use Rattle.std.proofs.Common.{◌≤◌}
 use Rattle.bench.proofs.all.Given as goal
 
-abbrev pub invariant-loop-run : goal.invariant-loop-run
-invariant-loop-run g l = l.run.kept ≤ 24
+abbrev pub invariant-loop : goal.invariant-loop
+invariant-loop g l = l.run.kept ≤ 24

@@ -17,7 +17,7 @@ unwrap-turned-requires g c =
     turn_taken a.run
     (lent a.statistics.now a.last_shingled_input.now a.last_shingled_point.now a.previous_timestamps.now a.initial_values.now a.initial_timestamps.now)
     a.point.now a.text.now a.got a.out.now (omega (arith, c.requires.in_bounds_2)) c.requires.in_bounds c.requires.got_in_bounds
-    c.turn-t.result c.turn-t.ensures.out_after
+    c.turn-t.result _ _ _ _ c.turn-t.ensures.out_after
 
 pub slice_bounds-write_all-end : goal.slice_bounds-write_all-end
 slice_bounds-write_all-end g c =

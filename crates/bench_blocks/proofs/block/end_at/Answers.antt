@@ -13,7 +13,7 @@ use Rattle.bench_blocks.proofs.block.end_at.Goals as goal
 pub unwrap-requires : goal.unwrap-requires
 unwrap-requires c =
     let a = c.args in
-    finish_taken a.b a.text.now a.next a.out.now a.at c.requires.at_in_bounds c.finish-last.result c.finish-last.ensures
+    finish_taken a.b a.text.now a.next a.out.now a.at c.requires.at_in_bounds c.finish-last.result _ c.finish-last.ensures
 
 pub returns : goal.returns
 returns c =

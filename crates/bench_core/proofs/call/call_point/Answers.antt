@@ -15,7 +15,7 @@ returns-in-Ok-2 c =
     let a = c.args in
     point_absent c.every_right.result c.every_right.ensures a.head a.given
     (lent a.statistics.now a.last_shingled_input.now a.last_shingled_point.now a.previous_timestamps.now a.initial_values.now a.initial_timestamps.now) a.out.now
-    a.input.now a.timestamp a.point.now c.in-Ok-2.next.head c.in-Ok-2.ensures c.if-next.false c.print_text.ensures
+    a.input.now a.timestamp a.point.now c.in-Ok-2.next.head c.in-Ok-2.ensures (cc) c.print_text.ensures
 
 pub returns-in-Err : goal.returns-in-Err
 returns-in-Err c =

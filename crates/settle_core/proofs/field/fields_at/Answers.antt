@@ -1,10 +1,13 @@
 -- `settle_core::field::fields_at` meets its contract. Assumes nothing.
-use mathlib.Core.Path.{sym, ap, ◌∙◌}
+use mathlib.Core.Path.{◌≡◌, sym, ap, ◌∙◌}
+use mir.Syntax.{w128}
+use mir.Val.{to_z, of_z}
+use Rattle.std.proofs.Common.{rules}
 use Rattle.std.specs.Prelude.{Option}
 use Rattle.std.specs.Option.{option_map}
 use Rattle.settling.specs.Steps.{signal_of, option_of}
 use Rattle.settling.specs.declared.signal.Signal as held
-use Rattle.settle_core.specs.Input.{fields_of}
+use Rattle.settle_core.specs.Input.{fields_of, limited}
 use Rattle.settle_core.proofs.FieldLaws.{stops, goes_on, null_end, null_not}
 use Rattle.settle_core.proofs.field.fields_at.Goals as goal
 
@@ -116,6 +119,12 @@ returns c =
     let p4 = c.in_ok-jump in
     let p5 = c.in_ok-place in
     let p6 = c.in_ok-readings in
+    let z1 : to_z w128 (of_z w128 p1.base.value) ≡ p1.base.value = search rules in
+    let z2 : to_z w128 (of_z w128 p2.ramp.value) ≡ p2.ramp.value = search rules in
+    let z3 : to_z w128 (of_z w128 p3.ripple.value) ≡ p3.ripple.value = search rules in
+    let z4 : to_z w128 (of_z w128 p4.jump.value) ≡ p4.jump.value = search rules in
+    let z5 : to_z w128 (of_z w128 p5.place.value) ≡ p5.place.value = search rules in
+    let z6 : to_z w128 (of_z w128 p6.readings.value) ≡ p6.readings.value = search rules in
     c.signal_of.ensures
     ∙ sym (goes_on t (a.at) 9 _ p1.base.value p1.base.next p1.ensures.text_value
     ∙ goes_on t (p1.base.next) 9 _ p2.ramp.value p2.ramp.next p2.ensures.text_value
@@ -123,4 +132,4 @@ returns c =
     ∙ goes_on t (p3.ripple.next) 9 _ p4.jump.value p4.jump.next p4.ensures.text_value
     ∙ goes_on t (p4.jump.next) 9 _ p5.place.value p5.place.next p5.ensures.text_value
     ∙ goes_on t (p5.place.next) 10 _ p6.readings.value p6.readings.next p6.ensures.text_value
-    ∙ rw (null_end t p6.readings.next c.if-readings-text.false) ?)
+    ∙ rw (null_end t p6.readings.next c.if-readings-text.false) (λ i. limited (sym z1 i) (sym z2 i) (sym z3 i) (sym z4 i) (sym z5 i) (sym z6 i)))

@@ -1,9 +1,7 @@
 -- `settle_core::pair::pair_at` meets its contract. Assumes nothing.
 use mathlib.Core.Path.{◌≡◌, sym, ap, ◌∙◌}
-use native.Mathlib.Omega.{arith}
 use mathlib.Core.List.{List}
 use Prim.Native.Nat.{ℕ}
-use Rattle.std.proofs.Common.{rules}
 use lib.ListN.{drop}
 use Rattle.bench_core.specs.Line.{kept_of}
 use Rattle.bench_core.specs.Bench.{zero_codes}
@@ -12,16 +10,16 @@ use Rattle.settle_core.specs.Input.{Scanned, line_of, settings_by, pair_by}
 use Rattle.settle_core.proofs.JudgeLaws.{handed_fault, set_refused, weights_refused, both_lines}
 use Rattle.settle_core.proofs.pair.pair_at.Goals as goal
 
-pub returns-in_err-set : goal.returns-in_err-set
-returns-in_err-set c =
+pub returns-in_err-set-clause-text_value : goal.returns-in_err-set-clause-text_value
+returns-in_err-set-clause-text_value c =
     let a = c.args in
     let t = a.text.now in
     let r = c.from_residual in
     let s = c.in_err-set.ensures.text_value in
-    record { text_value = handed_fault _ r.result r.ensures.1 19 s.0 t ∙ set_refused (drop a.at t) s.1; next_in_bounds = search rules }
+    handed_fault _ r.result r.ensures.1 19 s.0 t ∙ set_refused (drop a.at t) s.1
 
-pub returns-in_err-weights : goal.returns-in_err-weights
-returns-in_err-weights c =
+pub returns-in_err-weights-clause-text_value : goal.returns-in_err-weights-clause-text_value
+returns-in_err-weights-clause-text_value c =
     let a = c.args in
     let t = a.text.now in
     let u : List ℕ = drop a.at t in
@@ -29,10 +27,10 @@ returns-in_err-weights c =
     let s = c.in_ok-set.ensures.text_value in
     let w = c.in_err-weights.ensures.text_value in
     let q : drop c.in_ok-set.set.next t ≡ (line_of u).rest = ap (λ (x : Scanned). x.rest) s.0 in
-    record { text_value = handed_fault _ r.result r.ensures.1 19 w.0 t ∙ weights_refused u s.1 (drop c.in_ok-set.set.next t) q w.1; next_in_bounds = search rules }
+    handed_fault _ r.result r.ensures.1 19 w.0 t ∙ weights_refused u s.1 (drop c.in_ok-set.set.next t) q w.1
 
-pub returns : goal.returns
-returns c =
+pub returns-clause-text_value : goal.returns-clause-text_value
+returns-clause-text_value c =
     let a = c.args in
     let t = a.text.now in
     let u : List ℕ = drop a.at t in
@@ -41,11 +39,7 @@ returns c =
     let set = c.in_ok-set.set in
     let weights = c.in_ok-weights.weights in
     let q : drop set.next t ≡ (line_of u).rest = ap (λ (x : Scanned). x.rest) s.0 in
-    record {
-      text_value =
-          c.settings_of.ensures.by_index t
-          ∙ (λ j. pair_by (settings_from (c.builder_from.ensures j) (kept_of weights.line) (zero_codes (c.builder_from.ensures j))) (drop weights.next t))
-          ∙ (λ j. pair_by (settings_by (s.0 j).line (w.0 j).line) (w.0 j).rest)
-          ∙ both_lines u s.1 (drop set.next t) q w.1;
-      next_in_bounds = ?;
-    }
+    c.settings_of.ensures.by_index t
+    ∙ (λ j. pair_by (settings_from (c.builder_from.ensures j) (kept_of weights.line) (zero_codes (c.builder_from.ensures j))) (drop weights.next t))
+    ∙ (λ j. pair_by (settings_by (s.0 j).line (w.0 j).line) (w.0 j).rest)
+    ∙ both_lines u s.1 (drop set.next t) q w.1
