@@ -1,7 +1,7 @@
 -- Before the turn at i the times of the first i blocks are written. Assumes nothing.
 use native.Mathlib.Omega.{arith}
 use mathlib.Core.Path.{◌≡◌, refl, ap, ◌∙◌}
-use Prim.Native.Nat.{◌+◌, ◌*◌, ◌-◌, ◌<◌}
+use Prim.Native.Nat.{◌<◌}
 use lib.ListN.{length, length-set}
 use Rattle.ranges.specs.RangeVector.{Range, Ranges, ranges, held, range_at, put_at}
 use Rattle.ranges.proofs.RangeSteps.{same_loans, same_since}
@@ -58,7 +58,6 @@ loop-i-preserved c =
     let A = c.args in
     let L = c.loop-i in
     let P = c.requires in
-    let at = L.i * A.a + A.m in
     let R = c.invert.ensures ∙ ap (time_by A.clock.gap A.clock.factor A.clock.scale A.clock.drift) c.at.ensures in
     let W = c.put.ensures.after in
     let i : L.i < length A.out.now.values.now = omega arith in (
