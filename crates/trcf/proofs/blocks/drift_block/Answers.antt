@@ -2,10 +2,10 @@
 use lib.Ieee.{Float, nan, binary32, mul}
 use Rattle.ranges.specs.RangeVector.{range_at, put_at, shifted}
 use Rattle.trcf.proofs.BlockLaws.{places_more}
-use Prim.Native.Nat.{◌+◌, ◌*◌, ◌-◌}
+use Prim.Native.Nat.{◌+◌, ◌*◌}
 use mathlib.Core.Path.{◌≡◌, refl, ap, ◌∙◌}
 use native.Mathlib.Omega.{arith}
-use lib.ListN.{get_or, length-set}
+use lib.ListN.{get_or}
 use Rattle.ranges.specs.RangeVector.{ranges}
 use Rattle.trcf.specs.Steps.Blocks.{places_by, drift_place}
 use Rattle.trcf.proofs.blocks.drift_block.Goals as goal

@@ -3,7 +3,7 @@ use lib.Ieee.{nan, binary32, mul}
 use Rattle.ranges.specs.RangeVector.{range_at, put_at}
 use Rattle.trcf.specs.Steps.Blocks.{turn_by}
 use Rattle.trcf.proofs.BlockLaws.{places_more, carried_more}
-use Prim.Native.Nat.{◌+◌, ◌*◌, ◌-◌}
+use Prim.Native.Nat.{◌+◌, ◌*◌}
 use mathlib.Core.Path.{◌≡◌, refl, sym, ◌∙◌}
 use native.Mathlib.Omega.{arith}
 use lib.ListN.{get_or, length-set}

@@ -1,5 +1,5 @@
 -- What holds in the loops of `trcf::blocks::invert_block`.
-use Prim.Native.Nat.{◌*◌, ◌-◌, ◌≤◌}
+use Prim.Native.Nat.{◌*◌}
 use mathlib.Core.Path.{◌≡◌}
 use lib.ListN.{length}
 use Rattle.ranges.specs.RangeVector.{ranges}

@@ -1,6 +1,5 @@
 -- `trcf::feeding::feed_fitting` meets its contract: by its callees' promises and the laws of lists. Assumes nothing.
 use mathlib.Core.Path.{◌∙◌}
-use native.Mathlib.Omega.{arith}
 use Rattle.common.proofs.DeviationLaws.{next_factor_lem}
 use Rattle.trcf.specs.Preprocessor.{feed, time_fed}
 use borrow.Author.Rules.{rules}

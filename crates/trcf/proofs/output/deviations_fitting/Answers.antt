@@ -1,7 +1,7 @@
 -- `trcf::output::deviations_fitting` meets its contract: by its callees' promises, the time's number after the channels'. Assumes nothing.
 use native.Mathlib.Omega.{arith}
 use mathlib.Core.Path.{sym, ◌∙◌}
-use Prim.Native.Nat.{◌-◌, ◌<◌}
+use Prim.Native.Nat.{◌<◌}
 use lib.ListN.{length}
 use Rattle.trcf.specs.Settings.{block}
 use Rattle.trcf.specs.Preprocessor.{deviations}

@@ -1,7 +1,7 @@
 -- `trcf::output::transform_fitting` meets its contract: by its callees' promises, the time's number after the channels'. Assumes nothing.
 use native.Mathlib.Omega.{arith}
 use mathlib.Core.Path.{sym, ap, ◌∙◌}
-use Prim.Native.Nat.{◌-◌, ◌≤◌, ◌<◌}
+use Prim.Native.Nat.{◌≤◌, ◌<◌}
 use native.Mathlib.Nat.{le-mul_of_pos_right}
 use lib.ListN.{length, length-drop, length-take}
 use Rattle.trcf.specs.Settings.{block, transformer}

@@ -5,7 +5,7 @@ use Rattle.trcf.specs.Types.{differences}
 use Rattle.trcf.specs.Transformer.{reciprocal, weight_at, normalized_scale, basic_drift, basic_shift}
 use Rattle.trcf.proofs.TransformerLaws.{weight_at_view}
 use Rattle.trcf.proofs.BlockLaws.{held_none, held_more}
-use Prim.Native.Nat.{◌-◌, ◌<◌}
+use Prim.Native.Nat.{◌<◌}
 use mathlib.Core.Path.{◌≡◌, sym, ap, ◌∙◌}
 use native.Mathlib.Omega.{arith}
 use lib.ListN.{get_or, length-set}

@@ -1,5 +1,4 @@
 -- What holds in the loops of `trcf::transformer::channels_into`.
-use Prim.Native.Nat.{◌-◌, ◌≤◌}
 use mathlib.Core.Path.{◌≡◌}
 use lib.ListN.{length}
 use Rattle.trcf.specs.TransformerCalls.{transformer_view}

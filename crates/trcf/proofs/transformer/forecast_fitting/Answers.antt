@@ -1,8 +1,7 @@
 -- `trcf::transformer::forecast_fitting` meets its contract: the invariant is that of the first i blocks, for every transformer that the lists hold. Assumes nothing.
-use Prim.Native.Nat.{ℕ, ◌*◌, ◌/◌, ◌-◌}
+use Prim.Native.Nat.{ℕ, ◌*◌, ◌/◌}
 use mathlib.Core.Path.{◌≡◌, refl, sym, ap, ◌∙◌}
 use native.Mathlib.Omega.{arith}
-use native.Mathlib.Nat.{div-le_self}
 use lib.ListN.{length}
 use Rattle.ranges.specs.RangeVector.{held}
 use Rattle.ranges.proofs.RangeSteps.{same_loans, same_since}

@@ -1,5 +1,4 @@
 -- What holds in the loops of `trcf::transformer::forecast_fitting`.
-use Prim.Native.Nat.{◌-◌, ◌≤◌}
 use mathlib.Core.Path.{◌≡◌}
 use lib.ListN.{length}
 use Rattle.ranges.specs.RangeVector.{held, AreSameLoans}

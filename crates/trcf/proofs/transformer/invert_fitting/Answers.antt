@@ -3,11 +3,11 @@ use lib.Ieee.{Float}
 use Rattle.trcf.proofs.TransformerLaws.{weight_at_view}
 use Rattle.trcf.specs.Transformer.{inverted, invert_by, unweighted, weight_at}
 use lib.Ieee.{nan}
-use lib.ListN.{length, get_or, length-set}
-use Prim.Native.Nat.{◌<◌, ◌-◌}
+use lib.ListN.{length, get_or}
+use Prim.Native.Nat.{◌<◌}
 use native.Mathlib.Omega.{arith}
 use native.Mathlib.Numerals.{add-one}
-use mathlib.Core.Path.{◌≡◌, refl, sym, ap, ◌∙◌}
+use mathlib.Core.Path.{◌≡◌, sym, ap, ◌∙◌}
 use Rattle.trcf.proofs.LentLaws.{over_none, over_more}
 use Rattle.trcf.specs.TransformerCalls.{transformer_view}
 use Rattle.trcf.proofs.transformer.invert_fitting.Goals as goal

@@ -3,11 +3,11 @@ use Rattle.trcf.specs.Types.{normalizes}
 use Rattle.trcf.specs.Transformer.{scales, weight_at, normalized_scale}
 use mathlib.Core.Bool.{cond}
 use lib.Ieee.{binary32, mul}
-use lib.ListN.{length, length-set}
-use Prim.Native.Nat.{◌<◌, ◌-◌}
+use lib.ListN.{length}
+use Prim.Native.Nat.{◌<◌}
 use native.Mathlib.Omega.{arith}
 use native.Mathlib.Numerals.{add-one}
-use mathlib.Core.Path.{◌≡◌, refl}
+use mathlib.Core.Path.{◌≡◌}
 use Rattle.trcf.proofs.LentLaws.{over_none, over_more}
 use Rattle.trcf.specs.TransformerCalls.{transformer_view}
 use Rattle.trcf.proofs.transformer.scale_into.Goals as goal
