@@ -1,5 +1,5 @@
 // The fields of a line, one after another.
-ghost use Rattle.std.specs.Prelude.{◌≡◌, ◌<◌, ◌≤◌, ◌+◌, ◌↔◌, [], length, take, drop, All, IfOk, IsOk, IsTrue, OnErr, vec_len};
+ghost use Rattle.std.specs.Prelude.{◌≡◌, ◌<◌, ◌≤◌, ◌+◌, ◌-◌, ◌↔◌, [], length, take, drop, slice_index, All, IfOk, IsOk, IsTrue, OnErr, OnOk};
 
 use crate::field::{Field, Lent, is_untouched};
 use std::alloc::{AllocError, AllocFailed, Global};
@@ -24,17 +24,24 @@ impl<T: Drop> From<AllocFailed<T>> for Differs {
 const LONGEST: u64 = 4096;
 
 /// The fields of a line that are still to be read. Each is ended by a blank, the last by the line's LF.
+#[derive(Clone, Copy)]
 pub struct Fields<'a> {
     pub rest: &'a [u8],
     pub alloc: Global,
 }
 
 impl<'a> Fields<'a> {
-    /// A line's letter, and the fields after it.
-    pub fn of(alloc: Global, line: &'a [u8]) -> Result<(u8, Fields<'a>), Differs> {
+    /// A line's letter, and the fields after it. A line that no LF ends is none.
+    pub fn of(alloc: Global, line: &'a [u8]) -> Result<(u8, Fields<'a>), Differs>
+        ensures letter { IfOk result (λ r. r.0 ≡ slice_index line.now 0) }
+        ensures rest { IfOk result (λ r. r.1.rest.now ≡ drop 2 line.now) }
+        ensures ended { OnOk result (slice_index line.now (length line.now - 1) ≡ 10) }
+    {
         match line {
-            [letter, b' ' | b'\n', rest @ ..] if line.ends_with(b"\n") =>
-                Ok((*letter, Fields { rest, alloc })),
+            [letter, b' ' | b'\n', rest @ ..] if matches!(line, [.., b'\n']) => Ok((
+                *letter,
+                Fields { rest, alloc },
+            )),
             _ => Err(Differs),
         }
     }
@@ -126,6 +133,17 @@ impl<'a> Fields<'a> {
         Ok(list)
     }
 
+    /// A list that may be given: flag 0, or flag 1 and the list.
+    pub fn optional<T: Field>(&mut self) -> Result<Option<Vec<T>>, Differs>
+        ensures { length self.new.rest.now ≤ length self.old.rest.now }
+    {
+        if self.read()? {
+            Ok(Some(self.list()?))
+        } else {
+            Ok(None)
+        }
+    }
+
     /// Memory to be lent, of which the line gives the length.
     pub fn lent<T: Lent>(&mut self) -> Result<Vec<T>, Differs>
         ensures { length self.new.rest.now ≤ length self.old.rest.now }
@@ -172,6 +190,30 @@ impl<'a> Fields<'a> {
         let (front, rest) = xs.split_at_checked(n).ok_or(Differs)?;
         self.expect_each(front)?;
         expect_untouched(rest)
+    }
+
+    /// Whether a list is written, and the list; where none is, its memory stays.
+    pub fn expect_given<T: Lent>(&mut self, given: bool, out: &[T]) -> Result<(), Differs>
+        ensures { length self.new.rest.now ≤ length self.old.rest.now }
+    {
+        self.expect_flag(given)?;
+        if given {
+            self.expect_list(out)
+        } else {
+            expect_untouched(out)
+        }
+    }
+
+    /// The row of a call that writes one list, and what it wrote.
+    pub fn expect_written<T: Lent>(&mut self, row: u64, out: &[T]) -> Result<(), Differs>
+        ensures { length self.new.rest.now ≤ length self.old.rest.now }
+    {
+        self.expect(row)?;
+        if row == 0 {
+            self.expect_list(out)
+        } else {
+            expect_untouched(out)
+        }
     }
 }
 

@@ -2,6 +2,8 @@
 // tally of a file. It uses nothing of what is replayed.
 #![tactic(auto)]
 
+pub mod bounded;
 pub mod field;
 pub mod fields;
+pub mod memory;
 pub mod tally;

@@ -1,12 +1,12 @@
 // How many lines of a file agree, and the report.
-ghost use Rattle.std.specs.Prelude.{◌≡◌, ◌||◌, ◌++◌, ◌∷◌, [], leb, OnOk, vec_len};
+ghost use Rattle.std.specs.Prelude.{if◌then◌else◌, ◌≡◌, ◌||◌, ◌++◌, ◌∷◌, [], leb, OnOk, vec_len};
 ghost use Rattle.vectors_core.specs.Tally.{one_more};
 
 use crate::fields::Differs;
 use std::alloc::{AllocError, Global};
-use std::fs;
-use std::io;
+use std::io::Read;
 use std::rt::Files;
+use std::{fs, io};
 
 /// A line that differs: its number, from 1 on, and its letter, which may be any byte.
 #[derive(Clone, Copy, Debug, PartialEq, Eq)]
@@ -67,15 +67,29 @@ impl Tally {
     }
 }
 
+/// The bytes of a file. One that is not there is told on standard error and counts as empty, and a failed read ends the file.
+pub fn read_file(rt: &(impl Files + Alloc<A = Global> + Eprint), name: &str) -> Vec<u8> {
+    let mut text = Vec::new(rt.alloc());
+    match fs::open(rt, name) {
+        Ok(mut file) => {
+            let _ = file.read_to_end(&mut text);
+        }
+        Err(e) => {
+            let _ = eprintln!(rt; "{name}: {e}");
+        }
+    }
+    text
+}
+
 /// Replays each line of a file, in order, and prints the first that differ and how many agree.
 pub fn replay<F: FnMut(&[u8]) -> Result<(), Differs>>(
-    rt: &(impl Files + Alloc<A = Global> + Print),
+    rt: &(impl Files + Alloc<A = Global> + Print + Eprint),
     name: &str,
     mut answer: F,
 ) -> io::Result<()>
     requires { F.IsAlwaysCallable answer }
 {
-    let text = fs::read(rt, name)?;
+    let text = read_file(rt, name);
     let mut tally = Tally::new(rt.alloc());
     for (i, line) in text.split_inclusive(|b| *b == b'\n').enumerate() {
         let named = Named {
