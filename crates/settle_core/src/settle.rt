@@ -36,14 +36,7 @@ fn print_pair(out: &mut [u8], at: usize, i: usize, p: Pair, signal: Signal) -> u
 {
     let s = noted(p, signal);
     let ready = s.ready.unwrap_or(signal.readings);
-    let largest = s.largest.unwrap_or(0.0);
-    let line = optional_line(
-        &mut out[at..],
-        b'1' + i as u8,
-        ready,
-        s.largest.is_some(),
-        largest,
-    );
+    let line = optional_line(&mut out[at..], b'1' + i as u8, ready, s.largest);
     at + line.unwrap_or(0)
 }
 
