@@ -98,7 +98,11 @@ fn set_place(i: usize) -> Place
 fn call_place(i: usize) -> Place
     ensures { result ≡ call_place i }
 {
-    if i == 0 { Place::AsWhole } else { Place::AsSingle }
+    if i == 0 {
+        Place::AsWhole
+    } else {
+        Place::AsSingle
+    }
 }
 
 fn place_of(name: Name, i: usize) -> Place
@@ -133,7 +137,10 @@ fn method(c: &[u8]) -> Option<u64>
 fn other(l: Line) -> Line
     ensures { result ≡ other_line l }
 {
-    Line { name: Name::Other, ..l }
+    Line {
+        name: Name::Other,
+        ..l
+    }
 }
 
 // One field more, as far as they are counted.

@@ -5,9 +5,8 @@
 ghost use Rattle.std.specs.Prelude.{◌≤◌, ◌<◌, IfSome, length};
 
 use std::alloc::Global;
-use std::fs;
-use std::io;
 use std::rt::Files;
+use std::{fs, io};
 
 /// Where an input of a text stands: its bytes at from..middle, and its output's at middle..next.
 #[derive(Clone, Copy)]

@@ -101,8 +101,13 @@ module _ (b r q j : ℤ) where
   unfolding in_limits
   many_readings p n h =
       rw (
-        lt-leb n 1000 h, and_none (leb 1 n), and_none (leb p 1000),
-        and_none (leb (integer_size j) 1000), and_none (leb (integer_size q) 1000), and_none (leb (integer_size r) 1000), and_none (leb (integer_size b) 1000),
+        lt-leb n 1000 h,
+        and_none (leb 1 n),
+        and_none (leb p 1000),
+        and_none (leb (integer_size j) 1000),
+        and_none (leb (integer_size q) 1000),
+        and_none (leb (integer_size r) 1000),
+        and_none (leb (integer_size b) 1000),
       )
 
   module _ {E : Type 0} where

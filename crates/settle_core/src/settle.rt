@@ -63,11 +63,7 @@ pub fn settle(input: &[u8], output: &mut [u8]) -> Result<usize, Refusal>
         return Err(Refusal::TooShort);
     }
     match judge(input) {
-        Ok(judged) => Ok(print_all(
-            &judged.pairs[..judged.count],
-            judged.signal,
-            output,
-        )),
+        Ok(judged) => Ok(print_all(&judged.pairs[..judged.count], judged.signal, output)),
         Err(refusal) => whole_line(output, b'n', b'o', u64::from(refusal)),
     }
 }

@@ -25,7 +25,8 @@ overflow_add-result c =
     let h : r ≤ whole_max = omega arith in
     let z = optional_size (49 + a.i) r k x h in
     omega (
-      arith, z,
+      arith,
+      z,
       long_is a.out.now a.at (bytes_of_line (optional_line (49 + a.i) r k x)) _ o.result c.unwrap_or.result c.unwrap_or.ensures c.requires.at_in_bounds z o.ensures,
       c.requires.at_in_bounds,
     )
