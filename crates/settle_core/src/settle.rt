@@ -3,7 +3,7 @@ ghost use Rattle.std.specs.Prelude.{◌≡◌, map, ◌+◌, ◌≤◌, IfOk, le
 ghost use Rattle.snapshot.specs.Save.{saved_told};
 ghost use Rattle.snapshot.specs.Steps.Write.{Wrote};
 ghost use Rattle.settling.specs.Settling.{run_of};
-ghost use Rattle.settling.specs.Steps.{signal_of, noted_by, settled_outcome};
+ghost use Rattle.settling.specs.Steps.{signal_of, noted_by};
 ghost use Rattle.settle_core.specs.Settle.{noted_line, line_texts, settled_on};
 ghost use Rattle.settle_core.specs.Steps.{pair_settings};
 
