@@ -1,9 +1,9 @@
 // A forecast of transformed readings turned back into readings and times (the source's Preprocessor::invert_extrapolation).
 ghost use Rattle.std.specs.Prelude.{◌≡◌, true, false, ◌&&◌, [], ◌∷◌, ◌*◌, ◌≤◌, ◌<◌, pos, length, OnOk};
 ghost use Rattle.std.specs.Float.{binary64};
-ghost use Rattle.std.specs.Float.Ieee.{mul, of_int};
+ghost use Rattle.std.specs.Float.Ieee.{of_int};
 ghost use Rattle.refusal.specs.Refusal.{first_of, row_of};
-ghost use Rattle.ranges.specs.RangeVector.{range, ranges, scaled, unblocked, cascade_to, over_all, shorter_at};
+ghost use Rattle.ranges.specs.RangeVector.{range, ranges, unblocked, cascade_to, over_all, shorter_at};
 ghost use Rattle.trcf.specs.Lists.{last_n};
 ghost use Rattle.trcf.specs.Types.{augments, differences};
 ghost use Rattle.trcf.specs.Transformer.{inverted_forecast};

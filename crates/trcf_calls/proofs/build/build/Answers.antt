@@ -1,13 +1,11 @@
 -- `trcf_calls::build::build` meets its contract: by its callees' promises and the laws of outcomes. Assumes nothing.
 use native.Mathlib.Omega.{arith}
-use mathlib.Core.Path.{◌≡◌, refl, sym, ap, ◌∙◌}
-use lib.ListN.{length-take}
+use mathlib.Core.Path.{◌≡◌, sym, ap, ◌∙◌}
 use Prim.Native.Nat.{ℕ}
 use Rattle.trcf.specs.Settings.{dimension}
-use Rattle.trcf.specs.View.{settings_from, settings_of, lent, lent_row, head_from, no_head, outcome, Bounded}
+use Rattle.trcf.specs.View.{settings_from, settings_of, lent, lent_row, no_head, outcome, Bounded}
 use Rattle.trcf.specs.declared.head.Preprocessor.{Preprocessor}
 use Rattle.trcf.proofs.LengthLaws.{dimension_known, held_known}
-use Rattle.trcf.proofs.BoundLaws.{five, five_more, all_statistics, all_inputs}
 use Rattle.trcf.proofs.NumberLaws.{head_err, number_zero}
 use Rattle.trcf.proofs.OutcomeLaws.{build_refused, build_short, build_done, bounded_from, dimension_from}
 use Rattle.trcf_calls.proofs.build.build.Goals as goal

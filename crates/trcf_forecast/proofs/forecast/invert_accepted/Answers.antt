@@ -1,6 +1,6 @@
 -- By the mode, over the parts in use. Assumes nothing.
 use native.Mathlib.Omega.{arith}
-use mathlib.Core.Path.{sym, ◌∙◌, refl}
+use mathlib.Core.Path.{sym, ◌∙◌}
 use lib.Seq.{length-take-le}
 use Rattle.ranges.specs.RangeVector.{ranges}
 use Rattle.trcf.specs.Preprocessor.{previous, numbers_of, times_of}

@@ -1,7 +1,7 @@
 -- Before the turn at i the times of the first i blocks are written. Assumes nothing.
 use native.Mathlib.Omega.{arith}
 use mathlib.Core.Path.{◌≡◌, refl, ap}
-use Prim.Native.Nat.{◌-◌, ◌<◌}
+use Prim.Native.Nat.{◌<◌}
 use lib.ListN.{length, length-set}
 use Rattle.ranges.specs.RangeVector.{Range, ranges, range_at}
 use Rattle.trcf.specs.Steps.Inverting.{time_at, times_by}
