@@ -14,9 +14,8 @@ use Rattle.refusal.specs.Refusal.{number_of}
 use Rattle.refusal.proofs.RefusalLaws.{refused_is}
 use Rattle.trcf.specs.Transformer.{zero32}
 use Rattle.trcf.specs.Calls.{Learn}
-use Rattle.trcf.specs.Preprocessor.{accepted}
 use Rattle.trcf.proofs.OutcomeLaws.{accepted_not}
-use Rattle.trcf.specs.View.{Lent, Outcome, outcome, drain_of, pointed, point_after, LearnOutcome, learn_outcome, processed_outcome, learn_nothing, learn_after, learn_call}
+use Rattle.trcf.specs.View.{Lent, Outcome, outcome, drain_of, pointed, point_after, LearnOutcome, processed_outcome, learn_nothing, learn_after, learn_call}
 use Rattle.trcf.specs.declared.head.Preprocessor.{Preprocessor}
 use Rattle.trcf.specs.declared.head.PostProcessed.{PostProcessed}
 use Rattle.trcf_learn.specs.Given.{list_in}

@@ -2,7 +2,7 @@
 ghost use Rattle.std.specs.Prelude.{◌≡◌};
 ghost use Rattle.snapshot.specs.Read.{as_whole};
 ghost use Rattle.snapshot.specs.Scan.{number_of};
-ghost use Rattle.bench_core.specs.Line.{is_reading, name_of, set_place, call_place, place_of, letter_of, method_field, other_line, named_line, after_field, with_whole, with_double, with_single, line_with_field, cell_of, request_of, blank_line};
+ghost use Rattle.bench_core.specs.Line.{is_reading, name_of, set_place, call_place, place_of, letter_of, method_field, other_line, after_field, with_whole, with_double, with_single, line_with_field, cell_of, request_of, blank_line};
 
 use snapshot::cells::{double, single, whole};
 use snapshot::field::Field;
@@ -98,7 +98,11 @@ fn set_place(i: usize) -> Place
 fn call_place(i: usize) -> Place
     ensures { result ≡ call_place i }
 {
-    if i == 0 { Place::AsWhole } else { Place::AsSingle }
+    if i == 0 {
+        Place::AsWhole
+    } else {
+        Place::AsSingle
+    }
 }
 
 fn place_of(name: Name, i: usize) -> Place
@@ -133,7 +137,10 @@ fn method(c: &[u8]) -> Option<u64>
 fn other(l: Line) -> Line
     ensures { result ≡ other_line l }
 {
-    Line { name: Name::Other, ..l }
+    Line {
+        name: Name::Other,
+        ..l
+    }
 }
 
 // One field more, as far as they are counted.

@@ -5,16 +5,15 @@
 ghost use Rattle.std.specs.Prelude.{◌≤◌, ◌<◌, IfSome, length};
 
 use std::alloc::Global;
-use std::fs;
-use std::io;
 use std::rt::Files;
+use std::{fs, io};
 
-/// Where an input of a text stands: its bytes at from..middle, and its output's at middle..next.
+// Where an input of a text stands: its bytes at from..middle, and its output's at middle..next.
 #[derive(Clone, Copy)]
-pub struct Case {
-    pub from: usize,
-    pub middle: usize,
-    pub next: usize,
+struct Case {
+    from: usize,
+    middle: usize,
+    next: usize,
 }
 
 // A decimal number, and the byte after the one that ends it.
@@ -39,8 +38,8 @@ fn length_at(text: &[u8], at: usize) -> Option<Length>
     None
 }
 
-/// The input whose line stands from `at` on. None where the text ends before it does.
-pub fn case_at(text: &[u8], at: usize) -> Option<Case>
+// The input whose line stands from `at` on. None where the text ends before it does.
+fn case_at(text: &[u8], at: usize) -> Option<Case>
     requires { at ≤ length text.now }
     ensures { IfSome result (λ case. (case.from ≤ case.middle) × (case.middle ≤ case.next) × (case.next ≤ length text.now) × (at < case.next)) }
 {
@@ -61,11 +60,11 @@ pub fn case_at(text: &[u8], at: usize) -> Option<Case>
     })
 }
 
-/// How many inputs agree and how many do not.
+// How many inputs agree and how many do not.
 #[derive(Clone, Copy)]
-pub struct Tally {
-    pub agree: u64,
-    pub differ: u64,
+struct Tally {
+    agree: u64,
+    differ: u64,
 }
 
 fn counted(t: Tally, agrees: bool) -> Tally {
@@ -82,8 +81,8 @@ fn counted(t: Tally, agrees: bool) -> Tally {
     }
 }
 
-/// Every input of the text, in order. What is left of a text that is cut counts as one that differs.
-pub fn replay<F: FnMut(&[u8], &[u8]) -> bool>(text: &[u8], mut agrees: F) -> Tally
+// Every input of the text, in order. What is left of a text that is cut counts as one that differs.
+fn replay<F: FnMut(&[u8], &[u8]) -> bool>(text: &[u8], mut agrees: F) -> Tally
     requires { F.IsAlwaysCallable agrees }
 {
     let mut tally = Tally {

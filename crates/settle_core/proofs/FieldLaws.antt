@@ -1,12 +1,12 @@
 -- The fields of the signal line. Assumes nothing.
-use Prim.Native.Nat.{ℕ, zero, suc, ◌+◌, ◌-◌, ◌≤◌, ◌<◌}
+use Prim.Native.Nat.{ℕ, suc, ◌+◌, ◌-◌, ◌≤◌, ◌<◌}
 use native.Mathlib.Omega.{arith}
 use mathlib.Core.Path.{◌≡◌, refl, sym, ap, ◌∙◌}
 use mathlib.Core.Bool.{Bool, true, false, cond, ◌&&◌, true≢false}
 use mathlib.Core.List.{List, [], ◌∷◌}
 use mathlib.Core.Option.{Option, none, some}
-use borrow.Author.Tests.{leb-true, leb-false, eq-eqb, ne_eqb, lt-ltb, lt-leb}
-use lib.Dec.{ltb, eqb, leb}
+use borrow.Author.Tests.{leb-true, leb-false, eq-eqb, ne_eqb, lt-leb}
+use lib.Dec.{eqb, leb}
 use lib.IntN.{ℤ, pos, negsuc}
 use lib.ListN.{length, take, drop, get_or, length-drop}
 use lib.Seq.{get_or-drop, drop-drop}
@@ -20,7 +20,6 @@ use Rattle.trcf.specs.Lists.{null}
 use Rattle.bench_core.specs.Bench.{cell_length}
 use Rattle.settling.specs.Settling.{Signal, signal, integer_size, in_limits}
 use Rattle.settle_core.specs.Input.{signed_of, Part, no_part, part_by as readPart, part_of, with_part, limited, fields_of, is_signal, signal_read as signalAt, part}
-use Rattle.settle_core.proofs.ScanLaws.{rest_is}
 
 -- ---- a field at its place
 
@@ -101,8 +100,13 @@ module _ (b r q j : ℤ) where
   unfolding in_limits
   many_readings p n h =
       rw (
-        lt-leb n 1000 h, and_none (leb 1 n), and_none (leb p 1000),
-        and_none (leb (integer_size j) 1000), and_none (leb (integer_size q) 1000), and_none (leb (integer_size r) 1000), and_none (leb (integer_size b) 1000),
+        lt-leb n 1000 h,
+        and_none (leb 1 n),
+        and_none (leb p 1000),
+        and_none (leb (integer_size j) 1000),
+        and_none (leb (integer_size q) 1000),
+        and_none (leb (integer_size r) 1000),
+        and_none (leb (integer_size b) 1000),
       )
 
   module _ {E : Type 0} where

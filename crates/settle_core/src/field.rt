@@ -75,7 +75,11 @@ fn signal_of(
         place: u64::try_from(place).ok()?,
         readings: u64::try_from(readings).ok()?,
     };
-    if in_limits(signal) { Some(signal) } else { None }
+    if in_limits(signal) {
+        Some(signal)
+    } else {
+        None
+    }
 }
 
 // Six fields, and nothing after them.

@@ -3,7 +3,7 @@ ghost use Rattle.std.specs.Prelude.{◌≡◌, map, ◌+◌, ◌≤◌, IfOk, le
 ghost use Rattle.snapshot.specs.Save.{saved_told};
 ghost use Rattle.snapshot.specs.Steps.Write.{Wrote};
 ghost use Rattle.settling.specs.Settling.{run_of};
-ghost use Rattle.settling.specs.Steps.{signal_of, noted_by, settled_outcome};
+ghost use Rattle.settling.specs.Steps.{signal_of, noted_by};
 ghost use Rattle.settle_core.specs.Settle.{noted_line, line_texts, settled_on};
 ghost use Rattle.settle_core.specs.Steps.{pair_settings};
 
@@ -36,14 +36,7 @@ fn print_pair(out: &mut [u8], at: usize, i: usize, p: Pair, signal: Signal) -> u
 {
     let s = noted(p, signal);
     let ready = s.ready.unwrap_or(signal.readings);
-    let largest = s.largest.unwrap_or(0.0);
-    let line = optional_line(
-        &mut out[at..],
-        b'1' + i as u8,
-        ready,
-        s.largest.is_some(),
-        largest,
-    );
+    let line = optional_line(&mut out[at..], b'1' + i as u8, ready, s.largest);
     at + line.unwrap_or(0)
 }
 
@@ -70,11 +63,7 @@ pub fn settle(input: &[u8], output: &mut [u8]) -> Result<usize, Refusal>
         return Err(Refusal::TooShort);
     }
     match judge(input) {
-        Ok(judged) => Ok(print_all(
-            &judged.pairs[..judged.count],
-            judged.signal,
-            output,
-        )),
+        Ok(judged) => Ok(print_all(&judged.pairs[..judged.count], judged.signal, output)),
         Err(refusal) => whole_line(output, b'n', b'o', u64::from(refusal)),
     }
 }

@@ -1,8 +1,6 @@
 -- `settle_core::field::part_at` meets its contract. Assumes nothing.
 use mathlib.Core.Path.{◌≡◌, ap, ◌∙◌}
-use mathlib.Core.List.{List}
 use mathlib.Core.Option.{none, some}
-use lib.IntN.{ℤ}
 use Prim.Native.Nat.{◌+◌}
 use lib.ListN.{drop}
 use mir.Syntax.{w128}

@@ -1,5 +1,7 @@
 -- `settle_core::settle::print_pair` meets its contract. Assumes nothing.
-use mathlib.Core.Path.{◌∙◌}
+use lib.Ieee.{nan}
+use Rattle.std.specs.Prelude.{is_some}
+use Rattle.std.specs.Option.{unwrap_or}
 use native.Mathlib.Omega.{arith}
 use Prim.Native.Nat.{◌+◌, ◌≤◌}
 use Rattle.trcf.specs.Settings.{whole_max}
@@ -17,13 +19,14 @@ pub overflow_add-result : goal.overflow_add-result
 overflow_add-result c =
     let a = c.args in
     let r = c.unwrap_or-ready.result in
-    let k = c.is_some.result in
-    let x = c.unwrap_or-largest.result in
+    let k = is_some c.noted-s.result.largest in
+    let x = unwrap_or c.noted-s.result.largest nan in
     let o = c.optional_line-line in
     let h : r ≤ whole_max = omega arith in
     let z = optional_size (49 + a.i) r k x h in
     omega (
-      arith, z,
+      arith,
+      z,
       long_is a.out.now a.at (bytes_of_line (optional_line (49 + a.i) r k x)) _ o.result c.unwrap_or.result c.unwrap_or.ensures c.requires.at_in_bounds z o.ensures,
       c.requires.at_in_bounds,
     )
@@ -33,16 +36,15 @@ returns c =
     let a = c.args in
     let s = c.noted-s in
     let r = c.unwrap_or-ready.result in
-    let k = c.is_some.result in
-    let x = c.unwrap_or-largest.result in
+    let k = is_some c.noted-s.result.largest in
+    let x = unwrap_or c.noted-s.result.largest nan in
     let o = c.optional_line-line in
     let h : r ≤ whole_max = omega arith in
     let z = optional_size (49 + a.i) r k x h in
     let t = bytes_of_line (optional_line (49 + a.i) r k x) in
     record {
       wrote = wrote_is
-          ((λ j. bytes_of_line (optional_line (49 + a.i) r (c.is_some.ensures j) (c.unwrap_or-largest.ensures j)))
-          ∙ noted_line_lem a.i a.signal.readings r s.result (run_of (pair_settings a.p) (signal_of a.signal)).noted _ c.requires.i_bound c.unwrap_or-ready.ensures s.ensures)
+          (noted_line_lem a.i a.signal.readings r s.result (run_of (pair_settings a.p) (signal_of a.signal)).noted _ c.requires.i_bound c.unwrap_or-ready.ensures s.ensures)
           (line_printed a.out.now a.at t _ o.result c.unwrap_or.result c.unwrap_or.ensures c.requires.at_in_bounds z o.ensures);
       upper_bound = omega (arith, z, long_is a.out.now a.at t _ o.result c.unwrap_or.result c.unwrap_or.ensures c.requires.at_in_bounds z o.ensures);
     }

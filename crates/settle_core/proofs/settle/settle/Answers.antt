@@ -1,5 +1,4 @@
 -- `settle_core::settle::settle` meets its contract. Assumes nothing.
-use Prim.Native.Nat.{ℕ}
 use mathlib.Core.Path.{ap, ◌∙◌}
 use native.Mathlib.Omega.{arith}
 use Rattle.snapshot_save.proofs.OptionalLaws.{within_short, within_written}
