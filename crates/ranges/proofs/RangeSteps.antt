@@ -1,7 +1,7 @@
 -- What the proofs of `rangevector` cite at both widths: how a call answers, and a turn of each loop, over the numbers and the element.
 -- Assumes nothing.
 use Prim.Native.Nat.{ℕ, zero, suc, ◌+◌, ◌-◌, ◌≤◌, ◌<◌}
-use mathlib.Core.Path.{◌≡◌, sym, ap, ◌∙◌}
+use mathlib.Core.Path.{◌≡◌, refl, sym, ap, ◌∙◌}
 use mathlib.Core.Bool.{Bool, true, ◌&&◌}
 use mathlib.Core.List.{List, ◌∷◌, ◌++◌}
 use native.Mathlib.Numerals.{add-one}
@@ -12,7 +12,8 @@ use Rattle.std.specs.Prelude.{Result, IsErrAnd}
 use Rattle.refusal.specs.declared.Refusal.{Refusal}
 use Rattle.refusal.specs.Refusal.{number_of, row_of}
 use Rattle.refusal.proofs.RefusalLaws.{is_numbered, handed_on}
-use Rattle.ranges.specs.RangeVector.{Operations, RangesOf, ranges, range_at_or, put_at, shifted_by, cascade_by, range_outcome, range_answer, in_order_by}
+use Rattle.ranges.specs.declared.rangevector.RangeVector.{RangeVector}
+use Rattle.ranges.specs.RangeVector.{Operations, RangesOf, ranges, AreSameLoans, range_at_or, put_at, shifted_by, cascade_by, range_outcome, range_answer, in_order_by}
 
 -- ---- how a call answers: by the number of its refusal, 0 for none
 
@@ -36,6 +37,19 @@ module _ {A : Type 0} where
 
   pub all_three : {v u l a b c : List A} → v ≡ a → u ≡ b → l ≡ c → ranges v u l ≡ ranges a b c
   all_three p q r = λ j. ranges (p j) (q j) (r j)
+
+  pub same_loans : (v : RangeVector A) → AreSameLoans v v
+  same_loans v = record { values = refl; upper = refl; lower = refl; values_length = refl; upper_length = refl; lower_length = refl }
+
+  pub same_since : {u v w : RangeVector A} → AreSameLoans u v → AreSameLoans v w → AreSameLoans u w
+  same_since p q = record {
+    values = q.values ∙ p.values;
+    upper = q.upper ∙ p.upper;
+    lower = q.lower ∙ p.lower;
+    values_length = q.values_length ∙ p.values_length;
+    upper_length = q.upper_length ∙ p.upper_length;
+    lower_length = q.lower_length ∙ p.lower_length;
+  }
 
   -- ---- a turn of the cascade
 

@@ -1,11 +1,12 @@
 -- The range: document 01, 'rangevector.rs', over the width, in the source's order of operations. What ends in 'by' or 'or' stands over the numbers A and what is done with
 -- them, and is what the code is generic over; the name without it is that at the floats of a format.
-use Rattle.std.specs.Prelude.{ℕ, zero, suc, ◌%◌, Bool, true, cond, not, ◌&&◌, ◌||◌, List, [], ◌∷◌, ◌++◌, ltb, leb, eqb, length, get_or, set, replicate, Float}
+use Rattle.std.specs.Prelude.{◌≡◌, ℕ, zero, suc, ◌%◌, Bool, true, cond, not, ◌&&◌, ◌||◌, List, [], ◌∷◌, ◌++◌, ltb, leb, eqb, length, get_or, set, replicate, Float}
 use Rattle.std.specs.Float.{nan, Format}
 use Rattle.std.specs.Float.Ieee.{add, mul, lt, le, of_bits}
 use Rattle.refusal.specs.Refusal.{first_of, accepted}
 use Rattle.refusal.specs.Lent.{over}
 use Rattle.ranges.specs.declared.rangevector.Range.{Range as RangeOf}
+use Rattle.ranges.specs.declared.rangevector.RangeVector.{RangeVector}
 
 -- what a range asks of its numbers, and what is read past the end of a list
 pub record Operations (A : Type 0) : Type 0 where
@@ -71,6 +72,19 @@ module _ {A : Type 0} where
 
   abbrev pub ranges : List A → List A → List A → RangesOf A
   ranges v u l = record { values = v; upper = u; lower = l }
+
+  -- what three lent lists hold
+  abbrev pub held : RangeVector A → RangesOf A
+  held v = ranges v.values.now v.upper.now v.lower.now
+
+  -- a call that takes the three lists hands back the lists that it was lent, as long as they were
+  pub record AreSameLoans (old new : RangeVector A) : Type 0 where
+    pub values : new.values.ghost_name ≡ old.values.ghost_name
+    pub upper : new.upper.ghost_name ≡ old.upper.ghost_name
+    pub lower : new.lower.ghost_name ≡ old.lower.ghost_name
+    pub values_length : length new.values.now ≡ length old.values.now
+    pub upper_length : length new.upper.now ≡ length old.upper.now
+    pub lower_length : length new.lower.now ≡ length old.lower.now
 
   abbrev pub range_at_or : A → RangesOf A → ℕ → RangeOf A
   range_at_or d v i = range (get_or v.values i d) (get_or v.upper i d) (get_or v.lower i d)

@@ -1,11 +1,10 @@
 // A quantity with its upper and lower bounds (the source's common/rangevector.rs), at f32 and at f64: three lent lists,
 // and by value what stands at one index of them. A call that is refused leaves the lists as they were.
-// Kept: the three lists stay parameters of each call (d): a struct of lent lists needs the ghost names of its loans in each contract.
 ghost use Rattle.std.specs.Prelude.{◌≡◌, not, ◌&&◌, ◌||◌, cond, [], ◌∷◌, ◌++◌, ◌+◌, ◌≤◌, ◌<◌, ltb, leb, eqb, length, get_or, replicate, OnOk};
 ghost use Rattle.std.specs.Float.{binary32, binary64};
 ghost use Rattle.refusal.specs.Refusal.{first_of, row_of};
 ghost use Rattle.refusal.specs.Lent.{over};
-ghost use Rattle.ranges.specs.RangeVector.{Operations, operations_of, settled_by, shifted_by, scaled_by, ranges, range_at_or, put_at, range_outcome};
+ghost use Rattle.ranges.specs.RangeVector.{Operations, operations_of, settled_by, shifted_by, scaled_by, ranges, held, AreSameLoans, range_at_or, put_at, range_outcome};
 ghost use Rattle.ranges.specs.RangeVector.{range_shift_by, range_scale_by, cascade_by, range_cascaded_add_by, range_new_by, range_from, range_create_by, in_order_by};
 ghost use Rattle.ranges.specs.RangeVector.{unequal_at, unequal, unblocked, shorter_at};
 
@@ -204,7 +203,7 @@ impl<T: Width> Range<T> {
     }
 }
 
-// What stands at index i.
+// What the three lists hold at index i.
 fn at<T: Width>(values: &[T], upper: &[T], lower: &[T], i: usize) -> Range<T>
     requires { (i < length values.now) × (i < length upper.now) × (i < length lower.now) }
     ensures { result ≡ range_at_or T.operations.missing (ranges values.now upper.now lower.now) i }
@@ -216,96 +215,7 @@ fn at<T: Width>(values: &[T], upper: &[T], lower: &[T], i: usize) -> Range<T>
     }
 }
 
-// r stands at index i.
-fn put<T: Width>(values: &mut [T], upper: &mut [T], lower: &mut [T], i: usize, r: Range<T>)
-    requires { (i < length values.old) × (i < length upper.old) × (i < length lower.old) }
-    ensures { ranges values.new upper.new lower.new ≡ put_at (ranges values.old upper.old lower.old) i r }
-{
-    values[i] = r.value;
-    upper[i] = r.upper;
-    lower[i] = r.lower;
-}
-
-// A shift at an index that all three lists have.
-fn shift_at<T: Width>(values: &mut [T], upper: &mut [T], lower: &mut [T], i: usize, shift: T)
-    requires { (i < length values.old) × (i < length upper.old) × (i < length lower.old) }
-    ensures { ranges values.new upper.new lower.new
-        ≡ put_at (ranges values.old upper.old lower.old) i
-        (shifted_by T.operations (range_at_or T.operations.missing (ranges values.old upper.old lower.old) i) shift) }
-{
-    let r = at(values, upper, lower, i).shift(shift);
-    put(values, upper, lower, i, r);
-}
-
-pub fn shift<T: Width>(
-    values: &mut [T],
-    upper: &mut [T],
-    lower: &mut [T],
-    i: usize,
-    shift: T,
-) -> Result<(), Refusal>
-    ensures { range_outcome (row_of result) (ranges values.new upper.new lower.new)
-        ≡ range_shift_by T.operations (ranges values.old upper.old lower.old) i shift }
-{
-    check_index(values.len(), upper.len(), lower.len(), i)?;
-    shift_at(values, upper, lower, i, shift);
-    Ok(())
-}
-
-pub fn scale<T: Width>(
-    values: &mut [T],
-    upper: &mut [T],
-    lower: &mut [T],
-    i: usize,
-    scale: T,
-) -> Result<(), Refusal>
-    ensures { range_outcome (row_of result) (ranges values.new upper.new lower.new)
-        ≡ range_scale_by T.operations (ranges values.old upper.old lower.old) i scale }
-{
-    check_index(values.len(), upper.len(), lower.len(), i)?;
-    let r = at(values, upper, lower, i).scale(scale);
-    put(values, upper, lower, i, r);
-    Ok(())
-}
-
-// ---- the cascade
-
-// What index i is shifted by: the base in the first block, later the value one block before.
-fn before<T: Width>(base: &[T], values: &[T], i: usize) -> T
-    requires { i < length values.now }
-    ensures { result ≡ get_or (base.now ++ values.now) i T.operations.missing }
-{
-    let b = base.len();
-    if i < b { base[i] } else { values[i - b] }
-}
-
-// The cascade over lists of one length.
-fn cascade<T: Width>(values: &mut [T], upper: &mut [T], lower: &mut [T], base: &[T])
-    requires { (length values.old ≡ length upper.old) × (length values.old ≡ length lower.old) }
-    ensures { ranges values.new upper.new lower.new
-        ≡ cascade_by T.operations base.now (length values.old) (ranges values.old upper.old lower.old) }
-{
-    for i in 0..values.len() {
-        let x = before(base, values, i);
-        shift_at(values, upper, lower, i, x);
-    }
-}
-
-pub fn cascaded_add<T: Width>(
-    values: &mut [T],
-    upper: &mut [T],
-    lower: &mut [T],
-    base: &[T],
-) -> Result<(), Refusal>
-    ensures { range_outcome (row_of result) (ranges values.new upper.new lower.new)
-        ≡ range_cascaded_add_by T.operations base.now (ranges values.old upper.old lower.old) }
-{
-    check_blocks(base.len(), values.len(), upper.len(), lower.len())?;
-    cascade(values, upper, lower, base);
-    Ok(())
-}
-
-// ---- making one
+// ---- what a new range is made of
 
 // n zeros stand at the front of list.
 fn zero_front<T: Width>(list: &mut [T], n: usize)
@@ -321,38 +231,6 @@ fn copy_front<T: Width>(list: &mut [T], source: &[T])
     ensures { list.new ≡ over list.old source.now }
 {
     list[..source.len()].copy_from_slice(source);
-}
-
-pub fn new<T: Width>(
-    values: &mut [T],
-    upper: &mut [T],
-    lower: &mut [T],
-    dimensions: usize,
-) -> Result<(), Refusal>
-    ensures { range_outcome (row_of result) (ranges values.new upper.new lower.new)
-        ≡ range_new_by T.operations.zero_value dimensions (ranges values.old upper.old lower.old) }
-{
-    check_room(values.len(), upper.len(), lower.len(), dimensions)?;
-    zero_front(values, dimensions);
-    zero_front(upper, dimensions);
-    zero_front(lower, dimensions);
-    Ok(())
-}
-
-pub fn from<T: Width>(
-    values: &mut [T],
-    upper: &mut [T],
-    lower: &mut [T],
-    x: &[T],
-) -> Result<(), Refusal>
-    ensures { range_outcome (row_of result) (ranges values.new upper.new lower.new)
-        ≡ range_from x.now (ranges values.old upper.old lower.old) }
-{
-    check_room(values.len(), upper.len(), lower.len(), x.len())?;
-    copy_front(values, x);
-    copy_front(upper, x);
-    copy_front(lower, x);
-    Ok(())
 }
 
 // Whether lower ≤ values ≤ upper everywhere.
@@ -391,20 +269,154 @@ fn check_create<T: Width>(
     check_room(values, upper, lower, v.len())
 }
 
-pub fn create<T: Width>(
-    values: &mut [T],
-    upper: &mut [T],
-    lower: &mut [T],
-    v: &[T],
-    u: &[T],
-    l: &[T],
-) -> Result<(), Refusal>
-    ensures { range_outcome (row_of result) (ranges values.new upper.new lower.new)
-        ≡ range_create_by T.operations.at_most (ranges v.now u.now l.now) (ranges values.old upper.old lower.old) }
-{
-    check_create(v, u, l, values.len(), upper.len(), lower.len())?;
-    copy_front(values, v);
-    copy_front(upper, u);
-    copy_front(lower, l);
-    Ok(())
+// ---- the three lists
+
+/// A quantity with its upper and lower bounds, in three lists that the caller lends.
+#[derive(Drop)]
+pub struct RangeVector<'a, T> {
+    pub values: &'a mut [T],
+    pub upper: &'a mut [T],
+    pub lower: &'a mut [T],
+}
+
+impl<T: Width> RangeVector<'_, T> {
+    // What stands at index i.
+    pub fn at(&self, i: usize) -> Range<T>
+        requires { (i < length self.now.values.now) × (i < length self.now.upper.now) × (i < length self.now.lower.now) }
+        ensures { result ≡ range_at_or T.operations.missing (held self.now) i }
+    {
+        at(self.values, self.upper, self.lower, i)
+    }
+
+    // r stands at index i.
+    pub fn put(&mut self, i: usize, r: Range<T>)
+        requires { (i < length self.old.values.now) × (i < length self.old.upper.now) × (i < length self.old.lower.now) }
+        ensures after { held self.new ≡ put_at (held self.old) i r }
+        ensures loans { AreSameLoans self.old self.new }
+    {
+        self.values[i] = r.value;
+        self.upper[i] = r.upper;
+        self.lower[i] = r.lower;
+    }
+
+    // A shift at an index that all three lists have.
+    fn shift_at(&mut self, i: usize, shift: T)
+        requires { (i < length self.old.values.now) × (i < length self.old.upper.now) × (i < length self.old.lower.now) }
+        ensures after { held self.new
+            ≡ put_at (held self.old) i (shifted_by T.operations (range_at_or T.operations.missing (held self.old) i) shift) }
+        ensures loans { AreSameLoans self.old self.new }
+    {
+        let r = self.at(i).shift(shift);
+        self.put(i, r);
+    }
+
+    // What index i is shifted by: the base in the first block, later the value one block before.
+    fn before(&self, base: &[T], i: usize) -> T
+        requires { i < length self.now.values.now }
+        ensures { result ≡ get_or (base.now ++ self.now.values.now) i T.operations.missing }
+    {
+        let b = base.len();
+        if i < b { base[i] } else { self.values[i - b] }
+    }
+
+    // The cascade over lists of one length.
+    fn cascade(&mut self, base: &[T])
+        requires { (length self.old.values.now ≡ length self.old.upper.now) × (length self.old.values.now ≡ length self.old.lower.now) }
+        ensures after { held self.new ≡ cascade_by T.operations base.now (length self.old.values.now) (held self.old) }
+        ensures loans { AreSameLoans self.old self.new }
+    {
+        for i in 0..self.values.len() {
+            let x = self.before(base, i);
+            self.shift_at(i, x);
+        }
+    }
+
+    pub fn shift(&mut self, i: usize, shift: T) -> Result<(), Refusal>
+        ensures after { range_outcome (row_of result) (held self.new) ≡ range_shift_by T.operations (held self.old) i shift }
+        ensures loans { AreSameLoans self.old self.new }
+    {
+        check_index(self.values.len(), self.upper.len(), self.lower.len(), i)?;
+        self.shift_at(i, shift);
+        Ok(())
+    }
+
+    pub fn scale(&mut self, i: usize, scale: T) -> Result<(), Refusal>
+        ensures after { range_outcome (row_of result) (held self.new) ≡ range_scale_by T.operations (held self.old) i scale }
+        ensures loans { AreSameLoans self.old self.new }
+    {
+        check_index(self.values.len(), self.upper.len(), self.lower.len(), i)?;
+        let r = self.at(i).scale(scale);
+        self.put(i, r);
+        Ok(())
+    }
+
+    // The first block is shifted by the base, each later one by the values of the one before.
+    pub fn cascaded_add(&mut self, base: &[T]) -> Result<(), Refusal>
+        ensures after { range_outcome (row_of result) (held self.new) ≡ range_cascaded_add_by T.operations base.now (held self.old) }
+        ensures loans { AreSameLoans self.old self.new }
+    {
+        check_blocks(
+            base.len(),
+            self.values.len(),
+            self.upper.len(),
+            self.lower.len(),
+        )?;
+        self.cascade(base);
+        Ok(())
+    }
+
+    // Zeros, so many, stand at the front of each list.
+    pub fn new(&mut self, dimensions: usize) -> Result<(), Refusal>
+        ensures after { range_outcome (row_of result) (held self.new)
+            ≡ range_new_by T.operations.zero_value dimensions (held self.old) }
+        ensures loans { AreSameLoans self.old self.new }
+    {
+        check_room(
+            self.values.len(),
+            self.upper.len(),
+            self.lower.len(),
+            dimensions,
+        )?;
+        zero_front(self.values, dimensions);
+        zero_front(self.upper, dimensions);
+        zero_front(self.lower, dimensions);
+        Ok(())
+    }
+
+    // The values x stand at the front, with themselves as bounds.
+    pub fn from(&mut self, x: &[T]) -> Result<(), Refusal>
+        ensures after { range_outcome (row_of result) (held self.new) ≡ range_from x.now (held self.old) }
+        ensures loans { AreSameLoans self.old self.new }
+    {
+        check_room(
+            self.values.len(),
+            self.upper.len(),
+            self.lower.len(),
+            x.len(),
+        )?;
+        copy_front(self.values, x);
+        copy_front(self.upper, x);
+        copy_front(self.lower, x);
+        Ok(())
+    }
+
+    // The values v with the bounds u and l stand at the front.
+    pub fn create(&mut self, v: &[T], u: &[T], l: &[T]) -> Result<(), Refusal>
+        ensures after { range_outcome (row_of result) (held self.new)
+            ≡ range_create_by T.operations.at_most (ranges v.now u.now l.now) (held self.old) }
+        ensures loans { AreSameLoans self.old self.new }
+    {
+        check_create(
+            v,
+            u,
+            l,
+            self.values.len(),
+            self.upper.len(),
+            self.lower.len(),
+        )?;
+        copy_front(self.values, v);
+        copy_front(self.upper, u);
+        copy_front(self.lower, l);
+        Ok(())
+    }
 }

@@ -2,7 +2,7 @@
 use Prim.Native.Nat.{ℕ, ◌+◌, ◌-◌, ◌*◌, ◌^◌, ◌≤◌, ◌<◌}
 use mathlib.Core.Path.{◌≡◌, sym, subst}
 use native.Mathlib.Omega.{arith}
-use native.Mathlib.Nat.{mul-le-mul, le_refl, mul_comm}
+use native.Mathlib.Nat.{mul-le-mul, mul_comm}
 use mir.Syntax.{w64}
 use mir.Val.{Fits}
 use Rattle.trcf.specs.Settings.{Settings, dimension}

@@ -1,12 +1,11 @@
 -- How the transformer's calls answer, by the number of the row that refuses them.
-use Prim.Native.Nat.{ℕ, zero, suc, ◌+◌, ◌*◌, ◌≤◌, ◌<◌}
-use mathlib.Core.Bool.{Bool, true, false, cond, ◌&&◌}
+use Prim.Native.Nat.{ℕ, zero, suc, ◌*◌, ◌≤◌, ◌<◌}
 use mathlib.Core.Path.{◌≡◌, refl, sym, ap, ◌∙◌}
-use mathlib.Core.List.{List, [], ◌∷◌, ◌++◌}
+use mathlib.Core.List.{List, ◌++◌}
 use native.Mathlib.Omega.{arith}
-use lib.ListN.{length, get_or, take, drop, replicate, length-replicate}
-use lib.Seq.{drop-cons, length-take-le}
-use lib.Ieee.{Float, nan, eq}
+use lib.ListN.{length, take, drop, replicate, length-replicate}
+use lib.Seq.{length-take-le}
+use lib.Ieee.{Float}
 use Rattle.std.specs.Prelude.{Result, Ok, Err}
 use Rattle.std.specs.Result.{IsErrAnd}
 use Rattle.refusal.specs.declared.Refusal.{Refusal}
@@ -16,11 +15,8 @@ use Rattle.ranges.specs.RangeVector.{Ranges, range_outcome, range_answer}
 use Rattle.ranges.proofs.RangeSteps.{refused, done}
 use Rattle.trcf.proofs.NumberLaws.{number_zero, handed_not}
 use Rattle.refusal.specs.Lent.{over}
-use Rattle.common.specs.Deviation.{deviation_row, deviation_answer}
-use Rattle.common.specs.declared.deviation.Deviation.{Deviation}
-use Rattle.trcf.specs.Settings.{all_one}
-use Rattle.trcf.specs.Transformer.{one32, updated}
-use Rattle.trcf.specs.TransformerCalls.{Made, made, made_from, TransformerOutput, transformer_output, transformer_answer, own}
+use Rattle.trcf.specs.Transformer.{updated}
+use Rattle.trcf.specs.TransformerCalls.{Made, made, made_from, transformer_output, transformer_answer, own}
 use Rattle.trcf.specs.Steps.Sound.{Sound}
 use Rattle.trcf.specs.declared.transformer.WeightedTransformer.{WeightedTransformer}
 use Rattle.trcf.proofs.TransformerLaws.{updated_length}

@@ -1,16 +1,15 @@
 -- Lists whose elements all have a property: what is read out of them, written into them, cut and joined.
-use Prim.Native.Nat.{ℕ, zero, suc, ◌+◌}
+use Prim.Native.Nat.{ℕ, zero, suc}
 use lib.Dec.{T}
-use mathlib.Core.Bool.{Bool, true, false}
-use mathlib.Core.Path.{◌≡◌, refl, sym, ap, ◌∙◌, subst}
+use mathlib.Core.Path.{◌≡◌, refl}
 use mathlib.Core.List.{List, [], ◌∷◌, ◌++◌}
 use native.Mathlib.Omega.{arith}
 use lib.ListN.{length, get_or, set, take, drop, length-append}
-use lib.Ieee.{Float, nan, inf, fin, binary32, up, down, fits}
+use lib.Ieee.{Float, nan, inf, fin, binary32, fits}
 use lib.Ieee.Fits.{round-fits, nan-fits, inf-fits}
 use Rattle.numeric.specs.Narrow.{narrowed}
 use Rattle.trcf.specs.Lists.{tabulate}
-use Rattle.trcf.specs.Fit.{All, Fits}
+use Rattle.trcf.specs.Fit.{All}
 
 module _ {A : Type 0} where
   pub all_append : (P : A → Type 0) (a b : List A) → All P a → All P b → All P (a ++ b)

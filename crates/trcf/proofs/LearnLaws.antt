@@ -1,25 +1,25 @@
 -- `post_process`: its rows, and what each way through it leaves and answers. Assumes nothing.
-use Prim.Native.Nat.{ℕ, zero, suc, ◌+◌, ◌-◌, ◌*◌, ◌≤◌, ◌<◌}
+use Prim.Native.Nat.{ℕ, zero, suc, ◌-◌, ◌*◌, ◌≤◌, ◌<◌}
 use mathlib.Core.Path.{◌≡◌, refl, sym, ap, ◌∙◌}
 use mathlib.Core.Bool.{Bool, true, false, cond, not, ◌&&◌, ◌||◌}
 use mathlib.Core.List.{List, [], ◌∷◌, ◌++◌}
-use mathlib.Core.Option.{Option, none, some}
+use mathlib.Core.Option.{none, some}
 use native.Mathlib.Omega.{arith}
 use native.Mathlib.Nat.{mul-le-mul, le_refl}
 use borrow.Author.Tests.{ltb-false, ltb-true, leb-false, eqb-true, lt-ltb, le-leb, lt-leb, ne_eqb}
 use lib.Dec.{ltb, leb, eqb}
 use lib.IntN.{ℤ, pos, negsuc}
-use lib.ListN.{length, take, drop, get_or, length-append}
+use lib.ListN.{length, take, get_or, length-append}
 use lib.Seq.{length-take-le}
 use lib.Ieee.{Float, binary64, lt, of_int}
 use Rattle.std.specs.Prelude.{Ok, Some, None}
 use Rattle.refusal.specs.Lent.{over}
 use Rattle.common.specs.Deviation.{count_limit}
 use Rattle.refusal.specs.Refusal.{first_of}
-use Rattle.trcf.specs.Lists.{last_or, shift_in}
+use Rattle.trcf.specs.Lists.{last_or}
 use Rattle.trcf.specs.Transformer.{zero32, one32, inverted, updated}
 use Rattle.trcf.specs.Settings.{Settings, transformer, dimension, block, waiting}
-use Rattle.trcf.specs.Calls.{Learn, Call, post_process, seen_limit, rows, table, finite, given, wrong_length, newest, outside, learn_full, learn_short, waiting_short}
+use Rattle.trcf.specs.Calls.{Learn, post_process, seen_limit, rows, table, finite, given, wrong_length, newest, outside, learn_full, learn_short, waiting_short}
 use Rattle.trcf.specs.Preprocessor.{State, Learned, time_fed, Reading, reading, facts, statistics_length, previous, feed, buffered, learned, learned_with, change, accepted, deviations, learned_nothing, deviations_alone, buffered_answer, learned_answer, learn_answer, learn_reply, anomaly_of, past_values, expected_values, block_at, is_zero, block_from, Anomaly}
 use Rattle.trcf.specs.View.{Lent, lent, settings_of, view, counted, counting, written_over, holding, Fitted, row_of, head_after, lent_after, optional, learn_call, back_of, newest_of, Bounded, LearnOutcome, learn_outcome, learned_outcome, learn_nothing, learn_after, or_else, anomaly_held, anomaly_time, anomaly_likelihood, processed_outcome}
 use Rattle.trcf.specs.Steps.Rows.{input_row, waiting_row, learn_row, learning_row}

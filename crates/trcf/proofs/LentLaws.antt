@@ -1,11 +1,10 @@
 -- An answer written to the front of a lent list, one element a turn.
-use Prim.Native.Nat.{ℕ, zero, suc, ◌+◌, ◌≤◌, ◌<◌}
-use mathlib.Core.Path.{◌≡◌, refl, sym, ap, ◌∙◌}
+use Prim.Native.Nat.{ℕ, suc, ◌<◌}
+use mathlib.Core.Path.{◌≡◌, refl, sym, ◌∙◌}
 use mathlib.Core.List.{List, [], ◌∷◌, ◌++◌, append_assoc}
-use native.Mathlib.Numerals.{add-one}
 use native.Mathlib.Omega.{arith}
-use lib.ListN.{length, get_or, set, drop, length-append, length-drop}
-use lib.Seq.{drop-cons, set_at, append_snoc}
+use lib.ListN.{length, get_or, set, drop, length-append}
+use lib.Seq.{drop-cons, set_at}
 use Rattle.refusal.specs.Lent.{over}
 use Rattle.trcf.specs.Lists.{tabulate}
 use Rattle.trcf.proofs.FitLaws.{tabulate_length}

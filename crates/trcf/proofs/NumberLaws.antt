@@ -7,7 +7,7 @@ use Rattle.refusal.specs.Refusal.{number_of, row_of, accepted}
 use Rattle.refusal.proofs.RefusalLaws.{is_numbered, refused_is, handed_on}
 use lib.Ieee.{Float}
 use Rattle.trcf.specs.Transformer.{zero32}
-use Rattle.trcf.specs.View.{or_else, Lent, Outcome, outcome, head_outcome, PointOutcome, pointed, point_outcome, LearnOutcome, learn_outcome, processed_outcome}
+use Rattle.trcf.specs.View.{or_else, Lent, outcome, head_outcome, pointed, point_outcome, learn_outcome, processed_outcome}
 use Rattle.trcf.specs.declared.head.Preprocessor.{Preprocessor}
 use Rattle.trcf.specs.declared.head.Pointed.{Pointed}
 use Rattle.trcf.specs.declared.head.PostProcessed.{PostProcessed}

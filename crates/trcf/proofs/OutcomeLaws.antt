@@ -1,19 +1,19 @@
 -- Calls by their row: what a refused call and an accepted one give, and states laid back over lent lists. Assumes nothing.
-use Prim.Native.Nat.{ℕ, zero, suc, ◌+◌, ◌-◌, ◌*◌, ◌≤◌, ◌<◌}
+use Prim.Native.Nat.{ℕ, zero, suc, ◌*◌, ◌≤◌}
 use mathlib.Core.Path.{◌≡◌, refl, sym, ap, ◌∙◌}
 use mathlib.Core.Bool.{Bool, true, false, cond}
-use mathlib.Core.List.{List, [], ◌∷◌, ◌++◌}
+use mathlib.Core.List.{List, [], ◌++◌}
 use native.Mathlib.Omega.{arith}
 use lib.ListN.{length, take, drop, replicate, length-replicate}
-use lib.Seq.{length-take-le, take_at}
+use lib.Seq.{length-take-le}
 use lib.Ieee.{Float}
 use Rattle.refusal.specs.Lent.{over}
 use Rattle.common.specs.Deviation.{zero64}
 use Rattle.trcf.specs.Transformer.{zero32}
 use Rattle.trcf.specs.Settings.{Settings, settings_row, dimension, block}
 use Rattle.trcf.specs.Calls.{Call, scale, shift, status, rows, table}
-use Rattle.trcf.specs.Preprocessor.{State, accepted, change, statistics_length, fresh, facts, is_ready, panel_of, deviations, Status, status_of}
-use Rattle.trcf.specs.View.{Lent, lent, view, written_over, counted, row_of, lent_row, or_else, head_after, lent_after, Written, written, write_of, Outcome, outcome, head_from, no_head, build_row, build_of, settings_of, alone, head_row, counters_unfit, short_row, own_row, ready_of, dimension_of, Bounded, StatusOutcome, no_status, status_after}
+use Rattle.trcf.specs.Preprocessor.{State, accepted, statistics_length, fresh, facts, is_ready, panel_of, deviations, Status, status_of}
+use Rattle.trcf.specs.View.{Lent, lent, view, written_over, row_of, lent_row, or_else, Written, written, write_of, outcome, head_from, no_head, build_row, build_of, settings_of, alone, head_row, counters_unfit, short_row, own_row, ready_of, dimension_of, Bounded, StatusOutcome, no_status, status_after}
 use Rattle.trcf.specs.declared.head.Preprocessor.{Preprocessor}
 use Rattle.trcf.proofs.ShingleLaws.{over_part}
 

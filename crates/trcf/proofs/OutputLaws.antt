@@ -1,12 +1,12 @@
 -- What the calls write: an answer over lent memory, the time's number after the channels', and answers that no count enters.
 -- Assumes nothing.
-use Prim.Native.Nat.{ℕ, zero, suc, ◌+◌, ◌-◌, ◌*◌, ◌≤◌, ◌<◌}
+use Prim.Native.Nat.{ℕ, suc, ◌+◌, ◌-◌, ◌≤◌, ◌<◌}
 use mathlib.Core.Path.{◌≡◌, refl, sym, ap, ◌∙◌}
 use mathlib.Core.Bool.{Bool, true, false, cond}
 use mathlib.Core.List.{List, [], ◌∷◌, ◌++◌, append_assoc}
 use native.Mathlib.Omega.{arith}
 use lib.ListN.{length, get_or, set, take, drop, length-append, length-drop}
-use lib.Seq.{drop-cons, set_at, append_snoc, take-length, take_all}
+use lib.Seq.{drop-cons, set_at, take_all}
 use lib.Ieee.{Float, nan}
 use Rattle.refusal.specs.Lent.{over}
 use Rattle.trcf.specs.Lists.{tabulate, last_n}

@@ -2,7 +2,7 @@
 use Prim.Native.Nat.{ℕ, zero, suc, ◌+◌, ◌*◌, ◌≤◌, ◌<◌}
 use mathlib.Core.Bool.{Bool, true, false, cond}
 use mathlib.Core.Path.{◌≡◌, refl, sym, ap, ◌∙◌}
-use mathlib.Core.List.{List, [], ◌∷◌, map}
+use mathlib.Core.List.{List, map}
 use native.Mathlib.Omega.{arith}
 use native.Mathlib.Numerals.{add-one}
 use borrow.Author.Tests.{ltb-true, ltb-false}
@@ -15,7 +15,6 @@ use Rattle.common.specs.declared.deviation.Deviation.{Deviation}
 use Rattle.common.specs.Deviation.{zero64, statistic, step_of, is_empty, mean_of, deviation_of, root_above}
 use Rattle.trcf.specs.Transformer.{statistic_at, put_statistic, deviations_at, put_deviations, fed, fed_at, slow_decay, channels_fed}
 use Rattle.trcf.specs.Steps.Passes.{radicand_of, step_at, first_at, last_at, difference_of, firsts, radicands, lasts}
-use Rattle.trcf.proofs.TransformerLaws.{put_statistic_length}
 
 -- ---- one statistic written
 

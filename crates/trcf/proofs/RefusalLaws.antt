@@ -1,20 +1,19 @@
 -- What the rows of a head and of what is lent say. Assumes nothing.
-use Prim.Native.Nat.{ℕ, zero, suc, ◌+◌, ◌-◌, ◌*◌, ◌≤◌, ◌<◌}
+use Prim.Native.Nat.{ℕ, zero, suc, ◌≤◌, ◌<◌}
 use mathlib.Core.Path.{◌≡◌, refl, sym, ap, ◌∙◌}
 use mathlib.Core.Bool.{Bool, true, false, cond, not, ◌&&◌, ◌||◌}
 use mathlib.Core.List.{List, [], ◌∷◌, map}
 use mathlib.Core.Logic.{◌⊎◌, inl, inr}
 use borrow.Author.Tests.{ltb-true, ltb-false, eqb-true, eq-eqb, lt-ltb, le-ltb}
 use native.Mathlib.Omega.{arith}
-use lib.Dec.{ltb, leb, eqb}
-use lib.ListN.{length, get_or, take, drop}
+use lib.Dec.{ltb, eqb}
+use lib.ListN.{length, take}
 use Rattle.trcf.specs.Lists.{null}
-use lib.Seq.{drop-cons, take_all}
-use lib.Ieee.{Float, nan, eq}
-use Rattle.trcf.specs.Transformer.{one32}
+use lib.Seq.{take_all}
+use lib.Ieee.{Float}
 use Rattle.common.specs.Deviation.{count_limit}
 use Rattle.trcf.specs.Types.{normalizes}
-use Rattle.trcf.specs.Settings.{Settings, settings_row, all_one, waiting}
+use Rattle.trcf.specs.Settings.{Settings, settings_row, waiting}
 use Rattle.trcf.specs.Calls.{seen_limit}
 use Rattle.trcf.specs.View.{settings_of, initial_room, left_over, miscounted, counters_unfit, or_else}
 use Rattle.trcf.specs.declared.head.Preprocessor.{Preprocessor}

@@ -1,14 +1,14 @@
 -- Laws of the lists that the calls work on: a block shifted in, a block overwritten, an answer written over lent memory, the last time.
 -- Assumes nothing.
-use Prim.Native.Nat.{ℕ, zero, suc, min, ◌+◌, ◌-◌, ◌*◌, ◌≤◌, ◌<◌}
+use Prim.Native.Nat.{ℕ, zero, suc, min, ◌+◌, ◌-◌, ◌≤◌, ◌<◌}
 use mathlib.Core.Path.{◌≡◌, refl, sym, ap, ◌∙◌}
 use mathlib.Core.Bool.{Bool, true, false, ◌&&◌}
 use mathlib.Core.List.{List, [], ◌∷◌, ◌++◌}
 use native.Mathlib.Omega.{arith}
 use native.Mathlib.Nat.{not-suc-le-zero, le_of_suc-le-suc}
 use native.Mathlib.Numerals.{add-one}
-use lib.ListN.{length, get_or, set, take, drop, replicate, length-append, length-drop, length-take, take-append-drop, length-replicate}
-use lib.Seq.{length-take-le, get_or-take, take-nil, get_or-append-add, get_or-drop, take-suc, drop-cons, set_at, append_snoc, take_at, take-length, take_all, drop-append-add, drop-drop, drop-length, set_split, paste}
+use lib.ListN.{length, get_or, set, take, drop, replicate, length-append, length-drop, take-append-drop}
+use lib.Seq.{length-take-le, get_or-take, take-nil, get_or-append-add, get_or-drop, take-suc, drop-cons, set_at, append_snoc, take_at, take-length, take_all, drop-length, set_split, paste}
 use lib.Ieee.{Float, nan, inf, fin, lt}
 use Rattle.std.specs.List.{copy_within, slice_get}
 use Rattle.std.specs.Option.{unwrap_or}
@@ -17,7 +17,7 @@ use Rattle.std.proofs.lemmas.Option.{unwrap_or-slice_get}
 use Rattle.std.proofs.lemmas.Slice.{put_mid-paste}
 use borrow.Rule.Slice.PartMut.{put_mid}
 use Rattle.refusal.specs.Lent.{over}
-use Rattle.trcf.specs.Lists.{last_or, last_n, shift_in, overwrite}
+use Rattle.trcf.specs.Lists.{last_or, shift_in, overwrite}
 use Rattle.trcf.specs.Calls.{finite}
 
 -- ---- shifting in

@@ -1,6 +1,6 @@
 -- States laid back over the lent lists: one that is left as it was, and one that was drained. Assumes nothing.
-use Prim.Native.Nat.{ℕ, zero, suc, ◌+◌, ◌-◌, ◌*◌, ◌≤◌, ◌<◌}
-use mathlib.Core.Path.{◌≡◌, refl, sym, ap, ◌∙◌, subst}
+use Prim.Native.Nat.{ℕ, zero, suc, ◌+◌, ◌*◌, ◌≤◌, ◌<◌}
+use mathlib.Core.Path.{◌≡◌, refl, sym, ap, ◌∙◌}
 use mathlib.Core.Bool.{Bool, true, false, cond, not, ◌&&◌, ◌||◌}
 use mathlib.Core.List.{List, [], ◌∷◌, ◌++◌}
 use native.Mathlib.Omega.{arith}
@@ -13,15 +13,15 @@ use lib.Ieee.{Float}
 use Rattle.refusal.specs.Lent.{over}
 use Rattle.common.specs.Deviation.{count_limit}
 use Rattle.trcf.specs.Lists.{null}
-use Rattle.trcf.specs.Settings.{Settings, dimension, block, waiting}
+use Rattle.trcf.specs.Settings.{dimension, block, waiting}
 use Rattle.trcf.specs.Calls.{due, drain_full, seen_limit, drain, shingled_point}
-use Rattle.trcf.specs.Preprocessor.{State, Reading, reading, facts, statistics_length, blocks, primed, drain_each, drain_all, drained, point_of, change, accepted}
-use Rattle.trcf.specs.View.{Lent, lent, settings_of, view, counted, written_over, Outcome, outcome, Roomy, Fitted, row_of, head_after, lent_after, drain_of, pointed}
+use Rattle.trcf.specs.Preprocessor.{State, reading, facts, statistics_length, blocks, primed, drain_all, drained, point_of, change, accepted}
+use Rattle.trcf.specs.View.{Lent, lent, settings_of, view, counted, written_over, outcome, Fitted, row_of, head_after, lent_after, drain_of, pointed}
 use Rattle.trcf.specs.View.{point_after}
-use Rattle.trcf.specs.Steps.Learning.{shingling, reading_at}
+use Rattle.trcf.specs.Steps.Learning.{shingling}
 use Rattle.trcf.specs.declared.head.Preprocessor.{Preprocessor}
 use Rattle.trcf.proofs.ShingleLaws.{over_take, over_part}
-use Rattle.trcf.proofs.DrainLaws.{first_of, left}
+use Rattle.trcf.proofs.DrainLaws.{first_of}
 use Rattle.trcf.proofs.OutcomeLaws.{accepted_not}
 
 module _ (h : Preprocessor) (l : Lent) (f : Fitted h l) where

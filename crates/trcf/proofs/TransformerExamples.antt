@@ -9,7 +9,7 @@ use Rattle.numeric.specs.Narrow.{narrowed}
 use Rattle.numeric.specs.Root.{root_of}
 use Rattle.refusal.specs.Lent.{over}
 use Rattle.common.specs.Deviation.{zero64, outside_unit, is_empty, factor_of, step_of, mean_of, deviation_of, root_above}
-use Rattle.ranges.specs.RangeVector.{Ranges, ranges, RangeOutcome, range_outcome, unblocked, range_at, put_at, shifted, scaled, settled, cascade_to}
+use Rattle.ranges.specs.RangeVector.{ranges, RangeOutcome, range_outcome, unblocked, range_at, put_at, shifted, scaled, settled, cascade_to}
 use Rattle.trcf.specs.Settings.{all_one}
 use Rattle.trcf.specs.Transformer.{zero32, one32, statistic_at, put_statistic, deviations_at, put_deviations, fed, fed_at, channels_fed, updated}
 use Rattle.trcf.specs.Transformer.{normalized_scale, basic_shift, basic_drift, weight_at, transformed, unweighted, inverted, reciprocal, forecast_at, forecast_to, inverted_forecast, scales, shifts, difference_deviations}

@@ -1,14 +1,11 @@
 -- Laws of the transform's definitions: feeding keeps lengths and gives numbers that fit; the answers have d numbers, which fit.
-use Prim.Native.Nat.{ℕ, zero, suc, ◌+◌, ◌*◌, ◌≤◌, ◌<◌}
+use Prim.Native.Nat.{ℕ, zero, suc, ◌+◌, ◌*◌, ◌<◌}
 use lib.Dec.{T}
-use mathlib.Core.Bool.{Bool, true, false, cond}
-use mathlib.Core.Path.{◌≡◌, refl, sym, ap, ◌∙◌}
-use mathlib.Core.List.{List, [], ◌∷◌, ◌++◌}
-use native.Mathlib.Omega.{arith}
+use mathlib.Core.Path.{◌≡◌, refl, ◌∙◌}
+use mathlib.Core.List.{List}
 use lib.ListN.{length, get_or, set, length-set}
-use lib.Ieee.{Float, nan, Format, binary32, binary64, fits, add, sub, mul, div, eq}
-use lib.Ieee.Fits.{add-fits, sub-fits, mul-fits, div-fits, cond-fits, nan-fits}
-use lib.Ieee.Bits.{of_bits-fits}
+use lib.Ieee.{Float, nan, Format, binary32, binary64, fits}
+use lib.Ieee.Fits.{sub-fits, mul-fits, div-fits, nan-fits}
 use Rattle.common.specs.declared.deviation.Deviation.{Deviation}
 use Rattle.std.specs.Prelude.{Result, Ok, Err}
 use Rattle.std.specs.Result.{result_unwrap_or}
@@ -17,17 +14,16 @@ use Rattle.refusal.specs.Refusal.{numbered}
 use Rattle.common.specs.Deviation.{count_limit, update_by, step_of}
 use Rattle.common.proofs.DeviationLaws.{update_by_accepted, step_fits}
 use Rattle.common.proofs.DeviationLaws as deviation
-use Rattle.trcf.specs.Fit.{All, Fits}
-use Rattle.trcf.specs.Transformer.{Transformer, put_statistic, put_deviations, fed, fed_at, channels_fed, updated, transform_by, transformed, unweighted, invert_by, inverted, weight_at, basic_shift, normalized_scale, scales, shifts, difference_deviations, zero32}
+use Rattle.trcf.specs.Fit.{Fits}
+use Rattle.trcf.specs.Transformer.{Transformer, put_statistic, put_deviations, fed, fed_at, channels_fed, updated, transform_by, transformed, weight_at, scales, shifts, difference_deviations}
 use Rattle.trcf.specs.TransformerCalls.{transformer_view}
 use Rattle.trcf.specs.Steps.Timestamps.{IsFactor}
 use Rattle.trcf.specs.declared.transformer.WeightedTransformer.{WeightedTransformer}
 use lib.Seq.{get_or-take}
-use Rattle.trcf.specs.Types.{normalizes, centres}
 use Rattle.trcf.specs.declared.types.TransformMethod.{TransformMethod}
 use Rattle.trcf.specs.declared.types.TransformMethod.TheVariants.{NONE, WEIGHTED, DIFFERENCE, SUBTRACT_MA, NORMALIZE, NORMALIZE_DIFFERENCE}
 use Rattle.trcf.specs.declared.statistics.Deviations.{Deviations}
-use Rattle.trcf.proofs.FitLaws.{all_set, all_get_d, all_tabulate, tabulate_length, narrowed_fits}
+use Rattle.trcf.proofs.FitLaws.{all_set, all_get_d, all_tabulate, tabulate_length}
 
 abbrev fit : Format → Float → Type 0
 fit f x = T (fits f x)

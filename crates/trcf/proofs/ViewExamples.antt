@@ -1,10 +1,10 @@
 -- Calls on what the program holds, computed: document 01's sample "Start 2, k 4, W's 4, 6, then drain: inputs 0, 4, 4, 6", and refusals of heads and lent lists.
 use Prim.Native.Nat.{ℕ}
 use mathlib.Core.Path.{◌≡◌, refl}
-use mathlib.Core.Bool.{Bool, true, false}
-use mathlib.Core.List.{List, [], ◌∷◌}
+use mathlib.Core.Bool.{false}
+use mathlib.Core.List.{[], ◌∷◌}
 use lib.IntN.{pos}
-use lib.ListN.{replicate, length, take}
+use lib.ListN.{replicate}
 use lib.Ieee.{Float, binary32, of_bits, le}
 use Rattle.common.specs.Deviation.{zero64, one64, outside_unit}
 use Rattle.refusal.specs.Lent.{over}
@@ -13,7 +13,7 @@ use Rattle.trcf.specs.Transformer.{zero32, one32}
 use Rattle.trcf.specs.Settings.{Settings, settings_row, all_one, block, dimension, waiting}
 use Rattle.trcf.specs.Calls.{Call, post_process, drain, scale, rows, table, finite, due, drain_full, newest, wrong_length, waiting_short, learn_full, learn_short, outside}
 use Rattle.trcf.specs.Preprocessor.{fresh, facts, change, buffered, drained, drain_all, drain_one, primed, previous, panel_of}
-use Rattle.trcf.specs.View.{Lent, lent, settings_from, view, alone, written_over, head_row, lent_short, counters_unfit, short_row, lent_row, row_of, head_after, lent_after, no_head, build_row, build_of, drain_of, learn_call, Outcome}
+use Rattle.trcf.specs.View.{Lent, lent, view, alone, written_over, head_row, lent_short, counters_unfit, short_row, lent_row, row_of, head_after, lent_after, no_head, build_row, build_of, drain_of, learn_call, Outcome}
 use Rattle.trcf.specs.declared.types.TransformMethod.TheVariants.{NORMALIZE}
 use Rattle.trcf.specs.declared.types.ForestMode.TheVariants.{STANDARD}
 use Rattle.trcf.specs.declared.head.Preprocessor.{Preprocessor}

@@ -1,15 +1,14 @@
 -- A head that `build` could have made, with lent lists that are long enough, answers as its state does, and holds the state that the call leaves.
 -- Assumes nothing.
 use Prim.Native.Nat.{ℕ, zero, suc, ◌*◌}
-use mathlib.Core.Path.{◌≡◌, refl, sym, ap, ◌∙◌}
-use mathlib.Core.List.{List, [], ◌∷◌, ◌++◌}
-use lib.ListN.{length, take, drop, replicate}
+use mathlib.Core.Path.{◌≡◌, refl, sym, ap}
+use lib.ListN.{length, drop}
 use lib.Seq.{take_at}
 use Rattle.refusal.specs.Lent.{over}
-use Rattle.trcf.specs.Settings.{Settings, dimension, block}
+use Rattle.trcf.specs.Settings.{dimension, block}
 use Rattle.trcf.specs.Calls.{Call}
-use Rattle.trcf.specs.Preprocessor.{State, Answer, refused, statistics_length, refusal, reply, change, next, answer, accepted}
-use Rattle.trcf.specs.View.{Lent, settings_of, view, counted, written_over, head_row, lent_row, row_of, answer_of, head_after, lent_after, or_else}
+use Rattle.trcf.specs.Preprocessor.{State, refused, statistics_length, refusal, reply, answer, accepted}
+use Rattle.trcf.specs.View.{Lent, settings_of, view, counted, written_over, head_row, lent_row, row_of, answer_of, or_else}
 use Rattle.trcf.specs.declared.head.Preprocessor.{Preprocessor}
 
 or_none : (r : ℕ) → or_else r 0 ≡ r

@@ -1,7 +1,7 @@
 -- The calls of demand 3, and rows 10 to 20 (document 01) and 28 (request 114) over the values that they name.
-use Rattle.std.specs.Prelude.{ℕ, zero, suc, ◌+◌, ◌-◌, ◌*◌, ◌/◌, ◌≤◌, Bool, true, false, cond, not, ◌&&◌, ◌||◌, List, [], ◌∷◌, ltb, leb, eqb, ℤ, pos, negsuc, length, Float}
+use Rattle.std.specs.Prelude.{ℕ, suc, ◌+◌, ◌*◌, ◌/◌, ◌≤◌, Bool, true, false, cond, not, ◌&&◌, ◌||◌, List, [], ◌∷◌, ltb, leb, eqb, ℤ, pos, negsuc, length, Float}
 use Rattle.std.proofs.Math.Option.{Option, none, some}
-use Rattle.std.specs.Float.{nan, inf, fin, binary32, binary64}
+use Rattle.std.specs.Float.{nan, inf, fin, binary32}
 use Rattle.std.specs.Float.Ieee.{lt}
 use Rattle.refusal.specs.Refusal.{first_of}
 use Rattle.common.specs.Deviation.{count_limit}
@@ -9,7 +9,7 @@ use Rattle.ranges.specs.RangeVector.{Ranges, unequal_at, unblocked, shorter_at}
 use Rattle.trcf.specs.Lists.{last_or, null}
 use Rattle.trcf.specs.Types.{augments, is_gap, differences}
 use Rattle.trcf.specs.Transformer.{zero32}
-use Rattle.trcf.specs.Settings.{Settings, block, dimension, waiting, All, Fits, Whole, whole_max}
+use Rattle.trcf.specs.Settings.{Settings, block, dimension, waiting, Fits, whole_max}
 
 -- ---- calls. Lent memory stands with its old contents
 

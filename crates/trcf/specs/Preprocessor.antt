@@ -1,5 +1,5 @@
 -- The preprocessor: what a snapshot holds of it, and what each call makes and answers, step by step as the source does.
-use Rattle.std.specs.Prelude.{ℕ, zero, suc, ◌+◌, ◌-◌, ◌*◌, ◌/◌, Bool, true, false, cond, not, ◌&&◌, ◌||◌, List, [], ◌∷◌, ◌++◌, ltb, leb, eqb, ℤ, pos, negsuc, length, take, drop, get_or, replicate, Float}
+use Rattle.std.specs.Prelude.{ℕ, zero, suc, ◌+◌, ◌-◌, ◌*◌, Bool, true, false, cond, List, [], ◌∷◌, ◌++◌, ltb, leb, eqb, ℤ, pos, negsuc, length, take, drop, get_or, replicate, Float}
 use Rattle.std.proofs.Math.Option.{Option, none, some}
 use Rattle.std.specs.Float.{Format, nan, binary32, binary64}
 use Rattle.std.specs.Float.Ieee.{add, sub, mul, div, eq, of_int}
@@ -7,12 +7,12 @@ use Rattle.numeric.specs.Narrow.{narrowed}
 use Rattle.common.specs.Deviation.{zero64, one64}
 pub use Rattle.refusal.specs.Refusal.{accepted}
 use Rattle.refusal.specs.Lent.{over}
-use Rattle.ranges.specs.RangeVector.{Range, Ranges, ranges, settled, cascade_to, over_all}
+use Rattle.ranges.specs.RangeVector.{Ranges, ranges, settled, cascade_to, over_all}
 use Rattle.trcf.specs.Lists.{last_n, last_or, shift_in, overwrite}
 use Rattle.trcf.specs.Types.{augments, is_gap}
-use Rattle.trcf.specs.Transformer.{Transformer, zero32, one32, mean_at, deviation_at, fed_at, updated, transformed, inverted, inverted_forecast, scales, shifts, difference_deviations}
-use Rattle.trcf.specs.Settings.{Settings, transformer, block, dimension, waiting}
-use Rattle.trcf.specs.Calls.{Learn, Forecast, Call, shingled_point, post_process, drain, transform, invert_extrapolation, scale, shift, status, Facts, rows, due, newest, given, anomalous, lookahead}
+use Rattle.trcf.specs.Transformer.{zero32, one32, mean_at, deviation_at, fed_at, updated, transformed, inverted, inverted_forecast, scales, shifts, difference_deviations}
+use Rattle.trcf.specs.Settings.{Settings, transformer, dimension, waiting}
+use Rattle.trcf.specs.Calls.{Learn, Forecast, Call, shingled_point, post_process, drain, transform, invert_extrapolation, scale, shift, status, Facts, rows, due, newest, anomalous, lookahead}
 use Rattle.trcf.specs.declared.types.TransformMethod.{TransformMethod}
 use Rattle.trcf.specs.declared.types.ForestMode.{ForestMode}
 pub use Rattle.trcf.specs.declared.head.Anomaly.{Anomaly}

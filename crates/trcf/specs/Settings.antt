@@ -1,6 +1,6 @@
 -- The settings, and the rows that refuse them: document 01, 'Numbers the mechanic may see', rows 1 to 9.
-use Rattle.std.specs.Prelude.{ℕ, zero, suc, ◌+◌, ◌*◌, ◌≤◌, ◌≡◌, Bool, true, false, cond, not, ◌&&◌, ◌||◌, List, [], ◌∷◌, T, ltb, leb, eqb, length, Float}
-use Rattle.std.specs.Float.{Format, binary32, binary64}
+use Rattle.std.specs.Prelude.{ℕ, ◌+◌, ◌*◌, ◌≤◌, ◌≡◌, Bool, true, false, cond, not, ◌&&◌, ◌||◌, List, [], ◌∷◌, T, ltb, leb, eqb, length, Float}
+use Rattle.std.specs.Float.{binary32, binary64}
 use Rattle.std.specs.Float.Ieee.{eq, fits}
 use Rattle.refusal.specs.Refusal.{first_of}
 use Rattle.common.specs.Deviation.{outside_unit}

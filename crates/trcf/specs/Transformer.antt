@@ -1,5 +1,5 @@
 -- The transform of a reading, channel by channel: document 01, 'transformer.rs', in the source's order of operations.
-use Rattle.std.specs.Prelude.{ℕ, zero, suc, ◌+◌, ◌*◌, ◌/◌, ◌%◌, Bool, true, false, cond, not, ◌&&◌, ◌||◌, List, [], ◌∷◌, ◌++◌, ltb, leb, eqb, pos, length, get_or, set, Float}
+use Rattle.std.specs.Prelude.{ℕ, zero, suc, ◌+◌, ◌*◌, ◌/◌, ◌%◌, Bool, cond, not, List, pos, length, get_or, set, Float}
 use Rattle.std.specs.Float.{nan, binary32, binary64}
 use Rattle.std.specs.Float.Ieee.{add, sub, mul, div, eq, of_int, of_bits}
 use Rattle.numeric.specs.Narrow.{narrowed}

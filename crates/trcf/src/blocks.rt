@@ -3,12 +3,20 @@
 ghost use Rattle.std.specs.Prelude.{◌≡◌, cond, ◌+◌, ◌*◌, ◌≤◌, ◌<◌, pos, length};
 ghost use Rattle.std.specs.Float.{binary32};
 ghost use Rattle.std.specs.Float.Ieee.{of_int};
-ghost use Rattle.ranges.specs.RangeVector.{ranges};
+ghost use Rattle.ranges.specs.RangeVector.{ranges, held, AreSameLoans};
 ghost use Rattle.trcf.specs.Types.{differences};
 ghost use Rattle.trcf.specs.Steps.Blocks.{places_by, turn_by, drift_place, turn_place, moves, invert_place, Carried};
 
 use crate::types::{TransformMethod, is_differencing, is_none, is_normalizing};
-use ranges::rangevector::Range;
+use ranges::rangevector::{Range, RangeVector};
+
+// What each channel is scaled and shifted by in every block.
+#[derive(Clone, Copy)]
+pub(crate) struct Channels {
+    pub(crate) factors: [f32; 16],
+    pub(crate) scales: [f32; 16],
+    pub(crate) drifts: [f32; 16],
+}
 
 // The nearest f32; the machine's own conversion is exact up to 2^24.
 fn block_number(i: usize) -> f32
@@ -98,9 +106,7 @@ fn invert_block(
     normalizes: bool,
     moves: bool,
     carries: bool,
-    factors: &[f32; 16],
-    scales: &[f32; 16],
-    drifts: &[f32; 16],
+    channels: &Channels,
     bases: &mut [f32; 16],
     d: usize,
     i: usize,
@@ -111,7 +117,7 @@ fn invert_block(
     requires d_bound { (d ≤ 16) × (i * d + d ≤ length values.old) × (length bases.old ≡ 16) }
     requires upper_len { (length upper.old ≡ length values.old) × (length lower.old ≡ length values.old) }
     ensures lower_after { ranges values.new upper.new lower.new
-        ≡ places_by (turn_place normalizes moves i factors.now scales.now drifts.now bases.old) (i * d) d
+        ≡ places_by (turn_place normalizes moves i channels.now.factors channels.now.scales channels.now.drifts bases.old) (i * d) d
         (ranges values.old upper.old lower.old) }
     ensures carried { Carried carries (i * d) d values.new bases.old bases.new }
 {
@@ -128,9 +134,9 @@ fn invert_block(
         let q = turn(
             normalizes,
             moves,
-            factors[j],
-            scales[j],
-            b * drifts[j],
+            channels.factors[j],
+            channels.scales[j],
+            b * channels.drifts[j],
             x,
             r,
         );
@@ -144,31 +150,40 @@ fn invert_block(
 // Block i by the method.
 pub(crate) fn turn_block(
     m: TransformMethod,
-    factors: &[f32; 16],
-    scales: &[f32; 16],
-    drifts: &[f32; 16],
+    channels: &Channels,
     bases: &mut [f32; 16],
     d: usize,
     i: usize,
-    values: &mut [f32],
-    upper: &mut [f32],
-    lower: &mut [f32],
+    range: &mut RangeVector<f32>,
 )
-    requires d_bound { (d ≤ 16) × (i * d + d ≤ length values.old) × (length bases.old ≡ 16) }
-    requires upper_len { (length upper.old ≡ length values.old) × (length lower.old ≡ length values.old) }
-    ensures lower_after { ranges values.new upper.new lower.new
-        ≡ places_by (invert_place m i factors.now scales.now drifts.now bases.old) (i * d) d
-        (ranges values.old upper.old lower.old) }
-    ensures carried { Carried (differences m) (i * d) d values.new bases.old bases.new }
+    requires d_bound { (d ≤ 16) × (i * d + d ≤ length range.old.values.now) × (length bases.old ≡ 16) }
+    requires upper_len { (length range.old.upper.now ≡ length range.old.values.now) × (length range.old.lower.now ≡ length range.old.values.now) }
+    ensures lower_after { held range.new
+        ≡ places_by (invert_place m i channels.now.factors channels.now.scales channels.now.drifts bases.old) (i * d) d (held range.old) }
+    ensures carried { Carried (differences m) (i * d) d range.new.values.now bases.old bases.new }
+    ensures loans { AreSameLoans range.old range.new }
 {
     if is_none(m) {
-        drift_block(drifts, d, i, values, upper, lower);
+        drift_block(
+            &channels.drifts,
+            d,
+            i,
+            range.values,
+            range.upper,
+            range.lower,
+        );
     } else {
-        let normalizes = is_normalizing(m);
-        let moves = is_moving(m);
-        let carries = is_differencing(m);
         invert_block(
-            normalizes, moves, carries, factors, scales, drifts, bases, d, i, values, upper, lower,
+            is_normalizing(m),
+            is_moving(m),
+            is_differencing(m),
+            channels,
+            bases,
+            d,
+            i,
+            range.values,
+            range.upper,
+            range.lower,
         );
     }
 }

@@ -50,6 +50,7 @@ pub(crate) fn feed_fitting(
 }
 
 // The same; where the count is spent or a length does not fit, nothing changes.
+#[tactic(auto, unfolding(crate::specs::Lengths::where_fits))]
 pub fn feed_reading(
     head: Preprocessor,
     count: u64,

@@ -33,11 +33,7 @@ pub(crate) fn time_fits(head: Preprocessor, statistics: usize) -> bool
     head_row(head).is_ok() && 3 * (5 * head.transformer.input_length + 5) <= statistics
 }
 
-#[tactic(
-    auto,
-    using(crate::proofs::LengthLaws::block_known),
-    unfolding(crate::specs::Lengths::output_fits, crate::specs::Settings::block)
-)]
+#[tactic(auto, using(crate::proofs::LengthLaws::block_known), unfolding(crate::specs::Lengths::output_fits, crate::specs::Settings::block))]
 pub(crate) fn output_fits(head: Preprocessor, statistics: usize, output: usize) -> bool
     ensures value { result ≡ output_fits (settings_of head) statistics output }
     ensures bounded { result ≡ true → Bounded (settings_of head) × (statistics ≡ statistics_length (settings_of head)) × (block (settings_of head) ≤ output) }

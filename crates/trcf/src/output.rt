@@ -41,6 +41,7 @@ pub(crate) fn transform_fitting(
 }
 
 // The same; where a length does not fit, nothing changes.
+#[tactic(auto, unfolding(crate::specs::Lengths::where_fits))]
 pub fn write_transform(
     head: Preprocessor,
     s: &[f64],
@@ -72,6 +73,7 @@ pub(crate) fn scale_fitting(head: Preprocessor, s: &[f64], output: &mut [f32])
 }
 
 // The same; where a length does not fit, nothing changes.
+#[tactic(auto, unfolding(crate::specs::Lengths::where_fits))]
 pub fn write_scale(head: Preprocessor, s: &[f64], output: &mut [f32])
     ensures { output.new ≡ where_fits (output_fits (settings_of head) (length s.now) (length output.old)) (over output.old (scale_of (holding head s.now [] []))) output.old }
 {
@@ -95,6 +97,7 @@ pub(crate) fn shift_fitting(head: Preprocessor, s: &[f64], times: &[u64], output
 }
 
 // The same; where a length does not fit, nothing changes.
+#[tactic(auto, unfolding(crate::specs::Lengths::where_fits))]
 pub fn write_shift(head: Preprocessor, s: &[f64], times: &[u64], output: &mut [f32])
     ensures { output.new ≡ where_fits (output_fits (settings_of head) (length s.now) (length output.old)) (over output.old (shift_of (holding head s.now [] times.now))) output.old }
 {
@@ -118,6 +121,7 @@ pub(crate) fn deviations_fitting(head: Preprocessor, s: &[f64], output: &mut [f3
 }
 
 // The same; where a length does not fit, nothing changes.
+#[tactic(auto, unfolding(crate::specs::Lengths::where_fits))]
 pub fn write_deviations(head: Preprocessor, s: &[f64], output: &mut [f32])
     ensures { output.new ≡ where_fits (output_fits (settings_of head) (length s.now) (length output.old)) (over output.old (deviations (holding head s.now [] []))) output.old }
 {

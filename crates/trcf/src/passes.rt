@@ -74,6 +74,7 @@ fn feed_first(
 }
 
 // Feeds the deviations y and z of channel i's first two statistics to the two that take them.
+#[tactic(auto, unfolding(crate::specs::Steps::Passes::last_at))]
 fn feed_last(s: &mut [f64], i: usize, d: usize, slow: f64, count: u64, y: f64, z: f64, g: f64)
     requires d_in_bounds { 3 * (i + 4 * d) + 3 ≤ length s.old }
     requires count_lt_count_limit { count < count_limit }

@@ -17,6 +17,7 @@ pub struct Deviations {
     pub difference_deviation: Deviation,
 }
 
+#[tactic(auto, unfolding(crate::specs::Transformer::statistic_at))]
 pub(crate) fn statistic_at(s: &[f64], n: usize, discount: f64, count: u64) -> Deviation
     requires { 3 * n + 3 ≤ length s.now }
     ensures { result ≡ statistic_at s.now n discount count }
@@ -31,6 +32,7 @@ pub(crate) fn statistic_at(s: &[f64], n: usize, discount: f64, count: u64) -> De
     }
 }
 
+#[tactic(auto, unfolding(crate::specs::Transformer::put_statistic))]
 pub(crate) fn put_statistic(s: &mut [f64], n: usize, t: Deviation)
     requires { 3 * n + 3 ≤ length s.old }
     ensures { s.new ≡ put_statistic s.old n t }
@@ -42,6 +44,7 @@ pub(crate) fn put_statistic(s: &mut [f64], n: usize, t: Deviation)
 }
 
 // The five at the places b, b + w and so on; the last three have a tenth of the decay.
+#[tactic(auto, unfolding(crate::specs::Transformer::deviations_at))]
 pub(crate) fn deviations_at(s: &[f64], b: usize, w: usize, decay: f64, count: u64) -> Deviations
     requires { 3 * (b + 4 * w) + 3 ≤ length s.now }
     ensures { result ≡ deviations_at s.now b w decay count }
@@ -61,6 +64,7 @@ pub(crate) fn deviations_at(s: &[f64], b: usize, w: usize, decay: f64, count: u6
     }
 }
 
+#[tactic(auto, unfolding(crate::specs::Transformer::put_deviations))]
 pub(crate) fn put_deviations(s: &mut [f64], b: usize, w: usize, t: Deviations)
     requires { 3 * (b + 4 * w) + 3 ≤ length s.old }
     ensures { s.new ≡ put_deviations s.old b w t }
@@ -87,6 +91,7 @@ pub(crate) fn step(t: Deviation, f: f64, x: f64) -> Deviation
 }
 
 // f is the factor of the first two and g that of the others.
+#[tactic(auto, unfolding(crate::specs::Transformer::fed))]
 pub(crate) fn feed(t: Deviations, x: f64, dx: f64, f: f64, g: f64) -> Deviations
     requires { Feedable f g t }
     ensures { result ≡ fed t x dx }

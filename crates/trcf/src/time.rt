@@ -95,10 +95,11 @@ pub(crate) fn time_scale(head: Preprocessor, s: &[f64]) -> f32
 pub fn newest_of(head: Preprocessor, previous_timestamps: &[u64], initial_timestamps: &[u64]) -> u64
     ensures { result ≡ newest_of head previous_timestamps.now initial_timestamps.now }
 {
+    let k = head.shingle_size;
     if head.internal_timestamp == 0 {
         return last_of(initial_timestamps, head.initial_len);
     }
-    last_of(previous_timestamps, head.shingle_size)
+    last_of(previous_timestamps, k)
 }
 
 // The time that the element of a point and of a transform is counted from.
@@ -116,7 +117,11 @@ pub fn time_base(head: Preprocessor, previous_timestamps: &[u64], initial_timest
 pub(crate) fn previous_time(head: Preprocessor, base: u64, timestamp: u64) -> u64
     ensures { result ≡ cond (eqb head.values_seen 0) timestamp base }
 {
-    if head.values_seen == 0 { timestamp } else { base }
+    if head.values_seen == 0 {
+        timestamp
+    } else {
+        base
+    }
 }
 
 #[tactic(auto, unfolding(crate::specs::Preprocessor::time_element))]

@@ -6,7 +6,7 @@ ghost use Rattle.numeric.specs.Narrow.{narrowed};
 ghost use Rattle.refusal.specs.Refusal.{row_of, first_of};
 ghost use Rattle.refusal.specs.Lent.{over};
 ghost use Rattle.common.specs.Deviation.{zero64, one64, count_limit, outside_unit, factor_of};
-ghost use Rattle.ranges.specs.RangeVector.{ranges, range_outcome, unblocked};
+ghost use Rattle.ranges.specs.RangeVector.{held, AreSameLoans, range_outcome, unblocked};
 ghost use Rattle.trcf.specs.Types.{is_none, normalizes, differences, centres};
 ghost use Rattle.trcf.specs.Settings.{all_one, input_limit};
 ghost use Rattle.trcf.specs.Transformer.{zero32, slow_decay, updated, mean_at, weight_at, normalized_scale, transform_by, transformed, unweighted, invert_by, inverted, reciprocal, inverted_forecast, scales, shifts, difference_deviations};
@@ -15,7 +15,7 @@ ghost use Rattle.trcf.specs.TransformerCalls.{transformer_view, no_transformer, 
 ghost use Rattle.trcf.specs.Steps.Sound.{Sound};
 ghost use Rattle.trcf.specs.Steps.Blocks.{FactorsIn};
 
-use crate::blocks::turn_block;
+use crate::blocks::{Channels, turn_block};
 use crate::passes::feed_channels;
 use crate::shingle::copy_in;
 use crate::statistics::mean_at;
@@ -23,6 +23,7 @@ use crate::types::{
     INPUT_LIMIT, TransformMethod, is_centring, is_differencing, is_none, is_normalizing,
 };
 use common::deviation::{COUNT_LIMIT, Deviation, next_factor};
+use ranges::rangevector::RangeVector;
 use refusal::Refusal;
 
 // The settings of a transform and how many readings the statistics were fed; the first `input_length` weights count.
@@ -36,6 +37,7 @@ pub struct WeightedTransformer {
 }
 
 // Each channel's five statistics are fed its reading and its difference from the one before, by the factors of the decay and of a tenth of it.
+#[tactic(auto, unfolding(crate::specs::Transformer::updated))]
 pub(crate) fn update_channels(
     t: WeightedTransformer,
     s: &mut [f64],
@@ -75,6 +77,7 @@ fn normalized_scale(s: &[f64], d: usize, i: usize) -> f32
 }
 
 // One channel's reading x, after p. The weight is handed over beside the transformer, so that no list of weights is copied for a channel.
+#[tactic(auto, unfolding(crate::specs::Transformer::basic_shift, crate::specs::Transformer::normalized_scale))]
 fn transform_at(t: WeightedTransformer, w: f32, s: &[f64], i: usize, x: f32, p: f32) -> f32
     requires sound { Sound t (length s.now) }
     requires i_bound { i < t.input_length }
@@ -115,6 +118,7 @@ pub(crate) fn transform_into(
 }
 
 // Divided by the weight; by 0 it gives 0.
+#[tactic(auto, unfolding(crate::specs::Transformer::unweighted))]
 fn unweigh(w: f32, x: f32) -> f32
     ensures { result ≡ unweighted w x }
 {
@@ -122,6 +126,7 @@ fn unweigh(w: f32, x: f32) -> f32
 }
 
 // One channel's x, after p, once it was divided by the weight.
+#[tactic(auto, using(crate::proofs::TransformerLaws::weight_at_view), unfolding(crate::specs::Transformer::basic_shift, crate::specs::Transformer::normalized_scale))]
 fn invert_at(t: WeightedTransformer, s: &[f64], i: usize, x: f32, p: f32) -> f32
     requires sound { Sound t (length s.now) }
     requires i_bound { i < t.input_length }
@@ -159,6 +164,7 @@ pub(crate) fn invert_fitting(
     }
 }
 
+#[tactic(auto, using(crate::proofs::TransformerLaws::weight_at_view), unfolding(crate::specs::Transformer::normalized_scale))]
 fn scale_at(t: WeightedTransformer, s: &[f64], i: usize) -> f32
     requires sound { Sound t (length s.now) }
     requires i_bound { i < t.input_length }
@@ -220,6 +226,7 @@ pub(crate) fn difference_deviations_into(t: WeightedTransformer, s: &[f64], outp
 }
 
 // 1 / weight, 0 for weight 0.
+#[tactic(auto, unfolding(crate::specs::Transformer::reciprocal))]
 fn reciprocal_of(w: f32) -> f32
     ensures { result ≡ reciprocal w }
 {
@@ -243,23 +250,21 @@ fn channels_into(
     t: WeightedTransformer,
     s: &[f64],
     previous: &[f32],
-    factors: &mut [f32; 16],
-    scales: &mut [f32; 16],
-    drifts: &mut [f32; 16],
+    channels: &mut Channels,
     bases: &mut [f32; 16],
 )
     requires sound { Sound t (length s.now) }
     requires previous_len { length previous.now ≡ t.input_length }
-    requires factors_len { (length factors.old ≡ 16) × (length scales.old ≡ 16) × (length drifts.old ≡ 16) × (length bases.old ≡ 16) }
-    ensures { FactorsIn (transformer_view t s.now) previous.now t.input_length factors.new scales.new drifts.new bases.new }
+    requires factors_len { (length channels.old.factors ≡ 16) × (length channels.old.scales ≡ 16) × (length channels.old.drifts ≡ 16) × (length bases.old ≡ 16) }
+    ensures { FactorsIn (transformer_view t s.now) previous.now t.input_length channels.new.factors channels.new.scales channels.new.drifts bases.new }
 {
     let d = t.input_length;
     let m = t.transform_method;
     let carries = is_differencing(m);
     for j in 0..d {
-        factors[j] = reciprocal_of(t.weights[j]);
-        scales[j] = normalized_scale(s, d, j);
-        drifts[j] = narrow_mean_at(s, j + 3 * d);
+        channels.factors[j] = reciprocal_of(t.weights[j]);
+        channels.scales[j] = normalized_scale(s, d, j);
+        channels.drifts[j] = narrow_mean_at(s, j + 3 * d);
         bases[j] = base_at(carries, s, previous, j);
     }
 }
@@ -269,37 +274,27 @@ fn forecast_fitting(
     t: WeightedTransformer,
     s: &[f64],
     previous: &[f32],
-    values: &mut [f32],
-    upper: &mut [f32],
-    lower: &mut [f32],
+    range: &mut RangeVector<f32>,
 )
     requires sound { Sound t (length s.now) }
     requires previous_len { length previous.now ≡ t.input_length }
-    requires upper_len { (length upper.old ≡ length values.old) × (length lower.old ≡ length values.old) }
-    requires values_value { (differences t.transform_method && unblocked (length previous.now) (length values.old)) ≡ false }
-    ensures { ranges values.new upper.new lower.new
-        ≡ inverted_forecast (transformer_view t s.now) previous.now (ranges values.old upper.old lower.old) }
+    requires upper_len { (length range.old.upper.now ≡ length range.old.values.now) × (length range.old.lower.now ≡ length range.old.values.now) }
+    requires values_value { (differences t.transform_method && unblocked (length previous.now) (length range.old.values.now)) ≡ false }
+    ensures after { held range.new ≡ inverted_forecast (transformer_view t s.now) previous.now (held range.old) }
+    ensures loans { AreSameLoans range.old range.new }
 {
     let d = t.input_length;
     let m = t.transform_method;
-    let n = values.len() / d;
-    let mut factors = [0.0f32; 16];
-    let mut scales = [0.0f32; 16];
-    let mut drifts = [0.0f32; 16];
+    let n = range.values.len() / d;
+    let mut channels = Channels {
+        factors: [0.0f32; 16],
+        scales: [0.0f32; 16],
+        drifts: [0.0f32; 16],
+    };
     let mut bases = [0.0f32; 16];
-    channels_into(
-        t,
-        s,
-        previous,
-        &mut factors,
-        &mut scales,
-        &mut drifts,
-        &mut bases,
-    );
+    channels_into(t, s, previous, &mut channels, &mut bases);
     for i in 0..n {
-        turn_block(
-            m, &factors, &scales, &drifts, &mut bases, d, i, values, upper, lower,
-        );
+        turn_block(m, &channels, &mut bases, d, i, range);
     }
 }
 
@@ -332,13 +327,7 @@ fn channels_row(d: usize) -> Result<(), Refusal>
 }
 
 #[tactic(auto, using(refusal::proofs::RefusalLaws::is_numbered), unfolding(crate::specs::TransformerCalls::new_row, common::specs::Deviation::deviation_new))]
-fn new_row(
-    m: TransformMethod,
-    d: usize,
-    decay: f64,
-    w: &[f32],
-    s: usize,
-) -> Result<(), Refusal>
+fn new_row(m: TransformMethod, d: usize, decay: f64, w: &[f32], s: usize) -> Result<(), Refusal>
     ensures value { row_of result ≡ new_row m d decay w.now s }
     ensures d_nonzero { OnOk result ((0 < d) × (d ≤ 16) × (length w.now ≡ d) × (15 * d ≤ s)) }
 {
@@ -416,14 +405,18 @@ fn forecast_row(
     m: TransformMethod,
     d: usize,
     p: usize,
-    v: usize,
-    u: usize,
-    l: usize,
+    range: &RangeVector<f32>,
     s: usize,
 ) -> Result<(), Refusal>
-    ensures value { row_of result ≡ forecast_row m d p v u l s }
-    ensures d_nonzero { OnOk result ((0 < d) × (d ≤ 16) × (p ≡ d) × (u ≡ v) × (l ≡ v) × ((differences m && unblocked d v) ≡ false) × (15 * d ≤ s)) }
+    ensures value { row_of result
+        ≡ forecast_row m d p (length range.now.values.now) (length range.now.upper.now) (length range.now.lower.now) s }
+    ensures d_nonzero { OnOk result ((0 < d) × (d ≤ 16) × (p ≡ d)
+        × (length range.now.upper.now ≡ length range.now.values.now) × (length range.now.lower.now ≡ length range.now.values.now)
+        × ((differences m && unblocked d (length range.now.values.now)) ≡ false) × (15 * d ≤ s)) }
 {
+    let v = range.values.len();
+    let u = range.upper.len();
+    let l = range.lower.len();
     channels_row(d)?;
     if p != d {
         return Err(Refusal::InputLength);
@@ -469,26 +462,17 @@ pub fn invert_forecast_in_place(
     t: WeightedTransformer,
     s: &[f64],
     previous: &[f32],
-    values: &mut [f32],
-    upper: &mut [f32],
-    lower: &mut [f32],
+    range: &mut RangeVector<f32>,
 )
-    ensures { ranges values.new upper.new lower.new
-        ≡ where_fits (passes (forecast_row t.transform_method t.input_length (length previous.now) (length values.old) (length upper.old) (length lower.old) (length s.now))) (inverted_forecast (transformer_view t s.now) previous.now (ranges values.old upper.old lower.old)) (ranges values.old upper.old lower.old) }
+    ensures after { held range.new
+        ≡ where_fits (passes (forecast_row t.transform_method t.input_length (length previous.now) (length range.old.values.now) (length range.old.upper.now) (length range.old.lower.now) (length s.now)))
+        (inverted_forecast (transformer_view t s.now) previous.now (held range.old)) (held range.old) }
+    ensures loans { AreSameLoans range.old range.new }
 {
     let m = t.transform_method;
     let d = t.input_length;
-    let row = forecast_row(
-        m,
-        d,
-        previous.len(),
-        values.len(),
-        upper.len(),
-        lower.len(),
-        s.len(),
-    );
-    if row.is_ok() {
-        forecast_fitting(t, s, previous, values, upper, lower);
+    if forecast_row(m, d, previous.len(), range, s.len()).is_ok() {
+        forecast_fitting(t, s, previous, range);
     }
 }
 
@@ -591,25 +575,16 @@ impl WeightedTransformer {
         self,
         statistics: &[f64],
         previous: &[f32],
-        values: &mut [f32],
-        upper: &mut [f32],
-        lower: &mut [f32],
+        range: &mut RangeVector<f32>,
     ) -> Result<(), Refusal>
-        ensures { range_outcome (row_of result) (ranges values.new upper.new lower.new)
-            ≡ transformer_invert_forecast self statistics.now previous.now (ranges values.old upper.old lower.old) }
+        ensures after { range_outcome (row_of result) (held range.new)
+            ≡ transformer_invert_forecast self statistics.now previous.now (held range.old) }
+        ensures loans { AreSameLoans range.old range.new }
     {
         let d = self.input_length;
         let m = self.transform_method;
-        forecast_row(
-            m,
-            d,
-            previous.len(),
-            values.len(),
-            upper.len(),
-            lower.len(),
-            statistics.len(),
-        )?;
-        forecast_fitting(self, &statistics[..15 * d], previous, values, upper, lower);
+        forecast_row(m, d, previous.len(), range, statistics.len())?;
+        forecast_fitting(self, &statistics[..15 * d], previous, range);
         Ok(())
     }
 
@@ -631,7 +606,11 @@ impl WeightedTransformer {
         Ok(())
     }
 
-    pub fn difference_deviations(self, statistics: &[f64], output: &mut [f32]) -> Result<(), Refusal>
+    pub fn difference_deviations(
+        self,
+        statistics: &[f64],
+        output: &mut [f32],
+    ) -> Result<(), Refusal>
         ensures { transformer_output (row_of result) output.new ≡ transformer_difference_deviations self statistics.now output.old }
     {
         let d = self.input_length;

@@ -143,6 +143,7 @@ pub fn difference_deviations(
 }
 
 // Whether the shingle is full; never of a head that every call refuses.
+#[tactic(auto, unfolding(trcf::specs::View::ready_of, trcf::specs::View::own_row))]
 pub fn is_ready(head: Preprocessor) -> bool
     ensures { result ≡ (getters_of head).ready }
 {
@@ -229,7 +230,7 @@ pub fn status(
 ) -> Result<Status, Refusal>
     ensures { status_given result output.new ≡ status_after head (lent statistics.now last_shingled_input.now last_shingled_point.now previous_timestamps.now initial_values.now initial_timestamps.now) output.old }
 {
-    difference_deviations(
+    let deviations = difference_deviations(
         head,
         statistics,
         last_shingled_input,
@@ -238,6 +239,7 @@ pub fn status(
         initial_values,
         initial_timestamps,
         output,
-    )
-    .map(|()| told(head))
+    );
+    deviations?;
+    Ok(told(head))
 }

@@ -15,6 +15,7 @@ use trcf::head::{Preprocessor, SEEN_LIMIT, block_of, get_dimension, head_row};
 use trcf::time::newest_of;
 
 // How many readings before the newest; beyond every shingle for one that is to come.
+// Kept: (d) 64 lies outside every shingle, so row 14 needs no second test, as it would of an Option.
 pub fn places_back(relative_index: i32) -> usize
     ensures { result ≡ back_of relative_index }
 {
@@ -72,9 +73,7 @@ fn is_count_full(head: Preprocessor) -> bool
 fn is_full(head: Preprocessor) -> bool
     ensures { result ≡ (ltb head.values_seen head.stop_normalization && leb count_limit head.transformer.count) || (leb seen_limit head.values_seen || leb seen_limit head.internal_timestamp) }
 {
-    is_count_full(head)
-        || SEEN_LIMIT <= head.values_seen
-        || SEEN_LIMIT <= head.internal_timestamp
+    is_count_full(head) || SEEN_LIMIT <= head.values_seen || SEEN_LIMIT <= head.internal_timestamp
 }
 
 // Whether the outputs of an anomaly are too short.
@@ -173,6 +172,7 @@ fn learning_row(
     )
 }
 
+// Kept: (d) has_y and expects stand beside their lists, since the definition of the call has a flag and a list, and the rows ask of an absent list its flag alone.
 pub fn post_process_row(
     head: Preprocessor,
     statistics: &[f64],

@@ -28,11 +28,7 @@ pub fn is_imputing(m: ForestMode) -> bool
 
 // Rows 1 to 9, also of a head that comes from outside.
 #[tactic(auto, unfolding(trcf::specs::Settings::settings_row))]
-pub fn settings_row(
-    b: PreprocessorBuilder,
-    weights: &[f32],
-    codes: &[u16],
-) -> Result<(), Refusal>
+pub fn settings_row(b: PreprocessorBuilder, weights: &[f32], codes: &[u16]) -> Result<(), Refusal>
     ensures value { row_of result ≡ settings_row (settings_from b weights.now codes.now) }
     ensures accepted { OnOk result (Accepted (settings_from b weights.now codes.now)) }
 {

@@ -1,5 +1,5 @@
 -- `post_process` in the parts in which the code works it out. Only private contracts and proofs cite this.
-use Rattle.std.specs.Prelude.{ℕ, suc, ◌-◌, ◌*◌, ◌≤◌, ◌<◌, Bool, true, cond, ◌&&◌, List, [], ◌∷◌, ◌≡◌, ltb, eqb, length, take, drop, get_or, Float, Option, Some, None}
+use Rattle.std.specs.Prelude.{ℕ, suc, ◌-◌, ◌*◌, ◌≤◌, ◌<◌, Bool, true, cond, ◌&&◌, List, [], ◌∷◌, ◌≡◌, ltb, eqb, take, drop, get_or, Float, Option, Some, None}
 use Rattle.std.specs.Float.Ieee.{lt}
 use Rattle.common.specs.Deviation.{count_limit}
 use Rattle.trcf.specs.Lists.{shift_in}
@@ -11,7 +11,7 @@ use Rattle.trcf.specs.Preprocessor.{State, Reading, reading, feed, previous, dev
 use Rattle.trcf.specs.declared.head.Preprocessor.{Preprocessor}
 use Rattle.trcf.specs.declared.head.Anomaly.{Anomaly}
 use Rattle.trcf.specs.declared.head.PostProcessed.{PostProcessed}
-use Rattle.trcf.specs.View.{settings_of, counting, holding, written}
+use Rattle.trcf.specs.View.{settings_of, counting, holding}
 
 -- the i-th waiting reading, out of the flat lists
 abbrev pub reading_at : ℕ → List Float → List ℕ → ℕ → Reading

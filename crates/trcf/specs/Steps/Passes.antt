@@ -1,6 +1,6 @@
 -- A reading fed in passes over the channels: the statistics that need no root, then all roots, then the two statistics that take them. No public contract cites these:
 -- `updated` feeds channel by channel, and proofs/PassLaws.antt shows that it comes to the same.
-use Rattle.std.specs.Prelude.{ℕ, zero, suc, ◌+◌, ◌*◌, cond, List, [], ◌∷◌, get_or, set, Float}
+use Rattle.std.specs.Prelude.{ℕ, zero, suc, ◌+◌, ◌*◌, cond, List, get_or, set, Float}
 use Rattle.std.specs.Float.{nan, binary32, binary64}
 use Rattle.std.specs.Float.Ieee.{sub, mul, div, lt}
 use Rattle.common.specs.declared.deviation.Deviation.{Deviation}

@@ -2,10 +2,10 @@
 use lib.Ieee.{Float, nan, binary32, mul}
 use Rattle.ranges.specs.RangeVector.{range_at, put_at, shifted}
 use Rattle.trcf.proofs.BlockLaws.{places_more}
-use Prim.Native.Nat.{◌+◌, ◌*◌, ◌-◌}
+use Prim.Native.Nat.{◌+◌, ◌*◌}
 use mathlib.Core.Path.{◌≡◌, refl, ap, ◌∙◌}
 use native.Mathlib.Omega.{arith}
-use lib.ListN.{get_or, length-set}
+use lib.ListN.{get_or}
 use Rattle.ranges.specs.RangeVector.{ranges}
 use Rattle.trcf.specs.Steps.Blocks.{places_by, drift_place}
 use Rattle.trcf.proofs.blocks.drift_block.Goals as goal
@@ -24,7 +24,7 @@ loop-j-preserved c =
     let at = A.i * A.d + L.j in
     let B = c.block_number-b.ensures in
     places_more (drift_place A.i A.drifts.now) (A.i * A.d) L.j (ranges A.values.now A.upper.now A.lower.now) w _ L.invariant
-          (c.shift-q.ensures ∙ ap (λ (y : Float). shifted binary32 (range_at w at) (mul binary32 y (get_or A.drifts.now L.j nan))) B)
+    (c.shift-q.ensures ∙ ap (λ (y : Float). shifted binary32 (range_at w at) (mul binary32 y (get_or A.drifts.now L.j nan))) B)
 
 pub returns : goal.returns
 returns c =

@@ -1,7 +1,6 @@
 -- What holds in the loops of `trcf::blocks::drift_block`.
-use Prim.Native.Nat.{◌*◌, ◌-◌, ◌≤◌}
+use Prim.Native.Nat.{◌*◌}
 use mathlib.Core.Path.{◌≡◌}
-use lib.ListN.{length}
 use Rattle.ranges.specs.RangeVector.{ranges}
 use Rattle.trcf.specs.Steps.Blocks.{places_by, drift_place}
 use Rattle.trcf.proofs.blocks.drift_block.Given as goal

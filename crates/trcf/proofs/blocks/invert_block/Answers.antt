@@ -3,7 +3,7 @@ use lib.Ieee.{nan, binary32, mul}
 use Rattle.ranges.specs.RangeVector.{range_at, put_at}
 use Rattle.trcf.specs.Steps.Blocks.{turn_by}
 use Rattle.trcf.proofs.BlockLaws.{places_more, carried_more}
-use Prim.Native.Nat.{◌+◌, ◌*◌, ◌-◌}
+use Prim.Native.Nat.{◌+◌, ◌*◌}
 use mathlib.Core.Path.{◌≡◌, refl, sym, ◌∙◌}
 use native.Mathlib.Omega.{arith}
 use lib.ListN.{get_or, length-set}
@@ -25,10 +25,10 @@ loop-j-preserved c =
     let at = A.i * A.d + L.j in
     let B = c.block_number-b.ensures in
     let R = L.invariant.1.rest L.j (omega arith) in (
-      places_more (turn_place A.normalizes A.moves A.i A.factors.now A.scales.now A.drifts.now A.bases.now) (A.i * A.d) L.j
+      places_more (turn_place A.normalizes A.moves A.i A.channels.now.factors A.channels.now.scales A.channels.now.drifts A.bases.now) (A.i * A.d) L.j
           (ranges A.values.now A.upper.now A.lower.now) w _ L.invariant.0
-          (c.turn-q.ensures ∙ (λ k. turn_by A.normalizes A.moves (get_or A.factors.now L.j nan) (get_or A.scales.now L.j nan)
-          (mul binary32 (B k) (get_or A.drifts.now L.j nan)) (R k) (range_at w at))),
+          (c.turn-q.ensures ∙ (λ k. turn_by A.normalizes A.moves (get_or A.channels.now.factors L.j nan) (get_or A.channels.now.scales L.j nan)
+          (mul binary32 (B k) (get_or A.channels.now.drifts L.j nan)) (R k) (range_at w at))),
       carried_more A.carries (A.i * A.d) L.j L.values A.bases.now L.bases _ _ (omega arith)
           (omega arith) c.chosen.ensures L.invariant.1,
       simp length-set L.invariant.2,

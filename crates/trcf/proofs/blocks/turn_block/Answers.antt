@@ -1,28 +1,28 @@
 -- `trcf::blocks::turn_block` meets its contract: by the method's kind. Assumes nothing.
 use Prim.Native.Nat.{◌*◌}
 use mathlib.Core.Path.{sym, ◌∙◌}
-use Rattle.ranges.specs.RangeVector.{ranges}
+use Rattle.ranges.specs.RangeVector.{held}
 use Rattle.trcf.proofs.BlockLaws.{none_block, none_carried, other_block, other_carried}
 use Rattle.trcf.proofs.blocks.turn_block.Goals as goal
 
-pub returns-then-is_none : goal.returns-then-is_none
-returns-then-is_none c =
-    let c8 = c in
+pub returns-then-is_none-clause-lower_after : goal.returns-then-is_none-clause-lower_after
+returns-then-is_none-clause-lower_after c =
     let A = c.args in
-    let e = sym c.is_none.ensures ∙ c.if-is_none.true in record {
-      lower_after = none_block A.m A.i (A.i * A.d) A.d A.factors.now A.scales.now A.drifts.now A.bases.now (ranges A.values.now A.upper.now A.lower.now) _ e
-          c.drift_block.ensures;
-      carried = none_carried A.m (A.i * A.d) A.d _ A.bases.now e;
-    }
+    none_block A.m A.i (A.i * A.d) A.d A.channels.now.factors A.channels.now.scales A.channels.now.drifts A.bases.now (held A.range.now) _
+    (sym c.is_none.ensures ∙ c.if-is_none.true) c.drift_block.ensures
 
-pub returns-else-is_none : goal.returns-else-is_none
-returns-else-is_none c =
-    let c8 = c in
-    let c16 = c in
+pub returns-then-is_none-clause-carried : goal.returns-then-is_none-clause-carried
+returns-then-is_none-clause-carried c =
     let A = c.args in
-    let e = sym c.is_none.ensures ∙ c.if-is_none.false in
-    let I = c.invert_block.ensures in record {
-      lower_after = other_block A.m _ _ A.i (A.i * A.d) A.d A.factors.now A.scales.now A.drifts.now A.bases.now (ranges A.values.now A.upper.now A.lower.now) _ e
-          c.is_normalizing-normalizes.ensures c.is_moving-moves.ensures I.lower_after;
-      carried = other_carried A.m _ (A.i * A.d) A.d _ A.bases.now _ c.is_differencing-carries.ensures I.carried;
-    }
+    none_carried A.m (A.i * A.d) A.d _ A.bases.now (sym c.is_none.ensures ∙ c.if-is_none.true)
+
+pub returns-else-is_none-clause-lower_after : goal.returns-else-is_none-clause-lower_after
+returns-else-is_none-clause-lower_after c =
+    let A = c.args in
+    other_block A.m _ _ A.i (A.i * A.d) A.d A.channels.now.factors A.channels.now.scales A.channels.now.drifts A.bases.now (held A.range.now) _
+    (sym c.is_none.ensures ∙ c.if-is_none.false) c.is_normalizing.ensures c.is_moving.ensures c.invert_block.ensures.lower_after
+
+pub returns-else-is_none-clause-carried : goal.returns-else-is_none-clause-carried
+returns-else-is_none-clause-carried c =
+    let A = c.args in
+    other_carried A.m _ (A.i * A.d) A.d _ A.bases.now _ c.is_differencing.ensures c.invert_block.ensures.carried

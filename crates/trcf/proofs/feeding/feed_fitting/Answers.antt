@@ -1,27 +1,14 @@
 -- `trcf::feeding::feed_fitting` meets its contract: by its callees' promises and the laws of lists. Assumes nothing.
 use mathlib.Core.Path.{◌∙◌}
-use native.Mathlib.Omega.{arith}
 use Rattle.common.proofs.DeviationLaws.{next_factor_lem}
 use Rattle.trcf.specs.Preprocessor.{feed, time_fed}
 use borrow.Author.Rules.{rules}
 use Rattle.trcf.proofs.feeding.feed_fitting.Goals as goal
 
-pub next_factor-f-requires : goal.next_factor-f-requires
-next_factor-f-requires c = tt
-
-pub next_factor-g-requires : goal.next_factor-g-requires
-next_factor-g-requires c = tt
-
 pub update_channels-requires : goal.update_channels-requires
 update_channels-requires c = let first = c in
     let h = c.requires.count_lt_count_limit in
     record { sound = search rules; count_lt_count_limit = h; input_len = search rules; previous_len = search rules; f_value = c.next_factor-f.ensures ∙ next_factor_lem _ _ h; g_value = c.next_factor-g.ensures ∙ next_factor_lem _ _ h }
-
-pub since-requires : goal.since-requires
-since-requires c = tt
-
-pub overflow_mul-d : goal.overflow_mul-d
-overflow_mul-d c = omega arith
 
 pub feed_at-requires : goal.feed_at-requires
 feed_at-requires c = let made = c in

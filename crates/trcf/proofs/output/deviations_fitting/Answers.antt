@@ -1,7 +1,7 @@
 -- `trcf::output::deviations_fitting` meets its contract: by its callees' promises, the time's number after the channels'. Assumes nothing.
 use native.Mathlib.Omega.{arith}
 use mathlib.Core.Path.{sym, ◌∙◌}
-use Prim.Native.Nat.{◌-◌, ◌<◌}
+use Prim.Native.Nat.{◌<◌}
 use lib.ListN.{length}
 use Rattle.trcf.specs.Settings.{block}
 use Rattle.trcf.specs.Preprocessor.{deviations}
@@ -13,12 +13,6 @@ use Rattle.trcf.proofs.output.deviations_fitting.Goals as goal
 pub difference_deviations_into-requires : goal.difference_deviations_into-requires
 unfolding block
 difference_deviations_into-requires c = record { sound = record { some = omega arith; few = omega arith; room = omega arith }; input_length_in_bounds = omega arith }
-
-pub is_augmented-requires : goal.is_augmented-requires
-is_augmented-requires c = tt
-
-pub offset_bounds-output-d : goal.offset_bounds-output-d
-offset_bounds-output-d c = omega arith
 
 pub bounds-output-d : goal.bounds-output-d
 bounds-output-d c =

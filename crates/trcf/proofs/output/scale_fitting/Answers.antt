@@ -1,7 +1,7 @@
 -- `trcf::output::scale_fitting` meets its contract: by its callees' promises, the time's number after the channels'. Assumes nothing.
 use native.Mathlib.Omega.{arith}
 use mathlib.Core.Path.{sym, ◌∙◌}
-use Prim.Native.Nat.{◌-◌, ◌<◌}
+use Prim.Native.Nat.{◌<◌}
 use lib.ListN.{length}
 use Rattle.trcf.specs.Settings.{block}
 use Rattle.trcf.specs.Preprocessor.{scale_of}
@@ -13,12 +13,6 @@ use Rattle.trcf.proofs.output.scale_fitting.Goals as goal
 pub scale_into-requires : goal.scale_into-requires
 unfolding block
 scale_into-requires c = record { sound = record { some = omega arith; few = omega arith; room = omega arith }; input_length_in_bounds = omega arith }
-
-pub is_augmented-requires : goal.is_augmented-requires
-is_augmented-requires c = tt
-
-pub offset_bounds-output-d : goal.offset_bounds-output-d
-offset_bounds-output-d c = omega arith
 
 pub bounds-output-d : goal.bounds-output-d
 bounds-output-d c =

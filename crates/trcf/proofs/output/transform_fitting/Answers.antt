@@ -1,7 +1,7 @@
 -- `trcf::output::transform_fitting` meets its contract: by its callees' promises, the time's number after the channels'. Assumes nothing.
 use native.Mathlib.Omega.{arith}
 use mathlib.Core.Path.{sym, ap, ◌∙◌}
-use Prim.Native.Nat.{◌-◌, ◌≤◌, ◌<◌}
+use Prim.Native.Nat.{◌≤◌, ◌<◌}
 use native.Mathlib.Nat.{le-mul_of_pos_right}
 use lib.ListN.{length, length-drop, length-take}
 use Rattle.trcf.specs.Settings.{block, transformer}
@@ -18,32 +18,11 @@ overflow_sub-n c =
     let m = le-mul_of_pos_right c.args.head.transformer.input_length at_pre.bounded.k_pos in
     omega (arith, at_pre)
 
-pub offset_bounds-inputs-n : goal.offset_bounds-inputs-n
-offset_bounds-inputs-n c = omega arith
-
-pub slice_bounds-transform_into-count : goal.slice_bounds-transform_into-count
-slice_bounds-transform_into-count c = omega arith
-
-pub slice_bounds-transform_into-start : goal.slice_bounds-transform_into-start
-slice_bounds-transform_into-start c = omega arith
-
-pub slice_bounds-transform_into-end : goal.slice_bounds-transform_into-end
-slice_bounds-transform_into-end c = omega arith
-
 pub transform_into-requires : goal.transform_into-requires
 unfolding block
 transform_into-requires c =
     let at_pre = c.requires in
     let m = le-mul_of_pos_right c.args.head.transformer.input_length at_pre.bounded.k_pos in record { sound = record { some = omega (arith, at_pre); few = omega (arith, at_pre); room = omega (arith, at_pre) }; input_len = omega (arith, at_pre); previous_len = simp (length-drop, length-take) (omega (arith, at_pre)); input_length_in_bounds = omega (arith, at_pre) }
-
-pub is_augmented-requires : goal.is_augmented-requires
-is_augmented-requires c = tt
-
-pub previous_time-p-requires : goal.previous_time-p-requires
-previous_time-p-requires c = tt
-
-pub offset_bounds-output-d : goal.offset_bounds-output-d
-offset_bounds-output-d c = omega arith
 
 pub bounds-output-d : goal.bounds-output-d
 bounds-output-d c =

@@ -1,9 +1,9 @@
 -- `trcf::passes::first_pass` meets its contract: the invariant is that i channels have passed. Assumes nothing.
-use Prim.Native.Nat.{◌-◌, ◌+◌, ◌*◌}
+use Prim.Native.Nat.{◌+◌, ◌*◌}
 use mathlib.Core.Path.{◌≡◌, refl, sym, ◌∙◌}
 use native.Mathlib.Omega.{arith}
 use native.Mathlib.Numerals.{add-one}
-use lib.ListN.{length-set, set, get_or}
+use lib.ListN.{set, get_or}
 use lib.Ieee.{nan}
 use Rattle.common.specs.Deviation.{step_of}
 use Rattle.trcf.specs.Transformer.{statistic_at}

@@ -1,7 +1,5 @@
 -- What holds in the loops of `trcf::passes::first_pass`.
-use Prim.Native.Nat.{◌≤◌, ◌-◌}
 use mathlib.Core.Path.{◌≡◌}
-use lib.ListN.{length}
 use Rattle.trcf.specs.Steps.Passes.{firsts, radicands}
 use Rattle.trcf.proofs.passes.first_pass.Given as goal
 

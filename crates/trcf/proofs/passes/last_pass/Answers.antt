@@ -1,5 +1,4 @@
 -- `trcf::passes::last_pass` meets its contract: the invariant is that i channels have passed. Assumes nothing.
-use Prim.Native.Nat.{◌-◌}
 use mathlib.Core.Path.{◌≡◌, refl}
 use native.Mathlib.Omega.{arith}
 use Rattle.trcf.specs.Steps.Passes.{lasts}

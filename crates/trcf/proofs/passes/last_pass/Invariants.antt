@@ -1,7 +1,5 @@
 -- What holds in the loops of `trcf::passes::last_pass`.
-use Prim.Native.Nat.{◌≤◌, ◌-◌}
 use mathlib.Core.Path.{◌≡◌}
-use lib.ListN.{length}
 use Rattle.trcf.specs.Steps.Passes.{lasts}
 use Rattle.trcf.proofs.passes.last_pass.Given as goal
 

@@ -1,5 +1,4 @@
 -- What the two copies leave is the block shifted in.
-use Rattle.std.proofs.Common.{arith}
 use Rattle.trcf.proofs.ShingleLaws.{shift_in_place}
 use Rattle.trcf.proofs.shingle.shift_fitting.Goals as goal
 

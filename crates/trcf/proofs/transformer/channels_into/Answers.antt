@@ -5,7 +5,7 @@ use Rattle.trcf.specs.Types.{differences}
 use Rattle.trcf.specs.Transformer.{reciprocal, weight_at, normalized_scale, basic_drift, basic_shift}
 use Rattle.trcf.proofs.TransformerLaws.{weight_at_view}
 use Rattle.trcf.proofs.BlockLaws.{held_none, held_more}
-use Prim.Native.Nat.{◌-◌, ◌<◌}
+use Prim.Native.Nat.{◌<◌}
 use mathlib.Core.Path.{◌≡◌, sym, ap, ◌∙◌}
 use native.Mathlib.Omega.{arith}
 use lib.ListN.{get_or, length-set}
@@ -28,11 +28,11 @@ loop-j-preserved c =
     let low : L.j < A.t.input_length = omega arith in (
       record {
         long = simp length-set H.long;
-        factor = held_more (λ k. reciprocal (weight_at T k)) L.factors L.j _ (omega arith)
+        factor = held_more (λ k. reciprocal (weight_at T k)) L.channels.factors L.j _ (omega arith)
             (c.reciprocal_of.ensures ∙ ap reciprocal (sym (weight_at_view A.t A.s.now L.j low))) H.factor;
-        scale = held_more (normalized_scale T) L.scales L.j _ (omega arith)
+        scale = held_more (normalized_scale T) L.channels.scales L.j _ (omega arith)
             c.normalized_scale.ensures H.scale;
-        drift = held_more (basic_drift T) L.drifts L.j _ (omega arith) c.narrow_mean_at.ensures H.drift;
+        drift = held_more (basic_drift T) L.channels.drifts L.j _ (omega arith) c.narrow_mean_at.ensures H.drift;
         base = held_more (λ k. cond (differences A.t.transform_method) (get_or A.previous.now k nan) (basic_shift T k)) L.bases L.j _ (omega (arith, H.long))
             (c.base_at.ensures ∙ ap (λ (x : Bool). cond x (get_or A.previous.now L.j nan) (basic_shift T L.j)) c.is_differencing-carries.ensures) H.base;
       },

@@ -1,11 +1,11 @@
 -- `trcf::transformer::difference_deviations_into` meets its contract: the invariant is that the answer's first i numbers stand over the output. Assumes nothing.
 use Rattle.numeric.specs.Narrow.{narrowed}
 use Rattle.trcf.specs.Transformer.{difference_deviations, mean_at}
-use lib.ListN.{length, length-set}
-use Prim.Native.Nat.{◌+◌, ◌*◌, ◌<◌, ◌-◌}
+use lib.ListN.{length}
+use Prim.Native.Nat.{◌+◌, ◌*◌, ◌<◌}
 use native.Mathlib.Omega.{arith}
 use native.Mathlib.Numerals.{add-one}
-use mathlib.Core.Path.{◌≡◌, refl}
+use mathlib.Core.Path.{◌≡◌}
 use Rattle.trcf.proofs.LentLaws.{over_none, over_more}
 use Rattle.trcf.proofs.transformer.difference_deviations_into.Goals as goal
 

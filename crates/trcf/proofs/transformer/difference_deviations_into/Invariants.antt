@@ -1,8 +1,7 @@
 -- What holds in the loops of `trcf::transformer::difference_deviations_into`.
 use Rattle.numeric.specs.Narrow.{narrowed}
 use Rattle.trcf.specs.Transformer.{mean_at}
-use lib.ListN.{length}
-use Prim.Native.Nat.{◌+◌, ◌*◌, ◌≤◌, ◌-◌}
+use Prim.Native.Nat.{◌+◌, ◌*◌}
 use mathlib.Core.Path.{◌≡◌}
 use Rattle.refusal.specs.Lent.{over}
 use Rattle.trcf.specs.Lists.{tabulate}

@@ -1,10 +1,10 @@
 -- `trcf::transformer::forecast_fitting` meets its contract: the invariant is that of the first i blocks, for every transformer that the lists hold. Assumes nothing.
-use Prim.Native.Nat.{ℕ, ◌*◌, ◌/◌, ◌-◌}
+use Prim.Native.Nat.{ℕ, ◌*◌, ◌/◌}
 use mathlib.Core.Path.{◌≡◌, refl, sym, ap, ◌∙◌}
 use native.Mathlib.Omega.{arith}
-use native.Mathlib.Nat.{div-le_self}
 use lib.ListN.{length}
-use Rattle.ranges.specs.RangeVector.{ranges}
+use Rattle.ranges.specs.RangeVector.{held}
+use Rattle.ranges.proofs.RangeSteps.{same_loans, same_since}
 use Rattle.trcf.specs.TransformerCalls.{transformer_view}
 use Rattle.trcf.proofs.BlockLaws.{turned_to, turned_none, turned_more, turned_all, block_room}
 use Rattle.trcf.proofs.transformer.forecast_fitting.Goals as goal
@@ -22,8 +22,9 @@ loop-i-init c =
     let c8 = c in
     let A = c.args in
     let H = c.channels_into.ensures in (
-      λ t em ed h. turned_none t A.previous.now (ranges A.values.now A.upper.now A.lower.now) _ _ _ _ (c.requires.previous_len ∙ sym ed) h,
+      λ t em ed h. turned_none t A.previous.now (held A.range.now) _ _ _ _ (c.requires.previous_len ∙ sym ed) h,
       H.long,
+      same_loans A.range.now,
     )
 
 pub turn_block-requires : goal.turn_block-requires
@@ -33,7 +34,12 @@ turn_block-requires c =
     let A = c.args in
     let L = c.loop-i in
     let P = c.requires in
-    let x = block_room L.i A.t.input_length (length A.values.now) (omega arith) in record { d_bound = (P.sound.few, omega (arith, x), L.invariant.1); upper_len = (omega (arith, P.upper_len.0), omega (arith, P.upper_len.1)) }
+    let x = block_room L.i A.t.input_length (length A.range.now.values.now) (omega arith) in
+    let S = L.invariant.2 in
+    record {
+      d_bound = (P.sound.few, omega (arith, x, S.values_length), L.invariant.1);
+      upper_len = (omega (arith, P.upper_len.0, S.upper_length, S.values_length), omega (arith, P.upper_len.1, S.lower_length, S.values_length));
+    }
 
 pub loop-i-preserved : goal.loop-i-preserved
 loop-i-preserved c =
@@ -44,21 +50,22 @@ loop-i-preserved c =
     let L = c.loop-i in
     let P = c.requires in
     let B = c.turn_block in (
-      λ t em ed h. turned_more t A.previous.now L.i (ranges A.values.now A.upper.now A.lower.now) (ranges L.values L.upper L.lower) _
+      λ t em ed h. turned_more t A.previous.now L.i (held A.range.now) (held L.range) _
           A.t.transform_method A.t.input_length _ _ _ _ L.bases _ em ed (omega (arith, ed, P.sound.some)) (P.previous_len ∙ sym ed) h
           (L.invariant.0 t em ed h) B.ensures.lower_after B.ensures.carried,
       B.ensures.carried.long ∙ L.invariant.1,
+      same_since L.invariant.2 B.ensures.loans,
     )
 
-pub returns : goal.returns
-returns c =
+pub returns-clause-after : goal.returns-clause-after
+returns-clause-after c =
     let c8 = c in
     let A = c.args in
     let P = c.requires in
     let L = c.loop-i in
     let T = transformer_view A.t A.s.now in
-    let v = ranges A.values.now A.upper.now A.lower.now in
-    let e : L.i ≡ length A.values.now / A.t.input_length = omega arith in
+    let v = held A.range.now in
+    let e : L.i ≡ length A.range.now.values.now / A.t.input_length = omega arith in
     (L.invariant.0 T refl refl c.channels_into.ensures).places
     ∙ ap (λ (n : ℕ). turned_to T A.previous.now (n * A.t.input_length) v) e
     ∙ turned_all T A.previous.now v (record { upper = P.upper_len.0; lower = P.upper_len.1 }) P.sound.some P.previous_len P.values_value

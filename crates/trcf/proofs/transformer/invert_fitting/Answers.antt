@@ -3,11 +3,11 @@ use lib.Ieee.{Float}
 use Rattle.trcf.proofs.TransformerLaws.{weight_at_view}
 use Rattle.trcf.specs.Transformer.{inverted, invert_by, unweighted, weight_at}
 use lib.Ieee.{nan}
-use lib.ListN.{length, get_or, length-set}
-use Prim.Native.Nat.{◌<◌, ◌-◌}
+use lib.ListN.{length, get_or}
+use Prim.Native.Nat.{◌<◌}
 use native.Mathlib.Omega.{arith}
 use native.Mathlib.Numerals.{add-one}
-use mathlib.Core.Path.{◌≡◌, refl, sym, ap, ◌∙◌}
+use mathlib.Core.Path.{◌≡◌, sym, ap, ◌∙◌}
 use Rattle.trcf.proofs.LentLaws.{over_none, over_more}
 use Rattle.trcf.specs.TransformerCalls.{transformer_view}
 use Rattle.trcf.proofs.transformer.invert_fitting.Goals as goal
@@ -25,8 +25,8 @@ loop-i-preserved c =
     (sym (weight_at_view a.t a.s.now L.i (omega arith))) in
     let e = c.invert_at.ensures ∙ ap (λ (y : Float). invert_by a.t.transform_method (transformer_view a.t a.s.now) L.i y (get_or a.previous.now L.i nan)) x in
     rw (add-one, L.invariant, e) (over_more a.output.now
-        (λ k. invert_by a.t.transform_method (transformer_view a.t a.s.now) k (unweighted (weight_at (transformer_view a.t a.s.now) k) (get_or a.input.now k nan))
-        (get_or a.previous.now k nan)) L.i h)
+    (λ k. invert_by a.t.transform_method (transformer_view a.t a.s.now) k (unweighted (weight_at (transformer_view a.t a.s.now) k) (get_or a.input.now k nan))
+    (get_or a.previous.now k nan)) L.i h)
 
 pub returns : goal.returns
 unfolding inverted

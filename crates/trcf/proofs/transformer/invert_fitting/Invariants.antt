@@ -1,8 +1,7 @@
 -- What holds in the loops of `trcf::transformer::invert_fitting`.
 use Rattle.trcf.specs.Transformer.{invert_by, unweighted, weight_at}
 use lib.Ieee.{nan}
-use lib.ListN.{length, get_or}
-use Prim.Native.Nat.{◌≤◌, ◌-◌}
+use lib.ListN.{get_or}
 use mathlib.Core.Path.{◌≡◌}
 use Rattle.refusal.specs.Lent.{over}
 use Rattle.trcf.specs.Lists.{tabulate}

@@ -3,11 +3,11 @@ use Rattle.trcf.specs.Types.{normalizes}
 use Rattle.trcf.specs.Transformer.{scales, weight_at, normalized_scale}
 use mathlib.Core.Bool.{cond}
 use lib.Ieee.{binary32, mul}
-use lib.ListN.{length, length-set}
-use Prim.Native.Nat.{◌<◌, ◌-◌}
+use lib.ListN.{length}
+use Prim.Native.Nat.{◌<◌}
 use native.Mathlib.Omega.{arith}
 use native.Mathlib.Numerals.{add-one}
-use mathlib.Core.Path.{◌≡◌, refl}
+use mathlib.Core.Path.{◌≡◌}
 use Rattle.trcf.proofs.LentLaws.{over_none, over_more}
 use Rattle.trcf.specs.TransformerCalls.{transformer_view}
 use Rattle.trcf.proofs.transformer.scale_into.Goals as goal
@@ -21,8 +21,8 @@ loop-i-preserved c =
     let a = c.args in
     let h : L.i < length a.output.now = omega arith in
     rw (add-one, L.invariant, c.scale_at.ensures) (over_more a.output.now
-        (λ k. cond (normalizes a.t.transform_method) (mul binary32 (weight_at (transformer_view a.t a.s.now) k) (normalized_scale (transformer_view a.t a.s.now) k))
-        (weight_at (transformer_view a.t a.s.now) k)) L.i h)
+    (λ k. cond (normalizes a.t.transform_method) (mul binary32 (weight_at (transformer_view a.t a.s.now) k) (normalized_scale (transformer_view a.t a.s.now) k))
+    (weight_at (transformer_view a.t a.s.now) k)) L.i h)
 
 pub returns : goal.returns
 unfolding scales

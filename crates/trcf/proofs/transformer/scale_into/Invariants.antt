@@ -3,8 +3,6 @@ use Rattle.trcf.specs.Types.{normalizes}
 use Rattle.trcf.specs.Transformer.{weight_at, normalized_scale}
 use mathlib.Core.Bool.{cond}
 use lib.Ieee.{binary32, mul}
-use lib.ListN.{length}
-use Prim.Native.Nat.{◌≤◌, ◌-◌}
 use mathlib.Core.Path.{◌≡◌}
 use Rattle.refusal.specs.Lent.{over}
 use Rattle.trcf.specs.Lists.{tabulate}

@@ -4,8 +4,6 @@ use Rattle.trcf.specs.Types.{centres}
 use Rattle.trcf.specs.Transformer.{zero32, mean_at}
 use mathlib.Core.Bool.{cond}
 use lib.Ieee.{binary32, add}
-use lib.ListN.{length}
-use Prim.Native.Nat.{◌≤◌, ◌-◌}
 use mathlib.Core.Path.{◌≡◌}
 use Rattle.refusal.specs.Lent.{over}
 use Rattle.trcf.specs.Lists.{tabulate}

@@ -1,14 +1,13 @@
 -- `trcf::transformer::transform_into` meets its contract: the invariant is that the answer's first i numbers stand over the output. Assumes nothing.
 use lib.Ieee.{nan}
-use lib.ListN.{length, get_or, length-set}
-use Prim.Native.Nat.{◌<◌, ◌-◌}
+use lib.ListN.{length, get_or}
+use Prim.Native.Nat.{◌<◌}
 use native.Mathlib.Omega.{arith}
 use native.Mathlib.Numerals.{add-one}
-use mathlib.Core.Path.{◌≡◌, refl, sym}
-use lib.Seq.{get_or-take}
+use mathlib.Core.Path.{◌≡◌}
 use Rattle.trcf.proofs.LentLaws.{over_none, over_more}
 use Rattle.trcf.specs.TransformerCalls.{transformer_view}
-use Rattle.trcf.specs.Transformer.{weight_at, transform_by, transformed}
+use Rattle.trcf.specs.Transformer.{transform_by, transformed}
 use Rattle.trcf.proofs.transformer.transform_into.Goals as goal
 
 pub loop-i-init : goal.loop-i-init

@@ -1,7 +1,6 @@
 -- What holds in the loops of `trcf::transformer::transform_into`.
 use lib.Ieee.{nan}
-use lib.ListN.{length, get_or}
-use Prim.Native.Nat.{◌≤◌, ◌-◌}
+use lib.ListN.{get_or}
 use mathlib.Core.Path.{◌≡◌}
 use Rattle.refusal.specs.Lent.{over}
 use Rattle.trcf.specs.Lists.{tabulate}

@@ -1,16 +1,23 @@
 -- `trcf_calls::queries::status` meets its contract: by its callees' promises and the laws of outcomes. Assumes nothing.
-use mathlib.Core.Path.{◌∙◌}
-use Rattle.trcf.specs.View.{written}
-use Rattle.trcf.proofs.OutcomeLaws.{status_told, status_refused}
+use mathlib.Core.Path.{◌≡◌, refl, ap, ◌∙◌}
+use mathlib.Core.List.{List}
+use lib.Ieee.{Float}
+use Rattle.std.specs.Prelude.{Result, Ok, Err, IsErrAnd}
+use Rattle.refusal.specs.declared.Refusal.{Refusal}
+use Rattle.refusal.specs.Refusal.{number_of}
+use Rattle.trcf.specs.View.{written, status_given, no_status}
+use Rattle.trcf.specs.declared.head.Status.{Status}
+use Rattle.trcf.proofs.NumberLaws.{number_zero}
+use Rattle.trcf.proofs.OutcomeLaws.{status_by, status_told, status_refused}
 use Rattle.trcf_calls.proofs.queries.status.Goals as goal
 
-pub returns-then-row-ne0 : goal.returns-then-row-ne0
-returns-then-row-ne0 c =
-    let d = c.difference_deviations-row in
-    c.no_status.ensures _ ∙ status_refused _ _ _ (written d.result _) d.ensures c.if-row-ne0.true
+status_err : (e : Refusal) (r : Result Status Refusal) (out : List Float) → IsErrAnd r (λ (d : Refusal). d ≡ e) → status_given r out ≡ status_by (number_of e) (no_status out)
+status_err e (Ok s) out h = absurd h
+status_err e (Err d) out h = ap (λ (q : Refusal). status_by (number_of q) (no_status out)) h
+
+pub returns-in_err-deviations : goal.returns-in_err-deviations
+returns-in_err-deviations c =
+    status_err _ _ _ c.from_residual.ensures.1 ∙ status_refused _ _ _ (written (number_of c.in_err-deviations.field-0.0) _) c.in_err-deviations.ensures (number_zero _)
 
 pub returns : goal.returns
-returns c =
-    let d = c.difference_deviations-row in
-    rw (c.panel.ensures, c.get_dimension.ensures, c.is_ready.ensures)
-    (status_told _ _ _ (written d.result _) d.ensures c.if-row-ne0.false)
+returns c = c.told.ensures _ ∙ status_told _ _ _ (written 0 _) c.in_ok-deviations.ensures refl

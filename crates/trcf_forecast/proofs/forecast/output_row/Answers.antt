@@ -28,7 +28,7 @@ overflow_mul-h c =
     let q = numbers_fit c.args.lengths.values c.get_dimension-a.result
     (c.args.head.transformer.input_length * c.args.head.shingle_size)
     (rw (dimension_known c.get_dimension-a.ensures (search rules)).0 p) in
-    let z = c.type_inv in ?
+    omega arith
 
 pub returns-then-is_shorter : goal.returns-then-is_shorter
 unfolding forecast_output_short lookahead

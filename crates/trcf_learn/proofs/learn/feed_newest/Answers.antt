@@ -3,7 +3,7 @@ use Rattle.trcf.proofs.LengthLaws.{feed_fits_lem, opened}
 use native.Mathlib.Omega.{arith}
 use mathlib.Core.Path.{◌∙◌}
 use borrow.Author.Tests.{lt-ltb, le-ltb}
-use Prim.Native.Nat.{◌-◌, ◌≤◌}
+use Prim.Native.Nat.{◌≤◌}
 use native.Mathlib.Nat.{le-mul_of_pos_right}
 use lib.ListN.{length, length-take, length-drop}
 use Rattle.trcf.specs.Preprocessor.{feed, reading, previous}

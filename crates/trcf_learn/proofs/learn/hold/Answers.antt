@@ -2,7 +2,7 @@
 use Rattle.trcf.proofs.LengthLaws.{roomy}
 use native.Mathlib.Omega.{arith}
 use mathlib.Core.Path.{◌∙◌}
-use Prim.Native.Nat.{◌-◌, ◌*◌}
+use Prim.Native.Nat.{◌*◌}
 use native.Mathlib.Nat.{mul-le-mul, le_refl}
 use Rattle.trcf.proofs.DrainLaws.{block_in}
 use Rattle.trcf.proofs.ShingleLaws.{paste_behind, set_behind}

@@ -3,7 +3,6 @@ use Rattle.trcf.proofs.LengthLaws.{roomy}
 use Rattle.trcf.proofs.BoundLaws.{five, five_more, all_statistics, all_inputs}
 use native.Mathlib.Omega.{arith}
 use mathlib.Core.Path.{ap, ◌∙◌}
-use Prim.Native.Nat.{◌-◌}
 use native.Mathlib.Nat.{le-mul_of_pos_right}
 use lib.ListN.{length-take}
 use lib.Seq.{length-take-le}

@@ -3,7 +3,7 @@ use Rattle.trcf.proofs.LengthLaws.{opened, output_fits_lem}
 use Rattle.trcf.proofs.BoundLaws.{five, five_more, all_statistics, all_inputs}
 use native.Mathlib.Omega.{arith}
 use mathlib.Core.Path.{◌≡◌, sym, ap, ◌∙◌}
-use Prim.Native.Nat.{◌-◌, ◌*◌}
+use Prim.Native.Nat.{◌*◌}
 use lib.ListN.{length, length-take, take}
 use mathlib.Core.Bool.{true}
 use mathlib.Core.List.{List, []}

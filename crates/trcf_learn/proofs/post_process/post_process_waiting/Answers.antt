@@ -1,8 +1,7 @@
 -- `trcf_learn::post_process::post_process_waiting` meets its contract: by its callees' promises and the laws of outcomes. Assumes nothing.
 use Rattle.trcf.proofs.BoundLaws.{five, five_more, all_statistics}
-use native.Mathlib.Omega.{arith}
 use mathlib.Core.Path.{sym}
-use Prim.Native.Nat.{suc, ◌-◌}
+use Prim.Native.Nat.{suc}
 use Rattle.std.specs.Prelude.{None}
 use lib.Dec.{eqb}
 use lib.Seq.{length-take-le}

@@ -1,6 +1,5 @@
 -- `trcf_point::drain::drain` meets its contract: by its callees' promises and the laws of outcomes. Assumes nothing.
 use mathlib.Core.Path.{refl, sym, ◌∙◌}
-use Rattle.refusal.specs.Refusal.{number_of}
 use Rattle.trcf.specs.View.{lent}
 use Rattle.trcf.proofs.NumberLaws.{head_err, number_zero}
 use Rattle.trcf.proofs.RowLaws.{drain_room}

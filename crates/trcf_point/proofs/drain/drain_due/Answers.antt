@@ -3,7 +3,7 @@ use Rattle.trcf.proofs.LengthLaws.{dimension_known}
 use Rattle.trcf.proofs.BoundLaws.{five, five_more, all_statistics, all_inputs}
 use native.Mathlib.Omega.{arith}
 use mathlib.Core.Path.{◌≡◌, sym, ap, ◌∙◌}
-use Prim.Native.Nat.{ℕ, ◌-◌, ◌*◌}
+use Prim.Native.Nat.{ℕ, ◌*◌}
 use native.Mathlib.Nat.{mul-le-mul, le_refl}
 use lib.ListN.{length-take}
 use mathlib.Core.Bool.{true, false}

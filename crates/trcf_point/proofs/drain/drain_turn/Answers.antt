@@ -3,7 +3,7 @@ use Rattle.trcf.proofs.LengthLaws.{block_known, opened, roomy, transform_fits_le
 use Rattle.trcf.proofs.BoundLaws.{block_start, block_end, block_at, block_to, block_bytes, flat_of}
 use native.Mathlib.Omega.{arith}
 use mathlib.Core.Path.{sym, ap, ◌∙◌}
-use Prim.Native.Nat.{ℕ, ◌-◌}
+use Prim.Native.Nat.{ℕ}
 use native.Mathlib.Nat.{le-mul_of_pos_right}
 use lib.ListN.{length, length-take, length-drop}
 use Rattle.trcf.proofs.DrainLaws.{block_in, block_cut, point_cut, block_is, block_fits}

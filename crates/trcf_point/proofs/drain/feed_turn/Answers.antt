@@ -3,7 +3,7 @@ use Rattle.trcf.proofs.LengthLaws.{feed_fits_lem, opened}
 use Rattle.trcf.proofs.BoundLaws.{block_end, block_at, block_to, block_bytes, place_inside}
 use native.Mathlib.Omega.{arith}
 use mathlib.Core.Path.{◌∙◌}
-use Prim.Native.Nat.{◌+◌, ◌-◌}
+use Prim.Native.Nat.{◌+◌}
 use lib.ListN.{length}
 use Rattle.trcf.proofs.DrainLaws.{feed_cut}
 use Rattle.trcf.specs.View.{settings_of}

@@ -1,8 +1,7 @@
 -- Refused by its row, or a head and cleared statistics.
-use Rattle.std.proofs.Common.{rules, List, replicate, ap, arith, ◌∙◌, ◌*◌}
+use Rattle.std.proofs.Common.{List, ap, arith, ◌*◌}
 use lib.Ieee.{Float}
 use Rattle.common.specs.Deviation.{zero64}
-use Rattle.trcf.specs.Transformer.{zero32}
 use Rattle.trcf.specs.TransformerCalls.{transformer_new, transformer_head}
 use Rattle.trcf.proofs.CallLaws.{made_err, made_done, cleared}
 use Rattle.trcf.proofs.LengthLaws.{roomy}

@@ -1,0 +1,14 @@
+-- `rangevector::RangeVector::from` meets its contract. Refused by its row, or written to the front of each list. Assumes nothing.
+use mathlib.Core.Path.{refl}
+use Rattle.ranges.specs.RangeVector.{range_from, shorter}
+use Rattle.ranges.proofs.RangeSteps.{refused_by, done, all_three}
+use Rattle.ranges.proofs.rangevector.RangeVector.from.Goals as goal
+
+pub returns-in_err-check_room-clause-after : goal.returns-in_err-check_room-clause-after
+unfolding range_from shorter
+returns-in_err-check_room-clause-after g c = refused_by _ _ _ _ _ c.from_residual.ensures.1 c.in_err-check_room.ensures.value
+
+pub returns-clause-after : goal.returns-clause-after
+unfolding range_from shorter
+returns-clause-after g c =
+    done _ _ _ _ _ c.in_ok-check_room.ensures.value refl (all_three c.copy_front.ensures c.copy_front-2.ensures c.copy_front-3.ensures)

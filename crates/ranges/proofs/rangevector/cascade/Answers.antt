@@ -1,6 +1,0 @@
--- `rangevector::cascade` meets its contract. Before the turn at i the first i indices are done. Assumes nothing.
-use Rattle.ranges.proofs.RangeSteps.{cascade_more}
-use Rattle.ranges.proofs.rangevector.cascade.Goals as goal
-
-pub loop-i-preserved : goal.loop-i-preserved
-loop-i-preserved g c = cascade_more g.T.Width.operations _ _ _ _ _ _ c.loop-i.invariant c.before-x.ensures c.shift_at.ensures
