@@ -1,4 +1,4 @@
-// Replays answers that the oracle worked out from the requests' words (docs/VECTORS.md) on `series`, and prints how many agree and how many differ.
+// Replays answers that the oracle worked out from the requests' words (docs/VECTORS.md) on `series`, and prints how many agree and how many differ. A line is a case.
 // The last line of a file is wrong by purpose: the one that differs.
 #![tactic(auto)]
 
@@ -6,39 +6,30 @@ mod alignment;
 mod imputation;
 mod words;
 
-use std::fs;
+use std::alloc::Global;
 use std::rt::Files;
+use std::{fs, io};
+use words::{Tally, Words};
 
-fn report(rt: &impl Print, name: &str, tally: words::Tally) {
+fn replay<F: FnMut(&mut Words<'_>) -> Option<bool>>(
+    rt: &(impl Files + Alloc<A = Global> + Print),
+    name: &str,
+    mut agrees: F,
+) -> io::Result<()>
+    requires { F.IsAlwaysCallable agrees }
+{
+    let text = fs::read_to_string(rt, name)?;
+    let mut tally = Tally::default();
+    for line in text.lines() {
+        tally.count(agrees(&mut Words::of_line(rt.alloc(), line)));
+    }
     let agree = tally.agree;
     let differ = tally.differ;
     let broken = tally.broken;
-    let _ = println!(rt;
-        "{name}: agree {agree}, differ {differ} (the wrong line), broken {broken}"
-    );
+    println!(rt; "{name}: agree {agree}, differ {differ} (the wrong line), broken {broken}")
 }
 
-fn alignments(rt: &(impl Files + Print + Eprint)) {
-    let path = "alignment";
-    match fs::open(rt, path) {
-        Ok(mut file) => report(rt, path, alignment::replay(&mut file)),
-        Err(e) => {
-            let _ = eprintln!(rt; "{path}: {e}");
-        }
-    }
-}
-
-fn imputations(rt: &(impl Files + Print + Eprint)) {
-    let path = "imputation";
-    match fs::open(rt, path) {
-        Ok(mut file) => report(rt, path, imputation::replay(&mut file)),
-        Err(e) => {
-            let _ = eprintln!(rt; "{path}: {e}");
-        }
-    }
-}
-
-fn main(rt: HostRuntime) {
-    alignments(&rt);
-    imputations(&rt);
+fn main(rt: HostRuntime) -> io::Result<()> {
+    replay(&rt, "alignment", alignment::agrees)?;
+    replay(&rt, "imputation", imputation::agrees)
 }

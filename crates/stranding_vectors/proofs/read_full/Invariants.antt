@@ -1,9 +1,0 @@
--- What holds in the loop of `stranding_vectors::read_full`.
-use Rattle.std.proofs.Common.{length, ◌-◌, ◌≤◌}
-use Rattle.stranding_vectors.proofs.read_full.Given as goal
-
-abbrev pub invariant-loop-done : goal.invariant-loop-done
-invariant-loop-done g l = l.done ≤ length l.initial.text
-
-abbrev pub decreases-loop-done : goal.decreases-loop-done
-decreases-loop-done g l = length l.initial.text - l.done
