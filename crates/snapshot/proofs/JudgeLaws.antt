@@ -26,14 +26,6 @@ use Rattle.snapshot.specs.declared.field.Field.{Field}
 use Rattle.snapshot.specs.declared.field.Field.TheVariants.{Single, Double, Whole, Bad}
 use Rattle.snapshot.specs.declared.piece.Next.{Next}
 
--- ---- places
-
-pub got : (r : Answer ℕ) (t : List ℕ) (o : Option (List ℕ)) (n : ℕ) → r ≡ Some n → placed r t ≡ o → some (drop n t) ≡ o
-got r t o n e h = rw e at h
-
-pub lost : (r : Answer ℕ) (t : List ℕ) (o : Option (List ℕ)) → r ≡ None → placed r t ≡ o → none ≡ o
-lost r t o e h = rw e at h
-
 -- ---- a byte
 
 module _ (b : ℕ) (t : List ℕ) (i : ℕ) where
@@ -85,9 +77,6 @@ module _ (k : ℕ) (t : List ℕ) (i : ℕ) where
 
   pub next_tabbed : k < 4 → tabbed_of k i t ≡ next_of k i t
   next_tabbed h = rw (lt-leb 4 k h)
-
-  pub next_rest : 4 ≤ k → rest_field (k - 4) i t ≡ next_of k i t
-  next_rest h = rw (le-leb 4 k h)
 
   -- what lies from there on, or nothing
   pub rest_is : (from : ℕ) (f : Field) → drop from t ≡ drop i t → from ≤ length t → f ≡ field_of k (take (length t - from) (drop from t)) → record { field = f; end = length t } ≡ rest_field k i t
@@ -299,17 +288,11 @@ module _ (o : Option ℕ) (f : Field) (h : f ≡ whole_of o) where
 -- ---- a line of fields of one kind
 
 module _ {A : Type 0} where
-  pub got_list : (r : Answer ℕ) (t : List ℕ) (v : List A) (o : Option (List A × List ℕ)) (n : ℕ) → r ≡ Some n → with_rest v (placed r t) ≡ o → some (v, drop n t) ≡ o
-  got_list r t v o n e h = rw e at h
-
   pub got_one : (r : Answer ℕ) (t : List ℕ) (v : A) (o : Option (A × List ℕ)) (n : ℕ) → r ≡ Some n → with_rest v (placed r t) ≡ o → some (v, drop n t) ≡ o
   got_one r t v o n e h = rw e at h
 
   pub lost_one : (r : Answer ℕ) (t : List ℕ) (v : A) (o : Option (A × List ℕ)) → r ≡ None → with_rest v (placed r t) ≡ o → none ≡ o
   lost_one r t v o e h = rw e at h
-
-  pub lost_list : (r : Answer ℕ) (t : List ℕ) (v : List A) (o : Option (List A × List ℕ)) → r ≡ None → with_rest v (placed r t) ≡ o → none ≡ o
-  lost_list r t v o e h = rw e at h
 
 over_none : {A : Type 0} (old : List A) → old ≡ over old []
 unfolding over

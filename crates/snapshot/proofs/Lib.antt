@@ -11,7 +11,6 @@ pub mod Kept
 pub mod ReadExamples
 pub mod ScanLaws
 pub mod HexLaws
-pub mod ByKind
 pub mod WriteLaws
 pub mod LineBytes
 pub mod SaveLaws

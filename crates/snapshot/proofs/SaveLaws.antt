@@ -11,6 +11,10 @@ use lib.Seq.{length-take-le}
 use lib.Ieee.{Float}
 use borrow.Author.Tests.{ltb-false, leb-false, lt-ltb, le-ltb}
 use Rattle.trcf.specs.declared.head.Preprocessor.{Preprocessor}
+use Rattle.std.specs.Prelude.{Result, Ok, Err, IsErrAnd}
+use Rattle.refusal.specs.declared.Refusal.{Refusal}
+use Rattle.refusal.specs.Refusal.{number_of}
+use Rattle.refusal.proofs.RefusalLaws.{is_numbered}
 use Rattle.trcf.specs.Types.{method_number, mode_letter, augments}
 use Rattle.trcf.specs.Settings.{Settings, settings_row, block, dimension}
 use Rattle.trcf.specs.View.{Lent, settings_of, view, counters_unfit}
@@ -18,7 +22,7 @@ use Rattle.trcf.specs.Preprocessor.{State}
 use Rattle.snapshot.specs.Text.{Line, whole, wgt, inp, pnt, set_line, singles, chn_line, cnt_line, dev_line, dev_lines, tim_line, buf_line, buf_lines, bytes_of, body_lines, lines_by, render}
 use Rattle.snapshot.specs.Read.{bytes_of_line}
 use Rattle.snapshot.specs.Steps.Write.{Wrote, tabbed, set_bytes}
-use Rattle.snapshot.specs.Save.{past, in_use_short, unformed, SaveOutcome, save_outcome, fitted, held_save, save_of}
+use Rattle.snapshot.specs.Save.{past, in_use_short, unformed, SaveOutcome, save_outcome, saved_told, fitted, held_save, save_of}
 use Rattle.snapshot.specs.Steps.TwoParts.{head_bytes, list_bytes}
 use Rattle.snapshot.proofs.WriteLaws.{stored_over}
 use Rattle.snapshot.proofs.LineBytes.{singles_size, chn_size, tim_size, cnt_size, dev_size, buf_size, set_size}
@@ -257,6 +261,13 @@ module _ (h : Preprocessor) (l : Lent) (out : List ℕ) where
   unfolding save_of
   saved_row zero e n = absurd (n refl)
   saved_row (suc r) e n = rw (sym e)
+
+  -- what `?` hands on of settings that are refused
+  pub saved_refused : (r : Result ℕ Refusal) (e : Refusal) → IsErrAnd r (λ d. d ≡ e) → number_of e ≡ settings_row (settings_of h) → saved_told r out ≡ save_of h l out
+  saved_refused (Ok n) e d q = absurd d
+  saved_refused (Err x) e d q =
+      ap (λ (y : Refusal). save_outcome (number_of y) 0 out) d
+      ∙ saved_row (number_of e) q (λ z. let k : 0 < number_of e = is_numbered e in absurd (omega (arith, k, z)))
 
   pub saved_misfit : settings_row (settings_of h) ≡ 0 → counters_unfit h ≡ true → save_outcome 19 0 out ≡ save_of h l out
   unfolding save_of

@@ -129,6 +129,20 @@ whole_pos m = go (ltb m 10) refl
     go true e = rw (whole_less m (ltb-true _ _ e)) (omega arith)
     go false e = omega (arith, whole_more_length m (ltb-false _ _ e))
 
+pub whole_many : (m : ℕ) → 1 < length (whole m) → 10 ≤ m
+whole_many m h = go (ltb m 10) refl
+  where
+    go : (b : Bool) → ltb m 10 ≡ b → 10 ≤ m
+    go true e = absurd (omega (arith, h, ap length (whole_less m (ltb-true _ _ e))))
+    go false e = ltb-false _ _ e
+
+pub whole_few : (m : ℕ) → length (whole m) ≤ 1 → m < 10
+whole_few m h = go (ltb m 10) refl
+  where
+    go : (b : Bool) → ltb m 10 ≡ b → m < 10
+    go true e = ltb-true _ _ e
+    go false e = absurd (omega (arith, h, whole_more_length m (ltb-false _ _ e), whole_pos (m / 10)))
+
 -- a number of at most k + 1 digits
 pub whole_within_lem : (k m : ℕ) → m < 10 ^ suc k → length (whole m) ≤ suc k
 whole_within_lem zero m h = rw (whole_less m h) (omega arith)

@@ -1,12 +1,13 @@
 // Lines named by two letters, in the fields of a snapshot: what a program prints beside it.
-ghost use Rattle.std.specs.Prelude.{◌≡◌, [], ◌∷◌, ◌+◌, ◌≤◌, length};
+ghost use Rattle.std.specs.Prelude.{◌≡◌, [], ◌∷◌, ◌+◌, ◌≤◌, length, is_some, unwrap_or};
+ghost use Rattle.std.specs.Float.{nan};
 ghost use Rattle.snapshot.specs.Text.{whole, named, singles};
 ghost use Rattle.snapshot.specs.Read.{bytes_of_line};
 ghost use Rattle.snapshot.specs.Save.{saved_told, fitted};
 ghost use Rattle.snapshot.specs.Steps.Write.{Wrote};
 ghost use Rattle.snapshot_save.specs.Line.{text_within, optional_field, optional_line};
 
-use crate::write::{tab_single, tab_singles, tab_whole, whole_length, write_byte};
+use crate::write::{tab_single, tab_whole, tabs, whole_length, write_byte};
 use refusal::Refusal;
 
 // A line of f32, and its length; or TooShort with nothing written, where out is shorter than the line.
@@ -22,7 +23,7 @@ pub fn singles_line(out: &mut [u8], a: u8, b: u8, v: &[f32]) -> Result<usize, Re
     }
     let p = write_byte(out, 0, a);
     let q = write_byte(out, p, b);
-    let r = tab_singles(out, q, v);
+    let r = tabs(out, q, v);
     let e = write_byte(out, r, 10);
     Ok(e)
 }
@@ -42,28 +43,28 @@ pub fn whole_line(out: &mut [u8], a: u8, b: u8, n: u64) -> Result<usize, Refusal
     Ok(e)
 }
 
-// An f32 after its tab, or `-` in its place.
-fn tab_optional(out: &mut [u8], at: usize, given: bool, x: f32) -> usize
+// An f32 after its tab, or `-` where there is none.
+fn tab_optional(out: &mut [u8], at: usize, x: Option<f32>) -> usize
     requires { at + 9 ≤ length out.old }
-    ensures { Wrote at (9 ∷ optional_field given x) out.old result out.new }
+    ensures { Wrote at (9 ∷ optional_field (is_some x) (unwrap_or x nan)) out.old result out.new }
 {
-    if given {
-        return tab_single(out, at, x);
-    }
-    let p = write_byte(out, at, 9);
-    write_byte(out, p, 45)
+    let Some(x) = x else {
+        let p = write_byte(out, at, 9);
+        return write_byte(out, p, 45);
+    };
+    tab_single(out, at, x)
 }
 
-// A line of a whole number and an f32, or `-` in its place, named by one letter; TooShort with nothing written, where out has less than 32 bytes.
-pub fn optional_line(out: &mut [u8], a: u8, n: u64, given: bool, x: f32) -> Result<usize, Refusal>
-    ensures { saved_told result out.new ≡ text_within 32 (bytes_of_line (optional_line a n given x)) out.old }
+// A line of a whole number and an f32, or `-` where there is none, named by one letter; TooShort with nothing written, where out has less than 32 bytes.
+pub fn optional_line(out: &mut [u8], a: u8, n: u64, x: Option<f32>) -> Result<usize, Refusal>
+    ensures { saved_told result out.new ≡ text_within 32 (bytes_of_line (optional_line a n (is_some x) (unwrap_or x nan))) out.old }
 {
     if out.len() < 32 {
         return Err(Refusal::TooShort);
     }
     let p = write_byte(out, 0, a);
     let q = tab_whole(out, p, n);
-    let r = tab_optional(out, q, given, x);
+    let r = tab_optional(out, q, x);
     let e = write_byte(out, r, 10);
     Ok(e)
 }

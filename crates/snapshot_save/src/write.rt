@@ -1,6 +1,6 @@
 // Writing a snapshot into lent bytes, field by field (document 01, 'Trace text'). Each function stores its bytes from the place `at` on
 // and returns the place after them.
-ghost use Rattle.std.specs.Prelude.{◌≡◌, [], ◌∷◌, map, ◌+◌, ◌*◌, ◌≤◌, ◌<◌, length};
+ghost use Rattle.std.specs.Prelude.{◌≡◌, ℕ, List, [], ◌∷◌, ◌++◌, map, ◌+◌, ◌*◌, ◌≤◌, ◌<◌, length};
 ghost use Rattle.std.specs.Float.{binary32, binary64};
 ghost use Rattle.std.specs.Float.Ieee.{to_bits};
 ghost use Rattle.snapshot.specs.Text.{whole, digit, hex, float, bytes_of, singles, chn_line, cnt_line, dev_line, dev_lines, tim_line, buf_line, buf_lines};
@@ -39,7 +39,7 @@ pub(crate) fn whole_length(n: u64) -> usize
     let mut l: usize = 1;
     let mut m = n;
     while 10 <= m {
-        m = m / 10;
+        m /= 10;
         l += 1;
     }
     l
@@ -51,12 +51,10 @@ fn write_whole(out: &mut [u8], at: usize, n: u64) -> usize
     ensures { Wrote at (whole n) out.old result out.new }
 {
     let l = whole_length(n);
-    let mut i = l;
     let mut m = n;
-    while 10 <= m {
-        i -= 1;
+    for i in (1..l).rev() {
         out[at + i] = (48 + m % 10) as u8;
-        m = m / 10;
+        m /= 10;
     }
     out[at] = (48 + m) as u8;
     at + l
@@ -106,28 +104,53 @@ fn write_name(out: &mut [u8], at: usize, a: u8, b: u8, c: u8) -> usize
     write_byte(out, q, c)
 }
 
-// Fields of f32, each after its tab.
-pub(crate) fn tab_singles(out: &mut [u8], at: usize, v: &[f32]) -> usize
-    requires { at + length (tabbed (map (float binary32) v.now)) ≤ length out.old }
-    ensures { Wrote at (tabbed (map (float binary32) v.now)) out.old result out.new }
+// What is written into a field.
+pub(crate) trait Cell: Copy {
+    // Its bytes.
+    ghost text: { Self → List ℕ };
+
+    // The field after its tab.
+    fn tab(self, out: &mut [u8], at: usize) -> usize
+        requires { at + length (9 ∷ text self) ≤ length out.old }
+        ensures { Wrote at (9 ∷ text self) out.old result out.new };
+}
+
+impl Cell for u64 {
+    ghost text = { whole };
+
+    fn tab(self, out: &mut [u8], at: usize) -> usize {
+        tab_whole(out, at, self)
+    }
+}
+
+impl Cell for f32 {
+    ghost text = { float binary32 };
+
+    fn tab(self, out: &mut [u8], at: usize) -> usize {
+        tab_single(out, at, self)
+    }
+}
+
+// Fields of one kind, each after its tab.
+pub(crate) fn tabs<T: Cell>(out: &mut [u8], at: usize, v: &[T]) -> usize
+    requires { at + length (tabbed (map T.text v.now)) ≤ length out.old }
+    ensures { Wrote at (tabbed (map T.text v.now)) out.old result out.new }
 {
     let mut p = at;
     for x in v {
-        p = tab_single(out, p, *x);
+        p = x.tab(out, p);
     }
     p
 }
 
-// Whole numbers, each after its tab.
-fn tab_wholes(out: &mut [u8], at: usize, v: &[u64]) -> usize
-    requires { at + length (tabbed (map whole v.now)) ≤ length out.old }
-    ensures { Wrote at (tabbed (map whole v.now)) out.old result out.new }
+// A line of a name and fields of one kind.
+fn list_line<T: Cell>(out: &mut [u8], at: usize, a: u8, b: u8, c: u8, v: &[T]) -> usize
+    requires { at + length ((a ∷ b ∷ c ∷ []) ++ (tabbed (map T.text v.now) ++ (10 ∷ []))) ≤ length out.old }
+    ensures { Wrote at ((a ∷ b ∷ c ∷ []) ++ (tabbed (map T.text v.now) ++ (10 ∷ []))) out.old result out.new }
 {
-    let mut p = at;
-    for n in v {
-        p = tab_whole(out, p, *n);
-    }
-    p
+    let p = write_name(out, at, a, b, c);
+    let q = tabs(out, p, v);
+    write_byte(out, q, 10)
 }
 
 // A line of f32: `wgt`, `inp`, `pnt`.
@@ -135,9 +158,7 @@ pub(crate) fn singles_line(out: &mut [u8], at: usize, a: u8, b: u8, c: u8, v: &[
     requires { at + length (bytes_of_line (singles (a ∷ b ∷ c ∷ []) v.now)) ≤ length out.old }
     ensures { Wrote at (bytes_of_line (singles (a ∷ b ∷ c ∷ []) v.now)) out.old result out.new }
 {
-    let p = write_name(out, at, a, b, c);
-    let q = tab_singles(out, p, v);
-    write_byte(out, q, 10)
+    list_line(out, at, a, b, c, v)
 }
 
 // The line of the last times.
@@ -145,9 +166,7 @@ pub(crate) fn tim_line(out: &mut [u8], at: usize, v: &[u64]) -> usize
     requires { at + length (bytes_of_line (tim_line v.now)) ≤ length out.old }
     ensures { Wrote at (bytes_of_line (tim_line v.now)) out.old result out.new }
 {
-    let p = write_name(out, at, 116, 105, 109);
-    let q = tab_wholes(out, p, v);
-    write_byte(out, q, 10)
+    list_line(out, at, 116, 105, 109, v)
 }
 
 // The line of the codes.
@@ -155,9 +174,7 @@ pub(crate) fn chn_line(out: &mut [u8], at: usize, v: &[u64]) -> usize
     requires { at + length (bytes_of_line (chn_line v.now)) ≤ length out.old }
     ensures { Wrote at (bytes_of_line (chn_line v.now)) out.old result out.new }
 {
-    let p = write_name(out, at, 99, 104, 110);
-    let q = tab_wholes(out, p, v);
-    write_byte(out, q, 10)
+    list_line(out, at, 99, 104, 110, v)
 }
 
 // The line of the counters.
@@ -191,7 +208,7 @@ fn buf_line(out: &mut [u8], at: usize, time: u64, v: &[f32]) -> usize
 {
     let p = write_name(out, at, 98, 117, 102);
     let q = tab_whole(out, p, time);
-    let s = tab_singles(out, q, v);
+    let s = tabs(out, q, v);
     write_byte(out, s, 10)
 }
 
@@ -215,7 +232,7 @@ pub(crate) fn set_line(
     let p = write_name(out, at, 115, 101, 116);
     let q = write_byte(out, p, 9);
     let s = write_byte(out, q, letter);
-    let t = tab_wholes(out, s, &wholes[..]);
+    let t = tabs(out, s, &wholes[..]);
     let u = tab_double(out, t, decay);
     let v = tab_single(out, u, weight_time);
     write_byte(out, v, 10)
@@ -227,10 +244,9 @@ pub(crate) fn dev_lines(out: &mut [u8], at: usize, v: &[f64]) -> usize
     ensures { Wrote at (bytes_of (dev_lines v.now)) out.old result out.new }
 {
     let mut p = at;
-    let mut i = 0;
-    while i + 2 < v.len() {
-        p = dev_line(out, p, v[i], v[i + 1], v[i + 2]);
-        i += 3;
+    for i in 0..v.len() / 3 {
+        let k = i * 3;
+        p = dev_line(out, p, v[k], v[k + 1], v[k + 2]);
     }
     p
 }
@@ -242,8 +258,10 @@ pub(crate) fn buf_lines(out: &mut [u8], at: usize, d: usize, v: &[f32], times: &
     ensures { Wrote at (bytes_of (buf_lines d v.now times.now)) out.old result out.new }
 {
     let mut p = at;
-    for i in 0..times.len() {
-        p = buf_line(out, p, times[i], &v[i * d..i * d + d]);
+    let mut k = 0;
+    for time in times {
+        p = buf_line(out, p, *time, &v[k..k + d]);
+        k += d;
     }
     p
 }

@@ -6,7 +6,6 @@ use lib.Seq.{length-take-le}
 use Rattle.trcf.specs.declared.head.Preprocessor.{Preprocessor}
 use Rattle.snapshot.specs.Steps.Judge.{settings_told, counts_read, codes_read}
 use Rattle.snapshot.specs.Steps.Runs.{Ran, ran, Head, headed_of, HeadFew, map_ran}
-use Rattle.snapshot.proofs.JudgeLaws.{got_one, lost_one}
 use Rattle.snapshot.proofs.HeadLaws.{head_set, head_wgt, head_cnt, head_all, head_is, set_few}
 use Rattle.snapshot.proofs.head.head_lines.Goals as goal
 

@@ -1,4 +1,6 @@
 -- `snapshot_save::line::optional_line` meets its contract. Assumes nothing.
+use Rattle.std.specs.Prelude.{is_some, unwrap_or}
+use Rattle.std.specs.Float.{nan}
 use Prim.Native.Nat.{◌≤◌}
 use native.Mathlib.Omega.{arith}
 use Rattle.trcf.specs.Settings.{whole_max}
@@ -11,7 +13,7 @@ use Rattle.snapshot_save.proofs.line.optional_line.Goals as goal
 pub returns-then-out-lt32 : goal.returns-then-out-lt32
 returns-then-out-lt32 c =
     let a = c.args in
-    within_short 32 (bytes_of_line (optional_line a.a a.n a.given a.x)) a.out.now (omega (arith, c.if-out-lt32.true))
+    within_short 32 (bytes_of_line (optional_line a.a a.n (is_some a.x) (unwrap_or a.x nan))) a.out.now (omega (arith, c.if-out-lt32.true))
 
 pub tab_whole-q-requires : goal.tab_whole-q-requires
 tab_whole-q-requires c =
@@ -31,7 +33,7 @@ write_byte-e-requires c =
     let c8 = c in
     let a = c.args in
     let h : a.n ≤ whole_max = omega arith in
-    omega (arith, whole_short a.n h, optional_short a.given a.x, c.tab_optional-r.ensures.place, c.tab_optional-r.ensures.kept, c.tab_whole-q.ensures.place, c.tab_whole-q.ensures.kept, c.write_byte-p.ensures.place, c.write_byte-p.ensures.kept, c.if-out-lt32.false)
+    omega (arith, whole_short a.n h, optional_short (is_some a.x) (unwrap_or a.x nan), c.tab_optional-r.ensures.place, c.tab_optional-r.ensures.kept, c.tab_whole-q.ensures.place, c.tab_whole-q.ensures.kept, c.write_byte-p.ensures.place, c.write_byte-p.ensures.kept, c.if-out-lt32.false)
 
 pub returns : goal.returns
 returns c =
@@ -39,6 +41,6 @@ returns c =
     let c16 = c in
     let a = c.args in
     let h : a.n ≤ whole_max = omega arith in
-    within_written 32 (bytes_of_line (optional_line a.a a.n a.given a.x)) a.out.now _ _ (omega (arith, c.if-out-lt32.false))
-    (optional_size a.a a.n a.given a.x h)
+    within_written 32 (bytes_of_line (optional_line a.a a.n (is_some a.x) (unwrap_or a.x nan))) a.out.now _ _ (omega (arith, c.if-out-lt32.false))
+    (optional_size a.a a.n (is_some a.x) (unwrap_or a.x nan) h)
     (wrote_then c.write_byte-p.ensures (wrote_then c.tab_whole-q.ensures (wrote_then c.tab_optional-r.ensures c.write_byte-e.ensures)))

@@ -21,19 +21,19 @@ returns-then-n-v c =
     line_left (bytes_of_line (singles (a.a ∷ a.b ∷ []) a.v.now)) a.out.now
     (omega (arith, pair_size a.a a.b a.v.now, few_fields (length a.out.now) (length a.v.now) c.if-n-lt3.false c.if-n-v.true))
 
-pub tab_singles-r-requires : goal.tab_singles-r-requires
-tab_singles-r-requires c =
+pub tabs-r-requires : goal.tabs-r-requires
+tabs-r-requires c =
     let a = c.args in
     omega (arith, floats_length a.v.now, enough_fields (length a.out.now) (length a.v.now) c.if-n-lt3.false c.if-n-v.false, c.write_byte-q.ensures.place, c.write_byte-q.ensures.kept, c.write_byte-p.ensures.place, c.write_byte-p.ensures.kept)
 
 pub write_byte-e-requires : goal.write_byte-e-requires
 write_byte-e-requires c =
     let a = c.args in
-    omega (arith, floats_length a.v.now, enough_fields (length a.out.now) (length a.v.now) c.if-n-lt3.false c.if-n-v.false, c.tab_singles-r.ensures.place, c.tab_singles-r.ensures.kept, c.write_byte-q.ensures.place, c.write_byte-q.ensures.kept, c.write_byte-p.ensures.place, c.write_byte-p.ensures.kept)
+    omega (arith, floats_length a.v.now, enough_fields (length a.out.now) (length a.v.now) c.if-n-lt3.false c.if-n-v.false, c.tabs-r.ensures.place, c.tabs-r.ensures.kept, c.write_byte-q.ensures.place, c.write_byte-q.ensures.kept, c.write_byte-p.ensures.place, c.write_byte-p.ensures.kept)
 
 pub returns : goal.returns
 returns c =
     let a = c.args in
     line_written (bytes_of_line (singles (a.a ∷ a.b ∷ []) a.v.now)) a.out.now _ _
     (omega (arith, pair_size a.a a.b a.v.now, enough_fields (length a.out.now) (length a.v.now) c.if-n-lt3.false c.if-n-v.false))
-    (wrote_is (singles_bytes (a.a ∷ a.b ∷ []) a.v.now) (wrote_then c.write_byte-p.ensures (wrote_then c.write_byte-q.ensures (wrote_then c.tab_singles-r.ensures c.write_byte-e.ensures))))
+    (wrote_is (singles_bytes (a.a ∷ a.b ∷ []) a.v.now) (wrote_then c.write_byte-p.ensures (wrote_then c.write_byte-q.ensures (wrote_then c.tabs-r.ensures c.write_byte-e.ensures))))

@@ -20,5 +20,5 @@ returns c =
       head_size (settings_of h) h.values_seen h.internal_timestamp h.transformer.count,
       length-take-le d w (omega arith),
       c.codes_length.ensures.value,
-      ap (λ (n : ℕ). length (whole n)) c.method_number.ensures,
+      ap (λ (n : ℕ). length (whole n)) c.from.ensures,
     )

@@ -7,8 +7,5 @@ use mathlib.Core.Path.{◌≡◌}
 use Prim.Native.Nat.{◌+◌, ◌-◌, ◌*◌, ◌≤◌}
 use Rattle.snapshot_save.proofs.save.wholes_length.Given as goal
 
-abbrev pub invariant-loop-i : goal.invariant-loop-i
-invariant-loop-i l = (l.i ≤ length l.v) × (length (tabbed (map whole l.v)) ≡ l.l + length (tabbed (map whole (drop l.i l.v)))) × (l.l ≤ 21 * l.i)
-
-abbrev pub decreases-loop-i : goal.decreases-loop-i
-decreases-loop-i l = length l.v - l.i
+abbrev pub invariant-loop-n : goal.invariant-loop-n
+invariant-loop-n l = (length (tabbed (map whole l.v)) ≡ l.l + length (tabbed (map whole (drop l.n-index l.v)))) × (l.l ≤ 21 * l.n-index)

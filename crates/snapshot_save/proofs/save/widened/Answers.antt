@@ -11,7 +11,7 @@ use Rattle.snapshot.proofs.CodeLaws.{over_all_lem}
 use Rattle.snapshot_save.proofs.save.widened.Goals as goal
 
 pub loop-i-init : goal.loop-i-init
-loop-i-init c = (omega arith, over_none _, refl)
+loop-i-init c = (over_none _, refl)
 
 pub loop-i-preserved : goal.loop-i-preserved
 loop-i-preserved c =
@@ -20,7 +20,7 @@ loop-i-preserved c =
     let n : length w ≡ 16 = c.well_formed.0.1.0.1 in
     let h : L.i < length w = omega arith in
     let k : length w ≤ 16 = omega arith in
-    (omega arith, rw L.invariant.1 (over_copy (replicate {A = ℕ} 16 0) w L.i 0 h k), simp length-set (omega arith))
+    (rw L.invariant.0 (over_copy (replicate {A = ℕ} 16 0) w L.i 0 h k), simp length-set (omega arith))
 
 pub returns : goal.returns
 returns c =
@@ -28,5 +28,5 @@ returns c =
     let w = c.args.codes in
     let n : length w ≡ 16 = c.well_formed.0.1.0.1 in
     let e : L.i ≡ length w = omega arith in
-    let p = rw e at L.invariant.1 in
+    let p = rw e at L.invariant.0 in
     p ∙ ap (over (replicate {A = ℕ} 16 0)) (take-length w) ∙ over_all_lem w n

@@ -6,7 +6,4 @@ use Rattle.refusal.specs.Lent.{over}
 use Rattle.snapshot_save.proofs.save.widened.Given as goal
 
 abbrev pub invariant-loop-i : goal.invariant-loop-i
-invariant-loop-i l = (l.i ≤ 16) × (l.a ≡ over (replicate {A = ℕ} 16 0) (take l.i l.codes)) × (length l.a ≡ 16)
-
-abbrev pub decreases-loop-i : goal.decreases-loop-i
-decreases-loop-i l = 16 - l.i
+invariant-loop-i l = (l.a ≡ over (replicate {A = ℕ} 16 0) (take l.i l.codes)) × (length l.a ≡ 16)

@@ -15,7 +15,7 @@ set_line-p-requires c =
     let w = h.transformer.weights in
     let d = h.transformer.input_length in
     let z : length w ≡ 16 = c.well_formed.1.0.1.1.0.1.1.1.1.1.0.1.0.1 in
-    let e = set_lined (settings_of h) c.mode_letter-letter.result c.method_number-method.result c.mode_letter-letter.ensures c.method_number-method.ensures in
+    let e = set_lined (settings_of h) c.from-letter.result c.from-method.result c.from-letter.ensures c.from-method.ensures in
     omega (arith, head_split (settings_of h) h.values_seen h.internal_timestamp h.transformer.count, ap length e, c.requires.count_in_bounds)
 
 pub slice_bounds-weights-end : goal.slice_bounds-weights-end
@@ -40,7 +40,7 @@ singles_line-q-requires c =
     let w = h.transformer.weights in
     let d = h.transformer.input_length in
     let z : length w ≡ 16 = c.well_formed.1.0.1.1.0.1.1.1.1.1.0.1.0.1 in
-    let e = set_lined (settings_of h) c.mode_letter-letter.result c.method_number-method.result c.mode_letter-letter.ensures c.method_number-method.ensures in
+    let e = set_lined (settings_of h) c.from-letter.result c.from-method.result c.from-letter.ensures c.from-method.ensures in
     omega (arith, head_split (settings_of h) h.values_seen h.internal_timestamp h.transformer.count, ap length e, c.requires.count_in_bounds, c.set_line-p.ensures.place, c.set_line-p.ensures.kept)
 
 pub write_codes-r-requires : goal.write_codes-r-requires
@@ -49,7 +49,7 @@ write_codes-r-requires c =
     let w = h.transformer.weights in
     let d = h.transformer.input_length in
     let z : length w ≡ 16 = c.well_formed.1.0.1.1.0.1.1.1.1.1.0.1.0.1 in
-    let e = set_lined (settings_of h) c.mode_letter-letter.result c.method_number-method.result c.mode_letter-letter.ensures c.method_number-method.ensures in
+    let e = set_lined (settings_of h) c.from-letter.result c.from-method.result c.from-letter.ensures c.from-method.ensures in
     record { input_length_bound = c.requires.input_length_bound; head_in_bounds = omega (arith, head_split (settings_of h) h.values_seen h.internal_timestamp h.transformer.count, ap length e, c.requires.count_in_bounds, c.set_line-p.ensures.place, c.set_line-p.ensures.kept, c.singles_line-q.ensures.place, c.singles_line-q.ensures.kept) }
 
 pub cnt_line-requires : goal.cnt_line-requires
@@ -58,7 +58,7 @@ cnt_line-requires c =
     let w = h.transformer.weights in
     let d = h.transformer.input_length in
     let z : length w ≡ 16 = c.well_formed.1.0.1.1.0.1.1.1.1.1.0.1.0.1 in
-    let e = set_lined (settings_of h) c.mode_letter-letter.result c.method_number-method.result c.mode_letter-letter.ensures c.method_number-method.ensures in
+    let e = set_lined (settings_of h) c.from-letter.result c.from-method.result c.from-letter.ensures c.from-method.ensures in
     omega (arith, head_split (settings_of h) h.values_seen h.internal_timestamp h.transformer.count, ap length e, c.requires.count_in_bounds, c.set_line-p.ensures.place, c.set_line-p.ensures.kept, c.singles_line-q.ensures.place, c.singles_line-q.ensures.kept, c.write_codes-r.ensures.place, c.write_codes-r.ensures.kept)
 
 pub returns : goal.returns
@@ -68,5 +68,5 @@ returns c =
     let w = h.transformer.weights in
     let d = h.transformer.input_length in
     let z : length w ≡ 16 = c.well_formed.1.0.1.1.0.1.1.1.1.1.0.1.0.1 in
-    let e = set_lined (settings_of h) c.mode_letter-letter.result c.method_number-method.result c.mode_letter-letter.ensures c.method_number-method.ensures in
+    let e = set_lined (settings_of h) c.from-letter.result c.from-method.result c.from-letter.ensures c.from-method.ensures in
     wrote_then (wrote_is e c.set_line-p.ensures) (wrote_then c.singles_line-q.ensures (wrote_then c.write_codes-r.ensures c.cnt_line.ensures))

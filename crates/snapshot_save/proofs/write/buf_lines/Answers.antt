@@ -10,55 +10,54 @@ use native.Mathlib.Omega.{arith}
 use Prim.Native.Nat.{ℕ, ◌+◌, ◌-◌, ◌<◌}
 use Rattle.snapshot_save.proofs.write.buf_lines.Goals as goal
 
-pub loop-i-init : goal.loop-i-init
-loop-i-init c = (omega arith, omega arith, left_all)
+pub loop-time-init : goal.loop-time-init
+loop-time-init c = (omega arith, left_all)
 
 pub overflow_add-k : goal.overflow_add-k
 overflow_add-k c =
-    let L = c.loop-i in
+    let L = c.loop-time in
     let a = c.args in
-    let h : L.i < length a.times.now = c.loop-i-test.true in
-    omega (arith, next_room a.d L.k L.i (length a.v.now) a.times.now h L.invariant.1)
+    let h : L.time-index < length a.times.now = c.loop-time-test.true in
+    omega (arith, next_room a.d L.k L.time-index (length a.v.now) a.times.now h L.invariant.0)
 
 pub slice_bounds-buf_line-end : goal.slice_bounds-buf_line-end
 slice_bounds-buf_line-end c =
-    let L = c.loop-i in
+    let L = c.loop-time in
     let a = c.args in
-    let h : L.i < length a.times.now = c.loop-i-test.true in
-    omega (arith, next_room a.d L.k L.i (length a.v.now) a.times.now h L.invariant.1)
+    let h : L.time-index < length a.times.now = c.loop-time-test.true in
+    omega (arith, next_room a.d L.k L.time-index (length a.v.now) a.times.now h L.invariant.0)
 
 pub buf_line-p-requires : goal.buf_line-p-requires
 buf_line-p-requires c =
-    let L = c.loop-i in
+    let L = c.loop-time in
     let a = c.args in
-    let h : L.i < length a.times.now = c.loop-i-test.true in
-    let x = buf_line (get_or a.times.now L.i 0) (take a.d (drop L.k a.v.now)) in
-    let y = buf_lines a.d (drop (L.k + a.d) a.v.now) (drop (L.i + 1) a.times.now) in
+    let h : L.time-index < length a.times.now = c.loop-time-test.true in
+    let x = buf_line (get_or a.times.now L.time-index 0) (take a.d (drop L.k a.v.now)) in
+    let y = buf_lines a.d (drop (L.k + a.d) a.v.now) (drop (L.time-index + 1) a.times.now) in
     let e : L.k + a.d - L.k ≡ a.d = omega arith in
-    rw e (omega (arith, ap (λ (l : List Line). length (bytes_of l)) (bufs_step a.d L.k L.i a.v.now a.times.now h), length-append (bytes_of_line x) (bytes_of y)))
+    rw e (omega (arith, ap (λ (l : List Line). length (bytes_of l)) (bufs_step a.d L.k L.time-index a.v.now a.times.now h), length-append (bytes_of_line x) (bytes_of y)))
 
-pub overflow_add-k-in-loop-i : goal.overflow_add-k-in-loop-i
-overflow_add-k-in-loop-i c =
-    let L = c.loop-i in
+pub overflow_add-k-in-loop-time : goal.overflow_add-k-in-loop-time
+overflow_add-k-in-loop-time c =
+    let L = c.loop-time in
     let a = c.args in
-    let h : L.i < length a.times.now = c.loop-i-test.true in
-    omega (arith, next_room a.d L.k L.i (length a.v.now) a.times.now h L.invariant.1)
+    let h : L.time-index < length a.times.now = c.loop-time-test.true in
+    omega (arith, next_room a.d L.k L.time-index (length a.v.now) a.times.now h L.invariant.0)
 
-pub loop-i-preserved : goal.loop-i-preserved
-loop-i-preserved c =
-    let L = c.loop-i in
+pub loop-time-preserved : goal.loop-time-preserved
+loop-time-preserved c =
+    let L = c.loop-time in
     let a = c.args in
-    let h : L.i < length a.times.now = c.loop-i-test.true in
+    let h : L.time-index < length a.times.now = c.loop-time-test.true in
     let e : L.k + a.d - L.k ≡ a.d = omega arith in (
-      omega arith,
-      next_room a.d L.k L.i (length a.v.now) a.times.now h L.invariant.1,
-      left_step (bytes_of_line (buf_line (get_or a.times.now L.i 0) (take (L.k + a.d - L.k) (drop L.k a.v.now))))
-          (bytes_of (buf_lines a.d (drop (L.k + a.d) a.v.now) (drop (L.i + 1) a.times.now))) L.invariant.2
-          (rw e (ap bytes_of (bufs_step a.d L.k L.i a.v.now a.times.now h))) c.buf_line-p.ensures,
+      next_room a.d L.k L.time-index (length a.v.now) a.times.now h L.invariant.0,
+      left_step (bytes_of_line (buf_line (get_or a.times.now L.time-index 0) (take (L.k + a.d - L.k) (drop L.k a.v.now))))
+          (bytes_of (buf_lines a.d (drop (L.k + a.d) a.v.now) (drop (L.time-index + 1) a.times.now))) L.invariant.1
+          (rw e (ap bytes_of (bufs_step a.d L.k L.time-index a.v.now a.times.now h))) c.buf_line-p.ensures,
     )
 
 pub returns : goal.returns
 returns c =
-    let L = c.loop-i in
+    let L = c.loop-time in
     let a = c.args in
-    left_done L.invariant.2 (ap (λ (l : List ℕ). bytes_of (buf_lines a.d (drop L.k a.v.now) l)) (drop_of_length-le a.times.now c.loop-i-test.false))
+    left_done L.invariant.1 (ap (λ (l : List ℕ). bytes_of (buf_lines a.d (drop L.k a.v.now) l)) (drop_of_length-le a.times.now c.loop-time-test.false))

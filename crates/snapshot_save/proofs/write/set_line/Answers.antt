@@ -5,8 +5,8 @@ use lib.Ieee.{binary32, binary64}
 use native.Mathlib.Omega.{arith}
 use Rattle.snapshot_save.proofs.write.set_line.Goals as goal
 
-pub tab_wholes-t-requires : goal.tab_wholes-t-requires
-tab_wholes-t-requires c =
+pub tabs-t-requires : goal.tabs-t-requires
+tabs-t-requires c =
     let a = c.args in
     omega (arith, set_size a.letter a.method a.d a.k a.start a.stop a.decay a.weight_time, five_size a.method a.d a.k a.start a.stop, float_length binary64 a.decay, float_length binary32 a.weight_time)
 
@@ -28,4 +28,4 @@ write_byte-requires c =
 pub returns : goal.returns
 returns c =
     let a = c.args in
-    wrote_is (set_bytes_lem a.letter a.method a.d a.k a.start a.stop a.decay a.weight_time) (wrote_then c.write_name-p.ensures (wrote_then c.write_byte-q.ensures (wrote_then c.write_byte-s.ensures (wrote_then c.tab_wholes-t.ensures (wrote_then c.tab_double-u.ensures (wrote_then c.tab_single-v.ensures c.write_byte.ensures))))))
+    wrote_is (set_bytes_lem a.letter a.method a.d a.k a.start a.stop a.decay a.weight_time) (wrote_then c.write_name-p.ensures (wrote_then c.write_byte-q.ensures (wrote_then c.write_byte-s.ensures (wrote_then c.tabs-t.ensures (wrote_then c.tab_double-u.ensures (wrote_then c.tab_single-v.ensures c.write_byte.ensures))))))

@@ -1,17 +1,13 @@
 -- `snapshot_save::write::tim_line` meets its contract. Assumes nothing.
-use Rattle.snapshot.proofs.LineBytes.{tim_bytes, tim_size}
-use Rattle.snapshot.proofs.WriteLaws.{wrote_then, wrote_is}
+use mathlib.Core.Path.{ap}
+use lib.ListN.{length}
 use native.Mathlib.Omega.{arith}
+use Rattle.snapshot.proofs.LineBytes.{tim_bytes}
+use Rattle.snapshot.proofs.WriteLaws.{wrote_is}
 use Rattle.snapshot_save.proofs.write.tim_line.Goals as goal
 
-pub write_name-p-requires : goal.write_name-p-requires
-write_name-p-requires c = let a = c.args in omega (arith, tim_size a.v.now)
-
-pub tab_wholes-q-requires : goal.tab_wholes-q-requires
-tab_wholes-q-requires c = let a = c.args in omega (arith, tim_size a.v.now)
-
-pub write_byte-requires : goal.write_byte-requires
-write_byte-requires c = let a = c.args in omega (arith, tim_size a.v.now)
+pub list_line-requires : goal.list_line-requires
+list_line-requires c = let a = c.args in omega (arith, ap length (tim_bytes a.v.now))
 
 pub returns : goal.returns
-returns c = let a = c.args in wrote_is (tim_bytes a.v.now) (wrote_then c.write_name-p.ensures (wrote_then c.tab_wholes-q.ensures c.write_byte.ensures))
+returns c = let a = c.args in wrote_is (tim_bytes a.v.now) c.list_line.ensures

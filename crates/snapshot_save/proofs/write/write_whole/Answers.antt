@@ -1,54 +1,42 @@
 -- `snapshot_save::write::write_whole` meets its contract. Assumes nothing.
-use Rattle.snapshot.proofs.WriteLaws.{whole_back, whole_less, whole_more_length, whole_pos, stored_one}
+use Rattle.snapshot.proofs.WriteLaws.{whole_back, whole_less, whole_more_length, whole_many, whole_few, whole_pos, stored_one}
 use Rattle.snapshot.specs.Steps.Write.{stored}
 use Rattle.snapshot.specs.Text.{whole}
 use lib.ListN.{length-set, set}
 use mathlib.Core.Path.{refl, ap, sym, ◌∙◌}
 use native.Mathlib.Omega.{arith}
-use Prim.Native.Nat.{ℕ, ◌+◌, ◌≤◌, ◌-◌, ◌%◌, ◌/◌}
+use Prim.Native.Nat.{ℕ, ◌+◌, ◌≤◌, ◌<◌, ◌-◌, ◌%◌, ◌/◌}
 use Rattle.snapshot_save.proofs.write.write_whole.Goals as goal
 
-pub loop-m-init : goal.loop-m-init
-loop-m-init c = (c.whole_length-l.ensures.value, omega arith, refl, refl)
+pub loop-i-init : goal.loop-i-init
+loop-i-init c = (c.whole_length-l.ensures.value, refl, refl)
 
-pub overflow_sub-i : goal.overflow_sub-i
-overflow_sub-i c = omega (arith, whole_pos c.loop-m.m)
-
-pub overflow_add-out-in-loop-m : goal.overflow_add-out-in-loop-m
-overflow_add-out-in-loop-m c = omega (arith, whole_pos c.loop-m.m)
-
-pub bounds-out-at : goal.bounds-out-at
-bounds-out-at c = omega (arith, whole_pos c.loop-m.m)
-
-pub loop-m-smaller : goal.loop-m-smaller
-loop-m-smaller c = omega arith
-
-pub loop-m-preserved : goal.loop-m-preserved
-loop-m-preserved c =
-    let L = c.loop-m in
+pub loop-i-preserved : goal.loop-i-preserved
+loop-i-preserved c =
+    let L = c.loop-i in
     let a = c.args in
-    let h : 10 ≤ L.m = c.loop-m-test.true in (
+    let h : 10 ≤ L.m = whole_many L.m (omega (arith, L.invariant.0)) in (
       omega (arith, whole_more_length L.m h),
-      omega arith,
-      L.invariant.2 ∙ whole_back L.m L.out a.at h ∙ ap (λ (k : ℕ). stored (set L.out (a.at + (k - 1)) (48 + L.m % 10)) a.at (whole (L.m / 10))) (sym L.invariant.0),
+      L.invariant.1 ∙ whole_back L.m L.out a.at h ∙ ap (λ (k : ℕ). stored (set L.out (a.at + (k - 1)) (48 + L.m % 10)) a.at (whole (L.m / 10))) (sym L.invariant.0),
       simp length-set (omega arith),
     )
 
+pub overflow_add-out-2 : goal.overflow_add-out-2
+overflow_add-out-2 c = omega (arith, whole_few c.loop-i.m (omega (arith, c.loop-i.invariant.0)))
+
+pub overflow_cast-out-2 : goal.overflow_cast-out-2
+overflow_cast-out-2 c = omega (arith, whole_few c.loop-i.m (omega (arith, c.loop-i.invariant.0)))
+
 pub bounds-out-at-2 : goal.bounds-out-at-2
-bounds-out-at-2 c = omega (arith, whole_pos c.loop-m.m)
-
-pub overflow_add-result : goal.overflow_add-result
-overflow_add-result c = omega (arith, c.whole_length-l.ensures.value)
-
-pub shape_of-out : goal.shape_of-out
-shape_of-out c = simp length-set (omega arith)
+bounds-out-at-2 c = omega (arith, whole_pos c.args.n)
 
 pub returns : goal.returns
 returns c =
-    let L = c.loop-m in
+    let L = c.loop-i in
     let a = c.args in
+    let h : L.m < 10 = whole_few L.m (omega (arith, L.invariant.0)) in
     record {
       place = ap (λ (k : ℕ). a.at + k) c.whole_length-l.ensures.value;
-      bytes = sym (L.invariant.2 ∙ ap (stored L.out a.at) (whole_less L.m (omega (arith, c.loop-m-test.false))) ∙ stored_one L.out a.at (48 + L.m));
+      bytes = sym (L.invariant.1 ∙ ap (stored L.out a.at) (whole_less L.m h) ∙ stored_one L.out a.at (48 + L.m));
       kept = simp length-set (omega arith);
     }
