@@ -1,4 +1,5 @@
 // A forecast of transformed readings turned back into readings and times (the source's Preprocessor::invert_extrapolation).
+// Kept: (a) the six lent lists are parameters: the C interface lends each call its own mix of shared and mutable lists, and a struct would need a type for each mix.
 ghost use Rattle.std.specs.Prelude.{◌≡◌, true, false, ◌&&◌, [], ◌∷◌, ◌*◌, ◌≤◌, ◌<◌, pos, length, OnOk};
 ghost use Rattle.std.specs.Float.{binary64};
 ghost use Rattle.std.specs.Float.Ieee.{of_int};
