@@ -9,6 +9,7 @@ ghost use Rattle.trcf.specs.Extrapolation.{extrapolation, forecast};
 ghost use Rattle.access.specs.Entries.{write_by, extrapolation_by, status_by};
 
 use crate::rights::{Right, demand};
+use ranges::rangevector::RangeVector;
 use refusal::Refusal;
 use trcf::head::{Preprocessor, Status};
 
@@ -151,15 +152,21 @@ pub fn invert_extrapolation(
         statistics,
         last_shingled_input,
         previous_timestamps,
-        values,
-        upper,
-        lower,
-        values_out,
-        upper_out,
-        lower_out,
-        times_out,
-        times_upper_out,
-        times_lower_out,
+        &mut RangeVector {
+            values,
+            upper,
+            lower,
+        },
+        &mut RangeVector {
+            values: values_out,
+            upper: upper_out,
+            lower: lower_out,
+        },
+        &mut RangeVector {
+            values: times_out,
+            upper: times_upper_out,
+            lower: times_lower_out,
+        },
     )
 }
 

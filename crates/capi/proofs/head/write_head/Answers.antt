@@ -10,5 +10,5 @@ returns c =
     let h = a.head in
     let v = c.write_codes in
     let y : length h.transformer.weights ≡ 16 = c.well_formed.1.0.1.1.0.1.1.1.1.1.0.1.0.1 in
-    let z : length h.codes ≡ 16 = c.well_formed.1.0.1.1.1.1.1.1.1.1.1.1.1.1.0.1.0.1 in
+    let z : length h.codes ≡ 16 = c.well_formed.1.0.1.1.1.1.1.1.1.1.1.1.1.0.1.0.1 in
     codes_stored a.words.now _ h _ y c.write_front.ensures v.ensures (ap length v.ensures ∙ z)

@@ -14,20 +14,20 @@ returns-then-not-may c =
     (lent a.statistics.now a.last_shingled_input.now a.last_shingled_point.now a.previous_timestamps.now a.initial_values.now a.initial_timestamps.now)
     a.line.now c.may.ensures (not-true c.may.result (cc)))
 
-pub returns-in-Ok-few : goal.returns-in-Ok-few
-returns-in-Ok-few c =
+pub returns-in-Ok : goal.returns-in-Ok
+returns-in-Ok c =
     let a = c.args in
     restore_few a.table.now a.role a.text.now a.codes.now a.head.now
     (lent a.statistics.now a.last_shingled_input.now a.last_shingled_point.now a.previous_timestamps.now a.initial_values.now a.initial_timestamps.now)
-    a.line.now c.may.ensures (not-false c.may.result (cc)) c.if-head-lt-HEAD_WORDS.true c.in-Ok-few.ensures refl
+    a.line.now c.may.ensures (not-false c.may.result (cc)) c.if-head-lt-HEAD_WORDS.true c.in-Ok.ensures refl
 
-pub returns-in-Err-few : goal.returns-in-Err-few
-returns-in-Err-few c =
+pub returns-in-Err : goal.returns-in-Err
+returns-in-Err c =
     let a = c.args in
     let t = c.tell_refused.ensures in
     rw t.row_value (restore_few a.table.now a.role a.text.now a.codes.now a.head.now
     (lent a.statistics.now a.last_shingled_input.now a.last_shingled_point.now a.previous_timestamps.now a.initial_values.now a.initial_timestamps.now)
-    a.line.now c.may.ensures (not-false c.may.result (cc)) c.if-head-lt-HEAD_WORDS.true c.in-Err-few.ensures t.place_after)
+    a.line.now c.may.ensures (not-false c.may.result (cc)) c.if-head-lt-HEAD_WORDS.true c.in-Err.ensures t.place_after)
 
 pub returns-in-Ok-taken : goal.returns-in-Ok-taken
 returns-in-Ok-taken c =
