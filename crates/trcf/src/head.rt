@@ -92,6 +92,7 @@ pub struct Status {
 pub const SEEN_LIMIT: usize = 9_223_372_036_854_775_807;
 
 // What a refused build hands back, and whatever else has no head to hand back: every call refuses it.
+// Kept: (a) the C interface writes a head on a refusal too, and this is the one.
 #[tactic(auto, unfolding(refusal::specs::Lent::over))]
 pub fn no_head() -> Preprocessor
     ensures { result ≡ no_head }
@@ -186,6 +187,7 @@ pub fn block_of(m: ForestMode, d: usize) -> usize
 }
 
 // The numbers in a point; 0 for a head that no build made.
+// Kept: (a) the C getter of this number answers 0 for such a head.
 #[tactic(auto, using(crate::proofs::LengthLaws::block_known), unfolding(crate::specs::Settings::dimension, crate::specs::Settings::block))]
 pub fn get_dimension(head: Preprocessor) -> usize
     ensures { result ≡ dimension_of head }

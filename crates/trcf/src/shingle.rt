@@ -7,6 +7,7 @@ ghost use Rattle.trcf.specs.Lengths.{where_fits, within};
 use crate::lengths::{has_room, is_within};
 
 // The last of the first n times, 0 where there is none.
+// Kept: (d) the definitions count the newest time from 0 where there is none, and no caller tells the two apart.
 pub fn last_of(l: &[u64], n: usize) -> u64
     ensures { result ≡ last_or 0 (take n l.now) }
 {

@@ -66,6 +66,7 @@ impl TryFrom<u64> for TransformMethod {
 }
 
 // For whoever has refused a number above 5 beforehand: it gives the last.
+// Kept: (d) its callers have refused the number by a row of their own, so a Result here would be an arm that never comes.
 pub fn method_of_number(n: u64) -> TransformMethod
     ensures { result ≡ method_of_number n }
 {
@@ -86,6 +87,7 @@ impl From<ForestMode> for u8 {
 }
 
 // What is no letter names the mode that row 1 refuses: the letters are S, T and G.
+// Kept: (d) row 1 is the refusal, so a Result here would refuse the same text a second way.
 pub fn mode_of_letter(letter: u64) -> ForestMode
     ensures { result ≡ mode_of_letter letter }
 {

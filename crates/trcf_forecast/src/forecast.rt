@@ -3,7 +3,7 @@ ghost use Rattle.std.specs.Prelude.{◌≡◌, true, false, ◌&&◌, [], ◌∷
 ghost use Rattle.std.specs.Float.{binary64};
 ghost use Rattle.std.specs.Float.Ieee.{of_int};
 ghost use Rattle.refusal.specs.Refusal.{first_of, row_of};
-ghost use Rattle.ranges.specs.RangeVector.{range, ranges, unblocked, cascade_to, over_all, shorter_at};
+ghost use Rattle.ranges.specs.RangeVector.{ranges, held, AreSameLoans, unblocked, cascade_to, over_all, shorter_at};
 ghost use Rattle.trcf.specs.Lists.{last_n};
 ghost use Rattle.trcf.specs.Types.{augments, differences};
 ghost use Rattle.trcf.specs.Transformer.{inverted_forecast};
@@ -13,9 +13,9 @@ ghost use Rattle.trcf.specs.View.{settings_of, holding, counters_unfit, Bounded}
 ghost use Rattle.trcf.specs.Calls.{sizes, forecast_unfit, forecast_output_short};
 ghost use Rattle.trcf.specs.Extrapolation.{extrapolation, forecast, viewed, extrapolation_of, read_short, row_at};
 ghost use Rattle.trcf.specs.Steps.Inverting.{Unbroken, Longer, Long, Readable, Invertible, time_factor, time_by, times_by};
-ghost use Rattle.trcf_forecast.specs.Lengths.{sizes_in};
+ghost use Rattle.trcf_forecast.specs.Lengths.{sizes_in, sizes_of};
 
-use ranges::rangevector::{Range, cascaded_add};
+use ranges::rangevector::{Range, RangeVector};
 use refusal::Refusal;
 use trcf::head::{Preprocessor, get_dimension, head_row};
 use trcf::shingle::copy_in;
@@ -165,24 +165,18 @@ fn extrapolation_row(
 }
 
 // The forecast in place, over the newest input.
-fn invert_in_place(
-    head: Preprocessor,
-    s: &[f64],
-    inputs: &[f32],
-    values: &mut [f32],
-    upper: &mut [f32],
-    lower: &mut [f32],
-)
+fn invert_in_place(head: Preprocessor, s: &[f64], inputs: &[f32], range: &mut RangeVector<f32>)
     requires bounded { Bounded (settings_of head) }
     requires head_in_bounds { (statistics_length (settings_of head) ≤ length s.now) × (length inputs.now ≡ head.transformer.input_length * head.shingle_size) }
-    requires upper_len { (length upper.old ≡ length values.old) × (length lower.old ≡ length values.old) }
-    requires values_value { (differences head.transformer.transform_method && unblocked head.transformer.input_length (length values.old)) ≡ false }
-    ensures { ranges values.new upper.new lower.new
-        ≡ inverted_forecast (transformer (settings_of head) 0 s.now) (last_n head.transformer.input_length inputs.now) (ranges values.old upper.old lower.old) }
+    requires upper_len { (length range.old.upper.now ≡ length range.old.values.now) × (length range.old.lower.now ≡ length range.old.values.now) }
+    requires values_value { (differences head.transformer.transform_method && unblocked head.transformer.input_length (length range.old.values.now)) ≡ false }
+    ensures after { held range.new
+        ≡ inverted_forecast (transformer (settings_of head) 0 s.now) (last_n head.transformer.input_length inputs.now) (held range.old) }
+    ensures loans { AreSameLoans range.old range.new }
 {
     let t = head.transformer;
     let newest = &inputs[inputs.len() - t.input_length..];
-    invert_forecast_in_place(t, s, newest, values, upper, lower);
+    invert_forecast_in_place(t, s, newest, range);
 }
 
 // Of each of h blocks of a numbers the first m.
@@ -198,14 +192,13 @@ fn copy_fronts(src: &[f32], a: usize, m: usize, h: usize, dst: &mut [f32])
     }
 }
 
+// The numbers of each block of the range, turned back in the lists lent for them.
 fn invert_numbers(
     head: Preprocessor,
     s: &[f64],
     inputs: &[f32],
     h: usize,
-    values: &[f32],
-    upper: &[f32],
-    lower: &[f32],
+    range: &RangeVector<f32>,
     values_out: &mut [f32],
     upper_out: &mut [f32],
     lower_out: &mut [f32],
@@ -213,22 +206,28 @@ fn invert_numbers(
     requires bounded { Bounded (settings_of head) }
     requires head_in_bounds { (statistics_length (settings_of head) ≤ length s.now) × (length inputs.now ≡ head.transformer.input_length * head.shingle_size) }
     requires h_nonzero { 0 < h }
-    requires head_in_bounds_2 { (h * dimension (settings_of head) ≤ length values.now) × (h * dimension (settings_of head) ≤ length upper.now) × (h * dimension (settings_of head) ≤ length lower.now) }
+    requires head_in_bounds_2 { (h * dimension (settings_of head) ≤ length range.now.values.now)
+        × (h * dimension (settings_of head) ≤ length range.now.upper.now) × (h * dimension (settings_of head) ≤ length range.now.lower.now) }
     requires values_out_len { (length values_out.old ≡ h * (head.transformer.input_length * head.shingle_size))
         × (length upper_out.old ≡ h * (head.transformer.input_length * head.shingle_size))
         × (length lower_out.old ≡ h * (head.transformer.input_length * head.shingle_size)) }
     ensures { ranges values_out.new upper_out.new lower_out.new
         ≡ inverted_forecast (transformer (settings_of head) 0 s.now) (last_n head.transformer.input_length inputs.now)
-        (ranges (fronts (dimension (settings_of head)) (head.transformer.input_length * head.shingle_size) h values.now)
-        (fronts (dimension (settings_of head)) (head.transformer.input_length * head.shingle_size) h upper.now)
-        (fronts (dimension (settings_of head)) (head.transformer.input_length * head.shingle_size) h lower.now)) }
+        (ranges (fronts (dimension (settings_of head)) (head.transformer.input_length * head.shingle_size) h range.now.values.now)
+        (fronts (dimension (settings_of head)) (head.transformer.input_length * head.shingle_size) h range.now.upper.now)
+        (fronts (dimension (settings_of head)) (head.transformer.input_length * head.shingle_size) h range.now.lower.now)) }
 {
     let m = inputs.len();
     let a = get_dimension(head);
-    copy_fronts(values, a, m, h, values_out);
-    copy_fronts(upper, a, m, h, upper_out);
-    copy_fronts(lower, a, m, h, lower_out);
-    invert_in_place(head, s, inputs, values_out, upper_out, lower_out);
+    copy_fronts(range.values, a, m, h, values_out);
+    copy_fronts(range.upper, a, m, h, upper_out);
+    copy_fronts(range.lower, a, m, h, lower_out);
+    let mut out = RangeVector {
+        values: values_out,
+        upper: upper_out,
+        lower: lower_out,
+    };
+    invert_in_place(head, s, inputs, &mut out);
 }
 
 // 1 / weight_time, 0 for weight_time 0.
@@ -254,13 +253,13 @@ struct Clock {
 
 impl Clock {
     // A time with its bounds; the last step puts them in order: of a gap the scale, of another time the shift.
-    fn invert(self, value: f32, upper: f32, lower: f32) -> Range<f64>
-        ensures { result ≡ time_by self.gap self.factor self.scale self.drift (range value upper lower) }
+    fn invert(self, x: Range<f32>) -> Range<f64>
+        ensures { result ≡ time_by self.gap self.factor self.scale self.drift x }
     {
         let r = Range {
-            value: numeric::to_f64(value) * self.factor,
-            upper: numeric::to_f64(upper) * self.factor,
-            lower: numeric::to_f64(lower) * self.factor,
+            value: numeric::to_f64(x.value) * self.factor,
+            upper: numeric::to_f64(x.upper) * self.factor,
+            lower: numeric::to_f64(x.lower) * self.factor,
         };
         if self.gap {
             return r.scale(self.scale);
@@ -279,35 +278,29 @@ fn write_times(
     clock: Clock,
     a: usize,
     m: usize,
-    values: &[f32],
-    upper: &[f32],
-    lower: &[f32],
-    values_out: &mut [f64],
-    upper_out: &mut [f64],
-    lower_out: &mut [f64],
+    range: &RangeVector<f32>,
+    out: &mut RangeVector<f64>,
 )
     requires m_lt_a { m < a }
-    requires upper_out_len { (length upper_out.old ≡ length values_out.old) × (length lower_out.old ≡ length values_out.old) }
-    requires a_in_bounds { (length values_out.old * a ≤ length values.now) × (length values_out.old * a ≤ length upper.now) × (length values_out.old * a ≤ length lower.now) }
-    ensures { ranges values_out.new upper_out.new lower_out.new
-        ≡ times_by clock.gap clock.factor clock.scale clock.drift a m (ranges values.now upper.now lower.now) (length values_out.old) }
+    requires upper_out_len { (length out.old.upper.now ≡ length out.old.values.now) × (length out.old.lower.now ≡ length out.old.values.now) }
+    requires a_in_bounds { (length out.old.values.now * a ≤ length range.now.values.now)
+        × (length out.old.values.now * a ≤ length range.now.upper.now) × (length out.old.values.now * a ≤ length range.now.lower.now) }
+    ensures after { held out.new
+        ≡ times_by clock.gap clock.factor clock.scale clock.drift a m (held range.now) (length out.old.values.now) }
+    ensures loans { AreSameLoans out.old out.new }
 {
-    for i in 0..values_out.len() {
+    for i in 0..out.values.len() {
         let at = i * a + m;
-        let r = clock.invert(values[at], upper[at], lower[at]);
-        values_out[i] = r.value;
-        upper_out[i] = r.upper;
-        lower_out[i] = r.lower;
+        out.put(i, clock.invert(range.at(at)));
     }
 }
 
+// The time of each block of the range, turned back in the lists lent for it.
 fn invert_times(
     head: Preprocessor,
     s: &[f64],
     last: u64,
-    values: &[f32],
-    upper: &[f32],
-    lower: &[f32],
+    range: &RangeVector<f32>,
     values_out: &mut [f64],
     upper_out: &mut [f64],
     lower_out: &mut [f64],
@@ -317,15 +310,15 @@ fn invert_times(
     requires forest_mode_value { augments head.forest_mode ≡ true }
     requires nonzero { 0 < length values_out.old }
     requires upper_out_len { (length upper_out.old ≡ length values_out.old) × (length lower_out.old ≡ length values_out.old) }
-    requires head_in_bounds_2 { (length values_out.old * dimension (settings_of head) ≤ length values.now)
-        × (length values_out.old * dimension (settings_of head) ≤ length upper.now)
-        × (length values_out.old * dimension (settings_of head) ≤ length lower.now) }
+    requires head_in_bounds_2 { (length values_out.old * dimension (settings_of head) ≤ length range.now.values.now)
+        × (length values_out.old * dimension (settings_of head) ≤ length range.now.upper.now)
+        × (length values_out.old * dimension (settings_of head) ≤ length range.now.lower.now) }
     ensures { ranges values_out.new upper_out.new lower_out.new
         ≡ cascade_to binary64 (of_int binary64 (pos last) ∷ []) (length values_out.old)
         (invert_times (settings_of head) s.now
-        (backs (dimension (settings_of head)) (head.transformer.input_length * head.shingle_size) (length values_out.old) values.now)
-        (backs (dimension (settings_of head)) (head.transformer.input_length * head.shingle_size) (length values_out.old) upper.now)
-        (backs (dimension (settings_of head)) (head.transformer.input_length * head.shingle_size) (length values_out.old) lower.now)) }
+        (backs (dimension (settings_of head)) (head.transformer.input_length * head.shingle_size) (length values_out.old) range.now.values.now)
+        (backs (dimension (settings_of head)) (head.transformer.input_length * head.shingle_size) (length values_out.old) range.now.upper.now)
+        (backs (dimension (settings_of head)) (head.transformer.input_length * head.shingle_size) (length values_out.old) range.now.lower.now)) }
 {
     let m = head.transformer.input_length * head.shingle_size;
     let a = get_dimension(head);
@@ -335,22 +328,25 @@ fn invert_times(
         scale: timescale_of(head, s),
         drift: timedrift_of(head, s),
     };
-    write_times(
-        clock, a, m, values, upper, lower, values_out, upper_out, lower_out,
-    );
+    let mut out = RangeVector {
+        values: values_out,
+        upper: upper_out,
+        lower: lower_out,
+    };
+    write_times(clock, a, m, range, &mut out);
     let base = [numeric::u64_to_f64(last)];
-    cascaded_add(values_out, upper_out, lower_out, &base).unwrap();
+    out.cascaded_add(&base).unwrap();
 }
 
 // A mode with a time element: numbers and times to the front of the lists lent for them.
+// Kept: the six lists are parameters, here and of the two workers above (c): a part of a list in a lent struct cannot be lent beside another's part
+// (the borrow checker covers no such call), and what a struct of parts was left as is not known after it.
 fn invert_augmented(
     head: Preprocessor,
     s: &[f64],
     inputs: &[f32],
     times: &[u64],
-    values: &[f32],
-    upper: &[f32],
-    lower: &[f32],
+    range: &RangeVector<f32>,
     values_out: &mut [f32],
     upper_out: &mut [f32],
     lower_out: &mut [f32],
@@ -358,16 +354,16 @@ fn invert_augmented(
     times_upper_out: &mut [f64],
     times_lower_out: &mut [f64],
 )
-    requires invertible { Invertible (settings_of head) (length s.now) (length inputs.now) (length times.now) (sizes (length values.now) (length upper.now) (length lower.now) (length values_out.old) (length upper_out.old) (length lower_out.old) (length times_out.old) (length times_upper_out.old) (length times_lower_out.old)) }
+    requires invertible { Invertible (settings_of head) (length s.now) (length inputs.now) (length times.now) (sizes (length range.now.values.now) (length range.now.upper.now) (length range.now.lower.now) (length values_out.old) (length upper_out.old) (length lower_out.old) (length times_out.old) (length times_upper_out.old) (length times_lower_out.old)) }
     requires inputs_len { length inputs.now ≡ head.transformer.input_length * head.shingle_size }
     requires forest_mode_value { augments head.forest_mode ≡ true }
     ensures lower_out_after { ranges values_out.new upper_out.new lower_out.new
-        ≡ over_all (ranges values_out.old upper_out.old lower_out.old) (numbers_of (holding head s.now inputs.now times.now) (ranges values.now upper.now lower.now)) }
+        ≡ over_all (ranges values_out.old upper_out.old lower_out.old) (numbers_of (holding head s.now inputs.now times.now) (held range.now)) }
     ensures times_lower_out_after { ranges times_out.new times_upper_out.new times_lower_out.new
-        ≡ over_all (ranges times_out.old times_upper_out.old times_lower_out.old) (times_of (holding head s.now inputs.now times.now) (ranges values.now upper.now lower.now)) }
+        ≡ over_all (ranges times_out.old times_upper_out.old times_lower_out.old) (times_of (holding head s.now inputs.now times.now) (held range.now)) }
 {
     let a = get_dimension(head);
-    let h = values.len() / a;
+    let h = range.values.len() / a;
     let n = h * inputs.len();
     let last = last_time(times);
     invert_numbers(
@@ -375,9 +371,7 @@ fn invert_augmented(
         s,
         inputs,
         h,
-        values,
-        upper,
-        lower,
+        range,
         &mut values_out[..n],
         &mut upper_out[..n],
         &mut lower_out[..n],
@@ -386,9 +380,7 @@ fn invert_augmented(
         head,
         s,
         last,
-        values,
-        upper,
-        lower,
+        range,
         &mut times_out[..h],
         &mut times_upper_out[..h],
         &mut times_lower_out[..h],
@@ -401,20 +393,15 @@ fn invert_accepted(
     statistics: &[f64],
     last_shingled_input: &[f32],
     previous_timestamps: &[u64],
-    values: &mut [f32],
-    upper: &mut [f32],
-    lower: &mut [f32],
-    values_out: &mut [f32],
-    upper_out: &mut [f32],
-    lower_out: &mut [f32],
-    times_out: &mut [f64],
-    times_upper_out: &mut [f64],
-    times_lower_out: &mut [f64],
+    range: &mut RangeVector<f32>,
+    range_out: &mut RangeVector<f32>,
+    times_out: &mut RangeVector<f64>,
 )
-    requires { Invertible (settings_of head) (length statistics.now) (length last_shingled_input.now) (length previous_timestamps.now) (sizes (length values.old) (length upper.old) (length lower.old) (length values_out.old) (length upper_out.old) (length lower_out.old) (length times_out.old) (length times_upper_out.old) (length times_lower_out.old)) }
-    ensures { forecast (ranges values.new upper.new lower.new) (ranges values_out.new upper_out.new lower_out.new) (ranges times_out.new times_upper_out.new times_lower_out.new)
+    requires { Invertible (settings_of head) (length statistics.now) (length last_shingled_input.now) (length previous_timestamps.now) (sizes_of range.old range_out.old times_out.old) }
+    ensures after { forecast (held range.new) (held range_out.new) (held times_out.new)
         ≡ turned_back (viewed head statistics.now last_shingled_input.now previous_timestamps.now)
-        (forecast (ranges values.old upper.old lower.old) (ranges values_out.old upper_out.old lower_out.old) (ranges times_out.old times_upper_out.old times_lower_out.old)) }
+        (forecast (held range.old) (held range_out.old) (held times_out.old)) }
+    ensures loans { AreSameLoans range.old range.new × AreSameLoans range_out.old range_out.new × AreSameLoans times_out.old times_out.new }
 {
     let d = head.transformer.input_length;
     let k = head.shingle_size;
@@ -426,58 +413,44 @@ fn invert_accepted(
             &statistics[..m],
             &last_shingled_input[..n],
             &previous_timestamps[..k],
-            values,
-            upper,
-            lower,
-            values_out,
-            upper_out,
-            lower_out,
-            times_out,
-            times_upper_out,
-            times_lower_out,
+            range,
+            range_out.values,
+            range_out.upper,
+            range_out.lower,
+            times_out.values,
+            times_out.upper,
+            times_out.lower,
         );
     } else {
-        invert_in_place(
-            head,
-            &statistics[..m],
-            &last_shingled_input[..n],
-            values,
-            upper,
-            lower,
-        );
+        invert_in_place(head, &statistics[..m], &last_shingled_input[..n], range);
     }
 }
 
-// In STANDARD the forecast is turned back in place; in a mode with a time element numbers and times go to the six outputs.
+// In STANDARD the forecast is turned back in place; in a mode with a time element numbers and times go to the outputs.
 pub fn invert_extrapolation(
     head: Preprocessor,
     statistics: &[f64],
     last_shingled_input: &[f32],
     previous_timestamps: &[u64],
-    values: &mut [f32],
-    upper: &mut [f32],
-    lower: &mut [f32],
-    values_out: &mut [f32],
-    upper_out: &mut [f32],
-    lower_out: &mut [f32],
-    times_out: &mut [f64],
-    times_upper_out: &mut [f64],
-    times_lower_out: &mut [f64],
+    range: &mut RangeVector<f32>,
+    range_out: &mut RangeVector<f32>,
+    times_out: &mut RangeVector<f64>,
 ) -> Result<(), Refusal>
-    ensures { extrapolation (row_of result) (forecast (ranges values.new upper.new lower.new) (ranges values_out.new upper_out.new lower_out.new) (ranges times_out.new times_upper_out.new times_lower_out.new))
+    ensures after { extrapolation (row_of result) (forecast (held range.new) (held range_out.new) (held times_out.new))
         ≡ extrapolation_of head statistics.now last_shingled_input.now previous_timestamps.now
-        (forecast (ranges values.old upper.old lower.old) (ranges values_out.old upper_out.old lower_out.old) (ranges times_out.old times_upper_out.old times_lower_out.old)) }
+        (forecast (held range.old) (held range_out.old) (held times_out.old)) }
+    ensures loans { AreSameLoans range.old range.new × AreSameLoans range_out.old range_out.new × AreSameLoans times_out.old times_out.new }
 {
     let lengths = Lengths {
-        values: values.len(),
-        upper: upper.len(),
-        lower: lower.len(),
-        values_out: values_out.len(),
-        upper_out: upper_out.len(),
-        lower_out: lower_out.len(),
-        times_out: times_out.len(),
-        times_upper_out: times_upper_out.len(),
-        times_lower_out: times_lower_out.len(),
+        values: range.values.len(),
+        upper: range.upper.len(),
+        lower: range.lower.len(),
+        values_out: range_out.values.len(),
+        upper_out: range_out.upper.len(),
+        lower_out: range_out.lower.len(),
+        times_out: times_out.values.len(),
+        times_upper_out: times_out.upper.len(),
+        times_lower_out: times_out.lower.len(),
     };
     extrapolation_row(
         head,
@@ -491,15 +464,9 @@ pub fn invert_extrapolation(
         statistics,
         last_shingled_input,
         previous_timestamps,
-        values,
-        upper,
-        lower,
-        values_out,
-        upper_out,
-        lower_out,
+        range,
+        range_out,
         times_out,
-        times_upper_out,
-        times_lower_out,
     );
     Ok(())
 }

@@ -15,6 +15,7 @@ use trcf::head::{Preprocessor, SEEN_LIMIT, block_of, get_dimension, head_row};
 use trcf::time::newest_of;
 
 // How many readings before the newest; beyond every shingle for one that is to come.
+// Kept: (d) 64 lies outside every shingle, so row 14 needs no second test, as it would of an Option.
 pub fn places_back(relative_index: i32) -> usize
     ensures { result ≡ back_of relative_index }
 {
@@ -171,6 +172,7 @@ fn learning_row(
     )
 }
 
+// Kept: (d) has_y and expects stand beside their lists, since the definition of the call has a flag and a list, and the rows ask of an absent list its flag alone.
 pub fn post_process_row(
     head: Preprocessor,
     statistics: &[f64],

@@ -2,7 +2,7 @@
 use native.Mathlib.Omega.{arith}
 use mathlib.Core.Path.{sym, ◌∙◌}
 use lib.Seq.{length-take-le}
-use Rattle.ranges.specs.RangeVector.{ranges}
+use Rattle.ranges.specs.RangeVector.{held}
 use Rattle.trcf.specs.Preprocessor.{previous, numbers_of, times_of}
 use Rattle.trcf.specs.View.{view}
 use Rattle.trcf.specs.Extrapolation.{forecast, viewed}
@@ -73,22 +73,22 @@ invert_in_place-requires c =
           (sym c.is_augmented.ensures ∙ c.if-is_augmented.false);
     }
 
-pub returns-then-is_augmented : goal.returns-then-is_augmented
+pub returns-then-is_augmented-clause-after : goal.returns-then-is_augmented-clause-after
 unfolding numbers_of times_of previous viewed view
-returns-then-is_augmented c =
+returns-then-is_augmented-clause-after c =
     let A = c.args in
     let I = c.invert_augmented.ensures in
     augmented_is A.head A.statistics.now A.last_shingled_input.now A.previous_timestamps.now
-    (forecast (ranges A.values.now A.upper.now A.lower.now) (ranges A.values_out.now A.upper_out.now A.lower_out.now)
-    (ranges A.times_out.now A.times_upper_out.now A.times_lower_out.now))
+    (forecast (held A.range.now) (held A.range_out.now)
+    (held A.times_out.now))
     _ _ (sym c.is_augmented.ensures ∙ c.if-is_augmented.true) I.lower_out_after I.times_lower_out_after
 
-pub returns-else-is_augmented : goal.returns-else-is_augmented
+pub returns-else-is_augmented-clause-after : goal.returns-else-is_augmented-clause-after
 unfolding previous viewed view
-returns-else-is_augmented c =
+returns-else-is_augmented-clause-after c =
     let A = c.args in
     standard_is A.head A.statistics.now A.last_shingled_input.now A.previous_timestamps.now
-    (forecast (ranges A.values.now A.upper.now A.lower.now) (ranges A.values_out.now A.upper_out.now A.lower_out.now)
-    (ranges A.times_out.now A.times_upper_out.now A.times_lower_out.now))
+    (forecast (held A.range.now) (held A.range_out.now)
+    (held A.times_out.now))
     _ (sym c.is_augmented.ensures ∙ c.if-is_augmented.false)
-    c.invert_in_place.ensures
+    c.invert_in_place.ensures.after

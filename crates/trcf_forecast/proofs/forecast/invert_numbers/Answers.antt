@@ -3,6 +3,7 @@ use Rattle.trcf.proofs.LengthLaws.{dimension_known}
 use native.Mathlib.Omega.{arith}
 use mathlib.Core.Path.{sym, ap, ◌∙◌}
 use Rattle.ranges.specs.RangeVector.{ranges, unblocked}
+use Rattle.ranges.proofs.RangeSteps.{all_three}
 use Rattle.trcf.specs.Types.{differences}
 use Rattle.trcf.specs.Lists.{last_n}
 use Rattle.trcf.specs.Settings.{transformer}
@@ -55,8 +56,10 @@ returns c =
     let P = c.requires in
     let e = (dimension_known c.get_dimension-a.ensures (search rules)).0 in
     let f = P.head_in_bounds.1 in
-    c.invert_in_place.ensures
+    let L = c.invert_in_place.ensures.loans in
+    all_three (c.values_out-2-1.given.1.1 (sym L.values)) (c.upper_out-2-1.given.1.1 (sym L.upper)) (c.lower_out-2-1.given.1.1 (sym L.lower))
+    ∙ c.invert_in_place.ensures.after
     ∙ (λ j. inverted_forecast (transformer (settings_of A.head) 0 A.s.now) (last_n A.head.transformer.input_length A.inputs.now)
-    (ranges ((c.copy_fronts.ensures ∙ (λ i. fronts (e i) (f i) A.h A.values.now)) j)
-    ((c.copy_fronts-2.ensures ∙ (λ i. fronts (e i) (f i) A.h A.upper.now)) j)
-    ((c.copy_fronts-3.ensures ∙ (λ i. fronts (e i) (f i) A.h A.lower.now)) j)))
+    (ranges ((c.copy_fronts.ensures ∙ (λ i. fronts (e i) (f i) A.h A.range.now.values.now)) j)
+    ((c.copy_fronts-2.ensures ∙ (λ i. fronts (e i) (f i) A.h A.range.now.upper.now)) j)
+    ((c.copy_fronts-3.ensures ∙ (λ i. fronts (e i) (f i) A.h A.range.now.lower.now)) j)))

@@ -9,7 +9,8 @@ use mathlib.Core.List.{List, [], ◌∷◌}
 use lib.Ieee.{Float, binary64}
 use borrow.Author.Tests.{eq-eqb}
 use lib.ListN.{length}
-use Rattle.ranges.specs.RangeVector.{Ranges, RangeOutcome, ranges, operations_of, range_outcome, range_cascaded_add, range_cascaded_add_by, unequal, unblocked}
+use Rattle.ranges.specs.RangeVector.{Ranges, RangeOutcome, held, operations_of, range_outcome, range_cascaded_add, range_cascaded_add_by, unequal, unblocked}
+use Rattle.ranges.proofs.RangeSteps.{all_three, same_since}
 use Rattle.std.specs.Prelude.{Result, Ok, Err, IsOk}
 use Rattle.refusal.specs.declared.Refusal.{Refusal}
 use Rattle.refusal.specs.Refusal.{row_of}
@@ -53,9 +54,9 @@ pub unwrap-requires : goal.unwrap-requires
 unwrap-requires c =
     let P = c.requires in
     let W = c.write_times in
-    let v = W.auto.values_out in
-    ok_of c.cascaded_add.result (taken (c.u64_to_f64.result ∷ []) _ (ranges c.cascaded_add.new.values c.cascaded_add.new.upper c.cascaded_add.new.lower) (ranges W.new.values_out W.new.upper_out W.new.lower_out) (W.auto.upper_out ∙ P.upper_out_len.0 ∙ sym v) (W.auto.lower_out ∙ P.upper_out_len.1 ∙ sym v)
-    (ap (unblocked 1) v ∙ one_whole _ P.nonzero) c.cascaded_add.ensures)
+    let v = W.ensures.loans.values_length in
+    ok_of c.cascaded_add.result (taken (c.u64_to_f64.result ∷ []) _ (held c.cascaded_add.new.self) (held W.new.out) (W.ensures.loans.upper_length ∙ P.upper_out_len.0 ∙ sym v) (W.ensures.loans.lower_length ∙ P.upper_out_len.1 ∙ sym v)
+    (ap (unblocked 1) v ∙ one_whole _ P.nonzero) c.cascaded_add.ensures.after)
 
 pub returns : goal.returns
 returns c =
@@ -69,10 +70,12 @@ returns c =
     let P = c.requires in
     let W = c.write_times in
     let n = length A.values_out.now in
-    times_done (settings_of A.head) A.s.now (ranges A.values.now A.upper.now A.lower.now)
-    (ranges W.new.values_out W.new.upper_out W.new.lower_out) _ at-is-gap.result at-time-factor.result
+    let L = same_since W.ensures.loans c.cascaded_add.ensures.loans in
+    all_three (c.values_out-1.given.1.1 (sym L.values)) (c.upper_out-1.given.1.1 (sym L.upper)) (c.lower_out-1.given.1.1 (sym L.lower))
+    ∙ times_done (settings_of A.head) A.s.now (held A.range.now)
+    (held W.new.out) _ at-is-gap.result at-time-factor.result
     at-timescale-of.result at-timedrift-of.result at-u64-to-f64.result A.last at-get-dimension.result _ n _ at-is-gap.ensures at-time-factor.ensures
     ((opened _ at-timescale-of.ensures (time_fits_lem P.bounded P.head_in_bounds))) ((opened _ at-timedrift-of.ensures (time_fits_lem P.bounded P.head_in_bounds)))
-    (dimension_known at-get-dimension.ensures (search rules)).0 at-u64-to-f64.ensures W.ensures P.nonzero W.auto.values_out
-    (W.auto.upper_out ∙ P.upper_out_len.0) (W.auto.lower_out ∙ P.upper_out_len.1)
-    (at_format _ _ _ _ c.cascaded_add.ensures)
+    (dimension_known at-get-dimension.ensures (search rules)).0 at-u64-to-f64.ensures W.ensures.after P.nonzero W.ensures.loans.values_length
+    (W.ensures.loans.upper_length ∙ P.upper_out_len.0) (W.ensures.loans.lower_length ∙ P.upper_out_len.1)
+    (at_format _ _ _ _ c.cascaded_add.ensures.after)

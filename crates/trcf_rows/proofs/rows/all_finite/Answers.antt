@@ -1,5 +1,5 @@
 -- The test of each number.
-use Rattle.std.proofs.Common.{List, [], ◌∷◌, rules, refl}
+use Rattle.std.proofs.Common.{[], ◌∷◌, rules, refl}
 use Rattle.std.proofs.lemmas.List.Recursion.{and_is}
 use lib.Ieee.{Float, nan}
 use Rattle.trcf.specs.Calls.{finite}

@@ -1,8 +1,8 @@
 -- The head's row, those of the point, or that of what is lent.
-use Rattle.std.proofs.Common.{◌≡◌, Bool, not, ap, sym, ◌∙◌}
+use Rattle.std.proofs.Common.{◌≡◌, sym, ◌∙◌}
 use borrow.Author.Tests.{eq-eqb, ne_eqb}
 use Rattle.refusal.specs.declared.Refusal.TheVariants.{InputLength, NotFinite, GapFalls}
-use Rattle.trcf.specs.Calls.{rows, shingled_point, finite}
+use Rattle.trcf.specs.Calls.{rows, shingled_point}
 use Rattle.trcf.specs.Preprocessor.{facts}
 use Rattle.trcf.specs.View.{lent, settings_of, view}
 use Rattle.trcf.proofs.RowLaws.{point_rows}
