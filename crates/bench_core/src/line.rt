@@ -40,6 +40,7 @@ pub enum Place {
     Nowhere,
 }
 
+// Kept: (a) no heap and fixed memory, so the numbers of a line stand in arrays, with the count of those that are kept beside.
 #[derive(Clone, Copy)]
 pub struct Line {
     pub name: Name,

@@ -1,5 +1,5 @@
 // Values with their upper and lower bounds: three lists, which a line gives, or which a call writes to.
-ghost use Rattle.std.specs.Prelude.{◌≤◌, length};
+ghost use Rattle.std.specs.Prelude.{◌≡◌, ◌≤◌, length, All, IfOk, IsTrue, OnOk};
 
 use crate::field::Lent;
 use crate::fields::{Differs, Fields, expect_untouched};
@@ -25,7 +25,8 @@ impl<T: Lent> Bounded<T> {
 
     /// Memory to be lent, of which the line gives the three lengths.
     pub fn lent(fields: &mut Fields<'_>) -> Result<Bounded<T>, Differs>
-        ensures { length fields.new.rest.now ≤ length fields.old.rest.now }
+        ensures behind { length fields.new.rest.now ≤ length fields.old.rest.now }
+        ensures old { IfOk result (λ lists. All (λ x. x ≡ T.OLD) lists.values.items × All (λ x. x ≡ T.OLD) lists.upper.items × All (λ x. x ≡ T.OLD) lists.lower.items) }
     {
         Ok(Bounded {
             values: fields.lent()?,
@@ -43,7 +44,9 @@ impl<T: Lent> Bounded<T> {
         fields.expect_list(&self.lower)
     }
 
-    pub fn expect_untouched(&self) -> Result<(), Differs> {
+    pub fn expect_untouched(&self) -> Result<(), Differs>
+        ensures { OnOk result (All (λ x. IsTrue (T.same x T.OLD)) self.now.values.items × All (λ x. IsTrue (T.same x T.OLD)) self.now.upper.items × All (λ x. IsTrue (T.same x T.OLD)) self.now.lower.items) }
+    {
         expect_untouched(&self.values)?;
         expect_untouched(&self.upper)?;
         expect_untouched(&self.lower)

@@ -146,7 +146,8 @@ impl<'a> Fields<'a> {
 
     /// Memory to be lent, of which the line gives the length.
     pub fn lent<T: Lent>(&mut self) -> Result<Vec<T>, Differs>
-        ensures { length self.new.rest.now ≤ length self.old.rest.now }
+        ensures behind { length self.new.rest.now ≤ length self.old.rest.now }
+        ensures old { IfOk result (λ list. All (λ x. x ≡ T.OLD) list.items) }
     {
         let mut list = Vec::new(self.alloc);
         for _ in 0..self.length()? {

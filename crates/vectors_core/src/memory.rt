@@ -1,4 +1,7 @@
 // The six lists that are lent to every call of the preprocessor.
+ghost use Rattle.std.specs.Prelude.{◌≡◌, replicate, vec_len};
+ghost use Rattle.vectors_core.specs.Old.{old32, old64, old_whole};
+
 use crate::field::Lent;
 use crate::fields::{Differs, expect_untouched};
 use std::alloc::{AllocError, Global};
@@ -27,14 +30,28 @@ impl Memory {
     }
 
     /// Memory as it is to be before a call that may change all but the initial values.
-    pub fn forget_learnt(&mut self) {
+    pub fn forget_learnt(&mut self)
+        ensures statistics { self.new.statistics.items ≡ replicate (vec_len self.old.statistics) old64 }
+        ensures inputs { self.new.inputs.items ≡ replicate (vec_len self.old.inputs) old32 }
+        ensures point { self.new.point.items ≡ replicate (vec_len self.old.point) old32 }
+        ensures times { self.new.times.items ≡ replicate (vec_len self.old.times) old_whole }
+        ensures initial_values { self.new.initial_values ≡ self.old.initial_values }
+        ensures initial_timestamps { self.new.initial_timestamps ≡ self.old.initial_timestamps }
+    {
         self.statistics.fill(f64::OLD);
         self.inputs.fill(f32::OLD);
         self.point.fill(f32::OLD);
         self.times.fill(u64::OLD);
     }
 
-    pub fn forget(&mut self) {
+    pub fn forget(&mut self)
+        ensures statistics { self.new.statistics.items ≡ replicate (vec_len self.old.statistics) old64 }
+        ensures inputs { self.new.inputs.items ≡ replicate (vec_len self.old.inputs) old32 }
+        ensures point { self.new.point.items ≡ replicate (vec_len self.old.point) old32 }
+        ensures times { self.new.times.items ≡ replicate (vec_len self.old.times) old_whole }
+        ensures initial_values { self.new.initial_values.items ≡ replicate (vec_len self.old.initial_values) old32 }
+        ensures initial_timestamps { self.new.initial_timestamps.items ≡ replicate (vec_len self.old.initial_timestamps) old_whole }
+    {
         self.forget_learnt();
         self.initial_values.fill(f32::OLD);
         self.initial_timestamps.fill(u64::OLD);

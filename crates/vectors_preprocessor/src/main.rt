@@ -16,7 +16,10 @@ use std::io;
 use std::rt::Files;
 use vectors_core::tally::replay;
 
-fn replay_file(rt: &(impl Files + Alloc<A = Global> + Print + Eprint), name: &str) -> io::Result<()> {
+fn replay_file(
+    rt: &(impl Files + Alloc<A = Global> + Print + Eprint),
+    name: &str,
+) -> io::Result<()> {
     let alloc = rt.alloc();
     let mut state = Replayed::new(alloc)?;
     replay(rt, name, |line| replay_line(&mut state, alloc, line))

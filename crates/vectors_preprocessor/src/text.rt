@@ -1,6 +1,4 @@
 // The line with the length and the checksum of the text that the state is saved as.
-ghost use Rattle.std.specs.Prelude.{◌<◌};
-
 use crate::replayed::Replayed;
 use snapshot_save::save::save;
 use vectors_core::fields::{Differs, Fields};
