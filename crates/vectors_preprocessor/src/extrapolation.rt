@@ -1,5 +1,6 @@
 // The line of an invert_extrapolation.
 use crate::replayed::Replayed;
+use ranges::rangevector::RangeVector;
 use refusal::row_of;
 use trcf::types::is_augmented;
 use trcf_forecast::forecast::invert_extrapolation;
@@ -49,15 +50,21 @@ pub(crate) fn extrapolation_line(state: &Replayed, given: Fields<'_>) -> Result<
         &state.memory.statistics,
         &state.memory.inputs,
         &state.memory.times,
-        &mut lists.values,
-        &mut lists.upper,
-        &mut lists.lower,
-        &mut numbers.values,
-        &mut numbers.upper,
-        &mut numbers.lower,
-        &mut times.values,
-        &mut times.upper,
-        &mut times.lower,
+        &mut RangeVector {
+            values: &mut lists.values,
+            upper: &mut lists.upper,
+            lower: &mut lists.lower,
+        },
+        &mut RangeVector {
+            values: &mut numbers.values,
+            upper: &mut numbers.upper,
+            lower: &mut numbers.lower,
+        },
+        &mut RangeVector {
+            values: &mut times.values,
+            upper: &mut times.upper,
+            lower: &mut times.lower,
+        },
     );
     let row = row_of(answer);
     if is_augmented(state.head.forest_mode) {
