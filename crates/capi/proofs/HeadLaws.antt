@@ -16,7 +16,6 @@ use Rattle.trcf.specs.Types.{method_number}
 use Rattle.trcf.specs.Settings.{code_max}
 use Rattle.snapshot.specs.Read.{all_codes}
 use Rattle.snapshot.proofs.ReadKinds.{to_codes}
-use Rattle.snapshot.proofs.ValueLaws.{codes_on, codes_not}
 use Rattle.trcf.specs.View.{outside_row, or_else, counting}
 use Rattle.trcf.specs.declared.types.TransformMethod.{TransformMethod}
 use Rattle.trcf.specs.declared.types.TransformMethod.TheVariants.{NONE, WEIGHTED, DIFFERENCE, SUBTRACT_MA, NORMALIZE, NORMALIZE_DIFFERENCE}

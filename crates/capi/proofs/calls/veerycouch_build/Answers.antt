@@ -26,7 +26,7 @@ returns-in-Err-settings_row c =
     rw c.from-in-Err-settings_row.ensures (build_settings a.forest_mode a.transform_method (settings_given a.forest_mode a.transform_method a.input_dimensions a.shingle_size a.start_normalization
     a.stop_normalization a.transform_decay a.weight_time a.weights.now a.codes.now) a.head.now
     (lent a.statistics.now a.last_shingled_input.now a.last_shingled_point.now a.previous_timestamps.now a.initial_values.now a.initial_timestamps.now)
-    c.in-Ok.ensures refl
+    c.in_default.ensures refl
     (c.in-Err-settings_row.ensures.value ∙
     (λ j. settings_row (settings_with (c.mode_of.ensures j) (c.method_of.ensures j) a.input_dimensions a.shingle_size
     a.start_normalization a.stop_normalization a.transform_decay a.weight_time a.weights.now a.codes.now))) (number_zero r))
@@ -37,23 +37,23 @@ returns-then-head-lt-HEAD_WORDS c =
     rw c.from-then-head-lt-HEAD_WORDS.ensures (build_few a.forest_mode a.transform_method (settings_given a.forest_mode a.transform_method a.input_dimensions a.shingle_size a.start_normalization
     a.stop_normalization a.transform_decay a.weight_time a.weights.now a.codes.now) a.head.now
     (lent a.statistics.now a.last_shingled_input.now a.last_shingled_point.now a.previous_timestamps.now a.initial_values.now a.initial_timestamps.now)
-    c.in-Ok.ensures refl
-    (c.in-Ok-settings_row.ensures.value ∙
+    c.in_default.ensures refl
+    (c.in_default-settings_row.ensures.value ∙
     (λ j. settings_row (settings_with (c.mode_of.ensures j) (c.method_of.ensures j) a.input_dimensions a.shingle_size
     a.start_normalization a.stop_normalization a.transform_decay a.weight_time a.weights.now a.codes.now))) refl
     (ap (λ (b : Bool). cond b 20 0) (lt-ltb (length a.head.now) 44 c.if-head-lt-HEAD_WORDS.true)))
 
-pub returns-in-Ok-built : goal.returns-in-Ok-built
-returns-in-Ok-built c =
+pub returns-in-Ok : goal.returns-in-Ok
+returns-in-Ok c =
     let a = c.args in
     build_done a.forest_mode a.transform_method (settings_given a.forest_mode a.transform_method a.input_dimensions a.shingle_size a.start_normalization
     a.stop_normalization a.transform_decay a.weight_time a.weights.now a.codes.now) a.head.now
     (lent a.statistics.now a.last_shingled_input.now a.last_shingled_point.now a.previous_timestamps.now a.initial_values.now a.initial_timestamps.now)
-    c.in-Ok.ensures refl
-    (c.in-Ok-settings_row.ensures.value ∙
+    c.in_default.ensures refl
+    (c.in_default-settings_row.ensures.value ∙
     (λ j. settings_row (settings_with (c.mode_of.ensures j) (c.method_of.ensures j) a.input_dimensions a.shingle_size
     a.start_normalization a.stop_normalization a.transform_decay a.weight_time a.weights.now a.codes.now))) refl (long a.head.now c.if-head-lt-HEAD_WORDS.false)
-    (c.in-Ok-built.ensures ∙ (λ j. build_of
+    (c.in-Ok.ensures ∙ (λ j. build_of
     (settings_with (c.mode_of.ensures j) (c.method_of.ensures j) a.input_dimensions a.shingle_size a.start_normalization a.stop_normalization a.transform_decay
     a.weight_time a.weights.now a.codes.now) (lent a.statistics.now a.last_shingled_input.now a.last_shingled_point.now a.previous_timestamps.now a.initial_values.now a.initial_timestamps.now))) c.write_head.ensures
 
@@ -64,8 +64,8 @@ returns-in-Err-built c =
     rw c.from-in-Err-built.ensures (build_done a.forest_mode a.transform_method (settings_given a.forest_mode a.transform_method a.input_dimensions a.shingle_size a.start_normalization
     a.stop_normalization a.transform_decay a.weight_time a.weights.now a.codes.now) a.head.now
     (lent a.statistics.now a.last_shingled_input.now a.last_shingled_point.now a.previous_timestamps.now a.initial_values.now a.initial_timestamps.now)
-    c.in-Ok.ensures refl
-    (c.in-Ok-settings_row.ensures.value ∙
+    c.in_default.ensures refl
+    (c.in_default-settings_row.ensures.value ∙
     (λ j. settings_row (settings_with (c.mode_of.ensures j) (c.method_of.ensures j) a.input_dimensions a.shingle_size
     a.start_normalization a.stop_normalization a.transform_decay a.weight_time a.weights.now a.codes.now))) refl (long a.head.now c.if-head-lt-HEAD_WORDS.false)
     (c.in-Err-built.ensures ∙ (λ j. build_of
