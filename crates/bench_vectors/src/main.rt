@@ -3,7 +3,7 @@
 
 use bench_blocks::block::block;
 use bench_core::step::start;
-use replaying::replay_file;
+use replaying::{replay_file, room};
 use std::io;
 
 // Whether the bench prints just this for a text, which is one block with the end of the input after it. An output that the room is too small for differs.
@@ -15,7 +15,7 @@ fn agrees(text: &[u8], expected: &[u8]) -> bool {
     let mut initial_values = [0.0f32; 2000];
     let mut initial_timestamps = [0u64; 500];
     let mut point = [0.0f32; 320];
-    let mut out = [0u8; 524288];
+    let mut out = room();
     let r = block(
         start(),
         &mut statistics,

@@ -1,13 +1,13 @@
 // Replays inputs of the settling program (the oracle makes them) on `settle_core`, and prints how many outputs agree with the oracle's and how many differ.
 #![tactic(auto)]
 
-use replaying::replay_file;
+use replaying::{replay_file, room};
 use settle_core::settle::settle;
 use std::io;
 
 // Whether the settling program prints just this for an input.
 fn agrees(text: &[u8], expected: &[u8]) -> bool {
-    let mut out = [0u8; 524288];
+    let mut out = room();
     match settle(text, &mut out) {
         Ok(n) => &out[..n] == expected,
         Err(_) => false,
