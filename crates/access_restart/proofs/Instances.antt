@@ -28,11 +28,10 @@ use Rattle.restart_program.proofs.Instances.{one, strands, strands_valid, strand
 use Rattle.restart_program.proofs.Instances.{stranding_fed_first, dirty, filthy, text_fits, last_fits, first_fits, point_answer, learn_answer, ruled}
 use Rattle.access.specs.declared.rights.Right.TheVariants.{SEE, SAVE, RESTORE}
 use Rattle.access.specs.Access.{granted, every_right}
-use Rattle.access.specs.Entries.{number, number_by}
 use Rattle.access_restart.specs.Asked.{ask, allowed, granted_calls, with_withheld}
 use Rattle.access_restart.specs.RoleDemand.{withheld_answer, role_run, role_answers, gave, role_save, role_panels, role_history_panels, RoleRestart, RoleEvent, asked, role_restarted, role_events}
 use Rattle.access_restart.specs.RoleDemand.{role_event_answers, RoleRestarts}
-use Rattle.access_restart.specs.RoleHeld.{held_role_run, held_role_answers, role_saved_to, role_text_in, role_restored_on, GettersShown, getters_shown, held_role_shown, shown_at, RoleHeldRestart}
+use Rattle.access_restart.specs.RoleHeld.{number, number_by, held_role_run, held_role_answers, role_saved_to, role_text_in, role_restored_on, GettersShown, getters_shown, held_role_shown, shown_at, RoleHeldRestart}
 use Rattle.access_restart.specs.RoleProgram.{role_return, role_ran, role_returns, role_panels_returned, role_getters_shown, RoleProgramRestart}
 use Rattle.access_restart.proofs.Samples.{bad_tables, garage, morning, evening, day, counted_morning, counted_evening, counted}
 use Rattle.access_restart.proofs.Granted.{stayed}

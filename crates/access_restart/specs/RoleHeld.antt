@@ -1,6 +1,7 @@
 -- Request #105 of what the program holds, settings and counters by value and six lent lists: demand 3 for lists of calls with their roles. `save` and `restore`
 -- are those of crate access (`save_by`, `restore_by`, which its contracts cite). proofs/RoleHeld.antt proves it.
-use Rattle.std.specs.Prelude.{ℕ, ◌≤◌, ◌≡◌, true, false, List, [], ◌∷◌, ◌++◌, map, length, take, Float}
+use Rattle.std.specs.Prelude.{ℕ, ◌≤◌, ◌≡◌, Bool, true, false, List, [], ◌∷◌, ◌++◌, map, length, take, Float}
+use Rattle.std.specs.Result.{result_unwrap_or}
 use Rattle.std.proofs.Math.Option.{Option, some}
 use Rattle.trcf.specs.Fit.{All}
 use Rattle.trcf.specs.Settings.{Settings, Valid, block}
@@ -8,14 +9,20 @@ use Rattle.trcf.specs.Calls.{Call, Machine, status}
 use Rattle.trcf.specs.Types.{method_number, mode_letter}
 use Rattle.trcf.specs.Preprocessor.{Answer}
 use Rattle.trcf.specs.View.{Lent, lent_short, Getters, build_of, answer_of}
-use Rattle.trcf.specs.declared.head.StatusAnswer.{StatusAnswer}
+use Rattle.trcf.specs.declared.head.Preprocessor.{Preprocessor}
+use Rattle.trcf.specs.declared.head.Status.{Status}
+use Rattle.trcf.specs.declared.types.TransformMethod.{TransformMethod}
+use Rattle.trcf.specs.declared.types.TransformMethod.TheVariants.{NONE}
+use Rattle.trcf.specs.declared.types.ForestMode.{ForestMode}
+use Rattle.trcf.specs.declared.types.ForestMode.TheVariants.{STANDARD}
+use Rattle.refusal.specs.Refusal.{row_of}
 use Rattle.snapshot.specs.Save as save
 use Rattle.restart.specs.History.{Entry, enter, entries, history_text, history_answers, history_getters}
 use Rattle.restart.specs.Statement.{panel_told}
 use Rattle.restart.specs.Held.{Held, held, built_on, held_next}
 use Rattle.access.specs.declared.rights.Right.TheVariants.{SEE, SAVE, RESTORE}
 use Rattle.access.specs.Access.{granted}
-use Rattle.access.specs.Entries.{numbers_by, save_by, restore_by}
+use Rattle.access.specs.Entries.{seen_by, status_numbers, save_by, restore_by}
 use Rattle.access_restart.specs.Asked.{Asked, ask, allowed, granted_calls, with_withheld, guarded_step, guarded_run, guarded_places, guarded_say, guarded_answers}
 use Rattle.access_restart.specs.RoleDemand.{withheld_answer, role_history_panels}
 
@@ -50,6 +57,66 @@ role_restored_on table role t codes l = held (restore_by table role t codes l).h
 abbrev pub held_role_panels : List ℕ → ℕ → List Float → Held → List Asked → List (Option ℕ)
 held_role_panels table role room = guarded_places held_next (λ (m : Held). panel_told (held_role_answer table m (ask role (status room)))) table
 
+-- ---- what each getter answers a role, as its row and what it tells: 0, no, or the kind of number 0 where it is withheld
+
+pub record Number : Type 0 where
+  pub row : ℕ
+  pub number : ℕ
+
+abbrev pub number : ℕ → ℕ → Number
+number n x = record { row = n; number = x }
+
+abbrev pub number_by : List ℕ → ℕ → ℕ → Number
+number_by table role x = number (row_of (seen_by table role x)) (result_unwrap_or (seen_by table role x) 0)
+
+pub record Ready : Type 0 where
+  pub row : ℕ
+  pub ready : Bool
+
+abbrev pub ready : ℕ → Bool → Ready
+ready n b = record { row = n; ready = b }
+
+abbrev pub ready_by : List ℕ → ℕ → Bool → Ready
+ready_by table role b = ready (row_of (seen_by table role b)) (result_unwrap_or (seen_by table role b) false)
+
+pub record Method : Type 0 where
+  pub row : ℕ
+  pub transform_method : TransformMethod
+
+abbrev pub method_by : List ℕ → ℕ → TransformMethod → Method
+method_by table role m = record { row = row_of (seen_by table role m); transform_method = result_unwrap_or (seen_by table role m) NONE }
+
+pub record Mode : Type 0 where
+  pub row : ℕ
+  pub forest_mode : ForestMode
+
+abbrev pub mode_by : List ℕ → ℕ → ForestMode → Mode
+mode_by table role m = record { row = row_of (seen_by table role m); forest_mode = result_unwrap_or (seen_by table role m) STANDARD }
+
+-- and all of them together
+pub record Numbers : Type 0 where
+  pub row : ℕ
+  pub told : Status
+
+abbrev pub nothing_told : Status
+nothing_told =
+    record {
+      values_seen = 0;
+      internal_timestamp = 0;
+      ready = false;
+      input_dimensions = 0;
+      shingle_size = 0;
+      dimensions = 0;
+      transform_method = NONE;
+      forest_mode = STANDARD;
+      start_normalization = 0;
+      panel = 0;
+    }
+
+abbrev pub numbers_by : List ℕ → ℕ → Preprocessor → Numbers
+numbers_by table role h =
+    let r = seen_by table role (status_numbers h) in record { row = row_of r; told = result_unwrap_or r nothing_told }
+
 -- ---- what the getters answer a role: the row of access's `numbers`, and the rest of it as `Getters` has it (of the two kinds the number and the letter)
 
 pub record GettersShown : Type 0 where
@@ -59,7 +126,7 @@ pub record GettersShown : Type 0 where
 abbrev pub getters_shown : ℕ → Getters → GettersShown
 getters_shown n g = record { row = n; getters = g }
 
-abbrev pub getters_read : StatusAnswer → Getters
+abbrev pub getters_read : Status → Getters
 getters_read a =
     record {
       values_seen = a.values_seen;
@@ -75,7 +142,7 @@ getters_read a =
     }
 
 abbrev pub shown_to : List ℕ → ℕ → Held → GettersShown
-shown_to table role m = getters_shown (numbers_by table role m.head).row (getters_read (numbers_by table role m.head))
+shown_to table role m = getters_shown (numbers_by table role m.head).row (getters_read (numbers_by table role m.head).told)
 
 -- at each place
 abbrev pub held_role_shown : List ℕ → ℕ → Held → List Asked → List GettersShown

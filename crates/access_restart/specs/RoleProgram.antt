@@ -20,10 +20,10 @@ use Rattle.restart.specs.Held.{Held, held, built_on, saved_to}
 use Rattle.restart_program.specs.Program.{Return, point, learn, drains, writes, turns, tells, point_return, learn_return, answer_read, return_of, left_by}
 use Rattle.access.specs.declared.rights.Right.TheVariants.{SEE, SAVE, RESTORE}
 use Rattle.access.specs.Access.{granted}
-use Rattle.access.specs.Entries.{point_by, learn_by, drain_by, write_by, extrapolation_by, status_by, withheld_status, number, ready, numbers_by, number_by, ready_by, method_by, mode_by, restore_by}
+use Rattle.access.specs.Entries.{point_by, learn_by, drain_by, write_by, extrapolation_by, status_by, withheld_status, restore_by}
 use Rattle.access_restart.specs.Asked.{Asked, allowed, granted_calls, with_withheld}
 use Rattle.access_restart.specs.RoleDemand.{withheld_answer, role_history_panels}
-use Rattle.access_restart.specs.RoleHeld.{role_saved_to, role_text_in, role_restored_on, GettersShown, getters_shown, shown_to, shown_at}
+use Rattle.access_restart.specs.RoleHeld.{role_saved_to, role_text_in, role_restored_on, number, ready, numbers_by, number_by, ready_by, method_by, mode_by, GettersShown, getters_shown, shown_to, shown_at}
 
 -- ---- each by the right side of its contract
 
