@@ -4,11 +4,12 @@ use mathlib.Core.Path.{◌≡◌, refl}
 use mathlib.Core.Bool.{true, false}
 use mathlib.Core.List.{List, [], ◌∷◌, ◌++◌}
 use lib.ListN.{replicate}
+use Rattle.std.specs.Prelude.{Ok}
 use Rattle.trcf.specs.View.{no_head, outcome}
 use Rattle.snapshot.specs.Save.{save_outcome as saved}
 use Rattle.access.specs.declared.rights.Right.TheVariants.{SEE, LEARN, SAVE, RESTORE}
 use Rattle.access.specs.Access.{granted, every_right}
-use Rattle.access.specs.Entries.{drain_by, save_by, restore_by, numbers_by, status_numbers, withheld_status}
+use Rattle.access.specs.Entries.{drain_by, save_by, restore_by, seen_by, status_numbers, withheld_status}
 use Rattle.access.specs.Isolation.{no_lent}
 use Rattle.access.proofs.Isolation.{isolation, shut}
 
@@ -113,5 +114,5 @@ example_withheld_save = (isolation.withheld table 1).saves no_head no_lent (7 �
 example_isolated_restore : restore_by table 1 (1 ∷ []) [] no_lent ≡ restore_by table 1 (2 ∷ 3 ∷ []) [] no_lent
 example_isolated_restore = (isolation.isolated table 1 no_head no_head no_lent no_lent).restores (1 ∷ []) (2 ∷ 3 ∷ []) [] shut_restore
 
-example_withheld_numbers : numbers_by table 3 no_head ≡ withheld_status
-example_withheld_numbers = shut table 3 (SEE ∷ []) (status_numbers no_head) withheld_status shut_see
+example_withheld_numbers : seen_by table 3 (status_numbers no_head) ≡ withheld_status
+example_withheld_numbers = shut table 3 (SEE ∷ []) (Ok (status_numbers no_head)) withheld_status shut_see

@@ -6,15 +6,15 @@ use mathlib.Core.List.{List, [], ◌∷◌}
 use Rattle.trcf.specs.Calls.{shingled_point, post_process, drain, invert_extrapolation, status}
 use Rattle.trcf.specs.View.{Lent, no_head, Outcome, outcome, drain_of, pointed, point_after, learn_nothing, learn_after, written, write_of, status_given, status_after}
 use Rattle.trcf.specs.Extrapolation.{extrapolation, extrapolation_of}
-use Rattle.trcf.specs.declared.types.TransformMethod.TheVariants.{NONE}
-use Rattle.trcf.specs.declared.types.ForestMode.TheVariants.{STANDARD}
+use Rattle.std.specs.Prelude.{Ok, Err}
+use Rattle.refusal.specs.declared.Refusal.TheVariants.{Withheld}
 use Rattle.trcf.specs.declared.head.Preprocessor.{Preprocessor}
 use Rattle.snapshot.specs.Save.{save_of, save_outcome as saved}
 use Rattle.snapshot.specs.Restore.{restore_of, restore_outcome as restored}
 use Rattle.access.specs.declared.rights.Right.{Right}
 use Rattle.access.specs.declared.rights.Right.TheVariants.{SEE, SAVE, RESTORE}
 use Rattle.access.specs.Access.{needs, granted, guarded}
-use Rattle.access.specs.Entries.{withheld_status, status_numbers, number, ready, method, mode}
+use Rattle.access.specs.Entries.{withheld_status, status_numbers}
 use Rattle.access.specs.Isolation.{Withheld, Isolated, Isolation, point_shown, learn_shown}
 
 module _ {A : Type 0} where
@@ -51,11 +51,11 @@ module _ (t : List ℕ) (role : ℕ) (h g : Preprocessor) (l m : Lent) where
         writes = λ c f out e. w.writes h l c f out e ∙ sym (w.writes g m c f out e);
         extrapolates = λ st sy x y ts us c e. w.extrapolates h st x ts c e ∙ sym (w.extrapolates g sy y us c e);
         tells = λ out e. w.tells h l out e ∙ sym (w.tells g m out e);
-        numbers = λ e. alike t role (SEE ∷ []) (status_numbers h) (status_numbers g) withheld_status e;
-        counts = λ a b e. alike t role (SEE ∷ []) (number 0 a) (number 0 b) (number 22 0) e;
-        readies = λ a b e. alike t role (SEE ∷ []) (ready 0 a) (ready 0 b) (ready 22 false) e;
-        methods = λ a b e. alike t role (SEE ∷ []) (method 0 a) (method 0 b) (method 22 NONE) e;
-        modes = λ a b e. alike t role (SEE ∷ []) (mode 0 a) (mode 0 b) (mode 22 STANDARD) e;
+        numbers = λ e. alike t role (SEE ∷ []) (Ok (status_numbers h)) (Ok (status_numbers g)) (Err Withheld) e;
+        counts = λ a b e. alike t role (SEE ∷ []) (Ok a) (Ok b) (Err Withheld) e;
+        readies = λ a b e. alike t role (SEE ∷ []) (Ok a) (Ok b) (Err Withheld) e;
+        methods = λ a b e. alike t role (SEE ∷ []) (Ok a) (Ok b) (Err Withheld) e;
+        modes = λ a b e. alike t role (SEE ∷ []) (Ok a) (Ok b) (Err Withheld) e;
         saves = λ out e. w.saves h l out e ∙ sym (w.saves g m out e);
         restores = λ x y codes e. w.restores x codes l e ∙ sym (w.restores y codes l e);
       }

@@ -1,5 +1,6 @@
 -- Laws of the table's test, and of an entry behind it. Assumes nothing.
 use Prim.Native.Nat.{ℕ, ◌+◌, ◌≤◌, ◌<◌}
+use Rattle.std.proofs.lemmas.Bool.Decides.{nat_tests}
 use mathlib.Core.Path.{◌≡◌, refl, sym, ap, ◌∙◌}
 use mathlib.Core.Bool.{Bool, true, false, cond, ◌&&◌}
 use mathlib.Core.List.{List, [], ◌∷◌}
@@ -8,7 +9,9 @@ use native.Mathlib.Omega.{arith}
 use lib.Dec.{ltb, eqb}
 use lib.ListN.{length, get_or, drop}
 use lib.Seq.{drop-cons}
-use borrow.Author.Tests.{le-ltb, lt-ltb, eq-eqb, ne_eqb, eqb-true, ltb-true}
+use borrow.Author.Tests.{eqb-true, ltb-true}
+use Rattle.std.proofs.Common.{Less, Equal, Greater}
+use Rattle.std.specs.Ordering.{nat_cmp, ord_max, is_lt}
 use Rattle.snapshot.proofs.Lists.{and_left, and_right}
 use Rattle.trcf.specs.Preprocessor.{panel_of}
 use Rattle.trcf.specs.Types.{method_number, method_of_number, mode_letter, mode_of_letter}
@@ -17,7 +20,7 @@ use Rattle.trcf.proofs.TypeLaws.{method_back, mode_back}
 use Rattle.trcf.specs.declared.types.TransformMethod.{TransformMethod}
 use Rattle.trcf.specs.declared.types.ForestMode.{ForestMode}
 use Rattle.trcf.specs.declared.head.Preprocessor.{Preprocessor}
-use Rattle.trcf.specs.declared.head.StatusAnswer.{StatusAnswer}
+use Rattle.trcf.specs.declared.head.Status.{Status}
 use Rattle.access.specs.declared.rights.Right.{Right}
 use Rattle.access.specs.declared.rights.Right.TheVariants.{SEE, LEARN, SAVE, RESTORE}
 use Rattle.access.specs.Access.{bits, table_fits, table_entry, has, granted, guarded, every_right}
@@ -32,61 +35,36 @@ pub and_true : (b : Bool) → b ≡ b && true
 and_true true = refl
 and_true false = refl
 
-and_false : (b : Bool) → b && false ≡ false
-and_false true = refl
-and_false false = refl
-
--- of two bounded by 2, the larger decides
-module _ (a b : ℕ) (c : Bool) (h : a ≤ b) where
-  smaller : ltb b 2 ≡ true → ltb a 2 ≡ true
-  smaller e = lt-ltb a 2 (omega (arith, ltb-true b 2 e))
-
-  larger_first : ltb b 2 && (ltb a 2 && c) ≡ ltb b 2 && c
-  larger_first = go (ltb b 2) refl
+-- of two numbers the larger decides
+module _ (a b : ℕ) where
+  larger_is : ord_max nat_cmp a b ≡ cond (ltb b a) a b
+  larger_is = go (ltb b a) (eqb b a)
     where
-      go : (t : Bool) → ltb b 2 ≡ t → t && (ltb a 2 && c) ≡ t && c
-      go true e = rw (smaller e)
-      go false e = refl
+      go : (s t : Bool) → cond (is_lt (cond s Less (cond t Equal Greater))) a b ≡ cond s a b
+      go true t = refl
+      go false true = refl
+      go false false = refl
 
-  larger_last : ltb a 2 && (ltb b 2 && c) ≡ ltb b 2 && c
-  larger_last = go (ltb b 2) refl
-    where
-      go : (t : Bool) → ltb b 2 ≡ t → ltb a 2 && (t && c) ≡ t && c
-      go true e = rw (smaller e)
-      go false e = and_false (ltb a 2)
+  ltb_larger : ltb (cond (ltb b a) a b) 2 ≡ ltb a 2 && ltb b 2
+  ltb_larger = grind (arith, nat_tests)
 
--- one step of the walk over them: `largest` of those before i, `after` of those up to i
-module _ (l : List ℕ) (i : ℕ) (h : i < length l) (largest after : ℕ) (inv : bits l ≡ ltb largest 2 && bits (drop i l)) where
-  pub larger_met : largest < get_or l i 0 → after ≡ get_or l i 0 → bits l ≡ ltb after 2 && bits (drop (i + 1) l)
-  larger_met e f =
-      inv
-      ∙ ap (λ (b : Bool). ltb largest 2 && b) (bits_step l i h)
-      ∙ larger_last largest (get_or l i 0) (bits (drop (i + 1) l)) (omega (arith, e))
-      ∙ ap (λ (n : ℕ). ltb n 2 && bits (drop (i + 1) l)) (sym f)
+and_assoc : (a b c : Bool) → a && (b && c) ≡ (a && b) && c
+and_assoc true b c = refl
+and_assoc false b c = refl
 
-  pub none_larger : get_or l i 0 ≤ largest → after ≡ largest → bits l ≡ ltb after 2 && bits (drop (i + 1) l)
-  none_larger e f =
-      inv
-      ∙ ap (λ (b : Bool). ltb largest 2 && b) (bits_step l i h)
-      ∙ larger_first (get_or l i 0) largest (bits (drop (i + 1) l)) e
-      ∙ ap (λ (n : ℕ). ltb n 2 && bits (drop (i + 1) l)) (sym f)
+-- one step of the walk over them: `largest` of those before i
+pub largest_step : (l : List ℕ) (i : ℕ) → i < length l → (largest : ℕ) → bits l ≡ ltb largest 2 && bits (drop i l)
+    → bits l ≡ ltb (ord_max nat_cmp largest (get_or l i 0)) 2 && bits (drop (i + 1) l)
+largest_step l i h largest inv =
+    inv
+    ∙ ap (λ (b : Bool). ltb largest 2 && b) (bits_step l i h)
+    ∙ and_assoc (ltb largest 2) (ltb (get_or l i 0) 2) (bits (drop (i + 1) l))
+    ∙ ap (λ (b : Bool). b && bits (drop (i + 1) l)) (sym (ltb_larger largest (get_or l i 0)))
+    ∙ ap (λ (n : ℕ). ltb n 2 && bits (drop (i + 1) l)) (sym (larger_is largest (get_or l i 0)))
 
 -- ---- whether the table is one, and the role one of its four
 
 module _ (t : List ℕ) (role : ℕ) where
-  pub no_size : (length t ≡ 16 → ⊥) → false ≡ table_fits t role
-  no_size n = rw (ne_eqb (length t) 16 n)
-
-  pub no_role : 4 ≤ role → false ≡ table_fits t role
-  no_role h = rw (le-ltb role 4 h) (off (eqb (length t) 16))
-    where
-      off : (a : Bool) → false ≡ a && false
-      off true = refl
-      off false = refl
-
-  pub stands : length t ≡ 16 → role < 4 → bits t ≡ table_fits t role
-  stands n h = rw (eq-eqb (length t) 16 n, lt-ltb role 4 h)
-
   pub stands_size : table_fits t role ≡ true → length t ≡ 16
   stands_size e = eqb-true (length t) 16 (and_left (eqb (length t) 16) (ltb role 4 && bits t) e)
 
@@ -110,15 +88,6 @@ module _ (t : List ℕ) (role : ℕ) where
   pub by_second : (r q : Right) → eqb (table_entry t role r) 1 ≡ true → eqb (table_entry t role q) 1 ≡ has t role (r ∷ q ∷ [])
   by_second r q e = and_true (eqb (table_entry t role q) 1) ∙ ap (λ (b : Bool). b && (eqb (table_entry t role q) 1 && true)) (sym e)
 
--- ---- an entry behind its guard: b is what the test said
-
-module _ {A : Type 0} (t : List ℕ) (role : ℕ) (rs : List Right) (b : Bool) (m : b ≡ granted t role rs) (below withheld : A) where
-  pub guard_shut : b ≡ false → withheld ≡ guarded t role rs below withheld
-  guard_shut e = ap (λ (x : Bool). cond x below withheld) (sym e ∙ m)
-
-  pub guard_open : b ≡ true → (x : A) → x ≡ below → x ≡ guarded t role rs below withheld
-  guard_open e x y = y ∙ ap (λ (q : Bool). cond q below withheld) (sym e ∙ m)
-
 -- ---- a program: role 0 of the table with every right
 
 has_every : (rs : List Right) → has every_right 0 rs ≡ true
@@ -138,10 +107,9 @@ module _ {A : Type 0} where
 
 -- ---- the getters' numbers together
 
-abbrev answered : ℕ → ℕ → Bool → ℕ → ℕ → ℕ → TransformMethod → ForestMode → ℕ → ℕ → StatusAnswer
+abbrev answered : ℕ → ℕ → Bool → ℕ → ℕ → ℕ → TransformMethod → ForestMode → ℕ → ℕ → Status
 answered a b r d e f k m i n =
     record {
-      row = 0;
       values_seen = a;
       internal_timestamp = b;
       ready = r;

@@ -1,5 +1,7 @@
 -- Request #105, shared readers: a table of 4 roles by 4 rights, lent beside the trace and no part of it, stands before every entry.
-use Rattle.std.specs.Prelude.{ℕ, ◌+◌, ◌*◌, Bool, true, cond, ◌&&◌, List, [], ◌∷◌, ltb, eqb, length, get_or, replicate}
+use Rattle.std.specs.Prelude.{ℕ, ◌+◌, ◌*◌, Bool, true, cond, ◌&&◌, List, [], ◌∷◌, ltb, eqb, length, get_or, replicate, Result, Ok, Err}
+use Rattle.refusal.specs.declared.Refusal.{Refusal}
+use Rattle.refusal.specs.declared.Refusal.TheVariants.{Withheld}
 use Rattle.trcf.specs.Calls.{Call, shingled_point, post_process, drain, transform, invert_extrapolation, scale, shift, status}
 use Rattle.access.specs.declared.rights.Right.{Right}
 use Rattle.access.specs.declared.rights.Right.TheVariants.{SEE, LEARN, SAVE, RESTORE}
@@ -45,6 +47,10 @@ has table role (r ∷ rs) = eqb (table_entry table role r) 1 && has table role r
 
 unfoldable pub granted : List ℕ → ℕ → List Right → Bool
 granted table role rs = table_fits table role && has table role rs
+
+-- what a test of the table says, as an answer
+abbrev pub allowed : Bool → Result Unit Refusal
+allowed b = cond b (Ok tt) (Err Withheld)
 
 -- ---- every entry, of whatever kind its answer is: what the entry below gives, or 22 "before row 1" with all as it was
 

@@ -11,7 +11,7 @@ use Rattle.snapshot.specs.Save.{save_outcome as saved}
 use Rattle.snapshot.specs.Restore.{restore_outcome as restored}
 use Rattle.access.specs.declared.rights.Right.TheVariants.{SEE, SAVE, RESTORE}
 use Rattle.access.specs.Access.{needs, granted}
-use Rattle.access.specs.Entries.{point_by, learn_by, drain_by, write_by, extrapolation_by, status_by, withheld_status, numbers_by, number_by, ready_by, method_by, mode_by, save_by, restore_by}
+use Rattle.access.specs.Entries.{point_by, learn_by, drain_by, write_by, extrapolation_by, status_by, withheld_status, seen_by, status_numbers, save_by, restore_by}
 
 -- where a right is withheld: "changes nothing", 22, and what is lent for the answer as it was
 pub record Withheld (table : List ℕ) (role : ℕ) : Type 0 where
@@ -50,11 +50,11 @@ pub record Isolated (table : List ℕ) (role : ℕ) (h g : Preprocessor) (l m : 
   pub extrapolates : (st sy x y : List Float) (ts us : List ℕ) (c : Forecast) → granted table role (needs (invert_extrapolation c)) ≡ false
       → extrapolation_by table role h st x ts c ≡ extrapolation_by table role g sy y us c
   pub tells : (out : List Float) → granted table role (needs (status out)) ≡ false → status_by table role h l out ≡ status_by table role g m out
-  pub numbers : granted table role (SEE ∷ []) ≡ false → numbers_by table role h ≡ numbers_by table role g
-  pub counts : (a b : ℕ) → granted table role (SEE ∷ []) ≡ false → number_by table role a ≡ number_by table role b
-  pub readies : (a b : Bool) → granted table role (SEE ∷ []) ≡ false → ready_by table role a ≡ ready_by table role b
-  pub methods : (a b : TransformMethod) → granted table role (SEE ∷ []) ≡ false → method_by table role a ≡ method_by table role b
-  pub modes : (a b : ForestMode) → granted table role (SEE ∷ []) ≡ false → mode_by table role a ≡ mode_by table role b
+  pub numbers : granted table role (SEE ∷ []) ≡ false → seen_by table role (status_numbers h) ≡ seen_by table role (status_numbers g)
+  pub counts : (a b : ℕ) → granted table role (SEE ∷ []) ≡ false → seen_by table role a ≡ seen_by table role b
+  pub readies : (a b : Bool) → granted table role (SEE ∷ []) ≡ false → seen_by table role a ≡ seen_by table role b
+  pub methods : (a b : TransformMethod) → granted table role (SEE ∷ []) ≡ false → seen_by table role a ≡ seen_by table role b
+  pub modes : (a b : ForestMode) → granted table role (SEE ∷ []) ≡ false → seen_by table role a ≡ seen_by table role b
   pub saves : (out : List ℕ) → granted table role (SAVE ∷ []) ≡ false → save_by table role h l out ≡ save_by table role g m out
   pub restores : (x y codes : List ℕ) → granted table role (RESTORE ∷ []) ≡ false → restore_by table role x codes l ≡ restore_by table role y codes l
 

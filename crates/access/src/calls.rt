@@ -1,10 +1,13 @@
 // The calls that may change the trace, for a role that has their rights.
-ghost use Rattle.std.specs.Prelude.{◌≡◌};
-ghost use Rattle.trcf.specs.View.{lent, outcome, pointed, learn_call, learn_outcome};
+// Kept: (a) the six lent lists are parameters: the C interface lends each call its own mix of shared and mutable lists, and a struct would need a type for each mix.
+ghost use Rattle.std.specs.Prelude.{◌≡◌, is_some};
+ghost use Rattle.trcf.specs.View.{lent, head_outcome, point_outcome, learn_call, processed_outcome};
+ghost use Rattle.trcf_learn.specs.Given.{list_in};
 ghost use Rattle.access.specs.Entries.{point_by, learn_by, drain_by};
 
-use crate::rights::{Right, may, may_point};
-use trcf::head::{Changed, Pointed, PostProcessed, Preprocessor};
+use crate::rights::{Right, demand, demand_point};
+use refusal::Refusal;
+use trcf::head::{Pointed, PostProcessed, Preprocessor};
 
 // Point may drain, so it needs see and learn.
 pub fn shingled_point(
@@ -20,17 +23,12 @@ pub fn shingled_point(
     input: &[f32],
     timestamp: u64,
     output: &mut [f32],
-) -> Pointed
-    ensures { pointed result.row result.given result.head (lent statistics.new last_shingled_input.new last_shingled_point.new previous_timestamps.new initial_values.now initial_timestamps.now) output.new
+) -> Result<Pointed, Refusal>
+    ensures { point_outcome result head (lent statistics.new last_shingled_input.new last_shingled_point.new previous_timestamps.new initial_values.now initial_timestamps.now) output.new
         ≡ point_by table.now role head (lent statistics.old last_shingled_input.old last_shingled_point.old previous_timestamps.old initial_values.now initial_timestamps.now) input.now timestamp output.old }
 {
-    if !may_point(table, role) {
-        return Pointed {
-            row: 22,
-            given: false,
-            head: head,
-        };
-    }
+    // Withheld, it tells of no point.
+    demand_point(table, role)?;
     trcf_point::point::shingled_point(
         head,
         statistics,
@@ -57,29 +55,19 @@ pub fn post_process(
     initial_timestamps: &mut [u64],
     input: &[f32],
     timestamp: u64,
-    y: &[f32],
-    has_y: bool,
-    expected: &[f32],
-    expects: bool,
+    y: Option<&[f32]>,
+    expected: Option<&[f32]>,
     grade: f32,
     relative_index: i32,
     deviations_out: &mut [f32],
     past_out: &mut [f32],
     expected_out: &mut [f32],
-) -> PostProcessed
-    ensures { learn_outcome result.row result.written result.has_anomaly result.past_timestamp result.likelihood result.head (lent statistics.new last_shingled_input.new last_shingled_point.new previous_timestamps.new initial_values.new initial_timestamps.new) deviations_out.new past_out.new expected_out.new
-        ≡ learn_by table.now role head (lent statistics.old last_shingled_input.old last_shingled_point.old previous_timestamps.old initial_values.old initial_timestamps.old) (learn_call input.now timestamp has_y y.now expects expected.now grade relative_index deviations_out.old past_out.old expected_out.old) }
+) -> Result<PostProcessed, Refusal>
+    ensures { processed_outcome result head (lent statistics.new last_shingled_input.new last_shingled_point.new previous_timestamps.new initial_values.new initial_timestamps.new) deviations_out.new past_out.new expected_out.new
+        ≡ learn_by table.now role head (lent statistics.old last_shingled_input.old last_shingled_point.old previous_timestamps.old initial_values.old initial_timestamps.old) (learn_call input.now timestamp (is_some y.entry) (list_in y.entry) (is_some expected.entry) (list_in expected.entry) grade relative_index deviations_out.old past_out.old expected_out.old) }
 {
-    if !may(table, role, Right::LEARN) {
-        return PostProcessed {
-            row: 22,
-            head: head,
-            written: false,
-            has_anomaly: false,
-            past_timestamp: 0,
-            likelihood: 0.0,
-        };
-    }
+    // Withheld, it tells of no anomaly.
+    demand(table, role, Right::LEARN)?;
     trcf_learn::post_process::post_process(
         head,
         statistics,
@@ -91,9 +79,7 @@ pub fn post_process(
         input,
         timestamp,
         y,
-        has_y,
         expected,
-        expects,
         grade,
         relative_index,
         deviations_out,
@@ -112,16 +98,11 @@ pub fn drain(
     previous_timestamps: &mut [u64],
     initial_values: &[f32],
     initial_timestamps: &[u64],
-) -> Changed
-    ensures { outcome result.row result.head (lent statistics.new last_shingled_input.new last_shingled_point.new previous_timestamps.new initial_values.now initial_timestamps.now)
+) -> Result<Preprocessor, Refusal>
+    ensures { head_outcome result head (lent statistics.new last_shingled_input.new last_shingled_point.new previous_timestamps.new initial_values.now initial_timestamps.now)
         ≡ drain_by table.now role head (lent statistics.old last_shingled_input.old last_shingled_point.old previous_timestamps.old initial_values.now initial_timestamps.now) }
 {
-    if !may(table, role, Right::LEARN) {
-        return Changed {
-            row: 22,
-            head: head,
-        };
-    }
+    demand(table, role, Right::LEARN)?;
     trcf_point::drain::drain(
         head,
         statistics,

@@ -2,176 +2,87 @@
 ghost use Rattle.std.specs.Prelude.{◌≡◌};
 ghost use Rattle.trcf.specs.Preprocessor.{panel_of};
 ghost use Rattle.trcf.specs.View.{alone, ready_of, dimension_of};
-ghost use Rattle.access.specs.Entries.{numbers_by, number_by, ready_by, method_by, mode_by};
+ghost use Rattle.access.specs.Entries.{seen_by, status_numbers};
 
-use crate::queries::untold;
-use crate::rights::{Right, may};
-use trcf::head::{Preprocessor, StatusAnswer};
+use crate::rights::{Right, demand};
+use refusal::Refusal;
+use trcf::head::{Preprocessor, Status};
 use trcf::types::{ForestMode, TransformMethod};
 
-// The row, 0 for none, and what was asked for: 0, false, NONE or STANDARD where the right is withheld.
-#[derive(Clone, Copy)]
-pub struct Number {
-    pub row: u64,
-    pub number: u64,
-}
-
-#[derive(Clone, Copy)]
-pub struct Ready {
-    pub row: u64,
-    pub ready: bool,
-}
-
-#[derive(Clone, Copy)]
-pub struct Method {
-    pub row: u64,
-    pub transform_method: TransformMethod,
-}
-
-#[derive(Clone, Copy)]
-pub struct Mode {
-    pub row: u64,
-    pub forest_mode: ForestMode,
-}
-
-pub fn values_seen(table: &[u8], role: u64, head: Preprocessor) -> Number
-    ensures { result ≡ number_by table.now role head.values_seen }
+// What is asked for, where the role may see.
+fn seen<T: Copy>(table: &[u8], role: u64, asked: T) -> Result<T, Refusal>
+    ensures { result ≡ seen_by table.now role asked }
 {
-    if !may(table, role, Right::SEE) {
-        return Number { row: 22, number: 0 };
-    }
-    Number {
-        row: 0,
-        number: trcf_calls::queries::values_seen(head) as u64,
-    }
+    demand(table, role, Right::SEE)?;
+    Ok(asked)
 }
 
-pub fn internal_timestamp(table: &[u8], role: u64, head: Preprocessor) -> Number
-    ensures { result ≡ number_by table.now role head.internal_timestamp }
+pub fn values_seen(table: &[u8], role: u64, head: Preprocessor) -> Result<u64, Refusal>
+    ensures { result ≡ seen_by table.now role head.values_seen }
 {
-    if !may(table, role, Right::SEE) {
-        return Number { row: 22, number: 0 };
-    }
-    Number {
-        row: 0,
-        number: trcf_calls::queries::internal_timestamp(head) as u64,
-    }
+    seen(table, role, trcf_calls::queries::values_seen(head) as u64)
 }
 
-pub fn input_dimensions(table: &[u8], role: u64, head: Preprocessor) -> Number
-    ensures { result ≡ number_by table.now role head.transformer.input_length }
+pub fn internal_timestamp(table: &[u8], role: u64, head: Preprocessor) -> Result<u64, Refusal>
+    ensures { result ≡ seen_by table.now role head.internal_timestamp }
 {
-    if !may(table, role, Right::SEE) {
-        return Number { row: 22, number: 0 };
-    }
-    Number {
-        row: 0,
-        number: trcf_calls::queries::input_dimensions(head) as u64,
-    }
+    seen(table, role, trcf_calls::queries::internal_timestamp(head) as u64)
 }
 
-pub fn shingle_size(table: &[u8], role: u64, head: Preprocessor) -> Number
-    ensures { result ≡ number_by table.now role head.shingle_size }
+pub fn input_dimensions(table: &[u8], role: u64, head: Preprocessor) -> Result<u64, Refusal>
+    ensures { result ≡ seen_by table.now role head.transformer.input_length }
 {
-    if !may(table, role, Right::SEE) {
-        return Number { row: 22, number: 0 };
-    }
-    Number {
-        row: 0,
-        number: trcf_calls::queries::shingle_size(head) as u64,
-    }
+    seen(table, role, trcf_calls::queries::input_dimensions(head) as u64)
 }
 
-pub fn get_dimension(table: &[u8], role: u64, head: Preprocessor) -> Number
-    ensures { result ≡ number_by table.now role (dimension_of head) }
+pub fn shingle_size(table: &[u8], role: u64, head: Preprocessor) -> Result<u64, Refusal>
+    ensures { result ≡ seen_by table.now role head.shingle_size }
 {
-    if !may(table, role, Right::SEE) {
-        return Number { row: 22, number: 0 };
-    }
-    Number {
-        row: 0,
-        number: trcf::head::get_dimension(head) as u64,
-    }
+    seen(table, role, trcf_calls::queries::shingle_size(head) as u64)
 }
 
-pub fn start_normalization(table: &[u8], role: u64, head: Preprocessor) -> Number
-    ensures { result ≡ number_by table.now role head.start_normalization }
+pub fn get_dimension(table: &[u8], role: u64, head: Preprocessor) -> Result<u64, Refusal>
+    ensures { result ≡ seen_by table.now role (dimension_of head) }
 {
-    if !may(table, role, Right::SEE) {
-        return Number { row: 22, number: 0 };
-    }
-    Number {
-        row: 0,
-        number: trcf_calls::queries::start_normalization(head) as u64,
-    }
+    seen(table, role, trcf::head::get_dimension(head) as u64)
 }
 
-pub fn panel(table: &[u8], role: u64, head: Preprocessor) -> Number
-    ensures { result ≡ number_by table.now role (panel_of (alone head)) }
+pub fn start_normalization(table: &[u8], role: u64, head: Preprocessor) -> Result<u64, Refusal>
+    ensures { result ≡ seen_by table.now role head.start_normalization }
 {
-    if !may(table, role, Right::SEE) {
-        return Number { row: 22, number: 0 };
-    }
-    Number {
-        row: 0,
-        number: trcf_calls::queries::panel(head),
-    }
+    seen(table, role, trcf_calls::queries::start_normalization(head) as u64)
 }
 
-pub fn is_ready(table: &[u8], role: u64, head: Preprocessor) -> Ready
-    ensures { result ≡ ready_by table.now role (ready_of head) }
+pub fn panel(table: &[u8], role: u64, head: Preprocessor) -> Result<u64, Refusal>
+    ensures { result ≡ seen_by table.now role (panel_of (alone head)) }
 {
-    if !may(table, role, Right::SEE) {
-        return Ready {
-            row: 22,
-            ready: false,
-        };
-    }
-    Ready {
-        row: 0,
-        ready: trcf_calls::queries::is_ready(head),
-    }
+    seen(table, role, trcf_calls::queries::panel(head))
 }
 
-pub fn transformation_method(table: &[u8], role: u64, head: Preprocessor) -> Method
-    ensures { result ≡ method_by table.now role head.transformer.transform_method }
+pub fn is_ready(table: &[u8], role: u64, head: Preprocessor) -> Result<bool, Refusal>
+    ensures { result ≡ seen_by table.now role (ready_of head) }
 {
-    if !may(table, role, Right::SEE) {
-        return Method {
-            row: 22,
-            transform_method: TransformMethod::NONE,
-        };
-    }
-    Method {
-        row: 0,
-        transform_method: trcf_calls::queries::transformation_method(head),
-    }
+    seen(table, role, trcf_calls::queries::is_ready(head))
 }
 
-pub fn forest_mode(table: &[u8], role: u64, head: Preprocessor) -> Mode
-    ensures { result ≡ mode_by table.now role head.forest_mode }
+pub fn transformation_method(table: &[u8], role: u64, head: Preprocessor) -> Result<TransformMethod, Refusal>
+    ensures { result ≡ seen_by table.now role head.transformer.transform_method }
 {
-    if !may(table, role, Right::SEE) {
-        return Mode {
-            row: 22,
-            forest_mode: ForestMode::STANDARD,
-        };
-    }
-    Mode {
-        row: 0,
-        forest_mode: trcf_calls::queries::forest_mode(head),
-    }
+    seen(table, role, trcf_calls::queries::transformation_method(head))
+}
+
+pub fn forest_mode(table: &[u8], role: u64, head: Preprocessor) -> Result<ForestMode, Refusal>
+    ensures { result ≡ seen_by table.now role head.forest_mode }
+{
+    seen(table, role, trcf_calls::queries::forest_mode(head))
 }
 
 // All of them, by one test of the table.
-pub fn numbers(table: &[u8], role: u64, head: Preprocessor) -> StatusAnswer
-    ensures { result ≡ numbers_by table.now role head }
+pub fn numbers(table: &[u8], role: u64, head: Preprocessor) -> Result<Status, Refusal>
+    ensures { result ≡ seen_by table.now role (status_numbers head) }
 {
-    if !may(table, role, Right::SEE) {
-        return untold();
-    }
-    StatusAnswer {
-        row: 0,
+    demand(table, role, Right::SEE)?;
+    Ok(Status {
         values_seen: trcf_calls::queries::values_seen(head),
         internal_timestamp: trcf_calls::queries::internal_timestamp(head),
         ready: trcf_calls::queries::is_ready(head),
@@ -182,5 +93,5 @@ pub fn numbers(table: &[u8], role: u64, head: Preprocessor) -> StatusAnswer
         forest_mode: trcf_calls::queries::forest_mode(head),
         start_normalization: trcf_calls::queries::start_normalization(head),
         panel: trcf_calls::queries::panel(head),
-    }
+    })
 }

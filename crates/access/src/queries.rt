@@ -1,15 +1,18 @@
 // The calls that change nothing, for a role that may see.
+// Kept: (a) the six lent lists are parameters: the C interface lends each call its own mix of shared and mutable lists, and a struct would need a type for each mix.
 ghost use Rattle.std.specs.Prelude.{◌≡◌};
+ghost use Rattle.refusal.specs.Refusal.{row_of};
 ghost use Rattle.ranges.specs.RangeVector.{ranges};
 ghost use Rattle.trcf.specs.Calls.{transform, scale, shift, status};
 ghost use Rattle.trcf.specs.Preprocessor.{reading, transform_of, scale_of, shift_of, deviations};
 ghost use Rattle.trcf.specs.View.{lent, written, status_given};
 ghost use Rattle.trcf.specs.Extrapolation.{extrapolation, forecast};
-ghost use Rattle.access.specs.Entries.{write_by, extrapolation_by, withheld_status, status_by};
+ghost use Rattle.access.specs.Entries.{write_by, extrapolation_by, status_by};
 
-use crate::rights::{Right, may};
-use trcf::head::{Preprocessor, StatusAnswer};
-use trcf::types::{ForestMode, TransformMethod};
+use crate::rights::{Right, demand};
+use ranges::rangevector::RangeVector;
+use refusal::Refusal;
+use trcf::head::{Preprocessor, Status};
 
 pub fn transform(
     table: &[u8],
@@ -24,12 +27,10 @@ pub fn transform(
     input: &[f32],
     timestamp: u64,
     output: &mut [f32],
-) -> u64
-    ensures { written result output.new ≡ write_by table.now role head (lent statistics.now last_shingled_input.now last_shingled_point.now previous_timestamps.now initial_values.now initial_timestamps.now) (transform input.now timestamp output.old) (transform_of (reading input.now timestamp)) output.old }
+) -> Result<(), Refusal>
+    ensures { written (row_of result) output.new ≡ write_by table.now role head (lent statistics.now last_shingled_input.now last_shingled_point.now previous_timestamps.now initial_values.now initial_timestamps.now) (transform input.now timestamp output.old) (transform_of (reading input.now timestamp)) output.old }
 {
-    if !may(table, role, Right::SEE) {
-        return 22;
-    }
+    demand(table, role, Right::SEE)?;
     trcf_calls::queries::transform(
         head,
         statistics,
@@ -55,12 +56,10 @@ pub fn scale(
     initial_values: &[f32],
     initial_timestamps: &[u64],
     output: &mut [f32],
-) -> u64
-    ensures { written result output.new ≡ write_by table.now role head (lent statistics.now last_shingled_input.now last_shingled_point.now previous_timestamps.now initial_values.now initial_timestamps.now) (scale output.old) scale_of output.old }
+) -> Result<(), Refusal>
+    ensures { written (row_of result) output.new ≡ write_by table.now role head (lent statistics.now last_shingled_input.now last_shingled_point.now previous_timestamps.now initial_values.now initial_timestamps.now) (scale output.old) scale_of output.old }
 {
-    if !may(table, role, Right::SEE) {
-        return 22;
-    }
+    demand(table, role, Right::SEE)?;
     trcf_calls::queries::scale(
         head,
         statistics,
@@ -84,12 +83,10 @@ pub fn shift(
     initial_values: &[f32],
     initial_timestamps: &[u64],
     output: &mut [f32],
-) -> u64
-    ensures { written result output.new ≡ write_by table.now role head (lent statistics.now last_shingled_input.now last_shingled_point.now previous_timestamps.now initial_values.now initial_timestamps.now) (shift output.old) shift_of output.old }
+) -> Result<(), Refusal>
+    ensures { written (row_of result) output.new ≡ write_by table.now role head (lent statistics.now last_shingled_input.now last_shingled_point.now previous_timestamps.now initial_values.now initial_timestamps.now) (shift output.old) shift_of output.old }
 {
-    if !may(table, role, Right::SEE) {
-        return 22;
-    }
+    demand(table, role, Right::SEE)?;
     trcf_calls::queries::shift(
         head,
         statistics,
@@ -113,12 +110,10 @@ pub fn difference_deviations(
     initial_values: &[f32],
     initial_timestamps: &[u64],
     output: &mut [f32],
-) -> u64
-    ensures { written result output.new ≡ write_by table.now role head (lent statistics.now last_shingled_input.now last_shingled_point.now previous_timestamps.now initial_values.now initial_timestamps.now) (status output.old) deviations output.old }
+) -> Result<(), Refusal>
+    ensures { written (row_of result) output.new ≡ write_by table.now role head (lent statistics.now last_shingled_input.now last_shingled_point.now previous_timestamps.now initial_values.now initial_timestamps.now) (status output.old) deviations output.old }
 {
-    if !may(table, role, Right::SEE) {
-        return 22;
-    }
+    demand(table, role, Right::SEE)?;
     trcf_calls::queries::difference_deviations(
         head,
         statistics,
@@ -147,48 +142,33 @@ pub fn invert_extrapolation(
     times_out: &mut [f64],
     times_upper_out: &mut [f64],
     times_lower_out: &mut [f64],
-) -> u64
-    ensures { extrapolation result (forecast (ranges values.new upper.new lower.new) (ranges values_out.new upper_out.new lower_out.new) (ranges times_out.new times_upper_out.new times_lower_out.new))
+) -> Result<(), Refusal>
+    ensures { extrapolation (row_of result) (forecast (ranges values.new upper.new lower.new) (ranges values_out.new upper_out.new lower_out.new) (ranges times_out.new times_upper_out.new times_lower_out.new))
         ≡ extrapolation_by table.now role head statistics.now last_shingled_input.now previous_timestamps.now
         (forecast (ranges values.old upper.old lower.old) (ranges values_out.old upper_out.old lower_out.old) (ranges times_out.old times_upper_out.old times_lower_out.old)) }
 {
-    if !may(table, role, Right::SEE) {
-        return 22;
-    }
+    demand(table, role, Right::SEE)?;
     trcf_forecast::forecast::invert_extrapolation(
         head,
         statistics,
         last_shingled_input,
         previous_timestamps,
-        values,
-        upper,
-        lower,
-        values_out,
-        upper_out,
-        lower_out,
-        times_out,
-        times_upper_out,
-        times_lower_out,
+        &mut RangeVector {
+            values,
+            upper,
+            lower,
+        },
+        &mut RangeVector {
+            values: values_out,
+            upper: upper_out,
+            lower: lower_out,
+        },
+        &mut RangeVector {
+            values: times_out,
+            upper: times_upper_out,
+            lower: times_lower_out,
+        },
     )
-}
-
-// What the getters say together where the right is withheld: the row alone.
-pub(crate) fn untold() -> StatusAnswer
-    ensures { result ≡ withheld_status }
-{
-    StatusAnswer {
-        row: 22,
-        values_seen: 0,
-        internal_timestamp: 0,
-        ready: false,
-        input_dimensions: 0,
-        shingle_size: 0,
-        dimensions: 0,
-        transform_method: TransformMethod::NONE,
-        forest_mode: ForestMode::STANDARD,
-        start_normalization: 0,
-        panel: 0,
-    }
 }
 
 pub fn status(
@@ -202,12 +182,11 @@ pub fn status(
     initial_values: &[f32],
     initial_timestamps: &[u64],
     output: &mut [f32],
-) -> StatusAnswer
+) -> Result<Status, Refusal>
     ensures { status_given result output.new ≡ status_by table.now role head (lent statistics.now last_shingled_input.now last_shingled_point.now previous_timestamps.now initial_values.now initial_timestamps.now) output.old }
 {
-    if !may(table, role, Right::SEE) {
-        return untold();
-    }
+    // Withheld, no number is told.
+    demand(table, role, Right::SEE)?;
     trcf_calls::queries::status(
         head,
         statistics,

@@ -1,10 +1,12 @@
 // The table of rights (request #105): four roles by four rights, one byte a cell, role by role. It is lent beside a preprocessor and is no part of it.
 ghost use Rattle.std.specs.Prelude.{◌≡◌, true, [], ◌∷◌, ◌<◌, eqb};
-ghost use Rattle.access.specs.Access.{place, bits, table_fits, table_entry, granted, every_right};
+ghost use Rattle.access.specs.Access.{place, bits, table_fits, table_entry, granted, allowed, every_right};
 ghost use Rattle.access.specs.declared.rights.Right.TheVariants.{SEE, LEARN};
 
+use refusal::Refusal;
+
 // In the order of a role's cells: see (point, transform, turn-back, scale, shift, status and the getters), learn (learn, drain), save, restore.
-#[derive(Clone, Copy)]
+#[derive(Clone, Copy, Debug, PartialEq, Eq, Hash)]
 pub enum Right {
     SEE,
     LEARN,
@@ -36,12 +38,8 @@ fn all_bits(table: &[u8]) -> bool
     ensures { result ≡ bits table.now }
 {
     let mut largest = 0;
-    let mut i = 0;
-    while i < table.len() {
-        if largest < table[i] {
-            largest = table[i];
-        }
-        i += 1;
+    for cell in table {
+        largest = largest.max(*cell);
     }
     largest < 2
 }
@@ -50,13 +48,7 @@ fn all_bits(table: &[u8]) -> bool
 fn has_role(table: &[u8], role: u64) -> bool
     ensures { result ≡ table_fits table.now role }
 {
-    if table.len() != 16 {
-        return false;
-    }
-    if role >= 4 {
-        return false;
-    }
-    all_bits(table)
+    table.len() == 16 && role < 4 && all_bits(table)
 }
 
 // Whether the cell says so.
@@ -73,21 +65,27 @@ fn is_granted(table: &[u8], role: u64, right: Right) -> bool
 pub fn may(table: &[u8], role: u64, right: Right) -> bool
     ensures { result ≡ granted table.now role (right ∷ []) }
 {
-    if !has_role(table, role) {
-        return false;
-    }
-    is_granted(table, role, right)
+    has_role(table, role) && is_granted(table, role, right)
 }
 
 // Whether the role has both rights that a point needs.
 pub fn may_point(table: &[u8], role: u64) -> bool
     ensures { result ≡ granted table.now role (SEE ∷ LEARN ∷ []) }
 {
-    if !has_role(table, role) {
-        return false;
-    }
-    if !is_granted(table, role, Right::SEE) {
-        return false;
-    }
-    is_granted(table, role, Right::LEARN)
+    has_role(table, role)
+        && is_granted(table, role, Right::SEE)
+        && is_granted(table, role, Right::LEARN)
+}
+
+// Every entry that a role may be refused begins with one of these two.
+pub fn demand(table: &[u8], role: u64, right: Right) -> Result<(), Refusal>
+    ensures { result ≡ allowed (granted table.now role (right ∷ [])) }
+{
+    if may(table, role, right) { Ok(()) } else { Err(Refusal::Withheld) }
+}
+
+pub fn demand_point(table: &[u8], role: u64) -> Result<(), Refusal>
+    ensures { result ≡ allowed (granted table.now role (SEE ∷ LEARN ∷ [])) }
+{
+    if may_point(table, role) { Ok(()) } else { Err(Refusal::Withheld) }
 }

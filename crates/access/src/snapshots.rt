@@ -1,14 +1,15 @@
 // `save` and `restore`, each for a role that has its right.
+// Kept: (a) the six lent lists are parameters: the C interface lends each call its own mix of shared and mutable lists, and a struct would need a type for each mix.
 ghost use Rattle.std.specs.Prelude.{◌≡◌};
 ghost use Rattle.trcf.specs.View.{lent};
-ghost use Rattle.snapshot.specs.Save.{save_outcome as saved};
-ghost use Rattle.snapshot.specs.Restore.{restore_outcome as restored};
+ghost use Rattle.snapshot.specs.Save.{saved_told};
+ghost use Rattle.snapshot_restore.specs.Told.{restore_told};
 ghost use Rattle.access.specs.Entries.{save_by, restore_by};
 
-use crate::rights::{Right, may};
-use snapshot_restore::restore::Restored;
-use snapshot_save::save::Saved;
-use trcf::head::{Preprocessor, no_head};
+use crate::rights::{Right, demand};
+use refusal::Refusal;
+use snapshot_restore::restore::RestoreError;
+use trcf::head::Preprocessor;
 
 pub fn save(
     table: &[u8],
@@ -21,12 +22,11 @@ pub fn save(
     initial_values: &[f32],
     initial_timestamps: &[u64],
     out: &mut [u8],
-) -> Saved
-    ensures { saved result.row result.length out.new ≡ save_by table.now role head (lent statistics.now last_shingled_input.now last_shingled_point.now previous_timestamps.now initial_values.now initial_timestamps.now) out.old }
+) -> Result<usize, Refusal>
+    ensures { saved_told result out.new ≡ save_by table.now role head (lent statistics.now last_shingled_input.now last_shingled_point.now previous_timestamps.now initial_values.now initial_timestamps.now) out.old }
 {
-    if !may(table, role, Right::SAVE) {
-        return Saved { row: 22, length: 0 };
-    }
+    // Withheld, it tells of no text.
+    demand(table, role, Right::SAVE)?;
     snapshot_save::save::save(
         head,
         statistics,
@@ -51,17 +51,11 @@ pub fn restore(
     previous_timestamps: &mut [u64],
     initial_values: &mut [f32],
     initial_timestamps: &mut [u64],
-) -> Restored
-    ensures { restored result.row result.line result.head (lent statistics.new last_shingled_input.new last_shingled_point.new previous_timestamps.new initial_values.new initial_timestamps.new)
+) -> Result<Preprocessor, RestoreError>
+    ensures { restore_told result (lent statistics.new last_shingled_input.new last_shingled_point.new previous_timestamps.new initial_values.new initial_timestamps.new)
         ≡ restore_by table.now role text.now codes.now (lent statistics.old last_shingled_input.old last_shingled_point.old previous_timestamps.old initial_values.old initial_timestamps.old) }
 {
-    if !may(table, role, Right::RESTORE) {
-        return Restored {
-            row: 22,
-            line: 0,
-            head: no_head(),
-        };
-    }
+    demand(table, role, Right::RESTORE)?;
     snapshot_restore::restore::restore(
         text,
         codes,

@@ -1,22 +1,33 @@
 -- The calls, from what trcf's and snapshot's promise. Assumes nothing.
 use Prim.Native.Nat.{ℕ, ◌≤◌, ◌<◌}
-use mathlib.Core.Bool.{Bool, true, false, cond}
+use mathlib.Core.Bool.{Bool, true, false, cond, not}
 use mathlib.Core.List.{List, [], ◌∷◌}
 use mathlib.Core.Path.{◌≡◌, refl, sym, ap, ◌∙◌}
 use native.Mathlib.Omega.{arith}
 use lib.ListN.{length}
+use lib.Dec.{eqb}
+use lib.IntN.{ℤ}
 use lib.Ieee.{Float}
+use denote.Bor.{Bor}
 use borrow.Author.Tests.{lt-ltb, le-ltb}
 use Rattle.refusal.specs.Lent.{over}
+use Rattle.std.specs.Prelude.{Result, Ok, Err, Option as Held, is_some}
+use Rattle.std.specs.Bool.{then_some}
+use Rattle.std.specs.Int.{from_bool}
+use Rattle.refusal.specs.Refusal.{number_of}
+use Rattle.refusal.specs.declared.Refusal.{Refusal}
+use Rattle.refusal.specs.declared.Refusal.TheVariants.{Withheld}
 use Rattle.trcf.specs.Settings.{Settings, settings_row}
 use Rattle.trcf.specs.Calls.{Call, Learn, Forecast}
 use Rattle.trcf.specs.Preprocessor.{State, accepted}
-use Rattle.trcf.specs.View.{Lent, settings_of, outcome, or_else, build_of, drain_of, pointed, point_after, learn_outcome, learn_nothing, learn_after, Written, written, write_of}
+use Rattle.trcf.specs.View.{Lent, settings_of, outcome, or_else, build_of, drain_of, pointed, point_after, learn_outcome, learn_nothing, learn_after, learn_call, optional, Written, written, write_of}
 use Rattle.trcf.specs.Extrapolation.{Extrapolation, extrapolation, extrapolation_of}
 use Rattle.trcf.specs.declared.types.TransformMethod.{TransformMethod}
 use Rattle.trcf.specs.declared.types.ForestMode.{ForestMode}
 use Rattle.trcf.specs.declared.head.Preprocessor.{Preprocessor}
-use Rattle.trcf.specs.declared.head.StatusAnswer.{StatusAnswer}
+use Rattle.trcf.specs.declared.head.Status.{Status}
+use Rattle.trcf.proofs.NumberLaws.{number_zero}
+use Rattle.trcf_learn.specs.Given.{list_in}
 use Rattle.trcf.proofs.OutcomeLaws.{accepted_not, or_else_is}
 use Rattle.snapshot.specs.Save.{save_of, save_outcome as saved}
 use Rattle.capi.specs.Head.{head_of, words_of, counts_over, kind_row, words_short_row}
@@ -24,8 +35,8 @@ use Rattle.capi.specs.Steps.Reading.{HeadRead}
 use Rattle.access.specs.declared.rights.Right.{Right}
 use Rattle.access.specs.declared.rights.Right.TheVariants.{SEE, LEARN, SAVE}
 use Rattle.access.specs.Access.{needs, granted, guarded}
-use Rattle.access.specs.Entries.{point_by, learn_by, drain_by, write_by, extrapolation_by, save_by, status_numbers, numbers_by, withheld_status}
-use Rattle.capi.specs.Calls.{open_row, on_head, flag, called, drain_told, drain_at, build_told, build_at, point_called, point_told, point_at, AnomalyOut, anomaly_out}
+use Rattle.access.specs.Entries.{point_by, learn_by, drain_by, write_by, extrapolation_by, save_by, seen_by, status_numbers}
+use Rattle.capi.specs.Calls.{open_row, on_head, flag, is_set, called, drain_told, drain_at, build_told, build_at, point_called, point_told, point_at, AnomalyOut, anomaly_out}
 use Rattle.capi.specs.Calls.{learn_called, learn_told, learn_at, write_at, extrapolation_at, save_told, save_at, ListGot, list_got, list_told, numbers_told, numbers_at, codes_at}
 
 module _ {A : Type 0} where
@@ -59,6 +70,43 @@ module _ {A : Type 0} where
 -- the row of the words as the code asks for it: by what the table's test said
 pub opened : {n : ℕ} {b c : Bool} (w : List ℕ) → b ≡ c → n ≡ open_row b w → n ≡ open_row c w
 opened w m e = e ∙ ap (λ (b : Bool). open_row b w) m
+
+pub refused_row : (r : Refusal) {n : ℕ} {b c : Bool} (w : List ℕ) → n ≡ number_of r → b ≡ c → number_of r ≡ open_row b w → n ≡ open_row c w
+refused_row r w i m e = i ∙ opened w m e
+
+pub not_zero : (r : Refusal) {n : ℕ} → n ≡ number_of r → n ≡ 0 → ⊥
+not_zero r i z = number_zero r (sym i ∙ z)
+
+-- a Bool as a number
+pub flag_from : (b : Bool) {n : ℕ} → n ≡ from_bool b → n ≡ flag b
+flag_from true i = i
+flag_from false i = i
+
+-- the lists of a learn, given or not, by numbers
+list_given : (n : ℕ) (v : Bor (List Float)) (o : Held (Bor (List Float))) → o ≡ then_some (not (eqb n 0)) v → optional (is_some o) (list_in o) ≡ optional (is_set n) v.now
+list_given n v o i = rw i (go (eqb n 0))
+  where
+    go : (b : Bool) → optional (is_some (then_some (not b) v)) (list_in (then_some (not b) v)) ≡ optional (not b) v.now
+    go true = refl
+    go false = refl
+
+module _ (x : List Float) (t : ℕ) (grade : Float) (index : ℤ) (deviations past expected : List Float) where
+  pub given_call : (n : ℕ) (v : Bor (List Float)) (m : ℕ) (u : Bor (List Float)) {o p : Held (Bor (List Float))} {i : ℤ}
+      → o ≡ then_some (not (eqb n 0)) v → p ≡ then_some (not (eqb m 0)) u → i ≡ index
+      → learn_call x t (is_some o) (list_in o) (is_some p) (list_in p) grade i deviations past expected
+      ≡ learn_call x t (is_set n) v.now (is_set m) u.now grade index deviations past expected
+  given_call n v m u {o} {p} e f g =
+      λ j. record {
+        input = x;
+        timestamp = t;
+        rcf_point = list_given n v o e j;
+        expected_point = list_given m u p f j;
+        grade = grade;
+        relative_index = g j;
+        deviations_out = deviations;
+        past_out = past;
+        expected_out = expected;
+      }
 
 -- each call is refused by its row, n, or works on the head that was read
 module _ (t : List ℕ) (role : ℕ) (w : List ℕ) {n : ℕ} where
@@ -162,12 +210,20 @@ module _ (t : List ℕ) (role : ℕ) (w : List ℕ) {n : ℕ} where
         ∙ ap (save_told m) (p ∙ below t role (SAVE ∷ []) w n e z (save_of h l out) (saved 22 0 out) ∙ ap (λ (x : Preprocessor). save_of x l out) (read z).is)
         ∙ done (granted t role (SAVE ∷ [])) w (save_told m (save_of (head_of w) l out)) (λ (r : ℕ). saved r m out) n e z
 
-    pub numbers_done : n ≡ open_row (granted t role (SEE ∷ [])) w → (out : List ℕ) {a : StatusAnswer} {o : ListGot}
-        → a ≡ numbers_by t role h → o ≡ list_told (numbers_told a) out → o ≡ numbers_at t role w out
+    -- what a getter says is said, since the role may see
+    seen : n ≡ open_row (granted t role (SEE ∷ [])) w → {r : Result Status Refusal} → r ≡ seen_by t role (status_numbers h) → r ≡ Ok (status_numbers (head_of w))
+    seen e i = i ∙ below t role (SEE ∷ []) w n e z (Ok (status_numbers h)) (Err Withheld) ∙ ap (λ (x : Preprocessor). Ok (status_numbers x)) (read z).is
+
+    pub numbers_shut : n ≡ open_row (granted t role (SEE ∷ [])) w → {r : Refusal} → Err r ≡ seen_by t role (status_numbers h) → ⊥
+    numbers_shut e i = (let k = seen e i in cc)
+
+    pub numbers_done : n ≡ open_row (granted t role (SEE ∷ [])) w → (out : List ℕ) {a : Status} {o : ListGot}
+        → Ok a ≡ seen_by t role (status_numbers h) → o ≡ list_told (numbers_told a) out → o ≡ numbers_at t role w out
     unfolding numbers_at
-    numbers_done e out i p =
+    numbers_done e out {a} {o} i p =
+        let k : a ≡ status_numbers (head_of w) = (let k = seen e i in cc) in
         p
-        ∙ ap (λ (x : StatusAnswer). list_told (numbers_told x) out) (i ∙ below t role (SEE ∷ []) w n e z (status_numbers h) withheld_status ∙ ap status_numbers (read z).is)
+        ∙ ap (λ (x : Status). list_told (numbers_told x) out) k
         ∙ done (granted t role (SEE ∷ [])) w (list_told (numbers_told (status_numbers (head_of w))) out) (λ (r : ℕ). list_got r out) n e z
 
     pub codes_done : n ≡ open_row (granted t role (SEE ∷ [])) w → (cs out : List ℕ) {o : ListGot} → cs ≡ (settings_of h).codes → o ≡ list_told cs out → o ≡ codes_at t role w out

@@ -136,31 +136,6 @@ all_codes_lem v {c} p z = go (all_codes v) (sym p ∙ z)
     go true e = refl
     go false e = absurd (omega (arith, e))
 
--- one step of the walk over the codes: `row` is what the words before i say, `after` what those up to i say
-module _ (w : List ℕ) (i : ℕ) (h : i < length w) (row after : ℕ) (inv : codes_row w ≡ or_else row (codes_row (drop i w))) where
-  pub code_bad : code_max < get_or w i 0 → after ≡ 19 → codes_row w ≡ or_else after (codes_row (drop (suc i) w))
-  code_bad e f =
-      met (all_codes w) row (inv ∙ ap (λ (b : Bool). or_else row (cond b 0 19)) (codes_not w i h e))
-      ∙ ap (λ (r : ℕ). or_else r (codes_row (drop (suc i) w))) (sym f)
-    where
-      met : (b : Bool) (r : ℕ) → ◌≡◌ {A = ℕ} (cond b 0 19) (or_else r 19) → ◌≡◌ {A = ℕ} (cond b 0 19) 19
-      met b zero q = q
-      met true (suc r) q = absurd (omega (arith, q))
-      met false (suc r) q = refl
-
-  pub code_good : get_or w i 0 ≤ code_max → after ≡ row → codes_row w ≡ or_else after (codes_row (drop (suc i) w))
-  code_good e f =
-      inv
-      ∙ ap (λ (b : Bool). or_else row (cond b 0 19)) (codes_on w i h e)
-      ∙ ap (λ (r : ℕ). or_else r (codes_row (drop (suc i) w))) (sym f)
-
-pub codes_met : (w : List ℕ) (i row : ℕ) → length w ≤ i → codes_row w ≡ or_else row (codes_row (drop i w)) → row ≡ codes_row w
-codes_met w i row h inv = sym (inv ∙ ap (λ (l : List ℕ). or_else row (codes_row l)) (drop_of_length-le w h) ∙ alone row)
-  where
-    alone : (r : ℕ) → or_else r 0 ≡ r
-    alone zero = refl
-    alone (suc r) = refl
-
 -- what a form's row 0 says of the words
 pub formed : (w : List ℕ) → form_row w ≡ 0 → (44 ≤ length w) × (all_codes (codes_in w) ≡ true)
 unfolding form_row

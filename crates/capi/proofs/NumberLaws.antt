@@ -7,7 +7,7 @@ use native.Mathlib.Omega.{arith}
 use lib.ListN.{length, drop, set}
 use Rattle.refusal.specs.Lent.{over}
 use Rattle.trcf.specs.Types.{method_number}
-use Rattle.trcf.specs.declared.head.StatusAnswer.{StatusAnswer}
+use Rattle.trcf.specs.declared.head.Status.{Status}
 use Rattle.capi.specs.Head.{mode_number, form_row, words_row}
 use Rattle.capi.specs.Calls.{open_row, flag, numbers_told}
 use Rattle.capi.proofs.HeadLaws.{row_form}
@@ -15,9 +15,6 @@ use Rattle.capi.proofs.HeadLaws.{row_form}
 -- ---- 22 before the words are looked at
 
 module _ (w : List ℕ) where
-  pub form_shut : (b : Bool) → b ≡ false → 22 ≡ cond b (form_row w) 22
-  form_shut b e = rw e
-
   pub form_asked : (b : Bool) {n : ℕ} → b ≡ true → n ≡ form_row w → n ≡ cond b (form_row w) 22
   form_asked b e p = rw e p
 
@@ -51,7 +48,7 @@ ten (x₀ ∷ x₁ ∷ x₂ ∷ x₃ ∷ x₄ ∷ x₅ ∷ x₆ ∷ []) a b c d 
 ten (x₀ ∷ x₁ ∷ x₂ ∷ x₃ ∷ x₄ ∷ x₅ ∷ x₆ ∷ x₇ ∷ []) a b c d e f g h i j n = absurd (omega arith)
 ten (x₀ ∷ x₁ ∷ x₂ ∷ x₃ ∷ x₄ ∷ x₅ ∷ x₆ ∷ x₇ ∷ x₈ ∷ []) a b c d e f g h i j n = absurd (omega arith)
 
-pub numbers_stored : (w : List ℕ) (s : StatusAnswer) {c h i : ℕ} → 10 ≤ length w → c ≡ flag s.ready → h ≡ method_number s.transform_method → i ≡ mode_number s.forest_mode
+pub numbers_stored : (w : List ℕ) (s : Status) {c h i : ℕ} → 10 ≤ length w → c ≡ flag s.ready → h ≡ method_number s.transform_method → i ≡ mode_number s.forest_mode
     → set (set (set (set (set (set (set (set (set (set w 0 s.values_seen) 1 s.internal_timestamp) 2 c) 3 s.input_dimensions) 4 s.shingle_size) 5 s.dimensions) 6
     s.start_normalization) 7 h) 8 i) 9 s.panel
     ≡ over w (numbers_told s)

@@ -6,15 +6,14 @@ use mathlib.Core.Path.{◌≡◌, sym, ap, ◌∙◌}
 use lib.Dec.{ltb}
 use lib.Ieee.{Float}
 use Rattle.trcf.specs.Preprocessor.{accepted}
-use Rattle.stranding.specs.Counts.{row_counts as counted, strandings_of}
-use Rattle.stranding.specs.declared.StrandingCounts.{StrandingCounts}
+use Rattle.stranding.specs.Counts.{RowCounts, row_counts as counted, strandings_of}
 use Rattle.series.specs.Imputation.{Imputation, imputation, impute_of}
 use Rattle.series.specs.Alignment.{Readings, Outputs, align_outcome, align_of}
 use Rattle.series.specs.declared.imputation.ImputationMethod.{ImputationMethod}
 use Rattle.capi.specs.Counts.{strandings_told, strandings_at}
 use Rattle.capi.specs.Lists.{imputation_method_of, impute_at, align_told, align_at}
 
-pub strandings_done : (start calls w d s : ℕ) {r : StrandingCounts} {w' d' s' : ℕ} → r ≡ strandings_of start calls
+pub strandings_done : (start calls w d s : ℕ) {r : RowCounts} {w' d' s' : ℕ} → r ≡ strandings_of start calls
     → w' ≡ accepted r.row r.waiting w → d' ≡ accepted r.row r.drained d → s' ≡ accepted r.row r.stranded s
     → counted r.row w' d' s' ≡ strandings_at start calls w d s
 unfolding strandings_at

@@ -14,11 +14,20 @@ use Rattle.trcf.specs.declared.head.Preprocessor.{Preprocessor}
 use Rattle.snapshot.specs.Read.{taken, same, read}
 use Rattle.snapshot.specs.Restore.{RestoreOutcome, restore_outcome, restored, restore_of}
 use Rattle.snapshot.proofs.RoundTrip.{restored_only}
+use Rattle.snapshot_restore.specs.declared.restore.RestoreError.{RestoreError}
+use Rattle.snapshot_restore.specs.declared.restore.RestoreError.TheVariants.{Form, Refused}
+use Rattle.snapshot_restore.specs.Told.{row_told}
+use Rattle.trcf.proofs.NumberLaws.{number_zero}
 use Rattle.capi.specs.Head.{words_of}
 use Rattle.access.specs.declared.rights.Right.TheVariants.{RESTORE}
 use Rattle.access.specs.Access.{granted}
 use Rattle.access.specs.Entries.{restore_by}
 use Rattle.capi.specs.Restore.{RestoreCalled, restore_called, nothing, restore_into, restore_at}
+
+-- a text that is not taken up has a row
+pub told_not : (e : RestoreError) → row_told e ≡ 0 → ⊥
+told_not (Form b) z = absurd (omega (arith, z))
+told_not (Refused r) z = number_zero r z
 
 -- ---- by the words
 

@@ -10,8 +10,7 @@ use borrow.Author.Tests.{lt-ltb, le-ltb}
 use Rattle.refusal.specs.Lent.{over}
 use Rattle.common.specs.Corrected.{corrected_of}
 use Rattle.common.specs.declared.deviation.Deviation.{Deviation}
-use Rattle.common.specs.declared.deviation.DeviationResult.{DeviationResult}
-use Rattle.common.specs.declared.deviation.DeviationResult.TheVariants.{Ok, Err}
+use Rattle.std.specs.Prelude.{Result, Ok, Err}
 use Rattle.capi.specs.Statistic.{StatisticGot, statistic_got, statistic_told, result_told, corrected_at}
 
 -- three numbers written one after the other
@@ -35,11 +34,11 @@ module _ (s : Deviation) (out : List Float) where
   statistic_fits h = ap (statistic_got 0) (three_over s.weight s.sum s.sum_squared out h) ∙ sym (ap told_by (le-ltb (length out) 3 h))
 
 -- by what `corrected` answers
-module _ (s : Deviation) (wrong right : Float) (out : List Float) {r : DeviationResult} (i : r ≡ corrected_of s wrong right) where
+module _ (s : Deviation) (wrong right : Float) (out : List Float) {r : Result Deviation ℕ} (i : r ≡ corrected_of s wrong right) where
   pub corrected_done : {t : Deviation} {o : StatisticGot} → r ≡ Ok t → o ≡ statistic_told t out → o ≡ corrected_at s wrong right out
   unfolding corrected_at
-  corrected_done e p = p ∙ ap (λ (x : DeviationResult). result_told x out) (sym e ∙ i)
+  corrected_done e p = p ∙ ap (λ (x : Result Deviation ℕ). result_told x out) (sym e ∙ i)
 
   pub corrected_refused : {n : ℕ} → r ≡ Err n → statistic_got n out ≡ corrected_at s wrong right out
   unfolding corrected_at
-  corrected_refused e = ap (λ (x : DeviationResult). result_told x out) (sym e ∙ i)
+  corrected_refused e = ap (λ (x : Result Deviation ℕ). result_told x out) (sym e ∙ i)

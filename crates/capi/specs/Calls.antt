@@ -8,7 +8,7 @@ use Rattle.trcf.specs.Calls.{Call, Learn, Forecast, shingled_point, post_process
 use Rattle.trcf.specs.Preprocessor.{State, accepted}
 use Rattle.trcf.specs.View.{Lent, settings_of, Outcome, or_else, build_of, drain_of, PointOutcome, point_after, LearnOutcome, learn_after, Written, written, write_of}
 use Rattle.trcf.specs.Extrapolation.{Extrapolation, extrapolation, extrapolation_of}
-use Rattle.trcf.specs.declared.head.StatusAnswer.{StatusAnswer}
+use Rattle.trcf.specs.declared.head.Status.{Status}
 use Rattle.snapshot.specs.Save.{save_of, SaveOutcome as Saved, save_outcome as saved}
 use Rattle.access.specs.declared.rights.Right.TheVariants.{SEE, SAVE}
 use Rattle.access.specs.Access.{needs, granted}
@@ -138,7 +138,7 @@ unfoldable pub list_told : List ℕ → List ℕ → ListGot
 list_told v out = cond (ltb (length out) (length v)) (list_got 20 out) (list_got 0 (over out v))
 
 -- what the getters say, in the order of status
-abbrev pub numbers_told : StatusAnswer → List ℕ
+abbrev pub numbers_told : Status → List ℕ
 numbers_told a =
     a.values_seen
     ∷ a.internal_timestamp

@@ -1,11 +1,9 @@
 -- One reading of a list's statistic put right (request #111), at C's border: the new weight, sum and sum of squares in lent memory. Discount and count do
 -- not change.
-use Rattle.std.specs.Prelude.{ℕ, cond, List, [], ◌∷◌, ltb, length, Float}
+use Rattle.std.specs.Prelude.{ℕ, cond, List, [], ◌∷◌, ltb, length, Float, Result, Ok, Err}
 use Rattle.refusal.specs.Lent.{over}
 use Rattle.common.specs.Corrected.{corrected_of}
 use Rattle.common.specs.declared.deviation.Deviation.{Deviation}
-use Rattle.common.specs.declared.deviation.DeviationResult.{DeviationResult}
-use Rattle.common.specs.declared.deviation.DeviationResult.TheVariants.{Ok, Err}
 
 pub record StatisticGot : Type 0 where
   pub row : ℕ
@@ -20,7 +18,7 @@ statistic_told s out =
     cond (ltb (length out) 3) (statistic_got 20 out) (statistic_got 0 (over out (s.weight ∷ s.sum ∷ s.sum_squared ∷ [])))
 
 -- a refusal leaves it as it was
-abbrev pub result_told : DeviationResult → List Float → StatisticGot
+abbrev pub result_told : Result Deviation ℕ → List Float → StatisticGot
 result_told (Ok s) out = statistic_told s out
 result_told (Err n) out = statistic_got n out
 

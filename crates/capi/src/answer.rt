@@ -1,40 +1,32 @@
-// Answers in lent numbers, where a call was not refused.
+// An anomaly in lent numbers.
 ghost use Rattle.std.specs.Prelude.{◌≡◌};
-ghost use Rattle.trcf.specs.Preprocessor.{accepted};
-ghost use Rattle.capi.specs.Calls.{flag, is_set};
+ghost use Rattle.trcf.specs.Calls.{given};
+ghost use Rattle.trcf.specs.View.{anomaly_held, anomaly_time, anomaly_likelihood};
+ghost use Rattle.capi.specs.Calls.{flag};
 
-pub(crate) fn flag_of(b: bool) -> u64
-    ensures { result ≡ flag b }
-{
-    if b {
-        return 1;
-    }
-    0
-}
+use trcf::head::Anomaly;
 
-pub(crate) fn is_set(n: u64) -> bool
-    ensures { result ≡ is_set n }
+// Whether there is one, its time and its likelihood: all 0 where there is none.
+pub(crate) fn tell_anomaly(
+    anomaly: Option<Anomaly>,
+    has_anomaly: &mut u64,
+    past_timestamp: &mut u64,
+    likelihood: &mut f32,
+)
+    ensures flag_after { has_anomaly.new ≡ flag (given (anomaly_held anomaly)) }
+    ensures time_after { past_timestamp.new ≡ anomaly_time (anomaly_held anomaly) }
+    ensures likelihood_after { likelihood.new ≡ anomaly_likelihood (anomaly_held anomaly) }
 {
-    if n == 0 {
-        return false;
+    match anomaly {
+        Some(a) => {
+            *has_anomaly = 1;
+            *past_timestamp = a.past_timestamp;
+            *likelihood = a.likelihood;
+        }
+        None => {
+            *has_anomaly = 0;
+            *past_timestamp = 0;
+            *likelihood = 0.0;
+        }
     }
-    true
-}
-
-pub(crate) fn tell(place: &mut u64, row: u64, n: u64)
-    ensures { place.new ≡ accepted row n place.old }
-{
-    if row != 0 {
-        return;
-    }
-    *place = n;
-}
-
-pub(crate) fn tell_f32(place: &mut f32, row: u64, x: f32)
-    ensures { place.new ≡ accepted row x place.old }
-{
-    if row != 0 {
-        return;
-    }
-    *place = x;
 }

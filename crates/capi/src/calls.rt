@@ -1,14 +1,16 @@
 // The calls that make and change a preprocessor.
+// Kept: (a) the six lent lists are parameters: the C interface lends each call its own mix of shared and mutable lists, and a struct would need a type for each mix.
 ghost use Rattle.std.specs.Prelude.{◌≡◌};
 ghost use Rattle.trcf.specs.View.{lent, learn_call};
 ghost use Rattle.capi.specs.Head.{settings_given};
 ghost use Rattle.capi.specs.Calls.{called, build_at, drain_at, point_called, point_at, anomaly_out, learn_called, learn_at, is_set};
 
-use crate::answer::{flag_of, is_set, tell, tell_f32};
-use crate::head::{open_head, write_counts, write_head};
+use crate::answer::tell_anomaly;
+use crate::head::{HEAD_WORDS, open_head, write_counts, write_head};
 use crate::words::{kind_row, method_of, mode_of};
 use access::calls::{drain, post_process, shingled_point};
 use access::rights::{Right, may, may_point};
+use refusal::Refusal;
 use trcf::head::PreprocessorBuilder;
 use trcf_calls::build::build;
 use trcf_rows::rows::settings_row;
@@ -37,30 +39,26 @@ pub extern "C" fn veerycouch_build(
     ensures { called result head.new (lent statistics.new last_shingled_input.new last_shingled_point.new previous_timestamps.new initial_values.now initial_timestamps.now)
         ≡ build_at forest_mode transform_method (settings_given forest_mode transform_method input_dimensions shingle_size start_normalization stop_normalization transform_decay weight_time weights.now codes.now) head.old (lent statistics.old last_shingled_input.old last_shingled_point.old previous_timestamps.old initial_values.now initial_timestamps.now) }
 {
-    let kind = kind_row(forest_mode, transform_method);
-    if kind != 0 {
-        return kind;
+    if let Err(refusal) = kind_row(forest_mode, transform_method) {
+        return u64::from(refusal);
     }
-    let mode = mode_of(forest_mode);
-    let method = method_of(transform_method);
     let builder = PreprocessorBuilder {
-        forest_mode: mode,
-        transform_method: method,
-        input_dimensions: input_dimensions,
-        shingle_size: shingle_size,
-        start_normalization: start_normalization,
-        stop_normalization: stop_normalization,
-        transform_decay: transform_decay,
-        weight_time: weight_time,
+        forest_mode: mode_of(forest_mode),
+        transform_method: method_of(transform_method),
+        input_dimensions,
+        shingle_size,
+        start_normalization,
+        stop_normalization,
+        transform_decay,
+        weight_time,
     };
-    let bad = settings_row(builder, weights, codes);
-    if bad != 0 {
-        return bad;
+    if let Err(refusal) = settings_row(builder, weights, codes) {
+        return u64::from(refusal);
     }
-    if head.len() < 44 {
-        return 20;
+    if head.len() < HEAD_WORDS {
+        return u64::from(Refusal::TooShort);
     }
-    let r = build(
+    let built = build(
         builder,
         weights,
         codes,
@@ -71,10 +69,13 @@ pub extern "C" fn veerycouch_build(
         initial_values,
         initial_timestamps,
     );
-    let row = r.row;
-    let next = r.head;
-    write_head(head, row, next);
-    row
+    match built {
+        Ok(next) => {
+            write_head(head, next);
+            0
+        }
+        Err(refusal) => u64::from(refusal),
+    }
 }
 
 // The initial values, once they are complete, are fed.
@@ -93,13 +94,11 @@ pub extern "C" fn veerycouch_drain(
     ensures { called result head.new (lent statistics.new last_shingled_input.new last_shingled_point.new previous_timestamps.new initial_values.now initial_timestamps.now)
         ≡ drain_at table.now role head.old (lent statistics.old last_shingled_input.old last_shingled_point.old previous_timestamps.old initial_values.now initial_timestamps.now) }
 {
-    let read = open_head(may(table, role, Right::LEARN), head);
-    let bad = read.row;
-    if bad != 0 {
-        return bad;
-    }
-    let before = read.head;
-    let r = drain(
+    let before = match open_head(may(table, role, Right::LEARN), head) {
+        Ok(before) => before,
+        Err(refusal) => return u64::from(refusal),
+    };
+    let drained = drain(
         table,
         role,
         before,
@@ -110,10 +109,13 @@ pub extern "C" fn veerycouch_drain(
         initial_values,
         initial_timestamps,
     );
-    let row = r.row;
-    let next = r.head;
-    write_counts(head, row, next);
-    row
+    match drained {
+        Ok(next) => {
+            write_counts(head, next);
+            0
+        }
+        Err(refusal) => u64::from(refusal),
+    }
 }
 
 // The shingled point of a reading, where one is given.
@@ -136,13 +138,11 @@ pub extern "C" fn veerycouch_shingled_point(
     ensures { point_called result head.new (lent statistics.new last_shingled_input.new last_shingled_point.new previous_timestamps.new initial_values.now initial_timestamps.now) given.new output.new
         ≡ point_at table.now role head.old (lent statistics.old last_shingled_input.old last_shingled_point.old previous_timestamps.old initial_values.now initial_timestamps.now) input.now timestamp given.old output.old }
 {
-    let read = open_head(may_point(table, role), head);
-    let bad = read.row;
-    if bad != 0 {
-        return bad;
-    }
-    let before = read.head;
-    let r = shingled_point(
+    let before = match open_head(may_point(table, role), head) {
+        Ok(before) => before,
+        Err(refusal) => return u64::from(refusal),
+    };
+    let pointed = shingled_point(
         table,
         role,
         before,
@@ -156,11 +156,14 @@ pub extern "C" fn veerycouch_shingled_point(
         timestamp,
         output,
     );
-    let row = r.row;
-    let next = r.head;
-    write_counts(head, row, next);
-    tell(given, row, flag_of(r.given));
-    row
+    match pointed {
+        Ok(p) => {
+            write_counts(head, p.head);
+            *given = u64::from(p.given);
+            0
+        }
+        Err(refusal) => u64::from(refusal),
+    }
 }
 
 // A reading is learnt, or waits.
@@ -194,13 +197,11 @@ pub extern "C" fn veerycouch_post_process(
     ensures { learn_called result head.new (lent statistics.new last_shingled_input.new last_shingled_point.new previous_timestamps.new initial_values.new initial_timestamps.new) (anomaly_out written.new has_anomaly.new past_timestamp.new likelihood.new) deviations_out.new past_out.new expected_out.new
         ≡ learn_at table.now role head.old (lent statistics.old last_shingled_input.old last_shingled_point.old previous_timestamps.old initial_values.old initial_timestamps.old) (anomaly_out written.old has_anomaly.old past_timestamp.old likelihood.old) (learn_call input.now timestamp (is_set has_y) y.now (is_set expects) expected.now grade relative_index deviations_out.old past_out.old expected_out.old) }
 {
-    let read = open_head(may(table, role, Right::LEARN), head);
-    let bad = read.row;
-    if bad != 0 {
-        return bad;
-    }
-    let before = read.head;
-    let r = post_process(
+    let before = match open_head(may(table, role, Right::LEARN), head) {
+        Ok(before) => before,
+        Err(refusal) => return u64::from(refusal),
+    };
+    let learnt = post_process(
         table,
         role,
         before,
@@ -212,22 +213,21 @@ pub extern "C" fn veerycouch_post_process(
         initial_timestamps,
         input,
         timestamp,
-        y,
-        is_set(has_y),
-        expected,
-        is_set(expects),
+        (has_y != 0).then_some(y),
+        (expects != 0).then_some(expected),
         grade,
         relative_index,
         deviations_out,
         past_out,
         expected_out,
     );
-    let row = r.row;
-    let next = r.head;
-    write_counts(head, row, next);
-    tell(written, row, flag_of(r.written));
-    tell(has_anomaly, row, flag_of(r.has_anomaly));
-    tell(past_timestamp, row, r.past_timestamp);
-    tell_f32(likelihood, row, r.likelihood);
-    row
+    match learnt {
+        Ok(p) => {
+            write_counts(head, p.head);
+            *written = u64::from(p.written);
+            tell_anomaly(p.anomaly, has_anomaly, past_timestamp, likelihood);
+            0
+        }
+        Err(refusal) => u64::from(refusal),
+    }
 }

@@ -1,22 +1,24 @@
 // The codes of the channels: judged and read from words, written into words, and told in lent memory.
 ghost use Rattle.std.specs.Prelude.{◌≡◌, true, length};
+ghost use Rattle.refusal.specs.Refusal.{row_of};
 ghost use Rattle.snapshot.specs.Read.{all_codes};
 ghost use Rattle.capi.specs.Head.{codes_row};
 ghost use Rattle.capi.specs.Calls.{list_got, list_told};
 
-// Row 19 for a word that is no code. All are looked at, so that a compiler can look at several at once.
-pub(crate) fn codes_row(words: &[u64]) -> u64
-    ensures { result ≡ codes_row words.now }
+use refusal::Refusal;
+
+// The largest code: 16 bits.
+const CODE_MAX: u64 = 65535;
+
+// Refused for a word that is no code, by the largest of them: all are looked at, so that a compiler can look at several at once.
+pub(crate) fn codes_row(words: &[u64]) -> Result<(), Refusal>
+    ensures { row_of result ≡ codes_row words.now }
 {
-    let mut row = 0;
-    let mut i = 0;
-    while i < words.len() {
-        if 65535 < words[i] {
-            row = 19;
-        }
-        i += 1;
+    let mut largest = 0;
+    for word in words {
+        largest = largest.max(*word);
     }
-    row
+    if CODE_MAX < largest { Err(Refusal::Form) } else { Ok(()) }
 }
 
 pub(crate) fn codes_of(words: &[u64]) -> [u16; 16]
@@ -25,10 +27,8 @@ pub(crate) fn codes_of(words: &[u64]) -> [u16; 16]
     ensures { result ≡ words.now }
 {
     let mut a = [0u16; 16];
-    let mut i = 0;
-    while i < 16 {
+    for i in 0..16 {
         a[i] = words[i] as u16;
-        i += 1;
     }
     a
 }
@@ -37,24 +37,18 @@ pub(crate) fn write_codes(words: &mut [u64], codes: [u16; 16])
     requires { length words.old ≡ 16 }
     ensures { words.new ≡ codes }
 {
-    let mut i = 0;
-    while i < 16 {
-        words[i] = codes[i] as u64;
-        i += 1;
+    for i in 0..16 {
+        words[i] = u64::from(codes[i]);
     }
 }
 
 // The codes into lent memory, where they fit.
-pub(crate) fn tell_codes(codes: &[u16], output: &mut [u16]) -> u64
-    ensures { list_got result output.new ≡ list_told codes.now output.old }
+pub(crate) fn tell_codes(codes: &[u16], output: &mut [u16]) -> Result<(), Refusal>
+    ensures { list_got (row_of result) output.new ≡ list_told codes.now output.old }
 {
     if output.len() < codes.len() {
-        return 20;
+        return Err(Refusal::TooShort);
     }
-    let mut i = 0;
-    while i < codes.len() {
-        output[i] = codes[i];
-        i += 1;
-    }
-    0
+    output[..codes.len()].copy_from_slice(codes);
+    Ok(())
 }

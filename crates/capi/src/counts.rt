@@ -3,7 +3,6 @@ ghost use Rattle.std.specs.Prelude.{◌≡◌};
 ghost use Rattle.stranding.specs.Counts.{row_counts};
 ghost use Rattle.capi.specs.Counts.{strandings_at};
 
-use crate::answer::tell;
 use stranding::strandings;
 
 // The three numbers, or row 25.
@@ -17,10 +16,13 @@ pub extern "C" fn veerycouch_strandings(
 ) -> u64
     ensures { row_counts result waiting.new drained.new stranded.new ≡ strandings_at start calls waiting.old drained.old stranded.old }
 {
-    let r = strandings(start, calls);
-    let row = r.row;
-    tell(waiting, row, r.waiting);
-    tell(drained, row, r.drained);
-    tell(stranded, row, r.stranded);
-    row
+    match strandings(start, calls) {
+        Ok(counts) => {
+            *waiting = counts.waiting;
+            *drained = counts.drained;
+            *stranded = counts.stranded;
+            0
+        }
+        Err(refusal) => u64::from(refusal),
+    }
 }

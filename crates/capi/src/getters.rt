@@ -1,36 +1,35 @@
 // What the getters say: the ten numbers of a preprocessor, and the codes of its channels.
 ghost use Rattle.std.specs.Prelude.{◌≡◌};
+ghost use Rattle.refusal.specs.Refusal.{row_of};
 ghost use Rattle.capi.specs.Calls.{list_got, list_told, numbers_told, numbers_at, codes_at};
 
-use crate::answer::flag_of;
 use crate::codes::tell_codes;
 use crate::head::open_head;
-use crate::words::{method_number, mode_number};
+use crate::words::mode_number;
 use access::getters::numbers;
 use access::rights::{Right, may};
-use trcf::head::StatusAnswer;
+use refusal::{Refusal, row_of};
+use trcf::head::Status;
 use trcf_rows::rows::used;
 
 // The numbers into lent memory, where they fit.
-fn tell_numbers(answer: StatusAnswer, output: &mut [u64]) -> u64
-    ensures { list_got result output.new ≡ list_told (numbers_told answer) output.old }
+fn tell_numbers(answer: Status, output: &mut [u64]) -> Result<(), Refusal>
+    ensures { list_got (row_of result) output.new ≡ list_told (numbers_told answer) output.old }
 {
     if output.len() < 10 {
-        return 20;
+        return Err(Refusal::TooShort);
     }
-    let method = answer.transform_method;
-    let mode = answer.forest_mode;
     output[0] = answer.values_seen as u64;
     output[1] = answer.internal_timestamp as u64;
-    output[2] = flag_of(answer.ready);
+    output[2] = u64::from(answer.ready);
     output[3] = answer.input_dimensions as u64;
     output[4] = answer.shingle_size as u64;
     output[5] = answer.dimensions as u64;
     output[6] = answer.start_normalization as u64;
-    output[7] = method_number(method);
-    output[8] = mode_number(mode);
+    output[7] = u64::from(answer.transform_method);
+    output[8] = mode_number(answer.forest_mode);
     output[9] = answer.panel;
-    0
+    Ok(())
 }
 
 // The ten numbers that a preprocessor tells: values_seen, internal_timestamp, is_ready as 0 or 1, input_dimensions, shingle_size, get_dimension,
@@ -44,13 +43,14 @@ pub extern "C" fn veerycouch_numbers(
 ) -> u64
     ensures { list_got result output.new ≡ numbers_at table.now role head.now output.old }
 {
-    let read = open_head(may(table, role, Right::SEE), head);
-    let bad = read.row;
-    if bad != 0 {
-        return bad;
+    let before = match open_head(may(table, role, Right::SEE), head) {
+        Ok(before) => before,
+        Err(refusal) => return u64::from(refusal),
+    };
+    match numbers(table, role, before) {
+        Ok(answer) => row_of(tell_numbers(answer, output)),
+        Err(refusal) => u64::from(refusal),
     }
-    let before = read.head;
-    tell_numbers(numbers(table, role, before), output)
 }
 
 // The codes of the channels, one for each.
@@ -58,14 +58,11 @@ pub extern "C" fn veerycouch_numbers(
 pub extern "C" fn veerycouch_codes(table: &[u8], role: u64, head: &[u64], output: &mut [u16]) -> u64
     ensures { list_got result output.new ≡ codes_at table.now role head.now output.old }
 {
-    let read = open_head(may(table, role, Right::SEE), head);
-    let bad = read.row;
-    if bad != 0 {
-        return bad;
-    }
-    let before = read.head;
-    let t = before.transformer;
+    let before = match open_head(may(table, role, Right::SEE), head) {
+        Ok(before) => before,
+        Err(refusal) => return u64::from(refusal),
+    };
     let codes = before.codes;
-    let n = used(t.input_length);
-    tell_codes(&codes[..n], output)
+    let n = used(before.transformer.input_length);
+    row_of(tell_codes(&codes[..n], output))
 }

@@ -4,23 +4,19 @@ ghost use Rattle.series.specs.Imputation.{imputation};
 ghost use Rattle.series.specs.Alignment.{readings, outputs, align_outcome};
 ghost use Rattle.capi.specs.Lists.{imputation_method_of, impute_at, align_at};
 
-use crate::answer::tell;
+use refusal::{Refusal, row_of};
 use series::alignment::align;
 use series::imputation::{ImputationMethod, impute};
 
 fn imputation_method_of(n: u64) -> ImputationMethod
     ensures { result ≡ imputation_method_of n }
 {
-    if n == 1 {
-        return ImputationMethod::PREVIOUS;
+    match n {
+        1 => ImputationMethod::PREVIOUS,
+        2 => ImputationMethod::NEXT,
+        3 => ImputationMethod::LINEAR,
+        _ => ImputationMethod::FIXED,
     }
-    if n == 2 {
-        return ImputationMethod::NEXT;
-    }
-    if n == 3 {
-        return ImputationMethod::LINEAR;
-    }
-    ImputationMethod::FIXED
 }
 
 // The missing cells filled in, in their place.
@@ -35,9 +31,9 @@ pub extern "C" fn veerycouch_impute(
     ensures { imputation result cells.new ≡ impute_at method d cells.old marks.now fixed.now }
 {
     if 3 < method {
-        return 19;
+        return u64::from(Refusal::Form);
     }
-    impute(imputation_method_of(method), d, cells, marks, fixed)
+    row_of(impute(imputation_method_of(method), d, cells, marks, fixed))
 }
 
 // Two lists paired by their times: the pairs' positions, their number, and the largest size of difference of each channel.
@@ -57,7 +53,7 @@ pub extern "C" fn veerycouch_align(
     ensures { align_outcome result pairs.new (outputs left_out.new right_out.new gaps_out.new)
         ≡ align_at d (readings left.now left_times.now) (readings right.now right_times.now) tolerance pairs.old (outputs left_out.old right_out.old gaps_out.old) }
 {
-    let r = align(
+    let aligned = align(
         d,
         left,
         left_times,
@@ -68,7 +64,11 @@ pub extern "C" fn veerycouch_align(
         right_out,
         gaps_out,
     );
-    let row = r.row;
-    tell(pairs, row, r.pairs);
-    row
+    match aligned {
+        Ok(number) => {
+            *pairs = number;
+            0
+        }
+        Err(refusal) => u64::from(refusal),
+    }
 }

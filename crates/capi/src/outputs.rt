@@ -1,4 +1,5 @@
 // The calls that write lists and change no state.
+// Kept: (a) the six lent lists are parameters: the C interface lends each call its own mix of shared and mutable lists, and a struct would need a type for each mix.
 ghost use Rattle.std.specs.Prelude.{◌≡◌};
 ghost use Rattle.ranges.specs.RangeVector.{ranges};
 ghost use Rattle.trcf.specs.Calls.{transform, scale, shift, status};
@@ -8,11 +9,11 @@ ghost use Rattle.trcf.specs.Extrapolation.{extrapolation, forecast};
 ghost use Rattle.snapshot.specs.Save.{save_outcome};
 ghost use Rattle.capi.specs.Calls.{write_at, extrapolation_at, save_at};
 
-use crate::answer::tell;
 use crate::head::open_head;
 use access::queries::{difference_deviations, invert_extrapolation, scale, shift, transform};
 use access::rights::{Right, may};
 use access::snapshots::save;
+use refusal::row_of;
 
 // A reading, transformed.
 #[unsafe(no_mangle)]
@@ -32,13 +33,11 @@ pub extern "C" fn veerycouch_transform(
 ) -> u64
     ensures { written result output.new ≡ write_at table.now role head.now (lent statistics.now last_shingled_input.now last_shingled_point.now previous_timestamps.now initial_values.now initial_timestamps.now) (transform input.now timestamp output.old) (transform_of (reading input.now timestamp)) output.old }
 {
-    let read = open_head(may(table, role, Right::SEE), head);
-    let bad = read.row;
-    if bad != 0 {
-        return bad;
-    }
-    let before = read.head;
-    transform(
+    let before = match open_head(may(table, role, Right::SEE), head) {
+        Ok(before) => before,
+        Err(refusal) => return u64::from(refusal),
+    };
+    row_of(transform(
         table,
         role,
         before,
@@ -51,7 +50,7 @@ pub extern "C" fn veerycouch_transform(
         input,
         timestamp,
         output,
-    )
+    ))
 }
 
 // The scale of each channel.
@@ -70,13 +69,11 @@ pub extern "C" fn veerycouch_scale(
 ) -> u64
     ensures { written result output.new ≡ write_at table.now role head.now (lent statistics.now last_shingled_input.now last_shingled_point.now previous_timestamps.now initial_values.now initial_timestamps.now) (scale output.old) scale_of output.old }
 {
-    let read = open_head(may(table, role, Right::SEE), head);
-    let bad = read.row;
-    if bad != 0 {
-        return bad;
-    }
-    let before = read.head;
-    scale(
+    let before = match open_head(may(table, role, Right::SEE), head) {
+        Ok(before) => before,
+        Err(refusal) => return u64::from(refusal),
+    };
+    row_of(scale(
         table,
         role,
         before,
@@ -87,7 +84,7 @@ pub extern "C" fn veerycouch_scale(
         initial_values,
         initial_timestamps,
         output,
-    )
+    ))
 }
 
 // The shift of each channel.
@@ -106,13 +103,11 @@ pub extern "C" fn veerycouch_shift(
 ) -> u64
     ensures { written result output.new ≡ write_at table.now role head.now (lent statistics.now last_shingled_input.now last_shingled_point.now previous_timestamps.now initial_values.now initial_timestamps.now) (shift output.old) shift_of output.old }
 {
-    let read = open_head(may(table, role, Right::SEE), head);
-    let bad = read.row;
-    if bad != 0 {
-        return bad;
-    }
-    let before = read.head;
-    shift(
+    let before = match open_head(may(table, role, Right::SEE), head) {
+        Ok(before) => before,
+        Err(refusal) => return u64::from(refusal),
+    };
+    row_of(shift(
         table,
         role,
         before,
@@ -123,7 +118,7 @@ pub extern "C" fn veerycouch_shift(
         initial_values,
         initial_timestamps,
         output,
-    )
+    ))
 }
 
 // The deviation of the differences of each channel.
@@ -142,13 +137,11 @@ pub extern "C" fn veerycouch_difference_deviations(
 ) -> u64
     ensures { written result output.new ≡ write_at table.now role head.now (lent statistics.now last_shingled_input.now last_shingled_point.now previous_timestamps.now initial_values.now initial_timestamps.now) (status output.old) deviations output.old }
 {
-    let read = open_head(may(table, role, Right::SEE), head);
-    let bad = read.row;
-    if bad != 0 {
-        return bad;
-    }
-    let before = read.head;
-    difference_deviations(
+    let before = match open_head(may(table, role, Right::SEE), head) {
+        Ok(before) => before,
+        Err(refusal) => return u64::from(refusal),
+    };
+    row_of(difference_deviations(
         table,
         role,
         before,
@@ -159,7 +152,7 @@ pub extern "C" fn veerycouch_difference_deviations(
         initial_values,
         initial_timestamps,
         output,
-    )
+    ))
 }
 
 // A forecast of shingled points, turned back into readings and times.
@@ -185,13 +178,11 @@ pub extern "C" fn veerycouch_invert_extrapolation(
         ≡ extrapolation_at table.now role head.now statistics.now last_shingled_input.now previous_timestamps.now
         (forecast (ranges values.old upper.old lower.old) (ranges values_out.old upper_out.old lower_out.old) (ranges times_out.old times_upper_out.old times_lower_out.old)) }
 {
-    let read = open_head(may(table, role, Right::SEE), head);
-    let bad = read.row;
-    if bad != 0 {
-        return bad;
-    }
-    let before = read.head;
-    invert_extrapolation(
+    let before = match open_head(may(table, role, Right::SEE), head) {
+        Ok(before) => before,
+        Err(refusal) => return u64::from(refusal),
+    };
+    row_of(invert_extrapolation(
         table,
         role,
         before,
@@ -207,7 +198,7 @@ pub extern "C" fn veerycouch_invert_extrapolation(
         times_out,
         times_upper_out,
         times_lower_out,
-    )
+    ))
 }
 
 // The text of the preprocessor, and its length.
@@ -227,13 +218,11 @@ pub extern "C" fn veerycouch_save(
 ) -> u64
     ensures { save_outcome result length.new output.new ≡ save_at table.now role head.now (lent statistics.now last_shingled_input.now last_shingled_point.now previous_timestamps.now initial_values.now initial_timestamps.now) length.old output.old }
 {
-    let read = open_head(may(table, role, Right::SAVE), head);
-    let bad = read.row;
-    if bad != 0 {
-        return bad;
-    }
-    let before = read.head;
-    let r = save(
+    let before = match open_head(may(table, role, Right::SAVE), head) {
+        Ok(before) => before,
+        Err(refusal) => return u64::from(refusal),
+    };
+    let saved = save(
         table,
         role,
         before,
@@ -245,7 +234,11 @@ pub extern "C" fn veerycouch_save(
         initial_timestamps,
         output,
     );
-    let row = r.row;
-    tell(length, row, r.length as u64);
-    row
+    match saved {
+        Ok(n) => {
+            *length = n as u64;
+            0
+        }
+        Err(refusal) => u64::from(refusal),
+    }
 }

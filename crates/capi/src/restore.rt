@@ -1,20 +1,26 @@
 // Taking up a text over lent words.
+// Kept: (a) the six lent lists are parameters: the C interface lends each call its own mix of shared and mutable lists, and a struct would need a type for each mix.
 ghost use Rattle.std.specs.Prelude.{◌≡◌, cond, eqb};
 ghost use Rattle.trcf.specs.View.{lent};
+ghost use Rattle.snapshot_restore.specs.Told.{row_told, line_told};
 ghost use Rattle.capi.specs.Restore.{restore_called, restore_at};
 
-use crate::head::write_head;
+use crate::head::{HEAD_WORDS, write_head};
 use access::rights::{Right, may};
 use access::snapshots::restore;
+use refusal::Refusal;
+use snapshot_restore::restore::RestoreError;
 
-// The bad line into its place, with row 19 only.
-fn tell_line(place: &mut u64, row: u64, line: u64)
-    ensures { place.new ≡ cond (eqb row 19) line place.old }
+// The row of a text that is not taken up, and the bad line into its place, where the form has one.
+fn tell_refused(place: &mut u64, error: RestoreError) -> u64
+    ensures row_value { result ≡ row_told error }
+    ensures place_after { place.new ≡ cond (eqb (row_told error) 19) (line_told error) place.old }
 {
-    if row != 19 {
-        return;
+    let row = u64::from(error.refusal());
+    if row == 19 {
+        *place = error.line() as u64;
     }
-    *place = line;
+    row
 }
 
 // The preprocessor of a text that holds the codes expected: the head into its words, the lists filled. 19 with the bad line, 27 where the codes differ, 20
@@ -38,9 +44,9 @@ pub extern "C" fn veerycouch_restore(
         ≡ restore_at table.now role text.now codes.now head.old (lent statistics.old last_shingled_input.old last_shingled_point.old previous_timestamps.old initial_values.old initial_timestamps.old) line.old }
 {
     if !may(table, role, Right::RESTORE) {
-        return 22;
+        return u64::from(Refusal::Withheld);
     }
-    if head.len() < 44 {
+    if head.len() < HEAD_WORDS {
         let mut numbers = [0.0f64; 1];
         let mut input = [0.0f32; 1];
         let mut point = [0.0f32; 1];
@@ -59,11 +65,13 @@ pub extern "C" fn veerycouch_restore(
             &mut values[..0],
             &mut initial[..0],
         );
-        let row = few.row;
-        tell_line(line, row, few.line as u64);
-        return row;
+        return match few {
+            // no state fits into lists of nothing
+            Ok(_) => 0,
+            Err(error) => tell_refused(line, error),
+        };
     }
-    let r = restore(
+    let taken = restore(
         table,
         role,
         text,
@@ -75,9 +83,11 @@ pub extern "C" fn veerycouch_restore(
         initial_values,
         initial_timestamps,
     );
-    let row = r.row;
-    let after = r.head;
-    write_head(head, row, after);
-    tell_line(line, row, r.line as u64);
-    row
+    match taken {
+        Ok(after) => {
+            write_head(head, after);
+            0
+        }
+        Err(error) => tell_refused(line, error),
+    }
 }

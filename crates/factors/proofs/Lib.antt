@@ -1,4 +1,3 @@
--- The table's pieces, its rule, and the laws for the functions' proofs and for the crates above.
-pub mod Pieces
+-- The table's rule, and the laws for the function's proof and for the crates above.
 pub mod Entries
 pub mod Samples

@@ -15,9 +15,9 @@ use Rattle.trcf.specs.Calls.{Learn, Call, Machine, drain}
 use Rattle.trcf.proofs.FitLaws.{all_take, all_drop, all_get_d}
 use Rattle.series.specs.declared.imputation.ImputationMethod.{ImputationMethod}
 use Rattle.series.specs.declared.imputation.ImputationMethod.TheVariants.{FIXED, PREVIOUS, NEXT, LINEAR}
-use Rattle.series.specs.declared.imputation.Nearest.{Nearest}
-use Rattle.series.specs.declared.imputation.Nearest.TheVariants.{At, Nowhere}
-use Rattle.series.specs.Imputation.{is_present, nearest_before, nearest_from, copy_of, interpolated, between_of, fill_of, present_in, cell_in, missing_of, imputed_at, by_place, imputed}
+use Rattle.std.specs.Prelude.{Option, Some, None}
+use Rattle.series.specs.declared.imputation.Present.{Present}
+use Rattle.series.specs.Imputation.{is_present, present_at, nearest_before, nearest_from, copy_of, interpolated, fill_of, present_in, cell_in, missing_of, imputed_at, by_place, imputed}
 use Rattle.series.specs.Imputation.{impute_row, Imputation, impute_answer, impute_of}
 use Rattle.series.proofs.ImputationTheorems.{accepted}
 use Rattle.restart_program.proofs.Program.{program_demand_3}
@@ -29,16 +29,16 @@ Single x = T (fits binary32 x)
 -- ---- one cell
 
 -- what a search found fits
-abbrev Found : Nearest → Type 0
-Found (At r x) = Single x
-Found Nowhere = Unit {0}
+abbrev Found : Option Present → Type 0
+Found (Some p) = Single p.value
+Found None = Unit {0}
 
 module _ (present : ℕ → Bool) (value : ℕ → Float) (h : (i : ℕ) → Single (value i)) where
   found_before : (i : ℕ) → Found (nearest_before present value i)
   found_before zero = tt
   found_before (suc i) = by (present i) (found_before i)
     where
-      by : (b : Bool) → Found (nearest_before present value i) → Found (cond b (At i (value i)) (nearest_before present value i))
+      by : (b : Bool) → Found (nearest_before present value i) → Found (cond b (present_at i (value i)) (nearest_before present value i))
       by true k = h i
       by false k = k
 
@@ -46,26 +46,26 @@ module _ (present : ℕ → Bool) (value : ℕ → Float) (h : (i : ℕ) → Sin
   found_from zero i = tt
   found_from (suc n) i = by (present i) (found_from n (suc i))
     where
-      by : (b : Bool) → Found (nearest_from present value n (suc i)) → Found (cond b (At i (value i)) (nearest_from present value n (suc i)))
+      by : (b : Bool) → Found (nearest_from present value n (suc i)) → Found (cond b (present_at i (value i)) (nearest_from present value n (suc i)))
       by true k = h i
       by false k = k
 
-copy_fits : (side : Nearest) (fixed : Float) → Found side → Single fixed → Single (copy_of side fixed)
-copy_fits (At r x) fixed h k = h
-copy_fits Nowhere fixed h k = k
+copy_fits : (side : Option Present) (fixed : Float) → Found side → Single fixed → Single (copy_of side fixed)
+copy_fits (Some p) fixed h k = h
+copy_fits None fixed h k = k
 
 line_fits : (a b : Float) (p q : ℕ) → Single (interpolated a b p q)
 unfolding interpolated
 line_fits a b p q = add-fits binary32 a (mul binary32 (sub binary32 b a) (div binary32 (of_int binary32 (pos p)) (of_int binary32 (pos q))))
 
-fill_fits : (m : ImputationMethod) (before after : Nearest) (i : ℕ) (fixed : Float) → Found before → Found after → Single fixed
+fill_fits : (m : ImputationMethod) (before after : Option Present) (i : ℕ) (fixed : Float) → Found before → Found after → Single fixed
     → Single (fill_of m before after i fixed)
 fill_fits FIXED before after i fixed b a k = k
 fill_fits PREVIOUS before after i fixed b a k = copy_fits before fixed b k
 fill_fits NEXT before after i fixed b a k = copy_fits after fixed a k
-fill_fits LINEAR (At r x) (At s y) i fixed b a k = line_fits x y (i - r) (s - r)
-fill_fits LINEAR (At r x) Nowhere i fixed b a k = b
-fill_fits LINEAR Nowhere after i fixed b a k = copy_fits after fixed a k
+fill_fits LINEAR (Some r) (Some s) i fixed b a k = line_fits r.value s.value (i - r.reading) (s.reading - r.reading)
+fill_fits LINEAR (Some r) None i fixed b a k = b
+fill_fits LINEAR None after i fixed b a k = copy_fits after fixed a k
 
 -- ---- all cells
 

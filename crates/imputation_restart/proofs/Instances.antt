@@ -1,5 +1,5 @@
 -- The theorem at a concrete filling: two channels, a gap that LINEAR fills, and one where b − a overflows, whose learn meets row 11.
-use Prim.Native.Nat.{ℕ, zero, suc, ◌≤◌}
+use Prim.Native.Nat.{ℕ, ◌≤◌}
 use mathlib.Core.Bool.{true}
 use mathlib.Core.Path.{◌≡◌, refl, ap, ◌∙◌}
 use mathlib.Core.List.{List, [], ◌∷◌, ◌++◌, map}

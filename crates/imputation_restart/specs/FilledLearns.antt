@@ -7,7 +7,7 @@ use Rattle.trcf.specs.Settings.{Settings, Valid, whole_max}
 use Rattle.trcf.specs.Calls.{Learn, Call, Machine, FitsGiven, post_process, drain}
 use Rattle.trcf.specs.View.{Lent, lent_short}
 use Rattle.series.specs.declared.imputation.ImputationMethod.{ImputationMethod}
-use Rattle.series.specs.Imputation.{Imputation, impute_of}
+use Rattle.series.specs.Imputation.{impute_of}
 use Rattle.restart.specs.History.{history_text}
 use Rattle.restart_program.specs.Program.{ProgramRestart}
 

@@ -91,6 +91,7 @@ struct Places {
 }
 
 // The first pair from the fronts on: if the times at the fronts differ by at most the tolerance they are paired, otherwise the earlier is skipped.
+// Kept: (d) a turn moves one of two fronts, by what stands at both: no iterator of std walks two lists so.
 fn next_pair(left: &[u64], right: &[u64], tolerance: u64, front: Places) -> Option<Places>
     ensures { MatchOption result (rest tolerance left.now right.now front.left front.right ≡ [])
         (λ p. NextPair tolerance left.now right.now front.left front.right p.left p.right) }

@@ -22,11 +22,11 @@ pub enum ImputationMethod {
     LINEAR,
 }
 
-// A present cell of a channel: its reading, and what stands there.
-#[derive(Clone, Copy)]
-struct Present {
-    reading: usize,
-    value: f32,
+// A present cell of a channel: its reading, and what stands there. The crates above name it in their proofs.
+#[derive(Clone, Copy, Debug, PartialEq)]
+pub struct Present {
+    pub reading: usize,
+    pub value: f32,
 }
 
 // One channel of the readings: its number c of d, its fixed value, and the rule that fills it.

@@ -1,8 +1,9 @@
 -- The run as the program makes it, over a head and six lent lists: what the program's own parts promise. proofs/Theorem.antt: it is the run of the definitions.
-use Rattle.std.specs.Prelude.{ℕ, zero, suc, Bool, true, false, cond, List, [], ◌∷◌, ltb, ℤ, pos, neg_ℤ, replicate, Float}
+use Rattle.std.specs.Prelude.{ℕ, zero, suc, Bool, true, false, cond, List, [], ◌∷◌, ltb, pos, replicate, Float, Result, Ok, Err, Option as Held, Some, None}
 use Rattle.std.proofs.Math.Option.{Option, none, some}
 use Rattle.std.specs.Float.{nan}
-use Rattle.std.specs.Float.Ieee.{eq, lt}
+use Rattle.refusal.specs.declared.Refusal.{Refusal}
+use Rattle.refusal.specs.Refusal.{number_of}
 use Rattle.common.specs.Deviation.{zero64}
 use Rattle.trcf.specs.Lists.{last_or}
 use Rattle.trcf.specs.Transformer.{zero32}
@@ -11,34 +12,34 @@ use Rattle.trcf.specs.Calls.{Learn}
 use Rattle.trcf.specs.Preprocessor.{accepted}
 use Rattle.trcf.specs.View.{Lent, lent, settings_of, head_row, ready_of, build_of, learn_call, point_after, LearnOutcome, learn_after}
 use Rattle.trcf.specs.declared.head.Preprocessor.{Preprocessor}
-use Rattle.settling.specs.Settling.{Signal, signal, value_at, Noted, noted, note}
-use Rattle.settling.specs.declared.signal.Signed.{Signed}
+use Rattle.settling.specs.Settling.{Signal, signal, value_at, Noted, noted, note, Run, run_outcome}
 use Rattle.settling.specs.declared.signal.Signal as held
 use Rattle.settling.specs.declared.run.Settled.{Settled}
 
--- ---- numbers with a sign, and the signal that they make
-
-abbrev pub with_sign : Bool → ℕ → ℤ
-with_sign negative n = cond negative (neg_ℤ (pos n)) (pos n)
-
-abbrev pub signed : Signed → ℤ
-signed x = with_sign x.negative x.size
+-- ---- the signal, and what may be held
 
 abbrev pub signal_of : held.Signal → Signal
-signal_of g = signal (signed g.base) (signed g.ramp) (signed g.ripple) (signed g.jump) g.place g.readings
+signal_of g = signal g.base g.ramp g.ripple g.jump g.place g.readings
+
+module _ {A : Type 0} where
+  abbrev pub option_of : Held A → Option A
+  option_of (Some x) = some x
+  option_of None = none
+
+  -- a value beside whether it is given
+  abbrev pub given_of : Bool → A → Option A
+  given_of true x = some x
+  given_of false x = none
 
 -- ---- what is noted
 
-abbrev pub option_of : {A : Type 0} → Bool → A → Option A
-option_of true x = some x
-option_of false x = none
-
 abbrev pub noted_by : Settled → Noted
-noted_by r = noted (option_of r.found r.ready) (option_of r.kept r.largest)
+noted_by r = noted (option_of r.ready) (option_of r.largest)
 
--- whether an element is to be kept: it is above the largest, or the first number
-abbrev pub exceeds_of : Bool → Float → Float → Bool
-exceeds_of kept y x = cond kept (lt y x) (eq x x)
+-- what a run answers: refused, nothing is noted
+abbrev pub settled_outcome : Result Settled Refusal → Run
+settled_outcome (Ok s) = run_outcome 0 (noted_by s)
+settled_outcome (Err r) = run_outcome (number_of r) (noted none none)
 
 -- ---- one reading
 
@@ -66,7 +67,7 @@ unfoldable pub reading_result_with : Preprocessor → Lent → List Float → �
 reading_result_with h l x t out =
     let o = point_after h l x t out in
     let q = learn_after o.head o.lent (learning x t o.given o.out) in
-    reading_result q.head q.lent (option_of o.given (last_or nan o.out))
+    reading_result q.head q.lent (given_of o.given (last_or nan o.out))
 
 abbrev pub reading_result_of : Preprocessor → Lent → Float → ℕ → ReadingResult
 reading_result_of h l x t = reading_result_with h l (x ∷ []) t (replicate (point_length h) zero32)

@@ -1,26 +1,17 @@
 // The made-up signal, and its readings: whole numbers with a sign, each exact as f32.
-ghost use Rattle.std.specs.Prelude.{◌≡◌, true, cond, ◌+◌, ◌≤◌, pos, ◌+ℤ◌, ◌*ℤ◌};
-ghost use Rattle.std.specs.Bool.{beq};
-ghost use Rattle.std.specs.Float.{binary32};
-ghost use Rattle.std.specs.Float.Ieee.{of_int};
-ghost use Rattle.settling.specs.Settling.{in_limits, counts_in_limits, value_at};
-ghost use Rattle.settling.specs.Steps.{signed, signal_of};
+ghost use Rattle.std.specs.Prelude.{◌≡◌, true, cond, ◌≤◌, leb, pos, ◌*ℤ◌};
+ghost use Rattle.settling.specs.Settling.{integer_size, in_limits, counts_in_limits, value_at};
+ghost use Rattle.settling.specs.Steps.{signal_of};
 
-use numeric::u64_to_f32;
+use std::num::nearest_i64_to_f32;
 
-// The number size, or below 0 by it.
-#[derive(Clone, Copy)]
-pub struct Signed {
-    pub negative: bool,
-    pub size: u64,
-}
-
-#[derive(Clone, Copy)]
+// The first four are as wide as every number that a field of a text can hold, and its sign.
+#[derive(Clone, Copy, Debug, PartialEq, Eq)]
 pub struct Signal {
-    pub base: Signed,
-    pub ramp: Signed,
-    pub ripple: Signed,
-    pub jump: Signed,
+    pub base: i128,
+    pub ramp: i128,
+    pub ripple: i128,
+    pub jump: i128,
     pub place: u64,
     pub readings: u64,
 }
@@ -29,109 +20,40 @@ pub struct Signal {
 pub fn in_limits(g: Signal) -> bool
     ensures { result ≡ in_limits (signal_of g) }
 {
-    let base = g.base;
-    let ramp = g.ramp;
-    let ripple = g.ripple;
-    let jump = g.jump;
-    if 1000 < base.size {
-        return false;
-    }
-    if 1000 < ramp.size {
-        return false;
-    }
-    if 1000 < ripple.size {
-        return false;
-    }
-    if 1000 < jump.size {
-        return false;
-    }
-    counts_in_limits(g.place, g.readings)
+    is_small(g.base)
+        && is_small(g.ramp)
+        && is_small(g.ripple)
+        && is_small(g.jump)
+        && counts_in_limits(g.place, g.readings)
+}
+
+fn is_small(x: i128) -> bool
+    ensures { result ≡ leb (integer_size x) 1000 }
+{
+    -1000 <= x && x <= 1000
 }
 
 fn counts_in_limits(place: u64, readings: u64) -> bool
     ensures { result ≡ counts_in_limits place readings }
 {
-    if 1000 < place {
-        return false;
-    }
-    if readings < 1 {
-        return false;
-    }
-    readings <= 1000
+    place <= 1000 && 1 <= readings && readings <= 1000
 }
 
-fn alike(a: bool, b: bool) -> bool
-    ensures { result ≡ beq a b }
-{
-    if a { b } else { !b }
-}
-
-fn add(a: Signed, b: Signed) -> Signed
-    requires { a.size + b.size ≤ 4294967295 }
-    ensures result_value { signed result ≡ signed a +ℤ signed b }
-    ensures size_bound { result.size ≤ a.size + b.size }
-{
-    if alike(a.negative, b.negative) {
-        return Signed {
-            negative: a.negative,
-            size: a.size + b.size,
-        };
-    }
-    if a.size < b.size {
-        return Signed {
-            negative: b.negative,
-            size: b.size - a.size,
-        };
-    }
-    Signed {
-        negative: a.negative,
-        size: a.size - b.size,
-    }
-}
-
-fn times(a: Signed, i: u64) -> Signed
-    requires size_bound { a.size ≤ 1000 }
+fn times(x: i128, i: u64) -> i128
+    requires size_bound { integer_size x ≤ 1000 }
     requires i_bound { i ≤ 1000 }
-    ensures result_value { signed result ≡ signed a *ℤ pos i }
-    ensures size_bound_2 { result.size ≤ 1000000 }
+    ensures value { result ≡ x *ℤ pos i }
+    ensures size_bound { integer_size result ≤ 1000000 }
 {
-    Signed {
-        negative: a.negative,
-        size: a.size * i,
-    }
-}
-
-fn zero() -> Signed
-    ensures result_value { signed result ≡ pos 0 }
-    ensures size_value { result.size ≡ 0 }
-{
-    Signed {
-        negative: false,
-        size: 0,
-    }
+    x * i128::from(i)
 }
 
 // The number where it is asked for, and 0 elsewhere.
-fn only_if(asked: bool, a: Signed) -> Signed
-    ensures result_value { signed result ≡ cond asked (signed a) (pos 0) }
-    ensures size_le_size { result.size ≤ a.size }
+fn only_if(asked: bool, x: i128) -> i128
+    ensures value { result ≡ cond asked x (pos 0) }
+    ensures size_le_size { integer_size result ≤ integer_size x }
 {
-    if asked {
-        return a;
-    }
-    zero()
-}
-
-fn to_f32(a: Signed) -> f32
-    ensures { result ≡ of_int binary32 (signed a) }
-{
-    let x = u64_to_f32(a.size);
-    if a.negative {
-        if 0 < a.size {
-            return -x;
-        }
-    }
-    x
+    if asked { x } else { 0 }
 }
 
 // Reading i.
@@ -140,11 +62,8 @@ pub(crate) fn value_at(g: Signal, i: u64) -> f32
     requires i_bound { i ≤ 1000 }
     ensures { result ≡ value_at (signal_of g) i }
 {
-    let base = g.base;
-    let ramp = g.ramp;
-    let ripple = g.ripple;
-    let jump = g.jump;
-    let risen = add(base, times(ramp, i));
-    let rippled = add(risen, only_if(i % 2 == 1, ripple));
-    to_f32(add(rippled, only_if(g.place <= i, jump)))
+    let ripple = only_if(i % 2 == 1, g.ripple);
+    let jump = only_if(g.place <= i, g.jump);
+    let value = g.base + times(g.ramp, i) + ripple + jump;
+    nearest_i64_to_f32(value as i64)
 }

@@ -1,4 +1,5 @@
 // One reading: it is sent to point, and then to learn with the point given. The program runs as role 0 of a table with every right.
+// Kept: (a) the six lent lists are parameters: the C interface lends each call its own mix of shared and mutable lists, and a struct would need a type for each mix.
 ghost use Rattle.std.specs.Prelude.{◌≡◌, ◌≤◌};
 ghost use Rattle.std.proofs.Math.Option.{none};
 ghost use Rattle.std.specs.Float.{nan};
@@ -8,14 +9,13 @@ ghost use Rattle.settling.specs.Steps.{point_length, learning, learned_result, r
 
 use access::calls::{post_process, shingled_point};
 use access::rights::every_right;
-use trcf::head::{Preprocessor, get_dimension};
+use trcf::head::{Pointed, Preprocessor, get_dimension};
 
-// The head after a reading, whether a point was given, and its last element.
+// The head after a reading, and the last element of the point, if one was given.
 #[derive(Clone, Copy)]
 pub(crate) struct Turned {
     pub head: Preprocessor,
-    pub given: bool,
-    pub last: f32,
+    pub last: Option<f32>,
 }
 
 // How many numbers a point has: at most 128 where d is 1.
@@ -23,22 +23,13 @@ fn point_length(head: Preprocessor) -> usize
     ensures value { result ≡ point_length head }
     ensures upper_bound { result ≤ 128 }
 {
-    let n = get_dimension(head);
-    if n < 128 {
-        return n;
-    }
-    128
+    get_dimension(head).min(128)
 }
 
 fn last_of(v: &[f32]) -> f32
     ensures { result ≡ last_or nan v.now }
 {
-    let n = v.len();
-    if n == 0 {
-        let z = 0.0f32;
-        return z / z;
-    }
-    v[n - 1]
+    v.last().copied().unwrap_or(f32::NAN)
 }
 
 // Learn, grade 0: the one place where the program asks for it.
@@ -63,7 +54,7 @@ fn learn(
     let mut past = [0.0f32; 1];
     let mut expected = [0.0f32; 1];
     let table = every_right();
-    let r = post_process(
+    let learnt = post_process(
         &table,
         0,
         head,
@@ -85,8 +76,7 @@ fn learn(
         &mut past,
         &mut expected,
     );
-    let next = r.head;
-    next
+    learnt.map_or(head, |p| p.head)
 }
 
 // A reading is sent to point, which writes to `point`, and then to learn with the point given.
@@ -102,11 +92,11 @@ fn turn_with(
     timestamp: u64,
     point: &mut [f32],
 ) -> Turned
-    ensures { reading_result result.head (lent statistics.new last_shingled_input.new last_shingled_point.new previous_timestamps.new initial_values.new initial_timestamps.new) (option_of result.given result.last)
+    ensures { reading_result result.head (lent statistics.new last_shingled_input.new last_shingled_point.new previous_timestamps.new initial_values.new initial_timestamps.new) (option_of result.last)
         ≡ reading_result_with head (lent statistics.old last_shingled_input.old last_shingled_point.old previous_timestamps.old initial_values.old initial_timestamps.old) input.now timestamp point.old }
 {
     let table = every_right();
-    let p = shingled_point(
+    let answer = shingled_point(
         &table,
         0,
         head,
@@ -120,10 +110,9 @@ fn turn_with(
         timestamp,
         point,
     );
-    let given = p.given;
-    let pointed = p.head;
+    let p = answer.unwrap_or(Pointed { given: false, head });
     let next = learn(
-        pointed,
+        p.head,
         statistics,
         last_shingled_input,
         last_shingled_point,
@@ -133,12 +122,11 @@ fn turn_with(
         input,
         timestamp,
         point,
-        given,
+        p.given,
     );
     Turned {
         head: next,
-        given: given,
-        last: last_of(point),
+        last: p.given.then_some(last_of(point)),
     }
 }
 
@@ -153,7 +141,7 @@ pub(crate) fn step(
     value: f32,
     timestamp: u64,
 ) -> Turned
-    ensures { reading_result result.head (lent statistics.new last_shingled_input.new last_shingled_point.new previous_timestamps.new initial_values.new initial_timestamps.new) (option_of result.given result.last)
+    ensures { reading_result result.head (lent statistics.new last_shingled_input.new last_shingled_point.new previous_timestamps.new initial_values.new initial_timestamps.new) (option_of result.last)
         ≡ reading_result_of head (lent statistics.old last_shingled_input.old last_shingled_point.old previous_timestamps.old initial_values.old initial_timestamps.old) value timestamp }
 {
     let input = [value; 1];

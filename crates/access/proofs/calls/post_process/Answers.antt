@@ -1,36 +1,37 @@
--- `access::calls::post_process` meets its contract: 22 by the table's test, else the promise of the entry below. Assumes nothing.
-use mathlib.Core.Path.{ap, ◌∙◌}
-use mathlib.Core.List.{[], ◌∷◌}
-use lib.IntN.{ℤ}
-use mir.Syntax.{w32}
-use mir.ValLaws.{to_z-of_z}
+-- `access::calls::post_process` meets its contract: what the demand answers, or the promise of the entry below. Assumes nothing.
+use Prim.Native.Nat.{ℕ}
+use mathlib.Core.Bool.{Bool, true, false, cond}
+use mathlib.Core.List.{List, [], ◌∷◌}
+use mathlib.Core.Path.{◌≡◌, ap, ◌∙◌}
+use Rattle.std.specs.Prelude.{Result, Ok, Err}
+use Rattle.refusal.specs.Refusal.{number_of}
+use Rattle.refusal.specs.declared.Refusal.{Refusal}
+use Rattle.refusal.specs.declared.Refusal.TheVariants.{Withheld}
 use Rattle.trcf.specs.Calls.{Learn}
-use borrow.Author.Tests.{not-true, not-false}
 use Rattle.trcf.specs.Preprocessor.{learned_nothing}
-use Rattle.trcf.specs.View.{lent, learn_call, learn_nothing, learn_after}
+use Rattle.trcf.specs.Transformer.{zero32}
+use Rattle.trcf.specs.View.{Lent, learn_outcome, learn_nothing, learn_after}
+use Rattle.trcf.specs.declared.head.Preprocessor.{Preprocessor}
+use Rattle.trcf.proofs.NumberLaws.{processed_err}
 use Rattle.access.specs.declared.rights.Right.TheVariants.{LEARN}
-use Rattle.access.proofs.Laws.{guard_shut, guard_open}
+use Rattle.access.specs.Access.{granted, allowed}
+use Rattle.access.specs.Entries.{learn_by}
 use Rattle.access.proofs.calls.post_process.Goals as goal
 
-pub returns-then-not-may : goal.returns-then-not-may
+-- a learn that is refused by the demand is one whose right is withheld
+withheld : (t : List ℕ) (role : ℕ) (h : Preprocessor) (l : Lent) (c : Learn) (e : Refusal) → Err e ≡ allowed (granted t role (LEARN ∷ []))
+    → learn_outcome (number_of e) false false 0 zero32 h l c.deviations_out c.past_out c.expected_out ≡ learn_by t role h l c
 unfolding learned_nothing
-returns-then-not-may c = guard_shut _ _ (LEARN ∷ []) c.may.result c.may.ensures _ _ (not-true _ c.if-not-may.true-raw)
+withheld t role h l c e q = go (granted t role (LEARN ∷ [])) q
+  where
+    go : (b : Bool) → Err e ≡ allowed b
+        → learn_outcome (number_of e) false false 0 zero32 h l c.deviations_out c.past_out c.expected_out ≡ cond b (learn_after h l c) (learn_nothing 22 h l c)
+    go true k = absurd (cc)
+    go false k =
+        let w : e ≡ Withheld = cc in
+        ap (λ (r : Refusal). learn_outcome (number_of r) false false 0 zero32 h l c.deviations_out c.past_out c.expected_out) w
 
-pub returns : goal.returns
-returns c =
-    let c8 = c in
-    let c16 = c in
-    let c24 = c in
-    let e = c in
-    let s = c in
-    let z = c in
-    let a = c.args in
-    let u = to_z-of_z w32 a.relative_index c.ranges.relative_index in
-    let l = lent a.statistics.now a.last_shingled_input.now a.last_shingled_point.now a.previous_timestamps.now a.initial_values.now a.initial_timestamps.now in
-    let q : ℤ → Learn =
-    λ i. learn_call a.input.now a.timestamp a.has_y a.y.now a.expects a.expected.now a.grade i a.deviations_out.now a.past_out.now
-    a.expected_out.now in
-    let r = a.relative_index in
-    guard_open a.table.now a.role (LEARN ∷ []) c.may.result c.may.ensures (learn_after a.head l (q r))
-    (learn_nothing 22 a.head l (q r)) (not-false _ c.if-not-may.false-raw) _
-    (c.post_process.ensures ∙ ap (λ (i : ℤ). learn_after a.head l (q i)) u)
+pub returns-in_err-demand : goal.returns-in_err-demand
+returns-in_err-demand c =
+    processed_err _ c.args.head _ c.from_residual.result _ _ _ c.from_residual.ensures.1
+    ∙ withheld c.args.table.now c.args.role c.args.head _ _ _ c.in_err-demand.ensures

@@ -1,34 +1,27 @@
 -- `access::rights::may_point` meets its contract: by the table's test, and the two cells. Assumes nothing.
 use mathlib.Core.Path.{sym, ◌∙◌}
 use mathlib.Core.List.{[], ◌∷◌}
-use borrow.Author.Tests.{not-true, not-false}
 use Rattle.access.specs.declared.rights.Right.TheVariants.{SEE, LEARN}
 use Rattle.access.proofs.Laws.{no_table, by_cells, no_first, by_second}
 use Rattle.access.proofs.rights.may_point.Goals as goal
+use Rattle.access.proofs.rights.may_point.Goals.{then-has_role, else-has_role}
 
-pub returns-then-not-has_role : goal.returns-then-not-has_role
-returns-then-not-has_role c = no_table _ _ _ (sym c.has_role.ensures ∙ not-true _ c.if-not-has_role.true-raw)
-
-pub is_granted-requires : goal.is_granted-requires
-is_granted-requires c = sym c.has_role.ensures ∙ not-false _ c.if-not-has_role.false-raw
-
-pub returns-then-not-is_granted : goal.returns-then-not-is_granted
-returns-then-not-is_granted c =
+pub returns-then-is_granted : goal.returns-then-is_granted
+returns-then-is_granted c =
     let a = c.args in
-    let e = c in
-    no_first a.table.now a.role SEE LEARN (sym c.is_granted.ensures ∙ not-true _ c.if-not-is_granted.true-raw)
-    ∙ by_cells _ _ (SEE ∷ LEARN ∷ []) (sym c.has_role.ensures ∙ not-false _ c.if-not-has_role.false-raw)
+    elim c.if-has_role.branch [
+      | then-has_role w ↦ c.is_granted-then-is_granted.ensures
+          ∙ by_second a.table.now a.role SEE LEARN (sym w.is_granted.ensures ∙ sym w.value-is ∙ c.if-is_granted.true)
+          ∙ by_cells _ _ (SEE ∷ LEARN ∷ []) (sym c.has_role.ensures ∙ w.if-has_role.true)
+      | else-has_role w ↦ absurd (cc)
+    ]
 
-pub is_granted-requires-2 : goal.is_granted-requires-2
-is_granted-requires-2 c =
-    let e = c in
-    sym c.has_role.ensures ∙ not-false _ c.if-not-has_role.false-raw
-
-pub returns : goal.returns
-returns c =
-    let d = c in
-    let e = c in
+pub returns-else-is_granted : goal.returns-else-is_granted
+returns-else-is_granted c =
     let a = c.args in
-    c.is_granted-2.ensures
-    ∙ by_second a.table.now a.role SEE LEARN (sym c.is_granted.ensures ∙ not-false _ c.if-not-is_granted.false-raw)
-    ∙ by_cells _ _ (SEE ∷ LEARN ∷ []) (sym c.has_role.ensures ∙ not-false _ c.if-not-has_role.false-raw)
+    elim c.if-has_role.branch [
+      | then-has_role w ↦ c.if-is_granted.false
+          ∙ no_first a.table.now a.role SEE LEARN (sym w.is_granted.ensures ∙ sym w.value-is ∙ c.if-is_granted.false)
+          ∙ by_cells _ _ (SEE ∷ LEARN ∷ []) (sym c.has_role.ensures ∙ w.if-has_role.true)
+      | else-has_role w ↦ w.value-is ∙ w.if-has_role.false ∙ no_table _ _ (SEE ∷ LEARN ∷ []) (sym c.has_role.ensures ∙ w.if-has_role.false)
+    ]

@@ -14,10 +14,7 @@ use Rattle.snapshot.proofs.ReadKinds.{codes_of}
 use Rattle.capi.proofs.codes.codes_of.Goals as goal
 
 pub loop-i-init : goal.loop-i-init
-loop-i-init c = (omega arith, over_none _, refl)
-
-pub bounds-words-i : goal.bounds-words-i
-bounds-words-i c = omega (arith, c.requires.words_len)
+loop-i-init c = (over_none _, refl)
 
 pub overflow_cast-a : goal.overflow_cast-a
 overflow_cast-a c =
@@ -33,7 +30,7 @@ loop-i-preserved c =
     let e = c.requires.words_len in
     let h : L.i < length w = omega (arith, e) in
     let k : length w ≤ 16 = omega (arith, e) in
-    (omega arith, rw L.invariant.1 (over_copy (replicate {A = ℕ} 16 0) w L.i 0 h k), simp length-set (omega arith))
+    (rw L.invariant.0 (over_copy (replicate {A = ℕ} 16 0) w L.i 0 h k), simp length-set (omega arith))
 
 pub returns : goal.returns
 returns c =
@@ -42,5 +39,5 @@ returns c =
     let z = c.requires.words_len in
     let e : L.i ≡ length w = omega (arith, z) in
     let k : 16 ≤ length w = omega (arith, z) in
-    let p = rw e at L.invariant.1 in
+    let p = rw e at L.invariant.0 in
     p ∙ ap (over (replicate {A = ℕ} 16 0)) (take-length w) ∙ over_whole (replicate {A = ℕ} 16 0) w k

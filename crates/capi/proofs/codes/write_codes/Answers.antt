@@ -11,7 +11,7 @@ use Rattle.capi.proofs.WordLaws.{over_whole}
 use Rattle.capi.proofs.codes.write_codes.Goals as goal
 
 pub loop-i-init : goal.loop-i-init
-loop-i-init c = (omega arith, over_none _, omega arith)
+loop-i-init c = (over_none _, omega arith)
 
 pub loop-i-preserved : goal.loop-i-preserved
 loop-i-preserved c =
@@ -22,7 +22,7 @@ loop-i-preserved c =
     let n : length v ≡ 16 = c.well_formed.1.0.1.0.1 in
     let h : L.i < length v = omega (arith, n) in
     let k : length v ≤ length w = omega (arith, n, c.requires) in
-    (omega arith, rw L.invariant.1 (over_copy w v L.i 0 h k), simp length-set (omega arith))
+    (rw (L.invariant.0, c.from.ensures) (over_copy w v L.i 0 h k), simp length-set (omega arith))
 
 pub returns : goal.returns
 returns c =
@@ -33,5 +33,5 @@ returns c =
     let n : length v ≡ 16 = c.well_formed.1.0.1.0.1 in
     let e : L.i ≡ length v = omega (arith, n) in
     let k : length w ≤ length v = omega (arith, n, c.requires) in
-    let p = rw e at L.invariant.1 in
+    let p = rw e at L.invariant.0 in
     p ∙ ap (over w) (take-length v) ∙ over_whole w v k

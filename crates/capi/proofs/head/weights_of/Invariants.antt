@@ -1,5 +1,4 @@
 -- What holds in the loops of `capi::head::weights_of`.
-use Prim.Native.Nat.{◌≤◌, ◌-◌}
 use mathlib.Core.List.{map}
 use mathlib.Core.Path.{◌≡◌}
 use lib.ListN.{length, take}
@@ -7,7 +6,4 @@ use Rattle.capi.specs.Head.{single}
 use Rattle.capi.proofs.head.weights_of.Given as goal
 
 abbrev pub invariant-loop-i : goal.invariant-loop-i
-invariant-loop-i l = (l.i ≤ 16) × (take l.i l.a ≡ map single (take l.i l.words)) × (length l.a ≡ 16)
-
-abbrev pub decreases-loop-i : goal.decreases-loop-i
-decreases-loop-i l = 16 - l.i
+invariant-loop-i l = (take l.i l.a ≡ map single (take l.i l.words)) × (length l.a ≡ 16)

@@ -6,11 +6,10 @@ use Rattle.capi.proofs.lists.veerycouch_impute.Goals as goal
 pub returns-then-method-gt3 : goal.returns-then-method-gt3
 returns-then-method-gt3 c =
     let a = c.args in
-    impute_no_rule a.method a.d a.cells.now a.marks.now a.fixed.now (lt-ltb 3 a.method c.if-method-gt3.true)
+    rw c.from.ensures (impute_no_rule a.method a.d a.cells.now a.marks.now a.fixed.now (lt-ltb 3 a.method c.if-method-gt3.true))
 
 pub returns : goal.returns
 returns c =
-    let u = c in
     let a = c.args in
-    impute_done a.method a.d a.cells.now a.marks.now a.fixed.now (le-ltb 3 a.method c.if-method-gt3.false) c.imputation_method_of.ensures
-    c.impute.ensures
+    rw c.row_of.ensures (impute_done a.method a.d a.cells.now a.marks.now a.fixed.now (le-ltb 3 a.method c.if-method-gt3.false) c.imputation_method_of.ensures
+    c.impute.ensures)

@@ -1,27 +1,23 @@
 -- `capi::outputs::veerycouch_shift` meets its contract: by the promises of the words and of the call. Assumes nothing.
+use mathlib.Core.Path.{refl}
 use Rattle.trcf.specs.View.{lent}
 use Rattle.trcf.specs.Calls.{shift}
 use Rattle.trcf.specs.Preprocessor.{shift_of}
-use Rattle.capi.proofs.CallLaws.{opened, write_refused, write_done}
+use Rattle.capi.proofs.CallLaws.{opened, refused_row, not_zero, write_refused, write_done}
 use Rattle.capi.proofs.outputs.veerycouch_shift.Goals as goal
 
-pub returns-then-bad-ne0 : goal.returns-then-bad-ne0
-returns-then-bad-ne0 c =
-    let c8 = c in
+pub returns-in-Err : goal.returns-in-Err
+returns-in-Err c =
     let a = c.args in
     write_refused a.table.now a.role a.head.now
     (lent a.statistics.now a.last_shingled_input.now a.last_shingled_point.now a.previous_timestamps.now a.initial_values.now a.initial_timestamps.now)
     (shift a.output.now) shift_of a.output.now
-    (opened a.head.now c.may.ensures c.open_head-read.ensures.row_value) c.if-bad-ne0.true
+    (refused_row c.in-Err.refusal a.head.now c.from.ensures c.may.ensures c.in-Err.ensures.row_value) (not_zero c.in-Err.refusal c.from.ensures)
 
 pub returns : goal.returns
 returns c =
-    let c8 = c in
-    let c16 = c in
     let a = c.args in
-    let h = c.open_head-read in
-    let m = c.may in
-    write_done a.table.now a.role a.head.now c.if-bad-ne0.false h.ensures.head_read
+    rw c.row_of.ensures (write_done a.table.now a.role a.head.now refl (λ e. c.in-Ok.ensures.head_read)
     (lent a.statistics.now a.last_shingled_input.now a.last_shingled_point.now a.previous_timestamps.now a.initial_values.now a.initial_timestamps.now)
     (shift a.output.now) shift_of a.output.now
-    (opened a.head.now m.ensures h.ensures.row_value) c.shift.ensures
+    (opened a.head.now c.may.ensures c.in-Ok.ensures.row_value) c.shift.ensures)

@@ -1,42 +1,42 @@
 -- `settling::signal::value_at` meets its contract. Assumes nothing.
+use mathlib.Core.Path.{refl}
 use native.Mathlib.Omega.{arith}
-use Rattle.settling.specs.Steps.{signal_of}
-use Rattle.settling.proofs.SignalLaws.{limited, reading_is}
+use Rattle.std.proofs.lemmas.Int.{ints}
+use Rattle.settling.proofs.SignalLaws.{limited, held_whole, parts, reading_is}
 use Rattle.settling.proofs.signal.value_at.Goals as goal
 
-pub times-requires : goal.times-requires
-times-requires c =
+pub times-requires-clause-size_bound : goal.times-requires-clause-size_bound
+times-requires-clause-size_bound c =
     let l = limited c.args.g c.requires.g_value in
-    record { size_bound = l.ramp; i_bound = c.requires.i_bound }
+    rw (held_whole c.args.g.ramp l.ramp) l.ramp
 
-pub add-risen-requires : goal.add-risen-requires
-add-risen-requires c =
-    let l = limited c.args.g c.requires.g_value in
-    omega (arith, l.base, c.times.ensures.size_bound_2)
+pub overflow_add-value : goal.overflow_add-value
+overflow_add-value c =
+    let p = parts c.args.g c.times.result c.only_if-ripple.result c.only_if-jump.result c.requires.g_value c.times.ensures.size_bound
+        c.only_if-ripple.ensures.size_le_size c.only_if-jump.ensures.size_le_size in
+    omega (arith, ints)
 
-pub add-rippled-requires : goal.add-rippled-requires
-add-rippled-requires c =
-    let l = limited c.args.g c.requires.g_value in
-    omega (arith, l.base, l.ripple, c.times.ensures.size_bound_2, c.add-risen.ensures.size_bound, c.only_if.ensures.size_le_size)
+pub overflow_add-value-2 : goal.overflow_add-value-2
+overflow_add-value-2 c =
+    let p = parts c.args.g c.times.result c.only_if-ripple.result c.only_if-jump.result c.requires.g_value c.times.ensures.size_bound
+        c.only_if-ripple.ensures.size_le_size c.only_if-jump.ensures.size_le_size in
+    omega (arith, ints)
 
-pub add-requires : goal.add-requires
-add-requires c =
-    let l = limited c.args.g c.requires.g_value in
-    omega (
-      arith,
-      l.base,
-      l.ripple,
-      l.jump,
-      c.times.ensures.size_bound_2,
-      c.add-risen.ensures.size_bound,
-      c.only_if.ensures.size_le_size,
-      c.add-rippled.ensures.size_bound,
-      c.only_if-2.ensures.size_le_size,
-    )
+pub overflow_add-value-3 : goal.overflow_add-value-3
+overflow_add-value-3 c =
+    let p = parts c.args.g c.times.result c.only_if-ripple.result c.only_if-jump.result c.requires.g_value c.times.ensures.size_bound
+        c.only_if-ripple.ensures.size_le_size c.only_if-jump.ensures.size_le_size in
+    omega (arith, ints)
+
+pub overflow_cast-value : goal.overflow_cast-value
+overflow_cast-value c =
+    let p = parts c.args.g c.times.result c.only_if-ripple.result c.only_if-jump.result c.requires.g_value c.times.ensures.size_bound
+        c.only_if-ripple.ensures.size_le_size c.only_if-jump.ensures.size_le_size in
+    omega (arith, ints)
 
 pub returns : goal.returns
 returns c =
-    let a = c.args in
-    reading_is (signal_of a.g) a.i _ _ _ _ _ _ c.times.ensures.result_value
-    c.add-risen.ensures.result_value c.only_if.ensures.result_value
-    c.add-rippled.ensures.result_value c.only_if-2.ensures.result_value c.add.ensures.result_value _ c.to_f32.ensures
+    let p = parts c.args.g c.times.result c.only_if-ripple.result c.only_if-jump.result c.requires.g_value c.times.ensures.size_bound
+        c.only_if-ripple.ensures.size_le_size c.only_if-jump.ensures.size_le_size in
+    reading_is c.args.g c.args.i c.requires.g_value _ _ _ _ c.times.ensures.value c.only_if-ripple.ensures.value c.only_if-jump.ensures.value
+    (omega (arith, ints)) _ c.nearest_i64_to_f32.ensures
