@@ -2,7 +2,7 @@
 use native.Mathlib.Omega.{arith}
 use mathlib.Core.Path.{◌≡◌, refl, ap, ◌∙◌}
 use Prim.Native.Nat.{◌<◌}
-use lib.ListN.{length, length-set}
+use lib.ListN.{length}
 use Rattle.ranges.specs.RangeVector.{Range, Ranges, ranges, held, range_at, put_at}
 use Rattle.ranges.proofs.RangeSteps.{same_loans, same_since}
 use Rattle.trcf.specs.Steps.Inverting.{time_at, time_by, times_by}

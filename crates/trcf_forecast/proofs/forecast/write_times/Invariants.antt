@@ -1,6 +1,5 @@
 -- What holds in the loop of `trcf_forecast::forecast::write_times`.
 use mathlib.Core.Path.{◌≡◌}
-use lib.ListN.{length}
 use Rattle.refusal.specs.Lent.{over}
 use Rattle.ranges.specs.RangeVector.{held, AreSameLoans}
 use Rattle.trcf.specs.Lists.{tabulate}
