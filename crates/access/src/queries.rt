@@ -1,4 +1,5 @@
 // The calls that change nothing, for a role that may see.
+// Kept: (a) the six lent lists are parameters: the C interface lends each call its own mix of shared and mutable lists, and a struct would need a type for each mix.
 ghost use Rattle.std.specs.Prelude.{◌≡◌};
 ghost use Rattle.refusal.specs.Refusal.{row_of};
 ghost use Rattle.ranges.specs.RangeVector.{ranges};

@@ -1,4 +1,5 @@
 // `save` and `restore`, each for a role that has its right.
+// Kept: (a) the six lent lists are parameters: the C interface lends each call its own mix of shared and mutable lists, and a struct would need a type for each mix.
 ghost use Rattle.std.specs.Prelude.{◌≡◌};
 ghost use Rattle.trcf.specs.View.{lent};
 ghost use Rattle.snapshot.specs.Save.{saved_told};

@@ -1,6 +1,7 @@
 // The bench: reads standard input block by block until it ends, hands each block to `bench_blocks`, and writes what that prints. Proved are what each
 // call does, that turns follow until one had room before the next read, that a read leaves what is kept, and that the memory does. That `filled` and
 // `turned` read and write, and that `all` hands on the number of bytes that were read, is seen by reading: then a run is one of `Program` (bench_blocks/specs).
+// Kept: (a) the six lent lists are parameters: the C interface lends each call its own mix of shared and mutable lists, and a struct would need a type for each mix.
 #![tactic(auto)]
 
 ghost use Rattle.std.specs.Prelude.{◌+◌, ◌≤◌, ◌<◌, ◌≡◌, true, false, length, take};
@@ -54,9 +55,10 @@ fn turned(
         got,
         out,
     );
-    let n = t.written;
-    let _ = rt.write_all(&out[..n]);
-    t.run
+    // the memory does, so no turn is refused
+    let turned = t.unwrap();
+    let _ = rt.write_all(&out[..turned.written]);
+    turned.run
 }
 
 // A block: turn after turn, until one has room for all that it prints. Each has read a byte at least, or it would not end.
@@ -112,21 +114,8 @@ fn handed(
     r
 }
 
-// The reads that are left after one: none where the bench is at its end.
-fn left(reads: u64, phase: Phase) -> u64
-    requires { 0 < reads }
-    ensures { result < reads }
-{
-    match phase {
-        Phase::WantsSet => reads - 1,
-        Phase::WantsWeights => reads - 1,
-        Phase::Running => reads - 1,
-        Phase::Ended => 0,
-    }
-}
-
-// The whole input. A proved loop has to end, and nothing says that an input does: the loop counts its reads down, from a number that no
-// run uses up.
+// The whole input, until the bench is at its end. A proved loop has to end, and nothing says that an input does: the loop makes at most a number of reads that
+// no run uses up.
 fn all<R: Read>(
     rt: &impl Print,
     input: &mut R,
@@ -144,8 +133,7 @@ fn all<R: Read>(
     requires in_bounds_2 { 65536 ≤ length out.old }
 {
     let mut run = first_run();
-    let mut reads = u64::MAX;
-    while reads > 0 {
+    for _ in 0..u64::MAX {
         let kept = run.kept;
         let got = filled(input, text, kept);
         run = handed(
@@ -162,9 +150,9 @@ fn all<R: Read>(
             got,
             out,
         );
-        let bench = run.bench;
-        let phase = bench.phase;
-        reads = left(reads, phase);
+        if run.bench.phase == Phase::Ended {
+            return;
+        }
     }
 }
 

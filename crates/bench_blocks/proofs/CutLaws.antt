@@ -16,7 +16,7 @@ use Rattle.snapshot.specs.Scan.{number_of, single_of, double_of}
 use Rattle.snapshot.proofs.HexLaws.{float_of_lem}
 use Rattle.snapshot.proofs.ScanLaws.{whole_of}
 use Rattle.snapshot.proofs.WriteLaws.{float_length, whole_short}
-use Rattle.snapshot.specs.declared.field.Number.TheVariants.{No}
+use Rattle.std.specs.Prelude.{None}
 use Rattle.bench_core.specs.declared.line.Name.TheVariants.{Unread, Other}
 use Rattle.bench_core.specs.declared.line.Place.{Place}
 use Rattle.bench_core.specs.declared.line.Place.TheVariants.{AsLetter, AsMethod, AsWhole, AsDouble, AsSingle, Nowhere}
@@ -38,7 +38,7 @@ no_name (a ∷ b ∷ []) h = refl
 no_name (a ∷ b ∷ d ∷ []) h = absurd (omega arith)
 no_name (a ∷ b ∷ d ∷ e ∷ r) h = refl
 
-no_letter : (c : List ℕ) → 24 ≤ length c → letter_of c ≡ No
+no_letter : (c : List ℕ) → 24 ≤ length c → letter_of c ≡ None
 no_letter [] h = refl
 no_letter (a ∷ []) h = absurd (omega arith)
 no_letter (a ∷ b ∷ r) h = refl

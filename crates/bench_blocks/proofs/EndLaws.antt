@@ -11,7 +11,13 @@ use lib.Ieee.{Float}
 use Rattle.refusal.specs.Lent.{over}
 use Rattle.trcf.specs.View.{Lent}
 use Rattle.bench_core.specs.declared.step.Bench.{Bench}
-use Rattle.bench_core.specs.Bench.{output, prints, end_result, Finished, finished, finish_of}
+use Rattle.std.specs.Prelude.{Result, Ok, Err}
+use Rattle.std.specs.Result.{IsOk}
+use Rattle.refusal.specs.declared.Refusal.{Refusal}
+use Rattle.refusal.specs.Refusal.{number_of}
+use Rattle.refusal.proofs.RefusalLaws.{is_numbered}
+use Rattle.bench_core.specs.declared.step.Printed.{Printed}
+use Rattle.bench_core.specs.Bench.{output, prints, end_result, Finished, finished, finished_from, finish_of}
 use Rattle.bench_core.specs.Run.{bench_memory, blank, shown}
 use Rattle.bench_blocks.specs.Blocks.{TextBlock, cells_of, ends_with, block_of, BlockPrinted, block_printed, prints_block}
 use Rattle.bench_blocks.specs.Steps.{Handed, Closed}
@@ -49,6 +55,17 @@ module _ (b : Bench) (text : List ℕ) (next : ℕ) (out : List ℕ) (at : ℕ) 
         behind = rw (o, i) (laid_behind out at h w bytes g s);
         fits = subst (λ (u : ℕ). u ≤ 65536) (sym i) (w_fits out at h w bytes g s);
       }
+
+  -- the part of the output has room, so the end is taken
+  pub finish_taken : (r : Result Printed Refusal) (bytes : List ℕ)
+      → finished_from r b bytes ≡ finish_of b (take (length text - next) (drop next text)) (take (at + 65536 - at) (drop at out)) → IsOk r
+  finish_taken (Ok p) bytes e = refl
+  finish_taken (Err k) bytes e =
+      let m : at + 65536 - at ≡ 65536 = omega arith in
+      let z : length (take (at + 65536 - at) (drop at out)) ≡ 65536 = rw m (simp (length-take, length-drop) (omega arith)) in
+      let f : number_of k ≡ 0 =
+      ap (λ (s : Finished). s.row) (e ∙ finish_out b (take (length text - next) (drop next text)) (take (at + 65536 - at) (drop at out)) z) in
+      absurd (omega (arith, is_numbered k, f))
 
 -- ---- a block
 

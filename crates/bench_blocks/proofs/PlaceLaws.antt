@@ -13,7 +13,13 @@ use Rattle.refusal.specs.Lent.{over}
 use Rattle.trcf.specs.View.{Lent}
 use Rattle.bench_core.specs.Line.{cell_of}
 use Rattle.bench_core.specs.declared.step.Bench.{Bench}
-use Rattle.bench_core.specs.Bench.{output, prints, line_result, line_gives, cell_length, Stepped, stepped, bench_step, with_line}
+use Rattle.std.specs.Prelude.{Result, Ok, Err}
+use Rattle.std.specs.Result.{IsOk}
+use Rattle.refusal.specs.declared.Refusal.{Refusal}
+use Rattle.refusal.specs.Refusal.{number_of}
+use Rattle.refusal.proofs.RefusalLaws.{is_numbered}
+use Rattle.bench_core.specs.declared.step.StepResult.{StepResult}
+use Rattle.bench_core.specs.Bench.{output, prints, line_result, line_gives, cell_length, Stepped, stepped, bench_step, with_line, stepped_by}
 use Rattle.bench_core.specs.Run.{blank, shown}
 use Rattle.bench_blocks.specs.Steps.{Placed}
 use Rattle.bench_blocks.proofs.OutLaws.{reply_of, speaks}
@@ -120,6 +126,17 @@ module _ (b : Bench) (lists : Lent) (y : List Float) (t out : List ℕ) (at : �
 
 -- the same, over the parts as the code lends them
 module _ (b : Bench) (lists : Lent) (y : List Float) (text : List ℕ) (next : ℕ) (out : List ℕ) (at : ℕ) (h : at + 65536 ≤ length out) where
+  -- the part of the output has room, so the step is taken
+  pub step_taken : (r : Result StepResult Refusal) (lists' : Lent) (y' : List Float) (bytes : List ℕ)
+      → stepped_by r b lists' y' bytes ≡ bench_step b lists y (take (length text - next) (drop next text)) (take (at + 65536 - at) (drop at out)) → IsOk r
+  step_taken (Ok s) lists' y' bytes e = refl
+  step_taken (Err k) lists' y' bytes e =
+      let m : at + 65536 - at ≡ 65536 = omega arith in
+      let z : length (take (at + 65536 - at) (drop at out)) ≡ 65536 = rw m (simp (length-take, length-drop) (omega arith)) in
+      let q = step_out b lists y (take (length text - next) (drop next text)) (take (at + 65536 - at) (drop at out)) z in
+      let f : number_of k ≡ 0 = ap (λ (s : Stepped). s.row) (e ∙ q.same) in
+      absurd (omega (arith, is_numbered k, f))
+
   pub placed_at : (bytes : List ℕ) {b' : Bench} {lists' : Lent} {y' : List Float} {row n m : ℕ}
       → stepped row n (line_result b' lists' y' (output m bytes)) ≡ bench_step b lists y (take (length text - next) (drop next text)) (take (at + 65536 - at) (drop at out))
       → length bytes ≡ length (take (at + 65536 - at) (drop at out))

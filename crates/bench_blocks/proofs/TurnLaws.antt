@@ -13,8 +13,14 @@ use Rattle.refusal.specs.Lent.{over}
 use Rattle.trcf.specs.View.{Lent}
 use Rattle.bench_core.specs.Bench.{output, room}
 use Rattle.bench_blocks.specs.Blocks.{TextBlock, block_of, BlockPrinted, prints_block}
-use Rattle.bench_blocks.specs.Turns.{run_with, unfit, bytes_in_text, ends_at, bytes_kept, TurnResult, turn_result, carried, turn_of}
+use Rattle.bench_blocks.specs.Turns.{run_with, unfit, bytes_in_text, ends_at, bytes_kept, TurnResult, turn_result, carried, turn_by, turn_of}
 use Rattle.bench_blocks.specs.declared.turn.Run.{Run}
+use Rattle.bench_blocks.specs.declared.turn.TurnResult.{TurnResult as Turned}
+use Rattle.std.specs.Prelude.{Result, Ok, Err}
+use Rattle.std.specs.Result.{IsOk}
+use Rattle.refusal.specs.declared.Refusal.{Refusal}
+use Rattle.refusal.specs.Refusal.{number_of}
+use Rattle.refusal.proofs.RefusalLaws.{is_numbered}
 use Rattle.bench_blocks.proofs.AheadLaws.{block_ahead}
 
 module _ (r : Run) (lists : Lent) (y : List Float) (text : List ℕ) (got : ℕ) (out : List ℕ) where
@@ -103,3 +109,12 @@ turn_goes r lists y text got out a b c t e = subst (Goes r got) (sym s) goes
               let k : length (take n text) ≡ n = length-take-le n text (omega (arith, stand_least r.kept got r.full)) in
               subst (λ (q : Bool). bytes_kept (n - g.read) q < n) (sym f) (omega (arith, h.0, h.1, k));
         }
+
+-- the memory does, so the turn is done
+pub turn_taken : (r : Run) (lists : Lent) (y : List Float) (text : List ℕ) (got : ℕ) (out : List ℕ)
+    → room ≤ length out → 24 < length text → r.kept + got ≤ length text → (t : Result Turned Refusal) (lists' : Lent) (y' : List Float) (text' out' : List ℕ)
+    → turn_by t r lists' y' text' out' ≡ turn_of r lists y text got out → IsOk t
+turn_taken r lists y text got out a b c (Ok t) lists' y' text' out' e = refl
+turn_taken r lists y text got out a b c (Err k) lists' y' text' out' e =
+    let f : number_of k ≡ 0 = (turn_goes r lists y text got out a b c (turn_by (Err k) r lists' y' text' out') e).row in
+    absurd (omega (arith, is_numbered k, f))

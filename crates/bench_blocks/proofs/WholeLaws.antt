@@ -14,8 +14,7 @@ use Rattle.trcf.specs.View.{Lent, Outcome}
 use Rattle.trcf.specs.Preprocessor.{accepted}
 use Rattle.snapshot.specs.Read.{as_whole, as_float}
 use Rattle.snapshot.specs.Scan.{number_of, single_of, double_of}
-use Rattle.snapshot.specs.declared.field.Number.{Number}
-use Rattle.snapshot.specs.declared.field.Number.TheVariants.{Is, No}
+use Rattle.std.specs.Prelude.{Option, Some, None}
 use Rattle.snapshot.specs.declared.field.Field.{Field}
 use Rattle.snapshot.specs.declared.field.Field.TheVariants.{Single, Double, Whole, Bad}
 use Rattle.bench_core.specs.declared.line.Name.{Name}
@@ -84,9 +83,9 @@ name_begun (a ∷ b ∷ c ∷ []) = long_begun a b c
 name_begun (a ∷ b ∷ c ∷ d ∷ r) = refl
 
 module _ (l : Line) (e : begun l.name [] ≡ true) where
-  whole_begun : (n : Number) → begun (with_whole l n).name [] ≡ true
-  whole_begun No = refl
-  whole_begun (Is n) = go (leb 6 l.fields)
+  whole_begun : (n : Option ℕ) → begun (with_whole l n).name [] ≡ true
+  whole_begun None = refl
+  whole_begun (Some n) = go (leb 6 l.fields)
     where
       go : (p : Bool) → begun (cond p (other_line l) (line_of l.name (l.fields + 1) (set l.wholes l.fields n) l.double l.count l.singles)).name [] ≡ true
       go true = refl

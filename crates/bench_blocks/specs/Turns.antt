@@ -1,11 +1,14 @@
 -- One turn of the program `bench`: the bytes that a read brought, after those that are kept of the block before, and what is kept of both.
-use Rattle.std.specs.Prelude.{ℕ, ◌+◌, ◌-◌, Bool, true, false, cond, List, eqb, ltb, leb, length, take, drop, Float}
+use Rattle.std.specs.Prelude.{ℕ, ◌+◌, ◌-◌, Bool, true, false, cond, List, eqb, ltb, leb, length, take, drop, Float, Result, Ok, Err}
 use Rattle.refusal.specs.Lent.{over}
+use Rattle.refusal.specs.Refusal.{number_of}
+use Rattle.refusal.specs.declared.Refusal.{Refusal}
 use Rattle.trcf.specs.View.{Lent}
 use Rattle.bench_core.specs.Bench.{Output, output, room, fresh_bench, cell_kept}
 use Rattle.bench_core.specs.declared.step.Bench.{Bench}
 use Rattle.bench_blocks.specs.Blocks.{block_of, BlockPrinted, prints_block}
 use Rattle.bench_blocks.specs.declared.turn.Run.{Run}
+use Rattle.bench_blocks.specs.declared.turn.TurnResult.{TurnResult as Turned}
 
 abbrev pub run_with : Bench → ℕ → Bool → Run
 run_with b k f = record { bench = b; kept = k; full = f }
@@ -41,6 +44,11 @@ pub record TurnResult : Type 0 where
 
 abbrev pub turn_result : ℕ → Run → Lent → List Float → List ℕ → Output → TurnResult
 turn_result row r lists y text o = record { row = row; run = r; lent = lists; point = y; text = text; out = o }
+
+-- … by what a call of `turn` answers: after a refusal the run and all that is lent are as they were, and nothing is to be written
+abbrev pub turn_by : Result Turned Refusal → Run → Lent → List Float → List ℕ → List ℕ → TurnResult
+turn_by (Ok t) r lists y text out = turn_result 0 t.run lists y text (output t.written out)
+turn_by (Err e) r lists y text out = turn_result (number_of e) r lists y text (output 0 out)
 
 -- after a block g of the first n bytes of the text, what is kept moves to the front
 abbrev pub carried : List ℕ → ℕ → BlockPrinted → TurnResult

@@ -1,19 +1,12 @@
 // A whole block of the input: every cell that ends in it, as long as the output has room, and the end of the input.
+// Kept: (a) the six lent lists are parameters: the C interface lends each call its own mix of shared and mutable lists, and a struct would need a type for each mix.
 ghost use Rattle.std.specs.Prelude.{◌≡◌, [], false, suc, ◌+◌, ◌≤◌, length, drop};
 ghost use Rattle.trcf.specs.View.{lent};
 ghost use Rattle.bench_core.specs.Bench.{output};
 ghost use Rattle.bench_blocks.specs.Blocks.{block_printed, prints_block, cells_of, block_of};
 ghost use Rattle.bench_blocks.specs.Steps.{Placed, Closed, Handed};
 
-use bench_core::step::{Bench, ROOM, finish, step};
-
-// What a cell leaves: the bench, and how many bytes are read and written.
-#[derive(Clone, Copy)]
-pub struct CellResult {
-    pub bench: Bench,
-    pub next: usize,
-    pub length: usize,
-}
+use bench_core::step::{Bench, Printed, ROOM, StepResult, finish, step};
 
 // What a block leaves: the bench, how many bytes are read and written, and whether less than ROOM of the output is left for what is not read.
 #[derive(Clone, Copy)]
@@ -38,13 +31,13 @@ fn cell_at(
     next: usize,
     out: &mut [u8],
     at: usize,
-) -> CellResult
+) -> StepResult
     requires next_in_bounds { next ≤ length text.now }
     requires at_in_bounds { at + 65536 ≤ length out.old }
     ensures { Placed b (lent statistics.old last_shingled_input.old last_shingled_point.old previous_timestamps.old initial_values.old initial_timestamps.old) point.old (drop next text.now) out.old at result.bench (lent statistics.new last_shingled_input.new last_shingled_point.new previous_timestamps.new initial_values.new initial_timestamps.new) point.new out.new result.next result.length }
 {
     let end = at + ROOM;
-    let s = step(
+    let cell = step(
         b,
         statistics,
         last_shingled_input,
@@ -56,12 +49,7 @@ fn cell_at(
         &text[next..],
         &mut out[at..end],
     );
-    let bench = s.bench;
-    CellResult {
-        bench: bench,
-        next: s.next,
-        length: s.length,
-    }
+    cell.unwrap()
 }
 
 // Every cell that ends in the text, as long as the output has room.
@@ -100,17 +88,17 @@ fn cells(
         bench = s.bench;
         if s.next == 0 {
             return BlockResult {
-                bench: bench,
+                bench,
                 read: next,
                 written: at,
                 full: false,
             };
         }
-        next = next + s.next;
-        at = at + s.length;
+        next += s.next;
+        at += s.length;
     }
     BlockResult {
-        bench: bench,
+        bench,
         read: next,
         written: at,
         full: true,
@@ -118,19 +106,14 @@ fn cells(
 }
 
 // The end of the input, after the bytes of the text from next on, printed from at on.
-fn end_at(b: Bench, text: &[u8], next: usize, out: &mut [u8], at: usize) -> CellResult
+fn end_at(b: Bench, text: &[u8], next: usize, out: &mut [u8], at: usize) -> Printed
     requires next_in_bounds { next ≤ length text.now }
     requires at_in_bounds { at + 65536 ≤ length out.old }
     ensures { Closed b (drop next text.now) out.old at result.bench out.new result.length }
 {
     let end = at + ROOM;
-    let s = finish(b, &text[next..], &mut out[at..end]);
-    let bench = s.bench;
-    CellResult {
-        bench: bench,
-        next: s.next,
-        length: s.length,
-    }
+    let last = finish(b, &text[next..], &mut out[at..end]);
+    last.unwrap()
 }
 
 // A block of the input: every cell that ends in it, as long as ROOM bytes of the output are left, and where no cell is left and the input ends
@@ -170,15 +153,11 @@ pub fn block(
     if r.full {
         return r;
     }
-    let bench = r.bench;
-    let next = r.read;
-    let at = r.written;
-    let s = end_at(bench, text, next, out, at);
-    let last = s.bench;
+    let last = end_at(r.bench, text, r.read, out, r.written);
     BlockResult {
-        bench: last,
+        bench: last.bench,
         read: text.len(),
-        written: at + s.length,
+        written: r.written + last.length,
         full: false,
     }
 }

@@ -1,12 +1,13 @@
 // One turn of the program `bench`: the bytes that a read brought, after those that are kept of the block before, and what is kept of both.
-ghost use Rattle.std.specs.Prelude.{◌≡◌, ◌+◌, ◌≤◌, length, take, drop};
+// Kept: (a) the six lent lists are parameters: the C interface lends each call its own mix of shared and mutable lists, and a struct would need a type for each mix.
+ghost use Rattle.std.specs.Prelude.{◌≡◌, ◌+◌, ◌≤◌, IfOk, length, take, drop};
 ghost use Rattle.refusal.specs.Lent.{over};
 ghost use Rattle.trcf.specs.View.{lent};
-ghost use Rattle.bench_core.specs.Bench.{output};
-ghost use Rattle.bench_blocks.specs.Turns.{first_run, unfit, bytes_in_text, ends_at, bytes_kept, turn_result, turn_of};
+ghost use Rattle.bench_blocks.specs.Turns.{first_run, unfit, bytes_in_text, ends_at, bytes_kept, turn_by, turn_of};
 
 use crate::block::block;
 use bench_core::step::{Bench, LONGEST, ROOM, start};
+use refusal::Refusal;
 
 // Between two turns: the bench, how many bytes are kept at the front of the text, and whether the last turn stopped because the output was
 // nearly full. The next one then takes no new bytes.
@@ -17,10 +18,9 @@ pub struct Run {
     pub full: bool,
 }
 
-// What a turn leaves: the row, 20 where nothing was done; the run; and how many bytes are to be written.
+// What a turn leaves: the run, and how many bytes are to be written.
 #[derive(Clone, Copy)]
 pub struct TurnResult {
-    pub row: u64,
     pub run: Run,
     pub written: usize,
 }
@@ -40,19 +40,7 @@ pub fn first_run() -> Run
 fn is_unfit(kept: usize, got: usize, size: usize, space: usize) -> bool
     ensures { result ≡ unfit kept got size space }
 {
-    if space < ROOM {
-        return true;
-    }
-    if size <= LONGEST {
-        return true;
-    }
-    if size < kept {
-        return true;
-    }
-    if size - kept < got {
-        return true;
-    }
-    false
+    space < ROOM || size <= LONGEST || size < kept || size - kept < got
 }
 
 // How many bytes stand in the text.
@@ -61,23 +49,14 @@ fn standing_in(kept: usize, got: usize, full: bool) -> usize
     ensures value { result ≡ bytes_in_text kept got full }
     ensures upper_bound { result ≤ kept + got }
 {
-    if full {
-        return kept;
-    }
-    kept + got
+    if full { kept } else { kept + got }
 }
 
 // Whether the input ends here: a read brought nothing.
 fn is_end(got: usize, full: bool) -> bool
     ensures { result ≡ ends_at got full }
 {
-    if full {
-        return false;
-    }
-    if got == 0 {
-        return true;
-    }
-    false
+    !full && got == 0
 }
 
 // How much is kept of n bytes that are not read: all where the output is nearly full. Else no cell ends in them, and LONGEST are enough.
@@ -85,13 +64,7 @@ fn rest_of(n: usize, full: bool) -> usize
     ensures value { result ≡ bytes_kept n full }
     ensures upper_bound { result ≤ n }
 {
-    if full {
-        return n;
-    }
-    if LONGEST < n {
-        return LONGEST;
-    }
-    n
+    if full { n } else { n.min(LONGEST) }
 }
 
 // Moves n bytes of the text, from place `from` on, to its front.
@@ -99,11 +72,7 @@ fn carry(text: &mut [u8], from: usize, n: usize)
     requires { from + n ≤ length text.old }
     ensures { text.new ≡ over text.old (take n (drop from text.old)) }
 {
-    let mut i = 0usize;
-    while i < n {
-        text[i] = text[from + i];
-        i += 1;
-    }
+    text.copy_within(from..from + n, 0);
 }
 
 // A turn: `got` bytes were read to the text after those that are kept, none at the end of the input. Every cell is read that ends there, as long as
@@ -121,25 +90,17 @@ pub fn turn(
     text: &mut [u8],
     got: usize,
     out: &mut [u8],
-) -> TurnResult
-    ensures out_after { turn_result result.row result.run (lent statistics.new last_shingled_input.new last_shingled_point.new previous_timestamps.new initial_values.new initial_timestamps.new) point.new text.new (output result.written out.new) ≡ turn_of run (lent statistics.old last_shingled_input.old last_shingled_point.old previous_timestamps.old initial_values.old initial_timestamps.old) point.old text.old got out.old }
-    ensures written_in_bounds { result.written ≤ length out.new }
-    ensures kept_in_bounds { result.row ≡ 0 → result.run.kept ≤ length text.new }
+) -> Result<TurnResult, Refusal>
+    ensures out_after { turn_by result run (lent statistics.new last_shingled_input.new last_shingled_point.new previous_timestamps.new initial_values.new initial_timestamps.new) point.new text.new out.new ≡ turn_of run (lent statistics.old last_shingled_input.old last_shingled_point.old previous_timestamps.old initial_values.old initial_timestamps.old) point.old text.old got out.old }
+    ensures written_in_bounds { IfOk result (λ turned. turned.written ≤ length out.new) }
+    ensures kept_in_bounds { IfOk result (λ turned. turned.run.kept ≤ length text.new) }
 {
-    let kept = run.kept;
-    let full = run.full;
-    let bench = run.bench;
-    if is_unfit(kept, got, text.len(), out.len()) {
-        return TurnResult {
-            row: 20,
-            run: run,
-            written: 0,
-        };
+    if is_unfit(run.kept, got, text.len(), out.len()) {
+        return Err(Refusal::TooShort);
     }
-    let n = standing_in(kept, got, full);
-    let ends = is_end(got, full);
+    let n = standing_in(run.kept, got, run.full);
     let r = block(
-        bench,
+        run.bench,
         statistics,
         last_shingled_input,
         last_shingled_point,
@@ -148,20 +109,17 @@ pub fn turn(
         initial_timestamps,
         point,
         &text[..n],
-        ends,
+        is_end(got, run.full),
         out,
     );
-    let read = r.read;
-    let rest = rest_of(n - read, r.full);
-    carry(text, read, rest);
-    let after = r.bench;
-    TurnResult {
-        row: 0,
+    let rest = rest_of(n - r.read, r.full);
+    carry(text, r.read, rest);
+    Ok(TurnResult {
         run: Run {
-            bench: after,
+            bench: r.bench,
             kept: rest,
             full: r.full,
         },
         written: r.written,
-    }
+    })
 }

@@ -1,4 +1,3 @@
-pub mod LineLaws
 pub mod PrintLaws
 pub mod TurnLaws
 pub mod StepLaws

@@ -1,13 +1,17 @@
 -- What is printed fits the room of a step. Assumes nothing.
-use Prim.Native.Nat.{ℕ, zero, suc, ◌+◌, ◌≤◌}
-use native.Mathlib.Nat.{mul-le-mul, min-le_left, le_refl}
+use Prim.Native.Nat.{ℕ, zero, suc, ◌+◌, ◌≤◌, min}
+use native.Mathlib.Nat.{mul-le-mul, min-le_left}
 use native.Mathlib.Omega.{arith}
 use mathlib.Core.Path.{◌≡◌, refl, sym, ap, ◌∙◌}
 use mathlib.Core.Bool.{Bool, true, false, cond, ◌||◌, false≢true}
 use mathlib.Core.List.{List, [], ◌∷◌}
 use borrow.Author.Tests.{le-ltb, ltb-false}
 use lib.Dec.{ltb}
-use lib.ListN.{length, take, set, length-take}
+use lib.ListN.{length, take, length-take}
+use Rattle.std.specs.Prelude.{Result, Ok, Err}
+use Rattle.std.specs.Result.{result_unwrap_or}
+use Rattle.std.proofs.lemmas.List.{take_min}
+use Rattle.refusal.specs.declared.Refusal.{Refusal}
 use lib.Ieee.{Float}
 use Rattle.refusal.specs.Lent.{over}
 use Rattle.trcf.specs.Types.{augments}
@@ -17,27 +21,12 @@ use Rattle.trcf.specs.Preprocessor.{accepted}
 use Rattle.trcf.specs.declared.head.Preprocessor.{Preprocessor}
 use Rattle.snapshot.specs.Text.{singles}
 use Rattle.snapshot.specs.Read.{bytes_of_line}
-use Rattle.snapshot.specs.Save.{SaveOutcome, save_outcome, fitted}
+use Rattle.snapshot.specs.Save.{SaveOutcome, save_outcome, saved_told, fitted}
 use Rattle.snapshot.proofs.Accepted.{clear}
 use Rattle.snapshot.proofs.WriteLaws.{whole_short}
 use Rattle.snapshot.proofs.SaveLaws.{wide_of}
 use Rattle.snapshot.proofs.PairLines.{pair_size, number_size}
-use Rattle.bench_core.specs.Bench.{output, prints, no_text, ok_text, none_text, point_text, dimension_of}
-
-module _ {A : Type 0} where
-  take_long : (n : ℕ) (l : List A) → length l ≤ n → take n l ≡ l
-  take_long zero [] h = refl
-  take_long (suc n) [] h = refl
-  take_long zero (x ∷ xs) h = absurd (omega arith)
-  take_long (suc n) (x ∷ xs) h = ap (λ (t : List A). x ∷ t) (take_long n xs (omega arith))
-
-  -- a part of at most n elements
-  pub take_least : (n m : ℕ) (l : List A) → m ≡ cond (ltb n (length l)) n (length l) → take m l ≡ take n l
-  take_least n m l h = ap (λ (i : ℕ). take i l) h ∙ go (ltb n (length l)) refl
-    where
-      go : (b : Bool) → ltb n (length l) ≡ b → take (cond b n (length l)) l ≡ take n l
-      go true e = refl
-      go false e = take_long (length l) l (le_refl (length l)) ∙ sym (take_long n l (ltb-false _ _ e))
+use Rattle.bench_core.specs.Bench.{output, prints, no_text, point_text, dimension_of}
 
 -- a line that fits is printed whole
 pub printed : (t out : List ℕ) {new : List ℕ} {row n : ℕ} → length t ≤ length out → save_outcome row n new ≡ fitted t out → output n new ≡ prints t out
@@ -46,22 +35,11 @@ printed t out {new} {row} {n} h e =
     let q : fitted t out ≡ save_outcome 0 (length t) (over out t) = rw (le-ltb (length out) (length t) h) in
     ap (λ (o : SaveOutcome). output o.length o.bytes) (e ∙ q)
 
-pub ok_bytes : (out : List ℕ) → 65536 ≤ length out → output 3 (set (set (set out 0 111) 1 107) 2 10) ≡ prints ok_text out
-unfolding prints over
-ok_bytes [] h = absurd (omega arith)
-ok_bytes (a ∷ []) h = absurd (omega arith)
-ok_bytes (a ∷ b ∷ []) h = absurd (omega arith)
-ok_bytes (a ∷ b ∷ c ∷ r) h = refl
-
-pub none_bytes : (out : List ℕ) → 65536 ≤ length out
-    → output 5 (set (set (set (set (set out 0 110) 1 111) 2 110) 3 101) 4 10) ≡ prints none_text out
-unfolding prints over
-none_bytes [] h = absurd (omega arith)
-none_bytes (a ∷ []) h = absurd (omega arith)
-none_bytes (a ∷ b ∷ []) h = absurd (omega arith)
-none_bytes (a ∷ b ∷ c ∷ []) h = absurd (omega arith)
-none_bytes (a ∷ b ∷ c ∷ d ∷ []) h = absurd (omega arith)
-none_bytes (a ∷ b ∷ c ∷ d ∷ e ∷ r) h = refl
+-- … by what the call that prints it answers
+pub told : (t out : List ℕ) {new : List ℕ} {n : ℕ} (r : Result ℕ Refusal) → length t ≤ length out → saved_told r new ≡ fitted t out → n ≡ result_unwrap_or r 0
+    → output n new ≡ prints t out
+told t out {new} (Ok m) h e q = ap (λ (k : ℕ). output k new) q ∙ printed t out h e
+told t out {new} (Err k) h e q = ap (λ (k : ℕ). output k new) q ∙ printed t out h e
 
 pub no_fits : (row : ℕ) → row ≤ whole_max → length (no_text row) ≤ 24
 unfolding no_text
@@ -96,13 +74,13 @@ point_fits_lem h y =
     omega (arith, pair_size 112 116 (take (dimension_of h) y), length-take (dimension_of h) y, min-le_left (dimension_of h) (length y), dimension_few h)
 
 -- a point of which no more than is in use is printed
-pub point_line : (h : Preprocessor) (y : List Float) (out : List ℕ) (a n : ℕ) {new : List ℕ} {row m : ℕ} → 65536 ≤ length out
-    → a ≡ dimension_of h → n ≡ cond (ltb a (length y)) a (length y)
-    → save_outcome row m new ≡ fitted (bytes_of_line (singles (112 ∷ 116 ∷ []) (take n y))) out
+pub point_line : (h : Preprocessor) (y : List Float) (out : List ℕ) (a n : ℕ) {new : List ℕ} {m : ℕ} (r : Result ℕ Refusal) → 65536 ≤ length out
+    → a ≡ dimension_of h → n ≡ min a (length y)
+    → saved_told r new ≡ fitted (bytes_of_line (singles (112 ∷ 116 ∷ []) (take n y))) out → m ≡ result_unwrap_or r 0
     → output m new ≡ prints (point_text (take (dimension_of h) y)) out
 unfolding point_text
-point_line h y out a n {new} {row} {m} r d q e =
-    let k : take n y ≡ take (dimension_of h) y = take_least a n y q ∙ ap (λ (i : ℕ). take i y) d in
+point_line h y out a n r g d q e w =
+    let k : take n y ≡ take (dimension_of h) y = ap (λ (i : ℕ). take i y) q ∙ take_min a y ∙ ap (λ (i : ℕ). take i y) d in
     let f : fitted (bytes_of_line (singles (112 ∷ 116 ∷ []) (take n y))) out ≡ fitted (point_text (take (dimension_of h) y)) out =
     ap (λ (v : List Float). fitted (bytes_of_line (singles (112 ∷ 116 ∷ []) v)) out) k in
-    printed (point_text (take (dimension_of h) y)) out (omega (arith, point_fits_lem h y)) (e ∙ f)
+    told (point_text (take (dimension_of h) y)) out r (omega (arith, point_fits_lem h y)) (e ∙ f) w

@@ -8,9 +8,13 @@ use borrow.Author.Tests.{lt-ltb, le-ltb, eq-eqb, ne_eqb}
 use lib.ListN.{length, take, get_or, replicate}
 use lib.Ieee.{Float}
 use Rattle.trcf.specs.Preprocessor.{accepted}
-use Rattle.trcf.proofs.OutcomeLaws.{accepted_not}
+use Rattle.std.specs.Prelude.{Result, Ok, Err}
+use Rattle.std.specs.Result.{IsErrAnd}
+use Rattle.refusal.specs.declared.Refusal.{Refusal}
+use Rattle.refusal.specs.Refusal.{number_of}
+use Rattle.refusal.proofs.RefusalLaws.{refused_is}
 use Rattle.trcf.specs.Settings.{settings_row}
-use Rattle.trcf.specs.View.{Lent, Outcome, outcome, or_else, no_head, build_of, settings_from}
+use Rattle.trcf.specs.View.{Lent, Outcome, outcome, head_outcome, or_else, no_head, build_of, settings_from}
 use Rattle.trcf.specs.declared.head.Preprocessor.{Preprocessor}
 use Rattle.trcf.specs.declared.head.PreprocessorBuilder.{PreprocessorBuilder}
 use Rattle.bench_core.specs.Line.{is_named, is_reading, cell_of, request_of, kept_count, kept_of}
@@ -20,7 +24,7 @@ use Rattle.bench_core.specs.declared.line.Name.TheVariants.{Unread, Set, Weights
 use Rattle.bench_core.specs.declared.step.Phase.{Phase}
 use Rattle.bench_core.specs.declared.step.Phase.TheVariants.{WantsWeights, Running}
 use Rattle.bench_core.specs.declared.step.Bench.{Bench}
-use Rattle.bench_core.specs.Bench.{zero_codes, built_of, Output, output, prints, no_text, ready_for, going_on, end_of, builder_from, CallPrinted, call_printed, LineResult, line_result, refused_by, set_gives, limit_row, built_gives, build_gives, weights_gives, line_of_call, other_form, plain_gives, reading_gives, call_gives, prints_call, point_result, learn_result, drain_result, save_prints, line_by, line_gives, begun, EndResult, end_result, finish_by, finished, finish_of, cell_length, cell_kept, stepped, with_line, cell_step, bench_step}
+use Rattle.bench_core.specs.Bench.{bench, zero_codes, built_of, Output, output, prints, no_text, ready_for, going_on, end_of, builder_from, CallPrinted, call_printed, LineResult, line_result, refused_by, set_gives, limit_row, built_gives, build_gives, weights_gives, line_of_call, other_form, plain_gives, reading_gives, call_gives, prints_call, point_result, learn_result, drain_result, save_prints, line_by, line_gives, begun, EndResult, end_result, finish_by, finished, finish_of, cell_length, cell_kept, stepped, with_line, cell_step, bench_step}
 
 pub kept_of_lem : (l : Line) (n : ℕ) → n ≡ kept_count l.count → take n l.singles ≡ kept_of l
 unfolding kept_of
@@ -33,47 +37,44 @@ refused_heard b out row lists y e = ap (λ (s : EndResult). line_result s.bench 
 
 -- ---- rows 1 to 9, the limits, `build`
 
-pub else_not : (n m k : ℕ) → k ≡ n → (k ≡ 0 → ⊥) → k ≡ or_else n m
-else_not zero m k e z = absurd (z e)
-else_not (suc n) m k e z = e
+module _ (q : PreprocessorBuilder) (w : List Float) (lists : Lent) (cs : List ℕ) (k : cs ≡ zero_codes q) where
+  bare_row : (row : ℕ) → row ≡ or_else (settings_row (settings_from q w cs)) (limit_row q)
+      → row ≡ or_else (settings_row (settings_from q w (zero_codes q))) (limit_row q)
+  bare_row row e = e ∙ ap (λ (u : List ℕ). or_else (settings_row (settings_from q w u)) (limit_row q)) k
 
-pub else_then : (n m k r : ℕ) → k ≡ n → k ≡ 0 → r ≡ m → r ≡ or_else n m
-else_then n m k r e z f = f ∙ ap (λ (i : ℕ). or_else i m) (sym z ∙ e)
-
-module _ (q : PreprocessorBuilder) (w : List Float) (lists : Lent) (row : ℕ) (cs : List ℕ) (k : cs ≡ zero_codes q)
-    (e : row ≡ or_else (settings_row (settings_from q w cs)) (limit_row q)) where
-  bare_row : row ≡ or_else (settings_row (settings_from q w (zero_codes q))) (limit_row q)
-  bare_row = e ∙ ap (λ (u : List ℕ). or_else (settings_row (settings_from q w u)) (limit_row q)) k
-
-  pub bare_refused : (h : Preprocessor) → h ≡ no_head → (row ≡ 0 → ⊥) → outcome row h lists ≡ built_of q w lists
+  pub bare_refused : (c : Refusal) (r : Result Preprocessor Refusal) → IsErrAnd r (λ d. d ≡ c)
+      → number_of c ≡ or_else (settings_row (settings_from q w cs)) (limit_row q) → head_outcome r no_head lists ≡ built_of q w lists
   unfolding built_of
-  bare_refused h p n =
-      ap (λ (g : Preprocessor). outcome row g lists) p
-      ∙ sym (accepted_not row (build_of (settings_from q w (zero_codes q)) lists) (outcome row no_head lists) n)
-      ∙ ap (λ (i : ℕ). accepted i (build_of (settings_from q w (zero_codes q)) lists) (outcome i no_head lists)) bare_row
+  bare_refused c (Ok a) h e = absurd h
+  bare_refused c (Err d) h e =
+      sym (refused_is d (number_of d) (build_of (settings_from q w (zero_codes q)) lists) (outcome (number_of d) no_head lists) refl)
+      ∙ ap (λ (i : ℕ). accepted i (build_of (settings_from q w (zero_codes q)) lists) (outcome i no_head lists)) (bare_row (number_of d) (ap number_of h ∙ e))
 
-  pub bare_built : (o : Outcome) → row ≡ 0 → o ≡ build_of (settings_from q w cs) lists → o ≡ built_of q w lists
+  pub bare_built : (o : Outcome) → 0 ≡ or_else (settings_row (settings_from q w cs)) (limit_row q) → o ≡ build_of (settings_from q w cs) lists → o ≡ built_of q w lists
   unfolding built_of
-  bare_built o z p =
+  bare_built o e p =
       p
       ∙ ap (λ (u : List ℕ). build_of (settings_from q w u) lists) k
-      ∙ ap (λ (i : ℕ). accepted i (build_of (settings_from q w (zero_codes q)) lists) (outcome i no_head lists)) (sym z ∙ bare_row)
+      ∙ ap (λ (i : ℕ). accepted i (build_of (settings_from q w (zero_codes q)) lists) (outcome i no_head lists)) (bare_row 0 e)
 
-module _ (b : Bench) (out : List ℕ) (l : Line) (lists : Lent) (y : List Float) {l' : Lent} {row : ℕ} {h' : Preprocessor} {v : List Float}
-    (k : v ≡ kept_of l) (e : outcome row h' l' ≡ built_of b.builder v lists) where
-  built : outcome row h' l' ≡ built_of b.builder (kept_of l) lists
-  built = e ∙ ap (λ (u : List Float). built_of b.builder u lists) k
+module _ (b : Bench) (out : List ℕ) (l : Line) (lists : Lent) (y : List Float) {v : List Float} (k : v ≡ kept_of l) where
+  built : (o : Outcome) → o ≡ built_of b.builder v lists → o ≡ built_of b.builder (kept_of l) lists
+  built o e = e ∙ ap (λ (u : List Float). built_of b.builder u lists) k
 
-  pub weights_refused : {b' : Bench} {o : Output} → (row ≡ 0 → ⊥) → end_result b' o ≡ end_result (end_of b) (prints (no_text row) out)
+  pub weights_refused : (c : Refusal) {l' : Lent} {b' : Bench} {o : Output} → outcome (number_of c) no_head l' ≡ built_of b.builder v lists
+      → end_result b' o ≡ end_result (end_of b) (prints (no_text (number_of c)) out)
       → line_result b' l' y o ≡ build_gives b l lists y out
   unfolding build_gives
-  weights_refused n p =
-      refused_heard b out row l' y p ∙ sym (accepted_not row _ (refused_by row b l' y out) n) ∙ ap (λ (q : Outcome). built_gives b q y out) built
+  weights_refused c {l'} e p =
+      refused_heard b out (number_of c) l' y p ∙ sym (refused_is c (number_of c) _ (refused_by (number_of c) b l' y out) refl)
+      ∙ ap (λ (q : Outcome). built_gives b q y out) (built _ e)
 
-  pub weights_built : {b' : Bench} → row ≡ 0 → b' ≡ ready_for Running b.builder h' b.given → line_result b' l' y (output 0 out) ≡ build_gives b l lists y out
+  pub weights_built : (h' : Preprocessor) {l' : Lent} {b' : Bench} → outcome 0 h' l' ≡ built_of b.builder v lists → b' ≡ ready_for Running b.builder b.head b.given
+      → line_result (bench b'.phase b'.line b'.builder h' b'.given) l' y (output 0 out) ≡ build_gives b l lists y out
   unfolding build_gives
-  weights_built z p =
-      (λ j. line_result (p j) l' y (output 0 out)) ∙ ap (λ (u : Outcome). built_gives b u y out) ((λ j. outcome (sym z j) h' l') ∙ built)
+  weights_built h' {l'} e p =
+      ap (λ (r : Bench). line_result (bench r.phase r.line r.builder h' r.given) l' y (output 0 out)) p
+      ∙ ap (λ (u : Outcome). built_gives b u y out) (built _ e)
 
 -- ---- by the name of the line, and by what the bench waits for
 

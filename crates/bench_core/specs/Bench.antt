@@ -1,8 +1,10 @@
 -- The bench (document 01, 'The bench …'), over what `build`, `shingled_point`, `post_process`, `drain` and `save` promise: what each line makes
 -- of it and prints, and one step, which reads one cell.
-use Rattle.std.specs.Prelude.{ℕ, suc, ◌+◌, Bool, true, false, cond, not, List, [], ◌∷◌, ltb, eqb, pos, length, take, get_or, replicate, Float}
+use Rattle.std.specs.Prelude.{ℕ, suc, ◌+◌, Bool, true, false, cond, not, List, [], ◌∷◌, ltb, eqb, pos, length, take, get_or, replicate, Float, Result, Ok, Err}
 use Rattle.std.specs.Float.{nan}
 use Rattle.refusal.specs.Lent.{over}
+use Rattle.refusal.specs.Refusal.{number_of}
+use Rattle.refusal.specs.declared.Refusal.{Refusal}
 use Rattle.common.specs.Deviation.{zero64}
 use Rattle.trcf.specs.Transformer.{zero32}
 use Rattle.trcf.specs.Settings.{dimension, settings_row}
@@ -24,6 +26,8 @@ use Rattle.bench_core.specs.declared.line.Name.TheVariants.{Unread, Set, Weights
 use Rattle.bench_core.specs.declared.step.Phase.{Phase}
 use Rattle.bench_core.specs.declared.step.Phase.TheVariants.{WantsSet, WantsWeights, Running, Ended}
 use Rattle.bench_core.specs.declared.step.Bench.{Bench}
+use Rattle.bench_core.specs.declared.step.StepResult.{StepResult}
+use Rattle.bench_core.specs.declared.step.Printed.{Printed}
 
 -- ---- "It prints `ok`, `none`, `pt` with f32 fields, `no` with the number, or for `s` the text."
 
@@ -263,6 +267,11 @@ pub record Stepped : Type 0 where
 abbrev pub stepped : ℕ → ℕ → LineResult → Stepped
 stepped row n h = record { row = row; next = n; left = h }
 
+-- … by what a call of `step` answers: after a refusal nothing is read or printed, and the bench is as it was
+abbrev pub stepped_by : Result StepResult Refusal → Bench → Lent → List Float → List ℕ → Stepped
+stepped_by (Ok s) b lists y out = stepped 0 s.next (line_result s.bench lists y (output s.length out))
+stepped_by (Err r) b lists y out = stepped (number_of r) 0 (line_result b lists y (output 0 out))
+
 abbrev pub with_line : Bench → Line → Bench
 with_line b l = bench b.phase l b.builder b.head b.given
 
@@ -305,6 +314,11 @@ pub record Finished : Type 0 where
 
 abbrev pub finished : ℕ → ℕ → EndResult → Finished
 finished row n o = record { row = row; next = n; left = o }
+
+-- … by what a call of `finish` answers
+abbrev pub finished_from : Result Printed Refusal → Bench → List ℕ → Finished
+finished_from (Ok p) b out = finished 0 0 (end_result p.bench (output p.length out))
+finished_from (Err r) b out = finished (number_of r) 0 (end_result b (output 0 out))
 
 unfoldable pub finish_of : Bench → List ℕ → List ℕ → Finished
 finish_of b rest out = cond (ltb (length out) room) (finished 20 0 (end_result b (output 0 out))) (finished 0 0 (finish_by b.phase b rest out))

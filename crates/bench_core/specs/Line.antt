@@ -1,7 +1,7 @@
 -- A line of the bench, cell by cell: document 01, 'The bench …', with fields as in 'Trace text'. "A `wgt`, `p` or `l` line may hold any number of
 -- f32 fields": those past the ones that are needed are checked, and neither kept nor counted.
 use Prim.Native.Char.{code}
-use Rattle.std.specs.Prelude.{ℕ, ◌+◌, Bool, cond, ◌||◌, List, [], ◌∷◌, leb, ltb, eqb, set, take, replicate, Float}
+use Rattle.std.specs.Prelude.{ℕ, ◌+◌, Bool, cond, ◌||◌, List, [], ◌∷◌, leb, ltb, eqb, set, take, replicate, Float, Option, Some, None}
 use Rattle.std.specs.Float.{binary32, binary64}
 use Rattle.common.specs.Deviation.{zero64}
 use Rattle.trcf.specs.Types.{mode_of_letter}
@@ -9,8 +9,6 @@ use Rattle.trcf.specs.Settings.{imputes}
 use Rattle.trcf.specs.Transformer.{zero32}
 use Rattle.snapshot.specs.Read.{as_whole, as_float}
 use Rattle.snapshot.specs.Scan.{number_of, single_of, double_of}
-use Rattle.snapshot.specs.declared.field.Number.{Number}
-use Rattle.snapshot.specs.declared.field.Number.TheVariants.{Is, No}
 use Rattle.snapshot.specs.declared.field.Field.{Field}
 use Rattle.snapshot.specs.declared.field.Field.TheVariants.{Single, Double, Whole, Bad}
 use Rattle.bench_core.specs.declared.line.Name.{Name}
@@ -70,15 +68,15 @@ place_of n i = cond (is_named n Set) (set_place i) (cond (is_named n Weights) As
 -- ---- fields
 
 -- "mode (S STANDARD, T TIME_AUGMENTED)", and G (request 114)
-abbrev pub letter_of : List ℕ → Number
-letter_of [] = No
-letter_of (a ∷ []) = cond (imputes (mode_of_letter a)) No (Is a)
-letter_of (a ∷ b ∷ r) = No
+abbrev pub letter_of : List ℕ → Option ℕ
+letter_of [] = None
+letter_of (a ∷ []) = cond (imputes (mode_of_letter a)) None (Some a)
+letter_of (a ∷ b ∷ r) = None
 
 -- "method (0 NONE, … 5 NORMALIZE_DIFFERENCE)"
-abbrev pub method_field : Number → Number
-method_field No = No
-method_field (Is n) = cond (leb n 5) (Is n) No
+abbrev pub method_field : Option ℕ → Option ℕ
+method_field None = None
+method_field (Some n) = cond (leb n 5) (Some n) None
 
 -- ---- a line with a field more
 
@@ -100,9 +98,9 @@ other_line l = named_line l Other
 abbrev pub after_field : ℕ → ℕ
 after_field i = cond (ltb i 9) (i + 1) i
 
-abbrev pub with_whole : Line → Number → Line
-with_whole l No = other_line l
-with_whole l (Is n) =
+abbrev pub with_whole : Line → Option ℕ → Line
+with_whole l None = other_line l
+with_whole l (Some n) =
     cond (leb 6 l.fields) (other_line l)
     (line l.name (l.fields + 1) (set l.wholes l.fields n) l.double l.count l.singles)
 

@@ -1,11 +1,14 @@
 // What each call line does and prints, on a preprocessor and the last point. The bench runs as role 0 of a table with every right.
-ghost use Rattle.std.specs.Prelude.{◌≡◌, List, cond, ◌≤◌, ltb, Float, length, take};
-ghost use Rattle.trcf.specs.View.{lent};
-ghost use Rattle.bench_core.specs.Bench.{no_text, none_text, done_text, point_text, dimension_of, output, prints, call_printed, prints_call, point_result, learn_result, drain_result, save_prints};
+// Kept: (a) the six lent lists are parameters: the C interface lends each call its own mix of shared and mutable lists, and a struct would need a type for each mix.
+ghost use Rattle.std.specs.Prelude.{◌≡◌, List, ◌≤◌, Float, length, take};
+ghost use Rattle.refusal.specs.Refusal.{number_of};
+ghost use Rattle.trcf.specs.View.{Lent, lent};
+ghost use Rattle.bench_core.specs.Bench.{no_text, ok_text, point_text, dimension_of, output, prints, call_result, call_printed, prints_call, point_result, learn_result, drain_result, save_prints};
 
 use access::calls::{drain, post_process, shingled_point};
 use access::rights::every_right;
 use access::snapshots::save;
+use refusal::Refusal;
 use snapshot_save::line::{singles_line, whole_line};
 use trcf::head::{Preprocessor, get_dimension};
 
@@ -17,49 +20,20 @@ pub struct Answered {
     pub length: usize,
 }
 
-// `no` and a number.
-pub(crate) fn print_no(out: &mut [u8], row: u64) -> usize
+// `no` and the number of the refusal.
+pub(crate) fn print_no(out: &mut [u8], refusal: Refusal) -> usize
     requires { 65536 ≤ length out.old }
-    ensures { output result out.new ≡ prints (no_text row) out.old }
+    ensures { output result out.new ≡ prints (no_text (number_of refusal)) out.old }
 {
-    let w = whole_line(out, 110, 111, row);
-    w.length
+    whole_line(out, b'n', b'o', u64::from(refusal)).unwrap_or(0)
 }
 
-// `ok`, or `no` with the row.
-fn print_ok(out: &mut [u8], row: u64) -> usize
-    requires { 65536 ≤ length out.old }
-    ensures { output result out.new ≡ prints (done_text row) out.old }
+fn print_text(out: &mut [u8], text: &[u8]) -> usize
+    requires { length text.now ≤ length out.old }
+    ensures { output result out.new ≡ prints text.now out.old }
 {
-    if row != 0 {
-        return print_no(out, row);
-    }
-    out[0] = 111;
-    out[1] = 107;
-    out[2] = 10;
-    3
-}
-
-fn print_none(out: &mut [u8]) -> usize
-    requires { 65536 ≤ length out.old }
-    ensures { output result out.new ≡ prints (none_text) out.old }
-{
-    out[0] = 110;
-    out[1] = 111;
-    out[2] = 110;
-    out[3] = 101;
-    out[4] = 10;
-    5
-}
-
-fn least(a: usize, b: usize) -> usize
-    ensures value { result ≡ cond (ltb a b) a b }
-    ensures upper_bound { result ≤ b }
-{
-    if a < b {
-        return a;
-    }
-    b
+    out[..text.len()].copy_from_slice(text);
+    text.len()
 }
 
 // `pt` and the part of the point that is in use.
@@ -67,9 +41,32 @@ fn print_point(head: Preprocessor, point: &[f32], out: &mut [u8]) -> usize
     requires { 65536 ≤ length out.old }
     ensures { output result out.new ≡ prints (point_text (take (dimension_of head) point.now)) out.old }
 {
-    let n = least(get_dimension(head), point.len());
-    let w = singles_line(out, 112, 116, &point[..n]);
-    w.length
+    let n = get_dimension(head).min(point.len());
+    singles_line(out, b'p', b't', &point[..n]).unwrap_or(0)
+}
+
+// After a call that leaves a head and prints no more than that it went well.
+fn accepted(out: &mut [u8], head: Preprocessor, given: bool) -> Answered
+    requires { 65536 ≤ length out.old }
+    ensures { (l : Lent) (y : List Float) → call_printed result.head result.given l y (output result.length out.new) ≡ prints_call (call_result head given l y ok_text) out.old }
+{
+    Answered {
+        head,
+        given,
+        length: print_text(out, b"ok\n"),
+    }
+}
+
+// After a call that is refused, and leaves the head as it was.
+fn refused(out: &mut [u8], head: Preprocessor, given: bool, refusal: Refusal) -> Answered
+    requires { 65536 ≤ length out.old }
+    ensures { (l : Lent) (y : List Float) → call_printed result.head result.given l y (output result.length out.new) ≡ prints_call (call_result head given l y (no_text (number_of refusal))) out.old }
+{
+    Answered {
+        head,
+        given,
+        length: print_no(out, refusal),
+    }
 }
 
 // `p`: the point, which is the last one from now on; `none` while waiting; or the row.
@@ -91,9 +88,8 @@ pub(crate) fn call_point(
     ensures { call_printed result.head result.given (lent statistics.new last_shingled_input.new last_shingled_point.new previous_timestamps.new initial_values.now initial_timestamps.now) point.new (output result.length out.new)
         ≡ prints_call (point_result head given (lent statistics.old last_shingled_input.old last_shingled_point.old previous_timestamps.old initial_values.now initial_timestamps.now) point.old input.now timestamp) out.old }
 {
-    let table = every_right();
-    let r = shingled_point(
-        &table,
+    let answer = shingled_point(
+        &every_right(),
         0,
         head,
         statistics,
@@ -106,26 +102,18 @@ pub(crate) fn call_point(
         timestamp,
         point,
     );
-    let row = r.row;
-    let next = r.head;
-    if row != 0 {
-        return Answered {
-            head: next,
-            given: given,
-            length: print_no(out, row),
-        };
-    }
-    if !r.given {
-        return Answered {
-            head: next,
-            given: given,
-            length: print_none(out),
-        };
-    }
-    Answered {
-        head: next,
-        given: true,
-        length: print_point(next, point, out),
+    match answer {
+        Ok(next) if next.given => Answered {
+            head: next.head,
+            given: true,
+            length: print_point(next.head, point, out),
+        },
+        Ok(next) => Answered {
+            head: next.head,
+            given,
+            length: print_text(out, b"none\n"),
+        },
+        Err(refusal) => refused(out, head, given, refusal),
     }
 }
 
@@ -148,13 +136,12 @@ pub(crate) fn call_learn(
     ensures { call_printed result.head result.given (lent statistics.new last_shingled_input.new last_shingled_point.new previous_timestamps.new initial_values.new initial_timestamps.new) point.now (output result.length out.new)
         ≡ prints_call (learn_result head given (lent statistics.old last_shingled_input.old last_shingled_point.old previous_timestamps.old initial_values.old initial_timestamps.old) point.now input.now timestamp) out.old }
 {
-    let n = least(get_dimension(head), point.len());
+    let n = get_dimension(head).min(point.len());
     let mut deviations = [0.0f32; 17];
     let mut past = [0.0f32; 1];
     let mut expected = [0.0f32; 1];
-    let table = every_right();
-    let r = post_process(
-        &table,
+    let answer = post_process(
+        &every_right(),
         0,
         head,
         statistics,
@@ -165,22 +152,17 @@ pub(crate) fn call_learn(
         initial_timestamps,
         input,
         timestamp,
-        &point[..n],
-        given,
-        &point[..0],
-        false,
+        given.then_some(&point[..n]),
+        None,
         0.0,
         0,
         &mut deviations,
         &mut past,
         &mut expected,
     );
-    let row = r.row;
-    let next = r.head;
-    Answered {
-        head: next,
-        given: given,
-        length: print_ok(out, row),
+    match answer {
+        Ok(next) => accepted(out, next.head, given),
+        Err(refusal) => refused(out, head, given, refusal),
     }
 }
 
@@ -200,9 +182,8 @@ pub(crate) fn call_drain(
     ensures { (y : List Float) → call_printed result.head result.given (lent statistics.new last_shingled_input.new last_shingled_point.new previous_timestamps.new initial_values.now initial_timestamps.now) y (output result.length out.new)
         ≡ prints_call (drain_result head given (lent statistics.old last_shingled_input.old last_shingled_point.old previous_timestamps.old initial_values.now initial_timestamps.now) y) out.old }
 {
-    let table = every_right();
-    let r = drain(
-        &table,
+    let answer = drain(
+        &every_right(),
         0,
         head,
         statistics,
@@ -212,12 +193,9 @@ pub(crate) fn call_drain(
         initial_values,
         initial_timestamps,
     );
-    let row = r.row;
-    let next = r.head;
-    Answered {
-        head: next,
-        given: given,
-        length: print_ok(out, row),
+    match answer {
+        Ok(next) => accepted(out, next, given),
+        Err(refusal) => refused(out, head, given, refusal),
     }
 }
 
@@ -235,9 +213,8 @@ pub(crate) fn call_save(
     requires { 65536 ≤ length out.old }
     ensures { output result out.new ≡ save_prints head (lent statistics.now last_shingled_input.now last_shingled_point.now previous_timestamps.now initial_values.now initial_timestamps.now) out.old }
 {
-    let table = every_right();
-    let r = save(
-        &table,
+    let answer = save(
+        &every_right(),
         0,
         head,
         statistics,
@@ -248,9 +225,8 @@ pub(crate) fn call_save(
         initial_timestamps,
         out,
     );
-    let row = r.row;
-    if row != 0 {
-        return print_no(out, row);
+    match answer {
+        Ok(length) => length,
+        Err(refusal) => print_no(out, refusal),
     }
-    r.length
 }

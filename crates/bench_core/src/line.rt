@@ -2,15 +2,15 @@
 ghost use Rattle.std.specs.Prelude.{◌≡◌};
 ghost use Rattle.snapshot.specs.Read.{as_whole};
 ghost use Rattle.snapshot.specs.Scan.{number_of};
-ghost use Rattle.bench_core.specs.Line.{name_number, is_named, is_reading, name_of, short_name, long_name, set_place, call_place, place_of, letter_of, method_field, other_line, named_line, after_field, with_whole, with_double, with_single, line_with_field, cell_of, request_of, blank_line};
+ghost use Rattle.bench_core.specs.Line.{is_reading, name_of, set_place, call_place, place_of, letter_of, method_field, other_line, after_field, with_whole, with_double, with_single, line_with_field, cell_of, request_of, blank_line};
 
 use snapshot::cells::{double, single, whole};
-use snapshot::field::{Field, Number};
+use snapshot::field::Field;
 use trcf::types::mode_of_letter;
 use trcf_rows::rows::is_imputing;
 
 // What a line is, by its name; Unread before the name is read, Other for one of no form.
-#[derive(Clone, Copy)]
+#[derive(Clone, Copy, PartialEq, Eq)]
 pub enum Name {
     Unread,
     Set,
@@ -22,37 +22,11 @@ pub enum Name {
     Other,
 }
 
-// The number of a name.
-fn name_number(name: Name) -> u64
-    ensures { result ≡ name_number name }
-{
-    match name {
-        Name::Unread => 0,
-        Name::Set => 1,
-        Name::Weights => 2,
-        Name::Point => 3,
-        Name::Learn => 4,
-        Name::Drain => 5,
-        Name::Save => 6,
-        Name::Other => 7,
-    }
-}
-
-// Whether two names are the same.
-pub fn is_named(a: Name, b: Name) -> bool
-    ensures { result ≡ is_named a b }
-{
-    name_number(a) == name_number(b)
-}
-
 // Whether a line brings a reading.
 pub(crate) fn is_reading(name: Name) -> bool
     ensures { result ≡ is_reading name }
 {
-    if is_named(name, Name::Point) {
-        return true;
-    }
-    is_named(name, Name::Learn)
+    matches!(name, Name::Point | Name::Learn)
 }
 
 // What the field at a place of a line has to be.
@@ -66,6 +40,7 @@ pub enum Place {
     Nowhere,
 }
 
+// Kept: (a) no heap and fixed memory, so the numbers of a line stand in arrays, with the count of those that are kept beside.
 #[derive(Clone, Copy)]
 pub struct Line {
     pub name: Name,
@@ -92,77 +67,32 @@ pub fn blank() -> Line
     }
 }
 
-fn short_name(a: u8) -> Name
-    ensures { result ≡ short_name a }
-{
-    if a == 112 {
-        return Name::Point;
-    }
-    if a == 108 {
-        return Name::Learn;
-    }
-    if a == 100 {
-        return Name::Drain;
-    }
-    if a == 115 {
-        return Name::Save;
-    }
-    Name::Other
-}
-
-fn long_name(a: u8, b: u8, c: u8) -> Name
-    ensures { result ≡ long_name a b c }
-{
-    if c != 116 {
-        return Name::Other;
-    }
-    if a == 115 {
-        if b == 101 {
-            return Name::Set;
-        }
-        return Name::Other;
-    }
-    if a == 119 {
-        if b == 103 {
-            return Name::Weights;
-        }
-        return Name::Other;
-    }
-    Name::Other
-}
-
 // The name that a line's first cell gives it.
 pub fn name_of(c: &[u8]) -> Name
     ensures { result ≡ name_of c.now }
 {
-    if c.len() == 1 {
-        return short_name(c[0]);
+    match c {
+        b"set" => Name::Set,
+        b"wgt" => Name::Weights,
+        b"p" => Name::Point,
+        b"l" => Name::Learn,
+        b"d" => Name::Drain,
+        b"s" => Name::Save,
+        _ => Name::Other,
     }
-    if c.len() == 3 {
-        return long_name(c[0], c[1], c[2]);
-    }
-    Name::Other
 }
 
 fn set_place(i: usize) -> Place
     ensures { result ≡ set_place i }
 {
-    if i == 0 {
-        return Place::AsLetter;
+    match i {
+        0 => Place::AsLetter,
+        1 => Place::AsMethod,
+        2..=5 => Place::AsWhole,
+        6 => Place::AsDouble,
+        7 => Place::AsSingle,
+        _ => Place::Nowhere,
     }
-    if i == 1 {
-        return Place::AsMethod;
-    }
-    if i < 6 {
-        return Place::AsWhole;
-    }
-    if i == 6 {
-        return Place::AsDouble;
-    }
-    if i == 7 {
-        return Place::AsSingle;
-    }
-    Place::Nowhere
 }
 
 // A time, and any number of f32 after it.
@@ -170,81 +100,47 @@ fn call_place(i: usize) -> Place
     ensures { result ≡ call_place i }
 {
     if i == 0 {
-        return Place::AsWhole;
+        Place::AsWhole
+    } else {
+        Place::AsSingle
     }
-    Place::AsSingle
 }
 
 fn place_of(name: Name, i: usize) -> Place
     ensures { result ≡ place_of name i }
 {
-    if is_named(name, Name::Set) {
-        return set_place(i);
+    match name {
+        Name::Set => set_place(i),
+        Name::Weights => Place::AsSingle,
+        Name::Point | Name::Learn => call_place(i),
+        _ => Place::Nowhere,
     }
-    if is_named(name, Name::Weights) {
-        return Place::AsSingle;
-    }
-    if is_reading(name) {
-        return call_place(i);
-    }
-    Place::Nowhere
-}
-
-fn wide(x: u8) -> u64
-    ensures { result ≡ x }
-{
-    x as u64
 }
 
 // The letter of a mode that a text can have.
-fn letter(c: &[u8]) -> Number
+fn letter(c: &[u8]) -> Option<u64>
     ensures { result ≡ letter_of c.now }
 {
-    if c.len() != 1 {
-        return Number::No;
+    match c {
+        [byte] if !is_imputing(mode_of_letter(u64::from(*byte))) => Some(u64::from(*byte)),
+        _ => None,
     }
-    let byte = wide(c[0]);
-    if is_imputing(mode_of_letter(byte)) {
-        return Number::No;
-    }
-    Number::Is(byte)
 }
 
 // The number of a method, at most 5.
-fn method(c: &[u8]) -> Number
+fn method(c: &[u8]) -> Option<u64>
     ensures { result ≡ method_field (number_of (as_whole c.now)) }
 {
-    let w = whole(c);
-    match w {
-        Number::No => Number::No,
-        Number::Is(n) => {
-            if n <= 5 {
-                return Number::Is(n);
-            }
-            Number::No
-        }
-    }
+    whole(c).filter(|n| *n <= 5)
 }
 
 // A line of another form stays one.
 fn other(l: Line) -> Line
     ensures { result ≡ other_line l }
 {
-    named(l, Name::Other)
-}
-
-fn named(l: Line, name: Name) -> Line
-    ensures { result ≡ named_line l name }
-{
-    let wholes = l.wholes;
-    let singles = l.singles;
     Line {
-        name: name,
-        fields: l.fields,
-        wholes: wholes,
-        double: l.double,
-        count: l.count,
-        singles: singles,
+        name: Name::Other,
+        ..l
     }
 }
 
@@ -252,27 +148,20 @@ fn named(l: Line, name: Name) -> Line
 fn after(i: usize) -> usize
     ensures { result ≡ after_field i }
 {
-    if i < 9 {
-        return i + 1;
-    }
-    i
+    if i < 9 { i + 1 } else { i }
 }
 
-fn with_whole(l: Line, n: Number) -> Line
+fn with_whole(l: Line, n: Option<u64>) -> Line
     ensures { result ≡ with_whole l n }
 {
     match n {
-        Number::No => other(l),
-        Number::Is(v) => {
-            let i = l.fields;
-            if 6 <= i {
-                return other(l);
-            }
+        Some(v) if l.fields < 6 => {
             let mut next = l;
-            next.wholes[i] = v;
-            next.fields = i + 1;
+            next.wholes[l.fields] = v;
+            next.fields += 1;
             next
         }
+        _ => other(l),
     }
 }
 
@@ -280,15 +169,12 @@ fn with_double(l: Line, f: Field) -> Line
     ensures { result ≡ with_double l f }
 {
     match f {
-        Field::Double(x) => {
-            let mut next = l;
-            next.double = x;
-            next.fields = after(l.fields);
-            next
-        }
-        Field::Single(_) => other(l),
-        Field::Whole(_) => other(l),
-        Field::Bad => other(l),
+        Field::Double(double) => Line {
+            fields: after(l.fields),
+            double,
+            ..l
+        },
+        _ => other(l),
     }
 }
 
@@ -296,31 +182,23 @@ fn with_double(l: Line, f: Field) -> Line
 fn with_single(l: Line, f: Field) -> Line
     ensures { result ≡ with_single l f }
 {
-    match f {
-        Field::Single(x) => {
-            let k = l.count;
-            let mut next = l;
-            next.fields = after(l.fields);
-            if 17 <= k {
-                return next;
-            }
-            next.singles[k] = x;
-            next.count = k + 1;
-            next
-        }
-        Field::Double(_) => other(l),
-        Field::Whole(_) => other(l),
-        Field::Bad => other(l),
+    let Field::Single(x) = f else {
+        return other(l);
+    };
+    let mut next = l;
+    next.fields = after(l.fields);
+    if l.count < 17 {
+        next.singles[l.count] = x;
+        next.count += 1;
     }
+    next
 }
 
+#[tactic(auto, unfolding(crate::specs::Line::line_with_field))]
 fn with_field(l: Line, c: &[u8]) -> Line
     ensures { result ≡ line_with_field l c.now }
 {
-    let name = l.name;
-    let i = l.fields;
-    let p = place_of(name, i);
-    match p {
+    match place_of(l.name, l.fields) {
         Place::AsLetter => with_whole(l, letter(c)),
         Place::AsMethod => with_whole(l, method(c)),
         Place::AsWhole => with_whole(l, whole(c)),
@@ -331,36 +209,28 @@ fn with_field(l: Line, c: &[u8]) -> Line
 }
 
 // The line with one cell more: its name, and then its fields.
+#[tactic(auto, unfolding(crate::specs::Line::cell_of))]
 pub fn cell(l: Line, c: &[u8]) -> Line
     ensures { result ≡ cell_of l c.now }
 {
-    let name = l.name;
-    if is_named(name, Name::Unread) {
-        return named(l, name_of(c));
+    if l.name == Name::Unread {
+        return Line {
+            name: name_of(c),
+            ..l
+        };
     }
     with_field(l, c)
 }
 
 // What a line that is ended asks for: Other where fields are missing.
+#[tactic(auto, unfolding(crate::specs::Line::request_of))]
 pub fn request(l: Line) -> Name
     ensures { result ≡ request_of l }
 {
-    let name = l.name;
-    let n = l.fields;
-    if is_named(name, Name::Set) {
-        if n == 8 {
-            return Name::Set;
-        }
-        return Name::Other;
+    match l.name {
+        Name::Set if l.fields != 8 => Name::Other,
+        Name::Point | Name::Learn if l.fields == 0 => Name::Other,
+        Name::Unread => Name::Other,
+        name => name,
     }
-    if is_reading(name) {
-        if n == 0 {
-            return Name::Other;
-        }
-        return name;
-    }
-    if is_named(name, Name::Unread) {
-        return Name::Other;
-    }
-    name
 }

@@ -1,13 +1,16 @@
 // The bench, cell by cell: a step reads one cell of the input, and prints what the line asks for where the cell ends it.
+// Kept: (a) the six lent lists are parameters: the C interface lends each call its own mix of shared and mutable lists, and a struct would need a type for each mix.
 ghost use Rattle.std.specs.Prelude.{◌≡◌, List, Float, ◌≤◌, length};
+ghost use Rattle.refusal.specs.Refusal.{number_of, row_of};
 ghost use Rattle.trcf.specs.Settings.{settings_row};
-ghost use Rattle.trcf.specs.View.{Lent, lent, outcome, or_else, settings_from};
+ghost use Rattle.trcf.specs.View.{Lent, lent, head_outcome, no_head, or_else, settings_from};
 ghost use Rattle.bench_core.specs.Line.{request_of, kept_count};
-ghost use Rattle.bench_core.specs.Bench.{code_count, built_of, output, prints, no_text, ready_for, going_on, end_of, builder_from, no_builder, fresh_bench, line_result, set_gives, limit_row, build_gives, weights_gives, plain_gives, reading_gives, call_gives, line_gives, cell_length, cell_kept, stepped, with_line, bench_step, begun, end_result, finish_by, finished, finish_of};
+ghost use Rattle.bench_core.specs.Bench.{code_count, built_of, output, prints, no_text, ready_for, going_on, end_of, builder_from, no_builder, fresh_bench, line_result, set_gives, limit_row, build_gives, weights_gives, plain_gives, reading_gives, call_gives, line_gives, cell_length, cell_kept, stepped_by, with_line, bench_step, begun, end_result, finish_by, finished_from, finish_of};
 
 use crate::call::{Answered, call_drain, call_learn, call_point, call_save, print_no};
-use crate::line::{Line, Name, blank, cell, is_named, is_reading, request};
-use trcf::head::{Changed, Preprocessor, PreprocessorBuilder, no_head};
+use crate::line::{Line, Name, blank, cell, is_reading, request};
+use refusal::Refusal;
+use trcf::head::{Preprocessor, PreprocessorBuilder, no_head};
 use trcf::types::{ForestMode, INPUT_LIMIT, TransformMethod, method_of_number, mode_of_letter};
 use trcf_calls::build::build;
 use trcf_rows::rows::settings_row;
@@ -19,7 +22,7 @@ pub const ROOM: usize = 65536;
 pub const LONGEST: usize = 24;
 
 // What the next line has to be: `set`, `wgt`, a call; or the run is over.
-#[derive(Clone, Copy)]
+#[derive(Clone, Copy, PartialEq, Eq)]
 pub enum Phase {
     WantsSet,
     WantsWeights,
@@ -40,10 +43,9 @@ pub struct Bench {
     pub given: bool,
 }
 
-// What a step leaves: the row, 20 where nothing was done; how many bytes are read and written; and the bench.
+// What a step leaves: how many bytes are read and written, and the bench.
 #[derive(Clone, Copy)]
 pub struct StepResult {
-    pub row: u64,
     pub next: usize,
     pub length: usize,
     pub bench: Bench,
@@ -81,49 +83,43 @@ fn no_builder() -> PreprocessorBuilder
 pub fn builder_from(l: Line) -> PreprocessorBuilder
     ensures { result ≡ builder_from l }
 {
-    let wholes = l.wholes;
-    let singles = l.singles;
     PreprocessorBuilder {
-        forest_mode: mode_of_letter(wholes[0]),
-        transform_method: method_of_number(wholes[1]),
-        input_dimensions: wholes[2] as usize,
-        shingle_size: wholes[3] as usize,
-        start_normalization: wholes[4] as usize,
-        stop_normalization: wholes[5] as usize,
+        forest_mode: mode_of_letter(l.wholes[0]),
+        transform_method: method_of_number(l.wholes[1]),
+        input_dimensions: l.wholes[2] as usize,
+        shingle_size: l.wholes[3] as usize,
+        start_normalization: l.wholes[4] as usize,
+        stop_normalization: l.wholes[5] as usize,
         transform_decay: l.double,
-        weight_time: singles[0],
+        weight_time: l.singles[0],
     }
 }
 
-// A bench of a phase, ready for the next line.
-fn bench_of(phase: Phase, builder: PreprocessorBuilder, head: Preprocessor, given: bool) -> Bench
-    ensures { result ≡ ready_for phase builder head given }
+// The bench in a phase, ready for the next line.
+fn ready(b: Bench, phase: Phase) -> Bench
+    ensures { result ≡ ready_for phase b.builder b.head b.given }
 {
     Bench {
-        phase: phase,
+        phase,
         line: blank(),
-        builder: builder,
-        head: head,
-        given: given,
+        ..b
     }
 }
 
-// What a line leaves and how many bytes it printed.
+// What a line, or the end of the input, leaves and how many bytes it printed.
 #[derive(Clone, Copy)]
-struct Printed {
-    bench: Bench,
-    length: usize,
+pub struct Printed {
+    pub bench: Bench,
+    pub length: usize,
 }
 
-fn ended(b: Bench, row: u64, out: &mut [u8]) -> Printed
+fn ended(b: Bench, refusal: Refusal, out: &mut [u8]) -> Printed
     requires { 65536 ≤ length out.old }
-    ensures { end_result result.bench (output result.length out.new) ≡ end_result (end_of b) (prints (no_text row) out.old) }
+    ensures { end_result result.bench (output result.length out.new) ≡ end_result (end_of b) (prints (no_text (number_of refusal)) out.old) }
 {
-    let builder = b.builder;
-    let head = b.head;
     Printed {
-        bench: bench_of(Phase::Ended, builder, head, b.given),
-        length: print_no(out, row),
+        bench: ready(b, Phase::Ended),
+        length: print_no(out, refusal),
     }
 }
 
@@ -132,28 +128,26 @@ fn read_set(b: Bench, l: Line, out: &mut [u8]) -> Printed
     requires { 65536 ≤ length out.old }
     ensures { (lists : Lent) (y : List Float) → line_result result.bench lists y (output result.length out.new) ≡ set_gives (request_of l) b l lists y out.old }
 {
-    let name = request(l);
-    let head = b.head;
-    if is_named(name, Name::Set) {
-        return Printed {
-            bench: bench_of(Phase::WantsWeights, builder_from(l), head, b.given),
-            length: 0,
-        };
+    if request(l) != Name::Set {
+        return ended(b, Refusal::Form, out);
     }
-    ended(b, 19, out)
+    Printed {
+        bench: Bench {
+            builder: builder_from(l),
+            ..ready(b, Phase::WantsWeights)
+        },
+        length: 0,
+    }
 }
 
-// Row 20 past the limits of the bench.
-fn limit_row(b: PreprocessorBuilder) -> u64
-    ensures { result ≡ limit_row b }
+// The row that refuses what is past the limits of the bench.
+fn limit_row(b: PreprocessorBuilder) -> Result<(), Refusal>
+    ensures { row_of result ≡ limit_row b }
 {
-    if 4 < b.input_dimensions {
-        return 20;
+    if 4 < b.input_dimensions || 500 < b.start_normalization {
+        return Err(Refusal::TooShort);
     }
-    if 500 < b.start_normalization {
-        return 20;
-    }
-    0
+    Ok(())
 }
 
 // How many codes a bench has.
@@ -161,20 +155,14 @@ pub fn code_count(d: usize) -> usize
     ensures value { result ≡ code_count d }
     ensures upper_bound { result ≤ 16 }
 {
-    if INPUT_LIMIT < d {
-        return INPUT_LIMIT;
-    }
-    d
+    d.min(INPUT_LIMIT)
 }
 
 // Rows 1 to 9, and then the limits.
-fn head_row(builder: PreprocessorBuilder, weights: &[f32], codes: &[u16]) -> u64
-    ensures { result ≡ or_else (settings_row (settings_from builder weights.now codes.now)) (limit_row builder) }
+fn head_row(builder: PreprocessorBuilder, weights: &[f32], codes: &[u16]) -> Result<(), Refusal>
+    ensures { row_of result ≡ or_else (settings_row (settings_from builder weights.now codes.now)) (limit_row builder) }
 {
-    let row = settings_row(builder, weights, codes);
-    if row != 0 {
-        return row;
-    }
+    settings_row(builder, weights, codes)?;
     limit_row(builder)
 }
 
@@ -188,19 +176,13 @@ fn build_bare(
     previous_timestamps: &mut [u64],
     initial_values: &[f32],
     initial_timestamps: &[u64],
-) -> Changed
-    ensures { outcome result.row result.head (lent statistics.new last_shingled_input.new last_shingled_point.new previous_timestamps.new initial_values.now initial_timestamps.now)
+) -> Result<Preprocessor, Refusal>
+    ensures { head_outcome result no_head (lent statistics.new last_shingled_input.new last_shingled_point.new previous_timestamps.new initial_values.now initial_timestamps.now)
         ≡ built_of builder weights.now (lent statistics.old last_shingled_input.old last_shingled_point.old previous_timestamps.old initial_values.now initial_timestamps.now) }
 {
     let zeros = [0u16; 16];
     let n = code_count(builder.input_dimensions);
-    let row = head_row(builder, weights, &zeros[..n]);
-    if row != 0 {
-        return Changed {
-            row: row,
-            head: no_head(),
-        };
-    }
+    head_row(builder, weights, &zeros[..n])?;
     build(
         builder,
         weights,
@@ -229,12 +211,10 @@ fn read_weights(
     requires { 65536 ≤ length out.old }
     ensures { (y : List Float) → line_result result.bench (lent statistics.new last_shingled_input.new last_shingled_point.new previous_timestamps.new initial_values.now initial_timestamps.now) y (output result.length out.new) ≡ build_gives b l (lent statistics.old last_shingled_input.old last_shingled_point.old previous_timestamps.old initial_values.now initial_timestamps.now) y out.old }
 {
-    let builder = b.builder;
     let n = kept(l);
-    let singles = l.singles;
-    let r = build_bare(
-        builder,
-        &singles[..n],
+    let built = build_bare(
+        b.builder,
+        &l.singles[..n],
         statistics,
         last_shingled_input,
         last_shingled_point,
@@ -242,14 +222,15 @@ fn read_weights(
         initial_values,
         initial_timestamps,
     );
-    let row = r.row;
-    if row != 0 {
-        return ended(b, row, out);
-    }
-    let head = r.head;
-    Printed {
-        bench: bench_of(Phase::Running, builder, head, b.given),
-        length: 0,
+    match built {
+        Ok(head) => Printed {
+            bench: Bench {
+                head,
+                ..ready(b, Phase::Running)
+            },
+            length: 0,
+        },
+        Err(refusal) => ended(b, refusal, out),
     }
 }
 
@@ -258,21 +239,19 @@ pub fn kept(l: Line) -> usize
     ensures value { result ≡ kept_count l.count }
     ensures upper_bound { result ≤ 17 }
 {
-    let n = l.count;
-    if 17 < n {
-        return 17;
-    }
-    n
+    l.count.min(17)
 }
 
 fn answered(b: Bench, a: Answered) -> Printed
     ensures bench_value { result.bench ≡ ready_for Phase.Running b.builder a.head a.given }
     ensures length_value { result.length ≡ a.length }
 {
-    let builder = b.builder;
-    let head = a.head;
     Printed {
-        bench: bench_of(Phase::Running, builder, head, a.given),
+        bench: Bench {
+            head: a.head,
+            given: a.given,
+            ..ready(b, Phase::Running)
+        },
         length: a.length,
     }
 }
@@ -282,10 +261,8 @@ fn unchanged(b: Bench, n: usize) -> Printed
     ensures bench_value { result.bench ≡ going_on b }
     ensures length_value { result.length ≡ n }
 {
-    let builder = b.builder;
-    let head = b.head;
     Printed {
-        bench: bench_of(Phase::Running, builder, head, b.given),
+        bench: ready(b, Phase::Running),
         length: n,
     }
 }
@@ -307,40 +284,35 @@ fn read_reading(
     requires { 65536 ≤ length out.old }
     ensures { line_result result.bench (lent statistics.new last_shingled_input.new last_shingled_point.new previous_timestamps.new initial_values.new initial_timestamps.new) point.new (output result.length out.new) ≡ reading_gives asks b l (lent statistics.old last_shingled_input.old last_shingled_point.old previous_timestamps.old initial_values.old initial_timestamps.old) point.old out.old }
 {
-    let head = b.head;
-    let given = b.given;
     let n = kept(l);
-    let singles = l.singles;
-    let wholes = l.wholes;
-    let time = wholes[0];
     if asks {
         let a = call_point(
-            head,
-            given,
+            b.head,
+            b.given,
             statistics,
             last_shingled_input,
             last_shingled_point,
             previous_timestamps,
             initial_values,
             initial_timestamps,
-            &singles[..n],
-            time,
+            &l.singles[..n],
+            l.wholes[0],
             point,
             out,
         );
         return answered(b, a);
     }
     let a = call_learn(
-        head,
-        given,
+        b.head,
+        b.given,
         statistics,
         last_shingled_input,
         last_shingled_point,
         previous_timestamps,
         initial_values,
         initial_timestamps,
-        &singles[..n],
-        time,
+        &l.singles[..n],
+        l.wholes[0],
         point,
         out,
     );
@@ -362,35 +334,36 @@ fn read_plain(
     requires { 65536 ≤ length out.old }
     ensures { (y : List Float) → line_result result.bench (lent statistics.new last_shingled_input.new last_shingled_point.new previous_timestamps.new initial_values.now initial_timestamps.now) y (output result.length out.new) ≡ plain_gives name b (lent statistics.old last_shingled_input.old last_shingled_point.old previous_timestamps.old initial_values.now initial_timestamps.now) y out.old }
 {
-    let head = b.head;
-    if is_named(name, Name::Drain) {
-        let a = call_drain(
-            head,
-            b.given,
-            statistics,
-            last_shingled_input,
-            last_shingled_point,
-            previous_timestamps,
-            initial_values,
-            initial_timestamps,
-            out,
-        );
-        return answered(b, a);
+    match name {
+        Name::Drain => {
+            let a = call_drain(
+                b.head,
+                b.given,
+                statistics,
+                last_shingled_input,
+                last_shingled_point,
+                previous_timestamps,
+                initial_values,
+                initial_timestamps,
+                out,
+            );
+            answered(b, a)
+        }
+        Name::Save => {
+            let n = call_save(
+                b.head,
+                statistics,
+                last_shingled_input,
+                last_shingled_point,
+                previous_timestamps,
+                initial_values,
+                initial_timestamps,
+                out,
+            );
+            unchanged(b, n)
+        }
+        _ => unchanged(b, print_no(out, Refusal::Form)),
     }
-    if is_named(name, Name::Save) {
-        let n = call_save(
-            head,
-            statistics,
-            last_shingled_input,
-            last_shingled_point,
-            previous_timestamps,
-            initial_values,
-            initial_timestamps,
-            out,
-        );
-        return unchanged(b, n);
-    }
-    unchanged(b, print_no(out, 19))
 }
 
 // A call line.
@@ -414,7 +387,7 @@ fn read_call(
         return read_reading(
             b,
             l,
-            is_named(name, Name::Point),
+            name == Name::Point,
             statistics,
             last_shingled_input,
             last_shingled_point,
@@ -453,21 +426,20 @@ fn read_second(
     requires { 65536 ≤ length out.old }
     ensures { (y : List Float) → line_result result.bench (lent statistics.new last_shingled_input.new last_shingled_point.new previous_timestamps.new initial_values.now initial_timestamps.now) y (output result.length out.new) ≡ weights_gives (request_of l) b l (lent statistics.old last_shingled_input.old last_shingled_point.old previous_timestamps.old initial_values.now initial_timestamps.now) y out.old }
 {
-    let name = request(l);
-    if is_named(name, Name::Weights) {
-        return read_weights(
-            b,
-            l,
-            statistics,
-            last_shingled_input,
-            last_shingled_point,
-            previous_timestamps,
-            initial_values,
-            initial_timestamps,
-            out,
-        );
+    if request(l) != Name::Weights {
+        return ended(b, Refusal::Form, out);
     }
-    ended(b, 19, out)
+    read_weights(
+        b,
+        l,
+        statistics,
+        last_shingled_input,
+        last_shingled_point,
+        previous_timestamps,
+        initial_values,
+        initial_timestamps,
+        out,
+    )
 }
 
 // A line that is ended, by the phase.
@@ -486,8 +458,7 @@ fn read_line(
     requires { 65536 ≤ length out.old }
     ensures { line_result result.bench (lent statistics.new last_shingled_input.new last_shingled_point.new previous_timestamps.new initial_values.new initial_timestamps.new) point.new (output result.length out.new) ≡ line_gives b l (lent statistics.old last_shingled_input.old last_shingled_point.old previous_timestamps.old initial_values.old initial_timestamps.old) point.old out.old }
 {
-    let phase = b.phase;
-    match phase {
+    match b.phase {
         Phase::WantsSet => read_set(b, l, out),
         Phase::WantsWeights => read_second(
             b,
@@ -520,22 +491,18 @@ fn read_line(
 }
 
 // Where the first cell ends: at a tab or an LF, or with the text.
+#[tactic(auto, using(crate::proofs::CellLaws::cell_next, crate::proofs::CellLaws::none_left))]
 pub fn cell_end(text: &[u8]) -> usize
     ensures value { result ≡ cell_length text.now }
     ensures upper_bound { result ≤ length text.now }
     ensures text_len_bound { length text.now ≤ 18446744073709551615 }
 {
-    let mut i = 0;
-    while i < text.len() {
-        if text[i] == 9 {
+    for (i, byte) in text.iter().enumerate() {
+        if matches!(*byte, b'\t' | b'\n') {
             return i;
         }
-        if text[i] == 10 {
-            return i;
-        }
-        i += 1;
     }
-    i
+    text.len()
 }
 
 // The part of a cell that is looked at.
@@ -543,37 +510,13 @@ fn cell_of(n: usize) -> usize
     ensures value { result ≡ cell_kept n }
     ensures upper_bound { result ≤ n }
 {
-    if LONGEST < n {
-        return LONGEST;
-    }
-    n
+    n.min(LONGEST)
 }
 
 fn with_line(b: Bench, l: Line) -> Bench
     ensures { result ≡ with_line b l }
 {
-    let phase = b.phase;
-    let builder = b.builder;
-    let head = b.head;
-    Bench {
-        phase: phase,
-        line: l,
-        builder: builder,
-        head: head,
-        given: b.given,
-    }
-}
-
-// Nothing read and nothing written.
-fn idle(b: Bench, row: u64) -> StepResult
-    ensures { (result.row ≡ row) × (result.next ≡ 0) × (result.length ≡ 0) × (result.bench ≡ b) }
-{
-    StepResult {
-        row: row,
-        next: 0,
-        length: 0,
-        bench: b,
-    }
+    Bench { line: l, ..b }
 }
 
 // Reads the first cell of the text, with the tab or LF that ends it, and at an LF does what the line asks for. Nothing is read of a text
@@ -589,26 +532,28 @@ pub fn step(
     point: &mut [f32],
     text: &[u8],
     out: &mut [u8],
-) -> StepResult
-    ensures { stepped result.row result.next (line_result result.bench (lent statistics.new last_shingled_input.new last_shingled_point.new previous_timestamps.new initial_values.new initial_timestamps.new) point.new (output result.length out.new)) ≡ bench_step b (lent statistics.old last_shingled_input.old last_shingled_point.old previous_timestamps.old initial_values.old initial_timestamps.old) point.old text.now out.old }
+) -> Result<StepResult, Refusal>
+    ensures { stepped_by result b (lent statistics.new last_shingled_input.new last_shingled_point.new previous_timestamps.new initial_values.new initial_timestamps.new) point.new out.new ≡ bench_step b (lent statistics.old last_shingled_input.old last_shingled_point.old previous_timestamps.old initial_values.old initial_timestamps.old) point.old text.now out.old }
 {
     if out.len() < ROOM {
-        return idle(b, 20);
+        return Err(Refusal::TooShort);
     }
     let n = cell_end(text);
     if n == text.len() {
-        return idle(b, 0);
+        return Ok(StepResult {
+            next: 0,
+            length: 0,
+            bench: b,
+        });
     }
     let k = cell_of(n);
-    let before = b.line;
-    let l = cell(before, &text[..k]);
-    if text[n] == 9 {
-        return StepResult {
-            row: 0,
+    let l = cell(b.line, &text[..k]);
+    if text[n] == b'\t' {
+        return Ok(StepResult {
             next: n + 1,
             length: 0,
             bench: with_line(b, l),
-        };
+        });
     }
     let p = read_line(
         b,
@@ -622,59 +567,38 @@ pub fn step(
         point,
         out,
     );
-    let after = p.bench;
-    StepResult {
-        row: 0,
+    Ok(StepResult {
         next: n + 1,
         length: p.length,
-        bench: after,
-    }
+        bench: p.bench,
+    })
 }
 
 // Whether bytes stand after the last LF.
 fn is_begun(name: Name, rest: &[u8]) -> bool
     ensures { result ≡ begun name rest.now }
 {
-    if rest.len() != 0 {
-        return true;
-    }
-    !is_named(name, Name::Unread)
+    !rest.is_empty() || name != Name::Unread
 }
 
 // The end of the input, after the bytes of rest, in which no cell ends: a line without its LF, or a missing `set` or `wgt`, is of another form.
-pub fn finish(b: Bench, rest: &[u8], out: &mut [u8]) -> StepResult
-    ensures { finished result.row result.next (end_result result.bench (output result.length out.new)) ≡ finish_of b rest.now out.old }
+pub fn finish(b: Bench, rest: &[u8], out: &mut [u8]) -> Result<Printed, Refusal>
+    ensures { finished_from result b out.new ≡ finish_of b rest.now out.old }
 {
     if out.len() < ROOM {
-        return idle(b, 20);
+        return Err(Refusal::TooShort);
     }
-    let p = finished_by(b, rest, out);
-    let after = p.bench;
-    StepResult {
-        row: 0,
-        next: 0,
-        length: p.length,
-        bench: after,
-    }
+    Ok(finished_by(b, rest, out))
 }
 
 fn finished_by(b: Bench, rest: &[u8], out: &mut [u8]) -> Printed
     requires { 65536 ≤ length out.old }
     ensures { end_result result.bench (output result.length out.new) ≡ finish_by b.phase b rest.now out.old }
 {
-    let phase = b.phase;
-    let l = b.line;
-    let name = l.name;
-    match phase {
-        Phase::WantsSet => ended(b, 19, out),
-        Phase::WantsWeights => ended(b, 19, out),
-        Phase::Running => {
-            if is_begun(name, rest) {
-                return ended(b, 19, out);
-            }
-            ended_well(b)
-        }
-        Phase::Ended => ended_well(b),
+    match b.phase {
+        Phase::WantsSet | Phase::WantsWeights => ended(b, Refusal::Form, out),
+        Phase::Running if is_begun(b.line.name, rest) => ended(b, Refusal::Form, out),
+        Phase::Running | Phase::Ended => ended_well(b),
     }
 }
 
@@ -682,10 +606,8 @@ fn ended_well(b: Bench) -> Printed
     ensures bench_value { result.bench ≡ end_of b }
     ensures length_value { result.length ≡ 0 }
 {
-    let builder = b.builder;
-    let head = b.head;
     Printed {
-        bench: bench_of(Phase::Ended, builder, head, b.given),
+        bench: ready(b, Phase::Ended),
         length: 0,
     }
 }

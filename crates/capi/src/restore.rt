@@ -1,4 +1,5 @@
 // Taking up a text over lent words.
+// Kept: (a) the six lent lists are parameters: the C interface lends each call its own mix of shared and mutable lists, and a struct would need a type for each mix.
 ghost use Rattle.std.specs.Prelude.{◌≡◌, cond, eqb};
 ghost use Rattle.trcf.specs.View.{lent};
 ghost use Rattle.snapshot_restore.specs.Told.{row_told, line_told};

@@ -281,7 +281,7 @@ pub struct RangeVector<'a, T> {
 
 impl<T: Width> RangeVector<'_, T> {
     // What stands at index i.
-    pub fn at(&self, i: usize) -> Range<T>
+    fn at(&self, i: usize) -> Range<T>
         requires { (i < length self.now.values.now) × (i < length self.now.upper.now) × (i < length self.now.lower.now) }
         ensures { result ≡ range_at_or T.operations.missing (held self.now) i }
     {
@@ -289,7 +289,7 @@ impl<T: Width> RangeVector<'_, T> {
     }
 
     // r stands at index i.
-    pub fn put(&mut self, i: usize, r: Range<T>)
+    fn put(&mut self, i: usize, r: Range<T>)
         requires { (i < length self.old.values.now) × (i < length self.old.upper.now) × (i < length self.old.lower.now) }
         ensures after { held self.new ≡ put_at (held self.old) i r }
         ensures loans { AreSameLoans self.old self.new }

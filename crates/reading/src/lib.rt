@@ -6,8 +6,9 @@ ghost use Rattle.std.specs.Prelude.{◌≡◌, ◌≤◌, length, take};
 
 use std::io::Read;
 
+// Kept: (a) a loop of reads. `read_to_end` wants memory of its own, of which the settling program has none, and `read_exact` answers no count where the input is shorter than the buffer.
 /// Reads until `text` is full, the input ends or a read fails, and answers how many bytes stand at the front of `text`: those are the next ones of the input, and no other byte of it is
-/// lost. A failed read ends the input. (`read_to_end` would want memory of its own, and `read_exact` answers no count where the input is shorter than the buffer.)
+/// lost. A failed read ends the input.
 pub fn read_full<R: Read>(input: &mut R, text: &mut [u8]) -> usize
     ensures within { result ≤ length text.new }
     ensures bytes { Consumes (R.remaining input.old) (R.remaining input.new) (take result text.new) }

@@ -1,59 +1,27 @@
 -- The fields of the signal line. Assumes nothing.
-use Prim.Native.Nat.{ℕ, zero, suc, ◌+◌, ◌-◌, ◌≤◌, ◌<◌}
+use Prim.Native.Nat.{ℕ, suc, ◌+◌, ◌-◌, ◌≤◌, ◌<◌}
 use native.Mathlib.Omega.{arith}
 use mathlib.Core.Path.{◌≡◌, refl, sym, ap, ◌∙◌}
 use mathlib.Core.Bool.{Bool, true, false, cond, ◌&&◌, true≢false}
 use mathlib.Core.List.{List, [], ◌∷◌}
 use mathlib.Core.Option.{Option, none, some}
-use borrow.Author.Tests.{eq-eqb, ne_eqb, lt-ltb}
-use lib.Dec.{ltb, eqb}
+use borrow.Author.Tests.{leb-true, leb-false, eq-eqb, ne_eqb, lt-leb}
+use lib.Dec.{eqb, leb}
 use lib.IntN.{ℤ, pos, negsuc}
 use lib.ListN.{length, take, drop, get_or, length-drop}
 use lib.Seq.{get_or-drop, drop-drop}
+use mir.Syntax.{w64}
+use Rattle.std.specs.Int.{FitsUnsigned}
+use Rattle.std.proofs.Common.{rules}
+use Rattle.std.proofs.lemmas.Option.{none-some, same_Some}
+use Rattle.std.specs.Result.{OkIff, result_ok}
+use Rattle.std.specs.Prelude.{Result, Ok, Err, Some, None, unsigned_abs}
 use Rattle.trcf.specs.Lists.{null}
-use Rattle.snapshot.specs.Read.{as_whole}
-use Rattle.snapshot.specs.Scan.{number_of}
-use Rattle.snapshot.specs.declared.field.Number.TheVariants.{Is}
 use Rattle.bench_core.specs.Bench.{cell_length}
 use Rattle.settling.specs.Settling.{Signal, signal, integer_size, in_limits}
-use Rattle.settling.specs.Steps.{with_sign, signed, option_of}
-use Rattle.settling.specs.declared.signal.Signed.{Signed}
-use Rattle.settling.proofs.SignalLaws.{size_signed}
-use Rattle.settle_core.specs.Input.{positive_number, negative_number, signed_of, Part, no_part, part_by as readPart, part_of, with_part, limited, fields_of, is_signal, signal_read as signalAt}
-use Rattle.settle_core.specs.Steps.{is_negative, part_if, part_in}
-use Rattle.settle_core.specs.declared.field.Part as held
-use Rattle.settle_core.proofs.ScanLaws.{rest_is}
-
--- ---- numbers
-
-pub minus_is : (v : ℕ) → (v ≡ 0 → ⊥) → some (with_sign true v) ≡ negative_number (Is v)
-minus_is zero h = absurd (h refl)
-minus_is (suc v) h = refl
-
-pub signed_none : (l : List ℕ) → length l ≡ 0 → none ≡ signed_of l
-unfolding signed_of
-signed_none [] h = refl
-signed_none (b ∷ l) h = absurd (omega arith)
-
-pub signed_minus : (l : List ℕ) → (length l ≡ 0 → ⊥) → get_or l 0 0 ≡ 45 → negative_number (number_of (as_whole (take (length l - 1) (drop 1 l)))) ≡ signed_of l
-unfolding signed_of
-signed_minus [] h e = absurd (h refl)
-signed_minus (b ∷ l) h e = ap (λ (c : List ℕ). negative_number (number_of (as_whole c))) (rest_is (b ∷ l) 1) ∙ sym (rw (eq-eqb b 45 e))
-
-pub signed_plain : (l : List ℕ) → (length l ≡ 0 → ⊥) → (get_or l 0 0 ≡ 45 → ⊥) → positive_number (number_of (as_whole l)) ≡ signed_of l
-unfolding signed_of
-signed_plain [] h e = absurd (h refl)
-signed_plain (b ∷ l) h e = sym (rw (ne_eqb b 45 e))
-
-pub above_zero : (n : ℕ) → ltb 0 n ≡ is_negative (with_sign true n)
-above_zero zero = refl
-above_zero (suc n) = lt-ltb 0 (suc n) (omega arith)
+use Rattle.settle_core.specs.Input.{signed_of, Part, no_part, part_by as readPart, part_of, with_part, limited, fields_of, is_signal, signal_read as signalAt, part}
 
 -- ---- a field at its place
-
-by_option : (f : Bool) (z : ℤ) (t : List ℕ) → part_if f z t ≡ readPart (option_of f z) t
-by_option true z t = refl
-by_option false z t = refl
 
 module _ (text : List ℕ) (at k end : ℕ) (e : k ≡ cell_length (drop at text)) (h : at ≤ length text) where
   pub part_open : at + k ≡ length text → no_part ≡ part_of end (drop at text)
@@ -73,26 +41,26 @@ module _ (text : List ℕ) (at k end : ℕ) (e : k ≡ cell_length (drop at text
     unfolding part_of
     part_other n = sym (rw (inside, ne_eqb (get_or (drop at text) (cell_length (drop at text)) 0) end (λ z. n (sym byte_is ∙ z))))
 
-    pub part_here : get_or text (at + k) 0 ≡ end → (f : Bool) (z : ℤ) → option_of f z ≡ signed_of (take (at + k - at) (drop at text))
-        → part_if f z (drop (at + k + 1) text) ≡ part_of end (drop at text)
+    pub part_here : get_or text (at + k) 0 ≡ end → (v : Option ℤ) → v ≡ signed_of (take (at + k - at) (drop at text))
+        → readPart v (drop (at + k + 1) text) ≡ part_of end (drop at text)
     unfolding part_of
-    part_here n f z s =
+    part_here n f s =
         let u : at + k + 1 ≡ at + suc (cell_length (drop at text)) = omega (arith, e) in
         let v : at + k - at ≡ cell_length (drop at text) = omega (arith, e) in
         let d : drop (at + k + 1) text ≡ drop (suc (cell_length (drop at text))) (drop at text) =
         ap (λ (i : ℕ). drop i text) u ∙ sym (drop-drop (suc (cell_length (drop at text))) at text) in
-        let c : option_of f z ≡ signed_of (take (cell_length (drop at text)) (drop at text)) = s ∙ ap (λ (i : ℕ). signed_of (take i (drop at text))) v in
-        by_option f z (drop (at + k + 1) text) ∙ (λ j. readPart (c j) (d j))
+        let c : f ≡ signed_of (take (cell_length (drop at text)) (drop at text)) = s ∙ ap (λ (i : ℕ). signed_of (take i (drop at text))) v in
+        (λ j. readPart (c j) (d j))
         ∙ sym (rw (inside, eq-eqb (get_or (drop at text) (cell_length (drop at text)) 0) end (byte_is ∙ n)))
 
 -- ---- six fields
 
-module _ (text : List ℕ) (at end : ℕ) (r : held.Part) (e : part_in r text ≡ part_of end (drop at text)) (k : ℤ → List ℕ → Option Signal) where
-  pub stops : r.found ≡ false → with_part (part_of end (drop at text)) k ≡ none
-  stops f = ap (λ (p : Part). with_part p k) (sym e) ∙ ap (λ (b : Bool). with_part (part_if b (signed r.value) (drop r.next text)) k) f
+module _ (text : List ℕ) (at end : ℕ) (k : ℤ → List ℕ → Option Signal) where
+  pub stops : no_part ≡ part_of end (drop at text) → with_part (part_of end (drop at text)) k ≡ none
+  stops e = ap (λ (p : Part). with_part p k) (sym e)
 
-  pub goes_on : r.found ≡ true → with_part (part_of end (drop at text)) k ≡ k (signed r.value) (drop r.next text)
-  goes_on f = ap (λ (p : Part). with_part p k) (sym e) ∙ ap (λ (b : Bool). with_part (part_if b (signed r.value) (drop r.next text)) k) f
+  pub goes_on : (z : ℤ) (next : ℕ) → part z (drop next text) ≡ part_of end (drop at text) → with_part (part_of end (drop at text)) k ≡ k z (drop next text)
+  goes_on z next e = ap (λ (p : Part). with_part p k) (sym e)
 
 pub null_end : (t : List ℕ) (n : ℕ) → n ≡ length t → null (drop n t) ≡ true
 null_end t n e = go (drop n t) (simp length-drop (omega (arith, e)))
@@ -110,49 +78,74 @@ null_not t n e h = go (drop n t) (let d = length-drop n t in omega (arith, e, d)
 
 -- ---- the limits
 
-module _ (b r q j : ℤ) where
-  pub limited_place : (p n : ℤ) → is_negative p ≡ true → none ≡ limited b r q j p n
-  limited_place (pos p) n e = absurd (true≢false (sym e))
-  limited_place (negsuc p) n e = refl
-
-  pub limited_readings : (p n : ℤ) → is_negative p ≡ false → is_negative n ≡ true → none ≡ limited b r q j p n
-  limited_readings (pos p) (pos n) e f = absurd (true≢false (sym f))
-  limited_readings (pos p) (negsuc n) e f = refl
-  limited_readings (negsuc p) n e f = absurd (true≢false e)
-
-  limited_is : (p n : ℤ) → is_negative p ≡ false → is_negative n ≡ false
-      → cond (in_limits (signal b r q j (integer_size p) (integer_size n))) (some (signal b r q j (integer_size p) (integer_size n))) none ≡ limited b r q j p n
-  limited_is (pos p) (pos n) e f = refl
-  limited_is (pos p) (negsuc n) e f = absurd (true≢false f)
-  limited_is (negsuc p) n e f = absurd (true≢false e)
-
-  module _ (p n : Signed) (e : is_negative (signed p) ≡ false) (f : is_negative (signed n) ≡ false) where
-    sized : cond (in_limits (signal b r q j p.size n.size)) (some (signal b r q j p.size n.size)) none ≡ limited b r q j (signed p) (signed n)
-    sized =
-        let sp = size_signed p.negative p.size in
-        let sn = size_signed n.negative n.size in
-        (λ i. cond (in_limits (signal b r q j (sym sp i) (sym sn i))) (some (signal b r q j (sym sp i) (sym sn i))) none)
-        ∙ limited_is (signed p) (signed n) e f
-
-    pub limited_out : in_limits (signal b r q j p.size n.size) ≡ false → none ≡ limited b r q j (signed p) (signed n)
-    limited_out g = sym (rw g) ∙ sized
-
-    pub limited_in : in_limits (signal b r q j p.size n.size) ≡ true → some (signal b r q j p.size n.size) ≡ limited b r q j (signed p) (signed n)
-    limited_in g = sym (rw g) ∙ sized
-
--- ---- the name
-
 and_none : (a : Bool) → (a && false) ≡ false
 and_none true = refl
 and_none false = refl
 
-pub short_signal : (l : List ℕ) → length l < 4 → none ≡ signalAt l
-unfolding signalAt is_signal
-short_signal [] h = refl
-short_signal (a ∷ []) h = sym (rw (and_none (eqb a 115)))
-short_signal (a ∷ b ∷ []) h = sym (rw (and_none (eqb b 105), and_none (eqb a 115)))
-short_signal (a ∷ b ∷ c ∷ []) h = sym (rw (and_none (eqb c 103), and_none (eqb b 105), and_none (eqb a 115)))
-short_signal (a ∷ b ∷ c ∷ d ∷ l) h = absurd (omega arith)
+-- outside 64 bits is outside the limits
+past_word : (n : ℕ) → (FitsUnsigned w64 (pos n) → ⊥) → 1000 < n
+past_word n h = go (leb n 1000) refl
+  where
+    go : (b : Bool) → leb n 1000 ≡ b → 1000 < n
+    go true e = let k : n ≤ 1000 = leb-true n 1000 e in absurd (h (search rules, search rules))
+    go false e = leb-false n 1000 e
+
+module _ (b r q j : ℤ) where
+  far_place : (p n : ℕ) → 1000 < p → in_limits (signal b r q j p n) ≡ false
+  unfolding in_limits
+  far_place p n h =
+      rw (lt-leb p 1000 h, and_none (leb (integer_size j) 1000), and_none (leb (integer_size q) 1000), and_none (leb (integer_size r) 1000), and_none (leb (integer_size b) 1000))
+
+  many_readings : (p n : ℕ) → 1000 < n → in_limits (signal b r q j p n) ≡ false
+  unfolding in_limits
+  many_readings p n h =
+      rw (
+        lt-leb n 1000 h,
+        and_none (leb 1 n),
+        and_none (leb p 1000),
+        and_none (leb (integer_size j) 1000),
+        and_none (leb (integer_size q) 1000),
+        and_none (leb (integer_size r) 1000),
+        and_none (leb (integer_size b) 1000),
+      )
+
+  module _ {E : Type 0} where
+    pub no_place : (p n : ℤ) (x : Result ℕ E) → OkIff x (FitsUnsigned w64 p) (unsigned_abs p) → None ≡ result_ok x → none ≡ limited b r q j p n
+    no_place (negsuc p) n x k e = refl
+    no_place (pos p) (negsuc n) x k e = refl
+    no_place (pos p) (pos n) (Ok v) k e = absurd (none-some v e)
+    no_place (pos p) (pos n) (Err d) k e = let h : 1000 < p = past_word p k in sym (rw (far_place p n h))
+
+    pub no_readings : (p n : ℤ) (y : Result ℕ E) → OkIff y (FitsUnsigned w64 n) (unsigned_abs n) → None ≡ result_ok y → none ≡ limited b r q j p n
+    no_readings (negsuc p) n y k e = refl
+    no_readings (pos p) (negsuc n) y k e = refl
+    no_readings (pos p) (pos n) (Ok v) k e = absurd (none-some v e)
+    no_readings (pos p) (pos n) (Err d) k e = let h : 1000 < n = past_word n k in sym (rw (many_readings p n h))
+
+    unsigned_is : (z : ℤ) (x : Result ℕ E) (u : ℕ) → OkIff x (FitsUnsigned w64 z) (unsigned_abs z) → Some u ≡ result_ok x → FitsUnsigned w64 z × (u ≡ unsigned_abs z)
+    unsigned_is z (Ok a) u k e = (k.0, same_Some u a e ∙ k.1)
+    unsigned_is z (Err d) u k e = absurd (none-some u (sym e))
+
+    pub limited_is : (p n : ℤ) (x y : Result ℕ E) (u v : ℕ)
+        → OkIff x (FitsUnsigned w64 p) (unsigned_abs p) → OkIff y (FitsUnsigned w64 n) (unsigned_abs n) → Some u ≡ result_ok x → Some v ≡ result_ok y
+        → cond (in_limits (signal b r q j u v)) (some (signal b r q j u v)) none ≡ limited b r q j p n
+    limited_is p n x y u v k m e f = go p n (unsigned_is p x u k e) (unsigned_is n y v m f)
+      where
+        go : (p n : ℤ) → FitsUnsigned w64 p × (u ≡ unsigned_abs p) → FitsUnsigned w64 n × (v ≡ unsigned_abs n)
+            → cond (in_limits (signal b r q j u v)) (some (signal b r q j u v)) none ≡ limited b r q j p n
+        go (pos p) (pos n) g h = λ i. cond (in_limits (signal b r q j (g.1 i) (h.1 i))) (some (signal b r q j (g.1 i) (h.1 i))) none
+        go (pos p) (negsuc n) g h = absurd (search (rules, h.0))
+        go (negsuc p) n g h = absurd (search (rules, g.0))
+
+-- ---- the name
+
+pub signal_long : (l : List ℕ) → is_signal l ≡ true → 4 ≤ length l
+unfolding is_signal
+signal_long [] h = absurd (true≢false (sym h))
+signal_long (a ∷ []) h = absurd (true≢false (sym (sym (and_none (eqb a 115)) ∙ h)))
+signal_long (a ∷ b ∷ []) h = absurd (true≢false (sym (sym (rw (and_none (eqb b 105), and_none (eqb a 115))) ∙ h)))
+signal_long (a ∷ b ∷ c ∷ []) h = absurd (true≢false (sym (sym (rw (and_none (eqb c 103), and_none (eqb b 105), and_none (eqb a 115))) ∙ h)))
+signal_long (a ∷ b ∷ c ∷ d ∷ l) h = omega arith
 
 pub not_signal : (l : List ℕ) → is_signal l ≡ false → none ≡ signalAt l
 unfolding signalAt

@@ -14,14 +14,18 @@ use lib.Ieee.{Float}
 use Rattle.trcf.specs.Settings.{Settings, settings_row}
 use Rattle.trcf.specs.View.{settings_from}
 use Rattle.trcf.specs.declared.head.PreprocessorBuilder.{PreprocessorBuilder}
-use Rattle.trcf.proofs.OutcomeLaws.{accepted_not}
+use Rattle.std.specs.Prelude.{Result, Ok, Err}
+use Rattle.std.specs.Result.{IsErrAnd}
+use Rattle.refusal.specs.declared.Refusal.{Refusal}
+use Rattle.refusal.specs.Refusal.{accepted, number_of}
+use Rattle.refusal.proofs.RefusalLaws.{refused_is}
 use Rattle.snapshot.proofs.Accepted.{rows_of}
 use Rattle.bench_core.specs.declared.line.Name.TheVariants.{Set, Weights}
 use Rattle.bench_core.specs.Line.{is_named, request_of, kept_of, kept_count}
 use Rattle.bench_core.specs.Bench.{code_count, zero_codes}
 use Rattle.bench_core.specs.declared.line.Line.{Line}
 use Rattle.settling.specs.Settling.{Signal, pair_row}
-use Rattle.settling.proofs.StepLaws.{take_replicate}
+use Rattle.bench_core.proofs.StepLaws.{take_zeros}
 use Rattle.settling.proofs.Theorem.{pair_parts}
 use Rattle.settle_core.specs.Input.{line_of, PairRead, faulty, pair_taken, settings_by, pair_by, pair_of, Input, input_refused, input, signalled, and_then, opens, then_pair, input_from, input_of, signal_read as signalAt}
 use Rattle.settle_core.specs.Steps.{pair_settings, pair_in, prefixed, input_in}
@@ -31,11 +35,15 @@ use Rattle.settle_core.specs.declared.judge.Judged.{Judged}
 
 -- ---- a pair from its two lines
 
-pub pair_refused : (s : Settings) (row : ℕ) → row ≡ pair_row s → (row ≡ 0 → ⊥) → (r : read.PairRead) → r.row ≡ row → (t rest : List ℕ) → pair_in r t ≡ pair_by s rest
+-- what `?` hands on
+pub handed_fault : (c : Refusal) (r : Result read.PairRead Refusal) → IsErrAnd r (λ d. d ≡ c) → (n : ℕ) → number_of c ≡ n → (t : List ℕ) → pair_in r t ≡ faulty n
+handed_fault c (Ok a) h n e t = absurd h
+handed_fault c (Err d) h n e t = ap (λ (k : ℕ). faulty k) (ap number_of h ∙ e)
+
+pub pair_refused : (s : Settings) (c : Refusal) → number_of c ≡ pair_row s → (rest : List ℕ) → faulty (number_of c) ≡ pair_by s rest
 unfolding pair_by
-pair_refused s row e ne r q t rest =
-    accepted_not r.row _ _ (λ z. ne (sym q ∙ z)) ∙ ap (λ (n : ℕ). faulty n) (q ∙ e)
-    ∙ sym (accepted_not (pair_row s) (pair_taken s rest) (faulty (pair_row s)) (λ z. ne (e ∙ z)))
+pair_refused s c e rest =
+    sym (refused_is c (number_of c) (pair_taken s rest) (faulty (number_of c)) refl) ∙ ap (λ (i : ℕ). accepted i (pair_taken s rest) (faulty i)) e
 
 one_number : (l : List Float) (d : Float) → length l ≡ 1 → l ≡ get_or l 0 d ∷ []
 one_number [] d h = absurd (omega arith)
@@ -65,7 +73,7 @@ module _ (b : PreprocessorBuilder) (w : Line) (n m : ℕ) (en : n ≡ kept_count
   unfolding kept_of
   handed_is =
       let a : take n w.singles ≡ take (kept_count w.count) w.singles = ap (λ (k : ℕ). take k w.singles) en in
-      let c : take m (replicate {A = ℕ} 16 0) ≡ zero_codes b = take_replicate 16 m 0 hm ∙ ap (λ (k : ℕ). replicate {A = ℕ} k 0) em in
+      let c : take m (replicate {A = ℕ} 16 0) ≡ zero_codes b = take_zeros 16 m hm ∙ ap (λ (k : ℕ). replicate {A = ℕ} k 0) em in
       λ j. settings_from b (a j) (c j)
 
   -- of d 1: one weight, and one code
@@ -81,30 +89,29 @@ module _ (b : PreprocessorBuilder) (w : Line) (n m : ℕ) (en : n ≡ kept_count
 
 -- a line that is not of the form
 module _ (t : List ℕ) where
-  pub set_open : (line_of t).ended ≡ false → faulty 19 ≡ pair_of t
+  abbrev set_asked : Bool
+  set_asked = (line_of t).ended && is_named (request_of (line_of t).line) Set
+
+  abbrev weights_asked : List ℕ → Bool
+  weights_asked r = (line_of r).ended && is_named (request_of (line_of r).line) Weights
+
+  pub set_refused : set_asked ≡ false → faulty 19 ≡ pair_of t
   unfolding pair_of
-  set_open e = sym (rw e)
+  set_refused e = sym (rw e)
 
-  pub set_other : (line_of t).ended ≡ true → is_named (request_of (line_of t).line) Set ≡ false → faulty 19 ≡ pair_of t
-  unfolding pair_of
-  set_other e f = sym (rw (e, f))
-
-  module _ (e : (line_of t).ended ≡ true) (f : is_named (request_of (line_of t).line) Set ≡ true) where
-    pub weights_open : (line_of (line_of t).rest).ended ≡ false → faulty 19 ≡ pair_of t
+  -- the second line stands from a place r on
+  module _ (e : set_asked ≡ true) (r : List ℕ) (q : r ≡ (line_of t).rest) where
+    pub weights_refused : weights_asked r ≡ false → faulty 19 ≡ pair_of t
     unfolding pair_of
-    weights_open g = sym (rw (e, f, g))
+    weights_refused f =
+        let g : weights_asked (line_of t).rest ≡ false = ap weights_asked (sym q) ∙ f in
+        sym (rw (e, g))
 
-    pub weights_other : (line_of (line_of t).rest).ended ≡ true → is_named (request_of (line_of (line_of t).rest).line) Weights ≡ false → faulty 19 ≡ pair_of t
+    pub both_lines : weights_asked r ≡ true → pair_by (settings_by (line_of t).line (line_of r).line) (line_of r).rest ≡ pair_of t
     unfolding pair_of
-    weights_other g h = sym (rw (e, f, g, h))
-
-    pub both_lines : (line_of (line_of t).rest).ended ≡ true → is_named (request_of (line_of (line_of t).rest).line) Weights ≡ true
-        → pair_by (settings_by (line_of t).line (line_of (line_of t).rest).line) (line_of (line_of t).rest).rest ≡ pair_of t
-    unfolding pair_of
-    both_lines g h = sym (rw (e, f, g, h))
-
-pub refused_in : (r : read.PairRead) (n : ℕ) → r.row ≡ n → (n ≡ 0 → ⊥) → (t : List ℕ) → pair_in r t ≡ faulty n
-refused_in r n q ne t = accepted_not r.row _ _ (λ z. ne (sym q ∙ z)) ∙ ap (λ (k : ℕ). faulty k) q
+    both_lines f =
+        let g : weights_asked (line_of t).rest ≡ true = ap weights_asked (sym q) ∙ f in
+        ap (λ (u : List ℕ). pair_by (settings_by (line_of t).line (line_of u).line) (line_of u).rest) q ∙ sym (rw (e, g))
 
 -- ---- pairs in front
 
@@ -124,8 +131,10 @@ pub map_snoc : {A B : Type 0} (f : A → B) (l : List A) (x : A) → map f (l ++
 map_snoc f [] x = refl
 map_snoc f (y ∷ l) x = ap (λ (r : List _). f y ∷ r) (map_snoc f l x)
 
-pub input_refused_lem : (r : Judged) (n : ℕ) → r.row ≡ n → (n ≡ 0 → ⊥) → input_in r ≡ input_refused n
-input_refused_lem r n q ne = accepted_not r.row _ _ (λ z. ne (sym q ∙ z)) ∙ ap (λ (k : ℕ). input_refused k) q
+-- what `?` hands on
+pub handed_refusal : (c : Refusal) (r : Result Judged Refusal) → IsErrAnd r (λ d. d ≡ c) → input_in r ≡ input_refused (number_of c)
+handed_refusal c (Ok a) h = absurd h
+handed_refusal c (Err d) h = ap (λ (k : Refusal). input_refused (number_of k)) h
 
 -- ---- where no pair begins
 
@@ -157,14 +166,16 @@ module _ (ss : List Settings) (t : List ℕ) (e : opens t ≡ false) where
 
 -- ---- the loop
 
-abbrev pub read_so_far : List kept.Pair → ℕ → List ℕ → Input
+unfoldable pub read_so_far : List kept.Pair → ℕ → List ℕ → Input
 read_so_far pairs n t = prefixed (map pair_settings (take n pairs)) (input_from (8 - n) t)
 
 module _ (pairs : List kept.Pair) (n : ℕ) (t : List ℕ) where
   pub read_closed : opens t ≡ false → prefixed (map pair_settings (take n pairs)) (input_from 0 t) ≡ read_so_far pairs n t
+  unfolding read_so_far
   read_closed e = ap (prefixed (map pair_settings (take n pairs))) (sym (closed (8 - n) t e))
 
   pub read_all_lem : 8 ≤ n → prefixed (map pair_settings (take n pairs)) (input_from 0 t) ≡ read_so_far pairs n t
+  unfolding read_so_far
   read_all_lem h = let z : 0 ≡ 8 - n = omega arith in ap (λ (k : ℕ). prefixed (map pair_settings (take n pairs)) (input_from k t)) z
 
   module _ (h : n < 8) (o : opens t ≡ true) where
@@ -174,14 +185,32 @@ module _ (pairs : List kept.Pair) (n : ℕ) (t : List ℕ) where
         ap (λ (k : ℕ). input_from k t) a ∙ ap (from (8 - (n + 1)) t) o
 
     pub read_fault : (k : ℕ) → faulty k ≡ pair_of t → input_refused k ≡ read_so_far pairs n t
+    unfolding read_so_far
     read_fault k q =
         sym (prefixed_refused (map pair_settings (take n pairs)) k)
         ∙ ap (prefixed (map pair_settings (take n pairs))) (ap (λ (p : PairRead). then_pair p (input_from (8 - (n + 1)))) q ∙ sym next_pair)
 
     pub read_pair : n < length pairs → (p : kept.Pair) (rest : List ℕ) → pair_taken (pair_settings p) rest ≡ pair_of t → read_so_far (set pairs n p) (n + 1) rest ≡ read_so_far pairs n t
+    unfolding read_so_far
     read_pair l p rest q =
         let a : take (n + 1) (set pairs n p) ≡ take n pairs ++ (p ∷ []) = ap (λ (k : ℕ). take k (set pairs n p)) (add-one n) ∙ take-suc-set pairs n p l in
         ap (λ (ps : List kept.Pair). prefixed (map pair_settings ps) (input_from (8 - (n + 1)) rest)) a
         ∙ ap (λ (ss : List Settings). prefixed ss (input_from (8 - (n + 1)) rest)) (map_snoc pair_settings (take n pairs) p)
         ∙ prefixed_snoc (map pair_settings (take n pairs)) (pair_settings p) (input_from (8 - (n + 1)) rest)
         ∙ ap (prefixed (map pair_settings (take n pairs))) (ap (λ (x : PairRead). then_pair x (input_from (8 - (n + 1)))) q ∙ sym next_pair)
+
+-- ---- the first pair
+
+module _ (t : List ℕ) (o : opens t ≡ true) where
+  pub first_fault : (k : ℕ) → faulty k ≡ pair_of t → input_refused k ≡ input_of t
+  first_fault k q = ap (λ (p : PairRead). then_pair p (input_from 7)) q ∙ ap (from 7 t) (sym o) ∙ sym (input_begins t o)
+
+  -- eight times the first pair, of which one is read
+  pub first_pair : (p : kept.Pair) (pairs : List kept.Pair) (rest : List ℕ) → take 1 pairs ≡ p ∷ [] → pair_taken (pair_settings p) rest ≡ pair_of t
+      → input_of t ≡ read_so_far pairs 1 rest
+  unfolding read_so_far
+  first_pair p pairs rest e q =
+      input_begins t o
+      ∙ ap (from 7 t) o
+      ∙ ap (λ (r : PairRead). then_pair r (input_from 7)) (sym q)
+      ∙ ap (λ (ps : List kept.Pair). prefixed (map pair_settings ps) (input_from 7 rest)) (sym e)

@@ -4,30 +4,35 @@ use native.Mathlib.Omega.{arith}
 use native.Mathlib.Numerals.{add-one}
 use native.Mathlib.Nat.{add-zero}
 use mathlib.Core.Path.{◌≡◌, refl, sym, ap, ◌∙◌}
-use mathlib.Core.Bool.{Bool, true, false}
 use mathlib.Core.List.{List, [], ◌∷◌, ◌++◌, map, append-nil, append_assoc}
 use borrow.Author.Tests.{le-ltb}
 use lib.ListN.{length, take, drop, get_or, length-drop, drop_of_length-le}
 use lib.Seq.{length-sets, sets-eq, drop-drop, take-suc, length-take-le}
 use lib.Ieee.{Float}
+use Rattle.std.specs.Prelude.{Result, Ok, Err, Option as Held, Some, None, is_some, IfOk}
+use Rattle.std.specs.Option.{unwrap_or}
+use Rattle.std.specs.Result.{result_unwrap_or}
 use Rattle.refusal.specs.Lent.{over}
+use Rattle.refusal.specs.Refusal.{row_of}
+use Rattle.refusal.specs.declared.Refusal.{Refusal}
 use Rattle.trcf.specs.Settings.{Settings, whole_max}
 use Rattle.snapshot.specs.Text.{whole, named}
 use Rattle.snapshot.specs.Read.{bytes_of_line}
-use Rattle.snapshot.specs.Save.{SaveOutcome, save_outcome, fitted}
+use Rattle.snapshot.specs.Save.{SaveOutcome, save_outcome, saved_told, fitted}
 use Rattle.snapshot.specs.Steps.Write.{stored, Wrote}
 use Rattle.snapshot.proofs.WriteLaws.{whole_less, whole_short}
 use Rattle.snapshot.proofs.PairLines.{number_size}
 use Rattle.snapshot_save.specs.Line.{text_within, optional_field, optional_line}
 use Rattle.bench_core.specs.Bench.{no_text}
 use Rattle.settling.specs.Settling.{Signal, Noted, run_of}
-use Rattle.settling.specs.Steps.{option_of, signal_of}
-use Rattle.settle_core.specs.Input.{input, input_of}
+use Rattle.settling.specs.Steps.{option_of, signal_of, noted_by}
+use Rattle.settling.specs.declared.run.Settled.{Settled}
+use Rattle.settle_core.specs.Input.{input_refused, input_of}
 use Rattle.settle_core.specs.Settle.{or_never, largest_field, noted_line, line_texts, printed_by, settle_of}
 use Rattle.settle_core.specs.Steps.{pair_settings, input_in}
 use Rattle.settle_core.specs.declared.pair.Pair as kept
 use Rattle.settle_core.specs.declared.judge.Judged.{Judged}
-use Rattle.settle_core.proofs.JudgeLaws.{map_snoc, input_refused_lem}
+use Rattle.settle_core.proofs.JudgeLaws.{map_snoc}
 use Rattle.settle_core.proofs.ScanLaws.{rest_is}
 
 stored_length : (old : List ℕ) (at : ℕ) (b : List ℕ) → length (stored old at b) ≡ length old
@@ -40,26 +45,39 @@ wrote_none {at} {old} = record { place = sym (add-zero at); bytes = refl; kept =
 
 -- ---- one line
 
-last_field : (k : Bool) (x : Float) → largest_field (option_of k x) ≡ optional_field k x
-last_field true x = refl
-last_field false x = refl
+last_field : (g : Held Float) (d : Float) → optional_field (is_some g) (unwrap_or g d) ≡ largest_field (option_of g)
+last_field (Some x) d = refl
+last_field None d = refl
+
+-- "(n if never)"
+ready_is : (g : Held ℕ) (n : ℕ) → unwrap_or g n ≡ or_never n (option_of g)
+ready_is (Some i) n = refl
+ready_is None n = refl
 
 -- the number of a pair has one digit
-pub noted_line_lem : (i n m : ℕ) (o : Noted) (k : Bool) (x : Float) → i ≤ 7 → m ≡ or_never n o.ready → o.largest ≡ option_of k x
-    → bytes_of_line (optional_line (49 + i) m k x) ≡ noted_line (i + 1) n o
+pub noted_line_lem : (i n m : ℕ) (s : Settled) (o : Noted) (d : Float) → i ≤ 7 → m ≡ unwrap_or s.ready n → noted_by s ≡ o
+    → bytes_of_line (optional_line (49 + i) m (is_some s.largest) (unwrap_or s.largest d)) ≡ noted_line (i + 1) n o
 unfolding noted_line
-noted_line_lem i n m o k x h em eo =
-    let w : (49 + i) ∷ [] ≡ whole (i + 1) = ap (λ (d : ℕ). d ∷ []) (omega arith) ∙ sym (whole_less (i + 1) (omega arith)) in
-    let f : optional_field k x ≡ largest_field o.largest = sym (ap largest_field eo ∙ last_field k x) in
-    λ j. bytes_of_line (named (w j) (whole (em j) ∷ f j ∷ []))
+noted_line_lem i n m s o d h em e =
+    let w : (49 + i) ∷ [] ≡ whole (i + 1) = ap (λ (k : ℕ). k ∷ []) (omega arith) ∙ sym (whole_less (i + 1) (omega arith)) in
+    let r : m ≡ or_never n o.ready = em ∙ ready_is s.ready n ∙ ap (λ (u : Noted). or_never n u.ready) e in
+    let f : optional_field (is_some s.largest) (unwrap_or s.largest d) ≡ largest_field o.largest = last_field s.largest d ∙ ap (λ (u : Noted). largest_field u.largest) e in
+    λ j. bytes_of_line (named (w j) (whole (r j) ∷ f j ∷ []))
+
+-- the length that a call answers, none of a refusal
+answered : (r : Result ℕ Refusal) (bytes : List ℕ) → save_outcome (row_of r) (result_unwrap_or r 0) bytes ≡ saved_told r bytes
+answered (Ok n) bytes = refl
+answered (Err k) bytes = refl
 
 -- a line printed into the part of the output from a place on
-module _ (out : List ℕ) (at : ℕ) (t bytes : List ℕ) (row n : ℕ) (room : at + 32 ≤ length out) (few : length t ≤ 32)
-    (e : save_outcome row n bytes ≡ text_within 32 t (take (length out - at) (drop at out))) where
-  printed : save_outcome row n bytes ≡ save_outcome 0 (length t) (over (drop at out) t)
+module _ (out : List ℕ) (at : ℕ) (t bytes : List ℕ) (r : Result ℕ Refusal) (n : ℕ) (en : n ≡ result_unwrap_or r 0) (room : at + 32 ≤ length out) (few : length t ≤ 32)
+    (e : saved_told r bytes ≡ text_within 32 t (take (length out - at) (drop at out))) where
+  printed : save_outcome (row_of r) n bytes ≡ save_outcome 0 (length t) (over (drop at out) t)
   unfolding text_within
   printed =
-      e ∙ ap (λ (l : List ℕ). text_within 32 t l) (rest_is out at)
+      ap (λ (m : ℕ). save_outcome (row_of r) m bytes) en
+      ∙ answered r bytes
+      ∙ e ∙ ap (λ (l : List ℕ). text_within 32 t l) (rest_is out at)
       ∙ rw (le-ltb (length (drop at out)) 32 (simp length-drop (omega arith)))
 
   pub long_is : n ≡ length t
@@ -117,30 +135,31 @@ lines_more pairs g i d h =
 
 -- ---- the whole
 
-pub refusal_printed : (t out new : List ℕ) (row n : ℕ) → save_outcome row n new ≡ fitted t out → length t ≤ 256 → 256 ≤ length out
-    → (u : List ℕ) → t ≡ u → save_outcome 0 n new ≡ text_within 256 u out
-unfolding fitted text_within
-refusal_printed t out new row n e few room u q =
-    let f : save_outcome row n new ≡ save_outcome 0 (length t) (over out t) = e ∙ rw (le-ltb (length out) (length t) (omega arith)) in
-    (λ j. save_outcome 0 (f j).length (f j).bytes) ∙ ap (λ (x : List ℕ). save_outcome 0 (length x) (over out x)) q ∙ sym (rw (le-ltb (length out) 256 room))
-
-pub refusal_length : (t out new : List ℕ) (row n : ℕ) → save_outcome row n new ≡ fitted t out → length t ≤ 256 → 256 ≤ length out → n ≤ 256
+-- a line that fits is printed whole
+refusal_fits : (t out new : List ℕ) (r : Result ℕ Refusal) → saved_told r new ≡ fitted t out → length t ≤ 256 → 256 ≤ length out
+    → saved_told r new ≡ save_outcome 0 (length t) (over out t)
 unfolding fitted
-refusal_length t out new row n e few room =
-    let f : save_outcome row n new ≡ save_outcome 0 (length t) (over out t) = e ∙ rw (le-ltb (length out) (length t) (omega arith)) in
-    let q : n ≡ length t = ap (λ (o : SaveOutcome). o.length) f in
-    omega arith
+refusal_fits t out new r e few room = e ∙ rw (le-ltb (length out) (length t) (omega arith))
+
+pub refusal_printed : (t out new : List ℕ) (r : Result ℕ Refusal) → saved_told r new ≡ fitted t out → length t ≤ 256 → 256 ≤ length out
+    → (u : List ℕ) → t ≡ u → saved_told r new ≡ text_within 256 u out
+unfolding text_within
+refusal_printed t out new r e few room u q =
+    refusal_fits t out new r e few room ∙ ap (λ (x : List ℕ). save_outcome 0 (length x) (over out x)) q ∙ sym (rw (le-ltb (length out) 256 room))
+
+pub refusal_length : (t out new : List ℕ) (r : Result ℕ Refusal) → saved_told r new ≡ fitted t out → length t ≤ 256 → 256 ≤ length out → length new ≡ length out
+    → IfOk r (λ n. n ≤ length new)
+refusal_length t out new (Ok n) e few room z = let q : n ≡ length t = ap (λ (o : SaveOutcome). o.length) (refusal_fits t out new (Ok n) e few room) in omega arith
+refusal_length t out new (Err k) e few room z = tt
 
 pub no_short : (row : ℕ) → row ≤ whole_max → length (no_text row) ≤ 256
 unfolding no_text
 no_short row h = omega (arith, number_size 110 111 row, whole_short row h)
 
-pub refusal_is : (t : List ℕ) (r : Judged) → input_in r ≡ input_of t → (r.row ≡ 0 → ⊥) → no_text r.row ≡ settle_of t
+pub refusal_is : (t : List ℕ) (n : ℕ) → input_refused n ≡ input_of t → no_text n ≡ settle_of t
 unfolding settle_of
-refusal_is t r e ne = ap printed_by (sym (input_refused_lem r r.row refl ne) ∙ e)
+refusal_is t n e = ap printed_by e
 
-pub lines_are : (t : List ℕ) (r : Judged) → input_in r ≡ input_of t → r.row ≡ 0 → lines_of r.pairs (signal_of r.signal) r.count ≡ settle_of t
+pub lines_are : (t : List ℕ) (r : Judged) → input_in (Ok r) ≡ input_of t → line_texts 1 (map pair_settings (take r.count r.pairs)) (signal_of r.signal) ≡ settle_of t
 unfolding settle_of
-lines_are t r e z =
-    let q : input_in r ≡ input (map pair_settings (take r.count r.pairs)) (signal_of r.signal) = rw z in
-    ap printed_by (sym q ∙ e)
+lines_are t r e = ap printed_by e

@@ -1,6 +1,6 @@
 -- What the settling program is given (document 02, request 106): "up to 8 `set` and `wgt` pairs with d = 1, then one line `sig`". Lines and fields are the bench's.
 use Prim.Native.Char.{code}
-use Rattle.std.specs.Prelude.{ℕ, zero, suc, Bool, true, false, cond, ◌&&◌, List, [], ◌∷◌, eqb, ℤ, pos, negsuc, length, take, drop, get_or}
+use Rattle.std.specs.Prelude.{ℕ, zero, suc, Bool, true, false, cond, ◌&&◌, List, [], ◌∷◌, eqb, ℤ, pos, negsuc, length, take, drop, get_or, Option as Held, Some, None}
 use Rattle.std.proofs.Math.Option.{Option, none, some}
 use Rattle.trcf.specs.Lists.{null}
 use Rattle.trcf.specs.Settings.{Settings}
@@ -9,8 +9,6 @@ use Rattle.trcf.specs.View.{settings_from}
 use Rattle.settling.specs.Settling.{Signal, signal, in_limits, pair_row}
 use Rattle.snapshot.specs.Read.{as_whole}
 use Rattle.snapshot.specs.Scan.{number_of}
-use Rattle.snapshot.specs.declared.field.Number.{Number}
-use Rattle.snapshot.specs.declared.field.Number.TheVariants.{Is, No}
 use Rattle.bench_core.specs.Line.{is_named, blank_line, name_of, cell_of, request_of, kept_of}
 use Rattle.bench_core.specs.Bench.{cell_length, builder_from, zero_codes}
 use Rattle.bench_core.specs.declared.line.Line.{Line}
@@ -66,15 +64,15 @@ pair_of t =
 
 -- ---- the signal
 
-abbrev pub positive_number : Number → Option ℤ
-positive_number No = none
-positive_number (Is n) = some (pos n)
+abbrev pub positive_number : Held ℕ → Option ℤ
+positive_number None = none
+positive_number (Some n) = some (pos n)
 
 -- a minus sign stands before no 0
-abbrev pub negative_number : Number → Option ℤ
-negative_number No = none
-negative_number (Is zero) = none
-negative_number (Is (suc n)) = some (negsuc n)
+abbrev pub negative_number : Held ℕ → Option ℤ
+negative_number None = none
+negative_number (Some zero) = none
+negative_number (Some (suc n)) = some (negsuc n)
 
 -- "whole numbers …, with a minus sign if negative"
 unfoldable pub signed_of : List ℕ → Option ℤ

@@ -1,9 +1,12 @@
 -- What the program's own parts promise, in the terms of Input and Settle.
-use Rattle.std.specs.Prelude.{ℕ, Bool, true, false, List, [], ◌∷◌, map, ℤ, pos, negsuc, drop, take}
+use Rattle.std.specs.Prelude.{ℕ, true, false, ◌≡◌, ◌&&◌, List, [], ◌∷◌, map, drop, take, Result, Ok, Err, Option, Some, None}
+use Rattle.refusal.specs.declared.Refusal.{Refusal}
+use Rattle.refusal.specs.Refusal.{number_of}
 use Rattle.trcf.specs.Settings.{Settings}
-use Rattle.trcf.specs.Preprocessor.{accepted}
 use Rattle.trcf.specs.View.{settings_from}
-use Rattle.settling.specs.Steps.{signed, signal_of}
+use Rattle.bench_core.specs.Line.{is_named, request_of}
+use Rattle.bench_core.specs.declared.line.Name.{Name}
+use Rattle.settling.specs.Steps.{signal_of}
 use Rattle.settle_core.specs.Input.{Scanned, scanned, PairRead, faulty, pair_taken, Part, no_part, part, Input, input_refused, input, and_then}
 use Rattle.settle_core.specs.declared.scan.Line as held
 use Rattle.settle_core.specs.declared.pair.Pair as kept
@@ -13,29 +16,29 @@ use Rattle.settle_core.specs.declared.judge.Judged.{Judged}
 
 -- what follows stands in the text, from a place on
 abbrev pub scanned_in : held.Line → List ℕ → Scanned
-scanned_in r t = scanned r.ended r.line (drop r.next t)
+scanned_in r t = scanned true r.line (drop r.next t)
+
+-- the line s, where it has its LF and asks for what the name n says; else 19
+abbrev pub NamedIn : Result held.Line Refusal → List ℕ → Name → Scanned → Type 0
+NamedIn (Ok r) t n s = (scanned_in r t ≡ s) × ((s.ended && is_named (request_of s.line) n) ≡ true)
+NamedIn (Err r) t n s = (number_of r ≡ 19) × ((s.ended && is_named (request_of s.line) n) ≡ false)
 
 abbrev pub pair_settings : kept.Pair → Settings
 pair_settings p = settings_from p.builder (p.weight ∷ []) (0 ∷ [])
 
-abbrev pub pair_in : read.PairRead → List ℕ → PairRead
-pair_in r t = accepted r.row (pair_taken (pair_settings r.pair) (drop r.next t)) (faulty r.row)
+abbrev pub pair_in : Result read.PairRead Refusal → List ℕ → PairRead
+pair_in (Ok r) t = pair_taken (pair_settings r.pair) (drop r.next t)
+pair_in (Err r) t = faulty (number_of r)
 
-abbrev pub is_negative : ℤ → Bool
-is_negative (pos n) = false
-is_negative (negsuc n) = true
-
-abbrev pub part_if : Bool → ℤ → List ℕ → Part
-part_if true z t = part z t
-part_if false z t = no_part
-
-abbrev pub part_in : heldPart.Part → List ℕ → Part
-part_in r t = part_if r.found (signed r.value) (drop r.next t)
+abbrev pub part_in : Option heldPart.Part → List ℕ → Part
+part_in (Some r) t = part r.value (drop r.next t)
+part_in None t = no_part
 
 -- pairs in front of what follows them
 abbrev pub prefixed : List Settings → Input → Input
 prefixed [] i = i
 prefixed (s ∷ ss) i = and_then s (prefixed ss i)
 
-abbrev pub input_in : Judged → Input
-input_in r = accepted r.row (input (map pair_settings (take r.count r.pairs)) (signal_of r.signal)) (input_refused r.row)
+abbrev pub input_in : Result Judged Refusal → Input
+input_in (Ok r) = input (map pair_settings (take r.count r.pairs)) (signal_of r.signal)
+input_in (Err r) = input_refused (number_of r)

@@ -1,4 +1,5 @@
 // `save` (document 01: putting away): the snapshot of a preprocessor, written into lent bytes.
+// Kept: (a) the six lent lists are parameters: the C interface lends each call its own mix of shared and mutable lists, and a struct would need a type for each mix.
 ghost use Rattle.std.specs.Prelude.{◌≡◌, not, ◌&&◌, ◌||◌, map, ◌++◌, eqb, ◌+◌, ◌*◌, ◌≤◌, ◌<◌, length};
 ghost use Rattle.trcf.specs.Types.{method_number, mode_letter};
 ghost use Rattle.trcf.specs.View.{lent, settings_of};

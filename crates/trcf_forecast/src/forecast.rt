@@ -1,9 +1,10 @@
 // A forecast of transformed readings turned back into readings and times (the source's Preprocessor::invert_extrapolation).
+// Kept: (a) the six lent lists are parameters: the C interface lends each call its own mix of shared and mutable lists, and a struct would need a type for each mix.
 ghost use Rattle.std.specs.Prelude.{◌≡◌, true, false, ◌&&◌, [], ◌∷◌, ◌*◌, ◌≤◌, ◌<◌, pos, length, OnOk};
 ghost use Rattle.std.specs.Float.{binary64};
 ghost use Rattle.std.specs.Float.Ieee.{of_int};
 ghost use Rattle.refusal.specs.Refusal.{first_of, row_of};
-ghost use Rattle.ranges.specs.RangeVector.{ranges, held, AreSameLoans, unblocked, cascade_to, over_all, shorter_at};
+ghost use Rattle.ranges.specs.RangeVector.{ranges, held, AreSameLoans, unblocked, cascade_to, over_all, shorter_at, range_at, put_at};
 ghost use Rattle.trcf.specs.Lists.{last_n};
 ghost use Rattle.trcf.specs.Types.{augments, differences};
 ghost use Rattle.trcf.specs.Transformer.{inverted_forecast};
@@ -273,6 +274,30 @@ impl Clock {
     }
 }
 
+// What a range holds at one index.
+// Kept: (a) a public function asks nothing of its callers, so that the two of ranges that do the same stay private.
+fn read_at(range: &RangeVector<f32>, i: usize) -> Range<f32>
+    requires { (i < length range.now.values.now) × (i < length range.now.upper.now) × (i < length range.now.lower.now) }
+    ensures { result ≡ range_at (held range.now) i }
+{
+    Range {
+        value: range.values[i],
+        upper: range.upper[i],
+        lower: range.lower[i],
+    }
+}
+
+// r stands at one index.
+fn write_at(range: &mut RangeVector<f64>, i: usize, r: Range<f64>)
+    requires { (i < length range.old.values.now) × (i < length range.old.upper.now) × (i < length range.old.lower.now) }
+    ensures after { held range.new ≡ put_at (held range.old) i r }
+    ensures loans { AreSameLoans range.old range.new }
+{
+    range.values[i] = r.value;
+    range.upper[i] = r.upper;
+    range.lower[i] = r.lower;
+}
+
 // The time after the first m numbers of each block of a.
 fn write_times(
     clock: Clock,
@@ -291,7 +316,7 @@ fn write_times(
 {
     for i in 0..out.values.len() {
         let at = i * a + m;
-        out.put(i, clock.invert(range.at(at)));
+        write_at(out, i, clock.invert(read_at(range, at)));
     }
 }
 

@@ -2,32 +2,26 @@
 #![tactic(auto)]
 
 mod deviation;
-mod range32;
-mod range64;
+mod range;
 
-use std::rt::Files;
-use vectors_core::lines::{read_file, report, room};
+use common::deviation::Deviation;
+use std::io;
+use vectors_core::tally::replay;
 
-fn replay_deviation(rt: &(impl Files + Print + Eprint)) {
-    let mut text = room();
-    let n = read_file(rt, b"deviation", &mut text);
-    report(rt, b"deviation", deviation::replay(&text[..n]));
-}
-
-fn replay_range32(rt: &(impl Files + Print + Eprint)) {
-    let mut text = room();
-    let n = read_file(rt, b"range32", &mut text);
-    report(rt, b"range32", range32::replay(&text[..n]));
-}
-
-fn replay_range64(rt: &(impl Files + Print + Eprint)) {
-    let mut text = room();
-    let n = read_file(rt, b"range64", &mut text);
-    report(rt, b"range64", range64::replay(&text[..n]));
-}
-
-fn main(rt: HostRuntime) {
-    replay_deviation(&rt);
-    replay_range32(&rt);
-    replay_range64(&rt);
+fn main(rt: HostRuntime) -> io::Result<()> {
+    let alloc = rt.alloc();
+    let mut statistic = Deviation::default();
+    replay(&rt, "deviation", |line| {
+        deviation::replay_line(alloc, line, &mut statistic)
+    })?;
+    replay(
+        &rt,
+        "range32",
+        |line| range::replay_line::<f32>(alloc, line),
+    )?;
+    replay(
+        &rt,
+        "range64",
+        |line| range::replay_line::<f64>(alloc, line),
+    )
 }

@@ -1,5 +1,5 @@
 -- Counting lines. At the largest u64 a counter stays.
-use Rattle.std.specs.Prelude.{ℕ, ◌+◌, cond, ltb}
+use Rattle.std.specs.Prelude.{ℕ, ◌+◌, min}
 
-unfoldable pub one_more : ℕ → ℕ
-one_more n = cond (ltb n 18446744073709551615) (n + 1) n
+abbrev pub one_more : ℕ → ℕ
+one_more n = min (n + 1) 18446744073709551615

@@ -1,258 +1,149 @@
-// One field of a line, after a cursor.
-ghost use Rattle.std.specs.Prelude.{◌≡◌, ◌&&◌, ◌≤◌, ◌-◌, length, get_or};
-ghost use Rattle.vectors_core.specs.Line.{line_finished};
+// What may stand in a field, and the memory that is lent to a call. That memory is filled with one value before; what lies past an answer must still be this value.
+ghost use Rattle.std.specs.Float.Ieee.{to_bits};
+ghost use Rattle.std.specs.Float.{binary32, binary64};
+ghost use Rattle.std.specs.Prelude.{◌≡◌, ◌↔◌, eqb, All, Bool, IsTrue};
+ghost use Rattle.vectors_core.specs.Old.{old32, old64, old_whole};
 
-use crate::digits::{decimal, hexadecimal, value32, value64};
+use std::num::{
+    f32_from_bits_with_nan, f32_to_bits_with_nan, f64_from_bits_with_nan, f64_to_bits_with_nan,
+};
 
-// A place in a line, and whether everything before it was as it should be.
-#[derive(Clone, Copy)]
-pub struct Cursor {
-    pub at: usize,
-    pub good: bool,
-}
-
-#[derive(Clone, Copy)]
-pub struct Whole {
-    pub value: u64,
-    pub cursor: Cursor,
-}
-
-#[derive(Clone, Copy)]
-pub struct Single {
-    pub value: f32,
-    pub cursor: Cursor,
-}
-
-#[derive(Clone, Copy)]
-pub struct Double {
-    pub value: f64,
-    pub cursor: Cursor,
-}
-
-// A field's bytes, from `from` to `to`; none where there is no field.
-#[derive(Clone, Copy)]
-struct Span {
-    from: usize,
-    to: usize,
-    cursor: Cursor,
-}
-
-// After the line's name, which is one letter, and its blank or LF.
-pub fn begin(line: &[u8]) -> Cursor
-    ensures { result.at ≡ 2 }
-{
-    let good = if line.len() < 2 { false } else { ends(line[1]) };
-    Cursor { at: 2, good: good }
-}
-
-pub fn name(line: &[u8]) -> u8
-    ensures { result ≡ get_or line.now 0 0 }
-{
-    if line.len() > 0 { line[0] } else { 0 }
-}
-
-// The cursor, with one more thing that it depends on.
-pub fn also(c: Cursor, good: bool) -> Cursor
-    ensures { (result.at ≡ c.at) × (result.good ≡ (c.good && good)) }
-{
-    Cursor {
-        at: c.at,
-        good: c.good && good,
+// A digit's value.
+fn digit(b: u8) -> Option<u64> {
+    match b {
+        b'0'..=b'9' => Some((b - b'0') as u64),
+        b'a'..=b'f' => Some((b - b'a') as u64 + 10),
+        _ => None,
     }
 }
 
-// The last byte, or 0.
-fn last(line: &[u8]) -> u8
-    ensures { result ≡ get_or line.now (length line.now - 1) 0 }
-{
-    let n = line.len();
-    if n == 0 {
-        return 0;
+// A whole number of at least one digit, below 2^64.
+fn whole(text: &[u8], radix: u64) -> Option<u64> {
+    if text.is_empty() {
+        return None;
     }
-    line[n - 1]
-}
-
-// Whether the place is after the last field, and an LF ends the line.
-fn ended(line: &[u8], at: usize) -> bool
-    ensures { result ≡ line_finished line.now at }
-{
-    at == line.len() && last(line) == b'\n'
-}
-
-// Whether every field was read, and all were as they should be.
-pub fn done(line: &[u8], c: Cursor) -> bool
-    ensures { result ≡ (c.good && line_finished line.now c.at) }
-{
-    c.good && ended(line, c.at)
-}
-
-fn ends(b: u8) -> bool {
-    b == b' ' || b == b'\n'
-}
-
-// The place of the blank or LF that ends the field from `from` on; the line's length where nothing ends it.
-fn end_of(line: &[u8], from: usize) -> usize
-    requires { from ≤ length line.now }
-    ensures { (from ≤ result) × (result ≤ length line.now) }
-{
-    let mut i = from;
-    while i < line.len() {
-        if ends(line[i]) {
-            return i;
+    let mut value = 0u64;
+    for b in text {
+        let d = digit(*b)?;
+        if d >= radix {
+            return None;
         }
-        i += 1;
+        value = value.checked_mul(radix)?.checked_add(d)?;
     }
-    i
-}
-
-fn span_of(line: &[u8], c: Cursor) -> Span
-    ensures from_le_to { (result.from ≤ result.to) × (result.to ≤ length line.now) }
-    ensures at_le_at { c.at ≤ result.cursor.at }
-{
-    let at = c.at;
-    if at < line.len() {
-        let to = end_of(line, at);
-        if to < line.len() {
-            return Span {
-                from: at,
-                to: to,
-                cursor: Cursor {
-                    at: to + 1,
-                    good: c.good,
-                },
-            };
-        }
-    }
-    Span {
-        from: 0,
-        to: 0,
-        cursor: Cursor {
-            at: at,
-            good: false,
-        },
-    }
-}
-
-pub fn read_whole(line: &[u8], c: Cursor) -> Whole
-    ensures { c.at ≤ result.cursor.at }
-{
-    let s = span_of(line, c);
-    let from = s.from;
-    let to = s.to;
-    let d = decimal(&line[from..to]);
-    let cursor = also(s.cursor, d.good);
-    Whole {
-        value: d.value,
-        cursor: cursor,
-    }
+    Some(value)
 }
 
 // A pattern of `n` hexadecimal digits.
-pub(crate) fn read_pattern(line: &[u8], c: Cursor, n: usize) -> Whole
-    ensures { c.at ≤ result.cursor.at }
-{
-    let s = span_of(line, c);
-    let from = s.from;
-    let to = s.to;
-    let d = hexadecimal(&line[from..to], n);
-    let cursor = also(s.cursor, d.good);
-    Whole {
-        value: d.value,
-        cursor: cursor,
+fn pattern(text: &[u8], n: usize) -> Option<u64> {
+    if text.len() != n {
+        return None;
+    }
+    whole(text, 16)
+}
+
+/// A kind of number that stands in a field.
+pub trait Field: Copy {
+    fn read(text: &[u8]) -> Option<Self>;
+}
+
+/// A kind of number that lent memory holds. A float is compared by its pattern, every not-a-number by the one that the vectors have.
+pub trait Lent: Field {
+    /// What lent memory holds before a call.
+    const OLD: Self;
+
+    ghost OLD: { Self };
+
+    ghost same: { Self → Self → Bool };
+
+    fn same(self, other: Self) -> bool
+        ensures { result ≡ same self other };
+}
+
+impl Field for u64 {
+    fn read(text: &[u8]) -> Option<u64> {
+        whole(text, 10)
     }
 }
 
-pub fn read_single(line: &[u8], c: Cursor) -> Single
-    ensures { c.at ≤ result.cursor.at }
-{
-    let b = read_pattern(line, c, 8);
-    let cursor = b.cursor;
-    Single {
-        value: value32((b.value % 0x1_0000_0000) as u32),
-        cursor: cursor,
+impl Lent for u64 {
+    const OLD: u64 = 12345678;
+
+    ghost OLD = { old_whole };
+
+    ghost same = { eqb };
+
+    fn same(self, other: u64) -> bool {
+        self == other
     }
 }
 
-pub fn read_double(line: &[u8], c: Cursor) -> Double
-    ensures { c.at ≤ result.cursor.at }
-{
-    let b = read_pattern(line, c, 16);
-    let cursor = b.cursor;
-    Double {
-        value: value64(b.value),
-        cursor: cursor,
+impl Field for u16 {
+    fn read(text: &[u8]) -> Option<u16> {
+        u16::try_from(whole(text, 10)?).ok()
     }
 }
 
-// The one byte of a field that is a letter, and the cursor after it.
-#[derive(Clone, Copy)]
-pub struct Letter {
-    pub value: u8,
-    pub cursor: Cursor,
-}
-
-pub fn read_letter(line: &[u8], c: Cursor) -> Letter
-    ensures { c.at ≤ result.cursor.at }
-{
-    let s = span_of(line, c);
-    let from = s.from;
-    let to = s.to;
-    let value = if from < to { line[from] } else { 0 };
-    let cursor = also(s.cursor, to - from == 1);
-    Letter {
-        value: value,
-        cursor: cursor,
-    }
-}
-
-// A whole number within i32, with `-` in front where it is negative.
-#[derive(Clone, Copy)]
-pub struct Signed {
-    pub value: i32,
-    pub cursor: Cursor,
-}
-
-// -n is the complement of n - 1.
-fn signed_of(negative: bool, n: u64) -> i32 {
-    if !negative {
-        return (n % 0x8000_0000) as i32;
-    }
-    if n == 0 {
-        return 0;
-    }
-    !(((n - 1) % 0x8000_0000) as i32)
-}
-
-// The place after a `-` at `from`, or `from`.
-fn behind_minus(line: &[u8], from: usize, to: usize) -> usize
-    requires from_le_to { from ≤ to }
-    requires to_in_bounds { to ≤ length line.now }
-    ensures { result ≤ to }
-{
-    if from < to {
-        if line[from] == b'-' {
-            return from + 1;
+/// With `-` in front where it is negative.
+impl Field for i32 {
+    fn read(text: &[u8]) -> Option<i32> {
+        match text {
+            [b'-', digits @ ..] => i32::try_from(-i64::try_from(whole(digits, 10)?).ok()?).ok(),
+            digits => i32::try_from(whole(digits, 10)?).ok(),
         }
     }
-    from
 }
 
-pub fn read_signed(line: &[u8], c: Cursor) -> Signed
-    ensures { c.at ≤ result.cursor.at }
-{
-    let s = span_of(line, c);
-    let to = s.to;
-    let first = behind_minus(line, s.from, to);
-    let negative = first != s.from;
-    let d = decimal(&line[first..to]);
-    let most = if negative {
-        0x8000_0000u64
-    } else {
-        0x7fff_ffffu64
-    };
-    let cursor = also(s.cursor, d.good && d.value <= most);
-    Signed {
-        value: signed_of(negative, d.value),
-        cursor: cursor,
+/// A flag.
+impl Field for bool {
+    fn read(text: &[u8]) -> Option<bool> {
+        match text {
+            b"0" => Some(false),
+            b"1" => Some(true),
+            _ => None,
+        }
     }
+}
+
+impl Field for f64 {
+    fn read(text: &[u8]) -> Option<f64> {
+        Some(f64_from_bits_with_nan(pattern(text, 16)?))
+    }
+}
+
+impl Lent for f64 {
+    const OLD: f64 = 12345.678;
+
+    ghost OLD = { old64 };
+
+    ghost same = { λ x y. eqb (to_bits binary64 x) (to_bits binary64 y) };
+
+    fn same(self, other: f64) -> bool {
+        f64_to_bits_with_nan(self) == f64_to_bits_with_nan(other)
+    }
+}
+
+impl Field for f32 {
+    fn read(text: &[u8]) -> Option<f32> {
+        let bits = u32::try_from(pattern(text, 8)?).ok()?;
+        Some(f32_from_bits_with_nan(bits))
+    }
+}
+
+impl Lent for f32 {
+    const OLD: f32 = 12345.678;
+
+    ghost OLD = { old32 };
+
+    ghost same = { λ x y. eqb (to_bits binary32 x) (to_bits binary32 y) };
+
+    fn same(self, other: f32) -> bool {
+        f32_to_bits_with_nan(self) == f32_to_bits_with_nan(other)
+    }
+}
+
+/// Whether lent memory holds what it held before a call.
+pub fn is_untouched<T: Lent>(xs: &[T]) -> bool
+    ensures { IsTrue result ↔ All (λ x. IsTrue (T.same x T.OLD)) xs.now }
+{
+    xs.iter().all(|x| x.same(T::OLD))
 }

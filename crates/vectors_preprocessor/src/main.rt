@@ -1,41 +1,34 @@
 // Replays lists of calls that the Rust has answered (docs/VECTORS.md) on the preprocessor's calls, and prints how many lines agree and how many differ.
 #![tactic(auto)]
 
+mod build;
+mod extrapolation;
 mod learn;
-mod lists;
-mod preprocessor;
-mod settings;
+mod point;
+mod queries;
+mod replayed;
 mod state;
 mod text;
 
+use replayed::{Replayed, replay_line};
+use std::alloc::Global;
+use std::io;
 use std::rt::Files;
-use vectors_core::lines::{read_file, report, room};
+use vectors_core::tally::replay;
 
-fn replay_preprocessor(rt: &(impl Files + Print + Eprint), path: &[u8]) {
-    let mut text = room();
-    let mut statistics = [0.0f64; 260];
-    let mut inputs = [0.0f32; 1030];
-    let mut point = [0.0f32; 1100];
-    let mut times = [0u64; 70];
-    let mut initial_values = [0.0f32; 32000];
-    let mut initial_timestamps = [0u64; 2000];
-    let n = read_file(rt, path, &mut text);
-    let tally = preprocessor::replay(
-        &text[..n],
-        &mut statistics,
-        &mut inputs,
-        &mut point,
-        &mut times,
-        &mut initial_values,
-        &mut initial_timestamps,
-    );
-    report(rt, path, tally);
+fn replay_file(
+    rt: &(impl Files + Alloc<A = Global> + Print + Eprint),
+    name: &str,
+) -> io::Result<()> {
+    let alloc = rt.alloc();
+    let mut state = Replayed::new(alloc)?;
+    replay(rt, name, |line| replay_line(&mut state, alloc, line))
 }
 
-fn main(rt: HostRuntime) {
-    replay_preprocessor(&rt, b"preprocessor_1");
-    replay_preprocessor(&rt, b"preprocessor_6");
-    replay_preprocessor(&rt, b"preprocessor_far");
-    replay_preprocessor(&rt, b"preprocessor_gap");
-    replay_preprocessor(&rt, b"preprocessor_edges");
+fn main(rt: HostRuntime) -> io::Result<()> {
+    replay_file(&rt, "preprocessor_1")?;
+    replay_file(&rt, "preprocessor_6")?;
+    replay_file(&rt, "preprocessor_far")?;
+    replay_file(&rt, "preprocessor_gap")?;
+    replay_file(&rt, "preprocessor_edges")
 }

@@ -3,20 +3,12 @@
 
 mod transformer;
 
-use std::rt::Files;
-use vectors_core::lines::{read_file, report, room};
+use std::io;
+use transformer::Transformed;
+use vectors_core::tally::replay;
 
-fn replay_transformer(rt: &(impl Files + Print + Eprint)) {
-    let mut text = room();
-    let mut statistics = [0.0f64; 260];
-    let n = read_file(rt, b"transformer", &mut text);
-    report(
-        rt,
-        b"transformer",
-        transformer::replay(&text[..n], &mut statistics),
-    );
-}
-
-fn main(rt: HostRuntime) {
-    replay_transformer(&rt);
+fn main(rt: HostRuntime) -> io::Result<()> {
+    let alloc = rt.alloc();
+    let mut state = Transformed::new();
+    replay(&rt, "transformer", |line| state.replay_line(alloc, line))
 }

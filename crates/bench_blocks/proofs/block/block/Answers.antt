@@ -30,8 +30,8 @@ returns-then-r c =
       written_in_bounds = omega (arith, s.auto, s.ensures.fits);
     }
 
-pub end_at-s-requires : goal.end_at-s-requires
-end_at-s-requires c =
+pub end_at-last-requires : goal.end_at-last-requires
+end_at-last-requires c =
     let a = c.args in
     let s = c.cells-r in
     record { next_in_bounds = s.ensures.read; at_in_bounds = omega (arith, s.auto, s.ensures.room c.if-r.false) }
@@ -40,7 +40,7 @@ pub overflow_add-result : goal.overflow_add-result
 overflow_add-result c =
     let a = c.args in
     let s = c.cells-r in
-    omega (arith, s.ensures.room c.if-r.false, c.end_at-s.ensures.fits, c.well_formed)
+    omega (arith, s.ensures.room c.if-r.false, c.end_at-last.ensures.fits, c.well_formed)
 
 pub shape_of-statistics : goal.shape_of-statistics
 shape_of-statistics c =
@@ -70,7 +70,7 @@ pub returns : goal.returns
 returns c =
     let a = c.args in
     let s = c.cells-r in
-    let t = c.end_at-s in record {
+    let t = c.end_at-last in record {
       full_after = block_closed a.b (lent a.statistics.now a.last_shingled_input.now a.last_shingled_point.now a.previous_timestamps.now a.initial_values.now
           a.initial_timestamps.now) a.point.now a.text.now a.out.now a.ends (block_printed s.result.bench
           (lent s.new.statistics s.new.last_shingled_input s.new.last_shingled_point s.new.previous_timestamps s.new.initial_values s.new.initial_timestamps)

@@ -15,8 +15,8 @@ returns-then-is_unfit c =
       out_after = turn_refused a.run
           (lent a.statistics.now a.last_shingled_input.now a.last_shingled_point.now a.previous_timestamps.now a.initial_values.now a.initial_timestamps.now)
           a.point.now a.text.now a.got a.out.now u.result u.ensures c.if-is_unfit.true;
-      written_in_bounds = omega arith;
-      kept_in_bounds = λ z. absurd (omega (arith, z));
+      written_in_bounds = tt;
+      kept_in_bounds = tt;
     }
 
 pub standing_in-n-requires : goal.standing_in-n-requires
@@ -57,7 +57,7 @@ returns c =
     let u = c.is_unfit in
     let h = unfit_false a.run.kept a.got (length a.text.now) (length a.out.now) (sym u.ensures ∙ c.if-is_unfit.false) in
     let n = c.standing_in-n in
-    let q = c.is_end-ends in
+    let q = c.is_end in
     let s = c.block-r in
     let k = c.rest_of-rest in
     let m = c.carry in record {
@@ -66,5 +66,5 @@ returns c =
           (lent s.new.statistics s.new.last_shingled_input s.new.last_shingled_point s.new.previous_timestamps s.new.initial_values s.new.initial_timestamps)
           s.new.point s.result.read (output s.result.written s.new.out) s.result.full) s.ensures.full_after k.result k.ensures.value m.new.text m.ensures;
       written_in_bounds = omega (arith, s.auto, s.ensures.written_in_bounds);
-      kept_in_bounds = λ z. omega (arith, m.auto, k.ensures.upper_bound, n.ensures.upper_bound, h.2);
+      kept_in_bounds = omega (arith, m.auto, k.ensures.upper_bound, n.ensures.upper_bound, h.2);
     }

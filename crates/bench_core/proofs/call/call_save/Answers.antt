@@ -1,18 +1,20 @@
--- `bench_core::call::call_save` meets its contract. Assumes nothing.
+use native.Mathlib.Omega.{arith}
+use mathlib.Core.Path.{refl}
+use Rattle.refusal.proofs.RefusalLaws.{is_numbered}
 use Rattle.bench_core.proofs.TurnLaws.{save_refused, save_done}
 use Rattle.trcf.specs.View.{lent}
 use Rattle.bench_core.proofs.call.call_save.Goals as goal
 
-pub returns-then-row-ne0 : goal.returns-then-row-ne0
-returns-then-row-ne0 c =
+pub returns-in-Ok : goal.returns-in-Ok
+returns-in-Ok c =
     let a = c.args in
-    save_refused c.every_right-table.result c.every_right-table.ensures a.head
+    save_done c.every_right.result c.every_right.ensures a.head
     (lent a.statistics.now a.last_shingled_input.now a.last_shingled_point.now a.previous_timestamps.now a.initial_values.now a.initial_timestamps.now)
-    a.out.now c.save-r.ensures c.if-row-ne0.true c.print_no.ensures
+    a.out.now c.in-Ok.ensures refl
 
-pub returns : goal.returns
-returns c =
+pub returns-in-Err : goal.returns-in-Err
+returns-in-Err c =
     let a = c.args in
-    save_done c.every_right-table.result c.every_right-table.ensures a.head
+    save_refused c.every_right.result c.every_right.ensures a.head
     (lent a.statistics.now a.last_shingled_input.now a.last_shingled_point.now a.previous_timestamps.now a.initial_values.now a.initial_timestamps.now)
-    a.out.now c.save-r.ensures c.if-row-ne0.false
+    a.out.now c.in-Err.ensures (λ z. absurd (omega (arith, z, is_numbered c.in-Err.refusal))) c.print_no.ensures

@@ -1,147 +1,135 @@
 -- `settle_core::field::fields_at` meets its contract. Assumes nothing.
-use mathlib.Core.Path.{sym, ap, ◌∙◌}
-use mathlib.Core.Bool.{Bool}
+use mathlib.Core.Path.{◌≡◌, sym, ap, ◌∙◌}
+use mir.Syntax.{w128}
+use mir.Val.{to_z, of_z}
+use Rattle.std.proofs.Common.{rules}
+use Rattle.std.specs.Prelude.{Option}
+use Rattle.std.specs.Option.{option_map}
 use Rattle.settling.specs.Steps.{signal_of, option_of}
-use borrow.Author.Tests.{not-true, not-false}
-use Rattle.settle_core.specs.Input.{fields_of}
+use Rattle.settling.specs.declared.signal.Signal as held
+use Rattle.settle_core.specs.Input.{fields_of, limited}
 use Rattle.settle_core.proofs.FieldLaws.{stops, goes_on, null_end, null_not}
 use Rattle.settle_core.proofs.field.fields_at.Goals as goal
 
-pub returns-then-not-a : goal.returns-then-not-a
+pub returns-in_err-base : goal.returns-in_err-base
 unfolding fields_of
-returns-then-not-a c =
+returns-in_err-base c =
     let a = c.args in
     let t = a.text.now in
-    let p1 = c.part_at-a in
-    ap (λ (b : Bool). option_of b (signal_of c.no_signal.result.signal)) c.no_signal.ensures
-    ∙ sym (stops t a.at 9 p1.result p1.ensures.text_value _ (not-true p1.result.found c.if-not-a.true))
+    ap (λ (r : Option held.Signal). option_of (option_map signal_of r)) c.from_residual.ensures
+    ∙ sym (stops t (a.at) 9 _ c.in_err-base.ensures.text_value)
 
-pub part_at-b-requires : goal.part_at-b-requires
-part_at-b-requires c = c.part_at-a.ensures.next_in_bounds
-
-pub returns-then-not-b : goal.returns-then-not-b
+pub returns-in_err-ramp : goal.returns-in_err-ramp
 unfolding fields_of
-returns-then-not-b c =
+returns-in_err-ramp c =
     let a = c.args in
     let t = a.text.now in
-    let p1 = c.part_at-a in
-    let p2 = c.part_at-b in
-    ap (λ (b : Bool). option_of b (signal_of c.no_signal-then-not-b.result.signal)) c.no_signal-then-not-b.ensures
-    ∙ sym (goes_on t a.at 9 p1.result p1.ensures.text_value _ (not-false p1.result.found c.if-not-a.false)
-    ∙ stops t p1.result.next 9 p2.result p2.ensures.text_value _ (not-true p2.result.found c.if-not-b.true))
+    let p1 = c.in_ok-base in
+    ap (λ (r : Option held.Signal). option_of (option_map signal_of r)) c.from_residual-in_err-ramp.ensures
+    ∙ sym (goes_on t (a.at) 9 _ p1.base.value p1.base.next p1.ensures.text_value
+    ∙ stops t (p1.base.next) 9 _ c.in_err-ramp.ensures.text_value)
 
-pub part_at-c-requires : goal.part_at-c-requires
-part_at-c-requires c = c.part_at-b.ensures.next_in_bounds
-
-pub returns-then-not-c : goal.returns-then-not-c
+pub returns-in_err-ripple : goal.returns-in_err-ripple
 unfolding fields_of
-returns-then-not-c c =
+returns-in_err-ripple c =
     let a = c.args in
     let t = a.text.now in
-    let p1 = c.part_at-a in
-    let p2 = c.part_at-b in
-    let p3 = c.part_at-c in
-    ap (λ (b : Bool). option_of b (signal_of c.no_signal-then-not-c.result.signal)) c.no_signal-then-not-c.ensures
-    ∙ sym (goes_on t a.at 9 p1.result p1.ensures.text_value _ (not-false p1.result.found c.if-not-a.false)
-    ∙ goes_on t p1.result.next 9 p2.result p2.ensures.text_value _ (not-false p2.result.found c.if-not-b.false)
-    ∙ stops t p2.result.next 9 p3.result p3.ensures.text_value _ (not-true p3.result.found c.if-not-c.true))
+    let p1 = c.in_ok-base in
+    let p2 = c.in_ok-ramp in
+    ap (λ (r : Option held.Signal). option_of (option_map signal_of r)) c.from_residual-in_err-ripple.ensures
+    ∙ sym (goes_on t (a.at) 9 _ p1.base.value p1.base.next p1.ensures.text_value
+    ∙ goes_on t (p1.base.next) 9 _ p2.ramp.value p2.ramp.next p2.ensures.text_value
+    ∙ stops t (p2.ramp.next) 9 _ c.in_err-ripple.ensures.text_value)
 
-pub part_at-d-requires : goal.part_at-d-requires
-part_at-d-requires c = c.part_at-c.ensures.next_in_bounds
-
-pub returns-then-not-d : goal.returns-then-not-d
+pub returns-in_err-jump : goal.returns-in_err-jump
 unfolding fields_of
-returns-then-not-d c =
+returns-in_err-jump c =
     let a = c.args in
     let t = a.text.now in
-    let p1 = c.part_at-a in
-    let p2 = c.part_at-b in
-    let p3 = c.part_at-c in
-    let p4 = c.part_at-d in
-    ap (λ (b : Bool). option_of b (signal_of c.no_signal-then-not-d.result.signal)) c.no_signal-then-not-d.ensures
-    ∙ sym (goes_on t a.at 9 p1.result p1.ensures.text_value _ (not-false p1.result.found c.if-not-a.false)
-    ∙ goes_on t p1.result.next 9 p2.result p2.ensures.text_value _ (not-false p2.result.found c.if-not-b.false)
-    ∙ goes_on t p2.result.next 9 p3.result p3.ensures.text_value _ (not-false p3.result.found c.if-not-c.false)
-    ∙ stops t p3.result.next 9 p4.result p4.ensures.text_value _ (not-true p4.result.found c.if-not-d.true))
+    let p1 = c.in_ok-base in
+    let p2 = c.in_ok-ramp in
+    let p3 = c.in_ok-ripple in
+    ap (λ (r : Option held.Signal). option_of (option_map signal_of r)) c.from_residual-in_err-jump.ensures
+    ∙ sym (goes_on t (a.at) 9 _ p1.base.value p1.base.next p1.ensures.text_value
+    ∙ goes_on t (p1.base.next) 9 _ p2.ramp.value p2.ramp.next p2.ensures.text_value
+    ∙ goes_on t (p2.ramp.next) 9 _ p3.ripple.value p3.ripple.next p3.ensures.text_value
+    ∙ stops t (p3.ripple.next) 9 _ c.in_err-jump.ensures.text_value)
 
-pub part_at-e-requires : goal.part_at-e-requires
-part_at-e-requires c = c.part_at-d.ensures.next_in_bounds
-
-pub returns-then-not-e : goal.returns-then-not-e
+pub returns-in_err-place : goal.returns-in_err-place
 unfolding fields_of
-returns-then-not-e c =
+returns-in_err-place c =
     let a = c.args in
     let t = a.text.now in
-    let p1 = c.part_at-a in
-    let p2 = c.part_at-b in
-    let p3 = c.part_at-c in
-    let p4 = c.part_at-d in
-    let p5 = c.part_at-e in
-    ap (λ (b : Bool). option_of b (signal_of c.no_signal-then-not-e.result.signal)) c.no_signal-then-not-e.ensures
-    ∙ sym (goes_on t a.at 9 p1.result p1.ensures.text_value _ (not-false p1.result.found c.if-not-a.false)
-    ∙ goes_on t p1.result.next 9 p2.result p2.ensures.text_value _ (not-false p2.result.found c.if-not-b.false)
-    ∙ goes_on t p2.result.next 9 p3.result p3.ensures.text_value _ (not-false p3.result.found c.if-not-c.false)
-    ∙ goes_on t p3.result.next 9 p4.result p4.ensures.text_value _ (not-false p4.result.found c.if-not-d.false)
-    ∙ stops t p4.result.next 9 p5.result p5.ensures.text_value _ (not-true p5.result.found c.if-not-e.true))
+    let p1 = c.in_ok-base in
+    let p2 = c.in_ok-ramp in
+    let p3 = c.in_ok-ripple in
+    let p4 = c.in_ok-jump in
+    ap (λ (r : Option held.Signal). option_of (option_map signal_of r)) c.from_residual-in_err-place.ensures
+    ∙ sym (goes_on t (a.at) 9 _ p1.base.value p1.base.next p1.ensures.text_value
+    ∙ goes_on t (p1.base.next) 9 _ p2.ramp.value p2.ramp.next p2.ensures.text_value
+    ∙ goes_on t (p2.ramp.next) 9 _ p3.ripple.value p3.ripple.next p3.ensures.text_value
+    ∙ goes_on t (p3.ripple.next) 9 _ p4.jump.value p4.jump.next p4.ensures.text_value
+    ∙ stops t (p4.jump.next) 9 _ c.in_err-place.ensures.text_value)
 
-pub part_at-f-requires : goal.part_at-f-requires
-part_at-f-requires c = c.part_at-e.ensures.next_in_bounds
-
-pub returns-then-not-f : goal.returns-then-not-f
+pub returns-in_err-readings : goal.returns-in_err-readings
 unfolding fields_of
-returns-then-not-f c =
+returns-in_err-readings c =
     let a = c.args in
     let t = a.text.now in
-    let p1 = c.part_at-a in
-    let p2 = c.part_at-b in
-    let p3 = c.part_at-c in
-    let p4 = c.part_at-d in
-    let p5 = c.part_at-e in
-    let p6 = c.part_at-f in
-    ap (λ (b : Bool). option_of b (signal_of c.no_signal-then-not-f.result.signal)) c.no_signal-then-not-f.ensures
-    ∙ sym (goes_on t a.at 9 p1.result p1.ensures.text_value _ (not-false p1.result.found c.if-not-a.false)
-    ∙ goes_on t p1.result.next 9 p2.result p2.ensures.text_value _ (not-false p2.result.found c.if-not-b.false)
-    ∙ goes_on t p2.result.next 9 p3.result p3.ensures.text_value _ (not-false p3.result.found c.if-not-c.false)
-    ∙ goes_on t p3.result.next 9 p4.result p4.ensures.text_value _ (not-false p4.result.found c.if-not-d.false)
-    ∙ goes_on t p4.result.next 9 p5.result p5.ensures.text_value _ (not-false p5.result.found c.if-not-e.false)
-    ∙ stops t p5.result.next 10 p6.result p6.ensures.text_value _ (not-true p6.result.found c.if-not-f.true))
+    let p1 = c.in_ok-base in
+    let p2 = c.in_ok-ramp in
+    let p3 = c.in_ok-ripple in
+    let p4 = c.in_ok-jump in
+    let p5 = c.in_ok-place in
+    ap (λ (r : Option held.Signal). option_of (option_map signal_of r)) c.from_residual-in_err-readings.ensures
+    ∙ sym (goes_on t (a.at) 9 _ p1.base.value p1.base.next p1.ensures.text_value
+    ∙ goes_on t (p1.base.next) 9 _ p2.ramp.value p2.ramp.next p2.ensures.text_value
+    ∙ goes_on t (p2.ramp.next) 9 _ p3.ripple.value p3.ripple.next p3.ensures.text_value
+    ∙ goes_on t (p3.ripple.next) 9 _ p4.jump.value p4.jump.next p4.ensures.text_value
+    ∙ goes_on t (p4.jump.next) 9 _ p5.place.value p5.place.next p5.ensures.text_value
+    ∙ stops t (p5.place.next) 10 _ c.in_err-readings.ensures.text_value)
 
-pub returns-then-f-text : goal.returns-then-f-text
+pub returns-then-readings-text : goal.returns-then-readings-text
 unfolding fields_of
-returns-then-f-text c =
+returns-then-readings-text c =
     let a = c.args in
     let t = a.text.now in
-    let p1 = c.part_at-a in
-    let p2 = c.part_at-b in
-    let p3 = c.part_at-c in
-    let p4 = c.part_at-d in
-    let p5 = c.part_at-e in
-    let p6 = c.part_at-f in
-    ap (λ (b : Bool). option_of b (signal_of c.no_signal-then-f-text.result.signal)) c.no_signal-then-f-text.ensures
-    ∙ sym (goes_on t a.at 9 p1.result p1.ensures.text_value _ (not-false p1.result.found c.if-not-a.false)
-    ∙ goes_on t p1.result.next 9 p2.result p2.ensures.text_value _ (not-false p2.result.found c.if-not-b.false)
-    ∙ goes_on t p2.result.next 9 p3.result p3.ensures.text_value _ (not-false p3.result.found c.if-not-c.false)
-    ∙ goes_on t p3.result.next 9 p4.result p4.ensures.text_value _ (not-false p4.result.found c.if-not-d.false)
-    ∙ goes_on t p4.result.next 9 p5.result p5.ensures.text_value _ (not-false p5.result.found c.if-not-e.false)
-    ∙ goes_on t p5.result.next 10 p6.result p6.ensures.text_value _ (not-false p6.result.found c.if-not-f.false)
-    ∙ rw (null_not t p6.result.next c.if-f-text.true p6.ensures.next_in_bounds))
+    let p1 = c.in_ok-base in
+    let p2 = c.in_ok-ramp in
+    let p3 = c.in_ok-ripple in
+    let p4 = c.in_ok-jump in
+    let p5 = c.in_ok-place in
+    let p6 = c.in_ok-readings in
+    sym (goes_on t (a.at) 9 _ p1.base.value p1.base.next p1.ensures.text_value
+    ∙ goes_on t (p1.base.next) 9 _ p2.ramp.value p2.ramp.next p2.ensures.text_value
+    ∙ goes_on t (p2.ramp.next) 9 _ p3.ripple.value p3.ripple.next p3.ensures.text_value
+    ∙ goes_on t (p3.ripple.next) 9 _ p4.jump.value p4.jump.next p4.ensures.text_value
+    ∙ goes_on t (p4.jump.next) 9 _ p5.place.value p5.place.next p5.ensures.text_value
+    ∙ goes_on t (p5.place.next) 10 _ p6.readings.value p6.readings.next p6.ensures.text_value
+    ∙ rw (null_not t p6.readings.next c.if-readings-text.true p6.ensures.next_in_bounds))
 
 pub returns : goal.returns
 unfolding fields_of
 returns c =
     let a = c.args in
     let t = a.text.now in
-    let p1 = c.part_at-a in
-    let p2 = c.part_at-b in
-    let p3 = c.part_at-c in
-    let p4 = c.part_at-d in
-    let p5 = c.part_at-e in
-    let p6 = c.part_at-f in
+    let p1 = c.in_ok-base in
+    let p2 = c.in_ok-ramp in
+    let p3 = c.in_ok-ripple in
+    let p4 = c.in_ok-jump in
+    let p5 = c.in_ok-place in
+    let p6 = c.in_ok-readings in
+    let z1 : to_z w128 (of_z w128 p1.base.value) ≡ p1.base.value = search rules in
+    let z2 : to_z w128 (of_z w128 p2.ramp.value) ≡ p2.ramp.value = search rules in
+    let z3 : to_z w128 (of_z w128 p3.ripple.value) ≡ p3.ripple.value = search rules in
+    let z4 : to_z w128 (of_z w128 p4.jump.value) ≡ p4.jump.value = search rules in
+    let z5 : to_z w128 (of_z w128 p5.place.value) ≡ p5.place.value = search rules in
+    let z6 : to_z w128 (of_z w128 p6.readings.value) ≡ p6.readings.value = search rules in
     c.signal_of.ensures
-    ∙ sym (goes_on t a.at 9 p1.result p1.ensures.text_value _ (not-false p1.result.found c.if-not-a.false)
-    ∙ goes_on t p1.result.next 9 p2.result p2.ensures.text_value _ (not-false p2.result.found c.if-not-b.false)
-    ∙ goes_on t p2.result.next 9 p3.result p3.ensures.text_value _ (not-false p3.result.found c.if-not-c.false)
-    ∙ goes_on t p3.result.next 9 p4.result p4.ensures.text_value _ (not-false p4.result.found c.if-not-d.false)
-    ∙ goes_on t p4.result.next 9 p5.result p5.ensures.text_value _ (not-false p5.result.found c.if-not-e.false)
-    ∙ goes_on t p5.result.next 10 p6.result p6.ensures.text_value _ (not-false p6.result.found c.if-not-f.false)
-    ∙ rw (null_end t p6.result.next c.if-f-text.false))
+    ∙ sym (goes_on t (a.at) 9 _ p1.base.value p1.base.next p1.ensures.text_value
+    ∙ goes_on t (p1.base.next) 9 _ p2.ramp.value p2.ramp.next p2.ensures.text_value
+    ∙ goes_on t (p2.ramp.next) 9 _ p3.ripple.value p3.ripple.next p3.ensures.text_value
+    ∙ goes_on t (p3.ripple.next) 9 _ p4.jump.value p4.jump.next p4.ensures.text_value
+    ∙ goes_on t (p4.jump.next) 9 _ p5.place.value p5.place.next p5.ensures.text_value
+    ∙ goes_on t (p5.place.next) 10 _ p6.readings.value p6.readings.next p6.ensures.text_value
+    ∙ rw (null_end t p6.readings.next c.if-readings-text.false) (λ i. limited (sym z1 i) (sym z2 i) (sym z3 i) (sym z4 i) (sym z5 i) (sym z6 i)))

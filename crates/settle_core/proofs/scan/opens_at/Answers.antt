@@ -2,7 +2,8 @@
 use mathlib.Core.Path.{◌≡◌, ap, ◌∙◌}
 use native.Mathlib.Omega.{arith}
 use Prim.Native.Nat.{ℕ, ◌+◌, ◌-◌}
-use lib.ListN.{take, drop, length-drop}
+use lib.ListN.{take, drop}
+use Rattle.std.proofs.Common.{rules}
 use Rattle.bench_core.specs.declared.line.Name.{Name}
 use Rattle.bench_core.specs.declared.line.Name.TheVariants.{Set}
 use Rattle.bench_core.specs.Line.{is_named, name_of}
@@ -11,21 +12,6 @@ use Rattle.settle_core.specs.Input.{opens}
 use Rattle.settle_core.proofs.ScanLaws.{rest_is}
 use Rattle.settle_core.proofs.scan.opens_at.Goals as goal
 
-pub overflow_add-at : goal.overflow_add-at
-overflow_add-at c =
-    let n = c.cell_end-n in
-    omega (arith, n.ensures.upper_bound, n.ensures.text_len_bound)
-
-pub slice_bounds-name_of-count : goal.slice_bounds-name_of-count
-slice_bounds-name_of-count c = omega arith
-
-pub slice_bounds-name_of-end : goal.slice_bounds-name_of-end
-slice_bounds-name_of-end c =
-    let a = c.args in
-    let n = c.cell_end-n in
-    let e : n.result ≡ cell_length (drop a.at a.text.now) = n.ensures.value ∙ ap cell_length (rest_is a.text.now a.at) in
-    omega (arith, n.ensures.upper_bound, length-drop a.at a.text.now, c.requires)
-
 pub returns : goal.returns
 unfolding opens
 returns c =
@@ -33,5 +19,5 @@ returns c =
     let n = c.cell_end-n in
     let e : n.result ≡ cell_length (drop a.at a.text.now) = n.ensures.value ∙ ap cell_length (rest_is a.text.now a.at) in
     let q : a.at + n.result - a.at ≡ cell_length (drop a.at a.text.now) = omega (arith, e) in
-    c.is_named.ensures
-    ∙ ap (λ (m : Name). is_named m Set) (c.name_of.ensures ∙ ap (λ (k : ℕ). name_of (take k (drop a.at a.text.now))) q)
+    let s : c.eq.result ≡ is_named c.name_of.result Set = search rules in
+    s ∙ ap (λ (m : Name). is_named m Set) (c.name_of.ensures ∙ ap (λ (k : ℕ). name_of (take k (drop a.at a.text.now))) q)

@@ -35,8 +35,8 @@ overflow_add-at c =
     let z = turn_within L.i (length A.out.now.values.now) A.a (length A.range.now.lower.now) (omega arith) P.a_in_bounds.2 in
     omega (arith, P.m_lt_a, c.well_formed)
 
-pub at-requires : goal.at-requires
-at-requires c =
+pub read_at-requires : goal.read_at-requires
+read_at-requires c =
     let A = c.args in
     let L = c.loop-i in
     let P = c.requires in
@@ -46,8 +46,8 @@ at-requires c =
     let z = turn_within L.i n A.a (length A.range.now.lower.now) (omega arith) P.a_in_bounds.2 in
     (omega (arith, P.m_lt_a), omega (arith, P.m_lt_a), omega (arith, P.m_lt_a))
 
-pub put-requires : goal.put-requires
-put-requires c =
+pub write_at-requires : goal.write_at-requires
+write_at-requires c =
     let S = c.loop-i.invariant.3 in
     let P = c.requires.upper_out_len in
     (omega (arith, S.values_length), omega (arith, P.0, S.upper_length), omega (arith, P.1, S.lower_length))
@@ -58,13 +58,13 @@ loop-i-preserved c =
     let A = c.args in
     let L = c.loop-i in
     let P = c.requires in
-    let R = c.invert.ensures ∙ ap (time_by A.clock.gap A.clock.factor A.clock.scale A.clock.drift) c.at.ensures in
-    let W = c.put.ensures.after in
+    let R = c.invert.ensures ∙ ap (time_by A.clock.gap A.clock.factor A.clock.scale A.clock.drift) c.read_at.ensures in
+    let W = c.write_at.ensures.after in
     let i : L.i < length A.out.now.values.now = omega arith in (
       ap (λ (v : Ranges). v.values) W ∙ written_more A.out.now.values.now _ L.i L.out.values.now _ i L.invariant.0 (ap (λ (q : Range). q.value) R),
       ap (λ (v : Ranges). v.upper) W ∙ written_more A.out.now.upper.now _ L.i L.out.upper.now _ (omega (arith, P.upper_out_len.0)) L.invariant.1 (ap (λ (q : Range). q.upper) R),
       ap (λ (v : Ranges). v.lower) W ∙ written_more A.out.now.lower.now _ L.i L.out.lower.now _ (omega (arith, P.upper_out_len.1)) L.invariant.2 (ap (λ (q : Range). q.lower) R),
-      same_since L.invariant.3 c.put.ensures.loans,
+      same_since L.invariant.3 c.write_at.ensures.loans,
     )
 
 pub returns-clause-after : goal.returns-clause-after

@@ -1,0 +1,117 @@
+// Replays a file of inputs and outputs on a program, and says how many outputs agree. Each input of the file has a line with the lengths of input and output
+// in decimal, parted by a blank, and then both. It uses nothing of the port.
+#![tactic(auto)]
+
+ghost use Rattle.std.specs.Prelude.{◌≤◌, ◌<◌, IfSome, length};
+
+use std::alloc::Global;
+use std::rt::Files;
+use std::{fs, io};
+
+// Where an input of a text stands: its bytes at from..middle, and its output's at middle..next.
+#[derive(Clone, Copy)]
+struct Case {
+    from: usize,
+    middle: usize,
+    next: usize,
+}
+
+// A decimal number, and the byte after the one that ends it.
+#[derive(Clone, Copy)]
+struct Length {
+    value: usize,
+    next: usize,
+}
+
+// The digits from `at` on, and the byte that ends them: the last seven of a longer number. None where the text ends with them.
+fn length_at(text: &[u8], at: usize) -> Option<Length>
+    requires { at ≤ length text.now }
+    ensures { IfSome result (λ found. (found.value ≤ 9999999) × (at < found.next) × (found.next ≤ length text.now)) }
+{
+    let mut value = 0usize;
+    for i in at..text.len() {
+        match text[i] {
+            b'0'..=b'9' => value = value % 1000000 * 10 + (text[i] - b'0') as usize,
+            _ => return Some(Length { value, next: i + 1 }),
+        }
+    }
+    None
+}
+
+// The input whose line stands from `at` on. None where the text ends before it does.
+fn case_at(text: &[u8], at: usize) -> Option<Case>
+    requires { at ≤ length text.now }
+    ensures { IfSome result (λ case. (case.from ≤ case.middle) × (case.middle ≤ case.next) × (case.next ≤ length text.now) × (at < case.next)) }
+{
+    let input = length_at(text, at)?;
+    let output = length_at(text, input.next)?;
+    let from = output.next;
+    if text.len() - from < input.value {
+        return None;
+    }
+    let middle = from + input.value;
+    if text.len() - middle < output.value {
+        return None;
+    }
+    Some(Case {
+        from,
+        middle,
+        next: middle + output.value,
+    })
+}
+
+// How many inputs agree and how many do not.
+#[derive(Clone, Copy)]
+struct Tally {
+    agree: u64,
+    differ: u64,
+}
+
+fn counted(t: Tally, agrees: bool) -> Tally {
+    if agrees {
+        Tally {
+            agree: t.agree.saturating_add(1),
+            ..t
+        }
+    } else {
+        Tally {
+            differ: t.differ.saturating_add(1),
+            ..t
+        }
+    }
+}
+
+// Every input of the text, in order. What is left of a text that is cut counts as one that differs.
+fn replay<F: FnMut(&[u8], &[u8]) -> bool>(text: &[u8], mut agrees: F) -> Tally
+    requires { F.IsAlwaysCallable agrees }
+{
+    let mut tally = Tally {
+        agree: 0,
+        differ: 0,
+    };
+    let mut at = 0;
+    while at < text.len() {
+        let Some(case) = case_at(text, at) else {
+            return counted(tally, false);
+        };
+        let agreed = agrees(&text[case.from..case.middle], &text[case.middle..case.next]);
+        tally = counted(tally, agreed);
+        at = case.next;
+    }
+    tally
+}
+
+/// Replays a file, and prints its name and both numbers.
+pub fn replay_file<F: FnMut(&[u8], &[u8]) -> bool>(
+    rt: &(impl Files + Alloc<A = Global> + Print),
+    name: &str,
+    agrees: F,
+) -> io::Result<()>
+    requires { F.IsAlwaysCallable agrees }
+{
+    let text = fs::read(rt, name)?;
+    let tally = replay(&text, agrees);
+    let agree = tally.agree;
+    let differ = tally.differ;
+    println!(rt; "{name}: agree {agree}, differ {differ}")
+}

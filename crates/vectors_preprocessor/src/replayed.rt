@@ -1,0 +1,47 @@
+// Replays a line of the kind preprocessor. The head and six lent lists are carried from line to line.
+use crate::build::build_line;
+use crate::extrapolation::extrapolation_line;
+use crate::learn::learn_line;
+use crate::point::{drain_line, point_line};
+use crate::queries::{output_line, status_line, transform_line};
+use crate::state::{set_line, state_line};
+use crate::text::text_line;
+use std::alloc::{AllocError, Global};
+use trcf::head::{Preprocessor, no_head};
+use vectors_core::fields::{Differs, Fields};
+use vectors_core::memory::Memory;
+
+// What is carried from line to line.
+#[derive(Drop)]
+pub(crate) struct Replayed {
+    pub head: Preprocessor,
+    pub memory: Memory,
+}
+
+impl Replayed {
+    // Before the first `b`.
+    pub(crate) fn new(alloc: Global) -> Result<Replayed, AllocError> {
+        Ok(Replayed {
+            head: no_head(),
+            memory: Memory::new(alloc, 32000)?,
+        })
+    }
+}
+
+pub(crate) fn replay_line(state: &mut Replayed, alloc: Global, line: &[u8]) -> Result<(), Differs> {
+    let (letter, fields) = Fields::of(alloc, line)?;
+    match letter {
+        b'b' => build_line(state, fields),
+        b'g' => set_line(state, fields),
+        b'p' => point_line(state, fields),
+        b'l' => learn_line(state, fields),
+        b'd' => drain_line(state, fields),
+        b't' => transform_line(state, fields),
+        b'v' => extrapolation_line(state, fields),
+        b'c' | b'h' => output_line(state, letter, fields),
+        b's' => status_line(state, fields),
+        b'q' => state_line(state, fields),
+        b'x' => text_line(state, fields),
+        _ => Err(Differs),
+    }
+}

@@ -1,0 +1,74 @@
+// The line before a text, which says how long the text is and what comes of it.
+use std::alloc::Global;
+use vectors_core::fields::{Differs, Fields};
+
+// A text with the fields of its line that are still to be read, and what follows in the file.
+#[derive(Clone, Copy)]
+pub(crate) struct Placed<'a> {
+    letter: u8,
+    fields: Fields<'a>,
+    pub text: &'a [u8],
+    pub behind: &'a [u8],
+}
+
+// The text at the front of a file. One that the file does not hold to the end is none.
+pub(crate) fn first_text<'a>(alloc: Global, file: &'a [u8]) -> Result<Placed<'a>, Differs> {
+    let end = file.iter().position(|b| *b == b'\n').ok_or(Differs)?;
+    let (letter, mut fields) = Fields::of(alloc, &file[..end + 1])?;
+    let n = fields.read::<u64>()? as usize;
+    let (text, rest) = file[end + 1..].split_at_checked(n).ok_or(Differs)?;
+    let behind = rest.strip_prefix(b"\n").ok_or(Differs)?;
+    Ok(Placed {
+        letter,
+        fields,
+        text,
+        behind,
+    })
+}
+
+// The codes that are expected, how many times are lent, and the row by which the text is refused and its first bad line, or zeros.
+#[derive(Drop)]
+pub(crate) struct Announced {
+    pub codes: Vec<u16>,
+    pub times: usize,
+    pub row: u64,
+    pub line: u64,
+}
+
+// How many weights the second line has, at most 16.
+fn channels(text: &[u8]) -> usize {
+    let line = text.split(|b| *b == b'\n').nth(1).unwrap_or(&[]);
+    line.iter().filter(|b| **b == b'\t').count().min(16)
+}
+
+// `t`: a text of before there were codes, with its first bad line. Zeros are expected, as many as it has weights.
+fn bare_text(fields: &mut Fields<'_>, text: &[u8], room: usize) -> Result<Announced, Differs> {
+    let line = fields.read()?;
+    Ok(Announced {
+        codes: vec![in fields.alloc; 0; channels(text)]?,
+        times: room,
+        row: if line == 0 { 0 } else { 19 },
+        line,
+    })
+}
+
+// `r`: the codes expected, the length of the list lent for the times, the row and the first bad line.
+fn coded_text(fields: &mut Fields<'_>) -> Result<Announced, Differs> {
+    Ok(Announced {
+        codes: fields.list()?,
+        times: fields.length()?,
+        row: fields.read()?,
+        line: fields.read()?,
+    })
+}
+
+pub(crate) fn read_announced(placed: Placed<'_>, room: usize) -> Result<Announced, Differs> {
+    let mut fields = placed.fields;
+    let told = match placed.letter {
+        b't' => bare_text(&mut fields, placed.text, room)?,
+        b'r' => coded_text(&mut fields)?,
+        _ => return Err(Differs),
+    };
+    fields.finish()?;
+    Ok(told)
+}
