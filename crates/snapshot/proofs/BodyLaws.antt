@@ -6,7 +6,7 @@ use mathlib.Core.Path.{◌≡◌, refl, sym, ap, ◌∙◌, subst}
 use mathlib.Core.Bool.{Bool, true, false, not, ◌&&◌, ◌||◌, cond}
 use mathlib.Core.List.{List, [], ◌∷◌, ◌++◌}
 use mathlib.Core.Option.{Option, none, some}
-use lib.ListN.{length, take, drop, length-drop}
+use lib.ListN.{length, take, drop}
 use lib.Seq.{length-take-le}
 use lib.Ieee.{Float}
 use lib.Dec.{ltb, eqb}
@@ -17,7 +17,7 @@ use Rattle.trcf.specs.Settings.{Settings, waiting, block, dimension}
 use Rattle.trcf.specs.Preprocessor.{Reading}
 use Rattle.snapshot.specs.Steps.Judge.{buf_by}
 use Rattle.snapshot.specs.Read.{Counts, may_stand}
-use Rattle.snapshot.specs.Steps.Runs.{Ran, ran, broke, ran_by, then_lines, after_lines, map_ran, unkept, front, many, bufs, Initial, initial_of, reading_times, time_of, Parts, expected, ending, Body, body, parts_by, parts_of, body_by, filled_by, Fills, HeadFew, Room, state_from}
+use Rattle.snapshot.specs.Steps.Runs.{Ran, ran, broke, ran_by, after_lines, map_ran, unkept, front, many, bufs, Initial, initial_of, reading_times, time_of, Parts, expected, ending, Body, body, parts_by, parts_of, body_by, filled_by, Fills, HeadFew, Room, state_from}
 use Rattle.refusal.specs.Lent.{over}
 use Rattle.trcf.specs.View.{Lent, lent, settings_of, written_over, initial_room, lent_short}
 use Rattle.trcf.specs.declared.head.Preprocessor.{Preprocessor}

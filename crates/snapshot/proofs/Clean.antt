@@ -1,13 +1,13 @@
 -- No line holds a tab or an LF but between its fields.
-use Prim.Native.Nat.{ℕ, ◌<◌}
+use Prim.Native.Nat.{ℕ}
 use native.Mathlib.Omega.{arith}
 use mathlib.Core.Bool.{Bool, true, false}
-use mathlib.Core.List.{List, [], ◌∷◌, ◌++◌}
+use mathlib.Core.List.{List, [], ◌∷◌}
 use lib.ListN.{take, drop}
 use lib.Ieee.{Float, binary32, binary64}
 use Rattle.trcf.specs.Settings.{Settings, All}
 use Rattle.trcf.specs.Preprocessor.{State}
-use Rattle.snapshot.specs.Text.{Line, set_line, singles, chn_line, cnt_line, dev_line, dev_lines, tim_line, buf_line, buf_lines, body_lines, lines_by}
+use Rattle.snapshot.specs.Text.{set_line, singles, chn_line, cnt_line, dev_line, dev_lines, tim_line, buf_line, buf_lines, body_lines, lines_by}
 use Rattle.snapshot.proofs.Fields.{whole_clean, float_clean, floats_clean, wholes_clean, letter_clean, CleanLine}
 use Rattle.snapshot.proofs.Lists.{all_append}
 

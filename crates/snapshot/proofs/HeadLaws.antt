@@ -1,8 +1,8 @@
 -- The lines `set`, `wgt`, `chn` and `cnt`: where they break off, and the head that they give.
-use Prim.Native.Nat.{ℕ, zero, suc, ◌+◌, ◌≤◌, ◌<◌}
+use Prim.Native.Nat.{ℕ, ◌+◌}
 use native.Mathlib.Omega.{arith}
 use mathlib.Core.Path.{◌≡◌, refl, sym, ap, ◌∙◌, subst}
-use mathlib.Core.Bool.{Bool, true, false, not, ◌&&◌, ◌||◌, cond, false≢true}
+use mathlib.Core.Bool.{Bool, true, false, not, ◌||◌, false≢true}
 use mathlib.Core.List.{List, ◌++◌}
 use mathlib.Core.Option.{Option, none, some, some-injective, none-ne-some}
 use lib.ListN.{length, drop, replicate, get_or}
@@ -20,7 +20,7 @@ use Rattle.snapshot.specs.Read.{as_whole, Counts, with_lists}
 use Rattle.snapshot.specs.Steps.Judge.{onto, byte, name, fields, mode_in, method_in, set_test, settings_with, settings_if_read, tail_by, Codes, chn_or, chn_by, set_by, wgt_by, cnt_by}
 use Rattle.snapshot.proofs.Lists.{and_left, and_right}
 use Rattle.snapshot.proofs.JudgeLines.{onto_some}
-use Rattle.snapshot.specs.Steps.Runs.{Ran, ran, broke, then_lines, one_line, head_read, head_by, head_with_counts, head_with, Few}
+use Rattle.snapshot.specs.Steps.Runs.{ran, broke, head_read, head_by, head_with_counts, head_with, Few}
 
 module _ (t : List ℕ) where
   pub head_set : none ≡ set_by t → broke 1 ≡ head_by t

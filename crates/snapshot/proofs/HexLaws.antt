@@ -1,29 +1,27 @@
 -- Scanning hexadecimal digits gives the bit pattern that they write, and nothing else.
 use Rattle.std.specs.Prelude.{Some, None}
 use Prim.Native.Nat.{ℕ, zero, suc, ◌+◌, ◌-◌, ◌*◌, ◌/◌, ◌%◌, ◌^◌, ◌≤◌, ◌<◌}
-use native.Mathlib.Nat.{mod-lt, mul-le-mul_right, pow-succ', mul_assoc, mul_comm, pow-suc, pow-le-pow_right, zero-add, add-zero, suc-add, add-suc}
+use native.Mathlib.Nat.{mod-lt, mul-le-mul_right, pow-succ', mul_assoc, pow-suc, pow-le-pow_right, zero-add, add-zero, suc-add, add-suc}
 use native.Mathlib.Omega.{arith}
 use mathlib.Core.Path.{◌≡◌, refl, sym, ap, ◌∙◌, subst}
-use mathlib.Core.Bool.{Bool, true, false, not, ◌&&◌, ◌||◌, cond, false≢true}
+use mathlib.Core.Bool.{Bool, true, false, not, ◌&&◌, false≢true}
 use mathlib.Core.List.{List, [], ◌∷◌, ◌++◌, append-nil, append_assoc}
 use mathlib.Core.Logic.{◌⊎◌, inl, inr}
 use mathlib.Core.Option.{Option, none, some, some-injective, none-ne-some}
-use lib.ListN.{length, take, drop, get_or, drop_of_length-le, length-append}
+use lib.ListN.{length, drop, get_or, drop_of_length-le, length-append}
 use lib.Seq.{drop-cons}
 use lib.Dec.{T, leb, ltb, eqb}
-use lib.Ieee.{Float, nan, inf, fin, Format, div, binary32, binary64, of_bits, to_bits, nan_bits, is_nan, fits, top}
-use lib.Ieee.Bits.{of_bits-to_bits, to_bits-lt, of_bits-fits, to_bits-of_bits, nan_bits_is, nan_bits_above, is_true}
-use borrow.Author.Tests.{ltb-true, ltb-false, leb-true, leb-false, eqb-true, lt-ltb, le-ltb, le-leb, lt-leb, ne_eqb, eq-eqb, not-true, eqb-false}
+use lib.Ieee.{Float, nan, inf, fin, Format, binary32, binary64, of_bits, to_bits, nan_bits, is_nan, fits, top}
+use lib.Ieee.Bits.{of_bits-to_bits, to_bits-lt, of_bits-fits, to_bits-of_bits, nan_bits_is}
+use borrow.Author.Tests.{ltb-true, ltb-false, leb-true, leb-false, eqb-true, lt-ltb, le-ltb, le-leb, lt-leb, ne_eqb, eq-eqb, eqb-false}
 use Rattle.trcf.specs.Settings.{whole_max}
 use Rattle.snapshot.specs.Text.{digit, hex, width, float}
 use Rattle.snapshot.specs.Read.{same, as_float, float_from}
 use Rattle.snapshot.proofs.Fields.{float_from_lem}
 use Rattle.snapshot.proofs.Lists.{and_left, and_right}
 use Rattle.snapshot.proofs.ReadLine.{same_refl, same_eq}
-use Rattle.snapshot.specs.Scan.{number_of, single_of, double_of}
+use Rattle.snapshot.specs.Scan.{number_of}
 use Rattle.snapshot.specs.Steps.Scan.{hex_of, hscan, bits_of, float_of}
-use Rattle.snapshot.specs.declared.field.Field.{Field}
-use Rattle.snapshot.specs.declared.field.Field.TheVariants.{Single, Double, Whole, Bad}
 
 -- ---- what `as_float` says
 

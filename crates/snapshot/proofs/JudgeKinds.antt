@@ -1,14 +1,14 @@
 -- Each kind of line is read as the code reads it.
-use Prim.Native.Nat.{ℕ, zero, suc, ◌+◌, ◌*◌, ◌≤◌, ◌<◌}
+use Prim.Native.Nat.{ℕ, ◌*◌, ◌≤◌}
 use native.Mathlib.Omega.{arith}
 use mathlib.Core.Path.{◌≡◌, refl, sym, ap, ◌∙◌, subst}
-use mathlib.Core.Bool.{Bool, true, false, not, ◌&&◌, ◌||◌, cond, false≢true}
+use mathlib.Core.Bool.{Bool, true, false, not, ◌&&◌}
 use mathlib.Core.List.{List, [], ◌∷◌, ◌++◌, map, append_assoc}
 use mathlib.Core.Option.{Option, none, some, some-injective, none-ne-some}
-use lib.ListN.{length, replicate, get_or}
+use lib.ListN.{length, replicate}
 use lib.Dec.{T, eqb, leb, ltb}
-use lib.Ieee.{Float, Format, binary32, binary64, fits}
-use borrow.Author.Tests.{eqb-true, eq-eqb, leb-true, le-leb}
+use lib.Ieee.{Float, binary32, binary64, fits}
+use borrow.Author.Tests.{eqb-true, eq-eqb, leb-true}
 use Rattle.common.specs.Deviation.{count_limit}
 use Rattle.trcf.specs.Types.{is_none, normalizes}
 use Rattle.trcf.specs.Settings.{Settings, All, Fits, Whole, dimension, waiting, whole_max, code_max, all_one}
@@ -19,12 +19,12 @@ use Rattle.snapshot.specs.Text.{tabbed_fields, whole, float, singles, chn_line, 
 use Rattle.snapshot.specs.Read.{bytes_of_line, every, as_whole, as_float, climbs, zeros, all_codes, same, LineKind, chn_kind, either_kind, singles_kind, wgt_kind, inp_kind, pnt_kind, cnt_kind, Counts, dev_kind, Three, tim_kind, buf_kind}
 use Rattle.snapshot.specs.Steps.Write.{tabbed}
 use Rattle.snapshot.specs.Steps.Judge.{onto, with_rest, byte, name, one, fields, closing, list_line, checked, wgt_test, wgt_by, chn_by, either_of, counts_of, counts_if_read, cnt_test, cnt_by, tim_test, tim_by, timed, buf_test, buf_raw, buf_by, three_of, threed, dev_by}
-use Rattle.snapshot.proofs.Lists.{and_left, and_right, if_of, to_if}
+use Rattle.snapshot.proofs.Lists.{and_left, and_right, if_of}
 use Rattle.snapshot.proofs.Fields.{Clean}
 use Rattle.snapshot.proofs.ReadLine.{Hold, every_hold, hold_every, Writes}
 use Rattle.snapshot.proofs.ReadKinds.{fit_of, fits_of, whole_of, climbs_of, zeros_of, codes_of, chn_writes, either_left, either_right, singles_write, cnt_writes, dev_writes, tim_writes, buf_writes}
 use Rattle.snapshot.proofs.LineBytes.{buf_bytes}
-use Rattle.snapshot.proofs.JudgeLines.{Reads, Codec, float_codec, whole_codec, line_is, line_back, byte_is, byte_back, name_is, name_back, onto_some, one_is, one_back, tabbed_stop, fields_are, fields_back}
+use Rattle.snapshot.proofs.JudgeLines.{Reads, float_codec, whole_codec, line_is, line_back, byte_is, name_is, name_back, onto_some, one_is, one_back, tabbed_stop, fields_are, fields_back}
 
 pub checked_some : {A : Type 0} (q : A → Bool) (o : Option (A × List ℕ)) (r : A × List ℕ) → checked q o ≡ some r → (o ≡ some r) × (q r.0 ≡ true)
 checked_some q none r e = absurd (none-ne-some r e)

@@ -1,17 +1,17 @@
 -- Laws of the pieces of a line as the code meets them: a byte, a field, a list of fields.
 use Rattle.std.specs.Prelude.{Option as Answer, Some, None}
-use Prim.Native.Nat.{ℕ, zero, suc, ◌+◌, ◌-◌, ◌≤◌, ◌<◌}
+use Prim.Native.Nat.{ℕ, suc, ◌+◌, ◌-◌, ◌≤◌, ◌<◌}
 use native.Mathlib.Omega.{arith}
 use native.Mathlib.Numerals.{add-one}
-use mathlib.Core.Path.{◌≡◌, refl, sym, ap, ◌∙◌, subst}
-use mathlib.Core.Bool.{Bool, true, false, cond}
+use mathlib.Core.Path.{◌≡◌, refl, sym, ap, ◌∙◌}
+use mathlib.Core.Bool.{Bool, true, false}
 use mathlib.Core.List.{List, [], ◌∷◌, ◌++◌, append_assoc, append-nil}
 use mathlib.Core.Option.{Option, none, some}
 use lib.ListN.{length, take, drop, get_or, set, drop_of_length-le, length-drop, length-set, take-append-drop}
-use lib.Seq.{drop-cons, drop-drop, take-suc-set, take_all, take-length, length-take-le, drop-set-lt}
+use lib.Seq.{drop-cons, drop-drop, take-suc-set, take_all, length-take-le, drop-set-lt}
 use lib.Dec.{eqb, leb}
 use lib.Ieee.{Float, binary32, binary64}
-use borrow.Author.Tests.{eqb-true, eq-eqb, ne_eqb, le-leb, lt-leb}
+use borrow.Author.Tests.{eq-eqb, ne_eqb, le-leb, lt-leb}
 use Rattle.refusal.specs.Lent.{over}
 use Rattle.trcf.proofs.ShingleLaws.{over_part}
 use Rattle.snapshot.specs.Read.{as_whole, as_float}

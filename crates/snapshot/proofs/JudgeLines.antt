@@ -1,21 +1,20 @@
 -- Reading a line piece by piece and judging it whole agree.
-use Prim.Native.Nat.{ℕ, zero, suc, ◌+◌, ◌-◌, ◌≤◌, ◌<◌}
-use native.Mathlib.Omega.{arith}
+use Prim.Native.Nat.{ℕ, zero, suc, ◌≤◌}
 use mathlib.Core.Path.{◌≡◌, refl, sym, ap, ◌∙◌, subst}
-use mathlib.Core.Bool.{Bool, true, false, cond}
+use mathlib.Core.Bool.{Bool, true, false}
 use mathlib.Core.List.{List, [], ◌∷◌, ◌++◌, map, append_assoc}
 use mathlib.Core.Option.{Option, none, some, some-injective, none-ne-some}
-use lib.ListN.{length, take, drop, length-append, length-map, take-append-drop}
+use lib.ListN.{length, take, drop, take-append-drop}
 use lib.Seq.{take_at, drop_at}
-use lib.Dec.{T, eqb, leb}
-use lib.Ieee.{Float, Format, binary32, binary64, fits}
-use borrow.Author.Tests.{eqb-true, eq-eqb, ne_eqb, le-leb, lt-leb}
-use Rattle.trcf.specs.Settings.{All, Fits, Whole, whole_max}
-use Rattle.snapshot.specs.Text.{Line, named, tabbed_fields, whole, float, singles}
-use Rattle.snapshot.specs.Read.{join, lines, bytes_of_line, as_whole, as_float, LineKind, judge, Plan, plan_line, Read, bad, later, ended, read_then, follow}
+use lib.Dec.{T, eqb}
+use lib.Ieee.{Format, fits}
+use borrow.Author.Tests.{eqb-true, eq-eqb, lt-leb}
+use Rattle.trcf.specs.Settings.{All, whole_max}
+use Rattle.snapshot.specs.Text.{named, tabbed_fields, whole, float}
+use Rattle.snapshot.specs.Read.{join, lines, bytes_of_line, as_whole, as_float, LineKind, judge, Plan, plan_line, bad, later, follow}
 use Rattle.snapshot.specs.Steps.Write.{tabbed}
-use Rattle.snapshot.specs.Steps.Judge.{onto, with_rest, byte, name, field_length, one, before, fields, closing, list_line, checked, via}
-use Rattle.snapshot.proofs.Fields.{Clean, CleanLine, whole_clean, float_clean}
+use Rattle.snapshot.specs.Steps.Judge.{onto, with_rest, byte, name, field_length, one, before, fields, closing, list_line, via}
+use Rattle.snapshot.proofs.Fields.{Clean, whole_clean, float_clean}
 use Rattle.snapshot.proofs.HexLaws.{float_of_lem, of_float}
 use Rattle.snapshot.proofs.ScanLaws.{whole_of, of_whole}
 use Rattle.snapshot.proofs.WriteLaws.{behind_tabbed}

@@ -1,33 +1,33 @@
 -- The line of the settings is read as the code reads it.
-use Prim.Native.Nat.{ℕ, zero, suc, ◌+◌, ◌*◌, ◌≤◌, ◌<◌}
+use Prim.Native.Nat.{ℕ, zero, suc, ◌≤◌}
 use native.Mathlib.Omega.{arith}
 use mathlib.Core.Path.{◌≡◌, refl, sym, ap, ◌∙◌, subst}
-use mathlib.Core.Bool.{Bool, true, false, not, ◌&&◌, ◌||◌, cond, false≢true}
+use mathlib.Core.Bool.{Bool, true, false, not, ◌||◌, cond, false≢true}
 use mathlib.Core.List.{List, [], ◌∷◌, ◌++◌, map, append_assoc}
 use mathlib.Core.Option.{Option, none, some, some-injective, none-ne-some}
 use lib.ListN.{length, drop, replicate, get_or, length-replicate}
-use lib.Dec.{T, eqb, leb, ltb}
-use lib.Ieee.{Float, Format, binary32, binary64, fits}
+use lib.Dec.{T, eqb, ltb}
+use lib.Ieee.{Float, binary32, binary64, fits}
 use lib.Ieee.Bits.{is_true}
-use borrow.Author.Tests.{eqb-true, eq-eqb, leb-true, le-leb, ltb-false}
+use borrow.Author.Tests.{eq-eqb, leb-true, le-leb, ltb-false}
 use Rattle.common.specs.Deviation.{outside_unit}
 use Rattle.trcf.specs.Types.{is_none, method_number, mode_letter, mode_of_letter}
 use Rattle.trcf.proofs.TypeLaws.{letter_back, mode_back as letter-named}
 use Rattle.trcf.specs.Transformer.{one32}
-use Rattle.trcf.specs.Settings.{Settings, All, Fits, Whole, whole_max, imputes}
+use Rattle.trcf.specs.Settings.{Settings, All, whole_max, imputes}
 use Rattle.trcf.specs.declared.types.TransformMethod.{TransformMethod}
 use Rattle.trcf.specs.declared.types.TransformMethod.TheVariants.{NONE, WEIGHTED, DIFFERENCE, SUBTRACT_MA, NORMALIZE, NORMALIZE_DIFFERENCE}
 use Rattle.trcf.specs.declared.types.ForestMode.{ForestMode}
 use Rattle.snapshot.specs.Text.{tabbed_fields, whole, float, set_line}
 use Rattle.snapshot.specs.Read.{bytes_of_line, as_whole, as_float, set_kind, with_lists}
-use Rattle.snapshot.specs.Steps.Write.{tabbed, set_bytes}
+use Rattle.snapshot.specs.Steps.Write.{tabbed}
 use Rattle.snapshot.specs.Steps.Judge.{onto, with_rest, byte, name, one, fields, mode_named, mode_in, method_in, set_test, tail_by, settings_with, settings_if_read, set_by}
 use Rattle.snapshot.proofs.Lists.{and_left, and_right}
 use Rattle.snapshot.proofs.ReadLine.{Hold, Writes}
 use Rattle.snapshot.proofs.ReadKinds.{fit_of, to_fits, set_writes, valid_of, zero_codes_lem}
 use Rattle.snapshot.proofs.ReadText.{ones_pass, ones_fit}
 use Rattle.snapshot.proofs.LineBytes.{set_bytes_lem}
-use Rattle.snapshot.proofs.JudgeLines.{Reads, float_codec, whole_codec, byte_is, byte_back, name_is, name_back, onto_some, one_is, one_back, fields_are, fields_back}
+use Rattle.snapshot.proofs.JudgeLines.{Reads, float_codec, whole_codec, byte_is, name_is, onto_some, one_is, one_back, fields_are, fields_back}
 
 abbrev single : Float → Type 0
 single x = T (fits binary32 x)

@@ -1,17 +1,15 @@
 -- What is put away of a text that was taken up: its bytes, or, where it lacks the codes' line, the same with a line of zeros after line 2.
 use Prim.Native.Nat.{ℕ}
-use native.Mathlib.Omega.{arith}
-use mathlib.Core.Path.{◌≡◌, refl, sym, ap, ◌∙◌, subst}
-use mathlib.Core.Bool.{Bool, true, false, cond}
-use mathlib.Core.List.{List, [], ◌∷◌, ◌++◌, map}
-use lib.ListN.{take, drop, replicate}
+use mathlib.Core.Path.{◌≡◌, refl, sym, ap, ◌∙◌}
+use mathlib.Core.Bool.{Bool, true, false}
+use mathlib.Core.List.{List}
+use lib.ListN.{replicate}
 use Rattle.trcf.specs.Preprocessor.{State}
-use Rattle.snapshot.specs.Form.{Form}
-use Rattle.snapshot.specs.Text.{chn, chn_line, cnt_line, body_lines, lines_by, bytes_of, render, TextOf}
-use Rattle.snapshot.specs.Read.{lines, join, bytes_of_line, cells, nth_field, same, carries, with_channel_line, read, taken}
+use Rattle.snapshot.specs.Text.{chn_line, cnt_line, body_lines, lines_by, bytes_of, render, TextOf}
+use Rattle.snapshot.specs.Read.{carries, with_channel_line, read, taken}
 use Rattle.snapshot.proofs.Clean.{lines_clean}
 use Rattle.snapshot.proofs.ReadLine.{bytes_join, cells_render}
-use Rattle.snapshot.proofs.ReadText.{shown, lines_text, read_sound}
+use Rattle.snapshot.proofs.ReadText.{lines_text, read_sound}
 
 kept_by : (w : State) (b : Bool) → (b ≡ false → w.settings.codes ≡ replicate w.settings.d 0) → render w ≡ with_channel_line w.settings.d (bytes_of (lines_by b w))
 unfolding with_channel_line carries render lines_by body_lines chn_line cnt_line

@@ -1,16 +1,16 @@
 -- The bytes of a line that two letters name.
-use Prim.Native.Nat.{ℕ, zero, ◌+◌, ◌-◌, ◌*◌, ◌/◌, ◌≤◌, ◌<◌}
+use Prim.Native.Nat.{ℕ, ◌+◌, ◌-◌, ◌*◌, ◌/◌, ◌≤◌, ◌<◌}
 use native.Mathlib.Nat.{div-mul-le_self, lt-div-mul-add}
 use native.Mathlib.Omega.{arith}
 use mathlib.Core.Path.{◌≡◌, refl, sym, ap, ◌∙◌}
-use mathlib.Core.List.{List, [], ◌∷◌, ◌++◌, map}
+use mathlib.Core.List.{List, [], ◌∷◌, map}
 use lib.ListN.{length, length-append}
 use lib.Ieee.{Float, binary32}
 use Rattle.snapshot.specs.Text.{whole, float, named, singles}
 use Rattle.snapshot.specs.Read.{bytes_of_line}
 use Rattle.snapshot.specs.Save.{save_outcome, fitted}
 use Rattle.snapshot.specs.Steps.Write.{Wrote, tabbed}
-use Rattle.snapshot.proofs.WriteLaws.{wrote_is, floats_length}
+use Rattle.snapshot.proofs.WriteLaws.{floats_length}
 use Rattle.snapshot.proofs.LineBytes.{singles_bytes}
 use Rattle.snapshot.proofs.SaveLaws.{fitted_not, fitted_is}
 

@@ -1,12 +1,12 @@
 -- The lines from `dev` to `tim`: where they break off, and what they give.
-use Prim.Native.Nat.{ℕ, zero, suc, ◌+◌}
-use mathlib.Core.Path.{◌≡◌, refl, sym, ap, ◌∙◌}
+use Prim.Native.Nat.{ℕ, ◌+◌}
+use mathlib.Core.Path.{◌≡◌, sym}
 use mathlib.Core.List.{List}
-use mathlib.Core.Option.{Option, none, some}
+use mathlib.Core.Option.{none, some}
 use lib.Ieee.{Float, binary32}
 use Rattle.snapshot.specs.Read.{as_float}
 use Rattle.snapshot.specs.Steps.Judge.{list_line, tim_by}
-use Rattle.snapshot.specs.Steps.Runs.{Ran, ran, broke, then_lines, one_line, after_lines, devs, Parts, parts, parts_by}
+use Rattle.snapshot.specs.Steps.Runs.{ran, broke, devs, parts, parts_by}
 
 module _ (internal n x y k : ℕ) (l : List ℕ) where
   pub parts_broke : (m : ℕ) → broke m ≡ devs n l → broke m ≡ parts_by internal n x y k l

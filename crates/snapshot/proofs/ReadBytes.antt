@@ -1,18 +1,18 @@
 -- The bad line in bytes: what a text of the form begins with.
-use Prim.Native.Nat.{ℕ, zero, suc, ◌+◌, ◌≤◌, ◌<◌}
+use Prim.Native.Nat.{ℕ, zero, suc, ◌≤◌, ◌<◌}
 use native.Mathlib.Omega.{arith}
-use mathlib.Core.Path.{◌≡◌, refl, sym, ap, ◌∙◌, subst}
+use mathlib.Core.Path.{◌≡◌, refl, sym, ap, ◌∙◌}
 use mathlib.Core.Bool.{Bool, true, false, cond}
 use mathlib.Core.List.{List, [], ◌∷◌, ◌++◌, append_assoc}
 use lib.ListN.{length, take, drop, take-append-drop, length-take}
 use lib.Seq.{take-append-le, take-take}
 use lib.Dec.{eqb}
-use borrow.Author.Tests.{eqb-true, eqb-false, ne_eqb}
+use borrow.Author.Tests.{eqb-false, ne_eqb}
 use Rattle.trcf.specs.Settings.{All}
 use Rattle.trcf.specs.Preprocessor.{State}
 use Rattle.snapshot.specs.Form.{Form}
 use Rattle.snapshot.specs.Text.{TextOf}
-use Rattle.snapshot.specs.Read.{push, lines, join, read, bad, Agrees}
+use Rattle.snapshot.specs.Read.{push, lines, join, read, bad}
 use Rattle.snapshot.proofs.ReadLine.{join_lines}
 use Rattle.snapshot.proofs.ReadText.{read_first_bad}
 

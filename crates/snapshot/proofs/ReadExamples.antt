@@ -1,13 +1,13 @@
 -- Texts read by computation: document 01's bench sample is taken up, damaged ones give their line.
-use Prim.Native.Nat.{ℕ, zero, suc, ◌+◌, ◌*◌}
+use Prim.Native.Nat.{ℕ}
 use mathlib.Core.Path.{◌≡◌, refl}
 use mathlib.Core.List.{List, [], ◌∷◌, ◌++◌}
-use mathlib.Core.Option.{Option, none, some}
-use lib.Ieee.{Float, nan, fits, to_bits, size, of_bits, of_fields, odd, le, lt, eq}
+use mathlib.Core.Option.{none, some}
+use lib.Ieee.{nan, fits, to_bits, size, of_bits, of_fields, odd, le, lt, eq}
 use Rattle.common.specs.Deviation.{outside_unit}
 use Rattle.trcf.specs.Settings.{block, dimension, waiting, all_one}
 use Rattle.trcf.specs.Calls.{finite}
-use Rattle.trcf.specs.Preprocessor.{State, fresh}
+use Rattle.trcf.specs.Preprocessor.{fresh}
 use Rattle.snapshot.specs.Text.{render, lines_by, body_lines, set_line, singles, chn_line, cnt_line, dev_line, tim_line, buf_line, whole, float}
 use Rattle.snapshot.specs.Read.{carries, with_channel_line, Read, taken, bad, read, judge, float_from, may_stand, as_whole}
 use lib.ListN.{replicate}

@@ -1,25 +1,24 @@
 -- Each kind of line: a value of the form is written, guessed again, and passes its tests; the tests say what the form asks.
-use Prim.Native.Nat.{ℕ, zero, suc, ◌+◌, ◌-◌, ◌*◌, ◌≤◌, ◌<◌}
+use Prim.Native.Nat.{ℕ, zero, suc, ◌≤◌}
 use native.Mathlib.Omega.{arith}
-use mathlib.Core.Path.{◌≡◌, refl, sym, ap, ◌∙◌, subst}
-use mathlib.Core.Bool.{Bool, true, false, not, ◌&&◌, ◌||◌, cond, false≢true}
-use mathlib.Core.List.{List, [], ◌∷◌, ◌++◌, map}
-use mathlib.Core.Logic.{◌⊎◌, inl, inr}
+use mathlib.Core.Path.{◌≡◌, refl, sym, ap, ◌∙◌}
+use mathlib.Core.Bool.{Bool, true, false, not, ◌&&◌, false≢true}
+use mathlib.Core.List.{List, [], ◌∷◌, map}
+use mathlib.Core.Logic.{inl, inr}
 use lib.ListN.{length, replicate, length-replicate}
-use lib.Dec.{T, leb, ltb, eqb}
-use lib.Ieee.{Float, Format, binary32, binary64, fits, fin, eq}
+use lib.Dec.{T, leb, eqb}
+use lib.Ieee.{Float, Format, binary32, binary64, fits}
 use lib.Ieee.Bits.{is_true}
-use lib.IntN.{pos}
-use borrow.Author.Tests.{ltb-true, leb-true, eqb-true, eqb-false, lt-ltb, le-leb, eq-eqb, ne_eqb, not-true, not-false}
-use Rattle.common.specs.Deviation.{count_limit, outside_unit}
-use Rattle.trcf.specs.Types.{is_none, method_number, mode_letter}
-use Rattle.trcf.specs.Settings.{Settings, Valid, Fits, Whole, settings_table, waiting, whole_max, code_max, All, imputes, all_one}
+use borrow.Author.Tests.{leb-true, eqb-true, le-leb, eq-eqb, not-false}
+use Rattle.common.specs.Deviation.{count_limit}
+use Rattle.trcf.specs.Types.{is_none, method_number}
+use Rattle.trcf.specs.Settings.{Settings, Valid, Fits, Whole, waiting, whole_max, code_max, All, all_one}
 use Rattle.trcf.specs.Calls.{finite, seen_limit}
 use Rattle.trcf.specs.Preprocessor.{Reading}
 use Rattle.snapshot.specs.Form.{Climbs}
 use Rattle.snapshot.specs.Text.{whole, float, set_line, singles, chn_line, cnt_line, dev_line, tim_line, buf_line}
-use Rattle.snapshot.specs.Read.{whole_from, float_from, method_from, every, all_fit, all_whole, climbs, zeros, LineKind, set_kind, singles_kind, wgt_kind, cnt_kind, Counts, dev_kind, Three, tim_kind, buf_kind, all_codes, same, chn_kind, either_kind, with_lists}
-use Rattle.snapshot.proofs.Lists.{and_left, and_right, if_of, to_if, all_replicate}
+use Rattle.snapshot.specs.Read.{whole_from, float_from, method_from, all_fit, all_whole, climbs, zeros, LineKind, set_kind, singles_kind, wgt_kind, cnt_kind, Counts, dev_kind, Three, tim_kind, buf_kind, all_codes, same, chn_kind, either_kind, with_lists}
+use Rattle.snapshot.proofs.Lists.{and_left, and_right, to_if, all_replicate}
 use Rattle.snapshot.proofs.Accepted.{rows_of, row_none}
 use Rattle.snapshot.proofs.Fields.{whole_from_lem, float_from_lem, mode_is_lem, method_is_lem, Clean, whole_clean, float_clean, floats_clean, wholes_clean, letter_clean}
 use Rattle.snapshot.proofs.ReadLine.{same_refl, Hold, Writes}

@@ -1,14 +1,14 @@
 -- Lines, cells, and what it is to judge a line.
-use Prim.Native.Nat.{ℕ, zero, suc, ◌+◌, ◌-◌, ◌*◌, ◌≤◌, ◌<◌}
+use Prim.Native.Nat.{ℕ}
 use native.Mathlib.Omega.{arith}
 use mathlib.Core.Path.{◌≡◌, refl, sym, ap, ◌∙◌, subst}
-use mathlib.Core.Bool.{Bool, true, false, not, ◌&&◌, ◌||◌, cond, false≢true}
+use mathlib.Core.Bool.{Bool, true, false, false≢true}
 use mathlib.Core.List.{List, [], ◌∷◌, ◌++◌, map, append_assoc}
-use mathlib.Core.Option.{Option, none, some, some-injective, none-ne-some}
-use lib.Dec.{leb, ltb, eqb}
-use borrow.Author.Tests.{eqb-true, eq-eqb, ne_eqb, le-leb, lt-leb}
+use mathlib.Core.Option.{some, some-injective, none-ne-some}
+use lib.Dec.{eqb}
+use borrow.Author.Tests.{eqb-true, eq-eqb, ne_eqb, lt-leb}
 use Rattle.trcf.specs.Settings.{All}
-use Rattle.snapshot.specs.Text.{Line, named, tabbed_fields, bytes_of}
+use Rattle.snapshot.specs.Text.{Line, tabbed_fields, bytes_of}
 use Rattle.snapshot.specs.Read.{push, lines, join, bytes_of_line, cells, every, same, LineKind, judge}
 use Rattle.snapshot.proofs.Fields.{Clean, CleanLine}
 use Rattle.snapshot.proofs.Lists.{and_left, and_right}

@@ -1,17 +1,17 @@
 -- The theorems of the reader: what is taken is of the form and is that text, a text of the form is taken, and where it refuses, its line is the first bad one.
-use Prim.Native.Nat.{ℕ, zero, suc, ◌+◌, ◌-◌, ◌*◌, ◌≤◌, ◌<◌}
+use Prim.Native.Nat.{ℕ, zero, suc, ◌+◌, ◌*◌, ◌≤◌}
 use native.Mathlib.Nat.{suc-mul, zero-mul}
 use native.Mathlib.Omega.{arith}
 use mathlib.Core.Path.{◌≡◌, refl, sym, ap, ◌∙◌, subst}
 use mathlib.Core.Logic.{◌⊎◌, inl, inr}
-use mathlib.Core.Bool.{Bool, true, false, not, ◌&&◌, ◌||◌, cond, false≢true}
-use mathlib.Core.List.{List, [], ◌∷◌, ◌++◌, map, append-nil}
+use mathlib.Core.Bool.{Bool, true, false, not, ◌&&◌, false≢true}
+use mathlib.Core.List.{List, [], ◌∷◌, ◌++◌, map}
 use mathlib.Core.Option.{Option, none, some}
-use lib.ListN.{length, take, drop, replicate, length-append, length-drop, length-take, length-replicate, take-append-drop}
+use lib.ListN.{length, take, drop, replicate, length-append, length-drop, length-replicate, take-append-drop}
 use lib.Seq.{take_at, drop_at, length-take-le}
-use lib.Dec.{T, leb, ltb, eqb}
-use lib.Ieee.{Float, Format, binary32, binary64, fits, of_bits, of_fields, odd, le, lt, eq}
-use borrow.Author.Tests.{ltb-true, leb-true, eqb-true, eqb-false, ltb-false, eq-eqb, ne_eqb}
+use lib.Dec.{ltb, eqb}
+use lib.Ieee.{Float, binary32, binary64, fits, of_bits, of_fields, odd, le, lt, eq}
+use borrow.Author.Tests.{ltb-true, leb-true, eqb-true, ltb-false, eq-eqb}
 use Rattle.common.specs.Deviation.{zero64, outside_unit}
 use Rattle.trcf.specs.declared.types.TransformMethod.TheVariants.{NONE}
 use Rattle.trcf.specs.declared.types.ForestMode.TheVariants.{STANDARD}
@@ -22,9 +22,8 @@ use Rattle.trcf.specs.Calls.{finite}
 use Rattle.trcf.specs.Preprocessor.{State, Reading, statistics_length}
 use Rattle.snapshot.specs.Form.{Form, Climbs}
 use Rattle.snapshot.specs.Text.{Line, wgt, inp, pnt, chn, set_line, singles, chn_line, cnt_line, dev_line, dev_lines, tim_line, buf_line, buf_lines, body_lines, lines_by, bytes_of, render, TextOf}
-use Rattle.snapshot.specs.Read.{lines, join, bytes_of_line, LineKind, set_kind, wgt_kind, inp_kind, pnt_kind, singles_kind, cnt_kind, Counts, dev_kind, Three, tim_kind, buf_kind, Plan, plan_end, plan_line, bufs_plan, may_stand, buf_plan, devs_plan, state_of, with_lists, bare, chn_kind, either_kind, third_kind, after_third, after_tim, after_pnt, after_inp, after_dev, after_cnt, after_wgt, after_set, plan, Read, taken, bad, follow, read, FirstBad}
+use Rattle.snapshot.specs.Read.{lines, join, bytes_of_line, set_kind, wgt_kind, inp_kind, pnt_kind, singles_kind, cnt_kind, Counts, dev_kind, Three, tim_kind, buf_kind, Plan, plan_end, bufs_plan, may_stand, buf_plan, devs_plan, state_of, with_lists, bare, chn_kind, third_kind, after_third, after_tim, after_pnt, after_inp, after_dev, after_cnt, after_wgt, after_set, plan, Read, taken, bad, follow, read, FirstBad}
 use Rattle.snapshot.proofs.Lists.{and_left, and_right, clash, if_of, to_if, nil, all_append, all_take, all_drop, all_replicate, finite_append, finite_split}
-use Rattle.snapshot.proofs.Accepted.{row_none}
 use Rattle.snapshot.proofs.Fields.{Clean}
 use Rattle.snapshot.proofs.Clean.{lines_clean}
 use Rattle.snapshot.proofs.ReadLine.{Hold, Writes, join_lines, bytes_join, lines_bytes}

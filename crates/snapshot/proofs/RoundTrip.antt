@@ -1,19 +1,18 @@
 -- What the promises of `save` and `restore` say together: demand 2's "exactly when", and both ways round.
-use Prim.Native.Nat.{ℕ, zero, suc, ◌+◌, ◌*◌, ◌≤◌, ◌<◌}
+use Prim.Native.Nat.{ℕ, ◌+◌, ◌*◌, ◌≤◌}
 use native.Mathlib.Omega.{arith}
 use mathlib.Core.Path.{◌≡◌, refl, sym, ap, ◌∙◌, subst}
-use mathlib.Core.Bool.{Bool, true, false, not, ◌&&◌, ◌||◌, cond, false≢true}
-use mathlib.Core.List.{List, [], ◌∷◌, ◌++◌}
+use mathlib.Core.Bool.{Bool, true, false, not, ◌||◌, cond, false≢true}
+use mathlib.Core.List.{List, []}
 use mathlib.Core.Logic.{◌⊎◌, inl, inr}
 use lib.ListN.{length, take, replicate}
 use Rattle.trcf.specs.Transformer.{zero32}
-use lib.Dec.{ltb, leb, eqb}
-use lib.Ieee.{Float}
+use lib.Dec.{ltb, eqb}
 use borrow.Author.Tests.{eqb-true, ltb-true, ltb-false, le-ltb, lt-leb, leb-false}
-use Rattle.trcf.specs.Settings.{Settings, Valid, settings_table, waiting, dimension}
+use Rattle.trcf.specs.Settings.{Settings, Valid, waiting, dimension}
 use Rattle.trcf.specs.Preprocessor.{State, statistics_length}
 use Rattle.trcf.specs.Types.{augments, normalizes}
-use Rattle.trcf.specs.View.{Lent, settings_of, view, head_from, no_head, counted, written_over, initial_room, lent_short}
+use Rattle.trcf.specs.View.{Lent, settings_of, view, head_from, counted, written_over, initial_room, lent_short}
 use Rattle.trcf.specs.declared.head.Preprocessor.{Preprocessor}
 use Rattle.trcf.proofs.DrainLaws.{front_over}
 use Rattle.trcf.proofs.ShingleLaws.{length_over}
@@ -31,10 +30,10 @@ use Rattle.snapshot.proofs.Lists.{and_left, and_right}
 use Rattle.snapshot.proofs.Accepted.{rows_of}
 use Rattle.snapshot.proofs.ReadLine.{same_refl, same_eq}
 use Rattle.snapshot.proofs.Kept.{text_kept}
-use Rattle.snapshot.proofs.ReadText.{read_sound, read_complete, read_exactly, read_first_bad}
+use Rattle.snapshot.proofs.ReadText.{read_sound, read_exactly, read_first_bad}
 use Rattle.snapshot.proofs.SaveLaws.{Held}
 use Rattle.snapshot.proofs.BodyLaws.{dimension_is, room_of}
-use Rattle.snapshot.specs.Savable.{InMemory, text_of, taken_up, TakenUp, SavedIsTakenUp}
+use Rattle.snapshot.specs.Savable.{taken_up, SavedIsTakenUp}
 use Rattle.snapshot.proofs.SaveForm.{Savable, saved_fitted, savable_of, saved_form, form_savable}
 use Rattle.snapshot.proofs.SaveRead.{saved, saved_text, saved_read}
 

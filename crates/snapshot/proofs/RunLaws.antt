@@ -1,12 +1,12 @@
 -- Lines of one kind, one after the other: what is read of the first i of them, and the three ways on.
-use Prim.Native.Nat.{ℕ, zero, suc, ◌+◌, ◌-◌, ◌*◌, ◌≤◌, ◌<◌}
+use Prim.Native.Nat.{ℕ, suc, ◌+◌, ◌-◌, ◌*◌, ◌≤◌, ◌<◌}
 use native.Mathlib.Omega.{arith}
 use native.Mathlib.Numerals.{add-one}
 use native.Mathlib.Nat.{mul-le-mul, mul-le-mul_right, add-mul, one-mul, zero-mul}
 use mathlib.Core.Path.{◌≡◌, refl, sym, ap, ◌∙◌}
 use mathlib.Core.List.{List, [], ◌∷◌, ◌++◌, append_assoc, append-nil}
 use mathlib.Core.Option.{Option, none, some}
-use lib.ListN.{length, take, drop, set, length-append, length-set}
+use lib.ListN.{length, take, set, length-append, length-set}
 use lib.Seq.{take_at, take_all, length-take-le, take-suc-set}
 use lib.Ieee.{Float, binary64}
 use borrow.Rule.Slice.PartMut.{mid_of, post_of, put_mid, same_len_mid, mid_len}
@@ -15,7 +15,7 @@ use Rattle.std.specs.Prelude.{Result, Ok, Err, IsErrAnd}
 use Rattle.snapshot.specs.declared.head.BadLine.{BadLine}
 use Rattle.snapshot.specs.Read.{as_float}
 use Rattle.snapshot.specs.Steps.Judge.{list_line, buf_by}
-use Rattle.snapshot.specs.Steps.Runs.{map_ran, ran_by, devs, bufs, time_of, Initial, initial_lists, initial_of, Ran, ran, broke, one_line, after_lines, then_lines, front, many, flat, reading_values, reading_times, dev_fields, no_carry}
+use Rattle.snapshot.specs.Steps.Runs.{map_ran, ran_by, devs, bufs, time_of, initial_lists, initial_of, Ran, ran, broke, one_line, after_lines, then_lines, front, many, flat, reading_values, reading_times, dev_fields, no_carry}
 
 abbrev pub fronts : {A : Type 0} → List A → Ran (List A) → Ran (List A)
 fronts u (ran l z) = ran (u ++ l) z

@@ -1,5 +1,5 @@
 -- What `save` accepts has the form of a text, and whatever has that form is accepted. Assumes nothing.
-use Prim.Native.Nat.{ℕ, zero, suc, ◌+◌, ◌*◌, ◌≤◌, ◌<◌}
+use Prim.Native.Nat.{ℕ, zero, suc, ◌*◌, ◌≤◌}
 use native.Mathlib.Omega.{arith}
 use mathlib.Core.Path.{◌≡◌, refl, sym, ap, ◌∙◌, subst}
 use mathlib.Core.Bool.{Bool, true, false, cond, not, ◌&&◌, ◌||◌}
@@ -8,12 +8,11 @@ use mathlib.Core.Logic.{◌⊎◌, inl, inr}
 use lib.Dec.{eqb}
 use lib.ListN.{length, take, replicate}
 use lib.Seq.{length-take-le}
-use lib.Ieee.{Float}
 use borrow.Author.Tests.{eq-eqb, eqb-true}
 use Rattle.trcf.specs.Types.{augments, normalizes}
-use Rattle.trcf.specs.Settings.{Settings, settings_row, waiting, dimension}
+use Rattle.trcf.specs.Settings.{settings_row, dimension}
 use Rattle.trcf.specs.Calls.{finite}
-use Rattle.trcf.specs.Preprocessor.{State, statistics_length}
+use Rattle.trcf.specs.Preprocessor.{statistics_length}
 use Rattle.trcf.specs.View.{Lent, settings_of, view, counters_unfit}
 use Rattle.trcf.specs.declared.head.Preprocessor.{Preprocessor}
 use Rattle.trcf.proofs.FitLaws.{all_take}
@@ -21,7 +20,7 @@ use Rattle.trcf.proofs.RefusalLaws.{Counted, counted_of, miscounted_not}
 use Rattle.snapshot.specs.Text.{render}
 use Rattle.snapshot.specs.Form.{Form}
 use Rattle.snapshot.specs.Read.{climbs, zeros}
-use Rattle.snapshot.specs.Save.{past, in_use_short, unformed, SaveOutcome, save_outcome, fitted, held_save, save_of}
+use Rattle.snapshot.specs.Save.{in_use_short, unformed, fitted, held_save, save_of}
 use Rattle.snapshot.specs.Savable.{InMemory}
 use Rattle.snapshot.proofs.ReadKinds.{climbs_of, to_climbs, zeros_of, to_zeros}
 use Rattle.snapshot.proofs.SaveLaws.{Held, held_of}

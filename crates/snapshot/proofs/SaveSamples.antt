@@ -4,14 +4,14 @@ use mathlib.Core.Path.{◌≡◌, refl}
 use mathlib.Core.List.{List, [], ◌∷◌, map}
 use native.Mathlib.Omega.{arith}
 use lib.ListN.{length, replicate}
-use lib.Ieee.{Float, binary32, of_bits, of_fields, odd, fits, size, to_bits, le, lt}
+use lib.Ieee.{binary32, of_bits, of_fields, odd, fits, size, to_bits, le, lt}
 use Rattle.common.specs.Deviation.{zero64, outside_unit}
 use Rattle.refusal.specs.Lent.{over}
 use Rattle.trcf.specs.Transformer.{zero32, one32}
 use Rattle.trcf.specs.Settings.{Settings, settings_row, all_one, block, dimension, waiting}
 use Rattle.trcf.specs.Calls.{finite}
 use Rattle.trcf.specs.View.{Lent, lent, head_from, no_head, counting, view, counters_unfit, lent_short}
-use Rattle.trcf.specs.declared.types.TransformMethod.TheVariants.{NONE, NORMALIZE}
+use Rattle.trcf.specs.declared.types.TransformMethod.TheVariants.{NORMALIZE}
 use Rattle.trcf.specs.declared.types.ForestMode.TheVariants.{STANDARD}
 use Rattle.trcf.specs.declared.head.Preprocessor.{Preprocessor}
 use Rattle.snapshot.specs.Text.{render, lines_by, body_lines, set_line, singles, chn_line, cnt_line, dev_line, tim_line, buf_line, whole, float}

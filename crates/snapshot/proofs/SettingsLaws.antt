@@ -1,13 +1,12 @@
 -- The line of the settings as the code meets it.
 use Prim.Native.Nat.{ℕ, zero, suc, ◌+◌, ◌≤◌, ◌<◌}
-use native.Mathlib.Omega.{arith}
 use mathlib.Core.Path.{◌≡◌, refl, sym, ap, ◌∙◌}
-use mathlib.Core.Bool.{Bool, true, false, not, ◌&&◌, ◌||◌, cond}
-use mathlib.Core.List.{List, [], ◌∷◌}
+use mathlib.Core.Bool.{Bool, true, false}
+use mathlib.Core.List.{List}
 use mathlib.Core.Option.{Option, none, some, none-ne-some}
 use lib.ListN.{length, drop, get_or, drop_of_length-le}
 use lib.Seq.{drop-cons, drop-drop}
-use lib.Dec.{eqb, leb, ltb}
+use lib.Dec.{leb, ltb}
 use lib.Ieee.{Float, binary32, binary64}
 use borrow.Author.Tests.{le-leb, lt-leb, eq-eqb, ne_eqb, lt-ltb, le-ltb, ltb-true, ltb-false, leb-true, leb-false}
 use Rattle.common.specs.Deviation.{outside_unit}
@@ -15,7 +14,7 @@ use Rattle.trcf.specs.Types.{mode_of_letter}
 use Rattle.snapshot.specs.Read.{as_whole, as_float}
 use Rattle.trcf.specs.declared.types.ForestMode.{ForestMode}
 use Rattle.trcf.specs.declared.types.TransformMethod.{TransformMethod}
-use Rattle.snapshot.specs.Steps.Judge.{placed, onto, with_rest, byte, name, one, fields, mode_named, mode_in, method_in, set_test, tail_by, settings_with, settings_if_read, set_by, settings_told}
+use Rattle.snapshot.specs.Steps.Judge.{onto, with_rest, byte, name, one, fields, mode_named, mode_in, method_in, set_test, tail_by, settings_with, settings_if_read, set_by}
 
 module _ (t : List ℕ) (i : ℕ) where
   -- a letter, judged by the mode that it names

@@ -1,17 +1,17 @@
 -- No text takes more than its room. Assumes nothing.
-use Prim.Native.Nat.{ℕ, zero, suc, ◌+◌, ◌*◌, ◌/◌, ◌^◌, ◌≤◌, ◌<◌}
-use native.Mathlib.Nat.{mul-le-mul, mul-add, mul_comm, le_refl}
+use Prim.Native.Nat.{ℕ, suc, ◌+◌, ◌*◌, ◌/◌, ◌^◌, ◌≤◌, ◌<◌}
+use native.Mathlib.Nat.{mul-le-mul, mul-add, le_refl}
 use native.Mathlib.Omega.{arith}
 use mathlib.Core.Path.{◌≡◌, refl, sym, ap, ◌∙◌, subst}
 use mathlib.Core.Bool.{Bool, true, false, cond}
-use mathlib.Core.List.{List, [], ◌∷◌, ◌++◌, map}
+use mathlib.Core.List.{List, [], ◌∷◌, map}
 use lib.ListN.{length, length-append}
 use Rattle.trcf.specs.Types.{method_number, augments}
 use Rattle.trcf.specs.declared.types.TransformMethod.{TransformMethod}
 use Rattle.trcf.specs.declared.types.TransformMethod.TheVariants.{NONE, WEIGHTED, DIFFERENCE, SUBTRACT_MA, NORMALIZE, NORMALIZE_DIFFERENCE}
-use Rattle.trcf.specs.Settings.{Settings, dimension, Whole, whole_max, code_max, All}
-use Rattle.trcf.specs.Preprocessor.{State, statistics_length}
-use Rattle.snapshot.specs.Text.{whole, render}
+use Rattle.trcf.specs.Settings.{Settings, whole_max, code_max, All}
+use Rattle.trcf.specs.Preprocessor.{State}
+use Rattle.snapshot.specs.Text.{whole}
 use Rattle.snapshot.specs.Form.{Form}
 use Rattle.snapshot.specs.Steps.Write.{tabbed}
 use Rattle.snapshot.specs.Steps.TwoParts.{head_bytes, list_bytes}

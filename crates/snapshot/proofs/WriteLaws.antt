@@ -1,16 +1,14 @@
 -- Laws of storing: what is stored piece by piece is stored whole, from the front or from the back.
 use Prim.Native.Nat.{ℕ, zero, suc, ◌+◌, ◌-◌, ◌*◌, ◌/◌, ◌%◌, ◌^◌, ◌≤◌, ◌<◌}
 use native.Mathlib.Nat.{add-zero, pow-succ'}
-use native.Mathlib.Numerals.{add-one}
 use native.Mathlib.Omega.{arith}
 use mathlib.Core.Path.{◌≡◌, refl, sym, ap, ◌∙◌, subst}
-use mathlib.Core.Bool.{Bool, true, false, not}
+use mathlib.Core.Bool.{Bool, true, false}
 use mathlib.Core.List.{List, [], ◌∷◌, ◌++◌, map, append_assoc}
 use lib.ListN.{length, set, drop, length-append, length-set}
-use lib.Seq.{sets, length-sets, sets-eq, set_comm, take-length}
-use lib.Dec.{T, ltb}
-use lib.Ieee.{Float, nan, inf, fin, Format, binary32, to_bits, ne, is_nan}
-use lib.Ieee.Compare.{differs_from_itself}
+use lib.Seq.{sets, sets-eq, set_comm}
+use lib.Dec.{ltb}
+use lib.Ieee.{Float, Format, binary32, to_bits}
 use borrow.Author.Tests.{ltb-true, ltb-false}
 use Rattle.refusal.specs.Lent.{over}
 use Rattle.trcf.specs.Settings.{whole_max}

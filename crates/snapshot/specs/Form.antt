@@ -1,9 +1,9 @@
 -- The form of a snapshot, as far as the numbers that it holds go: document 01, 'Trace text'. A text has the form when it is a text (`TextOf`) of a w of the form.
-use Rattle.std.specs.Prelude.{ℕ, zero, suc, ◌+◌, ◌*◌, ◌≤◌, ◌<◌, ◌≡◌, Bool, true, false, List, [], ◌∷◌, ◌⊎◌, length, replicate, Float}
+use Rattle.std.specs.Prelude.{ℕ, ◌*◌, ◌≤◌, ◌≡◌, true, false, List, [], ◌∷◌, ◌⊎◌, length, replicate}
 use Rattle.std.specs.Float.{binary32, binary64}
 use Rattle.common.specs.Deviation.{count_limit}
 use Rattle.trcf.specs.Types.{normalizes}
-use Rattle.trcf.specs.Settings.{Settings, Valid, dimension, waiting, Fits, Whole}
+use Rattle.trcf.specs.Settings.{Valid, dimension, waiting, Fits, Whole}
 use Rattle.trcf.specs.Calls.{finite, seen_limit}
 use Rattle.trcf.specs.Preprocessor.{State, statistics_length}
 

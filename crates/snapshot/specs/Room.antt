@@ -1,6 +1,5 @@
 -- How much room a text takes at most, by d, k and start: proofs/TextRoom.antt proves it.
 use Rattle.std.specs.Prelude.{ℕ, ◌+◌, ◌*◌, ◌≤◌, length}
-use Rattle.trcf.specs.Settings.{Settings}
 use Rattle.trcf.specs.Preprocessor.{State}
 use Rattle.snapshot.specs.Text.{render}
 use Rattle.snapshot.specs.Form.{Form}

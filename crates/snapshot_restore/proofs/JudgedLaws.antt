@@ -1,12 +1,12 @@
 -- The lines after `cnt`, judged, of which nothing was kept.
 use Prim.Native.Nat.{ℕ, ◌+◌, ◌*◌, ◌<◌, ◌≤◌}
 use native.Mathlib.Omega.{arith}
-use mathlib.Core.Path.{◌≡◌, refl, sym, ap, ◌∙◌, subst}
+use mathlib.Core.Path.{◌≡◌, sym, ap, ◌∙◌, subst}
 use mathlib.Core.List.{List}
 use lib.ListN.{length}
 use Rattle.trcf.specs.Settings.{Settings}
 use Rattle.snapshot.specs.Read.{Counts}
-use Rattle.snapshot.specs.Steps.Runs.{Ran, ran, broke, unkept, bufs, Initial, Parts, expected, parts_of, body_by, Good}
+use Rattle.snapshot.specs.Steps.Runs.{ran, broke, unkept, bufs, expected, parts_of, body_by, Good}
 use Rattle.snapshot.proofs.BodyLaws.{kept_of_lem, broke_of, bufs_length, body_parts, body_bufs, body_behind, body_all}
 use Rattle.snapshot_restore.specs.Steps.{summed}
 use Rattle.snapshot.specs.declared.head.BadLine.{BadLine}

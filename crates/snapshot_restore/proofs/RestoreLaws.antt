@@ -1,25 +1,25 @@
 -- `restore` in the order of its code: where it refuses, and what it gives.
-use Prim.Native.Nat.{ℕ, zero, suc, ◌+◌, ◌*◌, ◌≤◌, ◌<◌}
+use Prim.Native.Nat.{ℕ, ◌+◌, ◌*◌, ◌≤◌}
 use native.Mathlib.Omega.{arith}
 use mathlib.Core.Path.{◌≡◌, refl, sym, ap, ◌∙◌, subst}
 use mathlib.Core.Bool.{Bool, true, false, ◌||◌, cond}
-use mathlib.Core.List.{List, [], ◌∷◌, ◌++◌}
+use mathlib.Core.List.{List, [], ◌∷◌}
 use mathlib.Core.Option.{Option, none, some}
-use lib.ListN.{length, take, replicate, length-replicate}
+use lib.ListN.{length, replicate, length-replicate}
 use Rattle.trcf.specs.Transformer.{zero32}
 use lib.Dec.{T, ltb}
 use lib.Ieee.{Float, binary32, fits}
 use Rattle.trcf.specs.Settings.{Settings, whole_max}
-use Rattle.trcf.specs.View.{Lent, settings_of, head_from, no_head, counting, written_over, lent_short}
+use Rattle.trcf.specs.View.{Lent, settings_of, head_from, no_head, counting, lent_short}
 use Rattle.trcf.specs.declared.head.Preprocessor.{Preprocessor}
 use Rattle.trcf.proofs.DrainLaws.{front_over}
 use Rattle.snapshot.specs.Text.{whole, float}
-use Rattle.snapshot.specs.Read.{as_whole, as_float, all_codes, same, Counts, with_lists, Read, taken, bad, read}
-use Rattle.snapshot.specs.Steps.Judge.{list_line, checked, wgt_test, Codes, chn_or, chn_by, set_by, wgt_by, cnt_by}
+use Rattle.snapshot.specs.Read.{as_whole, as_float, all_codes, same, Counts, with_lists, Read, taken, read}
+use Rattle.snapshot.specs.Steps.Judge.{list_line, wgt_test, Codes, chn_or, chn_by, set_by, wgt_by, cnt_by}
 use Rattle.snapshot.specs.Save.{past}
 use Rattle.snapshot.specs.Restore.{restore_outcome, restored, restore_of}
-use Rattle.snapshot.specs.Steps.Runs.{Ran, ran, broke, one_line, after_lines, then_lines, map_ran, Head, head_read, third_by, head_by, head_with_counts, headed_of, HeadFew, counts_in}
-use Rattle.snapshot.specs.Steps.Runs.{Parts, Initial, Body, body_by, expected, parts_of, bufs, ending, body, filled_by, FillsOver, state_from, Good, read_by, as_read}
+use Rattle.snapshot.specs.Steps.Runs.{Ran, ran, broke, one_line, after_lines, then_lines, map_ran, Head, head_read, third_by, head_by, head_with_counts, headed_of, counts_in}
+use Rattle.snapshot.specs.Steps.Runs.{Parts, Initial, Body, body_by, expected, parts_of, bufs, body, filled_by, FillsOver, state_from, Good, read_by, as_read}
 use Rattle.snapshot_restore.specs.Steps.{summed}
 use Rattle.snapshot.specs.declared.head.BadLine.{BadLine}
 use Rattle.std.specs.Prelude.{Result, Ok, Err, IsErrAnd}

@@ -1,18 +1,18 @@
 -- A line of a whole number and an f32, or `-` in its place. Assumes nothing.
-use Prim.Native.Nat.{ℕ, ◌+◌, ◌≤◌, ◌<◌}
+use Prim.Native.Nat.{ℕ, ◌≤◌, ◌<◌}
 use native.Mathlib.Omega.{arith}
-use mathlib.Core.Path.{◌≡◌, refl, sym, ap, ◌∙◌}
+use mathlib.Core.Path.{◌≡◌, refl, ◌∙◌}
 use mathlib.Core.Bool.{Bool, true, false}
-use mathlib.Core.List.{List, [], ◌∷◌, ◌++◌, append_assoc}
+use mathlib.Core.List.{List, [], ◌∷◌, ◌++◌}
 use lib.ListN.{length, length-append}
 use lib.Ieee.{Float, binary32}
 use borrow.Author.Tests.{lt-ltb, le-ltb}
 use Rattle.trcf.specs.Settings.{whole_max}
-use Rattle.snapshot.specs.Text.{whole, float, tabbed_fields, named}
+use Rattle.snapshot.specs.Text.{whole, tabbed_fields}
 use Rattle.snapshot.specs.Read.{bytes_of_line}
 use Rattle.snapshot.specs.Save.{save_outcome}
 use Rattle.snapshot.specs.Steps.Write.{Wrote}
-use Rattle.snapshot.proofs.WriteLaws.{wrote_then, wrote_is, whole_short, float_length, stored_over}
+use Rattle.snapshot.proofs.WriteLaws.{whole_short, float_length, stored_over}
 use Rattle.snapshot_save.specs.Line.{text_within, optional_field, optional_line}
 
 pub optional_short : (g : Bool) (x : Float) → length (optional_field g x) ≤ 8

@@ -1,8 +1,8 @@
 -- A line as the code reads it: piece by piece from a place of the text on, and none where a piece is bad.
-use Rattle.std.specs.Prelude.{Option as Answer, Some, None, ℕ, zero, suc, ◌+◌, ◌-◌, Bool, true, false, not, ◌&&◌, ◌||◌, cond, ◌≡◌, List, [], ◌∷◌, ◌++◌, ◌⊎◌, length, take, drop, replicate, get_or, leb, ltb, eqb, Float}
+use Rattle.std.specs.Prelude.{Option as Answer, Some, None, ℕ, zero, suc, ◌+◌, ◌-◌, Bool, not, ◌&&◌, ◌||◌, cond, ◌≡◌, List, [], ◌∷◌, ◌++◌, ◌⊎◌, length, take, drop, replicate, get_or, leb, ltb, eqb, Float}
 use Rattle.std.proofs.Math.Option.{Option, none, some}
 use Rattle.std.proofs.Common.{inl, inr}
-use Rattle.std.specs.Float.{nan, Format, binary32, binary64}
+use Rattle.std.specs.Float.{nan, binary32, binary64}
 use Rattle.common.specs.Deviation.{count_limit, outside_unit}
 use Rattle.refusal.specs.Lent.{over}
 use Rattle.trcf.specs.Types.{is_none, normalizes, mode_of_letter}

@@ -1,6 +1,4 @@
 -- What holds in the loops of `snapshot::field::hex`.
-use Prim.Native.Nat.{◌-◌, ◌≤◌}
-use lib.ListN.{length}
 use Rattle.snapshot.proofs.HexLaws.{Told}
 use Rattle.snapshot.proofs.field.hex.Given as goal
 

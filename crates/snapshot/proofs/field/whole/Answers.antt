@@ -1,9 +1,8 @@
 -- `snapshot::field::whole` meets its contract. Assumes nothing.
-use Prim.Native.Nat.{ℕ, suc, ◌-◌, ◌<◌}
+use Prim.Native.Nat.{ℕ, suc, ◌<◌}
 use native.Mathlib.Omega.{arith}
 use native.Mathlib.Numerals.{add-one}
 use mathlib.Core.Path.{◌≡◌, refl, sym, ap, ◌∙◌}
-use mathlib.Core.Bool.{true, false}
 use lib.ListN.{length, drop, get_or}
 use Rattle.snapshot.specs.Steps.Scan.{scan}
 use Rattle.snapshot.proofs.ScanLaws.{none_at, some_at, none_lead, scan_yes, scan_low, scan_high, scan_big}

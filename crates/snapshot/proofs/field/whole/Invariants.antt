@@ -1,8 +1,7 @@
 -- What holds in the loops of `snapshot::field::whole`.
-use Prim.Native.Nat.{◌-◌, ◌≤◌}
 use mathlib.Core.Path.{◌≡◌}
 use mathlib.Core.Bool.{true}
-use lib.ListN.{length, drop}
+use lib.ListN.{drop}
 use Rattle.snapshot.specs.Steps.Scan.{lead, scan}
 use Rattle.snapshot.proofs.field.whole.Given as goal
 

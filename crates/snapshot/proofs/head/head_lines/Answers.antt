@@ -1,5 +1,4 @@
 -- `snapshot::head::head_lines` meets its contract. Assumes nothing.
-use Prim.Native.Nat.{◌+◌}
 use mathlib.Core.Path.{sym, ap, ◌∙◌, subst}
 use lib.ListN.{take, drop}
 use lib.Seq.{length-take-le}

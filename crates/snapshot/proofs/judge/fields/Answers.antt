@@ -1,7 +1,7 @@
 -- `snapshot::judge::fields` meets its contract. Assumes nothing.
 use native.Mathlib.Omega.{arith}
 use mathlib.Core.Path.{sym}
-use lib.ListN.{length, drop}
+use lib.ListN.{drop}
 use Rattle.std.proofs.lemmas.List.{set-get_or}
 use Rattle.snapshot.proofs.JudgeLaws.{sofar_none, sofar_step, sofar_stop, sofar_done, left_stop, left_done}
 use Rattle.snapshot.proofs.judge.fields.Goals as goal

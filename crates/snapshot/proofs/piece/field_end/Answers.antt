@@ -1,8 +1,8 @@
 -- `snapshot::piece::field_end` meets its contract. Assumes nothing.
-use Prim.Native.Nat.{suc, ◌-◌, ◌<◌}
+use Prim.Native.Nat.{suc, ◌<◌}
 use native.Mathlib.Omega.{arith}
 use native.Mathlib.Numerals.{add-one}
-use mathlib.Core.Path.{◌≡◌, refl}
+use mathlib.Core.Path.{◌≡◌}
 use lib.ListN.{length, drop, get_or}
 use Rattle.snapshot.specs.Steps.Judge.{field_length}
 use Rattle.snapshot.proofs.JudgeLaws.{stops, goes, none_left}

@@ -1,8 +1,6 @@
 -- `snapshot::settings::set_line` meets its contract. Assumes nothing.
-use native.Mathlib.Omega.{arith}
 use mathlib.Core.Path.{sym, ◌∙◌}
-use lib.ListN.{drop}
-use Rattle.snapshot.proofs.SettingsLaws.{mode_inside, set_nameless, set_tabless, set_modeless, set_wholeless, set_methodless, set_tailless, set_unfit, set_good}
+use Rattle.snapshot.proofs.SettingsLaws.{set_nameless, set_tabless, set_modeless, set_wholeless, set_methodless, set_tailless, set_unfit, set_good}
 use Rattle.snapshot.proofs.settings.set_line.Goals as goal
 
 pub returns-in_err-p : goal.returns-in_err-p

@@ -1,9 +1,8 @@
 -- The test of each number.
 use Rattle.std.proofs.Common.{rules, refl}
 use Rattle.std.proofs.lemmas.List.Recursion.{and_is}
-use lib.Dec.{eqb, leb}
-use Rattle.trcf.specs.Settings.{code_max}
-use Rattle.snapshot.specs.Read.{zeros, all_codes}
+use lib.Dec.{eqb}
+use Rattle.snapshot.specs.Read.{zeros}
 use Rattle.snapshot.proofs.values.all_zero.Goals as goal
 
 pub returns : goal.returns

@@ -1,9 +1,9 @@
 -- The test of each number.
 use Rattle.std.proofs.Common.{rules, refl}
 use Rattle.std.proofs.lemmas.List.Recursion.{and_is}
-use lib.Dec.{eqb, leb}
+use lib.Dec.{leb}
 use Rattle.trcf.specs.Settings.{code_max}
-use Rattle.snapshot.specs.Read.{zeros, all_codes}
+use Rattle.snapshot.specs.Read.{all_codes}
 use Rattle.snapshot.proofs.values.codes_fit.Goals as goal
 
 pub returns : goal.returns

@@ -1,6 +1,6 @@
 -- What holds in the loops of `snapshot::values::narrowed`.
 use mathlib.Core.Path.{◌≡◌}
-use Prim.Native.Nat.{ℕ, ◌≤◌, ◌-◌}
+use Prim.Native.Nat.{ℕ}
 use lib.ListN.{length, replicate, take}
 use Rattle.refusal.specs.Lent.{over}
 use Rattle.snapshot.proofs.values.narrowed.Given as goal

@@ -1,10 +1,8 @@
 -- `snapshot_restore::lines::buf_lines` meets its contract. Assumes nothing.
-use Prim.Native.Nat.{◌+◌, ◌-◌}
 use native.Mathlib.Omega.{arith}
-use mathlib.Core.Path.{sym, ◌∙◌}
 use lib.ListN.{drop}
 use Rattle.trcf.specs.Preprocessor.{reading}
-use Rattle.snapshot.proofs.RunLaws.{bufs_few, block_room, block_long, bufs_none, bufs_step, bufs_stop, bufs_done}
+use Rattle.snapshot.proofs.RunLaws.{bufs_few, block_room, bufs_none, bufs_step, bufs_stop, bufs_done}
 use Rattle.snapshot_restore.proofs.lines.buf_lines.Goals as goal
 
 pub loop-i-init : goal.loop-i-init

@@ -1,9 +1,7 @@
 -- `snapshot_restore::lines::dev_lines` meets its contract. Assumes nothing.
-use Prim.Native.Nat.{◌+◌, ◌-◌}
 use native.Mathlib.Omega.{arith}
-use mathlib.Core.Path.{sym, ◌∙◌}
 use lib.ListN.{drop}
-use Rattle.snapshot.proofs.RunLaws.{block_room, block_long, devs_none, devs_step, devs_stop, devs_done}
+use Rattle.snapshot.proofs.RunLaws.{block_room, devs_none, devs_step, devs_stop, devs_done}
 use Rattle.snapshot_restore.proofs.lines.dev_lines.Goals as goal
 
 pub loop-i-init : goal.loop-i-init

@@ -1,6 +1,5 @@
 -- `snapshot_save::save::save` meets its contract: the head's own rows first, then its callee's promise. Assumes nothing.
 use mathlib.Core.Path.{sym, ◌∙◌}
-use Rattle.refusal.proofs.RefusalLaws.{is_numbered}
 use Rattle.snapshot.proofs.SaveLaws.{saved_refused, saved_misfit, saved_held}
 use Rattle.snapshot_save.proofs.save.save.Goals as goal
 

@@ -4,7 +4,7 @@ use Rattle.snapshot.specs.Text.{whole}
 use lib.ListN.{length, drop}
 use mathlib.Core.List.{map}
 use mathlib.Core.Path.{◌≡◌}
-use Prim.Native.Nat.{◌+◌, ◌-◌, ◌*◌, ◌≤◌}
+use Prim.Native.Nat.{◌+◌, ◌*◌, ◌≤◌}
 use Rattle.snapshot_save.proofs.save.wholes_length.Given as goal
 
 abbrev pub invariant-loop-n : goal.invariant-loop-n

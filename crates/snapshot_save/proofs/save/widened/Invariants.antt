@@ -1,6 +1,6 @@
 -- What holds in the loops of `snapshot_save::save::widened`.
 use mathlib.Core.Path.{◌≡◌}
-use Prim.Native.Nat.{ℕ, ◌≤◌, ◌-◌}
+use Prim.Native.Nat.{ℕ}
 use lib.ListN.{length, replicate, take}
 use Rattle.refusal.specs.Lent.{over}
 use Rattle.snapshot_save.proofs.save.widened.Given as goal

@@ -2,7 +2,7 @@
 use Rattle.snapshot.proofs.WriteLaws.{Left}
 use Rattle.snapshot.specs.Text.{bytes_of, buf_lines}
 use lib.ListN.{length, drop}
-use Prim.Native.Nat.{◌+◌, ◌-◌, ◌*◌, ◌≤◌}
+use Prim.Native.Nat.{◌+◌, ◌*◌, ◌≤◌}
 use Rattle.snapshot_save.proofs.write.buf_lines.Given as goal
 
 abbrev pub invariant-loop-time : goal.invariant-loop-time

@@ -8,7 +8,7 @@ use lib.ListN.{length, drop, get_or, length-append, length-drop}
 use mathlib.Core.List.{List}
 use mathlib.Core.Path.{◌≡◌, ap}
 use native.Mathlib.Omega.{arith}
-use Prim.Native.Nat.{◌+◌, ◌-◌, ◌*◌, ◌<◌}
+use Prim.Native.Nat.{◌+◌, ◌*◌, ◌<◌}
 use Rattle.snapshot_save.proofs.write.dev_lines.Goals as goal
 
 pub loop-i-init : goal.loop-i-init

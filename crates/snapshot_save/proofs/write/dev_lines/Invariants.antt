@@ -1,7 +1,7 @@
 -- What holds in the loops of `snapshot_save::write::dev_lines`.
 use Rattle.snapshot.proofs.WriteLaws.{Left}
 use Rattle.snapshot.specs.Text.{bytes_of, dev_lines}
-use lib.ListN.{length, drop}
+use lib.ListN.{drop}
 use Prim.Native.Nat.{◌*◌}
 use Rattle.snapshot_save.proofs.write.dev_lines.Given as goal
 

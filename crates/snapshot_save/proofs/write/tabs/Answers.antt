@@ -1,7 +1,6 @@
 -- `snapshot_save::write::tabs` meets its contract. Assumes nothing.
 use Prim.Native.Nat.{ℕ, ◌+◌, ◌<◌}
 use native.Mathlib.Numerals.{add-one}
-use native.Mathlib.Omega.{arith}
 use mathlib.Core.Path.{◌≡◌, ap, sym, ◌∙◌}
 use mathlib.Core.List.{List, ◌∷◌, map}
 use lib.ListN.{length, drop, get_or, drop_of_length-le}

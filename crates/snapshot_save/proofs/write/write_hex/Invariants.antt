@@ -1,5 +1,5 @@
 -- What holds in the loops of `snapshot_save::write::write_hex`.
-use Prim.Native.Nat.{◌≤◌, ◌-◌}
+use Prim.Native.Nat.{◌≤◌}
 use mathlib.Core.Path.{◌≡◌}
 use lib.ListN.{length}
 use Rattle.snapshot.specs.Text.{hex}

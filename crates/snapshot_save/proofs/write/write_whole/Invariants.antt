@@ -3,7 +3,6 @@ use Rattle.snapshot.specs.Steps.Write.{stored}
 use Rattle.snapshot.specs.Text.{whole}
 use lib.ListN.{length}
 use mathlib.Core.Path.{◌≡◌}
-use Prim.Native.Nat.{◌≤◌, ◌-◌}
 use Rattle.snapshot_save.proofs.write.write_whole.Given as goal
 
 abbrev pub invariant-loop-i : goal.invariant-loop-i
