@@ -75,5 +75,5 @@ returns c =
     let a = c.args in
     let l = c.loop-i in
     track_done (settings_from a.builder (a.weight ∷ []) (0 ∷ [])) (signal_of a.signal) _
-    (begun (settings_from a.builder (a.weight ∷ []) (0 ∷ [])) c.build-built.result c.unwrap_or.result _ c.no_head.ensures c.unwrap_or.ensures c.build-built.ensures) l.i a.signal.readings (omega arith) l.head _ _
+    (begun (settings_from a.builder (a.weight ∷ []) (0 ∷ [])) c.build-built.result c.unwrap_or-head.result _ c.no_head.ensures c.unwrap_or-head.ensures c.build-built.ensures) l.i a.signal.readings (omega arith) l.head _ _
     l.invariant.0
