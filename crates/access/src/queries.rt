@@ -1,5 +1,5 @@
 // The calls that change nothing, for a role that may see.
-// Kept: (a) the six lent lists are parameters: the C interface lends each call its own mix of shared and mutable lists, and a struct would need a type for each mix.
+// Kept: (d) the six lent lists are parameters: a struct would need a type for each mix of shared and mutable lists that the calls lend, and with mutable ones a clause on their loans in each contract.
 ghost use Rattle.std.specs.Prelude.{◌≡◌};
 ghost use Rattle.refusal.specs.Refusal.{row_of};
 ghost use Rattle.ranges.specs.RangeVector.{ranges};
@@ -126,6 +126,7 @@ pub fn difference_deviations(
     )
 }
 
+// Kept: (a) C lends nine lists, which are put together here.
 pub fn invert_extrapolation(
     table: &[u8],
     role: u64,

@@ -1,5 +1,5 @@
 // One turn of the program `bench`: the bytes that a read brought, after those that are kept of the block before, and what is kept of both.
-// Kept: (a) the six lent lists are parameters: the C interface lends each call its own mix of shared and mutable lists, and a struct would need a type for each mix.
+// Kept: (d) the six lent lists are parameters: a struct would need a type for each mix of shared and mutable lists that the calls lend, and with mutable ones a clause on their loans in each contract.
 ghost use Rattle.std.specs.Prelude.{◌≡◌, ◌+◌, ◌≤◌, IfOk, length, take, drop};
 ghost use Rattle.refusal.specs.Lent.{over};
 ghost use Rattle.trcf.specs.View.{lent};

@@ -1,5 +1,5 @@
 // The bench, cell by cell: a step reads one cell of the input, and prints what the line asks for where the cell ends it.
-// Kept: (a) the six lent lists are parameters: the C interface lends each call its own mix of shared and mutable lists, and a struct would need a type for each mix.
+// Kept: (d) the six lent lists are parameters: a struct would need a type for each mix of shared and mutable lists that the calls lend, and with mutable ones a clause on their loans in each contract.
 ghost use Rattle.std.specs.Prelude.{◌≡◌, List, Float, ◌≤◌, length};
 ghost use Rattle.refusal.specs.Refusal.{number_of, row_of};
 ghost use Rattle.trcf.specs.Settings.{settings_row};

@@ -1,5 +1,5 @@
 // Taking up a text over lent words.
-// Kept: (a) the six lent lists are parameters: the C interface lends each call its own mix of shared and mutable lists, and a struct would need a type for each mix.
+// Kept: (d) the six lent lists are parameters: a struct would need a type for each mix of shared and mutable lists that the calls lend, and with mutable ones a clause on their loans in each contract.
 ghost use Rattle.std.specs.Prelude.{◌≡◌, cond, eqb};
 ghost use Rattle.trcf.specs.View.{lent};
 ghost use Rattle.snapshot_restore.specs.Told.{row_told, line_told};

@@ -13,6 +13,7 @@ pub(crate) fn kind_row(mode: u64, method: u64) -> Result<(), Refusal>
     if 3 < mode || 5 < method { Err(Refusal::Form) } else { Ok(()) }
 }
 
+// Kept: (a) C has numbers for the modes, and not the letters that `u8::from` gives.
 pub(crate) fn mode_of(n: u64) -> ForestMode
     ensures { result ≡ mode_of n }
 {

@@ -69,7 +69,7 @@ fn factor(discount: f64, count: u64) -> f64
 }
 
 // The factor of the next update, one for all statistics of this discount and this count; 0 where the count is spent, so that there is none.
-// Kept: no Option (d): a caller only hands it on to update_by, which refuses at a count that is spent and does not look at it.
+// Kept: (d) no Option, since a caller only hands it on to update_by, which refuses at a count that is spent and does not look at it.
 pub fn next_factor(discount: f64, count: u64) -> f64
     ensures { result ≡ next_factor discount count }
 {

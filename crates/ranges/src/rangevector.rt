@@ -11,7 +11,7 @@ ghost use Rattle.ranges.specs.RangeVector.{unequal_at, unequal, unblocked, short
 use refusal::Refusal;
 
 /// A width of floats, with what a range asks of its numbers.
-// Kept: five methods and not std's operators as bounds (d): of those each width has to prove seven laws in the place of these lines.
+// Kept: (d) five methods and not std's operators as bounds, of which each width would have to prove seven laws in the place of these lines.
 pub trait Width: Copy {
     ghost operations: { Operations Self };
 

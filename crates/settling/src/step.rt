@@ -1,5 +1,5 @@
 // One reading: it is sent to point, and then to learn with the point given. The program runs as role 0 of a table with every right.
-// Kept: (a) the six lent lists are parameters: the C interface lends each call its own mix of shared and mutable lists, and a struct would need a type for each mix.
+// Kept: (d) the six lent lists are parameters: a struct would need a type for each mix of shared and mutable lists that the calls lend, and with mutable ones a clause on their loans in each contract.
 ghost use Rattle.std.specs.Prelude.{◌≡◌, ◌≤◌, is_some};
 ghost use Rattle.std.proofs.Math.Option.{none};
 ghost use Rattle.std.specs.Float.{nan};

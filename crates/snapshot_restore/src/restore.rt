@@ -1,5 +1,5 @@
 // `restore` (document 01: taking up): the whole text is judged first, and then the lent lists are filled.
-// Kept: (a) the six lent lists are parameters: the C interface lends each call its own mix of shared and mutable lists, and a struct would need a type for each mix.
+// Kept: (d) the six lent lists are parameters: a struct would need a type for each mix of shared and mutable lists that the calls lend, and with mutable ones a clause on their loans in each contract.
 ghost use Rattle.std.specs.Prelude.{◌≡◌, cond, ◌+◌, ◌*◌, ◌≤◌, length, drop, IfOk, IfErr, OnOk};
 ghost use Rattle.trcf.specs.Types.{augments};
 ghost use Rattle.refusal.specs.Refusal.{number_of};

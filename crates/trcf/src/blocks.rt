@@ -72,7 +72,7 @@ fn turn(
 }
 
 // NONE: block i of d numbers is shifted by its drift alone.
-// Kept: the three lists are parameters, here and of invert_block (b): through the struct a block first tests that they lie apart, and takes 227 ms for 201.
+// Kept: (b) the three lists are parameters, here and of invert_block: through the struct a block first tests that they lie apart, and takes 227 ms for 201.
 fn drift_block(
     drifts: &[f32; 16],
     d: usize,

@@ -91,8 +91,8 @@ pub struct Status {
 // The largest values_seen and internal_timestamp.
 pub const SEEN_LIMIT: usize = 9_223_372_036_854_775_807;
 
-// What a refused build hands back, and whatever else has no head to hand back: every call refuses it.
-// Kept: (a) the C interface writes a head on a refusal too, and this is the one.
+// A head that no build made, for whoever needs one before the first build: every call refuses it.
+// Kept: (d) the definitions tell it on a refusal, and the bench holds one before the first `set`: an Option there would be taken apart at every line.
 #[tactic(auto, unfolding(refusal::specs::Lent::over))]
 pub fn no_head() -> Preprocessor
     ensures { result ≡ no_head }

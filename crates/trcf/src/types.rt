@@ -66,7 +66,7 @@ impl TryFrom<u64> for TransformMethod {
 }
 
 // For whoever has refused a number above 5 beforehand: it gives the last.
-// Kept: (d) its callers have refused the number by a row of their own, so a Result here would be an arm that never comes.
+// Kept: (d) its one caller, the bench, holds no number above 5, so a Result here would be an arm that never comes.
 pub fn method_of_number(n: u64) -> TransformMethod
     ensures { result ≡ method_of_number n }
 {

@@ -1,5 +1,5 @@
 // A new preprocessor from its settings (the source's Preprocessor::new).
-// Kept: (a) the six lent lists are parameters: the C interface lends each call its own mix of shared and mutable lists, and a struct would need a type for each mix.
+// Kept: (d) the six lent lists are parameters: a struct would need a type for each mix of shared and mutable lists that the calls lend, and with mutable ones a clause on their loans in each contract.
 ghost use Rattle.std.specs.Prelude.{◌≡◌, ◌≤◌, length};
 ghost use Rattle.trcf.specs.View.{lent, settings_from, head_from, no_head, head_outcome, build_of};
 

@@ -1,5 +1,4 @@
 // A forecast of transformed readings turned back into readings and times (the source's Preprocessor::invert_extrapolation).
-// Kept: (a) the six lent lists are parameters: the C interface lends each call its own mix of shared and mutable lists, and a struct would need a type for each mix.
 ghost use Rattle.std.specs.Prelude.{◌≡◌, true, false, ◌&&◌, [], ◌∷◌, ◌*◌, ◌≤◌, ◌<◌, pos, length, OnOk};
 ghost use Rattle.std.specs.Float.{binary64};
 ghost use Rattle.std.specs.Float.Ieee.{of_int};
@@ -14,7 +13,7 @@ ghost use Rattle.trcf.specs.View.{settings_of, holding, counters_unfit, Bounded}
 ghost use Rattle.trcf.specs.Calls.{sizes, forecast_unfit, forecast_output_short};
 ghost use Rattle.trcf.specs.Extrapolation.{extrapolation, forecast, viewed, extrapolation_of, read_short, row_at};
 ghost use Rattle.trcf.specs.Steps.Inverting.{Unbroken, Longer, Long, Readable, Invertible, time_factor, time_by, times_by};
-ghost use Rattle.trcf_forecast.specs.Lengths.{sizes_in, sizes_of};
+ghost use Rattle.trcf_forecast.specs.Steps.Lengths.{sizes_in, sizes_of};
 
 use ranges::rangevector::{Range, RangeVector};
 use refusal::Refusal;
@@ -275,7 +274,7 @@ impl Clock {
 }
 
 // What a range holds at one index.
-// Kept: (a) a public function asks nothing of its callers, so that the two of ranges that do the same stay private.
+// Kept: (a) a rule of the project: a public function asks nothing of its callers, so that the two of ranges that do the same stay private.
 fn read_at(range: &RangeVector<f32>, i: usize) -> Range<f32>
     requires { (i < length range.now.values.now) × (i < length range.now.upper.now) × (i < length range.now.lower.now) }
     ensures { result ≡ range_at (held range.now) i }
@@ -364,7 +363,7 @@ fn invert_times(
 }
 
 // A mode with a time element: numbers and times to the front of the lists lent for them.
-// Kept: the six lists are parameters, here and of the two workers above (c): a part of a list in a lent struct cannot be lent beside another's part
+// Kept: (c) the six lists are parameters, here and of the two workers above: a part of a list in a lent struct cannot be lent beside another's part
 // (the borrow checker covers no such call), and what a struct of parts was left as is not known after it.
 fn invert_augmented(
     head: Preprocessor,

@@ -1,5 +1,4 @@
 // Learning: what post_process does to the lists, and what it writes.
-// Kept: (a) the six lent lists are parameters: the C interface lends each call its own mix of shared and mutable lists, and a struct would need a type for each mix.
 ghost use Rattle.std.specs.Prelude.{◌≡◌, true, cond, ◌&&◌, [], ◌∷◌, ◌++◌, suc, ◌-◌, ◌*◌, ◌≤◌, ◌<◌, ltb, eqb, length, take, get_or, is_some, Some, None};
 ghost use Rattle.std.specs.Float.Ieee.{lt};
 ghost use Rattle.common.specs.Deviation.{count_limit};

@@ -1,5 +1,5 @@
 // A reading is learnt: it waits, or it comes into the statistics and the shingles (the source's post_process).
-// Kept: (a) the six lent lists are parameters: the C interface lends each call its own mix of shared and mutable lists, and a struct would need a type for each mix.
+// Kept: (d) the six lent lists are parameters: a struct would need a type for each mix of shared and mutable lists that the calls lend, and with mutable ones a clause on their loans in each contract.
 ghost use Rattle.std.specs.Prelude.{◌≡◌, true, false, cond, ◌&&◌, [], ◌∷◌, ◌++◌, suc, ◌*◌, ◌≤◌, ◌<◌, ltb, eqb, length, take, is_some, None};
 ghost use Rattle.std.specs.Float.Ieee.{lt};
 ghost use Rattle.common.specs.Deviation.{count_limit};

@@ -1,5 +1,5 @@
 // Which row refuses a call. Nothing here writes.
-// Kept: (a) the six lent lists are parameters: the C interface lends each call its own mix of shared and mutable lists, and a struct would need a type for each mix.
+// Kept: (d) the six lent lists are parameters: a struct would need a type for each mix of shared and mutable lists that the calls lend, and with mutable ones a clause on their loans in each contract.
 ghost use Rattle.std.specs.Prelude.{◌≡◌, not, ◌&&◌, ◌||◌, List, [], ◌∷◌, ℕ, ◌+◌, ◌≤◌, ltb, eqb, length, take, Float, OnOk};
 ghost use Rattle.common.specs.Deviation.{count_limit};
 ghost use Rattle.refusal.specs.Refusal.{row_of, first_of};
