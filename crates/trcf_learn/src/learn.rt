@@ -10,7 +10,7 @@ ghost use Rattle.trcf.specs.Settings.{dimension, block, transformer};
 ghost use Rattle.trcf.specs.Preprocessor.{statistics_length, reading, feed, previous, block_from, deviations};
 ghost use Rattle.trcf.specs.View.{settings_of, holding, Bounded};
 ghost use Rattle.trcf.specs.Steps.Learning.{Exact, Findable};
-ghost use Rattle.trcf_learn.specs.Given.{list_in};
+ghost use Rattle.trcf_rows.specs.Given.{list_in};
 
 use trcf::feeding::feed_reading;
 use trcf::head::{Anomaly, Preprocessor};

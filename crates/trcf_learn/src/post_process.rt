@@ -9,7 +9,7 @@ ghost use Rattle.trcf.specs.Settings.{block, dimension};
 ghost use Rattle.trcf.specs.Preprocessor.{statistics_length, deviations};
 ghost use Rattle.trcf.specs.View.{lent, settings_of, holding, counting, learn_call, processed_outcome, learn_after, Bounded};
 ghost use Rattle.trcf.specs.Steps.Learning.{learn_parts, learned_parts, answering, Learnable};
-ghost use Rattle.trcf_learn.specs.Given.{list_in};
+ghost use Rattle.trcf_rows.specs.Given.{list_in};
 
 use crate::learn::{hold, update_shingles, write_completing, write_found};
 use refusal::Refusal;
@@ -134,13 +134,6 @@ fn post_process_learning(
     }
 }
 
-// What is given, and the empty list where nothing is.
-fn given(list: Option<&[f32]>) -> &[f32]
-    ensures { result.now ≡ list_in list.entry }
-{
-    list.unwrap_or(&[])
-}
-
 pub fn post_process(
     head: Preprocessor,
     statistics: &mut [f64],
@@ -172,10 +165,8 @@ pub fn post_process(
         initial_timestamps,
         input,
         timestamp,
-        given(y),
-        y.is_some(),
-        given(expected),
-        expected.is_some(),
+        y,
+        expected,
         grade,
         relative_index,
         deviations_out,

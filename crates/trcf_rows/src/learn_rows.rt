@@ -1,6 +1,6 @@
 // Which row refuses a post_process. Nothing here writes.
 // Kept: (a) the six lent lists are parameters: the C interface lends each call its own mix of shared and mutable lists, and a struct would need a type for each mix.
-ghost use Rattle.std.specs.Prelude.{◌≡◌, not, ◌&&◌, ◌||◌, ltb, leb, eqb, OnOk};
+ghost use Rattle.std.specs.Prelude.{◌≡◌, not, ◌&&◌, ◌||◌, ltb, leb, eqb, length, is_some, OnOk};
 ghost use Rattle.std.specs.Float.Ieee.{lt};
 ghost use Rattle.refusal.specs.Refusal.{row_of};
 ghost use Rattle.common.specs.Deviation.{count_limit};
@@ -8,6 +8,7 @@ ghost use Rattle.trcf.specs.Transformer.{zero32};
 ghost use Rattle.trcf.specs.Calls.{seen_limit, post_process};
 ghost use Rattle.trcf.specs.View.{settings_of, row_of as call_row, lent, learn_call, back_of, Bounded, Ready};
 ghost use Rattle.trcf.specs.Steps.Rows.{input_row, waiting_row, learn_row, learning_row};
+ghost use Rattle.trcf_rows.specs.Given.{list_in};
 
 use crate::rows::{all_finite, is_waiting, lengths_of, lent_row};
 use common::deviation::COUNT_LIMIT;
@@ -51,10 +52,10 @@ fn input_row(
 }
 
 // Whether a list is given and not n long.
-fn is_wrong(given: bool, v: usize, n: usize) -> bool
-    ensures { result ≡ given && not (eqb v n) }
+fn is_wrong(list: Option<&[f32]>, n: usize) -> bool
+    ensures { result ≡ is_some list.entry && not (eqb (length (list_in list.entry)) n) }
 {
-    given && v != n
+    list.is_some_and(|v| v.len() != n)
 }
 
 // Whether an anomaly lies outside the shingle.
@@ -78,20 +79,24 @@ fn is_full(head: Preprocessor) -> bool
 }
 
 // Whether the outputs of an anomaly are too short.
-fn is_anomaly_short(grade: f32, expects: bool, d: usize, past: usize, expected: usize) -> bool
-    ensures { result ≡ (lt zero32 grade && expects) && (ltb past d || ltb expected d) }
+fn is_anomaly_short(
+    grade: f32,
+    expected: Option<&[f32]>,
+    d: usize,
+    past_out: usize,
+    expected_out: usize,
+) -> bool
+    ensures { result ≡ (lt zero32 grade && is_some expected.entry) && (ltb past_out d || ltb expected_out d) }
 {
-    grade > 0.0 && expects && (past < d || expected < d)
+    grade > 0.0 && expected.is_some() && (past_out < d || expected_out < d)
 }
 
 // Rows 13, 14, 18 and 20, past waiting.
 #[tactic(auto, using(trcf::proofs::LengthLaws::block_known, trcf::proofs::LengthLaws::dimension_known), unfolding(trcf::specs::Steps::Rows::learn_row, trcf::specs::Settings::block))]
 fn learn_row(
     head: Preprocessor,
-    y: usize,
-    has_y: bool,
-    expected: usize,
-    expects: bool,
+    y: Option<&[f32]>,
+    expected: Option<&[f32]>,
     grade: f32,
     back: usize,
     deviations_out: usize,
@@ -99,14 +104,14 @@ fn learn_row(
     expected_out: usize,
 ) -> Result<(), Refusal>
     requires { Bounded (settings_of head) }
-    ensures { row_of result ≡ learn_row head y has_y expected expects grade back deviations_out past_out expected_out }
+    ensures { row_of result ≡ learn_row head (length (list_in y.entry)) (is_some y.entry) (length (list_in expected.entry)) (is_some expected.entry) grade back deviations_out past_out expected_out }
 {
     let d = head.transformer.input_length;
     let m = get_dimension(head);
-    if is_wrong(has_y, y, m) || is_wrong(expects, expected, m) {
+    if is_wrong(y, m) || is_wrong(expected, m) {
         return Err(Refusal::PointLength);
     }
-    if !has_y {
+    if y.is_none() {
         return Ok(());
     }
     if is_misplaced(grade, back, head.shingle_size) {
@@ -116,7 +121,7 @@ fn learn_row(
         return Err(Refusal::CounterLimit);
     }
     if deviations_out < block_of(head.forest_mode, d)
-        || is_anomaly_short(grade, expects, d, past_out, expected_out)
+        || is_anomaly_short(grade, expected, d, past_out, expected_out)
     {
         return Err(Refusal::TooShort);
     }
@@ -143,10 +148,8 @@ fn waiting_row(head: Preprocessor, deviations_out: usize) -> Result<(), Refusal>
 #[tactic(auto, unfolding(trcf::specs::Steps::Rows::learning_row))]
 fn learning_row(
     head: Preprocessor,
-    y: usize,
-    has_y: bool,
-    expected: usize,
-    expects: bool,
+    y: Option<&[f32]>,
+    expected: Option<&[f32]>,
     grade: f32,
     back: usize,
     deviations_out: usize,
@@ -154,7 +157,7 @@ fn learning_row(
     expected_out: usize,
 ) -> Result<(), Refusal>
     requires { Bounded (settings_of head) }
-    ensures { row_of result ≡ learning_row head y has_y expected expects grade back deviations_out past_out expected_out }
+    ensures { row_of result ≡ learning_row head (length (list_in y.entry)) (is_some y.entry) (length (list_in expected.entry)) (is_some expected.entry) grade back deviations_out past_out expected_out }
 {
     if is_waiting(head) {
         return waiting_row(head, deviations_out);
@@ -162,9 +165,7 @@ fn learning_row(
     learn_row(
         head,
         y,
-        has_y,
         expected,
-        expects,
         grade,
         back,
         deviations_out,
@@ -173,7 +174,6 @@ fn learning_row(
     )
 }
 
-// Kept: (d) has_y and expects stand beside their lists, since the definition of the call has a flag and a list, and the rows ask of an absent list its flag alone.
 pub fn post_process_row(
     head: Preprocessor,
     statistics: &[f64],
@@ -184,17 +184,15 @@ pub fn post_process_row(
     initial_timestamps: &[u64],
     input: &[f32],
     timestamp: u64,
-    y: &[f32],
-    has_y: bool,
-    expected: &[f32],
-    expects: bool,
+    y: Option<&[f32]>,
+    expected: Option<&[f32]>,
     grade: f32,
     relative_index: i32,
     deviations_out: &[f32],
     past_out: &[f32],
     expected_out: &[f32],
 ) -> Result<(), Refusal>
-    ensures value { row_of result ≡ call_row head (lent statistics.now last_shingled_input.now last_shingled_point.now previous_timestamps.now initial_values.now initial_timestamps.now) (post_process (learn_call input.now timestamp has_y y.now expects expected.now grade relative_index deviations_out.now past_out.now expected_out.now)) }
+    ensures value { row_of result ≡ call_row head (lent statistics.now last_shingled_input.now last_shingled_point.now previous_timestamps.now initial_values.now initial_timestamps.now) (post_process (learn_call input.now timestamp (is_some y.entry) (list_in y.entry) (is_some expected.entry) (list_in expected.entry) grade relative_index deviations_out.now past_out.now expected_out.now)) }
     ensures ready { OnOk result (Ready head (lent statistics.now last_shingled_input.now last_shingled_point.now previous_timestamps.now initial_values.now initial_timestamps.now)) }
 {
     head_row(head)?;
@@ -204,10 +202,8 @@ pub fn post_process_row(
     let back = places_back(relative_index);
     learning_row(
         head,
-        y.len(),
-        has_y,
-        expected.len(),
-        expects,
+        y,
+        expected,
         grade,
         back,
         deviations_out.len(),

@@ -10,11 +10,9 @@ use lib.Ieee.{Float, lt}
 use lib.ListN.{length}
 use Rattle.std.specs.Prelude.{Option, Some, None, is_some}
 use Rattle.trcf.specs.Transformer.{zero32}
-use Rattle.trcf.specs.Calls.{post_process}
-use Rattle.trcf.specs.View.{lent, learn_call, row_of}
 use Rattle.trcf.specs.Steps.Learning.{Learnable, learned_parts}
 use Rattle.trcf.proofs.WayLaws.{way_refused, way_held, way_none, way_learnt, room_held, room_learnt}
-use Rattle.trcf_learn.specs.Given.{list_in}
+use Rattle.trcf_rows.specs.Given.{list_in}
 use Rattle.trcf_learn.proofs.post_process.post_process.Goals as goal
 
 none_given : (y : Option (Bor (List Float))) → ((p : Bor (List Float)) → y ≡ Some p → ⊥) → is_some y ≡ false
@@ -27,9 +25,7 @@ returns-in_err-post_process_row c =
     way_refused a.head a.statistics.now a.last_shingled_input.now a.last_shingled_point.now a.previous_timestamps.now a.initial_values.now
     a.initial_timestamps.now a.input.now a.timestamp (is_some a.y) (list_in a.y) (is_some a.expected) (list_in a.expected) a.grade a.relative_index
     (to_z w32 (of_z w32 a.relative_index)) a.deviations_out.now a.past_out.now a.expected_out.now (to_z-of_z w32 a.relative_index c.ranges.relative_index) _
-    (c.in_err-post_process_row.ensures.value ∙ (λ j. row_of a.head (lent a.statistics.now a.last_shingled_input.now a.last_shingled_point.now a.previous_timestamps.now a.initial_values.now a.initial_timestamps.now)
-    (post_process (learn_call a.input.now a.timestamp (c.is_some.ensures j) (c.given.ensures j) (c.is_some-2.ensures j) (c.given-2.ensures j) a.grade
-    (to_z w32 (of_z w32 a.relative_index)) a.deviations_out.now a.past_out.now a.expected_out.now)))) _ _ c.from_residual.ensures.1 refl
+    c.in_err-post_process_row.ensures.value _ _ c.from_residual.ensures.1 refl
 
 pub post_process_waiting-requires : goal.post_process_waiting-requires
 post_process_waiting-requires c =
@@ -37,9 +33,7 @@ post_process_waiting-requires c =
     let r = room_held a.head a.statistics.now a.last_shingled_input.now a.last_shingled_point.now a.previous_timestamps.now a.initial_values.now
     a.initial_timestamps.now a.input.now a.timestamp (is_some a.y) (list_in a.y) (is_some a.expected) (list_in a.expected) a.grade a.relative_index
     (to_z w32 (of_z w32 a.relative_index)) a.deviations_out.now a.past_out.now a.expected_out.now (to_z-of_z w32 a.relative_index c.ranges.relative_index) 0
-    (c.in_ok-post_process_row.ensures.value ∙ (λ j. row_of a.head (lent a.statistics.now a.last_shingled_input.now a.last_shingled_point.now a.previous_timestamps.now a.initial_values.now a.initial_timestamps.now)
-    (post_process (learn_call a.input.now a.timestamp (c.is_some.ensures j) (c.given.ensures j) (c.is_some-2.ensures j) (c.given-2.ensures j) a.grade
-    (to_z w32 (of_z w32 a.relative_index)) a.deviations_out.now a.past_out.now a.expected_out.now)))) (λ z. c.in_ok-post_process_row.ensures.ready) refl
+    c.in_ok-post_process_row.ensures.value (λ z. c.in_ok-post_process_row.ensures.ready) refl
     c.is_waiting.result c.is_waiting.ensures c.if-is_waiting.true in
     record {
       bounded = r.0;
@@ -59,9 +53,7 @@ returns-then-is_waiting c =
     way_held a.head a.statistics.now a.last_shingled_input.now a.last_shingled_point.now a.previous_timestamps.now a.initial_values.now
     a.initial_timestamps.now a.input.now a.timestamp (is_some a.y) (list_in a.y) (is_some a.expected) (list_in a.expected) a.grade a.relative_index
     (to_z w32 (of_z w32 a.relative_index)) a.deviations_out.now a.past_out.now a.expected_out.now (to_z-of_z w32 a.relative_index c.ranges.relative_index) 0
-    (c.in_ok-post_process_row.ensures.value ∙ (λ j. row_of a.head (lent a.statistics.now a.last_shingled_input.now a.last_shingled_point.now a.previous_timestamps.now a.initial_values.now a.initial_timestamps.now)
-    (post_process (learn_call a.input.now a.timestamp (c.is_some.ensures j) (c.given.ensures j) (c.is_some-2.ensures j) (c.given-2.ensures j) a.grade
-    (to_z w32 (of_z w32 a.relative_index)) a.deviations_out.now a.past_out.now a.expected_out.now)))) (λ z. c.in_ok-post_process_row.ensures.ready) refl
+    c.in_ok-post_process_row.ensures.value (λ z. c.in_ok-post_process_row.ensures.ready) refl
     c.is_waiting.result c.is_waiting.ensures c.if-is_waiting.true w.result _ _ _
     w.ensures.value w.ensures.initial_values_after w.ensures.initial_timestamps_after w.ensures.deviations_out_after
 
@@ -72,9 +64,7 @@ returns-in_default c =
     way_none a.head a.statistics.now a.last_shingled_input.now a.last_shingled_point.now a.previous_timestamps.now a.initial_values.now
     a.initial_timestamps.now a.input.now a.timestamp (is_some a.y) (list_in a.y) (is_some a.expected) (list_in a.expected) a.grade a.relative_index
     (to_z w32 (of_z w32 a.relative_index)) a.deviations_out.now a.past_out.now a.expected_out.now (to_z-of_z w32 a.relative_index c.ranges.relative_index) 0
-    (c.in_ok-post_process_row.ensures.value ∙ (λ j. row_of a.head (lent a.statistics.now a.last_shingled_input.now a.last_shingled_point.now a.previous_timestamps.now a.initial_values.now a.initial_timestamps.now)
-    (post_process (learn_call a.input.now a.timestamp (c.is_some.ensures j) (c.given.ensures j) (c.is_some-2.ensures j) (c.given-2.ensures j) a.grade
-    (to_z w32 (of_z w32 a.relative_index)) a.deviations_out.now a.past_out.now a.expected_out.now)))) (λ z. c.in_ok-post_process_row.ensures.ready) refl
+    c.in_ok-post_process_row.ensures.value (λ z. c.in_ok-post_process_row.ensures.ready) refl
     c.is_waiting.result c.is_waiting.ensures c.if-is_waiting.false has
 
 pub post_process_learning-requires : goal.post_process_learning-requires
@@ -84,9 +74,7 @@ post_process_learning-requires c =
     let r = room_learnt a.head a.statistics.now a.last_shingled_input.now a.last_shingled_point.now a.previous_timestamps.now a.initial_values.now
     a.initial_timestamps.now a.input.now a.timestamp (is_some a.y) (list_in a.y) (is_some a.expected) (list_in a.expected) a.grade a.relative_index
     (to_z w32 (of_z w32 a.relative_index)) a.deviations_out.now a.past_out.now a.expected_out.now (to_z-of_z w32 a.relative_index c.ranges.relative_index) 0
-    (c.in_ok-post_process_row.ensures.value ∙ (λ j. row_of a.head (lent a.statistics.now a.last_shingled_input.now a.last_shingled_point.now a.previous_timestamps.now a.initial_values.now a.initial_timestamps.now)
-    (post_process (learn_call a.input.now a.timestamp (c.is_some.ensures j) (c.given.ensures j) (c.is_some-2.ensures j) (c.given-2.ensures j) a.grade
-    (to_z w32 (of_z w32 a.relative_index)) a.deviations_out.now a.past_out.now a.expected_out.now)))) (λ z. c.in_ok-post_process_row.ensures.ready) refl
+    c.in_ok-post_process_row.ensures.value (λ z. c.in_ok-post_process_row.ensures.ready) refl
     c.is_waiting.result c.is_waiting.ensures c.if-is_waiting.false has c.places_back-back.result c.places_back-back.ensures in
     record {
       bounded = r.0;
@@ -107,9 +95,7 @@ returns c =
     way_learnt a.head a.statistics.now a.last_shingled_input.now a.last_shingled_point.now a.previous_timestamps.now a.initial_values.now
     a.initial_timestamps.now a.input.now a.timestamp (is_some a.y) (list_in a.y) (is_some a.expected) (list_in a.expected) a.grade a.relative_index
     (to_z w32 (of_z w32 a.relative_index)) a.deviations_out.now a.past_out.now a.expected_out.now (to_z-of_z w32 a.relative_index c.ranges.relative_index) 0
-    (c.in_ok-post_process_row.ensures.value ∙ (λ j. row_of a.head (lent a.statistics.now a.last_shingled_input.now a.last_shingled_point.now a.previous_timestamps.now a.initial_values.now a.initial_timestamps.now)
-    (post_process (learn_call a.input.now a.timestamp (c.is_some.ensures j) (c.given.ensures j) (c.is_some-2.ensures j) (c.given-2.ensures j) a.grade
-    (to_z w32 (of_z w32 a.relative_index)) a.deviations_out.now a.past_out.now a.expected_out.now)))) (λ z. c.in_ok-post_process_row.ensures.ready) refl
+    c.in_ok-post_process_row.ensures.value (λ z. c.in_ok-post_process_row.ensures.ready) refl
     c.is_waiting.result c.is_waiting.ensures c.if-is_waiting.false has c.places_back-back.result c.places_back-back.ensures _
     (c.post_process_learning.ensures ∙ (λ j. learned_parts a.head a.statistics.now a.last_shingled_input.now a.last_shingled_point.now a.previous_timestamps.now a.input.now
     a.timestamp (list_in (sym c.in-Some.is j)) (list_in a.expected) (lt zero32 a.grade && is_some a.expected) c.places_back-back.result a.deviations_out.now a.past_out.now

@@ -1,5 +1,5 @@
 -- The last test and what is left after it, by the tests on the way.
-use Rattle.std.proofs.Common.{sym, ◌∙◌}
+use Rattle.std.proofs.Common.{not, ap, sym, ◌∙◌}
 use borrow.Author.Tests.{lt-ltb, le-ltb}
 use Rattle.trcf.specs.Settings.{block}
 use Rattle.trcf.specs.Steps.Rows.{learn_row}
@@ -15,7 +15,7 @@ returns-then-deviations_out-block_of c =
       ← (block_known (c.block_of.ensures.value, c.block_of.ensures.upper_bound) c.requires.d_few).0,
       sym c.is_wrong.ensures ∙ c.if-is_wrong.false,
       sym c.is_wrong-else-is_wrong.ensures ∙ c.if-is_wrong-2.false,
-      c.if-not-has_y.false,
+      c.is_none.ensures ∙ ap not c.if-is_none.false,
       sym c.is_misplaced.ensures ∙ c.if-is_misplaced.false,
       sym c.is_full.ensures ∙ c.if-is_full.false,
     )
@@ -33,7 +33,7 @@ returns c =
       ← (block_known (c.block_of.ensures.value, c.block_of.ensures.upper_bound) c.requires.d_few).0,
       sym c.is_wrong.ensures ∙ c.if-is_wrong.false,
       sym c.is_wrong-else-is_wrong.ensures ∙ c.if-is_wrong-2.false,
-      c.if-not-has_y.false,
+      c.is_none.ensures ∙ ap not c.if-is_none.false,
       sym c.is_misplaced.ensures ∙ c.if-is_misplaced.false,
       sym c.is_full.ensures ∙ c.if-is_full.false,
       le-ltb _ _ c.if-deviations_out-block_of.false,
