@@ -26,7 +26,8 @@ use Rattle.trcf.specs.View.{Lent, lent}
 use Rattle.trcf.specs.Fit.{All}
 use Rattle.trcf.specs.Settings.{Settings, Valid}
 use Rattle.trcf.specs.Calls.{Call, Machine, shingled_point, post_process, drain, transform, invert_extrapolation, scale, shift, status}
-use Rattle.trcf.specs.Preprocessor.{Answer, refused, absent, done, wrote, learnt, turned, told, Anomaly}
+use Rattle.trcf.specs.Preprocessor.{Answer, refused, absent, done, wrote, learnt, turned, told}
+use Rattle.trcf.specs.declared.head.Anomaly.{Anomaly}
 use Rattle.trcf.specs.declared.types.TransformMethod.TheVariants.{NORMALIZE}
 use Rattle.trcf.specs.declared.types.ForestMode.TheVariants.{TIME_AUGMENTED}
 use Rattle.snapshot.specs.Text as Text

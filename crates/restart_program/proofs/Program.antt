@@ -14,7 +14,8 @@ use Rattle.trcf.specs.Fit.{All}
 use Rattle.trcf.specs.Transformer.{zero32}
 use Rattle.trcf.specs.Settings.{Settings, Valid, block, dimension, waiting}
 use Rattle.trcf.specs.Calls.{Learn, Forecast, Call, Machine, shingled_point, post_process, drain, transform, invert_extrapolation, scale, shift, status, rows, table, given}
-use Rattle.trcf.specs.Preprocessor.{State, Answer, refused, absent, done, wrote, learnt, turned, told, Anomaly, Learned, Status, statistics_length, change, reply, accepted, status_of, facts, reading, transform_of, scale_of, shift_of, point_reply, learn_reply, learned_nothing, turned_back}
+use Rattle.trcf.specs.Preprocessor.{State, Answer, refused, absent, done, wrote, learnt, turned, told, Learned, Status, statistics_length, change, reply, accepted, status_of, facts, reading, transform_of, scale_of, shift_of, point_reply, learn_reply, learned_nothing, turned_back}
+use Rattle.trcf.specs.declared.head.Anomaly.{Anomaly}
 use Rattle.trcf.specs.View.{Lent, lent, optional, settings_of, view, counted, written_over, head_row, initial_room, lent_short, getters_of, counters_unfit, short_row, lent_row, row_of, or_else, answer_of, head_after, lent_after, Roomy, Fitted, written, write_of, no_status, status_after, drain_of, point_after, learn_after, anomaly_time, anomaly_likelihood}
 use Rattle.trcf.specs.Extrapolation.{extrapolation, viewed, extrapolation_row, extrapolation_of}
 use Rattle.trcf.specs.declared.head.Preprocessor.{Preprocessor}

@@ -7,7 +7,8 @@ use Rattle.trcf.specs.Fit.{All}
 use Rattle.trcf.specs.Settings.{Settings, Valid, block}
 use Rattle.trcf.specs.declared.head.PreprocessorBuilder.{PreprocessorBuilder}
 use Rattle.trcf.specs.Calls.{Learn, given, Call, Machine, shingled_point, post_process, drain, transform, invert_extrapolation, scale, shift, status}
-use Rattle.trcf.specs.Preprocessor.{reading, transform_of, scale_of, shift_of, accepted, Answer, refused, absent, done, wrote, learnt, turned, told, Anomaly}
+use Rattle.trcf.specs.Preprocessor.{reading, transform_of, scale_of, shift_of, accepted, Answer, refused, absent, done, wrote, learnt, turned, told}
+use Rattle.trcf.specs.declared.head.Anomaly.{Anomaly}
 use Rattle.trcf.specs.View.{Lent, settings_from, learn_call, lent_short, Getters, getters_of, build_of, Written, StatusOutcome, PointOutcome, LearnOutcome, write_of, status_after, drain_of, point_after, learn_after}
 use Rattle.trcf.specs.Extrapolation.{Extrapolation, extrapolation_of}
 use Rattle.snapshot.specs.Restore as restore

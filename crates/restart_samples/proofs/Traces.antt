@@ -21,7 +21,8 @@ use Rattle.trcf.specs.Transformer as Transformer
 use Rattle.trcf.specs.Preprocessor as Preprocessor
 use Rattle.trcf.specs.Settings.{Settings}
 use Rattle.trcf.specs.Calls.{Learn, Forecast, Call, shingled_point, post_process, drain, transform, invert_extrapolation, scale, shift, status}
-use Rattle.trcf.specs.Preprocessor.{fresh, run, answers, Answer, refused, absent, done, wrote, learnt, turned, told, Anomaly, Learned, Status}
+use Rattle.trcf.specs.Preprocessor.{fresh, run, answers, Answer, refused, absent, done, wrote, learnt, turned, told, Learned, Status}
+use Rattle.trcf.specs.declared.head.Anomaly.{Anomaly}
 use Rattle.trcf.specs.declared.types.TransformMethod.TheVariants.{NONE, WEIGHTED, DIFFERENCE, SUBTRACT_MA, NORMALIZE, NORMALIZE_DIFFERENCE}
 use Rattle.trcf.specs.declared.types.ForestMode.TheVariants.{STANDARD, TIME_AUGMENTED}
 use Rattle.snapshot.specs.Text as Text

@@ -10,53 +10,48 @@ use borrow.Author.Tests.{lt-ltb, le-ltb}
 use native.Mathlib.Numerals.{add-one}
 use mathlib.Core.Option.{Option, none, some}
 use lib.Ieee.{Float, nan}
+use Rattle.std.specs.Prelude.{Result, Ok, Err, Option as Held, is_some}
+use Rattle.std.specs.Bool.{then_some}
+use Rattle.std.specs.Option.{unwrap_or}
+use Rattle.std.specs.List.{slice_get}
+use Rattle.std.proofs.lemmas.Option.{unwrap_or-slice_get}
+use Rattle.std.specs.Result.{result_unwrap_or, IsErrAnd}
+use denote.Bor.{Bor}
+use Rattle.refusal.specs.Refusal.{number_of, row_of}
+use Rattle.refusal.specs.declared.Refusal.{Refusal}
+use Rattle.refusal.specs.declared.Refusal.TheVariants.{Withheld}
+use Rattle.trcf_learn.specs.Given.{list_in}
+use Rattle.trcf.specs.declared.head.Pointed.{Pointed}
+use Rattle.settling.specs.declared.run.Settled.{Settled}
 use Rattle.trcf.specs.Lists.{last_or}
 use Rattle.trcf.specs.Settings.{Settings}
 use Rattle.trcf.specs.Calls.{Learn}
-use Rattle.trcf.specs.View.{Lent, ready_of, PointOutcome, pointed, point_after, learn_nothing, learn_after}
+use Rattle.trcf.specs.View.{Lent, ready_of, no_head, Outcome, head_outcome, build_of, PointOutcome, pointed, point_outcome, point_after, learn_nothing, learn_after}
 use Rattle.access.specs.declared.rights.Right.TheVariants.{SEE, LEARN}
-use Rattle.access.specs.declared.getters.Ready.{Ready}
 use Rattle.access.specs.Access.{every_right}
-use Rattle.access.specs.Entries.{point_by, learn_by, ready, ready_by}
+use Rattle.access.specs.Entries.{point_by, learn_by, seen_by}
 use Rattle.access.proofs.Laws.{as_every}
 use Rattle.trcf.specs.declared.head.Preprocessor.{Preprocessor}
-use Rattle.settling.specs.Settling.{Signal, value_at, Noted, noted, keep_larger_if_any, note}
-use Rattle.settling.specs.Steps.{option_of, exceeds_of, learning, learned_result, ReadingResult, reading_result, reading_result_with, reading_result_of, Track, track, track_with, track_after}
+use Rattle.settling.specs.Settling.{Signal, value_at, Noted, noted, note, run_outcome}
+use Rattle.settling.specs.Steps.{option_of, given_of, learning, learned_result, ReadingResult, reading_result, reading_result_with, reading_result_of, Track, track, track_with, track_after, settled_outcome, settling_memory}
 use Rattle.settling.specs.Steps.{track_from, track_built, track_at}
 
 module _ {A : Type 0} where
-  pub last_is : (v : List A) (d e : A) → 0 < length v → get_or v (length v - 1) d ≡ last_or e v
+  last_is : (v : List A) (d e : A) → 0 < length v → get_or v (length v - 1) d ≡ last_or e v
   last_is [] d e h = absurd (omega arith)
   last_is (x ∷ []) d e h = refl
   last_is (x ∷ y ∷ v) d e h =
       let q : length (x ∷ y ∷ v) - 1 ≡ suc (length (y ∷ v) - 1) = omega arith in
       ap (λ (k : ℕ). get_or (x ∷ y ∷ v) k d) q ∙ last_is (y ∷ v) d x (omega arith)
 
-  pub last_none : (v : List A) (e : A) → length v ≡ 0 → e ≡ last_or e v
-  last_none [] e h = refl
-  last_none (x ∷ v) e h = absurd (omega arith)
+  pub last_got : (v : List A) (e : A) → unwrap_or (slice_get v (length v - 1)) e ≡ last_or e v
+  last_got [] e = unwrap_or-slice_get [] (length {A = A} [] - 1) e
+  last_got (x ∷ v) e = unwrap_or-slice_get (x ∷ v) (length (x ∷ v) - 1) e ∙ last_is (x ∷ v) e e (omega arith)
 
   pub take_replicate : (m n : ℕ) (x : A) → n ≤ m → take n (replicate m x) ≡ replicate n x
   take_replicate m zero x h = refl
   take_replicate zero (suc n) x h = absurd (omega arith)
   take_replicate (suc m) (suc n) x h = ap (λ (l : List A). x ∷ l) (take_replicate m n x (omega arith))
-
-pub at_most : (n m : ℕ) → m ≡ n → m < 128 → m ≡ cond (ltb n 128) n 128
-at_most n m e h = rw (← e, lt-ltb m 128 h)
-
-pub at_least : (n m : ℕ) → m ≡ n → 128 ≤ m → 128 ≡ cond (ltb n 128) n 128
-at_least n m e h = rw (← e, le-ltb m 128 h)
-
--- ---- what is noted of a last element
-
-module _ (f : Bool) (i : ℕ) where
-  pub kept_not : (k : Bool) (y x : Float) → exceeds_of k y x ≡ false → noted (option_of f i) (option_of k y) ≡ noted (option_of f i) (keep_larger_if_any (option_of k y) (some x))
-  kept_not true y x e = rw e
-  kept_not false y x e = rw e
-
-  pub kept_new : (k : Bool) (y x : Float) → exceeds_of k y x ≡ true → noted (option_of f i) (some x) ≡ noted (option_of f i) (keep_larger_if_any (option_of k y) (some x))
-  kept_new true y x e = rw e
-  kept_new false y x e = rw e
 
 -- ---- the table has every right, so the guarded calls are the ones below
 
@@ -67,19 +62,70 @@ module _ (table : List ℕ) (every : table ≡ every_right) (h : Preprocessor) w
   pub learn_below : (l : Lent) (c : Learn) → learn_by table 0 h l c ≡ learn_after h l c
   learn_below l c = as_every table (LEARN ∷ []) (learn_after h l c) (learn_nothing 22 h l c) every
 
-  pub ready_below : (r : Ready) → r ≡ ready_by table 0 (ready_of h) → r.ready ≡ ready_of h
-  ready_below r e = ap (λ (q : Ready). q.ready) (e ∙ as_every table (SEE ∷ []) (ready 0 (ready_of h)) (ready 22 false) every)
+  pub ready_below : (r : Result Bool Refusal) → r ≡ seen_by table 0 (ready_of h) → result_unwrap_or r false ≡ ready_of h
+  ready_below r e = ap (λ (q : Result Bool Refusal). result_unwrap_or q false) (e ∙ as_every table (SEE ∷ []) (Ok (ready_of h)) (Err Withheld) every)
+
+-- ---- what is answered with a head, and what is given or not
+
+abbrev pub no_point : Preprocessor → Pointed
+no_point h = record { given = false; head = h }
+
+pub point_held : (r : Result Pointed Refusal) (h : Preprocessor) (l : Lent) (out : List Float)
+    → point_outcome r h l out ≡ pointed (row_of r) (result_unwrap_or r (no_point h)).given (result_unwrap_or r (no_point h)).head l out
+point_held (Ok p) h l out = refl
+point_held (Err e) h l out = refl
+
+module _ {A : Type 0} where
+  given_is : (b : Bool) (x : A) → option_of (then_some b x) ≡ given_of b x
+  given_is true x = refl
+  given_is false x = refl
+
+learning_is : (x : List Float) (t : ℕ) (b : Bool) (v : Bor (List Float)) → learning x t (is_some (then_some b v)) (list_in (then_some b v)) ≡ learning x t b v.now
+learning_is x t true v = refl
+learning_is x t false v = refl
 
 -- ---- one reading, from what point, learn and the last element give
 
 pub turn_done : (h : Preprocessor) (l : Lent) (x : List Float) (t : ℕ) (out : List Float)
-    → (row : ℕ) (g : Bool) (h₁ : Preprocessor) (l₁ : Lent) (v : List Float) → pointed row g h₁ l₁ v ≡ point_after h l x t out
-    → (h₂ : Preprocessor) (l₂ : Lent) → reading_result h₂ l₂ none ≡ learned_result (learn_after h₁ l₁ (learning x t g v))
-    → (y : Float) → y ≡ last_or nan v → reading_result h₂ l₂ (option_of g y) ≡ reading_result_with h l x t out
+    → (r : Result Pointed Refusal) (p : Pointed) (l₁ : Lent) (v : Bor (List Float)) → point_outcome r h l₁ v.now ≡ point_after h l x t out → p ≡ result_unwrap_or r (no_point h)
+    → (o : Held (Bor (List Float))) → o ≡ then_some p.given v
+    → (h₂ : Preprocessor) (l₂ : Lent) → reading_result h₂ l₂ none ≡ learned_result (learn_after p.head l₁ (learning x t (is_some o) (list_in o)))
+    → (y : Float) → y ≡ last_or nan v.now → (z : Held Float) → z ≡ then_some p.given y → reading_result h₂ l₂ (option_of z) ≡ reading_result_with h l x t out
 unfolding reading_result_with
-turn_done h l x t out row g h₁ l₁ v e₁ h₂ l₂ e₂ y e₃ =
-    (λ j. reading_result (e₂ j).head (e₂ j).lent (option_of g (e₃ j)))
-    ∙ ap (λ (o : PointOutcome). let q = learn_after o.head o.lent (learning x t o.given o.out) in reading_result q.head q.lent (option_of o.given (last_or nan o.out))) e₁
+turn_done h l x t out r p l₁ v e₁ ep o eo h₂ l₂ e₂ y e₃ z ez =
+    let g = p.given in
+    let k : learning x t (is_some o) (list_in o) ≡ learning x t g v.now =
+    ap (λ (q : Held (Bor (List Float))). learning x t (is_some q) (list_in q)) eo ∙ learning_is x t g v in
+    let s : pointed (row_of r) g p.head l₁ v.now ≡ point_after h l x t out =
+    ap (λ (q : Pointed). pointed (row_of r) q.given q.head l₁ v.now) ep ∙ sym (point_held r h l₁ v.now) ∙ e₁ in
+    let w : reading_result h₂ l₂ none ≡ learned_result (learn_after p.head l₁ (learning x t g v.now)) =
+    e₂ ∙ ap (λ (c : Learn). learned_result (learn_after p.head l₁ c)) k in
+    let u : option_of z ≡ given_of g (last_or nan v.now) = ap (λ (q : Held Float). option_of q) ez ∙ given_is g y ∙ ap (λ (q : Float). given_of g q) e₃ in
+    (λ j. reading_result (w j).head (w j).lent (u j))
+    ∙ ap (λ (o : PointOutcome). let q = learn_after o.head o.lent (learning x t o.given o.out) in reading_result q.head q.lent (given_of o.given (last_or nan o.out))) s
+
+-- ---- a run that is refused, and one that begins
+
+pub settled_err : (e : Refusal) (r : Result Settled Refusal) → IsErrAnd r (λ d. d ≡ e) → settled_outcome r ≡ run_outcome (number_of e) (noted none none)
+settled_err e (Ok s) x = absurd x
+settled_err e (Err d) x = ap (λ (q : Refusal). run_outcome (number_of q) (noted none none)) x
+
+head_held : (r : Result Preprocessor Refusal) (h : Preprocessor) (l : Lent) → (head_outcome r h l).head ≡ result_unwrap_or r h
+head_held (Ok n) h l = refl
+head_held (Err e) h l = refl
+
+lent_held : (r : Result Preprocessor Refusal) (h : Preprocessor) (l : Lent) → (head_outcome r h l).lent ≡ l
+lent_held (Ok n) h l = refl
+lent_held (Err e) h l = refl
+
+-- what `build` leaves is where the readings begin
+pub begun : (s : Settings) (r : Result Preprocessor Refusal) (h : Preprocessor) (l : Lent) {d : Preprocessor} → d ≡ no_head → h ≡ result_unwrap_or r d
+    → head_outcome r no_head l ≡ build_of s settling_memory → track h l (noted none none) ≡ track_built s
+begun s r h l {d} ed eh e =
+    let a : h ≡ (build_of s settling_memory).head =
+    eh ∙ ap (λ (x : Preprocessor). result_unwrap_or r x) ed ∙ sym (head_held r no_head l) ∙ ap (λ (o : Outcome). o.head) e in
+    let b : l ≡ (build_of s settling_memory).lent = sym (lent_held r no_head l) ∙ ap (λ (o : Outcome). o.lent) e in
+    λ j. track (a j) (b j) (noted none none)
 
 -- ---- all readings
 

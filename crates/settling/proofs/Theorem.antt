@@ -39,7 +39,7 @@ use Rattle.restart.proofs.FeedLaws.{transformed_after_fits}
 use Rattle.restart_program.specs.Program.{left_by}
 use Rattle.restart_program.proofs.Program.{left_is_lem}
 use Rattle.settling.specs.Settling.{Signal, value_at, Noted, noted, note, point_call, learn_with, point_in, last_of, Settling, settling_after, settling_at, noted_of, in_limits, pair_row, run_outcome, run_row, run_of}
-use Rattle.settling.specs.Steps.{option_of, point_length, ReadingResult, reading_result, reading_result_with, reading_result_of, Track, settling_memory}
+use Rattle.settling.specs.Steps.{given_of, point_length, ReadingResult, reading_result, reading_result_with, reading_result_of, Track, settling_memory}
 use Rattle.settling.specs.Steps.{track_after, track_at}
 
 -- ---- the answer of point, as the program reads it
@@ -51,7 +51,7 @@ given_in zero false v out = refl
 given_in (suc r) w v out = refl
 
 last_in : (r : ℕ) (w : Bool) (v out : List Float)
-    → option_of (accepted r (not w) false) (last_or nan (cond (accepted r (not w) false) v out)) ≡ last_of (point_in (accepted r (cond w absent (wrote v)) (refused r)))
+    → given_of (accepted r (not w) false) (last_or nan (cond (accepted r (not w) false) v out)) ≡ last_of (point_in (accepted r (cond w absent (wrote v)) (refused r)))
 last_in zero true v out = refl
 last_in zero false v out = refl
 last_in (suc r) w v out = refl
@@ -64,7 +64,7 @@ module _ (h : Preprocessor) (l : Lent) (x : List Float) (t : ℕ) (out : List Fl
   unfolding point_after answer_of reply view
   given_is = given_in (row_of h l (shingled_point x t out)) (waiting (settings_of h) h.values_seen) (point_reply (view h l) x t out) out
 
-  last_is : option_of gave.given (last_or nan gave.out) ≡ last_of (point_in (answer_of h l (shingled_point x t out)))
+  last_is : given_of gave.given (last_or nan gave.out) ≡ last_of (point_in (answer_of h l (shingled_point x t out)))
   unfolding point_after answer_of reply view
   last_is = last_in (row_of h l (shingled_point x t out)) (waiting (settings_of h) h.values_seen) (point_reply (view h l) x t out) out
 
@@ -83,7 +83,7 @@ turn_is M g i out a q =
     let lc : learn_with g i (optional o.given o.out) ≡ learn_with g i (point_in a) = ap (learn_with g i) rc in
     let H : left_by m (learn_with g i (optional o.given o.out)) ≡ held_next (held_next M c) (learn_with g i (point_in a)) =
     left_is_lem m (learn_with g i (optional o.given o.out)) ∙ (λ j. held_next (le j) (lc j)) in
-    let K : option_of o.given (last_or nan o.out) ≡ last_of (point_in a) =
+    let K : given_of o.given (last_or nan o.out) ≡ last_of (point_in a) =
     last_is M.head M.lent (value_at g i ∷ []) i out ∙ ap (λ (z : Answer). last_of (point_in z)) q in
     λ j. reading_result (H j).head (H j).lent (K j)
 

@@ -1,10 +1,11 @@
 // One reading: it is sent to point, and then to learn with the point given. The program runs as role 0 of a table with every right.
 // Kept: (a) the six lent lists are parameters: the C interface lends each call its own mix of shared and mutable lists, and a struct would need a type for each mix.
-ghost use Rattle.std.specs.Prelude.{◌≡◌, ◌≤◌};
+ghost use Rattle.std.specs.Prelude.{◌≡◌, ◌≤◌, is_some};
 ghost use Rattle.std.proofs.Math.Option.{none};
 ghost use Rattle.std.specs.Float.{nan};
 ghost use Rattle.trcf.specs.Lists.{last_or};
 ghost use Rattle.trcf.specs.View.{lent, learn_after};
+ghost use Rattle.trcf_learn.specs.Given.{list_in};
 ghost use Rattle.settling.specs.Steps.{point_length, learning, learned_result, reading_result, reading_result_with, reading_result_of, option_of};
 
 use access::calls::{post_process, shingled_point};
@@ -43,12 +44,11 @@ fn learn(
     initial_timestamps: &mut [u64],
     input: &[f32],
     timestamp: u64,
-    point: &[f32],
-    given: bool,
+    point: Option<&[f32]>,
 ) -> Preprocessor
     ensures { reading_result result (lent statistics.new last_shingled_input.new last_shingled_point.new previous_timestamps.new initial_values.new initial_timestamps.new) none
         ≡ learned_result (learn_after head (lent statistics.old last_shingled_input.old last_shingled_point.old previous_timestamps.old initial_values.old initial_timestamps.old)
-        (learning input.now timestamp given point.now)) }
+        (learning input.now timestamp (is_some point.entry) (list_in point.entry))) }
 {
     let mut deviations = [0.0f32; 2];
     let mut past = [0.0f32; 1];
@@ -67,16 +67,17 @@ fn learn(
         input,
         timestamp,
         point,
-        given,
-        &point[..0],
-        false,
+        None,
         0.0,
         0,
         &mut deviations,
         &mut past,
         &mut expected,
     );
-    learnt.map_or(head, |p| p.head)
+    match learnt {
+        Ok(p) => p.head,
+        Err(_) => head,
+    }
 }
 
 // A reading is sent to point, which writes to `point`, and then to learn with the point given.
@@ -121,8 +122,7 @@ fn turn_with(
         initial_timestamps,
         input,
         timestamp,
-        point,
-        p.given,
+        p.given.then_some(&*point),
     );
     Turned {
         head: next,

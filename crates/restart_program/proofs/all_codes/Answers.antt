@@ -5,11 +5,8 @@ use Rattle.trcf.specs.Settings.{code_max}
 use Rattle.restart_program.proofs.Handed.{all_next, all_taken}
 use Rattle.restart_program.proofs.all_codes.Goals as goal
 
-pub loop-x-init : goal.loop-x-init
-loop-x-init c = tt
-
-pub loop-x-preserved : goal.loop-x-preserved
-loop-x-preserved c = all_next (λ x. x ≤ code_max) c.args.v.now c.loop-x.x-index 0 (omega arith) c.loop-x.invariant c.code.ensures
+pub loop-c-preserved : goal.loop-c-preserved
+loop-c-preserved c = all_next (λ x. x ≤ code_max) c.args.v.now c.loop-c.c-index 0 (omega arith) c.loop-c.invariant c.code.ensures
 
 pub returns : goal.returns
-returns c = all_taken (λ x. x ≤ code_max) c.args.v.now c.loop-x.x-index (omega arith) c.loop-x.invariant
+returns c = all_taken (λ x. x ≤ code_max) c.args.v.now c.loop-c.c-index (omega arith) c.loop-c.invariant

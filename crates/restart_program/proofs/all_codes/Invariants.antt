@@ -5,5 +5,5 @@ use lib.ListN.{take}
 use Rattle.trcf.specs.Fit.{All}
 use Rattle.restart_program.proofs.all_codes.Given as goal
 
-abbrev pub invariant-loop-x : goal.invariant-loop-x
-invariant-loop-x l = All (λ x. x ≤ code_max) (take l.x-index l.v)
+abbrev pub invariant-loop-c : goal.invariant-loop-c
+invariant-loop-c l = All (λ x. x ≤ code_max) (take l.c-index l.v)

@@ -5,9 +5,6 @@ use lib.Ieee.{nan, binary32, fits}
 use Rattle.restart_program.proofs.Handed.{all_next, all_taken}
 use Rattle.restart_program.proofs.singles.Goals as goal
 
-pub loop-x-init : goal.loop-x-init
-loop-x-init c = tt
-
 pub loop-x-preserved : goal.loop-x-preserved
 loop-x-preserved c = all_next (λ x. T (fits binary32 x)) c.args.v.now c.loop-x.x-index nan (omega arith) c.loop-x.invariant c.single.ensures
 

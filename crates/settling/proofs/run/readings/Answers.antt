@@ -9,14 +9,12 @@ use Rattle.trcf.specs.Transformer.{zero32}
 use Rattle.trcf.specs.View.{settings_from}
 use Rattle.settling.specs.Steps.{signal_of, track}
 use Rattle.settling.proofs.SignalLaws.{limited}
-use Rattle.settling.proofs.StepLaws.{track_again, track_done}
+use Rattle.settling.proofs.StepLaws.{begun, track_again, track_done}
 use Rattle.settling.proofs.run.readings.Goals as goal
 
 pub loop-i-init : goal.loop-i-init
 loop-i-init c =
     let k = c.build-built in (
-      refl,
-      omega arith,
       refl,
       record {
         statistics = omega (arith, k.auto, length-replicate 30 zero64);
@@ -29,53 +27,38 @@ loop-i-init c =
     )
 
 pub slice_bounds-step-end : goal.slice_bounds-step-end
-slice_bounds-step-end c = omega (arith, c.loop-i.invariant.3.statistics)
+slice_bounds-step-end c = omega (arith, c.loop-i.invariant.1.statistics)
 
 pub slice_bounds-step-end-in-loop-i : goal.slice_bounds-step-end-in-loop-i
-slice_bounds-step-end-in-loop-i c = omega (arith, c.loop-i.invariant.3.input)
+slice_bounds-step-end-in-loop-i c = omega (arith, c.loop-i.invariant.1.input)
 
 pub slice_bounds-step-end-in-loop-i-2 : goal.slice_bounds-step-end-in-loop-i-2
-slice_bounds-step-end-in-loop-i-2 c = omega (arith, c.loop-i.invariant.3.point)
+slice_bounds-step-end-in-loop-i-2 c = omega (arith, c.loop-i.invariant.1.point)
 
 pub slice_bounds-step-end-in-loop-i-3 : goal.slice_bounds-step-end-in-loop-i-3
-slice_bounds-step-end-in-loop-i-3 c = omega (arith, c.loop-i.invariant.3.times)
+slice_bounds-step-end-in-loop-i-3 c = omega (arith, c.loop-i.invariant.1.times)
 
 pub slice_bounds-step-end-in-loop-i-4 : goal.slice_bounds-step-end-in-loop-i-4
-slice_bounds-step-end-in-loop-i-4 c = omega (arith, c.loop-i.invariant.3.values)
+slice_bounds-step-end-in-loop-i-4 c = omega (arith, c.loop-i.invariant.1.values)
 
 pub slice_bounds-step-end-in-loop-i-5 : goal.slice_bounds-step-end-in-loop-i-5
-slice_bounds-step-end-in-loop-i-5 c = omega (arith, c.loop-i.invariant.3.initial)
+slice_bounds-step-end-in-loop-i-5 c = omega (arith, c.loop-i.invariant.1.initial)
 
 pub value_at-requires : goal.value_at-requires
 value_at-requires c =
-    let at_pre = c.requires in record {
-      g_value = at_pre;
-      i_bound = omega (
-        arith,
-        c.loop-i-test.true,
-        (limited c.args.signal
-            (at_pre)).readings,
-      );
+    record {
+      g_value = c.requires;
+      i_bound = omega (arith, (limited c.args.signal c.requires).readings);
     }
-
-pub overflow_add-i : goal.overflow_add-i
-overflow_add-i c =
-    omega (arith, c.loop-i-test.true, (limited c.args.signal c.requires).readings)
-
-pub loop-i-smaller : goal.loop-i-smaller
-loop-i-smaller c =
-    omega (arith, c.loop-i-test.true)
 
 pub loop-i-preserved : goal.loop-i-preserved
 loop-i-preserved c =
     let at-step = c.step-t in
     let l = c.loop-i in
     let k = at-step.auto in
-    let z = l.invariant.3 in (
+    let z = l.invariant.1 in (
       track_again (signal_of c.args.signal) _ l.i l.head _ _ l.invariant.0 _ c.value_at.ensures _ _ _ at-step.ensures _
-          c.is_ready.ensures _ c.note_reading-s.ensures.result_value,
-      omega (arith, c.loop-i-test.true),
-      c.note_reading-s.ensures.row_value ∙ l.invariant.2,
+          c.is_ready.ensures _ c.note_reading-s.ensures,
       record {
         statistics = omega (arith, k, z.statistics);
         input = omega (arith, k, z.input);
@@ -89,12 +72,8 @@ loop-i-preserved c =
 
 pub returns : goal.returns
 returns c =
-    let at-build = c.build-built in
-    let at-nothing = c.nothing-s in
     let a = c.args in
-    let l = c.loop-i in record {
-      result_value = track_done (settings_from a.builder (a.weight ∷ []) (0 ∷ [])) (signal_of a.signal) _
-          (λ j. track (at-build.ensures j).head (at-build.ensures j).lent (at-nothing.ensures.result_value j)) l.i a.signal.readings (omega (arith, c.loop-i-test.false, l.invariant.1)) l.head _ _
-          l.invariant.0;
-      row_value = l.invariant.2 ∙ at-nothing.ensures.row_value;
-    }
+    let l = c.loop-i in
+    track_done (settings_from a.builder (a.weight ∷ []) (0 ∷ [])) (signal_of a.signal) _
+    (begun (settings_from a.builder (a.weight ∷ []) (0 ∷ [])) c.build-built.result c.unwrap_or-head.result _ c.no_head.ensures c.unwrap_or-head.ensures c.build-built.ensures) l.i a.signal.readings (omega arith) l.head _ _
+    l.invariant.0
