@@ -7,7 +7,7 @@ use Rattle.trcf.specs.Calls.{shingled_point, post_process, drain, invert_extrapo
 use Rattle.trcf.specs.View.{Lent, no_head, Outcome, outcome, drain_of, pointed, point_after, learn_nothing, learn_after, written, write_of, status_given, status_after}
 use Rattle.trcf.specs.Extrapolation.{extrapolation, extrapolation_of}
 use Rattle.std.specs.Prelude.{Ok, Err}
-use Rattle.refusal.specs.declared.Refusal.TheVariants.{Withheld}
+use Rattle.refusal.specs.declared.Refusal.TheVariants.{Withheld as Shut}
 use Rattle.trcf.specs.declared.head.Preprocessor.{Preprocessor}
 use Rattle.snapshot.specs.Save.{save_of, save_outcome as saved}
 use Rattle.snapshot.specs.Restore.{restore_of, restore_outcome as restored}
@@ -51,11 +51,11 @@ module _ (t : List ℕ) (role : ℕ) (h g : Preprocessor) (l m : Lent) where
         writes = λ c f out e. w.writes h l c f out e ∙ sym (w.writes g m c f out e);
         extrapolates = λ st sy x y ts us c e. w.extrapolates h st x ts c e ∙ sym (w.extrapolates g sy y us c e);
         tells = λ out e. w.tells h l out e ∙ sym (w.tells g m out e);
-        numbers = λ e. alike t role (SEE ∷ []) (Ok (status_numbers h)) (Ok (status_numbers g)) (Err Withheld) e;
-        counts = λ a b e. alike t role (SEE ∷ []) (Ok a) (Ok b) (Err Withheld) e;
-        readies = λ a b e. alike t role (SEE ∷ []) (Ok a) (Ok b) (Err Withheld) e;
-        methods = λ a b e. alike t role (SEE ∷ []) (Ok a) (Ok b) (Err Withheld) e;
-        modes = λ a b e. alike t role (SEE ∷ []) (Ok a) (Ok b) (Err Withheld) e;
+        numbers = λ e. alike t role (SEE ∷ []) (Ok (status_numbers h)) (Ok (status_numbers g)) (Err Shut) e;
+        counts = λ a b e. alike t role (SEE ∷ []) (Ok a) (Ok b) (Err Shut) e;
+        readies = λ a b e. alike t role (SEE ∷ []) (Ok a) (Ok b) (Err Shut) e;
+        methods = λ a b e. alike t role (SEE ∷ []) (Ok a) (Ok b) (Err Shut) e;
+        modes = λ a b e. alike t role (SEE ∷ []) (Ok a) (Ok b) (Err Shut) e;
         saves = λ out e. w.saves h l out e ∙ sym (w.saves g m out e);
         restores = λ x y codes e. w.restores x codes l e ∙ sym (w.restores y codes l e);
       }

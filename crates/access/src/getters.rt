@@ -26,13 +26,21 @@ pub fn values_seen(table: &[u8], role: u64, head: Preprocessor) -> Result<u64, R
 pub fn internal_timestamp(table: &[u8], role: u64, head: Preprocessor) -> Result<u64, Refusal>
     ensures { result ≡ seen_by table.now role head.internal_timestamp }
 {
-    seen(table, role, trcf_calls::queries::internal_timestamp(head) as u64)
+    seen(
+        table,
+        role,
+        trcf_calls::queries::internal_timestamp(head) as u64,
+    )
 }
 
 pub fn input_dimensions(table: &[u8], role: u64, head: Preprocessor) -> Result<u64, Refusal>
     ensures { result ≡ seen_by table.now role head.transformer.input_length }
 {
-    seen(table, role, trcf_calls::queries::input_dimensions(head) as u64)
+    seen(
+        table,
+        role,
+        trcf_calls::queries::input_dimensions(head) as u64,
+    )
 }
 
 pub fn shingle_size(table: &[u8], role: u64, head: Preprocessor) -> Result<u64, Refusal>
@@ -50,7 +58,11 @@ pub fn get_dimension(table: &[u8], role: u64, head: Preprocessor) -> Result<u64,
 pub fn start_normalization(table: &[u8], role: u64, head: Preprocessor) -> Result<u64, Refusal>
     ensures { result ≡ seen_by table.now role head.start_normalization }
 {
-    seen(table, role, trcf_calls::queries::start_normalization(head) as u64)
+    seen(
+        table,
+        role,
+        trcf_calls::queries::start_normalization(head) as u64,
+    )
 }
 
 pub fn panel(table: &[u8], role: u64, head: Preprocessor) -> Result<u64, Refusal>
@@ -65,10 +77,18 @@ pub fn is_ready(table: &[u8], role: u64, head: Preprocessor) -> Result<bool, Ref
     seen(table, role, trcf_calls::queries::is_ready(head))
 }
 
-pub fn transformation_method(table: &[u8], role: u64, head: Preprocessor) -> Result<TransformMethod, Refusal>
+pub fn transformation_method(
+    table: &[u8],
+    role: u64,
+    head: Preprocessor,
+) -> Result<TransformMethod, Refusal>
     ensures { result ≡ seen_by table.now role head.transformer.transform_method }
 {
-    seen(table, role, trcf_calls::queries::transformation_method(head))
+    seen(
+        table,
+        role,
+        trcf_calls::queries::transformation_method(head),
+    )
 }
 
 pub fn forest_mode(table: &[u8], role: u64, head: Preprocessor) -> Result<ForestMode, Refusal>

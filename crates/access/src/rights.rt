@@ -81,11 +81,19 @@ pub fn may_point(table: &[u8], role: u64) -> bool
 pub fn demand(table: &[u8], role: u64, right: Right) -> Result<(), Refusal>
     ensures { result ≡ allowed (granted table.now role (right ∷ [])) }
 {
-    if may(table, role, right) { Ok(()) } else { Err(Refusal::Withheld) }
+    if may(table, role, right) {
+        Ok(())
+    } else {
+        Err(Refusal::Withheld)
+    }
 }
 
 pub fn demand_point(table: &[u8], role: u64) -> Result<(), Refusal>
     ensures { result ≡ allowed (granted table.now role (SEE ∷ LEARN ∷ [])) }
 {
-    if may_point(table, role) { Ok(()) } else { Err(Refusal::Withheld) }
+    if may_point(table, role) {
+        Ok(())
+    } else {
+        Err(Refusal::Withheld)
+    }
 }

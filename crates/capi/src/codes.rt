@@ -18,7 +18,11 @@ pub(crate) fn codes_row(words: &[u64]) -> Result<(), Refusal>
     for word in words {
         largest = largest.max(*word);
     }
-    if CODE_MAX < largest { Err(Refusal::Form) } else { Ok(()) }
+    if CODE_MAX < largest {
+        Err(Refusal::Form)
+    } else {
+        Ok(())
+    }
 }
 
 pub(crate) fn codes_of(words: &[u64]) -> [u16; 16]

@@ -10,7 +10,11 @@ use trcf::types::{ForestMode, TransformMethod};
 pub(crate) fn kind_row(mode: u64, method: u64) -> Result<(), Refusal>
     ensures { row_of result ≡ kind_row mode method }
 {
-    if 3 < mode || 5 < method { Err(Refusal::Form) } else { Ok(()) }
+    if 3 < mode || 5 < method {
+        Err(Refusal::Form)
+    } else {
+        Ok(())
+    }
 }
 
 pub(crate) fn mode_of(n: u64) -> ForestMode

@@ -43,11 +43,7 @@ fn note_reading(s: Settled, i: u64, ready: bool, last: Option<f32>) -> Settled
 }
 
 // Rows 1 to 9, and then 23 for d other than 1.
-pub fn pair_row(
-    builder: PreprocessorBuilder,
-    weights: &[f32],
-    codes: &[u16],
-) -> Result<(), Refusal>
+pub fn pair_row(builder: PreprocessorBuilder, weights: &[f32], codes: &[u16]) -> Result<(), Refusal>
     ensures { row_of result ≡ pair_row (settings_from builder weights.now codes.now) }
 {
     settings_row(builder, weights, codes)?;

@@ -11,7 +11,7 @@ use Rattle.capi.proofs.calls.veerycouch_post_process.Goals as goal
 pub returns-in-Err : goal.returns-in-Err
 returns-in-Err c =
     let a = c.args in
-    learn_refused a.table.now a.role a.head.now (refused_row c.in-Err.refusal a.head.now c.from.ensures c.may.ensures c.in-Err.ensures.row_value) 
+    learn_refused a.table.now a.role a.head.now (refused_row c.in-Err.refusal a.head.now c.from.ensures c.may.ensures c.in-Err.ensures.row_value)
     (lent a.statistics.now a.last_shingled_input.now a.last_shingled_point.now a.previous_timestamps.now a.initial_values.now a.initial_timestamps.now)
     (anomaly_out a.written.now a.has_anomaly.now a.past_timestamp.now a.likelihood.now)
     (learn_call a.input.now a.timestamp (is_set a.has_y) a.y.now (is_set a.expects) a.expected.now a.grade a.relative_index a.deviations_out.now

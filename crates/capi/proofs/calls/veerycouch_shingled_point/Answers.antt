@@ -8,7 +8,7 @@ use Rattle.capi.proofs.calls.veerycouch_shingled_point.Goals as goal
 pub returns-in-Err : goal.returns-in-Err
 returns-in-Err c =
     let a = c.args in
-    point_refused a.table.now a.role a.head.now (refused_row c.in-Err.refusal a.head.now c.from.ensures c.may_point.ensures c.in-Err.ensures.row_value) 
+    point_refused a.table.now a.role a.head.now (refused_row c.in-Err.refusal a.head.now c.from.ensures c.may_point.ensures c.in-Err.ensures.row_value)
     (lent a.statistics.now a.last_shingled_input.now a.last_shingled_point.now a.previous_timestamps.now a.initial_values.now a.initial_timestamps.now)
     a.input.now a.timestamp a.given.now a.output.now (not_zero c.in-Err.refusal c.from.ensures)
 

@@ -13,30 +13,30 @@ times-requires-clause-size_bound c =
 pub overflow_add-value : goal.overflow_add-value
 overflow_add-value c =
     let p = parts c.args.g c.times.result c.only_if-ripple.result c.only_if-jump.result c.requires.g_value c.times.ensures.size_bound
-        c.only_if-ripple.ensures.size_le_size c.only_if-jump.ensures.size_le_size in
+    c.only_if-ripple.ensures.size_le_size c.only_if-jump.ensures.size_le_size in
     omega (arith, ints)
 
 pub overflow_add-value-2 : goal.overflow_add-value-2
 overflow_add-value-2 c =
     let p = parts c.args.g c.times.result c.only_if-ripple.result c.only_if-jump.result c.requires.g_value c.times.ensures.size_bound
-        c.only_if-ripple.ensures.size_le_size c.only_if-jump.ensures.size_le_size in
+    c.only_if-ripple.ensures.size_le_size c.only_if-jump.ensures.size_le_size in
     omega (arith, ints)
 
 pub overflow_add-value-3 : goal.overflow_add-value-3
 overflow_add-value-3 c =
     let p = parts c.args.g c.times.result c.only_if-ripple.result c.only_if-jump.result c.requires.g_value c.times.ensures.size_bound
-        c.only_if-ripple.ensures.size_le_size c.only_if-jump.ensures.size_le_size in
+    c.only_if-ripple.ensures.size_le_size c.only_if-jump.ensures.size_le_size in
     omega (arith, ints)
 
 pub overflow_cast-value : goal.overflow_cast-value
 overflow_cast-value c =
     let p = parts c.args.g c.times.result c.only_if-ripple.result c.only_if-jump.result c.requires.g_value c.times.ensures.size_bound
-        c.only_if-ripple.ensures.size_le_size c.only_if-jump.ensures.size_le_size in
+    c.only_if-ripple.ensures.size_le_size c.only_if-jump.ensures.size_le_size in
     omega (arith, ints)
 
 pub returns : goal.returns
 returns c =
     let p = parts c.args.g c.times.result c.only_if-ripple.result c.only_if-jump.result c.requires.g_value c.times.ensures.size_bound
-        c.only_if-ripple.ensures.size_le_size c.only_if-jump.ensures.size_le_size in
+    c.only_if-ripple.ensures.size_le_size c.only_if-jump.ensures.size_le_size in
     reading_is c.args.g c.args.i c.requires.g_value _ _ _ _ c.times.ensures.value c.only_if-ripple.ensures.value c.only_if-jump.ensures.value
     (omega (arith, ints)) _ c.nearest_i64_to_f32.ensures
