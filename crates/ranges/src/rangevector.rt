@@ -122,8 +122,8 @@ fn are_unequal(values: usize, upper: usize, lower: usize) -> bool
     values != upper || values != lower
 }
 
-// No base, no block, or a broken one.
-fn are_broken(base: usize, values: usize) -> bool
+// Whether the values make no blocks of the base's length to cascade: no base, no block, or a broken one.
+pub fn is_unblocked(base: usize, values: usize) -> bool
     ensures { result ≡ unblocked base values }
 {
     base == 0 || values == 0 || values % base != 0
@@ -134,7 +134,7 @@ fn check_blocks(base: usize, values: usize, upper: usize, lower: usize) -> Resul
     ensures value { row_of result ≡ first_of ((unequal_at values upper lower || unblocked base values, 16) ∷ []) }
     ensures values_value { OnOk result ((values ≡ upper) × (values ≡ lower)) }
 {
-    if are_unequal(values, upper, lower) || are_broken(base, values) {
+    if are_unequal(values, upper, lower) || is_unblocked(base, values) {
         return Err(Refusal::ForecastShape);
     }
     Ok(())

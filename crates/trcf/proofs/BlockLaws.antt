@@ -211,14 +211,11 @@ none_carried SUBTRACT_MA at d l bs e = absurd (true_false (sym e))
 none_carried NORMALIZE at d l bs e = absurd (true_false (sym e))
 none_carried NORMALIZE_DIFFERENCE at d l bs e = absurd (true_false (sym e))
 
-pub other_block : (m : TransformMethod) (n s : Bool) (i at d : ℕ) (fs ss ds bs : List Float) (v w : Ranges) → is_none m ≡ false → n ≡ normalizes m → s ≡ moves m
-    → w ≡ places_by (turn_place n s i fs ss ds bs) at d v → w ≡ places_by (invert_place m i fs ss ds bs) at d v
+pub other_block : (m : TransformMethod) (i at d : ℕ) (fs ss ds bs : List Float) (v w : Ranges) → is_none m ≡ false
+    → w ≡ places_by (turn_place (normalizes m) (moves m) i fs ss ds bs) at d v → w ≡ places_by (invert_place m i fs ss ds bs) at d v
 unfolding invert_place
-other_block m n s i at d fs ss ds bs v w e en es h =
-    h ∙ places_ext (turn_place n s i fs ss ds bs) (invert_place m i fs ss ds bs) at d v (λ j r. sym (rw (e, ← en, ← es)))
-
-pub other_carried : (m : TransformMethod) (b : Bool) (at d : ℕ) (l old new : List Float) → b ≡ differences m → Carried b at d l old new → Carried (differences m) at d l old new
-other_carried m b at d l old new e h = rw (← e) h
+other_block m i at d fs ss ds bs v w e h =
+    h ∙ places_ext (turn_place (normalizes m) (moves m) i fs ss ds bs) (invert_place m i fs ss ds bs) at d v (λ j r. sym (rw e))
 
 -- a block before the last has room
 pub block_room : (i d n : ℕ) → i < n / d → i * d + d ≤ n

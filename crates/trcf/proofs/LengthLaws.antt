@@ -93,6 +93,9 @@ dimension_known {s = s} {r = r} e b =
 pub block_known : {d r v : ℕ} → (r ≡ where_fits (within d 16) v 0) × (r ≤ 17) → d ≤ 16 → (r ≡ v) × (r ≤ 17)
 block_known e h = (roomy 0 e.0 h, e.1)
 
+pub statistics_known : {d r v : ℕ} → r ≡ where_fits (within d 16) v 0 → d ≤ 16 → r ≡ v
+statistics_known e h = roomy 0 e h
+
 -- ---- what each part asks makes all fit
 
 pub time_fits_lem : {s : Settings} {n : ℕ} → Bounded s → statistics_length s ≤ n → time_fits s n ≡ true

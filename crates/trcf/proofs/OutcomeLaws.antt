@@ -14,6 +14,7 @@ use Rattle.trcf.specs.Settings.{Settings, settings_row, dimension, block}
 use Rattle.trcf.specs.Calls.{Call, scale, shift, status, rows, table}
 use Rattle.trcf.specs.Preprocessor.{State, accepted, statistics_length, fresh, facts, is_ready, panel_of, deviations, Status, status_of}
 use Rattle.trcf.specs.View.{Lent, lent, view, written_over, row_of, lent_row, or_else, Written, written, write_of, outcome, head_from, no_head, build_row, build_of, settings_of, alone, head_row, counters_unfit, short_row, own_row, ready_of, dimension_of, Bounded, StatusOutcome, no_status, status_after}
+use Rattle.trcf.specs.Steps.Told.{told_by}
 use Rattle.trcf.specs.declared.head.Preprocessor.{Preprocessor}
 use Rattle.trcf.proofs.ShingleLaws.{over_part}
 
@@ -140,23 +141,6 @@ module _ (h : Preprocessor) (l : Lent) (c : Call) (e : row_of h l c ≡ 0) where
   dimension_of_lem = rw no_row.0
 
 -- ---- `status`
-
--- what it tells of a head that it does not refuse
-abbrev pub told_by : Preprocessor → List Float → Status
-told_by h out =
-    record {
-      values_seen = h.values_seen;
-      internal_timestamp = h.internal_timestamp;
-      ready = ready_of h;
-      input_dimensions = h.transformer.input_length;
-      shingle_size = h.shingle_size;
-      dimensions = dimension_of h;
-      method = h.transformer.transform_method;
-      mode = h.forest_mode;
-      start = h.start_normalization;
-      panel = panel_of (alone h);
-      deviations_out = out;
-    }
 
 abbrev pub status_by : ℕ → Status → StatusOutcome
 status_by n v = record { row = n; numbers = v }

@@ -6,3 +6,4 @@ pub mod Inverting
 pub mod Rows
 pub mod Learning
 pub mod Sound
+pub mod Told

@@ -16,6 +16,7 @@ use Rattle.trcf.specs.declared.types.TransformMethod.TheVariants.{NONE}
 use Rattle.trcf.specs.declared.types.ForestMode.TheVariants.{STANDARD}
 use Rattle.trcf.specs.declared.head.Preprocessor.{Preprocessor}
 use Rattle.trcf.specs.declared.head.PreprocessorBuilder.{PreprocessorBuilder}
+use Rattle.trcf.specs.declared.head.LentLists.{LentLists}
 use Rattle.trcf.specs.declared.head.LentLengths.{LentLengths}
 use Rattle.trcf.specs.declared.head.Pointed.{Pointed}
 use Rattle.trcf.specs.declared.head.PostProcessed.{PostProcessed}
@@ -41,6 +42,11 @@ lent st x p ts v vt =
       initial_values = v;
       initial_timestamps = vt;
     }
+
+-- what the program lends to be read
+abbrev pub lent_by : LentLists → Lent
+lent_by v =
+    lent v.statistics.now v.last_shingled_input.now v.last_shingled_point.now v.previous_timestamps.now v.initial_values.now v.initial_timestamps.now
 
 -- ---- the state that a head and the lent lists hold: of each list the part in use
 

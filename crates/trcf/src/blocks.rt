@@ -4,7 +4,7 @@ ghost use Rattle.std.specs.Prelude.{◌≡◌, cond, ◌+◌, ◌*◌, ◌≤◌
 ghost use Rattle.std.specs.Float.{binary32};
 ghost use Rattle.std.specs.Float.Ieee.{of_int};
 ghost use Rattle.ranges.specs.RangeVector.{ranges, held, AreSameLoans};
-ghost use Rattle.trcf.specs.Types.{differences};
+ghost use Rattle.trcf.specs.Types.{normalizes, differences};
 ghost use Rattle.trcf.specs.Steps.Blocks.{places_by, turn_by, drift_place, turn_place, moves, invert_place, Carried};
 
 use crate::types::{TransformMethod, is_differencing, is_none, is_normalizing};
@@ -104,9 +104,7 @@ fn drift_block(
 
 // Block i of d numbers; where the method carries, its values are what the next block is shifted by.
 fn invert_block(
-    normalizes: bool,
-    moves: bool,
-    carries: bool,
+    m: TransformMethod,
     channels: &Channels,
     bases: &mut [f32; 16],
     d: usize,
@@ -118,10 +116,13 @@ fn invert_block(
     requires d_bound { (d ≤ 16) × (i * d + d ≤ length values.old) × (length bases.old ≡ 16) }
     requires upper_len { (length upper.old ≡ length values.old) × (length lower.old ≡ length values.old) }
     ensures lower_after { ranges values.new upper.new lower.new
-        ≡ places_by (turn_place normalizes moves i channels.now.factors channels.now.scales channels.now.drifts bases.old) (i * d) d
+        ≡ places_by (turn_place (normalizes m) (moves m) i channels.now.factors channels.now.scales channels.now.drifts bases.old) (i * d) d
         (ranges values.old upper.old lower.old) }
-    ensures carried { Carried carries (i * d) d values.new bases.old bases.new }
+    ensures carried { Carried (differences m) (i * d) d values.new bases.old bases.new }
 {
+    let normalizes = is_normalizing(m);
+    let moves = is_moving(m);
+    let carries = is_differencing(m);
     let b = block_number(i);
     let at = i * d;
     for j in 0..d {
@@ -175,9 +176,7 @@ pub(crate) fn turn_block(
         );
     } else {
         invert_block(
-            is_normalizing(m),
-            is_moving(m),
-            is_differencing(m),
+            m,
             channels,
             bases,
             d,

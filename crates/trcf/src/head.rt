@@ -1,9 +1,9 @@
 // The head: settings and counters by value (the source's trcf/preprocessor.rs); six lent lists go beside it. What every head must keep, the sizes that follow
 // from it, and what the calls answer with it.
-ghost use Rattle.std.specs.Prelude.{◌≡◌, cond, ◌+◌, ◌≤◌, OnOk};
+ghost use Rattle.std.specs.Prelude.{◌≡◌, cond, ◌+◌, ◌*◌, ◌≤◌, OnOk};
 ghost use Rattle.refusal.specs.Refusal.{row_of};
 ghost use Rattle.trcf.specs.Lengths.{where_fits, within};
-ghost use Rattle.trcf.specs.View.{settings_of, head_row, initial_room, dimension_of, no_head, counting, Bounded};
+ghost use Rattle.trcf.specs.View.{settings_of, head_row, initial_room, dimension_of, no_head, counting, lent_by, lengths_of, Bounded};
 ghost use Rattle.trcf.specs.Types.{augments};
 
 use crate::transformer::WeightedTransformer;
@@ -27,6 +27,17 @@ pub struct Preprocessor {
     pub codes: [u16; 16],
 }
 
+// The six lists that go beside a head, lent to be read.
+#[derive(Clone, Copy)]
+pub struct LentLists<'a> {
+    pub statistics: &'a [f64],
+    pub last_shingled_input: &'a [f32],
+    pub last_shingled_point: &'a [f32],
+    pub previous_timestamps: &'a [u64],
+    pub initial_values: &'a [f32],
+    pub initial_timestamps: &'a [u64],
+}
+
 // How long each of the six lent lists is.
 #[derive(Clone, Copy)]
 pub struct LentLengths {
@@ -36,6 +47,22 @@ pub struct LentLengths {
     pub previous_timestamps: usize,
     pub initial_values: usize,
     pub initial_timestamps: usize,
+}
+
+impl LentLists<'_> {
+    // How long each of them is.
+    pub fn lengths(self) -> LentLengths
+        ensures { result ≡ lengths_of (lent_by self.entry) }
+    {
+        LentLengths {
+            statistics: self.statistics.len(),
+            last_shingled_input: self.last_shingled_input.len(),
+            last_shingled_point: self.last_shingled_point.len(),
+            previous_timestamps: self.previous_timestamps.len(),
+            initial_values: self.initial_values.len(),
+            initial_timestamps: self.initial_timestamps.len(),
+        }
+    }
 }
 
 // The settings of a new preprocessor; its weights and codes are handed beside it.
@@ -184,6 +211,17 @@ pub fn block_of(m: ForestMode, d: usize) -> usize
         return 0;
     }
     if is_augmented(m) { d + 1 } else { d }
+}
+
+// The numbers of the statistics of d channels and the time: five of each, three numbers each; 0 for more channels than a head can have.
+#[tactic(auto, unfolding(crate::specs::Lengths::where_fits, crate::specs::Lengths::within))]
+pub fn statistics_length(d: usize) -> usize
+    ensures { result ≡ where_fits (within d 16) (3 * (5 * d + 5)) 0 }
+{
+    if INPUT_LIMIT < d {
+        return 0;
+    }
+    3 * (5 * d + 5)
 }
 
 // The numbers in a point; 0 for a head that no build made.

@@ -6,7 +6,7 @@ ghost use Rattle.trcf.specs.Preprocessor.{statistics_length};
 ghost use Rattle.trcf.specs.View.{settings_of, Bounded};
 ghost use Rattle.trcf.specs.Lengths.{within, time_fits, output_fits, transform_fits, feed_fits};
 
-use crate::head::{Preprocessor, block_of, head_row};
+use crate::head::{Preprocessor, block_of, head_row, statistics_length};
 use common::deviation::COUNT_LIMIT;
 
 // Whether n numbers have room.
@@ -25,15 +25,15 @@ pub(crate) fn has_room(at: usize, n: usize, room: usize) -> bool
     at <= room && n <= room - at
 }
 
-#[tactic(auto, unfolding(crate::specs::Lengths::time_fits))]
+#[tactic(auto, using(crate::proofs::LengthLaws::statistics_known), unfolding(crate::specs::Lengths::time_fits))]
 pub(crate) fn time_fits(head: Preprocessor, statistics: usize) -> bool
     ensures value { result ≡ time_fits (settings_of head) statistics }
     ensures input_length_bound { result ≡ true → (head.transformer.input_length ≤ 16) × (statistics_length (settings_of head) ≤ statistics) }
 {
-    head_row(head).is_ok() && 3 * (5 * head.transformer.input_length + 5) <= statistics
+    head_row(head).is_ok() && statistics_length(head.transformer.input_length) <= statistics
 }
 
-#[tactic(auto, using(crate::proofs::LengthLaws::block_known), unfolding(crate::specs::Lengths::output_fits, crate::specs::Settings::block))]
+#[tactic(auto, using(crate::proofs::LengthLaws::block_known, crate::proofs::LengthLaws::statistics_known), unfolding(crate::specs::Lengths::output_fits, crate::specs::Settings::block))]
 pub(crate) fn output_fits(head: Preprocessor, statistics: usize, output: usize) -> bool
     ensures value { result ≡ output_fits (settings_of head) statistics output }
     ensures bounded { result ≡ true → Bounded (settings_of head) × (statistics ≡ statistics_length (settings_of head)) × (block (settings_of head) ≤ output) }
@@ -42,7 +42,7 @@ pub(crate) fn output_fits(head: Preprocessor, statistics: usize, output: usize) 
         return false;
     }
     let d = head.transformer.input_length;
-    statistics == 3 * (5 * d + 5) && block_of(head.forest_mode, d) <= output
+    statistics == statistics_length(d) && block_of(head.forest_mode, d) <= output
 }
 
 #[tactic(auto, unfolding(crate::specs::Lengths::transform_fits))]
@@ -60,7 +60,7 @@ pub(crate) fn transform_fits(
     output_fits(head, statistics, output) && inputs == d * head.shingle_size && input == d
 }
 
-#[tactic(auto, unfolding(crate::specs::Lengths::feed_fits))]
+#[tactic(auto, using(crate::proofs::LengthLaws::statistics_known), unfolding(crate::specs::Lengths::feed_fits))]
 pub(crate) fn feed_fits(
     head: Preprocessor,
     count: u64,
@@ -75,5 +75,5 @@ pub(crate) fn feed_fits(
         return false;
     }
     let d = head.transformer.input_length;
-    statistics == 3 * (5 * d + 5) && count < COUNT_LIMIT && before == d && input == d
+    statistics == statistics_length(d) && count < COUNT_LIMIT && before == d && input == d
 }

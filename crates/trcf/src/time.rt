@@ -6,7 +6,7 @@ ghost use Rattle.numeric.specs.Narrow.{narrowed};
 ghost use Rattle.common.specs.Deviation.{zero64};
 ghost use Rattle.trcf.specs.Lists.{last_or};
 ghost use Rattle.trcf.specs.Transformer.{deviation_at, zero32, one32};
-ghost use Rattle.trcf.specs.Preprocessor.{timescale, timedrift, time_element, drifted};
+ghost use Rattle.trcf.specs.Preprocessor.{statistics_length, timescale, timedrift, time_element, drifted};
 ghost use Rattle.trcf.specs.Lengths.{where_fits, time_fits};
 ghost use Rattle.trcf.specs.View.{settings_of, newest_of, time_base_of};
 
@@ -27,7 +27,7 @@ pub fn last_time(times: &[u64]) -> u64
 #[tactic(auto, unfolding(crate::specs::Preprocessor::timescale))]
 pub(crate) fn timescale_fitting(head: Preprocessor, s: &[f64]) -> f64
     requires input_length_bound { head.transformer.input_length ≤ 16 }
-    requires input_length_in_bounds { 3 * (5 * head.transformer.input_length + 5) ≤ length s.now }
+    requires input_length_in_bounds { statistics_length (settings_of head) ≤ length s.now }
     ensures { result ≡ timescale (settings_of head) s.now }
 {
     mean_at(s, 5 * head.transformer.input_length + 4) + 1.0
@@ -48,7 +48,7 @@ pub fn timescale_of(head: Preprocessor, s: &[f64]) -> f64
 #[tactic(auto, unfolding(crate::specs::Preprocessor::timedrift))]
 pub(crate) fn timedrift_fitting(head: Preprocessor, s: &[f64]) -> f64
     requires input_length_bound { head.transformer.input_length ≤ 16 }
-    requires input_length_in_bounds { 3 * (5 * head.transformer.input_length + 5) ≤ length s.now }
+    requires input_length_in_bounds { statistics_length (settings_of head) ≤ length s.now }
     ensures { result ≡ timedrift (settings_of head) s.now }
 {
     mean_at(s, 5 * head.transformer.input_length + 3)
@@ -69,7 +69,7 @@ pub fn timedrift_of(head: Preprocessor, s: &[f64]) -> f64
 // weight_time × the deviation of the second.
 pub(crate) fn time_deviation(head: Preprocessor, s: &[f64]) -> f32
     requires input_length_bound { head.transformer.input_length ≤ 16 }
-    requires input_length_in_bounds { 3 * (5 * head.transformer.input_length + 5) ≤ length s.now }
+    requires input_length_in_bounds { statistics_length (settings_of head) ≤ length s.now }
     ensures { result ≡ mul binary32 head.weight_time (narrowed (deviation_at s.now (5 * head.transformer.input_length + 1))) }
 {
     let second = statistic_at(s, 5 * head.transformer.input_length + 1, 0.0, 0);
@@ -79,7 +79,7 @@ pub(crate) fn time_deviation(head: Preprocessor, s: &[f64]) -> f32
 // The timescale over weight_time; for weight_time 0 it is multiplied by 0.
 pub(crate) fn time_scale(head: Preprocessor, s: &[f64]) -> f32
     requires input_length_bound { head.transformer.input_length ≤ 16 }
-    requires input_length_in_bounds { 3 * (5 * head.transformer.input_length + 5) ≤ length s.now }
+    requires input_length_in_bounds { statistics_length (settings_of head) ≤ length s.now }
     ensures { result ≡ mul binary32 (cond (eq head.weight_time zero32) zero32 (div binary32 one32 head.weight_time)) (narrowed (timescale (settings_of head) s.now)) }
 {
     let weight = head.weight_time;
@@ -127,7 +127,7 @@ pub(crate) fn previous_time(head: Preprocessor, base: u64, timestamp: u64) -> u6
 #[tactic(auto, unfolding(crate::specs::Preprocessor::time_element))]
 pub(crate) fn time_element(head: Preprocessor, s: &[f64], timestamp: u64, previous: u64) -> f32
     requires input_length_bound { head.transformer.input_length ≤ 16 }
-    requires input_length_in_bounds { 3 * (5 * head.transformer.input_length + 5) ≤ length s.now }
+    requires input_length_in_bounds { statistics_length (settings_of head) ≤ length s.now }
     ensures { result ≡ time_element (settings_of head) s.now timestamp previous }
 {
     let weight = numeric::to_f64(head.weight_time);
@@ -144,7 +144,7 @@ pub(crate) fn time_element(head: Preprocessor, s: &[f64], timestamp: u64, previo
 // The newest time with the drift; no drift belongs to a gap.
 pub(crate) fn time_shift(head: Preprocessor, s: &[f64], last: u64) -> f32
     requires input_length_bound { head.transformer.input_length ≤ 16 }
-    requires input_length_in_bounds { 3 * (5 * head.transformer.input_length + 5) ≤ length s.now }
+    requires input_length_in_bounds { statistics_length (settings_of head) ≤ length s.now }
     ensures { result ≡ drifted binary32 (settings_of head) (of_int binary32 (pos last)) (narrowed (timedrift (settings_of head) s.now)) }
 {
     let newest = numeric::u64_to_f32(last);

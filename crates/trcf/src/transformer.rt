@@ -23,7 +23,7 @@ use crate::types::{
     INPUT_LIMIT, TransformMethod, is_centring, is_differencing, is_none, is_normalizing,
 };
 use common::deviation::{COUNT_LIMIT, Deviation, next_factor};
-use ranges::rangevector::RangeVector;
+use ranges::rangevector::{RangeVector, is_unblocked};
 use refusal::Refusal;
 
 // The settings of a transform and how many readings the statistics were fed; the first `input_length` weights count.
@@ -391,13 +391,11 @@ fn output_row(d: usize, s: usize, o: usize) -> Result<(), Refusal>
     Ok(())
 }
 
-// Row 16 of the cascade: no block, or a broken one.
-#[tactic(auto, unfolding(ranges::specs::RangeVector::unblocked))]
-fn blocks_refused(m: TransformMethod, d: usize, n: usize) -> bool
-    requires { 0 < d }
+// Row 16 of a method that cascades: no block, or a broken one.
+pub fn is_broken(m: TransformMethod, d: usize, n: usize) -> bool
     ensures { result ≡ (differences m && unblocked d n) }
 {
-    is_differencing(m) && (n == 0 || n % d != 0)
+    is_differencing(m) && is_unblocked(d, n)
 }
 
 #[tactic(auto, using(refusal::proofs::RefusalLaws::is_numbered), unfolding(crate::specs::TransformerCalls::forecast_row))]
@@ -421,7 +419,7 @@ fn forecast_row(
     if p != d {
         return Err(Refusal::InputLength);
     }
-    if v != u || v != l || blocks_refused(m, d, v) {
+    if v != u || v != l || is_broken(m, d, v) {
         return Err(Refusal::ForecastShape);
     }
     if s < 15 * d {

@@ -6,7 +6,7 @@ ghost use Rattle.trcf.specs.Types.{method_number, mode_letter};
 ghost use Rattle.trcf.specs.Calls.{transform, scale, shift, status};
 ghost use Rattle.trcf.specs.Preprocessor.{reading, transform_of, scale_of, shift_of, deviations};
 ghost use Rattle.trcf.specs.View.{lent, written, write_of, getters_of, status_given, status_after};
-ghost use Rattle.trcf.proofs.OutcomeLaws.{told_by};
+ghost use Rattle.trcf.specs.Steps.Told.{told_by};
 
 use refusal::Refusal;
 use trcf::head::{Preprocessor, Status, get_dimension, head_row};

@@ -25,11 +25,11 @@ loop-j-preserved c =
     let at = A.i * A.d + L.j in
     let B = c.block_number-b.ensures in
     let R = L.invariant.1.rest L.j (omega arith) in (
-      places_more (turn_place A.normalizes A.moves A.i A.channels.now.factors A.channels.now.scales A.channels.now.drifts A.bases.now) (A.i * A.d) L.j
+      places_more (turn_place _ _ A.i A.channels.now.factors A.channels.now.scales A.channels.now.drifts A.bases.now) (A.i * A.d) L.j
           (ranges A.values.now A.upper.now A.lower.now) w _ L.invariant.0
-          (c.turn-q.ensures ∙ (λ k. turn_by A.normalizes A.moves (get_or A.channels.now.factors L.j nan) (get_or A.channels.now.scales L.j nan)
+          (c.turn-q.ensures ∙ (λ k. turn_by c.is_normalizing-normalizes.result c.is_moving-moves.result (get_or A.channels.now.factors L.j nan) (get_or A.channels.now.scales L.j nan)
           (mul binary32 (B k) (get_or A.channels.now.drifts L.j nan)) (R k) (range_at w at))),
-      carried_more A.carries (A.i * A.d) L.j L.values A.bases.now L.bases _ _ (omega arith)
+      carried_more _ (A.i * A.d) L.j L.values A.bases.now L.bases _ _ (omega arith)
           (omega arith) c.chosen.ensures L.invariant.1,
       simp length-set L.invariant.2,
     )
@@ -39,4 +39,8 @@ returns c =
     let A = c.args in
     let L = c.loop-j in
     let e : L.j ≡ A.d = omega arith in
-    record { lower_after = rw e at L.invariant.0; carried = record { long = L.invariant.2 ∙ sym c.requires.d_bound.2; each = λ k l. L.invariant.1.done k (omega arith) } }
+    rw (
+      ← c.is_normalizing-normalizes.ensures,
+      ← c.is_moving-moves.ensures,
+      ← c.is_differencing-carries.ensures,
+    ) (record { lower_after = rw e at L.invariant.0; carried = record { long = L.invariant.2 ∙ sym c.requires.d_bound.2; each = λ k l. L.invariant.1.done k (omega arith) } })

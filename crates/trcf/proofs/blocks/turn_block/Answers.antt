@@ -2,7 +2,7 @@
 use Prim.Native.Nat.{◌*◌}
 use mathlib.Core.Path.{sym, ◌∙◌}
 use Rattle.ranges.specs.RangeVector.{held}
-use Rattle.trcf.proofs.BlockLaws.{none_block, none_carried, other_block, other_carried}
+use Rattle.trcf.proofs.BlockLaws.{none_block, none_carried, other_block}
 use Rattle.trcf.proofs.blocks.turn_block.Goals as goal
 
 pub returns-then-is_none-clause-lower_after : goal.returns-then-is_none-clause-lower_after
@@ -19,10 +19,5 @@ returns-then-is_none-clause-carried c =
 pub returns-else-is_none-clause-lower_after : goal.returns-else-is_none-clause-lower_after
 returns-else-is_none-clause-lower_after c =
     let A = c.args in
-    other_block A.m _ _ A.i (A.i * A.d) A.d A.channels.now.factors A.channels.now.scales A.channels.now.drifts A.bases.now (held A.range.now) _
-    (sym c.is_none.ensures ∙ c.if-is_none.false) c.is_normalizing.ensures c.is_moving.ensures c.invert_block.ensures.lower_after
-
-pub returns-else-is_none-clause-carried : goal.returns-else-is_none-clause-carried
-returns-else-is_none-clause-carried c =
-    let A = c.args in
-    other_carried A.m _ (A.i * A.d) A.d _ A.bases.now _ c.is_differencing.ensures c.invert_block.ensures.carried
+    other_block A.m A.i (A.i * A.d) A.d A.channels.now.factors A.channels.now.scales A.channels.now.drifts A.bases.now (held A.range.now) _
+    (sym c.is_none.ensures ∙ c.if-is_none.false) c.invert_block.ensures.lower_after

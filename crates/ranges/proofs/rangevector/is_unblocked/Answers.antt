@@ -1,7 +1,7 @@
--- `rangevector::are_broken` meets its contract. The tests in their order. Assumes nothing.
+-- `rangevector::is_unblocked` meets its contract. The tests in their order. Assumes nothing.
 use Rattle.std.proofs.Common.{rules}
 use Rattle.ranges.specs.RangeVector.{unblocked}
-use Rattle.ranges.proofs.rangevector.are_broken.Goals as goal
+use Rattle.ranges.proofs.rangevector.is_unblocked.Goals as goal
 
 pub returns-then-values-eq0 : goal.returns-then-values-eq0
 unfolding unblocked
