@@ -313,11 +313,6 @@ turned_all t p v even some one h = go (differences t.method) refl h
 
 -- ---- a range chosen number by number
 
-pub chosen_of : (b : Bool) (q r : Range) (x y z : Float) → x ≡ cond b q.value r.value → y ≡ cond b q.upper r.upper → z ≡ cond b q.lower r.lower
-    → range x y z ≡ cond b q r
-chosen_of true q r x y z a b c = λ j. range (a j) (b j) (c j)
-chosen_of false q r x y z a b c = λ j. range (a j) (b j) (c j)
-
 -- the steps of a number of a weighted channel
 pub turn_steps : (normal moves : Bool) (factor scale shift base : Float) (r a a2 e c c2 q : Range) → a ≡ scaled binary32 r factor → a2 ≡ scaled binary32 a scale
     → e ≡ cond normal a2 a → c ≡ shifted binary32 e shift → c2 ≡ shifted binary32 c base → q ≡ cond moves c2 c → q ≡ turn_by normal moves factor scale shift base r

@@ -63,12 +63,6 @@ cleared n l ys x h e =
     ap (λ (q : List Float). q ++ drop n l) (e ∙ ap (λ (m : ℕ). replicate m x) k)
     ∙ ap (λ (m : ℕ). replicate n x ++ drop m l) (sym (length-replicate n x))
 
--- the statistics of the channels, cut out of a longer list
-pub sound_part : (h : WeightedTransformer) (l : List Float) → 0 < h.input_length → h.input_length ≤ 16 → 15 * h.input_length ≤ length l
-    → Sound h (length (take (15 * h.input_length) l))
-sound_part h l some few room =
-    record { some = some; few = few; room = omega (arith, length-take-le (15 * h.input_length) l room) }
-
 -- and put back
 pub updated_over : (h : WeightedTransformer) (l x p new : List Float) → 15 * h.input_length ≤ length l → new ≡ updated (own h l) x p
     → new ++ drop (15 * h.input_length) l ≡ over l (updated (own h l) x p)

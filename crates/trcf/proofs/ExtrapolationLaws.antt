@@ -376,10 +376,6 @@ module _ (h : Preprocessor) (st x ts : ℕ) (z : Sizes) (row : ℕ) where
   unfolding row_at read_short_row
   row_unread n p q e = rw n (last_row broken short (counters_unfit h) missing row p q e)
 
-pub or_else_first : (a b : ℕ) → or_else a b ≡ 0 → a ≡ 0
-or_else_first zero b e = refl
-or_else_first (suc a) b e = e
-
 module _ (h : Preprocessor) (st x : List Float) (ts : List ℕ) (c : Forecast) where
   -- the rows look at lengths alone
   pub row_is : row_at h (length st) (length x) (length ts) (sizes_of c) ≡ extrapolation_row h st x ts c

@@ -15,10 +15,6 @@ pub record Even (v : Ranges) : Type 0 where
   pub upper : length v.upper ≡ length v.values
   pub lower : length v.lower ≡ length v.values
 
--- the base is one block
-pub blocked_base : (b : Bool) (base d n : ℕ) → base ≡ d → b && unblocked d n ≡ false → b && unblocked base n ≡ false
-blocked_base b base d n e h = rw e h
-
 pub lengths_of_lem : {v w z : Ranges} → SameLengths v w → SameLengths w z → SameLengths v z
 lengths_of_lem a b = record { values = a.values ∙ b.values; upper = a.upper ∙ b.upper; lower = a.lower ∙ b.lower }
 

@@ -275,10 +275,6 @@ module _ (h : Preprocessor) (l : Lent) (c : Learn) where
       learned_outcome 0 (counted h s) (written_over s l) (cond (sym w j) (buffered_answer v c) (learn_answer v c (sym p j))))
       ∙ learn_answered e
 
-pub or_twice : (r m n : ℕ) → (r ≡ 0 → ⊥) → r ≡ or_else (or_else r m) n
-or_twice zero m n z = absurd (z refl)
-or_twice (suc r) m n z = refl
-
 -- ---- the place of an anomaly
 
 pub zero_is : (i : ℤ) → is_zero i ≡ eqb (back_of i) 0

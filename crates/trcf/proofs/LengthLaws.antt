@@ -40,18 +40,6 @@ module _ {A : Type 0} where
   unfolding where_fits
   unfit {b = b} {x = x} {z = z} y e h = e ∙ ap (λ (t : Bool). where_fits t y z) (sym h)
 
-pub within_le : {m n : ℕ} → within m n ≡ true → m ≤ n
-unfolding within
-within_le {m = m} {n = n} h = leb-true m n h
-
-pub passes_zero : {r : ℕ} → r ≡ 0 → passes r ≡ true
-unfolding passes
-passes_zero {r = r} h = eq-eqb r 0 h
-
-pub passes_not : {r : ℕ} → (r ≡ 0 → ⊥) → passes r ≡ false
-unfolding passes
-passes_not {r = r} h = ne_eqb r 0 h
-
 -- ---- a head within its limits
 
 module _ (s : Settings) (b : Bounded s) where

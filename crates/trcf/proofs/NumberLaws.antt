@@ -22,8 +22,6 @@ pub refused_first : (r : Refusal) (n m : ℕ) → number_of r ≡ n → number_o
 refused_first r n m e = e ∙ or_else_not n m (λ z. number_zero r (e ∙ z))
 
 module _ {A : Type 0} where
-  pub refused_second : (r : Refusal) (n : ℕ) (a b : A) → number_of r ≡ n → accepted n a b ≡ b
-  refused_second r n a b e = refused_is r n a b e
 
   -- what `?` hands on has no number 0
   pub handed_not : (e : Refusal) (r : Result A Refusal) → IsErrAnd r (λ d. d ≡ e) → row_of r ≡ 0 → ⊥

@@ -178,10 +178,3 @@ settings_by h v cs =
       weights = v;
       codes = cs;
     }
-
-pub settings_by_lem : (h : Preprocessor) (v : List Float) (cs : List ℕ) → v ≡ take h.transformer.input_length h.transformer.weights
-    → cs ≡ take h.transformer.input_length h.codes → settings_row (settings_by h v cs) ≡ settings_row (settings_of h)
-settings_by_lem h v cs e f = λ j. settings_row (settings_by h (e j) (f j))
-
-pub used_all : {A : Type 0} (d : ℕ) (w : List A) → length w ≡ 16 → 16 < d → take 16 w ≡ take d w
-used_all d w h k = take_all 16 w (omega arith) ∙ sym (take_all d w (omega arith))

@@ -39,26 +39,6 @@ not_none false e = sym e
 pub whole_first : (x d m : ℕ) → cond (not (eqb x d)) 10 m ≡ 0 → x ≡ d
 whole_first x d m e = eqb-true x d (not_none (eqb x d) (first_none (not (eqb x d)) 9 m e).0)
 
-pos_of : (n : ℕ) → (n ≡ 0 → ⊥) → 0 < n
-pos_of zero z = absurd (z refl)
-pos_of (suc n) z = omega arith
-
-bounded_of : (s : Settings) → head_row s ≡ 0 → Bounded s
-unfolding head_row
-bounded_of s e =
-    let a = first_none (eqb s.d 0) 1 _ e in
-    let b = first_none (eqb s.k 0) 2 _ a.1 in
-    let c = first_none (ltb input_limit s.d || ltb shingle_limit s.k) 3 _ b.1 in
-    let d = first_none (leb start_bound s.start) 7 0 c.1 in
-    let o = or_none (ltb input_limit s.d) (ltb shingle_limit s.k) c.0 in
-    record {
-      d_pos = pos_of s.d (eqb-false s.d 0 a.0);
-      d_few = ltb-false input_limit s.d o.0;
-      k_pos = pos_of s.k (eqb-false s.k 0 b.0);
-      k_few = ltb-false shingle_limit s.k o.1;
-      start_few = leb-false start_bound s.start d.0;
-    }
-
 -- ---- what is lent
 
 module _ (s : Settings) (l : Lent) where
@@ -102,12 +82,6 @@ module _ (h : Preprocessor) (l : Lent) where
         counted = misfit_counted h a.0;
       }
 
-  -- a head and what is lent that neither row refuses
-  pub held_ready : or_else (head_row (settings_of h)) (lent_row h l) ≡ 0 → Ready h l
-  held_ready e =
-      let a = or_else_none (head_row (settings_of h)) (lent_row h l) e in
-      record { bounded = bounded_of (settings_of h) a.0; fitted = fitted_of a.1 }
-
 -- the three parts of a row, none of which refuses
 pub record Unrefused (h : Preprocessor) (l : Lent) (c : Call) : Type 0 where
   pub head_none : head_row (settings_of h) ≡ 0
@@ -142,11 +116,6 @@ module _ (h : Preprocessor) (l : Lent) (c : Call) where
       ∙ lengths_row_lem h l
       ∙ ap (λ (n : ℕ). or_else n (lent_row h l)) (sym g)
       ∙ ap (λ (n : ℕ). or_else n (or_else (rows (settings_of h) (facts (view h l)) c) (lent_row h l))) (sym f)
-
-  -- the two promises of a row function
-  pub row_ready : (r : ℕ) → r ≡ row_of h l c → (r ≡ row_of h l c) × (r ≡ 0 → Ready h l)
-  row_ready r e =
-      (e, λ z. let u = row_none (sym e ∙ z) in record { bounded = bounded_of (settings_of h) u.head_none; fitted = fitted_of h l u.lent_none })
 
 -- ---- what waits, over the list of times and over its length
 

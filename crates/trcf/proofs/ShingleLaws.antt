@@ -31,34 +31,6 @@ module _ {A : Type 0} (w : ℕ) (l : List A) (i : ℕ) (fits : i + w ≤ length 
   pub length_moved : length (take i (drop w l)) ≡ i
   length_moved = length-take-le i (drop w l) (omega (arith, length-drop w l))
 
-  get_d_slid : (d : A) → get_or (slid w l i) (i + w) d ≡ get_or l (i + w) d
-  unfolding slid
-  get_d_slid d =
-      ap (λ (k : ℕ). get_or (take i (drop w l) ++ drop i l) (k + w) d) (sym length_moved)
-      ∙ get_or-append-add (take i (drop w l)) (drop i l) w d
-      ∙ get_or-drop i l w d
-
-  -- a store at i
-  pub set_slid : (d v : A) → i < length l → set (slid w l i) i v ≡ take i (drop w l) ++ v ∷ drop (suc i) l
-  unfolding slid
-  set_slid d v h =
-      ap (λ (q : List A). set (take i (drop w l) ++ q) i v) (drop-cons l i d h)
-      ∙ set_at (take i (drop w l)) (get_or l i d) (drop (suc i) l) v i length_moved
-
-module _ {A : Type 0} (w : ℕ) (l : List A) (i : ℕ) (more : i + w < length l) where
-  -- a turn
-  pub slid_more : (d : A) → set (slid w l i) i (get_or (slid w l i) (i + w) d) ≡ slid w l (suc i)
-  unfolding slid
-  slid_more d =
-      let le : i + w ≤ length l = omega arith in
-      let lt : i < length l = omega arith in
-      let v : get_or (slid w l i) (i + w) d ≡ get_or (drop w l) i d =
-      get_d_slid w l i le d ∙ ap (λ (k : ℕ). get_or l k d) (omega arith) ∙ sym (get_or-drop w l i d) in
-      ap (λ (u : A). set (slid w l i) i u) v
-      ∙ set_slid w l i le d (get_or (drop w l) i d) lt
-      ∙ sym (append_snoc (take i (drop w l)) (get_or (drop w l) i d) (drop (suc i) l))
-      ∙ ap (λ (q : List A). q ++ drop (suc i) l) (sym (take-suc (drop w l) i d (omega (arith, length-drop w l))))
-
 module _ {A : Type 0} where
   append_none : (l : List A) → l ++ [] ≡ l
   append_none [] = refl
@@ -97,21 +69,6 @@ module _ {A : Type 0} where
       put_mid-paste m (length s - m) s y x (length x) f (omega arith) refl
       ∙ ap (λ (q : List A). paste q m x (length x)) (e ∙ ap (λ (j : ℕ). take m (drop (length x) l) ++ drop j l) n)
       ∙ slid_paste l x m (omega arith)
-
-  -- the end, where the block is one element
-  pub slid_put : (d : A) (l : List A) (t : A) (m : ℕ) → suc m ≡ length l → set (slid 1 l m) m t ≡ shift_in l (t ∷ [])
-  unfolding shift_in
-  slid_put d l t m e =
-      let le : m + 1 ≤ length l = omega arith in
-      let lt : m < length l = omega arith in
-      set_slid 1 l m le d t lt
-      ∙ ap (λ (k : ℕ). take m (drop 1 l) ++ t ∷ drop k l) e
-      ∙ ap (λ (q : List A). take m (drop 1 l) ++ t ∷ q) (drop-length l)
-      ∙ ap (λ (q : List A). q ++ t ∷ []) (take_all m (drop 1 l) (omega (arith, length-drop 1 l)))
-
-  pub length_shift_in : (l x : List A) → length x ≤ length l → length (shift_in l x) ≡ length l
-  unfolding shift_in
-  length_shift_in l x h = omega (arith, length-append (drop (length x) l) x, length-drop (length x) l)
 
   -- ---- overwriting the last block
 
@@ -162,12 +119,6 @@ module _ {A : Type 0} where
   pub filled : (n : ℕ) (v : A) (d : List A) → n < length d → set (replicate n v ++ drop n d) n v ≡ replicate (n + 1) v ++ drop (n + 1) d
   filled n v d l = rw add-one (fill_suc n v d l)
 
-  pub filled_all : (n : ℕ) (v : A) (d : List A) → n ≡ length d → replicate n v ++ drop n d ≡ replicate (length d) v
-  filled_all n v d e =
-      ap (λ (k : ℕ). replicate k v ++ drop k d) e
-      ∙ ap (λ (q : List A). replicate (length d) v ++ q) (drop-length d)
-      ∙ append_none (replicate (length d) v)
-
   -- ---- the last
 
   pub last_or_is : (a b : A) (l : List A) (m : ℕ) → length l ≡ suc m → last_or a l ≡ get_or l m b
@@ -201,13 +152,6 @@ not_below_top nan h = refl
 not_below_top (inf s) h = refl
 not_below_top (fin s m e) h = sym h
 
--- a turn of the loop
-pub finite_at : (x : List Float) (i : ℕ) (b : Bool) → i < length x → finite (get_or x i nan ∷ []) ≡ b → finite (drop i x) ≡ b && finite (drop (suc i) x)
-finite_at x i b h e =
-    ap finite (drop-cons x i nan h)
-    ∙ finite_cons (get_or x i nan) (drop (suc i) x)
-    ∙ ap (λ (c : Bool). c && finite (drop (suc i) x)) e
-
 last_get : (l : List ℕ) → get_or l (length l - 1) 0 ≡ last_or 0 l
 last_get [] = refl
 last_get (x ∷ l) = sym (last_or_is 0 0 (x ∷ l) (length (x ∷ l) - 1) (omega arith))
@@ -218,21 +162,6 @@ last_of_first l n k e =
     unwrap_or-slice_get (take k l) (length (take k l) - 1) 0
     ∙ last_get (take k l)
     ∙ ap (last_or 0) (ap (λ (j : ℕ). take j l) e ∙ take_min n l)
-
--- the last of the first n, read at its place
-pub last_within : (l : List ℕ) (n : ℕ) → 0 < n → n ≤ length l → get_or l (n - 1) 0 ≡ last_or 0 (take n l)
-last_within l n p h =
-    let e : length (take n l) ≡ suc (n - 1) = omega (arith, length-take-le n l h) in
-    sym (last_or_is 0 0 (take n l) (n - 1) e ∙ get_or-take n l (n - 1) 0 (omega arith))
-
-pub last_past : (l : List ℕ) (n : ℕ) → 0 < length l → length l ≤ n → get_or l (length l - 1) 0 ≡ last_or 0 (take n l)
-last_past l n p h =
-    let e : length l ≡ suc (length l - 1) = omega arith in
-    sym (ap (last_or 0) (take_all n l h) ∙ last_or_is 0 0 l (length l - 1) e)
-
-pub last_none : (l : List ℕ) (n : ℕ) → length l ≡ 0 → 0 ≡ last_or 0 (take n l)
-last_none [] n e = ap (last_or 0) (sym (take-nil n))
-last_none (x ∷ l) n e = absurd (omega arith)
 
 module _ {A : Type 0} where
   -- what is put after the first m

@@ -13,6 +13,7 @@ use crate::types::{
 };
 use refusal::Refusal;
 
+// Kept: (a) no heap and fixed memory, so the codes stand in an array; how many count is the transformer's `input_length`.
 #[derive(Clone, Copy)]
 pub struct Preprocessor {
     pub transformer: WeightedTransformer,

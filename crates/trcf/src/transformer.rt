@@ -27,6 +27,7 @@ use ranges::rangevector::{RangeVector, is_unblocked};
 use refusal::Refusal;
 
 // The settings of a transform and how many readings the statistics were fed; the first `input_length` weights count.
+// Kept: (a) no heap and fixed memory, so the weights stand in an array, with the number of those in use beside.
 #[derive(Clone, Copy)]
 pub struct WeightedTransformer {
     pub transform_method: TransformMethod,

@@ -1,19 +1,18 @@
 // Which row refuses a post_process. Nothing here writes.
-// Kept: (d) the six lent lists are parameters: a struct would need a type for each mix of shared and mutable lists that the calls lend, and with mutable ones a clause on their loans in each contract.
 ghost use Rattle.std.specs.Prelude.{◌≡◌, not, ◌&&◌, ◌||◌, ltb, leb, eqb, length, is_some, OnOk};
 ghost use Rattle.std.specs.Float.Ieee.{lt};
 ghost use Rattle.refusal.specs.Refusal.{row_of};
 ghost use Rattle.common.specs.Deviation.{count_limit};
 ghost use Rattle.trcf.specs.Transformer.{zero32};
 ghost use Rattle.trcf.specs.Calls.{seen_limit, post_process};
-ghost use Rattle.trcf.specs.View.{settings_of, row_of as call_row, lent, learn_call, back_of, Bounded, Ready};
+ghost use Rattle.trcf.specs.View.{settings_of, row_of as call_row, lent_by, learn_call, back_of, Bounded, Ready};
 ghost use Rattle.trcf.specs.Steps.Rows.{input_row, waiting_row, learn_row, learning_row};
 ghost use Rattle.trcf_rows.specs.Given.{list_in};
 
-use crate::rows::{all_finite, is_waiting, lengths_of, lent_row};
+use crate::rows::{all_finite, is_waiting, lent_row};
 use common::deviation::COUNT_LIMIT;
 use refusal::Refusal;
-use trcf::head::{Preprocessor, SEEN_LIMIT, block_of, get_dimension, head_row};
+use trcf::head::{LentLists, Preprocessor, SEEN_LIMIT, block_of, get_dimension, head_row};
 use trcf::time::newest_of;
 
 // How many readings before the newest; beyond every shingle for one that is to come.
@@ -176,12 +175,7 @@ fn learning_row(
 
 pub fn post_process_row(
     head: Preprocessor,
-    statistics: &[f64],
-    last_shingled_input: &[f32],
-    last_shingled_point: &[f32],
-    previous_timestamps: &[u64],
-    initial_values: &[f32],
-    initial_timestamps: &[u64],
+    lists: LentLists,
     input: &[f32],
     timestamp: u64,
     y: Option<&[f32]>,
@@ -192,12 +186,13 @@ pub fn post_process_row(
     past_out: &[f32],
     expected_out: &[f32],
 ) -> Result<(), Refusal>
-    ensures value { row_of result ≡ call_row head (lent statistics.now last_shingled_input.now last_shingled_point.now previous_timestamps.now initial_values.now initial_timestamps.now) (post_process (learn_call input.now timestamp (is_some y.entry) (list_in y.entry) (is_some expected.entry) (list_in expected.entry) grade relative_index deviations_out.now past_out.now expected_out.now)) }
-    ensures ready { OnOk result (Ready head (lent statistics.now last_shingled_input.now last_shingled_point.now previous_timestamps.now initial_values.now initial_timestamps.now)) }
+    ensures value { row_of result
+        ≡ call_row head (lent_by lists.entry) (post_process (learn_call input.now timestamp (is_some y.entry) (list_in y.entry) (is_some expected.entry) (list_in expected.entry) grade relative_index deviations_out.now past_out.now expected_out.now)) }
+    ensures ready { OnOk result (Ready head (lent_by lists.entry)) }
 {
     head_row(head)?;
     let finite = all_finite(input);
-    let newest = newest_of(head, previous_timestamps, initial_timestamps);
+    let newest = newest_of(head, lists.previous_timestamps, lists.initial_timestamps);
     input_row(head, input.len(), finite, newest, timestamp)?;
     let back = places_back(relative_index);
     learning_row(
@@ -210,13 +205,5 @@ pub fn post_process_row(
         past_out.len(),
         expected_out.len(),
     )?;
-    let lengths = lengths_of(
-        statistics,
-        last_shingled_input,
-        last_shingled_point,
-        previous_timestamps,
-        initial_values,
-        initial_timestamps,
-    );
-    lent_row(head, lengths)
+    lent_row(head, lists.lengths())
 }

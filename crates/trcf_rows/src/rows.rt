@@ -1,20 +1,19 @@
 // Which row refuses a call. Nothing here writes.
-// Kept: (d) the six lent lists are parameters: a struct would need a type for each mix of shared and mutable lists that the calls lend, and with mutable ones a clause on their loans in each contract.
 ghost use Rattle.std.specs.Prelude.{◌≡◌, not, ◌&&◌, ◌||◌, List, [], ◌∷◌, ℕ, ◌+◌, ◌≤◌, ltb, eqb, length, take, Float, OnOk};
 ghost use Rattle.common.specs.Deviation.{count_limit};
-ghost use Rattle.refusal.specs.Refusal.{row_of, first_of};
+ghost use Rattle.refusal.specs.Refusal.{row_of};
 ghost use Rattle.trcf.specs.Lists.{null};
 ghost use Rattle.trcf.specs.Types.{is_gap};
 ghost use Rattle.trcf.specs.Settings.{imputes, waiting, settings_row, block};
 ghost use Rattle.trcf.specs.Calls.{seen_limit, finite, scale, transform, drain, shingled_point};
-ghost use Rattle.trcf.specs.View.{settings_of, settings_from, left_over, counters_unfit, outside_row, head_row, or_else, lengths_short, lent_row, row_of as call_row, lent, lengths_of, Bounded, Accepted, Ready};
+ghost use Rattle.trcf.specs.View.{settings_of, settings_from, left_over, counters_unfit, outside_row, head_row, or_else, lengths_short, lent_row, row_of as call_row, lent_by, Bounded, Accepted, Ready};
 ghost use Rattle.trcf.specs.Steps.Rows.{lengths_row, any_of, spent, overdue, past_row};
 
 use common::deviation::{COUNT_LIMIT, outside_unit};
 use refusal::Refusal;
 use trcf::head::{
-    LentLengths, Preprocessor, PreprocessorBuilder, SEEN_LIMIT, block_of, get_dimension, head_row,
-    initial_room,
+    LentLengths, LentLists, Preprocessor, PreprocessorBuilder, SEEN_LIMIT, block_of, get_dimension,
+    head_row, initial_room, statistics_length,
 };
 use trcf::time::newest_of;
 use trcf::transformer::weights_refused;
@@ -161,46 +160,23 @@ pub fn outside_row(head: Preprocessor) -> Result<(), Refusal>
     Ok(())
 }
 
-// How long each lent list is.
-pub(crate) fn lengths_of(
-    statistics: &[f64],
-    last_shingled_input: &[f32],
-    last_shingled_point: &[f32],
-    previous_timestamps: &[u64],
-    initial_values: &[f32],
-    initial_timestamps: &[u64],
-) -> LentLengths
-    ensures { result ≡ lengths_of (lent statistics.now last_shingled_input.now last_shingled_point.now previous_timestamps.now initial_values.now initial_timestamps.now) }
-{
-    LentLengths {
-        statistics: statistics.len(),
-        last_shingled_input: last_shingled_input.len(),
-        last_shingled_point: last_shingled_point.len(),
-        previous_timestamps: previous_timestamps.len(),
-        initial_values: initial_values.len(),
-        initial_timestamps: initial_timestamps.len(),
-    }
-}
-
-// Refused where a lent list is too short.
-#[tactic(auto, using(trcf::proofs::LengthLaws::dimension_known))]
-fn short_row(head: Preprocessor, lengths: LentLengths) -> Result<(), Refusal>
+// Whether a lent list is too short.
+#[tactic(auto, using(trcf::proofs::LengthLaws::dimension_known, trcf::proofs::LengthLaws::statistics_known))]
+fn is_short(head: Preprocessor, lengths: LentLengths) -> bool
     requires { Bounded (settings_of head) }
-    ensures { row_of result ≡ first_of ((lengths_short (settings_of head) lengths, 20) ∷ []) }
+    ensures { result ≡ lengths_short (settings_of head) lengths }
 {
     let d = head.transformer.input_length;
     let k = head.shingle_size;
     let waiting = initial_room(head);
-    if lengths.statistics < 3 * (5 * d + 5)
-        || lengths.last_shingled_input < d * k
+    if lengths.statistics < statistics_length(d) {
+        return true;
+    }
+    lengths.last_shingled_input < d * k
         || lengths.last_shingled_point < get_dimension(head)
         || lengths.previous_timestamps < k
         || lengths.initial_values < waiting * d
         || lengths.initial_timestamps < waiting
-    {
-        return Err(Refusal::TooShort);
-    }
-    Ok(())
 }
 
 // Refused where the head and what is lent do not go together.
@@ -209,50 +185,25 @@ pub(crate) fn lent_row(head: Preprocessor, lengths: LentLengths) -> Result<(), R
     requires { Bounded (settings_of head) }
     ensures { row_of result ≡ lengths_row head lengths }
 {
-    if is_misfit(head) {
+    if is_misfit(head) || is_short(head, lengths) {
         return Err(Refusal::TooShort);
     }
-    short_row(head, lengths)
+    Ok(())
 }
 
 // The row of a head, or 20 where what is lent does not go with it.
-pub fn held_row(
-    head: Preprocessor,
-    statistics: &[f64],
-    last_shingled_input: &[f32],
-    last_shingled_point: &[f32],
-    previous_timestamps: &[u64],
-    initial_values: &[f32],
-    initial_timestamps: &[u64],
-) -> Result<(), Refusal>
-    ensures value { row_of result ≡ or_else (head_row (settings_of head)) (lent_row head (lent statistics.now last_shingled_input.now last_shingled_point.now previous_timestamps.now initial_values.now initial_timestamps.now)) }
-    ensures ready { OnOk result (Ready head (lent statistics.now last_shingled_input.now last_shingled_point.now previous_timestamps.now initial_values.now initial_timestamps.now)) }
+pub fn held_row(head: Preprocessor, lists: LentLists) -> Result<(), Refusal>
+    ensures value { row_of result ≡ or_else (head_row (settings_of head)) (lent_row head (lent_by lists.entry)) }
+    ensures ready { OnOk result (Ready head (lent_by lists.entry)) }
 {
     head_row(head)?;
-    let lengths = lengths_of(
-        statistics,
-        last_shingled_input,
-        last_shingled_point,
-        previous_timestamps,
-        initial_values,
-        initial_timestamps,
-    );
-    lent_row(head, lengths)
+    lent_row(head, lists.lengths())
 }
 
 // The rows of a call that hands nothing but its output.
-pub fn write_row(
-    head: Preprocessor,
-    statistics: &[f64],
-    last_shingled_input: &[f32],
-    last_shingled_point: &[f32],
-    previous_timestamps: &[u64],
-    initial_values: &[f32],
-    initial_timestamps: &[u64],
-    output: &[f32],
-) -> Result<(), Refusal>
-    ensures value { row_of result ≡ call_row head (lent statistics.now last_shingled_input.now last_shingled_point.now previous_timestamps.now initial_values.now initial_timestamps.now) (scale output.now) }
-    ensures ready { OnOk result (Ready head (lent statistics.now last_shingled_input.now last_shingled_point.now previous_timestamps.now initial_values.now initial_timestamps.now)) }
+pub fn write_row(head: Preprocessor, lists: LentLists, output: &[f32]) -> Result<(), Refusal>
+    ensures value { row_of result ≡ call_row head (lent_by lists.entry) (scale output.now) }
+    ensures ready { OnOk result (Ready head (lent_by lists.entry)) }
     ensures head_in_bounds { OnOk result (block (settings_of head) ≤ length output.now) }
 {
     head_row(head)?;
@@ -260,15 +211,7 @@ pub fn write_row(
     if output.len() < n {
         return Err(Refusal::TooShort);
     }
-    let lengths = lengths_of(
-        statistics,
-        last_shingled_input,
-        last_shingled_point,
-        previous_timestamps,
-        initial_values,
-        initial_timestamps,
-    );
-    lent_row(head, lengths)
+    lent_row(head, lists.lengths())
 }
 
 // Row 28: whether a gap would reach back, past the newest time.
@@ -280,18 +223,13 @@ fn is_behind(head: Preprocessor, newest: u64, timestamp: u64) -> bool
 
 pub fn transform_row(
     head: Preprocessor,
-    statistics: &[f64],
-    last_shingled_input: &[f32],
-    last_shingled_point: &[f32],
-    previous_timestamps: &[u64],
-    initial_values: &[f32],
-    initial_timestamps: &[u64],
+    lists: LentLists,
     input: &[f32],
     timestamp: u64,
     output: &[f32],
 ) -> Result<(), Refusal>
-    ensures value { row_of result ≡ call_row head (lent statistics.now last_shingled_input.now last_shingled_point.now previous_timestamps.now initial_values.now initial_timestamps.now) (transform input.now timestamp output.now) }
-    ensures ready { OnOk result (Ready head (lent statistics.now last_shingled_input.now last_shingled_point.now previous_timestamps.now initial_values.now initial_timestamps.now)) }
+    ensures value { row_of result ≡ call_row head (lent_by lists.entry) (transform input.now timestamp output.now) }
+    ensures ready { OnOk result (Ready head (lent_by lists.entry)) }
     ensures input_len { OnOk result (length input.now ≡ head.transformer.input_length) }
     ensures head_in_bounds { OnOk result (block (settings_of head) ≤ length output.now) }
 {
@@ -300,7 +238,7 @@ pub fn transform_row(
     if input.len() != d {
         return Err(Refusal::InputLength);
     }
-    let newest = newest_of(head, previous_timestamps, initial_timestamps);
+    let newest = newest_of(head, lists.previous_timestamps, lists.initial_timestamps);
     if is_behind(head, newest, timestamp) {
         return Err(Refusal::GapFalls);
     }
@@ -308,15 +246,7 @@ pub fn transform_row(
     if output.len() < n {
         return Err(Refusal::TooShort);
     }
-    let lengths = lengths_of(
-        statistics,
-        last_shingled_input,
-        last_shingled_point,
-        previous_timestamps,
-        initial_values,
-        initial_timestamps,
-    );
-    lent_row(head, lengths)
+    lent_row(head, lists.lengths())
 }
 
 // Whether one of the first n of m is there.
@@ -367,73 +297,44 @@ fn is_overdue(head: Preprocessor, m: usize) -> bool
     head.values_seen == head.start_normalization && is_any(head.initial_len, m) && is_full(head)
 }
 
-pub fn drain_row(
-    head: Preprocessor,
-    statistics: &[f64],
-    last_shingled_input: &[f32],
-    last_shingled_point: &[f32],
-    previous_timestamps: &[u64],
-    initial_values: &[f32],
-    initial_timestamps: &[u64],
-) -> Result<(), Refusal>
-    ensures value { row_of result ≡ call_row head (lent statistics.now last_shingled_input.now last_shingled_point.now previous_timestamps.now initial_values.now initial_timestamps.now) drain }
-    ensures ready { OnOk result (Ready head (lent statistics.now last_shingled_input.now last_shingled_point.now previous_timestamps.now initial_values.now initial_timestamps.now)) }
+pub fn drain_row(head: Preprocessor, lists: LentLists) -> Result<(), Refusal>
+    ensures value { row_of result ≡ call_row head (lent_by lists.entry) drain }
+    ensures ready { OnOk result (Ready head (lent_by lists.entry)) }
 {
     head_row(head)?;
-    let m = initial_timestamps.len();
+    let m = lists.initial_timestamps.len();
     if is_spent(head, m) {
         return Err(Refusal::NothingToDrain);
     }
     if is_overdue(head, m) {
         return Err(Refusal::CounterLimit);
     }
-    let lengths = lengths_of(
-        statistics,
-        last_shingled_input,
-        last_shingled_point,
-        previous_timestamps,
-        initial_values,
-        initial_timestamps,
-    );
-    lent_row(head, lengths)
+    lent_row(head, lists.lengths())
 }
 
 pub fn shingled_point_row(
     head: Preprocessor,
-    statistics: &[f64],
-    last_shingled_input: &[f32],
-    last_shingled_point: &[f32],
-    previous_timestamps: &[u64],
-    initial_values: &[f32],
-    initial_timestamps: &[u64],
+    lists: LentLists,
     input: &[f32],
     timestamp: u64,
     output: &[f32],
 ) -> Result<(), Refusal>
-    ensures value { row_of result ≡ call_row head (lent statistics.now last_shingled_input.now last_shingled_point.now previous_timestamps.now initial_values.now initial_timestamps.now) (shingled_point input.now timestamp output.now) }
-    ensures ready { OnOk result (Ready head (lent statistics.now last_shingled_input.now last_shingled_point.now previous_timestamps.now initial_values.now initial_timestamps.now)) }
+    ensures value { row_of result ≡ call_row head (lent_by lists.entry) (shingled_point input.now timestamp output.now) }
+    ensures ready { OnOk result (Ready head (lent_by lists.entry)) }
 {
     head_row(head)?;
     if input.len() != head.transformer.input_length {
         return Err(Refusal::InputLength);
     }
-    let newest = newest_of(head, previous_timestamps, initial_timestamps);
+    let newest = newest_of(head, lists.previous_timestamps, lists.initial_timestamps);
     if !all_finite(input) {
         return Err(Refusal::NotFinite);
     }
     if is_behind(head, newest, timestamp) {
         return Err(Refusal::GapFalls);
     }
-    past_row(head, initial_timestamps.len(), output.len())?;
-    let lengths = lengths_of(
-        statistics,
-        last_shingled_input,
-        last_shingled_point,
-        previous_timestamps,
-        initial_values,
-        initial_timestamps,
-    );
-    lent_row(head, lengths)
+    past_row(head, lists.initial_timestamps.len(), output.len())?;
+    lent_row(head, lists.lengths())
 }
 
 // Rows 18 and 20 of a point, past waiting; m times are lent, and the output is of n.

@@ -5,7 +5,7 @@ use Rattle.std.proofs.Common.{◌≡◌, length, sym, ap, ◌∙◌}
 use Rattle.std.specs.Prelude.{is_some}
 use Rattle.trcf.specs.Calls.{rows, post_process, finite}
 use Rattle.trcf.specs.Preprocessor.{facts}
-use Rattle.trcf.specs.View.{lent, settings_of, view, learn_call, back_of, newest_of}
+use Rattle.trcf.specs.View.{lent_by, settings_of, view, learn_call, back_of, newest_of}
 use Rattle.trcf.specs.Steps.Rows.{input_row, learning_row}
 use Rattle.trcf.proofs.NumberLaws.{refused_first}
 use Rattle.trcf.proofs.LearnLaws.{post_rows}
@@ -17,7 +17,7 @@ pub returns-in_err-head_row : goal.returns-in_err-head_row
 returns-in_err-head_row c =
     let a = c.args in
     let h = a.head in
-    let l = lent a.statistics.now a.last_shingled_input.now a.last_shingled_point.now a.previous_timestamps.now a.initial_values.now a.initial_timestamps.now in
+    let l = lent_by a.lists in
     let p =
     post_process (learn_call a.input.now a.timestamp (is_some a.y) (list_in a.y) (is_some a.expected) (list_in a.expected) a.grade a.relative_index
     a.deviations_out.now a.past_out.now a.expected_out.now) in
@@ -28,7 +28,7 @@ pub returns-in_err-input_row : goal.returns-in_err-input_row
 returns-in_err-input_row c =
     let a = c.args in
     let h = a.head in
-    let l = lent a.statistics.now a.last_shingled_input.now a.last_shingled_point.now a.previous_timestamps.now a.initial_values.now a.initial_timestamps.now in
+    let l = lent_by a.lists in
     let p =
     post_process (learn_call a.input.now a.timestamp (is_some a.y) (list_in a.y) (is_some a.expected) (list_in a.expected) a.grade a.relative_index
     a.deviations_out.now a.past_out.now a.expected_out.now) in
@@ -47,7 +47,7 @@ pub returns-in_err-learning_row : goal.returns-in_err-learning_row
 returns-in_err-learning_row c =
     let a = c.args in
     let h = a.head in
-    let l = lent a.statistics.now a.last_shingled_input.now a.last_shingled_point.now a.previous_timestamps.now a.initial_values.now a.initial_timestamps.now in
+    let l = lent_by a.lists in
     let p =
     post_process (learn_call a.input.now a.timestamp (is_some a.y) (list_in a.y) (is_some a.expected) (list_in a.expected) a.grade a.relative_index
     a.deviations_out.now a.past_out.now a.expected_out.now) in
@@ -68,7 +68,7 @@ pub returns : goal.returns
 returns c =
     let a = c.args in
     let h = a.head in
-    let l = lent a.statistics.now a.last_shingled_input.now a.last_shingled_point.now a.previous_timestamps.now a.initial_values.now a.initial_timestamps.now in
+    let l = lent_by a.lists in
     let p =
     post_process (learn_call a.input.now a.timestamp (is_some a.y) (list_in a.y) (is_some a.expected) (list_in a.expected) a.grade a.relative_index
     a.deviations_out.now a.past_out.now a.expected_out.now) in
@@ -82,7 +82,7 @@ returns c =
     let m = c.places_back-back.ensures ∙ ap back_of (to_z-of_z w32 a.relative_index c.ranges.relative_index) in
     let g : learning_row h (length (list_in a.y)) (is_some a.y) (length (list_in a.expected)) (is_some a.expected) a.grade c.places_back-back.result (length a.deviations_out.now) (length a.past_out.now) (length a.expected_out.now)
     ≡ learning_row h (length (list_in a.y)) (is_some a.y) (length (list_in a.expected)) (is_some a.expected) a.grade (back_of a.relative_index) (length a.deviations_out.now) (length a.past_out.now) (length a.expected_out.now) = λ j. learning_row h (length (list_in a.y)) (is_some a.y) (length (list_in a.expected)) (is_some a.expected) a.grade (m j) (length a.deviations_out.now) (length a.past_out.now) (length a.expected_out.now) in
-    let d = c.lengths_of-lengths.ensures in
+    let d = c.lengths.ensures in
     let z = c.lent_row.ensures in
     let q : rows (settings_of h) (facts (view h l)) p ≡ 0 = rw (← v, sym (c.in_ok-input_row.ensures ∙ i)) (sym (c.in_ok-learning_row.ensures ∙ g)) in
     record { value = lent_decides h l p _ _ o.value q d z; ready = lent_ready h l _ _ o.bounded d z }

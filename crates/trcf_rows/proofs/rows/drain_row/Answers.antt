@@ -3,7 +3,7 @@ use Rattle.std.proofs.Common.{◌≡◌, sym, ◌∙◌}
 use Rattle.refusal.specs.declared.Refusal.TheVariants.{NothingToDrain, CounterLimit}
 use Rattle.trcf.specs.Calls.{rows, drain}
 use Rattle.trcf.specs.Preprocessor.{facts}
-use Rattle.trcf.specs.View.{lent, settings_of, view}
+use Rattle.trcf.specs.View.{lent_by, settings_of, view}
 use Rattle.trcf.proofs.RowLaws.{drain_rows}
 use Rattle.trcf_rows.proofs.RowWays.{head_refuses, test_refuses, lent_decides, lent_ready, not_ok}
 use Rattle.trcf_rows.proofs.rows.drain_row.Goals as goal
@@ -11,21 +11,21 @@ use Rattle.trcf_rows.proofs.rows.drain_row.Goals as goal
 pub returns-in_err-head_row : goal.returns-in_err-head_row
 returns-in_err-head_row c =
     let a = c.args in
-    let l = lent a.statistics.now a.last_shingled_input.now a.last_shingled_point.now a.previous_timestamps.now a.initial_values.now a.initial_timestamps.now in
+    let l = lent_by a.lists in
     let x = c.from_residual.ensures.1 in
     record { value = head_refuses a.head l drain _ _ x c.in_err-head_row.ensures.value; ready = not_ok _ _ _ x }
 
 pub returns-then-is_spent : goal.returns-then-is_spent
 returns-then-is_spent c =
     let a = c.args in
-    let l = lent a.statistics.now a.last_shingled_input.now a.last_shingled_point.now a.previous_timestamps.now a.initial_values.now a.initial_timestamps.now in
+    let l = lent_by a.lists in
     let q : 15 ≡ rows (settings_of a.head) (facts (view a.head l)) drain = rw (drain_rows a.head l, sym c.is_spent.ensures ∙ c.if-is_spent.true) in
     record { value = test_refuses a.head l drain NothingToDrain c.in_ok-head_row.ensures.value q; ready = tt }
 
 pub returns-then-is_overdue : goal.returns-then-is_overdue
 returns-then-is_overdue c =
     let a = c.args in
-    let l = lent a.statistics.now a.last_shingled_input.now a.last_shingled_point.now a.previous_timestamps.now a.initial_values.now a.initial_timestamps.now in
+    let l = lent_by a.lists in
     let q : 18 ≡ rows (settings_of a.head) (facts (view a.head l)) drain =
     rw (drain_rows a.head l, sym c.is_spent.ensures ∙ c.if-is_spent.false, sym c.is_overdue.ensures ∙ c.if-is_overdue.true) in
     record { value = test_refuses a.head l drain CounterLimit c.in_ok-head_row.ensures.value q; ready = tt }
@@ -33,9 +33,9 @@ returns-then-is_overdue c =
 pub returns : goal.returns
 returns c =
     let a = c.args in
-    let l = lent a.statistics.now a.last_shingled_input.now a.last_shingled_point.now a.previous_timestamps.now a.initial_values.now a.initial_timestamps.now in
+    let l = lent_by a.lists in
     let o = c.in_ok-head_row.ensures in
-    let n = c.lengths_of-lengths.ensures in
+    let n = c.lengths.ensures in
     let z = c.lent_row.ensures in
     let q : rows (settings_of a.head) (facts (view a.head l)) drain ≡ 0 =
     rw (drain_rows a.head l, sym c.is_spent.ensures ∙ c.if-is_spent.false, sym c.is_overdue.ensures ∙ c.if-is_overdue.false) in
