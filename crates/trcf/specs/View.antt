@@ -16,10 +16,7 @@ use Rattle.trcf.specs.declared.types.TransformMethod.TheVariants.{NONE}
 use Rattle.trcf.specs.declared.types.ForestMode.TheVariants.{STANDARD}
 use Rattle.trcf.specs.declared.head.Preprocessor.{Preprocessor}
 use Rattle.trcf.specs.declared.head.PreprocessorBuilder.{PreprocessorBuilder}
-use Rattle.std.specs.Borrow.{Bor, MutBor}
 use Rattle.trcf.specs.declared.head.LentLists.{LentLists}
-use Rattle.trcf.specs.declared.head.DrainLists.{DrainLists}
-use Rattle.trcf.specs.declared.head.LentListsMut.{LentListsMut}
 use Rattle.trcf.specs.declared.head.LentLengths.{LentLengths}
 use Rattle.trcf.specs.declared.head.Pointed.{Pointed}
 use Rattle.trcf.specs.declared.head.PostProcessed.{PostProcessed}
@@ -46,25 +43,10 @@ lent st x p ts v vt =
       initial_timestamps = vt;
     }
 
--- what the program lends: to be read, to a drain, and to be written whole
+-- what the program lends to be read
 abbrev pub lent_by : LentLists → Lent
 lent_by v =
     lent v.statistics.now v.last_shingled_input.now v.last_shingled_point.now v.previous_timestamps.now v.initial_values.now v.initial_timestamps.now
-
-abbrev pub lent_drain : DrainLists → Lent
-lent_drain v =
-    lent v.statistics.now v.last_shingled_input.now v.last_shingled_point.now v.previous_timestamps.now v.initial_values.now v.initial_timestamps.now
-
-abbrev pub lent_mut : LentListsMut → Lent
-lent_mut v =
-    lent v.statistics.now v.last_shingled_input.now v.last_shingled_point.now v.previous_timestamps.now v.initial_values.now v.initial_timestamps.now
-
--- what the last two hold after a call, whose `exit` has the loans in their order
-abbrev pub left_drain : MutBor (List Float) × (MutBor (List Float) × (MutBor (List Float) × (MutBor (List ℕ) × (Bor (List Float) × (Bor (List ℕ) × Unit {0}))))) → Lent
-left_drain v = lent v.0.now v.1.0.now v.1.1.0.now v.1.1.1.0.now v.1.1.1.1.0.now v.1.1.1.1.1.0.now
-
-abbrev pub left_mut : MutBor (List Float) × (MutBor (List Float) × (MutBor (List Float) × (MutBor (List ℕ) × (MutBor (List Float) × (MutBor (List ℕ) × Unit {0}))))) → Lent
-left_mut v = lent v.0.now v.1.0.now v.1.1.0.now v.1.1.1.0.now v.1.1.1.1.0.now v.1.1.1.1.1.0.now
 
 -- ---- the state that a head and the lent lists hold: of each list the part in use
 

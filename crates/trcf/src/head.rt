@@ -3,7 +3,7 @@
 ghost use Rattle.std.specs.Prelude.{◌≡◌, cond, ◌+◌, ◌*◌, ◌≤◌, OnOk};
 ghost use Rattle.refusal.specs.Refusal.{row_of};
 ghost use Rattle.trcf.specs.Lengths.{where_fits, within};
-ghost use Rattle.trcf.specs.View.{settings_of, head_row, initial_room, dimension_of, no_head, counting, lent_by, lent_drain, lent_mut, lengths_of, Bounded};
+ghost use Rattle.trcf.specs.View.{settings_of, head_row, initial_room, dimension_of, no_head, counting, lent_by, lengths_of, Bounded};
 ghost use Rattle.trcf.specs.Types.{augments};
 
 use crate::transformer::WeightedTransformer;
@@ -29,7 +29,6 @@ pub struct Preprocessor {
 }
 
 // The six lists that go beside a head, lent to be read.
-// Kept: (d) three structs of the six lists, by what a call may write: a reference's kind cannot be a parameter, and a caller lends no more than it lent before.
 #[derive(Clone, Copy)]
 pub struct LentLists<'a> {
     pub statistics: &'a [f64],
@@ -38,28 +37,6 @@ pub struct LentLists<'a> {
     pub previous_timestamps: &'a [u64],
     pub initial_values: &'a [f32],
     pub initial_timestamps: &'a [u64],
-}
-
-// The same for a drain, a point and a build, which write them but for the two of what waits.
-#[derive(Drop)]
-pub struct DrainLists<'a> {
-    pub statistics: &'a mut [f64],
-    pub last_shingled_input: &'a mut [f32],
-    pub last_shingled_point: &'a mut [f32],
-    pub previous_timestamps: &'a mut [u64],
-    pub initial_values: &'a [f32],
-    pub initial_timestamps: &'a [u64],
-}
-
-// The same for a learn and a restore, which write all of them.
-#[derive(Drop)]
-pub struct LentListsMut<'a> {
-    pub statistics: &'a mut [f64],
-    pub last_shingled_input: &'a mut [f32],
-    pub last_shingled_point: &'a mut [f32],
-    pub previous_timestamps: &'a mut [u64],
-    pub initial_values: &'a mut [f32],
-    pub initial_timestamps: &'a mut [u64],
 }
 
 // How long each of the six lent lists is.
@@ -85,38 +62,6 @@ impl LentLists<'_> {
             previous_timestamps: self.previous_timestamps.len(),
             initial_values: self.initial_values.len(),
             initial_timestamps: self.initial_timestamps.len(),
-        }
-    }
-}
-
-impl DrainLists<'_> {
-    // The same lists, to be read.
-    pub fn read(&self) -> LentLists
-        ensures { lent_by result ≡ lent_drain self.now }
-    {
-        LentLists {
-            statistics: self.statistics,
-            last_shingled_input: self.last_shingled_input,
-            last_shingled_point: self.last_shingled_point,
-            previous_timestamps: self.previous_timestamps,
-            initial_values: self.initial_values,
-            initial_timestamps: self.initial_timestamps,
-        }
-    }
-}
-
-impl LentListsMut<'_> {
-    // The same lists, to be read.
-    pub fn read(&self) -> LentLists
-        ensures { lent_by result ≡ lent_mut self.now }
-    {
-        LentLists {
-            statistics: self.statistics,
-            last_shingled_input: self.last_shingled_input,
-            last_shingled_point: self.last_shingled_point,
-            previous_timestamps: self.previous_timestamps,
-            initial_values: self.initial_values,
-            initial_timestamps: self.initial_timestamps,
         }
     }
 }
