@@ -9,9 +9,12 @@ ghost use Rattle.common.specs.Deviation.{zero64, one64, count_limit, outside_uni
 ghost use Rattle.ranges.specs.RangeVector.{held, AreSameLoans, range_outcome, unblocked};
 ghost use Rattle.trcf.specs.Types.{is_none, normalizes, differences, centres};
 ghost use Rattle.trcf.specs.Settings.{all_one, input_limit};
-ghost use Rattle.trcf.specs.Transformer.{zero32, slow_decay, updated, mean_at, weight_at, normalized_scale, transform_by, transformed, unweighted, invert_by, inverted, reciprocal, inverted_forecast, scales, shifts, difference_deviations};
+ghost use Rattle.trcf.specs.Transformer.{zero32, slow_decay, updated, mean_at, weight_at, normalized_scale, transform_by, transformed, unweighted, invert_by, inverted, reciprocal};
+ghost use Rattle.trcf.specs.Transformer.{inverted_forecast, scales, shifts, difference_deviations};
 ghost use Rattle.trcf.specs.Lengths.{where_fits, within, passes};
-ghost use Rattle.trcf.specs.TransformerCalls.{transformer_view, no_transformer, made_from, transformer_output, new_row, update_row, transform_row, output_row, forecast_row, transformer_new, transformer_update, transformer_transform, transformer_invert, transformer_invert_forecast, transformer_scale, transformer_shift, transformer_difference_deviations};
+ghost use Rattle.trcf.specs.TransformerCalls.{transformer_view, no_transformer, made_from, transformer_output, new_row, update_row, transform_row, output_row, forecast_row};
+ghost use Rattle.trcf.specs.TransformerCalls.{transformer_new, transformer_update, transformer_transform, transformer_invert, transformer_invert_forecast, transformer_scale};
+ghost use Rattle.trcf.specs.TransformerCalls.{transformer_shift, transformer_difference_deviations};
 ghost use Rattle.trcf.specs.Steps.Sound.{Sound};
 ghost use Rattle.trcf.specs.Steps.Blocks.{FactorsIn};
 

@@ -6,7 +6,8 @@ ghost use Rattle.trcf.specs.Lists.{null};
 ghost use Rattle.trcf.specs.Types.{is_gap};
 ghost use Rattle.trcf.specs.Settings.{imputes, waiting, settings_row, block};
 ghost use Rattle.trcf.specs.Calls.{seen_limit, finite, scale, transform, drain, shingled_point};
-ghost use Rattle.trcf.specs.View.{settings_of, settings_from, left_over, counters_unfit, outside_row, head_row, or_else, lengths_short, lent_row, row_of as call_row, lent_by, Bounded, Accepted, Ready};
+ghost use Rattle.trcf.specs.View.{settings_of, settings_from, left_over, counters_unfit, outside_row, head_row, or_else, lengths_short, lent_row, row_of as call_row, lent_by};
+ghost use Rattle.trcf.specs.View.{Bounded, Accepted, Ready};
 ghost use Rattle.trcf.specs.Steps.Rows.{lengths_row, any_of, spent, overdue, past_row};
 
 use common::deviation::{COUNT_LIMIT, outside_unit};
