@@ -172,7 +172,8 @@ pub(crate) fn invert_fitting(
 fn scale_at(t: WeightedTransformer, s: &[f64], i: usize) -> f32
     requires sound { Sound t (length s.now) }
     requires i_bound { i < t.input_length }
-    ensures { result ≡ cond (normalizes t.transform_method) (mul binary32 (weight_at (transformer_view t s.now) i) (normalized_scale (transformer_view t s.now) i)) (weight_at (transformer_view t s.now) i) }
+    ensures { result
+        ≡ cond (normalizes t.transform_method) (mul binary32 (weight_at (transformer_view t s.now) i) (normalized_scale (transformer_view t s.now) i)) (weight_at (transformer_view t s.now) i) }
 {
     let d = t.input_length;
     let w = t.weights[i];
@@ -450,7 +451,8 @@ pub fn invert_into(
     previous: &[f32],
     output: &mut [f32],
 )
-    ensures { output.new ≡ where_fits (passes (transform_row t.input_length (length input.now) (length previous.now) (length s.now) (length output.old))) (over output.old (inverted (transformer_view t s.now) input.now previous.now)) output.old }
+    ensures { output.new ≡ where_fits (passes (transform_row t.input_length (length input.now) (length previous.now) (length s.now) (length output.old)))
+        (over output.old (inverted (transformer_view t s.now) input.now previous.now)) output.old }
 {
     let d = t.input_length;
     if transform_row(d, input.len(), previous.len(), s.len(), output.len()).is_ok() {
@@ -467,7 +469,8 @@ pub fn invert_forecast_in_place(
     range: &mut RangeVector<f32>,
 )
     ensures after { held range.new
-        ≡ where_fits (passes (forecast_row t.transform_method t.input_length (length previous.now) (length range.old.values.now) (length range.old.upper.now) (length range.old.lower.now) (length s.now)))
+        ≡ where_fits (passes (forecast_row t.transform_method t.input_length (length previous.now)
+        (length range.old.values.now) (length range.old.upper.now) (length range.old.lower.now) (length s.now)))
         (inverted_forecast (transformer_view t s.now) previous.now (held range.old)) (held range.old) }
     ensures loans { AreSameLoans range.old range.new }
 {
