@@ -172,7 +172,8 @@ read_float f c n l e = go (nan_bits f n) (eqb n (to_bits f nan)) refl refl
     go : (p q : Bool) → nan_bits f n ≡ p → eqb n (to_bits f nan) ≡ q → as_float f c ≡ bits_of f (some n)
     go true true x y = rw (x, y) (subst (λ (t : List ℕ). as_float f t ≡ some nan) (ap (hex (width f)) (sym (eqb-true n (to_bits f nan) y)) ∙ is) (of_float f nan tt))
     go true false x y = rw (x, y) (other (as_float f c) refl x (eqb-false n (to_bits f nan) y))
-    go false q x y = rw x (subst (λ (t : List ℕ). as_float f t ≡ some (of_bits f n)) (ap (hex (width f)) (to_bits-of_bits f n small (not_nan f n x)) ∙ is) (of_float f (of_bits f n) (of_bits-fits f n)))
+    go false q x y = rw x (subst (λ (t : List ℕ). as_float f t ≡ some (of_bits f n)) (ap (hex (width f)) (to_bits-of_bits f n small (not_nan f n x)) ∙ is) (of_float f
+        (of_bits f n) (of_bits-fits f n)))
 
 pub float_is : (f : Format) (c : List ℕ) → as_float f c ≡ float_of f c
 float_is f c = go (eqb (length c) (width f)) refl (hscan 0 c) refl (as_float f c) refl

@@ -96,7 +96,11 @@ pub fn single(c: &[u8]) -> Field
         return Field::Bad;
     };
     let x = numeric::single_of(n);
-    if numeric::single_bits(x) == n { Field::Single(x) } else { Field::Bad }
+    if numeric::single_bits(x) == n {
+        Field::Single(x)
+    } else {
+        Field::Bad
+    }
 }
 
 // An f64 in 16 digits, in the same way.
@@ -107,7 +111,11 @@ pub fn double(c: &[u8]) -> Field
         return Field::Bad;
     };
     let x = numeric::double_of(n);
-    if numeric::double_bits(x) == n { Field::Double(x) } else { Field::Bad }
+    if numeric::double_bits(x) == n {
+        Field::Double(x)
+    } else {
+        Field::Bad
+    }
 }
 
 // A whole number as a field.

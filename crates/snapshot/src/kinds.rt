@@ -4,7 +4,8 @@ ghost use Rattle.std.specs.Float.{binary32};
 ghost use Rattle.refusal.specs.Lent.{over};
 ghost use Rattle.trcf.specs.Types.{normalizes};
 ghost use Rattle.snapshot.specs.Read.{as_whole, as_float};
-ghost use Rattle.snapshot.specs.Steps.Judge.{line_firsts, buf_firsts, Filled, codes_read, chn_or, chn_by, wgt_test, wgt_by, cnt_test, cnt_told, cnt_by, tim_test, tim_by, buf_by, counts_read, FilledWith};
+ghost use Rattle.snapshot.specs.Steps.Judge.{line_firsts, buf_firsts, Filled, FilledWith, codes_read, chn_or, chn_by, wgt_test, wgt_by};
+ghost use Rattle.snapshot.specs.Steps.Judge.{cnt_test, cnt_told, cnt_by, tim_test, tim_by, buf_by, counts_read};
 
 use crate::judge::{Cell, fields, list_line};
 use crate::piece::{byte, name};

@@ -150,8 +150,11 @@ fn fill(
     initial_values: &mut [f32],
     initial_timestamps: &mut [u64],
 )
-    requires { Room head n (length statistics.old) (length last_shingled_input.old) (length last_shingled_point.old) (length previous_timestamps.old) (length initial_values.old) (length initial_timestamps.old) }
-    ensures { FillsOver (settings_of head) (counts_in head) (filled_by (settings_of head) (counts_in head) n (drop at text.now)) (lent statistics.old last_shingled_input.old last_shingled_point.old previous_timestamps.old initial_values.old initial_timestamps.old) (lent statistics.new last_shingled_input.new last_shingled_point.new previous_timestamps.new initial_values.new initial_timestamps.new) }
+    requires { Room head n (length statistics.old) (length last_shingled_input.old) (length last_shingled_point.old)
+        (length previous_timestamps.old) (length initial_values.old) (length initial_timestamps.old) }
+    ensures { FillsOver (settings_of head) (counts_in head) (filled_by (settings_of head) (counts_in head) n (drop at text.now))
+        (lent statistics.old last_shingled_input.old last_shingled_point.old previous_timestamps.old initial_values.old initial_timestamps.old)
+        (lent statistics.new last_shingled_input.new last_shingled_point.new previous_timestamps.new initial_values.new initial_timestamps.new) }
 {
     let t = head.transformer;
     let d = t.input_length;
@@ -262,7 +265,10 @@ pub fn restore(
     initial_values: &mut [f32],
     initial_timestamps: &mut [u64],
 ) -> Result<Preprocessor, RestoreError>
-    ensures { restore_told result (lent statistics.new last_shingled_input.new last_shingled_point.new previous_timestamps.new initial_values.new initial_timestamps.new) ≡ restore_of text.now codes.now (lent statistics.old last_shingled_input.old last_shingled_point.old previous_timestamps.old initial_values.old initial_timestamps.old) }
+    ensures { restore_told result
+        (lent statistics.new last_shingled_input.new last_shingled_point.new previous_timestamps.new initial_values.new initial_timestamps.new) ≡
+        restore_of text.now codes.now
+        (lent statistics.old last_shingled_input.old last_shingled_point.old previous_timestamps.old initial_values.old initial_timestamps.old) }
 {
     let h = head_lines(text)?;
     let head = h.head;

@@ -193,7 +193,9 @@ fn save_parts(
     requires times_len_bound { length times.now ≤ 2000 }
     requires initial_len_bound { length initial.now ≤ 2000 }
     requires input_length_in_bounds { length initial.now * head.transformer.input_length ≤ length values.now }
-    ensures { saved_told result out.new ≡ fitted (head_bytes (settings_of head) head.values_seen head.internal_timestamp head.transformer.count ++ list_bytes head.transformer.input_length statistics.now input.now point.now times.now values.now initial.now) out.old }
+    ensures { saved_told result out.new ≡ fitted
+        (head_bytes (settings_of head) head.values_seen head.internal_timestamp head.transformer.count ++
+        list_bytes head.transformer.input_length statistics.now input.now point.now times.now values.now initial.now) out.old }
 {
     let t = head.transformer;
     let d = t.input_length;
@@ -229,7 +231,8 @@ fn save_held(
     initial_timestamps: &[u64],
     out: &mut [u8],
 ) -> Result<usize, Refusal>
-    ensures { saved_told result out.new ≡ held_save head (lent statistics.now last_shingled_input.now last_shingled_point.now previous_timestamps.now initial_values.now initial_timestamps.now) out.old }
+    ensures { saved_told result out.new ≡ held_save head
+        (lent statistics.now last_shingled_input.now last_shingled_point.now previous_timestamps.now initial_values.now initial_timestamps.now) out.old }
 {
     let t = head.transformer;
     let mode = head.forest_mode;
@@ -273,7 +276,8 @@ pub fn save(
     initial_timestamps: &[u64],
     out: &mut [u8],
 ) -> Result<usize, Refusal>
-    ensures { saved_told result out.new ≡ save_of head (lent statistics.now last_shingled_input.now last_shingled_point.now previous_timestamps.now initial_values.now initial_timestamps.now) out.old }
+    ensures { saved_told result out.new ≡ save_of head
+        (lent statistics.now last_shingled_input.now last_shingled_point.now previous_timestamps.now initial_values.now initial_timestamps.now) out.old }
 {
     head_settings_row(head)?;
     if is_misfit(head) {

@@ -12,7 +12,11 @@ fn hex_digit(n: u64) -> u8
     requires { n < 16 }
     ensures { result ≡ digit n }
 {
-    if n < 10 { (48 + n) as u8 } else { (87 + n) as u8 }
+    if n < 10 {
+        (48 + n) as u8
+    } else {
+        (87 + n) as u8
+    }
 }
 
 // The lowest w hexadecimal digits of n, the last one first.

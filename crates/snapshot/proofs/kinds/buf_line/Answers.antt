@@ -43,7 +43,7 @@ returns-then-time-past c =
       told = elim c.then-time-past.branch [
         | then-time-past-via-then-time-past w ↦ buf_early d a.past l _ e _ _ h _ _ S.told w.if-time-past.true
         | then-time-past-via-else-time-past+then-not-all_finite w ↦
-          buf_infinite d a.past l _ e _ _ h _ _ S.told w.if-time-past.false (sym w.all_finite.ensures ∙ w.if-not-all_finite.true)
+            buf_infinite d a.past l _ e _ _ h _ _ S.told w.if-time-past.false (sym w.all_finite.ensures ∙ w.if-not-all_finite.true)
       ];
       kept = S.kept;
       left = buf_left d l _ _ e _ _ h _ S.left;

@@ -30,7 +30,7 @@ returns-then-not-is_normalizing c =
     elim c.then-not-is_normalizing.branch [
       | then-not-is_normalizing-via-then-not-is_normalizing t ↦ expected_plain s k l w (sym c.is_normalizing.ensures ∙ t.if-not-is_normalizing.true)
       | then-not-is_normalizing-via-else-not-is_normalizing+then-text-at t ↦
-        expected_end s k l w (length-drop a.at a.text.now ∙ omega (arith, t.if-text-at.true))
+          expected_end s k l w (length-drop a.at a.text.now ∙ omega (arith, t.if-text-at.true))
     ]
 
 pub returns-then-seen-start : goal.returns-then-seen-start

@@ -33,7 +33,18 @@ write_byte-e-requires c =
     let c8 = c in
     let a = c.args in
     let h : a.n ≤ whole_max = omega arith in
-    omega (arith, whole_short a.n h, optional_short (is_some a.x) (unwrap_or a.x nan), c.tab_optional-r.ensures.place, c.tab_optional-r.ensures.kept, c.tab-q.ensures.place, c.tab-q.ensures.kept, c.write_byte-p.ensures.place, c.write_byte-p.ensures.kept, c.if-out-lt32.false)
+    omega (
+      arith,
+      whole_short a.n h,
+      optional_short (is_some a.x) (unwrap_or a.x nan),
+      c.tab_optional-r.ensures.place,
+      c.tab_optional-r.ensures.kept,
+      c.tab-q.ensures.place,
+      c.tab-q.ensures.kept,
+      c.write_byte-p.ensures.place,
+      c.write_byte-p.ensures.kept,
+      c.if-out-lt32.false,
+    )
 
 pub returns : goal.returns
 returns c =

@@ -17,18 +17,36 @@ returns-then-n-lt3 c =
     (elim c.then-n-lt3.branch [
       | then-n-lt3-via-then-n-lt3 w ↦ omega (arith, pair_size a.a a.b a.v.now, w.if-n-lt3.true)
       | then-n-lt3-via-else-n-lt3+then-n-v w ↦
-        omega (arith, pair_size a.a a.b a.v.now, few_fields (length a.out.now) (length a.v.now) w.if-n-lt3.false w.if-n-v.true)
+          omega (arith, pair_size a.a a.b a.v.now, few_fields (length a.out.now) (length a.v.now) w.if-n-lt3.false w.if-n-v.true)
     ])
 
 pub tabs-r-requires : goal.tabs-r-requires
 tabs-r-requires c =
     let a = c.args in
-    omega (arith, floats_length a.v.now, enough_fields (length a.out.now) (length a.v.now) c.if-n-lt3.false c.if-n-v.false, c.write_byte-q.ensures.place, c.write_byte-q.ensures.kept, c.write_byte-p.ensures.place, c.write_byte-p.ensures.kept)
+    omega (
+      arith,
+      floats_length a.v.now,
+      enough_fields (length a.out.now) (length a.v.now) c.if-n-lt3.false c.if-n-v.false,
+      c.write_byte-q.ensures.place,
+      c.write_byte-q.ensures.kept,
+      c.write_byte-p.ensures.place,
+      c.write_byte-p.ensures.kept,
+    )
 
 pub write_byte-e-requires : goal.write_byte-e-requires
 write_byte-e-requires c =
     let a = c.args in
-    omega (arith, floats_length a.v.now, enough_fields (length a.out.now) (length a.v.now) c.if-n-lt3.false c.if-n-v.false, c.tabs-r.ensures.place, c.tabs-r.ensures.kept, c.write_byte-q.ensures.place, c.write_byte-q.ensures.kept, c.write_byte-p.ensures.place, c.write_byte-p.ensures.kept)
+    omega (
+      arith,
+      floats_length a.v.now,
+      enough_fields (length a.out.now) (length a.v.now) c.if-n-lt3.false c.if-n-v.false,
+      c.tabs-r.ensures.place,
+      c.tabs-r.ensures.kept,
+      c.write_byte-q.ensures.place,
+      c.write_byte-q.ensures.kept,
+      c.write_byte-p.ensures.place,
+      c.write_byte-p.ensures.kept,
+    )
 
 pub returns : goal.returns
 returns c =
