@@ -112,24 +112,6 @@ module _ (k p : ℕ) (t : List ℕ) where
       go true e = omega (arith, ltb-true (k * 8 + 8) (length (drop p t)) (and_left _ _ (and_right (ltb k 2) _ e)))
       go false e = field_short (drop p t)
 
-  pub likely_here : k < 2 → k * 8 + 8 < length t - p → get_or t (p + (k * 8 + 8)) 0 ≤ 10 → likely k (drop p t) ≡ k * 8 + 8
-  likely_here h w e =
-      let n : k * 8 + 8 < length (drop p t) = omega (arith, length-drop p t) in
-      rw (lt-ltb k 2 h, lt-ltb (k * 8 + 8) (length (drop p t)) n, get_or-drop p t (k * 8 + 8) 0, le-leb (get_or t (p + (k * 8 + 8)) 0) 10 e)
-
-  pub likely_inside : k < 2 → k * 8 + 8 < length t - p → 10 < get_or t (p + (k * 8 + 8)) 0 → likely k (drop p t) ≡ field_length (drop p t)
-  likely_inside h w e =
-      let n : k * 8 + 8 < length (drop p t) = omega (arith, length-drop p t) in
-      rw (lt-ltb k 2 h, lt-ltb (k * 8 + 8) (length (drop p t)) n, get_or-drop p t (k * 8 + 8) 0, lt-leb (get_or t (p + (k * 8 + 8)) 0) 10 e)
-
-  pub likely_past : k < 2 → length t - p ≤ k * 8 + 8 → likely k (drop p t) ≡ field_length (drop p t)
-  likely_past h w =
-      let n : length (drop p t) ≤ k * 8 + 8 = omega (arith, length-drop p t) in
-      rw (lt-ltb k 2 h, le-ltb (k * 8 + 8) (length (drop p t)) n)
-
-  pub likely_never : 2 ≤ k → likely k (drop p t) ≡ field_length (drop p t)
-  likely_never h = rw (le-ltb k 2 h)
-
   module _ (f : Field) (e : ℕ) (at : e ≡ p + likely k (drop p t)) (is : f ≡ field_of k (take (e - p) (drop p t))) where
     guessed : f ≡ field_of k (take (likely k (drop p t)) (drop p t))
     guessed = let n : e - p ≡ likely k (drop p t) = omega arith in is ∙ ap (λ (m : ℕ). field_of k (take m (drop p t))) n

@@ -181,20 +181,6 @@ scan_end a i c h = rw (drop_of_length-le c h)
 
 -- ---- the answers
 
-pub lead_none : (c : List ℕ) → length c ≡ 0 → false ≡ lead c
-lead_none [] h = refl
-lead_none (b ∷ bs) h = absurd (omega arith)
-
-pub lead_single : (c : List ℕ) → length c ≡ 1 → true ≡ lead c
-lead_single [] h = absurd (omega arith)
-lead_single (b ∷ []) h = refl
-lead_single (b ∷ x ∷ xs) h = absurd (omega arith)
-
-pub lead_many : (c : List ℕ) (b : ℕ) → (length c ≡ 0 → ⊥) → (length c ≡ 1 → ⊥) → b ≡ get_or c 0 0 → not (eqb b 48) ≡ lead c
-lead_many [] b h k e = absurd (h refl)
-lead_many (x ∷ []) b h k e = absurd (k refl)
-lead_many (x ∷ y ∷ ys) b h k e = rw e
-
 pub none_at : (c : List ℕ) (n i : ℕ) → lead c ≡ true → scan 0 c ≡ scan n (drop i c) → scan n (drop i c) ≡ none → None ≡ number_of (as_whole c)
 none_at c n i l e z = sym (ap number_of (scan_is c l ∙ e ∙ z))
 

@@ -24,10 +24,6 @@ pub optional_size : (a n : ℕ) (g : Bool) (x : Float) → n ≤ whole_max → l
 optional_size a n g x h =
     omega (arith, whole_short n h, optional_short g x, length-append (whole n) (tabbed_fields (optional_field g x ∷ [])), length-append (optional_field g x) (10 ∷ []))
 
--- the bytes, piece by piece
-pub optional_bytes : (a n : ℕ) (g : Bool) (x : Float) → (a ∷ []) ++ ((9 ∷ whole n) ++ ((9 ∷ optional_field g x) ++ (10 ∷ []))) ≡ bytes_of_line (optional_line a n g x)
-optional_bytes a n g x = refl
-
 pub within_short : (n : ℕ) (t out : List ℕ) → length out < n → save_outcome 20 0 out ≡ text_within n t out
 unfolding text_within
 within_short n t out h = rw (lt-ltb (length out) n h)
