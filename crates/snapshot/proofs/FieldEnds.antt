@@ -5,11 +5,11 @@ use mathlib.Core.Path.{◌≡◌, refl, sym, ap, ◌∙◌, subst}
 use mathlib.Core.Bool.{Bool, true, false, ◌&&◌, cond}
 use mathlib.Core.List.{List, [], ◌∷◌}
 use mathlib.Core.Option.{Option, none, some}
-use lib.ListN.{length, take, drop, get_or, length-drop}
-use lib.Seq.{length-take-le, get_or-drop}
+use lib.ListN.{length, take, drop, get_or}
+use lib.Seq.{length-take-le}
 use lib.Dec.{eqb, leb, ltb}
 use lib.Ieee.{Float, Format, binary32, binary64}
-use borrow.Author.Tests.{eqb-true, eqb-false, leb-true, ltb-true, lt-ltb, le-ltb, le-leb, lt-leb}
+use borrow.Author.Tests.{eqb-true, eqb-false, leb-true, ltb-true, le-ltb, le-leb, lt-leb}
 use Rattle.snapshot.specs.Text.{width}
 use Rattle.snapshot.specs.Read.{as_float}
 use Rattle.snapshot.specs.Scan.{single_of, double_of}

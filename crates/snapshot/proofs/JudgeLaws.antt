@@ -11,17 +11,14 @@ use lib.ListN.{length, take, drop, get_or, set, drop_of_length-le, length-drop, 
 use lib.Seq.{drop-cons, drop-drop, take-suc-set, take_all, length-take-le, drop-set-lt}
 use lib.Dec.{eqb, leb}
 use lib.Ieee.{Float, binary32, binary64}
-use borrow.Author.Tests.{eq-eqb, ne_eqb, le-leb, lt-leb}
+use borrow.Author.Tests.{le-leb, lt-leb}
 use Rattle.refusal.specs.Lent.{over}
 use Rattle.trcf.proofs.ShingleLaws.{over_part}
 use Rattle.snapshot.specs.Read.{as_whole, as_float}
 use Rattle.snapshot.specs.Scan.{single_of, double_of, number_of}
-use Rattle.snapshot.specs.Steps.Scan.{kind_number, field_of, whole_of}
-use Rattle.snapshot.specs.declared.field.Kind.{Kind}
-use Rattle.snapshot.specs.declared.field.Kind.TheVariants.{Single as Single32, Double as Double64, Whole as Whole64}
-use Rattle.snapshot.specs.Steps.Judge.{placed, onto, with_rest, byte, name, field_length, field_in, end_in, rest_field, tabbed_of, next_of}
+use Rattle.snapshot.specs.Steps.Scan.{field_of, whole_of}
+use Rattle.snapshot.specs.Steps.Judge.{placed, onto, with_rest, byte, name, field_length, field_in, end_in, rest_field, next_of}
 use Rattle.snapshot.specs.Steps.Judge.{one, before, fields, led, good_fields, line_firsts, buf_firsts, closing, list_line}
-use Rattle.snapshot.specs.Steps.Likely.{from_of}
 use Rattle.snapshot.specs.declared.field.Field.{Field}
 use Rattle.snapshot.specs.declared.field.Field.TheVariants.{Single, Double, Whole, Bad}
 use Rattle.snapshot.specs.declared.piece.Next.{Next}

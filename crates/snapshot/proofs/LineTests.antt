@@ -2,21 +2,17 @@
 use Rattle.std.specs.Prelude.{Option as Answer, Some, None}
 use Prim.Native.Nat.{ℕ, ◌≤◌, ◌<◌}
 use mathlib.Core.Path.{◌≡◌, refl, sym, ap, ◌∙◌}
-use mathlib.Core.Bool.{Bool, true, false, ◌&&◌}
+use mathlib.Core.Bool.{Bool, true, false}
 use mathlib.Core.List.{List}
 use mathlib.Core.Option.{Option, none, some}
-use lib.Dec.{eqb, ltb}
 use lib.Ieee.{Float, binary32}
-use borrow.Author.Tests.{le-leb, lt-leb, eq-eqb, ne_eqb}
-use Rattle.common.specs.Deviation.{count_limit}
-use Rattle.trcf.specs.Types.{is_none, normalizes}
-use Rattle.trcf.specs.Settings.{all_one}
-use Rattle.trcf.specs.Calls.{finite, seen_limit}
+use borrow.Author.Tests.{le-leb, lt-leb}
+use Rattle.trcf.specs.Calls.{finite}
 use Rattle.trcf.specs.Preprocessor.{reading}
 use Rattle.trcf.specs.declared.types.TransformMethod.{TransformMethod}
-use Rattle.snapshot.specs.Read.{as_whole, as_float, climbs, zeros}
-use Rattle.snapshot.specs.Steps.Judge.{placed, with_rest, byte, name, one, fields, closing, list_line, checked, wgt_test, cnt_test, cnt_by, counts_of}
-use Rattle.snapshot.specs.Steps.Judge.{counts_read, tim_test, timed, buf_test, buf_raw, buf_by}
+use Rattle.snapshot.specs.Read.{as_whole, as_float}
+use Rattle.snapshot.specs.Steps.Judge.{placed, with_rest, byte, name, one, fields, closing, list_line, checked, cnt_test, cnt_by, counts_of}
+use Rattle.snapshot.specs.Steps.Judge.{timed, buf_test, buf_raw, buf_by}
 
 module _ {A : Type 0} (q : A → Bool) (a : A) (r : Answer ℕ) (t : List ℕ) (o : Option (A × List ℕ)) (e : with_rest a (placed r t) ≡ o) where
   pub check_yes : q a ≡ true → with_rest a (placed r t) ≡ checked q o
