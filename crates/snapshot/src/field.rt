@@ -137,6 +137,7 @@ pub(crate) enum Kind {
 }
 
 // The field from..to of the text, by the kind that its place calls for.
+#[inline(always)]
 pub(crate) fn parse(text: &[u8], from: usize, to: usize, kind: Kind) -> Field
     requires from_le_to { from ≤ to }
     requires to_in_bounds { to ≤ length text.now }

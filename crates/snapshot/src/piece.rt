@@ -68,6 +68,7 @@ fn likely_end(text: &[u8], from: usize, kind: Kind) -> usize
 }
 
 // The field that begins at a place. A good one has no tab and no LF in it, so that its likely end is its end; the end of a bad one is looked for.
+#[inline(always)]
 fn field_from(text: &[u8], from: usize, kind: Kind) -> Next
     requires { from ≤ length text.now }
     ensures { result ≡ from_of (kind_number kind) from text.now }
@@ -93,6 +94,7 @@ pub(crate) fn rest_at(text: &[u8], at: usize, kind: Kind) -> Next
 }
 
 // The field after the tab at a place, by the kind that its place calls for.
+#[inline(always)]
 pub(crate) fn field_at(text: &[u8], at: usize, kind: Kind) -> Next
     ensures { result ≡ next_of (kind_number kind) at text.now }
 {

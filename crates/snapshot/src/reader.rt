@@ -20,6 +20,7 @@ pub(crate) fn new<'a>(text: &'a [u8], at: usize) -> FieldReader<'a>
 }
 
 // The field after the tab at the reader's place, by the kind that its place calls for.
+#[inline(always)]
 pub(crate) fn next<'a>(r: FieldReader<'a>, kind: Kind) -> Next
     ensures { result ≡ next_of (kind_number kind) r.entry.at r.entry.text.now }
 {

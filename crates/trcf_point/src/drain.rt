@@ -153,6 +153,8 @@ pub(crate) fn drain_all(
 }
 
 // Drains where there is something to do; answers the head that is left.
+// Inlined by order: a reading for which nothing waits then passes no head through memory, some 50 instructions less.
+#[inline(always)]
 pub(crate) fn drain_due(
     head: Preprocessor,
     statistics: &mut [f64],
