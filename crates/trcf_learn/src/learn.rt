@@ -87,6 +87,7 @@ pub(crate) fn feed_newest(
 }
 
 // `update`, on the lent lists.
+#[tactic(auto, using(trcf::proofs::LengthLaws::statistics_known, trcf::proofs::BoundLaws::all_inputs))]
 pub(crate) fn update_shingles(
     head: Preprocessor,
     statistics: &mut [f64],

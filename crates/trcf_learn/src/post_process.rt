@@ -71,6 +71,7 @@ fn next_count(head: Preprocessor) -> u64
 }
 
 // The anomaly from before the update, the update, and the deviations after it.
+#[tactic(auto, using(trcf::proofs::LengthLaws::statistics_known, trcf::proofs::BoundLaws::all_inputs))]
 fn post_process_learning(
     head: Preprocessor,
     statistics: &mut [f64],

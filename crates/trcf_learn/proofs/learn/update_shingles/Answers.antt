@@ -1,6 +1,5 @@
 -- `trcf_learn::learn::update_shingles` meets its contract: by its callees' promises and the laws of lists. Assumes nothing.
 use Rattle.trcf.proofs.LengthLaws.{statistics_known, roomy}
-use Rattle.trcf.proofs.BoundLaws.{all_inputs}
 use native.Mathlib.Omega.{arith}
 use mathlib.Core.Path.{sym, ap, ◌∙◌}
 use native.Mathlib.Nat.{le-mul_of_pos_right}
@@ -11,24 +10,9 @@ use Rattle.trcf.proofs.ShingleLaws.{over_part, paste_over}
 use borrow.Author.Rules.{rules}
 use Rattle.trcf_learn.proofs.learn.update_shingles.Goals as goal
 
-pub slice_bounds-feed_newest-end : goal.slice_bounds-feed_newest-end
-slice_bounds-feed_newest-end c =
-    rw (statistics_known c.statistics_length.ensures c.requires.bounded.d_few) c.requires.head_in_bounds
-
 pub slice_bounds-feed_newest-end-2 : goal.slice_bounds-feed_newest-end-2
 slice_bounds-feed_newest-end-2 c =
     rw (statistics_known c.statistics_length.ensures c.requires.bounded.d_few) (sym (length-take-le _ _ c.requires.head_in_bounds))
-
-pub overflow_mul-d : goal.overflow_mul-d
-overflow_mul-d c = let b = c.requires.bounded in all_inputs b.d_few b.k_few
-
-pub slice_bounds-feed_newest-end-4 : goal.slice_bounds-feed_newest-end-4
-slice_bounds-feed_newest-end-4 c =
-    simp length-take (omega (arith, c.requires))
-
-pub slice_bounds-feed_newest-end-6 : goal.slice_bounds-feed_newest-end-6
-slice_bounds-feed_newest-end-6 c =
-    simp length-take (omega (arith, c.requires))
 
 pub feed_newest-requires : goal.feed_newest-requires
 feed_newest-requires c =
@@ -44,18 +28,6 @@ feed_newest-requires c =
       input_len = q.input_len;
       count_lt_count_limit = q.count_lt_count_limit;
     }
-
-pub overflow_mul-d-2 : goal.overflow_mul-d-2
-overflow_mul-d-2 c =
-    let b = c.requires.bounded in all_inputs b.d_few b.k_few
-
-pub slice_bounds-shift_in-end-2 : goal.slice_bounds-shift_in-end-2
-slice_bounds-shift_in-end-2 c =
-    simp length-take (omega (arith, c.requires))
-
-pub slice_bounds-shift_in-end-4 : goal.slice_bounds-shift_in-end-4
-slice_bounds-shift_in-end-4 c =
-    simp length-take (omega (arith, c.requires))
 
 pub returns : goal.returns
 returns c =

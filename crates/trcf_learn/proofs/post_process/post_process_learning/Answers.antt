@@ -1,6 +1,5 @@
 -- `trcf_learn::post_process::post_process_learning` meets its contract: by its callees' promises and the laws of outcomes. Assumes nothing.
 use Rattle.trcf.proofs.LengthLaws.{statistics_known, opened, output_fits_lem}
-use Rattle.trcf.proofs.BoundLaws.{all_inputs}
 use native.Mathlib.Omega.{arith}
 use mathlib.Core.Path.{◌≡◌, sym, ap, ◌∙◌}
 use Prim.Native.Nat.{◌*◌}
@@ -18,25 +17,9 @@ use Rattle.trcf.proofs.DrainLaws.{front_over}
 use Rattle.trcf.proofs.LearnLaws.{learned_length}
 use Rattle.trcf_learn.proofs.post_process.post_process_learning.Goals as goal
 
-pub slice_bounds-write_found-end : goal.slice_bounds-write_found-end
-slice_bounds-write_found-end c =
-    rw (statistics_known c.statistics_length.ensures c.requires.bounded.d_few) c.requires.head_in_bounds
-
 pub slice_bounds-write_found-end-2 : goal.slice_bounds-write_found-end-2
 slice_bounds-write_found-end-2 c =
     rw (statistics_known c.statistics_length.ensures c.requires.bounded.d_few) (sym (length-take-le _ _ c.requires.head_in_bounds))
-
-pub overflow_mul-d : goal.overflow_mul-d
-overflow_mul-d c =
-    let b = c.requires.bounded in all_inputs b.d_few b.k_few
-
-pub slice_bounds-write_found-end-4 : goal.slice_bounds-write_found-end-4
-slice_bounds-write_found-end-4 c =
-    sym (length-take-le _ _ c.requires.shingle_size_in_bounds)
-
-pub slice_bounds-write_found-end-6 : goal.slice_bounds-write_found-end-6
-slice_bounds-write_found-end-6 c =
-    sym (length-take-le _ _ c.requires.shingle_size_in_bounds_2)
 
 pub write_found-anomaly-requires : goal.write_found-anomaly-requires
 write_found-anomaly-requires c =
@@ -66,10 +49,6 @@ update_shingles-requires c =
       y_len = q.learnable.all_y;
       count_lt_count_limit = q.learnable.count_room;
     }
-
-pub slice_bounds-write_deviations-end : goal.slice_bounds-write_deviations-end
-slice_bounds-write_deviations-end c =
-    omega (arith, c.update_shingles.auto, c.requires.head_in_bounds, statistics_known c.statistics_length-2.ensures c.requires.bounded.d_few)
 
 pub slice_bounds-write_deviations-end-2 : goal.slice_bounds-write_deviations-end-2
 slice_bounds-write_deviations-end-2 c =
