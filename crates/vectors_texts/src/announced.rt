@@ -72,7 +72,7 @@ fn bare_text(fields: &mut Fields<'_>, text: &[u8], room: usize) -> Result<Announ
 }
 
 // The row and the first bad line, or zeros.
-fn refused(fields: &mut Fields<'_>) -> Result<Option<Refused>, Differs> {
+fn read_refused(fields: &mut Fields<'_>) -> Result<Option<Refused>, Differs> {
     let row = fields.read()?;
     let line = fields.read()?;
     Ok((row != 0 || line != 0).then_some(Refused { row, line }))
@@ -83,7 +83,7 @@ fn coded_text(fields: &mut Fields<'_>) -> Result<Announced, Differs> {
     Ok(Announced {
         codes: fields.list()?,
         times: fields.length()?,
-        refused: refused(fields)?,
+        refused: read_refused(fields)?,
     })
 }
 
