@@ -74,7 +74,8 @@ impl Memory {
     }
 
     pub fn expect_untouched(&self) -> Result<(), Differs>
-        ensures { IsOk result ↔ (IsUntouched64 self.now.statistics.items × IsUntouched32 self.now.inputs.items × IsUntouched32 self.now.point.items × IsUntouchedWhole self.now.times.items × IsUntouched32 self.now.initial_values.items × IsUntouchedWhole self.now.initial_timestamps.items) }
+        ensures { IsOk result ↔ (IsUntouched64 self.now.statistics.items × IsUntouched32 self.now.inputs.items × IsUntouched32 self.now.point.items ×
+            IsUntouchedWhole self.now.times.items × IsUntouched32 self.now.initial_values.items × IsUntouchedWhole self.now.initial_timestamps.items) }
     {
         self.expect_learnt_untouched()?;
         expect_untouched(&self.initial_values)?;

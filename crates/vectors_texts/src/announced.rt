@@ -29,6 +29,7 @@ pub(crate) fn first_text<'a>(alloc: Global, file: &'a [u8]) -> Result<Placed<'a>
 }
 
 // The row by which a text is refused, and its first bad line.
+// Kept: (d) the row is the number that the file has: a `Refusal` is made of no number anywhere, and 28 arms that do so, for one comparison, would be no plainer.
 #[derive(Clone, Copy, PartialEq, Eq)]
 pub(crate) struct Refused {
     row: u64,
