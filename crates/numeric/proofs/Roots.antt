@@ -387,12 +387,6 @@ pub digits_infinite : (x : Float) → lt (of_bits binary64 0) x ≡ true → lt 
 unfolding digits_of
 digits_infinite x h k = sym (ap digits_of (infinite x h k))
 
-pub above_real : (x : Float) → lt (of_bits binary64 0) x ≡ true → T (not (is_nan x))
-unfolding lt of_bits is_nan
-above_real nan h = absurd (false≢true h)
-above_real (inf s) h = tt
-above_real (fin s m e) h = tt
-
 -- a pattern up to the infinity's is no NaN's
 pub low_pattern : (p : ℕ) → p ≤ 2047 * 2 ^ 52 → T (not (nan_bits binary64 p))
 low_pattern p h = subst (λ (t : Bool). T (not t)) (sym (nan_bits_above binary64 p)) (le→nltb (ones binary64 * hid binary64) (p % top binary64) (omega arith))

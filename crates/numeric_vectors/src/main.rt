@@ -3,6 +3,7 @@
 #![tactic(auto)]
 
 use std::{fs, io};
+use vectors_core::field::pattern;
 
 // The functions, in the order of the report.
 #[derive(Clone, Copy, Debug, PartialEq, Eq)]
@@ -67,21 +68,13 @@ struct Case {
     wanted: u64,
 }
 
-// A pattern of 16 hexadecimal digits.
-fn pattern(text: &str) -> Option<u64> {
-    if text.len() != 16 {
-        return None;
-    }
-    u64::from_str_radix(text, 16).ok()
-}
-
 fn parse(line: &str) -> Option<Case> {
     let (letter, rest) = line.split_once('\t')?;
     let (given, wanted) = rest.split_once('\t')?;
     Some(Case {
         function: Function::of_letter(letter)?,
-        given: pattern(given)?,
-        wanted: pattern(wanted)?,
+        given: pattern(given.as_bytes(), 16)?,
+        wanted: pattern(wanted.as_bytes(), 16)?,
     })
 }
 

@@ -5,47 +5,25 @@
 
 use std::{fs, io};
 use stranding::{StrandingCounts, strandings};
+use vectors_core::field::pattern;
 
-#[derive(Clone, Copy)]
-struct Case {
-    start: u64,
-    calls: u64,
-    row: u64,
-    counts: StrandingCounts,
-}
-
-// A number of 16 hexadecimal digits.
-fn number(text: &str) -> Option<u64> {
-    if text.len() != 16 {
+// Whether a line's call answers as the line says; none where the line is not of its form. The wanted numbers of a refused call are 0.
+fn agrees(line: &str) -> Option<bool> {
+    let mut numbers = line.split('\t').map(|field| pattern(field.as_bytes(), 16));
+    let answer = strandings(numbers.next()??, numbers.next()??);
+    let row = numbers.next()??;
+    let wanted = StrandingCounts {
+        waiting: numbers.next()??,
+        drained: numbers.next()??,
+        stranded: numbers.next()??,
+    };
+    if numbers.next().is_some() {
         return None;
     }
-    u64::from_str_radix(text, 16).ok()
-}
-
-fn parse(line: &str) -> Option<Case> {
-    let mut numbers = line.split('\t').map(number);
-    let case = Case {
-        start: numbers.next()??,
-        calls: numbers.next()??,
-        row: numbers.next()??,
-        counts: StrandingCounts {
-            waiting: numbers.next()??,
-            drained: numbers.next()??,
-            stranded: numbers.next()??,
-        },
-    };
-    match numbers.next() {
-        None => Some(case),
-        Some(_) => None,
-    }
-}
-
-// The wanted numbers of a refused call are 0.
-fn agrees(case: &Case) -> bool {
-    match strandings(case.start, case.calls) {
-        Ok(counts) => case.row == 0 && case.counts == counts,
-        Err(refusal) => case.row == u64::from(refusal) && case.counts == NONE,
-    }
+    Some(match answer {
+        Ok(counts) => row == 0 && wanted == counts,
+        Err(refusal) => row == u64::from(refusal) && wanted == NONE,
+    })
 }
 
 const NONE: StrandingCounts = StrandingCounts {
@@ -60,9 +38,9 @@ fn main(rt: HostRuntime) -> io::Result<()> {
     let mut differ = 0u64;
     let mut broken = 0u64;
     for line in text.lines() {
-        match parse(line) {
-            Some(case) if agrees(&case) => agree = agree.saturating_add(1),
-            Some(_) => differ = differ.saturating_add(1),
+        match agrees(line) {
+            Some(true) => agree = agree.saturating_add(1),
+            Some(false) => differ = differ.saturating_add(1),
             None => broken = broken.saturating_add(1),
         }
     }

@@ -1,40 +1,31 @@
 // What may stand in a field, and the memory that is lent to a call. That memory is filled with one value before; what lies past an answer must still be this value.
 ghost use Rattle.std.specs.Float.Ieee.{to_bits};
 ghost use Rattle.std.specs.Float.{binary32, binary64};
-ghost use Rattle.std.specs.Prelude.{◌≡◌, ◌↔◌, eqb, All, Bool, IsTrue};
+ghost use Rattle.std.specs.Prelude.{◌≡◌, ◌↔◌, ◌≤◌, eqb, length, All, Bool, IfSome, IsTrue};
+ghost use Rattle.std.specs.Str.Parse.{digits_value};
 ghost use Rattle.vectors_core.specs.Old.{old32, old64, old_whole};
 
 use std::num::{
     f32_from_bits_with_nan, f32_to_bits_with_nan, f64_from_bits_with_nan, f64_to_bits_with_nan,
 };
 
-// A digit's value.
-fn digit(b: u8) -> Option<u64> {
-    match b {
-        b'0'..=b'9' => Some((b - b'0') as u64),
-        b'a'..=b'f' => Some((b - b'a') as u64 + 10),
-        _ => None,
+// A whole number of at least one digit, below 2^64. Its digits are lower-case, and no sign stands in front.
+fn whole(text: &[u8], radix: u32) -> Option<u64>
+    requires lower_bound { 2 ≤ radix }
+    requires upper_bound { radix ≤ 36 }
+    ensures { IfSome result (λ value. value ≡ digits_value radix text.now) }
+{
+    if text.iter().all(|b| matches!(b, b'0'..=b'9' | b'a'..=b'f')) {
+        u64::from_str_radix(str::from_utf8(text).ok()?, radix).ok()
+    } else {
+        None
     }
 }
 
-// A whole number of at least one digit, below 2^64.
-fn whole(text: &[u8], radix: u64) -> Option<u64> {
-    if text.is_empty() {
-        return None;
-    }
-    let mut value = 0u64;
-    for b in text {
-        let d = digit(*b)?;
-        if d >= radix {
-            return None;
-        }
-        value = value.checked_mul(radix)?.checked_add(d)?;
-    }
-    Some(value)
-}
-
-// A pattern of `n` hexadecimal digits.
-fn pattern(text: &[u8], n: usize) -> Option<u64> {
+/// A pattern of `n` hexadecimal digits.
+pub fn pattern(text: &[u8], n: usize) -> Option<u64>
+    ensures { IfSome result (λ value. (length text.now ≡ n) × (value ≡ digits_value 16 text.now)) }
+{
     if text.len() != n {
         return None;
     }

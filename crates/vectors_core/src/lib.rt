@@ -1,5 +1,5 @@
-// What the programs that replay lines of the Rust's answers share (docs/VECTORS.md): the fields of a line, lists of them, answers compared with the fields where they stand, and the
-// tally of a file. It uses nothing of what is replayed.
+// What the programs that replay lines of answers share (docs/VECTORS.md): the numbers of a field, the fields of a line, lists of them, answers compared with the fields where they stand,
+// and the tally of a file. It uses nothing of what is replayed.
 #![tactic(auto)]
 
 pub mod bounded;

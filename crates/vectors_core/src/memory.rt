@@ -1,6 +1,6 @@
 // The six lists that are lent to every call of the preprocessor.
-ghost use Rattle.std.specs.Prelude.{◌≡◌, replicate, vec_len};
-ghost use Rattle.vectors_core.specs.Old.{old32, old64, old_whole};
+ghost use Rattle.std.specs.Prelude.{◌≡◌, ◌↔◌, replicate, vec_len, IfOk, IsOk};
+ghost use Rattle.vectors_core.specs.Old.{zero32, zero64, old32, old64, old_whole, IsUntouched32, IsUntouched64, IsUntouchedWhole};
 
 use crate::field::Lent;
 use crate::fields::{Differs, expect_untouched};
@@ -18,7 +18,14 @@ pub struct Memory {
 
 impl Memory {
     /// Room for a state, with so many initial values.
-    pub fn new(alloc: Global, initial_values: usize) -> Result<Memory, AllocError> {
+    pub fn new(alloc: Global, initial_values: usize) -> Result<Memory, AllocError>
+        ensures statistics { IfOk result (λ memory. memory.statistics.items ≡ replicate 260 zero64) }
+        ensures inputs { IfOk result (λ memory. memory.inputs.items ≡ replicate 1030 zero32) }
+        ensures point { IfOk result (λ memory. memory.point.items ≡ replicate 1100 zero32) }
+        ensures times { IfOk result (λ memory. memory.times.items ≡ replicate 70 0) }
+        ensures initial_values { IfOk result (λ memory. memory.initial_values.items ≡ replicate initial_values zero32) }
+        ensures initial_timestamps { IfOk result (λ memory. memory.initial_timestamps.items ≡ replicate 2000 0) }
+    {
         Ok(Memory {
             statistics: vec![in alloc; 0.0; 260]?,
             inputs: vec![in alloc; 0.0; 1030]?,
@@ -57,14 +64,19 @@ impl Memory {
         self.initial_timestamps.fill(u64::OLD);
     }
 
-    pub fn expect_learnt_untouched(&self) -> Result<(), Differs> {
+    pub fn expect_learnt_untouched(&self) -> Result<(), Differs>
+        ensures { IsOk result ↔ (IsUntouched64 self.now.statistics.items × IsUntouched32 self.now.inputs.items × IsUntouched32 self.now.point.items × IsUntouchedWhole self.now.times.items) }
+    {
         expect_untouched(&self.statistics)?;
         expect_untouched(&self.inputs)?;
         expect_untouched(&self.point)?;
         expect_untouched(&self.times)
     }
 
-    pub fn expect_untouched(&self) -> Result<(), Differs> {
+    pub fn expect_untouched(&self) -> Result<(), Differs>
+        ensures { IsOk result ↔ (IsUntouched64 self.now.statistics.items × IsUntouched32 self.now.inputs.items × IsUntouched32 self.now.point.items ×
+            IsUntouchedWhole self.now.times.items × IsUntouched32 self.now.initial_values.items × IsUntouchedWhole self.now.initial_timestamps.items) }
+    {
         self.expect_learnt_untouched()?;
         expect_untouched(&self.initial_values)?;
         expect_untouched(&self.initial_timestamps)

@@ -1,4 +1,6 @@
 // The line before a text, which says how long the text is and what comes of it.
+use refusal::Refusal;
+use snapshot_restore::restore::RestoreError;
 use std::alloc::Global;
 use vectors_core::fields::{Differs, Fields};
 
@@ -26,13 +28,29 @@ pub(crate) fn first_text<'a>(alloc: Global, file: &'a [u8]) -> Result<Placed<'a>
     })
 }
 
-// The codes that are expected, how many times are lent, and the row by which the text is refused and its first bad line, or zeros.
+// The row by which a text is refused, and its first bad line.
+// Kept: (d) the row is the number that the file has: a `Refusal` is made of no number anywhere, and 28 arms that do so, for one comparison, would be no plainer.
+#[derive(Clone, Copy, PartialEq, Eq)]
+pub(crate) struct Refused {
+    row: u64,
+    line: u64,
+}
+
+impl From<RestoreError> for Refused {
+    fn from(error: RestoreError) -> Refused {
+        Refused {
+            row: u64::from(error.refusal()),
+            line: error.line() as u64,
+        }
+    }
+}
+
+// The codes that are expected, how many times are lent, and how the text is refused where it is not taken up.
 #[derive(Drop)]
 pub(crate) struct Announced {
     pub codes: Vec<u16>,
     pub times: usize,
-    pub row: u64,
-    pub line: u64,
+    pub refused: Option<Refused>,
 }
 
 // How many weights the second line has, at most 16.
@@ -47,18 +65,26 @@ fn bare_text(fields: &mut Fields<'_>, text: &[u8], room: usize) -> Result<Announ
     Ok(Announced {
         codes: vec![in fields.alloc; 0; channels(text)]?,
         times: room,
-        row: if line == 0 { 0 } else { 19 },
-        line,
+        refused: (line != 0).then_some(Refused {
+            row: u64::from(Refusal::Form),
+            line,
+        }),
     })
 }
 
-// `r`: the codes expected, the length of the list lent for the times, the row and the first bad line.
+// The row and the first bad line, or zeros.
+fn read_refused(fields: &mut Fields<'_>) -> Result<Option<Refused>, Differs> {
+    let row = fields.read()?;
+    let line = fields.read()?;
+    Ok((row != 0 || line != 0).then_some(Refused { row, line }))
+}
+
+// `r`: the codes expected, the length of the list lent for the times, and how it is refused.
 fn coded_text(fields: &mut Fields<'_>) -> Result<Announced, Differs> {
     Ok(Announced {
         codes: fields.list()?,
         times: fields.length()?,
-        row: fields.read()?,
-        line: fields.read()?,
+        refused: read_refused(fields)?,
     })
 }
 

@@ -1,6 +1,6 @@
 // Replays the texts of the kinds snapshot and near. One that is taken up is saved again as the same bytes, but for a line of zero codes that it
 // lacks; any other is refused by its row, at its line, and what was lent stays as it was.
-use crate::announced::{Announced, Placed, first_text, read_announced};
+use crate::announced::{Announced, Placed, Refused, first_text, read_announced};
 use crate::saved::{expect_rest_untouched, expect_saved};
 use snapshot_restore::restore::{RestoreError, restore};
 use std::alloc::Global;
@@ -34,26 +34,15 @@ fn restored(
     ))
 }
 
-fn expect_outcome(wanted: &Announced, row: u64, line: u64) -> Result<(), Differs> {
-    if row == wanted.row && line == wanted.line {
-        Ok(())
-    } else {
-        Err(Differs)
-    }
-}
-
 fn replay_text(alloc: Global, placed: Placed<'_>, memory: &mut Memory) -> Result<(), Differs> {
     let wanted = read_announced(placed, memory.times.len())?;
-    match restored(placed.text, &wanted, memory)? {
-        Ok(head) => {
-            expect_outcome(&wanted, 0, 0)?;
+    match (restored(placed.text, &wanted, memory)?, wanted.refused) {
+        (Ok(head), None) => {
             expect_rest_untouched(head, memory)?;
             expect_saved(alloc, placed.text, head, memory, wanted.times)
         }
-        Err(error) => {
-            expect_outcome(&wanted, u64::from(error.refusal()), error.line() as u64)?;
-            memory.expect_untouched()
-        }
+        (Err(error), Some(refused)) if Refused::from(error) == refused => memory.expect_untouched(),
+        _ => Err(Differs),
     }
 }
 
