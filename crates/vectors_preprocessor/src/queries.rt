@@ -9,18 +9,7 @@ pub(crate) fn transform_line(state: &Replayed, mut fields: Fields<'_>) -> Result
     let time = fields.read()?;
     let input = fields.list::<f32>()?;
     let mut out = fields.lent::<f32>()?;
-    let answer = transform(
-        state.head,
-        &state.memory.statistics,
-        &state.memory.inputs,
-        &state.memory.point,
-        &state.memory.times,
-        &state.memory.initial_values,
-        &state.memory.initial_timestamps,
-        &input,
-        time,
-        &mut out,
-    );
+    let answer = transform(state.head, state.lists(), &input, time, &mut out);
     fields.expect_written(row_of(answer), &out)?;
     fields.finish()
 }
@@ -33,26 +22,8 @@ pub(crate) fn output_line(
 ) -> Result<(), Differs> {
     let mut out = fields.lent::<f32>()?;
     let answer = match letter {
-        b'c' => scale(
-            state.head,
-            &state.memory.statistics,
-            &state.memory.inputs,
-            &state.memory.point,
-            &state.memory.times,
-            &state.memory.initial_values,
-            &state.memory.initial_timestamps,
-            &mut out,
-        ),
-        _ => shift(
-            state.head,
-            &state.memory.statistics,
-            &state.memory.inputs,
-            &state.memory.point,
-            &state.memory.times,
-            &state.memory.initial_values,
-            &state.memory.initial_timestamps,
-            &mut out,
-        ),
+        b'c' => scale(state.head, state.lists(), &mut out),
+        _ => shift(state.head, state.lists(), &mut out),
     };
     fields.expect_written(row_of(answer), &out)?;
     fields.finish()
@@ -71,16 +42,7 @@ fn expect_status(fields: &mut Fields<'_>, s: Status) -> Result<(), Differs> {
 
 pub(crate) fn status_line(state: &Replayed, mut fields: Fields<'_>) -> Result<(), Differs> {
     let mut out = fields.lent::<f32>()?;
-    let answer = status(
-        state.head,
-        &state.memory.statistics,
-        &state.memory.inputs,
-        &state.memory.point,
-        &state.memory.times,
-        &state.memory.initial_values,
-        &state.memory.initial_timestamps,
-        &mut out,
-    );
+    let answer = status(state.head, state.lists(), &mut out);
     match answer {
         Ok(s) => {
             fields.expect(0u64)?;

@@ -7,7 +7,7 @@ use crate::queries::{output_line, status_line, transform_line};
 use crate::state::{set_line, state_line};
 use crate::text::text_line;
 use std::alloc::{AllocError, Global};
-use trcf::head::{Preprocessor, no_head};
+use trcf::head::{LentLists, Preprocessor, no_head};
 use vectors_core::fields::{Differs, Fields};
 use vectors_core::memory::Memory;
 
@@ -25,6 +25,18 @@ impl Replayed {
             head: no_head(),
             memory: Memory::new(alloc, 32000)?,
         })
+    }
+
+    // What is lent to a call that writes none of it.
+    pub(crate) fn lists(&self) -> LentLists {
+        LentLists {
+            statistics: &self.memory.statistics,
+            last_shingled_input: &self.memory.inputs,
+            last_shingled_point: &self.memory.point,
+            previous_timestamps: &self.memory.times,
+            initial_values: &self.memory.initial_values,
+            initial_timestamps: &self.memory.initial_timestamps,
+        }
     }
 }
 

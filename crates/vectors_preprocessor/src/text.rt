@@ -16,16 +16,7 @@ fn checksum(text: &[u8]) -> u64 {
 
 pub(crate) fn text_line(state: &Replayed, mut fields: Fields<'_>) -> Result<(), Differs> {
     let mut out = vec![in fields.alloc; 0u8; 65536]?;
-    let answer = save(
-        state.head,
-        &state.memory.statistics,
-        &state.memory.inputs,
-        &state.memory.point,
-        &state.memory.times,
-        &state.memory.initial_values,
-        &state.memory.initial_timestamps,
-        &mut out,
-    );
+    let answer = save(state.head, state.lists(), &mut out);
     let n = answer.map_err(|_| Differs)?;
     let text = out.get(..n).ok_or(Differs)?;
     fields.expect(n as u64)?;

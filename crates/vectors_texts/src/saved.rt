@@ -1,7 +1,7 @@
 // A text that was taken up: what it is saved as again, and what lies past the state.
 use snapshot_save::save::save;
 use std::alloc::Global;
-use trcf::head::Preprocessor;
+use trcf::head::{LentLists, Preprocessor};
 use trcf::types::is_augmented;
 use vectors_core::field::Lent;
 use vectors_core::fields::{Differs, expect_untouched};
@@ -44,18 +44,15 @@ pub(crate) fn expect_saved(
     times: usize,
 ) -> Result<(), Differs> {
     let mut out = vec![in alloc; 0u8; 65536]?;
-    let lent = memory.times.get(..times).ok_or(Differs)?;
-    let answer = save(
-        head,
-        &memory.statistics,
-        &memory.inputs,
-        &memory.point,
-        lent,
-        &memory.initial_values,
-        &memory.initial_timestamps,
-        &mut out,
-    );
-    let n = answer.map_err(|_| Differs)?;
+    let lists = LentLists {
+        statistics: &memory.statistics,
+        last_shingled_input: &memory.inputs,
+        last_shingled_point: &memory.point,
+        previous_timestamps: memory.times.get(..times).ok_or(Differs)?,
+        initial_values: &memory.initial_values,
+        initial_timestamps: &memory.initial_timestamps,
+    };
+    let n = save(head, lists, &mut out).map_err(|_| Differs)?;
     let saved = out.get(..n).ok_or(Differs)?;
     expect_put_away(saved, text, head.transformer.input_length)
 }
