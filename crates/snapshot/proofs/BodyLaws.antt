@@ -17,7 +17,8 @@ use Rattle.trcf.specs.Settings.{Settings, waiting, block, dimension}
 use Rattle.trcf.specs.Preprocessor.{Reading}
 use Rattle.snapshot.specs.Steps.Judge.{buf_by}
 use Rattle.snapshot.specs.Read.{Counts, may_stand}
-use Rattle.snapshot.specs.Steps.Runs.{Ran, ran, broke, ran_by, after_lines, map_ran, unkept, front, many, bufs, Initial, initial_of, reading_times, time_of, Parts, expected, ending, Body, body, parts_by, parts_of, body_by, filled_by, Fills, HeadFew, Room, state_from}
+use Rattle.snapshot.specs.Steps.Runs.{Ran, ran, broke, ran_by, after_lines, map_ran, unkept, front, many, bufs, Initial, initial_of, reading_times, time_of}
+use Rattle.snapshot.specs.Steps.Runs.{Parts, expected, ending, Body, body, parts_by, parts_of, body_by, filled_by, Fills, HeadFew, Room, state_from}
 use Rattle.refusal.specs.Lent.{over}
 use Rattle.trcf.specs.View.{Lent, lent, settings_of, written_over, initial_room, lent_short}
 use Rattle.trcf.specs.declared.head.Preprocessor.{Preprocessor}

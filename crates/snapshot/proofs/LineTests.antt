@@ -15,7 +15,8 @@ use Rattle.trcf.specs.Calls.{finite, seen_limit}
 use Rattle.trcf.specs.Preprocessor.{reading}
 use Rattle.trcf.specs.declared.types.TransformMethod.{TransformMethod}
 use Rattle.snapshot.specs.Read.{as_whole, as_float, climbs, zeros}
-use Rattle.snapshot.specs.Steps.Judge.{placed, with_rest, byte, name, one, fields, closing, list_line, checked, wgt_test, cnt_test, cnt_by, counts_of, counts_read, tim_test, timed, buf_test, buf_raw, buf_by}
+use Rattle.snapshot.specs.Steps.Judge.{placed, with_rest, byte, name, one, fields, closing, list_line, checked, wgt_test, cnt_test, cnt_by, counts_of}
+use Rattle.snapshot.specs.Steps.Judge.{counts_read, tim_test, timed, buf_test, buf_raw, buf_by}
 
 module _ {A : Type 0} (q : A → Bool) (a : A) (r : Answer ℕ) (t : List ℕ) (o : Option (A × List ℕ)) (e : with_rest a (placed r t) ≡ o) where
   pub check_yes : q a ≡ true → with_rest a (placed r t) ≡ checked q o

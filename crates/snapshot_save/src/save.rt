@@ -16,7 +16,7 @@ use crate::write::{
 use refusal::Refusal;
 use snapshot::limits::{is_past, time_width};
 use snapshot::values::{all_zero, none_falls};
-use trcf::head::Preprocessor;
+use trcf::head::{LentLengths, Preprocessor};
 use trcf_rows::rows::{all_finite, head_settings_row, is_misfit};
 
 // How many bytes whole numbers take, each after its tab.
@@ -193,7 +193,9 @@ fn save_parts(
     requires times_len_bound { length times.now ≤ 2000 }
     requires initial_len_bound { length initial.now ≤ 2000 }
     requires input_length_in_bounds { length initial.now * head.transformer.input_length ≤ length values.now }
-    ensures { saved_told result out.new ≡ fitted (head_bytes (settings_of head) head.values_seen head.internal_timestamp head.transformer.count ++ list_bytes head.transformer.input_length statistics.now input.now point.now times.now values.now initial.now) out.old }
+    ensures { saved_told result out.new ≡ fitted
+        (head_bytes (settings_of head) head.values_seen head.internal_timestamp head.transformer.count ++
+        list_bytes head.transformer.input_length statistics.now input.now point.now times.now values.now initial.now) out.old }
 {
     let t = head.transformer;
     let d = t.input_length;
@@ -206,31 +208,15 @@ fn save_parts(
     Ok(l)
 }
 
-// Whether a time stands where none was counted.
-fn is_uncounted(internal: usize, times: &[u64]) -> bool
-    ensures { result ≡ eqb internal 0 && not (zeros times.now) }
-{
-    if internal == 0 {
-        !all_zero(times)
-    } else {
-        false
-    }
-}
-
 // Whether times and initial values are not such as a text has.
 fn is_unformed(internal: usize, times: &[u64], values: &[f32], initial: &[u64]) -> bool
-    ensures { result ≡ not (climbs 0 times.now) || ((eqb internal 0 && not (zeros times.now)) || (not (finite values.now) || not (climbs 0 initial.now))) }
+    ensures { result ≡ not (climbs 0 times.now)
+        || ((eqb internal 0 && not (zeros times.now)) || (not (finite values.now) || not (climbs 0 initial.now))) }
 {
-    if !none_falls(times) {
-        return true;
-    }
-    if is_uncounted(internal, times) {
-        return true;
-    }
-    if !all_finite(values) {
-        return true;
-    }
-    !none_falls(initial)
+    !none_falls(times)
+        || internal == 0 && !all_zero(times)
+        || !all_finite(values)
+        || !none_falls(initial)
 }
 
 // The text of a head whose own rows are 0, and its length; TooShort where out is shorter than the text, or a lent list shorter than what is in use of it;
@@ -245,7 +231,8 @@ fn save_held(
     initial_timestamps: &[u64],
     out: &mut [u8],
 ) -> Result<usize, Refusal>
-    ensures { saved_told result out.new ≡ held_save head (lent statistics.now last_shingled_input.now last_shingled_point.now previous_timestamps.now initial_values.now initial_timestamps.now) out.old }
+    ensures { saved_told result out.new ≡ held_save head
+        (lent statistics.now last_shingled_input.now last_shingled_point.now previous_timestamps.now initial_values.now initial_timestamps.now) out.old }
 {
     let t = head.transformer;
     let mode = head.forest_mode;
@@ -254,18 +241,15 @@ fn save_held(
     let n = head.initial_len;
     let internal = head.internal_timestamp;
     let w = time_width(mode);
-    if is_past(
-        d,
-        k,
-        w,
-        n,
-        statistics.len(),
-        last_shingled_input.len(),
-        last_shingled_point.len(),
-        previous_timestamps.len(),
-        initial_values.len(),
-        initial_timestamps.len(),
-    ) {
+    let lengths = LentLengths {
+        statistics: statistics.len(),
+        last_shingled_input: last_shingled_input.len(),
+        last_shingled_point: last_shingled_point.len(),
+        previous_timestamps: previous_timestamps.len(),
+        initial_values: initial_values.len(),
+        initial_timestamps: initial_timestamps.len(),
+    };
+    if is_past(d, k, w, n, lengths) {
         return Err(Refusal::TooShort);
     }
     let st = &statistics[..3 * (5 * d + 5)];
@@ -292,7 +276,8 @@ pub fn save(
     initial_timestamps: &[u64],
     out: &mut [u8],
 ) -> Result<usize, Refusal>
-    ensures { saved_told result out.new ≡ save_of head (lent statistics.now last_shingled_input.now last_shingled_point.now previous_timestamps.now initial_values.now initial_timestamps.now) out.old }
+    ensures { saved_told result out.new ≡ save_of head
+        (lent statistics.now last_shingled_input.now last_shingled_point.now previous_timestamps.now initial_values.now initial_timestamps.now) out.old }
 {
     head_settings_row(head)?;
     if is_misfit(head) {
