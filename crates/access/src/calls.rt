@@ -1,5 +1,5 @@
 // The calls that may change the trace, for a role that has their rights.
-// Kept: (d) the six lent lists are parameters: a struct would need a type for each mix of shared and mutable lists that the calls lend, and with mutable ones a clause on their loans in each contract.
+// Kept: (d) lists that a call writes are parameters of their own: a struct would need a type for each mix of shared and mutable ones, and a clause on its loans in each contract.
 ghost use Rattle.std.specs.Prelude.{◌≡◌, is_some};
 ghost use Rattle.trcf.specs.View.{lent, head_outcome, point_outcome, learn_call, processed_outcome};
 ghost use Rattle.trcf_learn.specs.Given.{list_in};

@@ -1,5 +1,5 @@
 // The calls that make and change a preprocessor.
-// Kept: (d) the six lent lists are parameters: a struct would need a type for each mix of shared and mutable lists that the calls lend, and with mutable ones a clause on their loans in each contract.
+// Kept: (a) the C interface hands each list as a pointer and a length.
 ghost use Rattle.std.specs.Prelude.{◌≡◌};
 ghost use Rattle.trcf.specs.View.{lent, learn_call};
 ghost use Rattle.capi.specs.Head.{settings_given};

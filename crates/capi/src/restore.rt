@@ -1,5 +1,5 @@
 // Taking up a text over lent words.
-// Kept: (d) the six lent lists are parameters: a struct would need a type for each mix of shared and mutable lists that the calls lend, and with mutable ones a clause on their loans in each contract.
+// Kept: (a) the C interface hands each list as a pointer and a length.
 ghost use Rattle.std.specs.Prelude.{◌≡◌, cond, eqb};
 ghost use Rattle.trcf.specs.View.{lent};
 ghost use Rattle.snapshot_restore.specs.Told.{row_told, line_told};
