@@ -86,7 +86,8 @@ pub fn invert_extrapolation(
     times_upper_out: &mut [f64],
     times_lower_out: &mut [f64],
 ) -> Result<(), Refusal>
-    ensures { extrapolation (row_of result) (forecast (ranges values.new upper.new lower.new) (ranges values_out.new upper_out.new lower_out.new) (ranges times_out.new times_upper_out.new times_lower_out.new))
+    ensures { extrapolation (row_of result)
+        (forecast (ranges values.new upper.new lower.new) (ranges values_out.new upper_out.new lower_out.new) (ranges times_out.new times_upper_out.new times_lower_out.new))
         ≡ extrapolation_by table.now role head statistics.now last_shingled_input.now previous_timestamps.now
         (forecast (ranges values.old upper.old lower.old) (ranges values_out.old upper_out.old lower_out.old) (ranges times_out.old times_upper_out.old times_lower_out.old)) }
 {

@@ -41,7 +41,8 @@ pub extern "C" fn veerycouch_restore(
     line: &mut u64,
 ) -> u64
     ensures { restore_called result head.new (lent statistics.new last_shingled_input.new last_shingled_point.new previous_timestamps.new initial_values.new initial_timestamps.new) line.new
-        ≡ restore_at table.now role text.now codes.now head.old (lent statistics.old last_shingled_input.old last_shingled_point.old previous_timestamps.old initial_values.old initial_timestamps.old) line.old }
+        ≡ restore_at table.now role text.now codes.now head.old (lent statistics.old last_shingled_input.old last_shingled_point.old previous_timestamps.old initial_values.old initial_timestamps.old)
+        line.old }
 {
     if !may(table, role, Right::RESTORE) {
         return u64::from(Refusal::Withheld);
