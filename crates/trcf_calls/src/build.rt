@@ -33,6 +33,7 @@ fn head_from(b: PreprocessorBuilder, weights: &[f32], codes: &[u16]) -> Preproce
     }
 }
 
+#[tactic(auto, using(trcf::proofs::LengthLaws::statistics_known))]
 pub fn build(
     builder: PreprocessorBuilder,
     weights: &[f32],
