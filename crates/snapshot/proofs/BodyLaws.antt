@@ -270,14 +270,6 @@ module _ (h : Preprocessor) (l : Lent) (w : ℕ) (f : HeadFew h) (e : w ≡ cond
       few_le : (n : ℕ) → n ≤ h.start_normalization → n < 2000
       few_le n k = omega (arith, k, f.start_few)
 
-  pub short_by : (n : ℕ) → n ≡ initial_room (settings_of h) → past h.transformer.input_length h.shingle_size w n (length l.statistics) (length l.last_shingled_input)
-      (length l.last_shingled_point) (length l.previous_timestamps) (length l.initial_values) (length l.initial_timestamps)
-      ≡ lent_short (settings_of h) l
-  short_by n q =
-      ap (λ (m : ℕ). past h.transformer.input_length h.shingle_size w m (length l.statistics) (length l.last_shingled_input)
-      (length l.last_shingled_point) (length l.previous_timestamps) (length l.initial_values) (length l.initial_timestamps)) q
-      ∙ short_is
-
 pub room_of : (h : Preprocessor) (l : Lent) (n : ℕ) → HeadFew h → lent_short (settings_of h) l ≡ false → n ≤ initial_room (settings_of h)
     → Room h n (length l.statistics) (length l.last_shingled_input) (length l.last_shingled_point) (length l.previous_timestamps) (length l.initial_values) (length l.initial_timestamps)
 room_of h l n f e k =

@@ -88,8 +88,7 @@ pub(crate) fn rest_at(text: &[u8], at: usize, kind: Kind) -> Next
     ensures { result ≡ rest_field (kind_number kind) at text.now }
 {
     let end = text.len();
-    let from = at.min(end);
-    let field = parse(text, from, end, kind);
+    let field = parse(text, at.min(end), end, kind);
     Next { field, end }
 }
 
