@@ -103,7 +103,7 @@ fn output_row(head: Preprocessor, lengths: Lengths) -> Result<(), Refusal>
 }
 
 // Row 20 of what the call reads of the preprocessor.
-#[tactic(auto, unfolding(trcf::specs::Extrapolation::read_short))]
+#[tactic(auto, unfolding(trcf::specs::Extrapolation::read_short), using(trcf::proofs::LengthLaws::statistics_known))]
 fn unread_row(
     head: Preprocessor,
     statistics: usize,
