@@ -1,8 +1,7 @@
 // `save` (document 01: putting away): the snapshot of a preprocessor, written into lent bytes.
-// Kept: (d) the six lent lists are parameters: a struct would need a type for each mix of shared and mutable lists that the calls lend, and with mutable ones a clause on their loans in each contract.
 ghost use Rattle.std.specs.Prelude.{◌≡◌, not, ◌&&◌, ◌||◌, map, ◌++◌, eqb, ◌+◌, ◌*◌, ◌≤◌, ◌<◌, length};
 ghost use Rattle.trcf.specs.Types.{method_number, mode_letter};
-ghost use Rattle.trcf.specs.View.{lent, settings_of};
+ghost use Rattle.trcf.specs.View.{lent_by, settings_of};
 ghost use Rattle.snapshot.specs.Text.{whole, chn_line};
 ghost use Rattle.trcf.specs.Calls.{finite};
 ghost use Rattle.snapshot.specs.Read.{bytes_of_line, climbs, zeros};
@@ -16,7 +15,7 @@ use crate::write::{
 use refusal::Refusal;
 use snapshot::limits::{is_past, time_width};
 use snapshot::values::{all_zero, none_falls};
-use trcf::head::{LentLengths, Preprocessor};
+use trcf::head::{LentLists, Preprocessor};
 use trcf_rows::rows::{all_finite, head_settings_row, is_misfit};
 
 // How many bytes whole numbers take, each after its tab.
@@ -221,18 +220,8 @@ fn is_unformed(internal: usize, times: &[u64], values: &[f32], initial: &[u64]) 
 
 // The text of a head whose own rows are 0, and its length; TooShort where out is shorter than the text, or a lent list shorter than what is in use of it;
 // Form where that has not the form of a text.
-fn save_held(
-    head: Preprocessor,
-    statistics: &[f64],
-    last_shingled_input: &[f32],
-    last_shingled_point: &[f32],
-    previous_timestamps: &[u64],
-    initial_values: &[f32],
-    initial_timestamps: &[u64],
-    out: &mut [u8],
-) -> Result<usize, Refusal>
-    ensures { saved_told result out.new ≡ held_save head
-        (lent statistics.now last_shingled_input.now last_shingled_point.now previous_timestamps.now initial_values.now initial_timestamps.now) out.old }
+fn save_held(head: Preprocessor, lists: LentLists, out: &mut [u8]) -> Result<usize, Refusal>
+    ensures { saved_told result out.new ≡ held_save head (lent_by lists.entry) out.old }
 {
     let t = head.transformer;
     let mode = head.forest_mode;
@@ -241,23 +230,15 @@ fn save_held(
     let n = head.initial_len;
     let internal = head.internal_timestamp;
     let w = time_width(mode);
-    let lengths = LentLengths {
-        statistics: statistics.len(),
-        last_shingled_input: last_shingled_input.len(),
-        last_shingled_point: last_shingled_point.len(),
-        previous_timestamps: previous_timestamps.len(),
-        initial_values: initial_values.len(),
-        initial_timestamps: initial_timestamps.len(),
-    };
-    if is_past(d, k, w, n, lengths) {
+    if is_past(d, k, w, n, lists.lengths()) {
         return Err(Refusal::TooShort);
     }
-    let st = &statistics[..3 * (5 * d + 5)];
-    let x = &last_shingled_input[..d * k];
-    let y = &last_shingled_point[..(d + w) * k];
-    let ts = &previous_timestamps[..k];
-    let v = &initial_values[..n * d];
-    let us = &initial_timestamps[..n];
+    let st = &lists.statistics[..3 * (5 * d + 5)];
+    let x = &lists.last_shingled_input[..d * k];
+    let y = &lists.last_shingled_point[..(d + w) * k];
+    let ts = &lists.previous_timestamps[..k];
+    let v = &lists.initial_values[..n * d];
+    let us = &lists.initial_timestamps[..n];
     if is_unformed(internal, ts, v, us) {
         return Err(Refusal::Form);
     }
@@ -266,31 +247,12 @@ fn save_held(
 
 // The snapshot of what head and the lent lists hold, and its length. What could not be taken up again is not put away: the refusal of the settings, Form
 // for counters, times or initial values that no text has, TooShort where a lent list or out is too short; nothing is written then.
-pub fn save(
-    head: Preprocessor,
-    statistics: &[f64],
-    last_shingled_input: &[f32],
-    last_shingled_point: &[f32],
-    previous_timestamps: &[u64],
-    initial_values: &[f32],
-    initial_timestamps: &[u64],
-    out: &mut [u8],
-) -> Result<usize, Refusal>
-    ensures { saved_told result out.new ≡ save_of head
-        (lent statistics.now last_shingled_input.now last_shingled_point.now previous_timestamps.now initial_values.now initial_timestamps.now) out.old }
+pub fn save(head: Preprocessor, lists: LentLists, out: &mut [u8]) -> Result<usize, Refusal>
+    ensures { saved_told result out.new ≡ save_of head (lent_by lists.entry) out.old }
 {
     head_settings_row(head)?;
     if is_misfit(head) {
         return Err(Refusal::Form);
     }
-    save_held(
-        head,
-        statistics,
-        last_shingled_input,
-        last_shingled_point,
-        previous_timestamps,
-        initial_values,
-        initial_timestamps,
-        out,
-    )
+    save_held(head, lists, out)
 }
