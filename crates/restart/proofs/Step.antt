@@ -188,11 +188,6 @@ module _ (s : Settings) (k>0 : 0 < s.k) where
   step_at_lem es v c zero e = change_at es v c e
   step_at_lem es v c (suc n) e = (refl, v)
 
-  -- the state's refusals are the history's
-  pub same_refusal : (es : List Entry) (c : Call) → refusal (history_state s es) c ≡ history_refusal s es c
-  unfolding refusal history_refusal facts history_facts history_state
-  same_refusal es c = refl
-
   pub step : (es : List Entry) → Inv s es → (c : Call) → Kept (next (history_state s es) c) (enter s es c)
   unfolding next enter refusal history_refusal facts history_facts history_state
   step es v c = step_at_lem es v c (history_refusal s es c) refl
