@@ -10,7 +10,9 @@ use lib.Dec.{ltb, eqb, eqb-zero-suc, eqb-suc-zero, leb-suc-suc, leb-zero}
 use lib.ListN.{length, replicate, length-append, length-replicate}
 use lib.Ieee.{Float}
 use borrow.Author.Tests.{ltb-true, ltb-false, eqb-true, ne_eqb, not-false}
-use Rattle.restart.specs.History.{Entry, initial_entry, learned_entry, drained_entry, initials, learns, is_drained, only_initials, values, timestamps, seen_of, internal_of, buffer_of, shingled, inputs_of, timestamps_of, count_of, statistics_of, history_state, history_facts, history_refusal, complete, adds, enter, entries_from, entries, history_answer, history_answers}
+use Rattle.restart.specs.History.{Entry, initial_entry, learned_entry, drained_entry, initials, learns, is_drained, only_initials, values, timestamps, seen_of, internal_of, buffer_of, shingled}
+use Rattle.restart.specs.History.{inputs_of, timestamps_of, count_of, statistics_of, history_state, history_facts, history_refusal, complete, adds, enter, entries_from, entries, history_answer}
+use Rattle.restart.specs.History.{history_answers}
 use Rattle.trcf.specs.Lists.{last_n, null}
 use Rattle.trcf.specs.Types.{normalizes}
 use Rattle.trcf.specs.Transformer.{zero32}
@@ -160,7 +162,8 @@ module _ (s : Settings) (k>0 : 0 < s.k) where
   drain_step es v = rw (due_full s es v.phase) (drain_at_lem es v (complete s es) refl)
 
   -- waiting: a point does nothing
-  point_at_lem : (es : List Entry) → Inv s es → (b : Bool) → waiting s (seen_of es) ≡ b → Kept (cond b (history_state s es) (drainedState (history_state s es))) (cond (complete s es) (drained_entry ∷ es) es)
+  point_at_lem : (es : List Entry) → Inv s es → (b : Bool) → waiting s (seen_of es) ≡ b
+      → Kept (cond b (history_state s es) (drainedState (history_state s es))) (cond (complete s es) (drained_entry ∷ es) es)
   point_at_lem es v true e =
       let h : (only_initials es ≡ true) × (length (initials es) < s.start) × (normalizes s.method ≡ true) = still s es v.phase e in
       rw (is_false (complete s es) (λ f. omega (arith, (is_full s es f).1))) (refl, v)
