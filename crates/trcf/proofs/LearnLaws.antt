@@ -20,8 +20,12 @@ use Rattle.trcf.specs.Lists.{last_or}
 use Rattle.trcf.specs.Transformer.{zero32, one32, inverted, updated}
 use Rattle.trcf.specs.Settings.{Settings, transformer, dimension, block, waiting}
 use Rattle.trcf.specs.Calls.{Learn, post_process, seen_limit, rows, table, finite, given, wrong_length, newest, outside, learn_full, learn_short, waiting_short}
-use Rattle.trcf.specs.Preprocessor.{State, Learned, time_fed, Reading, reading, facts, statistics_length, previous, feed, buffered, learned, learned_with, change, accepted, deviations, learned_nothing, deviations_alone, buffered_answer, learned_answer, learn_answer, learn_reply, anomaly_of, past_values, expected_values, block_at, is_zero, block_from, Anomaly}
-use Rattle.trcf.specs.View.{Lent, lent, settings_of, view, counted, counting, written_over, holding, Fitted, row_of, head_after, lent_after, optional, learn_call, back_of, newest_of, Bounded, LearnOutcome, learn_outcome, learned_outcome, learn_nothing, learn_after, or_else, anomaly_held, anomaly_time, anomaly_likelihood, processed_outcome}
+use Rattle.trcf.specs.Preprocessor.{State, Learned, time_fed, Reading, reading, facts, statistics_length, previous, feed, buffered, learned, learned_with, change, accepted}
+use Rattle.trcf.specs.Preprocessor.{deviations, learned_nothing, deviations_alone, buffered_answer, learned_answer, learn_answer, learn_reply, anomaly_of, past_values}
+use Rattle.trcf.specs.Preprocessor.{expected_values, block_at, is_zero, block_from, Anomaly}
+use Rattle.trcf.specs.View.{Lent, lent, settings_of, view, counted, counting, written_over, holding, Fitted, row_of, head_after, lent_after, optional, learn_call, back_of}
+use Rattle.trcf.specs.View.{newest_of, Bounded, LearnOutcome, learn_outcome, learned_outcome, learn_nothing, learn_after, or_else, anomaly_held, anomaly_time, anomaly_likelihood}
+use Rattle.trcf.specs.View.{processed_outcome}
 use Rattle.trcf.specs.Steps.Rows.{input_row, waiting_row, learn_row, learning_row}
 use Rattle.trcf.specs.Steps.Learning.{Learnable, LearnParts, learned_parts, learned_statistics}
 use Rattle.trcf.specs.declared.head.Preprocessor.{Preprocessor}

@@ -22,7 +22,6 @@ pub refused_first : (r : Refusal) (n m : ℕ) → number_of r ≡ n → number_o
 refused_first r n m e = e ∙ or_else_not n m (λ z. number_zero r (e ∙ z))
 
 module _ {A : Type 0} where
-
   -- what `?` hands on has no number 0
   pub handed_not : (e : Refusal) (r : Result A Refusal) → IsErrAnd r (λ d. d ≡ e) → row_of r ≡ 0 → ⊥
   handed_not e r h z = number_zero e (sym (handed_on e r h) ∙ z)

@@ -12,7 +12,8 @@ use Rattle.common.specs.Deviation.{zero64, outside_unit, is_empty, factor_of, st
 use Rattle.ranges.specs.RangeVector.{ranges, RangeOutcome, range_outcome, unblocked, range_at, put_at, shifted, scaled, settled, cascade_to}
 use Rattle.trcf.specs.Settings.{all_one}
 use Rattle.trcf.specs.Transformer.{zero32, one32, statistic_at, put_statistic, deviations_at, put_deviations, fed, fed_at, channels_fed, updated}
-use Rattle.trcf.specs.Transformer.{normalized_scale, basic_shift, basic_drift, weight_at, transformed, unweighted, inverted, reciprocal, forecast_at, forecast_to, inverted_forecast, scales, shifts, difference_deviations}
+use Rattle.trcf.specs.Transformer.{normalized_scale, basic_shift, basic_drift, weight_at, transformed, unweighted, inverted, reciprocal, forecast_at, forecast_to}
+use Rattle.trcf.specs.Transformer.{inverted_forecast, scales, shifts, difference_deviations}
 use Rattle.trcf.specs.TransformerCalls.{Made, TransformerOutput, transformer_output, transformer_head, not_long, new_row, update_row, transform_row, output_row, forecast_row}
 use Rattle.trcf.specs.TransformerCalls.{transformer_new, transformer_update, transformer_transform, transformer_invert, transformer_invert_forecast, transformer_scale, transformer_shift}
 use Rattle.trcf.specs.TransformerCalls.{transformer_difference_deviations}

@@ -13,7 +13,8 @@ use Rattle.trcf.specs.Transformer.{zero32, one32}
 use Rattle.trcf.specs.Settings.{Settings, settings_row, all_one, block, dimension, waiting}
 use Rattle.trcf.specs.Calls.{Call, post_process, drain, scale, rows, table, finite, due, drain_full, newest, wrong_length, waiting_short, learn_full, learn_short, outside}
 use Rattle.trcf.specs.Preprocessor.{fresh, facts, change, buffered, drained, drain_all, drain_one, primed, previous, panel_of}
-use Rattle.trcf.specs.View.{Lent, lent, view, alone, written_over, head_row, lent_short, counters_unfit, short_row, lent_row, row_of, head_after, lent_after, no_head, build_row, build_of, drain_of, learn_call, Outcome}
+use Rattle.trcf.specs.View.{Lent, lent, view, alone, written_over, head_row, lent_short, counters_unfit, short_row, lent_row, row_of, head_after, lent_after, no_head, build_row}
+use Rattle.trcf.specs.View.{build_of, drain_of, learn_call, Outcome}
 use Rattle.trcf.specs.declared.types.TransformMethod.TheVariants.{NORMALIZE}
 use Rattle.trcf.specs.declared.types.ForestMode.TheVariants.{STANDARD}
 use Rattle.trcf.specs.declared.head.Preprocessor.{Preprocessor}

@@ -16,7 +16,8 @@ use Rattle.trcf.specs.Transformer.{zero32}
 use Rattle.trcf.specs.Settings.{waiting, block, dimension}
 use Rattle.trcf.specs.Calls.{drain, shingled_point, post_process}
 use Rattle.trcf.specs.Preprocessor.{State, statistics_length, deviations, drained, reading, point_of, learned_nothing}
-use Rattle.trcf.specs.View.{Lent, lent, settings_of, initial_room, row_of, optional, learn_call, back_of, processed_outcome, learn_nothing, learn_after, counting, holding, Bounded, Ready, Fitted, Outcome, outcome, drain_of, pointed, point_after, counted, written_over, view}
+use Rattle.trcf.specs.View.{Lent, lent, settings_of, initial_room, row_of, optional, learn_call, back_of, processed_outcome, learn_nothing, learn_after, counting, holding, Bounded}
+use Rattle.trcf.specs.View.{Ready, Fitted, Outcome, outcome, drain_of, pointed, point_after, counted, written_over, view}
 use Rattle.trcf.specs.Steps.Rows.{learning_row}
 use Rattle.trcf.specs.Steps.Learning.{LearnParts, learned_parts, answering, Learnable}
 use Rattle.trcf.specs.declared.head.Preprocessor.{Preprocessor}
@@ -107,7 +108,8 @@ module _ (h : Preprocessor) (st xs ps : List Float) (ts : List ℕ) (vs : List F
         ≡ learn_after h (lent st xs ps ts vs vt) (learn_call x t hasY y expects e grade i deviations_out past_out expected_out)
     unfolding learned_nothing
     way_none b w g k =
-        learn_none h (lent st xs ps ts vs vt) (learn_call x t hasY y expects e grade i deviations_out past_out expected_out) accepted (sym w ∙ g) (ap (λ (z : Bool). optional z y) k) (ready zero).fitted
+        learn_none h (lent st xs ps ts vs vt) (learn_call x t hasY y expects e grade i deviations_out past_out expected_out) accepted (sym w ∙ g)
+        (ap (λ (z : Bool). optional z y) k) (ready zero).fitted
 
     learns_is : learning_row h (length y) hasY (length e) expects grade (back_of i) (length deviations_out) (length past_out) (length expected_out) ≡ 0
     learns_is = post_learns h (lent st xs ps ts vs vt) x t hasY y expects e grade i deviations_out past_out expected_out (ready zero).bounded accepted

@@ -11,7 +11,8 @@ use Rattle.trcf.specs.Transformer.{zero32}
 use Rattle.trcf.specs.Types.{normalizes, method_number, mode_letter, is_gap}
 use Rattle.trcf.specs.Settings.{Settings, input_limit, shingle_limit, start_bound, settings_row, dimension, waiting}
 use Rattle.trcf.specs.Calls.{Learn, Call, shingled_point, post_process, drain, status, rows, seen_limit, given}
-use Rattle.trcf.specs.Preprocessor.{State, Answer, refused, Status, Anomaly, Learned, learned_nothing, statistics_length, fresh, facts, change, is_ready, panel_of, status_of, point_reply, learn_reply, reply, accepted}
+use Rattle.trcf.specs.Preprocessor.{State, Answer, refused, Status, Anomaly, Learned, learned_nothing, statistics_length, fresh, facts, change, is_ready, panel_of, status_of}
+use Rattle.trcf.specs.Preprocessor.{point_reply, learn_reply, reply, accepted}
 use Rattle.trcf.specs.declared.types.TransformMethod.TheVariants.{NONE}
 use Rattle.trcf.specs.declared.types.ForestMode.TheVariants.{STANDARD}
 use Rattle.trcf.specs.declared.head.Preprocessor.{Preprocessor}

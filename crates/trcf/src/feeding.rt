@@ -60,7 +60,8 @@ pub fn feed_reading(
     input: &[f32],
     timestamp: u64,
 )
-    ensures { s.new ≡ where_fits (feed_fits (settings_of head) count (length s.old) (length before.now) (length input.now)) (feed (settings_of head) count s.old (reading before.now previous) (reading input.now timestamp)) s.old }
+    ensures { s.new ≡ where_fits (feed_fits (settings_of head) count (length s.old) (length before.now) (length input.now))
+        (feed (settings_of head) count s.old (reading before.now previous) (reading input.now timestamp)) s.old }
 {
     if feed_fits(head, count, s.len(), before.len(), input.len()) {
         feed_fitting(head, count, s, before, previous, input, timestamp);

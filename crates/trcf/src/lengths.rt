@@ -54,7 +54,8 @@ pub(crate) fn transform_fits(
     output: usize,
 ) -> bool
     ensures value { result ≡ transform_fits (settings_of head) statistics inputs input output }
-    ensures bounded { result ≡ true → Bounded (settings_of head) × (statistics ≡ statistics_length (settings_of head)) × (inputs ≡ head.transformer.input_length * head.shingle_size) × (input ≡ head.transformer.input_length) × (block (settings_of head) ≤ output) }
+    ensures bounded { result ≡ true → Bounded (settings_of head) × (statistics ≡ statistics_length (settings_of head))
+        × (inputs ≡ head.transformer.input_length * head.shingle_size) × (input ≡ head.transformer.input_length) × (block (settings_of head) ≤ output) }
 {
     let d = head.transformer.input_length;
     output_fits(head, statistics, output) && inputs == d * head.shingle_size && input == d
@@ -69,7 +70,8 @@ pub(crate) fn feed_fits(
     input: usize,
 ) -> bool
     ensures value { result ≡ feed_fits (settings_of head) count statistics before input }
-    ensures bounded { result ≡ true → Bounded (settings_of head) × (statistics ≡ statistics_length (settings_of head)) × (count < count_limit) × (before ≡ head.transformer.input_length) × (input ≡ head.transformer.input_length) }
+    ensures bounded { result ≡ true → Bounded (settings_of head) × (statistics ≡ statistics_length (settings_of head))
+        × (count < count_limit) × (before ≡ head.transformer.input_length) × (input ≡ head.transformer.input_length) }
 {
     if head_row(head).is_err() {
         return false;

@@ -28,7 +28,8 @@ pub(crate) fn transform_fitting(
     requires inputs_len { length inputs.now ≡ head.transformer.input_length * head.shingle_size }
     requires input_len { length input.now ≡ head.transformer.input_length }
     requires head_in_bounds { block (settings_of head) ≤ length output.old }
-    ensures { output.new ≡ over output.old (transformed_after (settings_of head) s.now head.values_seen (reading (last_n head.transformer.input_length inputs.now) base) (reading input.now timestamp)) }
+    ensures { output.new
+        ≡ over output.old (transformed_after (settings_of head) s.now head.values_seen (reading (last_n head.transformer.input_length inputs.now) base) (reading input.now timestamp)) }
 {
     let t = head.transformer;
     let d = t.input_length;
@@ -51,7 +52,8 @@ pub fn write_transform(
     timestamp: u64,
     output: &mut [f32],
 )
-    ensures { output.new ≡ where_fits (transform_fits (settings_of head) (length s.now) (length inputs.now) (length input.now) (length output.old)) (over output.old (transformed_after (settings_of head) s.now head.values_seen (reading (last_n head.transformer.input_length inputs.now) base) (reading input.now timestamp))) output.old }
+    ensures { output.new ≡ where_fits (transform_fits (settings_of head) (length s.now) (length inputs.now) (length input.now) (length output.old))
+        (over output.old (transformed_after (settings_of head) s.now head.values_seen (reading (last_n head.transformer.input_length inputs.now) base) (reading input.now timestamp))) output.old }
 {
     if transform_fits(head, s.len(), inputs.len(), input.len(), output.len()) {
         transform_fitting(head, s, inputs, base, input, timestamp, output);

@@ -179,7 +179,8 @@ fn gather(deviations: [Deviation; 5]) -> Deviations
     }
 }
 
-// Feeds the five at the places b, b + w and so on of the lent numbers: what every path that feeds time calls; the channels' are fed in passes (src/passes.rt). f and g are the factors of the decay and of a
+// Feeds the five at the places b, b + w and so on of the lent numbers: what every path that feeds time calls; the channels' are fed in passes
+// (src/passes.rt). f and g are the factors of the decay and of a
 // tenth of it: all statistics of a state have one count, so a reading needs no more than these two.
 pub(crate) fn feed_at(
     s: &mut [f64],

@@ -9,9 +9,12 @@ ghost use Rattle.common.specs.Deviation.{zero64, one64, count_limit, outside_uni
 ghost use Rattle.ranges.specs.RangeVector.{held, AreSameLoans, range_outcome, unblocked};
 ghost use Rattle.trcf.specs.Types.{is_none, normalizes, differences, centres};
 ghost use Rattle.trcf.specs.Settings.{all_one, input_limit};
-ghost use Rattle.trcf.specs.Transformer.{zero32, slow_decay, updated, mean_at, weight_at, normalized_scale, transform_by, transformed, unweighted, invert_by, inverted, reciprocal, inverted_forecast, scales, shifts, difference_deviations};
+ghost use Rattle.trcf.specs.Transformer.{zero32, slow_decay, updated, mean_at, weight_at, normalized_scale, transform_by, transformed, unweighted, invert_by, inverted, reciprocal};
+ghost use Rattle.trcf.specs.Transformer.{inverted_forecast, scales, shifts, difference_deviations};
 ghost use Rattle.trcf.specs.Lengths.{where_fits, within, passes};
-ghost use Rattle.trcf.specs.TransformerCalls.{transformer_view, no_transformer, made_from, transformer_output, new_row, update_row, transform_row, output_row, forecast_row, transformer_new, transformer_update, transformer_transform, transformer_invert, transformer_invert_forecast, transformer_scale, transformer_shift, transformer_difference_deviations};
+ghost use Rattle.trcf.specs.TransformerCalls.{transformer_view, no_transformer, made_from, transformer_output, new_row, update_row, transform_row, output_row, forecast_row};
+ghost use Rattle.trcf.specs.TransformerCalls.{transformer_new, transformer_update, transformer_transform, transformer_invert, transformer_invert_forecast, transformer_scale};
+ghost use Rattle.trcf.specs.TransformerCalls.{transformer_shift, transformer_difference_deviations};
 ghost use Rattle.trcf.specs.Steps.Sound.{Sound};
 ghost use Rattle.trcf.specs.Steps.Blocks.{FactorsIn};
 
@@ -169,7 +172,8 @@ pub(crate) fn invert_fitting(
 fn scale_at(t: WeightedTransformer, s: &[f64], i: usize) -> f32
     requires sound { Sound t (length s.now) }
     requires i_bound { i < t.input_length }
-    ensures { result ≡ cond (normalizes t.transform_method) (mul binary32 (weight_at (transformer_view t s.now) i) (normalized_scale (transformer_view t s.now) i)) (weight_at (transformer_view t s.now) i) }
+    ensures { result
+        ≡ cond (normalizes t.transform_method) (mul binary32 (weight_at (transformer_view t s.now) i) (normalized_scale (transformer_view t s.now) i)) (weight_at (transformer_view t s.now) i) }
 {
     let d = t.input_length;
     let w = t.weights[i];
@@ -447,7 +451,8 @@ pub fn invert_into(
     previous: &[f32],
     output: &mut [f32],
 )
-    ensures { output.new ≡ where_fits (passes (transform_row t.input_length (length input.now) (length previous.now) (length s.now) (length output.old))) (over output.old (inverted (transformer_view t s.now) input.now previous.now)) output.old }
+    ensures { output.new ≡ where_fits (passes (transform_row t.input_length (length input.now) (length previous.now) (length s.now) (length output.old)))
+        (over output.old (inverted (transformer_view t s.now) input.now previous.now)) output.old }
 {
     let d = t.input_length;
     if transform_row(d, input.len(), previous.len(), s.len(), output.len()).is_ok() {
@@ -464,7 +469,8 @@ pub fn invert_forecast_in_place(
     range: &mut RangeVector<f32>,
 )
     ensures after { held range.new
-        ≡ where_fits (passes (forecast_row t.transform_method t.input_length (length previous.now) (length range.old.values.now) (length range.old.upper.now) (length range.old.lower.now) (length s.now)))
+        ≡ where_fits (passes (forecast_row t.transform_method t.input_length (length previous.now)
+        (length range.old.values.now) (length range.old.upper.now) (length range.old.lower.now) (length s.now)))
         (inverted_forecast (transformer_view t s.now) previous.now (held range.old)) (held range.old) }
     ensures loans { AreSameLoans range.old range.new }
 {

@@ -1,10 +1,10 @@
 // A new preprocessor from its settings (the source's Preprocessor::new).
-// Kept: (d) the six lent lists are parameters: a struct would need a type for each mix of shared and mutable lists that the calls lend, and with mutable ones a clause on their loans in each contract.
+// Kept: (d) lists that a call writes are parameters of their own: a struct would need a type for each mix of shared and mutable ones, and a clause on its loans in each contract.
 ghost use Rattle.std.specs.Prelude.{◌≡◌, ◌≤◌, length};
 ghost use Rattle.trcf.specs.View.{lent, settings_from, head_from, no_head, head_outcome, build_of};
 
 use refusal::Refusal;
-use trcf::head::{Preprocessor, PreprocessorBuilder, get_dimension};
+use trcf::head::{LentLists, Preprocessor, PreprocessorBuilder, get_dimension, statistics_length};
 use trcf::transformer::{WeightedTransformer, padded};
 use trcf_rows::rows::{held_row, settings_row};
 
@@ -33,6 +33,7 @@ fn head_from(b: PreprocessorBuilder, weights: &[f32], codes: &[u16]) -> Preproce
     }
 }
 
+#[tactic(auto, using(trcf::proofs::LengthLaws::statistics_known))]
 pub fn build(
     builder: PreprocessorBuilder,
     weights: &[f32],
@@ -45,23 +46,24 @@ pub fn build(
     initial_timestamps: &[u64],
 ) -> Result<Preprocessor, Refusal>
     ensures { head_outcome result no_head (lent statistics.new last_shingled_input.new last_shingled_point.new previous_timestamps.new initial_values.now initial_timestamps.now)
-        ≡ build_of (settings_from builder weights.now codes.now) (lent statistics.old last_shingled_input.old last_shingled_point.old previous_timestamps.old initial_values.now initial_timestamps.now) }
+        ≡ build_of (settings_from builder weights.now codes.now)
+        (lent statistics.old last_shingled_input.old last_shingled_point.old previous_timestamps.old initial_values.now initial_timestamps.now) }
 {
     settings_row(builder, weights, codes)?;
     let head = head_from(builder, weights, codes);
-    held_row(
-        head,
+    let lists = LentLists {
         statistics,
         last_shingled_input,
         last_shingled_point,
         previous_timestamps,
         initial_values,
         initial_timestamps,
-    )?;
+    };
+    held_row(head, lists)?;
     let d = builder.input_dimensions;
     let k = builder.shingle_size;
     let n = get_dimension(head);
-    statistics[..3 * (5 * d + 5)].fill(0.0);
+    statistics[..statistics_length(d)].fill(0.0);
     last_shingled_input[..d * k].fill(0.0);
     last_shingled_point[..n].fill(0.0);
     previous_timestamps[..k].fill(0);

@@ -1,15 +1,14 @@
 // The calls that change nothing: what a reading would be transformed to, what the statistics say, and what the head holds.
-// Kept: (d) the six lent lists are parameters: a struct would need a type for each mix of shared and mutable lists that the calls lend, and with mutable ones a clause on their loans in each contract.
 ghost use Rattle.std.specs.Prelude.{◌≡◌, List, Float, Ok};
 ghost use Rattle.refusal.specs.Refusal.{row_of};
 ghost use Rattle.trcf.specs.Types.{method_number, mode_letter};
 ghost use Rattle.trcf.specs.Calls.{transform, scale, shift, status};
 ghost use Rattle.trcf.specs.Preprocessor.{reading, transform_of, scale_of, shift_of, deviations};
-ghost use Rattle.trcf.specs.View.{lent, written, write_of, getters_of, status_given, status_after};
+ghost use Rattle.trcf.specs.View.{lent_by, written, write_of, getters_of, status_given, status_after};
 ghost use Rattle.trcf.specs.Steps.Told.{told_by};
 
 use refusal::Refusal;
-use trcf::head::{Preprocessor, Status, get_dimension, head_row};
+use trcf::head::{LentLists, Preprocessor, Status, get_dimension, head_row, statistics_length};
 use trcf::output::{write_deviations, write_scale, write_shift, write_transform};
 use trcf::time::time_base;
 use trcf::types::{ForestMode, TransformMethod};
@@ -17,37 +16,21 @@ use trcf_rows::rows::{is_misfit, transform_row, write_row};
 
 pub fn transform(
     head: Preprocessor,
-    statistics: &[f64],
-    last_shingled_input: &[f32],
-    last_shingled_point: &[f32],
-    previous_timestamps: &[u64],
-    initial_values: &[f32],
-    initial_timestamps: &[u64],
+    lists: LentLists,
     input: &[f32],
     timestamp: u64,
     output: &mut [f32],
 ) -> Result<(), Refusal>
-    ensures { written (row_of result) output.new ≡ write_of head (lent statistics.now last_shingled_input.now last_shingled_point.now previous_timestamps.now initial_values.now initial_timestamps.now) (transform input.now timestamp output.old) (transform_of (reading input.now timestamp)) output.old }
+    ensures { written (row_of result) output.new ≡ write_of head (lent_by lists.entry) (transform input.now timestamp output.old) (transform_of (reading input.now timestamp)) output.old }
 {
-    transform_row(
-        head,
-        statistics,
-        last_shingled_input,
-        last_shingled_point,
-        previous_timestamps,
-        initial_values,
-        initial_timestamps,
-        input,
-        timestamp,
-        output,
-    )?;
+    transform_row(head, lists, input, timestamp, output)?;
     let d = head.transformer.input_length;
     let k = head.shingle_size;
-    let base = time_base(head, previous_timestamps, initial_timestamps);
+    let base = time_base(head, lists.previous_timestamps, lists.initial_timestamps);
     write_transform(
         head,
-        &statistics[..3 * (5 * d + 5)],
-        &last_shingled_input[..d * k],
+        &lists.statistics[..statistics_length(d)],
+        &lists.last_shingled_input[..d * k],
         base,
         input,
         timestamp,
@@ -56,61 +39,25 @@ pub fn transform(
     Ok(())
 }
 
-pub fn scale(
-    head: Preprocessor,
-    statistics: &[f64],
-    last_shingled_input: &[f32],
-    last_shingled_point: &[f32],
-    previous_timestamps: &[u64],
-    initial_values: &[f32],
-    initial_timestamps: &[u64],
-    output: &mut [f32],
-) -> Result<(), Refusal>
-    ensures { written (row_of result) output.new ≡ write_of head (lent statistics.now last_shingled_input.now last_shingled_point.now previous_timestamps.now initial_values.now initial_timestamps.now) (scale output.old) scale_of output.old }
+pub fn scale(head: Preprocessor, lists: LentLists, output: &mut [f32]) -> Result<(), Refusal>
+    ensures { written (row_of result) output.new ≡ write_of head (lent_by lists.entry) (scale output.old) scale_of output.old }
 {
-    write_row(
-        head,
-        statistics,
-        last_shingled_input,
-        last_shingled_point,
-        previous_timestamps,
-        initial_values,
-        initial_timestamps,
-        output,
-    )?;
+    write_row(head, lists, output)?;
     let d = head.transformer.input_length;
-    write_scale(head, &statistics[..3 * (5 * d + 5)], output);
+    write_scale(head, &lists.statistics[..statistics_length(d)], output);
     Ok(())
 }
 
-pub fn shift(
-    head: Preprocessor,
-    statistics: &[f64],
-    last_shingled_input: &[f32],
-    last_shingled_point: &[f32],
-    previous_timestamps: &[u64],
-    initial_values: &[f32],
-    initial_timestamps: &[u64],
-    output: &mut [f32],
-) -> Result<(), Refusal>
-    ensures { written (row_of result) output.new ≡ write_of head (lent statistics.now last_shingled_input.now last_shingled_point.now previous_timestamps.now initial_values.now initial_timestamps.now) (shift output.old) shift_of output.old }
+pub fn shift(head: Preprocessor, lists: LentLists, output: &mut [f32]) -> Result<(), Refusal>
+    ensures { written (row_of result) output.new ≡ write_of head (lent_by lists.entry) (shift output.old) shift_of output.old }
 {
-    write_row(
-        head,
-        statistics,
-        last_shingled_input,
-        last_shingled_point,
-        previous_timestamps,
-        initial_values,
-        initial_timestamps,
-        output,
-    )?;
+    write_row(head, lists, output)?;
     let d = head.transformer.input_length;
     let k = head.shingle_size;
     write_shift(
         head,
-        &statistics[..3 * (5 * d + 5)],
-        &previous_timestamps[..k],
+        &lists.statistics[..statistics_length(d)],
+        &lists.previous_timestamps[..k],
         output,
     );
     Ok(())
@@ -118,28 +65,14 @@ pub fn shift(
 
 pub fn difference_deviations(
     head: Preprocessor,
-    statistics: &[f64],
-    last_shingled_input: &[f32],
-    last_shingled_point: &[f32],
-    previous_timestamps: &[u64],
-    initial_values: &[f32],
-    initial_timestamps: &[u64],
+    lists: LentLists,
     output: &mut [f32],
 ) -> Result<(), Refusal>
-    ensures { written (row_of result) output.new ≡ write_of head (lent statistics.now last_shingled_input.now last_shingled_point.now previous_timestamps.now initial_values.now initial_timestamps.now) (status output.old) deviations output.old }
+    ensures { written (row_of result) output.new ≡ write_of head (lent_by lists.entry) (status output.old) deviations output.old }
 {
-    write_row(
-        head,
-        statistics,
-        last_shingled_input,
-        last_shingled_point,
-        previous_timestamps,
-        initial_values,
-        initial_timestamps,
-        output,
-    )?;
+    write_row(head, lists, output)?;
     let d = head.transformer.input_length;
-    write_deviations(head, &statistics[..3 * (5 * d + 5)], output);
+    write_deviations(head, &lists.statistics[..statistics_length(d)], output);
     Ok(())
 }
 
@@ -219,28 +152,10 @@ fn told(head: Preprocessor) -> Status
 }
 
 // What the getters say, and the deviations; where it is refused, nothing but why.
-pub fn status(
-    head: Preprocessor,
-    statistics: &[f64],
-    last_shingled_input: &[f32],
-    last_shingled_point: &[f32],
-    previous_timestamps: &[u64],
-    initial_values: &[f32],
-    initial_timestamps: &[u64],
-    output: &mut [f32],
-) -> Result<Status, Refusal>
-    ensures { status_given result output.new ≡ status_after head (lent statistics.now last_shingled_input.now last_shingled_point.now previous_timestamps.now initial_values.now initial_timestamps.now) output.old }
+pub fn status(head: Preprocessor, lists: LentLists, output: &mut [f32]) -> Result<Status, Refusal>
+    ensures { status_given result output.new ≡ status_after head (lent_by lists.entry) output.old }
 {
-    let deviations = difference_deviations(
-        head,
-        statistics,
-        last_shingled_input,
-        last_shingled_point,
-        previous_timestamps,
-        initial_values,
-        initial_timestamps,
-        output,
-    );
+    let deviations = difference_deviations(head, lists, output);
     deviations?;
     Ok(told(head))
 }

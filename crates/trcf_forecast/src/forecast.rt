@@ -17,11 +17,11 @@ ghost use Rattle.trcf_forecast.specs.Steps.Lengths.{sizes_in, sizes_of};
 
 use ranges::rangevector::{Range, RangeVector};
 use refusal::Refusal;
-use trcf::head::{Preprocessor, get_dimension, head_row};
+use trcf::head::{Preprocessor, get_dimension, head_row, statistics_length};
 use trcf::shingle::copy_in;
 use trcf::time::{last_time, timedrift_of, timescale_of};
-use trcf::transformer::invert_forecast_in_place;
-use trcf::types::{TransformMethod, is_augmented, is_differencing, is_gap};
+use trcf::transformer::{invert_forecast_in_place, is_broken};
+use trcf::types::{is_augmented, is_gap};
 use trcf_rows::rows::is_misfit;
 
 // How long each list of a forecast and of its outputs is.
@@ -36,21 +36,6 @@ struct Lengths {
     times_out: usize,
     times_upper_out: usize,
     times_lower_out: usize,
-}
-
-// Whether the values make no blocks of d to cascade.
-#[tactic(auto, unfolding(ranges::specs::RangeVector::unblocked))]
-fn is_unblocked(d: usize, n: usize) -> bool
-    ensures { result ≡ unblocked d n }
-{
-    d == 0 || n == 0 || n % d != 0
-}
-
-// Whether blocks are to be cascaded and cannot be.
-fn is_broken(m: TransformMethod, d: usize, n: usize) -> bool
-    ensures { result ≡ (differences m && unblocked d n) }
-{
-    is_differencing(m) && is_unblocked(d, n)
 }
 
 // Row 16.
@@ -118,7 +103,7 @@ fn output_row(head: Preprocessor, lengths: Lengths) -> Result<(), Refusal>
 }
 
 // Row 20 of what the call reads of the preprocessor.
-#[tactic(auto, unfolding(trcf::specs::Extrapolation::read_short))]
+#[tactic(auto, unfolding(trcf::specs::Extrapolation::read_short), using(trcf::proofs::LengthLaws::statistics_known))]
 fn unread_row(
     head: Preprocessor,
     statistics: usize,
@@ -131,7 +116,7 @@ fn unread_row(
 {
     let d = head.transformer.input_length;
     let k = head.shingle_size;
-    if statistics < 3 * (5 * d + 5) || inputs < d * k || times < k {
+    if statistics < statistics_length(d) || inputs < d * k || times < k {
         return Err(Refusal::TooShort);
     }
     Ok(())
@@ -378,7 +363,9 @@ fn invert_augmented(
     times_upper_out: &mut [f64],
     times_lower_out: &mut [f64],
 )
-    requires invertible { Invertible (settings_of head) (length s.now) (length inputs.now) (length times.now) (sizes (length range.now.values.now) (length range.now.upper.now) (length range.now.lower.now) (length values_out.old) (length upper_out.old) (length lower_out.old) (length times_out.old) (length times_upper_out.old) (length times_lower_out.old)) }
+    requires invertible { Invertible (settings_of head) (length s.now) (length inputs.now) (length times.now)
+        (sizes (length range.now.values.now) (length range.now.upper.now) (length range.now.lower.now) (length values_out.old) (length upper_out.old) (length lower_out.old)
+        (length times_out.old) (length times_upper_out.old) (length times_lower_out.old)) }
     requires inputs_len { length inputs.now ≡ head.transformer.input_length * head.shingle_size }
     requires forest_mode_value { augments head.forest_mode ≡ true }
     ensures lower_out_after { ranges values_out.new upper_out.new lower_out.new
@@ -429,7 +416,7 @@ fn invert_accepted(
 {
     let d = head.transformer.input_length;
     let k = head.shingle_size;
-    let m = 3 * (5 * d + 5);
+    let m = statistics_length(d);
     let n = d * k;
     if is_augmented(head.forest_mode) {
         invert_augmented(

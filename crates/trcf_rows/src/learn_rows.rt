@@ -156,7 +156,8 @@ fn learning_row(
     expected_out: usize,
 ) -> Result<(), Refusal>
     requires { Bounded (settings_of head) }
-    ensures { row_of result ≡ learning_row head (length (list_in y.entry)) (is_some y.entry) (length (list_in expected.entry)) (is_some expected.entry) grade back deviations_out past_out expected_out }
+    ensures { row_of result
+        ≡ learning_row head (length (list_in y.entry)) (is_some y.entry) (length (list_in expected.entry)) (is_some expected.entry) grade back deviations_out past_out expected_out }
 {
     if is_waiting(head) {
         return waiting_row(head, deviations_out);
@@ -187,7 +188,8 @@ pub fn post_process_row(
     expected_out: &[f32],
 ) -> Result<(), Refusal>
     ensures value { row_of result
-        ≡ call_row head (lent_by lists.entry) (post_process (learn_call input.now timestamp (is_some y.entry) (list_in y.entry) (is_some expected.entry) (list_in expected.entry) grade relative_index deviations_out.now past_out.now expected_out.now)) }
+        ≡ call_row head (lent_by lists.entry) (post_process (learn_call input.now timestamp (is_some y.entry) (list_in y.entry)
+        (is_some expected.entry) (list_in expected.entry) grade relative_index deviations_out.now past_out.now expected_out.now)) }
     ensures ready { OnOk result (Ready head (lent_by lists.entry)) }
 {
     head_row(head)?;

@@ -6,7 +6,8 @@ ghost use Rattle.trcf.specs.Lists.{null};
 ghost use Rattle.trcf.specs.Types.{is_gap};
 ghost use Rattle.trcf.specs.Settings.{imputes, waiting, settings_row, block};
 ghost use Rattle.trcf.specs.Calls.{seen_limit, finite, scale, transform, drain, shingled_point};
-ghost use Rattle.trcf.specs.View.{settings_of, settings_from, left_over, counters_unfit, outside_row, head_row, or_else, lengths_short, lent_row, row_of as call_row, lent_by, Bounded, Accepted, Ready};
+ghost use Rattle.trcf.specs.View.{settings_of, settings_from, left_over, counters_unfit, outside_row, head_row, or_else, lengths_short, lent_row, row_of as call_row, lent_by};
+ghost use Rattle.trcf.specs.View.{Bounded, Accepted, Ready};
 ghost use Rattle.trcf.specs.Steps.Rows.{lengths_row, any_of, spent, overdue, past_row};
 
 use common::deviation::{COUNT_LIMIT, outside_unit};
@@ -133,6 +134,7 @@ fn is_left(head: Preprocessor) -> bool
 }
 
 // Whether the head's counters are such as no preprocessor has.
+#[inline(always)]
 #[tactic(auto, unfolding(trcf::specs::View::counters_unfit))]
 pub fn is_misfit(head: Preprocessor) -> bool
     ensures { result ≡ counters_unfit head }
@@ -161,6 +163,7 @@ pub fn outside_row(head: Preprocessor) -> Result<(), Refusal>
 }
 
 // Whether a lent list is too short.
+#[inline(always)]
 #[tactic(auto, using(trcf::proofs::LengthLaws::dimension_known, trcf::proofs::LengthLaws::statistics_known))]
 fn is_short(head: Preprocessor, lengths: LentLengths) -> bool
     requires { Bounded (settings_of head) }
@@ -179,7 +182,9 @@ fn is_short(head: Preprocessor, lengths: LentLengths) -> bool
         || lengths.initial_timestamps < waiting
 }
 
-// Refused where the head and what is lent do not go together.
+// Refused where the head and what is lent do not go together. Inlined by order, with the two that it calls: LLVM leaves it out of line by a hair, and a call of it
+// costs each entry some 90 instructions.
+#[inline(always)]
 #[tactic(auto, unfolding(trcf::specs::Steps::Rows::lengths_row))]
 pub(crate) fn lent_row(head: Preprocessor, lengths: LentLengths) -> Result<(), Refusal>
     requires { Bounded (settings_of head) }

@@ -2,10 +2,11 @@
 use native.Mathlib.Omega.{arith}
 use mathlib.Core.Path.{◌≡◌, sym, ap, ◌∙◌}
 use Prim.Native.Nat.{ℕ}
+use lib.Seq.{length-take-le}
 use Rattle.trcf.specs.Settings.{dimension}
 use Rattle.trcf.specs.View.{settings_from, settings_of, lent, lent_row, no_head, outcome, Bounded}
 use Rattle.trcf.specs.declared.head.Preprocessor.{Preprocessor}
-use Rattle.trcf.proofs.LengthLaws.{dimension_known, held_known}
+use Rattle.trcf.proofs.LengthLaws.{dimension_known, held_known, statistics_known}
 use Rattle.trcf.proofs.NumberLaws.{head_err, number_zero}
 use Rattle.trcf.proofs.OutcomeLaws.{build_refused, build_short, build_done, bounded_from, dimension_from}
 use Rattle.trcf_calls.proofs.build.build.Goals as goal
@@ -33,6 +34,14 @@ returns-in_err-held_row c =
     head_err _ no_head l _ c.from_residual-in_err-held_row.ensures.1 ∙ ap (λ (n : ℕ). outcome n no_head l) f
     ∙ build_short s l (sym c.in_ok-settings_row.ensures.value) (λ z. number_zero _ (f ∙ z))
 
+pub slice_bounds-fill-end-2 : goal.slice_bounds-fill-end-2
+slice_bounds-fill-end-2 c =
+    let a = c.args in
+    let s = settings_from a.builder a.weights.now a.codes.now in
+    let e = statistics_known c.statistics_length.ensures (bounded_from s c.in_ok-settings_row.ensures.accepted.bounded).d_few in
+    let r = (rw c.head_from-head.ensures at c.in_ok-held_row.ensures.ready.fitted).roomy in
+    sym (length-take-le c.statistics_length.result a.statistics.now (rw e r.in_statistics))
+
 pub returns : goal.returns
 returns c =
     let a = c.args in
@@ -43,5 +52,6 @@ returns c =
     let f = held_known c.in_ok-held_row.ensures.value b ∙ ap (λ (h : Preprocessor). lent_row h l) h in
     let r = (rw h at c.in_ok-held_row.ensures.ready.fitted).roomy in
     let n : c.get_dimension-n.result ≡ dimension s = (rw h at (dimension_known c.get_dimension-n.ensures b).0) ∙ dimension_from s in
-    rw (c.fill.ensures.after (λ y e. e), c.fill-2.ensures.after (λ y e. e), c.fill-3.ensures.after (λ y e. e), c.fill-4.ensures.after (λ y e. e), n, h)
+    let e = statistics_known c.statistics_length.ensures (bounded_from s c.in_ok-settings_row.ensures.accepted.bounded).d_few in
+    rw (c.fill.ensures.after (λ y e. e), c.fill-2.ensures.after (λ y e. e), c.fill-3.ensures.after (λ y e. e), c.fill-4.ensures.after (λ y e. e), n, e, h)
     (build_done s l (sym c.in_ok-settings_row.ensures.value) (sym f) r.in_statistics r.in_input (rw (← dimension_from s) r.in_point) r.in_times)

@@ -5,7 +5,8 @@ use Rattle.trcf.specs.Settings.{block}
 use Rattle.trcf.specs.Steps.Rows.{learn_row}
 use Rattle.trcf.proofs.LengthLaws.{block_known, dimension_known}
 use Rattle.trcf_rows.proofs.learn_rows.learn_row.Goals as goal
-use Rattle.trcf_rows.proofs.learn_rows.learn_row.Goals.{then-deviations_out-block_of-via-then-deviations_out-block_of, then-deviations_out-block_of-via-else-deviations_out-block_of+then-is_anomaly_short}
+use Rattle.trcf_rows.proofs.learn_rows.learn_row.Goals.{then-deviations_out-block_of-via-then-deviations_out-block_of}
+use Rattle.trcf_rows.proofs.learn_rows.learn_row.Goals.{then-deviations_out-block_of-via-else-deviations_out-block_of+then-is_anomaly_short}
 
 pub returns-then-deviations_out-block_of : goal.returns-then-deviations_out-block_of
 unfolding learn_row block
