@@ -1,5 +1,5 @@
 -- Laws of the table's test, and of an entry behind it. Assumes nothing.
-use Prim.Native.Nat.{ℕ, ◌+◌, ◌≤◌, ◌<◌}
+use Prim.Native.Nat.{ℕ, ◌+◌, ◌<◌}
 use Rattle.std.proofs.lemmas.Bool.Decides.{nat_tests}
 use mathlib.Core.Path.{◌≡◌, refl, sym, ap, ◌∙◌}
 use mathlib.Core.Bool.{Bool, true, false, cond, ◌&&◌}
@@ -9,10 +9,8 @@ use native.Mathlib.Omega.{arith}
 use lib.Dec.{ltb, eqb}
 use lib.ListN.{length, get_or, drop}
 use lib.Seq.{drop-cons}
-use borrow.Author.Tests.{eqb-true, ltb-true}
 use Rattle.std.proofs.Common.{Less, Equal, Greater}
 use Rattle.std.specs.Ordering.{nat_cmp, ord_max, is_lt}
-use Rattle.snapshot.proofs.Lists.{and_left, and_right}
 use Rattle.trcf.specs.Preprocessor.{panel_of}
 use Rattle.trcf.specs.Types.{method_number, method_of_number, mode_letter, mode_of_letter}
 use Rattle.trcf.specs.View.{alone, ready_of, dimension_of}
@@ -62,17 +60,9 @@ largest_step l i h largest inv =
     ∙ ap (λ (b : Bool). b && bits (drop (i + 1) l)) (sym (ltb_larger largest (get_or l i 0)))
     ∙ ap (λ (n : ℕ). ltb n 2 && bits (drop (i + 1) l)) (sym (larger_is largest (get_or l i 0)))
 
--- ---- whether the table is one, and the role one of its four
+-- ---- whether a right is granted
 
 module _ (t : List ℕ) (role : ℕ) where
-  pub stands_size : table_fits t role ≡ true → length t ≡ 16
-  stands_size e = eqb-true (length t) 16 (and_left (eqb (length t) 16) (ltb role 4 && bits t) e)
-
-  pub stands_role : table_fits t role ≡ true → role < 4
-  stands_role e = ltb-true role 4 (and_left (ltb role 4) (bits t) (and_right (eqb (length t) 16) (ltb role 4 && bits t) e))
-
-  -- ---- whether a right is granted
-
   pub no_table : (rs : List Right) → table_fits t role ≡ false → false ≡ granted t role rs
   unfolding granted
   no_table rs e = ap (λ (b : Bool). b && has t role rs) (sym e)

@@ -1,5 +1,5 @@
 // The calls that may change the trace, for a role that has their rights.
-// Kept: (d) the six lent lists are parameters: a struct would need a type for each mix of shared and mutable lists that the calls lend, and with mutable ones a clause on their loans in each contract.
+// Kept: (d) lists that a call writes are parameters of their own: a struct would need a type for each mix of shared and mutable ones, and a clause on its loans in each contract.
 ghost use Rattle.std.specs.Prelude.{◌≡◌, is_some};
 ghost use Rattle.trcf.specs.View.{lent, head_outcome, point_outcome, learn_call, processed_outcome};
 ghost use Rattle.trcf_learn.specs.Given.{list_in};
@@ -25,7 +25,8 @@ pub fn shingled_point(
     output: &mut [f32],
 ) -> Result<Pointed, Refusal>
     ensures { point_outcome result head (lent statistics.new last_shingled_input.new last_shingled_point.new previous_timestamps.new initial_values.now initial_timestamps.now) output.new
-        ≡ point_by table.now role head (lent statistics.old last_shingled_input.old last_shingled_point.old previous_timestamps.old initial_values.now initial_timestamps.now) input.now timestamp output.old }
+        ≡ point_by table.now role head (lent statistics.old last_shingled_input.old last_shingled_point.old previous_timestamps.old initial_values.now initial_timestamps.now)
+        input.now timestamp output.old }
 {
     // Withheld, it tells of no point.
     demand_point(table, role)?;
@@ -63,8 +64,10 @@ pub fn post_process(
     past_out: &mut [f32],
     expected_out: &mut [f32],
 ) -> Result<PostProcessed, Refusal>
-    ensures { processed_outcome result head (lent statistics.new last_shingled_input.new last_shingled_point.new previous_timestamps.new initial_values.new initial_timestamps.new) deviations_out.new past_out.new expected_out.new
-        ≡ learn_by table.now role head (lent statistics.old last_shingled_input.old last_shingled_point.old previous_timestamps.old initial_values.old initial_timestamps.old) (learn_call input.now timestamp (is_some y.entry) (list_in y.entry) (is_some expected.entry) (list_in expected.entry) grade relative_index deviations_out.old past_out.old expected_out.old) }
+    ensures { processed_outcome result head (lent statistics.new last_shingled_input.new last_shingled_point.new previous_timestamps.new initial_values.new initial_timestamps.new)
+        deviations_out.new past_out.new expected_out.new
+        ≡ learn_by table.now role head (lent statistics.old last_shingled_input.old last_shingled_point.old previous_timestamps.old initial_values.old initial_timestamps.old)
+        (learn_call input.now timestamp (is_some y.entry) (list_in y.entry) (is_some expected.entry) (list_in expected.entry) grade relative_index deviations_out.old past_out.old expected_out.old) }
 {
     // Withheld, it tells of no anomaly.
     demand(table, role, Right::LEARN)?;

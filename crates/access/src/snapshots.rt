@@ -1,7 +1,7 @@
 // `save` and `restore`, each for a role that has its right.
-// Kept: (d) the six lent lists are parameters: a struct would need a type for each mix of shared and mutable lists that the calls lend, and with mutable ones a clause on their loans in each contract.
+// Kept: (d) lists that a call writes are parameters of their own: a struct would need a type for each mix of shared and mutable ones, and a clause on its loans in each contract.
 ghost use Rattle.std.specs.Prelude.{◌≡◌};
-ghost use Rattle.trcf.specs.View.{lent};
+ghost use Rattle.trcf.specs.View.{lent, lent_by};
 ghost use Rattle.snapshot.specs.Save.{saved_told};
 ghost use Rattle.snapshot_restore.specs.Told.{restore_told};
 ghost use Rattle.access.specs.Entries.{save_by, restore_by};
@@ -9,34 +9,20 @@ ghost use Rattle.access.specs.Entries.{save_by, restore_by};
 use crate::rights::{Right, demand};
 use refusal::Refusal;
 use snapshot_restore::restore::RestoreError;
-use trcf::head::Preprocessor;
+use trcf::head::{LentLists, Preprocessor};
 
 pub fn save(
     table: &[u8],
     role: u64,
     head: Preprocessor,
-    statistics: &[f64],
-    last_shingled_input: &[f32],
-    last_shingled_point: &[f32],
-    previous_timestamps: &[u64],
-    initial_values: &[f32],
-    initial_timestamps: &[u64],
+    lists: LentLists,
     out: &mut [u8],
 ) -> Result<usize, Refusal>
-    ensures { saved_told result out.new ≡ save_by table.now role head (lent statistics.now last_shingled_input.now last_shingled_point.now previous_timestamps.now initial_values.now initial_timestamps.now) out.old }
+    ensures { saved_told result out.new ≡ save_by table.now role head (lent_by lists.entry) out.old }
 {
     // Withheld, it tells of no text.
     demand(table, role, Right::SAVE)?;
-    snapshot_save::save::save(
-        head,
-        statistics,
-        last_shingled_input,
-        last_shingled_point,
-        previous_timestamps,
-        initial_values,
-        initial_timestamps,
-        out,
-    )
+    snapshot_save::save::save(head, lists, out)
 }
 
 // Withheld, it does not look at the text.

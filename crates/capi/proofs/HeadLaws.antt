@@ -1,11 +1,11 @@
--- The head in words: what is written is read back, the row of words, and the settings' row. Assumes nothing.
-use Prim.Native.Nat.{ℕ, zero, suc, ◌+◌, ◌≤◌, ◌<◌}
+-- The head in words: what is written is read back, and the row of words. Assumes nothing.
+use Prim.Native.Nat.{ℕ, ◌+◌, ◌≤◌, ◌<◌}
 use mathlib.Core.Bool.{Bool, true, false, cond, ◌||◌}
 use mathlib.Core.List.{List, [], ◌∷◌, ◌++◌, map, append_assoc}
 use mathlib.Core.Path.{◌≡◌, refl, sym, ap, ◌∙◌}
 use native.Mathlib.Omega.{arith}
 use lib.Dec.{ltb}
-use lib.ListN.{length, take, drop, get_or, set, length-drop, length-append, length-map, drop_of_length-le}
+use lib.ListN.{length, take, drop, get_or, set, length-drop, length-append, length-map}
 use lib.Seq.{length-take-le, take_at, drop_at, drop-drop}
 use lib.Ieee.{Float, binary32, binary64, of_bits, to_bits}
 use lib.Ieee.Bits.{of_bits-to_bits}
@@ -13,7 +13,6 @@ use borrow.Author.Tests.{lt-ltb, le-ltb, ltb-false}
 use borrow.Rule.Slice.PartMut.{put_mid}
 use Rattle.refusal.specs.Lent.{over}
 use Rattle.trcf.specs.Types.{method_number}
-use Rattle.trcf.specs.Settings.{code_max}
 use Rattle.snapshot.specs.Read.{all_codes}
 use Rattle.snapshot.proofs.ReadKinds.{to_codes}
 use Rattle.trcf.specs.View.{outside_row, or_else, counting}
@@ -23,8 +22,8 @@ use Rattle.trcf.specs.declared.types.ForestMode.{ForestMode}
 use Rattle.trcf.specs.declared.types.ForestMode.TheVariants.{STANDARD, TIME_AUGMENTED, STREAMING_IMPUTE, GAP_AUGMENTED}
 use Rattle.trcf.specs.declared.head.Preprocessor.{Preprocessor}
 use Rattle.trcf.proofs.OutcomeLaws.{or_else_is}
-use Rattle.capi.specs.Head.{mode_number, mode_of, method_of, kind_row, codes_row, single, codes_in, head_of, head_numbers, front_of, words_of, counts_over, words_short_row as fewRow, form_row, words_row}
-use Rattle.capi.specs.Head.{HeadFits}
+use Rattle.capi.specs.Head.{mode_number, mode_of, method_of, kind_row, codes_row, single, codes_in, head_of, head_numbers, front_of, words_of}
+use Rattle.capi.specs.Head.{counts_over, words_short_row as fewRow, form_row, words_row, HeadFits}
 use Rattle.capi.specs.Steps.Reading.{HeadRead}
 use Rattle.capi.proofs.WordLaws.{mode_back, method_back, single_back, singles_back}
 
@@ -151,8 +150,6 @@ pub read_codes : {w : List ℕ} {h : Preprocessor} → HeadRead w h → length h
 unfolding head_of
 read_codes {w} {h} r = ap (λ (x : Preprocessor). length x.codes) r.is ∙ length-take-le 16 (drop 28 w) (omega (arith, length-drop 28 w, r.whole))
 
--- ---- the settings' row
-
 -- ---- writing
 
 -- twelve words stored one by one
@@ -186,10 +183,6 @@ numbers_stored w h {a} {b} {g} {i} n p q r s =
     ∙ (λ j. p j ∷ q j ∷ h.transformer.input_length ∷ h.shingle_size ∷ h.start_normalization ∷ h.stop_normalization ∷ r j ∷ s j ∷ h.values_seen ∷ h.internal_timestamp ∷
     h.transformer.count ∷ h.initial_len ∷ drop 12 w)
 
-pub numbers_length : (w w' : List ℕ) (h : Preprocessor) → w' ≡ over w (head_numbers h) → 44 ≤ length w → length w' ≡ length w
-unfolding over head_numbers
-numbers_length w w' h e n = ap length e ∙ omega (arith, length-drop 12 w)
-
 -- a list laid over the front, and one after it: the one and then the other
 behind : (w p v : List ℕ) (a n : ℕ) → length p ≡ a → length v ≡ n → put_mid a n (over w p) v ≡ over w (p ++ v)
 unfolding over
@@ -217,10 +210,6 @@ unfolding front_of
 front_length h e =
     let v = map (to_bits binary32) h.transformer.weights in
     omega (arith, length-append (head_numbers h) v, twelve_numbers h, length-map h.transformer.weights (to_bits binary32), e)
-
-pub front_kept : (w w' : List ℕ) (h : Preprocessor) → length h.transformer.weights ≡ 16 → w' ≡ over w (front_of h) → 44 ≤ length w → length w' ≡ length w
-unfolding over
-front_kept w w' h e p n = ap length p ∙ omega (arith, length-append (front_of h) (drop (length (front_of h)) w), length-drop (length (front_of h)) w, front_length h e)
 
 -- and the codes after the front
 pub codes_stored : (w w' : List ℕ) (h : Preprocessor) (v : List ℕ) → length h.transformer.weights ≡ 16 → w' ≡ over w (front_of h) → v ≡ h.codes → length v ≡ 16

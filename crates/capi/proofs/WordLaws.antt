@@ -2,7 +2,7 @@
 use Prim.Native.Nat.{ℕ, zero, suc, ◌+◌, ◌≤◌, ◌<◌}
 use mathlib.Core.Bool.{Bool, true, false, cond, ◌&&◌}
 use mathlib.Core.List.{List, [], ◌∷◌, ◌++◌, map, append-nil}
-use mathlib.Core.Path.{◌≡◌, refl, sym, ap, ◌∙◌, subst}
+use mathlib.Core.Path.{◌≡◌, refl, sym, ap, ◌∙◌}
 use native.Mathlib.Omega.{arith}
 use Rattle.std.proofs.Common.{Less, Equal, Greater}
 use Rattle.std.proofs.lemmas.Bool.Decides.{nat_tests}
@@ -12,8 +12,8 @@ use native.Mathlib.Nat.{mod-eq_of_lt}
 use lib.Dec.{T, ltb, leb, eqb}
 use lib.ListN.{length, take, drop, get_or, set, drop_of_length-le}
 use lib.Seq.{drop-cons, take-suc-set, take_all}
-use lib.Ieee.{Float, nan, inf, fin, Format, binary32, fits, div, is_nan, nan_bits, of_bits, to_bits}
-use lib.Ieee.Bits.{nan_bits_is, of_bits-to_bits, to_bits-lt}
+use lib.Ieee.{Float, binary32, fits, of_bits, to_bits}
+use lib.Ieee.Bits.{of_bits-to_bits, to_bits-lt}
 use Rattle.refusal.specs.Lent.{over}
 use Rattle.trcf.specs.Fit.{Fits}
 use Rattle.trcf.specs.Settings.{code_max}

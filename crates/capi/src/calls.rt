@@ -1,5 +1,5 @@
 // The calls that make and change a preprocessor.
-// Kept: (d) the six lent lists are parameters: a struct would need a type for each mix of shared and mutable lists that the calls lend, and with mutable ones a clause on their loans in each contract.
+// Kept: (a) the C interface hands each list as a pointer and a length.
 ghost use Rattle.std.specs.Prelude.{◌≡◌};
 ghost use Rattle.trcf.specs.View.{lent, learn_call};
 ghost use Rattle.capi.specs.Head.{settings_given};
@@ -37,7 +37,9 @@ pub extern "C" fn veerycouch_build(
     initial_timestamps: &[u64],
 ) -> u64
     ensures { called result head.new (lent statistics.new last_shingled_input.new last_shingled_point.new previous_timestamps.new initial_values.now initial_timestamps.now)
-        ≡ build_at forest_mode transform_method (settings_given forest_mode transform_method input_dimensions shingle_size start_normalization stop_normalization transform_decay weight_time weights.now codes.now) head.old (lent statistics.old last_shingled_input.old last_shingled_point.old previous_timestamps.old initial_values.now initial_timestamps.now) }
+        ≡ build_at forest_mode transform_method
+        (settings_given forest_mode transform_method input_dimensions shingle_size start_normalization stop_normalization transform_decay weight_time weights.now codes.now)
+        head.old (lent statistics.old last_shingled_input.old last_shingled_point.old previous_timestamps.old initial_values.now initial_timestamps.now) }
 {
     if let Err(refusal) = kind_row(forest_mode, transform_method) {
         return u64::from(refusal);
@@ -136,7 +138,8 @@ pub extern "C" fn veerycouch_shingled_point(
     output: &mut [f32],
 ) -> u64
     ensures { point_called result head.new (lent statistics.new last_shingled_input.new last_shingled_point.new previous_timestamps.new initial_values.now initial_timestamps.now) given.new output.new
-        ≡ point_at table.now role head.old (lent statistics.old last_shingled_input.old last_shingled_point.old previous_timestamps.old initial_values.now initial_timestamps.now) input.now timestamp given.old output.old }
+        ≡ point_at table.now role head.old (lent statistics.old last_shingled_input.old last_shingled_point.old previous_timestamps.old initial_values.now initial_timestamps.now)
+        input.now timestamp given.old output.old }
 {
     let before = match open_head(may_point(table, role), head) {
         Ok(before) => before,
@@ -194,8 +197,11 @@ pub extern "C" fn veerycouch_post_process(
     past_timestamp: &mut u64,
     likelihood: &mut f32,
 ) -> u64
-    ensures { learn_called result head.new (lent statistics.new last_shingled_input.new last_shingled_point.new previous_timestamps.new initial_values.new initial_timestamps.new) (anomaly_out written.new has_anomaly.new past_timestamp.new likelihood.new) deviations_out.new past_out.new expected_out.new
-        ≡ learn_at table.now role head.old (lent statistics.old last_shingled_input.old last_shingled_point.old previous_timestamps.old initial_values.old initial_timestamps.old) (anomaly_out written.old has_anomaly.old past_timestamp.old likelihood.old) (learn_call input.now timestamp (is_set has_y) y.now (is_set expects) expected.now grade relative_index deviations_out.old past_out.old expected_out.old) }
+    ensures { learn_called result head.new (lent statistics.new last_shingled_input.new last_shingled_point.new previous_timestamps.new initial_values.new initial_timestamps.new)
+        (anomaly_out written.new has_anomaly.new past_timestamp.new likelihood.new) deviations_out.new past_out.new expected_out.new
+        ≡ learn_at table.now role head.old (lent statistics.old last_shingled_input.old last_shingled_point.old previous_timestamps.old initial_values.old initial_timestamps.old)
+        (anomaly_out written.old has_anomaly.old past_timestamp.old likelihood.old)
+        (learn_call input.now timestamp (is_set has_y) y.now (is_set expects) expected.now grade relative_index deviations_out.old past_out.old expected_out.old) }
 {
     let before = match open_head(may(table, role, Right::LEARN), head) {
         Ok(before) => before,

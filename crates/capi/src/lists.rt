@@ -2,22 +2,11 @@
 ghost use Rattle.std.specs.Prelude.{◌≡◌};
 ghost use Rattle.series.specs.Imputation.{imputation};
 ghost use Rattle.series.specs.Alignment.{readings, outputs, align_outcome};
-ghost use Rattle.capi.specs.Lists.{imputation_method_of, impute_at, align_at};
+ghost use Rattle.capi.specs.Lists.{impute_at, align_at};
 
-use refusal::{Refusal, row_of};
+use refusal::row_of;
 use series::alignment::align;
 use series::imputation::{ImputationMethod, impute};
-
-fn imputation_method_of(n: u64) -> ImputationMethod
-    ensures { result ≡ imputation_method_of n }
-{
-    match n {
-        1 => ImputationMethod::PREVIOUS,
-        2 => ImputationMethod::NEXT,
-        3 => ImputationMethod::LINEAR,
-        _ => ImputationMethod::FIXED,
-    }
-}
 
 // The missing cells filled in, in their place.
 #[unsafe(no_mangle)]
@@ -30,10 +19,11 @@ pub extern "C" fn veerycouch_impute(
 ) -> u64
     ensures { imputation result cells.new ≡ impute_at method d cells.old marks.now fixed.now }
 {
-    if 3 < method {
-        return u64::from(Refusal::Form);
-    }
-    row_of(impute(imputation_method_of(method), d, cells, marks, fixed))
+    let rule = match ImputationMethod::try_from(method) {
+        Ok(rule) => rule,
+        Err(refusal) => return u64::from(refusal),
+    };
+    row_of(impute(rule, d, cells, marks, fixed))
 }
 
 // Two lists paired by their times: the pairs' positions, their number, and the largest size of difference of each channel.

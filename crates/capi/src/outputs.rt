@@ -1,5 +1,5 @@
 // The calls that write lists and change no state.
-// Kept: (d) the six lent lists are parameters: a struct would need a type for each mix of shared and mutable lists that the calls lend, and with mutable ones a clause on their loans in each contract.
+// Kept: (a) the C interface hands each list as a pointer and a length.
 ghost use Rattle.std.specs.Prelude.{◌≡◌};
 ghost use Rattle.ranges.specs.RangeVector.{ranges};
 ghost use Rattle.trcf.specs.Calls.{transform, scale, shift, status};
@@ -14,6 +14,7 @@ use access::queries::{difference_deviations, invert_extrapolation, scale, shift,
 use access::rights::{Right, may};
 use access::snapshots::save;
 use refusal::row_of;
+use trcf::head::LentLists;
 
 // A reading, transformed.
 #[unsafe(no_mangle)]
@@ -31,26 +32,23 @@ pub extern "C" fn veerycouch_transform(
     timestamp: u64,
     output: &mut [f32],
 ) -> u64
-    ensures { written result output.new ≡ write_at table.now role head.now (lent statistics.now last_shingled_input.now last_shingled_point.now previous_timestamps.now initial_values.now initial_timestamps.now) (transform input.now timestamp output.old) (transform_of (reading input.now timestamp)) output.old }
+    ensures { written result output.new
+        ≡ write_at table.now role head.now (lent statistics.now last_shingled_input.now last_shingled_point.now previous_timestamps.now initial_values.now initial_timestamps.now)
+        (transform input.now timestamp output.old) (transform_of (reading input.now timestamp)) output.old }
 {
     let before = match open_head(may(table, role, Right::SEE), head) {
         Ok(before) => before,
         Err(refusal) => return u64::from(refusal),
     };
-    row_of(transform(
-        table,
-        role,
-        before,
+    let lists = LentLists {
         statistics,
         last_shingled_input,
         last_shingled_point,
         previous_timestamps,
         initial_values,
         initial_timestamps,
-        input,
-        timestamp,
-        output,
-    ))
+    };
+    row_of(transform(table, role, before, lists, input, timestamp, output))
 }
 
 // The scale of each channel.
@@ -67,24 +65,23 @@ pub extern "C" fn veerycouch_scale(
     initial_timestamps: &[u64],
     output: &mut [f32],
 ) -> u64
-    ensures { written result output.new ≡ write_at table.now role head.now (lent statistics.now last_shingled_input.now last_shingled_point.now previous_timestamps.now initial_values.now initial_timestamps.now) (scale output.old) scale_of output.old }
+    ensures { written result output.new
+        ≡ write_at table.now role head.now (lent statistics.now last_shingled_input.now last_shingled_point.now previous_timestamps.now initial_values.now initial_timestamps.now)
+        (scale output.old) scale_of output.old }
 {
     let before = match open_head(may(table, role, Right::SEE), head) {
         Ok(before) => before,
         Err(refusal) => return u64::from(refusal),
     };
-    row_of(scale(
-        table,
-        role,
-        before,
+    let lists = LentLists {
         statistics,
         last_shingled_input,
         last_shingled_point,
         previous_timestamps,
         initial_values,
         initial_timestamps,
-        output,
-    ))
+    };
+    row_of(scale(table, role, before, lists, output))
 }
 
 // The shift of each channel.
@@ -101,24 +98,23 @@ pub extern "C" fn veerycouch_shift(
     initial_timestamps: &[u64],
     output: &mut [f32],
 ) -> u64
-    ensures { written result output.new ≡ write_at table.now role head.now (lent statistics.now last_shingled_input.now last_shingled_point.now previous_timestamps.now initial_values.now initial_timestamps.now) (shift output.old) shift_of output.old }
+    ensures { written result output.new
+        ≡ write_at table.now role head.now (lent statistics.now last_shingled_input.now last_shingled_point.now previous_timestamps.now initial_values.now initial_timestamps.now)
+        (shift output.old) shift_of output.old }
 {
     let before = match open_head(may(table, role, Right::SEE), head) {
         Ok(before) => before,
         Err(refusal) => return u64::from(refusal),
     };
-    row_of(shift(
-        table,
-        role,
-        before,
+    let lists = LentLists {
         statistics,
         last_shingled_input,
         last_shingled_point,
         previous_timestamps,
         initial_values,
         initial_timestamps,
-        output,
-    ))
+    };
+    row_of(shift(table, role, before, lists, output))
 }
 
 // The deviation of the differences of each channel.
@@ -135,24 +131,23 @@ pub extern "C" fn veerycouch_difference_deviations(
     initial_timestamps: &[u64],
     output: &mut [f32],
 ) -> u64
-    ensures { written result output.new ≡ write_at table.now role head.now (lent statistics.now last_shingled_input.now last_shingled_point.now previous_timestamps.now initial_values.now initial_timestamps.now) (status output.old) deviations output.old }
+    ensures { written result output.new
+        ≡ write_at table.now role head.now (lent statistics.now last_shingled_input.now last_shingled_point.now previous_timestamps.now initial_values.now initial_timestamps.now)
+        (status output.old) deviations output.old }
 {
     let before = match open_head(may(table, role, Right::SEE), head) {
         Ok(before) => before,
         Err(refusal) => return u64::from(refusal),
     };
-    row_of(difference_deviations(
-        table,
-        role,
-        before,
+    let lists = LentLists {
         statistics,
         last_shingled_input,
         last_shingled_point,
         previous_timestamps,
         initial_values,
         initial_timestamps,
-        output,
-    ))
+    };
+    row_of(difference_deviations(table, role, before, lists, output))
 }
 
 // A forecast of shingled points, turned back into readings and times.
@@ -216,24 +211,23 @@ pub extern "C" fn veerycouch_save(
     length: &mut u64,
     output: &mut [u8],
 ) -> u64
-    ensures { save_outcome result length.new output.new ≡ save_at table.now role head.now (lent statistics.now last_shingled_input.now last_shingled_point.now previous_timestamps.now initial_values.now initial_timestamps.now) length.old output.old }
+    ensures { save_outcome result length.new output.new
+        ≡ save_at table.now role head.now (lent statistics.now last_shingled_input.now last_shingled_point.now previous_timestamps.now initial_values.now initial_timestamps.now)
+        length.old output.old }
 {
     let before = match open_head(may(table, role, Right::SAVE), head) {
         Ok(before) => before,
         Err(refusal) => return u64::from(refusal),
     };
-    let saved = save(
-        table,
-        role,
-        before,
+    let lists = LentLists {
         statistics,
         last_shingled_input,
         last_shingled_point,
         previous_timestamps,
         initial_values,
         initial_timestamps,
-        output,
-    );
+    };
+    let saved = save(table, role, before, lists, output);
     match saved {
         Ok(n) => {
             *length = n as u64;

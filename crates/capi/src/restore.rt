@@ -1,5 +1,5 @@
 // Taking up a text over lent words.
-// Kept: (d) the six lent lists are parameters: a struct would need a type for each mix of shared and mutable lists that the calls lend, and with mutable ones a clause on their loans in each contract.
+// Kept: (a) the C interface hands each list as a pointer and a length.
 ghost use Rattle.std.specs.Prelude.{◌≡◌, cond, eqb};
 ghost use Rattle.trcf.specs.View.{lent};
 ghost use Rattle.snapshot_restore.specs.Told.{row_told, line_told};
@@ -41,7 +41,8 @@ pub extern "C" fn veerycouch_restore(
     line: &mut u64,
 ) -> u64
     ensures { restore_called result head.new (lent statistics.new last_shingled_input.new last_shingled_point.new previous_timestamps.new initial_values.new initial_timestamps.new) line.new
-        ≡ restore_at table.now role text.now codes.now head.old (lent statistics.old last_shingled_input.old last_shingled_point.old previous_timestamps.old initial_values.old initial_timestamps.old) line.old }
+        ≡ restore_at table.now role text.now codes.now head.old (lent statistics.old last_shingled_input.old last_shingled_point.old previous_timestamps.old initial_values.old initial_timestamps.old)
+        line.old }
 {
     if !may(table, role, Right::RESTORE) {
         return u64::from(Refusal::Withheld);

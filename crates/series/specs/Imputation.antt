@@ -1,8 +1,10 @@
 -- Filling in missing cells: request #104, "Channels that drop out for a second".
-use Rattle.std.specs.Prelude.{ℕ, zero, suc, ◌+◌, ◌-◌, ◌*◌, ◌/◌, ◌%◌, ◌<◌, Bool, true, false, cond, not, ◌&&◌, ◌||◌, List, [], ◌∷◌, ◌≡◌, ltb, eqb, pos, length, get_or, Float, Option, Some, None}
+use Rattle.std.specs.Prelude.{ℕ, zero, suc, ◌+◌, ◌-◌, ◌*◌, ◌/◌, ◌%◌, ◌<◌, Bool, true, false, cond, not, ◌&&◌, ◌||◌, List, [], ◌∷◌, ◌≡◌, ltb, eqb, pos, length, get_or, Float, Option, Some, None, Result, MatchResult}
 use Rattle.std.specs.Float.{nan, inf, fin, binary32}
 use Rattle.std.specs.Float.Ieee.{add, sub, mul, div, of_int}
 use Rattle.refusal.specs.Refusal.{first_of}
+use Rattle.refusal.specs.declared.Refusal.{Refusal}
+use Rattle.refusal.specs.declared.Refusal.TheVariants.{Form}
 use Rattle.series.specs.declared.imputation.ImputationMethod.{ImputationMethod}
 use Rattle.series.specs.declared.imputation.ImputationMethod.TheVariants.{FIXED, PREVIOUS, NEXT, LINEAR}
 use Rattle.series.specs.declared.imputation.Present.{Present}
@@ -10,6 +12,19 @@ use Rattle.series.specs.declared.imputation.Present.{Present}
 -- "a mark beside each cell (0 present, 1 missing)"
 abbrev pub is_present : ℕ → Bool
 is_present mark = eqb mark 0
+
+-- ---- the rules by number
+
+-- the source's order
+abbrev pub imputation_number : ImputationMethod → ℕ
+imputation_number FIXED = 0
+imputation_number PREVIOUS = 1
+imputation_number NEXT = 2
+imputation_number LINEAR = 3
+
+-- what a number names; one above 3 names none
+abbrev pub ImputationNumbered : ℕ → Result ImputationMethod Refusal → Type 0
+ImputationNumbered n r = MatchResult r (λ m. imputation_number m ≡ n) (λ e. (e ≡ Form) × (3 < n))
 
 -- ---- one channel: which readings are present, and what stands in each
 

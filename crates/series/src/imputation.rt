@@ -2,7 +2,7 @@
 ghost use Rattle.std.specs.Prelude.{◌≡◌, not, ◌&&◌, ◌||◌, ◌+◌, ◌*◌, ◌/◌, ◌≤◌, ◌<◌, length, OnOk};
 ghost use Rattle.refusal.specs.Refusal.{row_of};
 ghost use Rattle.series.specs.Imputation.{copy_of, interpolated, is_present, between_of, fill_of, cells_misshapen, known_marks, is_finite, finite_present, all_finite, imputed, impute_row, imputation};
-ghost use Rattle.series.specs.Imputation.{impute_of};
+ghost use Rattle.series.specs.Imputation.{impute_of, ImputationNumbered};
 ghost use Rattle.series.specs.Steps.ImputationSteps.{Under, Above, CellInside, CellsShaped, gap_of, passing, passed_of, channel_of};
 
 use numeric::u64_to_f32;
@@ -20,6 +20,23 @@ pub enum ImputationMethod {
     PREVIOUS,
     NEXT,
     LINEAR,
+}
+
+// The rules by number, in the source's order. A number above 3 names none.
+impl TryFrom<u64> for ImputationMethod {
+    type Error = Refusal;
+
+    ghost try_from_gives = { ImputationNumbered };
+
+    fn try_from(n: u64) -> Result<Self, Refusal> {
+        match n {
+            0 => Ok(ImputationMethod::FIXED),
+            1 => Ok(ImputationMethod::PREVIOUS),
+            2 => Ok(ImputationMethod::NEXT),
+            3 => Ok(ImputationMethod::LINEAR),
+            _ => Err(Refusal::Form),
+        }
+    }
 }
 
 // A present cell of a channel: its reading, and what stands there. The crates above name it in their proofs.

@@ -17,7 +17,8 @@ use Rattle.trcf.specs.Settings.{Settings, waiting, block, dimension}
 use Rattle.trcf.specs.Preprocessor.{Reading}
 use Rattle.snapshot.specs.Steps.Judge.{buf_by}
 use Rattle.snapshot.specs.Read.{Counts, may_stand}
-use Rattle.snapshot.specs.Steps.Runs.{Ran, ran, broke, ran_by, after_lines, map_ran, unkept, front, many, bufs, Initial, initial_of, reading_times, time_of, Parts, expected, ending, Body, body, parts_by, parts_of, body_by, filled_by, Fills, HeadFew, Room, state_from}
+use Rattle.snapshot.specs.Steps.Runs.{Ran, ran, broke, ran_by, after_lines, map_ran, unkept, front, many, bufs, Initial, initial_of, reading_times, time_of}
+use Rattle.snapshot.specs.Steps.Runs.{Parts, expected, ending, Body, body, parts_by, parts_of, body_by, filled_by, Fills, HeadFew, Room, state_from}
 use Rattle.refusal.specs.Lent.{over}
 use Rattle.trcf.specs.View.{Lent, lent, settings_of, written_over, initial_room, lent_short}
 use Rattle.trcf.specs.declared.head.Preprocessor.{Preprocessor}
@@ -268,14 +269,6 @@ module _ (h : Preprocessor) (l : Lent) (w : ℕ) (f : HeadFew h) (e : w ≡ cond
     where
       few_le : (n : ℕ) → n ≤ h.start_normalization → n < 2000
       few_le n k = omega (arith, k, f.start_few)
-
-  pub short_by : (n : ℕ) → n ≡ initial_room (settings_of h) → past h.transformer.input_length h.shingle_size w n (length l.statistics) (length l.last_shingled_input)
-      (length l.last_shingled_point) (length l.previous_timestamps) (length l.initial_values) (length l.initial_timestamps)
-      ≡ lent_short (settings_of h) l
-  short_by n q =
-      ap (λ (m : ℕ). past h.transformer.input_length h.shingle_size w m (length l.statistics) (length l.last_shingled_input)
-      (length l.last_shingled_point) (length l.previous_timestamps) (length l.initial_values) (length l.initial_timestamps)) q
-      ∙ short_is
 
 pub room_of : (h : Preprocessor) (l : Lent) (n : ℕ) → HeadFew h → lent_short (settings_of h) l ≡ false → n ≤ initial_room (settings_of h)
     → Room h n (length l.statistics) (length l.last_shingled_input) (length l.last_shingled_point) (length l.previous_timestamps) (length l.initial_values) (length l.initial_timestamps)

@@ -5,11 +5,11 @@ use mathlib.Core.Path.{◌≡◌, refl, sym, ap, ◌∙◌, subst}
 use mathlib.Core.Bool.{Bool, true, false, ◌&&◌, cond}
 use mathlib.Core.List.{List, [], ◌∷◌}
 use mathlib.Core.Option.{Option, none, some}
-use lib.ListN.{length, take, drop, get_or, length-drop}
-use lib.Seq.{length-take-le, get_or-drop}
+use lib.ListN.{length, take, drop, get_or}
+use lib.Seq.{length-take-le}
 use lib.Dec.{eqb, leb, ltb}
 use lib.Ieee.{Float, Format, binary32, binary64}
-use borrow.Author.Tests.{eqb-true, eqb-false, leb-true, ltb-true, lt-ltb, le-ltb, le-leb, lt-leb}
+use borrow.Author.Tests.{eqb-true, eqb-false, leb-true, ltb-true, le-ltb, le-leb, lt-leb}
 use Rattle.snapshot.specs.Text.{width}
 use Rattle.snapshot.specs.Read.{as_float}
 use Rattle.snapshot.specs.Scan.{single_of, double_of}
@@ -111,24 +111,6 @@ module _ (k p : ℕ) (t : List ℕ) where
           → cond b (k * 8 + 8) (field_length (drop p t)) ≤ length (drop p t)
       go true e = omega (arith, ltb-true (k * 8 + 8) (length (drop p t)) (and_left _ _ (and_right (ltb k 2) _ e)))
       go false e = field_short (drop p t)
-
-  pub likely_here : k < 2 → k * 8 + 8 < length t - p → get_or t (p + (k * 8 + 8)) 0 ≤ 10 → likely k (drop p t) ≡ k * 8 + 8
-  likely_here h w e =
-      let n : k * 8 + 8 < length (drop p t) = omega (arith, length-drop p t) in
-      rw (lt-ltb k 2 h, lt-ltb (k * 8 + 8) (length (drop p t)) n, get_or-drop p t (k * 8 + 8) 0, le-leb (get_or t (p + (k * 8 + 8)) 0) 10 e)
-
-  pub likely_inside : k < 2 → k * 8 + 8 < length t - p → 10 < get_or t (p + (k * 8 + 8)) 0 → likely k (drop p t) ≡ field_length (drop p t)
-  likely_inside h w e =
-      let n : k * 8 + 8 < length (drop p t) = omega (arith, length-drop p t) in
-      rw (lt-ltb k 2 h, lt-ltb (k * 8 + 8) (length (drop p t)) n, get_or-drop p t (k * 8 + 8) 0, lt-leb (get_or t (p + (k * 8 + 8)) 0) 10 e)
-
-  pub likely_past : k < 2 → length t - p ≤ k * 8 + 8 → likely k (drop p t) ≡ field_length (drop p t)
-  likely_past h w =
-      let n : length (drop p t) ≤ k * 8 + 8 = omega (arith, length-drop p t) in
-      rw (lt-ltb k 2 h, le-ltb (k * 8 + 8) (length (drop p t)) n)
-
-  pub likely_never : 2 ≤ k → likely k (drop p t) ≡ field_length (drop p t)
-  likely_never h = rw (le-ltb k 2 h)
 
   module _ (f : Field) (e : ℕ) (at : e ≡ p + likely k (drop p t)) (is : f ≡ field_of k (take (e - p) (drop p t))) where
     guessed : f ≡ field_of k (take (likely k (drop p t)) (drop p t))

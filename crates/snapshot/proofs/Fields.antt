@@ -77,7 +77,8 @@ float_from_lem f x h = ap (of_bits f) (hex_from_lem (width f) (to_bits f x) (bit
 pub float_inj : (f : Format) (x y : Float) → T (fits f x) → T (fits f y) → float f x ≡ float f y → x ≡ y
 unfolding float
 float_inj f x y h k e =
-    sym (of_bits-to_bits f x h) ∙ ap (of_bits f) (sym (hex_from_lem (width f) (to_bits f x) (bits_lt f x h)) ∙ ap (hex_from 0) e ∙ hex_from_lem (width f) (to_bits f y) (bits_lt f y k)) ∙ of_bits-to_bits f y k
+    sym (of_bits-to_bits f x h) ∙ ap (of_bits f) (sym (hex_from_lem (width f) (to_bits f x) (bits_lt f x h)) ∙ ap (hex_from 0) e ∙ hex_from_lem (width f) (to_bits f y)
+    (bits_lt f y k)) ∙ of_bits-to_bits f y k
 
 pub floats_inj : (f : Format) (a b : List Float) → Fits f a → Fits f b → map (float f) a ≡ map (float f) b → a ≡ b
 floats_inj f [] [] h k e = refl

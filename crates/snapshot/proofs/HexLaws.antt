@@ -21,7 +21,7 @@ use Rattle.snapshot.proofs.Fields.{float_from_lem}
 use Rattle.snapshot.proofs.Lists.{and_left, and_right}
 use Rattle.snapshot.proofs.ReadLine.{same_refl, same_eq}
 use Rattle.snapshot.specs.Scan.{number_of}
-use Rattle.snapshot.specs.Steps.Scan.{hex_of, hscan, bits_of, float_of}
+use Rattle.snapshot.specs.Steps.Scan.{hex_of, hscan, sized, bits_of, float_of}
 
 -- ---- what `as_float` says
 
@@ -172,7 +172,8 @@ read_float f c n l e = go (nan_bits f n) (eqb n (to_bits f nan)) refl refl
     go : (p q : Bool) → nan_bits f n ≡ p → eqb n (to_bits f nan) ≡ q → as_float f c ≡ bits_of f (some n)
     go true true x y = rw (x, y) (subst (λ (t : List ℕ). as_float f t ≡ some nan) (ap (hex (width f)) (sym (eqb-true n (to_bits f nan) y)) ∙ is) (of_float f nan tt))
     go true false x y = rw (x, y) (other (as_float f c) refl x (eqb-false n (to_bits f nan) y))
-    go false q x y = rw x (subst (λ (t : List ℕ). as_float f t ≡ some (of_bits f n)) (ap (hex (width f)) (to_bits-of_bits f n small (not_nan f n x)) ∙ is) (of_float f (of_bits f n) (of_bits-fits f n)))
+    go false q x y = rw x (subst (λ (t : List ℕ). as_float f t ≡ some (of_bits f n)) (ap (hex (width f)) (to_bits-of_bits f n small (not_nan f n x)) ∙ is) (of_float f
+        (of_bits f n) (of_bits-fits f n)))
 
 pub float_is : (f : Format) (c : List ℕ) → as_float f c ≡ float_of f c
 float_is f c = go (eqb (length c) (width f)) refl (hscan 0 c) refl (as_float f c) refl
@@ -258,23 +259,47 @@ pub no_of : (o : Option ℕ) → None ≡ number_of o → o ≡ none
 no_of none e = refl
 no_of (some m) e = let z : ◌≡◌ {A = ℕ} 0 1 = cc in absurd (omega arith)
 
+sized_of : (w n : ℕ) (c : List ℕ) → sized w c ≡ some n → (length c ≡ w) × (hscan 0 c ≡ some n)
+sized_of w n c e = go (eqb (length c) w) refl
+  where
+    go : (b : Bool) → eqb (length c) w ≡ b → (length c ≡ w) × (hscan 0 c ≡ some n)
+    go true l = (eqb-true _ _ l, rw l at e)
+    go false l = absurd (none-ne-some n (rw l at e))
+
 module _ (f : Format) (c : List ℕ) where
   pub bad_length : (length c ≡ width f → ⊥) → as_float f c ≡ none
   bad_length h = float_is f c ∙ rw (ne_eqb (length c) (width f) h)
 
-  module _ (l : length c ≡ width f) where
-    pub bad_hex : None ≡ number_of (hscan 0 c) → as_float f c ≡ none
-    bad_hex e = float_is f c ∙ rw (eq-eqb (length c) (width f) l, no_of (hscan 0 c) e)
+  pub bad_sized : None ≡ number_of (sized (width f) c) → as_float f c ≡ none
+  bad_sized e = float_is f c ∙ go (eqb (length c) (width f)) refl
+    where
+      go : (b : Bool) → eqb (length c) (width f) ≡ b → float_of f c ≡ none
+      go true l = rw (l, no_of (hscan 0 c) (rw l at e))
+      go false l = rw l
 
-    module _ (n : ℕ) (e : Some n ≡ number_of (hscan 0 c)) where
-      pub in_width : n < 2 * top f
-      in_width = let z : 16 ^ length c ≡ 2 * top f = ap (λ (k : ℕ). 16 ^ k) l ∙ (bits f).0 in omega (arith, hscan_lt 0 n c (is_of (hscan 0 c) n e))
+  module _ (n : ℕ) (e : Some n ≡ number_of (sized (width f) c)) where
+    read : (length c ≡ width f) × (hscan 0 c ≡ some n)
+    read = sized_of (width f) n c (is_of (sized (width f) c) n e)
 
-      pub other_nan : nan_bits f n ≡ true → (n ≡ to_bits f nan → ⊥) → as_float f c ≡ none
-      other_nan h k = read_float f c n l (is_of (hscan 0 c) n e) ∙ rw (h, ne_eqb n (to_bits f nan) k)
+    pub in_width : n < 2 * top f
+    in_width = let z : 16 ^ length c ≡ 2 * top f = ap (λ (k : ℕ). 16 ^ k) read.0 ∙ (bits f).0 in omega (arith, hscan_lt 0 n c read.1)
 
-      pub the_nan : nan_bits f n ≡ true → n ≡ to_bits f nan → as_float f c ≡ some nan
-      the_nan h k = read_float f c n l (is_of (hscan 0 c) n e) ∙ rw (h, eq-eqb n (to_bits f nan) k)
+    -- the bits of a not-a-number's float are those of the one pattern
+    one_nan : nan_bits f n ≡ true → of_bits f n ≡ nan
+    one_nan h = only_nan (of_bits f n) (sym (nan_bits_is f n) ∙ h)
 
-      pub a_number : nan_bits f n ≡ false → as_float f c ≡ some (of_bits f n)
-      a_number h = read_float f c n l (is_of (hscan 0 c) n e) ∙ rw h
+    -- its own bits come back: it is read
+    pub read_back : to_bits f (of_bits f n) ≡ n → as_float f c ≡ some (of_bits f n)
+    read_back h = read_float f c n read.0 read.1 ∙ go (nan_bits f n) refl
+      where
+        go : (b : Bool) → nan_bits f n ≡ b → bits_of f (some n) ≡ some (of_bits f n)
+        go true x = rw (x, eq-eqb n (to_bits f nan) (sym h ∙ ap (to_bits f) (one_nan x)), one_nan x)
+        go false x = rw x
+
+    -- others come back: it is another not-a-number
+    pub not_back : (to_bits f (of_bits f n) ≡ n → ⊥) → as_float f c ≡ none
+    not_back h = read_float f c n read.0 read.1 ∙ go (nan_bits f n) refl
+      where
+        go : (b : Bool) → nan_bits f n ≡ b → bits_of f (some n) ≡ none
+        go true x = rw (x, ne_eqb n (to_bits f nan) (λ q. h (ap (to_bits f) (one_nan x) ∙ sym q)))
+        go false x = absurd (h (to_bits-of_bits f n in_width (not_nan f n x)))

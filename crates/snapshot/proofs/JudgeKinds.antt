@@ -16,9 +16,11 @@ use Rattle.trcf.specs.Calls.{finite, seen_limit}
 use Rattle.trcf.specs.Preprocessor.{Reading, reading}
 use mathlib.Core.Logic.{◌⊎◌, inl, inr}
 use Rattle.snapshot.specs.Text.{tabbed_fields, whole, float, singles, chn_line, cnt_line, dev_line, tim_line, buf_line}
-use Rattle.snapshot.specs.Read.{bytes_of_line, every, as_whole, as_float, climbs, zeros, all_codes, same, LineKind, chn_kind, either_kind, singles_kind, wgt_kind, inp_kind, pnt_kind, cnt_kind, Counts, dev_kind, Three, tim_kind, buf_kind}
+use Rattle.snapshot.specs.Read.{bytes_of_line, every, as_whole, as_float, climbs, zeros, all_codes, same, LineKind, chn_kind, either_kind, singles_kind}
+use Rattle.snapshot.specs.Read.{wgt_kind, inp_kind, pnt_kind, cnt_kind, Counts, dev_kind, Three, tim_kind, buf_kind}
 use Rattle.snapshot.specs.Steps.Write.{tabbed}
-use Rattle.snapshot.specs.Steps.Judge.{onto, with_rest, byte, name, one, fields, closing, list_line, checked, wgt_test, wgt_by, chn_by, either_of, counts_of, counts_if_read, cnt_test, cnt_by, tim_test, tim_by, timed, buf_test, buf_raw, buf_by, three_of, threed, dev_by}
+use Rattle.snapshot.specs.Steps.Judge.{onto, with_rest, byte, name, one, fields, closing, list_line, checked, wgt_test, wgt_by, chn_by, either_of, counts_of}
+use Rattle.snapshot.specs.Steps.Judge.{counts_if_read, cnt_test, cnt_by, tim_test, tim_by, timed, buf_test, buf_raw, buf_by, three_of, threed, dev_by}
 use Rattle.snapshot.proofs.Lists.{and_left, and_right, if_of}
 use Rattle.snapshot.proofs.Fields.{Clean}
 use Rattle.snapshot.proofs.ReadLine.{Hold, every_hold, hold_every, Writes}

@@ -11,32 +11,17 @@ use lib.ListN.{length, take, drop, get_or, set, drop_of_length-le, length-drop, 
 use lib.Seq.{drop-cons, drop-drop, take-suc-set, take_all, length-take-le, drop-set-lt}
 use lib.Dec.{eqb, leb}
 use lib.Ieee.{Float, binary32, binary64}
-use borrow.Author.Tests.{eq-eqb, ne_eqb, le-leb, lt-leb}
+use borrow.Author.Tests.{le-leb, lt-leb}
 use Rattle.refusal.specs.Lent.{over}
 use Rattle.trcf.proofs.ShingleLaws.{over_part}
 use Rattle.snapshot.specs.Read.{as_whole, as_float}
 use Rattle.snapshot.specs.Scan.{single_of, double_of, number_of}
-use Rattle.snapshot.specs.Steps.Scan.{kind_number, field_of, whole_of}
-use Rattle.snapshot.specs.declared.field.Kind.{Kind}
-use Rattle.snapshot.specs.declared.field.Kind.TheVariants.{Single as Single32, Double as Double64, Whole as Whole64}
-use Rattle.snapshot.specs.Steps.Judge.{placed, onto, with_rest, byte, name, field_length, field_in, end_in, rest_field, tabbed_of, next_of}
+use Rattle.snapshot.specs.Steps.Scan.{field_of, whole_of}
+use Rattle.snapshot.specs.Steps.Judge.{placed, onto, with_rest, byte, name, field_length, field_in, end_in, rest_field, next_of}
 use Rattle.snapshot.specs.Steps.Judge.{one, before, fields, led, good_fields, line_firsts, buf_firsts, closing, list_line}
-use Rattle.snapshot.specs.Steps.Likely.{from_of}
 use Rattle.snapshot.specs.declared.field.Field.{Field}
 use Rattle.snapshot.specs.declared.field.Field.TheVariants.{Single, Double, Whole, Bad}
 use Rattle.snapshot.specs.declared.piece.Next.{Next}
-
--- ---- a byte
-
-module _ (b : ℕ) (t : List ℕ) (i : ℕ) where
-  pub byte_yes : i < length t → get_or t i 0 ≡ b → placed (Some (i + 1)) t ≡ byte b (drop i t)
-  byte_yes h e = rw (drop-cons t i 0 h, eq-eqb (get_or t i 0) b e, add-one i)
-
-  pub byte_no : i < length t → (get_or t i 0 ≡ b → ⊥) → placed None t ≡ byte b (drop i t)
-  byte_no h e = rw (drop-cons t i 0 h, ne_eqb (get_or t i 0) b e)
-
-  pub byte_end : length t ≤ i → placed None t ≡ byte b (drop i t)
-  byte_end h = rw (drop_of_length-le t h)
 
 -- ---- where a field ends
 
@@ -60,24 +45,7 @@ field_short (b ∷ l) = go (leb b 10) refl (field_short l)
 
 -- ---- a field
 
-pub few_kinds : (k : Kind) → kind_number k < 4
-few_kinds Single32 = omega arith
-few_kinds Double64 = omega arith
-few_kinds Whole64 = omega arith
-
 module _ (k : ℕ) (t : List ℕ) (i : ℕ) where
-  pub next_yes : i < length t → get_or t i 0 ≡ 9 → from_of k (i + 1) t ≡ tabbed_of k i t
-  next_yes h q = rw (drop-cons t i 0 h, eq-eqb (get_or t i 0) 9 q, add-one i)
-
-  pub next_no : i < length t → (get_or t i 0 ≡ 9 → ⊥) → record { field = Bad; end = i } ≡ tabbed_of k i t
-  next_no h q = rw (drop-cons t i 0 h, ne_eqb (get_or t i 0) 9 q)
-
-  pub next_end : length t ≤ i → record { field = Bad; end = i } ≡ tabbed_of k i t
-  next_end h = rw (drop_of_length-le t h)
-
-  pub next_tabbed : k < 4 → tabbed_of k i t ≡ next_of k i t
-  next_tabbed h = rw (lt-leb 4 k h)
-
   -- what lies from there on, or nothing
   pub rest_is : (from : ℕ) (f : Field) → drop from t ≡ drop i t → from ≤ length t → f ≡ field_of k (take (length t - from) (drop from t)) → record { field = f; end = length t } ≡ rest_field k i t
   rest_is from f e h g =

@@ -7,7 +7,9 @@ use lib.Ieee.{Float, binary32}
 use Rattle.trcf.specs.Settings.{Settings, dimension}
 use Rattle.trcf.specs.Preprocessor.{State}
 use Rattle.snapshot.specs.Text.{chn, chn_line, cnt_line}
-use Rattle.snapshot.specs.Read.{lines, as_float, Counts, set_kind, wgt_kind, cnt_kind, dev_kind, inp_kind, pnt_kind, tim_kind, buf_kind, Plan, bufs_plan, devs_plan, chn_kind, third_kind, bare, after_set, after_wgt, after_third, after_chn, after_cnt, after_dev, after_inp, after_pnt, after_tim, later, follow, read}
+use Rattle.snapshot.specs.Read.{lines, as_float, Counts, set_kind, wgt_kind, cnt_kind, dev_kind, inp_kind, pnt_kind, tim_kind, buf_kind, Plan, bufs_plan}
+use Rattle.snapshot.specs.Read.{devs_plan, chn_kind, third_kind, bare, after_set, after_wgt, after_third, after_chn, after_cnt, after_dev, after_inp, after_pnt}
+use Rattle.snapshot.specs.Read.{after_tim, later, follow, read}
 use Rattle.snapshot.specs.Steps.Judge.{list_line, via, either_of, set_by, wgt_by, chn_by, cnt_by, dev_by, tim_by, buf_by}
 use Rattle.snapshot.proofs.JudgeLines.{step}
 use Rattle.snapshot.proofs.JudgeKinds.{wgt_reads, chn_reads, either_reads, cnt_reads, dev_reads, inp_reads, pnt_reads, tim_reads, buf_reads}

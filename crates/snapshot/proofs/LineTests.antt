@@ -2,20 +2,17 @@
 use Rattle.std.specs.Prelude.{Option as Answer, Some, None}
 use Prim.Native.Nat.{ℕ, ◌≤◌, ◌<◌}
 use mathlib.Core.Path.{◌≡◌, refl, sym, ap, ◌∙◌}
-use mathlib.Core.Bool.{Bool, true, false, ◌&&◌}
+use mathlib.Core.Bool.{Bool, true, false}
 use mathlib.Core.List.{List}
 use mathlib.Core.Option.{Option, none, some}
-use lib.Dec.{eqb, ltb}
 use lib.Ieee.{Float, binary32}
-use borrow.Author.Tests.{le-leb, lt-leb, eq-eqb, ne_eqb}
-use Rattle.common.specs.Deviation.{count_limit}
-use Rattle.trcf.specs.Types.{is_none, normalizes}
-use Rattle.trcf.specs.Settings.{all_one}
-use Rattle.trcf.specs.Calls.{finite, seen_limit}
+use borrow.Author.Tests.{le-leb, lt-leb}
+use Rattle.trcf.specs.Calls.{finite}
 use Rattle.trcf.specs.Preprocessor.{reading}
 use Rattle.trcf.specs.declared.types.TransformMethod.{TransformMethod}
-use Rattle.snapshot.specs.Read.{as_whole, as_float, climbs, zeros}
-use Rattle.snapshot.specs.Steps.Judge.{placed, with_rest, byte, name, one, fields, closing, list_line, checked, wgt_test, cnt_test, cnt_by, counts_of, counts_read, tim_test, timed, buf_test, buf_raw, buf_by}
+use Rattle.snapshot.specs.Read.{as_whole, as_float}
+use Rattle.snapshot.specs.Steps.Judge.{placed, with_rest, byte, name, one, fields, closing, list_line, checked, cnt_test, cnt_by, counts_of}
+use Rattle.snapshot.specs.Steps.Judge.{timed, buf_test, buf_raw, buf_by}
 
 module _ {A : Type 0} (q : A → Bool) (a : A) (r : Answer ℕ) (t : List ℕ) (o : Option (A × List ℕ)) (e : with_rest a (placed r t) ≡ o) where
   pub check_yes : q a ≡ true → with_rest a (placed r t) ≡ checked q o
@@ -32,65 +29,7 @@ module _ {A : Type 0} (q : A → Bool) (a : A) (r : Answer ℕ) (t : List ℕ) (
       go (Some n) = rw h
       go None = refl
 
--- ---- the weights
-
-module _ (m : TransformMethod) (v : List Float) where
-  pub wgt_no : is_none m ≡ true → all_one v ≡ false → wgt_test m v ≡ false
-  unfolding wgt_test
-  wgt_no a b = rw (a, b)
-
-  pub wgt_one : is_none m ≡ true → all_one v ≡ true → wgt_test m v ≡ true
-  unfolding wgt_test
-  wgt_one a b = rw (a, b)
-
-  pub wgt_other : is_none m ≡ false → wgt_test m v ≡ true
-  unfolding wgt_test
-  wgt_other a = rw a
-
--- ---- the times
-
-module _ (i : ℕ) (ts : List ℕ) where
-  pub tim_falls : climbs 0 ts ≡ false → tim_test i ts ≡ false
-  unfolding tim_test
-  tim_falls a = rw a
-
-  pub tim_not : climbs 0 ts ≡ true → i ≡ 0 → zeros ts ≡ false → tim_test i ts ≡ false
-  unfolding tim_test
-  tim_not a b c = rw (a, eq-eqb i 0 b, c)
-
-  pub tim_zero : climbs 0 ts ≡ true → i ≡ 0 → zeros ts ≡ true → tim_test i ts ≡ true
-  unfolding tim_test
-  tim_zero a b c = rw (a, eq-eqb i 0 b, c)
-
-  pub tim_other : climbs 0 ts ≡ true → (i ≡ 0 → ⊥) → tim_test i ts ≡ true
-  unfolding tim_test
-  tim_other a b = rw (a, ne_eqb i 0 b)
-
 -- ---- the counters
-
-module _ (m : TransformMethod) (start seen internal count : ℕ) where
-  pub cnt_seen : seen_limit < seen → false ≡ cnt_test m start (counts_read seen internal count)
-  unfolding cnt_test
-  cnt_seen a = rw (lt-leb seen seen_limit a)
-
-  module _ (a : seen ≤ seen_limit) where
-    pub cnt_internal : seen_limit < internal → false ≡ cnt_test m start (counts_read seen internal count)
-    unfolding cnt_test
-    cnt_internal b = rw (le-leb seen seen_limit a, lt-leb internal seen_limit b)
-
-    module _ (b : internal ≤ seen_limit) where
-      pub cnt_count : count_limit < count → false ≡ cnt_test m start (counts_read seen internal count)
-      unfolding cnt_test
-      cnt_count c = rw (le-leb seen seen_limit a, le-leb internal seen_limit b, lt-leb count count_limit c)
-
-      module _ (c : count ≤ count_limit) where
-        pub cnt_waits : normalizes m && ltb seen start ≡ true → eqb internal 0 ≡ cnt_test m start (counts_read seen internal count)
-        unfolding cnt_test
-        cnt_waits d = rw (le-leb seen seen_limit a, le-leb internal seen_limit b, le-leb count count_limit c, d)
-
-        pub cnt_past : normalizes m && ltb seen start ≡ false → true ≡ cnt_test m start (counts_read seen internal count)
-        unfolding cnt_test
-        cnt_past d = rw (le-leb seen seen_limit a, le-leb internal seen_limit b, le-leb count count_limit c, d)
 
 module _ (m : TransformMethod) (start : ℕ) (l : List ℕ) where
   pub cnt_lineless : none ≡ list_line as_whole 99 110 116 3 l → none ≡ cnt_by m start l

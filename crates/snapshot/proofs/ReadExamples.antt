@@ -19,7 +19,8 @@ use Rattle.snapshot.proofs.ReadText.{sample}
 
 -- to unfold this is to unfold whatever its line names
 read_all : Unit {0}
-unfolding read judge float_from may_stand block dimension waiting finite outside_unit all_one set_line singles cnt_line dev_line tim_line buf_line whole float to_bits size of_bits of_fields odd fits le lt eq fresh render lines_by body_lines chn_line
+unfolding read judge float_from may_stand block dimension waiting finite outside_unit all_one set_line singles cnt_line dev_line tim_line buf_line whole float
+    to_bits size of_bits of_fields odd fits le lt eq fresh render lines_by body_lines chn_line
 read_all = tt
 
 -- ---- lines

@@ -17,7 +17,8 @@ use Rattle.trcf.specs.Calls.{finite, seen_limit}
 use Rattle.trcf.specs.Preprocessor.{Reading}
 use Rattle.snapshot.specs.Form.{Climbs}
 use Rattle.snapshot.specs.Text.{whole, float, set_line, singles, chn_line, cnt_line, dev_line, tim_line, buf_line}
-use Rattle.snapshot.specs.Read.{whole_from, float_from, method_from, all_fit, all_whole, climbs, zeros, LineKind, set_kind, singles_kind, wgt_kind, cnt_kind, Counts, dev_kind, Three, tim_kind, buf_kind, all_codes, same, chn_kind, either_kind, with_lists}
+use Rattle.snapshot.specs.Read.{whole_from, float_from, method_from, all_fit, all_whole, climbs, zeros, LineKind, set_kind, singles_kind, wgt_kind, cnt_kind}
+use Rattle.snapshot.specs.Read.{Counts, dev_kind, Three, tim_kind, buf_kind, all_codes, same, chn_kind, either_kind, with_lists}
 use Rattle.snapshot.proofs.Lists.{and_left, and_right, to_if, all_replicate}
 use Rattle.snapshot.proofs.Accepted.{rows_of, row_none}
 use Rattle.snapshot.proofs.Fields.{whole_from_lem, float_from_lem, mode_is_lem, method_is_lem, Clean, whole_clean, float_clean, floats_clean, wholes_clean, letter_clean}

@@ -13,9 +13,12 @@ use Rattle.trcf.specs.Lists.{null}
 use Rattle.trcf.specs.Settings.{Settings, dimension, waiting}
 use Rattle.trcf.specs.Preprocessor.{State, Reading}
 use Rattle.snapshot.specs.Text.{float}
-use Rattle.snapshot.specs.Read.{lines, push, as_float, Counts, Plan, plan_end, bufs_plan, buf_plan, devs_plan, may_stand, state_of, with_lists, bare, after_set, after_wgt, after_third, after_cnt, after_dev, after_inp, after_pnt, after_tim, Read, taken, bad, later, follow, read}
+use Rattle.snapshot.specs.Read.{lines, push, as_float, Counts, Plan, plan_end, bufs_plan, buf_plan, devs_plan, may_stand, state_of, with_lists, bare, after_set}
+use Rattle.snapshot.specs.Read.{after_wgt, after_third, after_cnt, after_dev, after_inp, after_pnt, after_tim, Read, taken, bad, later, follow, read}
 use Rattle.snapshot.specs.Steps.Judge.{list_line, via, either_of, chn_or, chn_by, set_by, wgt_by, cnt_by, tim_by, buf_by, threed, three_of, dev_by}
-use Rattle.snapshot.specs.Steps.Runs.{Ran, ran, broke, one_line, after_lines, then_lines, front, many, dev_fields, no_carry, flat, map_ran, devs, time_of, reading_values, reading_times, initial_of, bufs, Parts, parts, parts_by, parts_of, Head, head_read, third_by, head_by, expected, ending, body, body_by, state_from, read_by, as_read}
+use Rattle.snapshot.specs.Steps.Runs.{Ran, ran, broke, one_line, after_lines, then_lines, front, many, dev_fields, no_carry, flat, map_ran, devs, time_of}
+use Rattle.snapshot.specs.Steps.Runs.{reading_values, reading_times, initial_of, bufs, Parts, parts, parts_by, parts_of, Head, head_read, third_by, head_by}
+use Rattle.snapshot.specs.Steps.Runs.{expected, ending, body, body_by, state_from, read_by, as_read}
 use Rattle.snapshot.proofs.JudgeLines.{float_codec, line_is}
 use Rattle.snapshot.proofs.JudgeSteps.{step_set, step_wgt, step_third, step_cnt, step_inp, step_pnt, step_tim, step_dev, step_buf}
 

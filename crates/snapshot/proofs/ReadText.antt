@@ -22,13 +22,17 @@ use Rattle.trcf.specs.Calls.{finite}
 use Rattle.trcf.specs.Preprocessor.{State, Reading, statistics_length}
 use Rattle.snapshot.specs.Form.{Form, Climbs}
 use Rattle.snapshot.specs.Text.{Line, wgt, inp, pnt, chn, set_line, singles, chn_line, cnt_line, dev_line, dev_lines, tim_line, buf_line, buf_lines, body_lines, lines_by, bytes_of, render, TextOf}
-use Rattle.snapshot.specs.Read.{lines, join, bytes_of_line, set_kind, wgt_kind, inp_kind, pnt_kind, singles_kind, cnt_kind, Counts, dev_kind, Three, tim_kind, buf_kind, Plan, plan_end, bufs_plan, may_stand, buf_plan, devs_plan, state_of, with_lists, bare, chn_kind, third_kind, after_third, after_tim, after_pnt, after_inp, after_dev, after_cnt, after_wgt, after_set, plan, Read, taken, bad, follow, read, FirstBad}
+use Rattle.snapshot.specs.Read.{lines, join, bytes_of_line, set_kind, wgt_kind, inp_kind, pnt_kind, singles_kind, cnt_kind, Counts, dev_kind, Three, tim_kind}
+use Rattle.snapshot.specs.Read.{buf_kind, Plan, plan_end, bufs_plan, may_stand, buf_plan, devs_plan, state_of, with_lists, bare, chn_kind, third_kind}
+use Rattle.snapshot.specs.Read.{after_third, after_tim, after_pnt, after_inp, after_dev, after_cnt, after_wgt, after_set, plan, Read, taken, bad, follow, read}
+use Rattle.snapshot.specs.Read.{FirstBad}
 use Rattle.snapshot.proofs.Lists.{and_left, and_right, clash, if_of, to_if, nil, all_append, all_take, all_drop, all_replicate, finite_append, finite_split}
 use Rattle.snapshot.proofs.Fields.{Clean}
 use Rattle.snapshot.proofs.Clean.{lines_clean}
 use Rattle.snapshot.proofs.ReadLine.{Hold, Writes, join_lines, bytes_join, lines_bytes}
 use Rattle.snapshot.proofs.ReadPlan.{Took, took, took_cons, give, taken_inj, not_both, same_bad, Live, good_before}
-use Rattle.snapshot.proofs.ReadKinds.{fit_of, fits_of, whole_of, climbs_of, zeros_of, set_writes, wgt_tests, wgt_long, valid_of, zero_codes_lem, chn_long, chn_writes, either_left, either_right, singles_write, cnt_writes, dev_writes, tim_writes, buf_writes}
+use Rattle.snapshot.proofs.ReadKinds.{fit_of, fits_of, whole_of, climbs_of, zeros_of, set_writes, wgt_tests, wgt_long, valid_of, zero_codes_lem, chn_long}
+use Rattle.snapshot.proofs.ReadKinds.{chn_writes, either_left, either_right, singles_write, cnt_writes, dev_writes, tim_writes, buf_writes}
 
 abbrev pub shown : List Line → List (List ℕ)
 shown ls = map bytes_of_line ls
@@ -137,7 +141,8 @@ bufs_may d p (suc n) k w (l ∷ ls) e =
     inr (bufs_put d p n k w (l ∷ ls) (took_cons (some (k [] [])) Reading (buf_kind d p) (λ r. bufs_plan none d r.time n (with_reading r k)) w (λ r. Bufs d r.time n (with_reading r k) w)
     (λ r. bufs_took d r.time n (with_reading r k) w) l ls e))
 
-bufs_give : (e : Option State) (d p n : ℕ) (k : List Float → List ℕ → State) (v : List Float) (ts : List ℕ) → Waited d p n v ts → follow (bufs_plan e d p n k) (shown (buf_lines d v ts)) ≡ taken (k v ts)
+bufs_give : (e : Option State) (d p n : ℕ) (k : List Float → List ℕ → State) (v : List Float) (ts : List ℕ) → Waited d p n v ts → follow (bufs_plan e d p n k) (shown
+    (buf_lines d v ts)) ≡ taken (k v ts)
 unfolding buf_line
 bufs_give e d p zero k v [] h = rw (nil v (h.wide ∙ zero-mul d))
 bufs_give e d p zero k v (t ∷ ts) h = absurd (omega (arith, h.long))

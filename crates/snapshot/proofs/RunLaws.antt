@@ -15,7 +15,8 @@ use Rattle.std.specs.Prelude.{Result, Ok, Err, IsErrAnd}
 use Rattle.snapshot.specs.declared.head.BadLine.{BadLine}
 use Rattle.snapshot.specs.Read.{as_float}
 use Rattle.snapshot.specs.Steps.Judge.{list_line, buf_by}
-use Rattle.snapshot.specs.Steps.Runs.{map_ran, ran_by, devs, bufs, time_of, initial_lists, initial_of, Ran, ran, broke, one_line, after_lines, then_lines, front, many, flat, reading_values, reading_times, dev_fields, no_carry}
+use Rattle.snapshot.specs.Steps.Runs.{map_ran, ran_by, devs, bufs, time_of, initial_lists, initial_of, Ran, ran, broke, one_line, after_lines, then_lines}
+use Rattle.snapshot.specs.Steps.Runs.{front, many, flat, reading_values, reading_times, dev_fields, no_carry}
 
 abbrev pub fronts : {A : Type 0} → List A → Ran (List A) → Ran (List A)
 fronts u (ran l z) = ran (u ++ l) z

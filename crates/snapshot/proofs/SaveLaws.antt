@@ -135,7 +135,7 @@ pub record Held (d k wide n statistics input point times values initial : ℕ) :
   pub in_initial : n ≤ initial
 
 -- a time of one number at most
-pub narrow_past : {w : ℕ} {r p : Bool} → r ≡ (ltb 1 w || p) → w ≤ 1 → r ≡ p
+narrow_past : {w : ℕ} {r p : Bool} → r ≡ (ltb 1 w || p) → w ≤ 1 → r ≡ p
 narrow_past {w = w} {p = p} e h = e ∙ ap (λ (b : Bool). b || p) (le-ltb 1 w h)
 
 pub held_of : (d k wide n a b c e f g : ℕ) → past d k wide n a b c e f g ≡ false → Held d k wide n a b c e f g
@@ -218,12 +218,21 @@ pub wide_of : (b : Bool) (w : ℕ) → w ≡ cond b 1 0 → w ≤ 1
 wide_of true w e = omega arith
 wide_of false w e = omega arith
 
+-- what `is_past` answers of a head's own numbers of a time
+pub past_is : (m : Bool) {r p : Bool} {w : ℕ} → w ≡ cond m 1 0 → r ≡ (ltb 1 w || p) → r ≡ p
+past_is m {w = w} e q = narrow_past q (wide_of m w e)
+
 -- w: the numbers of a time
 module _ (h : Preprocessor) (l : Lent) (w : ℕ) (e : w ≡ cond (augments h.forest_mode) 1 0) where
   abbrev pub past_by : ℕ → Bool
   past_by x =
       past h.transformer.input_length h.shingle_size x h.initial_len (length l.statistics) (length l.last_shingled_input)
       (length l.last_shingled_point) (length l.previous_timestamps) (length l.initial_values) (length l.initial_timestamps)
+
+  pub held_by : {r : Bool} → r ≡ (ltb 1 w || past_by w) → r ≡ false
+      → Held h.transformer.input_length h.shingle_size w h.initial_len (length l.statistics) (length l.last_shingled_input)
+      (length l.last_shingled_point) (length l.previous_timestamps) (length l.initial_values) (length l.initial_timestamps)
+  held_by q x = held_of _ _ _ _ _ _ _ _ _ _ (sym (past_is (augments h.forest_mode) e q) ∙ x)
 
   pub saved_not : (out : List ℕ) → past_by w ≡ true → save_outcome 20 0 out ≡ held_save h l out
   unfolding held_save in_use_short

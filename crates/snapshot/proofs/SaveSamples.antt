@@ -23,7 +23,8 @@ use Rattle.snapshot.proofs.RoundTrip.{saved_is_taken_up}
 use Rattle.snapshot.proofs.TextRoom.{text_fits}
 
 all : Unit {0}
-unfolding over save_of held_save fitted unformed in_use_short settings_row counters_unfit lent_short view block dimension waiting all_one finite outside_unit render lines_by body_lines set_line singles chn_line cnt_line dev_line tim_line buf_line whole float to_bits of_bits of_fields odd fits size le lt
+unfolding over save_of held_save fitted unformed in_use_short settings_row counters_unfit lent_short view block dimension waiting all_one finite outside_unit
+    render lines_by body_lines set_line singles chn_line cnt_line dev_line tim_line buf_line whole float to_bits of_bits of_fields odd fits size le lt
 all = tt
 
 abbrev settings : Settings

@@ -4,12 +4,12 @@ use Prim.Native.Nat.{ℕ, zero, suc, ◌+◌, ◌-◌, ◌*◌, ◌/◌, ◌%◌
 use native.Mathlib.Nat.{mod-lt}
 use native.Mathlib.Omega.{arith}
 use mathlib.Core.Path.{◌≡◌, refl, sym, ap, ◌∙◌, subst}
-use mathlib.Core.Bool.{Bool, true, false, not, ◌&&◌, false≢true}
+use mathlib.Core.Bool.{Bool, true, false, ◌&&◌, false≢true}
 use mathlib.Core.List.{List, [], ◌∷◌, ◌++◌, append-nil, append_assoc}
 use mathlib.Core.Option.{Option, none, some, some-injective, none-ne-some}
 use lib.ListN.{length, drop, get_or, drop_of_length-le}
 use lib.Seq.{drop-cons}
-use lib.Dec.{leb, ltb, eqb}
+use lib.Dec.{leb, ltb}
 use borrow.Author.Tests.{ltb-true, ltb-false, leb-true, lt-ltb, le-ltb, le-leb, lt-leb, ne_eqb, not-true, eqb-false}
 use Rattle.trcf.specs.Settings.{whole_max}
 use Rattle.snapshot.specs.Text.{decimal, whole}
@@ -180,20 +180,6 @@ pub scan_end : (a i : ℕ) (c : List ℕ) → length c ≤ i → scan a (drop i 
 scan_end a i c h = rw (drop_of_length-le c h)
 
 -- ---- the answers
-
-pub lead_none : (c : List ℕ) → length c ≡ 0 → false ≡ lead c
-lead_none [] h = refl
-lead_none (b ∷ bs) h = absurd (omega arith)
-
-pub lead_single : (c : List ℕ) → length c ≡ 1 → true ≡ lead c
-lead_single [] h = absurd (omega arith)
-lead_single (b ∷ []) h = refl
-lead_single (b ∷ x ∷ xs) h = absurd (omega arith)
-
-pub lead_many : (c : List ℕ) (b : ℕ) → (length c ≡ 0 → ⊥) → (length c ≡ 1 → ⊥) → b ≡ get_or c 0 0 → not (eqb b 48) ≡ lead c
-lead_many [] b h k e = absurd (h refl)
-lead_many (x ∷ []) b h k e = absurd (k refl)
-lead_many (x ∷ y ∷ ys) b h k e = rw e
 
 pub none_at : (c : List ℕ) (n i : ℕ) → lead c ≡ true → scan 0 c ≡ scan n (drop i c) → scan n (drop i c) ≡ none → None ≡ number_of (as_whole c)
 none_at c n i l e z = sym (ap number_of (scan_is c l ∙ e ∙ z))

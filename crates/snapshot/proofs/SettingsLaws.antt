@@ -1,15 +1,12 @@
 -- The line of the settings as the code meets it.
-use Prim.Native.Nat.{ℕ, zero, suc, ◌+◌, ◌≤◌, ◌<◌}
-use mathlib.Core.Path.{◌≡◌, refl, sym, ap, ◌∙◌}
-use mathlib.Core.Bool.{Bool, true, false}
+use Prim.Native.Nat.{ℕ, ◌+◌, ◌≤◌, ◌<◌}
+use mathlib.Core.Path.{◌≡◌, sym, ap, ◌∙◌}
+use mathlib.Core.Bool.{true, false}
 use mathlib.Core.List.{List}
-use mathlib.Core.Option.{Option, none, some, none-ne-some}
+use mathlib.Core.Option.{Option, none, some}
 use lib.ListN.{length, drop, get_or, drop_of_length-le}
 use lib.Seq.{drop-cons, drop-drop}
-use lib.Dec.{leb, ltb}
 use lib.Ieee.{Float, binary32, binary64}
-use borrow.Author.Tests.{le-leb, lt-leb, eq-eqb, ne_eqb, lt-ltb, le-ltb, ltb-true, ltb-false, leb-true, leb-false}
-use Rattle.common.specs.Deviation.{outside_unit}
 use Rattle.trcf.specs.Types.{mode_of_letter}
 use Rattle.snapshot.specs.Read.{as_whole, as_float}
 use Rattle.trcf.specs.declared.types.ForestMode.{ForestMode}
@@ -23,44 +20,6 @@ module _ (t : List ℕ) (i : ℕ) where
 
   pub mode_end : length t ≤ i → none ≡ mode_in (drop i t)
   mode_end h = rw (drop_of_length-le t h)
-
-module _ (d k start stop : ℕ) (decay : Float) where
-  pub fit_d : d ≡ 0 → false ≡ set_test d k start stop decay
-  unfolding set_test
-  fit_d e = rw (eq-eqb d 0 e)
-
-  module _ (a : d ≡ 0 → ⊥) where
-    pub fit_k : k ≡ 0 → false ≡ set_test d k start stop decay
-    unfolding set_test
-    fit_k e = rw (ne_eqb d 0 a, eq-eqb k 0 e)
-
-    module _ (b : k ≡ 0 → ⊥) where
-      pub fit_wide : 16 < d → false ≡ set_test d k start stop decay
-      unfolding set_test
-      fit_wide e = rw (ne_eqb d 0 a, ne_eqb k 0 b, lt-ltb 16 d e)
-
-      module _ (c : d ≤ 16) where
-        pub fit_long : 64 < k → false ≡ set_test d k start stop decay
-        unfolding set_test
-        fit_long e = rw (ne_eqb d 0 a, ne_eqb k 0 b, le-ltb 16 d c, lt-ltb 64 k e)
-
-        module _ (f : k ≤ 64) where
-          pub fit_decay : outside_unit decay ≡ true → false ≡ set_test d k start stop decay
-          unfolding set_test
-          fit_decay e = rw (ne_eqb d 0 a, ne_eqb k 0 b, le-ltb 16 d c, le-ltb 64 k f, e)
-
-          module _ (g : outside_unit decay ≡ false) where
-            pub fit_stop : stop < start → false ≡ set_test d k start stop decay
-            unfolding set_test
-            fit_stop e = rw (ne_eqb d 0 a, ne_eqb k 0 b, le-ltb 16 d c, le-ltb 64 k f, g, lt-ltb stop start e)
-
-            pub fit_start : start ≤ stop → ltb start 2000 ≡ set_test d k start stop decay
-            unfolding set_test
-            fit_start e = go (ltb start 2000) refl
-              where
-                go : (x : Bool) → ltb start 2000 ≡ x → x ≡ set_test d k start stop decay
-                go true h = rw (ne_eqb d 0 a, ne_eqb k 0 b, le-ltb 16 d c, le-ltb 64 k f, g, le-ltb stop start e, lt-leb 2000 start (ltb-true _ _ h))
-                go false h = rw (ne_eqb d 0 a, ne_eqb k 0 b, le-ltb 16 d c, le-ltb 64 k f, g, le-ltb stop start e, le-leb 2000 start (ltb-false _ _ h))
 
 module _ (l : List ℕ) where
   pub tail_first : one (as_float binary64) l ≡ none → none ≡ tail_by l
@@ -76,25 +35,7 @@ module _ (l : List ℕ) where
     unfolding tail_by
     tail_good x w o f q = rw (e, f, q)
 
-pub method_none : (n : ℕ) → (n ≡ 0 → ⊥) → (n ≡ 1 → ⊥) → (n ≡ 2 → ⊥) → (n ≡ 3 → ⊥) → (n ≡ 4 → ⊥) → (n ≡ 5 → ⊥) → none ≡ method_in n
-method_none zero a b c d e f = absurd (a refl)
-method_none (suc zero) a b c d e f = absurd (b refl)
-method_none (suc (suc zero)) a b c d e f = absurd (c refl)
-method_none (suc (suc (suc zero))) a b c d e f = absurd (d refl)
-method_none (suc (suc (suc (suc zero)))) a b c d e f = absurd (e refl)
-method_none (suc (suc (suc (suc (suc zero))))) a b c d e f = absurd (f refl)
-method_none (suc (suc (suc (suc (suc (suc n)))))) a b c d e f = refl
-
 -- ---- the whole line, where it ends
-
-pub mode_inside : (t : List ℕ) (i : ℕ) (m : ForestMode) → some m ≡ mode_in (drop i t) → i < length t
-mode_inside t i m h = go (leb (length t) i) refl
-  where
-    go : (b : Bool) → leb (length t) i ≡ b → i < length t
-    go false q = leb-false (length t) i q
-    go true q =
-        let z : some m ≡ none = h ∙ sym (mode_end t i (leb-true (length t) i q)) in
-        absurd (none-ne-some m (sym z))
 
 module _ (t : List ℕ) where
   pub set_nameless : none ≡ name 115 101 116 t → none ≡ set_by t

@@ -32,9 +32,7 @@ pub fn double(c: &[u8]) -> Field
 pub fn whole(c: &[u8]) -> Option<u64>
     ensures { result ≡ number_of (as_whole c.now) }
 {
-    let next = cell(c, Kind::Whole);
-    let field = next.field;
-    let Field::Whole(n) = field else {
+    let Field::Whole(n) = cell(c, Kind::Whole).field else {
         return None;
     };
     Some(n)

@@ -19,6 +19,7 @@ fn next_field(text: &[u8], at: usize, kind: Kind) -> Next
 }
 
 // A number that a field holds, of the kind that its place calls for.
+// Kept: (d) each impl names its case of Kind and of Field: one function for the three would take both as members, with a law that ties them to `read`.
 pub trait Cell: Copy {
     // How the definitions read it.
     ghost read: { List ℕ → Perhaps Self };
@@ -33,8 +34,7 @@ impl Cell for f32 {
 
     fn cell(text: &[u8], at: usize) -> Option<(f32, usize)> {
         let next = next_field(text, at, Kind::Single);
-        let field = next.field;
-        let Field::Single(x) = field else {
+        let Field::Single(x) = next.field else {
             return None;
         };
         Some((x, next.end))
@@ -46,8 +46,7 @@ impl Cell for f64 {
 
     fn cell(text: &[u8], at: usize) -> Option<(f64, usize)> {
         let next = next_field(text, at, Kind::Double);
-        let field = next.field;
-        let Field::Double(x) = field else {
+        let Field::Double(x) = next.field else {
             return None;
         };
         Some((x, next.end))
@@ -59,8 +58,7 @@ impl Cell for u64 {
 
     fn cell(text: &[u8], at: usize) -> Option<(u64, usize)> {
         let next = next_field(text, at, Kind::Whole);
-        let field = next.field;
-        let Field::Whole(x) = field else {
+        let Field::Whole(x) = next.field else {
             return None;
         };
         Some((x, next.end))

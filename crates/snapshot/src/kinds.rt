@@ -4,7 +4,8 @@ ghost use Rattle.std.specs.Float.{binary32};
 ghost use Rattle.refusal.specs.Lent.{over};
 ghost use Rattle.trcf.specs.Types.{normalizes};
 ghost use Rattle.snapshot.specs.Read.{as_whole, as_float};
-ghost use Rattle.snapshot.specs.Steps.Judge.{line_firsts, buf_firsts, Filled, codes_read, chn_or, chn_by, wgt_by, cnt_test, cnt_told, cnt_by, tim_by, buf_by, counts_read, FilledWith};
+ghost use Rattle.snapshot.specs.Steps.Judge.{line_firsts, buf_firsts, Filled, FilledWith, codes_read, chn_or, chn_by, wgt_test, wgt_by};
+ghost use Rattle.snapshot.specs.Steps.Judge.{cnt_test, cnt_told, cnt_by, tim_test, tim_by, buf_by, counts_read};
 
 use crate::judge::{Cell, fields, list_line};
 use crate::piece::{byte, name};
@@ -14,6 +15,14 @@ use trcf::head::SEEN_LIMIT;
 use trcf::transformer::all_one;
 use trcf::types::{TransformMethod, is_none, is_normalizing};
 use trcf_rows::rows::all_finite;
+
+// Whether the weights are 1 where the method has none.
+#[tactic(auto, unfolding(crate::specs::Steps::Judge::wgt_test))]
+fn weights_fit(method: TransformMethod, weights: &[f32]) -> bool
+    ensures { result ≡ wgt_test method weights.now }
+{
+    !is_none(method) || all_one(weights)
+}
 
 // The weights, as many as `out` is long.
 pub(crate) fn wgt_line(
@@ -25,10 +34,8 @@ pub(crate) fn wgt_line(
     ensures { Filled (wgt_by method (length out.old) (drop at text.now)) (line_firsts (as_float binary32) 119 103 116 (length out.old) (drop at text.now)) text.now out.old result out.new }
 {
     let place = list_line(text, at, 119, 103, 116, out);
-    if is_none(method) {
-        if !all_one(out) {
-            return None;
-        }
+    if !weights_fit(method, out) {
+        return None;
     }
     place
 }
@@ -74,18 +81,21 @@ pub(crate) fn chn_line(text: &[u8], at: usize, d: usize) -> Coded
     }
 }
 
+// Whether no time falls, and each is 0 where none was counted.
+#[tactic(auto, unfolding(crate::specs::Steps::Judge::tim_test))]
+fn times_fit(internal: usize, times: &[u64]) -> bool
+    ensures { result ≡ tim_test internal times.now }
+{
+    none_falls(times) && (internal != 0 || all_zero(times))
+}
+
 // The last times, as many as `out` is long.
 pub fn tim_line(text: &[u8], at: usize, internal: usize, out: &mut [u64]) -> Option<usize>
     ensures { Filled (tim_by internal (length out.old) (drop at text.now)) (line_firsts as_whole 116 105 109 (length out.old) (drop at text.now)) text.now out.old result out.new }
 {
     let place = list_line(text, at, 116, 105, 109, out);
-    if !none_falls(out) {
+    if !times_fit(internal, out) {
         return None;
-    }
-    if internal == 0 {
-        if !all_zero(out) {
-            return None;
-        }
     }
     place
 }
@@ -93,31 +103,18 @@ pub fn tim_line(text: &[u8], at: usize, internal: usize, out: &mut [u64]) -> Opt
 pub fn is_waiting(method: TransformMethod, start: usize, seen: u64) -> bool
     ensures { result ≡ normalizes method && ltb seen start }
 {
-    if is_normalizing(method) {
-        seen < start as u64
-    } else {
-        false
-    }
+    is_normalizing(method) && seen < start as u64
 }
 
 // Whether the counters are within their limits, and internal_timestamp 0 while waiting.
+#[tactic(auto, unfolding(crate::specs::Steps::Judge::cnt_test))]
 fn counts_fit(method: TransformMethod, start: usize, seen: u64, internal: u64, count: u64) -> bool
     ensures { result ≡ cnt_test method start (counts_read seen internal count) }
 {
-    if seen > SEEN_LIMIT as u64 {
-        return false;
-    }
-    if internal > SEEN_LIMIT as u64 {
-        return false;
-    }
-    if COUNT_LIMIT < count {
-        return false;
-    }
-    if is_waiting(method, start, seen) {
-        internal == 0
-    } else {
-        true
-    }
+    seen <= SEEN_LIMIT as u64
+        && internal <= SEEN_LIMIT as u64
+        && count <= COUNT_LIMIT
+        && (!is_waiting(method, start, seen) || internal == 0)
 }
 
 // The place after the line of the counters, and what it says.
@@ -140,9 +137,7 @@ pub(crate) fn cnt_line(
 {
     let mut n = [0u64; 3];
     let end = list_line(text, at, 99, 110, 116, &mut n[..])?;
-    let seen = n[0];
-    let internal = n[1];
-    let count = n[2];
+    let [seen, internal, count] = n;
     if !counts_fit(method, start, seen, internal, count) {
         return None;
     }
@@ -168,10 +163,7 @@ pub fn buf_line(text: &[u8], at: usize, past: u64, out: &mut [f32]) -> Option<Ti
     let p = name(text, at, 98, 117, 102)?;
     let (time, q) = u64::cell(text, p)?;
     let r = fields(text, q, out)?;
-    if time < past {
-        return None;
-    }
-    if !all_finite(out) {
+    if time < past || !all_finite(out) {
         return None;
     }
     let end = byte(text, r, 10)?;

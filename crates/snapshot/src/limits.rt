@@ -3,6 +3,7 @@ ghost use Rattle.std.specs.Prelude.{◌≡◌, cond, ◌||◌, ◌≤◌, ltb};
 ghost use Rattle.trcf.specs.Types.{augments};
 ghost use Rattle.snapshot.specs.Save.{past};
 
+use trcf::head::LentLengths;
 use trcf::types::{ForestMode, INPUT_LIMIT, SHINGLE_LIMIT, START_BOUND, is_augmented};
 
 // The numbers of a time in a transformed reading: one where the mode has a time element.
@@ -12,68 +13,20 @@ pub fn time_width(m: ForestMode) -> usize
     if is_augmented(m) { 1 } else { 0 }
 }
 
-// Whether a number is past the limits, or a lent list is shorter than what is in use of it.
-pub(crate) fn past_limits(
-    d: usize,
-    k: usize,
-    wide: usize,
-    n: usize,
-    statistics: usize,
-    input: usize,
-    point: usize,
-    times: usize,
-    values: usize,
-    initial: usize,
-) -> bool
-    requires { wide ≤ 1 }
-    ensures { result ≡ past d k wide n statistics input point times values initial }
+// Whether a number is past the limits, or a lent list is shorter than what is in use of it; a time of more than one number is past them too.
+#[tactic(auto, using(crate::proofs::SaveLaws::few, crate::proofs::SaveLaws::few_wide, crate::proofs::SaveLaws::few_values))]
+pub fn is_past(d: usize, k: usize, wide: usize, n: usize, lengths: LentLengths) -> bool
+    ensures { result ≡ (ltb 1 wide || past d k wide n lengths.statistics lengths.last_shingled_input lengths.last_shingled_point
+        lengths.previous_timestamps lengths.initial_values lengths.initial_timestamps) }
 {
-    if INPUT_LIMIT < d {
-        return true;
-    }
-    if SHINGLE_LIMIT < k {
-        return true;
-    }
-    if START_BOUND <= n {
-        return true;
-    }
-    if statistics < 3 * (5 * d + 5) {
-        return true;
-    }
-    if input < d * k {
-        return true;
-    }
-    if point < (d + wide) * k {
-        return true;
-    }
-    if times < k {
-        return true;
-    }
-    if values < n * d {
-        return true;
-    }
-    initial < n
-}
-
-// The same; a time of more than one number is past the limits.
-pub fn is_past(
-    d: usize,
-    k: usize,
-    wide: usize,
-    n: usize,
-    statistics: usize,
-    input: usize,
-    point: usize,
-    times: usize,
-    values: usize,
-    initial: usize,
-) -> bool
-    ensures { result ≡ (ltb 1 wide || past d k wide n statistics input point times values initial) }
-{
-    if 1 < wide {
-        return true;
-    }
-    past_limits(
-        d, k, wide, n, statistics, input, point, times, values, initial,
-    )
+    1 < wide
+        || INPUT_LIMIT < d
+        || SHINGLE_LIMIT < k
+        || START_BOUND <= n
+        || lengths.statistics < 3 * (5 * d + 5)
+        || lengths.last_shingled_input < d * k
+        || lengths.last_shingled_point < (d + wide) * k
+        || lengths.previous_timestamps < k
+        || lengths.initial_values < n * d
+        || lengths.initial_timestamps < n
 }

@@ -16,10 +16,8 @@ pub(crate) fn wide(x: u8) -> u64
 pub(crate) fn byte(text: &[u8], at: usize, b: u64) -> Option<usize>
     ensures { placed result text.now ≡ byte b (drop at text.now) }
 {
-    if at < text.len() {
-        if wide(text[at]) == b {
-            return Some(at + 1);
-        }
+    if at < text.len() && wide(text[at]) == b {
+        return Some(at + 1);
     }
     None
 }
@@ -63,10 +61,8 @@ fn likely_end(text: &[u8], from: usize, kind: Kind) -> usize
         Kind::Double => 16,
         Kind::Whole => return field_end(text, from),
     };
-    if width < text.len() - from {
-        if wide(text[from + width]) <= 10 {
-            return from + width;
-        }
+    if width < text.len() - from && wide(text[from + width]) <= 10 {
+        return from + width;
     }
     field_end(text, from)
 }
@@ -92,11 +88,7 @@ pub(crate) fn rest_at(text: &[u8], at: usize, kind: Kind) -> Next
     ensures { result ≡ rest_field (kind_number kind) at text.now }
 {
     let end = text.len();
-    if at < end {
-        let field = parse(text, at, end, kind);
-        return Next { field, end };
-    }
-    let field = parse(text, end, end, kind);
+    let field = parse(text, at.min(end), end, kind);
     Next { field, end }
 }
 
@@ -104,10 +96,8 @@ pub(crate) fn rest_at(text: &[u8], at: usize, kind: Kind) -> Next
 pub(crate) fn field_at(text: &[u8], at: usize, kind: Kind) -> Next
     ensures { result ≡ next_of (kind_number kind) at text.now }
 {
-    if at < text.len() {
-        if wide(text[at]) == 9 {
-            return field_from(text, at + 1, kind);
-        }
+    if at < text.len() && wide(text[at]) == 9 {
+        return field_from(text, at + 1, kind);
     }
     Next {
         field: Field::Bad,

@@ -32,28 +32,17 @@ fn method_of(n: u64) -> Option<TransformMethod>
 }
 
 // Whether rows 2, 3, 4, 6, 7 and 8 let the settings pass.
+#[tactic(auto, unfolding(crate::specs::Steps::Judge::set_test))]
 fn settings_fit(d: u64, k: u64, start: u64, stop: u64, decay: f64) -> bool
     ensures { result ≡ set_test d k start stop decay }
 {
-    if d == 0 {
-        return false;
-    }
-    if k == 0 {
-        return false;
-    }
-    if (INPUT_LIMIT as u64) < d {
-        return false;
-    }
-    if (SHINGLE_LIMIT as u64) < k {
-        return false;
-    }
-    if outside_unit(decay) {
-        return false;
-    }
-    if stop < start {
-        return false;
-    }
-    start < START_BOUND as u64
+    d != 0
+        && k != 0
+        && d <= INPUT_LIMIT as u64
+        && k <= SHINGLE_LIMIT as u64
+        && !outside_unit(decay)
+        && start <= stop
+        && start < START_BOUND as u64
 }
 
 // The end of the line: decay, weight_time and the place after them.

@@ -168,12 +168,6 @@ module _ (t cs : List ℕ) (l : Lent) where
   restore_head m e = read_broke m (rw (sym (broken_of (head_by t) m e)))
 
   module _ (h : Preprocessor) (n : ℕ) (z : List ℕ) (e : ran (h, n) z ≡ map_ran headed_of (head_by t)) where
-    -- the body is of the head's own settings and counters
-    body_of : (k : Head) → ran k z ≡ head_by t → h ≡ head_with_counts k → body_by (settings_of h) (counts_in h) z ≡ body_by k.settings k.counts z
-    body_of k f g =
-        ap (λ (x : Preprocessor). body_by (settings_of x) (counts_in x) z) g
-        ∙ ap (λ (s : Settings). body_by s k.counts z) (settings_back k (lists_long t k z f))
-
     read_of : (k : Head) → ran k z ≡ head_by t → h ≡ head_with_counts k → n ≡ k.extra → read_by t ≡ after_lines 3
         (after_lines n (map_ran (state_from (settings_of h) (counts_in h)) (body_by (settings_of h) (counts_in h) z)))
     unfolding read_by

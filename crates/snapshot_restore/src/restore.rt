@@ -19,7 +19,7 @@ use refusal::Refusal;
 use snapshot::head::{BadLine, head_lines};
 use snapshot::kinds::is_waiting;
 use snapshot::limits::{is_past, time_width};
-use trcf::head::{Preprocessor, initial_room, with_counts};
+use trcf::head::{LentLengths, Preprocessor, initial_room, with_counts};
 use trcf::types::is_normalizing;
 
 // How many `buf` lines are to come, from the place after `tim` on.
@@ -33,16 +33,10 @@ fn initial_count(head: Preprocessor, text: &[u8], at: usize) -> usize
     if is_waiting(method, start, seen as u64) {
         return seen;
     }
-    if !is_normalizing(method) {
+    if !is_normalizing(method) || text.len() <= at {
         return 0;
     }
-    if text.len() <= at {
-        return 0;
-    }
-    if seen != start {
-        return start;
-    }
-    if head.internal_timestamp == 0 {
+    if seen != start || head.internal_timestamp == 0 {
         return start;
     }
     0
@@ -156,8 +150,11 @@ fn fill(
     initial_values: &mut [f32],
     initial_timestamps: &mut [u64],
 )
-    requires { Room head n (length statistics.old) (length last_shingled_input.old) (length last_shingled_point.old) (length previous_timestamps.old) (length initial_values.old) (length initial_timestamps.old) }
-    ensures { FillsOver (settings_of head) (counts_in head) (filled_by (settings_of head) (counts_in head) n (drop at text.now)) (lent statistics.old last_shingled_input.old last_shingled_point.old previous_timestamps.old initial_values.old initial_timestamps.old) (lent statistics.new last_shingled_input.new last_shingled_point.new previous_timestamps.new initial_values.new initial_timestamps.new) }
+    requires { Room head n (length statistics.old) (length last_shingled_input.old) (length last_shingled_point.old)
+        (length previous_timestamps.old) (length initial_values.old) (length initial_timestamps.old) }
+    ensures { FillsOver (settings_of head) (counts_in head) (filled_by (settings_of head) (counts_in head) n (drop at text.now))
+        (lent statistics.old last_shingled_input.old last_shingled_point.old previous_timestamps.old initial_values.old initial_timestamps.old)
+        (lent statistics.new last_shingled_input.new last_shingled_point.new previous_timestamps.new initial_values.new initial_timestamps.new) }
 {
     let t = head.transformer;
     let d = t.input_length;
@@ -187,33 +184,15 @@ fn with_initial(head: Preprocessor, n: usize) -> Preprocessor
 }
 
 // Whether a lent list of these lengths is too short for the state that a head is of.
-fn is_short(
-    head: Preprocessor,
-    statistics: usize,
-    input: usize,
-    point: usize,
-    times: usize,
-    values: usize,
-    initial: usize,
-) -> bool
-    ensures { result ≡ past head.transformer.input_length head.shingle_size (cond (augments head.forest_mode) 1 0) (initial_room (settings_of head)) statistics input point times values initial }
+fn is_short(head: Preprocessor, lengths: LentLengths) -> bool
+    ensures { result ≡ past head.transformer.input_length head.shingle_size (cond (augments head.forest_mode) 1 0)
+        (initial_room (settings_of head)) lengths.statistics lengths.last_shingled_input lengths.last_shingled_point
+        lengths.previous_timestamps lengths.initial_values lengths.initial_timestamps }
 {
-    let t = head.transformer;
-    let mode = head.forest_mode;
-    let wide = time_width(mode);
+    let d = head.transformer.input_length;
+    let wide = time_width(head.forest_mode);
     let waiting = initial_room(head);
-    is_past(
-        t.input_length,
-        head.shingle_size,
-        wide,
-        waiting,
-        statistics,
-        input,
-        point,
-        times,
-        values,
-        initial,
-    )
+    is_past(d, head.shingle_size, wide, waiting, lengths)
 }
 
 // Whether the codes of a head are those expected.
@@ -286,7 +265,10 @@ pub fn restore(
     initial_values: &mut [f32],
     initial_timestamps: &mut [u64],
 ) -> Result<Preprocessor, RestoreError>
-    ensures { restore_told result (lent statistics.new last_shingled_input.new last_shingled_point.new previous_timestamps.new initial_values.new initial_timestamps.new) ≡ restore_of text.now codes.now (lent statistics.old last_shingled_input.old last_shingled_point.old previous_timestamps.old initial_values.old initial_timestamps.old) }
+    ensures { restore_told result
+        (lent statistics.new last_shingled_input.new last_shingled_point.new previous_timestamps.new initial_values.new initial_timestamps.new) ≡
+        restore_of text.now codes.now
+        (lent statistics.old last_shingled_input.old last_shingled_point.old previous_timestamps.old initial_values.old initial_timestamps.old) }
 {
     let h = head_lines(text)?;
     let head = h.head;
@@ -299,15 +281,15 @@ pub fn restore(
     if !codes_agree(head, codes) {
         return Err(RestoreError::Refused(Refusal::OtherCodes));
     }
-    if is_short(
-        head,
-        statistics.len(),
-        last_shingled_input.len(),
-        last_shingled_point.len(),
-        previous_timestamps.len(),
-        initial_values.len(),
-        initial_timestamps.len(),
-    ) {
+    let lengths = LentLengths {
+        statistics: statistics.len(),
+        last_shingled_input: last_shingled_input.len(),
+        last_shingled_point: last_shingled_point.len(),
+        previous_timestamps: previous_timestamps.len(),
+        initial_values: initial_values.len(),
+        initial_timestamps: initial_timestamps.len(),
+    };
+    if is_short(head, lengths) {
         return Err(RestoreError::Refused(Refusal::TooShort));
     }
     fill(

@@ -1,9 +1,9 @@
 -- A line of a whole number and an f32, or `-` in its place. Assumes nothing.
 use Prim.Native.Nat.{ℕ, ◌≤◌, ◌<◌}
 use native.Mathlib.Omega.{arith}
-use mathlib.Core.Path.{◌≡◌, refl, ◌∙◌}
+use mathlib.Core.Path.{◌≡◌, ◌∙◌}
 use mathlib.Core.Bool.{Bool, true, false}
-use mathlib.Core.List.{List, [], ◌∷◌, ◌++◌}
+use mathlib.Core.List.{List, [], ◌∷◌}
 use lib.ListN.{length, length-append}
 use lib.Ieee.{Float, binary32}
 use borrow.Author.Tests.{lt-ltb, le-ltb}
@@ -23,10 +23,6 @@ optional_short false x = omega arith
 pub optional_size : (a n : ℕ) (g : Bool) (x : Float) → n ≤ whole_max → length (bytes_of_line (optional_line a n g x)) ≤ 32
 optional_size a n g x h =
     omega (arith, whole_short n h, optional_short g x, length-append (whole n) (tabbed_fields (optional_field g x ∷ [])), length-append (optional_field g x) (10 ∷ []))
-
--- the bytes, piece by piece
-pub optional_bytes : (a n : ℕ) (g : Bool) (x : Float) → (a ∷ []) ++ ((9 ∷ whole n) ++ ((9 ∷ optional_field g x) ++ (10 ∷ []))) ≡ bytes_of_line (optional_line a n g x)
-optional_bytes a n g x = refl
 
 pub within_short : (n : ℕ) (t out : List ℕ) → length out < n → save_outcome 20 0 out ≡ text_within n t out
 unfolding text_within

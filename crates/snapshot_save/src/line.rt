@@ -7,7 +7,7 @@ ghost use Rattle.snapshot.specs.Save.{saved_told, fitted};
 ghost use Rattle.snapshot.specs.Steps.Write.{Wrote};
 ghost use Rattle.snapshot_save.specs.Line.{text_within, optional_field, optional_line};
 
-use crate::write::{tab_single, tab_whole, tabs, whole_length, write_byte};
+use crate::write::{tab, tabs, whole_length, write_byte};
 use refusal::Refusal;
 
 // A line of f32, and its length; or TooShort with nothing written, where out is shorter than the line.
@@ -15,10 +15,7 @@ pub fn singles_line(out: &mut [u8], a: u8, b: u8, v: &[f32]) -> Result<usize, Re
     ensures { saved_told result out.new ≡ fitted (bytes_of_line (singles (a ∷ b ∷ []) v.now)) out.old }
 {
     let n = out.len();
-    if n < 3 {
-        return Err(Refusal::TooShort);
-    }
-    if (n - 3) / 9 < v.len() {
+    if n < 3 || (n - 3) / 9 < v.len() {
         return Err(Refusal::TooShort);
     }
     let p = write_byte(out, 0, a);
@@ -38,7 +35,7 @@ pub fn whole_line(out: &mut [u8], a: u8, b: u8, n: u64) -> Result<usize, Refusal
     }
     let p = write_byte(out, 0, a);
     let q = write_byte(out, p, b);
-    let r = tab_whole(out, q, n);
+    let r = tab(out, q, n);
     let e = write_byte(out, r, 10);
     Ok(e)
 }
@@ -52,7 +49,7 @@ fn tab_optional(out: &mut [u8], at: usize, x: Option<f32>) -> usize
         let p = write_byte(out, at, 9);
         return write_byte(out, p, 45);
     };
-    tab_single(out, at, x)
+    tab(out, at, x)
 }
 
 // A line of a whole number and an f32, or `-` where there is none, named by one letter; TooShort with nothing written, where out has less than 32 bytes.
@@ -63,7 +60,7 @@ pub fn optional_line(out: &mut [u8], a: u8, n: u64, x: Option<f32>) -> Result<us
         return Err(Refusal::TooShort);
     }
     let p = write_byte(out, 0, a);
-    let q = tab_whole(out, p, n);
+    let q = tab(out, p, n);
     let r = tab_optional(out, q, x);
     let e = write_byte(out, r, 10);
     Ok(e)

@@ -1,8 +1,7 @@
 // `save` (document 01: putting away): the snapshot of a preprocessor, written into lent bytes.
-// Kept: (d) the six lent lists are parameters: a struct would need a type for each mix of shared and mutable lists that the calls lend, and with mutable ones a clause on their loans in each contract.
 ghost use Rattle.std.specs.Prelude.{◌≡◌, not, ◌&&◌, ◌||◌, map, ◌++◌, eqb, ◌+◌, ◌*◌, ◌≤◌, ◌<◌, length};
 ghost use Rattle.trcf.specs.Types.{method_number, mode_letter};
-ghost use Rattle.trcf.specs.View.{lent, settings_of};
+ghost use Rattle.trcf.specs.View.{lent_by, settings_of};
 ghost use Rattle.snapshot.specs.Text.{whole, chn_line};
 ghost use Rattle.trcf.specs.Calls.{finite};
 ghost use Rattle.snapshot.specs.Read.{bytes_of_line, climbs, zeros};
@@ -16,7 +15,7 @@ use crate::write::{
 use refusal::Refusal;
 use snapshot::limits::{is_past, time_width};
 use snapshot::values::{all_zero, none_falls};
-use trcf::head::Preprocessor;
+use trcf::head::{LentLists, Preprocessor};
 use trcf_rows::rows::{all_finite, head_settings_row, is_misfit};
 
 // How many bytes whole numbers take, each after its tab.
@@ -193,7 +192,9 @@ fn save_parts(
     requires times_len_bound { length times.now ≤ 2000 }
     requires initial_len_bound { length initial.now ≤ 2000 }
     requires input_length_in_bounds { length initial.now * head.transformer.input_length ≤ length values.now }
-    ensures { saved_told result out.new ≡ fitted (head_bytes (settings_of head) head.values_seen head.internal_timestamp head.transformer.count ++ list_bytes head.transformer.input_length statistics.now input.now point.now times.now values.now initial.now) out.old }
+    ensures { saved_told result out.new ≡ fitted
+        (head_bytes (settings_of head) head.values_seen head.internal_timestamp head.transformer.count ++
+        list_bytes head.transformer.input_length statistics.now input.now point.now times.now values.now initial.now) out.old }
 {
     let t = head.transformer;
     let d = t.input_length;
@@ -206,46 +207,21 @@ fn save_parts(
     Ok(l)
 }
 
-// Whether a time stands where none was counted.
-fn is_uncounted(internal: usize, times: &[u64]) -> bool
-    ensures { result ≡ eqb internal 0 && not (zeros times.now) }
-{
-    if internal == 0 {
-        !all_zero(times)
-    } else {
-        false
-    }
-}
-
 // Whether times and initial values are not such as a text has.
 fn is_unformed(internal: usize, times: &[u64], values: &[f32], initial: &[u64]) -> bool
-    ensures { result ≡ not (climbs 0 times.now) || ((eqb internal 0 && not (zeros times.now)) || (not (finite values.now) || not (climbs 0 initial.now))) }
+    ensures { result ≡ not (climbs 0 times.now)
+        || ((eqb internal 0 && not (zeros times.now)) || (not (finite values.now) || not (climbs 0 initial.now))) }
 {
-    if !none_falls(times) {
-        return true;
-    }
-    if is_uncounted(internal, times) {
-        return true;
-    }
-    if !all_finite(values) {
-        return true;
-    }
-    !none_falls(initial)
+    !none_falls(times)
+        || internal == 0 && !all_zero(times)
+        || !all_finite(values)
+        || !none_falls(initial)
 }
 
 // The text of a head whose own rows are 0, and its length; TooShort where out is shorter than the text, or a lent list shorter than what is in use of it;
 // Form where that has not the form of a text.
-fn save_held(
-    head: Preprocessor,
-    statistics: &[f64],
-    last_shingled_input: &[f32],
-    last_shingled_point: &[f32],
-    previous_timestamps: &[u64],
-    initial_values: &[f32],
-    initial_timestamps: &[u64],
-    out: &mut [u8],
-) -> Result<usize, Refusal>
-    ensures { saved_told result out.new ≡ held_save head (lent statistics.now last_shingled_input.now last_shingled_point.now previous_timestamps.now initial_values.now initial_timestamps.now) out.old }
+fn save_held(head: Preprocessor, lists: LentLists, out: &mut [u8]) -> Result<usize, Refusal>
+    ensures { saved_told result out.new ≡ held_save head (lent_by lists.entry) out.old }
 {
     let t = head.transformer;
     let mode = head.forest_mode;
@@ -254,26 +230,15 @@ fn save_held(
     let n = head.initial_len;
     let internal = head.internal_timestamp;
     let w = time_width(mode);
-    if is_past(
-        d,
-        k,
-        w,
-        n,
-        statistics.len(),
-        last_shingled_input.len(),
-        last_shingled_point.len(),
-        previous_timestamps.len(),
-        initial_values.len(),
-        initial_timestamps.len(),
-    ) {
+    if is_past(d, k, w, n, lists.lengths()) {
         return Err(Refusal::TooShort);
     }
-    let st = &statistics[..3 * (5 * d + 5)];
-    let x = &last_shingled_input[..d * k];
-    let y = &last_shingled_point[..(d + w) * k];
-    let ts = &previous_timestamps[..k];
-    let v = &initial_values[..n * d];
-    let us = &initial_timestamps[..n];
+    let st = &lists.statistics[..3 * (5 * d + 5)];
+    let x = &lists.last_shingled_input[..d * k];
+    let y = &lists.last_shingled_point[..(d + w) * k];
+    let ts = &lists.previous_timestamps[..k];
+    let v = &lists.initial_values[..n * d];
+    let us = &lists.initial_timestamps[..n];
     if is_unformed(internal, ts, v, us) {
         return Err(Refusal::Form);
     }
@@ -282,30 +247,12 @@ fn save_held(
 
 // The snapshot of what head and the lent lists hold, and its length. What could not be taken up again is not put away: the refusal of the settings, Form
 // for counters, times or initial values that no text has, TooShort where a lent list or out is too short; nothing is written then.
-pub fn save(
-    head: Preprocessor,
-    statistics: &[f64],
-    last_shingled_input: &[f32],
-    last_shingled_point: &[f32],
-    previous_timestamps: &[u64],
-    initial_values: &[f32],
-    initial_timestamps: &[u64],
-    out: &mut [u8],
-) -> Result<usize, Refusal>
-    ensures { saved_told result out.new ≡ save_of head (lent statistics.now last_shingled_input.now last_shingled_point.now previous_timestamps.now initial_values.now initial_timestamps.now) out.old }
+pub fn save(head: Preprocessor, lists: LentLists, out: &mut [u8]) -> Result<usize, Refusal>
+    ensures { saved_told result out.new ≡ save_of head (lent_by lists.entry) out.old }
 {
     head_settings_row(head)?;
     if is_misfit(head) {
         return Err(Refusal::Form);
     }
-    save_held(
-        head,
-        statistics,
-        last_shingled_input,
-        last_shingled_point,
-        previous_timestamps,
-        initial_values,
-        initial_timestamps,
-        out,
-    )
+    save_held(head, lists, out)
 }

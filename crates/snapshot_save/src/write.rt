@@ -13,9 +13,10 @@ fn hex_digit(n: u64) -> u8
     ensures { result ≡ digit n }
 {
     if n < 10 {
-        return (48 + n) as u8;
+        (48 + n) as u8
+    } else {
+        (87 + n) as u8
     }
-    (87 + n) as u8
 }
 
 // The lowest w hexadecimal digits of n, the last one first.
@@ -69,31 +70,6 @@ pub(crate) fn write_byte(out: &mut [u8], at: usize, b: u8) -> usize
     at + 1
 }
 
-// A field after its tab: a whole number, an f32, an f64.
-pub(crate) fn tab_whole(out: &mut [u8], at: usize, n: u64) -> usize
-    requires { at + length (9 ∷ whole n) ≤ length out.old }
-    ensures { Wrote at (9 ∷ whole n) out.old result out.new }
-{
-    let p = write_byte(out, at, 9);
-    write_whole(out, p, n)
-}
-
-pub(crate) fn tab_single(out: &mut [u8], at: usize, x: f32) -> usize
-    requires { at + 9 ≤ length out.old }
-    ensures { Wrote at (9 ∷ float binary32 x) out.old result out.new }
-{
-    let p = write_byte(out, at, 9);
-    write_hex(out, p, 8, numeric::single_bits(x))
-}
-
-fn tab_double(out: &mut [u8], at: usize, x: f64) -> usize
-    requires { at + 17 ≤ length out.old }
-    ensures { Wrote at (9 ∷ float binary64 x) out.old result out.new }
-{
-    let p = write_byte(out, at, 9);
-    write_hex(out, p, 16, numeric::double_bits(x))
-}
-
 // The name of a line.
 fn write_name(out: &mut [u8], at: usize, a: u8, b: u8, c: u8) -> usize
     requires { at + 3 ≤ length out.old }
@@ -109,26 +85,42 @@ pub(crate) trait Cell: Copy {
     // Its bytes.
     ghost text: { Self → List ℕ };
 
-    // The field after its tab.
-    fn tab(self, out: &mut [u8], at: usize) -> usize
-        requires { at + length (9 ∷ text self) ≤ length out.old }
-        ensures { Wrote at (9 ∷ text self) out.old result out.new };
+    fn write(self, out: &mut [u8], at: usize) -> usize
+        requires { at + length (text self) ≤ length out.old }
+        ensures { Wrote at (text self) out.old result out.new };
 }
 
 impl Cell for u64 {
     ghost text = { whole };
 
-    fn tab(self, out: &mut [u8], at: usize) -> usize {
-        tab_whole(out, at, self)
+    fn write(self, out: &mut [u8], at: usize) -> usize {
+        write_whole(out, at, self)
     }
 }
 
 impl Cell for f32 {
     ghost text = { float binary32 };
 
-    fn tab(self, out: &mut [u8], at: usize) -> usize {
-        tab_single(out, at, self)
+    fn write(self, out: &mut [u8], at: usize) -> usize {
+        write_hex(out, at, 8, numeric::single_bits(self))
     }
+}
+
+impl Cell for f64 {
+    ghost text = { float binary64 };
+
+    fn write(self, out: &mut [u8], at: usize) -> usize {
+        write_hex(out, at, 16, numeric::double_bits(self))
+    }
+}
+
+// A field after its tab.
+pub(crate) fn tab<T: Cell>(out: &mut [u8], at: usize, x: T) -> usize
+    requires { at + length (9 ∷ T.text x) ≤ length out.old }
+    ensures { Wrote at (9 ∷ T.text x) out.old result out.new }
+{
+    let p = write_byte(out, at, 9);
+    x.write(out, p)
 }
 
 // Fields of one kind, each after its tab.
@@ -138,7 +130,7 @@ pub(crate) fn tabs<T: Cell>(out: &mut [u8], at: usize, v: &[T]) -> usize
 {
     let mut p = at;
     for x in v {
-        p = x.tab(out, p);
+        p = tab(out, p, *x);
     }
     p
 }
@@ -183,9 +175,9 @@ pub(crate) fn cnt_line(out: &mut [u8], at: usize, seen: u64, internal: u64, coun
     ensures { Wrote at (bytes_of_line (cnt_line seen internal count)) out.old result out.new }
 {
     let p = write_name(out, at, 99, 110, 116);
-    let q = tab_whole(out, p, seen);
-    let s = tab_whole(out, q, internal);
-    let t = tab_whole(out, s, count);
+    let q = tab(out, p, seen);
+    let s = tab(out, q, internal);
+    let t = tab(out, s, count);
     write_byte(out, t, 10)
 }
 
@@ -195,9 +187,9 @@ fn dev_line(out: &mut [u8], at: usize, weight: f64, sum: f64, squares: f64) -> u
     ensures { Wrote at (bytes_of_line (dev_line weight sum squares)) out.old result out.new }
 {
     let p = write_name(out, at, 100, 101, 118);
-    let q = tab_double(out, p, weight);
-    let s = tab_double(out, q, sum);
-    let t = tab_double(out, s, squares);
+    let q = tab(out, p, weight);
+    let s = tab(out, q, sum);
+    let t = tab(out, s, squares);
     write_byte(out, t, 10)
 }
 
@@ -207,7 +199,7 @@ fn buf_line(out: &mut [u8], at: usize, time: u64, v: &[f32]) -> usize
     ensures { Wrote at (bytes_of_line (buf_line time v.now)) out.old result out.new }
 {
     let p = write_name(out, at, 98, 117, 102);
-    let q = tab_whole(out, p, time);
+    let q = tab(out, p, time);
     let s = tabs(out, q, v);
     write_byte(out, s, 10)
 }
@@ -233,8 +225,8 @@ pub(crate) fn set_line(
     let q = write_byte(out, p, 9);
     let s = write_byte(out, q, letter);
     let t = tabs(out, s, &wholes[..]);
-    let u = tab_double(out, t, decay);
-    let v = tab_single(out, u, weight_time);
+    let u = tab(out, t, decay);
+    let v = tab(out, u, weight_time);
     write_byte(out, v, 10)
 }
 

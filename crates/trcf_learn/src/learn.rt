@@ -12,7 +12,7 @@ ghost use Rattle.trcf.specs.Steps.Learning.{Exact, Findable};
 ghost use Rattle.trcf_rows.specs.Given.{list_in};
 
 use trcf::feeding::feed_reading;
-use trcf::head::{Anomaly, Preprocessor};
+use trcf::head::{Anomaly, Preprocessor, statistics_length};
 use trcf::output::write_deviations;
 use trcf::shingle::{copy_in, shift_in};
 use trcf::time::last_time;
@@ -115,7 +115,7 @@ pub(crate) fn update_shingles(
     let k = head.shingle_size;
     feed_newest(
         head,
-        &mut statistics[..3 * (5 * d + 5)],
+        &mut statistics[..statistics_length(d)],
         &last_shingled_input[..d * k],
         &previous_timestamps[..k],
         input,

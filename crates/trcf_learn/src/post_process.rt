@@ -1,5 +1,5 @@
 // A reading is learnt: it waits, or it comes into the statistics and the shingles (the source's post_process).
-// Kept: (d) the six lent lists are parameters: a struct would need a type for each mix of shared and mutable lists that the calls lend, and with mutable ones a clause on their loans in each contract.
+// Kept: (d) lists that a call writes are parameters of their own: a struct would need a type for each mix of shared and mutable ones, and a clause on its loans in each contract.
 ghost use Rattle.std.specs.Prelude.{◌≡◌, true, false, cond, ◌&&◌, [], ◌∷◌, ◌++◌, suc, ◌*◌, ◌≤◌, ◌<◌, ltb, eqb, length, take, is_some, None};
 ghost use Rattle.std.specs.Float.Ieee.{lt};
 ghost use Rattle.common.specs.Deviation.{count_limit};
@@ -13,7 +13,7 @@ ghost use Rattle.trcf_rows.specs.Given.{list_in};
 
 use crate::learn::{hold, update_shingles, write_completing, write_found};
 use refusal::Refusal;
-use trcf::head::{PostProcessed, Preprocessor, with_counts};
+use trcf::head::{LentLists, PostProcessed, Preprocessor, statistics_length, with_counts};
 use trcf::output::write_deviations;
 use trcf_rows::learn_rows::{places_back, post_process_row};
 use trcf_rows::rows::is_waiting;
@@ -43,7 +43,7 @@ fn post_process_waiting(
 {
     let d = head.transformer.input_length;
     hold(head, initial_values, initial_timestamps, input, timestamp);
-    let written = write_completing(head, &statistics[..3 * (5 * d + 5)], deviations_out);
+    let written = write_completing(head, &statistics[..statistics_length(d)], deviations_out);
     PostProcessed {
         head: Preprocessor {
             values_seen: head.values_seen + 1,
@@ -99,7 +99,7 @@ fn post_process_learning(
     let k = head.shingle_size;
     let anomaly = write_found(
         head,
-        &statistics[..3 * (5 * d + 5)],
+        &statistics[..statistics_length(d)],
         &last_shingled_input[..d * k],
         &previous_timestamps[..k],
         input,
@@ -119,7 +119,7 @@ fn post_process_learning(
         timestamp,
         y,
     );
-    write_deviations(head, &statistics[..3 * (5 * d + 5)], deviations_out);
+    write_deviations(head, &statistics[..statistics_length(d)], deviations_out);
     let count = next_count(head);
     PostProcessed {
         head: with_counts(
@@ -155,14 +155,17 @@ pub fn post_process(
     ensures { processed_outcome result head (lent statistics.new last_shingled_input.new last_shingled_point.new previous_timestamps.new initial_values.new initial_timestamps.new) deviations_out.new past_out.new expected_out.new
         ≡ learn_after head (lent statistics.old last_shingled_input.old last_shingled_point.old previous_timestamps.old initial_values.old initial_timestamps.old) (learn_call input.now timestamp (is_some y.entry) (list_in y.entry) (is_some expected.entry) (list_in expected.entry) grade relative_index deviations_out.old past_out.old expected_out.old) }
 {
-    post_process_row(
-        head,
+    let lists = LentLists {
         statistics,
         last_shingled_input,
         last_shingled_point,
         previous_timestamps,
         initial_values,
         initial_timestamps,
+    };
+    post_process_row(
+        head,
+        lists,
         input,
         timestamp,
         y,

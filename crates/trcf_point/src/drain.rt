@@ -1,5 +1,5 @@
 // Draining: the initial values are fed to the statistics and then come into the shingles. The workers' lists are of just the length in use.
-// Kept: (d) the six lent lists are parameters: a struct would need a type for each mix of shared and mutable lists that the calls lend, and with mutable ones a clause on their loans in each contract.
+// Kept: (d) lists that a call writes are parameters of their own: a struct would need a type for each mix of shared and mutable ones, and a clause on its loans in each contract.
 ghost use Rattle.std.specs.Prelude.{◌≡◌, false, ◌&&◌, [], ◌∷◌, ◌+◌, ◌-◌, ◌*◌, ◌≤◌, ◌<◌, length, get_or};
 ghost use Rattle.common.specs.Deviation.{count_limit};
 ghost use Rattle.trcf.specs.Lists.{shift_in};
@@ -11,7 +11,9 @@ ghost use Rattle.trcf.specs.Steps.Learning.{shingling, reading_at, Exact};
 
 use refusal::Refusal;
 use trcf::feeding::feed_reading;
-use trcf::head::{Preprocessor, block_of, get_dimension, with_counts};
+use trcf::head::{
+    LentLists, Preprocessor, block_of, get_dimension, statistics_length, with_counts,
+};
 use trcf::output::write_transform;
 use trcf::shingle::{copy_in, shift_in};
 use trcf::time::last_time;
@@ -24,7 +26,8 @@ fn feed_turn(head: Preprocessor, s: &mut [f64], values: &[f32], stamps: &[u64], 
     requires stamps_bound { head.transformer.count + length stamps.now ≤ count_limit }
     requires input_length_in_bounds { length stamps.now * head.transformer.input_length ≤ length values.now }
     requires i_in_bounds { i < length stamps.now }
-    ensures { s.new ≡ feed (settings_of head) (head.transformer.count + i) s.old (reading_at head.transformer.input_length values.now stamps.now (i - 1)) (reading_at head.transformer.input_length values.now stamps.now i) }
+    ensures { s.new ≡ feed (settings_of head) (head.transformer.count + i) s.old (reading_at head.transformer.input_length values.now stamps.now (i - 1))
+        (reading_at head.transformer.input_length values.now stamps.now i) }
 {
     let d = head.transformer.input_length;
     let p = i.saturating_sub(1);
@@ -45,7 +48,8 @@ fn feed_initial(head: Preprocessor, s: &mut [f64], values: &[f32], stamps: &[u64
     requires s_len { length s.old ≡ statistics_length (settings_of head) }
     requires stamps_bound { head.transformer.count + length stamps.now ≤ count_limit }
     requires input_length_in_bounds { length stamps.now * head.transformer.input_length ≤ length values.now }
-    ensures { s.new ≡ feed_all (settings_of head) head.transformer.count s.old (reading_at head.transformer.input_length values.now stamps.now 0) (blocks head.transformer.input_length values.now stamps.now) }
+    ensures { s.new ≡ feed_all (settings_of head) head.transformer.count s.old (reading_at head.transformer.input_length values.now stamps.now 0)
+        (blocks head.transformer.input_length values.now stamps.now) }
 {
     for i in 0..stamps.len() {
         feed_turn(head, s, values, stamps, i);
@@ -69,7 +73,9 @@ fn drain_turn(
     requires values_len { length values.now ≡ length stamps.now * head.transformer.input_length }
     requires i_in_bounds { i < length stamps.now }
     ensures inputs_after { inputs.new ≡ shift_in inputs.old (reading_at head.transformer.input_length values.now stamps.now i).value }
-    ensures points_after { points.new ≡ shift_in points.old (transformed_after (settings_of head) s.now head.values_seen (previous (holding head s.now inputs.old times.old)) (reading_at head.transformer.input_length values.now stamps.now i)) }
+    ensures points_after { points.new ≡ shift_in points.old
+        (transformed_after (settings_of head) s.now head.values_seen (previous (holding head s.now inputs.old times.old))
+        (reading_at head.transformer.input_length values.now stamps.now i)) }
     ensures times_after { times.new ≡ shift_in times.old (get_or stamps.now i 0 ∷ []) }
 {
     let d = head.transformer.input_length;
@@ -108,7 +114,10 @@ fn drain_each(
     requires stamps_bound { head.transformer.count + length stamps.now ≤ count_limit }
     requires stamps_nonzero { 0 < length stamps.now }
     ensures { shingling head (head.transformer.count + length stamps.now) s.new inputs.new points.new times.new (head.internal_timestamp + length stamps.now)
-        ≡ drain_each (shingling head (head.transformer.count + length stamps.now) (feed_all (settings_of head) head.transformer.count s.old (reading_at head.transformer.input_length values.now stamps.now 0) (blocks head.transformer.input_length values.now stamps.now)) inputs.old points.old times.old head.internal_timestamp) (blocks head.transformer.input_length values.now stamps.now) }
+        ≡ drain_each (shingling head (head.transformer.count + length stamps.now)
+        (feed_all (settings_of head) head.transformer.count s.old (reading_at head.transformer.input_length values.now stamps.now 0)
+        (blocks head.transformer.input_length values.now stamps.now)) inputs.old points.old times.old head.internal_timestamp)
+        (blocks head.transformer.input_length values.now stamps.now) }
 {
     feed_initial(head, s, values, stamps);
     for i in 0..stamps.len() {
@@ -154,9 +163,20 @@ pub(crate) fn drain_due(
     initial_timestamps: &[u64],
 ) -> Preprocessor
     requires ready { Ready head (lent statistics.old last_shingled_input.old last_shingled_point.old previous_timestamps.old initial_values.now initial_timestamps.now) }
-    requires initial_timestamps_value { (due (settings_of head) (facts (view head (lent statistics.old last_shingled_input.old last_shingled_point.old previous_timestamps.old initial_values.now initial_timestamps.now))) && drain_full (settings_of head) (facts (view head (lent statistics.old last_shingled_input.old last_shingled_point.old previous_timestamps.old initial_values.now initial_timestamps.now)))) ≡ false }
-    ensures initial_timestamps_after { outcome 0 result (lent statistics.new last_shingled_input.new last_shingled_point.new previous_timestamps.new initial_values.now initial_timestamps.now) ≡ outcome 0 (counted head (drained (view head (lent statistics.old last_shingled_input.old last_shingled_point.old previous_timestamps.old initial_values.now initial_timestamps.now)))) (written_over (drained (view head (lent statistics.old last_shingled_input.old last_shingled_point.old previous_timestamps.old initial_values.now initial_timestamps.now))) (lent statistics.old last_shingled_input.old last_shingled_point.old previous_timestamps.old initial_values.now initial_timestamps.now)) }
-    ensures initial_timestamps_after_2 { view result (lent statistics.new last_shingled_input.new last_shingled_point.new previous_timestamps.new initial_values.now initial_timestamps.now) ≡ drained (view head (lent statistics.old last_shingled_input.old last_shingled_point.old previous_timestamps.old initial_values.now initial_timestamps.now)) }
+    requires initial_timestamps_value { (due (settings_of head)
+        (facts (view head (lent statistics.old last_shingled_input.old last_shingled_point.old previous_timestamps.old initial_values.now initial_timestamps.now)))
+        && drain_full (settings_of head)
+        (facts (view head (lent statistics.old last_shingled_input.old last_shingled_point.old previous_timestamps.old initial_values.now initial_timestamps.now))))
+        ≡ false }
+    ensures initial_timestamps_after { outcome 0 result
+        (lent statistics.new last_shingled_input.new last_shingled_point.new previous_timestamps.new initial_values.now initial_timestamps.now)
+        ≡ outcome 0
+        (counted head (drained (view head (lent statistics.old last_shingled_input.old last_shingled_point.old previous_timestamps.old initial_values.now initial_timestamps.now))))
+        (written_over (drained (view head (lent statistics.old last_shingled_input.old last_shingled_point.old previous_timestamps.old initial_values.now initial_timestamps.now)))
+        (lent statistics.old last_shingled_input.old last_shingled_point.old previous_timestamps.old initial_values.now initial_timestamps.now)) }
+    ensures initial_timestamps_after_2 { view result
+        (lent statistics.new last_shingled_input.new last_shingled_point.new previous_timestamps.new initial_values.now initial_timestamps.now)
+        ≡ drained (view head (lent statistics.old last_shingled_input.old last_shingled_point.old previous_timestamps.old initial_values.now initial_timestamps.now)) }
 {
     if !is_due(head, initial_timestamps) {
         return head;
@@ -167,7 +187,7 @@ pub(crate) fn drain_due(
     let m = get_dimension(head);
     drain_all(
         head,
-        &mut statistics[..3 * (5 * d + 5)],
+        &mut statistics[..statistics_length(d)],
         &mut last_shingled_input[..d * k],
         &mut last_shingled_point[..m],
         &mut previous_timestamps[..k],
@@ -192,17 +212,19 @@ pub fn drain(
     initial_values: &[f32],
     initial_timestamps: &[u64],
 ) -> Result<Preprocessor, Refusal>
-    ensures { head_outcome result head (lent statistics.new last_shingled_input.new last_shingled_point.new previous_timestamps.new initial_values.now initial_timestamps.now) ≡ drain_of head (lent statistics.old last_shingled_input.old last_shingled_point.old previous_timestamps.old initial_values.now initial_timestamps.now) }
+    ensures { head_outcome result head
+        (lent statistics.new last_shingled_input.new last_shingled_point.new previous_timestamps.new initial_values.now initial_timestamps.now)
+        ≡ drain_of head (lent statistics.old last_shingled_input.old last_shingled_point.old previous_timestamps.old initial_values.now initial_timestamps.now) }
 {
-    drain_row(
-        head,
+    let lists = LentLists {
         statistics,
         last_shingled_input,
         last_shingled_point,
         previous_timestamps,
         initial_values,
         initial_timestamps,
-    )?;
+    };
+    drain_row(head, lists)?;
     Ok(drain_due(
         head,
         statistics,

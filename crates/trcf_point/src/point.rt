@@ -1,5 +1,5 @@
 // The point with the transformed reading after it (the source's shingled_point), after what waits is drained.
-// Kept: (d) the six lent lists are parameters: a struct would need a type for each mix of shared and mutable lists that the calls lend, and with mutable ones a clause on their loans in each contract.
+// Kept: (d) lists that a call writes are parameters of their own: a struct would need a type for each mix of shared and mutable ones, and a clause on its loans in each contract.
 ghost use Rattle.std.specs.Prelude.{◌≡◌, ◌*◌, ◌≤◌, length, take};
 ghost use Rattle.refusal.specs.Lent.{over};
 ghost use Rattle.trcf.specs.Settings.{dimension};
@@ -9,7 +9,7 @@ ghost use Rattle.trcf.specs.View.{settings_of, lent, Bounded, point_outcome, poi
 
 use crate::drain::drain_due;
 use refusal::Refusal;
-use trcf::head::{Pointed, Preprocessor, block_of, get_dimension};
+use trcf::head::{LentLists, Pointed, Preprocessor, block_of, get_dimension, statistics_length};
 use trcf::output::write_transform;
 use trcf::shingle::copy_in;
 use trcf::time::time_base;
@@ -54,7 +54,7 @@ pub(crate) fn write_point(
     let mut z = [0.0; 17];
     write_transform(
         head,
-        &statistics[..3 * (5 * d + 5)],
+        &statistics[..statistics_length(d)],
         &last_shingled_input[..d * k],
         base,
         input,
@@ -76,20 +76,22 @@ pub fn shingled_point(
     timestamp: u64,
     output: &mut [f32],
 ) -> Result<Pointed, Refusal>
-    ensures { point_outcome result head (lent statistics.new last_shingled_input.new last_shingled_point.new previous_timestamps.new initial_values.now initial_timestamps.now) output.new ≡ point_after head (lent statistics.old last_shingled_input.old last_shingled_point.old previous_timestamps.old initial_values.now initial_timestamps.now) input.now timestamp output.old }
+    ensures { point_outcome result head
+        (lent statistics.new last_shingled_input.new last_shingled_point.new previous_timestamps.new initial_values.now initial_timestamps.now)
+        output.new
+        ≡ point_after head
+        (lent statistics.old last_shingled_input.old last_shingled_point.old previous_timestamps.old initial_values.now initial_timestamps.now)
+        input.now timestamp output.old }
 {
-    shingled_point_row(
-        head,
+    let lists = LentLists {
         statistics,
         last_shingled_input,
         last_shingled_point,
         previous_timestamps,
         initial_values,
         initial_timestamps,
-        input,
-        timestamp,
-        output,
-    )?;
+    };
+    shingled_point_row(head, lists, input, timestamp, output)?;
     if is_waiting(head) {
         return Ok(Pointed { given: false, head });
     }

@@ -1,5 +1,6 @@
 -- A line as the code reads it: piece by piece from a place of the text on, and none where a piece is bad.
-use Rattle.std.specs.Prelude.{Option as Answer, Some, None, ℕ, zero, suc, ◌+◌, ◌-◌, Bool, not, ◌&&◌, ◌||◌, cond, ◌≡◌, List, [], ◌∷◌, ◌++◌, ◌⊎◌, length, take, drop, replicate, get_or, leb, ltb, eqb, Float}
+use Rattle.std.specs.Prelude.{Option as Answer, Some, None, ℕ, zero, suc, ◌+◌, ◌-◌, Bool, not, ◌&&◌, ◌||◌, cond, ◌≡◌, List, [], ◌∷◌, ◌++◌, ◌⊎◌, length, take}
+use Rattle.std.specs.Prelude.{drop, replicate, get_or, leb, ltb, eqb, Float}
 use Rattle.std.proofs.Math.Option.{Option, none, some}
 use Rattle.std.proofs.Common.{inl, inr}
 use Rattle.std.specs.Float.{nan, binary32, binary64}

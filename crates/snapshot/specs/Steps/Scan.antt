@@ -33,6 +33,10 @@ abbrev pub hscan : ℕ → List ℕ → Option ℕ
 hscan a [] = some a
 hscan a (b ∷ bs) = let r = hscan (16 * a + hex_of b) bs in cond (leb (hex_of b) 15 && leb (16 * a + hex_of b) whole_max) r none
 
+-- the number that so many digits write, none for more or fewer
+abbrev pub sized : ℕ → List ℕ → Option ℕ
+sized w c = cond (eqb (length c) w) (hscan 0 c) none
+
 -- the float of a bit pattern: a not-a-number in one pattern only
 abbrev pub bits_of : Format → Option ℕ → Option Float
 bits_of f none = none

@@ -55,7 +55,8 @@ returns-in-Ok c =
     a.start_normalization a.stop_normalization a.transform_decay a.weight_time a.weights.now a.codes.now))) refl (long a.head.now c.if-head-lt-HEAD_WORDS.false)
     (c.in-Ok.ensures ∙ (λ j. build_of
     (settings_with (c.mode_of.ensures j) (c.method_of.ensures j) a.input_dimensions a.shingle_size a.start_normalization a.stop_normalization a.transform_decay
-    a.weight_time a.weights.now a.codes.now) (lent a.statistics.now a.last_shingled_input.now a.last_shingled_point.now a.previous_timestamps.now a.initial_values.now a.initial_timestamps.now))) c.write_head.ensures
+    a.weight_time a.weights.now a.codes.now)
+    (lent a.statistics.now a.last_shingled_input.now a.last_shingled_point.now a.previous_timestamps.now a.initial_values.now a.initial_timestamps.now))) c.write_head.ensures
 
 pub returns-in-Err-built : goal.returns-in-Err-built
 returns-in-Err-built c =
@@ -70,4 +71,5 @@ returns-in-Err-built c =
     a.start_normalization a.stop_normalization a.transform_decay a.weight_time a.weights.now a.codes.now))) refl (long a.head.now c.if-head-lt-HEAD_WORDS.false)
     (c.in-Err-built.ensures ∙ (λ j. build_of
     (settings_with (c.mode_of.ensures j) (c.method_of.ensures j) a.input_dimensions a.shingle_size a.start_normalization a.stop_normalization a.transform_decay
-    a.weight_time a.weights.now a.codes.now) (lent a.statistics.now a.last_shingled_input.now a.last_shingled_point.now a.previous_timestamps.now a.initial_values.now a.initial_timestamps.now))) (kept _ _ _ (number_zero r)))
+    a.weight_time a.weights.now a.codes.now)
+    (lent a.statistics.now a.last_shingled_input.now a.last_shingled_point.now a.previous_timestamps.now a.initial_values.now a.initial_timestamps.now))) (kept _ _ _ (number_zero r)))

@@ -29,7 +29,8 @@ returns-in-Ok-learnt c =
     (anomaly_out a.written.now a.has_anomaly.now a.past_timestamp.now a.likelihood.now)
     (learn_call a.input.now a.timestamp (is_set a.has_y) a.y.now (is_set a.expects) a.expected.now a.grade a.relative_index a.deviations_out.now
     a.past_out.now a.expected_out.now) _ c.in-Ok-learnt.ensures
-    (given_call a.input.now a.timestamp a.grade a.relative_index a.deviations_out.now a.past_out.now a.expected_out.now a.has_y a.y a.expects a.expected c.then_some.ensures c.then_some-2.ensures (to_z-of_z w32 a.relative_index c.ranges.relative_index))
+    (given_call a.input.now a.timestamp a.grade a.relative_index a.deviations_out.now a.past_out.now a.expected_out.now
+    a.has_y a.y a.expects a.expected c.then_some.ensures c.then_some-2.ensures (to_z-of_z w32 a.relative_index c.ranges.relative_index))
     c.write_counts.ensures (flag_from _ c.from-in-Ok-learnt.ensures) refl t.flag_after refl t.time_after t.likelihood_after
 
 pub returns-in-Err-learnt : goal.returns-in-Err-learnt
@@ -42,5 +43,6 @@ returns-in-Err-learnt c =
     (anomaly_out a.written.now a.has_anomaly.now a.past_timestamp.now a.likelihood.now)
     (learn_call a.input.now a.timestamp (is_set a.has_y) a.y.now (is_set a.expects) a.expected.now a.grade a.relative_index a.deviations_out.now
     a.past_out.now a.expected_out.now) _ c.in-Err-learnt.ensures
-    (given_call a.input.now a.timestamp a.grade a.relative_index a.deviations_out.now a.past_out.now a.expected_out.now a.has_y a.y a.expects a.expected c.then_some.ensures c.then_some-2.ensures (to_z-of_z w32 a.relative_index c.ranges.relative_index))
+    (given_call a.input.now a.timestamp a.grade a.relative_index a.deviations_out.now a.past_out.now a.expected_out.now
+    a.has_y a.y a.expects a.expected c.then_some.ensures c.then_some-2.ensures (to_z-of_z w32 a.relative_index c.ranges.relative_index))
     (kept _ _ _ z) refl (kept _ _ _ z) refl (kept _ _ _ z) (kept _ _ _ z) (kept _ _ _ z))

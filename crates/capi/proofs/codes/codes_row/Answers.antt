@@ -1,7 +1,7 @@
 -- `capi::codes::codes_row` meets its contract: by its loop's invariant. Assumes nothing.
 use Prim.Native.Nat.{◌≤◌}
 use native.Mathlib.Omega.{arith}
-use mathlib.Core.Path.{sym, ap, ◌∙◌}
+use mathlib.Core.Path.{sym}
 use lib.ListN.{length}
 use borrow.Author.Tests.{lt-leb, le-leb}
 use Rattle.capi.proofs.WordLaws.{largest_code, codes_met}

@@ -1,8 +1,6 @@
 -- `capi::getters::veerycouch_codes` meets its contract: by the promises of the words and of the codes told. Assumes nothing.
-use mathlib.Core.Path.{◌≡◌, refl, sym}
-use native.Mathlib.Omega.{arith}
+use mathlib.Core.Path.{◌≡◌, refl}
 use lib.ListN.{length, take}
-use lib.Seq.{length-take-le}
 use Rattle.capi.proofs.HeadLaws.{read_codes}
 use Rattle.capi.proofs.CallLaws.{opened, refused_row, not_zero, codes_refused, codes_done}
 use Rattle.capi.proofs.getters.veerycouch_codes.Goals as goal
@@ -10,7 +8,8 @@ use Rattle.capi.proofs.getters.veerycouch_codes.Goals as goal
 pub returns-in-Err : goal.returns-in-Err
 returns-in-Err c =
     let a = c.args in
-    codes_refused a.table.now a.role a.head.now (refused_row c.in-Err.refusal a.head.now c.from.ensures c.may.ensures c.in-Err.ensures.row_value) a.output.now (not_zero c.in-Err.refusal c.from.ensures)
+    codes_refused a.table.now a.role a.head.now
+    (refused_row c.in-Err.refusal a.head.now c.from.ensures c.may.ensures c.in-Err.ensures.row_value) a.output.now (not_zero c.in-Err.refusal c.from.ensures)
 
 pub returns : goal.returns
 returns c =

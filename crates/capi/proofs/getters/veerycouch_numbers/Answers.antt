@@ -6,7 +6,8 @@ use Rattle.capi.proofs.getters.veerycouch_numbers.Goals as goal
 pub returns-in-Err : goal.returns-in-Err
 returns-in-Err c =
     let a = c.args in
-    numbers_refused a.table.now a.role a.head.now (refused_row c.in-Err.refusal a.head.now c.from.ensures c.may.ensures c.in-Err.ensures.row_value) a.output.now (not_zero c.in-Err.refusal c.from.ensures)
+    numbers_refused a.table.now a.role a.head.now
+    (refused_row c.in-Err.refusal a.head.now c.from.ensures c.may.ensures c.in-Err.ensures.row_value) a.output.now (not_zero c.in-Err.refusal c.from.ensures)
 
 pub returns-in-Ok-numbers : goal.returns-in-Ok-numbers
 returns-in-Ok-numbers c =

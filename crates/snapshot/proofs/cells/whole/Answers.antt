@@ -6,10 +6,10 @@ use Rattle.snapshot.proofs.JudgeLaws.{number_is, number_not}
 use Rattle.snapshot.proofs.cells.whole.Goals as goal
 
 pub returns-in_default : goal.returns-in_default
-returns-in_default c = number_not (as_whole c.args.c.now) c.cell-next.result.field (ap (λ (r : Next). r.field) c.cell-next.ensures) c.in_default.not-Whole
+returns-in_default c = number_not (as_whole c.args.c.now) c.cell.result.field (ap (λ (r : Next). r.field) c.cell.ensures) c.in_default.not-Whole
 
 pub returns : goal.returns
 returns c =
-    let at-next-field = c.cell-next in
+    let at-next-field = c.cell in
     number_is (as_whole c.args.c.now) at-next-field.result.field (ap (λ (r : Next). r.field) at-next-field.ensures)
     c.in-Whole.n c.in-Whole.is

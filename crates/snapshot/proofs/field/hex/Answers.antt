@@ -25,7 +25,13 @@ loop-x-preserved c =
     let s = c.loop-x in
     let d = c.digit-d in
     let h : s.x-index < length v = c.loop-x-test.true in
-    let w : Larger s.largest d.result c.if-largest-d.largest = elim c.if-largest-d.branch [ then-largest-d w ↦ inl (w.if-largest-d.true, w.largest-is) | else-largest-d w ↦ inr (w.if-largest-d.false, w.largest-is) ] in
+    let w : Larger s.largest d.result c.if-largest-d.largest = elim c.if-largest-d.branch [
+      | then-largest-d w ↦ inl (
+        w.if-largest-d.true,
+        w.largest-is,
+      )
+      | else-largest-d w ↦ inr (w.if-largest-d.false, w.largest-is)
+    ] in
     let few : length v ≤ 16 = c.requires in
     rw (add-one s.x-index) (told_next v s.n s.x-index d.result s.largest c.if-largest-d.largest few h d.ensures s.invariant w)
 

@@ -36,7 +36,11 @@ pub returns-after-loop-i : goal.returns-after-loop-i
 returns-after-loop-i c =
     let a = c.args in
     let L = c.loop-i in record {
-      text_value = ap (λ (r : Ran Initial). unkept r) (unkept_done a.d a.n (drop a.at a.text.now) L.i L.past (drop L.p a.text.now) L.invariant.1 (omega (arith, c.loop-i.invariant, c.loop-i-test.false)));
+      text_value = ap (λ (r : Ran Initial). unkept r) (unkept_done a.d a.n (drop a.at a.text.now) L.i L.past (drop L.p a.text.now) L.invariant.1 (omega (
+        arith,
+        c.loop-i.invariant,
+        c.loop-i-test.false,
+      )));
       bad_le_n = tt;
     }
 

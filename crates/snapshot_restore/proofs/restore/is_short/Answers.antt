@@ -12,4 +12,4 @@ returns c =
     let h = a.head in
     c.is_past.ensures
     ∙ short_past (augments h.forest_mode) c.time_width-wide.result n.result (initial_room (settings_of h)) h.transformer.input_length h.shingle_size
-    a.statistics a.input a.point a.times a.values a.initial c.time_width-wide.ensures n.ensures.value
+    _ _ _ _ _ _ c.time_width-wide.ensures n.ensures.value

@@ -87,7 +87,11 @@ returns c =
       text_value = unkept_of P.result _ a.text.now _
           (parts_of_lem s (counts_in a.head) (drop a.at a.text.now) _ _ _ _
           (length-take-le (s.d * s.k) _ (few s.d s.k pre.input_length_bound pre.shingle_size_bound))
-          (length-take-le ((s.d + time-width-at.result) * s.k) _ (few_wide (s.d + time-width-at.result) s.k (omega (arith, w, pre.input_length_bound)) pre.shingle_size_bound) ∙ dimension_is s time-width-at.result
+          (length-take-le ((s.d + time-width-at.result) * s.k) _ (few_wide (s.d + time-width-at.result) s.k (omega (
+            arith,
+            w,
+            pre.input_length_bound,
+          )) pre.shingle_size_bound) ∙ dimension_is s time-width-at.result
           time-width-at.ensures)
           (length-take-le s.k _ pre.shingle_size_bound)
           P.ensures.text_after);

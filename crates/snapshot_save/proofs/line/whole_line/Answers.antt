@@ -18,4 +18,4 @@ returns c =
     let a = c.args in
     line_written (bytes_of_line (named (a.a ∷ a.b ∷ []) (whole a.n ∷ []))) a.out.now _ _
     (omega (arith, number_size a.a a.b a.n, c.whole_length-l.ensures.value, c.if-out-l.false))
-    (wrote_then c.write_byte-p.ensures (wrote_then c.write_byte-q.ensures (wrote_then c.tab_whole-r.ensures c.write_byte-e.ensures)))
+    (wrote_then c.write_byte-p.ensures (wrote_then c.write_byte-q.ensures (wrote_then c.tab-r.ensures c.write_byte-e.ensures)))

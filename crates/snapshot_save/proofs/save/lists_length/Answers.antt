@@ -11,4 +11,9 @@ pub overflow_add-result-3 : goal.overflow_add-result-3
 overflow_add-result-3 c = let a = c.args in omega (arith, few_lines (length a.initial.now) a.d (omega arith) (omega arith))
 
 pub returns : goal.returns
-returns c = let a = c.args in omega (arith, list_size a.d a.statistics.now a.input.now a.point.now a.times.now a.values.now a.initial.now (omega arith), few_lines (length a.initial.now) a.d (omega arith) (omega arith))
+returns c = let a = c.args in omega (
+  arith,
+  list_size a.d a.statistics.now a.input.now a.point.now a.times.now a.values.now a.initial.now (omega arith),
+  few_lines
+      (length a.initial.now) a.d (omega arith) (omega arith),
+)

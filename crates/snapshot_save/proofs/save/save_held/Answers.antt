@@ -1,15 +1,32 @@
 -- `snapshot_save::save::save_held` meets its contract. Assumes nothing.
-use Rattle.snapshot.proofs.SaveLaws.{narrow_past, wide_of, held_of, few, few_wide, few_values, saved_not, saved_unformed, saved_is}
-use Rattle.trcf.specs.View.{lent, view}
-use Rattle.snapshot.specs.Save.{unformed}
+use Rattle.snapshot.proofs.SaveLaws.{wide_of, past_is, held_by, few, few_wide, few_values, saved_not, saved_unformed, saved_is}
 use Rattle.trcf.specs.Types.{augments}
+use Rattle.trcf.specs.View.{lent_by, lengths_of, view}
+use Rattle.trcf.specs.declared.head.LentLengths.{LentLengths}
+use Rattle.trcf.specs.declared.head.LentLists.{LentLists}
+use Rattle.trcf.specs.declared.head.Preprocessor.{Preprocessor}
+use Rattle.snapshot.specs.Save.{past, unformed}
 use lib.Seq.{length-take-le}
-use lib.ListN.{length}
-use mathlib.Core.Path.{ap, sym, ◌∙◌}
+use mathlib.Core.Path.{◌≡◌, ap, sym, ◌∙◌}
 use native.Mathlib.Omega.{arith}
 use native.Mathlib.Nat.{le_of_eq}
-use Prim.Native.Nat.{ℕ, ◌+◌, ◌*◌, ◌≤◌}
+use mathlib.Core.Bool.{Bool, ◌||◌}
+use Prim.Native.Nat.{ℕ, ◌+◌, ◌*◌}
+use lib.Dec.{ltb}
+use lib.ListN.{length}
 use Rattle.snapshot_save.proofs.save.save_held.Goals as goal
+
+-- what is asked of the lengths is asked of what is lent
+past_lent : (h : Preprocessor) (w : ℕ) (v : LentLists) {r : Bool} {m : LentLengths} → m ≡ lengths_of (lent_by v)
+    → r ≡ (ltb 1 w || past h.transformer.input_length h.shingle_size w h.initial_len m.statistics m.last_shingled_input m.last_shingled_point
+    m.previous_timestamps m.initial_values m.initial_timestamps)
+    → r ≡ (ltb 1 w || past h.transformer.input_length h.shingle_size w h.initial_len (length v.statistics.now) (length v.last_shingled_input.now)
+    (length v.last_shingled_point.now) (length v.previous_timestamps.now) (length v.initial_values.now) (length v.initial_timestamps.now))
+past_lent h w v e q =
+    q
+    ∙ ap (λ (m : LentLengths).
+    ltb 1 w || past h.transformer.input_length h.shingle_size w h.initial_len m.statistics m.last_shingled_input m.last_shingled_point
+    m.previous_timestamps m.initial_values m.initial_timestamps) e
 
 pub is_past-requires : goal.is_past-requires
 is_past-requires c = tt
@@ -17,210 +34,181 @@ is_past-requires c = tt
 pub returns-then-is_past : goal.returns-then-is_past
 returns-then-is_past c =
     let a = c.args in
-    let h = a.head in
-    let d = h.transformer.input_length in
-    let k = h.shingle_size in
-    let n = h.initial_len in
-    let w = c.time_width-w.result in
-    let o : w ≤ 1 = wide_of (augments h.forest_mode) w c.time_width-w.ensures in
-    saved_not h (lent a.statistics.now a.last_shingled_input.now a.last_shingled_point.now a.previous_timestamps.now a.initial_values.now a.initial_timestamps.now) w c.time_width-w.ensures a.out.now (sym (narrow_past c.is_past.ensures o) ∙ c.if-is_past.true)
+    let w = c.time_width-w in
+    let l = lent_by a.lists in
+    let p = past_lent a.head w.result a.lists c.lengths.ensures c.is_past.ensures in
+    saved_not a.head l w.result w.ensures a.out.now (sym (past_is (augments a.head.forest_mode) w.ensures p) ∙ c.if-is_past.true)
 
 pub overflow_mul-st : goal.overflow_mul-st
 overflow_mul-st c =
     let a = c.args in
-    let h = a.head in
-    let d = h.transformer.input_length in
-    let k = h.shingle_size in
-    let n = h.initial_len in
-    let w = c.time_width-w.result in
-    let o : w ≤ 1 = wide_of (augments h.forest_mode) w c.time_width-w.ensures in
-    let H = held_of d k w n (length a.statistics.now) (length a.last_shingled_input.now) (length a.last_shingled_point.now) (length a.previous_timestamps.now) (length a.initial_values.now) (length a.initial_timestamps.now) (sym (narrow_past c.is_past.ensures o) ∙ c.if-is_past.false) in
+    let w = c.time_width-w in
+    let l = lent_by a.lists in
+    let p = past_lent a.head w.result a.lists c.lengths.ensures c.is_past.ensures in
+    let H = held_by a.head l w.result w.ensures p c.if-is_past.false in
     omega (arith, H.d_few)
 
 pub overflow_add-st : goal.overflow_add-st
 overflow_add-st c =
     let a = c.args in
-    let h = a.head in
-    let d = h.transformer.input_length in
-    let k = h.shingle_size in
-    let n = h.initial_len in
-    let w = c.time_width-w.result in
-    let o : w ≤ 1 = wide_of (augments h.forest_mode) w c.time_width-w.ensures in
-    let H = held_of d k w n (length a.statistics.now) (length a.last_shingled_input.now) (length a.last_shingled_point.now) (length a.previous_timestamps.now) (length a.initial_values.now) (length a.initial_timestamps.now) (sym (narrow_past c.is_past.ensures o) ∙ c.if-is_past.false) in
+    let w = c.time_width-w in
+    let l = lent_by a.lists in
+    let p = past_lent a.head w.result a.lists c.lengths.ensures c.is_past.ensures in
+    let H = held_by a.head l w.result w.ensures p c.if-is_past.false in
     omega (arith, H.d_few)
 
 pub overflow_mul-st-2 : goal.overflow_mul-st-2
 overflow_mul-st-2 c =
     let a = c.args in
-    let h = a.head in
-    let d = h.transformer.input_length in
-    let k = h.shingle_size in
-    let n = h.initial_len in
-    let w = c.time_width-w.result in
-    let o : w ≤ 1 = wide_of (augments h.forest_mode) w c.time_width-w.ensures in
-    let H = held_of d k w n (length a.statistics.now) (length a.last_shingled_input.now) (length a.last_shingled_point.now) (length a.previous_timestamps.now) (length a.initial_values.now) (length a.initial_timestamps.now) (sym (narrow_past c.is_past.ensures o) ∙ c.if-is_past.false) in
+    let w = c.time_width-w in
+    let l = lent_by a.lists in
+    let p = past_lent a.head w.result a.lists c.lengths.ensures c.is_past.ensures in
+    let H = held_by a.head l w.result w.ensures p c.if-is_past.false in
     omega (arith, H.d_few)
 
 pub slice_bounds-st-end : goal.slice_bounds-st-end
 slice_bounds-st-end c =
     let a = c.args in
+    let w = c.time_width-w in
+    let l = lent_by a.lists in
+    let p = past_lent a.head w.result a.lists c.lengths.ensures c.is_past.ensures in
+    let H = held_by a.head l w.result w.ensures p c.if-is_past.false in
     let h = a.head in
     let d = h.transformer.input_length in
-    let k = h.shingle_size in
-    let n = h.initial_len in
-    let w = c.time_width-w.result in
-    let o : w ≤ 1 = wide_of (augments h.forest_mode) w c.time_width-w.ensures in
-    let H = held_of d k w n (length a.statistics.now) (length a.last_shingled_input.now) (length a.last_shingled_point.now) (length a.previous_timestamps.now) (length a.initial_values.now) (length a.initial_timestamps.now) (sym (narrow_past c.is_past.ensures o) ∙ c.if-is_past.false) in
-    sym (length-take-le (3 * (5 * d + 5)) a.statistics.now H.in_statistics)
+    sym (length-take-le (3 * (5 * d + 5)) a.lists.statistics.now H.in_statistics)
 
 pub overflow_mul-x : goal.overflow_mul-x
 overflow_mul-x c =
     let a = c.args in
-    let h = a.head in
-    let d = h.transformer.input_length in
-    let k = h.shingle_size in
-    let n = h.initial_len in
-    let w = c.time_width-w.result in
-    let o : w ≤ 1 = wide_of (augments h.forest_mode) w c.time_width-w.ensures in
-    let H = held_of d k w n (length a.statistics.now) (length a.last_shingled_input.now) (length a.last_shingled_point.now) (length a.previous_timestamps.now) (length a.initial_values.now) (length a.initial_timestamps.now) (sym (narrow_past c.is_past.ensures o) ∙ c.if-is_past.false) in
-    omega (arith, few d k H.d_few H.k_few)
+    let w = c.time_width-w in
+    let l = lent_by a.lists in
+    let p = past_lent a.head w.result a.lists c.lengths.ensures c.is_past.ensures in
+    let H = held_by a.head l w.result w.ensures p c.if-is_past.false in
+    omega (arith, few _ _ H.d_few H.k_few)
 
 pub slice_bounds-x-end : goal.slice_bounds-x-end
 slice_bounds-x-end c =
     let a = c.args in
+    let w = c.time_width-w in
+    let l = lent_by a.lists in
+    let p = past_lent a.head w.result a.lists c.lengths.ensures c.is_past.ensures in
+    let H = held_by a.head l w.result w.ensures p c.if-is_past.false in
     let h = a.head in
-    let d = h.transformer.input_length in
-    let k = h.shingle_size in
-    let n = h.initial_len in
-    let w = c.time_width-w.result in
-    let o : w ≤ 1 = wide_of (augments h.forest_mode) w c.time_width-w.ensures in
-    let H = held_of d k w n (length a.statistics.now) (length a.last_shingled_input.now) (length a.last_shingled_point.now) (length a.previous_timestamps.now) (length a.initial_values.now) (length a.initial_timestamps.now) (sym (narrow_past c.is_past.ensures o) ∙ c.if-is_past.false) in
-    sym (length-take-le (d * k) a.last_shingled_input.now H.in_input)
+    sym (length-take-le (h.transformer.input_length * h.shingle_size) a.lists.last_shingled_input.now H.in_input)
 
 pub overflow_add-y : goal.overflow_add-y
 overflow_add-y c =
     let a = c.args in
-    let h = a.head in
-    let d = h.transformer.input_length in
-    let k = h.shingle_size in
-    let n = h.initial_len in
-    let w = c.time_width-w.result in
-    let o : w ≤ 1 = wide_of (augments h.forest_mode) w c.time_width-w.ensures in
-    let H = held_of d k w n (length a.statistics.now) (length a.last_shingled_input.now) (length a.last_shingled_point.now) (length a.previous_timestamps.now) (length a.initial_values.now) (length a.initial_timestamps.now) (sym (narrow_past c.is_past.ensures o) ∙ c.if-is_past.false) in
-    omega (arith, H.d_few)
+    let w = c.time_width-w in
+    let l = lent_by a.lists in
+    let p = past_lent a.head w.result a.lists c.lengths.ensures c.is_past.ensures in
+    let o = wide_of (augments a.head.forest_mode) w.result w.ensures in
+    let H = held_by a.head l w.result w.ensures p c.if-is_past.false in
+    omega (arith, o, H.d_few)
 
 pub overflow_mul-y : goal.overflow_mul-y
 overflow_mul-y c =
     let a = c.args in
+    let w = c.time_width-w in
+    let l = lent_by a.lists in
+    let p = past_lent a.head w.result a.lists c.lengths.ensures c.is_past.ensures in
+    let o = wide_of (augments a.head.forest_mode) w.result w.ensures in
+    let H = held_by a.head l w.result w.ensures p c.if-is_past.false in
     let h = a.head in
     let d = h.transformer.input_length in
-    let k = h.shingle_size in
-    let n = h.initial_len in
-    let w = c.time_width-w.result in
-    let o : w ≤ 1 = wide_of (augments h.forest_mode) w c.time_width-w.ensures in
-    let H = held_of d k w n (length a.statistics.now) (length a.last_shingled_input.now) (length a.last_shingled_point.now) (length a.previous_timestamps.now) (length a.initial_values.now) (length a.initial_timestamps.now) (sym (narrow_past c.is_past.ensures o) ∙ c.if-is_past.false) in
-    omega (arith, few_wide (d + w) k (omega (arith, H.d_few)) H.k_few)
+    omega (arith, few_wide (d + w.result) h.shingle_size (omega (arith, o, H.d_few)) H.k_few)
 
 pub slice_bounds-y-end : goal.slice_bounds-y-end
 slice_bounds-y-end c =
     let a = c.args in
+    let w = c.time_width-w in
+    let l = lent_by a.lists in
+    let p = past_lent a.head w.result a.lists c.lengths.ensures c.is_past.ensures in
+    let H = held_by a.head l w.result w.ensures p c.if-is_past.false in
     let h = a.head in
     let d = h.transformer.input_length in
-    let k = h.shingle_size in
-    let n = h.initial_len in
-    let w = c.time_width-w.result in
-    let o : w ≤ 1 = wide_of (augments h.forest_mode) w c.time_width-w.ensures in
-    let H = held_of d k w n (length a.statistics.now) (length a.last_shingled_input.now) (length a.last_shingled_point.now) (length a.previous_timestamps.now) (length a.initial_values.now) (length a.initial_timestamps.now) (sym (narrow_past c.is_past.ensures o) ∙ c.if-is_past.false) in
-    sym (length-take-le ((d + w) * k) a.last_shingled_point.now H.in_point)
+    sym (length-take-le ((d + w.result) * h.shingle_size) a.lists.last_shingled_point.now H.in_point)
 
 pub slice_bounds-ts-end : goal.slice_bounds-ts-end
 slice_bounds-ts-end c =
     let a = c.args in
-    let h = a.head in
-    let d = h.transformer.input_length in
-    let k = h.shingle_size in
-    let n = h.initial_len in
-    let w = c.time_width-w.result in
-    let o : w ≤ 1 = wide_of (augments h.forest_mode) w c.time_width-w.ensures in
-    let H = held_of d k w n (length a.statistics.now) (length a.last_shingled_input.now) (length a.last_shingled_point.now) (length a.previous_timestamps.now) (length a.initial_values.now) (length a.initial_timestamps.now) (sym (narrow_past c.is_past.ensures o) ∙ c.if-is_past.false) in
-    sym (length-take-le (k) a.previous_timestamps.now H.in_times)
+    let w = c.time_width-w in
+    let l = lent_by a.lists in
+    let p = past_lent a.head w.result a.lists c.lengths.ensures c.is_past.ensures in
+    let H = held_by a.head l w.result w.ensures p c.if-is_past.false in
+    sym (length-take-le a.head.shingle_size a.lists.previous_timestamps.now H.in_times)
 
 pub overflow_mul-v : goal.overflow_mul-v
 overflow_mul-v c =
     let a = c.args in
-    let h = a.head in
-    let d = h.transformer.input_length in
-    let k = h.shingle_size in
-    let n = h.initial_len in
-    let w = c.time_width-w.result in
-    let o : w ≤ 1 = wide_of (augments h.forest_mode) w c.time_width-w.ensures in
-    let H = held_of d k w n (length a.statistics.now) (length a.last_shingled_input.now) (length a.last_shingled_point.now) (length a.previous_timestamps.now) (length a.initial_values.now) (length a.initial_timestamps.now) (sym (narrow_past c.is_past.ensures o) ∙ c.if-is_past.false) in
-    omega (arith, few_values n d H.n_few H.d_few)
+    let w = c.time_width-w in
+    let l = lent_by a.lists in
+    let p = past_lent a.head w.result a.lists c.lengths.ensures c.is_past.ensures in
+    let H = held_by a.head l w.result w.ensures p c.if-is_past.false in
+    omega (arith, few_values _ _ H.n_few H.d_few)
 
 pub slice_bounds-v-end : goal.slice_bounds-v-end
 slice_bounds-v-end c =
     let a = c.args in
+    let w = c.time_width-w in
+    let l = lent_by a.lists in
+    let p = past_lent a.head w.result a.lists c.lengths.ensures c.is_past.ensures in
+    let H = held_by a.head l w.result w.ensures p c.if-is_past.false in
     let h = a.head in
-    let d = h.transformer.input_length in
-    let k = h.shingle_size in
-    let n = h.initial_len in
-    let w = c.time_width-w.result in
-    let o : w ≤ 1 = wide_of (augments h.forest_mode) w c.time_width-w.ensures in
-    let H = held_of d k w n (length a.statistics.now) (length a.last_shingled_input.now) (length a.last_shingled_point.now) (length a.previous_timestamps.now) (length a.initial_values.now) (length a.initial_timestamps.now) (sym (narrow_past c.is_past.ensures o) ∙ c.if-is_past.false) in
-    sym (length-take-le (n * d) a.initial_values.now H.in_values)
+    sym (length-take-le (h.initial_len * h.transformer.input_length) a.lists.initial_values.now H.in_values)
 
 pub slice_bounds-us-end : goal.slice_bounds-us-end
 slice_bounds-us-end c =
     let a = c.args in
-    let h = a.head in
-    let d = h.transformer.input_length in
-    let k = h.shingle_size in
-    let n = h.initial_len in
-    let w = c.time_width-w.result in
-    let o : w ≤ 1 = wide_of (augments h.forest_mode) w c.time_width-w.ensures in
-    let H = held_of d k w n (length a.statistics.now) (length a.last_shingled_input.now) (length a.last_shingled_point.now) (length a.previous_timestamps.now) (length a.initial_values.now) (length a.initial_timestamps.now) (sym (narrow_past c.is_past.ensures o) ∙ c.if-is_past.false) in
-    sym (length-take-le (n) a.initial_timestamps.now H.in_initial)
+    let w = c.time_width-w in
+    let l = lent_by a.lists in
+    let p = past_lent a.head w.result a.lists c.lengths.ensures c.is_past.ensures in
+    let H = held_by a.head l w.result w.ensures p c.if-is_past.false in
+    sym (length-take-le a.head.initial_len a.lists.initial_timestamps.now H.in_initial)
 
 pub returns-then-is_unformed : goal.returns-then-is_unformed
 unfolding unformed view
 returns-then-is_unformed c =
-    let e = c in
-    let f = c in
     let a = c.args in
-    let h = a.head in
-    let w = c.time_width-w.result in
-    let o : w ≤ 1 = wide_of (augments h.forest_mode) w c.time_width-w.ensures in
-    let l = lent a.statistics.now a.last_shingled_input.now a.last_shingled_point.now a.previous_timestamps.now a.initial_values.now a.initial_timestamps.now in
-    saved_unformed h l w c.time_width-w.ensures a.out.now (sym (narrow_past c.is_past.ensures o) ∙ c.if-is_past.false) (sym c.is_unformed.ensures ∙ c.if-is_unformed.true)
+    let w = c.time_width-w in
+    let l = lent_by a.lists in
+    let p = past_lent a.head w.result a.lists c.lengths.ensures c.is_past.ensures in
+    saved_unformed a.head l w.result w.ensures a.out.now (sym (past_is (augments a.head.forest_mode) w.ensures p) ∙ c.if-is_past.false)
+    (sym c.is_unformed.ensures ∙ c.if-is_unformed.true)
 
 pub save_parts-requires : goal.save_parts-requires
-save_parts-requires e =
-    let c = e in
-    let a = e.args in
+save_parts-requires c =
+    let a = c.args in
+    let w = c.time_width-w in
+    let l = lent_by a.lists in
+    let p = past_lent a.head w.result a.lists c.lengths.ensures c.is_past.ensures in
+    let o = wide_of (augments a.head.forest_mode) w.result w.ensures in
+    let H = held_by a.head l w.result w.ensures p c.if-is_past.false in
     let h = a.head in
     let d = h.transformer.input_length in
     let k = h.shingle_size in
-    let n = h.initial_len in
-    let w = e.time_width-w.result in
-    let o : w ≤ 1 = wide_of (augments h.forest_mode) w e.time_width-w.ensures in
-    let H = held_of d k w n (length a.statistics.now) (length a.last_shingled_input.now) (length a.last_shingled_point.now) (length a.previous_timestamps.now) (length a.initial_values.now) (length a.initial_timestamps.now) (sym (narrow_past e.is_past.ensures o) ∙ e.if-is_past.false) in
-    let l₁ = length-take-le (3 * (5 * d + 5)) a.statistics.now H.in_statistics in
-    let l₂ = length-take-le (d * k) a.last_shingled_input.now H.in_input in
-    let l₃ = length-take-le ((d + w) * k) a.last_shingled_point.now H.in_point in
-    let l₄ = length-take-le k a.previous_timestamps.now H.in_times in
-    let l₅ = length-take-le (n * d) a.initial_values.now H.in_values in
-    let l₆ = length-take-le n a.initial_timestamps.now H.in_initial in record { input_length_bound = H.d_few; statistics_len_bound = omega (arith, l₁, H.d_few); input_len_bound = omega (arith, l₂, few d k H.d_few H.k_few); point_len_bound = omega (arith, l₃, few_wide (d + w) k (omega (arith, H.d_few)) H.k_few); times_len_bound = omega (arith, l₄, H.k_few); initial_len_bound = omega (arith, l₆, H.n_few); input_length_in_bounds = le_of_eq (ap (λ (x : ℕ). x * d) l₆ ∙ sym l₅) }
+    let l₁ = length-take-le (3 * (5 * d + 5)) a.lists.statistics.now H.in_statistics in
+    let l₂ = length-take-le (d * k) a.lists.last_shingled_input.now H.in_input in
+    let l₃ = length-take-le ((d + w.result) * k) a.lists.last_shingled_point.now H.in_point in
+    let l₄ = length-take-le k a.lists.previous_timestamps.now H.in_times in
+    let l₅ = length-take-le (h.initial_len * d) a.lists.initial_values.now H.in_values in
+    let l₆ = length-take-le h.initial_len a.lists.initial_timestamps.now H.in_initial in
+    record {
+      input_length_bound = H.d_few;
+      statistics_len_bound = omega (arith, l₁, H.d_few);
+      input_len_bound = omega (arith, l₂, few d k H.d_few H.k_few);
+      point_len_bound = omega (arith, l₃, few_wide (d + w.result) k (omega (arith, o, H.d_few)) H.k_few);
+      times_len_bound = omega (arith, l₄, H.k_few);
+      initial_len_bound = omega (arith, l₆, H.n_few);
+      input_length_in_bounds = le_of_eq (ap (λ (x : ℕ). x * d) l₆ ∙ sym l₅);
+    }
 
 pub returns : goal.returns
 unfolding unformed view
 returns c =
-    let g = c in
-    let e = c in
-    let f = c in
     let a = c.args in
-    let h = a.head in
-    let w = c.time_width-w.result in
-    let o : w ≤ 1 = wide_of (augments h.forest_mode) w c.time_width-w.ensures in
-    let l = lent a.statistics.now a.last_shingled_input.now a.last_shingled_point.now a.previous_timestamps.now a.initial_values.now a.initial_timestamps.now in
-    saved_is h l w c.time_width-w.ensures a.out.now _ (sym (narrow_past c.is_past.ensures o) ∙ c.if-is_past.false)
+    let w = c.time_width-w in
+    let l = lent_by a.lists in
+    let p = past_lent a.head w.result a.lists c.lengths.ensures c.is_past.ensures in
+    saved_is a.head l w.result w.ensures a.out.now _ (sym (past_is (augments a.head.forest_mode) w.ensures p) ∙ c.if-is_past.false)
     (sym c.is_unformed.ensures ∙ c.if-is_unformed.false) c.save_parts.ensures

@@ -26,7 +26,17 @@ write_head-p-requires c = omega (arith, c.lists_length.ensures.value, c.head_len
 
 pub write_lists-requires : goal.write_lists-requires
 write_lists-requires c =
-    record { d_in_bounds = c.requires.input_length_in_bounds; initial_in_bounds = omega (arith, c.lists_length.ensures.value, c.head_length.ensures.value, c.if-out-l.false, c.write_head-p.ensures.place, c.write_head-p.ensures.kept) }
+    record {
+      d_in_bounds = c.requires.input_length_in_bounds;
+      initial_in_bounds = omega (
+        arith,
+        c.lists_length.ensures.value,
+        c.head_length.ensures.value,
+        c.if-out-l.false,
+        c.write_head-p.ensures.place,
+        c.write_head-p.ensures.kept,
+      );
+    }
 
 pub returns : goal.returns
 returns c =

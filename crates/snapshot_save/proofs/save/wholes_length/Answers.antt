@@ -26,8 +26,16 @@ loop-n-preserved c =
     let v = c.args.v.now in
     let h : L.n-index < length v = c.loop-n-test.true in
     let e : drop L.n-index v ≡ get_or v L.n-index 0 ∷ drop (L.n-index + 1) v = drop-cons v L.n-index 0 h ∙ ap (λ (k : ℕ). get_or v L.n-index 0 ∷ drop k v) (sym (add-one L.n-index)) in
-    let g : length (whole (get_or v L.n-index 0)) ≤ 20 = whole_short (get_or v L.n-index 0) (omega (arith, c.type_inv.v L.n-index)) in
-    (omega (arith, c.whole_length.ensures.value, ap (λ (l : List ℕ). length (tabbed (map whole l))) e, length-append (whole (get_or v L.n-index 0)) (tabbed (map whole (drop (L.n-index + 1) v)))), omega (arith, c.whole_length.ensures.value))
+    let g : length (whole (get_or v L.n-index 0)) ≤ 20 = whole_short (get_or v L.n-index 0) (omega (arith, c.type_inv.v L.n-index)) in (
+      omega (
+        arith,
+        c.whole_length.ensures.value,
+        ap (λ (l : List ℕ). length (tabbed (map whole l))) e,
+        length-append (whole (get_or v L.n-index 0)) (tabbed (map whole
+            (drop (L.n-index + 1) v))),
+      ),
+      omega (arith, c.whole_length.ensures.value),
+    )
 
 pub returns : goal.returns
 returns c = omega (arith, ap (λ (l : List ℕ). length (tabbed (map whole l))) (drop_of_length-le c.args.v.now c.loop-n-test.false))

@@ -50,7 +50,20 @@ write_codes-r-requires c =
     let d = h.transformer.input_length in
     let z : length w ≡ 16 = c.well_formed.1.0.1.1.0.1.1.1.1.1.0.1.0.1 in
     let e = set_lined (settings_of h) c.from-letter.result c.from-method.result c.from-letter.ensures c.from-method.ensures in
-    record { input_length_bound = c.requires.input_length_bound; head_in_bounds = omega (arith, head_split (settings_of h) h.values_seen h.internal_timestamp h.transformer.count, ap length e, c.requires.count_in_bounds, c.set_line-p.ensures.place, c.set_line-p.ensures.kept, c.singles_line-q.ensures.place, c.singles_line-q.ensures.kept) }
+    record {
+      input_length_bound = c.requires.input_length_bound;
+      head_in_bounds = omega (
+        arith,
+        head_split
+            (settings_of h) h.values_seen h.internal_timestamp h.transformer.count,
+        ap length e,
+        c.requires.count_in_bounds,
+        c.set_line-p.ensures.place,
+        c.set_line-p.ensures.kept,
+        c.singles_line-q.ensures.place,
+        c.singles_line-q.ensures.kept,
+      );
+    }
 
 pub cnt_line-requires : goal.cnt_line-requires
 cnt_line-requires c =
@@ -59,7 +72,18 @@ cnt_line-requires c =
     let d = h.transformer.input_length in
     let z : length w ≡ 16 = c.well_formed.1.0.1.1.0.1.1.1.1.1.0.1.0.1 in
     let e = set_lined (settings_of h) c.from-letter.result c.from-method.result c.from-letter.ensures c.from-method.ensures in
-    omega (arith, head_split (settings_of h) h.values_seen h.internal_timestamp h.transformer.count, ap length e, c.requires.count_in_bounds, c.set_line-p.ensures.place, c.set_line-p.ensures.kept, c.singles_line-q.ensures.place, c.singles_line-q.ensures.kept, c.write_codes-r.ensures.place, c.write_codes-r.ensures.kept)
+    omega (
+      arith,
+      head_split (settings_of h) h.values_seen h.internal_timestamp h.transformer.count,
+      ap length e,
+      c.requires.count_in_bounds,
+      c.set_line-p.ensures.place,
+      c.set_line-p.ensures.kept,
+      c.singles_line-q.ensures.place,
+      c.singles_line-q.ensures.kept,
+      c.write_codes-r.ensures.place,
+      c.write_codes-r.ensures.kept,
+    )
 
 pub returns : goal.returns
 unfolding head_bytes

@@ -18,17 +18,50 @@ singles_line-q-requires c =
 pub singles_line-r-requires : goal.singles_line-r-requires
 singles_line-r-requires c =
     let a = c.args in
-    omega (arith, list_split a.d a.statistics.now a.input.now a.point.now a.times.now a.values.now a.initial.now, c.requires.initial_in_bounds, c.dev_lines-p.ensures.place, c.dev_lines-p.ensures.kept, c.singles_line-q.ensures.place, c.singles_line-q.ensures.kept)
+    omega (
+      arith,
+      list_split a.d a.statistics.now a.input.now a.point.now a.times.now a.values.now a.initial.now,
+      c.requires.initial_in_bounds,
+      c.dev_lines-p.ensures.place,
+      c.dev_lines-p.ensures.kept,
+      c.singles_line-q.ensures.place,
+      c.singles_line-q.ensures.kept,
+    )
 
 pub tim_line-s-requires : goal.tim_line-s-requires
 tim_line-s-requires c =
     let a = c.args in
-    omega (arith, list_split a.d a.statistics.now a.input.now a.point.now a.times.now a.values.now a.initial.now, c.requires.initial_in_bounds, c.dev_lines-p.ensures.place, c.dev_lines-p.ensures.kept, c.singles_line-q.ensures.place, c.singles_line-q.ensures.kept, c.singles_line-r.ensures.place, c.singles_line-r.ensures.kept)
+    omega (
+      arith,
+      list_split a.d a.statistics.now a.input.now a.point.now a.times.now a.values.now a.initial.now,
+      c.requires.initial_in_bounds,
+      c.dev_lines-p.ensures.place,
+      c.dev_lines-p.ensures.kept,
+      c.singles_line-q.ensures.place,
+      c.singles_line-q.ensures.kept,
+      c.singles_line-r.ensures.place,
+      c.singles_line-r.ensures.kept,
+    )
 
 pub buf_lines-requires : goal.buf_lines-requires
 buf_lines-requires c =
     let a = c.args in
-    record { d_in_bounds = c.requires.d_in_bounds; times_in_bounds = omega (arith, list_split a.d a.statistics.now a.input.now a.point.now a.times.now a.values.now a.initial.now, c.requires.initial_in_bounds, c.dev_lines-p.ensures.place, c.dev_lines-p.ensures.kept, c.singles_line-q.ensures.place, c.singles_line-q.ensures.kept, c.singles_line-r.ensures.place, c.singles_line-r.ensures.kept, c.tim_line-s.ensures.place, c.tim_line-s.ensures.kept) }
+    record {
+      d_in_bounds = c.requires.d_in_bounds;
+      times_in_bounds = omega (
+        arith,
+        list_split a.d a.statistics.now a.input.now a.point.now a.times.now a.values.now a.initial.now,
+        c.requires.initial_in_bounds,
+        c.dev_lines-p.ensures.place,
+        c.dev_lines-p.ensures.kept,
+        c.singles_line-q.ensures.place,
+        c.singles_line-q.ensures.kept,
+        c.singles_line-r.ensures.place,
+        c.singles_line-r.ensures.kept,
+        c.tim_line-s.ensures.place,
+        c.tim_line-s.ensures.kept,
+      );
+    }
 
 pub returns : goal.returns
 unfolding list_bytes

@@ -7,8 +7,8 @@ use Rattle.snapshot_save.proofs.write.buf_line.Goals as goal
 pub write_name-p-requires : goal.write_name-p-requires
 write_name-p-requires c = let a = c.args in omega (arith, buf_size a.time a.v.now, floats_length a.v.now)
 
-pub tab_whole-q-requires : goal.tab_whole-q-requires
-tab_whole-q-requires c = let a = c.args in omega (arith, buf_size a.time a.v.now, floats_length a.v.now)
+pub tab-q-requires : goal.tab-q-requires
+tab-q-requires c = let a = c.args in omega (arith, buf_size a.time a.v.now, floats_length a.v.now)
 
 pub tabs-s-requires : goal.tabs-s-requires
 tabs-s-requires c = let a = c.args in omega (arith, buf_size a.time a.v.now, floats_length a.v.now)
@@ -17,4 +17,4 @@ pub write_byte-requires : goal.write_byte-requires
 write_byte-requires c = let a = c.args in omega (arith, buf_size a.time a.v.now, floats_length a.v.now)
 
 pub returns : goal.returns
-returns c = let a = c.args in wrote_is (buf_bytes a.time a.v.now) (wrote_then c.write_name-p.ensures (wrote_then c.tab_whole-q.ensures (wrote_then c.tabs-s.ensures c.write_byte.ensures)))
+returns c = let a = c.args in wrote_is (buf_bytes a.time a.v.now) (wrote_then c.write_name-p.ensures (wrote_then c.tab-q.ensures (wrote_then c.tabs-s.ensures c.write_byte.ensures)))

@@ -6,4 +6,5 @@ use Prim.Native.Nat.{◌+◌, ◌*◌, ◌≤◌}
 use Rattle.snapshot_save.proofs.write.buf_lines.Given as goal
 
 abbrev pub invariant-loop-time : goal.invariant-loop-time
-invariant-loop-time l = (l.k + length (drop l.time-index l.times) * l.d ≤ length l.v) × Left l.at (bytes_of (buf_lines l.d l.v l.times)) l.initial.out l.p (bytes_of (buf_lines l.d (drop l.k l.v) (drop l.time-index l.times))) l.out
+invariant-loop-time l = (l.k + length (drop l.time-index l.times) * l.d ≤ length l.v) × Left l.at (bytes_of (buf_lines l.d l.v l.times)) l.initial.out l.p (bytes_of
+    (buf_lines l.d (drop l.k l.v) (drop l.time-index l.times))) l.out

@@ -8,18 +8,18 @@ use Rattle.snapshot_save.proofs.write.cnt_line.Goals as goal
 pub write_name-p-requires : goal.write_name-p-requires
 write_name-p-requires c = let a = c.args in omega (arith, cnt_size a.seen a.internal a.count)
 
-pub tab_whole-q-requires : goal.tab_whole-q-requires
-tab_whole-q-requires c = let a = c.args in omega (arith, cnt_size a.seen a.internal a.count)
+pub tab-q-requires : goal.tab-q-requires
+tab-q-requires c = let a = c.args in omega (arith, cnt_size a.seen a.internal a.count)
 
-pub tab_whole-s-requires : goal.tab_whole-s-requires
-tab_whole-s-requires c = let a = c.args in omega (arith, cnt_size a.seen a.internal a.count)
+pub tab-s-requires : goal.tab-s-requires
+tab-s-requires c = let a = c.args in omega (arith, cnt_size a.seen a.internal a.count)
 
-pub tab_whole-t-requires : goal.tab_whole-t-requires
-tab_whole-t-requires c = let a = c.args in omega (arith, cnt_size a.seen a.internal a.count)
+pub tab-t-requires : goal.tab-t-requires
+tab-t-requires c = let a = c.args in omega (arith, cnt_size a.seen a.internal a.count)
 
 pub write_byte-requires : goal.write_byte-requires
 write_byte-requires c = let a = c.args in omega (arith, cnt_size a.seen a.internal a.count)
 
 pub returns : goal.returns
 unfolding cnt_line
-returns c = wrote_then c.write_name-p.ensures (wrote_then c.tab_whole-q.ensures (wrote_then c.tab_whole-s.ensures (wrote_then c.tab_whole-t.ensures c.write_byte.ensures)))
+returns c = wrote_then c.write_name-p.ensures (wrote_then c.tab-q.ensures (wrote_then c.tab-s.ensures (wrote_then c.tab-t.ensures c.write_byte.ensures)))

@@ -21,7 +21,13 @@ dev_line-p-requires c =
     let k = L.i * 3 in
     let h : k + 2 < length v = omega arith in
     let d = dev_line (get_or v k nan) (get_or v (k + 1) nan) (get_or v (k + 2) nan) in
-    omega (arith, ap (λ (l : List Line). length (bytes_of l)) (devs_step v k h), length-append (bytes_of_line d) (bytes_of (dev_lines (drop (k + 3) v))), dev_size (get_or v k nan) (get_or v (k + 1) nan) (get_or v (k + 2) nan))
+    omega (
+      arith,
+      ap (λ (l : List Line). length (bytes_of l)) (devs_step v k h),
+      length-append (bytes_of_line d) (bytes_of (dev_lines (drop (k + 3) v))),
+      dev_size
+          (get_or v k nan) (get_or v (k + 1) nan) (get_or v (k + 2) nan),
+    )
 
 pub loop-i-preserved : goal.loop-i-preserved
 loop-i-preserved c =
@@ -30,7 +36,8 @@ loop-i-preserved c =
     let k = L.i * 3 in
     let h : k + 2 < length v = omega arith in
     let e : (L.i + 1) * 3 ≡ k + 3 = omega arith in
-    rw e (left_step (bytes_of_line (dev_line (get_or v k nan) (get_or v (k + 1) nan) (get_or v (k + 2) nan))) (bytes_of (dev_lines (drop (k + 3) v))) L.invariant (ap bytes_of (devs_step v k h)) c.dev_line-p.ensures)
+    rw e (left_step (bytes_of_line (dev_line (get_or v k nan) (get_or v (k + 1) nan) (get_or v (k + 2) nan))) (bytes_of (dev_lines (drop (k + 3) v))) L.invariant
+    (ap bytes_of (devs_step v k h)) c.dev_line-p.ensures)
 
 pub returns : goal.returns
 returns c =

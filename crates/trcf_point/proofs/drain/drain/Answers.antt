@@ -16,10 +16,12 @@ returns-in_err-drain_row c =
 pub drain_due-requires : goal.drain_due-requires
 drain_due-requires c =
     let a = c.args in
+    let l = lent a.statistics.now a.last_shingled_input.now a.last_shingled_point.now a.previous_timestamps.now a.initial_values.now a.initial_timestamps.now in
     let o = c.in_ok-drain_row.ensures in
-    record { ready = o.ready; initial_timestamps_value = drain_room a.head (lent a.statistics.now a.last_shingled_input.now a.last_shingled_point.now a.previous_timestamps.now a.initial_values.now a.initial_timestamps.now) (sym o.value) }
+    record { ready = o.ready; initial_timestamps_value = drain_room a.head l (sym o.value) }
 
 pub returns : goal.returns
 returns c =
     let a = c.args in
-    drain_goes a.head (lent a.statistics.now a.last_shingled_input.now a.last_shingled_point.now a.previous_timestamps.now a.initial_values.now a.initial_timestamps.now) 0 c.in_ok-drain_row.ensures.value refl _ c.drain_due.ensures.initial_timestamps_after
+    let l = lent a.statistics.now a.last_shingled_input.now a.last_shingled_point.now a.previous_timestamps.now a.initial_values.now a.initial_timestamps.now in
+    drain_goes a.head l 0 c.in_ok-drain_row.ensures.value refl _ c.drain_due.ensures.initial_timestamps_after

@@ -1,9 +1,9 @@
 -- `trcf_point::drain::drain_due` meets its contract: by its callees' promises and the laws of lists. Assumes nothing.
-use Rattle.trcf.proofs.LengthLaws.{dimension_known}
-use Rattle.trcf.proofs.BoundLaws.{five, five_more, all_statistics, all_inputs}
+use Rattle.trcf.proofs.LengthLaws.{dimension_known, statistics_known}
+use Rattle.trcf.proofs.BoundLaws.{all_inputs}
 use native.Mathlib.Omega.{arith}
 use mathlib.Core.Path.{◌≡◌, sym, ap, ◌∙◌}
-use Prim.Native.Nat.{ℕ, ◌*◌}
+use Prim.Native.Nat.{ℕ, ◌*◌, ◌<◌}
 use native.Mathlib.Nat.{mul-le-mul, le_refl}
 use lib.ListN.{length-take}
 use mathlib.Core.Bool.{true, false}
@@ -27,28 +27,16 @@ returns-then-not-is_due c =
     let e : due (settings_of h) (facts (view h l)) ≡ false = sym c.is_due.ensures ∙ not-true _ c.if-not-is_due.true-raw in
     record { initial_timestamps_after = undrained h l f e; initial_timestamps_after_2 = undrained_is h l f e }
 
-pub overflow_mul-d : goal.overflow_mul-d
-overflow_mul-d c =
-    five c.requires.ready.bounded.d_few
-
-pub overflow_add-d : goal.overflow_add-d
-overflow_add-d c =
-    five_more c.requires.ready.bounded.d_few
-
-pub overflow_mul-d-2 : goal.overflow_mul-d-2
-overflow_mul-d-2 c =
-    all_statistics c.requires.ready.bounded.d_few
-
 pub slice_bounds-drain_all-end : goal.slice_bounds-drain_all-end
 slice_bounds-drain_all-end c =
-    c.requires.ready.fitted.roomy.in_statistics
+    rw (statistics_known c.statistics_length.ensures c.requires.ready.bounded.d_few) c.requires.ready.fitted.roomy.in_statistics
 
 pub slice_bounds-drain_all-end-2 : goal.slice_bounds-drain_all-end-2
 slice_bounds-drain_all-end-2 c =
-    sym (length-take-le _ _ c.requires.ready.fitted.roomy.in_statistics)
+    rw (statistics_known c.statistics_length.ensures c.requires.ready.bounded.d_few) (sym (length-take-le _ _ c.requires.ready.fitted.roomy.in_statistics))
 
-pub overflow_mul-d-3 : goal.overflow_mul-d-3
-overflow_mul-d-3 c =
+pub overflow_mul-d : goal.overflow_mul-d
+overflow_mul-d c =
     let b = c.requires.ready.bounded in all_inputs b.d_few b.k_few
 
 pub slice_bounds-drain_all-end-3 : goal.slice_bounds-drain_all-end-3
@@ -138,6 +126,7 @@ drain_all-requires c =
     let l = lent a.statistics.now a.last_shingled_input.now a.last_shingled_point.now a.previous_timestamps.now a.initial_values.now a.initial_timestamps.now in
     let f = c.requires.ready.fitted in
     let r = f.roomy in
+    let s = statistics_known c.statistics_length.ensures c.requires.ready.bounded.d_few in
     let m = mul-le-mul f.in_room (le_refl h.transformer.input_length) in
     let b = mul-le-mul f.few c.requires.ready.bounded.d_few in
     let e : due (settings_of h) (facts (view h l)) ≡ true = sym c.is_due.ensures ∙ not-false _ c.if-not-is_due.false-raw in
@@ -146,7 +135,7 @@ drain_all-requires c =
     let v = length-take-le (h.initial_len * h.transformer.input_length) a.initial_values.now (omega (arith, m, r)) in record {
       bounded = c.requires.ready.bounded;
       exact = record
-          { all_statistics = length-take-le _ _ r.in_statistics; all_input = length-take-le _ _ r.in_input; all_times = length-take-le _ _ r.in_times };
+          { all_statistics = rw s (length-take-le _ _ r.in_statistics); all_input = length-take-le _ _ r.in_input; all_times = length-take-le _ _ r.in_times };
       points_len = length-take-le _ _ (omega (arith, (dimension_known c.get_dimension-m.ensures (search rules)), r.in_point)) ∙
           (dimension_known c.get_dimension-m.ensures (search rules)).0;
       values_len = v ∙ ap (λ (k : ℕ). k * h.transformer.input_length) (sym n);
@@ -189,19 +178,18 @@ returns c =
     let l = lent a.statistics.now a.last_shingled_input.now a.last_shingled_point.now a.previous_timestamps.now a.initial_values.now a.initial_timestamps.now in
     let f = c.requires.ready.fitted in
     let r = f.roomy in
+    let n = statistics_known c.statistics_length.ensures c.requires.ready.bounded.d_few in
+    let m = dimension_known c.get_dimension-m.ensures c.requires.ready.bounded in
     let e : due (settings_of h) (facts (view h l)) ≡ true = sym c.is_due.ensures ∙ not-false _
     c.if-not-is_due.false-raw in
     let K = c.drain_all.auto in
+    let w : 0 < h.initial_len = omega (arith, due_some h l e, length-take-le h.initial_len a.initial_timestamps.now (omega (arith, f.in_room, r))) in
+    let ls = K.s ∙ rw n (length-take-le _ _ r.in_statistics) in
+    let lx = K.inputs ∙ length-take-le _ _ r.in_input in
+    let lp = K.points ∙ length-take-le _ _ (omega (arith, m, r.in_point)) in
+    let lt = K.times ∙ length-take-le _ _ r.in_times in
+    let q = rw n at c.drain_all.ensures in
     record {
-      initial_timestamps_after = rw c.with_counts.ensures (drained_out_at h l f (omega (arith, due_some h l e, length-take-le h.initial_len a.initial_timestamps.now (omega (arith, f.in_room, r)))) e c.get_dimension-m.result
-          (dimension_known c.get_dimension-m.ensures c.requires.ready.bounded).0 _ _ _ _ (K.s ∙ length-take-le _ _ r.in_statistics)
-          (K.inputs ∙ length-take-le _ _ r.in_input)
-          (K.points ∙ length-take-le _ _ (omega (arith, (dimension_known c.get_dimension-m.ensures c.requires.ready.bounded), r.in_point)))
-          (K.times ∙ length-take-le _ _ r.in_times) c.drain_all.ensures);
-      initial_timestamps_after_2 = rw c.with_counts.ensures (drained_view_at h l f
-          (omega (arith, due_some h l e, length-take-le h.initial_len a.initial_timestamps.now (omega (arith, f.in_room, r)))) e c.get_dimension-m.result
-          (dimension_known c.get_dimension-m.ensures c.requires.ready.bounded).0 _ _ _ _ (K.s ∙ length-take-le _ _ r.in_statistics)
-          (K.inputs ∙ length-take-le _ _ r.in_input)
-          (K.points ∙ length-take-le _ _ (omega (arith, (dimension_known c.get_dimension-m.ensures c.requires.ready.bounded), r.in_point)))
-          (K.times ∙ length-take-le _ _ r.in_times) c.drain_all.ensures);
+      initial_timestamps_after = rw (c.with_counts.ensures, n) (drained_out_at h l f w e c.get_dimension-m.result m.0 _ _ _ _ ls lx lp lt q);
+      initial_timestamps_after_2 = rw (c.with_counts.ensures, n) (drained_view_at h l f w e c.get_dimension-m.result m.0 _ _ _ _ ls lx lp lt q);
     }

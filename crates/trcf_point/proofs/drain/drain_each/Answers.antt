@@ -18,7 +18,8 @@ loop-i-init c =
       refl,
       refl,
       refl,
-      (λ j. drain_each (shingling a.head (a.head.transformer.count + length ts) c.feed_initial.new.s a.inputs.now a.points.now a.times.now (sym (add-zero a.head.internal_timestamp) j)) (sym (left_all d v ts) j)),
+      (λ j. drain_each (shingling a.head (a.head.transformer.count + length ts) c.feed_initial.new.s a.inputs.now a.points.now a.times.now
+          (sym (add-zero a.head.internal_timestamp) j)) (sym (left_all d v ts) j)),
     )
 
 pub feed_initial-requires : goal.feed_initial-requires

@@ -37,8 +37,9 @@ returns-in_err-shingled_point_row c =
 pub returns-then-is_waiting : goal.returns-then-is_waiting
 returns-then-is_waiting c =
     let a = c.args in
+    let l = lent a.statistics.now a.last_shingled_input.now a.last_shingled_point.now a.previous_timestamps.now a.initial_values.now a.initial_timestamps.now in
     let o = c.in_ok-shingled_point_row.ensures in
-    point_holds a.head (lent a.statistics.now a.last_shingled_input.now a.last_shingled_point.now a.previous_timestamps.now a.initial_values.now a.initial_timestamps.now) a.input.now a.timestamp a.output.now 0 o.value refl c.is_waiting.result c.is_waiting.ensures
+    point_holds a.head l a.input.now a.timestamp a.output.now 0 o.value refl c.is_waiting.result c.is_waiting.ensures
     c.if-is_waiting.true o.ready.fitted
 
 pub drain_due-next-requires : goal.drain_due-next-requires
@@ -47,7 +48,8 @@ drain_due-next-requires c =
     let h = a.head in
     let l = lent a.statistics.now a.last_shingled_input.now a.last_shingled_point.now a.previous_timestamps.now a.initial_values.now a.initial_timestamps.now in
     let o = c.in_ok-shingled_point_row.ensures in
-    let q = pointing h l a.input.now a.timestamp a.output.now (sym o.value) in record { ready = o.ready; initial_timestamps_value = past_room h l (length a.output.now) q.past (sym c.is_waiting.ensures ∙ c.if-is_waiting.false) }
+    let q = pointing h l a.input.now a.timestamp a.output.now (sym o.value) in
+    record { ready = o.ready; initial_timestamps_value = past_room h l (length a.output.now) q.past (sym c.is_waiting.ensures ∙ c.if-is_waiting.false) }
 
 pub write_point-requires : goal.write_point-requires
 write_point-requires c =

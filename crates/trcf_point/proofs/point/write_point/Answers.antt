@@ -1,6 +1,6 @@
 -- `trcf_point::point::write_point` meets its contract: by its callees' promises, the time's number after the channels'. Assumes nothing.
-use Rattle.trcf.proofs.LengthLaws.{block_known, dimension_known, opened, transform_fits_lem}
-use Rattle.trcf.proofs.BoundLaws.{five, five_more, all_statistics, all_inputs}
+use Rattle.trcf.proofs.LengthLaws.{block_known, dimension_known, statistics_known, opened, transform_fits_lem}
+use Rattle.trcf.proofs.BoundLaws.{all_inputs}
 use native.Mathlib.Omega.{arith}
 use mathlib.Core.List.{List}
 use lib.Ieee.{Float}
@@ -16,21 +16,12 @@ use Rattle.trcf.proofs.DrainLaws.{block_is, block_fits, front_over, transformed_
 use borrow.Author.Rules.{rules}
 use Rattle.trcf_point.proofs.point.write_point.Goals as goal
 
-pub overflow_mul-d : goal.overflow_mul-d
-overflow_mul-d c = five c.requires.bounded.d_few
-
-pub overflow_add-d : goal.overflow_add-d
-overflow_add-d c = five_more c.requires.bounded.d_few
-
-pub overflow_mul-d-2 : goal.overflow_mul-d-2
-overflow_mul-d-2 c = all_statistics c.requires.bounded.d_few
-
 pub slice_bounds-write_transform-end : goal.slice_bounds-write_transform-end
 slice_bounds-write_transform-end c =
-    sym (length-take-le _ _ c.requires.head_in_bounds)
+    rw (statistics_known c.statistics_length.ensures c.requires.bounded.d_few) (sym (length-take-le _ _ c.requires.head_in_bounds))
 
-pub overflow_mul-d-3 : goal.overflow_mul-d-3
-overflow_mul-d-3 c =
+pub overflow_mul-d : goal.overflow_mul-d
+overflow_mul-d c =
     let b = c.requires.bounded in all_inputs b.d_few b.k_few
 
 pub slice_bounds-write_transform-end-2 : goal.slice_bounds-write_transform-end-2
@@ -73,7 +64,7 @@ returns c =
     (reading (last_n d (take (d * a.head.shingle_size) a.last_shingled_input.now)) a.base) (reading a.input.now a.timestamp) in
     let behind =
     ap (take b.result)
-    (opened _ t.ensures
+    (opened _ (rw (statistics_known c.statistics_length.ensures q.bounded.d_few) at t.ensures)
     (transform_fits_lem (q.bounded, (length-take-le _ _ q.head_in_bounds, (length-take-le _ _ q.shingle_size_in_bounds, (q.input_len, omega (arith, w, block_is s)))))))
     ∙ front_over _ v b.result (transformed_after_length _ _ _ _ _ ∙ sym e) in
     c.copy_shifted.ensures
