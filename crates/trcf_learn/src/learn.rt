@@ -68,7 +68,8 @@ pub(crate) fn feed_newest(
     requires exact { Exact (settings_of head) (length s.old) (length inputs.now) (length times.now) }
     requires input_len { length input.now ≡ head.transformer.input_length }
     requires count_lt_count_limit { head.values_seen < head.stop_normalization → head.transformer.count < count_limit }
-    ensures { s.new ≡ cond (ltb head.values_seen head.stop_normalization) (feed (settings_of head) head.transformer.count s.old (previous (holding head s.old inputs.now times.now)) (reading input.now timestamp)) s.old }
+    ensures { s.new ≡ cond (ltb head.values_seen head.stop_normalization)
+        (feed (settings_of head) head.transformer.count s.old (previous (holding head s.old inputs.now times.now)) (reading input.now timestamp)) s.old }
 {
     if head.values_seen < head.stop_normalization {
         let d = head.transformer.input_length;
@@ -86,6 +87,7 @@ pub(crate) fn feed_newest(
 }
 
 // `update`, on the lent lists.
+#[tactic(auto, using(trcf::proofs::LengthLaws::statistics_known, trcf::proofs::BoundLaws::all_inputs))]
 pub(crate) fn update_shingles(
     head: Preprocessor,
     statistics: &mut [f64],
@@ -105,7 +107,10 @@ pub(crate) fn update_shingles(
     requires y_len { length y.now ≡ dimension (settings_of head) }
     requires count_lt_count_limit { head.values_seen < head.stop_normalization → head.transformer.count < count_limit }
     ensures statistics_after { statistics.new ≡ over statistics.old (cond (ltb head.values_seen head.stop_normalization)
-        (feed (settings_of head) head.transformer.count (take (statistics_length (settings_of head)) statistics.old) (previous (holding head (take (statistics_length (settings_of head)) statistics.old) (take (head.transformer.input_length * head.shingle_size) last_shingled_input.old) (take head.shingle_size previous_timestamps.old))) (reading input.now timestamp))
+        (feed (settings_of head) head.transformer.count (take (statistics_length (settings_of head)) statistics.old)
+        (previous (holding head (take (statistics_length (settings_of head)) statistics.old)
+        (take (head.transformer.input_length * head.shingle_size) last_shingled_input.old) (take head.shingle_size previous_timestamps.old)))
+        (reading input.now timestamp))
         (take (statistics_length (settings_of head)) statistics.old)) }
     ensures last_shingled_input_after { last_shingled_input.new ≡ over last_shingled_input.old (shift_in (take (head.transformer.input_length * head.shingle_size) last_shingled_input.old) input.now) }
     ensures last_shingled_point_after { last_shingled_point.new ≡ over last_shingled_point.old y.now }
@@ -165,7 +170,10 @@ pub(crate) fn write_anomaly(
     requires input_length_in_bounds_2 { head.transformer.input_length ≤ length expected_out.old }
     ensures value { result ≡ get_or times.now (head.shingle_size - 1 - back) 0 }
     ensures past_out_after { past_out.new ≡ over past_out.old (cond (eqb back 0) input.now (block_from head.transformer.input_length (head.shingle_size - back) inputs.now)) }
-    ensures expected_out_after { expected_out.new ≡ over expected_out.old (inverted (transformer (settings_of head) 0 s.now) (block_from head.transformer.input_length (head.shingle_size - 1 - back) expected.now) (block_from head.transformer.input_length (head.shingle_size - 1 - back) inputs.now)) }
+    ensures expected_out_after { expected_out.new
+        ≡ over expected_out.old (inverted (transformer (settings_of head) 0 s.now)
+        (block_from head.transformer.input_length (head.shingle_size - 1 - back) expected.now)
+        (block_from head.transformer.input_length (head.shingle_size - 1 - back) inputs.now)) }
 {
     let d = head.transformer.input_length;
     let b = head.shingle_size - 1 - back;
@@ -198,8 +206,12 @@ pub(crate) fn write_found(
     requires input_len { length input.now ≡ head.transformer.input_length }
     requires findable { (lt zero32 grade && is_some expected) ≡ true → Findable (settings_of head) (length (list_in expected)) back (length past_out.old) (length expected_out.old) }
     ensures value { result ≡ cond (lt zero32 grade && is_some expected.entry) (Some (record { past_timestamp = get_or times.now (head.shingle_size - 1 - back) 0; likelihood = one32 })) None }
-    ensures past_out_after { past_out.new ≡ cond (lt zero32 grade && is_some expected.entry) (over past_out.old (cond (eqb back 0) input.now (block_from head.transformer.input_length (head.shingle_size - back) inputs.now))) past_out.old }
-    ensures expected_out_after { expected_out.new ≡ cond (lt zero32 grade && is_some expected.entry) (over expected_out.old (inverted (transformer (settings_of head) 0 s.now) (block_from head.transformer.input_length (head.shingle_size - 1 - back) (list_in expected.entry)) (block_from head.transformer.input_length (head.shingle_size - 1 - back) inputs.now))) expected_out.old }
+    ensures past_out_after { past_out.new ≡ cond (lt zero32 grade && is_some expected.entry)
+        (over past_out.old (cond (eqb back 0) input.now (block_from head.transformer.input_length (head.shingle_size - back) inputs.now))) past_out.old }
+    ensures expected_out_after { expected_out.new ≡ cond (lt zero32 grade && is_some expected.entry)
+        (over expected_out.old (inverted (transformer (settings_of head) 0 s.now)
+        (block_from head.transformer.input_length (head.shingle_size - 1 - back) (list_in expected.entry))
+        (block_from head.transformer.input_length (head.shingle_size - 1 - back) inputs.now))) expected_out.old }
 {
     let point = expected?;
     if grade > 0.0 {

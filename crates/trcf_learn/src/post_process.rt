@@ -36,10 +36,12 @@ fn post_process_waiting(
     requires input_length_in_bounds { head.start_normalization * head.transformer.input_length ≤ length initial_values.old }
     requires start_normalization_in_bounds { head.start_normalization ≤ length initial_timestamps.old }
     requires head_in_bounds_2 { eqb (suc head.values_seen) head.start_normalization ≡ true → block (settings_of head) ≤ length deviations_out.old }
-    ensures value { result ≡ answering (counting head head.transformer.count (suc head.values_seen) head.internal_timestamp (suc head.initial_len)) (eqb (suc head.values_seen) head.start_normalization) None }
+    ensures value { result ≡ answering (counting head head.transformer.count (suc head.values_seen) head.internal_timestamp (suc head.initial_len))
+        (eqb (suc head.values_seen) head.start_normalization) None }
     ensures initial_values_after { initial_values.new ≡ over initial_values.old (take (head.initial_len * head.transformer.input_length) initial_values.old ++ input.now) }
     ensures initial_timestamps_after { initial_timestamps.new ≡ over initial_timestamps.old (take head.initial_len initial_timestamps.old ++ (timestamp ∷ [])) }
-    ensures deviations_out_after { deviations_out.new ≡ cond (eqb (suc head.values_seen) head.start_normalization) (over deviations_out.old (deviations (holding head (take (statistics_length (settings_of head)) statistics.now) [] []))) deviations_out.old }
+    ensures deviations_out_after { deviations_out.new ≡ cond (eqb (suc head.values_seen) head.start_normalization)
+        (over deviations_out.old (deviations (holding head (take (statistics_length (settings_of head)) statistics.now) [] []))) deviations_out.old }
 {
     let d = head.transformer.input_length;
     hold(head, initial_values, initial_timestamps, input, timestamp);
@@ -69,6 +71,7 @@ fn next_count(head: Preprocessor) -> u64
 }
 
 // The anomaly from before the update, the update, and the deviations after it.
+#[tactic(auto, using(trcf::proofs::LengthLaws::statistics_known, trcf::proofs::BoundLaws::all_inputs))]
 fn post_process_learning(
     head: Preprocessor,
     statistics: &mut [f64],
@@ -93,7 +96,8 @@ fn post_process_learning(
     requires input_len { length input.now ≡ head.transformer.input_length }
     requires learnable { Learnable head (length y.now) (length (list_in expected)) (is_some expected) grade back (length deviations_out.old) (length past_out.old) (length expected_out.old) }
     ensures { learn_parts result statistics.new last_shingled_input.new last_shingled_point.new previous_timestamps.new deviations_out.new past_out.new expected_out.new
-        ≡ learned_parts head statistics.old last_shingled_input.old last_shingled_point.old previous_timestamps.old input.now timestamp y.now (list_in expected.entry) (lt zero32 grade && is_some expected.entry) back deviations_out.old past_out.old expected_out.old }
+        ≡ learned_parts head statistics.old last_shingled_input.old last_shingled_point.old previous_timestamps.old input.now timestamp y.now
+        (list_in expected.entry) (lt zero32 grade && is_some expected.entry) back deviations_out.old past_out.old expected_out.old }
 {
     let d = head.transformer.input_length;
     let k = head.shingle_size;
@@ -152,8 +156,13 @@ pub fn post_process(
     past_out: &mut [f32],
     expected_out: &mut [f32],
 ) -> Result<PostProcessed, Refusal>
-    ensures { processed_outcome result head (lent statistics.new last_shingled_input.new last_shingled_point.new previous_timestamps.new initial_values.new initial_timestamps.new) deviations_out.new past_out.new expected_out.new
-        ≡ learn_after head (lent statistics.old last_shingled_input.old last_shingled_point.old previous_timestamps.old initial_values.old initial_timestamps.old) (learn_call input.now timestamp (is_some y.entry) (list_in y.entry) (is_some expected.entry) (list_in expected.entry) grade relative_index deviations_out.old past_out.old expected_out.old) }
+    ensures { processed_outcome result head
+        (lent statistics.new last_shingled_input.new last_shingled_point.new previous_timestamps.new initial_values.new initial_timestamps.new)
+        deviations_out.new past_out.new expected_out.new
+        ≡ learn_after head
+        (lent statistics.old last_shingled_input.old last_shingled_point.old previous_timestamps.old initial_values.old initial_timestamps.old)
+        (learn_call input.now timestamp (is_some y.entry) (list_in y.entry) (is_some expected.entry) (list_in expected.entry)
+        grade relative_index deviations_out.old past_out.old expected_out.old) }
 {
     let lists = LentLists {
         statistics,

@@ -153,6 +153,7 @@ pub(crate) fn drain_all(
 }
 
 // Drains where there is something to do; answers the head that is left.
+#[tactic(auto, using(trcf::proofs::LengthLaws::statistics_known, trcf::proofs::LengthLaws::dimension_known, trcf::proofs::BoundLaws::all_inputs))]
 pub(crate) fn drain_due(
     head: Preprocessor,
     statistics: &mut [f64],

@@ -26,6 +26,7 @@ fn copy_shifted(output: &mut [f32], point: &[f32], z: &[f32])
 }
 
 // The point with the transformed reading after it, its time counted from `base`.
+#[tactic(auto, using(trcf::proofs::LengthLaws::statistics_known, trcf::proofs::LengthLaws::dimension_known, trcf::proofs::BoundLaws::all_inputs))]
 pub(crate) fn write_point(
     head: Preprocessor,
     statistics: &[f64],

@@ -183,7 +183,14 @@ invert_times-requires c =
     let wl : h * dimension s ≤ length A.range.now.lower.now = rw P.invertible.unbroken.lower within in
     let lv = length-take-le h A.times_out.now r.values in
     let lu = length-take-le h A.times_upper_out.now r.upper in
-    let ll = length-take-le h A.times_lower_out.now r.lower in record { bounded = P.invertible.bounded; head_in_bounds = P.invertible.readable.statistics; forest_mode_value = P.forest_mode_value; nonzero = rw lv some; upper_out_len = (lu ∙ sym lv, ll ∙ sym lv); head_in_bounds_2 = (rw lv within, rw lv wu, rw lv wl) }
+    let ll = length-take-le h A.times_lower_out.now r.lower in record {
+      bounded = P.invertible.bounded;
+      head_in_bounds = P.invertible.readable.statistics;
+      forest_mode_value = P.forest_mode_value;
+      nonzero = rw lv some;
+      upper_out_len = (lu ∙ sym lv, ll ∙ sym lv);
+      head_in_bounds_2 = (rw lv within, rw lv wu, rw lv wl);
+    }
 
 pub returns-clause-lower_out_after : goal.returns-clause-lower_out_after
 returns-clause-lower_out_after c =

@@ -55,7 +55,9 @@ unwrap-requires c =
     let P = c.requires in
     let W = c.write_times in
     let v = W.ensures.loans.values_length in
-    ok_of c.cascaded_add.result (taken (c.u64_to_f64.result ∷ []) _ (held c.cascaded_add.new.self) (held W.new.out) (W.ensures.loans.upper_length ∙ P.upper_out_len.0 ∙ sym v) (W.ensures.loans.lower_length ∙ P.upper_out_len.1 ∙ sym v)
+    ok_of c.cascaded_add.result
+    (taken (c.u64_to_f64.result ∷ []) _ (held c.cascaded_add.new.self) (held W.new.out) (W.ensures.loans.upper_length ∙ P.upper_out_len.0 ∙ sym v)
+    (W.ensures.loans.lower_length ∙ P.upper_out_len.1 ∙ sym v)
     (ap (unblocked 1) v ∙ one_whole _ P.nonzero) c.cascaded_add.ensures.after)
 
 pub returns : goal.returns

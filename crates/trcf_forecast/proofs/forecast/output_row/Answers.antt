@@ -79,4 +79,7 @@ returns-else-is_shorter-2 c =
 
 pub returns-else-is_augmented : goal.returns-else-is_augmented
 unfolding forecast_output_short lookahead
-returns-else-is_augmented c = record { value = rw (sym c.is_augmented.ensures ∙ c.if-is_augmented.false); long = λ a. absurd (true_false (sym a ∙ sym c.is_augmented.ensures ∙ c.if-is_augmented.false)) }
+returns-else-is_augmented c = record {
+  value = rw (sym c.is_augmented.ensures ∙ c.if-is_augmented.false);
+  long = λ a. absurd (true_false (sym a ∙ sym c.is_augmented.ensures ∙ c.if-is_augmented.false));
+}

@@ -1,8 +1,7 @@
 -- `trcf_learn::learn::update_shingles` meets its contract: by its callees' promises and the laws of lists. Assumes nothing.
-use Rattle.trcf.proofs.LengthLaws.{roomy}
-use Rattle.trcf.proofs.BoundLaws.{five, five_more, all_statistics, all_inputs}
+use Rattle.trcf.proofs.LengthLaws.{statistics_known, roomy}
 use native.Mathlib.Omega.{arith}
-use mathlib.Core.Path.{ap, ◌∙◌}
+use mathlib.Core.Path.{sym, ap, ◌∙◌}
 use native.Mathlib.Nat.{le-mul_of_pos_right}
 use lib.ListN.{length-take}
 use lib.Seq.{length-take-le}
@@ -11,76 +10,38 @@ use Rattle.trcf.proofs.ShingleLaws.{over_part, paste_over}
 use borrow.Author.Rules.{rules}
 use Rattle.trcf_learn.proofs.learn.update_shingles.Goals as goal
 
-pub overflow_mul-d : goal.overflow_mul-d
-overflow_mul-d c = five c.requires.bounded.d_few
-
-pub overflow_add-d : goal.overflow_add-d
-overflow_add-d c = five_more c.requires.bounded.d_few
-
-pub overflow_mul-d-2 : goal.overflow_mul-d-2
-overflow_mul-d-2 c = all_statistics c.requires.bounded.d_few
-
 pub slice_bounds-feed_newest-end-2 : goal.slice_bounds-feed_newest-end-2
 slice_bounds-feed_newest-end-2 c =
-    let a = c.args in
-    let h = a.head in
-    let q = c.requires in
-    let d = h.transformer.input_length in
-    simp length-take (omega (arith, q))
-
-pub overflow_mul-d-3 : goal.overflow_mul-d-3
-overflow_mul-d-3 c = let b = c.requires.bounded in all_inputs b.d_few b.k_few
-
-pub slice_bounds-feed_newest-end-4 : goal.slice_bounds-feed_newest-end-4
-slice_bounds-feed_newest-end-4 c =
-    let a = c.args in let h = a.head in let q = c.requires in let d = h.transformer.input_length in simp length-take (omega (arith, q))
-
-pub slice_bounds-feed_newest-end-6 : goal.slice_bounds-feed_newest-end-6
-slice_bounds-feed_newest-end-6 c =
-    let a = c.args in let h = a.head in let q = c.requires in let d = h.transformer.input_length in simp length-take (omega (arith, q))
+    rw (statistics_known c.statistics_length.ensures c.requires.bounded.d_few) (sym (length-take-le _ _ c.requires.head_in_bounds))
 
 pub feed_newest-requires : goal.feed_newest-requires
 feed_newest-requires c =
-    let a = c.args in
-    let h = a.head in
     let q = c.requires in
-    let d = h.transformer.input_length in record { bounded = q.bounded; exact = record { all_statistics = length-take-le _ _ q.head_in_bounds; all_input = length-take-le _ _ q.shingle_size_in_bounds; all_times = length-take-le _ _ q.shingle_size_in_bounds_2 }; input_len = q.input_len; count_lt_count_limit = q.count_lt_count_limit }
-
-pub overflow_mul-d-4 : goal.overflow_mul-d-4
-overflow_mul-d-4 c =
-    let b = c.requires.bounded in all_inputs b.d_few b.k_few
-
-pub slice_bounds-shift_in-end-2 : goal.slice_bounds-shift_in-end-2
-slice_bounds-shift_in-end-2 c =
-    let a = c.args in
-    let h = a.head in
-    let q = c.requires in
-    let d = h.transformer.input_length in
-    simp length-take (omega (arith, q))
-
-pub slice_bounds-shift_in-end-4 : goal.slice_bounds-shift_in-end-4
-slice_bounds-shift_in-end-4 c =
-    let a = c.args in
-    let h = a.head in
-    let q = c.requires in
-    let d = h.transformer.input_length in
-    simp length-take (omega (arith, q))
+    let e = statistics_known c.statistics_length.ensures c.requires.bounded.d_few in
+    record {
+      bounded = q.bounded;
+      exact = record {
+        all_statistics = rw e (length-take-le _ _ q.head_in_bounds);
+        all_input = length-take-le _ _ q.shingle_size_in_bounds;
+        all_times = length-take-le _ _ q.shingle_size_in_bounds_2;
+      };
+      input_len = q.input_len;
+      count_lt_count_limit = q.count_lt_count_limit;
+    }
 
 pub returns : goal.returns
 returns c =
     let a = c.args in
-    let h = a.head in
     let q = c.requires in
-    let d = h.transformer.input_length in record {
-      statistics_after = over_part a.statistics.now _ _ (c.feed_newest.auto.s ∙ length-take-le _ _ q.head_in_bounds) ∙ ap (over a.statistics.now)
-          c.feed_newest.ensures;
-      last_shingled_input_after = over_part a.last_shingled_input.now _ _ (c.shift_in.auto.s ∙ length-take-le _ _ q.shingle_size_in_bounds) ∙ ap (over a.last_shingled_input.now)
-          ((roomy _ c.shift_in.ensures
-          (let a = c.args in let h = a.head in let q = c.requires in let d = h.transformer.input_length in let m = le-mul_of_pos_right d q.bounded.k_pos in simp length-take
-          (omega (arith, q)))));
-      last_shingled_point_after = (roomy _ c.copy_in.ensures (search rules)) ∙ paste_over _ _;
-      previous_timestamps_after = over_part a.previous_timestamps.now _ _
-          (c.shift_in-2.auto.s ∙ length-take-le _ _ q.shingle_size_in_bounds_2) ∙ ap (over a.previous_timestamps.now)
-          ((roomy _ c.shift_in-2.ensures
-          (let a = c.args in let h = a.head in let q = c.requires in let d = h.transformer.input_length in simp length-take (omega (arith, q, q.bounded)))));
+    let e = statistics_known c.statistics_length.ensures c.requires.bounded.d_few in
+    let m = le-mul_of_pos_right a.head.transformer.input_length q.bounded.k_pos in
+    record {
+      statistics_after = rw e
+          (over_part a.statistics.now _ _ (c.feed_newest.auto.s ∙ rw e (length-take-le _ _ q.head_in_bounds))
+          ∙ ap (over a.statistics.now) (rw e at c.feed_newest.ensures));
+      last_shingled_input_after = over_part a.last_shingled_input.now _ _ (c.shift_in.auto.s ∙ length-take-le _ _ q.shingle_size_in_bounds)
+          ∙ ap (over a.last_shingled_input.now) (roomy _ c.shift_in.ensures (simp length-take (omega (arith, q))));
+      last_shingled_point_after = roomy _ c.copy_in.ensures (search rules) ∙ paste_over _ _;
+      previous_timestamps_after = over_part a.previous_timestamps.now _ _ (c.shift_in-2.auto.s ∙ length-take-le _ _ q.shingle_size_in_bounds_2)
+          ∙ ap (over a.previous_timestamps.now) (roomy _ c.shift_in-2.ensures (simp length-take (omega (arith, q, q.bounded))));
     }

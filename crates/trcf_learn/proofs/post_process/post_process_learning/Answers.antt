@@ -1,6 +1,5 @@
 -- `trcf_learn::post_process::post_process_learning` meets its contract: by its callees' promises and the laws of outcomes. Assumes nothing.
-use Rattle.trcf.proofs.LengthLaws.{opened, output_fits_lem}
-use Rattle.trcf.proofs.BoundLaws.{five, five_more, all_statistics, all_inputs}
+use Rattle.trcf.proofs.LengthLaws.{statistics_known, opened, output_fits_lem}
 use native.Mathlib.Omega.{arith}
 use mathlib.Core.Path.{◌≡◌, sym, ap, ◌∙◌}
 use Prim.Native.Nat.{◌*◌}
@@ -18,69 +17,42 @@ use Rattle.trcf.proofs.DrainLaws.{front_over}
 use Rattle.trcf.proofs.LearnLaws.{learned_length}
 use Rattle.trcf_learn.proofs.post_process.post_process_learning.Goals as goal
 
-pub overflow_mul-d : goal.overflow_mul-d
-overflow_mul-d c =
-    five c.requires.bounded.d_few
-
-pub overflow_add-d : goal.overflow_add-d
-overflow_add-d c =
-    five_more c.requires.bounded.d_few
-
-pub overflow_mul-d-2 : goal.overflow_mul-d-2
-overflow_mul-d-2 c =
-    all_statistics c.requires.bounded.d_few
-
 pub slice_bounds-write_found-end-2 : goal.slice_bounds-write_found-end-2
 slice_bounds-write_found-end-2 c =
-    sym (length-take-le _ _ c.requires.head_in_bounds)
-
-pub overflow_mul-d-3 : goal.overflow_mul-d-3
-overflow_mul-d-3 c =
-    let b = c.requires.bounded in all_inputs b.d_few b.k_few
-
-pub slice_bounds-write_found-end-4 : goal.slice_bounds-write_found-end-4
-slice_bounds-write_found-end-4 c =
-    sym (length-take-le _ _ c.requires.shingle_size_in_bounds)
-
-pub slice_bounds-write_found-end-6 : goal.slice_bounds-write_found-end-6
-slice_bounds-write_found-end-6 c =
-    sym (length-take-le _ _ c.requires.shingle_size_in_bounds_2)
+    rw (statistics_known c.statistics_length.ensures c.requires.bounded.d_few) (sym (length-take-le _ _ c.requires.head_in_bounds))
 
 pub write_found-anomaly-requires : goal.write_found-anomaly-requires
 write_found-anomaly-requires c =
-    let a = c.args in
-    let h = a.head in
-    let q = c.requires in record { bounded = q.bounded; exact = record { all_statistics = length-take-le _ _ q.head_in_bounds; all_input = length-take-le _ _ q.shingle_size_in_bounds; all_times = length-take-le _ _ q.shingle_size_in_bounds_2 }; input_len = q.input_len; findable = q.learnable.found }
+    let q = c.requires in
+    let e = statistics_known c.statistics_length.ensures c.requires.bounded.d_few in
+    record {
+      bounded = q.bounded;
+      exact = record {
+        all_statistics = rw e (length-take-le _ _ q.head_in_bounds);
+        all_input = length-take-le _ _ q.shingle_size_in_bounds;
+        all_times = length-take-le _ _ q.shingle_size_in_bounds_2;
+      };
+      input_len = q.input_len;
+      findable = q.learnable.found;
+    }
 
 pub update_shingles-requires : goal.update_shingles-requires
 update_shingles-requires c =
-    let a = c.args in
-    let h = a.head in
     let q = c.requires in
-    record { bounded = q.bounded; head_in_bounds = q.head_in_bounds; shingle_size_in_bounds = q.shingle_size_in_bounds; head_in_bounds_2 = q.head_in_bounds_2; shingle_size_in_bounds_2 = q.shingle_size_in_bounds_2; input_len = q.input_len; y_len = q.learnable.all_y; count_lt_count_limit = q.learnable.count_room }
-
-pub overflow_mul-d-4 : goal.overflow_mul-d-4
-overflow_mul-d-4 c =
-    five c.requires.bounded.d_few
-
-pub overflow_add-d-2 : goal.overflow_add-d-2
-overflow_add-d-2 c =
-    five_more c.requires.bounded.d_few
-
-pub overflow_mul-d-5 : goal.overflow_mul-d-5
-overflow_mul-d-5 c =
-    all_statistics c.requires.bounded.d_few
-
-pub slice_bounds-write_deviations-end : goal.slice_bounds-write_deviations-end
-slice_bounds-write_deviations-end c =
-    let a = c.args in
-    let h = a.head in
-    let q = c.requires in
-    omega (arith, c.update_shingles.auto, q.head_in_bounds)
+    record {
+      bounded = q.bounded;
+      head_in_bounds = q.head_in_bounds;
+      shingle_size_in_bounds = q.shingle_size_in_bounds;
+      head_in_bounds_2 = q.head_in_bounds_2;
+      shingle_size_in_bounds_2 = q.shingle_size_in_bounds_2;
+      input_len = q.input_len;
+      y_len = q.learnable.all_y;
+      count_lt_count_limit = q.learnable.count_room;
+    }
 
 pub slice_bounds-write_deviations-end-2 : goal.slice_bounds-write_deviations-end-2
 slice_bounds-write_deviations-end-2 c =
-    let a = c.args in let h = a.head in let q = c.requires in simp length-take (omega (arith, c.update_shingles.auto, q.head_in_bounds))
+    simp length-take (omega (arith, c.update_shingles.auto, c.requires.head_in_bounds, statistics_known c.statistics_length-2.ensures c.requires.bounded.d_few))
 
 pub next_count-count-requires : goal.next_count-count-requires
 next_count-count-requires c =
@@ -96,11 +68,11 @@ returns c =
     let S = learned_statistics h (take n a.statistics.now) (take (h.transformer.input_length * h.shingle_size) a.last_shingled_input.now)
     (take h.shingle_size a.previous_timestamps.now) a.input.now a.timestamp in
     let e : length S ≡ n = learned_length h _ _ _ _ _ ∙ length-take-le n a.statistics.now q.head_in_bounds in
-    let F = c.write_found-anomaly.ensures in
+    let F = rw (statistics_known c.statistics_length.ensures c.requires.bounded.d_few) at c.write_found-anomaly.ensures in
     let U = c.update_shingles.ensures in
     let W = c.with_counts.ensures ∙ (λ j. counting h (c.next_count-count.ensures j) (add-one h.values_seen j) (add-one h.internal_timestamp j) h.initial_len) in
-    let G = (opened _ c.write_deviations.ensures
-    (output_fits_lem (let a = c.args in let h = a.head in let q = c.requires in
-    (q.bounded, (length-take-le _ _ (omega (arith, c.update_shingles.auto, q.head_in_bounds)), q.learnable.deviations_room)))))
+    let G = opened _ (rw (statistics_known c.statistics_length-2.ensures c.requires.bounded.d_few) at c.write_deviations.ensures)
+    (output_fits_lem (q.bounded, (length-take-le _ _ (omega (arith, c.update_shingles.auto, q.head_in_bounds)), q.learnable.deviations_room)))
     ∙ ap (λ (u : List Float). over a.deviations_out.now (deviations (holding h u [] []))) (ap (take n) U.statistics_after ∙ front_over a.statistics.now S n e) in
-    λ j. learn_parts (answering (W j) true (F.value j)) (U.statistics_after j) (U.last_shingled_input_after j) (U.last_shingled_point_after j) (U.previous_timestamps_after j) (G j) (F.past_out_after j) (F.expected_out_after j)
+    λ j. learn_parts (answering (W j) true (F.value j)) (U.statistics_after j) (U.last_shingled_input_after j) (U.last_shingled_point_after j)
+    (U.previous_timestamps_after j) (G j) (F.past_out_after j) (F.expected_out_after j)

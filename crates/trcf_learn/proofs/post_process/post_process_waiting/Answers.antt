@@ -1,5 +1,5 @@
 -- `trcf_learn::post_process::post_process_waiting` meets its contract: by its callees' promises and the laws of outcomes. Assumes nothing.
-use Rattle.trcf.proofs.BoundLaws.{five, five_more, all_statistics}
+use Rattle.trcf.proofs.LengthLaws.{statistics_known}
 use mathlib.Core.Path.{sym}
 use Prim.Native.Nat.{suc}
 use Rattle.std.specs.Prelude.{None}
@@ -10,35 +10,25 @@ use Rattle.trcf.specs.View.{counting}
 use Rattle.trcf.specs.Steps.Learning.{answering}
 use Rattle.trcf_learn.proofs.post_process.post_process_waiting.Goals as goal
 
-pub overflow_mul-d : goal.overflow_mul-d
-overflow_mul-d c =
-    five c.requires.bounded.d_few
-
-pub overflow_add-d : goal.overflow_add-d
-overflow_add-d c =
-    five_more c.requires.bounded.d_few
-
-pub overflow_mul-d-2 : goal.overflow_mul-d-2
-overflow_mul-d-2 c =
-    all_statistics c.requires.bounded.d_few
-
 pub slice_bounds-write_completing-end : goal.slice_bounds-write_completing-end
 slice_bounds-write_completing-end c =
-    sym (length-take-le _ _ c.requires.head_in_bounds)
+    rw (statistics_known c.statistics_length.ensures c.requires.bounded.d_few) (sym (length-take-le _ _ c.requires.head_in_bounds))
 
 pub write_completing-written-requires : goal.write_completing-written-requires
 write_completing-written-requires c =
-    let a = c.args in
-    let h = a.head in
     let q = c.requires in
-    record { bounded = q.bounded; s_len = length-take-le _ _ q.head_in_bounds; values_seen_bound = q.values_seen_bound; head_in_bounds = q.head_in_bounds_2 }
+    let e = statistics_known c.statistics_length.ensures c.requires.bounded.d_few in
+    record {
+      bounded = q.bounded;
+      s_len = rw e (length-take-le _ _ q.head_in_bounds);
+      values_seen_bound = q.values_seen_bound;
+      head_in_bounds = q.head_in_bounds_2;
+    }
 
 pub returns : goal.returns
 returns c =
-    let a = c.args in
-    let h = a.head in
-    let q = c.requires in
-    let W = c.write_completing-written.ensures in
+    let h = c.args.head in
+    let W = rw (statistics_known c.statistics_length.ensures c.requires.bounded.d_few) at c.write_completing-written.ensures in
     let H = c.hold.ensures in record {
       value = (rw W.value (λ j. answering (counting h h.transformer.count (add-one h.values_seen j) h.internal_timestamp (add-one h.initial_len j))
           (eqb (suc h.values_seen) h.start_normalization) None));

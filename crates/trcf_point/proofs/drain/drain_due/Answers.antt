@@ -1,11 +1,9 @@
 -- `trcf_point::drain::drain_due` meets its contract: by its callees' promises and the laws of lists. Assumes nothing.
 use Rattle.trcf.proofs.LengthLaws.{dimension_known, statistics_known}
-use Rattle.trcf.proofs.BoundLaws.{all_inputs}
 use native.Mathlib.Omega.{arith}
 use mathlib.Core.Path.{◌≡◌, sym, ap, ◌∙◌}
 use Prim.Native.Nat.{ℕ, ◌*◌, ◌<◌}
 use native.Mathlib.Nat.{mul-le-mul, le_refl}
-use lib.ListN.{length-take}
 use mathlib.Core.Bool.{true, false}
 use borrow.Author.Tests.{not-true, not-false}
 use lib.Seq.{length-take-le}
@@ -13,7 +11,6 @@ use Rattle.trcf.specs.Calls.{due}
 use Rattle.trcf.specs.Preprocessor.{facts}
 use Rattle.trcf.specs.View.{settings_of, view, lent}
 use Rattle.trcf.proofs.StateLaws.{undrained, undrained_is, count_room, internal_room, due_some, drained_out_at, drained_view_at}
-use borrow.Author.Rules.{rules}
 use Rattle.trcf_point.proofs.drain.drain_due.Goals as goal
 
 pub returns-then-not-is_due : goal.returns-then-not-is_due
@@ -23,100 +20,12 @@ returns-then-not-is_due c =
     let h = a.head in
     let l = lent a.statistics.now a.last_shingled_input.now a.last_shingled_point.now a.previous_timestamps.now a.initial_values.now a.initial_timestamps.now in
     let f = c.requires.ready.fitted in
-    let r = f.roomy in
     let e : due (settings_of h) (facts (view h l)) ≡ false = sym c.is_due.ensures ∙ not-true _ c.if-not-is_due.true-raw in
     record { initial_timestamps_after = undrained h l f e; initial_timestamps_after_2 = undrained_is h l f e }
-
-pub slice_bounds-drain_all-end : goal.slice_bounds-drain_all-end
-slice_bounds-drain_all-end c =
-    rw (statistics_known c.statistics_length.ensures c.requires.ready.bounded.d_few) c.requires.ready.fitted.roomy.in_statistics
 
 pub slice_bounds-drain_all-end-2 : goal.slice_bounds-drain_all-end-2
 slice_bounds-drain_all-end-2 c =
     rw (statistics_known c.statistics_length.ensures c.requires.ready.bounded.d_few) (sym (length-take-le _ _ c.requires.ready.fitted.roomy.in_statistics))
-
-pub overflow_mul-d : goal.overflow_mul-d
-overflow_mul-d c =
-    let b = c.requires.ready.bounded in all_inputs b.d_few b.k_few
-
-pub slice_bounds-drain_all-end-3 : goal.slice_bounds-drain_all-end-3
-slice_bounds-drain_all-end-3 c =
-    c.requires.ready.fitted.roomy.in_input
-
-pub slice_bounds-drain_all-end-4 : goal.slice_bounds-drain_all-end-4
-slice_bounds-drain_all-end-4 c =
-    sym (length-take-le _ _ c.requires.ready.fitted.roomy.in_input)
-
-pub slice_bounds-drain_all-end-5 : goal.slice_bounds-drain_all-end-5
-slice_bounds-drain_all-end-5 c =
-    let a = c.args in
-    let h = a.head in
-    let l = lent a.statistics.now a.last_shingled_input.now a.last_shingled_point.now a.previous_timestamps.now a.initial_values.now a.initial_timestamps.now in
-    let f = c.requires.ready.fitted in
-    let r = f.roomy in
-    omega (arith, r, (dimension_known c.get_dimension-m.ensures (search rules)))
-
-pub slice_bounds-drain_all-end-6 : goal.slice_bounds-drain_all-end-6
-slice_bounds-drain_all-end-6 c =
-    let a = c.args in
-    let h = a.head in
-    let l = lent a.statistics.now a.last_shingled_input.now a.last_shingled_point.now a.previous_timestamps.now a.initial_values.now a.initial_timestamps.now in
-    let f = c.requires.ready.fitted in
-    let r = f.roomy in
-    let m = mul-le-mul f.in_room (le_refl h.transformer.input_length) in
-    let b = mul-le-mul f.few c.requires.ready.bounded.d_few in
-    simp length-take (omega (
-      arith,
-      r,
-      f.few,
-      f.in_room,
-      c.requires.ready.bounded,
-      (dimension_known c.get_dimension-m.ensures (search rules)),
-    ))
-
-pub slice_bounds-drain_all-end-7 : goal.slice_bounds-drain_all-end-7
-slice_bounds-drain_all-end-7 c =
-    c.requires.ready.fitted.roomy.in_times
-
-pub slice_bounds-drain_all-end-8 : goal.slice_bounds-drain_all-end-8
-slice_bounds-drain_all-end-8 c =
-    sym (length-take-le _ _ c.requires.ready.fitted.roomy.in_times)
-
-pub overflow_mul-n : goal.overflow_mul-n
-overflow_mul-n c =
-    let a = c.args in
-    let h = a.head in
-    let l = lent a.statistics.now a.last_shingled_input.now a.last_shingled_point.now a.previous_timestamps.now a.initial_values.now a.initial_timestamps.now in
-    let f = c.requires.ready.fitted in
-    let r = f.roomy in
-    let m = mul-le-mul f.in_room (le_refl h.transformer.input_length) in
-    let b = mul-le-mul f.few c.requires.ready.bounded.d_few in
-    let k = mul-le-mul c.requires.ready.bounded.d_few
-    c.requires.ready.bounded.k_few in
-    omega (arith, f.few, c.requires.ready.bounded)
-
-pub slice_bounds-drain_all-end-9 : goal.slice_bounds-drain_all-end-9
-slice_bounds-drain_all-end-9 c =
-    let a = c.args in
-    let h = a.head in
-    let l = lent a.statistics.now a.last_shingled_input.now a.last_shingled_point.now a.previous_timestamps.now a.initial_values.now a.initial_timestamps.now in
-    let f = c.requires.ready.fitted in
-    let r = f.roomy in
-    let m = mul-le-mul f.in_room (le_refl h.transformer.input_length) in
-    let b = mul-le-mul f.few c.requires.ready.bounded.d_few in
-    let k = dimension_known c.get_dimension-m.ensures (search rules) in
-    simp length-take (omega (arith, r, f.few, f.in_room, c.requires.ready.bounded, k))
-
-pub slice_bounds-drain_all-end-10 : goal.slice_bounds-drain_all-end-10
-slice_bounds-drain_all-end-10 c =
-    let a = c.args in
-    let h = a.head in
-    let l = lent a.statistics.now a.last_shingled_input.now a.last_shingled_point.now a.previous_timestamps.now a.initial_values.now a.initial_timestamps.now in
-    let f = c.requires.ready.fitted in
-    let r = f.roomy in
-    let m = mul-le-mul f.in_room (le_refl h.transformer.input_length) in
-    let b = mul-le-mul f.few c.requires.ready.bounded.d_few in
-    simp length-take (omega (arith, r, f.few, f.in_room, c.requires.ready.bounded, (dimension_known c.get_dimension-m.ensures (search rules))))
 
 pub drain_all-requires : goal.drain_all-requires
 unfolding due facts view
@@ -127,18 +36,21 @@ drain_all-requires c =
     let f = c.requires.ready.fitted in
     let r = f.roomy in
     let s = statistics_known c.statistics_length.ensures c.requires.ready.bounded.d_few in
+    let k = dimension_known c.get_dimension-m.ensures c.requires.ready.bounded in
     let m = mul-le-mul f.in_room (le_refl h.transformer.input_length) in
-    let b = mul-le-mul f.few c.requires.ready.bounded.d_few in
     let e : due (settings_of h) (facts (view h l)) ≡ true = sym c.is_due.ensures ∙ not-false _ c.if-not-is_due.false-raw in
     let u = count_room h l c.requires.initial_timestamps_value e in
     let n = length-take-le h.initial_len a.initial_timestamps.now (omega (arith, f.in_room, r)) in
-    let v = length-take-le (h.initial_len * h.transformer.input_length) a.initial_values.now (omega (arith, m, r)) in record {
+    let v = length-take-le (h.initial_len * h.transformer.input_length) a.initial_values.now (omega (arith, m, r)) in
+    record {
       bounded = c.requires.ready.bounded;
-      exact = record
-          { all_statistics = rw s (length-take-le _ _ r.in_statistics); all_input = length-take-le _ _ r.in_input; all_times = length-take-le _ _ r.in_times };
-      points_len = length-take-le _ _ (omega (arith, (dimension_known c.get_dimension-m.ensures (search rules)), r.in_point)) ∙
-          (dimension_known c.get_dimension-m.ensures (search rules)).0;
-      values_len = v ∙ ap (λ (k : ℕ). k * h.transformer.input_length) (sym n);
+      exact = record {
+        all_statistics = rw s (length-take-le _ _ r.in_statistics);
+        all_input = length-take-le _ _ r.in_input;
+        all_times = length-take-le _ _ r.in_times;
+      };
+      points_len = length-take-le _ _ (omega (arith, k, r.in_point)) ∙ k.0;
+      values_len = v ∙ ap (λ (i : ℕ). i * h.transformer.input_length) (sym n);
       stamps_bound = omega (arith, n, u, f.few);
       stamps_nonzero = due_some h l e;
     }
@@ -149,12 +61,9 @@ overflow_add-head c =
     let a = c.args in
     let h = a.head in
     let l = lent a.statistics.now a.last_shingled_input.now a.last_shingled_point.now a.previous_timestamps.now a.initial_values.now a.initial_timestamps.now in
-    let f = c.requires.ready.fitted in
-    let r = f.roomy in
     let e : due (settings_of h) (facts (view h l)) ≡ true = sym c.is_due.ensures ∙ not-false _ c.if-not-is_due.false-raw in
     let u = count_room h l c.requires.initial_timestamps_value e in
-    let i = internal_room h l c.requires.initial_timestamps_value e in
-    omega (arith, f.few)
+    omega (arith, c.requires.ready.fitted.few)
 
 pub overflow_add-head-2 : goal.overflow_add-head-2
 unfolding due facts view
@@ -162,13 +71,9 @@ overflow_add-head-2 c =
     let a = c.args in
     let h = a.head in
     let l = lent a.statistics.now a.last_shingled_input.now a.last_shingled_point.now a.previous_timestamps.now a.initial_values.now a.initial_timestamps.now in
-    let f = c.requires.ready.fitted in
-    let r = f.roomy in
-    let e : due (settings_of h) (facts (view h l)) ≡ true = sym c.is_due.ensures ∙ not-false _
-    c.if-not-is_due.false-raw in
-    let u = count_room h l c.requires.initial_timestamps_value e in
-    let i = internal_room h l c.requires.initial_timestamps_value e in
-    omega (arith, f.few)
+    let e : due (settings_of h) (facts (view h l)) ≡ true = sym c.is_due.ensures ∙ not-false _ c.if-not-is_due.false-raw in
+    let u = internal_room h l c.requires.initial_timestamps_value e in
+    omega (arith, c.requires.ready.fitted.few)
 
 pub returns : goal.returns
 unfolding due facts view
@@ -180,8 +85,7 @@ returns c =
     let r = f.roomy in
     let n = statistics_known c.statistics_length.ensures c.requires.ready.bounded.d_few in
     let m = dimension_known c.get_dimension-m.ensures c.requires.ready.bounded in
-    let e : due (settings_of h) (facts (view h l)) ≡ true = sym c.is_due.ensures ∙ not-false _
-    c.if-not-is_due.false-raw in
+    let e : due (settings_of h) (facts (view h l)) ≡ true = sym c.is_due.ensures ∙ not-false _ c.if-not-is_due.false-raw in
     let K = c.drain_all.auto in
     let w : 0 < h.initial_len = omega (arith, due_some h l e, length-take-le h.initial_len a.initial_timestamps.now (omega (arith, f.in_room, r))) in
     let ls = K.s ∙ rw n (length-take-le _ _ r.in_statistics) in

@@ -1,6 +1,5 @@
 -- `trcf_point::point::write_point` meets its contract: by its callees' promises, the time's number after the channels'. Assumes nothing.
 use Rattle.trcf.proofs.LengthLaws.{block_known, dimension_known, statistics_known, opened, transform_fits_lem}
-use Rattle.trcf.proofs.BoundLaws.{all_inputs}
 use native.Mathlib.Omega.{arith}
 use mathlib.Core.List.{List}
 use lib.Ieee.{Float}
@@ -19,19 +18,6 @@ use Rattle.trcf_point.proofs.point.write_point.Goals as goal
 pub slice_bounds-write_transform-end : goal.slice_bounds-write_transform-end
 slice_bounds-write_transform-end c =
     rw (statistics_known c.statistics_length.ensures c.requires.bounded.d_few) (sym (length-take-le _ _ c.requires.head_in_bounds))
-
-pub overflow_mul-d : goal.overflow_mul-d
-overflow_mul-d c =
-    let b = c.requires.bounded in all_inputs b.d_few b.k_few
-
-pub slice_bounds-write_transform-end-2 : goal.slice_bounds-write_transform-end-2
-slice_bounds-write_transform-end-2 c =
-    sym (length-take-le _ _ c.requires.shingle_size_in_bounds)
-
-pub slice_bounds-copy_shifted-end : goal.slice_bounds-copy_shifted-end
-slice_bounds-copy_shifted-end c =
-    let q = c.requires in
-    simp length-take (omega (arith, q, (dimension_known c.get_dimension-m.ensures (search rules))))
 
 pub slice_bounds-copy_shifted-end-2 : goal.slice_bounds-copy_shifted-end-2
 slice_bounds-copy_shifted-end-2 c =
