@@ -1,7 +1,7 @@
 -- Request #107 of what the program holds: the promise of `invert_extrapolation` is `extrapolation_of`. Assumes nothing.
 use Prim.Native.Nat.{ℕ, zero, suc}
 use mathlib.Core.Path.{◌≡◌, refl, sym, ap, ◌∙◌}
-use mathlib.Core.List.{List, [], ◌∷◌}
+use mathlib.Core.List.{List}
 use lib.ListN.{length}
 use Rattle.refusal.specs.Refusal.{first_of}
 use native.Mathlib.Omega.{arith}

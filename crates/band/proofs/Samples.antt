@@ -2,9 +2,9 @@
 use Prim.Native.Nat.{ℕ}
 use mathlib.Core.Path.{◌≡◌, refl}
 use native.Mathlib.Omega.{arith}
-use mathlib.Core.Bool.{true, false}
+use mathlib.Core.Bool.{true}
 use mathlib.Core.List.{[], ◌∷◌}
-use lib.ListN.{replicate, get_or}
+use lib.ListN.{get_or}
 use lib.IntN.{pos}
 use lib.Ieee.{Float, nan, binary32, binary64, add, sub, mul, div, lt, le, eq, of_int, of_bits}
 use Rattle.numeric.specs.Narrow.{narrowed}
@@ -14,8 +14,8 @@ use Rattle.ranges.specs.RangeVector.{Ranges, ranges, unequal, unblocked, shorter
 use Rattle.trcf.specs.Lists.{last_n}
 use Rattle.trcf.specs.Transformer.{one32, statistic_at, normalized_scale, basic_shift, basic_drift, weight_at, reciprocal, forecast_at, forecast_to, inverted_forecast}
 use Rattle.trcf.specs.Settings.{Settings, block, dimension, settings_row, all_one}
-use Rattle.trcf.specs.Calls.{Forecast, invert_extrapolation, lookahead, forecast_unfit, forecast_output_short, table, rows}
-use Rattle.trcf.specs.Preprocessor.{State, turned, fresh, facts, timescale, timedrift, invert_time, previous, numbers_of, times_of, turned_back, refusal, reply, answer}
+use Rattle.trcf.specs.Calls.{Forecast, lookahead, forecast_unfit, forecast_output_short, table, rows}
+use Rattle.trcf.specs.Preprocessor.{fresh, facts, timescale, timedrift, invert_time, previous, numbers_of, times_of, turned_back, refusal, reply, answer}
 use Rattle.trcf.specs.Extrapolation.{forecast}
 use Rattle.trcf.specs.declared.types.TransformMethod.{TransformMethod}
 use Rattle.trcf.specs.declared.types.TransformMethod.TheVariants.{NONE, WEIGHTED}

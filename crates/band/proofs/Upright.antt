@@ -1,8 +1,8 @@
 -- Request #107: the band of every accepted turn-back stands the right way up. Assumes nothing.
-use Prim.Native.Nat.{ℕ, zero, suc, ◌+◌, ◌*◌, ◌/◌, ◌%◌, ◌≤◌, ◌<◌}
+use Prim.Native.Nat.{ℕ, zero, suc, ◌+◌, ◌*◌, ◌%◌, ◌≤◌, ◌<◌}
 use mathlib.Core.Path.{◌≡◌, refl, sym, ap, ◌∙◌, subst}
 use mathlib.Core.Bool.{Bool, true, false, cond, not, ◌&&◌, ◌||◌}
-use mathlib.Core.List.{List, [], ◌∷◌, ◌++◌}
+use mathlib.Core.List.{List, [], ◌∷◌}
 use native.Mathlib.Omega.{arith}
 use native.Mathlib.Nat.{mul_assoc, mul_comm, mul-mod_left, div-mul-le_self}
 use borrow.Author.Tests.{eqb-true, ltb-false, ltb-true}
@@ -19,13 +19,13 @@ use Rattle.trcf.specs.Lists.{tabulate}
 use Rattle.trcf.specs.Types.{augments, is_gap}
 use Rattle.trcf.specs.Transformer.{Transformer, inverted_forecast}
 use Rattle.trcf.specs.Settings.{Settings, transformer, dimension}
-use Rattle.trcf.specs.Calls.{Forecast, invert_extrapolation, lookahead, sizes_of, forecast_unfit, forecast_output_short, forecast_table, table, rows}
-use Rattle.trcf.specs.Preprocessor.{State, Answer, refused, turned, accepted, answer, refusal, reply, previous, timescale, timedrift, fronts, backs, invert_times, numbers_of, times_of, turned_back}
+use Rattle.trcf.specs.Calls.{Forecast, lookahead, sizes_of, forecast_unfit, forecast_output_short, forecast_table, table, rows}
+use Rattle.trcf.specs.Preprocessor.{State, refused, turned, accepted, answer, refusal, reply, previous, timescale, timedrift, fronts, numbers_of, times_of, turned_back}
 use Rattle.trcf.specs.Steps.Inverting.{time_factor, time_by, times_by, stretched}
 use Rattle.trcf.proofs.FitLaws.{tabulate_length}
 use Rattle.trcf.proofs.ForecastLaws.{inverted_forecast_lengths}
 use Rattle.trcf.proofs.ExtrapolationLaws.{fronts_length, times_by_is, numbers_within}
-use Rattle.band.specs.Band.{Upright, first_ranges, numbers_in, times_in, WholeBlocks, UprightBand, SameValues, SameUppers, AllAsLong, Turns, Band}
+use Rattle.band.specs.Band.{Upright, first_ranges, numbers_in, times_in, WholeBlocks, UprightBand, SameValues, SameUppers, Turns, Band}
 use Rattle.band.proofs.Steps.{AgreeAll, inverted_ordered, inverted_agrees, cascade_to_agrees}
 
 -- ---- three lists of one length

@@ -24,22 +24,36 @@ use Rattle.numeric.specs.Root.{root_within, halves, rooted, root_of}
 use Rattle.common.specs.Deviation.{outside_unit, factor_of, step_of as fedStep, is_empty, mean_of, root_above, deviation_of}
 use Rattle.refusal.specs.Lent.{over}
 use Rattle.trcf.specs.Lists.{last_n, shift_in, overwrite}
-use Rattle.trcf.specs.Transformer.{statistic_at, put_statistic, fed, deviations_at, put_deviations, fed_at, channels_fed, updated, normalized_scale, basic_shift, basic_drift, weight_at, transformed, unweighted, inverted, scales, shifts, difference_deviations}
+use Rattle.trcf.specs.Transformer.{statistic_at, put_statistic, fed, deviations_at, put_deviations, fed_at, channels_fed, updated, normalized_scale, basic_shift, basic_drift, weight_at, transformed}
+use Rattle.trcf.specs.Transformer.{unweighted, inverted, scales, shifts, difference_deviations}
 use Rattle.trcf.specs.Settings.{block, dimension, waiting, all_one, settings_row}
 use Rattle.trcf.specs.Calls.{finite, due, newest, before_newest as behindNewest, wrong_length, outside, drain_full, learn_full, waiting_short, learn_short, table, rows}
-use Rattle.trcf.specs.Preprocessor.{fresh as freshState, facts, time_fed, feed, timescale, timedrift, time_element, transformed_after, previous, time_base, preceding, primed, drain_one, drain_all, drained, buffered, learned, learned_with, change, deviations, point_of, block_from, past_values, expected_values, anomaly_of, learned_nothing, buffered_answer, learned_answer, learn_answer, reply}
-use Rattle.trcf.specs.View.{view, written_over, head_row, lent_short, counters_unfit, short_row, lent_row, row_of, build_row, build_of, answer_of, head_after, lent_after, drain_of, point_after, learn_after}
+use Rattle.trcf.specs.Preprocessor.{fresh as freshState, facts, time_fed, feed, timescale, timedrift, time_element, transformed_after, previous, time_base, preceding, primed, drain_one, drain_all}
+use Rattle.trcf.specs.Preprocessor.{drained, buffered, learned, learned_with, change, deviations, point_of, block_from, past_values, expected_values, anomaly_of, learned_nothing, buffered_answer}
+use Rattle.trcf.specs.Preprocessor.{learned_answer, learn_answer, reply}
+use Rattle.trcf.specs.View.{view, written_over, head_row, lent_short, counters_unfit, short_row, lent_row, row_of, build_row, build_of, answer_of, head_after, lent_after, drain_of, point_after}
+use Rattle.trcf.specs.View.{learn_after}
 use Rattle.snapshot.specs.Text.{whole, float, set_line, singles, cnt_line, dev_line, tim_line, buf_line, lines_by, body_lines, chn_line, render}
 use Rattle.snapshot.specs.Read.{judge, float_from, as_whole, as_float}
 use Rattle.snapshot.specs.Save.{in_use_short, unformed, held_save, fitted, save_of}
 use Rattle.snapshot.specs.Ascii.{ascii}
 use Rattle.bench_core.specs.Line.{blank_line, line_with_field, cell_of, request_of, kept_of}
-use Rattle.bench_core.specs.Bench.{no_text, point_text, done_text, prints, dimension_of, point_result, learn_result, drain_result, save_prints, builder_from, fresh_bench, built_of, build_gives, line_gives}
+use Rattle.bench_core.specs.Bench.{no_text, point_text, done_text, prints, dimension_of, point_result, learn_result, drain_result, save_prints, builder_from, fresh_bench, built_of, build_gives}
+use Rattle.bench_core.specs.Bench.{line_gives}
 use Rattle.bench_core.specs.Bench.{bench_step, finish_of}
 
 -- to unfold this is to unfold whatever its line names
 running : Unit {0}
-unfolding to_bits of_bits of_fields odd fits size round le lt eq add sub mul div of_int narrowed root_within halves rooted root_of outside_unit factor_of fedStep is_empty mean_of root_above deviation_of over last_n shift_in overwrite statistic_at put_statistic fed deviations_at put_deviations fed_at channels_fed updated normalized_scale basic_shift basic_drift weight_at transformed unweighted inverted scales shifts difference_deviations block dimension waiting all_one settings_row finite due newest wrong_length outside drain_full learn_full waiting_short learn_short table rows freshState facts time_fed feed timescale timedrift time_element transformed_after previous primed drain_one drain_all drained buffered learned learned_with change deviations point_of block_from past_values expected_values anomaly_of learned_nothing buffered_answer learned_answer learn_answer reply view written_over head_row lent_short counters_unfit short_row lent_row row_of build_row build_of answer_of head_after lent_after drain_of point_after learn_after whole float set_line singles cnt_line dev_line tim_line buf_line lines_by body_lines chn_line render judge float_from as_whole as_float in_use_short unformed held_save fitted save_of blank_line line_with_field cell_of request_of kept_of no_text point_text done_text prints dimension_of point_result learn_result drain_result save_prints builder_from fresh_bench built_of build_gives line_gives bench_step finish_of block_of turn_of whole_prints behindNewest time_base preceding
+unfolding to_bits of_bits of_fields odd fits size round le lt eq add sub mul div of_int narrowed root_within halves rooted root_of outside_unit factor_of
+    fedStep is_empty mean_of root_above deviation_of over last_n shift_in overwrite statistic_at put_statistic fed deviations_at put_deviations fed_at
+    channels_fed updated normalized_scale basic_shift basic_drift weight_at transformed unweighted inverted scales shifts difference_deviations block dimension
+    waiting all_one settings_row finite due newest wrong_length outside drain_full learn_full waiting_short learn_short table rows freshState facts time_fed
+    feed timescale timedrift time_element transformed_after previous primed drain_one drain_all drained buffered learned learned_with change deviations point_of
+    block_from past_values expected_values anomaly_of learned_nothing buffered_answer learned_answer learn_answer reply view written_over head_row lent_short
+    counters_unfit short_row lent_row row_of build_row build_of answer_of head_after lent_after drain_of point_after learn_after whole float set_line singles
+    cnt_line dev_line tim_line buf_line lines_by body_lines chn_line render judge float_from as_whole as_float in_use_short unformed held_save fitted save_of
+    blank_line line_with_field cell_of request_of kept_of no_text point_text done_text prints dimension_of point_result learn_result drain_result save_prints
+    builder_from fresh_bench built_of build_gives line_gives bench_step finish_of block_of turn_of whole_prints behindNewest time_base preceding
 running = tt
 
 -- ---- a run, worked out

@@ -21,7 +21,9 @@ use Rattle.bench_core.specs.declared.step.Bench.{Bench}
 use Rattle.bench_core.specs.declared.step.Phase.{Phase}
 use Rattle.bench_core.specs.declared.step.Phase.TheVariants.{WantsSet, WantsWeights, Running, Ended}
 use Rattle.bench_core.specs.Line.{request_of, kept_of}
-use Rattle.bench_core.specs.Bench.{output, prints, no_text, LineResult, line_result, refused_by, end_of, ready_for, set_gives, built_of, built_gives, build_gives, weights_gives, going_on, call_gives, save_printed, save_prints, line_by, line_gives, builder_from, CallResult, line_of_call, prints_call, point_result, learn_result, drain_result, begun, end_result, finish_by}
+use Rattle.bench_core.specs.Bench.{output, prints, no_text, LineResult, line_result, refused_by, end_of, ready_for, set_gives, built_of, built_gives, build_gives, weights_gives, going_on, call_gives}
+use Rattle.bench_core.specs.Bench.{save_printed, save_prints, line_by, line_gives, builder_from, CallResult, line_of_call, prints_call, point_result, learn_result, drain_result, begun, end_result}
+use Rattle.bench_core.specs.Bench.{finish_by}
 use Rattle.bench_core.specs.Run.{shown}
 
 -- what a line leaves, and the text that it prints

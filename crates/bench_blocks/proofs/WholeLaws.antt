@@ -25,8 +25,10 @@ use Rattle.bench_core.specs.declared.line.Line.{Line}
 use Rattle.bench_core.specs.declared.step.Bench.{Bench}
 use Rattle.bench_core.specs.declared.step.Phase.{Phase}
 use Rattle.bench_core.specs.declared.step.Phase.TheVariants.{WantsSet, WantsWeights, Running, Ended}
-use Rattle.bench_core.specs.Line.{is_named, named_line, line as line_of, after_field, short_name, long_name, name_of, letter_of, method_field, place_of, other_line, blank_line, with_whole, with_double, with_single, field_at, line_with_field, cell_of, request_of, kept_of}
-use Rattle.bench_core.specs.Bench.{output, no_text, LineResult, line_result, cell_length, end_of, ready_for, refused_by, built_of, built_gives, build_gives, set_gives, weights_gives, call_gives, line_by, line_gives, fresh_bench, with_line, begun, finish_by, end_result, prints}
+use Rattle.bench_core.specs.Line.{is_named, named_line, line as line_of, after_field, short_name, long_name, name_of, letter_of, method_field, place_of, other_line, blank_line, with_whole}
+use Rattle.bench_core.specs.Line.{with_double, with_single, field_at, line_with_field, cell_of, request_of, kept_of}
+use Rattle.bench_core.specs.Bench.{output, no_text, LineResult, line_result, cell_length, end_of, ready_for, refused_by, built_of, built_gives, build_gives, set_gives, weights_gives, call_gives}
+use Rattle.bench_core.specs.Bench.{line_by, line_gives, fresh_bench, with_line, begun, finish_by, end_result, prints}
 use Rattle.bench_core.specs.Run.{bench_memory, blank, shown, printed_from, printed}
 use Rattle.bench_blocks.specs.Whole.{push_byte, split_by, with_fields, line_of_text, end_text, lines_print, whole_prints}
 use Rattle.bench_blocks.proofs.OutLaws.{shown_prints}

@@ -1,5 +1,5 @@
 // A whole block of the input: every cell that ends in it, as long as the output has room, and the end of the input.
-// Kept: (d) the six lent lists are parameters: a struct would need a type for each mix of shared and mutable lists that the calls lend, and with mutable ones a clause on their loans in each contract.
+// Kept: (d) lists that a call writes are parameters of their own: a struct would need a type for each mix of shared and mutable ones, and a clause on its loans in each contract.
 ghost use Rattle.std.specs.Prelude.{◌≡◌, [], false, suc, ◌+◌, ◌≤◌, length, drop};
 ghost use Rattle.trcf.specs.View.{lent};
 ghost use Rattle.bench_core.specs.Bench.{output};
@@ -34,7 +34,10 @@ fn cell_at(
 ) -> StepResult
     requires next_in_bounds { next ≤ length text.now }
     requires at_in_bounds { at + 65536 ≤ length out.old }
-    ensures { Placed b (lent statistics.old last_shingled_input.old last_shingled_point.old previous_timestamps.old initial_values.old initial_timestamps.old) point.old (drop next text.now) out.old at result.bench (lent statistics.new last_shingled_input.new last_shingled_point.new previous_timestamps.new initial_values.new initial_timestamps.new) point.new out.new result.next result.length }
+    ensures { Placed b
+        (lent statistics.old last_shingled_input.old last_shingled_point.old previous_timestamps.old initial_values.old initial_timestamps.old) point.old
+        (drop next text.now) out.old at result.bench
+        (lent statistics.new last_shingled_input.new last_shingled_point.new previous_timestamps.new initial_values.new initial_timestamps.new) point.new out.new result.next result.length }
 {
     let end = at + ROOM;
     let cell = step(
@@ -65,7 +68,11 @@ fn cells(
     text: &[u8],
     out: &mut [u8],
 ) -> BlockResult
-    ensures { Handed (cells_of (suc (length text.now)) (length out.old) b (lent statistics.old last_shingled_input.old last_shingled_point.old previous_timestamps.old initial_values.old initial_timestamps.old) point.old text.now 0 []) text.now out.old (block_printed result.bench (lent statistics.new last_shingled_input.new last_shingled_point.new previous_timestamps.new initial_values.new initial_timestamps.new) point.new result.read (output result.written out.new) result.full) }
+    ensures { Handed (cells_of (suc (length text.now)) (length out.old) b
+        (lent statistics.old last_shingled_input.old last_shingled_point.old previous_timestamps.old initial_values.old initial_timestamps.old) point.old text.now 0 [])
+        text.now out.old (block_printed result.bench
+        (lent statistics.new last_shingled_input.new last_shingled_point.new previous_timestamps.new initial_values.new initial_timestamps.new) point.new result.read
+        (output result.written out.new) result.full) }
 {
     let mut bench = b;
     let mut next = 0usize;
@@ -131,7 +138,11 @@ pub fn block(
     ends: bool,
     out: &mut [u8],
 ) -> BlockResult
-    ensures full_after { block_printed result.bench (lent statistics.new last_shingled_input.new last_shingled_point.new previous_timestamps.new initial_values.new initial_timestamps.new) point.new result.read (output result.written out.new) result.full ≡ prints_block (block_of b (lent statistics.old last_shingled_input.old last_shingled_point.old previous_timestamps.old initial_values.old initial_timestamps.old) point.old text.now ends (length out.old)) out.old }
+    ensures full_after { block_printed result.bench
+        (lent statistics.new last_shingled_input.new last_shingled_point.new previous_timestamps.new initial_values.new initial_timestamps.new) point.new
+        result.read (output result.written out.new) result.full
+        ≡ prints_block (block_of b
+        (lent statistics.old last_shingled_input.old last_shingled_point.old previous_timestamps.old initial_values.old initial_timestamps.old) point.old text.now ends (length out.old)) out.old }
     ensures read_in_bounds { result.read ≤ length text.now }
     ensures written_in_bounds { result.written ≤ length out.new }
 {

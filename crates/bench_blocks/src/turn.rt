@@ -1,5 +1,5 @@
 // One turn of the program `bench`: the bytes that a read brought, after those that are kept of the block before, and what is kept of both.
-// Kept: (d) the six lent lists are parameters: a struct would need a type for each mix of shared and mutable lists that the calls lend, and with mutable ones a clause on their loans in each contract.
+// Kept: (d) lists that a call writes are parameters of their own: a struct would need a type for each mix of shared and mutable ones, and a clause on its loans in each contract.
 ghost use Rattle.std.specs.Prelude.{◌≡◌, ◌+◌, ◌≤◌, IfOk, length, take, drop};
 ghost use Rattle.refusal.specs.Lent.{over};
 ghost use Rattle.trcf.specs.View.{lent};
@@ -91,7 +91,9 @@ pub fn turn(
     got: usize,
     out: &mut [u8],
 ) -> Result<TurnResult, Refusal>
-    ensures out_after { turn_by result run (lent statistics.new last_shingled_input.new last_shingled_point.new previous_timestamps.new initial_values.new initial_timestamps.new) point.new text.new out.new ≡ turn_of run (lent statistics.old last_shingled_input.old last_shingled_point.old previous_timestamps.old initial_values.old initial_timestamps.old) point.old text.old got out.old }
+    ensures out_after { turn_by result run
+        (lent statistics.new last_shingled_input.new last_shingled_point.new previous_timestamps.new initial_values.new initial_timestamps.new) point.new text.new out.new
+        ≡ turn_of run (lent statistics.old last_shingled_input.old last_shingled_point.old previous_timestamps.old initial_values.old initial_timestamps.old) point.old text.old got out.old }
     ensures written_in_bounds { IfOk result (λ turned. turned.written ≤ length out.new) }
     ensures kept_in_bounds { IfOk result (λ turned. turned.run.kept ≤ length text.new) }
 {

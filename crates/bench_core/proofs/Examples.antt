@@ -10,22 +10,36 @@ use Rattle.numeric.specs.Root.{root_within, halves, rooted, root_of}
 use Rattle.common.specs.Deviation.{outside_unit, factor_of, step_of as fedStep, is_empty, mean_of, root_above, deviation_of}
 use Rattle.refusal.specs.Lent.{over}
 use Rattle.trcf.specs.Lists.{last_n, shift_in, overwrite}
-use Rattle.trcf.specs.Transformer.{statistic_at, put_statistic, fed, deviations_at, put_deviations, fed_at, channels_fed, updated, normalized_scale, basic_shift, basic_drift, weight_at, transformed, unweighted, inverted, scales, shifts, difference_deviations}
+use Rattle.trcf.specs.Transformer.{statistic_at, put_statistic, fed, deviations_at, put_deviations, fed_at, channels_fed, updated, normalized_scale, basic_shift, basic_drift, weight_at, transformed}
+use Rattle.trcf.specs.Transformer.{unweighted, inverted, scales, shifts, difference_deviations}
 use Rattle.trcf.specs.Settings.{block, dimension, waiting, all_one, settings_row}
 use Rattle.trcf.specs.Calls.{finite, due, newest, before_newest as behindNewest, wrong_length, outside, drain_full, learn_full, waiting_short, learn_short, table, rows}
-use Rattle.trcf.specs.Preprocessor.{fresh as freshState, facts, time_fed, feed, timescale, timedrift, time_element, transformed_after, previous, time_base, preceding, primed, drain_one, drain_all, drained, buffered, learned, learned_with, change, deviations, point_of, block_from, past_values, expected_values, anomaly_of, learned_nothing, buffered_answer, learned_answer, learn_answer, reply}
-use Rattle.trcf.specs.View.{view, written_over, head_row, lent_short, counters_unfit, short_row, lent_row, row_of, build_row, build_of, answer_of, head_after, lent_after, drain_of, point_after, learn_after}
+use Rattle.trcf.specs.Preprocessor.{fresh as freshState, facts, time_fed, feed, timescale, timedrift, time_element, transformed_after, previous, time_base, preceding, primed, drain_one, drain_all}
+use Rattle.trcf.specs.Preprocessor.{drained, buffered, learned, learned_with, change, deviations, point_of, block_from, past_values, expected_values, anomaly_of, learned_nothing, buffered_answer}
+use Rattle.trcf.specs.Preprocessor.{learned_answer, learn_answer, reply}
+use Rattle.trcf.specs.View.{view, written_over, head_row, lent_short, counters_unfit, short_row, lent_row, row_of, build_row, build_of, answer_of, head_after, lent_after, drain_of, point_after}
+use Rattle.trcf.specs.View.{learn_after}
 use Rattle.snapshot.specs.Text.{whole, float, set_line, singles, cnt_line, dev_line, tim_line, buf_line, lines_by, body_lines, chn_line, render}
 use Rattle.snapshot.specs.Read.{judge, float_from, as_whole, as_float}
 use Rattle.snapshot.specs.Save.{in_use_short, unformed, held_save, fitted, save_of}
 use Rattle.snapshot.specs.Ascii.{ascii}
 use Rattle.bench_core.specs.Line.{blank_line, line_with_field, cell_of, request_of, kept_of}
-use Rattle.bench_core.specs.Bench.{no_text, point_text, done_text, prints, dimension_of, point_result, learn_result, drain_result, save_prints, builder_from, fresh_bench, built_of, build_gives, line_gives, bench_step, finish_of}
+use Rattle.bench_core.specs.Bench.{no_text, point_text, done_text, prints, dimension_of, point_result, learn_result, drain_result, save_prints, builder_from, fresh_bench, built_of, build_gives}
+use Rattle.bench_core.specs.Bench.{line_gives, bench_step, finish_of}
 use Rattle.bench_core.specs.Run.{printed}
 
 -- to unfold this is to unfold whatever its line names
 running : Unit {0}
-unfolding to_bits of_bits of_fields odd fits size round le lt eq add sub mul div of_int narrowed root_within halves rooted root_of outside_unit factor_of fedStep is_empty mean_of root_above deviation_of over last_n shift_in overwrite statistic_at put_statistic fed deviations_at put_deviations fed_at channels_fed updated normalized_scale basic_shift basic_drift weight_at transformed unweighted inverted scales shifts difference_deviations block dimension waiting all_one settings_row finite due newest wrong_length outside drain_full learn_full waiting_short learn_short table rows freshState facts time_fed feed timescale timedrift time_element transformed_after previous primed drain_one drain_all drained buffered learned learned_with change deviations point_of block_from past_values expected_values anomaly_of learned_nothing buffered_answer learned_answer learn_answer reply view written_over head_row lent_short counters_unfit short_row lent_row row_of build_row build_of answer_of head_after lent_after drain_of point_after learn_after whole float set_line singles cnt_line dev_line tim_line buf_line lines_by body_lines chn_line render judge float_from as_whole as_float in_use_short unformed held_save fitted save_of blank_line line_with_field cell_of request_of kept_of no_text point_text done_text prints dimension_of point_result learn_result drain_result save_prints builder_from fresh_bench built_of build_gives line_gives bench_step finish_of printed behindNewest time_base preceding
+unfolding to_bits of_bits of_fields odd fits size round le lt eq add sub mul div of_int narrowed root_within halves rooted root_of outside_unit factor_of
+    fedStep is_empty mean_of root_above deviation_of over last_n shift_in overwrite statistic_at put_statistic fed deviations_at put_deviations fed_at
+    channels_fed updated normalized_scale basic_shift basic_drift weight_at transformed unweighted inverted scales shifts difference_deviations block dimension
+    waiting all_one settings_row finite due newest wrong_length outside drain_full learn_full waiting_short learn_short table rows freshState facts time_fed
+    feed timescale timedrift time_element transformed_after previous primed drain_one drain_all drained buffered learned learned_with change deviations point_of
+    block_from past_values expected_values anomaly_of learned_nothing buffered_answer learned_answer learn_answer reply view written_over head_row lent_short
+    counters_unfit short_row lent_row row_of build_row build_of answer_of head_after lent_after drain_of point_after learn_after whole float set_line singles
+    cnt_line dev_line tim_line buf_line lines_by body_lines chn_line render judge float_from as_whole as_float in_use_short unformed held_save fitted save_of
+    blank_line line_with_field cell_of request_of kept_of no_text point_text done_text prints dimension_of point_result learn_result drain_result save_prints
+    builder_from fresh_bench built_of build_gives line_gives bench_step finish_of printed behindNewest time_base preceding
 running = tt
 
 -- inputs with their outputs
@@ -52,7 +66,12 @@ abbrev sample : Cases
 sample = (
   good ++ "s\n",
   good ++
-      "chn\t0\ncnt\t0\t0\t0\ndev\t0000000000000000\t0000000000000000\t0000000000000000\ndev\t0000000000000000\t0000000000000000\t0000000000000000\ndev\t0000000000000000\t0000000000000000\t0000000000000000\ndev\t0000000000000000\t0000000000000000\t0000000000000000\ndev\t0000000000000000\t0000000000000000\t0000000000000000\ndev\t0000000000000000\t0000000000000000\t0000000000000000\ndev\t0000000000000000\t0000000000000000\t0000000000000000\ndev\t0000000000000000\t0000000000000000\t0000000000000000\ndev\t0000000000000000\t0000000000000000\t0000000000000000\ndev\t0000000000000000\t0000000000000000\t0000000000000000\ninp\t00000000\npnt\t00000000\ntim\t0\n",
+      "chn\t0\ncnt\t0\t0\t0\ndev\t0000000000000000\t0000000000000000\t0000000000000000\ndev\t0000000000000000\t0000000000000000\t0000000000000000\n" ++
+      "dev\t0000000000000000\t0000000000000000\t0000000000000000\ndev\t0000000000000000\t0000000000000000\t0000000000000000\n" ++
+      "dev\t0000000000000000\t0000000000000000\t0000000000000000\ndev\t0000000000000000\t0000000000000000\t0000000000000000\n" ++
+      "dev\t0000000000000000\t0000000000000000\t0000000000000000\ndev\t0000000000000000\t0000000000000000\t0000000000000000\n" ++
+      "dev\t0000000000000000\t0000000000000000\t0000000000000000\ndev\t0000000000000000\t0000000000000000\t0000000000000000\ninp\t00000000\npnt\t00000000\n" ++
+      "tim\t0\n",
 )
     ∷ []
 
@@ -150,7 +169,11 @@ any_number =
     (settings ++ "wgt\n", "no\t5\n")
     ∷ (good ++ "p\t5\n", "no\t10\n")
     ∷ (good ++ "p\n", "no\t19\n")
-    ∷ (good ++ "l\t5\t00000000\t00000000\t00000000\t00000000\t00000000\t00000000\t00000000\t00000000\t00000000\t00000000\t00000000\t00000000\t00000000\t00000000\t00000000\t00000000\t00000000\t00000000\t00000000\t00000000\n", "no\t10\n")
+    ∷ (
+      good ++ "l\t5\t00000000\t00000000\t00000000\t00000000\t00000000\t00000000\t00000000\t00000000\t00000000\t00000000\t00000000\t00000000\t00000000\t00000000\t" ++
+          "00000000\t00000000\t00000000\t00000000\t00000000\t00000000\n",
+      "no\t10\n",
+    )
     ∷ []
 
 any_number_hold : given any_number ≡ expected any_number
@@ -186,7 +209,13 @@ answers_hold = refl
 abbrev last_point : Cases
 last_point = (
   good ++ "p\t1\t3f800000\np\t2\nl\t3\t40000000\ns\n",
-  "pt\t3f800000\nno\t10\nok\nset\tS\t0\t1\t1\t10\t20\t0000000000000000\t3f800000\nwgt\t3f800000\nchn\t0\ncnt\t1\t1\t1\ndev\t3ff0000000000000\t4000000000000000\t4010000000000000\ndev\t3ff0000000000000\t4000000000000000\t4010000000000000\ndev\t3ff0000000000000\t0000000000000000\t0000000000000000\ndev\t3ff0000000000000\t4000000000000000\t4010000000000000\ndev\t3ff0000000000000\t0000000000000000\t0000000000000000\ndev\t3ff0000000000000\t4008000000000000\t4022000000000000\ndev\t3ff0000000000000\t4008000000000000\t4022000000000000\ndev\t3ff0000000000000\t0000000000000000\t0000000000000000\ndev\t3ff0000000000000\t4008000000000000\t4022000000000000\ndev\t3ff0000000000000\t0000000000000000\t0000000000000000\ninp\t40000000\npnt\t3f800000\ntim\t3\n",
+  "pt\t3f800000\nno\t10\nok\nset\tS\t0\t1\t1\t10\t20\t0000000000000000\t3f800000\nwgt\t3f800000\nchn\t0\ncnt\t1\t1\t1\n" ++
+      "dev\t3ff0000000000000\t4000000000000000\t4010000000000000\ndev\t3ff0000000000000\t4000000000000000\t4010000000000000\n" ++
+      "dev\t3ff0000000000000\t0000000000000000\t0000000000000000\ndev\t3ff0000000000000\t4000000000000000\t4010000000000000\n" ++
+      "dev\t3ff0000000000000\t0000000000000000\t0000000000000000\ndev\t3ff0000000000000\t4008000000000000\t4022000000000000\n" ++
+      "dev\t3ff0000000000000\t4008000000000000\t4022000000000000\ndev\t3ff0000000000000\t0000000000000000\t0000000000000000\n" ++
+      "dev\t3ff0000000000000\t4008000000000000\t4022000000000000\ndev\t3ff0000000000000\t0000000000000000\t0000000000000000\ninp\t40000000\npnt\t3f800000\n" ++
+      "tim\t3\n",
 )
     ∷ []
 
@@ -199,7 +228,11 @@ abbrev limits : Cases
 limits =
     ("set\tS\t0\t5\t1\t10\t20\t0000000000000000\t3f800000\nwgt\t3f800000\t3f800000\t3f800000\t3f800000\t3f800000\n", "no\t20\n")
     ∷ ("set\tS\t0\t1\t1\t501\t600\t0000000000000000\t3f800000\nwgt\t3f800000\n", "no\t20\n")
-    ∷ ("set\tS\t0\t17\t1\t10\t20\t0000000000000000\t3f800000\nwgt\t3f800000\t3f800000\t3f800000\t3f800000\t3f800000\t3f800000\t3f800000\t3f800000\t3f800000\t3f800000\t3f800000\t3f800000\t3f800000\t3f800000\t3f800000\t3f800000\t3f800000\n", "no\t4\n")
+    ∷ (
+      "set\tS\t0\t17\t1\t10\t20\t0000000000000000\t3f800000\nwgt\t3f800000\t3f800000\t3f800000\t3f800000\t3f800000\t3f800000\t3f800000\t3f800000\t3f800000\t" ++
+          "3f800000\t3f800000\t3f800000\t3f800000\t3f800000\t3f800000\t3f800000\t3f800000\n",
+      "no\t4\n",
+    )
     ∷ ("set\tS\t0\t1\t1\t500\t600\t0000000000000000\t3f800000\nwgt\t3f800000\n", "")
     ∷ []
 

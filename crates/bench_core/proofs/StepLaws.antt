@@ -2,8 +2,8 @@
 use Prim.Native.Nat.{ℕ, zero, suc, ◌+◌, ◌≤◌, ◌<◌}
 use native.Mathlib.Omega.{arith}
 use mathlib.Core.Path.{◌≡◌, refl, sym, ap, ◌∙◌}
-use mathlib.Core.Bool.{Bool, true, false, cond, not}
-use mathlib.Core.List.{List, [], ◌∷◌, map}
+use mathlib.Core.Bool.{Bool, true, false}
+use mathlib.Core.List.{List, ◌∷◌}
 use borrow.Author.Tests.{lt-ltb, le-ltb, eq-eqb, ne_eqb}
 use lib.ListN.{length, take, get_or, replicate}
 use lib.Ieee.{Float}
@@ -17,14 +17,14 @@ use Rattle.trcf.specs.Settings.{settings_row}
 use Rattle.trcf.specs.View.{Lent, Outcome, outcome, head_outcome, or_else, no_head, build_of, settings_from}
 use Rattle.trcf.specs.declared.head.Preprocessor.{Preprocessor}
 use Rattle.trcf.specs.declared.head.PreprocessorBuilder.{PreprocessorBuilder}
-use Rattle.bench_core.specs.Line.{is_named, is_reading, cell_of, request_of, kept_count, kept_of}
+use Rattle.bench_core.specs.Line.{cell_of, kept_count, kept_of}
 use Rattle.bench_core.specs.declared.line.Line.{Line}
-use Rattle.bench_core.specs.declared.line.Name.{Name}
-use Rattle.bench_core.specs.declared.line.Name.TheVariants.{Unread, Set, Weights, Point, Drain, Save}
 use Rattle.bench_core.specs.declared.step.Phase.{Phase}
-use Rattle.bench_core.specs.declared.step.Phase.TheVariants.{WantsWeights, Running}
+use Rattle.bench_core.specs.declared.step.Phase.TheVariants.{Running}
 use Rattle.bench_core.specs.declared.step.Bench.{Bench}
-use Rattle.bench_core.specs.Bench.{bench, zero_codes, built_of, Output, output, prints, no_text, ready_for, going_on, end_of, builder_from, CallPrinted, call_printed, LineResult, line_result, refused_by, set_gives, limit_row, built_gives, build_gives, weights_gives, line_of_call, other_form, plain_gives, reading_gives, call_gives, prints_call, point_result, learn_result, drain_result, save_prints, line_by, line_gives, begun, EndResult, end_result, finish_by, finished, finish_of, cell_length, cell_kept, stepped, with_line, cell_step, bench_step}
+use Rattle.bench_core.specs.Bench.{bench, zero_codes, built_of, Output, output, prints, no_text, ready_for, end_of, CallPrinted, call_printed, LineResult, line_result, refused_by, limit_row}
+use Rattle.bench_core.specs.Bench.{built_gives, build_gives, line_of_call, reading_gives, prints_call, point_result, learn_result, line_by, line_gives, EndResult, end_result, finish_by, finished}
+use Rattle.bench_core.specs.Bench.{finish_of, cell_length, cell_kept, stepped, with_line, cell_step, bench_step}
 
 pub kept_of_lem : (l : Line) (n : ℕ) → n ≡ kept_count l.count → take n l.singles ≡ kept_of l
 unfolding kept_of
@@ -79,42 +79,9 @@ module _ (b : Bench) (out : List ℕ) (l : Line) (lists : Lent) (y : List Float)
 -- ---- by the name of the line, and by what the bench waits for
 
 module _ (b : Bench) (l : Line) (lists : Lent) (y : List Float) (out : List ℕ) where
-  module _ (n : Name) (e : n ≡ request_of l) (q : Bool) where
-    -- the test of the name that `request` gave
-    tested : (m : Name) (t : Bool) → q ≡ is_named n m → q ≡ t → is_named (request_of l) m ≡ t
-    tested m t r s = ap (λ (k : Name). is_named k m) (sym e) ∙ sym r ∙ s
-
-    pub set_read : q ≡ is_named n Set → q ≡ true → {b' : Bench} {p : PreprocessorBuilder}
-        → b' ≡ ready_for WantsWeights p b.head b.given → p ≡ builder_from l → line_result b' lists y (output 0 out) ≡ set_gives (request_of l) b l lists y out
-    set_read r t w p =
-        let h : is_named (request_of l) Set ≡ true = tested Set true r t in
-        rw h ((λ j. line_result (w j) lists y (output 0 out)) ∙ (λ j. line_result (ready_for WantsWeights (p j) b.head b.given) lists y (output 0 out)))
-
-    pub set_refused : q ≡ is_named n Set → q ≡ false → {b' : Bench} {o : Output}
-        → end_result b' o ≡ end_result (end_of b) (prints (no_text 19) out) → line_result b' lists y o ≡ set_gives (request_of l) b l lists y out
-    set_refused r t p =
-        let h : is_named (request_of l) Set ≡ false = tested Set false r t in
-        rw h (refused_heard b out 19 lists y p)
-
-    pub weights_read : q ≡ is_named n Weights → q ≡ true → {r : LineResult} → r ≡ build_gives b l lists y out → r ≡ weights_gives (request_of l) b l lists y out
-    weights_read r t p =
-        let h : is_named (request_of l) Weights ≡ true = tested Weights true r t in
-        rw h p
-
-    pub weights_other : q ≡ is_named n Weights → q ≡ false → {b' : Bench} {o : Output}
-        → end_result b' o ≡ end_result (end_of b) (prints (no_text 19) out) → line_result b' lists y o ≡ weights_gives (request_of l) b l lists y out
-    weights_other r t p =
-        let h : is_named (request_of l) Weights ≡ false = tested Weights false r t in
-        rw h (refused_heard b out 19 lists y p)
-
   pub line_by_lem : (p : Phase) → b.phase ≡ p → line_by p b l lists y out ≡ line_gives b l lists y out
   unfolding line_gives
   line_by_lem p e = ap (λ (q : Phase). line_by q b l lists y out) (sym e)
-
--- a line after which the bench goes on as it was
-pub going : (b : Bench) (lists : Lent) (y : List Float) {b' : Bench} {n m : ℕ} {out' : List ℕ} {q : Output}
-    → b' ≡ going_on b → m ≡ n → output n out' ≡ q → line_result b' lists y (output m out') ≡ line_result (going_on b) lists y q
-going b lists y {b'} {n} {m} {out'} p e o = (λ j. line_result (p j) lists y (output (e j) out')) ∙ (λ j. line_result (going_on b) lists y (o j))
 
 -- a call that was answered
 pub call_told : (b : Bench) {b' : Bench} {h' : Preprocessor} {g' : Bool} {l' : Lent} {y' : List Float} {n m : ℕ} {out' : List ℕ} {t : CallPrinted}
@@ -137,53 +104,9 @@ module _ (b : Bench) (l : Line) (lists : Lent) (y : List Float) (out : List ℕ)
       call_told b (e ∙ ap (λ (u : List Float). prints_call (learn_result b.head b.given lists y u (get_or l.wholes 0 0)) out) k) p q
       ∙ ap (λ (i : Bool). reading_gives i b l lists y out) (sym w)
 
--- a line without a reading, by its name
-module _ (b : Bench) (lists : Lent) (y : List Float) (out : List ℕ) (n : Name) {r : LineResult} where
-  pub plain_drain : is_named n Drain ≡ true → r ≡ line_of_call b (prints_call (drain_result b.head b.given lists y) out) → r ≡ plain_gives n b lists y out
-  plain_drain h e = rw h e
-
-  pub plain_save : is_named n Drain ≡ false → is_named n Save ≡ true → r ≡ line_result (going_on b) lists y (save_prints b.head lists out)
-      → r ≡ plain_gives n b lists y out
-  plain_save h k e = rw (h, k) e
-
-  pub plain_other : is_named n Drain ≡ false → is_named n Save ≡ false → r ≡ other_form b lists y out → r ≡ plain_gives n b lists y out
-  plain_other h k e = rw (h, k) e
-
-module _ (b : Bench) (l : Line) (lists : Lent) (y : List Float) (out : List ℕ) (n : Name) (e : n ≡ request_of l) (q : Bool) (r : q ≡ is_reading n) where
-  told : (t : Bool) → q ≡ t → cond t (reading_gives (is_named n Point) b l lists y out) (plain_gives n b lists y out) ≡ call_gives (request_of l) b l lists y out
-  told t h =
-      ap (λ (i : Bool). cond i (reading_gives (is_named n Point) b l lists y out) (plain_gives n b lists y out)) (sym h ∙ r)
-      ∙ ap (λ (m : Name). call_gives m b l lists y out) e
-
-  pub reading_by : (p : Bool) → p ≡ is_named n Point → q ≡ true → reading_gives p b l lists y out ≡ call_gives (request_of l) b l lists y out
-  reading_by p s t = ap (λ (i : Bool). reading_gives i b l lists y out) s ∙ told true t
-
-  pub plain_read : q ≡ false → plain_gives n b lists y out ≡ call_gives (request_of l) b l lists y out
-  plain_read t = told false t
-
 -- ---- the end of the input
 
-pub begun_more : (n : Name) (rest : List ℕ) → (length rest ≡ 0 → ⊥) → true ≡ begun n rest
-begun_more n [] h = absurd (h refl)
-begun_more n (x ∷ rest) h = refl
-
-pub begun_none : (n : Name) (rest : List ℕ) → length rest ≡ 0 → not (is_named n Unread) ≡ begun n rest
-begun_none n [] h = refl
-begun_none n (x ∷ rest) h = absurd (omega arith)
-
 module _ (b : Bench) (rest out : List ℕ) where
-  pub finish_by_lem : (p : Phase) → b.phase ≡ p → finish_by p b rest out ≡ finish_by b.phase b rest out
-  finish_by_lem p e = ap (λ (q : Phase). finish_by q b rest out) (sym e)
-
-  pub ends_begun : begun b.line.name rest ≡ true → end_result (end_of b) (prints (no_text 19) out) ≡ finish_by Running b rest out
-  ends_begun e = ap (λ (t : Bool). cond t (end_result (end_of b) (prints (no_text 19) out)) (end_result (end_of b) (output 0 out))) (sym e)
-
-  pub ends_well : {b' : Bench} {m : ℕ} → b' ≡ end_of b → m ≡ 0 → end_result b' (output m out) ≡ end_result (end_of b) (output 0 out)
-  ends_well p q = λ j. end_result (p j) (output (q j) out)
-
-  pub ends_there : begun b.line.name rest ≡ false → end_result (end_of b) (output 0 out) ≡ finish_by Running b rest out
-  ends_there e = ap (λ (t : Bool). cond t (end_result (end_of b) (prints (no_text 19) out)) (end_result (end_of b) (output 0 out))) (sym e)
-
   pub finish_short : length out < 65536 → finished 20 0 (end_result b (output 0 out)) ≡ finish_of b rest out
   unfolding finish_of
   finish_short h = rw (lt-ltb (length out) 65536 h)
@@ -219,14 +142,6 @@ module _ (b : Bench) (lists : Lent) (y : List Float) (text out : List ℕ) where
 
       pub step_line : {r : LineResult} → (get_or text n 0 ≡ 9 → ⊥) → r ≡ line_gives b l lists y out → stepped 0 (n + 1) r ≡ bench_step b lists y text out
       step_line g p = (λ j. stepped 0 (n + 1) (p j)) ∙ rw (ne_eqb (get_or text n 0) 9 g) at stepping
-
--- what owning a line tells of its f32 fields
-pub seventeen : (w : List Float) → length (map (λ v. v) w) ≡ 17 → length w ≡ 17
-seventeen w h = sym (same w) ∙ h
-  where
-    same : (l : List Float) → length (map (λ v. v) l) ≡ length l
-    same [] = refl
-    same (x ∷ xs) = ap suc (same xs)
 
 -- zeros in front of zeros
 pub take_zeros : (n d : ℕ) → d ≤ n → take d (replicate {A = ℕ} n 0) ≡ replicate d 0

@@ -24,7 +24,8 @@ use Rattle.access.specs.declared.rights.Right.TheVariants.{SEE, LEARN, SAVE}
 use Rattle.access.specs.Access.{every_right}
 use Rattle.access.specs.Entries.{point_by, learn_by, drain_by, save_by}
 use Rattle.access.proofs.Laws.{as_every}
-use Rattle.bench_core.specs.Bench.{Output, output, prints, no_text, ok_text, none_text, done_text, point_text, dimension_of, CallResult, call_result, call_printed, prints_call, point_result_by, point_result, learn_result, drain_result, save_printed, save_prints}
+use Rattle.bench_core.specs.Bench.{Output, output, prints, no_text, ok_text, none_text, done_text, point_text, dimension_of, CallResult, call_result, call_printed, prints_call, point_result_by}
+use Rattle.bench_core.specs.Bench.{point_result, learn_result, drain_result, save_printed, save_prints}
 
 -- the text of a refusal
 refused_text : (k : Refusal) → no_text (number_of k) ≡ done_text (number_of k)

@@ -1,8 +1,8 @@
 // What each call line does and prints, on a preprocessor and the last point. The bench runs as role 0 of a table with every right.
-// Kept: (d) the six lent lists are parameters: a struct would need a type for each mix of shared and mutable lists that the calls lend, and with mutable ones a clause on their loans in each contract.
+// Kept: (d) lists that a call writes are parameters of their own: a struct would need a type for each mix of shared and mutable ones, and a clause on its loans in each contract.
 ghost use Rattle.std.specs.Prelude.{◌≡◌, List, ◌≤◌, Float, length, take};
 ghost use Rattle.refusal.specs.Refusal.{number_of};
-ghost use Rattle.trcf.specs.View.{Lent, lent};
+ghost use Rattle.trcf.specs.View.{Lent, lent, lent_by};
 ghost use Rattle.bench_core.specs.Bench.{no_text, ok_text, point_text, dimension_of, output, prints, call_result, call_printed, prints_call, point_result, learn_result, drain_result, save_prints};
 
 use access::calls::{drain, post_process, shingled_point};
@@ -10,7 +10,7 @@ use access::rights::every_right;
 use access::snapshots::save;
 use refusal::Refusal;
 use snapshot_save::line::{singles_line, whole_line};
-use trcf::head::{Preprocessor, get_dimension};
+use trcf::head::{LentLists, Preprocessor, get_dimension};
 
 // The head after a line, whether a point was ever given, and how many bytes are written.
 #[derive(Clone, Copy)]
@@ -85,8 +85,10 @@ pub(crate) fn call_point(
     out: &mut [u8],
 ) -> Answered
     requires { 65536 ≤ length out.old }
-    ensures { call_printed result.head result.given (lent statistics.new last_shingled_input.new last_shingled_point.new previous_timestamps.new initial_values.now initial_timestamps.now) point.new (output result.length out.new)
-        ≡ prints_call (point_result head given (lent statistics.old last_shingled_input.old last_shingled_point.old previous_timestamps.old initial_values.now initial_timestamps.now) point.old input.now timestamp) out.old }
+    ensures { call_printed result.head result.given
+        (lent statistics.new last_shingled_input.new last_shingled_point.new previous_timestamps.new initial_values.now initial_timestamps.now) point.new (output result.length out.new)
+        ≡ prints_call (point_result head given
+        (lent statistics.old last_shingled_input.old last_shingled_point.old previous_timestamps.old initial_values.now initial_timestamps.now) point.old input.now timestamp) out.old }
 {
     let answer = shingled_point(
         &every_right(),
@@ -133,8 +135,10 @@ pub(crate) fn call_learn(
     out: &mut [u8],
 ) -> Answered
     requires { 65536 ≤ length out.old }
-    ensures { call_printed result.head result.given (lent statistics.new last_shingled_input.new last_shingled_point.new previous_timestamps.new initial_values.new initial_timestamps.new) point.now (output result.length out.new)
-        ≡ prints_call (learn_result head given (lent statistics.old last_shingled_input.old last_shingled_point.old previous_timestamps.old initial_values.old initial_timestamps.old) point.now input.now timestamp) out.old }
+    ensures { call_printed result.head result.given
+        (lent statistics.new last_shingled_input.new last_shingled_point.new previous_timestamps.new initial_values.new initial_timestamps.new) point.now (output result.length out.new)
+        ≡ prints_call (learn_result head given
+        (lent statistics.old last_shingled_input.old last_shingled_point.old previous_timestamps.old initial_values.old initial_timestamps.old) point.now input.now timestamp) out.old }
 {
     let n = get_dimension(head).min(point.len());
     let mut deviations = [0.0f32; 17];
@@ -179,7 +183,8 @@ pub(crate) fn call_drain(
     out: &mut [u8],
 ) -> Answered
     requires { 65536 ≤ length out.old }
-    ensures { (y : List Float) → call_printed result.head result.given (lent statistics.new last_shingled_input.new last_shingled_point.new previous_timestamps.new initial_values.now initial_timestamps.now) y (output result.length out.new)
+    ensures { (y : List Float) → call_printed result.head result.given
+        (lent statistics.new last_shingled_input.new last_shingled_point.new previous_timestamps.new initial_values.now initial_timestamps.now) y (output result.length out.new)
         ≡ prints_call (drain_result head given (lent statistics.old last_shingled_input.old last_shingled_point.old previous_timestamps.old initial_values.now initial_timestamps.now) y) out.old }
 {
     let answer = drain(
@@ -200,32 +205,11 @@ pub(crate) fn call_drain(
 }
 
 // `s`: the text.
-pub(crate) fn call_save(
-    head: Preprocessor,
-    statistics: &[f64],
-    last_shingled_input: &[f32],
-    last_shingled_point: &[f32],
-    previous_timestamps: &[u64],
-    initial_values: &[f32],
-    initial_timestamps: &[u64],
-    out: &mut [u8],
-) -> usize
+pub(crate) fn call_save(head: Preprocessor, lists: LentLists, out: &mut [u8]) -> usize
     requires { 65536 ≤ length out.old }
-    ensures { output result out.new ≡ save_prints head (lent statistics.now last_shingled_input.now last_shingled_point.now previous_timestamps.now initial_values.now initial_timestamps.now) out.old }
+    ensures { output result out.new ≡ save_prints head (lent_by lists.entry) out.old }
 {
-    let answer = save(
-        &every_right(),
-        0,
-        head,
-        statistics,
-        last_shingled_input,
-        last_shingled_point,
-        previous_timestamps,
-        initial_values,
-        initial_timestamps,
-        out,
-    );
-    match answer {
+    match save(&every_right(), 0, head, lists, out) {
         Ok(length) => length,
         Err(refusal) => print_no(out, refusal),
     }

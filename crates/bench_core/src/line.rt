@@ -2,7 +2,8 @@
 ghost use Rattle.std.specs.Prelude.{◌≡◌};
 ghost use Rattle.snapshot.specs.Read.{as_whole};
 ghost use Rattle.snapshot.specs.Scan.{number_of};
-ghost use Rattle.bench_core.specs.Line.{is_reading, name_of, set_place, call_place, place_of, letter_of, method_field, other_line, after_field, with_whole, with_double, with_single, line_with_field, cell_of, request_of, blank_line};
+ghost use Rattle.bench_core.specs.Line.{is_reading, name_of, set_place, call_place, place_of, letter_of, method_field, other_line, after_field, with_whole, with_double, with_single, line_with_field};
+ghost use Rattle.bench_core.specs.Line.{cell_of, request_of, blank_line};
 
 use snapshot::cells::{double, single, whole};
 use snapshot::field::Field;

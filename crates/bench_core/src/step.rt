@@ -1,16 +1,18 @@
 // The bench, cell by cell: a step reads one cell of the input, and prints what the line asks for where the cell ends it.
-// Kept: (d) the six lent lists are parameters: a struct would need a type for each mix of shared and mutable lists that the calls lend, and with mutable ones a clause on their loans in each contract.
+// Kept: (d) lists that a call writes are parameters of their own: a struct would need a type for each mix of shared and mutable ones, and a clause on its loans in each contract.
 ghost use Rattle.std.specs.Prelude.{◌≡◌, List, Float, ◌≤◌, length};
 ghost use Rattle.refusal.specs.Refusal.{number_of, row_of};
 ghost use Rattle.trcf.specs.Settings.{settings_row};
 ghost use Rattle.trcf.specs.View.{Lent, lent, head_outcome, no_head, or_else, settings_from};
 ghost use Rattle.bench_core.specs.Line.{request_of, kept_count};
-ghost use Rattle.bench_core.specs.Bench.{code_count, built_of, output, prints, no_text, ready_for, going_on, end_of, builder_from, no_builder, fresh_bench, line_result, set_gives, limit_row, build_gives, weights_gives, plain_gives, reading_gives, call_gives, line_gives, cell_length, cell_kept, stepped_by, with_line, bench_step, begun, end_result, finish_by, finished_from, finish_of};
+ghost use Rattle.bench_core.specs.Bench.{code_count, built_of, output, prints, no_text, ready_for, going_on, end_of, builder_from, no_builder, fresh_bench, line_result, set_gives, limit_row};
+ghost use Rattle.bench_core.specs.Bench.{build_gives, weights_gives, plain_gives, reading_gives, call_gives, line_gives, cell_length, cell_kept, stepped_by, with_line, bench_step, begun, end_result};
+ghost use Rattle.bench_core.specs.Bench.{finish_by, finished_from, finish_of};
 
 use crate::call::{Answered, call_drain, call_learn, call_point, call_save, print_no};
 use crate::line::{Line, Name, blank, cell, is_reading, request};
 use refusal::Refusal;
-use trcf::head::{Preprocessor, PreprocessorBuilder, no_head};
+use trcf::head::{LentLists, Preprocessor, PreprocessorBuilder, no_head};
 use trcf::types::{ForestMode, INPUT_LIMIT, TransformMethod, method_of_number, mode_of_letter};
 use trcf_calls::build::build;
 use trcf_rows::rows::settings_row;
@@ -209,7 +211,9 @@ fn read_weights(
     out: &mut [u8],
 ) -> Printed
     requires { 65536 ≤ length out.old }
-    ensures { (y : List Float) → line_result result.bench (lent statistics.new last_shingled_input.new last_shingled_point.new previous_timestamps.new initial_values.now initial_timestamps.now) y (output result.length out.new) ≡ build_gives b l (lent statistics.old last_shingled_input.old last_shingled_point.old previous_timestamps.old initial_values.now initial_timestamps.now) y out.old }
+    ensures { (y : List Float) → line_result result.bench
+        (lent statistics.new last_shingled_input.new last_shingled_point.new previous_timestamps.new initial_values.now initial_timestamps.now) y (output result.length out.new)
+        ≡ build_gives b l (lent statistics.old last_shingled_input.old last_shingled_point.old previous_timestamps.old initial_values.now initial_timestamps.now) y out.old }
 {
     let n = kept(l);
     let built = build_bare(
@@ -282,7 +286,9 @@ fn read_reading(
     out: &mut [u8],
 ) -> Printed
     requires { 65536 ≤ length out.old }
-    ensures { line_result result.bench (lent statistics.new last_shingled_input.new last_shingled_point.new previous_timestamps.new initial_values.new initial_timestamps.new) point.new (output result.length out.new) ≡ reading_gives asks b l (lent statistics.old last_shingled_input.old last_shingled_point.old previous_timestamps.old initial_values.old initial_timestamps.old) point.old out.old }
+    ensures { line_result result.bench
+        (lent statistics.new last_shingled_input.new last_shingled_point.new previous_timestamps.new initial_values.new initial_timestamps.new) point.new (output result.length out.new)
+        ≡ reading_gives asks b l (lent statistics.old last_shingled_input.old last_shingled_point.old previous_timestamps.old initial_values.old initial_timestamps.old) point.old out.old }
 {
     let n = kept(l);
     if asks {
@@ -332,7 +338,9 @@ fn read_plain(
     out: &mut [u8],
 ) -> Printed
     requires { 65536 ≤ length out.old }
-    ensures { (y : List Float) → line_result result.bench (lent statistics.new last_shingled_input.new last_shingled_point.new previous_timestamps.new initial_values.now initial_timestamps.now) y (output result.length out.new) ≡ plain_gives name b (lent statistics.old last_shingled_input.old last_shingled_point.old previous_timestamps.old initial_values.now initial_timestamps.now) y out.old }
+    ensures { (y : List Float) → line_result result.bench
+        (lent statistics.new last_shingled_input.new last_shingled_point.new previous_timestamps.new initial_values.now initial_timestamps.now) y (output result.length out.new)
+        ≡ plain_gives name b (lent statistics.old last_shingled_input.old last_shingled_point.old previous_timestamps.old initial_values.now initial_timestamps.now) y out.old }
 {
     match name {
         Name::Drain => {
@@ -350,16 +358,15 @@ fn read_plain(
             answered(b, a)
         }
         Name::Save => {
-            let n = call_save(
-                b.head,
+            let lists = LentLists {
                 statistics,
                 last_shingled_input,
                 last_shingled_point,
                 previous_timestamps,
                 initial_values,
                 initial_timestamps,
-                out,
-            );
+            };
+            let n = call_save(b.head, lists, out);
             unchanged(b, n)
         }
         _ => unchanged(b, print_no(out, Refusal::Form)),
@@ -380,7 +387,9 @@ fn read_call(
     out: &mut [u8],
 ) -> Printed
     requires { 65536 ≤ length out.old }
-    ensures { line_result result.bench (lent statistics.new last_shingled_input.new last_shingled_point.new previous_timestamps.new initial_values.new initial_timestamps.new) point.new (output result.length out.new) ≡ call_gives (request_of l) b l (lent statistics.old last_shingled_input.old last_shingled_point.old previous_timestamps.old initial_values.old initial_timestamps.old) point.old out.old }
+    ensures { line_result result.bench
+        (lent statistics.new last_shingled_input.new last_shingled_point.new previous_timestamps.new initial_values.new initial_timestamps.new) point.new (output result.length out.new)
+        ≡ call_gives (request_of l) b l (lent statistics.old last_shingled_input.old last_shingled_point.old previous_timestamps.old initial_values.old initial_timestamps.old) point.old out.old }
 {
     let name = request(l);
     if is_reading(name) {
@@ -424,7 +433,9 @@ fn read_second(
     out: &mut [u8],
 ) -> Printed
     requires { 65536 ≤ length out.old }
-    ensures { (y : List Float) → line_result result.bench (lent statistics.new last_shingled_input.new last_shingled_point.new previous_timestamps.new initial_values.now initial_timestamps.now) y (output result.length out.new) ≡ weights_gives (request_of l) b l (lent statistics.old last_shingled_input.old last_shingled_point.old previous_timestamps.old initial_values.now initial_timestamps.now) y out.old }
+    ensures { (y : List Float) → line_result result.bench
+        (lent statistics.new last_shingled_input.new last_shingled_point.new previous_timestamps.new initial_values.now initial_timestamps.now) y (output result.length out.new)
+        ≡ weights_gives (request_of l) b l (lent statistics.old last_shingled_input.old last_shingled_point.old previous_timestamps.old initial_values.now initial_timestamps.now) y out.old }
 {
     if request(l) != Name::Weights {
         return ended(b, Refusal::Form, out);
@@ -456,7 +467,9 @@ fn read_line(
     out: &mut [u8],
 ) -> Printed
     requires { 65536 ≤ length out.old }
-    ensures { line_result result.bench (lent statistics.new last_shingled_input.new last_shingled_point.new previous_timestamps.new initial_values.new initial_timestamps.new) point.new (output result.length out.new) ≡ line_gives b l (lent statistics.old last_shingled_input.old last_shingled_point.old previous_timestamps.old initial_values.old initial_timestamps.old) point.old out.old }
+    ensures { line_result result.bench
+        (lent statistics.new last_shingled_input.new last_shingled_point.new previous_timestamps.new initial_values.new initial_timestamps.new) point.new (output result.length out.new)
+        ≡ line_gives b l (lent statistics.old last_shingled_input.old last_shingled_point.old previous_timestamps.old initial_values.old initial_timestamps.old) point.old out.old }
 {
     match b.phase {
         Phase::WantsSet => read_set(b, l, out),
@@ -533,7 +546,8 @@ pub fn step(
     text: &[u8],
     out: &mut [u8],
 ) -> Result<StepResult, Refusal>
-    ensures { stepped_by result b (lent statistics.new last_shingled_input.new last_shingled_point.new previous_timestamps.new initial_values.new initial_timestamps.new) point.new out.new ≡ bench_step b (lent statistics.old last_shingled_input.old last_shingled_point.old previous_timestamps.old initial_values.old initial_timestamps.old) point.old text.now out.old }
+    ensures { stepped_by result b (lent statistics.new last_shingled_input.new last_shingled_point.new previous_timestamps.new initial_values.new initial_timestamps.new) point.new out.new
+        ≡ bench_step b (lent statistics.old last_shingled_input.old last_shingled_point.old previous_timestamps.old initial_values.old initial_timestamps.old) point.old text.now out.old }
 {
     if out.len() < ROOM {
         return Err(Refusal::TooShort);

@@ -31,7 +31,7 @@ use Rattle.series.specs.declared.imputation.ImputationMethod.TheVariants.{LINEAR
 use Rattle.series.specs.Imputation as Imputation
 use Rattle.series.specs.Imputation.{imputed}
 use Rattle.restart.specs.History as History
-use Rattle.restart.specs.History.{Entry, initial_entry, learned_entry, drained_entry, entries, history_text, history_answers}
+use Rattle.restart.specs.History.{initial_entry, learned_entry, drained_entry, entries, history_text, history_answers}
 use Rattle.restart.specs.Held.{built_on, text_in, restored_on}
 use Rattle.restart.specs.Statistics as Statistics
 use Rattle.restart_program.specs.Program.{returns, left_by_all, answer_read, ProgramRestart}

@@ -10,7 +10,8 @@ use lib.Dec.{ltb}
 use lib.ListN.{length, replicate, length-append, length-replicate}
 use lib.Ieee.{Float}
 use Rattle.restart.specs.Statistics.{Fed, fed_after, statistics_from}
-use Rattle.restart.specs.History.{Entry, initial_entry, learned_entry, drained_entry, initials, learns, is_drained, only_initials, values, timestamps, seen_of, internal_of, buffer_of, first_and_all, shingled, inputs_of, timestamps_of, newest_reading, each_after, fed_of, count_of, statistics_of, points_of, history_state}
+use Rattle.restart.specs.History.{Entry, initial_entry, learned_entry, drained_entry, initials, learns, is_drained, only_initials, values, timestamps, seen_of, internal_of, buffer_of, first_and_all}
+use Rattle.restart.specs.History.{shingled, inputs_of, timestamps_of, newest_reading, each_after, fed_of, count_of, statistics_of, points_of, history_state}
 use Rattle.restart.proofs.Lists.{feed_each}
 use Rattle.common.specs.Deviation.{zero64}
 use Rattle.trcf.specs.Lists.{last_n}

@@ -15,8 +15,9 @@ use Rattle.trcf.proofs.FitLaws.{all_append}
 use Rattle.trcf.specs.Types.{augments}
 use Rattle.trcf.specs.Settings.{Settings, Valid, waiting, dimension}
 use Rattle.trcf.specs.Calls.{Call, Machine, status}
-use Rattle.trcf.specs.Preprocessor.{State, statistics_length, fresh, refusal, change, next, run, answer, answers, accepted}
-use Rattle.trcf.specs.View.{Lent, lent, settings_of, view, written_over, counted, head_from, head_table, head_row, initial_room, lent_short, counters_unfit, own_row, ready_of, getters_of, short_row, lent_row, row_of, answer_of, head_after, lent_after, build_row, build_of, Outcome, outcome}
+use Rattle.trcf.specs.Preprocessor.{State, statistics_length, fresh, refusal, change, next, run, answer, answers}
+use Rattle.trcf.specs.View.{Lent, lent, settings_of, view, written_over, counted, head_from, head_table, head_row, initial_room, lent_short, counters_unfit, own_row, ready_of, getters_of, short_row}
+use Rattle.trcf.specs.View.{lent_row, row_of, answer_of, head_after, lent_after, build_row, build_of, Outcome, outcome}
 use Rattle.trcf.proofs.RefusalLaws.{room_start}
 use Rattle.trcf.proofs.ViewLaws.{row_is, answer_is, Shaped, view_laid}
 use Rattle.snapshot.specs.Text.{render, TextOf}

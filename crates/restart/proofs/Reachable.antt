@@ -13,7 +13,9 @@ use lib.Ieee.{Float, binary32, binary64}
 use lib.Ieee.Bits.{of_bits-fits}
 use borrow.Author.Tests.{ltb-false, leb-false, eqb-true, eqb-false, not-false}
 use Rattle.restart.specs.Statistics.{Fed}
-use Rattle.restart.specs.History.{Entry, initial_entry, learned_entry, drained_entry, initials, learns, is_drained, only_initials, values, timestamps, seen_of, internal_of, buffer_of, first_and_all, shingled, inputs_of, timestamps_of, each_after, fed_pairs, fed_of, count_of, statistics_of, transforms, points_of, history_state, history_facts, history_refusal, complete, adds, enter, entries_from, entries}
+use Rattle.restart.specs.History.{Entry, initial_entry, learned_entry, drained_entry, initials, learns, is_drained, only_initials, values, timestamps, seen_of, internal_of, buffer_of, first_and_all}
+use Rattle.restart.specs.History.{shingled, inputs_of, timestamps_of, each_after, fed_pairs, fed_of, count_of, statistics_of, transforms, points_of, history_state, history_facts, history_refusal}
+use Rattle.restart.specs.History.{complete, adds, enter, entries_from, entries}
 use Rattle.restart.proofs.Scores.{statistics_fed}
 use Rattle.restart.proofs.Lists.{feed_each}
 use Rattle.common.specs.Deviation.{zero64, count_limit}
@@ -22,7 +24,8 @@ use Rattle.trcf.specs.Fit.{All, Fits}
 use Rattle.trcf.specs.Types.{normalizes}
 use Rattle.trcf.specs.Transformer.{zero32}
 use Rattle.trcf.specs.Settings.{Settings, dimension, waiting, settings_table, settings_row, whole_max, Whole, Valid}
-use Rattle.trcf.specs.Calls.{Learn, Call, shingled_point, post_process, drain, transform, invert_extrapolation, scale, shift, status, Facts, seen_limit, finite, due, newest, wrong_length, drain_full, learn_full, table, rows, Machine}
+use Rattle.trcf.specs.Calls.{Learn, Call, shingled_point, post_process, drain, transform, invert_extrapolation, scale, shift, status, Facts, seen_limit, finite, due, newest, wrong_length, drain_full}
+use Rattle.trcf.specs.Calls.{learn_full, table, rows, Machine}
 use Rattle.trcf.specs.Preprocessor.{statistics_length, fresh, Reading, feed, transformed_after, accepted, run}
 use Rattle.snapshot.specs.Form.{Climbs, Form}
 use Rattle.trcf.proofs.FitLaws.{all_append}

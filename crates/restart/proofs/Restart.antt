@@ -5,8 +5,9 @@ use mathlib.Core.List.{List, [], ◌∷◌, ◌++◌, map}
 use mathlib.Core.Option.{some}
 use lib.ListN.{length}
 use lib.Ieee.{Float}
-use Rattle.restart.specs.History.{each_after, Entry, entries, enter, history_state, history_text, history_panel}
-use Rattle.restart.specs.Statement.{Restores, Outlives, Restart, Event, call_made, restarted, calls_of, run_events, answers_events, panel_told, panels, panels_events, history_panels_events, Restarts, Reaches, built, calling, restoring, Demand3}
+use Rattle.restart.specs.History.{Entry, entries, enter, history_state, history_text, history_panel}
+use Rattle.restart.specs.Statement.{Restores, Outlives, Restart, Event, call_made, restarted, calls_of, run_events, answers_events, panel_told, panels, panels_events, history_panels_events, Restarts}
+use Rattle.restart.specs.Statement.{Reaches, built, calling, restoring, Demand3}
 use Rattle.trcf.specs.Fit.{All}
 use Rattle.trcf.specs.Settings.{Settings, Valid, block}
 use Rattle.trcf.specs.Calls.{Call, Machine, status}

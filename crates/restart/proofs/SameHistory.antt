@@ -5,7 +5,8 @@ use mathlib.Core.List.{List, [], ◌∷◌, ◌++◌, append_assoc, append-nil, 
 use lib.ListN.{replicate}
 use lib.Ieee.{Float}
 use Rattle.restart.specs.Statistics.{Fed}
-use Rattle.restart.specs.History.{Entry, initial_entry, learned_entry, drained_entry, initials, learns, is_drained, seen_of, internal_of, buffer_of, shingled, inputs_of, timestamps_of, newest_reading, fed_of, count_of, statistics_of, points_of, history_state, entries, history_text}
+use Rattle.restart.specs.History.{Entry, initial_entry, learned_entry, drained_entry, initials, learns, is_drained, seen_of, internal_of, buffer_of, shingled, inputs_of, timestamps_of, newest_reading}
+use Rattle.restart.specs.History.{fed_of, count_of, statistics_of, points_of, history_state, entries, history_text}
 use Rattle.restart.specs.Chronicle.{Ws, Ls, stands, fed_by, fed_from, points_by, points_from, chronicle}
 use Rattle.trcf.specs.Transformer.{zero32}
 use Rattle.trcf.specs.Settings.{Settings, dimension}

@@ -10,7 +10,9 @@ use lib.Dec.{ltb, eqb, eqb-zero-suc, eqb-suc-zero, leb-suc-suc, leb-zero}
 use lib.ListN.{length, replicate, length-append, length-replicate}
 use lib.Ieee.{Float}
 use borrow.Author.Tests.{ltb-true, ltb-false, eqb-true, ne_eqb, not-false}
-use Rattle.restart.specs.History.{Entry, initial_entry, learned_entry, drained_entry, initials, learns, is_drained, only_initials, values, timestamps, seen_of, internal_of, buffer_of, shingled, inputs_of, timestamps_of, count_of, statistics_of, history_state, history_facts, history_refusal, complete, adds, enter, entries_from, entries, history_answer, history_answers}
+use Rattle.restart.specs.History.{Entry, initial_entry, learned_entry, drained_entry, initials, learns, is_drained, only_initials, values, timestamps, seen_of, internal_of, buffer_of, shingled}
+use Rattle.restart.specs.History.{inputs_of, timestamps_of, count_of, statistics_of, history_state, history_facts, history_refusal, complete, adds, enter, entries_from, entries, history_answer}
+use Rattle.restart.specs.History.{history_answers}
 use Rattle.trcf.specs.Lists.{last_n, null}
 use Rattle.trcf.specs.Types.{normalizes}
 use Rattle.trcf.specs.Transformer.{zero32}
@@ -160,7 +162,8 @@ module _ (s : Settings) (k>0 : 0 < s.k) where
   drain_step es v = rw (due_full s es v.phase) (drain_at_lem es v (complete s es) refl)
 
   -- waiting: a point does nothing
-  point_at_lem : (es : List Entry) → Inv s es → (b : Bool) → waiting s (seen_of es) ≡ b → Kept (cond b (history_state s es) (drainedState (history_state s es))) (cond (complete s es) (drained_entry ∷ es) es)
+  point_at_lem : (es : List Entry) → Inv s es → (b : Bool) → waiting s (seen_of es) ≡ b
+      → Kept (cond b (history_state s es) (drainedState (history_state s es))) (cond (complete s es) (drained_entry ∷ es) es)
   point_at_lem es v true e =
       let h : (only_initials es ≡ true) × (length (initials es) < s.start) × (normalizes s.method ≡ true) = still s es v.phase e in
       rw (is_false (complete s es) (λ f. omega (arith, (is_full s es f).1))) (refl, v)
@@ -187,11 +190,6 @@ module _ (s : Settings) (k>0 : 0 < s.k) where
   step_at_lem : (es : List Entry) → Inv s es → (c : Call) (n : ℕ) → history_refusal s es c ≡ n → Kept (accepted n (change (history_state s es) c) (history_state s es)) (accepted n (adds s es c) es)
   step_at_lem es v c zero e = change_at es v c e
   step_at_lem es v c (suc n) e = (refl, v)
-
-  -- the state's refusals are the history's
-  pub same_refusal : (es : List Entry) (c : Call) → refusal (history_state s es) c ≡ history_refusal s es c
-  unfolding refusal history_refusal facts history_facts history_state
-  same_refusal es c = refl
 
   pub step : (es : List Entry) → Inv s es → (c : Call) → Kept (next (history_state s es) c) (enter s es c)
   unfolding next enter refusal history_refusal facts history_facts history_state

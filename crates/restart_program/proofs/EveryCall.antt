@@ -2,13 +2,12 @@
 -- memory that is too long and holds something else. Assumes nothing.
 use Prim.Native.Nat.{ℕ, ◌≤◌}
 use mathlib.Core.Path.{◌≡◌, refl, ap, ◌∙◌}
-use mathlib.Core.Bool.{true}
-use mathlib.Core.List.{List, [], ◌∷◌, ◌++◌, map}
+use mathlib.Core.List.{List, [], ◌∷◌, map}
 use mathlib.Core.Option.{Option, none, some}
 use native.Mathlib.Omega.{arith}
 use lib.IntN.{negsuc}
 use lib.ListN.{length, take, drop, replicate}
-use lib.Ieee.{Float, nan, binary32, binary64, of_bits}
+use lib.Ieee.{Float, nan, binary64, of_bits}
 use lib.Ieee as Ieee
 use Rattle.numeric.specs.Narrow as Narrow
 use Rattle.numeric.specs.Root as Root
@@ -40,7 +39,7 @@ use Rattle.restart.proofs.Restart.{demand_3}
 use Rattle.restart.proofs.Held.{held_demand_3}
 use Rattle.restart_program.specs.Program.{returns, left_by_all, answer_read, ProgramRestart}
 use Rattle.restart_program.proofs.Program.{program_demand_3}
-use Rattle.restart_program.proofs.Instances.{single, one, two, four, six, learn_at, all_take, all_drop, dirty}
+use Rattle.restart_program.proofs.Instances.{one, two, four, six, learn_at, all_take, all_drop, dirty}
 
 -- to unfold one of these is to unfold whatever its line names
 floats : Unit {0}
@@ -92,7 +91,8 @@ unfolding floats roots deviations bands lists transforms inverses settings rows 
 computing = tt
 
 counts : Unit {0}
-unfolding History.seen_of History.internal_of History.buffer_of History.shingled History.inputs_of History.timestamps_of History.newest_reading History.count_of History.statistics_of Statistics.statistics_from
+unfolding History.seen_of History.internal_of History.buffer_of History.shingled History.inputs_of History.timestamps_of History.newest_reading History.count_of
+    History.statistics_of Statistics.statistics_from
 counts = tt
 
 sheet : Unit {0}

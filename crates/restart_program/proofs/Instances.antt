@@ -45,11 +45,21 @@ use Rattle.restart_program.proofs.Program.{program_demand_3}
 
 -- to unfold this is to unfold whatever its line names
 computing : Unit {0}
-unfolding Ieee.add Ieee.sub Ieee.mul Ieee.div Ieee.lt Ieee.le Ieee.eq Ieee.of_int Ieee.of_bits Ieee.to_bits Ieee.size Ieee.round Ieee.fits Narrow.narrowed Root.root_of Root.rooted Root.halves Root.root_within Deviation.outside_unit Deviation.factor_of Deviation.step_of Deviation.is_empty Deviation.mean_of Deviation.root_above Deviation.deviation_of Over.over Transformer.statistic_at Transformer.put_statistic Transformer.fed Transformer.deviations_at Transformer.put_deviations Transformer.fed_at Transformer.channels_fed Transformer.updated Transformer.normalized_scale Transformer.basic_shift Transformer.basic_drift Transformer.weight_at Transformer.transformed Transformer.unweighted Transformer.inverted Transformer.scales Transformer.shifts Transformer.difference_deviations Settings.block Settings.dimension Settings.waiting Settings.all_one Settings.settings_row Lists.last_n Lists.shift_in Lists.overwrite Calls.finite Calls.due Calls.newest Calls.before_newest Calls.wrong_length Calls.outside Calls.drain_full Calls.learn_full Calls.waiting_short Calls.learn_short Calls.table Calls.rows Preprocessor.time_fed Preprocessor.feed Preprocessor.timescale Preprocessor.timedrift Preprocessor.time_element Preprocessor.transformed_after View.lent_short
+unfolding Ieee.add Ieee.sub Ieee.mul Ieee.div Ieee.lt Ieee.le Ieee.eq Ieee.of_int Ieee.of_bits Ieee.to_bits Ieee.size Ieee.round Ieee.fits Narrow.narrowed
+    Root.root_of Root.rooted Root.halves Root.root_within Deviation.outside_unit Deviation.factor_of Deviation.step_of Deviation.is_empty Deviation.mean_of
+    Deviation.root_above Deviation.deviation_of Over.over Transformer.statistic_at Transformer.put_statistic Transformer.fed Transformer.deviations_at
+    Transformer.put_deviations Transformer.fed_at Transformer.channels_fed Transformer.updated Transformer.normalized_scale Transformer.basic_shift
+    Transformer.basic_drift Transformer.weight_at Transformer.transformed Transformer.unweighted Transformer.inverted Transformer.scales Transformer.shifts
+    Transformer.difference_deviations Settings.block Settings.dimension Settings.waiting Settings.all_one Settings.settings_row Lists.last_n Lists.shift_in
+    Lists.overwrite Calls.finite Calls.due Calls.newest Calls.before_newest Calls.wrong_length Calls.outside Calls.drain_full Calls.learn_full
+    Calls.waiting_short Calls.learn_short Calls.table Calls.rows Preprocessor.time_fed Preprocessor.feed Preprocessor.timescale Preprocessor.timedrift
+    Preprocessor.time_element Preprocessor.transformed_after View.lent_short
 computing = tt
 
 recording : Unit {0}
-unfolding computing History.seen_of History.internal_of History.buffer_of History.shingled History.inputs_of History.timestamps_of History.newest_reading History.count_of History.statistics_of Statistics.statistics_from History.history_state History.history_facts History.history_refusal History.complete History.adds History.enter History.entries History.history_text History.history_panel
+unfolding computing History.seen_of History.internal_of History.buffer_of History.shingled History.inputs_of History.timestamps_of History.newest_reading
+    History.count_of History.statistics_of Statistics.statistics_from History.history_state History.history_facts History.history_refusal History.complete
+    History.adds History.enter History.entries History.history_text History.history_panel
 recording = tt
 
 writing : Unit {0}
@@ -57,7 +67,11 @@ unfolding recording Text.whole Text.float Text.set_line Text.singles Text.cnt_li
 writing = tt
 
 answering : Unit {0}
-unfolding recording Preprocessor.previous Preprocessor.time_base Preprocessor.preceding Preprocessor.primed Preprocessor.drain_one Preprocessor.drain_all Preprocessor.drained Preprocessor.buffered Preprocessor.learned Preprocessor.learned_with Preprocessor.facts Preprocessor.deviations Preprocessor.scale_of Preprocessor.shift_of Preprocessor.point_of Preprocessor.block_from Preprocessor.past_values Preprocessor.expected_values Preprocessor.anomaly_of Preprocessor.learned_nothing Preprocessor.buffered_answer Preprocessor.learned_answer Preprocessor.learn_answer Preprocessor.status_of Preprocessor.reply History.history_answer
+unfolding recording Preprocessor.previous Preprocessor.time_base Preprocessor.preceding Preprocessor.primed Preprocessor.drain_one Preprocessor.drain_all
+    Preprocessor.drained Preprocessor.buffered Preprocessor.learned Preprocessor.learned_with Preprocessor.facts Preprocessor.deviations Preprocessor.scale_of
+    Preprocessor.shift_of Preprocessor.point_of Preprocessor.block_from Preprocessor.past_values Preprocessor.expected_values Preprocessor.anomaly_of
+    Preprocessor.learned_nothing Preprocessor.buffered_answer Preprocessor.learned_answer Preprocessor.learn_answer Preprocessor.status_of Preprocessor.reply
+    History.history_answer
 answering = tt
 
 abbrev pub single : ℕ → Float

@@ -14,9 +14,11 @@ use Rattle.trcf.specs.Fit.{All}
 use Rattle.trcf.specs.Transformer.{zero32}
 use Rattle.trcf.specs.Settings.{Settings, Valid, block, dimension, waiting}
 use Rattle.trcf.specs.Calls.{Learn, Forecast, Call, Machine, shingled_point, post_process, drain, transform, invert_extrapolation, scale, shift, status, rows, table, given}
-use Rattle.trcf.specs.Preprocessor.{State, Answer, refused, absent, done, wrote, learnt, turned, told, Learned, Status, statistics_length, change, reply, accepted, status_of, facts, reading, transform_of, scale_of, shift_of, point_reply, learn_reply, learned_nothing, turned_back}
+use Rattle.trcf.specs.Preprocessor.{State, Answer, refused, absent, done, wrote, learnt, turned, told, Learned, Status, statistics_length, change, reply, accepted, status_of, facts, reading}
+use Rattle.trcf.specs.Preprocessor.{transform_of, scale_of, shift_of, point_reply, learn_reply, learned_nothing, turned_back}
 use Rattle.trcf.specs.declared.head.Anomaly.{Anomaly}
-use Rattle.trcf.specs.View.{Lent, lent, optional, settings_of, view, counted, written_over, head_row, initial_room, lent_short, getters_of, counters_unfit, short_row, lent_row, row_of, or_else, answer_of, head_after, lent_after, Roomy, Fitted, written, write_of, no_status, status_after, drain_of, point_after, learn_after, anomaly_time, anomaly_likelihood}
+use Rattle.trcf.specs.View.{Lent, lent, optional, settings_of, view, counted, written_over, head_row, initial_room, lent_short, getters_of, counters_unfit, short_row, lent_row, row_of, or_else}
+use Rattle.trcf.specs.View.{answer_of, head_after, lent_after, Roomy, Fitted, written, write_of, no_status, status_after, drain_of, point_after, learn_after, anomaly_time, anomaly_likelihood}
 use Rattle.trcf.specs.Extrapolation.{extrapolation, viewed, extrapolation_row, extrapolation_of}
 use Rattle.trcf.specs.declared.head.Preprocessor.{Preprocessor}
 use Rattle.trcf.proofs.FitLaws.{all_append}
@@ -30,7 +32,8 @@ use Rattle.restart.specs.History.{Entry, entries, enter, history_state, history_
 use Rattle.restart.specs.Statement.{panel_told}
 use Rattle.restart.specs.Held.{Held, held, built_on, held_next, held_run, held_answers, held_panels, held_shown, saved_to, text_in, restored_on, HeldRestart}
 use Rattle.restart.proofs.Held.{held_demand_3}
-use Rattle.restart_program.specs.Program.{Return, point, learn, drains, writes, turns, tells, point_return, learn_return, return_of, left_by, left_by_all, returns, anomaly_read, answer_read, returned_panels, shown_getters, ProgramDemand3, list_of, Arguments}
+use Rattle.restart_program.specs.Program.{Return, point, learn, drains, writes, turns, tells, return_of, left_by, left_by_all, returns, anomaly_read, answer_read, returned_panels, shown_getters}
+use Rattle.restart_program.specs.Program.{ProgramDemand3, list_of, Arguments}
 
 -- ---- a row 0 of a call says that what is lent is long enough
 

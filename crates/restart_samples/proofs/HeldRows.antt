@@ -14,7 +14,7 @@ use Rattle.refusal.specs.Lent.{over}
 use Rattle.refusal.specs.Refusal.{first_of}
 use Rattle.trcf.specs.Transformer.{zero32}
 use Rattle.trcf.specs.Settings.{Settings, settings_row, all_one, block, dimension, waiting}
-use Rattle.trcf.specs.Calls.{Call, Forecast, sizes_of, forecast_table, post_process, drain, scale, status, rows, table, finite, due, drain_full, newest, wrong_length, waiting_short, learn_full, learn_short, outside}
+use Rattle.trcf.specs.Calls.{Call, Forecast, sizes_of, forecast_table, post_process, drain, scale, rows, table, finite, due, drain_full, newest, wrong_length, waiting_short, learn_full, learn_short, outside}
 use Rattle.trcf.specs.Preprocessor.{fresh, facts, accepted}
 use Rattle.trcf.specs.View.{Lent, lent, settings_of, view, written_over, counting, head_row, lent_short, counters_unfit, short_row, lent_row, or_else, outside_row, row_of, own_row, ready_of, no_status, head_from, no_head, build_row, build_of, answer_of, head_after, lent_after, status_after}
 use Rattle.trcf.specs.Extrapolation.{read_short_row, row_at, extrapolation_row, extrapolation_of}

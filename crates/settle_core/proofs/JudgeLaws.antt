@@ -27,7 +27,8 @@ use Rattle.bench_core.specs.declared.line.Line.{Line}
 use Rattle.settling.specs.Settling.{Signal, pair_row}
 use Rattle.bench_core.proofs.StepLaws.{take_zeros}
 use Rattle.settling.proofs.Theorem.{pair_parts}
-use Rattle.settle_core.specs.Input.{line_of, PairRead, faulty, pair_taken, settings_by, pair_by, pair_of, Input, input_refused, input, signalled, and_then, opens, then_pair, input_from, input_of, signal_read as signalAt}
+use Rattle.settle_core.specs.Input.{line_of, PairRead, faulty, pair_taken, settings_by, pair_by, pair_of, Input, input_refused, input, signalled, and_then, opens, then_pair, input_from, input_of}
+use Rattle.settle_core.specs.Input.{signal_read as signalAt}
 use Rattle.settle_core.specs.Steps.{pair_settings, pair_in, prefixed, input_in}
 use Rattle.settle_core.specs.declared.pair.Pair as kept
 use Rattle.settle_core.specs.declared.pair.PairRead as read

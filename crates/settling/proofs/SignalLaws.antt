@@ -1,5 +1,5 @@
 -- The numbers of a signal within their limits, and a reading of it. Assumes nothing.
-use Prim.Native.Nat.{ℕ, zero, suc, ◌+◌, ◌-◌, ◌*◌, ◌%◌, ◌≤◌, ◌<◌}
+use Prim.Native.Nat.{ℕ, ◌+◌, ◌-◌, ◌*◌, ◌%◌, ◌≤◌}
 use native.Mathlib.Omega.{arith}
 use mathlib.Core.Path.{◌≡◌, refl, sym, ap, ◌∙◌}
 use mathlib.Core.Bool.{Bool, true, false, cond, ◌&&◌, true≢false}
@@ -11,7 +11,7 @@ use borrow.Author.Tests.{leb-true}
 use mir.Syntax.{w128}
 use mir.Val.{to_z, of_z}
 use Rattle.std.proofs.lemmas.Int.{ints}
-use Rattle.settling.specs.Settling.{Signal, integer_size, counts_in_limits, in_limits, signal_value, value_at}
+use Rattle.settling.specs.Settling.{Signal, integer_size, in_limits, signal_value, value_at}
 use Rattle.settling.specs.Steps.{signal_of}
 use Rattle.settling.specs.declared.signal.Signal as held
 

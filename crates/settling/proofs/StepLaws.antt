@@ -2,13 +2,11 @@
 use Prim.Native.Nat.{ℕ, zero, suc, ◌+◌, ◌-◌, ◌≤◌, ◌<◌}
 use native.Mathlib.Omega.{arith}
 use mathlib.Core.Path.{◌≡◌, refl, sym, ap, ◌∙◌}
-use mathlib.Core.Bool.{Bool, true, false, cond}
+use mathlib.Core.Bool.{Bool, true, false}
 use mathlib.Core.List.{List, [], ◌∷◌}
-use lib.Dec.{ltb}
 use lib.ListN.{length, take, get_or, replicate}
-use borrow.Author.Tests.{lt-ltb, le-ltb}
 use native.Mathlib.Numerals.{add-one}
-use mathlib.Core.Option.{Option, none, some}
+use mathlib.Core.Option.{Option, none}
 use lib.Ieee.{Float, nan}
 use Rattle.std.specs.Prelude.{Result, Ok, Err, Option as Held, is_some}
 use Rattle.std.specs.Bool.{then_some}
@@ -33,7 +31,8 @@ use Rattle.access.specs.Entries.{point_by, learn_by, seen_by}
 use Rattle.access.proofs.Laws.{as_every}
 use Rattle.trcf.specs.declared.head.Preprocessor.{Preprocessor}
 use Rattle.settling.specs.Settling.{Signal, value_at, Noted, noted, note, run_outcome}
-use Rattle.settling.specs.Steps.{option_of, given_of, learning, learned_result, ReadingResult, reading_result, reading_result_with, reading_result_of, Track, track, track_with, track_after, settled_outcome, settling_memory}
+use Rattle.settling.specs.Steps.{option_of, given_of, learning, learned_result, ReadingResult, reading_result, reading_result_with, reading_result_of, Track, track, track_with, track_after}
+use Rattle.settling.specs.Steps.{settled_outcome, settling_memory}
 use Rattle.settling.specs.Steps.{track_from, track_built, track_at}
 
 module _ {A : Type 0} where

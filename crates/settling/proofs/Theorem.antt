@@ -20,7 +20,8 @@ use Rattle.trcf.specs.Types.{augments}
 use Rattle.trcf.specs.Transformer.{zero32}
 use Rattle.trcf.specs.Settings.{Settings, MachineSettings, Valid, settings_row, block, dimension, waiting, whole_max}
 use Rattle.trcf.specs.Calls.{Call, Machine, FitsGiven, shingled_point}
-use Rattle.trcf.specs.Preprocessor.{State, fresh, run, next, change, refusal, Answer, refused, absent, wrote, answer, point_reply, reply, accepted, drained, point_of, transformed_after, preceding, reading, status_of, statistics_length}
+use Rattle.trcf.specs.Preprocessor.{State, fresh, run, next, change, refusal, Answer, refused, absent, wrote, answer, point_reply, reply, accepted, drained, point_of, transformed_after, preceding}
+use Rattle.trcf.specs.Preprocessor.{reading, status_of, statistics_length}
 use Rattle.trcf.specs.View.{Lent, view, settings_of, head_row, head_table, initial_room, lent_short, ready_of, Getters, row_of, answer_of, PointOutcome, point_after, optional}
 use Rattle.trcf.specs.declared.head.Preprocessor.{Preprocessor}
 use Rattle.trcf.proofs.FitLaws.{all_append, all_drop}
@@ -38,7 +39,8 @@ use Rattle.restart.proofs.Restart.{run_append}
 use Rattle.restart.proofs.FeedLaws.{transformed_after_fits}
 use Rattle.restart_program.specs.Program.{left_by}
 use Rattle.restart_program.proofs.Program.{left_is_lem}
-use Rattle.settling.specs.Settling.{Signal, value_at, Noted, noted, note, point_call, learn_with, point_in, last_of, Settling, settling_after, settling_at, noted_of, in_limits, pair_row, run_outcome, run_row, run_of}
+use Rattle.settling.specs.Settling.{Signal, value_at, Noted, noted, note, point_call, learn_with, point_in, last_of, Settling, settling_after, settling_at, noted_of, in_limits, pair_row, run_outcome}
+use Rattle.settling.specs.Settling.{run_row, run_of}
 use Rattle.settling.specs.Steps.{given_of, point_length, ReadingResult, reading_result, reading_result_with, reading_result_of, Track, settling_memory}
 use Rattle.settling.specs.Steps.{track_after, track_at}
 

@@ -1,5 +1,5 @@
 // One reading: it is sent to point, and then to learn with the point given. The program runs as role 0 of a table with every right.
-// Kept: (d) the six lent lists are parameters: a struct would need a type for each mix of shared and mutable lists that the calls lend, and with mutable ones a clause on their loans in each contract.
+// Kept: (d) lists that a call writes are parameters of their own: a struct would need a type for each mix of shared and mutable ones, and a clause on its loans in each contract.
 ghost use Rattle.std.specs.Prelude.{◌≡◌, ◌≤◌, is_some};
 ghost use Rattle.std.proofs.Math.Option.{none};
 ghost use Rattle.std.specs.Float.{nan};
@@ -94,7 +94,8 @@ fn turn_with(
     point: &mut [f32],
 ) -> Turned
     ensures { reading_result result.head (lent statistics.new last_shingled_input.new last_shingled_point.new previous_timestamps.new initial_values.new initial_timestamps.new) (option_of result.last)
-        ≡ reading_result_with head (lent statistics.old last_shingled_input.old last_shingled_point.old previous_timestamps.old initial_values.old initial_timestamps.old) input.now timestamp point.old }
+        ≡ reading_result_with head
+        (lent statistics.old last_shingled_input.old last_shingled_point.old previous_timestamps.old initial_values.old initial_timestamps.old) input.now timestamp point.old }
 {
     let table = every_right();
     let answer = shingled_point(

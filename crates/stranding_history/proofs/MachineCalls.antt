@@ -1,5 +1,5 @@
 -- The calls of zeros are ones that the program can be given: their times are the history's own.
-use Prim.Native.Nat.{ℕ, ◌≤◌, ◌<◌}
+use Prim.Native.Nat.{ℕ, ◌≤◌}
 use native.Mathlib.Omega.{arith}
 use mathlib.Core.Path.{◌≡◌, refl, subst}
 use mathlib.Core.Bool.{Bool, true, false, cond}
@@ -13,7 +13,6 @@ use Rattle.trcf.specs.Fit.{All, Fits}
 use Rattle.trcf.specs.Transformer.{zero32}
 use Rattle.trcf.specs.Settings.{Settings, dimension, whole_max, Whole, Valid}
 use Rattle.trcf.specs.Calls.{Call, newest, Machine}
-use Rattle.trcf.specs.Preprocessor.{State}
 use Rattle.trcf.proofs.FitLaws.{all_append}
 use Rattle.snapshot.specs.Form.{Form}
 use Rattle.snapshot.proofs.Lists.{all_replicate}

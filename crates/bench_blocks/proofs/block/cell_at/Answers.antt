@@ -18,7 +18,8 @@ overflow_add-end c =
 pub unwrap-requires : goal.unwrap-requires
 unwrap-requires c =
     let a = c.args in
-    step_taken a.b (lent a.statistics.now a.last_shingled_input.now a.last_shingled_point.now a.previous_timestamps.now a.initial_values.now a.initial_timestamps.now) a.point.now a.text.now a.next a.out.now a.at
+    step_taken a.b
+    (lent a.statistics.now a.last_shingled_input.now a.last_shingled_point.now a.previous_timestamps.now a.initial_values.now a.initial_timestamps.now) a.point.now a.text.now a.next a.out.now a.at
     c.requires.at_in_bounds c.step-cell.result _ _ _ c.step-cell.ensures
 
 pub returns : goal.returns

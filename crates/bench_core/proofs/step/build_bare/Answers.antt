@@ -15,12 +15,14 @@ pub returns-in_err-head_row : goal.returns-in_err-head_row
 returns-in_err-head_row c =
     let a = c.args in
     let n = c.code_count-n in
-    bare_refused a.builder a.weights.now (lent a.statistics.now a.last_shingled_input.now a.last_shingled_point.now a.previous_timestamps.now a.initial_values.now a.initial_timestamps.now) (take n.result (replicate {A = ℕ} 16 0))
+    bare_refused a.builder a.weights.now
+    (lent a.statistics.now a.last_shingled_input.now a.last_shingled_point.now a.previous_timestamps.now a.initial_values.now a.initial_timestamps.now) (take n.result (replicate {A = ℕ} 16 0))
     (zeros a.builder.input_dimensions n.result n.ensures.value n.ensures.upper_bound) _ c.from_residual.result c.from_residual.ensures.1 c.in_err-head_row.ensures
 
 pub returns : goal.returns
 returns c =
     let a = c.args in
     let n = c.code_count-n in
-    bare_built a.builder a.weights.now (lent a.statistics.now a.last_shingled_input.now a.last_shingled_point.now a.previous_timestamps.now a.initial_values.now a.initial_timestamps.now) (take n.result (replicate {A = ℕ} 16 0))
+    bare_built a.builder a.weights.now
+    (lent a.statistics.now a.last_shingled_input.now a.last_shingled_point.now a.previous_timestamps.now a.initial_values.now a.initial_timestamps.now) (take n.result (replicate {A = ℕ} 16 0))
     (zeros a.builder.input_dimensions n.result n.ensures.value n.ensures.upper_bound) _ c.in_ok-head_row.ensures c.build.ensures

@@ -29,6 +29,7 @@ returns c =
     let l = c.loop-i in
     let e : l.i ≡ length a.pairs.now = omega arith in
     record {
-      wrote = wrote_is (ap (λ (n : ℕ). lines_of a.pairs.now (signal_of a.signal) n) e ∙ ap (λ (ps : List Pair). line_texts 1 (map pair_settings ps) (signal_of a.signal)) (take-length a.pairs.now)) l.invariant.0;
+      wrote = wrote_is (ap (λ (n : ℕ). lines_of a.pairs.now (signal_of a.signal) n) e
+          ∙ ap (λ (ps : List Pair). line_texts 1 (map pair_settings ps) (signal_of a.signal)) (take-length a.pairs.now)) l.invariant.0;
       upper_bound = omega (arith, l.invariant.1, c.requires.count_bound);
     }

@@ -1,11 +1,11 @@
 -- `settling::run::note_reading` meets its contract. Assumes nothing.
-use mathlib.Core.Path.{◌≡◌, refl, ap, ◌∙◌}
+use mathlib.Core.Path.{◌≡◌, refl}
 use mathlib.Core.Bool.{Bool, true, false}
 use Prim.Native.Nat.{ℕ}
 use Rattle.std.specs.Prelude.{Option, Some, None}
 use Rattle.std.specs.Bool.{then_some}
 use Rattle.std.specs.Option.{option_or}
-use Rattle.settling.specs.Settling.{noted, first_ready, note}
+use Rattle.settling.specs.Settling.{first_ready, note}
 use Rattle.settling.specs.Steps.{option_of}
 use Rattle.settling.proofs.run.note_reading.Goals as goal
 

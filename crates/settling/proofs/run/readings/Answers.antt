@@ -1,5 +1,5 @@
 -- `settling::run::readings` meets its contract. Assumes nothing.
-use mathlib.Core.Path.{refl, ◌∙◌}
+use mathlib.Core.Path.{refl}
 use native.Mathlib.Omega.{arith}
 use Prim.Native.Nat.{ℕ}
 use mathlib.Core.List.{[], ◌∷◌}
@@ -7,7 +7,7 @@ use lib.ListN.{length-replicate}
 use Rattle.common.specs.Deviation.{zero64}
 use Rattle.trcf.specs.Transformer.{zero32}
 use Rattle.trcf.specs.View.{settings_from}
-use Rattle.settling.specs.Steps.{signal_of, track}
+use Rattle.settling.specs.Steps.{signal_of}
 use Rattle.settling.proofs.SignalLaws.{limited}
 use Rattle.settling.proofs.StepLaws.{begun, track_again, track_done}
 use Rattle.settling.proofs.run.readings.Goals as goal
@@ -75,5 +75,6 @@ returns c =
     let a = c.args in
     let l = c.loop-i in
     track_done (settings_from a.builder (a.weight ∷ []) (0 ∷ [])) (signal_of a.signal) _
-    (begun (settings_from a.builder (a.weight ∷ []) (0 ∷ [])) c.build-built.result c.unwrap_or-head.result _ c.no_head.ensures c.unwrap_or-head.ensures c.build-built.ensures) l.i a.signal.readings (omega arith) l.head _ _
+    (begun (settings_from a.builder (a.weight ∷ []) (0 ∷ [])) c.build-built.result c.unwrap_or-head.result _ c.no_head.ensures
+    c.unwrap_or-head.ensures c.build-built.ensures) l.i a.signal.readings (omega arith) l.head _ _
     l.invariant.0

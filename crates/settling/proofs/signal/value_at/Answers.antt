@@ -1,5 +1,4 @@
 -- `settling::signal::value_at` meets its contract. Assumes nothing.
-use mathlib.Core.Path.{refl}
 use native.Mathlib.Omega.{arith}
 use Rattle.std.proofs.lemmas.Int.{ints}
 use Rattle.settling.proofs.SignalLaws.{limited, held_whole, parts, reading_is}
