@@ -1,5 +1,5 @@
 // `restore` (document 01: taking up): the whole text is judged first, and then the lent lists are filled.
-// Kept: (d) the six lent lists are parameters: a struct would need a type for each mix of shared and mutable lists that the calls lend, and with mutable ones a clause on their loans in each contract.
+// Kept: (c) lists that a call writes are parameters of their own: of a struct of them that is handed on whole the check does not tell what it holds after the call (tried on drain).
 ghost use Rattle.std.specs.Prelude.{◌≡◌, cond, ◌+◌, ◌*◌, ◌≤◌, length, drop, IfOk, IfErr, OnOk};
 ghost use Rattle.trcf.specs.Types.{augments};
 ghost use Rattle.refusal.specs.Refusal.{number_of};
