@@ -7,8 +7,3 @@ unfolding is_nan
 the_nan nan h = refl
 the_nan (inf s) h = absurd (subst T (sym h) tt)
 the_nan (fin s m e) h = absurd (subst T (sym h) tt)
-
-pub zero_by_zero : (f : Format) → div f (of_bits f 0) (of_bits f 0) ≡ nan
-unfolding div of_bits
-zero_by_zero binary32 = refl
-zero_by_zero binary64 = refl

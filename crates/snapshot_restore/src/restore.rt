@@ -19,7 +19,7 @@ use refusal::Refusal;
 use snapshot::head::{BadLine, head_lines};
 use snapshot::kinds::is_waiting;
 use snapshot::limits::{is_past, time_width};
-use trcf::head::{LentLengths, Preprocessor, initial_room, with_counts};
+use trcf::head::{LentLengths, Preprocessor, initial_room, statistics_length, with_counts};
 use trcf::types::is_normalizing;
 
 // How many `buf` lines are to come, from the place after `tim` on.
@@ -166,7 +166,7 @@ fn fill(
         at,
         head,
         n,
-        &mut statistics[..3 * (5 * d + 5)],
+        &mut statistics[..statistics_length(d)],
         &mut last_shingled_input[..d * k],
         &mut last_shingled_point[..w * k],
         &mut previous_timestamps[..k],

@@ -15,7 +15,7 @@ use crate::write::{
 use refusal::Refusal;
 use snapshot::limits::{is_past, time_width};
 use snapshot::values::{all_zero, none_falls};
-use trcf::head::{LentLists, Preprocessor};
+use trcf::head::{LentLists, Preprocessor, statistics_length};
 use trcf_rows::rows::{all_finite, head_settings_row, is_misfit};
 
 // How many bytes whole numbers take, each after its tab.
@@ -233,7 +233,7 @@ fn save_held(head: Preprocessor, lists: LentLists, out: &mut [u8]) -> Result<usi
     if is_past(d, k, w, n, lists.lengths()) {
         return Err(Refusal::TooShort);
     }
-    let st = &lists.statistics[..3 * (5 * d + 5)];
+    let st = &lists.statistics[..statistics_length(d)];
     let x = &lists.last_shingled_input[..d * k];
     let y = &lists.last_shingled_point[..(d + w) * k];
     let ts = &lists.previous_timestamps[..k];

@@ -15,9 +15,6 @@ module _ {d : ℕ} (few : d ≤ 16) where
   pub five : Fits w64 (5 * d)
   five = omega arith
 
-  pub five_more : Fits w64 (5 * d + 5)
-  five_more = omega arith
-
   pub all_statistics : Fits w64 (3 * (5 * d + 5))
   all_statistics = omega arith
 

@@ -1,10 +1,11 @@
 -- `snapshot_restore::restore::fill` meets its contract. Assumes nothing.
 use Prim.Native.Nat.{ℕ, ◌+◌, ◌*◌, ◌≤◌}
 use native.Mathlib.Omega.{arith}
-use mathlib.Core.Path.{sym, ap, ◌∙◌, subst}
-use lib.ListN.{length}
+use mathlib.Core.Path.{◌≡◌, sym, ap, ◌∙◌, subst}
+use lib.ListN.{length, take}
 use lib.Seq.{length-take-le}
 use Rattle.trcf.specs.Types.{augments}
+use Rattle.trcf.proofs.LengthLaws.{statistics_known}
 use Rattle.trcf.specs.View.{lent, settings_of, written_over}
 use Rattle.snapshot.specs.Steps.Runs.{counts_in, Body, body, parts, initial_lists, state_from}
 use Rattle.snapshot.proofs.SaveLaws.{few_wide, wide_of}
@@ -16,9 +17,13 @@ overflow_add-w c =
     let w = wide_of (augments c.args.head.forest_mode) c.time_width.result c.time_width.ensures in
     omega (arith, w, c.requires.d_few)
 
+pub slice_bounds-fill_body-end : goal.slice_bounds-fill_body-end
+slice_bounds-fill_body-end c =
+    rw (statistics_known c.statistics_length.ensures c.requires.d_few) c.requires.in_statistics
+
 pub slice_bounds-fill_body-end-2 : goal.slice_bounds-fill_body-end-2
 slice_bounds-fill_body-end-2 c =
-    sym (length-take-le (3 * (5 * c.args.head.transformer.input_length + 5)) c.args.statistics.now c.requires.in_statistics)
+    rw (statistics_known c.statistics_length.ensures c.requires.d_few) (sym (length-take-le _ _ c.requires.in_statistics))
 
 pub slice_bounds-fill_body-end-4 : goal.slice_bounds-fill_body-end-4
 slice_bounds-fill_body-end-4 c =
@@ -71,10 +76,12 @@ fill_body-requires c =
     let time-width-at = c.time_width in
     let a = args in
     let q = pre in
-    let d = a.head.transformer.input_length in record {
+    let d = a.head.transformer.input_length in
+    let s : length (take c.statistics_length.result a.statistics.now) ≡ 3 * (5 * d + 5) =
+    rw (statistics_known c.statistics_length.ensures q.d_few) (length-take-le _ _ q.in_statistics) in record {
       input_length_bound = q.d_few;
       n_bound = q.n_few;
-      statistics_len = length-take-le (3 * (5 * d + 5)) a.statistics.now q.in_statistics ∙ omega arith;
+      statistics_len = s ∙ omega arith;
       input_len = length-take-le (d * a.head.shingle_size) a.last_shingled_input.now q.in_input;
       point_len = length-take-le ((d + time-width-at.result) * a.head.shingle_size) a.last_shingled_point.now
           (subst (λ (m : ℕ). m ≤ length args.last_shingled_point.now) (sym (dimension_is (settings_of args.head) time-width-at.result time-width-at.ensures)) pre.in_point) ∙
@@ -98,8 +105,9 @@ returns c = λ b z e.
     let G = c.fill_body in
     let p = parts G.new.statistics G.new.input G.new.point G.new.times in
     let i = initial_lists G.new.values G.new.initial_times in
-    laid_is s k (body p i) l _ _ _ _ _ _
-    (over_back a.statistics.now p.statistics (3 * (5 * d + 5)) q.in_statistics c.statistics-1.given.0)
+    let z₁ = statistics_known c.statistics_length.ensures q.d_few in
+    rw z₁ (laid_is s k (body p i) l _ _ _ _ _ _
+    (over_back a.statistics.now p.statistics (3 * (5 * d + 5)) q.in_statistics (rw z₁ at c.statistics-1.given.0))
     (over_back a.last_shingled_input.now p.input (d * a.head.shingle_size) q.in_input c.last_shingled_input-1.given.0)
     (over_back a.last_shingled_point.now p.point ((d + time-width-at.result) * a.head.shingle_size)
     (subst (λ (m : ℕ). m ≤ length args.last_shingled_point.now) (sym (dimension_is (settings_of args.head) time-width-at.result time-width-at.ensures)) pre.in_point)
@@ -107,4 +115,4 @@ returns c = λ b z e.
     (over_back a.previous_timestamps.now p.times a.head.shingle_size q.in_times c.previous_timestamps-1.given.0)
     (over_back a.initial_values.now i.values (a.n * d) q.in_values c.initial_values-1.given.0)
     (over_back a.initial_timestamps.now i.times a.n q.in_initial c.initial_timestamps-1.given.0)
-    ∙ ap (λ (x : Body). written_over (state_from s k x) l) (G.ensures b z e)
+    ∙ ap (λ (x : Body). written_over (state_from s k x) l) (G.ensures b z e))

@@ -1,6 +1,7 @@
 -- `snapshot_save::save::save_held` meets its contract. Assumes nothing.
 use Rattle.snapshot.proofs.SaveLaws.{wide_of, past_is, held_by, few, few_wide, few_values, saved_not, saved_unformed, saved_is}
 use Rattle.trcf.specs.Types.{augments}
+use Rattle.trcf.proofs.LengthLaws.{statistics_known}
 use Rattle.trcf.specs.View.{lent_by, lengths_of, view}
 use Rattle.trcf.specs.declared.head.LentLengths.{LentLengths}
 use Rattle.trcf.specs.declared.head.LentLists.{LentLists}
@@ -13,7 +14,7 @@ use native.Mathlib.Nat.{le_of_eq}
 use mathlib.Core.Bool.{Bool, ◌||◌}
 use Prim.Native.Nat.{ℕ, ◌+◌, ◌*◌}
 use lib.Dec.{ltb}
-use lib.ListN.{length}
+use lib.ListN.{length, take}
 use Rattle.snapshot_save.proofs.save.save_held.Goals as goal
 
 -- what is asked of the lengths is asked of what is lent
@@ -39,33 +40,6 @@ returns-then-is_past c =
     let p = past_lent a.head w.result a.lists c.lengths.ensures c.is_past.ensures in
     saved_not a.head l w.result w.ensures a.out.now (sym (past_is (augments a.head.forest_mode) w.ensures p) ∙ c.if-is_past.true)
 
-pub overflow_mul-st : goal.overflow_mul-st
-overflow_mul-st c =
-    let a = c.args in
-    let w = c.time_width-w in
-    let l = lent_by a.lists in
-    let p = past_lent a.head w.result a.lists c.lengths.ensures c.is_past.ensures in
-    let H = held_by a.head l w.result w.ensures p c.if-is_past.false in
-    omega (arith, H.d_few)
-
-pub overflow_add-st : goal.overflow_add-st
-overflow_add-st c =
-    let a = c.args in
-    let w = c.time_width-w in
-    let l = lent_by a.lists in
-    let p = past_lent a.head w.result a.lists c.lengths.ensures c.is_past.ensures in
-    let H = held_by a.head l w.result w.ensures p c.if-is_past.false in
-    omega (arith, H.d_few)
-
-pub overflow_mul-st-2 : goal.overflow_mul-st-2
-overflow_mul-st-2 c =
-    let a = c.args in
-    let w = c.time_width-w in
-    let l = lent_by a.lists in
-    let p = past_lent a.head w.result a.lists c.lengths.ensures c.is_past.ensures in
-    let H = held_by a.head l w.result w.ensures p c.if-is_past.false in
-    omega (arith, H.d_few)
-
 pub slice_bounds-st-end : goal.slice_bounds-st-end
 slice_bounds-st-end c =
     let a = c.args in
@@ -73,9 +47,8 @@ slice_bounds-st-end c =
     let l = lent_by a.lists in
     let p = past_lent a.head w.result a.lists c.lengths.ensures c.is_past.ensures in
     let H = held_by a.head l w.result w.ensures p c.if-is_past.false in
-    let h = a.head in
-    let d = h.transformer.input_length in
-    sym (length-take-le (3 * (5 * d + 5)) a.lists.statistics.now H.in_statistics)
+    let z = statistics_known c.statistics_length.ensures H.d_few in
+    rw z (sym (length-take-le _ _ H.in_statistics))
 
 pub overflow_mul-x : goal.overflow_mul-x
 overflow_mul-x c =
@@ -187,7 +160,8 @@ save_parts-requires c =
     let h = a.head in
     let d = h.transformer.input_length in
     let k = h.shingle_size in
-    let l₁ = length-take-le (3 * (5 * d + 5)) a.lists.statistics.now H.in_statistics in
+    let z = statistics_known c.statistics_length.ensures H.d_few in
+    let l₁ : length (take c.statistics_length.result a.lists.statistics.now) ≡ 3 * (5 * d + 5) = rw z (length-take-le _ _ H.in_statistics) in
     let l₂ = length-take-le (d * k) a.lists.last_shingled_input.now H.in_input in
     let l₃ = length-take-le ((d + w.result) * k) a.lists.last_shingled_point.now H.in_point in
     let l₄ = length-take-le k a.lists.previous_timestamps.now H.in_times in
@@ -210,5 +184,7 @@ returns c =
     let w = c.time_width-w in
     let l = lent_by a.lists in
     let p = past_lent a.head w.result a.lists c.lengths.ensures c.is_past.ensures in
+    let H = held_by a.head l w.result w.ensures p c.if-is_past.false in
+    let z = statistics_known c.statistics_length.ensures H.d_few in
     saved_is a.head l w.result w.ensures a.out.now _ (sym (past_is (augments a.head.forest_mode) w.ensures p) ∙ c.if-is_past.false)
-    (sym c.is_unformed.ensures ∙ c.if-is_unformed.false) c.save_parts.ensures
+    (sym c.is_unformed.ensures ∙ c.if-is_unformed.false) (rw z at c.save_parts.ensures)
