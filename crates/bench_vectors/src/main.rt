@@ -4,7 +4,6 @@
 use bench_blocks::block::block;
 use bench_core::step::start;
 use replaying::{replay_file, room};
-use std::io;
 
 // Whether the bench prints just this for a text, which is one block with the end of the input after it. An output that the room is too small for differs.
 fn agrees(text: &[u8], expected: &[u8]) -> bool {
@@ -32,9 +31,8 @@ fn agrees(text: &[u8], expected: &[u8]) -> bool {
     !r.full && &out[..r.written] == expected
 }
 
-fn main(rt: HostRuntime) -> io::Result<()> {
+fn main(rt: HostRuntime) {
     for name in ["inputs", "long", "gap", "wrong"] {
-        replay_file(&rt, name, |text, expected| agrees(text, expected))?;
+        replay_file(&rt, name, |text, expected| agrees(text, expected));
     }
-    Ok(())
 }

@@ -6,7 +6,7 @@ ghost use Rattle.std.specs.Prelude.{◌≡◌, ◌≤◌, ◌<◌, IfSome, lengt
 
 use std::alloc::Global;
 use std::rt::Files;
-use std::{fs, io};
+use vectors_core::tally::read_file;
 
 // Where an input of a text stands: its bytes at from..middle, and its output's at middle..next.
 #[derive(Clone, Copy)]
@@ -108,17 +108,16 @@ pub fn room() -> [u8; 524288]
     [0; 524288]
 }
 
-/// Replays a file, and prints its name and both numbers.
+/// Replays a file, and prints its name and both numbers. A file that is not there is told and counts as empty.
 pub fn replay_file<F: FnMut(&[u8], &[u8]) -> bool>(
-    rt: &(impl Files + Alloc<A = Global> + Print),
+    rt: &(impl Files + Alloc<A = Global> + Print + Eprint),
     name: &str,
     agrees: F,
-) -> io::Result<()>
+)
     requires { F.IsAlwaysCallable agrees }
 {
-    let text = fs::read(rt, name)?;
-    let tally = replay(&text, agrees);
+    let tally = replay(&read_file(rt, name), agrees);
     let agree = tally.agree;
     let differ = tally.differ;
-    println!(rt; "{name}: agree {agree}, differ {differ}")
+    let _ = println!(rt; "{name}: agree {agree}, differ {differ}");
 }

@@ -7,18 +7,18 @@ mod imputation;
 mod words;
 
 use std::alloc::Global;
+use std::fs;
 use std::rt::Files;
-use std::{fs, io};
 use words::{Tally, Words};
 
-fn replay<F: FnMut(&mut Words<'_>) -> Option<bool>>(
-    rt: &(impl Files + Alloc<A = Global> + Print),
+fn report<F: FnMut(&mut Words<'_>) -> Option<bool>>(
+    rt: &(impl Alloc<A = Global> + Print),
     name: &str,
+    text: &str,
     mut agrees: F,
-) -> io::Result<()>
+)
     requires { F.IsAlwaysCallable agrees }
 {
-    let text = fs::read_to_string(rt, name)?;
     let mut tally = Tally::default();
     for line in text.lines() {
         tally.count(agrees(&mut Words::of_line(rt.alloc(), line)));
@@ -26,10 +26,27 @@ fn replay<F: FnMut(&mut Words<'_>) -> Option<bool>>(
     let agree = tally.agree;
     let differ = tally.differ;
     let broken = tally.broken;
-    println!(rt; "{name}: agree {agree}, differ {differ} (the wrong line), broken {broken}")
+    let _ = println!(rt;
+        "{name}: agree {agree}, differ {differ} (the wrong line), broken {broken}"
+    );
 }
 
-fn main(rt: HostRuntime) -> io::Result<()> {
-    replay(&rt, "alignment", alignment::agrees)?;
-    replay(&rt, "imputation", imputation::agrees)
+fn replay<F: FnMut(&mut Words<'_>) -> Option<bool>>(
+    rt: &(impl Files + Alloc<A = Global> + Print + Eprint),
+    name: &str,
+    agrees: F,
+)
+    requires { F.IsAlwaysCallable agrees }
+{
+    match fs::read_to_string(rt, name) {
+        Ok(text) => report(rt, name, &text, agrees),
+        Err(e) => {
+            let _ = eprintln!(rt; "{name}: {e}");
+        }
+    }
+}
+
+fn main(rt: HostRuntime) {
+    replay(&rt, "alignment", alignment::agrees);
+    replay(&rt, "imputation", imputation::agrees);
 }

@@ -3,7 +3,6 @@
 
 use replaying::{replay_file, room};
 use settle_core::settle::settle;
-use std::io;
 
 // Whether the settling program prints just this for an input.
 fn agrees(text: &[u8], expected: &[u8]) -> bool {
@@ -14,9 +13,8 @@ fn agrees(text: &[u8], expected: &[u8]) -> bool {
     }
 }
 
-fn main(rt: HostRuntime) -> io::Result<()> {
+fn main(rt: HostRuntime) {
     for name in ["inputs", "gap", "wrong"] {
-        replay_file(&rt, name, |text, expected| agrees(text, expected))?;
+        replay_file(&rt, name, |text, expected| agrees(text, expected));
     }
-    Ok(())
 }

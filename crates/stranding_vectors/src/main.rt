@@ -3,7 +3,7 @@
 // Its last line is wrong on purpose: a program that reports no difference compares nothing.
 #![tactic(auto)]
 
-use std::{fs, io};
+use std::fs;
 use stranding::{StrandingCounts, strandings};
 use vectors_core::field::pattern;
 
@@ -32,8 +32,7 @@ const NONE: StrandingCounts = StrandingCounts {
     stranded: 0,
 };
 
-fn main(rt: HostRuntime) -> io::Result<()> {
-    let text = fs::read_to_string(&rt, "vectors")?;
+fn report(rt: &impl Print, text: &str) {
     let mut agree = 0u64;
     let mut differ = 0u64;
     let mut broken = 0u64;
@@ -44,6 +43,16 @@ fn main(rt: HostRuntime) -> io::Result<()> {
             None => broken = broken.saturating_add(1),
         }
     }
-    println!(rt; "strandings: agree {agree}, differ {differ}")?;
-    println!(rt; "broken lines: {broken}")
+    let _ = println!(rt; "strandings: agree {agree}, differ {differ}");
+    let _ = println!(rt; "broken lines: {broken}");
+}
+
+fn main(rt: HostRuntime) {
+    let path = "vectors";
+    match fs::read_to_string(&rt, path) {
+        Ok(text) => report(&rt, &text),
+        Err(e) => {
+            let _ = eprintln!(rt; "{path}: {e}");
+        }
+    }
 }

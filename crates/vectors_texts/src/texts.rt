@@ -76,5 +76,6 @@ pub(crate) fn replay_file(
             }
         }
     }
-    tally.report(rt, name)
+    tally.report(rt, name);
+    Ok(())
 }
