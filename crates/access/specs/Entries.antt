@@ -1,6 +1,6 @@
 -- Each entry behind the table (#105): "A withheld call changes nothing, and its answer depends on role, call and table alone". What the entry below gives, by the
 -- definition that its own contract cites, or 22 with everything as it was given.
-use Rattle.std.specs.Prelude.{ℕ, Bool, false, List, [], ◌∷◌, Float, Result, Ok, Err}
+use Rattle.std.specs.Prelude.{ℕ, false, List, [], ◌∷◌, Float, Result, Ok, Err}
 use Rattle.refusal.specs.declared.Refusal.{Refusal}
 use Rattle.refusal.specs.declared.Refusal.TheVariants.{Withheld}
 use Rattle.trcf.specs.Calls.{Call, Learn, Forecast, shingled_point, post_process, drain, invert_extrapolation, status}

@@ -1,6 +1,6 @@
 -- The theorems of request #105 at concrete tables, roles, lists of calls, places and lent memory: their premises can be met, and what they then say is written out.
 -- The granted calls are those of restart_program's instance, so that its text, its answers and its panels must come out.
-use Prim.Native.Nat.{ℕ, ◌+◌, ◌≤◌}
+use Prim.Native.Nat.{ℕ, ◌≤◌}
 use mathlib.Core.Path.{◌≡◌, refl, sym, ap, ◌∙◌, subst}
 use mathlib.Core.Bool.{Bool, true, false}
 use mathlib.Core.List.{List, [], ◌∷◌, ◌++◌, map}
