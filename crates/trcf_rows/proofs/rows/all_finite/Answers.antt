@@ -1,6 +1,6 @@
 -- The test of each number.
 use Rattle.std.specs.Float.{float_is_finite}
-use Rattle.std.proofs.Common.{Bool, List, [], ◌∷◌, ◌≡◌, ◌&&◌, rules, refl}
+use Rattle.std.proofs.Common.{List, ◌∷◌, ◌≡◌, ◌&&◌, rules, refl}
 use Rattle.std.proofs.lemmas.List.Recursion.{and_is}
 use lib.Ieee.{Float, nan, inf, fin}
 use Rattle.trcf.specs.Calls.{finite}
