@@ -7,7 +7,7 @@ use native.Mathlib.Omega.{arith}
 use native.Mathlib.Nat.{not-suc-le-zero, le_of_suc-le-suc}
 use native.Mathlib.Numerals.{add-one}
 use lib.ListN.{length, get_or, set, take, drop, replicate, length-append, length-drop, take-append-drop}
-use lib.Seq.{length-take-le, get_or-take, take-nil, get_or-append-add, get_or-drop, take-suc, drop-cons, set_at, append_snoc, take_at, take-length, take_all, drop-length, set_split, paste}
+use lib.Seq.{length-take-le, append_snoc, take_at, take-length, take_all, drop-length, set_split, paste}
 use Rattle.std.specs.List.{copy_within, slice_get}
 use Rattle.std.specs.Option.{unwrap_or}
 use Rattle.std.proofs.lemmas.List.{take_min}
