@@ -6,7 +6,7 @@ ghost use Rattle.refusal.specs.Refusal.{first_of, row_of};
 ghost use Rattle.refusal.specs.Lent.{over};
 ghost use Rattle.ranges.specs.RangeVector.{Operations, operations_of, settled_by, shifted_by, scaled_by, ranges, held, AreSameLoans, range_at_or, put_at, range_outcome};
 ghost use Rattle.ranges.specs.RangeVector.{range_shift_by, range_scale_by, cascade_by, range_cascaded_add_by, range_new_by, range_from, range_create_by, in_order_by};
-ghost use Rattle.ranges.specs.RangeVector.{unequal_at, unequal, unblocked, shorter_at};
+ghost use Rattle.ranges.specs.RangeVector.{unequal_at, unequal, unblocked, shorter};
 
 use refusal::Refusal;
 
@@ -92,30 +92,9 @@ impl Width for f64 {
     }
 }
 
-// ---- which row refuses: the lengths alone say it
+// ---- lengths
 
-// Row 14: the index lies past one of the lists.
-fn check_index(values: usize, upper: usize, lower: usize, i: usize) -> Result<(), Refusal>
-    ensures value { row_of result ≡ first_of ((leb values i || (leb upper i || leb lower i), 14) ∷ []) }
-    ensures i_lt_values { OnOk result ((i < values) × (i < upper) × (i < lower)) }
-{
-    if values <= i || upper <= i || lower <= i {
-        return Err(Refusal::RelativeIndex);
-    }
-    Ok(())
-}
-
-// Row 20: one of the lists is shorter than what is to be written.
-fn check_room(values: usize, upper: usize, lower: usize, n: usize) -> Result<(), Refusal>
-    ensures value { row_of result ≡ first_of ((shorter_at values upper lower n, 20) ∷ []) }
-    ensures n_le_values { OnOk result ((n ≤ values) × (n ≤ upper) × (n ≤ lower)) }
-{
-    if values < n || upper < n || lower < n {
-        return Err(Refusal::TooShort);
-    }
-    Ok(())
-}
-
+// Of the lists of a range, and of three lists that are to be written to one.
 fn are_unequal(values: usize, upper: usize, lower: usize) -> bool
     ensures { result ≡ unequal_at values upper lower }
 {
@@ -127,17 +106,6 @@ pub fn is_unblocked(base: usize, values: usize) -> bool
     ensures { result ≡ unblocked base values }
 {
     base == 0 || values == 0 || values % base != 0
-}
-
-// Row 16 of the cascade.
-fn check_blocks(base: usize, values: usize, upper: usize, lower: usize) -> Result<(), Refusal>
-    ensures value { row_of result ≡ first_of ((unequal_at values upper lower || unblocked base values, 16) ∷ []) }
-    ensures values_value { OnOk result ((values ≡ upper) × (values ≡ lower)) }
-{
-    if are_unequal(values, upper, lower) || is_unblocked(base, values) {
-        return Err(Refusal::ForecastShape);
-    }
-    Ok(())
 }
 
 // ---- one index
@@ -246,29 +214,6 @@ fn are_in_order<T: Width>(values: &[T], upper: &[T], lower: &[T]) -> bool
     true
 }
 
-// Rows 16, 17 and 20: what is to be written, and the lengths of the lists it is written to.
-fn check_create<T: Width>(
-    v: &[T],
-    u: &[T],
-    l: &[T],
-    values: usize,
-    upper: usize,
-    lower: usize,
-) -> Result<(), Refusal>
-    ensures value { row_of result ≡ first_of ((unequal (ranges v.now u.now l.now), 16)
-        ∷ (not (in_order_by T.operations.at_most v.now u.now l.now), 17)
-        ∷ (shorter_at values upper lower (length v.now), 20) ∷ []) }
-    ensures v_len_bound { OnOk result ((length v.now ≤ values) × (length u.now ≤ upper) × (length l.now ≤ lower)) }
-{
-    if are_unequal(v.len(), u.len(), l.len()) {
-        return Err(Refusal::ForecastShape);
-    }
-    if !are_in_order(v, u, l) {
-        return Err(Refusal::BoundsCrossed);
-    }
-    check_room(values, upper, lower, v.len())
-}
-
 // ---- the three lists
 
 /// A quantity with its upper and lower bounds, in three lists that the caller lends.
@@ -280,6 +225,68 @@ pub struct RangeVector<'a, T> {
 }
 
 impl<T: Width> RangeVector<'_, T> {
+    // ---- which row refuses
+
+    // Row 14: the index lies past one of the lists.
+    fn check_index(&self, i: usize) -> Result<(), Refusal>
+        ensures value { row_of result
+            ≡ first_of ((leb (length self.now.values.now) i || (leb (length self.now.upper.now) i || leb (length self.now.lower.now) i), 14) ∷ []) }
+        ensures i_lt_values { OnOk result
+            ((i < length self.now.values.now) × (i < length self.now.upper.now) × (i < length self.now.lower.now)) }
+    {
+        if self.values.len() <= i || self.upper.len() <= i || self.lower.len() <= i {
+            return Err(Refusal::RelativeIndex);
+        }
+        Ok(())
+    }
+
+    // Row 20: one of the lists is shorter than what is to be written.
+    #[tactic(auto, unfolding(crate::specs::RangeVector::shorter))]
+    fn check_room(&self, n: usize) -> Result<(), Refusal>
+        ensures value { row_of result ≡ first_of ((shorter (held self.now) n, 20) ∷ []) }
+        ensures n_le_values { OnOk result
+            ((n ≤ length self.now.values.now) × (n ≤ length self.now.upper.now) × (n ≤ length self.now.lower.now)) }
+    {
+        if self.values.len() < n || self.upper.len() < n || self.lower.len() < n {
+            return Err(Refusal::TooShort);
+        }
+        Ok(())
+    }
+
+    // Row 16 of the cascade.
+    #[tactic(auto, unfolding(crate::specs::RangeVector::unequal))]
+    fn check_blocks(&self, base: usize) -> Result<(), Refusal>
+        ensures value { row_of result
+            ≡ first_of ((unequal (held self.now) || unblocked base (length self.now.values.now), 16) ∷ []) }
+        ensures values_value { OnOk result
+            ((length self.now.values.now ≡ length self.now.upper.now) × (length self.now.values.now ≡ length self.now.lower.now)) }
+    {
+        let n = self.values.len();
+        if are_unequal(n, self.upper.len(), self.lower.len()) || is_unblocked(base, n) {
+            return Err(Refusal::ForecastShape);
+        }
+        Ok(())
+    }
+
+    // Rows 16, 17 and 20 of what is to be written.
+    fn check_create(&self, v: &[T], u: &[T], l: &[T]) -> Result<(), Refusal>
+        ensures value { row_of result ≡ first_of ((unequal (ranges v.now u.now l.now), 16)
+            ∷ (not (in_order_by T.operations.at_most v.now u.now l.now), 17)
+            ∷ (shorter (held self.now) (length v.now), 20) ∷ []) }
+        ensures v_len_bound { OnOk result ((length v.now ≤ length self.now.values.now)
+            × (length u.now ≤ length self.now.upper.now) × (length l.now ≤ length self.now.lower.now)) }
+    {
+        if are_unequal(v.len(), u.len(), l.len()) {
+            return Err(Refusal::ForecastShape);
+        }
+        if !are_in_order(v, u, l) {
+            return Err(Refusal::BoundsCrossed);
+        }
+        self.check_room(v.len())
+    }
+
+    // ---- at one index
+
     // What stands at index i.
     fn at(&self, i: usize) -> Range<T>
         requires { (i < length self.now.values.now) × (i < length self.now.upper.now) × (i < length self.now.lower.now) }
@@ -335,7 +342,7 @@ impl<T: Width> RangeVector<'_, T> {
         ensures after { range_outcome (row_of result) (held self.new) ≡ range_shift_by T.operations (held self.old) i shift }
         ensures loans { AreSameLoans self.old self.new }
     {
-        check_index(self.values.len(), self.upper.len(), self.lower.len(), i)?;
+        self.check_index(i)?;
         self.shift_at(i, shift);
         Ok(())
     }
@@ -344,7 +351,7 @@ impl<T: Width> RangeVector<'_, T> {
         ensures after { range_outcome (row_of result) (held self.new) ≡ range_scale_by T.operations (held self.old) i scale }
         ensures loans { AreSameLoans self.old self.new }
     {
-        check_index(self.values.len(), self.upper.len(), self.lower.len(), i)?;
+        self.check_index(i)?;
         let r = self.at(i).scale(scale);
         self.put(i, r);
         Ok(())
@@ -355,12 +362,7 @@ impl<T: Width> RangeVector<'_, T> {
         ensures after { range_outcome (row_of result) (held self.new) ≡ range_cascaded_add_by T.operations base.now (held self.old) }
         ensures loans { AreSameLoans self.old self.new }
     {
-        check_blocks(
-            base.len(),
-            self.values.len(),
-            self.upper.len(),
-            self.lower.len(),
-        )?;
+        self.check_blocks(base.len())?;
         self.cascade(base);
         Ok(())
     }
@@ -371,12 +373,7 @@ impl<T: Width> RangeVector<'_, T> {
             ≡ range_new_by T.operations.zero_value dimensions (held self.old) }
         ensures loans { AreSameLoans self.old self.new }
     {
-        check_room(
-            self.values.len(),
-            self.upper.len(),
-            self.lower.len(),
-            dimensions,
-        )?;
+        self.check_room(dimensions)?;
         zero_front(self.values, dimensions);
         zero_front(self.upper, dimensions);
         zero_front(self.lower, dimensions);
@@ -388,12 +385,7 @@ impl<T: Width> RangeVector<'_, T> {
         ensures after { range_outcome (row_of result) (held self.new) ≡ range_from x.now (held self.old) }
         ensures loans { AreSameLoans self.old self.new }
     {
-        check_room(
-            self.values.len(),
-            self.upper.len(),
-            self.lower.len(),
-            x.len(),
-        )?;
+        self.check_room(x.len())?;
         copy_front(self.values, x);
         copy_front(self.upper, x);
         copy_front(self.lower, x);
@@ -406,14 +398,7 @@ impl<T: Width> RangeVector<'_, T> {
             ≡ range_create_by T.operations.at_most (ranges v.now u.now l.now) (held self.old) }
         ensures loans { AreSameLoans self.old self.new }
     {
-        check_create(
-            v,
-            u,
-            l,
-            self.values.len(),
-            self.upper.len(),
-            self.lower.len(),
-        )?;
+        self.check_create(v, u, l)?;
         copy_front(self.values, v);
         copy_front(self.upper, u);
         copy_front(self.lower, l);

@@ -4,7 +4,7 @@ use mathlib.Core.Path.{◌≡◌, sym, ap, ◌∙◌}
 use mathlib.Core.List.{List, [], ◌∷◌, ◌++◌}
 use native.Mathlib.Numerals.{add-one}
 use native.Mathlib.Omega.{arith}
-use lib.ListN.{length, get_or, set, take, drop, replicate, length-append, length-replicate, replicate-append-replicate}
+use lib.ListN.{length, get_or, set, take, drop, length-append}
 use lib.Seq.{drop-cons, set_at, append_snoc, take-suc, length-take-le}
 use Rattle.refusal.specs.Lent.{over}
 
@@ -25,8 +25,3 @@ module _ {A : Type 0} where
   over_copy old src i z h k =
       over_next old (take i src) i (get_or src i z) z (length-take-le i src (omega arith)) (omega arith)
       ∙ ap (over old) (sym (take-suc src i z h) ∙ ap (λ (n : ℕ). take n src) (sym (add-one i)))
-
-  pub over_fill : (old : List A) (i : ℕ) (a : A) → i < length old
-      → set (over old (replicate i a)) i a ≡ over old (replicate (i + 1) a)
-  over_fill old i a h =
-      over_next old (replicate i a) i a a (length-replicate i a) h ∙ ap (over old) (replicate-append-replicate i 1 a)

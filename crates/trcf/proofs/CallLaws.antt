@@ -1,5 +1,5 @@
 -- How the transformer's calls answer, by the number of the row that refuses them.
-use Prim.Native.Nat.{ℕ, zero, suc, ◌*◌, ◌≤◌, ◌<◌}
+use Prim.Native.Nat.{ℕ, zero, suc, ◌*◌, ◌≤◌}
 use mathlib.Core.Path.{◌≡◌, refl, sym, ap, ◌∙◌}
 use mathlib.Core.List.{List, ◌++◌}
 use native.Mathlib.Omega.{arith}
@@ -17,7 +17,6 @@ use Rattle.trcf.proofs.NumberLaws.{number_zero, handed_not}
 use Rattle.refusal.specs.Lent.{over}
 use Rattle.trcf.specs.Transformer.{updated}
 use Rattle.trcf.specs.TransformerCalls.{Made, made, made_from, transformer_output, transformer_answer, own}
-use Rattle.trcf.specs.Steps.Sound.{Sound}
 use Rattle.trcf.specs.declared.transformer.WeightedTransformer.{WeightedTransformer}
 use Rattle.trcf.proofs.TransformerLaws.{updated_length}
 

@@ -68,19 +68,6 @@ feed_again s d v ts i c st st' h e =
     ∙ ap (λ (n : ℕ). feed_all s (c + (i + 1)) st' (reading_at d v ts n) (left d v ts (suc i))) b
     ∙ ap (λ (n : ℕ). feed_all s (c + (i + 1)) st' (reading_at d v ts (i + 1 - 1)) (left d v ts n)) k
 
--- a pass over the first k ends with what was to be fed, wherever it began, where these are all of them
-pub feed_rest : (s : Settings) (d : ℕ) (v : List Float) (ts : List ℕ) (k i c : ℕ) (st st' f : List Float)
-    → feed_all s (c + i) st (reading_at d v ts (i - 1)) (left d v ts i) ≡ f
-    → st' ≡ feed_all s (c + i) st (reading_at d v (take k ts) (i - 1)) (left d v (take k ts) i)
-    → take k ts ≡ ts
-    → st' ≡ f
-feed_rest s d v ts k i c st st' f e h all = h ∙ ap (λ (q : List ℕ). feed_all s (c + i) st (reading_at d v q (i - 1)) (left d v q i)) all ∙ e
-
--- with all of them fed nothing is left to feed
-pub feed_none : (s : Settings) (d : ℕ) (v : List Float) (ts : List ℕ) (c : ℕ) (st : List Float)
-    → feed_all s (c + length ts) st (reading_at d v ts (length ts - 1)) (left d v ts (length ts)) ≡ st
-feed_none s d v ts c st = ap (feed_all s (c + length ts) st (reading_at d v ts (length ts - 1))) (left_none d v ts (length ts) (le_refl (length ts)))
-
 drained_turn : (h : Preprocessor) (n : ℕ) (s x p : List Float) (ts : List ℕ) (m : ℕ) (r : Reading)
     → drain_one (shingling h n s x p ts m) r
     ≡ shingling h n s (shift_in x r.value) (shift_in p (transformed_after (settings_of h) s h.values_seen (previous (holding h s x ts)) r)) (shift_in ts (r.time ∷ [])) (suc m)
@@ -146,12 +133,6 @@ transformed_after_length s st seen p r =
 
 pub block_in : (i n d : ℕ) → i < n → i * d + d ≤ n * d
 block_in i n d h = rw (← suc-mul i d) (mul-le-mul h (le_refl d))
-
--- the first j of the readings lie in the flat list
-pub flat_part : (j n d m : ℕ) → m ≡ n * d → j ≤ n → j * d ≤ m
-flat_part j n d m e h =
-    let p : j * d ≤ n * d = mul-le-mul h (le_refl d) in
-    omega (arith, e)
 
 -- a block of the flat list, as the program cuts it
 pub block_cut : (i d : ℕ) (v : List Float) → take (i * d + d - i * d) (drop (i * d) v) ≡ take d (drop (i * d) v)

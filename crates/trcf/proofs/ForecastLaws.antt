@@ -1,11 +1,11 @@
 -- A forecast turned back keeps the lengths of its three lists. Assumes nothing.
 use Prim.Native.Nat.{ℕ, zero, suc, ◌*◌, ◌/◌}
-use mathlib.Core.Bool.{Bool, true, false, cond, ◌&&◌}
+use mathlib.Core.Bool.{Bool, true, false, cond}
 use mathlib.Core.Path.{◌≡◌, refl, ◌∙◌}
 use mathlib.Core.List.{List}
 use lib.ListN.{length}
 use lib.Ieee.{Float, binary32}
-use Rattle.ranges.specs.RangeVector.{Ranges, cascade_to, unblocked}
+use Rattle.ranges.specs.RangeVector.{Ranges, cascade_to}
 use Rattle.ranges.proofs.RangeLaws.{SameLengths, put_at_lengths, cascade_to_lengths}
 use Rattle.trcf.specs.Types.{differences}
 use Rattle.trcf.specs.Transformer.{Transformer, forecast_to, inverted_forecast}

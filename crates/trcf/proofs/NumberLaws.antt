@@ -3,8 +3,8 @@ use Rattle.std.proofs.Common.{◌≡◌, ℕ, sym, ap, ◌∙◌, arith}
 use Rattle.std.specs.Prelude.{Result, Ok, Err, List, false}
 use Rattle.std.specs.Result.{IsErrAnd}
 use Rattle.refusal.specs.declared.Refusal.{Refusal}
-use Rattle.refusal.specs.Refusal.{number_of, row_of, accepted}
-use Rattle.refusal.proofs.RefusalLaws.{is_numbered, refused_is, handed_on}
+use Rattle.refusal.specs.Refusal.{number_of, row_of}
+use Rattle.refusal.proofs.RefusalLaws.{is_numbered, handed_on}
 use lib.Ieee.{Float}
 use Rattle.trcf.specs.Transformer.{zero32}
 use Rattle.trcf.specs.View.{or_else, Lent, outcome, head_outcome, pointed, point_outcome, learn_outcome, processed_outcome}

@@ -12,7 +12,7 @@ use Rattle.common.specs.Deviation.{zero64}
 use Rattle.trcf.specs.Transformer.{zero32}
 use Rattle.trcf.specs.Settings.{Settings, settings_row, dimension, block}
 use Rattle.trcf.specs.Calls.{Call, scale, shift, status, rows, table}
-use Rattle.trcf.specs.Preprocessor.{State, accepted, statistics_length, fresh, facts, is_ready, panel_of, deviations, Status, status_of}
+use Rattle.trcf.specs.Preprocessor.{State, accepted, statistics_length, fresh, facts, is_ready, deviations, Status, status_of}
 use Rattle.trcf.specs.View.{Lent, lent, view, written_over, row_of, lent_row, or_else, Written, written, write_of, outcome, head_from, no_head, build_row, build_of, settings_of}
 use Rattle.trcf.specs.View.{alone, head_row, counters_unfit, short_row, own_row, ready_of, dimension_of, Bounded, StatusOutcome, no_status, status_after}
 use Rattle.trcf.specs.Steps.Told.{told_by}

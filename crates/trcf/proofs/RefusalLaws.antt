@@ -1,5 +1,5 @@
 -- What the rows of a head and of what is lent say. Assumes nothing.
-use Prim.Native.Nat.{ℕ, zero, suc, ◌≤◌, ◌<◌}
+use Prim.Native.Nat.{ℕ, zero, suc, ◌≤◌}
 use mathlib.Core.Path.{◌≡◌, refl, sym, ap, ◌∙◌}
 use mathlib.Core.Bool.{Bool, true, false, cond, not, ◌&&◌, ◌||◌}
 use mathlib.Core.List.{List, [], ◌∷◌, map}
@@ -9,11 +9,10 @@ use native.Mathlib.Omega.{arith}
 use lib.Dec.{ltb, eqb}
 use lib.ListN.{length, take}
 use Rattle.trcf.specs.Lists.{null}
-use lib.Seq.{take_all}
 use lib.Ieee.{Float}
 use Rattle.common.specs.Deviation.{count_limit}
 use Rattle.trcf.specs.Types.{normalizes}
-use Rattle.trcf.specs.Settings.{Settings, settings_row, waiting}
+use Rattle.trcf.specs.Settings.{Settings, waiting}
 use Rattle.trcf.specs.Calls.{seen_limit}
 use Rattle.trcf.specs.View.{settings_of, initial_room, left_over, miscounted, counters_unfit, or_else}
 use Rattle.trcf.specs.declared.head.Preprocessor.{Preprocessor}

@@ -1,18 +1,18 @@
 -- The rows of a call over the lists and over their lengths, and what a row 0 says of the head and of what is lent. Assumes nothing.
-use Prim.Native.Nat.{ℕ, zero, suc, ◌*◌, ◌≤◌, ◌<◌}
+use Prim.Native.Nat.{ℕ, zero, suc, ◌*◌, ◌≤◌}
 use mathlib.Core.Path.{◌≡◌, refl, sym, ap, ◌∙◌}
 use mathlib.Core.Bool.{Bool, true, false, cond, not, not-not, ◌&&◌, ◌||◌}
 use mathlib.Core.List.{List}
 use native.Mathlib.Omega.{arith}
-use borrow.Author.Tests.{ltb-false, leb-false, eqb-true, eqb-false, ne_eqb}
-use lib.Dec.{ltb, leb, eqb}
+use borrow.Author.Tests.{ltb-false, eqb-true, ne_eqb}
+use lib.Dec.{ltb, eqb}
 use lib.ListN.{length, take}
 use lib.Ieee.{Float}
 use Rattle.trcf.specs.Lists.{null}
-use Rattle.trcf.specs.Settings.{Settings, input_limit, shingle_limit, start_bound, dimension, waiting}
+use Rattle.trcf.specs.Settings.{Settings, dimension, waiting}
 use Rattle.trcf.specs.Calls.{Call, shingled_point, drain, Facts, finite, rows, table, due, drain_full, before_newest}
 use Rattle.trcf.specs.Preprocessor.{statistics_length, facts}
-use Rattle.trcf.specs.View.{Lent, settings_of, view, head_row, initial_room, lengths_of, lent_short, counters_unfit, short_row, lent_row, or_else, row_of, Bounded, Roomy, Fitted, Ready}
+use Rattle.trcf.specs.View.{Lent, settings_of, view, head_row, initial_room, lengths_of, lent_short, counters_unfit, short_row, lent_row, or_else, row_of, Roomy, Fitted}
 use Rattle.trcf.specs.Steps.Rows.{lengths_row, any_of, spent, overdue, past_row, Pointing}
 use Rattle.trcf.specs.declared.head.Preprocessor.{Preprocessor}
 use Rattle.trcf.proofs.RefusalLaws.{or_else_not, any_initial, misfit_few, misfit_room, misfit_counted}

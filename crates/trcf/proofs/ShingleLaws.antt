@@ -2,14 +2,12 @@
 -- Assumes nothing.
 use Prim.Native.Nat.{ℕ, zero, suc, min, ◌+◌, ◌-◌, ◌≤◌, ◌<◌}
 use mathlib.Core.Path.{◌≡◌, refl, sym, ap, ◌∙◌}
-use mathlib.Core.Bool.{Bool, true, false, ◌&&◌}
 use mathlib.Core.List.{List, [], ◌∷◌, ◌++◌}
 use native.Mathlib.Omega.{arith}
 use native.Mathlib.Nat.{not-suc-le-zero, le_of_suc-le-suc}
 use native.Mathlib.Numerals.{add-one}
 use lib.ListN.{length, get_or, set, take, drop, replicate, length-append, length-drop, take-append-drop}
-use lib.Seq.{length-take-le, get_or-take, take-nil, get_or-append-add, get_or-drop, take-suc, drop-cons, set_at, append_snoc, take_at, take-length, take_all, drop-length, set_split, paste}
-use lib.Ieee.{Float, nan, inf, fin, lt}
+use lib.Seq.{length-take-le, append_snoc, take_at, take-length, take_all, drop-length, set_split, paste}
 use Rattle.std.specs.List.{copy_within, slice_get}
 use Rattle.std.specs.Option.{unwrap_or}
 use Rattle.std.proofs.lemmas.List.{take_min}
@@ -18,7 +16,6 @@ use Rattle.std.proofs.lemmas.Slice.{put_mid-paste}
 use borrow.Rule.Slice.PartMut.{put_mid}
 use Rattle.refusal.specs.Lent.{over}
 use Rattle.trcf.specs.Lists.{last_or, shift_in, overwrite}
-use Rattle.trcf.specs.Calls.{finite}
 
 -- ---- shifting in
 
@@ -130,27 +127,7 @@ module _ {A : Type 0} where
       let h : length (y ∷ l) ≡ suc m = omega arith in
       last_or_is x b (y ∷ l) m h
 
--- ---- finite
-
-pub finite_cons : (x : Float) (xs : List Float) → finite (x ∷ xs) ≡ finite (x ∷ []) && finite xs
-unfolding finite
-finite_cons nan xs = refl
-finite_cons (inf s) xs = refl
-finite_cons (fin s m e) xs = refl
-
--- below +∞ it is a number where it is above -∞; not below +∞ it is none
-pub below_top : (v : Float) → lt v (inf false) ≡ true → lt (inf true) v ≡ finite (v ∷ [])
-unfolding finite lt
-below_top nan h = refl
-below_top (inf true) h = refl
-below_top (inf false) h = sym h
-below_top (fin s m e) h = refl
-
-pub not_below_top : (v : Float) → lt v (inf false) ≡ false → false ≡ finite (v ∷ [])
-unfolding finite lt
-not_below_top nan h = refl
-not_below_top (inf s) h = refl
-not_below_top (fin s m e) h = sym h
+-- ---- the last
 
 last_get : (l : List ℕ) → get_or l (length l - 1) 0 ≡ last_or 0 l
 last_get [] = refl

@@ -68,7 +68,9 @@ expected =
     ∷ []
 
 pub samples : given ≡ expected
-unfolding single head given expected transformer_transform transformer_invert transformer_scale transformer_shift transformer_difference_deviations transform_row output_row not_long over transformed inverted scales shifts difference_deviations weight_at unweighted normalized_scale basic_shift statistic_at is_empty mean_of narrowed add sub mul div lt le eq of_int of_bits
+unfolding single head given expected transformer_transform transformer_invert transformer_scale transformer_shift transformer_difference_deviations
+    transform_row output_row not_long over transformed inverted scales shifts difference_deviations weight_at unweighted normalized_scale basic_shift
+    statistic_at is_empty mean_of narrowed add sub mul div lt le eq of_int of_bits
 samples = refl
 
 -- ---- feeding and the forecast
@@ -88,7 +90,8 @@ fed_once = left (transformer_update (head DIFFERENCE) empty (single 4 ∷ []) (s
 
 pub feeding : fed_once
     ≡ (double 1 ∷ double 4 ∷ double 16 ∷ double 1 ∷ double 3 ∷ double 9 ∷ double 1 ∷ zero64 ∷ zero64 ∷ double 1 ∷ double 3 ∷ double 9 ∷ double 1 ∷ zero64 ∷ zero64 ∷ [])
-unfolding single double head fed_once transformer_update update_row not_long over updated channels_fed fed_at put_deviations put_statistic fed deviations_at statistic_at factor_of step_of mean_of deviation_of root_above root_of is_empty add sub mul div lt le eq of_int of_bits
+unfolding single double head fed_once transformer_update update_row not_long over updated channels_fed fed_at put_deviations put_statistic fed deviations_at
+    statistic_at factor_of step_of mean_of deviation_of root_above root_of is_empty add sub mul div lt le eq of_int of_bits
 feeding = refl
 
 -- the drift is then 3: block i is shifted by i × 3 under NONE too,
@@ -109,7 +112,10 @@ inverses =
     range_outcome 0 (ranges w w w) ∷ range_outcome 0 (ranges z z z) ∷ range_outcome 16 (ranges [] [] []) ∷ range_outcome 16 (ranges v v []) ∷ []
 
 pub forecast_samples : forecasts ≡ inverses
-unfolding forecasts inverses single double head fed_once transformer_invert_forecast forecast_row unblocked inverted_forecast forecast_to forecast_at reciprocal weight_at normalized_scale basic_drift basic_shift cascade_to range_at put_at shifted scaled settled narrowed transformer_update update_row not_long over updated channels_fed fed_at put_deviations put_statistic fed deviations_at statistic_at factor_of step_of mean_of deviation_of root_above root_of is_empty add sub mul div lt le eq of_int of_bits
+unfolding forecasts inverses single double head fed_once transformer_invert_forecast forecast_row unblocked inverted_forecast forecast_to forecast_at reciprocal
+    weight_at normalized_scale basic_drift basic_shift cascade_to range_at put_at shifted scaled settled narrowed transformer_update update_row not_long over
+    updated channels_fed fed_at put_deviations put_statistic fed deviations_at statistic_at factor_of step_of mean_of deviation_of root_above root_of is_empty
+    add sub mul div lt le eq of_int of_bits
 forecast_samples = refl
 
 -- ---- the rows of `new` and `update`
@@ -130,5 +136,6 @@ rows =
     ∷ []
 
 pub row_samples : rows ≡ (2 ∷ 4 ∷ 5 ∷ 6 ∷ 9 ∷ 20 ∷ 0 ∷ 0 ∷ 0 ∷ 18 ∷ 10 ∷ [])
-unfolding rows single double transformer_new new_row outside_unit all_one transformer_update update_row not_long over updated channels_fed fed_at put_deviations put_statistic fed deviations_at statistic_at factor_of step_of mean_of deviation_of root_above root_of is_empty add sub mul div lt le eq of_int of_bits
+unfolding rows single double transformer_new new_row outside_unit all_one transformer_update update_row not_long over updated channels_fed fed_at put_deviations
+    put_statistic fed deviations_at statistic_at factor_of step_of mean_of deviation_of root_above root_of is_empty add sub mul div lt le eq of_int of_bits
 row_samples = refl

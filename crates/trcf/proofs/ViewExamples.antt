@@ -21,7 +21,9 @@ use Rattle.trcf.specs.declared.head.Preprocessor.{Preprocessor}
 
 -- opens what a call computes by
 all : Unit {0}
-unfolding build_of build_row settings_row lent_row short_row lent_short counters_unfit written_over fresh over view head_after lent_after row_of head_row rows table facts finite due drain_full newest wrong_length waiting_short learn_full learn_short outside waiting block dimension all_one outside_unit change buffered drain_of drained drain_all drain_one primed previous shift_in overwrite last_n le of_bits
+unfolding build_of build_row settings_row lent_row short_row lent_short counters_unfit written_over fresh over view head_after lent_after row_of head_row rows
+    table facts finite due drain_full newest wrong_length waiting_short learn_full learn_short outside waiting block dimension all_one outside_unit change
+    buffered drain_of drained drain_all drain_one primed previous shift_in overwrite last_n le of_bits
 all = tt
 
 abbrev four : Float

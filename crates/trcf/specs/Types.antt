@@ -35,6 +35,10 @@ mode_letter TIME_AUGMENTED = code "T"
 mode_letter STREAMING_IMPUTE = code "I"
 mode_letter GAP_AUGMENTED = code "G"
 
+-- what a byte names; one that is no mode's letter names none
+abbrev pub ModeLettered : ℕ → Result ForestMode Refusal → Type 0
+ModeLettered n r = MatchResult r (λ m. mode_letter m ≡ n) (λ e. (e ≡ Form) × ((m : ForestMode) → eqb n (mode_letter m) ≡ false))
+
 -- and back; whatever is no letter of a text names the mode that row 1 refuses
 abbrev pub mode_of_letter : ℕ → ForestMode
 mode_of_letter n = cond (eqb n (code "S")) STANDARD (cond (eqb n (code "T")) TIME_AUGMENTED (cond (eqb n (code "G")) GAP_AUGMENTED STREAMING_IMPUTE))

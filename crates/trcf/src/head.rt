@@ -168,6 +168,8 @@ pub fn with_counts(
 }
 
 // What no head that `build` made is refused by.
+// Kept: (d) `Bounded (settings_of head)` stays a clause of one word where a head was tested: a type of bounded heads would be a second struct around this one, taken
+// apart at each field, and the outcome of every call speaks of the head itself.
 #[tactic(auto, unfolding(crate::specs::View::head_row))]
 pub fn head_row(head: Preprocessor) -> Result<(), Refusal>
     ensures value { row_of result ≡ head_row (settings_of head) }
@@ -203,6 +205,7 @@ pub fn initial_room(head: Preprocessor) -> usize
 }
 
 // The numbers in one transformed reading; 0 for more channels than a head can have.
+// Kept: (a) a public function asks nothing of its callers, and what could not fail still cannot, so it answers 0 and no Result.
 #[tactic(auto, unfolding(crate::specs::Lengths::where_fits, crate::specs::Lengths::within))]
 pub fn block_of(m: ForestMode, d: usize) -> usize
     ensures value { result ≡ where_fits (within d 16) (d + cond (augments m) 1 0) 0 }
@@ -215,6 +218,7 @@ pub fn block_of(m: ForestMode, d: usize) -> usize
 }
 
 // The numbers of the statistics of d channels and the time: five of each, three numbers each; 0 for more channels than a head can have.
+// Kept: (a) the 0 for the same reason.
 #[tactic(auto, unfolding(crate::specs::Lengths::where_fits, crate::specs::Lengths::within))]
 pub fn statistics_length(d: usize) -> usize
     ensures { result ≡ where_fits (within d 16) (3 * (5 * d + 5)) 0 }

@@ -111,6 +111,8 @@ pub(crate) fn feed(t: Deviations, x: f64, dx: f64, f: f64, g: f64) -> Deviations
 }
 
 // Each record is read and the five are fed by value; then each is stored back.
+// Kept: (a) document 01 names the form: the five time statistics as a lent list of records, updated in one pass. So the five are laid into a list and taken out of it, by
+// this function and the three after it.
 fn update_timestamps(deviations: &mut [Deviation], x: f64, dx: f64, f: f64, g: f64)
     requires { (length deviations.old ≡ 5) × Feedable f g (gathered deviations.old) }
     ensures { deviations.new ≡ listed (fed (gathered deviations.old) x dx) }

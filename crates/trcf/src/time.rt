@@ -34,6 +34,7 @@ pub(crate) fn timescale_fitting(head: Preprocessor, s: &[f64]) -> f64
 }
 
 // The same; 0 where the head or the list does not fit.
+// Kept: (a) a public function asks nothing of its callers, and what could not fail still cannot, so it answers 0 and no Result.
 #[tactic(auto, unfolding(crate::specs::Lengths::where_fits))]
 pub fn timescale_of(head: Preprocessor, s: &[f64]) -> f64
     ensures { result ≡ where_fits (time_fits (settings_of head) (length s.now)) (timescale (settings_of head) s.now) zero64 }
@@ -55,6 +56,7 @@ pub(crate) fn timedrift_fitting(head: Preprocessor, s: &[f64]) -> f64
 }
 
 // The same; 0 where the head or the list does not fit.
+// Kept: (a) the 0 for the same reason as in `timescale_of`.
 #[tactic(auto, unfolding(crate::specs::Lengths::where_fits))]
 pub fn timedrift_of(head: Preprocessor, s: &[f64]) -> f64
     ensures { result ≡ where_fits (time_fits (settings_of head) (length s.now)) (timedrift (settings_of head) s.now) zero64 }

@@ -1,6 +1,6 @@
 // The kinds that the settings name, under the source's names (trcf/types.rs).
 ghost use Rattle.std.specs.Prelude.{◌≡◌};
-ghost use Rattle.trcf.specs.Types.{method_number, MethodNumbered, method_of_number, mode_letter, mode_of_letter, is_none, normalizes, differences, centres, augments, is_gap};
+ghost use Rattle.trcf.specs.Types.{method_number, MethodNumbered, method_of_number, mode_letter, ModeLettered, mode_of_letter, is_none, normalizes, differences, centres, augments, is_gap};
 
 use refusal::Refusal;
 
@@ -66,7 +66,7 @@ impl TryFrom<u64> for TransformMethod {
 }
 
 // For whoever has refused a number above 5 beforehand: it gives the last.
-// Kept: (d) its one caller, the bench, holds no number above 5, so a Result here would be an arm that never comes.
+// Kept: (d) beside `try_from`: the bench's definition names a method for every number that a line holds, so there is none to refuse (bench_core/specs/Bench: `builder_from`).
 pub fn method_of_number(n: u64) -> TransformMethod
     ensures { result ≡ method_of_number n }
 {
@@ -86,8 +86,26 @@ impl From<ForestMode> for u8 {
     }
 }
 
+// A letter of the four names its mode, I too, which no text has; another byte names none.
+impl TryFrom<u8> for ForestMode {
+    type Error = Refusal;
+
+    ghost try_from_gives = { ModeLettered };
+
+    fn try_from(letter: u8) -> Result<Self, Refusal> {
+        match letter {
+            b'S' => Ok(ForestMode::STANDARD),
+            b'T' => Ok(ForestMode::TIME_AUGMENTED),
+            b'I' => Ok(ForestMode::STREAMING_IMPUTE),
+            b'G' => Ok(ForestMode::GAP_AUGMENTED),
+            _ => Err(Refusal::Form),
+        }
+    }
+}
+
 // What is no letter names the mode that row 1 refuses: the letters are S, T and G.
-// Kept: (d) row 1 is the refusal, so a Result here would refuse the same text a second way.
+// Kept: (d) beside `try_from`: the definitions name a mode for every number that a text holds, and row 1 is the refusal (bench_core/specs/Bench: `builder_from`;
+// snapshot/specs/Read: `mode_from`).
 pub fn mode_of_letter(letter: u64) -> ForestMode
     ensures { result ≡ mode_of_letter letter }
 {

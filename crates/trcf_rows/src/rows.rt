@@ -1,5 +1,5 @@
 // Which row refuses a call. Nothing here writes.
-ghost use Rattle.std.specs.Prelude.{◌≡◌, not, ◌&&◌, ◌||◌, List, [], ◌∷◌, ℕ, ◌+◌, ◌≤◌, ltb, eqb, length, take, Float, OnOk};
+ghost use Rattle.std.specs.Prelude.{◌≡◌, not, ◌&&◌, ◌||◌, List, ℕ, ◌+◌, ◌≤◌, ltb, eqb, length, take, Float, OnOk};
 ghost use Rattle.common.specs.Deviation.{count_limit};
 ghost use Rattle.refusal.specs.Refusal.{row_of};
 ghost use Rattle.trcf.specs.Lists.{null};
@@ -96,19 +96,11 @@ pub fn head_settings_row(head: Preprocessor) -> Result<(), Refusal>
     settings_row(builder, &weights[..n], &codes[..n])
 }
 
-#[tactic(auto, using(trcf::proofs::ShingleLaws::below_top, trcf::proofs::ShingleLaws::not_below_top))]
-fn is_finite(v: f32) -> bool
-    ensures { result ≡ finite (v ∷ []) }
-{
-    let top = 1.0f32 / 0.0f32;
-    v < top && -top < v
-}
-
 // Whether every number is finite.
 pub fn all_finite(x: &[f32]) -> bool
     ensures { result ≡ finite x.now }
 {
-    x.iter().all(|v| is_finite(*v))
+    x.iter().all(|v| v.is_finite())
 }
 
 // Whether a reading is to wait until the statistics have begun.

@@ -14,12 +14,16 @@ told at_most e h = rw e at h
 pub returns-then-not-is_ordered : goal.returns-then-not-is_ordered
 returns-then-not-is_ordered g c =
     let a = c.args in
-    sym (c.loop-i.invariant ∙ in_order_at g.T.Width.operations.at_most g.T.Width.operations.missing a.values.now a.upper.now a.lower.now c.loop-i.i false c.loop-i-test.true c.requires.0 c.requires.1 (told g.T.Width.operations.at_most c.at.ensures (sym c.is_ordered.ensures ∙ not-true _ c.if-not-is_ordered.true-raw)))
+    sym (c.loop-i.invariant
+    ∙ in_order_at g.T.Width.operations.at_most g.T.Width.operations.missing a.values.now a.upper.now a.lower.now c.loop-i.i false c.loop-i-test.true
+    c.requires.0 c.requires.1 (told g.T.Width.operations.at_most c.at.ensures (sym c.is_ordered.ensures ∙ not-true _ c.if-not-is_ordered.true-raw)))
 
 pub loop-i-preserved : goal.loop-i-preserved
 loop-i-preserved g c =
     let a = c.args in
-    c.loop-i.invariant ∙ in_order_at g.T.Width.operations.at_most g.T.Width.operations.missing a.values.now a.upper.now a.lower.now c.loop-i.i true c.loop-i-test.true c.requires.0 c.requires.1 (told g.T.Width.operations.at_most c.at.ensures (sym c.is_ordered.ensures ∙ not-false _ c.if-not-is_ordered.false-raw))
+    c.loop-i.invariant
+    ∙ in_order_at g.T.Width.operations.at_most g.T.Width.operations.missing a.values.now a.upper.now a.lower.now c.loop-i.i true c.loop-i-test.true
+    c.requires.0 c.requires.1 (told g.T.Width.operations.at_most c.at.ensures (sym c.is_ordered.ensures ∙ not-false _ c.if-not-is_ordered.false-raw))
 
 pub returns : goal.returns
 returns g c =

@@ -8,7 +8,14 @@ use Rattle.trcf.proofs.feeding.feed_fitting.Goals as goal
 pub update_channels-requires : goal.update_channels-requires
 update_channels-requires c = let first = c in
     let h = c.requires.count_lt_count_limit in
-    record { sound = search rules; count_lt_count_limit = h; input_len = search rules; previous_len = search rules; f_value = c.next_factor-f.ensures ∙ next_factor_lem _ _ h; g_value = c.next_factor-g.ensures ∙ next_factor_lem _ _ h }
+    record {
+      sound = search rules;
+      count_lt_count_limit = h;
+      input_len = search rules;
+      previous_len = search rules;
+      f_value = c.next_factor-f.ensures ∙ next_factor_lem _ _ h;
+      g_value = c.next_factor-g.ensures ∙ next_factor_lem _ _ h;
+    }
 
 pub feed_at-requires : goal.feed_at-requires
 feed_at-requires c = let made = c in

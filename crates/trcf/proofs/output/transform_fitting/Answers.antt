@@ -22,7 +22,13 @@ pub transform_into-requires : goal.transform_into-requires
 unfolding block
 transform_into-requires c =
     let at_pre = c.requires in
-    let m = le-mul_of_pos_right c.args.head.transformer.input_length at_pre.bounded.k_pos in record { sound = record { some = omega (arith, at_pre); few = omega (arith, at_pre); room = omega (arith, at_pre) }; input_len = omega (arith, at_pre); previous_len = simp (length-drop, length-take) (omega (arith, at_pre)); input_length_in_bounds = omega (arith, at_pre) }
+    let m = le-mul_of_pos_right c.args.head.transformer.input_length at_pre.bounded.k_pos in
+    record {
+      sound = record { some = omega (arith, at_pre); few = omega (arith, at_pre); room = omega (arith, at_pre) };
+      input_len = omega (arith, at_pre);
+      previous_len = simp (length-drop, length-take) (omega (arith, at_pre));
+      input_length_in_bounds = omega (arith, at_pre);
+    }
 
 pub bounds-output-d : goal.bounds-output-d
 bounds-output-d c =

@@ -73,7 +73,8 @@ overflow_sub-result c = less_fits (goal.at.overflow_sub-result c).Else-relative_
 
 pub overflow_cast-result : goal.overflow_cast-result
 overflow_cast-result c =
-    subst (λ (v : ℤ). T (non_neg v) × Fits w64 (nat_abs v)) (sym (back_plain (goal.at.overflow_cast-result c).Else-relative_index-gt0)) (tt, record { fits = omega (arith, back_small (index (goal.at.overflow_cast-result c).Else-relative_index-gt0) (small (goal.at.overflow_cast-result c).Else-relative_index-gt0)) })
+    subst (λ (v : ℤ). T (non_neg v) × Fits w64 (nat_abs v)) (sym (back_plain (goal.at.overflow_cast-result c).Else-relative_index-gt0))
+    (tt, record { fits = omega (arith, back_small (index (goal.at.overflow_cast-result c).Else-relative_index-gt0) (small (goal.at.overflow_cast-result c).Else-relative_index-gt0)) })
 
 pub returns : goal.returns
 returns c = ap nat_abs (back_plain (goal.at.returns c).Else-relative_index-gt0)

@@ -59,8 +59,12 @@ returns-in_err-learning_row c =
     let i : input_row h (length a.input.now) c.all_finite-finite.result c.newest_of-newest.result a.timestamp
     ≡ input_row h (length a.input.now) (finite a.input.now) (newest_of h l.previous_timestamps l.initial_timestamps) a.timestamp = λ j. input_row h (length a.input.now) (f j) (n j) a.timestamp in
     let m = c.places_back-back.ensures ∙ ap back_of (to_z-of_z w32 a.relative_index c.ranges.relative_index) in
-    let g : learning_row h (length (list_in a.y)) (is_some a.y) (length (list_in a.expected)) (is_some a.expected) a.grade c.places_back-back.result (length a.deviations_out.now) (length a.past_out.now) (length a.expected_out.now)
-    ≡ learning_row h (length (list_in a.y)) (is_some a.y) (length (list_in a.expected)) (is_some a.expected) a.grade (back_of a.relative_index) (length a.deviations_out.now) (length a.past_out.now) (length a.expected_out.now) = λ j. learning_row h (length (list_in a.y)) (is_some a.y) (length (list_in a.expected)) (is_some a.expected) a.grade (m j) (length a.deviations_out.now) (length a.past_out.now) (length a.expected_out.now) in
+    let g : learning_row h (length (list_in a.y)) (is_some a.y) (length (list_in a.expected)) (is_some a.expected) a.grade c.places_back-back.result
+    (length a.deviations_out.now) (length a.past_out.now) (length a.expected_out.now)
+    ≡ learning_row h (length (list_in a.y)) (is_some a.y) (length (list_in a.expected)) (is_some a.expected) a.grade (back_of a.relative_index)
+    (length a.deviations_out.now) (length a.past_out.now) (length a.expected_out.now) =
+    λ j. learning_row h (length (list_in a.y)) (is_some a.y) (length (list_in a.expected)) (is_some a.expected) a.grade (m j) (length a.deviations_out.now)
+    (length a.past_out.now) (length a.expected_out.now) in
     let x = c.from_residual-in_err-learning_row.ensures.1 in
     record { value = call_refuses h l p _ _ x o.value (rw (← v, sym (c.in_ok-input_row.ensures ∙ i)) (c.in_err-learning_row.ensures ∙ g)); ready = not_ok _ _ _ x }
 
@@ -80,8 +84,12 @@ returns c =
     let i : input_row h (length a.input.now) c.all_finite-finite.result c.newest_of-newest.result a.timestamp
     ≡ input_row h (length a.input.now) (finite a.input.now) (newest_of h l.previous_timestamps l.initial_timestamps) a.timestamp = λ j. input_row h (length a.input.now) (f j) (n j) a.timestamp in
     let m = c.places_back-back.ensures ∙ ap back_of (to_z-of_z w32 a.relative_index c.ranges.relative_index) in
-    let g : learning_row h (length (list_in a.y)) (is_some a.y) (length (list_in a.expected)) (is_some a.expected) a.grade c.places_back-back.result (length a.deviations_out.now) (length a.past_out.now) (length a.expected_out.now)
-    ≡ learning_row h (length (list_in a.y)) (is_some a.y) (length (list_in a.expected)) (is_some a.expected) a.grade (back_of a.relative_index) (length a.deviations_out.now) (length a.past_out.now) (length a.expected_out.now) = λ j. learning_row h (length (list_in a.y)) (is_some a.y) (length (list_in a.expected)) (is_some a.expected) a.grade (m j) (length a.deviations_out.now) (length a.past_out.now) (length a.expected_out.now) in
+    let g : learning_row h (length (list_in a.y)) (is_some a.y) (length (list_in a.expected)) (is_some a.expected) a.grade c.places_back-back.result
+    (length a.deviations_out.now) (length a.past_out.now) (length a.expected_out.now)
+    ≡ learning_row h (length (list_in a.y)) (is_some a.y) (length (list_in a.expected)) (is_some a.expected) a.grade (back_of a.relative_index)
+    (length a.deviations_out.now) (length a.past_out.now) (length a.expected_out.now) =
+    λ j. learning_row h (length (list_in a.y)) (is_some a.y) (length (list_in a.expected)) (is_some a.expected) a.grade (m j) (length a.deviations_out.now)
+    (length a.past_out.now) (length a.expected_out.now) in
     let d = c.lengths.ensures in
     let z = c.lent_row.ensures in
     let q : rows (settings_of h) (facts (view h l)) p ≡ 0 = rw (← v, sym (c.in_ok-input_row.ensures ∙ i)) (sym (c.in_ok-learning_row.ensures ∙ g)) in

@@ -31,7 +31,8 @@ returns-then-not-all_finite c =
     let a = c.args in
     let l = lent_by a.lists in
     let p = shingled_point a.input.now a.timestamp a.output.now in
-    let q : 11 ≡ rows (settings_of a.head) (facts (view a.head l)) p = rw (point_rows a.head l a.input.now a.timestamp a.output.now, eq-eqb _ _ c.if-input-head.false, sym c.all_finite.ensures ∙ c.if-not-all_finite.true) in
+    let q : 11 ≡ rows (settings_of a.head) (facts (view a.head l)) p =
+    rw (point_rows a.head l a.input.now a.timestamp a.output.now, eq-eqb _ _ c.if-input-head.false, sym c.all_finite.ensures ∙ c.if-not-all_finite.true) in
     record { value = test_refuses a.head l p NotFinite c.in_ok-head_row.ensures.value q; ready = tt }
 
 pub returns-then-is_behind : goal.returns-then-is_behind
@@ -53,7 +54,8 @@ returns-in_err-past_row c =
     let x = c.from_residual-in_err-past_row.ensures.1 in
     record {
       value = call_refuses a.head l p _ _ x c.in_ok-head_row.ensures.value
-          (rw (point_rows a.head l a.input.now a.timestamp a.output.now, eq-eqb _ _ c.if-input-head.false, sym c.all_finite.ensures ∙ c.if-not-all_finite.false, sym b ∙ c.if-is_behind.false) c.in_err-past_row.ensures);
+          (rw (point_rows a.head l a.input.now a.timestamp a.output.now, eq-eqb _ _ c.if-input-head.false, sym c.all_finite.ensures ∙ c.if-not-all_finite.false, sym b ∙ c.if-is_behind.false)
+          c.in_err-past_row.ensures);
       ready = not_ok _ _ _ x;
     }
 
@@ -67,5 +69,6 @@ returns c =
     let n = c.lengths.ensures in
     let z = c.lent_row.ensures in
     let q : rows (settings_of a.head) (facts (view a.head l)) p ≡ 0 =
-    rw (point_rows a.head l a.input.now a.timestamp a.output.now, eq-eqb _ _ c.if-input-head.false, sym c.all_finite.ensures ∙ c.if-not-all_finite.false, sym b ∙ c.if-is_behind.false) (sym c.in_ok-past_row.ensures) in
+    rw (point_rows a.head l a.input.now a.timestamp a.output.now, eq-eqb _ _ c.if-input-head.false, sym c.all_finite.ensures ∙ c.if-not-all_finite.false, sym b ∙ c.if-is_behind.false)
+    (sym c.in_ok-past_row.ensures) in
     record { value = lent_decides a.head l p _ _ o.value q n z; ready = lent_ready a.head l _ _ o.bounded n z }

@@ -37,4 +37,8 @@ returns c =
     let z = c.lent_row.ensures in
     let k = (block_known (c.block_of-n.ensures.value, c.block_of-n.ensures.upper_bound) o.bounded.d_few).0 in
     let q : rows (settings_of a.head) (facts (view a.head l)) (scale a.output.now) ≡ 0 = rw (← k, le-ltb _ _ c.if-output-n.false) in
-    record { value = lent_decides a.head l (scale a.output.now) _ _ o.value q n z; ready = lent_ready a.head l _ _ o.bounded n z; head_in_bounds = when_ok (block (settings_of a.head) ≤ length a.output.now) _ (rw (← k) c.if-output-n.false) }
+    record {
+      value = lent_decides a.head l (scale a.output.now) _ _ o.value q n z;
+      ready = lent_ready a.head l _ _ o.bounded n z;
+      head_in_bounds = when_ok (block (settings_of a.head) ≤ length a.output.now) _ (rw (← k) c.if-output-n.false);
+    }

@@ -1,8 +1,8 @@
--- `rangevector::check_create` meets its contract. The rows in their order. Assumes nothing.
+-- `rangevector::RangeVector::check_create` meets its contract. The rows in their order. Assumes nothing.
 use mathlib.Core.Path.{sym, ◌∙◌}
 use borrow.Author.Tests.{not-true, not-false}
 use Rattle.ranges.specs.RangeVector.{unequal}
-use Rattle.ranges.proofs.rangevector.check_create.Goals as goal
+use Rattle.ranges.proofs.rangevector.RangeVector.check_create.Goals as goal
 
 pub returns-then-are_unequal-clause-value : goal.returns-then-are_unequal-clause-value
 unfolding unequal
