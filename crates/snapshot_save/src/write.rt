@@ -174,11 +174,8 @@ pub(crate) fn cnt_line(out: &mut [u8], at: usize, seen: u64, internal: u64, coun
     requires { at + length (bytes_of_line (cnt_line seen internal count)) ≤ length out.old }
     ensures { Wrote at (bytes_of_line (cnt_line seen internal count)) out.old result out.new }
 {
-    let p = write_name(out, at, 99, 110, 116);
-    let q = tab(out, p, seen);
-    let s = tab(out, q, internal);
-    let t = tab(out, s, count);
-    write_byte(out, t, 10)
+    let counters = [seen, internal, count];
+    list_line(out, at, 99, 110, 116, &counters[..])
 }
 
 // The line of one statistic.
@@ -186,11 +183,8 @@ fn dev_line(out: &mut [u8], at: usize, weight: f64, sum: f64, squares: f64) -> u
     requires { at + 55 ≤ length out.old }
     ensures { Wrote at (bytes_of_line (dev_line weight sum squares)) out.old result out.new }
 {
-    let p = write_name(out, at, 100, 101, 118);
-    let q = tab(out, p, weight);
-    let s = tab(out, q, sum);
-    let t = tab(out, s, squares);
-    write_byte(out, t, 10)
+    let statistic = [weight, sum, squares];
+    list_line(out, at, 100, 101, 118, &statistic[..])
 }
 
 // A line of one initial value and its time.
