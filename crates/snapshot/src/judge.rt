@@ -88,9 +88,9 @@ pub(crate) fn fields<T: Cell>(text: &[u8], at: usize, out: &mut [T]) -> Option<u
 pub fn list_line<T: Cell>(
     text: &[u8],
     at: usize,
-    a: u64,
-    b: u64,
-    c: u64,
+    a: u8,
+    b: u8,
+    c: u8,
     out: &mut [T],
 ) -> Option<usize>
     ensures { Filled (list_line T.read a b c (length out.old) (drop at text.now)) (line_firsts T.read a b c (length out.old) (drop at text.now)) text.now out.old result out.new }

@@ -6,24 +6,18 @@ ghost use Rattle.snapshot.specs.Steps.Scan.{kind_number};
 
 use crate::field::{Field, Kind, parse};
 
-pub(crate) fn wide(x: u8) -> u64
-    ensures { result ≡ x }
-{
-    x as u64
-}
-
 // The place after the byte b, or none where another stands there.
-pub(crate) fn byte(text: &[u8], at: usize, b: u64) -> Option<usize>
+pub(crate) fn byte(text: &[u8], at: usize, b: u8) -> Option<usize>
     ensures { placed result text.now ≡ byte b (drop at text.now) }
 {
-    if at < text.len() && wide(text[at]) == b {
+    if at < text.len() && text[at] == b {
         return Some(at + 1);
     }
     None
 }
 
 // The place after the name of a line, or none.
-pub(crate) fn name(text: &[u8], at: usize, a: u64, b: u64, c: u64) -> Option<usize>
+pub(crate) fn name(text: &[u8], at: usize, a: u8, b: u8, c: u8) -> Option<usize>
     ensures { placed result text.now ≡ name a b c (drop at text.now) }
 {
     let p = byte(text, at, a)?;
@@ -37,7 +31,7 @@ fn field_end(text: &[u8], from: usize) -> usize
     ensures { result ≡ from + field_length (drop from text.now) }
 {
     for i in from..text.len() {
-        if wide(text[i]) <= 10 {
+        if text[i] <= 10 {
             return i;
         }
     }
@@ -61,7 +55,7 @@ fn likely_end(text: &[u8], from: usize, kind: Kind) -> usize
         Kind::Double => 16,
         Kind::Whole => return field_end(text, from),
     };
-    if width < text.len() - from && wide(text[from + width]) <= 10 {
+    if width < text.len() - from && text[from + width] <= 10 {
         return from + width;
     }
     field_end(text, from)
@@ -98,7 +92,7 @@ pub(crate) fn rest_at(text: &[u8], at: usize, kind: Kind) -> Next
 pub(crate) fn field_at(text: &[u8], at: usize, kind: Kind) -> Next
     ensures { result ≡ next_of (kind_number kind) at text.now }
 {
-    if at < text.len() && wide(text[at]) == 9 {
+    if at < text.len() && text[at] == 9 {
         return field_from(text, at + 1, kind);
     }
     Next {

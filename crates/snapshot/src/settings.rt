@@ -4,7 +4,7 @@ ghost use Rattle.snapshot.specs.Scan.{told};
 ghost use Rattle.snapshot.specs.Steps.Judge.{mode_in, method_in, set_test, tail_told, tail_by, set_told, set_by};
 
 use crate::judge::{Cell, fields};
-use crate::piece::{byte, name, wide};
+use crate::piece::{byte, name};
 use common::deviation::outside_unit;
 use trcf::types::{
     ForestMode, INPUT_LIMIT, SHINGLE_LIMIT, START_BOUND, TransformMethod, mode_of_letter,
@@ -16,7 +16,7 @@ fn mode_at(text: &[u8], at: usize) -> Option<ForestMode>
     ensures { told result ≡ mode_in (drop at text.now) }
 {
     if at < text.len() {
-        let mode = mode_of_letter(wide(text[at]));
+        let mode = mode_of_letter(u64::from(text[at]));
         if !is_imputing(mode) {
             return Some(mode);
         }
