@@ -1,5 +1,6 @@
 // Reading a snapshot from left to right (document 01, 'Trace text'): its lists, its lines, and the loops over them. "The first bad field ends
 // the whole reading."
+// Kept: (d) a text and a place, as in piece.rt, which says why.
 ghost use Rattle.std.specs.Prelude.{◌≡◌, ℕ, List, length, drop};
 ghost use Rattle.std.proofs.Math.Option.{Option as Perhaps};
 ghost use Rattle.std.specs.Float.{binary32, binary64};

@@ -1,4 +1,5 @@
 // Each kind of line of a snapshot, as it is read (document 01: taking up).
+// Kept: (d) a text and a place, as in piece.rt, which says why.
 ghost use Rattle.std.specs.Prelude.{◌≡◌, ◌&&◌, ◌+◌, ◌*◌, ◌≤◌, ◌<◌, ltb, length, take, drop, replicate};
 ghost use Rattle.std.specs.Float.{binary32};
 ghost use Rattle.refusal.specs.Lent.{over};

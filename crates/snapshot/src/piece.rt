@@ -1,4 +1,6 @@
 // The pieces of a line (document 01, 'Trace text'): a byte, a name, and the field after a tab.
+// Kept: (d) each function here and above takes the text and a place and answers the place after what it read: the text stays the same, so that a `FieldReader` would be
+// taken apart and built again at each call (`next_field` builds one for each field, as document 01's form asks).
 ghost use Rattle.std.specs.Prelude.{◌≡◌, ◌+◌, ◌≤◌, ◌<◌, length, drop};
 ghost use Rattle.snapshot.specs.Steps.Judge.{placed, byte, name, field_length, rest_field, next_of};
 ghost use Rattle.snapshot.specs.Steps.Likely.{likely, from_of};

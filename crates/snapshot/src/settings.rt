@@ -1,4 +1,5 @@
 // The first line of a snapshot, the settings (document 01, 'Trace text': `set`).
+// Kept: (d) a text and a place, as in piece.rt, which says why.
 ghost use Rattle.std.specs.Prelude.{◌≡◌, length, drop};
 ghost use Rattle.snapshot.specs.Scan.{told};
 ghost use Rattle.snapshot.specs.Steps.Judge.{mode_in, method_in, set_test, tail_told, tail_by, set_told, set_by};

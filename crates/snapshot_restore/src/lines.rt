@@ -1,4 +1,5 @@
 // Runs of lines of a snapshot (document 01: taking up), one after the other: each is left at its first bad line.
+// Kept: (d) a text and a place, as in snapshot/src/piece.rt, which says why.
 ghost use Rattle.std.specs.Prelude.{◌≡◌, ◌+◌, ◌*◌, ◌≤◌, ◌<◌, length, drop, IfErr};
 ghost use Rattle.snapshot.specs.Steps.Runs.{ran_by, devs, bufs, initial_lists, unkept, parts, parts_by};
 
@@ -39,7 +40,8 @@ pub(crate) fn part_lines(
 ) -> Result<usize, BadLine>
     requires statistics_len { length statistics.old ≡ n * 3 }
     requires n_bound { n ≤ 2000 }
-    ensures text_after { ran_by result (parts statistics.new input.new point.new times.new) text.now ≡ parts_by internal n (length input.old) (length point.old) (length times.old) (drop at text.now) }
+    ensures text_after { ran_by result (parts statistics.new input.new point.new times.new) text.now ≡
+        parts_by internal n (length input.old) (length point.old) (length times.old) (drop at text.now) }
     ensures bad_bound { IfErr result (λ bad. bad.line ≤ n + 3) }
 {
     let p = dev_lines(text, at, n, statistics)?;

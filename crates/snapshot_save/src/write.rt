@@ -1,5 +1,6 @@
 // Writing a snapshot into lent bytes, field by field (document 01, 'Trace text'). Each function stores its bytes from the place `at` on
 // and returns the place after them.
+// Kept: (d) a writer struct would hold the lent bytes and the place: lent mutably, it would need a clause on its loan in each contract beside `Wrote`.
 ghost use Rattle.std.specs.Prelude.{◌≡◌, ℕ, List, [], ◌∷◌, ◌++◌, map, ◌+◌, ◌*◌, ◌≤◌, ◌<◌, length};
 ghost use Rattle.std.specs.Float.{binary32, binary64};
 ghost use Rattle.std.specs.Float.Ieee.{to_bits};
