@@ -1,7 +1,7 @@
 // The pieces of a line (document 01, 'Trace text'): a byte, a name, and the field after a tab.
-// Kept: (d) each function here and above takes the text and a place and answers the place after what it read: the text stays the same, so that a `FieldReader` would be
-// taken apart and built again at each call (`next_field` builds one for each field, as document 01's form asks).
-ghost use Rattle.std.specs.Prelude.{◌≡◌, ◌+◌, ◌≤◌, ◌<◌, length, drop};
+// Kept: (d) each function here and of those that use it takes the text and a place and answers the place after what it read: the text stays the same, so that a
+// `FieldReader` would be taken apart and built again at each call (`next_field` builds one for each field, as the form of document 01 asks).
+ghost use Rattle.std.specs.Prelude.{◌≡◌, ◌+◌, ◌≤◌, ◌<◌, length, get_or, drop};
 ghost use Rattle.snapshot.specs.Steps.Judge.{placed, byte, name, field_length, rest_field, next_of};
 ghost use Rattle.snapshot.specs.Steps.Likely.{likely, from_of};
 ghost use Rattle.snapshot.specs.Steps.Scan.{kind_number};
@@ -19,12 +19,12 @@ pub(crate) fn byte(text: &[u8], at: usize, b: u8) -> Option<usize>
 }
 
 // The place after the name of a line, or none.
-pub(crate) fn name(text: &[u8], at: usize, a: u8, b: u8, c: u8) -> Option<usize>
-    ensures { placed result text.now ≡ name a b c (drop at text.now) }
+pub(crate) fn name(text: &[u8], at: usize, letters: [u8; 3]) -> Option<usize>
+    ensures { placed result text.now ≡ name (get_or letters 0 0) (get_or letters 1 0) (get_or letters 2 0) (drop at text.now) }
 {
-    let p = byte(text, at, a)?;
-    let q = byte(text, p, b)?;
-    byte(text, q, c)
+    let p = byte(text, at, letters[0])?;
+    let q = byte(text, p, letters[1])?;
+    byte(text, q, letters[2])
 }
 
 // The next tab or LF, or the end of the text.

@@ -136,7 +136,7 @@ fn write_head(out: &mut [u8], head: Preprocessor) -> usize
         t.transform_decay,
         head.weight_time,
     );
-    let q = singles_line(out, p, 119, 103, 116, &weights[..d]);
+    let q = singles_line(out, p, *b"wgt", &weights[..d]);
     let r = write_codes(out, q, head);
     cnt_line(
         out,
@@ -156,8 +156,8 @@ fn write_lists(out: &mut [u8], at: usize, d: usize, lists: LentLists) -> usize
         lists.entry.previous_timestamps.now lists.entry.initial_values.now lists.entry.initial_timestamps.now) out.old result out.new }
 {
     let p = dev_lines(out, at, lists.statistics);
-    let q = singles_line(out, p, 105, 110, 112, lists.last_shingled_input);
-    let r = singles_line(out, q, 112, 110, 116, lists.last_shingled_point);
+    let q = singles_line(out, p, *b"inp", lists.last_shingled_input);
+    let r = singles_line(out, q, *b"pnt", lists.last_shingled_point);
     let s = tim_line(out, r, lists.previous_timestamps);
     buf_lines(out, s, d, lists.initial_values, lists.initial_timestamps)
 }

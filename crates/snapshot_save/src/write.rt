@@ -72,13 +72,13 @@ pub(crate) fn write_byte(out: &mut [u8], at: usize, b: u8) -> usize
 }
 
 // The name of a line.
-fn write_name(out: &mut [u8], at: usize, a: u8, b: u8, c: u8) -> usize
+fn write_name(out: &mut [u8], at: usize, name: [u8; 3]) -> usize
     requires { at + 3 ≤ length out.old }
-    ensures { Wrote at (a ∷ b ∷ c ∷ []) out.old result out.new }
+    ensures { Wrote at name out.old result out.new }
 {
-    let p = write_byte(out, at, a);
-    let q = write_byte(out, p, b);
-    write_byte(out, q, c)
+    let p = write_byte(out, at, name[0]);
+    let q = write_byte(out, p, name[1]);
+    write_byte(out, q, name[2])
 }
 
 // What is written into a field.
@@ -137,21 +137,21 @@ pub(crate) fn tabs<T: Cell>(out: &mut [u8], at: usize, v: &[T]) -> usize
 }
 
 // A line of a name and fields of one kind.
-fn list_line<T: Cell>(out: &mut [u8], at: usize, a: u8, b: u8, c: u8, v: &[T]) -> usize
-    requires { at + length ((a ∷ b ∷ c ∷ []) ++ (tabbed (map T.text v.now) ++ (10 ∷ []))) ≤ length out.old }
-    ensures { Wrote at ((a ∷ b ∷ c ∷ []) ++ (tabbed (map T.text v.now) ++ (10 ∷ []))) out.old result out.new }
+fn list_line<T: Cell>(out: &mut [u8], at: usize, name: [u8; 3], v: &[T]) -> usize
+    requires { at + length (name ++ (tabbed (map T.text v.now) ++ (10 ∷ []))) ≤ length out.old }
+    ensures { Wrote at (name ++ (tabbed (map T.text v.now) ++ (10 ∷ []))) out.old result out.new }
 {
-    let p = write_name(out, at, a, b, c);
+    let p = write_name(out, at, name);
     let q = tabs(out, p, v);
     write_byte(out, q, 10)
 }
 
 // A line of f32: `wgt`, `inp`, `pnt`.
-pub(crate) fn singles_line(out: &mut [u8], at: usize, a: u8, b: u8, c: u8, v: &[f32]) -> usize
-    requires { at + length (bytes_of_line (singles (a ∷ b ∷ c ∷ []) v.now)) ≤ length out.old }
-    ensures { Wrote at (bytes_of_line (singles (a ∷ b ∷ c ∷ []) v.now)) out.old result out.new }
+pub(crate) fn singles_line(out: &mut [u8], at: usize, name: [u8; 3], v: &[f32]) -> usize
+    requires { at + length (bytes_of_line (singles name v.now)) ≤ length out.old }
+    ensures { Wrote at (bytes_of_line (singles name v.now)) out.old result out.new }
 {
-    list_line(out, at, a, b, c, v)
+    list_line(out, at, name, v)
 }
 
 // The line of the last times.
@@ -159,7 +159,7 @@ pub(crate) fn tim_line(out: &mut [u8], at: usize, v: &[u64]) -> usize
     requires { at + length (bytes_of_line (tim_line v.now)) ≤ length out.old }
     ensures { Wrote at (bytes_of_line (tim_line v.now)) out.old result out.new }
 {
-    list_line(out, at, 116, 105, 109, v)
+    list_line(out, at, *b"tim", v)
 }
 
 // The line of the codes.
@@ -167,7 +167,7 @@ pub(crate) fn chn_line(out: &mut [u8], at: usize, v: &[u64]) -> usize
     requires { at + length (bytes_of_line (chn_line v.now)) ≤ length out.old }
     ensures { Wrote at (bytes_of_line (chn_line v.now)) out.old result out.new }
 {
-    list_line(out, at, 99, 104, 110, v)
+    list_line(out, at, *b"chn", v)
 }
 
 // The line of the counters.
@@ -176,7 +176,7 @@ pub(crate) fn cnt_line(out: &mut [u8], at: usize, seen: u64, internal: u64, coun
     ensures { Wrote at (bytes_of_line (cnt_line seen internal count)) out.old result out.new }
 {
     let counters = [seen, internal, count];
-    list_line(out, at, 99, 110, 116, &counters[..])
+    list_line(out, at, *b"cnt", &counters[..])
 }
 
 // The line of one statistic.
@@ -185,7 +185,7 @@ fn dev_line(out: &mut [u8], at: usize, weight: f64, sum: f64, squares: f64) -> u
     ensures { Wrote at (bytes_of_line (dev_line weight sum squares)) out.old result out.new }
 {
     let statistic = [weight, sum, squares];
-    list_line(out, at, 100, 101, 118, &statistic[..])
+    list_line(out, at, *b"dev", &statistic[..])
 }
 
 // A line of one initial value and its time.
@@ -193,7 +193,7 @@ fn buf_line(out: &mut [u8], at: usize, time: u64, v: &[f32]) -> usize
     requires { at + length (bytes_of_line (buf_line time v.now)) ≤ length out.old }
     ensures { Wrote at (bytes_of_line (buf_line time v.now)) out.old result out.new }
 {
-    let p = write_name(out, at, 98, 117, 102);
+    let p = write_name(out, at, *b"buf");
     let q = tab(out, p, time);
     let s = tabs(out, q, v);
     write_byte(out, s, 10)
@@ -216,7 +216,7 @@ pub(crate) fn set_line(
     ensures { Wrote at (set_bytes letter method d k start stop decay weight_time) out.old result out.new }
 {
     let wholes = [method, d, k, start, stop];
-    let p = write_name(out, at, 115, 101, 116);
+    let p = write_name(out, at, *b"set");
     let q = write_byte(out, p, 9);
     let s = write_byte(out, q, letter);
     let t = tabs(out, s, &wholes[..]);
