@@ -118,24 +118,7 @@ fn write_head(out: &mut [u8], head: Preprocessor) -> usize
     let t = head.transformer;
     let d = t.input_length;
     let weights = t.weights;
-    let mode = head.forest_mode;
-    let kind = t.transform_method;
-    let letter = u8::from(mode);
-    let method = u64::from(kind);
-    let start = head.start_normalization as u64;
-    let stop = head.stop_normalization as u64;
-    let p = set_line(
-        out,
-        0,
-        letter,
-        method,
-        d as u64,
-        head.shingle_size as u64,
-        start,
-        stop,
-        t.transform_decay,
-        head.weight_time,
-    );
+    let p = set_line(out, 0, head);
     let q = singles_line(out, p, *b"wgt", &weights[..d]);
     let r = write_codes(out, q, head);
     cnt_line(

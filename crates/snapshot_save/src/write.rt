@@ -4,9 +4,12 @@
 ghost use Rattle.std.specs.Prelude.{◌≡◌, ℕ, List, [], ◌∷◌, ◌++◌, map, ◌+◌, ◌*◌, ◌≤◌, ◌<◌, length};
 ghost use Rattle.std.specs.Float.{binary32, binary64};
 ghost use Rattle.std.specs.Float.Ieee.{to_bits};
-ghost use Rattle.snapshot.specs.Text.{whole, digit, hex, float, bytes_of, singles, chn_line, cnt_line, dev_line, dev_lines, tim_line, buf_line, buf_lines};
+ghost use Rattle.trcf.specs.View.{settings_of};
+ghost use Rattle.snapshot.specs.Text.{whole, digit, hex, float, bytes_of, singles, set_line, chn_line, cnt_line, dev_line, dev_lines, tim_line, buf_line, buf_lines};
 ghost use Rattle.snapshot.specs.Read.{bytes_of_line};
-ghost use Rattle.snapshot.specs.Steps.Write.{Wrote, tabbed, set_bytes};
+ghost use Rattle.snapshot.specs.Steps.Write.{Wrote, tabbed};
+
+use trcf::head::Preprocessor;
 
 // A lower-case hexadecimal digit.
 fn hex_digit(n: u64) -> u8
@@ -199,29 +202,28 @@ fn buf_line(out: &mut [u8], at: usize, time: u64, v: &[f32]) -> usize
     write_byte(out, s, 10)
 }
 
-// The line of the settings, from the letter of the mode and the number of the method.
-pub(crate) fn set_line(
-    out: &mut [u8],
-    at: usize,
-    letter: u8,
-    method: u64,
-    d: u64,
-    k: u64,
-    start: u64,
-    stop: u64,
-    decay: f64,
-    weight_time: f32,
-) -> usize
-    requires { at + length (set_bytes letter method d k start stop decay weight_time) ≤ length out.old }
-    ensures { Wrote at (set_bytes letter method d k start stop decay weight_time) out.old result out.new }
+// The line of the settings, with the letter of the mode and the number of the method.
+pub(crate) fn set_line(out: &mut [u8], at: usize, head: Preprocessor) -> usize
+    requires { at + length (bytes_of_line (set_line (settings_of head))) ≤ length out.old }
+    ensures { Wrote at (bytes_of_line (set_line (settings_of head))) out.old result out.new }
 {
-    let wholes = [method, d, k, start, stop];
+    let mode = head.forest_mode;
+    let kind = head.transformer.transform_method;
+    let letter = u8::from(mode);
+    let method = u64::from(kind);
+    let wholes = [
+        method,
+        head.transformer.input_length as u64,
+        head.shingle_size as u64,
+        head.start_normalization as u64,
+        head.stop_normalization as u64,
+    ];
     let p = write_name(out, at, *b"set");
     let q = write_byte(out, p, 9);
     let s = write_byte(out, q, letter);
     let t = tabs(out, s, &wholes[..]);
-    let u = tab(out, t, decay);
-    let v = tab(out, u, weight_time);
+    let u = tab(out, t, head.transformer.transform_decay);
+    let v = tab(out, u, head.weight_time);
     write_byte(out, v, 10)
 }
 
