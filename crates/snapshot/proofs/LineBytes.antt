@@ -25,6 +25,16 @@ pub chn_bytes : (v : List ℕ) → (99 ∷ 104 ∷ 110 ∷ []) ++ (tabbed (map w
 unfolding chn_line
 chn_bytes v = ap (λ (t : List ℕ). 99 ∷ 104 ∷ 110 ∷ t) (sym (behind_tabbed (map whole v)))
 
+pub cnt_bytes : (a b c : ℕ)
+    → (99 ∷ 110 ∷ 116 ∷ []) ++ (tabbed (map whole (a ∷ b ∷ c ∷ [])) ++ (10 ∷ [])) ≡ bytes_of_line (cnt_line a b c)
+unfolding cnt_line
+cnt_bytes a b c = ap (λ (t : List ℕ). 99 ∷ 110 ∷ 116 ∷ t) (sym (behind_tabbed (map whole (a ∷ b ∷ c ∷ []))))
+
+pub dev_bytes : (a b c : Float)
+    → (100 ∷ 101 ∷ 118 ∷ []) ++ (tabbed (map (float binary64) (a ∷ b ∷ c ∷ [])) ++ (10 ∷ [])) ≡ bytes_of_line (dev_line a b c)
+unfolding dev_line
+dev_bytes a b c = ap (λ (t : List ℕ). 100 ∷ 101 ∷ 118 ∷ t) (sym (behind_tabbed (map (float binary64) (a ∷ b ∷ c ∷ []))))
+
 pub buf_bytes : (t : ℕ) (v : List Float)
     → (98 ∷ 117 ∷ 102 ∷ []) ++ ((9 ∷ whole t) ++ (tabbed (map (float binary32) v) ++ (10 ∷ []))) ≡ bytes_of_line (buf_line t v)
 unfolding buf_line

@@ -5,7 +5,7 @@ use native.Mathlib.Omega.{arith}
 use mathlib.Core.Path.{◌≡◌, refl, sym, ap, ◌∙◌, subst}
 use mathlib.Core.Bool.{Bool, true, false}
 use mathlib.Core.List.{List, [], ◌∷◌, ◌++◌, map, append_assoc}
-use lib.ListN.{length, set, drop, length-append, length-set}
+use lib.ListN.{length, set, drop, get_or, length-append, length-set}
 use lib.Seq.{sets, sets-eq, set_comm}
 use lib.Dec.{ltb}
 use lib.Ieee.{Float, Format, binary32, to_bits}
@@ -102,6 +102,14 @@ pub floats_length : (l : List Float) → length (tabbed (map (float binary32) l)
 floats_length [] = refl
 floats_length (x ∷ xs) =
     ap suc (length-append (float binary32 x) (tabbed (map (float binary32) xs))) ∙ omega (arith, float_length binary32 x, floats_length xs)
+
+-- three bytes of a list of three
+pub three_of : (l : List ℕ) → length l ≡ 3 → get_or l 0 0 ∷ get_or l 1 0 ∷ get_or l 2 0 ∷ [] ≡ l
+three_of [] h = absurd (omega (arith, h))
+three_of (a ∷ []) h = absurd (omega (arith, h))
+three_of (a ∷ (b ∷ [])) h = absurd (omega (arith, h))
+three_of (a ∷ (b ∷ (c ∷ []))) h = refl
+three_of (a ∷ (b ∷ (c ∷ (d ∷ l)))) h = absurd (omega (arith, h))
 
 pub behind_tabbed : (fs : List (List ℕ)) → tabbed_fields fs ≡ tabbed fs ++ (10 ∷ [])
 behind_tabbed [] = refl

@@ -1,4 +1,6 @@
 // A field whose tab was read before, out of a text that comes in pieces: the bench reads its fields by these, through the field reader.
+// Kept: (a) `single`, `double` and `whole` promise what those of `field` promise; that the bench reads by the field reader is the named form of document 01
+// (docs/DECISIONS.md, 'The named forms of document 01').
 ghost use Rattle.std.specs.Prelude.{◌≡◌};
 ghost use Rattle.std.specs.Float.{binary32, binary64};
 ghost use Rattle.snapshot.specs.Read.{as_whole, as_float};

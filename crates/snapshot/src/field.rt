@@ -5,13 +5,11 @@ ghost use Rattle.snapshot.specs.Scan.{number_of, single_of, double_of};
 ghost use Rattle.snapshot.specs.Steps.Scan.{lead, hex_of, hscan, sized, whole_of, kind_number, field_of};
 ghost use Rattle.snapshot.specs.Read.{as_whole, as_float};
 
-use crate::piece::wide;
-
 // Not empty, and no zero before another digit.
 fn leads(c: &[u8]) -> bool
     ensures { result ≡ lead c.now }
 {
-    !c.is_empty() && (c.len() == 1 || wide(c[0]) != 48)
+    !c.is_empty() && (c.len() == 1 || c[0] != 48)
 }
 
 // A whole number: decimal, without leading zeros, at most 2^64 - 1.
@@ -23,7 +21,7 @@ pub fn whole(c: &[u8]) -> Option<u64>
     }
     let mut n: u64 = 0;
     for x in c {
-        let b = wide(*x);
+        let b = u64::from(*x);
         if b < 48 || 57 < b {
             return None;
         }

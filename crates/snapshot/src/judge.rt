@@ -1,6 +1,7 @@
 // Reading a snapshot from left to right (document 01, 'Trace text'): its lists, its lines, and the loops over them. "The first bad field ends
 // the whole reading."
-ghost use Rattle.std.specs.Prelude.{◌≡◌, ℕ, List, length, drop};
+// Kept: (d) a text and a place, as in piece.rt, which says why.
+ghost use Rattle.std.specs.Prelude.{◌≡◌, ℕ, List, length, get_or, drop};
 ghost use Rattle.std.proofs.Math.Option.{Option as Perhaps};
 ghost use Rattle.std.specs.Float.{binary32, binary64};
 ghost use Rattle.snapshot.specs.Read.{as_whole, as_float};
@@ -85,17 +86,11 @@ pub(crate) fn fields<T: Cell>(text: &[u8], at: usize, out: &mut [T]) -> Option<u
 }
 
 // A line of a name and as many fields as `out` is long, and the place after it.
-pub fn list_line<T: Cell>(
-    text: &[u8],
-    at: usize,
-    a: u64,
-    b: u64,
-    c: u64,
-    out: &mut [T],
-) -> Option<usize>
-    ensures { Filled (list_line T.read a b c (length out.old) (drop at text.now)) (line_firsts T.read a b c (length out.old) (drop at text.now)) text.now out.old result out.new }
+pub fn list_line<T: Cell>(text: &[u8], at: usize, letters: [u8; 3], out: &mut [T]) -> Option<usize>
+    ensures { Filled (list_line T.read (get_or letters 0 0) (get_or letters 1 0) (get_or letters 2 0) (length out.old) (drop at text.now))
+        (line_firsts T.read (get_or letters 0 0) (get_or letters 1 0) (get_or letters 2 0) (length out.old) (drop at text.now)) text.now out.old result out.new }
 {
-    let p = name(text, at, a, b, c)?;
+    let p = name(text, at, letters)?;
     let q = fields(text, p, out)?;
     byte(text, q, 10)
 }

@@ -1,4 +1,5 @@
 // Each kind of line of a snapshot, as it is read (document 01: taking up).
+// Kept: (d) a text and a place, as in piece.rt, which says why.
 ghost use Rattle.std.specs.Prelude.{◌≡◌, ◌&&◌, ◌+◌, ◌*◌, ◌≤◌, ◌<◌, ltb, length, take, drop, replicate};
 ghost use Rattle.std.specs.Float.{binary32};
 ghost use Rattle.refusal.specs.Lent.{over};
@@ -33,7 +34,7 @@ pub(crate) fn wgt_line(
 ) -> Option<usize>
     ensures { Filled (wgt_by method (length out.old) (drop at text.now)) (line_firsts (as_float binary32) 119 103 116 (length out.old) (drop at text.now)) text.now out.old result out.new }
 {
-    let place = list_line(text, at, 119, 103, 116, out);
+    let place = list_line(text, at, *b"wgt", out);
     if !weights_fit(method, out) {
         return None;
     }
@@ -52,7 +53,7 @@ pub(crate) struct Coded {
 fn chn_codes(text: &[u8], at: usize, out: &mut [u64]) -> Option<usize>
     ensures { Filled (chn_by (length out.old) (drop at text.now)) (line_firsts as_whole 99 104 110 (length out.old) (drop at text.now)) text.now out.old result out.new }
 {
-    let place = list_line(text, at, 99, 104, 110, out);
+    let place = list_line(text, at, *b"chn", out);
     if !codes_fit(out) {
         return None;
     }
@@ -93,7 +94,7 @@ fn times_fit(internal: usize, times: &[u64]) -> bool
 pub fn tim_line(text: &[u8], at: usize, internal: usize, out: &mut [u64]) -> Option<usize>
     ensures { Filled (tim_by internal (length out.old) (drop at text.now)) (line_firsts as_whole 116 105 109 (length out.old) (drop at text.now)) text.now out.old result out.new }
 {
-    let place = list_line(text, at, 116, 105, 109, out);
+    let place = list_line(text, at, *b"tim", out);
     if !times_fit(internal, out) {
         return None;
     }
@@ -136,7 +137,7 @@ pub(crate) fn cnt_line(
     ensures { cnt_told result text.now ≡ cnt_by method start (drop at text.now) }
 {
     let mut n = [0u64; 3];
-    let end = list_line(text, at, 99, 110, 116, &mut n[..])?;
+    let end = list_line(text, at, *b"cnt", &mut n[..])?;
     let [seen, internal, count] = n;
     if !counts_fit(method, start, seen, internal, count) {
         return None;
@@ -160,7 +161,7 @@ pub struct Timed {
 pub fn buf_line(text: &[u8], at: usize, past: u64, out: &mut [f32]) -> Option<Timed>
     ensures { FilledWith (buf_by (length out.old) past (drop at text.now)) (buf_firsts (length out.old) (drop at text.now)) text.now out.old result out.new }
 {
-    let p = name(text, at, 98, 117, 102)?;
+    let p = name(text, at, *b"buf")?;
     let (time, q) = u64::cell(text, p)?;
     let r = fields(text, q, out)?;
     if time < past || !all_finite(out) {

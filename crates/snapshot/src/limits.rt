@@ -10,7 +10,7 @@ use trcf::types::{ForestMode, INPUT_LIMIT, SHINGLE_LIMIT, START_BOUND, is_augmen
 pub fn time_width(m: ForestMode) -> usize
     ensures { result ≡ cond (augments m) 1 0 }
 {
-    if is_augmented(m) { 1 } else { 0 }
+    usize::from(is_augmented(m))
 }
 
 // Whether a number is past the limits, or a lent list is shorter than what is in use of it; a time of more than one number is past them too.

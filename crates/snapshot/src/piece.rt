@@ -1,34 +1,30 @@
 // The pieces of a line (document 01, 'Trace text'): a byte, a name, and the field after a tab.
-ghost use Rattle.std.specs.Prelude.{◌≡◌, ◌+◌, ◌≤◌, ◌<◌, length, drop};
+// Kept: (d) each function here and of those that use it takes the text and a place and answers the place after what it read: the text stays the same, so that a
+// `FieldReader` would be taken apart and built again at each call (`next_field` builds one for each field, as the form of document 01 asks).
+ghost use Rattle.std.specs.Prelude.{◌≡◌, ◌+◌, ◌≤◌, ◌<◌, length, get_or, drop};
 ghost use Rattle.snapshot.specs.Steps.Judge.{placed, byte, name, field_length, rest_field, next_of};
 ghost use Rattle.snapshot.specs.Steps.Likely.{likely, from_of};
 ghost use Rattle.snapshot.specs.Steps.Scan.{kind_number};
 
 use crate::field::{Field, Kind, parse};
 
-pub(crate) fn wide(x: u8) -> u64
-    ensures { result ≡ x }
-{
-    x as u64
-}
-
 // The place after the byte b, or none where another stands there.
-pub(crate) fn byte(text: &[u8], at: usize, b: u64) -> Option<usize>
+pub(crate) fn byte(text: &[u8], at: usize, b: u8) -> Option<usize>
     ensures { placed result text.now ≡ byte b (drop at text.now) }
 {
-    if at < text.len() && wide(text[at]) == b {
+    if at < text.len() && text[at] == b {
         return Some(at + 1);
     }
     None
 }
 
 // The place after the name of a line, or none.
-pub(crate) fn name(text: &[u8], at: usize, a: u64, b: u64, c: u64) -> Option<usize>
-    ensures { placed result text.now ≡ name a b c (drop at text.now) }
+pub(crate) fn name(text: &[u8], at: usize, letters: [u8; 3]) -> Option<usize>
+    ensures { placed result text.now ≡ name (get_or letters 0 0) (get_or letters 1 0) (get_or letters 2 0) (drop at text.now) }
 {
-    let p = byte(text, at, a)?;
-    let q = byte(text, p, b)?;
-    byte(text, q, c)
+    let p = byte(text, at, letters[0])?;
+    let q = byte(text, p, letters[1])?;
+    byte(text, q, letters[2])
 }
 
 // The next tab or LF, or the end of the text.
@@ -37,7 +33,7 @@ fn field_end(text: &[u8], from: usize) -> usize
     ensures { result ≡ from + field_length (drop from text.now) }
 {
     for i in from..text.len() {
-        if wide(text[i]) <= 10 {
+        if text[i] <= 10 {
             return i;
         }
     }
@@ -61,7 +57,7 @@ fn likely_end(text: &[u8], from: usize, kind: Kind) -> usize
         Kind::Double => 16,
         Kind::Whole => return field_end(text, from),
     };
-    if width < text.len() - from && wide(text[from + width]) <= 10 {
+    if width < text.len() - from && text[from + width] <= 10 {
         return from + width;
     }
     field_end(text, from)
@@ -98,7 +94,7 @@ pub(crate) fn rest_at(text: &[u8], at: usize, kind: Kind) -> Next
 pub(crate) fn field_at(text: &[u8], at: usize, kind: Kind) -> Next
     ensures { result ≡ next_of (kind_number kind) at text.now }
 {
-    if at < text.len() && wide(text[at]) == 9 {
+    if at < text.len() && text[at] == 9 {
         return field_from(text, at + 1, kind);
     }
     Next {

@@ -1,5 +1,6 @@
 // A field reader holds the lent text and a position (document 01, 'Forms to follow'). Its methods are thin: they take it apart and leave the
 // work to `field_at` and `rest_at`, which take the text and the place.
+// Kept: (a) the named form of document 01 (docs/DECISIONS.md, 'The named forms of document 01').
 ghost use Rattle.std.specs.Prelude.{◌≡◌};
 ghost use Rattle.snapshot.specs.Steps.Scan.{kind_number};
 ghost use Rattle.snapshot.specs.Steps.Judge.{rest_field, next_of};

@@ -1,10 +1,11 @@
 // The first line of a snapshot, the settings (document 01, 'Trace text': `set`).
+// Kept: (d) a text and a place, as in piece.rt, which says why.
 ghost use Rattle.std.specs.Prelude.{◌≡◌, length, drop};
 ghost use Rattle.snapshot.specs.Scan.{told};
 ghost use Rattle.snapshot.specs.Steps.Judge.{mode_in, method_in, set_test, tail_told, tail_by, set_told, set_by};
 
 use crate::judge::{Cell, fields};
-use crate::piece::{byte, name, wide};
+use crate::piece::{byte, name};
 use common::deviation::outside_unit;
 use trcf::types::{
     ForestMode, INPUT_LIMIT, SHINGLE_LIMIT, START_BOUND, TransformMethod, mode_of_letter,
@@ -16,7 +17,7 @@ fn mode_at(text: &[u8], at: usize) -> Option<ForestMode>
     ensures { told result ≡ mode_in (drop at text.now) }
 {
     if at < text.len() {
-        let mode = mode_of_letter(wide(text[at]));
+        let mode = mode_of_letter(u64::from(text[at]));
         if !is_imputing(mode) {
             return Some(mode);
         }
@@ -84,7 +85,7 @@ pub(crate) struct Set {
 pub(crate) fn set_line(text: &[u8]) -> Option<Set>
     ensures { set_told result text.now ≡ set_by text.now }
 {
-    let p = name(text, 0, 115, 101, 116)?;
+    let p = name(text, 0, *b"set")?;
     let q = byte(text, p, 9)?;
     let mode = mode_at(text, q)?;
     let mut n = [0u64; 5];

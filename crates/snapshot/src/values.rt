@@ -7,14 +7,7 @@ ghost use Rattle.snapshot.specs.Read.{climbs, zeros, all_codes};
 pub fn none_falls(times: &[u64]) -> bool
     ensures { result ≡ climbs 0 times.now }
 {
-    let mut past: u64 = 0;
-    for t in times {
-        if *t < past {
-            return false;
-        }
-        past = *t;
-    }
-    true
+    times.is_sorted()
 }
 
 // Whether every time is 0.

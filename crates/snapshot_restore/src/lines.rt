@@ -1,4 +1,5 @@
 // Runs of lines of a snapshot (document 01: taking up), one after the other: each is left at its first bad line.
+// Kept: (d) a text and a place, as in snapshot/src/piece.rt, which says why.
 ghost use Rattle.std.specs.Prelude.{◌≡◌, ◌+◌, ◌*◌, ◌≤◌, ◌<◌, length, drop, IfErr};
 ghost use Rattle.snapshot.specs.Steps.Runs.{ran_by, devs, bufs, initial_lists, unkept, parts, parts_by};
 
@@ -17,7 +18,7 @@ fn dev_lines(text: &[u8], at: usize, n: usize, statistics: &mut [f64]) -> Result
     'lines: {
         for i in 0..n {
             let from = i * 3;
-            let Some(q) = list_line(text, p, 100, 101, 118, &mut statistics[from..from + 3]) else {
+            let Some(q) = list_line(text, p, *b"dev", &mut statistics[from..from + 3]) else {
                 break 'lines Err(BadLine { line: i + 1 });
             };
             p = q;
@@ -39,14 +40,15 @@ pub(crate) fn part_lines(
 ) -> Result<usize, BadLine>
     requires statistics_len { length statistics.old ≡ n * 3 }
     requires n_bound { n ≤ 2000 }
-    ensures text_after { ran_by result (parts statistics.new input.new point.new times.new) text.now ≡ parts_by internal n (length input.old) (length point.old) (length times.old) (drop at text.now) }
+    ensures text_after { ran_by result (parts statistics.new input.new point.new times.new) text.now ≡
+        parts_by internal n (length input.old) (length point.old) (length times.old) (drop at text.now) }
     ensures bad_bound { IfErr result (λ bad. bad.line ≤ n + 3) }
 {
     let p = dev_lines(text, at, n, statistics)?;
-    let Some(q) = list_line(text, p, 105, 110, 112, input) else {
+    let Some(q) = list_line(text, p, *b"inp", input) else {
         return Err(BadLine { line: n + 1 });
     };
-    let Some(r) = list_line(text, q, 112, 110, 116, point) else {
+    let Some(r) = list_line(text, q, *b"pnt", point) else {
         return Err(BadLine { line: n + 2 });
     };
     let Some(s) = tim_line(text, r, internal, times) else {

@@ -1,9 +1,10 @@
 // `restore` (document 01: taking up): the whole text is judged first, and then the lent lists are filled.
 // Kept: (c) lists that a call writes are parameters of their own: of a struct of them that is handed on whole the check does not tell what it holds after the call (tried on drain).
+// Kept: (d) a text and a place, as in snapshot/src/piece.rt, which says why.
 ghost use Rattle.std.specs.Prelude.{◌≡◌, cond, ◌+◌, ◌*◌, ◌≤◌, length, drop, IfOk, IfErr, OnOk};
 ghost use Rattle.trcf.specs.Types.{augments};
 ghost use Rattle.refusal.specs.Refusal.{number_of};
-ghost use Rattle.trcf.specs.View.{lent, settings_of, counting, initial_room};
+ghost use Rattle.trcf.specs.View.{lent, settings_of, initial_room};
 ghost use Rattle.trcf.specs.Settings.{dimension};
 ghost use Rattle.snapshot.specs.Read.{same};
 ghost use Rattle.snapshot.specs.Save.{past};
@@ -19,7 +20,7 @@ use refusal::Refusal;
 use snapshot::head::{BadLine, head_lines};
 use snapshot::kinds::is_waiting;
 use snapshot::limits::{is_past, time_width};
-use trcf::head::{LentLengths, Preprocessor, initial_room, statistics_length, with_counts};
+use trcf::head::{LentLengths, Preprocessor, initial_room, statistics_length};
 use trcf::types::is_normalizing;
 
 // How many `buf` lines are to come, from the place after `tim` on.
@@ -175,14 +176,6 @@ fn fill(
     );
 }
 
-// A head with its number of initial values.
-fn with_initial(head: Preprocessor, n: usize) -> Preprocessor
-    ensures { result ≡ counting head head.transformer.count head.values_seen head.internal_timestamp n }
-{
-    let t = head.transformer;
-    with_counts(head, t.count, head.values_seen, head.internal_timestamp, n)
-}
-
 // Whether a lent list of these lengths is too short for the state that a head is of.
 fn is_short(head: Preprocessor, lengths: LentLengths) -> bool
     ensures { result ≡ past head.transformer.input_length head.shingle_size (cond (augments head.forest_mode) 1 0)
@@ -304,5 +297,9 @@ pub fn restore(
         initial_values,
         initial_timestamps,
     );
-    Ok(with_initial(head, n))
+    let taken = Preprocessor {
+        initial_len: n,
+        ..head
+    };
+    Ok(taken)
 }

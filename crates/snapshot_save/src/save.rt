@@ -75,29 +75,25 @@ fn head_length(head: Preprocessor) -> usize
     a + b + c + 52 + 9 * d + codes_length(head)
 }
 
-// How many bytes the lines of the lent lists take.
-fn lists_length(
-    d: usize,
-    statistics: &[f64],
-    input: &[f32],
-    point: &[f32],
-    times: &[u64],
-    values: &[f32],
-    initial: &[u64],
-) -> usize
+// How many bytes the lines of lent lists take, of which all is in use.
+fn lists_length(d: usize, lists: LentLists) -> usize
     requires d_bound { d ≤ 16 }
-    requires statistics_len_bound { length statistics.now ≤ 2000 }
-    requires input_len_bound { length input.now ≤ 2000 }
-    requires point_len_bound { length point.now ≤ 2000 }
-    requires times_len_bound { length times.now ≤ 2000 }
-    requires initial_len_bound { length initial.now ≤ 2000 }
-    requires d_in_bounds { length initial.now * d ≤ length values.now }
-    ensures value { result ≡ length (list_bytes d statistics.now input.now point.now times.now values.now initial.now) }
+    requires statistics_len_bound { length lists.statistics.now ≤ 2000 }
+    requires input_len_bound { length lists.last_shingled_input.now ≤ 2000 }
+    requires point_len_bound { length lists.last_shingled_point.now ≤ 2000 }
+    requires times_len_bound { length lists.previous_timestamps.now ≤ 2000 }
+    requires initial_len_bound { length lists.initial_timestamps.now ≤ 2000 }
+    requires d_in_bounds { length lists.initial_timestamps.now * d ≤ length lists.initial_values.now }
+    ensures value { result ≡ length (list_bytes d lists.entry.statistics.now lists.entry.last_shingled_input.now lists.entry.last_shingled_point.now
+        lists.entry.previous_timestamps.now lists.entry.initial_values.now lists.entry.initial_timestamps.now) }
     ensures upper_bound { result ≤ 500000 }
 {
-    let a = 55 * (statistics.len() / 3) + 9 * input.len() + 9 * point.len() + 12;
-    let b = wholes_length(times) + wholes_length(initial);
-    a + b + initial.len() * (4 + 9 * d)
+    let a = 55 * (lists.statistics.len() / 3)
+        + 9 * lists.last_shingled_input.len()
+        + 9 * lists.last_shingled_point.len()
+        + 12;
+    let b = wholes_length(lists.previous_timestamps) + wholes_length(lists.initial_timestamps);
+    a + b + lists.initial_timestamps.len() * (4 + 9 * d)
 }
 
 // The line of the codes.
@@ -122,25 +118,8 @@ fn write_head(out: &mut [u8], head: Preprocessor) -> usize
     let t = head.transformer;
     let d = t.input_length;
     let weights = t.weights;
-    let mode = head.forest_mode;
-    let kind = t.transform_method;
-    let letter = u8::from(mode);
-    let method = u64::from(kind);
-    let start = head.start_normalization as u64;
-    let stop = head.stop_normalization as u64;
-    let p = set_line(
-        out,
-        0,
-        letter,
-        method,
-        d as u64,
-        head.shingle_size as u64,
-        start,
-        stop,
-        t.transform_decay,
-        head.weight_time,
-    );
-    let q = singles_line(out, p, 119, 103, 116, &weights[..d]);
+    let p = set_line(out, 0, head);
+    let q = singles_line(out, p, *b"wgt", &weights[..d]);
     let r = write_codes(out, q, head);
     cnt_line(
         out,
@@ -152,70 +131,55 @@ fn write_head(out: &mut [u8], head: Preprocessor) -> usize
 }
 
 // The lines of the lent lists, of which all is in use.
-fn write_lists(
-    out: &mut [u8],
-    at: usize,
-    d: usize,
-    statistics: &[f64],
-    input: &[f32],
-    point: &[f32],
-    times: &[u64],
-    values: &[f32],
-    initial: &[u64],
-) -> usize
-    requires d_in_bounds { length initial.now * d ≤ length values.now }
-    requires initial_in_bounds { at + length (list_bytes d statistics.now input.now point.now times.now values.now initial.now) ≤ length out.old }
-    ensures { Wrote at (list_bytes d statistics.now input.now point.now times.now values.now initial.now) out.old result out.new }
+fn write_lists(out: &mut [u8], at: usize, d: usize, lists: LentLists) -> usize
+    requires d_in_bounds { length lists.initial_timestamps.now * d ≤ length lists.initial_values.now }
+    requires initial_in_bounds { at + length (list_bytes d lists.statistics.now lists.last_shingled_input.now lists.last_shingled_point.now
+        lists.previous_timestamps.now lists.initial_values.now lists.initial_timestamps.now) ≤ length out.old }
+    ensures { Wrote at (list_bytes d lists.entry.statistics.now lists.entry.last_shingled_input.now lists.entry.last_shingled_point.now
+        lists.entry.previous_timestamps.now lists.entry.initial_values.now lists.entry.initial_timestamps.now) out.old result out.new }
 {
-    let p = dev_lines(out, at, statistics);
-    let q = singles_line(out, p, 105, 110, 112, input);
-    let r = singles_line(out, q, 112, 110, 116, point);
-    let s = tim_line(out, r, times);
-    buf_lines(out, s, d, values, initial)
+    let p = dev_lines(out, at, lists.statistics);
+    let q = singles_line(out, p, *b"inp", lists.last_shingled_input);
+    let r = singles_line(out, q, *b"pnt", lists.last_shingled_point);
+    let s = tim_line(out, r, lists.previous_timestamps);
+    buf_lines(out, s, d, lists.initial_values, lists.initial_timestamps)
 }
 
 // The text of a head and of lent lists of which all is in use, where it fits.
-fn save_parts(
-    head: Preprocessor,
-    statistics: &[f64],
-    input: &[f32],
-    point: &[f32],
-    times: &[u64],
-    values: &[f32],
-    initial: &[u64],
-    out: &mut [u8],
-) -> Result<usize, Refusal>
+fn save_parts(head: Preprocessor, lists: LentLists, out: &mut [u8]) -> Result<usize, Refusal>
     requires input_length_bound { head.transformer.input_length ≤ 16 }
-    requires statistics_len_bound { length statistics.now ≤ 2000 }
-    requires input_len_bound { length input.now ≤ 2000 }
-    requires point_len_bound { length point.now ≤ 2000 }
-    requires times_len_bound { length times.now ≤ 2000 }
-    requires initial_len_bound { length initial.now ≤ 2000 }
-    requires input_length_in_bounds { length initial.now * head.transformer.input_length ≤ length values.now }
+    requires statistics_len_bound { length lists.statistics.now ≤ 2000 }
+    requires input_len_bound { length lists.last_shingled_input.now ≤ 2000 }
+    requires point_len_bound { length lists.last_shingled_point.now ≤ 2000 }
+    requires times_len_bound { length lists.previous_timestamps.now ≤ 2000 }
+    requires initial_len_bound { length lists.initial_timestamps.now ≤ 2000 }
+    requires input_length_in_bounds { length lists.initial_timestamps.now * head.transformer.input_length ≤ length lists.initial_values.now }
     ensures { saved_told result out.new ≡ fitted
         (head_bytes (settings_of head) head.values_seen head.internal_timestamp head.transformer.count ++
-        list_bytes head.transformer.input_length statistics.now input.now point.now times.now values.now initial.now) out.old }
+        list_bytes head.transformer.input_length lists.entry.statistics.now lists.entry.last_shingled_input.now lists.entry.last_shingled_point.now
+        lists.entry.previous_timestamps.now lists.entry.initial_values.now lists.entry.initial_timestamps.now) out.old }
 {
     let t = head.transformer;
     let d = t.input_length;
-    let l = head_length(head) + lists_length(d, statistics, input, point, times, values, initial);
+    let l = head_length(head) + lists_length(d, lists);
     if out.len() < l {
         return Err(Refusal::TooShort);
     }
     let p = write_head(out, head);
-    write_lists(out, p, d, statistics, input, point, times, values, initial);
+    write_lists(out, p, d, lists);
     Ok(l)
 }
 
 // Whether times and initial values are not such as a text has.
-fn is_unformed(internal: usize, times: &[u64], values: &[f32], initial: &[u64]) -> bool
-    ensures { result ≡ not (climbs 0 times.now)
-        || ((eqb internal 0 && not (zeros times.now)) || (not (finite values.now) || not (climbs 0 initial.now))) }
+fn is_unformed(internal: usize, lists: LentLists) -> bool
+    ensures { result ≡ not (climbs 0 lists.entry.previous_timestamps.now)
+        || ((eqb internal 0 && not (zeros lists.entry.previous_timestamps.now))
+        || (not (finite lists.entry.initial_values.now) || not (climbs 0 lists.entry.initial_timestamps.now))) }
 {
-    !none_falls(times)
-        || internal == 0 && !all_zero(times)
-        || !all_finite(values)
-        || !none_falls(initial)
+    !none_falls(lists.previous_timestamps)
+        || internal == 0 && !all_zero(lists.previous_timestamps)
+        || !all_finite(lists.initial_values)
+        || !none_falls(lists.initial_timestamps)
 }
 
 // The text of a head whose own rows are 0, and its length; TooShort where out is shorter than the text, or a lent list shorter than what is in use of it;
@@ -233,16 +197,24 @@ fn save_held(head: Preprocessor, lists: LentLists, out: &mut [u8]) -> Result<usi
     if is_past(d, k, w, n, lists.lengths()) {
         return Err(Refusal::TooShort);
     }
-    let st = &lists.statistics[..statistics_length(d)];
-    let x = &lists.last_shingled_input[..d * k];
-    let y = &lists.last_shingled_point[..(d + w) * k];
-    let ts = &lists.previous_timestamps[..k];
-    let v = &lists.initial_values[..n * d];
-    let us = &lists.initial_timestamps[..n];
-    if is_unformed(internal, ts, v, us) {
+    let statistics = &lists.statistics[..statistics_length(d)];
+    let last_shingled_input = &lists.last_shingled_input[..d * k];
+    let last_shingled_point = &lists.last_shingled_point[..(d + w) * k];
+    let previous_timestamps = &lists.previous_timestamps[..k];
+    let initial_values = &lists.initial_values[..n * d];
+    let initial_timestamps = &lists.initial_timestamps[..n];
+    let used = LentLists {
+        statistics,
+        last_shingled_input,
+        last_shingled_point,
+        previous_timestamps,
+        initial_values,
+        initial_timestamps,
+    };
+    if is_unformed(internal, used) {
         return Err(Refusal::Form);
     }
-    save_parts(head, st, x, y, ts, v, us, out)
+    save_parts(head, used, out)
 }
 
 // The snapshot of what head and the lent lists hold, and its length. What could not be taken up again is not put away: the refusal of the settings, Form

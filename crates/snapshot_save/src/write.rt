@@ -1,11 +1,15 @@
 // Writing a snapshot into lent bytes, field by field (document 01, 'Trace text'). Each function stores its bytes from the place `at` on
 // and returns the place after them.
+// Kept: (d) a writer struct would hold the lent bytes and the place: lent mutably, it would need a clause on its loan in each contract beside `Wrote`.
 ghost use Rattle.std.specs.Prelude.{◌≡◌, ℕ, List, [], ◌∷◌, ◌++◌, map, ◌+◌, ◌*◌, ◌≤◌, ◌<◌, length};
 ghost use Rattle.std.specs.Float.{binary32, binary64};
 ghost use Rattle.std.specs.Float.Ieee.{to_bits};
-ghost use Rattle.snapshot.specs.Text.{whole, digit, hex, float, bytes_of, singles, chn_line, cnt_line, dev_line, dev_lines, tim_line, buf_line, buf_lines};
+ghost use Rattle.trcf.specs.View.{settings_of};
+ghost use Rattle.snapshot.specs.Text.{whole, digit, hex, float, bytes_of, singles, set_line, chn_line, cnt_line, dev_line, dev_lines, tim_line, buf_line, buf_lines};
 ghost use Rattle.snapshot.specs.Read.{bytes_of_line};
-ghost use Rattle.snapshot.specs.Steps.Write.{Wrote, tabbed, set_bytes};
+ghost use Rattle.snapshot.specs.Steps.Write.{Wrote, tabbed};
+
+use trcf::head::Preprocessor;
 
 // A lower-case hexadecimal digit.
 fn hex_digit(n: u64) -> u8
@@ -71,13 +75,13 @@ pub(crate) fn write_byte(out: &mut [u8], at: usize, b: u8) -> usize
 }
 
 // The name of a line.
-fn write_name(out: &mut [u8], at: usize, a: u8, b: u8, c: u8) -> usize
+fn write_name(out: &mut [u8], at: usize, name: [u8; 3]) -> usize
     requires { at + 3 ≤ length out.old }
-    ensures { Wrote at (a ∷ b ∷ c ∷ []) out.old result out.new }
+    ensures { Wrote at name out.old result out.new }
 {
-    let p = write_byte(out, at, a);
-    let q = write_byte(out, p, b);
-    write_byte(out, q, c)
+    let p = write_byte(out, at, name[0]);
+    let q = write_byte(out, p, name[1]);
+    write_byte(out, q, name[2])
 }
 
 // What is written into a field.
@@ -136,21 +140,21 @@ pub(crate) fn tabs<T: Cell>(out: &mut [u8], at: usize, v: &[T]) -> usize
 }
 
 // A line of a name and fields of one kind.
-fn list_line<T: Cell>(out: &mut [u8], at: usize, a: u8, b: u8, c: u8, v: &[T]) -> usize
-    requires { at + length ((a ∷ b ∷ c ∷ []) ++ (tabbed (map T.text v.now) ++ (10 ∷ []))) ≤ length out.old }
-    ensures { Wrote at ((a ∷ b ∷ c ∷ []) ++ (tabbed (map T.text v.now) ++ (10 ∷ []))) out.old result out.new }
+fn list_line<T: Cell>(out: &mut [u8], at: usize, name: [u8; 3], v: &[T]) -> usize
+    requires { at + length (name ++ (tabbed (map T.text v.now) ++ (10 ∷ []))) ≤ length out.old }
+    ensures { Wrote at (name ++ (tabbed (map T.text v.now) ++ (10 ∷ []))) out.old result out.new }
 {
-    let p = write_name(out, at, a, b, c);
+    let p = write_name(out, at, name);
     let q = tabs(out, p, v);
     write_byte(out, q, 10)
 }
 
 // A line of f32: `wgt`, `inp`, `pnt`.
-pub(crate) fn singles_line(out: &mut [u8], at: usize, a: u8, b: u8, c: u8, v: &[f32]) -> usize
-    requires { at + length (bytes_of_line (singles (a ∷ b ∷ c ∷ []) v.now)) ≤ length out.old }
-    ensures { Wrote at (bytes_of_line (singles (a ∷ b ∷ c ∷ []) v.now)) out.old result out.new }
+pub(crate) fn singles_line(out: &mut [u8], at: usize, name: [u8; 3], v: &[f32]) -> usize
+    requires { at + length (bytes_of_line (singles name v.now)) ≤ length out.old }
+    ensures { Wrote at (bytes_of_line (singles name v.now)) out.old result out.new }
 {
-    list_line(out, at, a, b, c, v)
+    list_line(out, at, name, v)
 }
 
 // The line of the last times.
@@ -158,7 +162,7 @@ pub(crate) fn tim_line(out: &mut [u8], at: usize, v: &[u64]) -> usize
     requires { at + length (bytes_of_line (tim_line v.now)) ≤ length out.old }
     ensures { Wrote at (bytes_of_line (tim_line v.now)) out.old result out.new }
 {
-    list_line(out, at, 116, 105, 109, v)
+    list_line(out, at, *b"tim", v)
 }
 
 // The line of the codes.
@@ -166,7 +170,7 @@ pub(crate) fn chn_line(out: &mut [u8], at: usize, v: &[u64]) -> usize
     requires { at + length (bytes_of_line (chn_line v.now)) ≤ length out.old }
     ensures { Wrote at (bytes_of_line (chn_line v.now)) out.old result out.new }
 {
-    list_line(out, at, 99, 104, 110, v)
+    list_line(out, at, *b"chn", v)
 }
 
 // The line of the counters.
@@ -174,11 +178,8 @@ pub(crate) fn cnt_line(out: &mut [u8], at: usize, seen: u64, internal: u64, coun
     requires { at + length (bytes_of_line (cnt_line seen internal count)) ≤ length out.old }
     ensures { Wrote at (bytes_of_line (cnt_line seen internal count)) out.old result out.new }
 {
-    let p = write_name(out, at, 99, 110, 116);
-    let q = tab(out, p, seen);
-    let s = tab(out, q, internal);
-    let t = tab(out, s, count);
-    write_byte(out, t, 10)
+    let counters = [seen, internal, count];
+    list_line(out, at, *b"cnt", &counters[..])
 }
 
 // The line of one statistic.
@@ -186,11 +187,8 @@ fn dev_line(out: &mut [u8], at: usize, weight: f64, sum: f64, squares: f64) -> u
     requires { at + 55 ≤ length out.old }
     ensures { Wrote at (bytes_of_line (dev_line weight sum squares)) out.old result out.new }
 {
-    let p = write_name(out, at, 100, 101, 118);
-    let q = tab(out, p, weight);
-    let s = tab(out, q, sum);
-    let t = tab(out, s, squares);
-    write_byte(out, t, 10)
+    let statistic = [weight, sum, squares];
+    list_line(out, at, *b"dev", &statistic[..])
 }
 
 // A line of one initial value and its time.
@@ -198,35 +196,34 @@ fn buf_line(out: &mut [u8], at: usize, time: u64, v: &[f32]) -> usize
     requires { at + length (bytes_of_line (buf_line time v.now)) ≤ length out.old }
     ensures { Wrote at (bytes_of_line (buf_line time v.now)) out.old result out.new }
 {
-    let p = write_name(out, at, 98, 117, 102);
+    let p = write_name(out, at, *b"buf");
     let q = tab(out, p, time);
     let s = tabs(out, q, v);
     write_byte(out, s, 10)
 }
 
-// The line of the settings, from the letter of the mode and the number of the method.
-pub(crate) fn set_line(
-    out: &mut [u8],
-    at: usize,
-    letter: u8,
-    method: u64,
-    d: u64,
-    k: u64,
-    start: u64,
-    stop: u64,
-    decay: f64,
-    weight_time: f32,
-) -> usize
-    requires { at + length (set_bytes letter method d k start stop decay weight_time) ≤ length out.old }
-    ensures { Wrote at (set_bytes letter method d k start stop decay weight_time) out.old result out.new }
+// The line of the settings, with the letter of the mode and the number of the method.
+pub(crate) fn set_line(out: &mut [u8], at: usize, head: Preprocessor) -> usize
+    requires { at + length (bytes_of_line (set_line (settings_of head))) ≤ length out.old }
+    ensures { Wrote at (bytes_of_line (set_line (settings_of head))) out.old result out.new }
 {
-    let wholes = [method, d, k, start, stop];
-    let p = write_name(out, at, 115, 101, 116);
+    let mode = head.forest_mode;
+    let kind = head.transformer.transform_method;
+    let letter = u8::from(mode);
+    let method = u64::from(kind);
+    let wholes = [
+        method,
+        head.transformer.input_length as u64,
+        head.shingle_size as u64,
+        head.start_normalization as u64,
+        head.stop_normalization as u64,
+    ];
+    let p = write_name(out, at, *b"set");
     let q = write_byte(out, p, 9);
     let s = write_byte(out, q, letter);
     let t = tabs(out, s, &wholes[..]);
-    let u = tab(out, t, decay);
-    let v = tab(out, u, weight_time);
+    let u = tab(out, t, head.transformer.transform_decay);
+    let v = tab(out, u, head.weight_time);
     write_byte(out, v, 10)
 }
 

@@ -1,9 +1,7 @@
 -- `snapshot_restore::restore::restore` meets its contract: each return by the tests on the way to it. Assumes nothing.
-use mathlib.Core.Path.{refl, sym, ap, ◌∙◌}
+use mathlib.Core.Path.{refl, sym, ◌∙◌}
 use lib.ListN.{drop}
 use Rattle.trcf.specs.View.{lent}
-use Rattle.trcf.specs.declared.head.Preprocessor.{Preprocessor}
-use Rattle.snapshot.specs.Restore.{restore_outcome}
 use Rattle.snapshot.proofs.BodyLaws.{short_is, room_of}
 use Rattle.snapshot_restore.proofs.RestoreLaws.{told_head, restore_head, restore_body, restore_other, restore_short, restore_all}
 use Rattle.snapshot_restore.proofs.restore.restore.Goals as goal
@@ -84,5 +82,4 @@ returns c =
     let w = sym (short_is h.head l _ H.head_few refl) ∙ sym c.is_short.ensures ∙ c.if-is_short.false in
     let G = c.fill in
     let new = lent c.fill.new.statistics c.fill.new.last_shingled_input c.fill.new.last_shingled_point c.fill.new.previous_timestamps c.fill.new.initial_values c.fill.new.initial_timestamps in
-    ap (λ (x : Preprocessor). restore_outcome 0 0 x new) c.with_initial.ensures
-    ∙ restore_all t a.codes.now l h.head h.extra z H.text_value c.in-Ok.n J.value J.good s w new G.ensures
+    restore_all t a.codes.now l h.head h.extra z H.text_value c.in-Ok.n J.value J.good s w new G.ensures

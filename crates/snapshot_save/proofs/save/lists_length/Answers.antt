@@ -5,15 +5,15 @@ use native.Mathlib.Omega.{arith}
 use Rattle.snapshot_save.proofs.save.lists_length.Goals as goal
 
 pub overflow_mul-result-2 : goal.overflow_mul-result-2
-overflow_mul-result-2 c = let a = c.args in omega (arith, few_lines (length a.initial.now) a.d (omega arith) (omega arith))
+overflow_mul-result-2 c = let a = c.args in let l = a.lists in omega (arith, few_lines (length l.initial_timestamps.now) a.d (omega arith) (omega arith))
 
 pub overflow_add-result-3 : goal.overflow_add-result-3
-overflow_add-result-3 c = let a = c.args in omega (arith, few_lines (length a.initial.now) a.d (omega arith) (omega arith))
+overflow_add-result-3 c = let a = c.args in let l = a.lists in omega (arith, few_lines (length l.initial_timestamps.now) a.d (omega arith) (omega arith))
 
 pub returns : goal.returns
-returns c = let a = c.args in omega (
+returns c = let a = c.args in let l = a.lists in omega (
   arith,
-  list_size a.d a.statistics.now a.input.now a.point.now a.times.now a.values.now a.initial.now (omega arith),
+  list_size a.d l.statistics.now l.last_shingled_input.now l.last_shingled_point.now l.previous_timestamps.now l.initial_values.now l.initial_timestamps.now (omega arith),
   few_lines
-      (length a.initial.now) a.d (omega arith) (omega arith),
+      (length l.initial_timestamps.now) a.d (omega arith) (omega arith),
 )

@@ -40,8 +40,8 @@ returns-then-is_past c =
     let p = past_lent a.head w.result a.lists c.lengths.ensures c.is_past.ensures in
     saved_not a.head l w.result w.ensures a.out.now (sym (past_is (augments a.head.forest_mode) w.ensures p) ∙ c.if-is_past.true)
 
-pub slice_bounds-st-end : goal.slice_bounds-st-end
-slice_bounds-st-end c =
+pub slice_bounds-statistics-end : goal.slice_bounds-statistics-end
+slice_bounds-statistics-end c =
     let a = c.args in
     let w = c.time_width-w in
     let l = lent_by a.lists in
@@ -50,8 +50,8 @@ slice_bounds-st-end c =
     let z = statistics_known c.statistics_length.ensures H.d_few in
     rw z (sym (length-take-le _ _ H.in_statistics))
 
-pub overflow_mul-x : goal.overflow_mul-x
-overflow_mul-x c =
+pub overflow_mul-last_shingled_input : goal.overflow_mul-last_shingled_input
+overflow_mul-last_shingled_input c =
     let a = c.args in
     let w = c.time_width-w in
     let l = lent_by a.lists in
@@ -59,8 +59,8 @@ overflow_mul-x c =
     let H = held_by a.head l w.result w.ensures p c.if-is_past.false in
     omega (arith, few _ _ H.d_few H.k_few)
 
-pub slice_bounds-x-end : goal.slice_bounds-x-end
-slice_bounds-x-end c =
+pub slice_bounds-last_shingled_input-end : goal.slice_bounds-last_shingled_input-end
+slice_bounds-last_shingled_input-end c =
     let a = c.args in
     let w = c.time_width-w in
     let l = lent_by a.lists in
@@ -69,8 +69,8 @@ slice_bounds-x-end c =
     let h = a.head in
     sym (length-take-le (h.transformer.input_length * h.shingle_size) a.lists.last_shingled_input.now H.in_input)
 
-pub overflow_add-y : goal.overflow_add-y
-overflow_add-y c =
+pub overflow_add-last_shingled_point : goal.overflow_add-last_shingled_point
+overflow_add-last_shingled_point c =
     let a = c.args in
     let w = c.time_width-w in
     let l = lent_by a.lists in
@@ -79,8 +79,8 @@ overflow_add-y c =
     let H = held_by a.head l w.result w.ensures p c.if-is_past.false in
     omega (arith, o, H.d_few)
 
-pub overflow_mul-y : goal.overflow_mul-y
-overflow_mul-y c =
+pub overflow_mul-last_shingled_point : goal.overflow_mul-last_shingled_point
+overflow_mul-last_shingled_point c =
     let a = c.args in
     let w = c.time_width-w in
     let l = lent_by a.lists in
@@ -91,8 +91,8 @@ overflow_mul-y c =
     let d = h.transformer.input_length in
     omega (arith, few_wide (d + w.result) h.shingle_size (omega (arith, o, H.d_few)) H.k_few)
 
-pub slice_bounds-y-end : goal.slice_bounds-y-end
-slice_bounds-y-end c =
+pub slice_bounds-last_shingled_point-end : goal.slice_bounds-last_shingled_point-end
+slice_bounds-last_shingled_point-end c =
     let a = c.args in
     let w = c.time_width-w in
     let l = lent_by a.lists in
@@ -102,8 +102,8 @@ slice_bounds-y-end c =
     let d = h.transformer.input_length in
     sym (length-take-le ((d + w.result) * h.shingle_size) a.lists.last_shingled_point.now H.in_point)
 
-pub slice_bounds-ts-end : goal.slice_bounds-ts-end
-slice_bounds-ts-end c =
+pub slice_bounds-previous_timestamps-end : goal.slice_bounds-previous_timestamps-end
+slice_bounds-previous_timestamps-end c =
     let a = c.args in
     let w = c.time_width-w in
     let l = lent_by a.lists in
@@ -111,8 +111,8 @@ slice_bounds-ts-end c =
     let H = held_by a.head l w.result w.ensures p c.if-is_past.false in
     sym (length-take-le a.head.shingle_size a.lists.previous_timestamps.now H.in_times)
 
-pub overflow_mul-v : goal.overflow_mul-v
-overflow_mul-v c =
+pub overflow_mul-initial_values : goal.overflow_mul-initial_values
+overflow_mul-initial_values c =
     let a = c.args in
     let w = c.time_width-w in
     let l = lent_by a.lists in
@@ -120,8 +120,8 @@ overflow_mul-v c =
     let H = held_by a.head l w.result w.ensures p c.if-is_past.false in
     omega (arith, few_values _ _ H.n_few H.d_few)
 
-pub slice_bounds-v-end : goal.slice_bounds-v-end
-slice_bounds-v-end c =
+pub slice_bounds-initial_values-end : goal.slice_bounds-initial_values-end
+slice_bounds-initial_values-end c =
     let a = c.args in
     let w = c.time_width-w in
     let l = lent_by a.lists in
@@ -130,8 +130,8 @@ slice_bounds-v-end c =
     let h = a.head in
     sym (length-take-le (h.initial_len * h.transformer.input_length) a.lists.initial_values.now H.in_values)
 
-pub slice_bounds-us-end : goal.slice_bounds-us-end
-slice_bounds-us-end c =
+pub slice_bounds-initial_timestamps-end : goal.slice_bounds-initial_timestamps-end
+slice_bounds-initial_timestamps-end c =
     let a = c.args in
     let w = c.time_width-w in
     let l = lent_by a.lists in

@@ -15,9 +15,10 @@ overflow_add-l c = omega (arith, c.lists_length.ensures.upper_bound, c.head_leng
 pub returns-then-out-l : goal.returns-then-out-l
 returns-then-out-l c =
     let a = c.args in
+    let l = a.lists in
     let h = a.head in
     let p = head_bytes (settings_of h) h.values_seen h.internal_timestamp h.transformer.count in
-    let q = list_bytes h.transformer.input_length a.statistics.now a.input.now a.point.now a.times.now a.values.now a.initial.now in
+    let q = list_bytes h.transformer.input_length l.statistics.now l.last_shingled_input.now l.last_shingled_point.now l.previous_timestamps.now l.initial_values.now l.initial_timestamps.now in
     fitted_not (p ++ q) a.out.now (c.head_length.result + c.lists_length.result)
     (omega (arith, length-append p q, c.lists_length.ensures.value, c.head_length.ensures.value)) c.if-out-l.true
 
@@ -41,9 +42,10 @@ write_lists-requires c =
 pub returns : goal.returns
 returns c =
     let a = c.args in
+    let l = a.lists in
     let h = a.head in
     let p = head_bytes (settings_of h) h.values_seen h.internal_timestamp h.transformer.count in
-    let q = list_bytes h.transformer.input_length a.statistics.now a.input.now a.point.now a.times.now a.values.now a.initial.now in
+    let q = list_bytes h.transformer.input_length l.statistics.now l.last_shingled_input.now l.last_shingled_point.now l.previous_timestamps.now l.initial_values.now l.initial_timestamps.now in
     fitted_is (p ++ q) a.out.now _ (c.head_length.result + c.lists_length.result) _
     (omega (arith, length-append p q, c.lists_length.ensures.value, c.head_length.ensures.value)) c.if-out-l.false
     (wrote_then c.write_head-p.ensures c.write_lists.ensures)

@@ -1,11 +1,11 @@
 -- `snapshot_save::save::write_head` meets its contract. Assumes nothing.
-use Rattle.snapshot.proofs.SaveLaws.{set_lined, head_split}
-use Rattle.snapshot.proofs.WriteLaws.{wrote_then, wrote_is}
+use Rattle.snapshot.proofs.SaveLaws.{head_split}
+use Rattle.snapshot.proofs.WriteLaws.{wrote_then}
 use Rattle.snapshot.specs.Steps.TwoParts.{head_bytes}
 use Rattle.trcf.specs.View.{settings_of}
 use lib.Seq.{length-take-le}
 use lib.ListN.{length}
-use mathlib.Core.Path.{◌≡◌, ap, sym}
+use mathlib.Core.Path.{◌≡◌, sym}
 use native.Mathlib.Omega.{arith}
 use Rattle.snapshot_save.proofs.save.write_head.Goals as goal
 
@@ -15,8 +15,7 @@ set_line-p-requires c =
     let w = h.transformer.weights in
     let d = h.transformer.input_length in
     let z : length w ≡ 16 = c.well_formed.1.0.1.1.0.1.1.1.1.1.0.1.0.1 in
-    let e = set_lined (settings_of h) c.from-letter.result c.from-method.result c.from-letter.ensures c.from-method.ensures in
-    omega (arith, head_split (settings_of h) h.values_seen h.internal_timestamp h.transformer.count, ap length e, c.requires.count_in_bounds)
+    omega (arith, head_split (settings_of h) h.values_seen h.internal_timestamp h.transformer.count, c.requires.count_in_bounds)
 
 pub slice_bounds-weights-end : goal.slice_bounds-weights-end
 slice_bounds-weights-end c =
@@ -40,8 +39,7 @@ singles_line-q-requires c =
     let w = h.transformer.weights in
     let d = h.transformer.input_length in
     let z : length w ≡ 16 = c.well_formed.1.0.1.1.0.1.1.1.1.1.0.1.0.1 in
-    let e = set_lined (settings_of h) c.from-letter.result c.from-method.result c.from-letter.ensures c.from-method.ensures in
-    omega (arith, head_split (settings_of h) h.values_seen h.internal_timestamp h.transformer.count, ap length e, c.requires.count_in_bounds, c.set_line-p.ensures.place, c.set_line-p.ensures.kept)
+    omega (arith, head_split (settings_of h) h.values_seen h.internal_timestamp h.transformer.count, c.requires.count_in_bounds, c.set_line-p.ensures.place, c.set_line-p.ensures.kept)
 
 pub write_codes-r-requires : goal.write_codes-r-requires
 write_codes-r-requires c =
@@ -49,14 +47,12 @@ write_codes-r-requires c =
     let w = h.transformer.weights in
     let d = h.transformer.input_length in
     let z : length w ≡ 16 = c.well_formed.1.0.1.1.0.1.1.1.1.1.0.1.0.1 in
-    let e = set_lined (settings_of h) c.from-letter.result c.from-method.result c.from-letter.ensures c.from-method.ensures in
     record {
       input_length_bound = c.requires.input_length_bound;
       head_in_bounds = omega (
         arith,
         head_split
             (settings_of h) h.values_seen h.internal_timestamp h.transformer.count,
-        ap length e,
         c.requires.count_in_bounds,
         c.set_line-p.ensures.place,
         c.set_line-p.ensures.kept,
@@ -71,11 +67,9 @@ cnt_line-requires c =
     let w = h.transformer.weights in
     let d = h.transformer.input_length in
     let z : length w ≡ 16 = c.well_formed.1.0.1.1.0.1.1.1.1.1.0.1.0.1 in
-    let e = set_lined (settings_of h) c.from-letter.result c.from-method.result c.from-letter.ensures c.from-method.ensures in
     omega (
       arith,
       head_split (settings_of h) h.values_seen h.internal_timestamp h.transformer.count,
-      ap length e,
       c.requires.count_in_bounds,
       c.set_line-p.ensures.place,
       c.set_line-p.ensures.kept,
@@ -92,5 +86,4 @@ returns c =
     let w = h.transformer.weights in
     let d = h.transformer.input_length in
     let z : length w ≡ 16 = c.well_formed.1.0.1.1.0.1.1.1.1.1.0.1.0.1 in
-    let e = set_lined (settings_of h) c.from-letter.result c.from-method.result c.from-letter.ensures c.from-method.ensures in
-    wrote_then (wrote_is e c.set_line-p.ensures) (wrote_then c.singles_line-q.ensures (wrote_then c.write_codes-r.ensures c.cnt_line.ensures))
+    wrote_then c.set_line-p.ensures (wrote_then c.singles_line-q.ensures (wrote_then c.write_codes-r.ensures c.cnt_line.ensures))

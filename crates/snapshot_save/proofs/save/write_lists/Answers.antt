@@ -8,19 +8,32 @@ use Rattle.snapshot_save.proofs.save.write_lists.Goals as goal
 pub dev_lines-p-requires : goal.dev_lines-p-requires
 dev_lines-p-requires c =
     let a = c.args in
-    omega (arith, list_split a.d a.statistics.now a.input.now a.point.now a.times.now a.values.now a.initial.now, c.requires.initial_in_bounds)
+    let l = a.lists in
+    omega (
+      arith,
+      list_split a.d l.statistics.now l.last_shingled_input.now l.last_shingled_point.now l.previous_timestamps.now l.initial_values.now l.initial_timestamps.now,
+      c.requires.initial_in_bounds,
+    )
 
 pub singles_line-q-requires : goal.singles_line-q-requires
 singles_line-q-requires c =
     let a = c.args in
-    omega (arith, list_split a.d a.statistics.now a.input.now a.point.now a.times.now a.values.now a.initial.now, c.requires.initial_in_bounds, c.dev_lines-p.ensures.place, c.dev_lines-p.ensures.kept)
+    let l = a.lists in
+    omega (
+      arith,
+      list_split a.d l.statistics.now l.last_shingled_input.now l.last_shingled_point.now l.previous_timestamps.now l.initial_values.now l.initial_timestamps.now,
+      c.requires.initial_in_bounds,
+      c.dev_lines-p.ensures.place,
+      c.dev_lines-p.ensures.kept,
+    )
 
 pub singles_line-r-requires : goal.singles_line-r-requires
 singles_line-r-requires c =
     let a = c.args in
+    let l = a.lists in
     omega (
       arith,
-      list_split a.d a.statistics.now a.input.now a.point.now a.times.now a.values.now a.initial.now,
+      list_split a.d l.statistics.now l.last_shingled_input.now l.last_shingled_point.now l.previous_timestamps.now l.initial_values.now l.initial_timestamps.now,
       c.requires.initial_in_bounds,
       c.dev_lines-p.ensures.place,
       c.dev_lines-p.ensures.kept,
@@ -31,9 +44,10 @@ singles_line-r-requires c =
 pub tim_line-s-requires : goal.tim_line-s-requires
 tim_line-s-requires c =
     let a = c.args in
+    let l = a.lists in
     omega (
       arith,
-      list_split a.d a.statistics.now a.input.now a.point.now a.times.now a.values.now a.initial.now,
+      list_split a.d l.statistics.now l.last_shingled_input.now l.last_shingled_point.now l.previous_timestamps.now l.initial_values.now l.initial_timestamps.now,
       c.requires.initial_in_bounds,
       c.dev_lines-p.ensures.place,
       c.dev_lines-p.ensures.kept,
@@ -46,11 +60,12 @@ tim_line-s-requires c =
 pub buf_lines-requires : goal.buf_lines-requires
 buf_lines-requires c =
     let a = c.args in
+    let l = a.lists in
     record {
       d_in_bounds = c.requires.d_in_bounds;
       times_in_bounds = omega (
         arith,
-        list_split a.d a.statistics.now a.input.now a.point.now a.times.now a.values.now a.initial.now,
+        list_split a.d l.statistics.now l.last_shingled_input.now l.last_shingled_point.now l.previous_timestamps.now l.initial_values.now l.initial_timestamps.now,
         c.requires.initial_in_bounds,
         c.dev_lines-p.ensures.place,
         c.dev_lines-p.ensures.kept,

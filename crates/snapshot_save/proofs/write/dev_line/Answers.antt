@@ -1,22 +1,15 @@
 -- `snapshot_save::write::dev_line` meets its contract. Assumes nothing.
-use lib.Ieee.{binary64}
-use Rattle.snapshot.specs.Text.{dev_line}
-use Rattle.snapshot.proofs.WriteLaws.{wrote_then, float_length}
+use mathlib.Core.Path.{ap}
+use lib.ListN.{length}
 use native.Mathlib.Omega.{arith}
+use Rattle.snapshot.proofs.LineBytes.{dev_bytes, dev_size}
+use Rattle.snapshot.proofs.WriteLaws.{wrote_is}
 use Rattle.snapshot_save.proofs.write.dev_line.Goals as goal
 
-pub tab-q-requires : goal.tab-q-requires
-tab-q-requires c = omega (arith, float_length binary64 c.args.weight)
-
-pub tab-s-requires : goal.tab-s-requires
-tab-s-requires c = let a = c.args in omega (arith, float_length binary64 a.weight, float_length binary64 a.sum, float_length binary64 a.squares)
-
-pub tab-t-requires : goal.tab-t-requires
-tab-t-requires c = let a = c.args in omega (arith, float_length binary64 a.weight, float_length binary64 a.sum, float_length binary64 a.squares)
-
-pub write_byte-requires : goal.write_byte-requires
-write_byte-requires c = let a = c.args in omega (arith, float_length binary64 a.weight, float_length binary64 a.sum, float_length binary64 a.squares)
+pub list_line-requires : goal.list_line-requires
+list_line-requires c =
+    let a = c.args in
+    omega (arith, ap length (dev_bytes a.weight a.sum a.squares), dev_size a.weight a.sum a.squares)
 
 pub returns : goal.returns
-unfolding dev_line
-returns c = wrote_then c.write_name-p.ensures (wrote_then c.tab-q.ensures (wrote_then c.tab-s.ensures (wrote_then c.tab-t.ensures c.write_byte.ensures)))
+returns c = let a = c.args in wrote_is (dev_bytes a.weight a.sum a.squares) c.list_line.ensures
