@@ -21,6 +21,7 @@ pub(crate) fn codes_row(words: &[u64]) -> Result<(), Refusal>
     if fit { Ok(()) } else { Err(Refusal::Form) }
 }
 
+// Kept: (d) 16 words are a list with its length in a contract, here and below, for head.rt's reason.
 pub(crate) fn codes_of(words: &[u64]) -> [u16; 16]
     requires words_len { length words.now ≡ 16 }
     requires words_value { all_codes words.now ≡ true }
