@@ -6,8 +6,8 @@ use native.Mathlib.Omega.{arith}
 use native.Mathlib.Numerals.{add-one}
 use native.Mathlib.Nat.{mod-eq_of_lt}
 use lib.Dec.{T}
-use lib.ListN.{length, take, drop, get_or, set, drop_of_length-le}
-use lib.Seq.{drop-cons, take-suc-set, take_all}
+use lib.ListN.{length, take, get_or, set, drop_of_length-le}
+use lib.Seq.{take-suc-set, take_all}
 use lib.Ieee.{Float, binary32, fits, of_bits, to_bits}
 use lib.Ieee.Bits.{of_bits-to_bits, to_bits-lt}
 use Rattle.refusal.specs.Lent.{over}
