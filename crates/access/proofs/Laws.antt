@@ -11,18 +11,9 @@ use lib.ListN.{length, get_or, drop}
 use lib.Seq.{drop-cons}
 use Rattle.std.proofs.Common.{Less, Equal, Greater}
 use Rattle.std.specs.Ordering.{nat_cmp, ord_max, is_lt}
-use Rattle.trcf.specs.Preprocessor.{panel_of}
-use Rattle.trcf.specs.Types.{method_number, method_of_number, mode_letter, mode_of_letter}
-use Rattle.trcf.specs.View.{alone, ready_of, dimension_of}
-use Rattle.trcf.proofs.TypeLaws.{method_back, mode_back}
-use Rattle.trcf.specs.declared.types.TransformMethod.{TransformMethod}
-use Rattle.trcf.specs.declared.types.ForestMode.{ForestMode}
-use Rattle.trcf.specs.declared.head.Preprocessor.{Preprocessor}
-use Rattle.trcf.specs.declared.head.Status.{Status}
 use Rattle.access.specs.declared.rights.Right.{Right}
 use Rattle.access.specs.declared.rights.Right.TheVariants.{SEE, LEARN, SAVE, RESTORE}
 use Rattle.access.specs.Access.{bits, table_fits, table_entry, has, granted, guarded, every_right}
-use Rattle.access.specs.Entries.{status_numbers}
 
 -- ---- the cells, one by one
 
@@ -94,34 +85,3 @@ every_granted rs = has_every rs
 module _ {A : Type 0} where
   pub as_every : (t : List ℕ) (rs : List Right) (below withheld : A) → t ≡ every_right → guarded t 0 rs below withheld ≡ below
   as_every t rs below withheld e = ap (λ (x : List ℕ). guarded x 0 rs below withheld) e ∙ ap (λ (b : Bool). cond b below withheld) (every_granted rs)
-
--- ---- the getters' numbers together
-
-abbrev answered : ℕ → ℕ → Bool → ℕ → ℕ → ℕ → TransformMethod → ForestMode → ℕ → ℕ → Status
-answered a b r d e f k m i n =
-    record {
-      values_seen = a;
-      internal_timestamp = b;
-      ready = r;
-      input_dimensions = d;
-      shingle_size = e;
-      dimensions = f;
-      transform_method = k;
-      forest_mode = m;
-      start_normalization = i;
-      panel = n;
-    }
-
--- a kind is known by its number, or its letter
-pub same_method : (a b : TransformMethod) → method_number a ≡ method_number b → a ≡ b
-same_method a b e = sym (method_back a) ∙ ap method_of_number e ∙ method_back b
-
-pub same_mode : (a b : ForestMode) → mode_letter a ≡ mode_letter b → a ≡ b
-same_mode a b e = sym (mode_back a) ∙ ap mode_of_letter e ∙ mode_back b
-
-pub numbers_are : (h : Preprocessor) (u : TransformMethod) (v : ForestMode) {a b d e f i n : ℕ} {r : Bool}
-    → a ≡ h.values_seen → b ≡ h.internal_timestamp → r ≡ ready_of h → d ≡ h.transformer.input_length → e ≡ h.shingle_size → f ≡ dimension_of h
-    → method_number u ≡ method_number h.transformer.transform_method → mode_letter v ≡ mode_letter h.forest_mode → i ≡ h.start_normalization → n ≡ panel_of (alone h)
-    → answered a b r d e f u v i n ≡ status_numbers h
-numbers_are h u v a b r d e f k m i n =
-    λ j. answered (a j) (b j) (r j) (d j) (e j) (f j) (same_method u h.transformer.transform_method k j) (same_mode v h.forest_mode m j) (i j) (n j)

@@ -4,11 +4,13 @@ use Rattle.std.specs.Prelude.{ℕ, false, List, [], ◌∷◌, Float, Result, Ok
 use Rattle.refusal.specs.declared.Refusal.{Refusal}
 use Rattle.refusal.specs.declared.Refusal.TheVariants.{Withheld}
 use Rattle.trcf.specs.Calls.{Call, Learn, Forecast, shingled_point, post_process, drain, invert_extrapolation, status}
-use Rattle.trcf.specs.Preprocessor.{State, panel_of}
-use Rattle.trcf.specs.View.{Lent, alone, no_head, ready_of, dimension_of, Outcome, outcome, drain_of, PointOutcome, pointed, point_after, LearnOutcome, learn_nothing, learn_after, Written, written, write_of, StatusOutcome, status_given, status_after}
+use Rattle.trcf.specs.Preprocessor.{State}
+use Rattle.trcf.specs.View.{Lent, no_head, Outcome, outcome, drain_of, PointOutcome, pointed, point_after, LearnOutcome, learn_nothing, learn_after}
+use Rattle.trcf.specs.View.{Written, written, write_of, StatusOutcome, status_given, status_after}
 use Rattle.trcf.specs.Extrapolation.{Extrapolation, extrapolation, extrapolation_of}
 use Rattle.trcf.specs.declared.head.Preprocessor.{Preprocessor}
 use Rattle.trcf.specs.declared.head.Status.{Status}
+use Rattle.trcf_calls.specs.Getters.{status_of_head}
 use Rattle.snapshot.specs.Save.{save_of, SaveOutcome as Saved, save_outcome as saved}
 use Rattle.snapshot.specs.Restore.{restore_of, RestoreOutcome as Restored, restore_outcome as restored}
 use Rattle.access.specs.declared.rights.Right.TheVariants.{SEE, SAVE, RESTORE}
@@ -48,19 +50,7 @@ module _ {A : Type 0} where
   seen_by table role x = guarded table role (SEE ∷ []) (Ok x) (Err Withheld)
 
 abbrev pub status_numbers : Preprocessor → Status
-status_numbers h =
-    record {
-      values_seen = h.values_seen;
-      internal_timestamp = h.internal_timestamp;
-      ready = ready_of h;
-      input_dimensions = h.transformer.input_length;
-      shingle_size = h.shingle_size;
-      dimensions = dimension_of h;
-      transform_method = h.transformer.transform_method;
-      forest_mode = h.forest_mode;
-      start_normalization = h.start_normalization;
-      panel = panel_of (alone h);
-    }
+status_numbers h = status_of_head h
 
 -- ---- `save`, and `restore`, which does not look at the text where it is withheld
 

@@ -102,16 +102,5 @@ pub fn numbers(table: &[u8], role: u64, head: Preprocessor) -> Result<Status, Re
     ensures { result ≡ seen_by table.now role (status_numbers head) }
 {
     demand(table, role, Right::SEE)?;
-    Ok(Status {
-        values_seen: trcf_calls::queries::values_seen(head),
-        internal_timestamp: trcf_calls::queries::internal_timestamp(head),
-        ready: trcf_calls::queries::is_ready(head),
-        input_dimensions: trcf_calls::queries::input_dimensions(head),
-        shingle_size: trcf_calls::queries::shingle_size(head),
-        dimensions: trcf::head::get_dimension(head),
-        transform_method: trcf_calls::queries::transformation_method(head),
-        forest_mode: trcf_calls::queries::forest_mode(head),
-        start_normalization: trcf_calls::queries::start_normalization(head),
-        panel: trcf_calls::queries::panel(head),
-    })
+    Ok(trcf_calls::queries::status_of_head(head))
 }

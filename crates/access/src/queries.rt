@@ -1,7 +1,7 @@
 // The calls that change nothing, for a role that may see.
 ghost use Rattle.std.specs.Prelude.{◌≡◌};
 ghost use Rattle.refusal.specs.Refusal.{row_of};
-ghost use Rattle.ranges.specs.RangeVector.{ranges};
+ghost use Rattle.ranges.specs.RangeVector.{held, AreSameLoans};
 ghost use Rattle.trcf.specs.Calls.{transform, scale, shift, status};
 ghost use Rattle.trcf.specs.Preprocessor.{reading, transform_of, scale_of, shift_of, deviations};
 ghost use Rattle.trcf.specs.View.{lent_by, written, status_given};
@@ -68,7 +68,6 @@ pub fn difference_deviations(
     trcf_calls::queries::difference_deviations(head, lists, output)
 }
 
-// Kept: (a) C lends nine lists, which are put together here.
 pub fn invert_extrapolation(
     table: &[u8],
     role: u64,
@@ -76,20 +75,14 @@ pub fn invert_extrapolation(
     statistics: &[f64],
     last_shingled_input: &[f32],
     previous_timestamps: &[u64],
-    values: &mut [f32],
-    upper: &mut [f32],
-    lower: &mut [f32],
-    values_out: &mut [f32],
-    upper_out: &mut [f32],
-    lower_out: &mut [f32],
-    times_out: &mut [f64],
-    times_upper_out: &mut [f64],
-    times_lower_out: &mut [f64],
+    range: &mut RangeVector<f32>,
+    range_out: &mut RangeVector<f32>,
+    times_out: &mut RangeVector<f64>,
 ) -> Result<(), Refusal>
-    ensures { extrapolation (row_of result)
-        (forecast (ranges values.new upper.new lower.new) (ranges values_out.new upper_out.new lower_out.new) (ranges times_out.new times_upper_out.new times_lower_out.new))
+    ensures after { extrapolation (row_of result) (forecast (held range.new) (held range_out.new) (held times_out.new))
         ≡ extrapolation_by table.now role head statistics.now last_shingled_input.now previous_timestamps.now
-        (forecast (ranges values.old upper.old lower.old) (ranges values_out.old upper_out.old lower_out.old) (ranges times_out.old times_upper_out.old times_lower_out.old)) }
+        (forecast (held range.old) (held range_out.old) (held times_out.old)) }
+    ensures loans { AreSameLoans range.old range.new × AreSameLoans range_out.old range_out.new × AreSameLoans times_out.old times_out.new }
 {
     demand(table, role, Right::SEE)?;
     trcf_forecast::forecast::invert_extrapolation(
@@ -97,21 +90,9 @@ pub fn invert_extrapolation(
         statistics,
         last_shingled_input,
         previous_timestamps,
-        &mut RangeVector {
-            values,
-            upper,
-            lower,
-        },
-        &mut RangeVector {
-            values: values_out,
-            upper: upper_out,
-            lower: lower_out,
-        },
-        &mut RangeVector {
-            values: times_out,
-            upper: times_upper_out,
-            lower: times_lower_out,
-        },
+        range,
+        range_out,
+        times_out,
     )
 }
 

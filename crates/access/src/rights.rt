@@ -14,23 +14,25 @@ pub enum Right {
     RESTORE,
 }
 
+// The place of its cell among a role's four.
+impl From<Right> for usize {
+    ghost from_gives = { λ right at. (at ≡ place right) × (at < 4) };
+
+    fn from(right: Right) -> usize {
+        match right {
+            Right::SEE => 0,
+            Right::LEARN => 1,
+            Right::SAVE => 2,
+            Right::RESTORE => 3,
+        }
+    }
+}
+
 // The table of a program that asks for no roles.
 pub fn every_right() -> [u8; 16]
     ensures { result ≡ every_right }
 {
     [1; 16]
-}
-
-fn place_of(right: Right) -> usize
-    ensures value { result ≡ place right }
-    ensures upper_bound { result < 4 }
-{
-    match right {
-        Right::SEE => 0,
-        Right::LEARN => 1,
-        Right::SAVE => 2,
-        Right::RESTORE => 3,
-    }
 }
 
 // Whether every cell is 0 or 1, by the largest of them: all are looked at, so that a compiler can look at them at once.
@@ -56,7 +58,7 @@ fn is_granted(table: &[u8], role: u64, right: Right) -> bool
     requires { table_fits table.now role ≡ true }
     ensures { result ≡ eqb (table_entry table.now role right) 1 }
 {
-    let right_at = place_of(right);
+    let right_at = usize::from(right);
     let at = 4 * (role as usize) + right_at;
     table[at] == 1
 }

@@ -1,23 +1,17 @@
 -- Bits and kinds, and lists filled from the front. Assumes nothing.
 use Prim.Native.Nat.{ℕ, zero, suc, ◌+◌, ◌≤◌, ◌<◌}
-use mathlib.Core.Bool.{Bool, true, false, cond, ◌&&◌}
 use mathlib.Core.List.{List, [], ◌∷◌, ◌++◌, map, append-nil}
 use mathlib.Core.Path.{◌≡◌, refl, sym, ap, ◌∙◌}
 use native.Mathlib.Omega.{arith}
-use Rattle.std.proofs.Common.{Less, Equal, Greater}
-use Rattle.std.proofs.lemmas.Bool.Decides.{nat_tests}
-use Rattle.std.specs.Ordering.{nat_cmp, ord_max, is_lt}
 use native.Mathlib.Numerals.{add-one}
 use native.Mathlib.Nat.{mod-eq_of_lt}
-use lib.Dec.{T, ltb, leb, eqb}
-use lib.ListN.{length, take, drop, get_or, set, drop_of_length-le}
-use lib.Seq.{drop-cons, take-suc-set, take_all}
+use lib.Dec.{T}
+use lib.ListN.{length, take, get_or, set, drop_of_length-le}
+use lib.Seq.{take-suc-set, take_all}
 use lib.Ieee.{Float, binary32, fits, of_bits, to_bits}
 use lib.Ieee.Bits.{of_bits-to_bits, to_bits-lt}
 use Rattle.refusal.specs.Lent.{over}
 use Rattle.trcf.specs.Fit.{Fits}
-use Rattle.trcf.specs.Settings.{code_max}
-use Rattle.snapshot.specs.Read.{all_codes}
 use Rattle.trcf.specs.Types.{method_number}
 use Rattle.trcf.specs.declared.types.TransformMethod.{TransformMethod}
 use Rattle.trcf.specs.declared.types.TransformMethod.TheVariants.{NONE, WEIGHTED, DIFFERENCE, SUBTRACT_MA, NORMALIZE, NORMALIZE_DIFFERENCE}
@@ -73,41 +67,3 @@ module _ {A B : Type 0} (f : B → A) where
 pub over_whole : (old new : List ℕ) → length old ≤ length new → over old new ≡ new
 unfolding over
 over_whole old new h = ap (λ (r : List ℕ). new ++ r) (drop_of_length-le old h) ∙ append-nil new
-
--- ---- the codes of a head, by the largest of them
-
-module _ (a b : ℕ) where
-  larger_is : ord_max nat_cmp a b ≡ cond (ltb b a) a b
-  larger_is = go (ltb b a) (eqb b a)
-    where
-      go : (s t : Bool) → cond (is_lt (cond s Less (cond t Equal Greater))) a b ≡ cond s a b
-      go true t = refl
-      go false true = refl
-      go false false = refl
-
-  leb_larger : (n : ℕ) → leb (cond (ltb b a) a b) n ≡ leb a n && leb b n
-  leb_larger n = grind (arith, nat_tests)
-
-codes_step : (l : List ℕ) (i : ℕ) → i < length l → all_codes (drop i l) ≡ leb (get_or l i 0) code_max && all_codes (drop (i + 1) l)
-codes_step l i h = rw (add-one i, drop-cons l i 0 h)
-
-and_assoc : (a b c : Bool) → a && (b && c) ≡ (a && b) && c
-and_assoc true b c = refl
-and_assoc false b c = refl
-
-and_true : (b : Bool) → b && true ≡ b
-and_true true = refl
-and_true false = refl
-
--- one step of the walk over them: `largest` of those before i
-pub largest_code : (l : List ℕ) (i : ℕ) → i < length l → (largest : ℕ) → all_codes l ≡ leb largest code_max && all_codes (drop i l)
-    → all_codes l ≡ leb (ord_max nat_cmp largest (get_or l i 0)) code_max && all_codes (drop (i + 1) l)
-largest_code l i h largest inv =
-    inv
-    ∙ ap (λ (b : Bool). leb largest code_max && b) (codes_step l i h)
-    ∙ and_assoc (leb largest code_max) (leb (get_or l i 0) code_max) (all_codes (drop (i + 1) l))
-    ∙ ap (λ (b : Bool). b && all_codes (drop (i + 1) l)) (sym (leb_larger largest (get_or l i 0) code_max))
-    ∙ ap (λ (n : ℕ). leb n code_max && all_codes (drop (i + 1) l)) (sym (larger_is largest (get_or l i 0)))
-
-pub codes_met : (w : List ℕ) (i largest : ℕ) → length w ≤ i → all_codes w ≡ leb largest code_max && all_codes (drop i w) → all_codes w ≡ leb largest code_max
-codes_met w i largest h inv = inv ∙ ap (λ (l : List ℕ). leb largest code_max && all_codes l) (drop_of_length-le w h) ∙ and_true (leb largest code_max)

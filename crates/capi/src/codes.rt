@@ -10,21 +10,18 @@ use refusal::Refusal;
 // The largest code: 16 bits.
 const CODE_MAX: u64 = 65535;
 
-// Refused for a word that is no code, by the largest of them: all are looked at, so that a compiler can look at several at once.
+// Refused for a word that is no code: all are looked at, so that a compiler can look at several at once.
 pub(crate) fn codes_row(words: &[u64]) -> Result<(), Refusal>
     ensures { row_of result ≡ codes_row words.now }
 {
-    let mut largest = 0;
+    let mut fit = true;
     for word in words {
-        largest = largest.max(*word);
+        fit &= *word <= CODE_MAX;
     }
-    if CODE_MAX < largest {
-        Err(Refusal::Form)
-    } else {
-        Ok(())
-    }
+    if fit { Ok(()) } else { Err(Refusal::Form) }
 }
 
+// Kept: (d) 16 words are a list with its length in a contract, here and below, for head.rt's reason.
 pub(crate) fn codes_of(words: &[u64]) -> [u16; 16]
     requires words_len { length words.now ≡ 16 }
     requires words_value { all_codes words.now ≡ true }

@@ -19,6 +19,8 @@ use trcf_rows::rows::outside_row;
 // How many words a head takes.
 pub(crate) const HEAD_WORDS: usize = 44;
 
+// Kept: (d) 44 or 16 words are lists with their length in a contract, here and below: `first_chunk` gives `&[u64; 16]` of a part in an Option, which would
+// have to be opened by a test that cannot fail.
 fn weights_of(words: &[u64]) -> [f32; 16]
     requires { length words.now ≡ 16 }
     ensures { result ≡ map single words.now }

@@ -13,6 +13,7 @@ use crate::head::open_head;
 use access::queries::{difference_deviations, invert_extrapolation, scale, shift, transform};
 use access::rights::{Right, may};
 use access::snapshots::save;
+use ranges::rangevector::RangeVector;
 use refusal::row_of;
 use trcf::head::LentLists;
 
@@ -177,6 +178,21 @@ pub extern "C" fn veerycouch_invert_extrapolation(
         Ok(before) => before,
         Err(refusal) => return u64::from(refusal),
     };
+    let mut range = RangeVector {
+        values,
+        upper,
+        lower,
+    };
+    let mut range_out = RangeVector {
+        values: values_out,
+        upper: upper_out,
+        lower: lower_out,
+    };
+    let mut times_range = RangeVector {
+        values: times_out,
+        upper: times_upper_out,
+        lower: times_lower_out,
+    };
     row_of(invert_extrapolation(
         table,
         role,
@@ -184,15 +200,9 @@ pub extern "C" fn veerycouch_invert_extrapolation(
         statistics,
         last_shingled_input,
         previous_timestamps,
-        values,
-        upper,
-        lower,
-        values_out,
-        upper_out,
-        lower_out,
-        times_out,
-        times_upper_out,
-        times_lower_out,
+        &mut range,
+        &mut range_out,
+        &mut times_range,
     ))
 }
 

@@ -16,11 +16,11 @@ fn tell_refused(place: &mut u64, error: RestoreError) -> u64
     ensures row_value { result ≡ row_told error }
     ensures place_after { place.new ≡ cond (eqb (row_told error) 19) (line_told error) place.old }
 {
-    let row = u64::from(error.refusal());
-    if row == 19 {
+    let refusal = error.refusal();
+    if matches!(refusal, Refusal::Form) {
         *place = error.line() as u64;
     }
-    row
+    u64::from(refusal)
 }
 
 // The preprocessor of a text that holds the codes expected: the head into its words, the lists filled. 19 with the bad line, 27 where the codes differ, 20
@@ -40,9 +40,10 @@ pub extern "C" fn veerycouch_restore(
     initial_timestamps: &mut [u64],
     line: &mut u64,
 ) -> u64
-    ensures { restore_called result head.new (lent statistics.new last_shingled_input.new last_shingled_point.new previous_timestamps.new initial_values.new initial_timestamps.new) line.new
-        ≡ restore_at table.now role text.now codes.now head.old (lent statistics.old last_shingled_input.old last_shingled_point.old previous_timestamps.old initial_values.old initial_timestamps.old)
-        line.old }
+    ensures { restore_called result head.new
+        (lent statistics.new last_shingled_input.new last_shingled_point.new previous_timestamps.new initial_values.new initial_timestamps.new) line.new
+        ≡ restore_at table.now role text.now codes.now head.old
+        (lent statistics.old last_shingled_input.old last_shingled_point.old previous_timestamps.old initial_values.old initial_timestamps.old) line.old }
 {
     if !may(table, role, Right::RESTORE) {
         return u64::from(Refusal::Withheld);

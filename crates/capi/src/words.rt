@@ -17,7 +17,8 @@ pub(crate) fn kind_row(mode: u64, method: u64) -> Result<(), Refusal>
     }
 }
 
-// Kept: (a) C has numbers for the modes, and not the letters that `u8::from` gives.
+// Kept: (d) a kind of every number, as specs/Head defines it, here and in `method_of`: `kind_row` has refused a number of none before, so that a Result would
+// have a second test that cannot fail.
 pub(crate) fn mode_of(n: u64) -> ForestMode
     ensures { result ≡ mode_of n }
 {
@@ -29,6 +30,7 @@ pub(crate) fn mode_of(n: u64) -> ForestMode
     }
 }
 
+// Kept: (a) C has numbers for the modes, and not the letters that `u8::from` gives.
 pub(crate) fn mode_number(m: ForestMode) -> u64
     ensures { result ≡ mode_number m }
 {

@@ -1,11 +1,11 @@
 // The calls that change nothing: what a reading would be transformed to, what the statistics say, and what the head holds.
-ghost use Rattle.std.specs.Prelude.{◌≡◌, List, Float, Ok};
+ghost use Rattle.std.specs.Prelude.{◌≡◌};
 ghost use Rattle.refusal.specs.Refusal.{row_of};
 ghost use Rattle.trcf.specs.Types.{method_number, mode_letter};
 ghost use Rattle.trcf.specs.Calls.{transform, scale, shift, status};
 ghost use Rattle.trcf.specs.Preprocessor.{reading, transform_of, scale_of, shift_of, deviations};
 ghost use Rattle.trcf.specs.View.{lent_by, written, write_of, getters_of, status_given, status_after};
-ghost use Rattle.trcf.specs.Steps.Told.{told_by};
+ghost use Rattle.trcf_calls.specs.Getters.{status_of_head};
 
 use refusal::Refusal;
 use trcf::head::{LentLists, Preprocessor, Status, get_dimension, head_row, statistics_length};
@@ -134,8 +134,8 @@ pub fn start_normalization(head: Preprocessor) -> usize
 }
 
 // What the getters say together.
-fn told(head: Preprocessor) -> Status
-    ensures { (out : List Float) → status_given (Ok result) out ≡ record { row = 0; numbers = told_by head out } }
+pub fn status_of_head(head: Preprocessor) -> Status
+    ensures { result ≡ status_of_head head }
 {
     Status {
         values_seen: head.values_seen,
@@ -157,5 +157,5 @@ pub fn status(head: Preprocessor, lists: LentLists, output: &mut [f32]) -> Resul
 {
     let deviations = difference_deviations(head, lists, output);
     deviations?;
-    Ok(told(head))
+    Ok(status_of_head(head))
 }

@@ -24,51 +24,55 @@ use trcf::transformer::{invert_forecast_in_place, is_broken};
 use trcf::types::{is_augmented, is_gap};
 use trcf_rows::rows::is_misfit;
 
-// How long each list of a forecast and of its outputs is.
+// How long the three lists of a range are.
 #[derive(Clone, Copy)]
-struct Lengths {
+struct RangeLengths {
     values: usize,
     upper: usize,
     lower: usize,
-    values_out: usize,
-    upper_out: usize,
-    lower_out: usize,
-    times_out: usize,
-    times_upper_out: usize,
-    times_lower_out: usize,
+}
+
+impl RangeLengths {
+    // Whether one of them is shorter than n.
+    fn is_shorter(self, n: usize) -> bool
+        ensures value { result ≡ shorter_at self.values self.upper self.lower n }
+        ensures longer { result ≡ false → Longer n self.values self.upper self.lower }
+    {
+        self.values < n || self.upper < n || self.lower < n
+    }
+}
+
+// How long the lists of a forecast and of its outputs are.
+#[derive(Clone, Copy)]
+struct Lengths {
+    range: RangeLengths,
+    range_out: RangeLengths,
+    times_out: RangeLengths,
 }
 
 // Row 16.
 #[tactic(auto, unfolding(trcf::specs::Calls::forecast_unfit), using(trcf::proofs::LengthLaws::dimension_known))]
-fn broken_row(head: Preprocessor, values: usize, upper: usize, lower: usize) -> Result<(), Refusal>
+fn broken_row(head: Preprocessor, range: RangeLengths) -> Result<(), Refusal>
     requires { Bounded (settings_of head) }
-    ensures value { row_of result ≡ first_of ((forecast_unfit (settings_of head) values upper lower, 16) ∷ []) }
-    ensures unbroken { OnOk result (Unbroken (settings_of head) values upper lower) }
+    ensures value { row_of result ≡ first_of ((forecast_unfit (settings_of head) range.values range.upper range.lower, 16) ∷ []) }
+    ensures unbroken { OnOk result (Unbroken (settings_of head) range.values range.upper range.lower) }
 {
-    if values != upper || values != lower {
+    if range.values != range.upper || range.values != range.lower {
         return Err(Refusal::ForecastShape);
     }
     let broken = if is_augmented(head.forest_mode) {
-        values < get_dimension(head)
+        range.values < get_dimension(head)
     } else {
         is_broken(
             head.transformer.transform_method,
             head.transformer.input_length,
-            values,
+            range.values,
         )
     };
     if broken {
         return Err(Refusal::ForecastShape);
     }
     Ok(())
-}
-
-// Whether one of three lists is shorter than n.
-fn is_shorter(values: usize, upper: usize, lower: usize, n: usize) -> bool
-    ensures value { result ≡ shorter_at values upper lower n }
-    ensures longer { result ≡ false → Longer n values upper lower }
-{
-    values < n || upper < n || lower < n
 }
 
 // Row 20 of the output.
@@ -81,21 +85,11 @@ fn output_row(head: Preprocessor, lengths: Lengths) -> Result<(), Refusal>
     let k = head.shingle_size;
     let a = get_dimension(head);
     if is_augmented(head.forest_mode) {
-        let h = lengths.values / a;
-        if is_shorter(
-            lengths.values_out,
-            lengths.upper_out,
-            lengths.lower_out,
-            h * (d * k),
-        ) {
+        let h = lengths.range.values / a;
+        if lengths.range_out.is_shorter(h * (d * k)) {
             return Err(Refusal::TooShort);
         }
-        if is_shorter(
-            lengths.times_out,
-            lengths.times_upper_out,
-            lengths.times_lower_out,
-            h,
-        ) {
+        if lengths.times_out.is_shorter(h) {
             return Err(Refusal::TooShort);
         }
     }
@@ -143,7 +137,7 @@ fn extrapolation_row(
     ensures invertible { OnOk result (Invertible (settings_of head) statistics inputs times (sizes_in lengths)) }
 {
     head_row(head)?;
-    broken_row(head, lengths.values, lengths.upper, lengths.lower)?;
+    broken_row(head, lengths.range)?;
     counters_row(head)?;
     output_row(head, lengths)?;
     unread_row(head, statistics, inputs, times)
@@ -453,15 +447,21 @@ pub fn invert_extrapolation(
     ensures loans { AreSameLoans range.old range.new × AreSameLoans range_out.old range_out.new × AreSameLoans times_out.old times_out.new }
 {
     let lengths = Lengths {
-        values: range.values.len(),
-        upper: range.upper.len(),
-        lower: range.lower.len(),
-        values_out: range_out.values.len(),
-        upper_out: range_out.upper.len(),
-        lower_out: range_out.lower.len(),
-        times_out: times_out.values.len(),
-        times_upper_out: times_out.upper.len(),
-        times_lower_out: times_out.lower.len(),
+        range: RangeLengths {
+            values: range.values.len(),
+            upper: range.upper.len(),
+            lower: range.lower.len(),
+        },
+        range_out: RangeLengths {
+            values: range_out.values.len(),
+            upper: range_out.upper.len(),
+            lower: range_out.lower.len(),
+        },
+        times_out: RangeLengths {
+            values: times_out.values.len(),
+            upper: times_out.upper.len(),
+            lower: times_out.lower.len(),
+        },
     };
     extrapolation_row(
         head,

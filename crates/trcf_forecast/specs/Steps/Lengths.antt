@@ -6,7 +6,8 @@ use Rattle.trcf_forecast.specs.declared.forecast.Lengths.{Lengths}
 
 abbrev pub sizes_in : Lengths → Sizes
 sizes_in n =
-    sizes n.values n.upper n.lower n.values_out n.upper_out n.lower_out n.times_out n.times_upper_out n.times_lower_out
+    sizes n.range.values n.range.upper n.range.lower n.range_out.values n.range_out.upper n.range_out.lower
+    n.times_out.values n.times_out.upper n.times_out.lower
 
 -- the lengths of the forecast and of the lists that are lent for its numbers and times
 abbrev pub sizes_of : RangeVector Float → RangeVector Float → RangeVector Float → Sizes

@@ -25,7 +25,7 @@ overflow_mul-d c =
 pub overflow_mul-h : goal.overflow_mul-h
 overflow_mul-h c =
     let p = numbers_within (settings_of c.args.head) in
-    let q = numbers_fit c.args.lengths.values c.get_dimension-a.result
+    let q = numbers_fit c.args.lengths.range.values c.get_dimension-a.result
     (c.args.head.transformer.input_length * c.args.head.shingle_size)
     (rw (dimension_known c.get_dimension-a.ensures (search rules)).0 p) in
     omega arith
