@@ -51,7 +51,8 @@ fn narrow_size(y: u64) -> u64
 }
 
 // The f32 nearest to x. A not-a-number is tested first, because its bits are undefined.
-// Kept: (b) `std::num::nearest_f64_to_f32_with_nan` in its place takes 84 instructions for 40, and 8.5 ns for 5.7.
+// Kept: (b) `std::num::nearest_f64_to_f32_with_nan` in its place takes 84 instructions for 40, and 8.5 ns for 5.7. The bar that it misses: tools/speed fails
+// where `to_f32, independent`, 28 in tools/speed.counts, grows by more than 5 per cent.
 pub fn to_f32(x: f64) -> f32
     ensures { result ≡ narrowed x }
 {
@@ -79,7 +80,8 @@ pub fn u64_to_f64(n: u64) -> f64
 }
 
 // The f32 nearest to n, rounded once: by way of an f64 it would be rounded twice.
-// Kept: (b) `std::num::nearest_u64_to_f32` in its place takes 51 instructions for 40, and 6.0 ns for 4.0.
+// Kept: (b) `std::num::nearest_u64_to_f32` in its place takes 51 instructions for 40, and 6.0 ns for 4.0. It has no work of its own in tools/speed.counts. A cell of
+// `impute, LINEAR, one gap of 1998` calls it twice: 22 more than its 58 miss the bar of 5 per cent there, as reckoned from these numbers and not counted.
 pub fn u64_to_f32(n: u64) -> f32
     ensures { result ≡ of_int binary32 (pos n) }
 {

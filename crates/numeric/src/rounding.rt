@@ -16,7 +16,8 @@ pub(crate) fn nearest(m: u64, d: u64) -> u64
     q + up
 }
 
-// Kept: (b) `nearest(m, 29)` in its place takes 4.2 instructions more of the 28 of a narrowing, and 4.55 ns for 3.97.
+// Kept: (b) `nearest(m, 29)` in its place takes 4.2 instructions more of the 28 of a narrowing, and 4.55 ns for 3.97. The bar that it misses: tools/speed fails
+// where `to_f32, independent`, 28 in tools/speed.counts, grows by more than 5 per cent.
 // The same at d = 29, which leaves 24 of a double's 53 digits. Half of 2^29 is added, less one, and the quotient's last digit: a carry into the quotient rounds it up.
 pub(crate) fn nearest_24(m: u64) -> u64
     requires { m < 2 ^ 63 }

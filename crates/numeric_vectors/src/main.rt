@@ -2,7 +2,8 @@
 // A line is a letter, a tab, 16 hexadecimal digits, a tab, 16 hexadecimal digits and an LF: the function, the argument's bits and the answer's.
 #![tactic(auto)]
 
-use std::fs;
+use std::str::FromStr;
+use std::{fmt, fs};
 use vectors_core::field::pattern;
 
 // The functions, in the order of the report.
@@ -25,30 +26,40 @@ const FUNCTIONS: [Function; 6] = [
     Function::DigitsOfSqrt,
 ];
 
-impl Function {
-    fn of_letter(letter: &str) -> Option<Function> {
+// No function has this letter.
+#[derive(Clone, Copy, Debug, PartialEq, Eq)]
+struct NoFunction;
+
+impl FromStr for Function {
+    type Err = NoFunction;
+
+    fn from_str(letter: &str) -> Result<Function, NoFunction> {
         match letter {
-            "s" => Some(Function::Sqrt),
-            "n" => Some(Function::Narrow),
-            "w" => Some(Function::Widen),
-            "d" => Some(Function::WholeAsDouble),
-            "f" => Some(Function::WholeAsSingle),
-            "c" => Some(Function::DigitsOfSqrt),
-            _ => None,
+            "s" => Ok(Function::Sqrt),
+            "n" => Ok(Function::Narrow),
+            "w" => Ok(Function::Widen),
+            "d" => Ok(Function::WholeAsDouble),
+            "f" => Ok(Function::WholeAsSingle),
+            "c" => Ok(Function::DigitsOfSqrt),
+            _ => Err(NoFunction),
         }
     }
+}
 
-    fn name(self) -> &'static str {
-        match self {
+impl fmt::Display for Function {
+    fn fmt<W: fmt::Write>(&self, f: &mut fmt::Formatter<W>) -> fmt::Result {
+        f.write_str(match self {
             Function::Sqrt => "sqrt",
             Function::Narrow => "to_f32",
             Function::Widen => "to_f64",
             Function::WholeAsDouble => "u64_to_f64",
             Function::WholeAsSingle => "u64_to_f32",
             Function::DigitsOfSqrt => "digits of sqrt",
-        }
+        })
     }
+}
 
+impl Function {
     fn answer(self, given: u64) -> u64 {
         match self {
             Function::Sqrt => numeric::double_bits(numeric::sqrt(numeric::double_of(given)).root),
@@ -72,7 +83,7 @@ fn parse(line: &str) -> Option<Case> {
     let (letter, rest) = line.split_once('\t')?;
     let (given, wanted) = rest.split_once('\t')?;
     Some(Case {
-        function: Function::of_letter(letter)?,
+        function: letter.parse().ok()?,
         given: pattern(given.as_bytes(), 16)?,
         wanted: pattern(wanted.as_bytes(), 16)?,
     })
@@ -91,8 +102,7 @@ fn report(rt: &impl Print, text: &str, function: Function) {
             }
         }
     }
-    let name = function.name();
-    let _ = println!(rt; "{name}: agree {agree}, differ {differ}");
+    let _ = println!(rt; "{function}: agree {agree}, differ {differ}");
 }
 
 fn report_all(rt: &impl Print, text: &str) {

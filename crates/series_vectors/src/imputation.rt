@@ -3,19 +3,9 @@ use crate::words::{Words, holds};
 use refusal::row_of;
 use series::imputation::{ImputationMethod, impute};
 
-fn method(n: u64) -> Option<ImputationMethod> {
-    match n {
-        0 => Some(ImputationMethod::FIXED),
-        1 => Some(ImputationMethod::PREVIOUS),
-        2 => Some(ImputationMethod::NEXT),
-        3 => Some(ImputationMethod::LINEAR),
-        _ => None,
-    }
-}
-
 // Whether a line's call answers as the line says. A refused one leaves every cell, so all cells are compared in any case.
 pub(crate) fn agrees(words: &mut Words<'_>) -> Option<bool> {
-    let rule = method(words.next()?)?;
+    let rule = ImputationMethod::try_from(words.next::<u64>()?).ok()?;
     let d = words.next()?;
     let mut cells = words.list::<f32>()?;
     let marks = words.list::<u8>()?;

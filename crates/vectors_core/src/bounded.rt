@@ -1,5 +1,5 @@
 // Values with their upper and lower bounds: three lists, which a line gives, or which a call writes to.
-ghost use Rattle.std.specs.Prelude.{◌≡◌, ◌≤◌, length, All, IfOk, IsTrue, OnOk};
+ghost use Rattle.std.specs.Prelude.{◌≡◌, ◌↔◌, ◌≤◌, length, All, IfOk, IsOk, IsTrue};
 
 use crate::field::Lent;
 use crate::fields::{Differs, Fields, expect_untouched};
@@ -45,7 +45,8 @@ impl<T: Lent> Bounded<T> {
     }
 
     pub fn expect_untouched(&self) -> Result<(), Differs>
-        ensures { OnOk result (All (λ x. IsTrue (T.same x T.OLD)) self.now.values.items × All (λ x. IsTrue (T.same x T.OLD)) self.now.upper.items × All (λ x. IsTrue (T.same x T.OLD)) self.now.lower.items) }
+        ensures { IsOk result ↔ (All (λ x. IsTrue (T.same x T.OLD)) self.now.values.items × All (λ x. IsTrue (T.same x T.OLD)) self.now.upper.items ×
+            All (λ x. IsTrue (T.same x T.OLD)) self.now.lower.items) }
     {
         expect_untouched(&self.values)?;
         expect_untouched(&self.upper)?;

@@ -48,7 +48,8 @@ impl<'a> Fields<'a> {
 
     // A field, and what is left after the byte that ends it. Where nothing ends it, nothing is read.
     fn next(&mut self) -> Result<&'a [u8], Differs>
-        ensures field { IfOk result (λ field. (field.now ≡ take (length field.now) self.old.rest.now) × (self.new.rest.now ≡ drop (length field.now + 1) self.old.rest.now) × (length field.now < length self.old.rest.now)) }
+        ensures field { IfOk result (λ field. (field.now ≡ take (length field.now) self.old.rest.now) ×
+            (self.new.rest.now ≡ drop (length field.now + 1) self.old.rest.now) × (length field.now < length self.old.rest.now)) }
         ensures kept { OnErr result (self.new.rest.now ≡ self.old.rest.now) }
     {
         let rest = self.rest;

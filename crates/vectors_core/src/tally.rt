@@ -1,12 +1,12 @@
 // How many lines of a file agree, and the report.
-ghost use Rattle.std.specs.Prelude.{if◌then◌else◌, ◌≡◌, ◌||◌, ◌++◌, ◌∷◌, [], leb, OnOk, vec_len};
+ghost use Rattle.std.specs.Prelude.{if◌then◌else◌, ◌≡◌, ◌||◌, ◌++◌, ◌∷◌, [], leb, take};
 ghost use Rattle.vectors_core.specs.Tally.{one_more};
 
 use crate::fields::Differs;
-use std::alloc::{AllocError, Global};
+use std::alloc::Global;
+use std::fs;
 use std::io::Read;
 use std::rt::Files;
-use std::{fs, io};
 
 /// A line that differs: its number, from 1 on, and its letter, which may be any byte.
 #[derive(Clone, Copy, Debug, PartialEq, Eq)]
@@ -19,44 +19,49 @@ pub struct Named {
 const NAMED: usize = 5;
 
 /// How many lines agree with the Rust and how many do not, and the first of these.
-#[derive(Drop)]
+#[derive(Clone, Copy)]
 pub struct Tally {
     pub agree: u64,
     pub differ: u64,
-    pub named: Vec<Named>,
+    // The lines that are named stand at the front, as many as differ or all.
+    // Kept: (a) an array, since a count must not fail, and a `push` to a Vec may.
+    pub named: [Named; NAMED],
 }
 
 impl Tally {
-    pub fn new(alloc: Global) -> Tally
-        ensures { (result.agree ≡ 0) × (result.differ ≡ 0) × (result.named.items ≡ []) }
+    pub fn new() -> Tally
+        ensures { (result.agree ≡ 0) × (result.differ ≡ 0) × (take result.differ result.named ≡ []) }
     {
         Tally {
             agree: 0,
             differ: 0,
-            named: Vec::new(alloc),
+            named: [Named {
+                number: 0,
+                letter: 0,
+            }; NAMED],
         }
     }
 
     /// One line more.
-    pub fn count(&mut self, line: Named, agrees: bool) -> Result<(), AllocError>
+    pub fn count(&mut self, line: Named, agrees: bool)
         ensures agree { self.new.agree ≡ (if agrees then one_more self.old.agree else self.old.agree) }
         ensures differ { self.new.differ ≡ (if agrees then self.old.differ else one_more self.old.differ) }
-        ensures named { OnOk result (self.new.named.items ≡ (if agrees || leb 5 (vec_len self.old.named) then self.old.named.items else self.old.named.items ++ line ∷ [])) }
+        ensures named { take self.new.differ self.new.named ≡
+            (if agrees || leb 5 self.old.differ then take self.old.differ self.old.named else take self.old.differ self.old.named ++ line ∷ []) }
     {
         if agrees {
             self.agree = self.agree.saturating_add(1);
-            return Ok(());
+            return;
+        }
+        if self.differ < NAMED as u64 {
+            self.named[self.differ as usize] = line;
         }
         self.differ = self.differ.saturating_add(1);
-        if self.named.len() < NAMED {
-            self.named.push(line)?;
-        }
-        Ok(())
     }
 
     /// The first lines that differ, and then a line with the file's name and both numbers.
     pub fn report(&self, rt: &impl Print, name: &str) {
-        for line in &self.named {
+        for line in self.named.iter().take(self.differ as usize) {
             let number = line.number;
             let _ = print!(rt; "differs: line {number}");
             let _ = rt.write_all(&[b' ', line.letter, b'\n']);
@@ -86,18 +91,17 @@ pub fn replay<F: FnMut(&[u8]) -> Result<(), Differs>>(
     rt: &(impl Files + Alloc<A = Global> + Print + Eprint),
     name: &str,
     mut answer: F,
-) -> io::Result<()>
+)
     requires { F.IsAlwaysCallable answer }
 {
     let text = read_file(rt, name);
-    let mut tally = Tally::new(rt.alloc());
+    let mut tally = Tally::new();
     for (i, line) in text.split_inclusive(|b| *b == b'\n').enumerate() {
         let named = Named {
             number: i as u64 + 1,
             letter: line[0],
         };
-        tally.count(named, answer(line).is_ok())?;
+        tally.count(named, answer(line).is_ok());
     }
     tally.report(rt, name);
-    Ok(())
 }

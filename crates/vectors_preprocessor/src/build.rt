@@ -1,7 +1,7 @@
 // The line that begins a list of the kind preprocessor: `build`.
 use crate::replayed::Replayed;
 use trcf::head::{PreprocessorBuilder, no_head};
-use trcf::types::{method_of_number, mode_of_letter};
+use trcf::types::{TransformMethod, mode_of_letter};
 use trcf_calls::build::build;
 use vectors_core::fields::{Differs, Fields};
 
@@ -9,7 +9,7 @@ use vectors_core::fields::{Differs, Fields};
 fn read_settings(fields: &mut Fields<'_>) -> Result<PreprocessorBuilder, Differs> {
     Ok(PreprocessorBuilder {
         forest_mode: mode_of_letter(fields.letter()? as u64),
-        transform_method: method_of_number(fields.read()?),
+        transform_method: TransformMethod::try_from(fields.read::<u64>()?).map_err(|_| Differs)?,
         input_dimensions: fields.read::<u64>()? as usize,
         shingle_size: fields.read::<u64>()? as usize,
         start_normalization: fields.read::<u64>()? as usize,

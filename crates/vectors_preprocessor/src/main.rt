@@ -22,7 +22,8 @@ fn replay_file(
 ) -> io::Result<()> {
     let alloc = rt.alloc();
     let mut state = Replayed::new(alloc)?;
-    replay(rt, name, |line| replay_line(&mut state, alloc, line))
+    replay(rt, name, |line| replay_line(&mut state, alloc, line));
+    Ok(())
 }
 
 fn main(rt: HostRuntime) -> io::Result<()> {

@@ -54,7 +54,7 @@ pub(crate) fn replay_file(
     let alloc = rt.alloc();
     let file = read_file(rt, name);
     let mut memory = Memory::new(alloc, 4000)?;
-    let mut tally = Tally::new(alloc);
+    let mut tally = Tally::new();
     let mut rest = file.as_slice();
     for number in 1..u64::MAX {
         let Some(letter) = rest.first() else {
@@ -67,11 +67,11 @@ pub(crate) fn replay_file(
         match first_text(alloc, rest) {
             Ok(placed) => {
                 let agrees = replay_text(alloc, placed, &mut memory).is_ok();
-                tally.count(line, agrees)?;
+                tally.count(line, agrees);
                 rest = placed.behind;
             }
             Err(_) => {
-                tally.count(line, false)?;
+                tally.count(line, false);
                 break;
             }
         }

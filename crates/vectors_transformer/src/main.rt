@@ -3,12 +3,11 @@
 
 mod transformer;
 
-use std::io;
 use transformer::Transformed;
 use vectors_core::tally::replay;
 
-fn main(rt: HostRuntime) -> io::Result<()> {
+fn main(rt: HostRuntime) {
     let alloc = rt.alloc();
     let mut state = Transformed::new();
-    replay(&rt, "transformer", |line| state.replay_line(alloc, line))
+    replay(&rt, "transformer", |line| state.replay_line(alloc, line));
 }

@@ -3,7 +3,7 @@ use ranges::rangevector::RangeVector;
 use refusal::{Refusal, row_of};
 use std::alloc::Global;
 use trcf::transformer::WeightedTransformer;
-use trcf::types::{TransformMethod, method_of_number};
+use trcf::types::TransformMethod;
 use vectors_core::bounded::Bounded;
 use vectors_core::field::Lent;
 use vectors_core::fields::{Differs, Fields, expect_untouched};
@@ -42,7 +42,7 @@ impl Transformed {
     }
 
     fn new_line(&mut self, mut fields: Fields<'_>) -> Result<(), Differs> {
-        let method = method_of_number(fields.read()?);
+        let method = TransformMethod::try_from(fields.read::<u64>()?).map_err(|_| Differs)?;
         let d = fields.read::<u64>()? as usize;
         let decay = fields.read()?;
         let weights = fields.list::<f32>()?;

@@ -25,7 +25,12 @@ pub float_to_bits-b : goal.float_to_bits-b
 float_to_bits-b c = rw (sym c.is_nan.ensures.value ∙ c.if-is_nan.false) tt
 
 pub narrow_size-low-requires : goal.narrow_size-low-requires
-narrow_size-low-requires c = let x = c.args.x in record { y_bound = omega arith; y_value = no_nan_size x (held (goal.at.narrow_size-low-requires c).Start) (rw (sym c.is_nan.ensures.value ∙ c.if-is_nan.false) tt) }
+narrow_size-low-requires c =
+    let x = c.args.x in
+    record {
+      y_bound = omega arith;
+      y_value = no_nan_size x (held (goal.at.narrow_size-low-requires c).Start) (rw (sym c.is_nan.ensures.value ∙ c.if-is_nan.false) tt);
+    }
 
 pub overflow_mul-result : goal.overflow_mul-result
 overflow_mul-result c = let h : to_bits binary64 c.args.x < 2 ^ 64 = to_bits-lt binary64 c.args.x (held (goal.at.overflow_mul-result c).Start) in omega arith

@@ -148,7 +148,10 @@ pub nonzero_rem-left : goal.nonzero_rem-left
 nonzero_rem-left c = let b = root_lo (goal.at.nonzero_rem-left c).After-small_root-s in omega arith
 
 pub overflow_mul-left-2 : goal.overflow_mul-left-2
-overflow_mul-left-2 c = let b = root_hi (goal.at.overflow_mul-left-2 c).After-small_root-s in let u = u_lt c.args.n c.small_root-s.result c.requires.bound c.requires.n_bound c.small_root-s.ensures in omega arith
+overflow_mul-left-2 c =
+    let b = root_hi (goal.at.overflow_mul-left-2 c).After-small_root-s in
+    let u = u_lt c.args.n c.small_root-s.result c.requires.bound c.requires.n_bound c.small_root-s.ensures in
+    omega arith
 
 pub overflow_mul-square : goal.overflow_mul-square
 overflow_mul-square c = let b = square_le c.args.n c.small_root-s.result c.requires.bound c.requires.n_bound c.small_root-s.ensures in omega arith
@@ -175,7 +178,11 @@ pub overflow_mul-result : goal.overflow_mul-result
 overflow_mul-result c = let b = root_hi (goal.at.overflow_mul-result c).After-small_root-s in let l = low_hi (goal.at.overflow_mul-result c).After-small_root-s in omega arith
 
 pub overflow_add-result : goal.overflow_add-result
-overflow_add-result c = let b = root_hi (goal.at.overflow_add-result c).After-small_root-s in let l = low_hi (goal.at.overflow_add-result c).After-small_root-s in let m = small (how (goal.at.overflow_add-result c).After-from-rest) in omega arith
+overflow_add-result c =
+    let b = root_hi (goal.at.overflow_add-result c).After-small_root-s in
+    let l = low_hi (goal.at.overflow_add-result c).After-small_root-s in
+    let m = small (how (goal.at.overflow_add-result c).After-from-rest) in
+    omega arith
 
 pub returns : goal.returns
 returns c =

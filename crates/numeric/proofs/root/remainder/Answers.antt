@@ -53,4 +53,8 @@ returns c =
     let h = low_le k c.requires.c_bound in
     let d = n + 0x4000_0100 - k / 2 ^ 26 * (k / 2 ^ 26) in
     let v = d * 2 ^ 26 - (k / 2 ^ 26 * (k % 2 ^ 26) * 2 + 2 ^ 56) in
-    record { c_value = identity n k (k / 2 ^ 26) (k % 2 ^ 26) d v (v * 2 ^ 26 - k % 2 ^ 26 * (k % 2 ^ 26)) (omega arith) (omega arith) (omega arith) (omega arith); bound_2 = omega arith; upper_bound = omega arith }
+    record {
+      c_value = identity n k (k / 2 ^ 26) (k % 2 ^ 26) d v (v * 2 ^ 26 - k % 2 ^ 26 * (k % 2 ^ 26)) (omega arith) (omega arith) (omega arith) (omega arith);
+      bound_2 = omega arith;
+      upper_bound = omega arith;
+    }

@@ -11,7 +11,8 @@ pub returns : goal.returns
 returns c =
     let x = c.args.cells.now in
     let m = c.args.marks.now in
+    let pairs = YieldsList-from_zip {s = c.zip.result} (YieldsList-from_slice {s = c.zip.result.a} x cc) (YieldsList-from_slice {s = c.zip.result.b} m (search rules)) in
     every_is fits_mark (zip x m) c.all.result
     (cases_from_all c.all.new.self _ _ (λ p. fits_mark p ≡ true) (λ p. fits_mark p ≡ false) c.all.ensures.ran
-    (YieldsList-from_zip {s = c.zip.result} (YieldsList-from_slice {s = c.zip.result.a} x cc) (YieldsList-from_slice {s = c.zip.result.b} m (search rules))) (λ x q k. search (rules, finite_is)) (λ x q k. search (rules, finite_is)))
+    pairs (λ x q k. search (rules, finite_is)) (λ x q k. search (rules, finite_is)))
     ∙ every_present x m
