@@ -1,5 +1,4 @@
 // The calls that may change the trace, for a role that has their rights.
-// Kept: (c) lists that a call writes are parameters of their own: of a struct of them that is handed on whole the check does not tell what it holds after the call (tried on drain).
 ghost use Rattle.std.specs.Prelude.{◌≡◌, is_some};
 ghost use Rattle.trcf.specs.View.{lent, head_outcome, point_outcome, learn_call, processed_outcome};
 ghost use Rattle.trcf_learn.specs.Given.{list_in};

@@ -1,5 +1,4 @@
 // `save` and `restore`, each for a role that has its right.
-// Kept: (c) lists that a call writes are parameters of their own: of a struct of them that is handed on whole the check does not tell what it holds after the call (tried on drain).
 ghost use Rattle.std.specs.Prelude.{◌≡◌};
 ghost use Rattle.trcf.specs.View.{lent, lent_by};
 ghost use Rattle.snapshot.specs.Save.{saved_told};

@@ -1,7 +1,6 @@
 // The bench: reads standard input block by block until it ends, hands each block to `bench_blocks`, and writes what that prints. Proved are what each
 // call does, that turns follow until one had room before the next read, that a read leaves what is kept, and that the memory does. That `filled` and
 // `turned` read and write, and that `all` hands on the number of bytes that were read, is seen by reading: then a run is one of `Program` (bench_blocks/specs).
-// Kept: (c) lists that a call writes are parameters of their own: of a struct of them that is handed on whole the check does not tell what it holds after the call (tried on drain).
 #![tactic(auto)]
 
 ghost use Rattle.std.specs.Prelude.{◌+◌, ◌≤◌, ◌<◌, ◌≡◌, true, false, length, take};

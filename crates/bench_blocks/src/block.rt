@@ -1,5 +1,4 @@
 // A whole block of the input: every cell that ends in it, as long as the output has room, and the end of the input.
-// Kept: (c) lists that a call writes are parameters of their own: of a struct of them that is handed on whole the check does not tell what it holds after the call (tried on drain).
 ghost use Rattle.std.specs.Prelude.{◌≡◌, [], false, suc, ◌+◌, ◌≤◌, length, drop};
 ghost use Rattle.trcf.specs.View.{lent};
 ghost use Rattle.bench_core.specs.Bench.{output};

@@ -1,5 +1,4 @@
 // One turn of the program `bench`: the bytes that a read brought, after those that are kept of the block before, and what is kept of both.
-// Kept: (c) lists that a call writes are parameters of their own: of a struct of them that is handed on whole the check does not tell what it holds after the call (tried on drain).
 ghost use Rattle.std.specs.Prelude.{◌≡◌, ◌+◌, ◌≤◌, IfOk, length, take, drop};
 ghost use Rattle.refusal.specs.Lent.{over};
 ghost use Rattle.trcf.specs.View.{lent};

@@ -1,5 +1,4 @@
 // What each call line does and prints, on a preprocessor and the last point. The bench runs as role 0 of a table with every right.
-// Kept: (c) lists that a call writes are parameters of their own: of a struct of them that is handed on whole the check does not tell what it holds after the call (tried on drain).
 ghost use Rattle.std.specs.Prelude.{◌≡◌, List, ◌≤◌, Float, length, take};
 ghost use Rattle.refusal.specs.Refusal.{number_of};
 ghost use Rattle.trcf.specs.View.{Lent, lent, lent_by};

@@ -1,5 +1,4 @@
 // The bench, cell by cell: a step reads one cell of the input, and prints what the line asks for where the cell ends it.
-// Kept: (c) lists that a call writes are parameters of their own: of a struct of them that is handed on whole the check does not tell what it holds after the call (tried on drain).
 ghost use Rattle.std.specs.Prelude.{◌≡◌, List, Float, ◌≤◌, length};
 ghost use Rattle.refusal.specs.Refusal.{number_of, row_of};
 ghost use Rattle.trcf.specs.Settings.{settings_row};

@@ -1,5 +1,4 @@
 // One reading: it is sent to point, and then to learn with the point given. The program runs as role 0 of a table with every right.
-// Kept: (c) lists that a call writes are parameters of their own: of a struct of them that is handed on whole the check does not tell what it holds after the call (tried on drain).
 ghost use Rattle.std.specs.Prelude.{◌≡◌, ◌≤◌, is_some};
 ghost use Rattle.std.proofs.Math.Option.{none};
 ghost use Rattle.std.specs.Float.{nan};

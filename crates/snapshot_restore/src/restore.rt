@@ -1,5 +1,4 @@
 // `restore` (document 01: taking up): the whole text is judged first, and then the lent lists are filled.
-// Kept: (c) lists that a call writes are parameters of their own: of a struct of them that is handed on whole the check does not tell what it holds after the call (tried on drain).
 // Kept: (d) a text and a place, as in snapshot/src/piece.rt, which says why.
 ghost use Rattle.std.specs.Prelude.{◌≡◌, cond, ◌+◌, ◌*◌, ◌≤◌, length, drop, IfOk, IfErr, OnOk};
 ghost use Rattle.trcf.specs.Types.{augments};

@@ -1,5 +1,4 @@
 // A new preprocessor from its settings (the source's Preprocessor::new).
-// Kept: (c) lists that a call writes are parameters of their own: of a struct of them that is handed on whole the check does not tell what it holds after the call (tried on drain).
 ghost use Rattle.std.specs.Prelude.{◌≡◌, ◌≤◌, length};
 ghost use Rattle.trcf.specs.View.{lent, settings_from, head_from, no_head, head_outcome, build_of};
 

@@ -1,5 +1,4 @@
 // A reading is learnt: it waits, or it comes into the statistics and the shingles (the source's post_process).
-// Kept: (c) lists that a call writes are parameters of their own: of a struct of them that is handed on whole the check does not tell what it holds after the call (tried on drain).
 ghost use Rattle.std.specs.Prelude.{◌≡◌, true, false, cond, ◌&&◌, [], ◌∷◌, ◌++◌, suc, ◌*◌, ◌≤◌, ◌<◌, ltb, eqb, length, take, is_some, None};
 ghost use Rattle.std.specs.Float.Ieee.{lt};
 ghost use Rattle.common.specs.Deviation.{count_limit};

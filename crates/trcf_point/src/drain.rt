@@ -1,5 +1,4 @@
 // Draining: the initial values are fed to the statistics and then come into the shingles. The workers' lists are of just the length in use.
-// Kept: (c) lists that a call writes are parameters of their own: of a struct of them that is handed on whole the check does not tell what it holds after the call (tried on drain).
 ghost use Rattle.std.specs.Prelude.{◌≡◌, false, ◌&&◌, [], ◌∷◌, ◌+◌, ◌-◌, ◌*◌, ◌≤◌, ◌<◌, length, get_or};
 ghost use Rattle.common.specs.Deviation.{count_limit};
 ghost use Rattle.trcf.specs.Lists.{shift_in};
