@@ -197,7 +197,7 @@ pub fn held_row(head: Preprocessor, lists: LentLists) -> Result<(), Refusal>
     lent_row(head, lists.lengths())
 }
 
-// The rows of a call that hands nothing but its output. Inlined by order too: out of line it costs scale, shift and the deviations 90 to 150 instructions.
+// The rows of a call that hands nothing but its output. Inlined by order too: out of line it costs scale, shift and the deviations 95 to 155 instructions.
 #[inline(always)]
 pub fn write_row(head: Preprocessor, lists: LentLists, output: &[f32]) -> Result<(), Refusal>
     ensures value { row_of result ≡ call_row head (lent_by lists.entry) (scale output.now) }
