@@ -1,4 +1,6 @@
 // What each call line does and prints, on a preprocessor and the last point. The bench runs as role 0 of a table with every right.
+// Kept: (d) `65536 ≤ length out.old` is asked in each contract: with `&mut [u8; 65536]` it would go, but `step` and `finish`, which take an output of any length and refuse a short one,
+// promise the whole of it, so what each function here promises of the first 65,536 bytes would have to be carried over to the whole.
 ghost use Rattle.std.specs.Prelude.{◌≡◌, List, ◌≤◌, Float, length, take};
 ghost use Rattle.refusal.specs.Refusal.{number_of};
 ghost use Rattle.trcf.specs.View.{Lent, lent, lent_by};
@@ -59,7 +61,8 @@ fn accepted(out: &mut [u8], head: Preprocessor, given: bool) -> Answered
 // After a call that is refused, and leaves the head as it was.
 fn refused(out: &mut [u8], head: Preprocessor, given: bool, refusal: Refusal) -> Answered
     requires { 65536 ≤ length out.old }
-    ensures { (l : Lent) (y : List Float) → call_printed result.head result.given l y (output result.length out.new) ≡ prints_call (call_result head given l y (no_text (number_of refusal))) out.old }
+    ensures { (l : Lent) (y : List Float) → call_printed result.head result.given l y (output result.length out.new)
+        ≡ prints_call (call_result head given l y (no_text (number_of refusal))) out.old }
 {
     Answered {
         head,

@@ -118,6 +118,7 @@ fn place_of(name: Name, i: usize) -> Place
     }
 }
 
+// Kept: (d) a letter and a method are numbers here: they stand among the whole numbers of a line, in the code as in the definitions of the bench, and `builder_from` makes kinds of them.
 // The letter of a mode that a text can have.
 fn letter(c: &[u8]) -> Option<u64>
     ensures { result ≡ letter_of c.now }

@@ -1,4 +1,6 @@
 // The bench, cell by cell: a step reads one cell of the input, and prints what the line asks for where the cell ends it.
+// Kept: (d) `65536 ≤ length out.old` is asked in each contract: with `&mut [u8; 65536]` it would go, but `step` and `finish`, which take an output of any length and refuse a short one,
+// promise the whole of it, so what each function here promises of the first 65,536 bytes would have to be carried over to the whole.
 ghost use Rattle.std.specs.Prelude.{◌≡◌, List, Float, ◌≤◌, length};
 ghost use Rattle.refusal.specs.Refusal.{number_of, row_of};
 ghost use Rattle.trcf.specs.Settings.{settings_row};
@@ -152,6 +154,7 @@ fn limit_row(b: PreprocessorBuilder) -> Result<(), Refusal>
 }
 
 // How many codes a bench has.
+// Kept: (d) `trcf_rows::rows::used` is computed alike, but promises what it leaves of a list of 16, and no number; here the number is promised, and as many zeros are the codes.
 pub fn code_count(d: usize) -> usize
     ensures value { result ≡ code_count d }
     ensures upper_bound { result ≤ 16 }

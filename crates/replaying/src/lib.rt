@@ -67,16 +67,12 @@ struct Tally {
     differ: u64,
 }
 
-fn counted(t: Tally, agrees: bool) -> Tally {
-    if agrees {
-        Tally {
-            agree: t.agree.saturating_add(1),
-            ..t
-        }
-    } else {
-        Tally {
-            differ: t.differ.saturating_add(1),
-            ..t
+impl Tally {
+    fn count(&mut self, agrees: bool) {
+        if agrees {
+            self.agree = self.agree.saturating_add(1);
+        } else {
+            self.differ = self.differ.saturating_add(1);
         }
     }
 }
@@ -92,10 +88,10 @@ fn replay<F: FnMut(&[u8], &[u8]) -> bool>(text: &[u8], mut agrees: F) -> Tally
     let mut at = 0;
     while at < text.len() {
         let Some(case) = case_at(text, at) else {
-            return counted(tally, false);
+            tally.count(false);
+            return tally;
         };
-        let agreed = agrees(&text[case.from..case.middle], &text[case.middle..case.next]);
-        tally = counted(tally, agreed);
+        tally.count(agrees(&text[case.from..case.middle], &text[case.middle..case.next]));
         at = case.next;
     }
     tally

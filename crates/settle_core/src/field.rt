@@ -1,4 +1,6 @@
 // The signal line: `sig` and six whole numbers, with a minus sign if negative.
+// Kept: (d) a text and a place in it are two parameters, and each contract asks that the place is in the text: a struct of both would ask it once, but contracts would speak of
+// its fields (`drop p.at p.text.now`), and what is read of a line or a field would hold the text too.
 ghost use Rattle.std.specs.Prelude.{◌≡◌, ◌≤◌, IfSome, length, drop, option_map};
 ghost use Rattle.settling.specs.Steps.{signal_of, option_of};
 ghost use Rattle.settle_core.specs.Input.{positive_number, negative_number, signed_of, part_of, limited, fields_of, is_signal, signal_read as signalAt};

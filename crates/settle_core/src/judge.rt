@@ -1,4 +1,6 @@
 // The whole input, judged before anything is printed: the first fault decides.
+// Kept: (d) a text and a place in it are two parameters, and each contract asks that the place is in the text: a struct of both would ask it once, but contracts would speak of
+// its fields (`drop p.at p.text.now`), and what is read of a line or a field would hold the text too.
 ghost use Rattle.std.specs.Prelude.{◌≡◌, map, ◌≤◌, IfOk, length, take, drop};
 ghost use Rattle.settle_core.specs.Input.{input_from, input_of};
 ghost use Rattle.settle_core.specs.Steps.{pair_settings, prefixed, input_in};

@@ -1,4 +1,6 @@
 // A `set` line and a `wgt` line: their form, rows 1 to 9, and d 1.
+// Kept: (d) a text and a place in it are two parameters, and each contract asks that the place is in the text: a struct of both would ask it once, but contracts would speak of
+// its fields (`drop p.at p.text.now`), and what is read of a line or a field would hold the text too.
 ghost use Rattle.std.specs.Prelude.{◌≡◌, List, ℕ, ◌≤◌, IfOk, length, drop};
 ghost use Rattle.bench_core.specs.Line.{kept_of};
 ghost use Rattle.bench_core.specs.Bench.{zero_codes};

@@ -1,4 +1,6 @@
 // One line of the input, cell by cell, as the bench reads it.
+// Kept: (d) a text and a place in it are two parameters, and each contract asks that the place is in the text: a struct of both would ask it once, but contracts would speak of
+// its fields (`drop p.at p.text.now`), and what is read of a line or a field would hold the text too.
 ghost use Rattle.std.specs.Prelude.{◌≡◌, ◌≤◌, false, IfSome, MatchOption, length, drop};
 ghost use Rattle.settle_core.specs.Input.{line_of, opens};
 ghost use Rattle.settle_core.specs.Steps.{scanned_in};
