@@ -115,6 +115,8 @@ fn next_pair(left: &[u64], right: &[u64], tolerance: u64, front: Places) -> Opti
 
 // ---- one pass to count
 
+// Kept: (d) `while let`, here and in `write_pairs`: an `impl Iterator for Pairs` over `next_pair` was written out. Its struct, `new`, `next` and two ghosts are 40 lines;
+// the two loops lose ten.
 fn count_pairs(left: &[u64], right: &[u64], tolerance: u64) -> u64
     ensures { result ≡ length (pairs tolerance left.now right.now) }
 {
