@@ -112,7 +112,8 @@ pub(crate) fn update_shingles(
         (take (head.transformer.input_length * head.shingle_size) last_shingled_input.old) (take head.shingle_size previous_timestamps.old)))
         (reading input.now timestamp))
         (take (statistics_length (settings_of head)) statistics.old)) }
-    ensures last_shingled_input_after { last_shingled_input.new ≡ over last_shingled_input.old (shift_in (take (head.transformer.input_length * head.shingle_size) last_shingled_input.old) input.now) }
+    ensures last_shingled_input_after { last_shingled_input.new
+        ≡ over last_shingled_input.old (shift_in (take (head.transformer.input_length * head.shingle_size) last_shingled_input.old) input.now) }
     ensures last_shingled_point_after { last_shingled_point.new ≡ over last_shingled_point.old y.now }
     ensures previous_timestamps_after { previous_timestamps.new ≡ over previous_timestamps.old (shift_in (take head.shingle_size previous_timestamps.old) (timestamp ∷ [])) }
 {
