@@ -9,6 +9,18 @@ use bench_blocks::turn::{Run, first_run, turn};
 use bench_core::step::Phase;
 use std::io::Read;
 
+// What is lent to the calls: room for 4 values a reading, 64 readings a point and 500 readings that wait, which are the bench's limits.
+#[derive(Drop)]
+struct Memory {
+    statistics: [f64; 75],
+    last_shingled_input: [f32; 256],
+    last_shingled_point: [f32; 320],
+    previous_timestamps: [u64; 64],
+    initial_values: [f32; 2000],
+    initial_timestamps: [u64; 500],
+    point: [f32; 320],
+}
+
 // Reads the next bytes of the input to the text, after those that are kept; answers how many, none at the end of the input or where the read fails.
 fn filled<R: Read>(input: &mut R, text: &mut [u8], kept: usize) -> usize
     requires { kept < length text.old }
@@ -23,13 +35,7 @@ fn filled<R: Read>(input: &mut R, text: &mut [u8], kept: usize) -> usize
 fn turned(
     rt: &impl Print,
     run: Run,
-    statistics: &mut [f64],
-    last_shingled_input: &mut [f32],
-    last_shingled_point: &mut [f32],
-    previous_timestamps: &mut [u64],
-    initial_values: &mut [f32],
-    initial_timestamps: &mut [u64],
-    point: &mut [f32],
+    memory: &mut Memory,
     text: &mut [u8],
     got: usize,
     out: &mut [u8],
@@ -43,13 +49,13 @@ fn turned(
 {
     let t = turn(
         run,
-        statistics,
-        last_shingled_input,
-        last_shingled_point,
-        previous_timestamps,
-        initial_values,
-        initial_timestamps,
-        point,
+        &mut memory.statistics,
+        &mut memory.last_shingled_input,
+        &mut memory.last_shingled_point,
+        &mut memory.previous_timestamps,
+        &mut memory.initial_values,
+        &mut memory.initial_timestamps,
+        &mut memory.point,
         text,
         got,
         out,
@@ -64,13 +70,7 @@ fn turned(
 fn handed(
     rt: &impl Print,
     run: Run,
-    statistics: &mut [f64],
-    last_shingled_input: &mut [f32],
-    last_shingled_point: &mut [f32],
-    previous_timestamps: &mut [u64],
-    initial_values: &mut [f32],
-    initial_timestamps: &mut [u64],
-    point: &mut [f32],
+    memory: &mut Memory,
     text: &mut [u8],
     got: usize,
     out: &mut [u8],
@@ -80,35 +80,9 @@ fn handed(
     requires in_bounds_2 { 65536 ≤ length out.old }
     ensures { (result.full ≡ false) × (result.kept ≤ 24) }
 {
-    let mut r = turned(
-        rt,
-        run,
-        statistics,
-        last_shingled_input,
-        last_shingled_point,
-        previous_timestamps,
-        initial_values,
-        initial_timestamps,
-        point,
-        text,
-        got,
-        out,
-    );
+    let mut r = turned(rt, run, memory, text, got, out);
     while r.full {
-        r = turned(
-            rt,
-            r,
-            statistics,
-            last_shingled_input,
-            last_shingled_point,
-            previous_timestamps,
-            initial_values,
-            initial_timestamps,
-            point,
-            text,
-            0,
-            out,
-        );
+        r = turned(rt, r, memory, text, 0, out);
     }
     r
 }
@@ -118,13 +92,7 @@ fn handed(
 fn all<R: Read>(
     rt: &impl Print,
     input: &mut R,
-    statistics: &mut [f64],
-    last_shingled_input: &mut [f32],
-    last_shingled_point: &mut [f32],
-    previous_timestamps: &mut [u64],
-    initial_values: &mut [f32],
-    initial_timestamps: &mut [u64],
-    point: &mut [f32],
+    memory: &mut Memory,
     text: &mut [u8],
     out: &mut [u8],
 )
@@ -135,49 +103,25 @@ fn all<R: Read>(
     for _ in 0..u64::MAX {
         let kept = run.kept;
         let got = filled(input, text, kept);
-        run = handed(
-            rt,
-            run,
-            statistics,
-            last_shingled_input,
-            last_shingled_point,
-            previous_timestamps,
-            initial_values,
-            initial_timestamps,
-            point,
-            text,
-            got,
-            out,
-        );
+        run = handed(rt, run, memory, text, got, out);
         if run.bench.phase == Phase::Ended {
             return;
         }
     }
 }
 
-// The memory that is lent: room for 4 values a reading, 64 readings a point and 500 readings that wait, which are the bench's limits.
 fn main(rt: HostRuntime) {
     let mut input = rt.stdin();
-    let mut statistics = [0.0f64; 75];
-    let mut last_shingled_input = [0.0f32; 256];
-    let mut last_shingled_point = [0.0f32; 320];
-    let mut previous_timestamps = [0u64; 64];
-    let mut initial_values = [0.0f32; 2000];
-    let mut initial_timestamps = [0u64; 500];
-    let mut point = [0.0f32; 320];
+    let mut memory = Memory {
+        statistics: [0.0; 75],
+        last_shingled_input: [0.0; 256],
+        last_shingled_point: [0.0; 320],
+        previous_timestamps: [0; 64],
+        initial_values: [0.0; 2000],
+        initial_timestamps: [0; 500],
+        point: [0.0; 320],
+    };
     let mut text = [0u8; 131072];
     let mut out = [0u8; 262144];
-    all(
-        &rt,
-        &mut input,
-        &mut statistics,
-        &mut last_shingled_input,
-        &mut last_shingled_point,
-        &mut previous_timestamps,
-        &mut initial_values,
-        &mut initial_timestamps,
-        &mut point,
-        &mut text,
-        &mut out,
-    );
+    all(&rt, &mut input, &mut memory, &mut text, &mut out);
 }

@@ -33,6 +33,6 @@ fn agrees(text: &[u8], expected: &[u8]) -> bool {
 
 fn main(rt: HostRuntime) {
     for name in ["inputs", "long", "gap", "wrong"] {
-        replay_file(&rt, name, |text, expected| agrees(text, expected));
+        replay_file(&rt, name, agrees);
     }
 }

@@ -97,7 +97,8 @@ unfolding entering Text.whole Text.float Text.set_line Text.singles Text.cnt_lin
 writing = tt
 
 holding : Unit {0}
-unfolding entering Preprocessor.previous Preprocessor.time_base Preprocessor.preceding Preprocessor.primed Preprocessor.drain_one Preprocessor.drain_all Preprocessor.drained Preprocessor.buffered Preprocessor.learned
+unfolding entering Preprocessor.previous Preprocessor.time_base Preprocessor.preceding Preprocessor.primed Preprocessor.drain_one Preprocessor.drain_all Preprocessor.drained
+    Preprocessor.buffered Preprocessor.learned
 holding = tt
 
 replying : Unit {0}

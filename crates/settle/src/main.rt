@@ -2,21 +2,12 @@
 // for, the front is judged: it is refused, since nothing of the form is so long.
 #![tactic(auto)]
 
-ghost use Rattle.std.specs.Prelude.{◌≡◌, length};
-
 use reading::read_full;
 use settle_core::settle::settle;
 
-// Room for an input: a function of its own, so that proofs need not count its bytes.
-fn room() -> [u8; 524288]
-    ensures { 524288 ≡ length result }
-{
-    [0; 524288]
-}
-
 fn main(rt: HostRuntime) {
     let mut input = rt.stdin();
-    let mut text = room();
+    let mut text = [0u8; 524288];
     let mut out = [0u8; 256];
     let n = read_full(&mut input, &mut text);
     let length = settle(&text[..n], &mut out).unwrap_or(0);

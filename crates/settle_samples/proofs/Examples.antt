@@ -9,10 +9,13 @@ use Rattle.numeric.specs.Root.{root_within, halves, rooted, root_of}
 use Rattle.common.specs.Deviation.{outside_unit, factor_of, step_of as fedStep, is_empty, mean_of, root_above, deviation_of}
 use Rattle.refusal.specs.Lent.{over}
 use Rattle.trcf.specs.Lists.{last_n, shift_in, overwrite}
-use Rattle.trcf.specs.Transformer.{statistic_at, put_statistic, fed, deviations_at, put_deviations, fed_at, channels_fed, updated, normalized_scale, basic_shift, basic_drift, weight_at, transformed, unweighted, inverted, scales, shifts, difference_deviations}
+use Rattle.trcf.specs.Transformer.{statistic_at, put_statistic, fed, deviations_at, put_deviations, fed_at, channels_fed, updated, normalized_scale, basic_shift, basic_drift, weight_at}
+use Rattle.trcf.specs.Transformer.{transformed, unweighted, inverted, scales, shifts, difference_deviations}
 use Rattle.trcf.specs.Settings.{block, dimension, waiting, all_one, settings_row}
 use Rattle.trcf.specs.Calls.{finite, due, newest, wrong_length, outside, drain_full, learn_full, waiting_short, learn_short, table, rows, before_newest}
-use Rattle.trcf.specs.Preprocessor.{fresh as freshState, facts, time_fed, feed, timescale, timedrift, time_element, transformed_after, previous, primed, drain_one, drain_all, drained, buffered, learned, learned_with, change, deviations, next, refusal, answer, status_of, point_of, block_from, past_values, expected_values, anomaly_of, learned_nothing, buffered_answer, learned_answer, learn_answer, reply, time_base, preceding}
+use Rattle.trcf.specs.Preprocessor.{fresh as freshState, facts, time_fed, feed, timescale, timedrift, time_element, transformed_after, previous, primed, drain_one, drain_all, drained}
+use Rattle.trcf.specs.Preprocessor.{buffered, learned, learned_with, change, deviations, next, refusal, answer, status_of, point_of, block_from, past_values, expected_values, anomaly_of}
+use Rattle.trcf.specs.Preprocessor.{learned_nothing, buffered_answer, learned_answer, learn_answer, reply, time_base, preceding}
 use Rattle.snapshot.specs.Text.{whole, float}
 use Rattle.snapshot.specs.Read.{float_from, as_whole, as_float}
 use Rattle.snapshot.specs.Ascii.{ascii}
@@ -24,7 +27,14 @@ use Rattle.settle_core.specs.Settle.{noted_line, settle_of}
 
 -- to unfold this is to unfold whatever its line names
 running : Unit {0}
-unfolding to_bits of_bits of_fields odd fits size round le lt eq add sub mul div of_int narrowed root_within halves rooted root_of outside_unit factor_of fedStep is_empty mean_of root_above deviation_of over last_n shift_in overwrite statistic_at put_statistic fed deviations_at put_deviations fed_at channels_fed updated normalized_scale basic_shift basic_drift weight_at transformed unweighted inverted scales shifts difference_deviations block dimension waiting all_one settings_row finite due newest wrong_length outside drain_full learn_full waiting_short learn_short table rows freshState facts time_fed feed timescale timedrift time_element transformed_after previous primed drain_one drain_all drained buffered learned learned_with change deviations point_of block_from past_values expected_values anomaly_of learned_nothing buffered_answer learned_answer learn_answer reply whole float float_from as_whole as_float blank_line line_with_field cell_of request_of kept_of no_text builder_from next refusal answer status_of in_limits pair_row signal_value value_at note settling_after noted_of run_of line_of pair_by pair_of signed_of part_of fields_of is_signal signal_read opens input_of noted_line settle_of before_newest time_base preceding
+unfolding to_bits of_bits of_fields odd fits size round le lt eq add sub mul div of_int narrowed root_within halves rooted root_of outside_unit factor_of fedStep is_empty mean_of
+    root_above deviation_of over last_n shift_in overwrite statistic_at put_statistic fed deviations_at put_deviations fed_at channels_fed updated normalized_scale basic_shift
+    basic_drift weight_at transformed unweighted inverted scales shifts difference_deviations block dimension waiting all_one settings_row finite due newest wrong_length outside
+    drain_full learn_full waiting_short learn_short table rows freshState facts time_fed feed timescale timedrift time_element transformed_after previous primed drain_one drain_all
+    drained buffered learned learned_with change deviations point_of block_from past_values expected_values anomaly_of learned_nothing buffered_answer learned_answer learn_answer
+    reply whole float float_from as_whole as_float blank_line line_with_field cell_of request_of kept_of no_text builder_from next refusal answer status_of in_limits pair_row
+    signal_value value_at note settling_after noted_of run_of line_of pair_by pair_of signed_of part_of fields_of is_signal signal_read opens input_of noted_line settle_of
+    before_newest time_base preceding
 running = tt
 
 -- inputs with their outputs

@@ -14,9 +14,10 @@ use Rattle.bench.proofs.turned.Goals as goal
 pub unwrap-turned-requires : goal.unwrap-turned-requires
 unwrap-turned-requires g c =
     let a = c.args in
+    let m = a.memory.now in
     turn_taken a.run
-    (lent a.statistics.now a.last_shingled_input.now a.last_shingled_point.now a.previous_timestamps.now a.initial_values.now a.initial_timestamps.now)
-    a.point.now a.text.now a.got a.out.now (omega (arith, c.requires.in_bounds_2)) c.requires.in_bounds c.requires.got_in_bounds
+    (lent m.statistics m.last_shingled_input m.last_shingled_point m.previous_timestamps m.initial_values m.initial_timestamps)
+    m.point a.text.now a.got a.out.now (omega (arith, c.requires.in_bounds_2)) c.requires.in_bounds c.requires.got_in_bounds
     c.turn-t.result _ _ _ _ c.turn-t.ensures.out_after
 
 pub slice_bounds-write_all-end : goal.slice_bounds-write_all-end
@@ -28,10 +29,11 @@ slice_bounds-write_all-end g c =
 pub returns : goal.returns
 returns g c =
     let a = c.args in
+    let m = a.memory.now in
     let t = c.turn-t in
     let goes = turn_goes a.run
-    (lent a.statistics.now a.last_shingled_input.now a.last_shingled_point.now a.previous_timestamps.now a.initial_values.now a.initial_timestamps.now)
-    a.point.now a.text.now a.got a.out.now (omega (arith, c.requires.in_bounds_2)) c.requires.in_bounds c.requires.got_in_bounds
+    (lent m.statistics m.last_shingled_input m.last_shingled_point m.previous_timestamps m.initial_values m.initial_timestamps)
+    m.point a.text.now a.got a.out.now (omega (arith, c.requires.in_bounds_2)) c.requires.in_bounds c.requires.got_in_bounds
     (turn_by c.turn-t.result a.run
     (lent t.new.statistics t.new.last_shingled_input t.new.last_shingled_point t.new.previous_timestamps t.new.initial_values t.new.initial_timestamps)
     t.new.point t.new.text t.new.out) t.ensures.out_after in
