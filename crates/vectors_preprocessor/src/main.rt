@@ -16,6 +16,15 @@ use std::io;
 use std::rt::Files;
 use vectors_core::tally::replay;
 
+// The files, in the order of the report.
+const FILES: [&str; 5] = [
+    "preprocessor_1",
+    "preprocessor_6",
+    "preprocessor_far",
+    "preprocessor_gap",
+    "preprocessor_edges",
+];
+
 fn replay_file(
     rt: &(impl Files + Alloc<A = Global> + Print + Eprint),
     name: &str,
@@ -27,9 +36,8 @@ fn replay_file(
 }
 
 fn main(rt: HostRuntime) -> io::Result<()> {
-    replay_file(&rt, "preprocessor_1")?;
-    replay_file(&rt, "preprocessor_6")?;
-    replay_file(&rt, "preprocessor_far")?;
-    replay_file(&rt, "preprocessor_gap")?;
-    replay_file(&rt, "preprocessor_edges")
+    for name in FILES {
+        replay_file(&rt, name)?;
+    }
+    Ok(())
 }

@@ -8,14 +8,22 @@ mod texts;
 use std::io;
 use texts::replay_file;
 
+// The files, in the order of the report.
+const FILES: [&str; 9] = [
+    "texts_1",
+    "texts_2",
+    "texts_3",
+    "texts_4",
+    "texts_5",
+    "texts_6",
+    "texts_far",
+    "texts_gap",
+    "texts_edges",
+];
+
 fn main(rt: HostRuntime) -> io::Result<()> {
-    replay_file(&rt, "texts_1")?;
-    replay_file(&rt, "texts_2")?;
-    replay_file(&rt, "texts_3")?;
-    replay_file(&rt, "texts_4")?;
-    replay_file(&rt, "texts_5")?;
-    replay_file(&rt, "texts_6")?;
-    replay_file(&rt, "texts_far")?;
-    replay_file(&rt, "texts_gap")?;
-    replay_file(&rt, "texts_edges")
+    for name in FILES {
+        replay_file(&rt, name)?;
+    }
+    Ok(())
 }
