@@ -3,7 +3,8 @@
 
 use bench_blocks::block::block;
 use bench_core::step::start;
-use replaying::{replay_file, room};
+use reading::room;
+use replaying::replay_file;
 
 // Whether the bench prints just this for a text, which is one block with the end of the input after it. An output that the room is too small for differs.
 fn agrees(text: &[u8], expected: &[u8]) -> bool {

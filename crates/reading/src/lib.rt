@@ -6,6 +6,13 @@ ghost use Rattle.std.specs.Prelude.{◌≡◌, ◌≤◌, length, take};
 
 use std::io::Read;
 
+/// Room for a file, or for what a program prints. A function of its own, so that proofs need not count its bytes: of such an array in place the check runs out of stack.
+pub fn room() -> [u8; 524288]
+    ensures { 524288 ≡ length result }
+{
+    [0; 524288]
+}
+
 // Kept: (a) a loop of reads. `read_to_end` wants memory of its own, of which the settling program has none, and `read_exact` answers no count where the input is shorter than the buffer.
 /// Reads until `text` is full, the input ends or a read fails, and answers how many bytes stand at the front of `text`: those are the next ones of the input, and no other byte of it is
 /// lost. A failed read ends the input.

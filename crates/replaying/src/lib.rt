@@ -97,13 +97,6 @@ fn replay<F: FnMut(&[u8], &[u8]) -> bool>(text: &[u8], mut agrees: F) -> Tally
     tally
 }
 
-/// Room for an output: a function of its own, so that proofs need not count its bytes.
-pub fn room() -> [u8; 524288]
-    ensures { 524288 ≡ length result }
-{
-    [0; 524288]
-}
-
 /// Replays a file, and prints its name and both numbers. A file that is not there is told and counts as empty.
 pub fn replay_file<F: FnMut(&[u8], &[u8]) -> bool>(
     rt: &(impl Files + Alloc<A = Global> + Print + Eprint),

@@ -2,12 +2,12 @@
 // for, the front is judged: it is refused, since nothing of the form is so long.
 #![tactic(auto)]
 
-use reading::read_full;
+use reading::{read_full, room};
 use settle_core::settle::settle;
 
 fn main(rt: HostRuntime) {
     let mut input = rt.stdin();
-    let mut text = [0u8; 524288];
+    let mut text = room();
     let mut out = [0u8; 256];
     let n = read_full(&mut input, &mut text);
     let length = settle(&text[..n], &mut out).unwrap_or(0);

@@ -1,7 +1,8 @@
 // Replays inputs of the settling program (the oracle makes them) on `settle_core`, and prints how many outputs agree with the oracle's and how many differ.
 #![tactic(auto)]
 
-use replaying::{replay_file, room};
+use reading::room;
+use replaying::replay_file;
 use settle_core::settle::settle;
 
 // Whether the settling program prints just this for an input.
