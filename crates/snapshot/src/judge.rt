@@ -86,7 +86,7 @@ pub(crate) fn fields<T: Cell>(text: &[u8], at: usize, out: &mut [T]) -> Option<u
 }
 
 // A line of a name and as many fields as `out` is long, and the place after it.
-pub fn list_line<T: Cell>(text: &[u8], at: usize, letters: [u8; 3], out: &mut [T]) -> Option<usize>
+pub fn list_line<T: Cell>(text: &[u8], at: usize, letters: [u64; 3], out: &mut [T]) -> Option<usize>
     ensures { Filled (list_line T.read (get_or letters 0 0) (get_or letters 1 0) (get_or letters 2 0) (length out.old) (drop at text.now))
         (line_firsts T.read (get_or letters 0 0) (get_or letters 1 0) (get_or letters 2 0) (length out.old) (drop at text.now)) text.now out.old result out.new }
 {

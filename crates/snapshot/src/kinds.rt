@@ -34,7 +34,7 @@ pub(crate) fn wgt_line(
 ) -> Option<usize>
     ensures { Filled (wgt_by method (length out.old) (drop at text.now)) (line_firsts (as_float binary32) 119 103 116 (length out.old) (drop at text.now)) text.now out.old result out.new }
 {
-    let place = list_line(text, at, *b"wgt", out);
+    let place = list_line(text, at, [b'w' as u64, b'g' as u64, b't' as u64], out);
     if !weights_fit(method, out) {
         return None;
     }
@@ -53,7 +53,7 @@ pub(crate) struct Coded {
 fn chn_codes(text: &[u8], at: usize, out: &mut [u64]) -> Option<usize>
     ensures { Filled (chn_by (length out.old) (drop at text.now)) (line_firsts as_whole 99 104 110 (length out.old) (drop at text.now)) text.now out.old result out.new }
 {
-    let place = list_line(text, at, *b"chn", out);
+    let place = list_line(text, at, [b'c' as u64, b'h' as u64, b'n' as u64], out);
     if !codes_fit(out) {
         return None;
     }
@@ -94,7 +94,7 @@ fn times_fit(internal: usize, times: &[u64]) -> bool
 pub fn tim_line(text: &[u8], at: usize, internal: usize, out: &mut [u64]) -> Option<usize>
     ensures { Filled (tim_by internal (length out.old) (drop at text.now)) (line_firsts as_whole 116 105 109 (length out.old) (drop at text.now)) text.now out.old result out.new }
 {
-    let place = list_line(text, at, *b"tim", out);
+    let place = list_line(text, at, [b't' as u64, b'i' as u64, b'm' as u64], out);
     if !times_fit(internal, out) {
         return None;
     }
@@ -137,7 +137,12 @@ pub(crate) fn cnt_line(
     ensures { cnt_told result text.now ≡ cnt_by method start (drop at text.now) }
 {
     let mut n = [0u64; 3];
-    let end = list_line(text, at, *b"cnt", &mut n[..])?;
+    let end = list_line(
+        text,
+        at,
+        [b'c' as u64, b'n' as u64, b't' as u64],
+        &mut n[..],
+    )?;
     let [seen, internal, count] = n;
     if !counts_fit(method, start, seen, internal, count) {
         return None;
@@ -161,7 +166,7 @@ pub struct Timed {
 pub fn buf_line(text: &[u8], at: usize, past: u64, out: &mut [f32]) -> Option<Timed>
     ensures { FilledWith (buf_by (length out.old) past (drop at text.now)) (buf_firsts (length out.old) (drop at text.now)) text.now out.old result out.new }
 {
-    let p = name(text, at, *b"buf")?;
+    let p = name(text, at, [b'b' as u64, b'u' as u64, b'f' as u64])?;
     let (time, q) = u64::cell(text, p)?;
     let r = fields(text, q, out)?;
     if time < past || !all_finite(out) {

@@ -9,17 +9,17 @@ ghost use Rattle.snapshot.specs.Steps.Scan.{kind_number};
 use crate::field::{Field, Kind, parse};
 
 // The place after the byte b, or none where another stands there.
-pub(crate) fn byte(text: &[u8], at: usize, b: u8) -> Option<usize>
+pub(crate) fn byte(text: &[u8], at: usize, b: u64) -> Option<usize>
     ensures { placed result text.now ≡ byte b (drop at text.now) }
 {
-    if at < text.len() && text[at] == b {
+    if at < text.len() && u64::from(text[at]) == b {
         return Some(at + 1);
     }
     None
 }
 
 // The place after the name of a line, or none.
-pub(crate) fn name(text: &[u8], at: usize, letters: [u8; 3]) -> Option<usize>
+pub(crate) fn name(text: &[u8], at: usize, letters: [u64; 3]) -> Option<usize>
     ensures { placed result text.now ≡ name (get_or letters 0 0) (get_or letters 1 0) (get_or letters 2 0) (drop at text.now) }
 {
     let p = byte(text, at, letters[0])?;

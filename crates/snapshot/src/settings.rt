@@ -85,7 +85,7 @@ pub(crate) struct Set {
 pub(crate) fn set_line(text: &[u8]) -> Option<Set>
     ensures { set_told result text.now ≡ set_by text.now }
 {
-    let p = name(text, 0, *b"set")?;
+    let p = name(text, 0, [b's' as u64, b'e' as u64, b't' as u64])?;
     let q = byte(text, p, 9)?;
     let mode = mode_at(text, q)?;
     let mut n = [0u64; 5];

@@ -18,7 +18,7 @@ fn dev_lines(text: &[u8], at: usize, n: usize, statistics: &mut [f64]) -> Result
     'lines: {
         for i in 0..n {
             let from = i * 3;
-            let Some(q) = list_line(text, p, *b"dev", &mut statistics[from..from + 3]) else {
+            let Some(q) = list_line(text, p, [b'd' as u64, b'e' as u64, b'v' as u64], &mut statistics[from..from + 3]) else {
                 break 'lines Err(BadLine { line: i + 1 });
             };
             p = q;
@@ -45,10 +45,10 @@ pub(crate) fn part_lines(
     ensures bad_bound { IfErr result (λ bad. bad.line ≤ n + 3) }
 {
     let p = dev_lines(text, at, n, statistics)?;
-    let Some(q) = list_line(text, p, *b"inp", input) else {
+    let Some(q) = list_line(text, p, [b'i' as u64, b'n' as u64, b'p' as u64], input) else {
         return Err(BadLine { line: n + 1 });
     };
-    let Some(r) = list_line(text, q, *b"pnt", point) else {
+    let Some(r) = list_line(text, q, [b'p' as u64, b'n' as u64, b't' as u64], point) else {
         return Err(BadLine { line: n + 2 });
     };
     let Some(s) = tim_line(text, r, internal, times) else {
