@@ -18,7 +18,12 @@ fn dev_lines(text: &[u8], at: usize, n: usize, statistics: &mut [f64]) -> Result
     'lines: {
         for i in 0..n {
             let from = i * 3;
-            let Some(q) = list_line(text, p, [b'd' as u64, b'e' as u64, b'v' as u64], &mut statistics[from..from + 3]) else {
+            let Some(q) = list_line(
+                text,
+                p,
+                [b'd' as u64, b'e' as u64, b'v' as u64],
+                &mut statistics[from..from + 3],
+            ) else {
                 break 'lines Err(BadLine { line: i + 1 });
             };
             p = q;
