@@ -85,13 +85,12 @@ struct Case {
 
 // None where a line is not of its form.
 fn parse(line: &[u8]) -> Option<Case> {
-    let line = str::from_utf8(line).ok()?.strip_suffix('\n')?;
-    let (letter, rest) = line.split_once('\t')?;
-    let (given, wanted) = rest.split_once('\t')?;
+    let (letter, fields) = line.strip_suffix(b"\n")?.split_at_checked(1)?;
+    let (given, wanted) = fields.strip_prefix(b"\t")?.split_at_checked(16)?;
     Some(Case {
-        function: letter.parse().ok()?,
-        given: pattern(given.as_bytes(), 16)?,
-        wanted: pattern(wanted.as_bytes(), 16)?,
+        function: str::from_utf8(letter).ok()?.parse().ok()?,
+        given: pattern(given, 16)?,
+        wanted: pattern(wanted.strip_prefix(b"\t")?, 16)?,
     })
 }
 
