@@ -43,7 +43,7 @@ impl Word for f32 {
     }
 }
 
-const BLOCK: usize = 4096;
+const BLOCK: usize = 512;
 
 /// The words of a file that are still to be read.
 #[derive(Drop)]
@@ -76,7 +76,7 @@ impl<F: Read> Words<F> {
 
     // The next byte, which stays the next one; none where the file has ended. A failed read ends the file.
     fn peek(&mut self) -> Option<u8>
-        ensures { IsSome result → self.new.at < 4096 }
+        ensures { IsSome result → self.new.at < 512 }
     {
         if self.at >= self.end {
             self.end = self.file.read(&mut self.block).unwrap_or(0);
