@@ -2,9 +2,13 @@
 // A line is a letter, a tab, 16 hexadecimal digits, a tab, 16 hexadecimal digits and an LF: the function, the argument's bits and the answer's.
 #![tactic(auto)]
 
+use reading::read_full;
+use std::io::Read;
 use std::str::FromStr;
 use std::{fmt, fs};
 use vectors_core::field::pattern;
+
+const LINE: usize = 36;
 
 // The functions, in the order of the report.
 #[derive(Clone, Copy, Debug, PartialEq, Eq)]
@@ -79,44 +83,75 @@ struct Case {
     wanted: u64,
 }
 
-fn parse(line: &str) -> Option<Case> {
-    let (letter, rest) = line.split_once('\t')?;
-    let (given, wanted) = rest.split_once('\t')?;
+// None where a line is not of its form.
+fn parse(line: &[u8]) -> Option<Case> {
+    let (letter, fields) = line.strip_suffix(b"\n")?.split_at_checked(1)?;
+    let (given, wanted) = fields.strip_prefix(b"\t")?.split_at_checked(16)?;
     Some(Case {
-        function: letter.parse().ok()?,
-        given: pattern(given.as_bytes(), 16)?,
-        wanted: pattern(wanted.as_bytes(), 16)?,
+        function: str::from_utf8(letter).ok()?.parse().ok()?,
+        given: pattern(given, 16)?,
+        wanted: pattern(wanted.strip_prefix(b"\t")?, 16)?,
     })
 }
 
-// Goes over the lines once for each function, which has a line of the report.
-fn report(rt: &impl Print, text: &str, function: Function) {
-    let mut agree = 0u64;
-    let mut differ = 0u64;
-    for case in text.lines().filter_map(parse) {
-        if case.function == function {
-            if function.answer(case.given) == case.wanted {
-                agree = agree.saturating_add(1);
-            } else {
-                differ = differ.saturating_add(1);
-            }
-        }
-    }
-    let _ = println!(rt; "{function}: agree {agree}, differ {differ}");
+// How many lines of a function agree and how many differ.
+#[derive(Clone, Copy, Default)]
+struct Tally {
+    agree: u64,
+    differ: u64,
 }
 
-fn report_all(rt: &impl Print, text: &str) {
-    for function in FUNCTIONS {
-        report(rt, text, function);
+// The tally of each function, in the order of the report, and how many lines are not of their form.
+#[derive(Clone, Copy, Default)]
+struct Tallies {
+    functions: [Tally; 6],
+    broken: u64,
+}
+
+impl Tallies {
+    fn count(&mut self, case: Case) {
+        let tally = &mut self.functions[case.function as usize];
+        if case.function.answer(case.given) == case.wanted {
+            tally.agree = tally.agree.saturating_add(1);
+        } else {
+            tally.differ = tally.differ.saturating_add(1);
+        }
     }
-    let broken = text.lines().filter(|line| parse(line).is_none()).count();
-    let _ = println!(rt; "broken lines: {broken}");
+
+    fn count_broken(&mut self) {
+        self.broken = self.broken.saturating_add(1);
+    }
+
+    fn report(&self, rt: &impl Print) {
+        for (function, Tally { agree, differ }) in FUNCTIONS.iter().zip(&self.functions) {
+            let _ = println!(rt; "{function}: agree {agree}, differ {differ}");
+        }
+        let broken = self.broken;
+        let _ = println!(rt; "broken lines: {broken}");
+    }
+}
+
+// Goes over the file by lines of 36 bytes, until there is none. What is left of a file that is cut is a broken line.
+fn replay<F: Read>(file: &mut F) -> Tallies {
+    let mut tallies = Tallies::default();
+    for _ in 0..u64::MAX {
+        let mut line = [0; LINE];
+        let n = read_full(file, &mut line);
+        if n == 0 {
+            break;
+        }
+        match parse(&line[..n]) {
+            Some(case) => tallies.count(case),
+            None => tallies.count_broken(),
+        }
+    }
+    tallies
 }
 
 fn main(rt: HostRuntime) {
     let path = "vectors";
-    match fs::read_to_string(&rt, path) {
-        Ok(text) => report_all(&rt, &text),
+    match fs::open(&rt, path) {
+        Ok(mut file) => replay(&mut file).report(&rt),
         Err(e) => {
             let _ = eprintln!(rt; "{path}: {e}");
         }

@@ -1,4 +1,4 @@
-// Replays answers that the oracle worked out from the requests' words (docs/VECTORS.md) on `series`, and prints how many agree and how many differ. A line is a case.
+// Replays answers that the oracle worked out from the requests' words (docs/VECTORS.md) on `series`, and prints how many agree and how many differ.
 // The last line of a file is wrong by purpose: the one that differs.
 #![tactic(auto)]
 
@@ -6,23 +6,12 @@ mod alignment;
 mod imputation;
 mod words;
 
-use std::alloc::Global;
 use std::fs;
+use std::fs::File;
 use std::rt::Files;
 use words::{Tally, Words};
 
-fn report<F: FnMut(&mut Words<'_>) -> Option<bool>>(
-    rt: &(impl Alloc<A = Global> + Print),
-    name: &str,
-    text: &str,
-    mut agrees: F,
-)
-    requires { F.IsAlwaysCallable agrees }
-{
-    let mut tally = Tally::default();
-    for line in text.lines() {
-        tally.count(agrees(&mut Words::of_line(rt.alloc(), line)));
-    }
+fn report(rt: &impl Print, name: &str, tally: Tally) {
     let agree = tally.agree;
     let differ = tally.differ;
     let broken = tally.broken;
@@ -31,15 +20,15 @@ fn report<F: FnMut(&mut Words<'_>) -> Option<bool>>(
     );
 }
 
-fn replay<F: FnMut(&mut Words<'_>) -> Option<bool>>(
-    rt: &(impl Files + Alloc<A = Global> + Print + Eprint),
+fn replay<T: FnOnce(&mut Words<File>) -> Tally>(
+    rt: &(impl Files<File = File> + Print + Eprint),
     name: &str,
-    agrees: F,
+    tally: T,
 )
-    requires { F.IsAlwaysCallable agrees }
+    requires { T.IsAlwaysCallable tally }
 {
-    match fs::read_to_string(rt, name) {
-        Ok(text) => report(rt, name, &text, agrees),
+    match fs::open(rt, name) {
+        Ok(file) => report(rt, name, tally(&mut Words::of_file(file))),
         Err(e) => {
             let _ = eprintln!(rt; "{name}: {e}");
         }
@@ -47,6 +36,6 @@ fn replay<F: FnMut(&mut Words<'_>) -> Option<bool>>(
 }
 
 fn main(rt: HostRuntime) {
-    replay(&rt, "alignment", alignment::agrees);
-    replay(&rt, "imputation", imputation::agrees);
+    replay(&rt, "alignment", alignment::replay);
+    replay(&rt, "imputation", imputation::replay);
 }

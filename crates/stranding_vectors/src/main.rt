@@ -3,13 +3,20 @@
 // Its last line is wrong on purpose: a program that reports no difference compares nothing.
 #![tactic(auto)]
 
+use reading::read_full;
 use std::fs;
+use std::io::Read;
 use stranding::{StrandingCounts, strandings};
 use vectors_core::field::pattern;
 
+const LINE: usize = 102;
+
 // Whether a line's call answers as the line says; none where the line is not of its form. The wanted numbers of a refused call are 0.
-fn agrees(line: &str) -> Option<bool> {
-    let mut numbers = line.split('\t').map(|field| pattern(field.as_bytes(), 16));
+fn agrees(line: &[u8]) -> Option<bool> {
+    let mut numbers = line
+        .strip_suffix(b"\n")?
+        .split(|b| *b == b'\t')
+        .map(|field| pattern(field, 16));
     let answer = strandings(numbers.next()??, numbers.next()??);
     let row = numbers.next()??;
     let wanted = StrandingCounts {
@@ -32,25 +39,50 @@ const NONE: StrandingCounts = StrandingCounts {
     stranded: 0,
 };
 
-fn report(rt: &impl Print, text: &str) {
-    let mut agree = 0u64;
-    let mut differ = 0u64;
-    let mut broken = 0u64;
-    for line in text.lines() {
-        match agrees(line) {
-            Some(true) => agree = agree.saturating_add(1),
-            Some(false) => differ = differ.saturating_add(1),
-            None => broken = broken.saturating_add(1),
+#[derive(Clone, Copy, Default)]
+struct Tally {
+    agree: u64,
+    differ: u64,
+    broken: u64,
+}
+
+impl Tally {
+    // One line more: whether it agrees, or none where it is not of its form.
+    fn count(&mut self, agrees: Option<bool>) {
+        match agrees {
+            Some(true) => self.agree = self.agree.saturating_add(1),
+            Some(false) => self.differ = self.differ.saturating_add(1),
+            None => self.broken = self.broken.saturating_add(1),
         }
     }
+}
+
+// Goes over the file by lines of 102 bytes, until there is none. What is left of a file that is cut is a broken line.
+fn replay<F: Read>(file: &mut F) -> Tally {
+    let mut tally = Tally::default();
+    for _ in 0..u64::MAX {
+        let mut line = [0; LINE];
+        let n = read_full(file, &mut line);
+        if n == 0 {
+            break;
+        }
+        tally.count(agrees(&line[..n]));
+    }
+    tally
+}
+
+fn report(rt: &impl Print, tally: Tally) {
+    let agree = tally.agree;
+    let differ = tally.differ;
+    let broken = tally.broken;
     let _ = println!(rt; "strandings: agree {agree}, differ {differ}");
     let _ = println!(rt; "broken lines: {broken}");
 }
 
 fn main(rt: HostRuntime) {
     let path = "vectors";
-    match fs::read_to_string(&rt, path) {
-        Ok(text) => report(&rt, &text),
+    match fs::open(&rt, path) {
+        Ok(mut file) => report(&rt, replay(&mut file)),
         Err(e) => {
             let _ = eprintln!(rt; "{path}: {e}");
         }
