@@ -1,7 +1,6 @@
 // The lines of the kind preprocessor that hold a state: `q`, which the state must be, and `g`, which it becomes.
 use crate::replayed::Replayed;
 use vectors_core::fields::{Differs, Fields};
-use vectors_core::memory::Memory;
 
 // For each initial value its time and its d numbers.
 fn expect_initial(
@@ -46,14 +45,14 @@ pub(crate) fn state_line(state: &Replayed, mut fields: Fields<'_>) -> Result<(),
 }
 
 // How many initial values there are, to the front of both lists: for each its time and its d numbers. Where there is no room for these they are not read.
-fn read_initial(fields: &mut Fields<'_>, d: usize, memory: &mut Memory) -> usize {
-    let n = fields.length(memory.initial_timestamps.len());
-    for (i, time) in memory.initial_timestamps[..n].iter_mut().enumerate() {
+fn read_initial(fields: &mut Fields<'_>, d: usize, values: &mut [f32], times: &mut [u64]) -> usize {
+    let n = fields.length(times.len());
+    for (i, time) in times[..n].iter_mut().enumerate() {
         *time = fields.read();
         let from = i.saturating_mul(d);
         let to = from.saturating_add(d);
-        if to <= memory.initial_values.len() {
-            fields.read_each(&mut memory.initial_values[from..to]);
+        if to <= values.len() {
+            fields.read_each(&mut values[from..to]);
         } else {
             fields.good = false;
         }
@@ -70,6 +69,11 @@ pub(crate) fn set_line(state: &mut Replayed, mut fields: Fields<'_>) -> Result<(
     fields.read_list(&mut state.memory.point);
     fields.read_list(&mut state.memory.times);
     let d = state.head.transformer.input_length;
-    state.head.initial_len = read_initial(&mut fields, d, &mut state.memory);
+    state.head.initial_len = read_initial(
+        &mut fields,
+        d,
+        &mut state.memory.initial_values,
+        &mut state.memory.initial_timestamps,
+    );
     fields.finish()
 }
