@@ -7,7 +7,7 @@ use reading::room;
 use replaying::replay_file;
 
 // Whether the bench prints just this for a text, which is one block with the end of the input after it. An output that the room is too small for differs.
-fn agrees(text: &[u8], expected: &[u8]) -> bool {
+fn agrees(text: &[u8], expected: &[u8], out: &mut [u8]) -> bool {
     let mut statistics = [0.0f64; 75];
     let mut last_shingled_input = [0.0f32; 256];
     let mut last_shingled_point = [0.0f32; 320];
@@ -15,7 +15,6 @@ fn agrees(text: &[u8], expected: &[u8]) -> bool {
     let mut initial_values = [0.0f32; 2000];
     let mut initial_timestamps = [0u64; 500];
     let mut point = [0.0f32; 320];
-    let mut out = room();
     let r = block(
         start(),
         &mut statistics,
@@ -27,13 +26,14 @@ fn agrees(text: &[u8], expected: &[u8]) -> bool {
         &mut point,
         text,
         true,
-        &mut out,
+        out,
     );
     !r.full && &out[..r.written] == expected
 }
 
 fn main(rt: HostRuntime) {
     for name in ["inputs", "long", "gap", "wrong"] {
-        replay_file(&rt, name, agrees);
+        let mut out = room();
+        replay_file(&rt, name, |text, expected| agrees(text, expected, &mut out));
     }
 }

@@ -4,7 +4,7 @@
 
 ghost use Rattle.std.specs.Prelude.{◌≡◌, ◌≤◌, ◌<◌, IfSome, length};
 
-use std::alloc::Global;
+use reading::room;
 use std::rt::Files;
 use vectors_core::tally::read_file;
 
@@ -23,6 +23,9 @@ struct Length {
     next: usize,
 }
 
+// What stands for a length that the text ends before: 0, with the text's first byte behind it.
+const CUT: Length = Length { value: 0, next: 0 };
+
 // The digits from `at` on, and the byte that ends them: the last seven of a longer number. None where the text ends with them.
 fn length_at(text: &[u8], at: usize) -> Option<Length>
     requires { at ≤ length text.now }
@@ -38,13 +41,13 @@ fn length_at(text: &[u8], at: usize) -> Option<Length>
     None
 }
 
-// The input whose line stands from `at` on. None where the text ends before it does.
+// The input whose line stands from `at` on. None where the text ends before it does, or where a length that is cut leaves it no place behind `at`.
 fn case_at(text: &[u8], at: usize) -> Option<Case>
     requires { at ≤ length text.now }
     ensures { IfSome result (λ case. (case.from ≤ case.middle) × (case.middle ≤ case.next) × (case.next ≤ length text.now) × (at < case.next)) }
 {
-    let input = length_at(text, at)?;
-    let output = length_at(text, input.next)?;
+    let input = length_at(text, at).unwrap_or(CUT);
+    let output = length_at(text, input.next).unwrap_or(CUT);
     let from = output.next;
     if text.len() - from < input.value {
         return None;
@@ -53,11 +56,11 @@ fn case_at(text: &[u8], at: usize) -> Option<Case>
     if text.len() - middle < output.value {
         return None;
     }
-    Some(Case {
-        from,
-        middle,
-        next: middle + output.value,
-    })
+    let next = middle + output.value;
+    if next <= at {
+        return None;
+    }
+    Some(Case { from, middle, next })
 }
 
 // How many inputs agree and how many do not.
@@ -97,15 +100,17 @@ fn replay<F: FnMut(&[u8], &[u8]) -> bool>(text: &[u8], mut agrees: F) -> Tally
     tally
 }
 
-/// Replays a file, and prints its name and both numbers. A file that is not there is told and counts as empty.
+/// Replays a file, and prints its name and both numbers. A file that is not there is told and counts as empty, and what is behind the room for a file is not read.
 pub fn replay_file<F: FnMut(&[u8], &[u8]) -> bool>(
-    rt: &(impl Files + Alloc<A = Global> + Print + Eprint),
+    rt: &(impl Files + Print + Eprint),
     name: &str,
     agrees: F,
 )
     requires { F.IsAlwaysCallable agrees }
 {
-    let tally = replay(&read_file(rt, name), agrees);
+    let mut text = room();
+    let n = read_file(rt, name, &mut text);
+    let tally = replay(&text[..n], agrees);
     let agree = tally.agree;
     let differ = tally.differ;
     let _ = println!(rt; "{name}: agree {agree}, differ {differ}");

@@ -6,9 +6,8 @@ use replaying::replay_file;
 use settle_core::settle::settle;
 
 // Whether the settling program prints just this for an input.
-fn agrees(text: &[u8], expected: &[u8]) -> bool {
-    let mut out = room();
-    match settle(text, &mut out) {
+fn agrees(text: &[u8], expected: &[u8], out: &mut [u8]) -> bool {
+    match settle(text, out) {
         Ok(n) => &out[..n] == expected,
         Err(_) => false,
     }
@@ -16,6 +15,7 @@ fn agrees(text: &[u8], expected: &[u8]) -> bool {
 
 fn main(rt: HostRuntime) {
     for name in ["inputs", "gap", "wrong"] {
-        replay_file(&rt, name, agrees);
+        let mut out = room();
+        replay_file(&rt, name, |text, expected| agrees(text, expected, &mut out));
     }
 }

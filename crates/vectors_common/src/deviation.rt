@@ -4,38 +4,35 @@ use refusal::Refusal;
 use std::alloc::Global;
 use vectors_core::fields::{Differs, Fields};
 
-fn create(fields: &mut Fields<'_>) -> Result<Result<Deviation, Refusal>, Differs> {
-    let discount = fields.read()?;
-    let weight = fields.read()?;
-    let sum = fields.read()?;
-    let sum_squared = fields.read()?;
-    let count = fields.read()?;
-    Ok(Deviation::create(discount, weight, sum, sum_squared, count))
+fn create(fields: &mut Fields<'_>) -> Result<Deviation, Refusal> {
+    let discount = fields.read();
+    let weight = fields.read();
+    let sum = fields.read();
+    let sum_squared = fields.read();
+    let count = fields.read();
+    Deviation::create(discount, weight, sum, sum_squared, count)
 }
 
 // One reading put right.
-fn correct(
-    fields: &mut Fields<'_>,
-    statistic: Deviation,
-) -> Result<Result<Deviation, Refusal>, Differs> {
-    let wrong = fields.read()?;
-    let right = fields.read()?;
-    Ok(statistic.corrected(wrong, right))
+fn correct(fields: &mut Fields<'_>, statistic: Deviation) -> Result<Deviation, Refusal> {
+    let wrong = fields.read();
+    let right = fields.read();
+    statistic.corrected(wrong, right)
 }
 
-// What a line's call answers.
+// What a line's call answers. A letter that the kind lacks is no call, and its line differs.
 fn called(
     letter: u8,
     fields: &mut Fields<'_>,
     statistic: Deviation,
 ) -> Result<Result<Deviation, Refusal>, Differs> {
     match letter {
-        b'n' => Ok(Deviation::new(fields.read()?)),
-        b'u' => Ok(statistic.update(fields.read()?)),
-        b'd' => Ok(Ok(statistic.set_discount(fields.read()?))),
-        b'c' => create(fields),
-        b'k' => Ok(statistic.set_count(fields.read()?)),
-        b'o' => correct(fields, statistic),
+        b'n' => Ok(Deviation::new(fields.read())),
+        b'u' => Ok(statistic.update(fields.read())),
+        b'd' => Ok(Ok(statistic.set_discount(fields.read()))),
+        b'c' => Ok(create(fields)),
+        b'k' => Ok(statistic.set_count(fields.read())),
+        b'o' => Ok(correct(fields, statistic)),
         b'r' => Ok(Ok(statistic.reset())),
         b'e' => Ok(Ok(Deviation::default())),
         _ => Err(Differs),
@@ -59,7 +56,7 @@ pub(crate) fn replay_line(
     line: &[u8],
     statistic: &mut Deviation,
 ) -> Result<(), Differs> {
-    let (letter, mut fields) = Fields::of(alloc, line)?;
+    let (letter, mut fields) = Fields::of(alloc, line);
     let answer = called(letter, &mut fields, *statistic)?;
     let row = match answer {
         Ok(after) => {

@@ -6,6 +6,9 @@ use vectors_core::bounded::Bounded;
 use vectors_core::field::Lent;
 use vectors_core::fields::{Differs, Fields};
 
+// How many numbers a list of a line may have.
+const MOST: usize = 80;
+
 // The three lists as a call takes them.
 fn vector<T: Lent + Width>(lists: &mut Bounded<T>) -> RangeVector<'_, T> {
     RangeVector {
@@ -16,24 +19,24 @@ fn vector<T: Lent + Width>(lists: &mut Bounded<T>) -> RangeVector<'_, T> {
 }
 
 fn create_line<T: Lent + Width>(mut fields: Fields<'_>) -> Result<(), Differs> {
-    let x = Bounded::<T>::read(&mut fields)?;
-    let mut out = Bounded::<T>::lent(&mut fields)?;
+    let x = Bounded::<T>::read(&mut fields, MOST)?;
+    let mut out = Bounded::<T>::lent(&mut fields, MOST)?;
     let answer = vector(&mut out).create(&x.values, &x.upper, &x.lower);
     out.expect_written(&mut fields, row_of(answer))?;
     fields.finish()
 }
 
 fn new_line<T: Lent + Width>(mut fields: Fields<'_>) -> Result<(), Differs> {
-    let dimensions = fields.read::<u64>()? as usize;
-    let mut out = Bounded::<T>::lent(&mut fields)?;
+    let dimensions = fields.read::<u64>() as usize;
+    let mut out = Bounded::<T>::lent(&mut fields, MOST)?;
     let answer = vector(&mut out).new(dimensions);
     out.expect_written(&mut fields, row_of(answer))?;
     fields.finish()
 }
 
 fn from_line<T: Lent + Width>(mut fields: Fields<'_>) -> Result<(), Differs> {
-    let x = fields.list::<T>()?;
-    let mut out = Bounded::<T>::lent(&mut fields)?;
+    let x = fields.list::<T>(MOST)?;
+    let mut out = Bounded::<T>::lent(&mut fields, MOST)?;
     let answer = vector(&mut out).from(&x);
     out.expect_written(&mut fields, row_of(answer))?;
     fields.finish()
@@ -41,33 +44,33 @@ fn from_line<T: Lent + Width>(mut fields: Fields<'_>) -> Result<(), Differs> {
 
 fn shift_line<T: Lent + Width>(given: Fields<'_>) -> Result<(), Differs> {
     let mut fields = given;
-    let mut lists = Bounded::<T>::read(&mut fields)?;
-    let i = fields.read::<u64>()? as usize;
-    let answer = vector(&mut lists).shift(i, fields.read()?);
+    let mut lists = Bounded::<T>::read(&mut fields, MOST)?;
+    let i = fields.read::<u64>() as usize;
+    let answer = vector(&mut lists).shift(i, fields.read());
     lists.expect_changed(given, &mut fields, row_of(answer))?;
     fields.finish()
 }
 
 fn scale_line<T: Lent + Width>(given: Fields<'_>) -> Result<(), Differs> {
     let mut fields = given;
-    let mut lists = Bounded::<T>::read(&mut fields)?;
-    let i = fields.read::<u64>()? as usize;
-    let answer = vector(&mut lists).scale(i, fields.read()?);
+    let mut lists = Bounded::<T>::read(&mut fields, MOST)?;
+    let i = fields.read::<u64>() as usize;
+    let answer = vector(&mut lists).scale(i, fields.read());
     lists.expect_changed(given, &mut fields, row_of(answer))?;
     fields.finish()
 }
 
 fn cascade_line<T: Lent + Width>(given: Fields<'_>) -> Result<(), Differs> {
     let mut fields = given;
-    let mut lists = Bounded::<T>::read(&mut fields)?;
-    let base = fields.list::<T>()?;
+    let mut lists = Bounded::<T>::read(&mut fields, MOST)?;
+    let base = fields.list::<T>(MOST)?;
     let answer = vector(&mut lists).cascaded_add(&base);
     lists.expect_changed(given, &mut fields, row_of(answer))?;
     fields.finish()
 }
 
 pub(crate) fn replay_line<T: Lent + Width>(alloc: Global, line: &[u8]) -> Result<(), Differs> {
-    let (letter, fields) = Fields::of(alloc, line)?;
+    let (letter, fields) = Fields::of(alloc, line);
     match letter {
         b'z' => new_line::<T>(fields),
         b'f' => from_line::<T>(fields),

@@ -1,8 +1,9 @@
 // Values with their upper and lower bounds: three lists, which a line gives, or which a call writes to.
-ghost use Rattle.std.specs.Prelude.{◌≡◌, ◌↔◌, ◌≤◌, length, All, IfOk, IsOk, IsTrue};
+ghost use Rattle.std.specs.Prelude.{◌≡◌, ◌↔◌, ◌≤◌, length, vec_len, All, IfOk, IsOk, IsTrue};
 
 use crate::field::Lent;
 use crate::fields::{Differs, Fields, expect_untouched};
+use std::alloc::AllocError;
 
 #[derive(Drop)]
 pub struct Bounded<T: Lent> {
@@ -12,26 +13,30 @@ pub struct Bounded<T: Lent> {
 }
 
 impl<T: Lent> Bounded<T> {
-    /// Three lists that stand in the line.
-    pub fn read(fields: &mut Fields<'_>) -> Result<Bounded<T>, Differs>
-        ensures { length fields.new.rest.now ≤ length fields.old.rest.now }
+    /// Three lists that stand in the line, each of at most `most` numbers.
+    pub fn read(fields: &mut Fields<'_>, most: usize) -> Result<Bounded<T>, AllocError>
+        ensures behind { length fields.new.rest.now ≤ length fields.old.rest.now }
+        ensures good { IsTrue fields.new.good → IsTrue fields.old.good }
+        ensures within { IfOk result (λ lists. (vec_len lists.values ≤ most) × (vec_len lists.upper ≤ most) × (vec_len lists.lower ≤ most)) }
     {
         Ok(Bounded {
-            values: fields.list()?,
-            upper: fields.list()?,
-            lower: fields.list()?,
+            values: fields.list(most)?,
+            upper: fields.list(most)?,
+            lower: fields.list(most)?,
         })
     }
 
-    /// Memory to be lent, of which the line gives the three lengths.
-    pub fn lent(fields: &mut Fields<'_>) -> Result<Bounded<T>, Differs>
+    /// Memory to be lent, of which the line gives the three lengths, each at most `most`.
+    pub fn lent(fields: &mut Fields<'_>, most: usize) -> Result<Bounded<T>, AllocError>
         ensures behind { length fields.new.rest.now ≤ length fields.old.rest.now }
+        ensures good { IsTrue fields.new.good → IsTrue fields.old.good }
+        ensures within { IfOk result (λ lists. (vec_len lists.values ≤ most) × (vec_len lists.upper ≤ most) × (vec_len lists.lower ≤ most)) }
         ensures old { IfOk result (λ lists. All (λ x. x ≡ T.OLD) lists.values.items × All (λ x. x ≡ T.OLD) lists.upper.items × All (λ x. x ≡ T.OLD) lists.lower.items) }
     {
         Ok(Bounded {
-            values: fields.lent()?,
-            upper: fields.lent()?,
-            lower: fields.lent()?,
+            values: fields.lent(most)?,
+            upper: fields.lent(most)?,
+            lower: fields.lent(most)?,
         })
     }
 

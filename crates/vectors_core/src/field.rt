@@ -1,40 +1,36 @@
 // What may stand in a field, and the memory that is lent to a call. That memory is filled with one value before; what lies past an answer must still be this value.
 ghost use Rattle.std.specs.Float.Ieee.{to_bits};
 ghost use Rattle.std.specs.Float.{binary32, binary64};
-ghost use Rattle.std.specs.Prelude.{◌≡◌, ◌↔◌, ◌≤◌, eqb, length, All, Bool, IfSome, IsTrue};
+ghost use Rattle.std.specs.Prelude.{◌≡◌, ◌↔◌, ◌≤◌, ◌%◌, ℕ, eqb, from_bits, length, All, Bool, IfSome, IsTrue, List};
 ghost use Rattle.std.specs.Str.Parse.{digits_value};
+ghost use Rattle.vectors_core.specs.Digits as Digits;
+ghost use Rattle.vectors_core.specs.Digits.{decimal, hexadecimal, signed_decimal};
 ghost use Rattle.vectors_core.specs.Old.{old32, old64, old_whole};
 
+use crate::digits::{decimal, hexadecimal};
 use std::num::{
     f32_from_bits_with_nan, f32_to_bits_with_nan, f64_from_bits_with_nan, f64_to_bits_with_nan,
 };
 
-// A whole number of at least one digit, below 2^64. Its digits are lower-case, and no sign stands in front.
-fn whole(text: &[u8], radix: u32) -> Option<u64>
-    requires lower_bound { 2 ≤ radix }
-    requires upper_bound { radix ≤ 36 }
-    ensures { IfSome result (λ value. value ≡ digits_value radix text.now) }
-{
-    if text.iter().all(|b| matches!(b, b'0'..=b'9' | b'a'..=b'f')) {
-        u64::from_str_radix(str::from_utf8(text).ok()?, radix).ok()
-    } else {
-        None
-    }
-}
-
 /// A pattern of `n` hexadecimal digits.
 pub fn pattern(text: &[u8], n: usize) -> Option<u64>
-    ensures { IfSome result (λ value. (length text.now ≡ n) × (value ≡ digits_value 16 text.now)) }
+    ensures digits { IfSome result (λ value. (length text.now ≡ n) × (value ≡ digits_value 16 text.now)) }
+    ensures taken { IfSome result (λ value. value ≡ Digits.hexadecimal text.now) }
 {
-    if text.len() != n {
-        return None;
-    }
-    whole(text, 16)
+    hexadecimal(text, n).number()
 }
 
 /// A kind of number that stands in a field.
 pub trait Field: Copy {
-    fn read(text: &[u8]) -> Option<Self>;
+    ghost taken: { List ℕ → Self };
+
+    /// The number of a field that is of its form.
+    fn read(text: &[u8]) -> Option<Self>
+        ensures { IfSome result (λ x. x ≡ taken text.now) };
+
+    /// What a field is taken for, also where it is not of its form: a line that holds such a field differs, but its call is made all the same.
+    fn taken_for(text: &[u8]) -> Self
+        ensures { result ≡ taken text.now };
 }
 
 /// A kind of number that lent memory holds. A float is compared by its pattern, every not-a-number by the one that the vectors have.
@@ -46,13 +42,28 @@ pub trait Lent: Field {
 
     ghost same: { Self → Self → Bool };
 
+    // the number that stands in a field, and its radix
+    ghost number: { Self → ℕ };
+
+    ghost radix: { ℕ };
+
     fn same(self, other: Self) -> bool
         ensures { result ≡ same self other };
+
+    /// Whether a field is this number. The field of a float is its pattern, and of the patterns of not-a-numbers only the one that the vectors have is a field.
+    fn stands(self, text: &[u8]) -> bool
+        ensures { IsTrue result → number self ≡ digits_value radix text.now };
 }
 
 impl Field for u64 {
+    ghost taken = { decimal };
+
     fn read(text: &[u8]) -> Option<u64> {
-        whole(text, 10)
+        decimal(text).number()
+    }
+
+    fn taken_for(text: &[u8]) -> u64 {
+        decimal(text).value
     }
 }
 
@@ -63,41 +74,97 @@ impl Lent for u64 {
 
     ghost same = { eqb };
 
+    ghost number = { λ x. x };
+
+    ghost radix = { 10 };
+
     fn same(self, other: u64) -> bool {
         self == other
     }
+
+    fn stands(self, text: &[u8]) -> bool {
+        let digits = decimal(text);
+        digits.good && digits.value == self
+    }
 }
 
+/// Of a larger number the low 16 bits are taken.
 impl Field for u16 {
+    ghost taken = { λ text. decimal text % 65536 };
+
     fn read(text: &[u8]) -> Option<u16> {
-        u16::try_from(whole(text, 10)?).ok()
+        u16::try_from(u64::read(text)?).ok()
     }
+
+    fn taken_for(text: &[u8]) -> u16 {
+        (u64::taken_for(text) % 65536) as u16
+    }
+}
+
+// Of a larger number the low 31 bits are taken.
+fn signed(negative: bool, n: u64) -> i32
+    ensures { result ≡ Digits.signed negative n }
+{
+    if !negative {
+        return (n % 0x8000_0000) as i32;
+    }
+    if n == 0 {
+        return 0;
+    }
+    -(((n - 1) % 0x8000_0000) as i32) - 1
 }
 
 /// With `-` in front where it is negative.
 impl Field for i32 {
+    ghost taken = { signed_decimal };
+
     fn read(text: &[u8]) -> Option<i32> {
         match text {
-            [b'-', digits @ ..] => i32::try_from(-i64::try_from(whole(digits, 10)?).ok()?).ok(),
-            digits => i32::try_from(whole(digits, 10)?).ok(),
+            [b'-', digits @ ..] => match u64::read(digits)? {
+                n @ 0..=0x8000_0000 => Some(signed(true, n)),
+                _ => None,
+            },
+            digits => match u64::read(digits)? {
+                n @ 0..=0x7fff_ffff => Some(signed(false, n)),
+                _ => None,
+            },
+        }
+    }
+
+    fn taken_for(text: &[u8]) -> i32 {
+        match text {
+            [b'-', digits @ ..] => signed(true, u64::taken_for(digits)),
+            digits => signed(false, u64::taken_for(digits)),
         }
     }
 }
 
 /// A flag.
 impl Field for bool {
+    ghost taken = { λ text. eqb (decimal text) 1 };
+
     fn read(text: &[u8]) -> Option<bool> {
-        match text {
-            b"0" => Some(false),
-            b"1" => Some(true),
+        match u64::read(text)? {
+            0 => Some(false),
+            1 => Some(true),
             _ => None,
         }
+    }
+
+    fn taken_for(text: &[u8]) -> bool {
+        u64::taken_for(text) == 1
     }
 }
 
 impl Field for f64 {
+    ghost taken = { λ text. from_bits binary64 (hexadecimal text) };
+
     fn read(text: &[u8]) -> Option<f64> {
         Some(f64_from_bits_with_nan(pattern(text, 16)?))
+    }
+
+    fn taken_for(text: &[u8]) -> f64 {
+        f64_from_bits_with_nan(hexadecimal(text, 16).value)
     }
 }
 
@@ -108,15 +175,30 @@ impl Lent for f64 {
 
     ghost same = { λ x y. eqb (to_bits binary64 x) (to_bits binary64 y) };
 
+    ghost number = { to_bits binary64 };
+
+    ghost radix = { 16 };
+
     fn same(self, other: f64) -> bool {
         f64_to_bits_with_nan(self) == f64_to_bits_with_nan(other)
     }
+
+    fn stands(self, text: &[u8]) -> bool {
+        pattern(text, 16) == Some(f64_to_bits_with_nan(self))
+    }
 }
 
+/// Of a longer pattern the low 32 bits are taken.
 impl Field for f32 {
+    ghost taken = { λ text. from_bits binary32 (hexadecimal text % 4294967296) };
+
     fn read(text: &[u8]) -> Option<f32> {
         let bits = u32::try_from(pattern(text, 8)?).ok()?;
         Some(f32_from_bits_with_nan(bits))
+    }
+
+    fn taken_for(text: &[u8]) -> f32 {
+        f32_from_bits_with_nan((hexadecimal(text, 8).value % 0x1_0000_0000) as u32)
     }
 }
 
@@ -127,8 +209,16 @@ impl Lent for f32 {
 
     ghost same = { λ x y. eqb (to_bits binary32 x) (to_bits binary32 y) };
 
+    ghost number = { to_bits binary32 };
+
+    ghost radix = { 16 };
+
     fn same(self, other: f32) -> bool {
         f32_to_bits_with_nan(self) == f32_to_bits_with_nan(other)
+    }
+
+    fn stands(self, text: &[u8]) -> bool {
+        pattern(text, 8) == Some(u64::from(f32_to_bits_with_nan(self)))
     }
 }
 

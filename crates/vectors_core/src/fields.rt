@@ -1,5 +1,6 @@
 // The fields of a line, one after another.
-ghost use Rattle.std.specs.Prelude.{◌≡◌, ◌<◌, ◌≤◌, ◌+◌, ◌-◌, ◌↔◌, [], length, take, drop, slice_index, All, IfOk, IsOk, IsTrue, OnErr, OnOk};
+ghost use Rattle.std.specs.Prelude.{◌≡◌, ◌<◌, ◌≤◌, ◌+◌, ◌-◌, ◌↔◌, [], length, take, drop, get_or, vec_len, All, IfOk, IfSome, IsOk, IsTrue, OnErr};
+ghost use Rattle.vectors_core.specs.Line.{line_begun};
 
 use crate::field::{Field, Lent, is_untouched};
 use std::alloc::{AllocError, AllocFailed, Global};
@@ -20,30 +21,26 @@ impl<T: Drop> From<AllocFailed<T>> for Differs {
     }
 }
 
-// No list of the vectors is longer.
-const LONGEST: u64 = 4096;
-
 /// The fields of a line that are still to be read. Each is ended by a blank, the last by the line's LF.
 #[derive(Clone, Copy)]
 pub struct Fields<'a> {
     pub rest: &'a [u8],
+    // Whether everything before `rest` was as it should be, and an LF ends the line. A line where it is not differs, but its call is made all the same.
+    pub good: bool,
     pub alloc: Global,
 }
 
 impl<'a> Fields<'a> {
-    /// A line's letter, and the fields after it. A line that no LF ends is none.
-    pub fn of(alloc: Global, line: &'a [u8]) -> Result<(u8, Fields<'a>), Differs>
-        ensures letter { IfOk result (λ r. r.0 ≡ slice_index line.now 0) }
-        ensures rest { IfOk result (λ r. r.1.rest.now ≡ drop 2 line.now) }
-        ensures ended { OnOk result (slice_index line.now (length line.now - 1) ≡ 10) }
+    /// A line's letter, and the fields after it.
+    pub fn of(alloc: Global, line: &'a [u8]) -> (u8, Fields<'a>)
+        ensures letter { result.0 ≡ get_or line.now 0 0 }
+        ensures rest { result.1.rest.now ≡ drop 2 line.now }
+        ensures good { result.1.good ≡ line_begun line.now }
     {
-        match line {
-            [letter, b' ' | b'\n', rest @ ..] if matches!(line, [.., b'\n']) => Ok((
-                *letter,
-                Fields { rest, alloc },
-            )),
-            _ => Err(Differs),
-        }
+        let letter = line.first().copied().unwrap_or(0);
+        let good = matches!(line, [_, b' ' | b'\n', ..]) && matches!(line, [.., b'\n']);
+        let rest = line.get(2..).unwrap_or_default();
+        (letter, Fields { rest, good, alloc })
     }
 
     // A field, and what is left after the byte that ends it. Where nothing ends it, nothing is read.
@@ -51,6 +48,7 @@ impl<'a> Fields<'a> {
         ensures field { IfOk result (λ field. (field.now ≡ take (length field.now) self.old.rest.now) ×
             (self.new.rest.now ≡ drop (length field.now + 1) self.old.rest.now) × (length field.now < length self.old.rest.now)) }
         ensures kept { OnErr result (self.new.rest.now ≡ self.old.rest.now) }
+        ensures good { self.new.good ≡ self.old.good }
     {
         let rest = self.rest;
         let end = rest
@@ -61,97 +59,114 @@ impl<'a> Fields<'a> {
         Ok(&rest[..end])
     }
 
-    /// Whether every field was read.
+    /// Whether every field was read, and all were as they should be.
     pub fn finish(&self) -> Result<(), Differs>
-        ensures { IsOk result ↔ (self.now.rest.now ≡ []) }
+        ensures { IsOk result ↔ (IsTrue self.now.good × (self.now.rest.now ≡ [])) }
     {
-        if self.rest.is_empty() {
+        if self.good && self.rest.is_empty() {
             Ok(())
         } else {
             Err(Differs)
         }
     }
 
-    pub fn read<T: Field>(&mut self) -> Result<T, Differs>
-        ensures { length self.new.rest.now ≤ length self.old.rest.now }
-    {
-        T::read(self.next()?).ok_or(Differs)
-    }
-
-    /// The one byte of a field that is a letter.
-    pub fn letter(&mut self) -> Result<u8, Differs>
-        ensures { length self.new.rest.now ≤ length self.old.rest.now }
-    {
-        match self.next()? {
-            [letter] => Ok(*letter),
-            _ => Err(Differs),
-        }
-    }
-
-    /// The length of a list.
-    pub fn length(&mut self) -> Result<usize, Differs>
+    /// A number. What is none is taken for one (`Field::taken_for`), and a field that nothing ends for an empty one.
+    pub fn read<T: Field>(&mut self) -> T
         ensures behind { length self.new.rest.now ≤ length self.old.rest.now }
-        ensures longest { IfOk result (λ n. n ≤ 4096) }
+        ensures good { IsTrue self.new.good → IsTrue self.old.good }
     {
-        let n = self.read::<u64>()?;
-        if n > LONGEST {
-            return Err(Differs);
+        let field = self.next().unwrap_or_default();
+        match T::read(field) {
+            Some(x) => x,
+            None => {
+                self.good = false;
+                T::taken_for(field)
+            }
         }
-        Ok(n as usize)
+    }
+
+    /// The one byte of a field that is a letter. A longer field is taken for its first byte, an empty one for 0.
+    pub fn letter(&mut self) -> u8
+        ensures behind { length self.new.rest.now ≤ length self.old.rest.now }
+        ensures good { IsTrue self.new.good → IsTrue self.old.good }
+    {
+        let field = self.next().unwrap_or_default();
+        self.good = self.good && field.len() == 1;
+        field.first().copied().unwrap_or(0)
+    }
+
+    /// The length of a list, at most `most`. A longer one is not as it should be, and taken for 0.
+    pub fn length(&mut self, most: usize) -> usize
+        ensures behind { length self.new.rest.now ≤ length self.old.rest.now }
+        ensures good { IsTrue self.new.good → IsTrue self.old.good }
+        ensures within { result ≤ most }
+    {
+        let n = self.read::<u64>();
+        if n > most as u64 {
+            self.good = false;
+            return 0;
+        }
+        n as usize
     }
 
     /// As many numbers as `out` is long.
-    pub fn read_each<T: Field>(&mut self, out: &mut [T]) -> Result<(), Differs>
-        ensures { length self.new.rest.now ≤ length self.old.rest.now }
+    pub fn read_each<T: Field>(&mut self, out: &mut [T])
+        ensures behind { length self.new.rest.now ≤ length self.old.rest.now }
+        ensures good { IsTrue self.new.good → IsTrue self.old.good }
     {
         for x in out.iter_mut() {
-            *x = self.read()?;
+            *x = self.read();
         }
-        Ok(())
     }
 
     /// A list, to the front of `out`; how long it is.
-    pub fn read_list<T: Field>(&mut self, out: &mut [T]) -> Result<usize, Differs>
+    pub fn read_list<T: Field>(&mut self, out: &mut [T]) -> usize
         ensures behind { length self.new.rest.now ≤ length self.old.rest.now }
-        ensures within { IfOk result (λ n. n ≤ length out.new) }
+        ensures good { IsTrue self.new.good → IsTrue self.old.good }
+        ensures within { result ≤ length out.new }
     {
-        let n = self.length()?;
-        if n > out.len() {
-            return Err(Differs);
-        }
-        self.read_each(&mut out[..n])?;
-        Ok(n)
+        let n = self.length(out.len());
+        self.read_each(&mut out[..n]);
+        n
     }
 
-    /// A list.
-    pub fn list<T: Field>(&mut self) -> Result<Vec<T>, Differs>
-        ensures { length self.new.rest.now ≤ length self.old.rest.now }
+    /// A list of at most `most` numbers.
+    pub fn list<T: Field>(&mut self, most: usize) -> Result<Vec<T>, AllocError>
+        ensures behind { length self.new.rest.now ≤ length self.old.rest.now }
+        ensures good { IsTrue self.new.good → IsTrue self.old.good }
+        ensures within { IfOk result (λ list. vec_len list ≤ most) }
     {
-        let mut list = Vec::new(self.alloc);
-        for _ in 0..self.length()? {
-            list.push(self.read()?)?;
+        let n = self.length(most);
+        let mut list = Vec::with_capacity(self.alloc, n)?;
+        for _ in 0..n {
+            list.push(self.read())?;
         }
         Ok(list)
     }
 
     /// A list that may be given: flag 0, or flag 1 and the list.
-    pub fn optional<T: Field>(&mut self) -> Result<Option<Vec<T>>, Differs>
-        ensures { length self.new.rest.now ≤ length self.old.rest.now }
+    pub fn optional<T: Field>(&mut self, most: usize) -> Result<Option<Vec<T>>, AllocError>
+        ensures behind { length self.new.rest.now ≤ length self.old.rest.now }
+        ensures good { IsTrue self.new.good → IsTrue self.old.good }
+        ensures within { IfOk result (λ given. IfSome given (λ list. vec_len list ≤ most)) }
     {
-        if self.read()? {
-            Ok(Some(self.list()?))
+        if self.read() {
+            Ok(Some(self.list(most)?))
         } else {
             Ok(None)
         }
     }
 
-    /// Memory to be lent, of which the line gives the length.
-    pub fn lent<T: Lent>(&mut self) -> Result<Vec<T>, Differs>
+    /// Memory to be lent, of which the line gives the length, at most `most`.
+    pub fn lent<T: Lent>(&mut self, most: usize) -> Result<Vec<T>, AllocError>
         ensures behind { length self.new.rest.now ≤ length self.old.rest.now }
+        ensures good { IsTrue self.new.good → IsTrue self.old.good }
+        ensures within { IfOk result (λ list. vec_len list ≤ most) }
         ensures old { IfOk result (λ list. All (λ x. x ≡ T.OLD) list.items) }
     {
-        let mut list = Vec::new(self.alloc);
-        for _ in 0..self.length()? {
+        let n = self.length(most);
+        let mut list = Vec::with_capacity(self.alloc, n)?;
+        for _ in 0..n {
             list.push(T::OLD)?;
         }
         Ok(list)
@@ -161,7 +176,7 @@ impl<'a> Fields<'a> {
     pub fn expect<T: Lent>(&mut self, value: T) -> Result<(), Differs>
         ensures { length self.new.rest.now ≤ length self.old.rest.now }
     {
-        if self.read::<T>()?.same(value) {
+        if value.stands(self.next()?) {
             Ok(())
         } else {
             Err(Differs)
@@ -188,10 +203,12 @@ impl<'a> Fields<'a> {
     pub fn expect_list<T: Lent>(&mut self, xs: &[T]) -> Result<(), Differs>
         ensures { length self.new.rest.now ≤ length self.old.rest.now }
     {
-        let n = self.length()?;
-        let (front, rest) = xs.split_at_checked(n).ok_or(Differs)?;
-        self.expect_each(front)?;
-        expect_untouched(rest)
+        let n = self.length(xs.len());
+        if !self.good {
+            return Err(Differs);
+        }
+        self.expect_each(&xs[..n])?;
+        expect_untouched(&xs[n..])
     }
 
     /// Whether a list is written, and the list; where none is, its memory stays.

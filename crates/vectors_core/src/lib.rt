@@ -3,6 +3,7 @@
 #![tactic(auto)]
 
 pub mod bounded;
+mod digits;
 pub mod field;
 pub mod fields;
 pub mod memory;

@@ -1,11 +1,10 @@
 // How many lines of a file agree, and the report.
-ghost use Rattle.std.specs.Prelude.{if◌then◌else◌, ◌≡◌, ◌||◌, ◌++◌, ◌∷◌, [], leb, take};
+ghost use Rattle.std.specs.Prelude.{if◌then◌else◌, ◌≡◌, ◌≤◌, ◌||◌, ◌++◌, ◌∷◌, [], leb, length, slice_set, take};
 ghost use Rattle.vectors_core.specs.Tally.{one_more};
 
 use crate::fields::Differs;
-use std::alloc::Global;
+use reading::{read_full, room};
 use std::fs;
-use std::io::Read;
 use std::rt::Files;
 
 /// A line that differs: its number, from 1 on, and its letter, which may be any byte.
@@ -48,6 +47,7 @@ impl Tally {
         ensures differ { self.new.differ ≡ (if agrees then self.old.differ else one_more self.old.differ) }
         ensures named { take self.new.differ self.new.named ≡
             (if agrees || leb 5 self.old.differ then take self.old.differ self.old.named else take self.old.differ self.old.named ++ line ∷ []) }
+        ensures whole { self.new.named ≡ (if agrees then self.old.named else slice_set self.old.named self.old.differ line) }
     {
         if agrees {
             self.agree = self.agree.saturating_add(1);
@@ -60,7 +60,9 @@ impl Tally {
     }
 
     /// The first lines that differ, and then a line with the file's name and both numbers.
-    pub fn report(&self, rt: &impl Print, name: &str) {
+    pub fn report(&self, rt: &impl Print, name: &str)
+        ensures { result ≡ tt }
+    {
         for line in self.named.iter().take(self.differ as usize) {
             let number = line.number;
             let _ = print!(rt; "differs: line {number}");
@@ -72,31 +74,32 @@ impl Tally {
     }
 }
 
-/// The bytes of a file. One that is not there is told on standard error and counts as empty, and a failed read ends the file.
-pub fn read_file(rt: &(impl Files + Alloc<A = Global> + Eprint), name: &str) -> Vec<u8> {
-    let mut text = Vec::new(rt.alloc());
+/// Reads a file to the front of `text`, as much as there is room for, and answers how much that is. A file that is not there is told on standard error and counts as empty, and a failed
+/// read ends the file.
+pub fn read_file(rt: &(impl Files + Eprint), name: &str, text: &mut [u8]) -> usize
+    ensures { result ≤ length text.new }
+{
     match fs::open(rt, name) {
-        Ok(mut file) => {
-            let _ = file.read_to_end(&mut text);
-        }
+        Ok(mut file) => read_full(&mut file, text),
         Err(e) => {
             let _ = eprintln!(rt; "{name}: {e}");
+            0
         }
     }
-    text
 }
 
-/// Replays each line of a file, in order, and prints the first that differ and how many agree. A line that cannot be written is passed over.
+/// Replays each line of a file, in order, and prints the first that differ and how many agree. What is behind the room for a file is not read. A line that cannot be written is passed over.
 pub fn replay<F: FnMut(&[u8]) -> Result<(), Differs>>(
-    rt: &(impl Files + Alloc<A = Global> + Print + Eprint),
+    rt: &(impl Files + Print + Eprint),
     name: &str,
     mut answer: F,
 )
     requires { F.IsAlwaysCallable answer }
 {
-    let text = read_file(rt, name);
+    let mut text = room();
+    let n = read_file(rt, name, &mut text);
     let mut tally = Tally::new();
-    for (i, line) in text.split_inclusive(|b| *b == b'\n').enumerate() {
+    for (i, line) in text[..n].split_inclusive(|b| *b == b'\n').enumerate() {
         let named = Named {
             number: i as u64 + 1,
             letter: line[0],

@@ -1,29 +1,29 @@
 // The line that begins a list of the kind preprocessor: `build`.
-use crate::replayed::Replayed;
+use crate::replayed::{LONGEST_READING, Replayed};
 use trcf::head::{PreprocessorBuilder, no_head};
-use trcf::types::{TransformMethod, mode_of_letter};
+use trcf::types::{method_of_number, mode_of_letter};
 use trcf_calls::build::build;
 use vectors_core::fields::{Differs, Fields};
 
 // The settings of a line but for the weights and codes.
-fn read_settings(fields: &mut Fields<'_>) -> Result<PreprocessorBuilder, Differs> {
-    Ok(PreprocessorBuilder {
-        forest_mode: mode_of_letter(fields.letter()? as u64),
-        transform_method: TransformMethod::try_from(fields.read::<u64>()?).map_err(|_| Differs)?,
-        input_dimensions: fields.read::<u64>()? as usize,
-        shingle_size: fields.read::<u64>()? as usize,
-        start_normalization: fields.read::<u64>()? as usize,
-        stop_normalization: fields.read::<u64>()? as usize,
-        transform_decay: fields.read()?,
-        weight_time: fields.read()?,
-    })
+fn read_settings(fields: &mut Fields<'_>) -> PreprocessorBuilder {
+    PreprocessorBuilder {
+        forest_mode: mode_of_letter(fields.letter() as u64),
+        transform_method: method_of_number(fields.read()),
+        input_dimensions: fields.read::<u64>() as usize,
+        shingle_size: fields.read::<u64>() as usize,
+        start_normalization: fields.read::<u64>() as usize,
+        stop_normalization: fields.read::<u64>() as usize,
+        transform_decay: fields.read(),
+        weight_time: fields.read(),
+    }
 }
 
 // A refused call hands back no head.
 pub(crate) fn build_line(state: &mut Replayed, mut fields: Fields<'_>) -> Result<(), Differs> {
-    let settings = read_settings(&mut fields)?;
-    let weights = fields.list::<f32>()?;
-    let codes = fields.list::<u16>()?;
+    let settings = read_settings(&mut fields);
+    let weights = fields.list::<f32>(LONGEST_READING)?;
+    let codes = fields.list::<u16>(LONGEST_READING)?;
     state.memory.forget_learnt();
     let answer = build(
         settings,

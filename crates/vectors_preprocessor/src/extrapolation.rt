@@ -1,5 +1,5 @@
 // The line of an invert_extrapolation.
-use crate::replayed::Replayed;
+use crate::replayed::{LONGEST_FORECAST, LONGEST_TIMES, Replayed};
 use ranges::rangevector::RangeVector;
 use refusal::row_of;
 use trcf::types::is_augmented;
@@ -42,9 +42,9 @@ fn expect_beside(
 
 pub(crate) fn extrapolation_line(state: &Replayed, given: Fields<'_>) -> Result<(), Differs> {
     let mut fields = given;
-    let mut lists = Bounded::<f32>::read(&mut fields)?;
-    let mut numbers = Bounded::<f32>::lent(&mut fields)?;
-    let mut times = Bounded::<f64>::lent(&mut fields)?;
+    let mut lists = Bounded::<f32>::read(&mut fields, LONGEST_FORECAST)?;
+    let mut numbers = Bounded::<f32>::lent(&mut fields, LONGEST_FORECAST)?;
+    let mut times = Bounded::<f64>::lent(&mut fields, LONGEST_TIMES)?;
     let answer = invert_extrapolation(
         state.head,
         &state.memory.statistics,

@@ -1,5 +1,6 @@
 // The line of a post_process.
-use crate::replayed::Replayed;
+use crate::replayed::{LONGEST_POINT, LONGEST_READING, Replayed};
+use std::alloc::AllocError;
 use trcf::head::Anomaly;
 use trcf_learn::post_process::post_process;
 use vectors_core::fields::{Differs, Fields, expect_untouched};
@@ -15,14 +16,14 @@ struct Given {
     expected: Option<Vec<f32>>,
 }
 
-fn read_given(fields: &mut Fields<'_>) -> Result<Given, Differs> {
+fn read_given(fields: &mut Fields<'_>) -> Result<Given, AllocError> {
     Ok(Given {
-        time: fields.read()?,
-        input: fields.list()?,
-        y: fields.optional()?,
-        grade: fields.read()?,
-        index: fields.read()?,
-        expected: fields.optional()?,
+        time: fields.read(),
+        input: fields.list(LONGEST_READING)?,
+        y: fields.optional(LONGEST_POINT)?,
+        grade: fields.read(),
+        index: fields.read(),
+        expected: fields.optional(LONGEST_POINT)?,
     })
 }
 
@@ -50,9 +51,9 @@ fn expect_anomaly(
 
 pub(crate) fn learn_line(state: &mut Replayed, mut fields: Fields<'_>) -> Result<(), Differs> {
     let given = read_given(&mut fields)?;
-    let mut deviations = fields.lent::<f32>()?;
-    let mut past = fields.lent::<f32>()?;
-    let mut expected = fields.lent::<f32>()?;
+    let mut deviations = fields.lent::<f32>(LONGEST_READING)?;
+    let mut past = fields.lent::<f32>(LONGEST_READING)?;
+    let mut expected = fields.lent::<f32>(LONGEST_READING)?;
     let answer = post_process(
         state.head,
         &mut state.memory.statistics,

@@ -1,14 +1,14 @@
 // The lines of shingled_point and drain.
-use crate::replayed::Replayed;
+use crate::replayed::{LONGEST_POINT, LONGEST_READING, Replayed};
 use refusal::row_of;
 use trcf_point::drain::drain;
 use trcf_point::point::shingled_point;
 use vectors_core::fields::{Differs, Fields, expect_untouched};
 
 pub(crate) fn point_line(state: &mut Replayed, mut fields: Fields<'_>) -> Result<(), Differs> {
-    let time = fields.read()?;
-    let input = fields.list::<f32>()?;
-    let mut out = fields.lent::<f32>()?;
+    let time = fields.read();
+    let input = fields.list::<f32>(LONGEST_READING)?;
+    let mut out = fields.lent::<f32>(LONGEST_POINT)?;
     let answer = shingled_point(
         state.head,
         &mut state.memory.statistics,

@@ -11,6 +11,15 @@ use trcf::head::{LentLists, Preprocessor, no_head};
 use vectors_core::fields::{Differs, Fields};
 use vectors_core::memory::Memory;
 
+// How long a list of a line is at most, and what a line lends: a reading, its weights and its deviations; a point; a forecast; a forecast's times.
+pub(crate) const LONGEST_READING: usize = 40;
+
+pub(crate) const LONGEST_POINT: usize = 1200;
+
+pub(crate) const LONGEST_FORECAST: usize = 3300;
+
+pub(crate) const LONGEST_TIMES: usize = 20;
+
 // What is carried from line to line.
 #[derive(Drop)]
 pub(crate) struct Replayed {
@@ -41,7 +50,7 @@ impl Replayed {
 }
 
 pub(crate) fn replay_line(state: &mut Replayed, alloc: Global, line: &[u8]) -> Result<(), Differs> {
-    let (letter, fields) = Fields::of(alloc, line)?;
+    let (letter, fields) = Fields::of(alloc, line);
     match letter {
         b'b' => build_line(state, fields),
         b'g' => set_line(state, fields),

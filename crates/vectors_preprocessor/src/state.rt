@@ -1,7 +1,6 @@
 // The lines of the kind preprocessor that hold a state: `q`, which the state must be, and `g`, which it becomes.
 use crate::replayed::Replayed;
 use vectors_core::fields::{Differs, Fields};
-use vectors_core::memory::Memory;
 
 // For each initial value its time and its d numbers.
 fn expect_initial(
@@ -45,26 +44,36 @@ pub(crate) fn state_line(state: &Replayed, mut fields: Fields<'_>) -> Result<(),
     fields.finish()
 }
 
-// How many initial values there are, to the front of both lists. Where there is no room for one, its fields stay unread.
-fn read_initial(fields: &mut Fields<'_>, d: usize, memory: &mut Memory) -> Result<usize, Differs> {
-    let n = fields.length()?;
-    let readings = memory.initial_values.chunks_exact_mut(d.max(1));
-    for (time, reading) in memory.initial_timestamps.iter_mut().zip(readings).take(n) {
-        *time = fields.read()?;
-        fields.read_each(reading)?;
+// How many initial values there are, to the front of both lists: for each its time and its d numbers. Where there is no room for these they are not read.
+fn read_initial(fields: &mut Fields<'_>, d: usize, values: &mut [f32], times: &mut [u64]) -> usize {
+    let n = fields.length(times.len());
+    for (i, time) in times[..n].iter_mut().enumerate() {
+        *time = fields.read();
+        let from = i.saturating_mul(d);
+        let to = from.saturating_add(d);
+        if to <= values.len() {
+            fields.read_each(&mut values[from..to]);
+        } else {
+            fields.good = false;
+        }
     }
-    Ok(n)
+    n
 }
 
 pub(crate) fn set_line(state: &mut Replayed, mut fields: Fields<'_>) -> Result<(), Differs> {
-    state.head.values_seen = fields.read::<u64>()? as usize;
-    state.head.internal_timestamp = fields.read::<u64>()? as usize;
-    state.head.transformer.count = fields.read()?;
-    fields.read_list(&mut state.memory.statistics)?;
-    fields.read_list(&mut state.memory.inputs)?;
-    fields.read_list(&mut state.memory.point)?;
-    fields.read_list(&mut state.memory.times)?;
+    state.head.values_seen = fields.read::<u64>() as usize;
+    state.head.internal_timestamp = fields.read::<u64>() as usize;
+    state.head.transformer.count = fields.read();
+    fields.read_list(&mut state.memory.statistics);
+    fields.read_list(&mut state.memory.inputs);
+    fields.read_list(&mut state.memory.point);
+    fields.read_list(&mut state.memory.times);
     let d = state.head.transformer.input_length;
-    state.head.initial_len = read_initial(&mut fields, d, &mut state.memory)?;
+    state.head.initial_len = read_initial(
+        &mut fields,
+        d,
+        &mut state.memory.initial_values,
+        &mut state.memory.initial_timestamps,
+    );
     fields.finish()
 }

@@ -15,7 +15,7 @@ fn checksum(text: &[u8]) -> u64 {
 }
 
 pub(crate) fn text_line(state: &Replayed, mut fields: Fields<'_>) -> Result<(), Differs> {
-    let mut out = vec![in fields.alloc; 0u8; 65536]?;
+    let mut out = [0u8; 65536];
     let answer = save(state.head, state.lists(), &mut out);
     let n = answer.map_err(|_| Differs)?;
     let text = out.get(..n).ok_or(Differs)?;

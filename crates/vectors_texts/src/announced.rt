@@ -1,7 +1,9 @@
 // The line before a text, which says how long the text is and what comes of it.
+ghost use Rattle.std.specs.Prelude.{◌≡◌, ◌+◌, ◌<◌, ◌≤◌, length, vec_len, IfOk};
+
 use refusal::Refusal;
 use snapshot_restore::restore::RestoreError;
-use std::alloc::Global;
+use std::alloc::{AllocError, Global};
 use vectors_core::fields::{Differs, Fields};
 
 // A text with the fields of its line that are still to be read, and what follows in the file.
@@ -13,13 +15,17 @@ pub(crate) struct Placed<'a> {
     pub behind: &'a [u8],
 }
 
-// The text at the front of a file. One that the file does not hold to the end is none.
-pub(crate) fn first_text<'a>(alloc: Global, file: &'a [u8]) -> Result<Placed<'a>, Differs> {
+// The text at the front of a file. One that the file does not hold to the end is none. Behind its bytes stands an LF; where another byte does, the next text is behind that.
+pub(crate) fn first_text<'a>(alloc: Global, file: &'a [u8]) -> Result<Placed<'a>, Differs>
+    ensures { IfOk result (λ placed. length placed.text.now + length placed.behind.now < length file.now) }
+{
     let end = file.iter().position(|b| *b == b'\n').ok_or(Differs)?;
-    let (letter, mut fields) = Fields::of(alloc, &file[..end + 1])?;
-    let n = fields.read::<u64>()? as usize;
-    let (text, rest) = file[end + 1..].split_at_checked(n).ok_or(Differs)?;
-    let behind = rest.strip_prefix(b"\n").ok_or(Differs)?;
+    let (line, rest) = file.split_at(end + 1);
+    let (letter, mut fields) = Fields::of(alloc, line);
+    let n = fields.length(rest.len());
+    let (text, rest) = rest.split_at(n);
+    let (last, behind) = rest.split_first().ok_or(Differs)?;
+    fields.good = fields.good && *last == b'\n';
     Ok(Placed {
         letter,
         fields,
@@ -53,15 +59,23 @@ pub(crate) struct Announced {
     pub refused: Option<Refused>,
 }
 
+// How many codes may be expected.
+const LONGEST_CODES: usize = 40;
+
 // How many weights the second line has, at most 16.
-fn channels(text: &[u8]) -> usize {
+fn channels(text: &[u8]) -> usize
+    ensures { result ≤ 16 }
+{
     let line = text.split(|b| *b == b'\n').nth(1).unwrap_or(&[]);
     line.iter().filter(|b| **b == b'\t').count().min(16)
 }
 
 // `t`: a text of before there were codes, with its first bad line. Zeros are expected, as many as it has weights.
-fn bare_text(fields: &mut Fields<'_>, text: &[u8], room: usize) -> Result<Announced, Differs> {
-    let line = fields.read()?;
+fn bare_text(fields: &mut Fields<'_>, text: &[u8], room: usize) -> Result<Announced, AllocError>
+    ensures codes { IfOk result (λ told. vec_len told.codes ≤ 16) }
+    ensures times { IfOk result (λ told. told.times ≡ room) }
+{
+    let line = fields.read();
     Ok(Announced {
         codes: vec![in fields.alloc; 0; channels(text)]?,
         times: room,
@@ -73,26 +87,32 @@ fn bare_text(fields: &mut Fields<'_>, text: &[u8], room: usize) -> Result<Announ
 }
 
 // The row and the first bad line, or zeros.
-fn read_refused(fields: &mut Fields<'_>) -> Result<Option<Refused>, Differs> {
-    let row = fields.read()?;
-    let line = fields.read()?;
-    Ok((row != 0 || line != 0).then_some(Refused { row, line }))
+fn read_refused(fields: &mut Fields<'_>) -> Option<Refused> {
+    let row = fields.read();
+    let line = fields.read();
+    (row != 0 || line != 0).then_some(Refused { row, line })
 }
 
 // `r`: the codes expected, the length of the list lent for the times, and how it is refused.
-fn coded_text(fields: &mut Fields<'_>) -> Result<Announced, Differs> {
+fn coded_text(fields: &mut Fields<'_>, room: usize) -> Result<Announced, AllocError>
+    ensures codes { IfOk result (λ told. vec_len told.codes ≤ 40) }
+    ensures times { IfOk result (λ told. told.times ≤ room) }
+{
     Ok(Announced {
-        codes: fields.list()?,
-        times: fields.length()?,
-        refused: read_refused(fields)?,
+        codes: fields.list(LONGEST_CODES)?,
+        times: fields.length(room),
+        refused: read_refused(fields),
     })
 }
 
-pub(crate) fn read_announced(placed: Placed<'_>, room: usize) -> Result<Announced, Differs> {
+pub(crate) fn read_announced(placed: Placed<'_>, room: usize) -> Result<Announced, Differs>
+    ensures codes { IfOk result (λ told. vec_len told.codes ≤ 40) }
+    ensures times { IfOk result (λ told. told.times ≤ room) }
+{
     let mut fields = placed.fields;
     let told = match placed.letter {
         b't' => bare_text(&mut fields, placed.text, room)?,
-        b'r' => coded_text(&mut fields)?,
+        b'r' => coded_text(&mut fields, room)?,
         _ => return Err(Differs),
     };
     fields.finish()?;

@@ -1,6 +1,5 @@
 // A text that was taken up: what it is saved as again, and what lies past the state.
 use snapshot_save::save::save;
-use std::alloc::Global;
 use trcf::head::{LentLists, Preprocessor};
 use trcf::types::is_augmented;
 use vectors_core::field::Lent;
@@ -37,13 +36,12 @@ fn expect_put_away(saved: &[u8], text: &[u8], d: usize) -> Result<(), Differs> {
 
 // The text is saved again as it was, with the line of its codes.
 pub(crate) fn expect_saved(
-    alloc: Global,
     text: &[u8],
     head: Preprocessor,
     memory: &Memory,
     times: usize,
 ) -> Result<(), Differs> {
-    let mut out = vec![in alloc; 0u8; 65536]?;
+    let mut out = [0u8; 65536];
     let lists = LentLists {
         statistics: &memory.statistics,
         last_shingled_input: &memory.inputs,

@@ -2,6 +2,7 @@
 // lacks; any other is refused by its row, at its line, and what was lent stays as it was.
 use crate::announced::{Announced, Placed, Refused, first_text, read_announced};
 use crate::saved::{expect_rest_untouched, expect_saved};
+use reading::room;
 use snapshot_restore::restore::{RestoreError, restore};
 use std::alloc::Global;
 use std::rt::Files;
@@ -34,12 +35,12 @@ fn restored(
     ))
 }
 
-fn replay_text(alloc: Global, placed: Placed<'_>, memory: &mut Memory) -> Result<(), Differs> {
+fn replay_text(placed: Placed<'_>, memory: &mut Memory) -> Result<(), Differs> {
     let wanted = read_announced(placed, memory.times.len())?;
     match (restored(placed.text, &wanted, memory)?, wanted.refused) {
         (Ok(head), None) => {
             expect_rest_untouched(head, memory)?;
-            expect_saved(alloc, placed.text, head, memory, wanted.times)
+            expect_saved(placed.text, head, memory, wanted.times)
         }
         (Err(error), Some(refused)) if Refused::from(error) == refused => memory.expect_untouched(),
         _ => Err(Differs),
@@ -52,10 +53,11 @@ pub(crate) fn replay_file(
     name: &str,
 ) -> io::Result<()> {
     let alloc = rt.alloc();
-    let file = read_file(rt, name);
+    let mut file = room();
+    let n = read_file(rt, name, &mut file);
     let mut memory = Memory::new(alloc, 4000)?;
     let mut tally = Tally::new();
-    let mut rest = file.as_slice();
+    let mut rest = &file[..n];
     for number in 1..u64::MAX {
         let Some(letter) = rest.first() else {
             break;
@@ -66,7 +68,7 @@ pub(crate) fn replay_file(
         };
         match first_text(alloc, rest) {
             Ok(placed) => {
-                let agrees = replay_text(alloc, placed, &mut memory).is_ok();
+                let agrees = replay_text(placed, &mut memory).is_ok();
                 tally.count(line, agrees);
                 rest = placed.behind;
             }

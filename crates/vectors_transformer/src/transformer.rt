@@ -3,10 +3,26 @@ use ranges::rangevector::RangeVector;
 use refusal::{Refusal, row_of};
 use std::alloc::Global;
 use trcf::transformer::WeightedTransformer;
-use trcf::types::TransformMethod;
+use trcf::types::{TransformMethod, method_of_number};
 use vectors_core::bounded::Bounded;
 use vectors_core::field::Lent;
 use vectors_core::fields::{Differs, Fields, expect_untouched};
+
+// How many numbers a list of a line may have, and how many each of the three of a forecast.
+const MOST: usize = 40;
+
+const MOST_BOUNDED: usize = 80;
+
+// Before the first `n`, and after a refused one.
+fn no_transformer() -> WeightedTransformer {
+    WeightedTransformer {
+        transform_method: TransformMethod::NONE,
+        input_length: 0,
+        transform_decay: 0.0,
+        weights: [0.0; 16],
+        count: 0,
+    }
+}
 
 // What is carried from line to line.
 #[derive(Drop)]
@@ -16,39 +32,39 @@ pub(crate) struct Transformed {
 }
 
 impl Transformed {
-    // Before the first `n`.
     pub(crate) fn new() -> Transformed {
         Transformed {
-            transformer: WeightedTransformer {
-                transform_method: TransformMethod::NONE,
-                input_length: 0,
-                transform_decay: 0.0,
-                weights: [0.0; 16],
-                count: 0,
-            },
+            transformer: no_transformer(),
             statistics: [0.0; 260],
         }
     }
 
-    // The row of a call that gives the next transformer; a refused one leaves it as it was.
-    fn take(&mut self, answer: Result<WeightedTransformer, Refusal>) -> u64 {
+    // The row of a call that gives the next transformer; of a refused one that is `refused`.
+    fn take(
+        &mut self,
+        answer: Result<WeightedTransformer, Refusal>,
+        refused: WeightedTransformer,
+    ) -> u64 {
         match answer {
             Ok(next) => {
                 self.transformer = next;
                 0
             }
-            Err(refusal) => u64::from(refusal),
+            Err(refusal) => {
+                self.transformer = refused;
+                u64::from(refusal)
+            }
         }
     }
 
     fn new_line(&mut self, mut fields: Fields<'_>) -> Result<(), Differs> {
-        let method = TransformMethod::try_from(fields.read::<u64>()?).map_err(|_| Differs)?;
-        let d = fields.read::<u64>()? as usize;
-        let decay = fields.read()?;
-        let weights = fields.list::<f32>()?;
+        let method = method_of_number(fields.read());
+        let d = fields.read::<u64>() as usize;
+        let decay = fields.read();
+        let weights = fields.list::<f32>(MOST)?;
         self.statistics.fill(f64::OLD);
         let answer = WeightedTransformer::new(method, d, decay, &weights, &mut self.statistics);
-        let row = self.take(answer);
+        let row = self.take(answer, no_transformer());
         fields.expect(row)?;
         if row != 0 {
             expect_untouched(&self.statistics)?;
@@ -57,12 +73,11 @@ impl Transformed {
     }
 
     fn update_line(&mut self, mut fields: Fields<'_>) -> Result<(), Differs> {
-        let input = fields.list::<f32>()?;
-        let previous = fields.list::<f32>()?;
-        let answer = self
-            .transformer
-            .update(&mut self.statistics, &input, &previous);
-        let row = self.take(answer);
+        let input = fields.list::<f32>(MOST)?;
+        let previous = fields.list::<f32>(MOST)?;
+        let before = self.transformer;
+        let answer = before.update(&mut self.statistics, &input, &previous);
+        let row = self.take(answer, before);
         fields.expect(row)?;
         fields.finish()
     }
@@ -71,9 +86,9 @@ impl Transformed {
 
     // `transform` and `invert`.
     fn input_line(&self, letter: u8, mut fields: Fields<'_>) -> Result<(), Differs> {
-        let input = fields.list::<f32>()?;
-        let previous = fields.list::<f32>()?;
-        let mut out = fields.lent::<f32>()?;
+        let input = fields.list::<f32>(MOST)?;
+        let previous = fields.list::<f32>(MOST)?;
+        let mut out = fields.lent::<f32>(MOST)?;
         let t = self.transformer;
         let answer = match letter {
             b't' => t.transform(&self.statistics, &input, &previous, &mut out),
@@ -85,7 +100,7 @@ impl Transformed {
 
     // `scale`, `shift` and `difference_deviations`.
     fn output_line(&self, letter: u8, mut fields: Fields<'_>) -> Result<(), Differs> {
-        let mut out = fields.lent::<f32>()?;
+        let mut out = fields.lent::<f32>(MOST)?;
         let t = self.transformer;
         let answer = match letter {
             b'c' => t.scale(&self.statistics, &mut out),
@@ -98,8 +113,8 @@ impl Transformed {
 
     fn forecast_line(&self, given: Fields<'_>) -> Result<(), Differs> {
         let mut fields = given;
-        let mut lists = Bounded::<f32>::read(&mut fields)?;
-        let previous = fields.list::<f32>()?;
+        let mut lists = Bounded::<f32>::read(&mut fields, MOST_BOUNDED)?;
+        let previous = fields.list::<f32>(MOST)?;
         let mut range = RangeVector {
             values: &mut lists.values,
             upper: &mut lists.upper,
@@ -115,7 +130,7 @@ impl Transformed {
     // ---- lines that are no call
 
     fn count_line(&mut self, mut fields: Fields<'_>) -> Result<(), Differs> {
-        self.transformer.count = fields.read()?;
+        self.transformer.count = fields.read();
         fields.finish()
     }
 
@@ -127,7 +142,7 @@ impl Transformed {
     }
 
     pub(crate) fn replay_line(&mut self, alloc: Global, line: &[u8]) -> Result<(), Differs> {
-        let (letter, fields) = Fields::of(alloc, line)?;
+        let (letter, fields) = Fields::of(alloc, line);
         match letter {
             b'n' => self.new_line(fields),
             b'u' => self.update_line(fields),

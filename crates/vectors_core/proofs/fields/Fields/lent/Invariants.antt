@@ -1,7 +1,7 @@
--- What holds in the loop of `vectors_core::fields::Fields::lent`: each element holds the old value.
+-- What holds in the loop of `vectors_core::fields::Fields::lent`: each round adds the old value.
 use Rattle.std.proofs.Common.{◌≡◌}
-use Rattle.std.specs.Prelude.{All}
+use Rattle.std.specs.Prelude.{vec_len, All}
 use Rattle.vectors_core.proofs.fields.Fields.lent.Given as goal
 
 abbrev pub invariant-loop : goal.invariant-loop
-invariant-loop g l = All (λ x. x ≡ g.T.Lent.OLD) l.list.items
+invariant-loop g l = All (λ x. x ≡ g.T.Lent.OLD) l.list.items × (vec_len l.list ≡ l.counter)

@@ -1,6 +1,7 @@
--- What holds in the loop of `vectors_core::fields::Fields::list`: fields are only read.
-use Rattle.std.proofs.Common.{◌≤◌, length}
+-- What holds in the loop of `vectors_core::fields::Fields::list`: fields are only read, and each round adds one number.
+use Rattle.std.proofs.Common.{◌≡◌, ◌≤◌, length}
+use Rattle.std.specs.Prelude.{vec_len, IsTrue}
 use Rattle.vectors_core.proofs.fields.Fields.list.Given as goal
 
 abbrev pub invariant-loop : goal.invariant-loop
-invariant-loop g l = length l.self.rest.now ≤ length l.initial.self.rest.now
+invariant-loop g l = (length l.self.rest.now ≤ length l.initial.self.rest.now) × (IsTrue l.self.good → IsTrue l.initial.self.good) × (vec_len l.list ≡ l.counter)
