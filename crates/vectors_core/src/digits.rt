@@ -1,6 +1,6 @@
 // The digits of a field, one after another: the number, and whether they are those of a number below 2^64. A field of another form is taken for a number too.
 ghost use Rattle.std.specs.Char.{digit_value};
-ghost use Rattle.std.specs.Prelude.{if◌then◌else◌, ◌≡◌, ◌<◌, ◌+◌, ◌*◌, length, IsTrue, None, Some};
+ghost use Rattle.std.specs.Prelude.{if◌then◌else◌, ◌≡◌, ◌<◌, ◌+◌, ◌*◌, length, IfSome, IsTrue, None, Some};
 ghost use Rattle.std.specs.Str.Parse.{digits_value};
 ghost use Rattle.vectors_core.specs.Digits as Spec;
 
@@ -89,4 +89,25 @@ pub(crate) fn hexadecimal(text: &[u8], n: usize) -> Digits
         digits = digits.with_hexadecimal(digit(*b));
     }
     digits
+}
+
+// The number of `n` hexadecimal digits, in lower case. No byte is looked at behind one that is no digit.
+pub(crate) fn hexadecimal_number(text: &[u8], n: usize) -> Option<u64>
+    ensures value { IfSome result (λ value. value ≡ Spec.hexadecimal text.now) }
+    ensures digits { IfSome result (λ value. (length text.now ≡ n) × (value ≡ digits_value 16 text.now)) }
+{
+    if text.len() != n {
+        return None;
+    }
+    let mut digits = Digits {
+        good: true,
+        value: 0,
+    };
+    for b in text {
+        digits = digits.with_hexadecimal(digit(*b));
+        if !digits.good {
+            return None;
+        }
+    }
+    digits.number()
 }

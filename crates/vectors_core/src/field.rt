@@ -7,7 +7,7 @@ ghost use Rattle.vectors_core.specs.Digits as Digits;
 ghost use Rattle.vectors_core.specs.Digits.{decimal, hexadecimal, signed_decimal};
 ghost use Rattle.vectors_core.specs.Old.{old32, old64, old_whole};
 
-use crate::digits::{decimal, hexadecimal};
+use crate::digits::{decimal, hexadecimal, hexadecimal_number};
 use std::num::{
     f32_from_bits_with_nan, f32_to_bits_with_nan, f64_from_bits_with_nan, f64_to_bits_with_nan,
 };
@@ -17,7 +17,7 @@ pub fn pattern(text: &[u8], n: usize) -> Option<u64>
     ensures digits { IfSome result (λ value. (length text.now ≡ n) × (value ≡ digits_value 16 text.now)) }
     ensures taken { IfSome result (λ value. value ≡ Digits.hexadecimal text.now) }
 {
-    hexadecimal(text, n).number()
+    hexadecimal_number(text, n)
 }
 
 /// A kind of number that stands in a field.
