@@ -12,7 +12,6 @@ mod text;
 
 use replayed::{Replayed, replay_line};
 use std::alloc::Global;
-use std::io;
 use std::rt::Files;
 use vectors_core::tally::replay;
 
@@ -25,19 +24,14 @@ const FILES: [&str; 5] = [
     "preprocessor_edges",
 ];
 
-fn replay_file(
-    rt: &(impl Files + Alloc<A = Global> + Print + Eprint),
-    name: &str,
-) -> io::Result<()> {
+fn replay_file(rt: &(impl Files + Alloc<A = Global> + Print + Eprint), name: &str) {
     let alloc = rt.alloc();
-    let mut state = Replayed::new(alloc)?;
+    let mut state = Replayed::new();
     replay(rt, name, |line| replay_line(&mut state, alloc, line));
-    Ok(())
 }
 
-fn main(rt: HostRuntime) -> io::Result<()> {
+fn main(rt: HostRuntime) {
     for name in FILES {
-        replay_file(&rt, name)?;
+        replay_file(&rt, name);
     }
-    Ok(())
 }

@@ -6,7 +6,7 @@ use crate::point::{drain_line, point_line};
 use crate::queries::{output_line, status_line, transform_line};
 use crate::state::{set_line, state_line};
 use crate::text::text_line;
-use std::alloc::{AllocError, Global};
+use std::alloc::Global;
 use trcf::head::{LentLists, Preprocessor, no_head};
 use vectors_core::fields::{Differs, Fields};
 use vectors_core::memory::Memory;
@@ -20,20 +20,23 @@ pub(crate) const LONGEST_FORECAST: usize = 3300;
 
 pub(crate) const LONGEST_TIMES: usize = 20;
 
+// Room for the initial values of a state.
+const INITIAL_VALUES: usize = 32000;
+
 // What is carried from line to line.
 #[derive(Drop)]
 pub(crate) struct Replayed {
     pub head: Preprocessor,
-    pub memory: Memory,
+    pub memory: Memory<INITIAL_VALUES>,
 }
 
 impl Replayed {
     // Before the first `b`.
-    pub(crate) fn new(alloc: Global) -> Result<Replayed, AllocError> {
-        Ok(Replayed {
+    pub(crate) fn new() -> Replayed {
+        Replayed {
             head: no_head(),
-            memory: Memory::new(alloc, 32000)?,
-        })
+            memory: Memory::new(),
+        }
     }
 
     // What is lent to a call that writes none of it.

@@ -6,6 +6,9 @@ use vectors_core::field::Lent;
 use vectors_core::fields::{Differs, expect_untouched};
 use vectors_core::memory::Memory;
 
+// Room for the initial values of a state.
+pub(crate) const INITIAL_VALUES: usize = 4000;
+
 // The line of d zero codes.
 fn expect_zero_codes(line: &[u8], d: usize) -> Result<(), Differs> {
     let codes = line
@@ -38,7 +41,7 @@ fn expect_put_away(saved: &[u8], text: &[u8], d: usize) -> Result<(), Differs> {
 pub(crate) fn expect_saved(
     text: &[u8],
     head: Preprocessor,
-    memory: &Memory,
+    memory: &Memory<INITIAL_VALUES>,
     times: usize,
 ) -> Result<(), Differs> {
     let mut out = [0u8; 65536];
@@ -62,7 +65,10 @@ fn expect_rest<T: Lent>(xs: &[T], n: Option<usize>) -> Result<(), Differs> {
 }
 
 // What lies past the state is as it was before.
-pub(crate) fn expect_rest_untouched(head: Preprocessor, memory: &Memory) -> Result<(), Differs> {
+pub(crate) fn expect_rest_untouched(
+    head: Preprocessor,
+    memory: &Memory<INITIAL_VALUES>,
+) -> Result<(), Differs> {
     let d = head.transformer.input_length;
     let k = head.shingle_size;
     let n = head.initial_len;

@@ -1,12 +1,11 @@
 // Replays the texts of the kinds snapshot and near. One that is taken up is saved again as the same bytes, but for a line of zero codes that it
 // lacks; any other is refused by its row, at its line, and what was lent stays as it was.
 use crate::announced::{Announced, Placed, Refused, first_text, read_announced};
-use crate::saved::{expect_rest_untouched, expect_saved};
+use crate::saved::{INITIAL_VALUES, expect_rest_untouched, expect_saved};
 use reading::room;
 use snapshot_restore::restore::{RestoreError, restore};
 use std::alloc::Global;
 use std::rt::Files;
-use std::{fs, io};
 use trcf::head::Preprocessor;
 use vectors_core::fields::Differs;
 use vectors_core::memory::Memory;
@@ -16,7 +15,7 @@ use vectors_core::tally::{Named, Tally, read_file};
 fn restored(
     text: &[u8],
     wanted: &Announced,
-    memory: &mut Memory,
+    memory: &mut Memory<INITIAL_VALUES>,
 ) -> Result<Result<Preprocessor, RestoreError>, Differs> {
     memory.forget();
     let (times, _) = memory
@@ -35,7 +34,7 @@ fn restored(
     ))
 }
 
-fn replay_text(placed: Placed<'_>, memory: &mut Memory) -> Result<(), Differs> {
+fn replay_text(placed: Placed<'_>, memory: &mut Memory<INITIAL_VALUES>) -> Result<(), Differs> {
     let wanted = read_announced(placed, memory.times.len())?;
     match (restored(placed.text, &wanted, memory)?, wanted.refused) {
         (Ok(head), None) => {
@@ -48,14 +47,11 @@ fn replay_text(placed: Placed<'_>, memory: &mut Memory) -> Result<(), Differs> {
 }
 
 // Every text of the file, in order. Behind one that has no place in it the file is not read.
-pub(crate) fn replay_file(
-    rt: &(impl Files + Alloc<A = Global> + Print + Eprint),
-    name: &str,
-) -> io::Result<()> {
+pub(crate) fn replay_file(rt: &(impl Files + Alloc<A = Global> + Print + Eprint), name: &str) {
     let alloc = rt.alloc();
     let mut file = room();
     let n = read_file(rt, name, &mut file);
-    let mut memory = Memory::new(alloc, 4000)?;
+    let mut memory = Memory::<INITIAL_VALUES>::new();
     let mut tally = Tally::new();
     let mut rest = &file[..n];
     for number in 1..u64::MAX {
@@ -79,5 +75,4 @@ pub(crate) fn replay_file(
         }
     }
     tally.report(rt, name);
-    Ok(())
 }
