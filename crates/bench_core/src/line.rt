@@ -2,7 +2,7 @@
 ghost use Rattle.std.specs.Prelude.{◌≡◌};
 ghost use Rattle.snapshot.specs.Read.{as_whole};
 ghost use Rattle.snapshot.specs.Scan.{number_of};
-ghost use Rattle.bench_core.specs.Line.{is_reading, name_of, set_place, call_place, place_of, letter_of, method_field, other_line, after_field, with_whole, with_double, with_single, line_with_field};
+ghost use Rattle.bench_core.specs.Line.{is_named, is_reading, name_of, set_place, call_place, place_of, letter_of, method_field, other_line, after_field, with_whole, with_double, with_single, line_with_field};
 ghost use Rattle.bench_core.specs.Line.{cell_of, request_of, blank_line};
 
 use snapshot::cells::{double, single, whole};
@@ -21,6 +21,13 @@ pub enum Name {
     Drain,
     Save,
     Other,
+}
+
+// Whether two names are the same.
+pub fn is_named(a: Name, b: Name) -> bool
+    ensures { result ≡ is_named a b }
+{
+    a == b
 }
 
 // Whether a line brings a reading.
@@ -215,7 +222,7 @@ fn with_field(l: Line, c: &[u8]) -> Line
 pub fn cell(l: Line, c: &[u8]) -> Line
     ensures { result ≡ cell_of l c.now }
 {
-    if l.name == Name::Unread {
+    if is_named(l.name, Name::Unread) {
         return Line {
             name: name_of(c),
             ..l

@@ -11,7 +11,7 @@ ghost use Rattle.bench_core.specs.Bench.{build_gives, weights_gives, plain_gives
 ghost use Rattle.bench_core.specs.Bench.{finish_by, finished_from, finish_of};
 
 use crate::call::{Answered, call_drain, call_learn, call_point, call_save, print_no};
-use crate::line::{Line, Name, blank, cell, is_reading, request};
+use crate::line::{Line, Name, blank, cell, is_named, is_reading, request};
 use refusal::Refusal;
 use trcf::head::{LentLists, Preprocessor, PreprocessorBuilder, no_head};
 use trcf::types::{ForestMode, INPUT_LIMIT, TransformMethod, method_of_number, mode_of_letter};
@@ -131,7 +131,7 @@ fn read_set(b: Bench, l: Line, out: &mut [u8]) -> Printed
     requires { 65536 ≤ length out.old }
     ensures { (lists : Lent) (y : List Float) → line_result result.bench lists y (output result.length out.new) ≡ set_gives (request_of l) b l lists y out.old }
 {
-    if request(l) != Name::Set {
+    if !is_named(request(l), Name::Set) {
         return ended(b, Refusal::Form, out);
     }
     Printed {
@@ -398,7 +398,7 @@ fn read_call(
         return read_reading(
             b,
             l,
-            name == Name::Point,
+            is_named(name, Name::Point),
             statistics,
             last_shingled_input,
             last_shingled_point,
@@ -439,7 +439,7 @@ fn read_second(
         (lent statistics.new last_shingled_input.new last_shingled_point.new previous_timestamps.new initial_values.now initial_timestamps.now) y (output result.length out.new)
         ≡ weights_gives (request_of l) b l (lent statistics.old last_shingled_input.old last_shingled_point.old previous_timestamps.old initial_values.now initial_timestamps.now) y out.old }
 {
-    if request(l) != Name::Weights {
+    if !is_named(request(l), Name::Weights) {
         return ended(b, Refusal::Form, out);
     }
     read_weights(
@@ -594,7 +594,7 @@ pub fn step(
 fn is_begun(name: Name, rest: &[u8]) -> bool
     ensures { result ≡ begun name rest.now }
 {
-    !rest.is_empty() || name != Name::Unread
+    !rest.is_empty() || !is_named(name, Name::Unread)
 }
 
 // The end of the input, after the bytes of rest, in which no cell ends: a line without its LF, or a missing `set` or `wgt`, is of another form.

@@ -9,7 +9,7 @@ ghost use Rattle.settle_core.specs.Input.{line_of, pair_by, pair_of};
 ghost use Rattle.settle_core.specs.Steps.{NamedIn, pair_in};
 
 use crate::scan::{Line, line_at};
-use bench_core::line::{Line as Cells, Name, request};
+use bench_core::line::{Line as Cells, Name, is_named, request};
 use bench_core::step::{builder_from, code_count, kept};
 use refusal::Refusal;
 use settling::run::pair_row;
@@ -54,7 +54,7 @@ fn line_named(text: &[u8], at: usize, name: Name) -> Result<Line, Refusal>
     ensures next_in_bounds { IfOk result (λ read. read.next ≤ length text.now) }
 {
     match line_at(text, at) {
-        Some(read) if request(read.line) == name => Ok(read),
+        Some(read) if is_named(request(read.line), name) => Ok(read),
         _ => Err(Refusal::Form),
     }
 }

@@ -5,7 +5,7 @@ ghost use Rattle.std.specs.Prelude.{◌≡◌, ◌≤◌, false, IfSome, MatchOp
 ghost use Rattle.settle_core.specs.Input.{line_of, opens};
 ghost use Rattle.settle_core.specs.Steps.{scanned_in};
 
-use bench_core::line::{Line as Cells, Name, blank, cell, name_of};
+use bench_core::line::{Line as Cells, Name, blank, cell, is_named, name_of};
 use bench_core::step::cell_end;
 
 // A line that an LF ends: what was read of it, and where the next one begins.
@@ -42,5 +42,5 @@ pub(crate) fn opens_at(text: &[u8], at: usize) -> bool
     ensures { result ≡ opens (drop at text.now) }
 {
     let n = cell_end(&text[at..]);
-    name_of(&text[at..at + n]) == Name::Set
+    is_named(name_of(&text[at..at + n]), Name::Set)
 }

@@ -1,7 +1,6 @@
 // Replays a line of the kind deviation on one statistic, which is carried from line to line.
 use common::deviation::Deviation;
 use refusal::Refusal;
-use std::alloc::Global;
 use vectors_core::fields::{Differs, Fields};
 
 fn create(fields: &mut Fields<'_>) -> Result<Deviation, Refusal> {
@@ -51,12 +50,8 @@ fn expect(fields: &mut Fields<'_>, s: Deviation) -> Result<(), Differs> {
 }
 
 // A refused call leaves the statistic as it was.
-pub(crate) fn replay_line(
-    alloc: Global,
-    line: &[u8],
-    statistic: &mut Deviation,
-) -> Result<(), Differs> {
-    let (letter, mut fields) = Fields::of(alloc, line);
+pub(crate) fn replay_line(line: &[u8], statistic: &mut Deviation) -> Result<(), Differs> {
+    let (letter, mut fields) = Fields::of(line);
     let answer = called(letter, &mut fields, *statistic)?;
     let row = match answer {
         Ok(after) => {

@@ -1,43 +1,55 @@
 // Values with their upper and lower bounds: three lists, which a line gives, or which a call writes to.
-ghost use Rattle.std.specs.Prelude.{◌≡◌, ◌↔◌, ◌≤◌, length, vec_len, All, IfOk, IsOk, IsTrue};
+ghost use Rattle.std.specs.Prelude.{◌≡◌, ◌↔◌, ◌≤◌, [], length, All, IsOk, IsTrue};
+ghost use Rattle.arrayvec.specs.ArrayVec.{array_vec_len};
 
 use crate::field::Lent;
 use crate::fields::{Differs, Fields, expect_untouched};
-use std::alloc::AllocError;
+use arrayvec::ArrayVec;
 
 #[derive(Drop)]
-pub struct Bounded<T: Lent> {
-    pub values: Vec<T>,
-    pub upper: Vec<T>,
-    pub lower: Vec<T>,
+pub struct Bounded<T: Lent, const N: usize> {
+    pub values: ArrayVec<T, N>,
+    pub upper: ArrayVec<T, N>,
+    pub lower: ArrayVec<T, N>,
 }
 
-impl<T: Lent> Bounded<T> {
-    /// Three lists that stand in the line, each of at most `most` numbers.
-    pub fn read(fields: &mut Fields<'_>, most: usize) -> Result<Bounded<T>, AllocError>
-        ensures behind { length fields.new.rest.now ≤ length fields.old.rest.now }
-        ensures good { IsTrue fields.new.good → IsTrue fields.old.good }
-        ensures within { IfOk result (λ lists. (vec_len lists.values ≤ most) × (vec_len lists.upper ≤ most) × (vec_len lists.lower ≤ most)) }
+impl<T: Lent, const N: usize> Bounded<T, N> {
+    /// Three empty lists.
+    pub fn new() -> Bounded<T, N>
+        ensures { (result.values.items ≡ []) × (result.upper.items ≡ []) × (result.lower.items ≡ []) }
     {
-        Ok(Bounded {
-            values: fields.list(most)?,
-            upper: fields.list(most)?,
-            lower: fields.list(most)?,
-        })
+        Bounded {
+            values: ArrayVec::new(),
+            upper: ArrayVec::new(),
+            lower: ArrayVec::new(),
+        }
     }
 
-    /// Memory to be lent, of which the line gives the three lengths, each at most `most`.
-    pub fn lent(fields: &mut Fields<'_>, most: usize) -> Result<Bounded<T>, AllocError>
+    /// Three lists that stand in the line, each of at most `N` numbers.
+    pub fn read(fields: &mut Fields<'_>) -> Bounded<T, N>
         ensures behind { length fields.new.rest.now ≤ length fields.old.rest.now }
         ensures good { IsTrue fields.new.good → IsTrue fields.old.good }
-        ensures within { IfOk result (λ lists. (vec_len lists.values ≤ most) × (vec_len lists.upper ≤ most) × (vec_len lists.lower ≤ most)) }
-        ensures old { IfOk result (λ lists. All (λ x. x ≡ T.OLD) lists.values.items × All (λ x. x ≡ T.OLD) lists.upper.items × All (λ x. x ≡ T.OLD) lists.lower.items) }
+        ensures within { (array_vec_len result.values ≤ N) × (array_vec_len result.upper ≤ N) × (array_vec_len result.lower ≤ N) }
     {
-        Ok(Bounded {
-            values: fields.lent(most)?,
-            upper: fields.lent(most)?,
-            lower: fields.lent(most)?,
-        })
+        Bounded {
+            values: fields.list(),
+            upper: fields.list(),
+            lower: fields.list(),
+        }
+    }
+
+    /// Memory to be lent, of which the line gives the three lengths, each at most `N`.
+    pub fn lent(fields: &mut Fields<'_>) -> Bounded<T, N>
+        ensures behind { length fields.new.rest.now ≤ length fields.old.rest.now }
+        ensures good { IsTrue fields.new.good → IsTrue fields.old.good }
+        ensures within { (array_vec_len result.values ≤ N) × (array_vec_len result.upper ≤ N) × (array_vec_len result.lower ≤ N) }
+        ensures old { All (λ x. x ≡ T.OLD) result.values.items × All (λ x. x ≡ T.OLD) result.upper.items × All (λ x. x ≡ T.OLD) result.lower.items }
+    {
+        Bounded {
+            values: fields.lent(),
+            upper: fields.lent(),
+            lower: fields.lent(),
+        }
     }
 
     /// The next fields are these three lists, with what lies past them untouched.

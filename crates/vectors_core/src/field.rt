@@ -21,7 +21,7 @@ pub fn pattern(text: &[u8], n: usize) -> Option<u64>
 }
 
 /// A kind of number that stands in a field.
-pub trait Field: Copy {
+pub trait Field: Copy + Default {
     ghost taken: { List ℕ → Self };
 
     /// The number of a field that is of its form.

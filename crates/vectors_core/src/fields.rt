@@ -1,25 +1,14 @@
 // The fields of a line, one after another.
-ghost use Rattle.std.specs.Prelude.{◌≡◌, ◌<◌, ◌≤◌, ◌+◌, ◌-◌, ◌↔◌, [], length, take, drop, get_or, vec_len, All, IfOk, IfSome, IsOk, IsTrue, OnErr};
+ghost use Rattle.std.specs.Prelude.{◌≡◌, ◌<◌, ◌≤◌, ◌+◌, ◌-◌, ◌↔◌, ◌&&◌, [], length, take, drop, get_or, All, IfOk, IfSome, IsOk, IsTrue, OnErr};
+ghost use Rattle.arrayvec.specs.ArrayVec.{array_vec_len};
 ghost use Rattle.vectors_core.specs.Line.{line_begun};
 
 use crate::field::{Field, Lent, is_untouched};
-use std::alloc::{AllocError, AllocFailed, Global};
+use arrayvec::ArrayVec;
 
-/// Why a line is not one that agrees: it is not of its form, an answer is another, or memory ran out.
+/// Why a line is not one that agrees: it is not of its form, or an answer is another.
 #[derive(Clone, Copy, Debug, PartialEq, Eq)]
 pub struct Differs;
-
-impl From<AllocError> for Differs {
-    fn from(_e: AllocError) -> Differs {
-        Differs
-    }
-}
-
-impl<T: Drop> From<AllocFailed<T>> for Differs {
-    fn from(_e: AllocFailed<T>) -> Differs {
-        Differs
-    }
-}
 
 /// The fields of a line that are still to be read. Each is ended by a blank, the last by the line's LF.
 #[derive(Clone, Copy)]
@@ -27,12 +16,11 @@ pub struct Fields<'a> {
     pub rest: &'a [u8],
     // Whether everything before `rest` was as it should be, and an LF ends the line. A line where it is not differs, but its call is made all the same.
     pub good: bool,
-    pub alloc: Global,
 }
 
 impl<'a> Fields<'a> {
     /// A line's letter, and the fields after it.
-    pub fn of(alloc: Global, line: &'a [u8]) -> (u8, Fields<'a>)
+    pub fn of(line: &'a [u8]) -> (u8, Fields<'a>)
         ensures letter { result.0 ≡ get_or line.now 0 0 }
         ensures rest { result.1.rest.now ≡ drop 2 line.now }
         ensures good { result.1.good ≡ line_begun line.now }
@@ -40,7 +28,7 @@ impl<'a> Fields<'a> {
         let letter = line.first().copied().unwrap_or(0);
         let good = matches!(line, [_, b' ' | b'\n', ..]) && matches!(line, [.., b'\n']);
         let rest = line.get(2..).unwrap_or_default();
-        (letter, Fields { rest, good, alloc })
+        (letter, Fields { rest, good })
     }
 
     // A field, and what is left after the byte that ends it. Where nothing ends it, nothing is read.
@@ -70,6 +58,13 @@ impl<'a> Fields<'a> {
         }
     }
 
+    /// One more thing that the line depends on.
+    pub fn also(&mut self, good: bool)
+        ensures { (self.new.rest ≡ self.old.rest) × (self.new.good ≡ (self.old.good && good)) }
+    {
+        self.good = self.good && good;
+    }
+
     /// A number. What is none is taken for one (`Field::taken_for`), and a field that nothing ends for an empty one.
     pub fn read<T: Field>(&mut self) -> T
         ensures behind { length self.new.rest.now ≤ length self.old.rest.now }
@@ -79,7 +74,7 @@ impl<'a> Fields<'a> {
         match T::read(field) {
             Some(x) => x,
             None => {
-                self.good = false;
+                self.also(false);
                 T::taken_for(field)
             }
         }
@@ -91,7 +86,7 @@ impl<'a> Fields<'a> {
         ensures good { IsTrue self.new.good → IsTrue self.old.good }
     {
         let field = self.next().unwrap_or_default();
-        self.good = self.good && field.len() == 1;
+        self.also(field.len() == 1);
         field.first().copied().unwrap_or(0)
     }
 
@@ -103,7 +98,7 @@ impl<'a> Fields<'a> {
     {
         let n = self.read::<u64>();
         if n > most as u64 {
-            self.good = false;
+            self.also(false);
             return 0;
         }
         n as usize
@@ -130,46 +125,42 @@ impl<'a> Fields<'a> {
         n
     }
 
-    /// A list of at most `most` numbers.
-    pub fn list<T: Field>(&mut self, most: usize) -> Result<Vec<T>, AllocError>
+    /// A list of at most `N` numbers. It lies in the value itself: no memory is asked for, of which there may be too little.
+    pub fn list<T: Field, const N: usize>(&mut self) -> ArrayVec<T, N>
         ensures behind { length self.new.rest.now ≤ length self.old.rest.now }
         ensures good { IsTrue self.new.good → IsTrue self.old.good }
-        ensures within { IfOk result (λ list. vec_len list ≤ most) }
+        ensures within { array_vec_len result ≤ N }
     {
-        let n = self.length(most);
-        let mut list = Vec::with_capacity(self.alloc, n)?;
+        let n = self.length(N);
+        let mut list = ArrayVec::new();
         for _ in 0..n {
-            list.push(self.read())?;
+            list.push(self.read());
         }
-        Ok(list)
+        list
     }
 
     /// A list that may be given: flag 0, or flag 1 and the list.
-    pub fn optional<T: Field>(&mut self, most: usize) -> Result<Option<Vec<T>>, AllocError>
+    pub fn optional<T: Field, const N: usize>(&mut self) -> Option<ArrayVec<T, N>>
         ensures behind { length self.new.rest.now ≤ length self.old.rest.now }
         ensures good { IsTrue self.new.good → IsTrue self.old.good }
-        ensures within { IfOk result (λ given. IfSome given (λ list. vec_len list ≤ most)) }
+        ensures within { IfSome result (λ list. array_vec_len list ≤ N) }
     {
-        if self.read() {
-            Ok(Some(self.list(most)?))
-        } else {
-            Ok(None)
-        }
+        if self.read() { Some(self.list()) } else { None }
     }
 
-    /// Memory to be lent, of which the line gives the length, at most `most`.
-    pub fn lent<T: Lent>(&mut self, most: usize) -> Result<Vec<T>, AllocError>
+    /// Memory to be lent, of which the line gives the length, at most `N`.
+    pub fn lent<T: Lent, const N: usize>(&mut self) -> ArrayVec<T, N>
         ensures behind { length self.new.rest.now ≤ length self.old.rest.now }
         ensures good { IsTrue self.new.good → IsTrue self.old.good }
-        ensures within { IfOk result (λ list. vec_len list ≤ most) }
-        ensures old { IfOk result (λ list. All (λ x. x ≡ T.OLD) list.items) }
+        ensures within { array_vec_len result ≤ N }
+        ensures old { All (λ x. x ≡ T.OLD) result.items }
     {
-        let n = self.length(most);
-        let mut list = Vec::with_capacity(self.alloc, n)?;
+        let n = self.length(N);
+        let mut list = ArrayVec::new();
         for _ in 0..n {
-            list.push(T::OLD)?;
+            list.push(T::OLD);
         }
-        Ok(list)
+        list
     }
 
     /// The next field is this answer.

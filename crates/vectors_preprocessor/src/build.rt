@@ -22,8 +22,8 @@ fn read_settings(fields: &mut Fields<'_>) -> PreprocessorBuilder {
 // A refused call hands back no head.
 pub(crate) fn build_line(state: &mut Replayed, mut fields: Fields<'_>) -> Result<(), Differs> {
     let settings = read_settings(&mut fields);
-    let weights = fields.list::<f32>(LONGEST_READING)?;
-    let codes = fields.list::<u16>(LONGEST_READING)?;
+    let weights = fields.list::<f32, LONGEST_READING>();
+    let codes = fields.list::<u16, LONGEST_READING>();
     state.memory.forget_learnt();
     let answer = build(
         settings,

@@ -12,7 +12,7 @@ fn expect_in_place(
     given: Fields<'_>,
     fields: &mut Fields<'_>,
     row: u64,
-    lists: &Bounded<f32>,
+    lists: &Bounded<f32, LONGEST_FORECAST>,
 ) -> Result<(), Differs> {
     lists.expect_changed(given, fields, row)?;
     if row == 0 {
@@ -26,9 +26,9 @@ fn expect_beside(
     mut given: Fields<'_>,
     fields: &mut Fields<'_>,
     row: u64,
-    lists: &Bounded<f32>,
-    numbers: &Bounded<f32>,
-    times: &Bounded<f64>,
+    lists: &Bounded<f32, LONGEST_FORECAST>,
+    numbers: &Bounded<f32, LONGEST_FORECAST>,
+    times: &Bounded<f64, LONGEST_TIMES>,
 ) -> Result<(), Differs> {
     lists.expect(&mut given)?;
     numbers.expect_written(fields, row)?;
@@ -42,9 +42,9 @@ fn expect_beside(
 
 pub(crate) fn extrapolation_line(state: &Replayed, given: Fields<'_>) -> Result<(), Differs> {
     let mut fields = given;
-    let mut lists = Bounded::<f32>::read(&mut fields, LONGEST_FORECAST)?;
-    let mut numbers = Bounded::<f32>::lent(&mut fields, LONGEST_FORECAST)?;
-    let mut times = Bounded::<f64>::lent(&mut fields, LONGEST_TIMES)?;
+    let mut lists = Bounded::<f32, LONGEST_FORECAST>::read(&mut fields);
+    let mut numbers = Bounded::<f32, LONGEST_FORECAST>::lent(&mut fields);
+    let mut times = Bounded::<f64, LONGEST_TIMES>::lent(&mut fields);
     let answer = invert_extrapolation(
         state.head,
         &state.memory.statistics,

@@ -1,6 +1,6 @@
 // The line of a post_process.
 use crate::replayed::{LONGEST_POINT, LONGEST_READING, Replayed};
-use std::alloc::AllocError;
+use arrayvec::ArrayVec;
 use trcf::head::Anomaly;
 use trcf_learn::post_process::post_process;
 use vectors_core::fields::{Differs, Fields, expect_untouched};
@@ -9,22 +9,22 @@ use vectors_core::fields::{Differs, Fields, expect_untouched};
 #[derive(Drop)]
 struct Given {
     time: u64,
-    input: Vec<f32>,
-    y: Option<Vec<f32>>,
+    input: ArrayVec<f32, LONGEST_READING>,
+    y: Option<ArrayVec<f32, LONGEST_POINT>>,
     grade: f32,
     index: i32,
-    expected: Option<Vec<f32>>,
+    expected: Option<ArrayVec<f32, LONGEST_POINT>>,
 }
 
-fn read_given(fields: &mut Fields<'_>) -> Result<Given, AllocError> {
-    Ok(Given {
+fn read_given(fields: &mut Fields<'_>) -> Given {
+    Given {
         time: fields.read(),
-        input: fields.list(LONGEST_READING)?,
-        y: fields.optional(LONGEST_POINT)?,
+        input: fields.list(),
+        y: fields.optional(),
         grade: fields.read(),
         index: fields.read(),
-        expected: fields.optional(LONGEST_POINT)?,
-    })
+        expected: fields.optional(),
+    }
 }
 
 // The likelihood does not stand in the line: it is 1.
@@ -50,10 +50,10 @@ fn expect_anomaly(
 }
 
 pub(crate) fn learn_line(state: &mut Replayed, mut fields: Fields<'_>) -> Result<(), Differs> {
-    let given = read_given(&mut fields)?;
-    let mut deviations = fields.lent::<f32>(LONGEST_READING)?;
-    let mut past = fields.lent::<f32>(LONGEST_READING)?;
-    let mut expected = fields.lent::<f32>(LONGEST_READING)?;
+    let given = read_given(&mut fields);
+    let mut deviations = fields.lent::<f32, LONGEST_READING>();
+    let mut past = fields.lent::<f32, LONGEST_READING>();
+    let mut expected = fields.lent::<f32, LONGEST_READING>();
     let answer = post_process(
         state.head,
         &mut state.memory.statistics,
@@ -64,8 +64,8 @@ pub(crate) fn learn_line(state: &mut Replayed, mut fields: Fields<'_>) -> Result
         &mut state.memory.initial_timestamps,
         &given.input,
         given.time,
-        given.y.as_deref(),
-        given.expected.as_deref(),
+        given.y.as_ref().map(|y| y.as_slice()),
+        given.expected.as_ref().map(|expected| expected.as_slice()),
         given.grade,
         given.index,
         &mut deviations,

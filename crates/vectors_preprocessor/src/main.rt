@@ -11,7 +11,6 @@ mod state;
 mod text;
 
 use replayed::{Replayed, replay_line};
-use std::alloc::Global;
 use std::rt::Files;
 use vectors_core::tally::replay;
 
@@ -24,10 +23,9 @@ const FILES: [&str; 5] = [
     "preprocessor_edges",
 ];
 
-fn replay_file(rt: &(impl Files + Alloc<A = Global> + Print + Eprint), name: &str) {
-    let alloc = rt.alloc();
+fn replay_file(rt: &(impl Files + Print + Eprint), name: &str) {
     let mut state = Replayed::new();
-    replay(rt, name, |line| replay_line(&mut state, alloc, line));
+    replay(rt, name, |line| replay_line(&mut state, line));
 }
 
 fn main(rt: HostRuntime) {

@@ -7,8 +7,8 @@ use vectors_core::fields::{Differs, Fields, expect_untouched};
 
 pub(crate) fn point_line(state: &mut Replayed, mut fields: Fields<'_>) -> Result<(), Differs> {
     let time = fields.read();
-    let input = fields.list::<f32>(LONGEST_READING)?;
-    let mut out = fields.lent::<f32>(LONGEST_POINT)?;
+    let input = fields.list::<f32, LONGEST_READING>();
+    let mut out = fields.lent::<f32, LONGEST_POINT>();
     let answer = shingled_point(
         state.head,
         &mut state.memory.statistics,

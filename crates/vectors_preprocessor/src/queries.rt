@@ -7,8 +7,8 @@ use vectors_core::fields::{Differs, Fields, expect_untouched};
 
 pub(crate) fn transform_line(state: &Replayed, mut fields: Fields<'_>) -> Result<(), Differs> {
     let time = fields.read();
-    let input = fields.list::<f32>(LONGEST_READING)?;
-    let mut out = fields.lent::<f32>(LONGEST_READING)?;
+    let input = fields.list::<f32, LONGEST_READING>();
+    let mut out = fields.lent::<f32, LONGEST_READING>();
     let answer = transform(state.head, state.lists(), &input, time, &mut out);
     fields.expect_written(row_of(answer), &out)?;
     fields.finish()
@@ -20,7 +20,7 @@ pub(crate) fn output_line(
     letter: u8,
     mut fields: Fields<'_>,
 ) -> Result<(), Differs> {
-    let mut out = fields.lent::<f32>(LONGEST_READING)?;
+    let mut out = fields.lent::<f32, LONGEST_READING>();
     let answer = match letter {
         b'c' => scale(state.head, state.lists(), &mut out),
         _ => shift(state.head, state.lists(), &mut out),
@@ -41,7 +41,7 @@ fn expect_status(fields: &mut Fields<'_>, s: Status) -> Result<(), Differs> {
 }
 
 pub(crate) fn status_line(state: &Replayed, mut fields: Fields<'_>) -> Result<(), Differs> {
-    let mut out = fields.lent::<f32>(LONGEST_READING)?;
+    let mut out = fields.lent::<f32, LONGEST_READING>();
     let answer = status(state.head, state.lists(), &mut out);
     match answer {
         Ok(s) => {

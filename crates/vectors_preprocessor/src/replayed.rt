@@ -6,7 +6,6 @@ use crate::point::{drain_line, point_line};
 use crate::queries::{output_line, status_line, transform_line};
 use crate::state::{set_line, state_line};
 use crate::text::text_line;
-use std::alloc::Global;
 use trcf::head::{LentLists, Preprocessor, no_head};
 use vectors_core::fields::{Differs, Fields};
 use vectors_core::memory::Memory;
@@ -52,8 +51,8 @@ impl Replayed {
     }
 }
 
-pub(crate) fn replay_line(state: &mut Replayed, alloc: Global, line: &[u8]) -> Result<(), Differs> {
-    let (letter, fields) = Fields::of(alloc, line);
+pub(crate) fn replay_line(state: &mut Replayed, line: &[u8]) -> Result<(), Differs> {
+    let (letter, fields) = Fields::of(line);
     match letter {
         b'b' => build_line(state, fields),
         b'g' => set_line(state, fields),

@@ -4,7 +4,6 @@ use crate::announced::{Announced, Placed, Refused, first_text, read_announced};
 use crate::saved::{INITIAL_VALUES, expect_rest_untouched, expect_saved};
 use reading::room;
 use snapshot_restore::restore::{RestoreError, restore};
-use std::alloc::Global;
 use std::rt::Files;
 use trcf::head::Preprocessor;
 use vectors_core::fields::Differs;
@@ -47,8 +46,7 @@ fn replay_text(placed: Placed<'_>, memory: &mut Memory<INITIAL_VALUES>) -> Resul
 }
 
 // Every text of the file, in order. Behind one that has no place in it the file is not read.
-pub(crate) fn replay_file(rt: &(impl Files + Alloc<A = Global> + Print + Eprint), name: &str) {
-    let alloc = rt.alloc();
+pub(crate) fn replay_file(rt: &(impl Files + Print + Eprint), name: &str) {
     let mut file = room();
     let n = read_file(rt, name, &mut file);
     let mut memory = Memory::<INITIAL_VALUES>::new();
@@ -62,7 +60,7 @@ pub(crate) fn replay_file(rt: &(impl Files + Alloc<A = Global> + Print + Eprint)
             number,
             letter: *letter,
         };
-        match first_text(alloc, rest) {
+        match first_text(rest) {
             Ok(placed) => {
                 let agrees = replay_text(placed, &mut memory).is_ok();
                 tally.count(line, agrees);

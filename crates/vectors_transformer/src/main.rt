@@ -7,7 +7,6 @@ use transformer::Transformed;
 use vectors_core::tally::replay;
 
 fn main(rt: HostRuntime) {
-    let alloc = rt.alloc();
     let mut state = Transformed::new();
-    replay(&rt, "transformer", |line| state.replay_line(alloc, line));
+    replay(&rt, "transformer", |line| state.replay_line(line));
 }

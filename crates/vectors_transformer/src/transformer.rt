@@ -1,7 +1,6 @@
 // Replays a line of the kind transformer on one transformer, which is carried from line to line beside its statistics.
 use ranges::rangevector::RangeVector;
 use refusal::{Refusal, row_of};
-use std::alloc::Global;
 use trcf::transformer::WeightedTransformer;
 use trcf::types::{TransformMethod, method_of_number};
 use vectors_core::bounded::Bounded;
@@ -61,7 +60,7 @@ impl Transformed {
         let method = method_of_number(fields.read());
         let d = fields.read::<u64>() as usize;
         let decay = fields.read();
-        let weights = fields.list::<f32>(MOST)?;
+        let weights = fields.list::<f32, MOST>();
         self.statistics.fill(f64::OLD);
         let answer = WeightedTransformer::new(method, d, decay, &weights, &mut self.statistics);
         let row = self.take(answer, no_transformer());
@@ -73,8 +72,8 @@ impl Transformed {
     }
 
     fn update_line(&mut self, mut fields: Fields<'_>) -> Result<(), Differs> {
-        let input = fields.list::<f32>(MOST)?;
-        let previous = fields.list::<f32>(MOST)?;
+        let input = fields.list::<f32, MOST>();
+        let previous = fields.list::<f32, MOST>();
         let before = self.transformer;
         let answer = before.update(&mut self.statistics, &input, &previous);
         let row = self.take(answer, before);
@@ -86,9 +85,9 @@ impl Transformed {
 
     // `transform` and `invert`.
     fn input_line(&self, letter: u8, mut fields: Fields<'_>) -> Result<(), Differs> {
-        let input = fields.list::<f32>(MOST)?;
-        let previous = fields.list::<f32>(MOST)?;
-        let mut out = fields.lent::<f32>(MOST)?;
+        let input = fields.list::<f32, MOST>();
+        let previous = fields.list::<f32, MOST>();
+        let mut out = fields.lent::<f32, MOST>();
         let t = self.transformer;
         let answer = match letter {
             b't' => t.transform(&self.statistics, &input, &previous, &mut out),
@@ -100,7 +99,7 @@ impl Transformed {
 
     // `scale`, `shift` and `difference_deviations`.
     fn output_line(&self, letter: u8, mut fields: Fields<'_>) -> Result<(), Differs> {
-        let mut out = fields.lent::<f32>(MOST)?;
+        let mut out = fields.lent::<f32, MOST>();
         let t = self.transformer;
         let answer = match letter {
             b'c' => t.scale(&self.statistics, &mut out),
@@ -113,8 +112,8 @@ impl Transformed {
 
     fn forecast_line(&self, given: Fields<'_>) -> Result<(), Differs> {
         let mut fields = given;
-        let mut lists = Bounded::<f32>::read(&mut fields, MOST_BOUNDED)?;
-        let previous = fields.list::<f32>(MOST)?;
+        let mut lists = Bounded::<f32, MOST_BOUNDED>::read(&mut fields);
+        let previous = fields.list::<f32, MOST>();
         let mut range = RangeVector {
             values: &mut lists.values,
             upper: &mut lists.upper,
@@ -141,8 +140,8 @@ impl Transformed {
         fields.finish()
     }
 
-    pub(crate) fn replay_line(&mut self, alloc: Global, line: &[u8]) -> Result<(), Differs> {
-        let (letter, fields) = Fields::of(alloc, line);
+    pub(crate) fn replay_line(&mut self, line: &[u8]) -> Result<(), Differs> {
+        let (letter, fields) = Fields::of(line);
         match letter {
             b'n' => self.new_line(fields),
             b'u' => self.update_line(fields),

@@ -3,7 +3,6 @@ use mathlib.Core.Path.{◌≡◌, ap, ◌∙◌}
 use native.Mathlib.Omega.{arith}
 use Prim.Native.Nat.{ℕ, ◌+◌, ◌-◌}
 use lib.ListN.{take, drop}
-use Rattle.std.proofs.Common.{rules}
 use Rattle.bench_core.specs.declared.line.Name.{Name}
 use Rattle.bench_core.specs.declared.line.Name.TheVariants.{Set}
 use Rattle.bench_core.specs.Line.{is_named, name_of}
@@ -19,5 +18,4 @@ returns c =
     let n = c.cell_end-n in
     let e : n.result ≡ cell_length (drop a.at a.text.now) = n.ensures.value ∙ ap cell_length (rest_is a.text.now a.at) in
     let q : a.at + n.result - a.at ≡ cell_length (drop a.at a.text.now) = omega (arith, e) in
-    let s : c.eq.result ≡ is_named c.name_of.result Set = search rules in
-    s ∙ ap (λ (m : Name). is_named m Set) (c.name_of.ensures ∙ ap (λ (k : ℕ). name_of (take k (drop a.at a.text.now))) q)
+    c.is_named.ensures ∙ ap (λ (m : Name). is_named m Set) (c.name_of.ensures ∙ ap (λ (k : ℕ). name_of (take k (drop a.at a.text.now))) q)
