@@ -21,8 +21,9 @@ fn create_line<T: Lent + Width>(
     mut fields: Fields<'_>,
     lists: &mut Bounded<T, MOST>,
 ) -> Result<(), Differs> {
-    let x = Bounded::<T, MOST>::read(&mut fields);
-    *lists = Bounded::lent(&mut fields);
+    let mut x = Bounded::<T, MOST>::new();
+    x.read(&mut fields);
+    lists.lend(&mut fields);
     let answer = vector(lists).create(&x.values, &x.upper, &x.lower);
     lists.expect_written(&mut fields, row_of(answer))?;
     fields.finish()
@@ -33,7 +34,7 @@ fn new_line<T: Lent + Width>(
     lists: &mut Bounded<T, MOST>,
 ) -> Result<(), Differs> {
     let dimensions = fields.read::<u64>() as usize;
-    *lists = Bounded::lent(&mut fields);
+    lists.lend(&mut fields);
     let answer = vector(lists).new(dimensions);
     lists.expect_written(&mut fields, row_of(answer))?;
     fields.finish()
@@ -44,7 +45,7 @@ fn from_line<T: Lent + Width>(
     lists: &mut Bounded<T, MOST>,
 ) -> Result<(), Differs> {
     let x = fields.list::<T, MOST>();
-    *lists = Bounded::lent(&mut fields);
+    lists.lend(&mut fields);
     let answer = vector(lists).from(&x);
     lists.expect_written(&mut fields, row_of(answer))?;
     fields.finish()
@@ -55,7 +56,7 @@ fn shift_line<T: Lent + Width>(
     lists: &mut Bounded<T, MOST>,
 ) -> Result<(), Differs> {
     let mut fields = given;
-    *lists = Bounded::read(&mut fields);
+    lists.read(&mut fields);
     let i = fields.read::<u64>() as usize;
     let answer = vector(lists).shift(i, fields.read());
     lists.expect_changed(given, &mut fields, row_of(answer))?;
@@ -67,7 +68,7 @@ fn scale_line<T: Lent + Width>(
     lists: &mut Bounded<T, MOST>,
 ) -> Result<(), Differs> {
     let mut fields = given;
-    *lists = Bounded::read(&mut fields);
+    lists.read(&mut fields);
     let i = fields.read::<u64>() as usize;
     let answer = vector(lists).scale(i, fields.read());
     lists.expect_changed(given, &mut fields, row_of(answer))?;
@@ -79,7 +80,7 @@ fn cascade_line<T: Lent + Width>(
     lists: &mut Bounded<T, MOST>,
 ) -> Result<(), Differs> {
     let mut fields = given;
-    *lists = Bounded::read(&mut fields);
+    lists.read(&mut fields);
     let base = fields.list::<T, MOST>();
     let answer = vector(lists).cascaded_add(&base);
     lists.expect_changed(given, &mut fields, row_of(answer))?;

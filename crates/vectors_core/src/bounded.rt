@@ -26,30 +26,26 @@ impl<T: Lent, const N: usize> Bounded<T, N> {
     }
 
     /// Three lists that stand in the line, each of at most `N` numbers.
-    pub fn read(fields: &mut Fields<'_>) -> Bounded<T, N>
+    pub fn read(&mut self, fields: &mut Fields<'_>)
         ensures behind { length fields.new.rest.now ≤ length fields.old.rest.now }
         ensures good { IsTrue fields.new.good → IsTrue fields.old.good }
-        ensures within { (array_vec_len result.values ≤ N) × (array_vec_len result.upper ≤ N) × (array_vec_len result.lower ≤ N) }
+        ensures within { (array_vec_len self.new.values ≤ N) × (array_vec_len self.new.upper ≤ N) × (array_vec_len self.new.lower ≤ N) }
     {
-        Bounded {
-            values: fields.list(),
-            upper: fields.list(),
-            lower: fields.list(),
-        }
+        fields.read_to(&mut self.values);
+        fields.read_to(&mut self.upper);
+        fields.read_to(&mut self.lower);
     }
 
     /// Memory to be lent, of which the line gives the three lengths, each at most `N`.
-    pub fn lent(fields: &mut Fields<'_>) -> Bounded<T, N>
+    pub fn lend(&mut self, fields: &mut Fields<'_>)
         ensures behind { length fields.new.rest.now ≤ length fields.old.rest.now }
         ensures good { IsTrue fields.new.good → IsTrue fields.old.good }
-        ensures within { (array_vec_len result.values ≤ N) × (array_vec_len result.upper ≤ N) × (array_vec_len result.lower ≤ N) }
-        ensures old { All (λ x. x ≡ T.OLD) result.values.items × All (λ x. x ≡ T.OLD) result.upper.items × All (λ x. x ≡ T.OLD) result.lower.items }
+        ensures within { (array_vec_len self.new.values ≤ N) × (array_vec_len self.new.upper ≤ N) × (array_vec_len self.new.lower ≤ N) }
+        ensures old { All (λ x. x ≡ T.OLD) self.new.values.items × All (λ x. x ≡ T.OLD) self.new.upper.items × All (λ x. x ≡ T.OLD) self.new.lower.items }
     {
-        Bounded {
-            values: fields.lent(),
-            upper: fields.lent(),
-            lower: fields.lent(),
-        }
+        fields.lend_to(&mut self.values);
+        fields.lend_to(&mut self.upper);
+        fields.lend_to(&mut self.lower);
     }
 
     /// The next fields are these three lists, with what lies past them untouched.

@@ -125,17 +125,27 @@ impl<'a> Fields<'a> {
         n
     }
 
-    /// A list of at most `N` numbers. It lies in the value itself: no memory is asked for, of which there may be too little.
+    /// A list of at most `N` numbers, into `list`, which holds it in the value itself: no memory is asked for, of which there may be too little.
+    pub fn read_to<T: Field, const N: usize>(&mut self, list: &mut ArrayVec<T, N>)
+        ensures behind { length self.new.rest.now ≤ length self.old.rest.now }
+        ensures good { IsTrue self.new.good → IsTrue self.old.good }
+        ensures within { array_vec_len list.new ≤ N }
+    {
+        let n = self.length(N);
+        list.clear();
+        for _ in 0..n {
+            list.push(self.read());
+        }
+    }
+
+    /// A list of at most `N` numbers.
     pub fn list<T: Field, const N: usize>(&mut self) -> ArrayVec<T, N>
         ensures behind { length self.new.rest.now ≤ length self.old.rest.now }
         ensures good { IsTrue self.new.good → IsTrue self.old.good }
         ensures within { array_vec_len result ≤ N }
     {
-        let n = self.length(N);
         let mut list = ArrayVec::new();
-        for _ in 0..n {
-            list.push(self.read());
-        }
+        self.read_to(&mut list);
         list
     }
 
@@ -148,6 +158,20 @@ impl<'a> Fields<'a> {
         if self.read() { Some(self.list()) } else { None }
     }
 
+    /// Memory to be lent, in `list`, of which the line gives the length, at most `N`.
+    pub fn lend_to<T: Lent, const N: usize>(&mut self, list: &mut ArrayVec<T, N>)
+        ensures behind { length self.new.rest.now ≤ length self.old.rest.now }
+        ensures good { IsTrue self.new.good → IsTrue self.old.good }
+        ensures within { array_vec_len list.new ≤ N }
+        ensures old { All (λ x. x ≡ T.OLD) list.new.items }
+    {
+        let n = self.length(N);
+        list.clear();
+        for _ in 0..n {
+            list.push(T::OLD);
+        }
+    }
+
     /// Memory to be lent, of which the line gives the length, at most `N`.
     pub fn lent<T: Lent, const N: usize>(&mut self) -> ArrayVec<T, N>
         ensures behind { length self.new.rest.now ≤ length self.old.rest.now }
@@ -155,11 +179,8 @@ impl<'a> Fields<'a> {
         ensures within { array_vec_len result ≤ N }
         ensures old { All (λ x. x ≡ T.OLD) result.items }
     {
-        let n = self.length(N);
         let mut list = ArrayVec::new();
-        for _ in 0..n {
-            list.push(T::OLD);
-        }
+        self.lend_to(&mut list);
         list
     }
 

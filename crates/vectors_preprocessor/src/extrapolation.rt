@@ -42,9 +42,12 @@ fn expect_beside(
 
 pub(crate) fn extrapolation_line(state: &Replayed, given: Fields<'_>) -> Result<(), Differs> {
     let mut fields = given;
-    let mut lists = Bounded::<f32, LONGEST_FORECAST>::read(&mut fields);
-    let mut numbers = Bounded::<f32, LONGEST_FORECAST>::lent(&mut fields);
-    let mut times = Bounded::<f64, LONGEST_TIMES>::lent(&mut fields);
+    let mut lists = Bounded::<f32, LONGEST_FORECAST>::new();
+    lists.read(&mut fields);
+    let mut numbers = Bounded::<f32, LONGEST_FORECAST>::new();
+    numbers.lend(&mut fields);
+    let mut times = Bounded::<f64, LONGEST_TIMES>::new();
+    times.lend(&mut fields);
     let answer = invert_extrapolation(
         state.head,
         &state.memory.statistics,

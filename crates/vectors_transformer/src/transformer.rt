@@ -112,7 +112,8 @@ impl Transformed {
 
     fn forecast_line(&self, given: Fields<'_>) -> Result<(), Differs> {
         let mut fields = given;
-        let mut lists = Bounded::<f32, MOST_BOUNDED>::read(&mut fields);
+        let mut lists = Bounded::<f32, MOST_BOUNDED>::new();
+        lists.read(&mut fields);
         let previous = fields.list::<f32, MOST>();
         let mut range = RangeVector {
             values: &mut lists.values,
