@@ -155,7 +155,21 @@ impl<'a> Fields<'a> {
         ensures good { IsTrue self.new.good → IsTrue self.old.good }
         ensures within { IfSome result (λ list. array_vec_len list ≤ N) }
     {
-        if self.read() { Some(self.list()) } else { None }
+        let mut list = ArrayVec::new();
+        self.optional_to(&mut list).then_some(list)
+    }
+
+    /// A list that may be given: flag 0, or flag 1 and the list, into `list`. Whether it is given.
+    pub fn optional_to<T: Field, const N: usize>(&mut self, list: &mut ArrayVec<T, N>) -> bool
+        ensures behind { length self.new.rest.now ≤ length self.old.rest.now }
+        ensures good { IsTrue self.new.good → IsTrue self.old.good }
+        ensures within { IsTrue result → array_vec_len list.new ≤ N }
+    {
+        if self.read() {
+            self.read_to(list);
+            return true;
+        }
+        false
     }
 
     /// Memory to be lent, in `list`, of which the line gives the length, at most `N`.

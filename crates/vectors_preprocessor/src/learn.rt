@@ -1,29 +1,29 @@
 // The line of a post_process.
-use crate::replayed::{LONGEST_POINT, LONGEST_READING, Replayed};
+use crate::replayed::{LONGEST_READING, Points, Replayed};
 use arrayvec::ArrayVec;
 use trcf::head::Anomaly;
 use trcf_learn::post_process::post_process;
 use vectors_core::fields::{Differs, Fields, expect_untouched};
 
-// The arguments of a post_process.
+// The arguments of a post_process, with whether the two points are given.
 #[derive(Drop)]
 struct Given {
     time: u64,
     input: ArrayVec<f32, LONGEST_READING>,
-    y: Option<ArrayVec<f32, LONGEST_POINT>>,
+    has_y: bool,
     grade: f32,
     index: i32,
-    expected: Option<ArrayVec<f32, LONGEST_POINT>>,
+    expects: bool,
 }
 
-fn read_given(fields: &mut Fields<'_>) -> Given {
+fn read_given(fields: &mut Fields<'_>, points: &mut Points) -> Given {
     Given {
         time: fields.read(),
         input: fields.list(),
-        y: fields.optional(),
+        has_y: fields.optional_to(&mut points.y),
         grade: fields.read(),
         index: fields.read(),
-        expected: fields.optional(),
+        expects: fields.optional_to(&mut points.expected),
     }
 }
 
@@ -50,7 +50,7 @@ fn expect_anomaly(
 }
 
 pub(crate) fn learn_line(state: &mut Replayed, mut fields: Fields<'_>) -> Result<(), Differs> {
-    let given = read_given(&mut fields);
+    let given = read_given(&mut fields, &mut state.points);
     let mut deviations = fields.lent::<f32, LONGEST_READING>();
     let mut past = fields.lent::<f32, LONGEST_READING>();
     let mut expected = fields.lent::<f32, LONGEST_READING>();
@@ -64,8 +64,8 @@ pub(crate) fn learn_line(state: &mut Replayed, mut fields: Fields<'_>) -> Result
         &mut state.memory.initial_timestamps,
         &given.input,
         given.time,
-        given.y.as_ref().map(|y| y.as_slice()),
-        given.expected.as_ref().map(|expected| expected.as_slice()),
+        given.has_y.then_some(state.points.y.as_slice()),
+        given.expects.then_some(state.points.expected.as_slice()),
         given.grade,
         given.index,
         &mut deviations,

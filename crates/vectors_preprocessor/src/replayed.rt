@@ -6,6 +6,7 @@ use crate::point::{drain_line, point_line};
 use crate::queries::{output_line, status_line, transform_line};
 use crate::state::{set_line, state_line};
 use crate::text::text_line;
+use arrayvec::ArrayVec;
 use trcf::head::{LentLists, Preprocessor, no_head};
 use vectors_core::fields::{Differs, Fields};
 use vectors_core::memory::Memory;
@@ -22,11 +23,19 @@ pub(crate) const LONGEST_TIMES: usize = 20;
 // Room for the initial values of a state.
 const INITIAL_VALUES: usize = 32000;
 
-// What is carried from line to line.
+// The two points that a post_process may be given. Their memory is here, so that it need not be cleared for each line.
+#[derive(Drop)]
+pub(crate) struct Points {
+    pub y: ArrayVec<f32, LONGEST_POINT>,
+    pub expected: ArrayVec<f32, LONGEST_POINT>,
+}
+
+// What is carried from line to line: of the points nothing but their memory.
 #[derive(Drop)]
 pub(crate) struct Replayed {
     pub head: Preprocessor,
     pub memory: Memory<INITIAL_VALUES>,
+    pub points: Points,
 }
 
 impl Replayed {
@@ -35,6 +44,10 @@ impl Replayed {
         Replayed {
             head: no_head(),
             memory: Memory::new(),
+            points: Points {
+                y: ArrayVec::new(),
+                expected: ArrayVec::new(),
+            },
         }
     }
 
