@@ -60,7 +60,7 @@ pub trait Lent: Field {
     }
 }
 
-/// A kind of number of lent memory whose field is told by its digits.
+/// A kind of number of lent memory whose field is told by its digits. Its `is_in` is to be this `stands`, so that an answer is compared with the field's own digits.
 pub trait LentNumber: Lent + Number {
     // the number that stands in a field, and its radix
     ghost number: { Self → ℕ };

@@ -14,7 +14,8 @@ pub struct Differs;
 #[derive(Clone, Copy)]
 pub struct Fields<'a> {
     pub rest: &'a [u8],
-    // Whether everything before `rest` was as it should be, and an LF ends the line. A line where it is not differs, but its call is made all the same.
+    // Whether an LF ends the line, and what was taken of it before `rest` was as it should be. A line where it was not differs, but its call is made all the same. What `read` and `expect` refuse,
+    // their Err says.
     pub good: bool,
 }
 
@@ -47,7 +48,7 @@ impl<'a> Fields<'a> {
         Ok(&rest[..end])
     }
 
-    /// Whether every field was read, and all were as they should be.
+    /// Whether every field was read, and what was taken of the line was as it should be (`good`).
     pub fn finish(&self) -> Result<(), Differs>
         ensures { IsOk result ↔ (IsTrue self.now.good × (self.now.rest.now ≡ [])) }
     {

@@ -48,6 +48,7 @@ fn letters_are_read_as_long_as_they_stand_alone(rt: HostRuntime) {
     assert_eq!(rt; fields.read::<Letter>(), Err(Differs));
     assert_eq!(rt; fields.finish(), Ok(()));
     assert_eq!(rt; fields.read::<Letter>(), Err(Differs));
+    assert_eq!(rt; fields.read_each(&mut two), Err(Differs));
 }
 
 #[test]
@@ -62,7 +63,7 @@ fn answers_that_are_letters_are_expected(rt: HostRuntime) {
 #[test]
 fn numbers_of_another_form_are_not_read(rt: HostRuntime) {
     let (_, mut fields) = Fields::of(
-        b"x 12 1a  18446744073709551615 18446744073709551616 -7 2 65536 3f800000 3F800000 3ff0000000000000 3\n",
+        b"x 12 1a  18446744073709551615 18446744073709551616 -7 2 1 65536 65535 3f800000 3F800000 3ff0000000000000 3\n",
     );
     assert_eq!(rt; fields.read(), Ok(12u64));
     assert_eq!(rt; fields.read::<u64>(), Err(Differs));
@@ -71,7 +72,9 @@ fn numbers_of_another_form_are_not_read(rt: HostRuntime) {
     assert_eq!(rt; fields.read::<u64>(), Err(Differs));
     assert_eq!(rt; fields.read(), Ok(-7i32));
     assert_eq!(rt; fields.read::<bool>(), Err(Differs));
+    assert_eq!(rt; fields.read(), Ok(true));
     assert_eq!(rt; fields.read::<u16>(), Err(Differs));
+    assert_eq!(rt; fields.read(), Ok(u16::MAX));
     assert_eq!(rt; fields.read(), Ok(1.0f32));
     assert_eq!(rt; fields.read::<f32>(), Err(Differs));
     assert_eq!(rt; fields.read(), Ok(1.0f64));
