@@ -155,6 +155,7 @@ fn signed(negative: bool, n: u64) -> i32
     -(((n - 1) % 0x8000_0000) as i32) - 1
 }
 
+/// With `-` in front where it is negative.
 impl Field for i32 {
     fn read(text: &[u8]) -> Option<i32>
         ensures { IfSome result (λ x. x ≡ signed_decimal text.now) }
@@ -163,7 +164,6 @@ impl Field for i32 {
     }
 }
 
-/// With `-` in front where it is negative.
 impl Number for i32 {
     ghost taken = { signed_decimal };
 
@@ -188,6 +188,7 @@ impl Number for i32 {
     }
 }
 
+/// A flag.
 impl Field for bool {
     fn read(text: &[u8]) -> Option<bool>
         ensures { IfSome result (λ x. x ≡ eqb (decimal text.now) 1) }
@@ -196,7 +197,6 @@ impl Field for bool {
     }
 }
 
-/// A flag.
 impl Number for bool {
     ghost taken = { λ text. eqb (decimal text) 1 };
 

@@ -1,7 +1,7 @@
 // Tests of what gives no number for a field that is not of its form: `read`, `read_each`, `read_list`, and the answers of a type that writes of the traits no more than they ask.
 ghost use Rattle.std.specs.Prelude.{eqb};
 
-use crate::field::{Field, Lent};
+use crate::field::{Field, Lent, is_untouched};
 use crate::fields::{Differs, Fields, expect_untouched};
 
 // A byte that stands alone in its field.
@@ -58,6 +58,20 @@ fn answers_that_are_letters_are_expected(rt: HostRuntime) {
     assert_eq!(rt; fields.expect_list(&[A, B, Letter::OLD]), Ok(()));
     assert_eq!(rt; fields.expect(A), Err(Differs));
     assert_eq!(rt; expect_untouched(&[Letter::OLD, A]), Err(Differs));
+}
+
+#[test]
+fn letters_that_a_call_writes_are_expected(rt: HostRuntime) {
+    let (_, mut fields) = Fields::of(b"x a b 1 1 a 0 0 1 b 7 0 1 a 1 a\n");
+    assert_eq!(rt; fields.expect_each(&[A, B]), Ok(()));
+    assert_eq!(rt; fields.expect_given(true, &[A, Letter::OLD]), Ok(()));
+    assert_eq!(rt; fields.expect_given(false, &[Letter::OLD]), Ok(()));
+    assert_eq!(rt; fields.expect_written(0, &[B, Letter::OLD]), Ok(()));
+    assert_eq!(rt; fields.expect_written(7, &[Letter::OLD]), Ok(()));
+    assert_eq!(rt; fields.expect_written(0, &[B]), Err(Differs));
+    assert_eq!(rt; fields.expect_each(&[B]), Err(Differs));
+    assert_eq!(rt; is_untouched(&[Letter::OLD]), true);
+    assert_eq!(rt; is_untouched(&[Letter::OLD, A]), false);
 }
 
 #[test]
