@@ -51,7 +51,7 @@ pub trait Lent: Field {
     fn same(self, other: Self) -> bool
         ensures { result ≡ same self other };
 
-    /// Whether a field is this number: the number that is read is the same, where an impl has no other way. What that says of the field is the impl's, as what `read` gives is.
+    /// Whether a field is this number. Where an impl does not say how, the number that is read has to be the same.
     fn is_in(self, field: &[u8]) -> bool {
         match Self::read(field) {
             Some(x) => x.same(self),

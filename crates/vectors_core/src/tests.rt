@@ -1,4 +1,4 @@
-// Tests of what gives no number for a field that is not of its form: `read`, `read_each`, `read_list`, and the answers of a type that writes of the traits no more than they ask.
+// Tests of `read`, `read_each`, `read_list`, and of the answers of a type that writes of the traits no more than they ask.
 ghost use Rattle.std.specs.Prelude.{eqb};
 
 use crate::field::{Field, Lent, is_untouched};
@@ -92,7 +92,6 @@ fn numbers_of_another_form_are_not_read(rt: HostRuntime) {
     assert_eq!(rt; fields.read(), Ok(1.0f32));
     assert_eq!(rt; fields.read::<f32>(), Err(Differs));
     assert_eq!(rt; fields.read(), Ok(1.0f64));
-    let mut none: [u64; 2] = [0; 2];
-    assert_eq!(rt; fields.read_list(&mut none), Err(Differs));
+    assert_eq!(rt; fields.read_list(&mut [0u64; 2]), Err(Differs));
     assert_eq!(rt; fields.finish(), Ok(()));
 }
