@@ -4,18 +4,18 @@ use refusal::Refusal;
 use vectors_core::fields::{Differs, Fields};
 
 fn create(fields: &mut Fields<'_>) -> Result<Deviation, Refusal> {
-    let discount = fields.read();
-    let weight = fields.read();
-    let sum = fields.read();
-    let sum_squared = fields.read();
-    let count = fields.read();
+    let discount = fields.take_number();
+    let weight = fields.take_number();
+    let sum = fields.take_number();
+    let sum_squared = fields.take_number();
+    let count = fields.take_number();
     Deviation::create(discount, weight, sum, sum_squared, count)
 }
 
 // One reading put right.
 fn correct(fields: &mut Fields<'_>, statistic: Deviation) -> Result<Deviation, Refusal> {
-    let wrong = fields.read();
-    let right = fields.read();
+    let wrong = fields.take_number();
+    let right = fields.take_number();
     statistic.corrected(wrong, right)
 }
 
@@ -26,11 +26,11 @@ fn called(
     statistic: Deviation,
 ) -> Result<Result<Deviation, Refusal>, Differs> {
     match letter {
-        b'n' => Ok(Deviation::new(fields.read())),
-        b'u' => Ok(statistic.update(fields.read())),
-        b'd' => Ok(Ok(statistic.set_discount(fields.read()))),
+        b'n' => Ok(Deviation::new(fields.take_number())),
+        b'u' => Ok(statistic.update(fields.take_number())),
+        b'd' => Ok(Ok(statistic.set_discount(fields.take_number()))),
         b'c' => Ok(create(fields)),
-        b'k' => Ok(statistic.set_count(fields.read())),
+        b'k' => Ok(statistic.set_count(fields.take_number())),
         b'o' => Ok(correct(fields, statistic)),
         b'r' => Ok(Ok(statistic.reset())),
         b'e' => Ok(Ok(Deviation::default())),

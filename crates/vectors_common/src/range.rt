@@ -2,14 +2,14 @@
 use ranges::rangevector::{RangeVector, Width};
 use refusal::row_of;
 use vectors_core::bounded::Bounded;
-use vectors_core::field::Lent;
+use vectors_core::field::LentNumber;
 use vectors_core::fields::{Differs, Fields};
 
 // How many numbers a list of a line may have.
 pub(crate) const MOST: usize = 80;
 
 // The three lists as a call takes them.
-fn vector<T: Lent + Width>(lists: &mut Bounded<T, MOST>) -> RangeVector<'_, T> {
+fn vector<T: LentNumber + Width>(lists: &mut Bounded<T, MOST>) -> RangeVector<'_, T> {
     RangeVector {
         values: &mut lists.values,
         upper: &mut lists.upper,
@@ -17,7 +17,7 @@ fn vector<T: Lent + Width>(lists: &mut Bounded<T, MOST>) -> RangeVector<'_, T> {
     }
 }
 
-fn create_line<T: Lent + Width>(
+fn create_line<T: LentNumber + Width>(
     mut fields: Fields<'_>,
     lists: &mut Bounded<T, MOST>,
 ) -> Result<(), Differs> {
@@ -29,18 +29,18 @@ fn create_line<T: Lent + Width>(
     fields.finish()
 }
 
-fn new_line<T: Lent + Width>(
+fn new_line<T: LentNumber + Width>(
     mut fields: Fields<'_>,
     lists: &mut Bounded<T, MOST>,
 ) -> Result<(), Differs> {
-    let dimensions = fields.read::<u64>() as usize;
+    let dimensions = fields.take_number::<u64>() as usize;
     lists.lend(&mut fields);
     let answer = vector(lists).new(dimensions);
     lists.expect_written(&mut fields, row_of(answer))?;
     fields.finish()
 }
 
-fn from_line<T: Lent + Width>(
+fn from_line<T: LentNumber + Width>(
     mut fields: Fields<'_>,
     lists: &mut Bounded<T, MOST>,
 ) -> Result<(), Differs> {
@@ -51,31 +51,31 @@ fn from_line<T: Lent + Width>(
     fields.finish()
 }
 
-fn shift_line<T: Lent + Width>(
+fn shift_line<T: LentNumber + Width>(
     given: Fields<'_>,
     lists: &mut Bounded<T, MOST>,
 ) -> Result<(), Differs> {
     let mut fields = given;
     lists.read(&mut fields);
-    let i = fields.read::<u64>() as usize;
-    let answer = vector(lists).shift(i, fields.read());
+    let i = fields.take_number::<u64>() as usize;
+    let answer = vector(lists).shift(i, fields.take_number());
     lists.expect_changed(given, &mut fields, row_of(answer))?;
     fields.finish()
 }
 
-fn scale_line<T: Lent + Width>(
+fn scale_line<T: LentNumber + Width>(
     given: Fields<'_>,
     lists: &mut Bounded<T, MOST>,
 ) -> Result<(), Differs> {
     let mut fields = given;
     lists.read(&mut fields);
-    let i = fields.read::<u64>() as usize;
-    let answer = vector(lists).scale(i, fields.read());
+    let i = fields.take_number::<u64>() as usize;
+    let answer = vector(lists).scale(i, fields.take_number());
     lists.expect_changed(given, &mut fields, row_of(answer))?;
     fields.finish()
 }
 
-fn cascade_line<T: Lent + Width>(
+fn cascade_line<T: LentNumber + Width>(
     given: Fields<'_>,
     lists: &mut Bounded<T, MOST>,
 ) -> Result<(), Differs> {
@@ -88,7 +88,7 @@ fn cascade_line<T: Lent + Width>(
 }
 
 // `lists` are what a call writes to, in memory of the caller, who knows how large a `T` is.
-pub(crate) fn replay_line<T: Lent + Width>(
+pub(crate) fn replay_line<T: LentNumber + Width>(
     line: &[u8],
     lists: &mut Bounded<T, MOST>,
 ) -> Result<(), Differs> {

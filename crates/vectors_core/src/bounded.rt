@@ -2,18 +2,18 @@
 ghost use Rattle.std.specs.Prelude.{◌≡◌, ◌↔◌, ◌≤◌, [], length, All, IsOk, IsTrue};
 ghost use Rattle.arrayvec.specs.ArrayVec.{array_vec_len};
 
-use crate::field::Lent;
+use crate::field::LentNumber;
 use crate::fields::{Differs, Fields, expect_untouched};
 use arrayvec::ArrayVec;
 
 #[derive(Drop)]
-pub struct Bounded<T: Lent, const N: usize> {
+pub struct Bounded<T: LentNumber, const N: usize> {
     pub values: ArrayVec<T, N>,
     pub upper: ArrayVec<T, N>,
     pub lower: ArrayVec<T, N>,
 }
 
-impl<T: Lent, const N: usize> Bounded<T, N> {
+impl<T: LentNumber, const N: usize> Bounded<T, N> {
     /// Three empty lists.
     pub fn new() -> Bounded<T, N>
         ensures { (result.values.items ≡ []) × (result.upper.items ≡ []) × (result.lower.items ≡ []) }

@@ -3,7 +3,7 @@ ghost use Rattle.std.specs.Prelude.{◌≡◌, ◌<◌, ◌≤◌, ◌+◌, ◌-
 ghost use Rattle.arrayvec.specs.ArrayVec.{array_vec_len};
 ghost use Rattle.vectors_core.specs.Line.{line_begun};
 
-use crate::field::{Field, Lent, is_untouched};
+use crate::field::{Field, Lent, LentNumber, Number, is_untouched};
 use arrayvec::ArrayVec;
 
 /// Why a line is not one that agrees: it is not of its form, or an answer is another.
@@ -14,7 +14,8 @@ pub struct Differs;
 #[derive(Clone, Copy)]
 pub struct Fields<'a> {
     pub rest: &'a [u8],
-    // Whether everything before `rest` was as it should be, and an LF ends the line. A line where it is not differs, but its call is made all the same.
+    // Whether an LF ends the line, and what was taken of it before `rest` was as it should be. A line where it was not differs, but its call is made all the same. What `read` and `expect` refuse,
+    // their Err says.
     pub good: bool,
 }
 
@@ -47,7 +48,7 @@ impl<'a> Fields<'a> {
         Ok(&rest[..end])
     }
 
-    /// Whether every field was read, and all were as they should be.
+    /// Whether every field was read, and what was taken of the line was as it should be (`good`).
     pub fn finish(&self) -> Result<(), Differs>
         ensures { IsOk result ↔ (IsTrue self.now.good × (self.now.rest.now ≡ [])) }
     {
@@ -65,13 +66,21 @@ impl<'a> Fields<'a> {
         self.good = self.good && good;
     }
 
-    /// A number. What is none is taken for one (`Field::taken_for`), and a field that nothing ends for an empty one.
-    pub fn read<T: Field>(&mut self) -> T
+    /// A number that stands in a field of its form; another field is none.
+    pub fn read<T: Field>(&mut self) -> Result<T, Differs>
+        ensures behind { length self.new.rest.now ≤ length self.old.rest.now }
+        ensures good { self.new.good ≡ self.old.good }
+    {
+        T::read(self.next()?).ok_or(Differs)
+    }
+
+    /// A number. What is none is taken for one (`Number::taken_for`), and a field that nothing ends for an empty one.
+    pub fn take_number<T: Number>(&mut self) -> T
         ensures behind { length self.new.rest.now ≤ length self.old.rest.now }
         ensures good { IsTrue self.new.good → IsTrue self.old.good }
     {
         let field = self.next().unwrap_or_default();
-        match T::read(field) {
+        match T::read_number(field) {
             Some(x) => x,
             None => {
                 self.also(false);
@@ -96,7 +105,7 @@ impl<'a> Fields<'a> {
         ensures good { IsTrue self.new.good → IsTrue self.old.good }
         ensures within { result ≤ most }
     {
-        let n = self.read::<u64>();
+        let n = self.take_number::<u64>();
         if n > most as u64 {
             self.also(false);
             return 0;
@@ -104,29 +113,54 @@ impl<'a> Fields<'a> {
         n as usize
     }
 
+    /// As many numbers as `out` is long, each in a field of its form.
+    pub fn read_each<T: Field>(&mut self, out: &mut [T]) -> Result<(), Differs>
+        ensures behind { length self.new.rest.now ≤ length self.old.rest.now }
+        ensures good { self.new.good ≡ self.old.good }
+    {
+        for x in out.iter_mut() {
+            *x = self.read()?;
+        }
+        Ok(())
+    }
+
     /// As many numbers as `out` is long.
-    pub fn read_each<T: Field>(&mut self, out: &mut [T])
+    pub fn take_each<T: Number>(&mut self, out: &mut [T])
         ensures behind { length self.new.rest.now ≤ length self.old.rest.now }
         ensures good { IsTrue self.new.good → IsTrue self.old.good }
     {
         for x in out.iter_mut() {
-            *x = self.read();
+            *x = self.take_number();
         }
     }
 
+    /// A list, to the front of `out`, each number in a field of its form; how long it is.
+    pub fn read_list<T: Field>(&mut self, out: &mut [T]) -> Result<usize, Differs>
+        ensures behind { length self.new.rest.now ≤ length self.old.rest.now }
+        ensures good { self.new.good ≡ self.old.good }
+        ensures within { IfOk result (λ n. n ≤ length out.new) }
+    {
+        let n: u64 = self.read()?;
+        if n > out.len() as u64 {
+            return Err(Differs);
+        }
+        self.read_each(&mut out[..n as usize])?;
+        Ok(n as usize)
+    }
+
     /// A list, to the front of `out`; how long it is.
-    pub fn read_list<T: Field>(&mut self, out: &mut [T]) -> usize
+    pub fn take_list<T: Number>(&mut self, out: &mut [T]) -> usize
         ensures behind { length self.new.rest.now ≤ length self.old.rest.now }
         ensures good { IsTrue self.new.good → IsTrue self.old.good }
         ensures within { result ≤ length out.new }
     {
         let n = self.length(out.len());
-        self.read_each(&mut out[..n]);
+        self.take_each(&mut out[..n]);
         n
     }
 
     /// A list of at most `N` numbers, into `list`, which holds it in the value itself: no memory is asked for, of which there may be too little.
-    pub fn read_to<T: Field, const N: usize>(&mut self, list: &mut ArrayVec<T, N>)
+    pub fn read_to<T: Number, const N: usize>(&mut self, list: &mut ArrayVec<T, N>)
         ensures behind { length self.new.rest.now ≤ length self.old.rest.now }
         ensures good { IsTrue self.new.good → IsTrue self.old.good }
         ensures within { array_vec_len list.new ≤ N }
@@ -134,12 +168,12 @@ impl<'a> Fields<'a> {
         let n = self.length(N);
         list.clear();
         for _ in 0..n {
-            list.push(self.read());
+            list.push(self.take_number());
         }
     }
 
     /// A list of at most `N` numbers.
-    pub fn list<T: Field, const N: usize>(&mut self) -> ArrayVec<T, N>
+    pub fn list<T: Number, const N: usize>(&mut self) -> ArrayVec<T, N>
         ensures behind { length self.new.rest.now ≤ length self.old.rest.now }
         ensures good { IsTrue self.new.good → IsTrue self.old.good }
         ensures within { array_vec_len result ≤ N }
@@ -150,7 +184,7 @@ impl<'a> Fields<'a> {
     }
 
     /// A list that may be given: flag 0, or flag 1 and the list.
-    pub fn optional<T: Field, const N: usize>(&mut self) -> Option<ArrayVec<T, N>>
+    pub fn optional<T: Number, const N: usize>(&mut self) -> Option<ArrayVec<T, N>>
         ensures behind { length self.new.rest.now ≤ length self.old.rest.now }
         ensures good { IsTrue self.new.good → IsTrue self.old.good }
         ensures within { IfSome result (λ list. array_vec_len list ≤ N) }
@@ -160,12 +194,12 @@ impl<'a> Fields<'a> {
     }
 
     /// A list that may be given: flag 0, or flag 1 and the list, into `list`. Whether it is given.
-    pub fn optional_to<T: Field, const N: usize>(&mut self, list: &mut ArrayVec<T, N>) -> bool
+    pub fn optional_to<T: Number, const N: usize>(&mut self, list: &mut ArrayVec<T, N>) -> bool
         ensures behind { length self.new.rest.now ≤ length self.old.rest.now }
         ensures good { IsTrue self.new.good → IsTrue self.old.good }
         ensures within { IsTrue result → array_vec_len list.new ≤ N }
     {
-        if self.read() {
+        if self.take_number() {
             self.read_to(list);
             return true;
         }
@@ -173,7 +207,7 @@ impl<'a> Fields<'a> {
     }
 
     /// Memory to be lent, in `list`, of which the line gives the length, at most `N`.
-    pub fn lend_to<T: Lent, const N: usize>(&mut self, list: &mut ArrayVec<T, N>)
+    pub fn lend_to<T: LentNumber, const N: usize>(&mut self, list: &mut ArrayVec<T, N>)
         ensures behind { length self.new.rest.now ≤ length self.old.rest.now }
         ensures good { IsTrue self.new.good → IsTrue self.old.good }
         ensures within { array_vec_len list.new ≤ N }
@@ -187,7 +221,7 @@ impl<'a> Fields<'a> {
     }
 
     /// Memory to be lent, of which the line gives the length, at most `N`.
-    pub fn lent<T: Lent, const N: usize>(&mut self) -> ArrayVec<T, N>
+    pub fn lent<T: LentNumber, const N: usize>(&mut self) -> ArrayVec<T, N>
         ensures behind { length self.new.rest.now ≤ length self.old.rest.now }
         ensures good { IsTrue self.new.good → IsTrue self.old.good }
         ensures within { array_vec_len result ≤ N }
@@ -202,7 +236,7 @@ impl<'a> Fields<'a> {
     pub fn expect<T: Lent>(&mut self, value: T) -> Result<(), Differs>
         ensures { length self.new.rest.now ≤ length self.old.rest.now }
     {
-        if value.stands(self.next()?) {
+        if value.is_in(self.next()?) {
             Ok(())
         } else {
             Err(Differs)

@@ -8,3 +8,5 @@ pub mod field;
 pub mod fields;
 pub mod memory;
 pub mod tally;
+#[cfg(test)]
+mod tests;

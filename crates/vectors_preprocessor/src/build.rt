@@ -9,13 +9,13 @@ use vectors_core::fields::{Differs, Fields};
 fn read_settings(fields: &mut Fields<'_>) -> PreprocessorBuilder {
     PreprocessorBuilder {
         forest_mode: mode_of_letter(fields.letter() as u64),
-        transform_method: method_of_number(fields.read()),
-        input_dimensions: fields.read::<u64>() as usize,
-        shingle_size: fields.read::<u64>() as usize,
-        start_normalization: fields.read::<u64>() as usize,
-        stop_normalization: fields.read::<u64>() as usize,
-        transform_decay: fields.read(),
-        weight_time: fields.read(),
+        transform_method: method_of_number(fields.take_number()),
+        input_dimensions: fields.take_number::<u64>() as usize,
+        shingle_size: fields.take_number::<u64>() as usize,
+        start_normalization: fields.take_number::<u64>() as usize,
+        stop_normalization: fields.take_number::<u64>() as usize,
+        transform_decay: fields.take_number(),
+        weight_time: fields.take_number(),
     }
 }
 

@@ -18,11 +18,11 @@ struct Given {
 
 fn read_given(fields: &mut Fields<'_>, points: &mut Points) -> Given {
     Given {
-        time: fields.read(),
+        time: fields.take_number(),
         input: fields.list(),
         has_y: fields.optional_to(&mut points.y),
-        grade: fields.read(),
-        index: fields.read(),
+        grade: fields.take_number(),
+        index: fields.take_number(),
         expects: fields.optional_to(&mut points.expected),
     }
 }

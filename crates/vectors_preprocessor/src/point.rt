@@ -6,7 +6,7 @@ use trcf_point::point::shingled_point;
 use vectors_core::fields::{Differs, Fields, expect_untouched};
 
 pub(crate) fn point_line(state: &mut Replayed, mut fields: Fields<'_>) -> Result<(), Differs> {
-    let time = fields.read();
+    let time = fields.take_number();
     let input = fields.list::<f32, LONGEST_READING>();
     let mut out = fields.lent::<f32, LONGEST_POINT>();
     let answer = shingled_point(

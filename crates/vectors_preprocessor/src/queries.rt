@@ -6,7 +6,7 @@ use trcf_calls::queries::{scale, shift, status, transform};
 use vectors_core::fields::{Differs, Fields, expect_untouched};
 
 pub(crate) fn transform_line(state: &Replayed, mut fields: Fields<'_>) -> Result<(), Differs> {
-    let time = fields.read();
+    let time = fields.take_number();
     let input = fields.list::<f32, LONGEST_READING>();
     let mut out = fields.lent::<f32, LONGEST_READING>();
     let answer = transform(state.head, state.lists(), &input, time, &mut out);

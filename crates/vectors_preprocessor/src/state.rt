@@ -48,11 +48,11 @@ pub(crate) fn state_line(state: &Replayed, mut fields: Fields<'_>) -> Result<(),
 fn read_initial(fields: &mut Fields<'_>, d: usize, values: &mut [f32], times: &mut [u64]) -> usize {
     let n = fields.length(times.len());
     for (i, time) in times[..n].iter_mut().enumerate() {
-        *time = fields.read();
+        *time = fields.take_number();
         let from = i.saturating_mul(d);
         let to = from.saturating_add(d);
         if to <= values.len() {
-            fields.read_each(&mut values[from..to]);
+            fields.take_each(&mut values[from..to]);
         } else {
             fields.good = false;
         }
@@ -61,13 +61,13 @@ fn read_initial(fields: &mut Fields<'_>, d: usize, values: &mut [f32], times: &m
 }
 
 pub(crate) fn set_line(state: &mut Replayed, mut fields: Fields<'_>) -> Result<(), Differs> {
-    state.head.values_seen = fields.read::<u64>() as usize;
-    state.head.internal_timestamp = fields.read::<u64>() as usize;
-    state.head.transformer.count = fields.read();
-    fields.read_list(&mut state.memory.statistics);
-    fields.read_list(&mut state.memory.inputs);
-    fields.read_list(&mut state.memory.point);
-    fields.read_list(&mut state.memory.times);
+    state.head.values_seen = fields.take_number::<u64>() as usize;
+    state.head.internal_timestamp = fields.take_number::<u64>() as usize;
+    state.head.transformer.count = fields.take_number();
+    fields.take_list(&mut state.memory.statistics);
+    fields.take_list(&mut state.memory.inputs);
+    fields.take_list(&mut state.memory.point);
+    fields.take_list(&mut state.memory.times);
     let d = state.head.transformer.input_length;
     state.head.initial_len = read_initial(
         &mut fields,

@@ -76,7 +76,7 @@ fn bare_text(fields: &mut Fields<'_>, text: &[u8], room: usize) -> Announced
     ensures codes { array_vec_len result.codes ≤ 16 }
     ensures times { result.times ≡ room }
 {
-    let line = fields.read();
+    let line = fields.take_number();
     let mut codes = ArrayVec::from([0; LONGEST_CODES]);
     codes.truncate(channels(text));
     Announced {
@@ -91,8 +91,8 @@ fn bare_text(fields: &mut Fields<'_>, text: &[u8], room: usize) -> Announced
 
 // The row and the first bad line, or zeros.
 fn read_refused(fields: &mut Fields<'_>) -> Option<Refused> {
-    let row = fields.read();
-    let line = fields.read();
+    let row = fields.take_number();
+    let line = fields.take_number();
     (row != 0 || line != 0).then_some(Refused { row, line })
 }
 

@@ -57,9 +57,9 @@ impl Transformed {
     }
 
     fn new_line(&mut self, mut fields: Fields<'_>) -> Result<(), Differs> {
-        let method = method_of_number(fields.read());
-        let d = fields.read::<u64>() as usize;
-        let decay = fields.read();
+        let method = method_of_number(fields.take_number());
+        let d = fields.take_number::<u64>() as usize;
+        let decay = fields.take_number();
         let weights = fields.list::<f32, MOST>();
         self.statistics.fill(f64::OLD);
         let answer = WeightedTransformer::new(method, d, decay, &weights, &mut self.statistics);
@@ -130,7 +130,7 @@ impl Transformed {
     // ---- lines that are no call
 
     fn count_line(&mut self, mut fields: Fields<'_>) -> Result<(), Differs> {
-        self.transformer.count = fields.read();
+        self.transformer.count = fields.take_number();
         fields.finish()
     }
 

@@ -1,0 +1,7 @@
+-- What holds in the loop of `vectors_core::fields::Fields::take_each`: fields are only read.
+use Rattle.std.proofs.Common.{◌≤◌, length}
+use Rattle.std.specs.Prelude.{IsTrue}
+use Rattle.vectors_core.proofs.fields.Fields.take_each.Given as goal
+
+abbrev pub invariant-loop-x : goal.invariant-loop-x
+invariant-loop-x g l = (length l.self.rest.now ≤ length l.initial.self.rest.now) × (IsTrue l.self.good → IsTrue l.initial.self.good)
